@@ -1,0 +1,6 @@
+pub mod Memory
+pub mod Names
+pub mod Padded
+pub mod Points
+pub mod Rings
+pub mod Same

@@ -1,0 +1,10 @@
+//! The names of cells.
+
+/// A cell of a layout: the top cell, or the symbol of a number.
+#[derive(Clone, Copy, Debug, PartialEq, Eq)]
+pub enum CellId {
+    /// What stands outside all symbols.
+    Top,
+    /// The symbol with this number, 0 to 999,999,999 in a layout.
+    Symbol(u32),
+}

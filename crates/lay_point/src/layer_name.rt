@@ -1,0 +1,97 @@
+//! Layer names, kept in place.
+ghost use Rattle.std.specs.Prelude.{◌≡◌, IsTrue};
+ghost use Rattle.std.specs.List.{list_all};
+ghost use Rattle.lay_point.specs.Names.{is_layer_name, is_name_byte, layer_name_of};
+
+use std::marker::Model;
+
+/// The most bytes of a layer name.
+const MAX_LEN: usize = 16;
+
+/// The name of a layer: 1 to 16 digits and upper-case letters. Contracts see its bytes.
+#[derive(Clone, Copy, Debug)]
+pub struct LayerName {
+    /// The name, and zeros behind it.
+    bytes: [u8; MAX_LEN],
+    len: usize,
+}
+
+impl Model for LayerName {
+    ghost use Rattle.std.specs.Prelude.{ℕ, List, take};
+
+    ghost Value = { List ℕ };
+
+    ghost use Rattle.lay_point.specs.Padded.{IsPadded, kept_name, kept_name_again};
+
+    ghost view = { λ n. take n.len n.bytes };
+
+    ghost invariant = { IsPadded };
+
+    ghost inverse = { kept_name };
+
+    ghost inverse_ok = { kept_name_again };
+}
+
+/// Whether the byte may stand in a layer name.
+fn is_name_byte(byte: u8) -> bool
+    ensures { result ≡ is_name_byte byte }
+{
+    byte.is_ascii_digit() || byte.is_ascii_uppercase()
+}
+
+/// Whether each byte may stand in a layer name.
+fn are_name_bytes(bytes: &[u8]) -> bool
+    ensures { result ≡ list_all is_name_byte bytes.now }
+{
+    bytes.iter().all(|b| is_name_byte(*b))
+}
+
+/// Whether the bytes spell a layer name.
+fn is_layer_name(bytes: &[u8]) -> bool
+    ensures { result ≡ is_layer_name bytes.now }
+{
+    !bytes.is_empty() && bytes.len() <= MAX_LEN && are_name_bytes(bytes)
+}
+
+impl LayerName {
+    /// The name that the bytes spell, `None` where they are no name.
+    pub fn new(bytes: &[u8]) -> Option<LayerName>
+        ensures { result ≡ layer_name_of bytes.now }
+    {
+        if !is_layer_name(bytes) {
+            return None;
+        }
+        let mut padded = [0; MAX_LEN];
+        padded[..bytes.len()].copy_from_slice(bytes);
+        Some(LayerName {
+            bytes: padded,
+            len: bytes.len(),
+        })
+    }
+
+    /// The bytes of the name.
+    pub fn as_bytes(&self) -> &[u8]
+        ensures value { result.now ≡ self.now }
+        ensures name { IsTrue (is_layer_name self.now) }
+    {
+        &self.bytes[..self.len]
+    }
+}
+
+impl PartialEq for LayerName {
+    ghost use Rattle.lay_point.specs.Same.{names_eq, names_eq_partial};
+
+    ghost eq = { names_eq };
+
+    ghost laws = { names_eq_partial };
+
+    fn eq(&self, other: &LayerName) -> bool {
+        self.as_bytes() == other.as_bytes()
+    }
+}
+
+impl Eq for LayerName {
+    ghost use Rattle.lay_point.specs.Same.{names_eq_equiv};
+
+    ghost laws = { names_eq_equiv };
+}

@@ -1,0 +1,168 @@
+//! Rings: closed paths, four points in place.
+ghost use Rattle.std.specs.Prelude.{◌≡◌, ◌≤◌, ◌<ℤ◌, IfOk, IsTrue, length};
+ghost use Rattle.std.specs.List.{list_all};
+ghost use Rattle.lay_point.specs.Memory.{IsAnswer};
+ghost use Rattle.lay_point.specs.Points.{is_in_range};
+ghost use Rattle.lay_point.specs.Rings.{IsRing, NeighboursDiffer, closed, opened, rectangle};
+ghost use Rattle.lay_point.specs.Rings.{checked_ring, ring_of, without_neighbours};
+
+use crate::point::Point;
+use smallvec::SmallVec;
+use std::alloc::{AllocError, Global};
+use std::marker::Model;
+use thiserror::Error;
+
+/// The most points of a ring.
+pub const MAX_RING_POINTS: usize = 65_536;
+
+/// Why points make no ring. The faults but `NoMemory` are tested in this order.
+#[derive(Clone, Copy, Debug, PartialEq, Eq, Error)]
+pub enum RingFault {
+    /// Fewer than three points are left without repeats.
+    #[error("a ring needs three points")]
+    FewPoints,
+    /// A coordinate's magnitude is above `LIMIT`.
+    #[error("a point of the ring is out of range")]
+    OutOfRange,
+    /// More than `MAX_RING_POINTS` points are left without repeats.
+    #[error("the ring has too many points")]
+    TooMany,
+    /// A growth of memory was refused.
+    #[error("out of memory")]
+    NoMemory,
+}
+
+/// A closed path of 3 to `MAX_RING_POINTS` points in range, no two neighbours of which are equal,
+/// the last and the first among them. Contracts see the list of its points.
+#[derive(Debug, Drop)]
+pub struct Ring {
+    points: SmallVec<Point, 4>,
+}
+
+impl Model for Ring {
+    ghost use Rattle.std.specs.Prelude.{List};
+    ghost use Rattle.lay_point.specs.declared.point.Point.{Point};
+    ghost use Rattle.lay_point.specs.Rings.{IsRing};
+
+    ghost Value = { List Point };
+
+    ghost view = { λ r. r.points.items };
+
+    ghost invariant = { λ r. IsRing r.points.items };
+}
+
+impl Ring {
+    /// The ring of these points. A point that equals the one before it is dropped, then the last
+    /// one where it equals the first. `NoMemory` can stand in place of any answer.
+    pub fn new(alloc: Global, points: &[Point]) -> Result<Ring, RingFault>
+        ensures { IsAnswer RingFault.NoMemory result (ring_of points.now) }
+    {
+        let kept = without_neighbours(alloc, points).map_err(|_| RingFault::NoMemory)?;
+        checked(opened(kept))
+    }
+
+    /// The ring of the upright rectangle with these corners, from `low` anticlockwise. It needs no
+    /// memory.
+    pub fn rectangle(alloc: Global, low: Point, high: Point) -> Ring
+        requires low { IsTrue (is_in_range low) }
+        requires high { IsTrue (is_in_range high) }
+        requires wide { low.x <ℤ high.x }
+        requires tall { low.y <ℤ high.y }
+        ensures value { result ≡ rectangle low high }
+        ensures ring { IsRing result }
+    {
+        let mut points = SmallVec::new(alloc);
+        points.push_reserved(low);
+        points.push_reserved(Point {
+            x: high.x,
+            y: low.y,
+        });
+        points.push_reserved(high);
+        points.push_reserved(Point {
+            x: low.x,
+            y: high.y,
+        });
+        Ring { points }
+    }
+
+    /// The points of the ring, in order.
+    pub fn points(&self) -> &[Point]
+        ensures value { result.now ≡ self.now }
+        ensures ring { IsRing self.now }
+    {
+        self.points.as_slice()
+    }
+}
+
+impl PartialEq for Ring {
+    ghost use Rattle.lay_point.specs.Same.{points_eq, points_eq_partial};
+
+    ghost eq = { points_eq };
+
+    ghost laws = { points_eq_partial };
+
+    fn eq(&self, other: &Ring) -> bool {
+        self.points() == other.points()
+    }
+}
+
+impl Eq for Ring {
+    ghost use Rattle.lay_point.specs.Same.{points_eq_equiv};
+
+    ghost laws = { points_eq_equiv };
+}
+
+/// The points without those that equal the one before them.
+fn without_neighbours(alloc: Global, points: &[Point]) -> Result<SmallVec<Point, 4>, AllocError>
+    ensures { IfOk result (λ kept. kept.items ≡ without_neighbours points.now) }
+{
+    let mut kept = SmallVec::new(alloc);
+    let Some((first, behind)) = points.split_first() else {
+        return Ok(kept);
+    };
+    kept.push(*first)?;
+    let mut last = *first;
+    for point in behind {
+        if last != *point {
+            kept.push(*point)?;
+            last = *point;
+        }
+    }
+    Ok(kept)
+}
+
+/// The path without its last point where that is the first again.
+fn opened(mut path: SmallVec<Point, 4>) -> SmallVec<Point, 4>
+    ensures { result.items ≡ opened path.items }
+{
+    if let [first, .., last] = path.as_slice() {
+        if first == last {
+            path.pop();
+        }
+    }
+    path
+}
+
+/// Whether all points are in range.
+fn are_in_range(points: &[Point]) -> bool
+    ensures { result ≡ list_all is_in_range points.now }
+{
+    points.iter().all(|p| p.is_in_range())
+}
+
+/// The ring of points that were relieved of repeats.
+fn checked(points: SmallVec<Point, 4>) -> Result<Ring, RingFault>
+    requires { 2 ≤ length points.items → NeighboursDiffer (closed points.items) }
+    ensures { result ≡ checked_ring points.items }
+{
+    if points.len() < 3 {
+        return Err(RingFault::FewPoints);
+    }
+    if !are_in_range(points.as_slice()) {
+        return Err(RingFault::OutOfRange);
+    }
+    if points.len() > MAX_RING_POINTS {
+        return Err(RingFault::TooMany);
+    }
+    Ok(Ring { points })
+}
