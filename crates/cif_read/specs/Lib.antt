@@ -1,0 +1,12 @@
+pub mod Boxes
+pub mod Bytes
+pub mod Capped
+pub mod Commands
+pub mod Content
+pub mod Cutting
+pub mod Elements
+pub mod Faults
+pub mod Grammar
+pub mod Meaning
+pub mod Numbers
+pub mod Views

@@ -1,0 +1,149 @@
+//! Commands, one at a time.
+ghost use Rattle.std.specs.Prelude.{◌≡◌};
+ghost use Rattle.std.specs.List.{list_all};
+ghost use Rattle.cif_read.specs.Bytes.{is_blank, skip};
+ghost use Rattle.cif_read.specs.Capped.{capped_decimal};
+ghost use Rattle.cif_read.specs.Commands.{and_then, box_of, command_by, definition_fault, is_above_written, is_too_big, layer_of, read_as, within_limits};
+ghost use Rattle.cif_read.specs.declared.command.Command.TheVariants as CommandVariants;
+ghost use Rattle.cif_read.specs.declared.fault.FaultKind.TheVariants.{Syntax};
+ghost use Rattle.cif_read.specs.Numbers.{decimal};
+ghost use Rattle.cif_read.specs.Views.{Gives};
+
+use crate::bytes::{Class, run_len, skip};
+use crate::fault::FaultKind;
+use crate::number::{CAP, Number, behind_separator, integer, signed};
+use lay_point::LayerName;
+
+/// The numbers of a box, in hundredths of a micrometre.
+#[derive(Clone, Copy, Debug, PartialEq, Eq)]
+pub struct BoxNumbers {
+    /// The side along the x axis.
+    pub length: u32,
+    /// The side along the y axis.
+    pub width: u32,
+    /// The centre's place along the x axis.
+    pub x: Number,
+    /// The centre's place along the y axis.
+    pub y: Number,
+}
+
+/// A command.
+#[derive(Clone, Copy, Debug, PartialEq, Eq)]
+pub enum Command {
+    /// From here on figures are on this layer.
+    Layer(LayerName),
+    /// An upright box.
+    Box(BoxNumbers),
+}
+
+/// Whether blanks alone stand there.
+fn are_blanks(bytes: &[u8]) -> bool
+    ensures { result ≡ list_all is_blank bytes.now }
+{
+    bytes.iter().all(|b| Class::Blank.contains(*b))
+}
+
+/// The name behind an `L`, of any length, with blanks round it.
+#[tactic(auto, unfolding(crate::specs::Commands::layer_of))]
+fn layer(bytes: &[u8]) -> Option<&[u8]>
+    ensures { Gives (λ name. name.now) result (layer_of bytes.now) }
+{
+    let rest = skip(bytes, Class::Blank);
+    let (name, behind) = rest.split_at(run_len(rest, Class::Name));
+    if name.is_empty() || !are_blanks(behind) {
+        return None;
+    }
+    Some(name)
+}
+
+/// The numbers behind a `B`, each at most `CAP`.
+#[tactic(auto, unfolding(crate::specs::Commands::box_of))]
+fn box_numbers(bytes: &[u8]) -> Option<BoxNumbers>
+    ensures { result ≡ box_of capped_decimal bytes.now }
+{
+    let (length, rest) = integer(bytes)?;
+    let (width, rest) = integer(behind_separator(rest)?)?;
+    let (x, rest) = signed(behind_separator(rest)?)?;
+    let (y, rest) = signed(behind_separator(rest)?)?;
+    if !are_blanks(rest) {
+        return None;
+    }
+    Some(BoxNumbers {
+        length,
+        width,
+        x,
+        y,
+    })
+}
+
+/// Whether the magnitude is above all that a text may write.
+fn is_above_written(magnitude: u32) -> bool
+    ensures { result ≡ is_above_written magnitude }
+{
+    magnitude >= CAP
+}
+
+/// Whether some number of the box is above all that a text may write.
+#[tactic(auto, unfolding(crate::specs::Commands::is_too_big))]
+fn is_too_big(numbers: BoxNumbers) -> bool
+    ensures { result ≡ is_too_big numbers }
+{
+    is_above_written(numbers.length)
+        || is_above_written(numbers.width)
+        || is_above_written(numbers.x.magnitude)
+        || is_above_written(numbers.y.magnitude)
+}
+
+/// The layer that is set behind an `L`.
+#[tactic(auto, using(crate::proofs::Layers::layer_name_of_layer), unfolding(crate::specs::Commands::within_limits))]
+fn layer_command(bytes: &[u8]) -> Result<Command, FaultKind>
+    ensures { result ≡ and_then (read_as CommandVariants.Layer Syntax (layer_of bytes.now)) within_limits }
+{
+    let name = layer(bytes).ok_or(FaultKind::Syntax)?;
+    let name = LayerName::new(name).ok_or(FaultKind::LongName)?;
+    Ok(Command::Layer(name))
+}
+
+/// The box behind a `B`, its numbers capped before they are tested.
+#[tactic(auto, unfolding(crate::specs::Commands::within_limits))]
+fn capped_box(bytes: &[u8]) -> Result<Command, FaultKind>
+    ensures { result ≡ and_then (read_as CommandVariants.Box Syntax (box_of capped_decimal bytes.now)) within_limits }
+{
+    let numbers = box_numbers(bytes).ok_or(FaultKind::Syntax)?;
+    if is_too_big(numbers) {
+        return Err(FaultKind::TooBig);
+    }
+    Ok(Command::Box(numbers))
+}
+
+/// The box behind a `B`.
+fn box_command(bytes: &[u8]) -> Result<Command, FaultKind>
+    ensures { result ≡ and_then (read_as CommandVariants.Box Syntax (box_of decimal bytes.now)) within_limits }
+{
+    capped_box(bytes)
+}
+
+/// What is wrong with a command that begins with a `D`, behind it and blanks.
+fn definition_fault(bytes: &[u8]) -> FaultKind
+    ensures { result ≡ definition_fault bytes.now }
+{
+    match bytes {
+        [b'D', ..] => FaultKind::DeleteDef,
+        _ => FaultKind::Syntax,
+    }
+}
+
+/// The command that the bytes without their semicolon write, or the first fault of it alone.
+#[tactic(auto, unfolding(crate::specs::Commands::command_by))]
+pub fn command_of(bytes: &[u8]) -> Result<Command, FaultKind>
+    ensures { result ≡ and_then (command_by decimal bytes.now) within_limits }
+{
+    match bytes {
+        [b'W', ..] => Err(FaultKind::Wire),
+        [b'R', ..] => Err(FaultKind::Flash),
+        [b'D', behind @ ..] => Err(definition_fault(skip(behind, Class::Blank))),
+        [b'L', behind @ ..] => layer_command(behind),
+        [b'B', behind @ ..] => box_command(behind),
+        _ => Err(FaultKind::Syntax),
+    }
+}
