@@ -1,0 +1,3 @@
+pub mod MapLemmas
+pub mod SameLemmas
+pub mod SoundLemmas

@@ -1,0 +1,73 @@
+-- Layouts: symbols and items.
+-- Source: Caltech Intermediate Form 2.0 has symbols by number and the elements of each; slots, items and
+-- their ids are this project's own.
+use Rattle.std.specs.Prelude.{◌≡◌, ℕ, List, [], ◌∷◌, Option, None, Some, Bool, true, is_some, refl}
+use Rattle.std.specs.declared.cmp.Ordering.TheVariants.{Less}
+use Rattle.std.specs.Ordering.{nat_cmp}
+use Rattle.std.specs.FinMap as map
+use Rattle.std.specs.FinMap.{FinMap}
+use Rattle.std.specs.Coded.{Coded, code_by, coded×, coded_ℕ}
+use Rattle.lay_point.specs.declared.cell_id.CellId.{CellId}
+use Rattle.lay_point.specs.declared.cell_id.CellId.TheVariants.{Top, Symbol}
+use Rattle.lay_items.specs.declared.id.ItemId.{ItemId}
+use Rattle.lay_items.specs.declared.item.Item.{Item}
+use Rattle.lay_items.specs.declared.version.CellSlot.{CellSlot}
+use Rattle.lay_items.specs.contracts.item.Item as item
+use Rattle.lay_items.specs.contracts.version.CellSlot as slot
+use Rattle.lay_items.specs.Ids.{coded_id, id_cmp}
+
+-- the symbols by their numbers, and the items by their ids
+pub record Layout : Type 0 where
+  pub symbols : FinMap nat_cmp CellSlot
+  pub items : FinMap id_cmp Item
+
+-- a layout is stored as its two maps
+abbrev pub coded_layout : Coded Layout
+coded_layout =
+    code_by (FinMap nat_cmp CellSlot × FinMap id_cmp Item) (coded× (map.code coded_ℕ slot.the_row.coded) (map.code coded_id item.the_row.coded))
+    (λ l. (l.symbols, l.items)) (λ p. record { symbols = p.0; items = p.1 }) (λ _. refl)
+
+-- no symbol and no item
+abbrev pub no_items : Layout
+no_items = record { symbols = map.empty; items = map.empty }
+
+-- the symbols of a list of numbers and slots
+abbrev pub symbols_of : List (ℕ × CellSlot) → FinMap nat_cmp CellSlot
+symbols_of entries = map.from_entries entries
+
+-- the items of a list of ids and items
+abbrev pub items_of : List (ItemId × Item) → FinMap id_cmp Item
+items_of entries = map.from_entries entries
+
+-- the item of this id
+abbrev pub item_at : Layout → ItemId → Option Item
+item_at layout id = map.get layout.items id
+
+-- the top cell is there, and each symbol
+abbrev pub is_cell : Layout → CellId → Bool
+is_cell layout Top = true
+is_cell layout (Symbol number) = is_some (map.get layout.symbols number)
+
+-- a write: under the id stands this item from then on, or none
+abbrev pub Write : Type 0
+Write = ItemId × Option Item
+
+-- the items after a write
+abbrev pub put : FinMap id_cmp Item → ItemId → Option Item → FinMap id_cmp Item
+put items id None = map.remove items id
+put items id (Some item) = map.insert items id item
+
+-- the items after these writes, the first of them first
+abbrev pub put_all : FinMap id_cmp Item → List Write → FinMap id_cmp Item
+put_all items [] = items
+put_all items (write ∷ writes) = put_all (put items write.0 write.1) writes
+
+-- the layout after these writes
+abbrev pub written : Layout → List Write → Layout
+written layout writes = record { symbols = layout.symbols; items = put_all layout.items writes }
+
+-- each id is above the one before it
+abbrev pub IsRising : List Write → Type 0
+IsRising [] = Unit {0}
+IsRising (w ∷ []) = Unit {0}
+IsRising (w ∷ v ∷ writes) = (id_cmp w.0 v.0 ≡ Less) × IsRising (v ∷ writes)

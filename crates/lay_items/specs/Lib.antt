@@ -1,0 +1,9 @@
+pub mod FromCif
+pub mod IdOrder
+pub mod Ids
+pub mod Items
+pub mod Layout
+pub mod Same
+pub mod SameLayout
+pub mod SameSlot
+pub mod Sound

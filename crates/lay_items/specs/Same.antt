@@ -1,0 +1,77 @@
+-- Equality of rings, items and symbols: the tests, and that they decide. What an `==` answers is such a test.
+use Rattle.std.specs.Prelude.{◌≡◌, ℕ, ◌==◌, List, Option, None, Some, Bool, true, false, ◌&&◌, refl}
+use Rattle.std.specs.Ordering.{nat_cmp}
+use Rattle.std.specs.FinMap as map
+use Rattle.std.specs.FinMap.{FinMap}
+use Rattle.std.specs.Bool.{Decides}
+use Rattle.std.specs.Cmp.{IsEquivalence, IsPartialEquivalence, decided, partial_equiv_from_equiv}
+use Rattle.std.specs.Cmp.Lexicographic.{pointwise}
+use Rattle.std.proofs.Common.{ap}
+use Rattle.std.proofs.lemmas.Bool.Decides.{Decides-and, Decides-eqb, Decides-like}
+use Rattle.std.proofs.lemmas.Slice.Eq.{bytes_eq-Decides, slice_eq-Decides}
+use Rattle.lay_point.specs.declared.point.Point.{Point}
+use Rattle.lay_point.specs.Same.{cell_eq, cell_eq-Decides, names_eq, points_eq, points_eq-Decides}
+use Rattle.lay_items.specs.declared.item.Item.{Item}
+use Rattle.lay_items.specs.declared.item.Item.TheVariants.{Shape}
+use Rattle.lay_items.specs.declared.version.CellSlot.{CellSlot}
+use Rattle.lay_items.specs.SameSlot.{slot_eq, slot_eq-Decides}
+
+-- the same rings in the same order
+abbrev pub rings_eq : List (List Point) → List (List Point) → Bool
+rings_eq = pointwise points_eq
+
+pub rings_eq-Decides : (rs ss : List (List Point)) → Decides (rings_eq rs ss) (rs ≡ ss)
+rings_eq-Decides rs ss = slice_eq-Decides points_eq-Decides rs ss (rings_eq rs ss) refl
+
+pub rings_eq_equiv : IsEquivalence rings_eq
+rings_eq_equiv = decided rings_eq rings_eq-Decides
+
+pub rings_eq_partial : IsPartialEquivalence rings_eq
+rings_eq_partial = partial_equiv_from_equiv rings_eq_equiv
+
+-- the same item
+abbrev pub item_eq : Item → Item → Bool
+item_eq (Shape c l r) (Shape d m s) = cell_eq c d && (names_eq l m && rings_eq r s)
+
+pub item_eq-Decides : (x y : Item) → Decides (item_eq x y) (x ≡ y)
+item_eq-Decides (Shape c l r) (Shape d m s) =
+    Decides-like (item_eq (Shape c l r) (Shape d m s)) (λ all. λ i. Shape (all.0 i) (all.1.0 i) (all.1.1 i)) (λ e. ((cc), ((cc), (cc))))
+    (Decides-and _ _ (cell_eq-Decides c d) (Decides-and _ _ (bytes_eq-Decides l m) (rings_eq-Decides r s)))
+
+pub item_eq_equiv : IsEquivalence item_eq
+item_eq_equiv = decided item_eq item_eq-Decides
+
+pub item_eq_partial : IsPartialEquivalence item_eq
+item_eq_partial = partial_equiv_from_equiv item_eq_equiv
+
+-- the same item, or none in both
+abbrev pub option_item_eq : Option Item → Option Item → Bool
+option_item_eq None None = true
+option_item_eq None (Some y) = false
+option_item_eq (Some x) None = false
+option_item_eq (Some x) (Some y) = item_eq x y
+
+pub option_item_eq-Decides : (x y : Option Item) → Decides (option_item_eq x y) (x ≡ y)
+option_item_eq-Decides None None = (λ _. refl, λ _. refl)
+option_item_eq-Decides None (Some y) = (λ e. cc, λ e. cc)
+option_item_eq-Decides (Some x) None = (λ e. cc, λ e. cc)
+option_item_eq-Decides (Some x) (Some y) = Decides-like (item_eq x y) (λ e. ap Some e) (λ e. cc) (item_eq-Decides x y)
+
+-- the same number in the same slot
+abbrev pub symbol_eq : ℕ × CellSlot → ℕ × CellSlot → Bool
+symbol_eq p q = (p.0 == q.0) && slot_eq p.1 q.1
+
+pub symbol_eq-Decides : (p q : ℕ × CellSlot) → Decides (symbol_eq p q) (p ≡ q)
+symbol_eq-Decides p q =
+    Decides-like (symbol_eq p q) (λ both. λ i. (both.0 i, both.1 i)) (λ e. (ap (λ (r : ℕ × CellSlot). r.0) e, ap (λ (r : ℕ × CellSlot). r.1) e))
+    (Decides-and _ _ (Decides-eqb p.0 q.0) (slot_eq-Decides p.1 q.1))
+
+-- the same symbols in the same slots
+unfoldable pub symbols_eq : FinMap nat_cmp CellSlot → FinMap nat_cmp CellSlot → Bool
+symbols_eq m n = pointwise symbol_eq (map.entries m) (map.entries n)
+
+pub symbols_eq-Decides : (m n : FinMap nat_cmp CellSlot) → Decides (symbols_eq m n) (m ≡ n)
+unfolding symbols_eq
+symbols_eq-Decides m n =
+    Decides-like (symbols_eq m n) (map.same_entries_map m n) (ap map.entries)
+    (slice_eq-Decides symbol_eq-Decides (map.entries m) (map.entries n) (symbols_eq m n) refl)

@@ -1,0 +1,142 @@
+//! Items and their rings.
+ghost use Rattle.std.specs.Prelude.{◌≡◌, IfOk, Ok};
+ghost use Rattle.lay_point.specs.Memory.{IsAnswer};
+ghost use Rattle.lay_items.specs.Items.{cell_of};
+
+use lay_point::{CellId, LayerName, NoMemory, Ring};
+use std::alloc::{AllocError, Global};
+use std::marker::Model;
+use std::sync::Arc;
+
+/// The rings of a shape, shared by all who hold them. Contracts see the list of them.
+#[derive(Debug, Drop)]
+pub struct Rings {
+    shared: Arc<Vec<Ring>>,
+}
+
+impl Model for Rings {
+    ghost use Rattle.std.specs.Prelude.{List};
+    ghost use Rattle.std.specs.Arc.{arc_value};
+    ghost use Rattle.lay_point.specs.declared.point.Point.{Point};
+
+    ghost Value = { List (List Point) };
+
+    ghost view = { λ r. (arc_value r.shared).items };
+}
+
+impl Rings {
+    /// The rings, to be shared.
+    pub fn new(alloc: Global, rings: Vec<Ring>) -> Result<Rings, NoMemory>
+        ensures { IsAnswer (record {}) result (Ok rings.items) }
+    {
+        let shared = Arc::new(alloc, rings)?;
+        Ok(Rings { shared })
+    }
+
+    /// The rings, in order.
+    pub fn as_slice(&self) -> &[Ring]
+        ensures { result.now ≡ self.now }
+    {
+        let rings: &Vec<Ring> = &self.shared;
+        rings.as_slice()
+    }
+
+    /// One more owner of the same rings.
+    fn share(&self) -> Result<Rings, AllocError>
+        ensures { IfOk result (λ rings. rings ≡ self.now) }
+    {
+        let shared = Arc::try_clone(&self.shared)?;
+        Ok(Rings { shared })
+    }
+}
+
+impl PartialEq for Rings {
+    ghost use Rattle.lay_items.specs.Same.{rings_eq, rings_eq_partial};
+
+    ghost eq = { rings_eq };
+
+    ghost laws = { rings_eq_partial };
+
+    fn eq(&self, other: &Rings) -> bool {
+        self.as_slice() == other.as_slice()
+    }
+}
+
+impl Eq for Rings {
+    ghost use Rattle.lay_items.specs.Same.{rings_eq_equiv};
+
+    ghost laws = { rings_eq_equiv };
+}
+
+/// What a layout holds under an id.
+#[derive(Debug, Drop)]
+pub enum Item {
+    /// A shape: the points that its rings hold by crossing parity.
+    Shape {
+        /// The cell in which it stands.
+        cell: CellId,
+        /// The layer on which it is drawn.
+        layer: LayerName,
+        /// Its rings, read together.
+        rings: Rings,
+    },
+}
+
+impl Item {
+    /// The cell in which the item stands.
+    pub fn cell(&self) -> CellId
+        ensures { result ≡ cell_of self.now }
+    {
+        match self {
+            Item::Shape { cell, .. } => *cell,
+        }
+    }
+
+    /// An equal item. The rings are shared, not copied.
+    pub fn copy(&self) -> Result<Item, NoMemory>
+        ensures { IsAnswer (record {}) result (Ok self.now) }
+    {
+        Ok(self.clone()?)
+    }
+}
+
+impl Clone for Item {
+    ghost is_clone = { λ item copy. copy ≡ item };
+
+    fn clone(&self) -> Result<Item, AllocError> {
+        match self {
+            Item::Shape { cell, layer, rings } => Ok(Item::Shape {
+                cell: *cell,
+                layer: *layer,
+                rings: rings.share()?,
+            }),
+        }
+    }
+}
+
+impl PartialEq for Item {
+    ghost use Rattle.lay_items.specs.Same.{item_eq, item_eq_partial};
+
+    ghost eq = { item_eq };
+
+    ghost laws = { item_eq_partial };
+
+    fn eq(&self, other: &Item) -> bool {
+        match (self, other) {
+            (
+                Item::Shape { cell, layer, rings },
+                Item::Shape {
+                    cell: other_cell,
+                    layer: other_layer,
+                    rings: other_rings,
+                },
+            ) => cell == other_cell && layer == other_layer && rings == other_rings,
+        }
+    }
+}
+
+impl Eq for Item {
+    ghost use Rattle.lay_items.specs.Same.{item_eq_equiv};
+
+    ghost laws = { item_eq_equiv };
+}

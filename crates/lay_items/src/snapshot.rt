@@ -1,0 +1,105 @@
+//! Snapshots: shared, sound layouts that lend what they hold.
+ghost use Rattle.std.specs.Prelude.{◌≡◌, Ok, option_copied};
+ghost use Rattle.lay_point.specs.Memory.{IsAnswer};
+ghost use Rattle.lay_items.specs.FromCif.{layout_of};
+ghost use Rattle.lay_items.specs.Items.{items_in};
+ghost use Rattle.lay_items.specs.Layout.{item_at};
+ghost use Rattle.lay_items.specs.Sound.{IsSound};
+
+use crate::id::ItemId;
+use crate::item::Item;
+use crate::iter::Items;
+use crate::version::{Version, version_of};
+use cif_read::CifFile;
+use lay_point::{CellId, NoMemory};
+use std::alloc::Global;
+use std::marker::Model;
+use std::sync::Arc;
+
+/// A sound layout as it was at one time, shared by all who hold it. Contracts see the layout.
+#[derive(Drop)]
+pub struct Snapshot {
+    version: Arc<Version>,
+}
+
+impl Model for Snapshot {
+    ghost use Rattle.std.specs.Arc.{arc_value};
+    ghost use Rattle.lay_items.specs.Layout.{Layout, coded_layout};
+    ghost use Rattle.lay_items.specs.Sound.{IsSound};
+
+    ghost Value = { Layout };
+
+    ghost coded = { coded_layout };
+
+    ghost view = { λ s. arc_value s.version };
+
+    ghost invariant = { λ s. IsSound (arc_value s.version) };
+}
+
+impl Snapshot {
+    /// The layout of a text's meaning: its element q is item 0.0.q.
+    pub fn from_cif(alloc: Global, file: CifFile) -> Result<Snapshot, NoMemory>
+        ensures { IsAnswer (record {}) result (Ok (layout_of file.top)) }
+    {
+        let version = version_of(alloc, file.top.into_vec())?;
+        Snapshot::of(alloc, version)
+    }
+
+    /// The snapshot of a sound version.
+    pub fn of(alloc: Global, version: Version) -> Result<Snapshot, NoMemory>
+        requires { IsSound version }
+        ensures { IsAnswer (record {}) result (Ok version) }
+    {
+        let version = Arc::new(alloc, version)?;
+        Ok(Snapshot { version })
+    }
+
+    /// One more owner of the same layout.
+    pub fn share(&self) -> Result<Snapshot, NoMemory>
+        ensures { IsAnswer (record {}) result (Ok self.now) }
+    {
+        let version = Arc::try_clone(&self.version)?;
+        Ok(Snapshot { version })
+    }
+
+    /// The layout, as a version.
+    pub fn version(&self) -> &Version
+        ensures value { result.now ≡ self.now }
+        ensures sound { IsSound self.now }
+    {
+        &self.version
+    }
+
+    /// The item of this id.
+    pub fn item(&self, id: ItemId) -> Option<&Item>
+        ensures { option_copied result ≡ item_at self.now id }
+    {
+        self.version().item(id)
+    }
+
+    /// Lends the items of a cell, in order of their ids.
+    #[tactic(auto, unfolding(crate::specs::Items::items_in))]
+    pub fn items(&self, cell: CellId) -> Items<'_>
+        ensures { result ≡ items_in self.now cell }
+    {
+        Items::new(self.version().iter(), cell)
+    }
+}
+
+impl PartialEq for Snapshot {
+    ghost use Rattle.lay_items.specs.SameLayout.{layout_eq, layout_eq_partial};
+
+    ghost eq = { layout_eq };
+
+    ghost laws = { layout_eq_partial };
+
+    fn eq(&self, other: &Snapshot) -> bool {
+        self.version() == other.version()
+    }
+}
+
+impl Eq for Snapshot {
+    ghost use Rattle.lay_items.specs.SameLayout.{layout_eq_equiv};
+
+    ghost laws = { layout_eq_equiv };
+}

@@ -1,0 +1,140 @@
+//! Tests of what no clause says: that calls succeed, and that definitions mean what they should.
+ghost use Rattle.std.specs.Prelude.{◌≡◌};
+
+use super::*;
+use lay_point::{CellId, LayerName, Point, Ring};
+use std::alloc::Global;
+use std::test::*;
+
+/// The id of an item of a text.
+fn id(seq: u32) -> ItemId
+    ensures { result ≡ record { session = 0; txn = 0; seq = seq } }
+{
+    ItemId {
+        session: 0,
+        txn: 0,
+        seq,
+    }
+}
+
+/// The square on the layer, of this half side around the origin.
+fn square(alloc: Global, cell: CellId, layer: &[u8], half: i32) -> Result<Item, Fail> {
+    let low = half.checked_neg().ok_or("no half side")?;
+    let corners = [(low, low), (half, low), (half, half), (low, half)];
+    let ring = Ring::new(alloc, &corners.map(|(x, y)| Point { x, y }))?;
+    let mut rings = Vec::new(alloc);
+    rings.push(ring)?;
+    let layer = LayerName::new(layer).ok_or("no layer name")?;
+    let rings = Rings::new(alloc, rings)?;
+    Ok(Item::Shape { cell, layer, rings })
+}
+
+/// The snapshot of what the text means.
+fn snapshot(alloc: Global, text: &[u8]) -> Result<Snapshot, Fail> {
+    Ok(Snapshot::from_cif(alloc, cif_read::read(alloc, text)?)?)
+}
+
+// Could catch items that are numbered, layered or placed otherwise than the text says, in the
+// definition and the code alike, and calls that never succeed.
+#[test]
+fn a_text_gives_its_elements_in_order_to_the_top_cell(rt: HostRuntime) -> Result<(), Fail> {
+    let alloc = rt.alloc();
+    let taken = snapshot(alloc, b"L A; B 2 2 0 0; B 6 0 0 0; L B; B 4 4 0 0; E")?;
+    let first = square(alloc, CellId::Top, b"A", 2)?;
+    let second = square(alloc, CellId::Top, b"B", 4)?;
+    for (seq, want) in [(0, None), (1, Some(&first)), (2, Some(&second)), (3, None)] {
+        assert!(rt; taken.item(id(seq)) == want, "item {seq}");
+        assert!(rt; taken.share()?.item(id(seq)) == want, "item {seq}, shared");
+    }
+    let mut items = taken.items(CellId::Top);
+    assert!(rt; items.next() == Some((id(1), &first)));
+    assert!(rt; items.next() == Some((id(2), &second)));
+    assert!(rt; items.next().is_none());
+    assert!(rt; taken.items(CellId::Symbol(1)).next().is_none());
+    assert!(rt;
+        taken.version().is_cell(CellId::Top) && !taken.version().is_cell(CellId::Symbol(1))
+    );
+    Ok(())
+}
+
+// Could catch writes that no caller can make, and a definition of them by which an item stays that
+// should go, stays as it was, or moves to another place in the order of ids.
+#[test]
+fn a_version_has_what_its_writes_leave(rt: HostRuntime) -> Result<(), Fail> {
+    let alloc = rt.alloc();
+    let symbol = CellId::Symbol(7);
+    let old = [
+        (id(1), Some(square(alloc, CellId::Top, b"A", 1)?)),
+        (id(2), Some(square(alloc, symbol, b"B", 2)?)),
+        (id(3), Some(square(alloc, CellId::Top, b"C", 3)?)),
+    ];
+    let before = Version::new(alloc).with(&old)?;
+    let new = [
+        (id(1), Some(square(alloc, symbol, b"Z", 9)?)),
+        (id(2), None),
+        (
+            ItemId {
+                session: 1,
+                txn: 1,
+                seq: 1,
+            },
+            Some(square(alloc, CellId::Top, b"D", 4)?),
+        ),
+    ];
+    let after = before.with(&new)?;
+    let want = [
+        (id(1), square(alloc, symbol, b"Z", 9)?),
+        (id(3), square(alloc, CellId::Top, b"C", 3)?),
+        (
+            ItemId {
+                session: 1,
+                txn: 1,
+                seq: 1,
+            },
+            square(alloc, CellId::Top, b"D", 4)?,
+        ),
+    ];
+    let mut items = after.iter();
+    for (id, item) in &want {
+        assert!(rt; items.next() == Some((id, item)), "{id:?}");
+    }
+    assert!(rt; items.next().is_none());
+    assert!(rt; after != before && before.with(&[])? == before);
+    Ok(())
+}
+
+// Could catch items that go with the first of their owners, and calls that never succeed: no clause
+// says that what is shared is kept in memory for the last owner.
+#[test]
+fn a_snapshot_answers_as_before(rt: HostRuntime) -> Result<(), Fail> {
+    let alloc = rt.alloc();
+    let taken = snapshot(alloc, b"L A; B 2 2 0 0; E")?;
+    let first = square(alloc, CellId::Top, b"A", 2)?;
+    let kept = taken.share()?;
+    let without = kept.version().with(&[(id(1), None)])?;
+    drop(taken);
+    assert!(rt; without.item(id(1)).is_none() && without == Version::new(alloc));
+    assert!(rt; kept.item(id(1)) == Some(&first) && kept.version() != &without);
+    let again = Snapshot::of(alloc, kept.version().with(&[])?)?;
+    drop(kept);
+    assert!(rt; again.item(id(1)) == Some(&first));
+    assert!(rt; again == snapshot(alloc, b"L A; B 2 2 0 0; E")?);
+    Ok(())
+}
+
+// Could catch copies that are refused though there is memory, and equality that forgets the layer,
+// the cell or the rings in its definition.
+#[test]
+fn items_are_equal_where_all_is_equal(rt: HostRuntime) -> Result<(), Fail> {
+    let alloc = rt.alloc();
+    let item = square(alloc, CellId::Top, b"A", 1)?;
+    assert!(rt; item.copy()? == item && item.cell() == CellId::Top);
+    for other in [
+        square(alloc, CellId::Symbol(0), b"A", 1)?,
+        square(alloc, CellId::Top, b"B", 1)?,
+        square(alloc, CellId::Top, b"A", 2)?,
+    ] {
+        assert!(rt; item != other, "{other:?}");
+    }
+    Ok(())
+}
