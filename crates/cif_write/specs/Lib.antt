@@ -1,0 +1,4 @@
+pub mod Device
+pub mod Drawn
+pub mod Lines
+pub mod Text
