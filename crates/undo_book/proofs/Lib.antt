@@ -1,0 +1,12 @@
+pub mod Written
+pub mod Runs
+pub mod Moves
+pub mod SetLemmas
+pub mod OneMore
+pub mod WorkLemmas
+pub mod ChainLemmas
+pub mod SoundRuns
+pub mod HistoryLemmas
+pub mod CommitLemmas
+pub mod UndoLemmas
+pub mod Lookups

@@ -1,0 +1,70 @@
+-- A transaction moved to another layout: where the layouts agree on all that it touched, its commands
+-- give the same answers, footprint and records there.
+use Rattle.std.proofs.Common.{◌≡◌, Bool, true, false, ◌||◌, List, [], ◌∷◌, Option, None, Some, is_some, unwrap_or, refl, ap, sym, ◌∙◌, subst}
+use Rattle.std.specs.List.{AllByRecursion}
+use Rattle.std.specs.FinSet.{contains}
+use Rattle.lay_items.specs.declared.id.ItemId.{ItemId}
+use Rattle.lay_items.specs.declared.item.Item as items
+use Rattle.lay_items.specs.Layout.{Layout, item_at, written}
+use Rattle.undo_book.specs.declared.txn_work.footprint.Element.TheVariants.{Item}
+use Rattle.undo_book.specs.declared.txn_work.record.Record.{Record}
+use Rattle.undo_book.specs.Agreement.{Agree}
+use Rattle.undo_book.specs.Effects.{Run, begun}
+use Rattle.undo_book.specs.Elements.{Touched}
+use Rattle.undo_book.specs.Records.{afters}
+use Rattle.undo_book.specs.Transactions.{IsTransaction, Moved, Transaction, come}
+use Rattle.undo_book.proofs.Runs.{LeavesAlone, frame, local}
+use Rattle.undo_book.proofs.Written.{get-put_all, is_some-write_at, same_id, same_id-equal, same_layouts, write_at, writes_id}
+
+-- the records found their items on the other layout too
+found_there : (l m : Layout) (touched : Touched) → Agree l m touched → (ws : List Record) → AllByRecursion (λ w. contains touched (Item w.id) ≡ true) ws → AllByRecursion (λ w. item_at l w.id ≡ w.before) ws → AllByRecursion (λ w. item_at m w.id ≡ w.before) ws
+found_there l m touched agree [] covered found = tt
+found_there l m touched agree (w ∷ ws) covered found = (sym (agree.items w.id covered.0) ∙ found.0, found_there l m touched agree ws covered.1 found.1)
+
+-- what isn't touched isn't written
+pub unwritten : (touched : Touched) (q : ItemId) → contains touched (Item q) ≡ false → (ws : List Record) → AllByRecursion (λ w. contains touched (Item w.id) ≡ true) ws → writes_id q ws ≡ false
+unwritten touched q out [] covered = refl
+unwritten touched q out (w ∷ ws) covered = ap (λ b. b || writes_id q ws) (other (same_id q w.id) refl) ∙ unwritten touched q out ws covered.1 where
+  other : (b : Bool) → same_id q w.id ≡ b → b ≡ false
+  other true h = let same : contains touched (Item q) ≡ contains touched (Item w.id) = ap (λ e. contains touched (Item e)) (same_id-equal q w.id h) in let there = covered.0 in cc
+  other false h = refl
+
+nothing_at : (last : Option (Option items.Item)) → is_some last ≡ false → (old : Option items.Item) → unwrap_or last old ≡ old
+nothing_at None h old = refl
+nothing_at (Some item) h old = absurd cc
+
+-- the layout after the run there is the records laid on it
+laid_there : (txn : Transaction) → IsTransaction txn → (m : Layout) → Agree txn.snapshot m txn.footprint → (s : Run) → LeavesAlone m s.layout txn.footprint → Agree (come txn).layout s.layout txn.footprint →
+    (q : ItemId) (b : Bool) → contains txn.footprint (Item q) ≡ b → item_at s.layout q ≡ item_at (written m (afters txn.writes)) q
+laid_there txn is m agree s alone alike q true there =
+    sym (alike.items q there) ∙ ap (λ (l : Layout). item_at l q) is.writes.laid
+    ∙ get-put_all txn.snapshot.items (afters txn.writes) q ∙ ap (unwrap_or (write_at q (afters txn.writes))) (agree.items q there)
+    ∙ sym (get-put_all m.items (afters txn.writes) q)
+laid_there txn is m agree s alone alike q false out =
+    alone.items q out
+    ∙ sym (nothing_at (write_at q (afters txn.writes)) (is_some-write_at (λ w. w.after) q txn.writes ∙ unwritten txn.footprint q out txn.writes is.covered) (item_at m q))
+    ∙ sym (get-put_all m.items (afters txn.writes) q)
+
+pub moved : (txn : Transaction) → IsTransaction txn → (m : Layout) → Agree txn.snapshot m txn.footprint → (run : Run) × Moved txn m run
+moved txn is m agree =
+    let end = come txn in
+    let on_end : Agree txn.snapshot m end.footprint = subst (λ (f : Touched). Agree txn.snapshot m f) is.footprint agree in
+    let there = frame txn.id txn.commands (begun txn.snapshot) end is.runs (begun m) (record { made = refl; footprint = refl; dones = refl; agree = on_end }) in
+    let s = there.0 in
+    let alone = local txn.id txn.commands (begun m) s there.1 in
+    let footprint : s.footprint ≡ txn.footprint = there.2.footprint ∙ sym is.footprint in
+    let alone_there : LeavesAlone m s.layout txn.footprint = subst (λ (f : Touched). LeavesAlone m s.layout f) footprint alone in
+    let alike : Agree end.layout s.layout txn.footprint = subst (λ (f : Touched). Agree end.layout s.layout f) (sym is.footprint) there.2.agree in (
+      s,
+      record {
+        runs = there.1;
+        footprint = footprint;
+        dones = there.2.dones;
+        writes = record {
+          rising = is.writes.rising;
+          laid = same_layouts s.layout (written m (afters txn.writes)) alone.symbols (λ q. laid_there txn is m agree s alone_there alike q (contains txn.footprint (Item q)) refl);
+          found = found_there txn.snapshot m txn.footprint agree txn.writes is.covered is.writes.found;
+          differ = is.writes.differ;
+        };
+      },
+    )

@@ -1,0 +1,131 @@
+-- Runs keep a layout sound, and touch their own items alone.
+use Rattle.std.proofs.Common.{◌≡◌, ◌≢◌, Bool, true, false, not, ◌||◌, ◌&&◌, cond, List, [], ◌∷◌, None, Some, Ok, is_some, refl, ap, sym, ◌∙◌, subst, arith, ℤ, int_lt}
+use Rattle.std.specs.FinMap.{FinMap, get-insert}
+use Rattle.std.specs.FinMap as finite
+use Rattle.std.specs.FinSet.{contains, contains-empty, contains-insert}
+use Rattle.std.specs.Ordering.{eq_by_cmp, int_eq, nat_cmp}
+use Rattle.std.proofs.lemmas.Bool.Decides.{Decides-int_eq}
+use Rattle.std.specs.Int.{int_max, int_min}
+use Rattle.lay_point.specs.declared.cell_id.CellId.{CellId}
+use Rattle.lay_point.specs.declared.cell_id.CellId.TheVariants.{Symbol, Top}
+use Rattle.lay_point.specs.declared.point.Point.{Point}
+use Rattle.lay_point.specs.Points.{is_coordinate, is_in_range}
+use Rattle.lay_point.specs.Rings.{IsRing, rectangle}
+use Rattle.lay_items.specs.declared.id.ItemId.{ItemId}
+use Rattle.lay_items.specs.declared.item.Item as items
+use Rattle.lay_items.specs.declared.item.Item.TheVariants.{Shape}
+use Rattle.lay_items.specs.declared.version.CellSlot.{CellSlot}
+use Rattle.lay_items.specs.IdOrder.{ids_total}
+use Rattle.lay_items.specs.Layout.{Layout, is_cell, item_at}
+use Rattle.lay_items.specs.Sound.{IsSound, IsSoundItem}
+use Rattle.undo_book.specs.declared.txn_work.command.CmdFault.TheVariants.{FewPoints, NoCell, OutOfRange}
+use Rattle.undo_book.specs.declared.txn_work.command.Command.{Command}
+use Rattle.undo_book.specs.declared.txn_work.command.Command.TheVariants.{Box}
+use Rattle.undo_book.specs.declared.txn_work.command.TxnId.{TxnId}
+use Rattle.undo_book.specs.declared.txn_work.footprint.Element.TheVariants.{Item}
+use Rattle.undo_book.specs.Chains.{IsOf}
+use Rattle.undo_book.specs.Effects.{Run, after_each, begun, box_fault, boxed, effect, lower_left, making, next_id, upper_right}
+use Rattle.undo_book.specs.Elements.{element_cmp, elements_total}
+use Rattle.undo_book.proofs.Runs.{accepted, goes_on, makes}
+use Rattle.undo_book.proofs.WorkLemmas.{lower_in_range, parts, upper_in_range}
+use Rattle.undo_book.proofs.Written.{same_id, same_id-equal}
+
+-- a rectangle of two sides in range is a ring
+rectangle_ring : (low high : Point) → is_in_range low ≡ true → is_in_range high ≡ true → low.x ≢ high.x → low.y ≢ high.y → IsRing (rectangle low high)
+rectangle_ring low high lows highs wide tall =
+    let l = parts (is_coordinate low.x) (is_coordinate low.y) lows in
+    let h = parts (is_coordinate high.x) (is_coordinate high.y) highs in
+    let lx = l.0 in
+    let ly = l.1 in
+    let hx = h.0 in
+    let hy = h.1 in
+    record {
+      enough = omega arith;
+      few = omega arith;
+      in_range = rw (lx, ly, hx, hy) refl;
+      apart = ((λ e. wide (ap (λ (p : Point). p.x) e)), ((λ e. tall (ap (λ (p : Point). p.y) e)), ((λ e. wide (sym (ap (λ (p : Point). p.x) e))), ((λ e. tall (sym (ap (λ (p : Point). p.y) e))), tt))));
+    }
+
+test_false : (x y : ℤ) → int_eq x y ≡ false → x ≢ y
+test_false x y h e = let t = (Decides-int_eq x y).1 e in cc
+
+-- the lesser and the greater of two different numbers differ
+apart : (a b : ℤ) → a ≢ b → int_min a b ≢ int_max a b
+apart a b h = by_order (int_lt b a) where
+  by_order : (c : Bool) → cond c b a ≢ cond c a b
+  by_order true e = h (sym e)
+  by_order false e = h e
+
+or_false : (a b : Bool) → (a || b) ≡ false → (a ≡ false) × (b ≡ false)
+or_false true b h = absurd cc
+or_false false b h = (refl, h)
+
+-- what a box that nothing is against is known to be
+none_against : (layout : Layout) (cell : CellId) (a b : Point) → box_fault layout cell a b ≡ None →
+    (is_cell layout cell ≡ true) × (a.x ≢ b.x) × (a.y ≢ b.y) × ((is_in_range a && is_in_range b) ≡ true)
+none_against layout cell a b h = by_cell (is_cell layout cell) (int_eq a.x b.x || int_eq a.y b.y) (is_in_range a && is_in_range b) refl refl refl h where
+  by_cell : (there thin ranges : Bool) → is_cell layout cell ≡ there → (int_eq a.x b.x || int_eq a.y b.y) ≡ thin → (is_in_range a && is_in_range b) ≡ ranges →
+      cond (not there) (Some NoCell) (cond thin (Some FewPoints) (cond (not ranges) (Some OutOfRange) None)) ≡ None →
+      (is_cell layout cell ≡ true) × (a.x ≢ b.x) × (a.y ≢ b.y) × ((is_in_range a && is_in_range b) ≡ true)
+  by_cell false thin ranges e f g h = absurd cc
+  by_cell true true ranges e f g h = absurd cc
+  by_cell true false false e f g h = absurd cc
+  by_cell true false true e f g h =
+      let sides = or_false (int_eq a.x b.x) (int_eq a.y b.y) f in
+      (e, test_false a.x b.x sides.0, test_false a.y b.y sides.1, g)
+
+-- the item that an accepted command makes is sound
+sound_item : (t : TxnId) (c : Command) (r n : Run) → effect t c r ≡ Ok n → (item : items.Item) × (n ≡ making t item r) × IsSoundItem r.layout item
+unfolding effect
+sound_item t (Box cell layer a b) r n h =
+    let item : items.Item = boxed cell layer a b in
+    let fine = accepted (box_fault r.layout cell a b) r (making t item r) n h in
+    let facts = none_against r.layout cell a b fine.0 in (
+      item,
+      sym fine.2,
+      (facts.0, record { one = refl; each = (rectangle_ring (lower_left a b) (upper_right a b) (lower_in_range a b facts.3) (upper_in_range a b facts.3) (apart a.x b.x facts.1) (apart a.y b.y facts.2), tt) }),
+    )
+
+-- what a layout may hold depends on its symbols alone
+same_cells : (l m : Layout) (item : items.Item) → l.symbols ≡ m.symbols → IsSoundItem l item → IsSoundItem m item
+same_cells l m (Shape Top layer rings) h sound = (refl, sound.1)
+same_cells l m (Shape (Symbol n) layer rings) h sound = (ap (λ (s : FinMap nat_cmp CellSlot). is_some (finite.get s n)) (sym h) ∙ sound.0, sound.1)
+
+-- making a sound item keeps a layout sound
+making_sound : (t : TxnId) (item : items.Item) (r : Run) → IsSoundItem r.layout item → IsSound r.layout → IsSound (making t item r).layout
+making_sound t item r new sound = record {
+  numbers = sound.numbers;
+  items = λ q x at. same_cells r.layout (making t item r).layout x refl (by_place q x (same_id q (next_id t r)) (sym (get-insert ids_total r.layout.items (next_id t r) item q) ∙ at));
+} where
+  by_place : (q : ItemId) (x : items.Item) (b : Bool) → cond b (Some item) (item_at r.layout q) ≡ Some x → IsSoundItem r.layout x
+  by_place q x true same = let e : item ≡ x = cc in subst (IsSoundItem r.layout) e new
+  by_place q x false same = sound.items q x same
+
+-- runs keep a layout sound
+pub run_sound : (t : TxnId) (cs : List Command) (start end : Run) → after_each t cs start ≡ Some end → IsSound start.layout → IsSound end.layout
+run_sound t [] start end h sound = let same : start ≡ end = cc in subst (λ (r : Run). IsSound r.layout) same sound
+run_sound t (c ∷ cs) start end h sound =
+    let step = goes_on (effect t c start) (λ next. after_each t cs next) end h in
+    let item = sound_item t c start step.0 step.1 in
+    run_sound t cs step.0 end step.2 (subst (λ (r : Run). IsSound r.layout) (sym item.1) (making_sound t item.0 start item.2 sound))
+
+-- each touched item is the transaction's own
+abbrev TouchesOwn : TxnId → Run → Type 0
+TouchesOwn t r = (q : ItemId) → contains r.footprint (Item q) ≡ true → IsOf t q
+
+making_own : (t : TxnId) (item : items.Item) (r : Run) → TouchesOwn t r → TouchesOwn t (making t item r)
+making_own t item r own q there = by_place (eq_by_cmp element_cmp (Item q) (Item (next_id t r))) refl (sym (contains-insert elements_total r.footprint (Item (next_id t r)) (Item q)) ∙ there) where
+  by_place : (b : Bool) → eq_by_cmp element_cmp (Item q) (Item (next_id t r)) ≡ b → (b || contains r.footprint (Item q)) ≡ true → IsOf t q
+  by_place true e h = let same = same_id-equal q (next_id t r) e in (ap (λ (i : ItemId). i.session) same, ap (λ (i : ItemId). i.txn) same)
+  by_place false e h = own q h
+
+run_own : (t : TxnId) (cs : List Command) (start end : Run) → after_each t cs start ≡ Some end → TouchesOwn t start → TouchesOwn t end
+run_own t [] start end h own = let same : start ≡ end = cc in subst (λ (r : Run). TouchesOwn t r) same own
+run_own t (c ∷ cs) start end h own =
+    let step = goes_on (effect t c start) (λ next. after_each t cs next) end h in
+    let item = makes t c start step.0 step.1 in
+    run_own t cs step.0 end step.2 (subst (λ (r : Run). TouchesOwn t r) (sym item.1.made) (making_own t item.0 start own))
+
+-- a transaction touches its own items alone
+pub touches_own : (t : TxnId) (cs : List Command) (layout : Layout) (end : Run) → after_each t cs (begun layout) ≡ Some end → TouchesOwn t end
+touches_own t cs layout end h = run_own t cs (begun layout) end h (λ q there. let none : contains (begun layout).footprint (Item q) ≡ false = contains-empty element_cmp (Item q) in absurd cc)

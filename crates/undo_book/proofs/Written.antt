@@ -1,0 +1,107 @@
+-- Layouts after writes, seen id by id; and that records taken back give the layout before.
+use Rattle.std.proofs.Common.{◌≡◌, Bool, true, false, cond, List, [], ◌∷◌, ◌++◌, Option, None, Some, is_some, unwrap_or, ◌||◌, map, refl, ap, sym, ◌∙◌}
+use Rattle.std.specs.List.{AllByRecursion, list_any}
+use Rattle.std.specs.FinMap.{FinMap, get, get-insert, get-remove, same_map}
+use Rattle.std.specs.declared.cmp.Ordering.{Ordering}
+use Rattle.std.specs.declared.cmp.Ordering.TheVariants.{Equal, Greater, Less}
+use Rattle.std.specs.Ordering.{eq_by_cmp, is_eq}
+use Rattle.std.specs.Cmp.{eq_by_cmp_equiv}
+use Rattle.lay_items.specs.declared.id.ItemId.{ItemId}
+use Rattle.lay_items.specs.declared.item.Item.{Item}
+use Rattle.lay_items.specs.IdOrder.{ids_exact, ids_total}
+use Rattle.lay_items.specs.Ids.{id_cmp}
+use Rattle.lay_items.specs.Layout.{Layout, Write, item_at, put, put_all, written}
+use Rattle.undo_book.specs.declared.txn_work.record.Record.{Record}
+use Rattle.undo_book.specs.Records.{afters, befores}
+
+-- the same id
+abbrev pub same_id : ItemId → ItemId → Bool
+same_id = eq_by_cmp id_cmp
+
+pub same_id-refl : (q : ItemId) → same_id q q ≡ true
+same_id-refl = (eq_by_cmp_equiv ids_total).refl
+
+pub same_id-equal : (p q : ItemId) → same_id p q ≡ true → p ≡ q
+same_id-equal p q h = ids_exact p q (equal_of (id_cmp p q) h) where
+  equal_of : (o : Ordering) → is_eq o ≡ true → o ≡ Equal
+  equal_of Less h = cc
+  equal_of Equal h = refl
+  equal_of Greater h = cc
+
+-- items with the same item under each id are the same
+pub same_items : (m n : FinMap id_cmp Item) → ((q : ItemId) → get m q ≡ get n q) → m ≡ n
+same_items = same_map ids_total ids_exact
+
+-- layouts with the same symbols and the same item under each id are the same
+pub same_layouts : (l m : Layout) → l.symbols ≡ m.symbols → ((q : ItemId) → item_at l q ≡ item_at m q) → l ≡ m
+same_layouts l m symbols items = let e = same_items l.items m.items items in λ i. record { symbols = symbols i; items = e i }
+
+pub get-put : (items : FinMap id_cmp Item) (id : ItemId) (item : Option Item) (q : ItemId) → get (put items id item) q ≡ cond (same_id q id) item (get items q)
+get-put items id None q = get-remove ids_total items id q
+get-put items id (Some item) q = get-insert ids_total items id item q
+
+-- the last of two choices that there is
+abbrev pub later : Option (Option Item) → Bool → Option Item → Option (Option Item)
+later (Some item) here first = Some item
+later None here first = cond here (Some first) None
+
+-- what the writes leave under the id, where they write it
+abbrev pub write_at : ItemId → List Write → Option (Option Item)
+write_at q [] = None
+write_at q (w ∷ ws) = later (write_at q ws) (same_id q w.0) w.1
+
+chosen : (last : Option (Option Item)) (here : Bool) (first old : Option Item) → unwrap_or last (cond here first old) ≡ unwrap_or (later last here first) old
+chosen (Some item) here first old = refl
+chosen None true first old = refl
+chosen None false first old = refl
+
+pub get-put_all : (items : FinMap id_cmp Item) (ws : List Write) (q : ItemId) → get (put_all items ws) q ≡ unwrap_or (write_at q ws) (get items q)
+get-put_all items [] q = refl
+get-put_all items (w ∷ ws) q =
+    get-put_all (put items w.0 w.1) ws q ∙ ap (unwrap_or (write_at q ws)) (get-put items w.0 w.1 q)
+    ∙ chosen (write_at q ws) (same_id q w.0) w.1 (get items q)
+
+pub put_all-append : (items : FinMap id_cmp Item) (xs ys : List Write) → put_all items (xs ++ ys) ≡ put_all (put_all items xs) ys
+put_all-append items [] ys = refl
+put_all-append items (x ∷ xs) ys = put_all-append (put items x.0 x.1) xs ys
+
+-- records write this id
+abbrev pub writes_id : ItemId → List Record → Bool
+writes_id q ws = list_any (λ w. same_id q w.id) ws
+
+is_some-later : (last : Option (Option Item)) (here : Bool) (first : Option Item) (rest : Bool) → is_some last ≡ rest → is_some (later last here first) ≡ (here || rest)
+is_some-later (Some item) true first rest h = refl
+is_some-later (Some item) false first rest h = h
+is_some-later None true first rest h = refl
+is_some-later None false first rest h = h
+
+-- an id is written exactly where some record is of it
+pub is_some-write_at : (value : Record → Option Item) (q : ItemId) (ws : List Record) → is_some (write_at q (map (λ w. (w.id, value w)) ws)) ≡ writes_id q ws
+is_some-write_at value q [] = refl
+is_some-write_at value q (w ∷ ws) = is_some-later (write_at q (map (λ w. (w.id, value w)) ws)) (same_id q w.id) (value w) (writes_id q ws) (is_some-write_at value q ws)
+
+-- what a record takes back to is what was found, if what the later ones take back to is
+found_first : (l : Layout) (q : ItemId) (w : Record) (last : Option (Option Item)) (here : Bool) → item_at l w.id ≡ w.before → same_id q w.id ≡ here →
+    ((b : Option Item) → last ≡ Some b → b ≡ item_at l q) → (b : Option Item) → later last here w.before ≡ Some b → b ≡ item_at l q
+found_first l q w (Some c) here found is rest b h = rest b h
+found_first l q w None true found is rest b h = let same : w.before ≡ b = cc in sym same ∙ sym found ∙ ap (item_at l) (sym (same_id-equal q w.id is))
+found_first l q w None false found is rest b h = absurd cc
+
+-- what is taken back to is what was found
+found_at : (l : Layout) (q : ItemId) (ws : List Record) → AllByRecursion (λ w. item_at l w.id ≡ w.before) ws → (b : Option Item) → write_at q (befores ws) ≡ Some b → b ≡ item_at l q
+found_at l q [] found b h = absurd cc
+found_at l q (w ∷ ws) found b h = found_first l q w (write_at q (befores ws)) (same_id q w.id) found.0 refl (λ c e. found_at l q ws found.1 c e) b h
+
+-- records taken back give the layout before
+pub taken_back : (l : Layout) (ws : List Record) → AllByRecursion (λ w. item_at l w.id ≡ w.before) ws → written (written l (afters ws)) (befores ws) ≡ l
+taken_back l ws found = same_layouts _ l refl at where
+  by_case : (q : ItemId) (back forth : Option (Option Item)) → write_at q (befores ws) ≡ back → is_some back ≡ is_some forth → unwrap_or back (unwrap_or forth (item_at l q)) ≡ item_at l q
+  by_case q (Some b) forth e s = found_at l q ws found b e
+  by_case q None (Some f) e s = absurd cc
+  by_case q None None e s = refl
+
+  at : (q : ItemId) → item_at (written (written l (afters ws)) (befores ws)) q ≡ item_at l q
+  at q =
+      get-put_all (put_all l.items (afters ws)) (befores ws) q
+      ∙ ap (unwrap_or (write_at q (befores ws))) (get-put_all l.items (afters ws) q)
+      ∙ by_case q (write_at q (befores ws)) (write_at q (afters ws)) refl (is_some-write_at (λ w. w.before) q ws ∙ sym (is_some-write_at (λ w. w.after) q ws))

@@ -1,0 +1,10 @@
+-- What contracts see of a book, and what it keeps.
+use Rattle.undo_book.specs.declared.book.Book.TheInside.{Inside}
+use Rattle.undo_book.specs.Chains.{IsHistory}
+use Rattle.undo_book.specs.History.{History}
+
+abbrev pub seen : Inside → History
+seen b = record { base = b.base; layout = b.layout; log = b.log.items; entries = b.entries.items; sessions = b.sessions.items }
+
+abbrev pub IsBook : Inside → Type 0
+IsBook b = IsHistory (seen b)

@@ -1,0 +1,10 @@
+pub mod Agreement
+pub mod Books
+pub mod Chains
+pub mod Effects
+pub mod Elements
+pub mod History
+pub mod Records
+pub mod Steps
+pub mod Transactions
+pub mod Works

@@ -1,0 +1,377 @@
+//! The book: one history, and the calls that lead it on.
+ghost use Rattle.std.specs.Prelude.{◌≡◌, ◌<◌, ◌≤◌, IfErr, IfOk, OnErr, OnOk, Ok, Err, None, Some, true, false, drop, replicate, slice_get, slice_index_or, slice_set, vec_len, ◌-◌};
+ghost use Rattle.lay_point.specs.Memory.{IsAnswer};
+ghost use Rattle.lay_items.specs.Layout.{IsRising, written};
+ghost use Rattle.lay_items.specs.Sound.{IsSound};
+ghost use Rattle.undo_book.specs.declared.log.Entry.{Entry as Kept};
+ghost use Rattle.undo_book.specs.Effects.{Run};
+ghost use Rattle.undo_book.specs.Records.{afters, befores};
+ghost use Rattle.undo_book.specs.History.{replay};
+ghost use Rattle.undo_book.specs.Steps.{Takes, TakesWork, after_commit, after_open, after_undo, answered_state, commit_step, fresh, is_log_full, is_own, is_pending, logged, open_step, opening, place_of, refusal_of, refused, state_of, undo_step, undone, unused, without};
+ghost use Rattle.undo_book.specs.Transactions.{Moved};
+
+use crate::commit::CommitRefusal;
+use crate::log::{Answer, BookFault, Call, Entry, Logged};
+use crate::places::undo_place;
+use crate::session::{Pending, SessionState};
+use crate::txn_work::{Record, TxnId, Work, afters, befores};
+use lay_items::Snapshot;
+use lay_point::NoMemory;
+use std::alloc::Global;
+use std::marker::Model;
+
+/// The most calls that a book logs.
+pub const MAX_CALLS: usize = 1 << 20;
+
+/// The most transactions of a session.
+pub const MAX_TRANSACTIONS: u16 = 65_535;
+
+/// The most sessions.
+const SESSIONS: usize = 64;
+
+/// A history of a layout. Contracts see the record of its base, its layout, its log, its committed
+/// transactions and what it keeps of the sessions. It keeps in its type that the layout is that of
+/// running the commands of the live transactions, in the order of their commits, from the base.
+#[derive(Drop)]
+pub struct Book {
+    base: Snapshot,
+    layout: Snapshot,
+    log: Vec<Logged>,
+    entries: Vec<Entry>,
+    sessions: Vec<SessionState>,
+}
+
+impl Model for Book {
+    ghost use Rattle.undo_book.specs.History.{History, coded_history};
+
+    ghost Value = { History };
+
+    ghost coded = { coded_history };
+
+    ghost use Rattle.undo_book.specs.Books.{IsBook, seen};
+
+    ghost view = { seen };
+
+    ghost invariant = { IsBook };
+}
+
+impl Book {
+    /// The history of this base without calls.
+    pub fn new(alloc: Global, base: Snapshot) -> Result<Book, NoMemory>
+        ensures { IsAnswer (record {}) result (Ok (fresh base)) }
+    {
+        let layout = base.share()?;
+        Ok(Book {
+            base,
+            layout,
+            log: Vec::new(alloc),
+            entries: Vec::new(alloc),
+            sessions: unused_sessions(alloc)?,
+        })
+    }
+
+    /// The layout on which the history began.
+    pub fn base(&self) -> &Snapshot
+        ensures { result.now ≡ self.now.base }
+    {
+        &self.base
+    }
+
+    /// The layout as it is: that of running the commands of the live transactions from the base.
+    pub fn snapshot(&self) -> &Snapshot
+        ensures value { result.now ≡ self.now.layout }
+        ensures replay { replay self.now ≡ Some result.now }
+    {
+        &self.layout
+    }
+
+    /// The logged calls with their answers, in order.
+    pub fn log(&self) -> &[Logged]
+        ensures { result.now ≡ self.now.log }
+    {
+        self.log.as_slice()
+    }
+
+    /// The committed transactions with their marks, in the order of their commits.
+    pub fn entries(&self) -> &[Entry]
+        ensures { result.now ≡ self.now.entries }
+    {
+        self.entries.as_slice()
+    }
+
+    /// Whether the log has as many calls as it may have.
+    fn is_full(&self) -> bool
+        ensures { result ≡ is_log_full self.now }
+    {
+        self.log.len() >= MAX_CALLS
+    }
+
+    /// Logs a call, and changes nothing else.
+    fn note(&mut self, session: u8, call: Call, answer: Answer) -> Result<(), NoMemory>
+        ensures ok { OnOk result (self.new ≡ logged self.old session call answer) }
+        ensures err { OnErr result (self.new ≡ self.old) }
+    {
+        self.log.push(Logged {
+            session,
+            call,
+            answer,
+        })?;
+        Ok(())
+    }
+
+    /// Opens the next transaction of a session, on the layout as it is, and gives up what the session
+    /// has open. Refused as `LogFull`, then as `SessionFull` where the session has as many transactions
+    /// as it may have. Any answer but `LogFull` can give way to `NoMemory`. All but these two are logged.
+    pub fn open(&mut self, alloc: Global, session: u8) -> Result<Work, BookFault>
+        requires low { 1 ≤ session }
+        requires high { session ≤ 64 }
+        ensures step { Takes self.old (open_step self.old session) result self.new }
+        ensures full { is_log_full self.old ≡ true → result ≡ Err BookFault.LogFull }
+    {
+        if self.is_full() {
+            return Err(BookFault::LogFull);
+        }
+        if self.opens(session) >= MAX_TRANSACTIONS {
+            self.note(session, Call::Open, Answer::Refused(BookFault::SessionFull))?;
+            return Err(BookFault::SessionFull);
+        }
+        Ok(self.open_next(alloc, session)?)
+    }
+
+    /// How many opens of the session were accepted.
+    fn opens(&self, session: u8) -> u16
+        requires low { 1 ≤ session }
+        requires high { session ≤ 64 }
+        ensures { result ≡ (state_of self.now session).opens }
+    {
+        self.sessions[usize::from(session) - 1].opens
+    }
+
+    /// Opens the next transaction of a session, for which there is room.
+    fn open_next(&mut self, alloc: Global, session: u8) -> Result<Work, NoMemory>
+        requires low { 1 ≤ session }
+        requires high { session ≤ 64 }
+        requires log { is_log_full self.old ≡ false }
+        requires room { (state_of self.old session).opens < 65535 }
+        ensures work { IfOk result (λ work. work ≡ opening self.old session) }
+        ensures ok { OnOk result (self.new ≡ after_open self.old session) }
+        ensures err { OnErr result (self.new ≡ self.old) }
+    {
+        let txn = self.opens(session) + 1;
+        let place = self.log.len() as u32;
+        let given = self.layout.share()?;
+        let snapshot = self.layout.share()?;
+        self.log.reserve(1)?;
+        self.sessions[usize::from(session) - 1] = SessionState {
+            opens: txn,
+            pending: Some(Pending { place, snapshot }),
+        };
+        let logged = Logged {
+            session,
+            call: Call::Open,
+            answer: Answer::Opened(txn),
+        };
+        self.log.push(logged).unwrap();
+        Ok(Work::new(alloc, given, TxnId { session, txn }, place))
+    }
+
+    /// Commits a work: its transaction is live, and the last one. Refused, with the work handed back, as
+    /// `LogFull`, then as `Foreign` where the work isn't the one that its session opened last in this
+    /// book and that was not answered, or doesn't fit the layout at its open. Any answer but `LogFull`
+    /// can give way to `NoMemory`. A refusal changes nothing and isn't logged.
+    pub fn commit(&mut self, alloc: Global, work: Work) -> Result<TxnId, CommitRefusal>
+        ensures step { TakesWork self.old work (commit_step self.old work) result self.new }
+        ensures full { is_log_full self.old ≡ true → result ≡ Err (refused BookFault.LogFull work) }
+        // The commands, run on the layout at the commit, give what they gave in the work.
+        ensures ran { OnOk result ((run : Run) × Moved work self.old.layout run × (run.layout ≡ self.new.layout)) }
+    {
+        if self.is_full() {
+            return Err(refused(BookFault::LogFull, work));
+        }
+        if !self.is_own(&work) {
+            return Err(refused(BookFault::Foreign, work));
+        }
+        match self.append(alloc, work) {
+            Ok(txn) => Ok(txn),
+            Err(work) => Err(refused(BookFault::NoMemory, work)),
+        }
+    }
+
+    /// Whether the work is the one that its session opened last and that was not answered, and the
+    /// layout at its open is as its snapshot has it on what it touched.
+    fn is_own(&self, work: &Work) -> bool
+        ensures { result ≡ is_own self.now work.now }
+    {
+        let id = work.id();
+        if id.session == 0 || id.session > 64 {
+            return false;
+        }
+        let state = &self.sessions[usize::from(id.session) - 1];
+        state.opens == id.txn && is_pending(&state.pending, work)
+    }
+
+    /// Appends the transaction of a work of the book's own. The work is handed back for want of memory.
+    fn append(&mut self, alloc: Global, work: Work) -> Result<TxnId, Work>
+        requires log { is_log_full self.old ≡ false }
+        requires own { is_own self.old work ≡ true }
+        ensures txn { IfOk result (λ txn. txn ≡ work.id) }
+        ensures ok { OnOk result (self.new ≡ after_commit self.old work) }
+        ensures ran { OnOk result ((run : Run) × Moved work self.old.layout run × (run.layout ≡ self.new.layout)) }
+        ensures work { IfErr result (λ back. back ≡ work) }
+        ensures err { OnErr result (self.new ≡ self.old) }
+    {
+        let txn = work.id();
+        let Ok(layout) = laid(alloc, &self.layout, work.writes()) else {
+            return Err(work);
+        };
+        if self.entries.reserve(1).is_err() || self.log.reserve(1).is_err() {
+            return Err(work);
+        }
+        let place = self.log.len() as u32;
+        let (commands, writes, footprint) = work.into_parts();
+        let entry = Entry {
+            txn,
+            place,
+            writes,
+            footprint,
+            live: true,
+        };
+        self.entries.push(entry).unwrap();
+        let logged = Logged {
+            session: txn.session,
+            call: Call::Commit { txn, commands },
+            answer: Answer::Committed,
+        };
+        self.log.push(logged).unwrap();
+        answer(&mut self.sessions, txn.session);
+        self.layout = layout;
+        Ok(txn)
+    }
+
+    /// Undoes a committed transaction, of any session. Refused as `LogFull`, then as `NoTxn`, as
+    /// `NotLive`, and as `Depends` with the first live transaction that was committed later. Any answer
+    /// but `LogFull` can give way to `NoMemory`. All but these two are logged.
+    pub fn undo(&mut self, alloc: Global, session: u8, txn: TxnId) -> Result<(), BookFault>
+        requires low { 1 ≤ session }
+        requires high { session ≤ 64 }
+        ensures step { Takes self.old (undo_step self.old session txn) result self.new }
+        ensures full { is_log_full self.old ≡ true → result ≡ Err BookFault.LogFull }
+        // The layout is that of the same history without the transaction.
+        ensures without { OnOk result (replay (without self.old txn) ≡ Some self.new.layout) }
+    {
+        if self.is_full() {
+            return Err(BookFault::LogFull);
+        }
+        match undo_place(&self.entries, txn) {
+            Ok(place) => Ok(self.take_back(alloc, session, txn, place)?),
+            Err(fault) => {
+                self.note(session, Call::Undo(txn), Answer::Refused(fault))?;
+                Err(fault)
+            }
+        }
+    }
+
+    /// Takes back the transaction at this place, which nothing is against.
+    fn take_back(
+        &mut self,
+        alloc: Global,
+        session: u8,
+        txn: TxnId,
+        place: usize,
+    ) -> Result<(), NoMemory>
+        requires place { place_of txn self.old.entries ≡ Some place }
+        requires free { refusal_of (drop place self.old.entries) ≡ None }
+        ensures ok { OnOk result (self.new ≡ after_undo self.old session txn) }
+        ensures without { OnOk result (replay (without self.old txn) ≡ Some self.new.layout) }
+        ensures err { OnErr result (self.new ≡ self.old) }
+    {
+        let entry = &self.entries[place];
+        let layout = taken_back(alloc, &self.layout, entry.writes.as_slice())?;
+        self.log.reserve(1)?;
+        unmark(&mut self.entries, place);
+        let logged = Logged {
+            session,
+            call: Call::Undo(txn),
+            answer: Answer::Undone,
+        };
+        self.log.push(logged).unwrap();
+        self.layout = layout;
+        Ok(())
+    }
+}
+
+/// A refused commit, with its work.
+fn refused(fault: BookFault, work: Work) -> CommitRefusal
+    ensures { result ≡ refused fault work }
+{
+    CommitRefusal {
+        fault,
+        work: Some(work),
+    }
+}
+
+/// Whether the work is the pending one, and agrees with the layout at its open on what it touched.
+fn is_pending(pending: &Option<Pending>, work: &Work) -> bool
+    ensures { result ≡ is_pending pending.now work.now }
+{
+    match pending {
+        None => false,
+        Some(pending) => {
+            pending.place == work.opened()
+                && work
+                    .footprint()
+                    .agrees(pending.snapshot.version(), work.snapshot().version())
+        }
+    }
+}
+
+/// The layout with these records laid on it.
+fn laid(alloc: Global, layout: &Snapshot, records: &[Record]) -> Result<Snapshot, NoMemory>
+    requires rising { IsRising (afters records.now) }
+    requires sound { IsSound (written layout.now (afters records.now)) }
+    ensures { IfOk result (λ new. new ≡ written layout.now (afters records.now)) }
+{
+    let writes = afters(alloc, records)?;
+    Snapshot::of(alloc, layout.version().with(&writes)?)
+}
+
+/// The layout with these records taken back from it.
+fn taken_back(alloc: Global, layout: &Snapshot, records: &[Record]) -> Result<Snapshot, NoMemory>
+    requires rising { IsRising (befores records.now) }
+    requires sound { IsSound (written layout.now (befores records.now)) }
+    ensures { IfOk result (λ new. new ≡ written layout.now (befores records.now)) }
+{
+    let writes = befores(alloc, records)?;
+    Snapshot::of(alloc, layout.version().with(&writes)?)
+}
+
+/// Takes away the mark of the transaction at this place.
+fn unmark(entries: &mut Vec<Entry>, place: usize)
+    requires { place < vec_len entries.old }
+    ensures { (entry : Kept) → slice_get entries.old.items place ≡ Some entry → entries.new.items ≡ slice_set entries.old.items place (undone entry) }
+{
+    entries[place].live = false;
+}
+
+/// The session's transaction is answered.
+fn answer(sessions: &mut Vec<SessionState>, session: u8)
+    requires low { 1 ≤ session }
+    requires high { session ≤ vec_len sessions.old }
+    ensures { sessions.new.items ≡ slice_set sessions.old.items (session - 1) (answered_state (slice_index_or sessions.old.items (session - 1) unused)) }
+{
+    sessions[usize::from(session) - 1].pending = None;
+}
+
+/// What is kept of 64 sessions that never opened a transaction.
+fn unused_sessions(alloc: Global) -> Result<Vec<SessionState>, NoMemory>
+    ensures { IfOk result (λ sessions. sessions.items ≡ replicate 64 unused) }
+{
+    let mut sessions = Vec::with_capacity(alloc, SESSIONS)?;
+    for _ in 0..SESSIONS {
+        sessions.push(SessionState {
+            opens: 0,
+            pending: None,
+        })?;
+    }
+    Ok(sessions)
+}

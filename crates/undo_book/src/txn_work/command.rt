@@ -1,0 +1,57 @@
+//! Commands, their answers and their refusals.
+
+use lay_items::ItemId;
+use lay_point::{CellId, LayerName, Point};
+use thiserror::Error;
+
+/// The name of a transaction: its session, and its number among the accepted opens of that session.
+#[derive(Clone, Copy, Debug, PartialEq, Eq)]
+pub struct TxnId {
+    /// The session, 1 to 64.
+    pub session: u8,
+    /// The transaction of that session, from 1.
+    pub txn: u16,
+}
+
+/// What a session asks of its transaction.
+#[derive(Debug, Drop, PartialEq, Eq)]
+pub enum Command {
+    /// A new shape of one ring, the upright rectangle with these opposite corners.
+    Box {
+        /// The cell in which the shape is to stand.
+        cell: CellId,
+        /// The layer on which it is to be drawn.
+        layer: LayerName,
+        /// A corner, in database units.
+        a: Point,
+        /// The opposite corner, in database units.
+        b: Point,
+    },
+}
+
+/// What an accepted command answers.
+#[derive(Clone, Copy, Debug, PartialEq, Eq)]
+pub enum Done {
+    /// A new item stands under this id.
+    Made(ItemId),
+}
+
+/// Why a command is refused. A refused command changes nothing.
+#[derive(Clone, Copy, Debug, PartialEq, Eq, Error)]
+pub enum CmdFault {
+    /// The cell isn't there.
+    #[error("no such cell")]
+    NoCell,
+    /// A side of the box is zero.
+    #[error("the ring has too few points")]
+    FewPoints,
+    /// A coordinate's magnitude is above the limit.
+    #[error("a coordinate is out of range")]
+    OutOfRange,
+    /// The transaction has as many accepted commands, or new items, as it may have.
+    #[error("the transaction is full")]
+    TxnFull,
+    /// A growth of memory was refused.
+    #[error("out of memory")]
+    NoMemory,
+}

@@ -1,0 +1,56 @@
+//! What a transaction wrote.
+ghost use Rattle.std.specs.Prelude.{◌≡◌, IfOk};
+ghost use Rattle.undo_book.specs.Records.{afters, befores};
+
+use lay_items::{Item, ItemId};
+use lay_point::NoMemory;
+use std::alloc::Global;
+
+/// An item that a transaction wrote, with its value before the first command and after the last one.
+#[derive(Debug, Drop, PartialEq, Eq)]
+pub struct Record {
+    /// The item.
+    pub id: ItemId,
+    /// What stood under the id, or `None`.
+    pub before: Option<Item>,
+    /// What stands under it, or `None`.
+    pub after: Option<Item>,
+}
+
+/// The writes that lay the records on a layout.
+pub(crate) fn afters(
+    alloc: Global,
+    records: &[Record],
+) -> Result<Vec<(ItemId, Option<Item>)>, NoMemory>
+    ensures { IfOk result (λ writes. writes.items ≡ afters records.now) }
+{
+    let mut writes = Vec::with_capacity(alloc, records.len())?;
+    for record in records {
+        writes.push((record.id, copied(&record.after)?))?;
+    }
+    Ok(writes)
+}
+
+/// The writes that take the records back.
+pub(crate) fn befores(
+    alloc: Global,
+    records: &[Record],
+) -> Result<Vec<(ItemId, Option<Item>)>, NoMemory>
+    ensures { IfOk result (λ writes. writes.items ≡ befores records.now) }
+{
+    let mut writes = Vec::with_capacity(alloc, records.len())?;
+    for record in records {
+        writes.push((record.id, copied(&record.before)?))?;
+    }
+    Ok(writes)
+}
+
+/// A copy of an item, where there is one.
+fn copied(item: &Option<Item>) -> Result<Option<Item>, NoMemory>
+    ensures { IfOk result (λ copy. copy ≡ item.now) }
+{
+    match item {
+        Some(item) => Ok(Some(item.copy()?)),
+        None => Ok(None),
+    }
+}

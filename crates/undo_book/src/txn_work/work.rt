@@ -1,0 +1,304 @@
+//! Transactions at work on a snapshot.
+ghost use Rattle.std.specs.Prelude.{false, ◌≡◌, ◌<◌, ◌&&◌, [], ◌∷◌, IfOk, OnOk, OnErr, Ok, option_copied, vec_len};
+ghost use Rattle.std.specs.Vec.{vec_capacity};
+ghost use Rattle.lay_point.specs.Memory.{IsAnswer};
+ghost use Rattle.lay_point.specs.Points.{is_in_range};
+ghost use Rattle.lay_items.specs.Layout.{item_at};
+ghost use Rattle.undo_book.specs.Effects.{box_fault, box_ring, boxed, done_by, is_full, lower_left, next_id, upper_right};
+ghost use Rattle.undo_book.specs.Elements.{untouched};
+ghost use Rattle.undo_book.specs.Transactions.{IsTransaction, after_command, answer_to, come, find_record, item_by, item_unless, recorded, ring_unless, shape_of};
+
+use crate::txn_work::{CmdFault, Command, Done, Element, Footprint, Record, TxnId};
+use lay_items::{Item, ItemId, Rings, Snapshot, Version};
+use lay_point::{CellId, LayerName, NoMemory, Point, Ring, Sequence};
+use std::alloc::Global;
+use std::marker::Model;
+
+/// The most accepted commands of a transaction, and its most new items.
+pub const MAX_COMMANDS: usize = 65_535;
+
+/// A transaction on a snapshot: its accepted commands, what they wrote and what they touched. It keeps
+/// in its type that its writes and its footprint are those of its commands, run on its snapshot.
+#[derive(Drop)]
+pub struct Work {
+    id: TxnId,
+    opened: u32,
+    snapshot: Snapshot,
+    commands: Vec<Command>,
+    writes: Vec<Record>,
+    footprint: Footprint,
+}
+
+impl Model for Work {
+    ghost use Rattle.undo_book.specs.Transactions.{Transaction, coded_transaction};
+
+    ghost Value = { Transaction };
+
+    ghost coded = { coded_transaction };
+
+    ghost use Rattle.undo_book.specs.Works.{seen, IsWork};
+
+    ghost view = { seen };
+
+    ghost invariant = { IsWork };
+}
+
+impl Work {
+    /// A transaction of this name without commands, which the call at this place of the log opened.
+    pub fn new(alloc: Global, snapshot: Snapshot, id: TxnId, opened: u32) -> Work
+        ensures value { result ≡ record { id = id; opened = opened; snapshot = snapshot; commands = []; writes = []; footprint = untouched } }
+        ensures transaction { IsTransaction result }
+    {
+        Work {
+            id,
+            opened,
+            snapshot,
+            commands: Vec::new(alloc),
+            writes: Vec::new(alloc),
+            footprint: Footprint::new(alloc),
+        }
+    }
+
+    /// The name of the transaction.
+    pub fn id(&self) -> TxnId
+        ensures value { result ≡ self.now.id }
+        ensures transaction { IsTransaction self.now }
+    {
+        self.id
+    }
+
+    /// The place of its open in the log, from 0.
+    pub fn opened(&self) -> u32
+        ensures { result ≡ self.now.opened }
+    {
+        self.opened
+    }
+
+    /// The layout on which its commands run.
+    pub fn snapshot(&self) -> &Snapshot
+        ensures { result.now ≡ self.now.snapshot }
+    {
+        &self.snapshot
+    }
+
+    /// Its accepted commands, in order.
+    pub fn commands(&self) -> &[Command]
+        ensures { result.now ≡ self.now.commands }
+    {
+        self.commands.as_slice()
+    }
+
+    /// The items that it wrote, in order of their ids, each with its value before and after.
+    pub fn writes(&self) -> &[Record]
+        ensures { result.now ≡ self.now.writes }
+    {
+        self.writes.as_slice()
+    }
+
+    /// The parts of the layout that it read or wrote.
+    pub fn footprint(&self) -> &Footprint
+        ensures { result.now ≡ self.now.footprint }
+    {
+        &self.footprint
+    }
+
+    /// The item of this id as the transaction sees it.
+    pub fn item(&self, id: ItemId) -> Option<&Item>
+        ensures { option_copied result ≡ item_at (come self.now).layout id }
+    {
+        match find(self.writes.as_slice(), id) {
+            Some(record) => record.after.as_ref(),
+            None => self.snapshot.item(id),
+        }
+    }
+
+    /// Its commands, its writes and its footprint, taken out.
+    pub(crate) fn into_parts(self) -> (Sequence<Command>, Sequence<Record>, Footprint)
+        ensures commands { result.0 ≡ self.commands }
+        ensures writes { result.1 ≡ self.writes }
+        ensures footprint { result.2 ≡ self.footprint }
+    {
+        (
+            Sequence::from_vec(self.commands),
+            Sequence::from_vec(self.writes),
+            self.footprint,
+        )
+    }
+
+    /// Runs a command in the transaction. The fault is the first of `NoCell`, `FewPoints`,
+    /// `OutOfRange` and `TxnFull` that applies; any answer can give way to `NoMemory`. A refused
+    /// command changes nothing.
+    pub fn run(&mut self, alloc: Global, command: Command) -> Result<Done, CmdFault>
+        ensures answer { IsAnswer CmdFault.NoMemory result (answer_to self.old command) }
+        ensures ok { OnOk result (self.new ≡ after_command self.old command) }
+        ensures err { OnErr result (self.new ≡ self.old) }
+        ensures transaction { IsTransaction self.new }
+    {
+        let item = self.item_by(alloc, &command)?;
+        match self.make(item, command) {
+            Ok(done) => Ok(done),
+            Err(_) => Err(CmdFault::NoMemory),
+        }
+    }
+
+    /// The item that the command is to make, or why it is refused.
+    fn item_by(&self, alloc: Global, command: &Command) -> Result<Item, CmdFault>
+        ensures answer { IsAnswer CmdFault.NoMemory result (item_by self.now command.now) }
+        ensures transaction { IsTransaction self.now }
+    {
+        match command {
+            Command::Box { cell, layer, a, b } => self.boxed(alloc, *cell, *layer, *a, *b),
+        }
+    }
+
+    /// The item that a box is to make, or why it is refused.
+    fn boxed(
+        &self,
+        alloc: Global,
+        cell: CellId,
+        layer: LayerName,
+        a: Point,
+        b: Point,
+    ) -> Result<Item, CmdFault>
+        ensures answer { IsAnswer CmdFault.NoMemory result
+            (item_unless (box_fault (come self.now).layout cell a b) (come self.now) (boxed cell layer a b)) }
+        ensures transaction { IsTransaction self.now }
+    {
+        let ring = box_ring(alloc, self.snapshot.version(), cell, a, b)?;
+        if self.commands.len() >= MAX_COMMANDS {
+            return Err(CmdFault::TxnFull);
+        }
+        shape(alloc, cell, layer, ring)
+    }
+
+    /// The id of the next new item. There is room for one.
+    fn next_id(&self) -> ItemId
+        requires { is_full (come self.now) ≡ false }
+        ensures { result ≡ next_id self.now.id (come self.now) }
+    {
+        ItemId {
+            session: self.id.session,
+            txn: self.id.txn,
+            seq: self.commands.len() as u32 + 1,
+        }
+    }
+
+    /// Makes the item that the command is accepted to make.
+    fn make(&mut self, item: Item, command: Command) -> Result<Done, NoMemory>
+        requires { item_by self.old command ≡ Ok item }
+        ensures done { IfOk result (λ done. done ≡ done_by self.old.id command (come self.old)) }
+        ensures ok { OnOk result (self.new ≡ after_command self.old command) }
+        ensures err { OnErr result (self.new ≡ self.old) }
+        ensures transaction { IsTransaction self.new }
+    {
+        let id = self.next_id();
+        let before = copied(self.snapshot.item(id))?;
+        self.commands.reserve(1)?;
+        self.writes.reserve(1)?;
+        self.footprint.insert(Element::Item(id))?;
+        record(&mut self.writes, id, before, Some(item));
+        self.commands.push(command).unwrap();
+        Ok(Done::Made(id))
+    }
+}
+
+/// The record of this id, where there is one.
+fn find(records: &[Record], id: ItemId) -> Option<&Record>
+    ensures { option_copied result ≡ find_record id records.now }
+{
+    for record in records {
+        if record.id == id {
+            return Some(record);
+        }
+    }
+    None
+}
+
+/// A copy of an item, where there is one.
+fn copied(item: Option<&Item>) -> Result<Option<Item>, NoMemory>
+    ensures { IfOk result (λ copy. copy ≡ option_copied item.entry) }
+{
+    match item {
+        Some(item) => Ok(Some(item.copy()?)),
+        None => Ok(None),
+    }
+}
+
+/// Adds a record where the values differ. There is room for it.
+fn record(writes: &mut Vec<Record>, id: ItemId, before: Option<Item>, after: Option<Item>)
+    requires { vec_len writes.old < vec_capacity writes.old }
+    ensures { writes.new.items ≡ recorded writes.old.items id before after }
+{
+    if before != after {
+        let record = Record { id, before, after };
+        writes.push(record).unwrap();
+    }
+}
+
+/// The ring of a box with these opposite corners, or why it can't be drawn.
+fn box_ring(
+    alloc: Global,
+    version: &Version,
+    cell: CellId,
+    a: Point,
+    b: Point,
+) -> Result<Ring, CmdFault>
+    ensures { result ≡ ring_unless (box_fault version.now cell a b) (box_ring a b) }
+{
+    if !version.is_cell(cell) {
+        return Err(CmdFault::NoCell);
+    }
+    if a.x == b.x || a.y == b.y {
+        return Err(CmdFault::FewPoints);
+    }
+    if !are_in_range(a, b) {
+        return Err(CmdFault::OutOfRange);
+    }
+    Ok(Ring::rectangle(alloc, lower_left(a, b), upper_right(a, b)))
+}
+
+/// Whether both points are in range.
+fn are_in_range(a: Point, b: Point) -> bool
+    ensures { result ≡ (is_in_range a && is_in_range b) }
+{
+    a.is_in_range() && b.is_in_range()
+}
+
+/// The lower left corner of a box with these opposite corners.
+fn lower_left(a: Point, b: Point) -> Point
+    ensures { result ≡ lower_left a b }
+{
+    Point {
+        x: a.x.min(b.x),
+        y: a.y.min(b.y),
+    }
+}
+
+/// The upper right corner of a box with these opposite corners.
+fn upper_right(a: Point, b: Point) -> Point
+    ensures { result ≡ upper_right a b }
+{
+    Point {
+        x: a.x.max(b.x),
+        y: a.y.max(b.y),
+    }
+}
+
+/// The shape of one ring.
+fn shape(alloc: Global, cell: CellId, layer: LayerName, ring: Ring) -> Result<Item, CmdFault>
+    ensures { IsAnswer CmdFault.NoMemory result (Ok (shape_of cell layer ring)) }
+{
+    match one_ring(alloc, ring) {
+        Ok(rings) => Ok(Item::Shape { cell, layer, rings }),
+        Err(_) => Err(CmdFault::NoMemory),
+    }
+}
+
+/// The rings of a shape of one ring.
+fn one_ring(alloc: Global, ring: Ring) -> Result<Rings, NoMemory>
+    ensures { IfOk result (λ rings. rings ≡ ring ∷ []) }
+{
+    let mut rings = Vec::with_capacity(alloc, 1)?;
+    rings.push(ring)?;
+    Rings::new(alloc, rings)
+}
