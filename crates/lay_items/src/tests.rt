@@ -63,6 +63,11 @@ fn a_text_gives_its_elements_in_order_to_the_top_cell(rt: HostRuntime) -> Result
 fn a_version_has_what_its_writes_leave(rt: HostRuntime) -> Result<(), Fail> {
     let alloc = rt.alloc();
     let symbol = CellId::Symbol(7);
+    let made = ItemId {
+        session: 1,
+        txn: 1,
+        seq: 1,
+    };
     let old = [
         (id(1), Some(square(alloc, CellId::Top, b"A", 1)?)),
         (id(2), Some(square(alloc, symbol, b"B", 2)?)),
@@ -72,27 +77,13 @@ fn a_version_has_what_its_writes_leave(rt: HostRuntime) -> Result<(), Fail> {
     let new = [
         (id(1), Some(square(alloc, symbol, b"Z", 9)?)),
         (id(2), None),
-        (
-            ItemId {
-                session: 1,
-                txn: 1,
-                seq: 1,
-            },
-            Some(square(alloc, CellId::Top, b"D", 4)?),
-        ),
+        (made, Some(square(alloc, CellId::Top, b"D", 4)?)),
     ];
     let after = before.with(&new)?;
     let want = [
         (id(1), square(alloc, symbol, b"Z", 9)?),
         (id(3), square(alloc, CellId::Top, b"C", 3)?),
-        (
-            ItemId {
-                session: 1,
-                txn: 1,
-                seq: 1,
-            },
-            square(alloc, CellId::Top, b"D", 4)?,
-        ),
+        (made, square(alloc, CellId::Top, b"D", 4)?),
     ];
     let mut items = after.iter();
     for (id, item) in &want {

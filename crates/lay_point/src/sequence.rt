@@ -35,6 +35,13 @@ impl<T> Sequence<T> {
     {
         self.items.as_slice()
     }
+
+    /// The elements, taken out.
+    pub fn into_vec(self) -> Vec<T>
+        ensures { result.items ≡ self }
+    {
+        self.items
+    }
 }
 
 impl<T: PartialEq> PartialEq for Sequence<T> {
