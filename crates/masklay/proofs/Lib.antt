@@ -1,0 +1,6 @@
+mod JobLemmas
+mod LineLemmas
+mod MachineLemmas
+mod NumberLemmas
+mod OutputLemmas
+mod ReadingLemmas

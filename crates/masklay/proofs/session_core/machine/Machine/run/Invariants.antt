@@ -1,0 +1,6 @@
+-- The steps so far led from the start to the machine, with the replies so far.
+use Rattle.masklay.specs.Machine.{Ran, start}
+use Rattle.masklay.proofs.session_core.machine.Machine.run.Given as goal
+
+abbrev pub invariant-loop-session : goal.invariant-loop-session
+invariant-loop-session l = Ran (start l.fn.base l.fn.sessions) l.yielded l.replies.items l.machine

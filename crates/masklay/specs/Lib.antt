@@ -1,0 +1,12 @@
+pub mod Input
+pub mod Lines
+pub mod Words
+pub mod Steps
+pub mod Machine
+pub mod Machines
+pub mod Job
+pub mod Replies
+pub mod Order
+pub mod Reading
+pub mod Outcome
+pub mod Output

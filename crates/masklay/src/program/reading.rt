@@ -1,0 +1,73 @@
+//! Reading of the whole input.
+ghost use Rattle.std.specs.Prelude.{◌≡◌, ◌++◌, ◌≤◌, IfOk, IsErrOf, OnOk, length};
+ghost use Rattle.masklay.specs.declared.program.reading.ReadFault.TheVariants.{Device as Stopped, NoMemory as OutOfMemory};
+ghost use Rattle.masklay.specs.Reading.{HasRead, HasStopped, kept_of};
+
+use crate::job_text::{In, InFault, MAX_JOB};
+use lay_point::NoMemory;
+use std::alloc::Global;
+
+/// The most reads of the input.
+const MAX_READS: u32 = 33_554_432;
+
+/// How many bytes are asked for in one read.
+const BUFFER: usize = 4096;
+
+/// Why the input isn't read to its end.
+#[derive(Clone, Copy, Debug, PartialEq, Eq)]
+pub(super) enum ReadFault {
+    /// The device failed, or didn't end the input in `MAX_READS` reads.
+    Device,
+    /// A growth of memory was refused.
+    NoMemory,
+}
+
+impl From<InFault> for ReadFault {
+    ghost from_gives = { λ _ fault. fault ≡ Stopped };
+
+    fn from(_failed: InFault) -> ReadFault {
+        ReadFault::Device
+    }
+}
+
+impl From<NoMemory> for ReadFault {
+    ghost from_gives = { λ _ fault. fault ≡ OutOfMemory };
+
+    fn from(_refused: NoMemory) -> ReadFault {
+        ReadFault::NoMemory
+    }
+}
+
+/// Puts the piece at the end, as far as one byte more is kept than a job may have.
+#[tactic(auto, unfolding(crate::specs::Reading::kept_of))]
+fn keep(kept: &mut Vec<u8>, piece: &[u8]) -> Result<(), NoMemory>
+    requires { length kept.old.items ≤ 16777217 }
+    ensures kept { OnOk result (kept.new.items ≡ kept_of (kept.old.items ++ piece.now)) }
+    ensures few { OnOk result (length kept.new.items ≤ 16777217) }
+{
+    let room = MAX_JOB + 1 - kept.len();
+    let len = room.min(piece.len());
+    kept.extend_from_slice(&piece[..len])?;
+    Ok(())
+}
+
+/// Reads the input to its end, and keeps one byte more of it than a job may have.
+pub(super) fn read_all<I: In>(alloc: Global, input: &mut I) -> Result<Vec<u8>, ReadFault>
+    ensures ok { IfOk result (λ kept.
+        HasRead (I.remaining input.old) (I.failures input.old) (I.failures input.new) kept.items) }
+    ensures no_memory { IsErrOf result ReadFault.NoMemory
+        → I.failures input.new ≡ I.failures input.old }
+    ensures device { IsErrOf result ReadFault.Device
+        → HasStopped (I.remaining input.old) (I.failures input.old) (I.failures input.new) }
+{
+    let mut kept = Vec::new(alloc);
+    let mut buffer = [0; BUFFER];
+    for _ in 0..MAX_READS {
+        let taken = input.take(&mut buffer)?;
+        if taken == 0 {
+            return Ok(kept);
+        }
+        keep(&mut kept, &buffer[..taken])?;
+    }
+    Err(ReadFault::Device)
+}

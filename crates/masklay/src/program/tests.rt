@@ -1,0 +1,182 @@
+ghost use Rattle.std.specs.Prelude.{Some};
+
+use super::*;
+use crate::job_text::InFault;
+use cif_write::{GhostCount, OutFault};
+use std::test::*;
+
+/// An input in memory. It gives a few bytes a read, and fails after so many reads.
+#[derive(Drop)]
+struct Given<'a> {
+    rest: &'a [u8],
+    /// How many bytes it gives a read, at most, and one at least.
+    bite: usize,
+    /// How many reads it answers yet.
+    reads: usize,
+    failures: GhostCount,
+}
+
+impl<'a> Given<'a> {
+    fn new(rest: &'a [u8], bite: usize, reads: usize) -> Given<'a> {
+        Given {
+            rest,
+            bite,
+            reads,
+            failures: GhostCount::zero(),
+        }
+    }
+}
+
+impl<'a> In for Given<'a> {
+    ghost remaining = { λ d. Some d.rest.now };
+
+    ghost failures = { λ d. d.failures.total };
+
+    fn take(&mut self, buffer: &mut [u8]) -> Result<usize, InFault> {
+        if self.reads == 0 {
+            self.failures = self.failures.next();
+            return Err(InFault);
+        }
+        self.reads -= 1;
+        let len = self.bite.max(1).min(buffer.len()).min(self.rest.len());
+        let (piece, behind) = self.rest.split_at(len);
+        buffer[..len].copy_from_slice(piece);
+        self.rest = behind;
+        Ok(len)
+    }
+}
+
+/// An output in memory, which takes so many bytes and fails from then on.
+#[derive(Drop)]
+struct Taken {
+    bytes: Vec<u8>,
+    room: usize,
+    failures: GhostCount,
+}
+
+impl Taken {
+    fn new(alloc: Global, room: usize) -> Taken {
+        Taken {
+            bytes: Vec::new(alloc),
+            room,
+            failures: GhostCount::zero(),
+        }
+    }
+}
+
+impl Out for Taken {
+    ghost written = { λ d. Some d.bytes.items };
+
+    ghost failures = { λ d. d.failures.total };
+
+    fn put(&mut self, piece: &[u8]) -> Result<usize, OutFault> {
+        if piece.is_empty() {
+            return Ok(0);
+        }
+        let len = piece.len().min(self.room);
+        if len > 0 && self.bytes.extend_from_slice(&piece[..len]).is_ok() {
+            self.room -= len;
+            return Ok(len);
+        }
+        self.failures = self.failures.next();
+        Err(OutFault)
+    }
+}
+
+const FIRST_RUN: &[u8] =
+    b"%cif\nL NM; B 40 20 0 0; E\n%session 1\nopen\nbox top NP 0 0 10 10\ncommit\nundo 1.1\n";
+
+// Could catch a definition of the output that isn't the format's: what a job's steps answer, where the text of the layout
+// stands, which faults have which line and status. The proof only says that the program follows the definition.
+#[test]
+fn answers_jobs_as_the_format_says(rt: HostRuntime) {
+    let rows: [(&[u8], Status, &[u8]); 12] = [
+        (
+            FIRST_RUN,
+            Status::Done,
+            b"(1 1 opened 1);\n(1 2 made 1.1.1);\n(1 3 committed);\n(1 4 undone);\n(order 1 1 1 1);\nDS 1 1 2;\nL NM;\nP -40 -20 40 -20 40 20 -40 20;\nDF;\nC 1;\nE\n",
+        ),
+        (
+            b"%cif\nE\n%session 1\nopen\nbox top M 0 0 1 1\ncommit\nopen\nbox top M 4 0 5 1\ncommit\nundo 1.1\n",
+            Status::Done,
+            b"(1 1 opened 1);\n(1 2 made 1.1.1);\n(1 3 committed);\n(1 4 opened 2);\n(1 5 made 1.2.1);\n(1 6 committed);\n(1 7 fault 23 Depends 1.2);\n(order 1 1 1 1 1 1 1);\nDS 1 1 2;\nL M;\nP 0 0 1 0 1 1 0 1;\nP 4 0 5 0 5 1 4 1;\nDF;\nC 1;\nE\n",
+        ),
+        (
+            b"%cif\nL A; B 2 2 0 0; E\n%session 1\ncommit\nopen\nopen\nbox 9 A 0 0 1 1\nbox top A 0 0 0 5\nbox top A 0 0 1 1073741825\nundo 1.1\n",
+            Status::Done,
+            b"(1 1 fault 32 NotOpen);\n(1 2 opened 1);\n(1 3 fault 31 AlreadyOpen);\n(1 4 fault 1 NoCell);\n(1 5 fault 4 FewPoints);\n(1 6 fault 5 OutOfRange);\n(1 7 fault 20 NoTxn);\n(order 1 1 1 1 1 1 1);\nDS 1 1 2;\nL A;\nP -2 -2 2 -2 2 2 -2 2;\nDF;\nC 1;\nE\n",
+        ),
+        (
+            b"%cif\nL NM; B 40 20 0 0; E",
+            Status::Done,
+            b"DS 1 1 2;\nL NM;\nP -40 -20 40 -20 40 20 -40 20;\nDF;\nC 1;\nE\n",
+        ),
+        (b"%cif\nE\n", Status::Done, b"DS 1 1 2;\nDF;\nC 1;\nE\n"),
+        (
+            b"%cif\nL A; B 5 3 0 0; E\n",
+            Status::Done,
+            b"DS 1 1 2;\nL A;\nP -5 -3 5 -3 5 3 -5 3;\nDF;\nC 1;\nE\n",
+        ),
+        (
+            b"%cif\nL A; B 2 2 0 0;\n",
+            Status::Cif,
+            b"cif fault 1 NoEnd at 16\n",
+        ),
+        (b"%cif\nE X\n", Status::Cif, b"cif fault 13 AfterEnd at 2\n"),
+        (
+            b"%cif\nB 2 2 0 0; E\n",
+            Status::Cif,
+            b"cif fault 7 NoLayer at 0\n",
+        ),
+        (
+            b"%cif\nB 2 2 0 0; E\n%session 1\nopen\nclose\n",
+            Status::Job,
+            b"job fault at line 5\n",
+        ),
+        (b"", Status::Job, b"job fault at line 1\n"),
+        (b"%cif\nE\n%order\n", Status::Job, b"job fault at line 3\n"),
+    ];
+    for (job, status, want) in rows {
+        let mut input = Given::new(job, 5, 1000);
+        let mut out = Taken::new(rt.alloc(), 1000);
+        let answer = run(rt.alloc(), Options {}, &mut input, &mut out);
+        assert_eq!(rt; answer, status, "{want:?}");
+        assert_eq!(rt; out.bytes.as_slice(), want);
+    }
+}
+
+// Could catch a contract that no device meets, and a failure of a device that is taken for something else: in the middle
+// of the input, of the replies, of the layout and of a fault's line.
+#[test]
+fn ends_with_status_5_where_a_device_fails(rt: HostRuntime) {
+    let rows: [(&[u8], usize, usize, &[u8]); 5] = [
+        (FIRST_RUN, 3, 1000, b""),
+        (FIRST_RUN, 1000, 20, b"(1 1 opened 1);\n(1 2"),
+        (b"%cif\nL NM; B 40 20 0 0; E", 1000, 10, b"DS 1 1 2;\n"),
+        (b"%cif\n", 1000, 3, b"cif"),
+        (b"", 1000, 0, b""),
+    ];
+    for (job, reads, room, want) in rows {
+        let mut input = Given::new(job, 10, reads);
+        let mut out = Taken::new(rt.alloc(), room);
+        let answer = run(rt.alloc(), Options {}, &mut input, &mut out);
+        assert_eq!(rt; answer, Status::Device, "{want:?}");
+        assert_eq!(rt; out.bytes.as_slice(), want);
+    }
+}
+
+// Could catch statuses that aren't those of the program.
+#[test]
+fn statuses_have_their_numbers(rt: HostRuntime) {
+    let rows = [
+        (Status::Done, 0),
+        (Status::CommandLine, 2),
+        (Status::Job, 3),
+        (Status::Cif, 4),
+        (Status::Device, 5),
+        (Status::Memory, 6),
+    ];
+    for (status, code) in rows {
+        assert_eq!(rt; status.code(), code);
+    }
+}
