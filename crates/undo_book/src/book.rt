@@ -1,5 +1,7 @@
 //! The book: one history, and the calls that lead it on.
-ghost use Rattle.std.specs.Prelude.{◌≡◌, ◌<◌, ◌≤◌, IfErr, IfOk, OnErr, OnOk, Ok, Err, None, Some, true, false, drop, replicate, slice_get, slice_index_or, slice_set, vec_len, ◌-◌};
+ghost use Rattle.std.specs.Prelude.{◌≡◌, ◌<◌, ◌≤◌, ◌-◌, IfErr, IfOk, OnErr, OnOk, Ok, Err};
+ghost use Rattle.std.specs.Prelude.{None, Some, true, false, drop, replicate};
+ghost use Rattle.std.specs.Prelude.{slice_get, slice_index_or, slice_set, vec_len};
 ghost use Rattle.lay_point.specs.Memory.{IsAnswer};
 ghost use Rattle.lay_items.specs.Layout.{IsRising, written};
 ghost use Rattle.lay_items.specs.Sound.{IsSound};
@@ -7,7 +9,11 @@ ghost use Rattle.undo_book.specs.declared.log.Entry.{Entry as Kept};
 ghost use Rattle.undo_book.specs.Effects.{Run};
 ghost use Rattle.undo_book.specs.Records.{afters, befores};
 ghost use Rattle.undo_book.specs.History.{replay};
-ghost use Rattle.undo_book.specs.Steps.{Takes, TakesWork, after_commit, after_open, after_undo, answered_state, commit_step, fresh, is_log_full, is_own, is_pending, logged, open_step, opening, place_of, refusal_of, refused, state_of, undo_step, undone, unused, without};
+ghost use Rattle.undo_book.specs.Steps.{Takes, TakesWork, after_commit, after_open, after_undo};
+ghost use Rattle.undo_book.specs.Steps.{answered_state, commit_step, fresh, is_log_full, is_own};
+ghost use Rattle.undo_book.specs.Steps.{is_pending, logged, open_step, opening, place_of};
+ghost use Rattle.undo_book.specs.Steps.{refusal_of, refused, state_of, undo_step, undone, unused};
+ghost use Rattle.undo_book.specs.Steps.{without};
 ghost use Rattle.undo_book.specs.Transactions.{Moved};
 
 use crate::commit::CommitRefusal;
@@ -119,9 +125,10 @@ impl Book {
         Ok(())
     }
 
-    /// Opens the next transaction of a session, on the layout as it is, and gives up what the session
-    /// has open. Refused as `LogFull`, then as `SessionFull` where the session has as many transactions
-    /// as it may have. Any answer but `LogFull` can give way to `NoMemory`. All but these two are logged.
+    /// Opens the next transaction of a session, on the layout as it is, and gives up what the
+    /// session has open. Refused as `LogFull`, then as `SessionFull` where the session has as many
+    /// transactions as it may have. Any answer but `LogFull` can give way to `NoMemory`. All but
+    /// these two are logged.
     pub fn open(&mut self, alloc: Global, session: u8) -> Result<Work, BookFault>
         requires low { 1 ≤ session }
         requires high { session ≤ 64 }
@@ -175,15 +182,16 @@ impl Book {
         Ok(Work::new(alloc, given, TxnId { session, txn }, place))
     }
 
-    /// Commits a work: its transaction is live, and the last one. Refused, with the work handed back, as
-    /// `LogFull`, then as `Foreign` where the work isn't the one that its session opened last in this
-    /// book and that was not answered, or doesn't fit the layout at its open. Any answer but `LogFull`
-    /// can give way to `NoMemory`. A refusal changes nothing and isn't logged.
+    /// Commits a work: its transaction is live, and the last one. Refused, with the work handed
+    /// back, as `LogFull`, then as `Foreign` where the work isn't the one that its session opened
+    /// last in this book and that was not answered, or doesn't fit the layout at its open. Any
+    /// answer but `LogFull` can give way to `NoMemory`. A refusal changes nothing and isn't logged.
     pub fn commit(&mut self, alloc: Global, work: Work) -> Result<TxnId, CommitRefusal>
         ensures step { TakesWork self.old work (commit_step self.old work) result self.new }
         ensures full { is_log_full self.old ≡ true → result ≡ Err (refused BookFault.LogFull work) }
         // The commands, run on the layout at the commit, give what they gave in the work.
-        ensures ran { OnOk result ((run : Run) × Moved work self.old.layout run × (run.layout ≡ self.new.layout)) }
+        ensures ran { OnOk result
+            ((run : Run) × Moved work self.old.layout run × (run.layout ≡ self.new.layout)) }
     {
         if self.is_full() {
             return Err(refused(BookFault::LogFull, work));
@@ -210,13 +218,15 @@ impl Book {
         state.opens == id.txn && is_pending(&state.pending, work)
     }
 
-    /// Appends the transaction of a work of the book's own. The work is handed back for want of memory.
+    /// Appends the transaction of a work of the book's own. The work is handed back for want of
+    /// memory.
     fn append(&mut self, alloc: Global, work: Work) -> Result<TxnId, Work>
         requires log { is_log_full self.old ≡ false }
         requires own { is_own self.old work ≡ true }
         ensures txn { IfOk result (λ txn. txn ≡ work.id) }
         ensures ok { OnOk result (self.new ≡ after_commit self.old work) }
-        ensures ran { OnOk result ((run : Run) × Moved work self.old.layout run × (run.layout ≡ self.new.layout)) }
+        ensures ran { OnOk result
+            ((run : Run) × Moved work self.old.layout run × (run.layout ≡ self.new.layout)) }
         ensures work { IfErr result (λ back. back ≡ work) }
         ensures err { OnErr result (self.new ≡ self.old) }
     {
@@ -249,8 +259,8 @@ impl Book {
     }
 
     /// Undoes a committed transaction, of any session. Refused as `LogFull`, then as `NoTxn`, as
-    /// `NotLive`, and as `Depends` with the first live transaction that was committed later. Any answer
-    /// but `LogFull` can give way to `NoMemory`. All but these two are logged.
+    /// `NotLive`, and as `Depends` with the first live transaction that was committed later. Any
+    /// answer but `LogFull` can give way to `NoMemory`. All but these two are logged.
     pub fn undo(&mut self, alloc: Global, session: u8, txn: TxnId) -> Result<(), BookFault>
         requires low { 1 ≤ session }
         requires high { session ≤ 64 }
@@ -348,7 +358,8 @@ fn taken_back(alloc: Global, layout: &Snapshot, records: &[Record]) -> Result<Sn
 /// Takes away the mark of the transaction at this place.
 fn unmark(entries: &mut Vec<Entry>, place: usize)
     requires { place < vec_len entries.old }
-    ensures { (entry : Kept) → slice_get entries.old.items place ≡ Some entry → entries.new.items ≡ slice_set entries.old.items place (undone entry) }
+    ensures { (entry : Kept) → slice_get entries.old.items place ≡ Some entry
+        → entries.new.items ≡ slice_set entries.old.items place (undone entry) }
 {
     entries[place].live = false;
 }
@@ -357,7 +368,8 @@ fn unmark(entries: &mut Vec<Entry>, place: usize)
 fn answer(sessions: &mut Vec<SessionState>, session: u8)
     requires low { 1 ≤ session }
     requires high { session ≤ vec_len sessions.old }
-    ensures { sessions.new.items ≡ slice_set sessions.old.items (session - 1) (answered_state (slice_index_or sessions.old.items (session - 1) unused)) }
+    ensures { sessions.new.items ≡ slice_set sessions.old.items (session - 1)
+        (answered_state (slice_index_or sessions.old.items (session - 1) unused)) }
 {
     sessions[usize::from(session) - 1].pending = None;
 }

@@ -2,12 +2,14 @@
 //!
 //! A session opens a transaction and gets a `Work` on a snapshot of the layout. Commands run on the
 //! work alone. A commit hands the work to the `Book`, which keeps what the transaction wrote, each
-//! item with its value before and after. An undo of a transaction takes its records back. No command
-//! is run again; and yet the layout is always that of running the commands of the live transactions,
-//! in the order of their commits, from the base. That is what a `Book` keeps in its type.
+//! item with its value before and after. An undo of a transaction takes its records back. No
+//! command is run again; and yet the layout is always that of running the commands of the live
+//! transactions, in the order of their commits, from the base. That is what a `Book` keeps in its
+//! type.
 //!
-//! Contracts see a `Work` as the record `Transaction` of `specs/Transactions.antt` and a `Book` as the
-//! record `History` of `specs/History.antt`. What each call answers and leaves is in `specs/Steps.antt`.
+//! Contracts see a `Work` as the record `Transaction` of `specs/Transactions.antt` and a `Book` as
+//! the record `History` of `specs/History.antt`. What each call answers and leaves is in
+//! `specs/Steps.antt`.
 #![tactic(auto)]
 
 mod book;
@@ -15,6 +17,8 @@ mod commit;
 mod log;
 mod places;
 mod session;
+#[cfg(test)]
+mod tests;
 mod txn_work;
 
 pub use book::{Book, MAX_CALLS, MAX_TRANSACTIONS};

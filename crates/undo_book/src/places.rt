@@ -5,11 +5,12 @@ ghost use Rattle.undo_book.specs.Steps.{first_live, place_of, refusal_at, refusa
 use crate::log::{BookFault, Entry};
 use crate::txn_work::TxnId;
 
-/// The place of the transaction of this name, where nothing is against undoing it, or why it can't be
-/// undone.
+/// The place of the transaction of this name, where nothing is against undoing it, or why it can't
+/// be undone.
 pub(crate) fn undo_place(entries: &[Entry], txn: TxnId) -> Result<usize, BookFault>
     ensures { MatchResult result
-        (λ place. (place_of txn entries.now ≡ Some place) × (refusal_of (drop place entries.now) ≡ None) × (place < length entries.now))
+        (λ place. (place_of txn entries.now ≡ Some place)
+        × (refusal_of (drop place entries.now) ≡ None) × (place < length entries.now))
         (λ fault. refusal_at entries.now (place_of txn entries.now) ≡ Some fault) }
 {
     let Some(place) = place_of(entries, txn) else {

@@ -8,5 +8,5 @@ mod work;
 pub use command::{CmdFault, Command, Done, TxnId};
 pub use footprint::{Element, Footprint};
 pub use record::Record;
-pub(crate) use record::{afters, befores};
+pub(crate) use record::{afters, befores, copied};
 pub use work::{MAX_COMMANDS, Work};

@@ -1,12 +1,12 @@
 //! What a transaction wrote.
-ghost use Rattle.std.specs.Prelude.{◌≡◌, IfOk};
+ghost use Rattle.std.specs.Prelude.{◌≡◌, IfOk, option_copied};
 ghost use Rattle.undo_book.specs.Records.{afters, befores};
 
 use lay_items::{Item, ItemId};
 use lay_point::NoMemory;
 use std::alloc::Global;
 
-/// An item that a transaction wrote, with its value before the first command and after the last one.
+/// An item that a transaction wrote, with its value before the first command and after the last.
 #[derive(Debug, Drop, PartialEq, Eq)]
 pub struct Record {
     /// The item.
@@ -26,7 +26,7 @@ pub(crate) fn afters(
 {
     let mut writes = Vec::with_capacity(alloc, records.len())?;
     for record in records {
-        writes.push((record.id, copied(&record.after)?))?;
+        writes.push((record.id, copied(record.after.as_ref())?))?;
     }
     Ok(writes)
 }
@@ -40,14 +40,14 @@ pub(crate) fn befores(
 {
     let mut writes = Vec::with_capacity(alloc, records.len())?;
     for record in records {
-        writes.push((record.id, copied(&record.before)?))?;
+        writes.push((record.id, copied(record.before.as_ref())?))?;
     }
     Ok(writes)
 }
 
 /// A copy of an item, where there is one.
-fn copied(item: &Option<Item>) -> Result<Option<Item>, NoMemory>
-    ensures { IfOk result (λ copy. copy ≡ item.now) }
+pub(crate) fn copied(item: Option<&Item>) -> Result<Option<Item>, NoMemory>
+    ensures { IfOk result (λ copy. copy ≡ option_copied item.entry) }
 {
     match item {
         Some(item) => Ok(Some(item.copy()?)),

@@ -1,14 +1,18 @@
 //! Transactions at work on a snapshot.
-ghost use Rattle.std.specs.Prelude.{false, ◌≡◌, ◌<◌, ◌&&◌, [], ◌∷◌, IfOk, OnOk, OnErr, Ok, option_copied, vec_len};
+ghost use Rattle.std.specs.Prelude.{◌≡◌, ◌<◌, ◌&&◌, [], ◌∷◌, false, IfOk, OnOk, OnErr, Ok};
+ghost use Rattle.std.specs.Prelude.{option_copied, vec_len};
 ghost use Rattle.std.specs.Vec.{vec_capacity};
 ghost use Rattle.lay_point.specs.Memory.{IsAnswer};
 ghost use Rattle.lay_point.specs.Points.{is_in_range};
 ghost use Rattle.lay_items.specs.Layout.{item_at};
-ghost use Rattle.undo_book.specs.Effects.{box_fault, box_ring, boxed, done_by, is_full, lower_left, next_id, upper_right};
+ghost use Rattle.undo_book.specs.Effects.{box_fault, box_ring, boxed, done_by, is_full, lower_left};
+ghost use Rattle.undo_book.specs.Effects.{next_id, upper_right};
 ghost use Rattle.undo_book.specs.Elements.{untouched};
-ghost use Rattle.undo_book.specs.Transactions.{IsTransaction, after_command, answer_to, come, find_record, item_by, item_unless, recorded, ring_unless, shape_of};
+ghost use Rattle.undo_book.specs.Transactions.{IsTransaction, after_command, answer_to, come};
+ghost use Rattle.undo_book.specs.Transactions.{find_record, item_by, item_unless, recorded};
+ghost use Rattle.undo_book.specs.Transactions.{ring_unless, shape_of};
 
-use crate::txn_work::{CmdFault, Command, Done, Element, Footprint, Record, TxnId};
+use crate::txn_work::{CmdFault, Command, Done, Element, Footprint, Record, TxnId, copied};
 use lay_items::{Item, ItemId, Rings, Snapshot, Version};
 use lay_point::{CellId, LayerName, NoMemory, Point, Ring, Sequence};
 use std::alloc::Global;
@@ -17,8 +21,9 @@ use std::marker::Model;
 /// The most accepted commands of a transaction, and its most new items.
 pub const MAX_COMMANDS: usize = 65_535;
 
-/// A transaction on a snapshot: its accepted commands, what they wrote and what they touched. It keeps
-/// in its type that its writes and its footprint are those of its commands, run on its snapshot.
+/// A transaction on a snapshot: its accepted commands, what they wrote and what they touched. It
+/// keeps in its type that its writes and its footprint are those of its commands, run on its
+/// snapshot.
 #[derive(Drop)]
 pub struct Work {
     id: TxnId,
@@ -46,7 +51,14 @@ impl Model for Work {
 impl Work {
     /// A transaction of this name without commands, which the call at this place of the log opened.
     pub fn new(alloc: Global, snapshot: Snapshot, id: TxnId, opened: u32) -> Work
-        ensures value { result ≡ record { id = id; opened = opened; snapshot = snapshot; commands = []; writes = []; footprint = untouched } }
+        ensures value { result ≡ record {
+          id = id;
+          opened = opened;
+          snapshot = snapshot;
+          commands = [];
+          writes = [];
+          footprint = untouched;
+        } }
         ensures transaction { IsTransaction result }
     {
         Work {
@@ -161,7 +173,8 @@ impl Work {
         b: Point,
     ) -> Result<Item, CmdFault>
         ensures answer { IsAnswer CmdFault.NoMemory result
-            (item_unless (box_fault (come self.now).layout cell a b) (come self.now) (boxed cell layer a b)) }
+            (item_unless (box_fault (come self.now).layout cell a b)
+            (come self.now) (boxed cell layer a b)) }
         ensures transaction { IsTransaction self.now }
     {
         let ring = box_ring(alloc, self.snapshot.version(), cell, a, b)?;
@@ -212,16 +225,6 @@ fn find(records: &[Record], id: ItemId) -> Option<&Record>
         }
     }
     None
-}
-
-/// A copy of an item, where there is one.
-fn copied(item: Option<&Item>) -> Result<Option<Item>, NoMemory>
-    ensures { IfOk result (λ copy. copy ≡ option_copied item.entry) }
-{
-    match item {
-        Some(item) => Ok(Some(item.copy()?)),
-        None => Ok(None),
-    }
 }
 
 /// Adds a record where the values differ. There is room for it.

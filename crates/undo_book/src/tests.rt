@@ -1,0 +1,349 @@
+//! Tests of what no clause says: that calls succeed, and that definitions mean what they should.
+
+use super::*;
+use lay_items::{Item, ItemId, Rings, Snapshot, Version};
+use lay_point::{CellId, LayerName, Point, Ring, Sequence};
+use std::alloc::Global;
+use std::test::*;
+
+/// A book on the layout without items.
+fn empty_book(alloc: Global) -> Result<Book, Fail> {
+    Ok(Book::new(alloc, Snapshot::of(alloc, Version::new(alloc))?)?)
+}
+
+/// The name of a transaction.
+fn name(session: u8, txn: u16) -> TxnId {
+    TxnId { session, txn }
+}
+
+/// The id of a transaction's item.
+fn id(txn: TxnId, seq: u32) -> ItemId {
+    ItemId {
+        session: txn.session,
+        txn: txn.txn,
+        seq,
+    }
+}
+
+/// A box on layer M with these corners.
+fn box_in(cell: CellId, a: (i32, i32), b: (i32, i32)) -> Result<Command, Fail> {
+    Ok(Command::Box {
+        cell,
+        layer: LayerName::new(b"M").ok_or("no layer name")?,
+        a: Point { x: a.0, y: a.1 },
+        b: Point { x: b.0, y: b.1 },
+    })
+}
+
+/// The shape in the top cell on layer M with this ring.
+fn shape(alloc: Global, points: &[(i32, i32)]) -> Result<Item, Fail> {
+    let mut ring = Vec::new(alloc);
+    for (x, y) in points {
+        ring.push(Point { x: *x, y: *y })?;
+    }
+    let rings = vec![in alloc; Ring::new(alloc, ring.as_slice())?]?;
+    Ok(Item::Shape {
+        cell: CellId::Top,
+        layer: LayerName::new(b"M").ok_or("no layer name")?,
+        rings: Rings::new(alloc, rings)?,
+    })
+}
+
+/// Opens a transaction of the session.
+fn open(alloc: Global, book: &mut Book, session: u8) -> Result<Work, Fail> {
+    if session == 0 || session > 64 {
+        return Err("no such session".into());
+    }
+    Ok(book.open(alloc, session)?)
+}
+
+/// Commits a transaction of the session with a box of this side from the origin in the top cell.
+fn commit_box(alloc: Global, book: &mut Book, session: u8, side: i32) -> Result<TxnId, Fail> {
+    let mut work = open(alloc, book, session)?;
+    work.run(alloc, box_in(CellId::Top, (0, 0), (side, side))?)?;
+    commit(alloc, book, work)
+}
+
+/// Commits the work, which is to be accepted.
+fn commit(alloc: Global, book: &mut Book, work: Work) -> Result<TxnId, Fail> {
+    match book.commit(alloc, work) {
+        Ok(txn) => Ok(txn),
+        Err(refusal) => Err(refusal.fault.into()),
+    }
+}
+
+/// Commits the work, which is to be refused and handed back.
+fn handed_back(alloc: Global, book: &mut Book, work: Work) -> Result<(BookFault, Work), Fail> {
+    match book.commit(alloc, work) {
+        Ok(_) => Err("the work is accepted".into()),
+        Err(refusal) => Ok((refusal.fault, refusal.work.ok_or("the work is lost")?)),
+    }
+}
+
+// Could catch calls that never succeed, and boxes, ids and a log that aren't as they should be, in
+// the definitions and in the code alike.
+#[test]
+fn a_transaction_is_committed_and_undone_once(rt: HostRuntime) -> Result<(), Fail> {
+    let alloc = rt.alloc();
+    let mut book = empty_book(alloc)?;
+    let mut work = book.open(alloc, 1)?;
+    let first = name(1, 1);
+    let made = work.run(alloc, box_in(CellId::Top, (0, 0), (10, 10))?);
+    assert_eq!(rt; made, Ok(Done::Made(id(first, 1))));
+    let made = work.run(alloc, box_in(CellId::Top, (5, -3), (-2, 20))?);
+    assert_eq!(rt; made, Ok(Done::Made(id(first, 2))));
+    assert!(rt; book.snapshot() == book.base());
+    assert_eq!(rt; commit(alloc, &mut book, work)?, first);
+    let rows: [(u32, &[(i32, i32)]); 2] = [
+        (1, &[(0, 0), (10, 0), (10, 10), (0, 10)]),
+        (2, &[(-2, -3), (5, -3), (5, 20), (-2, 20)]),
+    ];
+    for (seq, points) in rows {
+        let want = shape(alloc, points)?;
+        assert!(rt;
+            book.snapshot().item(id(first, seq)) == Some(&want),
+            "item {seq}"
+        );
+    }
+    assert!(rt; book.snapshot().item(id(first, 3)).is_none());
+    assert_eq!(rt; book.undo(alloc, 2, first), Ok(()));
+    assert!(rt; book.snapshot() == book.base());
+    assert_eq!(rt; book.undo(alloc, 1, first), Err(BookFault::NotLive));
+    assert_eq!(rt; book.undo(alloc, 64, name(1, 9)), Err(BookFault::NoTxn));
+    let commands = vec![in alloc;
+        box_in(CellId::Top, (0, 0), (10, 10))?,
+        box_in(CellId::Top, (5, -3), (-2, 20))?,
+    ]?;
+    let commands = Sequence::from_vec(commands);
+    let calls = [
+        (1, Call::Open, Answer::Opened(1)),
+        (
+            1,
+            Call::Commit {
+                txn: first,
+                commands,
+            },
+            Answer::Committed,
+        ),
+        (2, Call::Undo(first), Answer::Undone),
+        (1, Call::Undo(first), Answer::Refused(BookFault::NotLive)),
+        (
+            64,
+            Call::Undo(name(1, 9)),
+            Answer::Refused(BookFault::NoTxn),
+        ),
+    ];
+    let want = calls.map(|(session, call, answer)| Logged {
+        session,
+        call,
+        answer,
+    });
+    assert_eq!(rt; book.log(), want.as_slice());
+    Ok(())
+}
+
+// Could catch a definition of "later" by name in place of by commit, and undos that never succeed.
+#[test]
+fn a_transaction_is_undone_once_no_later_one_is_live(rt: HostRuntime) -> Result<(), Fail> {
+    let alloc = rt.alloc();
+    let mut book = empty_book(alloc)?;
+    let names = [name(2, 1), name(1, 1), name(2, 2)];
+    for (want, side) in names.iter().zip([1, 2, 3]) {
+        assert_eq!(rt; commit_box(alloc, &mut book, want.session, side)?, *want);
+    }
+    assert_eq!(rt; book.entries().len(), 3);
+    let [first, second, third] = names;
+    let depends = |txn| Err(BookFault::Depends(txn));
+    let rows = [
+        (first, depends(second), [true, true, true]),
+        (second, depends(third), [true, true, true]),
+        (third, Ok(()), [true, true, false]),
+        (third, Err(BookFault::NotLive), [true, true, false]),
+        (first, depends(second), [true, true, false]),
+        (second, Ok(()), [true, false, false]),
+        (first, Ok(()), [false, false, false]),
+    ];
+    for (txn, answer, lives) in rows {
+        assert_eq!(rt; book.undo(alloc, 1, txn), answer, "{txn:?}");
+        for ((entry, txn), live) in book.entries().iter().zip(&names).zip(lives) {
+            assert_eq!(rt; (entry.txn, entry.live), (*txn, live));
+            assert_eq!(rt; book.snapshot().item(id(*txn, 1)).is_some(), live);
+        }
+    }
+    assert!(rt; book.snapshot() == book.base());
+    assert_eq!(rt; book.log().len(), 13);
+    Ok(())
+}
+
+/// Works that aren't the book's own. It has four calls then and one committed transaction, and
+/// waits for transaction 1.2, which its call 1 opened.
+fn foreign_works(alloc: Global, book: &mut Book) -> Result<Vec<Work>, Fail> {
+    let given_up = book.open(alloc, 1)?;
+    book.open(alloc, 1)?;
+    let answered = commit_box(alloc, book, 4, 1)?;
+    let mut other = empty_book(alloc)?;
+    let of_another_session = other.open(alloc, 2)?;
+    commit_box(alloc, &mut other, 1, 1)?;
+    commit_box(alloc, &mut other, 1, 1)?;
+    let on_another_layout = Work::new(alloc, other.snapshot().share()?, name(1, 2), 1);
+    let mut works = vec![in alloc; given_up, of_another_session, on_another_layout]?;
+    for (txn, opened) in [
+        (answered, 2),
+        (name(0, 1), 0),
+        (name(65, 1), 0),
+        (name(1, 2), 0),
+        (name(1, 1), 1),
+    ] {
+        works.push(Work::new(alloc, book.base().share()?, txn, opened))?;
+    }
+    Ok(works)
+}
+
+// Could catch a work that is lost or spoilt, and definitions by which each work is one of the
+// book's own, or none is.
+#[test]
+fn a_foreign_work_is_handed_back(rt: HostRuntime) -> Result<(), Fail> {
+    let alloc = rt.alloc();
+    let mut book = empty_book(alloc)?;
+    let works = foreign_works(alloc, &mut book)?;
+    let layout = book.snapshot().share()?;
+    for mut work in works {
+        let txn = work.id();
+        work.run(alloc, box_in(CellId::Top, (0, 0), (7, 7))?)?;
+        let (fault, back) = handed_back(alloc, &mut book, work)?;
+        assert_eq!(rt; fault, BookFault::Foreign, "{txn:?}");
+        assert_eq!(rt;
+            (back.id(), back.commands().len(), back.writes().len()),
+            (txn, 1, 1)
+        );
+        let want = shape(alloc, &[(0, 0), (7, 0), (7, 7), (0, 7)])?;
+        assert!(rt; back.item(id(txn, 1)) == Some(&want), "{txn:?}");
+        assert_eq!(rt; (book.log().len(), book.entries().len()), (4, 1));
+        assert!(rt; book.snapshot() == &layout);
+    }
+    let own = Work::new(alloc, layout, name(1, 2), 1);
+    assert_eq!(rt; commit(alloc, &mut book, own)?, name(1, 2));
+    Ok(())
+}
+
+// Could catch faults that are told as want of memory, faults in another order and a limit that is
+// off by one in the definitions too.
+#[test]
+fn a_box_is_refused_for_the_first_of_its_faults(rt: HostRuntime) -> Result<(), Fail> {
+    let alloc = rt.alloc();
+    let mut work = empty_book(alloc)?.open(alloc, 1)?;
+    let (top, symbol) = (CellId::Top, CellId::Symbol(5));
+    let limit = 1_073_741_824;
+    let rows = [
+        (symbol, (0, 0), (0, limit + 1), Err(CmdFault::NoCell)),
+        (top, (3, 0), (3, limit + 1), Err(CmdFault::FewPoints)),
+        (top, (-limit - 1, 4), (3, 4), Err(CmdFault::FewPoints)),
+        (top, (0, 0), (limit + 1, 1), Err(CmdFault::OutOfRange)),
+        (top, (0, 0), (1, -limit - 1), Err(CmdFault::OutOfRange)),
+        (top, (limit, limit), (-limit, -limit), Ok(1)),
+        (top, (limit + 1, 0), (1, 1), Err(CmdFault::OutOfRange)),
+        (symbol, (0, 0), (1, 1), Err(CmdFault::NoCell)),
+        (top, (0, 0), (1, 1), Ok(2)),
+    ];
+    let mut made = 0;
+    for (cell, a, b, want) in rows {
+        let answer = work.run(alloc, box_in(cell, a, b)?);
+        let want = want.map(|seq| Done::Made(id(name(1, 1), seq)));
+        assert_eq!(rt; answer, want, "{cell:?} {a:?} {b:?}");
+        if let Ok(Done::Made(id)) = want {
+            made = id.seq as usize;
+        }
+        assert_eq!(rt; (work.commands().len(), work.writes().len()), (made, made));
+    }
+    for (seq, want) in [(0, false), (1, true), (2, true), (3, false)] {
+        for txn in [name(1, 1), name(1, 2), name(2, 1)] {
+            let element = Element::Item(id(txn, seq));
+            let want = want && txn == name(1, 1);
+            assert_eq!(rt; work.footprint().contains(element), want, "{element:?}");
+        }
+    }
+    Ok(())
+}
+
+// Could catch definitions by which a transaction can't make an id that the base has, by which it
+// records an item that stays as it was, or by which an undo takes the base's item away.
+#[test]
+fn a_box_replaces_what_the_base_has_under_its_id(rt: HostRuntime) -> Result<(), Fail> {
+    let alloc = rt.alloc();
+    let mut old = empty_book(alloc)?;
+    let first = commit_box(alloc, &mut old, 1, 5)?;
+    let before = shape(alloc, &[(0, 0), (5, 0), (5, 5), (0, 5)])?;
+    for (side, writes) in [(5, 0), (8, 1)] {
+        let after = shape(alloc, &[(0, 0), (side, 0), (side, side), (0, side)])?;
+        let mut book = Book::new(alloc, old.snapshot().share()?)?;
+        assert_eq!(rt; commit_box(alloc, &mut book, 1, side)?, first);
+        let [entry] = book.entries() else {
+            return Err("no entry".into());
+        };
+        let records = entry.writes.as_slice();
+        assert_eq!(rt; records.len(), writes);
+        for record in records {
+            assert!(rt; record.before.as_ref() == Some(&before));
+            assert!(rt; record.after.as_ref() == Some(&after));
+        }
+        assert!(rt; book.snapshot().item(id(first, 1)) == Some(&after));
+        assert_eq!(rt; book.undo(alloc, 1, first), Ok(()));
+        assert!(rt; book.snapshot().item(id(first, 1)) == Some(&before));
+    }
+    Ok(())
+}
+
+// Could catch sessions that share their numbers, and limits that are others in the definitions too.
+#[test]
+fn a_session_has_65535_transactions_of_its_own(rt: HostRuntime) -> Result<(), Fail> {
+    let alloc = rt.alloc();
+    let mut book = empty_book(alloc)?;
+    for (session, txn, place) in [(1, 1, 0), (1, 2, 1), (2, 1, 2), (64, 1, 3), (1, 3, 4)] {
+        let work = open(alloc, &mut book, session)?;
+        assert_eq!(rt; (work.id(), work.opened()), (name(session, txn), place));
+    }
+    for _ in 0..65_532 {
+        book.open(alloc, 1)?;
+    }
+    let full = book.open(alloc, 1).err();
+    assert_eq!(rt; full, Some(BookFault::SessionFull));
+    assert_eq!(rt; book.open(alloc, 2)?.id(), name(2, 2));
+    let want = [
+        (1, Call::Open, Answer::Opened(65_535)),
+        (1, Call::Open, Answer::Refused(BookFault::SessionFull)),
+        (2, Call::Open, Answer::Opened(2)),
+    ];
+    let want = want.map(|(session, call, answer)| Logged {
+        session,
+        call,
+        answer,
+    });
+    assert_eq!(rt; book.log().get(65_536..), Some(want.as_slice()));
+    Ok(())
+}
+
+// Could catch limits that are others in the definitions too.
+#[test]
+fn a_book_logs_1048576_calls_and_a_transaction_runs_65535(rt: HostRuntime) -> Result<(), Fail> {
+    let alloc = rt.alloc();
+    let mut book = empty_book(alloc)?;
+    let mut work = book.open(alloc, 1)?;
+    for _ in 0..65_535 {
+        work.run(alloc, box_in(CellId::Top, (0, 0), (1, 1))?)?;
+    }
+    let full = work.run(alloc, box_in(CellId::Top, (0, 0), (1, 1))?);
+    assert_eq!(rt; full, Err(CmdFault::TxnFull));
+    let none = name(1, 1);
+    for _ in 1..1_048_576 {
+        assert_eq!(rt; book.undo(alloc, 1, none), Err(BookFault::NoTxn));
+    }
+    assert_eq!(rt; book.undo(alloc, 1, none), Err(BookFault::LogFull));
+    assert_eq!(rt; book.open(alloc, 1).err(), Some(BookFault::LogFull));
+    let (fault, back) = handed_back(alloc, &mut book, work)?;
+    assert_eq!(rt;
+        (fault, back.commands().len()),
+        (BookFault::LogFull, 65_535)
+    );
+    assert_eq!(rt; book.log().len(), 1_048_576);
+    Ok(())
+}
