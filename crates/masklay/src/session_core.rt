@@ -7,6 +7,8 @@
 //! answers and leaves, and what a list of steps does.
 
 mod machine;
+#[cfg(test)]
+mod tests;
 
 pub use machine::Machine;
 use thiserror::Error;

@@ -86,16 +86,15 @@ impl Out for Taken {
 const FIRST_RUN: &[u8] =
     b"%cif\nL NM; B 40 20 0 0; E\n%session 1\nopen\nbox top NP 0 0 10 10\ncommit\nundo 1.1\n";
 
+const FIRST_OUTPUT: &[u8] =
+    b"(1 1 opened 1);\n(1 2 made 1.1.1);\n(1 3 committed);\n(1 4 undone);\n(order 1 1 1 1);\nDS 1 1 2;\nL NM;\nP -40 -20 40 -20 40 20 -40 20;\nDF;\nC 1;\nE\n";
+
 // Could catch a definition of the output that isn't the format's: what a job's steps answer, where the text of the layout
 // stands, which faults have which line and status. The proof only says that the program follows the definition.
 #[test]
 fn answers_jobs_as_the_format_says(rt: HostRuntime) {
-    let rows: [(&[u8], Status, &[u8]); 12] = [
-        (
-            FIRST_RUN,
-            Status::Done,
-            b"(1 1 opened 1);\n(1 2 made 1.1.1);\n(1 3 committed);\n(1 4 undone);\n(order 1 1 1 1);\nDS 1 1 2;\nL NM;\nP -40 -20 40 -20 40 20 -40 20;\nDF;\nC 1;\nE\n",
-        ),
+    let rows: [(&[u8], Status, &[u8]); 15] = [
+        (FIRST_RUN, Status::Done, FIRST_OUTPUT),
         (
             b"%cif\nE\n%session 1\nopen\nbox top M 0 0 1 1\ncommit\nopen\nbox top M 4 0 5 1\ncommit\nundo 1.1\n",
             Status::Done,
@@ -121,6 +120,17 @@ fn answers_jobs_as_the_format_says(rt: HostRuntime) {
             b"%cif\nL A; B 2 2 0 0;\n",
             Status::Cif,
             b"cif fault 1 NoEnd at 16\n",
+        ),
+        (
+            b"%cif\nL A; B 2 2 0 0;",
+            Status::Cif,
+            b"cif fault 1 NoEnd at 15\n",
+        ),
+        (b"%cif\n", Status::Cif, b"cif fault 1 NoEnd at 0\n"),
+        (
+            b"%cif\nL ABCDEFGHIJKLMNOPQ; E\n",
+            Status::Cif,
+            b"cif fault 14 LongName at 0\n",
         ),
         (b"%cif\nE X\n", Status::Cif, b"cif fault 13 AfterEnd at 2\n"),
         (
@@ -162,6 +172,18 @@ fn ends_with_status_5_where_a_device_fails(rt: HostRuntime) {
         let answer = run(rt.alloc(), Options {}, &mut input, &mut out);
         assert_eq!(rt; answer, Status::Device, "{want:?}");
         assert_eq!(rt; out.bytes.as_slice(), want);
+    }
+}
+
+// Could catch bytes that go out in another order than told or twice, and a failure that is passed over, at any byte.
+#[test]
+fn a_full_device_holds_the_front_of_the_output(rt: HostRuntime) {
+    for room in 0..FIRST_OUTPUT.len() {
+        let mut input = Given::new(FIRST_RUN, 10, 1000);
+        let mut out = Taken::new(rt.alloc(), room);
+        let answer = run(rt.alloc(), Options {}, &mut input, &mut out);
+        assert_eq!(rt; answer, Status::Device, "{room}");
+        assert_eq!(rt; out.bytes.as_slice(), &FIRST_OUTPUT[..room], "{room}");
     }
 }
 
