@@ -8,7 +8,7 @@ mod program;
 mod session_core;
 mod streams;
 
-use program::run;
+use program::{Status, put_memory, run};
 use std::process::ExitCode;
 use streams::{StandardInput, StandardOutput};
 
@@ -19,6 +19,7 @@ fn main(rt: HostRuntime) -> ExitCode {
             let mut input = StandardInput::new(rt.stdin());
             run(rt.alloc(), options, &mut input, &mut out)
         }
+        Err(Status::Memory) => put_memory(&mut out),
         Err(status) => status,
     };
     ExitCode::from(status.code())

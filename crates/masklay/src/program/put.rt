@@ -14,7 +14,7 @@ use lay_items::Snapshot;
 use std::alloc::Global;
 
 /// Puts out the line of want of memory, which can stand in place of any output.
-pub(super) fn put_memory<O: Out>(out: &mut O) -> Status
+pub fn put_memory<O: Out>(out: &mut O) -> Status
     ensures { (wanted : Output)
         → Went O.written O.failures out.old out.new wanted result }
 {
