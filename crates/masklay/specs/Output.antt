@@ -1,5 +1,5 @@
 -- The output of the program: a text and a status.
-use Rattle.std.specs.Prelude.{◌≡◌, ℕ, List, ◌++◌, codes, decimal, Option, Result, Ok, Err, ◌⊎◌}
+use Rattle.std.specs.Prelude.{◌≡◌, ◌≢◌, ℕ, Bool, true, false, List, [], ◌++◌, codes, decimal, Option, Result, Ok, Err, ◌⊎◌}
 use Rattle.std.specs.Io.KnownBytes.{Appends}
 use Rattle.cif_read.specs.declared.fault.CifFault.{CifFault}
 use Rattle.cif_read.specs.Faults.{name_of, number_of}
@@ -62,25 +62,30 @@ output_from (Err stop) = stop_output stop
 unfoldable pub output_of : List ℕ → Output
 output_of bytes = output_from (finished_of bytes)
 
--- from the old device to the new: a front of the bytes went out and nothing else, and the device didn't fail
-pub record Ended {S : Type 0} (written : S → Option (List ℕ)) (failures : S → ℕ) (old new : S) (bytes : List ℕ) : Type 0 where
+-- from the old device to the new: a front of the bytes went out and nothing else, one byte at least, and the device
+-- didn't fail
+pub record Began {S : Type 0} (written : S → Option (List ℕ)) (failures : S → ℕ) (old new : S) (bytes : List ℕ) : Type 0 where
   pub front : (front : List ℕ) × (rest : List ℕ) × (front ++ rest ≡ bytes) × Appends (written old) (written new) front
+  pub begun : front.0 ≢ []
   pub unfailing : failures new ≡ failures old
 
 -- From the old device to the new: what went out where this is the wanted output and the program ended with this
 -- status. All of it and nothing else; or, where the device failed, a front of it or of the line of want of memory;
--- or, where memory was refused, that line or a front of the output.
+-- or, where memory was refused, that line, or a front of the output that had begun.
 abbrev pub Went : {S : Type 0} → (S → Option (List ℕ)) → (S → ℕ) → S → S → Output → Status → Type 0
 Went written failures old new wanted Done = (wanted.status ≡ Done) × AllWent written failures old new wanted.text
 Went written failures old new wanted Job = (wanted.status ≡ Job) × AllWent written failures old new wanted.text
 Went written failures old new wanted Cif = (wanted.status ≡ Cif) × AllWent written failures old new wanted.text
 Went written failures old new wanted Device = FrontWent written failures old new wanted.text ⊎ FrontWent written failures old new memory_text
-Went written failures old new wanted Memory = AllWent written failures old new memory_text ⊎ Ended written failures old new wanted.text
+Went written failures old new wanted Memory = AllWent written failures old new memory_text ⊎ Began written failures old new wanted.text
 Went written failures old new wanted CommandLine = ⊥
 
--- from the old device to the new: what went out where this text is written and the program ended with this status
-abbrev pub LayoutWent : {S : Type 0} → (S → Option (List ℕ)) → (S → ℕ) → S → S → List ℕ → Status → Type 0
-LayoutWent written failures old new layout Done = AllWent written failures old new layout
-LayoutWent written failures old new layout Device = FrontWent written failures old new layout
-LayoutWent written failures old new layout Memory = new ≡ old
-LayoutWent written failures old new layout status = ⊥
+-- From the old device to the new: what went out where this text is written and the program ended with this status.
+-- Want of memory is told by its line where the output hadn't begun before, and else by the status alone.
+abbrev pub LayoutWent : {S : Type 0} → (S → Option (List ℕ)) → (S → ℕ) → Bool → S → S → List ℕ → Status → Type 0
+LayoutWent written failures begun old new layout Done = AllWent written failures old new layout
+LayoutWent written failures true old new layout Device = FrontWent written failures old new layout
+LayoutWent written failures false old new layout Device = FrontWent written failures old new layout ⊎ FrontWent written failures old new memory_text
+LayoutWent written failures true old new layout Memory = new ≡ old
+LayoutWent written failures false old new layout Memory = AllWent written failures old new memory_text
+LayoutWent written failures begun old new layout status = ⊥

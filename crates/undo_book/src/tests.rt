@@ -80,8 +80,8 @@ fn handed_back(alloc: Global, book: &mut Book, work: Work) -> Result<(BookFault,
     }
 }
 
-// Could catch calls that never succeed, and boxes, ids and a log that aren't as they should be, in
-// the definitions and in the code alike.
+// Could catch calls that never succeed, and boxes and ids that aren't as they should be, in the
+// definitions and in the code alike.
 #[test]
 fn a_transaction_is_committed_and_undone_once(rt: HostRuntime) -> Result<(), Fail> {
     let alloc = rt.alloc();
@@ -108,30 +108,29 @@ fn a_transaction_is_committed_and_undone_once(rt: HostRuntime) -> Result<(), Fai
     assert!(rt; book.snapshot().item(id(first, 3)).is_none());
     assert_eq!(rt; book.undo(alloc, 2, first), Ok(()));
     assert!(rt; book.snapshot() == book.base());
-    assert_eq!(rt; book.undo(alloc, 1, first), Err(BookFault::NotLive));
-    assert_eq!(rt; book.undo(alloc, 64, name(1, 9)), Err(BookFault::NoTxn));
-    let commands = vec![in alloc;
-        box_in(CellId::Top, (0, 0), (10, 10))?,
-        box_in(CellId::Top, (5, -3), (-2, 20))?,
-    ]?;
+    Ok(())
+}
+
+// Could catch a definition of the log, and the code with it, by which a call is missing or has another
+// call's answer, session or commands.
+#[test]
+fn the_log_has_each_call_with_its_answer(rt: HostRuntime) -> Result<(), Fail> {
+    let alloc = rt.alloc();
+    let mut book = empty_book(alloc)?;
+    let txn = commit_box(alloc, &mut book, 1, 10)?;
+    assert_eq!(rt; book.undo(alloc, 2, txn), Ok(()));
+    assert_eq!(rt; book.undo(alloc, 1, txn), Err(BookFault::NotLive));
+    let unknown = name(1, 9);
+    assert_eq!(rt; book.undo(alloc, 64, unknown), Err(BookFault::NoTxn));
+    let commands = vec![in alloc; box_in(CellId::Top, (0, 0), (10, 10))?]?;
     let commands = Sequence::from_vec(commands);
+    let refused = Answer::Refused;
     let calls = [
         (1, Call::Open, Answer::Opened(1)),
-        (
-            1,
-            Call::Commit {
-                txn: first,
-                commands,
-            },
-            Answer::Committed,
-        ),
-        (2, Call::Undo(first), Answer::Undone),
-        (1, Call::Undo(first), Answer::Refused(BookFault::NotLive)),
-        (
-            64,
-            Call::Undo(name(1, 9)),
-            Answer::Refused(BookFault::NoTxn),
-        ),
+        (1, Call::Commit { txn, commands }, Answer::Committed),
+        (2, Call::Undo(txn), Answer::Undone),
+        (1, Call::Undo(txn), refused(BookFault::NotLive)),
+        (64, Call::Undo(unknown), refused(BookFault::NoTxn)),
     ];
     let want = calls.map(|(session, call, answer)| Logged {
         session,

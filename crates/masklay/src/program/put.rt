@@ -1,5 +1,5 @@
 //! What the program puts out.
-ghost use Rattle.std.specs.Prelude.{◌≡◌};
+ghost use Rattle.std.specs.Prelude.{◌≡◌, ◌==◌, ◌||◌, length, not};
 ghost use Rattle.cif_write.specs.Text.{text};
 ghost use Rattle.masklay.specs.declared.program.outcome.Stop.TheVariants.{CifFault as CifStop, JobFault as JobStop};
 ghost use Rattle.masklay.specs.Output.{LayoutWent, Output, Went, finished_output, stop_output};
@@ -8,6 +8,7 @@ use crate::job_text::print;
 use crate::program::fault_text::{cif_fault_text, job_fault_text};
 use crate::program::outcome::Finished;
 use crate::program::status::Status;
+use crate::session_core::Reply;
 use cif_read::CifFault;
 use cif_write::{Out, WriteFault, put_all, write};
 use lay_items::Snapshot;
@@ -50,15 +51,23 @@ pub(super) fn put_cif_fault<O: Out>(alloc: Global, fault: CifFault, out: &mut O)
     }
 }
 
-/// Writes the layout behind what was put out before it.
-fn put_layout<O: Out>(alloc: Global, layout: &Snapshot, out: &mut O) -> Status
-    ensures { LayoutWent O.written O.failures out.old out.new (text layout.now) result }
+/// Writes the layout. Where the output had `begun` before, a want of memory puts out nothing more.
+fn put_layout<O: Out>(alloc: Global, layout: &Snapshot, begun: bool, out: &mut O) -> Status
+    ensures { LayoutWent O.written O.failures begun out.old out.new (text layout.now) result }
 {
     match write(alloc, layout, out) {
         Ok(()) => Status::Done,
         Err(WriteFault::Device) => Status::Device,
-        Err(WriteFault::NoMemory) => Status::Memory,
+        Err(WriteFault::NoMemory) if begun => Status::Memory,
+        Err(WriteFault::NoMemory) => put_memory(out),
     }
+}
+
+/// Whether a comment is printed for these replies and this order.
+fn has_comments(replies: &[Reply], order: &[u8]) -> bool
+    ensures { result ≡ not (length replies.now == 0) || not (length order.now == 0) }
+{
+    !replies.is_empty() || !order.is_empty()
 }
 
 /// Puts out the replies, the order and the layout.
@@ -66,8 +75,9 @@ pub(super) fn put_finished<O: Out>(alloc: Global, finished: &Finished, out: &mut
     ensures { Went O.written O.failures out.old out.new (finished_output finished.now) result }
 {
     let replies = finished.replies.as_slice();
-    match print(alloc, out, replies, finished.order.as_slice()) {
-        Ok(()) => put_layout(alloc, &finished.layout, out),
+    let order = finished.order.as_slice();
+    match print(alloc, out, replies, order) {
+        Ok(()) => put_layout(alloc, &finished.layout, has_comments(replies, order), out),
         Err(WriteFault::Device) => Status::Device,
         Err(WriteFault::NoMemory) => put_memory(out),
     }

@@ -22,6 +22,11 @@ fn a_box() -> Result<Step, Fail> {
     }))
 }
 
+/// The reply to a step that the book refused.
+fn refused(fault: BookFault) -> Reply {
+    Reply::Fault(StepFault::Book(fault))
+}
+
 const FIRST: TxnId = TxnId { session: 1, txn: 1 };
 
 // Could catch steps that are always answered with want of memory, and in the definition and the code alike: a session 0,
@@ -44,21 +49,11 @@ fn two_sessions_take_steps_one_after_another(rt: HostRuntime) -> Result<(), Fail
         (1, Step::Open, Reply::Fault(StepFault::AlreadyOpen), 1),
         (2, Step::Commit, Reply::Fault(StepFault::NotOpen), 1),
         (1, a_box()?, Reply::Done(Done::Made(made)), 1),
-        (
-            2,
-            Step::Undo(FIRST),
-            Reply::Fault(StepFault::Book(BookFault::NoTxn)),
-            2,
-        ),
+        (2, Step::Undo(FIRST), refused(BookFault::NoTxn), 2),
         (1, Step::Commit, Reply::Committed(FIRST), 3),
         (1, Step::Commit, Reply::Fault(StepFault::NotOpen), 3),
         (2, Step::Undo(FIRST), Reply::Undone, 4),
-        (
-            2,
-            Step::Undo(FIRST),
-            Reply::Fault(StepFault::Book(BookFault::NotLive)),
-            5,
-        ),
+        (2, Step::Undo(FIRST), refused(BookFault::NotLive), 5),
         (1, Step::Open, Reply::Opened(2), 6),
         (2, Step::Open, Reply::Opened(1), 7),
     ];

@@ -3,13 +3,13 @@ use Rattle.cif_write.specs.Text.{text}
 use Rattle.masklay.specs.Order.{order_text}
 use Rattle.masklay.specs.Output.{Went, finished_output}
 use Rattle.masklay.specs.Replies.{replies_text}
-use Rattle.masklay.proofs.OutputLemmas.{front-longer, went-behind}
+use Rattle.masklay.proofs.OutputLemmas.{front-longer, went-finished}
 use Rattle.masklay.proofs.program.put.put_finished.Goals as goal
 
 pub returns-in-Ok : goal.returns-in-Ok
 returns-in-Ok g c =
     let finished = c.args.finished.now in
-    went-behind g.O.Out.written g.O.Out.failures c.args.out.now c.print.new.out c.put_layout.new.out (replies_text finished.replies ++ order_text finished.order) (text finished.layout) c.put_layout.result (search rules) c.put_layout.ensures
+    went-finished g.O.Out.written g.O.Out.failures c.args.out.now c.print.new.out c.put_layout.new.out finished.replies finished.order (text finished.layout) c.has_comments.result c.put_layout.result (search rules) (search rules) c.put_layout.ensures
 
 pub returns-in-Err-Device : goal.returns-in-Err-Device
 returns-in-Err-Device g c =
