@@ -1,10 +1,10 @@
 -- Sessions that take steps on one book: what each step answers, in the order in which refusals are tested,
 -- and what it leaves.
-use Rattle.std.specs.Prelude.{◌≡◌, ℕ, ◌-◌, List, [], ◌∷◌, length, Bool, true, false, ◌&&◌, nat_le, Option, None, Some, Result, Ok, Err, if◌then◌else◌, slice_index_or, slice_set, replicate, ◌⊎◌, refl}
+use Rattle.std.specs.Prelude.{◌≡◌, ◌≢◌, ℕ, ◌-◌, List, [], ◌∷◌, length, Bool, true, false, ◌&&◌, nat_le, Option, None, Some, Result, Ok, Err, if◌then◌else◌, slice_index_or, slice_set, replicate, ◌⊎◌, refl}
 use Rattle.std.specs.Coded.{Coded, code_by, coded×, coded_list, coded_option}
 use Rattle.lay_items.specs.Layout.{Layout}
 use Rattle.undo_book.specs.declared.log.BookFault.{BookFault}
-use Rattle.undo_book.specs.declared.log.BookFault.TheVariants.{LogFull, NoMemory as BookMemory}
+use Rattle.undo_book.specs.declared.log.BookFault.TheVariants.{LogFull, Foreign, NoMemory as BookMemory}
 use Rattle.undo_book.specs.declared.txn_work.command.CmdFault.{CmdFault}
 use Rattle.undo_book.specs.declared.txn_work.command.CmdFault.TheVariants.{NoMemory as CommandMemory}
 use Rattle.undo_book.specs.declared.txn_work.command.Command as commands
@@ -117,6 +117,10 @@ TakesOr memory old wanted reply new =
 -- a step is answered as it is to be and leaves what it is to leave, or memory is wanted and nothing changes
 abbrev pub Takes : State → ℕ → Step → Reply → State → Type 0
 Takes old session step reply new = TakesOr (memory_reply step) old (step_of old session step) reply new
+
+-- the work of the session's transaction isn't foreign to the book
+abbrev pub IsOwn : Reply → Type 0
+IsOwn reply = reply ≢ Fault (Book Foreign)
 
 -- ---- many steps
 

@@ -1,16 +1,20 @@
 -- The input of the program, read to its end.
-use Rattle.std.specs.Prelude.{◌≡◌, ℕ, ◌+◌, ◌≤◌, ◌⊎◌, List, length, take, Option, Some}
+use Rattle.std.specs.Prelude.{◌≡◌, ℕ, ◌+◌, ◌⊎◌, List, take, Result, Ok, Err}
+use Rattle.masklay.specs.Input.{Counts}
+use Rattle.masklay.specs.declared.program.reading.ReadFault.{ReadFault}
+use Rattle.masklay.specs.declared.program.reading.ReadFault.TheVariants.{Device, NoMemory}
 
 -- what is kept of the input: one byte more than a job may have
 unfoldable pub kept_of : List ℕ → List ℕ
 kept_of bytes = take 16777217 bytes
 
--- this was kept of what was left of the input, all of which was read, and the device didn't fail
-pub record HasRead (remaining : Option (List ℕ)) (failures_old failures_new : ℕ) (kept : List ℕ) : Type 0 where
-  pub all : (bytes : List ℕ) → remaining ≡ Some bytes → kept ≡ kept_of bytes
-  pub unfailing : failures_new ≡ failures_old
+-- the device gave bytes as often as it may be read, and didn't end the input
+abbrev pub IsEndless : Counts → Counts → Type 0
+IsEndless old new = (new.reads ≡ old.reads + 33554432) × (new.ends ≡ old.ends) × (new.failures ≡ old.failures)
 
--- the device failed, once, or more was left of the input than there may be reads
-abbrev pub HasStopped : Option (List ℕ) → ℕ → ℕ → Type 0
-HasStopped remaining failures_old failures_new =
-    (failures_new ≡ failures_old + 1) ⊎ ((bytes : List ℕ) → remaining ≡ Some bytes → 33554432 ≤ length bytes)
+-- From the old counts to the new: how reading ended where it was answered so. The input was read to its end; or the
+-- device failed, once, or was endless; or memory was refused before the end.
+abbrev pub HowRead : {A : Type 0} → Counts → Counts → Result A ReadFault → Type 0
+HowRead old new (Ok kept) = (new.ends ≡ old.ends + 1) × (new.failures ≡ old.failures)
+HowRead old new (Err Device) = ((new.ends ≡ old.ends) × (new.failures ≡ old.failures + 1)) ⊎ IsEndless old new
+HowRead old new (Err NoMemory) = (new.ends ≡ old.ends) × (new.failures ≡ old.failures)

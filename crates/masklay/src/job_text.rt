@@ -18,7 +18,7 @@ mod step_line;
 mod tests;
 mod words;
 
-pub use input::{In, InFault};
+pub use input::{In, InFault, ReadCounts};
 pub use job::{Job, JobFault, MAX_JOB};
 pub use order::order_of;
 pub use print::print;

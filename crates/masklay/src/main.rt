@@ -1,5 +1,13 @@
 //! The program `masklay`: reads a job from standard input, a CIF text and the steps of a session on it,
 //! and writes the replies to the steps, their order and the CIF text of the layout that they lead to.
+//!
+//! `program::run` is the program as a function of a device that gives bytes and one that takes them. What
+//! goes out is `output_of` the bytes that came in (`specs/Output.antt`): a `job_text::Job` is read from
+//! them, `session_core::Machine` takes its steps, and `print` and `write` put out what came of it.
+//!
+//! A machine is seen as a `State`: the history of its book, and the transaction that each session has
+//! open. Its type keeps that each of these is the one that the book awaits. A `Job`'s text and steps are
+//! seen as lists. The standard streams tell no bytes; the devices of the tests do.
 #![tactic(auto)]
 
 mod command_line;

@@ -1,6 +1,7 @@
 //! The program as a function of its input: reads the job, runs its steps and writes the answers.
-ghost use Rattle.std.specs.Prelude.{◌≡◌, ◌≢◌, ◌<◌, ℕ, List, Some, length};
-ghost use Rattle.masklay.specs.Output.{Went, output_of};
+ghost use Rattle.std.specs.Prelude.{◌≡◌, ◌≢◌, ◌+◌, ◌<◌, ◌≤◌, ◌⊎◌, ℕ, List, Some};
+ghost use Rattle.masklay.specs.Output.{Output, Went, output_of};
+ghost use Rattle.masklay.specs.Reading.{IsEndless};
 
 mod fault_text;
 mod outcome;
@@ -39,14 +40,26 @@ fn answer<O: Out>(alloc: Global, bytes: &[u8], out: &mut O) -> Status
 /// Reads a job from the input, runs it and puts out its replies, their order and the CIF text of the
 /// layout, all after the last step; or the line that says why there is none.
 pub fn run<I: In, O: Out>(alloc: Global, _options: Options, input: &mut I, out: &mut O) -> Status
-    // The output is a function of the input's bytes, as far as no device fails and memory is left.
-    ensures answered { (bytes : List ℕ) → I.remaining input.old ≡ Some bytes → length bytes < 33554432
-        → I.failures input.new ≡ I.failures input.old
+    // The output is a function of the input's bytes, where these were read to their end, as far as the
+    // output's device doesn't fail and memory is left.
+    ensures answered { (bytes : List ℕ) → I.remaining input.old ≡ Some bytes
+        → (I.counts input.old).ends < (I.counts input.new).ends
         → Went O.written O.failures out.old out.new (output_of bytes) result }
 
+    // They are read to their end, but where the device fails or is endless, and where memory is refused.
+    ensures unended { (I.counts input.new).ends ≡ (I.counts input.old).ends
+        → (I.counts input.new).failures ≡ (I.counts input.old).failures
+        → (IsEndless (I.counts input.old) (I.counts input.new) × (result ≡ Status.Device) × (out.new ≡ out.old))
+        ⊎ ((wanted : Output) → Went O.written O.failures out.old out.new wanted result) }
+
     // Where the input's device fails nothing is put out.
-    ensures failed_input { I.failures input.new ≢ I.failures input.old → result ≡ Status.Device }
-    ensures silent { I.failures input.new ≢ I.failures input.old → out.new ≡ out.old }
+    ensures failed_input { (I.counts input.new).failures ≢ (I.counts input.old).failures
+        → result ≡ Status.Device }
+    ensures silent { (I.counts input.new).failures ≢ (I.counts input.old).failures
+        → out.new ≡ out.old }
+
+    // The input is read so often at most.
+    ensures reads { (I.counts input.new).reads ≤ (I.counts input.old).reads + 33554432 }
 {
     match read_all(alloc, input) {
         Ok(bytes) => answer(alloc, &bytes, out),

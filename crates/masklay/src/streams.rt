@@ -1,7 +1,8 @@
 //! Standard input and output as devices. Of their bytes nothing is told.
-ghost use Rattle.std.specs.Prelude.{None};
+ghost use Rattle.std.specs.Prelude.{◌≡◌, None};
+ghost use Rattle.masklay.specs.Input.{counts_of, no_counts};
 
-use crate::job_text::{In, InFault};
+use crate::job_text::{In, InFault, ReadCounts};
 use cif_write::{GhostCount, Out, OutFault};
 use std::io::{Read, Stdin, Stdout, Write};
 
@@ -9,15 +10,17 @@ use std::io::{Read, Stdin, Stdout, Write};
 #[derive(Drop)]
 pub struct StandardInput {
     stdin: Stdin,
-    failures: GhostCount,
+    counts: ReadCounts,
 }
 
 impl StandardInput {
-    /// The device of this stream, which hasn't failed yet.
-    pub fn new(stdin: Stdin) -> StandardInput {
+    /// The device of this stream, which wasn't read yet.
+    pub fn new(stdin: Stdin) -> StandardInput
+        ensures { counts_of result.counts ≡ no_counts }
+    {
         StandardInput {
             stdin,
-            failures: GhostCount::zero(),
+            counts: ReadCounts::new(),
         }
     }
 }
@@ -25,16 +28,12 @@ impl StandardInput {
 impl In for StandardInput {
     ghost remaining = { λ _. None };
 
-    ghost failures = { λ d. d.failures.total };
+    ghost counts = { λ d. counts_of d.counts };
 
     fn take(&mut self, buffer: &mut [u8]) -> Result<usize, InFault> {
-        match self.stdin.read(buffer) {
-            Ok(taken) => Ok(taken),
-            Err(_) => {
-                self.failures = self.failures.next();
-                Err(InFault)
-            }
-        }
+        let answer = self.stdin.read(buffer).map_err(|_| InFault);
+        self.counts.note(buffer, &answer);
+        answer
     }
 }
 
@@ -47,7 +46,9 @@ pub struct StandardOutput {
 
 impl StandardOutput {
     /// The device of this stream, which hasn't failed yet.
-    pub fn new(stdout: Stdout) -> StandardOutput {
+    pub fn new(stdout: Stdout) -> StandardOutput
+        ensures { result.failures.total ≡ 0 }
+    {
         StandardOutput {
             stdout,
             failures: GhostCount::zero(),

@@ -1,9 +1,10 @@
 //! Devices that give bytes.
-ghost use Rattle.std.specs.Prelude.{◌≡◌, ℕ, List, Option};
+ghost use Rattle.std.specs.Prelude.{◌≡◌, ℕ, List, Option, length};
 ghost use Rattle.std.specs.Io.{ReadsAtMost};
 ghost use Rattle.std.specs.Io.KnownBytes.{ReadConsumes};
-ghost use Rattle.masklay.specs.Input.{failures_after};
+ghost use Rattle.masklay.specs.Input.{Counts, counts_after, counts_of, no_counts};
 
+use cif_write::GhostCount;
 use thiserror::Error;
 
 /// The device failed.
@@ -16,13 +17,46 @@ pub trait In {
     /// What is left to be read, or `None` where the device doesn't tell it.
     ghost remaining: { Self → Option (List ℕ) };
 
-    /// How often the device has failed.
-    ghost failures: { Self → ℕ };
+    /// How often the device was read, ended the input, and failed.
+    ghost counts: { Self → Counts };
 
     /// Puts the next bytes at the front of the buffer and answers how many. An answer of 0 to a buffer
     /// that isn't empty ends the input.
     fn take(&mut self, buffer: &mut [u8]) -> Result<usize, InFault>
         ensures bound { ReadsAtMost result buffer.new }
         ensures bytes { ReadConsumes (remaining self.old) (remaining self.new) result buffer.new }
-        ensures cause { failures self.new ≡ failures_after (failures self.old) result };
+        ensures counted { counts self.new ≡ counts_after (counts self.old) (length buffer.new) result };
+}
+
+/// How often a device was read, ended the input, and failed. Only proofs see it.
+#[derive(Drop)]
+pub struct ReadCounts {
+    pub reads: GhostCount,
+    pub ends: GhostCount,
+    pub failures: GhostCount,
+}
+
+impl ReadCounts {
+    /// The counts of a device that wasn't read yet.
+    pub fn new() -> ReadCounts
+        ensures { counts_of result ≡ no_counts }
+    {
+        ReadCounts {
+            reads: GhostCount::zero(),
+            ends: GhostCount::zero(),
+            failures: GhostCount::zero(),
+        }
+    }
+
+    /// Counts this answer to a read into the buffer.
+    pub fn note(&mut self, buffer: &[u8], answer: &Result<usize, InFault>)
+        ensures { counts_of self.new ≡ counts_after (counts_of self.old) (length buffer.now) answer.now }
+    {
+        self.reads = self.reads.next();
+        match answer {
+            Ok(0) if !buffer.is_empty() => self.ends = self.ends.next(),
+            Ok(_) => {}
+            Err(_) => self.failures = self.failures.next(),
+        }
+    }
 }

@@ -1,3 +1,4 @@
+//! Tests of what no clause says: that calls succeed, and that definitions mean what the formats say.
 ghost use Rattle.std.specs.Prelude.{Some};
 
 use super::*;
@@ -70,11 +71,10 @@ fn reads_all_that_is_allowed(rt: HostRuntime) -> Result<(), Fail> {
     Ok(())
 }
 
-// Could catch a definition that counts lines otherwise, reads on behind a fault, or lets pass a word, a number or a count
-// that the format doesn't have.
+// Could catch a definition that counts lines otherwise, or lets pass a head that the format doesn't have.
 #[test]
-fn names_the_first_faulty_line(rt: HostRuntime) {
-    let rows: [(&[u8], u32); 31] = [
+fn names_the_line_of_a_faulty_head(rt: HostRuntime) {
+    let rows: [(&[u8], u32); 10] = [
         (b"", 1),
         (b" \n\t\r\n", 1),
         (b"\nE\n%cif\n", 2),
@@ -85,6 +85,18 @@ fn names_the_first_faulty_line(rt: HostRuntime) {
         (b"%cif\nE\n%session\n", 3),
         (b"%cif\nE\n%session 2\n", 3),
         (b"%cif\nE\n%session 1 1\n", 3),
+    ];
+    for (place, (job, line)) in rows.into_iter().enumerate() {
+        let fault = Job::read(rt.alloc(), job).err();
+        assert_eq!(rt; fault, Some(JobFault::Line(line)), "row {place}");
+    }
+}
+
+// Could catch a definition that reads on behind a fault, or lets pass a word, a number or a count that the format
+// doesn't have.
+#[test]
+fn names_the_line_of_the_first_faulty_step(rt: HostRuntime) {
+    let rows: [(&[u8], u32); 21] = [
         (b"%cif\nE\n%session 1\nopen x\nclose\n", 4),
         (b"%cif\nE\n%session 1\n\n\ncommit 1", 6),
         (b"%cif\nE\n%session 1\ncancel\n", 4),

@@ -152,10 +152,10 @@ pub(super) fn coordinate_of(word: &[u8]) -> Option<i32>
 pub(super) fn cell_of(word: &[u8]) -> Option<CellId>
     ensures { result ≡ cell_of word.now }
 {
-    if word == "top".as_bytes() {
-        return Some(CellId::Top);
+    match word {
+        b"top" => Some(CellId::Top),
+        _ => number_of(MAX_SYMBOL, word).map(CellId::Symbol),
     }
-    number_of(MAX_SYMBOL, word).map(CellId::Symbol)
 }
 
 /// The transaction that the word names.

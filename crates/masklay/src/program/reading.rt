@@ -1,7 +1,7 @@
 //! Reading of the whole input.
-ghost use Rattle.std.specs.Prelude.{◌≡◌, ◌++◌, ◌≤◌, IfOk, IsErrOf, OnOk, length};
+ghost use Rattle.std.specs.Prelude.{◌≡◌, ◌++◌, ◌+◌, ◌≤◌, ℕ, List, IfOk, OnOk, Some, length};
 ghost use Rattle.masklay.specs.declared.program.reading.ReadFault.TheVariants.{Device as Stopped, NoMemory as OutOfMemory};
-ghost use Rattle.masklay.specs.Reading.{HasRead, HasStopped, kept_of};
+ghost use Rattle.masklay.specs.Reading.{HowRead, kept_of};
 
 use crate::job_text::{In, InFault, MAX_JOB};
 use lay_point::NoMemory;
@@ -16,7 +16,7 @@ const BUFFER: usize = 4096;
 /// Why the input isn't read to its end.
 #[derive(Clone, Copy, Debug, PartialEq, Eq)]
 pub(super) enum ReadFault {
-    /// The device failed, or didn't end the input in `MAX_READS` reads.
+    /// The device failed, or gave bytes in each of `MAX_READS` reads.
     Device,
     /// A growth of memory was refused.
     NoMemory,
@@ -53,12 +53,10 @@ fn keep(kept: &mut Vec<u8>, piece: &[u8]) -> Result<(), NoMemory>
 
 /// Reads the input to its end, and keeps one byte more of it than a job may have.
 pub(super) fn read_all<I: In>(alloc: Global, input: &mut I) -> Result<Vec<u8>, ReadFault>
-    ensures ok { IfOk result (λ kept.
-        HasRead (I.remaining input.old) (I.failures input.old) (I.failures input.new) kept.items) }
-    ensures no_memory { IsErrOf result ReadFault.NoMemory
-        → I.failures input.new ≡ I.failures input.old }
-    ensures device { IsErrOf result ReadFault.Device
-        → HasStopped (I.remaining input.old) (I.failures input.old) (I.failures input.new) }
+    ensures kept { IfOk result (λ kept. (bytes : List ℕ) → I.remaining input.old ≡ Some bytes
+        → kept.items ≡ kept_of bytes) }
+    ensures how { HowRead (I.counts input.old) (I.counts input.new) result }
+    ensures reads { (I.counts input.new).reads ≤ (I.counts input.old).reads + 33554432 }
 {
     let mut kept = Vec::new(alloc);
     let mut buffer = [0; BUFFER];

@@ -1,7 +1,11 @@
-ghost use Rattle.std.specs.Prelude.{Some};
+//! Tests of what no clause says: that jobs are answered, and that definitions mean what the formats say.
+ghost use Rattle.std.specs.Prelude.{◌≡◌, Some};
+ghost use Rattle.std.specs.Io.{ReadsAtMost};
+ghost use Rattle.std.specs.Io.KnownBytes.{ReadConsumes};
+ghost use Rattle.masklay.specs.Input.{counts_of};
 
 use super::*;
-use crate::job_text::InFault;
+use crate::job_text::{InFault, ReadCounts};
 use cif_write::{GhostCount, OutFault};
 use std::test::*;
 
@@ -13,7 +17,7 @@ struct Given<'a> {
     bite: usize,
     /// How many reads it answers yet.
     reads: usize,
-    failures: GhostCount,
+    counts: ReadCounts,
 }
 
 impl<'a> Given<'a> {
@@ -22,19 +26,19 @@ impl<'a> Given<'a> {
             rest,
             bite,
             reads,
-            failures: GhostCount::zero(),
+            counts: ReadCounts::new(),
         }
     }
 }
 
-impl<'a> In for Given<'a> {
-    ghost remaining = { λ d. Some d.rest.now };
-
-    ghost failures = { λ d. d.failures.total };
-
-    fn take(&mut self, buffer: &mut [u8]) -> Result<usize, InFault> {
+impl<'a> Given<'a> {
+    /// Puts the next bytes at the front of the buffer, or fails.
+    fn bite_into(&mut self, buffer: &mut [u8]) -> Result<usize, InFault>
+        ensures bound { ReadsAtMost result buffer.new }
+        ensures bytes { ReadConsumes (Some self.old.rest.now) (Some self.new.rest.now) result buffer.new }
+        ensures counts { self.new.counts ≡ self.old.counts }
+    {
         if self.reads == 0 {
-            self.failures = self.failures.next();
             return Err(InFault);
         }
         self.reads -= 1;
@@ -43,6 +47,18 @@ impl<'a> In for Given<'a> {
         buffer[..len].copy_from_slice(piece);
         self.rest = behind;
         Ok(len)
+    }
+}
+
+impl<'a> In for Given<'a> {
+    ghost remaining = { λ d. Some d.rest.now };
+
+    ghost counts = { λ d. counts_of d.counts };
+
+    fn take(&mut self, buffer: &mut [u8]) -> Result<usize, InFault> {
+        let answer = self.bite_into(buffer);
+        self.counts.note(buffer, &answer);
+        answer
     }
 }
 

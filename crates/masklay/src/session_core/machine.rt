@@ -1,8 +1,8 @@
 //! The machine: a book, and the transaction that each session has open.
-ghost use Rattle.std.specs.Prelude.{◌≡◌, ◌≢◌, ◌<◌, ◌≤◌, true, IfOk, Ok, None, replicate, slice_index_or, vec_len, ◌-◌};
+ghost use Rattle.std.specs.Prelude.{◌≡◌, ◌≤◌, true, IfOk, Ok, None, replicate};
+ghost use Rattle.std.specs.List.{All};
 ghost use Rattle.lay_point.specs.Memory.{IsAnswer};
-ghost use Rattle.undo_book.specs.declared.log.BookFault.TheVariants.{Foreign};
-ghost use Rattle.masklay.specs.Machine.{Ran, Takes, is_session, start};
+ghost use Rattle.masklay.specs.Machine.{IsOwn, Ran, Takes, is_session, start};
 
 use crate::session_core::{Reply, Step, StepFault};
 use lay_items::Snapshot;
@@ -57,7 +57,7 @@ impl Machine {
     pub fn step(&mut self, alloc: Global, session: u8, step: Step) -> Reply
         ensures step { Takes self.old session step result self.new }
         // A session's open transaction is always the one that the book keeps for it.
-        ensures own { result ≢ Reply.Fault (StepFault.Book Foreign) }
+        ensures own { IsOwn result }
     {
         if !self.is_session(session) {
             return Reply::Fault(StepFault::NoSession);
@@ -81,7 +81,7 @@ impl Machine {
     fn open(&mut self, alloc: Global, session: u8) -> Reply
         requires { is_session self.old session ≡ true }
         ensures step { Takes self.old session Step.Open result self.new }
-        ensures own { result ≢ Reply.Fault (StepFault.Book Foreign) }
+        ensures own { IsOwn result }
     {
         let place = usize::from(session) - 1;
         if self.works[place].is_some() {
@@ -101,7 +101,7 @@ impl Machine {
     fn run_command(&mut self, alloc: Global, session: u8, command: Command) -> Reply
         requires { is_session self.old session ≡ true }
         ensures step { Takes self.old session (Step.Do command) result self.new }
-        ensures own { result ≢ Reply.Fault (StepFault.Book Foreign) }
+        ensures own { IsOwn result }
     {
         let place = usize::from(session) - 1;
         let Some(mut work) = self.works[place].take() else {
@@ -119,7 +119,7 @@ impl Machine {
     fn commit(&mut self, alloc: Global, session: u8) -> Reply
         requires { is_session self.old session ≡ true }
         ensures step { Takes self.old session Step.Commit result self.new }
-        ensures own { result ≢ Reply.Fault (StepFault.Book Foreign) }
+        ensures own { IsOwn result }
     {
         let place = usize::from(session) - 1;
         let Some(work) = self.works[place].take() else {
@@ -138,7 +138,7 @@ impl Machine {
     fn undo(&mut self, alloc: Global, session: u8, txn: TxnId) -> Reply
         requires { is_session self.old session ≡ true }
         ensures step { Takes self.old session (Step.Undo txn) result self.new }
-        ensures own { result ≢ Reply.Fault (StepFault.Book Foreign) }
+        ensures own { IsOwn result }
     {
         match self.book.undo(alloc, session, txn) {
             Ok(()) => Reply::Undone,
@@ -155,7 +155,8 @@ impl Machine {
     ) -> Result<(Machine, Vec<Reply>), NoMemory>
         requires low { 1 ≤ sessions }
         requires high { sessions ≤ 64 }
-        ensures { IfOk result (λ r. Ran (start base sessions) steps.items r.1.items r.0) }
+        ensures steps { IfOk result (λ r. Ran (start base sessions) steps.items r.1.items r.0) }
+        ensures own { IfOk result (λ r. All IsOwn r.1.items) }
     {
         let mut machine = Machine::new(alloc, base, sessions)?;
         let mut replies = Vec::with_capacity(alloc, steps.len())?;

@@ -1,13 +1,17 @@
--- What was read so far is gone from the input, and its front is kept. Each read gave a byte or more.
-use Rattle.std.proofs.Common.{◌≡◌, ℕ, ◌≤◌, List, length}
+-- What was read so far is gone from the input, and its front is kept. The device was read once for each turn, and
+-- neither ended the input nor failed.
+use Rattle.std.proofs.Common.{◌≡◌, ℕ, ◌+◌, ◌≤◌, List, length}
 use Rattle.std.specs.Io.KnownBytes.{Consumes}
 use Rattle.masklay.specs.Reading.{kept_of}
 use Rattle.masklay.proofs.program.reading.read_all.Given as goal
 
 abbrev pub invariant-loop : goal.invariant-loop
 invariant-loop g l = record {
-  gone : (done : List ℕ) × Consumes (g.I.In.remaining l.initial.input) (g.I.In.remaining l.input) done × (l.kept.items ≡ kept_of done) × (l.counter ≤ length done);
+  gone : (done : List ℕ) × Consumes (g.I.In.remaining l.initial.input) (g.I.In.remaining l.input) done × (l.kept.items ≡ kept_of done);
   few : length l.kept.items ≤ 16777217;
-  unfailing : g.I.In.failures l.input ≡ g.I.In.failures l.initial.input;
+  reads : (g.I.In.counts l.input).reads ≡ (g.I.In.counts l.initial.input).reads + l.counter;
+  turns : l.counter ≤ 33554432;
+  unended : (g.I.In.counts l.input).ends ≡ (g.I.In.counts l.initial.input).ends;
+  unfailing : (g.I.In.counts l.input).failures ≡ (g.I.In.counts l.initial.input).failures;
   buffer : length l.buffer ≡ 4096;
 }

@@ -1,6 +1,10 @@
--- The steps so far led from the start to the machine, with the replies so far.
-use Rattle.masklay.specs.Machine.{Ran, start}
+-- The steps so far led from the start to the machine, with the replies so far, of which none is Foreign.
+use Rattle.std.specs.List.{All}
+use Rattle.masklay.specs.Machine.{IsOwn, Ran, start}
 use Rattle.masklay.proofs.session_core.machine.Machine.run.Given as goal
 
 abbrev pub invariant-loop-session : goal.invariant-loop-session
-invariant-loop-session l = Ran (start l.fn.base l.fn.sessions) l.yielded l.replies.items l.machine
+invariant-loop-session l = record {
+  ran : Ran (start l.fn.base l.fn.sessions) l.yielded l.replies.items l.machine;
+  own : All IsOwn l.replies.items;
+}
