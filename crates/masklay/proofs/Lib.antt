@@ -4,3 +4,4 @@ mod MachineLemmas
 mod NumberLemmas
 mod OutputLemmas
 mod ReadingLemmas
+mod SerialLemmas

@@ -1,5 +1,5 @@
 //! What the program does with a job.
-ghost use Rattle.std.specs.Prelude.{◌≡◌, IfOk, Ok};
+ghost use Rattle.std.specs.Prelude.{◌≡◌, IfOk, Ok, length, replicate};
 ghost use Rattle.std.specs.List.{list_any};
 ghost use Rattle.lay_point.specs.Memory.{IsAnswer};
 ghost use Rattle.masklay.specs.declared.program.outcome.Stop.TheVariants.{NoMemory as OutOfMemory};
@@ -97,7 +97,10 @@ fn numbered(alloc: Global, script: Sequence<Step>) -> Result<Vec<(u8, Step)>, No
 
 /// Runs the steps of session 1 on the layout.
 fn finish_steps(alloc: Global, base: Snapshot, script: Sequence<Step>) -> Result<Finished, Stop>
-    ensures { IsAnswer Stop.NoMemory result (Ok (finished_from base script)) }
+    ensures answer { IsAnswer Stop.NoMemory result (Ok (finished_from base script)) }
+
+    // Each step is the one session's, so the printed order is that in which the steps ran.
+    ensures order { IfOk result (λ finished. finished.order ≡ replicate (length script) 1) }
 {
     let steps = numbered(alloc, script)?;
     let (machine, replies) = Machine::run(alloc, base, 1, steps)?;

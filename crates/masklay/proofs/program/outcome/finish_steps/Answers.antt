@@ -2,8 +2,10 @@ use Rattle.std.proofs.Common.{◌≡◌, ◌∙◌, Ok, ap, false, inr, rules}
 use Rattle.std.specs.List.{list_any}
 use Rattle.masklay.specs.Machine.{Ran, is_memory, start}
 use Rattle.masklay.specs.Order.{order_of}
-use Rattle.masklay.specs.Outcome.{finished_by, numbered}
+use Rattle.masklay.specs.Outcome.{finished_by, finished_from, numbered}
+use Rattle.masklay.specs.declared.program.outcome.Finished.{Finished}
 use Rattle.masklay.proofs.MachineLemmas.{ran_all}
+use Rattle.masklay.proofs.SerialLemmas.{serial_order}
 use Rattle.masklay.proofs.program.outcome.finish_steps.Goals as goal
 
 pub returns : goal.returns
@@ -16,6 +18,10 @@ returns c =
     let told : c.from_vec.result ≡ c.in_ok-machine.replies.items = search rules in
     let order : c.from_vec-2.result ≡ order_of c.in_ok-machine.machine.history.log c.in_ok-machine.replies.items = search rules in
     let layout : c.in_ok-share.field-0 ≡ c.in_ok-machine.machine.history.layout = search rules in
-    let parts : record { replies = c.from_vec.result; order = c.from_vec-2.result; layout = c.in_ok-share.field-0 } ≡ finished_by (replies, machine) =
-    λ i. record { replies = told i; order = order i; layout = layout i } in
-    inr (ap Ok (parts ∙ (λ i. finished_by (all.0 i, all.1 i))))
+    let finished : Finished = record { replies = c.from_vec.result; order = c.from_vec-2.result; layout = c.in_ok-share.field-0 } in
+    let parts : finished ≡ finished_by (replies, machine) = λ i. record { replies = told i; order = order i; layout = layout i } in
+    let is : finished ≡ finished_from c.args.base c.args.script = parts ∙ (λ i. finished_by (all.0 i, all.1 i)) in
+    record {
+      answer = inr (ap Ok is);
+      order = ap (λ (f : Finished). f.order) is ∙ serial_order c.args.base c.args.script;
+    }
