@@ -4,7 +4,7 @@ ghost use Rattle.std.specs.Result.{result_map_both};
 ghost use Rattle.lay_point.specs.Memory.{IsAnswer};
 ghost use Rattle.masklay.specs.declared.job_text.job.JobFault.TheVariants.{Line, NoMemory as OutOfMemory};
 ghost use Rattle.masklay.specs.Job.{head_of, is_head, is_one, is_section, is_session, job_of, script_of, sections_job, sections_of, steps_of, text_of};
-ghost use Rattle.masklay.specs.Lines.{content, lines};
+ghost use Rattle.masklay.specs.Lines.{lines};
 
 use crate::job_text::lines::{content, split_line};
 use crate::job_text::step_line::step_of;

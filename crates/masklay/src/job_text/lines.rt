@@ -1,7 +1,7 @@
 //! The lines of a job.
 ghost use Rattle.std.specs.Prelude.{◌≡◌, ◌<◌, ◌==◌, ◌≤◌, [], IfSome, MatchOption, length};
 ghost use Rattle.std.specs.List.{position};
-ghost use Rattle.masklay.specs.Lines.{IsFirstLine, content, first_len, lines, without_last};
+ghost use Rattle.masklay.specs.Lines.{IsFirstLine, content, first_len, without_last};
 
 /// How many bytes stand before the first of this value.
 pub(super) fn place_of(bytes: &[u8], byte: u8) -> Option<usize>
