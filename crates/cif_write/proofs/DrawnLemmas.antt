@@ -1,12 +1,12 @@
 -- The lines of items draw the items.
-use Rattle.std.proofs.Common.{◌≡◌, ◌≢◌, ℕ, List, [], ◌∷◌, ◌++◌, Bool, true, false, Option, None, Some, map, if◌then◌else◌, refl, sym, ap, subst, ◌∙◌, append_assoc}
+use Rattle.std.proofs.Common.{◌≡◌, ◌≢◌, ℕ, List, [], ◌∷◌, ◌++◌, Bool, true, false, Option, None, Some, map, if◌then◌else◌, refl, sym, ap, subst, ◌∙◌, append_assoc, append-nil}
 use Rattle.std.proofs.lemmas.List.Concat.{flat_map-append}
 use Rattle.std.proofs.lemmas.Slice.Eq.{bytes_eq-Decides}
 use Rattle.lay_point.specs.declared.point.Point.{Point}
 use Rattle.lay_items.specs.declared.id.ItemId.{ItemId}
 use Rattle.lay_items.specs.declared.item.Item.{Item}
 use Rattle.lay_items.specs.declared.item.Item.TheVariants.{Shape}
-use Rattle.cif_write.specs.Drawn.{NoneIdle, drawn, shape_of}
+use Rattle.cif_write.specs.Drawn.{Definition, Drawn, NoneIdle, drawn_by, shape_of}
 use Rattle.cif_write.specs.Lines.{Line, OnLayer, Path, Finish, line_text, lines_text}
 use Rattle.cif_write.specs.Text.{is_set, items_lines, path_of}
 
@@ -26,19 +26,23 @@ is_set-false set layer e same =
 shape_lines : Bool → List ℕ → List Point → List Line
 shape_lines b layer path = if b then Path path ∷ [] else OnLayer layer ∷ Path path ∷ []
 
-drawn-shape : (set : Option (List ℕ)) (layer : List ℕ) (path : List Point) (b : Bool) → is_set set layer ≡ b → (xs ys : List Line)
-    → drawn set ((shape_lines b layer path ++ xs) ++ ys) ≡ (Some layer, path) ∷ drawn (Some layer) (xs ++ ys)
+-- a definition that is open keeps the shape
+drawn-shape : (before : List Definition) (number : ℕ) (paths : List Drawn) (set : Option (List ℕ)) (layer : List ℕ) (path : List Point) (b : Bool) → is_set set layer ≡ b → (xs ys : List Line)
+    → drawn_by before (Some (number, paths)) set ((shape_lines b layer path ++ xs) ++ ys) ≡ drawn_by before (Some (number, paths ++ (Some layer, path) ∷ [])) (Some layer) (xs ++ ys)
 unfolding shape_lines
-drawn-shape set layer path true e xs ys = ap (λ s. (s, path) ∷ drawn s (xs ++ ys)) (is_set-true set layer e)
-drawn-shape set layer path false e xs ys = refl
+drawn-shape before number paths set layer path true e xs ys = ap (λ s. drawn_by before (Some (number, paths ++ (s, path) ∷ [])) s (xs ++ ys)) (is_set-true set layer e)
+drawn-shape before number paths set layer path false e xs ys = refl
 
--- the lines of a definition's items draw them
-pub drawn-items_lines : (set : Option (List ℕ)) (entries : List (ItemId × Item)) (rest : List Line) → drawn set (items_lines set entries ++ Finish ∷ rest) ≡ map shape_of entries ++ drawn None rest
+-- the lines of a definition's items draw nothing, and the definition has the items
+pub drawn-items_lines : (before : List Definition) (number : ℕ) (paths : List Drawn) (set : Option (List ℕ)) (entries : List (ItemId × Item)) (rest : List Line)
+    → drawn_by before (Some (number, paths)) set (items_lines set entries ++ Finish ∷ rest) ≡ drawn_by ((number, paths ++ map shape_of entries) ∷ before) None None rest
 unfolding shape_lines
-drawn-items_lines set [] rest = refl
-drawn-items_lines set ((id, Shape cell layer rings) ∷ entries) rest =
-    drawn-shape set layer (path_of rings) (is_set set layer) refl (items_lines (Some layer) entries) (Finish ∷ rest)
-    ∙ ap (λ ds. (Some layer, path_of rings) ∷ ds) (drawn-items_lines (Some layer) entries rest)
+drawn-items_lines before number paths set [] rest = ap (λ ds. drawn_by ((number, ds) ∷ before) None None rest) (sym (append-nil paths))
+drawn-items_lines before number paths set ((id, Shape cell layer rings) ∷ entries) rest =
+    let shape : Drawn = (Some layer, path_of rings) in
+    drawn-shape before number paths set layer (path_of rings) (is_set set layer) refl (items_lines (Some layer) entries) (Finish ∷ rest)
+    ∙ drawn-items_lines before number (paths ++ shape ∷ []) (Some layer) entries rest
+    ∙ ap (λ ds. drawn_by ((number, ds) ∷ before) None None rest) (append_assoc paths (shape ∷ []) (map shape_of entries))
 
 NoneIdle-shape : (set : Option (List ℕ)) (layer : List ℕ) (path : List Point) (b : Bool) → is_set set layer ≡ b → (xs ys : List Line)
     → NoneIdle (Some layer) (xs ++ ys) → NoneIdle set ((shape_lines b layer path ++ xs) ++ ys)
@@ -58,5 +62,5 @@ pub one_definition : (items : List Line) (behind : List Line) → ((items ++ Fin
 one_definition items behind = simp append_assoc
 
 -- the text of the lines, the last of them apart
-pub lines_text-last : (lines : List Line) (second last : Line) → lines_text (lines ++ second ∷ last ∷ []) ≡ (lines_text lines ++ line_text second) ++ (line_text last ++ [])
-lines_text-last lines second last = flat_map-append line_text lines (second ∷ last ∷ []) ∙ sym (append_assoc (lines_text lines) (line_text second) (line_text last ++ []))
+pub lines_text-last : (lines : List Line) (last : Line) → lines_text (lines ++ last ∷ []) ≡ lines_text lines ++ line_text last
+lines_text-last lines last = flat_map-append line_text lines (last ∷ []) ∙ ap (λ bytes. lines_text lines ++ bytes) (append-nil (line_text last))
