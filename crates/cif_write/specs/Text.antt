@@ -24,7 +24,7 @@ pub record Wrapped : Type 0 where
   pub called : ℕ
 
 -- The top cell's items in a symbol of their own, which stands last and has the least positive number
--- that no symbol has. A layout has no symbols as yet, so that is 1.
+-- that no symbol has. A sound layout has no symbols as yet, so that is 1.
 abbrev pub wrapped : Layout → Wrapped
 wrapped layout = record { symbols = record { number = 1; items = items_in layout Top } ∷ []; called = 1 }
 

@@ -1,15 +1,13 @@
 -- The layout of a text's meaning is sound.
-use Rattle.std.proofs.Common.{◌≡◌, Bool, true, false, List, [], ◌∷◌, Some, None, cond, sym, refl, ◌∙◌, map, ap, subst}
+use Rattle.std.proofs.Common.{◌≡◌, Bool, true, false, List, [], ◌∷◌, Some, None, cond, sym, refl, ◌∙◌, map, subst}
 use Rattle.std.specs.FinMap.{FinMap, get, get-empty, get-insert, insert, empty}
-use Rattle.std.specs.Ordering.{eq_by_cmp, nat_cmp}
-use Rattle.std.specs.Option.{is_some}
+use Rattle.std.specs.Ordering.{eq_by_cmp}
 use Rattle.cif_read.specs.declared.element.Element.{Element}
 use Rattle.cif_read.specs.declared.element.Figure.{Figure}
 use Rattle.cif_read.specs.declared.element.Figure.TheVariants.{Polygon}
 use Rattle.cif_read.specs.Elements.{AreDrawn, IsDrawn}
 use Rattle.lay_items.specs.declared.id.ItemId.{ItemId}
 use Rattle.lay_items.specs.declared.item.Item.{Item}
-use Rattle.lay_items.specs.declared.version.CellSlot.{CellSlot}
 use Rattle.lay_items.specs.FromCif.{id_of, item_of, layout_of, placed}
 use Rattle.lay_items.specs.IdOrder.{ids_total}
 use Rattle.lay_items.specs.Ids.{id_cmp}
@@ -36,6 +34,6 @@ elements-sound layout (e ∷ es) items drawn old = elements-sound layout es (ins
 
 pub layout_of-sound : (top : List Element) → AreDrawn top → IsSound (layout_of top)
 layout_of-sound top drawn = record {
-  numbers = λ n h. let none : is_some (get (empty {X = CellSlot} {R = nat_cmp}) n) ≡ false = ap is_some (get-empty nat_cmp n) in absurd cc;
+  no_symbols = refl;
   items = elements-sound (layout_of top) top empty drawn (λ id item at. let none : get (empty {X = Item} {R = id_cmp}) id ≡ None = get-empty id_cmp id in absurd cc);
 }

@@ -1,6 +1,6 @@
--- Which layouts are sound: symbol numbers have nine digits at most, each item stands in a cell that is
--- there, and each shape is drawn by a ring.
-use Rattle.std.specs.Prelude.{◌≡◌, ℕ, ◌≤◌, List, length, Some, is_some, IsTrue}
+-- Which layouts are sound: there are no symbols as yet, each item stands in a cell that is there, and
+-- each shape is drawn by a ring.
+use Rattle.std.specs.Prelude.{◌≡◌, List, length, Some, IsTrue}
 use Rattle.std.specs.List.{AllByRecursion}
 use Rattle.std.specs.FinMap as map
 use Rattle.lay_point.specs.declared.point.Point.{Point}
@@ -20,5 +20,6 @@ abbrev pub IsSoundItem : Layout → Item → Type 0
 IsSoundItem layout (Shape cell layer rings) = IsTrue (is_cell layout cell) × IsDrawn rings
 
 pub record IsSound (layout : Layout) : Type 0 where
-  pub numbers : (number : ℕ) → IsTrue (is_some (map.get layout.symbols number)) → number ≤ 999999999
+  -- no text and no transaction of this version makes a symbol
+  pub no_symbols : layout.symbols ≡ map.empty
   pub items : (id : ItemId) (item : Item) → item_at layout id ≡ Some item → IsSoundItem layout item

@@ -3,9 +3,9 @@
 //! A `Version` is a layout: a finite map from item ids to items, and one from symbol numbers to
 //! slots, which is empty as yet. Contracts see it as the record `Layout` of `specs/Layout.antt`,
 //! however it is kept. A `Snapshot` owns a shared version and keeps in its type that the layout is
-//! sound: symbol numbers are at most 999,999,999, each item stands in a cell that is there, and each
-//! shape is drawn by a ring. What it lends is of the layout as it was when the snapshot was taken,
-//! whatever came after.
+//! sound: it has no symbols as yet, each item stands in a cell that is there, and each shape is drawn
+//! by a ring. What it lends is of the layout as it was when the snapshot was taken, whatever came
+//! after.
 #![tactic(auto)]
 
 mod id;

@@ -5,6 +5,6 @@
 pub enum CellId {
     /// What stands outside all symbols.
     Top,
-    /// The symbol with this number, 0 to 999,999,999 in a layout.
+    /// The symbol with this number.
     Symbol(u32),
 }
