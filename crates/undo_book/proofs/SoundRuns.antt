@@ -94,7 +94,7 @@ same_cells l m (Shape (Symbol n) layer rings) h sound = (ap (λ (s : FinMap nat_
 -- making a sound item keeps a layout sound
 making_sound : (t : TxnId) (item : items.Item) (r : Run) → IsSoundItem r.layout item → IsSound r.layout → IsSound (making t item r).layout
 making_sound t item r new sound = record {
-  numbers = sound.numbers;
+  no_symbols = sound.no_symbols;
   items = λ q x at. same_cells r.layout (making t item r).layout x refl (by_place q x (same_id q (next_id t r)) (sym (get-insert ids_total r.layout.items (next_id t r) item q) ∙ at));
 } where
   by_place : (q : ItemId) (x : items.Item) (b : Bool) → cond b (Some item) (item_at r.layout q) ≡ Some x → IsSoundItem r.layout x

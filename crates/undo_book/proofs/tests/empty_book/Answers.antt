@@ -1,9 +1,6 @@
-use Rattle.std.proofs.Common.{rules, ◌≡◌, false, None, ap, sym, subst}
+use Rattle.std.proofs.Common.{rules, ◌≡◌, None, refl, sym, subst}
 use Rattle.std.specs.FinMap.{get, get-empty, empty}
-use Rattle.std.specs.Option.{is_some}
-use Rattle.std.specs.Ordering.{nat_cmp}
 use Rattle.lay_items.specs.declared.item.Item.{Item}
-use Rattle.lay_items.specs.declared.version.CellSlot.{CellSlot}
 use Rattle.lay_items.specs.Ids.{id_cmp}
 use Rattle.lay_items.specs.Layout.{no_items}
 use Rattle.lay_items.specs.Sound.{IsSound}
@@ -12,7 +9,7 @@ use Rattle.undo_book.proofs.tests.empty_book.Goals as goal
 -- a layout without symbols and items is sound
 no_items-sound : IsSound no_items
 no_items-sound = record {
-  numbers = λ n h. let none : is_some (get (empty {X = CellSlot} {R = nat_cmp}) n) ≡ false = ap is_some (get-empty nat_cmp n) in absurd cc;
+  no_symbols = refl;
   items = λ id item at. let none : get (empty {X = Item} {R = id_cmp}) id ≡ None = get-empty id_cmp id in absurd cc;
 }
 
