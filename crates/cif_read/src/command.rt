@@ -1,7 +1,7 @@
 //! Commands, one at a time.
 ghost use Rattle.std.specs.Prelude.{◌≡◌};
 ghost use Rattle.std.specs.List.{list_all};
-ghost use Rattle.cif_read.specs.Bytes.{is_blank, skip};
+ghost use Rattle.cif_read.specs.Bytes.{is_blank};
 ghost use Rattle.cif_read.specs.Capped.{capped_decimal};
 ghost use Rattle.cif_read.specs.Commands.{and_then, box_of, command_by, definition_fault, is_above_written, is_too_big, layer_of, read_as, within_limits};
 ghost use Rattle.cif_read.specs.declared.command.Command.TheVariants as CommandVariants;

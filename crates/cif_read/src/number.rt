@@ -2,10 +2,10 @@
 //!
 //! A number may have any count of digits. What is read of one is at most `CAP`, which is above all that
 //! a text may write, so that it is known to be too big.
-ghost use Rattle.std.specs.Prelude.{◌≡◌, ◌≤◌, min};
+ghost use Rattle.std.specs.Prelude.{◌≡◌};
 ghost use Rattle.std.specs.List.{AllPass};
 ghost use Rattle.lay_point.specs.Names.{is_digit};
-ghost use Rattle.cif_read.specs.Numbers.{behind_separator, decimal, digits_at, integer_at, magnitude_at, sign_at, signed_at};
+ghost use Rattle.cif_read.specs.Numbers.{behind_separator, digits_at, integer_at, magnitude_at, sign_at, signed_at};
 ghost use Rattle.cif_read.specs.Views.{Gives};
 ghost use Rattle.cif_read.specs.Capped.{capped_decimal};
 

@@ -1,3 +1,5 @@
+//! Tests of what no clause says: that texts are read, and that definitions mean what they should.
+
 use super::*;
 use lay_point::Point;
 use std::alloc::Global;

@@ -19,5 +19,5 @@ mod writer;
 pub use count::GhostCount;
 pub use device::{Out, OutFault, put_all};
 pub use laws::lines_draw_the_items;
-pub use numbers::{push_point, push_points, push_signed, push_unsigned};
+pub use numbers::push_unsigned;
 pub use writer::{WriteFault, write};

@@ -17,7 +17,7 @@ pub fn push_unsigned(bytes: &mut Vec<u8>, number: u64) -> Result<(), NoMemory>
 }
 
 /// Puts the coordinate's digits at the end, without leading zeros, after a minus sign where it is negative.
-pub fn push_signed(bytes: &mut Vec<u8>, coordinate: i32) -> Result<(), NoMemory>
+pub(crate) fn push_signed(bytes: &mut Vec<u8>, coordinate: i32) -> Result<(), NoMemory>
     ensures ok { OnOk result (bytes.new.items ≡ bytes.old.items ++ signed_decimal coordinate) }
     ensures err { OnErr result (bytes.new.items ≡ bytes.old.items) }
 {
@@ -27,7 +27,7 @@ pub fn push_signed(bytes: &mut Vec<u8>, coordinate: i32) -> Result<(), NoMemory>
 }
 
 /// Puts both coordinates at the end, each after a space. At an `Err` a front of them may stand there.
-pub fn push_point(bytes: &mut Vec<u8>, point: Point) -> Result<(), NoMemory>
+fn push_point(bytes: &mut Vec<u8>, point: Point) -> Result<(), NoMemory>
     ensures { OnOk result (bytes.new.items ≡ bytes.old.items ++ point_text point) }
 {
     bytes.extend_from_slice(b" ")?;
@@ -38,7 +38,7 @@ pub fn push_point(bytes: &mut Vec<u8>, point: Point) -> Result<(), NoMemory>
 
 /// Puts all the points' coordinates at the end, each after a space. At an `Err` a front of them may
 /// stand there.
-pub fn push_points(bytes: &mut Vec<u8>, points: &[Point]) -> Result<(), NoMemory>
+pub(crate) fn push_points(bytes: &mut Vec<u8>, points: &[Point]) -> Result<(), NoMemory>
     ensures { OnOk result (bytes.new.items ≡ bytes.old.items ++ path_text points.now) }
 {
     for point in points {

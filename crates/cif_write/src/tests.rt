@@ -1,6 +1,8 @@
+//! Tests of what no clause says: that texts are written, and that definitions mean what they should.
 ghost use Rattle.std.specs.Prelude.{Some};
 
 use super::*;
+use crate::numbers::{push_points, push_signed};
 use lay_items::Snapshot;
 use lay_point::Point;
 use std::alloc::Global;

@@ -1,6 +1,6 @@
 //! The lines of a text, and the text of a layout.
 ghost use Rattle.std.specs.Prelude.{◌≡◌, ◌++◌, IfOk, OnOk};
-ghost use Rattle.cif_write.specs.Lines.{Call, End, Finish, OnLayer, Path, Start, line_text, lines_text};
+ghost use Rattle.cif_write.specs.Lines.{Call, OnLayer, Path, Start, line_text, lines_text};
 ghost use Rattle.cif_write.specs.Text.{is_set, item_lines, items_lines, layer_after, path_of, symbol_lines, text};
 
 use crate::numbers::{push_points, push_unsigned};
