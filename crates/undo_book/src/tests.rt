@@ -264,6 +264,15 @@ fn a_box_is_refused_for_the_first_of_its_faults(rt: HostRuntime) -> Result<(), F
     Ok(())
 }
 
+// Could catch a copy that never succeeds.
+#[test]
+fn a_command_is_copied(rt: HostRuntime) -> Result<(), Fail> {
+    let command = box_in(CellId::Symbol(5), (1, -2), (-3, 4))?;
+    let want = box_in(CellId::Symbol(5), (1, -2), (-3, 4))?;
+    assert_eq!(rt; command.copy(rt.alloc()), Ok(want));
+    Ok(())
+}
+
 // Could catch definitions by which a transaction can't make an id that the base has, by which it
 // records an item that stays as it was, or by which an undo takes the base's item away.
 #[test]

@@ -1,7 +1,10 @@
 //! Commands, their answers and their refusals.
+ghost use Rattle.std.specs.Prelude.{Ok};
+ghost use Rattle.lay_point.specs.Memory.{IsAnswer};
 
 use lay_items::ItemId;
-use lay_point::{CellId, LayerName, Point};
+use lay_point::{CellId, LayerName, NoMemory, Point};
+use std::alloc::Global;
 use thiserror::Error;
 
 /// The name of a transaction: its session, and its number among the accepted opens of that session.
@@ -27,6 +30,22 @@ pub enum Command {
         /// The opposite corner, in database units.
         b: Point,
     },
+}
+
+impl Command {
+    /// An equal command.
+    pub fn copy(&self, _alloc: Global) -> Result<Command, NoMemory>
+        ensures { IsAnswer (record {}) result (Ok self.now) }
+    {
+        match self {
+            Command::Box { cell, layer, a, b } => Ok(Command::Box {
+                cell: *cell,
+                layer: *layer,
+                a: *a,
+                b: *b,
+            }),
+        }
+    }
 }
 
 /// What an accepted command answers.
