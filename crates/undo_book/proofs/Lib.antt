@@ -2,6 +2,7 @@ pub mod Written
 pub mod Runs
 pub mod Moves
 pub mod SetLemmas
+pub mod SameSets
 pub mod OneMore
 pub mod WorkLemmas
 pub mod ChainLemmas

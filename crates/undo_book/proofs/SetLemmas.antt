@@ -28,7 +28,7 @@ one_added {R = R} total exact ks ls k h = same_set total exact _ _ (λ q.
 same_order : (x y : Element) → ghosts.cmp x y ≡ element_cmp x y
 same_order (Item a) (Item b) = refl
 
-order_is : ghosts.cmp ≡ element_cmp
+pub order_is : ghosts.cmp ≡ element_cmp
 order_is = λ i x y. same_order x y i
 
 -- an element added to a tree's keys is added to their set

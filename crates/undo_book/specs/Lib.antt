@@ -5,6 +5,7 @@ pub mod Effects
 pub mod Elements
 pub mod History
 pub mod Records
+pub mod SameTouched
 pub mod Steps
 pub mod Transactions
 pub mod Works

@@ -82,7 +82,7 @@ pub struct Logged {
 }
 
 /// A committed transaction.
-#[derive(Drop)]
+#[derive(Debug, Drop, PartialEq, Eq)]
 pub struct Entry {
     /// Its name.
     pub txn: TxnId,

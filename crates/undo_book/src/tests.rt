@@ -141,6 +141,37 @@ fn the_log_has_each_call_with_its_answer(rt: HostRuntime) -> Result<(), Fail> {
     Ok(())
 }
 
+// Could catch a definition of what is kept of a transaction, and the code with it, by which a part of
+// it is another's.
+#[test]
+fn an_entry_has_all_that_its_transaction_did(rt: HostRuntime) -> Result<(), Fail> {
+    let alloc = rt.alloc();
+    let mut book = empty_book(alloc)?;
+    let mut work = book.open(alloc, 1)?;
+    let made = id(name(1, 1), 1);
+    let mut footprint = Footprint::new(alloc);
+    assert_eq!(rt; work.footprint(), &footprint);
+    work.run(alloc, box_in(CellId::Top, (0, 0), (10, 20))?)?;
+    assert!(rt; work.footprint() != &footprint);
+    footprint.insert(Element::Item(made))?;
+    assert_eq!(rt; work.footprint(), &footprint);
+    let txn = commit(alloc, &mut book, work)?;
+    let record = Record {
+        id: made,
+        before: None,
+        after: Some(shape(alloc, &[(0, 0), (10, 0), (10, 20), (0, 20)])?),
+    };
+    let want = Entry {
+        txn,
+        place: 1,
+        writes: Sequence::from_vec(vec![in alloc; record]?),
+        footprint,
+        live: true,
+    };
+    assert_eq!(rt; book.entries(), [want].as_slice());
+    Ok(())
+}
+
 // Could catch a definition of "later" by name in place of by commit, and undos that never succeed.
 #[test]
 fn a_transaction_is_undone_once_no_later_one_is_live(rt: HostRuntime) -> Result<(), Fail> {

@@ -4,6 +4,7 @@ ghost use Rattle.std.specs.FinSet as set;
 ghost use Rattle.std.specs.List.{list_all};
 ghost use Rattle.lay_items.specs.Same.{option_item_eq};
 ghost use Rattle.undo_book.specs.Elements.{untouched};
+ghost use Rattle.undo_book.specs.SameTouched.{touched_eq};
 ghost use Rattle.undo_book.specs.Steps.{agree_at, agrees};
 
 use lay_items::{Item, ItemId, Version};
@@ -19,8 +20,9 @@ pub enum Element {
     Item(ItemId),
 }
 
-/// The parts of a layout that a transaction read or wrote. Contracts see the finite set of them.
-#[derive(Drop)]
+/// The parts of a layout that a transaction read or wrote. Contracts see the finite set of them. Two
+/// are equal where these are.
+#[derive(Debug, Drop)]
 pub struct Footprint {
     elements: BTreeSet<Element>,
 }
@@ -68,6 +70,32 @@ impl Footprint {
     {
         l.has_symbols_of(m) && all_agree(&self.elements, l, m)
     }
+}
+
+impl PartialEq for Footprint {
+    ghost use Rattle.undo_book.specs.SameTouched.{touched_eq, touched_eq_partial};
+
+    ghost eq = { touched_eq };
+
+    ghost laws = { touched_eq_partial };
+
+    fn eq(&self, other: &Footprint) -> bool {
+        are_same(&self.elements, &other.elements)
+    }
+}
+
+impl Eq for Footprint {
+    ghost use Rattle.undo_book.specs.SameTouched.{touched_eq_equiv};
+
+    ghost laws = { touched_eq_equiv };
+}
+
+/// Whether two trees have the same elements.
+fn are_same(elements: &BTreeSet<Element>, others: &BTreeSet<Element>) -> bool
+    ensures { result ≡ touched_eq (set.from_list elements.now.keys)
+        (set.from_list others.now.keys) }
+{
+    elements.len() == others.len() && elements == others
 }
 
 /// Whether two layouts agree on each of the elements.
