@@ -1,7 +1,5 @@
 -- An item as a transaction sees it: the one of its record, or else its snapshot's.
 use Rattle.std.proofs.Common.{◌≡◌, Bool, true, false, ◌||◌, cond, List, [], ◌∷◌, Option, None, Some, is_some, unwrap_or, refl, ap, sym, ◌∙◌}
-use Rattle.std.proofs.lemmas.Bool.Decides.{Decides-and, Decides-eqb, Decides-like}
-use Rattle.std.specs.Bool.{Decides}
 use Rattle.std.specs.List.{AllByRecursion}
 use Rattle.std.specs.Ordering.{is_eq}
 use Rattle.std.specs.declared.cmp.Ordering.TheVariants.{Less}
@@ -9,16 +7,12 @@ use Rattle.lay_items.specs.declared.id.ItemId.{ItemId}
 use Rattle.lay_items.specs.declared.item.Item as items
 use Rattle.lay_items.specs.IdOrder.{ids_total}
 use Rattle.lay_items.specs.Ids.{id_cmp}
+use Rattle.lay_items.specs.SameLayout.{id_eq, id_eq-Decides}
 use Rattle.lay_items.specs.Layout.{IsRising, Layout, item_at}
 use Rattle.undo_book.specs.declared.txn_work.record.Record.{Record}
 use Rattle.undo_book.specs.Records.{AreRecords, afters}
-use Rattle.undo_book.specs.Transactions.{find_record, ids_eq}
+use Rattle.undo_book.specs.Transactions.{find_record}
 use Rattle.undo_book.proofs.Written.{get-put_all, is_some-write_at, same_id, same_id-equal, same_id-refl, later, write_at, writes_id}
-
-ids_eq-Decides : (a b : ItemId) → Decides (ids_eq a b) (a ≡ b)
-ids_eq-Decides a b =
-    Decides-like (ids_eq a b) (λ all. λ i. record { session = all.0 i; txn = all.1.0 i; seq = all.1.1 i }) (λ e. (ap (λ (x : ItemId). x.session) e, (ap (λ (x : ItemId). x.txn) e, ap (λ (x : ItemId). x.seq) e)))
-    (Decides-and _ _ (Decides-eqb a.session b.session) (Decides-and _ _ (Decides-eqb a.txn b.txn) (Decides-eqb a.seq b.seq)))
 
 -- records that rise are all above the first
 all_above : (w : Record) (ws : List Record) → IsRising (afters (w ∷ ws)) → AllByRecursion (λ v. id_cmp w.id v.id ≡ Less) ws
@@ -46,21 +40,21 @@ no_write (Some x) h = absurd cc
 
 value_at : (id : ItemId) (ws : List Record) (old : Option items.Item) → IsRising (afters ws) → unwrap_or (write_at id (afters ws)) old ≡ value_of (find_record id ws) old
 value_at id [] old rising = refl
-value_at id (w ∷ ws) old rising = by_id (ids_eq w.id id) (same_id id w.id) refl refl (value_at id ws old (tail_rises w ws rising)) where
+value_at id (w ∷ ws) old rising = by_id (id_eq w.id id) (same_id id w.id) refl refl (value_at id ws old (tail_rises w ws rising)) where
   unread : (last : Option (Option items.Item)) → unwrap_or (later last false w.after) old ≡ unwrap_or last old
   unread None = refl
   unread (Some x) = refl
 
-  unlike : (b c : Bool) → ids_eq w.id id ≡ b → same_id id w.id ≡ c → b ≡ c
+  unlike : (b c : Bool) → id_eq w.id id ≡ b → same_id id w.id ≡ c → b ≡ c
   unlike true true e f = refl
   unlike false false e f = refl
-  unlike true false e f = let same : w.id ≡ id = (ids_eq-Decides w.id id).0 e in let t : same_id id w.id ≡ true = ap (same_id id) same ∙ same_id-refl id in cc
-  unlike false true e f = let t = (ids_eq-Decides w.id id).1 (sym (same_id-equal id w.id f)) in cc
+  unlike true false e f = let same : w.id ≡ id = (id_eq-Decides w.id id).0 e in let t : same_id id w.id ≡ true = ap (same_id id) same ∙ same_id-refl id in cc
+  unlike false true e f = let t = (id_eq-Decides w.id id).1 (sym (same_id-equal id w.id f)) in cc
 
-  by_id : (b c : Bool) → ids_eq w.id id ≡ b → same_id id w.id ≡ c → unwrap_or (write_at id (afters ws)) old ≡ value_of (find_record id ws) old →
+  by_id : (b c : Bool) → id_eq w.id id ≡ b → same_id id w.id ≡ c → unwrap_or (write_at id (afters ws)) old ≡ value_of (find_record id ws) old →
       unwrap_or (later (write_at id (afters ws)) c w.after) old ≡ value_of (cond b (Some w) (find_record id ws)) old
   by_id true true e f rest =
-      let same : w.id ≡ id = (ids_eq-Decides w.id id).0 e in
+      let same : w.id ≡ id = (id_eq-Decides w.id id).0 e in
       let none : write_at id (afters ws) ≡ None =
       no_write (write_at id (afters ws)) (is_some-write_at (λ v. v.after) id ws ∙ ap (λ q. writes_id q ws) (sym same) ∙ below_unwritten w.id ws (all_above w ws rising)) in
       rw none refl

@@ -27,7 +27,7 @@ use Rattle.undo_book.specs.declared.txn_work.record.Record.{Record}
 use Rattle.undo_book.specs.Effects.{Run, answer_with, begun, box_fault, boxed, done_by, effect, is_full, making, next_id, unless_full}
 use Rattle.undo_book.specs.Elements.{Touched}
 use Rattle.undo_book.specs.Records.{AreRecords, afters}
-use Rattle.undo_book.specs.Transactions.{IsKept, IsOwn, Transaction, after_command, after_effect, answer_to, come, item_by, item_unless, recorded, run_of, with_command, with_made}
+use Rattle.undo_book.specs.Transactions.{IsKept, IsOwn, Transaction, after_command, after_effect, answer_to, come, item_by, recorded, run_of, with_command, with_made}
 use Rattle.undo_book.proofs.Runs.{after_each-push, kept_by_insert, there_by_insert}
 use Rattle.undo_book.proofs.Written.{get-put_all, is_some-write_at, put_all-append, same_id, same_id-equal, same_layouts, write_at, writes_id}
 
@@ -40,7 +40,7 @@ all_weaker P Q weaker [] all = tt
 all_weaker P Q weaker (x ∷ xs) all = (weaker x all.0, all_weaker P Q weaker xs all.1)
 
 -- what an accepted command makes of its transaction
-effect_makes : (f : Option CmdFault) (r next : Run) (new item : items.Item) → item_unless f r new ≡ Ok item → (is_full r ≡ false) × (new ≡ item) × (unless_full f r next ≡ Ok next)
+effect_makes : (f : Option CmdFault) (r next : Run) (new item : items.Item) → unless_full f r new ≡ Ok item → (is_full r ≡ false) × (new ≡ item) × (unless_full f r next ≡ Ok next)
 effect_makes (Some fault) r next new item h = absurd cc
 effect_makes None r next new item h = by_room (is_full r) refl h where
   by_room : (b : Bool) → is_full r ≡ b → cond {A = Result items.Item CmdFault} b (Err TxnFull) (Ok new) ≡ Ok item → (is_full r ≡ false) × (new ≡ item) × (unless_full None r next ≡ Ok next)
@@ -205,7 +205,7 @@ made_kept txn new c item kept accepts id is_next before found same =
       same ∙ ap (λ b. with_command txn c next (recorded txn.writes id b (Some item))) found ∙ ap (λ i. with_command txn c next (recorded txn.writes i (item_at txn.snapshot i) (Some item))) is_next ∙ sym (after_made txn c item accepts),
     )
 
-unless_refused : (f : Option CmdFault) (r next : Run) (new : items.Item) (done : Done) (fault : CmdFault) → item_unless f r new ≡ Err fault → answer_with (unless_full f r next) done ≡ Err fault
+unless_refused : (f : Option CmdFault) (r next : Run) (new : items.Item) (done : Done) (fault : CmdFault) → unless_full f r new ≡ Err fault → answer_with (unless_full f r next) done ≡ Err fault
 unless_refused (Some g) r next new done fault h = cc
 unless_refused None r next new done fault h = by_room (is_full r) h where
   by_room : (b : Bool) → cond {A = Result items.Item CmdFault} b (Err TxnFull) (Ok new) ≡ Err fault → answer_with (cond b (Err TxnFull) (Ok next)) done ≡ Err fault

@@ -9,7 +9,6 @@ use Rattle.lay_point.specs.declared.cell_id.CellId.TheVariants.{Top, Symbol}
 use Rattle.lay_point.specs.declared.point.Point.{Point}
 use Rattle.lay_items.specs.declared.id.ItemId.{ItemId}
 use Rattle.lay_items.specs.declared.item.Item as items
-use Rattle.lay_items.specs.declared.item.Item.TheVariants.{Shape}
 use Rattle.lay_items.specs.declared.version.CellSlot.{CellSlot}
 use Rattle.lay_items.specs.IdOrder.{ids_total}
 use Rattle.lay_items.specs.Layout.{Layout, item_at}
@@ -22,7 +21,7 @@ use Rattle.undo_book.specs.declared.txn_work.command.TxnId.{TxnId}
 use Rattle.undo_book.specs.declared.txn_work.footprint.Element.{Element}
 use Rattle.undo_book.specs.declared.txn_work.footprint.Element.TheVariants.{Item}
 use Rattle.undo_book.specs.Agreement.{Agree}
-use Rattle.undo_book.specs.Effects.{Run, after_each, box_fault, box_ring, effect, if_accepted, is_full, making, next_id, unless_full}
+use Rattle.undo_book.specs.Effects.{Run, after_each, box_fault, boxed, effect, if_accepted, is_full, making, next_id, unless_full}
 use Rattle.undo_book.specs.Elements.{Touched, element_cmp, elements_total}
 use Rattle.undo_book.proofs.Written.{same_id, same_id-equal}
 
@@ -50,7 +49,7 @@ pub record Makes (t : TxnId) (c : Command) (r n : Run) (item : items.Item) : Typ
 pub makes : (t : TxnId) (c : Command) (r n : Run) → effect t c r ≡ Ok n → (item : items.Item) × Makes t c r n item
 unfolding effect
 makes t (Box cell layer a b) r n h =
-    let item : items.Item = Shape cell layer (box_ring a b ∷ []) in
+    let item : items.Item = boxed cell layer a b in
     let parts = accepted (box_fault r.layout cell a b) r (making t item r) n h in (
       item,
       record {

@@ -10,8 +10,8 @@ use Rattle.lay_items.specs.declared.item.Item as items
 use Rattle.lay_items.specs.Layout.{Layout, is_cell}
 use Rattle.undo_book.specs.declared.txn_work.command.CmdFault.{CmdFault}
 use Rattle.undo_book.specs.declared.txn_work.command.CmdFault.TheVariants.{TxnFull}
-use Rattle.undo_book.specs.Effects.{begun, box_fault, box_ring, is_full, lower_left, upper_right}
-use Rattle.undo_book.specs.Transactions.{IsKept, Transaction, come, item_unless, ring_unless}
+use Rattle.undo_book.specs.Effects.{begun, box_fault, box_ring, is_full, lower_left, unless_full, upper_right}
+use Rattle.undo_book.specs.Transactions.{IsKept, Transaction, come, ring_unless}
 use Rattle.undo_book.proofs.Runs.{local, same_fault}
 
 -- a box has the same against it in the layout that a transaction sees as in its snapshot
@@ -71,7 +71,7 @@ unless_cases (Some fault) ring answer h = inl (fault, h, refl)
 unless_cases None ring answer h = inr (h, refl)
 
 pub boxed_err : (txn : Transaction) → IsKept txn → (layout : Layout) → layout ≡ txn.snapshot → (cell : CellId) (a b : Point) (item : items.Item) (fault : CmdFault) →
-    Err fault ≡ ring_unless (box_fault layout cell a b) (box_ring a b) → item_unless (box_fault (come txn).layout cell a b) (come txn) item ≡ Err fault
+    Err fault ≡ ring_unless (box_fault layout cell a b) (box_ring a b) → unless_full (box_fault (come txn).layout cell a b) (come txn) item ≡ Err fault
 boxed_err txn kept layout same cell a b item fault h =
     let seen : box_fault layout cell a b ≡ box_fault (come txn).layout cell a b = ap (λ (l : Layout). box_fault l cell a b) same ∙ seen_fault txn kept cell a b in
     elim (unless_cases (box_fault layout cell a b) (box_ring a b) (Err fault) h) [
@@ -80,7 +80,7 @@ boxed_err txn kept layout same cell a b item fault h =
     ]
 
 pub boxed_full : (txn : Transaction) → IsKept txn → (layout : Layout) → layout ≡ txn.snapshot → (cell : CellId) (a b : Point) (item : items.Item) (ring : List Point) →
-    Ok ring ≡ ring_unless (box_fault layout cell a b) (box_ring a b) → 65535 ≤ length txn.commands → item_unless (box_fault (come txn).layout cell a b) (come txn) item ≡ Err TxnFull
+    Ok ring ≡ ring_unless (box_fault layout cell a b) (box_ring a b) → 65535 ≤ length txn.commands → unless_full (box_fault (come txn).layout cell a b) (come txn) item ≡ Err TxnFull
 boxed_full txn kept layout same cell a b item ring h many =
     let seen : box_fault layout cell a b ≡ box_fault (come txn).layout cell a b = ap (λ (l : Layout). box_fault l cell a b) same ∙ seen_fault txn kept cell a b in
     let full : is_full (come txn) ≡ true = full_is txn kept ∙ grind (arith, nat_tests) in
@@ -90,7 +90,7 @@ boxed_full txn kept layout same cell a b item ring h many =
     ]
 
 pub boxed_ok : (txn : Transaction) → IsKept txn → (layout : Layout) → layout ≡ txn.snapshot → (cell : CellId) (a b : Point) (item : items.Item) (ring : List Point) →
-    Ok ring ≡ ring_unless (box_fault layout cell a b) (box_ring a b) → length txn.commands < 65535 → (item_unless (box_fault (come txn).layout cell a b) (come txn) item ≡ Ok item) × (ring ≡ box_ring a b)
+    Ok ring ≡ ring_unless (box_fault layout cell a b) (box_ring a b) → length txn.commands < 65535 → (unless_full (box_fault (come txn).layout cell a b) (come txn) item ≡ Ok item) × (ring ≡ box_ring a b)
 boxed_ok txn kept layout same cell a b item ring h few =
     let seen : box_fault layout cell a b ≡ box_fault (come txn).layout cell a b = ap (λ (l : Layout). box_fault l cell a b) same ∙ seen_fault txn kept cell a b in
     let room : is_full (come txn) ≡ false = full_is txn kept ∙ grind (arith, nat_tests) in

@@ -70,14 +70,18 @@ box_fault layout cell a b =
     else if not (is_in_range a && is_in_range b) then Some OutOfRange
     else None
 
+-- the shape of one ring
+abbrev pub shape_of : CellId → List ℕ → List Point → items.Item
+shape_of cell layer ring = Shape cell layer (ring ∷ [])
+
 -- the item that a box makes
 abbrev pub boxed : CellId → List ℕ → Point → Point → items.Item
-boxed cell layer a b = Shape cell layer (box_ring a b ∷ [])
+boxed cell layer a b = shape_of cell layer (box_ring a b)
 
--- what a command that has nothing against it but the limits makes of a transaction
-abbrev pub unless_full : Option CmdFault → Run → Run → Result Run CmdFault
-unless_full (Some fault) run next = Err fault
-unless_full None run next = if is_full run then Err TxnFull else Ok next
+-- what a command gives that has nothing else against it, or its refusal
+abbrev pub unless_full : {T : Type 0} → Option CmdFault → Run → T → Result T CmdFault
+unless_full (Some fault) run given = Err fault
+unless_full None run given = if is_full run then Err TxnFull else Ok given
 
 -- what a command makes of a transaction, or its refusal
 unfoldable pub effect : TxnId → Command → Run → Result Run CmdFault

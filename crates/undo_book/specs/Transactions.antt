@@ -1,18 +1,16 @@
 -- Transactions as they run on a snapshot.
-use Rattle.std.specs.Prelude.{◌≡◌, ℕ, ◌≤◌, List, [], ◌∷◌, ◌++◌, length, Option, None, Some, Result, Ok, Err, if◌then◌else◌, Bool, ◌==◌, ◌&&◌, true, unwrap_or, refl}
+use Rattle.std.specs.Prelude.{◌≡◌, ℕ, ◌≤◌, List, [], ◌∷◌, ◌++◌, length, Option, None, Some, Result, Ok, Err, if◌then◌else◌, true, unwrap_or, refl}
 use Rattle.std.specs.Coded.{Coded, code_by, coded×, coded_list, coded_ℕ}
 use Rattle.std.specs.List.{AllByRecursion}
 use Rattle.std.specs.FinSet as set
-use Rattle.lay_point.specs.declared.cell_id.CellId.{CellId}
 use Rattle.lay_point.specs.declared.point.Point.{Point}
 use Rattle.lay_items.specs.declared.id.ItemId.{ItemId}
 use Rattle.lay_items.specs.declared.item.Item as items
-use Rattle.lay_items.specs.declared.item.Item.TheVariants.{Shape}
 use Rattle.lay_items.specs.Same.{option_item_eq}
+use Rattle.lay_items.specs.SameLayout.{id_eq}
 use Rattle.lay_items.specs.Layout.{Layout, coded_layout, item_at}
 use Rattle.undo_book.specs.declared.txn_work.command.Command.{Command}
 use Rattle.undo_book.specs.declared.txn_work.command.CmdFault.{CmdFault}
-use Rattle.undo_book.specs.declared.txn_work.command.CmdFault.TheVariants.{TxnFull}
 use Rattle.undo_book.specs.declared.txn_work.command.Command.TheVariants.{Box}
 use Rattle.undo_book.specs.declared.txn_work.command.Done.{Done}
 use Rattle.undo_book.specs.declared.txn_work.command.TxnId.{TxnId}
@@ -21,7 +19,7 @@ use Rattle.undo_book.specs.declared.txn_work.record.Record.{Record}
 use Rattle.undo_book.specs.contracts.txn_work.command.Command as command
 use Rattle.undo_book.specs.contracts.txn_work.command.TxnId as txn_id
 use Rattle.undo_book.specs.contracts.txn_work.record.Record as record_of
-use Rattle.undo_book.specs.Effects.{Run, after_each, answer_with, begun, box_fault, boxed, done_by, effect, is_full, next_id}
+use Rattle.undo_book.specs.Effects.{Run, after_each, answer_with, begun, box_fault, boxed, done_by, effect, next_id, unless_full}
 use Rattle.undo_book.specs.Elements.{Touched, coded_touched}
 use Rattle.undo_book.specs.Records.{AreRecords}
 
@@ -56,33 +54,23 @@ pub record IsTransaction (txn : Transaction) : Type 0 where
   pub footprint : txn.footprint ≡ (come txn).footprint
   pub covered : AllByRecursion (λ w. set.contains txn.footprint (Item w.id) ≡ true) txn.writes
 
--- the item that the next command makes, or its refusal
-abbrev pub item_unless : Option CmdFault → Run → items.Item → Result items.Item CmdFault
-item_unless (Some fault) run item = Err fault
-item_unless None run item = if is_full run then Err TxnFull else Ok item
-
+-- a ring, or why it can't be drawn
 abbrev pub ring_unless : Option CmdFault → List Point → Result (List Point) CmdFault
 ring_unless (Some fault) ring = Err fault
 ring_unless None ring = Ok ring
-
-abbrev pub shape_of : CellId → List ℕ → List Point → items.Item
-shape_of cell layer ring = Shape cell layer (ring ∷ [])
 
 -- the records with one more at the end, where its values differ
 abbrev pub recorded : List Record → ItemId → Option items.Item → Option items.Item → List Record
 recorded writes id before after = if option_item_eq before after then writes else writes ++ record { id = id; before = before; after = after } ∷ []
 
--- the same id
-abbrev pub ids_eq : ItemId → ItemId → Bool
-ids_eq a b = (a.session == b.session) && ((a.txn == b.txn) && (a.seq == b.seq))
-
 -- the record of this id
 abbrev pub find_record : ItemId → List Record → Option Record
 find_record id [] = None
-find_record id (w ∷ ws) = if ids_eq w.id id then Some w else find_record id ws
+find_record id (w ∷ ws) = if id_eq w.id id then Some w else find_record id ws
 
+-- the item that the next command makes, or its refusal
 abbrev pub item_by : Transaction → Command → Result items.Item CmdFault
-item_by txn (Box cell layer a b) = item_unless (box_fault (come txn).layout cell a b) (come txn) (boxed cell layer a b)
+item_by txn (Box cell layer a b) = unless_full (box_fault (come txn).layout cell a b) (come txn) (boxed cell layer a b)
 
 -- what the next command is answered
 abbrev pub answer_to : Transaction → Command → Result Done CmdFault

@@ -6,11 +6,10 @@ ghost use Rattle.lay_point.specs.Memory.{IsAnswer};
 ghost use Rattle.lay_point.specs.Points.{is_in_range};
 ghost use Rattle.lay_items.specs.Layout.{item_at};
 ghost use Rattle.undo_book.specs.Effects.{box_fault, box_ring, boxed, done_by, is_full, lower_left};
-ghost use Rattle.undo_book.specs.Effects.{next_id, upper_right};
+ghost use Rattle.undo_book.specs.Effects.{next_id, shape_of, unless_full, upper_right};
 ghost use Rattle.undo_book.specs.Elements.{untouched};
 ghost use Rattle.undo_book.specs.Transactions.{IsTransaction, after_command, answer_to, come};
-ghost use Rattle.undo_book.specs.Transactions.{find_record, item_by, item_unless, recorded};
-ghost use Rattle.undo_book.specs.Transactions.{ring_unless, shape_of};
+ghost use Rattle.undo_book.specs.Transactions.{find_record, item_by, recorded, ring_unless};
 
 use crate::txn_work::{CmdFault, Command, Done, Element, Footprint, Record, TxnId, copied};
 use lay_items::{Item, ItemId, Rings, Snapshot, Version};
@@ -173,7 +172,7 @@ impl Work {
         b: Point,
     ) -> Result<Item, CmdFault>
         ensures answer { IsAnswer CmdFault.NoMemory result
-            (item_unless (box_fault (come self.now).layout cell a b)
+            (unless_full (box_fault (come self.now).layout cell a b)
             (come self.now) (boxed cell layer a b)) }
         ensures transaction { IsTransaction self.now }
     {

@@ -1,7 +1,7 @@
 use Rattle.std.proofs.Common.{◌≡◌, ◌<◌, ◌≤◌, ◌∙◌, Err, Ok, ap, arith, inl, inr, length, rules, subst, sym}
 use Rattle.std.proofs.lemmas.Result.{err_from_is_err_and}
-use Rattle.undo_book.specs.Effects.{boxed}
-use Rattle.undo_book.specs.Transactions.{IsKept, Transaction, shape_of}
+use Rattle.undo_book.specs.Effects.{boxed, shape_of}
+use Rattle.undo_book.specs.Transactions.{IsKept, Transaction}
 use Rattle.undo_book.proofs.WorkLemmas.{boxed_err, boxed_full, boxed_ok}
 use Rattle.undo_book.proofs.txn_work.work.Work.boxed.Goals as goal
 
