@@ -1,5 +1,6 @@
 -- Chains of live transactions: their replay, one more transaction, and one taken away.
 use Rattle.std.proofs.Common.{◌≡◌, ℕ, ◌+◌, ◌<◌, length, Bool, true, false, cond, List, [], ◌∷◌, ◌++◌, drop, Option, None, Some, zero, suc, add-one, option_map, slice_get, slice_set, MatchBool, ◌⊎◌, inl, inr, refl, ap, sym, ◌∙◌, subst, arith}
+use Rattle.std.proofs.lemmas.Bool.{cases_Bool}
 use Rattle.lay_items.specs.Layout.{Layout, written}
 use Rattle.undo_book.specs.declared.log.BookFault.TheVariants.{NotLive}
 use Rattle.undo_book.specs.declared.log.Entry.{Entry}
@@ -10,13 +11,8 @@ use Rattle.undo_book.specs.Chains.{Chain, Ran}
 use Rattle.undo_book.specs.History.{commands_at, commands_in, replay_from}
 use Rattle.undo_book.specs.Records.{afters, befores}
 use Rattle.undo_book.specs.Steps.{first_live, held_by, place_of, refusal_of, txn_eq, undone, unmarked}
+use Rattle.undo_book.proofs.ListLemmas.{slice_get-push}
 use Rattle.undo_book.proofs.Written.{taken_back}
-
--- what a place of the log tells it tells with one more call at the end
-slice_get-push : {X : Type 0} (xs : List X) (x y : X) (i : ℕ) → slice_get xs i ≡ Some y → slice_get (xs ++ x ∷ []) i ≡ Some y
-slice_get-push [] x y i h = absurd cc
-slice_get-push (z ∷ zs) x y zero h = h
-slice_get-push (z ∷ zs) x y (suc i) h = slice_get-push zs x y i h
 
 some_call : (logged : Option Logged) (commands : List Command) → commands_in logged ≡ Some commands → (call : Logged) × (logged ≡ Some call)
 some_call None commands h = absurd cc
@@ -129,10 +125,6 @@ later_place : (place : Option ℕ) (i : ℕ) → option_map (λ k. k + 1) place 
 later_place None i h = absurd cc
 later_place (Some j) i h = let e : j + 1 ≡ i = cc in (j, refl, sym e ∙ add-one j)
 
-true_or_false : (b : Bool) → (b ≡ true) ⊎ (b ≡ false)
-true_or_false true = inl refl
-true_or_false false = inr refl
-
 at_start : (e : Entry) (es : List Entry) (txn : TxnId) (i : ℕ) → txn_eq e.txn txn ≡ true → place_of txn (e ∷ es) ≡ Some i → i ≡ 0
 at_start e es txn i same place = let h : place_of txn (e ∷ es) ≡ Some 0 = rw same refl in cc
 
@@ -150,7 +142,7 @@ pub chain_without : (txn : TxnId) (log : List Logged) (first : Layout) (entries 
     (entry : Entry) → slice_get entries i ≡ Some entry → Chain log first (unmarked txn entries) (written last (befores entry.writes))
 chain_without txn log first [] last chain i place none entry there = absurd cc
 chain_without txn log first (e ∷ es) last chain i place none entry there =
-    elim (true_or_false (txn_eq e.txn txn)) [
+    elim (cases_Bool (txn_eq e.txn txn)) [
       | inl same ↦
           let start : i ≡ 0 = at_start e es txn i same place in
           let is : e ≡ entry = found_first e entry es (ap (slice_get (e ∷ es)) (sym start) ∙ there) in
@@ -172,7 +164,7 @@ chain_without txn log first (e ∷ es) last chain i place none entry there =
 pub set_unmarks : (txn : TxnId) (es : List Entry) (i : ℕ) → place_of txn es ≡ Some i → (e : Entry) → slice_get es i ≡ Some e → slice_set es i (undone e) ≡ unmarked txn es
 set_unmarks txn [] i place e there = absurd cc
 set_unmarks txn (x ∷ xs) i place e there =
-    elim (true_or_false (txn_eq x.txn txn)) [
+    elim (cases_Bool (txn_eq x.txn txn)) [
       | inl same ↦
           let start : i ≡ 0 = at_start x xs txn i same place in
           let is : x ≡ e = found_first x e xs (ap (slice_get (x ∷ xs)) (sym start) ∙ there) in

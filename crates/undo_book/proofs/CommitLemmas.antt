@@ -1,7 +1,9 @@
 -- A commit: the transaction's commands, run on the layout as it is, give what they gave on its snapshot.
-use Rattle.std.proofs.Common.{◌≡◌, ◌≢◌, ◌+◌, ◌-◌, ◌≤◌, Bool, true, false, ◌&&◌, ◌==◌, nat_le, List, [], ◌∷◌, ◌++◌, length, Option, None, Some, slice_get, slice_set, refl, ap, sym, ◌∙◌, subst, arith, inl, inr}
+use Rattle.std.proofs.Common.{◌≡◌, ◌≢◌, ◌+◌, ◌-◌, ◌≤◌, true, ◌&&◌, ◌==◌, nat_le, List, [], ◌∷◌, ◌++◌, length, Option, None, Some, slice_get, slice_set, refl, ap, sym, ◌∙◌, subst, arith, inl, inr}
+use Rattle.std.proofs.lemmas.Bool.{and_parts}
 use Rattle.std.proofs.lemmas.Bool.Decides.{Decides-eqb, nat_tests}
 use Rattle.std.proofs.lemmas.List.{length-set}
+use Rattle.std.proofs.lemmas.Option.{slice_get-get_or}
 use Rattle.std.specs.FinSet as set
 use Rattle.std.specs.FinSet.{contains, contains-items}
 use Rattle.std.specs.List.{AllByRecursion, list_all}
@@ -26,19 +28,16 @@ use Rattle.undo_book.specs.Records.{AreRecords, afters}
 use Rattle.undo_book.specs.Steps.{after_commit, agree_at, agrees, answered, answered_state, entry_of, is_own, is_pending, logged, state_of, with_entry}
 use Rattle.undo_book.specs.Transactions.{IsTransaction, Moved, Transaction, come}
 use Rattle.undo_book.proofs.ChainLemmas.{chain_logged, chain_push}
-use Rattle.undo_book.proofs.HistoryLemmas.{all_push, all_weaker, get_at, history_sound, replays, set_cases, settled_is, still_waiting, with_layout}
+use Rattle.undo_book.proofs.HistoryLemmas.{history_sound, replays, settled_is, still_waiting, with_layout}
+use Rattle.undo_book.proofs.ListLemmas.{all_push, all_weaker, set_cases}
 use Rattle.undo_book.proofs.Moves.{moved}
 use Rattle.undo_book.proofs.SetLemmas.{each_passes}
 use Rattle.undo_book.proofs.SoundRuns.{touches_own}
 
-both : (a b : Bool) → (a && b) ≡ true → (a ≡ true) × (b ≡ true)
-both true b h = (refl, h)
-both false b h = absurd cc
-
 -- the test of agreement tells that layouts agree
 pub agrees_agree : (l m : Layout) (touched : Touched) → agrees l m touched ≡ true → Agree l m touched
 agrees_agree l m touched h =
-    let parts = both (symbols_eq l.symbols m.symbols) (list_all (agree_at l m) (set.items touched)) h in
+    let parts = and_parts (symbols_eq l.symbols m.symbols) (list_all (agree_at l m) (set.items touched)) h in
     record {
       symbols = (symbols_eq-Decides l.symbols m.symbols).0 parts.0;
       items = λ q there.
@@ -56,13 +55,13 @@ record IsKnown (h : History) (txn : Transaction) (p : Pending) : Type 0 where
 
 pending_known : (o : Option Pending) (txn : Transaction) → is_pending o txn ≡ true → (p : Pending) × (o ≡ Some p) × Agree p.snapshot txn.snapshot txn.footprint
 pending_known None txn h = absurd cc
-pending_known (Some p) txn h = (p, refl, agrees_agree p.snapshot txn.snapshot txn.footprint (both (p.place == txn.opened) _ h).1)
+pending_known (Some p) txn h = (p, refl, agrees_agree p.snapshot txn.snapshot txn.footprint (and_parts (p.place == txn.opened) _ h).1)
 
 known : (h : History) (txn : Transaction) → is_own h txn ≡ true → (p : Pending) × IsKnown h txn p
 known h txn own =
-    let parts = both (nat_le 1 txn.id.session && nat_le txn.id.session 64) _ own in
-    let range = both (nat_le 1 txn.id.session) (nat_le txn.id.session 64) parts.0 in
-    let rest = both ((state_of h txn.id.session).opens == txn.id.txn) _ parts.1 in
+    let parts = and_parts (nat_le 1 txn.id.session && nat_le txn.id.session 64) _ own in
+    let range = and_parts (nat_le 1 txn.id.session) (nat_le txn.id.session 64) parts.0 in
+    let rest = and_parts ((state_of h txn.id.session).opens == txn.id.txn) _ parts.1 in
     let p = pending_known (state_of h txn.id.session).pending txn rest.1 in
     let low = range.0 in
     let high = range.1 in
@@ -78,7 +77,7 @@ agree_now h is txn transaction p know =
     let s = txn.id.session in
     let low = know.low in
     let high = know.high in
-    let here = get_at h.sessions (s - 1) _ (let n = is.sessions in omega arith) in
+    let here : slice_get h.sessions (s - 1) ≡ Some (state_of h s) = slice_get-get_or h.sessions (s - 1) _ (let n = is.sessions in omega arith) in
     let waits = is.waiting (s - 1) (state_of h s) p here know.pending in
     record {
       symbols = sym know.agree.symbols ∙ waits.symbols;
@@ -99,7 +98,7 @@ committed_history h is txn transaction own layout laid =
     let low = k.1.low in
     let high = k.1.high in
     let state = state_of h s in
-    let here : slice_get h.sessions (s - 1) ≡ Some state = get_at h.sessions (s - 1) _ (let n = is.sessions in omega arith) in
+    let here : slice_get h.sessions (s - 1) ≡ Some state = slice_get-get_or h.sessions (s - 1) _ (let n = is.sessions in omega arith) in
     let there = moved txn transaction h.layout (agree_now h is txn transaction k.0 k.1) in
     let to_layout : there.0.layout ≡ layout = there.1.writes.laid ∙ sym laid in
     let call : Logged = record { session = s; call = Commit txn.id txn.commands; answer = Committed } in

@@ -1,5 +1,5 @@
 -- What the calls of a book keep of its history.
-use Rattle.std.proofs.Common.{◌≡◌, ◌≢◌, ℕ, ◌+◌, ◌-◌, ◌<◌, ◌≤◌, Bool, true, false, ◌||◌, cond, List, [], ◌∷◌, ◌++◌, drop, length, Option, None, Some, is_some, map, replicate, zero, suc, slice_get, slice_index_or, slice_set, unwrap_or, refl, ap, sym, ◌∙◌, subst, arith, inl, inr, ◌⊎◌}
+use Rattle.std.proofs.Common.{◌≡◌, ◌≢◌, ℕ, ◌+◌, ◌-◌, ◌≤◌, Bool, true, false, ◌||◌, cond, List, [], ◌∷◌, drop, length, Option, None, Some, is_some, map, replicate, zero, suc, slice_get, unwrap_or, refl, ap, sym, ◌∙◌, subst, arith, inl, inr}
 use Rattle.std.proofs.lemmas.List.{length-replicate, length-set}
 use Rattle.std.proofs.lemmas.Option.{slice_get-get_or}
 use Rattle.std.specs.List.{AllByRecursion}
@@ -24,7 +24,8 @@ use Rattle.undo_book.specs.History.{History, replay, settled}
 use Rattle.undo_book.specs.Records.{afters, befores}
 use Rattle.undo_book.specs.Steps.{after_open, after_undo, fresh, logged, unused, refusal_of, place_of, state_of, txn_eq, undone, unmarked, with_state, without}
 use Rattle.undo_book.proofs.ChainLemmas.{Link, by_live, chain_logged, chain_replays, chain_without}
-use Rattle.undo_book.proofs.Written.{get-put_all, is_some-write_at, same_id, same_id-equal, write_at, writes_id}
+use Rattle.undo_book.proofs.ListLemmas.{all_at, all_weaker, in_replicate, set_cases}
+use Rattle.undo_book.proofs.Written.{get-unwritten, same_id-other, writes_id}
 use Rattle.undo_book.proofs.SoundRuns.{run_sound}
 
 -- each layout of a chain is sound where the first one is
@@ -94,25 +95,6 @@ logged_history h is session call answer = record {
   waiting = is.waiting;
 }
 
--- what a list has where something was set, and elsewhere
-pub set_cases : {X : Type 0} (xs : List X) (i j : ℕ) (x y : X) → slice_get (slice_set xs i x) j ≡ Some y → ((j ≡ i) × (x ≡ y)) ⊎ ((j ≢ i) × (slice_get xs j ≡ Some y))
-set_cases [] i j x y h = absurd cc
-set_cases (z ∷ zs) zero zero x y h = inl (refl, cc)
-set_cases (z ∷ zs) zero (suc j) x y h = inr ((λ e. omega arith), h)
-set_cases (z ∷ zs) (suc i) zero x y h = inr ((λ e. omega arith), h)
-set_cases (z ∷ zs) (suc i) (suc j) x y h =
-    elim (set_cases zs i j x y h) [
-      | inl w ↦ inl (ap suc w.0, w.1)
-      | inr w ↦ inr ((λ e. w.0 (omega arith)), w.1)
-    ]
-
-pub get_at : {X : Type 0} (xs : List X) (i : ℕ) (d : X) → i < length xs → slice_get xs i ≡ Some (slice_index_or xs i d)
-get_at xs i d h = slice_get-get_or xs i d h
-
-pub all_weaker : {X : Type 0} (P Q : X → Type 0) → ((x : X) → P x → Q x) → (xs : List X) → AllByRecursion P xs → AllByRecursion Q xs
-all_weaker P Q weaker [] all = tt
-all_weaker P Q weaker (x ∷ xs) all = (weaker x all.0, all_weaker P Q weaker xs all.1)
-
 -- ---- open
 
 pub opened_history : (h : History) → IsHistory h → (session : ℕ) → 1 ≤ session → session ≤ 64 → IsHistory (after_open h session)
@@ -121,7 +103,7 @@ opened_history h is session low high =
     let number = state.opens + 1 in
     let pending : Pending = record { place = length h.log; snapshot = h.layout } in
     let new : SessionState = record { opens = number; pending = Some pending } in
-    let here : slice_get h.sessions (session - 1) ≡ Some state = get_at h.sessions (session - 1) _ (let s = is.sessions in omega arith) in
+    let here : slice_get h.sessions (session - 1) ≡ Some state = slice_get-get_or h.sessions (session - 1) _ (let s = is.sessions in omega arith) in
     logged_history (with_state h session new) (record {
       sound = is.sound;
       chain = is.chain;
@@ -149,20 +131,11 @@ opened_history h is session low high =
 -- an id that isn't among those of the records isn't written
 apart_unwritten : (id : ItemId) (ws : List Record) → AllByRecursion (λ w. w.id ≢ id) ws → writes_id id ws ≡ false
 apart_unwritten id [] apart = refl
-apart_unwritten id (w ∷ ws) apart = ap (λ b. b || writes_id id ws) (other (same_id id w.id) refl) ∙ apart_unwritten id ws apart.1 where
-  other : (b : Bool) → same_id id w.id ≡ b → b ≡ false
-  other true h = absurd (apart.0 (sym (same_id-equal id w.id h)))
-  other false h = refl
-
-nothing_at : (last : Option (Option items.Item)) → is_some last ≡ false → (old : Option items.Item) → unwrap_or last old ≡ old
-nothing_at None h old = refl
-nothing_at (Some item) h old = absurd cc
+apart_unwritten id (w ∷ ws) apart = ap (λ b. b || writes_id id ws) (same_id-other id w.id (λ e. apart.0 (sym e))) ∙ apart_unwritten id ws apart.1
 
 -- writes of other ids leave an item alone
 left_alone : (value : Record → Option items.Item) (layout : Layout) (ws : List Record) (id : ItemId) → AllByRecursion (λ w. w.id ≢ id) ws → item_at layout id ≡ item_at (written layout (map (λ w. (w.id, value w)) ws)) id
-left_alone value layout ws id apart =
-    sym (get-put_all layout.items (map (λ w. (w.id, value w)) ws) id
-    ∙ nothing_at (write_at id (map (λ w. (w.id, value w)) ws)) (is_some-write_at value id ws ∙ apart_unwritten id ws apart) (item_at layout id))
+left_alone value layout ws id apart = sym (get-unwritten value layout.items ws id (apart_unwritten id ws apart))
 
 -- a transaction that is pending goes on waiting after writes of others
 pub still_waiting : (value : Record → Option items.Item) (layout : Layout) (ws : List Record) (t : TxnId) (p : Pending) → IsWaiting layout t p →
@@ -171,15 +144,6 @@ still_waiting value layout ws t p waits apart = record {
   symbols = waits.symbols;
   items = λ id of. waits.items id of ∙ left_alone value layout ws id (apart id of);
 }
-
-all_at : {X : Type 0} (P : X → Type 0) (xs : List X) (i : ℕ) (x : X) → AllByRecursion P xs → slice_get xs i ≡ Some x → P x
-all_at P [] i x all h = absurd cc
-all_at P (y ∷ ys) zero x all h = let same : y ≡ x = cc in subst P same all.0
-all_at P (y ∷ ys) (suc i) x all h = all_at P ys i x all.1 h
-
-pub all_push : {X : Type 0} (P : X → Type 0) (xs : List X) (x : X) → AllByRecursion P xs → P x → AllByRecursion P (xs ++ x ∷ [])
-all_push P [] x all here = (here, tt)
-all_push P (y ∷ ys) x all here = (all.0, all_push P ys x all.1 here)
 
 -- ---- undo
 
@@ -229,11 +193,6 @@ undone_history h is session txn i place none entry there layout laid =
     (new, sym (settled_is (logged (without h txn) session (Undo txn) Undone) layout (replays (logged old session (Undo txn) Undone) new)), chain_replays h.log h.base (unmarked txn h.entries) layout chain)
 
 -- ---- a history without calls
-
-in_replicate : {X : Type 0} (n : ℕ) (x y : X) (i : ℕ) → slice_get (replicate n x) i ≡ Some y → x ≡ y
-in_replicate zero x y i h = absurd cc
-in_replicate (suc n) x y zero h = cc
-in_replicate (suc n) x y (suc i) h = in_replicate n x y i h
 
 fresh_history : (base : Layout) → IsSound base → IsHistory (fresh base)
 fresh_history base sound = record {

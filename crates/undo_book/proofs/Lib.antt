@@ -1,3 +1,4 @@
+pub mod ListLemmas
 pub mod Written
 pub mod Runs
 pub mod Moves

@@ -1,10 +1,9 @@
 -- A transaction moved to another layout: where the layouts agree on all that it touched, its commands
 -- give the same answers, footprint and records there.
-use Rattle.std.proofs.Common.{◌≡◌, Bool, true, false, ◌||◌, List, [], ◌∷◌, Option, None, Some, is_some, unwrap_or, refl, ap, sym, ◌∙◌, subst}
+use Rattle.std.proofs.Common.{◌≡◌, ◌≢◌, Bool, true, false, ◌||◌, List, [], ◌∷◌, unwrap_or, refl, ap, sym, ◌∙◌, subst}
 use Rattle.std.specs.List.{AllByRecursion}
 use Rattle.std.specs.FinSet.{contains}
 use Rattle.lay_items.specs.declared.id.ItemId.{ItemId}
-use Rattle.lay_items.specs.declared.item.Item as items
 use Rattle.lay_items.specs.Layout.{Layout, item_at, written}
 use Rattle.undo_book.specs.declared.txn_work.footprint.Element.TheVariants.{Item}
 use Rattle.undo_book.specs.declared.txn_work.record.Record.{Record}
@@ -14,7 +13,7 @@ use Rattle.undo_book.specs.Elements.{Touched}
 use Rattle.undo_book.specs.Records.{afters}
 use Rattle.undo_book.specs.Transactions.{IsTransaction, Moved, Transaction, come}
 use Rattle.undo_book.proofs.Runs.{LeavesAlone, frame, local}
-use Rattle.undo_book.proofs.Written.{get-put_all, is_some-write_at, same_id, same_id-equal, same_layouts, write_at, writes_id}
+use Rattle.undo_book.proofs.Written.{get-put_all, get-unwritten, same_id-other, same_layouts, write_at, writes_id}
 
 -- the records found their items on the other layout too
 found_there : (l m : Layout) (touched : Touched) → Agree l m touched → (ws : List Record) → AllByRecursion (λ w. contains touched (Item w.id) ≡ true) ws → AllByRecursion (λ w. item_at l w.id ≡ w.before) ws → AllByRecursion (λ w. item_at m w.id ≡ w.before) ws
@@ -24,14 +23,9 @@ found_there l m touched agree (w ∷ ws) covered found = (sym (agree.items w.id 
 -- what isn't touched isn't written
 pub unwritten : (touched : Touched) (q : ItemId) → contains touched (Item q) ≡ false → (ws : List Record) → AllByRecursion (λ w. contains touched (Item w.id) ≡ true) ws → writes_id q ws ≡ false
 unwritten touched q out [] covered = refl
-unwritten touched q out (w ∷ ws) covered = ap (λ b. b || writes_id q ws) (other (same_id q w.id) refl) ∙ unwritten touched q out ws covered.1 where
-  other : (b : Bool) → same_id q w.id ≡ b → b ≡ false
-  other true h = let same : contains touched (Item q) ≡ contains touched (Item w.id) = ap (λ e. contains touched (Item e)) (same_id-equal q w.id h) in let there = covered.0 in cc
-  other false h = refl
-
-nothing_at : (last : Option (Option items.Item)) → is_some last ≡ false → (old : Option items.Item) → unwrap_or last old ≡ old
-nothing_at None h old = refl
-nothing_at (Some item) h old = absurd cc
+unwritten touched q out (w ∷ ws) covered = ap (λ b. b || writes_id q ws) (same_id-other q w.id apart) ∙ unwritten touched q out ws covered.1 where
+  apart : q ≢ w.id
+  apart e = let same : contains touched (Item q) ≡ contains touched (Item w.id) = ap (λ x. contains touched (Item x)) e in let there = covered.0 in cc
 
 -- the layout after the run there is the records laid on it
 laid_there : (txn : Transaction) → IsTransaction txn → (m : Layout) → Agree txn.snapshot m txn.footprint → (s : Run) → LeavesAlone m s.layout txn.footprint → Agree (come txn).layout s.layout txn.footprint →
@@ -42,8 +36,7 @@ laid_there txn is m agree s alone alike q true there =
     ∙ sym (get-put_all m.items (afters txn.writes) q)
 laid_there txn is m agree s alone alike q false out =
     alone.items q out
-    ∙ sym (nothing_at (write_at q (afters txn.writes)) (is_some-write_at (λ w. w.after) q txn.writes ∙ unwritten txn.footprint q out txn.writes is.covered) (item_at m q))
-    ∙ sym (get-put_all m.items (afters txn.writes) q)
+    ∙ sym (get-unwritten (λ w. w.after) m.items txn.writes q (unwritten txn.footprint q out txn.writes is.covered))
 
 pub moved : (txn : Transaction) → IsTransaction txn → (m : Layout) → Agree txn.snapshot m txn.footprint → (run : Run) × Moved txn m run
 moved txn is m agree =

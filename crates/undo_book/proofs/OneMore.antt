@@ -1,5 +1,5 @@
 -- A work with one more command is still a work.
-use Rattle.std.proofs.Common.{◌≡◌, ◌≢◌, ℕ, ◌+◌, ◌<◌, Bool, true, false, ◌||◌, cond, List, [], ◌∷◌, ◌++◌, length, Option, None, Some, Result, Ok, Err, is_some, unwrap_or, refl, ap, sym, ◌∙◌, subst, arith}
+use Rattle.std.proofs.Common.{◌≡◌, ◌≢◌, ℕ, ◌+◌, ◌<◌, Bool, true, false, ◌||◌, cond, List, [], ◌∷◌, ◌++◌, length, Option, None, Some, Result, Ok, Err, unwrap_or, refl, ap, sym, ◌∙◌, subst, arith}
 use Rattle.std.proofs.lemmas.Bool.Decides.{nat_tests}
 use Rattle.std.proofs.lemmas.List.{length_push, map-append}
 use Rattle.std.specs.declared.cmp.Ordering.TheVariants.{Equal, Less}
@@ -28,24 +28,13 @@ use Rattle.undo_book.specs.Effects.{Run, answer_with, begun, box_fault, boxed, d
 use Rattle.undo_book.specs.Elements.{Touched}
 use Rattle.undo_book.specs.Records.{AreRecords, afters}
 use Rattle.undo_book.specs.Transactions.{IsKept, IsOwn, Transaction, after_command, after_effect, answer_to, come, item_by, recorded, run_of, with_command, with_made}
-use Rattle.undo_book.proofs.Runs.{after_each-push, kept_by_insert, there_by_insert}
-use Rattle.undo_book.proofs.Written.{get-put_all, is_some-write_at, put_all-append, same_id, same_id-equal, same_layouts, write_at, writes_id}
-
-all_push : {X : Type 0} (P : X → Type 0) (xs : List X) (x : X) → AllByRecursion P xs → P x → AllByRecursion P (xs ++ x ∷ [])
-all_push P [] x all here = (here, tt)
-all_push P (y ∷ ys) x all here = (all.0, all_push P ys x all.1 here)
-
-all_weaker : {X : Type 0} (P Q : X → Type 0) → ((x : X) → P x → Q x) → (xs : List X) → AllByRecursion P xs → AllByRecursion Q xs
-all_weaker P Q weaker [] all = tt
-all_weaker P Q weaker (x ∷ xs) all = (weaker x all.0, all_weaker P Q weaker xs all.1)
+use Rattle.undo_book.proofs.ListLemmas.{all_push, all_weaker}
+use Rattle.undo_book.proofs.Runs.{accepted, after_each-push, kept_by_insert, there_by_insert}
+use Rattle.undo_book.proofs.Written.{get-unwritten, put_all-append, same_id, same_id-equal, same_layouts, writes_id}
 
 -- what an accepted command makes of its transaction
 effect_makes : (f : Option CmdFault) (r next : Run) (new item : items.Item) → unless_full f r new ≡ Ok item → (is_full r ≡ false) × (new ≡ item) × (unless_full f r next ≡ Ok next)
-effect_makes (Some fault) r next new item h = absurd cc
-effect_makes None r next new item h = by_room (is_full r) refl h where
-  by_room : (b : Bool) → is_full r ≡ b → cond {A = Result items.Item CmdFault} b (Err TxnFull) (Ok new) ≡ Ok item → (is_full r ≡ false) × (new ≡ item) × (unless_full None r next ≡ Ok next)
-  by_room true e h = absurd cc
-  by_room false e h = (e, cc, rw e refl)
+effect_makes f r next new item h = let fine = accepted f r new item h in (fine.1, fine.2, rw (fine.0, fine.1) refl)
 
 pub made_by : (txn : Transaction) (c : Command) (item : items.Item) → item_by txn c ≡ Ok item → (is_full (come txn) ≡ false) × (effect txn.id c (come txn) ≡ Ok (making txn.id item (come txn)))
 unfolding effect
@@ -83,10 +72,6 @@ above_unwritten [] id below = refl
 above_unwritten (w ∷ ws) id below =
     ap (λ b. b || writes_id id ws) ((eq_by_cmp_equiv ids_total).symm id w.id ∙ ap is_eq below.0) ∙ above_unwritten ws id below.1
 
-nothing_at : (last : Option (Option items.Item)) → is_some last ≡ false → (old : Option items.Item) → unwrap_or last old ≡ old
-nothing_at None h old = refl
-nothing_at (Some item) h old = absurd cc
-
 abbrev with_item : Layout → ItemId → items.Item → Layout
 with_item layout id item = record { symbols = layout.symbols; items = finite.insert layout.items id item }
 
@@ -95,7 +80,7 @@ laid_same : (old mid : Layout) (ws : List Record) → mid ≡ written old (after
     with_item mid id item ≡ written old (afters ws)
 laid_same old mid ws laid id item found fresh = same_layouts (with_item mid id item) (written old (afters ws)) (ap (λ (l : Layout). l.symbols) laid) (λ q. at q (same_id q id) refl) where
   there : item_at (written old (afters ws)) id ≡ Some item
-  there = get-put_all old.items (afters ws) id ∙ nothing_at (write_at id (afters ws)) (is_some-write_at (λ w. w.after) id ws ∙ fresh) (item_at old id) ∙ found
+  there = get-unwritten (λ w. w.after) old.items ws id fresh ∙ found
 
   at : (q : ItemId) (b : Bool) → same_id q id ≡ b → item_at (with_item mid id item) q ≡ item_at (written old (afters ws)) q
   at q true h = get-insert ids_total mid.items id item q ∙ ap (λ b. cond b (Some item) (item_at mid q)) h ∙ sym there ∙ ap (item_at (written old (afters ws))) (sym (same_id-equal q id h))

@@ -1,5 +1,6 @@
 -- Runs of commands: what they leave alone, and that they go alike on layouts that agree on what they touch.
 use Rattle.std.proofs.Common.{◌≡◌, ◌+◌, Bool, true, false, ◌||◌, cond, List, [], ◌∷◌, ◌++◌, Option, None, Some, Result, Ok, Err, length, nat_le, refl, ap, sym, ◌∙◌, subst}
+use Rattle.std.proofs.lemmas.Bool.{or_right}
 use Rattle.std.specs.Cmp.{eq_by_cmp_equiv}
 use Rattle.std.specs.FinSet.{contains, contains-insert, insert}
 use Rattle.std.specs.FinMap.{FinMap, get-insert}
@@ -23,16 +24,16 @@ use Rattle.undo_book.specs.declared.txn_work.footprint.Element.TheVariants.{Item
 use Rattle.undo_book.specs.Agreement.{Agree}
 use Rattle.undo_book.specs.Effects.{Run, after_each, box_fault, boxed, effect, if_accepted, is_full, making, next_id, unless_full}
 use Rattle.undo_book.specs.Elements.{Touched, element_cmp, elements_total}
-use Rattle.undo_book.proofs.Written.{same_id, same_id-equal}
+use Rattle.undo_book.proofs.Written.{same_id, same_id-other}
 
-with_room : (r next n : Run) → cond (is_full r) (Err TxnFull) (Ok next) ≡ Ok n → (is_full r ≡ false) × (next ≡ n)
-with_room r next n h = by_room (is_full r) refl h where
-  by_room : (b : Bool) → is_full r ≡ b → cond {A = Result Run CmdFault} b (Err TxnFull) (Ok next) ≡ Ok n → (is_full r ≡ false) × (next ≡ n)
+with_room : {T : Type 0} (r : Run) (next n : T) → cond (is_full r) (Err TxnFull) (Ok next) ≡ Ok n → (is_full r ≡ false) × (next ≡ n)
+with_room {T} r next n h = by_room (is_full r) refl h where
+  by_room : (b : Bool) → is_full r ≡ b → cond {A = Result T CmdFault} b (Err TxnFull) (Ok next) ≡ Ok n → (is_full r ≡ false) × (next ≡ n)
   by_room true e h = absurd cc
   by_room false e h = (e, cc)
 
 -- accepted: nothing is against it, and there is room
-pub accepted : (f : Option CmdFault) (r next n : Run) → unless_full f r next ≡ Ok n → (f ≡ None) × (is_full r ≡ false) × (next ≡ n)
+pub accepted : {T : Type 0} (f : Option CmdFault) (r : Run) (next n : T) → unless_full f r next ≡ Ok n → (f ≡ None) × (is_full r ≡ false) × (next ≡ n)
 accepted (Some fault) r next n h = absurd cc
 accepted None r next n h = let room = with_room r next n h in (refl, room.0, room.1)
 
@@ -76,20 +77,14 @@ after_each-push t (d ∷ cs) c start r n h e =
     rw first.1 (after_each-push t cs c first.0 r n first.2 e)
 
 pub kept_by_insert : (touched : Touched) (new e : Element) → contains touched e ≡ true → contains (insert touched new) e ≡ true
-kept_by_insert touched new e there = contains-insert elements_total touched new e ∙ ap (λ b. eq_by_cmp element_cmp e new || b) there ∙ or_true (eq_by_cmp element_cmp e new) where
-  or_true : (b : Bool) → (b || true) ≡ true
-  or_true true = refl
-  or_true false = refl
+kept_by_insert touched new e there = contains-insert elements_total touched new e ∙ or_right (eq_by_cmp element_cmp e new) (contains touched e) there
 
 pub there_by_insert : (touched : Touched) (new : Element) → contains (insert touched new) new ≡ true
 there_by_insert touched new = contains-insert elements_total touched new new ∙ ap (λ b. b || contains touched new) ((eq_by_cmp_equiv elements_total).refl new)
 
 -- an id that isn't touched isn't one that is
 elsewhere : (touched : Touched) (q new : ItemId) → contains touched (Item q) ≡ false → contains touched (Item new) ≡ true → same_id q new ≡ false
-elsewhere touched q new out there = by_answer (same_id q new) refl where
-  by_answer : (b : Bool) → same_id q new ≡ b → b ≡ false
-  by_answer true h = let same : contains touched (Item q) ≡ contains touched (Item new) = ap (λ e. contains touched (Item e)) (same_id-equal q new h) in cc
-  by_answer false h = refl
+elsewhere touched q new out there = same_id-other q new (λ e. let same : contains touched (Item q) ≡ contains touched (Item new) = ap (λ x. contains touched (Item x)) e in cc)
 
 -- what a run touched stays touched
 pub grows : (t : TxnId) (cs : List Command) (start end : Run) → after_each t cs start ≡ Some end → (e : Element) → contains start.footprint e ≡ true → contains end.footprint e ≡ true

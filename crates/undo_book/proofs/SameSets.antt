@@ -22,7 +22,7 @@ use Rattle.undo_book.proofs.SetLemmas.{order_is}
 pub sorted_keys : (ks : List Element) → IsStrictlySortedBy order.cmp ks → IsStrictlySortedBy element_cmp ks
 sorted_keys ks sorted = subst (λ (R : Element → Element → Ordering). IsStrictlySortedBy R ks) order_is sorted
 
--- and are compared by the equality of elements
+-- and they are compared by the equality of elements
 same_element : (x y : Element) → equality.eq x y ≡ element_eq x y
 same_element (Item a) (Item b) = refl
 

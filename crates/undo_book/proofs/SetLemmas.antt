@@ -1,12 +1,12 @@
 -- A tree's keys as a finite set.
-use Rattle.std.proofs.Common.{◌≡◌, Bool, true, false, ◌||◌, ◌&&◌, ◌⊎◌, inl, inr, cond, List, [], ◌∷◌, refl, ap, sym, subst, ◌∙◌}
+use Rattle.std.proofs.Common.{◌≡◌, Bool, true, false, ◌||◌, inl, inr, cond, List, [], ◌∷◌, refl, ap, sym, subst, ◌∙◌}
+use Rattle.std.proofs.lemmas.Bool.{and_parts, or_cases, or_right}
 use Rattle.std.specs.declared.cmp.Ordering.{Ordering}
-use Rattle.std.specs.declared.cmp.Ordering.TheVariants.{Equal, Greater, Less}
 use Rattle.std.specs.BTreeMap.{is_at}
-use Rattle.std.specs.Cmp.{IsTotalOrder, eq_by_cmp_equiv}
+use Rattle.std.specs.Cmp.{Equal-is, IsTotalOrder, eq_by_cmp_equiv}
 use Rattle.std.specs.FinSet.{IsAntisymmetric, contains, contains-from_list, contains-insert, contains-items, from_list, insert, items, same_set}
 use Rattle.std.specs.List.{list_all, list_any}
-use Rattle.std.specs.Ordering.{eq_by_cmp, is_eq}
+use Rattle.std.specs.Ordering.{eq_by_cmp}
 use Rattle.undo_book.specs.contracts.txn_work.footprint.ElementOrd.TheImpl.{ghosts}
 use Rattle.undo_book.specs.declared.txn_work.footprint.Element.{Element}
 use Rattle.undo_book.specs.declared.txn_work.footprint.Element.TheVariants.{Item}
@@ -43,45 +43,28 @@ pub element_there : (ks : List Element) (k : Element) → list_any (is_at (ghost
 element_there ks k =
     ap (λ (R : Element → Element → Ordering). list_any (is_at (R k)) ks) order_is ∙ sym (contains-from_list elements_total ks k)
 
-both : (a b : Bool) → (a && b) ≡ true → (a ≡ true) × (b ≡ true)
-both true b h = (refl, h)
-both false b h = absurd cc
-
-this_or : (a b : Bool) → (a || b) ≡ true → (a ≡ true) ⊎ (b ≡ true)
-this_or true b h = inl refl
-this_or false b h = inr h
-
 -- where all pass a test, one that is found passes it
 pub found_passes : {X : Type 0} (p r : X → Bool) (xs : List X) → list_all p xs ≡ true → list_any r xs ≡ true → (x : X) × (p x ≡ true) × (r x ≡ true)
 found_passes p r [] all any = absurd cc
 found_passes p r (x ∷ xs) all any =
-    let here = both (p x) (list_all p xs) all in
-    elim (this_or (r x) (list_any r xs) any) [
+    let here = and_parts (p x) (list_all p xs) all in
+    elim (or_cases (r x) (list_any r xs) any) [
       | inl this ↦ (x, here.0, this)
       | inr other ↦ found_passes p r xs here.1 other
     ]
-
-equal_of : (o : Ordering) → is_eq o ≡ true → o ≡ Equal
-equal_of Less h = absurd cc
-equal_of Equal h = refl
-equal_of Greater h = absurd cc
 
 -- where all elements of a list pass a test, each that the list has passes it
 pub each_passes : (p : Element → Bool) (xs : List Element) → list_all p xs ≡ true → (q : Element) → list_any (eq_by_cmp element_cmp q) xs ≡ true → p q ≡ true
 each_passes p xs all q there =
     let found = found_passes p (eq_by_cmp element_cmp q) xs all there in
-    let same : q ≡ found.0 = elements_exact q found.0 (equal_of (element_cmp q found.0) found.2) in
+    let same : q ≡ found.0 = elements_exact q found.0 ((Equal-is (element_cmp q found.0)).0 found.2) in
     ap p same ∙ found.1
-
-or_true : (b : Bool) → (b || true) ≡ true
-or_true true = refl
-or_true false = refl
 
 all_pass : (p : Element → Bool) (xs : List Element) → ((q : Element) → list_any (eq_by_cmp element_cmp q) xs ≡ true → p q ≡ true) → list_all p xs ≡ true
 all_pass p [] each = refl
 all_pass p (x ∷ xs) each =
     let here : p x ≡ true = each x (ap (λ b. b || list_any (eq_by_cmp element_cmp x) xs) ((eq_by_cmp_equiv elements_total).refl x)) in
-    let rest : list_all p xs ≡ true = all_pass p xs (λ q there. each q (ap (λ b. eq_by_cmp element_cmp q x || b) there ∙ or_true (eq_by_cmp element_cmp q x))) in
+    let rest : list_all p xs ≡ true = all_pass p xs (λ q there. each q (or_right (eq_by_cmp element_cmp q x) (list_any (eq_by_cmp element_cmp q) xs) there)) in
     rw (here, rest) refl
 
 -- all keys of a tree pass a test where all elements of their set do

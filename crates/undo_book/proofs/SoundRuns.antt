@@ -4,6 +4,7 @@ use Rattle.std.specs.FinMap.{FinMap, get-insert}
 use Rattle.std.specs.FinMap as finite
 use Rattle.std.specs.FinSet.{contains, contains-empty, contains-insert}
 use Rattle.std.specs.Ordering.{eq_by_cmp, int_eq, nat_cmp}
+use Rattle.std.proofs.lemmas.Bool.{and_parts, or_parts}
 use Rattle.std.proofs.lemmas.Bool.Decides.{Decides-int_eq}
 use Rattle.std.specs.Int.{int_max, int_min}
 use Rattle.lay_point.specs.declared.cell_id.CellId.{CellId}
@@ -27,14 +28,14 @@ use Rattle.undo_book.specs.Chains.{IsOf}
 use Rattle.undo_book.specs.Effects.{Run, after_each, begun, box_fault, boxed, effect, lower_left, making, next_id, upper_right}
 use Rattle.undo_book.specs.Elements.{element_cmp, elements_total}
 use Rattle.undo_book.proofs.Runs.{accepted, goes_on, makes}
-use Rattle.undo_book.proofs.WorkLemmas.{lower_in_range, parts, upper_in_range}
+use Rattle.undo_book.proofs.WorkLemmas.{lower_in_range, upper_in_range}
 use Rattle.undo_book.proofs.Written.{same_id, same_id-equal}
 
 -- a rectangle of two sides in range is a ring
 rectangle_ring : (low high : Point) → is_in_range low ≡ true → is_in_range high ≡ true → low.x ≢ high.x → low.y ≢ high.y → IsRing (rectangle low high)
 rectangle_ring low high lows highs wide tall =
-    let l = parts (is_coordinate low.x) (is_coordinate low.y) lows in
-    let h = parts (is_coordinate high.x) (is_coordinate high.y) highs in
+    let l = and_parts (is_coordinate low.x) (is_coordinate low.y) lows in
+    let h = and_parts (is_coordinate high.x) (is_coordinate high.y) highs in
     let lx = l.0 in
     let ly = l.1 in
     let hx = h.0 in
@@ -56,10 +57,6 @@ apart a b h = by_order (int_lt b a) where
   by_order true e = h (sym e)
   by_order false e = h e
 
-or_false : (a b : Bool) → (a || b) ≡ false → (a ≡ false) × (b ≡ false)
-or_false true b h = absurd cc
-or_false false b h = (refl, h)
-
 -- what a box that nothing is against is known to be
 none_against : (layout : Layout) (cell : CellId) (a b : Point) → box_fault layout cell a b ≡ None →
     (is_cell layout cell ≡ true) × (a.x ≢ b.x) × (a.y ≢ b.y) × ((is_in_range a && is_in_range b) ≡ true)
@@ -71,7 +68,7 @@ none_against layout cell a b h = by_cell (is_cell layout cell) (int_eq a.x b.x |
   by_cell true true ranges e f g h = absurd cc
   by_cell true false false e f g h = absurd cc
   by_cell true false true e f g h =
-      let sides = or_false (int_eq a.x b.x) (int_eq a.y b.y) f in
+      let sides = or_parts (int_eq a.x b.x) (int_eq a.y b.y) f in
       (e, test_false a.x b.x sides.0, test_false a.y b.y sides.1, g)
 
 -- the item that an accepted command makes is sound

@@ -1,5 +1,7 @@
 -- What a work's functions need of its transaction.
 use Rattle.std.proofs.Common.{◌≡◌, ◌<◌, ◌≤◌, Bool, true, false, ◌||◌, ◌&&◌, cond, List, length, nat_le, Option, None, Some, Result, Ok, Err, refl, ap, sym, ◌∙◌, arith, ℤ, ◌⊎◌, inl, inr}
+use Rattle.std.proofs.Math.Bool.{or_self}
+use Rattle.std.proofs.lemmas.Bool.{and_from, and_parts}
 use Rattle.std.proofs.lemmas.Bool.Decides.{nat_tests, Decides-int_eq}
 use Rattle.std.specs.Int.RustNames.{int_lt}
 use Rattle.std.specs.Ordering.{int_eq}
@@ -23,36 +25,26 @@ seen_fault txn kept cell a b =
 pub full_is : (txn : Transaction) → IsKept txn → is_full (come txn) ≡ nat_le 65535 (length txn.commands)
 full_is txn kept =
     ap (λ n. nat_le 65535 n || nat_le 65535 (come txn).made) kept.answered
-    ∙ ap (λ n. nat_le 65535 (length txn.commands) || nat_le 65535 n) kept.made ∙ twice (nat_le 65535 (length txn.commands)) where
-      twice : (b : Bool) → (b || b) ≡ b
-      twice true = refl
-      twice false = refl
+    ∙ ap (λ n. nat_le 65535 (length txn.commands) || nat_le 65535 n) kept.made ∙ or_self (nat_le 65535 (length txn.commands))
 
 either : (b : Bool) (x y : ℤ) → is_coordinate x ≡ true → is_coordinate y ≡ true → is_coordinate (cond b x y) ≡ true
 either true x y p q = p
 either false x y p q = q
 
-both_true : (a b : Bool) → a ≡ true → b ≡ true → (a && b) ≡ true
-both_true a b p q = rw p q
-
-pub parts : (a b : Bool) → (a && b) ≡ true → (a ≡ true) × (b ≡ true)
-parts true b h = (refl, h)
-parts false b h = absurd cc
-
 -- the corners of a box whose given corners are in range
 pub lower_in_range : (a b : Point) → (is_in_range a && is_in_range b) ≡ true → is_in_range (lower_left a b) ≡ true
 lower_in_range a b h =
-    let ps = parts (is_in_range a) (is_in_range b) h in
-    let pa = parts _ _ ps.0 in
-    let pb = parts _ _ ps.1 in
-    both_true _ _ (either (int_lt b.x a.x) b.x a.x pb.0 pa.0) (either (int_lt b.y a.y) b.y a.y pb.1 pa.1)
+    let ps = and_parts (is_in_range a) (is_in_range b) h in
+    let pa = and_parts _ _ ps.0 in
+    let pb = and_parts _ _ ps.1 in
+    and_from _ _ (either (int_lt b.x a.x) b.x a.x pb.0 pa.0) (either (int_lt b.y a.y) b.y a.y pb.1 pa.1)
 
 pub upper_in_range : (a b : Point) → (is_in_range a && is_in_range b) ≡ true → is_in_range (upper_right a b) ≡ true
 upper_in_range a b h =
-    let ps = parts (is_in_range a) (is_in_range b) h in
-    let pa = parts _ _ ps.0 in
-    let pb = parts _ _ ps.1 in
-    both_true _ _ (either (int_lt b.x a.x) a.x b.x pa.0 pb.0) (either (int_lt b.y a.y) a.y b.y pa.1 pb.1)
+    let ps = and_parts (is_in_range a) (is_in_range b) h in
+    let pa = and_parts _ _ ps.0 in
+    let pb = and_parts _ _ ps.1 in
+    and_from _ _ (either (int_lt b.x a.x) a.x b.x pa.0 pb.0) (either (int_lt b.y a.y) a.y b.y pa.1 pb.1)
 
 pub differ : (x y : ℤ) → (x ≡ y → ⊥) → int_eq x y ≡ false
 differ x y h = by_answer (int_eq x y) refl where

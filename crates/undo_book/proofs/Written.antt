@@ -1,11 +1,9 @@
 -- Layouts after writes, seen id by id; and that records taken back give the layout before.
-use Rattle.std.proofs.Common.{◌≡◌, Bool, true, false, cond, List, [], ◌∷◌, ◌++◌, Option, None, Some, is_some, unwrap_or, ◌||◌, map, refl, ap, sym, ◌∙◌}
+use Rattle.std.proofs.Common.{◌≡◌, ◌≢◌, Bool, true, false, cond, List, [], ◌∷◌, ◌++◌, Option, None, Some, is_some, unwrap_or, ◌||◌, map, refl, ap, sym, ◌∙◌}
 use Rattle.std.specs.List.{AllByRecursion, list_any}
 use Rattle.std.specs.FinMap.{FinMap, get, get-insert, get-remove, same_map}
-use Rattle.std.specs.declared.cmp.Ordering.{Ordering}
-use Rattle.std.specs.declared.cmp.Ordering.TheVariants.{Equal, Greater, Less}
-use Rattle.std.specs.Ordering.{eq_by_cmp, is_eq}
-use Rattle.std.specs.Cmp.{eq_by_cmp_equiv}
+use Rattle.std.specs.Ordering.{eq_by_cmp}
+use Rattle.std.specs.Cmp.{Equal-is, eq_by_cmp_equiv}
 use Rattle.lay_items.specs.declared.id.ItemId.{ItemId}
 use Rattle.lay_items.specs.declared.item.Item.{Item}
 use Rattle.lay_items.specs.IdOrder.{ids_exact, ids_total}
@@ -22,11 +20,14 @@ pub same_id-refl : (q : ItemId) → same_id q q ≡ true
 same_id-refl = (eq_by_cmp_equiv ids_total).refl
 
 pub same_id-equal : (p q : ItemId) → same_id p q ≡ true → p ≡ q
-same_id-equal p q h = ids_exact p q (equal_of (id_cmp p q) h) where
-  equal_of : (o : Ordering) → is_eq o ≡ true → o ≡ Equal
-  equal_of Less h = cc
-  equal_of Equal h = refl
-  equal_of Greater h = cc
+same_id-equal p q h = ids_exact p q ((Equal-is (id_cmp p q)).0 h)
+
+-- ids that differ are told apart
+pub same_id-other : (p q : ItemId) → p ≢ q → same_id p q ≡ false
+same_id-other p q apart = by_answer (same_id p q) refl where
+  by_answer : (b : Bool) → same_id p q ≡ b → b ≡ false
+  by_answer true h = absurd (apart (same_id-equal p q h))
+  by_answer false h = refl
 
 -- items with the same item under each id are the same
 pub same_items : (m n : FinMap id_cmp Item) → ((q : ItemId) → get m q ≡ get n q) → m ≡ n
@@ -79,6 +80,16 @@ is_some-later None false first rest h = h
 pub is_some-write_at : (value : Record → Option Item) (q : ItemId) (ws : List Record) → is_some (write_at q (map (λ w. (w.id, value w)) ws)) ≡ writes_id q ws
 is_some-write_at value q [] = refl
 is_some-write_at value q (w ∷ ws) = is_some-later (write_at q (map (λ w. (w.id, value w)) ws)) (same_id q w.id) (value w) (writes_id q ws) (is_some-write_at value q ws)
+
+nothing_at : (last : Option (Option Item)) → is_some last ≡ false → (old : Option Item) → unwrap_or last old ≡ old
+nothing_at None h old = refl
+nothing_at (Some item) h old = absurd cc
+
+-- an id of no record keeps its item
+pub get-unwritten : (value : Record → Option Item) (items : FinMap id_cmp Item) (ws : List Record) (q : ItemId) → writes_id q ws ≡ false → get (put_all items (map (λ w. (w.id, value w)) ws)) q ≡ get items q
+get-unwritten value items ws q out =
+    get-put_all items (map (λ w. (w.id, value w)) ws) q
+    ∙ nothing_at (write_at q (map (λ w. (w.id, value w)) ws)) (is_some-write_at value q ws ∙ out) (get items q)
 
 -- what a record takes back to is what was found, if what the later ones take back to is
 found_first : (l : Layout) (q : ItemId) (w : Record) (last : Option (Option Item)) (here : Bool) → item_at l w.id ≡ w.before → same_id q w.id ≡ here →
