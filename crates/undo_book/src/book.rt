@@ -1,39 +1,26 @@
 //! The book: one history, and the calls that lead it on.
-ghost use Rattle.std.specs.Prelude.{◌≡◌, ◌<◌, ◌≤◌, ◌-◌, IfErr, IfOk, OnErr, OnOk, Ok, Err};
-ghost use Rattle.std.specs.Prelude.{None, Some, true, false, drop, replicate};
-ghost use Rattle.std.specs.Prelude.{slice_get, slice_index_or, slice_set, vec_len};
+ghost use Rattle.std.specs.Prelude.{◌≡◌, ◌<◌, ◌≤◌, IfErr, IfOk, OnErr, OnOk, Ok, Err};
+ghost use Rattle.std.specs.Prelude.{None, Some, true, false, drop};
 ghost use Rattle.lay_point.specs.Memory.{IsAnswer};
-ghost use Rattle.lay_items.specs.Layout.{IsRising, written};
-ghost use Rattle.lay_items.specs.Sound.{IsSound};
-ghost use Rattle.undo_book.specs.declared.log.Entry.{Entry as Kept};
 ghost use Rattle.undo_book.specs.Effects.{Run};
-ghost use Rattle.undo_book.specs.Records.{afters, befores};
 ghost use Rattle.undo_book.specs.History.{replay};
 ghost use Rattle.undo_book.specs.Steps.{Takes, TakesWork, after_commit, after_open, after_undo};
-ghost use Rattle.undo_book.specs.Steps.{answered_state, commit_step, fresh, is_log_full, is_own};
-ghost use Rattle.undo_book.specs.Steps.{is_pending, logged, open_step, opening, place_of};
-ghost use Rattle.undo_book.specs.Steps.{refusal_of, refused, state_of, undo_step, undone, unused};
-ghost use Rattle.undo_book.specs.Steps.{without};
+ghost use Rattle.undo_book.specs.Steps.{commit_step, fresh, is_log_full, is_own, logged};
+ghost use Rattle.undo_book.specs.Steps.{open_step, opening, place_of, refusal_of, refused};
+ghost use Rattle.undo_book.specs.Steps.{state_of, undo_step, without};
 ghost use Rattle.undo_book.specs.Transactions.{Moved};
 
-use crate::commit::CommitRefusal;
-use crate::log::{Answer, BookFault, Call, Entry, Logged};
+use crate::commit::{CommitRefusal, refused};
+use crate::log::{Answer, BookFault, Call, Entry, Logged, MAX_CALLS, unmark};
 use crate::places::undo_place;
-use crate::session::{Pending, SessionState};
-use crate::txn_work::{Record, TxnId, Work, afters, befores};
+use crate::session::{
+    MAX_TRANSACTIONS, Pending, SessionState, answer, is_pending, unused_sessions,
+};
+use crate::txn_work::{TxnId, Work, laid, taken_back};
 use lay_items::Snapshot;
 use lay_point::NoMemory;
 use std::alloc::Global;
 use std::marker::Model;
-
-/// The most calls that a book logs.
-pub const MAX_CALLS: usize = 1 << 20;
-
-/// The most transactions of a session.
-pub const MAX_TRANSACTIONS: u16 = 65_535;
-
-/// The most sessions.
-const SESSIONS: usize = 64;
 
 /// A history of a layout. Contracts see the record of its base, its layout, its log, its committed
 /// transactions and what it keeps of the sessions. It keeps in its type that the layout is that of
@@ -308,82 +295,4 @@ impl Book {
         self.layout = layout;
         Ok(())
     }
-}
-
-/// A refused commit, with its work.
-fn refused(fault: BookFault, work: Work) -> CommitRefusal
-    ensures { result ≡ refused fault work }
-{
-    CommitRefusal {
-        fault,
-        work: Some(work),
-    }
-}
-
-/// Whether the work is the pending one, and agrees with the layout at its open on what it touched.
-fn is_pending(pending: &Option<Pending>, work: &Work) -> bool
-    ensures { result ≡ is_pending pending.now work.now }
-{
-    match pending {
-        None => false,
-        Some(pending) => {
-            pending.place == work.opened()
-                && work
-                    .footprint()
-                    .agrees(pending.snapshot.version(), work.snapshot().version())
-        }
-    }
-}
-
-/// The layout with these records laid on it.
-fn laid(alloc: Global, layout: &Snapshot, records: &[Record]) -> Result<Snapshot, NoMemory>
-    requires rising { IsRising (afters records.now) }
-    requires sound { IsSound (written layout.now (afters records.now)) }
-    ensures { IfOk result (λ new. new ≡ written layout.now (afters records.now)) }
-{
-    let writes = afters(alloc, records)?;
-    Snapshot::of(alloc, layout.version().with(&writes)?)
-}
-
-/// The layout with these records taken back from it.
-fn taken_back(alloc: Global, layout: &Snapshot, records: &[Record]) -> Result<Snapshot, NoMemory>
-    requires rising { IsRising (befores records.now) }
-    requires sound { IsSound (written layout.now (befores records.now)) }
-    ensures { IfOk result (λ new. new ≡ written layout.now (befores records.now)) }
-{
-    let writes = befores(alloc, records)?;
-    Snapshot::of(alloc, layout.version().with(&writes)?)
-}
-
-/// Takes away the mark of the transaction at this place.
-fn unmark(entries: &mut Vec<Entry>, place: usize)
-    requires { place < vec_len entries.old }
-    ensures { (entry : Kept) → slice_get entries.old.items place ≡ Some entry
-        → entries.new.items ≡ slice_set entries.old.items place (undone entry) }
-{
-    entries[place].live = false;
-}
-
-/// The session's transaction is answered.
-fn answer(sessions: &mut Vec<SessionState>, session: u8)
-    requires low { 1 ≤ session }
-    requires high { session ≤ vec_len sessions.old }
-    ensures { sessions.new.items ≡ slice_set sessions.old.items (session - 1)
-        (answered_state (slice_index_or sessions.old.items (session - 1) unused)) }
-{
-    sessions[usize::from(session) - 1].pending = None;
-}
-
-/// What is kept of 64 sessions that never opened a transaction.
-fn unused_sessions(alloc: Global) -> Result<Vec<SessionState>, NoMemory>
-    ensures { IfOk result (λ sessions. sessions.items ≡ replicate 64 unused) }
-{
-    let mut sessions = Vec::with_capacity(alloc, SESSIONS)?;
-    for _ in 0..SESSIONS {
-        sessions.push(SessionState {
-            opens: 0,
-            pending: None,
-        })?;
-    }
-    Ok(sessions)
 }

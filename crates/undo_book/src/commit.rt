@@ -1,4 +1,6 @@
 //! Refused commits.
+ghost use Rattle.std.specs.Prelude.{◌≡◌};
+ghost use Rattle.undo_book.specs.Steps.{refused};
 
 use crate::log::BookFault;
 use crate::txn_work::Work;
@@ -10,4 +12,14 @@ pub struct CommitRefusal {
     pub fault: BookFault,
     /// The work, to be used again.
     pub work: Option<Work>,
+}
+
+/// A refused commit, with its work.
+pub(crate) fn refused(fault: BookFault, work: Work) -> CommitRefusal
+    ensures { result ≡ refused fault work }
+{
+    CommitRefusal {
+        fault,
+        work: Some(work),
+    }
 }

@@ -21,9 +21,10 @@ mod session;
 mod tests;
 mod txn_work;
 
-pub use book::{Book, MAX_CALLS, MAX_TRANSACTIONS};
+pub use book::Book;
 pub use commit::CommitRefusal;
-pub use log::{Answer, BookFault, Call, Entry, Logged};
+pub use log::{Answer, BookFault, Call, Entry, Logged, MAX_CALLS};
+pub use session::MAX_TRANSACTIONS;
 pub use txn_work::{
     CmdFault, Command, Done, Element, Footprint, MAX_COMMANDS, Record, TxnId, Work,
 };

@@ -1,8 +1,14 @@
 //! The log of a book, and the transactions that it tells of.
+ghost use Rattle.std.specs.Prelude.{◌≡◌, ◌<◌, Some, slice_get, slice_set, vec_len};
+ghost use Rattle.undo_book.specs.declared.log.Entry.{Entry as Kept};
+ghost use Rattle.undo_book.specs.Steps.{undone};
 
 use crate::txn_work::{Command, Footprint, Record, TxnId};
 use lay_point::{NoMemory, Sequence};
 use thiserror::Error;
+
+/// The most calls that a book logs.
+pub const MAX_CALLS: usize = 1 << 20;
 
 /// Why a call of a book is refused.
 #[derive(Clone, Copy, Debug, PartialEq, Eq, Error)]
@@ -94,4 +100,13 @@ pub struct Entry {
     pub footprint: Footprint,
     /// Whether it is live, and not undone.
     pub live: bool,
+}
+
+/// Takes away the mark of the transaction at this place.
+pub(crate) fn unmark(entries: &mut Vec<Entry>, place: usize)
+    requires { place < vec_len entries.old }
+    ensures { (entry : Kept) → slice_get entries.old.items place ≡ Some entry
+        → entries.new.items ≡ slice_set entries.old.items place (undone entry) }
+{
+    entries[place].live = false;
 }

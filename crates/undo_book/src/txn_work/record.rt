@@ -1,8 +1,10 @@
-//! What a transaction wrote.
+//! What a transaction wrote, laid on a layout and taken back.
 ghost use Rattle.std.specs.Prelude.{◌≡◌, IfOk, option_copied};
+ghost use Rattle.lay_items.specs.Layout.{IsRising, written};
+ghost use Rattle.lay_items.specs.Sound.{IsSound};
 ghost use Rattle.undo_book.specs.Records.{afters, befores};
 
-use lay_items::{Item, ItemId};
+use lay_items::{Item, ItemId, Snapshot};
 use lay_point::NoMemory;
 use std::alloc::Global;
 
@@ -17,11 +19,36 @@ pub struct Record {
     pub after: Option<Item>,
 }
 
-/// The writes that lay the records on a layout.
-pub(crate) fn afters(
+/// The layout with these records laid on it.
+pub(crate) fn laid(
     alloc: Global,
+    layout: &Snapshot,
     records: &[Record],
-) -> Result<Vec<(ItemId, Option<Item>)>, NoMemory>
+) -> Result<Snapshot, NoMemory>
+    requires rising { IsRising (afters records.now) }
+    requires sound { IsSound (written layout.now (afters records.now)) }
+    ensures { IfOk result (λ new. new ≡ written layout.now (afters records.now)) }
+{
+    let writes = afters(alloc, records)?;
+    Snapshot::of(alloc, layout.version().with(&writes)?)
+}
+
+/// The layout with these records taken back from it.
+pub(crate) fn taken_back(
+    alloc: Global,
+    layout: &Snapshot,
+    records: &[Record],
+) -> Result<Snapshot, NoMemory>
+    requires rising { IsRising (befores records.now) }
+    requires sound { IsSound (written layout.now (befores records.now)) }
+    ensures { IfOk result (λ new. new ≡ written layout.now (befores records.now)) }
+{
+    let writes = befores(alloc, records)?;
+    Snapshot::of(alloc, layout.version().with(&writes)?)
+}
+
+/// The writes that lay the records on a layout.
+fn afters(alloc: Global, records: &[Record]) -> Result<Vec<(ItemId, Option<Item>)>, NoMemory>
     ensures { IfOk result (λ writes. writes.items ≡ afters records.now) }
 {
     let mut writes = Vec::with_capacity(alloc, records.len())?;
@@ -32,10 +59,7 @@ pub(crate) fn afters(
 }
 
 /// The writes that take the records back.
-pub(crate) fn befores(
-    alloc: Global,
-    records: &[Record],
-) -> Result<Vec<(ItemId, Option<Item>)>, NoMemory>
+fn befores(alloc: Global, records: &[Record]) -> Result<Vec<(ItemId, Option<Item>)>, NoMemory>
     ensures { IfOk result (λ writes. writes.items ≡ befores records.now) }
 {
     let mut writes = Vec::with_capacity(alloc, records.len())?;

@@ -1,19 +1,18 @@
 //! Transactions at work on a snapshot.
-ghost use Rattle.std.specs.Prelude.{◌≡◌, ◌<◌, ◌&&◌, [], ◌∷◌, false, IfOk, OnOk, OnErr, Ok};
+ghost use Rattle.std.specs.Prelude.{◌≡◌, ◌<◌, [], false, IfOk, OnOk, OnErr, Ok};
 ghost use Rattle.std.specs.Prelude.{option_copied, vec_len};
 ghost use Rattle.std.specs.Vec.{vec_capacity};
 ghost use Rattle.lay_point.specs.Memory.{IsAnswer};
-ghost use Rattle.lay_point.specs.Points.{is_in_range};
 ghost use Rattle.lay_items.specs.Layout.{item_at};
-ghost use Rattle.undo_book.specs.Effects.{box_fault, box_ring, boxed, done_by, is_full, lower_left};
-ghost use Rattle.undo_book.specs.Effects.{next_id, shape_of, unless_full, upper_right};
+ghost use Rattle.undo_book.specs.Effects.{box_fault, boxed, done_by, is_full, next_id, unless_full};
 ghost use Rattle.undo_book.specs.Elements.{untouched};
 ghost use Rattle.undo_book.specs.Transactions.{IsTransaction, after_command, answer_to, come};
-ghost use Rattle.undo_book.specs.Transactions.{find_record, item_by, recorded, ring_unless};
+ghost use Rattle.undo_book.specs.Transactions.{find_record, item_by, recorded};
 
+use crate::txn_work::box_shape::{box_ring, shape};
 use crate::txn_work::{CmdFault, Command, Done, Element, Footprint, Record, TxnId, copied};
-use lay_items::{Item, ItemId, Rings, Snapshot, Version};
-use lay_point::{CellId, LayerName, NoMemory, Point, Ring, Sequence};
+use lay_items::{Item, ItemId, Snapshot};
+use lay_point::{CellId, LayerName, NoMemory, Point, Sequence};
 use std::alloc::Global;
 use std::marker::Model;
 
@@ -235,72 +234,4 @@ fn record(writes: &mut Vec<Record>, id: ItemId, before: Option<Item>, after: Opt
         let record = Record { id, before, after };
         writes.push(record).unwrap();
     }
-}
-
-/// The ring of a box with these opposite corners, or why it can't be drawn.
-fn box_ring(
-    alloc: Global,
-    version: &Version,
-    cell: CellId,
-    a: Point,
-    b: Point,
-) -> Result<Ring, CmdFault>
-    ensures { result ≡ ring_unless (box_fault version.now cell a b) (box_ring a b) }
-{
-    if !version.is_cell(cell) {
-        return Err(CmdFault::NoCell);
-    }
-    if a.x == b.x || a.y == b.y {
-        return Err(CmdFault::FewPoints);
-    }
-    if !are_in_range(a, b) {
-        return Err(CmdFault::OutOfRange);
-    }
-    Ok(Ring::rectangle(alloc, lower_left(a, b), upper_right(a, b)))
-}
-
-/// Whether both points are in range.
-fn are_in_range(a: Point, b: Point) -> bool
-    ensures { result ≡ (is_in_range a && is_in_range b) }
-{
-    a.is_in_range() && b.is_in_range()
-}
-
-/// The lower left corner of a box with these opposite corners.
-fn lower_left(a: Point, b: Point) -> Point
-    ensures { result ≡ lower_left a b }
-{
-    Point {
-        x: a.x.min(b.x),
-        y: a.y.min(b.y),
-    }
-}
-
-/// The upper right corner of a box with these opposite corners.
-fn upper_right(a: Point, b: Point) -> Point
-    ensures { result ≡ upper_right a b }
-{
-    Point {
-        x: a.x.max(b.x),
-        y: a.y.max(b.y),
-    }
-}
-
-/// The shape of one ring.
-fn shape(alloc: Global, cell: CellId, layer: LayerName, ring: Ring) -> Result<Item, CmdFault>
-    ensures { IsAnswer CmdFault.NoMemory result (Ok (shape_of cell layer ring)) }
-{
-    match one_ring(alloc, ring) {
-        Ok(rings) => Ok(Item::Shape { cell, layer, rings }),
-        Err(_) => Err(CmdFault::NoMemory),
-    }
-}
-
-/// The rings of a shape of one ring.
-fn one_ring(alloc: Global, ring: Ring) -> Result<Rings, NoMemory>
-    ensures { IfOk result (λ rings. rings ≡ ring ∷ []) }
-{
-    let mut rings = Vec::with_capacity(alloc, 1)?;
-    rings.push(ring)?;
-    Rings::new(alloc, rings)
 }

@@ -6,7 +6,7 @@ use Rattle.lay_point.specs.Points.{is_in_range}
 use Rattle.lay_point.specs.Rings.{rectangle}
 use Rattle.undo_book.specs.Effects.{box_fault, lower_left}
 use Rattle.undo_book.proofs.WorkLemmas.{lower_in_range, nothing_against, upper_in_range}
-use Rattle.undo_book.proofs.txn_work.work.box_ring.Goals as goal
+use Rattle.undo_book.proofs.txn_work.box_shape.box_ring.Goals as goal
 
 pub rectangle-requires-clause-low : goal.rectangle-requires-clause-low
 rectangle-requires-clause-low c =
