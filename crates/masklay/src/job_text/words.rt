@@ -5,16 +5,13 @@ ghost use Rattle.masklay.specs.Words.{behind_word, cell_of, coordinate_of, from_
 
 use crate::job_text::lines::place_of;
 use lay_point::CellId;
-use undo_book::TxnId;
+use undo_book::{MAX_TRANSACTIONS, TxnId};
 
 /// The greatest number of a symbol.
 const MAX_SYMBOL: u32 = 999_999_999;
 
 /// The greatest number of a session.
 pub(super) const MAX_SESSION: u32 = 64;
-
-/// The greatest number of a transaction.
-const MAX_TXN: u32 = 65_535;
 
 /// The greatest coordinate.
 const MAX_COORDINATE: u32 = 2_147_483_647;
@@ -165,7 +162,7 @@ pub(super) fn txn_of(word: &[u8]) -> Option<TxnId>
 {
     let dot = place_of(word, b'.')?;
     let session = number_of(MAX_SESSION, &word[..dot])?;
-    let txn = number_of(MAX_TXN, &word[dot + 1..])?;
+    let txn = number_of(u32::from(MAX_TRANSACTIONS), &word[dot + 1..])?;
     Some(TxnId {
         session: session as u8,
         txn: txn as u16,
