@@ -13,7 +13,7 @@ use Rattle.cif_read.specs.declared.command.Command.TheVariants.{Box}
 use Rattle.cif_read.specs.Bytes.{is_blank, is_separator, skip}
 use Rattle.cif_read.specs.Capped.{capped_decimal}
 use Rattle.cif_read.specs.Commands.{and_then, box_of, is_above_written, is_too_big, read_as, within_limits}
-use Rattle.cif_read.specs.Numbers.{◌>>=◌, behind_separator, decimal, digits_at, integer_at, magnitude_at, sign_at, signed_at, spelled_by}
+use Rattle.cif_read.specs.Numbers.{◌>>=◌, behind_separator, digits_value, digits_at, integer_at, magnitude_at, sign_at, signed_at, spelled_by}
 
 abbrev cap : ℕ → ℕ
 cap n = min n 2147483648
@@ -44,36 +44,36 @@ guarded : {B : Type 0} (h : B → B) (b : Bool) (x : B) → cond b (Some (h x)) 
 guarded h true x = refl
 guarded h false x = refl
 
-spelled_by-capped_decimal : (digits behind : List ℕ) → spelled_by capped_decimal digits behind ≡ option_map (with_first cap) (spelled_by decimal digits behind)
+spelled_by-capped_decimal : (digits behind : List ℕ) → spelled_by capped_decimal digits behind ≡ option_map (with_first cap) (spelled_by digits_value digits behind)
 spelled_by-capped_decimal [] behind = refl
 spelled_by-capped_decimal (d ∷ ds) behind = refl
 
-digits_at-capped_decimal : (bytes : List ℕ) → digits_at capped_decimal bytes ≡ option_map (with_first cap) (digits_at decimal bytes)
+digits_at-capped_decimal : (bytes : List ℕ) → digits_at capped_decimal bytes ≡ option_map (with_first cap) (digits_at digits_value bytes)
 unfolding digits_at
 digits_at-capped_decimal bytes = spelled_by-capped_decimal (take_while is_digit bytes) (skip is_digit bytes)
 
-integer_at-capped_decimal : (bytes : List ℕ) → integer_at capped_decimal bytes ≡ option_map (with_first cap) (integer_at decimal bytes)
+integer_at-capped_decimal : (bytes : List ℕ) → integer_at capped_decimal bytes ≡ option_map (with_first cap) (integer_at digits_value bytes)
 unfolding integer_at
 integer_at-capped_decimal bytes = digits_at-capped_decimal (skip is_separator bytes)
 
-magnitude_at-capped_decimal : (negative : Bool) (bytes : List ℕ) → magnitude_at negative capped_decimal bytes ≡ option_map (with_first cap_number) (magnitude_at negative decimal bytes)
+magnitude_at-capped_decimal : (negative : Bool) (bytes : List ℕ) → magnitude_at negative capped_decimal bytes ≡ option_map (with_first cap_number) (magnitude_at negative digits_value bytes)
 unfolding magnitude_at
-magnitude_at-capped_decimal negative bytes = step cap (with_first cap_number) (digits_at decimal bytes) (digits_at capped_decimal bytes) _ _ (digits_at-capped_decimal bytes) (λ f. refl)
+magnitude_at-capped_decimal negative bytes = step cap (with_first cap_number) (digits_at digits_value bytes) (digits_at capped_decimal bytes) _ _ (digits_at-capped_decimal bytes) (λ f. refl)
 
 chosen : {B : Type 0} (b : Bool) (h : B → B) (x y x' y' : Option B) → x ≡ option_map h x' → y ≡ option_map h y' → cond b x y ≡ option_map h (cond b x' y')
 chosen true h x y x' y' e f = e
 chosen false h x y x' y' e f = f
 
-sign_at-capped_decimal : (bytes : List ℕ) → sign_at capped_decimal bytes ≡ option_map (with_first cap_number) (sign_at decimal bytes)
+sign_at-capped_decimal : (bytes : List ℕ) → sign_at capped_decimal bytes ≡ option_map (with_first cap_number) (sign_at digits_value bytes)
 unfolding sign_at
 sign_at-capped_decimal [] = magnitude_at-capped_decimal false []
 sign_at-capped_decimal (b ∷ bs) = chosen (b == 45) (with_first cap_number) _ _ _ _ (magnitude_at-capped_decimal true bs) (magnitude_at-capped_decimal false (b ∷ bs))
 
-signed_at-capped_decimal : (bytes : List ℕ) → signed_at capped_decimal bytes ≡ option_map (with_first cap_number) (signed_at decimal bytes)
+signed_at-capped_decimal : (bytes : List ℕ) → signed_at capped_decimal bytes ≡ option_map (with_first cap_number) (signed_at digits_value bytes)
 unfolding signed_at
 signed_at-capped_decimal bytes = sign_at-capped_decimal (skip is_separator bytes)
 
-box_of-capped_decimal : (bytes : List ℕ) → box_of capped_decimal bytes ≡ option_map cap_box (box_of decimal bytes)
+box_of-capped_decimal : (bytes : List ℕ) → box_of capped_decimal bytes ≡ option_map cap_box (box_of digits_value bytes)
 unfolding box_of
 box_of-capped_decimal bytes =
     step cap cap_box _ _ _ _ (integer_at-capped_decimal bytes) (λ length. plain_step cap_box (behind_separator length.1) _ _ (λ width_part.
@@ -116,6 +116,6 @@ within_limits-cap : (b : BoxNumbers) → within_limits (Box (cap_box b)) ≡ wit
 unfolding within_limits
 within_limits-cap b = rw (is_too_big-cap b) (same_within (is_too_big b) (Ok (Box (cap_box b))) (Ok (Box b)) (λ within. ap (λ (c : BoxNumbers). Ok (Box c)) (cap_box_same b within)))
 
--- the box that is read with capped numbers, within the limits, is the written one within the limits
-pub capped_is_enough : (bytes : List ℕ) → and_then (read_as Box Syntax (box_of capped_decimal bytes)) within_limits ≡ and_then (read_as Box Syntax (box_of decimal bytes)) within_limits
-capped_is_enough bytes = rw (box_of-capped_decimal bytes) (elim (box_of decimal bytes) as (λ o. and_then (read_as Box Syntax (option_map cap_box o)) within_limits ≡ and_then (read_as Box Syntax o) within_limits) [ None ↦ refl | (Some b) ↦ within_limits-cap b ])
+-- the written box within the limits is the one that is read with capped numbers, within the limits
+pub capped_is_enough : (bytes : List ℕ) → and_then (read_as Box Syntax (box_of digits_value bytes)) within_limits ≡ and_then (read_as Box Syntax (box_of capped_decimal bytes)) within_limits
+capped_is_enough bytes = rw (box_of-capped_decimal bytes) (elim (box_of digits_value bytes) as (λ o. and_then (read_as Box Syntax o) within_limits ≡ and_then (read_as Box Syntax (option_map cap_box o)) within_limits) [ None ↦ refl | (Some b) ↦ sym (within_limits-cap b) ])

@@ -17,7 +17,7 @@ use Rattle.cif_read.specs.Boxes.{corners, is_flat}
 use Rattle.cif_read.specs.Commands.{and_then, command_by, within_limits}
 use Rattle.cif_read.specs.Content.{after_box, effect_of, with_box, with_figure, with_rectangle}
 use Rattle.cif_read.specs.Meaning.{after_bytes}
-use Rattle.cif_read.specs.Numbers.{decimal}
+use Rattle.cif_read.specs.Numbers.{digits_value}
 use Rattle.cif_read.proofs.Steps.{from_at_offset, from_read, from_step}
 
 -- how many elements were kept or dropped
@@ -54,5 +54,5 @@ effect_of-count content next (Box b) e = after_box-count content.file content.la
 pub after_bytes-count : (content next : Content) (offset : ℕ) (bytes : List ℕ) → after_bytes content offset bytes ≡ Ok next → counted next.file ≤ counted content.file + 1
 unfolding after_bytes
 after_bytes-count content next offset bytes e =
-    let found = from_step (and_then (command_by decimal bytes) within_limits) (effect_of content) next (from_at_offset offset _ next e) in
+    let found = from_step (and_then (command_by digits_value bytes) within_limits) (effect_of content) next (from_at_offset offset _ next e) in
     effect_of-count content next found.0 found.2

@@ -10,13 +10,13 @@ use Rattle.cif_read.specs.declared.command.BoxNumbers.{BoxNumbers}
 use Rattle.cif_read.specs.declared.command.Command.{Command}
 use Rattle.cif_read.specs.declared.command.Command.TheVariants.{Box, Layer}
 use Rattle.cif_read.specs.Bytes.{is_blank, is_gap, is_separator}
-use Rattle.cif_read.specs.Numbers.{decimal}
+use Rattle.cif_read.specs.Numbers.{digits_value}
 
 -- digit {digit}
 pub record IsDigits (text : List ℕ) (n : ℕ) : Type 0 where
   pub some : 1 ≤ length text
   pub digits : IsTrue (list_all is_digit text)
-  pub value : decimal text ≡ n
+  pub value : digits_value text ≡ n
 
 -- {separator} digit {digit}
 pub record IsInteger (text : List ℕ) (n : ℕ) : Type 0 where

@@ -13,8 +13,8 @@ None >>= f = None
 (Some x) >>= f = f x
 
 -- the number that digits spell
-abbrev pub decimal : List ℕ → ℕ
-decimal digits = fold (λ n d. 10 * n + (d - 48)) 0 digits
+abbrev pub digits_value : List ℕ → ℕ
+digits_value digits = fold (λ n d. 10 * n + (d - 48)) 0 digits
 
 -- digits and what stands behind them, where there are digits; value says what they spell
 abbrev pub spelled_by : (List ℕ → ℕ) → List ℕ → List ℕ → Option (ℕ × List ℕ)

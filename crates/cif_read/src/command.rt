@@ -6,7 +6,7 @@ ghost use Rattle.cif_read.specs.Capped.{capped_decimal};
 ghost use Rattle.cif_read.specs.Commands.{and_then, box_of, command_by, definition_fault, is_above_written, is_too_big, layer_of, read_as, within_limits};
 ghost use Rattle.cif_read.specs.declared.command.Command.TheVariants as CommandVariants;
 ghost use Rattle.cif_read.specs.declared.fault.FaultKind.TheVariants.{Syntax};
-ghost use Rattle.cif_read.specs.Numbers.{decimal};
+ghost use Rattle.cif_read.specs.Numbers.{digits_value};
 ghost use Rattle.cif_read.specs.Views.{Gives};
 
 use crate::bytes::{Class, run_len, skip};
@@ -104,23 +104,16 @@ fn layer_command(bytes: &[u8]) -> Result<Command, FaultKind>
     Ok(Command::Layer(name))
 }
 
-/// The box behind a `B`, its numbers capped before they are tested.
-#[tactic(auto, unfolding(crate::specs::Commands::within_limits))]
-fn capped_box(bytes: &[u8]) -> Result<Command, FaultKind>
-    ensures { result ≡ and_then (read_as CommandVariants.Box Syntax (box_of capped_decimal bytes.now)) within_limits }
+/// The box behind a `B`. Its numbers are capped before they are tested.
+#[tactic(auto, using(crate::proofs::Caps::capped_is_enough), unfolding(crate::specs::Commands::within_limits))]
+fn box_command(bytes: &[u8]) -> Result<Command, FaultKind>
+    ensures { result ≡ and_then (read_as CommandVariants.Box Syntax (box_of digits_value bytes.now)) within_limits }
 {
     let numbers = box_numbers(bytes).ok_or(FaultKind::Syntax)?;
     if is_too_big(numbers) {
         return Err(FaultKind::TooBig);
     }
     Ok(Command::Box(numbers))
-}
-
-/// The box behind a `B`.
-fn box_command(bytes: &[u8]) -> Result<Command, FaultKind>
-    ensures { result ≡ and_then (read_as CommandVariants.Box Syntax (box_of decimal bytes.now)) within_limits }
-{
-    capped_box(bytes)
 }
 
 /// What is wrong with a command that begins with a `D`, behind it and blanks.
@@ -136,7 +129,7 @@ fn definition_fault(bytes: &[u8]) -> FaultKind
 /// The command that the bytes without their semicolon write, or the first fault of it alone.
 #[tactic(auto, unfolding(crate::specs::Commands::command_by))]
 pub fn command_of(bytes: &[u8]) -> Result<Command, FaultKind>
-    ensures { result ≡ and_then (command_by decimal bytes.now) within_limits }
+    ensures { result ≡ and_then (command_by digits_value bytes.now) within_limits }
 {
     match bytes {
         [b'W', ..] => Err(FaultKind::Wire),
