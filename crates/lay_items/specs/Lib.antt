@@ -5,5 +5,6 @@ pub mod Items
 pub mod Layout
 pub mod Same
 pub mod SameLayout
+pub mod SameMap
 pub mod SameSlot
 pub mod Sound

@@ -1,7 +1,6 @@
 -- Equality of rings, items and symbols: the tests, and that they decide. What an `==` answers is such a test.
-use Rattle.std.specs.Prelude.{◌≡◌, ℕ, ◌==◌, List, Option, None, Some, Bool, true, false, ◌&&◌, refl}
+use Rattle.std.specs.Prelude.{◌≡◌, nat_eq, List, Option, None, Some, Bool, true, false, ◌&&◌, refl}
 use Rattle.std.specs.Ordering.{nat_cmp}
-use Rattle.std.specs.FinMap as map
 use Rattle.std.specs.FinMap.{FinMap}
 use Rattle.std.specs.Bool.{Decides}
 use Rattle.std.specs.Cmp.{IsEquivalence, IsPartialEquivalence, decided, partial_equiv_from_equiv}
@@ -14,6 +13,7 @@ use Rattle.lay_point.specs.Same.{cell_eq, cell_eq-Decides, names_eq, points_eq, 
 use Rattle.lay_items.specs.declared.item.Item.{Item}
 use Rattle.lay_items.specs.declared.item.Item.TheVariants.{Shape}
 use Rattle.lay_items.specs.declared.version.CellSlot.{CellSlot}
+use Rattle.lay_items.specs.SameMap.{map_eq, map_eq-Decides}
 use Rattle.lay_items.specs.SameSlot.{slot_eq, slot_eq-Decides}
 
 -- the same rings in the same order
@@ -57,21 +57,9 @@ option_item_eq-Decides None (Some y) = (λ e. cc, λ e. cc)
 option_item_eq-Decides (Some x) None = (λ e. cc, λ e. cc)
 option_item_eq-Decides (Some x) (Some y) = Decides-like (item_eq x y) (λ e. ap Some e) (λ e. cc) (item_eq-Decides x y)
 
--- the same number in the same slot
-abbrev pub symbol_eq : ℕ × CellSlot → ℕ × CellSlot → Bool
-symbol_eq p q = (p.0 == q.0) && slot_eq p.1 q.1
-
-pub symbol_eq-Decides : (p q : ℕ × CellSlot) → Decides (symbol_eq p q) (p ≡ q)
-symbol_eq-Decides p q =
-    Decides-like (symbol_eq p q) (λ both. λ i. (both.0 i, both.1 i)) (λ e. (ap (λ (r : ℕ × CellSlot). r.0) e, ap (λ (r : ℕ × CellSlot). r.1) e))
-    (Decides-and _ _ (Decides-eqb p.0 q.0) (slot_eq-Decides p.1 q.1))
-
 -- the same symbols in the same slots
-unfoldable pub symbols_eq : FinMap nat_cmp CellSlot → FinMap nat_cmp CellSlot → Bool
-symbols_eq m n = pointwise symbol_eq (map.entries m) (map.entries n)
+abbrev pub symbols_eq : FinMap nat_cmp CellSlot → FinMap nat_cmp CellSlot → Bool
+symbols_eq = map_eq nat_eq slot_eq
 
 pub symbols_eq-Decides : (m n : FinMap nat_cmp CellSlot) → Decides (symbols_eq m n) (m ≡ n)
-unfolding symbols_eq
-symbols_eq-Decides m n =
-    Decides-like (symbols_eq m n) (map.same_entries_map m n) (ap map.entries)
-    (slice_eq-Decides symbol_eq-Decides (map.entries m) (map.entries n) (symbols_eq m n) refl)
+symbols_eq-Decides = map_eq-Decides nat_eq slot_eq Decides-eqb slot_eq-Decides

@@ -1,18 +1,16 @@
 -- Equality of ids and layouts: the tests, and that they decide. What an `==` answers is such a test.
-use Rattle.std.specs.Prelude.{◌≡◌, ◌==◌, Bool, ◌&&◌, refl}
-use Rattle.std.specs.FinMap as map
+use Rattle.std.specs.Prelude.{◌≡◌, ◌==◌, Bool, ◌&&◌}
 use Rattle.std.specs.FinMap.{FinMap}
 use Rattle.std.specs.Bool.{Decides}
 use Rattle.std.specs.Cmp.{IsEquivalence, IsPartialEquivalence, decided, partial_equiv_from_equiv}
-use Rattle.std.specs.Cmp.Lexicographic.{pointwise}
 use Rattle.std.proofs.Common.{ap}
 use Rattle.std.proofs.lemmas.Bool.Decides.{Decides-and, Decides-eqb, Decides-like}
-use Rattle.std.proofs.lemmas.Slice.Eq.{slice_eq-Decides}
 use Rattle.lay_items.specs.declared.id.ItemId.{ItemId}
 use Rattle.lay_items.specs.declared.item.Item.{Item}
 use Rattle.lay_items.specs.Ids.{id_cmp}
 use Rattle.lay_items.specs.Layout.{Layout}
 use Rattle.lay_items.specs.Same.{item_eq, item_eq-Decides, symbols_eq, symbols_eq-Decides}
+use Rattle.lay_items.specs.SameMap.{map_eq, map_eq-Decides}
 
 -- the same id
 abbrev pub id_eq : ItemId → ItemId → Bool
@@ -24,24 +22,12 @@ id_eq-Decides a b =
     (λ e. (ap (λ (d : ItemId). d.session) e, (ap (λ (d : ItemId). d.txn) e, ap (λ (d : ItemId). d.seq) e)))
     (Decides-and _ _ (Decides-eqb a.session b.session) (Decides-and _ _ (Decides-eqb a.txn b.txn) (Decides-eqb a.seq b.seq)))
 
--- the same item under the same id
-abbrev pub entry_eq : ItemId × Item → ItemId × Item → Bool
-entry_eq p q = id_eq p.0 q.0 && item_eq p.1 q.1
-
-pub entry_eq-Decides : (p q : ItemId × Item) → Decides (entry_eq p q) (p ≡ q)
-entry_eq-Decides p q =
-    Decides-like (entry_eq p q) (λ both. λ i. (both.0 i, both.1 i)) (λ e. (ap (λ (r : ItemId × Item). r.0) e, ap (λ (r : ItemId × Item). r.1) e))
-    (Decides-and _ _ (id_eq-Decides p.0 q.0) (item_eq-Decides p.1 q.1))
-
 -- the same items under the same ids
-unfoldable pub items_eq : FinMap id_cmp Item → FinMap id_cmp Item → Bool
-items_eq m n = pointwise entry_eq (map.entries m) (map.entries n)
+abbrev pub items_eq : FinMap id_cmp Item → FinMap id_cmp Item → Bool
+items_eq = map_eq id_eq item_eq
 
 pub items_eq-Decides : (m n : FinMap id_cmp Item) → Decides (items_eq m n) (m ≡ n)
-unfolding items_eq
-items_eq-Decides m n =
-    Decides-like (items_eq m n) (map.same_entries_map m n) (ap map.entries)
-    (slice_eq-Decides entry_eq-Decides (map.entries m) (map.entries n) (items_eq m n) refl)
+items_eq-Decides = map_eq-Decides id_eq item_eq id_eq-Decides item_eq-Decides
 
 -- the same symbols in the same slots, and the same items under the same ids
 abbrev pub layout_eq : Layout → Layout → Bool

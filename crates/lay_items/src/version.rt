@@ -3,10 +3,10 @@ ghost use Rattle.std.specs.Prelude.{◌≡◌, IfOk, OnOk, Ok, option_copied};
 ghost use Rattle.std.specs.FinMap as map;
 ghost use Rattle.lay_point.specs.Memory.{IsAnswer};
 ghost use Rattle.lay_items.specs.FromCif.{item_of, layout_of};
-ghost use Rattle.lay_items.specs.Layout.{IsRising, is_cell, item_at, items_of, no_items, symbols_of};
+ghost use Rattle.lay_items.specs.Layout.{IsRising, is_cell, item_at, items_of, no_items};
 ghost use Rattle.lay_items.specs.Layout.{put, put_all, written};
 ghost use Rattle.lay_items.specs.Same.{symbols_eq};
-ghost use Rattle.lay_items.specs.SameLayout.{items_eq};
+ghost use Rattle.lay_items.specs.SameMap.{map_eq};
 
 use crate::id::ItemId;
 use crate::item::{Item, Rings};
@@ -99,7 +99,7 @@ impl Version {
     pub fn has_symbols_of(&self, other: &Version) -> bool
         ensures { result ≡ symbols_eq self.now.symbols other.now.symbols }
     {
-        are_same_symbols(&self.symbols, &other.symbols)
+        are_same(&self.symbols, &other.symbols)
     }
 
     /// The ids and the items, in order of the ids.
@@ -129,7 +129,7 @@ impl PartialEq for Version {
     ghost laws = { layout_eq_partial };
 
     fn eq(&self, other: &Version) -> bool {
-        self.has_symbols_of(other) && are_same_items(&self.items, &other.items)
+        self.has_symbols_of(other) && are_same(&self.items, &other.items)
     }
 }
 
@@ -139,18 +139,12 @@ impl Eq for Version {
     ghost laws = { layout_eq_equiv };
 }
 
-/// Whether two trees have the same symbols in the same slots.
-fn are_same_symbols(symbols: &BTreeMap<u32, CellSlot>, others: &BTreeMap<u32, CellSlot>) -> bool
-    ensures { result ≡ symbols_eq (symbols_of symbols.now.entries) (symbols_of others.now.entries) }
+/// Whether two trees have the same values under the same keys.
+fn are_same<K: Ord, V: PartialEq>(entries: &BTreeMap<K, V>, others: &BTreeMap<K, V>) -> bool
+    ensures { result ≡ map_eq {R = K.cmp} K.eq V.eq
+        (map.from_entries entries.now.entries) (map.from_entries others.now.entries) }
 {
-    symbols.len() == others.len() && symbols == others
-}
-
-/// Whether two trees have the same items under the same ids.
-fn are_same_items(items: &BTreeMap<ItemId, Item>, others: &BTreeMap<ItemId, Item>) -> bool
-    ensures { result ≡ items_eq (items_of items.now.entries) (items_of others.now.entries) }
-{
-    items.len() == others.len() && items == others
+    entries.len() == others.len() && entries == others
 }
 
 /// The version of a text's elements.
