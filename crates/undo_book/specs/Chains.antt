@@ -47,6 +47,7 @@ pub record IsWaiting (layout : Layout) (txn : TxnId) (pending : Pending) : Type 
   pub symbols : pending.snapshot.symbols ≡ layout.symbols
   pub items : (id : ItemId) → IsOf txn id → item_at pending.snapshot id ≡ item_at layout id
 
+-- from a sound base the live transactions lead to the layout, and what is kept of the sessions fits them
 pub record IsHistory (h : History) : Type 0 where
   pub sound : IsSound h.base
   pub chain : Chain h.log h.base h.entries h.layout

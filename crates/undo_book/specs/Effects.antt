@@ -52,9 +52,11 @@ making txn item run = record {
   dones = run.dones ++ Made (next_id txn run) ∷ [];
 }
 
+-- the lower left corner of a box with these opposite corners
 abbrev pub lower_left : Point → Point → Point
 lower_left a b = record { x = int_min a.x b.x; y = int_min a.y b.y }
 
+-- and the upper right one
 abbrev pub upper_right : Point → Point → Point
 upper_right a b = record { x = int_max a.x b.x; y = int_max a.y b.y }
 

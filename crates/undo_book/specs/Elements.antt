@@ -29,17 +29,22 @@ Touched = FinSet element_cmp
 abbrev pub untouched : Touched
 untouched = set.empty
 
+-- an element is that of its item
 pub item_again : (e : Element) → Item (id_of e) ≡ e
 item_again (Item a) = refl
 
+-- an element is stored as its item's id
 abbrev pub coded_element : Coded Element
 coded_element = code_by ItemId coded_id id_of Item item_again
 
+-- and a set of them as their list
 abbrev pub coded_touched : Coded Touched
 coded_touched = set.code coded_element
 
+-- their order is total
 pub elements_total : IsTotalOrder element_cmp
 elements_total = on_total id_of ids_total
 
+-- and elements that it doesn't tell apart are equal
 pub elements_exact : IsAntisymmetric element_cmp
 elements_exact (Item a) (Item b) e = ap Item (ids_exact a b e)

@@ -15,6 +15,8 @@ use Rattle.undo_book.specs.contracts.log.Logged as logged_of
 use Rattle.undo_book.specs.contracts.session.SessionState as session_of
 use Rattle.undo_book.specs.Effects.{Run, after_each, begun}
 
+-- a history: the base, the layout as it is, the logged calls, the committed transactions in the order of
+-- their commits, and what is kept of each session
 pub record History : Type 0 where
   pub base : Layout
   pub layout : Layout
@@ -36,6 +38,7 @@ committed_by Open = None
 committed_by (Commit txn commands) = Some commands
 committed_by (Undo txn) = None
 
+-- the commands of a logged commit
 abbrev pub commands_in : Option Logged → Option (List Command)
 commands_in None = None
 commands_in (Some logged) = committed_by logged.call

@@ -74,6 +74,7 @@ after_open h session =
     let number = (state_of h session).opens + 1 in
     logged (with_state h session (record { opens = number; pending = Some (record { place = length h.log; snapshot = h.layout }) })) session Open (Opened number)
 
+-- what an open is answered and leaves: a full log is told first, then a session without a number left
 abbrev pub open_step : History → ℕ → Result Transaction BookFault × History
 open_step h session =
     if is_log_full h then (Err LogFull, h)
@@ -90,6 +91,7 @@ agree_at l m (Item id) = option_item_eq (item_at l id) (item_at m id)
 abbrev pub agrees : Layout → Layout → Touched → Bool
 agrees l m touched = symbols_eq l.symbols m.symbols && list_all (agree_at l m) (set.items touched)
 
+-- the transaction is the pending one, and what it touched is as its snapshot has it
 abbrev pub is_pending : Option Pending → Transaction → Bool
 is_pending None txn = false
 is_pending (Some pending) txn = (pending.place == txn.opened) && agrees pending.snapshot txn.snapshot txn.footprint
@@ -105,6 +107,7 @@ is_own h txn =
 abbrev pub entry_of : History → Transaction → Entry
 entry_of h txn = record { txn = txn.id; place = length h.log; writes = txn.writes; footprint = txn.footprint; live = true }
 
+-- the transaction is entered as the last of the committed ones
 abbrev pub with_entry : History → Transaction → History
 with_entry h txn = record { base = h.base; layout = h.layout; log = h.log; entries = h.entries ++ entry_of h txn ∷ []; sessions = h.sessions }
 
@@ -116,9 +119,11 @@ answered_state state = record { opens = state.opens; pending = None }
 abbrev pub answered : History → ℕ → History
 answered h session = with_state h session (answered_state (state_of h session))
 
+-- the transaction is live, its session waits no more, the call is logged, and the layout is the new replay
 abbrev pub after_commit : History → Transaction → History
 after_commit h txn = settled (logged (answered (with_entry h txn) txn.id.session) txn.id.session (Commit txn.id txn.commands) Committed)
 
+-- what a commit is answered and leaves: a full log is told first, then a foreign transaction
 abbrev pub commit_step : History → Transaction → Result TxnId BookFault × History
 commit_step h txn =
     if is_log_full h then (Err LogFull, h)
@@ -129,6 +134,7 @@ commit_step h txn =
 abbrev pub refused : BookFault → Transaction → CommitRefusal
 refused fault work = record { fault = fault; work = Some work }
 
+-- the answer of a commit, with the work where it is refused
 abbrev pub handing_back : Result TxnId BookFault → Transaction → Result TxnId CommitRefusal
 handing_back (Ok txn) work = Ok txn
 handing_back (Err fault) work = Err (refused fault work)
@@ -140,6 +146,7 @@ TakesWork old work wanted result new =
 
 -- ---- undo
 
+-- the same name
 abbrev pub txn_eq : TxnId → TxnId → Bool
 txn_eq s t = (s.session == t.session) && (s.txn == t.txn)
 
@@ -153,15 +160,17 @@ abbrev pub first_live : List Entry → Option TxnId
 first_live [] = None
 first_live (entry ∷ entries) = if entry.live then Some entry.txn else first_live entries
 
--- why the first of these transactions can't be undone: in this version, where a later one is live
+-- in this version any later live transaction is in the way
 abbrev pub held_by : Option TxnId → Option BookFault
 held_by None = None
 held_by (Some txn) = Some (Depends txn)
 
+-- why the first of these transactions can't be undone: it isn't there, it isn't live, or a later one is
 abbrev pub refusal_of : List Entry → Option BookFault
 refusal_of [] = Some NoTxn
 refusal_of (entry ∷ later) = if entry.live then held_by (first_live later) else Some NotLive
 
+-- the same of the transaction at a place, where there is one
 abbrev pub refusal_at : List Entry → Option ℕ → Option BookFault
 refusal_at entries None = Some NoTxn
 refusal_at entries (Some place) = refusal_of (drop place entries)
@@ -185,12 +194,15 @@ unmarked txn (entry ∷ entries) =
 abbrev pub without : History → TxnId → History
 without h txn = record { base = h.base; layout = h.layout; log = h.log; entries = unmarked txn h.entries; sessions = h.sessions }
 
+-- the transaction's mark is gone, the call is logged, and the layout is the new replay
 abbrev pub after_undo : History → ℕ → TxnId → History
 after_undo h session txn = settled (logged (without h txn) session (Undo txn) Undone)
 
+-- what an undo with room in the log is answered and leaves: a refusal is logged, and changes nothing else
 abbrev pub undo_unless : Option BookFault → History → ℕ → TxnId → Result (Unit {0}) BookFault × History
 undo_unless (Some fault) h session txn = (Err fault, logged h session (Undo txn) (Refused fault))
 undo_unless None h session txn = (Ok tt, after_undo h session txn)
 
+-- what an undo is answered and leaves: a full log is told first
 abbrev pub undo_step : History → ℕ → TxnId → Result (Unit {0}) BookFault × History
 undo_step h session txn = if is_log_full h then (Err LogFull, h) else undo_unless (undo_refusal h txn) h session txn

@@ -95,6 +95,7 @@ with_made txn item = recorded txn.writes (next_id txn.id (come txn)) (item_at tx
 abbrev pub written_by : Transaction → Command → List Record
 written_by txn (Box cell layer a b) = with_made txn (boxed cell layer a b)
 
+-- the transaction after an accepted command, or as it was
 abbrev pub after_effect : Transaction → Command → Result Run CmdFault → Transaction
 after_effect txn command (Ok next) = with_command txn command next (written_by txn command)
 after_effect txn command (Err fault) = txn

@@ -1,4 +1,5 @@
-//! The history of a layout: transactions that commit, and any of them undone by its name.
+//! The history of a layout: transactions that commit, and are undone by their names. In this version
+//! an undo is refused while any later transaction is live.
 //!
 //! A session opens a transaction and gets a `Work` on a snapshot of the layout. Commands run on the
 //! work alone. A commit hands the work to the `Book`, which keeps what the transaction wrote, each
