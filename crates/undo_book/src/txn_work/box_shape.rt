@@ -68,10 +68,8 @@ pub(crate) fn shape(
 ) -> Result<Item, CmdFault>
     ensures { IsAnswer CmdFault.NoMemory result (Ok (shape_of cell layer ring)) }
 {
-    match one_ring(alloc, ring) {
-        Ok(rings) => Ok(Item::Shape { cell, layer, rings }),
-        Err(_) => Err(CmdFault::NoMemory),
-    }
+    let rings = one_ring(alloc, ring)?;
+    Ok(Item::Shape { cell, layer, rings })
 }
 
 /// The rings of a shape of one ring.

@@ -74,3 +74,14 @@ pub enum CmdFault {
     #[error("out of memory")]
     NoMemory,
 }
+
+impl From<NoMemory> for CmdFault {
+    ghost use Rattle.std.specs.Prelude.{◌≡◌};
+    ghost use Rattle.undo_book.specs.declared.txn_work.command.CmdFault.TheVariants.{NoMemory as no_memory};
+
+    ghost from_gives = { λ _ e. e ≡ no_memory };
+
+    fn from(_refused: NoMemory) -> CmdFault {
+        CmdFault::NoMemory
+    }
+}

@@ -145,10 +145,7 @@ impl Work {
         ensures transaction { IsTransaction self.new }
     {
         let item = self.item_by(alloc, &command)?;
-        match self.make(item, command) {
-            Ok(done) => Ok(done),
-            Err(_) => Err(CmdFault::NoMemory),
-        }
+        Ok(self.make(item, command)?)
     }
 
     /// The item that the command is to make, or why it is refused.

@@ -12,8 +12,8 @@ returns-in_err-item-clause-answer c =
       | inr refused ↦ inr (p.1 ∙ ap Err p.2 ∙ sym (refused_so c.args.self.now c.args.command c.in_err-item.field-0.0 (sym refused)))
     ]
 
-pub returns-in-Ok-clause-answer : goal.returns-in-Ok-clause-answer
-returns-in-Ok-clause-answer c = elim c.in_ok-item.ensures.answer [
+pub returns-clause-answer : goal.returns-clause-answer
+returns-clause-answer c = elim c.in_ok-item.ensures.answer [
   | inl memory ↦ absurd cc
-  | inr accepted ↦ inr (ap Ok c.in-Ok.ensures.done ∙ sym (answered_so c.args.self.now c.args.command c.in_ok-item.item (sym accepted)))
+  | inr accepted ↦ inr (ap Ok c.in_ok-make.ensures.done ∙ sym (answered_so c.args.self.now c.args.command c.in_ok-item.item (sym accepted)))
 ]
