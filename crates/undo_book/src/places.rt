@@ -45,10 +45,7 @@ fn refusal_of(entries: &[Entry]) -> Option<BookFault>
     if !entry.live {
         return Some(BookFault::NotLive);
     }
-    match first_live(later) {
-        None => None,
-        Some(txn) => Some(BookFault::Depends(txn)),
-    }
+    first_live(later).map(BookFault::Depends)
 }
 
 /// The first live one of these transactions.
