@@ -4,6 +4,7 @@ use Rattle.std.specs.List.{list_all, position}
 use Rattle.std.specs.Str.{bytes_eq}
 use Rattle.lay_point.specs.declared.cell_id.CellId.{CellId}
 use Rattle.lay_point.specs.declared.cell_id.CellId.TheVariants.{Top, Symbol}
+use Rattle.lay_point.specs.Names.{is_digit}
 use Rattle.undo_book.specs.declared.txn_work.command.TxnId.{TxnId}
 
 -- the step that follows takes what this one gives, and nothing follows `None`
@@ -34,9 +35,6 @@ behind_word line = drop (word_len (from_word line)) (from_word line)
 -- whether there is no word in the line
 abbrev pub is_blank : List ℕ → Bool
 is_blank line = list_all is_separator line
-
-abbrev pub is_digit : ℕ → Bool
-is_digit b = nat_le 48 b && nat_le b 57
 
 -- a digit or more and nothing else
 abbrev pub is_number : List ℕ → Bool

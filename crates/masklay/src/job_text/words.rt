@@ -1,7 +1,8 @@
 //! Words of a line, and what they spell.
 ghost use Rattle.std.specs.Prelude.{◌≡◌, ◌≤◌, neg_ℤ, length, not, pos, ◌<◌, IfSome, IsTrue};
 ghost use Rattle.std.specs.List.{list_all, position};
-ghost use Rattle.masklay.specs.Words.{behind_word, cell_of, coordinate_of, from_word, is_blank, is_digit, is_negative, is_number, is_separator, number_of, txn_of, value_up_to, word};
+ghost use Rattle.lay_point.specs.Names.{is_digit};
+ghost use Rattle.masklay.specs.Words.{behind_word, cell_of, coordinate_of, from_word, is_blank, is_negative, is_number, is_separator, number_of, txn_of, value_up_to, word};
 
 use crate::job_text::lines::place_of;
 use lay_point::CellId;

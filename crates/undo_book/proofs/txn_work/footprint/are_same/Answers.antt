@@ -1,7 +1,7 @@
 use Rattle.std.proofs.Common.{◌≡◌, false, length, nat_eq, ◌∙◌, sym, arith}
 use Rattle.std.proofs.lemmas.Bool.Decides.{nat_tests}
 use Rattle.lay_items.proofs.SameLemmas.{of_lengths}
-use Rattle.undo_book.specs.SameTouched.{element_eq-Decides}
+use Rattle.undo_book.specs.SameTouched.{element_eq}
 use Rattle.undo_book.proofs.SameSets.{same_answer, sorted_keys, touched_eq-of}
 use Rattle.undo_book.proofs.txn_work.footprint.are_same.Goals as goal
 
@@ -17,4 +17,4 @@ returns-else-len c =
     let ls = c.args.others.now.keys in
     let lens : nat_eq (length ks) (length ls) ≡ false = grind (arith, nat_tests) in
     let answer : nat_eq c.len.result c.len-2.result ≡ false = grind (arith, nat_tests) in
-    answer ∙ sym (of_lengths element_eq-Decides ks ls lens) ∙ touched_eq-of ks ls (sorted_keys ks c.len.ensures.ordered) (sorted_keys ls c.len-2.ensures.ordered)
+    answer ∙ sym (of_lengths element_eq ks ls lens) ∙ touched_eq-of ks ls (sorted_keys ks c.len.ensures.ordered) (sorted_keys ls c.len-2.ensures.ordered)
