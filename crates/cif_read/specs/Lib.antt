@@ -9,4 +9,5 @@ pub mod Faults
 pub mod Grammar
 pub mod Meaning
 pub mod Numbers
+pub mod Same
 pub mod Views

@@ -16,6 +16,32 @@ pub enum Figure {
     },
 }
 
+impl PartialEq for Figure {
+    ghost use Rattle.cif_read.specs.Same.{figure_eq, figure_eq_partial};
+
+    ghost eq = { figure_eq };
+
+    ghost laws = { figure_eq_partial };
+
+    fn eq(&self, other: &Figure) -> bool {
+        match (self, other) {
+            (
+                Figure::Polygon { layer, ring },
+                Figure::Polygon {
+                    layer: other_layer,
+                    ring: other_ring,
+                },
+            ) => layer == other_layer && ring == other_ring,
+        }
+    }
+}
+
+impl Eq for Figure {
+    ghost use Rattle.cif_read.specs.Same.{figure_eq_equiv};
+
+    ghost laws = { figure_eq_equiv };
+}
+
 /// A kept element of a text.
 #[derive(Debug, Drop)]
 pub struct Element {
@@ -23,6 +49,24 @@ pub struct Element {
     pub number: u32,
     /// What it draws.
     pub figure: Figure,
+}
+
+impl PartialEq for Element {
+    ghost use Rattle.cif_read.specs.Same.{element_eq, element_eq_partial};
+
+    ghost eq = { element_eq };
+
+    ghost laws = { element_eq_partial };
+
+    fn eq(&self, other: &Element) -> bool {
+        self.number == other.number && self.figure == other.figure
+    }
+}
+
+impl Eq for Element {
+    ghost use Rattle.cif_read.specs.Same.{element_eq_equiv};
+
+    ghost laws = { element_eq_equiv };
 }
 
 /// Elements numbered 1, 2, .. in order, each figure's points a ring. Contracts see the list of them.
@@ -84,4 +128,22 @@ impl Elements {
         let Elements { items } = self;
         items
     }
+}
+
+impl PartialEq for Elements {
+    ghost use Rattle.cif_read.specs.Same.{elements_eq, elements_eq_partial};
+
+    ghost eq = { elements_eq };
+
+    ghost laws = { elements_eq_partial };
+
+    fn eq(&self, other: &Elements) -> bool {
+        self.as_slice() == other.as_slice()
+    }
+}
+
+impl Eq for Elements {
+    ghost use Rattle.cif_read.specs.Same.{elements_eq_equiv};
+
+    ghost laws = { elements_eq_equiv };
 }

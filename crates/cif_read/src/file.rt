@@ -6,7 +6,7 @@ use crate::element::Elements;
 pub const MAX_TEXT: usize = 16_777_216;
 
 /// The meaning of a text.
-#[derive(Debug, Drop)]
+#[derive(Debug, Drop, PartialEq, Eq)]
 pub struct CifFile {
     /// What stands outside all symbols.
     pub top: Elements,

@@ -134,6 +134,32 @@ fn counts_boxes_of_no_area(rt: HostRuntime) -> Result<(), Fail> {
     Ok(())
 }
 
+// Could catch equality that forgets the layer, the ring, the number or what was dropped in its definition.
+#[test]
+fn files_are_equal_where_all_is_equal(rt: HostRuntime) -> Result<(), Fail> {
+    let alloc = rt.alloc();
+    let file = read(alloc, b"L A; B 4 2 0 0; E")?;
+    assert!(rt; file == read(alloc, b"L A; B 4 2 0 0; E")?);
+    assert!(rt; file == read(alloc, b"L B; LA;; Box 4,2 -0,0; E")?);
+    let others: [&[u8]; 5] = [
+        b"E",
+        b"L B; B 4 2 0 0; E",
+        b"L A; B 2 4 0 0; E",
+        b"L A; B 4 2 0 0; B 4 2 0 0; E",
+        b"L A; B 4 2 0 0; B 0 2 0 0; E",
+    ];
+    for text in others {
+        let other = read(alloc, text)?;
+        assert!(rt; file != other, "{other:?}");
+    }
+    let twice = read(alloc, b"L A; B 4 2 0 0; B 4 2 0 0; E")?.top.into_vec();
+    let [first, second] = twice.as_slice() else {
+        return Err("two elements are kept".into());
+    };
+    assert!(rt; first.figure == second.figure && first != second);
+    Ok(())
+}
+
 // Could catch a limit that is one off, or that comes after other faults.
 #[test]
 fn refuses_a_text_that_is_too_long(rt: HostRuntime) -> Result<(), Fail> {
