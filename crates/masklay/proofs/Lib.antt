@@ -1,3 +1,4 @@
+mod ArgumentLemmas
 mod JobLemmas
 mod LineLemmas
 mod MachineLemmas

@@ -16,7 +16,7 @@ use Rattle.undo_book.specs.Effects.{Run, effect}
 use Rattle.undo_book.specs.History.{History}
 use Rattle.undo_book.specs.declared.log.Answer.TheVariants.{Refused}
 use Rattle.undo_book.specs.declared.log.Call.TheVariants as calls
-use Rattle.undo_book.specs.Steps.{after_commit, after_open, after_undo, commit_step, fresh, logged, opening, first_live, held_by, is_log_full, is_own, open_step, place_of, refusal_at, refusal_of, state_of, undo_refusal, undo_step, undo_unless}
+use Rattle.undo_book.specs.Steps.{after_commit, after_open, after_undo, fresh, logged, opening, first_live, held_by, is_log_full, is_own, place_of, refusal_at, refusal_of, state_of, undo_refusal, undo_unless}
 use Rattle.undo_book.specs.Transactions.{Transaction, after_command, after_effect, answer_to, come}
 use Rattle.masklay.specs.declared.session_core.Reply.{Reply}
 use Rattle.masklay.specs.declared.session_core.Step.{Step}

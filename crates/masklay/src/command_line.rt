@@ -1,5 +1,7 @@
 //! The command line.
-ghost use Rattle.std.specs.Prelude.{◌≡◌, ◌≤◌, IfOk, OnOk, length};
+ghost use Rattle.std.specs.Prelude.{◌≡◌, ◌≤◌, ◌⊎◌, IfErr, IfOk, OnErr, OnOk, length, map, string_bytes};
+ghost use Rattle.clap.specs.Words.{app_of, kind_of};
+ghost use Rattle.masklay.specs.Arguments.{EndsBy, Tells, masklay, status_of};
 
 use crate::program::{Options, Status};
 use clap::error::ErrorKind;
@@ -21,7 +23,9 @@ pub fn options(rt: &HostRuntime) -> Result<Options, Status> {
 }
 
 /// The program's name and what it does.
-fn command<'a>(alloc: Global) -> Command<'a> {
+fn command<'a>(alloc: Global) -> Command<'a>
+    ensures { app_of result ≡ masklay }
+{
     Command::new(alloc, "masklay").about(
         "Reads a job from standard input: a CIF text and steps on its layout. Writes the replies, their order and the CIF text of the layout that they lead to.",
     )
@@ -29,8 +33,10 @@ fn command<'a>(alloc: Global) -> Command<'a> {
 
 /// The options that the words say, of which the first names the program.
 fn options_of(rt: &HostRuntime, words: &[String]) -> Result<Options, Status>
-    // There is no option yet, so any argument ends the program.
-    ensures { IfOk result (λ _. length words.now ≤ 1) }
+    // There is no option yet, so any argument ends the program,
+    ensures ok { IfOk result (λ _. length words.now ≤ 1) }
+    // with the status of help where the first asks for it, and else with that of a mistake.
+    ensures err { IfErr result (EndsBy (map string_bytes words.now)) }
 {
     match command(rt.alloc()).try_get_matches_from(words) {
         Ok(_) if words.len() <= 1 => Ok(Options {}),
@@ -41,27 +47,39 @@ fn options_of(rt: &HostRuntime, words: &[String]) -> Result<Options, Status>
 }
 
 /// Prints why the command line is refused, where clap doesn't, and answers the status.
-fn refused(rt: &HostRuntime, why: &str) -> Status {
+fn refused(rt: &HostRuntime, why: &str) -> Status
+    ensures { Tells Status.CommandLine result }
+{
     let said = eprintln!(rt; "error: {why}\n\nFor more information, try '--help'.");
     ended(said, Status::CommandLine)
 }
 
 /// Prints the text of clap's error, and answers the status.
-fn told(rt: &HostRuntime, error: &Error) -> Status {
-    if error.kind() == ErrorKind::OutOfMemory {
-        return Status::Memory;
+fn told(rt: &HostRuntime, error: &Error) -> Status
+    ensures tells { Tells (status_of (kind_of error.now)) result }
+    ensures memory { kind_of error.now ≡ ErrorKind.OutOfMemory → result ≡ Status.Memory }
+{
+    match status_by(error.kind()) {
+        Status::Memory => Status::Memory,
+        status => ended(error.print(rt), status),
     }
-    let status = if error.use_stderr() {
-        Status::CommandLine
-    } else {
-        Status::Done
-    };
-    ended(error.print(rt), status)
+}
+
+/// The status to which an error of this kind leads.
+fn status_by(kind: ErrorKind) -> Status
+    ensures { result ≡ status_of kind }
+{
+    match kind {
+        ErrorKind::OutOfMemory => Status::Memory,
+        ErrorKind::DisplayHelp | ErrorKind::DisplayVersion => Status::Done,
+        _ => Status::CommandLine,
+    }
 }
 
 /// The status, or that of why it couldn't be said.
 fn ended(said: io::Result<()>, status: Status) -> Status
-    ensures { OnOk said (result ≡ status) }
+    ensures ok { OnOk said (result ≡ status) }
+    ensures err { OnErr said ((result ≡ Status.Memory) ⊎ (result ≡ Status.Device)) }
 {
     match said {
         Ok(()) => status,
