@@ -71,7 +71,7 @@ impl Eq for Rings {
 /// What a layout holds under an id.
 #[derive(Debug, Drop)]
 pub enum Item {
-    /// A shape: the points that its rings hold by crossing parity.
+    /// A shape, drawn by rings on a layer of a cell.
     Shape {
         /// The cell in which it stands.
         cell: CellId,
@@ -92,8 +92,9 @@ impl Item {
         }
     }
 
-    /// An equal item. The rings are shared, not copied.
-    pub fn copy(&self) -> Result<Item, NoMemory>
+    /// An equal item. The rings are shared, not copied. The allocator is unused: each public call
+    /// that can answer `NoMemory` takes one.
+    pub fn copy(&self, _alloc: Global) -> Result<Item, NoMemory>
         ensures { IsAnswer (record {}) result (Ok self.now) }
     {
         Ok(self.clone()?)

@@ -54,8 +54,9 @@ impl Snapshot {
         Ok(Snapshot { version })
     }
 
-    /// One more owner of the same layout.
-    pub fn share(&self) -> Result<Snapshot, NoMemory>
+    /// One more owner of the same layout. The allocator is unused: each public call that can answer
+    /// `NoMemory` takes one.
+    pub fn share(&self, _alloc: Global) -> Result<Snapshot, NoMemory>
         ensures { IsAnswer (record {}) result (Ok self.now) }
     {
         let version = Arc::try_clone(&self.version)?;

@@ -44,7 +44,10 @@ fn a_text_gives_its_elements_in_order_to_the_top_cell(rt: HostRuntime) -> Result
     let second = square(alloc, CellId::Top, b"B", 4)?;
     for (seq, want) in [(0, None), (1, Some(&first)), (2, Some(&second)), (3, None)] {
         assert!(rt; taken.item(id(seq)) == want, "item {seq}");
-        assert!(rt; taken.share()?.item(id(seq)) == want, "item {seq}, shared");
+        assert!(rt;
+            taken.share(alloc)?.item(id(seq)) == want,
+            "item {seq}, shared"
+        );
     }
     let mut items = taken.items(CellId::Top);
     assert!(rt; items.next() == Some((id(1), &first)));
@@ -73,13 +76,13 @@ fn a_version_has_what_its_writes_leave(rt: HostRuntime) -> Result<(), Fail> {
         (id(2), Some(square(alloc, symbol, b"B", 2)?)),
         (id(3), Some(square(alloc, CellId::Top, b"C", 3)?)),
     ];
-    let before = Version::new(alloc).with(&old)?;
+    let before = Version::new(alloc).with(alloc, &old)?;
     let new = [
         (id(1), Some(square(alloc, symbol, b"Z", 9)?)),
         (id(2), None),
         (made, Some(square(alloc, CellId::Top, b"D", 4)?)),
     ];
-    let after = before.with(&new)?;
+    let after = before.with(alloc, &new)?;
     let want = [
         (id(1), square(alloc, symbol, b"Z", 9)?),
         (id(3), square(alloc, CellId::Top, b"C", 3)?),
@@ -90,23 +93,23 @@ fn a_version_has_what_its_writes_leave(rt: HostRuntime) -> Result<(), Fail> {
         assert!(rt; items.next() == Some((id, item)), "{id:?}");
     }
     assert!(rt; items.next().is_none());
-    assert!(rt; after != before && before.with(&[])? == before);
+    assert!(rt; after != before && before.with(alloc, &[])? == before);
     Ok(())
 }
 
-// Could catch items that go with the first of their owners, and calls that never succeed: no clause
-// says that what is shared is kept in memory for the last owner.
+// Could catch calls that never succeed, and a fault of the compilers or of what the library states, by
+// which shared items go with the first of their owners.
 #[test]
 fn a_snapshot_answers_as_before(rt: HostRuntime) -> Result<(), Fail> {
     let alloc = rt.alloc();
     let taken = snapshot(alloc, b"L A; B 2 2 0 0; E")?;
     let first = square(alloc, CellId::Top, b"A", 2)?;
-    let kept = taken.share()?;
-    let without = kept.version().with(&[(id(1), None)])?;
+    let kept = taken.share(alloc)?;
+    let without = kept.version().with(alloc, &[(id(1), None)])?;
     drop(taken);
     assert!(rt; without.item(id(1)).is_none() && without == Version::new(alloc));
     assert!(rt; kept.item(id(1)) == Some(&first) && kept.version() != &without);
-    let again = Snapshot::of(alloc, kept.version().with(&[])?)?;
+    let again = Snapshot::of(alloc, kept.version().with(alloc, &[])?)?;
     drop(kept);
     assert!(rt; again.item(id(1)) == Some(&first));
     assert!(rt; again == snapshot(alloc, b"L A; B 2 2 0 0; E")?);
@@ -119,7 +122,7 @@ fn a_snapshot_answers_as_before(rt: HostRuntime) -> Result<(), Fail> {
 fn items_are_equal_where_all_is_equal(rt: HostRuntime) -> Result<(), Fail> {
     let alloc = rt.alloc();
     let item = square(alloc, CellId::Top, b"A", 1)?;
-    assert!(rt; item.copy()? == item && item.cell() == CellId::Top);
+    assert!(rt; item.copy(alloc)? == item && item.cell() == CellId::Top);
     for other in [
         square(alloc, CellId::Symbol(0), b"A", 1)?,
         square(alloc, CellId::Top, b"B", 1)?,

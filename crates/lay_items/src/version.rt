@@ -110,8 +110,13 @@ impl Version {
     }
 
     /// The layout after these writes, each an id and the item that stands under it from then on, or
-    /// none.
-    pub fn with(&self, writes: &[(ItemId, Option<Item>)]) -> Result<Version, NoMemory>
+    /// none. The allocator is unused, as the maps have their own: each public call that can answer
+    /// `NoMemory` takes one.
+    pub fn with(
+        &self,
+        _alloc: Global,
+        writes: &[(ItemId, Option<Item>)],
+    ) -> Result<Version, NoMemory>
         requires { IsRising writes.now }
         ensures { IsAnswer (record {}) result (Ok (written self.now writes.now)) }
     {

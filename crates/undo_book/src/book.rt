@@ -53,7 +53,7 @@ impl Book {
     pub fn new(alloc: Global, base: Snapshot) -> Result<Book, NoMemory>
         ensures { IsAnswer (record {}) result (Ok (fresh base)) }
     {
-        let layout = base.share()?;
+        let layout = base.share(alloc)?;
         Ok(Book {
             base,
             layout,
@@ -153,8 +153,8 @@ impl Book {
     {
         let txn = self.opens(session) + 1;
         let place = self.log.len() as u32;
-        let given = self.layout.share()?;
-        let snapshot = self.layout.share()?;
+        let given = self.layout.share(alloc)?;
+        let snapshot = self.layout.share(alloc)?;
         self.log.reserve(1)?;
         self.sessions[usize::from(session) - 1] = SessionState {
             opens: txn,
@@ -171,7 +171,7 @@ impl Book {
 
     /// Commits a work: its transaction is live, and the last one. Refused, with the work handed
     /// back, as `LogFull`, then as `Foreign` where the work isn't the one that its session opened
-    /// last in this book and that was not answered, or doesn't fit the layout at its open. Any
+    /// last in this book and that is not committed yet, or doesn't fit the layout at its open. Any
     /// answer but `LogFull` can give way to `NoMemory`. A refusal changes nothing and isn't logged.
     pub fn commit(&mut self, alloc: Global, work: Work) -> Result<TxnId, CommitRefusal>
         ensures step { TakesWork self.old work (commit_step self.old work) result self.new }
@@ -192,7 +192,7 @@ impl Book {
         }
     }
 
-    /// Whether the work is the one that its session opened last and that was not answered, and the
+    /// Whether the work is the one that its session opened last and that is not committed yet, and the
     /// layout at its open is as its snapshot has it on what it touched.
     fn is_own(&self, work: &Work) -> bool
         ensures { result ≡ is_own self.now work.now }

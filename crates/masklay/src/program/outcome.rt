@@ -109,7 +109,7 @@ fn finish_steps(alloc: Global, base: Snapshot, script: Sequence<Step>) -> Result
     }
     let order = order_of(alloc, machine.book().log(), &replies)?;
     Ok(Finished {
-        layout: machine.book().snapshot().share()?,
+        layout: machine.book().snapshot().share(alloc)?,
         replies: Sequence::from_vec(replies),
         order: Sequence::from_vec(order),
     })

@@ -106,7 +106,7 @@ fn foreign_works(alloc: Global, book: &mut Book) -> Result<Vec<Work>, Fail> {
     let of_another_session = other.open(alloc, 2)?;
     commit_box(alloc, &mut other, 1, 1)?;
     commit_box(alloc, &mut other, 1, 1)?;
-    let on_another_layout = Work::new(alloc, other.snapshot().share()?, name(1, 2), 1);
+    let on_another_layout = Work::new(alloc, other.snapshot().share(alloc)?, name(1, 2), 1);
     let mut works = vec![in alloc; given_up, of_another_session, on_another_layout]?;
     for (txn, opened) in [
         (answered, 2),
@@ -115,7 +115,7 @@ fn foreign_works(alloc: Global, book: &mut Book) -> Result<Vec<Work>, Fail> {
         (name(1, 2), 0),
         (name(1, 1), 1),
     ] {
-        works.push(Work::new(alloc, book.base().share()?, txn, opened))?;
+        works.push(Work::new(alloc, book.base().share(alloc)?, txn, opened))?;
     }
     Ok(works)
 }
@@ -127,7 +127,7 @@ fn a_foreign_work_is_handed_back(rt: HostRuntime) -> Result<(), Fail> {
     let alloc = rt.alloc();
     let mut book = empty_book(alloc)?;
     let works = foreign_works(alloc, &mut book)?;
-    let layout = book.snapshot().share()?;
+    let layout = book.snapshot().share(alloc)?;
     for mut work in works {
         let txn = work.id();
         work.run(alloc, box_in(CellId::Top, (0, 0), (7, 7))?)?;

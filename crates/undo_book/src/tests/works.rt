@@ -91,7 +91,7 @@ fn a_box_replaces_what_the_base_has_under_its_id(rt: HostRuntime) -> Result<(), 
     let before = shape(alloc, &[(0, 0), (5, 0), (5, 5), (0, 5)])?;
     for (side, writes) in [(5, 0), (8, 1)] {
         let after = shape(alloc, &[(0, 0), (side, 0), (side, side), (0, side)])?;
-        let mut book = Book::new(alloc, old.snapshot().share()?)?;
+        let mut book = Book::new(alloc, old.snapshot().share(alloc)?)?;
         assert_eq!(rt; commit_box(alloc, &mut book, 1, side)?, first);
         let [entry] = book.entries() else {
             return Err("no entry".into());

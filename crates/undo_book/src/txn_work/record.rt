@@ -30,7 +30,7 @@ pub(crate) fn laid(
     ensures { IfOk result (λ new. new ≡ written layout.now (afters records.now)) }
 {
     let writes = afters(alloc, records)?;
-    Snapshot::of(alloc, layout.version().with(&writes)?)
+    Snapshot::of(alloc, layout.version().with(alloc, &writes)?)
 }
 
 /// The layout with these records taken back from it.
@@ -44,7 +44,7 @@ pub(crate) fn taken_back(
     ensures { IfOk result (λ new. new ≡ written layout.now (befores records.now)) }
 {
     let writes = befores(alloc, records)?;
-    Snapshot::of(alloc, layout.version().with(&writes)?)
+    Snapshot::of(alloc, layout.version().with(alloc, &writes)?)
 }
 
 /// The writes that lay the records on a layout.
@@ -53,7 +53,7 @@ fn afters(alloc: Global, records: &[Record]) -> Result<Vec<(ItemId, Option<Item>
 {
     let mut writes = Vec::with_capacity(alloc, records.len())?;
     for record in records {
-        writes.push((record.id, copied(record.after.as_ref())?))?;
+        writes.push((record.id, copied(alloc, record.after.as_ref())?))?;
     }
     Ok(writes)
 }
@@ -64,17 +64,17 @@ fn befores(alloc: Global, records: &[Record]) -> Result<Vec<(ItemId, Option<Item
 {
     let mut writes = Vec::with_capacity(alloc, records.len())?;
     for record in records {
-        writes.push((record.id, copied(record.before.as_ref())?))?;
+        writes.push((record.id, copied(alloc, record.before.as_ref())?))?;
     }
     Ok(writes)
 }
 
 /// A copy of an item, where there is one.
-pub(crate) fn copied(item: Option<&Item>) -> Result<Option<Item>, NoMemory>
+pub(crate) fn copied(alloc: Global, item: Option<&Item>) -> Result<Option<Item>, NoMemory>
     ensures { IfOk result (λ copy. copy ≡ option_copied item.entry) }
 {
     match item {
-        Some(item) => Ok(Some(item.copy()?)),
+        Some(item) => Ok(Some(item.copy(alloc)?)),
         None => Ok(None),
     }
 }

@@ -145,7 +145,7 @@ impl Work {
         ensures transaction { IsTransaction self.new }
     {
         let item = self.item_by(alloc, &command)?;
-        Ok(self.make(item, command)?)
+        Ok(self.make(alloc, item, command)?)
     }
 
     /// The item that the command is to make, or why it is refused.
@@ -192,7 +192,7 @@ impl Work {
     }
 
     /// Makes the item that the command is accepted to make.
-    fn make(&mut self, item: Item, command: Command) -> Result<Done, NoMemory>
+    fn make(&mut self, alloc: Global, item: Item, command: Command) -> Result<Done, NoMemory>
         requires { item_by self.old command ≡ Ok item }
         ensures done { IfOk result (λ done. done ≡ done_by self.old.id command (come self.old)) }
         ensures ok { OnOk result (self.new ≡ after_command self.old command) }
@@ -200,7 +200,7 @@ impl Work {
         ensures transaction { IsTransaction self.new }
     {
         let id = self.next_id();
-        let before = copied(self.snapshot.item(id))?;
+        let before = copied(alloc, self.snapshot.item(id))?;
         self.commands.reserve(1)?;
         self.writes.reserve(1)?;
         self.footprint.insert(Element::Item(id))?;
