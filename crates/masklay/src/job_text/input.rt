@@ -17,7 +17,7 @@ pub trait In {
     /// What is left to be read, or `None` where the device doesn't tell it.
     ghost remaining: { Self → Option (List ℕ) };
 
-    /// How often the device was read, ended the input, and failed.
+    /// How often the device was read, gave bytes, ended the input, and failed.
     ghost counts: { Self → Counts };
 
     /// Puts the next bytes at the front of the buffer and answers how many. An answer of 0 to a buffer
@@ -28,11 +28,16 @@ pub trait In {
         ensures counted { counts self.new ≡ counts_after (counts self.old) (length buffer.new) result };
 }
 
-/// How often a device was read, ended the input, and failed. Only proofs see it.
+/// How often a device was read, and what it answered. Only proofs see it.
 #[derive(Drop)]
 pub struct ReadCounts {
+    /// All reads.
     pub reads: GhostCount,
+    /// Answers with a byte or more.
+    pub gifts: GhostCount,
+    /// Answers that ended the input.
     pub ends: GhostCount,
+    /// Failures.
     pub failures: GhostCount,
 }
 
@@ -43,6 +48,7 @@ impl ReadCounts {
     {
         ReadCounts {
             reads: GhostCount::zero(),
+            gifts: GhostCount::zero(),
             ends: GhostCount::zero(),
             failures: GhostCount::zero(),
         }
@@ -55,7 +61,8 @@ impl ReadCounts {
         self.reads = self.reads.next();
         match answer {
             Ok(0) if !buffer.is_empty() => self.ends = self.ends.next(),
-            Ok(_) => {}
+            Ok(0) => {}
+            Ok(_) => self.gifts = self.gifts.next(),
             Err(_) => self.failures = self.failures.next(),
         }
     }

@@ -1,5 +1,5 @@
--- What was read so far is gone from the input, and its front is kept. The device was read once for each turn, and
--- neither ended the input nor failed.
+-- What was read so far is gone from the input, and its front is kept. In each turn the device was read once and
+-- gave bytes; it neither ended the input nor failed.
 use Rattle.std.proofs.Common.{◌≡◌, ℕ, ◌+◌, ◌≤◌, List, length}
 use Rattle.std.specs.Io.KnownBytes.{Consumes}
 use Rattle.masklay.specs.Reading.{kept_of}
@@ -10,6 +10,7 @@ invariant-loop g l = record {
   gone : (done : List ℕ) × Consumes (g.I.In.remaining l.initial.input) (g.I.In.remaining l.input) done × (l.kept.items ≡ kept_of done);
   few : length l.kept.items ≤ 16777217;
   reads : (g.I.In.counts l.input).reads ≡ (g.I.In.counts l.initial.input).reads + l.counter;
+  gifts : (g.I.In.counts l.input).gifts ≡ (g.I.In.counts l.initial.input).gifts + l.counter;
   turns : l.counter ≤ 33554432;
   unended : (g.I.In.counts l.input).ends ≡ (g.I.In.counts l.initial.input).ends;
   unfailing : (g.I.In.counts l.input).failures ≡ (g.I.In.counts l.initial.input).failures;
