@@ -87,6 +87,6 @@ impl From<NoMemory> for FaultKind {
 pub struct CifFault {
     /// What is wrong.
     pub kind: FaultKind,
-    /// How many bytes of the text stand before the faulty command or byte.
+    /// How many bytes of the text stand before the faulty command or byte; 0 for `TooMany` and `NoMemory`.
     pub offset: usize,
 }

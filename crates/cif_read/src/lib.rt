@@ -9,8 +9,8 @@
 //! they are numbered 1, 2, .. in text order and that each figure's points are a ring; contracts see
 //! the list of them.
 //!
-//! The contract of `read` says three things. Its answer is that of `meaning`, a definition that
-//! computes (`specs/Meaning.antt`). What is read is a text of the grammar, which is stated apart from
+//! Three clauses say what `read` answers, and a fourth when a text is too long. Its answer is that of
+//! `meaning`, a definition that computes (`specs/Meaning.antt`). What is read is a text of the grammar, which is stated apart from
 //! any way of reading it (`specs/Grammar.antt`), and means what its commands mean. And a text of the
 //! grammar means what its commands mean, or has the first fault among them. Any answer but that a
 //! text is too long can give way to `NoMemory` at offset 0.

@@ -160,7 +160,7 @@ fn files_are_equal_where_all_is_equal(rt: HostRuntime) -> Result<(), Fail> {
     Ok(())
 }
 
-// Could catch a limit that is one off, or that comes after other faults.
+// Could catch a limit in the definition that is one off, or that comes after other faults.
 #[test]
 fn refuses_a_text_that_is_too_long(rt: HostRuntime) -> Result<(), Fail> {
     let mut text = vec![in rt.alloc(); b' '; MAX_TEXT]?;
@@ -177,7 +177,7 @@ fn refuses_a_text_that_is_too_long(rt: HostRuntime) -> Result<(), Fail> {
     Ok(())
 }
 
-// Could catch a number or a name that the product prints otherwise.
+// Could catch numbers or names in the definition that aren't those of the product's formats.
 #[test]
 fn names_faults_as_the_product_prints_them(rt: HostRuntime) {
     let rows = [

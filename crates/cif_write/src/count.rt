@@ -7,6 +7,7 @@ use std::marker::Model;
 /// How often something took place. It has no bytes and no limit: contracts read its `total`.
 #[derive(Drop)]
 pub struct GhostCount {
+    /// The count.
     pub ghost total: { ℕ },
 }
 

@@ -13,9 +13,11 @@ use Rattle.lay_items.specs.Layout.{Layout, Write, no_items, written}
 abbrev pub item_of : Figure → Item
 item_of (Polygon layer ring) = Shape Top layer (ring ∷ [])
 
+-- the item's id
 abbrev pub id_of : Element → ItemId
 id_of element = record { session = 0; txn = 0; seq = element.number }
 
+-- the element as a write
 abbrev pub placed : Element → Write
 placed element = (id_of element, Some (item_of element.figure))
 

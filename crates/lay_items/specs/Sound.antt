@@ -19,6 +19,7 @@ pub record IsDrawn (rings : List (List Point)) : Type 0 where
 abbrev pub IsSoundItem : Layout → Item → Type 0
 IsSoundItem layout (Shape cell layer rings) = IsTrue (is_cell layout cell) × IsDrawn rings
 
+-- what a layout keeps
 pub record IsSound (layout : Layout) : Type 0 where
   -- no text and no transaction of this version makes a symbol
   pub no_symbols : layout.symbols ≡ map.empty

@@ -3,9 +3,11 @@
 use Rattle.std.specs.Prelude.{ℕ, List, length, Bool, ◌&&◌, ◌||◌, nat_le, Option, None, Some, if◌then◌else◌}
 use Rattle.std.specs.List.{list_all}
 
+-- 0 to 9
 abbrev pub is_digit : ℕ → Bool
 is_digit b = nat_le 48 b && nat_le b 57
 
+-- A to Z
 abbrev pub is_upper : ℕ → Bool
 is_upper b = nat_le 65 b && nat_le b 90
 
@@ -13,6 +15,7 @@ is_upper b = nat_le 65 b && nat_le b 90
 abbrev pub is_name_byte : ℕ → Bool
 is_name_byte b = is_digit b || is_upper b
 
+-- 1 to 16 such bytes
 abbrev pub is_layer_name : List ℕ → Bool
 is_layer_name bytes = nat_le 1 (length bytes) && nat_le (length bytes) 16 && list_all is_name_byte bytes
 

@@ -9,12 +9,14 @@ use Rattle.lay_point.specs.declared.layer_name.LayerName.TheInside.{Inside}
 abbrev pub padded : List ℕ → List ℕ
 padded name = name ++ replicate (16 - length name) 0
 
+-- what a kept name keeps: 16 bytes, of which the first so many are a name, and the others zeros
 pub record IsPadded (n : Inside) : Type 0 where
   pub whole : length n.bytes ≡ 16
   pub short : n.len ≤ 16
   pub zeros : drop n.len n.bytes ≡ replicate (16 - n.len) 0
   pub name : IsTrue (is_layer_name (take n.len n.bytes))
 
+-- a name as it is kept
 abbrev pub kept_name : List ℕ → Inside
 kept_name name = record { bytes = padded name; len = length name }
 

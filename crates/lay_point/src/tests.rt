@@ -109,8 +109,8 @@ fn layer_names_are_1_to_16_digits_and_capitals(rt: HostRuntime) {
     }
 }
 
-// Could catch an equality that no caller with a type of its own can use: it is proved from the
-// elements' bound alone.
+// Could catch an equality that can't be called with a type of one's own: its proof knows the elements by
+// their bound alone.
 #[test]
 fn sequences_are_equal_where_their_elements_are(rt: HostRuntime) -> Result<(), Fail> {
     let points = [at(1, 2), at(3, 4)];

@@ -52,22 +52,27 @@ with_history s history = record { history = history; works = s.works }
 
 -- ---- what a session's step answers and leaves, where the session has this open
 
+-- a transaction that the book opened is the session's
 abbrev pub after_open : State → ℕ → Result Transaction BookFault × History → Reply × State
 after_open s session (Ok txn, history) = (Opened txn.id.txn, with_work s history session (Some txn))
 after_open s session (Err fault, history) = (Fault (Book fault), with_history s history)
 
+-- with a transaction open there is no second
 abbrev pub open_in : State → ℕ → Option Transaction → Reply × State
 open_in s session None = after_open s session (open_step s.history session)
 open_in s session (Some txn) = (Fault AlreadyOpen, s)
 
+-- the answer to a command as a reply
 abbrev pub command_reply : Result dones.Done CmdFault → Reply
 command_reply (Ok done) = Done done
 command_reply (Err fault) = Fault (Command fault)
 
+-- a command runs in the session's transaction, and the book isn't touched
 abbrev pub run_in : State → ℕ → commands.Command → Option Transaction → Reply × State
 run_in s session command None = (Fault NotOpen, s)
 run_in s session command (Some txn) = (command_reply (answer_to txn command), with_work s s.history session (Some (after_command txn command)))
 
+-- after a commit the session has nothing open
 abbrev pub after_commit : State → ℕ → Result TxnId BookFault × History → Reply × State
 after_commit s session (Ok txn, history) = (Committed txn, with_work s history session None)
 after_commit s session (Err fault, history) = (Fault (Book fault), with_history s history)
@@ -77,10 +82,12 @@ abbrev pub commit_in : State → ℕ → Option Transaction → Reply × State
 commit_in s session None = (Fault NotOpen, s)
 commit_in s session (Some txn) = after_commit s session (commit_step s.history txn)
 
+-- an undo leaves what the sessions have open
 abbrev pub undo_in : State → Result (Unit {0}) BookFault × History → Reply × State
 undo_in s (Ok done, history) = (Undone, with_history s history)
 undo_in s (Err fault, history) = (Fault (Book fault), with_history s history)
 
+-- a step of a session that is there
 abbrev pub step_in : State → ℕ → Step → Reply × State
 step_in s session Open = open_in s session (open_of s session)
 step_in s session (Do command) = run_in s session command (open_of s session)

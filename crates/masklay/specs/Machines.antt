@@ -7,6 +7,7 @@ use Rattle.undo_book.specs.Transactions.{Transaction}
 use Rattle.masklay.specs.declared.session_core.machine.Machine.TheInside.{Inside}
 use Rattle.masklay.specs.Machine.{State}
 
+-- what contracts see
 abbrev pub seen : Inside → State
 seen m = record { history = m.book; works = m.works.items }
 
@@ -14,8 +15,8 @@ seen m = record { history = m.book; works = m.works.items }
 abbrev pub kept_at : History → ℕ → SessionState
 kept_at history place = slice_index_or history.sessions place unused
 
--- the transaction is the one that the session at this place opened last, on the layout at its open, and that was
--- not answered
+-- the transaction is the one that the session at this place opened last, on the layout at its open, and that is
+-- not committed yet
 pub record IsOpen (history : History) (place : ℕ) (txn : Transaction) : Type 0 where
   pub session : txn.id.session ≡ place + 1
   pub opens : (kept_at history place).opens ≡ txn.id.txn
@@ -27,5 +28,6 @@ pub record IsState (s : State) : Type 0 where
   pub sessions : length s.history.sessions ≡ 64
   pub works : (place : ℕ) → (txn : Transaction) → slice_index_or s.works place None ≡ Some txn → IsOpen s.history place txn
 
+-- what a machine keeps
 abbrev pub IsMachine : Inside → Type 0
 IsMachine m = IsState (seen m)

@@ -17,6 +17,7 @@ use Rattle.masklay.specs.Job.{job_of}
 use Rattle.masklay.specs.Machine.{State, after_steps, start}
 use Rattle.masklay.specs.Order.{order_of}
 
+-- the stop at a fault of the job
 abbrev pub stop_of_job : JobFault → Stop
 stop_of_job (Line line) = JobStop line
 stop_of_job JobMemory = NoMemory
@@ -26,6 +27,7 @@ abbrev stop_of_kind : CifFault → FaultKind → Stop
 stop_of_kind fault CifMemory = NoMemory
 stop_of_kind fault kind = CifStop fault
 
+-- the stop at a fault of the CIF text
 abbrev pub stop_of_cif : CifFault → Stop
 stop_of_cif fault = stop_of_kind fault fault.kind
 

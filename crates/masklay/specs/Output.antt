@@ -23,6 +23,7 @@ code_of Cif = 4
 code_of Device = 5
 code_of Memory = 6
 
+-- what goes out, and the status with which the program ends
 pub record Output : Type 0 where
   pub text : List ℕ
   pub status : Status

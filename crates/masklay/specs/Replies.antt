@@ -16,6 +16,7 @@ use Rattle.masklay.specs.declared.session_core.StepFault.TheVariants.{Command, B
 abbrev pub Mark : Type 0
 Mark = ℕ × List ℕ
 
+-- of a command
 abbrev pub command_mark : CmdFault → Mark
 command_mark NoCell = (1, codes "NoCell")
 command_mark FewPoints = (4, codes "FewPoints")
@@ -23,6 +24,7 @@ command_mark OutOfRange = (5, codes "OutOfRange")
 command_mark TxnFull = (10, codes "TxnFull")
 command_mark CommandMemory = (11, codes "NoMemory")
 
+-- of a call of the book
 abbrev pub book_mark : BookFault → Mark
 book_mark NoTxn = (20, codes "NoTxn")
 book_mark NotLive = (21, codes "NotLive")
@@ -32,6 +34,7 @@ book_mark BookMemory = (27, codes "NoMemory")
 book_mark Foreign = (28, codes "Foreign")
 book_mark SessionFull = (33, codes "SessionFull")
 
+-- of a step
 unfoldable pub fault_mark : StepFault → Mark
 fault_mark (Command fault) = command_mark fault
 fault_mark (Book fault) = book_mark fault

@@ -13,9 +13,11 @@ use Rattle.masklay.specs.Words.{◌>>=◌, behind_word, cell_of, coordinate_of, 
 abbrev pub with_behind : {A : Type 0} → List ℕ → Option A → Option (A × List ℕ)
 with_behind words meaning = option_map (λ a. (a, behind_word words)) meaning
 
+-- a cell in the first word
 abbrev pub cell_at : List ℕ → Option (CellId × List ℕ)
 cell_at words = with_behind words (cell_of (word words))
 
+-- a coordinate in the first word
 abbrev pub coordinate_at : List ℕ → Option (ℤ × List ℕ)
 coordinate_at words = with_behind words (coordinate_of (word words))
 

@@ -96,7 +96,7 @@ abbrev pub is_pending : Option Pending → Transaction → Bool
 is_pending None txn = false
 is_pending (Some pending) txn = (pending.place == txn.opened) && agrees pending.snapshot txn.snapshot txn.footprint
 
--- the transaction is the one that its session opened last and that was not answered, and on what it
+-- the transaction is the one that its session opened last and that is not committed yet, and on what it
 -- touched the layout at its open is as its snapshot has it
 abbrev pub is_own : History → Transaction → Bool
 is_own h txn =
@@ -111,11 +111,11 @@ entry_of h txn = record { txn = txn.id; place = length h.log; writes = txn.write
 abbrev pub with_entry : History → Transaction → History
 with_entry h txn = record { base = h.base; layout = h.layout; log = h.log; entries = h.entries ++ entry_of h txn ∷ []; sessions = h.sessions }
 
--- what is kept of a session whose transaction is answered
+-- what is kept of a session whose transaction is committed
 abbrev pub answered_state : SessionState → SessionState
 answered_state state = record { opens = state.opens; pending = None }
 
--- the session's transaction is answered
+-- the session's transaction is committed
 abbrev pub answered : History → ℕ → History
 answered h session = with_state h session (answered_state (state_of h session))
 

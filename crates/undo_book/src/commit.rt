@@ -10,7 +10,7 @@ use crate::txn_work::Work;
 pub struct CommitRefusal {
     /// Why it is refused.
     pub fault: BookFault,
-    /// The work, to be used again.
+    /// The work, to be used again. A book always hands it back.
     pub work: Option<Work>,
 }
 

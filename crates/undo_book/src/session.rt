@@ -14,7 +14,7 @@ pub const MAX_TRANSACTIONS: u16 = 65_535;
 /// The most sessions.
 const SESSIONS: usize = 64;
 
-/// A transaction that a session opened last and that was not answered yet.
+/// A transaction that a session opened last and that is not committed yet.
 #[derive(Drop)]
 pub struct Pending {
     /// The place of its open in the log.
@@ -28,7 +28,7 @@ pub struct Pending {
 pub struct SessionState {
     /// How many opens of the session were accepted. The last of them has this number.
     pub opens: u16,
-    /// The last one, if it was not answered yet.
+    /// The last one, if it is not committed yet.
     pub pending: Option<Pending>,
 }
 
@@ -61,7 +61,7 @@ pub(crate) fn is_pending(pending: &Option<Pending>, work: &Work) -> bool
     }
 }
 
-/// The session's transaction is answered.
+/// The session's transaction is committed.
 pub(crate) fn answer(sessions: &mut Vec<SessionState>, session: u8)
     requires low { 1 ≤ session }
     requires high { session ≤ vec_len sessions.old }

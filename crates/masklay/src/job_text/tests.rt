@@ -133,7 +133,7 @@ fn spaces(alloc: Global, len: usize) -> Result<Vec<u8>, AllocError> {
     vec![in alloc; b' '; len]
 }
 
-// Could catch a limit that is off by one: a longer job names line 0, whatever its lines are.
+// Could catch a limit in the definition that is off by one: a longer job names line 0, whatever its lines are.
 #[test]
 fn a_job_that_is_too_long_names_line_0(rt: HostRuntime) -> Result<(), Fail> {
     for (len, line) in [(MAX_JOB, 1), (MAX_JOB + 1, 0)] {
@@ -233,6 +233,15 @@ fn prints_sixteen_numbers_of_the_order_a_line(rt: HostRuntime) -> Result<(), Fai
     Ok(())
 }
 
+/// A call of a log.
+fn logged(session: u8, call: Call, answer: Answer) -> Logged {
+    Logged {
+        session,
+        call,
+        answer,
+    }
+}
+
 // Could catch a definition that takes a refusal that isn't logged for a logged one, or puts a step behind the call that its
 // session's next logged step made. The sessions of the calls tell the groups apart.
 #[test]
@@ -244,21 +253,9 @@ fn orders_steps_by_the_log(rt: HostRuntime) -> Result<(), Fail> {
         seq: 1,
     };
     let log = [
-        Logged {
-            session: 7,
-            call: Call::Open,
-            answer: Answer::Opened(1),
-        },
-        Logged {
-            session: 8,
-            call: Call::Undo(txn),
-            answer: Answer::Refused(BookFault::NoTxn),
-        },
-        Logged {
-            session: 9,
-            call: Call::Undo(txn),
-            answer: Answer::Undone,
-        },
+        logged(7, Call::Open, Answer::Opened(1)),
+        logged(8, Call::Undo(txn), Answer::Refused(BookFault::NoTxn)),
+        logged(9, Call::Undo(txn), Answer::Undone),
     ];
     let replies = [
         Reply::Fault(StepFault::NotOpen),

@@ -214,7 +214,7 @@ fn a_full_device_holds_the_front_of_the_output(rt: HostRuntime) {
     }
 }
 
-// Could catch statuses that aren't those of the program.
+// Could catch statuses in the definition that aren't those of the program's formats.
 #[test]
 fn statuses_have_their_numbers(rt: HostRuntime) {
     let rows = [

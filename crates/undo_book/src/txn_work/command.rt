@@ -10,9 +10,9 @@ use thiserror::Error;
 /// The name of a transaction: its session, and its number among the accepted opens of that session.
 #[derive(Clone, Copy, Debug, PartialEq, Eq)]
 pub struct TxnId {
-    /// The session, 1 to 64.
+    /// The session: 1 to 64 of a transaction that was opened.
     pub session: u8,
-    /// The transaction of that session, from 1.
+    /// The transaction of that session: 1 or more of one that was opened.
     pub txn: u16,
 }
 
