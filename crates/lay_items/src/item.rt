@@ -92,8 +92,7 @@ impl Item {
         }
     }
 
-    /// An equal item. The rings are shared, not copied. The allocator is unused: each public call
-    /// that can answer `NoMemory` takes one.
+    /// An equal item. The rings are shared, not copied, so the allocator has no use as yet.
     pub fn copy(&self, _alloc: Global) -> Result<Item, NoMemory>
         ensures { IsAnswer (record {}) result (Ok self.now) }
     {

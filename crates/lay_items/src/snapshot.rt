@@ -54,8 +54,7 @@ impl Snapshot {
         Ok(Snapshot { version })
     }
 
-    /// One more owner of the same layout. The allocator is unused: each public call that can answer
-    /// `NoMemory` takes one.
+    /// One more owner of the same layout. The allocator has no use as yet.
     pub fn share(&self, _alloc: Global) -> Result<Snapshot, NoMemory>
         ensures { IsAnswer (record {}) result (Ok self.now) }
     {

@@ -110,8 +110,7 @@ impl Version {
     }
 
     /// The layout after these writes, each an id and the item that stands under it from then on, or
-    /// none. The allocator is unused, as the maps have their own: each public call that can answer
-    /// `NoMemory` takes one.
+    /// none. The maps have allocators of their own, so this one has no use as yet.
     pub fn with(
         &self,
         _alloc: Global,

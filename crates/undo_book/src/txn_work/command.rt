@@ -33,7 +33,7 @@ pub enum Command {
 }
 
 impl Command {
-    /// An equal command.
+    /// An equal command. A box is copied in place, so the allocator has no use as yet.
     pub fn copy(&self, _alloc: Global) -> Result<Command, NoMemory>
         ensures { IsAnswer (record {}) result (Ok self.now) }
     {
