@@ -9,8 +9,8 @@ use Rattle.clap.specs.Walk.{bundle_met, walked}
 use Rattle.clap.specs.declared.error.kind.ErrorKind.{ErrorKind}
 use Rattle.clap.specs.declared.error.kind.ErrorKind.TheVariants.{DisplayHelp, OutOfMemory, TooManyValues, UnknownArgument}
 use Rattle.masklay.specs.declared.program.status.Status.{Status}
-use Rattle.masklay.specs.declared.program.status.Status.TheVariants.{CommandLine, Memory}
-use Rattle.masklay.specs.Arguments.{EndsBy, Tells, asks_for_help, masklay, status_of}
+use Rattle.masklay.specs.declared.program.status.Status.TheVariants.{Cif, CommandLine, Device, Done, Job, Memory}
+use Rattle.masklay.specs.Arguments.{EndsBy, RefusalWent, Tells, asks_for_help, masklay, status_of}
 
 pub is_simple_command : is_simple_and_free masklay ≡ true
 is_simple_command = refl
@@ -112,6 +112,15 @@ told_ends program word rest status result ends tells =
         | inr is ↦ subst (EndsBy (program ∷ word ∷ rest)) (sym is) tt
       ]
     ]
+
+-- a refusal has the status of a mistake, or that of a failed device
+pub refusal_tells : {S : Type 0} (written : S → Option (List ℕ)) (failures : S → ℕ) (old new : S) (wrong : List ℕ) (result : Status) → RefusalWent written failures old new wrong result → Tells CommandLine result
+refusal_tells written failures old new wrong CommandLine went = inl refl
+refusal_tells written failures old new wrong Device went = inr (inr refl)
+refusal_tells written failures old new wrong Done went = absurd went
+refusal_tells written failures old new wrong Job went = absurd went
+refusal_tells written failures old new wrong Cif went = absurd went
+refusal_tells written failures old new wrong Memory went = absurd went
 
 -- an argument in which clap finds no mistake is refused
 pub refused_ends : (words : List (List ℕ)) (result : Status) → 1 < length words → fault_of masklay words ≡ [] → Tells CommandLine result → EndsBy words result

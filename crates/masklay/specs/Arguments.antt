@@ -7,6 +7,7 @@ use Rattle.clap.specs.Lexer.{long_of, short_of}
 use Rattle.clap.specs.Simple.{App}
 use Rattle.clap.specs.declared.error.kind.ErrorKind.{ErrorKind}
 use Rattle.clap.specs.declared.error.kind.ErrorKind.TheVariants.{DisplayHelp, DisplayVersion, OutOfMemory}
+use Rattle.cif_write.specs.Device.{AllWent, FrontWent}
 use Rattle.masklay.specs.declared.program.status.Status.{Status}
 use Rattle.masklay.specs.declared.program.status.Status.TheVariants.{Done, CommandLine, Device, Memory}
 
@@ -35,6 +36,13 @@ status_of kind = CommandLine
 -- the status of what was to be said, or of why it wasn't
 abbrev pub Tells : Status → Status → Type 0
 Tells status result = (result ≡ status) ⊎ ((result ≡ Memory) ⊎ (result ≡ Device))
+
+-- From the old device to the new: all of what is wrong went out and nothing else; or the device failed, and a front of it
+-- did.
+abbrev pub RefusalWent : {S : Type 0} → (S → Option (List ℕ)) → (S → ℕ) → S → S → List ℕ → Status → Type 0
+RefusalWent written failures old new wrong CommandLine = AllWent written failures old new wrong
+RefusalWent written failures old new wrong Device = FrontWent written failures old new wrong
+RefusalWent written failures old new wrong status = ⊥
 
 -- The statuses with which these words may end the program before anything is read: help is done, any other argument is
 -- a mistake, and what is to be said may not find its device or memory. Without arguments only want of memory is left.

@@ -22,7 +22,8 @@ use streams::{StandardInput, StandardOutput};
 
 fn main(rt: HostRuntime) -> ExitCode {
     let mut out = StandardOutput::new(rt.stdout());
-    let status = match command_line::options(&rt) {
+    let mut errors = StandardOutput::new(rt.stderr());
+    let status = match command_line::options(&rt, &mut errors) {
         Ok(options) => {
             let mut input = StandardInput::new(rt.stdin());
             run(rt.alloc(), options, &mut input, &mut out)

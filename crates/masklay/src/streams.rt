@@ -1,10 +1,10 @@
-//! Standard input and output as devices. Of their bytes nothing is told.
+//! The standard streams as devices. Of their bytes nothing is told.
 ghost use Rattle.std.specs.Prelude.{◌≡◌, None};
 ghost use Rattle.masklay.specs.Input.{counts_of, no_counts};
 
 use crate::job_text::{In, InFault, ReadCounts};
 use cif_write::{GhostCount, Out, OutFault};
-use std::io::{Read, Stdin, Stdout, Write};
+use std::io::{Read, Stdin, Write};
 
 /// Standard input.
 #[derive(Drop)]
@@ -37,26 +37,26 @@ impl In for StandardInput {
     }
 }
 
-/// Standard output.
+/// Standard output, or standard error.
 #[derive(Drop)]
-pub struct StandardOutput {
-    stdout: Stdout,
+pub struct StandardOutput<W> {
+    stream: W,
     failures: GhostCount,
 }
 
-impl StandardOutput {
+impl<W: Write + Drop> StandardOutput<W> {
     /// The device of this stream, which hasn't failed yet.
-    pub fn new(stdout: Stdout) -> StandardOutput
+    pub fn new(stream: W) -> StandardOutput<W>
         ensures { result.failures.total ≡ 0 }
     {
         StandardOutput {
-            stdout,
+            stream,
             failures: GhostCount::zero(),
         }
     }
 }
 
-impl Out for StandardOutput {
+impl<W: Write + Drop> Out for StandardOutput<W> {
     ghost written = { λ _. None };
 
     ghost failures = { λ d. d.failures.total };
@@ -65,7 +65,7 @@ impl Out for StandardOutput {
         if piece.is_empty() {
             return Ok(0);
         }
-        let Ok(taken) = self.stdout.write(piece) else {
+        let Ok(taken) = self.stream.write(piece) else {
             self.failures = self.failures.next();
             return Err(OutFault);
         };
