@@ -1,15 +1,16 @@
 -- The corners of a box whose sides aren't zero span a rectangle.
-use Rattle.std.proofs.Common.{◌≡◌, ℕ, ◌<◌, false, Some, IsTrue, sym, ◌∙◌, arith, inl, inr, ℤ, pos, ◌<ℤ◌, ◌*ℤ◌, ◌+ℤ◌, ◌-ℤ◌, subst}
+use Rattle.std.proofs.Common.{◌≡◌, ℕ, ◌<◌, false, Some, IsTrue, ◌∙◌, arith, ℤ, pos, ◌<ℤ◌, ◌*ℤ◌, ◌+ℤ◌, ◌-ℤ◌, subst}
 use Rattle.std.specs.Prelude.{◌==◌}
-use Rattle.std.proofs.lemmas.Bool.{cases_order, eqb-false, or_parts}
+use Rattle.std.proofs.lemmas.Bool.{or_parts}
+use Rattle.std.proofs.lemmas.Bool.Decides.{nat_tests}
 use Rattle.std.proofs.lemmas.Int.{ints}
 use Rattle.std.proofs.lemmas.Option.{cond_some, some_pair_parts}
 use Rattle.lay_point.specs.declared.point.Point.{Point}
 use Rattle.lay_point.specs.Points.{is_in_range}
 use Rattle.cif_read.specs.declared.command.BoxNumbers.{BoxNumbers}
 use Rattle.cif_read.specs.Boxes.{corners, high_corner, is_flat, low_corner, point_in_range, value_of}
-use Rattle.cif_read.specs.Numbers.{◌>>=◌}
-use Rattle.cif_read.proofs.Steps.{bind_some}
+use Rattle.cif_scan.specs.Numbers.{◌>>=◌}
+use Rattle.cif_scan.proofs.Steps.{bind_some}
 
 -- corners that a ring can have
 pub record Spans (low high : Point) : Type 0 where
@@ -22,7 +23,7 @@ wider : (place : ℤ) (side : ℕ) → 0 < side → (place -ℤ pos side) <ℤ (
 wider place side h = omega (arith, ints)
 
 nonzero : (n : ℕ) → (n == 0) ≡ false → 0 < n
-nonzero n h = elim (cases_order 0 n) [ inl e ↦ absurd (eqb-false n 0 h (sym e)) | inr (inl lt) ↦ lt | inr (inr lt) ↦ absurd (omega arith) ]
+nonzero n h = grind (arith, nat_tests)
 
 pub spans : (b : BoxNumbers) (low high : Point) → corners b ≡ Some (low, high) → is_flat b ≡ false → Spans low high
 unfolding corners low_corner high_corner

@@ -1,5 +1,6 @@
 -- A command that is read is spelled so, and what spells a command is read.
-use Rattle.std.proofs.Common.{◌≡◌, ℕ, ◌≤◌, Bool, true, false, cond, List, [], ◌∷◌, ◌++◌, length, Some, None, Result, Ok, Err, refl, sym, ap, ◌∙◌, subst, arith, inl, inr}
+use Rattle.std.proofs.Common.{◌≡◌, ℕ, ◌≤◌, Bool, true, false, cond, List, [], ◌∷◌, ◌++◌, length, Some, None, Result, Ok, Err, refl, sym, ap}
+use Rattle.std.proofs.Common.{◌∙◌, subst, arith, inl, inr}
 use Rattle.std.specs.Prelude.{◌==◌}
 use Rattle.std.specs.List.{take_while, list_all}
 use Rattle.std.proofs.lemmas.Bool.{and_parts, eqb-true}
@@ -10,23 +11,27 @@ use Rattle.cif_read.specs.declared.fault.FaultKind.TheVariants.{Flash, Syntax, W
 use Rattle.cif_read.specs.declared.command.BoxNumbers.{BoxNumbers}
 use Rattle.cif_read.specs.declared.command.Command.{Command}
 use Rattle.cif_read.specs.declared.command.Command.TheVariants.{Box, Layer}
-use Rattle.cif_read.specs.Bytes.{is_blank, is_separator, skip}
+use Rattle.cif_scan.specs.Bytes.{is_blank, is_separator, skip}
 use Rattle.cif_read.specs.Commands.{box_of, command_by, definition_fault, layer_of, name_alone, read_as}
 use Rattle.cif_read.specs.Grammar.{IsBox, IsLayer, Spells}
-use Rattle.cif_read.specs.Numbers.{behind_separator, digits_value, integer_at, signed_at}
-use Rattle.cif_read.proofs.ByteClasses.{blank_no_digit, blank_no_name_byte, name_byte_no_blank, separator_no_digit}
+use Rattle.byte_io.specs.Decimal.{decimal_value}
+use Rattle.cif_scan.specs.Numbers.{behind_separator, integer_at, signed_at}
+use Rattle.cif_scan.proofs.ByteClasses.{blank_no_digit, blank_no_name_byte, name_byte_no_blank, separator_no_digit}
 use Rattle.cif_read.proofs.Layers.{StandsAlone-from}
-use Rattle.cif_read.proofs.NumberGrammar.{integer_again, integer_takes, signed_again, signed_takes}
-use Rattle.cif_read.proofs.Runs.{Stops, list_all-take_while, skip-front, take_while-front, taken_and_left}
-use Rattle.cif_read.proofs.Steps.{after_some, chosen_of, from_read}
+use Rattle.cif_scan.proofs.NumberGrammar.{integer_again, integer_takes, signed_again, signed_takes}
+use Rattle.cif_scan.proofs.Runs.{Stops, list_all-take_while, skip-front, take_while-front, taken_and_left}
+use Rattle.cif_scan.proofs.Steps.{after_some, chosen_of}
+use Rattle.cif_read.proofs.Steps.{from_read}
 
 -- bytes of a class don't begin with one of a class that has none in common
-stops_all : (passes stopping : ℕ → Bool) (bytes : List ℕ) → ((b : ℕ) → passes b ≡ true → stopping b ≡ false) → list_all passes bytes ≡ true → Stops stopping bytes
+stops_all : (passes stopping : ℕ → Bool) (bytes : List ℕ) → ((b : ℕ) → passes b ≡ true → stopping b ≡ false) → list_all passes bytes ≡ true
+    → Stops stopping bytes
 stops_all passes stopping [] apart h = tt
 stops_all passes stopping (b ∷ bs) apart h = apart b (and_parts (passes b) (list_all passes bs) h).0
 
 -- nor do they with bytes behind them, where there are some
-stops_some : (passes stopping : ℕ → Bool) (bytes rest : List ℕ) → ((b : ℕ) → passes b ≡ true → stopping b ≡ false) → 1 ≤ length bytes → list_all passes bytes ≡ true → Stops stopping (bytes ++ rest)
+stops_some : (passes stopping : ℕ → Bool) (bytes rest : List ℕ) → ((b : ℕ) → passes b ≡ true → stopping b ≡ false) → 1 ≤ length bytes
+    → list_all passes bytes ≡ true → Stops stopping (bytes ++ rest)
 stops_some passes stopping [] rest apart some h = absurd (omega arith)
 stops_some passes stopping (b ∷ bs) rest apart some h = apart b (and_parts (passes b) (list_all passes bs) h).0
 
@@ -42,7 +47,8 @@ layer_takes bytes name e =
     record {
       front = front;
       behind = behind;
-      parts = ap (λ x. 76 ∷ x) (taken_and_left is_blank bytes ∙ ap (λ x. front ++ x) (taken_and_left is_name_byte rest ∙ ap (λ x. x ++ behind) found.same));
+      parts = ap (λ x. 76 ∷ x) (taken_and_left is_blank bytes ∙ ap (λ x. front ++ x)
+          (taken_and_left is_name_byte rest ∙ ap (λ x. x ++ behind) found.same));
       front_blank = list_all-take_while is_blank bytes;
       some = found.some;
       name_bytes = rw (← found.same) (list_all-take_while is_name_byte rest);
@@ -58,7 +64,11 @@ unfolding layer_of
 layer_again text name h =
     let stops_name = stops_some is_name_byte is_blank name h.behind name_byte_no_blank h.some h.name_bytes in
     let stops_behind = stops_all is_blank is_name_byte h.behind blank_no_name_byte h.behind_blank in
-    rw (skip-front is_blank h.front (name ++ h.behind) h.front_blank stops_name, take_while-front is_name_byte name h.behind h.name_bytes stops_behind, skip-front is_name_byte name h.behind h.name_bytes stops_behind)
+    rw (
+      skip-front is_blank h.front (name ++ h.behind) h.front_blank stops_name,
+      take_while-front is_name_byte name h.behind h.name_bytes stops_behind,
+      skip-front is_name_byte name h.behind h.name_bytes stops_behind,
+    )
     (alone_again name h.behind h.some h.behind_blank)
 
 -- ---- boxes
@@ -76,16 +86,16 @@ separator_again : (b : ℕ) (bs : List ℕ) → is_separator b ≡ true → behi
 unfolding behind_separator
 separator_again b bs h = rw h refl
 
-box_takes : (bytes : List ℕ) (b : BoxNumbers) → box_of digits_value bytes ≡ Some b → IsBox (66 ∷ bytes) b
+box_takes : (bytes : List ℕ) (b : BoxNumbers) → box_of decimal_value bytes ≡ Some b → IsBox (66 ∷ bytes) b
 unfolding box_of
 box_takes bytes b e =
-    after_some (integer_at digits_value bytes) _ b e (λ length length_read after_length.
+    after_some (integer_at decimal_value bytes) _ b e (λ length length_read after_length.
     after_some (behind_separator length.1) _ b after_length (λ width_part width_separated after_width_separator.
-    after_some (integer_at digits_value width_part) _ b after_width_separator (λ width width_read after_width.
+    after_some (integer_at decimal_value width_part) _ b after_width_separator (λ width width_read after_width.
     after_some (behind_separator width.1) _ b after_width (λ x_part x_separated after_x_separator.
-    after_some (signed_at digits_value x_part) _ b after_x_separator (λ x x_read after_x.
+    after_some (signed_at decimal_value x_part) _ b after_x_separator (λ x x_read after_x.
     after_some (behind_separator x.1) _ b after_x (λ y_part y_separated after_y_separator.
-    after_some (signed_at digits_value y_part) _ b after_y_separator (λ y y_read after_y.
+    after_some (signed_at decimal_value y_part) _ b after_y_separator (λ y y_read after_y.
     let made : BoxNumbers = record { length = length.0; width = width.0; x = x.0; y = y.0 } in
     let last = cond_some (list_all is_blank y.1) made b after_y in
     let length_found = integer_takes bytes length.0 length.1 length_read in
@@ -118,7 +128,9 @@ box_takes bytes b e =
     } in
     subst (λ (c : BoxNumbers). IsBox (66 ∷ bytes) c) last.1 box)))))))
 
-box_again : (text : List ℕ) (b : BoxNumbers) (h : IsBox text b) → box_of digits_value (h.length_text ++ (h.before_width ∷ (h.width_text ++ (h.before_x ∷ (h.x_text ++ (h.before_y ∷ (h.y_text ++ h.behind))))))) ≡ Some b
+box_again : (text : List ℕ) (b : BoxNumbers) (h : IsBox text b)
+    → box_of decimal_value
+    (h.length_text ++ (h.before_width ∷ (h.width_text ++ (h.before_x ∷ (h.x_text ++ (h.before_y ∷ (h.y_text ++ h.behind))))))) ≡ Some b
 unfolding box_of
 box_again text b h =
     let y_rest = h.y_text ++ h.behind in
@@ -141,11 +153,12 @@ err_no_ok : (fault : FaultKind) (c : Command) → ◌≡◌ {A = Result Command 
 err_no_ok fault c e = cc
 
 -- a command that is read isn't one that is refused by a test
-refused : {P : Type 0} (t : Bool) (fault : FaultKind) (r : Result Command FaultKind) (c : Command) → cond t (Err fault) r ≡ Ok c → (r ≡ Ok c → P) → P
+refused : {P : Type 0} (t : Bool) (fault : FaultKind) (r : Result Command FaultKind) (c : Command) → cond t (Err fault) r ≡ Ok c
+    → (r ≡ Ok c → P) → P
 refused true fault r c e next = absurd (err_no_ok fault c e)
 refused false fault r c e next = next e
 
-pub command_takes : (bytes : List ℕ) (c : Command) → command_by digits_value bytes ≡ Ok c → Spells bytes c
+pub command_takes : (bytes : List ℕ) (c : Command) → command_by decimal_value bytes ≡ Ok c → Spells bytes c
 unfolding command_by
 command_takes [] c e = absurd cc
 command_takes (b ∷ bs) c e =
@@ -155,16 +168,18 @@ command_takes (b ∷ bs) c e =
     elim (chosen_of (b == 76) _ _ (Ok c) not_definition) [
       | inl layer ↦
           let found = from_read Layer Syntax (layer_of bs) c layer.1 in
-          subst (λ (d : Command). Spells (b ∷ bs) d) found.2 (subst (λ (first : ℕ). IsLayer (first ∷ bs) found.0) (sym (eqb-true b 76 layer.0)) (layer_takes bs found.0 found.1))
+          subst (λ (d : Command). Spells (b ∷ bs) d) found.2 (subst (λ (first : ℕ). IsLayer (first ∷ bs) found.0)
+          (sym (eqb-true b 76 layer.0)) (layer_takes bs found.0 found.1))
       | inr not_layer ↦ elim (chosen_of (b == 66) _ _ (Ok c) not_layer.1) [
         | inl box ↦
-            let found = from_read Box Syntax (box_of digits_value bs) c box.1 in
-            subst (λ (d : Command). Spells (b ∷ bs) d) found.2 (subst (λ (first : ℕ). IsBox (first ∷ bs) found.0) (sym (eqb-true b 66 box.0)) (box_takes bs found.0 found.1))
+            let found = from_read Box Syntax (box_of decimal_value bs) c box.1 in
+            subst (λ (d : Command). Spells (b ∷ bs) d) found.2 (subst (λ (first : ℕ). IsBox (first ∷ bs) found.0)
+            (sym (eqb-true b 66 box.0)) (box_takes bs found.0 found.1))
         | inr other ↦ absurd (err_no_ok Syntax c other.1)
       ]
     ])))
 
-pub command_again : (text : List ℕ) (c : Command) → Spells text c → command_by digits_value text ≡ Ok c
+pub command_again : (text : List ℕ) (c : Command) → Spells text c → command_by decimal_value text ≡ Ok c
 unfolding command_by
-command_again text (Layer name) h = ap (command_by digits_value) h.parts ∙ ap (read_as Layer Syntax) (layer_again text name h)
-command_again text (Box b) h = ap (command_by digits_value) h.parts ∙ ap (read_as Box Syntax) (box_again text b h)
+command_again text (Layer name) h = ap (command_by decimal_value) h.parts ∙ ap (read_as Layer Syntax) (layer_again text name h)
+command_again text (Box b) h = ap (command_by decimal_value) h.parts ∙ ap (read_as Box Syntax) (box_again text b h)

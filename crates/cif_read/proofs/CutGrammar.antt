@@ -1,19 +1,21 @@
 -- The first semicolon outside parentheses ends a command.
-use Rattle.std.proofs.Common.{◌≡◌, ℕ, suc, ◌+◌, true, List, [], ◌∷◌, ◌++◌, length, take, drop, Option, Some, None, Result, Ok, refl, sym, ap, ◌∙◌, subst, arith, inl, inr}
+use Rattle.std.proofs.Common.{◌≡◌, ℕ, suc, ◌+◌, true, List, [], ◌∷◌, ◌++◌, length, take, drop, Option, Some, None, Result, Ok, refl, sym}
+use Rattle.std.proofs.Common.{ap, ◌∙◌, subst, arith, inl, inr}
 use Rattle.std.specs.Prelude.{◌==◌, ◌&&◌}
 use Rattle.std.specs.List.{list_all, take_while}
 use Rattle.std.proofs.lemmas.Bool.{and_parts, eqb-true, not-true}
 use Rattle.std.proofs.lemmas.Option.{none-some, same_Some}
 use Rattle.cif_read.specs.declared.fault.CifFault.{CifFault}
-use Rattle.cif_read.specs.Bytes.{is_blank, skip}
-use Rattle.cif_read.specs.Cutting.{after_end, command_len, end_fault, first_depth, front_of, len_or_fault, next_depth, no_end, semicolon_from}
-use Rattle.cif_read.proofs.ByteClasses.{is_plain}
+use Rattle.cif_scan.specs.Bytes.{is_blank, skip}
+use Rattle.cif_read.specs.Cutting.{after_end, command_len, end_fault, first_depth, front_of, len_or_fault, next_depth, no_end}
+use Rattle.cif_read.specs.Cutting.{semicolon_from}
+use Rattle.cif_scan.proofs.ByteClasses.{is_plain}
 use Rattle.std.proofs.lemmas.List.{append-nil}
-use Rattle.cif_read.proofs.Runs.{list_all-take_while, skip-front, taken_and_left}
+use Rattle.cif_scan.proofs.Runs.{list_all-take_while, skip-front, taken_and_left}
 use Rattle.cif_read.proofs.Spellings.{Spelling}
-use Rattle.cif_read.proofs.Steps.{chosen_of}
+use Rattle.cif_scan.proofs.Steps.{chosen_of}
 
--- bytes are a front of this length, a semicolon and a rest
+-- bytes are a command of this length, a semicolon and a rest
 pub record EndsAt (len : ℕ) (bytes : List ℕ) : Type 0 where
   pub parts : bytes ≡ take len bytes ++ (59 ∷ drop (len + 1) bytes)
 
@@ -23,7 +25,8 @@ EndsAt-cons len b bs h =
     record { parts = ap (λ t. b ∷ t) (h.parts ∙ ap (λ n. take len bs ++ (59 ∷ drop n (b ∷ bs))) same) }
 
 -- a semicolon that is found from a place on is at so many bytes behind it
-found_at : (place depth : ℕ) (bytes : List ℕ) (at : ℕ) → semicolon_from place depth bytes ≡ Some at → (len : ℕ) × (at ≡ place + len) × EndsAt len bytes
+found_at : (place depth : ℕ) (bytes : List ℕ) (at : ℕ) → semicolon_from place depth bytes ≡ Some at → (len : ℕ) × (at ≡ place + len)
+    × EndsAt len bytes
 unfolding semicolon_from
 found_at place depth [] at e = absurd (none-some at e)
 found_at place depth (b ∷ bs) at e =
@@ -46,7 +49,8 @@ command_ends (b ∷ bs) len e =
     subst (λ (n : ℕ). EndsAt n (b ∷ bs)) same (EndsAt-cons found.0 b bs found.2)
 
 -- bytes without a semicolon, outside parentheses, are passed
-plain_found : (place : ℕ) (bytes rest : List ℕ) → list_all is_plain bytes ≡ true → semicolon_from place 0 (bytes ++ (59 ∷ rest)) ≡ Some (place + length bytes)
+plain_found : (place : ℕ) (bytes rest : List ℕ) → list_all is_plain bytes ≡ true
+    → semicolon_from place 0 (bytes ++ (59 ∷ rest)) ≡ Some (place + length bytes)
 unfolding semicolon_from
 plain_found place [] rest plain = ap (λ n. Some n) (omega arith)
 plain_found place (b ∷ bs) rest plain =
@@ -56,7 +60,8 @@ plain_found place (b ∷ bs) rest plain =
 pub spelling_len : (text rest : List ℕ) → Spelling text → command_len (text ++ (59 ∷ rest)) ≡ Some (length text)
 unfolding command_len
 spelling_len text rest h =
-    let first : command_len (h.first ∷ (h.more ++ (59 ∷ rest))) ≡ Some (1 + length h.more) = rw h.no_comment (plain_found 1 h.more rest h.plain) in
+    let first : command_len (h.first ∷ (h.more ++ (59 ∷ rest))) ≡ Some (1 + length h.more) =
+    rw h.no_comment (plain_found 1 h.more rest h.plain) in
     let same : 1 + length h.more ≡ length text = sym (ap length h.parts ∙ omega arith) in
     ap (λ t. command_len (t ++ (59 ∷ rest))) h.parts ∙ first ∙ ap (λ n. Some n) same
 
@@ -98,7 +103,8 @@ front_at_end total behind = refl
 pub front_at_spelling : (total : ℕ) (text rest : List ℕ) → Spelling text → front_of total (text ++ (59 ∷ rest)) ≡ Ok (Some (length text))
 unfolding front_of
 front_at_spelling total text rest h =
-    let len : command_len (h.first ∷ (h.more ++ (59 ∷ rest))) ≡ Some (length text) = ap (λ t. command_len (t ++ (59 ∷ rest))) (sym h.parts) ∙ spelling_len text rest h in
+    let len : command_len (h.first ∷ (h.more ++ (59 ∷ rest))) ≡ Some (length text) =
+    ap (λ t. command_len (t ++ (59 ∷ rest))) (sym h.parts) ∙ spelling_len text rest h in
     let first : front_of total (h.first ∷ (h.more ++ (59 ∷ rest))) ≡ Ok (Some (length text)) = rw (h.no_end, len) refl in
     ap (λ t. front_of total (t ++ (59 ∷ rest))) h.parts ∙ first
 
@@ -112,7 +118,8 @@ pub end_blank : (total : ℕ) (behind : List ℕ) → end_fault total (69 ∷ be
 unfolding end_fault
 end_blank total behind e =
     let left : skip is_blank behind ≡ [] = nothing_left total (skip is_blank behind) e in
-    let all : behind ≡ take_while is_blank behind = taken_and_left is_blank behind ∙ ap (λ t. take_while is_blank behind ++ t) left ∙ append-nil (take_while is_blank behind) in
+    let all : behind ≡ take_while is_blank behind = taken_and_left is_blank behind ∙ ap (λ t. take_while is_blank behind ++ t) left
+    ∙ append-nil (take_while is_blank behind) in
     ap (list_all is_blank) all ∙ list_all-take_while is_blank behind
 
 pub end_again : (total : ℕ) (behind : List ℕ) → list_all is_blank behind ≡ true → end_fault total (69 ∷ behind) ≡ None

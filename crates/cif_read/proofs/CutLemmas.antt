@@ -1,9 +1,10 @@
 -- Cutting goes on command by command, and the count of its steps never runs out.
-use Rattle.std.proofs.Common.{◌≡◌, ℕ, zero, suc, ◌+◌, ◌<◌, ◌≤◌, Bool, List, [], ◌∷◌, length, take, drop, Option, Some, None, Result, Ok, Err, refl, ap, arith, add-one}
+use Rattle.std.proofs.Common.{◌≡◌, ℕ, zero, suc, ◌+◌, ◌<◌, ◌≤◌, Bool, List, [], ◌∷◌, length, take, drop, Option, Some, None, Result, Ok}
+use Rattle.std.proofs.Common.{Err, refl, ap, arith, add-one}
 use Rattle.std.specs.List.{prefix_len}
 use Rattle.std.proofs.lemmas.List.{length-drop}
 use Rattle.cif_read.specs.declared.fault.CifFault.{CifFault}
-use Rattle.cif_read.specs.Bytes.{is_gap, skip}
+use Rattle.cif_scan.specs.Bytes.{is_gap, skip}
 use Rattle.cif_read.specs.Cutting.{Cut, behind_command, cut_by, cut_from, cut_rest, front_of, offset_of}
 
 pub length-skip : (passes : ℕ → Bool) (bytes : List ℕ) → length (skip passes bytes) ≤ length bytes
@@ -19,10 +20,12 @@ unfolding front_of
 some_bytes total [] len e = absurd cc
 some_bytes total (b ∷ bs) len e = omega arith
 
-same_by : (total : ℕ) (rest : List ℕ) (front : Result (Option ℕ) CifFault) (further further' : ℕ → Cut) → ((len : ℕ) → front ≡ Ok (Some len) → further len ≡ further' len) → cut_by total rest front further ≡ cut_by total rest front further'
+same_by : (total : ℕ) (rest : List ℕ) (front : Result (Option ℕ) CifFault) (further further' : ℕ → Cut)
+    → ((len : ℕ) → front ≡ Ok (Some len) → further len ≡ further' len) → cut_by total rest front further ≡ cut_by total rest front further'
 same_by total rest (Err fault) further further' same = refl
 same_by total rest (Ok None) further further' same = refl
-same_by total rest (Ok (Some len)) further further' same = ap (λ (c : Cut). record { pieces = (offset_of total rest, take len rest) ∷ c.pieces; fault = c.fault }) (same len refl)
+same_by total rest (Ok (Some len)) further further' same =
+    ap (λ (c : Cut). record { pieces = (offset_of total rest, take len rest) ∷ c.pieces; fault = c.fault }) (same len refl)
 
 -- more steps than the rest has bytes are all as good
 cut_from-enough : (n m total : ℕ) (rest : List ℕ) → length rest < n → length rest < m → cut_from n total rest ≡ cut_from m total rest
@@ -35,7 +38,8 @@ cut_from-enough (suc n) (suc m) total rest h k =
     cut_from-enough n m total (behind_command len rest) (omega arith) (omega arith))
 
 -- one step of cutting
-pub cut_rest-step : (total : ℕ) (rest : List ℕ) → cut_rest total rest ≡ cut_by total rest (front_of total rest) (λ len. cut_rest total (behind_command len rest))
+pub cut_rest-step : (total : ℕ) (rest : List ℕ) → cut_rest total rest
+    ≡ cut_by total rest (front_of total rest) (λ len. cut_rest total (behind_command len rest))
 unfolding cut_rest cut_from
 cut_rest-step total rest =
     rw add-one (same_by total rest (front_of total rest) _ _ (λ len e.

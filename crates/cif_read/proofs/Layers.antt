@@ -1,13 +1,14 @@
--- The name behind an `L` is a layer name where it has no more than 16 bytes.
-use Rattle.std.proofs.Common.{◌≡◌, ℕ, ◌≤◌, true, cond, ltb, List, [], ◌∷◌, length, Some, None, refl, arith, inl, inr}
+-- The name behind an `L` is a layer name where it is within the limit.
+use Rattle.std.proofs.Common.{◌≡◌, ℕ, ◌≤◌, true, cond, ltb, List, [], ◌∷◌, length, Some, None, arith}
 use Rattle.std.specs.List.{take_while, list_all}
-use Rattle.std.proofs.lemmas.Bool.{cases_lt, lt-ltb, le-ltb, le-leb, lt-leb}
+use Rattle.std.proofs.lemmas.Bool.Decides.{nat_tests}
 use Rattle.std.proofs.lemmas.List.Sums.{list_all-from_AllPass}
 use Rattle.std.proofs.lemmas.Option.{cond_some}
+use Rattle.lay_point.specs.declared.layer_name.TheConstants.{MAX_LAYER_NAME}
 use Rattle.lay_point.specs.Names.{is_name_byte, layer_name_of}
-use Rattle.cif_read.specs.Bytes.{is_blank, skip}
+use Rattle.cif_scan.specs.Bytes.{is_blank, skip}
 use Rattle.cif_read.specs.Commands.{layer_of, name_alone}
-use Rattle.cif_read.proofs.Runs.{AllPass-take_while}
+use Rattle.cif_scan.proofs.Runs.{AllPass-take_while}
 
 -- what stands alone is that, has bytes, and blanks behind it
 pub record StandsAlone (bytes behind name : List ℕ) : Type 0 where
@@ -21,16 +22,15 @@ StandsAlone-from (b ∷ bs) behind name e =
     let parts = cond_some (list_all is_blank behind) (b ∷ bs) name e in
     record { same = parts.1; some = rw (← parts.1) (omega arith); blanks = parts.0 }
 
-named : (name : List ℕ) → 1 ≤ length name → list_all is_name_byte name ≡ true → layer_name_of name ≡ cond (ltb 16 (length name)) None (Some name)
-named name some passes =
-    elim (cases_lt 16 (length name)) [
-      | inl long ↦ rw (le-leb 1 (length name) some, lt-leb (length name) 16 long, lt-ltb 16 (length name) long) refl
-      | inr short ↦ rw (le-leb 1 (length name) some, le-leb (length name) 16 short, le-ltb 16 (length name) short, passes) refl
-    ]
+named : (name : List ℕ) → 1 ≤ length name → list_all is_name_byte name ≡ true
+    → layer_name_of name ≡ cond (ltb MAX_LAYER_NAME (length name)) None (Some name)
+named name some passes = grind (arith, nat_tests)
 
-pub layer_name_of_layer : (bytes name : List ℕ) → layer_of bytes ≡ Some name → layer_name_of name ≡ cond (ltb 16 (length name)) None (Some name)
+pub layer_name_of_layer : (bytes name : List ℕ) → layer_of bytes ≡ Some name
+    → layer_name_of name ≡ cond (ltb MAX_LAYER_NAME (length name)) None (Some name)
 unfolding layer_of
 layer_name_of_layer bytes name e =
     let rest = skip is_blank bytes in
     let found = StandsAlone-from (take_while is_name_byte rest) (skip is_name_byte rest) name e in
-    named name found.some (rw (← found.same) (list_all-from_AllPass is_name_byte (take_while is_name_byte rest) (AllPass-take_while is_name_byte rest)))
+    named name found.some
+    (rw (← found.same) (list_all-from_AllPass is_name_byte (take_while is_name_byte rest) (AllPass-take_while is_name_byte rest)))

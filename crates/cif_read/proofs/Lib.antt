@@ -1,15 +1,11 @@
 pub mod BoxLemmas
-pub mod ByteClasses
 pub mod Caps
 pub mod CommandGrammar
-pub mod Counts
 pub mod CutLemmas
 pub mod CutGrammar
 pub mod ElementLemmas
 pub mod Layers
 pub mod MeaningLemmas
-pub mod NumberGrammar
-pub mod Runs
 pub mod Spellings
 pub mod Steps
 pub mod TextGrammar

@@ -5,7 +5,7 @@ use Rattle.cif_read.specs.declared.file.CifFile.{CifFile}
 use Rattle.cif_read.specs.declared.content.Content.{Content}
 use Rattle.cif_read.specs.Commands.{and_then}
 use Rattle.cif_read.specs.Cutting.{behind_command, cut, cut_by, cut_rest, end_fault, front_of, offset_of}
-use Rattle.cif_read.specs.Bytes.{is_gap, skip}
+use Rattle.cif_scan.specs.Bytes.{is_gap, skip}
 use Rattle.cif_read.specs.Content.{start}
 use Rattle.cif_read.specs.Meaning.{after_bytes, after_cut, after_pieces, at_end, meaning_within}
 use Rattle.lay_point.specs.Memory.{IsAnswer}
@@ -19,54 +19,38 @@ rest_means content total rest = after_cut content (cut_rest total rest)
 abbrev pub means_by : Content → ℕ → List ℕ → Result (Option ℕ) CifFault → Result CifFile CifFault
 means_by content total rest (Err fault) = Err fault
 means_by content total rest (Ok None) = at_end content (end_fault total rest)
-means_by content total rest (Ok (Some len)) = and_then (after_bytes content (offset_of total rest) (take len rest)) (λ next. rest_means next total (behind_command len rest))
+means_by content total rest (Ok (Some len)) = and_then (after_bytes content (offset_of total rest) (take len rest))
+    (λ next. rest_means next total (behind_command len rest))
 
-by_cut : (content : Content) (total : ℕ) (rest : List ℕ) (front : Result (Option ℕ) CifFault) → after_cut content (cut_by total rest front (λ len. cut_rest total (behind_command len rest))) ≡ means_by content total rest front
+by_cut : (content : Content) (total : ℕ) (rest : List ℕ) (front : Result (Option ℕ) CifFault)
+    → after_cut content (cut_by total rest front (λ len. cut_rest total (behind_command len rest))) ≡ means_by content total rest front
 unfolding after_pieces
 by_cut content total rest (Err fault) = refl
 by_cut content total rest (Ok None) = refl
 by_cut content total rest (Ok (Some len)) = refl
 
-pub rest_means-step : (content : Content) (total : ℕ) (rest : List ℕ) (front : Result (Option ℕ) CifFault) → front_of total rest ≡ front → rest_means content total rest ≡ means_by content total rest front
-rest_means-step content total rest front e = ap (after_cut content) (cut_rest-step total rest) ∙ by_cut content total rest (front_of total rest) ∙ ap (means_by content total rest) e
+pub rest_means-step : (content : Content) (total : ℕ) (rest : List ℕ) (front : Result (Option ℕ) CifFault) → front_of total rest ≡ front
+    → rest_means content total rest ≡ means_by content total rest front
+rest_means-step content total rest front e = ap (after_cut content) (cut_rest-step total rest)
+    ∙ by_cut content total rest (front_of total rest) ∙ ap (means_by content total rest) e
 
 -- the text behind its first gap means what the text means
 pub start_means : (text : List ℕ) → rest_means start (length text) (skip is_gap text) ≡ meaning_within text
 unfolding meaning_within cut
 start_means text = refl
 
--- behind a command the meaning goes on
-pub goes_on : (content next : Content) (total : ℕ) (rest : List ℕ) (len : ℕ) (whole : Result CifFile CifFault)
-    → front_of total rest ≡ Ok (Some len) → after_bytes content (offset_of total rest) (take len rest) ≡ Ok next
-    → rest_means content total rest ≡ whole → rest_means next total (behind_command len rest) ≡ whole
-goes_on content next total rest len whole front bytes so_far =
-    let step : rest_means content total rest ≡ rest_means next total (behind_command len rest) = rest_means-step content total rest (Ok (Some len)) front ∙ rw bytes refl in
-    sym step ∙ so_far
+-- the whole means what the rest does by its front
+pub whole_means : (content : Content) (total : ℕ) (rest : List ℕ) (front : Result (Option ℕ) CifFault) (whole : Result CifFile CifFault)
+    → front_of total rest ≡ front → rest_means content total rest ≡ whole → whole ≡ means_by content total rest front
+whole_means content total rest front whole e so_far = sym so_far ∙ rest_means-step content total rest front e
 
--- a command's fault is that of the whole
-pub stops_in_command : (content : Content) (total : ℕ) (rest : List ℕ) (len : ℕ) (fault : CifFault) (whole : Result CifFile CifFault)
-    → front_of total rest ≡ Ok (Some len) → after_bytes content (offset_of total rest) (take len rest) ≡ Err fault
-    → rest_means content total rest ≡ whole → whole ≡ Err fault
-stops_in_command content total rest len fault whole front bytes so_far =
-    let step : rest_means content total rest ≡ Err fault = rest_means-step content total rest (Ok (Some len)) front ∙ rw bytes refl in
-    sym so_far ∙ step
-
--- a cut that fails is the fault of the whole
-pub stops_at_front : (content : Content) (total : ℕ) (rest : List ℕ) (fault : CifFault) (whole : Result CifFile CifFault)
-    → front_of total rest ≡ Err fault → rest_means content total rest ≡ whole → whole ≡ Err fault
-stops_at_front content total rest fault whole front so_far = sym so_far ∙ rest_means-step content total rest (Err fault) front
-
--- at the `E` what stands behind it decides
-pub stops_at_end : (content : Content) (total : ℕ) (rest : List ℕ) (whole : Result CifFile CifFault)
-    → front_of total rest ≡ Ok None → rest_means content total rest ≡ whole → whole ≡ at_end content (end_fault total rest)
-stops_at_end content total rest whole front so_far = sym so_far ∙ rest_means-step content total rest (Ok None) front
-
--- an answer that is a value is the one that is wanted
+-- a result that is a value is the wanted one
 pub value_wanted : {T E : Type 0} (no_memory : E) (x : T) (wanted : Result T E) → IsAnswer no_memory (Ok x) wanted → wanted ≡ Ok x
 value_wanted no_memory x wanted (inl e) = absurd cc
 value_wanted no_memory x wanted (inr e) = sym e
 
--- an answer of a step is one of the whole that has its faults
-pub fault_wanted : {A B E : Type 0} (no_memory fault : E) (step : Result A E) (whole : Result B E) → ((f : E) → step ≡ Err f → whole ≡ Err f) → IsAnswer no_memory (Err fault) step → IsAnswer no_memory (Err fault) whole
+-- a fault of a step is one of the whole that has its faults
+pub fault_wanted : {A B E : Type 0} (no_memory fault : E) (step : Result A E) (whole : Result B E)
+    → ((f : E) → step ≡ Err f → whole ≡ Err f) → IsAnswer no_memory (Err fault) step → IsAnswer no_memory (Err fault) whole
 fault_wanted no_memory fault step whole same (inl e) = inl (let f : no_memory ≡ fault = cc in cc)
 fault_wanted no_memory fault step whole same (inr e) = inr (sym (same fault (sym e)))

@@ -3,13 +3,15 @@ use Rattle.std.proofs.Common.{◌≡◌, ℕ, Bool, true, false, List, [], ◌�
 use Rattle.std.specs.Prelude.{◌==◌}
 use Rattle.std.specs.List.{list_all}
 use Rattle.std.proofs.lemmas.Bool.{and_from, and_parts}
+use Rattle.std.proofs.lemmas.List.Folds.{list_all-append}
 use Rattle.lay_point.specs.Names.{is_digit, is_name_byte}
-use Rattle.cif_read.specs.declared.number.Number.{Number}
+use Rattle.cif_scan.specs.declared.number.Number.{Number}
 use Rattle.cif_read.specs.declared.command.Command.{Command}
 use Rattle.cif_read.specs.declared.command.Command.TheVariants.{Box, Layer}
-use Rattle.cif_read.specs.Bytes.{is_blank, is_gap, is_separator}
-use Rattle.cif_read.specs.Grammar.{IsDigits, IsInteger, IsSigned, Spells, sign}
-use Rattle.cif_read.proofs.ByteClasses.{blank_plain, digit_plain, is_plain, letter_no_gap, name_byte_plain, separator_plain}
+use Rattle.cif_scan.specs.Bytes.{is_blank, is_gap, is_separator}
+use Rattle.cif_scan.specs.Grammar.{IsDigits, IsInteger, IsSigned, sign}
+use Rattle.cif_read.specs.Grammar.{Spells}
+use Rattle.cif_scan.proofs.ByteClasses.{blank_plain, digit_plain, is_plain, letter_no_gap, name_byte_plain, separator_plain}
 
 -- the first byte, and the bytes behind it
 pub record Spelling (text : List ℕ) : Type 0 where
@@ -21,23 +23,23 @@ pub record Spelling (text : List ℕ) : Type 0 where
   pub no_comment : (first == 40) ≡ false
   pub plain : list_all is_plain more ≡ true
 
-plain_all : (passes : ℕ → Bool) (bytes : List ℕ) → ((b : ℕ) → passes b ≡ true → is_plain b ≡ true) → list_all passes bytes ≡ true → list_all is_plain bytes ≡ true
+plain_all : (passes : ℕ → Bool) (bytes : List ℕ) → ((b : ℕ) → passes b ≡ true → is_plain b ≡ true) → list_all passes bytes ≡ true
+    → list_all is_plain bytes ≡ true
 plain_all passes [] plain h = refl
 plain_all passes (b ∷ bs) plain h =
     let parts = and_parts (passes b) (list_all passes bs) h in
     and_from (is_plain b) (list_all is_plain bs) (plain b parts.0) (plain_all passes bs plain parts.1)
 
 plain_append : (xs ys : List ℕ) → list_all is_plain xs ≡ true → list_all is_plain ys ≡ true → list_all is_plain (xs ++ ys) ≡ true
-plain_append [] ys h k = k
-plain_append (x ∷ xs) ys h k =
-    let parts = and_parts (is_plain x) (list_all is_plain xs) h in
-    and_from (is_plain x) (list_all is_plain (xs ++ ys)) parts.0 (plain_append xs ys parts.1 k)
+plain_append xs ys h k = rw (list_all-append, h, k) refl
 
 plain_digits : (text : List ℕ) (n : ℕ) → IsDigits text n → list_all is_plain text ≡ true
 plain_digits text n h = plain_all is_digit text digit_plain h.digits
 
 plain_integer : (text : List ℕ) (n : ℕ) → IsInteger text n → list_all is_plain text ≡ true
-plain_integer text n h = rw h.parts (plain_append h.front h.digits (plain_all is_separator h.front separator_plain h.separators) (plain_digits h.digits n h.spelled))
+plain_integer text n h =
+    rw h.parts (plain_append h.front h.digits (plain_all is_separator h.front separator_plain h.separators)
+    (plain_digits h.digits n h.spelled))
 
 plain_sign : (negative : Bool) → list_all is_plain (sign negative) ≡ true
 plain_sign true = refl
@@ -61,15 +63,19 @@ Spelling-from text (Layer name) h = record {
   no_end = refl;
   no_comment = refl;
   plain = plain_append h.front (name ++ h.behind) (plain_all is_blank h.front blank_plain h.front_blank)
-      (plain_append name h.behind (plain_all is_name_byte name name_byte_plain h.name_bytes) (plain_all is_blank h.behind blank_plain h.behind_blank));
+      (plain_append name h.behind (plain_all is_name_byte name name_byte_plain h.name_bytes)
+      (plain_all is_blank h.behind blank_plain h.behind_blank));
 }
 Spelling-from text (Box b) h =
     let y_rest = h.y_text ++ h.behind in
     let x_rest = h.x_text ++ (h.before_y ∷ y_rest) in
     let width_rest = h.width_text ++ (h.before_x ∷ x_rest) in
-    let y_plain = plain_append h.y_text h.behind (plain_signed h.y_text b.y h.y_is) (plain_all is_blank h.behind blank_plain h.behind_blank) in
-    let x_plain = plain_append h.x_text (h.before_y ∷ y_rest) (plain_signed h.x_text b.x h.x_is) (plain_behind h.before_y y_rest h.y_separated y_plain) in
-    let width_plain = plain_append h.width_text (h.before_x ∷ x_rest) (plain_integer h.width_text b.width h.width_is) (plain_behind h.before_x x_rest h.x_separated x_plain) in
+    let y_plain = plain_append h.y_text h.behind (plain_signed h.y_text b.y h.y_is) (plain_all is_blank h.behind blank_plain h.behind_blank)
+    in
+    let x_plain = plain_append h.x_text (h.before_y ∷ y_rest) (plain_signed h.x_text b.x h.x_is)
+    (plain_behind h.before_y y_rest h.y_separated y_plain) in
+    let width_plain = plain_append h.width_text (h.before_x ∷ x_rest) (plain_integer h.width_text b.width h.width_is)
+    (plain_behind h.before_x x_rest h.x_separated x_plain) in
     record {
       first = 66;
       more = h.length_text ++ (h.before_width ∷ width_rest);
@@ -77,5 +83,6 @@ Spelling-from text (Box b) h =
       no_gap = letter_no_gap 66 refl;
       no_end = refl;
       no_comment = refl;
-      plain = plain_append h.length_text (h.before_width ∷ width_rest) (plain_integer h.length_text b.length h.length_is) (plain_behind h.before_width width_rest h.width_separated width_plain);
+      plain = plain_append h.length_text (h.before_width ∷ width_rest) (plain_integer h.length_text b.length h.length_is)
+          (plain_behind h.before_width width_rest h.width_separated width_plain);
     }

@@ -3,9 +3,9 @@
 use Rattle.std.specs.Prelude.{ℕ, ℤ, pos, neg_ℤ, ◌+ℤ◌, ◌-ℤ◌, ◌*ℤ◌, ◌==◌, Bool, ◌||◌, Option, Some, None, if◌then◌else◌}
 use Rattle.lay_point.specs.declared.point.Point.{Point}
 use Rattle.lay_point.specs.Points.{is_in_range}
-use Rattle.cif_read.specs.declared.number.Number.{Number}
+use Rattle.cif_scan.specs.declared.number.Number.{Number}
 use Rattle.cif_read.specs.declared.command.BoxNumbers.{BoxNumbers}
-use Rattle.cif_read.specs.Numbers.{◌>>=◌}
+use Rattle.cif_scan.specs.Numbers.{◌>>=◌}
 
 -- what a written number stands for
 abbrev pub value_of : Number → ℤ

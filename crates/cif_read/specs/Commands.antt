@@ -4,14 +4,16 @@
 -- this project's own.
 use Rattle.std.specs.Prelude.{ℕ, ◌==◌, nat_lt, List, [], ◌∷◌, length, Bool, ◌||◌, Option, Some, None, Result, Ok, Err, if◌then◌else◌}
 use Rattle.std.specs.List.{take_while, list_all}
+use Rattle.lay_point.specs.declared.layer_name.TheConstants.{MAX_LAYER_NAME}
 use Rattle.lay_point.specs.Names.{is_name_byte}
 use Rattle.cif_read.specs.declared.fault.FaultKind.{FaultKind}
 use Rattle.cif_read.specs.declared.fault.FaultKind.TheVariants.{DeleteDef, Flash, LongName, Syntax, TooBig, Wire}
+use Rattle.cif_scan.specs.declared.number.TheConstants.{MAX_MAGNITUDE}
 use Rattle.cif_read.specs.declared.command.BoxNumbers.{BoxNumbers}
 use Rattle.cif_read.specs.declared.command.Command.{Command}
 use Rattle.cif_read.specs.declared.command.Command.TheVariants.{Box, Layer}
-use Rattle.cif_read.specs.Bytes.{is_blank, skip}
-use Rattle.cif_read.specs.Numbers.{◌>>=◌, behind_separator, integer_at, signed_at}
+use Rattle.cif_scan.specs.Bytes.{is_blank, skip}
+use Rattle.cif_scan.specs.Numbers.{◌>>=◌, behind_separator, integer_at, signed_at}
 
 -- the bytes, where there are some and blanks alone stand behind them
 abbrev pub name_alone : List ℕ → List ℕ → Option (List ℕ)
@@ -22,7 +24,7 @@ name_alone (b ∷ bs) behind = if list_all is_blank behind then Some (b ∷ bs) 
 unfoldable pub layer_of : List ℕ → Option (List ℕ)
 layer_of bytes = let rest = skip is_blank bytes in name_alone (take_while is_name_byte rest) (skip is_name_byte rest)
 
--- integer separator integer separator point {blank}, behind the `B`; value says what digits spell
+-- integer separator integer separator point {blank}, behind the `B`; `value` says what digits spell
 unfoldable pub box_of : (List ℕ → ℕ) → List ℕ → Option BoxNumbers
 box_of value bytes = do
   length ← integer_at value bytes
@@ -55,9 +57,9 @@ command_by value (b ∷ bs) =
     else if b == 66 then read_as Box Syntax (box_of value bs)
     else Err Syntax
 
--- a magnitude above 2,147,483,647
+-- a magnitude above all that a text may write
 abbrev pub is_above_written : ℕ → Bool
-is_above_written magnitude = nat_lt 2147483647 magnitude
+is_above_written magnitude = nat_lt MAX_MAGNITUDE magnitude
 
 -- some number of a box is too big
 unfoldable pub is_too_big : BoxNumbers → Bool
@@ -65,7 +67,7 @@ is_too_big b = is_above_written b.length || is_above_written b.width || is_above
 
 -- the command, where its name and numbers are within their limits
 unfoldable pub within_limits : Command → Result Command FaultKind
-within_limits (Layer name) = if nat_lt 16 (length name) then Err LongName else Ok (Layer name)
+within_limits (Layer name) = if nat_lt MAX_LAYER_NAME (length name) then Err LongName else Ok (Layer name)
 within_limits (Box b) = if is_too_big b then Err TooBig else Ok (Box b)
 
 -- the next step where the one before has no fault

@@ -18,6 +18,10 @@ use Rattle.cif_read.specs.declared.content.Content.{Content}
 use Rattle.cif_read.specs.Boxes.{corners, is_flat}
 use Rattle.cif_read.specs.Commands.{and_then, read_as, within_limits}
 
+-- how many elements were kept or dropped
+abbrev pub counted : CifFile → ℕ
+counted file = length file.top + file.dropped
+
 -- the elements with one more at their end
 abbrev pub with_figure : List Element → Figure → List Element
 with_figure top figure = top ++ record { number = length top + 1; figure = figure } ∷ []

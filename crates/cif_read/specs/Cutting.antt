@@ -1,10 +1,11 @@
 -- How a text is cut into commands.
 -- Source: Caltech Intermediate Form 2.0: a command ends with a semicolon, a comment's parentheses match, and the text ends
 -- with an `E`. That a command behind a comment's closing parenthesis goes on to the next semicolon is this project's own.
-use Rattle.std.specs.Prelude.{ℕ, zero, suc, ◌+◌, ◌-◌, ◌==◌, List, [], ◌∷◌, length, take, drop, ◌&&◌, Option, Some, None, Result, Ok, Err, if◌then◌else◌}
+use Rattle.std.specs.Prelude.{ℕ, zero, suc, ◌+◌, ◌-◌, ◌==◌, List, [], ◌∷◌, length, take, drop, ◌&&◌, Option, Some, None, Result, Ok, Err}
+use Rattle.std.specs.Prelude.{if◌then◌else◌}
 use Rattle.cif_read.specs.declared.fault.CifFault.{CifFault}
 use Rattle.cif_read.specs.declared.fault.FaultKind.TheVariants.{AfterEnd, NoEnd}
-use Rattle.cif_read.specs.Bytes.{is_blank, is_gap, skip}
+use Rattle.cif_scan.specs.Bytes.{is_blank, is_gap, skip}
 
 -- how deep in parentheses the place behind a byte is; outside all of them parentheses count for nothing
 abbrev pub next_depth : ℕ → ℕ → ℕ
@@ -60,7 +61,11 @@ pub record Cut : Type 0 where
 abbrev pub cut_by : ℕ → List ℕ → Result (Option ℕ) CifFault → (ℕ → Cut) → Cut
 cut_by total rest (Err fault) further = record { pieces = []; fault = Some fault }
 cut_by total rest (Ok None) further = record { pieces = []; fault = end_fault total rest }
-cut_by total rest (Ok (Some len)) further = record { pieces = (offset_of total rest, take len rest) ∷ (further len).pieces; fault = (further len).fault }
+cut_by total rest (Ok (Some len)) further = record {
+  pieces = (offset_of total rest, take len rest) ∷ (further len).pieces;
+  fault =
+      (further len).fault;
+}
 
 -- what stands behind a command of this length, its semicolon and gaps
 abbrev pub behind_command : ℕ → List ℕ → List ℕ

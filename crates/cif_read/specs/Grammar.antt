@@ -2,42 +2,14 @@
 -- Source: Caltech Intermediate Form 2.0, its formal grammar. A separator is an upper-case letter or a blank. That a layer's
 -- name may have any length here, that a box has no direction, and that blanks may stand before the `E` where no command comes
 -- before, are this project's own.
-use Rattle.std.specs.Prelude.{◌≡◌, ℕ, ◌+◌, ◌≤◌, List, [], ◌∷◌, ◌++◌, length, Bool, true, false, IsTrue}
+use Rattle.std.specs.Prelude.{◌≡◌, ℕ, ◌+◌, ◌≤◌, List, [], ◌∷◌, ◌++◌, length, IsTrue}
 use Rattle.std.specs.List.{list_all}
-use Rattle.lay_point.specs.Names.{is_digit, is_name_byte}
-use Rattle.cif_read.specs.declared.number.Number.{Number}
+use Rattle.lay_point.specs.Names.{is_name_byte}
 use Rattle.cif_read.specs.declared.command.BoxNumbers.{BoxNumbers}
 use Rattle.cif_read.specs.declared.command.Command.{Command}
 use Rattle.cif_read.specs.declared.command.Command.TheVariants.{Box, Layer}
-use Rattle.cif_read.specs.Bytes.{is_blank, is_gap, is_separator}
-use Rattle.cif_read.specs.Numbers.{digits_value}
-
--- digit {digit}
-pub record IsDigits (text : List ℕ) (n : ℕ) : Type 0 where
-  pub some : 1 ≤ length text
-  pub digits : IsTrue (list_all is_digit text)
-  pub value : digits_value text ≡ n
-
--- {separator} digit {digit}
-pub record IsInteger (text : List ℕ) (n : ℕ) : Type 0 where
-  pub front : List ℕ
-  pub digits : List ℕ
-  pub parts : text ≡ front ++ digits
-  pub separators : IsTrue (list_all is_separator front)
-  pub spelled : IsDigits digits n
-
--- "-" or nothing
-abbrev pub sign : Bool → List ℕ
-sign true = 45 ∷ []
-sign false = []
-
--- {separator} ["-"] digit {digit}
-pub record IsSigned (text : List ℕ) (n : Number) : Type 0 where
-  pub front : List ℕ
-  pub digits : List ℕ
-  pub parts : text ≡ front ++ (sign n.negative ++ digits)
-  pub separators : IsTrue (list_all is_separator front)
-  pub spelled : IsDigits digits n.magnitude
+use Rattle.cif_scan.specs.Bytes.{is_blank, is_gap, is_separator}
+use Rattle.cif_scan.specs.Grammar.{IsInteger, IsSigned}
 
 -- "L" {blank} name {blank}
 pub record IsLayer (text name : List ℕ) : Type 0 where
@@ -89,7 +61,7 @@ pub record BeginsWith (offset : ℕ) (text : List ℕ) (place : ℕ) (command : 
   pub rest : List ℕ
   pub parts : text ≡ gap ++ (spelling ++ (59 ∷ rest))
   pub passed : IsTrue (list_all is_gap gap)
-  pub placed : place ≡ offset + length gap
+  pub located : place ≡ offset + length gap
   pub spells : Spells spelling command
 
 -- the rest of a text from an offset on is these commands, each with its offset, and the end

@@ -1,6 +1,4 @@
 pub mod Boxes
-pub mod Bytes
-pub mod Capped
 pub mod Commands
 pub mod Content
 pub mod Cutting
@@ -8,6 +6,3 @@ pub mod Elements
 pub mod Faults
 pub mod Grammar
 pub mod Meaning
-pub mod Numbers
-pub mod Same
-pub mod Views

@@ -3,15 +3,16 @@ use Rattle.std.specs.Prelude.{ℕ, List, [], ◌∷◌, length, nat_lt, Option, 
 use Rattle.cif_read.specs.declared.fault.CifFault.{CifFault}
 use Rattle.cif_read.specs.declared.fault.FaultKind.TheVariants.{NoMemory, TooMany}
 use Rattle.cif_read.specs.declared.file.CifFile.{CifFile}
+use Rattle.cif_read.specs.declared.file.TheConstants.{MAX_TEXT}
 use Rattle.cif_read.specs.declared.content.Content.{Content}
 use Rattle.cif_read.specs.Commands.{and_then, command_by, within_limits}
 use Rattle.cif_read.specs.Content.{at_offset, effect_of, start}
 use Rattle.cif_read.specs.Cutting.{Cut, cut}
-use Rattle.cif_read.specs.Numbers.{digits_value}
+use Rattle.byte_io.specs.Decimal.{decimal_value}
 
 -- what is meant after the bytes of the command at this offset
 unfoldable pub after_bytes : Content → ℕ → List ℕ → Result Content CifFault
-after_bytes content offset bytes = at_offset offset (and_then (and_then (command_by digits_value bytes) within_limits) (effect_of content))
+after_bytes content offset bytes = at_offset offset (and_then (and_then (command_by decimal_value bytes) within_limits) (effect_of content))
 
 -- what is meant at the end of a text
 abbrev pub at_end : Content → Option CifFault → Result CifFile CifFault
@@ -34,10 +35,10 @@ meaning_within text = after_cut start (cut text)
 abbrev pub too_long : CifFault
 too_long = record { kind = TooMany; offset = 0 }
 
--- a growth of memory was refused
+-- an allocation failed
 abbrev pub no_memory : CifFault
 no_memory = record { kind = NoMemory; offset = 0 }
 
 -- the meaning of a text, or its first fault
 abbrev pub meaning : List ℕ → Result CifFile CifFault
-meaning text = if nat_lt 16777216 (length text) then Err too_long else meaning_within text
+meaning text = if nat_lt MAX_TEXT (length text) then Err too_long else meaning_within text

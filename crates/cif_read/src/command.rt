@@ -1,17 +1,17 @@
 //! Commands, one at a time.
-ghost use Rattle.std.specs.Prelude.{◌≡◌};
+ghost use Rattle.std.specs.Prelude.{◌≡◌, ◌+◌};
 ghost use Rattle.std.specs.List.{list_all};
-ghost use Rattle.cif_read.specs.Bytes.{is_blank};
-ghost use Rattle.cif_read.specs.Capped.{capped_decimal};
-ghost use Rattle.cif_read.specs.Commands.{and_then, box_of, command_by, definition_fault, is_above_written, is_too_big, layer_of, read_as, within_limits};
+ghost use Rattle.cif_scan.specs.Bytes.{is_blank};
+ghost use Rattle.cif_read.specs.Commands.{and_then, box_of, command_by, definition_fault, layer_of, read_as};
+ghost use Rattle.cif_read.specs.Commands.{is_too_big, within_limits};
 ghost use Rattle.cif_read.specs.declared.command.Command.TheVariants as CommandVariants;
 ghost use Rattle.cif_read.specs.declared.fault.FaultKind.TheVariants.{Syntax};
-ghost use Rattle.cif_read.specs.Numbers.{digits_value};
-ghost use Rattle.cif_read.specs.Views.{Gives};
+ghost use Rattle.byte_io.specs.Decimal.{capped_decimal, decimal_value};
+ghost use Rattle.cif_scan.specs.declared.number.TheConstants.{MAX_MAGNITUDE};
+ghost use Rattle.cif_scan.specs.Views.{Gives};
 
-use crate::bytes::{Class, run_len, skip};
 use crate::fault::FaultKind;
-use crate::number::{CAP, Number, behind_separator, integer, signed};
+use cif_scan::{Class, MAX_MAGNITUDE, Number, behind_separator, integer, run_len, signed, skip};
 use lay_point::LayerName;
 
 /// The numbers of a box, in hundredths of a micrometre.
@@ -21,9 +21,9 @@ pub struct BoxNumbers {
     pub length: u32,
     /// The side along the y axis.
     pub width: u32,
-    /// The centre's place along the x axis.
+    /// The centre's coordinate along the x axis.
     pub x: Number,
-    /// The centre's place along the y axis.
+    /// The centre's coordinate along the y axis.
     pub y: Number,
 }
 
@@ -36,14 +36,41 @@ pub enum Command {
     Box(BoxNumbers),
 }
 
-/// Whether blanks alone stand there.
-fn are_blanks(bytes: &[u8]) -> bool
-    ensures { result ≡ list_all is_blank bytes.now }
+/// Returns the command that the bytes without their semicolon write, or the first fault of it alone.
+#[tactic(auto, unfolding(crate::specs::Commands::command_by))]
+pub fn command_of(bytes: &[u8]) -> Result<Command, FaultKind>
+    ensures { result ≡ and_then (command_by decimal_value bytes.now) within_limits }
 {
-    bytes.iter().all(|b| Class::Blank.contains(*b))
+    match bytes {
+        [b'W', ..] => Err(FaultKind::Wire),
+        [b'R', ..] => Err(FaultKind::Flash),
+        [b'D', behind @ ..] => Err(definition_fault(skip(behind, Class::Blank))),
+        [b'L', behind @ ..] => layer_command(behind),
+        [b'B', behind @ ..] => box_command(behind),
+        _ => Err(FaultKind::Syntax),
+    }
 }
 
-/// The name behind an `L`, of any length, with blanks round it.
+/// Returns what is wrong with a command, by what stands behind its `D` and blanks.
+fn definition_fault(bytes: &[u8]) -> FaultKind
+    ensures { result ≡ definition_fault bytes.now }
+{
+    match bytes {
+        [b'D', ..] => FaultKind::DeleteDef,
+        _ => FaultKind::Syntax,
+    }
+}
+
+#[tactic(auto, using(crate::proofs::Layers::layer_name_of_layer), unfolding(crate::specs::Commands::within_limits))]
+fn layer_command(bytes: &[u8]) -> Result<Command, FaultKind>
+    ensures { result ≡ and_then (read_as CommandVariants.Layer Syntax (layer_of bytes.now)) within_limits }
+{
+    let name = layer(bytes).ok_or(FaultKind::Syntax)?;
+    let name = LayerName::new(name).ok_or(FaultKind::LongName)?;
+    Ok(Command::Layer(name))
+}
+
+/// Reads the name behind an `L`, of any length, with blanks around it.
 #[tactic(auto, unfolding(crate::specs::Commands::layer_of))]
 fn layer(bytes: &[u8]) -> Option<&[u8]>
     ensures { Gives (λ name. name.now) result (layer_of bytes.now) }
@@ -56,10 +83,22 @@ fn layer(bytes: &[u8]) -> Option<&[u8]>
     Some(name)
 }
 
-/// The numbers behind a `B`, each at most `CAP`.
+/// Reads the box behind a `B`. Its numbers are capped before they are tested.
+#[tactic(auto, using(crate::proofs::Caps::capped_is_enough), unfolding(crate::specs::Commands::within_limits))]
+fn box_command(bytes: &[u8]) -> Result<Command, FaultKind>
+    ensures { result ≡ and_then (read_as CommandVariants.Box Syntax (box_of decimal_value bytes.now)) within_limits }
+{
+    let numbers = box_numbers(bytes).ok_or(FaultKind::Syntax)?;
+    if is_too_big(numbers) {
+        return Err(FaultKind::TooBig);
+    }
+    Ok(Command::Box(numbers))
+}
+
+/// Reads the numbers behind a `B`, each at most `MAX_MAGNITUDE + 1`.
 #[tactic(auto, unfolding(crate::specs::Commands::box_of))]
 fn box_numbers(bytes: &[u8]) -> Option<BoxNumbers>
-    ensures { result ≡ box_of capped_decimal bytes.now }
+    ensures { result ≡ box_of (capped_decimal (MAX_MAGNITUDE + 1)) bytes.now }
 {
     let (length, rest) = integer(bytes)?;
     let (width, rest) = integer(behind_separator(rest)?)?;
@@ -76,67 +115,19 @@ fn box_numbers(bytes: &[u8]) -> Option<BoxNumbers>
     })
 }
 
-/// Whether the magnitude is above all that a text may write.
-fn is_above_written(magnitude: u32) -> bool
-    ensures { result ≡ is_above_written magnitude }
+fn are_blanks(bytes: &[u8]) -> bool
+    ensures { result ≡ list_all is_blank bytes.now }
 {
-    magnitude >= CAP
+    bytes.iter().all(|b| Class::Blank.contains(*b))
 }
 
-/// Whether some number of the box is above all that a text may write.
+/// Returns whether some number of the box is above all that a text may write.
 #[tactic(auto, unfolding(crate::specs::Commands::is_too_big))]
 fn is_too_big(numbers: BoxNumbers) -> bool
     ensures { result ≡ is_too_big numbers }
 {
-    is_above_written(numbers.length)
-        || is_above_written(numbers.width)
-        || is_above_written(numbers.x.magnitude)
-        || is_above_written(numbers.y.magnitude)
-}
-
-/// The layer that is set behind an `L`.
-#[tactic(auto, using(crate::proofs::Layers::layer_name_of_layer), unfolding(crate::specs::Commands::within_limits))]
-fn layer_command(bytes: &[u8]) -> Result<Command, FaultKind>
-    ensures { result ≡ and_then (read_as CommandVariants.Layer Syntax (layer_of bytes.now)) within_limits }
-{
-    let name = layer(bytes).ok_or(FaultKind::Syntax)?;
-    let name = LayerName::new(name).ok_or(FaultKind::LongName)?;
-    Ok(Command::Layer(name))
-}
-
-/// The box behind a `B`. Its numbers are capped before they are tested.
-#[tactic(auto, using(crate::proofs::Caps::capped_is_enough), unfolding(crate::specs::Commands::within_limits))]
-fn box_command(bytes: &[u8]) -> Result<Command, FaultKind>
-    ensures { result ≡ and_then (read_as CommandVariants.Box Syntax (box_of digits_value bytes.now)) within_limits }
-{
-    let numbers = box_numbers(bytes).ok_or(FaultKind::Syntax)?;
-    if is_too_big(numbers) {
-        return Err(FaultKind::TooBig);
-    }
-    Ok(Command::Box(numbers))
-}
-
-/// What is wrong with a command that begins with a `D`, behind it and blanks.
-fn definition_fault(bytes: &[u8]) -> FaultKind
-    ensures { result ≡ definition_fault bytes.now }
-{
-    match bytes {
-        [b'D', ..] => FaultKind::DeleteDef,
-        _ => FaultKind::Syntax,
-    }
-}
-
-/// The command that the bytes without their semicolon write, or the first fault of it alone.
-#[tactic(auto, unfolding(crate::specs::Commands::command_by))]
-pub fn command_of(bytes: &[u8]) -> Result<Command, FaultKind>
-    ensures { result ≡ and_then (command_by digits_value bytes.now) within_limits }
-{
-    match bytes {
-        [b'W', ..] => Err(FaultKind::Wire),
-        [b'R', ..] => Err(FaultKind::Flash),
-        [b'D', behind @ ..] => Err(definition_fault(skip(behind, Class::Blank))),
-        [b'L', behind @ ..] => layer_command(behind),
-        [b'B', behind @ ..] => box_command(behind),
-        _ => Err(FaultKind::Syntax),
-    }
+    numbers.length > MAX_MAGNITUDE
+        || numbers.width > MAX_MAGNITUDE
+        || numbers.x.magnitude > MAX_MAGNITUDE
+        || numbers.y.magnitude > MAX_MAGNITUDE
 }

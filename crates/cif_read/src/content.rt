@@ -1,7 +1,7 @@
 //! What the commands so far mean.
-ghost use Rattle.std.specs.Prelude.{◌≡◌, ◌+◌, ◌<◌, ◌^◌, length};
+ghost use Rattle.std.specs.Prelude.{◌≡◌, ◌+◌, ◌<◌, ◌≤◌, ◌^◌, IfOk};
 ghost use Rattle.lay_point.specs.Memory.{IsAnswer};
-ghost use Rattle.cif_read.specs.Content.{after_box, effect_of, start, with_box};
+ghost use Rattle.cif_read.specs.Content.{after_box, counted, effect_of, start, with_box};
 ghost use Rattle.cif_read.specs.declared.fault.FaultKind.TheVariants.{NoMemory};
 
 use crate::box_corners::{corners, is_flat};
@@ -22,7 +22,7 @@ pub struct Content {
 }
 
 impl Content {
-    /// No layer is set and nothing is drawn.
+    /// Returns the content in which no layer is set and nothing is drawn.
     pub fn new(alloc: Global) -> Content
         ensures { result ≡ start }
     {
@@ -35,10 +35,11 @@ impl Content {
         }
     }
 
-    /// What is meant after one more command.
+    /// Returns what is meant after one more command.
     pub fn with(self, alloc: Global, command: Command) -> Result<Content, FaultKind>
-        requires { length self.file.top + self.file.dropped + 1 < 2 ^ 32 }
-        ensures { IsAnswer NoMemory result (effect_of self command) }
+        requires { counted self.file + 1 < 2 ^ 32 }
+        ensures answer { IsAnswer NoMemory result (effect_of self command) }
+        ensures one_more { IfOk result (λ next. counted next.file ≤ counted self.file + 1) }
     {
         match command {
             Command::Layer(name) => Ok(Content {
@@ -50,15 +51,16 @@ impl Content {
     }
 }
 
-/// What is meant after a box where this layer is set, or none.
+/// Returns what is meant after a box where this layer is set, or none.
 fn after_box(
     alloc: Global,
     file: CifFile,
     layer: Option<LayerName>,
     numbers: BoxNumbers,
 ) -> Result<Content, FaultKind>
-    requires { length file.top + file.dropped + 1 < 2 ^ 32 }
-    ensures { IsAnswer NoMemory result (after_box file layer numbers) }
+    requires { counted file + 1 < 2 ^ 32 }
+    ensures answer { IsAnswer NoMemory result (after_box file layer numbers) }
+    ensures one_more { IfOk result (λ next. counted next.file ≤ counted file + 1) }
 {
     let Some(layer) = layer else {
         return Err(FaultKind::NoLayer);
@@ -70,7 +72,7 @@ fn after_box(
     })
 }
 
-/// The file with a box on the layer.
+/// Returns the file with a box on the layer.
 #[tactic(auto, unfolding(crate::specs::Content::with_box))]
 fn with_box(
     alloc: Global,
@@ -78,8 +80,9 @@ fn with_box(
     layer: LayerName,
     numbers: BoxNumbers,
 ) -> Result<CifFile, FaultKind>
-    requires { length file.top + file.dropped + 1 < 2 ^ 32 }
-    ensures { IsAnswer NoMemory result (with_box file layer numbers) }
+    requires { counted file + 1 < 2 ^ 32 }
+    ensures answer { IsAnswer NoMemory result (with_box file layer numbers) }
+    ensures one_more { IfOk result (λ next. counted next ≤ counted file + 1) }
 {
     let (low, high) = corners(numbers).ok_or(FaultKind::TooBig)?;
     if is_flat(numbers) {

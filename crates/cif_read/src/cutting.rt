@@ -2,24 +2,27 @@
 ghost use Rattle.std.specs.Prelude.{◌≡◌, ◌+◌, ◌<◌, ◌≤◌, ◌^◌, IfOk, IfSome, length};
 ghost use Rattle.cif_read.specs.Cutting.{command_len, end_fault, front_of, next_depth};
 
-use crate::bytes::{Class, skip};
 use crate::fault::{CifFault, FaultKind};
+use cif_scan::{Class, skip};
 
-/// How deep in parentheses the place behind the byte is. Outside all of them they count for nothing.
-fn next_depth(depth: usize, byte: u8) -> usize
-    requires { depth + 1 < 2 ^ 64 }
-    ensures value { result ≡ next_depth depth byte }
-    ensures bound { result ≤ depth + 1 }
+/// Returns the length of the command that begins the rest of a text of `total` bytes, or `None` at the `E`.
+#[tactic(auto, unfolding(crate::specs::Cutting::front_of))]
+pub fn front(total: usize, rest: &[u8]) -> Result<Option<usize>, CifFault>
+    requires { length rest.now ≤ total }
+    ensures value { result ≡ front_of total rest.now }
+    ensures within { IfOk result (λ front. IfSome front (λ len. len < length rest.now)) }
 {
-    match (depth, byte) {
-        (0, _) => 0,
-        (_, b'(') => depth + 1,
-        (_, b')') => depth - 1,
-        _ => depth,
+    if rest.first() == Some(&b'E') {
+        return Ok(None);
     }
+    let len = command_len(rest).ok_or(CifFault {
+        kind: FaultKind::NoEnd,
+        offset: total - rest.len(),
+    })?;
+    Ok(Some(len))
 }
 
-/// How many bytes stand before the semicolon of the command at the front.
+/// Returns how many bytes stand before the semicolon of the command at the start.
 #[tactic(auto, unfolding(crate::specs::Cutting::command_len, crate::specs::Cutting::semicolon_from))]
 fn command_len(bytes: &[u8]) -> Option<usize>
     ensures value { result ≡ command_len bytes.now }
@@ -39,24 +42,21 @@ fn command_len(bytes: &[u8]) -> Option<usize>
     None
 }
 
-/// What stands at the front of a rest of a text with `total` bytes: a command of this length, or the `E`.
-#[tactic(auto, unfolding(crate::specs::Cutting::front_of))]
-pub fn front(total: usize, rest: &[u8]) -> Result<Option<usize>, CifFault>
-    requires { length rest.now ≤ total }
-    ensures value { result ≡ front_of total rest.now }
-    ensures within { IfOk result (λ front. IfSome front (λ len. len < length rest.now)) }
+/// Returns the parenthesis depth after `byte`. A closing parenthesis outside all others counts for nothing.
+fn next_depth(depth: usize, byte: u8) -> usize
+    requires { depth + 1 < 2 ^ 64 }
+    ensures value { result ≡ next_depth depth byte }
+    ensures bound { result ≤ depth + 1 }
 {
-    if rest.first() == Some(&b'E') {
-        return Ok(None);
+    match (depth, byte) {
+        (0, _) => 0,
+        (_, b'(') => depth + 1,
+        (_, b')') => depth - 1,
+        _ => depth,
     }
-    let len = command_len(rest).ok_or(CifFault {
-        kind: FaultKind::NoEnd,
-        offset: total - rest.len(),
-    })?;
-    Ok(Some(len))
 }
 
-/// What is wrong behind the `E` at the front of a rest of a text with `total` bytes.
+/// Returns what is wrong behind the `E` that begins the rest of a text of `total` bytes.
 #[tactic(auto, unfolding(crate::specs::Cutting::end_fault))]
 pub fn end_fault(total: usize, rest: &[u8]) -> Option<CifFault>
     requires { length rest.now ≤ total }

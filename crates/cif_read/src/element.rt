@@ -1,11 +1,11 @@
 //! What a text draws: figures, numbered in text order.
 
-use lay_point::{LayerName, NoMemory, Ring};
+use lay_point::{LayerName, NoMemory, Ring, Sequence};
 use std::alloc::Global;
 use std::marker::Model;
 
 /// What an element draws.
-#[derive(Debug, Drop)]
+#[derive(Debug, Drop, PartialEq, Eq)]
 pub enum Figure {
     /// The inside of a ring on a layer.
     Polygon {
@@ -16,63 +16,19 @@ pub enum Figure {
     },
 }
 
-impl PartialEq for Figure {
-    ghost use Rattle.cif_read.specs.Same.{figure_eq, figure_eq_partial};
-
-    ghost eq = { figure_eq };
-
-    ghost laws = { figure_eq_partial };
-
-    fn eq(&self, other: &Figure) -> bool {
-        match (self, other) {
-            (
-                Figure::Polygon { layer, ring },
-                Figure::Polygon {
-                    layer: other_layer,
-                    ring: other_ring,
-                },
-            ) => layer == other_layer && ring == other_ring,
-        }
-    }
-}
-
-impl Eq for Figure {
-    ghost use Rattle.cif_read.specs.Same.{figure_eq_equiv};
-
-    ghost laws = { figure_eq_equiv };
-}
-
 /// A kept element of a text.
-#[derive(Debug, Drop)]
+#[derive(Debug, Drop, PartialEq, Eq)]
 pub struct Element {
-    /// Its place among the kept elements in text order, from 1.
+    /// Its number among the kept elements in text order, from 1.
     pub number: u32,
     /// What it draws.
     pub figure: Figure,
 }
 
-impl PartialEq for Element {
-    ghost use Rattle.cif_read.specs.Same.{element_eq, element_eq_partial};
-
-    ghost eq = { element_eq };
-
-    ghost laws = { element_eq_partial };
-
-    fn eq(&self, other: &Element) -> bool {
-        self.number == other.number && self.figure == other.figure
-    }
-}
-
-impl Eq for Element {
-    ghost use Rattle.cif_read.specs.Same.{element_eq_equiv};
-
-    ghost laws = { element_eq_equiv };
-}
-
 /// Elements numbered 1, 2, .. in order, each figure's points a ring. Contracts see the list of them.
-#[derive(Debug, Drop)]
+#[derive(Debug, Drop, PartialEq, Eq)]
 pub struct Elements {
-    items: Vec<Element>,
+    items: Sequence<Element>,
 }
 
 impl Model for Elements {
@@ -82,9 +38,11 @@ impl Model for Elements {
 
     ghost Value = { List Element };
 
-    ghost view = { λ e. e.items.items };
+    ghost view = { λ e. e.items };
 
-    ghost invariant = { λ e. AreElements e.items.items };
+    ghost invariant = { λ e. AreElements e.items };
+
+    ghost inverse = { λ elements. record { items = elements } };
 }
 
 impl Elements {
@@ -92,27 +50,29 @@ impl Elements {
     ghost use Rattle.cif_read.specs.Content.{with_figure};
     ghost use Rattle.cif_read.specs.Elements.{AreElements, IsDrawn};
 
-    /// No elements.
+    /// Returns no elements.
     pub(crate) fn new(alloc: Global) -> Elements
         ensures { result ≡ [] }
     {
         Elements {
-            items: Vec::new(alloc),
+            items: Sequence::from_vec(Vec::new(alloc)),
         }
     }
 
-    /// The elements with one more at their end, which draws this figure.
-    pub(crate) fn with(mut self, figure: Figure) -> Result<Elements, NoMemory>
+    /// Returns the elements with one more at their end, which draws this figure.
+    pub(crate) fn with(self, figure: Figure) -> Result<Elements, NoMemory>
         requires room { length self + 1 < 2 ^ 32 }
         requires drawn { IsDrawn figure }
         ensures { IfOk result (λ more. more ≡ with_figure self figure) }
     {
-        let number = self.items.len() as u32 + 1;
-        self.items.push(Element { number, figure })?;
-        Ok(self)
+        let mut items = self.into_vec();
+        let number = items.len() as u32 + 1;
+        items.push(Element { number, figure })?;
+        let items = Sequence::from_vec(items);
+        Ok(Elements { items })
     }
 
-    /// The elements, in order.
+    /// Returns the elements, in order.
     pub fn as_slice(&self) -> &[Element]
         ensures value { result.now ≡ self.now }
         ensures elements { AreElements self.now }
@@ -120,30 +80,12 @@ impl Elements {
         self.items.as_slice()
     }
 
-    /// The elements, in order, taken out.
+    /// Returns the elements, in order, by value.
     pub fn into_vec(self) -> Vec<Element>
         ensures value { result.items ≡ self }
         ensures elements { AreElements self }
     {
         let Elements { items } = self;
-        items
+        items.into_vec()
     }
-}
-
-impl PartialEq for Elements {
-    ghost use Rattle.cif_read.specs.Same.{elements_eq, elements_eq_partial};
-
-    ghost eq = { elements_eq };
-
-    ghost laws = { elements_eq_partial };
-
-    fn eq(&self, other: &Elements) -> bool {
-        self.as_slice() == other.as_slice()
-    }
-}
-
-impl Eq for Elements {
-    ghost use Rattle.cif_read.specs.Same.{elements_eq_equiv};
-
-    ghost laws = { elements_eq_equiv };
 }

@@ -1,74 +1,80 @@
 //! Why a text is refused.
 ghost use Rattle.std.specs.Prelude.{◌≡◌};
-ghost use Rattle.cif_read.specs.Faults.{name_of, number_of};
+ghost use Rattle.cif_read.specs.Faults.{label_of, name_of, number_of};
 ghost use Rattle.cif_read.specs.declared.fault.FaultKind.TheVariants as kinds;
 
-use lay_point::NoMemory;
+use crate::file::MAX_TEXT;
+use lay_point::{MAX_LAYER_NAME, NoMemory};
 use thiserror::Error;
 
 /// What is wrong with a text.
-#[derive(Clone, Copy, Debug, PartialEq, Eq)]
+#[derive(Clone, Copy, Debug, PartialEq, Eq, Error)]
 pub enum FaultKind {
     /// The text ends before a command's semicolon, or before its `E`.
+    #[error("the text ends before its `E` or a semicolon")]
     NoEnd,
     /// A command that is not in the grammar.
+    #[error("the command is malformed or unknown")]
     Syntax,
     /// A wire, `W`.
+    #[error("wires are not supported")]
     Wire,
     /// A round flash, `R`.
+    #[error("round flashes are not supported")]
     Flash,
     /// A deletion of definitions, `D D`.
+    #[error("deletions of definitions are not supported")]
     DeleteDef,
     /// A box where no layer is set.
+    #[error("no layer is set")]
     NoLayer,
     /// A number or a coordinate beyond its limit.
+    #[error("a number or a coordinate is too big")]
     TooBig,
     /// Something other than blanks behind the `E`.
+    #[error("the text goes on behind its `E`")]
     AfterEnd,
-    /// The text is longer than `MAX_TEXT`.
-    TooMany,
-    /// A layer name of more than 16 bytes.
+    /// A layer name of more than `MAX_LAYER_NAME` bytes.
+    #[error("the layer name is longer than {} bytes", MAX_LAYER_NAME)]
     LongName,
-    /// A growth of memory was refused.
+    /// The text is longer than `MAX_TEXT`.
+    #[error("the text is longer than {} bytes", MAX_TEXT)]
+    TooMany,
+    /// An allocation failed.
+    #[error("out of memory")]
     NoMemory,
 }
 
 impl FaultKind {
-    /// The number by which the product names this kind.
+    /// Returns the number by which the product names this kind.
     pub fn number(self) -> u32
         ensures { result ≡ number_of self }
     {
-        match self {
-            FaultKind::NoEnd => 1,
-            FaultKind::Syntax => 2,
-            FaultKind::Wire => 3,
-            FaultKind::Flash => 4,
-            FaultKind::DeleteDef => 5,
-            FaultKind::NoLayer => 7,
-            FaultKind::TooBig => 9,
-            FaultKind::AfterEnd => 13,
-            FaultKind::LongName => 14,
-            FaultKind::TooMany => 16,
-            FaultKind::NoMemory => 17,
-        }
+        self.label().0
     }
 
-    /// The word by which the product names this kind.
+    /// Returns the word by which the product names this kind.
     pub fn name(self) -> &'static str
         ensures { result.now ≡ name_of self }
     {
+        self.label().1
+    }
+
+    fn label(self) -> (u32, &'static str)
+        ensures { (result.0, result.1.now) ≡ label_of self }
+    {
         match self {
-            FaultKind::NoEnd => "NoEnd",
-            FaultKind::Syntax => "Syntax",
-            FaultKind::Wire => "Wire",
-            FaultKind::Flash => "Flash",
-            FaultKind::DeleteDef => "DeleteDef",
-            FaultKind::NoLayer => "NoLayer",
-            FaultKind::TooBig => "TooBig",
-            FaultKind::AfterEnd => "AfterEnd",
-            FaultKind::LongName => "LongName",
-            FaultKind::TooMany => "TooMany",
-            FaultKind::NoMemory => "NoMemory",
+            FaultKind::NoEnd => (1, "NoEnd"),
+            FaultKind::Syntax => (2, "Syntax"),
+            FaultKind::Wire => (3, "Wire"),
+            FaultKind::Flash => (4, "Flash"),
+            FaultKind::DeleteDef => (5, "DeleteDef"),
+            FaultKind::NoLayer => (7, "NoLayer"),
+            FaultKind::TooBig => (9, "TooBig"),
+            FaultKind::AfterEnd => (13, "AfterEnd"),
+            FaultKind::LongName => (14, "LongName"),
+            FaultKind::TooMany => (16, "TooMany"),
+            FaultKind::NoMemory => (17, "NoMemory"),
         }
     }
 }
@@ -76,14 +82,14 @@ impl FaultKind {
 impl From<NoMemory> for FaultKind {
     ghost from_gives = { λ _ kind. kind ≡ kinds.NoMemory };
 
-    fn from(_refused: NoMemory) -> FaultKind {
+    fn from(_failed: NoMemory) -> FaultKind {
         FaultKind::NoMemory
     }
 }
 
-/// The first fault of a text, and where it is.
+/// The first fault of a text.
 #[derive(Clone, Copy, Debug, PartialEq, Eq, Error)]
-#[error("the CIF text is refused at byte {offset}")]
+#[error("{kind} at byte {offset}")]
 pub struct CifFault {
     /// What is wrong.
     pub kind: FaultKind,

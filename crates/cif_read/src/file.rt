@@ -5,6 +5,8 @@ use crate::element::Elements;
 /// The longest text that is read, in bytes.
 pub const MAX_TEXT: usize = 16_777_216;
 
+const _: () = prove!(MAX_TEXT == 16_777_216);
+
 /// The meaning of a text.
 #[derive(Debug, Drop, PartialEq, Eq)]
 pub struct CifFile {

@@ -68,4 +68,5 @@ NoneIdle set (End ∷ lines) = NoneIdle set lines
 
 -- the last line is the end, and so the text's last bytes are `E` and a newline
 abbrev pub EndsWithEnd : Layout → Type 0
-EndsWithEnd layout = (before : List Line) × (file_lines (wrapped layout) ≡ before ++ End ∷ []) × (text layout ≡ lines_text before ++ codes "E\n")
+EndsWithEnd layout = (before : List Line) × (file_lines (wrapped layout) ≡ before ++ End ∷ [])
+    × (text layout ≡ lines_text before ++ codes "E\n")

@@ -1,4 +1,3 @@
-pub mod Device
 pub mod Drawn
 pub mod Lines
 pub mod Text

@@ -1,23 +1,24 @@
 //! Writer of mask layouts in Caltech Intermediate Form.
 //!
-//! A layout is written wrapped: its items stand in symbols, and the top cell is one plain call. The
-//! text is a list of lines, `specs/Text.antt`, and is made whole in memory before the first byte goes
-//! out. An `Out` takes bytes and counts its failures; where it tells what it took, the contracts say
-//! what went out: all of the text and nothing else, or a front of it and one failure, or, where memory
-//! was refused, nothing.
+//! A layout is written wrapped: its items stand in symbols, and the top cell is one plain call. The text
+//! is a list of lines, `specs/Text.antt`. `push_text` appends it to bytes. `write` builds it whole in
+//! memory and then puts it to an `Out`, a device that takes bytes: so all of the text is written and
+//! nothing else, or a prefix of it where the device fails, or nothing where memory runs out.
+//!
+//! ```text
+//! let mut out = MemoryOut::new(alloc, 4096, 1_000_000, Failing::ByErr);
+//! write(alloc, &snapshot, &mut out)?;
+//! ```
 #![tactic(auto)]
 
-mod count;
-mod device;
 mod laws;
-mod numbers;
+mod points;
 #[cfg(test)]
 mod tests;
 mod text;
 mod writer;
 
-pub use count::GhostCount;
-pub use device::{Out, OutFault, put_all};
+pub use byte_io::{Out, OutFault};
 pub use laws::lines_draw_the_items;
-pub use numbers::push_unsigned;
+pub use text::push_text;
 pub use writer::{WriteFault, write};

@@ -1,63 +1,13 @@
 //! Tests of what no clause says: that texts are written, and that definitions mean what they should.
-ghost use Rattle.std.specs.Prelude.{Some};
 
 use super::*;
-use crate::numbers::{push_points, push_signed};
+use byte_io::{Failing, MemoryOut};
 use lay_items::Snapshot;
-use lay_point::Point;
 use std::alloc::Global;
 use std::test::*;
 
-/// A device in memory. It takes a few bytes a call and so many in all, and fails from then on.
-#[derive(Drop)]
-struct Limited {
-    taken: Vec<u8>,
-    /// How many bytes it takes yet.
-    room: usize,
-    /// How many bytes it takes a call, at most.
-    bite: usize,
-    /// Whether it answers 0 where it fails, in place of `Err`.
-    answers_zero: bool,
-    failures: GhostCount,
-}
-
-impl Limited {
-    fn new(alloc: Global, room: usize, bite: usize, answers_zero: bool) -> Limited {
-        Limited {
-            taken: Vec::new(alloc),
-            room,
-            bite,
-            answers_zero,
-            failures: GhostCount::zero(),
-        }
-    }
-}
-
-impl Out for Limited {
-    ghost written = { λ d. Some d.taken.items };
-
-    ghost failures = { λ d. d.failures.total };
-
-    fn put(&mut self, piece: &[u8]) -> Result<usize, OutFault> {
-        if piece.is_empty() {
-            return Ok(0);
-        }
-        let len = piece.len().min(self.room).min(self.bite);
-        if len > 0 && self.taken.extend_from_slice(&piece[..len]).is_ok() {
-            self.room -= len;
-            return Ok(len);
-        }
-        self.failures = self.failures.next();
-        if self.answers_zero {
-            Ok(0)
-        } else {
-            Err(OutFault)
-        }
-    }
-}
-
 /// Writes what the text means to the device.
-fn rewrite(alloc: Global, text: &[u8], out: &mut Limited) -> Result<(), WriteFault> {
+fn rewrite(alloc: Global, text: &[u8], out: &mut MemoryOut) -> Result<(), WriteFault> {
     let Ok(file) = cif_read::read(alloc, text) else {
         return Err(WriteFault::NoMemory);
     };
@@ -88,45 +38,24 @@ fn writes_the_lines_of_the_format(rt: HostRuntime) {
         ),
     ];
     for (text, want) in rows {
-        let mut out = Limited::new(rt.alloc(), 1000, 1000, false);
+        let mut out = MemoryOut::new(rt.alloc(), 1000, 1000, Failing::ByErr);
         assert_eq!(rt; rewrite(rt.alloc(), text, &mut out), Ok(()), "{want:?}");
-        assert_eq!(rt; out.taken.as_slice(), want);
+        assert_eq!(rt; out.written(), want);
     }
 }
 
-// Could catch a contract that no device meets, one under which nothing is ever written, and a reading of "a front of the
-// text" that lets a device keep less than it took.
+// Could catch an answer that changes where a device fails in mid-text, and a text that is put in pieces.
 #[test]
-fn a_failing_device_has_a_front_of_the_text(rt: HostRuntime) {
-    let whole: &[u8] = b"DS 1 1 2;\nL NM;\nP -40 -20 40 -20 40 20 -40 20;\nDF;\nC 1;\nE\n";
-    let rows: [(usize, usize, bool, Result<(), WriteFault>, &[u8]); 6] = [
-        (10, 1000, false, Err(WriteFault::Device), b"DS 1 1 2;\n"),
-        (10, 3, true, Err(WriteFault::Device), b"DS 1 1 2;\n"),
-        (1000, 1, false, Ok(()), whole),
-        (whole.len(), 7, true, Ok(()), whole),
-        (0, 1000, true, Err(WriteFault::Device), b""),
-        (1000, 0, false, Err(WriteFault::Device), b""),
+fn a_failing_device_has_a_prefix_of_the_text(rt: HostRuntime) {
+    let rows: [(usize, Failing, Result<(), WriteFault>, &[u8]); 3] = [
+        (10, Failing::ByErr, Err(WriteFault::Device), b"DS 1 1 2;\n"),
+        (10, Failing::ByZero, Err(WriteFault::Device), b"DS 1 1 2;\n"),
+        (0, Failing::ByZero, Err(WriteFault::Device), b""),
     ];
-    for (room, bite, answers_zero, result, want) in rows {
-        let mut out = Limited::new(rt.alloc(), room, bite, answers_zero);
-        let answer = rewrite(rt.alloc(), b"L NM; B 40 20 0 0; E", &mut out);
-        assert_eq!(rt; answer, result, "room {room}, bite {bite}");
-        assert_eq!(rt; out.taken.as_slice(), want, "room {room}, bite {bite}");
+    for (room, failing, want, written) in rows {
+        let mut out = MemoryOut::new(rt.alloc(), 3, room, failing);
+        let result = rewrite(rt.alloc(), b"L NM; B 40 20 0 0; E", &mut out);
+        assert_eq!(rt; result, want, "room {room}");
+        assert_eq!(rt; out.written(), written, "room {room}");
     }
-}
-
-// Could catch digits that aren't those of the number at the ends of the types, which no layout has, and points that need
-// more memory than there is.
-#[test]
-fn numbers_have_their_digits(rt: HostRuntime) -> Result<(), Fail> {
-    let points = [Point { x: 0, y: -1 }, Point { x: i32::MAX, y: 10 }];
-    let mut bytes = Vec::new(rt.alloc());
-    let pushed = push_unsigned(&mut bytes, u64::MAX).is_ok()
-        && push_signed(&mut bytes, i32::MIN).is_ok()
-        && push_unsigned(&mut bytes, 0).is_ok()
-        && push_points(&mut bytes, &points).is_ok();
-    assert!(rt; pushed);
-    let want: &[u8] = b"18446744073709551615-21474836480 0 -1 2147483647 10";
-    assert_eq!(rt; bytes.as_slice(), want);
-    Ok(())
 }

@@ -1,14 +1,36 @@
-//! The lines of a text, and the text of a layout.
+//! The text of a layout, line by line. Each call appends; after an `Err` a prefix of it may stand there.
 ghost use Rattle.std.specs.Prelude.{◌≡◌, ◌++◌, IfOk, OnOk};
 ghost use Rattle.cif_write.specs.Lines.{Call, OnLayer, Path, Start, line_text, lines_text};
-ghost use Rattle.cif_write.specs.Text.{is_set, item_lines, items_lines, layer_after, path_of, symbol_lines, text};
+ghost use Rattle.cif_write.specs.Text.{item_lines, items_lines, layer_after, path_of, symbol_lines, text};
 
-use crate::numbers::{push_points, push_unsigned};
+use crate::points::push_points;
+use byte_io::push_unsigned;
 use lay_items::{Item, Items, Rings, Snapshot};
 use lay_point::{CellId, LayerName, NoMemory};
-use std::alloc::Global;
 
-/// Puts the line at the end that begins a definition.
+/// Appends the text of the layout. After an `Err` what the bytes hold is unspecified.
+#[tactic(auto, unfolding(crate::specs::Text::text))]
+pub fn push_text(bytes: &mut Vec<u8>, snapshot: &Snapshot) -> Result<(), NoMemory>
+    ensures { OnOk result (bytes.new.items ≡ bytes.old.items ++ text snapshot.now) }
+{
+    push_symbol(bytes, 1, snapshot.items(CellId::Top))?;
+    push_call(bytes, 1)?;
+    bytes.extend_from_slice(b"E\n")?;
+    Ok(())
+}
+
+/// Appends the lines of a symbol.
+fn push_symbol(bytes: &mut Vec<u8>, number: u32, items: Items<'_>) -> Result<(), NoMemory>
+    ensures { OnOk result (bytes.new.items ≡ bytes.old.items
+        ++ lines_text (symbol_lines (record { number = number; items = items.entry }))) }
+{
+    push_start(bytes, number)?;
+    push_items(bytes, items)?;
+    bytes.extend_from_slice(b"DF;\n")?;
+    Ok(())
+}
+
+/// Appends the line that begins a definition.
 fn push_start(bytes: &mut Vec<u8>, number: u32) -> Result<(), NoMemory>
     ensures { OnOk result (bytes.new.items ≡ bytes.old.items ++ line_text (Start number)) }
 {
@@ -18,47 +40,19 @@ fn push_start(bytes: &mut Vec<u8>, number: u32) -> Result<(), NoMemory>
     Ok(())
 }
 
-/// Puts the line at the end that sets a layer.
-fn push_layer(bytes: &mut Vec<u8>, layer: LayerName) -> Result<(), NoMemory>
-    ensures { OnOk result (bytes.new.items ≡ bytes.old.items ++ line_text (OnLayer layer)) }
+/// Appends the lines of a symbol's items.
+fn push_items(bytes: &mut Vec<u8>, items: Items<'_>) -> Result<(), NoMemory>
+    ensures { OnOk result (bytes.new.items ≡ bytes.old.items ++ lines_text (items_lines None items.entry)) }
 {
-    bytes.extend_from_slice(b"L ")?;
-    bytes.extend_from_slice(layer.as_bytes())?;
-    bytes.extend_from_slice(b";\n")?;
-    Ok(())
-}
-
-/// Puts the line at the end that draws the one path of a shape's rings.
-fn push_path(bytes: &mut Vec<u8>, rings: &Rings) -> Result<(), NoMemory>
-    ensures { OnOk result (bytes.new.items ≡ bytes.old.items ++ line_text (Path (path_of rings.now))) }
-{
-    bytes.extend_from_slice(b"P")?;
-    if let Some(ring) = rings.as_slice().first() {
-        push_points(bytes, ring.points())?;
+    let mut set = None;
+    for (_, item) in items {
+        set = push_item(bytes, set, item)?;
     }
-    bytes.extend_from_slice(b";\n")?;
     Ok(())
 }
 
-/// Puts the line at the end that calls a symbol as it stands.
-fn push_call(bytes: &mut Vec<u8>, number: u32) -> Result<(), NoMemory>
-    ensures { OnOk result (bytes.new.items ≡ bytes.old.items ++ line_text (Call number)) }
-{
-    bytes.extend_from_slice(b"C ")?;
-    push_unsigned(bytes, u64::from(number))?;
-    bytes.extend_from_slice(b";\n")?;
-    Ok(())
-}
-
-/// Whether this is the layer that is set.
-fn is_set(set: Option<LayerName>, layer: LayerName) -> bool
-    ensures { result ≡ is_set set layer }
-{
-    set == Some(layer)
-}
-
-/// Puts the lines of an item at the end, where this layer is set, or none. Answers the layer that is
-/// set after it.
+/// Appends the lines of an item, where `set` is the layer that is set. Returns the layer that is set
+/// after it.
 fn push_item(
     bytes: &mut Vec<u8>,
     set: Option<LayerName>,
@@ -70,7 +64,7 @@ fn push_item(
 {
     match item {
         Item::Shape { layer, rings, .. } => {
-            if !is_set(set, *layer) {
+            if set != Some(*layer) {
                 push_layer(bytes, *layer)?;
             }
             push_path(bytes, rings)?;
@@ -79,36 +73,34 @@ fn push_item(
     }
 }
 
-/// Puts the lines of a symbol's items at the end.
-fn push_items(bytes: &mut Vec<u8>, items: Items<'_>) -> Result<(), NoMemory>
-    ensures { OnOk result (bytes.new.items ≡ bytes.old.items ++ lines_text (items_lines None items.entry)) }
+/// Appends the line that sets a layer.
+fn push_layer(bytes: &mut Vec<u8>, layer: LayerName) -> Result<(), NoMemory>
+    ensures { OnOk result (bytes.new.items ≡ bytes.old.items ++ line_text (OnLayer layer)) }
 {
-    let mut set = None;
-    for (_, item) in items {
-        set = push_item(bytes, set, item)?;
+    bytes.extend_from_slice(b"L ")?;
+    bytes.extend_from_slice(layer.as_bytes())?;
+    bytes.extend_from_slice(b";\n")?;
+    Ok(())
+}
+
+/// Appends the line that draws the one path of a shape's rings.
+fn push_path(bytes: &mut Vec<u8>, rings: &Rings) -> Result<(), NoMemory>
+    ensures { OnOk result (bytes.new.items ≡ bytes.old.items ++ line_text (Path (path_of rings.now))) }
+{
+    bytes.extend_from_slice(b"P")?;
+    if let Some(ring) = rings.as_slice().first() {
+        push_points(bytes, ring.points())?;
     }
+    bytes.extend_from_slice(b";\n")?;
     Ok(())
 }
 
-/// Puts the lines of a symbol at the end.
-fn push_symbol(bytes: &mut Vec<u8>, number: u32, items: Items<'_>) -> Result<(), NoMemory>
-    ensures { OnOk result (bytes.new.items ≡ bytes.old.items
-        ++ lines_text (symbol_lines (record { number = number; items = items.entry }))) }
+/// Appends the line that calls a symbol, neither moved nor turned.
+fn push_call(bytes: &mut Vec<u8>, number: u32) -> Result<(), NoMemory>
+    ensures { OnOk result (bytes.new.items ≡ bytes.old.items ++ line_text (Call number)) }
 {
-    push_start(bytes, number)?;
-    push_items(bytes, items)?;
-    bytes.extend_from_slice(b"DF;\n")?;
+    bytes.extend_from_slice(b"C ")?;
+    push_unsigned(bytes, u64::from(number))?;
+    bytes.extend_from_slice(b";\n")?;
     Ok(())
-}
-
-/// The text of the layout.
-#[tactic(auto, unfolding(crate::specs::Text::text))]
-pub(crate) fn text(alloc: Global, snapshot: &Snapshot) -> Result<Vec<u8>, NoMemory>
-    ensures { IfOk result (λ bytes. bytes.items ≡ text snapshot.now) }
-{
-    let mut bytes = Vec::new(alloc);
-    push_symbol(&mut bytes, 1, snapshot.items(CellId::Top))?;
-    push_call(&mut bytes, 1)?;
-    bytes.extend_from_slice(b"E\n")?;
-    Ok(bytes)
 }

@@ -1,11 +1,11 @@
 //! Writing of a layout to a device.
 ghost use Rattle.std.specs.Prelude.{◌≡◌, ◌+◌, ◌↔◌, IsErrOf, OnOk};
 ghost use Rattle.cif_write.specs.declared.writer.WriteFault.TheVariants.{Device, NoMemory as OutOfMemory};
-ghost use Rattle.cif_write.specs.Device.{AllWent, FrontWent};
+ghost use Rattle.byte_io.specs.Device.{WroteAll, WrotePrefix};
 ghost use Rattle.cif_write.specs.Text.{text};
 
-use crate::device::{Out, OutFault, put_all};
-use crate::text::text;
+use crate::text::push_text;
+use byte_io::{Out, OutFault, put_all};
 use lay_items::Snapshot;
 use lay_point::NoMemory;
 use std::alloc::Global;
@@ -14,10 +14,10 @@ use thiserror::Error;
 /// Why a layout isn't written whole.
 #[derive(Clone, Copy, Debug, PartialEq, Eq, Error)]
 pub enum WriteFault {
-    /// The device failed. A front of the text went out.
+    /// The device failed. A prefix of the text was written.
     #[error("the output device failed")]
     Device,
-    /// A growth of memory was refused. Nothing went out.
+    /// An allocation failed. Nothing was written.
     #[error("out of memory")]
     NoMemory,
 }
@@ -25,7 +25,7 @@ pub enum WriteFault {
 impl From<OutFault> for WriteFault {
     ghost from_gives = { λ _ fault. fault ≡ Device };
 
-    fn from(_failed: OutFault) -> WriteFault {
+    fn from(_fault: OutFault) -> WriteFault {
         WriteFault::Device
     }
 }
@@ -33,20 +33,21 @@ impl From<OutFault> for WriteFault {
 impl From<NoMemory> for WriteFault {
     ghost from_gives = { λ _ fault. fault ≡ OutOfMemory };
 
-    fn from(_refused: NoMemory) -> WriteFault {
+    fn from(_fault: NoMemory) -> WriteFault {
         WriteFault::NoMemory
     }
 }
 
 /// Writes the layout's text to the device.
 pub fn write<O: Out>(alloc: Global, snapshot: &Snapshot, out: &mut O) -> Result<(), WriteFault>
-    ensures ok { OnOk result (AllWent O.written O.failures out.old out.new (text snapshot.now)) }
+    ensures ok { OnOk result (WroteAll O.written O.failures out.old out.new (text snapshot.now)) }
     ensures device { IsErrOf result WriteFault.Device
-        → FrontWent O.written O.failures out.old out.new (text snapshot.now) }
+        → WrotePrefix O.written O.failures out.old out.new (text snapshot.now) }
     ensures failed { IsErrOf result WriteFault.Device
         ↔ (O.failures out.new ≡ O.failures out.old + 1) }
     ensures no_memory { IsErrOf result WriteFault.NoMemory → out.new ≡ out.old }
 {
-    let bytes = text(alloc, snapshot)?;
+    let mut bytes = Vec::new(alloc);
+    push_text(&mut bytes, snapshot)?;
     Ok(put_all(out, &bytes)?)
 }

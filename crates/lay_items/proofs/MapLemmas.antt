@@ -9,7 +9,8 @@ use Rattle.std.specs.declared.cmp.Ordering.TheVariants.{Less}
 use Rattle.std.specs.List.{AllByRecursion}
 use Rattle.std.specs.List.Sorted.{IsStrictlySortedBy}
 use Rattle.std.specs.Map.{keys_of}
-use Rattle.std.specs.FinMap.{IsAntisymmetric, empty, entries, entries-insert, find, from_entries, get, get-from_entries, get-insert, get-remove, insert, len-empty, len-entries, put, remove, same_map}
+use Rattle.std.specs.FinMap.{IsAntisymmetric, empty, entries, entries-insert, find, from_entries, get, get-from_entries, get-insert}
+use Rattle.std.specs.FinMap.{get-remove, insert, len-empty, len-entries, put, remove, same_map}
 
 find_lookup : {K X : Type 0} (R : K → K → Ordering) (es : List (K × X)) (q : K) → find R q es ≡ lookup (is_at (R q)) es
 find_lookup R [] q = refl
@@ -22,13 +23,15 @@ module _ {K X : Type 0} {R : K → K → Ordering} where
 
   -- entries that differ at one key make maps that differ there
   pub one_inserted : IsTotalOrder R → IsAntisymmetric R → (es fs : List (K × X)) (k : K) (v : X) →
-      ((q : K) → lookup (is_at (R q)) fs ≡ cond (is_at (R k) q) (Some v) (lookup (is_at (R q)) es)) → from_entries {R = R} fs ≡ insert (from_entries es) k v
+      ((q : K) → lookup (is_at (R q)) fs ≡ cond (is_at (R k) q) (Some v) (lookup (is_at (R q)) es))
+      → from_entries {R = R} fs ≡ insert (from_entries es) k v
   one_inserted total exact es fs k v h = same_map total exact _ _ (λ q.
       get_lookup total fs q ∙ h q ∙ ap (λ b. cond b (Some v) (lookup (is_at (R q)) es)) ((eq_by_cmp_equiv total).symm k q)
       ∙ sym (get-insert total (from_entries es) k v q ∙ ap (cond (eq_by_cmp R q k) (Some v)) (get_lookup total es q)))
 
   pub one_removed : IsTotalOrder R → IsAntisymmetric R → (es fs : List (K × X)) (k : K) →
-      ((q : K) → lookup (is_at (R q)) fs ≡ cond (is_at (R k) q) None (lookup (is_at (R q)) es)) → from_entries {R = R} fs ≡ remove (from_entries es) k
+      ((q : K) → lookup (is_at (R q)) fs ≡ cond (is_at (R k) q) None (lookup (is_at (R q)) es))
+      → from_entries {R = R} fs ≡ remove (from_entries es) k
   one_removed total exact es fs k h = same_map total exact _ _ (λ q.
       get_lookup total fs q ∙ h q ∙ ap (λ b. cond b None (lookup (is_at (R q)) es)) ((eq_by_cmp_equiv total).symm k q)
       ∙ sym (get-remove total (from_entries es) k q ∙ ap (cond (eq_by_cmp R q k) None) (get_lookup total es q)))
@@ -38,13 +41,16 @@ no_length [] e = refl
 no_length (x ∷ xs) e = absurd (omega arith)
 
 -- a key below all others goes to the front
-put_first : {K X : Type 0} (R : K → K → Ordering) (k : K) (v : X) (es : List (K × X)) → AllByRecursion (λ y. R k y ≡ Less) (keys_of es) → put R k v es ≡ (k, v) ∷ es
+put_first : {K X : Type 0} (R : K → K → Ordering) (k : K) (v : X) (es : List (K × X)) → AllByRecursion (λ y. R k y ≡ Less) (keys_of es)
+    → put R k v es ≡ (k, v) ∷ es
 put_first R k v [] below = refl
 put_first R k v (e ∷ es) below = rw below.0 refl
 
 -- entries in order are those of their map
-pub entries_again : {K X : Type 0} (R : K → K → Ordering) → IsTotalOrder R → (es : List (K × X)) → IsStrictlySortedBy R (keys_of es) → entries (from_entries {R = R} es) ≡ es
+pub entries_again : {K X : Type 0} (R : K → K → Ordering) → IsTotalOrder R → (es : List (K × X)) → IsStrictlySortedBy R (keys_of es)
+    → entries (from_entries {R = R} es) ≡ es
 unfolding IsStrictlySortedBy
 entries_again {K} {X} R total [] sorted = no_length _ (sym (len-entries (empty {X = X} {R = R})) ∙ len-empty R X)
 entries_again R total (e ∷ es) sorted =
-    entries-insert total (from_entries es) e.0 e.1 ∙ ap (put R e.0 e.1) (entries_again R total es sorted.1) ∙ put_first R e.0 e.1 es sorted.0
+    entries-insert total (from_entries es) e.0 e.1 ∙ ap (put R e.0 e.1) (entries_again R total es sorted.1)
+    ∙ put_first R e.0 e.1 es sorted.0

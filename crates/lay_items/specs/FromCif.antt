@@ -18,9 +18,9 @@ abbrev pub id_of : Element → ItemId
 id_of element = record { session = 0; txn = 0; seq = element.number }
 
 -- the element as a write
-abbrev pub placed : Element → Write
-placed element = (id_of element, Some (item_of element.figure))
+abbrev pub write_of : Element → Write
+write_of element = (id_of element, Some (item_of element.figure))
 
 -- the layout of the elements of the top cell
 abbrev pub layout_of : List Element → Layout
-layout_of top = written no_items (map placed top)
+layout_of top = written no_items (map write_of top)

@@ -24,7 +24,8 @@ pub record Layout : Type 0 where
 -- a layout is stored as its two maps
 abbrev pub coded_layout : Coded Layout
 coded_layout =
-    code_by (FinMap nat_cmp CellSlot × FinMap id_cmp Item) (coded× (map.code coded_ℕ slot.the_row.coded) (map.code coded_id item.the_row.coded))
+    code_by (FinMap nat_cmp CellSlot × FinMap id_cmp Item) (coded× (map.code coded_ℕ slot.the_row.coded)
+    (map.code coded_id item.the_row.coded))
     (λ l. (l.symbols, l.items)) (λ p. record { symbols = p.0; items = p.1 }) (λ _. refl)
 
 -- no symbol and no item

@@ -1,10 +1,10 @@
 pub mod FromCif
 pub mod IdOrder
+pub mod IdText
 pub mod Ids
 pub mod Items
 pub mod Layout
 pub mod Same
 pub mod SameLayout
 pub mod SameMap
-pub mod SameSlot
 pub mod Sound

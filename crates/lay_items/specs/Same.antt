@@ -1,5 +1,5 @@
 -- Equality of rings, items and symbols: the tests, and that they decide. What an `==` answers is such a test.
-use Rattle.std.specs.Prelude.{◌≡◌, nat_eq, List, Option, None, Some, Bool, true, false, ◌&&◌, refl}
+use Rattle.std.specs.Prelude.{◌≡◌, ◌==◌, nat_eq, List, Option, None, Some, Bool, true, false, ◌&&◌, refl}
 use Rattle.std.specs.Ordering.{nat_cmp}
 use Rattle.std.specs.FinMap.{FinMap}
 use Rattle.std.specs.Bool.{Decides}
@@ -13,8 +13,8 @@ use Rattle.lay_point.specs.Same.{cell_eq, cell_eq-Decides, names_eq, points_eq, 
 use Rattle.lay_items.specs.declared.item.Item.{Item}
 use Rattle.lay_items.specs.declared.item.Item.TheVariants.{Shape}
 use Rattle.lay_items.specs.declared.version.CellSlot.{CellSlot}
+use Rattle.lay_items.specs.declared.version.CellSlot.TheVariants.{Base, Made}
 use Rattle.lay_items.specs.SameMap.{map_eq, map_eq-Decides}
-use Rattle.lay_items.specs.SameSlot.{slot_eq, slot_eq-Decides}
 
 -- the same rings in the same order
 abbrev pub rings_eq : List (List Point) → List (List Point) → Bool
@@ -38,12 +38,6 @@ item_eq-Decides (Shape c l r) (Shape d m s) =
     Decides-like (item_eq (Shape c l r) (Shape d m s)) (λ all. λ i. Shape (all.0 i) (all.1.0 i) (all.1.1 i)) (λ e. ((cc), ((cc), (cc))))
     (Decides-and _ _ (cell_eq-Decides c d) (Decides-and _ _ (bytes_eq-Decides l m) (rings_eq-Decides r s)))
 
-pub item_eq_equiv : IsEquivalence item_eq
-item_eq_equiv = decided item_eq item_eq-Decides
-
-pub item_eq_partial : IsPartialEquivalence item_eq
-item_eq_partial = partial_equiv_from_equiv item_eq_equiv
-
 -- the same item, or none in both
 abbrev pub option_item_eq : Option Item → Option Item → Bool
 option_item_eq None None = true
@@ -56,6 +50,19 @@ option_item_eq-Decides None None = (λ _. refl, λ _. refl)
 option_item_eq-Decides None (Some y) = (λ e. cc, λ e. cc)
 option_item_eq-Decides (Some x) None = (λ e. cc, λ e. cc)
 option_item_eq-Decides (Some x) (Some y) = Decides-like (item_eq x y) (λ e. ap Some e) (λ e. cc) (item_eq-Decides x y)
+
+-- the same slot
+abbrev pub slot_eq : CellSlot → CellSlot → Bool
+slot_eq (Base m) (Base n) = m == n
+slot_eq (Base m) Made = false
+slot_eq Made (Base n) = false
+slot_eq Made Made = true
+
+pub slot_eq-Decides : (a b : CellSlot) → Decides (slot_eq a b) (a ≡ b)
+slot_eq-Decides (Base m) (Base n) = Decides-like (m == n) (λ e. ap Base e) (λ e. cc) (Decides-eqb m n)
+slot_eq-Decides (Base m) Made = (λ e. cc, λ e. cc)
+slot_eq-Decides Made (Base n) = (λ e. cc, λ e. cc)
+slot_eq-Decides Made Made = (λ _. refl, λ _. refl)
 
 -- the same symbols in the same slots
 abbrev pub symbols_eq : FinMap nat_cmp CellSlot → FinMap nat_cmp CellSlot → Bool

@@ -25,7 +25,7 @@ impl Model for Rings {
 }
 
 impl Rings {
-    /// The rings, to be shared.
+    /// Returns the rings, to be shared.
     pub fn new(alloc: Global, rings: Vec<Ring>) -> Result<Rings, NoMemory>
         ensures { IsAnswer (record {}) result (Ok rings.items) }
     {
@@ -33,7 +33,7 @@ impl Rings {
         Ok(Rings { shared })
     }
 
-    /// The rings, in order.
+    /// Returns the rings, in order.
     pub fn as_slice(&self) -> &[Ring]
         ensures { result.now ≡ self.now }
     {
@@ -41,7 +41,7 @@ impl Rings {
         rings.as_slice()
     }
 
-    /// One more owner of the same rings.
+    /// Returns one more owner of the same rings.
     fn share(&self) -> Result<Rings, AllocError>
         ensures { IfOk result (λ rings. rings ≡ self.now) }
     {
@@ -69,7 +69,7 @@ impl Eq for Rings {
 }
 
 /// What a layout holds under an id.
-#[derive(Debug, Drop)]
+#[derive(Debug, Drop, PartialEq, Eq)]
 pub enum Item {
     /// A shape, drawn by rings on a layer of a cell.
     Shape {
@@ -83,7 +83,7 @@ pub enum Item {
 }
 
 impl Item {
-    /// The cell in which the item stands.
+    /// Returns the cell in which the item stands.
     pub fn cell(&self) -> CellId
         ensures { result ≡ cell_of self.now }
     {
@@ -92,7 +92,7 @@ impl Item {
         }
     }
 
-    /// An equal item. The rings are shared, not copied, so the allocator has no use as yet.
+    /// Returns an equal item. The rings are shared, not copied, so the allocator has no use as yet.
     pub fn copy(&self, _alloc: Global) -> Result<Item, NoMemory>
         ensures { IsAnswer (record {}) result (Ok self.now) }
     {
@@ -112,31 +112,4 @@ impl Clone for Item {
             }),
         }
     }
-}
-
-impl PartialEq for Item {
-    ghost use Rattle.lay_items.specs.Same.{item_eq, item_eq_partial};
-
-    ghost eq = { item_eq };
-
-    ghost laws = { item_eq_partial };
-
-    fn eq(&self, other: &Item) -> bool {
-        match (self, other) {
-            (
-                Item::Shape { cell, layer, rings },
-                Item::Shape {
-                    cell: other_cell,
-                    layer: other_layer,
-                    rings: other_rings,
-                },
-            ) => cell == other_cell && layer == other_layer && rings == other_rings,
-        }
-    }
-}
-
-impl Eq for Item {
-    ghost use Rattle.lay_items.specs.Same.{item_eq_equiv};
-
-    ghost laws = { item_eq_equiv };
 }

@@ -1,7 +1,5 @@
 //! The items of a cell, lent in order of their ids.
 ghost use Rattle.std.specs.Prelude.{◌≡◌};
-ghost use Rattle.lay_point.specs.Same.{cell_eq};
-ghost use Rattle.lay_items.specs.Items.{cell_of};
 
 use crate::id::ItemId;
 use crate::item::Item;
@@ -9,8 +7,8 @@ use lay_point::CellId;
 use std::collections::btree_map;
 use std::marker::Model;
 
-/// Lends the items of a cell with their ids, in order of the ids. Contracts see the list of those
-/// that are left.
+/// Lends the items of a cell with their ids, in order of the ids. Contracts see the list of those that
+/// are left.
 #[derive(Drop)]
 pub struct Items<'a> {
     rest: btree_map::Iter<'a, ItemId, Item>,
@@ -31,7 +29,7 @@ impl<'a> Model for Items<'a> {
 impl<'a> Items<'a> {
     ghost use Rattle.lay_items.specs.Items.{standing_in};
 
-    /// Of these entries, those that stand in the cell.
+    /// Returns those of the entries that stand in the cell.
     pub(crate) fn new(entries: btree_map::Iter<'a, ItemId, Item>, cell: CellId) -> Items<'a>
         ensures { result ≡ standing_in cell entries.entry }
     {
@@ -40,13 +38,6 @@ impl<'a> Items<'a> {
             cell,
         }
     }
-}
-
-/// Whether the item stands in the cell.
-fn is_in(item: &Item, cell: CellId) -> bool
-    ensures { result ≡ cell_eq (cell_of item.now) cell }
-{
-    item.cell() == cell
 }
 
 impl<'a> Iterator for Items<'a> {
@@ -60,7 +51,7 @@ impl<'a> Iterator for Items<'a> {
 
     fn next(&mut self) -> Option<(ItemId, &'a Item)> {
         while let Some((id, item)) = self.rest.next() {
-            if is_in(item, self.cell) {
+            if item.cell() == self.cell {
                 return Some((*id, item));
             }
         }

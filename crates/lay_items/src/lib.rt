@@ -6,6 +6,11 @@
 //! sound: it has no symbols as yet, each item stands in a cell that is there, and each shape is drawn
 //! by a ring. What it lends is of the layout as it was when the snapshot was taken, whatever came
 //! after.
+//!
+//! ```text
+//! let snapshot = Snapshot::from_cif(alloc, cif_read::read(alloc, text)?)?;
+//! for (id, item) in snapshot.items(CellId::Top) { .. }
+//! ```
 #![tactic(auto)]
 
 mod id;

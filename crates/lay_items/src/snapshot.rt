@@ -37,7 +37,7 @@ impl Model for Snapshot {
 }
 
 impl Snapshot {
-    /// The layout of a text's meaning: its element q is item 0.0.q.
+    /// Returns the layout of a text's meaning: its element q is item 0.0.q.
     pub fn from_cif(alloc: Global, file: CifFile) -> Result<Snapshot, NoMemory>
         ensures { IsAnswer (record {}) result (Ok (layout_of file.top)) }
     {
@@ -45,7 +45,7 @@ impl Snapshot {
         Snapshot::of(alloc, version)
     }
 
-    /// The snapshot of a sound version.
+    /// Returns the snapshot of a sound version.
     pub fn of(alloc: Global, version: Version) -> Result<Snapshot, NoMemory>
         requires { IsSound version }
         ensures { IsAnswer (record {}) result (Ok version) }
@@ -54,7 +54,7 @@ impl Snapshot {
         Ok(Snapshot { version })
     }
 
-    /// One more owner of the same layout. The allocator has no use as yet.
+    /// Returns one more owner of the same layout. The allocator has no use as yet.
     pub fn share(&self, _alloc: Global) -> Result<Snapshot, NoMemory>
         ensures { IsAnswer (record {}) result (Ok self.now) }
     {
@@ -62,7 +62,7 @@ impl Snapshot {
         Ok(Snapshot { version })
     }
 
-    /// The layout, as a version.
+    /// Returns the layout as a version.
     pub fn version(&self) -> &Version
         ensures value { result.now ≡ self.now }
         ensures sound { IsSound self.now }
@@ -70,7 +70,7 @@ impl Snapshot {
         &self.version
     }
 
-    /// The item of this id.
+    /// Returns the item of this id.
     pub fn item(&self, id: ItemId) -> Option<&Item>
         ensures { option_copied result ≡ item_at self.now id }
     {

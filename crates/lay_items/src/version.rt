@@ -17,34 +17,12 @@ use std::collections::{BTreeMap, btree_map};
 use std::marker::Model;
 
 /// Where a symbol stands among the symbols of a layout.
-#[derive(Clone, Copy, Debug)]
+#[derive(Clone, Copy, Debug, PartialEq, Eq)]
 pub enum CellSlot {
-    /// It comes from a text, and is the one at this place of it, from 1.
+    /// It comes from a text, as its symbol with this index, from 1.
     Base(u32),
     /// A transaction made it.
     Made,
-}
-
-impl PartialEq for CellSlot {
-    ghost use Rattle.lay_items.specs.SameSlot.{slot_eq, slot_eq_partial};
-
-    ghost eq = { slot_eq };
-
-    ghost laws = { slot_eq_partial };
-
-    fn eq(&self, other: &CellSlot) -> bool {
-        match (self, other) {
-            (CellSlot::Base(place), CellSlot::Base(other)) => place == other,
-            (CellSlot::Made, CellSlot::Made) => true,
-            _ => false,
-        }
-    }
-}
-
-impl Eq for CellSlot {
-    ghost use Rattle.lay_items.specs.SameSlot.{slot_eq_equiv};
-
-    ghost laws = { slot_eq_equiv };
 }
 
 /// A layout as it is at one time. Contracts see the finite maps of its symbols and of its items.
@@ -68,7 +46,7 @@ impl Model for Version {
 }
 
 impl Version {
-    /// The layout without symbols and items.
+    /// Returns the layout without symbols and items.
     pub fn new(alloc: Global) -> Version
         ensures { result ≡ no_items }
     {
@@ -78,14 +56,14 @@ impl Version {
         }
     }
 
-    /// The item of this id.
+    /// Returns the item of this id.
     pub fn item(&self, id: ItemId) -> Option<&Item>
         ensures { option_copied result ≡ item_at self.now id }
     {
         self.items.get(&id)
     }
 
-    /// Whether the cell is there: the top cell, and each symbol.
+    /// Returns whether the cell is there: the top cell, and each symbol.
     pub fn is_cell(&self, cell: CellId) -> bool
         ensures { result ≡ is_cell self.now cell }
     {
@@ -95,22 +73,22 @@ impl Version {
         }
     }
 
-    /// Whether another layout has the same symbols in the same slots.
+    /// Returns whether another layout has the same symbols in the same slots.
     pub fn has_symbols_of(&self, other: &Version) -> bool
         ensures { result ≡ symbols_eq self.now.symbols other.now.symbols }
     {
         are_same(&self.symbols, &other.symbols)
     }
 
-    /// The ids and the items, in order of the ids.
+    /// Returns the ids and the items, in order of the ids.
     pub(crate) fn iter(&self) -> btree_map::Iter<'_, ItemId, Item>
         ensures { result ≡ map.entries self.now.items }
     {
         self.items.iter()
     }
 
-    /// The layout after these writes, each an id and the item that stands under it from then on, or
-    /// none. The maps have allocators of their own, so this one has no use as yet.
+    /// Returns the layout after these writes, each an id and the item that stands under it from then on,
+    /// or none. The maps have allocators of their own, so this one has no use as yet.
     pub fn with(
         &self,
         _alloc: Global,
@@ -143,7 +121,7 @@ impl Eq for Version {
     ghost laws = { layout_eq_equiv };
 }
 
-/// Whether two trees have the same values under the same keys.
+/// Returns whether two trees have the same values under the same keys.
 fn are_same<K: Ord, V: PartialEq>(entries: &BTreeMap<K, V>, others: &BTreeMap<K, V>) -> bool
     ensures { result ≡ map_eq {R = K.cmp} K.eq V.eq
         (map.from_entries entries.now.entries) (map.from_entries others.now.entries) }
@@ -151,7 +129,7 @@ fn are_same<K: Ord, V: PartialEq>(entries: &BTreeMap<K, V>, others: &BTreeMap<K,
     entries.len() == others.len() && entries == others
 }
 
-/// The version of a text's elements.
+/// Returns the version of a text's elements.
 pub(crate) fn version_of(alloc: Global, elements: Vec<Element>) -> Result<Version, NoMemory>
     ensures { IfOk result (λ version. version ≡ layout_of elements.items) }
 {
@@ -168,7 +146,7 @@ pub(crate) fn version_of(alloc: Global, elements: Vec<Element>) -> Result<Versio
     Ok(Version { symbols, items })
 }
 
-/// What a figure of the top cell is as an item.
+/// Returns a figure of the top cell as an item.
 fn item_of(alloc: Global, figure: Figure) -> Result<Item, NoMemory>
     ensures { IfOk result (λ item. item ≡ item_of figure) }
 {
@@ -185,7 +163,7 @@ fn item_of(alloc: Global, figure: Figure) -> Result<Item, NoMemory>
     }
 }
 
-/// A copy of the items after these writes.
+/// Returns a copy of the items after these writes.
 fn put_all(
     items: &BTreeMap<ItemId, Item>,
     writes: &[(ItemId, Option<Item>)],
@@ -200,7 +178,7 @@ fn put_all(
     Ok(new)
 }
 
-/// Puts the item under the id, or takes out what is there.
+/// Inserts the item under the id, or removes what is there.
 fn put(items: &mut BTreeMap<ItemId, Item>, id: ItemId, item: &Option<Item>) -> Result<(), NoMemory>
     ensures { OnOk result
         (items_of items.new.entries ≡ put (items_of items.old.entries) id item.now) }
@@ -214,7 +192,6 @@ fn put(items: &mut BTreeMap<ItemId, Item>, id: ItemId, item: &Option<Item>) -> R
     }
 }
 
-/// Puts the item under the id.
 fn insert(items: &mut BTreeMap<ItemId, Item>, id: ItemId, item: Item) -> Result<(), NoMemory>
     ensures { OnOk result
         (items_of items.new.entries ≡ map.insert (items_of items.old.entries) id item) }

@@ -1,7 +1,8 @@
--- Layer names: 1 to 16 digits or upper-case letters of ASCII.
--- Source: Caltech Intermediate Form 2.0, `L name`, which allows 1 to 4; the limit of 16 is this project's own.
+-- Layer names: 1 to `MAX_LAYER_NAME` digits or upper-case letters of ASCII.
+-- Source: Caltech Intermediate Form 2.0, `L name`, which allows 1 to 4; the limit is this project's own.
 use Rattle.std.specs.Prelude.{ℕ, List, length, Bool, ◌&&◌, ◌||◌, nat_le, Option, None, Some, if◌then◌else◌}
 use Rattle.std.specs.List.{list_all}
+use Rattle.lay_point.specs.declared.layer_name.TheConstants.{MAX_LAYER_NAME}
 
 -- 0 to 9
 abbrev pub is_digit : ℕ → Bool
@@ -15,9 +16,9 @@ is_upper b = nat_le 65 b && nat_le b 90
 abbrev pub is_name_byte : ℕ → Bool
 is_name_byte b = is_digit b || is_upper b
 
--- 1 to 16 such bytes
+-- some such bytes, within the limit
 abbrev pub is_layer_name : List ℕ → Bool
-is_layer_name bytes = nat_le 1 (length bytes) && nat_le (length bytes) 16 && list_all is_name_byte bytes
+is_layer_name bytes = nat_le 1 (length bytes) && nat_le (length bytes) MAX_LAYER_NAME && list_all is_name_byte bytes
 
 -- the name that the bytes spell
 abbrev pub layer_name_of : List ℕ → Option (List ℕ)

@@ -5,6 +5,7 @@ use Rattle.std.specs.Prelude.{◌≢◌, ◌≤◌, List, [], ◌∷◌, ◌++�
 use Rattle.std.specs.List.{list_all}
 use Rattle.lay_point.specs.declared.point.Point.{Point}
 use Rattle.lay_point.specs.declared.ring.RingFault.{RingFault}
+use Rattle.lay_point.specs.declared.ring.TheConstants.{MAX_RING_POINTS}
 use Rattle.lay_point.specs.declared.ring.RingFault.TheVariants.{FewPoints, OutOfRange, TooMany}
 use Rattle.lay_point.specs.Points.{is_in_range, point_eq}
 
@@ -22,7 +23,7 @@ NeighboursDiffer (p ∷ q ∷ ps) = (p ≢ q) × NeighboursDiffer (q ∷ ps)
 -- what a ring keeps
 pub record IsRing (points : List Point) : Type 0 where
   pub enough : 3 ≤ length points
-  pub few : length points ≤ 65536
+  pub few : length points ≤ MAX_RING_POINTS
   pub in_range : IsTrue (list_all is_in_range points)
   pub apart : NeighboursDiffer (closed points)
 
@@ -56,7 +57,7 @@ abbrev pub checked_ring : List Point → Result (List Point) RingFault
 checked_ring kept =
     if nat_lt (length kept) 3 then Err FewPoints
     else if not (list_all is_in_range kept) then Err OutOfRange
-    else if nat_lt 65536 (length kept) then Err TooMany
+    else if nat_lt MAX_RING_POINTS (length kept) then Err TooMany
     else Ok kept
 
 -- the ring of these points

@@ -14,7 +14,8 @@ use Rattle.lay_point.specs.Points.{point_eq}
 
 pub point_eq-Decides : (p q : Point) → Decides (point_eq p q) (p ≡ q)
 point_eq-Decides p q =
-    Decides-like (point_eq p q) (λ both. λ i. record { x = both.0 i; y = both.1 i }) (λ e. (ap (λ (r : Point). r.x) e, ap (λ (r : Point). r.y) e))
+    Decides-like (point_eq p q) (λ both. λ i. record { x = both.0 i; y = both.1 i })
+    (λ e. (ap (λ (r : Point). r.x) e, ap (λ (r : Point). r.y) e))
     (Decides-and _ _ (Decides-int_eq p.x q.x) (Decides-int_eq p.y q.y))
 
 -- the same points in the same order

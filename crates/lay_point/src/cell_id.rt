@@ -3,7 +3,7 @@
 /// A cell of a layout: the top cell, or the symbol of a number.
 #[derive(Clone, Copy, Debug, PartialEq, Eq)]
 pub enum CellId {
-    /// What stands outside all symbols.
+    /// The cell of all that stands outside symbols.
     Top,
     /// The symbol with this number.
     Symbol(u32),

@@ -6,13 +6,15 @@ ghost use Rattle.lay_point.specs.Names.{is_layer_name, is_name_byte, layer_name_
 use std::marker::Model;
 
 /// The most bytes of a layer name.
-const MAX_LEN: usize = 16;
+pub const MAX_LAYER_NAME: usize = 16;
 
-/// The name of a layer: 1 to 16 digits and upper-case letters. Contracts see its bytes.
+const _: () = prove!(MAX_LAYER_NAME == 16);
+
+/// The name of a layer: 1 to `MAX_LAYER_NAME` digits and upper-case letters. Contracts see its bytes.
 #[derive(Clone, Copy, Debug)]
 pub struct LayerName {
     /// The name, and zeros behind it.
-    bytes: [u8; MAX_LEN],
+    bytes: [u8; MAX_LAYER_NAME],
     len: usize,
 }
 
@@ -32,36 +34,15 @@ impl Model for LayerName {
     ghost inverse_ok = { kept_name_again };
 }
 
-/// Whether the byte may stand in a layer name.
-fn is_name_byte(byte: u8) -> bool
-    ensures { result ≡ is_name_byte byte }
-{
-    byte.is_ascii_digit() || byte.is_ascii_uppercase()
-}
-
-/// Whether each byte may stand in a layer name.
-fn are_name_bytes(bytes: &[u8]) -> bool
-    ensures { result ≡ list_all is_name_byte bytes.now }
-{
-    bytes.iter().all(|b| is_name_byte(*b))
-}
-
-/// Whether the bytes spell a layer name.
-fn is_layer_name(bytes: &[u8]) -> bool
-    ensures { result ≡ is_layer_name bytes.now }
-{
-    !bytes.is_empty() && bytes.len() <= MAX_LEN && are_name_bytes(bytes)
-}
-
 impl LayerName {
-    /// The name that the bytes spell, `None` where they are no name.
+    /// Returns the name that the bytes spell, or `None` where they are no name.
     pub fn new(bytes: &[u8]) -> Option<LayerName>
         ensures { result ≡ layer_name_of bytes.now }
     {
         if !is_layer_name(bytes) {
             return None;
         }
-        let mut padded = [0; MAX_LEN];
+        let mut padded = [0; MAX_LAYER_NAME];
         padded[..bytes.len()].copy_from_slice(bytes);
         Some(LayerName {
             bytes: padded,
@@ -69,7 +50,7 @@ impl LayerName {
         })
     }
 
-    /// The bytes of the name.
+    /// Returns the bytes of the name.
     pub fn as_bytes(&self) -> &[u8]
         ensures value { result.now ≡ self.now }
         ensures name { IsTrue (is_layer_name self.now) }
@@ -94,4 +75,24 @@ impl Eq for LayerName {
     ghost use Rattle.lay_point.specs.Same.{names_eq_equiv};
 
     ghost laws = { names_eq_equiv };
+}
+
+/// Returns whether the bytes spell a layer name.
+fn is_layer_name(bytes: &[u8]) -> bool
+    ensures { result ≡ is_layer_name bytes.now }
+{
+    !bytes.is_empty() && bytes.len() <= MAX_LAYER_NAME && are_name_bytes(bytes)
+}
+
+fn are_name_bytes(bytes: &[u8]) -> bool
+    ensures { result ≡ list_all is_name_byte bytes.now }
+{
+    bytes.iter().all(|b| is_name_byte(*b))
+}
+
+/// Returns whether the byte may stand in a layer name.
+fn is_name_byte(byte: u8) -> bool
+    ensures { result ≡ is_name_byte byte }
+{
+    byte.is_ascii_digit() || byte.is_ascii_uppercase()
 }

@@ -1,9 +1,9 @@
-//! Want of memory.
+//! Out of memory.
 
 use std::alloc::{AllocError, AllocFailed};
 use thiserror::Error;
 
-/// A growth of memory was refused. Nothing else of the call took place.
+/// An allocation failed. The call had no effect, unless it says otherwise.
 #[derive(Clone, Copy, Debug, PartialEq, Eq, Error)]
 #[error("out of memory")]
 pub struct NoMemory;

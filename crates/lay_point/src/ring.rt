@@ -1,4 +1,4 @@
-//! Rings: closed paths, four points in place.
+//! Rings: closed paths. Four points are kept in place.
 ghost use Rattle.std.specs.Prelude.{◌≡◌, ◌≤◌, ◌<ℤ◌, IfOk, IsTrue, length};
 ghost use Rattle.std.specs.List.{list_all};
 ghost use Rattle.lay_point.specs.Memory.{IsAnswer};
@@ -15,25 +15,27 @@ use thiserror::Error;
 /// The most points of a ring.
 pub const MAX_RING_POINTS: usize = 65_536;
 
+const _: () = prove!(MAX_RING_POINTS == 65_536);
+
 /// Why points make no ring. The faults but `NoMemory` are tested in this order.
 #[derive(Clone, Copy, Debug, PartialEq, Eq, Error)]
 pub enum RingFault {
-    /// Fewer than three points are left without repeats.
-    #[error("a ring needs three points")]
+    /// Fewer than three points remain without repeats.
+    #[error("a ring needs at least three points")]
     FewPoints,
     /// A coordinate's magnitude is above `LIMIT`.
     #[error("a point of the ring is out of range")]
     OutOfRange,
-    /// More than `MAX_RING_POINTS` points are left without repeats.
+    /// More than `MAX_RING_POINTS` points remain without repeats.
     #[error("the ring has too many points")]
     TooMany,
-    /// A growth of memory was refused.
+    /// An allocation failed.
     #[error("out of memory")]
     NoMemory,
 }
 
-/// A closed path of 3 to `MAX_RING_POINTS` points in range, no two neighbours of which are equal,
-/// the last and the first among them. Contracts see the list of its points.
+/// A closed path of 3 to `MAX_RING_POINTS` points in range, no two neighbours of which are equal, the
+/// last and the first among them. Contracts see the list of its points.
 #[derive(Debug, Drop)]
 pub struct Ring {
     points: SmallVec<Point, 4>,
@@ -52,8 +54,8 @@ impl Model for Ring {
 }
 
 impl Ring {
-    /// The ring of these points. A point that equals the one before it is dropped, then the last
-    /// one where it equals the first. `NoMemory` can stand in place of any answer.
+    /// Returns the ring of these points. A point that equals the one before it is dropped, then the last
+    /// one where it equals the first.
     pub fn new(alloc: Global, points: &[Point]) -> Result<Ring, RingFault>
         ensures { IsAnswer RingFault.NoMemory result (ring_of points.now) }
     {
@@ -61,8 +63,7 @@ impl Ring {
         checked(opened(kept))
     }
 
-    /// The ring of the upright rectangle with these corners, from `low` anticlockwise. It needs no
-    /// memory.
+    /// Returns the upright rectangle with these corners, from `low` anticlockwise. It doesn't allocate.
     pub fn rectangle(alloc: Global, low: Point, high: Point) -> Ring
         requires low { IsTrue (is_in_range low) }
         requires high { IsTrue (is_in_range high) }
@@ -85,7 +86,7 @@ impl Ring {
         Ring { points }
     }
 
-    /// The points of the ring, in order.
+    /// Returns the points of the ring, in order.
     pub fn points(&self) -> &[Point]
         ensures value { result.now ≡ self.now }
         ensures ring { IsRing self.now }
@@ -112,7 +113,7 @@ impl Eq for Ring {
     ghost laws = { points_eq_equiv };
 }
 
-/// The points without those that equal the one before them.
+/// Drops each point that equals the one before it.
 fn without_neighbours(alloc: Global, points: &[Point]) -> Result<SmallVec<Point, 4>, AllocError>
     ensures { IfOk result (λ kept. kept.items ≡ without_neighbours points.now) }
 {
@@ -131,7 +132,7 @@ fn without_neighbours(alloc: Global, points: &[Point]) -> Result<SmallVec<Point,
     Ok(kept)
 }
 
-/// The path without its last point where that is the first again.
+/// Drops the last point of a path where that is the first again.
 fn opened(mut path: SmallVec<Point, 4>) -> SmallVec<Point, 4>
     ensures { result.items ≡ opened path.items }
 {
@@ -143,14 +144,7 @@ fn opened(mut path: SmallVec<Point, 4>) -> SmallVec<Point, 4>
     path
 }
 
-/// Whether all points are in range.
-fn are_in_range(points: &[Point]) -> bool
-    ensures { result ≡ list_all is_in_range points.now }
-{
-    points.iter().all(|p| p.is_in_range())
-}
-
-/// The ring of points that were relieved of repeats.
+/// Returns the ring of points without repeats.
 fn checked(points: SmallVec<Point, 4>) -> Result<Ring, RingFault>
     requires { 2 ≤ length points.items → NeighboursDiffer (closed points.items) }
     ensures { result ≡ checked_ring points.items }
@@ -165,4 +159,10 @@ fn checked(points: SmallVec<Point, 4>) -> Result<Ring, RingFault>
         return Err(RingFault::TooMany);
     }
     Ok(Ring { points })
+}
+
+fn are_in_range(points: &[Point]) -> bool
+    ensures { result ≡ list_all is_in_range points.now }
+{
+    points.iter().all(|p| p.is_in_range())
 }

@@ -3,8 +3,7 @@ ghost use Rattle.std.specs.Prelude.{◌≡◌};
 
 use std::marker::Model;
 
-/// An owned sequence. Contracts see the list of its elements. Two are equal where these are, in
-/// order.
+/// An owned sequence. Contracts see the list of its elements.
 #[derive(Debug, Drop)]
 pub struct Sequence<T> {
     items: Vec<T>,
@@ -22,21 +21,21 @@ impl<T> Model for Sequence<T> {
 }
 
 impl<T> Sequence<T> {
-    /// The sequence of these elements. It needs no memory.
+    /// Returns the sequence of these elements. It doesn't allocate.
     pub fn from_vec(items: Vec<T>) -> Sequence<T>
         ensures { result ≡ items.items }
     {
         Sequence { items }
     }
 
-    /// The elements, in order.
+    /// Returns the elements, in order.
     pub fn as_slice(&self) -> &[T]
         ensures { result.now ≡ self.now }
     {
         self.items.as_slice()
     }
 
-    /// The elements, taken out.
+    /// Returns the elements, in order, by value.
     pub fn into_vec(self) -> Vec<T>
         ensures { result.items ≡ self }
     {

@@ -64,7 +64,7 @@ fn path(alloc: Global, len: i32) -> Result<Vec<Point>, AllocError> {
 }
 
 // Could catch a limit that is one off in the code and in the definition, and a ring that is refused
-// for want of memory when there is enough.
+// as out of memory when there is enough.
 #[test]
 fn rings_have_65_536_points_at_most(rt: HostRuntime) -> Result<(), Fail> {
     for (len, fault) in [(65_536, None), (65_537, Some(RingFault::TooMany))] {

@@ -1,8 +1,3 @@
-mod ArgumentLemmas
-mod JobLemmas
-mod LineLemmas
-mod MachineLemmas
-mod NumberLemmas
-mod OutputLemmas
-mod ReadingLemmas
-mod SerialLemmas
+pub mod ReadingLemmas
+pub mod SerialLemmas
+pub mod OutputLemmas

@@ -11,12 +11,15 @@ front_again (suc n) [] ys = refl
 front_again (suc n) (x ∷ xs) ys = ap (λ l. x ∷ l) (front_again n xs ys)
 
 -- a piece joins what was kept, as far as there is room
-room_taken : (limit : ℕ) (kept piece : List ℕ) → length kept ≤ limit → kept ++ take (min (limit - length kept) (length piece)) piece ≡ take limit (kept ++ piece)
+room_taken : (limit : ℕ) (kept piece : List ℕ) → length kept ≤ limit →
+    kept ++ take (min (limit - length kept) (length piece)) piece ≡ take limit (kept ++ piece)
 room_taken limit kept piece fits =
     let room : limit ≡ length kept + (limit - length kept) = omega arith in
-    ap (λ l. kept ++ l) (take_min (limit - length kept) piece) ∙ sym (take-append-add kept piece (limit - length kept)) ∙ ap (λ n. take n (kept ++ piece)) (sym room)
+    ap (λ l. kept ++ l) (take_min (limit - length kept) piece) ∙ sym (take-append-add kept piece (limit - length kept))
+    ∙ ap (λ n. take n (kept ++ piece)) (sym room)
 
-pub room_kept : (kept piece : List ℕ) → length kept ≤ 16777217 → kept ++ take (min (16777217 - length kept) (length piece)) piece ≡ kept_of (kept ++ piece)
+pub room_kept : (kept piece : List ℕ) → length kept ≤ 16777217 →
+    kept ++ take (min (16777217 - length kept) (length piece)) piece ≡ kept_of (kept ++ piece)
 unfolding kept_of
 room_kept kept piece fits = room_taken 16777217 kept piece fits
 

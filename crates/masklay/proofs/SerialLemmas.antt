@@ -1,6 +1,7 @@
 -- With one session the printed order names it once for each step.
-use Rattle.std.proofs.Common.{◌≡◌, ℕ, suc, ◌+◌, Bool, true, false, cond, not, List, [], ◌∷◌, ◌++◌, length, drop, replicate, nat_le, nat_lt, option_map, unwrap_or, Option, None, Some, Result, Ok, Err, ◌⊎◌, inl, inr, refl, ap, sym, ◌∙◌, subst, append_assoc, append-nil, arith}
-use Rattle.std.proofs.lemmas.Bool.{true≢false}
+use Rattle.std.proofs.Common.{◌≡◌, ℕ, suc, ◌+◌, Bool, true, false, cond, not, List, [], ◌∷◌, ◌++◌, length, drop, replicate, nat_le, nat_lt}
+use Rattle.std.proofs.Common.{option_map, unwrap_or, Option, None, Some, Result, Ok, Err, ◌⊎◌, inl, inr, refl, ap, sym, ◌∙◌, subst}
+use Rattle.std.proofs.Common.{append_assoc, append-nil, arith}
 use Rattle.std.proofs.lemmas.Bool.Decides.{nat_tests}
 use Rattle.std.specs.List.{position_or_len}
 use Rattle.lay_items.specs.Layout.{Layout}
@@ -8,22 +9,23 @@ use Rattle.undo_book.specs.declared.log.BookFault.{BookFault}
 use Rattle.undo_book.specs.declared.log.BookFault.TheVariants.{Foreign, LogFull, NotLive, SessionFull}
 use Rattle.undo_book.specs.declared.log.Entry.{Entry}
 use Rattle.undo_book.specs.declared.log.Logged.{Logged}
-use Rattle.undo_book.specs.declared.txn_work.command.CmdFault.{CmdFault}
-use Rattle.undo_book.specs.declared.txn_work.command.Command.{Command}
-use Rattle.undo_book.specs.declared.txn_work.command.Done as dones
-use Rattle.undo_book.specs.declared.txn_work.command.TxnId.{TxnId}
-use Rattle.undo_book.specs.Effects.{Run, effect}
+use Rattle.txn_work.specs.declared.command.CmdFault.{CmdFault}
+use Rattle.txn_work.specs.declared.command.Command.{Command}
+use Rattle.txn_work.specs.declared.command.Done as dones
+use Rattle.txn_work.specs.declared.command.TxnId.{TxnId}
+use Rattle.txn_work.specs.Effects.{Run, effect}
 use Rattle.undo_book.specs.History.{History}
 use Rattle.undo_book.specs.declared.log.Answer.TheVariants.{Refused}
 use Rattle.undo_book.specs.declared.log.Call.TheVariants as calls
-use Rattle.undo_book.specs.Steps.{after_commit, after_open, after_undo, fresh, logged, opening, first_live, held_by, is_log_full, is_own, place_of, refusal_at, refusal_of, state_of, undo_refusal, undo_unless}
-use Rattle.undo_book.specs.Transactions.{Transaction, after_command, after_effect, answer_to, come}
-use Rattle.masklay.specs.declared.session_core.Reply.{Reply}
-use Rattle.masklay.specs.declared.session_core.Step.{Step}
-use Rattle.masklay.specs.declared.session_core.Step.TheVariants.{Commit, Do, Open, Undo}
-use Rattle.masklay.specs.Machine as machine
-use Rattle.masklay.specs.Machine.{State, after_steps, command_reply, start, step_of, undo_in}
-use Rattle.masklay.specs.Order.{is_logged, is_logged_fault, order_of, steps_to_logged}
+use Rattle.undo_book.specs.Steps.{after_commit, after_open, after_undo, fresh, logged, opening, first_live, held_by, is_log_full, is_own}
+use Rattle.undo_book.specs.Steps.{place_of, refusal_at, refusal_of, state_of, undo_refusal, undo_unless}
+use Rattle.txn_work.specs.Transactions.{Transaction, after_command, after_effect, answer_to, run_so_far}
+use Rattle.session_core.specs.declared.Reply.{Reply}
+use Rattle.session_core.specs.declared.Step.{Step}
+use Rattle.session_core.specs.declared.Step.TheVariants.{Commit, Do, Open, Undo}
+use Rattle.session_core.specs.Machine as machine
+use Rattle.session_core.specs.Machine.{State, after_steps, command_reply, start, step_outcome, undo_in}
+use Rattle.job_text.specs.Order.{is_logged, is_logged_fault, order_of, steps_to_logged}
 use Rattle.masklay.specs.Outcome.{finished_from, numbered}
 
 -- the log has the calls of the logged replies in turn, each of session 1, and no other call
@@ -43,27 +45,24 @@ first_is_one call rest (reply ∷ replies) (inr (silent, matches)) = first_is_on
 
 -- the first reply is logged
 steps_first : (reply : Reply) (replies : List Reply) → is_logged reply ≡ true → steps_to_logged (reply ∷ replies) ≡ 1
-steps_first reply replies told = rw told (by_inside (nat_lt 0 (length (reply ∷ replies))) (grind (arith, nat_tests))) where
-  by_inside : (inside : Bool) → inside ≡ true → unwrap_or (option_map (λ n. n + 1) (cond inside (Some 0) None)) (suc (length replies)) ≡ 1
-  by_inside true is = refl
-  by_inside false is = absurd (true≢false (sym is))
+steps_first reply replies told = rw told (grind (arith, nat_tests))
 
-order_logged : (call : Logged) (rest : List Logged) (reply : Reply) (replies : List Reply) → is_logged reply ≡ true → order_of (call ∷ rest) (reply ∷ replies) ≡ call.session ∷ order_of rest replies
+order_logged : (call : Logged) (rest : List Logged) (reply : Reply) (replies : List Reply) → is_logged reply ≡ true →
+    order_of (call ∷ rest) (reply ∷ replies) ≡ call.session ∷ order_of rest replies
 order_logged call rest reply replies told = rw (steps_first reply replies told) refl
 
+-- a reply before the place and the end shifts both
+shifted : (p n : ℕ) → unwrap_or (option_map (λ k. k + 1) (cond (nat_lt (1 + p) (suc n)) (Some (1 + p)) None)) (suc n)
+    ≡ suc (unwrap_or (option_map (λ k. k + 1) (cond (nat_lt p n) (Some p) None)) n)
+shifted p n = grind (arith, nat_tests)
+
 -- the first reply isn't logged
-steps_silent : (reply : Reply) (replies : List Reply) → is_logged reply ≡ false → steps_to_logged (reply ∷ replies) ≡ suc (steps_to_logged replies)
-steps_silent reply replies silent = rw silent (by_inside (nat_lt (1 + place) (length (reply ∷ replies))) (nat_lt place (length replies)) (grind (arith, nat_tests))) where
-  place : ℕ
-  place = position_or_len is_logged replies
+steps_silent : (reply : Reply) (replies : List Reply) → is_logged reply ≡ false →
+    steps_to_logged (reply ∷ replies) ≡ suc (steps_to_logged replies)
+steps_silent reply replies silent = rw silent (shifted (position_or_len is_logged replies) (length replies))
 
-  by_inside : (one_more inside : Bool) → one_more ≡ inside → unwrap_or (option_map (λ n. n + 1) (cond one_more (Some (1 + place)) None)) (suc (length replies)) ≡ suc (unwrap_or (option_map (λ n. n + 1) (cond inside (Some place) None)) (length replies))
-  by_inside true true same = omega arith
-  by_inside true false same = absurd (true≢false same)
-  by_inside false true same = absurd (true≢false (sym same))
-  by_inside false false same = refl
-
-order_silent : (call : Logged) (rest : List Logged) (reply : Reply) (replies : List Reply) → is_logged reply ≡ false → order_of (call ∷ rest) (reply ∷ replies) ≡ call.session ∷ order_of (call ∷ rest) replies
+order_silent : (call : Logged) (rest : List Logged) (reply : Reply) (replies : List Reply) → is_logged reply ≡ false →
+    order_of (call ∷ rest) (reply ∷ replies) ≡ call.session ∷ order_of (call ∷ rest) replies
 order_silent call rest reply replies silent = rw (steps_silent reply replies silent) refl
 
 order_ones : (log : List Logged) (replies : List Reply) → Matches log replies → order_of log replies ≡ replicate (length replies) 1
@@ -74,7 +73,8 @@ order_ones (call ∷ rest) (reply ∷ replies) (inl (told, first, more, same, on
     let is_rest : rest ≡ more = grind (arith, same) in
     order_logged call rest reply replies told ∙ (λ i. is_one i ∷ (ap (λ l. order_of l replies) is_rest ∙ order_ones more replies matches) i)
 order_ones (call ∷ rest) (reply ∷ replies) (inr (silent, matches)) =
-    order_silent call rest reply replies silent ∙ (λ i. first_is_one call rest replies matches i ∷ order_ones (call ∷ rest) replies matches i)
+    order_silent call rest reply replies silent ∙ (λ i. first_is_one call rest replies matches i ∷ order_ones
+    (call ∷ rest) replies matches i)
 
 -- ---- the log of a machine with one session
 
@@ -95,11 +95,18 @@ record Stepped (h : History) (taken : Reply × State) : Type 0 where
   work : Option Transaction
   after : taken.1 ≡ one history work
   first : IsFirst work
-  logged : ((is_logged taken.0 ≡ true) × (call : Logged) × (history.log ≡ h.log ++ call ∷ []) × (call.session ≡ 1)) ⊎ ((is_logged taken.0 ≡ false) × (history.log ≡ h.log))
+  logged : ((is_logged taken.0 ≡ true) × (call : Logged) × (history.log ≡ h.log ++ call ∷ []) × (call.session ≡ 1))
+      ⊎ ((is_logged taken.0 ≡ false) × (history.log ≡ h.log))
 
 -- a step that leaves the state as it is, and isn't logged
 stays : (h : History) (work : Option Transaction) (reply : Reply) → IsFirst work → is_logged reply ≡ false → Stepped h (reply, one h work)
 stays h work reply first silent = record { history = h; work = work; after = refl; first = first; logged = inr (silent, refl) }
+
+-- a step that is logged, and leaves this history and this open
+gains : (h history : History) (work : Option Transaction) (reply : Reply) (call : Logged) → IsFirst work → is_logged reply ≡ true →
+    history.log ≡ h.log ++ call ∷ [] → call.session ≡ 1 → Stepped h (reply, one history work)
+gains h history work reply call first told grown same =
+    record { history = history; work = work; after = refl; first = first; logged = inl (told, call, grown, same) }
 
 -- a refusal of an undo is logged
 abbrev FaultLogged : Option BookFault → Type 0
@@ -123,17 +130,21 @@ refusal_logged h txn = at (place_of txn h.entries) where
   at None = refl
   at (Some place) = of (drop place h.entries)
 
-open_one : (h : History) (work : Option Transaction) → IsFirst work → Stepped h (step_of (one h work) 1 Open)
+open_one : (h : History) (work : Option Transaction) → IsFirst work → Stepped h (step_outcome (one h work) 1 Open)
 open_one h (Some txn) first = stays h (Some txn) _ first refl
 open_one h None first = by_full (is_log_full h) where
-  by_full : (full : Bool) → Stepped h (machine.after_open (one h None) 1 (cond full (Err LogFull, h) (cond (nat_le 65535 (state_of h 1).opens) (Err SessionFull, logged h 1 calls.Open (Refused SessionFull)) (Ok (opening h 1), after_open h 1))))
+  by_full : (full : Bool) → Stepped h (machine.after_open (one h None) 1
+      (cond full (Err LogFull, h) (cond (nat_le 65535 (state_of h 1).opens)
+      (Err SessionFull, logged h 1 calls.Open (Refused SessionFull)) (Ok (opening h 1), after_open h 1))))
   by_full true = stays h None _ first refl
   by_full false = by_opens (nat_le 65535 (state_of h 1).opens) where
-    by_opens : (many : Bool) → Stepped h (machine.after_open (one h None) 1 (cond many (Err SessionFull, logged h 1 calls.Open (Refused SessionFull)) (Ok (opening h 1), after_open h 1)))
-    by_opens true = record { history = logged h 1 calls.Open (Refused SessionFull); work = None; after = refl; first = none_first; logged = inl (refl, _, refl, refl) }
-    by_opens false = record { history = after_open h 1; work = Some (opening h 1); after = refl; first = λ txn found. grind (arith, found); logged = inl (refl, _, refl, refl) }
+    by_opens : (many : Bool) → Stepped h (machine.after_open (one h None) 1
+        (cond many (Err SessionFull, logged h 1 calls.Open (Refused SessionFull)) (Ok (opening h 1), after_open h 1)))
+    by_opens true = gains h (logged h 1 calls.Open (Refused SessionFull)) None _ _ none_first refl refl refl
+    by_opens false = gains h (after_open h 1) (Some (opening h 1)) _ _ (λ txn found. grind (arith, found)) refl refl refl
 
-command_one : (h : History) (work : Option Transaction) (command : Command) → IsFirst work → Stepped h (step_of (one h work) 1 (Do command))
+command_one : (h : History) (work : Option Transaction) (command : Command) → IsFirst work →
+    Stepped h (step_outcome (one h work) 1 (Do command))
 command_one h None command first = stays h None _ first refl
 command_one h (Some txn) command first = stays h (Some (after_command txn command)) _ same (by_answer (answer_to txn command)) where
   by_answer : (answer : Result dones.Done CmdFault) → is_logged (command_reply answer) ≡ false
@@ -146,29 +157,31 @@ command_one h (Some txn) command first = stays h (Some (after_command txn comman
 
   same : IsFirst (Some (after_command txn command))
   same after found =
-      let named : (after_command txn command).id.session ≡ 1 = by_effect (effect txn.id command (come txn)) ∙ first txn refl in
+      let named : (after_command txn command).id.session ≡ 1 = by_effect (effect txn.id command (run_so_far txn)) ∙ first txn refl in
       grind (arith, found, named)
 
-commit_one : (h : History) (work : Option Transaction) → IsFirst work → Stepped h (step_of (one h work) 1 Commit)
+commit_one : (h : History) (work : Option Transaction) → IsFirst work → Stepped h (step_outcome (one h work) 1 Commit)
 commit_one h None first = stays h None _ first refl
 commit_one h (Some txn) first = by_full (is_log_full h) where
-  by_full : (full : Bool) → Stepped h (machine.after_commit (one h (Some txn)) 1 (cond full (Err LogFull, h) (cond (not (is_own h txn)) (Err Foreign, h) (Ok txn.id, after_commit h txn))))
+  by_full : (full : Bool) → Stepped h (machine.after_commit (one h (Some txn)) 1
+      (cond full (Err LogFull, h) (cond (not (is_own h txn)) (Err Foreign, h) (Ok txn.id, after_commit h txn))))
   by_full true = stays h (Some txn) _ first refl
   by_full false = by_own (not (is_own h txn)) where
-    by_own : (foreign : Bool) → Stepped h (machine.after_commit (one h (Some txn)) 1 (cond foreign (Err Foreign, h) (Ok txn.id, after_commit h txn)))
+    by_own : (foreign : Bool) → Stepped h (machine.after_commit (one h (Some txn)) 1
+        (cond foreign (Err Foreign, h) (Ok txn.id, after_commit h txn)))
     by_own true = stays h (Some txn) _ first refl
-    by_own false = record { history = after_commit h txn; work = None; after = refl; first = none_first; logged = inl (refl, _, refl, first txn refl) }
+    by_own false = gains h (after_commit h txn) None _ _ none_first refl refl (first txn refl)
 
-undo_one : (h : History) (work : Option Transaction) (txn : TxnId) → IsFirst work → Stepped h (step_of (one h work) 1 (Undo txn))
+undo_one : (h : History) (work : Option Transaction) (txn : TxnId) → IsFirst work → Stepped h (step_outcome (one h work) 1 (Undo txn))
 undo_one h work txn first = by_full (is_log_full h) where
   by_full : (full : Bool) → Stepped h (undo_in (one h work) (cond full (Err LogFull, h) (undo_unless (undo_refusal h txn) h 1 txn)))
   by_full true = stays h work _ first refl
   by_full false = by_refusal (undo_refusal h txn) (refusal_logged h txn) where
     by_refusal : (refusal : Option BookFault) → FaultLogged refusal → Stepped h (undo_in (one h work) (undo_unless refusal h 1 txn))
-    by_refusal (Some fault) told = record { history = logged h 1 (calls.Undo txn) (Refused fault); work = work; after = refl; first = first; logged = inl (told, _, refl, refl) }
-    by_refusal None told = record { history = after_undo h 1 txn; work = work; after = refl; first = first; logged = inl (refl, _, refl, refl) }
+    by_refusal (Some fault) told = gains h (logged h 1 (calls.Undo txn) (Refused fault)) work _ _ first told refl refl
+    by_refusal None told = gains h (after_undo h 1 txn) work _ _ first refl refl refl
 
-step_one : (h : History) (work : Option Transaction) (step : Step) → IsFirst work → Stepped h (step_of (one h work) 1 step)
+step_one : (h : History) (work : Option Transaction) (step : Step) → IsFirst work → Stepped h (step_outcome (one h work) 1 step)
 step_one h work Open first = open_one h work first
 step_one h work (Do command) first = command_one h work command first
 step_one h work Commit first = commit_one h work first
@@ -181,23 +194,31 @@ abbrev Gained : List Logged → List Reply → State → Type 0
 Gained log replies s = (more : List Logged) × (s.history.log ≡ log ++ more) × Matches more replies
 
 -- the first step's call comes before those of the steps behind it
-gained_more : (h : History) (reply : Reply) (replies : List Reply) (taken : Reply × State) (last : State) → taken.0 ≡ reply → (stepped : Stepped h taken) → Gained stepped.history.log replies last → Gained h.log (reply ∷ replies) last
+gained_more : (h : History) (reply : Reply) (replies : List Reply) (taken : Reply × State) (last : State) → taken.0 ≡ reply →
+    (stepped : Stepped h taken) → Gained stepped.history.log replies last → Gained h.log (reply ∷ replies) last
 gained_more h reply replies taken last same stepped (more, gained, matches) = elim stepped.logged [
-  | inl (told, call, is, one) ↦ (call ∷ more, gained ∙ ap (λ l. l ++ more) is ∙ append_assoc h.log (call ∷ []) more, inl (ap is_logged (sym same) ∙ told, call, more, refl, one, matches))
+  | inl (told, call, is, one) ↦ (
+    call ∷ more,
+    gained ∙ ap (λ l. l ++ more) is
+        ∙ append_assoc h.log (call ∷ []) more,
+    inl (ap is_logged (sym same) ∙ told, call, more, refl, one, matches),
+  )
   | inr (silent, is) ↦ (more, gained ∙ ap (λ l. l ++ more) is, inr (ap is_logged (sym same) ∙ silent, matches))
 ]
 
-gained_all : (h : History) (work : Option Transaction) (steps : List Step) → IsFirst work → Gained h.log (after_steps (one h work) (numbered steps)).0 (after_steps (one h work) (numbered steps)).1
+gained_all : (h : History) (work : Option Transaction) (steps : List Step) → IsFirst work →
+    Gained h.log (after_steps (one h work) (numbered steps)).0 (after_steps (one h work) (numbered steps)).1
 gained_all h work [] first = ([], sym (append-nil h.log), refl)
 gained_all h work (step ∷ steps) first =
-    let taken = step_of (one h work) 1 step in
+    let taken = step_outcome (one h work) 1 step in
     let stepped = step_one h work step first in
     let P : State → Type 0 = λ s. Gained stepped.history.log (after_steps s (numbered steps)).0 (after_steps s (numbered steps)).1 in
-    gained_more h taken.0 (after_steps taken.1 (numbered steps)).0 taken (after_steps taken.1 (numbered steps)).1 refl stepped (subst P (sym stepped.after) (gained_all stepped.history stepped.work steps stepped.first))
+    gained_more h taken.0 (after_steps taken.1 (numbered steps)).0 taken (after_steps taken.1 (numbered steps)).1 refl stepped
+    (subst P (sym stepped.after) (gained_all stepped.history stepped.work steps stepped.first))
 
 answers_length : (s : State) (steps : List Step) → length (after_steps s (numbered steps)).0 ≡ length steps
 answers_length s [] = refl
-answers_length s (step ∷ steps) = ap suc (answers_length (step_of s 1 step).1 steps)
+answers_length s (step ∷ steps) = ap suc (answers_length (step_outcome s 1 step).1 steps)
 
 -- the order that is printed for the steps of session 1
 pub serial_order : (base : Layout) (steps : List Step) → (finished_from base steps).order ≡ replicate (length steps) 1

@@ -1,13 +1,5 @@
-pub mod Arguments
-pub mod Input
-pub mod Lines
-pub mod Words
-pub mod Steps
-pub mod Machine
-pub mod Machines
-pub mod Job
-pub mod Replies
-pub mod Order
 pub mod Reading
 pub mod Outcome
 pub mod Output
+pub mod Run
+pub mod Launch

@@ -6,16 +6,16 @@ use Rattle.cif_read.specs.declared.fault.FaultKind.{FaultKind}
 use Rattle.cif_read.specs.Meaning.{meaning}
 use Rattle.lay_items.specs.FromCif.{layout_of}
 use Rattle.lay_items.specs.Layout.{Layout}
-use Rattle.masklay.specs.declared.job_text.job.JobFault.{JobFault}
-use Rattle.masklay.specs.declared.job_text.job.JobFault.TheVariants.{Line, NoMemory as JobMemory}
+use Rattle.job_text.specs.declared.job.JobFault.{JobFault}
+use Rattle.job_text.specs.declared.job.JobFault.TheVariants.{Line, NoMemory as JobMemory}
 use Rattle.masklay.specs.declared.program.outcome.Finished.{Finished}
 use Rattle.masklay.specs.declared.program.outcome.Stop.{Stop}
 use Rattle.masklay.specs.declared.program.outcome.Stop.TheVariants.{JobFault as JobStop, CifFault as CifStop, NoMemory}
-use Rattle.masklay.specs.declared.session_core.Reply.{Reply}
-use Rattle.masklay.specs.declared.session_core.Step.{Step}
-use Rattle.masklay.specs.Job.{job_of}
-use Rattle.masklay.specs.Machine.{State, after_steps, start}
-use Rattle.masklay.specs.Order.{order_of}
+use Rattle.session_core.specs.declared.Reply.{Reply}
+use Rattle.session_core.specs.declared.Step.{Step}
+use Rattle.job_text.specs.Job.{job_of}
+use Rattle.session_core.specs.Machine.{State, after_steps, start}
+use Rattle.job_text.specs.Order.{order_of}
 
 -- the stop at a fault of the job
 abbrev pub stop_of_job : JobFault → Stop
@@ -36,7 +36,7 @@ abbrev pub then_or_stop : {A B E : Type 0} → (E → Stop) → Result A E → (
 then_or_stop stop (Ok x) follow = follow x
 then_or_stop stop (Err fault) follow = Err (stop fault)
 
--- what is put out of these replies and this state
+-- what is written of these replies and this state
 abbrev pub finished_by : List Reply × State → Finished
 finished_by ran = record { replies = ran.0; order = order_of ran.1.history.log ran.0; layout = ran.1.history.layout }
 

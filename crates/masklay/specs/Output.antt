@@ -1,18 +1,17 @@
 -- The output of the program: a text and a status.
-use Rattle.std.specs.Prelude.{◌≡◌, ◌≢◌, ℕ, Bool, true, false, List, [], ◌++◌, codes, decimal, Option, Result, Ok, Err, ◌⊎◌}
-use Rattle.std.specs.Io.KnownBytes.{Appends}
+use Rattle.std.specs.Prelude.{◌≡◌, ℕ, List, ◌++◌, codes, decimal, Option, Result, Ok, Err, ◌⊎◌}
 use Rattle.cif_read.specs.declared.fault.CifFault.{CifFault}
 use Rattle.cif_read.specs.Faults.{name_of, number_of}
-use Rattle.cif_write.specs.Device.{AllWent, FrontWent}
+use Rattle.byte_io.specs.Device.{WroteAll, WrotePrefix}
 use Rattle.cif_write.specs.Text.{text}
 use Rattle.masklay.specs.declared.program.outcome.Finished.{Finished}
 use Rattle.masklay.specs.declared.program.outcome.Stop.{Stop}
 use Rattle.masklay.specs.declared.program.outcome.Stop.TheVariants.{JobFault, CifFault as CifStop, NoMemory}
 use Rattle.masklay.specs.declared.program.status.Status.{Status}
 use Rattle.masklay.specs.declared.program.status.Status.TheVariants.{Done, CommandLine, Job, Cif, Device, Memory}
-use Rattle.masklay.specs.Order.{order_text}
+use Rattle.job_text.specs.Order.{order_text}
 use Rattle.masklay.specs.Outcome.{finished_of}
-use Rattle.masklay.specs.Replies.{replies_text}
+use Rattle.job_text.specs.Replies.{replies_text}
 
 -- the number with which the process ends
 abbrev pub code_of : Status → ℕ
@@ -23,7 +22,7 @@ code_of Cif = 4
 code_of Device = 5
 code_of Memory = 6
 
--- what goes out, and the status with which the program ends
+-- what is written, and the status with which the program ends
 pub record Output : Type 0 where
   pub text : List ℕ
   pub status : Status
@@ -35,17 +34,18 @@ job_fault_text line = codes "job fault at line " ++ decimal line ++ codes "\n"
 -- the line of a CIF text's fault
 unfoldable pub cif_fault_text : CifFault → List ℕ
 cif_fault_text fault =
-    codes "cif fault " ++ decimal (number_of fault.kind) ++ codes " " ++ name_of fault.kind ++ codes " at " ++ decimal fault.offset ++ codes "\n"
+    codes "cif fault " ++ decimal (number_of fault.kind) ++ codes " " ++ name_of fault.kind ++ codes " at " ++ decimal fault.offset ++
+    codes "\n"
 
--- the line of want of memory
-abbrev pub memory_text : List ℕ
-memory_text = codes "out of memory\n"
+-- what is written where a growth of memory was refused
+abbrev pub memory_output : Output
+memory_output = record { text = codes "out of memory\n"; status = Memory }
 
--- what is put out where no layout is written
+-- what is written where no layout is
 abbrev pub stop_output : Stop → Output
 stop_output (JobFault line) = record { text = job_fault_text line; status = Job }
 stop_output (CifStop fault) = record { text = cif_fault_text fault; status = Cif }
-stop_output NoMemory = record { text = memory_text; status = Memory }
+stop_output NoMemory = memory_output
 
 -- the comments of the replies and of the order, and the text of the layout
 abbrev pub finished_output : Finished → Output
@@ -54,39 +54,23 @@ finished_output finished = record {
   status = Done;
 }
 
--- what is put out where this became of the job
+-- what is written where this became of the job
 abbrev pub output_from : Result Finished Stop → Output
 output_from (Ok finished) = finished_output finished
 output_from (Err stop) = stop_output stop
 
--- what the program puts out, and how it ends, where its input is these bytes
+-- what the program writes, and how it ends, where its input is these bytes
 unfoldable pub output_of : List ℕ → Output
 output_of bytes = output_from (finished_of bytes)
 
--- from the old device to the new: a front of the bytes went out and nothing else, one byte at least, and the device
--- didn't fail
-pub record Began {S : Type 0} (written : S → Option (List ℕ)) (failures : S → ℕ) (old new : S) (bytes : List ℕ) : Type 0 where
-  pub front : (front : List ℕ) × (rest : List ℕ) × (front ++ rest ≡ bytes) × Appends (written old) (written new) front
-  pub begun : front.0 ≢ []
-  pub unfailing : failures new ≡ failures old
+-- From the old device to the new: all of the output was written and nothing else, and the program ended with its status;
+-- or the device failed, and a prefix was written.
+abbrev pub Writes : {S : Type 0} → (S → Option (List ℕ)) → (S → ℕ) → S → S → Output → Status → Type 0
+Writes written failures old new output status =
+    ((status ≡ output.status) × WroteAll written failures old new output.text)
+    ⊎ ((status ≡ Device) × WrotePrefix written failures old new output.text)
 
--- From the old device to the new: what went out where this is the wanted output and the program ended with this
--- status. All of it and nothing else; or, where the device failed, a front of it or of the line of want of memory;
--- or, where memory was refused, that line, or a front of the output that had begun.
-abbrev pub Went : {S : Type 0} → (S → Option (List ℕ)) → (S → ℕ) → S → S → Output → Status → Type 0
-Went written failures old new wanted Done = (wanted.status ≡ Done) × AllWent written failures old new wanted.text
-Went written failures old new wanted Job = (wanted.status ≡ Job) × AllWent written failures old new wanted.text
-Went written failures old new wanted Cif = (wanted.status ≡ Cif) × AllWent written failures old new wanted.text
-Went written failures old new wanted Device = FrontWent written failures old new wanted.text ⊎ FrontWent written failures old new memory_text
-Went written failures old new wanted Memory = AllWent written failures old new memory_text ⊎ Began written failures old new wanted.text
-Went written failures old new wanted CommandLine = ⊥
-
--- From the old device to the new: what went out where this text is written and the program ended with this status.
--- Want of memory is told by its line where the output hadn't begun before, and else by the status alone.
-abbrev pub LayoutWent : {S : Type 0} → (S → Option (List ℕ)) → (S → ℕ) → Bool → S → S → List ℕ → Status → Type 0
-LayoutWent written failures begun old new layout Done = AllWent written failures old new layout
-LayoutWent written failures true old new layout Device = FrontWent written failures old new layout
-LayoutWent written failures false old new layout Device = FrontWent written failures old new layout ⊎ FrontWent written failures old new memory_text
-LayoutWent written failures true old new layout Memory = new ≡ old
-LayoutWent written failures false old new layout Memory = AllWent written failures old new memory_text
-LayoutWent written failures begun old new layout status = ⊥
+-- the same, where a growth of memory may have been refused: the line that says so then stands in place of the output
+abbrev pub Ends : {S : Type 0} → (S → Option (List ℕ)) → (S → ℕ) → S → S → Output → Status → Type 0
+Ends written failures old new wanted status = Writes written failures old new wanted status
+    ⊎ Writes written failures old new memory_output status

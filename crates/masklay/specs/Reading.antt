@@ -1,6 +1,6 @@
 -- The input of the program, read to its end.
 use Rattle.std.specs.Prelude.{◌≡◌, ℕ, ◌+◌, ◌⊎◌, List, take, Result, Ok, Err}
-use Rattle.masklay.specs.Input.{Counts}
+use Rattle.byte_io.specs.Input.{Counts}
 use Rattle.masklay.specs.declared.program.reading.ReadFault.{ReadFault}
 use Rattle.masklay.specs.declared.program.reading.ReadFault.TheVariants.{Device, NoMemory}
 
@@ -10,7 +10,7 @@ kept_of bytes = take 16777217 bytes
 
 -- the device gave bytes as often as it may be read, and didn't end the input
 abbrev pub IsEndless : Counts → Counts → Type 0
-IsEndless old new = (new.gifts ≡ old.gifts + 33554432) × (new.ends ≡ old.ends) × (new.failures ≡ old.failures)
+IsEndless old new = (new.nonempty_reads ≡ old.nonempty_reads + 33554432) × (new.ends ≡ old.ends) × (new.failures ≡ old.failures)
 
 -- From the old counts to the new: how reading ended where it was answered so. The input was read to its end; or the
 -- device failed, once, or was endless; or memory was refused before the end.

@@ -1,35 +1,33 @@
 //! The program `masklay`: reads a job from standard input, a CIF text and the steps of a session on it,
 //! and writes the replies to the steps, their order and the CIF text of the layout that they lead to.
 //!
-//! `program::run` is the program as a function of a device that gives bytes and one that takes them. What
-//! goes out is `output_of` the bytes that came in (`specs/Output.antt`): a `job_text::Job` is read from
-//! them, `session_core::Machine` takes its steps, and `print` and `write` put out what came of it.
+//! `main` only wires the standard streams to [`command_line::launch`], which is generic over a device
+//! that gives bytes and two that take them. Without an argument it is [`program::run`]: a
+//! `job_text::Job` is read from the input, a `session_core::Machine` takes its steps, and the whole
+//! output is built and then written at once. What is written is `output_of` the bytes that were read
+//! (`specs/Output.antt`).
 //!
-//! A machine is seen as a `State`: the history of its book, and the transaction that each session has
-//! open. Its type keeps that each of these is the one that the book awaits. A `Job`'s text and steps are
-//! seen as lists. The standard streams tell no bytes; the devices of the tests do.
+//! ```text
+//! let mut input = MemoryIn::new(b"%cif\nE\n", 4096, 1000);
+//! let mut out = MemoryOut::new(alloc, 4096, 1000, Failing::ByErr);
+//! assert_eq!(rt; run(alloc, Options {}, &mut input, &mut out), Status::Done);
+//! assert_eq!(rt; out.written(), b"DS 1 1 2;\nDF;\nC 1;\nE\n");
+//! ```
 #![tactic(auto)]
 
 mod command_line;
-mod job_text;
 mod program;
-mod session_core;
 mod streams;
 
-use program::{Status, put_memory, run};
+use command_line::{launch, words};
 use std::process::ExitCode;
 use streams::{StandardInput, StandardOutput};
 
 fn main(rt: HostRuntime) -> ExitCode {
+    let mut input = StandardInput::new(rt.stdin());
     let mut out = StandardOutput::new(rt.stdout());
     let mut errors = StandardOutput::new(rt.stderr());
-    let status = match command_line::options(&rt, &mut errors) {
-        Ok(options) => {
-            let mut input = StandardInput::new(rt.stdin());
-            run(rt.alloc(), options, &mut input, &mut out)
-        }
-        Err(Status::Memory) => put_memory(&mut out),
-        Err(status) => status,
-    };
+    let words = words(&rt);
+    let status = launch(rt.alloc(), words, &mut input, &mut out, &mut errors);
     ExitCode::from(status.code())
 }

@@ -1,43 +1,43 @@
-//! The standard streams as devices. Of their bytes nothing is told.
-ghost use Rattle.std.specs.Prelude.{◌≡◌, None};
-ghost use Rattle.masklay.specs.Input.{counts_of, no_counts};
+//! The standard streams as devices.
+ghost use Rattle.std.specs.Prelude.{◌≡◌};
+ghost use Rattle.byte_io.specs.Input.{counts_of, no_counts};
 
-use crate::job_text::{In, InFault, ReadCounts};
-use cif_write::{GhostCount, Out, OutFault};
-use std::io::{Read, Stdin, Write};
+use byte_io::{GhostCount, In, InFault, Out, OutFault, ReadCounts};
+use std::io::{Read, Write};
 
-/// Standard input.
+/// A stream that is read, as standard input.
 #[derive(Drop)]
-pub struct StandardInput {
-    stdin: Stdin,
+pub struct StandardInput<R> {
+    stream: R,
     counts: ReadCounts,
 }
 
-impl StandardInput {
-    /// The device of this stream, which wasn't read yet.
-    pub fn new(stdin: Stdin) -> StandardInput
-        ensures { counts_of result.counts ≡ no_counts }
+impl<R: Read + Drop> StandardInput<R> {
+    /// The device of this stream, before its first read.
+    pub fn new(stream: R) -> StandardInput<R>
+        ensures stream { result.stream ≡ stream }
+        ensures counts { counts_of result.counts ≡ no_counts }
     {
         StandardInput {
-            stdin,
+            stream,
             counts: ReadCounts::new(),
         }
     }
 }
 
-impl In for StandardInput {
-    ghost remaining = { λ _. None };
+impl<R: Read + Drop> In for StandardInput<R> {
+    ghost remaining = { λ d. R.remaining d.stream };
 
     ghost counts = { λ d. counts_of d.counts };
 
     fn take(&mut self, buffer: &mut [u8]) -> Result<usize, InFault> {
-        let answer = self.stdin.read(buffer).map_err(|_| InFault);
-        self.counts.note(buffer, &answer);
+        let answer = self.stream.read(buffer).map_err(|_| InFault);
+        self.counts.count(buffer, &answer);
         answer
     }
 }
 
-/// Standard output, or standard error.
+/// A stream that is written, as standard output and standard error.
 #[derive(Drop)]
 pub struct StandardOutput<W> {
     stream: W,
@@ -47,7 +47,8 @@ pub struct StandardOutput<W> {
 impl<W: Write + Drop> StandardOutput<W> {
     /// The device of this stream, which hasn't failed yet.
     pub fn new(stream: W) -> StandardOutput<W>
-        ensures { result.failures.total ≡ 0 }
+        ensures stream { result.stream ≡ stream }
+        ensures failures { result.failures.total ≡ 0 }
     {
         StandardOutput {
             stream,
@@ -57,7 +58,7 @@ impl<W: Write + Drop> StandardOutput<W> {
 }
 
 impl<W: Write + Drop> Out for StandardOutput<W> {
-    ghost written = { λ _. None };
+    ghost written = { λ d. W.contents d.stream };
 
     ghost failures = { λ d. d.failures.total };
 

@@ -1,14 +1,5 @@
 pub mod ListLemmas
-pub mod Written
-pub mod Runs
-pub mod Moves
-pub mod SetLemmas
-pub mod SameSets
-pub mod OneMore
-pub mod WorkLemmas
 pub mod ChainLemmas
-pub mod SoundRuns
 pub mod HistoryLemmas
 pub mod CommitLemmas
 pub mod UndoLemmas
-pub mod Lookups

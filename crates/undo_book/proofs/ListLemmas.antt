@@ -1,16 +1,7 @@
--- Lists: what holds of each element, and what stands at a place.
-use Rattle.std.proofs.Common.{◌≡◌, ◌≢◌, ℕ, List, [], ◌∷◌, ◌++◌, Some, zero, suc, replicate, slice_get, slice_set, ◌⊎◌, inl, inr, refl, ap, subst, arith}
+-- Lists: what stands at a place.
+use Rattle.std.proofs.Common.{◌≡◌, ◌≢◌, ℕ, List, [], ◌∷◌, ◌++◌, Some, zero, suc, replicate, slice_get, slice_set, ◌⊎◌, inl, inr, refl, ap}
+use Rattle.std.proofs.Common.{subst, arith}
 use Rattle.std.specs.List.{AllByRecursion}
-
--- what follows from what holds of each
-pub all_weaker : {X : Type 0} (P Q : X → Type 0) → ((x : X) → P x → Q x) → (xs : List X) → AllByRecursion P xs → AllByRecursion Q xs
-all_weaker P Q weaker [] all = tt
-all_weaker P Q weaker (x ∷ xs) all = (weaker x all.0, all_weaker P Q weaker xs all.1)
-
--- one more at the end
-pub all_push : {X : Type 0} (P : X → Type 0) (xs : List X) (x : X) → AllByRecursion P xs → P x → AllByRecursion P (xs ++ x ∷ [])
-all_push P [] x all here = (here, tt)
-all_push P (y ∷ ys) x all here = (all.0, all_push P ys x all.1 here)
 
 -- the one at a place
 pub all_at : {X : Type 0} (P : X → Type 0) (xs : List X) (i : ℕ) (x : X) → AllByRecursion P xs → slice_get xs i ≡ Some x → P x
@@ -25,7 +16,8 @@ slice_get-push (z ∷ zs) x y zero h = h
 slice_get-push (z ∷ zs) x y (suc i) h = slice_get-push zs x y i h
 
 -- what a list has where something was set, and elsewhere
-pub set_cases : {X : Type 0} (xs : List X) (i j : ℕ) (x y : X) → slice_get (slice_set xs i x) j ≡ Some y → ((j ≡ i) × (x ≡ y)) ⊎ ((j ≢ i) × (slice_get xs j ≡ Some y))
+pub set_cases : {X : Type 0} (xs : List X) (i j : ℕ) (x y : X) → slice_get (slice_set xs i x) j ≡ Some y →
+    ((j ≡ i) × (x ≡ y)) ⊎ ((j ≢ i) × (slice_get xs j ≡ Some y))
 set_cases [] i j x y h = absurd cc
 set_cases (z ∷ zs) zero zero x y h = inl (refl, cc)
 set_cases (z ∷ zs) zero (suc j) x y h = inr ((λ e. omega arith), h)

@@ -6,16 +6,16 @@ use Rattle.lay_items.specs.Sound.{IsSound}
 use Rattle.undo_book.specs.declared.log.Answer.TheVariants.{Undone}
 use Rattle.undo_book.specs.declared.log.Call.TheVariants.{Undo}
 use Rattle.undo_book.specs.declared.log.Entry.{Entry}
-use Rattle.undo_book.specs.declared.txn_work.command.TxnId.{TxnId}
-use Rattle.undo_book.specs.declared.txn_work.record.Record.{Record}
+use Rattle.txn_work.specs.declared.command.TxnId.{TxnId}
+use Rattle.txn_work.specs.declared.record.Record.{Record}
 use Rattle.undo_book.specs.Chains.{IsHistory}
 use Rattle.undo_book.specs.History.{History, replay}
-use Rattle.undo_book.specs.Records.{befores}
+use Rattle.txn_work.specs.Records.{befores}
 use Rattle.undo_book.specs.Steps.{after_undo, logged, place_of, refusal_of, undone, unmarked, without}
 use Rattle.undo_book.proofs.ChainLemmas.{free_there, set_unmarks}
 use Rattle.undo_book.proofs.HistoryLemmas.{back_rising, history_sound, undone_history, with_layout}
 
--- the records can be taken back, and with the mark gone and the call logged the history goes on
+-- the records can be reverted, and with the mark gone and the call logged the history goes on
 pub record CanUndo (old h : History) (session : ℕ) (txn : TxnId) (i : ℕ) (entry : Entry) (records : List Record) : Type 0 where
   pub there : slice_get old.entries i ≡ Some entry
   pub rising : IsRising (befores records)
@@ -25,12 +25,16 @@ pub record CanUndo (old h : History) (session : ℕ) (txn : TxnId) (i : ℕ) (en
       new.entries ≡ slice_set old.entries i (undone entry) → new.sessions ≡ old.sessions →
       IsHistory new × (new ≡ after_undo h session txn) × (replay (without h txn) ≡ Some new.layout)
 
-can_undo_here : (h : History) → IsHistory h → (session : ℕ) (txn : TxnId) (i : ℕ) → place_of txn h.entries ≡ Some i → refusal_of (drop i h.entries) ≡ None →
-    (entry : Entry) → entry ≡ get_or h.entries i entry → (records : List Record) → records ≡ entry.writes → CanUndo h h session txn i entry records
+can_undo_here : (h : History) → IsHistory h → (session : ℕ) (txn : TxnId) (i : ℕ) → place_of txn h.entries ≡ Some i →
+    refusal_of (drop i h.entries) ≡ None →
+    (entry : Entry) → entry ≡ get_or h.entries i entry → (records : List Record) → records ≡ entry.writes →
+    CanUndo h h session txn i entry records
 can_undo_here h is session txn i place free entry found records same =
-    let there : slice_get h.entries i ≡ Some entry = slice_get-get_or h.entries i entry (free_there h.entries i free) ∙ ap Some (sym found) in
+    let there : slice_get h.entries i ≡ Some entry = slice_get-get_or h.entries i entry (free_there h.entries i free)
+    ∙ ap Some (sym found) in
     let made = undone_history h is session txn i place free entry there (written h.layout (befores entry.writes)) refl in
-    let back : written h.layout (befores entry.writes) ≡ written h.layout (befores records) = ap (λ ws. written h.layout (befores ws)) (sym same) in
+    let back : written h.layout (befores entry.writes) ≡ written h.layout (befores records) =
+    ap (λ ws. written h.layout (befores ws)) (sym same) in
     record {
       there = there;
       rising = subst (λ (ws : List Record). IsRising (befores ws)) (sym same) (back_rising h is i entry there free);
@@ -43,8 +47,11 @@ can_undo_here h is session txn i place free entry found records same =
           (subst (λ (x : History). IsHistory x) (sym whole) all.0, whole ∙ all.1, all.2);
     }
 
-pub can_undo : (old h : History) → old ≡ h → IsHistory old → (session : ℕ) (txn : TxnId) (i : ℕ) → place_of txn h.entries ≡ Some i → refusal_of (drop i h.entries) ≡ None →
-    (entry : Entry) → entry ≡ get_or old.entries i entry → (records : List Record) → records ≡ entry.writes → CanUndo old h session txn i entry records
+pub can_undo : (old h : History) → old ≡ h → IsHistory old → (session : ℕ) (txn : TxnId) (i : ℕ) → place_of txn h.entries ≡ Some i →
+    refusal_of (drop i h.entries) ≡ None →
+    (entry : Entry) → entry ≡ get_or old.entries i entry → (records : List Record) → records ≡ entry.writes →
+    CanUndo old h session txn i entry records
 can_undo old h seen is session txn i place free entry found records same =
     subst (λ (x : History). CanUndo old x session txn i entry records) seen
-    (can_undo_here old is session txn i (ap (λ (x : History). place_of txn x.entries) seen ∙ place) (ap (λ (x : History). refusal_of (drop i x.entries)) seen ∙ free) entry found records same)
+    (can_undo_here old is session txn i (ap (λ (x : History). place_of txn x.entries) seen ∙ place)
+    (ap (λ (x : History). refusal_of (drop i x.entries)) seen ∙ free) entry found records same)

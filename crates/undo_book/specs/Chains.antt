@@ -8,13 +8,15 @@ use Rattle.undo_book.specs.declared.log.Entry.{Entry}
 use Rattle.undo_book.specs.declared.log.Logged.{Logged}
 use Rattle.undo_book.specs.declared.session.Pending.{Pending}
 use Rattle.undo_book.specs.declared.session.SessionState.{SessionState}
-use Rattle.undo_book.specs.declared.txn_work.command.Command.{Command}
-use Rattle.undo_book.specs.declared.txn_work.command.TxnId.{TxnId}
-use Rattle.undo_book.specs.Effects.{Run, after_each, begun}
+use Rattle.txn_work.specs.declared.command.Command.{Command}
+use Rattle.txn_work.specs.declared.command.TxnId.{TxnId}
+use Rattle.txn_work.specs.Effects.{Run, after_each, begun}
 use Rattle.undo_book.specs.History.{History, commands_at}
-use Rattle.undo_book.specs.Records.{AreRecords}
+use Rattle.txn_work.specs.Records.{AreRecords}
+use Rattle.txn_work.specs.Transactions.{IsOf}
 
--- run on the layout before it, the transaction gives the layout after it, and its records are those between them
+-- run on the layout before it, the transaction gives the layout after it; its records are those between them, and its footprint
+-- is that of its commands
 pub record Ran (log : List Logged) (entry : Entry) (before after : Layout) : Type 0 where
   pub commands : List Command
   pub run : Run
@@ -22,16 +24,13 @@ pub record Ran (log : List Logged) (entry : Entry) (before after : Layout) : Typ
   pub runs : after_each entry.txn commands (begun before) ≡ Some run
   pub after_is : run.layout ≡ after
   pub writes : AreRecords before after entry.writes
+  pub footprint : run.footprint ≡ entry.footprint
 
 -- the live ones of these transactions lead from the first layout to the last, each with its records
 abbrev pub Chain : List Logged → Layout → List Entry → Layout → Type 0
 Chain log first [] last = first ≡ last
 Chain log first (entry ∷ entries) last =
     MatchBool entry.live ((next : Layout) × Ran log entry first next × Chain log next entries last) (Chain log first entries last)
-
--- the id is of an item that the transaction made
-abbrev pub IsOf : TxnId → ItemId → Type 0
-IsOf txn id = (id.session ≡ txn.session) × (id.txn ≡ txn.txn)
 
 -- a transaction of this version writes its own items alone
 abbrev pub OwnsWrites : Entry → Type 0

@@ -9,11 +9,11 @@ use Rattle.undo_book.specs.declared.log.Call.TheVariants.{Commit, Open, Undo}
 use Rattle.undo_book.specs.declared.log.Entry.{Entry}
 use Rattle.undo_book.specs.declared.log.Logged.{Logged}
 use Rattle.undo_book.specs.declared.session.SessionState.{SessionState}
-use Rattle.undo_book.specs.declared.txn_work.command.Command.{Command}
+use Rattle.txn_work.specs.declared.command.Command.{Command}
 use Rattle.undo_book.specs.contracts.log.Entry as entry_of
 use Rattle.undo_book.specs.contracts.log.Logged as logged_of
 use Rattle.undo_book.specs.contracts.session.SessionState as session_of
-use Rattle.undo_book.specs.Effects.{Run, after_each, begun}
+use Rattle.txn_work.specs.Effects.{Run, after_each, begun}
 
 -- a history: the base, the layout as it is, the logged calls, the committed transactions in the order of
 -- their commits, and what is kept of each session
@@ -28,7 +28,8 @@ pub record History : Type 0 where
 abbrev pub coded_history : Coded History
 coded_history =
     code_by (Layout × (Layout × (List Logged × (List Entry × List SessionState))))
-    (coded× coded_layout (coded× coded_layout (coded× (coded_list logged_of.the_row.coded) (coded× (coded_list entry_of.the_row.coded) (coded_list session_of.the_row.coded)))))
+    (coded× coded_layout (coded× coded_layout (coded× (coded_list logged_of.the_row.coded)
+    (coded× (coded_list entry_of.the_row.coded) (coded_list session_of.the_row.coded)))))
     (λ h. (h.base, (h.layout, (h.log, (h.entries, h.sessions)))))
     (λ p. record { base = p.0; layout = p.1.0; log = p.1.1.0; entries = p.1.1.1.0; sessions = p.1.1.1.1 }) (λ _. refl)
 
@@ -61,7 +62,8 @@ run_on entry (Some commands) layout more = if_run (after_each entry.txn commands
 abbrev pub replay_from : List Logged → Layout → List Entry → Option Layout
 replay_from log layout [] = Some layout
 replay_from log layout (entry ∷ entries) =
-    if entry.live then run_on entry (commands_at log entry.place) layout (λ next. replay_from log next entries) else replay_from log layout entries
+    if entry.live then run_on entry (commands_at log entry.place) layout (λ next.
+    replay_from log next entries) else replay_from log layout entries
 
 -- the layout after the live transactions of a history
 abbrev pub replay : History → Option Layout
@@ -69,4 +71,4 @@ replay h = replay_from h.log h.base h.entries
 
 -- the history whose layout is that of its live transactions
 abbrev pub settled : History → History
-settled h = record { base = h.base; layout = unwrap_or (replay h) h.layout; log = h.log; entries = h.entries; sessions = h.sessions }
+settled h = record h { layout = unwrap_or (replay h) h.layout }

@@ -1,11 +1,5 @@
-pub mod Agreement
-pub mod Books
-pub mod Chains
-pub mod Effects
-pub mod Elements
 pub mod History
-pub mod Records
-pub mod SameTouched
+pub mod Chains
 pub mod Steps
-pub mod Transactions
-pub mod Works
+pub mod Books
+pub mod Refusals

@@ -1,9 +1,7 @@
 -- The calls of a book: what each answers, in the order in which refusals are tested, and what it leaves.
-use Rattle.std.specs.Prelude.{◌≡◌, ℕ, ◌+◌, ◌-◌, ◌==◌, List, [], ◌∷◌, ◌++◌, length, drop, Bool, true, false, ◌&&◌, not, nat_le, Option, None, Some, option_map, Result, Ok, Err, if◌then◌else◌, slice_index_or, slice_set, replicate, ◌⊎◌}
-use Rattle.std.specs.FinSet as set
-use Rattle.std.specs.List.{list_all}
-use Rattle.lay_items.specs.Layout.{Layout, item_at}
-use Rattle.lay_items.specs.Same.{option_item_eq, symbols_eq}
+use Rattle.std.specs.Prelude.{◌≡◌, ℕ, ◌+◌, ◌-◌, ◌==◌, List, [], ◌∷◌, ◌++◌, length, drop, Bool, true, false, ◌&&◌, not, nat_le, Option}
+use Rattle.std.specs.Prelude.{None, Some, option_map, Result, Ok, Err, if◌then◌else◌, slice_index_or, slice_set, replicate, ◌⊎◌}
+use Rattle.lay_items.specs.Layout.{Layout}
 use Rattle.undo_book.specs.declared.log.Answer.{Answer}
 use Rattle.undo_book.specs.declared.log.Answer.TheVariants.{Committed, Opened, Refused, Undone}
 use Rattle.undo_book.specs.declared.log.BookFault.{BookFault}
@@ -14,12 +12,11 @@ use Rattle.undo_book.specs.declared.commit.CommitRefusal.{CommitRefusal}
 use Rattle.undo_book.specs.declared.log.Entry.{Entry}
 use Rattle.undo_book.specs.declared.session.Pending.{Pending}
 use Rattle.undo_book.specs.declared.session.SessionState.{SessionState}
-use Rattle.undo_book.specs.declared.txn_work.command.TxnId.{TxnId}
-use Rattle.undo_book.specs.declared.txn_work.footprint.Element.{Element}
-use Rattle.undo_book.specs.declared.txn_work.footprint.Element.TheVariants.{Item}
-use Rattle.undo_book.specs.Elements.{Touched, untouched}
+use Rattle.txn_work.specs.declared.command.TxnId.{TxnId}
+use Rattle.txn_work.specs.Elements.{untouched}
 use Rattle.undo_book.specs.History.{History, settled}
-use Rattle.undo_book.specs.Transactions.{Transaction}
+use Rattle.txn_work.specs.Agreement.{agrees}
+use Rattle.txn_work.specs.Transactions.{Transaction}
 
 -- the log has as many calls as it may have
 abbrev pub is_log_full : History → Bool
@@ -27,13 +24,7 @@ is_log_full h = nat_le 1048576 (length h.log)
 
 -- the history with one more call in its log
 abbrev pub logged : History → ℕ → Call → Answer → History
-logged h session call answer = record {
-  base = h.base;
-  layout = h.layout;
-  log = h.log ++ record { session = session; call = call; answer = answer } ∷ [];
-  entries = h.entries;
-  sessions = h.sessions;
-}
+logged h session call answer = record h { log = h.log ++ record { session = session; call = call; answer = answer } ∷ [] }
 
 -- a session that never opened a transaction
 abbrev pub unused : SessionState
@@ -45,13 +36,13 @@ state_of h session = slice_index_or h.sessions (session - 1) unused
 
 -- the history with this kept of the session
 abbrev pub with_state : History → ℕ → SessionState → History
-with_state h session state = record { base = h.base; layout = h.layout; log = h.log; entries = h.entries; sessions = slice_set h.sessions (session - 1) state }
+with_state h session state = record h { sessions = slice_set h.sessions (session - 1) state }
 
 -- a history without calls
 abbrev pub fresh : Layout → History
 fresh base = record { base = base; layout = base; log = []; entries = []; sessions = replicate 64 unused }
 
--- the call is answered as it is to be and leaves what it is to leave, or memory is wanted and nothing changes
+-- the call is answered as it is to be and leaves what it is to leave, or it is out of memory and nothing changes
 abbrev pub Takes : {T : Type 0} → History → Result T BookFault × History → Result T BookFault → History → Type 0
 Takes old wanted result new = ((result ≡ wanted.0) × (new ≡ wanted.1)) ⊎ ((result ≡ Err NoMemory) × (new ≡ old))
 
@@ -68,13 +59,14 @@ opening h session = record {
   footprint = untouched;
 }
 
--- the book keeps its place and its layout, and gives up what the session had open
+-- the book keeps its place and its layout, and drops what the session had open
 abbrev pub after_open : History → ℕ → History
 after_open h session =
     let number = (state_of h session).opens + 1 in
-    logged (with_state h session (record { opens = number; pending = Some (record { place = length h.log; snapshot = h.layout }) })) session Open (Opened number)
+    logged (with_state h session (record { opens = number; pending = Some (record { place = length h.log; snapshot = h.layout }) }))
+    session Open (Opened number)
 
--- what an open is answered and leaves: a full log is told first, then a session without a number left
+-- what an open is answered and leaves: a full log is refused first, then a session without a number left
 abbrev pub open_step : History → ℕ → Result Transaction BookFault × History
 open_step h session =
     if is_log_full h then (Err LogFull, h)
@@ -82,14 +74,6 @@ open_step h session =
     else (Ok (opening h session), after_open h session)
 
 -- ---- commit
-
--- two layouts agree on an element
-abbrev pub agree_at : Layout → Layout → Element → Bool
-agree_at l m (Item id) = option_item_eq (item_at l id) (item_at m id)
-
--- two layouts have the same symbols and agree on each touched element
-abbrev pub agrees : Layout → Layout → Touched → Bool
-agrees l m touched = symbols_eq l.symbols m.symbols && list_all (agree_at l m) (set.items touched)
 
 -- the transaction is the pending one, and what it touched is as its snapshot has it
 abbrev pub is_pending : Option Pending → Transaction → Bool
@@ -109,11 +93,11 @@ entry_of h txn = record { txn = txn.id; place = length h.log; writes = txn.write
 
 -- the transaction is entered as the last of the committed ones
 abbrev pub with_entry : History → Transaction → History
-with_entry h txn = record { base = h.base; layout = h.layout; log = h.log; entries = h.entries ++ entry_of h txn ∷ []; sessions = h.sessions }
+with_entry h txn = record h { entries = h.entries ++ entry_of h txn ∷ [] }
 
 -- what is kept of a session whose transaction is committed
 abbrev pub answered_state : SessionState → SessionState
-answered_state state = record { opens = state.opens; pending = None }
+answered_state state = record state { pending = None }
 
 -- the session's transaction is committed
 abbrev pub answered : History → ℕ → History
@@ -123,7 +107,7 @@ answered h session = with_state h session (answered_state (state_of h session))
 abbrev pub after_commit : History → Transaction → History
 after_commit h txn = settled (logged (answered (with_entry h txn) txn.id.session) txn.id.session (Commit txn.id txn.commands) Committed)
 
--- what a commit is answered and leaves: a full log is told first, then a foreign transaction
+-- what a commit is answered and leaves: a full log is refused first, then a foreign transaction
 abbrev pub commit_step : History → Transaction → Result TxnId BookFault × History
 commit_step h txn =
     if is_log_full h then (Err LogFull, h)
@@ -181,7 +165,7 @@ undo_refusal h txn = refusal_at h.entries (place_of txn h.entries)
 
 -- the transaction without its mark
 abbrev pub undone : Entry → Entry
-undone entry = record { txn = entry.txn; place = entry.place; writes = entry.writes; footprint = entry.footprint; live = false }
+undone entry = record entry { live = false }
 
 -- the transaction's mark taken away
 abbrev pub unmarked : TxnId → List Entry → List Entry
@@ -192,7 +176,7 @@ unmarked txn (entry ∷ entries) =
 
 -- the same history without the transaction
 abbrev pub without : History → TxnId → History
-without h txn = record { base = h.base; layout = h.layout; log = h.log; entries = unmarked txn h.entries; sessions = h.sessions }
+without h txn = record h { entries = unmarked txn h.entries }
 
 -- the transaction's mark is gone, the call is logged, and the layout is the new replay
 abbrev pub after_undo : History → ℕ → TxnId → History
@@ -203,6 +187,6 @@ abbrev pub undo_unless : Option BookFault → History → ℕ → TxnId → Resu
 undo_unless (Some fault) h session txn = (Err fault, logged h session (Undo txn) (Refused fault))
 undo_unless None h session txn = (Ok tt, after_undo h session txn)
 
--- what an undo is answered and leaves: a full log is told first
+-- what an undo is answered and leaves: a full log is refused first
 abbrev pub undo_step : History → ℕ → TxnId → Result (Unit {0}) BookFault × History
 undo_step h session txn = if is_log_full h then (Err LogFull, h) else undo_unless (undo_refusal h txn) h session txn

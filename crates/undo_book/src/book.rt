@@ -2,25 +2,25 @@
 ghost use Rattle.std.specs.Prelude.{◌≡◌, ◌<◌, ◌≤◌, IfErr, IfOk, OnErr, OnOk, Ok, Err};
 ghost use Rattle.std.specs.Prelude.{None, Some, true, false, drop};
 ghost use Rattle.lay_point.specs.Memory.{IsAnswer};
-ghost use Rattle.undo_book.specs.Effects.{Run};
+ghost use Rattle.txn_work.specs.Effects.{Run};
 ghost use Rattle.undo_book.specs.History.{replay};
 ghost use Rattle.undo_book.specs.Steps.{Takes, TakesWork, after_commit, after_open, after_undo};
 ghost use Rattle.undo_book.specs.Steps.{commit_step, fresh, is_log_full, is_own, logged};
 ghost use Rattle.undo_book.specs.Steps.{open_step, opening, place_of, refusal_of, refused};
 ghost use Rattle.undo_book.specs.Steps.{state_of, undo_step, without};
-ghost use Rattle.undo_book.specs.Transactions.{Moved};
+ghost use Rattle.txn_work.specs.Transactions.{RunsAlike};
 
 use crate::commit::{CommitRefusal, refused};
-use crate::log::{Answer, BookFault, Call, Entry, Logged, MAX_CALLS, unmark};
+use crate::log::{Answer, BookFault, Call, Entry, Logged, MAX_CALLS, mark_undone};
 use crate::places::undo_place;
 use crate::session::{
-    MAX_TRANSACTIONS, Pending, SessionState, answer, is_pending, unused_sessions,
+    MAX_TRANSACTIONS, Pending, SessionState, clear_pending, is_pending, unused_sessions,
 };
-use crate::txn_work::{TxnId, Work, laid, taken_back};
 use lay_items::Snapshot;
 use lay_point::NoMemory;
 use std::alloc::Global;
 use std::marker::Model;
+use txn_work::{TxnId, Work, applied, reverted};
 
 /// A history of a layout. Contracts see the record of its base, its layout, its log, its committed
 /// transactions and what it keeps of the sessions. It keeps in its type that the layout is that of
@@ -41,9 +41,9 @@ impl Model for Book {
 
     ghost coded = { coded_history };
 
-    ghost use Rattle.undo_book.specs.Books.{IsBook, seen};
+    ghost use Rattle.undo_book.specs.Books.{IsBook, history_of};
 
-    ghost view = { seen };
+    ghost view = { history_of };
 
     ghost invariant = { IsBook };
 }
@@ -92,7 +92,7 @@ impl Book {
         self.entries.as_slice()
     }
 
-    /// Whether the log has as many calls as it may have.
+    /// Returns whether the log has as many calls as it may have.
     fn is_full(&self) -> bool
         ensures { result ≡ is_log_full self.now }
     {
@@ -100,7 +100,7 @@ impl Book {
     }
 
     /// Logs a call, and changes nothing else.
-    fn note(&mut self, session: u8, call: Call, answer: Answer) -> Result<(), NoMemory>
+    fn log_call(&mut self, session: u8, call: Call, answer: Answer) -> Result<(), NoMemory>
         ensures ok { OnOk result (self.new ≡ logged self.old session call answer) }
         ensures err { OnErr result (self.new ≡ self.old) }
     {
@@ -112,8 +112,8 @@ impl Book {
         Ok(())
     }
 
-    /// Opens the next transaction of a session, on the layout as it is, and gives up what the
-    /// session has open. Refused as `LogFull`, then as `SessionFull` where the session has as many
+    /// Opens the next transaction of a session, on the layout as it is, and drops what the session
+    /// has open. Refused as `LogFull`, then as `SessionFull` where the session has as many
     /// transactions as it may have. Any answer but `LogFull` can give way to `NoMemory`. All but
     /// these two are logged.
     pub fn open(&mut self, alloc: Global, session: u8) -> Result<Work, BookFault>
@@ -126,7 +126,7 @@ impl Book {
             return Err(BookFault::LogFull);
         }
         if self.opens(session) >= MAX_TRANSACTIONS {
-            self.note(session, Call::Open, Answer::Refused(BookFault::SessionFull))?;
+            self.log_call(session, Call::Open, Answer::Refused(BookFault::SessionFull))?;
             return Err(BookFault::SessionFull);
         }
         Ok(self.open_next(alloc, session)?)
@@ -146,7 +146,7 @@ impl Book {
         requires low { 1 ≤ session }
         requires high { session ≤ 64 }
         requires log { is_log_full self.old ≡ false }
-        requires room { (state_of self.old session).opens < 65535 }
+        requires room { (state_of self.old session).opens < MAX_TRANSACTIONS }
         ensures work { IfOk result (λ work. work ≡ opening self.old session) }
         ensures ok { OnOk result (self.new ≡ after_open self.old session) }
         ensures err { OnErr result (self.new ≡ self.old) }
@@ -178,7 +178,7 @@ impl Book {
         ensures full { is_log_full self.old ≡ true → result ≡ Err (refused BookFault.LogFull work) }
         // The commands, run on the layout at the commit, give what they gave in the work.
         ensures ran { OnOk result
-            ((run : Run) × Moved work self.old.layout run × (run.layout ≡ self.new.layout)) }
+            ((run : Run) × RunsAlike work self.old.layout run × (run.layout ≡ self.new.layout)) }
     {
         if self.is_full() {
             return Err(refused(BookFault::LogFull, work));
@@ -192,7 +192,7 @@ impl Book {
         }
     }
 
-    /// Whether the work is the one that its session opened last and that is not committed yet, and the
+    /// Returns whether the work is the one that its session opened last and that is not committed yet, and the
     /// layout at its open is as its snapshot has it on what it touched.
     fn is_own(&self, work: &Work) -> bool
         ensures { result ≡ is_own self.now work.now }
@@ -205,20 +205,20 @@ impl Book {
         state.opens == id.txn && is_pending(&state.pending, work)
     }
 
-    /// Appends the transaction of a work of the book's own. The work is handed back for want of
-    /// memory.
+    /// Appends the transaction of a work of the book's own. The work is handed back where it is
+    /// out of memory.
     fn append(&mut self, alloc: Global, work: Work) -> Result<TxnId, Work>
         requires log { is_log_full self.old ≡ false }
         requires own { is_own self.old work ≡ true }
         ensures txn { IfOk result (λ txn. txn ≡ work.id) }
         ensures ok { OnOk result (self.new ≡ after_commit self.old work) }
         ensures ran { OnOk result
-            ((run : Run) × Moved work self.old.layout run × (run.layout ≡ self.new.layout)) }
+            ((run : Run) × RunsAlike work self.old.layout run × (run.layout ≡ self.new.layout)) }
         ensures work { IfErr result (λ back. back ≡ work) }
         ensures err { OnErr result (self.new ≡ self.old) }
     {
         let txn = work.id();
-        let Ok(layout) = laid(alloc, &self.layout, work.writes()) else {
+        let Ok(layout) = applied(alloc, &self.layout, work.writes()) else {
             return Err(work);
         };
         if self.entries.reserve(1).is_err() || self.log.reserve(1).is_err() {
@@ -240,7 +240,7 @@ impl Book {
             answer: Answer::Committed,
         };
         self.log.push(logged).unwrap();
-        answer(&mut self.sessions, txn.session);
+        clear_pending(&mut self.sessions, txn.session);
         self.layout = layout;
         Ok(txn)
     }
@@ -260,16 +260,16 @@ impl Book {
             return Err(BookFault::LogFull);
         }
         match undo_place(&self.entries, txn) {
-            Ok(place) => Ok(self.take_back(alloc, session, txn, place)?),
+            Ok(place) => Ok(self.revert(alloc, session, txn, place)?),
             Err(fault) => {
-                self.note(session, Call::Undo(txn), Answer::Refused(fault))?;
+                self.log_call(session, Call::Undo(txn), Answer::Refused(fault))?;
                 Err(fault)
             }
         }
     }
 
-    /// Takes back the transaction at this place, which nothing is against.
-    fn take_back(
+    /// Reverts the transaction at this place, which nothing is against.
+    fn revert(
         &mut self,
         alloc: Global,
         session: u8,
@@ -283,9 +283,9 @@ impl Book {
         ensures err { OnErr result (self.new ≡ self.old) }
     {
         let entry = &self.entries[place];
-        let layout = taken_back(alloc, &self.layout, entry.writes.as_slice())?;
+        let layout = reverted(alloc, &self.layout, entry.writes.as_slice())?;
         self.log.reserve(1)?;
-        unmark(&mut self.entries, place);
+        mark_undone(&mut self.entries, place);
         let logged = Logged {
             session,
             call: Call::Undo(txn),

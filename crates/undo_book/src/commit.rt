@@ -3,7 +3,7 @@ ghost use Rattle.std.specs.Prelude.{◌≡◌};
 ghost use Rattle.undo_book.specs.Steps.{refused};
 
 use crate::log::BookFault;
-use crate::txn_work::Work;
+use txn_work::Work;
 
 /// A refused commit: `LogFull`, `Foreign` or `NoMemory`. The work is handed back.
 #[derive(Drop)]

@@ -3,7 +3,7 @@ ghost use Rattle.std.specs.Prelude.{◌≡◌, ◌<◌, IfSome, MatchResult, Non
 ghost use Rattle.undo_book.specs.Steps.{first_live, place_of, refusal_at, refusal_of};
 
 use crate::log::{BookFault, Entry};
-use crate::txn_work::TxnId;
+use txn_work::TxnId;
 
 /// The place of the transaction of this name, where nothing is against undoing it, or why it can't
 /// be undone.

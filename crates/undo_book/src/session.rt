@@ -3,13 +3,15 @@ ghost use Rattle.std.specs.Prelude.{◌≡◌, ◌≤◌, ◌-◌, IfOk, replica
 ghost use Rattle.std.specs.Prelude.{slice_index_or, slice_set, vec_len};
 ghost use Rattle.undo_book.specs.Steps.{answered_state, is_pending, unused};
 
-use crate::txn_work::Work;
 use lay_items::Snapshot;
 use lay_point::NoMemory;
 use std::alloc::Global;
+use txn_work::Work;
 
 /// The most transactions of a session.
 pub const MAX_TRANSACTIONS: u16 = 65_535;
+
+const _: () = prove!(MAX_TRANSACTIONS == 65_535);
 
 /// The most sessions.
 const SESSIONS: usize = 64;
@@ -46,7 +48,7 @@ pub(crate) fn unused_sessions(alloc: Global) -> Result<Vec<SessionState>, NoMemo
     Ok(sessions)
 }
 
-/// Whether the work is the pending one, and agrees with the layout at its open on what it touched.
+/// Returns whether the work is the pending one, and agrees with the layout at its open on what it touched.
 pub(crate) fn is_pending(pending: &Option<Pending>, work: &Work) -> bool
     ensures { result ≡ is_pending pending.now work.now }
 {
@@ -61,8 +63,8 @@ pub(crate) fn is_pending(pending: &Option<Pending>, work: &Work) -> bool
     }
 }
 
-/// The session's transaction is committed.
-pub(crate) fn answer(sessions: &mut Vec<SessionState>, session: u8)
+/// Clears what the session has pending, since it is committed.
+pub(crate) fn clear_pending(sessions: &mut Vec<SessionState>, session: u8)
     requires low { 1 ≤ session }
     requires high { session ≤ vec_len sessions.old }
     ensures { sessions.new.items ≡ slice_set sessions.old.items (session - 1)

@@ -3,16 +3,17 @@ ghost use Rattle.std.specs.Prelude.{◌≡◌, IfOk, Ok, length, replicate};
 ghost use Rattle.std.specs.List.{list_any};
 ghost use Rattle.lay_point.specs.Memory.{IsAnswer};
 ghost use Rattle.masklay.specs.declared.program.outcome.Stop.TheVariants.{NoMemory as OutOfMemory};
-ghost use Rattle.masklay.specs.Machine.{is_memory};
+ghost use Rattle.session_core.specs.Machine.{is_memory};
 ghost use Rattle.masklay.specs.Outcome.{finished_from, finished_of, numbered, stop_of_cif, stop_of_job};
 
-use crate::job_text::{Job, JobFault, order_of};
-use crate::session_core::{Machine, Reply, Step, StepFault};
 use cif_read::{CifFault, FaultKind, read};
+use job_text::{Job, JobFault, order_of};
 use lay_items::Snapshot;
 use lay_point::{NoMemory, Sequence};
+use session_core::{Machine, Reply, Step, StepFault};
 use std::alloc::Global;
-use undo_book::{BookFault, CmdFault};
+use txn_work::CmdFault;
+use undo_book::BookFault;
 
 /// Why no layout is written.
 #[derive(Clone, Copy, Debug, PartialEq, Eq)]
@@ -66,22 +67,35 @@ impl From<NoMemory> for Stop {
     }
 }
 
-/// Whether a step was answered so for want of memory.
-fn is_memory(reply: Reply) -> bool
-    ensures { result ≡ is_memory reply }
+/// Runs the job of the bytes.
+#[tactic(auto, unfolding(crate::specs::Outcome::finished_of))]
+pub(super) fn finish(alloc: Global, bytes: &[u8]) -> Result<Finished, Stop>
+    ensures { IsAnswer Stop.NoMemory result (finished_of bytes.now) }
 {
-    match reply {
-        Reply::Fault(StepFault::Command(fault)) => fault == CmdFault::NoMemory,
-        Reply::Fault(StepFault::Book(fault)) => fault == BookFault::NoMemory,
-        _ => false,
-    }
+    let job = Job::read(alloc, bytes)?;
+    let file = read(alloc, job.cif.as_slice())?;
+    let base = Snapshot::from_cif(alloc, file)?;
+    finish_steps(alloc, base, job.script)
 }
 
-/// Whether one of the steps was answered so for want of memory.
-fn wants_memory(replies: &[Reply]) -> bool
-    ensures { result ≡ list_any is_memory replies.now }
+/// Runs the steps of session 1 on the layout.
+fn finish_steps(alloc: Global, base: Snapshot, script: Sequence<Step>) -> Result<Finished, Stop>
+    ensures answer { IsAnswer Stop.NoMemory result (Ok (finished_from base script)) }
+
+    // Each step is the one session's, so the printed order is that in which the steps ran.
+    ensures order { IfOk result (λ finished. finished.order ≡ replicate (length script) 1) }
 {
-    replies.iter().any(|reply| is_memory(*reply))
+    let steps = numbered(alloc, script)?;
+    let (machine, replies) = Machine::run(alloc, base, 1, steps)?;
+    if is_out_of_memory(&replies) {
+        return Err(Stop::NoMemory);
+    }
+    let order = order_of(alloc, machine.book().log(), &replies)?;
+    Ok(Finished {
+        layout: machine.book().snapshot().share(alloc)?,
+        replies: Sequence::from_vec(replies),
+        order: Sequence::from_vec(order),
+    })
 }
 
 /// The steps, each of session 1.
@@ -95,33 +109,20 @@ fn numbered(alloc: Global, script: Sequence<Step>) -> Result<Vec<(u8, Step)>, No
     Ok(steps)
 }
 
-/// Runs the steps of session 1 on the layout.
-fn finish_steps(alloc: Global, base: Snapshot, script: Sequence<Step>) -> Result<Finished, Stop>
-    ensures answer { IsAnswer Stop.NoMemory result (Ok (finished_from base script)) }
-
-    // Each step is the one session's, so the printed order is that in which the steps ran.
-    ensures order { IfOk result (λ finished. finished.order ≡ replicate (length script) 1) }
+/// Returns whether one of the steps was out of memory.
+fn is_out_of_memory(replies: &[Reply]) -> bool
+    ensures { result ≡ list_any is_memory replies.now }
 {
-    let steps = numbered(alloc, script)?;
-    let (machine, replies) = Machine::run(alloc, base, 1, steps)?;
-    if wants_memory(&replies) {
-        return Err(Stop::NoMemory);
-    }
-    let order = order_of(alloc, machine.book().log(), &replies)?;
-    Ok(Finished {
-        layout: machine.book().snapshot().share(alloc)?,
-        replies: Sequence::from_vec(replies),
-        order: Sequence::from_vec(order),
-    })
+    replies.iter().any(|reply| is_memory(*reply))
 }
 
-/// Runs the job of the bytes.
-#[tactic(auto, unfolding(crate::specs::Outcome::finished_of))]
-pub(super) fn finish(alloc: Global, bytes: &[u8]) -> Result<Finished, Stop>
-    ensures { IsAnswer Stop.NoMemory result (finished_of bytes.now) }
+/// Returns whether a step with this reply was out of memory.
+fn is_memory(reply: Reply) -> bool
+    ensures { result ≡ is_memory reply }
 {
-    let job = Job::read(alloc, bytes)?;
-    let file = read(alloc, job.cif.as_slice())?;
-    let base = Snapshot::from_cif(alloc, file)?;
-    finish_steps(alloc, base, job.script)
+    match reply {
+        Reply::Fault(StepFault::Command(fault)) => fault == CmdFault::NoMemory,
+        Reply::Fault(StepFault::Book(fault)) => fault == BookFault::NoMemory,
+        _ => false,
+    }
 }

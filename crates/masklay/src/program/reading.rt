@@ -3,12 +3,15 @@ ghost use Rattle.std.specs.Prelude.{◌≡◌, ◌++◌, ◌+◌, ◌≤◌, ℕ
 ghost use Rattle.masklay.specs.declared.program.reading.ReadFault.TheVariants.{Device as Stopped, NoMemory as OutOfMemory};
 ghost use Rattle.masklay.specs.Reading.{HowRead, kept_of};
 
-use crate::job_text::{In, InFault, MAX_JOB};
+use byte_io::{In, InFault};
+use job_text::MAX_JOB;
 use lay_point::NoMemory;
 use std::alloc::Global;
 
 /// The most reads of the input.
 const MAX_READS: u32 = 33_554_432;
+
+const _: () = prove!(MAX_READS == 33_554_432);
 
 /// How many bytes are asked for in one read.
 const BUFFER: usize = 4096;
@@ -38,25 +41,12 @@ impl From<NoMemory> for ReadFault {
     }
 }
 
-/// Puts the piece at the end, as far as one byte more is kept than a job may have.
-#[tactic(auto, unfolding(crate::specs::Reading::kept_of))]
-fn keep(kept: &mut Vec<u8>, piece: &[u8]) -> Result<(), NoMemory>
-    requires { length kept.old.items ≤ 16777217 }
-    ensures kept { OnOk result (kept.new.items ≡ kept_of (kept.old.items ++ piece.now)) }
-    ensures few { OnOk result (length kept.new.items ≤ 16777217) }
-{
-    let room = MAX_JOB + 1 - kept.len();
-    let len = room.min(piece.len());
-    kept.extend_from_slice(&piece[..len])?;
-    Ok(())
-}
-
 /// Reads the input to its end, and keeps one byte more of it than a job may have.
 pub(super) fn read_all<I: In>(alloc: Global, input: &mut I) -> Result<Vec<u8>, ReadFault>
     ensures kept { IfOk result (λ kept. (bytes : List ℕ) → I.remaining input.old ≡ Some bytes
         → kept.items ≡ kept_of bytes) }
     ensures how { HowRead (I.counts input.old) (I.counts input.new) result }
-    ensures reads { (I.counts input.new).reads ≤ (I.counts input.old).reads + 33554432 }
+    ensures reads { (I.counts input.new).reads ≤ (I.counts input.old).reads + MAX_READS }
 {
     let mut kept = Vec::new(alloc);
     let mut buffer = [0; BUFFER];
@@ -68,4 +58,17 @@ pub(super) fn read_all<I: In>(alloc: Global, input: &mut I) -> Result<Vec<u8>, R
         keep(&mut kept, &buffer[..taken])?;
     }
     Err(ReadFault::Device)
+}
+
+/// Appends the piece, as far as one byte more is kept than a job may have.
+#[tactic(auto, unfolding(crate::specs::Reading::kept_of))]
+fn keep(kept: &mut Vec<u8>, piece: &[u8]) -> Result<(), NoMemory>
+    requires { length kept.old.items ≤ MAX_JOB + 1 }
+    ensures kept { OnOk result (kept.new.items ≡ kept_of (kept.old.items ++ piece.now)) }
+    ensures few { OnOk result (length kept.new.items ≤ MAX_JOB + 1) }
+{
+    let room = MAX_JOB + 1 - kept.len();
+    let len = room.min(piece.len());
+    kept.extend_from_slice(&piece[..len])?;
+    Ok(())
 }

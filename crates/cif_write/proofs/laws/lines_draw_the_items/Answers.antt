@@ -12,16 +12,19 @@ use Rattle.cif_write.proofs.laws.lines_draw_the_items.Goals as goal
 pub returns-clause-draws : goal.returns-clause-draws
 returns-clause-draws c =
     let items = items_in c.args._snapshot.now Top in
-    ap (λ lines. drawn (Start 1 ∷ lines)) (one_definition (items_lines None items) (Call 1 ∷ End ∷ [])) ∙ drawn-items_lines [] 1 [] None items (Call 1 ∷ End ∷ []) ∙ append-nil (map shape_of items)
+    ap (λ lines. drawn (Start 1 ∷ lines)) (one_definition (items_lines None items) (Call 1 ∷ End ∷ []))
+    ∙ drawn-items_lines [] 1 [] None items (Call 1 ∷ End ∷ []) ∙ append-nil (map shape_of items)
 
 pub returns-clause-none_idle : goal.returns-clause-none_idle
 returns-clause-none_idle c =
     let items = items_in c.args._snapshot.now Top in
-    subst (NoneIdle None) (sym (one_definition (items_lines None items) (Call 1 ∷ End ∷ []))) (NoneIdle-items_lines None items (Call 1 ∷ End ∷ []) tt)
+    subst (NoneIdle None) (sym (one_definition (items_lines None items) (Call 1 ∷ End ∷ [])))
+    (NoneIdle-items_lines None items (Call 1 ∷ End ∷ []) tt)
 
 pub returns-clause-end : goal.returns-clause-end
 unfolding text
 returns-clause-end c =
     let symbols = flat_map symbol_lines (wrapped c.args._snapshot.now).symbols in
-    let last : file_lines (wrapped c.args._snapshot.now) ≡ (symbols ++ Call 1 ∷ []) ++ End ∷ [] = sym (append_assoc symbols (Call 1 ∷ []) (End ∷ [])) in
+    let last : file_lines (wrapped c.args._snapshot.now) ≡ (symbols ++ Call 1 ∷ []) ++ End ∷ [] =
+    sym (append_assoc symbols (Call 1 ∷ []) (End ∷ [])) in
     (symbols ++ Call 1 ∷ [], last, ap lines_text last ∙ lines_text-last (symbols ++ Call 1 ∷ []) End)

@@ -6,4 +6,5 @@ use Rattle.cif_write.proofs.text.push_items.Given as goal
 
 abbrev pub invariant-loop-item : goal.invariant-loop-item
 invariant-loop-item l =
-    l.bytes.items ++ lines_text (items_lines l.set l.item-iterator) ≡ l.initial.bytes.items ++ lines_text (items_lines l.initial.set l.initial.item-iterator)
+    l.bytes.items ++ lines_text (items_lines l.set l.item-iterator)
+    ≡ l.initial.bytes.items ++ lines_text (items_lines l.initial.set l.initial.item-iterator)

@@ -13,8 +13,10 @@ loop-point-preserved c =
     let e = kept_behind_more c.loop-point.last zero_point c.in-Some.behind.now c.loop-point.point-index (omega arith) in
     elim c.if-ne.branch [
       | then-ne+in_ok-push-2 w ↦
-          let kept : c.if-ne.kept.items ≡ c.loop-point.kept.items ++ get_or c.in-Some.behind.now c.loop-point.point-index zero_point ∷ [] = search rules in
+          let kept : c.if-ne.kept.items ≡ c.loop-point.kept.items ++ get_or c.in-Some.behind.now c.loop-point.point-index zero_point ∷ [] =
+          search rules in
           let last : c.if-ne.last ≡ get_or c.in-Some.behind.now c.loop-point.point-index zero_point = search rules in
-          rw (kept, last) (kept_more c.loop-point.kept.items c.loop-point.last zero_point c.in-Some.behind.now c.loop-point.point-index _ (omega arith) (search rules) c.loop-point.invariant)
+          rw (kept, last) (kept_more c.loop-point.kept.items c.loop-point.last zero_point c.in-Some.behind.now c.loop-point.point-index _
+          (omega arith) (search rules) c.loop-point.invariant)
       | else-ne w ↦ grind (arith, common_steps)
     ]

@@ -8,4 +8,5 @@ use Rattle.lay_items.proofs.version.Version.iter.Goals as goal
 
 pub returns : goal.returns
 returns c =
-    c.iter.ensures.rest ∙ sym (entries_again id_cmp ids_total c.self.inside.items.entries c.iter.ensures.ordered) ∙ ap (λ (l : Layout). entries l.items) c.self.view_is
+    c.iter.ensures.rest ∙ sym (entries_again id_cmp ids_total c.self.inside.items.entries c.iter.ensures.ordered)
+    ∙ ap (λ (l : Layout). entries l.items) c.self.view_is

@@ -1,10 +1,10 @@
 use Rattle.std.proofs.Common.{◌≡◌, ◌∙◌, Ok, ap, false, inr, rules}
 use Rattle.std.specs.List.{list_any}
-use Rattle.masklay.specs.Machine.{Ran, is_memory, start}
-use Rattle.masklay.specs.Order.{order_of}
+use Rattle.session_core.specs.Machine.{Ran, is_memory, start}
+use Rattle.job_text.specs.Order.{order_of}
 use Rattle.masklay.specs.Outcome.{finished_by, finished_from, numbered}
 use Rattle.masklay.specs.declared.program.outcome.Finished.{Finished}
-use Rattle.masklay.proofs.MachineLemmas.{ran_all}
+use Rattle.session_core.proofs.MachineLemmas.{ran_all}
 use Rattle.masklay.proofs.SerialLemmas.{serial_order}
 use Rattle.masklay.proofs.program.outcome.finish_steps.Goals as goal
 

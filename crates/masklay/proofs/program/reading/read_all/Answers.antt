@@ -10,7 +10,7 @@ loop-init g c = record {
   gone = ([], Consumes-nil _, (search rules) ∙ kept_none);
   few = search rules;
   reads = omega arith;
-  gifts = omega arith;
+  nonempty_reads = omega arith;
   turns = omega arith;
   unended = refl;
   unfailing = refl;
@@ -26,10 +26,14 @@ loop-preserved g c =
     let some : 0 < taken = omega arith in
     let long : length piece ≡ taken = length-take-le taken c.take.new.buffer (search rules) in
     record {
-      gone = (done ++ piece, Consumes-trans _ _ _ done piece consumed c.in_ok-taken.ensures.bytes.0, kept_more done c.loop.kept.items piece c.keep.new.kept.items kept c.in_ok-keep.ensures.kept);
+      gone = (
+        done ++ piece,
+        Consumes-trans _ _ _ done piece consumed c.in_ok-taken.ensures.bytes.0,
+        kept_more done c.loop.kept.items piece c.keep.new.kept.items kept c.in_ok-keep.ensures.kept,
+      );
       few = c.in_ok-keep.ensures.few;
       reads = grind (arith, common_steps);
-      gifts = grind (arith, common_steps);
+      nonempty_reads = grind (arith, common_steps);
       turns = omega arith;
       unended = grind (arith, common_steps);
       unfailing = grind (arith, common_steps);

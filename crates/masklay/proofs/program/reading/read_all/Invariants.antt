@@ -10,7 +10,7 @@ invariant-loop g l = record {
   gone : (done : List ℕ) × Consumes (g.I.In.remaining l.initial.input) (g.I.In.remaining l.input) done × (l.kept.items ≡ kept_of done);
   few : length l.kept.items ≤ 16777217;
   reads : (g.I.In.counts l.input).reads ≡ (g.I.In.counts l.initial.input).reads + l.counter;
-  gifts : (g.I.In.counts l.input).gifts ≡ (g.I.In.counts l.initial.input).gifts + l.counter;
+  nonempty_reads : (g.I.In.counts l.input).nonempty_reads ≡ (g.I.In.counts l.initial.input).nonempty_reads + l.counter;
   turns : l.counter ≤ 33554432;
   unended : (g.I.In.counts l.input).ends ≡ (g.I.In.counts l.initial.input).ends;
   unfailing : (g.I.In.counts l.input).failures ≡ (g.I.In.counts l.initial.input).failures;

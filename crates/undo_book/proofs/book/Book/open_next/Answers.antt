@@ -4,6 +4,7 @@ use Rattle.undo_book.specs.declared.log.Answer.TheVariants.{Opened}
 use Rattle.undo_book.specs.declared.log.Call.TheVariants.{Open}
 use Rattle.undo_book.specs.declared.log.Logged.{Logged}
 use Rattle.undo_book.specs.declared.session.SessionState.{SessionState}
+use Rattle.undo_book.specs.Books.{history_of}
 use Rattle.undo_book.specs.Chains.{IsHistory}
 use Rattle.undo_book.specs.History.{History}
 use Rattle.undo_book.specs.Steps.{after_open, state_of}
@@ -15,16 +16,16 @@ invariant_of-self-2 c =
     let now = c.args.self.now in
     let s = c.args.session in
     let is : IsHistory now = subst (λ (h : History). IsHistory h) c.self.view_is c.self.invariant in
-    let new : SessionState = record { opens = (state_of now s).opens + 1; pending = Some (record { place = length now.log; snapshot = now.layout }) } in
-    let call : Logged = record { session = s; call = Open; answer = Opened ((state_of now s).opens + 1) } in
+    let number = (state_of now s).opens + 1 in
+    let new : SessionState = record { opens = number; pending = Some (record { place = length now.log; snapshot = now.layout }) } in
+    let made : SessionState = record {
+      opens = c.opens-txn.result + 1;
+      pending = Some (record { place = c.len-place.result; snapshot = c.in_ok-snapshot.snapshot });
+    } in
+    let call : Logged = record { session = s; call = Open; answer = Opened number } in
     let log : c.push.new.self.items ≡ now.log ++ call ∷ [] = search rules in
-    let sessions : (with_item c.self.inside.sessions (c.from.result - 1) (record { opens = c.opens-txn.result + 1; pending = Some (record { place = c.len-place.result; snapshot = c.in_ok-snapshot.snapshot }) })).items ≡ slice_set now.sessions (s - 1) new = search rules in
-    let same : record {
-      base = c.self.inside.base;
-      layout = c.self.inside.layout;
-      log = c.push.new.self.items;
-      entries = c.self.inside.entries.items;
-      sessions = (with_item c.self.inside.sessions (c.from.result - 1) (record { opens = c.opens-txn.result + 1; pending = Some (record { place = c.len-place.result; snapshot = c.in_ok-snapshot.snapshot }) })).items;
-    } ≡ after_open now s =
-    λ i. record { base = (c.self.view_is i).base; layout = (c.self.view_is i).layout; log = log i; entries = (c.self.view_is i).entries; sessions = sessions i } in
+    let kept = with_item c.self.inside.sessions (c.from.result - 1) made in
+    let sessions : kept.items ≡ slice_set now.sessions (s - 1) new = search rules in
+    let same : record (history_of c.self.inside) { log = c.push.new.self.items; sessions = kept.items } ≡ after_open now s =
+    λ i. record (c.self.view_is i) { log = log i; sessions = sessions i } in
     subst (λ (h : History). IsHistory h) (sym same) (opened_history now is s c.requires.low c.requires.high)

@@ -6,4 +6,4 @@ use Rattle.undo_book.proofs.book.Book.snapshot.Goals as goal
 
 pub returns-clause-replay : goal.returns-clause-replay
 returns-clause-replay c =
-    subst (λ (h : History). replay h ≡ Some c.self.inside.layout) c.self.view_is (replays (books.seen c.self.inside) c.self.invariant)
+    subst (λ (h : History). replay h ≡ Some c.self.inside.layout) c.self.view_is (replays (books.history_of c.self.inside) c.self.invariant)

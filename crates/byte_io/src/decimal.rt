@@ -1,0 +1,42 @@
+//! Decimal numbers as text, and back.
+ghost use Rattle.std.specs.Prelude.{◌≡◌, ◌++◌, OnErr, OnOk, decimal};
+ghost use Rattle.std.specs.Fmt.{signed_decimal};
+ghost use Rattle.std.specs.List.{AllPass};
+ghost use Rattle.lay_point.specs.Names.{is_digit};
+ghost use Rattle.byte_io.specs.Decimal.{capped_decimal};
+
+use itoa::Buffer;
+use lay_point::NoMemory;
+
+/// Appends the number's digits, without leading zeros.
+pub fn push_unsigned(bytes: &mut Vec<u8>, number: u64) -> Result<(), NoMemory>
+    ensures ok { OnOk result (bytes.new.items ≡ bytes.old.items ++ decimal number) }
+    ensures err { OnErr result (bytes.new.items ≡ bytes.old.items) }
+{
+    let mut buffer = Buffer::new();
+    bytes.extend_from_slice(buffer.format(number).as_bytes())?;
+    Ok(())
+}
+
+/// Appends the integer's digits, without leading zeros, after a minus sign where it is negative.
+pub fn push_signed(bytes: &mut Vec<u8>, integer: i32) -> Result<(), NoMemory>
+    ensures ok { OnOk result (bytes.new.items ≡ bytes.old.items ++ signed_decimal integer) }
+    ensures err { OnErr result (bytes.new.items ≡ bytes.old.items) }
+{
+    let mut buffer = Buffer::new();
+    bytes.extend_from_slice(buffer.format(integer).as_bytes())?;
+    Ok(())
+}
+
+/// Returns the value of the digits, or `cap` where that is less. There may be any number of digits, or
+/// none.
+pub fn capped_decimal(cap: u32, digits: &[u8]) -> u32
+    requires { AllPass is_digit digits.now }
+    ensures { result ≡ capped_decimal cap digits.now }
+{
+    let mut value = 0u64;
+    for digit in digits {
+        value = (10 * value + u64::from(*digit - b'0')).min(u64::from(cap));
+    }
+    value as u32
+}

@@ -1,0 +1,33 @@
+//! Bytes in and out: devices, and decimal numbers as text.
+//!
+//! An `Out` takes bytes and an `In` gives them. Each has ghost members, which contracts read: what was
+//! written or remains to be read, `None` where the device can't know it, and counts of its calls. So a
+//! contract over any device says which bytes were written and how often it failed. `put_all` writes a
+//! whole text, or a prefix of it up to the first failure. `MemoryOut` and `MemoryIn` are devices in
+//! memory that fail where they are told to; tests use them in place of files.
+//!
+//! `push_unsigned` and `push_signed` append a number's decimal digits to a text, and `capped_decimal` is
+//! the way back: the value of digits of any length, in 32 bits.
+//!
+//! ```text
+//! let mut text = Vec::new(alloc);
+//! push_unsigned(&mut text, 40)?;
+//! let mut out = MemoryOut::new(alloc, 7, 1000, Failing::ByErr);
+//! put_all(&mut out, &text)?;
+//! assert_eq!(rt; out.written(), b"40");
+//! ```
+#![tactic(auto)]
+
+mod count;
+mod decimal;
+mod device;
+mod input;
+mod memory;
+#[cfg(test)]
+mod tests;
+
+pub use count::GhostCount;
+pub use decimal::{capped_decimal, push_signed, push_unsigned};
+pub use device::{Out, OutFault, put_all};
+pub use input::{In, InFault, ReadCounts};
+pub use memory::{Failing, MemoryIn, MemoryOut};

@@ -1,0 +1,9 @@
+pub mod Members
+pub mod Rising
+pub mod ChainOrder
+pub mod Chains
+pub mod Parity
+pub mod Walks
+pub mod Rounded
+pub mod Undirected
+pub mod Edges

@@ -1,0 +1,5 @@
+pub mod Chains
+pub mod Parity
+pub mod Rising
+pub mod Rounding
+pub mod Undirected

@@ -1,0 +1,35 @@
+-- Numbers of the grammar, apart from any way of reading them.
+-- Source: Caltech Intermediate Form 2.0, its formal grammar.
+use Rattle.std.specs.Prelude.{◌≡◌, ℕ, ◌≤◌, List, [], ◌∷◌, ◌++◌, length, Bool, true, false, IsTrue}
+use Rattle.std.specs.List.{list_all}
+use Rattle.byte_io.specs.Decimal.{decimal_value}
+use Rattle.lay_point.specs.Names.{is_digit}
+use Rattle.cif_scan.specs.declared.number.Number.{Number}
+use Rattle.cif_scan.specs.Bytes.{is_separator}
+
+-- digit {digit}
+pub record IsDigits (text : List ℕ) (n : ℕ) : Type 0 where
+  pub some : 1 ≤ length text
+  pub digits : IsTrue (list_all is_digit text)
+  pub value : decimal_value text ≡ n
+
+-- {separator} digit {digit}
+pub record IsInteger (text : List ℕ) (n : ℕ) : Type 0 where
+  pub front : List ℕ
+  pub digits : List ℕ
+  pub parts : text ≡ front ++ digits
+  pub separators : IsTrue (list_all is_separator front)
+  pub spelled : IsDigits digits n
+
+-- "-" or nothing
+abbrev pub sign : Bool → List ℕ
+sign true = 45 ∷ []
+sign false = []
+
+-- {separator} ["-"] digit {digit}
+pub record IsSigned (text : List ℕ) (n : Number) : Type 0 where
+  pub front : List ℕ
+  pub digits : List ℕ
+  pub parts : text ≡ front ++ (sign n.negative ++ digits)
+  pub separators : IsTrue (list_all is_separator front)
+  pub spelled : IsDigits digits n.magnitude

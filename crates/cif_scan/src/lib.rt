@@ -1,0 +1,18 @@
+//! Bytes and numbers of texts in Caltech Intermediate Form 2.0.
+//!
+//! Bytes are of classes: blanks, separators, gaps, digits and bytes of names. A reader takes something
+//! from the start of bytes, and returns what it is and what stands behind it. `integer` and `signed` read
+//! numbers of any number of digits, each at most `MAX_MAGNITUDE + 1`, so that a greater one is known to
+//! be too big. `proofs/CapLemmas.antt` has that this is enough, and `proofs/NumberGrammar.antt` that what
+//! is read is what the grammar spells.
+//!
+//! ```text
+//! let (side, rest) = integer(b" 40X20").unwrap(); // 40, and `X20` stands behind it
+//! ```
+#![tactic(auto)]
+
+mod bytes;
+mod number;
+
+pub use bytes::{Class, run_len, skip};
+pub use number::{MAX_MAGNITUDE, Number, behind_separator, integer, signed};

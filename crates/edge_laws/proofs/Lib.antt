@@ -1,0 +1,9 @@
+pub mod Rounding
+pub mod Order
+pub mod Spans
+pub mod Motion
+pub mod Rest
+pub mod Places
+pub mod SharedEnds
+pub mod Meeting
+pub mod Theorem

@@ -1,0 +1,4 @@
+pub mod Tests
+pub mod Lines
+pub mod Slanted
+pub mod Level

@@ -1,0 +1,4 @@
+pub mod Products
+pub mod Polynomials
+pub mod Signs
+pub mod Division

@@ -1,0 +1,6 @@
+pub mod Lines
+pub mod Words
+pub mod Steps
+pub mod Job
+pub mod Replies
+pub mod Order

@@ -1,0 +1,3 @@
+pub mod GraphLemmas
+pub mod MarkLemmas
+pub mod WalkLemmas

@@ -1,0 +1,30 @@
+//! The cells of a layout and who calls whom.
+//!
+//! A symbol is declared once under its number, and a cell calls symbols. `Cells` has the numbers of the
+//! symbols in the order of their declarations, and keeps in its type that no number stands there twice.
+//! `CallGraph` has the calls between such cells, and answers whether a cell leads to another by calls, so
+//! that a layout can be kept free of symbols that contain themselves.
+//!
+//! Contracts see `Cells` as the list of the numbers, and a `CallGraph` as a record of that list and of the
+//! list of its calls, each a caller and the number of its target, in the order in which they were added.
+//! The graph also keeps the targets of each cell, by position, so that `reaches` looks at each cell and
+//! each call at most once.
+//!
+//! ```text
+//! let mut cells = Cells::new(alloc);
+//! cells.add(7)?;
+//! let mut graph = CallGraph::new(alloc, &cells)?;
+//! graph.add(CellId::Top, 7)?;
+//! assert!(rt; graph.reaches(alloc, CellId::Top, CellId::Symbol(7))?);
+//! ```
+#![tactic(auto)]
+
+mod call_graph;
+mod cells;
+mod search;
+#[cfg(test)]
+mod tests;
+
+pub use call_graph::CallGraph;
+pub use cells::Cells;
+pub use lay_point::CellId;

@@ -1,0 +1,124 @@
+//! Tests of what no clause says: that the definitions are the format's, and that calls succeed.
+ghost use Rattle.std.specs.Prelude.{◌≡◌, IfOk};
+ghost use Rattle.lay_cells.specs.Symbols.{has_cell};
+
+use super::*;
+use lay_point::NoMemory;
+use std::alloc::Global;
+use std::test::*;
+
+/// Returns whether the cell is the top cell or one of the symbols.
+fn is_cell(symbols: &Cells, cell: CellId) -> bool
+    ensures { result ≡ has_cell symbols.now cell }
+{
+    match cell {
+        CellId::Top => true,
+        CellId::Symbol(number) => symbols.position(number).is_some(),
+    }
+}
+
+/// The symbols of these numbers.
+fn symbols_of(alloc: Global, numbers: &[u32]) -> Result<Cells, NoMemory> {
+    let mut symbols = Cells::new(alloc);
+    for number in numbers {
+        symbols.add(*number)?;
+    }
+    Ok(symbols)
+}
+
+/// The graph of the calls that are between cells.
+fn graph_of(alloc: Global, symbols: &Cells, calls: &[(CellId, u32)]) -> Result<CallGraph, NoMemory>
+    ensures { IfOk result (λ graph. graph.symbols ≡ symbols.now) }
+{
+    let mut graph = CallGraph::new(alloc, symbols)?;
+    for (caller, target) in calls {
+        if is_cell(symbols, *caller) && is_cell(symbols, CellId::Symbol(*target)) {
+            graph.add(*caller, *target)?;
+        }
+    }
+    Ok(graph)
+}
+
+/// Whether the calls between the symbols lead from a cell to another, where both are cells.
+fn leads(
+    alloc: Global,
+    numbers: &[u32],
+    calls: &[(CellId, u32)],
+    from: CellId,
+    to: CellId,
+) -> Result<Option<bool>, NoMemory> {
+    let symbols = symbols_of(alloc, numbers)?;
+    let graph = graph_of(alloc, &symbols, calls)?;
+    if is_cell(&symbols, from) && is_cell(&symbols, to) {
+        return Ok(Some(graph.reaches(alloc, from, to)?));
+    }
+    Ok(None)
+}
+
+// Could catch that the numbers stand in another order than they were added in, or that a call fails.
+#[test]
+fn symbols_stand_in_the_order_of_their_first_additions(rt: HostRuntime) -> Result<(), Fail> {
+    let mut symbols = Cells::new(rt.alloc());
+    let rows = [(7, true), (0, true), (7, false), (4_294_967_295, true)];
+    for (number, is_new) in rows {
+        assert_eq!(rt; symbols.add(number)?, is_new, "{number}");
+    }
+    assert_eq!(rt; symbols.len(), 3);
+    assert_eq!(rt; symbols.at(0), Some(7));
+    assert_eq!(rt; symbols.at(2), Some(4_294_967_295));
+    assert_eq!(rt; symbols.at(3), None);
+    assert_eq!(rt; symbols.position(0), Some(1));
+    assert_eq!(rt; symbols.position(1), None);
+    Ok(())
+}
+
+// Could catch a definition of a walk that leaves out the empty one, goes against the calls or stops at
+// one call, and a search that doesn't come back from a cycle.
+#[test]
+fn calls_lead_down(rt: HostRuntime) -> Result<(), Fail> {
+    let top = CellId::Top;
+    let one = CellId::Symbol(1);
+    let two = CellId::Symbol(2);
+    let nine = CellId::Symbol(9);
+    let rows: [(&[(CellId, u32)], CellId, CellId, bool); 12] = [
+        (&[], one, one, true),
+        (&[], top, top, true),
+        (&[], top, one, false),
+        (&[(one, 1)], one, one, true),
+        (&[(one, 1)], one, two, false),
+        (&[(one, 2), (two, 1)], one, two, true),
+        (&[(one, 2), (two, 1)], two, one, true),
+        (&[(one, 2), (two, 1)], top, two, false),
+        (&[(top, 1), (one, 2), (two, 9)], top, nine, true),
+        (&[(top, 1), (one, 2), (two, 9)], nine, top, false),
+        (&[(top, 1), (one, 2), (two, 9)], two, one, false),
+        (&[(top, 9), (top, 1), (top, 1), (one, 2)], top, two, true),
+    ];
+    for (calls, from, to, want) in rows {
+        let found = leads(rt.alloc(), &[9, 1, 2], calls, from, to)?;
+        assert_eq!(rt; found, Some(want), "{calls:?} from {from:?} to {to:?}");
+    }
+    Ok(())
+}
+
+// Could catch a limit of the depth that no clause names.
+#[test]
+fn a_chain_of_65_leads_from_its_first_to_its_last(rt: HostRuntime) -> Result<(), Fail> {
+    let mut numbers = Vec::new(rt.alloc());
+    let mut calls = Vec::new(rt.alloc());
+    for number in 0..65u32 {
+        numbers.push(number)?;
+        calls.push((CellId::Symbol(number), number + 1))?;
+    }
+    let first = CellId::Symbol(0);
+    let last = CellId::Symbol(64);
+    assert_eq!(rt;
+        leads(rt.alloc(), &numbers, &calls, first, last)?,
+        Some(true)
+    );
+    assert_eq!(rt;
+        leads(rt.alloc(), &numbers, &calls, last, first)?,
+        Some(false)
+    );
+    Ok(())
+}

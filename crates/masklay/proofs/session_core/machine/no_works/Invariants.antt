@@ -1,5 +1,0 @@
-use Rattle.std.proofs.Common.{◌≡◌, None, replicate}
-use Rattle.masklay.proofs.session_core.machine.no_works.Given as goal
-
-abbrev pub invariant-loop : goal.invariant-loop
-invariant-loop l = l.works.items ≡ replicate l.counter None

@@ -1,0 +1,13 @@
+-- How the program ends where its command line has an argument. The first word names the program.
+use Rattle.std.specs.Prelude.{◌≡◌, ℕ, ◌⊎◌, List, Option}
+use Rattle.masklay.specs.declared.program.status.Status.{Status}
+use Rattle.masklay.specs.declared.program.status.Status.TheVariants.{CommandLine, Done}
+use Rattle.masklay.specs.Output.{Writes, memory_output}
+
+-- From the old devices to the new: a text of help was written to the output, or one of what is wrong to the errors, or
+-- memory was refused and the output has the line that says so; and the other device is as it was.
+abbrev pub EndsEarly : {O E : Type 0} → (O → Option (List ℕ)) → (O → ℕ) → (E → Option (List ℕ)) → (E → ℕ) → O → O → E → E → Status → Type 0
+EndsEarly written failures told failed out out' errors errors' status =
+    ((text : List ℕ) × Writes written failures out out' (record { text = text; status = Done }) status × (errors' ≡ errors))
+    ⊎ (((text : List ℕ) × Writes told failed errors errors' (record { text = text; status = CommandLine }) status × (out' ≡ out))
+    ⊎ (Writes written failures out out' memory_output status × (errors' ≡ errors)))

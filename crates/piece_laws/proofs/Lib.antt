@@ -1,0 +1,4 @@
+pub mod Areas
+pub mod Ends
+pub mod Sideways
+pub mod Stops

@@ -1,0 +1,427 @@
+-- A machine keeps what it keeps, step after step.
+use Rattle.std.proofs.Common.{◌≡◌, ◌≢◌, ℕ, ◌+◌, ◌-◌, ◌<◌, ◌≤◌, Bool, true, false, ◌&&◌, cond, List, [], ◌∷◌, ◌++◌, length, nat_eq}
+use Rattle.std.proofs.Common.{nat_le, Option, None, Some, Result, Ok, Err, OnErr, OnOk, not, slice_index_or, slice_set, inl, inr, refl, ap}
+use Rattle.std.proofs.Common.{sym, ◌∙◌, subst, arith}
+use Rattle.std.proofs.lemmas.Bool.{and_parts, cases_Bool, cases_eq, or_parts}
+use Rattle.std.proofs.lemmas.Bool.Decides.{nat_tests}
+use Rattle.std.proofs.lemmas.Grind.{get_or-set_at}
+use Rattle.std.proofs.lemmas.List.{get_or-set_other, length-set, set-get_or, set-set}
+use Rattle.std.proofs.lemmas.Option.{slice_get-get_or}
+use Rattle.std.specs.FinSet as set
+use Rattle.std.specs.List.{list_all, list_any}
+use Rattle.lay_point.specs.Memory.{IsAnswer}
+use Rattle.lay_items.specs.Layout.{Layout, item_at}
+use Rattle.lay_items.specs.Same.{option_item_eq-Decides, symbols_eq, symbols_eq-Decides}
+use Rattle.undo_book.specs.declared.commit.CommitRefusal.{CommitRefusal}
+use Rattle.undo_book.specs.declared.log.BookFault.{BookFault}
+use Rattle.undo_book.specs.declared.log.BookFault.TheVariants.{Foreign, LogFull, NoMemory, SessionFull}
+use Rattle.undo_book.specs.declared.log.Answer.TheVariants.{Refused}
+use Rattle.undo_book.specs.declared.log.Call.TheVariants as calls
+use Rattle.undo_book.specs.declared.session.SessionState.{SessionState}
+use Rattle.txn_work.specs.declared.command.CmdFault.{CmdFault}
+use Rattle.txn_work.specs.declared.command.CmdFault.TheVariants.{NoMemory as CommandMemory}
+use Rattle.txn_work.specs.declared.command.Command.{Command}
+use Rattle.txn_work.specs.declared.command.Done.{Done}
+use Rattle.txn_work.specs.declared.command.TxnId.{TxnId}
+use Rattle.txn_work.specs.declared.footprint.Element.{Element}
+use Rattle.txn_work.specs.declared.footprint.Element.TheVariants.{Item}
+use Rattle.txn_work.specs.Effects.{Run, answer_with, done_by, effect}
+use Rattle.txn_work.specs.Elements.{Touched}
+use Rattle.undo_book.specs.History.{History}
+use Rattle.undo_book.specs.Steps as book
+use Rattle.undo_book.specs.Steps.{TakesWork, after_open, answered_state, commit_step, is_log_full, is_own, is_pending, logged, open_step}
+use Rattle.undo_book.specs.Steps.{handing_back, opening, refused, state_of, undo_refusal, undo_step, undo_unless, unused}
+use Rattle.txn_work.specs.Agreement.{agree_at, agrees}
+use Rattle.txn_work.specs.Transactions.{Transaction, after_command, after_effect, answer_to, run_so_far}
+use Rattle.session_core.specs.declared.Reply.{Reply}
+use Rattle.session_core.specs.declared.Reply.TheVariants.{Fault}
+use Rattle.session_core.specs.declared.Step.TheVariants.{Commit, Do, Open, Undo}
+use Rattle.session_core.specs.declared.StepFault.TheVariants.{Book}
+use Rattle.session_core.specs.Machine as machine
+use Rattle.session_core.specs.declared.Step.{Step}
+use Rattle.session_core.specs.Machine.{Ran, State, Takes, TakesOr, after_steps, command_reply, is_certain, is_memory, is_session}
+use Rattle.session_core.specs.Machine.{memory_reply, open_of, step_outcome, with_work}
+use Rattle.session_core.specs.declared.machine.Machine.TheInside.{Inside}
+use Rattle.session_core.specs.Machines.{IsMachine, IsOpen, IsState, kept_at, machine_state}
+
+abbrev Works : Type 0
+Works = List (Option Transaction)
+
+-- a machine's state
+abbrev with_works : History → Works → State
+with_works h works = record { history = h; works = works }
+
+-- a transaction is open as far as the book keeps the same of its session
+open_as : (h new : History) (place : ℕ) (txn : Transaction) → kept_at new place ≡ kept_at h place → IsOpen h place txn →
+    IsOpen new place txn
+open_as h new place txn same is_open = record {
+  session = is_open.session;
+  opens = ap (λ (s : SessionState). s.opens) same ∙ is_open.opens;
+  pending = ap (λ (s : SessionState). s.pending) same ∙ is_open.pending;
+}
+
+-- nothing changes for the sessions
+pub state_as : (h new : History) (works : Works) → IsState (with_works h works) → new.sessions ≡ h.sessions → IsState (with_works new works)
+state_as h new works kept same = record {
+  few = kept.few;
+  sessions = ap length same ∙ kept.sessions;
+  works = λ place txn found. open_as h new place txn (ap (λ s. slice_index_or s place unused) same) (kept.works place txn found);
+}
+
+-- something changes for one session
+pub state_with : (h new : History) (works : Works) (place : ℕ) (work : Option Transaction) → IsState (with_works h works) →
+    place < length works → length new.sessions ≡ 64 →
+    ((k : ℕ) → k ≢ place → kept_at new k ≡ kept_at h k) → ((txn : Transaction) → work ≡ Some txn → IsOpen new place txn) →
+    IsState (with_works new (slice_set works place work))
+state_with h new works place work kept inside sessions others own = record {
+  few = subst (λ n. n ≤ 64) (sym (length-set works place work)) kept.few;
+  sessions = sessions;
+  works = λ k txn found. elim (cases_eq k place) [
+    | inl same ↦ subst (λ q. IsOpen new q txn) (sym same) (own txn (sym (get_or-set_at works place k work None same inside) ∙ found))
+    | inr other ↦
+        open_as _ new k txn (others k other) (kept.works k txn (sym (get_or-set_other works place k work None other) ∙ found))
+  ];
+}
+
+-- ---- open
+
+-- a call of two tests: the first one refuses and leaves h, the second one leaves i, and an accepted call leaves j
+abbrev tested : {T : Type 0} → Bool → Bool → BookFault → BookFault → T → History → History → History → Result T BookFault × History
+tested first second e f x h i j = cond first (Err e, h) (cond second (Err f, i) (Ok x, j))
+
+accepted : {T : Type 0} (first second : Bool) (e f : BookFault) (x y : T) (h i j : History) →
+    Ok y ≡ (tested first second e f x h i j).0 → (y ≡ x) × ((tested first second e f x h i j).1 ≡ j)
+accepted true second e f x y h i j is = absurd cc
+accepted false true e f x y h i j is = absurd cc
+accepted false false e f x y h i j is = (cc, refl)
+
+refused_sessions : {T : Type 0} (first second : Bool) (e f fault : BookFault) (x : T) (h i j : History) → i.sessions ≡ h.sessions →
+    Err fault ≡ (tested first second e f x h i j).0 → (tested first second e f x h i j).1.sessions ≡ h.sessions
+refused_sessions true second e f fault x h i j same is = refl
+refused_sessions false true e f fault x h i j same is = same
+refused_sessions false false e f fault x h i j same is = absurd cc
+
+pub open_ok : (h new : History) (session : ℕ) (txn : Transaction) → book.Takes h (open_step h session) (Ok txn) new →
+    (txn ≡ opening h session) × (new ≡ after_open h session)
+open_ok h new session txn takes = elim takes [
+  | inl exact ↦
+      let both = accepted (is_log_full h) (nat_le 65535 (state_of h session).opens) LogFull SessionFull (opening h session) txn h
+      (logged h session calls.Open (Refused SessionFull)) (after_open h session) exact.0 in
+      (both.0, exact.1 ∙ both.1)
+  | inr memory ↦ absurd cc
+]
+
+-- a refused open changes nothing for the sessions
+pub open_err : (h new : History) (session : ℕ) (fault : BookFault) → book.Takes h (open_step h session) (Err fault) new →
+    new.sessions ≡ h.sessions
+open_err h new session fault takes = elim takes [
+  | inl exact ↦ ap (λ (k : History). k.sessions) exact.1 ∙ refused_sessions (is_log_full h) (nat_le 65535 (state_of h session).opens)
+      LogFull SessionFull fault (opening h session) h (logged h session calls.Open (Refused SessionFull)) (after_open h session) refl
+      exact.0
+  | inr memory ↦ ap (λ (k : History). k.sessions) memory.1
+]
+
+-- an accepted open leaves a state of a machine
+pub opened : (h new : History) (works : Works) (session : ℕ) (txn : Transaction) → IsState (with_works h works) → 1 ≤ session →
+    session ≤ length works → book.Takes h (open_step h session) (Ok txn) new →
+    IsState (with_works new (slice_set works (session - 1) (Some txn)))
+opened h new works session txn kept low high takes =
+    let both = open_ok h new session txn takes in
+    let few : length works ≤ 64 = kept.few in
+    let sessions : length h.sessions ≡ 64 = kept.sessions in
+    let number = (state_of h session).opens + 1 in
+    let state : SessionState = record { opens = number; pending = Some (record { place = length h.log; snapshot = h.layout }) } in
+    let there : kept_at new (session - 1) ≡ state = ap (λ (k : History). kept_at k (session - 1)) both.1
+    ∙ get_or-set_at h.sessions (session - 1) (session - 1) state unused refl (omega arith) in
+    state_with h new works (session - 1) (Some txn) kept (omega arith)
+    (ap (λ (k : History). length k.sessions) both.1 ∙ length-set h.sessions (session - 1) state ∙ kept.sessions)
+    (λ k other. ap (λ (x : History). kept_at x k) both.1 ∙ get_or-set_other h.sessions (session - 1) k state unused other)
+    (λ t same.
+    let is : t ≡ opening h session = cc in
+    subst (λ (t : Transaction). IsOpen new (session - 1) t) (sym is) (record {
+      session = omega arith;
+      opens = ap (λ (s : SessionState). s.opens) there;
+      pending = ap (λ (s : SessionState). s.pending) there;
+    }))
+
+-- ---- what a command keeps
+
+-- a transaction of the same name, opened at the same place on the same snapshot
+abbrev SameParts : Transaction → Transaction → Type 0
+SameParts txn new = (new.id ≡ txn.id) × (new.opened ≡ txn.opened) × (new.snapshot ≡ txn.snapshot)
+
+command_keeps : (txn : Transaction) (command : Command) (r : Result Run CmdFault) → SameParts txn (after_effect txn command r)
+command_keeps txn command (Ok next) = (refl, refl, refl)
+command_keeps txn command (Err fault) = (refl, refl, refl)
+
+-- a command keeps these parts, however it is answered
+pub same_parts : (txn new : Transaction) (command : Command) (answer : Result Done CmdFault) →
+    OnOk answer (new ≡ after_command txn command) → OnErr answer (new ≡ txn) → SameParts txn new
+same_parts txn new command (Ok done) ok err =
+    subst (SameParts txn) (sym ok) (command_keeps txn command (effect txn.id command (run_so_far txn)))
+same_parts txn new command (Err fault) ok err = subst (SameParts txn) (sym err) (refl, refl, refl)
+
+-- such a transaction is open too
+open_like : (h : History) (place : ℕ) (txn new : Transaction) → SameParts txn new → IsOpen h place txn → IsOpen h place new
+open_like h place txn new same is_open = record {
+  session = ap (λ (t : TxnId). t.session) same.0 ∙ is_open.session;
+  opens = is_open.opens ∙ ap (λ (t : TxnId). t.txn) (sym same.0);
+  pending = is_open.pending ∙ ap Some (λ i. record { place = sym same.1 i; snapshot = sym same.2 i });
+}
+
+-- a command leaves a state of a machine
+pub commanded : (h : History) (works : Works) (place : ℕ) (txn new : Transaction) → IsState (with_works h works) → place < length works →
+    slice_index_or works place None ≡ Some txn →
+    SameParts txn new → IsState (with_works h (slice_set works place (Some new)))
+commanded h works place txn new kept inside found same =
+    state_with h h works place (Some new) kept inside kept.sessions (λ k other. refl)
+    (λ t e. let is : new ≡ t = cc in subst (IsOpen h place) is (open_like h place txn new same (kept.works place txn found)))
+
+-- ---- the transaction that a session has open
+
+-- a layout agrees with itself
+agrees_itself : (l : Layout) (touched : Touched) → agrees l l touched ≡ true
+agrees_itself l touched = rw (symbols, all (set.items touched)) refl where
+  symbols : symbols_eq l.symbols l.symbols ≡ true
+  symbols = (symbols_eq-Decides l.symbols l.symbols).1 refl
+
+  at : (e : Element) → agree_at l l e ≡ true
+  at (Item id) = (option_item_eq-Decides (item_at l id) (item_at l id)).1 refl
+
+  all : (es : List Element) → list_all (agree_at l l) es ≡ true
+  all [] = refl
+  all (e ∷ es) = rw (at e) (all es)
+
+pending_own : (state : SessionState) (txn : Transaction) → state.opens ≡ txn.id.txn →
+    state.pending ≡ Some (record { place = txn.opened; snapshot = txn.snapshot }) →
+    (nat_eq state.opens txn.id.txn && is_pending state.pending txn) ≡ true
+pending_own state txn opens pending =
+    let number : nat_eq txn.id.txn txn.id.txn ≡ true = grind (arith, nat_tests) in
+    let place : nat_eq txn.opened txn.opened ≡ true = grind (arith, nat_tests) in
+    rw (opens, pending, number, place) (agrees_itself txn.snapshot txn.footprint)
+
+-- an open transaction is the book's own
+pub own_of : (h : History) (place : ℕ) (txn : Transaction) → place < 64 → IsOpen h place txn → is_own h txn ≡ true
+own_of h place txn few is_open =
+    let session : txn.id.session ≡ place + 1 = is_open.session in
+    let low : nat_le 1 txn.id.session ≡ true = grind (arith, nat_tests) in
+    let high : nat_le txn.id.session 64 ≡ true = grind (arith, nat_tests) in
+    let back : txn.id.session - 1 ≡ place = omega arith in
+    let at : state_of h txn.id.session ≡ kept_at h place = ap (kept_at h) back in
+    rw (low, high) (pending_own (state_of h txn.id.session) txn (ap (λ (s : SessionState). s.opens) at ∙ is_open.opens)
+    (ap (λ (s : SessionState). s.pending) at ∙ is_open.pending))
+
+-- the session is there, and this was taken out of its place
+pub record Taken (w : Inside) (place session : ℕ) (txn : Transaction) : Type 0 where
+  pub inside : place < length w.works.items
+  pub few : place < 64
+  pub found : slice_index_or w.works.items place None ≡ Some txn
+  pub there : is_session (machine_state w) session ≡ true
+  pub is_open : open_of (machine_state w) session ≡ Some txn
+
+pub taken_out : (w : Inside) (now : State) → machine_state w ≡ now → IsMachine w → (session n : ℕ) → n ≡ session →
+    is_session now session ≡ true → (x taken : Option Transaction) (txn : Transaction) → x ≡ slice_index_or w.works.items (n - 1) x →
+    taken ≡ x → taken ≡ Some txn → Taken w (n - 1) session txn
+taken_out w now view kept session n is_session_of there x taken txn at is_x is =
+    let s = machine_state w in
+    let few = kept.few in
+    let here : is_session s session ≡ true = ap (λ t. is_session t session) view ∙ there in
+    let parts = and_parts (nat_le 1 session) (nat_le session (length w.works.items)) here in
+    let low = parts.0 in
+    let high = parts.1 in
+    let inside : n - 1 < length w.works.items = grind (arith, nat_tests) in
+    let a = slice_get-get_or w.works.items (n - 1) None inside in
+    let b = slice_get-get_or w.works.items (n - 1) x inside in
+    let found : slice_index_or w.works.items (n - 1) None ≡ Some txn = cc in
+    record {
+      inside = inside;
+      few = omega arith;
+      found = found;
+      there = here;
+      is_open = ap (λ k. slice_index_or w.works.items (k - 1) None) (sym is_session_of) ∙ found;
+    }
+
+-- what was taken out of its place and is put back
+pub put_back : (works : Works) (place : ℕ) (work : Option Transaction) → slice_index_or works place None ≡ work →
+    slice_set (slice_set works place None) place work ≡ works
+put_back works place work found = set-set works place None work ∙ ap (slice_set works place) (sym found) ∙ set-get_or works place None
+
+-- ---- commands
+
+answered_plainly : (r : Result Done CmdFault) → is_certain (command_reply r) ≡ false
+answered_plainly (Ok done) = refl
+answered_plainly (Err fault) = refl
+
+refused_same : (txn : Transaction) (command : Command) (r : Result Run CmdFault) (done : Done) (fault : CmdFault) →
+    Err fault ≡ answer_with r done → after_effect txn command r ≡ txn
+refused_same txn command (Ok next) done fault h = absurd cc
+refused_same txn command (Err other) done fault h = refl
+
+-- a command in a session's transaction is a step
+pub ran_command : (s end : State) (session : ℕ) (command : Command) (txn new : Transaction) (answer : Result Done CmdFault) →
+    is_session s session ≡ true → open_of s session ≡ Some txn →
+    IsAnswer CommandMemory answer (answer_to txn command) → OnOk answer (new ≡ after_command txn command) → OnErr answer (new ≡ txn) →
+    end ≡ with_work s s.history session (Some new) →
+    Takes s session (Do command) (command_reply answer) end
+ran_command s end session command txn new answer there found answered ok err is_end =
+    rw (there, found) (by_answer answer answered ok err) where
+      wanted : Reply × State
+      wanted = (command_reply (answer_to txn command), with_work s s.history session (Some (after_command txn command)))
+
+      same : new ≡ txn → end ≡ s
+      same h = is_end ∙ ap (λ t. with_work s s.history session (Some t)) h
+          ∙ ap (λ w. record { history = s.history; works = w }) (ap (slice_set s.works (session - 1)) (sym found)
+          ∙ set-get_or s.works (session - 1) None)
+
+      by_answer : (answer : Result Done CmdFault) → IsAnswer CommandMemory answer (answer_to txn command) →
+          OnOk answer (new ≡ after_command txn command) → OnErr answer (new ≡ txn) →
+          TakesOr (memory_reply (Do command)) s wanted (command_reply answer) end
+      by_answer (Ok done) answered ok err = elim answered [
+        | inl memory ↦ absurd cc
+        | inr exact ↦ inl (ap command_reply exact, is_end ∙ ap (λ t. with_work s s.history session (Some t)) ok)
+      ]
+      by_answer (Err fault) answered ok err = elim answered [
+        | inl memory ↦ inr (answered_plainly (answer_to txn command), ap command_reply memory, same err)
+        | inr exact ↦ inl (
+          ap command_reply exact,
+          is_end ∙ ap (λ t. with_work s s.history session (Some t))
+              (err ∙ sym (refused_same txn command (effect txn.id command (run_so_far txn))
+              (done_by txn.id command (run_so_far txn)) fault exact)),
+        )
+      ]
+
+-- ---- commit
+
+handed_ok : (answer : Result TxnId BookFault) (txn : Transaction) (id : TxnId) → Ok id ≡ handing_back answer txn → Ok id ≡ answer
+handed_ok (Ok other) txn id h = cc
+handed_ok (Err fault) txn id h = absurd cc
+
+pub commit_ok : (h new : History) (txn : Transaction) (id : TxnId) → TakesWork h txn (commit_step h txn) (Ok id) new →
+    new ≡ book.after_commit h txn
+commit_ok h new txn id takes = elim takes [
+  | inl exact ↦ exact.1 ∙ (accepted (is_log_full h) (not (is_own h txn)) LogFull Foreign txn.id id h h (book.after_commit h txn)
+      (handed_ok (commit_step h txn).0 txn id exact.0)).1
+  | inr memory ↦ absurd cc
+]
+
+-- an accepted commit leaves a state of a machine
+pub committed : (h new : History) (works : Works) (place : ℕ) (txn : Transaction) (id : TxnId) → IsState (with_works h works) →
+    place < length works → slice_index_or works place None ≡ Some txn →
+    TakesWork h txn (commit_step h txn) (Ok id) new → IsState (with_works new (slice_set works place None))
+committed h new works place txn id kept inside found takes =
+    let same = commit_ok h new txn id takes in
+    let is_open = kept.works place txn found in
+    let session : txn.id.session ≡ place + 1 = is_open.session in
+    let back : txn.id.session - 1 ≡ place = omega arith in
+    let state = answered_state (state_of h txn.id.session) in
+    state_with h new works place None kept inside
+    (ap (λ (k : History). length k.sessions) same ∙ length-set h.sessions (txn.id.session - 1) state ∙ kept.sessions)
+    (λ k other. ap (λ (x : History). kept_at x k) same ∙ get_or-set_other h.sessions (txn.id.session - 1) k state unused (λ e.
+    other (e ∙ back)))
+    (λ t same. absurd cc)
+
+-- what a refused commit of an open transaction leaves: it changes nothing, hands the transaction back, and isn't
+-- Foreign where it is the book's own
+pub record Held (s : State) (session : ℕ) (txn : Transaction) (refusal : CommitRefusal) (new : History) : Type 0 where
+  pub same : new ≡ s.history
+  pub back : refusal.work ≡ Some txn
+  pub own : refusal.fault ≢ Foreign
+  pub step : TakesOr (Fault (Book NoMemory)) s (machine.after_commit s session (commit_step s.history txn)) (Fault (Book refusal.fault)) s
+
+pub commit_refused : (s : State) (new : History) (session : ℕ) (txn : Transaction) (result : Result TxnId CommitRefusal)
+    (refusal : CommitRefusal) → is_own s.history txn ≡ true → result ≡ Err refusal →
+    TakesWork s.history txn (commit_step s.history txn) result new →
+    (is_log_full s.history ≡ true → result ≡ Err (refused LogFull txn)) → Held s session txn refusal new
+commit_refused s new session txn result refusal own is takes full = elim (cases_Bool (is_log_full s.history)) [
+  | inl e ↦
+      let answer = full e in
+      let step : commit_step s.history txn ≡ (Err LogFull, s.history) = rw e refl in
+      held LogFull (cc) (elim takes [
+        | inl exact ↦ exact.1 ∙ ap (λ (w : Result TxnId BookFault × History). w.1) step
+        | inr memory ↦ memory.1
+      ]) (λ h. cc) (rw e (inl (refl, refl)))
+  | inr e ↦
+      let step : commit_step s.history txn ≡ (Ok txn.id, book.after_commit s.history txn) = rw (e, own) refl in
+      elim takes [
+        | inl exact ↦
+            let answer : result ≡ Ok txn.id = exact.0 ∙ ap (λ (w : Result TxnId BookFault × History). handing_back w.0 txn) step in
+            absurd cc
+        | inr memory ↦ held NoMemory (cc) memory.1 (λ h. cc) (rw (e, own) (inr (refl, refl, refl)))
+      ]
+] where
+  held : (fault : BookFault) → refusal ≡ refused fault txn → new ≡ s.history → fault ≢ Foreign →
+      TakesOr (Fault (Book NoMemory)) s (machine.after_commit s session (commit_step s.history txn)) (Fault (Book fault)) s →
+      Held s session txn refusal new
+  held fault told same own step =
+      let is_fault : refusal.fault ≡ fault = ap (λ (r : CommitRefusal). r.fault) told in
+      let wanted = machine.after_commit s session (commit_step s.history txn) in
+      record {
+        same = same;
+        back = ap (λ (r : CommitRefusal). r.work) told;
+        own = λ h. own (sym is_fault ∙ h);
+        step = subst (λ f. TakesOr (Fault (Book NoMemory)) s wanted (Fault (Book f)) s) (sym is_fault) step;
+      }
+
+-- a refused commit is a step that leaves the state
+pub commit_stays : (s now end : State) (session : ℕ) (txn : Transaction) (refusal : CommitRefusal) (new : History) → s ≡ now →
+    is_session s session ≡ true → open_of s session ≡ Some txn → Held s session txn refusal new → end ≡ s →
+    Takes now session Commit (Fault (Book refusal.fault)) end
+commit_stays s now end session txn refusal new view there found held same =
+    let Stays : State → Type 0 = λ n. Takes n session Commit (Fault (Book refusal.fault)) end in
+    subst Stays view (subst (λ e. Takes s session Commit (Fault (Book refusal.fault)) e) (sym same) (rw (there, found) held.step))
+
+-- ---- undo
+
+-- an undo changes nothing for the sessions
+pub undo_keeps : (h new : History) (session : ℕ) (txn : TxnId) (result : Result (Unit {0}) BookFault) →
+    book.Takes h (undo_step h session txn) result new → new.sessions ≡ h.sessions
+undo_keeps h new session txn result takes = elim takes [
+  | inl exact ↦ ap (λ (k : History). k.sessions) exact.1 ∙ kept (is_log_full h) (undo_refusal h txn)
+  | inr memory ↦ ap (λ (k : History). k.sessions) memory.1
+] where
+  kept : (full : Bool) (fault : Option BookFault) →
+      (cond {A = Result (Unit {0}) BookFault × History} full (Err LogFull, h) (undo_unless fault h session txn)).1.sessions ≡ h.sessions
+  kept true fault = refl
+  kept false (Some fault) = refl
+  kept false None = refl
+
+-- ---- many steps
+
+-- one more step
+pub ran_push : (steps : List (ℕ × Step)) (replies : List Reply) (old mid new : State) (session : ℕ) (step : Step) (reply : Reply) →
+    Ran old steps replies mid → Takes mid session step reply new →
+    Ran old (steps ++ (session, step) ∷ []) (replies ++ reply ∷ []) new
+ran_push [] [] old mid new session step reply ran takes = (new, subst (λ s. Takes s session step reply new) ran takes, refl)
+ran_push [] (r ∷ replies) old mid new session step reply ran takes = absurd ran
+ran_push (s ∷ steps) [] old mid new session step reply ran takes = absurd ran
+ran_push (s ∷ steps) (r ∷ replies) old mid new session step reply ran takes =
+    (ran.0, ran.1, ran_push steps replies ran.0 mid new session step reply ran.2 takes)
+
+memory_told : (step : Step) → is_memory (memory_reply step) ≡ true
+memory_told Open = refl
+memory_told (Do command) = refl
+memory_told Commit = refl
+memory_told (Undo txn) = refl
+
+-- a step that isn't out of memory is answered as it is to be
+took : (s new : State) (session : ℕ) (step : Step) (reply : Reply) → Takes s session step reply new → is_memory reply ≡ false →
+    (reply ≡ (step_outcome s session step).0) × (new ≡ (step_outcome s session step).1)
+took s new session step reply takes plain = elim takes [
+  | inl exact ↦ exact
+  | inr memory ↦
+      let told = sym plain ∙ ap is_memory memory.1 ∙ memory_told step in
+      absurd cc
+]
+
+-- where no step is out of memory, the replies and the state are those of the definition
+pub ran_all : (steps : List (ℕ × Step)) (replies : List Reply) (old new : State) → Ran old steps replies new →
+    list_any is_memory replies ≡ false →
+    (replies ≡ (after_steps old steps).0) × (new ≡ (after_steps old steps).1)
+ran_all [] [] old new ran plain = (refl, ran)
+ran_all [] (reply ∷ replies) old new ran plain = absurd ran
+ran_all (step ∷ steps) [] old new ran plain = absurd ran
+ran_all (step ∷ steps) (reply ∷ replies) old new ran plain =
+    let parts = or_parts (is_memory reply) (list_any is_memory replies) plain in
+    let first = took old ran.0 step.0 step.1 reply ran.1 parts.0 in
+    let more = ran_all steps replies (step_outcome old step.0 step.1).1 new (subst (λ s. Ran s steps replies new) first.1 ran.2) parts.1 in
+    (ap (λ r. r ∷ replies) first.0 ∙ ap (λ rs. (step_outcome old step.0 step.1).0 ∷ rs) more.0, more.1)

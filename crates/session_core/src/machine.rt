@@ -1,0 +1,192 @@
+//! The machine: a book, and the transaction that each session has open.
+ghost use Rattle.std.specs.Prelude.{◌≡◌, ◌≤◌, true, IfOk, Ok, None, Some, replicate};
+ghost use Rattle.std.specs.List.{All};
+ghost use Rattle.lay_point.specs.Memory.{IsAnswer};
+ghost use Rattle.txn_work.specs.declared.command.TxnId.{TxnId as TxnName};
+ghost use Rattle.undo_book.specs.History.{replay};
+ghost use Rattle.undo_book.specs.Steps.{without};
+ghost use Rattle.session_core.specs.Machine.{IsNotForeign, Ran, Takes, is_session, start};
+
+use crate::{Reply, Step, StepFault};
+use lay_items::Snapshot;
+use lay_point::NoMemory;
+use std::alloc::Global;
+use std::marker::Model;
+use txn_work::{Command, TxnId, Work};
+use undo_book::Book;
+
+/// Sessions on one book, each with at most one transaction open.
+#[derive(Drop)]
+pub struct Machine {
+    book: Book,
+    works: Vec<Option<Work>>,
+}
+
+impl Model for Machine {
+    ghost use Rattle.session_core.specs.Machine.{State, coded_state};
+
+    ghost Value = { State };
+
+    ghost coded = { coded_state };
+
+    ghost use Rattle.session_core.specs.Machines.{IsMachine, machine_state};
+
+    ghost view = { machine_state };
+
+    ghost invariant = { IsMachine };
+}
+
+impl Machine {
+    /// A machine on this layout with this many sessions, none of which has a transaction open.
+    pub fn new(alloc: Global, base: Snapshot, sessions: u8) -> Result<Machine, NoMemory>
+        requires low { 1 ≤ sessions }
+        requires high { sessions ≤ 64 }
+        ensures { IsAnswer (record {}) result (Ok (start base sessions)) }
+    {
+        Ok(Machine {
+            book: Book::new(alloc, base)?,
+            works: no_works(alloc, sessions)?,
+        })
+    }
+
+    /// The book on which the sessions work.
+    pub fn book(&self) -> &Book
+        ensures { result.now ≡ self.now.history }
+    {
+        &self.book
+    }
+
+    /// Takes a step of a session. `NoSession` comes first, then `AlreadyOpen` and `NotOpen`; these are
+    /// not logged. Where a commit is refused the transaction stays open.
+    pub fn step(&mut self, alloc: Global, session: u8, step: Step) -> Reply
+        ensures step { Takes self.old session step result self.new }
+        // A session's open transaction is always the one that the book keeps for it.
+        ensures own { IsNotForeign result }
+        // An accepted undo gives the layout of the same history without the transaction.
+        ensures without { (txn : TxnName) → step ≡ Step.Undo txn → result ≡ Reply.Undone
+            → replay (without self.old.history txn) ≡ Some self.new.history.layout }
+    {
+        if !self.is_session(session) {
+            return Reply::Fault(StepFault::NoSession);
+        }
+        match step {
+            Step::Open => self.open(alloc, session),
+            Step::Do(command) => self.run_command(alloc, session, command),
+            Step::Commit => self.commit(alloc, session),
+            Step::Undo(txn) => self.undo(alloc, session, txn),
+        }
+    }
+
+    /// Returns whether there is such a session.
+    fn is_session(&self, session: u8) -> bool
+        ensures { result ≡ is_session self.now session }
+    {
+        session >= 1 && usize::from(session) <= self.works.len()
+    }
+
+    /// Opens a transaction of the session.
+    fn open(&mut self, alloc: Global, session: u8) -> Reply
+        requires { is_session self.old session ≡ true }
+        ensures step { Takes self.old session Step.Open result self.new }
+        ensures own { IsNotForeign result }
+    {
+        let place = usize::from(session) - 1;
+        if self.works[place].is_some() {
+            return Reply::Fault(StepFault::AlreadyOpen);
+        }
+        match self.book.open(alloc, session) {
+            Ok(work) => {
+                let number = work.id().txn;
+                self.works[place] = Some(work);
+                Reply::Opened(number)
+            }
+            Err(fault) => Reply::Fault(StepFault::Book(fault)),
+        }
+    }
+
+    /// Runs a command in the session's transaction.
+    fn run_command(&mut self, alloc: Global, session: u8, command: Command) -> Reply
+        requires { is_session self.old session ≡ true }
+        ensures step { Takes self.old session (Step.Do command) result self.new }
+        ensures own { IsNotForeign result }
+    {
+        let place = usize::from(session) - 1;
+        let Some(mut work) = self.works[place].take() else {
+            return Reply::Fault(StepFault::NotOpen);
+        };
+        let answer = work.run(alloc, command);
+        self.works[place] = Some(work);
+        match answer {
+            Ok(done) => Reply::Done(done),
+            Err(fault) => Reply::Fault(StepFault::Command(fault)),
+        }
+    }
+
+    /// Commits the session's transaction.
+    fn commit(&mut self, alloc: Global, session: u8) -> Reply
+        requires { is_session self.old session ≡ true }
+        ensures step { Takes self.old session Step.Commit result self.new }
+        ensures own { IsNotForeign result }
+    {
+        let place = usize::from(session) - 1;
+        let Some(work) = self.works[place].take() else {
+            return Reply::Fault(StepFault::NotOpen);
+        };
+        match self.book.commit(alloc, work) {
+            Ok(txn) => Reply::Committed(txn),
+            Err(refusal) => {
+                self.works[place] = refusal.work;
+                Reply::Fault(StepFault::Book(refusal.fault))
+            }
+        }
+    }
+
+    /// Undoes a transaction.
+    fn undo(&mut self, alloc: Global, session: u8, txn: TxnId) -> Reply
+        requires { is_session self.old session ≡ true }
+        ensures step { Takes self.old session (Step.Undo txn) result self.new }
+        ensures own { IsNotForeign result }
+        ensures without { result ≡ Reply.Undone
+            → replay (without self.old.history txn) ≡ Some self.new.history.layout }
+    {
+        match self.book.undo(alloc, session, txn) {
+            Ok(()) => Reply::Undone,
+            Err(fault) => Reply::Fault(StepFault::Book(fault)),
+        }
+    }
+
+    /// The machine after these steps, each with the number of its session, and its answers to them.
+    pub fn run(
+        alloc: Global,
+        base: Snapshot,
+        sessions: u8,
+        steps: Vec<(u8, Step)>,
+    ) -> Result<(Machine, Vec<Reply>), NoMemory>
+        requires low { 1 ≤ sessions }
+        requires high { sessions ≤ 64 }
+        ensures steps { IfOk result (λ r. Ran (start base sessions) steps.items r.1.items r.0) }
+        ensures own { IfOk result (λ r. All IsNotForeign r.1.items) }
+        ensures replay { IfOk result (λ r. replay r.0.history ≡ Some r.0.history.layout) }
+    {
+        let mut machine = Machine::new(alloc, base, sessions)?;
+        let mut replies = Vec::with_capacity(alloc, steps.len())?;
+        for (session, step) in steps {
+            let reply = machine.step(alloc, session, step);
+            replies.push(reply)?;
+        }
+        // What the book says of its layout is said of the machine.
+        machine.book().snapshot();
+        Ok((machine, replies))
+    }
+}
+
+/// No open transactions, one for each session.
+fn no_works(alloc: Global, sessions: u8) -> Result<Vec<Option<Work>>, NoMemory>
+    ensures { IfOk result (λ works. works.items ≡ replicate sessions None) }
+{
+    let mut works = Vec::with_capacity(alloc, usize::from(sessions))?;
+    for _ in 0..sessions {
+        works.push(None)?;
+    }
+    Ok(works)
+}

@@ -1,0 +1,64 @@
+//! Clean edges: those that meet at their ends only.
+ghost use Rattle.std.specs.Prelude.{◌≡◌, ◌<◌, ◌≤◌, IfErr, IfOk, MatchOption, OnOk, Some, length, slice_get};
+ghost use Rattle.chain_laws.specs.Rising.{IsRising};
+ghost use Rattle.chain_laws.specs.Undirected.{IsEdgeBefore};
+ghost use Rattle.snap_chains.specs.Rounded.{AreClean};
+
+use crate::owner::Owner;
+use crate::rounded::Rounded;
+use lay_point::Edge;
+use std::marker::Model;
+use thiserror::Error;
+
+/// Why edges aren't clean.
+#[derive(Clone, Copy, Debug, PartialEq, Eq, Error)]
+pub enum CleanFault {
+    /// The edges of these numbers have more in common than an end.
+    #[error("edges {first} and {second} have more in common than an end")]
+    NotClean {
+        /// The number of the first edge.
+        first: usize,
+        /// The number of the second edge.
+        second: usize,
+    },
+    /// An allocation failed.
+    #[error("out of memory")]
+    NoMemory,
+}
+
+/// Edges with their owners, where a place on two different edges is an end of both. Contracts see what
+/// they see of a `Rounded`.
+#[derive(Debug, Drop)]
+pub struct CleanEdges {
+    pub(crate) rounded: Rounded,
+}
+
+impl Model for CleanEdges {
+    ghost use Rattle.snap_chains.specs.Rounded.{AreClean, Owned};
+
+    ghost Value = { Owned };
+
+    ghost view = { λ c. c.rounded };
+
+    ghost invariant = { λ c. AreClean c.rounded.0 };
+}
+
+impl CleanEdges {
+    /// Returns the edges, in order.
+    pub fn edges(&self) -> &[Edge]
+        ensures value { result.now ≡ self.now.0 }
+        ensures rising { IsRising IsEdgeBefore self.now.0 }
+        ensures paired { length self.now.1 ≡ length self.now.0 }
+        ensures clean { AreClean self.now.0 }
+    {
+        self.rounded.edges()
+    }
+
+    /// Returns the owners of the edge of this number.
+    pub fn owners(&self, edge: usize) -> &[Owner]
+        requires { edge < length self.now.0 }
+        ensures { slice_get self.now.1 edge ≡ Some result.now }
+    {
+        self.rounded.owners(edge)
+    }
+}
