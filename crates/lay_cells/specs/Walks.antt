@@ -13,3 +13,7 @@ pub record Calls : Type 0 where
 pub data Walks (calls : List (CellId × ℕ)) : CellId → CellId → Type 0 where
   stays : {cell : CellId} → Walks calls cell cell
   goes : {from to : CellId} {target : ℕ} → Contains calls (from, target) → Walks calls (Symbol target) to → Walks calls from to
+
+-- no walk of one or more calls comes back to the cell that it began in
+abbrev pub IsAcyclic : List (CellId × ℕ) → Type 0
+IsAcyclic calls = (cell : CellId) (target : ℕ) → Contains calls (cell, target) → ¬ (Walks calls (Symbol target) cell)

@@ -1,3 +1,4 @@
+pub mod Bridges
 pub mod Edges
 pub mod Memory
 pub mod Names

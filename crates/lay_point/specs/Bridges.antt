@@ -1,0 +1,28 @@
+-- The bridged path of a shape's rings: one path round all of them, so that one polygon can draw the shape.
+-- It goes round the first ring, and from that ring's first point out to each further one and back; so each of the ways
+-- between rings is gone along twice, and doesn't count by parity. That further ways start at the first ring's first point
+-- is this project's own.
+use Rattle.std.specs.Prelude.{List, [], ◌∷◌, ◌++◌}
+use Rattle.lay_point.specs.declared.point.Point.{Point}
+use Rattle.lay_point.specs.Rings.{closed, without_repeats}
+
+-- round each of these rings, and back to the start between them
+abbrev pub further : Point → List (List Point) → List Point
+further start [] = []
+further start (ring ∷ []) = closed ring
+further start (ring ∷ next ∷ rings) = closed ring ++ start ∷ further start (next ∷ rings)
+
+-- round the ring that begins with this point, then round the others
+abbrev pub joined_behind : Point → List Point → List (List Point) → List Point
+joined_behind start points [] = start ∷ points
+joined_behind start points (ring ∷ rings) = closed (start ∷ points) ++ further start (ring ∷ rings)
+
+-- round all rings; a ring has points
+abbrev pub joined : List (List Point) → List Point
+joined [] = []
+joined ([] ∷ rings) = []
+joined ((start ∷ points) ∷ rings) = joined_behind start points rings
+
+-- the path, without points that equal the one before
+unfoldable pub bridged : List (List Point) → List Point
+bridged rings = without_repeats (joined rings)
