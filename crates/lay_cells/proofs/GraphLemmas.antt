@@ -10,8 +10,8 @@ use Rattle.std.proofs.lemmas.Bool.Decides.{nat_tests}
 use Rattle.std.proofs.lemmas.List.{length-set, length-map, get_or-map, get_or-set_same, get_or-set_other}
 use Rattle.std.proofs.lemmas.List.Elements.{Contains-append_left, Contains-push, Contains-push_cases}
 use Rattle.std.proofs.lemmas.List.Sums.{prefix_len-le-length}
-use Rattle.lay_point.specs.declared.cell_id.CellId.{CellId}
-use Rattle.lay_point.specs.declared.cell_id.CellId.TheVariants.{Top, Symbol}
+use Rattle.lay_cells.specs.declared.cell_id.CellId.{CellId}
+use Rattle.lay_cells.specs.declared.cell_id.CellId.TheVariants.{Top, Symbol}
 use Rattle.lay_cells.specs.Graph.{AreRowsOf, HasCall, position_of, row, rows_of, with_target}
 use Rattle.lay_cells.specs.Symbols.{has_cell}
 

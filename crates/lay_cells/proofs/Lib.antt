@@ -1,3 +1,5 @@
+pub mod FewerCalls
 pub mod GraphLemmas
 pub mod MarkLemmas
+pub mod PlaceLemmas
 pub mod WalkLemmas

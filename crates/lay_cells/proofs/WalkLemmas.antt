@@ -4,8 +4,8 @@ use Rattle.std.proofs.Common.{length, refl, ap, sym, ◌∙◌, subst, arith}
 use Rattle.std.proofs.Common.{suc, cond, not, ◌||◌, true≢false, slice_index_or, Contains, IsTrue, nat_eq}
 use Rattle.std.proofs.lemmas.Bool.Decides.{nat_tests}
 use Rattle.std.specs.List.{position_or_len}
-use Rattle.lay_point.specs.declared.cell_id.CellId.{CellId}
-use Rattle.lay_point.specs.declared.cell_id.CellId.TheVariants.{Top, Symbol}
+use Rattle.lay_cells.specs.declared.cell_id.CellId.{CellId}
+use Rattle.lay_cells.specs.declared.cell_id.CellId.TheVariants.{Top, Symbol}
 use Rattle.lay_cells.specs.Graph.{AreRowsOf, AreWithin, position_of}
 use Rattle.lay_cells.specs.Marks.{AreReached, IsMarked, Path}
 use Rattle.lay_cells.specs.Marks.Path.{here, along}

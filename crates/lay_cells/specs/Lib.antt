@@ -1,4 +1,6 @@
 pub mod Graph
 pub mod Marks
+pub mod Places
+pub mod SameCell
 pub mod Symbols
 pub mod Walks

@@ -1,13 +1,17 @@
 //! The calls between the cells of a layout.
-ghost use Rattle.std.specs.Prelude.{◌≡◌, ℕ, ◌+◌, ◌<◌, ◌++◌, ◌∷◌, [], IfOk, IsTrue};
-ghost use Rattle.std.specs.Prelude.{OnErr, OnOk, length};
+ghost use Rattle.std.specs.Prelude.{◌≡◌, ◌↔◌, ℕ, ◌+◌, ◌<◌, ◌++◌, ◌∷◌, [], Contains, IfOk, IfSome};
+ghost use Rattle.std.specs.Prelude.{IsNone, IsTrue, OnErr, OnOk, length};
+ghost use Rattle.std.specs.List.{list_all};
 ghost use Rattle.lay_cells.specs.Graph.{position_of, row, rows_of, with_target};
+ghost use Rattle.lay_cells.specs.Places.{AreOrdered, goes_later, keeps_order, place_of};
 ghost use Rattle.lay_cells.specs.Symbols.{has_cell};
-ghost use Rattle.lay_cells.specs.Walks.{Walks};
+ghost use Rattle.lay_cells.specs.Walks.{ClosesCycle, IsAcyclic, IsFirstCycle, Walks};
 
+use crate::cell_id::CellId;
 use crate::cells::Cells;
+use crate::places::callers_first;
 use crate::search::reached;
-use lay_point::{CellId, NoMemory};
+use lay_point::NoMemory;
 use std::alloc::Global;
 use std::marker::Model;
 
@@ -72,6 +76,79 @@ impl CallGraph {
         let marks = reached(alloc, &self.targets, start)?;
         Ok(marks[end])
     }
+
+    /// Returns the index of the first call, in the order in which they were added, whose target leads back
+    /// to its caller. It looks at each cell and each call a few times.
+    pub fn first_cycle(&self, alloc: Global) -> Result<Option<usize>, NoMemory>
+        ensures acyclic { IfOk result (λ first. IsNone first ↔ IsAcyclic self.now.calls) }
+        ensures first { IfOk result (λ first. IfSome first (IsFirstCycle self.now.calls)) }
+    {
+        let places = self.places(alloc)?;
+        for index in 0..self.calls.len() {
+            if self.closes_cycle(alloc, &places, self.calls[index])? {
+                return Ok(Some(index));
+            }
+        }
+        Ok(None)
+    }
+
+    /// Returns places of the cells such that no call goes to an earlier one.
+    fn places(&self, alloc: Global) -> Result<Vec<usize>, NoMemory>
+        ensures { IfOk result (λ places. AreOrdered self.now places.items) }
+    {
+        let places = callers_first(alloc, &self.targets, self.calls.len())?;
+        if are_ordered(&self.symbols, &places, self.calls.as_slice()) {
+            return Ok(places);
+        }
+        Ok(Vec::new(alloc))
+    }
+
+    /// Returns whether a walk leads back from the target of the call to its caller. A call to a later place
+    /// needs no search, and as places are made, that is any call that closes no cycle.
+    fn closes_cycle(
+        &self,
+        alloc: Global,
+        places: &Vec<usize>,
+        call: (CellId, u32),
+    ) -> Result<bool, NoMemory>
+        requires ordered { AreOrdered self.now places.now.items }
+        requires call { Contains self.now.calls call }
+        ensures sound { IfOk result (λ closes. IsTrue closes → ClosesCycle self.now.calls call) }
+        ensures complete { IfOk result (λ closes. ClosesCycle self.now.calls call → IsTrue closes) }
+    {
+        if goes_later(&self.symbols, places, call) {
+            return Ok(false);
+        }
+        self.reaches(alloc, CellId::Symbol(call.1), call.0)
+    }
+}
+
+/// Returns whether no call goes to an earlier place.
+fn are_ordered(symbols: &Cells, places: &Vec<usize>, calls: &[(CellId, u32)]) -> bool
+    ensures { result ≡ list_all (keeps_order symbols.now places.now.items) calls.now }
+{
+    calls.iter().all(|call| keeps_order(symbols, places, *call))
+}
+
+/// Returns whether the call goes to no earlier place.
+fn keeps_order(symbols: &Cells, places: &Vec<usize>, call: (CellId, u32)) -> bool
+    ensures { result ≡ keeps_order symbols.now places.now.items call }
+{
+    place_of(symbols, places, call.0) <= place_of(symbols, places, CellId::Symbol(call.1))
+}
+
+/// Returns whether the call goes to a later place.
+fn goes_later(symbols: &Cells, places: &Vec<usize>, call: (CellId, u32)) -> bool
+    ensures { result ≡ goes_later symbols.now places.now.items call }
+{
+    place_of(symbols, places, call.0) < place_of(symbols, places, CellId::Symbol(call.1))
+}
+
+/// Returns the place of a cell, or 0 where it has none.
+fn place_of(symbols: &Cells, places: &Vec<usize>, cell: CellId) -> usize
+    ensures { result ≡ place_of symbols.now places.now.items cell }
+{
+    places.get(position_of(symbols, cell)).copied().unwrap_or(0)
 }
 
 /// Returns the position of a cell: a symbol's among the symbols, and the top cell's behind them.

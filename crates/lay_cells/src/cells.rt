@@ -6,12 +6,17 @@ ghost use Rattle.lay_cells.specs.Symbols.{has_symbol, with_symbol};
 
 use indexmap::IndexSet;
 use lay_point::NoMemory;
-use std::alloc::Global;
+use std::alloc::{AllocError, Global};
 use std::marker::Model;
+
+/// The greatest number of a symbol.
+pub const MAX_SYMBOL: u32 = 999_999_999;
+
+const _: () = prove!(MAX_SYMBOL == 999_999_999);
 
 /// The numbers of symbols, each once, in the order in which they were added. Contracts see the list of the
 /// numbers.
-#[derive(Clone, Debug, Drop)]
+#[derive(Debug, Drop)]
 pub struct Cells {
     numbers: IndexSet<u32>,
 }
@@ -67,5 +72,17 @@ impl Cells {
         ensures { result ≡ slice_get self.now position }
     {
         self.numbers.get_index(position).copied()
+    }
+}
+
+impl Clone for Cells {
+    ghost use Rattle.std.specs.Prelude.{◌≡◌};
+
+    ghost is_clone = { λ cells copy. copy ≡ cells };
+
+    fn clone(&self) -> Result<Cells, AllocError> {
+        Ok(Cells {
+            numbers: self.numbers.clone()?,
+        })
     }
 }

@@ -2,13 +2,14 @@
 //!
 //! A symbol is declared once under its number, and a cell calls symbols. `Cells` has the numbers of the
 //! symbols in the order of their declarations, and keeps in its type that no number stands there twice.
-//! `CallGraph` has the calls between such cells, and answers whether a cell leads to another by calls, so
-//! that a layout can be kept free of symbols that contain themselves.
+//! `CallGraph` has the calls between such cells, and answers whether a cell leads to another by calls, and
+//! which call is the first that closes a cycle, so that a layout can be kept free of symbols that contain
+//! themselves.
 //!
 //! Contracts see `Cells` as the list of the numbers, and a `CallGraph` as a record of that list and of the
 //! list of its calls, each a caller and the number of its target, in the order in which they were added.
 //! The graph also keeps the targets of each cell, by position, so that `reaches` looks at each cell and
-//! each call at most once.
+//! each call at most once, and `first_cycle` at each a few times.
 //!
 //! ```text
 //! let mut cells = Cells::new(alloc);
@@ -20,11 +21,13 @@
 #![tactic(auto)]
 
 mod call_graph;
+mod cell_id;
 mod cells;
+mod places;
 mod search;
 #[cfg(test)]
 mod tests;
 
 pub use call_graph::CallGraph;
-pub use cells::Cells;
-pub use lay_point::CellId;
+pub use cell_id::CellId;
+pub use cells::{Cells, MAX_SYMBOL};

@@ -122,3 +122,107 @@ fn a_chain_of_65_leads_from_its_first_to_its_last(rt: HostRuntime) -> Result<(),
     );
     Ok(())
 }
+
+/// The first call between the symbols that closes a cycle.
+fn first_cycle(
+    alloc: Global,
+    numbers: &[u32],
+    calls: &[(CellId, u32)],
+) -> Result<Option<usize>, NoMemory> {
+    let symbols = symbols_of(alloc, numbers)?;
+    let graph = graph_of(alloc, &symbols, calls)?;
+    graph.first_cycle(alloc)
+}
+
+// Could catch a definition of a cycle that leaves out the call of a cell by itself, one that takes two
+// ways to one cell for a cycle, an order of calls that isn't that of their additions, and a call that fails.
+#[test]
+fn the_first_call_that_closes_a_cycle_is_named(rt: HostRuntime) -> Result<(), Fail> {
+    let top = CellId::Top;
+    let one = CellId::Symbol(1);
+    let two = CellId::Symbol(2);
+    let nine = CellId::Symbol(9);
+    let rows: [(&[(CellId, u32)], Option<usize>); 12] = [
+        (&[], None),
+        (&[(top, 1), (top, 1), (one, 2), (one, 2)], None),
+        (&[(top, 9), (nine, 1), (nine, 2), (one, 4), (two, 4)], None),
+        (&[(two, 4), (one, 4), (nine, 2), (nine, 1), (top, 9)], None),
+        (&[(one, 1)], Some(0)),
+        (&[(top, 1), (one, 9), (one, 1)], Some(2)),
+        (&[(one, 2), (two, 1)], Some(0)),
+        (
+            &[(top, 1), (nine, 1), (two, 4), (two, 1), (one, 2)],
+            Some(3),
+        ),
+        (&[(nine, 1), (one, 2), (two, 4), (two, 1)], Some(1)),
+        (
+            &[(one, 2), (two, 9), (two, 4), (nine, 4), (nine, 1)],
+            Some(0),
+        ),
+        (&[(one, 4), (one, 2), (two, 2), (two, 1)], Some(1)),
+        (
+            &[(top, 1), (one, 4), (two, 9), (one, 4), (nine, 2)],
+            Some(2),
+        ),
+    ];
+    for (calls, want) in rows {
+        let found = first_cycle(rt.alloc(), &[9, 1, 2, 4], calls)?;
+        assert_eq!(rt; found, want, "{calls:?}");
+    }
+    Ok(())
+}
+
+// Could catch a time that goes up with the square of the calls, and a limit of the depth that no clause
+// names.
+#[test]
+fn a_chain_of_5000_has_no_cycle_in_either_order(rt: HostRuntime) -> Result<(), Fail> {
+    let mut numbers = Vec::new(rt.alloc());
+    let mut falling = Vec::new(rt.alloc());
+    for number in 0..5_000u32 {
+        numbers.push(number)?;
+        falling.push((CellId::Symbol(number), number + 1))?;
+    }
+    let mut rising = falling.clone()?;
+    rising.reverse();
+    assert_eq!(rt; first_cycle(rt.alloc(), &numbers, &falling)?, None);
+    assert_eq!(rt; first_cycle(rt.alloc(), &numbers, &rising)?, None);
+    falling.push((CellId::Symbol(4_999), 0))?;
+    assert_eq!(rt; first_cycle(rt.alloc(), &numbers, &falling)?, Some(0));
+    Ok(())
+}
+
+// Could catch a time that goes up with the product of the cells and calls of a full layout.
+#[test]
+fn a_layout_of_100000_calls_has_no_cycle(rt: HostRuntime) -> Result<(), Fail> {
+    let mut numbers = Vec::new(rt.alloc());
+    let mut calls = Vec::new(rt.alloc());
+    for number in 0..4_096u32 {
+        numbers.push(number)?;
+        for step in 1..28u32 {
+            calls.push((CellId::Symbol(number), number + step * step))?;
+        }
+    }
+    assert_eq!(rt; calls.len(), 110_592);
+    assert_eq!(rt; first_cycle(rt.alloc(), &numbers, &calls)?, None);
+    Ok(())
+}
+
+// Could catch a search for each call where the cycles stand behind all that they lead to.
+#[test]
+fn cycles_above_100000_calls_are_found(rt: HostRuntime) -> Result<(), Fail> {
+    let mut numbers = Vec::new(rt.alloc());
+    let mut calls = Vec::new(rt.alloc());
+    for number in 0..4_096u32 {
+        numbers.push(number)?;
+        for step in 1..26u32 {
+            if step <= number {
+                calls.push((CellId::Symbol(number), number - step))?;
+            }
+        }
+    }
+    let want = calls.len();
+    calls.push((CellId::Symbol(4_095), 4_095))?;
+    calls.push((CellId::Symbol(0), 0))?;
+    assert_eq!(rt; first_cycle(rt.alloc(), &numbers, &calls)?, Some(want));
+    Ok(())
+}

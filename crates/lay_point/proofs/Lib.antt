@@ -1,2 +1,4 @@
+pub mod BridgeLemmas
 pub mod NameLemmas
 pub mod RingLemmas
+pub mod TurnLemmas

@@ -7,10 +7,10 @@ use Rattle.lay_point.specs.Points.{point_eq}
 use Rattle.lay_point.specs.Same.{point_eq-Decides}
 use Rattle.lay_point.specs.Rings.{NeighboursDiffer, closed, kept_behind, opened, opened_behind, without_neighbours}
 
-point_eq-true : (p q : Point) → point_eq p q ≡ true → p ≡ q
+pub point_eq-true : (p q : Point) → point_eq p q ≡ true → p ≡ q
 point_eq-true p q h = (point_eq-Decides p q).0 h
 
-point_eq-false : (p q : Point) → point_eq p q ≡ false → p ≢ q
+pub point_eq-false : (p q : Point) → point_eq p q ≡ false → p ≢ q
 point_eq-false p q h e = let t = (point_eq-Decides p q).1 e in cc
 
 -- behind a point no kept point equals the one before it

@@ -3,6 +3,11 @@ pub mod Edges
 pub mod Memory
 pub mod Names
 pub mod Padded
+pub mod Parity
 pub mod Points
+pub mod RingEdges
 pub mod Rings
 pub mod Same
+pub mod SameTurn
+pub mod TurnMaps
+pub mod Turns

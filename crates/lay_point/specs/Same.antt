@@ -1,14 +1,12 @@
--- Equality of points, names, cells and rings: the tests, and that they decide. What an `==` answers is such a test.
-use Rattle.std.specs.Prelude.{◌≡◌, ℕ, ◌==◌, List, Bool, true, false, refl}
+-- Equality of points, names and rings: the tests, and that they decide. What an `==` answers is such a test.
+use Rattle.std.specs.Prelude.{◌≡◌, ℕ, List, Bool, refl}
 use Rattle.std.specs.Str.{bytes_eq}
 use Rattle.std.specs.Bool.{Decides}
 use Rattle.std.specs.Cmp.{IsEquivalence, IsPartialEquivalence, decided, partial_equiv_from_equiv}
 use Rattle.std.specs.Cmp.Lexicographic.{pointwise}
 use Rattle.std.proofs.Common.{ap}
-use Rattle.std.proofs.lemmas.Bool.Decides.{Decides-eqb, Decides-int_eq, Decides-and, Decides-like}
+use Rattle.std.proofs.lemmas.Bool.Decides.{Decides-int_eq, Decides-and, Decides-like}
 use Rattle.std.proofs.lemmas.Slice.Eq.{bytes_eq-Decides, slice_eq-Decides}
-use Rattle.lay_point.specs.declared.cell_id.CellId.{CellId}
-use Rattle.lay_point.specs.declared.cell_id.CellId.TheVariants.{Top, Symbol}
 use Rattle.lay_point.specs.declared.point.Point.{Point}
 use Rattle.lay_point.specs.Points.{point_eq}
 
@@ -40,16 +38,3 @@ names_eq_equiv = decided names_eq bytes_eq-Decides
 
 pub names_eq_partial : IsPartialEquivalence names_eq
 names_eq_partial = partial_equiv_from_equiv names_eq_equiv
-
--- the same cell
-abbrev pub cell_eq : CellId → CellId → Bool
-cell_eq Top Top = true
-cell_eq Top (Symbol n) = false
-cell_eq (Symbol m) Top = false
-cell_eq (Symbol m) (Symbol n) = m == n
-
-pub cell_eq-Decides : (a b : CellId) → Decides (cell_eq a b) (a ≡ b)
-cell_eq-Decides Top Top = (λ _. refl, λ _. refl)
-cell_eq-Decides Top (Symbol n) = (λ e. cc, λ e. cc)
-cell_eq-Decides (Symbol m) Top = (λ e. cc, λ e. cc)
-cell_eq-Decides (Symbol m) (Symbol n) = Decides-like (m == n) (λ e. ap Symbol e) (λ e. cc) (Decides-eqb m n)

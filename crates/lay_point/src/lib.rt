@@ -1,4 +1,4 @@
-//! Points, layer names, rings and cell names: the words of every layer of the layout database.
+//! Points, turns, layer names and rings: the words of every layer of the layout database.
 //!
 //! Lengths are in database units of 5 nanometres. A point of a layout has both coordinates in
 //! `-LIMIT..=LIMIT`. A `Ring` is a closed path that keeps in its type that its points are in range,
@@ -6,7 +6,8 @@
 //! among them, are equal. A `LayerName` keeps that it is 1 to `MAX_LAYER_NAME` digits and upper-case
 //! letters.
 //! Contracts see a ring as the list of its points, a name as the list of its bytes, and a `Sequence`
-//! as the list of its elements.
+//! as the list of its elements. Whether a place is inside closed paths is told by parity: `odd` of
+//! `specs/Parity.antt`, over the edges of `specs/RingEdges.antt`.
 //!
 //! What may allocate takes the allocator and returns `NoMemory`, or that variant of its fault, where an
 //! allocation failed. `IsAnswer` of `specs/Memory.antt` is the word for it in all crates.
@@ -18,7 +19,6 @@
 //! ```
 #![tactic(auto)]
 
-mod cell_id;
 mod edge;
 mod layer_name;
 mod memory;
@@ -27,11 +27,12 @@ mod ring;
 mod sequence;
 #[cfg(test)]
 mod tests;
+mod turn;
 
-pub use cell_id::CellId;
 pub use edge::Edge;
 pub use layer_name::{LayerName, MAX_LAYER_NAME};
 pub use memory::NoMemory;
 pub use point::{LIMIT, Point};
-pub use ring::{MAX_RING_POINTS, Ring, RingFault};
+pub use ring::{MAX_RING_POINTS, Ring, RingFault, without_repeats};
 pub use sequence::Sequence;
+pub use turn::{Quarter, Turn};

@@ -4,8 +4,9 @@ ghost use Rattle.std.specs.List.{list_all};
 ghost use Rattle.lay_point.specs.Memory.{IsAnswer};
 ghost use Rattle.lay_point.specs.Points.{is_in_range};
 ghost use Rattle.lay_point.specs.Rings.{IsRing, NeighboursDiffer, closed, opened, rectangle};
-ghost use Rattle.lay_point.specs.Rings.{checked_ring, ring_of, without_neighbours};
+ghost use Rattle.lay_point.specs.Rings.{checked_ring, ring_of, without_neighbours, without_repeats};
 
+use crate::memory::NoMemory;
 use crate::point::Point;
 use smallvec::SmallVec;
 use std::alloc::{AllocError, Global};
@@ -111,6 +112,16 @@ impl Eq for Ring {
     ghost use Rattle.lay_point.specs.Same.{points_eq_equiv};
 
     ghost laws = { points_eq_equiv };
+}
+
+/// Returns the points as a ring keeps them: a point that equals the one before it is dropped, then the
+/// last one where it equals the first.
+#[tactic(auto, unfolding(crate::specs::Rings::without_repeats))]
+pub fn without_repeats(alloc: Global, points: &[Point]) -> Result<Vec<Point>, NoMemory>
+    ensures { IfOk result (λ kept. kept.items ≡ without_repeats points.now) }
+{
+    let kept = without_neighbours(alloc, points)?;
+    Ok(opened(kept).into_vec()?)
 }
 
 /// Drops each point that equals the one before it.

@@ -121,3 +121,46 @@ fn sequences_are_equal_where_their_elements_are(rt: HostRuntime) -> Result<(), F
     assert!(rt; some == same && some != front);
     Ok(())
 }
+
+// Could catch turns that go clockwise, mirror the other axis or come in another order, in the definition and
+// in the code alike: the values are those of a symbol that is called mirrored and shifted within one that is
+// called turned. Could catch a limit that is one off in both, and a composed turn that is refused.
+#[test]
+fn a_turn_mirrors_then_turns_then_shifts(rt: HostRuntime) -> Result<(), Fail> {
+    let turn = |mirror, quarter, x, y| Turn {
+        mirror,
+        quarter,
+        shift: at(x, y),
+    };
+    let inner = turn(true, Quarter::R0, 20, 0);
+    let outer = turn(false, Quarter::R90, 0, 0);
+    let both = inner.then(outer).ok_or("out of range")?;
+    assert_eq!(rt; both, turn(true, Quarter::R90, 0, 20));
+    let rows = [
+        (both, at(0, 0), Some(at(0, 20))),
+        (both, at(4, 0), Some(at(0, 16))),
+        (both, at(0, 2), Some(at(-2, 20))),
+        (turn(false, Quarter::R180, 1, 2), at(4, 3), Some(at(-3, -1))),
+        (turn(false, Quarter::R270, 1, 2), at(4, 3), Some(at(4, -2))),
+        (turn(true, Quarter::R270, 0, 0), at(4, 3), Some(at(3, 4))),
+        (
+            turn(false, Quarter::R0, 1 << 30, 0),
+            at(0, 0),
+            Some(at(1 << 30, 0)),
+        ),
+        (turn(false, Quarter::R0, 1 << 30, 0), at(1, 0), None),
+        (turn(false, Quarter::R0, 0, -(1 << 30)), at(0, -1), None),
+        (turn(true, Quarter::R0, 0, 0), at(i32::MIN, 0), None),
+    ];
+    for (turn, point, want) in rows {
+        assert_eq!(rt; turn.apply(point), want, "{turn:?} of {point:?}");
+    }
+    let far = turn(false, Quarter::R0, 1 << 30, 0);
+    assert_eq!(rt; outer.then(inner), Some(turn(true, Quarter::R270, 20, 0)));
+    assert_eq!(rt;
+        far.then(inner),
+        Some(turn(true, Quarter::R0, 20 - (1 << 30), 0))
+    );
+    assert_eq!(rt; far.then(turn(false, Quarter::R0, 1, 0)), None);
+    Ok(())
+}

@@ -1,5 +1,5 @@
 use Rattle.std.proofs.Common.{◌≡◌, ◌∷◌, ◌++◌, [], arith, rules, subst, sym, IsTrue}
-use Rattle.lay_point.specs.declared.cell_id.CellId.TheVariants.{Symbol}
+use Rattle.lay_cells.specs.declared.cell_id.CellId.TheVariants.{Symbol}
 use Rattle.lay_cells.specs.Graph.{rows_of}
 use Rattle.lay_cells.specs.Symbols.{has_cell}
 use Rattle.lay_cells.specs.Walks.{Calls}

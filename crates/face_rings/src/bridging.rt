@@ -1,0 +1,65 @@
+//! One path round all rings of a shape.
+ghost use Rattle.std.specs.Prelude.{◌≡◌, ◌++◌, ◌∷◌, ℤ, IfOk, OnOk};
+ghost use Rattle.lay_point.specs.Bridges.{bridged, further, joined};
+ghost use Rattle.lay_point.specs.Parity.{odd};
+ghost use Rattle.lay_point.specs.RingEdges.{edges_of, edges_of_ring};
+ghost use Rattle.lay_point.specs.Rings.{IsRing, closed};
+
+use lay_point::{NoMemory, Point, Ring, without_repeats};
+use std::alloc::Global;
+
+/// Returns the points of one closed path round all the rings. It goes round the first, then from that
+/// ring's first point out to each further ring, round it and back. A point that equals the one before it
+/// is dropped, then the last one where it equals the first. Of the path's edges the half line from any
+/// place to the right crosses an odd number exactly where it crosses an odd number of the rings' edges.
+/// The path of no rings is empty.
+pub fn bridge(alloc: Global, rings: &[Ring]) -> Result<Vec<Point>, NoMemory>
+    ensures value { IfOk result (λ path. path.items ≡ bridged rings.now) }
+
+    // The place (x, y) at scale k stands for (x / k, y / k) where 1 ≤ k; the law holds for all k.
+    ensures parity { IfOk result (λ path.
+        (k x y : ℤ) → odd (edges_of_ring path.items) k x y ≡ odd (edges_of rings.now) k x y) }
+{
+    let Some((first, others)) = rings.split_first() else {
+        return Ok(Vec::new(alloc));
+    };
+    let path = joined(alloc, first.points(), others)?;
+    without_repeats(alloc, path.as_slice())
+}
+
+/// Returns the path round the first ring and the others, with its repeats.
+fn joined(alloc: Global, first: &[Point], others: &[Ring]) -> Result<Vec<Point>, NoMemory>
+    requires { IsRing first.now }
+    ensures { IfOk result (λ path. path.items ≡ joined (first.now ∷ others.now)) }
+{
+    let mut path = first.to_vec(alloc)?;
+    if !others.is_empty() {
+        path.push(first[0])?;
+        add_further(&mut path, first[0], others)?;
+    }
+    Ok(path)
+}
+
+/// Adds the ways round the rings, and back to the start between them.
+fn add_further(path: &mut Vec<Point>, start: Point, rings: &[Ring]) -> Result<(), NoMemory>
+    ensures { OnOk result (path.new.items ≡ path.old.items ++ further start rings.now) }
+{
+    let mut left = rings;
+    while let Some((ring, behind)) = left.split_first() {
+        add_closed(path, ring)?;
+        if !behind.is_empty() {
+            path.push(start)?;
+        }
+        left = behind;
+    }
+    Ok(())
+}
+
+/// Adds the ring's points, and its first point again.
+fn add_closed(path: &mut Vec<Point>, ring: &Ring) -> Result<(), NoMemory>
+    ensures { OnOk result (path.new.items ≡ path.old.items ++ closed ring.now) }
+{
+    path.extend_from_slice(ring.points())?;
+    path.push(ring.points()[0])?;
+    Ok(())
+}
