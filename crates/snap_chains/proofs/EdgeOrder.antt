@@ -18,7 +18,7 @@ use Rattle.snap_chains.proofs.Sorted.{IsOrder}
 abbrev pub edge_cmp : Point × Point → Point × Point → Ordering
 edge_cmp = then_cmp (on (λ e. e.0) point_cmp) (on (λ e. e.1) point_cmp)
 
-edge_cmp_total : IsTotalOrder edge_cmp
+pub edge_cmp_total : IsTotalOrder edge_cmp
 edge_cmp_total = then_total (on_total (λ (e : Point × Point). e.0) point_cmp_total) (on_total (λ (e : Point × Point). e.1) point_cmp_total)
 
 pub edges_decide : (e f : Point × Point) → Decides (same_edge e f) (e ≡ f)
@@ -42,3 +42,7 @@ edge_order = record {
   ties = matches_eq-law;
   less = λ e f h. before_by_low e f (point_cmp e.0 f.0) refl h;
 }
+
+-- edges that `cmp` finds equal are one
+pub edge_exact : (e f : Point × Point) → edge_cmp e f ≡ Equal → e ≡ f
+edge_exact e f h = (edges_decide e f).0 (edge_order.ties e f ∙ ap is_eq h)

@@ -6,3 +6,8 @@ pub mod OwnerLemmas
 pub mod CleanLemmas
 pub mod PathLemmas
 pub mod OwnedLemmas
+pub mod VisitOrder
+pub mod OddLemmas
+pub mod VisitLemmas
+pub mod VisitorLemmas
+pub mod RoundLemmas

@@ -1,12 +1,14 @@
 -- Edges without owners.
-use Rattle.std.proofs.Common.{◌≡◌, ℕ, zero, suc, ◌+◌, List, [], ◌∷◌, ◌++◌, length, map, false, refl, ap, ◌∙◌, arith, ◌&&◌}
-use Rattle.std.specs.Prelude.{replicate}
-use Rattle.std.specs.List.{zip}
+use Rattle.std.proofs.Common.{◌≡◌, ℕ, zero, suc, ◌+◌, List, [], ◌∷◌, ◌++◌, length, map, false, refl, sym, ap, subst, ◌∙◌, arith, ◌&&◌}
+use Rattle.std.specs.Prelude.{All, replicate}
+use Rattle.std.specs.List.{AllByRecursion, zip}
+use Rattle.std.proofs.lemmas.List.Elements.{All-from_recursion}
 use Rattle.lay_point.specs.declared.point.Point.{Point}
 use Rattle.chain_laws.specs.Parity.{parity}
 use Rattle.chain_laws.specs.Rising.{IsRising}
 use Rattle.chain_laws.specs.Undirected.{IsEdgeBefore, touches}
 use Rattle.snap_chains.specs.declared.owner.Owner.{Owner}
+use Rattle.snap_chains.specs.Owners.{IsOwnerBefore}
 use Rattle.snap_chains.specs.Rounded.{is_listed, IsRounded}
 
 pub map-push : {A B : Type 0} (f : A → B) (xs : List A) (x : A) → map f (xs ++ x ∷ []) ≡ map f xs ++ f x ∷ []
@@ -31,11 +33,17 @@ none_even o v [] (suc n) = refl
 none_even o v (e ∷ es) zero = refl
 none_even o v (e ∷ es) (suc n) = none_even o v es n
 
+none_ordered : (n : ℕ) → AllByRecursion (IsRising IsOwnerBefore) (replicate n [])
+none_ordered zero = tt
+none_ordered (suc n) = (tt, none_ordered n)
+
 -- edges in order, none of which has an owner
 pub rounded_without_owners : (edges : List (Point × Point)) (owners : List (List Owner)) → IsRising IsEdgeBefore edges
     → owners ≡ replicate (length edges) [] → IsRounded (edges, owners)
 rounded_without_owners edges owners up e = record {
   rising = up;
   paired = ap length e ∙ length-replicate_none (length edges) [];
+  ordered = subst (All (IsRising IsOwnerBefore)) (sym e)
+      (All-from_recursion (IsRising IsOwnerBefore) (replicate (length edges) []) (none_ordered (length edges)));
   even = λ o v. ap (λ l. parity (λ p. is_listed o p.1 && touches v p.0) (zip edges l)) e ∙ none_even o v edges (length edges);
 }

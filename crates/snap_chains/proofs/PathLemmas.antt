@@ -108,7 +108,7 @@ Contains-map {A} {B} f xs x h = contains (map f xs) (f x) (mapped xs (has xs x h
     mapped (y ∷ ys) (inl e) = inl (ap f e)
     mapped (y ∷ ys) (inr m) = inr (mapped ys m)
 
-Has-map : {A B : Type 0} (f : A → B) (xs : List A) (y : B) → Has (map f xs) y → (x : A) × Has xs x × (f x ≡ y)
+pub Has-map : {A B : Type 0} (f : A → B) (xs : List A) (y : B) → Has (map f xs) y → (x : A) × Has xs x × (f x ≡ y)
 Has-map f [] y m = absurd m
 Has-map f (x ∷ xs) y (inl e) = (x, inl refl, e)
 Has-map f (x ∷ xs) y (inr m) = let r = Has-map f xs y m in (r.0, inr r.1, r.2)

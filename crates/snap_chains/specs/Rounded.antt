@@ -1,5 +1,5 @@
--- What a Rounded keeps: its edges in order, and for each of them the shapes that own it.
-use Rattle.std.specs.Prelude.{◌≡◌, false, ◌&&◌, Bool, List, length, Contains}
+-- What a Rounded keeps: its edges in order, and for each of them the shapes that own it, in order.
+use Rattle.std.specs.Prelude.{◌≡◌, false, ◌&&◌, Bool, List, length, All, Contains}
 use Rattle.std.specs.List.{list_any, zip}
 use Rattle.lay_point.specs.declared.point.Point.{Point}
 use Rattle.edge_test.specs.Meeting.{MeetAtEnds}
@@ -7,7 +7,7 @@ use Rattle.chain_laws.specs.Parity.{parity}
 use Rattle.chain_laws.specs.Rising.{IsRising}
 use Rattle.chain_laws.specs.Undirected.{IsEdgeBefore, touches}
 use Rattle.snap_chains.specs.declared.owner.Owner.{Owner}
-use Rattle.snap_chains.specs.Owners.{owner_eq}
+use Rattle.snap_chains.specs.Owners.{IsOwnerBefore, owner_eq}
 
 -- the edges, and the owners of each
 abbrev pub Owned : Type 0
@@ -23,6 +23,7 @@ AreEven r = (o : Owner) (v : Point) → parity (λ p. is_listed o p.1 && touches
 pub record IsRounded (r : Owned) : Type 0 where
   pub rising : IsRising IsEdgeBefore r.0
   pub paired : length r.1 ≡ length r.0
+  pub ordered : All (IsRising IsOwnerBefore) r.1
   pub even : AreEven r
 
 -- a place on two different edges is an end of both

@@ -2,6 +2,7 @@
 ghost use Rattle.std.specs.Prelude.{◌≡◌, ◌<◌, ◌≤◌, IfErr, IfOk, MatchOption, OnOk, Some, length, slice_get};
 ghost use Rattle.chain_laws.specs.Rising.{IsRising};
 ghost use Rattle.chain_laws.specs.Undirected.{IsEdgeBefore};
+ghost use Rattle.snap_chains.specs.Owners.{IsOwnerBefore};
 ghost use Rattle.snap_chains.specs.Rounded.{AreClean};
 
 use crate::owner::Owner;
@@ -54,10 +55,11 @@ impl CleanEdges {
         self.rounded.edges()
     }
 
-    /// Returns the owners of the edge of this number.
+    /// Returns the owners of the edge of this number, in order: by input, then by number.
     pub fn owners(&self, edge: usize) -> &[Owner]
         requires { edge < length self.now.0 }
-        ensures { slice_get self.now.1 edge ≡ Some result.now }
+        ensures value { slice_get self.now.1 edge ≡ Some result.now }
+        ensures rising { IsRising IsOwnerBefore result.now }
     {
         self.rounded.owners(edge)
     }

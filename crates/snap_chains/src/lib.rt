@@ -7,25 +7,23 @@
 //!
 //! A rounded ring joins the chains of its sides (`ring_sides`, `round_ring`). `round_rings` rounds the
 //! rings of all shapes over the hot pixels of all their sides together (`AreRounded` of
-//! `specs/OwnedRings.antt`).
+//! `specs/OwnedRings.antt`). `round` answers the edges that the rounded rings go, each once, with the
+//! shapes that own it: those whose rings go it an odd number of times (`IsRoundOf` of
+//! `specs/Round.antt`).
 //!
-//! A `Rounded` keeps in its type that its edges rise, so that each is there once, and that an even
-//! number of the edges that list an owner stand at each point. A `CleanEdges` keeps too that a place on
-//! two different edges is an end of both (`specs/Rounded.antt`). `check_clean` tests that exactly, or
-//! names the first two edges that fail (`specs/Clean.antt`).
+//! A `Rounded` keeps in its type that its edges rise, so that each is there once, that the owners of
+//! each edge rise, and that an even number of the edges that list an owner stand at each point. A
+//! `CleanEdges` keeps too that a place on two different edges is an end of both (`specs/Rounded.antt`).
+//! `check_clean` tests that exactly for edges from elsewhere, or names the first two that fail
+//! (`specs/Clean.antt`).
 //!
 //! ```
-//! let found = hot(rt, alloc, &segments)?;
-//! let mut edges = Vec::new(alloc);
-//! for segment in &segments {
-//!     let points = chain(alloc, segment, &found)?;
-//!     for ends in points.windows(2) {
-//!         if let Some(edge) = Edge::new(ends[0], ends[1]) {
-//!             edges.push(edge)?;
-//!         }
-//!     }
+//! let owner = Owner { input: Input::First, shape: 0 };
+//! let points = ring.points();
+//! let clean = round(rt, alloc, &[OwnedRing { owner, points }])?;
+//! for (number, edge) in clean.edges().iter().enumerate() {
+//!     println!(rt; "{:?} to {:?} of {:?}", edge.low(), edge.high(), clean.owners(number))?;
 //! }
-//! let clean = check_clean(alloc, Rounded::from_edges(alloc, &edges)?)?;
 //! ```
 #![tactic(auto)]
 
@@ -37,8 +35,11 @@ mod owned;
 mod owner;
 mod rings;
 mod rounded;
+mod rounding;
 #[cfg(test)]
 mod tests;
+mod visitors;
+mod visits;
 
 pub use chains::chain;
 pub use checking::check_clean;
@@ -47,3 +48,4 @@ pub use owned::{OwnedRing, round_rings};
 pub use owner::{Input, Owner};
 pub use rings::{ring_sides, round_ring};
 pub use rounded::Rounded;
+pub use rounding::round;

@@ -3,18 +3,20 @@ ghost use Rattle.std.specs.Prelude.{◌≡◌, ◌↔◌, ◌<◌, [], All, Cont
 ghost use Rattle.lay_point.specs.declared.point.Point.{Point};
 ghost use Rattle.chain_laws.specs.Rising.{IsRising};
 ghost use Rattle.chain_laws.specs.Undirected.{IsEdgeBefore};
+ghost use Rattle.snap_chains.specs.Owners.{IsOwnerBefore};
 
 use crate::owner::Owner;
 use lay_point::{Edge, NoMemory};
 use std::alloc::{AllocError, Global};
 use std::marker::Model;
 
-/// Distinct edges in order, each with the shapes that own it. Of the edges that list an owner an even
-/// number stand at each point. Contracts see the list of the edges, and that of their lists of owners.
+/// Distinct edges in order, each with the shapes that own it, in order and each once. Of the edges that
+/// list an owner an even number stand at each point. Contracts see the list of the edges, and that of
+/// their lists of owners.
 #[derive(Debug, Drop)]
 pub struct Rounded {
-    edges: Vec<Edge>,
-    owners: Vec<Vec<Owner>>,
+    pub(crate) edges: Vec<Edge>,
+    pub(crate) owners: Vec<Vec<Owner>>,
 }
 
 impl Model for Rounded {
@@ -53,10 +55,11 @@ impl Rounded {
         self.edges.as_slice()
     }
 
-    /// Returns the owners of the edge of this number.
+    /// Returns the owners of the edge of this number, in order: by input, then by number.
     pub fn owners(&self, edge: usize) -> &[Owner]
         requires { edge < length self.now.0 }
-        ensures { slice_get self.now.1 edge ≡ Some result.now }
+        ensures value { slice_get self.now.1 edge ≡ Some result.now }
+        ensures rising { IsRising IsOwnerBefore result.now }
     {
         self.owners[edge].as_slice()
     }

@@ -175,3 +175,96 @@ fn lends_distinct_edges_in_order(rt: HostRuntime) -> Result<(), Fail> {
     assert!(rt; rounded.owners(1).is_empty());
     Ok(())
 }
+
+/// Returns the first shape of an input.
+fn shape(input: Input) -> Owner {
+    Owner { input, shape: 0 }
+}
+
+/// Whether these are the edges, between these points and with these owners.
+fn are(clean: &CleanEdges, want: &[(Point, Point, &[Owner])]) -> bool {
+    let edges = clean.edges();
+    if edges.len() != want.len() {
+        return false;
+    }
+    for number in 0..edges.len() {
+        let (low, high, owners) = want[number];
+        let edge = edges[number];
+        if edge.low() != low || edge.high() != high || clean.owners(number) != owners {
+            return false;
+        }
+    }
+    true
+}
+
+// Could catch a rounding that always runs out of memory, and definitions by which an edge is owned by
+// another shape than the one whose side it is a part of, or crossing sides aren't cut.
+#[test]
+fn two_squares_that_overlap_have_12_edges(rt: HostRuntime) -> Result<(), Fail> {
+    let low = Ring::rectangle(rt.alloc(), at(0, 0), at(20, 20));
+    let high = Ring::rectangle(rt.alloc(), at(10, 10), at(30, 30));
+    let rings = [
+        owned(Input::First, low.points()),
+        owned(Input::Second, high.points()),
+    ];
+    let clean = round(&rt, rt.alloc(), &rings)?;
+    let first: &[Owner] = &[shape(Input::First)];
+    let second: &[Owner] = &[shape(Input::Second)];
+    let want: [(Point, Point, &[Owner]); 12] = [
+        (at(0, 0), at(0, 20), first),
+        (at(0, 0), at(20, 0), first),
+        (at(0, 20), at(10, 20), first),
+        (at(10, 10), at(10, 20), second),
+        (at(10, 10), at(20, 10), second),
+        (at(10, 20), at(10, 30), second),
+        (at(10, 20), at(20, 20), first),
+        (at(10, 30), at(30, 30), second),
+        (at(20, 0), at(20, 10), first),
+        (at(20, 10), at(20, 20), first),
+        (at(20, 10), at(30, 10), second),
+        (at(30, 10), at(30, 30), second),
+    ];
+    assert!(rt; are(&clean, &want), "{clean:?}");
+    Ok(())
+}
+
+// Could catch a definition by which an owner that goes an edge twice owns it, or by which such an edge
+// goes away.
+#[test]
+fn edges_that_one_shape_goes_twice_stay_without_owners(rt: HostRuntime) -> Result<(), Fail> {
+    let square = Ring::rectangle(rt.alloc(), at(0, 0), at(20, 20));
+    let rings = [
+        owned(Input::First, square.points()),
+        owned(Input::First, square.points()),
+    ];
+    let clean = round(&rt, rt.alloc(), &rings)?;
+    let want: [(Point, Point, &[Owner]); 4] = [
+        (at(0, 0), at(0, 20), &[]),
+        (at(0, 0), at(20, 0), &[]),
+        (at(0, 20), at(20, 20), &[]),
+        (at(20, 0), at(20, 20), &[]),
+    ];
+    assert!(rt; are(&clean, &want), "{clean:?}");
+    Ok(())
+}
+
+// Could catch a definition by which shapes that go one edge take it from each other, or an order of
+// owners by which the second input comes first.
+#[test]
+fn edges_that_two_shapes_go_have_both_for_owners(rt: HostRuntime) -> Result<(), Fail> {
+    let square = Ring::rectangle(rt.alloc(), at(0, 0), at(20, 20));
+    let rings = [
+        owned(Input::Second, square.points()),
+        owned(Input::First, square.points()),
+    ];
+    let clean = round(&rt, rt.alloc(), &rings)?;
+    let both: &[Owner] = &[shape(Input::First), shape(Input::Second)];
+    let want: [(Point, Point, &[Owner]); 4] = [
+        (at(0, 0), at(0, 20), both),
+        (at(0, 0), at(20, 0), both),
+        (at(0, 20), at(20, 20), both),
+        (at(20, 0), at(20, 20), both),
+    ];
+    assert!(rt; are(&clean, &want), "{clean:?}");
+    Ok(())
+}

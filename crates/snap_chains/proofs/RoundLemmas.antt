@@ -1,0 +1,238 @@
+-- Rounded rings, their visits, and the edges and owners that come of them.
+use Rattle.std.proofs.Common.{◌≡◌, ◌≢◌, ◌↔◌, inl, inr, Bool, true, false, cond, ◌&&◌, ◌||◌, List, [], ◌∷◌, ◌++◌, Vec, Global}
+use Rattle.std.proofs.Common.{length, map, get_or, refl, sym, ap, ap₂, ◌∙◌, subst, arith, Contains}
+use Rattle.std.specs.Prelude.{All, IsTrue}
+use Rattle.std.specs.List.{AllZip, AllByRecursion, zip}
+use Rattle.std.proofs.lemmas.Bool.{false≢true}
+use Rattle.std.proofs.lemmas.List.{map-append}
+use Rattle.std.proofs.lemmas.List.Elements.{All-from_recursion, Contains-get_or}
+use Rattle.std.proofs.lemmas.Slice.Zip.{AllZip-long}
+use Rattle.lay_point.specs.declared.point.Point.{Point}
+use Rattle.lay_point.specs.Rings.{NeighboursDiffer}
+use Rattle.snap_pixels.specs.declared.segment.Segment.{Segment}
+use Rattle.snap_pixels.specs.Hot.{IsHot}
+use Rattle.edge_laws.proofs.SharedEnds.{ends_differ}
+use Rattle.chain_laws.specs.Parity.{parity, xor}
+use Rattle.chain_laws.specs.Rising.{IsRising, pairs}
+use Rattle.chain_laws.specs.Rounding.{IsRoundedPath, closed}
+use Rattle.chain_laws.specs.Undirected.{AreEdgesOf, AreRoundedRings, IsEdgeBefore, edges_of, is_owned, same_edge, touches, undirected}
+use Rattle.chain_laws.proofs.Chains.{edge_of_neighbours}
+use Rattle.chain_laws.proofs.Edges.{edges_are_clean, owned_edges_are_even}
+use Rattle.chain_laws.proofs.Members.{Has, has, contains}
+use Rattle.chain_laws.proofs.Parity.{parity-append, parity-map, parity_agree, parity_none}
+use Rattle.chain_laws.proofs.Rounded.{rounded_paths_have_edges}
+use Rattle.snap_chains.specs.declared.owner.Owner.{Owner}
+use Rattle.snap_chains.specs.declared.visits.Visit.{Visit}
+use Rattle.snap_chains.specs.OwnedRings.{AreRounded}
+use Rattle.snap_chains.specs.Owners.{IsOwnerBefore, owner_eq}
+use Rattle.snap_chains.specs.Round.{AreOwnersOf, IsRoundOf, walks_of}
+use Rattle.snap_chains.specs.Rounded.{AreClean, IsRounded, is_listed}
+use Rattle.snap_chains.specs.Visits.{AreVisitors, visit_eq, visits_by, visits_of}
+use Rattle.snap_chains.proofs.PathLemmas.{Contains-map}
+use Rattle.snap_chains.proofs.Sorted.{same_tests}
+use Rattle.snap_chains.proofs.VisitOrder.{owner_eq-Decides}
+
+-- ---- rounded rings
+rounded_ring : (segments : List Segment) (rings : List (Owner × List Point)) (walks : List (List Point))
+    → AllZip (λ r w. IsRoundedPath segments (closed r.1) w) rings walks → (w : List Point) → Has walks w
+    → (ring : List Point) × IsRoundedPath segments (closed ring) w
+rounded_ring segments [] [] h w m = absurd m
+rounded_ring segments [] (v ∷ walks) h w m = absurd h
+rounded_ring segments (r ∷ rings) [] h w m = absurd m
+rounded_ring segments (r ∷ rings) (v ∷ walks) h w (inl e) = (r.1, subst (IsRoundedPath segments (closed r.1)) e h.0)
+rounded_ring segments (r ∷ rings) (v ∷ walks) h w (inr m) = rounded_ring segments rings walks h.1 w m
+
+rounded_rings : (rings : List (Owner × List Point)) (walks : List (List Point)) (h : AreRounded rings walks)
+    → AreRoundedRings h.segments walks
+rounded_rings rings walks h w m = rounded_ring h.segments rings walks h.rounded w (has walks w m)
+
+pub as_many_walks : (rings : List (Owner × List Point)) (walks : List (List Point)) → AreRounded rings walks → length rings ≡ length walks
+as_many_walks rings walks h = sym (AllZip-long (λ r w. IsRoundedPath h.segments (closed r.1) w) rings walks h.rounded)
+
+differ_by_pairs : (w : List Point) → ((c d : Point) → Has (pairs w) (c, d) → c ≢ d) → NeighboursDiffer w
+differ_by_pairs [] h = tt
+differ_by_pairs (p ∷ []) h = tt
+differ_by_pairs (p ∷ q ∷ ps) h = (h p q (inl refl), differ_by_pairs (q ∷ ps) (λ c d m. h c d (inr m)))
+
+-- neighbours in a walk are neighbours in a chain, which rises
+neighbours_differ : (rings : List (Owner × List Point)) (walks : List (List Point)) → AreRounded rings walks → (w : List Point)
+    → Contains walks w → NeighboursDiffer w
+neighbours_differ rings walks h w m = differ_by_pairs w (λ c d n.
+    let ring = rounded_rings rings walks h w m in
+    let e = rounded_paths_have_edges h.segments (closed ring.0) w ring.1 c d (contains (pairs w) (c, d) n) in
+    ends_differ e.s c d
+    (edge_of_neighbours (IsHot h.segments) e.s e.chain c d e.is_chain (has (pairs e.chain) (c, d) e.neighbours)).below)
+
+pub all_neighbours_differ : (rings : List (Owner × List Point)) (walks : List (Vec Point Global)) → AreRounded rings (map (λ w. w.items) walks)
+    → All (λ w. NeighboursDiffer w.items) walks
+all_neighbours_differ rings walks h k d lt =
+    neighbours_differ rings (map (λ w. w.items) walks) h (get_or walks k d).items
+    (Contains-map (λ (w : Vec Point Global). w.items) walks (get_or walks k d) (Contains-get_or walks k d lt))
+
+-- ---- visits
+visited : (rings : List (Owner × List Point)) (walks : List (List Point)) → length rings ≡ length walks
+    → map (λ (v : Visit). v.edge) (visits_of rings walks) ≡ edges_of undirected walks
+visited [] [] e = refl
+visited [] (w ∷ walks) e = absurd (omega (arith, e))
+visited (r ∷ rings) [] e = absurd (omega (arith, e))
+visited (r ∷ rings) (w ∷ walks) e =
+    map-append (λ (v : Visit). v.edge) (visits_by r.0 w) (visits_of rings walks)
+    ∙ ap₂ (λ a b. a ++ b) (edges_by (pairs w)) (visited rings walks (omega (arith, e)))
+  where
+    edges_by : (ps : List (Point × Point)) → map (λ (v : Visit). v.edge) (map (λ p. record { edge = undirected p; owner = r.0 }) ps) ≡ map undirected ps
+    edges_by [] = refl
+    edges_by (p ∷ ps) = ap (λ l. undirected p ∷ l) (edges_by ps)
+
+-- the edges of the visits are those of the walks
+edges_visited : (rings : List (Owner × List Point)) (walks : List (List Point)) (edges : List (Point × Point)) → AreRounded rings walks
+    → IsRising IsEdgeBefore edges
+    → ((e : Point × Point) → Contains edges e ↔ Contains (map (λ (v : Visit). v.edge) (visits_of rings walks)) e) → AreEdgesOf walks edges
+edges_visited rings walks edges h up exact = record {
+  rising = up;
+  exact = subst (λ l. (e : Point × Point) → Contains edges e ↔ Contains l e) (visited rings walks (as_many_walks rings walks h)) exact;
+}
+
+owner_turned : (o p : Owner) → owner_eq o p ≡ owner_eq p o
+owner_turned o p =
+    same_tests (owner_eq o p) (owner_eq p o) (λ h. (owner_eq-Decides p o).1 (sym ((owner_eq-Decides o p).0 h)))
+    (λ h. (owner_eq-Decides o p).1 (sym ((owner_eq-Decides p o).0 h)))
+
+and-true : (b : Bool) → (b && true) ≡ b
+and-true true = refl
+and-true false = refl
+
+and-false : (b : Bool) → (b && false) ≡ false
+and-false true = refl
+and-false false = refl
+
+-- the visits of the edge by the owner are as many as the owner's walks go it, up to an even number
+visits_by_owner : (o : Owner) (e : Point × Point) (rings : List (Owner × List Point)) (walks : List (List Point))
+    → parity (visit_eq (record { edge = e; owner = o })) (visits_of rings walks) ≡ is_owned (walks_of o rings walks) e
+visits_by_owner o e [] walks = refl
+visits_by_owner o e (r ∷ rings) [] = refl
+visits_by_owner o e (r ∷ rings) (w ∷ walks) =
+    parity-append (visit_eq (record { edge = e; owner = o })) (visits_by r.0 w) (visits_of rings walks)
+    ∙ ap₂ xor (parity-map (visit_eq (record { edge = e; owner = o })) (λ p. record { edge = undirected p; owner = r.0 }) (pairs w)
+    ∙ ap (λ b. parity (λ p. same_edge e (undirected p) && b) (pairs w)) (owner_turned o r.0))
+    (visits_by_owner o e rings walks)
+    ∙ by_test (owner_eq r.0 o) (walks_of o rings walks)
+  where
+    by_test : (b : Bool) (rest : List (List Point))
+        → xor (parity (λ p. same_edge e (undirected p) && b) (pairs w)) (is_owned rest e) ≡ is_owned (cond b (w ∷ rest) rest) e
+    by_test true rest =
+        ap (λ q. xor q (is_owned rest e)) (parity_agree (λ p. same_edge e (undirected p) && true) (λ p. same_edge e (undirected p)) (pairs w)
+        (λ p m. and-true (same_edge e (undirected p))) ∙ sym (parity-map (same_edge e) undirected (pairs w)))
+        ∙ sym (parity-append (same_edge e) (map undirected (pairs w)) (edges_of undirected rest))
+    by_test false rest =
+        ap (λ q. xor q (is_owned rest e)) (parity_none (λ p. same_edge e (undirected p) && false) (pairs w)
+        (λ p m. and-false (same_edge e (undirected p))))
+
+-- ---- owners
+module _ {A B : Type 0} (R S : A → B → Type 0) (step : (x : A) (y : B) → R x y → S x y) where
+  zip_by : (xs : List A) (ys : List B) → AllZip R xs ys → AllZip S xs ys
+  zip_by [] [] h = tt
+  zip_by [] (y ∷ ys) h = absurd h
+  zip_by (x ∷ xs) [] h = absurd h
+  zip_by (x ∷ xs) (y ∷ ys) h = (step x y h.0, zip_by xs ys h.1)
+
+-- the visitors by odd visits are the owners
+owners_by_visits : (rings : List (Owner × List Point)) (walks : List (List Point)) (odd : List Visit) (edges : List (Point × Point))
+    (owners : List (List Owner))
+    → ((v : Visit) → Contains odd v ↔ IsTrue (parity (visit_eq v) (visits_of rings walks)))
+    → AllZip (AreVisitors odd) edges owners → AllZip (AreOwnersOf rings walks) edges owners
+owners_by_visits rings walks odd edges owners exact = zip_by (AreVisitors odd) (AreOwnersOf rings walks) (λ e own h.
+    record {
+      rising = h.rising;
+      exact = λ o.
+          let same = visits_by_owner o e rings walks in
+          let known = exact (record { edge = e; owner = o }) in (
+            (λ m. sym same ∙ known.0 ((h.exact o).0 m)),
+            (λ t. (h.exact o).1 (known.1 (same ∙ t))),
+          );
+    }) edges owners
+
+-- what comes of the visits, where the slices that calls lend are these lists
+pub round_of : (rings : List (Owner × List Point)) (walks : List (List Point)) (visits visits' : List Visit) (edges edges' : List (Point × Point))
+    (odd odd' : List Visit) (owners : List (List Owner)) → AreRounded rings walks → visits ≡ visits_of rings walks
+    → visits' ≡ visits → edges' ≡ edges → odd' ≡ odd
+    → IsRising IsEdgeBefore edges → ((e : Point × Point) → Contains edges e ↔ Contains (map (λ (v : Visit). v.edge) visits') e)
+    → ((v : Visit) → Contains odd v ↔ IsTrue (parity (visit_eq v) visits)) → AllZip (AreVisitors odd') edges' owners
+    → IsRoundOf rings (edges, owners)
+round_of rings walks visits visits' edges edges' odd odd' owners h e same same_edges same_odd up exact odd_exact visited_by = record {
+  walks = walks;
+  rounded = h;
+  edges = edges_visited rings walks edges h up
+      (subst (λ l. (e : Point × Point) → Contains edges e ↔ Contains (map (λ (v : Visit). v.edge) l) e) (same ∙ e) exact);
+  owners = owners_by_visits rings walks odd edges owners
+      (subst (λ l. (v : Visit) → Contains odd v ↔ IsTrue (parity (visit_eq v) l)) e odd_exact)
+      (coe 0 1 (i. AllZip (AreVisitors (same_odd i)) (same_edges i) owners) visited_by);
+}
+
+-- ---- what the types keep
+listed : (o : Owner) (owners : List Owner) → is_listed o owners ≡ true → Has owners o
+listed o [] h = absurd (false≢true h)
+listed o (p ∷ owners) h = by_test (listed o owners) (owner_eq p o) refl h
+  where
+    by_test : (is_listed o owners ≡ true → Has owners o) → (b : Bool) → b ≡ owner_eq p o → is_listed o (p ∷ owners) ≡ true
+        → Has (p ∷ owners) o
+    by_test later true e t = inl ((owner_eq-Decides p o).0 (sym e))
+    by_test later false e t = inr (later (rw (← e) at t))
+
+or-true : (b c : Bool) → c ≡ true → (b || c) ≡ true
+or-true true c h = refl
+or-true false c h = h
+
+list_has : (o : Owner) (owners : List Owner) → Has owners o → is_listed o owners ≡ true
+list_has o [] m = absurd m
+list_has o (p ∷ owners) (inl e) = rw ((owner_eq-Decides p o).1 e) refl
+list_has o (p ∷ owners) (inr m) = or-true (owner_eq p o) (is_listed o owners) (list_has o owners m)
+
+module _ (rings : List (Owner × List Point)) (walks : List (List Point)) where
+  parity_listed : (o : Owner) (v : Point) (edges : List (Point × Point)) (owners : List (List Owner))
+      → AllZip (AreOwnersOf rings walks) edges owners
+      → parity (λ p. is_listed o p.1 && touches v p.0) (zip edges owners) ≡ parity (λ e. is_owned (walks_of o rings walks) e && touches v e) edges
+  parity_listed o v [] [] h = refl
+  parity_listed o v [] (own ∷ owners) h = refl
+  parity_listed o v (e ∷ edges) [] h = absurd h
+  parity_listed o v (e ∷ edges) (own ∷ owners) h =
+      ap₂ (λ b p. xor (b && touches v e) p)
+      (same_tests (is_listed o own) (is_owned (walks_of o rings walks) e)
+      (λ t. (h.0.exact o).0 (contains own o (listed o own t))) (λ t. list_has o own (has own o ((h.0.exact o).1 t))))
+      (parity_listed o v edges owners h.1)
+
+  all_ordered : (edges : List (Point × Point)) (owners : List (List Owner)) → AllZip (AreOwnersOf rings walks) edges owners
+      → AllByRecursion (IsRising IsOwnerBefore) owners
+  all_ordered [] [] h = tt
+  all_ordered [] (own ∷ owners) h = absurd h
+  all_ordered (e ∷ edges) [] h = absurd h
+  all_ordered (e ∷ edges) (own ∷ owners) h = (h.0.rising, all_ordered edges owners h.1)
+
+walk_inside : (o : Owner) (rings : List (Owner × List Point)) (walks : List (List Point)) (w : List Point) → Has (walks_of o rings walks) w
+    → Has walks w
+walk_inside o [] walks w m = absurd m
+walk_inside o (r ∷ rings) [] w m = absurd m
+walk_inside o (r ∷ rings) (v ∷ walks) w m = by_test (walk_inside o rings walks w) (owner_eq r.0 o) m
+  where
+    by_test : (Has (walks_of o rings walks) w → Has walks w) → (b : Bool) → Has (cond b (v ∷ walks_of o rings walks) (walks_of o rings walks)) w
+        → Has (v ∷ walks) w
+    by_test later true (inl e) = inl e
+    by_test later true (inr n) = inr (later n)
+    by_test later false n = inr (later n)
+
+-- what rounding makes of rings is what a Rounded keeps
+pub round_is_rounded : (rings : List (Owner × List Point)) (edges : List (Point × Point)) (owners : List (List Owner))
+    → IsRoundOf rings (edges, owners) → IsRounded (edges, owners)
+round_is_rounded rings edges owners h = record {
+  rising = h.edges.rising;
+  paired = AllZip-long (AreOwnersOf rings h.walks) edges owners h.owners;
+  ordered = All-from_recursion (IsRising IsOwnerBefore) owners (all_ordered rings h.walks edges owners h.owners);
+  even = λ o v. parity_listed rings h.walks o v edges owners h.owners
+      ∙ owned_edges_are_even h.rounded.segments h.walks (walks_of o rings h.walks) edges (rounded_rings rings h.walks h.rounded) h.edges
+      (λ w m. contains h.walks w (walk_inside o rings h.walks w (has (walks_of o rings h.walks) w m))) v;
+}
+
+-- and it is clean
+pub round_is_clean : (rings : List (Owner × List Point)) (edges : List (Point × Point)) (owners : List (List Owner))
+    → IsRoundOf rings (edges, owners) → AreClean edges
+round_is_clean rings edges owners h =
+    edges_are_clean h.rounded.segments h.walks edges (rounded_rings rings h.walks h.rounded) h.edges

@@ -1,0 +1,30 @@
+-- What rounding makes of the rings of shapes: the edges that the rounded rings go, each with the shapes that own it.
+-- Source: Hobby, Practical segment intersection with finite precision output, 1999.
+use Rattle.std.specs.Prelude.{◌↔◌, List, [], ◌∷◌, Contains, IsTrue, if◌then◌else◌}
+use Rattle.std.specs.List.{AllZip}
+use Rattle.lay_point.specs.declared.point.Point.{Point}
+use Rattle.chain_laws.specs.Rising.{IsRising}
+use Rattle.chain_laws.specs.Undirected.{AreEdgesOf, is_owned}
+use Rattle.snap_chains.specs.declared.owner.Owner.{Owner}
+use Rattle.snap_chains.specs.OwnedRings.{AreRounded}
+use Rattle.snap_chains.specs.Owners.{IsOwnerBefore, owner_eq}
+use Rattle.snap_chains.specs.Rounded.{Owned}
+
+-- the walks round the owner's rings, where each ring has its walk at the same place
+abbrev pub walks_of : Owner → List (Owner × List Point) → List (List Point) → List (List Point)
+walks_of o [] walks = []
+walks_of o (r ∷ rings) [] = []
+walks_of o (r ∷ rings) (w ∷ walks) = if owner_eq r.0 o then w ∷ walks_of o rings walks else walks_of o rings walks
+
+-- the owners of an edge, in order: those whose walks, all together, go it an odd number of times
+pub record AreOwnersOf (rings : List (Owner × List Point)) (walks : List (List Point)) (e : Point × Point) (owners : List Owner)
+    : Type 0 where
+  pub rising : IsRising IsOwnerBefore owners
+  pub exact : (o : Owner) → Contains owners o ↔ IsTrue (is_owned (walks_of o rings walks) e)
+
+-- the edges that the rounded rings go, each once and in order, and the owners of each
+pub record IsRoundOf (rings : List (Owner × List Point)) (r : Owned) : Type 0 where
+  pub walks : List (List Point)
+  pub rounded : AreRounded rings walks
+  pub edges : AreEdgesOf walks r.0
+  pub owners : AllZip (AreOwnersOf rings walks) r.0 r.1
