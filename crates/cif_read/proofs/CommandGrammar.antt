@@ -14,7 +14,6 @@ use Rattle.cif_read.specs.declared.command.Command.TheVariants.{Box, Layer}
 use Rattle.cif_scan.specs.Bytes.{is_blank, is_separator, skip}
 use Rattle.cif_read.specs.Commands.{box_of, command_by, definition_fault, layer_of, name_alone, read_as}
 use Rattle.cif_read.specs.Grammar.{IsBox, IsLayer, Spells}
-use Rattle.byte_io.specs.Decimal.{decimal_value}
 use Rattle.cif_scan.specs.Numbers.{behind_separator, integer_at, signed_at}
 use Rattle.cif_scan.proofs.ByteClasses.{blank_no_digit, blank_no_name_byte, name_byte_no_blank, separator_no_digit}
 use Rattle.cif_read.proofs.Layers.{StandsAlone-from}
@@ -86,16 +85,16 @@ separator_again : (b : ℕ) (bs : List ℕ) → is_separator b ≡ true → behi
 unfolding behind_separator
 separator_again b bs h = rw h refl
 
-box_takes : (bytes : List ℕ) (b : BoxNumbers) → box_of decimal_value bytes ≡ Some b → IsBox (66 ∷ bytes) b
+box_takes : (bytes : List ℕ) (b : BoxNumbers) → box_of bytes ≡ Some b → IsBox (66 ∷ bytes) b
 unfolding box_of
 box_takes bytes b e =
-    after_some (integer_at decimal_value bytes) _ b e (λ length length_read after_length.
+    after_some (integer_at bytes) _ b e (λ length length_read after_length.
     after_some (behind_separator length.1) _ b after_length (λ width_part width_separated after_width_separator.
-    after_some (integer_at decimal_value width_part) _ b after_width_separator (λ width width_read after_width.
+    after_some (integer_at width_part) _ b after_width_separator (λ width width_read after_width.
     after_some (behind_separator width.1) _ b after_width (λ x_part x_separated after_x_separator.
-    after_some (signed_at decimal_value x_part) _ b after_x_separator (λ x x_read after_x.
+    after_some (signed_at x_part) _ b after_x_separator (λ x x_read after_x.
     after_some (behind_separator x.1) _ b after_x (λ y_part y_separated after_y_separator.
-    after_some (signed_at decimal_value y_part) _ b after_y_separator (λ y y_read after_y.
+    after_some (signed_at y_part) _ b after_y_separator (λ y y_read after_y.
     let made : BoxNumbers = record { length = length.0; width = width.0; x = x.0; y = y.0 } in
     let last = cond_some (list_all is_blank y.1) made b after_y in
     let length_found = integer_takes bytes length.0 length.1 length_read in
@@ -129,7 +128,7 @@ box_takes bytes b e =
     subst (λ (c : BoxNumbers). IsBox (66 ∷ bytes) c) last.1 box)))))))
 
 box_again : (text : List ℕ) (b : BoxNumbers) (h : IsBox text b)
-    → box_of decimal_value
+    → box_of
     (h.length_text ++ (h.before_width ∷ (h.width_text ++ (h.before_x ∷ (h.x_text ++ (h.before_y ∷ (h.y_text ++ h.behind))))))) ≡ Some b
 unfolding box_of
 box_again text b h =
@@ -158,7 +157,7 @@ refused : {P : Type 0} (t : Bool) (fault : FaultKind) (r : Result Command FaultK
 refused true fault r c e next = absurd (err_no_ok fault c e)
 refused false fault r c e next = next e
 
-pub command_takes : (bytes : List ℕ) (c : Command) → command_by decimal_value bytes ≡ Ok c → Spells bytes c
+pub command_takes : (bytes : List ℕ) (c : Command) → command_by bytes ≡ Ok c → Spells bytes c
 unfolding command_by
 command_takes [] c e = absurd cc
 command_takes (b ∷ bs) c e =
@@ -172,14 +171,14 @@ command_takes (b ∷ bs) c e =
           (sym (eqb-true b 76 layer.0)) (layer_takes bs found.0 found.1))
       | inr not_layer ↦ elim (chosen_of (b == 66) _ _ (Ok c) not_layer.1) [
         | inl box ↦
-            let found = from_read Box Syntax (box_of decimal_value bs) c box.1 in
+            let found = from_read Box Syntax (box_of bs) c box.1 in
             subst (λ (d : Command). Spells (b ∷ bs) d) found.2 (subst (λ (first : ℕ). IsBox (first ∷ bs) found.0)
             (sym (eqb-true b 66 box.0)) (box_takes bs found.0 found.1))
         | inr other ↦ absurd (err_no_ok Syntax c other.1)
       ]
     ])))
 
-pub command_again : (text : List ℕ) (c : Command) → Spells text c → command_by decimal_value text ≡ Ok c
+pub command_again : (text : List ℕ) (c : Command) → Spells text c → command_by text ≡ Ok c
 unfolding command_by
-command_again text (Layer name) h = ap (command_by decimal_value) h.parts ∙ ap (read_as Layer Syntax) (layer_again text name h)
-command_again text (Box b) h = ap (command_by decimal_value) h.parts ∙ ap (read_as Box Syntax) (box_again text b h)
+command_again text (Layer name) h = ap (command_by) h.parts ∙ ap (read_as Layer Syntax) (layer_again text name h)
+command_again text (Box b) h = ap (command_by) h.parts ∙ ap (read_as Box Syntax) (box_again text b h)

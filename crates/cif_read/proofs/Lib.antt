@@ -1,5 +1,4 @@
 pub mod BoxLemmas
-pub mod Caps
 pub mod CommandGrammar
 pub mod CutLemmas
 pub mod CutGrammar

@@ -14,7 +14,6 @@ use Rattle.cif_read.specs.Content.{after_command, after_commands, at_offset, con
 use Rattle.cif_read.specs.Cutting.{behind_command, end_fault, front_of, offset_of}
 use Rattle.cif_read.specs.Grammar.{BeginsWith, Reads, ReadsFrom, Spells}
 use Rattle.cif_read.specs.Meaning.{after_bytes, at_end, meaning_within, no_memory}
-use Rattle.byte_io.specs.Decimal.{decimal_value}
 use Rattle.cif_scan.proofs.ByteClasses.{letter_no_gap}
 use Rattle.cif_read.proofs.CommandGrammar.{command_again, command_takes}
 use Rattle.cif_read.proofs.CutGrammar.{command_ends, end_again, end_blank, front_at_end, front_at_spelling, front_command, front_ends}
@@ -35,9 +34,9 @@ command_read : (content next : Content) (offset : ℕ) (bytes : List ℕ) → af
     → CommandRead content offset bytes next
 unfolding after_bytes after_command
 command_read content next offset bytes e =
-    let whole = from_step (and_then (command_by decimal_value bytes) within_limits) (effect_of content) next
+    let whole = from_step (and_then (command_by bytes) within_limits) (effect_of content) next
     (from_at_offset offset _ next e) in
-    let written = from_step (command_by decimal_value bytes) within_limits whole.0 whole.1 in
+    let written = from_step (command_by bytes) within_limits whole.0 whole.1 in
     let means : and_then (within_limits written.0) (effect_of content) ≡ Ok next = rw written.2 whole.2 in
     record { command = written.0; spells = command_takes bytes written.0 written.1; means = ap (at_offset offset) means }
 

@@ -24,16 +24,16 @@ name_alone (b ∷ bs) behind = if list_all is_blank behind then Some (b ∷ bs) 
 unfoldable pub layer_of : List ℕ → Option (List ℕ)
 layer_of bytes = let rest = skip is_blank bytes in name_alone (take_while is_name_byte rest) (skip is_name_byte rest)
 
--- integer separator integer separator point {blank}, behind the `B`; `value` says what digits spell
-unfoldable pub box_of : (List ℕ → ℕ) → List ℕ → Option BoxNumbers
-box_of value bytes = do
-  length ← integer_at value bytes
+-- integer separator integer separator point {blank}, behind the `B`
+unfoldable pub box_of : List ℕ → Option BoxNumbers
+box_of bytes = do
+  length ← integer_at bytes
   width_part ← behind_separator length.1
-  width ← integer_at value width_part
+  width ← integer_at width_part
   x_part ← behind_separator width.1
-  x ← signed_at value x_part
+  x ← signed_at x_part
   y_part ← behind_separator x.1
-  y ← signed_at value y_part
+  y ← signed_at y_part
   if list_all is_blank y.1 then Some (record { length = length.0; width = width.0; x = x.0; y = y.0 }) else None
 
 -- what was read, or the fault where nothing was
@@ -46,15 +46,15 @@ abbrev pub definition_fault : List ℕ → FaultKind
 definition_fault [] = Syntax
 definition_fault (b ∷ bs) = if b == 68 then DeleteDef else Syntax
 
--- the command that bytes without their semicolon write, any number as great as it is written
-unfoldable pub command_by : (List ℕ → ℕ) → List ℕ → Result Command FaultKind
-command_by value [] = Err Syntax
-command_by value (b ∷ bs) =
+-- the command that bytes without their semicolon write
+unfoldable pub command_by : List ℕ → Result Command FaultKind
+command_by [] = Err Syntax
+command_by (b ∷ bs) =
     if b == 87 then Err Wire
     else if b == 82 then Err Flash
     else if b == 68 then Err (definition_fault (skip is_blank bs))
     else if b == 76 then read_as Layer Syntax (layer_of bs)
-    else if b == 66 then read_as Box Syntax (box_of value bs)
+    else if b == 66 then read_as Box Syntax (box_of bs)
     else Err Syntax
 
 -- a magnitude above all that a text may write

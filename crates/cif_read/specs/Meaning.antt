@@ -8,11 +8,10 @@ use Rattle.cif_read.specs.declared.content.Content.{Content}
 use Rattle.cif_read.specs.Commands.{and_then, command_by, within_limits}
 use Rattle.cif_read.specs.Content.{at_offset, effect_of, start}
 use Rattle.cif_read.specs.Cutting.{Cut, cut}
-use Rattle.byte_io.specs.Decimal.{decimal_value}
 
 -- what is meant after the bytes of the command at this offset
 unfoldable pub after_bytes : Content → ℕ → List ℕ → Result Content CifFault
-after_bytes content offset bytes = at_offset offset (and_then (and_then (command_by decimal_value bytes) within_limits) (effect_of content))
+after_bytes content offset bytes = at_offset offset (and_then (and_then (command_by bytes) within_limits) (effect_of content))
 
 -- what is meant at the end of a text
 abbrev pub at_end : Content → Option CifFault → Result CifFile CifFault

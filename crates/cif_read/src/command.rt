@@ -6,8 +6,6 @@ ghost use Rattle.cif_read.specs.Commands.{and_then, box_of, command_by, definiti
 ghost use Rattle.cif_read.specs.Commands.{is_too_big, within_limits};
 ghost use Rattle.cif_read.specs.declared.command.Command.TheVariants as CommandVariants;
 ghost use Rattle.cif_read.specs.declared.fault.FaultKind.TheVariants.{Syntax};
-ghost use Rattle.byte_io.specs.Decimal.{capped_decimal, decimal_value};
-ghost use Rattle.cif_scan.specs.declared.number.TheConstants.{MAX_MAGNITUDE};
 ghost use Rattle.cif_scan.specs.Views.{Gives};
 
 use crate::fault::FaultKind;
@@ -39,7 +37,7 @@ pub enum Command {
 /// Returns the command that the bytes without their semicolon write, or the first fault of it alone.
 #[tactic(auto, unfolding(crate::specs::Commands::command_by))]
 pub fn command_of(bytes: &[u8]) -> Result<Command, FaultKind>
-    ensures { result ≡ and_then (command_by decimal_value bytes.now) within_limits }
+    ensures { result ≡ and_then (command_by bytes.now) within_limits }
 {
     match bytes {
         [b'W', ..] => Err(FaultKind::Wire),
@@ -83,10 +81,10 @@ fn layer(bytes: &[u8]) -> Option<&[u8]>
     Some(name)
 }
 
-/// Reads the box behind a `B`. Its numbers are capped before they are tested.
-#[tactic(auto, using(crate::proofs::Caps::capped_is_enough), unfolding(crate::specs::Commands::within_limits))]
+/// Reads the box behind a `B`.
+#[tactic(auto, unfolding(crate::specs::Commands::within_limits))]
 fn box_command(bytes: &[u8]) -> Result<Command, FaultKind>
-    ensures { result ≡ and_then (read_as CommandVariants.Box Syntax (box_of decimal_value bytes.now)) within_limits }
+    ensures { result ≡ and_then (read_as CommandVariants.Box Syntax (box_of bytes.now)) within_limits }
 {
     let numbers = box_numbers(bytes).ok_or(FaultKind::Syntax)?;
     if is_too_big(numbers) {
@@ -98,7 +96,7 @@ fn box_command(bytes: &[u8]) -> Result<Command, FaultKind>
 /// Reads the numbers behind a `B`, each at most `MAX_MAGNITUDE + 1`.
 #[tactic(auto, unfolding(crate::specs::Commands::box_of))]
 fn box_numbers(bytes: &[u8]) -> Option<BoxNumbers>
-    ensures { result ≡ box_of (capped_decimal (MAX_MAGNITUDE + 1)) bytes.now }
+    ensures { result ≡ box_of bytes.now }
 {
     let (length, rest) = integer(bytes)?;
     let (width, rest) = integer(behind_separator(rest)?)?;

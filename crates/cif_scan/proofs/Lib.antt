@@ -1,5 +1,4 @@
 pub mod ByteClasses
-pub mod CapLemmas
 pub mod NumberGrammar
 pub mod Runs
 pub mod Steps

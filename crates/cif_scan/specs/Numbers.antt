@@ -5,39 +5,40 @@ use Rattle.std.specs.List.{take_while}
 use Rattle.lay_point.specs.Names.{is_digit}
 use Rattle.cif_scan.specs.declared.number.Number.{Number}
 use Rattle.cif_scan.specs.Bytes.{is_separator, skip}
+use Rattle.cif_scan.specs.Grammar.{written}
 
 -- a reader takes something from the start of the bytes, and gives what it is and what stands behind it
 infixl 10 ◌>>=◌
 abbrev pub ◌>>=◌ : {A B : Type 0} → Option A → (A → Option B) → Option B
 o >>= f = option_and_then f o
 
--- digits and what stands behind them, where there are digits; `value` says what they spell
-abbrev pub spelled_by : (List ℕ → ℕ) → List ℕ → List ℕ → Option (ℕ × List ℕ)
-spelled_by value [] behind = None
-spelled_by value (d ∷ ds) behind = Some (value (d ∷ ds), behind)
+-- digits and what stands behind them, where there are digits
+abbrev pub spelled_by : List ℕ → List ℕ → Option (ℕ × List ℕ)
+spelled_by [] behind = None
+spelled_by (d ∷ ds) behind = Some (written (d ∷ ds), behind)
 
 -- digit {digit}
-unfoldable pub digits_at : (List ℕ → ℕ) → List ℕ → Option (ℕ × List ℕ)
-digits_at value bytes = spelled_by value (take_while is_digit bytes) (skip is_digit bytes)
+unfoldable pub digits_at : List ℕ → Option (ℕ × List ℕ)
+digits_at bytes = spelled_by (take_while is_digit bytes) (skip is_digit bytes)
 
 -- {separator} digit {digit}
-unfoldable pub integer_at : (List ℕ → ℕ) → List ℕ → Option (ℕ × List ℕ)
-integer_at value bytes = digits_at value (skip is_separator bytes)
+unfoldable pub integer_at : List ℕ → Option (ℕ × List ℕ)
+integer_at bytes = digits_at (skip is_separator bytes)
 
 -- digit {digit}, the magnitude of a number with this sign
-unfoldable pub magnitude_at : Bool → (List ℕ → ℕ) → List ℕ → Option (Number × List ℕ)
-magnitude_at negative value bytes = do
-  digits ← digits_at value bytes
+unfoldable pub magnitude_at : Bool → List ℕ → Option (Number × List ℕ)
+magnitude_at negative bytes = do
+  digits ← digits_at bytes
   Some (record { negative = negative; magnitude = digits.0 }, digits.1)
 
 -- ["-"] digit {digit}
-unfoldable pub sign_at : (List ℕ → ℕ) → List ℕ → Option (Number × List ℕ)
-sign_at value [] = magnitude_at false value []
-sign_at value (b ∷ bs) = if b == 45 then magnitude_at true value bs else magnitude_at false value (b ∷ bs)
+unfoldable pub sign_at : List ℕ → Option (Number × List ℕ)
+sign_at [] = magnitude_at false []
+sign_at (b ∷ bs) = if b == 45 then magnitude_at true bs else magnitude_at false (b ∷ bs)
 
 -- {separator} ["-"] digit {digit}
-unfoldable pub signed_at : (List ℕ → ℕ) → List ℕ → Option (Number × List ℕ)
-signed_at value bytes = sign_at value (skip is_separator bytes)
+unfoldable pub signed_at : List ℕ → Option (Number × List ℕ)
+signed_at bytes = sign_at (skip is_separator bytes)
 
 -- what stands behind the one separator at the start
 unfoldable pub behind_separator : List ℕ → Option (List ℕ)

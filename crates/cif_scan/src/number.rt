@@ -1,8 +1,7 @@
 //! Numbers at the start of bytes, of any number of digits.
 //!
 //! What is read of a number is at most `MAX_MAGNITUDE + 1`, so that a greater one is known to be too big.
-ghost use Rattle.std.specs.Prelude.{◌≡◌, ◌+◌};
-ghost use Rattle.byte_io.specs.Decimal.{capped_decimal};
+ghost use Rattle.std.specs.Prelude.{◌≡◌};
 ghost use Rattle.cif_scan.specs.Numbers.{behind_separator, digits_at, integer_at, magnitude_at, signed_at};
 ghost use Rattle.cif_scan.specs.Views.{Gives};
 
@@ -26,7 +25,7 @@ pub struct Number {
 /// Reads separators, then digits. Returns the number and what stands behind it.
 #[tactic(auto, unfolding(crate::specs::Numbers::integer_at))]
 pub fn integer(bytes: &[u8]) -> Option<(u32, &[u8])>
-    ensures { Gives (λ f. (f.0, f.1.now)) result (integer_at (capped_decimal (MAX_MAGNITUDE + 1)) bytes.now) }
+    ensures { Gives (λ f. (f.0, f.1.now)) result (integer_at bytes.now) }
 {
     digits(skip(bytes, Class::Separator))
 }
@@ -34,7 +33,7 @@ pub fn integer(bytes: &[u8]) -> Option<(u32, &[u8])>
 /// Reads separators, a sign or none, then digits. Returns the number and what stands behind it.
 #[tactic(auto, unfolding(crate::specs::Numbers::sign_at, crate::specs::Numbers::signed_at))]
 pub fn signed(bytes: &[u8]) -> Option<(Number, &[u8])>
-    ensures { Gives (λ f. (f.0, f.1.now)) result (signed_at (capped_decimal (MAX_MAGNITUDE + 1)) bytes.now) }
+    ensures { Gives (λ f. (f.0, f.1.now)) result (signed_at bytes.now) }
 {
     match skip(bytes, Class::Separator) {
         [b'-', behind @ ..] => magnitude(true, behind),
@@ -56,7 +55,7 @@ pub fn behind_separator(bytes: &[u8]) -> Option<&[u8]>
 #[tactic(auto, unfolding(crate::specs::Numbers::magnitude_at))]
 fn magnitude(negative: bool, bytes: &[u8]) -> Option<(Number, &[u8])>
     ensures { Gives (λ f. (f.0, f.1.now)) result
-        (magnitude_at negative (capped_decimal (MAX_MAGNITUDE + 1)) bytes.now) }
+        (magnitude_at negative bytes.now) }
 {
     let (magnitude, behind) = digits(bytes)?;
     let number = Number {
@@ -68,7 +67,7 @@ fn magnitude(negative: bool, bytes: &[u8]) -> Option<(Number, &[u8])>
 
 #[tactic(auto, unfolding(crate::specs::Numbers::digits_at))]
 fn digits(bytes: &[u8]) -> Option<(u32, &[u8])>
-    ensures { Gives (λ f. (f.0, f.1.now)) result (digits_at (capped_decimal (MAX_MAGNITUDE + 1)) bytes.now) }
+    ensures { Gives (λ f. (f.0, f.1.now)) result (digits_at bytes.now) }
 {
     let (digits, behind) = bytes.split_at(run_len(bytes, Class::Digit));
     if digits.is_empty() {

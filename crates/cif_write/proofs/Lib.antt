@@ -1,1 +1,5 @@
-pub mod DrawnLemmas
+pub mod HeldLemmas
+pub mod IdleLemmas
+pub mod LineLemmas
+pub mod WrapLemmas
+pub mod UnusedLemmas

@@ -1,3 +1,6 @@
-pub mod Drawn
+pub mod Held
+pub mod Idle
 pub mod Lines
 pub mod Text
+pub mod Unused
+pub mod Wrap

@@ -1,15 +1,21 @@
 //! What holds of every text that is written, as calls that do nothing.
 ghost use Rattle.std.specs.Prelude.{None};
-ghost use Rattle.cif_write.specs.Drawn.{DrawsItems, EndsWithEnd, NoneIdle};
-ghost use Rattle.cif_write.specs.Text.{file_lines, wrapped};
+ghost use Rattle.cif_write.specs.Idle.{EndsWithEnd, NoneIdle};
+ghost use Rattle.cif_write.specs.Text.{file_lines};
+ghost use Rattle.cif_write.specs.Unused.{IsLeastUnused};
+ghost use Rattle.cif_write.specs.Wrap.{least_unused, written};
 
+use lay_cells::Cells;
 use lay_items::Snapshot;
 
-/// Read in order, each path on the layer that was set last in its definition, and each call as what its
-/// symbol's definition holds, the lines of the text draw the top cell's items and nothing else. No layer
-/// line is idle, and the last line is `E`.
-pub fn lines_draw_the_items(_snapshot: &Snapshot)
-    ensures draws { DrawsItems _snapshot.now }
-    ensures none_idle { NoneIdle None (file_lines (wrapped _snapshot.now)) }
+/// No layer line of the text is idle: each sets another layer than is set, and a path comes next. The last
+/// line is `E`.
+pub fn lines_are_not_idle(_snapshot: &Snapshot)
+    ensures none_idle { NoneIdle None (file_lines (written _snapshot.now)) }
     ensures end { EndsWithEnd _snapshot.now }
+{}
+
+/// The number of the wrapping symbol is positive, no symbol has it, and some symbol has each lesser one.
+pub fn the_wrapping_symbol_is_the_least_unused(_symbols: &Cells)
+    ensures { IsLeastUnused _symbols.now (least_unused _symbols.now) }
 {}

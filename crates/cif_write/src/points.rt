@@ -15,7 +15,8 @@ pub(crate) fn push_points(bytes: &mut Vec<u8>, points: &[Point]) -> Result<(), N
     Ok(())
 }
 
-fn push_point(bytes: &mut Vec<u8>, point: Point) -> Result<(), NoMemory>
+/// Appends a point's coordinates, each after a space.
+pub(crate) fn push_point(bytes: &mut Vec<u8>, point: Point) -> Result<(), NoMemory>
     ensures { OnOk result (bytes.new.items ≡ bytes.old.items ++ point_text point) }
 {
     bytes.extend_from_slice(b" ")?;

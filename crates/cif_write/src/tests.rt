@@ -1,8 +1,12 @@
 //! Tests of what no clause says: that texts are written, and that definitions mean what they should.
 
 use super::*;
+use crate::text::push_call;
+use crate::wrap::{least_unused, plain_target};
 use byte_io::{Failing, MemoryOut};
-use lay_items::Snapshot;
+use lay_cells::{CellId, Cells};
+use lay_items::{Item, Snapshot};
+use lay_point::{Point, Quarter, Turn};
 use std::alloc::Global;
 use std::test::*;
 
@@ -58,4 +62,96 @@ fn a_failing_device_has_a_prefix_of_the_text(rt: HostRuntime) {
         assert_eq!(rt; result, want, "room {room}");
         assert_eq!(rt; out.written(), written, "room {room}");
     }
+}
+
+/// Returns the turn.
+fn turn(mirror: bool, quarter: Quarter, x: i32, y: i32) -> Turn {
+    Turn {
+        mirror,
+        quarter,
+        shift: Point { x, y },
+    }
+}
+
+// Could catch a definition of a call's changes that isn't the format: their order, their letters, the direction of a quarter
+// turn, or a change that is written though there is none.
+#[test]
+fn a_call_says_what_it_changes(rt: HostRuntime) -> Result<(), Fail> {
+    let rows: [(u32, Turn, &[u8]); 6] = [
+        (1, turn(false, Quarter::R0, 0, 0), b"C 1;\n"),
+        (1, turn(true, Quarter::R0, 20, 0), b"C 1 M X T 20 0;\n"),
+        (2, turn(false, Quarter::R90, 0, 0), b"C 2 R 0 1;\n"),
+        (
+            7,
+            turn(false, Quarter::R180, 0, -5),
+            b"C 7 R -1 0 T 0 -5;\n",
+        ),
+        (
+            7,
+            turn(true, Quarter::R270, -1, 2),
+            b"C 7 M X R 0 -1 T -1 2;\n",
+        ),
+        (
+            999_999_999,
+            turn(true, Quarter::R0, 0, 0),
+            b"C 999999999 M X;\n",
+        ),
+    ];
+    for (number, turn, want) in rows {
+        let mut bytes = Vec::new(rt.alloc());
+        push_call(&mut bytes, number, turn)?;
+        assert_eq!(rt; bytes.as_slice(), want);
+    }
+    Ok(())
+}
+
+// Could catch 0 as a number for the wrapping symbol, a number that is in use, and one that isn't the least.
+#[test]
+fn the_wrapping_symbol_has_the_least_unused_number(rt: HostRuntime) -> Result<(), Fail> {
+    let rows: [(&[u32], u32); 6] = [
+        (&[], 1),
+        (&[1], 2),
+        (&[2], 1),
+        (&[0, 1], 2),
+        (&[4, 2, 1], 3),
+        (&[3, 1, 2], 4),
+    ];
+    for (numbers, want) in rows {
+        let mut cells = Cells::new(rt.alloc());
+        for number in numbers {
+            cells.add(*number)?;
+        }
+        assert_eq!(rt; least_unused(&cells), Ok(want), "{numbers:?}");
+    }
+    Ok(())
+}
+
+// Could catch a top cell that is wrapped though it is one plain call, and one that isn't though it is more.
+#[test]
+fn only_one_plain_call_is_not_wrapped(rt: HostRuntime) {
+    let plain = |target| Item::Placed {
+        cell: CellId::Top,
+        target,
+        turn: turn(false, Quarter::R0, 0, 0),
+    };
+    let turned = |turn| Item::Placed {
+        cell: CellId::Top,
+        target: 3,
+        turn,
+    };
+    assert_eq!(rt; plain_target(&[plain(3)]), Some(3));
+    assert_eq!(rt; plain_target(&[]), None);
+    assert_eq!(rt; plain_target(&[plain(3), plain(3)]), None);
+    assert_eq!(rt;
+        plain_target(&[turned(turn(true, Quarter::R0, 0, 0))]),
+        None
+    );
+    assert_eq!(rt;
+        plain_target(&[turned(turn(false, Quarter::R180, 0, 0))]),
+        None
+    );
+    assert_eq!(rt;
+        plain_target(&[turned(turn(false, Quarter::R0, 0, 1))]),
+        None
+    );
 }

@@ -1,31 +1,87 @@
 //! The text of a layout, line by line. Each call appends; after an `Err` a prefix of it may stand there.
-ghost use Rattle.std.specs.Prelude.{◌≡◌, ◌++◌, IfOk, OnOk};
+ghost use Rattle.std.specs.Prelude.{◌≡◌, [], ◌∷◌, ◌++◌, IfOk, None, OnOk, length};
 ghost use Rattle.cif_write.specs.Lines.{Call, OnLayer, Path, Start, line_text, lines_text};
-ghost use Rattle.cif_write.specs.Text.{item_lines, items_lines, layer_after, path_of, symbol_lines, text};
+ghost use Rattle.cif_write.specs.Lines.{path_text};
+ghost use Rattle.cif_write.specs.Held.{lists_of, with_numbers};
+ghost use Rattle.cif_write.specs.Text.{definition_lines, definitions_lines, item_lines, items_lines, layer_after, path_lines, text};
+ghost use Rattle.cif_write.specs.Wrap.{least_unused, plain_target, written_with};
+ghost use Rattle.lay_point.specs.Bridges.{bridged};
 
+use crate::held::held;
 use crate::points::push_points;
+use crate::turns::{push_turn, unturned};
+use crate::wrap::{least_unused, plain_target};
 use byte_io::push_unsigned;
-use lay_items::{Item, Items, Rings, Snapshot};
-use lay_point::{CellId, LayerName, NoMemory};
+use face_rings::bridge;
+use lay_cells::Cells;
+use lay_items::{Item, Rings, Snapshot};
+use lay_point::{LayerName, NoMemory, Ring, Turn};
+use std::alloc::Global;
 
 /// Appends the text of the layout. After an `Err` what the bytes hold is unspecified.
-#[tactic(auto, unfolding(crate::specs::Text::text))]
-pub fn push_text(bytes: &mut Vec<u8>, snapshot: &Snapshot) -> Result<(), NoMemory>
+pub fn push_text(alloc: Global, bytes: &mut Vec<u8>, snapshot: &Snapshot) -> Result<(), NoMemory>
     ensures { OnOk result (bytes.new.items ≡ bytes.old.items ++ text snapshot.now) }
 {
-    push_symbol(bytes, 1, snapshot.items(CellId::Top))?;
-    push_call(bytes, 1)?;
+    let cells = snapshot.cells();
+    let (lists, top) = held(alloc, snapshot)?;
+    push_definitions(alloc, bytes, cells, &lists)?;
+    let called = push_wrapping(alloc, bytes, cells, &top)?;
+    push_call(bytes, called, unturned())?;
     bytes.extend_from_slice(b"E\n")?;
     Ok(())
 }
 
-/// Appends the lines of a symbol.
-fn push_symbol(bytes: &mut Vec<u8>, number: u32, items: Items<'_>) -> Result<(), NoMemory>
+/// Appends the lines of the symbol that the top cell's items are wrapped in, unless they are one plain
+/// call. Returns the number of the symbol that the top cell is to call.
+fn push_wrapping(
+    alloc: Global,
+    bytes: &mut Vec<u8>,
+    cells: &Cells,
+    top: &Vec<Item>,
+) -> Result<u32, NoMemory>
+    ensures lines { OnOk result (bytes.new.items ≡ bytes.old.items ++ lines_text (definitions_lines
+        (written_with [] top.now.items (least_unused cells.now) (plain_target top.now.items)).definitions)) }
+    ensures called { IfOk result (λ called. called
+        ≡ (written_with [] top.now.items (least_unused cells.now) (plain_target top.now.items)).called) }
+{
+    if let Some(target) = plain_target(top) {
+        return Ok(target);
+    }
+    let unused = least_unused(cells)?;
+    push_definition(alloc, bytes, unused, top)?;
+    Ok(unused)
+}
+
+/// Appends the lines of the symbols, of each the items in its list.
+fn push_definitions(
+    alloc: Global,
+    bytes: &mut Vec<u8>,
+    cells: &Cells,
+    lists: &Vec<Vec<Item>>,
+) -> Result<(), NoMemory>
+    requires { length lists.now.items ≡ length cells.now }
     ensures { OnOk result (bytes.new.items ≡ bytes.old.items
-        ++ lines_text (symbol_lines (record { number = number; items = items.entry }))) }
+        ++ lines_text (definitions_lines (with_numbers cells.now (lists_of lists.now.items)))) }
+{
+    for position in 0..cells.len() {
+        let number = cells.at(position).unwrap();
+        push_definition(alloc, bytes, number, &lists[position])?;
+    }
+    Ok(())
+}
+
+/// Appends the lines of a symbol.
+fn push_definition(
+    alloc: Global,
+    bytes: &mut Vec<u8>,
+    number: u32,
+    items: &Vec<Item>,
+) -> Result<(), NoMemory>
+    ensures { OnOk result (bytes.new.items ≡ bytes.old.items
+        ++ lines_text (definition_lines (record { number = number; items = items.now.items }))) }
 {
     push_start(bytes, number)?;
-    push_items(bytes, items)?;
+    push_items(alloc, bytes, items)?;
     bytes.extend_from_slice(b"DF;\n")?;
     Ok(())
 }
@@ -41,12 +97,12 @@ fn push_start(bytes: &mut Vec<u8>, number: u32) -> Result<(), NoMemory>
 }
 
 /// Appends the lines of a symbol's items.
-fn push_items(bytes: &mut Vec<u8>, items: Items<'_>) -> Result<(), NoMemory>
-    ensures { OnOk result (bytes.new.items ≡ bytes.old.items ++ lines_text (items_lines None items.entry)) }
+fn push_items(alloc: Global, bytes: &mut Vec<u8>, items: &[Item]) -> Result<(), NoMemory>
+    ensures { OnOk result (bytes.new.items ≡ bytes.old.items ++ lines_text (items_lines None items.now)) }
 {
     let mut set = None;
-    for (_, item) in items {
-        set = push_item(bytes, set, item)?;
+    for item in items {
+        set = push_item(alloc, bytes, set, item)?;
     }
     Ok(())
 }
@@ -54,6 +110,7 @@ fn push_items(bytes: &mut Vec<u8>, items: Items<'_>) -> Result<(), NoMemory>
 /// Appends the lines of an item, where `set` is the layer that is set. Returns the layer that is set
 /// after it.
 fn push_item(
+    alloc: Global,
     bytes: &mut Vec<u8>,
     set: Option<LayerName>,
     item: &Item,
@@ -64,13 +121,31 @@ fn push_item(
 {
     match item {
         Item::Shape { layer, rings, .. } => {
-            if set != Some(*layer) {
-                push_layer(bytes, *layer)?;
-            }
-            push_path(bytes, rings)?;
+            push_shape(alloc, bytes, set, *layer, rings)?;
             Ok(Some(*layer))
         }
+        Item::Placed { target, turn, .. } => {
+            push_call(bytes, *target, *turn)?;
+            Ok(set)
+        }
     }
+}
+
+/// Appends the lines of a shape, where `set` is the layer that is set.
+fn push_shape(
+    alloc: Global,
+    bytes: &mut Vec<u8>,
+    set: Option<LayerName>,
+    layer: LayerName,
+    rings: &Rings,
+) -> Result<(), NoMemory>
+    ensures { OnOk result (bytes.new.items ≡ bytes.old.items
+        ++ lines_text (path_lines set layer (bridged rings.now))) }
+{
+    if set != Some(layer) {
+        push_layer(bytes, layer)?;
+    }
+    push_path(alloc, bytes, rings)
 }
 
 /// Appends the line that sets a layer.
@@ -84,23 +159,32 @@ fn push_layer(bytes: &mut Vec<u8>, layer: LayerName) -> Result<(), NoMemory>
 }
 
 /// Appends the line that draws the one path of a shape's rings.
-fn push_path(bytes: &mut Vec<u8>, rings: &Rings) -> Result<(), NoMemory>
-    ensures { OnOk result (bytes.new.items ≡ bytes.old.items ++ line_text (Path (path_of rings.now))) }
+fn push_path(alloc: Global, bytes: &mut Vec<u8>, rings: &Rings) -> Result<(), NoMemory>
+    ensures { OnOk result (bytes.new.items ≡ bytes.old.items ++ line_text (Path (bridged rings.now))) }
 {
     bytes.extend_from_slice(b"P")?;
-    if let Some(ring) = rings.as_slice().first() {
-        push_points(bytes, ring.points())?;
+    match rings.as_slice() {
+        [ring] => push_ring(bytes, ring)?,
+        several => push_points(bytes, &bridge(alloc, several)?)?,
     }
     bytes.extend_from_slice(b";\n")?;
     Ok(())
 }
 
-/// Appends the line that calls a symbol, neither moved nor turned.
-fn push_call(bytes: &mut Vec<u8>, number: u32) -> Result<(), NoMemory>
-    ensures { OnOk result (bytes.new.items ≡ bytes.old.items ++ line_text (Call number)) }
+/// Appends the points of the one path of a shape of one ring: those of the ring.
+fn push_ring(bytes: &mut Vec<u8>, ring: &Ring) -> Result<(), NoMemory>
+    ensures { OnOk result (bytes.new.items ≡ bytes.old.items ++ path_text (bridged (ring.now ∷ []))) }
+{
+    push_points(bytes, ring.points())
+}
+
+/// Appends the line that calls a symbol.
+pub(crate) fn push_call(bytes: &mut Vec<u8>, number: u32, turn: Turn) -> Result<(), NoMemory>
+    ensures { OnOk result (bytes.new.items ≡ bytes.old.items ++ line_text (Call number turn)) }
 {
     bytes.extend_from_slice(b"C ")?;
     push_unsigned(bytes, u64::from(number))?;
+    push_turn(bytes, turn)?;
     bytes.extend_from_slice(b";\n")?;
     Ok(())
 }

@@ -48,6 +48,6 @@ pub fn write<O: Out>(alloc: Global, snapshot: &Snapshot, out: &mut O) -> Result<
     ensures no_memory { IsErrOf result WriteFault.NoMemory → out.new ≡ out.old }
 {
     let mut bytes = Vec::new(alloc);
-    push_text(&mut bytes, snapshot)?;
+    push_text(alloc, &mut bytes, snapshot)?;
     Ok(put_all(out, &bytes)?)
 }

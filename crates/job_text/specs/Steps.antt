@@ -1,7 +1,7 @@
 -- Step lines: a word that names the step, and the words that it takes.
 use Rattle.std.specs.Prelude.{ℕ, List, codes, if◌then◌else◌, Option, None, Some, option_map, ℤ}
 use Rattle.std.specs.Str.{bytes_eq}
-use Rattle.lay_point.specs.declared.cell_id.CellId.{CellId}
+use Rattle.lay_cells.specs.declared.cell_id.CellId.{CellId}
 use Rattle.lay_point.specs.declared.point.Point.{Point}
 use Rattle.lay_point.specs.Names.{layer_name_of}
 use Rattle.txn_work.specs.declared.command.Command.TheVariants.{Box}

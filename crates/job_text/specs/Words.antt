@@ -3,8 +3,9 @@ use Rattle.std.specs.Prelude.{ℕ, ◌+◌, List, codes, drop, length, take, sli
 use Rattle.std.specs.Prelude.{nat_lt, if◌then◌else◌, Option, None, Some, option_and_then, option_map, unwrap_or, ℤ, pos, neg_ℤ}
 use Rattle.std.specs.List.{list_all, position}
 use Rattle.std.specs.Str.{bytes_eq}
-use Rattle.lay_point.specs.declared.cell_id.CellId.{CellId}
-use Rattle.lay_point.specs.declared.cell_id.CellId.TheVariants.{Top, Symbol}
+use Rattle.lay_cells.specs.declared.cell_id.CellId.{CellId}
+use Rattle.lay_cells.specs.declared.cell_id.CellId.TheVariants.{Top, Symbol}
+use Rattle.lay_cells.specs.declared.cells.TheConstants.{MAX_SYMBOL}
 use Rattle.lay_point.specs.Names.{is_digit}
 use Rattle.byte_io.specs.Decimal.{decimal_value}
 use Rattle.txn_work.specs.declared.command.TxnId.{TxnId}
@@ -60,9 +61,9 @@ coordinate_of bytes =
     if is_negative bytes then option_map (λ n. neg_ℤ (pos n)) (number_of 2147483648 (drop 1 bytes)) else option_map pos
     (number_of 2147483647 bytes)
 
--- a cell: `top`, or a symbol's number up to 999,999,999
+-- a cell: `top`, or a symbol's number up to `MAX_SYMBOL`
 unfoldable pub cell_of : List ℕ → Option CellId
-cell_of bytes = if bytes_eq bytes (codes "top") then Some Top else option_map Symbol (number_of 999999999 bytes)
+cell_of bytes = if bytes_eq bytes (codes "top") then Some Top else option_map Symbol (number_of MAX_SYMBOL bytes)
 
 -- the numbers before and behind the first dot: a session up to 64, and one of its transactions up to 65,535
 unfoldable pub txn_of : List ℕ → Option TxnId

@@ -3,7 +3,8 @@ ghost use Rattle.std.specs.Prelude.{◌≡◌, option_map};
 ghost use Rattle.job_text.specs.Steps.{box_of, cell_at, coordinate_at, ended, point_at, step_of_line, undo_of};
 
 use crate::words::{cell_of, coordinate_of, is_blank, split_word, txn_of};
-use lay_point::{CellId, LayerName, Point};
+use lay_cells::CellId;
+use lay_point::{LayerName, Point};
 use session_core::Step;
 use txn_work::Command;
 

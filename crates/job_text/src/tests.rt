@@ -2,8 +2,9 @@
 
 use super::*;
 use byte_io::{Failing, MemoryOut};
+use lay_cells::CellId;
 use lay_items::ItemId;
-use lay_point::{CellId, LayerName, Point};
+use lay_point::{LayerName, Point};
 use session_core::{Reply, Step, StepFault};
 use std::alloc::{AllocError, Global};
 use std::test::*;

@@ -6,12 +6,9 @@ ghost use Rattle.job_text.specs.Words.{behind_word, cell_of, coordinate_of, from
 
 use crate::lines::place_of;
 use byte_io::capped_decimal;
-use lay_point::CellId;
+use lay_cells::{CellId, MAX_SYMBOL};
 use txn_work::TxnId;
 use undo_book::MAX_TRANSACTIONS;
-
-/// The greatest number of a symbol.
-const MAX_SYMBOL: u32 = 999_999_999;
 
 /// The greatest number of a session.
 pub(crate) const MAX_SESSION: u32 = 64;

@@ -1,16 +1,17 @@
 -- Items, and the items of a cell.
 use Rattle.std.specs.Prelude.{List, filter}
 use Rattle.std.specs.FinMap as map
-use Rattle.lay_point.specs.declared.cell_id.CellId.{CellId}
-use Rattle.lay_point.specs.Same.{cell_eq}
+use Rattle.lay_cells.specs.declared.cell_id.CellId.{CellId}
+use Rattle.lay_cells.specs.SameCell.{cell_eq}
 use Rattle.lay_items.specs.declared.id.ItemId.{ItemId}
 use Rattle.lay_items.specs.declared.item.Item.{Item}
-use Rattle.lay_items.specs.declared.item.Item.TheVariants.{Shape}
+use Rattle.lay_items.specs.declared.item.Item.TheVariants.{Placed, Shape}
 use Rattle.lay_items.specs.Layout.{Layout}
 
 -- the cell in which an item stands
 abbrev pub cell_of : Item → CellId
 cell_of (Shape cell layer rings) = cell
+cell_of (Placed cell target turn) = cell
 
 -- those that stand in the cell
 abbrev pub standing_in : CellId → List (ItemId × Item) → List (ItemId × Item)

@@ -1,10 +1,13 @@
+pub mod Calls
 pub mod FromCif
 pub mod IdOrder
 pub mod IdText
 pub mod Ids
 pub mod Items
 pub mod Layout
+pub mod LayoutWith
 pub mod Same
 pub mod SameLayout
 pub mod SameMap
+pub mod SlotOrder
 pub mod Sound

@@ -9,9 +9,11 @@ use Rattle.std.proofs.Common.{ap}
 use Rattle.std.proofs.lemmas.Bool.Decides.{Decides-and, Decides-eqb, Decides-like}
 use Rattle.std.proofs.lemmas.Slice.Eq.{bytes_eq-Decides, slice_eq-Decides}
 use Rattle.lay_point.specs.declared.point.Point.{Point}
-use Rattle.lay_point.specs.Same.{cell_eq, cell_eq-Decides, names_eq, points_eq, points_eq-Decides}
+use Rattle.lay_cells.specs.SameCell.{cell_eq, cell_eq-Decides}
+use Rattle.lay_point.specs.Same.{names_eq, points_eq, points_eq-Decides}
+use Rattle.lay_point.specs.SameTurn.{turn_eq, turn_eq-Decides}
 use Rattle.lay_items.specs.declared.item.Item.{Item}
-use Rattle.lay_items.specs.declared.item.Item.TheVariants.{Shape}
+use Rattle.lay_items.specs.declared.item.Item.TheVariants.{Placed, Shape}
 use Rattle.lay_items.specs.declared.version.CellSlot.{CellSlot}
 use Rattle.lay_items.specs.declared.version.CellSlot.TheVariants.{Base, Made}
 use Rattle.lay_items.specs.SameMap.{map_eq, map_eq-Decides}
@@ -32,11 +34,19 @@ rings_eq_partial = partial_equiv_from_equiv rings_eq_equiv
 -- the same item
 abbrev pub item_eq : Item → Item → Bool
 item_eq (Shape c l r) (Shape d m s) = cell_eq c d && (names_eq l m && rings_eq r s)
+item_eq (Shape c l r) (Placed d t v) = false
+item_eq (Placed c t v) (Shape d m s) = false
+item_eq (Placed c t v) (Placed d u w) = cell_eq c d && ((t == u) && turn_eq v w)
 
 pub item_eq-Decides : (x y : Item) → Decides (item_eq x y) (x ≡ y)
 item_eq-Decides (Shape c l r) (Shape d m s) =
     Decides-like (item_eq (Shape c l r) (Shape d m s)) (λ all. λ i. Shape (all.0 i) (all.1.0 i) (all.1.1 i)) (λ e. ((cc), ((cc), (cc))))
     (Decides-and _ _ (cell_eq-Decides c d) (Decides-and _ _ (bytes_eq-Decides l m) (rings_eq-Decides r s)))
+item_eq-Decides (Shape c l r) (Placed d t v) = (λ e. cc, λ e. cc)
+item_eq-Decides (Placed c t v) (Shape d m s) = (λ e. cc, λ e. cc)
+item_eq-Decides (Placed c t v) (Placed d u w) =
+    Decides-like (item_eq (Placed c t v) (Placed d u w)) (λ all. λ i. Placed (all.0 i) (all.1.0 i) (all.1.1 i)) (λ e. ((cc), ((cc), (cc))))
+    (Decides-and _ _ (cell_eq-Decides c d) (Decides-and _ _ (Decides-eqb t u) (turn_eq-Decides v w)))
 
 -- the same item, or none in both
 abbrev pub option_item_eq : Option Item → Option Item → Bool

@@ -3,7 +3,8 @@ ghost use Rattle.std.specs.Prelude.{◌≡◌, IfOk, Ok};
 ghost use Rattle.lay_point.specs.Memory.{IsAnswer};
 ghost use Rattle.lay_items.specs.Items.{cell_of};
 
-use lay_point::{CellId, LayerName, NoMemory, Ring};
+use lay_cells::CellId;
+use lay_point::{LayerName, NoMemory, Ring, Turn};
 use std::alloc::{AllocError, Global};
 use std::marker::Model;
 use std::sync::Arc;
@@ -80,6 +81,15 @@ pub enum Item {
         /// Its rings, read together.
         rings: Rings,
     },
+    /// A call of a symbol: what that holds stands here too, turned.
+    Placed {
+        /// The cell in which it stands.
+        cell: CellId,
+        /// The number of the symbol that it calls.
+        target: u32,
+        /// What is done to all points of the symbol.
+        turn: Turn,
+    },
 }
 
 impl Item {
@@ -89,6 +99,7 @@ impl Item {
     {
         match self {
             Item::Shape { cell, .. } => *cell,
+            Item::Placed { cell: caller, .. } => *caller,
         }
     }
 
@@ -109,6 +120,15 @@ impl Clone for Item {
                 cell: *cell,
                 layer: *layer,
                 rings: rings.share()?,
+            }),
+            Item::Placed {
+                cell: caller,
+                target,
+                turn,
+            } => Ok(Item::Placed {
+                cell: *caller,
+                target: *target,
+                turn: *turn,
             }),
         }
     }

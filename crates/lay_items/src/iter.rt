@@ -3,7 +3,7 @@ ghost use Rattle.std.specs.Prelude.{◌≡◌};
 
 use crate::id::ItemId;
 use crate::item::Item;
-use lay_point::CellId;
+use lay_cells::CellId;
 use std::collections::btree_map;
 use std::marker::Model;
 

@@ -1,10 +1,12 @@
 //! Items of a layout, versions of a layout, and snapshots that lend what they hold.
 //!
 //! A `Version` is a layout: a finite map from item ids to items, and one from symbol numbers to
-//! slots, which is empty as yet. Contracts see it as the record `Layout` of `specs/Layout.antt`,
-//! however it is kept. A `Snapshot` owns a shared version and keeps in its type that the layout is
-//! sound: it has no symbols as yet, each item stands in a cell that is there, and each shape is drawn
-//! by a ring. What it lends is of the layout as it was when the snapshot was taken, whatever came
+//! slots. Contracts see it as the record `Layout` of `specs/Layout.antt`, however it is kept. It also
+//! keeps in its type the symbols' numbers in the order of their slots. A `Snapshot` owns a shared version
+//! and keeps in its type that the layout is sound: symbols have numbers within the limit and places of
+//! their own; each item stands in a cell that is there; each shape is drawn by rings, with a bridged path
+//! no longer than a ring; each call is of a symbol that is there, with a shift in range; and no symbol
+//! contains itself. What it lends is of the layout as it was when the snapshot was taken, whatever came
 //! after.
 //!
 //! ```text
@@ -13,9 +15,11 @@
 //! ```
 #![tactic(auto)]
 
+mod from_cif;
 mod id;
 mod item;
 mod iter;
+mod parts;
 mod snapshot;
 #[cfg(test)]
 mod tests;

@@ -1,17 +1,21 @@
 //! Snapshots: shared, sound layouts that lend what they hold.
 ghost use Rattle.std.specs.Prelude.{◌≡◌, Ok, option_copied};
+ghost use Rattle.std.specs.FinMap as map;
 ghost use Rattle.lay_point.specs.Memory.{IsAnswer};
 ghost use Rattle.lay_items.specs.FromCif.{layout_of};
 ghost use Rattle.lay_items.specs.Items.{items_in};
 ghost use Rattle.lay_items.specs.Layout.{item_at};
+ghost use Rattle.lay_items.specs.SlotOrder.{in_slot_order};
 ghost use Rattle.lay_items.specs.Sound.{IsSound};
 
+use crate::from_cif::top_items;
 use crate::id::ItemId;
 use crate::item::Item;
 use crate::iter::Items;
-use crate::version::{Version, version_of};
+use crate::version::{CellSlot, Version};
 use cif_read::CifFile;
-use lay_point::{CellId, NoMemory};
+use lay_cells::{CellId, Cells};
+use lay_point::NoMemory;
 use std::alloc::Global;
 use std::marker::Model;
 use std::sync::Arc;
@@ -41,7 +45,8 @@ impl Snapshot {
     pub fn from_cif(alloc: Global, file: CifFile) -> Result<Snapshot, NoMemory>
         ensures { IsAnswer (record {}) result (Ok (layout_of file.top)) }
     {
-        let version = version_of(alloc, file.top.into_vec())?;
+        let items = top_items(alloc, file.top.into_vec())?;
+        let version = Version::of_parts(alloc, &Cells::new(alloc), items)?;
         Snapshot::of(alloc, version)
     }
 
@@ -75,6 +80,21 @@ impl Snapshot {
         ensures { option_copied result ≡ item_at self.now id }
     {
         self.version().item(id)
+    }
+
+    /// Returns the symbols' numbers in the order of their slots: those of a text by their places, then those
+    /// that transactions made, by number.
+    pub fn cells(&self) -> &Cells
+        ensures { result.now ≡ in_slot_order self.now.symbols }
+    {
+        self.version().cells()
+    }
+
+    /// Returns the slot of the symbol of this number, where there is one.
+    pub fn slot(&self, number: u32) -> Option<CellSlot>
+        ensures { result ≡ map.get self.now.symbols number }
+    {
+        self.version().slot(number)
     }
 
     /// Lends the items of a cell, in order of their ids.

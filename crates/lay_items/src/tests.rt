@@ -2,7 +2,8 @@
 ghost use Rattle.std.specs.Prelude.{◌≡◌};
 
 use super::*;
-use lay_point::{CellId, LayerName, Point, Ring};
+use lay_cells::{CellId, Cells};
+use lay_point::{LayerName, Point, Quarter, Ring, Turn};
 use std::alloc::Global;
 use std::test::*;
 
@@ -123,5 +124,100 @@ fn a_copy_is_equal(rt: HostRuntime) -> Result<(), Fail> {
     let item = square(alloc, CellId::Top, b"A", 1)?;
     assert!(rt; item.copy(alloc)? == item && item.cell() == CellId::Top);
     assert!(rt; item != square(alloc, CellId::Top, b"A", 2)?);
+    Ok(())
+}
+
+/// Returns a call that stands in the cell.
+fn call(cell: CellId, target: u32, turn: Turn) -> Item {
+    Item::Placed { cell, target, turn }
+}
+
+// Could catch symbols that stand by number and not in the order of the text, and items that are numbered
+// across cells otherwise, in the definition and the code alike, and calls that never succeed.
+#[test]
+fn a_layout_of_parts_has_them_in_order(rt: HostRuntime) -> Result<(), Fail> {
+    let alloc = rt.alloc();
+    let mut symbols = Cells::new(alloc);
+    for number in [9, 2] {
+        symbols.add(number)?;
+    }
+    let turn = Turn {
+        mirror: true,
+        quarter: Quarter::R90,
+        shift: Point { x: 1, y: -1 },
+    };
+    let (nine, two) = (CellId::Symbol(9), CellId::Symbol(2));
+    let mut items = Vec::new(alloc);
+    items.push(square(alloc, nine, b"A", 1)?)?;
+    items.push(call(two, 9, turn))?;
+    let parts = Version::of_parts(alloc, &symbols, items)?;
+    let cells = parts.cells();
+    assert_eq!(rt;
+        (cells.at(0), cells.at(1), cells.at(2)),
+        (Some(9), Some(2), None)
+    );
+    for (number, slot) in [
+        (9, Some(CellSlot::Base(1))),
+        (2, Some(CellSlot::Base(2))),
+        (1, None),
+    ] {
+        assert_eq!(rt; parts.slot(number), slot, "{number}");
+    }
+    assert!(rt; parts.is_cell(nine) && parts.is_cell(two) && !parts.is_cell(CellId::Symbol(1)));
+    assert!(rt; parts.item(id(1)) == Some(&square(alloc, nine, b"A", 1)?));
+    assert!(rt; parts.item(id(2)) == Some(&call(two, 9, turn)) && parts.item(id(3)).is_none());
+    let after = parts.with(alloc, &[(id(1), None)])?;
+    assert_eq!(rt;
+        (after.cells().at(0), after.slot(2)),
+        (Some(9), Some(CellSlot::Base(2)))
+    );
+    let text = snapshot(alloc, b"E")?;
+    assert_eq!(rt; (text.cells().len(), text.slot(1)), (0, None));
+    Ok(())
+}
+
+// Could catch copies of calls that fail though there is memory, and calls that are equal though they differ.
+#[test]
+fn a_copied_call_is_equal(rt: HostRuntime) -> Result<(), Fail> {
+    let alloc = rt.alloc();
+    let turn = Turn {
+        mirror: false,
+        quarter: Quarter::R270,
+        shift: Point { x: 3, y: 4 },
+    };
+    let item = call(CellId::Symbol(5), 7, turn);
+    assert!(rt; item.copy(alloc)? == item && item.cell() == CellId::Symbol(5));
+    let others = [
+        call(CellId::Top, 7, turn),
+        call(CellId::Symbol(5), 8, turn),
+        call(
+            CellId::Symbol(5),
+            7,
+            Turn {
+                mirror: true,
+                ..turn
+            },
+        ),
+        call(
+            CellId::Symbol(5),
+            7,
+            Turn {
+                quarter: Quarter::R90,
+                ..turn
+            },
+        ),
+        call(
+            CellId::Symbol(5),
+            7,
+            Turn {
+                shift: Point { x: 4, y: 4 },
+                ..turn
+            },
+        ),
+        square(alloc, CellId::Symbol(5), b"A", 1)?,
+    ];
+    for other in &others {
+        assert!(rt; *other != item, "{other:?}");
+    }
     Ok(())
 }

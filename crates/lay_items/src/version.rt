@@ -1,17 +1,19 @@
-//! Versions of a layout, kept as two ordered maps.
+//! Versions of a layout, kept as two ordered maps and a list of the symbols.
 ghost use Rattle.std.specs.Prelude.{◌≡◌, IfOk, OnOk, Ok, option_copied};
 ghost use Rattle.std.specs.FinMap as map;
 ghost use Rattle.lay_point.specs.Memory.{IsAnswer};
-ghost use Rattle.lay_items.specs.FromCif.{item_of, layout_of};
 ghost use Rattle.lay_items.specs.Layout.{IsRising, is_cell, item_at, items_of, no_items};
 ghost use Rattle.lay_items.specs.Layout.{put, put_all, written};
+ghost use Rattle.lay_items.specs.LayoutWith.{layout_with};
 ghost use Rattle.lay_items.specs.Same.{symbols_eq};
 ghost use Rattle.lay_items.specs.SameMap.{map_eq};
+ghost use Rattle.lay_items.specs.SlotOrder.{in_slot_order};
 
 use crate::id::ItemId;
-use crate::item::{Item, Rings};
-use cif_read::{Element, Figure};
-use lay_point::{CellId, NoMemory};
+use crate::item::Item;
+use crate::parts::{base_symbols, text_items};
+use lay_cells::{CellId, Cells};
+use lay_point::NoMemory;
 use std::alloc::Global;
 use std::collections::{BTreeMap, btree_map};
 use std::marker::Model;
@@ -29,6 +31,8 @@ pub enum CellSlot {
 #[derive(Drop)]
 pub struct Version {
     symbols: BTreeMap<u32, CellSlot>,
+    /// The symbols' numbers in the order of their slots.
+    cells: Cells,
     items: BTreeMap<ItemId, Item>,
 }
 
@@ -43,6 +47,11 @@ impl Model for Version {
       symbols = symbols_of v.symbols.entries;
       items = items_of v.items.entries;
     } };
+
+    ghost use Rattle.std.specs.Prelude.{◌≡◌};
+    ghost use Rattle.lay_items.specs.SlotOrder.{in_slot_order};
+
+    ghost invariant = { λ v. v.cells ≡ in_slot_order (symbols_of v.symbols.entries) };
 }
 
 impl Version {
@@ -52,8 +61,24 @@ impl Version {
     {
         Version {
             symbols: BTreeMap::new(alloc),
+            cells: Cells::new(alloc),
             items: BTreeMap::new(alloc),
         }
+    }
+
+    /// Returns the layout of these symbols, in this order, and of these items, of which the q-th has the id
+    /// 0.0.q. Where there are more symbols or items than a `u32` counts, that is out of memory.
+    pub fn of_parts(alloc: Global, symbols: &Cells, items: Vec<Item>) -> Result<Version, NoMemory>
+        ensures { IsAnswer (record {}) result (Ok (layout_with symbols.now items.items)) }
+    {
+        let base = base_symbols(alloc, symbols)?;
+        let cells = symbols.clone()?;
+        let items = text_items(alloc, items)?;
+        Ok(Version {
+            symbols: base,
+            cells,
+            items,
+        })
     }
 
     /// Returns the item of this id.
@@ -73,6 +98,21 @@ impl Version {
         }
     }
 
+    /// Returns the symbols' numbers in the order of their slots: those of a text by their places, then those
+    /// that transactions made, by number.
+    pub fn cells(&self) -> &Cells
+        ensures { result.now ≡ in_slot_order self.now.symbols }
+    {
+        &self.cells
+    }
+
+    /// Returns the slot of the symbol of this number, where there is one.
+    pub fn slot(&self, number: u32) -> Option<CellSlot>
+        ensures { result ≡ map.get self.now.symbols number }
+    {
+        self.symbols.get(&number).copied()
+    }
+
     /// Returns whether another layout has the same symbols in the same slots.
     pub fn has_symbols_of(&self, other: &Version) -> bool
         ensures { result ≡ symbols_eq self.now.symbols other.now.symbols }
@@ -81,7 +121,7 @@ impl Version {
     }
 
     /// Returns the ids and the items, in order of the ids.
-    pub(crate) fn iter(&self) -> btree_map::Iter<'_, ItemId, Item>
+    pub fn iter(&self) -> btree_map::Iter<'_, ItemId, Item>
         ensures { result ≡ map.entries self.now.items }
     {
         self.items.iter()
@@ -99,7 +139,12 @@ impl Version {
     {
         let items = put_all(&self.items, writes)?;
         let symbols = self.symbols.clone()?;
-        Ok(Version { symbols, items })
+        let cells = self.cells.clone()?;
+        Ok(Version {
+            symbols,
+            cells,
+            items,
+        })
     }
 }
 
@@ -129,40 +174,6 @@ fn are_same<K: Ord, V: PartialEq>(entries: &BTreeMap<K, V>, others: &BTreeMap<K,
     entries.len() == others.len() && entries == others
 }
 
-/// Returns the version of a text's elements.
-pub(crate) fn version_of(alloc: Global, elements: Vec<Element>) -> Result<Version, NoMemory>
-    ensures { IfOk result (λ version. version ≡ layout_of elements.items) }
-{
-    let mut items = BTreeMap::new(alloc);
-    for element in elements {
-        let id = ItemId {
-            session: 0,
-            txn: 0,
-            seq: element.number,
-        };
-        insert(&mut items, id, item_of(alloc, element.figure)?)?;
-    }
-    let symbols = BTreeMap::new(alloc);
-    Ok(Version { symbols, items })
-}
-
-/// Returns a figure of the top cell as an item.
-fn item_of(alloc: Global, figure: Figure) -> Result<Item, NoMemory>
-    ensures { IfOk result (λ item. item ≡ item_of figure) }
-{
-    match figure {
-        Figure::Polygon { layer, ring } => {
-            let mut rings = Vec::with_capacity(alloc, 1)?;
-            rings.push(ring)?;
-            Ok(Item::Shape {
-                cell: CellId::Top,
-                layer,
-                rings: Rings::new(alloc, rings)?,
-            })
-        }
-    }
-}
-
 /// Returns a copy of the items after these writes.
 fn put_all(
     items: &BTreeMap<ItemId, Item>,
@@ -184,7 +195,7 @@ fn put(items: &mut BTreeMap<ItemId, Item>, id: ItemId, item: &Option<Item>) -> R
         (items_of items.new.entries ≡ put (items_of items.old.entries) id item.now) }
 {
     match item {
-        Some(item) => insert(items, id, item.clone()?),
+        Some(item) => insert_item(items, id, item.clone()?),
         None => {
             items.remove(&id);
             Ok(())
@@ -192,7 +203,12 @@ fn put(items: &mut BTreeMap<ItemId, Item>, id: ItemId, item: &Option<Item>) -> R
     }
 }
 
-fn insert(items: &mut BTreeMap<ItemId, Item>, id: ItemId, item: Item) -> Result<(), NoMemory>
+/// Inserts the item under the id.
+pub(crate) fn insert_item(
+    items: &mut BTreeMap<ItemId, Item>,
+    id: ItemId,
+    item: Item,
+) -> Result<(), NoMemory>
     ensures { OnOk result
         (items_of items.new.entries ≡ map.insert (items_of items.old.entries) id item) }
 {

@@ -2,8 +2,9 @@
 
 use super::*;
 use cif_read::read;
+use lay_cells::CellId;
 use lay_items::{ItemId, Snapshot};
-use lay_point::{CellId, LayerName, Point};
+use lay_point::{LayerName, Point};
 use std::alloc::Global;
 use std::test::*;
 

@@ -6,8 +6,8 @@ use Rattle.std.specs.Cmp.{eq_by_cmp_equiv}
 use Rattle.std.specs.FinSet.{contains, contains-insert, insert}
 use Rattle.std.specs.FinMap.{FinMap, get-insert}
 use Rattle.std.specs.Ordering.{eq_by_cmp, nat_cmp}
-use Rattle.lay_point.specs.declared.cell_id.CellId.{CellId}
-use Rattle.lay_point.specs.declared.cell_id.CellId.TheVariants.{Top, Symbol}
+use Rattle.lay_cells.specs.declared.cell_id.CellId.{CellId}
+use Rattle.lay_cells.specs.declared.cell_id.CellId.TheVariants.{Top, Symbol}
 use Rattle.lay_point.specs.declared.point.Point.{Point}
 use Rattle.lay_items.specs.declared.id.ItemId.{ItemId}
 use Rattle.lay_items.specs.declared.item.Item as items

@@ -6,8 +6,9 @@ ghost use Rattle.txn_work.specs.Effects.{box_fault, box_ring, lower_left, shape_
 ghost use Rattle.txn_work.specs.Transactions.{ring_unless};
 
 use crate::CmdFault;
+use lay_cells::CellId;
 use lay_items::{Item, Rings, Version};
-use lay_point::{CellId, LayerName, NoMemory, Point, Ring};
+use lay_point::{LayerName, NoMemory, Point, Ring};
 use std::alloc::Global;
 
 /// The ring of a box with these opposite corners, or why it can't be drawn.

@@ -3,8 +3,9 @@ ghost use Rattle.std.specs.Prelude.{◌≡◌, Ok};
 ghost use Rattle.lay_point.specs.Memory.{IsAnswer};
 ghost use Rattle.txn_work.specs.Refusals.{command_code};
 
+use lay_cells::CellId;
 use lay_items::ItemId;
-use lay_point::{CellId, LayerName, NoMemory, Point};
+use lay_point::{LayerName, NoMemory, Point};
 use std::alloc::Global;
 use std::fmt;
 use thiserror::Error;

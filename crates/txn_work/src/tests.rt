@@ -1,8 +1,9 @@
 //! Tests of what no clause says: that calls succeed, and that definitions mean what they should.
 
 use super::*;
+use lay_cells::CellId;
 use lay_items::{Item, ItemId, Rings, Snapshot};
-use lay_point::{CellId, LayerName, Point, Ring};
+use lay_point::{LayerName, Point, Ring};
 use std::alloc::Global;
 use std::test::*;
 

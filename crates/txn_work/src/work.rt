@@ -12,8 +12,9 @@ ghost use Rattle.txn_work.specs.Transactions.{find_record, item_by, recorded};
 use crate::box_shape::{box_ring, shape};
 use crate::record::copied;
 use crate::{CmdFault, Command, Done, Element, Footprint, Record, TxnId};
+use lay_cells::CellId;
 use lay_items::{Item, ItemId, Snapshot};
-use lay_point::{CellId, LayerName, NoMemory, Point, Sequence};
+use lay_point::{LayerName, NoMemory, Point, Sequence};
 use std::alloc::Global;
 use std::marker::Model;
 

@@ -35,7 +35,7 @@ fn finished_text(alloc: Global, finished: &Finished) -> Result<Vec<u8>, NoMemory
         finished.replies.as_slice(),
         finished.order.as_slice(),
     )?;
-    push_text(&mut bytes, &finished.layout)?;
+    push_text(alloc, &mut bytes, &finished.layout)?;
     Ok(bytes)
 }
 

@@ -1,6 +1,6 @@
 use Rattle.std.proofs.Common.{◌∙◌, is_some, sym, ap}
 use Rattle.std.specs.Cmp.{nat_cmp_total}
-use Rattle.lay_point.specs.declared.cell_id.CellId.TheVariants.{Symbol}
+use Rattle.lay_cells.specs.declared.cell_id.CellId.TheVariants.{Symbol}
 use Rattle.lay_items.specs.Layout.{Layout, is_cell}
 use Rattle.lay_items.proofs.MapLemmas.{get_lookup}
 use Rattle.lay_items.proofs.version.Version.is_cell.Goals as goal

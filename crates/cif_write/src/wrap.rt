@@ -1,0 +1,32 @@
+//! What the top cell is wrapped in.
+ghost use Rattle.std.specs.Prelude.{◌≡◌, IfOk};
+ghost use Rattle.cif_write.specs.Wrap.{least_unused, plain_target};
+
+use crate::turns::unturned;
+use lay_cells::Cells;
+use lay_items::Item;
+use lay_point::NoMemory;
+
+/// Returns the symbol that the items call, where they are one call with no mirror, turn or shift.
+pub(crate) fn plain_target(items: &[Item]) -> Option<u32>
+    ensures { result ≡ plain_target items.now }
+{
+    match items {
+        [Item::Placed { target, turn, .. }] if *turn == unturned() => Some(*target),
+        _ => None,
+    }
+}
+
+/// Returns the least positive number that no symbol has. Where a `u32` has none, that is out of memory.
+pub(crate) fn least_unused(cells: &Cells) -> Result<u32, NoMemory>
+    ensures { IfOk result (λ number. number ≡ least_unused cells.now) }
+{
+    let mut number: u32 = 1;
+    for _symbol in 0..cells.len() {
+        if cells.position(number).is_none() {
+            return Ok(number);
+        }
+        number = number.checked_add(1).ok_or(NoMemory)?;
+    }
+    Ok(number)
+}
