@@ -1,0 +1,47 @@
+-- Cutting goes on command by command, and the count of its steps never runs out.
+use Rattle.std.proofs.Common.{◌≡◌, ℕ, zero, suc, ◌+◌, ◌<◌, ◌≤◌, Bool, List, [], ◌∷◌, length, take, drop, refl, ap, arith, add-one}
+use Rattle.std.specs.List.{prefix_len}
+use Rattle.std.proofs.lemmas.List.{length-drop}
+use Rattle.cif_scan.specs.Bytes.{is_gap, skip}
+use Rattle.cif_commands.specs.Cutting.{CommandOf, Cut, EndOf, Ending, Front, behind_command, cut_by, cut_from, cut_rest, front_of, offset_of}
+
+pub length-skip : (passes : ℕ → Bool) (bytes : List ℕ) → length (skip passes bytes) ≤ length bytes
+length-skip passes bytes = omega (arith, length-drop (prefix_len passes bytes) bytes)
+
+-- what stands behind a command is shorter
+pub length-behind_command : (len : ℕ) (rest : List ℕ) → 1 ≤ length rest → length (behind_command len rest) + 1 ≤ length rest
+length-behind_command len rest some = omega (arith, length-skip is_gap (drop (len + 1) rest), length-drop (len + 1) rest)
+
+no_end_command : {P : Type 0} (e : Ending) (len : ℕ) → EndOf e ≡ CommandOf len → P
+no_end_command e len same = absurd cc
+
+-- where a command stands there are bytes
+pub some_bytes : (total : ℕ) (rest : List ℕ) (len : ℕ) → front_of total rest ≡ CommandOf len → 1 ≤ length rest
+unfolding front_of
+some_bytes total [] len e = no_end_command _ len e
+some_bytes total (b ∷ bs) len e = omega arith
+
+same_by : (total : ℕ) (rest : List ℕ) (front : Front) (further further' : ℕ → Cut)
+    → ((len : ℕ) → front ≡ CommandOf len → further len ≡ further' len) → cut_by total rest front further ≡ cut_by total rest front further'
+same_by total rest (EndOf ending) further further' same = refl
+same_by total rest (CommandOf len) further further' same =
+    ap (λ (c : Cut). record { pieces = (offset_of total rest, take len rest) ∷ c.pieces; ending = c.ending }) (same len refl)
+
+-- more steps than the rest has bytes are all as good
+cut_from-enough : (n m total : ℕ) (rest : List ℕ) → length rest < n → length rest < m → cut_from n total rest ≡ cut_from m total rest
+unfolding cut_from
+cut_from-enough zero m total rest h k = absurd (omega arith)
+cut_from-enough (suc n) zero total rest h k = absurd (omega arith)
+cut_from-enough (suc n) (suc m) total rest h k =
+    same_by total rest (front_of total rest) _ _ (λ len e.
+    let shorter = length-behind_command len rest (some_bytes total rest len e) in
+    cut_from-enough n m total (behind_command len rest) (omega arith) (omega arith))
+
+-- one step of cutting
+pub cut_rest-step : (total : ℕ) (rest : List ℕ) → cut_rest total rest
+    ≡ cut_by total rest (front_of total rest) (λ len. cut_rest total (behind_command len rest))
+unfolding cut_rest cut_from
+cut_rest-step total rest =
+    rw add-one (same_by total rest (front_of total rest) _ _ (λ len e.
+    let shorter = length-behind_command len rest (some_bytes total rest len e) in
+    cut_from-enough (length rest) (length (behind_command len rest) + 1) total (behind_command len rest) (omega arith) (omega arith)))

@@ -1,0 +1,12 @@
+pub mod Separators
+pub mod PathGrammar
+pub mod PathSteps
+pub mod CallGrammar
+pub mod CallSteps
+pub mod CommentGrammar
+pub mod OtherGrammar
+pub mod CommandGrammar
+pub mod CutGrammar
+pub mod CutLemmas
+pub mod Openings
+pub mod Pieces

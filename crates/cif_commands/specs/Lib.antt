@@ -1,0 +1,10 @@
+pub mod Boxes
+pub mod Calls
+pub mod Commands
+pub mod Comments
+pub mod Cutting
+pub mod Definitions
+pub mod Grammar
+pub mod Layers
+pub mod Paths
+pub mod Reading

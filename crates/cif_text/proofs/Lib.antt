@@ -1,0 +1,13 @@
+pub mod BoxLemmas
+pub mod ScaleLemmas
+pub mod TurnLemmas
+pub mod LayerLemmas
+pub mod SymbolLemmas
+pub mod Dispatch
+pub mod RingFacts
+pub mod StepFacts
+pub mod MeaningLemmas
+pub mod PieceFacts
+pub mod TextGrammar
+pub mod BindingLemmas
+pub mod ReadAnswers
