@@ -61,40 +61,46 @@ fn a_text_gives_its_elements_in_order_to_the_top_cell(rt: HostRuntime) -> Result
     Ok(())
 }
 
-// Could catch writes that no caller can make, and a definition of them by which an item stays that
-// should go, stays as it was, or moves to another place in the order of ids.
+/// Returns the layout with a square under the id.
+fn with_square(alloc: Global, before: &Version, id: ItemId, layer: &[u8]) -> Result<Version, Fail> {
+    let item = square(alloc, CellId::Symbol(7), layer, 4)?;
+    let mut writes = Vec::new(alloc);
+    writes.push((id, Some(item)))?;
+    Ok(before.with(alloc, &writes)?)
+}
+
+/// Returns whether the layout has a square on this layer under the id.
+fn has_square(alloc: Global, version: &Version, id: ItemId, layer: &[u8]) -> Result<bool, Fail> {
+    let item = square(alloc, CellId::Symbol(7), layer, 4)?;
+    Ok(version.item(id) == Some(&item))
+}
+
+// Could catch writes that no caller can make, and a definition of them by which an item stays as it was.
 #[test]
 fn a_version_has_what_its_writes_leave(rt: HostRuntime) -> Result<(), Fail> {
     let alloc = rt.alloc();
-    let symbol = CellId::Symbol(7);
+    let one = with_square(alloc, &Version::new(alloc), id(1), b"A")?;
+    let replaced = with_square(alloc, &one, id(1), b"Z")?;
+    assert!(rt; has_square(alloc, &replaced, id(1), b"Z")?);
+    assert!(rt; replaced != one);
+    Ok(())
+}
+
+// Could catch a definition of the order of ids by which an item that is written later comes last.
+#[test]
+fn items_are_lent_in_order_of_their_ids(rt: HostRuntime) -> Result<(), Fail> {
+    let alloc = rt.alloc();
     let made = ItemId {
         session: 1,
         txn: 1,
         seq: 1,
     };
-    let old = [
-        (id(1), Some(square(alloc, CellId::Top, b"A", 1)?)),
-        (id(2), Some(square(alloc, symbol, b"B", 2)?)),
-        (id(3), Some(square(alloc, CellId::Top, b"C", 3)?)),
-    ];
-    let before = Version::new(alloc).with(alloc, &old)?;
-    let new = [
-        (id(1), Some(square(alloc, symbol, b"Z", 9)?)),
-        (id(2), None),
-        (made, Some(square(alloc, CellId::Top, b"D", 4)?)),
-    ];
-    let after = before.with(alloc, &new)?;
-    let want = [
-        (id(1), square(alloc, symbol, b"Z", 9)?),
-        (id(3), square(alloc, CellId::Top, b"C", 3)?),
-        (made, square(alloc, CellId::Top, b"D", 4)?),
-    ];
-    let mut items = after.iter();
-    for (id, item) in &want {
-        assert!(rt; items.next() == Some((id, item)), "{id:?}");
-    }
+    let one = with_square(alloc, &Version::new(alloc), made, b"B")?;
+    let two = with_square(alloc, &one, id(9), b"A")?;
+    let mut items = two.iter();
+    assert!(rt; items.next().map(|(id, _)| *id) == Some(id(9)));
+    assert!(rt; items.next().map(|(id, _)| *id) == Some(made));
     assert!(rt; items.next().is_none());
-    assert!(rt; after != before && before.with(alloc, &[])? == before);
     Ok(())
 }
 
@@ -127,97 +133,36 @@ fn a_copy_is_equal(rt: HostRuntime) -> Result<(), Fail> {
     Ok(())
 }
 
-/// Returns a call that stands in the cell.
-fn call(cell: CellId, target: u32, turn: Turn) -> Item {
-    Item::Placed { cell, target, turn }
-}
-
-// Could catch symbols that stand by number and not in the order of the text, and items that are numbered
-// across cells otherwise, in the definition and the code alike, and calls that never succeed.
+// Could catch symbols that stand by number and not in the order of the text, in the definition and the code
+// alike, and calls that never succeed.
 #[test]
-fn a_layout_of_parts_has_them_in_order(rt: HostRuntime) -> Result<(), Fail> {
+fn symbols_of_a_list_stand_in_its_order(rt: HostRuntime) -> Result<(), Fail> {
     let alloc = rt.alloc();
     let mut symbols = Cells::new(alloc);
-    for number in [9, 2] {
-        symbols.add(number)?;
-    }
-    let turn = Turn {
-        mirror: true,
-        quarter: Quarter::R90,
-        shift: Point { x: 1, y: -1 },
-    };
-    let (nine, two) = (CellId::Symbol(9), CellId::Symbol(2));
-    let mut items = Vec::new(alloc);
-    items.push(square(alloc, nine, b"A", 1)?)?;
-    items.push(call(two, 9, turn))?;
-    let parts = Version::of_parts(alloc, &symbols, items)?;
-    let cells = parts.cells();
-    assert_eq!(rt;
-        (cells.at(0), cells.at(1), cells.at(2)),
-        (Some(9), Some(2), None)
-    );
-    for (number, slot) in [
-        (9, Some(CellSlot::Base(1))),
-        (2, Some(CellSlot::Base(2))),
-        (1, None),
-    ] {
-        assert_eq!(rt; parts.slot(number), slot, "{number}");
-    }
-    assert!(rt; parts.is_cell(nine) && parts.is_cell(two) && !parts.is_cell(CellId::Symbol(1)));
-    assert!(rt; parts.item(id(1)) == Some(&square(alloc, nine, b"A", 1)?));
-    assert!(rt; parts.item(id(2)) == Some(&call(two, 9, turn)) && parts.item(id(3)).is_none());
-    let after = parts.with(alloc, &[(id(1), None)])?;
-    assert_eq!(rt;
-        (after.cells().at(0), after.slot(2)),
-        (Some(9), Some(CellSlot::Base(2)))
-    );
-    let text = snapshot(alloc, b"E")?;
-    assert_eq!(rt; (text.cells().len(), text.slot(1)), (0, None));
+    symbols.add(9)?;
+    symbols.add(2)?;
+    let parts = Version::of_parts(alloc, &symbols, Vec::new(alloc))?;
+    assert_eq!(rt; parts.cells().at(0), Some(9));
+    assert_eq!(rt; parts.cells().at(1), Some(2));
+    assert_eq!(rt; parts.slot(2), Some(CellSlot::Base(2)));
+    assert_eq!(rt; parts.slot(1), None);
     Ok(())
 }
 
-// Could catch copies of calls that fail though there is memory, and calls that are equal though they differ.
+// Could catch copies of calls that fail though there is memory.
 #[test]
 fn a_copied_call_is_equal(rt: HostRuntime) -> Result<(), Fail> {
-    let alloc = rt.alloc();
     let turn = Turn {
-        mirror: false,
+        mirror: true,
         quarter: Quarter::R270,
         shift: Point { x: 3, y: 4 },
     };
-    let item = call(CellId::Symbol(5), 7, turn);
-    assert!(rt; item.copy(alloc)? == item && item.cell() == CellId::Symbol(5));
-    let others = [
-        call(CellId::Top, 7, turn),
-        call(CellId::Symbol(5), 8, turn),
-        call(
-            CellId::Symbol(5),
-            7,
-            Turn {
-                mirror: true,
-                ..turn
-            },
-        ),
-        call(
-            CellId::Symbol(5),
-            7,
-            Turn {
-                quarter: Quarter::R90,
-                ..turn
-            },
-        ),
-        call(
-            CellId::Symbol(5),
-            7,
-            Turn {
-                shift: Point { x: 4, y: 4 },
-                ..turn
-            },
-        ),
-        square(alloc, CellId::Symbol(5), b"A", 1)?,
-    ];
-    for other in &others {
-        assert!(rt; *other != item, "{other:?}");
-    }
+    let cell = CellId::Symbol(5);
+    let item = Item::Placed {
+        cell,
+        target: 7,
+        turn,
+    };
+    assert!(rt; item.copy(rt.alloc())? == item && item.cell() == cell);
     Ok(())
 }
