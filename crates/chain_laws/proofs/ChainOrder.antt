@@ -5,41 +5,20 @@ use Rattle.snap_pixels.specs.declared.segment.Segment.{Segment}
 use Rattle.lay_point.specs.Points.{IsBefore}
 use Rattle.edge_laws.specs.Edges.{key, IsBelow}
 use Rattle.int_laws.proofs.Signs.{linear, below_or_same}
-use Rattle.edge_laws.proofs.Order.{IsSpot, same_point, key_le, key_same}
+use Rattle.edge_laws.proofs.Order.{IsSpot, key_le, key_same}
 use Rattle.edge_laws.proofs.Places.{apart_or_same}
 use Rattle.chain_laws.proofs.Rising.{IsStrictOrder}
-
-before_irreflexive : (p : Point) → IsBefore p p → ⊥
-before_irreflexive p (inl less) = omega (arith, linear)
-before_irreflexive p (inr tie) = omega (arith, linear, tie.1)
-
-before_transitive : (p q r : Point) → IsBefore p q → IsBefore q r → IsBefore p r
-before_transitive p q r (inl a) (inl b) = inl (omega (arith, linear))
-before_transitive p q r (inl a) (inr b) = inl (omega (arith, linear, b.0))
-before_transitive p q r (inr a) (inl b) = inl (omega (arith, linear, a.0))
-before_transitive p q r (inr a) (inr b) = inr (a.0 ∙ b.0, omega (arith, linear, a.1, b.1))
-
-pub before_total : (p q : Point) → (p ≡ q) ⊎ (IsBefore p q ⊎ IsBefore q p)
-before_total p q = ⊎_elim (λ apart. inr (⊎_elim (λ less. inl (inl less)) (λ more. inr (inl more)) apart))
-    (λ (ex : p.x ≡ q.x). ⊎_elim
-    (λ apart. inr (⊎_elim (λ less. inl (inr (ex, less))) (λ more. inr (inr (sym ex, more))) apart))
-    (λ (ey : p.y ≡ q.y). inl (same_point p q ex ey))
-    (apart_or_same p.y q.y))
-    (apart_or_same p.x q.x)
-
--- the order of points, on its own
-pub before_is_strict : IsStrictOrder IsBefore
-before_is_strict = record { irreflexive = before_irreflexive; transitive = before_transitive }
+pub use Rattle.lay_point.proofs.EdgeOrder.{before_is_strict, before_total}
 
 below_irreflexive : (s : Segment) (c : Point) → IsBelow s c c → ⊥
 below_irreflexive s c (inl less) = omega (arith, linear)
-below_irreflexive s c (inr tie) = before_irreflexive c tie.1
+below_irreflexive s c (inr tie) = before_is_strict.irreflexive c tie.1
 
 below_transitive : (s : Segment) (c d e : Point) → IsBelow s c d → IsBelow s d e → IsBelow s c e
 below_transitive s c d e (inl a) (inl b) = inl (omega (arith, linear))
 below_transitive s c d e (inl a) (inr b) = inl (omega (arith, linear, b.0))
 below_transitive s c d e (inr a) (inl b) = inl (omega (arith, linear, a.0))
-below_transitive s c d e (inr a) (inr b) = inr (a.0 ∙ b.0, before_transitive c d e a.1 b.1)
+below_transitive s c d e (inr a) (inr b) = inr (a.0 ∙ b.0, before_is_strict.transitive c d e a.1 b.1)
 
 pub below_is_strict : (s : Segment) → IsStrictOrder (IsBelow s)
 below_is_strict s = record { irreflexive = below_irreflexive s; transitive = below_transitive s }

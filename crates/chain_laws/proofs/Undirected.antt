@@ -1,4 +1,4 @@
--- Undirected edges: tests of them decide, their order is strict, and each comes from a pair of neighbours, with the same ends.
+-- Undirected edges: each comes from a pair of neighbours, with the same ends.
 use Rattle.std.proofs.Common.{◌≡◌, ◌⊎◌, inl, inr, Bool, true, false, cond, ◌&&◌, List, [], ◌∷◌, map, refl, sym, ap, ap₂, subst, ◌∙◌}
 use Rattle.std.proofs.Common.{arith, ⊎_elim, int_eq}
 use Rattle.std.proofs.lemmas.Int.{ints}
@@ -15,55 +15,9 @@ use Rattle.lay_point.specs.Edges.{is_before, undirected}
 use Rattle.chain_laws.proofs.Members.{Has, has-append, has-append_left, has-append_right}
 use Rattle.chain_laws.proofs.Rising.{IsStrictOrder}
 use Rattle.chain_laws.proofs.ChainOrder.{before_is_strict, before_total}
-use Rattle.chain_laws.proofs.Parity.{IsEquality, xor_comm}
-
--- ---- tests
-both_true : (a b : Bool) → (a && b) ≡ true → (a ≡ true) × (b ≡ true)
-both_true true b e = (refl, e)
-both_true false b e = absurd cc
-
-not_true : (b : Bool) → ¬ (b ≡ true) → b ≡ false
-not_true true h = absurd (h refl)
-not_true false h = refl
-
-pub same_by_test : (p q : Point) → point_eq p q ≡ true → p ≡ q
-same_by_test p q e =
-    let both = both_true (int_eq p.x q.x) (int_eq p.y q.y) e in
-    same_point p q ((Decides-int_eq p.x q.x).0 both.0) ((Decides-int_eq p.y q.y).0 both.1)
-
-pub points_decide : IsEquality point_eq
-points_decide = record {
-  itself = λ p. ap₂ (λ a b. a && b) ((Decides-int_eq p.x p.x).1 refl) ((Decides-int_eq p.y p.y).1 refl);
-  apart = λ p q differ. not_true (point_eq p q) (λ e. differ (same_by_test p q e));
-}
-
-pub edges_decide : IsEquality same_edge
-edges_decide = record {
-  itself = λ e. ap₂ (λ a b. a && b) (points_decide.itself e.0) (points_decide.itself e.1);
-  apart = λ e f differ. not_true (same_edge e f) (λ g.
-      let both = both_true (point_eq e.0 f.0) (point_eq e.1 f.1) g in
-      differ (λ i. (same_by_test e.0 f.0 both.0 i, same_by_test e.1 f.1 both.1 i)));
-}
-
-before_by_test : (p q : Point) → is_before p q ≡ true → IsBefore p q
-before_by_test p q e = grind (arith, ints)
-
-test_by_before : (p q : Point) → IsBefore p q → is_before p q ≡ true
-test_by_before p q h = grind (arith, ints)
-
--- ---- the order of edges
-edge_irreflexive : (e : Point × Point) → IsEdgeBefore e e → ⊥
-edge_irreflexive e (inl h) = before_is_strict.irreflexive e.0 h
-edge_irreflexive e (inr h) = before_is_strict.irreflexive e.1 h.1
-
-edge_transitive : (e f g : Point × Point) → IsEdgeBefore e f → IsEdgeBefore f g → IsEdgeBefore e g
-edge_transitive e f g (inl h) (inl k) = inl (before_is_strict.transitive e.0 f.0 g.0 h k)
-edge_transitive e f g (inl h) (inr k) = inl (subst (IsBefore e.0) k.0 h)
-edge_transitive e f g (inr h) (inl k) = inl (subst (λ v. IsBefore v g.0) (sym h.0) k)
-edge_transitive e f g (inr h) (inr k) = inr (h.0 ∙ k.0, before_is_strict.transitive e.1 f.1 g.1 h.1 k.1)
-
-pub edges_are_strict : IsStrictOrder IsEdgeBefore
-edges_are_strict = record { irreflexive = edge_irreflexive; transitive = edge_transitive }
+use Rattle.chain_laws.proofs.Parity.{xor_comm}
+pub use Rattle.lay_point.proofs.EdgeOrder.{same_by_test, points_decide, edges_decide, edges_are_strict}
+use Rattle.lay_point.proofs.EdgeOrder.{before_by_test, test_by_before}
 
 -- ---- the same ends
 -- e is p, or p turned

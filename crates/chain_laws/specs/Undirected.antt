@@ -1,24 +1,12 @@
 -- The undirected edges of rounded rings, in the order of their lesser ends, and then of their greater ones.
-use Rattle.std.specs.Prelude.{◌≡◌, ◌⊎◌, ◌↔◌, ℤ, pos, ◌≤ℤ◌, Bool, false, ◌&&◌, ◌||◌, List, [], ◌∷◌, ◌++◌, map, Contains}
+use Rattle.std.specs.Prelude.{◌≡◌, ◌↔◌, ℤ, pos, ◌≤ℤ◌, Bool, false, ◌&&◌, List, [], ◌∷◌, ◌++◌, map, Contains}
 use Rattle.lay_point.specs.declared.point.Point.{Point}
-pub use Rattle.lay_point.specs.Edges.{is_before, undirected}
-use Rattle.lay_point.specs.Points.{point_eq}
+pub use Rattle.lay_point.specs.Edges.{is_before, undirected, IsEdgeBefore, same_edge, touches}
 use Rattle.snap_pixels.specs.declared.segment.Segment.{Segment}
-use Rattle.lay_point.specs.Points.{IsBefore}
 use Rattle.edge_laws.specs.Edges.{IsOn, IsSharedEnd}
 use Rattle.chain_laws.specs.Parity.{parity}
 use Rattle.chain_laws.specs.Rising.{IsRising, pairs}
 use Rattle.chain_laws.specs.Rounding.{closed, IsRoundedPath}
-
-abbrev pub IsEdgeBefore : Point × Point → Point × Point → Type 0
-IsEdgeBefore e f = IsBefore e.0 f.0 ⊎ ((e.0 ≡ f.0) × IsBefore e.1 f.1)
-
-abbrev pub same_edge : Point × Point → Point × Point → Bool
-same_edge e f = point_eq e.0 f.0 && point_eq e.1 f.1
-
--- the point is an end of the edge
-abbrev pub touches : Point → Point × Point → Bool
-touches v e = point_eq e.0 v || point_eq e.1 v
 
 -- the edges that the walks go, each as often as they go it, where a pair of neighbours goes the edge u of it
 abbrev pub edges_of : {A E : Type 0} → (A × A → E) → List (List A) → List E

@@ -1,43 +1,59 @@
--- The corners of a box whose sides aren't zero span a rectangle.
-use Rattle.std.proofs.Common.{◌≡◌, ℕ, ◌<◌, false, Some, IsTrue, ◌∙◌, arith, ℤ, pos, ◌<ℤ◌, ◌*ℤ◌, ◌+ℤ◌, ◌-ℤ◌, subst}
-use Rattle.std.specs.Prelude.{◌==◌}
-use Rattle.std.proofs.lemmas.Bool.{or_parts}
-use Rattle.std.proofs.lemmas.Bool.Decides.{nat_tests}
+-- Boxes whose numbers are within what a text may write.
+use Rattle.std.proofs.Common.{◌≡◌, ℕ, ◌≤◌, true, false, Some, refl, arith, ◌<ℤ◌}
 use Rattle.std.proofs.lemmas.Int.{ints}
-use Rattle.std.proofs.lemmas.Option.{cond_some, some_pair_parts}
+use Rattle.std.proofs.lemmas.Bool.{and_parts}
+use Rattle.std.proofs.lemmas.Bool.Decides.{nat_tests}
+use Rattle.std.proofs.lemmas.Option.{cond_some}
 use Rattle.lay_point.specs.declared.point.Point.{Point}
 use Rattle.lay_point.specs.Points.{is_in_range}
-use Rattle.cif_read.specs.declared.command.BoxNumbers.{BoxNumbers}
-use Rattle.cif_read.specs.Boxes.{corners, high_corner, is_flat, low_corner, point_in_range, value_of}
-use Rattle.cif_scan.specs.Numbers.{◌>>=◌}
-use Rattle.cif_scan.proofs.Steps.{bind_some}
+use Rattle.cif_scan.specs.declared.number.Number.{Number}
+use Rattle.cif_scan.specs.declared.number.TheConstants.{MAX_MAGNITUDE}
+use Rattle.cif_commands.specs.declared.boxes.BoxNumbers.{BoxNumbers}
+use Rattle.cif_commands.specs.declared.definitions.Scale.{Scale}
+use Rattle.cif_read.specs.Boxes.{greater_place, high_corner, is_big_box, is_flat, is_upright, is_whole_box, is_whole_side, lesser_place, low_corner}
+use Rattle.cif_read.specs.Boxes.{side_x, side_y}
+use Rattle.cif_read.specs.Polygons.{point_in_range}
+use Rattle.cif_read.specs.Scales.{IsRatio, is_whole}
+use Rattle.cif_read.proofs.ScaleLemmas.{scaled_rises}
 
--- corners that a ring can have
+-- the numbers that places are computed of
+pub record AreSmall (b : BoxNumbers) : Type 0 where
+  pub x : b.centre.x.magnitude ≤ MAX_MAGNITUDE
+  pub y : b.centre.y.magnitude ≤ MAX_MAGNITUDE
+  pub side_x : side_x b ≤ MAX_MAGNITUDE
+  pub side_y : side_y b ≤ MAX_MAGNITUDE
+
+pub small_parts : (b : BoxNumbers) → is_big_box b ≡ false → AreSmall b
+unfolding is_big_box
+small_parts b h = elim (is_upright b) as (λ u. is_upright b ≡ u → AreSmall b) [
+  | true ↦ λ e. record { x = grind (arith, nat_tests); y = grind (arith, nat_tests); side_x = rw e (grind (arith, nat_tests)); side_y = rw e (grind (arith, nat_tests)) }
+  | false ↦ λ e. record { x = grind (arith, nat_tests); y = grind (arith, nat_tests); side_x = rw e (grind (arith, nat_tests)); side_y = rw e (grind (arith, nat_tests)) }
+] refl
+
+-- the corners of a box with two sides, as they were found
 pub record Spans (low high : Point) : Type 0 where
-  pub low_in : IsTrue (is_in_range low)
-  pub high_in : IsTrue (is_in_range high)
   pub wide : low.x <ℤ high.x
   pub tall : low.y <ℤ high.y
 
-wider : (place : ℤ) (side : ℕ) → 0 < side → (place -ℤ pos side) <ℤ (place +ℤ pos side)
-wider place side h = omega (arith, ints)
+pub spans : (scale : Scale) (b : BoxNumbers) (low high : Point) → IsRatio scale → is_whole_box scale b ≡ true → is_flat b ≡ false
+    → point_in_range (low_corner scale b) ≡ Some low → point_in_range (high_corner scale b) ≡ Some high → Spans low high
+spans scale b low high ratio whole wide low_found high_found =
+    let sides = and_parts (is_whole_side scale b.centre.x (side_x b)) (is_whole_side scale b.centre.y (side_y b)) whole in
+    let x = and_parts (is_whole scale (lesser_place b.centre.x (side_x b))) (is_whole scale (greater_place b.centre.x (side_x b))) sides.0 in
+    let y = and_parts (is_whole scale (lesser_place b.centre.y (side_y b))) (is_whole scale (greater_place b.centre.y (side_y b))) sides.1 in
+    let low_is = (cond_some (is_in_range (low_corner scale b)) (low_corner scale b) low low_found).1 in
+    let high_is = (cond_some (is_in_range (high_corner scale b)) (high_corner scale b) high high_found).1 in
+    let some = some_sides b wide in
+    rw (← low_is, ← high_is) (record {
+      wide = scaled_rises scale _ _ ratio x.0 x.1 (rises b.centre.x (side_x b) some.0);
+      tall = scaled_rises scale _ _ ratio y.0 y.1 (rises b.centre.y (side_y b) some.1);
+    })
+  where
+    some_sides : (b : BoxNumbers) → is_flat b ≡ false → (1 ≤ side_x b) × (1 ≤ side_y b)
+    some_sides b h = elim (is_upright b) as (λ u. is_upright b ≡ u → (1 ≤ side_x b) × (1 ≤ side_y b)) [
+      | true ↦ λ e. rw e (grind (arith, nat_tests), grind (arith, nat_tests))
+      | false ↦ λ e. rw e (grind (arith, nat_tests), grind (arith, nat_tests))
+    ] refl
 
-nonzero : (n : ℕ) → (n == 0) ≡ false → 0 < n
-nonzero n h = grind (arith, nat_tests)
-
-pub spans : (b : BoxNumbers) (low high : Point) → corners b ≡ Some (low, high) → is_flat b ≡ false → Spans low high
-unfolding corners low_corner high_corner
-spans b low high e solid =
-    let first = bind_some (point_in_range (low_corner b)) (λ p. point_in_range (high_corner b) >>= λ q. Some (p, q)) (low, high) e in
-    let second = bind_some (point_in_range (high_corner b)) (λ q. Some (first.0, q)) (low, high) first.2 in
-    let low_is = cond_some (is_in_range (low_corner b)) (low_corner b) first.0 first.1 in
-    let high_is = cond_some (is_in_range (high_corner b)) (high_corner b) second.0 second.1 in
-    let ends = some_pair_parts first.0 low second.0 high second.2 in
-    let sides = or_parts (b.length == 0) (b.width == 0) solid in
-    let found : Spans (low_corner b) (high_corner b) = record {
-      low_in = low_is.0;
-      high_in = high_is.0;
-      wide = wider (pos 2 *ℤ value_of b.x) b.length (nonzero b.length sides.0);
-      tall = wider (pos 2 *ℤ value_of b.y) b.width (nonzero b.width sides.1);
-    } in
-    subst (λ (p : Point × Point). Spans p.0 p.1) (λ i. ((low_is.1 ∙ ends.0) i, (high_is.1 ∙ ends.1) i)) found
+    rises : (n : Number) (side : ℕ) → 1 ≤ side → lesser_place n side <ℤ greater_place n side
+    rises n side some = omega (arith, ints)

@@ -1,69 +1,138 @@
 -- What the commands of a text mean, one after the other.
--- Source: Caltech Intermediate Form 2.0: a box is drawn on the layer that was set last. That a box with a zero side is
--- counted and not kept, and the range of its corners, are this project's own.
-use Rattle.std.specs.Prelude.{ℕ, ◌+◌, List, [], ◌∷◌, ◌++◌, length, Option, Some, None, Result, Ok, Err, if◌then◌else◌}
+-- Source: Caltech Intermediate Form 2.0: figures are drawn on the layer that was set last, in the definition that they stand in.
+-- A layer is unset where a definition begins, and set again as before where it ends.
+use Rattle.std.specs.Prelude.{ℕ, ◌+◌, nat_lt, List, [], ◌∷◌, ◌++◌, length, Bool, true, false, ◌||◌, Option, Some, None, Result, Ok, Err}
+use Rattle.std.specs.Prelude.{if◌then◌else◌}
+use Rattle.std.specs.List.{list_any}
+use Rattle.lay_point.specs.declared.layer_name.TheConstants.{MAX_LAYER_NAME}
 use Rattle.lay_point.specs.declared.point.Point.{Point}
-use Rattle.lay_point.specs.Rings.{rectangle}
-use Rattle.cif_read.specs.declared.element.Element.{Element}
-use Rattle.cif_read.specs.declared.element.Figure.{Figure}
-use Rattle.cif_read.specs.declared.element.Figure.TheVariants.{Polygon}
-use Rattle.cif_read.specs.declared.fault.FaultKind.{FaultKind}
-use Rattle.cif_read.specs.declared.fault.FaultKind.TheVariants.{NoLayer, TooBig}
-use Rattle.cif_read.specs.declared.fault.CifFault.{CifFault}
-use Rattle.cif_read.specs.declared.file.CifFile.{CifFile}
-use Rattle.cif_read.specs.declared.command.BoxNumbers.{BoxNumbers}
-use Rattle.cif_read.specs.declared.command.Command.{Command}
-use Rattle.cif_read.specs.declared.command.Command.TheVariants.{Box, Layer}
+use Rattle.lay_point.specs.declared.turn.Turn.{Turn}
+use Rattle.lay_cells.specs.declared.cell_id.CellId.{CellId}
+use Rattle.lay_cells.specs.declared.cell_id.CellId.TheVariants.{Symbol, Top}
+use Rattle.lay_cells.specs.declared.cells.TheConstants.{MAX_SYMBOL}
+use Rattle.cif_commands.specs.declared.boxes.BoxNumbers.{BoxNumbers}
+use Rattle.cif_commands.specs.declared.calls.Change.{Change}
+use Rattle.cif_commands.specs.declared.definitions.Definition.{Definition}
+use Rattle.cif_commands.specs.declared.definitions.Scale.{Scale}
+use Rattle.cif_commands.specs.declared.paths.Vertex.{Vertex}
+use Rattle.cif_commands.specs.Commands.{Command}
+use Rattle.cif_commands.specs.Commands as command
+use Rattle.cif_commands.specs.Definitions.{plain_scale}
 use Rattle.cif_read.specs.declared.content.Content.{Content}
-use Rattle.cif_read.specs.Boxes.{corners, is_flat}
-use Rattle.cif_read.specs.Commands.{and_then, read_as, within_limits}
+use Rattle.cif_read.specs.declared.content.OpenDefinition.{OpenDefinition}
+use Rattle.cif_read.specs.declared.element.Figure.{Figure}
+use Rattle.cif_read.specs.declared.element.Figure.TheVariants.{Call, Polygon}
+use Rattle.cif_read.specs.declared.fault.CifFault.{CifFault}
+use Rattle.cif_read.specs.declared.fault.FaultKind.{FaultKind}
+use Rattle.cif_read.specs.declared.fault.FaultKind.TheVariants.{LongName, NoLayer, OffAxis, Syntax, TooBig}
+use Rattle.cif_read.specs.Boxes.{box_at, is_askew, is_big_box}
+use Rattle.cif_read.specs.Calls.{call_turn, is_big_change}
+use Rattle.cif_read.specs.Polygons.{is_too_big, polygon_at}
+use Rattle.cif_read.specs.Steps.{and_then, at_offset}
+use Rattle.cif_read.specs.Symbols.{definition_fault}
 
--- how many elements were kept or dropped
-abbrev pub counted : CifFile → ℕ
-counted file = length file.top + file.dropped
+-- no layer is set, and nothing is defined or drawn
+abbrev pub start : Content
+start = record { layer = None; definition = None; symbols = []; elements = []; calls = []; extensions = 0; dropped = 0 }
 
--- the elements with one more at their end
-abbrev pub with_figure : List Element → Figure → List Element
-with_figure top figure = top ++ record { number = length top + 1; figure = figure } ∷ []
+abbrev pub is_inside : Option OpenDefinition → Bool
+is_inside None = false
+is_inside (Some o) = true
 
--- the file with a box between these corners: one of no area is counted, any other is drawn
-abbrev pub with_rectangle : CifFile → List ℕ → BoxNumbers → Point × Point → CifFile
-with_rectangle file layer b ends =
-    if is_flat b then record { top = file.top; dropped = file.dropped + 1 }
-    else record { top = with_figure file.top (Polygon layer (rectangle ends.0 ends.1)); dropped = file.dropped }
+-- the cell that is drawn in
+abbrev pub cell_of : Option OpenDefinition → CellId
+cell_of None = Top
+cell_of (Some o) = Symbol o.symbol
 
--- the file with a box on a layer
-unfoldable pub with_box : CifFile → List ℕ → BoxNumbers → Result CifFile FaultKind
-with_box file layer b = read_as (with_rectangle file layer b) TooBig (corners b)
+-- the scale of the distances
+abbrev pub scale_of : Option OpenDefinition → Scale
+scale_of None = plain_scale
+scale_of (Some o) = o.scale
 
--- a box where this layer is set, or none
-abbrev pub after_box : CifFile → Option (List ℕ) → BoxNumbers → Result Content FaultKind
-after_box file None b = Err NoLayer
-after_box file (Some layer) b = and_then (with_box file layer b) (λ drawn. Ok (record { layer = Some layer; file = drawn }))
+-- how many elements and extensions there were
+abbrev pub counted : Content → ℕ
+counted content = length content.elements + content.extensions + content.dropped
 
--- what is meant after a command whose name and numbers are within their limits
-abbrev pub effect_of : Content → Command → Result Content FaultKind
-effect_of content (Layer name) = Ok (record { layer = Some name; file = content.file })
-effect_of content (Box b) = after_box content.file content.layer b
+-- one element more
+abbrev pub with_figure : Content → Figure → Content
+with_figure content figure = record content {
+  elements = content.elements ++ record { cell = cell_of content.definition; figure = figure } ∷ [];
+}
 
--- a fault of the command at this offset
-abbrev pub at_offset : {A : Type 0} → ℕ → Result A FaultKind → Result A CifFault
-at_offset offset (Ok x) = Ok x
-at_offset offset (Err kind) = Err (record { kind = kind; offset = offset })
+-- one polygon more, or one more that is dropped
+abbrev pub drawn : Content → List ℕ → Option (List Point) → Content
+drawn content layer None = record content { dropped = content.dropped + 1 }
+drawn content layer (Some ring) = with_figure content (Polygon layer ring)
+
+-- what is drawn on the layer that is set
+abbrev pub on_layer : Content → Option (List ℕ) → Result (Option (List Point)) FaultKind → Result Content FaultKind
+on_layer content None drawing = Err NoLayer
+on_layer content (Some layer) drawing = and_then drawing (λ ring. Ok (drawn content layer ring))
+
+unfoldable pub after_polygon : Content → List Vertex → Result Content FaultKind
+after_polygon content vertices =
+    if list_any is_too_big vertices then Err TooBig
+    else on_layer content content.layer (polygon_at (scale_of content.definition) vertices)
+
+unfoldable pub after_box : Content → BoxNumbers → Result Content FaultKind
+after_box content b =
+    if is_big_box b then Err TooBig
+    else if is_askew b then Err OffAxis
+    else on_layer content content.layer (box_at (scale_of content.definition) b)
+
+unfoldable pub after_layer : Content → List ℕ → Result Content FaultKind
+after_layer content name = if nat_lt MAX_LAYER_NAME (length name) then Err LongName else Ok (record content { layer = Some name })
+
+-- a definition begins where it has this fault, or none
+abbrev pub begun : Content → Definition → Option FaultKind → Result Content FaultKind
+begun content d (Some fault) = Err fault
+begun content d None = Ok (record content {
+  layer = None;
+  definition = Some (record { symbol = d.symbol; scale = d.scale; saved = content.layer });
+  symbols = content.symbols ++ d.symbol ∷ [];
+})
+
+unfoldable pub after_start : Content → Definition → Result Content FaultKind
+after_start content d = if is_inside content.definition then Err Syntax else begun content d (definition_fault content.symbols d)
+
+abbrev pub finished : Content → Option OpenDefinition → Result Content FaultKind
+finished content None = Err Syntax
+finished content (Some o) = Ok (record content { layer = o.saved; definition = None })
+
+-- one call more, which stands at this offset
+abbrev pub called : Content → ℕ → ℕ → Turn → Content
+called content offset target turn = record (with_figure content (Call target turn)) {
+  calls = content.calls ++ record { offset = offset; caller = cell_of content.definition; target = target } ∷ [];
+}
+
+-- some number of a call is above its limit
+abbrev pub is_big_call : ℕ → List Change → Bool
+is_big_call symbol changes = nat_lt MAX_SYMBOL symbol || list_any is_big_change changes
+
+unfoldable pub after_call : Content → ℕ → ℕ → List Change → Result Content FaultKind
+after_call content offset symbol changes =
+    if is_big_call symbol changes then Err TooBig
+    else and_then (call_turn (scale_of content.definition) changes) (λ turn. Ok (called content offset symbol turn))
 
 -- what is meant after the command at this offset
-unfoldable pub after_command : Content → ℕ → Command → Result Content CifFault
-after_command content offset command = at_offset offset (and_then (within_limits command) (effect_of content))
+abbrev pub effect_of : Content → ℕ → Command → Result Content FaultKind
+effect_of content offset (command.Polygon vertices) = after_polygon content vertices
+effect_of content offset (command.Box b) = after_box content b
+effect_of content offset (command.Layer name) = after_layer content name
+effect_of content offset (command.Start d) = after_start content d
+effect_of content offset command.Finish = finished content content.definition
+effect_of content offset (command.Call symbol changes) = after_call content offset symbol changes
+effect_of content offset command.Extension = Ok (record content { extensions = content.extensions + 1 })
+effect_of content offset command.Comment = Ok content
 
--- what is meant after commands with their offsets
-unfoldable pub after_commands : Content → List (ℕ × Command) → Result CifFile CifFault
-after_commands content [] = Ok content.file
+unfoldable pub after_command : Content → ℕ → Command → Result Content CifFault
+after_command content offset c = at_offset offset (effect_of content offset c)
+
+-- what is meant after commands with their offsets, or the first fault
+unfoldable pub after_commands : Content → List (ℕ × Command) → Result Content CifFault
+after_commands content [] = Ok content
 after_commands content (c ∷ cs) = and_then (after_command content c.0 c.1) (λ next. after_commands next cs)
 
--- no layer is set and nothing is drawn
-abbrev pub start : Content
-start = record { layer = None; file = record { top = []; dropped = 0 } }
-
 -- what the commands of a text mean, or the first fault
-unfoldable pub content_of : List (ℕ × Command) → Result CifFile CifFault
+unfoldable pub content_of : List (ℕ × Command) → Result Content CifFault
 content_of commands = after_commands start commands

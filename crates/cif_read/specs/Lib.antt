@@ -1,8 +1,12 @@
+pub mod Binding
 pub mod Boxes
-pub mod Commands
+pub mod Calls
 pub mod Content
-pub mod Cutting
-pub mod Elements
+pub mod Contents
 pub mod Faults
-pub mod Grammar
+pub mod Kept
 pub mod Meaning
+pub mod Polygons
+pub mod Scales
+pub mod Steps
+pub mod Symbols

@@ -1,38 +1,43 @@
-//! Reader of mask layouts written in Caltech Intermediate Form 2.0.
+//! Reader of the whole of Caltech Intermediate Form 2.0: symbols with scales, calls with turns and mirrors,
+//! polygons, boxes with directions, layers, comments and extensions.
 //!
-//! This version knows layers, boxes without a direction, empty commands and the `E`. `read` cuts a
-//! text into commands, each up to its semicolon, and reads them in order. It returns the meaning of
-//! the text, a `CifFile`, or the first fault with its offset, a `CifFault`.
+//! `read` returns the meaning of a text, a `CifFile`, or its first fault with its offset, a `CifFault`. A
+//! text is cut into commands and read in order (`reader.rt`), each by its first letter (`content.rt`), by the
+//! functions of `cif_commands`. What a command draws is put into database units, half-hundredths of a
+//! micrometre, at the scale of the definition that it stands in (`ratio.rt`, `polygon.rt`, `boxes.rt`,
+//! `turns.rt`). Calls are bound at the end of the text (`binding.rt`), so a symbol may be called before it is
+//! defined.
 //!
-//! A box is drawn as a ring in database units, half-hundredths of a micrometre, on the layer that was
-//! set last. A box of no area is checked, counted and not kept. `Elements` keep in their type that
-//! they are numbered 1, 2, .. in text order and that each figure's points are a ring; contracts see
-//! the list of them.
+//! A `CifFile` keeps in its type that it is the contents of a sound layout (`IsSoundFile` of
+//! `specs/Contents.antt`): each element stands in a cell that is there, each ring is one, each called symbol is
+//! defined, and none contains itself. Contracts see the record of its contents.
 //!
-//! Three clauses say what `read` returns, and a fourth when a text is too long. Its result is that of
-//! `meaning`, a definition that computes (`specs/Meaning.antt`). What is read is a text of the
-//! grammar, which is stated apart from any way of reading it (`specs/Grammar.antt`), and means what
-//! its commands mean. And a text of the grammar means what its commands mean, or has the first fault
-//! among them. Any result but that a text is too long can give way to `NoMemory` at offset 0.
+//! Four clauses say what `read` returns: its result is the meaning of the text, or its first fault, in the
+//! order of the checks (`specs/Meaning.antt`, `specs/Content.antt`); what is read is a text of the grammar,
+//! which `cif_commands` states apart from any way of reading it, and means what its commands mean; a text of the
+//! grammar means what its commands mean; and a text that is too long is refused before anything else. Any
+//! other result can give way to `NoMemory` at offset 0.
 //!
 //! ```text
-//! let file = cif_read::read(alloc, b"L NM; B 40 20 0 0; E")?;
-//! let [element] = file.top.as_slice() else { .. };
+//! let file = cif_read::read(alloc, b"DS 1; L NM; B 40 20 0 0; DF; C 1 T 5 0; E")?;
+//! assert_eq!(rt; file.elements().len(), 2);
 //! ```
 #![tactic(auto)]
 
-mod box_corners;
-mod command;
+mod binding;
+mod boxes;
 mod content;
-mod cutting;
 mod element;
 mod fault;
 mod file;
+mod laws;
+mod polygon;
+mod ratio;
 mod reader;
-#[cfg(test)]
-mod tests;
+mod turns;
 
-pub use element::{Element, Elements, Figure};
+pub use element::{Element, Figure};
 pub use fault::{CifFault, FaultKind};
-pub use file::{CifFile, MAX_TEXT};
+pub use file::{CifFile, MAX_SYMBOLS, MAX_TEXT};
+pub use laws::a_text_has_one_meaning;
 pub use reader::read;

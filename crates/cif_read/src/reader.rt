@@ -1,16 +1,22 @@
 //! Reading of whole texts.
-ghost use Rattle.std.specs.Prelude.{◌≡◌, ◌+◌, ◌<◌, ◌≤◌, ◌^◌, ℕ, List, length, Ok, Err, IfOk};
+ghost use Rattle.std.specs.Prelude.{◌≡◌, ◌⊎◌, ◌+◌, ◌<◌, ◌≤◌, ◌^◌, ◌∷◌, ℕ, List, length, Ok, Err, IfOk};
 ghost use Rattle.lay_point.specs.Memory.{IsAnswer};
-ghost use Rattle.cif_read.specs.declared.command.Command.{Command};
+ghost use Rattle.cif_commands.specs.Commands.{Command};
+ghost use Rattle.cif_commands.specs.Cutting.{Ends, first_offset, offset_of};
+ghost use Rattle.cif_commands.specs.Grammar.{Reads};
+ghost use Rattle.cif_scan.specs.Bytes.{is_blank, skip};
+ghost use Rattle.cif_read.specs.declared.content.Content.{Content};
+ghost use Rattle.cif_read.specs.Binding.{IsBoundAs};
 ghost use Rattle.cif_read.specs.Content.{content_of, counted};
-ghost use Rattle.cif_read.specs.Grammar.{Reads};
-ghost use Rattle.cif_read.specs.Meaning.{after_bytes, meaning, meaning_within, no_memory, too_long};
+ghost use Rattle.cif_read.specs.Kept.{IsKept};
+ghost use Rattle.cif_read.specs.Meaning.{AnswersMeaning, IsEndOf, after_bytes, at_ending, begins_with_end, content_in, no_memory};
+ghost use Rattle.cif_read.specs.Meaning.{too_long};
 
-use crate::command::command_of;
+use crate::binding::bound;
 use crate::content::Content;
-use crate::cutting::{end_fault, front};
 use crate::fault::{CifFault, FaultKind};
 use crate::file::{CifFile, MAX_TEXT};
+use cif_commands::command_len;
 use cif_scan::{Class, skip};
 use std::alloc::Global;
 
@@ -20,15 +26,15 @@ pub fn read(alloc: Global, text: &[u8]) -> Result<CifFile, CifFault>
     ensures too_long { MAX_TEXT < length text.now → result ≡ Err too_long }
 
     // Which file it is, or which fault at which offset.
-    ensures answer { IsAnswer no_memory result (meaning text.now) }
+    ensures answer { AnswersMeaning text.now result }
 
     // What is read is a text of the grammar, and means what its commands mean.
-    ensures accepted { IfOk result (λ file.
-        (commands : List (ℕ × Command)) × Reads text.now commands × (content_of commands ≡ Ok file)) }
+    ensures accepted { IfOk result (λ file. (commands : List (ℕ × Command)) × (last : Content)
+        × Reads text.now commands × (content_of commands ≡ Ok last) × IsBoundAs last (Ok file)) }
 
     // A text of the grammar means what its commands mean, or has the first fault among them.
-    ensures complete { (commands : List (ℕ × Command)) → Reads text.now commands
-        → length text.now ≤ MAX_TEXT → IsAnswer no_memory result (content_of commands) }
+    ensures complete { (commands : List (ℕ × Command)) → Reads text.now commands → length text.now ≤ MAX_TEXT
+        → (result ≡ Err no_memory) ⊎ IsEndOf (content_of commands) result }
 {
     if text.len() > MAX_TEXT {
         return Err(CifFault {
@@ -36,24 +42,39 @@ pub fn read(alloc: Global, text: &[u8]) -> Result<CifFile, CifFault>
             offset: 0,
         });
     }
-    commands(alloc, text)
+    let content = content_in(alloc, text)?;
+    bound(alloc, content)
 }
 
-/// Returns the meaning of a text that is not too long, command by command.
-fn commands(alloc: Global, text: &[u8]) -> Result<CifFile, CifFault>
+/// Returns what a text that isn't too long means before its calls are bound, or its first fault.
+fn content_in(alloc: Global, text: &[u8]) -> Result<Content, CifFault>
     requires { length text.now ≤ MAX_TEXT }
-    ensures { IsAnswer no_memory result (meaning_within text.now) }
+    ensures answer { IsAnswer no_memory result (content_in text.now) }
+    ensures kept { IfOk result IsKept }
 {
     let mut content = Content::new(alloc);
     let mut rest = skip(text, Class::Gap);
-    while let Some(len) = front(text.len(), rest)? {
+    while !begins_with_end(rest) {
         let offset = text.len() - rest.len();
+        let Some(len) = command_len(rest) else {
+            return Err(CifFault {
+                kind: FaultKind::NoEnd,
+                offset,
+            });
+        };
         content = after_bytes(alloc, content, offset, &rest[..len])?;
         rest = skip(&rest[len + 1..], Class::Gap);
     }
-    match end_fault(text.len(), rest) {
-        Some(fault) => Err(fault),
-        None => Ok(content.file),
+    ended(content, text.len(), rest)
+}
+
+/// Returns whether the bytes begin with the `E` that ends a text.
+fn begins_with_end(bytes: &[u8]) -> bool
+    ensures { result ≡ begins_with_end bytes.now }
+{
+    match bytes {
+        [b'E', ..] => true,
+        _ => false,
     }
 }
 
@@ -65,15 +86,10 @@ fn after_bytes(
     offset: usize,
     bytes: &[u8],
 ) -> Result<Content, CifFault>
-    requires { counted content.file + 1 < 2 ^ 32 }
-    ensures answer { IsAnswer no_memory result (after_bytes content offset bytes.now) }
-    ensures one_more { IfOk result (λ next. counted next.file ≤ counted content.file + 1) }
+    requires { counted content + 1 < 2 ^ 32 }
+    ensures { IsAnswer no_memory result (after_bytes content offset bytes.now) }
 {
-    let command = match command_of(bytes) {
-        Ok(command) => command,
-        Err(kind) => return Err(CifFault { kind, offset }),
-    };
-    match content.with(alloc, command) {
+    match content.with(alloc, offset, bytes) {
         Ok(next) => Ok(next),
         Err(FaultKind::NoMemory) => Err(CifFault {
             kind: FaultKind::NoMemory,
@@ -81,4 +97,29 @@ fn after_bytes(
         }),
         Err(kind) => Err(CifFault { kind, offset }),
     }
+}
+
+/// Returns what is meant at the end of a text of `total` bytes, where `rest` begins with the `E`.
+fn ended(content: Content, total: usize, rest: &[u8]) -> Result<Content, CifFault>
+    requires { length rest.now ≤ total }
+    ensures { (behind : List ℕ) → rest.now ≡ 69 ∷ behind
+        → result ≡ at_ending content (Ends (offset_of total rest.now) (first_offset total (skip is_blank behind))) }
+{
+    if content.definition.is_some() {
+        return Err(CifFault {
+            kind: FaultKind::Syntax,
+            offset: total - rest.len(),
+        });
+    }
+    let behind = match rest {
+        [_, behind @ ..] => skip(behind, Class::Blank),
+        [] => rest,
+    };
+    if behind.is_empty() {
+        return Ok(content);
+    }
+    Err(CifFault {
+        kind: FaultKind::AfterEnd,
+        offset: total - behind.len(),
+    })
 }

@@ -13,7 +13,7 @@ use Rattle.cif_write.specs.Text.{definitions_lines, is_set, items_lines}
 use Rattle.cif_write.specs.Wrap.{Definition}
 
 -- a layer that is set is the layer
-is_set-true : (set : Option (List ℕ)) (layer : List ℕ) → is_set set layer ≡ true → set ≡ Some layer
+pub is_set-true : (set : Option (List ℕ)) (layer : List ℕ) → is_set set layer ≡ true → set ≡ Some layer
 is_set-true None layer e = cc
 is_set-true (Some name) layer e = ap Some ((bytes_eq-Decides name layer).0 e)
 

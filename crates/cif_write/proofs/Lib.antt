@@ -1,4 +1,3 @@
-pub mod HeldLemmas
 pub mod IdleLemmas
 pub mod LineLemmas
 pub mod WrapLemmas

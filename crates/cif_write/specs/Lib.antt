@@ -1,4 +1,3 @@
-pub mod Held
 pub mod Idle
 pub mod Lines
 pub mod Text

@@ -60,6 +60,11 @@ written_with definitions top unused (Some target) = record { definitions = defin
 written_with definitions top unused None =
     record { definitions = definitions ++ record { number = unused; items = top } ∷ []; called = unused }
 
+-- the symbol that the top cell's items are wrapped in, if they are, and the one that the top cell calls
+abbrev pub wrapping : Layout → Written
+wrapping layout =
+    written_with [] (held_in layout Top) (least_unused (in_slot_order layout.symbols)) (plain_target (held_in layout Top))
+
 -- what is written of a layout
 unfoldable pub written : Layout → Written
 written layout =

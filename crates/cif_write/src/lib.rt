@@ -12,7 +12,6 @@
 //! ```
 #![tactic(auto)]
 
-mod held;
 mod laws;
 mod points;
 #[cfg(test)]

@@ -1,20 +1,18 @@
 //! The text of a layout, line by line. Each call appends; after an `Err` a prefix of it may stand there.
-ghost use Rattle.std.specs.Prelude.{◌≡◌, [], ◌∷◌, ◌++◌, IfOk, None, OnOk, length};
+ghost use Rattle.std.specs.Prelude.{◌≡◌, [], ◌∷◌, ◌++◌, IfOk, None, OnOk, map};
 ghost use Rattle.cif_write.specs.Lines.{Call, OnLayer, Path, Start, line_text, lines_text};
 ghost use Rattle.cif_write.specs.Lines.{path_text};
-ghost use Rattle.cif_write.specs.Held.{lists_of, with_numbers};
 ghost use Rattle.cif_write.specs.Text.{definition_lines, definitions_lines, item_lines, items_lines, layer_after, path_lines, text};
-ghost use Rattle.cif_write.specs.Wrap.{least_unused, plain_target, written_with};
+ghost use Rattle.cif_write.specs.Wrap.{item_of, own_definitions, wrapping};
 ghost use Rattle.lay_point.specs.Bridges.{bridged};
 
-use crate::held::held;
 use crate::points::push_points;
 use crate::turns::{push_turn, unturned};
 use crate::wrap::{least_unused, plain_target};
 use byte_io::push_unsigned;
 use face_rings::bridge;
-use lay_cells::Cells;
-use lay_items::{Item, Rings, Snapshot};
+use lay_cells::CellId;
+use lay_items::{Item, Items, Rings, Snapshot};
 use lay_point::{LayerName, NoMemory, Ring, Turn};
 use std::alloc::Global;
 
@@ -22,10 +20,8 @@ use std::alloc::Global;
 pub fn push_text(alloc: Global, bytes: &mut Vec<u8>, snapshot: &Snapshot) -> Result<(), NoMemory>
     ensures { OnOk result (bytes.new.items ≡ bytes.old.items ++ text snapshot.now) }
 {
-    let cells = snapshot.cells();
-    let (lists, top) = held(alloc, snapshot)?;
-    push_definitions(alloc, bytes, cells, &lists)?;
-    let called = push_wrapping(alloc, bytes, cells, &top)?;
+    push_definitions(alloc, bytes, snapshot)?;
+    let called = push_wrapping(alloc, bytes, snapshot)?;
     push_call(bytes, called, unturned())?;
     bytes.extend_from_slice(b"E\n")?;
     Ok(())
@@ -33,39 +29,29 @@ pub fn push_text(alloc: Global, bytes: &mut Vec<u8>, snapshot: &Snapshot) -> Res
 
 /// Appends the lines of the symbol that the top cell's items are wrapped in, unless they are one plain
 /// call. Returns the number of the symbol that the top cell is to call.
-fn push_wrapping(
-    alloc: Global,
-    bytes: &mut Vec<u8>,
-    cells: &Cells,
-    top: &Vec<Item>,
-) -> Result<u32, NoMemory>
-    ensures lines { OnOk result (bytes.new.items ≡ bytes.old.items ++ lines_text (definitions_lines
-        (written_with [] top.now.items (least_unused cells.now) (plain_target top.now.items)).definitions)) }
-    ensures called { IfOk result (λ called. called
-        ≡ (written_with [] top.now.items (least_unused cells.now) (plain_target top.now.items)).called) }
+fn push_wrapping(alloc: Global, bytes: &mut Vec<u8>, snapshot: &Snapshot) -> Result<u32, NoMemory>
+    ensures lines { OnOk result (bytes.new.items
+        ≡ bytes.old.items ++ lines_text (definitions_lines (wrapping snapshot.now).definitions)) }
+    ensures called { IfOk result (λ called. called ≡ (wrapping snapshot.now).called) }
 {
-    if let Some(target) = plain_target(top) {
+    if let Some(target) = plain_target(snapshot.items(CellId::Top)) {
         return Ok(target);
     }
-    let unused = least_unused(cells)?;
-    push_definition(alloc, bytes, unused, top)?;
+    let unused = least_unused(snapshot.cells())?;
+    push_definition(alloc, bytes, unused, snapshot.items(CellId::Top))?;
     Ok(unused)
 }
 
-/// Appends the lines of the symbols, of each the items in its list.
-fn push_definitions(
-    alloc: Global,
-    bytes: &mut Vec<u8>,
-    cells: &Cells,
-    lists: &Vec<Vec<Item>>,
-) -> Result<(), NoMemory>
-    requires { length lists.now.items ≡ length cells.now }
-    ensures { OnOk result (bytes.new.items ≡ bytes.old.items
-        ++ lines_text (definitions_lines (with_numbers cells.now (lists_of lists.now.items)))) }
+/// Appends the lines of the symbols, in the order of their slots.
+fn push_definitions(alloc: Global, bytes: &mut Vec<u8>, snapshot: &Snapshot) -> Result<(), NoMemory>
+    ensures { OnOk result (bytes.new.items
+        ≡ bytes.old.items ++ lines_text (definitions_lines (own_definitions snapshot.now))) }
 {
+    let cells = snapshot.cells();
     for position in 0..cells.len() {
         let number = cells.at(position).unwrap();
-        push_definition(alloc, bytes, number, &lists[position])?;
+        let items = snapshot.items(CellId::Symbol(number));
+        push_definition(alloc, bytes, number, items)?;
     }
     Ok(())
 }
@@ -75,10 +61,10 @@ fn push_definition(
     alloc: Global,
     bytes: &mut Vec<u8>,
     number: u32,
-    items: &Vec<Item>,
+    items: Items<'_>,
 ) -> Result<(), NoMemory>
     ensures { OnOk result (bytes.new.items ≡ bytes.old.items
-        ++ lines_text (definition_lines (record { number = number; items = items.now.items }))) }
+        ++ lines_text (definition_lines (record { number = number; items = map item_of items.entry }))) }
 {
     push_start(bytes, number)?;
     push_items(alloc, bytes, items)?;
@@ -97,11 +83,12 @@ fn push_start(bytes: &mut Vec<u8>, number: u32) -> Result<(), NoMemory>
 }
 
 /// Appends the lines of a symbol's items.
-fn push_items(alloc: Global, bytes: &mut Vec<u8>, items: &[Item]) -> Result<(), NoMemory>
-    ensures { OnOk result (bytes.new.items ≡ bytes.old.items ++ lines_text (items_lines None items.now)) }
+fn push_items(alloc: Global, bytes: &mut Vec<u8>, items: Items<'_>) -> Result<(), NoMemory>
+    ensures { OnOk result (bytes.new.items
+        ≡ bytes.old.items ++ lines_text (items_lines None (map item_of items.entry))) }
 {
     let mut set = None;
-    for item in items {
+    for (_, item) in items {
         set = push_item(alloc, bytes, set, item)?;
     }
     Ok(())

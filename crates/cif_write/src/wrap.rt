@@ -1,18 +1,23 @@
 //! What the top cell is wrapped in.
-ghost use Rattle.std.specs.Prelude.{◌≡◌, IfOk};
-ghost use Rattle.cif_write.specs.Wrap.{least_unused, plain_target};
+ghost use Rattle.std.specs.Prelude.{◌≡◌, IfOk, map};
+ghost use Rattle.cif_write.specs.Wrap.{item_of, least_unused, plain_target};
 
 use crate::turns::unturned;
 use lay_cells::Cells;
-use lay_items::Item;
+use lay_items::{Item, Items};
 use lay_point::NoMemory;
 
 /// Returns the symbol that the items call, where they are one call with no mirror, turn or shift.
-pub(crate) fn plain_target(items: &[Item]) -> Option<u32>
-    ensures { result ≡ plain_target items.now }
+pub(crate) fn plain_target(items: Items<'_>) -> Option<u32>
+    ensures { result ≡ plain_target (map item_of items.entry) }
 {
-    match items {
-        [Item::Placed { target, turn, .. }] if *turn == unturned() => Some(*target),
+    let mut items = items;
+    let (_, first) = items.next()?;
+    if items.next().is_some() {
+        return None;
+    }
+    match first {
+        Item::Placed { target, turn, .. } if *turn == unturned() => Some(*target),
         _ => None,
     }
 }

@@ -1,2 +1,3 @@
-pub mod ParityLemmas
 pub mod BridgeParity
+pub mod IncidenceLemmas
+pub mod LinkLemmas

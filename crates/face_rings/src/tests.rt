@@ -1,9 +1,11 @@
 //! Tests of what no clause says: that the definitions are those of the format and of the rule, and that
 //! calls succeed.
-ghost use Rattle.std.specs.Prelude.{◌≡◌, neg_ℤ, pos, true, false};
+ghost use Rattle.std.specs.Prelude.{◌≡◌, [], ◌∷◌, List, neg_ℤ, pos, true, false, ℕ};
+ghost use Rattle.lay_point.specs.declared.point.Point.{Point};
 ghost use Rattle.lay_point.specs.Parity.{odd};
 ghost use Rattle.lay_point.specs.RingEdges.{edges_of_ring};
 ghost use Rattle.lay_point.specs.Rings.{rectangle};
+ghost use Rattle.link_laws.specs.Linking.{rings_of};
 
 use super::*;
 use lay_point::{Point, Ring};
@@ -80,4 +82,14 @@ fn a_square_has_these_places_inside()
     ensures sides { let square = edges_of_ring (rectangle (record { x = pos 0; y = pos 0 }) (record { x = pos 4; y = pos 4 })) in
         (odd square (pos 1) (pos 0) (pos 2) ≡ true) × (odd square (pos 1) (pos 2) (pos 0) ≡ true)
         × (odd square (pos 1) (pos 4) (pos 2) ≡ false) × (odd square (pos 1) (pos 2) (pos 4) ≡ false) }
+{}
+
+// Could catch a rule that starts a ring elsewhere, goes the other way round, or goes straight on where two
+// rings meet: of the squares from (0, 0) to (2, 2) and from (2, 2) to (4, 4) each is a ring of its own.
+#[tactic(auto, unfolding(link_laws::specs::Linking::rings_of))]
+fn squares_that_meet_at_a_corner_are_two_rings()
+    ensures { let at : ℕ → ℕ → Point = λ x y. record { x = pos x; y = pos y } in
+        rings_of ((at 0 0, at 0 2) ∷ (at 0 0, at 2 0) ∷ (at 0 2, at 2 2) ∷ (at 2 0, at 2 2)
+        ∷ (at 2 2, at 2 4) ∷ (at 2 2, at 4 2) ∷ (at 2 4, at 4 4) ∷ (at 4 2, at 4 4) ∷ [])
+        ≡ (at 0 0 ∷ at 0 2 ∷ at 2 2 ∷ at 2 0 ∷ []) ∷ (at 2 2 ∷ at 2 4 ∷ at 4 4 ∷ at 4 2 ∷ []) ∷ [] }
 {}

@@ -1,13 +1,13 @@
 -- The order in which the sessions' steps ran, as far as the log of the book has it.
-use Rattle.std.specs.Prelude.{ℕ, ◌+◌, ◌%◌, List, [], ◌∷◌, ◌++◌, codes, decimal, drop, length, replicate, Bool, true, false, ◌||◌, ◌==◌}
-use Rattle.std.specs.Prelude.{if◌then◌else◌, option_map, unwrap_or}
+use Rattle.std.specs.Prelude.{ℕ, zero, suc, ◌+◌, ◌-◌, ◌%◌, List, [], ◌∷◌, ◌++◌, codes, decimal, drop, length, replicate, Bool, true, false, ◌||◌, ◌==◌}
+use Rattle.std.specs.Prelude.{if◌then◌else◌, option_map, slice_get, slice_index, slice_set, unwrap_or}
 use Rattle.std.specs.List.{position}
-use Rattle.undo_book.specs.declared.log.BookFault.{BookFault}
-use Rattle.undo_book.specs.declared.log.BookFault.TheVariants.{LogFull, Foreign, NoMemory}
-use Rattle.undo_book.specs.declared.log.Logged.{Logged}
-use Rattle.session_core.specs.declared.Reply.{Reply}
-use Rattle.session_core.specs.declared.Reply.TheVariants.{Opened, Done, Committed, Undone, Fault}
-use Rattle.session_core.specs.declared.StepFault.TheVariants.{Book}
+use Rattle.undo_rules.specs.declared.log.BookFault.{BookFault}
+use Rattle.undo_rules.specs.declared.log.BookFault.TheVariants.{LogFull, Foreign, NoMemory}
+use Rattle.undo_rules.specs.declared.log.Logged.{Logged}
+use Rattle.session_steps.specs.declared.Reply.{Reply}
+use Rattle.session_steps.specs.declared.Reply.TheVariants.{Opened, Done, Committed, Cancelled, Undone, Redone, Fault}
+use Rattle.session_steps.specs.declared.StepFault.TheVariants.{Book}
 
 -- whether the log has the call that was refused so
 abbrev pub is_logged_fault : BookFault → Bool
@@ -21,7 +21,9 @@ abbrev pub is_logged : Reply → Bool
 is_logged (Opened txn) = true
 is_logged (Done done) = false
 is_logged (Committed txn) = true
+is_logged Cancelled = false
 is_logged Undone = true
+is_logged Redone = true
 is_logged (Fault (Book fault)) = is_logged_fault fault
 is_logged (Fault fault) = false
 
@@ -29,13 +31,33 @@ is_logged (Fault fault) = false
 abbrev pub steps_to_logged : List Reply → ℕ
 steps_to_logged replies = unwrap_or (option_map (λ n. n + 1) (position is_logged replies)) (length replies)
 
--- For each logged call its session's number, once for each step of the session up to and with the
--- call's. After the log the steps that are left. The replies are those to the steps of session 1, which
--- is the only one.
-abbrev pub order_of : List Logged → List Reply → List ℕ
-order_of [] replies = replicate (length replies) 1
-order_of (call ∷ log) replies =
-    replicate (steps_to_logged replies) call.session ++ order_of log (drop (steps_to_logged replies) replies)
+-- the replies of the session of this number, from 1
+abbrev pub replies_of : List (List Reply) → ℕ → List Reply
+replies_of sessions zero = []
+replies_of sessions (suc index) = unwrap_or (slice_get sessions index) []
+
+-- the replies of a session to steps that aren't in the order so far, of which it has so many of each session
+abbrev pub left_of : List (List Reply) → List ℕ → ℕ → List Reply
+left_of sessions taken session = drop (slice_index taken session) (replies_of sessions session)
+
+-- what is left of the sessions from this number on, one session after the other
+abbrev pub rest_from : ℕ → List (List Reply) → List ℕ → List ℕ
+rest_from session [] taken = []
+rest_from session (replies ∷ sessions) taken =
+    replicate (length replies - slice_index taken session) session ++ rest_from (session + 1) sessions taken
+
+-- the order from here on, where the order so far has so many steps of each session
+abbrev pub order_behind : List (List Reply) → List ℕ → List Logged → List ℕ
+order_behind sessions taken [] = rest_from 1 sessions taken
+order_behind sessions taken (call ∷ log) =
+    replicate (steps_to_logged (left_of sessions taken call.session)) call.session
+    ++ order_behind sessions (slice_set taken call.session
+    (slice_index taken call.session + steps_to_logged (left_of sessions taken call.session))) log
+
+-- For each logged call its session's number, once for each step of the session behind its last logged one, up to and
+-- with the call's. After the log the steps that are left.
+abbrev pub order_of : List Logged → List (List Reply) → List ℕ
+order_of log sessions = order_behind sessions (replicate 256 0) log
 
 -- a number of the order, in comments of sixteen numbers, one a line: its place, and whether it is the last
 unfoldable pub number_text : ℕ → Bool → ℕ → List ℕ

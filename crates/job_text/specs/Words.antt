@@ -1,14 +1,18 @@
 -- Words of a line, and what they spell.
-use Rattle.std.specs.Prelude.{ℕ, ◌+◌, List, codes, drop, length, take, slice_index, Bool, ◌&&◌, ◌||◌, not, ◌==◌, nat_le}
-use Rattle.std.specs.Prelude.{nat_lt, if◌then◌else◌, Option, None, Some, option_and_then, option_map, unwrap_or, ℤ, pos, neg_ℤ}
+use Rattle.std.specs.Prelude.{◌≡◌, ℕ, ◌+◌, ◌<◌, List, [], ◌∷◌, codes, drop, length, take, slice_index, Bool, true, false, ◌&&◌, ◌||◌, ◌==◌}
+use Rattle.std.specs.Prelude.{nat_le, nat_lt, if◌then◌else◌, Option, None, Some, not, option_and_then, option_map, unwrap_or, ℤ, pos, neg_ℤ}
 use Rattle.std.specs.List.{list_all, position}
 use Rattle.std.specs.Str.{bytes_eq}
 use Rattle.lay_cells.specs.declared.cell_id.CellId.{CellId}
 use Rattle.lay_cells.specs.declared.cell_id.CellId.TheVariants.{Top, Symbol}
 use Rattle.lay_cells.specs.declared.cells.TheConstants.{MAX_SYMBOL}
+use Rattle.lay_items.specs.declared.id.ItemId.{ItemId}
+use Rattle.lay_point.specs.declared.turn.Quarter.{Quarter}
+use Rattle.lay_point.specs.declared.turn.Quarter.TheVariants.{R0, R90, R180, R270}
 use Rattle.lay_point.specs.Names.{is_digit}
 use Rattle.byte_io.specs.Decimal.{decimal_value}
-use Rattle.txn_work.specs.declared.command.TxnId.{TxnId}
+use Rattle.txn_rules.specs.declared.command.TxnId.{TxnId}
+use Rattle.job_text.specs.Lines.{content, in_front}
 
 -- the step that follows takes what this one gives, and nothing follows `None`
 infixl 10 ◌>>=◌
@@ -19,25 +23,31 @@ o >>= f = option_and_then f o
 abbrev pub is_separator : ℕ → Bool
 is_separator b = b == 32 || b == 9
 
+-- whether no word goes on at the first of the bytes
+abbrev pub is_between : List ℕ → Bool
+is_between [] = true
+is_between (b ∷ bytes) = is_separator b
+
+-- the words of the bytes
+abbrev pub words : List ℕ → List (List ℕ)
+words [] = []
+words (b ∷ bytes) =
+    if is_separator b then words bytes
+    else if is_between bytes then (b ∷ []) ∷ words bytes
+    else in_front b (words bytes)
+
+-- the words that a line says
+abbrev pub words_of : List ℕ → List (List ℕ)
+words_of line = words (content line)
+
 -- the line from its first word on
 abbrev pub from_word : List ℕ → List ℕ
 from_word line = drop (unwrap_or (position (λ b. not (is_separator b)) line) (length line)) line
 
--- how many bytes stand before the first separator
-abbrev pub word_len : List ℕ → ℕ
-word_len line = unwrap_or (position is_separator line) (length line)
-
--- the first word of the line, empty where there is none
-unfoldable pub word : List ℕ → List ℕ
-word line = take (word_len (from_word line)) (from_word line)
-
--- what stands behind the first word
-unfoldable pub behind_word : List ℕ → List ℕ
-behind_word line = drop (word_len (from_word line)) (from_word line)
-
--- whether there is no word in the line
-abbrev pub is_blank : List ℕ → Bool
-is_blank line = list_all is_separator line
+-- this is the first word of the bytes, and this is behind it
+pub record IsFirstWord (bytes word behind : List ℕ) : Type 0 where
+  pub first : words bytes ≡ word ∷ words behind
+  pub shorter : length behind < length bytes
 
 -- a digit or more and nothing else
 abbrev pub is_number : List ℕ → Bool
@@ -65,10 +75,45 @@ coordinate_of bytes =
 unfoldable pub cell_of : List ℕ → Option CellId
 cell_of bytes = if bytes_eq bytes (codes "top") then Some Top else option_map Symbol (number_of MAX_SYMBOL bytes)
 
--- the numbers before and behind the first dot: a session up to 64, and one of its transactions up to 65,535
+-- the number before the first dot, up to the limit, and what stands behind the dot
+unfoldable pub before_dot : ℕ → List ℕ → Option (ℕ × List ℕ)
+before_dot limit bytes = do
+  dot ← position (λ b. b == 46) bytes
+  number ← number_of limit (take dot bytes)
+  Some (number, drop (dot + 1) bytes)
+
+-- a session up to 64, and one of its transactions up to 65,535
 unfoldable pub txn_of : List ℕ → Option TxnId
 txn_of bytes = do
-  dot ← position (λ b. b == 46) bytes
-  session ← number_of 64 (take dot bytes)
-  txn ← number_of 65535 (drop (dot + 1) bytes)
-  Some (record { session = session; txn = txn })
+  session ← before_dot 64 bytes
+  txn ← number_of 65535 session.1
+  Some (record { session = session.0; txn = txn })
+
+-- the same, and one of the transaction's items, up to 4,294,967,295
+unfoldable pub item_of : List ℕ → Option ItemId
+item_of bytes = do
+  session ← before_dot 64 bytes
+  txn ← before_dot 65535 session.1
+  seq ← number_of 4294967295 txn.1
+  Some (record { session = session.0; txn = txn.0; seq = seq })
+
+-- whether a turn's letter mirrors first
+abbrev pub mirror_of : ℕ → Option Bool
+mirror_of b = if b == 114 then Some false else if b == 109 then Some true else None
+
+-- the quarter turns of so many degrees
+unfoldable pub quarter_of : List ℕ → Option Quarter
+quarter_of bytes =
+    if bytes_eq bytes (codes "0") then Some R0
+    else if bytes_eq bytes (codes "90") then Some R90
+    else if bytes_eq bytes (codes "180") then Some R180
+    else if bytes_eq bytes (codes "270") then Some R270
+    else None
+
+-- whether a turn mirrors, and its quarter turns: `r` or `m`, and the degrees
+unfoldable pub turning_of : List ℕ → Option (Bool × Quarter)
+turning_of [] = None
+turning_of (b ∷ bytes) = do
+  mirror ← mirror_of b
+  quarter ← quarter_of bytes
+  Some (mirror, quarter)

@@ -3,15 +3,18 @@ ghost use Rattle.std.specs.Prelude.{◌≡◌, ◌<◌, ◌+◌, ◌++◌, ◌�
 ghost use Rattle.std.specs.Result.{result_map_both};
 ghost use Rattle.lay_point.specs.Memory.{IsAnswer};
 ghost use Rattle.job_text.specs.declared.job.JobFault.TheVariants.{Line, NoMemory as OutOfMemory};
-ghost use Rattle.job_text.specs.Job.{head_of, is_head, is_one, is_section, is_session, job_of, script_of, sections_job, sections_of, steps_of, text_of};
+ghost use Rattle.job_text.specs.Job.{head_of, is_none_of, is_only, is_section, job_of, sections_job, sections_of, text_of};
 ghost use Rattle.job_text.specs.Lines.{lines};
+ghost use Rattle.job_text.specs.Words.{words};
 
 use crate::lines::{content, split_line};
-use crate::step_line::step_of_line;
-use crate::words::{MAX_SESSION, is_blank, number_of, split_word};
+use crate::order_section::order_at;
+use crate::scripts::sections_at;
+use crate::words::{is_blank, split_word};
 use lay_point::{NoMemory, Sequence};
-use session_core::Step;
+use session_steps::Step;
 use std::alloc::Global;
+use std::marker::Model;
 use thiserror::Error;
 
 /// The longest job that is read, in bytes.
@@ -38,23 +41,33 @@ impl From<NoMemory> for JobFault {
     }
 }
 
-/// What a job says.
-#[derive(Debug, Drop, PartialEq, Eq)]
-pub struct Job {
+/// What a job says. The CIF text is lent by the job's bytes.
+#[derive(Debug, Drop)]
+pub struct Job<'a> {
     /// The bytes of the CIF text.
-    pub cif: Sequence<u8>,
-    /// The steps of session 1, in order.
-    pub script: Sequence<Step>,
+    pub cif: &'a [u8],
+    /// The steps of each session, in order, session 1 first.
+    pub scripts: Sequence<Sequence<Step>>,
+    /// The sessions in the order in which their steps run: each stands here once for each of its steps.
+    pub order: Sequence<u8>,
+}
+
+impl<'a> Model for Job<'a> {
+    ghost use Rattle.job_text.specs.Jobs.{Job};
+
+    ghost Value = { Job };
+
+    ghost view = { λ job. record { cif = job.cif.now; scripts = job.scripts; order = job.order } };
 }
 
 /// Lines of a job, and the number of the first of them, counted from 1.
-type Place<'a> = (u32, &'a [u8]);
+pub(crate) type Place<'a> = (u32, &'a [u8]);
 
-impl Job {
+impl<'a> Job<'a> {
     /// The job that the bytes spell, or its first fault. Any answer but that of a job that is too long
     /// can give way to `NoMemory`.
     #[tactic(auto, unfolding(crate::specs::Job::job_of))]
-    pub fn read(alloc: Global, bytes: &[u8]) -> Result<Job, JobFault>
+    pub fn read(alloc: Global, bytes: &'a [u8]) -> Result<Job<'a>, JobFault>
         // A job that is too long is refused before anything else, and needs no memory.
         ensures too_long { MAX_JOB < length bytes.now → result ≡ Err (Line 0) }
 
@@ -70,17 +83,18 @@ impl Job {
 
 /// The job of bytes that aren't too many.
 #[tactic(auto, unfolding(crate::specs::Job::sections_job))]
-fn sections_job(alloc: Global, bytes: &[u8]) -> Result<Job, JobFault>
+fn sections_job(alloc: Global, bytes: &[u8]) -> Result<Job<'_>, JobFault>
     requires { length bytes.now ≤ MAX_JOB }
     ensures { IsAnswer JobFault.NoMemory result (sections_job bytes.now) }
 {
     let (number, behind) = behind_head(bytes)?;
-    let (text, (number, sections)) = split_text(number, behind);
-    let script = script_of(alloc, number, sections)?;
-    let cif = Vec::from_slice(alloc, text).map_err(|_| JobFault::NoMemory)?;
+    let (cif, (number, sections)) = split_text(number, behind);
+    let (scripts, (number, behind)) = sections_at(alloc, number, sections)?;
+    let order = order_at(alloc, scripts.as_slice(), number, behind)?;
     Ok(Job {
-        cif: Sequence::from_vec(cif),
-        script,
+        cif,
+        scripts,
+        order,
     })
 }
 
@@ -95,7 +109,7 @@ fn behind_head(bytes: &[u8]) -> Result<Place<'_>, JobFault>
     while let Some((line, behind)) = split_line(rest) {
         let words = content(line);
         if !is_blank(words) {
-            if is_head(words) {
+            if is_only("%cif".as_bytes(), words) {
                 return Ok((number + 1, behind));
             }
             return Err(JobFault::Line(number));
@@ -106,13 +120,14 @@ fn behind_head(bytes: &[u8]) -> Result<Place<'_>, JobFault>
     Err(JobFault::Line(1))
 }
 
-/// Returns whether the words are `%cif` alone.
-#[tactic(auto, unfolding(crate::specs::Job::is_head))]
-fn is_head(words: &[u8]) -> bool
-    ensures { result ≡ is_head words.now }
+/// Returns whether the line has this one word.
+pub(crate) fn is_only(name: &[u8], line: &[u8]) -> bool
+    ensures { result ≡ is_only name.now (words line.now) }
 {
-    let (word, behind) = split_word(words);
-    word == "%cif".as_bytes() && is_blank(behind)
+    match split_word(line) {
+        Some((word, behind)) => word == name && is_blank(behind),
+        None => false,
+    }
 }
 
 /// The bytes before the first section, then the bytes from there on and the number of their first line.
@@ -141,69 +156,4 @@ fn is_section(line: &[u8]) -> bool
     ensures { result ≡ is_section line.now }
 {
     line.starts_with("%session".as_bytes()) || line.starts_with("%order".as_bytes())
-}
-
-/// The steps of all sections.
-#[tactic(auto, unfolding(crate::specs::Job::script_of))]
-fn script_of(alloc: Global, number: u32, bytes: &[u8]) -> Result<Sequence<Step>, JobFault>
-    requires { number + length bytes.now ≤ MAX_JOB + 1 }
-    ensures { IsAnswer JobFault.NoMemory result (script_of number (lines bytes.now)) }
-{
-    let Some((line, behind)) = split_line(bytes) else {
-        return Ok(Sequence::from_vec(Vec::new(alloc)));
-    };
-    if !is_session(content(line)) {
-        return Err(JobFault::Line(number));
-    }
-    steps_of(alloc, number + 1, behind)
-}
-
-/// Returns whether the words are `%session` and the number 1.
-#[tactic(auto, unfolding(crate::specs::Job::is_session))]
-fn is_session(words: &[u8]) -> bool
-    ensures { result ≡ is_session words.now }
-{
-    let (name, behind) = split_word(words);
-    let (number, behind) = split_word(behind);
-    name == "%session".as_bytes() && is_one(number) && is_blank(behind)
-}
-
-/// Returns whether the word is the number 1.
-fn is_one(word: &[u8]) -> bool
-    ensures { result ≡ is_one word.now }
-{
-    number_of(MAX_SESSION, word) == Some(1)
-}
-
-/// The steps of the lines, of which the first has this number.
-fn steps_of(alloc: Global, number: u32, bytes: &[u8]) -> Result<Sequence<Step>, JobFault>
-    requires { number + length bytes.now ≤ MAX_JOB + 1 }
-    ensures { IsAnswer JobFault.NoMemory result (steps_of [] number (lines bytes.now)) }
-{
-    let mut steps = Vec::new(alloc);
-    let mut number = number;
-    let mut rest = bytes;
-    while let Some((line, behind)) = split_line(rest) {
-        let words = content(line);
-        if !is_blank(words) {
-            let mut step = step_of_line(words);
-            if step.is_none() {
-                return Err(JobFault::Line(number));
-            }
-            push_taken(&mut steps, &mut step)?;
-        }
-        number += 1;
-        rest = behind;
-    }
-    Ok(Sequence::from_vec(steps))
-}
-
-/// Takes the item out, where there is one, and puts it at the end.
-fn push_taken<T: Drop>(items: &mut Vec<T>, item: &mut Option<T>) -> Result<(), NoMemory>
-    ensures ok { OnOk result (items.new.items ≡ items.old.items ++ option_to_list item.old) }
-{
-    if let Some(item) = item.take() {
-        items.push(item).map_err(|_| NoMemory)?;
-    }
-    Ok(())
 }

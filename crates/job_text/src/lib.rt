@@ -1,27 +1,31 @@
 //! Jobs as they are read, and replies as they are written.
 //!
-//! A job is lines: `%cif` and a CIF text, then `%session 1` and a step a line. [`Job::read`] gives the
-//! text and the steps, or the number of the first line with a fault. [`print`] puts a comment for each
-//! reply and the order in which the steps ran, which [`order_of`] makes from the log of a book.
+//! A job is lines: `%cif` and a CIF text, then `%session 1`, `%session 2` and so on, each with a step a
+//! line, and at last `%order` and the sessions in the order of their steps. [`Job::read`] gives the text,
+//! the steps of each session and their order, or the number of the first line with a fault. [`print`] puts
+//! a comment for each reply and the order in which the steps ran, which [`order_of`] makes from the log of
+//! a book.
 //!
 //! Which job the bytes are is `specs/Job.antt`, on the lines of `specs/Lines.antt`, their words of
 //! `specs/Words.antt` and the steps of `specs/Steps.antt`; the comments are `specs/Replies.antt` and
-//! `specs/Order.antt`. Contracts see a job as the record of its text's bytes and its steps.
+//! `specs/Order.antt`. Contracts see a job as the record of its text's bytes, its
+//! scripts and its order.
 //!
 //! ```text
 //! let job = Job::read(alloc, b"%cif\nE\n%session 1\nopen\n")?;
-//! assert_eq!(rt; job.script.as_slice(), [Step::Open].as_slice());
+//! assert_eq!(rt; job.order.as_slice(), [1].as_slice());
 //! ```
 #![tactic(auto)]
 
+mod fields;
 mod job;
 mod lines;
 mod order;
+mod order_section;
 mod printing;
 mod reply_text;
+mod scripts;
 mod step_line;
-#[cfg(test)]
-mod tests;
 mod words;
 
 pub use byte_io::{In, InFault};

@@ -8,16 +8,16 @@ use crate::order::push_order;
 use crate::reply_text::push_replies;
 use byte_io::{Out, put_all};
 use cif_write::WriteFault;
-use lay_point::NoMemory;
-use session_core::Reply;
+use lay_point::{NoMemory, Sequence};
+use session_steps::Reply;
 use std::alloc::Global;
 
-/// Writes the replies to the steps of session 1 and the order, as comments. `NoMemory` comes before the
+/// Writes the replies to the steps of the sessions, session by session, and the order, as comments. `NoMemory` comes before the
 /// first byte; at `Device` a prefix of the comments was written.
 pub fn print<O: Out>(
     alloc: Global,
     out: &mut O,
-    replies: &[Reply],
+    replies: &[Sequence<Reply>],
     order: &[u8],
 ) -> Result<(), WriteFault>
     ensures ok { OnOk result
@@ -34,12 +34,16 @@ pub fn print<O: Out>(
     Ok(put_all(out, &bytes)?)
 }
 
-/// Returns the lines of the replies to the steps of session 1, and those of the order.
-pub fn comments(alloc: Global, replies: &[Reply], order: &[u8]) -> Result<Vec<u8>, NoMemory>
+/// Returns the lines of the replies to the steps of the sessions, session by session, and those of the order.
+pub fn comments(
+    alloc: Global,
+    replies: &[Sequence<Reply>],
+    order: &[u8],
+) -> Result<Vec<u8>, NoMemory>
     ensures { IfOk result (λ bytes. bytes.items ≡ replies_text replies.now ++ order_text order.now) }
 {
     let mut bytes = Vec::new(alloc);
-    push_replies(&mut bytes, 1, replies)?;
+    push_replies(&mut bytes, replies)?;
     push_order(&mut bytes, order)?;
     Ok(bytes)
 }

@@ -1,86 +1,184 @@
 //! Step lines.
-ghost use Rattle.std.specs.Prelude.{◌≡◌, option_map};
-ghost use Rattle.job_text.specs.Steps.{box_of, cell_at, coordinate_at, ended, point_at, step_of_line, undo_of};
+ghost use Rattle.std.specs.Prelude.{◌≡◌, Ok, [], ◌++◌, OnOk};
+ghost use Rattle.lay_point.specs.Memory.{IsAnswer};
+ghost use Rattle.job_text.specs.Steps.{box_of, command_of, layer_of, move_of, place_of, points_from, poly_of, short_command, step_named, step_of};
+ghost use Rattle.job_text.specs.Words.{words};
 
-use crate::words::{cell_of, coordinate_of, is_blank, split_word, txn_of};
-use lay_cells::CellId;
-use lay_point::{LayerName, Point};
-use session_core::Step;
-use txn_work::Command;
+use crate::fields::{
+    cell_at, ended, item_alone, item_at, point_at, point_of, symbol_alone, symbol_at, turning_at,
+    txn_alone,
+};
+use crate::words::split_word;
+use lay_point::{LayerName, NoMemory, Point, Sequence, Turn};
+use session_steps::Step;
+use std::alloc::Global;
+use txn_rules::Command;
 
 /// The step that the words of a line say, `None` where they say none.
-#[tactic(auto, unfolding(crate::specs::Steps::step_of_line))]
-pub(crate) fn step_of_line(words: &[u8]) -> Option<Step>
-    ensures { result ≡ step_of_line words.now }
+#[tactic(auto, unfolding(crate::specs::Steps::step_of))]
+pub(crate) fn step_of(alloc: Global, line: &[u8]) -> Result<Option<Step>, NoMemory>
+    ensures { IsAnswer (record {}) result (Ok (step_of (words line.now))) }
 {
-    let (word, behind) = split_word(words);
-    if word == "open".as_bytes() {
-        return ended(behind, Step::Open);
+    match split_word(line) {
+        Some((name, behind)) => step_named(alloc, name, behind),
+        None => Ok(None),
     }
-    if word == "commit".as_bytes() {
-        return ended(behind, Step::Commit);
+}
+
+/// The step of this name, with the words behind that.
+#[tactic(auto, unfolding(crate::specs::Steps::step_named))]
+fn step_named(alloc: Global, name: &[u8], line: &[u8]) -> Result<Option<Step>, NoMemory>
+    ensures { IsAnswer (record {}) result (Ok (step_named name.now (words line.now))) }
+{
+    if name == "open".as_bytes() {
+        return Ok(ended(line, Step::Open));
     }
-    if word == "undo".as_bytes() {
-        return undo_of(behind);
+    if name == "commit".as_bytes() {
+        return Ok(ended(line, Step::Commit));
     }
-    if word == "box".as_bytes() {
-        return box_of(behind);
+    if name == "cancel".as_bytes() {
+        return Ok(ended(line, Step::Cancel));
+    }
+    if name == "undo".as_bytes() {
+        return Ok(txn_alone(line).map(Step::Undo));
+    }
+    if name == "redo".as_bytes() {
+        return Ok(txn_alone(line).map(Step::Redo));
+    }
+    Ok(command_of(alloc, name, line)?.map(Step::Do))
+}
+
+/// The command of this name, with the words behind that.
+#[tactic(auto, unfolding(crate::specs::Steps::command_of))]
+fn command_of(alloc: Global, name: &[u8], line: &[u8]) -> Result<Option<Command>, NoMemory>
+    ensures { IsAnswer (record {}) result (Ok (command_of name.now (words line.now))) }
+{
+    if name == "box".as_bytes() {
+        return Ok(box_of(line));
+    }
+    if name == "poly".as_bytes() {
+        return poly_of(alloc, line);
+    }
+    Ok(short_command(name, line))
+}
+
+/// The command of this name, other than `box` and `poly`, with the words behind that.
+#[tactic(auto, unfolding(crate::specs::Steps::short_command))]
+fn short_command(name: &[u8], line: &[u8]) -> Option<Command>
+    ensures { result ≡ short_command name.now (words line.now) }
+{
+    if name == "delete".as_bytes() {
+        return item_alone(line).map(Command::Delete);
+    }
+    if name == "look".as_bytes() {
+        return item_alone(line).map(Command::Look);
+    }
+    if name == "move".as_bytes() {
+        return move_of(line);
+    }
+    if name == "layer".as_bytes() {
+        return layer_of(line);
+    }
+    if name == "place".as_bytes() {
+        return place_of(line);
+    }
+    if name == "mkcell".as_bytes() {
+        return symbol_alone(line).map(Command::MakeCell);
+    }
+    if name == "rmcell".as_bytes() {
+        return symbol_alone(line).map(Command::DropCell);
     }
     None
 }
 
-/// The step of a line `box`, of the words behind that.
+/// The command `box`: the cell, the layer and two opposite corners.
 #[tactic(auto, unfolding(crate::specs::Steps::box_of))]
-fn box_of(words: &[u8]) -> Option<Step>
-    ensures { result ≡ box_of words.now }
+fn box_of(line: &[u8]) -> Option<Command>
+    ensures { result ≡ box_of (words line.now) }
 {
-    let (cell, behind) = cell_at(words)?;
-    let (word, behind) = split_word(behind);
+    let (cell, behind) = cell_at(line)?;
+    let (word, behind) = split_word(behind)?;
     let layer = LayerName::new(word)?;
     let (a, behind) = point_at(behind)?;
     let (b, behind) = point_at(behind)?;
-    ended(behind, Step::Do(Command::Box { cell, layer, a, b }))
+    ended(behind, Command::Box { cell, layer, a, b })
 }
 
-/// The step of a line `undo`, of the words behind that.
-#[tactic(auto, unfolding(crate::specs::Steps::undo_of))]
-fn undo_of(words: &[u8]) -> Option<Step>
-    ensures { result ≡ undo_of words.now }
+/// The command `poly`: the cell, the layer and the points.
+#[tactic(auto, unfolding(crate::specs::Steps::poly_of))]
+fn poly_of(alloc: Global, line: &[u8]) -> Result<Option<Command>, NoMemory>
+    ensures { IsAnswer (record {}) result (Ok (poly_of (words line.now))) }
 {
-    let (word, behind) = split_word(words);
-    let txn = txn_of(word)?;
-    ended(behind, Step::Undo(txn))
+    let Some((cell, behind)) = cell_at(line) else {
+        return Ok(None);
+    };
+    let Some((word, behind)) = split_word(behind) else {
+        return Ok(None);
+    };
+    let Some(layer) = LayerName::new(word) else {
+        return Ok(None);
+    };
+    let points = points_of(alloc, behind)?;
+    Ok(points.map(|points| Command::Poly {
+        cell,
+        layer,
+        points,
+    }))
 }
 
-/// The point that the first two words spell, and what stands behind them.
-#[tactic(auto, unfolding(crate::specs::Steps::point_at))]
-fn point_at(words: &[u8]) -> Option<(Point, &[u8])>
-    ensures { option_map (λ p. (p.0, p.1.now)) result ≡ point_at words.now }
+/// The points that the words spell, two words a point.
+fn points_of(alloc: Global, line: &[u8]) -> Result<Option<Sequence<Point>>, NoMemory>
+    ensures { IsAnswer (record {}) result (Ok (points_from [] (words line.now))) }
 {
-    let (x, behind) = coordinate_at(words)?;
-    let (y, behind) = coordinate_at(behind)?;
-    Some((Point { x, y }, behind))
+    let mut points = Vec::new(alloc);
+    let mut rest = line;
+    while let Some((x, behind)) = split_word(rest) {
+        let Some((y, behind)) = split_word(behind) else {
+            return Ok(None);
+        };
+        let Some(point) = point_of(x, y) else {
+            return Ok(None);
+        };
+        points.push(point)?;
+        rest = behind;
+    }
+    Ok(Some(Sequence::from_vec(points)))
 }
 
-/// The coordinate that the first word spells, and what stands behind the word.
-fn coordinate_at(words: &[u8]) -> Option<(i32, &[u8])>
-    ensures { option_map (λ p. (p.0, p.1.now)) result ≡ coordinate_at words.now }
+/// The command `move`: the item, and how far to the right and up.
+#[tactic(auto, unfolding(crate::specs::Steps::move_of))]
+fn move_of(line: &[u8]) -> Option<Command>
+    ensures { result ≡ move_of (words line.now) }
 {
-    let (word, behind) = split_word(words);
-    Some((coordinate_of(word)?, behind))
+    let (id, behind) = item_at(line)?;
+    let (Point { x: dx, y: dy }, behind) = point_at(behind)?;
+    ended(behind, Command::Move { id, dx, dy })
 }
 
-/// The cell that the first word names, and what stands behind the word.
-fn cell_at(words: &[u8]) -> Option<(CellId, &[u8])>
-    ensures { option_map (λ p. (p.0, p.1.now)) result ≡ cell_at words.now }
+/// The command `layer`: the item and the layer.
+#[tactic(auto, unfolding(crate::specs::Steps::layer_of))]
+fn layer_of(line: &[u8]) -> Option<Command>
+    ensures { result ≡ layer_of (words line.now) }
 {
-    let (word, behind) = split_word(words);
-    Some((cell_of(word)?, behind))
+    let (id, behind) = item_at(line)?;
+    let (word, behind) = split_word(behind)?;
+    let layer = LayerName::new(word)?;
+    ended(behind, Command::SetLayer { id, layer })
 }
 
-/// The step, where no word is left.
-fn ended(words: &[u8], step: Step) -> Option<Step>
-    ensures { result ≡ ended words.now step }
+/// The command `place`: the cell, the symbol to call, the turn without its shift, and the shift.
+#[tactic(auto, unfolding(crate::specs::Steps::place_of))]
+fn place_of(line: &[u8]) -> Option<Command>
+    ensures { result ≡ place_of (words line.now) }
 {
-    if is_blank(words) { Some(step) } else { None }
+    let (cell, behind) = cell_at(line)?;
+    let (target, behind) = symbol_at(behind)?;
+    let ((mirror, quarter), behind) = turning_at(behind)?;
+    let (shift, behind) = point_at(behind)?;
+    let turn = Turn {
+        mirror,
+        quarter,
+        shift,
+    };
+    ended(behind, Command::Place { cell, target, turn })
 }

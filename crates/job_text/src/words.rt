@@ -1,30 +1,39 @@
 //! Words of a line, and what they spell.
-ghost use Rattle.std.specs.Prelude.{◌+◌, ◌≡◌, ◌≤◌, neg_ℤ, length, not, pos, ◌<◌, ◌-◌, ◌^◌, IfSome};
+ghost use Rattle.std.specs.Prelude.{◌+◌, ◌≡◌, ◌≤◌, [], neg_ℤ, length, not, option_map, pos, ◌<◌, ◌-◌, ◌^◌, IfSome, MatchOption, Some, None};
 ghost use Rattle.std.specs.List.{AllPass, list_all, position};
 ghost use Rattle.lay_point.specs.Names.{is_digit};
-ghost use Rattle.job_text.specs.Words.{behind_word, cell_of, coordinate_of, from_word, is_blank, is_negative, is_number, is_separator, number_of, txn_of, value_up_to, word};
+ghost use Rattle.byte_io.specs.Decimal.{capped_decimal};
+ghost use Rattle.job_text.specs.Job.{is_none_of};
+ghost use Rattle.job_text.specs.Words.{IsFirstWord, before_dot, cell_of, coordinate_of, from_word, is_negative, is_number, is_separator, item_of, mirror_of, number_of, quarter_of, turning_of, txn_of, value_up_to, words};
 
 use crate::lines::place_of;
-use byte_io::capped_decimal;
 use lay_cells::{CellId, MAX_SYMBOL};
-use txn_work::TxnId;
-use undo_book::MAX_TRANSACTIONS;
+use lay_items::ItemId;
+use lay_point::Quarter;
+use txn_rules::TxnId;
 
 /// The greatest number of a session.
 pub(crate) const MAX_SESSION: u32 = 64;
 
+/// The greatest number of a transaction.
+const MAX_TXN: u32 = 65_535;
+
+/// The greatest number of an item of a transaction.
+const MAX_SEQ: u32 = 4_294_967_295;
+
 /// The greatest coordinate.
 const MAX_COORDINATE: u32 = 2_147_483_647;
 
-/// The first word, empty where there is none, and what stands behind it.
-#[tactic(auto, unfolding(crate::specs::Words::word, crate::specs::Words::behind_word))]
-pub(crate) fn split_word(line: &[u8]) -> (&[u8], &[u8])
-    ensures word { result.0.now ≡ word line.now }
-    ensures behind { result.1.now ≡ behind_word line.now }
+/// The first word and what stands behind it. `None` where there is no word.
+pub(crate) fn split_word(line: &[u8]) -> Option<(&[u8], &[u8])>
+    ensures { MatchOption result (words line.now ≡ []) (λ p. IsFirstWord line.now p.0.now p.1.now) }
 {
     let from = from_word(line);
+    if from.is_empty() {
+        return None;
+    }
     let len = separator_place(from).unwrap_or(from.len());
-    from.split_at(len)
+    Some(from.split_at(len))
 }
 
 /// The line from its first word on.
@@ -53,9 +62,9 @@ fn separator_place(line: &[u8]) -> Option<usize>
 
 /// Returns whether there is no word in the line.
 pub(crate) fn is_blank(line: &[u8]) -> bool
-    ensures { result ≡ is_blank line.now }
+    ensures { result ≡ is_none_of (words line.now) }
 {
-    line.iter().all(|b| is_separator(*b))
+    split_word(line).is_none()
 }
 
 /// Returns whether the byte separates words.
@@ -81,13 +90,73 @@ pub(crate) fn cell_of(word: &[u8]) -> Option<CellId>
 pub(crate) fn txn_of(word: &[u8]) -> Option<TxnId>
     ensures { result ≡ txn_of word.now }
 {
-    let dot = place_of(word, b'.')?;
-    let session = number_of(MAX_SESSION, &word[..dot])?;
-    let txn = number_of(u32::from(MAX_TRANSACTIONS), &word[dot + 1..])?;
+    let (session, behind) = before_dot(MAX_SESSION, word)?;
+    let txn = number_of(MAX_TXN, behind)?;
     Some(TxnId {
         session: session as u8,
         txn: txn as u16,
     })
+}
+
+/// The item that the word names.
+#[tactic(auto, unfolding(crate::specs::Words::item_of))]
+pub(crate) fn item_of(word: &[u8]) -> Option<ItemId>
+    ensures { result ≡ item_of word.now }
+{
+    let (session, behind) = before_dot(MAX_SESSION, word)?;
+    let (txn, behind) = before_dot(MAX_TXN, behind)?;
+    let seq = number_of(MAX_SEQ, behind)?;
+    Some(ItemId {
+        session: session as u8,
+        txn: txn as u16,
+        seq,
+    })
+}
+
+/// The number before the first dot, up to the limit, and what stands behind the dot.
+#[tactic(auto, unfolding(crate::specs::Words::before_dot))]
+fn before_dot(limit: u32, word: &[u8]) -> Option<(u32, &[u8])>
+    ensures value { option_map (λ p. (p.0, p.1.now)) result ≡ before_dot limit word.now }
+    ensures small { IfSome result (λ p. p.0 ≤ limit) }
+{
+    let dot = place_of(word, b'.')?;
+    let number = number_of(limit, &word[..dot])?;
+    Some((number, &word[dot + 1..]))
+}
+
+/// Whether a turn mirrors, and its quarter turns, as the word spells them.
+#[tactic(auto, unfolding(crate::specs::Words::turning_of))]
+pub(crate) fn turning_of(word: &[u8]) -> Option<(bool, Quarter)>
+    ensures { result ≡ turning_of word.now }
+{
+    let (letter, degrees) = word.split_first()?;
+    let mirror = mirror_of(*letter)?;
+    Some((mirror, quarter_of(degrees)?))
+}
+
+/// Whether a turn of this letter mirrors.
+fn mirror_of(letter: u8) -> Option<bool>
+    ensures { result ≡ mirror_of letter }
+{
+    match letter {
+        b'r' => Some(false),
+        b'm' => Some(true),
+        _ => None,
+    }
+}
+
+/// The quarter turns of so many degrees.
+#[tactic(auto, unfolding(crate::specs::Words::quarter_of))]
+fn quarter_of(degrees: &[u8]) -> Option<Quarter>
+    ensures { result ≡ quarter_of degrees.now }
+{
+    match degrees {
+        b"0" => Some(Quarter::R0),
+        b"90" => Some(Quarter::R90),
+        b"180" => Some(Quarter::R180),
+        b"270" => Some(Quarter::R270),
+        _ => None,
+    }
 }
 
 /// The coordinate that the word spells.
@@ -129,7 +198,6 @@ fn is_negative(word: &[u8]) -> bool
 /// The number that the word spells, `None` where it spells none up to the limit.
 #[tactic(auto, unfolding(crate::specs::Words::number_of))]
 pub(crate) fn number_of(limit: u32, word: &[u8]) -> Option<u32>
-    requires { limit < 2 ^ 32 - 1 }
     ensures value { result ≡ number_of limit word.now }
     ensures small { IfSome result (λ n. n ≤ limit) }
 {
@@ -140,7 +208,7 @@ pub(crate) fn number_of(limit: u32, word: &[u8]) -> Option<u32>
 }
 
 /// Returns whether the word is a digit or more and nothing else.
-fn is_number(word: &[u8]) -> bool
+pub(crate) fn is_number(word: &[u8]) -> bool
     ensures { result ≡ is_number word.now }
 {
     !word.is_empty() && are_digits(word)
@@ -155,11 +223,27 @@ fn are_digits(bytes: &[u8]) -> bool
 
 /// The value of the digits, `None` where it is above the limit.
 fn value_up_to(limit: u32, digits: &[u8]) -> Option<u32>
-    requires small { limit < 2 ^ 32 - 1 }
-    requires digits { AllPass is_digit digits.now }
+    requires { AllPass is_digit digits.now }
     ensures value { result ≡ value_up_to limit digits.now }
     ensures small { IfSome result (λ n. n ≤ limit) }
 {
-    let value = capped_decimal(limit + 1, digits);
-    if limit < value { None } else { Some(value) }
+    let value = capped_value(limit, digits);
+    if u64::from(limit) < value {
+        None
+    } else {
+        Some(value as u32)
+    }
+}
+
+/// The value of the digits, or one more than the limit where that is less.
+fn capped_value(limit: u32, digits: &[u8]) -> u64
+    requires { AllPass is_digit digits.now }
+    ensures { result ≡ capped_decimal (limit + 1) digits.now }
+{
+    let cap = u64::from(limit) + 1;
+    let mut value = 0u64;
+    for digit in digits {
+        value = (10 * value + u64::from(*digit - b'0')).min(cap);
+    }
+    value
 }

@@ -1,7 +1,6 @@
 -- Fewer calls keep a layout free of cycles.
 use Rattle.std.proofs.Common.{ℕ, List, Contains}
 use Rattle.lay_cells.specs.declared.cell_id.CellId.{CellId}
-use Rattle.lay_cells.specs.declared.cell_id.CellId.TheVariants.{Symbol}
 use Rattle.lay_cells.specs.Walks.{IsAcyclic, Walks, goes, stays}
 
 -- each of the calls is among the others

@@ -1,5 +1,5 @@
 -- Places of cells, in an order in which no call goes to an earlier cell.
-use Rattle.std.specs.Prelude.{◌≡◌, ℕ, ◌<◌, Bool, List, Contains, true, nat_le, nat_lt, slice_index_or}
+use Rattle.std.specs.Prelude.{◌≡◌, ◌↔◌, ℕ, ◌<◌, Bool, List, Contains, true, nat_le, nat_lt, slice_index_or}
 use Rattle.std.specs.List.{list_all}
 use Rattle.lay_cells.specs.declared.cell_id.CellId.{CellId}
 use Rattle.lay_cells.specs.declared.cell_id.CellId.TheVariants.{Symbol}
@@ -25,3 +25,7 @@ AreOrdered graph places = list_all (keeps_order graph.symbols places) graph.call
 -- the positions are below this one
 abbrev pub AreBelow : List ℕ → ℕ → Type 0
 AreBelow positions end = (q : ℕ) → Contains positions q → q < end
+
+-- they are the positions below this one
+abbrev pub ArePositions : List ℕ → ℕ → Type 0
+ArePositions positions end = (q : ℕ) → Contains positions q ↔ (q < end)

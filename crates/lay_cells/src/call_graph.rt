@@ -5,12 +5,15 @@ ghost use Rattle.std.specs.List.{list_all};
 ghost use Rattle.lay_cells.specs.Graph.{position_of, row, rows_of, with_target};
 ghost use Rattle.lay_cells.specs.Places.{AreOrdered, goes_later, keeps_order, place_of};
 ghost use Rattle.lay_cells.specs.Symbols.{has_cell};
+ghost use Rattle.lay_cells.specs.Tallies.{counted};
+ghost use Rattle.lay_cells.specs.WalkLists.{AreAllWalks, longest, walks_from};
 ghost use Rattle.lay_cells.specs.Walks.{ClosesCycle, IsAcyclic, IsFirstCycle, Walks};
 
 use crate::cell_id::CellId;
 use crate::cells::Cells;
-use crate::places::callers_first;
+use crate::places::{callees_first, callers_first};
 use crate::search::reached;
+use crate::tally::{Tally, tallied};
 use lay_point::NoMemory;
 use std::alloc::Global;
 use std::marker::Model;
@@ -90,6 +93,40 @@ impl CallGraph {
             }
         }
         Ok(None)
+    }
+
+    /// Returns how many calls the longest walk from a cell has. It looks at each cell and each call a few
+    /// times.
+    pub fn depth(&self, alloc: Global, cell: CellId) -> Result<usize, NoMemory>
+        requires cell { IsTrue (has_cell self.now.symbols cell) }
+        requires acyclic { IsAcyclic self.now.calls }
+        ensures { IfOk result (λ depth. depth ≡ longest (walks_from self.now.calls cell)) }
+    {
+        Ok(self.tally(alloc, cell)?.depth)
+    }
+
+    /// Returns how many walks there are from a cell, the empty one among them, or `MAX_COUNTED_WALKS` where
+    /// there are more. No walk is made: it looks at each cell and each call a few times.
+    pub fn walks(&self, alloc: Global, cell: CellId) -> Result<usize, NoMemory>
+        requires cell { IsTrue (has_cell self.now.symbols cell) }
+        requires acyclic { IsAcyclic self.now.calls }
+        ensures count { IfOk result (λ walks. walks ≡ counted (length (walks_from self.now.calls cell))) }
+        ensures all { AreAllWalks self.now.calls cell (walks_from self.now.calls cell) }
+    {
+        Ok(self.tally(alloc, cell)?.walks)
+    }
+
+    /// Returns how deep the walks from a cell go, and how many there are.
+    fn tally(&self, alloc: Global, cell: CellId) -> Result<Tally, NoMemory>
+        requires cell { IsTrue (has_cell self.now.symbols cell) }
+        requires acyclic { IsAcyclic self.now.calls }
+        ensures depth { IfOk result (λ tally. tally.depth ≡ longest (walks_from self.now.calls cell)) }
+        ensures walks { IfOk result (λ tally. tally.walks
+            ≡ counted (length (walks_from self.now.calls cell))) }
+    {
+        let order = callees_first(alloc, &self.targets, self.calls.len())?;
+        let start = position_of(&self.symbols, cell);
+        tallied(alloc, &self.targets, &order, self.calls.len() + 1, start)
     }
 
     /// Returns places of the cells such that no call goes to an earlier one.

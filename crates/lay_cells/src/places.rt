@@ -1,7 +1,7 @@
 //! Places of cells, callers before what they call.
-ghost use Rattle.std.specs.Prelude.{◌≡◌, ◌<◌, IfOk, OnOk, length};
+ghost use Rattle.std.specs.Prelude.{◌≡◌, ◌<◌, IfOk, OnOk, length, map};
 ghost use Rattle.lay_cells.specs.Graph.{AreWithin, rows_of};
-ghost use Rattle.lay_cells.specs.Places.{AreBelow};
+ghost use Rattle.lay_cells.specs.Places.{AreBelow, ArePositions};
 
 use lay_point::NoMemory;
 use std::alloc::Global;
@@ -67,6 +67,24 @@ pub fn callers_first(
         }
     }
     places_of(alloc, marks.as_slice())
+}
+
+/// Returns each position under a key, those of cells before those of their callers where that can be.
+pub fn callees_first(
+    alloc: Global,
+    rows: &Vec<Vec<usize>>,
+    calls: usize,
+) -> Result<Vec<(usize, usize)>, NoMemory>
+    requires { AreWithin (rows_of rows.now.items) }
+    ensures { IfOk result (λ order. ArePositions (map (λ entry. entry.1) order.items) (length rows.now.items)) }
+{
+    let places = callers_first(alloc, rows, calls)?;
+    let mut order = Vec::new(alloc);
+    for (position, place) in places.iter().enumerate() {
+        order.push((usize::MAX - *place, position))?;
+    }
+    order.sort_unstable();
+    Ok(order)
 }
 
 /// Returns the positions below the end.

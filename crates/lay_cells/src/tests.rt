@@ -226,3 +226,81 @@ fn cycles_above_100000_calls_are_found(rt: HostRuntime) -> Result<(), Fail> {
     assert_eq!(rt; first_cycle(rt.alloc(), &numbers, &calls)?, Some(want));
     Ok(())
 }
+
+/// The depth below a cell and the number of its walks, where there is no cycle.
+fn tally(
+    alloc: Global,
+    numbers: &[u32],
+    calls: &[(CellId, u32)],
+    cell: CellId,
+) -> Result<Option<(usize, usize)>, NoMemory> {
+    let symbols = symbols_of(alloc, numbers)?;
+    let graph = graph_of(alloc, &symbols, calls)?;
+    if is_cell(&symbols, cell) && graph.first_cycle(alloc)?.is_none() {
+        let depth = graph.depth(alloc, cell)?;
+        return Ok(Some((depth, graph.walks(alloc, cell)?)));
+    }
+    Ok(None)
+}
+
+// Could catch a definition that leaves out the empty walk, takes two calls of one symbol for one, or counts
+// walks from other cells, and calls that fail.
+#[test]
+fn walks_are_counted_and_their_depth_is_found(rt: HostRuntime) -> Result<(), Fail> {
+    let top = CellId::Top;
+    let one = CellId::Symbol(1);
+    let two = CellId::Symbol(2);
+    let nine = CellId::Symbol(9);
+    let rows: [(&[(CellId, u32)], CellId, (usize, usize)); 7] = [
+        (&[], top, (0, 1)),
+        (&[(one, 2)], top, (0, 1)),
+        (&[(top, 1), (top, 1)], top, (1, 3)),
+        (&[(top, 2), (two, 1), (top, 1)], top, (2, 4)),
+        (&[(top, 9), (nine, 1), (nine, 2), (two, 1)], top, (3, 5)),
+        (&[(top, 9), (nine, 1), (nine, 2), (two, 1)], nine, (2, 4)),
+        (
+            &[(one, 2), (one, 2), (two, 9), (two, 9), (top, 1)],
+            one,
+            (2, 7),
+        ),
+    ];
+    for (calls, cell, want) in rows {
+        let found = tally(rt.alloc(), &[9, 1, 2], calls, cell)?;
+        assert_eq!(rt; found, Some(want), "{calls:?} from {cell:?}");
+    }
+    Ok(())
+}
+
+/// Calls of symbols, each of the next one, so many times each.
+fn chain(
+    alloc: Global,
+    length: u32,
+    times: u32,
+) -> Result<(Vec<u32>, Vec<(CellId, u32)>), NoMemory> {
+    let mut numbers = Vec::new(alloc);
+    let mut calls = Vec::new(alloc);
+    for number in 0..length {
+        numbers.push(number)?;
+        for _ in 0..times {
+            calls.push((CellId::Symbol(number), number.wrapping_add(1)))?;
+        }
+    }
+    Ok((numbers, calls))
+}
+
+// Could catch a count that goes through the walks, one that stops elsewhere, and a limit of the depth.
+#[test]
+fn deep_chains_are_counted_at_once(rt: HostRuntime) -> Result<(), Fail> {
+    let rows = [
+        (16, 2, (15, 65_535)),
+        (17, 2, (16, 65_537)),
+        (4_096, 1, (4_095, 4_096)),
+        (4_096, 2, (4_095, 65_537)),
+    ];
+    for (length, times, want) in rows {
+        let (numbers, calls) = chain(rt.alloc(), length, times)?;
+        let found = tally(rt.alloc(), &numbers, &calls, CellId::Symbol(0))?;
+        assert_eq!(rt; found, Some(want), "{length} symbols called {times} times");
+    }
+    Ok(())
+}

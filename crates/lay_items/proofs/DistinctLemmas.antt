@@ -17,11 +17,11 @@ inserted m [] = m
 inserted m (e ∷ es) = inserted (insert m e.0 e.1) es
 
 -- the first value that is there
-abbrev or_else : {X : Type 0} → Option X → Option X → Option X
+abbrev pub or_else : {X : Type 0} → Option X → Option X → Option X
 or_else None old = old
 or_else (Some x) old = Some x
 
-or_none : {X : Type 0} (o : Option X) → or_else o None ≡ o
+pub or_none : {X : Type 0} (o : Option X) → or_else o None ≡ o
 or_none None = refl
 or_none (Some x) = refl
 

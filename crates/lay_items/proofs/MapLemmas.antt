@@ -1,16 +1,18 @@
 -- A tree's entries as a finite map: what it has at a key, and what an insert and a removal leave.
-use Rattle.std.proofs.Common.{◌≡◌, List, [], ◌∷◌, Some, None, cond, refl, ap, sym, ◌∙◌, length, arith}
+use Rattle.std.proofs.Common.{◌≡◌, true, List, [], ◌∷◌, Some, None, cond, refl, ap, sym, ◌∙◌, length, arith}
 use Rattle.std.specs.declared.cmp.Ordering.{Ordering}
-use Rattle.std.specs.Ordering.{eq_by_cmp}
+use Rattle.std.specs.Ordering.{eq_by_cmp, is_lt}
 use Rattle.std.specs.BTreeMap.{is_at}
 use Rattle.std.specs.Map.{lookup}
 use Rattle.std.specs.Cmp.{IsTotalOrder, eq_by_cmp_equiv}
-use Rattle.std.specs.declared.cmp.Ordering.TheVariants.{Less}
+use Rattle.std.specs.declared.cmp.Ordering.TheVariants.{Equal, Greater, Less}
 use Rattle.std.specs.List.{AllByRecursion}
 use Rattle.std.specs.List.Sorted.{IsStrictlySortedBy}
 use Rattle.std.specs.Map.{keys_of}
 use Rattle.std.specs.FinMap.{IsAntisymmetric, empty, entries, entries-insert, find, from_entries, get, get-from_entries, get-insert}
-use Rattle.std.specs.FinMap.{get-remove, insert, len-empty, len-entries, put, remove, same_map}
+use Rattle.std.specs.FinMap.Entries.{below_all}
+use Rattle.std.proofs.lemmas.Bool.{and_parts}
+use Rattle.std.specs.FinMap.{is_sorted, get-remove, insert, len-empty, len-entries, put, remove, same_map}
 
 find_lookup : {K X : Type 0} (R : K → K → Ordering) (es : List (K × X)) (q : K) → find R q es ≡ lookup (is_at (R q)) es
 find_lookup R [] q = refl
@@ -54,3 +56,18 @@ entries_again {K} {X} R total [] sorted = no_length _ (sym (len-entries (empty {
 entries_again R total (e ∷ es) sorted =
     entries-insert total (from_entries es) e.0 e.1 ∙ ap (put R e.0 e.1) (entries_again R total es sorted.1)
     ∙ put_first R e.0 e.1 es sorted.0
+
+-- keys in order
+pub sorted_keys : {K X : Type 0} (R : K → K → Ordering) (es : List (K × X)) → is_sorted R es ≡ true → IsStrictlySortedBy R (keys_of es)
+unfolding IsStrictlySortedBy
+sorted_keys R [] h = tt
+sorted_keys {K} {X} R (e ∷ es) h =
+    let both = and_parts (below_all R e.0 es) (is_sorted R es) h in (below es both.0, sorted_keys R es both.1) where
+      less : (o : Ordering) → is_lt o ≡ true → o ≡ Less
+      less Less h = refl
+      less Equal h = absurd cc
+      less Greater h = absurd cc
+
+      below : (fs : List (K × X)) → below_all R e.0 fs ≡ true → AllByRecursion (λ y. R e.0 y ≡ Less) (keys_of fs)
+      below [] h = tt
+      below (f ∷ fs) h = let both = and_parts (is_lt (R e.0 f.0)) (below_all R e.0 fs) h in (less (R e.0 f.0) both.0, below fs both.1)

@@ -37,7 +37,7 @@ id_first p q [] h = tt
 id_first p q (item ∷ items) h = (text_ids p q h, id_first p (q + 1) items (omega arith))
 
 -- and in order of them
-numbered_sorted : (k : ℕ) (items : List Item) → IsStrictlySortedBy id_cmp (keys_of (numbered_from k items))
+pub numbered_sorted : (k : ℕ) (items : List Item) → IsStrictlySortedBy id_cmp (keys_of (numbered_from k items))
 unfolding IsStrictlySortedBy
 numbered_sorted k [] = tt
 numbered_sorted k (item ∷ items) = (id_first k (k + 1) items (omega arith), numbered_sorted (k + 1) items)

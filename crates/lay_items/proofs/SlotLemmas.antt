@@ -23,20 +23,20 @@ use Rattle.lay_items.specs.SlotOrder.{by_standing, in_slot_order, rank, standing
 use Rattle.lay_items.proofs.DistinctLemmas.{AreDistinct, inserted}
 use Rattle.lay_items.proofs.MapLemmas.{entries_again}
 
-standings_total : IsTotalOrder standing_cmp
+pub standings_total : IsTotalOrder standing_cmp
 standings_total =
     then_total (then_total (on_total (λ s. s.0.0) nat_cmp_total) (on_total (λ s. s.0.1) nat_cmp_total))
     (on_total (λ s. s.1) nat_cmp_total)
 
-standings_exact : IsAntisymmetric standing_cmp
+pub standings_exact : IsAntisymmetric standing_cmp
 standings_exact = exact_pairs _ nat_cmp (exact_pairs nat_cmp nat_cmp exact_unsigned exact_unsigned) exact_unsigned
 
 -- the number of the symbol in a slot, where that has this rank
-abbrev of_rank : ℕ × ℕ → ℕ → Option CellSlot → Option ℕ
+abbrev pub of_rank : ℕ × ℕ → ℕ → Option CellSlot → Option ℕ
 of_rank r n None = None
 of_rank r n (Some slot) = cond (is_eq (ordering_then (nat_cmp r.0 (rank slot).0) (nat_cmp r.1 (rank slot).1))) (Some n) None
 
-is_eq-then : (a b : Ordering) → is_eq (ordering_then a b) ≡ (is_eq a && is_eq b)
+pub is_eq-then : (a b : Ordering) → is_eq (ordering_then a b) ≡ (is_eq a && is_eq b)
 is_eq-then Less b = refl
 is_eq-then Equal b = refl
 is_eq-then Greater b = refl
@@ -51,7 +51,7 @@ other_number true x rest = refl
 other_number false x rest = refl
 
 -- a symbol of a list with distinct numbers is found by its standing where its slot has that rank
-find-standings : (es : List (ℕ × CellSlot)) (r : ℕ × ℕ) (n : ℕ) → AreDistinct nat_cmp es
+pub find-standings : (es : List (ℕ × CellSlot)) (r : ℕ × ℕ) (n : ℕ) → AreDistinct nat_cmp es
     → find standing_cmp (r, n) (map standing_of es) ≡ of_rank r n (find nat_cmp n es)
 find-standings [] r n h = refl
 find-standings (e ∷ es) r n h =
@@ -69,7 +69,7 @@ find-standings (e ∷ es) r n h =
       by_number behind false is = other_number _ (Some e.0) _ ∙ behind
 
 -- the test holds
-tested : (b : Bool) → T b → b ≡ true
+pub tested : (b : Bool) → T b → b ≡ true
 tested true h = refl
 tested false h = absurd h
 
@@ -85,7 +85,7 @@ find-below {K} {X} R k (e ∷ es) h =
       less Greater h = absurd cc
 
 -- keys in order are distinct
-sorted-distinct : {K X : Type 0} (R : K → K → Ordering) (es : List (K × X)) → is_sorted R es ≡ true → AreDistinct R es
+pub sorted-distinct : {K X : Type 0} (R : K → K → Ordering) (es : List (K × X)) → is_sorted R es ≡ true → AreDistinct R es
 sorted-distinct R [] h = tt
 sorted-distinct R (e ∷ es) h =
     let both = and_parts (below_all R e.0 es) (is_sorted R es) h in

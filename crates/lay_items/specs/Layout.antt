@@ -2,6 +2,7 @@
 -- Source: Caltech Intermediate Form 2.0 has symbols by number and the elements of each; slots, items and
 -- their ids are this project's own.
 use Rattle.std.specs.Prelude.{◌≡◌, ℕ, List, [], ◌∷◌, Option, None, Some, Bool, true, is_some, refl}
+use Rattle.std.specs.declared.cmp.Ordering.{Ordering}
 use Rattle.std.specs.declared.cmp.Ordering.TheVariants.{Less}
 use Rattle.std.specs.Ordering.{nat_cmp}
 use Rattle.std.specs.FinMap as map
@@ -49,26 +50,42 @@ abbrev pub is_cell : Layout → CellId → Bool
 is_cell layout Top = true
 is_cell layout (Symbol number) = is_some (map.get layout.symbols number)
 
--- a write: under the id stands this item from then on, or none
+-- a write of an item: under the id stands this item from then on, or none
 abbrev pub Write : Type 0
 Write = ItemId × Option Item
 
--- the items after a write
-abbrev pub put : FinMap id_cmp Item → ItemId → Option Item → FinMap id_cmp Item
-put items id None = map.remove items id
-put items id (Some item) = map.insert items id item
+-- a write of a symbol: it has this slot from then on, or is there no more
+abbrev pub SymbolWrite : Type 0
+SymbolWrite = ℕ × Option CellSlot
 
--- the items after these writes, the first of them first
-abbrev pub put_all : FinMap id_cmp Item → List Write → FinMap id_cmp Item
-put_all items [] = items
-put_all items (write ∷ writes) = put_all (put items write.0 write.1) writes
+-- what is written: items and symbols
+pub record Writes : Type 0 where
+  pub items : List Write
+  pub symbols : List SymbolWrite
+
+-- a map after a write
+abbrev pub put : {K X : Type 0} {R : K → K → Ordering} → FinMap R X → K → Option X → FinMap R X
+put entries key None = map.remove entries key
+put entries key (Some value) = map.insert entries key value
+
+-- a map after these writes, the first of them first
+abbrev pub put_all : {K X : Type 0} {R : K → K → Ordering} → FinMap R X → List (K × Option X) → FinMap R X
+put_all entries [] = entries
+put_all entries (write ∷ writes) = put_all (put entries write.0 write.1) writes
 
 -- the layout after these writes
-abbrev pub written : Layout → List Write → Layout
-written layout writes = record { symbols = layout.symbols; items = put_all layout.items writes }
+abbrev pub changed : Layout → Writes → Layout
+changed layout writes = record { symbols = put_all layout.symbols writes.symbols; items = put_all layout.items writes.items }
 
--- each id is above the one before it
+-- the layout after writes of items alone
+abbrev pub written : Layout → List Write → Layout
+written layout writes = changed layout (record { items = writes; symbols = [] })
+
+-- each key is above the one before it
+abbrev pub AreRising : {K X : Type 0} → (K → K → Ordering) → List (K × X) → Type 0
+AreRising cmp [] = Unit {0}
+AreRising cmp (w ∷ []) = Unit {0}
+AreRising cmp (w ∷ v ∷ writes) = (cmp w.0 v.0 ≡ Less) × AreRising cmp (v ∷ writes)
+
 abbrev pub IsRising : List Write → Type 0
-IsRising [] = Unit {0}
-IsRising (w ∷ []) = Unit {0}
-IsRising (w ∷ v ∷ writes) = (id_cmp w.0 v.0 ≡ Less) × IsRising (v ∷ writes)
+IsRising writes = AreRising id_cmp writes

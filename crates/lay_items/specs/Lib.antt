@@ -1,4 +1,6 @@
+pub mod ByCell
 pub mod Calls
+pub mod Entries
 pub mod FromCif
 pub mod IdOrder
 pub mod IdText
@@ -6,6 +8,7 @@ pub mod Ids
 pub mod Items
 pub mod Layout
 pub mod LayoutWith
+pub mod Lent
 pub mod Same
 pub mod SameLayout
 pub mod SameMap

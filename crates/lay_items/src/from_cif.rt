@@ -1,37 +1,38 @@
 //! The elements of a text as items.
 ghost use Rattle.std.specs.Prelude.{◌≡◌, IfOk};
-ghost use Rattle.lay_items.specs.FromCif.{item_of, items_of_top};
+ghost use Rattle.lay_items.specs.FromCif.{item_of, items_of_elements};
 
 use crate::item::{Item, Rings};
 use cif_read::{Element, Figure};
-use lay_cells::CellId;
 use lay_point::NoMemory;
 use std::alloc::Global;
 
-/// Returns the elements of the top cell as items, in order.
-pub(crate) fn top_items(alloc: Global, elements: Vec<Element>) -> Result<Vec<Item>, NoMemory>
-    ensures { IfOk result (λ items. items.items ≡ items_of_top elements.items) }
+/// Returns the elements as items, in order.
+pub(crate) fn items_of(alloc: Global, elements: Vec<Element>) -> Result<Vec<Item>, NoMemory>
+    ensures { IfOk result (λ items. items.items ≡ items_of_elements elements.items) }
 {
     let mut items = Vec::with_capacity(alloc, elements.len())?;
     for element in elements {
-        items.push(item_of(alloc, element.figure)?)?;
+        items.push(item_of(alloc, element)?)?;
     }
     Ok(items)
 }
 
-/// Returns a figure of the top cell as an item.
-fn item_of(alloc: Global, figure: Figure) -> Result<Item, NoMemory>
-    ensures { IfOk result (λ item. item ≡ item_of figure) }
+/// Returns an element as an item.
+fn item_of(alloc: Global, element: Element) -> Result<Item, NoMemory>
+    ensures { IfOk result (λ item. item ≡ item_of element) }
 {
+    let Element { cell, figure } = element;
     match figure {
         Figure::Polygon { layer, ring } => {
             let mut rings = Vec::with_capacity(alloc, 1)?;
             rings.push(ring)?;
             Ok(Item::Shape {
-                cell: CellId::Top,
+                cell,
                 layer,
                 rings: Rings::new(alloc, rings)?,
             })
         }
+        Figure::Call { target, turn } => Ok(Item::Placed { cell, target, turn }),
     }
 }

@@ -15,18 +15,23 @@
 //! ```
 #![tactic(auto)]
 
+mod cell_index;
+mod entries;
 mod from_cif;
 mod id;
 mod item;
+mod item_map;
 mod iter;
 mod parts;
 mod snapshot;
+mod symbol_map;
 #[cfg(test)]
 mod tests;
+mod trees;
 mod version;
 
 pub use id::ItemId;
 pub use item::{Item, Rings};
-pub use iter::Items;
+pub use iter::{Calls, Entries, Items, Shapes};
 pub use snapshot::Snapshot;
 pub use version::{CellSlot, Version};

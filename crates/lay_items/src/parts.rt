@@ -1,14 +1,12 @@
-//! The maps of a version that is made of lists.
+//! The map of symbols that is made of a list.
 ghost use Rattle.std.specs.Prelude.{◌≡◌, ◌+◌, IfOk, OnOk, nat_eq};
 ghost use Rattle.std.specs.List.{IsDistinct};
 ghost use Rattle.std.specs.FinMap as map;
 ghost use Rattle.lay_items.specs.declared.version.CellSlot.TheVariants.{Base};
-ghost use Rattle.lay_items.specs.Layout.{items_of, symbols_of};
-ghost use Rattle.lay_items.specs.LayoutWith.{numbered_from, placed_from, text_id};
+ghost use Rattle.lay_items.specs.Layout.{symbols_of};
+ghost use Rattle.lay_items.specs.LayoutWith.{placed_from};
 
-use crate::id::ItemId;
-use crate::item::Item;
-use crate::version::{CellSlot, insert_item};
+use crate::version::CellSlot;
 use lay_cells::Cells;
 use lay_point::NoMemory;
 use std::alloc::Global;
@@ -44,36 +42,9 @@ fn insert_symbol(
     Ok(())
 }
 
-/// Returns the items under the ids 0.0.1 and on.
-pub(crate) fn text_items(
-    alloc: Global,
-    items: Vec<Item>,
-) -> Result<BTreeMap<ItemId, Item>, NoMemory>
-    ensures { IfOk result (λ numbered. items_of numbered.entries ≡ items_of (numbered_from 1 items.items)) }
-{
-    let mut numbered = BTreeMap::new(alloc);
-    let mut seq: u32 = 0;
-    for item in items {
-        seq = one_more(seq)?;
-        insert_item(&mut numbered, text_id(seq), item)?;
-    }
-    Ok(numbered)
-}
-
 /// Returns the next number, where a `u32` has it.
-fn one_more(number: u32) -> Result<u32, NoMemory>
+pub(crate) fn one_more(number: u32) -> Result<u32, NoMemory>
     ensures { IfOk result (λ next. next ≡ number + 1) }
 {
     number.checked_add(1).ok_or(NoMemory)
-}
-
-/// Returns the id of an item of a text.
-fn text_id(seq: u32) -> ItemId
-    ensures { result ≡ text_id seq }
-{
-    ItemId {
-        session: 0,
-        txn: 0,
-        seq,
-    }
 }

@@ -5,17 +5,18 @@ ghost use Rattle.lay_point.specs.Memory.{IsAnswer};
 ghost use Rattle.lay_items.specs.FromCif.{layout_of};
 ghost use Rattle.lay_items.specs.Items.{items_in};
 ghost use Rattle.lay_items.specs.Layout.{item_at};
+ghost use Rattle.lay_items.specs.Lent.{calls_in, points_at, shapes_in};
 ghost use Rattle.lay_items.specs.SlotOrder.{in_slot_order};
 ghost use Rattle.lay_items.specs.Sound.{IsSound};
 
-use crate::from_cif::top_items;
+use crate::from_cif::items_of;
 use crate::id::ItemId;
 use crate::item::Item;
-use crate::iter::Items;
+use crate::iter::{Calls, Items, Shapes};
 use crate::version::{CellSlot, Version};
 use cif_read::CifFile;
 use lay_cells::{CellId, Cells};
-use lay_point::NoMemory;
+use lay_point::{LayerName, NoMemory, Point};
 use std::alloc::Global;
 use std::marker::Model;
 use std::sync::Arc;
@@ -41,12 +42,14 @@ impl Model for Snapshot {
 }
 
 impl Snapshot {
-    /// Returns the layout of a text's meaning: its element q is item 0.0.q.
+    /// Returns the layout of a text's meaning: its symbols in the order of their definitions, and its
+    /// element q as item 0.0.q.
     pub fn from_cif(alloc: Global, file: CifFile) -> Result<Snapshot, NoMemory>
-        ensures { IsAnswer (record {}) result (Ok (layout_of file.top)) }
+        ensures { IsAnswer (record {}) result (Ok (layout_of file)) }
     {
-        let items = top_items(alloc, file.top.into_vec())?;
-        let version = Version::of_parts(alloc, &Cells::new(alloc), items)?;
+        let (symbols, elements) = file.into_parts();
+        let items = items_of(alloc, elements)?;
+        let version = Version::of_parts(alloc, &symbols, items)?;
         Snapshot::of(alloc, version)
     }
 
@@ -97,12 +100,45 @@ impl Snapshot {
         self.version().slot(number)
     }
 
-    /// Lends the items of a cell, in order of their ids.
-    #[tactic(auto, unfolding(crate::specs::Items::items_in))]
+    /// Returns the number of items.
+    pub fn size(&self) -> usize
+        ensures { result ≡ map.len self.now.items }
+    {
+        self.version().size()
+    }
+
+    /// Lends the points of an item's ring, where it is a shape that has one of this index.
+    pub fn points(&self, id: ItemId, ring: usize) -> Option<&[Point]>
+        ensures { option_copied result ≡ points_at self.now id ring }
+    {
+        match self.item(id)? {
+            Item::Shape { rings, .. } => Some(rings.as_slice().get(ring)?.points()),
+            Item::Placed { .. } => None,
+        }
+    }
+
+    /// Lends the items of a cell, in order of their ids. It doesn't go over those of other cells.
     pub fn items(&self, cell: CellId) -> Items<'_>
         ensures { result ≡ items_in self.now cell }
     {
-        Items::new(self.version().iter(), cell)
+        self.version().items(cell)
+    }
+
+    /// Lends the shapes of a cell on a layer, each its id and its rings, in order of their ids.
+    #[tactic(auto, unfolding(crate::specs::Lent::shapes_in))]
+    pub fn shapes(&self, cell: CellId, layer: &LayerName) -> Shapes<'_>
+        ensures { result ≡ shapes_in self.now cell layer.now }
+    {
+        Shapes::new(self.items(cell), *layer)
+    }
+
+    /// Lends the calls that stand in a cell, each its id, the number of the symbol that it calls and what is
+    /// done to that, in order of their ids.
+    #[tactic(auto, unfolding(crate::specs::Lent::calls_in))]
+    pub fn calls(&self, cell: CellId) -> Calls<'_>
+        ensures { result ≡ calls_in self.now cell }
+    {
+        Calls::new(self.items(cell))
     }
 }
 

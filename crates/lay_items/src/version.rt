@@ -1,22 +1,26 @@
-//! Versions of a layout, kept as two ordered maps and a list of the symbols.
-ghost use Rattle.std.specs.Prelude.{◌≡◌, IfOk, OnOk, Ok, option_copied};
+//! Versions of a layout, each a map of symbols and one of items, which they share.
+ghost use Rattle.std.specs.Prelude.{◌≡◌, IfOk, Ok, option_copied};
+ghost use Rattle.std.specs.Arc.{arc_value};
 ghost use Rattle.std.specs.FinMap as map;
+ghost use Rattle.std.specs.Ordering.{nat_cmp};
 ghost use Rattle.lay_point.specs.Memory.{IsAnswer};
-ghost use Rattle.lay_items.specs.Layout.{IsRising, is_cell, item_at, items_of, no_items};
-ghost use Rattle.lay_items.specs.Layout.{put, put_all, written};
+ghost use Rattle.lay_items.specs.Ids.{id_cmp};
+ghost use Rattle.lay_items.specs.Items.{items_in};
+ghost use Rattle.lay_items.specs.Layout.{AreRising, changed, is_cell, item_at, no_items, put_all};
 ghost use Rattle.lay_items.specs.LayoutWith.{layout_with};
 ghost use Rattle.lay_items.specs.Same.{symbols_eq};
-ghost use Rattle.lay_items.specs.SameMap.{map_eq};
 ghost use Rattle.lay_items.specs.SlotOrder.{in_slot_order};
 
 use crate::id::ItemId;
 use crate::item::Item;
-use crate::parts::{base_symbols, text_items};
+use crate::item_map::ItemMap;
+use crate::iter::{Entries, Items};
+use crate::symbol_map::SymbolMap;
 use lay_cells::{CellId, Cells};
 use lay_point::NoMemory;
 use std::alloc::Global;
-use std::collections::{BTreeMap, btree_map};
 use std::marker::Model;
+use std::sync::Arc;
 
 /// Where a symbol stands among the symbols of a layout.
 #[derive(Clone, Copy, Debug, PartialEq, Eq)]
@@ -27,43 +31,33 @@ pub enum CellSlot {
     Made,
 }
 
-/// A layout as it is at one time. Contracts see the finite maps of its symbols and of its items.
+/// A layout as it is at one time. Contracts see the finite maps of its symbols and of its items. Versions
+/// that differ in items alone share their symbols, and the other way round.
 #[derive(Drop)]
 pub struct Version {
-    symbols: BTreeMap<u32, CellSlot>,
-    /// The symbols' numbers in the order of their slots.
-    cells: Cells,
-    items: BTreeMap<ItemId, Item>,
+    symbols: Arc<SymbolMap>,
+    items: Arc<ItemMap>,
 }
 
 impl Model for Version {
-    ghost use Rattle.lay_items.specs.Layout.{Layout, coded_layout, items_of, symbols_of};
+    ghost use Rattle.std.specs.Arc.{arc_value};
+    ghost use Rattle.lay_items.specs.Layout.{Layout, coded_layout};
 
     ghost Value = { Layout };
 
     ghost coded = { coded_layout };
 
-    ghost view = { λ v. record {
-      symbols = symbols_of v.symbols.entries;
-      items = items_of v.items.entries;
-    } };
-
-    ghost use Rattle.std.specs.Prelude.{◌≡◌};
-    ghost use Rattle.lay_items.specs.SlotOrder.{in_slot_order};
-
-    ghost invariant = { λ v. v.cells ≡ in_slot_order (symbols_of v.symbols.entries) };
+    ghost view = { λ v. record { symbols = arc_value v.symbols; items = arc_value v.items } };
 }
 
 impl Version {
     /// Returns the layout without symbols and items.
-    pub fn new(alloc: Global) -> Version
-        ensures { result ≡ no_items }
+    pub fn new(alloc: Global) -> Result<Version, NoMemory>
+        ensures { IsAnswer (record {}) result (Ok no_items) }
     {
-        Version {
-            symbols: BTreeMap::new(alloc),
-            cells: Cells::new(alloc),
-            items: BTreeMap::new(alloc),
-        }
+        let symbols = Arc::new(alloc, SymbolMap::new(alloc))?;
+        let items = Arc::new(alloc, ItemMap::new(alloc))?;
+        Ok(Version { symbols, items })
     }
 
     /// Returns the layout of these symbols, in this order, and of these items, of which the q-th has the id
@@ -71,21 +65,23 @@ impl Version {
     pub fn of_parts(alloc: Global, symbols: &Cells, items: Vec<Item>) -> Result<Version, NoMemory>
         ensures { IsAnswer (record {}) result (Ok (layout_with symbols.now items.items)) }
     {
-        let base = base_symbols(alloc, symbols)?;
-        let cells = symbols.clone()?;
-        let items = text_items(alloc, items)?;
-        Ok(Version {
-            symbols: base,
-            cells,
-            items,
-        })
+        let symbols = Arc::new(alloc, SymbolMap::of_text(alloc, symbols)?)?;
+        let items = Arc::new(alloc, ItemMap::of_text(alloc, items)?)?;
+        Ok(Version { symbols, items })
     }
 
     /// Returns the item of this id.
     pub fn item(&self, id: ItemId) -> Option<&Item>
         ensures { option_copied result ≡ item_at self.now id }
     {
-        self.items.get(&id)
+        self.item_map().get(id)
+    }
+
+    /// Returns the number of items.
+    pub fn size(&self) -> usize
+        ensures { result ≡ map.len self.now.items }
+    {
+        self.item_map().len()
     }
 
     /// Returns whether the cell is there: the top cell, and each symbol.
@@ -94,7 +90,7 @@ impl Version {
     {
         match cell {
             CellId::Top => true,
-            CellId::Symbol(number) => self.symbols.contains_key(&number),
+            CellId::Symbol(number) => self.symbol_map().has(number),
         }
     }
 
@@ -103,48 +99,97 @@ impl Version {
     pub fn cells(&self) -> &Cells
         ensures { result.now ≡ in_slot_order self.now.symbols }
     {
-        &self.cells
+        self.symbol_map().cells()
     }
 
     /// Returns the slot of the symbol of this number, where there is one.
     pub fn slot(&self, number: u32) -> Option<CellSlot>
         ensures { result ≡ map.get self.now.symbols number }
     {
-        self.symbols.get(&number).copied()
+        self.symbol_map().get(number)
     }
 
     /// Returns whether another layout has the same symbols in the same slots.
     pub fn has_symbols_of(&self, other: &Version) -> bool
         ensures { result ≡ symbols_eq self.now.symbols other.now.symbols }
     {
-        are_same(&self.symbols, &other.symbols)
+        self.symbol_map().is_same(other.symbol_map())
     }
 
     /// Returns the ids and the items, in order of the ids.
-    pub fn iter(&self) -> btree_map::Iter<'_, ItemId, Item>
+    pub fn iter(&self) -> Entries<'_>
         ensures { result ≡ map.entries self.now.items }
     {
-        self.items.iter()
+        self.item_map().iter()
     }
 
-    /// Returns the layout after these writes, each an id and the item that stands under it from then on,
-    /// or none. The maps have allocators of their own, so this one has no use as yet.
+    /// Lends the items of a cell, in order of their ids. It doesn't go over those of other cells.
+    #[tactic(auto, unfolding(crate::specs::Items::items_in))]
+    pub fn items(&self, cell: CellId) -> Items<'_>
+        ensures { result ≡ items_in self.now cell }
+    {
+        self.item_map().in_cell(cell)
+    }
+
+    /// Returns the layout after these writes: under an id or a number stands this item or slot from then on,
+    /// or none. What isn't written is shared.
     pub fn with(
         &self,
-        _alloc: Global,
-        writes: &[(ItemId, Option<Item>)],
+        alloc: Global,
+        items: &[(ItemId, Option<Item>)],
+        symbols: &[(u32, Option<CellSlot>)],
     ) -> Result<Version, NoMemory>
-        requires { IsRising writes.now }
-        ensures { IsAnswer (record {}) result (Ok (written self.now writes.now)) }
+        requires items { AreRising id_cmp items.now }
+        requires symbols { AreRising nat_cmp symbols.now }
+        ensures { IsAnswer (record {}) result
+            (Ok (changed self.now (record { items = items.now; symbols = symbols.now }))) }
     {
-        let items = put_all(&self.items, writes)?;
-        let symbols = self.symbols.clone()?;
-        let cells = self.cells.clone()?;
-        Ok(Version {
-            symbols,
-            cells,
-            items,
-        })
+        let symbols = self.symbols_with(alloc, symbols)?;
+        let items = self.items_with(alloc, items)?;
+        Ok(Version { symbols, items })
+    }
+
+    /// Returns the symbols after these writes.
+    fn symbols_with(
+        &self,
+        alloc: Global,
+        writes: &[(u32, Option<CellSlot>)],
+    ) -> Result<Arc<SymbolMap>, NoMemory>
+        ensures { IfOk result (λ new. arc_value new ≡ put_all self.now.symbols writes.now) }
+    {
+        if writes.is_empty() {
+            return Ok(Arc::try_clone(&self.symbols)?);
+        }
+        Ok(Arc::new(alloc, self.symbol_map().with(alloc, writes)?)?)
+    }
+
+    /// Returns the items after these writes.
+    fn items_with(
+        &self,
+        alloc: Global,
+        writes: &[(ItemId, Option<Item>)],
+    ) -> Result<Arc<ItemMap>, NoMemory>
+        requires { AreRising id_cmp writes.now }
+        ensures { IfOk result (λ new. arc_value new ≡ put_all self.now.items writes.now) }
+    {
+        if writes.is_empty() {
+            return Ok(Arc::try_clone(&self.items)?);
+        }
+        Ok(Arc::new(alloc, self.item_map().with(alloc, writes)?)?)
+    }
+
+    /// Returns the symbols.
+    fn symbol_map(&self) -> &SymbolMap
+        ensures { result.now ≡ self.now.symbols }
+    {
+        &self.symbols
+    }
+
+    /// Returns the items.
+    fn item_map(&self) -> &ItemMap
+        ensures { result.now ≡ self.now.items }
+    {
+        &self.items
     }
 }
 
@@ -156,7 +201,7 @@ impl PartialEq for Version {
     ghost laws = { layout_eq_partial };
 
     fn eq(&self, other: &Version) -> bool {
-        self.has_symbols_of(other) && are_same(&self.items, &other.items)
+        self.has_symbols_of(other) && self.item_map().is_same(other.item_map())
     }
 }
 
@@ -164,54 +209,4 @@ impl Eq for Version {
     ghost use Rattle.lay_items.specs.SameLayout.{layout_eq_equiv};
 
     ghost laws = { layout_eq_equiv };
-}
-
-/// Returns whether two trees have the same values under the same keys.
-fn are_same<K: Ord, V: PartialEq>(entries: &BTreeMap<K, V>, others: &BTreeMap<K, V>) -> bool
-    ensures { result ≡ map_eq {R = K.cmp} K.eq V.eq
-        (map.from_entries entries.now.entries) (map.from_entries others.now.entries) }
-{
-    entries.len() == others.len() && entries == others
-}
-
-/// Returns a copy of the items after these writes.
-fn put_all(
-    items: &BTreeMap<ItemId, Item>,
-    writes: &[(ItemId, Option<Item>)],
-) -> Result<BTreeMap<ItemId, Item>, NoMemory>
-    ensures { IfOk result (λ new.
-        items_of new.entries ≡ put_all (items_of items.now.entries) writes.now) }
-{
-    let mut new = items.clone()?;
-    for (id, item) in writes {
-        put(&mut new, *id, item)?;
-    }
-    Ok(new)
-}
-
-/// Inserts the item under the id, or removes what is there.
-fn put(items: &mut BTreeMap<ItemId, Item>, id: ItemId, item: &Option<Item>) -> Result<(), NoMemory>
-    ensures { OnOk result
-        (items_of items.new.entries ≡ put (items_of items.old.entries) id item.now) }
-{
-    match item {
-        Some(item) => insert_item(items, id, item.clone()?),
-        None => {
-            items.remove(&id);
-            Ok(())
-        }
-    }
-}
-
-/// Inserts the item under the id.
-pub(crate) fn insert_item(
-    items: &mut BTreeMap<ItemId, Item>,
-    id: ItemId,
-    item: Item,
-) -> Result<(), NoMemory>
-    ensures { OnOk result
-        (items_of items.new.entries ≡ map.insert (items_of items.old.entries) id item) }
-{
-    items.insert(id, item)?;
-    Ok(())
 }

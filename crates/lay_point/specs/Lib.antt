@@ -7,6 +7,7 @@ pub mod Parity
 pub mod Points
 pub mod RingEdges
 pub mod Rings
+pub mod Rising
 pub mod Same
 pub mod SameTurn
 pub mod TurnMaps

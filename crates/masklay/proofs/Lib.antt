@@ -1,3 +1,3 @@
 pub mod ReadingLemmas
-pub mod SerialLemmas
+pub mod DealtLemmas
 pub mod OutputLemmas

@@ -1,12 +1,18 @@
 -- What is kept of the input decides the output.
-use Rattle.std.proofs.Common.{◌≡◌, ℕ, ◌<◌, List, length, take, Err, inl, inr, refl, sym, ap, ◌∙◌, arith}
+use Rattle.std.proofs.Common.{◌≡◌, ℕ, ◌<◌, List, Option, Result, length, take, Ok, Err, inl, inr, sym, ap, subst, ◌∙◌, arith}
 use Rattle.std.proofs.lemmas.Bool.{cases_lt}
 use Rattle.std.proofs.lemmas.Bool.Decides.{nat_tests}
 use Rattle.std.proofs.lemmas.List.{length-take, take_all}
 use Rattle.job_text.specs.declared.job.JobFault.TheVariants.{Line}
 use Rattle.job_text.specs.Job.{job_of}
-use Rattle.masklay.specs.Outcome.{finished_of}
-use Rattle.masklay.specs.Output.{output_of}
+use Rattle.job_text.specs.Jobs.{Job}
+use Rattle.job_text.specs.declared.job.JobFault.{JobFault}
+use Rattle.masklay.specs.declared.program.status.Status.{Status}
+use Rattle.masklay.specs.declared.program.outcome.Finished.{Finished}
+use Rattle.masklay.specs.declared.program.outcome.Stop.{Stop}
+use Rattle.cif_read.proofs.OneMeaning.{one_meaning}
+use Rattle.masklay.specs.Outcome.{IsOutcome, IsOutcomeOf, finished_with}
+use Rattle.masklay.specs.Output.{Ends, IsOutput, Output, output_from}
 use Rattle.masklay.specs.Reading.{kept_of}
 
 too_long_job : (bytes : List ℕ) → 16777216 < length bytes → job_of bytes ≡ Err (Line 0)
@@ -24,6 +30,28 @@ kept_job bytes =
     ]
 
 -- one byte more than a job may have is enough to tell its output
-pub kept_output : (bytes : List ℕ) → output_of (kept_of bytes) ≡ output_of bytes
-unfolding output_of finished_of
-kept_output bytes = rw (kept_job bytes) refl
+pub kept_output : (bytes : List ℕ) (output : Output) → IsOutput (kept_of bytes) output → IsOutput bytes output
+unfolding IsOutcome
+kept_output bytes output (outcome, is, same) =
+    (outcome, subst (λ (job : Result Job JobFault). IsOutcomeOf job outcome) (kept_job bytes) is, same)
+
+-- what was kept of the input has the input's output
+pub kept_ends : {S : Type 0} (written : S → Option (List ℕ)) (failures : S → ℕ) (old new : S) (bytes : List ℕ) (status : Status)
+    → Ends written failures old new (kept_of bytes) status → Ends written failures old new bytes status
+kept_ends written failures old new bytes status (inl (output, is, wrote)) = inl (output, kept_output bytes output is, wrote)
+kept_ends written failures old new bytes status (inr refused) = inr refused
+
+-- ---- bytes have one output
+
+one_outcome_of : (job : Result Job JobFault) (a b : Result Finished Stop) → IsOutcomeOf job a → IsOutcomeOf job b → a ≡ b
+one_outcome_of (Err fault) a b is same = is ∙ sym same
+one_outcome_of (Ok job) a b (meaning, means, is) (other, says, same) =
+    is ∙ ap (finished_with job.scripts job.order) (one_meaning job.cif meaning other means says) ∙ sym same
+
+one_outcome : (bytes : List ℕ) (a b : Result Finished Stop) → IsOutcome bytes a → IsOutcome bytes b → a ≡ b
+unfolding IsOutcome
+one_outcome bytes a b is same = one_outcome_of (job_of bytes) a b is same
+
+pub one_output : (bytes : List ℕ) (a b : Output) → IsOutput bytes a → IsOutput bytes b → a ≡ b
+one_output bytes a b (outcome, is, given) (other, same, put) =
+    given ∙ ap output_from (one_outcome bytes outcome other is same) ∙ sym put

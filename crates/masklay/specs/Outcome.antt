@@ -1,18 +1,22 @@
 -- What becomes of a job: the replies, the order and the layout, or why there are none.
-use Rattle.std.specs.Prelude.{ℕ, List, map, Result, Ok, Err}
+use Rattle.std.specs.Prelude.{◌≡◌, ◌⊎◌, ℕ, List, [], length, max, min, replicate, Result, Ok, Err}
 use Rattle.cif_read.specs.declared.fault.CifFault.{CifFault}
 use Rattle.cif_read.specs.declared.fault.FaultKind.TheVariants.{NoMemory as CifMemory}
 use Rattle.cif_read.specs.declared.fault.FaultKind.{FaultKind}
-use Rattle.cif_read.specs.Meaning.{meaning}
+use Rattle.cif_read.specs.Contents.{Contents}
+use Rattle.cif_read.specs.Meaning.{IsMeaning}
 use Rattle.lay_items.specs.FromCif.{layout_of}
 use Rattle.lay_items.specs.Layout.{Layout}
+use Rattle.job_text.specs.Jobs.{Job}
 use Rattle.job_text.specs.declared.job.JobFault.{JobFault}
 use Rattle.job_text.specs.declared.job.JobFault.TheVariants.{Line, NoMemory as JobMemory}
 use Rattle.masklay.specs.declared.program.outcome.Finished.{Finished}
 use Rattle.masklay.specs.declared.program.outcome.Stop.{Stop}
 use Rattle.masklay.specs.declared.program.outcome.Stop.TheVariants.{JobFault as JobStop, CifFault as CifStop, NoMemory}
-use Rattle.session_core.specs.declared.Reply.{Reply}
-use Rattle.session_core.specs.declared.Step.{Step}
+use Rattle.session_steps.specs.declared.Reply.{Reply}
+use Rattle.session_steps.specs.declared.Step.{Step}
+use Rattle.session_steps.specs.Turns.{dealt, in_turn}
+use Rattle.undo_book.specs.declared.book.TheConstants.{MAX_CALLS}
 use Rattle.job_text.specs.Job.{job_of}
 use Rattle.session_core.specs.Machine.{State, after_steps, start}
 use Rattle.job_text.specs.Order.{order_of}
@@ -36,20 +40,35 @@ abbrev pub then_or_stop : {A B E : Type 0} → (E → Stop) → Result A E → (
 then_or_stop stop (Ok x) follow = follow x
 then_or_stop stop (Err fault) follow = Err (stop fault)
 
--- what is written of these replies and this state
-abbrev pub finished_by : List Reply × State → Finished
-finished_by ran = record { replies = ran.0; order = order_of ran.1.history.log ran.0; layout = ran.1.history.layout }
+-- sessions for so many scripts: a job without steps has one that takes none, and no job has more than 64
+abbrev pub sessions_for : ℕ → ℕ
+sessions_for scripts = max 1 (min scripts 64)
 
--- the steps, each of session 1
-abbrev pub numbered : List Step → List (ℕ × Step)
-numbered steps = map (λ step. (1, step)) steps
+-- what is written of the replies and the state to which steps led, which so many sessions took in this order
+abbrev pub finished_by : ℕ → List ℕ → List Reply × State → Finished
+finished_by sessions order ran =
+    let replies = dealt order ran.0 (replicate sessions []) in
+    record { replies = replies; order = order_of ran.1.history.log replies; layout = ran.1.history.layout }
 
--- what becomes of these steps of session 1 on this layout
-abbrev pub finished_from : Layout → List Step → Finished
-finished_from base steps = finished_by (after_steps (start base 1) (numbered steps))
+-- what becomes of these scripts on this layout, whose steps run in this order
+abbrev pub finished_from : Layout → List (List Step) → List ℕ → Finished
+finished_from base scripts order =
+    finished_by (sessions_for (length scripts)) order (after_steps (start base (sessions_for (length scripts)) MAX_CALLS) (in_turn order scripts))
+
+-- what becomes of a job whose CIF text means this
+abbrev pub finished_with : List (List Step) → List ℕ → Result Contents CifFault → Result Finished Stop
+finished_with scripts order meaning = then_or_stop stop_of_cif meaning (λ file. Ok (finished_from (layout_of file) scripts order))
+
+-- what becomes of a job, or of its fault
+abbrev pub IsOutcomeOf : Result Job JobFault → Result Finished Stop → Type 0
+IsOutcomeOf (Err fault) outcome = outcome ≡ Err (stop_of_job fault)
+IsOutcomeOf (Ok job) outcome =
+    (meaning : Result Contents CifFault) × IsMeaning job.cif meaning × (outcome ≡ finished_with job.scripts job.order meaning)
 
 -- what becomes of the job of these bytes
-unfoldable pub finished_of : List ℕ → Result Finished Stop
-finished_of bytes =
-    then_or_stop stop_of_job (job_of bytes) (λ job.
-    then_or_stop stop_of_cif (meaning job.cif) (λ file. Ok (finished_from (layout_of file.top) job.script)))
+unfoldable pub IsOutcome : List ℕ → Result Finished Stop → Type 0
+IsOutcome bytes outcome = IsOutcomeOf (job_of bytes) outcome
+
+-- the same, or out of memory in its place
+abbrev pub AnswersOutcome : List ℕ → Result Finished Stop → Type 0
+AnswersOutcome bytes outcome = (outcome ≡ Err NoMemory) ⊎ IsOutcome bytes outcome

@@ -10,7 +10,7 @@ use Rattle.masklay.specs.declared.program.outcome.Stop.TheVariants.{JobFault, Ci
 use Rattle.masklay.specs.declared.program.status.Status.{Status}
 use Rattle.masklay.specs.declared.program.status.Status.TheVariants.{Done, CommandLine, Job, Cif, Device, Memory}
 use Rattle.job_text.specs.Order.{order_text}
-use Rattle.masklay.specs.Outcome.{finished_of}
+use Rattle.masklay.specs.Outcome.{IsOutcome}
 use Rattle.job_text.specs.Replies.{replies_text}
 
 -- the number with which the process ends
@@ -60,8 +60,8 @@ output_from (Ok finished) = finished_output finished
 output_from (Err stop) = stop_output stop
 
 -- what the program writes, and how it ends, where its input is these bytes
-unfoldable pub output_of : List ℕ → Output
-output_of bytes = output_from (finished_of bytes)
+abbrev pub IsOutput : List ℕ → Output → Type 0
+IsOutput bytes output = (outcome : Result Finished Stop) × IsOutcome bytes outcome × (output ≡ output_from outcome)
 
 -- From the old device to the new: all of the output was written and nothing else, and the program ended with its status;
 -- or the device failed, and a prefix was written.
@@ -70,7 +70,9 @@ Writes written failures old new output status =
     ((status ≡ output.status) × WroteAll written failures old new output.text)
     ⊎ ((status ≡ Device) × WrotePrefix written failures old new output.text)
 
--- the same, where a growth of memory may have been refused: the line that says so then stands in place of the output
-abbrev pub Ends : {S : Type 0} → (S → Option (List ℕ)) → (S → ℕ) → S → S → Output → Status → Type 0
-Ends written failures old new wanted status = Writes written failures old new wanted status
+-- From the old device to the new: the output of these bytes was written so; or a growth of memory was refused, and the line
+-- that says so was.
+abbrev pub Ends : {S : Type 0} → (S → Option (List ℕ)) → (S → ℕ) → S → S → List ℕ → Status → Type 0
+Ends written failures old new bytes status =
+    ((output : Output) × IsOutput bytes output × Writes written failures old new output status)
     ⊎ Writes written failures old new memory_output status

@@ -1,6 +1,6 @@
 //! The program as a function of its input: reads the job, runs its steps and writes the answers.
 ghost use Rattle.std.specs.Prelude.{◌≡◌};
-ghost use Rattle.masklay.specs.Output.{Ends, Output, Writes, memory_output, output_of};
+ghost use Rattle.masklay.specs.Output.{Ends, Writes, memory_output};
 ghost use Rattle.masklay.specs.Run.{IsRun};
 
 mod outcome;
@@ -36,7 +36,7 @@ pub fn run<I: In, O: Out>(alloc: Global, _options: Options, input: &mut I, out: 
 
 /// Writes what the job of the bytes leads to.
 fn write_output<O: Out>(alloc: Global, bytes: &[u8], out: &mut O) -> Status
-    ensures { Ends O.written O.failures out.old out.new (output_of bytes.now) result }
+    ensures { Ends O.written O.failures out.old out.new bytes.now result }
 {
     match output_of(alloc, bytes) {
         Ok((text, status)) => put(out, &text, status),

@@ -1,44 +1,57 @@
 -- A machine keeps what it keeps, step after step.
 use Rattle.std.proofs.Common.{◌≡◌, ◌≢◌, ℕ, ◌+◌, ◌-◌, ◌<◌, ◌≤◌, Bool, true, false, ◌&&◌, cond, List, [], ◌∷◌, ◌++◌, length, nat_eq}
-use Rattle.std.proofs.Common.{nat_le, Option, None, Some, Result, Ok, Err, OnErr, OnOk, not, slice_index_or, slice_set, inl, inr, refl, ap}
-use Rattle.std.proofs.Common.{sym, ◌∙◌, subst, arith}
+use Rattle.std.proofs.Common.{nat_le, Option, None, Some, Result, Ok, Err, OnErr, OnOk, not, drop, slice_index_or, slice_set, inl, inr, refl, ap}
+use Rattle.std.proofs.Common.{sym, ◌∙◌, subst, arith, zero, suc, replicate}
 use Rattle.std.proofs.lemmas.Bool.{and_parts, cases_Bool, cases_eq, or_parts}
 use Rattle.std.proofs.lemmas.Bool.Decides.{nat_tests}
 use Rattle.std.proofs.lemmas.Grind.{get_or-set_at}
-use Rattle.std.proofs.lemmas.List.{get_or-set_other, length-set, set-get_or, set-set}
+use Rattle.std.proofs.lemmas.List.{get_or-set_other, length-replicate, length-set, set-get_or, set-set}
 use Rattle.std.proofs.lemmas.Option.{slice_get-get_or}
 use Rattle.std.specs.FinSet as set
 use Rattle.std.specs.List.{list_all, list_any}
 use Rattle.lay_point.specs.Memory.{IsAnswer}
-use Rattle.lay_items.specs.Layout.{Layout, item_at}
-use Rattle.lay_items.specs.Same.{option_item_eq-Decides, symbols_eq, symbols_eq-Decides}
+use Rattle.lay_items.specs.Layout.{Layout}
 use Rattle.undo_book.specs.declared.commit.CommitRefusal.{CommitRefusal}
-use Rattle.undo_book.specs.declared.log.BookFault.{BookFault}
-use Rattle.undo_book.specs.declared.log.BookFault.TheVariants.{Foreign, LogFull, NoMemory, SessionFull}
-use Rattle.undo_book.specs.declared.log.Answer.TheVariants.{Refused}
-use Rattle.undo_book.specs.declared.log.Call.TheVariants as calls
-use Rattle.undo_book.specs.declared.session.SessionState.{SessionState}
-use Rattle.txn_work.specs.declared.command.CmdFault.{CmdFault}
-use Rattle.txn_work.specs.declared.command.CmdFault.TheVariants.{NoMemory as CommandMemory}
-use Rattle.txn_work.specs.declared.command.Command.{Command}
-use Rattle.txn_work.specs.declared.command.Done.{Done}
-use Rattle.txn_work.specs.declared.command.TxnId.{TxnId}
-use Rattle.txn_work.specs.declared.footprint.Element.{Element}
-use Rattle.txn_work.specs.declared.footprint.Element.TheVariants.{Item}
-use Rattle.txn_work.specs.Effects.{Run, answer_with, done_by, effect}
-use Rattle.txn_work.specs.Elements.{Touched}
-use Rattle.undo_book.specs.History.{History}
-use Rattle.undo_book.specs.Steps as book
-use Rattle.undo_book.specs.Steps.{TakesWork, after_open, answered_state, commit_step, is_log_full, is_own, is_pending, logged, open_step}
-use Rattle.undo_book.specs.Steps.{handing_back, opening, refused, state_of, undo_refusal, undo_step, undo_unless, unused}
-use Rattle.txn_work.specs.Agreement.{agree_at, agrees}
-use Rattle.txn_work.specs.Transactions.{Transaction, after_command, after_effect, answer_to, run_so_far}
-use Rattle.session_core.specs.declared.Reply.{Reply}
-use Rattle.session_core.specs.declared.Reply.TheVariants.{Fault}
-use Rattle.session_core.specs.declared.Step.TheVariants.{Commit, Do, Open, Undo}
-use Rattle.session_core.specs.declared.StepFault.TheVariants.{Book}
+use Rattle.undo_rules.specs.declared.log.BookFault.{BookFault}
+use Rattle.undo_rules.specs.declared.log.BookFault.TheVariants.{Foreign, LogFull, NoMemory, SessionFull, Stale}
+use Rattle.undo_rules.specs.declared.log.Answer.TheVariants.{Refused}
+use Rattle.undo_rules.specs.declared.log.Call.TheVariants as calls
+use Rattle.txn_rules.specs.declared.fault.CmdFault.{CmdFault}
+use Rattle.txn_rules.specs.declared.fault.CmdFault.TheVariants.{NoMemory as CommandMemory}
+use Rattle.txn_rules.specs.declared.command.Command.{Command}
+use Rattle.txn_rules.specs.declared.command.Done.{Done}
+use Rattle.txn_rules.specs.declared.command.TxnId.{TxnId}
+use Rattle.txn_rules.specs.Compared.{agrees}
+use Rattle.txn_rules.specs.Effects.{Run, effect}
+use Rattle.txn_rules.specs.Elements.{Touched}
+use Rattle.txn_rules.specs.Transactions.{Transaction}
+use Rattle.std.specs.FinMap.{entries, get}
+use Rattle.std.specs.Cmp.Lexicographic.{pointwise}
+use Rattle.lay_items.specs.declared.id.ItemId.{ItemId}
+use Rattle.lay_items.specs.declared.item.Item as item
+use Rattle.lay_items.specs.Layout.{item_at}
+use Rattle.lay_items.specs.Same.{item_eq-Decides, option_item_eq-Decides}
+use Rattle.lay_items.specs.SameLayout.{id_eq-Decides}
+use Rattle.txn_rules.specs.declared.element.Element.{Element}
+use Rattle.txn_rules.specs.declared.element.Element.TheVariants.{Calls, Cell, Content, Item, Layer, Uses}
+use Rattle.txn_rules.specs.Compared.{entry_eq, lying, same_in}
+use Rattle.txn_rules.proofs.Steps.{option_slot_eq-Decides}
+use Rattle.txn_work.specs.Answers.{after_command, after_effect, answer_of, answer_to, run_so_far}
+use Rattle.undo_rules.specs.Books.{History, SessionState}
+use Rattle.undo_rules.specs.Steps as book
+use Rattle.undo_rules.specs.declared.log.Call.{Call}
+use Rattle.session_core.specs.Commits.{reply_of, work_of}
+use Rattle.undo_rules.specs.Steps.{after_redo, after_undo, redo_refusal, undo_refusal, unless}
+use Rattle.undo_rules.specs.Steps.{after_open, after_stale, commit_own, commit_step, commit_unless, ended_state, is_log_full, is_own, is_pending}
+use Rattle.undo_rules.specs.Steps.{logged, open_step, opening, redo_step, stale_by, state_of, undo_step, unused}
+use Rattle.undo_book.specs.Calls as held
+use Rattle.undo_book.specs.Calls.{TakesWork, handed_back, refused, with_work as with_answer}
+use Rattle.session_steps.specs.declared.Reply.{Reply}
+use Rattle.session_steps.specs.declared.Reply.TheVariants.{Fault}
+use Rattle.session_steps.specs.declared.Step.{Step}
+use Rattle.session_steps.specs.declared.Step.TheVariants.{Cancel, Commit, Do, Open, Redo, Undo}
+use Rattle.session_steps.specs.declared.StepFault.TheVariants.{Book}
 use Rattle.session_core.specs.Machine as machine
-use Rattle.session_core.specs.declared.Step.{Step}
 use Rattle.session_core.specs.Machine.{Ran, State, Takes, TakesOr, after_steps, command_reply, is_certain, is_memory, is_session}
 use Rattle.session_core.specs.Machine.{memory_reply, open_of, step_outcome, with_work}
 use Rattle.session_core.specs.declared.machine.Machine.TheInside.{Inside}
@@ -83,6 +96,23 @@ state_with h new works place work kept inside sessions others own = record {
   ];
 }
 
+-- ---- the start
+
+abbrev no_works : ℕ → Works
+no_works n = replicate n None
+
+none_open : (n k : ℕ) → slice_index_or (no_works n) k None ≡ None
+none_open zero k = refl
+none_open (suc n) zero = refl
+none_open (suc n) (suc k) = none_open n k
+
+pub started : (base : Layout) (n limit : ℕ) → n ≤ 64 → IsState (machine.start base n limit)
+started base n limit few = record {
+  few = let len : length (no_works n) ≡ n = length-replicate n None in omega (arith, len, few);
+  sessions = refl;
+  works = λ place txn found. absurd (let none = none_open n place in cc);
+}
+
 -- ---- open
 
 -- a call of two tests: the first one refuses and leaves h, the second one leaves i, and an accepted call leaves j
@@ -101,7 +131,7 @@ refused_sessions true second e f fault x h i j same is = refl
 refused_sessions false true e f fault x h i j same is = same
 refused_sessions false false e f fault x h i j same is = absurd cc
 
-pub open_ok : (h new : History) (session : ℕ) (txn : Transaction) → book.Takes h (open_step h session) (Ok txn) new →
+pub open_ok : (h new : History) (session : ℕ) (txn : Transaction) → held.Takes h (open_step h session) (Ok txn) new →
     (txn ≡ opening h session) × (new ≡ after_open h session)
 open_ok h new session txn takes = elim takes [
   | inl exact ↦
@@ -112,7 +142,7 @@ open_ok h new session txn takes = elim takes [
 ]
 
 -- a refused open changes nothing for the sessions
-pub open_err : (h new : History) (session : ℕ) (fault : BookFault) → book.Takes h (open_step h session) (Err fault) new →
+pub open_err : (h new : History) (session : ℕ) (fault : BookFault) → held.Takes h (open_step h session) (Err fault) new →
     new.sessions ≡ h.sessions
 open_err h new session fault takes = elim takes [
   | inl exact ↦ ap (λ (k : History). k.sessions) exact.1 ∙ refused_sessions (is_log_full h) (nat_le 65535 (state_of h session).opens)
@@ -123,7 +153,7 @@ open_err h new session fault takes = elim takes [
 
 -- an accepted open leaves a state of a machine
 pub opened : (h new : History) (works : Works) (session : ℕ) (txn : Transaction) → IsState (with_works h works) → 1 ≤ session →
-    session ≤ length works → book.Takes h (open_step h session) (Ok txn) new →
+    session ≤ length works → held.Takes h (open_step h session) (Ok txn) new →
     IsState (with_works new (slice_set works (session - 1) (Some txn)))
 opened h new works session txn kept low high takes =
     let both = open_ok h new session txn takes in
@@ -150,7 +180,7 @@ opened h new works session txn kept low high takes =
 abbrev SameParts : Transaction → Transaction → Type 0
 SameParts txn new = (new.id ≡ txn.id) × (new.opened ≡ txn.opened) × (new.snapshot ≡ txn.snapshot)
 
-command_keeps : (txn : Transaction) (command : Command) (r : Result Run CmdFault) → SameParts txn (after_effect txn command r)
+command_keeps : (txn : Transaction) (command : Command) (r : Result (Done × Run) CmdFault) → SameParts txn (after_effect txn command r)
 command_keeps txn command (Ok next) = (refl, refl, refl)
 command_keeps txn command (Err fault) = (refl, refl, refl)
 
@@ -180,17 +210,24 @@ commanded h works place txn new kept inside found same =
 -- ---- the transaction that a session has open
 
 -- a layout agrees with itself
-agrees_itself : (l : Layout) (touched : Touched) → agrees l l touched ≡ true
-agrees_itself l touched = rw (symbols, all (set.items touched)) refl where
-  symbols : symbols_eq l.symbols l.symbols ≡ true
-  symbols = (symbols_eq-Decides l.symbols l.symbols).1 refl
+same_entries : (xs : List (ItemId × item.Item)) → pointwise entry_eq xs xs ≡ true
+same_entries [] = refl
+same_entries (x ∷ xs) = rw ((id_eq-Decides x.0 x.0).1 refl, (item_eq-Decides x.1 x.1).1 refl) (same_entries xs)
 
-  at : (e : Element) → agree_at l l e ≡ true
-  at (Item id) = (option_item_eq-Decides (item_at l id) (item_at l id)).1 refl
+same-itself : (l : Layout) (e : Element) → same_in l l e ≡ true
+same-itself l (Item id) = (option_item_eq-Decides (item_at l id) (item_at l id)).1 refl
+same-itself l (Layer c x) = same_entries (lying (Layer c x) (entries l.items))
+same-itself l (Calls c) = same_entries (lying (Calls c) (entries l.items))
+same-itself l (Cell n) = (option_slot_eq-Decides (get l.symbols n) (get l.symbols n)).1 refl
+same-itself l (Content n) = same_entries (lying (Content n) (entries l.items))
+same-itself l (Uses n) = same_entries (lying (Uses n) (entries l.items))
 
-  all : (es : List Element) → list_all (agree_at l l) es ≡ true
+agrees-itself : (l : Layout) (touched : Touched) → agrees l l touched ≡ true
+unfolding agrees
+agrees-itself l touched = all (set.items touched) where
+  all : (es : List Element) → list_all (same_in l l) es ≡ true
   all [] = refl
-  all (e ∷ es) = rw (at e) (all es)
+  all (e ∷ es) = rw (same-itself l e) (all es)
 
 pending_own : (state : SessionState) (txn : Transaction) → state.opens ≡ txn.id.txn →
     state.pending ≡ Some (record { place = txn.opened; snapshot = txn.snapshot }) →
@@ -198,7 +235,7 @@ pending_own : (state : SessionState) (txn : Transaction) → state.opens ≡ txn
 pending_own state txn opens pending =
     let number : nat_eq txn.id.txn txn.id.txn ≡ true = grind (arith, nat_tests) in
     let place : nat_eq txn.opened txn.opened ≡ true = grind (arith, nat_tests) in
-    rw (opens, pending, number, place) (agrees_itself txn.snapshot txn.footprint)
+    rw (opens, pending, number, place) (agrees-itself txn.snapshot txn.footprint)
 
 -- an open transaction is the book's own
 pub own_of : (h : History) (place : ℕ) (txn : Transaction) → place < 64 → IsOpen h place txn → is_own h txn ≡ true
@@ -252,10 +289,10 @@ answered_plainly : (r : Result Done CmdFault) → is_certain (command_reply r) �
 answered_plainly (Ok done) = refl
 answered_plainly (Err fault) = refl
 
-refused_same : (txn : Transaction) (command : Command) (r : Result Run CmdFault) (done : Done) (fault : CmdFault) →
-    Err fault ≡ answer_with r done → after_effect txn command r ≡ txn
-refused_same txn command (Ok next) done fault h = absurd cc
-refused_same txn command (Err other) done fault h = refl
+refused_same : (txn : Transaction) (command : Command) (r : Result (Done × Run) CmdFault) (fault : CmdFault) →
+    Err fault ≡ answer_of r → after_effect txn command r ≡ txn
+refused_same txn command (Ok next) fault h = absurd cc
+refused_same txn command (Err other) fault h = refl
 
 -- a command in a session's transaction is a step
 pub ran_command : (s end : State) (session : ℕ) (command : Command) (txn new : Transaction) (answer : Result Done CmdFault) →
@@ -285,105 +322,153 @@ ran_command s end session command txn new answer there found answered ok err is_
         | inr exact ↦ inl (
           ap command_reply exact,
           is_end ∙ ap (λ t. with_work s s.history session (Some t))
-              (err ∙ sym (refused_same txn command (effect txn.id command (run_so_far txn))
-              (done_by txn.id command (run_so_far txn)) fault exact)),
+              (err ∙ sym (refused_same txn command (effect txn.id command (run_so_far txn)) fault exact)),
         )
       ]
 
+-- ---- cancel
+
+-- a session that has given up leaves a state of a machine
+pub cancelled : (h : History) (works : Works) (place : ℕ) → IsState (with_works h works) → place < length works →
+    IsState (with_works h (slice_set works place None))
+cancelled h works place kept inside =
+    state_with h h works place None kept inside kept.sessions (λ k other. refl) (λ t e. absurd cc)
+
 -- ---- commit
 
-handed_ok : (answer : Result TxnId BookFault) (txn : Transaction) (id : TxnId) → Ok id ≡ handing_back answer txn → Ok id ≡ answer
-handed_ok (Ok other) txn id h = cc
-handed_ok (Err fault) txn id h = absurd cc
+-- what the commit of a session's own transaction leaves: of the other sessions the book keeps the same, and what is handed
+-- back is open as before
+pub record Left (h new : History) (place : ℕ) (txn : Transaction) (work : Option Transaction) : Type 0 where
+  pub sessions : length new.sessions ≡ length h.sessions
+  pub others : (k : ℕ) → k ≢ place → kept_at new k ≡ kept_at h k
+  pub own : (t : Transaction) → work ≡ Some t → IsOpen new place t
 
-pub commit_ok : (h new : History) (txn : Transaction) (id : TxnId) → TakesWork h txn (commit_step h txn) (Ok id) new →
-    new ≡ book.after_commit h txn
-commit_ok h new txn id takes = elim takes [
-  | inl exact ↦ exact.1 ∙ (accepted (is_log_full h) (not (is_own h txn)) LogFull Foreign txn.id id h h (book.after_commit h txn)
-      (handed_ok (commit_step h txn).0 txn id exact.0)).1
-  | inr memory ↦ absurd cc
-]
+unchanged : (h new : History) (place : ℕ) (txn : Transaction) → IsOpen h place txn → new ≡ h → Left h new place txn (Some txn)
+unchanged h new place txn is_open same = record {
+  sessions = ap (λ (k : History). length k.sessions) same;
+  others = λ k other. ap (λ (x : History). kept_at x k) same;
+  own = λ t e. let is : txn ≡ t = cc in subst (λ (x : History). IsOpen x place t) (sym same) (subst (IsOpen h place) is is_open);
+}
 
--- an accepted commit leaves a state of a machine
-pub committed : (h new : History) (works : Works) (place : ℕ) (txn : Transaction) (id : TxnId) → IsState (with_works h works) →
-    place < length works → slice_index_or works place None ≡ Some txn →
-    TakesWork h txn (commit_step h txn) (Ok id) new → IsState (with_works new (slice_set works place None))
-committed h new works place txn id kept inside found takes =
-    let same = commit_ok h new txn id takes in
-    let is_open = kept.works place txn found in
+ended_so : (h new : History) (place : ℕ) (txn : Transaction) → IsOpen h place txn →
+    new.sessions ≡ slice_set h.sessions (txn.id.session - 1) (ended_state (state_of h txn.id.session)) → Left h new place txn None
+ended_so h new place txn is_open same =
     let session : txn.id.session ≡ place + 1 = is_open.session in
     let back : txn.id.session - 1 ≡ place = omega arith in
-    let state = answered_state (state_of h txn.id.session) in
-    state_with h new works place None kept inside
-    (ap (λ (k : History). length k.sessions) same ∙ length-set h.sessions (txn.id.session - 1) state ∙ kept.sessions)
-    (λ k other. ap (λ (x : History). kept_at x k) same ∙ get_or-set_other h.sessions (txn.id.session - 1) k state unused (λ e.
-    other (e ∙ back)))
-    (λ t same. absurd cc)
+    let state = ended_state (state_of h txn.id.session) in
+    record {
+      sessions = ap length same ∙ length-set h.sessions (txn.id.session - 1) state;
+      others = λ k other. ap (λ (xs : List SessionState). slice_index_or xs k unused) same
+          ∙ get_or-set_other h.sessions (txn.id.session - 1) k state unused (λ e. other (e ∙ back));
+      own = λ t e. absurd cc;
+    }
 
--- what a refused commit of an open transaction leaves: it changes nothing, hands the transaction back, and isn't
--- Foreign where it is the book's own
-pub record Held (s : State) (session : ℕ) (txn : Transaction) (refusal : CommitRefusal) (new : History) : Type 0 where
-  pub same : new ≡ s.history
-  pub back : refusal.work ≡ Some txn
-  pub own : refusal.fault ≢ Foreign
-  pub step : TakesOr (Fault (Book NoMemory)) s (machine.after_commit s session (commit_step s.history txn)) (Fault (Book refusal.fault)) s
+-- a commit by the session, with what is then open in it
+pub record Commits (s : State) (new : History) (session place : ℕ) (txn : Transaction) (result : Result TxnId CommitRefusal) : Type 0 where
+  pub left : Left s.history new place txn (work_of result)
+  pub own : reply_of result ≢ Fault (Book Foreign)
+  pub step : TakesOr (Fault (Book NoMemory)) s (machine.after_commit s session txn (commit_step s.history txn)) (reply_of result)
+      (with_work s new session (work_of result))
 
-pub commit_refused : (s : State) (new : History) (session : ℕ) (txn : Transaction) (result : Result TxnId CommitRefusal)
-    (refusal : CommitRefusal) → is_own s.history txn ≡ true → result ≡ Err refusal →
+-- with its transaction in its place the session is as it was
+stays : (s : State) (new : History) (session : ℕ) (txn : Transaction) → open_of s session ≡ Some txn → new ≡ s.history →
+    with_work s new session (Some txn) ≡ s
+stays s new session txn found same =
+    ap (λ h. with_work s h session (Some txn)) same
+    ∙ ap (λ w. record { history = s.history; works = w }) (ap (slice_set s.works (session - 1)) (sym found) ∙ set-get_or s.works (session - 1) None)
+
+pub commits_so : (s : State) (new : History) (session place : ℕ) (txn : Transaction) (result : Result TxnId CommitRefusal) →
+    open_of s session ≡ Some txn → place < 64 → IsOpen s.history place txn →
     TakesWork s.history txn (commit_step s.history txn) result new →
-    (is_log_full s.history ≡ true → result ≡ Err (refused LogFull txn)) → Held s session txn refusal new
-commit_refused s new session txn result refusal own is takes full = elim (cases_Bool (is_log_full s.history)) [
-  | inl e ↦
-      let answer = full e in
-      let step : commit_step s.history txn ≡ (Err LogFull, s.history) = rw e refl in
-      held LogFull (cc) (elim takes [
-        | inl exact ↦ exact.1 ∙ ap (λ (w : Result TxnId BookFault × History). w.1) step
-        | inr memory ↦ memory.1
-      ]) (λ h. cc) (rw e (inl (refl, refl)))
-  | inr e ↦
-      let step : commit_step s.history txn ≡ (Ok txn.id, book.after_commit s.history txn) = rw (e, own) refl in
+    (is_log_full s.history ≡ true → result ≡ Err (refused LogFull txn)) → Commits s new session place txn result
+commits_so s new session place txn result found few is_open takes full = by_log (is_log_full s.history) refl where
+  h : History
+  h = s.history
+
+  out : commit_step h txn ≡ commit_step h txn → new ≡ h → result ≡ Err (refused NoMemory txn) →
+      is_certain (machine.after_commit s session txn (commit_step h txn)).0 ≡ false → Commits s new session place txn result
+  out same kept is plain = subst (Commits s new session place txn) (sym is) (record {
+    left = unchanged h new place txn is_open kept;
+    own = λ e. cc;
+    step = inr (plain, refl, stays s new session txn found kept);
+  })
+
+  by_stale : is_log_full h ≡ false → (stale : Option TxnId) → stale_by h.entries txn.footprint (drop (txn.opened + 1) h.log) ≡ stale →
+      Commits s new session place txn result
+  by_stale room None fresh =
+      let step : commit_step h txn ≡ (Ok txn.id, book.after_commit h txn) = rw (room, own_of h place txn few is_open, fresh) refl in
       elim takes [
         | inl exact ↦
-            let answer : result ≡ Ok txn.id = exact.0 ∙ ap (λ (w : Result TxnId BookFault × History). handing_back w.0 txn) step in
-            absurd cc
-        | inr memory ↦ held NoMemory (cc) memory.1 (λ h. cc) (rw (e, own) (inr (refl, refl, refl)))
+            let is : result ≡ Ok txn.id = exact.0 ∙ ap (λ (w : Result TxnId BookFault × History). with_answer w.0 txn) step in
+            let after : new ≡ book.after_commit h txn = exact.1 ∙ ap (λ (w : Result TxnId BookFault × History). w.1) step in
+            subst (Commits s new session place txn) (sym is) (record {
+              left = ended_so h new place txn is_open (ap (λ (k : History). k.sessions) after);
+              own = λ e. cc;
+              step = rw step (inl (refl, ap (λ k. with_work s k session None) after));
+            })
+        | inr memory ↦ out refl memory.1 memory.0 (rw step refl)
       ]
-] where
-  held : (fault : BookFault) → refusal ≡ refused fault txn → new ≡ s.history → fault ≢ Foreign →
-      TakesOr (Fault (Book NoMemory)) s (machine.after_commit s session (commit_step s.history txn)) (Fault (Book fault)) s →
-      Held s session txn refusal new
-  held fault told same own step =
-      let is_fault : refusal.fault ≡ fault = ap (λ (r : CommitRefusal). r.fault) told in
-      let wanted = machine.after_commit s session (commit_step s.history txn) in
-      record {
-        same = same;
-        back = ap (λ (r : CommitRefusal). r.work) told;
-        own = λ h. own (sym is_fault ∙ h);
-        step = subst (λ f. TakesOr (Fault (Book NoMemory)) s wanted (Fault (Book f)) s) (sym is_fault) step;
-      }
+  by_stale room (Some other) stale =
+      let step : commit_step h txn ≡ (Err (Stale other), after_stale h txn other) = rw (room, own_of h place txn few is_open, stale) refl in
+      elim takes [
+        | inl exact ↦
+            let is : result ≡ Err (refused (Stale other) txn) =
+            exact.0 ∙ ap (λ (w : Result TxnId BookFault × History). with_answer w.0 txn) step in
+            let after : new ≡ after_stale h txn other = exact.1 ∙ ap (λ (w : Result TxnId BookFault × History). w.1) step in
+            subst (Commits s new session place txn) (sym is) (record {
+              left = ended_so h new place txn is_open (ap (λ (k : History). k.sessions) after);
+              own = λ e. cc;
+              step = rw step (inl (refl, ap (λ k. with_work s k session None) after));
+            })
+        | inr memory ↦ out refl memory.1 memory.0 (rw step refl)
+      ]
 
--- a refused commit is a step that leaves the state
-pub commit_stays : (s now end : State) (session : ℕ) (txn : Transaction) (refusal : CommitRefusal) (new : History) → s ≡ now →
-    is_session s session ≡ true → open_of s session ≡ Some txn → Held s session txn refusal new → end ≡ s →
-    Takes now session Commit (Fault (Book refusal.fault)) end
-commit_stays s now end session txn refusal new view there found held same =
-    let Stays : State → Type 0 = λ n. Takes n session Commit (Fault (Book refusal.fault)) end in
-    subst Stays view (subst (λ e. Takes s session Commit (Fault (Book refusal.fault)) e) (sym same) (rw (there, found) held.step))
+  by_log : (b : Bool) → is_log_full h ≡ b → Commits s new session place txn result
+  by_log true e =
+      let step : commit_step h txn ≡ (Err LogFull, h) = rw e refl in
+      let kept : new ≡ h = elim takes [
+        | inl exact ↦ exact.1 ∙ ap (λ (w : Result TxnId BookFault × History). w.1) step
+        | inr memory ↦ memory.1
+      ] in
+      subst (Commits s new session place txn) (sym (full e)) (record {
+        left = unchanged h new place txn is_open kept;
+        own = λ e. cc;
+        step = rw step (inl (refl, ap (λ k. with_work s k session (Some txn)) kept));
+      })
+  by_log false e = by_stale e (stale_by h.entries txn.footprint (drop (txn.opened + 1) h.log)) refl
 
--- ---- undo
+-- what is left is a state of a machine
+pub left_state : (h new : History) (works : Works) (place : ℕ) (txn : Transaction) (work : Option Transaction) → IsState (with_works h works) →
+    place < length works → Left h new place txn work → IsState (with_works new (slice_set works place work))
+left_state h new works place txn work kept inside left =
+    state_with h new works place work kept inside (left.sessions ∙ kept.sessions) left.others left.own
 
--- an undo changes nothing for the sessions
-pub undo_keeps : (h new : History) (session : ℕ) (txn : TxnId) (result : Result (Unit {0}) BookFault) →
-    book.Takes h (undo_step h session txn) result new → new.sessions ≡ h.sessions
-undo_keeps h new session txn result takes = elim takes [
-  | inl exact ↦ ap (λ (k : History). k.sessions) exact.1 ∙ kept (is_log_full h) (undo_refusal h txn)
+-- ---- undo and redo
+
+unless_keeps : (h new : History) (session : ℕ) (call : Call) (after : History) (full : Bool) (fault : Option BookFault)
+    (result : Result (Unit {0}) BookFault) → after.sessions ≡ h.sessions →
+    held.Takes h (cond {A = Result (Unit {0}) BookFault × History} full (Err LogFull, h) (unless fault h session call after)) result new →
+    new.sessions ≡ h.sessions
+unless_keeps h new session call after full fault result same takes = elim takes [
+  | inl exact ↦ ap (λ (k : History). k.sessions) exact.1 ∙ kept full fault
   | inr memory ↦ ap (λ (k : History). k.sessions) memory.1
 ] where
   kept : (full : Bool) (fault : Option BookFault) →
-      (cond {A = Result (Unit {0}) BookFault × History} full (Err LogFull, h) (undo_unless fault h session txn)).1.sessions ≡ h.sessions
+      (cond {A = Result (Unit {0}) BookFault × History} full (Err LogFull, h) (unless fault h session call after)).1.sessions ≡ h.sessions
   kept true fault = refl
   kept false (Some fault) = refl
-  kept false None = refl
+  kept false None = same
+
+-- neither changes anything for the sessions
+pub undo_keeps : (h new : History) (session : ℕ) (txn : TxnId) (result : Result (Unit {0}) BookFault) →
+    held.Takes h (undo_step h session txn) result new → new.sessions ≡ h.sessions
+undo_keeps h new session txn result takes =
+    unless_keeps h new session (calls.Undo txn) (after_undo h session txn) (is_log_full h) (undo_refusal h txn) result refl takes
+
+pub redo_keeps : (h new : History) (session : ℕ) (txn : TxnId) (result : Result (Unit {0}) BookFault) →
+    held.Takes h (redo_step h session txn) result new → new.sessions ≡ h.sessions
+redo_keeps h new session txn result takes =
+    unless_keeps h new session (calls.Redo txn) (after_redo h session txn) (is_log_full h) (redo_refusal h txn) result refl takes
 
 -- ---- many steps
 
@@ -401,7 +486,9 @@ memory_told : (step : Step) → is_memory (memory_reply step) ≡ true
 memory_told Open = refl
 memory_told (Do command) = refl
 memory_told Commit = refl
+memory_told Cancel = refl
 memory_told (Undo txn) = refl
+memory_told (Redo txn) = refl
 
 -- a step that isn't out of memory is answered as it is to be
 took : (s new : State) (session : ℕ) (step : Step) (reply : Reply) → Takes s session step reply new → is_memory reply ≡ false →

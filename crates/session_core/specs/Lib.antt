@@ -1,3 +1,3 @@
 pub mod Machine
 pub mod Machines
-pub mod Refusals
+pub mod Commits

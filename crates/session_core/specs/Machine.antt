@@ -4,21 +4,24 @@ use Rattle.std.specs.Prelude.{◌≡◌, ◌≢◌, ℕ, ◌-◌, List, [], ◌�
 use Rattle.std.specs.Prelude.{Err, if◌then◌else◌, slice_index_or, slice_set, replicate, ◌⊎◌, refl}
 use Rattle.std.specs.Coded.{Coded, code_by, coded×, coded_list, coded_option}
 use Rattle.lay_items.specs.Layout.{Layout}
-use Rattle.undo_book.specs.declared.log.BookFault.{BookFault}
-use Rattle.undo_book.specs.declared.log.BookFault.TheVariants.{LogFull, Foreign, NoMemory as BookMemory}
-use Rattle.txn_work.specs.declared.command.CmdFault.{CmdFault}
-use Rattle.txn_work.specs.declared.command.CmdFault.TheVariants.{NoMemory as CommandMemory}
-use Rattle.txn_work.specs.declared.command.Command as commands
-use Rattle.txn_work.specs.declared.command.Done as dones
-use Rattle.txn_work.specs.declared.command.TxnId.{TxnId}
-use Rattle.undo_book.specs.History.{History, coded_history}
-use Rattle.undo_book.specs.Steps.{commit_step, fresh, open_step, undo_step}
-use Rattle.txn_work.specs.Transactions.{Transaction, after_command, answer_to, coded_transaction}
-use Rattle.session_core.specs.declared.Reply.{Reply}
-use Rattle.session_core.specs.declared.Reply.TheVariants.{Opened, Done, Committed, Undone, Fault}
-use Rattle.session_core.specs.declared.Step.{Step}
-use Rattle.session_core.specs.declared.Step.TheVariants.{Open, Do, Commit, Undo}
-use Rattle.session_core.specs.declared.StepFault.TheVariants.{Command, Book, NoSession, AlreadyOpen, NotOpen}
+use Rattle.undo_rules.specs.declared.log.BookFault.{BookFault}
+use Rattle.undo_rules.specs.declared.log.BookFault.TheVariants.{LogFull, Foreign, NoMemory as BookMemory}
+use Rattle.txn_rules.specs.declared.fault.CmdFault.{CmdFault}
+use Rattle.txn_rules.specs.declared.fault.CmdFault.TheVariants.{NoMemory as CommandMemory}
+use Rattle.txn_rules.specs.declared.command.Command as commands
+use Rattle.txn_rules.specs.declared.command.Done as dones
+use Rattle.txn_rules.specs.declared.command.TxnId.{TxnId}
+use Rattle.txn_rules.specs.Transactions.{Transaction}
+use Rattle.undo_rules.specs.Books.{History}
+use Rattle.undo_rules.specs.Steps.{commit_step, fresh, open_step, redo_step, undo_step}
+use Rattle.txn_work.specs.Answers.{after_command, answer_to, coded_transaction}
+use Rattle.undo_book.specs.Calls.{handed_back}
+use Rattle.undo_book.specs.Coded.{coded_history}
+use Rattle.session_steps.specs.declared.Reply.{Reply}
+use Rattle.session_steps.specs.declared.Reply.TheVariants.{Cancelled, Committed, Done, Fault, Opened, Redone, Undone}
+use Rattle.session_steps.specs.declared.Step.{Step}
+use Rattle.session_steps.specs.declared.Step.TheVariants.{Cancel, Commit, Do, Open, Redo, Undo}
+use Rattle.session_steps.specs.declared.StepFault.TheVariants.{AlreadyOpen, Book, Command, NoSession, NotOpen}
 
 -- the history of the book, and the transaction that each session has open
 pub record State : Type 0 where
@@ -32,8 +35,8 @@ coded_state =
     (λ s. (s.history, s.works)) (λ p. record { history = p.0; works = p.1 }) (λ _. refl)
 
 -- the state at the start
-abbrev pub start : Layout → ℕ → State
-start base sessions = record { history = fresh base; works = replicate sessions None }
+abbrev pub start : Layout → ℕ → ℕ → State
+start base sessions limit = record { history = fresh base limit; works = replicate sessions None }
 
 -- there is such a session
 abbrev pub is_session : State → ℕ → Bool
@@ -77,27 +80,38 @@ run_in s session command (Some txn) = (
       (Some (after_command txn command)),
 )
 
--- after a commit the session has nothing open
-abbrev pub after_commit : State → ℕ → Result TxnId BookFault × History → Reply × State
-after_commit s session (Ok txn, history) = (Committed txn, with_work s history session None)
-after_commit s session (Err fault, history) = (Fault (Book fault), with_history s history)
+-- after a commit the session has nothing open; a refused one leaves it what is handed back, and nothing where it was stale
+abbrev pub after_commit : State → ℕ → Transaction → Result TxnId BookFault × History → Reply × State
+after_commit s session txn (Ok id, history) = (Committed id, with_work s history session None)
+after_commit s session txn (Err fault, history) = (Fault (Book fault), with_work s history session (handed_back fault txn))
 
--- a refused commit leaves the transaction open
 abbrev pub commit_in : State → ℕ → Option Transaction → Reply × State
 commit_in s session None = (Fault NotOpen, s)
-commit_in s session (Some txn) = after_commit s session (commit_step s.history txn)
+commit_in s session (Some txn) = after_commit s session txn (commit_step s.history txn)
+
+-- a cancel gives the transaction up, and the book isn't touched
+abbrev pub cancel_in : State → ℕ → Option Transaction → Reply × State
+cancel_in s session None = (Fault NotOpen, s)
+cancel_in s session (Some txn) = (Cancelled, with_work s s.history session None)
 
 -- an undo leaves what the sessions have open
 abbrev pub undo_in : State → Result (Unit {0}) BookFault × History → Reply × State
 undo_in s (Ok done, history) = (Undone, with_history s history)
 undo_in s (Err fault, history) = (Fault (Book fault), with_history s history)
 
+-- and so does a redo
+abbrev pub redo_in : State → Result (Unit {0}) BookFault × History → Reply × State
+redo_in s (Ok done, history) = (Redone, with_history s history)
+redo_in s (Err fault, history) = (Fault (Book fault), with_history s history)
+
 -- a step of a session that is there
 abbrev pub step_in : State → ℕ → Step → Reply × State
 step_in s session Open = open_in s session (open_of s session)
 step_in s session (Do command) = run_in s session command (open_of s session)
 step_in s session Commit = commit_in s session (open_of s session)
+step_in s session Cancel = cancel_in s session (open_of s session)
 step_in s session (Undo txn) = undo_in s (undo_step s.history session txn)
+step_in s session (Redo txn) = redo_in s (redo_step s.history session txn)
 
 -- what a step of a session answers, and the state that it leaves
 abbrev pub step_outcome : State → ℕ → Step → Reply × State
@@ -110,10 +124,13 @@ abbrev pub memory_reply : Step → Reply
 memory_reply Open = Fault (Book BookMemory)
 memory_reply (Do command) = Fault (Command CommandMemory)
 memory_reply Commit = Fault (Book BookMemory)
+memory_reply Cancel = Fault (Book BookMemory)
 memory_reply (Undo txn) = Fault (Book BookMemory)
+memory_reply (Redo txn) = Fault (Book BookMemory)
 
 -- an answer that out of memory never takes the place of
 abbrev pub is_certain : Reply → Bool
+is_certain Cancelled = true
 is_certain (Fault NoSession) = true
 is_certain (Fault AlreadyOpen) = true
 is_certain (Fault NotOpen) = true

@@ -1,19 +1,20 @@
 //! The machine: a book, and the transaction that each session has open.
-ghost use Rattle.std.specs.Prelude.{◌≡◌, ◌≤◌, true, IfOk, Ok, None, Some, replicate};
+ghost use Rattle.std.specs.Prelude.{◌≡◌, ◌≤◌, false, true, IfOk, Ok, None, Some, replicate};
 ghost use Rattle.std.specs.List.{All};
 ghost use Rattle.lay_point.specs.Memory.{IsAnswer};
-ghost use Rattle.txn_work.specs.declared.command.TxnId.{TxnId as TxnName};
-ghost use Rattle.undo_book.specs.History.{replay};
-ghost use Rattle.undo_book.specs.Steps.{without};
+ghost use Rattle.txn_rules.specs.declared.command.TxnId.{TxnId as TxnName};
+ghost use Rattle.undo_rules.specs.Steps.{with_mark};
+ghost use Rattle.undo_book.specs.Replays.{CanBeRedone, replay};
+ghost use Rattle.session_core.specs.Commits.{reply_of, work_of};
 ghost use Rattle.session_core.specs.Machine.{IsNotForeign, Ran, Takes, is_session, start};
 
-use crate::{Reply, Step, StepFault};
 use lay_items::Snapshot;
 use lay_point::NoMemory;
+use session_steps::{Reply, Step, StepFault};
 use std::alloc::Global;
 use std::marker::Model;
 use txn_work::{Command, TxnId, Work};
-use undo_book::Book;
+use undo_book::{Book, CommitRefusal, MAX_CALLS};
 
 /// Sessions on one book, each with at most one transaction open.
 #[derive(Drop)]
@@ -37,14 +38,30 @@ impl Model for Machine {
 }
 
 impl Machine {
-    /// A machine on this layout with this many sessions, none of which has a transaction open.
+    /// Returns a machine on this layout with this many sessions, none of which has a transaction open.
     pub fn new(alloc: Global, base: Snapshot, sessions: u8) -> Result<Machine, NoMemory>
         requires low { 1 ≤ sessions }
         requires high { sessions ≤ 64 }
-        ensures { IsAnswer (record {}) result (Ok (start base sessions)) }
+        ensures { IsAnswer (record {}) result (Ok (start base sessions MAX_CALLS)) }
+    {
+        Machine::with_log(alloc, base, sessions, MAX_CALLS)
+    }
+
+    /// Returns such a machine whose book logs as many calls as `limit` at most.
+    pub fn with_log(
+        alloc: Global,
+        base: Snapshot,
+        sessions: u8,
+        limit: u32,
+    ) -> Result<Machine, NoMemory>
+        requires low { 1 ≤ sessions }
+        requires high { sessions ≤ 64 }
+        requires some { 1 ≤ limit }
+        requires most { limit ≤ MAX_CALLS }
+        ensures { IsAnswer (record {}) result (Ok (start base sessions limit)) }
     {
         Ok(Machine {
-            book: Book::new(alloc, base)?,
+            book: Book::with_log(alloc, base, limit)?,
             works: no_works(alloc, sessions)?,
         })
     }
@@ -57,14 +74,17 @@ impl Machine {
     }
 
     /// Takes a step of a session. `NoSession` comes first, then `AlreadyOpen` and `NotOpen`; these are
-    /// not logged. Where a commit is refused the transaction stays open.
+    /// not logged. A refused commit leaves the transaction open, unless it is stale and has ended.
     pub fn step(&mut self, alloc: Global, session: u8, step: Step) -> Reply
         ensures step { Takes self.old session step result self.new }
         // A session's open transaction is always the one that the book keeps for it.
         ensures own { IsNotForeign result }
         // An accepted undo gives the layout of the same history without the transaction.
         ensures without { (txn : TxnName) → step ≡ Step.Undo txn → result ≡ Reply.Undone
-            → replay (without self.old.history txn) ≡ Some self.new.history.layout }
+            → replay (with_mark self.old.history false txn) ≡ Some self.new.history.layout }
+        // Then nothing is against a redo, and it leads to the former layout.
+        ensures again { (txn : TxnName) → step ≡ Step.Undo txn → result ≡ Reply.Undone
+            → CanBeRedone self.new.history session txn self.old.history.layout }
     {
         if !self.is_session(session) {
             return Reply::Fault(StepFault::NoSession);
@@ -73,7 +93,9 @@ impl Machine {
             Step::Open => self.open(alloc, session),
             Step::Do(command) => self.run_command(alloc, session, command),
             Step::Commit => self.commit(alloc, session),
+            Step::Cancel => self.cancel(session),
             Step::Undo(txn) => self.undo(alloc, session, txn),
+            Step::Redo(txn) => self.redo(alloc, session, txn),
         }
     }
 
@@ -132,13 +154,23 @@ impl Machine {
         let Some(work) = self.works[place].take() else {
             return Reply::Fault(StepFault::NotOpen);
         };
-        match self.book.commit(alloc, work) {
-            Ok(txn) => Reply::Committed(txn),
-            Err(refusal) => {
-                self.works[place] = refusal.work;
-                Reply::Fault(StepFault::Book(refusal.fault))
-            }
+        let (reply, left) = outcome(self.book.commit(alloc, work));
+        self.works[place] = left;
+        reply
+    }
+
+    /// Gives the session's transaction up.
+    fn cancel(&mut self, session: u8) -> Reply
+        requires { is_session self.old session ≡ true }
+        ensures step { Takes self.old session Step.Cancel result self.new }
+        ensures own { IsNotForeign result }
+    {
+        let place = usize::from(session) - 1;
+        if self.works[place].is_none() {
+            return Reply::Fault(StepFault::NotOpen);
         }
+        self.works[place] = None;
+        Reply::Cancelled
     }
 
     /// Undoes a transaction.
@@ -147,10 +179,23 @@ impl Machine {
         ensures step { Takes self.old session (Step.Undo txn) result self.new }
         ensures own { IsNotForeign result }
         ensures without { result ≡ Reply.Undone
-            → replay (without self.old.history txn) ≡ Some self.new.history.layout }
+            → replay (with_mark self.old.history false txn) ≡ Some self.new.history.layout }
+        ensures again { result ≡ Reply.Undone → CanBeRedone self.new.history session txn self.old.history.layout }
     {
         match self.book.undo(alloc, session, txn) {
             Ok(()) => Reply::Undone,
+            Err(fault) => Reply::Fault(StepFault::Book(fault)),
+        }
+    }
+
+    /// Redoes a transaction.
+    fn redo(&mut self, alloc: Global, session: u8, txn: TxnId) -> Reply
+        requires { is_session self.old session ≡ true }
+        ensures step { Takes self.old session (Step.Redo txn) result self.new }
+        ensures own { IsNotForeign result }
+    {
+        match self.book.redo(alloc, session, txn) {
+            Ok(()) => Reply::Redone,
             Err(fault) => Reply::Fault(StepFault::Book(fault)),
         }
     }
@@ -164,7 +209,7 @@ impl Machine {
     ) -> Result<(Machine, Vec<Reply>), NoMemory>
         requires low { 1 ≤ sessions }
         requires high { sessions ≤ 64 }
-        ensures steps { IfOk result (λ r. Ran (start base sessions) steps.items r.1.items r.0) }
+        ensures steps { IfOk result (λ r. Ran (start base sessions MAX_CALLS) steps.items r.1.items r.0) }
         ensures own { IfOk result (λ r. All IsNotForeign r.1.items) }
         ensures replay { IfOk result (λ r. replay r.0.history ≡ Some r.0.history.layout) }
     {
@@ -177,6 +222,17 @@ impl Machine {
         // What the book says of its layout is said of the machine.
         machine.book().snapshot();
         Ok((machine, replies))
+    }
+}
+
+/// Returns the reply to a commit, and what the session then has open.
+fn outcome(answer: Result<TxnId, CommitRefusal>) -> (Reply, Option<Work>)
+    ensures reply { result.0 ≡ reply_of answer }
+    ensures work { result.1 ≡ work_of answer }
+{
+    match answer {
+        Ok(txn) => (Reply::Committed(txn), None),
+        Err(refusal) => (Reply::Fault(StepFault::Book(refusal.fault)), refusal.work),
     }
 }
 

@@ -1,11 +1,4 @@
-pub mod ListLemmas
-pub mod Agreement
-pub mod Written
-pub mod Runs
-pub mod AlikeRuns
-pub mod SetLemmas
-pub mod SameSets
-pub mod OneMore
-pub mod WorkLemmas
-pub mod SoundRuns
-pub mod Lookups
+pub mod Searches
+pub mod Shifting
+pub mod Marks
+pub mod Kept

@@ -1,8 +1,8 @@
-pub mod Elements
-pub mod SameTouched
-pub mod Records
-pub mod Effects
-pub mod Transactions
+pub mod Answers
+pub mod Acting
+pub mod Seeing
 pub mod Works
-pub mod Agreement
-pub mod Refusals
+pub mod Searching
+pub mod Moving
+pub mod Using
+pub mod Marking

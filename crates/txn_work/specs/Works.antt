@@ -1,18 +1,33 @@
 -- What contracts see of a work, and what it keeps.
+use Rattle.std.specs.Prelude.{◌≡◌, ◌≤◌, ℕ, length, Some}
+use Rattle.lay_items.specs.Sound.{IsSound}
+use Rattle.txn_rules.specs.declared.command.TheConstants.{MAX_COMMANDS}
+use Rattle.txn_rules.specs.Effects.{Run, after_each, begun}
+use Rattle.txn_rules.specs.Records.{records_between}
+use Rattle.txn_rules.specs.Transactions.{Transaction}
 use Rattle.txn_work.specs.declared.work.Work.TheInside.{Inside}
-use Rattle.txn_work.specs.Transactions.{IsKept, Transaction}
 
--- a work, transaction_of as its transaction
+-- a work as its transaction
 abbrev pub transaction_of : Inside → Transaction
 transaction_of w = record {
   id = w.id;
   opened = w.opened;
   snapshot = w.snapshot;
   commands = w.commands.items;
-  writes = w.writes.items;
+  writes = w.writes;
   footprint = w.footprint;
 }
 
--- a work keeps what its transaction is to keep
+-- its commands, run on its sound snapshot, write and touch what it says, make so many items, and are answered each
+pub record IsKept (txn : Transaction) (made : ℕ) : Type 0 where
+  pub sound : IsSound txn.snapshot
+  pub run : Run
+  pub runs : after_each txn.id txn.commands (begun txn.snapshot) ≡ Some run
+  pub writes : records_between txn.snapshot run.layout ≡ txn.writes
+  pub footprint : run.footprint ≡ txn.footprint
+  pub count : run.made ≡ made
+  pub few : made ≤ MAX_COMMANDS
+  pub answered : length run.dones ≡ length txn.commands
+
 abbrev pub IsWork : Inside → Type 0
-IsWork w = IsKept (transaction_of w)
+IsWork w = IsKept (transaction_of w) w.made

@@ -1,5 +1,7 @@
-pub mod ListLemmas
-pub mod ChainLemmas
-pub mod HistoryLemmas
 pub mod CommitLemmas
+pub mod FoundLemmas
+pub mod IndexLemmas
+pub mod PlaceLemmas
+pub mod SoundLemmas
 pub mod UndoLemmas
+pub mod WalkLemmas

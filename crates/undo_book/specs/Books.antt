@@ -1,12 +1,20 @@
 -- What contracts see of a book, and what it keeps.
+use Rattle.undo_rules.specs.Books.{History, IsHistory}
 use Rattle.undo_book.specs.declared.book.Book.TheInside.{Inside}
-use Rattle.undo_book.specs.Chains.{IsHistory}
-use Rattle.undo_book.specs.History.{History}
+use Rattle.undo_book.specs.Places.{AreTheirPlaces}
 
--- a book, history_of as its history
+-- a book as its history
 abbrev pub history_of : Inside → History
-history_of b = record { base = b.base; layout = b.layout; log = b.log.items; entries = b.entries.items; sessions = b.sessions.items }
+history_of b = record {
+  base = b.base;
+  layout = b.layout;
+  log = b.log.items;
+  limit = b.limit;
+  entries = b.entries.items;
+  sessions = b.sessions.items;
+}
 
--- a book keeps that its history is one
-abbrev pub IsBook : Inside → Type 0
-IsBook b = IsHistory (history_of b)
+-- a book keeps what a history keeps true, and the places of its transactions
+pub record IsBook (b : Inside) : Type 0 where
+  pub history : IsHistory (history_of b)
+  pub places : AreTheirPlaces b.places.entries b.entries.items

@@ -1,5 +1,6 @@
-pub mod History
-pub mod Chains
-pub mod Steps
+pub mod Coded
+pub mod Places
+pub mod Walks
+pub mod Replays
+pub mod Calls
 pub mod Books
-pub mod Refusals

@@ -1,25 +1,153 @@
-//! Refused commits.
-ghost use Rattle.std.specs.Prelude.{◌≡◌};
-ghost use Rattle.undo_book.specs.Steps.{refused};
+//! Commits.
+ghost use Rattle.std.specs.Prelude.{◌≡◌, ◌+◌, IfErr, IfOk, OnErr, OnOk, Err, None, Some, false, true, drop};
+ghost use Rattle.undo_rules.specs.Steps.{after_commit, commit_step, is_log_full, is_own, stale_by};
+ghost use Rattle.undo_book.specs.Calls.{EndsStale, TakesWork, refused};
+ghost use Rattle.undo_book.specs.Replays.{RunsAgain};
 
-use crate::log::BookFault;
+use crate::book::Book;
+use crate::entry::Entry;
+use crate::links::links_to;
+use crate::session::end_pending;
+use lay_point::Sequence;
+use std::alloc::Global;
+use txn_rules::TxnId;
 use txn_work::Work;
+use undo_rules::{Answer, BookFault, Call, Logged};
 
-/// A refused commit: `LogFull`, `Foreign` or `NoMemory`. The work is handed back.
+/// A refused commit.
 #[derive(Drop)]
 pub struct CommitRefusal {
     /// Why it is refused.
     pub fault: BookFault,
-    /// The work, to be used again. A book always hands it back.
+    /// The work, to be used again. A stale one has ended, and isn't handed back.
     pub work: Option<Work>,
 }
 
-/// A refused commit, with its work.
-pub(crate) fn refused(fault: BookFault, work: Work) -> CommitRefusal
-    ensures { result ≡ refused fault work }
+/// Returns a refused commit with its work.
+fn refused(fault: BookFault, work: Work) -> CommitRefusal
+    ensures { result ≡ record { fault = fault; work = Some work } }
 {
     CommitRefusal {
         fault,
         work: Some(work),
+    }
+}
+
+impl Book {
+    /// Commits a work: its transaction is live, and the last one. Refused, with the work handed back, as
+    /// `LogFull`, then as `Foreign` where the work isn't the one that its session opened last in this book
+    /// and that has not ended, or where the layout at its open isn't as its snapshot has it on what it
+    /// touched. Refused as `Stale` with the first transaction that a call since its open committed, undid or
+    /// redid and that wrote what the work touched; the work has then ended. Only this is logged.
+    pub fn commit(&mut self, alloc: Global, work: Work) -> Result<TxnId, CommitRefusal>
+        ensures step { TakesWork self.old work (commit_step self.old work) result self.new }
+        ensures full { is_log_full self.old ≡ true → result ≡ Err (refused BookFault.LogFull work) }
+        // The commands, run on the layout at the commit, give what they gave in the work.
+        ensures ran { OnOk result (RunsAgain work self.old.layout self.new.layout) }
+    {
+        if self.is_full() {
+            return Err(refused(BookFault::LogFull, work));
+        }
+        if !self.is_own(&work) {
+            return Err(refused(BookFault::Foreign, work));
+        }
+        match self.changed_under(&work) {
+            Some(other) => self.end_stale(work, other),
+            None => self.append(alloc, work),
+        }
+    }
+
+    /// Returns whether the work is the one that its session opened last and that has not ended, and the
+    /// layout at its open is as its snapshot has it on what it touched.
+    fn is_own(&self, work: &Work) -> bool
+        ensures { result ≡ is_own self.now work.now }
+    {
+        let id = work.id();
+        if id.session == 0 || id.session > 64 {
+            return false;
+        }
+        let state = &self.sessions[usize::from(id.session) - 1];
+        state.opens() == id.txn && state.awaits(work)
+    }
+
+    /// Returns the first transaction that a call since the work's open changed and that wrote what the work
+    /// touched.
+    fn changed_under(&self, work: &Work) -> Option<TxnId>
+        requires { is_own self.now work.now ≡ true }
+        ensures { result ≡ stale_by self.now.entries work.now.footprint
+            (drop (work.now.opened + 1) self.now.log) }
+    {
+        let since = work.opened() as usize + 1;
+        self.stale_by(work.footprint(), &self.log[since..])
+    }
+
+    /// Ends the transaction of a work of the book's own, of which another wrote what it touched. The work
+    /// is handed back where it is out of memory.
+    fn end_stale(&mut self, work: Work, other: TxnId) -> Result<TxnId, CommitRefusal>
+        requires own { is_own self.old work ≡ true }
+        ensures { EndsStale self.old work other result self.new }
+    {
+        if self.log.reserve(1).is_err() {
+            return Err(refused(BookFault::NoMemory, work));
+        }
+        let txn = work.id();
+        let fault = BookFault::Stale(other);
+        let (commands, _, _) = work.into_parts();
+        let logged = Logged {
+            session: txn.session,
+            call: Call::Commit { txn, commands },
+            answer: Answer::Refused(fault),
+        };
+        self.log.push(logged).unwrap();
+        end_pending(&mut self.sessions, txn.session);
+        Err(CommitRefusal { fault, work: None })
+    }
+
+    /// Appends the transaction of a work of the book's own that isn't stale. The work is handed back where it
+    /// is out of memory.
+    fn append(&mut self, alloc: Global, work: Work) -> Result<TxnId, CommitRefusal>
+        requires log { is_log_full self.old ≡ false }
+        requires own { is_own self.old work ≡ true }
+        requires fresh { stale_by self.old.entries work.footprint (drop (work.opened + 1) self.old.log) ≡ None }
+        ensures txn { IfOk result (λ txn. txn ≡ work.id) }
+        ensures ok { OnOk result (self.new ≡ after_commit self.old work) }
+        ensures ran { OnOk result (RunsAgain work self.old.layout self.new.layout) }
+        ensures back { IfErr result (λ refusal. refusal ≡ refused BookFault.NoMemory work) }
+        ensures err { OnErr result (self.new ≡ self.old) }
+    {
+        let txn = work.id();
+        let Ok(layout) = work.writes().applied(alloc, &self.layout) else {
+            return Err(refused(BookFault::NoMemory, work));
+        };
+        let Ok(seen) = links_to(alloc, &self.entries, work.footprint()) else {
+            return Err(refused(BookFault::NoMemory, work));
+        };
+        if self.entries.reserve(1).is_err() || self.log.reserve(1).is_err() {
+            return Err(refused(BookFault::NoMemory, work));
+        }
+        let index = self.entries.len();
+        let Ok(_) = self.places.insert((txn.session, txn.txn), index) else {
+            return Err(refused(BookFault::NoMemory, work));
+        };
+        let place = self.log.len() as u32;
+        let (commands, writes, footprint) = work.into_parts();
+        let entry = Entry {
+            txn,
+            place,
+            writes,
+            footprint,
+            seen: Sequence::from_vec(seen),
+            live: true,
+        };
+        self.entries.push(entry).unwrap();
+        let logged = Logged {
+            session: txn.session,
+            call: Call::Commit { txn, commands },
+            answer: Answer::Committed,
+        };
+        self.log.push(logged).unwrap();
+        end_pending(&mut self.sessions, txn.session);
+        self.layout = layout;
+        Ok(txn)
     }
 }

@@ -1,14 +1,16 @@
-//! The history of a layout: transactions that commit, and are undone by their names. In this version
-//! an undo is refused while any later transaction is live.
+//! The history of a layout: transactions that commit, and are undone and redone by their names.
 //!
-//! A session opens a transaction and gets a [`Work`](txn_work::Work) on a snapshot of the layout. A
-//! commit hands the work to the [`Book`], which keeps what the transaction wrote, each item with its
-//! value before and after. An undo puts the values before back. No command is run again; and yet the
-//! layout is always that of running the commands of the live transactions, in the order of their
-//! commits, from the base. That is what a `Book` keeps in its type.
+//! A session opens a transaction and gets a [`Work`](txn_work::Work) on a snapshot of the layout. A commit
+//! hands the work to the [`Book`], unless a call since the open wrote what the work touched. Any committed
+//! transaction can be undone, unless a later live one touched what it wrote; and redone, unless a later live
+//! one did, or the live earlier ones that wrote what it touched are no longer those of its commit. What is
+//! written is applied and reverted: no command is run again. And yet the layout is always that of running
+//! the commands of the live transactions, in the order of their commits, from the base. That is what a
+//! `Book` keeps in its type, with the places of its transactions by their names.
 //!
-//! Contracts see a `Book` as the record `History` of `specs/History.antt`. What each call answers and
-//! leaves is in `specs/Steps.antt`.
+//! Contracts see a `Book` as the record `History` of `undo_rules/specs/Books.antt`. What each call answers
+//! and leaves is in `undo_rules/specs/Steps.antt`; any answer but `LogFull` can give way to `NoMemory`, and
+//! then nothing changes (`specs/Calls.antt`).
 //!
 //! ```text
 //! let mut book = Book::new(alloc, base)?;
@@ -16,18 +18,24 @@
 //! work.run(alloc, command)?;
 //! let txn = book.commit(alloc, work)?;
 //! book.undo(alloc, 1, txn)?;
+//! book.redo(alloc, 1, txn)?;
 //! ```
 #![tactic(auto)]
 
 mod book;
 mod commit;
-mod log;
-mod places;
+mod entry;
+mod find;
+mod links;
+mod open;
+mod redo;
 mod session;
 #[cfg(test)]
 mod tests;
+mod undo;
 
-pub use book::Book;
+pub use book::{Book, MAX_CALLS};
 pub use commit::CommitRefusal;
-pub use log::{Answer, BookFault, Call, Entry, Logged, MAX_CALLS};
-pub use session::MAX_TRANSACTIONS;
+pub use entry::Entry;
+pub use open::MAX_TRANSACTIONS;
+pub use undo_rules::{Answer, BookFault, Call, Logged};

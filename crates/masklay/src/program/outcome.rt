@@ -1,19 +1,20 @@
 //! What the program does with a job.
-ghost use Rattle.std.specs.Prelude.{◌≡◌, IfOk, Ok, length, replicate};
+ghost use Rattle.std.specs.Prelude.{◌≡◌, Ok};
 ghost use Rattle.std.specs.List.{list_any};
 ghost use Rattle.lay_point.specs.Memory.{IsAnswer};
 ghost use Rattle.masklay.specs.declared.program.outcome.Stop.TheVariants.{NoMemory as OutOfMemory};
 ghost use Rattle.session_core.specs.Machine.{is_memory};
-ghost use Rattle.masklay.specs.Outcome.{finished_from, finished_of, numbered, stop_of_cif, stop_of_job};
+ghost use Rattle.masklay.specs.Outcome.{AnswersOutcome, finished_from, sessions_for, stop_of_cif, stop_of_job};
 
 use cif_read::{CifFault, FaultKind, read};
 use job_text::{Job, JobFault, order_of};
 use lay_items::Snapshot;
 use lay_point::{NoMemory, Sequence};
-use session_core::{Machine, Reply, Step, StepFault};
+use session_core::Machine;
+use session_steps::{Reply, Step, StepFault, dealt, in_turn};
 use std::alloc::Global;
-use txn_work::CmdFault;
-use undo_book::BookFault;
+use txn_rules::CmdFault;
+use undo_rules::BookFault;
 
 /// Why no layout is written.
 #[derive(Clone, Copy, Debug, PartialEq, Eq)]
@@ -29,8 +30,8 @@ pub(super) enum Stop {
 /// What is written where the job and its CIF text have no fault.
 #[derive(Drop)]
 pub(super) struct Finished {
-    /// The replies to the steps of session 1.
-    pub(super) replies: Sequence<Reply>,
+    /// The replies to the steps of each session.
+    pub(super) replies: Sequence<Sequence<Reply>>,
     /// The session of each step, in the order in which they ran.
     pub(super) order: Sequence<u8>,
     /// The layout that the steps led to.
@@ -68,61 +69,65 @@ impl From<NoMemory> for Stop {
 }
 
 /// Runs the job of the bytes.
-#[tactic(auto, unfolding(crate::specs::Outcome::finished_of))]
+#[tactic(auto, unfolding(crate::specs::Outcome::IsOutcome))]
 pub(super) fn finish(alloc: Global, bytes: &[u8]) -> Result<Finished, Stop>
-    ensures { IsAnswer Stop.NoMemory result (finished_of bytes.now) }
+    ensures { AnswersOutcome bytes.now result }
 {
-    let job = Job::read(alloc, bytes)?;
-    let file = read(alloc, job.cif.as_slice())?;
+    let Job {
+        cif,
+        scripts,
+        order,
+    } = Job::read(alloc, bytes)?;
+    let file = read(alloc, cif)?;
     let base = Snapshot::from_cif(alloc, file)?;
-    finish_steps(alloc, base, job.script)
+    finish_steps(alloc, base, scripts, order)
 }
 
-/// Runs the steps of session 1 on the layout.
-fn finish_steps(alloc: Global, base: Snapshot, script: Sequence<Step>) -> Result<Finished, Stop>
-    ensures answer { IsAnswer Stop.NoMemory result (Ok (finished_from base script)) }
-
-    // Each step is the one session's, so the printed order is that in which the steps ran.
-    ensures order { IfOk result (λ finished. finished.order ≡ replicate (length script) 1) }
+/// Runs the scripts' steps in this order on the layout.
+fn finish_steps(
+    alloc: Global,
+    base: Snapshot,
+    scripts: Sequence<Sequence<Step>>,
+    order: Sequence<u8>,
+) -> Result<Finished, Stop>
+    ensures { IsAnswer Stop.NoMemory result (Ok (finished_from base scripts order)) }
 {
-    let steps = numbered(alloc, script)?;
-    let (machine, replies) = Machine::run(alloc, base, 1, steps)?;
+    let sessions = sessions_for(scripts.as_slice().len());
+    let steps = in_turn(alloc, scripts, order.as_slice())?;
+    let (machine, replies) = Machine::run(alloc, base, sessions, steps)?;
     if is_out_of_memory(&replies) {
         return Err(Stop::NoMemory);
     }
-    let order = order_of(alloc, machine.book().log(), &replies)?;
+    let replies = dealt(alloc, sessions, order.as_slice(), replies)?;
+    let order = order_of(alloc, machine.book().log(), replies.as_slice())?;
     Ok(Finished {
         layout: machine.book().snapshot().share(alloc)?,
-        replies: Sequence::from_vec(replies),
+        replies,
         order: Sequence::from_vec(order),
     })
 }
 
-/// The steps, each of session 1.
-fn numbered(alloc: Global, script: Sequence<Step>) -> Result<Vec<(u8, Step)>, NoMemory>
-    ensures { IfOk result (λ steps. steps.items ≡ numbered script) }
+/// Returns how many sessions run so many scripts: a job without steps has one that takes none.
+fn sessions_for(scripts: usize) -> u8
+    ensures { result ≡ sessions_for scripts }
 {
-    let mut steps = Vec::with_capacity(alloc, script.as_slice().len())?;
-    for step in script.into_vec() {
-        steps.push((1, step))?;
-    }
-    Ok(steps)
+    scripts.min(64).max(1) as u8
 }
 
 /// Returns whether one of the steps was out of memory.
 fn is_out_of_memory(replies: &[Reply]) -> bool
     ensures { result ≡ list_any is_memory replies.now }
 {
-    replies.iter().any(|reply| is_memory(*reply))
+    replies.iter().any(|reply| is_memory(reply))
 }
 
 /// Returns whether a step with this reply was out of memory.
-fn is_memory(reply: Reply) -> bool
-    ensures { result ≡ is_memory reply }
+fn is_memory(reply: &Reply) -> bool
+    ensures { result ≡ is_memory reply.now }
 {
     match reply {
-        Reply::Fault(StepFault::Command(fault)) => fault == CmdFault::NoMemory,
-        Reply::Fault(StepFault::Book(fault)) => fault == BookFault::NoMemory,
+        Reply::Fault(StepFault::Command(fault)) => *fault == CmdFault::NoMemory,
+        Reply::Fault(StepFault::Book(fault)) => *fault == BookFault::NoMemory,
         _ => false,
     }
 }

@@ -1,6 +1,6 @@
 //! The whole output, built before the first byte is written.
 ghost use Rattle.std.specs.Prelude.{◌≡◌, ◌++◌, IfOk};
-ghost use Rattle.masklay.specs.Output.{cif_fault_text, finished_output, job_fault_text, output_of};
+ghost use Rattle.masklay.specs.Output.{cif_fault_text, IsOutput, finished_output, job_fault_text};
 
 use crate::program::outcome::{Finished, Stop, finish};
 use crate::program::status::Status;
@@ -13,10 +13,8 @@ use std::io::Write;
 
 /// Returns what is to be written for the job of the bytes, and the status with which the program then
 /// ends.
-#[tactic(auto, unfolding(crate::specs::Output::output_of))]
 pub(super) fn output_of(alloc: Global, bytes: &[u8]) -> Result<(Vec<u8>, Status), NoMemory>
-    ensures { IfOk result (λ output. (output.0.items ≡ (output_of bytes.now).text)
-        × (output.1 ≡ (output_of bytes.now).status)) }
+    ensures { IfOk result (λ output. IsOutput bytes.now (record { text = output.0.items; status = output.1 })) }
 {
     match finish(alloc, bytes) {
         Ok(finished) => Ok((finished_text(alloc, &finished)?, Status::Done)),

@@ -1,12 +1,12 @@
 use Rattle.std.proofs.Common.{◌≡◌, rules, sym, subst}
-use Rattle.lay_items.specs.FromCif.{layout_of}
 use Rattle.lay_items.specs.Layout.{Layout}
 use Rattle.lay_items.specs.Sound.{IsSound}
+use Rattle.lay_items.specs.FromCif.{layout_of}
 use Rattle.lay_items.proofs.SoundLemmas.{layout_of-sound}
 use Rattle.lay_items.proofs.snapshot.Snapshot.from_cif.Goals as goal
 
 pub of-requires : goal.of-requires
 of-requires c =
-    let same : c.in_ok-version.version ≡ layout_of c.args.file.top = search rules in
-    let sound : IsSound (layout_of c.args.file.top) = layout_of-sound c.args.file.top c.into_vec.ensures.elements.drawn in
+    let same : c.in_ok-version.version ≡ layout_of c.args.file = search rules in
+    let sound : IsSound (layout_of c.args.file) = layout_of-sound c.args.file c.into_parts-symbols.ensures.sound in
     let P : Layout → Type 0 = λ l. IsSound l in subst P (sym same) sound

@@ -1,27 +1,42 @@
-use Rattle.std.proofs.Common.{◌≡◌, ◌∙◌, Ok, ap, false, inr, rules}
+use Rattle.std.proofs.Common.{◌≡◌, ◌∙◌, ◌≤◌, [], List, Ok, ap, false, inr, length, replicate, rules, sym, arith}
 use Rattle.std.specs.List.{list_any}
-use Rattle.session_core.specs.Machine.{Ran, is_memory, start}
+use Rattle.session_core.specs.Machine.{Ran, after_steps, is_memory, start}
+use Rattle.session_steps.specs.Turns.{dealt, in_turn}
+use Rattle.undo_book.specs.declared.book.TheConstants.{MAX_CALLS}
 use Rattle.job_text.specs.Order.{order_of}
-use Rattle.masklay.specs.Outcome.{finished_by, finished_from, numbered}
+use Rattle.masklay.specs.Outcome.{finished_by, finished_from, sessions_for}
 use Rattle.masklay.specs.declared.program.outcome.Finished.{Finished}
 use Rattle.session_core.proofs.MachineLemmas.{ran_all}
-use Rattle.masklay.proofs.SerialLemmas.{serial_order}
+use Rattle.masklay.proofs.DealtLemmas.{few_hands}
 use Rattle.masklay.proofs.program.outcome.finish_steps.Goals as goal
+
+-- as many hands as sessions, so no more than 64
+pub order_of-requires : goal.order_of-requires
+order_of-requires c =
+    let few : c.sessions_for-sessions.result ≤ 64 = search rules in
+    let hands : c.as_slice-4.result.now ≡ dealt c.args.order c.in_ok-machine.replies.items (replicate c.sessions_for-sessions.result []) = search rules in
+    rw hands (few_hands c.args.order c.in_ok-machine.replies.items c.sessions_for-sessions.result few)
 
 pub returns : goal.returns
 returns c =
+    let n = c.sessions_for-sessions.result in
+    let base = c.args.base in
+    let order = c.args.order in
+    let steps = in_turn order c.args.scripts in
     let machine = c.in_ok-machine.machine in
     let replies = c.in_ok-machine.replies.items in
-    let ran : Ran (start c.args.base 1) (numbered c.args.script) c.in_ok-machine.replies.items c.in_ok-machine.machine = search rules in
-    let plain : list_any is_memory c.in_ok-machine.replies.items ≡ false = search rules in
-    let all = ran_all (numbered c.args.script) replies (start c.args.base 1) machine ran plain in
-    let told : c.from_vec.result ≡ c.in_ok-machine.replies.items = search rules in
-    let order : c.from_vec-2.result ≡ order_of c.in_ok-machine.machine.history.log c.in_ok-machine.replies.items = search rules in
-    let layout : c.in_ok-share.field-0 ≡ c.in_ok-machine.machine.history.layout = search rules in
-    let finished : Finished = record { replies = c.from_vec.result; order = c.from_vec-2.result; layout = c.in_ok-share.field-0 } in
-    let parts : finished ≡ finished_by (replies, machine) = λ i. record { replies = told i; order = order i; layout = layout i } in
-    let is : finished ≡ finished_from c.args.base c.args.script = parts ∙ (λ i. finished_by (all.0 i, all.1 i)) in
-    record {
-      answer = inr (ap Ok is);
-      order = ap (λ (f : Finished). f.order) is ∙ serial_order c.args.base c.args.script;
-    }
+    let ran : Ran (start base n MAX_CALLS) steps replies machine = search rules in
+    let plain : list_any is_memory replies ≡ false = search rules in
+    let all = ran_all steps replies (start base n MAX_CALLS) machine ran plain in
+    let told : c.in_ok-replies.replies ≡ dealt order replies (replicate n []) = search rules in
+    let printed : c.from_vec.result ≡ order_of machine.history.log c.in_ok-replies.replies = search rules in
+    let layout : c.in_ok-share.field-0 ≡ machine.history.layout = search rules in
+    let finished : Finished = record { replies = c.in_ok-replies.replies; order = c.from_vec.result; layout = c.in_ok-share.field-0 } in
+    let parts : finished ≡ finished_by n order (replies, machine) = λ i. record {
+      replies = told i;
+      order = (printed ∙ ap (order_of machine.history.log) told) i;
+      layout = layout i;
+    } in
+    let so : finished ≡ finished_by n order (after_steps (start base n MAX_CALLS) steps) = parts ∙ (λ i. finished_by n order (all.0 i, all.1 i)) in
+    let count : n ≡ sessions_for (length c.args.scripts) = search rules in
+    inr (ap Ok (so ∙ ap (λ k. finished_by k order (after_steps (start base k MAX_CALLS) steps)) count))

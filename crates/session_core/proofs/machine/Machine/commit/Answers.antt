@@ -1,48 +1,56 @@
-use Rattle.std.proofs.Common.{◌≡◌, ◌-◌, Some, slice_set, subst, sym}
+use Rattle.std.proofs.Common.{◌≡◌, ◌-◌, ◌∙◌, List, Option, Some, ap, rules, slice_set, subst, sym}
+use Rattle.std.proofs.lemmas.List.{set-set}
+use Rattle.txn_rules.specs.Transactions.{Transaction}
+use Rattle.undo_rules.specs.declared.log.BookFault.TheVariants.{Foreign, NoMemory}
+use Rattle.undo_rules.specs.Steps.{commit_step}
+use Rattle.session_steps.specs.declared.Reply.{Reply}
+use Rattle.session_steps.specs.declared.Reply.TheVariants.{Fault}
+use Rattle.session_steps.specs.declared.Step.TheVariants.{Commit}
+use Rattle.session_steps.specs.declared.StepFault.TheVariants.{Book}
+use Rattle.session_core.specs.Commits.{reply_of, work_of}
+use Rattle.session_core.specs.Machine.{State, Takes, TakesOr, after_commit, with_work}
 use Rattle.session_core.specs.Machines.{IsState, machine_state}
-use Rattle.session_core.proofs.MachineLemmas.{Held, Taken, commit_refused, commit_stays, committed, own_of, put_back, taken_out}
+use Rattle.session_core.proofs.MachineLemmas.{Commits, Taken, commits_so, left_state, taken_out}
 use Rattle.session_core.proofs.machine.Machine.commit.Goals as goal
 
-pub invariant_of-self-in-Ok : goal.invariant_of-self-in-Ok
-invariant_of-self-in-Ok c =
+pub invariant_of-self-2 : goal.invariant_of-self-2
+invariant_of-self-2 c =
     let works = c.self.inside.works.items in
     let place = c.from-place.result - 1 in
     let t = taken_out c.self.inside c.args.self.now c.self.view_is c.self.invariant c.args.session c.from-place.result c.from-place.ensures
     c.requires c.index_mut.result.now c.take.result c.in-Some.work c.index_mut.ensures.value c.take.ensures.value c.in-Some.is in
-    subst (λ w. IsState (record { history = c.commit.new.self; works = slice_set works place w })) (sym c.take.ensures.after)
-    (committed c.self.inside.book c.commit.new.self works place c.in-Some.work c.in-Ok.txn c.self.invariant t.inside t.found
-    c.in-Ok.ensures.step)
+    let made = commits_so (machine_state c.self.inside) c.commit.new.self c.args.session place c.in-Some.work c.commit.result t.is_open t.few
+    (c.self.invariant.works place c.in-Some.work t.found) c.commit.ensures.step c.commit.ensures.full in
+    subst (λ (w : List (Option Transaction)). IsState (record { history = c.commit.new.self; works = w }))
+    (sym (set-set works place c.take.new.self c.outcome-reply.result.1 ∙ ap (slice_set works place) c.outcome-reply.ensures.work))
+    (left_state c.self.inside.book c.commit.new.self works place c.in-Some.work (work_of c.commit.result) c.self.invariant t.inside made.left)
 
-taken : (c : goal.Joined-index_mut-refusal) → Taken c.self.inside (c.from-place.result - 1) c.args.session c.in-Some.work
-taken c =
-    taken_out c.self.inside c.args.self.now c.self.view_is c.self.invariant c.args.session c.from-place.result c.from-place.ensures
-    c.requires c.index_mut.result.now c.take.result c.in-Some.work c.index_mut.ensures.value c.take.ensures.value c.in-Some.is
+pub returns-clause-step : goal.returns-clause-step
+returns-clause-step c =
+    let s = machine_state c.self.inside in
+    let works = c.self.inside.works.items in
+    let place = c.from-place.result - 1 in
+    let session = c.args.session in
+    let t = taken_out c.self.inside c.args.self.now c.self.view_is c.self.invariant session c.from-place.result c.from-place.ensures
+    c.requires c.index_mut.result.now c.take.result c.in-Some.work c.index_mut.ensures.value c.take.ensures.value c.in-Some.is in
+    let made = commits_so s c.commit.new.self session place c.in-Some.work c.commit.result t.is_open t.few
+    (c.self.invariant.works place c.in-Some.work t.found) c.commit.ensures.step c.commit.ensures.full in
+    let end : State = record { history = c.commit.new.self; works = slice_set (slice_set works place c.take.new.self) place c.outcome-reply.result.1 } in
+    let is_end : end ≡ with_work s c.commit.new.self session (work_of c.commit.result) =
+    ap (λ w. record { history = c.commit.new.self; works = w }) (set-set works place c.take.new.self c.outcome-reply.result.1
+    ∙ ap (slice_set works place) c.outcome-reply.ensures.work
+    ∙ ap (λ n. slice_set works (n - 1) (work_of c.commit.result)) c.from-place.ensures) in
+    let step : Takes s session Commit (reply_of c.commit.result) (with_work s c.commit.new.self session (work_of c.commit.result)) =
+    rw (t.there, t.is_open) made.step in
+    subst (λ n. Takes n session Commit c.outcome-reply.result.0 end) c.self.view_is
+    (subst (λ r. Takes s session Commit r end) (sym c.outcome-reply.ensures.reply)
+    (subst (λ e. Takes s session Commit (reply_of c.commit.result) e) (sym is_end) step))
 
--- the state before the call and what the refusal leaves
-held : (c : goal.Joined-index_mut-refusal) → Held (machine_state c.self.inside) c.args.session c.in-Some.work c.in-Err.refusal
-    c.commit.new.self
-held c =
-    commit_refused (machine_state c.self.inside) c.commit.new.self c.args.session c.in-Some.work c.commit.result c.in-Err.refusal
-    (own_of c.self.inside.book (c.from-place.result - 1) c.in-Some.work (taken c).few
-    (c.self.invariant.works (c.from-place.result - 1) c.in-Some.work (taken c).found))
-    c.in-Err.is c.commit.ensures.step c.commit.ensures.full
-
--- the work is in its place again
-back : (c : goal.Joined-index_mut-refusal) → slice_set (slice_set c.self.inside.works.items (c.from-place.result - 1) c.take.new.self)
-    (c.from-place.result - 1) c.in-Err.refusal.work ≡ c.self.inside.works.items
-back c =
-    rw (c.take.ensures.after, (held c).back)
-    (put_back c.self.inside.works.items (c.from-place.result - 1) (Some c.in-Some.work) (taken c).found)
-
-pub invariant_of-self-in-Err : goal.invariant_of-self-in-Err
-invariant_of-self-in-Err c =
-    subst (λ w. IsState (record { history = c.commit.new.self; works = w })) (sym (back c))
-    (subst (λ h. IsState (record { history = h; works = c.self.inside.works.items })) (sym (held c).same) c.self.invariant)
-
-pub returns-in-Err-clause-step : goal.returns-in-Err-clause-step
-returns-in-Err-clause-step c =
-    commit_stays (machine_state c.self.inside) c.args.self.now _ c.args.session c.in-Some.work c.in-Err.refusal c.commit.new.self
-    c.self.view_is (taken c).there (taken c).is_open (held c) (λ i. record { history = (held c).same i; works = back c i })
-
-pub returns-in-Err-clause-own : goal.returns-in-Err-clause-own
-returns-in-Err-clause-own c = λ e. (held c).own cc
+pub returns-clause-own : goal.returns-clause-own
+returns-clause-own c =
+    let place = c.from-place.result - 1 in
+    let t = taken_out c.self.inside c.args.self.now c.self.view_is c.self.invariant c.args.session c.from-place.result c.from-place.ensures
+    c.requires c.index_mut.result.now c.take.result c.in-Some.work c.index_mut.ensures.value c.take.ensures.value c.in-Some.is in
+    let made = commits_so (machine_state c.self.inside) c.commit.new.self c.args.session place c.in-Some.work c.commit.result t.is_open t.few
+    (c.self.invariant.works place c.in-Some.work t.found) c.commit.ensures.step c.commit.ensures.full in
+    λ e. made.own (sym c.outcome-reply.ensures.reply ∙ e)

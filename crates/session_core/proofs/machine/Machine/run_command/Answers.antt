@@ -1,6 +1,6 @@
 use Rattle.std.proofs.Common.{◌≡◌, ◌-◌, ◌∙◌, Some, ap, slice_set, subst, sym}
 use Rattle.std.proofs.lemmas.List.{set-set}
-use Rattle.session_core.specs.declared.Step.TheVariants.{Do}
+use Rattle.session_steps.specs.declared.Step.TheVariants.{Do}
 use Rattle.session_core.specs.Machine.{State, Takes, command_reply, with_work}
 use Rattle.session_core.specs.Machines.{IsState, machine_state}
 use Rattle.session_core.proofs.MachineLemmas.{commanded, ran_command, same_parts, taken_out}

@@ -1,19 +1,29 @@
-use Rattle.std.proofs.Common.{◌≡◌, ◌∙◌, Err, Ok, ap, inl, inr, sym}
-use Rattle.std.proofs.lemmas.Result.{err_from_is_err_and}
-use Rattle.txn_work.specs.declared.command.CmdFault.TheVariants.{NoMemory}
-use Rattle.txn_work.proofs.OneMore.{answered_so, refused_so}
+use Rattle.std.proofs.Common.{◌≡◌, rules, subst, true}
+use Rattle.lay_items.specs.declared.id.ItemId.{ItemId}
+use Rattle.lay_items.specs.Layout.{Layout}
+use Rattle.lay_point.specs.Memory.{IsAnswer}
+use Rattle.txn_rules.specs.declared.fault.CmdFault.TheVariants.{NoMemory}
+use Rattle.txn_rules.specs.Effects.{is_too_much, next_id}
+use Rattle.txn_rules.specs.Plans.{plan}
+use Rattle.txn_work.specs.Answers.{run_so_far}
+use Rattle.txn_work.proofs.Kept.{refused_so, too_much_so}
 use Rattle.txn_work.proofs.work.Work.run.Goals as goal
 
-pub returns-in_err-item-clause-answer : goal.returns-in_err-item-clause-answer
-returns-in_err-item-clause-answer c =
-    let p = err_from_is_err_and c.from_residual.result c.from_residual.ensures.1 in
-    elim c.in_err-item.ensures.answer [
-      | inl memory ↦ let e : c.in_err-item.field-0.0 ≡ NoMemory = cc in inl (p.1 ∙ ap Err (p.2 ∙ e))
-      | inr refused ↦ inr (p.1 ∙ ap Err p.2 ∙ sym (refused_so c.args.self.now c.args.command c.in_err-item.field-0.0 (sym refused)))
-    ]
+pub returns-in_err-act-clause-answer : goal.returns-in_err-act-clause-answer
+returns-in_err-act-clause-answer c =
+    let planned : IsAnswer NoMemory c.plan.result
+        (plan (next_id c.args.self.now.id (run_so_far c.args.self.now)) c.args.command (run_so_far c.args.self.now).layout) =
+    subst (λ (l : Layout). IsAnswer NoMemory c.plan.result (plan (next_id c.args.self.now.id (run_so_far c.args.self.now)) c.args.command l))
+    c.seen.ensures (subst (λ (i : ItemId). IsAnswer NoMemory c.plan.result (plan i c.args.command c.seen.result)) c.next_id.ensures c.plan.ensures) in
+    let kept = refused_so c.args.self.now c.args.command in
+    search rules
 
-pub returns-clause-answer : goal.returns-clause-answer
-returns-clause-answer c = elim c.in_ok-item.ensures.answer [
-  | inl memory ↦ absurd cc
-  | inr accepted ↦ inr (ap Ok c.in_ok-make.ensures.done ∙ sym (answered_so c.args.self.now c.args.command c.in_ok-item.item (sym accepted)))
-]
+pub returns-then-has_no_room_for-clause-answer : goal.returns-then-has_no_room_for-clause-answer
+returns-then-has_no_room_for-clause-answer c =
+    let planned : IsAnswer NoMemory c.plan.result
+        (plan (next_id c.args.self.now.id (run_so_far c.args.self.now)) c.args.command (run_so_far c.args.self.now).layout) =
+    subst (λ (l : Layout). IsAnswer NoMemory c.plan.result (plan (next_id c.args.self.now.id (run_so_far c.args.self.now)) c.args.command l))
+    c.seen.ensures (subst (λ (i : ItemId). IsAnswer NoMemory c.plan.result (plan i c.args.command c.seen.result)) c.next_id.ensures c.plan.ensures) in
+    let full : is_too_much (run_so_far c.args.self.now) c.in_ok-act.act ≡ true = search rules in
+    let kept = too_much_so c.args.self.now c.args.command c.in_ok-act.act in
+    search rules

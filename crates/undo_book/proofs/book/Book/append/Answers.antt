@@ -1,48 +1,67 @@
-use Rattle.std.proofs.Common.{◌≡◌, ◌-◌, [], ◌∷◌, ◌++◌, refl, rules, slice_set}
-use Rattle.lay_items.specs.Layout.{written}
-use Rattle.undo_book.specs.declared.log.Answer.TheVariants.{Committed}
-use Rattle.undo_book.specs.declared.log.Call.TheVariants.{Commit}
+use Rattle.std.proofs.Common.{◌≡◌, ◌-◌, [], ◌∷◌, ◌++◌, length, rules, slice_set, subst, sym}
+use Rattle.lay_items.specs.Sound.{IsSound}
+use Rattle.txn_rules.specs.Records.{AreProper, Records, applied}
+use Rattle.undo_rules.specs.declared.log.Answer.TheVariants.{Committed}
+use Rattle.undo_rules.specs.declared.log.Call.TheVariants.{Commit}
+use Rattle.undo_rules.specs.Steps.{ended_state, entered, state_of}
 use Rattle.undo_book.specs.Books.{history_of}
-use Rattle.txn_work.specs.Transactions.{RunsAlike}
-use Rattle.txn_work.specs.Effects.{Run}
-use Rattle.undo_book.specs.Chains.{IsHistory}
-use Rattle.txn_work.specs.Records.{afters}
-use Rattle.undo_book.specs.Steps.{after_commit, answered_state, entry_of, state_of}
-use Rattle.undo_book.proofs.CommitLemmas.{can_commit}
+use Rattle.undo_book.specs.Places.{AreTheirPlaces}
+use Rattle.undo_book.proofs.CommitLemmas.{LeavesCommitted, committed_so}
+use Rattle.undo_book.proofs.IndexLemmas.{places_pushed}
 use Rattle.undo_book.proofs.book.Book.append.Goals as goal
+
+pub applied-requires-clause-proper : goal.applied-requires-clause-proper
+applied-requires-clause-proper c =
+    subst (λ (ws : Records). AreProper ws) (sym c.writes.ensures)
+    (committed_so (history_of c.self.inside) c.args.self.now c.self.view_is c.self.invariant.history c.args.work
+    c.id-txn.ensures.transaction c.requires.own c.requires.fresh).proper
 
 pub applied-requires-clause-sound : goal.applied-requires-clause-sound
 applied-requires-clause-sound c =
-    rw c.writes.ensures (can_commit (history_of c.self.inside) c.args.self.now c.self.view_is c.self.invariant c.args.work
-    c.id-txn.ensures.transaction c.requires.own).sound
+    subst (λ (ws : Records). IsSound (applied c.self.inside.layout ws)) (sym c.writes.ensures)
+    (committed_so (history_of c.self.inside) c.args.self.now c.self.view_is c.self.invariant.history c.args.work
+    c.id-txn.ensures.transaction c.requires.own c.requires.fresh).sound
+
+-- the transaction as it is entered
+entry : (c : goal.After-drop-self-inside) → c.push.new.self.items
+    ≡ c.self.inside.entries.items ++ entered (history_of c.self.inside) c.args.work ∷ []
+entry c = search rules
 
 -- what is left at the end
-left : (c : goal.After-drop-self-inside) → let new = history_of (record {
-  base = c.self.inside.base;
+left : (c : goal.After-drop-self-inside) → LeavesCommitted c.args.self.now (history_of (record c.self.inside {
   layout = c.in-Ok.layout;
   log = c.push-2.new.self;
   entries = c.push.new.self;
-  sessions = c.clear_pending.new.sessions;
-}) in
-    IsHistory new × (new ≡ after_commit c.args.self.now c.args.work)
-    × ((run : Run) × RunsAlike c.args.work c.args.self.now.layout run × (run.layout ≡ new.layout))
+  sessions = c.end_pending.new.sessions;
+})) c.args.work
 left c =
+    let b = history_of c.self.inside in
     let work = c.args.work in
-    let can = can_commit (history_of c.self.inside) c.args.self.now c.self.view_is c.self.invariant work c.id-txn.ensures.transaction
-    c.requires.own in
-    let layout : c.in-Ok.layout ≡ written c.self.inside.layout (afters work.writes) = search rules in
+    let can = committed_so b c.args.self.now c.self.view_is c.self.invariant.history work c.id-txn.ensures.transaction c.requires.own
+    c.requires.fresh in
+    let layout : c.in-Ok.layout ≡ applied c.self.inside.layout work.writes = search rules in
     let log : c.push-2.new.self.items ≡ c.self.inside.log.items
     ++ record { session = work.id.session; call = Commit work.id work.commands; answer = Committed } ∷ [] = search rules in
-    let entries : c.push.new.self.items ≡ c.self.inside.entries.items ++ entry_of (history_of c.self.inside) work ∷ [] = search rules in
-    let sessions : c.clear_pending.new.sessions.items ≡ slice_set c.self.inside.sessions.items (work.id.session - 1)
-    (answered_state (state_of (history_of c.self.inside) work.id.session)) = search rules in
-    can.left _ refl layout log entries sessions
+    let sessions : c.end_pending.new.sessions.items ≡ slice_set c.self.inside.sessions.items (work.id.session - 1)
+    (ended_state (state_of b work.id.session)) = search rules in
+    can.left c.in-Ok.layout c.push-2.new.self.items c.push.new.self.items c.end_pending.new.sessions.items layout log (entry c) sessions
 
 pub invariant_of-self-2 : goal.invariant_of-self-2
-invariant_of-self-2 c = (left c).0
+invariant_of-self-2 c =
+    let b = history_of c.self.inside in
+    let work = c.args.work in
+    let can = committed_so b c.args.self.now c.self.view_is c.self.invariant.history work c.id-txn.ensures.transaction c.requires.own
+    c.requires.fresh in
+    let last : c.len-index.result ≡ length c.self.inside.entries.items = search rules in
+    record {
+      history = (left c).history;
+      places = subst (AreTheirPlaces c.insert.new.self.entries) (sym (entry c))
+          (places_pushed c.self.inside.places.entries c.insert.new.self.entries c.self.inside.entries.items (entered b work) c.id-txn.result
+          c.len-index.result (sym c.id-txn.ensures.value) last can.apart c.self.invariant.places c.in-Ok-insert.ensures.updates.0);
+    }
 
 pub returns-clause-ok : goal.returns-clause-ok
-returns-clause-ok c = (left c).1
+returns-clause-ok c = (left c).is
 
 pub returns-clause-ran : goal.returns-clause-ran
-returns-clause-ran c = (left c).2
+returns-clause-ran c = (left c).ran

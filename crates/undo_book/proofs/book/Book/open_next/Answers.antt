@@ -1,21 +1,19 @@
 use Rattle.std.proofs.Common.{◌≡◌, ◌+◌, ◌-◌, [], ◌∷◌, ◌++◌, Some, length, rules, slice_set, subst, sym}
 use Rattle.std.specs.Vec.{with_item}
-use Rattle.undo_book.specs.declared.log.Answer.TheVariants.{Opened}
-use Rattle.undo_book.specs.declared.log.Call.TheVariants.{Open}
-use Rattle.undo_book.specs.declared.log.Logged.{Logged}
-use Rattle.undo_book.specs.declared.session.SessionState.{SessionState}
+use Rattle.undo_rules.specs.declared.log.Answer.TheVariants.{Opened}
+use Rattle.undo_rules.specs.declared.log.Call.TheVariants.{Open}
+use Rattle.undo_rules.specs.declared.log.Logged.{Logged}
+use Rattle.undo_rules.specs.Books.{History, IsHistory, SessionState}
+use Rattle.undo_rules.specs.Steps.{after_open, state_of}
+use Rattle.undo_rules.proofs.OpenLaws.{open_keeps}
 use Rattle.undo_book.specs.Books.{history_of}
-use Rattle.undo_book.specs.Chains.{IsHistory}
-use Rattle.undo_book.specs.History.{History}
-use Rattle.undo_book.specs.Steps.{after_open, state_of}
-use Rattle.undo_book.proofs.HistoryLemmas.{opened_history}
 use Rattle.undo_book.proofs.book.Book.open_next.Goals as goal
 
 pub invariant_of-self-2 : goal.invariant_of-self-2
 invariant_of-self-2 c =
     let now = c.args.self.now in
     let s = c.args.session in
-    let is : IsHistory now = subst (λ (h : History). IsHistory h) c.self.view_is c.self.invariant in
+    let is : IsHistory now = subst (λ (h : History). IsHistory h) c.self.view_is c.self.invariant.history in
     let number = (state_of now s).opens + 1 in
     let new : SessionState = record { opens = number; pending = Some (record { place = length now.log; snapshot = now.layout }) } in
     let made : SessionState = record {
@@ -28,4 +26,7 @@ invariant_of-self-2 c =
     let sessions : kept.items ≡ slice_set now.sessions (s - 1) new = search rules in
     let same : record (history_of c.self.inside) { log = c.push.new.self.items; sessions = kept.items } ≡ after_open now s =
     λ i. record (c.self.view_is i) { log = log i; sessions = sessions i } in
-    subst (λ (h : History). IsHistory h) (sym same) (opened_history now is s c.requires.low c.requires.high)
+    record {
+      history = subst (λ (h : History). IsHistory h) (sym same) (open_keeps now is s c.requires.low c.requires.high);
+      places = c.self.invariant.places;
+    }

@@ -1,48 +1,81 @@
-use Rattle.std.proofs.Common.{◌≡◌, [], ◌∷◌, ◌++◌, Some, refl, rules}
-use Rattle.lay_items.specs.Layout.{written}
-use Rattle.undo_book.specs.declared.log.Answer.TheVariants.{Undone}
-use Rattle.undo_book.specs.declared.log.Call.TheVariants.{Undo}
+use Rattle.std.proofs.Common.{◌≡◌, ◌<◌, [], ◌∷◌, ◌++◌, ◌∙◌, ap, arith, false, length, rules, subst, sym}
+use Rattle.std.specs.Vec.{vec_len}
+use Rattle.undo_rules.specs.declared.log.Answer.TheVariants.{Undone}
+use Rattle.undo_rules.specs.declared.log.Call.TheVariants.{Undo}
+use Rattle.undo_rules.specs.Books.{History}
+use Rattle.undo_rules.specs.Links.{Entry}
+use Rattle.undo_rules.specs.Steps.{remarked}
+use Rattle.txn_rules.specs.Records.{AreProper, reverted}
+use Rattle.lay_items.specs.Sound.{IsSound}
 use Rattle.undo_book.specs.Books.{history_of}
-use Rattle.undo_book.specs.Chains.{IsHistory}
-use Rattle.undo_book.specs.History.{replay}
-use Rattle.txn_work.specs.Records.{befores}
-use Rattle.undo_book.specs.Steps.{after_undo, without}
-use Rattle.undo_book.proofs.UndoLemmas.{can_undo}
+use Rattle.undo_book.specs.Places.{AreTheirPlaces}
+use Rattle.undo_book.proofs.IndexLemmas.{places_marked}
+use Rattle.undo_book.proofs.PlaceLemmas.{place_within}
+use Rattle.undo_book.proofs.UndoLemmas.{LeavesUndone, undone_at}
 use Rattle.undo_book.proofs.book.Book.revert.Goals as goal
 
-pub reverted-requires-clause-rising : goal.reverted-requires-clause-rising
-reverted-requires-clause-rising c =
-    (can_undo (history_of c.self.inside) c.args.self.now c.self.view_is c.self.invariant c.args.session c.args.txn c.args.place
-    c.requires.place c.requires.free c.index-entry.result.now c.index-entry.ensures c.as_slice.result.now c.as_slice.ensures).rising
+pub index-entry-requires : goal.index-entry-requires
+index-entry-requires c =
+    let within : c.args.place < length c.self.inside.entries.items =
+    subst (λ (h : History). c.args.place < length h.entries) (sym c.self.view_is)
+    (place_within c.args.self.now.entries c.args.txn c.args.place c.requires.place) in
+    let len : vec_len c.self.inside.entries ≡ length c.self.inside.entries.items = search rules in
+    omega (arith, within, len)
+
+pub reverted-requires-clause-proper : goal.reverted-requires-clause-proper
+reverted-requires-clause-proper c =
+    subst (λ (e : Entry). AreProper e.writes) (sym c.entry.view_is)
+    (undone_at (history_of c.self.inside) c.args.self.now c.self.view_is c.self.invariant.history c.args.session c.args.txn c.args.place
+    c.index-entry.result.now c.requires.place c.index-entry.ensures c.requires.free).proper
 
 pub reverted-requires-clause-sound : goal.reverted-requires-clause-sound
 reverted-requires-clause-sound c =
-    (can_undo (history_of c.self.inside) c.args.self.now c.self.view_is c.self.invariant c.args.session c.args.txn c.args.place
-    c.requires.place c.requires.free c.index-entry.result.now c.index-entry.ensures c.as_slice.result.now c.as_slice.ensures).sound
+    subst (λ (e : Entry). IsSound (reverted c.self.inside.layout e.writes)) (sym c.entry.view_is)
+    (undone_at (history_of c.self.inside) c.args.self.now c.self.view_is c.self.invariant.history c.args.session c.args.txn c.args.place
+    c.index-entry.result.now c.requires.place c.index-entry.ensures c.requires.free).sound
+
+pub mark_at-requires : goal.mark_at-requires
+mark_at-requires c =
+    let within : c.args.place < length c.self.inside.entries.items =
+    subst (λ (h : History). c.args.place < length h.entries) (sym c.self.view_is)
+    (place_within c.args.self.now.entries c.args.txn c.args.place c.requires.place) in
+    let len : vec_len c.self.inside.entries ≡ length c.self.inside.entries.items = search rules in
+    omega (arith, within, len)
 
 -- what is left at the end
-left : (c : goal.After-drop-self-inside) → let new = history_of (record {
-  base = c.self.inside.base;
+left : (c : goal.After-drop-self-inside) → LeavesUndone c.args.self.now (history_of (record c.self.inside {
   layout = c.in_ok-layout.layout;
   log = c.push.new.self;
-  entries = c.mark_undone.new.entries;
-  sessions = c.self.inside.sessions;
-}) in
-    IsHistory new × (new ≡ after_undo c.args.self.now c.args.session c.args.txn)
-    × (replay (without c.args.self.now c.args.txn) ≡ Some new.layout)
+  entries = c.mark_at.new.entries;
+})) c.args.session c.args.txn
 left c =
-    let can = can_undo (history_of c.self.inside) c.args.self.now c.self.view_is c.self.invariant c.args.session c.args.txn c.args.place
-    c.requires.place c.requires.free c.index-entry.result.now c.index-entry.ensures c.as_slice.result.now c.as_slice.ensures in
-    let layout : c.in_ok-layout.layout ≡ written c.self.inside.layout (befores c.as_slice.result.now) = search rules in
+    let can = undone_at (history_of c.self.inside) c.args.self.now c.self.view_is c.self.invariant.history c.args.session c.args.txn c.args.place
+    c.index-entry.result.now c.requires.place c.index-entry.ensures c.requires.free in
+    let written : c.in_ok-layout.layout ≡ reverted c.self.inside.layout c.entry.inside.writes = search rules in
+    let layout : c.in_ok-layout.layout ≡ reverted c.self.inside.layout c.index-entry.result.now.writes =
+    written ∙ ap (λ (e : Entry). reverted c.self.inside.layout e.writes) c.entry.view_is in
     let log : c.push.new.self.items ≡ c.self.inside.log.items
     ++ record { session = c.args.session; call = Undo c.args.txn; answer = Undone } ∷ [] = search rules in
-    can.left _ refl layout log (c.mark_undone.ensures c.index-entry.result.now can.there) refl
+    can.left c.in_ok-layout.layout c.push.new.self.items c.mark_at.new.entries.items layout log
+    (c.mark_at.ensures c.index-entry.result.now can.there)
 
 pub invariant_of-self-2 : goal.invariant_of-self-2
-invariant_of-self-2 c = (left c).0
+invariant_of-self-2 c =
+    let is = left c in
+    let h : History = history_of c.self.inside in
+    let marks : c.mark_at.new.entries.items ≡ remarked false c.args.txn h.entries =
+    is.marks ∙ ap (λ (x : History). remarked false c.args.txn x.entries) (sym c.self.view_is) in
+    record {
+      history = is.history;
+      places = subst (AreTheirPlaces c.self.inside.places.entries) (sym marks)
+          (places_marked c.self.inside.places.entries false c.args.txn h.entries c.self.invariant.places);
+    }
 
 pub returns-clause-ok : goal.returns-clause-ok
-returns-clause-ok c = (left c).1
+returns-clause-ok c = (left c).is
+
+pub returns-clause-again : goal.returns-clause-again
+returns-clause-again c = (left c).again
 
 pub returns-clause-without : goal.returns-clause-without
-returns-clause-without c = (left c).2
+returns-clause-without c = (left c).without

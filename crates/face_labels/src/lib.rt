@@ -1,0 +1,11 @@
+//! Operations on two layers, and which edges of the rounded inputs are theirs.
+//!
+//! An operation's edges are those on whose two sides its answers differ (`label_laws/specs/Labels.antt`). They
+//! tell its answer: a place is to the left of an odd number of them exactly where the operation holds there.
+#![tactic(auto)]
+
+mod laws;
+mod op;
+
+pub use laws::operations_have_laws;
+pub use op::Op;

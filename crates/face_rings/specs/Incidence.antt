@@ -1,0 +1,48 @@
+-- How the edges that are left are found at a point: the ends of all edges in order, and a mark for each edge that is used.
+use Rattle.std.specs.Prelude.{◌≡◌, ◌↔◌, ℕ, ◌<◌, ◌≤◌, Bool, true, List, [], ◌∷◌, length, Contains, IsTrue, if◌then◌else◌, slice_index, slice_index_or}
+use Rattle.std.specs.declared.cmp.Ordering.{Ordering}
+use Rattle.std.specs.List.Sorted.{IsSorted}
+use Rattle.std.specs.Ordering.{int_cmp, nat_cmp, on, then_cmp}
+use Rattle.lay_point.specs.declared.point.Point.{Point}
+use Rattle.lay_point.specs.Edges.{touches}
+use Rattle.face_rings.specs.declared.incidence.End.{End}
+use Rattle.face_rings.specs.declared.incidence.Incidence.{Incidence}
+use Rattle.link_laws.specs.Linking.{Ends}
+
+-- the edges without a mark
+abbrev pub left_of : List Ends → List Bool → List Ends
+left_of [] marks = []
+left_of (e ∷ es) [] = []
+left_of (e ∷ es) (m ∷ marks) = if m then left_of es marks else e ∷ left_of es marks
+
+-- what `cmp` of points and of ends computes: by point, then by number
+abbrev pub point_cmp : Point → Point → Ordering
+point_cmp = then_cmp (on (λ p. p.x) int_cmp) (on (λ p. p.y) int_cmp)
+
+abbrev pub end_cmp : End → End → Ordering
+end_cmp = then_cmp (on (λ e. e.at) point_cmp) (on (λ e. e.edge) nat_cmp)
+
+-- the end stands at an end of the edge of its number
+abbrev pub IsEndOf : List Ends → End → Type 0
+IsEndOf edges end = (end.edge < length edges) × ((d : Ends) → IsTrue (touches end.at (slice_index_or edges end.edge d)))
+
+-- the ends of the edges, in order
+pub record AreEndsOf (edges : List Ends) (ends : List End) : Type 0 where
+  pub sorted : IsSorted end_cmp ends
+  pub exact : (end : End) → Contains ends end ↔ IsEndOf edges end
+
+-- the edge of the end at this index is used
+abbrev pub IsUsedAt : List Bool → List End → ℕ → Type 0
+IsUsedAt used ends index = (d : End) → IsTrue (slice_index_or used (slice_index_or ends index d).edge true)
+
+-- the edges that are used have marks, and from an index up to its cursor all ends are of such edges
+pub record IsIncidence (edges : List Ends) (i : Incidence) : Type 0 where
+  pub ends : AreEndsOf edges i.ends.items
+  pub marks : length i.used.items ≡ length edges
+  pub cursors : length i.cursors.items ≡ length i.ends.items
+  pub passed : (first index : ℕ) → first < length i.cursors.items → first ≤ index → index < slice_index i.cursors.items first
+      → IsUsedAt i.used.items i.ends.items index
+
+-- what is marked stays so
+abbrev pub KeepsMarks : List Bool → List Bool → Type 0
+KeepsMarks old new = (k : ℕ) → IsTrue (slice_index_or old k true) → IsTrue (slice_index_or new k true)

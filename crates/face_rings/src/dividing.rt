@@ -1,0 +1,161 @@
+//! The parts of rings: rings whose bounding boxes touch, directly or through others.
+ghost use Rattle.std.specs.Prelude.{
+  ◌≡◌,
+  ◌+◌,
+  ◌<◌,
+  ◌≤◌,
+  All,
+  IfOk,
+  OnOk,
+  length,
+  map,
+  pos,
+  slice_index,
+  ℕ,
+  ℤ,
+  ◌≤ℤ◌,
+};
+ghost use Rattle.std.specs.List.{list_any};
+ghost use Rattle.lay_point.specs.declared.point.Point.{Point};
+ghost use Rattle.lay_point.specs.Parity.{odd};
+ghost use Rattle.lay_point.specs.RingEdges.{edges_of};
+ghost use Rattle.part_laws.specs.Parts.{AreJoined, AreParts, box_of};
+ghost use Rattle.part_laws.specs.Heads.{AreDivided, AreFirst, AreJoinedUpTo, IsFinest, IsNumbered, united};
+
+use crate::bounds::{Bounds, bounds_of};
+use lay_point::{NoMemory, Ring};
+use std::alloc::{AllocError, Global};
+
+/// Returns the parts of the rings: rings whose bounding boxes have a point in common, their sides
+/// included, are in one part, and no part could be divided. Parts are in the order of their first rings,
+/// and the rings of a part in theirs. The number of steps is that of the pairs of rings.
+///
+/// A place is in the boxes of one part at most. So some part has an odd number of edges to the right of
+/// it exactly where all rings together have.
+pub fn parts(alloc: Global, rings: Vec<Ring>) -> Result<Vec<Vec<Ring>>, NoMemory>
+    ensures parts { IfOk result (λ parts. AreParts rings.items (map (λ part. part.items) parts.items)) }
+
+    // The place (x, y) at scale k stands for (x / k, y / k).
+    ensures parity { IfOk result (λ parts. (k x y : ℤ) → pos 1 ≤ℤ k →
+        list_any (λ part. odd (edges_of part) k x y) (map (λ part. part.items) parts.items)
+        ≡ odd (edges_of rings.items) k x y) }
+{
+    let boxes = boxes_of(alloc, &rings)?;
+    let heads = heads_of(alloc, &boxes)?;
+    let (labels, count) = labels_of(alloc, &heads)?;
+    Ok(divided(alloc, rings, &labels, count)?)
+}
+
+/// Returns the bounding boxes of the rings.
+fn boxes_of(alloc: Global, rings: &[Ring]) -> Result<Vec<Bounds>, AllocError>
+    ensures { IfOk result (λ boxes. boxes.items ≡ map box_of rings.now) }
+{
+    let mut boxes = Vec::new(alloc);
+    for ring in rings {
+        boxes.push(bounds_of(ring))?;
+    }
+    Ok(boxes)
+}
+
+/// Returns for each box the number of the first one that it is joined to, directly or through others.
+fn heads_of(alloc: Global, boxes: &[Bounds]) -> Result<Vec<usize>, AllocError>
+    ensures { IfOk result (λ heads. IsFinest (AreJoined boxes.now) (length boxes.now) heads.items) }
+{
+    let mut heads = numbers(alloc, boxes.len())?;
+    for second in 0..boxes.len() {
+        join_earlier(boxes, &mut heads, second);
+    }
+    Ok(heads)
+}
+
+/// Returns the numbers below `count`.
+fn numbers(alloc: Global, count: usize) -> Result<Vec<usize>, AllocError>
+    ensures len { IfOk result (λ all. length all.items ≡ count) }
+    ensures each { IfOk result (λ all. (k : ℕ) → k < count → slice_index all.items k ≡ k) }
+{
+    let mut all = Vec::new(alloc);
+    for number in 0..count {
+        all.push(number)?;
+    }
+    Ok(all)
+}
+
+/// Joins the box of this number to the earlier ones that it touches.
+fn join_earlier(boxes: &[Bounds], heads: &mut [usize], second: usize)
+    requires inside { second < length boxes.now }
+    requires so_far { IsFinest (AreJoinedUpTo boxes.now second 0) (length boxes.now) heads.old }
+    ensures { IsFinest (AreJoinedUpTo boxes.now (second + 1) 0) (length boxes.now) heads.new }
+{
+    for first in 0..second {
+        if boxes[first].touches(boxes[second]) {
+            unite(heads, first, second);
+        }
+    }
+}
+
+/// Gives all that have the head of `i` or that of `j` the lesser of the two.
+fn unite(heads: &mut [usize], i: usize, j: usize)
+    requires first { i < length heads.old }
+    requires second { j < length heads.old }
+    ensures { (k : ℕ) → k < length heads.old → slice_index heads.new k
+        ≡ united (slice_index heads.old i) (slice_index heads.old j) (slice_index heads.old k) }
+{
+    let low = heads[i].min(heads[j]);
+    let high = heads[i].max(heads[j]);
+    for index in 0..heads.len() {
+        if heads[index] == high {
+            heads[index] = low;
+        }
+    }
+}
+
+/// Returns the number of each one's part, in the order of the heads, and how many parts there are.
+fn labels_of(alloc: Global, heads: &[usize]) -> Result<(Vec<usize>, usize), AllocError>
+    requires { AreFirst heads.now }
+    ensures { IfOk result (λ r. IsNumbered heads.now (length heads.now) r.0.items r.1) }
+{
+    let mut labels: Vec<usize> = Vec::new(alloc);
+    let mut count = 0;
+    for number in 0..heads.len() {
+        if heads[number] == number {
+            labels.push(count)?;
+            count += 1;
+        } else {
+            labels.push(labels[heads[number]])?;
+        }
+    }
+    Ok((labels, count))
+}
+
+/// Divides the rings into so many parts, by their labels.
+fn divided(
+    alloc: Global,
+    rings: Vec<Ring>,
+    labels: &[usize],
+    count: usize,
+) -> Result<Vec<Vec<Ring>>, AllocError>
+    requires each { length labels.now ≡ length rings.items }
+    requires within { All (λ l. l < count) labels.now }
+    ensures { IfOk result (λ parts.
+        AreDivided count labels.now rings.items (map (λ part. part.items) parts.items)) }
+{
+    let mut parts = empty_parts(alloc, count)?;
+    let mut number = 0;
+    for ring in rings {
+        parts[labels[number]].push(ring)?;
+        number += 1;
+    }
+    Ok(parts)
+}
+
+/// Returns so many parts without rings.
+fn empty_parts(alloc: Global, count: usize) -> Result<Vec<Vec<Ring>>, AllocError>
+    ensures count { IfOk result (λ parts. length parts.items ≡ count) }
+    ensures empty { IfOk result (λ parts. All (λ part. length part.items ≡ 0) parts.items) }
+{
+    let mut parts = Vec::new(alloc);
+    for _ in 0..count {
+        parts.push(Vec::new(alloc))?;
+    }
+    Ok(parts)
+}

@@ -1,0 +1,67 @@
+-- The rings that are lent stand one behind the other.
+use Rattle.std.proofs.Common.{◌≡◌, ◌∙◌, ◌≤◌, ◌<◌, ◌+◌, ◌++◌, inl, inr, ℕ, List, [], ◌∷◌, length, refl, ap, sym, subst, arith, append_assoc, take, get_or, None}
+use Rattle.std.proofs.lemmas.List.{length-append, length-map, length-take-le, map-append, take_more}
+use Rattle.lay_point.specs.declared.point.Point.{Point}
+use Rattle.lay_point.specs.declared.turn.Turn.{Turn}
+use Rattle.lay_cells.specs.declared.cell_id.CellId.TheVariants.{Top}
+use Rattle.lay_flat.specs.declared.ends.End.{End}
+use Rattle.lay_flat.specs.declared.fault.FlatFault.{FlatFault}
+use Rattle.lay_flat.specs.declared.fault.FlatFault.TheVariants.{TooMany}
+use Rattle.lay_flat.specs.declared.flat.TheConstants.{MAX_RINGS}
+use Rattle.lay_flat.specs.Flat.{FlatRing}
+use Rattle.lay_flat.specs.Flattening.{Drawn, rings_from, rings_of}
+use Rattle.lay_flat.specs.Lending.{IsTooMany}
+
+pub rings_from-append : (n : ℕ) (xs ys : List Drawn) → rings_from n (xs ++ ys) ≡ rings_from n xs ++ rings_from (n + length xs) ys
+rings_from-append n [] ys = let same : n ≡ n + 0 = omega arith in ap (λ (k : ℕ). rings_from k ys) same
+rings_from-append n (x ∷ xs) ys =
+    let same : n + 1 + length xs ≡ n + length (x ∷ xs) = omega arith in
+    ap (λ (rs : List FlatRing). rings_of n x ++ rs) (rings_from-append (n + 1) xs ys)
+    ∙ sym (append_assoc (rings_of n x) (rings_from (n + 1) xs) (rings_from (n + 1 + length xs) ys))
+    ∙ ap (λ (k : ℕ). (rings_of n x ++ rings_from (n + 1) xs) ++ rings_from k ys) same
+
+-- too many are too many with more behind them
+pub too_many-more : (xs ys : List FlatRing) (fault : FlatFault) → IsTooMany xs fault → IsTooMany (xs ++ ys) fault
+too_many-more xs ys fault (inl memory) = inl memory
+too_many-more xs ys fault (inr both) = inr (both.0, omega (arith, both.1, length-append xs ys))
+
+pub too_many-same : (xs ys : List FlatRing) (fault : FlatFault) → xs ≡ ys → IsTooMany xs fault → IsTooMany ys fault
+too_many-same xs ys fault e is = subst (λ (rs : List FlatRing). IsTooMany rs fault) e is
+
+-- one ring more of a shape
+pub rings_of-more : (number : ℕ) (turn : Turn) (shape : List (List Point)) (i : ℕ) (ring : List Point) → i < length shape
+    → ring ≡ get_or shape i ring
+    → rings_of number (turn, take (i + 1) shape) ≡ rings_of number (turn, take i shape) ++ (ring, turn, number) ∷ []
+rings_of-more number turn shape i ring less at =
+    ap (λ (rs : List (List Point)). rings_of number (turn, rs)) (take_more shape i ring less
+    ∙ ap (λ (r : List Point). take i shape ++ r ∷ []) (sym at))
+    ∙ map-append (λ (r : List Point). (r, turn, number)) (take i shape) (ring ∷ [])
+
+-- there is no room for the ring at this index
+pub no_room : (old now : List FlatRing) (number : ℕ) (turn : Turn) (shape : List (List Point)) (i : ℕ) → i < length shape
+    → now ≡ old ++ rings_of number (turn, take i shape) → MAX_RINGS ≤ length now → IsTooMany (old ++ rings_of number (turn, shape)) TooMany
+no_room old now number turn shape i less is full = inr (
+  refl,
+  omega (
+    arith,
+    ap length is,
+    full,
+    length-append old (rings_of number (turn, take i shape)),
+    length-append old (rings_of number (turn, shape)),
+    length-map {B = FlatRing} (take i shape) (λ (r : List Point). (r, turn, number)),
+    length-map {B = FlatRing} shape (λ (r : List Point). (r, turn, number)),
+    length-take-le i shape,
+    less,
+  ),
+)
+
+-- one end more
+pub ends-whole : (rings : List FlatRing) (n : ℕ) (here behind : List Drawn)
+    → (rings ++ rings_from n here) ++ rings_from (n + length here) behind ≡ rings ++ rings_from n (here ++ behind)
+ends-whole rings n here behind =
+    append_assoc rings (rings_from n here) (rings_from (n + length here) behind)
+    ∙ ap (λ (rs : List FlatRing). rings ++ rs) (sym (rings_from-append n here behind))
+
+-- what stands for an end behind the last
+abbrev pub end_default : End
+end_default = record { cell = Top; turn = None }

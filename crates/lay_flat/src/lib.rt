@@ -1,0 +1,28 @@
+//! Flattening: all rings on a layer below a cell, through every walk of calls.
+//!
+//! A walk is a list of calls, each standing in the cell that the one before calls. A flattening has, for each
+//! walk from a cell, the rings of the shapes on a layer in the walk's last cell, and the turn of the walk: its
+//! last call's turn first, and its first call's last. The rings are slices of the snapshot and none is
+//! copied. A `Flat` keeps in its type that they are rings and that their turned points are in range.
+//!
+//! The depth and the number of walks are tested before a walk is made. Then the ends of the walks are listed,
+//! each its cell and its turn, and the rings of the shapes there are lent.
+//!
+//! ```text
+//! let flat = flatten(alloc, &snapshot, CellId::Top, &layer)?;
+//! for ring in flat.rings() { .. }
+//! ```
+#![tactic(auto)]
+
+mod ends;
+mod fault;
+mod flat;
+mod flattening;
+mod graph;
+mod lending;
+#[cfg(test)]
+mod tests;
+
+pub use fault::FlatFault;
+pub use flat::{Flat, FlatRing, MAX_DEPTH, MAX_RINGS};
+pub use flattening::flatten;

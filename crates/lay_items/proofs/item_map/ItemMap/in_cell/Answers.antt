@@ -1,0 +1,14 @@
+use Rattle.std.proofs.Common.{◌∙◌, ap, sym}
+use Rattle.std.specs.FinMap.{FinMap, entries}
+use Rattle.lay_items.specs.declared.item.Item.{Item}
+use Rattle.lay_items.specs.IdOrder.{ids_total}
+use Rattle.lay_items.specs.Ids.{id_cmp}
+use Rattle.lay_items.specs.Items.{standing_in}
+use Rattle.lay_items.proofs.MapLemmas.{entries_again}
+use Rattle.lay_items.proofs.item_map.ItemMap.in_cell.Goals as goal
+
+pub returns : goal.returns
+returns c =
+    c.new.ensures
+    ∙ ap (standing_in c.args.cell) (c.deref.ensures.value ∙ sym (entries_again id_cmp ids_total c.self.inside.entries.items c.self.invariant.0))
+    ∙ ap (λ (m : FinMap id_cmp Item). standing_in c.args.cell (entries m)) c.self.view_is

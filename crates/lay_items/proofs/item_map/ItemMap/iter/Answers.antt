@@ -1,0 +1,11 @@
+use Rattle.std.proofs.Common.{◌∙◌, ap, sym}
+use Rattle.std.specs.FinMap.{entries}
+use Rattle.lay_items.specs.IdOrder.{ids_total}
+use Rattle.lay_items.specs.Ids.{id_cmp}
+use Rattle.lay_items.proofs.MapLemmas.{entries_again}
+use Rattle.lay_items.proofs.item_map.ItemMap.iter.Goals as goal
+
+pub returns : goal.returns
+returns c =
+    c.new.ensures ∙ c.deref.ensures.value ∙ sym (entries_again id_cmp ids_total c.self.inside.entries.items c.self.invariant.0)
+    ∙ ap entries c.self.view_is

@@ -1,0 +1,98 @@
+-- The orders of points and of undirected edges are strict, that of points is total, and tests of points and edges decide.
+use Rattle.std.proofs.Common.{◌≡◌, ◌⊎◌, inl, inr, Bool, true, false, cond, ◌&&◌, ◌||◌, ℤ, ◌<ℤ◌, refl, sym, ap, ap₂, subst, ◌∙◌}
+use Rattle.std.proofs.Common.{arith, ⊎_elim, int_eq}
+use Rattle.std.proofs.lemmas.Int.{ints, by_lt_z}
+use Rattle.std.proofs.lemmas.Bool.Decides.{Decides-int_eq}
+use Rattle.lay_point.specs.declared.point.Point.{Point}
+use Rattle.lay_point.specs.Edges.{is_before, undirected, IsEdgeBefore, same_edge, touches}
+use Rattle.lay_point.specs.Points.{IsBefore, point_eq}
+use Rattle.lay_point.proofs.Parity.{IsEquality}
+use Rattle.lay_point.proofs.Rising.{IsStrictOrder}
+
+pub same_point : (p q : Point) → p.x ≡ q.x → p.y ≡ q.y → p ≡ q
+same_point p q ex ey = λ i. record { x = ex i; y = ey i }
+
+-- ---- tests
+both_true : (a b : Bool) → (a && b) ≡ true → (a ≡ true) × (b ≡ true)
+both_true true b e = (refl, e)
+both_true false b e = absurd cc
+
+not_true : (b : Bool) → ¬ (b ≡ true) → b ≡ false
+not_true true h = absurd (h refl)
+not_true false h = refl
+
+pub same_by_test : (p q : Point) → point_eq p q ≡ true → p ≡ q
+same_by_test p q e =
+    let both = both_true (int_eq p.x q.x) (int_eq p.y q.y) e in
+    same_point p q ((Decides-int_eq p.x q.x).0 both.0) ((Decides-int_eq p.y q.y).0 both.1)
+
+pub points_decide : IsEquality point_eq
+points_decide = record {
+  itself = λ p. ap₂ (λ a b. a && b) ((Decides-int_eq p.x p.x).1 refl) ((Decides-int_eq p.y p.y).1 refl);
+  apart = λ p q differ. not_true (point_eq p q) (λ e. differ (same_by_test p q e));
+}
+
+pub edges_decide : IsEquality same_edge
+edges_decide = record {
+  itself = λ e. ap₂ (λ a b. a && b) (points_decide.itself e.0) (points_decide.itself e.1);
+  apart = λ e f differ. not_true (same_edge e f) (λ g.
+      let both = both_true (point_eq e.0 f.0) (point_eq e.1 f.1) g in
+      differ (λ i. (same_by_test e.0 f.0 both.0 i, same_by_test e.1 f.1 both.1 i)));
+}
+
+pub before_by_test : (p q : Point) → is_before p q ≡ true → IsBefore p q
+before_by_test p q e = grind (arith, ints)
+
+pub test_by_before : (p q : Point) → IsBefore p q → is_before p q ≡ true
+test_by_before p q h = grind (arith, ints)
+
+-- ---- the order of points
+before_irreflexive : (p : Point) → IsBefore p p → ⊥
+before_irreflexive p (inl less) = omega (arith, ints)
+before_irreflexive p (inr tie) = omega (arith, ints, tie.1)
+
+before_transitive : (p q r : Point) → IsBefore p q → IsBefore q r → IsBefore p r
+before_transitive p q r (inl a) (inl b) = inl (omega (arith, ints))
+before_transitive p q r (inl a) (inr b) = inl (omega (arith, ints, b.0))
+before_transitive p q r (inr a) (inl b) = inl (omega (arith, ints, a.0))
+before_transitive p q r (inr a) (inr b) = inr (a.0 ∙ b.0, omega (arith, ints, a.1, b.1))
+
+apart_or_same : (a b : ℤ) → ((a <ℤ b) ⊎ (b <ℤ a)) ⊎ (a ≡ b)
+apart_or_same a b = by_lt_z a b (λ less. inl (inl less)) (λ g. by_lt_z b a (λ more. inl (inr more)) (λ h. inr (omega (arith, ints))))
+
+pub before_total : (p q : Point) → (p ≡ q) ⊎ (IsBefore p q ⊎ IsBefore q p)
+before_total p q = ⊎_elim (λ apart. inr (⊎_elim (λ less. inl (inl less)) (λ more. inr (inl more)) apart))
+    (λ (ex : p.x ≡ q.x). ⊎_elim
+    (λ apart. inr (⊎_elim (λ less. inl (inr (ex, less))) (λ more. inr (inr (sym ex, more))) apart))
+    (λ (ey : p.y ≡ q.y). inl (same_point p q ex ey))
+    (apart_or_same p.y q.y))
+    (apart_or_same p.x q.x)
+
+pub before_is_strict : IsStrictOrder IsBefore
+before_is_strict = record { irreflexive = before_irreflexive; transitive = before_transitive }
+
+-- ---- the order of edges
+edge_irreflexive : (e : Point × Point) → IsEdgeBefore e e → ⊥
+edge_irreflexive e (inl h) = before_is_strict.irreflexive e.0 h
+edge_irreflexive e (inr h) = before_is_strict.irreflexive e.1 h.1
+
+edge_transitive : (e f g : Point × Point) → IsEdgeBefore e f → IsEdgeBefore f g → IsEdgeBefore e g
+edge_transitive e f g (inl h) (inl k) = inl (before_is_strict.transitive e.0 f.0 g.0 h k)
+edge_transitive e f g (inl h) (inr k) = inl (subst (IsBefore e.0) k.0 h)
+edge_transitive e f g (inr h) (inl k) = inl (subst (λ v. IsBefore v g.0) (sym h.0) k)
+edge_transitive e f g (inr h) (inr k) = inr (h.0 ∙ k.0, before_is_strict.transitive e.1 f.1 g.1 h.1 k.1)
+
+pub edges_are_strict : IsStrictOrder IsEdgeBefore
+edges_are_strict = record { irreflexive = edge_irreflexive; transitive = edge_transitive }
+
+-- an edge with its lesser end first is its own undirected edge, from whichever end it is walked
+pub undirected_lesser : (e : Point × Point) → is_before e.0 e.1 ≡ true → undirected e ≡ e
+undirected_lesser e h = rw h refl
+
+pub undirected_back : (e : Point × Point) → is_before e.0 e.1 ≡ true → undirected (e.1, e.0) ≡ e
+undirected_back e h = by_test (is_before e.1 e.0) (λ g.
+    before_irreflexive e.0 (before_transitive e.0 e.1 e.0 (before_by_test e.0 e.1 h) (before_by_test e.1 e.0 g)))
+  where
+    by_test : (b : Bool) → (b ≡ true → ⊥) → cond b (e.1, e.0) (e.0, e.1) ≡ e
+    by_test true no_ = absurd (no_ refl)
+    by_test false no_ = refl

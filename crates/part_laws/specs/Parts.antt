@@ -1,0 +1,70 @@
+-- The parts of rings: rings whose bounding boxes have a point in common are in one part, and parts are no larger than
+-- that asks. A box is the pair of its lower left and its upper right corner.
+-- Source: this project's own rule, so that a shape is written for each separate part of a layer.
+use Rattle.std.specs.Prelude.{◌≡◌, ℕ, ◌<◌, ◌==◌, ℤ, pos, ◌*ℤ◌, ◌≤ℤ◌, int_le, Bool, true, ◌&&◌, List, [], ◌∷◌, length, map, slice_index, slice_index_or, if◌then◌else◌}
+use Rattle.std.specs.Int.{int_max, int_min}
+use Rattle.std.specs.List.{list_any}
+use Rattle.lay_point.specs.declared.point.Point.{Point}
+use Rattle.lay_point.specs.Parity.{odd}
+use Rattle.lay_point.specs.RingEdges.{edges_of}
+
+abbrev pub Box : Type 0
+Box = Point × Point
+
+-- the box that has the point too
+abbrev pub grown : Box → Point → Box
+grown b p = (record { x = int_min b.0.x p.x; y = int_min b.0.y p.y }, record { x = int_max b.1.x p.x; y = int_max b.1.y p.y })
+
+abbrev pub grown_by : Box → List Point → Box
+grown_by b [] = b
+grown_by b (p ∷ ps) = grown_by (grown b p) ps
+
+-- the bounding box; a ring has points
+abbrev pub box_of : List Point → Box
+box_of [] = (record { x = pos 0; y = pos 0 }, record { x = pos 0; y = pos 0 })
+box_of (p ∷ ps) = grown_by (p, p) ps
+
+-- p is neither to the right of q nor above it
+abbrev pub is_up_to : Point → Point → Bool
+is_up_to p q = int_le p.x q.x && int_le p.y q.y
+
+-- the boxes, sides included, have a point in common
+abbrev pub touch : Box → Box → Bool
+touch b c = is_up_to b.0 c.1 && is_up_to c.0 b.1
+
+-- the place (x, y) at scale k is in the box, sides included
+abbrev pub is_in_box : ℤ → ℤ → ℤ → Box → Bool
+is_in_box k x y b = int_le (k *ℤ b.0.x) x && int_le x (k *ℤ b.1.x) && int_le (k *ℤ b.0.y) y && int_le y (k *ℤ b.1.y)
+
+-- the boxes of these numbers touch
+abbrev pub AreJoined : List Box → ℕ → ℕ → Type 0
+AreJoined boxes i j = (i < length boxes) × (j < length boxes)
+    × ((d : Box) → touch (slice_index_or boxes i d) (slice_index_or boxes j d) ≡ true)
+
+-- those of the elements whose label is p, in order
+abbrev pub labelled : {A : Type 0} → ℕ → List ℕ → List A → List A
+labelled p [] xs = []
+labelled p (l ∷ ls) [] = []
+labelled p (l ∷ ls) (x ∷ xs) = if l == p then x ∷ labelled p ls xs else labelled p ls xs
+
+-- each ring has a label, the number of its part
+pub record ArePartsBy (labels : List ℕ) (rings : List (List Point)) (parts : List (List (List Point))) : Type 0 where
+  pub each : length labels ≡ length rings
+  pub within : (i : ℕ) → i < length rings → slice_index labels i < length parts
+  -- joined rings are in one part, and in each division of the rings of which that is so the rings of a part are together
+  pub joined : (i j : ℕ) → AreJoined (map box_of rings) i j → slice_index labels i ≡ slice_index labels j
+  pub finest : (other : ℕ → ℕ) → ((i j : ℕ) → AreJoined (map box_of rings) i j → other i ≡ other j)
+      → (i j : ℕ) → i < length rings → j < length rings → slice_index labels i ≡ slice_index labels j → other i ≡ other j
+  -- parts come in the order of their first rings, and none is empty
+  pub ordered : (i p : ℕ) → i < length rings → p < slice_index labels i → (j : ℕ) × (j < i) × (slice_index labels j ≡ p)
+  pub used : (p : ℕ) → p < length parts → (j : ℕ) × (j < length rings) × (slice_index labels j ≡ p)
+  -- a part has its rings in their order
+  pub rings_of_part : (p : ℕ) (d : List (List Point)) → p < length parts → slice_index_or parts p d ≡ labelled p labels rings
+
+abbrev pub AreParts : List (List Point) → List (List (List Point)) → Type 0
+AreParts rings parts = (labels : List ℕ) × ArePartsBy labels rings parts
+
+-- some part is odd about a place exactly where all rings together are
+abbrev pub PartsTellPlaces : List (List Point) → Type 0
+PartsTellPlaces rings = (parts : List (List (List Point))) → AreParts rings parts → (k x y : ℤ) → pos 1 ≤ℤ k →
+    list_any (λ part. odd (edges_of part) k x y) parts ≡ odd (edges_of rings) k x y

@@ -1,0 +1,13 @@
+pub mod WrittenNumbers
+pub mod WrittenTurns
+pub mod WrittenLines
+pub mod ScaledBack
+pub mod TurnsBack
+pub mod Reaching
+pub mod CommandsDo
+pub mod LinesLead
+pub mod HeldItems
+pub mod WrittenSymbols
+pub mod WrittenCalls
+pub mod ReadBack
+pub mod WrittenAgain

@@ -1,0 +1,5 @@
+pub mod AnyLemmas
+pub mod ChangeLemmas
+pub mod CompareLemmas
+pub mod SetLemmas
+pub mod TouchLemmas

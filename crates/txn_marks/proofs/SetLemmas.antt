@@ -1,0 +1,87 @@
+-- A tree's keys as a finite set of elements.
+use Rattle.std.proofs.Common.{◌≡◌, Bool, true, false, not, ◌&&◌, ◌||◌, inl, inr, cond, List, [], ◌∷◌, refl, ap, sym, subst, ◌∙◌}
+use Rattle.std.proofs.lemmas.Bool.{and_from, and_parts, or_cases, or_left, or_right}
+use Rattle.std.proofs.lemmas.Bool.Decides.{same_from_decides}
+use Rattle.std.specs.Bool.{Decides}
+use Rattle.std.specs.BTreeMap.{is_at}
+use Rattle.std.specs.Cmp.{Equal-is, eq_by_cmp_equiv}
+use Rattle.std.specs.FinSet.{contains, contains-from_list, contains-insert, contains-items, contains-remove, from_list, insert, items}
+use Rattle.std.specs.FinSet.{remove, same_set}
+use Rattle.std.specs.List.{list_all, list_any}
+use Rattle.std.specs.Ordering.{eq_by_cmp}
+use Rattle.txn_rules.specs.declared.element.Element.{Element}
+use Rattle.txn_rules.specs.Elements.{Touched, element_cmp, element_eq, elements_exact, elements_total}
+
+or_cond : (b x : Bool) → cond b true x ≡ (b || x)
+or_cond true x = refl
+or_cond false x = refl
+
+not_cond : (b x : Bool) → cond b false x ≡ (not b && x)
+not_cond true x = refl
+not_cond false x = refl
+
+-- the equality of elements decides
+pub element_eq-Decides : (e f : Element) → Decides (element_eq e f) (e ≡ f)
+element_eq-Decides e f = (
+  λ h. elements_exact e f ((Equal-is (element_cmp e f)).0 h),
+  λ same. subst (λ (g : Element). element_eq e g ≡ true) same ((eq_by_cmp_equiv elements_total).refl e),
+)
+
+-- an element added to a tree's keys is added to their set
+pub element_added : (ks ls : List Element) (k : Element) →
+    ((q : Element) → list_any (is_at (element_cmp q)) ls ≡ cond (is_at (element_cmp k) q) true (list_any (is_at (element_cmp q)) ks)) →
+    from_list {R = element_cmp} ls ≡ insert (from_list ks) k
+element_added ks ls k h = same_set elements_total elements_exact _ _ (λ q. contains-from_list elements_total ls q ∙ h q
+    ∙ or_cond (is_at (element_cmp k) q) (list_any (is_at (element_cmp q)) ks)
+    ∙ ap (λ b. b || list_any (is_at (element_cmp q)) ks) ((eq_by_cmp_equiv elements_total).symm k q)
+    ∙ sym (contains-insert elements_total (from_list ks) k q
+    ∙ ap (λ b. eq_by_cmp element_cmp q k || b) (contains-from_list elements_total ks q)))
+
+-- and one that is removed from them is removed from it
+pub element_removed : (ks ls : List Element) (k : Element) →
+    ((q : Element) → list_any (is_at (element_cmp q)) ls ≡ cond (is_at (element_cmp k) q) false (list_any (is_at (element_cmp q)) ks)) →
+    from_list {R = element_cmp} ls ≡ remove (from_list ks) k
+element_removed ks ls k h = same_set elements_total elements_exact _ _ (λ q. contains-from_list elements_total ls q ∙ h q
+    ∙ not_cond (is_at (element_cmp k) q) (list_any (is_at (element_cmp q)) ks)
+    ∙ ap (λ b. not b && list_any (is_at (element_cmp q)) ks) ((eq_by_cmp_equiv elements_total).symm k q)
+    ∙ sym (contains-remove elements_total (from_list ks) k q
+    ∙ ap (λ b. not (eq_by_cmp element_cmp q k) && b) (contains-from_list elements_total ks q)))
+
+-- what a tree answers of an element is what the set of its keys does
+pub element_there : (ks : List Element) (k : Element) → list_any (is_at (element_cmp k)) ks ≡ contains (from_list {R = element_cmp} ks) k
+element_there ks k = sym (contains-from_list elements_total ks k)
+
+-- an element of the set, looked for among its items from their side
+pub contains-back : (s : Touched) (e : Element) → list_any (λ f. element_eq f e) (items s) ≡ contains s e
+contains-back s e = (λ i. list_any (λ f. (eq_by_cmp_equiv elements_total).symm f e i) (items s)) ∙ sym (contains-items s e)
+
+-- where all elements of a list pass a test, each that the list has passes it
+pub each_passes : (p : Element → Bool) (xs : List Element) → list_all p xs ≡ true → (q : Element) → list_any (element_eq q) xs ≡ true →
+    p q ≡ true
+each_passes p [] all q there = absurd cc
+each_passes p (x ∷ xs) all q there =
+    let here = and_parts (p x) (list_all p xs) all in
+    elim (or_cases (element_eq q x) (list_any (element_eq q) xs) there) [
+      | inl this ↦ ap p (elements_exact q x ((Equal-is (element_cmp q x)).0 this)) ∙ here.0
+      | inr other ↦ each_passes p xs here.1 q other
+    ]
+
+all_pass : (p : Element → Bool) (xs : List Element) → ((q : Element) → list_any (element_eq q) xs ≡ true → p q ≡ true) →
+    list_all p xs ≡ true
+all_pass p [] each = refl
+all_pass p (x ∷ xs) each =
+    and_from (p x) (list_all p xs) (each x (or_left _ _ ((eq_by_cmp_equiv elements_total).refl x)))
+    (all_pass p xs (λ q there. each q (or_right (element_eq q x) (list_any (element_eq q) xs) there)))
+
+-- all keys of a tree pass a test where all elements of their set do
+pub all_items : (p : Element → Bool) (ks : List Element) → list_all p ks ≡ list_all p (items (from_list {R = element_cmp} ks))
+all_items p ks = same_from_decides {P = list_all p there ≡ true} (list_all p ks) (list_all p there) (
+  λ all. all_pass p there (λ q h. each_passes p ks all q (same q ∙ h)),
+  λ all. all_pass p ks (λ q h. each_passes p there all q (sym (same q) ∙ h)),
+)
+    (λ all. all, λ all. all) where
+      there : List Element
+      there = items (from_list {R = element_cmp} ks)
+
+      same : (q : Element) → list_any (element_eq q) ks ≡ list_any (element_eq q) there
+      same q = sym (contains-from_list elements_total ks q) ∙ contains-items (from_list {R = element_cmp} ks) q

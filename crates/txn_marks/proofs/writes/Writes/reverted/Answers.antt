@@ -1,0 +1,18 @@
+use Rattle.std.proofs.Common.{◌∙◌, List, ap, nat_cmp, subst, sym}
+use Rattle.lay_items.specs.Ids.{id_cmp}
+use Rattle.lay_items.specs.Layout.{AreRising, SymbolWrite, Write}
+use Rattle.txn_rules.specs.Records.{Records, befores, slot_befores}
+use Rattle.txn_marks.proofs.ChangeLemmas.{befores_rise, slot_befores_rise}
+use Rattle.txn_marks.proofs.writes.Writes.reverted.Goals as goal
+
+pub with-requires-clause-items : goal.with-requires-clause-items
+with-requires-clause-items c =
+    subst (λ (ws : List Write). AreRising id_cmp ws)
+    (sym (c.deref.ensures.value ∙ c.in_ok-items.ensures ∙ ap (λ (r : Records). befores r.items) c.self.view_is))
+    (befores_rise c.args.self.now c.requires.proper)
+
+pub with-requires-clause-symbols : goal.with-requires-clause-symbols
+with-requires-clause-symbols c =
+    subst (λ (ws : List SymbolWrite). AreRising nat_cmp ws)
+    (sym (c.deref-2.ensures.value ∙ c.in_ok-symbols.ensures ∙ ap (λ (r : Records). slot_befores r.symbols) c.self.view_is))
+    (slot_befores_rise c.args.self.now c.requires.proper)

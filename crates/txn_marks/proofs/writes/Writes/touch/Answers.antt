@@ -1,0 +1,22 @@
+use Rattle.std.proofs.Common.{◌||◌, ◌∙◌, ap, sym}
+use Rattle.txn_rules.specs.Meets.{touches}
+use Rattle.txn_rules.specs.Records.{Records}
+use Rattle.txn_marks.specs.Met.{symbols_are_met}
+use Rattle.txn_marks.proofs.TouchLemmas.{touches_met}
+use Rattle.txn_marks.proofs.writes.Writes.touch.Goals as goal
+
+pub returns-then-items_touch : goal.returns-then-items_touch
+returns-then-items_touch c =
+    let touched = c.args.footprint.now in
+    let w = c.self.inside in
+    c.if-items_touch.true
+    ∙ sym (ap (λ b. b || symbols_are_met touched w.symbols.entries) (sym c.items_touch.ensures ∙ c.if-items_touch.true))
+    ∙ sym (touches_met touched w.items.entries w.symbols.entries) ∙ ap (λ (r : Records). touches r touched) c.self.view_is
+
+pub returns-else-items_touch : goal.returns-else-items_touch
+returns-else-items_touch c =
+    let touched = c.args.footprint.now in
+    let w = c.self.inside in
+    c.symbols_touch.ensures
+    ∙ sym (ap (λ b. b || symbols_are_met touched w.symbols.entries) (sym c.items_touch.ensures ∙ c.if-items_touch.false))
+    ∙ sym (touches_met touched w.items.entries w.symbols.entries) ∙ ap (λ (r : Records). touches r touched) c.self.view_is

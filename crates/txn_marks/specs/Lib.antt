@@ -1,0 +1,4 @@
+pub mod Coded
+pub mod Homes
+pub mod Met
+pub mod WritesOf

@@ -1,0 +1,100 @@
+//! Values before and after.
+ghost use Rattle.std.specs.Prelude.{◌≡◌, option_copied};
+ghost use Rattle.lay_items.specs.Same.{option_item_eq};
+ghost use Rattle.txn_rules.specs.Changes.{change_of};
+ghost use Rattle.txn_rules.specs.Records.{option_slot_eq};
+
+use lay_items::{CellSlot, Item};
+use std::marker::Model;
+
+/// What stands under an id before and after, which differ. Contracts see the change.
+#[derive(Debug, Drop)]
+pub struct ItemChange {
+    pub(crate) before: Option<Item>,
+    pub(crate) after: Option<Item>,
+}
+
+impl Model for ItemChange {
+    ghost use Rattle.txn_rules.specs.Changes.{Change};
+    ghost use Rattle.lay_items.specs.declared.item.Item.{Item};
+    ghost use Rattle.txn_marks.specs.Coded.{coded_item_change};
+
+    ghost Value = { Change Item };
+
+    ghost coded = { coded_item_change };
+
+    ghost view = { λ c. record { before = c.before; after = c.after } };
+}
+
+impl ItemChange {
+    /// What stands there before, if anything does.
+    pub fn before(&self) -> Option<&Item>
+        ensures { option_copied result ≡ self.now.before }
+    {
+        self.before.as_ref()
+    }
+
+    /// What stands there after, if anything does.
+    pub fn after(&self) -> Option<&Item>
+        ensures { option_copied result ≡ self.now.after }
+    {
+        self.after.as_ref()
+    }
+}
+
+/// The slot of a symbol before and after, which differ. Contracts see the change.
+#[derive(Clone, Copy, Debug)]
+pub struct CellChange {
+    pub(crate) before: Option<CellSlot>,
+    pub(crate) after: Option<CellSlot>,
+}
+
+impl Model for CellChange {
+    ghost use Rattle.txn_rules.specs.Changes.{Change};
+    ghost use Rattle.lay_items.specs.declared.version.CellSlot.{CellSlot};
+    ghost use Rattle.txn_marks.specs.Coded.{coded_cell_change};
+
+    ghost Value = { Change CellSlot };
+
+    ghost coded = { coded_cell_change };
+
+    ghost view = { λ c. record { before = c.before; after = c.after } };
+
+    ghost inverse = { λ c. record { before = c.before; after = c.after } };
+}
+
+impl CellChange {
+    /// The slot before, where the symbol was there.
+    pub fn before(&self) -> Option<CellSlot>
+        ensures { result ≡ self.now.before }
+    {
+        self.before
+    }
+
+    /// The slot after, where the symbol is there.
+    pub fn after(&self) -> Option<CellSlot>
+        ensures { result ≡ self.now.after }
+    {
+        self.after
+    }
+}
+
+/// Returns the change from one item to the other, where they differ.
+pub(crate) fn item_change(before: Option<Item>, after: Option<Item>) -> Option<ItemChange>
+    ensures { result ≡ change_of option_item_eq before after }
+{
+    if before == after {
+        return None;
+    }
+    Some(ItemChange { before, after })
+}
+
+/// Returns the change from one slot to the other, where they differ.
+pub(crate) fn cell_change(before: Option<CellSlot>, after: Option<CellSlot>) -> Option<CellChange>
+    ensures { result ≡ change_of option_slot_eq before after }
+{
+    if before == after {
+        return None;
+    }
+    Some(CellChange { before, after })
+}

@@ -1,0 +1,78 @@
+//! The writes that apply changes, and those that revert them.
+ghost use Rattle.std.specs.Prelude.{◌≡◌, IfOk, map, option_copied};
+ghost use Rattle.txn_rules.specs.Records.{afters, befores, cell_record_of, record_of};
+ghost use Rattle.txn_rules.specs.Records.{slot_afters, slot_befores};
+
+use crate::change::{CellChange, ItemChange};
+use lay_items::{CellSlot, Item, ItemId};
+use lay_point::NoMemory;
+use std::alloc::Global;
+use std::collections::BTreeMap;
+
+/// Returns the writes of items that apply the changes.
+pub(crate) fn item_afters(
+    alloc: Global,
+    items: &BTreeMap<ItemId, ItemChange>,
+) -> Result<Vec<(ItemId, Option<Item>)>, NoMemory>
+    ensures { IfOk result (λ writes. writes.items ≡ afters (map record_of items.now.entries)) }
+{
+    let mut writes = Vec::with_capacity(alloc, items.len())?;
+    for (id, change) in items {
+        writes.push((*id, copied(change.after())?))?;
+    }
+    Ok(writes)
+}
+
+/// Returns the writes of items that revert the changes.
+pub(crate) fn item_befores(
+    alloc: Global,
+    items: &BTreeMap<ItemId, ItemChange>,
+) -> Result<Vec<(ItemId, Option<Item>)>, NoMemory>
+    ensures { IfOk result (λ writes. writes.items ≡ befores (map record_of items.now.entries)) }
+{
+    let mut writes = Vec::with_capacity(alloc, items.len())?;
+    for (id, change) in items {
+        writes.push((*id, copied(change.before())?))?;
+    }
+    Ok(writes)
+}
+
+/// Returns the writes of symbols that apply the changes.
+pub(crate) fn symbol_afters(
+    alloc: Global,
+    symbols: &BTreeMap<u32, CellChange>,
+) -> Result<Vec<(u32, Option<CellSlot>)>, NoMemory>
+    ensures { IfOk result (λ writes.
+        writes.items ≡ slot_afters (map cell_record_of symbols.now.entries)) }
+{
+    let mut writes = Vec::with_capacity(alloc, symbols.len())?;
+    for (number, change) in symbols {
+        writes.push((*number, change.after()))?;
+    }
+    Ok(writes)
+}
+
+/// Returns the writes of symbols that revert the changes.
+pub(crate) fn symbol_befores(
+    alloc: Global,
+    symbols: &BTreeMap<u32, CellChange>,
+) -> Result<Vec<(u32, Option<CellSlot>)>, NoMemory>
+    ensures { IfOk result (λ writes.
+        writes.items ≡ slot_befores (map cell_record_of symbols.now.entries)) }
+{
+    let mut writes = Vec::with_capacity(alloc, symbols.len())?;
+    for (number, change) in symbols {
+        writes.push((*number, change.before()))?;
+    }
+    Ok(writes)
+}
+
+/// Returns a copy of the item, where there is one.
+fn copied(item: Option<&Item>) -> Result<Option<Item>, NoMemory>
+    ensures { IfOk result (λ copy. copy ≡ option_copied item.entry) }
+{
+    match item {
+        Some(item) => Ok(Some(item.clone()?)),
+        None => Ok(None),
+    }
+}

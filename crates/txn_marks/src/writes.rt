@@ -1,0 +1,139 @@
+//! What a transaction wrote.
+ghost use Rattle.std.specs.Prelude.{◌≡◌, [], IfOk, OnErr, OnOk, option_copied};
+ghost use Rattle.std.specs.BTreeMap.{IsOrdered, IsUnchanged, Updates};
+ghost use Rattle.lay_items.specs.Sound.{IsSound};
+ghost use Rattle.txn_rules.specs.Meets.{touches};
+ghost use Rattle.txn_rules.specs.Records.{AreProper, applied, change_at, reverted, slot_change_at};
+ghost use Rattle.txn_marks.specs.WritesOf.{Merges, MergesSymbol};
+
+use crate::change::{CellChange, ItemChange, cell_change, item_change};
+use crate::footprint::Footprint;
+use crate::met::{items_touch, symbols_touch};
+use crate::values::{item_afters, item_befores, symbol_afters, symbol_befores};
+use lay_items::{CellSlot, Item, ItemId, Snapshot};
+use lay_point::NoMemory;
+use std::alloc::Global;
+use std::collections::BTreeMap;
+use std::marker::Model;
+
+/// The items and the symbols that differ between two layouts, with both values. Contracts see the records,
+/// in order of ids and of numbers.
+#[derive(Debug, Drop)]
+pub struct Writes {
+    items: BTreeMap<ItemId, ItemChange>,
+    symbols: BTreeMap<u32, CellChange>,
+}
+
+impl Model for Writes {
+    ghost use Rattle.txn_rules.specs.Records.{Records};
+    ghost use Rattle.txn_marks.specs.Coded.{coded_records};
+    ghost use Rattle.txn_marks.specs.WritesOf.{records_in};
+
+    ghost Value = { Records };
+
+    ghost coded = { coded_records };
+
+    ghost view = { records_in };
+}
+
+impl Writes {
+    /// Returns no writes.
+    pub fn new(alloc: Global) -> Writes
+        ensures { result ≡ record { items = []; symbols = [] } }
+    {
+        Writes {
+            items: BTreeMap::new(alloc),
+            symbols: BTreeMap::new(alloc),
+        }
+    }
+
+    /// Returns what was written under the id, if anything was.
+    pub fn item(&self, id: ItemId) -> Option<&ItemChange>
+        ensures { option_copied result ≡ change_at self.now.items id }
+    {
+        self.items.get(&id)
+    }
+
+    /// Returns what was written of the symbol of this number, if anything was.
+    pub fn symbol(&self, number: u32) -> Option<&CellChange>
+        ensures { option_copied result ≡ slot_change_at self.now.symbols number }
+    {
+        self.symbols.get(&number)
+    }
+
+    /// Writes an item, which had the value `before` in the first of the two layouts.
+    pub fn set_item(
+        &mut self,
+        id: ItemId,
+        before: Option<Item>,
+        after: Option<Item>,
+    ) -> Result<(), NoMemory>
+        ensures ok { OnOk result (Merges self.old id before after self.new) }
+        ensures err { OnErr result (self.new ≡ self.old) }
+    {
+        keep(&mut self.items, id, item_change(before, after))
+    }
+
+    /// Writes a symbol, which had the slot `before` in the first of the two layouts.
+    pub fn set_symbol(
+        &mut self,
+        number: u32,
+        before: Option<CellSlot>,
+        after: Option<CellSlot>,
+    ) -> Result<(), NoMemory>
+        ensures ok { OnOk result (MergesSymbol self.old number before after self.new) }
+        ensures err { OnErr result (self.new ≡ self.old) }
+    {
+        keep(&mut self.symbols, number, cell_change(before, after))
+    }
+
+    /// Returns the layout with the values after. Where nothing was written it is the same layout, shared.
+    pub fn applied(&self, alloc: Global, layout: &Snapshot) -> Result<Snapshot, NoMemory>
+        requires proper { AreProper self.now }
+        requires sound { IsSound (applied layout.now self.now) }
+        ensures { IfOk result (λ new. new ≡ applied layout.now self.now) }
+    {
+        let items = item_afters(alloc, &self.items)?;
+        let symbols = symbol_afters(alloc, &self.symbols)?;
+        Snapshot::of(alloc, layout.version().with(alloc, &items, &symbols)?)
+    }
+
+    /// Returns the layout with the values before. Where nothing was written it is the same layout, shared.
+    pub fn reverted(&self, alloc: Global, layout: &Snapshot) -> Result<Snapshot, NoMemory>
+        requires proper { AreProper self.now }
+        requires sound { IsSound (reverted layout.now self.now) }
+        ensures { IfOk result (λ new. new ≡ reverted layout.now self.now) }
+    {
+        let items = item_befores(alloc, &self.items)?;
+        let symbols = symbol_befores(alloc, &self.symbols)?;
+        Snapshot::of(alloc, layout.version().with(alloc, &items, &symbols)?)
+    }
+
+    /// Returns whether some record meets an element of the footprint.
+    pub fn touch(&self, footprint: &Footprint) -> bool
+        ensures { result ≡ touches self.now footprint.now }
+    {
+        items_touch(&self.items, footprint) || symbols_touch(&self.symbols, footprint)
+    }
+}
+
+/// Keeps the value under the key, or removes what is there where it is `None`.
+fn keep<K: Ord + Drop, V: Drop>(
+    tree: &mut BTreeMap<K, V>,
+    key: K,
+    value: Option<V>,
+) -> Result<(), NoMemory>
+    ensures ok { OnOk result (Updates K.cmp tree.old tree.new key value) }
+    ensures ordered { IsOrdered K.cmp tree.new }
+    ensures err { OnErr result (IsUnchanged tree.old tree.new) }
+{
+    match value {
+        Some(value) => {
+            tree.insert(key, value)?;
+        }
+        None => {
+            tree.remove(&key);
+        }
+    }
+    Ok(())
+}

@@ -1,0 +1,17 @@
+pub mod Lists
+pub mod Maps
+pub mod Lying
+pub mod Reach
+pub mod Agreements
+pub mod SamePlans
+pub mod Rings
+pub mod Shifts
+pub mod Planned
+pub mod Runs
+pub mod Steps
+pub mod Overlay
+pub mod OneRecords
+pub mod CallLists
+pub mod Sound
+pub mod Own
+pub mod LawProofs

@@ -1,0 +1,75 @@
+-- Acts: what an accepted command does.
+use Rattle.std.specs.Prelude.{ℕ, List, [], ◌∷◌, ◌++◌, map, Option, None, Some}
+use Rattle.lay_cells.specs.declared.cell_id.CellId.{CellId}
+use Rattle.lay_cells.specs.declared.cell_id.CellId.TheVariants.{Symbol, Top}
+use Rattle.lay_point.specs.declared.turn.Turn.{Turn}
+use Rattle.lay_items.specs.declared.id.ItemId.{ItemId}
+use Rattle.lay_items.specs.declared.item.Item as items
+use Rattle.lay_items.specs.declared.item.Item.TheVariants.{Placed}
+use Rattle.lay_items.specs.declared.version.CellSlot.TheVariants.{Made as MadeSlot}
+use Rattle.lay_items.specs.Layout.{Write}
+use Rattle.txn_rules.specs.declared.command.Done.{Done}
+use Rattle.txn_rules.specs.declared.command.Done.TheVariants.{Found, Made, Plain}
+use Rattle.txn_rules.specs.declared.element.Element.{Element}
+use Rattle.txn_rules.specs.declared.element.Element.TheVariants.{Calls, Cell, Content, Item, Uses}
+use Rattle.lay_items.specs.Layout.{SymbolWrite}
+
+-- the answer, the elements that are touched, what is written, and how many items are made
+pub record Act : Type 0 where
+  pub done : Done
+  pub elements : List Element
+  pub items : List Write
+  pub symbols : List SymbolWrite
+  pub made : ℕ
+
+-- the element of a cell: the top cell has none, since it is always there
+abbrev pub cell_elements : CellId → List Element
+cell_elements Top = []
+cell_elements (Symbol number) = Cell number ∷ []
+
+-- an item comes to stand under a new id, where these elements are read
+abbrev pub make_act : ItemId → items.Item → List Element → Act
+make_act new item elements = record {
+  done = Made new;
+  elements = Item new ∷ elements;
+  items = (new, Some item) ∷ [];
+  symbols = [];
+  made = 1;
+}
+
+-- a shape is made in a cell
+abbrev pub shape_act : ItemId → CellId → items.Item → Act
+shape_act new cell shape = make_act new shape (cell_elements cell)
+
+-- a call is made in a cell: these cells are reached from its target
+abbrev pub place_act : ItemId → CellId → ℕ → Turn → List CellId → Act
+place_act new cell target turn cells =
+    make_act new (Placed cell target turn) (cell_elements cell ++ Cell target ∷ map Calls cells)
+
+-- an item is written under an id that is there
+abbrev pub change_act : ItemId → Option items.Item → Act
+change_act id item = record { done = Plain; elements = Item id ∷ []; items = (id, item) ∷ []; symbols = []; made = 0 }
+
+-- an item is read
+abbrev pub look_act : ItemId → items.Item → Act
+look_act id item = record { done = Found item; elements = Item id ∷ []; items = []; symbols = []; made = 0 }
+
+-- a symbol is made
+abbrev pub make_cell_act : ℕ → Act
+make_cell_act number = record {
+  done = Plain;
+  elements = Cell number ∷ [];
+  items = [];
+  symbols = (number, Some MadeSlot) ∷ [];
+  made = 0;
+}
+
+-- a symbol goes, which nothing stands in and nothing calls
+abbrev pub drop_cell_act : ℕ → Act
+drop_cell_act number = record {
+  done = Plain;
+  elements = Cell number ∷ Content number ∷ Uses number ∷ [];
+  items = [];
+  symbols = (number, None) ∷ [];
+  made = 0;
+}

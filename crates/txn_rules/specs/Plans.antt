@@ -1,0 +1,89 @@
+-- What each command is to do on a layout, or why it is refused, in the order in which it is tested.
+-- Source: this project's own rules of editing.
+use Rattle.std.specs.Prelude.{ℕ, List, Bool, not, nat_lt, ◌&&◌, ◌||◌, Option, None, Some, Result, Ok, Err, is_some, if◌then◌else◌}
+use Rattle.std.specs.FinMap as map
+use Rattle.std.specs.List.{list_any}
+use Rattle.std.specs.Ordering.{int_eq}
+use Rattle.lay_cells.specs.declared.cell_id.CellId.{CellId}
+use Rattle.lay_cells.specs.declared.cell_id.CellId.TheVariants.{Symbol}
+use Rattle.lay_cells.specs.declared.cells.TheConstants.{MAX_SYMBOL}
+use Rattle.lay_point.specs.declared.point.Point.{Point}
+use Rattle.lay_point.specs.declared.ring.RingFault.{RingFault}
+use Rattle.lay_point.specs.declared.ring.RingFault.TheVariants as ring_fault
+use Rattle.lay_point.specs.Points.{is_in_range}
+use Rattle.lay_point.specs.Rings.{ring_of}
+use Rattle.lay_items.specs.declared.id.ItemId.{ItemId}
+use Rattle.lay_items.specs.declared.item.Item as items
+use Rattle.lay_items.specs.declared.item.Item.TheVariants as item
+use Rattle.lay_items.specs.Layout.{Layout, is_cell, item_at}
+use Rattle.txn_rules.specs.declared.command.Command.{Command}
+use Rattle.txn_rules.specs.declared.command.Command.TheVariants.{Box, Delete, DropCell, Look, MakeCell, Move, Place, Poly, SetLayer}
+use Rattle.txn_rules.specs.declared.element.Element.TheVariants.{Content, Uses}
+use Rattle.txn_rules.specs.declared.fault.CmdFault.{CmdFault}
+use Rattle.txn_rules.specs.declared.fault.CmdFault.TheVariants.{CellThere, CellUsed, Cycle, FewPoints, NoCell, NoItem, NoMemory, NotShape}
+use Rattle.txn_rules.specs.declared.fault.CmdFault.TheVariants.{OutOfRange, TooMany}
+use Rattle.txn_rules.specs.Acts.{Act, change_act, drop_cell_act, look_act, make_cell_act, place_act, shape_act}
+use Rattle.txn_rules.specs.Figures.{box_ring, is_item_in_range, moved, shape_of}
+use Rattle.txn_rules.specs.Lies.{lies}
+use Rattle.txn_rules.specs.Reach.{is_among, reached}
+
+-- the refusal, unless the test is passed
+abbrev pub refused_if : {T : Type 0} → Bool → CmdFault → Result T CmdFault → Result T CmdFault
+refused_if test fault rest = if test then Err fault else rest
+
+-- what is to be done with a value, or the refusal where there is none
+abbrev pub with_value : {V T : Type 0} → Option V → CmdFault → (V → Result T CmdFault) → Result T CmdFault
+with_value None fault rest = Err fault
+with_value (Some value) fault rest = rest value
+
+-- why a ring can't be drawn
+abbrev pub fault_of_ring : RingFault → CmdFault
+fault_of_ring ring_fault.FewPoints = FewPoints
+fault_of_ring ring_fault.OutOfRange = OutOfRange
+fault_of_ring ring_fault.TooMany = TooMany
+fault_of_ring ring_fault.NoMemory = NoMemory
+
+-- a shape of this ring
+abbrev pub drawn : ItemId → CellId → List ℕ → Result (List Point) RingFault → Result Act CmdFault
+drawn new cell layer (Ok ring) = Ok (shape_act new cell (shape_of cell layer ring))
+drawn new cell layer (Err fault) = Err (fault_of_ring fault)
+
+-- the item, moved, where that is in range
+abbrev pub move_to : ItemId → items.Item → Result Act CmdFault
+move_to id item = refused_if (not (is_item_in_range item)) OutOfRange (Ok (change_act id (Some item)))
+
+-- the shape on another layer
+abbrev pub relayer : ItemId → List ℕ → items.Item → Result Act CmdFault
+relayer id layer (item.Shape cell old rings) = Ok (change_act id (Some (item.Shape cell layer rings)))
+relayer id layer (item.Placed cell target turn) = Err NotShape
+
+-- the symbol holds an item, or is called
+abbrev pub is_used : Layout → ℕ → Bool
+is_used layout number =
+    list_any (λ entry. lies (Content number) entry.0 entry.1 || lies (Uses number) entry.0 entry.1) (map.entries layout.items)
+
+-- what a command does on a layout, where the next new item has this id
+unfoldable pub plan : ItemId → Command → Layout → Result Act CmdFault
+plan new (Box cell layer a b) layout =
+    refused_if (not (is_cell layout cell)) NoCell
+    (refused_if (int_eq a.x b.x || int_eq a.y b.y) FewPoints
+    (refused_if (not (is_in_range a && is_in_range b)) OutOfRange
+    (Ok (shape_act new cell (shape_of cell layer (box_ring a b))))))
+plan new (Poly cell layer points) layout =
+    refused_if (not (is_cell layout cell)) NoCell (drawn new cell layer (ring_of points))
+plan new (Delete id) layout = with_value (item_at layout id) NoItem (λ item. Ok (change_act id None))
+plan new (Move id dx dy) layout = with_value (item_at layout id) NoItem (λ item. move_to id (moved (record { x = dx; y = dy }) item))
+plan new (SetLayer id layer) layout = with_value (item_at layout id) NoItem (relayer id layer)
+plan new (Place cell target turn) layout =
+    refused_if (not (is_cell layout cell)) NoCell
+    (refused_if (not (is_cell layout (Symbol target))) NoCell
+    (refused_if (not (is_in_range turn.shift)) OutOfRange
+    (refused_if (is_among cell (reached layout (Symbol target))) Cycle
+    (Ok (place_act new cell target turn (reached layout (Symbol target)))))))
+plan new (Look id) layout = with_value (item_at layout id) NoItem (λ item. Ok (look_act id item))
+plan new (MakeCell number) layout =
+    refused_if (nat_lt MAX_SYMBOL number) OutOfRange
+    (refused_if (is_some (map.get layout.symbols number)) CellThere (Ok (make_cell_act number)))
+plan new (DropCell number) layout =
+    refused_if (not (is_some (map.get layout.symbols number))) NoCell
+    (refused_if (is_used layout number) CellUsed (Ok (drop_cell_act number)))

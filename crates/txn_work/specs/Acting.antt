@@ -1,0 +1,47 @@
+-- What contracts see of an act.
+use Rattle.std.specs.Prelude.{List, [], ◌∷◌, if◌then◌else◌, refl, ℕ}
+use Rattle.std.specs.Coded.{Coded, code_by, coded×, coded_list, coded_option, coded_ℕ}
+use Rattle.lay_items.specs.contracts.item.Item as item
+use Rattle.lay_items.specs.contracts.version.CellSlot as slot
+use Rattle.lay_items.specs.Ids.{coded_id}
+use Rattle.lay_items.specs.Layout.{SymbolWrite, Write}
+use Rattle.txn_rules.specs.contracts.command.Done as done
+use Rattle.txn_rules.specs.contracts.element.Element as element
+use Rattle.txn_rules.specs.declared.command.Done.{Done}
+use Rattle.txn_rules.specs.declared.element.Element.{Element}
+use Rattle.txn_rules.specs.Acts.{Act}
+use Rattle.txn_work.specs.declared.act.Act.TheInside.{Inside}
+use Rattle.txn_work.specs.declared.act.Written.{Written}
+use Rattle.txn_work.specs.declared.act.Written.TheVariants.{Item, Nothing, Symbol}
+
+-- what is written of items
+abbrev pub items_in : Written → List Write
+items_in Nothing = []
+items_in (Item id item) = (id, item) ∷ []
+items_in (Symbol number slot) = []
+
+-- and of symbols
+abbrev pub symbols_in : Written → List SymbolWrite
+symbols_in Nothing = []
+symbols_in (Item id item) = []
+symbols_in (Symbol number slot) = (number, slot) ∷ []
+
+abbrev pub act_in : Inside → Act
+act_in a = record {
+  done = a.done;
+  elements = a.elements.items;
+  items = items_in a.written;
+  symbols = symbols_in a.written;
+  made = if a.makes then 1 else 0;
+}
+
+-- an act is stored as its parts
+abbrev pub coded_act : Coded Act
+coded_act =
+    code_by (Done × (List Element × (List Write × (List SymbolWrite × ℕ))))
+    (coded× done.the_row.coded (coded× (coded_list element.the_row.coded)
+    (coded× (coded_list (coded× coded_id (coded_option item.the_row.coded)))
+    (coded× (coded_list (coded× coded_ℕ (coded_option slot.the_row.coded))) coded_ℕ))))
+    (λ a. (a.done, (a.elements, (a.items, (a.symbols, a.made)))))
+    (λ p. record { done = p.0; elements = p.1.0; items = p.1.1.0; symbols = p.1.1.1.0; made = p.1.1.1.1 })
+    (λ _. refl)

@@ -1,0 +1,17 @@
+-- The layout as a transaction sees it: its snapshot with what it wrote.
+use Rattle.lay_items.specs.Layout.{Layout}
+use Rattle.lay_items.specs.Sound.{IsSound}
+use Rattle.txn_rules.specs.Records.{AreProper, Lead, Records, applied}
+use Rattle.txn_work.specs.declared.seen.Seen.TheInside.{Inside}
+
+abbrev pub seen_layout : Inside → Layout
+seen_layout s = applied s.snapshot.now s.writes.now
+
+-- the records are in order and lead from the snapshot to it, and it is sound
+pub record Overlays (snapshot : Layout) (writes : Records) : Type 0 where
+  pub proper : AreProper writes
+  pub leads : Lead writes snapshot (applied snapshot writes)
+  pub sound : IsSound (applied snapshot writes)
+
+abbrev pub IsSeen : Inside → Type 0
+IsSeen s = Overlays s.snapshot.now s.writes.now

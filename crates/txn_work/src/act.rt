@@ -1,0 +1,117 @@
+//! Acts: what an accepted command is to do.
+ghost use Rattle.std.specs.Prelude.{◌≡◌, [], ◌∷◌, IfOk, List, None};
+ghost use Rattle.txn_rules.specs.declared.element.Element as elements;
+ghost use Rattle.txn_rules.specs.declared.element.Element.TheVariants.{Item as ItemElement};
+ghost use Rattle.txn_rules.specs.Acts.{change_act, drop_cell_act, look_act, make_act, make_cell_act};
+
+use lay_items::{CellSlot, Item, ItemId};
+use lay_point::NoMemory;
+use std::alloc::Global;
+use std::marker::Model;
+use txn_rules::{Done, Element};
+
+/// What an accepted command writes: at most one item or one symbol.
+#[derive(Drop)]
+pub(crate) enum Written {
+    /// It writes nothing.
+    Nothing,
+    /// Under this id stands this item from then on, or none.
+    Item(ItemId, Option<Item>),
+    /// The symbol of this number has this slot from then on, or goes.
+    Symbol(u32, Option<CellSlot>),
+}
+
+/// The answer to a command, the elements that it touches, what it writes, and whether it makes an item.
+/// Contracts see the act.
+#[derive(Drop)]
+pub(crate) struct Act {
+    pub(crate) done: Done,
+    pub(crate) elements: Vec<Element>,
+    pub(crate) written: Written,
+    pub(crate) makes: bool,
+}
+
+impl Model for Act {
+    ghost use Rattle.txn_rules.specs.Acts.{Act};
+    ghost use Rattle.txn_work.specs.Acting.{act_in, coded_act};
+
+    ghost Value = { Act };
+
+    ghost coded = { coded_act };
+
+    ghost view = { act_in };
+}
+
+/// An item comes to stand under a new id. The elements begin with that of the id.
+pub(crate) fn make_act(new: ItemId, item: Item, touched: Vec<Element>) -> Act
+    ensures { (rest : List elements.Element) → touched.items ≡ ItemElement new ∷ rest
+        → result ≡ make_act new item rest }
+{
+    Act {
+        done: Done::Made(new),
+        elements: touched,
+        written: Written::Item(new, Some(item)),
+        makes: true,
+    }
+}
+
+/// The item of an id that is there is written, or removed.
+pub(crate) fn change_act(alloc: Global, id: ItemId, item: Option<Item>) -> Result<Act, NoMemory>
+    ensures { IfOk result (λ act. act ≡ change_act id item) }
+{
+    Ok(Act {
+        done: Done::Plain,
+        elements: one(alloc, Element::Item(id))?,
+        written: Written::Item(id, item),
+        makes: false,
+    })
+}
+
+/// The item of the id is read.
+pub(crate) fn look_act(alloc: Global, id: ItemId, item: Item) -> Result<Act, NoMemory>
+    ensures { IfOk result (λ act. act ≡ look_act id item) }
+{
+    Ok(Act {
+        done: Done::Found(item),
+        elements: one(alloc, Element::Item(id))?,
+        written: Written::Nothing,
+        makes: false,
+    })
+}
+
+/// A symbol is made.
+pub(crate) fn make_cell_act(alloc: Global, number: u32) -> Result<Act, NoMemory>
+    ensures { IfOk result (λ act. act ≡ make_cell_act number) }
+{
+    Ok(Act {
+        done: Done::Plain,
+        elements: one(alloc, Element::Cell(number))?,
+        written: Written::Symbol(number, Some(CellSlot::Made)),
+        makes: false,
+    })
+}
+
+/// A symbol goes.
+pub(crate) fn drop_cell_act(alloc: Global, number: u32) -> Result<Act, NoMemory>
+    ensures { IfOk result (λ act. act ≡ drop_cell_act number) }
+{
+    let mut elements = Vec::with_capacity(alloc, 3)?;
+    elements.push(Element::Cell(number))?;
+    elements.push(Element::Content(number))?;
+    elements.push(Element::Uses(number))?;
+    Ok(Act {
+        done: Done::Plain,
+        elements,
+        written: Written::Symbol(number, None),
+        makes: false,
+    })
+}
+
+/// Returns this element alone.
+fn one(alloc: Global, element: Element) -> Result<Vec<Element>, NoMemory>
+    ensures { IfOk result (λ elements. elements.items ≡ element ∷ []) }
+{
+    let mut elements = Vec::with_capacity(alloc, 1)?;
+    elements.push(element)?;
+    Ok(elements)
+}

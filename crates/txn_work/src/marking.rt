@@ -1,0 +1,106 @@
+//! What an act leaves in the footprint and in the writes, or nothing where an allocation fails.
+ghost use Rattle.std.specs.Prelude.{◌≡◌, IfOk, OnErr, OnOk};
+ghost use Rattle.lay_items.specs.Layout.{Layout};
+ghost use Rattle.txn_rules.specs.Elements.{with_elements};
+ghost use Rattle.txn_rules.specs.Records.{records_between};
+ghost use Rattle.txn_rules.specs.Writing.{rewritten};
+ghost use Rattle.txn_work.specs.Acting.{items_in, symbols_in};
+ghost use Rattle.txn_work.specs.Marking.{HasNone, missing_in, without_elements};
+
+use crate::act::Written;
+use lay_items::Snapshot;
+use lay_point::NoMemory;
+use std::alloc::Global;
+use txn_marks::{Footprint, Writes};
+use txn_rules::Element;
+
+/// Adds the elements to the footprint, and writes what is written over the snapshot. Where an allocation
+/// fails both stay as they were.
+pub(crate) fn mark(
+    alloc: Global,
+    snapshot: &Snapshot,
+    writes: &mut Writes,
+    footprint: &mut Footprint,
+    elements: &[Element],
+    written: Written,
+) -> Result<(), NoMemory>
+    ensures footprint { OnOk result (footprint.new ≡ with_elements footprint.old elements.now) }
+    ensures writes { OnOk result ((m : Layout) → writes.old ≡ records_between snapshot.now m
+        → writes.new ≡ records_between snapshot.now (rewritten m (items_in written) (symbols_in written))) }
+    ensures err { OnErr result ((footprint.new ≡ footprint.old) × (writes.new ≡ writes.old)) }
+{
+    let fresh = missing(alloc, footprint, elements)?;
+    add_all(footprint, &fresh)?;
+    match write(alloc, snapshot, writes, written) {
+        Ok(()) => Ok(()),
+        Err(failed) => {
+            remove_all(footprint, &fresh);
+            Err(failed)
+        }
+    }
+}
+
+/// Returns those of these elements that the footprint hasn't.
+fn missing(
+    alloc: Global,
+    footprint: &Footprint,
+    elements: &[Element],
+) -> Result<Vec<Element>, NoMemory>
+    ensures { IfOk result (λ fresh. fresh.items ≡ missing_in footprint.now elements.now) }
+{
+    let mut fresh = Vec::with_capacity(alloc, elements.len())?;
+    for element in elements {
+        if !footprint.contains(*element) {
+            fresh.push(*element)?;
+        }
+    }
+    Ok(fresh)
+}
+
+/// Adds elements that the footprint hasn't.
+fn add_all(footprint: &mut Footprint, fresh: &[Element]) -> Result<(), NoMemory>
+    requires { HasNone footprint.old fresh.now }
+    ensures ok { OnOk result (footprint.new ≡ with_elements footprint.old fresh.now) }
+    ensures err { OnErr result (footprint.new ≡ footprint.old) }
+{
+    for element in fresh {
+        if footprint.insert(*element).is_err() {
+            remove_all(footprint, fresh);
+            return Err(NoMemory {});
+        }
+    }
+    Ok(())
+}
+
+/// Removes these elements.
+fn remove_all(footprint: &mut Footprint, elements: &[Element])
+    ensures { footprint.new ≡ without_elements footprint.old elements.now }
+{
+    for element in elements {
+        footprint.remove(*element);
+    }
+}
+
+/// Writes what an act writes over a snapshot.
+fn write(
+    alloc: Global,
+    snapshot: &Snapshot,
+    writes: &mut Writes,
+    written: Written,
+) -> Result<(), NoMemory>
+    ensures ok { OnOk result ((m : Layout) → writes.old ≡ records_between snapshot.now m
+        → writes.new ≡ records_between snapshot.now (rewritten m (items_in written) (symbols_in written))) }
+    ensures err { OnErr result (writes.new ≡ writes.old) }
+{
+    match written {
+        Written::Nothing => Ok(()),
+        Written::Item(id, after) => {
+            let before = match snapshot.item(id) {
+                Some(item) => Some(item.copy(alloc)?),
+                None => None,
+            };
+            writes.set_item(id, before, after)
+        }
+        Written::Symbol(number, after) => writes.set_symbol(number, snapshot.slot(number), after),
+    }
+}

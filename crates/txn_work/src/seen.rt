@@ -1,0 +1,81 @@
+//! The layout as a transaction sees it.
+ghost use Rattle.std.specs.Prelude.{◌≡◌, IfOk, option_copied};
+ghost use Rattle.std.specs.FinMap as map;
+ghost use Rattle.lay_items.specs.Layout.{is_cell, item_at};
+ghost use Rattle.lay_items.specs.Sound.{IsSound};
+ghost use Rattle.txn_rules.specs.Records.{applied};
+ghost use Rattle.txn_work.specs.Seeing.{Overlays};
+
+use lay_cells::CellId;
+use lay_items::{CellSlot, Item, ItemId, Snapshot};
+use lay_point::NoMemory;
+use std::alloc::Global;
+use std::marker::Model;
+use txn_marks::Writes;
+
+/// A snapshot with writes over it. Contracts see the layout that they make.
+#[derive(Drop)]
+pub(crate) struct Seen<'a> {
+    snapshot: &'a Snapshot,
+    writes: &'a Writes,
+}
+
+impl<'a> Model for Seen<'a> {
+    ghost use Rattle.lay_items.specs.Layout.{Layout, coded_layout};
+    ghost use Rattle.txn_work.specs.Seeing.{IsSeen, seen_layout};
+
+    ghost Value = { Layout };
+
+    ghost coded = { coded_layout };
+
+    ghost view = { seen_layout };
+
+    ghost invariant = { IsSeen };
+}
+
+impl<'a> Seen<'a> {
+    /// Returns the snapshot with the writes over it.
+    pub(crate) fn new(snapshot: &'a Snapshot, writes: &'a Writes) -> Seen<'a>
+        requires { Overlays snapshot.now writes.now }
+        ensures { result ≡ applied snapshot.now writes.now }
+    {
+        Seen { snapshot, writes }
+    }
+
+    /// Returns the item of this id.
+    pub(crate) fn item(&self, id: ItemId) -> Option<&'a Item>
+        ensures { option_copied result ≡ item_at self.now id }
+    {
+        match self.writes.item(id) {
+            Some(change) => change.after(),
+            None => self.snapshot.item(id),
+        }
+    }
+
+    /// Returns the slot of the symbol of this number.
+    pub(crate) fn slot(&self, number: u32) -> Option<CellSlot>
+        ensures { result ≡ map.get self.now.symbols number }
+    {
+        match self.writes.symbol(number) {
+            Some(change) => change.after(),
+            None => self.snapshot.slot(number),
+        }
+    }
+
+    /// Returns whether there is such a cell. The top cell is always there.
+    pub(crate) fn is_cell(&self, cell: CellId) -> bool
+        ensures { result ≡ is_cell self.now cell }
+    {
+        match cell {
+            CellId::Top => true,
+            CellId::Symbol(number) => self.slot(number).is_some(),
+        }
+    }
+
+    /// Returns the layout as a snapshot of its own.
+    pub(crate) fn whole(&self, alloc: Global) -> Result<Snapshot, NoMemory>
+        ensures value { IfOk result (λ whole. whole ≡ self.now) }
+    {
+        self.writes.applied(alloc, self.snapshot)
+    }
+}

@@ -1,0 +1,26 @@
+use Rattle.std.proofs.Common.{◌≡◌, ◌-◌, [], ◌∷◌, ◌++◌, rules, slice_set}
+use Rattle.undo_rules.specs.declared.log.Answer.TheVariants.{Refused}
+use Rattle.undo_rules.specs.declared.log.BookFault.TheVariants.{Stale}
+use Rattle.undo_rules.specs.declared.log.Call.TheVariants.{Commit}
+use Rattle.undo_rules.specs.Steps.{ended_state, state_of}
+use Rattle.undo_book.specs.Books.{history_of}
+use Rattle.undo_book.proofs.CommitLemmas.{LeavesStale, stale_so}
+use Rattle.undo_book.proofs.book.Book.end_stale.Goals as goal
+
+-- what is left at the end
+left : (c : goal.After-end_pending) → LeavesStale c.args.self.now (history_of (record c.self.inside {
+  log = c.push.new.self;
+  sessions = c.end_pending.new.sessions;
+})) c.args.work c.args.other
+left c =
+    let b = history_of c.self.inside in
+    let work = c.args.work in
+    let log : c.push.new.self.items ≡ c.self.inside.log.items
+    ++ record { session = work.id.session; call = Commit work.id work.commands; answer = Refused (Stale c.args.other) } ∷ [] = search rules in
+    let sessions : c.end_pending.new.sessions.items ≡ slice_set c.self.inside.sessions.items (work.id.session - 1)
+    (ended_state (state_of b work.id.session)) = search rules in
+    stale_so b c.args.self.now c.self.view_is c.self.invariant.history work c.args.other c.requires.own c.push.new.self.items
+    c.end_pending.new.sessions.items log sessions
+
+pub invariant_of-self-2 : goal.invariant_of-self-2
+invariant_of-self-2 c = record { history = (left c).history; places = c.self.invariant.places }

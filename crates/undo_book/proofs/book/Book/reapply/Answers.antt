@@ -1,0 +1,78 @@
+use Rattle.std.proofs.Common.{◌≡◌, ◌<◌, [], ◌∷◌, ◌++◌, ◌∙◌, ap, arith, true, length, rules, subst, sym}
+use Rattle.std.specs.Vec.{vec_len}
+use Rattle.undo_rules.specs.declared.log.Answer.TheVariants.{Redone}
+use Rattle.undo_rules.specs.declared.log.Call.TheVariants.{Redo}
+use Rattle.undo_rules.specs.Books.{History}
+use Rattle.undo_rules.specs.Links.{Entry}
+use Rattle.undo_rules.specs.Steps.{remarked}
+use Rattle.txn_rules.specs.Records.{AreProper, applied}
+use Rattle.lay_items.specs.Sound.{IsSound}
+use Rattle.undo_book.specs.Books.{history_of}
+use Rattle.undo_book.specs.Places.{AreTheirPlaces}
+use Rattle.undo_book.proofs.IndexLemmas.{places_marked}
+use Rattle.undo_book.proofs.PlaceLemmas.{place_within}
+use Rattle.undo_book.proofs.UndoLemmas.{LeavesRedone, redone_at}
+use Rattle.undo_book.proofs.book.Book.reapply.Goals as goal
+
+pub index-entry-requires : goal.index-entry-requires
+index-entry-requires c =
+    let within : c.args.place < length c.self.inside.entries.items =
+    subst (λ (h : History). c.args.place < length h.entries) (sym c.self.view_is)
+    (place_within c.args.self.now.entries c.args.txn c.args.place c.requires.place) in
+    let len : vec_len c.self.inside.entries ≡ length c.self.inside.entries.items = search rules in
+    omega (arith, within, len)
+
+pub applied-requires-clause-proper : goal.applied-requires-clause-proper
+applied-requires-clause-proper c =
+    subst (λ (e : Entry). AreProper e.writes) (sym c.entry.view_is)
+    (redone_at (history_of c.self.inside) c.args.self.now c.self.view_is c.self.invariant.history c.args.session c.args.txn c.args.place
+    c.index-entry.result.now c.requires.place c.index-entry.ensures c.requires.free).proper
+
+pub applied-requires-clause-sound : goal.applied-requires-clause-sound
+applied-requires-clause-sound c =
+    subst (λ (e : Entry). IsSound (applied c.self.inside.layout e.writes)) (sym c.entry.view_is)
+    (redone_at (history_of c.self.inside) c.args.self.now c.self.view_is c.self.invariant.history c.args.session c.args.txn c.args.place
+    c.index-entry.result.now c.requires.place c.index-entry.ensures c.requires.free).sound
+
+pub mark_at-requires : goal.mark_at-requires
+mark_at-requires c =
+    let within : c.args.place < length c.self.inside.entries.items =
+    subst (λ (h : History). c.args.place < length h.entries) (sym c.self.view_is)
+    (place_within c.args.self.now.entries c.args.txn c.args.place c.requires.place) in
+    let len : vec_len c.self.inside.entries ≡ length c.self.inside.entries.items = search rules in
+    omega (arith, within, len)
+
+-- what is left at the end
+left : (c : goal.After-drop-self-inside) → LeavesRedone c.args.self.now (history_of (record c.self.inside {
+  layout = c.in_ok-layout.layout;
+  log = c.push.new.self;
+  entries = c.mark_at.new.entries;
+})) c.args.session c.args.txn
+left c =
+    let can = redone_at (history_of c.self.inside) c.args.self.now c.self.view_is c.self.invariant.history c.args.session c.args.txn c.args.place
+    c.index-entry.result.now c.requires.place c.index-entry.ensures c.requires.free in
+    let written : c.in_ok-layout.layout ≡ applied c.self.inside.layout c.entry.inside.writes = search rules in
+    let layout : c.in_ok-layout.layout ≡ applied c.self.inside.layout c.index-entry.result.now.writes =
+    written ∙ ap (λ (e : Entry). applied c.self.inside.layout e.writes) c.entry.view_is in
+    let log : c.push.new.self.items ≡ c.self.inside.log.items
+    ++ record { session = c.args.session; call = Redo c.args.txn; answer = Redone } ∷ [] = search rules in
+    can.left c.in_ok-layout.layout c.push.new.self.items c.mark_at.new.entries.items layout log
+    (c.mark_at.ensures c.index-entry.result.now can.there)
+
+pub invariant_of-self-2 : goal.invariant_of-self-2
+invariant_of-self-2 c =
+    let is = left c in
+    let h : History = history_of c.self.inside in
+    let marks : c.mark_at.new.entries.items ≡ remarked true c.args.txn h.entries =
+    is.marks ∙ ap (λ (x : History). remarked true c.args.txn x.entries) (sym c.self.view_is) in
+    record {
+      history = is.history;
+      places = subst (AreTheirPlaces c.self.inside.places.entries) (sym marks)
+          (places_marked c.self.inside.places.entries true c.args.txn h.entries c.self.invariant.places);
+    }
+
+pub returns-clause-ok : goal.returns-clause-ok
+returns-clause-ok c = (left c).is
+
+pub returns-clause-again : goal.returns-clause-again
+returns-clause-again c = (left c).again

@@ -1,0 +1,15 @@
+use Rattle.std.proofs.Common.{[], rules, refl}
+use Rattle.undo_book.specs.Places.{AreTheirPlaces}
+use Rattle.undo_book.proofs.SoundLemmas.{begins_history}
+use Rattle.undo_book.proofs.book.Book.with_log.Goals as goal
+
+-- no name has a place
+no_places : AreTheirPlaces [] []
+no_places txn = refl
+
+pub invariant_of-result-2 : goal.invariant_of-result-2
+invariant_of-result-2 c =
+    record {
+      history = begins_history _ c.base.invariant (search rules) (search rules) (search rules) (search rules);
+      places = search rules;
+    }

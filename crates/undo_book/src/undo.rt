@@ -1,0 +1,69 @@
+//! Undo.
+ghost use Rattle.std.specs.Prelude.{◌≡◌, ◌≤◌, OnErr, OnOk, Err, None, Some, false, true};
+ghost use Rattle.undo_rules.specs.Steps.{after_undo, is_log_full, undo_refusal, undo_step, with_mark};
+ghost use Rattle.undo_book.specs.Calls.{Takes};
+ghost use Rattle.undo_book.specs.Places.{place_of};
+ghost use Rattle.undo_book.specs.Replays.{CanBeRedone, replay};
+
+use crate::book::Book;
+use crate::entry::mark_at;
+use lay_point::NoMemory;
+use std::alloc::Global;
+use txn_rules::TxnId;
+use undo_rules::{Answer, BookFault, Call, Logged};
+
+impl Book {
+    /// Undoes a committed transaction, of any session. Refused as `LogFull`, then as `NoTxn`, as `NotLive`,
+    /// and as `Depends` with the first later live transaction that touched what this one wrote. All but
+    /// `LogFull` and `NoMemory` are logged.
+    pub fn undo(&mut self, alloc: Global, session: u8, txn: TxnId) -> Result<(), BookFault>
+        requires low { 1 ≤ session }
+        requires high { session ≤ 64 }
+        ensures step { Takes self.old (undo_step self.old session txn) result self.new }
+        ensures full { is_log_full self.old ≡ true → result ≡ Err BookFault.LogFull }
+        // The layout is that of the same history without the transaction.
+        ensures without { OnOk result (replay (with_mark self.old false txn) ≡ Some self.new.layout) }
+        // A redo at once is accepted, and leads back to the former layout.
+        ensures again { OnOk result (CanBeRedone self.new session txn self.old.layout) }
+    {
+        if self.is_full() {
+            return Err(BookFault::LogFull);
+        }
+        match self.undo_place(txn) {
+            Ok(place) => Ok(self.revert(alloc, session, txn, place)?),
+            Err(fault) => {
+                self.log_refusal(session, Call::Undo(txn), fault)?;
+                Err(fault)
+            }
+        }
+    }
+
+    /// Reverts the transaction at this place, which nothing is against.
+    fn revert(
+        &mut self,
+        alloc: Global,
+        session: u8,
+        txn: TxnId,
+        place: usize,
+    ) -> Result<(), NoMemory>
+        requires place { place_of txn self.old.entries ≡ Some place }
+        requires free { undo_refusal self.old txn ≡ None }
+        ensures ok { OnOk result (self.new ≡ after_undo self.old session txn) }
+        ensures without { OnOk result (replay (with_mark self.old false txn) ≡ Some self.new.layout) }
+        ensures again { OnOk result (CanBeRedone self.new session txn self.old.layout) }
+        ensures err { OnErr result (self.new ≡ self.old) }
+    {
+        let entry = &self.entries[place];
+        let layout = entry.writes.reverted(alloc, &self.layout)?;
+        self.log.reserve(1)?;
+        mark_at(&mut self.entries, place, false);
+        let logged = Logged {
+            session,
+            call: Call::Undo(txn),
+            answer: Answer::Undone,
+        };
+        self.log.push(logged).unwrap();
+        self.layout = layout;
+        Ok(())
+    }
+}

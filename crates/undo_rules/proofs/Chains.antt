@@ -1,0 +1,73 @@
+-- A transaction that no later live one has touched can be taken out of a chain, and put in again.
+use Rattle.std.proofs.Common.{◌≡◌, Bool, true, false, cond, ◌&&◌, List, [], ◌∷◌, None, Some, refl, subst}
+use Rattle.std.specs.Prelude.{MatchBool}
+use Rattle.lay_items.specs.Layout.{Layout}
+use Rattle.txn_rules.specs.Agreement.{AgreeOn}
+use Rattle.txn_rules.specs.Elements.{Touched}
+use Rattle.txn_rules.specs.Records.{AreProper, Lead, Records}
+use Rattle.txn_rules.proofs.Agreements.{agree-sym}
+use Rattle.undo_rules.specs.declared.log.Logged.{Logged}
+use Rattle.undo_rules.specs.Histories.{Chain, Ran}
+use Rattle.undo_rules.specs.Links.{Entry, first_reader, touches}
+use Rattle.undo_rules.proofs.Grounds.{apart, ran_again, ran_past}
+use Rattle.txn_rules.proofs.Overlay.{unmet_agree}
+
+-- no live one of these transactions has touched what was written
+abbrev pub AreUnread : Records → List Entry → Type 0
+AreUnread ws [] = Unit {0}
+AreUnread ws (entry ∷ entries) = (entry.live ≡ true → touches ws entry.footprint ≡ false) × AreUnread ws entries
+
+pub no_reader : (ws : Records) (entries : List Entry) → first_reader ws entries ≡ None → AreUnread ws entries
+no_reader ws [] h = tt
+no_reader ws (entry ∷ entries) h = by entry.live refl (touches ws entry.footprint) refl h (no_reader ws entries) where
+  by : (live : Bool) → entry.live ≡ live → (met : Bool) → touches ws entry.footprint ≡ met
+      → cond (live && met) (Some entry.txn) (first_reader ws entries) ≡ None → (first_reader ws entries ≡ None → AreUnread ws entries)
+      → (entry.live ≡ true → touches ws entry.footprint ≡ false) × AreUnread ws entries
+  by true is true told h rest = absurd cc
+  by true is false told h rest = ((λ live. told), rest h)
+  by false is met told h rest = ((λ live. absurd cc), rest h)
+
+module _ (log : List Logged) where
+  agreed : (ws : Records) (touched : Touched) (l m : Layout) → Lead ws l m → touches ws touched ≡ false → AgreeOn l m touched
+  agreed ws touched l m lead free e has = unmet_agree ws l m e lead (apart ws touched free e has)
+
+  -- the chain without the records, which lead to the layout with them
+  pub without_them : (ws : Records) (entries : List Entry) (l m last : Layout) → AreProper ws → Lead ws l m → AreUnread ws entries → Chain log m entries last
+      → (end : Layout) × Chain log l entries end × Lead ws end last
+  without_them ws [] l m last proper lead unread chain = (l, refl, subst (λ (x : Layout). Lead ws l x) chain lead)
+  without_them ws (entry ∷ entries) l m last proper lead unread chain =
+      by entry.live refl chain (λ k n. without_them ws entries k n last proper) where
+        by : (live : Bool) → entry.live ≡ live
+            → MatchBool live ((next : Layout) × Ran log entry m next × Chain log next entries last) (Chain log m entries last)
+            → ((k n : Layout) → Lead ws k n → AreUnread ws entries → Chain log n entries last
+            → (end : Layout) × Chain log k entries end × Lead ws end last)
+            → (end : Layout)
+            × MatchBool live ((next : Layout) × Ran log entry l next × Chain log next entries end) (Chain log l entries end)
+            × Lead ws end last
+        by true is (n, ran, chain) rest =
+            let free = unread.0 is in
+            let (k, alike, agree) = ran_again log entry m l n (λ e has. agree-sym l m e (agreed ws entry.footprint l m lead free e has)) ran in
+            let (end, others, led) = rest k n (ran_past log ws entry l m k n proper free lead alike ran
+            (λ e has. agree-sym n k e (agree e has))) unread.1 chain in
+            (end, (k, alike, others), led)
+        by false is chain rest = rest l m lead unread.1 chain
+
+  -- the chain with the records, which lead to it from the layout without them
+  pub with_them : (ws : Records) (entries : List Entry) (l m last : Layout) → AreProper ws → Lead ws l m → AreUnread ws entries → Chain log l entries last
+      → (end : Layout) × Chain log m entries end × Lead ws last end
+  with_them ws [] l m last proper lead unread chain = (m, refl, subst (λ (x : Layout). Lead ws x m) chain lead)
+  with_them ws (entry ∷ entries) l m last proper lead unread chain =
+      by entry.live refl chain (λ k n. with_them ws entries k n last proper) where
+        by : (live : Bool) → entry.live ≡ live
+            → MatchBool live ((next : Layout) × Ran log entry l next × Chain log next entries last) (Chain log l entries last)
+            → ((k n : Layout) → Lead ws k n → AreUnread ws entries → Chain log k entries last
+            → (end : Layout) × Chain log n entries end × Lead ws last end)
+            → (end : Layout)
+            × MatchBool live ((next : Layout) × Ran log entry m next × Chain log next entries end) (Chain log m entries end)
+            × Lead ws last end
+        by true is (k, ran, chain) rest =
+            let free = unread.0 is in
+            let (n, alike, agree) = ran_again log entry l m k (agreed ws entry.footprint l m lead free) ran in
+            let (end, others, led) = rest k n (ran_past log ws entry l m k n proper free lead ran alike agree) unread.1 chain in
+            (end, (n, alike, others), led)
+        by false is chain rest = rest l m lead unread.1 chain

@@ -1,0 +1,14 @@
+pub mod Grounds
+pub mod Laying
+pub mod EqualLinks
+pub mod Chains
+pub mod Roots
+pub mod Undoing
+pub mod Committing
+pub mod Moved
+pub mod HistoryLaws
+pub mod Logs
+pub mod Finding
+pub mod StepLaws
+pub mod OpenLaws
+pub mod CommitLaws
