@@ -2,10 +2,10 @@
 
 use super::*;
 use crate::text::push_call;
-use crate::wrap::{least_unused, plain_target};
+use crate::wrap::least_unused;
 use byte_io::{Failing, MemoryOut};
-use lay_cells::{CellId, Cells};
-use lay_items::{Item, Snapshot};
+use lay_cells::Cells;
+use lay_items::Snapshot;
 use lay_point::{Point, Quarter, Turn};
 use std::alloc::Global;
 use std::test::*;
@@ -129,29 +129,28 @@ fn the_wrapping_symbol_has_the_least_unused_number(rt: HostRuntime) -> Result<()
 // Could catch a top cell that is wrapped though it is one plain call, and one that isn't though it is more.
 #[test]
 fn only_one_plain_call_is_not_wrapped(rt: HostRuntime) {
-    let plain = |target| Item::Placed {
-        cell: CellId::Top,
-        target,
-        turn: turn(false, Quarter::R0, 0, 0),
-    };
-    let turned = |turn| Item::Placed {
-        cell: CellId::Top,
-        target: 3,
-        turn,
-    };
-    assert_eq!(rt; plain_target(&[plain(3)]), Some(3));
-    assert_eq!(rt; plain_target(&[]), None);
-    assert_eq!(rt; plain_target(&[plain(3), plain(3)]), None);
-    assert_eq!(rt;
-        plain_target(&[turned(turn(true, Quarter::R0, 0, 0))]),
-        None
-    );
-    assert_eq!(rt;
-        plain_target(&[turned(turn(false, Quarter::R180, 0, 0))]),
-        None
-    );
-    assert_eq!(rt;
-        plain_target(&[turned(turn(false, Quarter::R0, 0, 1))]),
-        None
-    );
+    let rows: [(&[u8], &[u8]); 5] = [
+        (b"DS 3; DF; C 3; E", b"DS 3 1 2;\nDF;\nC 3;\nE\n"),
+        (
+            b"DS 3; DF; C 3; C 3; E",
+            b"DS 3 1 2;\nDF;\nDS 1 1 2;\nC 3;\nC 3;\nDF;\nC 1;\nE\n",
+        ),
+        (
+            b"DS 3; DF; C 3 M X; E",
+            b"DS 3 1 2;\nDF;\nDS 1 1 2;\nC 3 M X;\nDF;\nC 1;\nE\n",
+        ),
+        (
+            b"DS 3; DF; C 3 R -1 0; E",
+            b"DS 3 1 2;\nDF;\nDS 1 1 2;\nC 3 R -1 0;\nDF;\nC 1;\nE\n",
+        ),
+        (
+            b"DS 3; DF; C 3 T 0 1; E",
+            b"DS 3 1 2;\nDF;\nDS 1 1 2;\nC 3 T 0 2;\nDF;\nC 1;\nE\n",
+        ),
+    ];
+    for (text, want) in rows {
+        let mut out = MemoryOut::new(rt.alloc(), 1000, 1000, Failing::ByErr);
+        assert_eq!(rt; rewrite(rt.alloc(), text, &mut out), Ok(()), "{want:?}");
+        assert_eq!(rt; out.written(), want);
+    }
 }

@@ -87,8 +87,8 @@ fn items_are_lent_in_order_of_their_ids(rt: HostRuntime) -> Result<(), Fail> {
     let one = with_square(alloc, &Version::new(alloc)?, made, b"B")?;
     let two = with_square(alloc, &one, id(9), b"A")?;
     let mut items = two.iter();
-    assert!(rt; items.next().map(|(id, _)| *id) == Some(id(9)));
-    assert!(rt; items.next().map(|(id, _)| *id) == Some(made));
+    assert!(rt; items.next().map(|(id, _)| id) == Some(id(9)));
+    assert!(rt; items.next().map(|(id, _)| id) == Some(made));
     assert!(rt; items.next().is_none());
     Ok(())
 }

@@ -25,11 +25,7 @@ pub(crate) fn same_in_cell(element: &Element, mut l: Items<'_>, mut m: Items<'_>
 }
 
 /// Returns whether the same of all items of two layouts lie in the element.
-pub(crate) fn same_among_all(
-    element: &Element,
-    mut l: Entries<'_>,
-    mut m: Entries<'_>,
-) -> bool
+pub(crate) fn same_among_all(element: &Element, mut l: Entries<'_>, mut m: Entries<'_>) -> bool
     ensures { result ≡ pointwise entry_eq (lying element.now l.entry) (lying element.now m.entry) }
 {
     while let Some((id, item)) = next_among_all(element, &mut l) {
@@ -64,10 +60,7 @@ fn next_in_cell<'a>(element: &Element, items: &mut Items<'a>) -> Option<(ItemId,
 }
 
 /// Returns the next of these items that lies in the element, if there is one.
-fn next_among_all<'a>(
-    element: &Element,
-    items: &mut Entries<'a>,
-) -> Option<(ItemId, &'a Item)>
+fn next_among_all<'a>(element: &Element, items: &mut Entries<'a>) -> Option<(ItemId, &'a Item)>
     ensures { YieldsFirstBy (λ lent. (lent.0, lent.1.now)) (lying element.now)
         items.old result items.new }
 {

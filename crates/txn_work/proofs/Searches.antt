@@ -80,6 +80,7 @@ same_search l (suc k) (n ∷ pending) found seen rest h e =
     (λ later g. same_search l k (called_in l n ++ pending) (found ++ n ∷ []) (Symbol n ∷ seen) later (entered_too) g) where
       entered_too : (m : ℕ) → is_among (Symbol m) (Symbol n ∷ seen) ≡ has_symbol (found ++ n ∷ []) m
       entered_too m = ap (λ b. nat_eq m n || b) (h m) ∙ sym (has_more found n m)
+
       by_seen : Goes (targets (calls_of l)) k (Symbol n) (map Symbol pending) seen rest →
           (explored (targets (calls_of l)) k (map Symbol pending) seen ≡ Some rest → FindsSame l k pending found rest) →
           ((later : List CellId) → explored (targets (calls_of l)) k (map Symbol (called_in l n ++ pending)) (Symbol n ∷ seen) ≡ Some later →
@@ -107,7 +108,7 @@ pub ends_reached : (l : Layout) (from : ℕ) →
 unfolding symbols_from
 ends_reached l from =
     let s = same_search l (1 + length (calls_of l)) (from ∷ []) [] [] (reached l (Symbol from)) (λ n. refl)
-        (reached-found (calls_of l) (Symbol from)) in
+    (reached-found (calls_of l) (Symbol from)) in
     let is : unwrap_or (searched (called_in l) (1 + length (calls_of l)) (from ∷ []) []) [] ≡ s.more = ap (λ o. unwrap_or o []) s.finds in
     (s.finds ∙ ap Some (sym is), ap (map Symbol) is ∙ s.same)
 

@@ -23,6 +23,7 @@ pub below : (a b : ℤ) → int_eq a b ≡ false → int_min a b <ℤ int_max a 
 below a b h = by_order (int_lt b a) refl where
   differ : a ≢ b
   differ e = let t : int_eq a b ≡ true = (Decides-int_eq a b).1 e in cc
+
   by_order : (t : Bool) → int_lt b a ≡ t → cond t b a <ℤ cond t a b
   by_order true h = let g : b <ℤ a = grind (arith, ints, nat_tests) in g
   by_order false h = let g : a <ℤ b = grind (arith, ints, nat_tests, differ) in g

@@ -118,7 +118,9 @@ fn moved_call(cell: CellId, target: u32, turn: Turn, by: Point) -> Option<Item>
 {
     let shift = moved_point(turn.shift, by)?;
     let Turn {
-        mirror, quarter, ..
+        mirror,
+        quarter,
+        ..
     } = turn;
     let turn = Turn {
         mirror,

@@ -11,7 +11,6 @@ loop-number-init c = record {
   searches = rw (c.in_ok-pending.ensures, c.new-found.ensures.items) (begins c.args.layout.now c.args.from);
 }
 
-
 -- a symbol that wasn't found is found, and those that it calls are pending
 pub loop-number-smaller-in-Continue-branch-4 : goal.loop-number-smaller-in-Continue-branch-4
 loop-number-smaller-in-Continue-branch-4 c =

@@ -21,8 +21,7 @@ returns-clause-err c =
     let same : c.deref-in-Err.result.now ≡ c.deref.result.now = search rules in
     let added : c.add_all.new.footprint ≡ with_elements c.args.footprint.now c.deref.result.now = search rules in
     let none : HasNone c.args.footprint.now c.deref.result.now = rw fresh (missing_none c.args.footprint.now c.args.elements.now) in
-    let gone : c.remove_all.new.footprint ≡ without_elements c.add_all.new.footprint c.deref.result.now = search rules in
-    (
+    let gone : c.remove_all.new.footprint ≡ without_elements c.add_all.new.footprint c.deref.result.now = search rules in (
       gone ∙ ap (λ t. without_elements t c.deref.result.now) added ∙ all_undone c.args.footprint.now c.deref.result.now none,
       search rules,
     )
