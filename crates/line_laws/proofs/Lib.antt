@@ -1,0 +1,5 @@
+pub mod Digits
+pub mod Fields
+pub mod Joined
+pub mod Plain
+pub mod Said
