@@ -99,7 +99,8 @@ marked_centre sides c (inr (e, f, m, n, x)) =
 pub centre_marked : (sides : List (Point × Point)) (c : Point) → Has (hot_centres sides) c → IsMarked sides c
 unfolding hot_centres
 centre_marked sides c m =
-    let mark = has_flat_map (marks_of sides) sides c (has_sorted point_order IsBefore points_ranked (flat_map (marks_of sides) sides) c m) in
+    let marks = flat_map (marks_of sides) sides in
+    let mark = has_flat_map (marks_of sides) sides c (has_sorted point_order IsBefore points_ranked marks c m) in
     by_mark mark.0 mark.1 mark.2
   where
     by_mark : (e : Point × Point) → Has sides e → Has (marks_of sides e) c → IsMarked sides c

@@ -1,5 +1,6 @@
 -- What is computed is a rounding of the rings.
-use Rattle.std.proofs.Common.{◌≡◌, ◌↔◌, inl, inr, Bool, true, false, cond, List, [], ◌∷◌, ◌++◌, map, refl, sym, ap, ap₂, subst, ◌∙◌, Contains, arith}
+use Rattle.std.proofs.Common.{◌≡◌, ◌↔◌, inl, inr, Bool, true, false, cond, List, [], ◌∷◌, ◌++◌, map, Contains, refl, sym, ap, ap₂}
+use Rattle.std.proofs.Common.{subst, ◌∙◌, arith}
 use Rattle.std.specs.List.{AllByRecursion, AllZip, filter}
 use Rattle.std.proofs.lemmas.Bool.{false≢true}
 use Rattle.std.proofs.lemmas.List.{map-append}
@@ -21,14 +22,16 @@ use Rattle.snap_chains.specs.Sides.{ends_of}
 use Rattle.snap_chains.proofs.PathLemmas.{Has-map}
 use Rattle.snap_chains.proofs.VisitOrder.{owner_eq-Decides}
 use Rattle.round_laws.specs.Crossings.{hot_centres}
-use Rattle.round_laws.specs.Laws.{RoundingExists}
+use Rattle.round_laws.specs.Laws.{RoundingExists, RoundingIsComputed}
 use Rattle.round_laws.specs.Meeting.{meets_of}
 use Rattle.round_laws.specs.Rounding.{chain_of, edges_gone, owners_of, rounded_of, sides_of, walk_of, walks_round, way_order}
 use Rattle.round_laws.specs.Sorting.{edge_order, owner_order}
 use Rattle.round_laws.proofs.Crossing.{centre_marked, marked_centre}
 use Rattle.round_laws.proofs.Meeting.{meets_is}
+use Rattle.round_laws.proofs.Unique.{rounding_is_unique}
 use Rattle.round_laws.proofs.Sides.{IsBelowOn, IsMarked, hot_marked, marked_hot}
-use Rattle.round_laws.proofs.Sorting.{edges_ranked, filter_has, has_filter, has_sorted, owners_ranked, sorted_has, sorted_rising, way_ranked}
+use Rattle.round_laws.proofs.Sorting.{edges_ranked, owners_ranked, way_ranked}
+use Rattle.round_laws.proofs.Sorting.{filter_has, has_filter, has_sorted, sorted_has, sorted_rising}
 
 -- ---- segments with these sides
 abbrev HasSides : List (Point × Point) → Type 0
@@ -89,20 +92,23 @@ module _ (segments : List Segment) (sides : List (Point × Point)) (are_sides : 
       coe 0 1 (i. IsRoundedPath segments (ea i ∷ eb i ∷ path) (chain_of hot (ea i) (eb i) ++ tail rest))
       (further s path (chain_of hot s.a s.b) rest given (chain_is s) (subst (λ v. IsRoundedPath segments (v ∷ path) rest) (sym eb) h))
 
-  path_is : (p : Point) (path : List Point) → ((e : Point × Point) → Has (pairs (p ∷ path)) e → Has (map ends_of segments) e)
-      → IsRoundedPath segments (p ∷ path) (walk_of hot (p ∷ path))
+  -- each of these is a side
+  abbrev AreAmong : List (Point × Point) → Type 0
+  AreAmong some = (e : Point × Point) → Has some e → Has (map ends_of segments) e
+
+  path_is : (p : Point) (path : List Point) → AreAmong (pairs (p ∷ path)) → IsRoundedPath segments (p ∷ path) (walk_of hot (p ∷ path))
   path_is p [] inside = point p
   path_is p (q ∷ path) inside =
       let s = Has-map ends_of segments (p, q) (inside (p, q) (inl refl)) in
       one_side s.0 p q path (walk_of hot (q ∷ path)) (ap (λ (e : Point × Point). e.0) s.2) (ap (λ (e : Point × Point). e.1) s.2)
       (contains segments s.0 s.1) (path_is q path (λ e m. inside e (inr m)))
 
-  walk_is : (ring : List Point) → IsRing ring → ((e : Point × Point) → Has (pairs (closed ring)) e → Has (map ends_of segments) e)
+  walk_is : (ring : List Point) → IsRing ring → AreAmong (pairs (closed ring))
       → IsRoundedPath segments (closed ring) (walk_of hot (closed ring))
   walk_is [] h inside = absurd (omega (arith, h.enough))
   walk_is (p ∷ ps) h inside = path_is p (ps ++ p ∷ []) inside
 
-  walks_are : (rings : List (Owner × List Point)) → AreAllRings rings → ((e : Point × Point) → Has (sides_of rings) e → Has (map ends_of segments) e)
+  walks_are : (rings : List (Owner × List Point)) → AreAllRings rings → AreAmong (sides_of rings)
       → AllZip (λ r w. IsRoundedPath segments (closed r.1) w) rings (map (λ r. walk_of hot (closed r.1)) rings)
   walks_are [] h inside = tt
   walks_are (r ∷ rings) h inside = (
@@ -174,3 +180,6 @@ rounding_exists rings are =
       edges = edges_are walks;
       owners = all_owners_are rings walks (edges_gone walks);
     }
+
+pub rounding_is_computed : RoundingIsComputed
+rounding_is_computed rings are r h = rounding_is_unique rings are r (rounded_of rings) h (rounding_exists rings are)

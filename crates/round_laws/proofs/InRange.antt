@@ -1,5 +1,5 @@
--- What rounding makes is in order, clean and in range. A place between two coordinates is rounded to one between them, so a hot centre is no
--- further out than the ends of the sides.
+-- What rounding makes is in order, clean and in range. A place between two coordinates is rounded to one between them, so a hot centre
+-- is no further out than the ends of the sides.
 use Rattle.std.proofs.Common.{◌≡◌, inl, inr, Bool, true, false, cond, ◌&&◌, List, [], ◌∷◌, ℤ, neg_ℤ, ◌-ℤ◌, ◌*ℤ◌}
 use Rattle.std.proofs.Common.{◌≤ℤ◌, refl, subst, arith, ⊎_elim, Contains}
 use Rattle.std.specs.Prelude.{int_le}
@@ -85,8 +85,9 @@ rounded_is_rounded rings are r h = record {
   lesser_first = λ e m.
       let p = comes_from rings r h e m in
       let g = p.rounded in
-      let differ = ends_differ g.s p.pair.0 p.pair.1
-      (edge_of_neighbours (IsHot h.rounded.segments) g.s g.chain p.pair.0 p.pair.1 g.is_chain (has (pairs g.chain) p.pair g.neighbours)).below in
+      let edge = edge_of_neighbours (IsHot h.rounded.segments) g.s g.chain p.pair.0 p.pair.1 g.is_chain
+      (has (pairs g.chain) p.pair g.neighbours) in
+      let differ = ends_differ g.s p.pair.0 p.pair.1 edge.below in
       subst (λ f. is_before f.0 f.1 ≡ true) p.goes (lesser_first p.pair differ);
 }
 

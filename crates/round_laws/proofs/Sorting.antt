@@ -168,7 +168,8 @@ points_ranked =
 
 pub edges_ranked : IsRanked edge_order IsEdgeBefore
 edges_ranked =
-    ranked_by (λ (e : Point × Point). e.0) (λ (e : Point × Point). e.1) point_order point_order IsBefore IsBefore points_ranked points_ranked
+    ranked_by (λ (e : Point × Point). e.0) (λ (e : Point × Point). e.1) point_order point_order IsBefore IsBefore
+    points_ranked points_ranked
     (λ e f first second. λ i. (first i, second i))
 
 pub way_ranked : (a b : Point) → IsRanked (way_order a b) (IsBelowOn a b)

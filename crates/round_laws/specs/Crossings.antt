@@ -15,18 +15,19 @@ nearest a k = int_div_euclid (pos 2 *ℤ a +ℤ k) (pos 2 *ℤ k)
 abbrev pub is_fraction : ℤ → ℤ → Bool
 is_fraction t k = int_le (pos 0) t && int_le t k
 
--- of two segments from a to b and from c to d, of which the second turns left from the first: the lines meet at t / k of the way
--- along the first and at u / k of the way along the second, where k, t and u are these areas
+-- the pixel of the point at t / k of the way from a to b, where t / k and u / k are both from 0 to 1
 abbrev pub met_at : Point → Point → ℤ → ℤ → ℤ → Option Point
 met_at a b k t u =
     if is_fraction t k && is_fraction u k
     then Some (record { x = nearest (along k t a.x b.x) k; y = nearest (along k t a.y b.y) k })
     else None
 
+-- the pixel of the common point of the segments from a to b and from c to d, of which the second turns left from the first: their
+-- lines meet at t / k of the way along the first and at u / k of the way along the second, where k, t and u are these areas
 abbrev pub left_crossing : Point → Point → Point → Point → Option Point
 left_crossing a b c d = met_at a b (cross a b c d) (cross a c c d) (cross a c a b)
 
--- the centre of the pixel of the common point of two segments that aren't parallel
+-- the centre of the pixel of the common point of two segments that aren't parallel, where they have one
 unfoldable pub crossing_of : Point → Point → Point → Point → Option Point
 crossing_of a b c d =
     if int_lt (pos 0) (cross a b c d) then left_crossing a b c d

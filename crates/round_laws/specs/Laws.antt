@@ -22,6 +22,10 @@ abbrev pub RoundingIsUnique : Type 0
 RoundingIsUnique = (rings : List (Owner × List Point)) → AreRings rings →
     (r r' : Owned) → IsRoundOf rings r → IsRoundOf rings r' → r ≡ r'
 
+-- so any rounding of the rings is what is computed
+abbrev pub RoundingIsComputed : Type 0
+RoundingIsComputed = (rings : List (Owner × List Point)) → AreRings rings → (r : Owned) → IsRoundOf rings r → r ≡ rounded_of rings
+
 -- edges in order, each from its lesser end to its greater, that meet at their ends alone
 pub record AreInOrder (r : Owned) : Type 0 where
   pub rounded : IsRounded r

@@ -8,7 +8,7 @@ use Rattle.snap_chains.specs.declared.owner.Input.{Input}
 use Rattle.snap_chains.specs.declared.owner.Input.TheVariants.{First, Second}
 use Rattle.snap_chains.specs.declared.owner.Owner.{Owner}
 
--- one of three, by an order
+-- one of three, by what an order answers
 abbrev pub by_order : {A : Type 0} → Ordering → A → A → A → A
 by_order Less less same more = less
 by_order Equal less same more = same

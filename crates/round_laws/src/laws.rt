@@ -3,6 +3,7 @@ ghost use Rattle.round_laws.specs.Laws.{
   RoundedIsInRange,
   RoundedIsRounded,
   RoundingExists,
+  RoundingIsComputed,
   RoundingIsUnique,
 };
 
@@ -10,6 +11,7 @@ ghost use Rattle.round_laws.specs.Laws.{
 pub fn roundings_are_unique()
     ensures exists { RoundingExists }
     ensures unique { RoundingIsUnique }
+    ensures computed { RoundingIsComputed }
     ensures rounded { RoundedIsRounded }
     ensures in_range { RoundedIsInRange }
 {}
