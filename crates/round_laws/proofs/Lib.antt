@@ -1,0 +1,7 @@
+pub mod Sides
+pub mod Unique
+pub mod InRange
+pub mod Sorting
+pub mod Crossing
+pub mod Meeting
+pub mod Exists

@@ -1,0 +1,5 @@
+pub mod Laws
+pub mod Crossings
+pub mod Meeting
+pub mod Rounding
+pub mod Sorting
