@@ -1,0 +1,162 @@
+-- Steps in the printed order answer alike.
+use Rattle.std.proofs.Common.{◌≡◌, ℕ, zero, suc, ◌<◌, ◌≤◌, List, [], ◌∷◌, ◌++◌, get_or, length, map, refl, ap, sym}
+use Rattle.std.proofs.Common.{None, replicate, subst, ◌∙◌, arith, drop}
+use Rattle.std.specs.Prelude.{All, IsPermutation}
+use Rattle.std.specs.List.{range_with_len}
+use Rattle.std.proofs.lemmas.List.{get_or_default, length-replicate, same_lists}
+use Rattle.std.proofs.lemmas.List.Elements.{recursion_from_All}
+use Rattle.std.proofs.lemmas.List.Sorted.{IsPermutation-cons, IsPermutation-refl, IsPermutation-swap, IsPermutation-trans}
+use Rattle.lay_items.specs.Layout.{Layout}
+use Rattle.undo_rules.specs.declared.log.Logged.{Logged}
+use Rattle.session_steps.specs.declared.Reply.{Reply}
+use Rattle.session_steps.specs.declared.Step.{Step}
+use Rattle.session_steps.specs.Turns.{dealt, in_turn}
+use Rattle.session_core.specs.Machine.{Ran, State, after_steps, start, step_outcome}
+use Rattle.session_core.proofs.MachineLemmas.{started}
+use Rattle.job_text.specs.Order.{is_logged, order_behind, order_of}
+use Rattle.order_laws.specs.Rearranged as rearranged
+use Rattle.order_laws.specs.Rearranged.{AnswersAlike, IsTaken, dealt_out, hands, scripts}
+use Rattle.order_laws.proofs.Events.{Event}
+use Rattle.order_laws.proofs.Swaps.{Swapped, all_same, behind, both, goes_on, none, own, own_same, swap}
+use Rattle.order_laws.proofs.Pulling.{Lead, callers, log_leads, names, turned, turns}
+use Rattle.order_laws.proofs.Hands.{hand}
+use Rattle.order_laws.proofs.Dealing.{AreOf, dealt_at, dealt_is, in_turn_is, length_dealt, turns_with}
+use Rattle.order_laws.proofs.Printing.{Events, order_is}
+use Rattle.order_laws.proofs.Commuting.{steps_swap, system_of}
+use Rattle.order_laws.proofs.StepKinds.{callers_of}
+use Rattle.order_laws.proofs.Running.{Run, events_of, goes_so, run_is}
+
+-- ---- what is dealt of events
+
+empty_at : {X : Type 0} (sessions index : ℕ) → get_or (replicate {A = List X} sessions []) index [] ≡ []
+empty_at zero index = refl
+empty_at (suc sessions) zero = refl
+empty_at (suc sessions) (suc index) = empty_at sessions index
+
+zero_at : (count index : ℕ) → get_or (replicate {A = ℕ} count 0) index 0 ≡ 0
+zero_at zero index = refl
+zero_at (suc count) zero = refl
+zero_at (suc count) (suc index) = zero_at count index
+
+-- each session is dealt what its own events hand to it
+own_dealt : {X : Type 0} (f : Event Step Reply → X) (sessions : ℕ) (events : Events) → AreOf sessions events → (index : ℕ) →
+    get_or (dealt_out (turns_with f events) (replicate sessions [])) index [] ≡ map f (own (suc index) events)
+own_dealt f sessions events are index =
+    dealt_at f events (replicate sessions []) (subst (λ n. AreOf n events) (sym (length-replicate sessions [])) are) index
+    ∙ ap (λ xs. xs ++ map f (own (suc index) events)) (empty_at sessions index)
+
+so_many : {X : Type 0} (f : Event Step Reply → X) (sessions : ℕ) (events : Events) →
+    length (dealt_out (turns_with f events) (replicate sessions [])) ≡ sessions
+so_many f sessions events = length_dealt (turns_with f events) (replicate sessions []) ∙ length-replicate sessions []
+
+-- swaps change nothing of it
+same_dealt : {X : Type 0} (f : Event Step Reply → X) (sessions : ℕ) (old new : Events) → AreOf sessions old → Swapped is_logged old new →
+    dealt_out (turns_with f new) (replicate sessions []) ≡ dealt_out (turns_with f old) (replicate sessions [])
+same_dealt {X} f sessions old new are swapped =
+    same_lists _ _ (so_many f sessions new ∙ sym (so_many f sessions old)) (λ index d inside.
+    get_or_default (dealt_out (turns_with f new) (replicate sessions [])) index d [] inside
+    ∙ own_dealt f sessions new (all_same (λ e. (1 ≤ e.session) × (e.session ≤ sessions)) swapped are) index
+    ∙ ap (map f) (sym (own_same swapped (suc index)))
+    ∙ sym (own_dealt f sessions old are index)
+    ∙ get_or_default (dealt_out (turns_with f old) (replicate sessions [])) index [] d
+    (subst (λ n. index < n) (so_many f sessions new ∙ sym (so_many f sessions old)) inside))
+
+-- nor of the sessions that are named
+same_names : (old new : Events) → Swapped is_logged old new → IsPermutation (names old) (names new)
+same_names old new none = IsPermutation-refl (names old)
+same_names old new (behind event swapped) = IsPermutation-cons event.session _ _ (same_names _ _ swapped)
+same_names old new (swap one other events differ unlogged) =
+    IsPermutation-swap (one.session ∷ other.session ∷ names events) (other.session ∷ one.session ∷ names events) 0 1 (omega arith) (omega arith) refl
+same_names old new (both first next) = IsPermutation-trans _ _ _ (same_names _ _ first) (same_names _ _ next)
+
+-- ---- the printed order
+
+-- it names the sessions of the events as they are pulled to the front
+printed_is : (sessions places : ℕ) (events : Events) (log : List Logged) → callers is_logged events ≡ map (λ call. call.session) log →
+    AreOf sessions events → sessions < places →
+    order_behind (dealt_out (turns_with (λ e. e.reply) events) (replicate sessions [])) (replicate places 0) log
+    ≡ names (turned is_logged (map (λ call. call.session) log ++ range_with_len 1 sessions) events)
+printed_is sessions places events log callers_are are few =
+    order_is log dealt_hands (replicate places 0) events callers_are (subst (λ n. AreOf n events) (sym many) are)
+    (let long : length (replicate {A = ℕ} places 0) ≡ places = length-replicate places 0 in omega (arith, long, many))
+    (λ number index is inside. ap (λ n. drop n (get_or dealt_hands index [])) (zero_at places number)
+    ∙ own_dealt (λ e. e.reply) sessions events are index ∙ ap (λ n. hand n events) (sym is))
+    ∙ ap (λ n. names (turned is_logged (map (λ (c : Logged). c.session) log ++ range_with_len 1 n) events)) many where
+      dealt_hands : List (List Reply)
+      dealt_hands = dealt_out (turns_with (λ e. e.reply) events) (replicate sessions [])
+
+      many : length (dealt_out (turns_with (λ (e : Event Step Reply). e.reply) events) (replicate sessions [])) ≡ sessions
+      many = so_many (λ e. e.reply) sessions events
+
+-- the sessions that took steps are those of the events
+names_so : (events : Events) → rearranged.names (turns_with (λ e. e.step) events) ≡ names events
+names_so [] = refl
+names_so (event ∷ events) = ap (λ ns. event.session ∷ ns) (names_so events)
+
+-- the replies of a run are dealt so
+hands_so : (sessions : ℕ) (steps : List (ℕ × Step)) (replies : List Reply) (events : Events) →
+    turns_with (λ e. e.step) events ≡ steps → map (λ e. e.reply) events ≡ replies →
+    hands sessions steps replies ≡ dealt_out (turns_with (λ e. e.reply) events) (replicate sessions [])
+hands_so sessions steps replies events steps_are replies_are =
+    ap (λ ss. dealt (rearranged.names ss) replies (replicate sessions [])) (sym steps_are)
+    ∙ ap (λ rs. dealt (rearranged.names (turns_with (λ (e : Event Step Reply). e.step) events)) rs (replicate sessions [])) (sym replies_are)
+    ∙ ap (λ ns. dealt ns (map (λ (e : Event Step Reply). e.reply) events) (replicate sessions [])) (names_so events)
+    ∙ dealt_is events (replicate sessions [])
+
+-- events that are swapped from those of a run answer alike in their order
+module _ (sessions : ℕ) (steps : List (ℕ × Step)) (replies : List Reply) (old final : State) (events new : Events)
+    (run : Run old final steps replies events) (are : AreOf sessions events) (swapped : Swapped is_logged events new) where
+  new_are : AreOf sessions new
+  new_are = all_same (λ e. (1 ≤ e.session) × (e.session ≤ sessions)) swapped are
+
+  taken_in_turn : in_turn (names new) (scripts sessions steps) ≡ turns_with (λ e. e.step) new
+  taken_in_turn =
+      ap (λ ss. in_turn (names new) (scripts sessions ss)) (sym run.steps_are)
+      ∙ in_turn_is new dealt_scripts (subst (λ n. AreOf n new) (sym (so_many (λ e. e.step) sessions events)) new_are)
+      (λ index inside. own_dealt (λ e. e.step) sessions events are index
+      ∙ ap (map (λ (e : Event Step Reply). e.step)) (own_same swapped (suc index))) where
+        dealt_scripts : List (List Step)
+        dealt_scripts = dealt_out (turns_with (λ e. e.step) events) (replicate sessions [])
+
+  outcome : after_steps old (in_turn (names new) (scripts sessions steps)) ≡ (map (λ e. e.reply) new, final)
+  outcome = ap (after_steps old) taken_in_turn ∙ goes_so new old final (goes_on (system_of step_outcome) steps_swap swapped old final run.goes)
+
+  pub alike : (order : List ℕ) → order ≡ names new → AnswersAlike sessions steps replies old final order
+  alike order is = subst (AnswersAlike sessions steps replies old final) (sym is) (record {
+    state = ap (λ (r : List Reply × State). r.1) outcome;
+    replies_are = ap (λ (r : List Reply × State). dealt (names new) r.0 (replicate sessions [])) outcome
+        ∙ dealt_is new (replicate sessions [])
+        ∙ same_dealt (λ e. e.reply) sessions events new are swapped
+        ∙ sym (hands_so sessions steps replies events run.steps_are run.replies_are);
+    turns = subst (λ ns. IsPermutation ns (names new)) (sym (names_so events) ∙ ap rearranged.names run.steps_are)
+        (same_names events new swapped);
+  })
+
+pub printed_alike : (base : Layout) (sessions limit : ℕ) (steps : List (ℕ × Step)) (replies : List Reply) (final : State) →
+    sessions ≤ 64 → Ran (start base sessions limit) steps replies final → All IsTaken replies →
+    AnswersAlike sessions steps replies (start base sessions limit) final (order_of final.history.log (hands sessions steps replies))
+printed_alike base sessions limit steps replies final few ran taken =
+    alike sessions steps replies old final events new run are (turns is_logged turn_order events leading)
+    (order_of final.history.log (hands sessions steps replies))
+    (ap (order_of final.history.log) (hands_so sessions steps replies events run.steps_are run.replies_are)
+    ∙ printed_is sessions 256 events final.history.log (sym run.callers_are) are (omega arith)) where
+      old : State
+      old = start base sessions limit
+
+      events : Events
+      events = events_of steps replies
+
+      run : Run old final steps replies events
+      run = run_is steps replies old final (started base sessions limit few) ran (recursion_from_All IsTaken replies taken)
+
+      are : AreOf sessions events
+      are = subst (λ n. AreOf n events) (length-replicate sessions None) run.are
+
+      turn_order : List ℕ
+      turn_order = callers_of final.history ++ range_with_len 1 sessions
+
+      leading : Lead is_logged turn_order events
+      leading = log_leads is_logged (callers_of final.history) (range_with_len 1 sessions) events (sym run.callers_are)
+
+      new : Events
+      new = turned is_logged turn_order events
