@@ -7,18 +7,12 @@ use Rattle.txn_rules.specs.Transactions.{Transaction}
 use Rattle.undo_rules.specs.Books.{History}
 use Rattle.undo_rules.specs.Steps.{is_log_full}
 use Rattle.session_steps.specs.declared.Reply.{Reply}
-use Rattle.session_steps.specs.declared.Reply.TheVariants.{Fault}
 use Rattle.session_steps.specs.declared.Step.{Step}
-use Rattle.session_steps.specs.declared.StepFault.TheVariants.{NoSession}
 use Rattle.session_core.specs.Machine.{IsNotForeign, State, is_session, open_of, step_outcome, with_work}
 use Rattle.job_text.specs.Order.{is_logged}
 use Rattle.order_laws.proofs.Cores.{Core, core, is_there, put, step_is}
-use Rattle.order_laws.proofs.StepKinds.{Kind, foreign, free, full, kind_of, noted}
+use Rattle.order_laws.proofs.StepKinds.{IsPlain, Kind, foreign, free, full, kind_of, noted}
 use Rattle.order_laws.proofs.Swaps.{CanSwap, Swaps, System}
-
--- the session is there, and its work isn't foreign
-abbrev pub IsPlain : Reply → Type 0
-IsPlain reply = IsNotForeign reply × (reply ≢ Fault NoSession)
 
 -- ---- sessions that are there
 

@@ -9,3 +9,5 @@ pub mod StepKinds
 pub mod Commuting
 pub mod Running
 pub mod Answering
+pub mod JobTurns
+pub mod PrintedOrders

@@ -1,7 +1,9 @@
 -- What holds of all states to which sessions' steps lead, and of the replies to them.
 use Rattle.std.proofs.Common.{◌≡◌, ℕ, ◌+◌, ◌-◌, ◌<◌, ◌≤◌, Bool, true, false, ◌||◌, cond, List, [], ◌∷◌, ◌++◌, Option, None, Some, Result, Ok, Err, length}
-use Rattle.std.proofs.Common.{refl, ap, sym, subst, ◌∙◌, append-nil, append_assoc, arith, inl, map, not}
+use Rattle.std.proofs.Common.{refl, ap, sym, subst, ◌∙◌, append-nil, append_assoc, arith, inl, map, nat_le, not}
 use Rattle.std.specs.List.{AllByRecursion}
+use Rattle.std.proofs.lemmas.Bool.{and_from}
+use Rattle.std.proofs.lemmas.Bool.Decides.{nat_tests}
 use Rattle.std.proofs.lemmas.List.{length-set}
 use Rattle.txn_rules.specs.declared.command.Command.{Command}
 use Rattle.txn_rules.specs.declared.command.Done.{Done}
@@ -20,17 +22,17 @@ use Rattle.session_steps.specs.declared.Reply.{Reply}
 use Rattle.session_steps.specs.declared.Reply.TheVariants.{Redone, Undone}
 use Rattle.session_steps.specs.declared.Step.{Step}
 use Rattle.session_steps.specs.declared.Step.TheVariants.{Cancel, Commit, Do, Open, Redo, Undo}
-use Rattle.session_core.specs.Machine.{IsNotForeign, Ran, State, Takes, after_steps, is_memory, is_session, open_of, step_outcome, with_work}
+use Rattle.session_core.specs.Machine.{Ran, State, Takes, after_steps, is_memory, is_session, open_of, step_outcome, with_work}
 use Rattle.session_core.specs.Machines.{IsOpen, IsState}
 use Rattle.session_core.proofs.MachineLemmas as machines
 use Rattle.job_text.specs.Order.{is_logged}
-use Rattle.order_laws.specs.Rearranged.{IsTaken}
+use Rattle.order_laws.specs.Rearranged.{HasMemory, IsKnown}
 use Rattle.order_laws.proofs.Events.{Event}
 use Rattle.order_laws.proofs.Swaps.{Goes}
 use Rattle.order_laws.proofs.Dealing.{AreOf, turns_with}
 use Rattle.order_laws.proofs.Commuting.{session_bounds, system_of}
 use Rattle.order_laws.proofs.Cores.{Core, is_there, changed, committed, core, open_core, opened, stays, step_is}
-use Rattle.order_laws.proofs.StepKinds.{IsHeldBy, Kind, callers_of, foreign, free, full, kind_of, noted}
+use Rattle.order_laws.proofs.StepKinds.{IsHeldBy, IsPlain, Kind, callers_of, foreign, free, full, kind_of, noted}
 use Rattle.order_laws.proofs.Pulling.{caller_before, callers}
 
 module _ (s : State) (session : ℕ) (kept : IsState s) (low : 1 ≤ session) (high : session ≤ length s.works) where
@@ -111,14 +113,19 @@ module _ (s : State) (session : ℕ) (kept : IsState s) (low : 1 ≤ session) (h
       omega arith
 
   -- and it is the book's own
-  not_foreign : (step : Step) (c : Core) → Kind s.history session step (open_of s session) c → IsNotForeign c.0
-  not_foreign step c (free plain own moves same) = own
-  not_foreign step c (full none is) = λ e. let reply = ap (λ (d : Core). d.0) is in cc
-  not_foreign step c (foreign txn found not_own is) =
+  is_plain : (step : Step) (c : Core) → Kind s.history session step (open_of s session) c → IsPlain c.0
+  is_plain step c (free unlogged plain moves same) = plain
+  is_plain step c (full none is) =
+      let reply = ap (λ (d : Core). d.0) is in
+      (λ e. cc, λ e. cc)
+  is_plain step c (foreign txn found not_own is) =
       let most : length s.works ≤ 64 = kept.few in
       let own = machines.own_of s.history (session - 1) txn (omega arith) (kept.works (session - 1) txn found) in
       absurd cc
-  not_foreign step c (noted room told more) = λ e. let told_so = sym told ∙ ap is_logged e in cc
+  is_plain step c (noted room told more) = (
+    λ e. let told_so = sym told ∙ ap is_logged e in cc,
+    λ e. let told_so = sym told ∙ ap is_logged e in cc,
+  )
 
 -- one more logged call has the session as its caller
 callers_so : (h : History) (session : ℕ) (step : Step) (work : Option Transaction) (c : Core) → Kind h session step work c → IsHeldBy session work →
@@ -139,7 +146,7 @@ callers_so h session step work c (noted room told more) held_by =
 -- what holds behind a step of a session that is there
 record After (s : State) (session : ℕ) (end : Reply × State) : Type 0 where
   kept : IsState end.1
-  own : IsNotForeign end.0
+  plain : IsPlain end.0
   sessions : length end.1.works ≡ length s.works
   callers_are : callers_of end.1.history ≡ callers_of s.history ++ caller_before (is_logged end.0) session []
 
@@ -150,7 +157,7 @@ after_one s session step kept there =
     let kind = kind_of s.history session step (open_of s session) in
     subst (After s session) (sym (step_is s session step there)) (record {
       kept = leaves s session kept bounds.0 bounds.1 step (open_of s session) refl;
-      own = not_foreign s session kept bounds.0 bounds.1 step c kind;
+      plain = is_plain s session kept bounds.0 bounds.1 step c kind;
       sessions = length-set s.works (session - 1) c.2;
       callers_are = callers_so s.history session step (open_of s session) c kind (holds s session kept bounds.0 bounds.1);
     })
@@ -181,34 +188,60 @@ caller_append : (b : Bool) (session : ℕ) (more : List ℕ) → caller_before b
 caller_append true session more = refl
 caller_append false session more = refl
 
+-- the step is of one of so many sessions
+abbrev pub IsOfOne : ℕ → ℕ × Step → Type 0
+IsOfOne sessions step = (1 ≤ step.0) × (step.0 ≤ sessions)
+
+there_is : (s : State) (session : ℕ) → 1 ≤ session → session ≤ length s.works → is_session s session ≡ true
+there_is s session low high =
+    let above : nat_le 1 session ≡ true = grind (arith, nat_tests) in
+    let below : nat_le session (length s.works) ≡ true = grind (arith, nat_tests) in
+    and_from (nat_le 1 session) (nat_le session (length s.works)) above below
+
 pub run_is : (steps : List (ℕ × Step)) (replies : List Reply) (old new : State) → IsState old → Ran old steps replies new →
-    AllByRecursion IsTaken replies → Run old new steps replies (events_of steps replies)
-run_is [] [] old new kept ran taken = record {
+    AllByRecursion HasMemory replies → AllByRecursion (IsOfOne (length old.works)) steps → Run old new steps replies (events_of steps replies)
+run_is [] [] old new kept ran memory known = record {
   goes = ran;
   callers_are = ap (λ (s : State). callers_of s.history) ran ∙ sym (append-nil (callers_of old.history));
   are = tt;
   steps_are = refl;
   replies_are = refl;
 }
-run_is [] (reply ∷ replies) old new kept ran taken = absurd ran
-run_is (step ∷ steps) [] old new kept ran taken = absurd ran
-run_is (step ∷ steps) (reply ∷ replies) old new kept ran taken =
+run_is [] (reply ∷ replies) old new kept ran memory known = absurd ran
+run_is (step ∷ steps) [] old new kept ran memory known = absurd ran
+run_is (step ∷ steps) (reply ∷ replies) old new kept ran memory known =
     let end = step_outcome old step.0 step.1 in
-    let first = took old ran.0 step reply ran.1 taken.0.0 in
-    let there = is_there old step.0 step.1 (λ e. taken.0.1 (first.0 ∙ e)) in
-    let now = after_one old step.0 step.1 kept there in
-    let more = run_is steps replies end.1 new now.kept (subst (λ s. Ran s steps replies new) first.1 ran.2) taken.1 in
+    let first = took old ran.0 step reply ran.1 memory.0 in
+    let now = after_one old step.0 step.1 kept (there_is old step.0 known.0.0 known.0.1) in
+    let more = run_is steps replies end.1 new now.kept (subst (λ s. Ran s steps replies new) first.1 ran.2) memory.1
+    (subst (λ n. AllByRecursion (IsOfOne n) steps) (sym now.sessions) known.1) in
     let events = events_of steps replies in
     record {
-      goes = (first.0, (subst IsNotForeign (sym first.0) now.own, taken.0.1), more.goes);
+      goes = (first.0, subst IsPlain (sym first.0) now.plain, more.goes);
       callers_are = more.callers_are ∙ ap (λ cs. cs ++ callers is_logged events) now.callers_are
           ∙ append_assoc (callers_of old.history) (caller_before (is_logged end.0) step.0 []) (callers is_logged events)
           ∙ ap (λ cs. callers_of old.history ++ cs) (caller_append (is_logged end.0) step.0 (callers is_logged events)
           ∙ ap (λ r. caller_before (is_logged r) step.0 (callers is_logged events)) (sym first.0));
-      are = (session_bounds old step.0 there, subst (λ n. AreOf n events) now.sessions more.are);
+      are = (known.0, subst (λ n. AreOf n events) now.sessions more.are);
       steps_are = ap (λ ss. step ∷ ss) more.steps_are;
       replies_are = ap (λ rs. reply ∷ rs) more.replies_are;
     }
+
+-- steps whose sessions are all there
+pub all_known : (steps : List (ℕ × Step)) (replies : List Reply) (old new : State) → Ran old steps replies new →
+    AllByRecursion HasMemory replies → AllByRecursion IsKnown replies → AllByRecursion (IsOfOne (length old.works)) steps
+all_known [] replies old new ran memory known = tt
+all_known (step ∷ steps) [] old new ran memory known = absurd ran
+all_known (step ∷ steps) (reply ∷ replies) old new ran memory known =
+    let first = took old ran.0 step reply ran.1 memory.0 in
+    let there = is_there old step.0 step.1 (λ e. known.0 (first.0 ∙ e)) in
+    let left = (core old.history step.0 step.1 (open_of old step.0)).2 in
+    let same : length ran.0.works ≡ length old.works =
+    ap (λ (s : State). length s.works) first.1 ∙ ap (λ (p : Reply × State). length p.1.works) (step_is old step.0 step.1 there)
+    ∙ length-set old.works (step.0 - 1) left in (
+      session_bounds old step.0 there,
+      subst (λ n. AllByRecursion (IsOfOne n) steps) same (all_known steps replies ran.0 new ran.2 memory.1 known.1),
+    )
 
 -- the steps of events, taken in their order, are answered so
 pub goes_so : (events : List (Event Step Reply)) (old new : State) → Goes (system_of step_outcome) old events new →

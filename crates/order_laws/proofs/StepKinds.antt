@@ -21,10 +21,11 @@ use Rattle.undo_rules.specs.Links.{first_moved, first_reader, links_to}
 use Rattle.undo_rules.specs.Steps.{Found, after_open, after_redo, after_undo, commit_unless, depends, found, is_log_full, is_own, logged, moved}
 use Rattle.undo_rules.specs.Steps.{opening, or_else, redo_refusal, redo_refusal_at, stale_by, state_of, undo_refusal}
 use Rattle.undo_rules.specs.Steps.{undo_refusal_at, unless}
+use Rattle.session_steps.specs.declared.Reply.{Reply}
 use Rattle.session_steps.specs.declared.Reply.TheVariants.{Fault, Redone, Undone}
 use Rattle.session_steps.specs.declared.Step.{Step}
 use Rattle.session_steps.specs.declared.Step.TheVariants.{Cancel, Commit, Do, Open, Redo, Undo}
-use Rattle.session_steps.specs.declared.StepFault.TheVariants.{Book}
+use Rattle.session_steps.specs.declared.StepFault.TheVariants.{Book, NoSession}
 use Rattle.session_core.specs.Machine.{command_reply}
 use Rattle.job_text.specs.Order.{is_logged, is_logged_fault}
 use Rattle.order_laws.proofs.Cores.{Core, changed, committed, core, opened}
@@ -37,9 +38,13 @@ callers_of h = map (λ call. call.session) h.log
 abbrev pub IsHeldBy : ℕ → Option Transaction → Type 0
 IsHeldBy session work = (txn : Transaction) → work ≡ Some txn → txn.id.session ≡ session
 
+-- the session is there, and its work isn't foreign
+abbrev pub IsPlain : Reply → Type 0
+IsPlain reply = (reply ≢ Fault (Book Foreign)) × (reply ≢ Fault NoSession)
+
 pub data Kind (h : History) (session : ℕ) (step : Step) (work : Option Transaction) (c : Core) : Type 0 where
   -- on each history it is answered so, and leaves the history
-  free : is_logged c.0 ≡ false → c.0 ≢ Fault (Book Foreign) → ((other : History) → core other session step work ≡ (c.0, other, c.2))
+  free : is_logged c.0 ≡ false → IsPlain c.0 → ((other : History) → core other session step work ≡ (c.0, other, c.2))
       → c.1 ≡ h → Kind h session step work c
   full : is_log_full h ≡ true → c ≡ (Fault (Book LogFull), h, work) → Kind h session step work c
   foreign : (txn : Transaction) → work ≡ Some txn → is_own h txn ≡ false → c ≡ (Fault (Book Foreign), h, work) → Kind h session step work c
@@ -125,18 +130,18 @@ run_kind h session command txn = free (plain (answer_to txn command)) (own (answ
   plain (Ok done) = refl
   plain (Err fault) = refl
 
-  own : (answer : Result Done CmdFault) → command_reply answer ≢ Fault (Book Foreign)
-  own (Ok done) = λ e. cc
-  own (Err fault) = λ e. cc
+  own : (answer : Result Done CmdFault) → IsPlain (command_reply answer)
+  own (Ok done) = (λ e. cc, λ e. cc)
+  own (Err fault) = (λ e. cc, λ e. cc)
 
 pub kind_of : (h : History) (session : ℕ) (step : Step) (work : Option Transaction) → Kind h session step work (core h session step work)
 kind_of h session Open None = open_kind h session
-kind_of h session Open (Some txn) = free refl (λ e. cc) (λ other. refl) refl
-kind_of h session (Do command) None = free refl (λ e. cc) (λ other. refl) refl
+kind_of h session Open (Some txn) = free refl (λ e. cc, λ e. cc) (λ other. refl) refl
+kind_of h session (Do command) None = free refl (λ e. cc, λ e. cc) (λ other. refl) refl
 kind_of h session (Do command) (Some txn) = run_kind h session command txn
-kind_of h session Commit None = free refl (λ e. cc) (λ other. refl) refl
+kind_of h session Commit None = free refl (λ e. cc, λ e. cc) (λ other. refl) refl
 kind_of h session Commit (Some txn) = commit_kind h session txn
-kind_of h session Cancel None = free refl (λ e. cc) (λ other. refl) refl
-kind_of h session Cancel (Some txn) = free refl (λ e. cc) (λ other. refl) refl
+kind_of h session Cancel None = free refl (λ e. cc, λ e. cc) (λ other. refl) refl
+kind_of h session Cancel (Some txn) = free refl (λ e. cc, λ e. cc) (λ other. refl) refl
 kind_of h session (Undo txn) work = undo_kind h session txn work
 kind_of h session (Redo txn) work = redo_kind h session txn work

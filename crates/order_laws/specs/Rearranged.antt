@@ -1,5 +1,6 @@
--- Steps that sessions took, taken in the printed order.
-use Rattle.std.specs.Prelude.{◌≡◌, ◌≢◌, ℕ, ◌-◌, ◌≤◌, List, [], ◌∷◌, ◌++◌, All, IsPermutation, false, map, replicate, slice_index_or, slice_set}
+-- Steps that sessions took, taken in the order that is printed behind them.
+use Rattle.std.specs.Prelude.{◌≡◌, ◌≢◌, ℕ, ◌-◌, ◌≤◌, List, [], ◌∷◌, ◌++◌, All, IsPermutation, false, length, map, replicate, true}
+use Rattle.std.specs.Prelude.{slice_index_or, slice_set}
 use Rattle.lay_items.specs.Layout.{Layout}
 use Rattle.session_steps.specs.declared.Reply.{Reply}
 use Rattle.session_steps.specs.declared.Reply.TheVariants.{Fault}
@@ -7,6 +8,7 @@ use Rattle.session_steps.specs.declared.Step.{Step}
 use Rattle.session_steps.specs.declared.StepFault.TheVariants.{NoSession}
 use Rattle.session_steps.specs.Turns.{dealt, in_turn}
 use Rattle.session_core.specs.Machine.{Ran, State, after_steps, is_memory, start}
+use Rattle.job_text.specs.Job.{fits}
 use Rattle.job_text.specs.Order.{order_of}
 
 -- what each session has, and behind it what it is dealt in these turns
@@ -20,27 +22,40 @@ abbrev pub names : List (ℕ × Step) → List ℕ
 names steps = map (λ step. step.0) steps
 
 -- the steps of each of so many sessions
-abbrev pub scripts : ℕ → List (ℕ × Step) → List (List Step)
-scripts sessions steps = dealt_out steps (replicate sessions [])
+abbrev pub scripts_of : ℕ → List (ℕ × Step) → List (List Step)
+scripts_of sessions steps = dealt_out steps (replicate sessions [])
 
--- and the replies to them
-abbrev pub hands : ℕ → List (ℕ × Step) → List Reply → List (List Reply)
-hands sessions steps replies = dealt (names steps) replies (replicate sessions [])
+-- the replies to each, where the sessions took their steps in this order
+abbrev pub hands_of : ℕ → List ℕ → List Reply → List (List Reply)
+hands_of sessions order replies = dealt order replies (replicate sessions [])
 
--- the session is there, and memory wasn't refused
-abbrev pub IsTaken : Reply → Type 0
-IsTaken reply = (is_memory reply ≡ false) × (reply ≢ Fault NoSession)
+-- from the old state to the new: the steps of these scripts in this order lead there, and each session has these replies
+pub record LeadsTo (sessions : ℕ) (scripts : List (List Step)) (order : List ℕ) (old new : State) (hands : List (List Reply)) : Type 0 where
+  pub state : (after_steps old (in_turn order scripts)).1 ≡ new
+  pub replies : hands_of sessions order (after_steps old (in_turn order scripts)).0 ≡ hands
 
--- The steps that led from the old state to the new lead there in this order too, and each session has the same
--- replies. Each takes as many steps.
-pub record AnswersAlike (sessions : ℕ) (steps : List (ℕ × Step)) (replies : List Reply) (old new : State) (order : List ℕ) : Type 0 where
-  pub state : (after_steps old (in_turn order (scripts sessions steps))).1 ≡ new
-  pub replies_are : dealt order (after_steps old (in_turn order (scripts sessions steps))).0 (replicate sessions [])
-      ≡ hands sessions steps replies
-  pub turns : IsPermutation (names steps) order
+-- no memory was refused
+abbrev pub HasMemory : Reply → Type 0
+HasMemory reply = is_memory reply ≡ false
 
--- steps in the order that is printed behind them answer alike
-abbrev pub PrintedOrdersAnswerAlike : Type 0
-PrintedOrdersAnswerAlike = (base : Layout) (sessions limit : ℕ) (steps : List (ℕ × Step)) (replies : List Reply) (final : State)
-    → sessions ≤ 64 → Ran (start base sessions limit) steps replies final → All IsTaken replies
-    → AnswersAlike sessions steps replies (start base sessions limit) final (order_of final.history.log (hands sessions steps replies))
+-- the session is there
+abbrev pub IsKnown : Reply → Type 0
+IsKnown reply = reply ≢ Fault NoSession
+
+-- Whatever steps sessions took: in the printed order, which names each session as often, they lead to the same.
+abbrev pub StepsAnswerAlike : Type 0
+StepsAnswerAlike = (base : Layout) (sessions limit : ℕ) (steps : List (ℕ × Step)) (replies : List Reply) (final : State)
+    → sessions ≤ 64 → Ran (start base sessions limit) steps replies final → All HasMemory replies → All IsKnown replies
+    → let hands = hands_of sessions (names steps) replies in
+    let printed = order_of final.history.log hands in
+    IsPermutation (names steps) printed
+    × LeadsTo sessions (scripts_of sessions steps) printed (start base sessions limit) final hands
+
+-- A job's scripts, whatever order fits them: the printed order fits them too, and leads to the same.
+abbrev pub JobsAnswerAlike : Type 0
+JobsAnswerAlike = (base : Layout) (sessions limit : ℕ) (scripts : List (List Step)) (order : List ℕ) (replies : List Reply) (final : State)
+    → length scripts ≤ sessions → sessions ≤ 64 → fits scripts order ≡ true
+    → Ran (start base sessions limit) (in_turn order scripts) replies final → All HasMemory replies
+    → let hands = hands_of sessions order replies in
+    let printed = order_of final.history.log hands in
+    (fits scripts printed ≡ true) × LeadsTo sessions scripts printed (start base sessions limit) final hands

@@ -1,5 +1,5 @@
-use Rattle.order_laws.proofs.Answering.{printed_alike}
+use Rattle.order_laws.proofs.PrintedOrders.{jobs_alike, steps_alike}
 use Rattle.order_laws.proofs.laws.the_printed_order_answers_alike.Goals as goal
 
 pub returns : goal.returns
-returns c = printed_alike
+returns c = record { steps = steps_alike; jobs = jobs_alike }
