@@ -1,5 +1,5 @@
 -- What holds of all states to which sessions' steps lead, and of the replies to them.
-use Rattle.std.proofs.Common.{◌≡◌, ℕ, ◌+◌, ◌-◌, ◌<◌, ◌≤◌, Bool, true, false, ◌||◌, cond, List, [], ◌∷◌, ◌++◌, Option, None, Some, Result, Ok, Err, length}
+use Rattle.std.proofs.Common.{◌≡◌, ℕ, ◌+◌, ◌-◌, ◌<◌, ◌≤◌, Bool, true, false, cond, List, [], ◌∷◌, ◌++◌, Option, None, Some, Result, Ok, Err, length}
 use Rattle.std.proofs.Common.{refl, ap, sym, subst, ◌∙◌, append-nil, append_assoc, arith, inl, map, nat_le, not}
 use Rattle.std.specs.List.{AllByRecursion}
 use Rattle.std.proofs.lemmas.Bool.{and_from}
@@ -22,11 +22,11 @@ use Rattle.session_steps.specs.declared.Reply.{Reply}
 use Rattle.session_steps.specs.declared.Reply.TheVariants.{Redone, Undone}
 use Rattle.session_steps.specs.declared.Step.{Step}
 use Rattle.session_steps.specs.declared.Step.TheVariants.{Cancel, Commit, Do, Open, Redo, Undo}
-use Rattle.session_core.specs.Machine.{Ran, State, Takes, after_steps, is_memory, is_session, open_of, step_outcome, with_work}
+use Rattle.session_core.specs.Machine.{State, after_steps, is_session, open_of, step_outcome, with_work}
 use Rattle.session_core.specs.Machines.{IsOpen, IsState}
 use Rattle.session_core.proofs.MachineLemmas as machines
 use Rattle.job_text.specs.Order.{is_logged}
-use Rattle.order_laws.specs.Rearranged.{HasMemory, IsKnown}
+use Rattle.order_laws.specs.Rearranged.{IsKnown}
 use Rattle.order_laws.proofs.Events.{Event}
 use Rattle.order_laws.proofs.Swaps.{Goes}
 use Rattle.order_laws.proofs.Dealing.{AreOf, turns_with}
@@ -162,19 +162,11 @@ after_one s session step kept there =
       callers_are = callers_so s.history session step (open_of s session) c kind (holds s session kept bounds.0 bounds.1);
     })
 
--- a step that isn't out of memory is answered as it is to be
-took : (s new : State) (step : ℕ × Step) (reply : Reply) → Takes s step.0 step.1 reply new → is_memory reply ≡ false →
-    (reply ≡ (step_outcome s step.0 step.1).0) × (new ≡ (step_outcome s step.0 step.1).1)
-took s new step reply takes plain =
-    let both = machines.ran_all (step ∷ []) (reply ∷ []) s new (new, takes, refl) (ap (λ b. b || false) plain) in
-    let replies : reply ∷ [] ≡ (step_outcome s step.0 step.1).0 ∷ [] = both.0 in
-    (cc, both.1)
-
--- the steps with their replies
-abbrev pub events_of : List (ℕ × Step) → List Reply → List (Event Step Reply)
-events_of [] replies = []
-events_of (step ∷ steps) [] = []
-events_of (step ∷ steps) (reply ∷ replies) = record { session = step.0; step = step.1; reply = reply } ∷ events_of steps replies
+-- the steps, each with what it is answered
+abbrev pub events_of : State → List (ℕ × Step) → List (Event Step Reply)
+events_of s [] = []
+events_of s (step ∷ steps) =
+    record { session = step.0; step = step.1; reply = (step_outcome s step.0 step.1).0 } ∷ events_of (step_outcome s step.0 step.1).1 steps
 
 -- what holds of a run, of its events
 pub record Run (old new : State) (steps : List (ℕ × Step)) (replies : List Reply) (events : List (Event Step Reply)) : Type 0 where
@@ -198,49 +190,41 @@ there_is s session low high =
     let below : nat_le session (length s.works) ≡ true = grind (arith, nat_tests) in
     and_from (nat_le 1 session) (nat_le session (length s.works)) above below
 
-pub run_is : (steps : List (ℕ × Step)) (replies : List Reply) (old new : State) → IsState old → Ran old steps replies new →
-    AllByRecursion HasMemory replies → AllByRecursion (IsOfOne (length old.works)) steps → Run old new steps replies (events_of steps replies)
-run_is [] [] old new kept ran memory known = record {
-  goes = ran;
-  callers_are = ap (λ (s : State). callers_of s.history) ran ∙ sym (append-nil (callers_of old.history));
+pub run_is : (steps : List (ℕ × Step)) (old : State) → IsState old → AllByRecursion (IsOfOne (length old.works)) steps →
+    Run old (after_steps old steps).1 steps (after_steps old steps).0 (events_of old steps)
+run_is [] old kept known = record {
+  goes = refl;
+  callers_are = sym (append-nil (callers_of old.history));
   are = tt;
   steps_are = refl;
   replies_are = refl;
 }
-run_is [] (reply ∷ replies) old new kept ran memory known = absurd ran
-run_is (step ∷ steps) [] old new kept ran memory known = absurd ran
-run_is (step ∷ steps) (reply ∷ replies) old new kept ran memory known =
+run_is (step ∷ steps) old kept known =
     let end = step_outcome old step.0 step.1 in
-    let first = took old ran.0 step reply ran.1 memory.0 in
     let now = after_one old step.0 step.1 kept (there_is old step.0 known.0.0 known.0.1) in
-    let more = run_is steps replies end.1 new now.kept (subst (λ s. Ran s steps replies new) first.1 ran.2) memory.1
-    (subst (λ n. AllByRecursion (IsOfOne n) steps) (sym now.sessions) known.1) in
-    let events = events_of steps replies in
+    let more = run_is steps end.1 now.kept (subst (λ n. AllByRecursion (IsOfOne n) steps) (sym now.sessions) known.1) in
+    let events = events_of end.1 steps in
     record {
-      goes = (first.0, subst IsPlain (sym first.0) now.plain, more.goes);
+      goes = (refl, now.plain, more.goes);
       callers_are = more.callers_are ∙ ap (λ cs. cs ++ callers is_logged events) now.callers_are
           ∙ append_assoc (callers_of old.history) (caller_before (is_logged end.0) step.0 []) (callers is_logged events)
-          ∙ ap (λ cs. callers_of old.history ++ cs) (caller_append (is_logged end.0) step.0 (callers is_logged events)
-          ∙ ap (λ r. caller_before (is_logged r) step.0 (callers is_logged events)) (sym first.0));
+          ∙ ap (λ cs. callers_of old.history ++ cs) (caller_append (is_logged end.0) step.0 (callers is_logged events));
       are = (known.0, subst (λ n. AreOf n events) now.sessions more.are);
       steps_are = ap (λ ss. step ∷ ss) more.steps_are;
-      replies_are = ap (λ rs. reply ∷ rs) more.replies_are;
+      replies_are = ap (λ rs. end.0 ∷ rs) more.replies_are;
     }
 
 -- steps whose sessions are all there
-pub all_known : (steps : List (ℕ × Step)) (replies : List Reply) (old new : State) → Ran old steps replies new →
-    AllByRecursion HasMemory replies → AllByRecursion IsKnown replies → AllByRecursion (IsOfOne (length old.works)) steps
-all_known [] replies old new ran memory known = tt
-all_known (step ∷ steps) [] old new ran memory known = absurd ran
-all_known (step ∷ steps) (reply ∷ replies) old new ran memory known =
-    let first = took old ran.0 step reply ran.1 memory.0 in
-    let there = is_there old step.0 step.1 (λ e. known.0 (first.0 ∙ e)) in
+pub all_known : (steps : List (ℕ × Step)) (old : State) → AllByRecursion IsKnown (after_steps old steps).0 →
+    AllByRecursion (IsOfOne (length old.works)) steps
+all_known [] old known = tt
+all_known (step ∷ steps) old known =
+    let there = is_there old step.0 step.1 known.0 in
     let left = (core old.history step.0 step.1 (open_of old step.0)).2 in
-    let same : length ran.0.works ≡ length old.works =
-    ap (λ (s : State). length s.works) first.1 ∙ ap (λ (p : Reply × State). length p.1.works) (step_is old step.0 step.1 there)
-    ∙ length-set old.works (step.0 - 1) left in (
+    let same : length (step_outcome old step.0 step.1).1.works ≡ length old.works =
+    ap (λ (p : Reply × State). length p.1.works) (step_is old step.0 step.1 there) ∙ length-set old.works (step.0 - 1) left in (
       session_bounds old step.0 there,
-      subst (λ n. AllByRecursion (IsOfOne n) steps) same (all_known steps replies ran.0 new ran.2 memory.1 known.1),
+      subst (λ n. AllByRecursion (IsOfOne n) steps) same (all_known steps (step_outcome old step.0 step.1).1 known.1),
     )
 
 -- the steps of events, taken in their order, are answered so

@@ -51,11 +51,11 @@ StepsAnswerAlike = (base : Layout) (sessions limit : ℕ) (steps : List (ℕ × 
     IsPermutation (names steps) printed
     × LeadsTo sessions (scripts_of sessions steps) printed (start base sessions limit) final hands
 
--- A job's scripts, whatever order fits them: the printed order fits them too, and leads to the same.
+-- A job's scripts, whatever order fits them: the printed order fits them too, and they lead to the same.
 abbrev pub JobsAnswerAlike : Type 0
-JobsAnswerAlike = (base : Layout) (sessions limit : ℕ) (scripts : List (List Step)) (order : List ℕ) (replies : List Reply) (final : State)
+JobsAnswerAlike = (base : Layout) (sessions limit : ℕ) (scripts : List (List Step)) (order : List ℕ)
     → length scripts ≤ sessions → sessions ≤ 64 → fits scripts order ≡ true
-    → Ran (start base sessions limit) (in_turn order scripts) replies final → All HasMemory replies
-    → let hands = hands_of sessions order replies in
-    let printed = order_of final.history.log hands in
-    (fits scripts printed ≡ true) × LeadsTo sessions scripts printed (start base sessions limit) final hands
+    → let ran = after_steps (start base sessions limit) (in_turn order scripts) in
+    let hands = hands_of sessions order ran.0 in
+    let printed = order_of ran.1.history.log hands in
+    (fits scripts printed ≡ true) × LeadsTo sessions scripts printed (start base sessions limit) ran.1 hands
