@@ -13,12 +13,12 @@ use Rattle.session_core.specs.Machine.{State, after_steps, step_outcome}
 use Rattle.job_text.specs.Order.{is_logged, order_behind}
 use Rattle.order_laws.specs.Rearranged as rearranged
 use Rattle.order_laws.specs.Rearranged.{HasMemory, IsKnown, LeadsTo, dealt_out, hands_of, scripts_of}
-use Rattle.order_laws.proofs.Events.{Event}
+use Rattle.order_laws.proofs.Events.{Event, Events}
 use Rattle.order_laws.proofs.Swaps.{Swapped, all_same, behind, both, goes_on, none, own, own_same, swap}
 use Rattle.order_laws.proofs.Pulling.{callers, names, turned}
 use Rattle.order_laws.proofs.Hands.{hand, script}
 use Rattle.order_laws.proofs.Dealing.{AreOf, dealt_at, dealt_is, in_turn_is, length_dealt, turns_with}
-use Rattle.order_laws.proofs.Printing.{Events, order_is}
+use Rattle.order_laws.proofs.Printing.{order_is}
 use Rattle.order_laws.proofs.Commuting.{steps_swap, system_of}
 use Rattle.order_laws.proofs.Running.{Run, goes_so}
 
@@ -68,7 +68,8 @@ pub same_names : (old new : Events) → Swapped is_logged old new → IsPermutat
 same_names old new none = IsPermutation-refl (names old)
 same_names old new (behind event swapped) = IsPermutation-cons event.session _ _ (same_names _ _ swapped)
 same_names old new (swap one other events differ unlogged) =
-    IsPermutation-swap (one.session ∷ other.session ∷ names events) (other.session ∷ one.session ∷ names events) 0 1 (omega arith) (omega arith) refl
+    IsPermutation-swap (one.session ∷ other.session ∷ names events) (other.session ∷ one.session ∷ names events) 0 1
+    (omega arith) (omega arith) refl
 same_names old new (both first next) = IsPermutation-trans _ _ _ (same_names _ _ first) (same_names _ _ next)
 
 -- ---- the printed order

@@ -1,5 +1,6 @@
 -- A step that isn't logged may as well be taken behind the next one, of another session.
-use Rattle.std.proofs.Common.{◌≡◌, ◌≢◌, ℕ, ◌-◌, ◌≤◌, Bool, true, false, ◌&&◌, List, Option, None, length, nat_le, refl, ap, sym, subst, ◌∙◌, arith}
+use Rattle.std.proofs.Common.{◌≡◌, ◌≢◌, ℕ, ◌-◌, ◌≤◌, Bool, true, false, ◌&&◌, List, Option, None, length, nat_le, refl, ap, sym, subst}
+use Rattle.std.proofs.Common.{◌∙◌, arith}
 use Rattle.std.proofs.lemmas.Bool.{and_parts}
 use Rattle.std.proofs.lemmas.Bool.Decides.{nat_tests}
 use Rattle.std.proofs.lemmas.List.{get_or-set_other, length-set, set_comm}
@@ -131,8 +132,12 @@ kept_by h session step work c (noted room told more) unlogged = absurd cc
 room_of : (h : History) (session : ℕ) (step : Step) (work : Option Transaction) (c : Core) → Kind h session step work c →
     is_logged c.0 ≡ true → is_log_full h ≡ false
 room_of h session step work c (free plain own moves same) logged = absurd cc
-room_of h session step work c (full room is) logged = absurd (let e = sym logged ∙ ap (λ (d : Core). is_logged d.0) is in cc)
-room_of h session step work c (foreign txn open_is not_own is) logged = absurd (let e = sym logged ∙ ap (λ (d : Core). is_logged d.0) is in cc)
+room_of h session step work c (full room is) logged =
+    let told = sym logged ∙ ap (λ (d : Core). is_logged d.0) is in
+    absurd cc
+room_of h session step work c (foreign txn open_is not_own is) logged =
+    let told = sym logged ∙ ap (λ (d : Core). is_logged d.0) is in
+    absurd cc
 room_of h session step work c (noted room told more) logged = room
 
 -- with room in the log the session's own transaction decides what isn't logged

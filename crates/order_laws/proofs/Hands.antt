@@ -4,7 +4,8 @@ use Rattle.std.proofs.Common.{refl, ap, sym, ◌∙◌, nat_eq, arith}
 use Rattle.std.specs.List.{AllByRecursion}
 use Rattle.std.proofs.lemmas.Bool.{eqb-false, eqb-true, ne_eqb}
 use Rattle.order_laws.proofs.Events.{Event}
-use Rattle.order_laws.proofs.Pulling.{Leads, caller_before, callers, left, left_before, leads_behind, leads_first, names, pulled, pulled_before}
+use Rattle.order_laws.proofs.Pulling.{Leads, caller_before, callers, left, left_before, leads_behind, leads_first, names, pulled}
+use Rattle.order_laws.proofs.Pulling.{pulled_before}
 use Rattle.order_laws.proofs.Swaps.{own, own_before}
 
 -- a session's steps, and its replies
@@ -63,7 +64,8 @@ module _ {S R : Type 0} (is_logged : R → Bool) where
         by false true unlogged mine more = more unlogged
             ∙ ap (λ b. drop (count_before b (count_to is_logged (hand session events))) (event.reply ∷ hand session events)) (sym unlogged)
         by false false unlogged mine more =
-            ap (λ b. map (λ (e : Event S R). e.reply) (own_before b event (own session (left is_logged session events)))) mine ∙ more unlogged
+            ap (λ b. map (λ (e : Event S R). e.reply) (own_before b event (own session (left is_logged session events)))) mine
+            ∙ more unlogged
 
   -- and each other one with all
   pub own_left : (session other : ℕ) (events : List (Event S R)) → Leads is_logged session events → other ≢ session →
@@ -94,8 +96,8 @@ module _ {S R : Type 0} (is_logged : R → Bool) where
         by false false more = (all.0, more)
 
   -- without a logged event none of the session's is left
-  pub none_left : (session : ℕ) (events : List (Event S R)) → callers is_logged events ≡ [] → AllByRecursion (λ e. session ≤ e.session) events →
-      AllByRecursion (λ e. session + 1 ≤ e.session) (left is_logged session events)
+  pub none_left : (session : ℕ) (events : List (Event S R)) → callers is_logged events ≡ [] →
+      AllByRecursion (λ e. session ≤ e.session) events → AllByRecursion (λ e. session + 1 ≤ e.session) (left is_logged session events)
   none_left session [] none all = tt
   none_left session (event ∷ events) none all = by (is_logged event.reply) (nat_eq event.session session) refl none
       (λ same. none_left session events same all.1) where
@@ -113,12 +115,13 @@ module _ {S R : Type 0} (is_logged : R → Bool) where
   pub count_all : (session : ℕ) (events : List (Event S R)) → callers is_logged events ≡ [] →
       count_to is_logged (hand session events) ≡ length (hand session events)
   count_all session [] none = refl
-  count_all session (event ∷ events) none = by (is_logged event.reply) (nat_eq event.session session) refl none (count_all session events) where
-    by : (b c : Bool) → is_logged event.reply ≡ b → caller_before b event.session (callers is_logged events) ≡ [] →
-        (callers is_logged events ≡ [] → count_to is_logged (hand session events) ≡ length (hand session events)) →
-        count_to is_logged (map (λ (e : Event S R). e.reply) (own_before c event (own session events)))
-        ≡ length (map (λ (e : Event S R). e.reply) (own_before c event (own session events)))
-    by true c logged same more = absurd cc
-    by false true unlogged same more =
-        ap (λ b. count_before b (count_to is_logged (hand session events))) unlogged ∙ ap suc (more same)
-    by false false unlogged same more = more same
+  count_all session (event ∷ events) none =
+      by (is_logged event.reply) (nat_eq event.session session) refl none (count_all session events) where
+        by : (b c : Bool) → is_logged event.reply ≡ b → caller_before b event.session (callers is_logged events) ≡ [] →
+            (callers is_logged events ≡ [] → count_to is_logged (hand session events) ≡ length (hand session events)) →
+            count_to is_logged (map (λ (e : Event S R). e.reply) (own_before c event (own session events)))
+            ≡ length (map (λ (e : Event S R). e.reply) (own_before c event (own session events)))
+        by true c logged same more = absurd cc
+        by false true unlogged same more =
+            ap (λ b. count_before b (count_to is_logged (hand session events))) unlogged ∙ ap suc (more same)
+        by false false unlogged same more = more same

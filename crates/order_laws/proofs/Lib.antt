@@ -7,7 +7,9 @@ pub mod Printing
 pub mod Cores
 pub mod StepKinds
 pub mod Commuting
+pub mod Keeping
 pub mod Running
-pub mod Answering
 pub mod JobTurns
+pub mod FittingOrders
+pub mod Answering
 pub mod PrintedOrders

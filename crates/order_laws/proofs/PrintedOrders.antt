@@ -1,5 +1,6 @@
 -- The printed order leads to the same, of steps and of jobs.
-use Rattle.std.proofs.Common.{◌≡◌, ℕ, ◌≤◌, suc, Bool, true, false, ◌||◌, List, [], ◌∷◌, ◌++◌, length, get_or, map, refl, ap, sym, subst, ◌∙◌, arith, replicate, None, nat_eq}
+use Rattle.std.proofs.Common.{◌≡◌, ℕ, ◌≤◌, suc, Bool, true, false, ◌||◌, List, [], ◌∷◌, ◌++◌, length, get_or, map, refl, ap, sym, subst}
+use Rattle.std.proofs.Common.{◌∙◌, arith, replicate, None, nat_eq}
 use Rattle.std.specs.Prelude.{IsPermutation}
 use Rattle.std.specs.List.{AllByRecursion, list_any, range_with_len}
 use Rattle.std.proofs.lemmas.List.{length-replicate}
@@ -14,15 +15,15 @@ use Rattle.job_text.specs.Job.{fits}
 use Rattle.job_text.specs.Order.{is_logged, order_of}
 use Rattle.order_laws.specs.Rearranged as rearranged
 use Rattle.order_laws.specs.Rearranged.{HasMemory, IsKnown, JobsAnswerAlike, LeadsTo, StepsAnswerAlike, dealt_out, hands_of, scripts_of}
-use Rattle.order_laws.proofs.Events.{Event}
+use Rattle.order_laws.proofs.Events.{Event, Events}
 use Rattle.order_laws.proofs.Swaps.{Swapped, own, own_before}
 use Rattle.order_laws.proofs.Pulling.{names, turned, turns, log_leads}
 use Rattle.order_laws.proofs.Hands.{script}
 use Rattle.order_laws.proofs.Dealing.{AreOf, length_dealt, turns_with}
-use Rattle.order_laws.proofs.Printing.{Events}
 use Rattle.order_laws.proofs.StepKinds.{callers_of}
 use Rattle.order_laws.proofs.Running.{IsOfOne, Run, all_known, events_of, run_is}
-use Rattle.order_laws.proofs.JobTurns.{AreTurns, fits_again, fitting_turns, own_step, own_steps}
+use Rattle.order_laws.proofs.JobTurns.{AreTurns, own_step, own_steps}
+use Rattle.order_laws.proofs.FittingOrders.{fits_again, fitting_turns}
 use Rattle.order_laws.proofs.Answering.{AreScripts, hands_so, leads_to, names_so, own_dealt, printed_is, same_names}
 
 -- the events of a run, in their order and in the printed one
@@ -30,7 +31,8 @@ record Printed (sessions : ℕ) (steps : List (ℕ × Step)) (old : State) (even
   run : Run old (after_steps old steps).1 steps (after_steps old steps).0 events
   new : Events
   swapped : Swapped is_logged events new
-  printed : order_of (after_steps old steps).1.history.log (hands_of sessions (rearranged.names steps) (after_steps old steps).0) ≡ names new
+  printed : order_of (after_steps old steps).1.history.log (hands_of sessions (rearranged.names steps) (after_steps old steps).0)
+      ≡ names new
 
 printed_events : (base : Layout) (sessions limit : ℕ) (steps : List (ℕ × Step)) → sessions ≤ 64 → AllByRecursion (IsOfOne sessions) steps →
     Printed sessions steps (start base sessions limit) (events_of (start base sessions limit) steps)
@@ -125,7 +127,8 @@ are_so : (sessions : ℕ) (events : Events) → AllByRecursion (IsOfOne sessions
 are_so sessions [] all = tt
 are_so sessions (event ∷ events) all = (all.0, are_so sessions events all.1)
 
-more_known : (few sessions : ℕ) → few ≤ sessions → (steps : List (ℕ × Step)) → AllByRecursion (IsOfOne few) steps → AllByRecursion (IsOfOne sessions) steps
+more_known : (few sessions : ℕ) → few ≤ sessions → (steps : List (ℕ × Step)) →
+    AllByRecursion (IsOfOne few) steps → AllByRecursion (IsOfOne sessions) steps
 more_known few sessions more [] all = tt
 more_known few sessions more (step ∷ steps) all =
     let high : step.0 ≤ few = all.0.1 in
@@ -159,7 +162,8 @@ jobs_alike base sessions limit scripts order fewer few fitting = (
   job = fitting_turns scripts order fitting
 
   p : Printed sessions (in_turn order scripts) (start base sessions limit) (events_of (start base sessions limit) (in_turn order scripts))
-  p = printed_events base sessions limit (in_turn order scripts) few (more_known (length scripts) sessions fewer (in_turn order scripts) job.known)
+  p = printed_events base sessions limit (in_turn order scripts) few
+      (more_known (length scripts) sessions fewer (in_turn order scripts) job.known)
 
   names_now : names (events_of (start base sessions limit) (in_turn order scripts)) ≡ order
   names_now = sym (names_so events) ∙ ap rearranged.names p.run.steps_are ∙ job.names_are

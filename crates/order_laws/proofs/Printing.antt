@@ -1,5 +1,6 @@
 -- The printed order names the sessions of the events as they are pulled to the front.
-use Rattle.std.proofs.Common.{◌≡◌, ℕ, suc, ◌+◌, ◌-◌, ◌<◌, ◌≤◌, Bool, true, false, cond, List, [], ◌∷◌, ◌++◌, drop, get_or, set, length, map, not}
+use Rattle.std.proofs.Common.{◌≡◌, ℕ, suc, ◌+◌, ◌-◌, ◌<◌, ◌≤◌, Bool, true, false, cond, List, [], ◌∷◌, ◌++◌, drop, get_or, set, length}
+use Rattle.std.proofs.Common.{map, not}
 use Rattle.std.proofs.Common.{replicate, refl, ap, subst, sym, ◌∙◌, arith, inl, inr, option_map, length-drop, Some, None}
 use Rattle.std.specs.Prelude.{unwrap_or, nat_lt, slice_index}
 use Rattle.std.specs.List.{AllByRecursion, position_or_len, range_with_len}
@@ -11,13 +12,10 @@ use Rattle.undo_rules.specs.declared.log.Logged.{Logged}
 use Rattle.session_steps.specs.declared.Reply.{Reply}
 use Rattle.session_steps.specs.declared.Step.{Step}
 use Rattle.job_text.specs.Order.{is_logged, left_of, order_behind, replies_of, rest_from, steps_to_logged}
-use Rattle.order_laws.proofs.Events.{Event}
+use Rattle.order_laws.proofs.Events.{Event, Events}
 use Rattle.order_laws.proofs.Pulling.{Leads, caller_before, callers, callers_left, left, names, pulled, turned}
 use Rattle.order_laws.proofs.Hands.{all_left, count_all, count_before, count_to, hand, hand_left, names_pulled, none_left, own_left}
 use Rattle.order_laws.proofs.Dealing.{AreOf}
-
-abbrev pub Events : Type 0
-Events = List (Event Step Reply)
 
 -- ---- how many steps
 
@@ -29,7 +27,8 @@ counted_none len =
     let inside : nat_lt 0 (suc len) ≡ true = grind (arith, nat_tests) in
     ap (λ b. counted b 0 (suc len)) inside
 
-counted_more : (before len : ℕ) → counted (nat_lt (1 + before) (suc len)) (1 + before) (suc len) ≡ suc (counted (nat_lt before len) before len)
+counted_more : (before len : ℕ) →
+    counted (nat_lt (1 + before) (suc len)) (1 + before) (suc len) ≡ suc (counted (nat_lt before len) before len)
 counted_more before len = by (nat_lt before len) refl where
   by : (b : Bool) → nat_lt before len ≡ b → counted (nat_lt (1 + before) (suc len)) (1 + before) (suc len) ≡ suc (counted b before len)
   by true h =

@@ -96,7 +96,8 @@ module _ {S R : Type 0} (is_logged : R → Bool) where
             (eqb-false event.session session mine) unlogged (pulled_own session events (leads_behind event events session unlogged leads)))
 
   -- then the rest of the log is left
-  pub callers_left : (session : ℕ) (events : List (Event S R)) → callers is_logged (left is_logged session events) ≡ drop 1 (callers is_logged events)
+  pub callers_left : (session : ℕ) (events : List (Event S R)) →
+      callers is_logged (left is_logged session events) ≡ drop 1 (callers is_logged events)
   callers_left session [] = refl
   callers_left session (event ∷ events) = by (is_logged event.reply) (nat_eq event.session session) refl (callers_left session events) where
     by : (b c : Bool) → is_logged event.reply ≡ b → callers is_logged (left is_logged session events) ≡ drop 1 (callers is_logged events) →

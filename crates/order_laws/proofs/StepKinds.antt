@@ -1,6 +1,7 @@
 -- The kinds of steps: those that the session's own transaction alone decides, those that a full log refuses, those whose
 -- work is foreign, and those that are logged.
-use Rattle.std.proofs.Common.{◌≡◌, ◌≢◌, ℕ, ◌+◌, Bool, true, false, cond, List, [], ◌∷◌, ◌++◌, Option, None, Some, Result, Ok, Err, map, not, drop, nat_le}
+use Rattle.std.proofs.Common.{◌≡◌, ◌≢◌, ℕ, ◌+◌, Bool, true, false, cond, List, [], ◌∷◌, ◌++◌, Option, None, Some, Result, Ok, Err, map}
+use Rattle.std.proofs.Common.{not, drop, nat_le}
 use Rattle.std.proofs.Common.{refl, ap, ◌∙◌}
 use Rattle.std.proofs.lemmas.List.{map_push}
 use Rattle.txn_rules.specs.declared.command.Command.{Command}
@@ -18,7 +19,8 @@ use Rattle.undo_rules.specs.declared.log.Call.TheVariants as calls
 use Rattle.undo_rules.specs.declared.log.Logged.{Logged}
 use Rattle.undo_rules.specs.Books.{History}
 use Rattle.undo_rules.specs.Links.{first_moved, first_reader, links_to}
-use Rattle.undo_rules.specs.Steps.{Found, after_open, after_redo, after_undo, commit_unless, depends, found, is_log_full, is_own, logged, moved}
+use Rattle.undo_rules.specs.Steps.{Found, after_open, after_redo, after_undo, commit_unless, depends, found, is_log_full, is_own, logged}
+use Rattle.undo_rules.specs.Steps.{moved}
 use Rattle.undo_rules.specs.Steps.{opening, or_else, redo_refusal, redo_refusal_at, stale_by, state_of, undo_refusal}
 use Rattle.undo_rules.specs.Steps.{undo_refusal_at, unless}
 use Rattle.session_steps.specs.declared.Reply.{Reply}
@@ -53,11 +55,9 @@ pub data Kind (h : History) (session : ℕ) (step : Step) (work : Option Transac
       → Kind h session step work c
 
 -- a logged call has its caller
-abbrev with_log : History → List Logged → History
-with_log h log = record h { log = log }
-
 caller_more : (log : List Logged) (session : ℕ) (call : Call) (answer : Answer) →
-    map (λ (c : Logged). c.session) (log ++ record { session = session; call = call; answer = answer } ∷ []) ≡ map (λ (c : Logged). c.session) log ++ session ∷ []
+    map (λ (c : Logged). c.session) (log ++ record { session = session; call = call; answer = answer } ∷ [])
+    ≡ map (λ (c : Logged). c.session) log ++ session ∷ []
 caller_more log session call answer = map_push (λ (c : Logged). c.session) log (record { session = session; call = call; answer = answer })
 
 open_kind : (h : History) (session : ℕ) → Kind h session Open None (core h session Open None)
@@ -105,7 +105,8 @@ redo_noted (Some at) = by at.entry.live (first_reader at.entry.writes at.later)
       by false None (Some txn) = refl
       by false (Some txn) move = refl
 
-undo_kind : (h : History) (session : ℕ) (txn : TxnId) (work : Option Transaction) → Kind h session (Undo txn) work (core h session (Undo txn) work)
+undo_kind : (h : History) (session : ℕ) (txn : TxnId) (work : Option Transaction) →
+    Kind h session (Undo txn) work (core h session (Undo txn) work)
 undo_kind h session txn work = by (is_log_full h) (undo_refusal h txn) refl (undo_noted (found h txn)) where
   by : (b : Bool) (fault : Option BookFault) → is_log_full h ≡ b → is_noted fault ≡ true → Kind h session (Undo txn) work
       (changed Undone work (cond b (Err LogFull, h) (unless fault h session (calls.Undo txn) (after_undo h session txn))))
@@ -113,7 +114,8 @@ undo_kind h session txn work = by (is_log_full h) (undo_refusal h txn) refl (und
   by false None room told = noted room refl (λ held. caller_more h.log session _ _)
   by false (Some fault) room told = noted room told (λ held. caller_more h.log session _ _)
 
-redo_kind : (h : History) (session : ℕ) (txn : TxnId) (work : Option Transaction) → Kind h session (Redo txn) work (core h session (Redo txn) work)
+redo_kind : (h : History) (session : ℕ) (txn : TxnId) (work : Option Transaction) →
+    Kind h session (Redo txn) work (core h session (Redo txn) work)
 redo_kind h session txn work = by (is_log_full h) (redo_refusal h txn) refl (redo_noted (found h txn)) where
   by : (b : Bool) (fault : Option BookFault) → is_log_full h ≡ b → is_noted fault ≡ true → Kind h session (Redo txn) work
       (changed Redone work (cond b (Err LogFull, h) (unless fault h session (calls.Redo txn) (after_redo h session txn))))
