@@ -1,7 +1,6 @@
 -- An order that fits scripts names each session as often as it has steps, and nothing else; so does each order of the same names.
-use Rattle.std.proofs.Common.{◌≡◌, ℕ, ◌+◌, ◌<◌, zero, suc, Bool, true, false, ◌&&◌, cond, List, [], ◌∷◌, get_or, length}
-use Rattle.std.proofs.Common.{nat_eq, nat_le, nat_lt}
-use Rattle.std.proofs.Common.{refl, ap, sym, ◌∙◌, arith, inl, inr}
+use Rattle.std.proofs.Common.{◌≡◌, ℕ, ◌+◌, ◌<◌, zero, suc, Bool, true, false, ◌&&◌, cond, List, [], ◌∷◌, get_or, length, nat_eq, nat_le}
+use Rattle.std.proofs.Common.{nat_lt, refl, ap, sym, ◌∙◌, arith, inl, inr}
 use Rattle.std.specs.Prelude.{IsPermutation, count_by}
 use Rattle.std.specs.List.{AllByRecursion}
 use Rattle.std.proofs.lemmas.Bool.{and_from, and_left, and_parts, and_right, cases_eq, cases_lt, eq-eqb, eqb-true, ne_eqb}

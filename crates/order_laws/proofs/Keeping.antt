@@ -1,7 +1,6 @@
 -- What a session's step keeps, and what it logs.
-use Rattle.std.proofs.Common.{◌≡◌, ℕ, ◌+◌, ◌-◌, ◌<◌, ◌≤◌, true, cond, [], ◌++◌, Option, None, Some, Result, Ok}
-use Rattle.std.proofs.Common.{Err, length}
-use Rattle.std.proofs.Common.{refl, ap, sym, subst, ◌∙◌, append-nil, arith, inl, not}
+use Rattle.std.proofs.Common.{◌≡◌, ℕ, ◌+◌, ◌-◌, ◌<◌, ◌≤◌, true, cond, [], ◌++◌, Option, None, Some, Result, Ok, Err, length, refl, ap}
+use Rattle.std.proofs.Common.{sym, subst, ◌∙◌, append-nil, arith, inl, not}
 use Rattle.std.proofs.lemmas.List.{length-set}
 use Rattle.txn_rules.specs.declared.command.Command.{Command}
 use Rattle.txn_rules.specs.declared.command.Done.{Done}

@@ -7,6 +7,7 @@ use Rattle.std.proofs.lemmas.List.{length-replicate}
 use Rattle.std.proofs.lemmas.List.Elements.{recursion_from_All}
 use Rattle.lay_items.specs.Layout.{Layout}
 use Rattle.session_steps.specs.declared.Reply.{Reply}
+use Rattle.session_steps.specs.declared.Reply.TheVariants.{Cancelled}
 use Rattle.session_steps.specs.declared.Step.{Step}
 use Rattle.session_steps.specs.Turns.{in_turn}
 use Rattle.session_core.specs.Machine.{State, after_steps, is_memory, start}
@@ -14,12 +15,12 @@ use Rattle.session_core.proofs.MachineLemmas.{ran_all, started}
 use Rattle.job_text.specs.Job.{fits}
 use Rattle.job_text.specs.Order.{is_logged, order_of}
 use Rattle.order_laws.specs.Rearranged as rearranged
-use Rattle.order_laws.specs.Rearranged.{HasMemory, IsKnown, JobsAnswerAlike, LeadsTo, StepsAnswerAlike, dealt_out, hands_of, scripts_of}
+use Rattle.order_laws.specs.Rearranged.{HasMemory, IsKnown, JobsAnswerAlike, LeadsTo, StepsAnswerAlike, StepsComeInTurn, dealt_out, hands_of, scripts_of}
 use Rattle.order_laws.proofs.Events.{Event, Events}
 use Rattle.order_laws.proofs.Swaps.{Swapped, own, own_before}
 use Rattle.order_laws.proofs.Pulling.{names, turned, turns, log_leads}
 use Rattle.order_laws.proofs.Hands.{script}
-use Rattle.order_laws.proofs.Dealing.{AreOf, length_dealt, turns_with}
+use Rattle.order_laws.proofs.Dealing.{AreOf, in_turn_is, length_dealt, turns_with}
 use Rattle.order_laws.proofs.StepKinds.{callers_of}
 use Rattle.order_laws.proofs.Running.{IsOfOne, Run, all_known, events_of, run_is}
 use Rattle.order_laws.proofs.JobTurns.{AreTurns, own_step, own_steps}
@@ -111,6 +112,39 @@ steps_alike base sessions limit steps replies final few ran memory known =
     subst (Alike sessions steps old) end (alike base sessions limit steps few
     (subst (AllByRecursion IsKnown) both.0 (recursion_from_All IsKnown replies known)))
 
+are_so : (sessions : ℕ) (events : Events) → AllByRecursion (IsOfOne sessions) (turns_with (λ e. e.step) events) → AreOf sessions events
+are_so sessions [] all = tt
+are_so sessions (event ∷ events) all = (all.0, are_so sessions events all.1)
+
+-- steps with some reply, which nothing asks for
+abbrev unanswered : List (ℕ × Step) → Events
+unanswered [] = []
+unanswered (step ∷ steps) = record { session = step.0; step = step.1; reply = Cancelled } ∷ unanswered steps
+
+pub steps_come_in_turn : StepsComeInTurn
+steps_come_in_turn sessions steps known =
+    ap (λ ns. in_turn ns scripts) (ap rearranged.names (sym (same steps)) ∙ names_so events)
+    ∙ in_turn_is events scripts (subst (λ n. AreOf n events) (sym len) are)
+    (λ index inside. ap (λ ss. get_or (scripts_of sessions ss) index []) (sym (same steps))
+    ∙ own_dealt (λ e. e.step) sessions events are index)
+    ∙ same steps where
+      events : Events
+      events = unanswered steps
+
+      scripts : List (List Step)
+      scripts = scripts_of sessions steps
+
+      same : (steps : List (ℕ × Step)) → turns_with (λ e. e.step) (unanswered steps) ≡ steps
+      same [] = refl
+      same (step ∷ steps) = ap (λ ss. step ∷ ss) (same steps)
+
+      are : AreOf sessions (unanswered steps)
+      are = are_so sessions events (subst (AllByRecursion (IsOfOne sessions)) (sym (same steps))
+          (recursion_from_All (IsOfOne sessions) steps known))
+
+      len : length (scripts_of sessions steps) ≡ sessions
+      len = length_dealt steps (replicate sessions []) ∙ length-replicate sessions []
+
 -- ---- jobs
 
 -- a script is what its session takes
@@ -122,10 +156,6 @@ scripts_so session (event ∷ events) = by (nat_eq event.session session) (scrip
       ≡ map (λ (e : Event Step Reply). e.step) (own_before b event (own session events))
   by true same = ap (λ ss. event.step ∷ ss) same
   by false same = same
-
-are_so : (sessions : ℕ) (events : Events) → AllByRecursion (IsOfOne sessions) (turns_with (λ e. e.step) events) → AreOf sessions events
-are_so sessions [] all = tt
-are_so sessions (event ∷ events) all = (all.0, are_so sessions events all.1)
 
 more_known : (few sessions : ℕ) → few ≤ sessions → (steps : List (ℕ × Step)) →
     AllByRecursion (IsOfOne few) steps → AllByRecursion (IsOfOne sessions) steps

@@ -1,7 +1,6 @@
 -- The printed order names the sessions of the events as they are pulled to the front.
 use Rattle.std.proofs.Common.{◌≡◌, ℕ, suc, ◌+◌, ◌-◌, ◌<◌, ◌≤◌, Bool, true, false, cond, List, [], ◌∷◌, ◌++◌, drop, get_or, set, length}
-use Rattle.std.proofs.Common.{map, not}
-use Rattle.std.proofs.Common.{replicate, refl, ap, subst, sym, ◌∙◌, arith, inl, inr, option_map, length-drop, Some, None}
+use Rattle.std.proofs.Common.{map, not, replicate, refl, ap, subst, sym, ◌∙◌, arith, inl, inr, option_map, length-drop, Some, None}
 use Rattle.std.specs.Prelude.{unwrap_or, nat_lt, slice_index}
 use Rattle.std.specs.List.{AllByRecursion, position_or_len, range_with_len}
 use Rattle.std.proofs.lemmas.Bool.{cases_eq}

@@ -1,8 +1,7 @@
 -- The kinds of steps: those that the session's own transaction alone decides, those that a full log refuses, those whose
 -- work is foreign, and those that are logged.
 use Rattle.std.proofs.Common.{◌≡◌, ◌≢◌, ℕ, ◌+◌, Bool, true, false, cond, List, [], ◌∷◌, ◌++◌, Option, None, Some, Result, Ok, Err, map}
-use Rattle.std.proofs.Common.{not, drop, nat_le}
-use Rattle.std.proofs.Common.{refl, ap, ◌∙◌}
+use Rattle.std.proofs.Common.{not, drop, nat_le, refl, ap, ◌∙◌}
 use Rattle.std.proofs.lemmas.List.{map_push}
 use Rattle.txn_rules.specs.declared.command.Command.{Command}
 use Rattle.txn_rules.specs.declared.command.Done.{Done}
@@ -20,8 +19,7 @@ use Rattle.undo_rules.specs.declared.log.Logged.{Logged}
 use Rattle.undo_rules.specs.Books.{History}
 use Rattle.undo_rules.specs.Links.{first_moved, first_reader, links_to}
 use Rattle.undo_rules.specs.Steps.{Found, after_open, after_redo, after_undo, commit_unless, depends, found, is_log_full, is_own, logged}
-use Rattle.undo_rules.specs.Steps.{moved}
-use Rattle.undo_rules.specs.Steps.{opening, or_else, redo_refusal, redo_refusal_at, stale_by, state_of, undo_refusal}
+use Rattle.undo_rules.specs.Steps.{moved, opening, or_else, redo_refusal, redo_refusal_at, stale_by, state_of, undo_refusal}
 use Rattle.undo_rules.specs.Steps.{undo_refusal_at, unless}
 use Rattle.session_steps.specs.declared.Reply.{Reply}
 use Rattle.session_steps.specs.declared.Reply.TheVariants.{Fault, Redone, Undone}

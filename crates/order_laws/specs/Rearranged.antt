@@ -25,6 +25,11 @@ names steps = map (λ step. step.0) steps
 abbrev pub scripts_of : ℕ → List (ℕ × Step) → List (List Step)
 scripts_of sessions steps = dealt_out steps (replicate sessions [])
 
+-- taken as they were dealt out, steps come in their own order again
+abbrev pub StepsComeInTurn : Type 0
+StepsComeInTurn = (sessions : ℕ) (steps : List (ℕ × Step)) → All (λ step. (1 ≤ step.0) × (step.0 ≤ sessions)) steps
+    → in_turn (names steps) (scripts_of sessions steps) ≡ steps
+
 -- the replies to each, where the sessions took their steps in this order
 abbrev pub hands_of : ℕ → List ℕ → List Reply → List (List Reply)
 hands_of sessions order replies = dealt order replies (replicate sessions [])
@@ -34,11 +39,11 @@ pub record LeadsTo (sessions : ℕ) (scripts : List (List Step)) (order : List �
   pub state : (after_steps old (in_turn order scripts)).1 ≡ new
   pub replies : hands_of sessions order (after_steps old (in_turn order scripts)).0 ≡ hands
 
--- no memory was refused
+-- the answer isn't out of memory
 abbrev pub HasMemory : Reply → Type 0
 HasMemory reply = is_memory reply ≡ false
 
--- the session is there
+-- the answer isn't that there is no such session
 abbrev pub IsKnown : Reply → Type 0
 IsKnown reply = reply ≢ Fault NoSession
 
