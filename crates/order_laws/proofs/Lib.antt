@@ -1,0 +1,15 @@
+pub mod Events
+pub mod Swaps
+pub mod Pulling
+pub mod Hands
+pub mod Dealing
+pub mod Printing
+pub mod Cores
+pub mod StepKinds
+pub mod Commuting
+pub mod Keeping
+pub mod Running
+pub mod JobTurns
+pub mod FittingOrders
+pub mod Answering
+pub mod PrintedOrders
