@@ -1,1 +1,3 @@
+pub mod Crossings
 pub mod Operations
+pub mod Rows

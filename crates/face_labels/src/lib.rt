@@ -4,8 +4,13 @@
 //! tell its answer: a place is to the left of an odd number of them exactly where the operation holds there.
 #![tactic(auto)]
 
+mod crossing;
+mod exact;
 mod laws;
 mod op;
+mod rows;
+mod upward;
 
 pub use laws::operations_have_laws;
 pub use op::Op;
+pub use rows::row_edges;

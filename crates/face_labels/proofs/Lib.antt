@@ -1,0 +1,2 @@
+pub mod ProductLemmas
+pub mod RowLemmas
