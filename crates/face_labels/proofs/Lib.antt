@@ -1,2 +1,10 @@
+pub mod InsideLemmas
+pub mod JudgeLemmas
+pub mod LabelLemmas
+pub mod LineLemmas
+pub mod NearLemmas
+pub mod PickedLemmas
 pub mod ProductLemmas
 pub mod RowLemmas
+pub mod SideLemmas
+pub mod StartLemmas

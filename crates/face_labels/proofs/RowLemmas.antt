@@ -10,7 +10,7 @@ use Rattle.std.specs.declared.cmp.Ordering.TheVariants.{Equal, Greater, Less}
 use Rattle.std.proofs.lemmas.Int.{ints}
 use Rattle.std.proofs.lemmas.Bool.{cases_lt}
 use Rattle.std.proofs.lemmas.Bool.Decides.{nat_tests}
-use Rattle.std.proofs.lemmas.List.{append-nil, get_or_default, length-take-le, map-append, take_more}
+use Rattle.std.proofs.lemmas.List.{get_or_default, map-append}
 use Rattle.std.proofs.lemmas.List.Elements.{All-push, recursion_from_All}
 use Rattle.std.proofs.lemmas.List.Sorted.{All-permutation, Contains-permutation, IsPermutation-map}
 use Rattle.std.proofs.lemmas.Map.Keys.{IsDistinct-IsPermutation}
@@ -27,6 +27,7 @@ use Rattle.side_laws.proofs.Sides.{meet_first, meet_second}
 use Rattle.snap_chains.specs.Rounded.{AreClean}
 use Rattle.face_labels.specs.declared.crossing.Crossing.{Crossing}
 use Rattle.face_labels.specs.Crossings.{IsCrossingOf, crossing_numbers}
+use Rattle.face_labels.proofs.PickedLemmas.{picked_more, picked_passed}
 use Rattle.face_labels.specs.Rows.{AreRowEdges, CrossesRow, IsLeftOf, crosses_row, crossing, rise, upward}
 
 -- ---- tests
@@ -70,7 +71,7 @@ has_get [] n d less = absurd (omega arith)
 has_get (x ∷ xs) zero d less = inl refl
 has_get (x ∷ xs) (suc n) d less = inr (has_get xs n d (omega arith))
 
-before_by_number : {A : Type 0} (Before : A → A → Type 0) → IsStrictOrder Before → (xs : List A) (m n : ℕ) (d : A)
+pub before_by_number : {A : Type 0} (Before : A → A → Type 0) → IsStrictOrder Before → (xs : List A) (m n : ℕ) (d : A)
     → IsRising Before xs → m < n → n < length xs → Before (get_or xs m d) (get_or xs n d)
 before_by_number Before laws [] m n d h less inside = absurd (omega arith)
 before_by_number Before laws (x ∷ xs) m zero d h less inside = absurd (omega arith)
@@ -93,19 +94,6 @@ other_edge edges m n d h apart inside_m inside_n same = ⊎_elim
     below m n apart le = omega arith
 
 -- ---- those that cross, in the order of the edges
-numbers-append : (row : ℤ) (n : ℕ) (es fs : List (Point × Point))
-    → crossing_numbers row n (es ++ fs) ≡ crossing_numbers row n es ++ crossing_numbers row (n + length es) fs
-numbers-append row n [] fs = ap (λ m. crossing_numbers row m fs) (omega arith)
-numbers-append row n (e ∷ es) fs = by_test (crosses_row row e)
-    (numbers-append row (n + 1) es fs ∙ ap (λ m. crossing_numbers row (n + 1) es ++ crossing_numbers row m fs) (omega arith))
-  where
-    by_test : (b : Bool)
-        → crossing_numbers row (n + 1) (es ++ fs) ≡ crossing_numbers row (n + 1) es ++ crossing_numbers row (n + length (e ∷ es)) fs
-        → cond b (n ∷ crossing_numbers row (n + 1) (es ++ fs)) (crossing_numbers row (n + 1) (es ++ fs))
-        ≡ cond b (n ∷ crossing_numbers row (n + 1) es) (crossing_numbers row (n + 1) es) ++ crossing_numbers row (n + length (e ∷ es)) fs
-    by_test true h = ap (λ ns. n ∷ ns) h
-    by_test false h = h
-
 -- the places of those of the first n edges that cross
 pub record AreCrossings (edges : List (Point × Point)) (row : ℤ) (n : ℕ) (cs : List Crossing) : Type 0 where
   pub numbers : map (λ c. c.number) cs ≡ crossing_numbers row 0 (take n edges)
@@ -115,14 +103,11 @@ pub crossing_more : (edges : List (Point × Point)) (row : ℤ) (n : ℕ) (e : P
     → n < length edges → e ≡ get_or edges n e → crosses_row row e ≡ true → c.number ≡ n → c.x ≡ crossing row e → c.rise ≡ rise e
     → new ≡ old ++ c ∷ [] → AreCrossings edges row n old → AreCrossings edges row (n + 1) new
 crossing_more edges row n e old new c less is_e so number x up is_new h =
-    let count : 0 + length (take n edges) ≡ n = omega (arith, length-take-le n edges (omega arith)) in
-    let further : take (n + 1) edges ≡ take n edges ++ e ∷ [] = take_more edges n e less ∙ ap (λ z. take n edges ++ z ∷ []) (sym is_e) in
     let any : (d : Point × Point) → e ≡ get_or edges n d = λ d. is_e ∙ get_or_default edges n e d less in
     record {
       numbers = ap (map (λ z. z.number)) is_new ∙ map-append (λ (z : Crossing). z.number) old (c ∷ [])
           ∙ (λ i. h.numbers i ++ number i ∷ [])
-          ∙ sym (ap (crossing_numbers row 0) further ∙ numbers-append row 0 (take n edges) (e ∷ [])
-          ∙ (λ i. crossing_numbers row 0 (take n edges) ++ cond (so i) (count i ∷ []) []));
+          ∙ sym (picked_more (crosses_row row) (λ k f. k) edges n e less is_e so);
       places = subst (All (IsCrossingOf edges row)) (sym is_new) (All-push (IsCrossingOf edges row) old c h.places (record {
         given = subst (λ m. m < length edges) (sym number) less;
         crosses = λ d. subst (λ m. crosses_row row (get_or edges m d) ≡ true) (sym number) (subst (λ f. crosses_row row f ≡ true) (any d) so);
@@ -133,14 +118,10 @@ crossing_more edges row n e old new c less is_e so number x up is_new h =
 
 pub crossing_passed : (edges : List (Point × Point)) (row : ℤ) (n : ℕ) (e : Point × Point) (old : List Crossing)
     → n < length edges → e ≡ get_or edges n e → crosses_row row e ≡ false → AreCrossings edges row n old → AreCrossings edges row (n + 1) old
-crossing_passed edges row n e old less is_e not_so h =
-    let further : take (n + 1) edges ≡ take n edges ++ e ∷ [] = take_more edges n e less ∙ ap (λ z. take n edges ++ z ∷ []) (sym is_e) in
-    record {
-      numbers = h.numbers ∙ sym (append-nil (crossing_numbers row 0 (take n edges)))
-          ∙ sym (ap (crossing_numbers row 0) further ∙ numbers-append row 0 (take n edges) (e ∷ [])
-          ∙ (λ i. crossing_numbers row 0 (take n edges) ++ cond (not_so i) ((0 + length (take n edges)) ∷ []) []));
-      places = h.places;
-    }
+crossing_passed edges row n e old less is_e not_so h = record {
+  numbers = h.numbers ∙ sym (picked_passed (crosses_row row) (λ k f. k) edges n e less is_e not_so);
+  places = h.places;
+}
 
 -- ---- each number once
 abbrev IsOtherThan : ℕ → ℕ → Type 0

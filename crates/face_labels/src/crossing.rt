@@ -14,7 +14,7 @@ ghost use Rattle.std.specs.Prelude.{
 ghost use Rattle.std.specs.Ordering.{int_cmp};
 ghost use Rattle.face_labels.specs.Rows.{crosses_row, crossing, rise};
 
-use crate::exact::scaled;
+use crate::exact::{scaled, twice};
 use crate::upward::upward;
 use lay_point::Edge;
 use std::cmp::Ordering;
@@ -54,15 +54,6 @@ impl Crossing {
     {
         scaled(self.x, other.rise).cmp(&scaled(other.x, self.rise))
     }
-}
-
-/// Returns twice the way from one coordinate to another.
-fn twice(from: i32, to: i32) -> i64
-    ensures value { result ≡ pos 2 *ℤ (to -ℤ from) }
-    ensures low { neg_ℤ (pos (2 ^ 33)) <ℤ result }
-    ensures high { result <ℤ pos (2 ^ 33) }
-{
-    2 * (i64::from(to) - i64::from(from))
 }
 
 /// Returns twice how far `y` is above the row.
