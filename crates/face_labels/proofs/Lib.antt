@@ -1,3 +1,4 @@
+pub mod BandLemmas
 pub mod InsideLemmas
 pub mod JudgeLemmas
 pub mod LabelLemmas
