@@ -1,1 +1,9 @@
+pub mod Bands
+pub mod Beside
+pub mod Crossings
+pub mod Inside
+pub mod Lines
 pub mod Operations
+pub mod Picked
+pub mod Rows
+pub mod Starts

@@ -4,8 +4,21 @@
 //! tell its answer: a place is to the left of an odd number of them exactly where the operation holds there.
 #![tactic(auto)]
 
+mod band;
+mod beside;
+mod crossing;
+mod exact;
+mod inside;
+mod labels;
 mod laws;
+mod line;
 mod op;
+mod rows;
+mod start;
+mod upward;
 
+pub use band::Band;
+pub use labels::label;
 pub use laws::operations_have_laws;
 pub use op::Op;
+pub use rows::row_edges;

@@ -3,7 +3,7 @@ ghost use Rattle.std.specs.Prelude.{◌≡◌, ◌<◌, ◌≤◌, IfErr, IfOk, 
 ghost use Rattle.chain_laws.specs.Rising.{IsRising};
 ghost use Rattle.chain_laws.specs.Undirected.{IsEdgeBefore};
 ghost use Rattle.snap_chains.specs.Owners.{IsOwnerBefore};
-ghost use Rattle.snap_chains.specs.Rounded.{AreClean};
+ghost use Rattle.snap_chains.specs.Rounded.{AreClean, AreEven};
 
 use crate::owner::Owner;
 use crate::rounded::Rounded;
@@ -50,6 +50,7 @@ impl CleanEdges {
         ensures value { result.now ≡ self.now.0 }
         ensures rising { IsRising IsEdgeBefore self.now.0 }
         ensures paired { length self.now.1 ≡ length self.now.0 }
+        ensures even { AreEven self.now }
         ensures clean { AreClean self.now.0 }
     {
         self.rounded.edges()

@@ -4,6 +4,7 @@ ghost use Rattle.lay_point.specs.declared.point.Point.{Point};
 ghost use Rattle.chain_laws.specs.Rising.{IsRising};
 ghost use Rattle.chain_laws.specs.Undirected.{IsEdgeBefore};
 ghost use Rattle.snap_chains.specs.Owners.{IsOwnerBefore};
+ghost use Rattle.snap_chains.specs.Rounded.{AreEven};
 
 use crate::owner::Owner;
 use lay_point::{Edge, NoMemory};
@@ -51,6 +52,7 @@ impl Rounded {
         ensures value { result.now ≡ self.now.0 }
         ensures rising { IsRising IsEdgeBefore self.now.0 }
         ensures paired { length self.now.1 ≡ length self.now.0 }
+        ensures even { AreEven self.now }
     {
         self.edges.as_slice()
     }

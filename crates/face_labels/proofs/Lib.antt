@@ -1,0 +1,11 @@
+pub mod BandLemmas
+pub mod InsideLemmas
+pub mod JudgeLemmas
+pub mod LabelLemmas
+pub mod LineLemmas
+pub mod NearLemmas
+pub mod PickedLemmas
+pub mod ProductLemmas
+pub mod RowLemmas
+pub mod SideLemmas
+pub mod StartLemmas

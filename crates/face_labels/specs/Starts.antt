@@ -1,0 +1,30 @@
+-- Where the edges of a band begin.
+use Rattle.std.specs.Prelude.{◌≡◌, ℕ, ◌<◌, Bool, false, List, length, slice_index_or}
+use Rattle.lay_point.specs.declared.point.Point.{Point}
+use Rattle.snap_chains.specs.Rounded.{Owned}
+use Rattle.label_laws.specs.Labels.{differs, items_of}
+use Rattle.face_labels.specs.declared.band.Band.{Band}
+use Rattle.face_labels.specs.declared.op.Op.{Op}
+use Rattle.face_labels.specs.declared.start.Start.{Start}
+use Rattle.face_labels.specs.Bands.{begins_in}
+use Rattle.face_labels.specs.Lines.{edge_at, item_at}
+use Rattle.face_labels.specs.Operations.{answer}
+use Rattle.face_labels.specs.Picked.{picked}
+use Rattle.face_labels.specs.Rows.{upward}
+
+-- where the edge begins
+abbrev pub start_of : ℕ → Point × Point → Start
+start_of n e = record { y = (upward e).0.y; x = (upward e).0.x; number = n }
+
+-- where those of the edges begin that do so in the band
+abbrev pub starts_of : Band → List (Point × Point) → List Start
+starts_of band edges = picked (begins_in band) start_of 0 edges
+
+-- the start is that of the edge of its number
+pub record IsStartOf (r : Owned) (s : Start) : Type 0 where
+  pub given : s.number < length r.0
+  pub row : (upward (edge_at r s.number)).0.y ≡ s.y
+
+-- at the edge's number is its label
+abbrev pub HasLabel : Op → Owned → List Bool → Start → Type 0
+HasLabel op r labels s = slice_index_or labels s.number false ≡ differs (answer op) (items_of r) (item_at r s.number)

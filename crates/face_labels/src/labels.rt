@@ -1,0 +1,78 @@
+//! Labels: whether an operation's answers differ on the two sides of an edge.
+ghost use Rattle.std.specs.Prelude.{◌≡◌, ◌<◌, ◌≤◌, All, IfOk, length};
+ghost use Rattle.std.specs.List.{zip};
+ghost use Rattle.label_laws.specs.Laws.{AreLesserFirst};
+ghost use Rattle.face_labels.specs.Bands.{begins_in, labelled};
+ghost use Rattle.face_labels.specs.Picked.{picked};
+ghost use Rattle.face_labels.specs.Starts.{HasLabel, IsStartOf};
+
+use crate::band::Band;
+use crate::line::Line;
+use crate::op::Op;
+use crate::start::{Start, starts};
+use lay_point::{Edge, NoMemory};
+use snap_chains::CleanEdges;
+use std::alloc::{AllocError, Global};
+
+/// Returns the numbers of the edges whose lower ends are in the band, in order, each with whether the
+/// operation's answers differ on its two sides. All edges are regarded, those of other bands too.
+pub fn label(
+    alloc: Global,
+    edges: &CleanEdges,
+    band: Band,
+    op: Op,
+) -> Result<Vec<(usize, bool)>, NoMemory>
+    ensures { IfOk result (λ labels. labels.items ≡ labelled op edges.now band) }
+{
+    let starts = starts(alloc, edges.edges(), band)?;
+    let labels = labels_at(alloc, edges, starts.as_slice(), op)?;
+    let numbered = numbered(alloc, edges.edges(), band, labels.as_slice())?;
+    Ok(numbered)
+}
+
+/// Returns for each edge whether the operation's answers differ on its two sides, if it is one of those that
+/// begin at the starts. Takes less time where they are in order.
+fn labels_at(
+    alloc: Global,
+    edges: &CleanEdges,
+    starts: &[Start],
+    op: Op,
+) -> Result<Vec<bool>, NoMemory>
+    requires starts { All (IsStartOf edges.now) starts.now }
+    requires lesser { AreLesserFirst edges.now.0 }
+    ensures len { IfOk result (λ labels. length labels.items ≡ length edges.now.0) }
+    ensures labels { IfOk result (λ labels. All (HasLabel op edges.now labels.items) starts.now) }
+{
+    let mut labels = vec![in alloc; false; edges.edges().len()]?;
+    let Some(first) = starts.first() else {
+        return Ok(labels);
+    };
+    let mut line = Line::new(alloc, edges, first.y)?;
+    for start in starts {
+        if start.y != line.row {
+            line = Line::new(alloc, edges, start.y)?;
+        }
+        labels[start.number] = line.differs(edges, start.number, op)?;
+    }
+    Ok(labels)
+}
+
+/// Returns those of the labels that belong to edges of the band, with the edges' numbers.
+fn numbered(
+    alloc: Global,
+    edges: &[Edge],
+    band: Band,
+    labels: &[bool],
+) -> Result<Vec<(usize, bool)>, AllocError>
+    requires { length labels.now ≡ length edges.now }
+    ensures { IfOk result (λ numbered. numbered.items
+        ≡ picked (λ p. begins_in band p.0) (λ n p. (n, p.1)) 0 (zip edges.now labels.now)) }
+{
+    let mut numbered = Vec::new(alloc);
+    for number in 0..edges.len() {
+        if band.has(edges[number]) {
+            numbered.push((number, labels[number]))?;
+        }
+    }
+    Ok(numbered)
+}
