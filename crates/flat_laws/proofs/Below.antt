@@ -58,7 +58,8 @@ same_walks_of l m one other cell same =
 -- what is drawn at an end of a walk
 pub same_drawn : (l m : Layout) → IsSound l → (cell : CellId) (layer : List ℕ) → HaveSameBelow l m cell layer →
     (ws : List (List LentCall)) → ((walk : List LentCall) → Has ws walk → IsWalk (calls_in l) target_of cell walk) →
-    flat_map (drawn_at l layer) (map (end_along cell (Some unturned)) ws) ≡ flat_map (drawn_at m layer) (map (end_along cell (Some unturned)) ws)
+    flat_map (drawn_at l layer) (map (end_along cell (Some unturned)) ws) ≡ flat_map (drawn_at m layer)
+    (map (end_along cell (Some unturned)) ws)
 same_drawn l m sound cell layer same [] all = refl
 same_drawn l m sound cell layer same (walk ∷ ws) all =
     let here : drawn_at l layer (end_along cell (Some unturned) walk) ≡ drawn_at m layer (end_along cell (Some unturned) walk) =
@@ -76,7 +77,8 @@ same_ends : (l m : Layout) (cell : CellId) → walks_of l cell ≡ walks_of m ce
 unfolding ends_of
 same_ends l m cell same = ap (map (end_along cell (Some unturned))) same
 
-same_rings : (l m : Layout) → IsSound l → (cell : CellId) (layer : List ℕ) → HaveSameBelow l m cell layer → walks_of l cell ≡ walks_of m cell →
+same_rings : (l m : Layout) → IsSound l → (cell : CellId) (layer : List ℕ) → HaveSameBelow l m cell layer →
+    walks_of l cell ≡ walks_of m cell →
     rings_at l layer (ends_of l cell) ≡ rings_at m layer (ends_of m cell)
 unfolding ends_of
 same_rings l m sound cell layer same walks =
@@ -101,4 +103,5 @@ same_flattening l m one other cell layer same =
     same_answer (is_cell l cell) (tested l cell) (tested m cell) (ends_of l cell) (ends_of m cell)
     (rings_at l layer (ends_of l cell)) (rings_at m layer (ends_of m cell))
     (same_tested l m cell walks) (same_ends l m cell walks) (same_rings l m one cell layer same walks)
-    ∙ ap (λ b. if b then and_then (tested m cell) (λ _. flat_at (ends_of m cell) (rings_at m layer (ends_of m cell))) else Err NoCell) same.there
+    ∙ ap (λ b. if b then and_then (tested m cell) (λ _. flat_at (ends_of m cell)
+    (rings_at m layer (ends_of m cell))) else Err NoCell) same.there

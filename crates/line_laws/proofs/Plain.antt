@@ -22,7 +22,8 @@ use Rattle.txn_rules.specs.declared.command.TxnId.{TxnId}
 use Rattle.session_steps.specs.declared.Step.{Step}
 use Rattle.session_steps.specs.declared.Step.TheVariants.{Cancel, Commit, Do, Open, Redo, Undo}
 use Rattle.job_text.specs.Steps.{Word}
-use Rattle.line_laws.specs.Written.{CanBeSaid, CanSay, IsCell, IsCoordinate, IsItem, IsLayer, IsPoint, IsTxn, cell_word, command_words, degrees, item_word}
+use Rattle.line_laws.specs.Written.{CanBeSaid, CanSay, IsCell, IsCoordinate, IsItem, IsLayer}
+use Rattle.line_laws.specs.Written.{IsPoint, IsTxn, cell_word, command_words, degrees, item_word}
 use Rattle.line_laws.specs.Written.{point_words, step_words, txn_word}
 use Rattle.line_laws.proofs.Digits.{decimal_is}
 use Rattle.line_laws.proofs.Joined.{IsWord, is_plain}

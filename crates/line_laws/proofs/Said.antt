@@ -13,10 +13,12 @@ use Rattle.txn_rules.specs.declared.command.Command.TheVariants.{Box, Delete, Dr
 use Rattle.txn_rules.specs.declared.command.TxnId.{TxnId}
 use Rattle.session_steps.specs.declared.Step.{Step}
 use Rattle.session_steps.specs.declared.Step.TheVariants.{Cancel, Commit, Do, Open, Redo, Undo}
-use Rattle.job_text.specs.Steps.{Word, box_of, command_of, item_alone, layer_of, move_of, place_of, point_at, point_of, points_from, poly_of}
+use Rattle.job_text.specs.Steps.{Word, box_of, command_of, item_alone, layer_of}
+use Rattle.job_text.specs.Steps.{move_of, place_of, point_at, point_of, points_from, poly_of}
 use Rattle.job_text.specs.Steps.{short_command, step_named, step_of, symbol_alone, txn_alone}
 use Rattle.job_text.specs.Words.{◌>>=◌}
-use Rattle.line_laws.specs.Written.{CanBeSaid, CanSay, IsItem, IsPoint, IsTxn, cell_word, command_words, item_word, point_words, step_words, turning_word, txn_word}
+use Rattle.line_laws.specs.Written.{CanBeSaid, CanSay, IsItem, IsPoint, IsTxn, cell_word}
+use Rattle.line_laws.specs.Written.{command_words, item_word, point_words, step_words, turning_word, txn_word}
 use Rattle.line_laws.proofs.Digits.{number_read}
 use Rattle.line_laws.proofs.Fields.{cell_read, coordinate_read, item_read, turning_read, txn_read}
 

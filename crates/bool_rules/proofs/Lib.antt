@@ -1,0 +1,4 @@
+pub mod BooleanLaws
+pub mod DrawnShapes
+pub mod Everywhere
+pub mod Flats

@@ -1,0 +1,2 @@
+pub mod Booleans
+pub mod Laws
