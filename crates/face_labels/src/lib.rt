@@ -15,6 +15,8 @@ mod line;
 mod op;
 mod rows;
 mod start;
+#[cfg(test)]
+mod tests;
 mod upward;
 
 pub use band::Band;
