@@ -25,8 +25,8 @@ fn owned(input: Input, points: &[Point]) -> OwnedRing<'_>
     }
 }
 
-// Could catch labels that are all false, or of a wrong operation, and a worker that always runs out of memory: of the AND
-// of two squares that overlap the edges are the four round what they share.
+// Could catch labels that are all false, or of a wrong operation, and a worker that always runs out
+// of memory: of the AND of two squares that overlap the edges are the four round what they share.
 #[test]
 fn labels_what_two_squares_share(rt: HostRuntime) -> Result<(), Fail> {
     let low = Ring::rectangle(rt.alloc(), at(0, 0), at(20, 20));

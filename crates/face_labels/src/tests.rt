@@ -1,5 +1,5 @@
-//! Tests of what no clause says: that calls succeed, and that the definitions are those of rows and of an
-//! operation's edges.
+//! Tests of what no clause says: that calls succeed, and that the definitions are those of rows and
+//! of an operation's edges.
 ghost use Rattle.std.specs.Prelude.{◌≡◌};
 
 use super::*;
@@ -40,18 +40,14 @@ fn rounded(
     round(rt, alloc, &rings)
 }
 
-// Could catch a row that lists level edges or edges that end below it, and an order from right to left.
+// Could catch a row that lists level edges or edges that end below it, and an order from right to
+// left.
 #[test]
 fn lists_the_edges_of_a_row(rt: HostRuntime) -> Result<(), Fail> {
     let first = Ring::rectangle(rt.alloc(), at(0, 0), at(20, 20));
     let second = Ring::rectangle(rt.alloc(), at(10, 10), at(30, 30));
     let edges = rounded(&rt, rt.alloc(), &first, &second)?;
-    let rows: [(i32, &[usize]); 4] = [
-        (-1, &[]),
-        (5, &[0, 8]),
-        (15, &[0, 3, 9, 11]),
-        (30, &[]),
-    ];
+    let rows: [(i32, &[usize]); 4] = [(-1, &[]), (5, &[0, 8]), (15, &[0, 3, 9, 11]), (30, &[])];
     for (row, want) in rows {
         let numbers = row_edges(rt.alloc(), &edges, row)?;
         assert_eq!(rt; numbers.as_slice(), want, "{row}");
@@ -59,8 +55,8 @@ fn lists_the_edges_of_a_row(rt: HostRuntime) -> Result<(), Fail> {
     Ok(())
 }
 
-// Could catch labels by another operation, of edges of other bands, or on one side only: of the AND of two
-// squares that overlap the edges are the four round what they share.
+// Could catch labels by another operation, of edges of other bands, or on one side only: of the AND
+// of two squares that overlap the edges are the four round what they share.
 #[test]
 fn labels_the_edges_of_a_band(rt: HostRuntime) -> Result<(), Fail> {
     let first = Ring::rectangle(rt.alloc(), at(0, 0), at(20, 20));
@@ -85,7 +81,8 @@ fn labels_the_edges_of_a_band(rt: HostRuntime) -> Result<(), Fail> {
     Ok(())
 }
 
-// Could catch owners that are turned one after the other, so that an edge of both inputs is labelled.
+// Could catch owners that are turned one after the other, so that an edge of both inputs is
+// labelled.
 #[test]
 fn no_edge_is_of_one_square_alone(rt: HostRuntime) -> Result<(), Fail> {
     let square = Ring::rectangle(rt.alloc(), at(0, 0), at(20, 20));
