@@ -1,5 +1,6 @@
 -- Bands in which edges begin.
-use Rattle.std.proofs.Common.{◌≡◌, ℕ, ◌+◌, ◌<◌, ◌≤◌, Bool, true, false, ◌&&◌, List, length, get_or, ℤ, ◌≤ℤ◌, ◌<ℤ◌, refl, subst, ap, ◌∙◌, ⊎_elim, arith}
+use Rattle.std.proofs.Common.{◌≡◌, ℕ, ◌+◌, ◌<◌, ◌≤◌, Bool, true, false, ◌&&◌, List, length, get_or, ℤ, ◌≤ℤ◌, ◌<ℤ◌, refl, subst}
+use Rattle.std.proofs.Common.{ap, ◌∙◌, ⊎_elim, arith}
 use Rattle.std.specs.Prelude.{int_le, int_lt}
 use Rattle.std.proofs.lemmas.Bool.{cases_lt}
 use Rattle.std.proofs.lemmas.Int.{ints}
@@ -31,7 +32,8 @@ all_true a b f g = rw (f, g) refl
 
 begins : (band : Band) (e : Point × Point) → band.low ≤ℤ (upward e).0.y → (upward e).0.y <ℤ band.high → begins_in band e ≡ true
 begins band e low high =
-    all_true (int_le band.low (upward e).0.y) (int_lt (upward e).0.y band.high) (true_le band.low (upward e).0.y low) (true_lt (upward e).0.y band.high high)
+    all_true (int_le band.low (upward e).0.y) (int_lt (upward e).0.y band.high) (true_le band.low (upward e).0.y low)
+    (true_lt (upward e).0.y band.high high)
 
 -- in a band that is no narrower begins what begins in the old one, and one edge more
 pub begin_more : (old new : Band) (edges : List (Point × Point)) (i : ℕ) (e : Point × Point) → i < length edges → e ≡ get_or edges i e

@@ -1,5 +1,6 @@
 -- Shapes that are turned in and out, and the answer where they hold.
-use Rattle.std.proofs.Common.{◌≡◌, ◌==◌, ◌⊎◌, ⊎_elim, ◌↔◌, inl, inr, ℕ, ◌+◌, ◌<◌, Bool, true, false, not, ◌&&◌, ◌||◌, List, [], ◌∷◌, length, get_or, take}
+use Rattle.std.proofs.Common.{◌≡◌, ◌==◌, ◌⊎◌, ⊎_elim, ◌↔◌, inl, inr, ℕ, ◌+◌, ◌<◌, Bool, true, false, not, ◌&&◌, ◌||◌, List, []}
+use Rattle.std.proofs.Common.{◌∷◌, length, get_or, take}
 use Rattle.std.proofs.Common.{Contains, refl, sym, ap, ap₂, subst, ◌∙◌, arith}
 use Rattle.std.specs.List.{list_any}
 use Rattle.std.specs.BTreeMap.{is_at}
@@ -33,7 +34,8 @@ turn_more owners n d first middle last less turned so_far o =
     let p = parity (λ q. owner_eq q o) (take n owners) in
     let a = owner_eq (get_or owners n d) o in
     let further : parity (λ q. owner_eq q o) (take (n + 1) owners) ≡ xor p (xor a false) =
-    ap (parity (λ q. owner_eq q o)) (take_more owners n d less) ∙ parity-append (λ q. owner_eq q o) (take n owners) (get_or owners n d ∷ []) in
+    ap (parity (λ q. owner_eq q o)) (take_more owners n d less)
+    ∙ parity-append (λ q. owner_eq q o) (take n owners) (get_or owners n d ∷ []) in
     turned o ∙ ap (xor a) (so_far o) ∙ sym (xor_assoc a p (holds first o)) ∙ ap (λ z. xor z (holds first o)) (xor_comm a p)
     ∙ sym (ap (λ z. xor z (holds first o)) (further ∙ ap (xor p) (xor-false a)))
 
@@ -74,7 +76,8 @@ some_of_keys input [] test shapes is among a empty =
     by_input o false e = refl
 some_of_keys input (k ∷ ks) test shapes is among a empty =
     let o : Owner = record { input = input; shape = k } in
-    let found : list_any (is_at (nat_cmp k)) (k ∷ ks) ≡ true = ap (λ b. b || list_any (is_at (nat_cmp k)) ks) (ap is_eq (tied_itself nat_cmp_total k)) in
+    let found : list_any (is_at (nat_cmp k)) (k ∷ ks) ≡ true =
+    ap (λ b. b || list_any (is_at (nat_cmp k)) ks) (ap is_eq (tied_itself nat_cmp_total k)) in
     let here : test o ≡ true = is k ∙ found in
     ap not (not_empty a empty) ∙ sym (any_true (λ q. input_eq q.input input && test q) shapes o (has shapes o (among o here))
     (ap (λ b. b && test o) (input_itself input) ∙ here))
@@ -115,11 +118,13 @@ other_owner : (o p q : Owner) → IsOwnerBefore o p → owner_eq o q ≡ true �
 other_owner o p q before same = by_test (owner_eq p q) refl
   where
     by_test : (b : Bool) → owner_eq p q ≡ b → b ≡ false
-    by_test true e = absurd (owners_are_strict.irreflexive o (subst (IsOwnerBefore o) (same_owner p q e ∙ sym (same_owner o q same)) before))
+    by_test true e =
+        absurd (owners_are_strict.irreflexive o (subst (IsOwnerBefore o) (same_owner p q e ∙ sym (same_owner o q same)) before))
     by_test false e = refl
 
 pub listed_of : (owners : List Owner) (o : Owner) → IsRising IsOwnerBefore owners → parity (λ p. owner_eq p o) owners ≡ is_listed o owners
-listed_of owners o h = parity_any IsOwnerBefore owners_are_strict (λ p. owner_eq p o) owners h (λ p q before same. other_owner p q o before same)
+listed_of owners o h =
+    parity_any IsOwnerBefore owners_are_strict (λ p. owner_eq p o) owners h (λ p q before same. other_owner p q o before same)
 
 -- ---- with shapes turned
 parity_has : (owners : List Owner) (o : Owner) → parity (λ p. owner_eq p o) owners ≡ true → Has owners o
@@ -141,7 +146,8 @@ not_same true false = refl
 not_same false true = refl
 not_same false false = refl
 
-pub difference_of : (op : Op) (owners : List Owner) (i mid : Inside) (a b : Bool) → Turns owners i mid → IsAnswerOf op i a → IsAnswerOf op mid b
+pub difference_of : (op : Op) (owners : List Owner) (i mid : Inside) (a b : Bool) → Turns owners i mid → IsAnswerOf op i a
+    → IsAnswerOf op mid b
     → IsDifference op owners i (not (beq a b))
 difference_of op owners i mid a b turned before after shapes among given =
     not_same a b

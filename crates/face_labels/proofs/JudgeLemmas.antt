@@ -80,7 +80,8 @@ numbers_have : (n : ℕ) (es : List (Point × Point)) (i : ℕ) → i < length e
 numbers_have n [] i less = absurd (omega arith)
 numbers_have n (e ∷ es) zero less = inl (omega arith)
 numbers_have n (e ∷ es) (suc i) less =
-    let same : (n + 1) + i ≡ n + suc i = omega arith in inr (subst (Has (numbers_from (n + 1) es)) same (numbers_have (n + 1) es i (omega arith)))
+    let same : (n + 1) + i ≡ n + suc i = omega arith in
+    inr (subst (Has (numbers_from (n + 1) es)) same (numbers_have (n + 1) es i (omega arith)))
 
 numbers_in : (n : ℕ) (es : List (Point × Point)) (m : ℕ) → Has (numbers_from n es) m → (i : ℕ) × (i < length es) × (m ≡ n + i)
 numbers_in n [] m h = absurd h
@@ -198,10 +199,12 @@ module _ (r : Owned) (rising : IsRising IsEdgeBefore r.0) (paired : length r.1 �
       let f = edge_at r m in
       let g = edge_at r n in
       let differ : m ≢ n = λ same. let less = h.left nowhere in
-      let here : (rise g *ℤ crossing y g) <ℤ (rise g *ℤ crossing y g) = subst (λ k. (rise g *ℤ crossing y (edge_at r k)) <ℤ (rise (edge_at r k) *ℤ crossing y g)) same less in
+      let here : (rise g *ℤ crossing y g) <ℤ (rise g *ℤ crossing y g) =
+      subst (λ k. (rise g *ℤ crossing y (edge_at r k)) <ℤ (rise (edge_at r k) *ℤ crossing y g)) same less in
       omega (arith, linear, here) in
       let other : ¬ (f ≡ g) = other_edge r.0 m n nowhere rising differ h.first.0 h.second.0 in
-      let meet = upward_meet f g (clean f g (contains r.0 f (has_get r.0 m nowhere h.first.0)) (contains r.0 g (has_get r.0 n nowhere h.second.0)) other) in
+      let meet = upward_meet f g
+      (clean f g (contains r.0 f (has_get r.0 m nowhere h.first.0)) (contains r.0 g (has_get r.0 n nowhere h.second.0)) other) in
       right_there e g
       ∙ true_lt (pos 0) (distance_right (at_k e) (at_x e) (at_y e) (upward g).0 (upward g).1)
       (right_in_row y (upward f) (upward g) (at_k e) (at_x e) (at_y e) (beside y (at_k e) (at_y e) place) (spans_of y f (h.first.1 nowhere))
@@ -232,7 +235,8 @@ module _ (r : Owned) (rising : IsRising IsEdgeBefore r.0) (paired : length r.1 �
   behind_crossed : gap ≤ length numbers → (n : ℕ) → n < length r.0
       → parity (nat_eq n) (drop gap numbers) ≡ is_crossed (at_k e) (at_x e) (at_y e) (edge_at r n)
   behind_crossed bound n inside =
-      parity_any (IsBeforeIn r.0 y) (before_strict r.0 y) (nat_eq n) (drop gap numbers) (rising_drop (IsBeforeIn r.0 y) numbers gap in_order)
+      parity_any (IsBeforeIn r.0 y) (before_strict r.0 y) (nat_eq n) (drop gap numbers)
+      (rising_drop (IsBeforeIn r.0 y) numbers gap in_order)
       (λ l m h t. nat_equality.apart n m (λ same. (before_strict r.0 y).irreflexive l
       (subst (IsBeforeIn r.0 y l) (sym same ∙ (Decides-eqb n l).0 t) h)))
       ∙ both_ways (list_any (nat_eq n) (drop gap numbers)) (is_crossed (at_k e) (at_x e) (at_y e) (edge_at r n))
@@ -241,13 +245,16 @@ module _ (r : Owned) (rising : IsRising IsEdgeBefore r.0) (paired : length r.1 �
       let i = found.1 in
       let f = edge_at r n in
       let there : right n ≡ true = subst (λ k. right k ≡ true) i.is (behind found.0 i.behind i.inside) in
-      let member : Contains numbers n = subst (Contains numbers) i.is (contains numbers (get_or numbers found.0 0) (has_get numbers found.0 0 i.inside)) in
+      let member : Contains numbers n =
+      subst (Contains numbers) i.is (contains numbers (get_or numbers found.0 0) (has_get numbers found.0 0 i.inside)) in
       sym (upward_crossed (at_k e) (at_x e) (at_y e) f)
       ∙ spans_crossed y (at_k e) (at_x e) (at_y e) (upward f) place (spans_of y f (((row.exact n).0 member).1 nowhere)) (far n there))
       (λ t.
       let f = edge_at r n in
-      let c = crossed_spans y (at_k e) (at_x e) (at_y e) (upward f) place (upward_rises f) (upward_crossed (at_k e) (at_x e) (at_y e) f ∙ t) in
-      let there : right n ≡ true = right_there e f ∙ true_lt (pos 0) (distance_right (at_k e) (at_x e) (at_y e) (upward f).0 (upward f).1) c.1 in
+      let c = crossed_spans y (at_k e) (at_x e) (at_y e) (upward f) place (upward_rises f)
+      (upward_crossed (at_k e) (at_x e) (at_y e) f ∙ t) in
+      let there : right n ≡ true = right_there e f
+      ∙ true_lt (pos 0) (distance_right (at_k e) (at_x e) (at_y e) (upward f).0 (upward f).1) c.1 in
       let member = has_at_zero numbers n (has numbers n ((row.exact n).1 (
         inside,
         λ d. subst (λ g. crosses_row y g ≡ true)
@@ -290,6 +297,7 @@ module _ (r : Owned) (rising : IsRising IsEdgeBefore r.0) (paired : length r.1 �
       given n m =
           let found = has_drop numbers gap n m in
           let i = found.1 in
-          let member : Contains numbers n = subst (Contains numbers) i.is (contains numbers (get_or numbers found.0 0) (has_get numbers found.0 0 i.inside)) in
+          let member : Contains numbers n =
+          subst (Contains numbers) i.is (contains numbers (get_or numbers found.0 0) (has_get numbers found.0 0 i.inside)) in
           let same : 0 + n ≡ n = omega arith in
           subst (Has (numbers_from 0 r.0)) same (numbers_have 0 r.0 n ((row.exact n).0 member).0)

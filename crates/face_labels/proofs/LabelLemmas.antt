@@ -81,5 +81,6 @@ label_of op r n numbers gap h i inside owners own ordered result is =
     is (shapes_of items)
     (λ o t. contains (shapes_of items) o (odd_shape (λ p. is_crossed (at_k e) (at_x e) (at_y e) p.0) o items (sym (same o) ∙ t)))
     (λ o m. contains (shapes_of items) o (shapes_have items (item_at r n) o there (subst (λ os. Has os o) (sym own) (has owners o m))))
-    ∙ (λ k. xor (answer_on (answer op) (shapes_of items) (λ o. same o k)) (answer_on (answer op) (shapes_of items) (λ o. xor (listed o k) (same o k))))
+    ∙ (λ k. xor (answer_on (answer op) (shapes_of items) (λ o. same o k))
+    (answer_on (answer op) (shapes_of items) (λ o. xor (listed o k) (same o k))))
     ∙ sym (judged_there r h.even h.clean h.lesser (answer op) (item_at r n) there)

@@ -15,14 +15,16 @@ split_at numbers gap less = drop-cons numbers gap 0 less ∙ ap (λ m. get_or nu
 
 -- one edge more is behind the gap
 pub gap_left : (r : Owned) (numbers : List ℕ) (gap : ℕ) (old new : Inside) → gap < length numbers
-    → TurnsListed (owners_at r (get_or numbers gap 0)) old new → AreInside r (drop (gap + 1) numbers) old → AreInside r (drop gap numbers) new
+    → TurnsListed (owners_at r (get_or numbers gap 0)) old new → AreInside r (drop (gap + 1) numbers) old
+    → AreInside r (drop gap numbers) new
 gap_left r numbers gap old new less turned so_far o =
     turned o ∙ ap (xor (is_listed o (owners_at r (get_or numbers gap 0)))) (so_far o)
     ∙ sym (ap (parity (λ n. is_listed o (owners_at r n))) (split_at numbers gap less))
 
 -- one edge less
 pub gap_right : (r : Owned) (numbers : List ℕ) (gap : ℕ) (old new : Inside) → gap < length numbers
-    → TurnsListed (owners_at r (get_or numbers gap 0)) old new → AreInside r (drop gap numbers) old → AreInside r (drop (gap + 1) numbers) new
+    → TurnsListed (owners_at r (get_or numbers gap 0)) old new → AreInside r (drop gap numbers) old
+    → AreInside r (drop (gap + 1) numbers) new
 gap_right r numbers gap old new less turned so_far o =
     let own = is_listed o (owners_at r (get_or numbers gap 0)) in
     let rest = parity (λ n. is_listed o (owners_at r n)) (drop (gap + 1) numbers) in

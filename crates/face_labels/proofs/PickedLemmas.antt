@@ -40,7 +40,8 @@ module _ {A B : Type 0} (test : A → Bool) (make : ℕ → A → B) where
   picked_has n [] i d less t = absurd (omega arith)
   picked_has n (x ∷ xs) zero d less t = by_test (test x) t
     where
-      by_test : (b : Bool) → b ≡ true → Has (cond b (make n x ∷ picked test make (n + 1) xs) (picked test make (n + 1) xs)) (make (n + zero) x)
+      by_test : (b : Bool) → b ≡ true
+          → Has (cond b (make n x ∷ picked test make (n + 1) xs) (picked test make (n + 1) xs)) (make (n + zero) x)
       by_test true h = inl (ap (λ m. make m x) (omega arith))
       by_test false h = absurd cc
   picked_has n (x ∷ xs) (suc i) d less t = by_test (test x) (picked_has (n + 1) xs i d (omega arith) t)

@@ -1,6 +1,7 @@
 -- The edges that cross a row, and their order.
 use Rattle.std.proofs.Common.{◌≡◌, ◌≢◌, inl, inr, ℕ, zero, suc, ◌+◌, ◌<◌, Bool, true, false, ◌&&◌, cond, List, [], ◌∷◌, ◌++◌}
-use Rattle.std.proofs.Common.{add-one, ◌≤◌, length, get_or, map, take, Contains, ℤ, ◌*ℤ◌, ◌≤ℤ◌, ◌<ℤ◌, refl, sym, ap, subst, ◌∙◌, ⊎_elim, arith}
+use Rattle.std.proofs.Common.{add-one, ◌≤◌, length, get_or, map, take, Contains, ℤ, ◌*ℤ◌, ◌≤ℤ◌, ◌<ℤ◌, refl, sym, ap, subst, ◌∙◌}
+use Rattle.std.proofs.Common.{⊎_elim, arith}
 use Rattle.std.specs.Prelude.{int_le, int_lt, nat_eq, All}
 use Rattle.std.specs.Cmp.{IsStrictWeakOrder}
 use Rattle.std.specs.List.{AllByRecursion, IsDistinct}
@@ -87,7 +88,8 @@ other_edge edges m n d h apart inside_m inside_n same = ⊎_elim
     (λ (less : m < n). edges_are_strict.irreflexive (get_or edges m d)
     (subst (IsEdgeBefore (get_or edges m d)) (sym same) (before_by_number IsEdgeBefore edges_are_strict edges m n d h less inside_n)))
     (λ (le : n ≤ m). edges_are_strict.irreflexive (get_or edges n d)
-    (subst (IsEdgeBefore (get_or edges n d)) same (before_by_number IsEdgeBefore edges_are_strict edges n m d h (below m n apart le) inside_m)))
+    (subst (IsEdgeBefore (get_or edges n d)) same
+    (before_by_number IsEdgeBefore edges_are_strict edges n m d h (below m n apart le) inside_m)))
     (cases_lt m n)
   where
     below : (m n : ℕ) → m ≢ n → n ≤ m → n < m
@@ -110,14 +112,16 @@ crossing_more edges row n e old new c less is_e so number x up is_new h =
           ∙ sym (picked_more (crosses_row row) (λ k f. k) edges n e less is_e so);
       places = subst (All (IsCrossingOf edges row)) (sym is_new) (All-push (IsCrossingOf edges row) old c h.places (record {
         given = subst (λ m. m < length edges) (sym number) less;
-        crosses = λ d. subst (λ m. crosses_row row (get_or edges m d) ≡ true) (sym number) (subst (λ f. crosses_row row f ≡ true) (any d) so);
+        crosses = λ d. subst (λ m. crosses_row row (get_or edges m d) ≡ true) (sym number)
+            (subst (λ f. crosses_row row f ≡ true) (any d) so);
         x = λ d. x ∙ ap (crossing row) (any d) ∙ ap (λ m. crossing row (get_or edges m d)) (sym number);
         rise = λ d. up ∙ ap rise (any d) ∙ ap (λ m. rise (get_or edges m d)) (sym number);
       }));
     }
 
 pub crossing_passed : (edges : List (Point × Point)) (row : ℤ) (n : ℕ) (e : Point × Point) (old : List Crossing)
-    → n < length edges → e ≡ get_or edges n e → crosses_row row e ≡ false → AreCrossings edges row n old → AreCrossings edges row (n + 1) old
+    → n < length edges → e ≡ get_or edges n e → crosses_row row e ≡ false → AreCrossings edges row n old
+    → AreCrossings edges row (n + 1) old
 crossing_passed edges row n e old less is_e not_so h = record {
   numbers = h.numbers ∙ sym (picked_passed (crosses_row row) (λ k f. k) edges n e less is_e not_so);
   places = h.places;
@@ -213,7 +217,8 @@ module _ (edges : List (Point × Point)) (row : ℤ) (rising : IsRising IsEdgeBe
     all_rising (b ∷ cs) all.1 apart.1 (λ k d less. sorted (suc k) d (omega arith)),
   )
 
-  crosses_of : (cs : List Crossing) (n : ℕ) → AllByRecursion (IsCrossingOf edges row) cs → Has (map (λ c. c.number) cs) n → CrossesRow edges row n
+  crosses_of : (cs : List Crossing) (n : ℕ) → AllByRecursion (IsCrossingOf edges row) cs → Has (map (λ c. c.number) cs) n
+      → CrossesRow edges row n
   crosses_of [] n all m = absurd m
   crosses_of (c ∷ cs) n all (inl same) = subst (CrossesRow edges row) same (all.0.given, all.0.crosses)
   crosses_of (c ∷ cs) n all (inr m) = crosses_of cs n all.1 m
@@ -231,7 +236,8 @@ module _ (edges : List (Point × Point)) (row : ℤ) (rising : IsRising IsEdgeBe
         exact = λ n. (
           (λ m. crosses_of sorted n all (has (map (λ c. c.number) sorted) n m)),
           (λ g. Contains-permutation (map (λ c. c.number) cs) (map (λ c. c.number) sorted) n moved_numbers
-              (subst (λ ns. Contains ns n) (sym numbers) (contains (crossing_numbers row 0 edges) n (from_zero n (numbers_have row 0 edges n g.0 g.1))))),
+              (subst (λ ns. Contains ns n) (sym numbers)
+              (contains (crossing_numbers row 0 edges) n (from_zero n (numbers_have row 0 edges n g.0 g.1))))),
         );
         rising = all_rising sorted all apart (λ k d less. subst (λ m. is_left (get_or sorted m d) (get_or sorted k d) ≡ false) (add-one k)
             (order k d (omega arith) (omega arith)));

@@ -35,7 +35,8 @@ or_turned v a b = by_tests (point_eq a v) (point_eq b v)
     by_tests false true = refl
     by_tests false false = refl
 
-has_upward : (items : List Item) (q : Item) → Has (map (λ (p : Item). (upward p.0, p.1)) items) q → (p : Item) × Has items p × ((upward p.0, p.1) ≡ q)
+has_upward : (items : List Item) (q : Item) → Has (map (λ (p : Item). (upward p.0, p.1)) items) q → (p : Item) × Has items p
+    × ((upward p.0, p.1) ≡ q)
 has_upward [] q m = absurd m
 has_upward (p ∷ ps) q (inl same) = (p, inl refl, same)
 has_upward (p ∷ ps) q (inr m) = let r = has_upward ps q m in (r.0, inr r.1, r.2)
@@ -59,7 +60,8 @@ module _ (r : Owned) (even : AreEven r) (clean : AreClean r.0) (lesser : AreLess
   risen = map (λ (p : Item). (upward p.0, p.1)) items
 
   proper : (e : Point × Point) → Has r.0 e → ¬ (e.0 ≡ e.1)
-  proper e m same = before_is_strict.irreflexive e.1 (before_by_test e.1 e.1 (subst (λ v. is_before v e.1 ≡ true) same (lesser e (contains r.0 e m))))
+  proper e m same =
+      before_is_strict.irreflexive e.1 (before_by_test e.1 e.1 (subst (λ v. is_before v e.1 ≡ true) same (lesser e (contains r.0 e m))))
 
   upward_proper : (e : Point × Point) → ¬ (e.0 ≡ e.1) → ¬ ((upward e).0 ≡ (upward e).1)
   upward_proper e h = by_test (int_le e.0.y e.1.y)
@@ -81,7 +83,8 @@ module _ (r : Owned) (even : AreEven r) (clean : AreClean r.0) (lesser : AreLess
         coe 0 1 (i. ((p.2 i).0 ≡ (t.2 i).0) ⊎ MeetAtEnds (p.2 i).0 (t.2 i).0) two;
   }
     where
-      both : (e f : Point × Point) → Has r.0 e → Has r.0 f → (b : Bool) → same_edge e f ≡ b → (upward e ≡ upward f) ⊎ MeetAtEnds (upward e) (upward f)
+      both : (e f : Point × Point) → Has r.0 e → Has r.0 f → (b : Bool) → same_edge e f ≡ b
+          → (upward e ≡ upward f) ⊎ MeetAtEnds (upward e) (upward f)
       both e f m n true t = inl (ap upward ((same_edge-Decides e f).0 t))
       both e f m n false t = inr (upward_meet e f (clean e f (contains r.0 e m) (contains r.0 f n) (λ same.
           let t' = (same_edge-Decides e f).1 same in absurd cc)))
@@ -107,7 +110,8 @@ module _ (r : Owned) (even : AreEven r) (clean : AreClean r.0) (lesser : AreLess
 
   -- the midpoint has the weight 1
   at_midpoint : (op : Bool → Bool → Bool) (p : Item) → differs op items p
-      ≡ differs_at op items p (near_k (pos 1)) (near (pos 1) (upward p.0).0.x (upward p.0).1.x) (near (pos 1) (upward p.0).0.y (upward p.0).1.y)
+      ≡ differs_at op items p (near_k (pos 1)) (near (pos 1) (upward p.0).0.x (upward p.0).1.x)
+      (near (pos 1) (upward p.0).0.y (upward p.0).1.y)
   unfolding differs
   at_midpoint op p =
       sym (either (λ e. differs_at op items p (pos 2) (e.0.x +ℤ e.1.x) (e.0.y +ℤ e.1.y)) (λ a b. λ i.
@@ -127,12 +131,14 @@ module _ (r : Owned) (even : AreEven r) (clean : AreClean r.0) (lesser : AreLess
       (near_inside (pos 1) a b rises (omega (arith, linear))) (near_inside w a b rises whole)
       ∙ odd_upward o (near_k w) (near w a.x b.x) (near w a.y b.y)
 
-  pub judged_there : (op : Bool → Bool → Bool) (p : Item) → Has items p → differs op items p ≡ differs_at op items p (at_k p.0) (at_x p.0) (at_y p.0)
+  pub judged_there : (op : Bool → Bool → Bool) (p : Item) → Has items p → differs op items p
+      ≡ differs_at op items p (at_k p.0) (at_x p.0) (at_y p.0)
   judged_there op p m = ⊎_elim
       (λ (rises : (upward p.0).0.y <ℤ (upward p.0).1.y).
       let same = λ (o : Owner). along o p m rises (weight p.0) (weight_of p.0).whole in
       at_midpoint op p
-      ∙ (λ i. xor (answer_on op (shapes_of items) (λ o. same o i)) (answer_on op (shapes_of items) (λ o. xor (is_listed o p.1) (same o i)))))
+      ∙ (λ i. xor (answer_on op (shapes_of items) (λ o. same o i))
+      (answer_on op (shapes_of items) (λ o. xor (is_listed o p.1) (same o i)))))
       (λ (le : (upward p.0).1.y ≤ℤ (upward p.0).0.y).
       at_midpoint op p
       ∙ ap (λ w. differs_at op items p (near_k w) (near w (upward p.0).0.x (upward p.0).1.x) (near w (upward p.0).0.y (upward p.0).1.y))

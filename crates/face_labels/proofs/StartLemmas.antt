@@ -28,7 +28,8 @@ use Rattle.face_labels.proofs.PickedLemmas.{picked_has, picked_of}
 use Rattle.face_labels.proofs.RowLemmas.{has_get}
 
 -- ---- the lesser end first
-pub one_more_lesser : (edges : List (Point × Point)) (n : ℕ) (e : Point × Point) → n < length edges → e ≡ get_or edges n e → is_before e.0 e.1 ≡ true
+pub one_more_lesser : (edges : List (Point × Point)) (n : ℕ) (e : Point × Point) → n < length edges → e ≡ get_or edges n e
+    → is_before e.0 e.1 ≡ true
     → ((k : ℕ) (d : Point × Point) → k < n → is_before (get_or edges k d).0 (get_or edges k d).1 ≡ true)
     → (k : ℕ) (d : Point × Point) → k < n + 1 → is_before (get_or edges k d).0 (get_or edges k d).1 ≡ true
 one_more_lesser edges n e less is_e lesser so_far k d lt = ⊎_elim
@@ -48,7 +49,8 @@ label_kept op r labels n label s less is h = by_number (nat_eq n s.number) refl
         let same = (Decides-eqb n s.number).0 t in
         subst (λ k. get_or (set labels n label) k false ≡ differs (answer op) (items_of r) (item_at r k)) same
         (get_or-set_same labels n label false less ∙ is)
-    by_number false t = get_or-set_other labels n s.number label false (λ same. let t' = (Decides-eqb n s.number).1 (sym same) in absurd cc) ∙ h
+    by_number false t =
+        get_or-set_other labels n s.number label false (λ same. let t' = (Decides-eqb n s.number).1 (sym same) in absurd cc) ∙ h
 
 pub labels_more : (op : Op) (r : Owned) (labels : List Bool) (starts : List Start) (i : ℕ) (d : Start) (label : Bool) → i < length starts
     → (get_or starts i d).number < length labels
@@ -88,7 +90,8 @@ own_labels band label n ps = picked (λ p. begins_in band p.0) (λ m p. (m, labe
 
 picked_labels : (band : Band) (label : Item → Bool) (n : ℕ) (es : List (Point × Point)) (ls : List Bool) (os : List (List Owner))
     → length ls ≡ length es → length os ≡ length es
-    → ((i : ℕ) → i < length es → begins_in band (get_or es i nowhere) ≡ true → get_or ls i false ≡ label (get_or es i nowhere, get_or os i []))
+    → ((i : ℕ) → i < length es → begins_in band (get_or es i nowhere) ≡ true → get_or ls i false
+    ≡ label (get_or es i nowhere, get_or os i []))
     → written_labels band n (zip es ls) ≡ own_labels band label n (zip es os)
 picked_labels band label n [] ls os labels owners is = refl
 picked_labels band label n (e ∷ es) [] os labels owners is = absurd (omega arith)
@@ -97,7 +100,8 @@ picked_labels band label n (e ∷ es) (l ∷ ls) (o ∷ os) labels owners is =
     by_test (begins_in band e) (is zero (omega arith))
     (picked_labels band label (n + 1) es ls os (omega arith) (omega arith) (λ i less. is (suc i) (omega arith)))
   where
-    by_test : (b : Bool) → (b ≡ true → l ≡ label (e, o)) → written_labels band (n + 1) (zip es ls) ≡ own_labels band label (n + 1) (zip es os)
+    by_test : (b : Bool) → (b ≡ true → l ≡ label (e, o)) → written_labels band (n + 1) (zip es ls)
+        ≡ own_labels band label (n + 1) (zip es os)
         → cond b ((n, l) ∷ written_labels band (n + 1) (zip es ls)) (written_labels band (n + 1) (zip es ls))
         ≡ cond b ((n, label (e, o)) ∷ own_labels band label (n + 1) (zip es os)) (own_labels band label (n + 1) (zip es os))
     by_test true first rest = λ i. (n, first refl i) ∷ rest i

@@ -11,5 +11,5 @@ weight e = if int_lt (pos 0) (rise e) then rise e -ℤ pos 1 else pos 1
 
 -- the ends' distances from f, each with its weight; of an edge that crosses the height of the place
 abbrev pub is_right_of : Point × Point → Point × Point → Bool
-is_right_of e f =
-    int_lt (pos 0) (weight e *ℤ cross (upward e).0 (upward f).0 (upward f).0 (upward f).1 +ℤ cross (upward e).1 (upward f).0 (upward f).0 (upward f).1)
+is_right_of e f = int_lt (pos 0)
+    (weight e *ℤ cross (upward e).0 (upward f).0 (upward f).0 (upward f).1 +ℤ cross (upward e).1 (upward f).0 (upward f).0 (upward f).1)

@@ -26,10 +26,12 @@ Turns owners old new = (o : Owner) → holds new o ≡ xor (parity (λ p. owner_
 
 -- the operation's answer, if only these shapes can hold
 abbrev pub IsAnswerOf : Op → Inside → Bool → Type 0
-IsAnswerOf op i result = (shapes : List Owner) → ((o : Owner) → IsTrue (holds i o) → Contains shapes o) → result ≡ answer_on (answer op) shapes (holds i)
+IsAnswerOf op i result = (shapes : List Owner) → ((o : Owner) → IsTrue (holds i o) → Contains shapes o)
+    → result ≡ answer_on (answer op) shapes (holds i)
 
 -- whether the answer is another one with these shapes turned, if only those shapes can hold
 abbrev pub IsDifference : Op → List Owner → Inside → Bool → Type 0
 IsDifference op owners i result = (shapes : List Owner) → ((o : Owner) → IsTrue (holds i o) → Contains shapes o)
     → ((o : Owner) → Contains owners o → Contains shapes o)
-    → result ≡ xor (answer_on (answer op) shapes (holds i)) (answer_on (answer op) shapes (λ o. xor (parity (λ p. owner_eq p o) owners) (holds i o)))
+    → result ≡ xor (answer_on (answer op) shapes (holds i))
+    (answer_on (answer op) shapes (λ o. xor (parity (λ p. owner_eq p o) owners) (holds i o)))

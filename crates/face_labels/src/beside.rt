@@ -31,7 +31,8 @@ pub(crate) fn is_right_of(edge: Edge, other: Edge) -> bool
 
 /// Returns the weight of the lower end.
 fn weight(low: Point, high: Point) -> i64
-    ensures value { result ≡ (if int_lt (pos 0) (pos 2 *ℤ (high.y -ℤ low.y)) then pos 2 *ℤ (high.y -ℤ low.y) -ℤ pos 1 else pos 1) }
+    ensures value { result ≡ (if int_lt (pos 0) (pos 2 *ℤ (high.y -ℤ low.y))
+        then pos 2 *ℤ (high.y -ℤ low.y) -ℤ pos 1 else pos 1) }
     ensures low { pos 1 ≤ℤ result }
     ensures high { result ≤ℤ pos (2 ^ 33) }
 {

@@ -42,7 +42,8 @@ impl Inside {
 
     /// Turns the shape in or out.
     fn turn(&mut self, owner: Owner) -> Result<(), AllocError>
-        ensures { OnOk result ((o : Owner) → holds self.new o ≡ xor (owner_eq owner o) (holds self.old o)) }
+        ensures { OnOk result ((o : Owner)
+            → holds self.new o ≡ xor (owner_eq owner o) (holds self.old o)) }
     {
         match owner.input {
             Input::First => turn_shape(&mut self.first, owner.shape),
@@ -50,7 +51,8 @@ impl Inside {
         }
     }
 
-    /// Returns whether the operation's answer is another one with these shapes turned. They stay as they are.
+    /// Returns whether the operation's answer is another one with these shapes turned. They stay as
+    /// they are.
     pub fn differs(&mut self, owners: &[Owner], op: Op) -> Result<bool, AllocError>
         ensures value { IfOk result (IsDifference op owners.now self.old) }
         ensures kept { OnOk result ((o : Owner) → holds self.new o ≡ holds self.old o) }
@@ -72,7 +74,8 @@ impl Inside {
 
 /// Takes the shape out where it is in, and puts it in where it isn't.
 fn turn_shape(shapes: &mut BTreeSet<u32>, shape: u32) -> Result<(), AllocError>
-    ensures { OnOk result ((q : ℕ) → contains nat_cmp shapes.new q ≡ xor (shape == q) (contains nat_cmp shapes.old q)) }
+    ensures { OnOk result ((q : ℕ)
+        → contains nat_cmp shapes.new q ≡ xor (shape == q) (contains nat_cmp shapes.old q)) }
 {
     if !shapes.remove(&shape) {
         shapes.insert(shape)?;

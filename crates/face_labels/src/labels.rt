@@ -14,8 +14,9 @@ use lay_point::{Edge, NoMemory};
 use snap_chains::CleanEdges;
 use std::alloc::{AllocError, Global};
 
-/// Returns the numbers of the edges whose lower ends are in the band, in order, each with whether the
-/// operation's answers differ on its two sides. All edges are regarded, those of other bands too.
+/// Returns the numbers of the edges whose lower ends are in the band, in order, each with whether
+/// the operation's answers differ on its two sides. All edges are regarded, those of other bands
+/// too.
 pub fn label(
     alloc: Global,
     edges: &CleanEdges,
@@ -30,8 +31,8 @@ pub fn label(
     Ok(numbered)
 }
 
-/// Returns for each edge whether the operation's answers differ on its two sides, if it is one of those that
-/// begin at the starts. Takes less time where they are in order.
+/// Returns for each edge whether the operation's answers differ on its two sides, if it is one of
+/// those that begin at the starts. Takes less time where they are in order.
 fn labels_at(
     alloc: Global,
     edges: &CleanEdges,

@@ -1,7 +1,22 @@
 //! Operations on two layers, and which edges of the rounded inputs are theirs.
 //!
-//! An operation's edges are those on whose two sides its answers differ (`label_laws/specs/Labels.antt`). They
-//! tell its answer: a place is to the left of an odd number of them exactly where the operation holds there.
+//! An operation's edges are those on whose two sides its answers differ
+//! (`label_laws/specs/Labels.antt`). They tell its answer: a place is to the left of an odd number
+//! of them exactly where the operation holds there.
+//!
+//! The row r is the height r + 1/2. `row_edges` lists the edges that cross a row, from left to
+//! right (`specs/Rows.antt`). `label` tells for each edge that begins in a band of rows whether it
+//! is one of the operation's (`specs/Bands.antt`). Each edge is judged close to its lower end
+//! (`specs/Beside.antt`): at its crossing of the row there, and at its midpoint if it is level. For
+//! each row in which an edge begins that is to be labelled, a gap moves between the row's edges to
+//! where the edge is judged, and each edge that it passes turns its owners in or out
+//! (`specs/Lines.antt`). So the shapes that hold at the gap are those that hold right of the edge,
+//! and with its owners turned those on its other side.
+//!
+//! ```
+//! let clean = round(rt, alloc, &rings)?;
+//! let labels = label(alloc, &clean, Band { low: 0, high: 1_000 }, Op::And)?;
+//! ```
 #![tactic(auto)]
 
 mod band;
@@ -15,6 +30,8 @@ mod line;
 mod op;
 mod rows;
 mod start;
+#[cfg(test)]
+mod tests;
 mod upward;
 
 pub use band::Band;

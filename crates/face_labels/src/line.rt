@@ -42,14 +42,15 @@ impl Line {
         })
     }
 
-    /// Moves the gap to where the edge of this number is judged, which begins in this row. Returns whether the
-    /// operation's answers differ on its two sides.
+    /// Moves the gap to where the edge of this number is judged, which begins in this row. Returns
+    /// whether the operation's answers differ on its two sides.
     pub fn differs(&mut self, edges: &CleanEdges, number: usize, op: Op) -> Result<bool, AllocError>
         requires line { IsLine edges.now self.old }
         requires given { number < length edges.now.0 }
         requires row { (upward (edge_at edges.now number)).0.y ≡ self.old.row }
         requires lesser { AreLesserFirst edges.now.0 }
-        ensures value { IfOk result (λ label. label ≡ differs (answer op) (items_of edges.now) (item_at edges.now number)) }
+        ensures value { IfOk result (λ label.
+            label ≡ differs (answer op) (items_of edges.now) (item_at edges.now number)) }
         ensures line { OnOk result (IsLine edges.now self.new) }
         ensures row { OnOk result (self.new.row ≡ self.old.row) }
     {
@@ -86,7 +87,8 @@ fn pass_left(
     Ok(gap)
 }
 
-/// Moves the gap to the right over the edges that aren't right of the edge. Returns where it is then.
+/// Moves the gap to the right over the edges that aren't right of the edge. Returns where it is
+/// then.
 fn pass_right(
     edges: &CleanEdges,
     numbers: &[usize],
@@ -130,7 +132,8 @@ fn turn_at(
 ) -> Result<(), AllocError>
     requires given { All (λ n. n < length edges.now.0) numbers.now }
     requires index { index < length numbers.now }
-    ensures { OnOk result (TurnsListed (owners_at edges.now (slice_index numbers.now index)) inside.old inside.new) }
+    ensures { OnOk result
+        (TurnsListed (owners_at edges.now (slice_index numbers.now index)) inside.old inside.new) }
 {
     let number = numbers[index];
     inside.turn_all(edges.owners(number))?;

@@ -9,8 +9,8 @@ use lay_point::{Edge, NoMemory};
 use snap_chains::CleanEdges;
 use std::alloc::{AllocError, Global};
 
-/// Returns the numbers of the edges that cross the height `row + 1/2`, from left to right. Takes time
-/// n + m log m, where m of the n edges cross it.
+/// Returns the numbers of the edges that cross the height `row + 1/2`, from left to right. Takes
+/// time n + m log m, where m of the n edges cross it.
 pub fn row_edges(alloc: Global, edges: &CleanEdges, row: i32) -> Result<Vec<usize>, NoMemory>
     ensures { IfOk result (λ numbers. AreRowEdges edges.now.0 row numbers.items) }
 {
@@ -22,7 +22,8 @@ pub fn row_edges(alloc: Global, edges: &CleanEdges, row: i32) -> Result<Vec<usiz
 
 /// Returns where the edges cross the row, in the order of the edges.
 fn crossings(alloc: Global, edges: &[Edge], row: i32) -> Result<Vec<Crossing>, AllocError>
-    ensures numbers { IfOk result (λ crossings. map (λ c. c.number) crossings.items ≡ crossing_numbers row 0 edges.now) }
+    ensures numbers { IfOk result (λ crossings. map (λ c. c.number) crossings.items
+        ≡ crossing_numbers row 0 edges.now) }
     ensures places { IfOk result (λ crossings. All (IsCrossingOf edges.now row) crossings.items) }
 {
     let mut crossings = Vec::new(alloc);

@@ -10,7 +10,8 @@ use crate::upward::upward;
 use lay_point::Edge;
 use std::alloc::{AllocError, Global};
 
-/// Where the lower end of an edge is. Starts are in the order of their rows, and in a row from left to right.
+/// Where the lower end of an edge is. Starts are in the order of their rows, and in a row from left
+/// to right.
 #[derive(Clone, Copy, Debug, PartialEq, Eq, PartialOrd, Ord)]
 pub(crate) struct Start {
     pub y: i32,

@@ -10,7 +10,8 @@ pub returns : goal.returns
 returns c =
     let r = c.requires in
     let first : c.scaled.result ≡ c.args.first_weight *ℤ c.args.first =
-    product_is c.args.first_weight c.args.first c.from.result _ c.ranges.first_weight (omega (arith, ints)) (omega (arith, ints)) c.scaled.ensures.value in
+    product_is c.args.first_weight c.args.first c.from.result _ c.ranges.first_weight (omega (arith, ints))
+    (omega (arith, ints)) c.scaled.ensures.value in
     let second : c.scaled-2.result ≡ c.args.second_weight *ℤ c.args.second =
     product_is c.args.second_weight c.args.second c.from-2.result _ c.ranges.second_weight (omega (arith, ints)) (omega (arith, ints))
     c.scaled-2.ensures.value in

@@ -10,7 +10,8 @@ pub labels_at-requires-clause-starts : goal.labels_at-requires-clause-starts
 labels_at-requires-clause-starts c =
     let r = c.args.edges.now in
     let band = c.args.band in
-    let moved = coe 0 1 (i. IsPermutation (starts_of band (c.edges.ensures.value i)) c.in_ok-starts.starts.items) c.in_ok-starts.ensures.starts in
+    let moved =
+    coe 0 1 (i. IsPermutation (starts_of band (c.edges.ensures.value i)) c.in_ok-starts.starts.items) c.in_ok-starts.ensures.starts in
     subst (All (IsStartOf r)) (sym c.as_slice.ensures.value) (are_starts r band c.in_ok-starts.starts.items moved)
 
 pub returns : goal.returns
@@ -19,7 +20,8 @@ returns c =
     let band = c.args.band in
     let op = c.args.op in
     let labels = c.in_ok-labels.labels.items in
-    let moved = coe 0 1 (i. IsPermutation (starts_of band (c.edges.ensures.value i)) c.in_ok-starts.starts.items) c.in_ok-starts.ensures.starts in
+    let moved =
+    coe 0 1 (i. IsPermutation (starts_of band (c.edges.ensures.value i)) c.in_ok-starts.starts.items) c.in_ok-starts.ensures.starts in
     let all = subst (All (HasLabel op r labels)) c.as_slice.ensures.value c.in_ok-labels.ensures.labels in
     c.in_ok-numbered.ensures
     ∙ (λ i. written_labels band 0 (zip (c.edges-2.ensures.value i) (c.as_slice-2.ensures.value i)))

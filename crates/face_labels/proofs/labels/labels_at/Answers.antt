@@ -29,11 +29,13 @@ loop-start-preserved c =
     let given = (c.requires.starts i origin c.loop-start-test.true).given in (
       length-set c.loop-start.labels.items s.number c.in_ok-labels-2.field-0 ∙ c.loop-start.invariant.0,
       c.in_ok-labels-2.ensures.line,
-      labels_more c.args.op c.args.edges.now c.loop-start.labels.items c.args.starts.now i origin c.in_ok-labels-2.field-0 c.loop-start-test.true
+      labels_more c.args.op c.args.edges.now c.loop-start.labels.items c.args.starts.now i origin c.in_ok-labels-2.field-0
+          c.loop-start-test.true
           (omega (arith, given, c.loop-start.invariant.0)) c.in_ok-labels-2.ensures.value c.loop-start.invariant.2,
     )
 
 pub returns-clause-labels : goal.returns-clause-labels
 returns-clause-labels c =
-    subst (All (HasLabel c.args.op c.args.edges.now c.loop-start.labels.items)) (take_all c.loop-start.start-index c.args.starts.now c.loop-start-test.false)
+    subst (All (HasLabel c.args.op c.args.edges.now c.loop-start.labels.items))
+    (take_all c.loop-start.start-index c.args.starts.now c.loop-start-test.false)
     c.loop-start.invariant.2

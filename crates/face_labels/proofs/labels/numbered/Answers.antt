@@ -20,7 +20,11 @@ loop-number-preserved c =
     let old = c.loop-number.numbered.items in
     let less : n < length (zip edges labels) = omega (arith, length-zip edges labels, c.requires, c.loop-number-test.true) in
     let is : p ≡ get_or (zip edges labels) n p =
-    (λ i. (c.index-edges-number.is i, get_or_default labels n false (get_or labels n false) (omega (arith, c.requires, c.loop-number-test.true)) i))
+    (λ i. (
+      c.index-edges-number.is i,
+      get_or_default labels n false (get_or labels n false)
+          (omega (arith, c.requires, c.loop-number-test.true)) i,
+    ))
     ∙ sym (get_or-zip edges labels n p c.loop-number-test.true (omega (arith, c.requires, c.loop-number-test.true))) in
     let next : c.if-has.numbered.items ≡ written_labels band 0 (take (n + 1) (zip edges labels)) = elim c.if-has.branch [
       | then-has+in_ok-push w ↦

@@ -13,4 +13,5 @@ returns c = λ o.
     let owners = c.owners.result.now in
     let same : owners_at c.args.edges.now (get_or c.args.numbers.now c.args.index 0) ≡ owners =
     get_or_from_slice_get c.args.edges.now.1 (get_or c.args.numbers.now c.args.index 0) owners [] c.owners.ensures.value in
-    c.in_ok-turn_all.ensures o ∙ ap (λ b. xor b (holds c.args.inside.now o)) (listed_of owners o c.owners.ensures.rising ∙ sym (ap (is_listed o) same))
+    c.in_ok-turn_all.ensures o
+    ∙ ap (λ b. xor b (holds c.args.inside.now o)) (listed_of owners o c.owners.ensures.rising ∙ sym (ap (is_listed o) same))

@@ -23,7 +23,8 @@ returns c =
     let same : c.edges.result.now ≡ edges = c.edges.ensures.value in
     let crossed = c.in_ok-crossings.ensures.numbers ∙ (λ i. crossing_numbers (at i) 0 (same i)) in
     let places = coe 0 1 (i. All (IsCrossingOf (same i) (at i)) c.in_ok-crossings.crossings.items) c.in_ok-crossings.ensures.places in
-    let rows = row_edges_of edges c.args.row c.edges.ensures.rising c.edges.ensures.clean c.in_ok-crossings.crossings.items sorted crossed places
+    let rows = row_edges_of edges c.args.row c.edges.ensures.rising c.edges.ensures.clean c.in_ok-crossings.crossings.items sorted
+    crossed places
     c.sort_unstable_by.ensures.permutation order in
     let numbers : c.in_ok-numbers.numbers.items ≡ map (λ (z : Crossing). z.number) sorted = search rules in
     subst (AreRowEdges edges c.args.row) (sym numbers) rows

@@ -47,7 +47,8 @@ pub returns-clause-x : goal.returns-clause-x
 returns-clause-x c =
     let e = upward c.args.edge in
     let row = c.args.row in
-    let whole : to_z w128 (of_z w128 c.weighed.result) ≡ c.weighed.result = omega (arith, ints, c.weighed.ensures.low, c.weighed.ensures.high) in
+    let whole : to_z w128 (of_z w128 c.weighed.result) ≡ c.weighed.result =
+    omega (arith, ints, c.weighed.ensures.low, c.weighed.ensures.high) in
     let lx : to_z w32 (of_z w32 c.upward.result.0.x) ≡ e.0.x =
     to_z-of_z w32 c.upward.result.0.x (search rules) ∙ ap (λ (f : Point × Point). f.0.x) c.upward.ensures.value in
     let hx : to_z w32 (of_z w32 c.upward.result.1.x) ≡ e.1.x =

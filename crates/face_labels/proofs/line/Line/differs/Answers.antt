@@ -10,12 +10,14 @@ use Rattle.face_labels.proofs.line.Line.differs.Goals as goal
 
 pub pass_left-requires-clause-given : goal.pass_left-requires-clause-given
 pass_left-requires-clause-given c =
-    row_given c.args.edges.now.0 c.args.self.now.row c.args.self.now.numbers.items c.as_slice-numbers.result.now c.as_slice-numbers.ensures.value
+    row_given c.args.edges.now.0 c.args.self.now.row c.args.self.now.numbers.items c.as_slice-numbers.result.now
+    c.as_slice-numbers.ensures.value
     c.requires.line.edges
 
 pub pass_right-requires-clause-given : goal.pass_right-requires-clause-given
 pass_right-requires-clause-given c =
-    row_given c.args.edges.now.0 c.args.self.now.row c.args.self.now.numbers.items c.as_slice-numbers.result.now c.as_slice-numbers.ensures.value
+    row_given c.args.edges.now.0 c.args.self.now.row c.args.self.now.numbers.items c.as_slice-numbers.result.now
+    c.as_slice-numbers.ensures.value
     c.requires.line.edges
 
 pub returns-clause-value : goal.returns-clause-value

@@ -1,0 +1,20 @@
+//! Labels of all edges, band by band.
+//!
+//! `Bands::label_all` says for each edge of the rounded inputs whether it is one of an operation's
+//! edges: whether the operation's answers differ on its two sides (`label_laws/specs/Labels.antt`).
+//! Its law determines the answer, however the edges are shared out. `OneBand` labels them all on
+//! the caller's thread.
+//!
+//! ```
+//! let clean = round(rt, alloc, &rings)?;
+//! let labels = OneBand.label_all(alloc, &clean, Op::And)?;
+//! ```
+#![tactic(auto)]
+
+mod bands;
+mod one_band;
+#[cfg(test)]
+mod tests;
+
+pub use bands::Bands;
+pub use one_band::OneBand;
