@@ -10,11 +10,6 @@ use std::alloc::Global;
 /// Labels all edges. The edges are shared out by bands of rows, which may be labelled in any order.
 pub trait Bands {
     /// Returns for each edge, in order, whether the operation's answers differ on its two sides.
-    fn label_all(
-        &self,
-        alloc: Global,
-        edges: &CleanEdges,
-        op: Op,
-    ) -> Result<Vec<bool>, NoMemory>
+    fn label_all(&self, alloc: Global, edges: &CleanEdges, op: Op) -> Result<Vec<bool>, NoMemory>
         ensures { IfOk result (λ labels. labels.items ≡ labels_of op edges.now) };
 }

@@ -12,12 +12,7 @@ use std::alloc::{AllocError, Global};
 pub struct OneBand;
 
 impl Bands for OneBand {
-    fn label_all(
-        &self,
-        alloc: Global,
-        edges: &CleanEdges,
-        op: Op,
-    ) -> Result<Vec<bool>, NoMemory> {
+    fn label_all(&self, alloc: Global, edges: &CleanEdges, op: Op) -> Result<Vec<bool>, NoMemory> {
         let band = Band::of(edges.edges());
         let labels = label(alloc, edges, band, op)?;
         let values = values(alloc, labels.as_slice())?;
