@@ -1,5 +1,5 @@
--- The calls of a sound layout are between its cells, so its graph has them all.
-use Rattle.std.proofs.Common.{◌≡◌, ◌∙◌, ◌||◌, ◌++◌, ℕ, Bool, true, false, List, [], ◌∷◌, Option, Some, None, cond, refl, ap, sym, map, nat_eq, is_some, IsTrue, append_assoc, append-nil, arith}
+-- The calls of a sound layout call its symbols.
+use Rattle.std.proofs.Common.{◌≡◌, ◌∙◌, ◌||◌, ℕ, Bool, true, false, List, [], ◌∷◌, Option, Some, None, cond, refl, ap, sym, map, nat_eq, is_some, IsTrue, arith}
 use Rattle.std.specs.declared.cmp.Ordering.{Ordering}
 use Rattle.std.specs.Cmp.{Equal-is, IsTotalOrder, eq_by_cmp_equiv, nat_cmp_total}
 use Rattle.std.specs.FinMap.{FinMap, IsAntisymmetric, entries, entries_sorted, find, get, get-entries, get-from_entries}
@@ -13,7 +13,6 @@ use Rattle.lay_items.specs.declared.id.ItemId.{ItemId}
 use Rattle.lay_items.specs.declared.item.Item.{Item}
 use Rattle.lay_items.specs.declared.item.Item.TheVariants.{Placed, Shape}
 use Rattle.lay_items.specs.declared.version.CellSlot.{CellSlot}
-use Rattle.lay_items.specs.Calls.{calls_among}
 use Rattle.lay_items.specs.IdOrder.{ids_exact, ids_total}
 use Rattle.lay_items.specs.Ids.{id_cmp}
 use Rattle.lay_items.specs.Layout.{Layout, is_cell}
@@ -21,7 +20,6 @@ use Rattle.lay_items.specs.SlotOrder.{Standing, by_standing, in_slot_order, rank
 use Rattle.lay_items.specs.Sound.{IsSound, IsSoundItem}
 use Rattle.lay_items.proofs.DistinctLemmas.{AreDistinct}
 use Rattle.lay_items.proofs.SlotLemmas.{find-standings, of_rank, sorted-distinct, standings_total, tested}
-use Rattle.lay_flat.specs.Graphs.{IsAddable, calls_by}
 
 -- what is found among entries is among their values
 found-any : {K : Type 0} (R : K → K → Ordering) (es : List (K × ℕ)) (k : K) (n : ℕ) → find R k es ≡ Some n
@@ -82,20 +80,19 @@ all_found {K} {X} R total exact P (e ∷ es) h each = (
       let none : find R k es ≡ None = ap (λ q. find R q es) (exact k e.0 ((Equal-is (R k e.0)).0 is)) ∙ h.0 in absurd cc
   behind k x false is at = at
 
-sound_addable : (layout : Layout) (item : Item) → IsSoundItem layout item → IsAddable (in_slot_order layout.symbols) item
-sound_addable layout (Shape cell layer rings) sound = tt
-sound_addable layout (Placed cell target turn) sound = (cell_there layout cell sound.0, cell_there layout (Symbol target) sound.1)
+-- the symbol that an item calls is there, where it is a call
+abbrev pub IsPlaceable : List ℕ → Item → Type 0
+IsPlaceable symbols (Shape cell layer rings) = Unit {0}
+IsPlaceable symbols (Placed cell target turn) = IsTrue (has_symbol symbols target)
 
--- each call of a sound layout can be added
-pub all_addable : (layout : Layout) → IsSound layout
-    → AllByRecursion (λ (e : ItemId × Item). IsAddable (in_slot_order layout.symbols) e.1) (entries layout.items)
-all_addable layout sound =
-    all_found id_cmp ids_total ids_exact (IsAddable (in_slot_order layout.symbols)) (entries layout.items)
+sound_placeable : (layout : Layout) (item : Item) → IsSoundItem layout item → IsPlaceable (in_slot_order layout.symbols) item
+sound_placeable layout (Shape cell layer rings) sound = tt
+sound_placeable layout (Placed cell target turn) sound = cell_there layout (Symbol target) sound.1
+
+-- each call of a sound layout calls one of its symbols
+pub all_placeable : (layout : Layout) → IsSound layout
+    → AllByRecursion (λ (e : ItemId × Item). IsPlaceable (in_slot_order layout.symbols) e.1) (entries layout.items)
+all_placeable layout sound =
+    all_found id_cmp ids_total ids_exact (IsPlaceable (in_slot_order layout.symbols)) (entries layout.items)
     (sorted-distinct id_cmp (entries layout.items) (tested _ (entries_sorted layout.items)))
-    (λ id item at. sound_addable layout item (sound.items id item (get-entries layout.items id ∙ at)))
-
--- with one item more
-pub calls-more : (calls : List (CellId × ℕ)) (id : ItemId) (item : Item) (rest : List (ItemId × Item))
-    → (calls ++ calls_by item) ++ calls_among rest ≡ calls ++ calls_among ((id, item) ∷ rest)
-calls-more calls id (Shape cell layer rings) rest = ap (λ (cs : List (CellId × ℕ)). cs ++ calls_among rest) (append-nil calls)
-calls-more calls id (Placed cell target turn) rest = append_assoc calls ((cell, target) ∷ []) (calls_among rest)
+    (λ id item at. sound_placeable layout item (sound.items id item (get-entries layout.items id ∙ at)))

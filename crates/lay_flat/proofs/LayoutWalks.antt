@@ -1,7 +1,8 @@
 -- A layout's walks have the depth and the number of those of its graph, and each walk is among them.
-use Rattle.std.proofs.Common.{◌≡◌, ◌∙◌, ◌≤◌, ◌+◌, ◌-◌, ◌++◌, ◌⊎◌, ℕ, zero, suc, inl, inr, Bool, true, false, List, [], ◌∷◌, Option, Some, cond, length, map, refl, ap, sym, subst, arith}
+use Rattle.std.proofs.Common.{◌≡◌, ◌∙◌, ◌≤◌, ◌+◌, ◌-◌, ◌++◌, ◌⊎◌, ℕ, zero, suc, inl, inr, Bool, true, false, List, [], ◌∷◌, Option, Some, cond, length, map, refl, ap, sym, subst, arith, Contains}
 use Rattle.std.specs.Prelude.{flat_map, sum_by}
 use Rattle.std.specs.FinMap.{entries}
+use Rattle.std.specs.List.{AllByRecursion}
 use Rattle.std.proofs.lemmas.List.{map-append}
 use Rattle.std.proofs.lemmas.List.Sums.{sum_by-cons}
 use Rattle.lay_point.specs.declared.turn.Turn.{Turn}
@@ -11,8 +12,9 @@ use Rattle.lay_cells.specs.declared.cell_id.CellId.TheVariants.{Symbol}
 use Rattle.lay_cells.specs.SameCell.{cell_eq, cell_eq-Decides}
 use Rattle.lay_cells.specs.Tallies.{greatest}
 use Rattle.lay_cells.specs.WalkLists.{IsWalk, called, longest, standing_in, walks_from, walks_within}
-use Rattle.lay_cells.specs.Walks.{IsAcyclic}
-use Rattle.lay_cells.proofs.AcyclicLemmas.{few_in_all}
+use Rattle.lay_cells.specs.Walks.{Calls, IsAcyclic}
+use Rattle.lay_cells.proofs.AcyclicLemmas.{few_in_all, stands}
+use Rattle.lay_cells.proofs.FewerCalls.{AreAmong, IsAcyclic-fewer}
 use Rattle.lay_cells.proofs.WalkListLemmas.{le-longest, length-more, listed, longest-le, longest-more, no_more, only_walks}
 use Rattle.lay_items.specs.declared.id.ItemId.{ItemId}
 use Rattle.lay_items.specs.declared.item.Item.{Item}
@@ -25,10 +27,8 @@ use Rattle.lay_items.specs.Lent.{LentCall, calls_in, calls_lent}
 use Rattle.lay_flat.specs.declared.ends.End.{End}
 use Rattle.lay_flat.specs.Ends.{end_along, ends_within, target_of, turn_after, walks_of}
 use Rattle.lay_flat.specs.Flattening.{AreWalks, ends_of}
-
--- a call that stands in a cell, in the graph
-abbrev in_graph : CellId → LentCall → CellId × ℕ
-in_graph cell call = (cell, call.1)
+use Rattle.lay_flat.specs.Graphs.{IsGraphFrom, in_graph}
+use Rattle.lay_flat.proofs.Reaching.{IsIn, begins_in, calls_stand, closed_in, standing_from}
 
 standing-entries : (cell : CellId) (es : List (ItemId × Item)) → standing_in (calls_among es) cell
     ≡ map (in_graph cell) (calls_lent (items_standing_in cell es))
@@ -49,6 +49,53 @@ standing-entries cell (e ∷ es) = by_item e.0 e.1 (standing-entries cell es) wh
         ap (λ (k : CellId). (k, target) ∷ standing_in (calls_among es) cell) same ∙ ap (λ (cs : List (CellId × ℕ)). (cell, target) ∷ cs) rest
     by_test false is = rest
 
+-- calls that stand in each cell of some as the layout's do, where these cells call each other alone
+pub record AreCallsIn (layout : Layout) (IsOne : CellId → Type 0) (calls : List (CellId × ℕ)) : Type 0 where
+  pub standing : (cell : CellId) → IsOne cell → standing_in calls cell ≡ map (in_graph cell) (calls_in layout cell)
+  pub closed : (cell : CellId) → IsOne cell → AllByRecursion (λ (call : LentCall). IsOne (Symbol call.1)) (calls_in layout cell)
+
+module _ (layout : Layout) (IsOne : CellId → Type 0) (calls : List (CellId × ℕ)) (are : AreCallsIn layout IsOne calls) where
+  abbrev lent_walks : ℕ → CellId → List (List LentCall)
+  lent_walks = walks_within (calls_in layout) target_of
+
+  abbrev graph_walks : ℕ → CellId → List (List (CellId × ℕ))
+  graph_walks = walks_within (standing_in calls) called
+
+  pub same-longest : (n : ℕ) (cell : CellId) → IsOne cell → longest (lent_walks n cell) ≡ longest (graph_walks n cell)
+  unfolding walks_within
+  same-longest zero cell one = refl
+  same-longest (suc n) cell one =
+      longest-more (calls_in layout) target_of n cell ∙ by_calls (same-longest n) (calls_in layout cell) (are.closed cell one)
+      ∙ ap (greatest (λ (call : CellId × ℕ). 1 + longest (graph_walks n (Symbol call.1)))) (sym (are.standing cell one))
+      ∙ sym (longest-more (standing_in calls) called n cell) where
+        by_calls : ((other : CellId) → IsOne other → longest (lent_walks n other) ≡ longest (graph_walks n other)) → (cs : List LentCall)
+            → AllByRecursion (λ (call : LentCall). IsOne (Symbol call.1)) cs
+            → greatest (λ (call : LentCall). 1 + longest (lent_walks n (Symbol call.1))) cs
+            ≡ greatest (λ (call : CellId × ℕ). 1 + longest (graph_walks n (Symbol call.1))) (map (in_graph cell) cs)
+        by_calls each [] ones = refl
+        by_calls each (c ∷ cs) ones = omega (arith, each (Symbol c.1) ones.0, by_calls each cs ones.1)
+
+  pub same-length : (n : ℕ) (cell : CellId) → IsOne cell → length (lent_walks n cell) ≡ length (graph_walks n cell)
+  unfolding walks_within
+  same-length zero cell one = refl
+  same-length (suc n) cell one =
+      length-more (calls_in layout) target_of n cell ∙ ap (λ (k : ℕ). 1 + k) (by_calls (same-length n) (calls_in layout cell) (are.closed cell one))
+      ∙ ap (λ (cs : List (CellId × ℕ)). 1 + sum_by (λ (call : CellId × ℕ). length (graph_walks n (Symbol call.1))) cs)
+      (sym (are.standing cell one))
+      ∙ sym (length-more (standing_in calls) called n cell) where
+        by_calls : ((other : CellId) → IsOne other → length (lent_walks n other) ≡ length (graph_walks n other)) → (cs : List LentCall)
+            → AllByRecursion (λ (call : LentCall). IsOne (Symbol call.1)) cs
+            → sum_by (λ (call : LentCall). length (lent_walks n (Symbol call.1))) cs
+            ≡ sum_by (λ (call : CellId × ℕ). length (graph_walks n (Symbol call.1))) (map (in_graph cell) cs)
+        by_calls each [] ones = refl
+        by_calls each (c ∷ cs) ones = omega (
+          arith,
+          each (Symbol c.1) ones.0,
+          by_calls each cs ones.1,
+          sum_by-cons (λ (call : LentCall). length (lent_walks n (Symbol call.1))) c cs,
+          sum_by-cons (λ (call : CellId × ℕ). length (graph_walks n (Symbol call.1))) (in_graph cell c) (map (in_graph cell) cs),
+        )
+
 module _ (layout : Layout) where
   abbrev calls : List (CellId × ℕ)
   calls = calls_of layout
@@ -56,47 +103,20 @@ module _ (layout : Layout) where
   abbrev walks : ℕ → CellId → List (List LentCall)
   walks = walks_within (calls_in layout) target_of
 
-  standing-lent : (cell : CellId) → standing_in calls cell ≡ map (in_graph cell) (calls_in layout cell)
+  pub standing-lent : (cell : CellId) → standing_in calls cell ≡ map (in_graph cell) (calls_in layout cell)
   unfolding calls_of calls_in items_in
   standing-lent cell = standing-entries cell (entries layout.items)
 
-  pub same-longest : (n : ℕ) (cell : CellId) → longest (walks n cell) ≡ longest (walks_within (standing_in calls) called n cell)
-  unfolding walks_within
-  same-longest zero cell = refl
-  same-longest (suc n) cell =
-      longest-more (calls_in layout) target_of n cell ∙ by_calls (same-longest n) (calls_in layout cell)
-      ∙ ap (greatest (λ (call : CellId × ℕ). 1 + longest (walks_within (standing_in calls) called n (Symbol call.1)))) (sym (standing-lent cell))
-      ∙ sym (longest-more (standing_in calls) called n cell) where
-        by_calls : ((other : CellId) → longest (walks n other) ≡ longest (walks_within (standing_in calls) called n other)) → (cs : List LentCall)
-            → greatest (λ (call : LentCall). 1 + longest (walks n (Symbol call.1))) cs
-            ≡ greatest (λ (call : CellId × ℕ). 1 + longest (walks_within (standing_in calls) called n (Symbol call.1))) (map (in_graph cell) cs)
-        by_calls each [] = refl
-        by_calls each (c ∷ cs) = omega (arith, each (Symbol c.1), by_calls each cs)
-
-  pub same-length : (n : ℕ) (cell : CellId) → length (walks n cell) ≡ length (walks_within (standing_in calls) called n cell)
-  unfolding walks_within
-  same-length zero cell = refl
-  same-length (suc n) cell =
-      length-more (calls_in layout) target_of n cell ∙ ap (λ (k : ℕ). 1 + k) (by_calls (same-length n) (calls_in layout cell))
-      ∙ ap (λ (cs : List (CellId × ℕ)). 1 + sum_by (λ (call : CellId × ℕ). length (walks_within (standing_in calls) called n (Symbol call.1))) cs)
-      (sym (standing-lent cell))
-      ∙ sym (length-more (standing_in calls) called n cell) where
-        by_calls : ((other : CellId) → length (walks n other) ≡ length (walks_within (standing_in calls) called n other)) → (cs : List LentCall)
-            → sum_by (λ (call : LentCall). length (walks n (Symbol call.1))) cs
-            ≡ sum_by (λ (call : CellId × ℕ). length (walks_within (standing_in calls) called n (Symbol call.1))) (map (in_graph cell) cs)
-        by_calls each [] = refl
-        by_calls each (c ∷ cs) = omega (
-          arith,
-          each (Symbol c.1),
-          by_calls each cs,
-          sum_by-cons (λ (call : LentCall). length (walks n (Symbol call.1))) c cs,
-          sum_by-cons (λ (call : CellId × ℕ). length (walks_within (standing_in calls) called n (Symbol call.1))) (in_graph cell c)
-              (map (in_graph cell) cs),
-        )
+  -- all calls of a layout stand in all cells
+  all_calls : AreCallsIn layout (λ _. Unit {0}) calls
+  all_calls = record { standing = λ cell _. standing-lent cell; closed = λ cell _. each (calls_in layout cell) } where
+    each : (cs : List LentCall) → AllByRecursion (λ (call : LentCall). Unit {0}) cs
+    each [] = tt
+    each (c ∷ cs) = (tt, each cs)
 
   module _ (acyclic : IsAcyclic calls) where
     few : (n : ℕ) (cell : CellId) → longest (walks n cell) ≤ length calls
-    few n cell = subst (λ (k : ℕ). k ≤ length calls) (sym (same-longest n cell)) (few_in_all calls n cell acyclic)
+    few n cell = subst (λ (k : ℕ). k ≤ length calls) (sym (same-longest layout (λ _. Unit {0}) calls all_calls n cell tt)) (few_in_all calls n cell acyclic)
 
     -- each walk is among those of the layout, and nothing else is
     pub all_walks : (cell : CellId) → AreWalks layout cell
@@ -165,14 +185,41 @@ module _ (layout : Layout) where
   unfolding ends_within
   ends-none n cell turn none = ap (λ (k : ℕ). ends_within layout k cell turn) none
 
--- the depth and the number that the graph has
-pub depth_is : (layout : Layout) (cell : CellId) → longest (walks_from (calls_of layout) cell) ≡ longest (walks_of layout cell)
-unfolding walks_of walks_from
-depth_is layout cell = sym (same-longest layout (length (calls_of layout)) cell)
+-- a graph of the calls of all cells that a cell leads to has its walks' depth and number
+module _ (layout : Layout) (sound : IsAcyclic (calls_of layout)) (cell : CellId) (graph : Calls) (is : IsGraphFrom layout cell graph) where
+  own : AreCallsIn layout (IsIn cell graph.symbols) graph.calls
+  own = record {
+    standing = λ c one. ap (λ (cs : List (CellId × ℕ)). standing_in cs c) is.calls ∙ standing_from layout cell graph.symbols is.reached c one;
+    closed = λ c one. closed_in layout cell graph.symbols is.reached c one;
+  }
 
-pub count_is : (layout : Layout) (cell : CellId) → length (walks_from (calls_of layout) cell) ≡ length (walks_of layout cell)
-unfolding walks_of walks_from
-count_is layout cell = sym (same-length layout (length (calls_of layout)) cell)
+  begun : IsIn cell graph.symbols cell
+  begun = begins_in layout cell graph.symbols is.reached
+
+  among : AreAmong graph.calls (calls_of layout)
+  among call h =
+      let at = calls_stand layout cell graph.symbols call (subst (λ (cs : List (CellId × ℕ)). Contains cs call) is.calls h) in
+      (stands (calls_of layout) at.0 call (subst (λ (cs : List (CellId × ℕ)). Contains cs call) (sym (standing-lent layout at.0)) at.1)).0
+
+  pub graph_acyclic : IsAcyclic graph.calls
+  graph_acyclic = IsAcyclic-fewer graph.calls (calls_of layout) among sound
+
+  short : longest (walks_of layout cell) ≤ length graph.calls
+  unfolding walks_of
+  short = subst (λ (k : ℕ). k ≤ length graph.calls)
+      (sym (same-longest layout (IsIn cell graph.symbols) graph.calls own (length (calls_of layout)) cell begun))
+      (few_in_all graph.calls (length (calls_of layout)) cell graph_acyclic)
+
+  same_walks : walks_within (calls_in layout) target_of (length graph.calls) cell ≡ walks_of layout cell
+  same_walks = walks_at layout sound (length graph.calls) cell short
+
+  pub depth_is : longest (walks_from graph.calls cell) ≡ longest (walks_of layout cell)
+  unfolding walks_from
+  depth_is = sym (same-longest layout (IsIn cell graph.symbols) graph.calls own (length graph.calls) cell begun) ∙ ap longest same_walks
+
+  pub count_is : length (walks_from graph.calls cell) ≡ length (walks_of layout cell)
+  unfolding walks_from
+  count_is = sym (same-length layout (IsIn cell graph.symbols) graph.calls own (length graph.calls) cell begun) ∙ ap length same_walks
 
 -- the ends of all walks
 pub ends_are : (layout : Layout) (cell : CellId) (n : ℕ) → IsAcyclic (calls_of layout) → longest (walks_of layout cell) ≤ n

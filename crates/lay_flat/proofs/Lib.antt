@@ -1,4 +1,6 @@
 pub mod Addable
+pub mod Reaching
+pub mod Entering
 pub mod LayoutWalks
 pub mod LendingLemmas
 pub mod Tested
