@@ -8,6 +8,8 @@
 
 mod laws;
 mod limits;
+#[cfg(test)]
+mod tests;
 
 pub use laws::{parts_are_unique, shapes_tell_places};
 pub use limits::MAX_SEGMENTS;
