@@ -8,8 +8,8 @@ ghost use Rattle.face_labels.specs.declared.op.Op.TheVariants.{Not, Or};
 ghost use Rattle.shape_laws.specs.Shapes.{shapes_of};
 
 // Could catch a definition by which a hole is a shape of its own, boxes that are apart are one
-// shape or boxes that share a corner are two, and one that swaps the inputs. The values were found by
-// hand: a ring begins at its least point, along its least edge there.
+// shape or boxes that share a corner are two, and one that swaps the inputs. The values were found
+// by hand: a ring begins at its least point, along its least edge there.
 fn boxes_have_these_shapes()
     ensures hole { let at : ℕ → ℕ → Point = λ x y. record { x = pos x; y = pos y } in
         shapes_of Not ((rectangle (at 0 0) (at 40 40), unturned, 0) ∷ [])
