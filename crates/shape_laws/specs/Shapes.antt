@@ -50,8 +50,10 @@ shapes_of op a b = parts_of (op_rings op a b)
 abbrev pub is_short : List Point → Bool
 is_short path = nat_le (length path) MAX_RING_POINTS
 
--- there are few enough sides, and each ring and one path round each shape is short enough for a polygon
+-- one path round each of the shapes is short enough for a polygon
+abbrev pub are_short : List Rings → Bool
+are_short shapes = list_all (λ shape. is_short (bridged shape)) shapes
+
+-- there are few enough sides, and each ring and the path round each shape is short
 unfoldable pub fits : Op → List FlatRing → List FlatRing → Bool
-fits op a b =
-    nat_le (segments_of a b) MAX_SEGMENTS && list_all is_short (op_rings op a b)
-    && list_all (λ shape. is_short (bridged shape)) (shapes_of op a b)
+fits op a b = nat_le (segments_of a b) MAX_SEGMENTS && list_all is_short (op_rings op a b) && are_short (shapes_of op a b)

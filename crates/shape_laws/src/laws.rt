@@ -1,5 +1,10 @@
 //! What holds of the shapes of operations, as calls that do nothing.
-ghost use Rattle.shape_laws.specs.Laws.{PartsAreUnique, PartsExist, ShapesAreDetermined, ShapesTellPlaces};
+ghost use Rattle.shape_laws.specs.Laws.{
+  PartsAreUnique,
+  PartsExist,
+  ShapesAreDetermined,
+  ShapesTellPlaces,
+};
 
 /// Rings have one list of parts, which can be computed.
 pub fn parts_are_unique()
@@ -7,9 +12,10 @@ pub fn parts_are_unique()
     ensures unique { PartsAreUnique }
 {}
 
-/// Of two flattened layers some shape of an operation has a place inside exactly where the operation holds
-/// of the rounded layers there. This is so for every place, also on an edge. Of edges the shapes have those
-/// of the operation, each once. And whatever is rounded, linked and divided by the rules makes the same shapes.
+/// Of two flattened layers some shape of an operation has a place inside exactly where the
+/// operation holds of the rounded layers there, at every place. Of edges the shapes have those of
+/// the operation, each once. Whatever is rounded, linked and divided by the rules makes these
+/// shapes.
 pub fn shapes_tell_places()
     ensures places { ShapesTellPlaces }
     ensures determined { ShapesAreDetermined }

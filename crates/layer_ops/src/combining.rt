@@ -1,0 +1,46 @@
+//! An operation on two flattenings.
+ghost use Rattle.std.specs.Prelude.{◌≡◌, IfOk, map, pos, ℤ, ◌≤ℤ◌};
+ghost use Rattle.std.specs.List.{list_any};
+ghost use Rattle.lay_point.specs.Memory.{IsAnswer};
+ghost use Rattle.lay_point.specs.Parity.{odd};
+ghost use Rattle.lay_point.specs.RingEdges.{edges_of};
+ghost use Rattle.face_labels.specs.Operations.{op_at};
+ghost use Rattle.shape_laws.specs.Shapes.{rounded_inputs};
+ghost use Rattle.layer_ops.specs.Combining.{combined, lists_of};
+
+use crate::counting::are_few;
+use crate::edges::{operation_edges, round_both};
+use crate::fault::OpFault;
+use crate::shapes::shapes;
+use band_workers::Bands;
+use face_labels::Op;
+use lay_flat::Flat;
+use lay_point::Ring;
+use std::alloc::Global;
+use std::thread::Threads;
+
+/// Returns the shapes of the operation, each the list of its rings. Shapes are in the order of
+/// their first rings. The inputs are rounded together, in as many threads as there are processors;
+/// `bands` finds the operation's edges.
+pub fn combine(
+    rt: &(impl Threads + Sync),
+    alloc: Global,
+    op: Op,
+    a: &Flat<'_>,
+    b: &Flat<'_>,
+    bands: &impl Bands,
+) -> Result<Vec<Vec<Ring>>, OpFault>
+    ensures answer { IsAnswer OpFault.NoMemory (lists_of result) (combined op a.now b.now) }
+
+    // Some shape has (x / k, y / k) inside exactly where the operation holds of the rounded inputs.
+    ensures places { IfOk result (λ shapes. (k x y : ℤ) → pos 1 ≤ℤ k →
+        list_any (λ shape. odd (edges_of shape) k x y) (map (λ shape. shape.items) shapes.items)
+        ≡ op_at op (rounded_inputs a.now b.now) k x y) }
+{
+    if !are_few(a, b) {
+        return Err(OpFault::TooMany);
+    }
+    let inputs = round_both(rt, alloc, a, b)?;
+    let edges = operation_edges(alloc, op, &inputs, bands)?;
+    shapes(alloc, &edges)
+}

@@ -1,0 +1,27 @@
+//! How many sides the rings of flattenings have.
+ghost use Rattle.std.specs.Prelude.{◌≡◌, ◌+◌, All, length, min, nat_le, sum_by};
+ghost use Rattle.lay_flat.specs.Flat.{IsFlat};
+ghost use Rattle.shape_laws.specs.declared.limits.TheConstants.{MAX_SEGMENTS};
+ghost use Rattle.shape_laws.specs.Shapes.{segments_of};
+
+use lay_flat::{Flat, FlatRing};
+use shape_laws::MAX_SEGMENTS;
+
+/// Returns whether the rings of both have few enough sides for an operation.
+pub(crate) fn are_few(a: &Flat, b: &Flat) -> bool
+    ensures { result ≡ nat_le (segments_of a.now b.now) MAX_SEGMENTS }
+{
+    sides(a.rings()) + sides(b.rings()) <= MAX_SEGMENTS
+}
+
+/// Returns how many sides the rings have, or one more than an operation may have if that is less.
+fn sides(rings: &[FlatRing]) -> usize
+    requires { All IsFlat rings.now }
+    ensures { result ≡ min (sum_by (λ ring. length ring.0) rings.now) (MAX_SEGMENTS + 1) }
+{
+    let mut count = 0;
+    for ring in rings {
+        count = (count + ring.points.len()).min(MAX_SEGMENTS + 1);
+    }
+    count
+}

@@ -1,0 +1,24 @@
+//! Operations on two layers: AND, OR, NOT and XOR of two flattenings, as new shapes.
+//!
+//! `combine` rounds the rings of both inputs together, finds the operation's edges, links them to
+//! rings and divides these into shapes. What it answers is a function of the inputs (`combined` of
+//! `specs/Combining.antt`), and some shape has a place inside exactly where the operation holds of
+//! the rounded inputs there. Whatever finds the edges, by the trait `Bands`, does so by the
+//! definition.
+//!
+//! ```text
+//! let shapes = combine(rt, alloc, Op::Not, &first, &second, &OneBand)?;
+//! for rings in &shapes { .. }
+//! ```
+#![tactic(auto)]
+
+mod combining;
+mod counting;
+mod edges;
+mod fault;
+mod shapes;
+mod turning;
+
+pub use combining::combine;
+pub use fault::OpFault;
+pub use shape_laws::MAX_SEGMENTS;
