@@ -17,6 +17,8 @@ mod counting;
 mod edges;
 mod fault;
 mod shapes;
+#[cfg(test)]
+mod tests;
 mod turning;
 
 pub use combining::combine;
