@@ -27,3 +27,8 @@ fn boxes_have_these_shapes()
         ≡ ((at 0 0 ∷ at 0 10 ∷ at 10 10 ∷ at 10 0 ∷ [])
         ∷ (at 10 10 ∷ at 10 20 ∷ at 20 20 ∷ at 20 10 ∷ []) ∷ []) ∷ [] }
 {}
+
+#[test]
+fn boxes_have_the_shapes_that_were_found_by_hand() {
+    boxes_have_these_shapes();
+}
