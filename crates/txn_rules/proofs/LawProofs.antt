@@ -14,13 +14,14 @@ use Rattle.txn_rules.specs.Laws.{RunsKeepSound, RunsLeaveAlone}
 use Rattle.txn_rules.specs.Laws.{RunsMakeTheirOwn, SlotChangesMerge, UnmetIsKept}
 use Rattle.txn_rules.specs.Records.{option_slot_eq, records_between}
 use Rattle.txn_rules.proofs.Agreements.{agree-sym}
+use Rattle.txn_rules.proofs.Framing.{frame}
 use Rattle.txn_rules.proofs.Maps.{change_map-put}
 use Rattle.txn_rules.proofs.OneRecords.{one_records}
 use Rattle.txn_rules.proofs.Overlay.{agree_applied, agree_reverted, past, same_records, unmet_agree}
 use Rattle.txn_rules.proofs.Own.{answers_own, new_own}
 use Rattle.txn_rules.proofs.Planned.{covered, planned}
 use Rattle.txn_rules.proofs.Reach.{reached-walks}
-use Rattle.txn_rules.proofs.Runs.{frame, local}
+use Rattle.txn_rules.proofs.Runs.{local}
 use Rattle.txn_rules.proofs.SamePlans.{same_plan}
 use Rattle.txn_rules.proofs.Sound.{run_sound}
 use Rattle.txn_rules.proofs.Steps.{applied_leads, lead_between, proper_between, reverted_leads}
@@ -44,8 +45,9 @@ pub runs_make_their_own : RunsMakeTheirOwn
 runs_make_their_own txn commands l end h = (answers_own txn commands l end h, new_own txn commands l end h)
 
 pub framed : Frame
-framed txn commands l m end h agree =
-    let there = frame txn commands (begun l) end h (begun m) (record { made = refl; footprint = refl; dones = refl; agree = agree }) in
+framed txn commands l m end l_sound m_sound h agree =
+    let there = frame txn commands (begun l) end h (begun m)
+    (record { made = refl; footprint = refl; dones = refl; sound = l_sound; sound_there = m_sound; agree = agree }) in
     let alone = local txn commands (begun m) there.0 there.1 in (
       there.0,
       there.1,
@@ -79,8 +81,8 @@ agreement_kept writes l m l' m' e forth back =
     (agree_applied writes l m l' m' e forth back, agree_reverted writes l m l' m' e forth back)
 
 pub records_go_past : RecordsGoPast
-records_go_past txn commands writes l m end proper lead h apart =
-    let there = framed txn commands l m end h (λ e here. unmet_agree writes l m e lead (apart e here)) in
+records_go_past txn commands writes l m end proper lead l_sound m_sound h apart =
+    let there = framed txn commands l m end l_sound m_sound h (λ e here. unmet_agree writes l m e lead (apart e here)) in
     let alone = subst (λ (f : Touched). LeavesAlone m there.0.layout f) there.2.footprint (local txn commands (begun m) there.0 there.1)
     in (
       there.0,
@@ -90,8 +92,9 @@ records_go_past txn commands writes l m end proper lead h apart =
     )
 
 pub records_come_out : RecordsComeOut
-records_come_out txn commands writes l m end proper lead h apart =
-    let there = framed txn commands m l end h (λ e here. agree-sym l m e (unmet_agree writes l m e lead (apart e here))) in
+records_come_out txn commands writes l m end proper lead l_sound m_sound h apart =
+    let there = framed txn commands m l end m_sound l_sound h
+    (λ e here. agree-sym l m e (unmet_agree writes l m e lead (apart e here))) in
     let alone = subst (λ (f : Touched). LeavesAlone l there.0.layout f) there.2.footprint (local txn commands (begun l) there.0 there.1)
     in (
       there.0,

@@ -13,5 +13,6 @@ pub mod Overlay
 pub mod OneRecords
 pub mod CallLists
 pub mod Sound
+pub mod Framing
 pub mod Own
 pub mod LawProofs

@@ -1,6 +1,6 @@
--- Runs of commands: what they leave alone, and that they go alike on layouts that agree on what they touch.
-use Rattle.std.proofs.Common.{◌≡◌, ◌+◌, Bool, true, false, ◌||◌, List, [], ◌∷◌, ◌++◌, Option, Some, Result, Ok, Err, length}
-use Rattle.std.proofs.Common.{nat_lt, refl, ap, sym, ◌∙◌, subst}
+-- Runs of commands: their steps, what they keep, and what they leave alone.
+use Rattle.std.proofs.Common.{◌≡◌, Bool, true, false, ◌||◌, List, [], ◌∷◌, ◌++◌, Option, Some, Result, Ok, Err}
+use Rattle.std.proofs.Common.{refl, ap, sym, ◌∙◌, subst}
 use Rattle.std.proofs.lemmas.Bool.{or_from, or_left, or_right, true≢false}
 use Rattle.std.specs.Cmp.{nat_cmp_total}
 use Rattle.std.specs.FinSet.{contains, contains-insert, insert}
@@ -10,26 +10,22 @@ use Rattle.std.specs.List.{AllByRecursion}
 use Rattle.std.specs.Ordering.{eq_by_cmp, nat_cmp}
 use Rattle.lay_items.specs.IdOrder.{ids_exact, ids_total}
 use Rattle.lay_items.specs.Ids.{id_cmp}
-use Rattle.lay_items.specs.Layout.{Layout}
 use Rattle.txn_rules.specs.declared.command.Command.{Command}
 use Rattle.txn_rules.specs.declared.command.Done.{Done}
-use Rattle.txn_rules.specs.declared.command.TheConstants.{MAX_COMMANDS}
 use Rattle.txn_rules.specs.declared.command.TxnId.{TxnId}
 use Rattle.txn_rules.specs.declared.element.Element.{Element}
 use Rattle.txn_rules.specs.declared.element.Element.TheVariants.{Cell, Item}
 use Rattle.txn_rules.specs.declared.fault.CmdFault.{CmdFault}
 use Rattle.txn_rules.specs.declared.fault.CmdFault.TheVariants.{TxnFull}
 use Rattle.txn_rules.specs.Acts.{Act}
-use Rattle.txn_rules.specs.Agreement.{AgreeOn, AgreeOnEach}
 use Rattle.txn_rules.specs.Covers.{IsCovered, LeavesAlone, has}
 use Rattle.txn_rules.specs.Effects.{Run, acted, after_each, effect, if_accepted, is_too_much, next_id, perform}
 use Rattle.txn_rules.specs.Elements.{Touched, element_cmp, elements_total, with_elements}
-use Rattle.txn_rules.specs.Plans.{plan, refused_if}
-use Rattle.txn_rules.proofs.Agreements.{agree-rewritten}
+use Rattle.txn_rules.specs.Plans.{plan}
 use Rattle.txn_rules.proofs.Lists.{all_weaker}
 use Rattle.txn_rules.proofs.Maps.{get-unwritten, other_key, writes_key}
-use Rattle.txn_rules.proofs.Planned.{covered, has_first, planned}
-use Rattle.txn_rules.proofs.SamePlans.{passed, same_plan}
+use Rattle.txn_rules.proofs.Planned.{covered, planned}
+use Rattle.txn_rules.proofs.SamePlans.{passed}
 
 -- what a set with some more elements has
 pub contains-with : (touched : Touched) (es : List Element) (e : Element) →
@@ -88,7 +84,7 @@ run_keeps P t each (c ∷ cs) start end h p =
     run_keeps P t each cs step.0.1 end step.2 (each c start step.0 (act_of t c start step.0 step.1) p)
 
 -- what an act touches is in the footprint behind it
-touched_by : (t : TxnId) (c : Command) (r : Run) (next : Done × Run) (is : IsAct t c r next) (e : Element) →
+pub touched_by : (t : TxnId) (c : Command) (r : Run) (next : Done × Run) (is : IsAct t c r next) (e : Element) →
     has e is.act.elements ≡ true →
     contains next.1.footprint e ≡ true
 touched_by t c r next is e here =
@@ -151,57 +147,3 @@ local t (c ∷ cs) start end h =
       items = λ q out. rest.items q out ∙ first.items q out;
       symbols = λ n out. rest.symbols n out ∙ first.symbols n out;
     }
-
--- runs that are alike so far, on layouts that agree on what one of them will have touched
-pub record GoAlike (r s : Run) (touched : Touched) : Type 0 where
-  pub made : s.made ≡ r.made
-  pub footprint : s.footprint ≡ r.footprint
-  pub dones : s.dones ≡ r.dones
-  pub agree : AgreeOn r.layout s.layout touched
-
--- the same act keeps them so
-alike_after : (r s : Run) (act : Act) (touched : Touched) → GoAlike r s touched → GoAlike (perform r act) (perform s act) touched
-alike_after r s act touched alike = record {
-  made = ap (λ n. n + act.made) alike.made;
-  footprint = ap (λ f. with_elements f act.elements) alike.footprint;
-  dones = ap (λ ds. ds ++ act.done ∷ []) alike.dones;
-  agree = λ e there. agree-rewritten r.layout s.layout e act.items act.symbols (alike.agree e there);
-}
-
--- layouts that agree on a set agree on each of a list in it
-agree_on_each : (l m : Layout) (touched : Touched) → AgreeOn l m touched → (es : List Element) →
-    ((e : Element) → has e es ≡ true → contains touched e ≡ true) → AgreeOnEach l m es
-agree_on_each l m touched agree [] within = tt
-agree_on_each l m touched agree (e ∷ es) within = (
-  agree e (within e (has_first e es)),
-  agree_on_each l m touched agree es (λ f here. within f (or_right (eq_by_cmp element_cmp f e) (has f es) here)),
-)
-
--- an accepted command is accepted there too, and the runs go on alike
-act_there : (t : TxnId) (c : Command) (r s : Run) (next : Done × Run) (is : IsAct t c r next) (touched : Touched) → GoAlike r s touched →
-    ((e : Element) → has e is.act.elements ≡ true → contains touched e ≡ true) →
-    (effect t c s ≡ Ok (is.act.done, perform s is.act)) × GoAlike next.1 (perform s is.act) touched
-unfolding effect
-act_there t c r s next is touched alike within =
-    let agree = agree_on_each r.layout s.layout touched alike.agree is.act.elements within in
-    let id : next_id t s ≡ next_id t r = λ i. record { session = t.session; txn = t.txn; seq = alike.made i + 1 } in
-    let same : plan (next_id t s) c s.layout ≡ Ok is.act = ap (λ n. plan n c s.layout) id
-    ∙ same_plan (next_id t r) c r.layout s.layout is.act is.plan_is agree in
-    let room : is_too_much s is.act ≡ false =
-    (λ i. nat_lt MAX_COMMANDS (length (alike.dones i) + 1) || nat_lt MAX_COMMANDS (alike.made i + is.act.made)) ∙ is.room in (
-      ap (acted s) same ∙ ap (λ b. refused_if b TxnFull (Ok (is.act.done, perform s is.act))) room,
-      subst (λ (p : Done × Run). GoAlike p.1 (perform s is.act) touched) is.next_is (alike_after r s is.act touched alike),
-    )
-
--- where layouts agree on all that a run touches, the run goes alike on both
-pub frame : (t : TxnId) (cs : List Command) (start end : Run) → after_each t cs start ≡ Some end → (other : Run) →
-    GoAlike start other end.footprint → (s : Run) × (after_each t cs other ≡ Some s) × GoAlike end s end.footprint
-frame t [] start end h other alike = let same : start ≡ end = cc in
-    (other, refl, subst (λ (r : Run). GoAlike r other end.footprint) same alike)
-frame t (c ∷ cs) start end h other alike =
-    let step = goes_on (effect t c start) (λ next. after_each t cs next) end h in
-    let is = act_of t c start step.0 step.1 in
-    let there = act_there t c start other step.0 is end.footprint alike
-    (λ e here. grows t cs step.0.1 end step.2 e (touched_by t c start step.0 is e here)) in
-    let rest = frame t cs step.0.1 end step.2 (perform other is.act) there.1 in
-    (rest.0, rw there.0 rest.1, rest.2)

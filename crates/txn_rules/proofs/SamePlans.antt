@@ -1,4 +1,4 @@
--- A command that is accepted does the same on each layout that agrees with the first on the elements that it touches.
+-- A command that is accepted does the same on each sound layout that agrees with the first on the elements that it touches.
 use Rattle.std.proofs.Common.{◌≡◌, ℕ, Bool, true, false, not, ◌||◌, ◌&&◌, List, [], ◌∷◌, map, Option, None, Some, is_some}
 use Rattle.std.proofs.Common.{Result, Ok, Err, nat_lt, refl, ap, sym, subst, ◌∙◌, inl, inr}
 use Rattle.std.proofs.lemmas.Bool.{or_cases}
@@ -17,6 +17,7 @@ use Rattle.lay_items.specs.declared.item.Item as items
 use Rattle.lay_items.specs.declared.item.Item.TheVariants.{Placed, Shape}
 use Rattle.lay_items.specs.IdOrder.{ids_exact, ids_total}
 use Rattle.lay_items.specs.Layout.{Layout, is_cell, item_at}
+use Rattle.lay_items.specs.Sound.{IsSound}
 use Rattle.txn_rules.specs.declared.command.Command.{Command}
 use Rattle.txn_rules.specs.declared.command.Command.TheVariants.{Box, Delete, DropCell, Look, MakeCell, Move, Place, Poly, SetLayer}
 use Rattle.txn_rules.specs.declared.element.Element.{Element}
@@ -179,29 +180,28 @@ same_drop_cell new number l m act h agree =
     (λ i. refused_if (not (is_some (slots i))) NoCell (refused_if (uses i) CellUsed (Ok known)))
     ∙ h
 
-pub same_plan : (new : ItemId) (command : Command) (l m : Layout) (act : Act) → plan new command l ≡ Ok act →
-    AgreeOnEach l m act.elements →
-    plan new command m ≡ Ok act
+pub same_plan : (new : ItemId) (command : Command) (l m : Layout) (act : Act) → IsSound l → IsSound m → plan new command l ≡ Ok act →
+    AgreeOnEach l m act.elements → plan new command m ≡ Ok act
 unfolding plan
-same_plan new (Box cell layer a b) l m act h agree = same_box new cell layer a b l m act h agree
-same_plan new (Poly cell layer points) l m act h agree = same_poly new cell layer points l m act h agree
-same_plan new (Delete id) l m act h agree =
+same_plan new (Box cell layer a b) l m act _ _ h agree = same_box new cell layer a b l m act h agree
+same_plan new (Poly cell layer points) l m act _ _ h agree = same_poly new cell layer points l m act h agree
+same_plan new (Delete id) l m act _ _ h agree =
     let item = given (item_at l id) NoItem (λ x. Ok (change_act id None)) act h in
     let same : change_act id None ≡ act = cc (item.2) in
     on_item l m id (λ x. Ok (change_act id None)) act (sym (ap (λ (x : Act). x.elements) same)) h agree
-same_plan new (Move id dx dy) l m act h agree =
+same_plan new (Move id dx dy) l m act _ _ h agree =
     let shift : Point = record { x = dx; y = dy } in
     let item = given (item_at l id) NoItem (λ x. move_to id (moved shift x)) act h in
     let same = (moved_to id (moved shift item.0) act item.2).1 in
     on_item l m id (λ x. move_to id (moved shift x)) act (sym (ap (λ (x : Act). x.elements) same)) h agree
-same_plan new (SetLayer id layer) l m act h agree =
+same_plan new (SetLayer id layer) l m act _ _ h agree =
     let item = given (item_at l id) NoItem (relayer id layer) act h in
     let same = (relayered id layer item.0 act item.2).4 in
     on_item l m id (relayer id layer) act (sym (ap (λ (x : Act). x.elements) same)) h agree
-same_plan new (Place cell target turn) l m act h agree = same_place new cell target turn l m act h agree
-same_plan new (Look id) l m act h agree =
+same_plan new (Place cell target turn) l m act _ _ h agree = same_place new cell target turn l m act h agree
+same_plan new (Look id) l m act _ _ h agree =
     let item = given (item_at l id) NoItem (λ x. Ok (look_act id x)) act h in
     let same : look_act id item.0 ≡ act = cc (item.2) in
     on_item l m id (λ x. Ok (look_act id x)) act (sym (ap (λ (x : Act). x.elements) same)) h agree
-same_plan new (MakeCell number) l m act h agree = same_make_cell new number l m act h agree
-same_plan new (DropCell number) l m act h agree = same_drop_cell new number l m act h agree
+same_plan new (MakeCell number) l m act _ _ h agree = same_make_cell new number l m act h agree
+same_plan new (DropCell number) l m act _ _ h agree = same_drop_cell new number l m act h agree

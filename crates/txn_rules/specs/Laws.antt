@@ -26,10 +26,10 @@ use Rattle.txn_rules.specs.Reach.{is_among, reached}
 use Rattle.txn_rules.specs.Records.{AreProper, Lead, Records, applied, option_slot_eq, reverted, records_between}
 use Rattle.lay_items.specs.Layout.{put}
 
--- a command that is accepted does the same on each layout that agrees with the first on what it touches
+-- a command that is accepted on a sound layout does the same on each sound layout that agrees with the first on what it touches
 abbrev pub PlansAreLocal : Type 0
-PlansAreLocal = (new : ItemId) (command : Command) (l m : Layout) (act : Act) → plan new command l ≡ Ok act → AgreeOnEach l m act.elements
-    → plan new command m ≡ Ok act
+PlansAreLocal = (new : ItemId) (command : Command) (l m : Layout) (act : Act) → IsSound l → IsSound m → plan new command l ≡ Ok act
+    → AgreeOnEach l m act.elements → plan new command m ≡ Ok act
 
 -- what it writes is among what it touches
 abbrev pub PlansAreCovered : Type 0
@@ -63,10 +63,11 @@ pub record GoesAlike (l m : Layout) (end there : Run) : Type 0 where
   pub records : records_between m there.layout ≡ records_between l end.layout
   pub agree : AgreeOn end.layout there.layout end.footprint
 
--- commands that are accepted go alike on each layout that agrees with the first on what they touch
+-- commands that are accepted on a sound layout go alike on each sound layout that agrees with the first on what they touch
 abbrev pub Frame : Type 0
-Frame = (txn : TxnId) (commands : List Command) (l m : Layout) (end : Run) → after_each txn commands (begun l) ≡ Some end
-    → AgreeOn l m end.footprint → (there : Run) × (after_each txn commands (begun m) ≡ Some there) × GoesAlike l m end there
+Frame = (txn : TxnId) (commands : List Command) (l m : Layout) (end : Run) → IsSound l → IsSound m
+    → after_each txn commands (begun l) ≡ Some end → AgreeOn l m end.footprint
+    → (there : Run) × (after_each txn commands (begun m) ≡ Some there) × GoesAlike l m end there
 
 -- the records between two layouts are in order, lead from the one to the other, and give the one from the other
 abbrev pub RecordsLead : Type 0
@@ -91,18 +92,18 @@ abbrev pub RecordsKeepAgreement : Type 0
 RecordsKeepAgreement = (records : Records) (l m l' m' : Layout) (e : Element) → Lead records l l' → Lead records m m' →
     Agree l m e ↔ Agree l' m' e
 
--- where records lead from a layout to another, and commands on the first touch nothing that they meet, the commands go alike
--- on the second, and the records lead from where they end on the first to where they end on the second
+-- where records lead from one sound layout to another, and commands on the first touch nothing that they meet, the commands go
+-- alike on the second, and the records lead from where they end on the first to where they end on the second
 abbrev pub RecordsGoPast : Type 0
 RecordsGoPast = (txn : TxnId) (commands : List Command) (records : Records) (l m : Layout) (end : Run) → AreProper records →
-    Lead records l m
+    Lead records l m → IsSound l → IsSound m
     → after_each txn commands (begun l) ≡ Some end → AreApart records end.footprint
     → (there : Run) × (after_each txn commands (begun m) ≡ Some there) × GoesAlike l m end there × Lead records end.layout there.layout
 
 -- commands behind such records go alike without them, and the records lead from where they then end
 abbrev pub RecordsComeOut : Type 0
 RecordsComeOut = (txn : TxnId) (commands : List Command) (records : Records) (l m : Layout) (end : Run) → AreProper records →
-    Lead records l m
+    Lead records l m → IsSound l → IsSound m
     → after_each txn commands (begun m) ≡ Some end → AreApart records end.footprint
     → (there : Run) × (after_each txn commands (begun l) ≡ Some there) × GoesAlike m l end there × Lead records there.layout end.layout
 
