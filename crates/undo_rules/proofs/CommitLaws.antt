@@ -7,6 +7,7 @@ use Rattle.std.proofs.lemmas.Bool.Decides.{Decides-eqb}
 use Rattle.std.proofs.lemmas.List.{length-append}
 use Rattle.std.proofs.lemmas.List.Elements.{filter_map-append}
 use Rattle.lay_items.specs.Layout.{Layout}
+use Rattle.lay_items.specs.Sound.{IsSound}
 use Rattle.txn_rules.specs.declared.command.TxnId.{TxnId}
 use Rattle.txn_rules.specs.Elements.{Touched}
 use Rattle.txn_rules.specs.Records.{Records, applied}
@@ -145,10 +146,10 @@ with_commit h txn =
     h.log ++ record { session = txn.id.session; call = Commit txn.id txn.commands; answer = Committed } ∷ []
 
 -- its commands run alike on the layout
-pub commit_made : (h : History) → IsHistory h → (txn : Transaction) → (transaction : IsTransaction txn) → IsOwnWork h txn →
-    stale_by h.entries txn.footprint (drop (txn.opened + 1) h.log) ≡ None →
+pub commit_made : (h : History) → IsHistory h → (txn : Transaction) → (transaction : IsTransaction txn) → IsSound txn.snapshot →
+    IsOwnWork h txn → stale_by h.entries txn.footprint (drop (txn.opened + 1) h.log) ≡ None →
     Commits (with_commit h txn) h.base h.layout h.entries (entered h txn) txn.commands transaction.run
-commit_made h is txn transaction own unstale_calls =
+commit_made h is txn transaction sound own unstale_calls =
     let s = txn.id.session in
     let here = its_state h is s own.low own.high in
     let call : Logged = record { session = s; call = Commit txn.id txn.commands; answer = Committed } in
@@ -158,18 +159,18 @@ commit_made h is txn transaction own unstale_calls =
     (subst (λ (n : ℕ). stale_by h.entries txn.footprint (drop (n + 1) h.log) ≡ None) (sym own.place) unstale_calls) in
     let told : commands_at log (length h.log) ≡ Some txn.commands = ap commands_in (last_call h.log call) in
     commits log h.base txn.snapshot own.waiting.snapshot h.layout h.entries (changes_since h.log h.entries own.waiting.place)
-    (entered h txn) txn.commands transaction.run transaction.runs transaction.footprint transaction.writes own.agree since free told refl
-    refl (its_name_is_new h is txn own) (kept_longer h.log call h.base h.layout h.entries is.kept)
+    (entered h txn) txn.commands transaction.run is.sound sound transaction.runs transaction.footprint transaction.writes own.agree since
+    free told refl refl (its_name_is_new h is txn own) (kept_longer h.log call h.base h.layout h.entries is.kept)
 
 pub commit_keeps : ACommitKeepsTheBook
-commit_keeps h is txn transaction own unstale_calls =
+commit_keeps h is txn transaction sound own unstale_calls =
     let s = txn.id.session in
     let state = state_of h s in
     let here = its_state h is s own.low own.high in
     let e : Entry = entered h txn in
     let call : Logged = record { session = s; call = Commit txn.id txn.commands; answer = Committed } in
     let apart = its_name_is_new h is txn own in
-    let made = commit_made h is txn transaction own unstale_calls in
+    let made = commit_made h is txn transaction sound own unstale_calls in
     let end : Layout = applied h.layout txn.writes in
     let next : History = logged (ended (with_entry h txn) s) s (Commit txn.id txn.commands) Committed in
     let all_there = there_all h.entries e (changed_among h.log) is.there in

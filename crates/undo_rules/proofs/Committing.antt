@@ -5,6 +5,7 @@ use Rattle.std.specs.Prelude.{MatchBool}
 use Rattle.std.specs.List.{AllByRecursion}
 use Rattle.std.proofs.lemmas.List.{length-map}
 use Rattle.lay_items.specs.Layout.{Layout}
+use Rattle.lay_items.specs.Sound.{IsSound}
 use Rattle.txn_rules.specs.declared.element.Element.{Element}
 use Rattle.txn_rules.specs.Agreement.{Agree, AgreeOn}
 use Rattle.txn_rules.specs.Effects.{Run, begun}
@@ -12,16 +13,17 @@ use Rattle.txn_rules.specs.Elements.{Touched}
 use Rattle.txn_rules.specs.Meets.{some_meets}
 use Rattle.txn_rules.specs.Records.{Lead, Records, applied}
 use Rattle.txn_rules.proofs.Agreements.{agree-sym, agree-trans}
+use Rattle.txn_rules.proofs.Framing.{frame}
 use Rattle.txn_rules.proofs.Overlay.{same_records}
 use Rattle.txn_rules.specs.Covers.{LeavesAlone}
-use Rattle.txn_rules.proofs.Runs.{frame, local}
+use Rattle.txn_rules.proofs.Runs.{local}
 use Rattle.txn_rules.proofs.Steps.{applied_leads}
 use Rattle.undo_rules.specs.declared.log.Logged.{Logged}
 use Rattle.undo_rules.specs.Histories.{AreKept, AreRooted, Chain, IsRooted, IsSince, Ran, commands_at, if_run, replay_from, run_on}
 use Rattle.undo_rules.specs.Laws.{ACommitAppends}
 use Rattle.undo_rules.specs.Links.{AreNamed, Entry, Trace, linked, links_to, live_of, touches, trace_of, txn_eq}
 use Rattle.undo_rules.proofs.Grounds.{apart, ran_leads, ran_proper}
-use Rattle.undo_rules.proofs.Undoing.{chain_join, chain_laid}
+use Rattle.undo_rules.proofs.Undoing.{chain_join, chain_laid, chain_sound}
 
 -- ---- the replay
 
@@ -91,12 +93,12 @@ named_more (e ∷ entries) entry apart named = (all_more entries named.0, named_
   all_more [] h = (apart.0, tt)
   all_more (x ∷ xs) h = (h.0, all_more xs h.1)
 
--- a live transaction that runs on the layout is entered behind the others
-pub entered_kept : (log : List Logged) (base layout next : Layout) (entries : List Entry) (entry : Entry) → entry.live ≡ true →
-    Ran log entry layout next → links_to entries entry.footprint ≡ entry.seen →
+-- a live transaction that runs on the sound layout is entered behind the others
+pub entered_kept : (log : List Logged) (base layout next : Layout) (entries : List Entry) (entry : Entry) → IsSound layout →
+    entry.live ≡ true → Ran log entry layout next → links_to entries entry.footprint ≡ entry.seen →
     AllByRecursion (λ (other : Entry). txn_eq other.txn entry.txn ≡ false) entries → AreKept log base layout entries →
     AreKept log base next (entries ++ entry ∷ [])
-entered_kept log base layout next entries entry is ran links named kept = record {
+entered_kept log base layout next entries entry sound is ran links named kept = record {
   chain = chain_join log entries (entry ∷ []) base layout next kept.chain
       (subst (λ (live : Bool). MatchBool live ((m : Layout) × Ran log entry layout m × (m ≡ next)) (layout ≡ next)) (sym is) (next, ran, refl));
   rooted = rooted_more log base [] [] entries entry
@@ -105,6 +107,7 @@ entered_kept log base layout next entries entry is ran links named kept = record
         count = length-map entries live_of ∙ sym (length-map entries trace_of);
         before = layout;
         after = next;
+        sound = sound;
         laid = chain_laid log entries base layout kept.chain;
         ran = ran;
         seen = links;
@@ -113,14 +116,18 @@ entered_kept log base layout next entries entry is ran links named kept = record
 }
 
 pub commits : ACommitAppends
-commits log base snapshot opened layout entries changes entry commands run runs footprint writes its since free told live links named kept =
+commits log base snapshot opened layout entries changes entry commands run sound snapshot_sound runs footprint writes its since free told
+    live links named kept =
     let touched = entry.footprint in
     let agree : AgreeOn snapshot layout touched = λ e has.
     agree-trans snapshot opened layout e (agree-sym opened snapshot e (its e has)) (agreed_since opened layout touched changes since free e has) in
+    let layout_sound = chain_sound log entries base layout kept.chain sound in
     let found = frame entry.txn commands (begun snapshot) run runs (begun layout) (record {
       made = refl;
       footprint = refl;
       dones = refl;
+      sound = snapshot_sound;
+      sound_there = layout_sound;
       agree = subst (AgreeOn snapshot layout) (sym footprint) agree;
     }) in
     let now : Run = found.0 in
@@ -151,5 +158,5 @@ commits log base snapshot opened layout entries changes entry commands run runs 
       next = sym to;
       leads = subst (λ (l : Layout). Lead entry.writes layout l) (sym to) (ran_leads log entry layout now.layout ran);
       kept = subst (λ (l : Layout). AreKept log base l (entries ++ entry ∷ [])) (sym to)
-          (entered_kept log base layout now.layout entries entry live ran links named kept);
+          (entered_kept log base layout now.layout entries entry layout_sound live ran links named kept);
     }

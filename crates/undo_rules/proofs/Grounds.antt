@@ -1,19 +1,22 @@
--- A transaction runs alike on layouts that agree on what it touched, and records that it didn't touch go past it.
+-- A transaction runs alike on sound layouts that agree on what it touched, and records that it didn't touch go past it.
 use Rattle.std.proofs.Common.{◌≡◌, Bool, true, false, ◌||◌, List, [], ◌∷◌, refl, sym, ap, subst, ◌∙◌}
 use Rattle.std.specs.FinSet.{contains-items, items}
 use Rattle.std.specs.List.{list_any}
 use Rattle.std.specs.Ordering.{eq_by_cmp}
 use Rattle.lay_items.specs.Layout.{Layout}
+use Rattle.lay_items.specs.Sound.{IsSound}
 use Rattle.txn_rules.specs.declared.element.Element.{Element}
 use Rattle.txn_rules.specs.Agreement.{AgreeOn}
 use Rattle.txn_rules.specs.Effects.{Run, begun}
 use Rattle.txn_rules.specs.Elements.{Touched, element_cmp, elements_exact}
 use Rattle.txn_rules.specs.Meets.{AreApart, some_meets}
 use Rattle.txn_rules.specs.Records.{AreProper, Lead, Records}
+use Rattle.txn_rules.proofs.Framing.{frame}
 use Rattle.txn_rules.proofs.Maps.{same_key}
 use Rattle.txn_rules.proofs.Overlay.{past, same_records}
 use Rattle.txn_rules.specs.Covers.{LeavesAlone}
-use Rattle.txn_rules.proofs.Runs.{frame, local}
+use Rattle.txn_rules.proofs.Runs.{local}
+use Rattle.txn_rules.proofs.Sound.{run_sound}
 use Rattle.txn_rules.proofs.Steps.{lead_between, proper_between}
 use Rattle.undo_rules.specs.declared.log.Logged.{Logged}
 use Rattle.undo_rules.specs.Histories.{Ran}
@@ -49,17 +52,23 @@ ran_alone log entry l m ran =
     subst (λ (t : Touched). LeavesAlone l m t) ran.footprint
     (subst (λ (n : Layout). LeavesAlone l n ran.run.footprint) ran.after_is alone)
 
--- on a layout that agrees on what it touches, a transaction runs alike, to a layout that agrees too
+-- it keeps a layout sound
+pub ran_sound : (log : List Logged) (entry : Entry) (l m : Layout) → Ran log entry l m → IsSound l → IsSound m
+ran_sound log entry l m ran sound =
+    subst IsSound ran.after_is (run_sound entry.txn ran.commands (begun l) ran.run ran.runs sound)
+
+-- on a sound layout that agrees on what it touches, a transaction runs alike, to a layout that agrees too
 record RunsThere (log : List Logged) (entry : Entry) (m n : Layout) : Type 0 where
   after : Layout
   ran : Ran log entry m after
   agree : AgreeOn n after entry.footprint
 
-there : (log : List Logged) (entry : Entry) (l m n : Layout) → AgreeOn l m entry.footprint → Ran log entry l n → RunsThere log entry m n
-there log entry l m n agree ran =
+there : (log : List Logged) (entry : Entry) (l m n : Layout) → IsSound l → IsSound m → AgreeOn l m entry.footprint → Ran log entry l n →
+    RunsThere log entry m n
+there log entry l m n l_sound m_sound agree ran =
     let agreed : AgreeOn l m ran.run.footprint = subst (AgreeOn l m) (sym ran.footprint) agree in
     let found = frame entry.txn ran.commands (begun l) ran.run ran.runs (begun m)
-    (record { made = refl; footprint = refl; dones = refl; agree = agreed }) in
+    (record { made = refl; footprint = refl; dones = refl; sound = l_sound; sound_there = m_sound; agree = agreed }) in
     let next : Run = found.0 in
     let runs = found.1 in
     let alike = found.2 in
@@ -83,9 +92,10 @@ there log entry l m n agree ran =
       agree = after;
     }
 
-pub ran_again : (log : List Logged) (entry : Entry) (l m n : Layout) → AgreeOn l m entry.footprint → Ran log entry l n →
-    (k : Layout) × Ran log entry m k × AgreeOn n k entry.footprint
-ran_again log entry l m n agree ran = let found = there log entry l m n agree ran in (found.after, found.ran, found.agree)
+pub ran_again : (log : List Logged) (entry : Entry) (l m n : Layout) → IsSound l → IsSound m → AgreeOn l m entry.footprint →
+    Ran log entry l n → (k : Layout) × Ran log entry m k × AgreeOn n k entry.footprint
+ran_again log entry l m n l_sound m_sound agree ran =
+    let found = there log entry l m n l_sound m_sound agree ran in (found.after, found.ran, found.agree)
 
 -- records that the transaction doesn't touch lead from its one result to the other
 pub ran_past : (log : List Logged) (ws : Records) (entry : Entry) (l m n k : Layout) → AreProper ws → touches ws entry.footprint ≡ false →

@@ -17,8 +17,9 @@ pub replays : TheLayoutIsTheReplay
 replays log base layout entries kept = chain_replays log base entries layout kept.chain
 
 pub takes_out : AnUndoTakesOut
-takes_out log base layout before entry later kept live unread =
-    let (end, still, to, back, lead) = undone_kept log base layout before entry later live (no_reader entry.writes later unread) kept in
+takes_out log base layout before entry later sound kept live unread =
+    let (end, still, to, back, lead) = undone_kept log base layout before entry later sound live (no_reader entry.writes later unread)
+    kept in
     let (_, links) = root_of log base [] [] before entry later kept.rooted in
     record {
       kept = subst (λ (l : Layout). AreKept log base l (before ++ marked false entry ∷ later)) (sym to) still;
@@ -37,7 +38,8 @@ links_seen log base layout before entry later kept unmoved_links =
     (ap (λ seen. first_moved before (links_to before entry.footprint) seen) root.seen ∙ unmoved_links) ∙ root.seen
 
 pub puts_back : ARedoPutsBack
-puts_back log base layout before entry later kept undone unread unmoved_links =
+puts_back log base layout before entry later sound kept undone unread unmoved_links =
     let same = links_seen log base layout before entry later kept unmoved_links in
-    let (end, still, to, lead) = redone_kept log base layout before entry later undone (no_reader entry.writes later unread) same kept in
+    let (end, still, to, lead) = redone_kept log base layout before entry later sound undone (no_reader entry.writes later unread) same
+    kept in
     subst (λ (l : Layout). AreKept log base l (before ++ marked true entry ∷ later)) (sym to) still

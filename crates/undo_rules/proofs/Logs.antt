@@ -52,6 +52,7 @@ rooted_longer log call base earlier ms (entry ∷ entries) (root, links, rest) =
     count = root.count;
     before = root.before;
     after = root.after;
+    sound = root.sound;
     laid = root.laid;
     ran = ran_longer log call entry root.before root.after root.ran;
     seen = root.seen;

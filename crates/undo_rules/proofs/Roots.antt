@@ -29,6 +29,7 @@ rooted_marked log base earlier entry live rooted = record {
   count = rooted.count;
   before = rooted.before;
   after = rooted.after;
+  sound = rooted.sound;
   laid = rooted.laid;
   ran = ran_marked log entry live rooted.before rooted.after rooted.ran;
   seen = rooted.seen;

@@ -122,7 +122,7 @@ undo_at : (h : History) → IsHistory h → (session : ℕ) (txn : TxnId) (at : 
 undo_at h is session txn at found live unread =
     let kept : AreKept h.log h.base h.layout (found.front ++ at.entry ∷ at.later) =
     subst (AreKept h.log h.base h.layout) found.parts is.kept in
-    let (end, still, to, back, lead) = undone_kept h.log h.base h.layout found.front at.entry at.later live
+    let (end, still, to, back, lead) = undone_kept h.log h.base h.layout found.front at.entry at.later is.sound live
     (no_reader at.entry.writes at.later unread) kept in
     let marked_still : AreKept h.log h.base end (remarked false txn h.entries) =
     subst (AreKept h.log h.base end) (sym (found.marks false)) still in
@@ -153,7 +153,7 @@ redo_at h is session txn at found undone unread unmoved =
     let in_place : first_moved found.front (links_to found.front at.entry.footprint) at.entry.seen ≡ None =
     subst (λ (es : List Entry). first_moved es (links_to es at.entry.footprint) at.entry.seen ≡ None) found.behind unmoved in
     let links = links_seen h.log h.base h.layout found.front at.entry at.later kept in_place in
-    let (end, still, to, lead) = redone_kept h.log h.base h.layout found.front at.entry at.later undone
+    let (end, still, to, lead) = redone_kept h.log h.base h.layout found.front at.entry at.later is.sound undone
     (no_reader at.entry.writes at.later unread) links kept in
     let marked_still : AreKept h.log h.base end (remarked true txn h.entries) =
     subst (AreKept h.log h.base end) (sym (found.marks true)) still in

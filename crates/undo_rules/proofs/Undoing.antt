@@ -4,6 +4,7 @@ use Rattle.std.specs.Prelude.{MatchBool}
 use Rattle.std.specs.List.{AllByRecursion}
 use Rattle.std.proofs.lemmas.List.{length-map, map-append}
 use Rattle.lay_items.specs.Layout.{Layout}
+use Rattle.lay_items.specs.Sound.{IsSound}
 use Rattle.txn_rules.specs.Agreement.{AgreeOn}
 use Rattle.txn_rules.specs.Records.{Lead, applied, reverted}
 use Rattle.txn_rules.proofs.Agreements.{agree-equal}
@@ -13,7 +14,7 @@ use Rattle.undo_rules.specs.Histories.{AreKept, Chain, IsRooted, Laid, Ran}
 use Rattle.undo_rules.specs.Links.{AreNamed, Entry, Trace, links_to, live_of, marked, trace_of, txn_eq}
 use Rattle.undo_rules.proofs.Chains.{AreUnread, with_them, without_them}
 use Rattle.undo_rules.proofs.EqualLinks.{equal_links}
-use Rattle.undo_rules.proofs.Grounds.{apart, ran_again, ran_leads, ran_proper}
+use Rattle.undo_rules.proofs.Grounds.{apart, ran_again, ran_leads, ran_proper, ran_sound}
 use Rattle.undo_rules.proofs.Laying.{laid-agree}
 use Rattle.undo_rules.proofs.Roots.{ran_marked, root_of, rooted_again}
 
@@ -31,7 +32,18 @@ chain_laid log (entry ∷ entries) first last chain = by entry.live chain (λ l.
   by true (next, ran, rest) laid = (next, ran_leads log entry first next ran, laid next rest)
   by false rest laid = laid first rest
 
--- a chain goes through a layout behind its first transactions
+-- it leads from a sound layout to a sound one
+pub chain_sound : (log : List Logged) (entries : List Entry) (first last : Layout) → Chain log first entries last → IsSound first →
+    IsSound last
+chain_sound log [] first last chain sound = subst IsSound chain sound
+chain_sound log (entry ∷ entries) first last chain sound = by entry.live chain (λ l. chain_sound log entries l last) where
+  by : (live : Bool)
+      → MatchBool live ((next : Layout) × Ran log entry first next × Chain log next entries last) (Chain log first entries last)
+      → ((l : Layout) → Chain log l entries last → IsSound l → IsSound last) → IsSound last
+  by true (next, ran, rest) more = more next rest (ran_sound log entry first next ran sound)
+  by false rest more = more first rest sound
+
+-- it goes through a layout behind its first transactions
 chain_cut : (log : List Logged) (before later : List Entry) (first last : Layout) → Chain log first (before ++ later) last →
     (mid : Layout) × Chain log first before mid × Chain log mid later last
 chain_cut log [] later first last chain = (first, refl, chain)
@@ -81,10 +93,10 @@ named_front (b ∷ before) later named = (
 
 -- a live transaction that no later live one touched is undone
 pub undone_kept : (log : List Logged) (base layout : Layout) (before : List Entry) (entry : Entry) (later : List Entry) →
-    entry.live ≡ true → AreUnread entry.writes later → AreKept log base layout (before ++ entry ∷ later) →
+    IsSound base → entry.live ≡ true → AreUnread entry.writes later → AreKept log base layout (before ++ entry ∷ later) →
     (end : Layout) × AreKept log base end (before ++ marked false entry ∷ later)
     × (reverted layout entry.writes ≡ end) × (applied end entry.writes ≡ layout) × Lead entry.writes end layout
-undone_kept log base layout before entry later is unread kept =
+undone_kept log base layout before entry later sound is unread kept =
     let (first, front, back) = chain_cut log before (entry ∷ later) base layout kept.chain in
     by entry.live is first back front where
       by : (live : Bool) → live ≡ true → (first : Layout)
@@ -95,7 +107,9 @@ undone_kept log base layout before entry later is unread kept =
       by false is first back front = absurd cc
       by true is first (next, ran, rest) front =
           let proper = ran_proper log entry first next ran in
-          let (end, chain, lead) = without_them log entry.writes later first next layout proper (ran_leads log entry first next ran) unread rest in (
+          let first_sound = chain_sound log before base first front sound in
+          let (end, chain, lead) = without_them log entry.writes later first next layout proper (ran_leads log entry first next ran)
+          first_sound (ran_sound log entry first next ran first_sound) unread rest in (
             end,
             record {
               chain = chain_join log before (marked false entry ∷ later) base first end front chain;
@@ -111,11 +125,11 @@ undone_kept log base layout before entry later is unread kept =
 
 -- an undone transaction that no later live one touched, and that is linked to what it has seen, is redone
 pub redone_kept : (log : List Logged) (base layout : Layout) (before : List Entry) (entry : Entry) (later : List Entry) →
-    entry.live ≡ false → AreUnread entry.writes later → links_to before entry.footprint ≡ entry.seen →
+    IsSound base → entry.live ≡ false → AreUnread entry.writes later → links_to before entry.footprint ≡ entry.seen →
     AreKept log base layout (before ++ entry ∷ later) →
     (end : Layout) × AreKept log base end (before ++ marked true entry ∷ later) × (applied layout entry.writes ≡ end)
     × Lead entry.writes layout end
-redone_kept log base layout before entry later is unread links kept =
+redone_kept log base layout before entry later sound is unread links kept =
     let (first, front, back) = chain_cut log before (entry ∷ later) base layout kept.chain in
     let (root, _) = root_of log base [] [] before entry later kept.rooted in
     by entry.live is first back front root where
@@ -133,9 +147,11 @@ redone_kept log base layout before entry later is unread links kept =
           (equal_links entry.footprint e (λ ws free. apart ws entry.footprint free e has) (map trace_of before) root.marks (map live_of before)
           named root.count (length-map before live_of ∙ sym (length-map before trace_of)) (root.seen ∙ sym links)) root.laid laid
           (agree-equal base base e refl) in
-          let (next, ran, _) = ran_again log entry root.before first root.after agree root.ran in
+          let first_sound = chain_sound log before base first front sound in
+          let (next, ran, _) = ran_again log entry root.before first root.after root.sound first_sound agree root.ran in
           let proper = ran_proper log entry first next ran in
-          let (end, chain, lead) = with_them log entry.writes later first next layout proper (ran_leads log entry first next ran) unread back in (
+          let (end, chain, lead) = with_them log entry.writes later first next layout proper (ran_leads log entry first next ran)
+          first_sound (ran_sound log entry first next ran first_sound) unread back in (
             end,
             record {
               chain = chain_join log before (marked true entry ∷ later) base first end front

@@ -2,6 +2,7 @@
 use Rattle.std.specs.Prelude.{◌≡◌, ℕ, List, [], ◌∷◌, ◌++◌, length, map, Bool, true, false, Option, None, Some, if◌then◌else◌, slice_get, MatchBool}
 use Rattle.std.specs.List.{AllByRecursion}
 use Rattle.lay_items.specs.Layout.{Layout}
+use Rattle.lay_items.specs.Sound.{IsSound}
 use Rattle.txn_rules.specs.declared.command.Command.{Command}
 use Rattle.txn_rules.specs.declared.element.Element.{Element}
 use Rattle.txn_rules.specs.Agreement.{Agree}
@@ -69,13 +70,14 @@ Laid (t ∷ ts) [] first last = first ≡ last
 Laid (t ∷ ts) (mark ∷ marks) first last =
     MatchBool mark ((next : Layout) × Lead t.writes first next × Laid ts marks next last) (Laid ts marks first last)
 
--- as the transaction was committed, these of the earlier ones were live; it ran on the layout to which they led, and was
--- linked to what it has seen
+-- as the transaction was committed, these of the earlier ones were live; it ran on the sound layout to which they led, and
+-- was linked to what it has seen
 pub record IsRooted (log : List Logged) (base : Layout) (earlier : List Trace) (entry : Entry) : Type 0 where
   pub marks : List Bool
   pub count : length marks ≡ length earlier
   pub before : Layout
   pub after : Layout
+  pub sound : IsSound before
   pub laid : Laid earlier marks base before
   pub ran : Ran log entry before after
   pub seen : linked entry.footprint earlier marks ≡ entry.seen

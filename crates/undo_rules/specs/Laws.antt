@@ -2,6 +2,7 @@
 use Rattle.std.specs.Prelude.{◌≡◌, ℕ, List, [], ◌∷◌, ◌++◌, true, false, None, Some, ◌+◌, ◌≤◌, drop}
 use Rattle.std.specs.List.{AllByRecursion}
 use Rattle.lay_items.specs.Layout.{Layout}
+use Rattle.lay_items.specs.Sound.{IsSound}
 use Rattle.txn_rules.specs.declared.command.Command.{Command}
 use Rattle.txn_rules.specs.Agreement.{AgreeOn}
 use Rattle.txn_rules.specs.Effects.{Run, after_each, begun}
@@ -22,8 +23,8 @@ abbrev pub TheLayoutIsTheReplay : Type 0
 TheLayoutIsTheReplay = (log : List Logged) (base layout : Layout) (entries : List Entry) → AreKept log base layout entries
     → replay_from log base entries ≡ Some layout
 
--- without a live transaction that no later live one touched, the layout is that with its records reverted; applied again they give
--- the former one, and it is linked to what it has seen
+-- from a sound base and without a live transaction that no later live one touched, the layout is that with its records reverted;
+-- applied again they give the former one, and it is linked to what it has seen
 pub record Undoes (log : List Logged) (base layout : Layout) (before : List Entry) (entry : Entry) (later : List Entry) : Type 0 where
   pub kept : AreKept log base (reverted layout entry.writes) (before ++ marked false entry ∷ later)
   pub links : links_to before entry.footprint ≡ entry.seen
@@ -31,19 +32,19 @@ pub record Undoes (log : List Logged) (base layout : Layout) (before : List Entr
 
 abbrev pub AnUndoTakesOut : Type 0
 AnUndoTakesOut = (log : List Logged) (base layout : Layout) (before : List Entry) (entry : Entry) (later : List Entry)
-    → AreKept log base layout (before ++ entry ∷ later) → entry.live ≡ true → first_reader entry.writes later ≡ None
+    → IsSound base → AreKept log base layout (before ++ entry ∷ later) → entry.live ≡ true → first_reader entry.writes later ≡ None
     → Undoes log base layout before entry later
 
--- with an undone transaction that no later live one touched, and that is linked to what it has seen, the layout is that with its
--- records applied
+-- from a sound base and with an undone transaction that no later live one touched, and that is linked to what it has seen, the
+-- layout is that with its records applied
 abbrev pub ARedoPutsBack : Type 0
 ARedoPutsBack = (log : List Logged) (base layout : Layout) (before : List Entry) (entry : Entry) (later : List Entry)
-    → AreKept log base layout (before ++ entry ∷ later) → entry.live ≡ false → first_reader entry.writes later ≡ None
+    → IsSound base → AreKept log base layout (before ++ entry ∷ later) → entry.live ≡ false → first_reader entry.writes later ≡ None
     → first_moved before (links_to before entry.footprint) entry.seen ≡ None
     → AreKept log base (applied layout entry.writes) (before ++ marked true entry ∷ later)
 
--- commands that ran on a layout, and touched nothing that was changed since, run alike on the layout now, and what they wrote leads
--- to the next one
+-- commands that ran on a sound layout, and touched nothing that was changed since, run alike on the layout now, and what they wrote
+-- leads to the next one
 pub record Commits (log : List Logged) (base layout : Layout) (entries : List Entry) (entry : Entry) (commands : List Command) (run : Run)
     : Type 0 where
   pub now : Run
@@ -58,6 +59,8 @@ pub record Commits (log : List Logged) (base layout : Layout) (entries : List En
 abbrev pub ACommitAppends : Type 0
 ACommitAppends = (log : List Logged) (base snapshot opened layout : Layout) (entries : List Entry) (changes : List Records) (entry : Entry)
     (commands : List Command) (run : Run)
+    -- the history began on a sound layout, and the work on another
+    → IsSound base → IsSound snapshot
     -- the work
     → after_each entry.txn commands (begun snapshot) ≡ Some run → run.footprint ≡ entry.footprint
     → records_between snapshot run.layout ≡ entry.writes
@@ -79,7 +82,7 @@ abbrev pub ARedoKeepsTheBook : Type 0
 ARedoKeepsTheBook = (h : History) → IsHistory h → (session : ℕ) (txn : TxnId) → redo_refusal h txn ≡ None
     → IsHistory (after_redo h session txn)
 
--- an open, a refusal that is logged, and a commit of a work that is the book's own and not stale, keep it too
+-- an open, a refusal that is logged, and a commit of a work on a sound snapshot that is the book's own and not stale, keep it too
 abbrev pub AnOpenKeepsTheBook : Type 0
 AnOpenKeepsTheBook = (h : History) → IsHistory h → (session : ℕ) → 1 ≤ session → session ≤ 64 → IsHistory (after_open h session)
 
@@ -98,5 +101,5 @@ pub record IsOwnWork (h : History) (txn : Transaction) : Type 0 where
   pub agree : AgreeOn waiting.snapshot txn.snapshot txn.footprint
 
 abbrev pub ACommitKeepsTheBook : Type 0
-ACommitKeepsTheBook = (h : History) → IsHistory h → (txn : Transaction) → IsTransaction txn → IsOwnWork h txn
+ACommitKeepsTheBook = (h : History) → IsHistory h → (txn : Transaction) → IsTransaction txn → IsSound txn.snapshot → IsOwnWork h txn
     → stale_by h.entries txn.footprint (drop (txn.opened + 1) h.log) ≡ None → IsHistory (after_commit h txn)
