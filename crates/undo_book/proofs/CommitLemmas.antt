@@ -85,11 +85,11 @@ pub record IsCommitted (b now : History) (txn : Transaction) : Type 0 where
       sessions ≡ slice_set b.sessions (txn.id.session - 1) (ended_state (state_of b txn.id.session)) →
       LeavesCommitted now (record b { layout = end; log = log; entries = entries; sessions = sessions }) txn
 
-committed_here : (b : History) → IsHistory b → (txn : Transaction) → IsTransaction txn → is_own b txn ≡ true →
+committed_here : (b : History) → IsHistory b → (txn : Transaction) → IsTransaction txn → IsSound txn.snapshot → is_own b txn ≡ true →
     stale_by b.entries txn.footprint (drop (txn.opened + 1) b.log) ≡ None → IsCommitted b b txn
-committed_here b is txn transaction own fresh =
+committed_here b is txn transaction snapshot_sound own fresh =
     let its = own_work b txn own in
-    let made = commit_made b is txn transaction its fresh in
+    let made = commit_made b is txn transaction snapshot_sound its fresh in
     let lead : Layout = applied b.layout txn.writes in
     let next : History = logged (ended (with_entry b txn) txn.id.session) txn.id.session (Commit txn.id txn.commands) Committed in
     let after : after_commit b txn ≡ record next { layout = lead } = settled_is next lead made.kept in
@@ -102,7 +102,7 @@ committed_here b is txn transaction own fresh =
           let same : after_commit b txn ≡ new =
           after ∙ (λ i. record b { layout = sym lay i; log = sym logs i; entries = sym entry i; sessions = sym state i }) in
           record {
-            history = subst IsHistory same (commit_keeps b is txn transaction its fresh);
+            history = subst IsHistory same (commit_keeps b is txn transaction snapshot_sound its fresh);
             is = sym same;
             ran = record {
               work = transaction.run;
@@ -117,11 +117,11 @@ committed_here b is txn transaction own fresh =
           };
     }
 
-pub committed_so : (b now : History) → b ≡ now → IsHistory b → (txn : Transaction) → IsTransaction txn → is_own now txn ≡ true →
-    stale_by now.entries txn.footprint (drop (txn.opened + 1) now.log) ≡ None → IsCommitted b now txn
-committed_so b now view is txn transaction own fresh =
+pub committed_so : (b now : History) → b ≡ now → IsHistory b → (txn : Transaction) → IsTransaction txn → IsSound txn.snapshot →
+    is_own now txn ≡ true → stale_by now.entries txn.footprint (drop (txn.opened + 1) now.log) ≡ None → IsCommitted b now txn
+committed_so b now view is txn transaction snapshot_sound own fresh =
     subst (λ (x : History). IsCommitted b x txn) view
-    (committed_here b is txn transaction (ap (λ (x : History). is_own x txn) view ∙ own)
+    (committed_here b is txn transaction snapshot_sound (ap (λ (x : History). is_own x txn) view ∙ own)
     (ap (λ (x : History). stale_by x.entries txn.footprint (drop (txn.opened + 1) x.log)) view ∙ fresh))
 
 -- ---- a stale one

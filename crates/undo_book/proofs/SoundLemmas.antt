@@ -1,27 +1,17 @@
 -- A history leads from its sound base to a sound layout, and the records of its transactions are in order.
-use Rattle.std.proofs.Common.{◌≡◌, ℕ, zero, suc, Bool, true, false, List, [], ◌∷◌, ◌++◌, None, Some, refl, sym, ap, subst, ◌∙◌, replicate, slice_get}
-use Rattle.std.specs.Prelude.{MatchBool}
+use Rattle.std.proofs.Common.{◌≡◌, ℕ, zero, suc, List, [], ◌∷◌, ◌++◌, None, Some, refl, sym, ap, subst, ◌∙◌, replicate, slice_get}
 use Rattle.std.proofs.lemmas.List.{length-replicate}
 use Rattle.lay_items.specs.Layout.{Layout}
 use Rattle.lay_items.specs.Sound.{IsSound}
 use Rattle.txn_rules.specs.Records.{AreProper}
-use Rattle.txn_rules.proofs.LawProofs.{runs_keep_sound}
 use Rattle.undo_rules.specs.declared.log.Logged.{Logged}
 use Rattle.undo_rules.specs.Books.{History, IsHistory, SessionState}
-use Rattle.undo_rules.specs.Histories.{AreKept, Chain, Ran}
+use Rattle.undo_rules.specs.Histories.{AreKept}
 use Rattle.undo_rules.specs.Links.{Entry}
 use Rattle.undo_rules.specs.Steps.{fresh, unused}
 use Rattle.undo_rules.proofs.Grounds.{ran_proper}
 use Rattle.undo_rules.proofs.Roots.{root_of}
-
-chain_sound : (log : List Logged) (entries : List Entry) (first last : Layout) → Chain log first entries last → IsSound first → IsSound last
-chain_sound log [] first last chain sound = subst IsSound chain sound
-chain_sound log (entry ∷ entries) first last chain sound = by entry.live chain (λ l. chain_sound log entries l last) where
-  by : (live : Bool) → MatchBool live ((next : Layout) × Ran log entry first next × Chain log next entries last) (Chain log first entries last)
-      → ((l : Layout) → Chain log l entries last → IsSound l → IsSound last) → IsSound last
-  by true (next, ran, rest) more =
-      more next rest (subst IsSound ran.after_is (runs_keep_sound entry.txn ran.commands first ran.run ran.runs sound))
-  by false rest more = more first rest sound
+use Rattle.undo_rules.proofs.Undoing.{chain_sound}
 
 pub kept_sound : (log : List Logged) (base layout : Layout) (entries : List Entry) → AreKept log base layout entries → IsSound base → IsSound layout
 kept_sound log base layout entries kept sound = chain_sound log entries base layout kept.chain sound

@@ -86,7 +86,7 @@ redoes h is session txn at there free =
     let end : Layout = applied h.layout at.entry.writes in
     let call : Logged = record { session = session; call = Redo txn; answer = Redone } in
     let kept : AreKept h.log h.base h.layout (at.before ++ at.entry ∷ at.later) = subst (AreKept h.log h.base h.layout) split.parts is.kept in
-    let back = puts_back h.log h.base h.layout at.before at.entry at.later kept can.undone can.unread can.unmoved in
+    let back = puts_back h.log h.base h.layout at.before at.entry at.later is.sound kept can.undone can.unread can.unmoved in
     let still : AreKept h.log h.base end (remarked true txn h.entries) = subst (AreKept h.log h.base end) (sym (split.marks true)) back in
     record {
       proper = entry_proper h.log h.base h.layout at.before at.entry at.later kept;
@@ -117,7 +117,7 @@ undoes h is session txn at there free =
     let end : Layout = reverted h.layout at.entry.writes in
     let call : Logged = record { session = session; call = Undo txn; answer = Undone } in
     let kept : AreKept h.log h.base h.layout (at.before ++ at.entry ∷ at.later) = subst (AreKept h.log h.base h.layout) split.parts is.kept in
-    let took = takes_out h.log h.base h.layout at.before at.entry at.later kept can.live can.unread in
+    let took = takes_out h.log h.base h.layout at.before at.entry at.later is.sound kept can.live can.unread in
     let still : AreKept h.log h.base end (remarked false txn h.entries) =
     subst (AreKept h.log h.base end) (sym (split.marks false)) took.kept in
     let after : after_undo h session txn ≡ record (logged (with_mark h false txn) session (Undo txn) Undone) { layout = end } =

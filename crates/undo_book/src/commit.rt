@@ -116,6 +116,8 @@ impl Book {
         ensures err { OnErr result (self.new ≡ self.old) }
     {
         let txn = work.id();
+        // Its snapshot is sound.
+        work.snapshot().version();
         let Ok(layout) = work.writes().applied(alloc, &self.layout) else {
             return Err(refused(BookFault::NoMemory, work));
         };

@@ -14,13 +14,13 @@ pub applied-requires-clause-proper : goal.applied-requires-clause-proper
 applied-requires-clause-proper c =
     subst (λ (ws : Records). AreProper ws) (sym c.writes.ensures)
     (committed_so (history_of c.self.inside) c.args.self.now c.self.view_is c.self.invariant.history c.args.work
-    c.id-txn.ensures.transaction c.requires.own c.requires.fresh).proper
+    c.id-txn.ensures.transaction (search rules) c.requires.own c.requires.fresh).proper
 
 pub applied-requires-clause-sound : goal.applied-requires-clause-sound
 applied-requires-clause-sound c =
     subst (λ (ws : Records). IsSound (applied c.self.inside.layout ws)) (sym c.writes.ensures)
     (committed_so (history_of c.self.inside) c.args.self.now c.self.view_is c.self.invariant.history c.args.work
-    c.id-txn.ensures.transaction c.requires.own c.requires.fresh).sound
+    c.id-txn.ensures.transaction (search rules) c.requires.own c.requires.fresh).sound
 
 -- the transaction as it is entered
 entry : (c : goal.After-drop-self-inside) → c.push.new.self.items
@@ -37,8 +37,8 @@ left : (c : goal.After-drop-self-inside) → LeavesCommitted c.args.self.now (hi
 left c =
     let b = history_of c.self.inside in
     let work = c.args.work in
-    let can = committed_so b c.args.self.now c.self.view_is c.self.invariant.history work c.id-txn.ensures.transaction c.requires.own
-    c.requires.fresh in
+    let can = committed_so b c.args.self.now c.self.view_is c.self.invariant.history work c.id-txn.ensures.transaction
+    (search rules) c.requires.own c.requires.fresh in
     let layout : c.in-Ok.layout ≡ applied c.self.inside.layout work.writes = search rules in
     let log : c.push-2.new.self.items ≡ c.self.inside.log.items
     ++ record { session = work.id.session; call = Commit work.id work.commands; answer = Committed } ∷ [] = search rules in
@@ -50,8 +50,8 @@ pub invariant_of-self-2 : goal.invariant_of-self-2
 invariant_of-self-2 c =
     let b = history_of c.self.inside in
     let work = c.args.work in
-    let can = committed_so b c.args.self.now c.self.view_is c.self.invariant.history work c.id-txn.ensures.transaction c.requires.own
-    c.requires.fresh in
+    let can = committed_so b c.args.self.now c.self.view_is c.self.invariant.history work c.id-txn.ensures.transaction
+    (search rules) c.requires.own c.requires.fresh in
     let last : c.len-index.result ≡ length c.self.inside.entries.items = search rules in
     record {
       history = (left c).history;
