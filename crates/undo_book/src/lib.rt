@@ -32,8 +32,6 @@ mod links;
 mod open;
 mod redo;
 mod session;
-#[cfg(test)]
-mod tests;
 mod undo;
 
 pub use book::{Book, MAX_CALLS};
