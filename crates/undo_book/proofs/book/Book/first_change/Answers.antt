@@ -20,11 +20,11 @@ returns-then-is_before c =
     c.changed_in.ensures
     ∙ changed_read (history_of b) c.args.self.now c.self.view_is c.args.place c.index-then-is_before.result.now c.requires
     c.index-then-is_before.ensures
-    ∙ first_kept b.changes.earlier.items b.changes.last.items (history_of b) c.args.self.now c.self.view_is c.self.invariant.changes c.args.place
-    c.args.since c.index.result.now true c.requires c.index.ensures (sym c.if-is_before.true ∙ c.is_before.ensures)
+    ∙ first_kept b.changes.earlier.items b.changes.last.items (history_of b) c.args.self.now c.self.view_is c.self.invariant.changes
+    c.args.place c.args.since c.index.result.now true c.requires c.index.ensures (sym c.if-is_before.true ∙ c.is_before.ensures)
 
 pub returns : goal.returns
 returns c =
     let b = c.self.inside in
-    first_kept b.changes.earlier.items b.changes.last.items (history_of b) c.args.self.now c.self.view_is c.self.invariant.changes c.args.place
-    c.args.since c.index.result.now false c.requires c.index.ensures (sym c.if-is_before.false ∙ c.is_before.ensures)
+    first_kept b.changes.earlier.items b.changes.last.items (history_of b) c.args.self.now c.self.view_is c.self.invariant.changes
+    c.args.place c.args.since c.index.result.now false c.requires c.index.ensures (sym c.if-is_before.false ∙ c.is_before.ensures)

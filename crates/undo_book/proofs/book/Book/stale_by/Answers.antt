@@ -25,7 +25,8 @@ loop-place-preserved c =
           ap (wrote now.entries touched) (first_is now.log c.args.since place w.in-Some.txn (sym w.in-Some.ensures))
           ∙ sym w.wrote_in.ensures ∙ w.if-wrote_in.false
       | in_default w ↦
-          none_again now.entries touched now.log c.args.since place (sym c.first_change.ensures ∙ w.in_default.is) c.loop-place.invariant.looked
+          none_again now.entries touched now.log c.args.since place (sym c.first_change.ensures ∙ w.in_default.is)
+          c.loop-place.invariant.looked
     ] in
     record {
       left = passed now.entries touched now.log place less none ∙ c.loop-place.invariant.left;
