@@ -15,8 +15,6 @@
 #![tactic(auto)]
 
 mod machine;
-#[cfg(test)]
-mod tests;
 
 pub use machine::Machine;
 pub use session_steps::{Reply, Step, StepFault};

@@ -25,7 +25,7 @@ pub found_within : (o : Option ℕ) (es : List Entry) (txn : TxnId) → o ≡ pl
 found_within None es txn is = tt
 found_within (Some i) es txn is = place_within es txn i (sym is)
 
-get_within : {X : Type 0} (xs : List X) (i : ℕ) → i < length xs → slice_get xs i ≡ None → ⊥
+pub get_within : {X : Type 0} (xs : List X) (i : ℕ) → i < length xs → slice_get xs i ≡ None → ⊥
 get_within [] i less none = absurd (omega (arith, less))
 get_within (x ∷ xs) zero less none = absurd cc
 get_within (x ∷ xs) (suc i) less none = get_within xs i (omega (arith, less)) none

@@ -30,7 +30,7 @@ both_so true true e = (refl, refl)
 both_so true false e = absurd cc
 both_so false b e = absurd cc
 
-names_equal : (s t : TxnId) → txn_eq s t ≡ true → s ≡ t
+pub names_equal : (s t : TxnId) → txn_eq s t ≡ true → s ≡ t
 names_equal s t h =
     let parts = both_so (s.session == t.session) (s.txn == t.txn) h in
     let session : s.session ≡ t.session = (Decides-eqb s.session t.session).0 parts.0 in

@@ -1,7 +1,9 @@
+pub mod ChangeLemmas
 pub mod CommitLemmas
 pub mod FoundLemmas
 pub mod IndexLemmas
 pub mod PlaceLemmas
 pub mod SoundLemmas
+pub mod StaleLemmas
 pub mod UndoLemmas
 pub mod WalkLemmas

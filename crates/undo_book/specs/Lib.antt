@@ -3,4 +3,5 @@ pub mod Places
 pub mod Walks
 pub mod Replays
 pub mod Calls
+pub mod Changes
 pub mod Books

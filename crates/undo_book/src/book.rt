@@ -4,6 +4,7 @@ ghost use Rattle.lay_point.specs.Memory.{IsAnswer};
 ghost use Rattle.undo_rules.specs.Steps.{fresh, is_log_full, logged};
 ghost use Rattle.undo_book.specs.Replays.{replay};
 
+use crate::changes::Changes;
 use crate::entry::Entry;
 use crate::session::{SessionState, unused_sessions};
 use lay_items::Snapshot;
@@ -31,6 +32,7 @@ pub struct Book {
     pub(crate) sessions: Vec<SessionState>,
     /// The places of the transactions by their names: session and number.
     pub(crate) places: BTreeMap<(u8, u16), usize>,
+    pub(crate) changes: Changes,
 }
 
 impl Model for Book {
@@ -70,6 +72,7 @@ impl Book {
             entries: Vec::new(alloc),
             sessions: unused_sessions(alloc)?,
             places: BTreeMap::new(alloc),
+            changes: Changes::new(alloc),
         })
     }
 
@@ -119,11 +122,13 @@ impl Book {
         ensures ok { OnOk result (self.new ≡ logged self.old session call (Answer.Refused fault)) }
         ensures err { OnErr result (self.new ≡ self.old) }
     {
+        self.changes.reserve_call()?;
         self.log.push(Logged {
             session,
             call,
             answer: Answer::Refused(fault),
         })?;
+        self.changes.add_unchanged();
         Ok(())
     }
 }

@@ -78,7 +78,7 @@ impl Book {
             (drop (work.now.opened + 1) self.now.log) }
     {
         let since = work.opened() as usize + 1;
-        self.stale_by(work.footprint(), &self.log[since..])
+        self.stale_by(work.footprint(), since)
     }
 
     /// Ends the transaction of a work of the book's own, of which another wrote what it touched. The work
@@ -87,7 +87,7 @@ impl Book {
         requires own { is_own self.old work ≡ true }
         ensures { EndsStale self.old work other result self.new }
     {
-        if self.log.reserve(1).is_err() {
+        if self.log.reserve(1).is_err() || self.changes.reserve_call().is_err() {
             return Err(refused(BookFault::NoMemory, work));
         }
         let txn = work.id();
@@ -99,6 +99,7 @@ impl Book {
             answer: Answer::Refused(fault),
         };
         self.log.push(logged).unwrap();
+        self.changes.add_unchanged();
         end_pending(&mut self.sessions, txn.session);
         Err(CommitRefusal { fault, work: None })
     }
@@ -124,7 +125,10 @@ impl Book {
         let Ok(seen) = links_to(alloc, &self.entries, work.footprint()) else {
             return Err(refused(BookFault::NoMemory, work));
         };
-        if self.entries.reserve(1).is_err() || self.log.reserve(1).is_err() {
+        if self.entries.reserve(1).is_err()
+            || self.log.reserve(1).is_err()
+            || self.changes.reserve_commit().is_err()
+        {
             return Err(refused(BookFault::NoMemory, work));
         }
         let index = self.entries.len();
@@ -148,6 +152,7 @@ impl Book {
             answer: Answer::Committed,
         };
         self.log.push(logged).unwrap();
+        self.changes.add_commit(place);
         end_pending(&mut self.sessions, txn.session);
         self.layout = layout;
         Ok(txn)

@@ -1,17 +1,19 @@
 //! Transactions by their names, and what is against undoing or redoing them.
-ghost use Rattle.std.specs.Prelude.{◌≡◌, ◌<◌, IfSome, MatchResult, None, Some, length};
+ghost use Rattle.std.specs.Prelude.{◌≡◌, ◌<◌, IfSome, MatchResult, None, Some, drop, length};
 ghost use Rattle.undo_rules.specs.Books.{writes_of};
 ghost use Rattle.undo_rules.specs.Steps.{redo_refusal, stale_by, touching};
 ghost use Rattle.undo_rules.specs.Steps.{undo_refusal, undo_refusal_at};
+ghost use Rattle.undo_book.specs.Changes.{first_change};
 ghost use Rattle.undo_book.specs.Places.{found_at, place_of};
 ghost use Rattle.undo_book.specs.Walks.{redo_refusal_along};
 
 use crate::book::Book;
+use crate::changes::is_before;
 use crate::entry::Entry;
 use crate::links::{changed_in, first_moved, first_reader};
 use txn_marks::Footprint;
 use txn_rules::TxnId;
-use undo_rules::{BookFault, Logged};
+use undo_rules::BookFault;
 
 impl Book {
     /// Returns the place of the transaction of this name.
@@ -56,16 +58,29 @@ impl Book {
         }
     }
 
-    /// Returns the first transaction that one of these calls changed and that wrote what is touched.
-    pub(crate) fn stale_by(&self, footprint: &Footprint, calls: &[Logged]) -> Option<TxnId>
-        ensures { result ≡ stale_by self.now.entries footprint.now calls.now }
+    /// Returns the first transaction that a call from this place of the log on changed and that wrote what is
+    /// touched. What a transaction wrote is looked at where it was first changed, and not again.
+    pub(crate) fn stale_by(&self, footprint: &Footprint, since: usize) -> Option<TxnId>
+        ensures { result ≡ stale_by self.now.entries footprint.now (drop since self.now.log) }
     {
-        for call in calls {
-            if let Some(txn) = changed_in(call) {
+        for place in since..self.log.len() {
+            if let Some(txn) = self.first_change(place, since) {
                 if self.wrote_in(txn, footprint) {
                     return Some(txn);
                 }
             }
+        }
+        None
+    }
+
+    /// Returns the transaction that the call at this place of the log changed, where no call since the other
+    /// place did so before it.
+    fn first_change(&self, place: usize, since: usize) -> Option<TxnId>
+        requires { place < length self.now.log }
+        ensures { result ≡ first_change self.now.log since place }
+    {
+        if is_before(self.changes.earlier[place], since) {
+            return changed_in(&self.log[place]);
         }
         None
     }

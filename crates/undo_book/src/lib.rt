@@ -6,7 +6,8 @@
 //! one did, or the live earlier ones that wrote what it touched are no longer those of its commit. What is
 //! written is applied and reverted: no command is run again. And yet the layout is always that of running
 //! the commands of the live transactions, in the order of their commits, from the base. That is what a
-//! `Book` keeps in its type, with the places of its transactions by their names.
+//! `Book` keeps in its type, with the places of its transactions by their names and of their changes in its
+//! log.
 //!
 //! Contracts see a `Book` as the record `History` of `undo_rules/specs/Books.antt`. What each call answers
 //! and leaves is in `undo_rules/specs/Steps.antt`; any answer but `LogFull` can give way to `NoMemory`, and
@@ -23,6 +24,7 @@
 #![tactic(auto)]
 
 mod book;
+mod changes;
 mod commit;
 mod entry;
 mod find;
@@ -30,8 +32,6 @@ mod links;
 mod open;
 mod redo;
 mod session;
-#[cfg(test)]
-mod tests;
 mod undo;
 
 pub use book::{Book, MAX_CALLS};

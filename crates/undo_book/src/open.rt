@@ -60,6 +60,7 @@ impl Book {
         let given = self.layout.share(alloc)?;
         let snapshot = self.layout.share(alloc)?;
         self.log.reserve(1)?;
+        self.changes.reserve_call()?;
         self.sessions[usize::from(session) - 1] = SessionState {
             opens: txn,
             pending: Some(Pending { place, snapshot }),
@@ -70,6 +71,7 @@ impl Book {
             answer: Answer::Opened(txn),
         };
         self.log.push(logged).unwrap();
+        self.changes.add_unchanged();
         Ok(Work::new(alloc, given, TxnId { session, txn }, place))
     }
 }

@@ -1,5 +1,5 @@
 //! Redo.
-ghost use Rattle.std.specs.Prelude.{◌≡◌, ◌≤◌, OnErr, OnOk, Err, None, Some, true};
+ghost use Rattle.std.specs.Prelude.{◌≡◌, ◌≤◌, OnErr, OnOk, Err, None, Some, false, true};
 ghost use Rattle.undo_rules.specs.Steps.{after_redo, is_log_full, redo_refusal, redo_step, with_mark};
 ghost use Rattle.undo_book.specs.Calls.{Takes};
 ghost use Rattle.undo_book.specs.Places.{place_of};
@@ -45,6 +45,7 @@ impl Book {
         txn: TxnId,
         place: usize,
     ) -> Result<(), NoMemory>
+        requires log { is_log_full self.old ≡ false }
         requires place { place_of txn self.old.entries ≡ Some place }
         requires free { redo_refusal self.old txn ≡ None }
         ensures ok { OnOk result (self.new ≡ after_redo self.old session txn) }
@@ -54,6 +55,8 @@ impl Book {
         let entry = &self.entries[place];
         let layout = entry.writes.applied(alloc, &self.layout)?;
         self.log.reserve(1)?;
+        self.changes.reserve_call()?;
+        self.changes.add_again(place, self.log.len() as u32);
         mark_at(&mut self.entries, place, true);
         let logged = Logged {
             session,

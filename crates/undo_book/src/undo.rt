@@ -46,6 +46,7 @@ impl Book {
         txn: TxnId,
         place: usize,
     ) -> Result<(), NoMemory>
+        requires log { is_log_full self.old ≡ false }
         requires place { place_of txn self.old.entries ≡ Some place }
         requires free { undo_refusal self.old txn ≡ None }
         ensures ok { OnOk result (self.new ≡ after_undo self.old session txn) }
@@ -56,6 +57,8 @@ impl Book {
         let entry = &self.entries[place];
         let layout = entry.writes.reverted(alloc, &self.layout)?;
         self.log.reserve(1)?;
+        self.changes.reserve_call()?;
+        self.changes.add_again(place, self.log.len() as u32);
         mark_at(&mut self.entries, place, false);
         let logged = Logged {
             session,

@@ -1,11 +1,13 @@
-use Rattle.std.proofs.Common.{◌≡◌, ◌-◌, [], ◌∷◌, ◌++◌, length, rules, slice_set, subst, sym}
+use Rattle.std.proofs.Common.{◌≡◌, ◌-◌, [], ◌∷◌, ◌++◌, None, length, refl, rules, slice_set, subst, sym}
 use Rattle.lay_items.specs.Sound.{IsSound}
 use Rattle.txn_rules.specs.Records.{AreProper, Records, applied}
 use Rattle.undo_rules.specs.declared.log.Answer.TheVariants.{Committed}
 use Rattle.undo_rules.specs.declared.log.Call.TheVariants.{Commit}
+use Rattle.undo_rules.specs.declared.log.Logged.{Logged}
 use Rattle.undo_rules.specs.Steps.{ended_state, entered, state_of}
 use Rattle.undo_book.specs.Books.{history_of}
 use Rattle.undo_book.specs.Places.{AreTheirPlaces}
+use Rattle.undo_book.proofs.ChangeLemmas.{commit_so}
 use Rattle.undo_book.proofs.CommitLemmas.{LeavesCommitted, committed_so}
 use Rattle.undo_book.proofs.IndexLemmas.{places_pushed}
 use Rattle.undo_book.proofs.book.Book.append.Goals as goal
@@ -52,12 +54,18 @@ invariant_of-self-2 c =
     let work = c.args.work in
     let can = committed_so b c.args.self.now c.self.view_is c.self.invariant.history work c.id-txn.ensures.transaction
     (search rules) c.requires.own c.requires.fresh in
+    let call : Logged = record { session = work.id.session; call = Commit work.id work.commands; answer = Committed } in
+    let log : c.push-2.new.self.items ≡ c.self.inside.log.items ++ call ∷ [] = search rules in
+    let earlier : c.add_commit.new.self.earlier.items ≡ c.self.inside.changes.earlier.items ++ None ∷ [] = search rules in
+    let changed : c.add_commit.new.self.last.items ≡ c.self.inside.changes.last.items ++ length c.self.inside.log.items ∷ [] =
+    search rules in
     let last : c.len-index.result ≡ length c.self.inside.entries.items = search rules in
     record {
       history = (left c).history;
       places = subst (AreTheirPlaces c.insert.new.self.entries) (sym (entry c))
           (places_pushed c.self.inside.places.entries c.insert.new.self.entries c.self.inside.entries.items (entered b work) c.id-txn.result
           c.len-index.result (sym c.id-txn.ensures.value) last can.apart c.self.invariant.places c.in-Ok-insert.ensures.updates.0);
+      changes = commit_so call (entered b work) c.self.invariant.changes refl can.apart earlier changed log (entry c);
     }
 
 pub returns-clause-ok : goal.returns-clause-ok

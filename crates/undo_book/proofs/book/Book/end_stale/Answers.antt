@@ -1,9 +1,11 @@
-use Rattle.std.proofs.Common.{◌≡◌, ◌-◌, [], ◌∷◌, ◌++◌, rules, slice_set}
+use Rattle.std.proofs.Common.{◌≡◌, ◌-◌, [], ◌∷◌, ◌++◌, None, refl, rules, slice_set}
 use Rattle.undo_rules.specs.declared.log.Answer.TheVariants.{Refused}
 use Rattle.undo_rules.specs.declared.log.BookFault.TheVariants.{Stale}
 use Rattle.undo_rules.specs.declared.log.Call.TheVariants.{Commit}
+use Rattle.undo_rules.specs.declared.log.Logged.{Logged}
 use Rattle.undo_rules.specs.Steps.{ended_state, state_of}
 use Rattle.undo_book.specs.Books.{history_of}
+use Rattle.undo_book.proofs.ChangeLemmas.{unchanged_so}
 use Rattle.undo_book.proofs.CommitLemmas.{LeavesStale, stale_so}
 use Rattle.undo_book.proofs.book.Book.end_stale.Goals as goal
 
@@ -23,4 +25,15 @@ left c =
     c.end_pending.new.sessions.items log sessions
 
 pub invariant_of-self-2 : goal.invariant_of-self-2
-invariant_of-self-2 c = record { history = (left c).history; places = c.self.invariant.places }
+invariant_of-self-2 c =
+    let work = c.args.work in
+    let call : Logged =
+    record { session = work.id.session; call = Commit work.id work.commands; answer = Refused (Stale c.args.other) } in
+    let log : c.push.new.self.items ≡ c.self.inside.log.items ++ call ∷ [] = search rules in
+    let earlier : c.add_unchanged.new.self.earlier.items ≡ c.self.inside.changes.earlier.items ++ None ∷ [] = search rules in
+    let last : c.add_unchanged.new.self.last.items ≡ c.self.inside.changes.last.items = search rules in
+    record {
+      history = (left c).history;
+      places = c.self.invariant.places;
+      changes = unchanged_so call c.self.invariant.changes refl earlier last log;
+    }

@@ -1,4 +1,4 @@
-use Rattle.std.proofs.Common.{◌≡◌, ◌+◌, ◌-◌, [], ◌∷◌, ◌++◌, Some, length, rules, slice_set, subst, sym}
+use Rattle.std.proofs.Common.{◌≡◌, ◌+◌, ◌-◌, [], ◌∷◌, ◌++◌, None, Some, length, refl, rules, slice_set, subst, sym}
 use Rattle.std.specs.Vec.{with_item}
 use Rattle.undo_rules.specs.declared.log.Answer.TheVariants.{Opened}
 use Rattle.undo_rules.specs.declared.log.Call.TheVariants.{Open}
@@ -7,6 +7,7 @@ use Rattle.undo_rules.specs.Books.{History, IsHistory, SessionState}
 use Rattle.undo_rules.specs.Steps.{after_open, state_of}
 use Rattle.undo_rules.proofs.OpenLaws.{open_keeps}
 use Rattle.undo_book.specs.Books.{history_of}
+use Rattle.undo_book.proofs.ChangeLemmas.{unchanged_so}
 use Rattle.undo_book.proofs.book.Book.open_next.Goals as goal
 
 pub invariant_of-self-2 : goal.invariant_of-self-2
@@ -22,6 +23,9 @@ invariant_of-self-2 c =
     } in
     let call : Logged = record { session = s; call = Open; answer = Opened number } in
     let log : c.push.new.self.items ≡ now.log ++ call ∷ [] = search rules in
+    let logged : c.push.new.self.items ≡ c.self.inside.log.items ++ call ∷ [] = search rules in
+    let earlier : c.add_unchanged.new.self.earlier.items ≡ c.self.inside.changes.earlier.items ++ None ∷ [] = search rules in
+    let last : c.add_unchanged.new.self.last.items ≡ c.self.inside.changes.last.items = search rules in
     let kept = with_item c.self.inside.sessions (c.from.result - 1) made in
     let sessions : kept.items ≡ slice_set now.sessions (s - 1) new = search rules in
     let same : record (history_of c.self.inside) { log = c.push.new.self.items; sessions = kept.items } ≡ after_open now s =
@@ -29,4 +33,5 @@ invariant_of-self-2 c =
     record {
       history = subst (λ (h : History). IsHistory h) (sym same) (open_keeps now is s c.requires.low c.requires.high);
       places = c.self.invariant.places;
+      changes = unchanged_so call c.self.invariant.changes refl earlier last logged;
     }

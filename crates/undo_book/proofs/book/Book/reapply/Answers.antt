@@ -1,14 +1,16 @@
-use Rattle.std.proofs.Common.{◌≡◌, ◌<◌, [], ◌∷◌, ◌++◌, ◌∙◌, ap, arith, true, length, rules, subst, sym}
+use Rattle.std.proofs.Common.{◌≡◌, ◌<◌, [], ◌∷◌, ◌++◌, ◌∙◌, ap, arith, true, length, refl, rules, slice_get, slice_set, subst, sym}
 use Rattle.std.specs.Vec.{vec_len}
 use Rattle.undo_rules.specs.declared.log.Answer.TheVariants.{Redone}
 use Rattle.undo_rules.specs.declared.log.Call.TheVariants.{Redo}
+use Rattle.undo_rules.specs.declared.log.Logged.{Logged}
 use Rattle.undo_rules.specs.Books.{History}
 use Rattle.undo_rules.specs.Links.{Entry}
 use Rattle.undo_rules.specs.Steps.{remarked}
 use Rattle.txn_rules.specs.Records.{AreProper, applied}
 use Rattle.lay_items.specs.Sound.{IsSound}
 use Rattle.undo_book.specs.Books.{history_of}
-use Rattle.undo_book.specs.Places.{AreTheirPlaces}
+use Rattle.undo_book.specs.Places.{AreTheirPlaces, place_of}
+use Rattle.undo_book.proofs.ChangeLemmas.{again_so}
 use Rattle.undo_book.proofs.IndexLemmas.{places_marked}
 use Rattle.undo_book.proofs.PlaceLemmas.{place_within}
 use Rattle.undo_book.proofs.UndoLemmas.{LeavesRedone, redone_at}
@@ -33,6 +35,15 @@ applied-requires-clause-sound c =
     subst (λ (e : Entry). IsSound (applied c.self.inside.layout e.writes)) (sym c.entry.view_is)
     (redone_at (history_of c.self.inside) c.args.self.now c.self.view_is c.self.invariant.history c.args.session c.args.txn c.args.place
     c.index-entry.result.now c.requires.place c.index-entry.ensures c.requires.free).sound
+
+-- the last change of the transaction is kept
+pub add_again-requires-clause-index : goal.add_again-requires-clause-index
+add_again-requires-clause-index c =
+    let within : c.args.place < length c.self.inside.entries.items =
+    subst (λ (h : History). c.args.place < length h.entries) (sym c.self.view_is)
+    (place_within c.args.self.now.entries c.args.txn c.args.place c.requires.place) in
+    let len : vec_len c.reserve_call.new.self.last ≡ length c.self.inside.changes.last.items = search rules in
+    omega (arith, within, c.self.invariant.changes.long, len)
 
 pub mark_at-requires : goal.mark_at-requires
 mark_at-requires c =
@@ -65,10 +76,17 @@ invariant_of-self-2 c =
     let h : History = history_of c.self.inside in
     let marks : c.mark_at.new.entries.items ≡ remarked true c.args.txn h.entries =
     is.marks ∙ ap (λ (x : History). remarked true c.args.txn x.entries) (sym c.self.view_is) in
+    let call : Logged = record { session = c.args.session; call = Redo c.args.txn; answer = Redone } in
+    let log : c.push.new.self.items ≡ c.self.inside.log.items ++ call ∷ [] = search rules in
+    let kept = c.self.inside.changes in
+    let earlier : c.add_again.new.self.earlier.items ≡ kept.earlier.items ++ slice_get kept.last.items c.args.place ∷ [] = search rules in
+    let last : c.add_again.new.self.last.items ≡ slice_set kept.last.items c.args.place (length c.self.inside.log.items) = search rules in
     record {
       history = is.history;
       places = subst (AreTheirPlaces c.self.inside.places.entries) (sym marks)
           (places_marked c.self.inside.places.entries true c.args.txn h.entries c.self.invariant.places);
+      changes = again_so call c.args.txn c.args.place true c.self.invariant.changes refl
+          (ap (λ (x : History). place_of c.args.txn x.entries) c.self.view_is ∙ c.requires.place) earlier last log marks;
     }
 
 pub returns-clause-ok : goal.returns-clause-ok

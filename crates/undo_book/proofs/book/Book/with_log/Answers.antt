@@ -1,5 +1,6 @@
 use Rattle.std.proofs.Common.{[], rules, refl}
 use Rattle.undo_book.specs.Places.{AreTheirPlaces}
+use Rattle.undo_book.proofs.ChangeLemmas.{none_so}
 use Rattle.undo_book.proofs.SoundLemmas.{begins_history}
 use Rattle.undo_book.proofs.book.Book.with_log.Goals as goal
 
@@ -12,4 +13,5 @@ invariant_of-result-2 c =
     record {
       history = begins_history _ c.base.invariant (search rules) (search rules) (search rules) (search rules);
       places = search rules;
+      changes = none_so (search rules) (search rules) (search rules) (search rules);
     }

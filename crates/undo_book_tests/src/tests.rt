@@ -1,13 +1,13 @@
 //! Tests of what no clause says: that calls succeed with ample memory, and that definitions mean what they
 //! should.
 
-use super::*;
 use lay_cells::CellId;
 use lay_items::Snapshot;
 use lay_point::{LayerName, Point};
 use std::alloc::Global;
 use std::test::*;
 use txn_work::{Command, TxnId, Work};
+use undo_book::{Book, BookFault, MAX_CALLS};
 
 /// Returns a book on the layout without items, of which this many calls are logged at most.
 fn book_of(alloc: Global, limit: u32) -> Result<Book, Fail> {

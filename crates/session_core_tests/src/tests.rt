@@ -1,10 +1,10 @@
 //! Tests of what no clause says: that steps succeed with ample memory, and that definitions mean what they
 //! should.
 
-use super::*;
 use lay_cells::CellId;
 use lay_items::Snapshot;
 use lay_point::{LayerName, Point};
+use session_core::{Machine, Reply, Step, StepFault};
 use std::alloc::Global;
 use std::test::*;
 use txn_rules::{Command, Done, TxnId};
