@@ -4,8 +4,8 @@ ghost use Rattle.txn_rules.specs.Laws.{ReachedAreWalks, RecordsAreOne, RecordsCo
 ghost use Rattle.txn_rules.specs.Laws.{RecordsLead, RunsKeepSound, RunsLeaveAlone, RunsMakeTheirOwn};
 ghost use Rattle.txn_rules.specs.Laws.{SlotChangesMerge, UnmetIsKept};
 
-/// A command does the same wherever what it touches is the same, and touches what it writes. A call may be
-/// made where no walk leads back.
+/// A command does the same on all sound layouts in which what it touches is the same, and touches what it
+/// writes. A call may be made where no walk leads back.
 pub fn commands_have_laws()
     ensures local { PlansAreLocal }
     ensures covered { PlansAreCovered }
@@ -13,7 +13,7 @@ pub fn commands_have_laws()
 {}
 
 /// Commands that are all accepted leave alone what they don't touch, keep a layout sound, make items of
-/// their own, and go alike wherever what they touch is the same.
+/// their own, and go alike on all sound layouts in which what they touch is the same.
 pub fn runs_have_laws()
     ensures alone { RunsLeaveAlone }
     ensures sound { RunsKeepSound }
@@ -21,8 +21,8 @@ pub fn runs_have_laws()
     ensures frame { Frame }
 {}
 
-/// The records between layouts lead from the one to the other and back, keep agreement, and go past
-/// commands that touch nothing of them.
+/// The records between layouts lead from the one to the other and back, keep agreement, and between sound
+/// layouts go past commands that touch nothing of them.
 pub fn records_have_laws()
     ensures lead { RecordsLead }
     ensures apply { LeadersApply }
