@@ -9,4 +9,5 @@ pub mod ProductLemmas
 pub mod RowLemmas
 pub mod SideLemmas
 pub mod StartLemmas
+pub mod StripLemmas
 pub use Rattle.label_laws.proofs.Upward
