@@ -1,2 +1,1 @@
 pub mod Labels
-pub use Rattle.face_labels.specs.declared.op.Op

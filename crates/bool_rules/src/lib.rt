@@ -9,4 +9,3 @@
 mod laws;
 
 pub use laws::booleans_have_laws;
-pub use shape_laws::Op;

@@ -9,5 +9,3 @@ pub mod ProductLemmas
 pub mod RowLemmas
 pub mod SideLemmas
 pub mod StartLemmas
-pub mod StripLemmas
-pub use Rattle.label_laws.proofs.Upward

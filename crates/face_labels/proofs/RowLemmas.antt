@@ -22,13 +22,12 @@ use Rattle.lay_point.specs.Rising.{IsRising}
 use Rattle.lay_point.proofs.EdgeOrder.{edges_are_strict}
 use Rattle.lay_point.proofs.Members.{Has, contains, has}
 use Rattle.lay_point.proofs.Rising.{IsStrictOrder, before_rest, rising_rest}
-use Rattle.snap_chains.specs.Meeting.{MeetAtEnds}
-use Rattle.label_laws.proofs.Rows.{Spans, apart_in_row, fraction_le}
-use Rattle.label_laws.proofs.Sides.{meet_first, meet_second}
+use Rattle.edge_test.specs.Meeting.{MeetAtEnds}
+use Rattle.side_laws.proofs.Rows.{Spans, apart_in_row, fraction_le}
+use Rattle.side_laws.proofs.Sides.{meet_first, meet_second}
 use Rattle.snap_chains.specs.Rounded.{AreClean}
 use Rattle.face_labels.specs.declared.crossing.Crossing.{Crossing}
-use Rattle.face_labels.specs.Crossings.{IsCrossingOf, crossing_numbers, numbers_crossing}
-use Rattle.face_labels.specs.Lines.{nowhere}
+use Rattle.face_labels.specs.Crossings.{IsCrossingOf, crossing_numbers}
 use Rattle.face_labels.proofs.PickedLemmas.{picked_more, picked_passed}
 use Rattle.face_labels.specs.Rows.{AreRowEdges, CrossesRow, IsLeftOf, crosses_row, crossing, rise, upward}
 
@@ -96,38 +95,35 @@ other_edge edges m n d h apart inside_m inside_n same = ⊎_elim
     below : (m n : ℕ) → m ≢ n → n ≤ m → n < m
     below m n apart le = omega arith
 
--- ---- those that cross, in the order of their numbers
--- the places of those of the first n numbers whose edges cross
-pub record AreCrossings (edges : List (Point × Point)) (row : ℤ) (among : List ℕ) (n : ℕ) (cs : List Crossing) : Type 0 where
-  pub numbers : map (λ c. c.number) cs ≡ numbers_crossing edges row (take n among)
+-- ---- those that cross, in the order of the edges
+-- the places of those of the first n edges that cross
+pub record AreCrossings (edges : List (Point × Point)) (row : ℤ) (n : ℕ) (cs : List Crossing) : Type 0 where
+  pub numbers : map (λ c. c.number) cs ≡ crossing_numbers row 0 (take n edges)
   pub places : All (IsCrossingOf edges row) cs
 
-pub crossing_more : (edges : List (Point × Point)) (row : ℤ) (among : List ℕ) (n number : ℕ) (e : Point × Point)
-    → (old new : List Crossing) (c : Crossing) → n < length among → number ≡ get_or among n number → number < length edges
-    → e ≡ get_or edges number e → crosses_row row e ≡ true → c.number ≡ number → c.x ≡ crossing row e → c.rise ≡ rise e
-    → new ≡ old ++ c ∷ [] → AreCrossings edges row among n old → AreCrossings edges row among (n + 1) new
-crossing_more edges row among n number e old new c less is inside is_e so own x up is_new h =
-    let any : (d : Point × Point) → e ≡ get_or edges number d = λ d. is_e ∙ get_or_default edges number e d inside in
+pub crossing_more : (edges : List (Point × Point)) (row : ℤ) (n : ℕ) (e : Point × Point) (old new : List Crossing) (c : Crossing)
+    → n < length edges → e ≡ get_or edges n e → crosses_row row e ≡ true → c.number ≡ n → c.x ≡ crossing row e → c.rise ≡ rise e
+    → new ≡ old ++ c ∷ [] → AreCrossings edges row n old → AreCrossings edges row (n + 1) new
+crossing_more edges row n e old new c less is_e so number x up is_new h =
+    let any : (d : Point × Point) → e ≡ get_or edges n d = λ d. is_e ∙ get_or_default edges n e d less in
     record {
       numbers = ap (map (λ z. z.number)) is_new ∙ map-append (λ (z : Crossing). z.number) old (c ∷ [])
-          ∙ (λ i. h.numbers i ++ own i ∷ [])
-          ∙ sym (picked_more (λ k. crosses_row row (get_or edges k nowhere)) (λ k m. m) among n number less is
-          (ap (crosses_row row) (sym (any nowhere)) ∙ so));
+          ∙ (λ i. h.numbers i ++ number i ∷ [])
+          ∙ sym (picked_more (crosses_row row) (λ k f. k) edges n e less is_e so);
       places = subst (All (IsCrossingOf edges row)) (sym is_new) (All-push (IsCrossingOf edges row) old c h.places (record {
-        given = subst (λ m. m < length edges) (sym own) inside;
-        crosses = λ d. subst (λ m. crosses_row row (get_or edges m d) ≡ true) (sym own)
+        given = subst (λ m. m < length edges) (sym number) less;
+        crosses = λ d. subst (λ m. crosses_row row (get_or edges m d) ≡ true) (sym number)
             (subst (λ f. crosses_row row f ≡ true) (any d) so);
-        x = λ d. x ∙ ap (crossing row) (any d) ∙ ap (λ m. crossing row (get_or edges m d)) (sym own);
-        rise = λ d. up ∙ ap rise (any d) ∙ ap (λ m. rise (get_or edges m d)) (sym own);
+        x = λ d. x ∙ ap (crossing row) (any d) ∙ ap (λ m. crossing row (get_or edges m d)) (sym number);
+        rise = λ d. up ∙ ap rise (any d) ∙ ap (λ m. rise (get_or edges m d)) (sym number);
       }));
     }
 
-pub crossing_passed : (edges : List (Point × Point)) (row : ℤ) (among : List ℕ) (n number : ℕ) (e : Point × Point) (old : List Crossing)
-    → n < length among → number ≡ get_or among n number → number < length edges → e ≡ get_or edges number e
-    → crosses_row row e ≡ false → AreCrossings edges row among n old → AreCrossings edges row among (n + 1) old
-crossing_passed edges row among n number e old less is inside is_e not_so h = record {
-  numbers = h.numbers ∙ sym (picked_passed (λ k. crosses_row row (get_or edges k nowhere)) (λ k m. m) among n number less is
-      (ap (crosses_row row) (sym (is_e ∙ get_or_default edges number e nowhere inside)) ∙ not_so));
+pub crossing_passed : (edges : List (Point × Point)) (row : ℤ) (n : ℕ) (e : Point × Point) (old : List Crossing)
+    → n < length edges → e ≡ get_or edges n e → crosses_row row e ≡ false → AreCrossings edges row n old
+    → AreCrossings edges row (n + 1) old
+crossing_passed edges row n e old less is_e not_so h = record {
+  numbers = h.numbers ∙ sym (picked_passed (crosses_row row) (λ k f. k) edges n e less is_e not_so);
   places = h.places;
 }
 

@@ -64,16 +64,6 @@ labels_more op r labels starts i d label less inside is so_far =
     (λ k e lt. label_kept op r labels s.number label (get_or (take i starts) k e) inside is (so_far k e lt))
     (get_or-set_same labels s.number label false inside ∙ is))
 
--- the same, of a start that was read there
-pub labels_more_at : (op : Op) (r : Owned) (labels : List Bool) (starts : List Start) (i : ℕ) (s : Start) (label : Bool)
-    → i < length starts → s ≡ get_or starts i s → s.number < length labels
-    → label ≡ differs (answer op) (items_of r) (item_at r s.number) → All (HasLabel op r labels) (take i starts)
-    → All (HasLabel op r (set labels s.number label)) (take (i + 1) starts)
-labels_more_at op r labels starts i s label less here inside is so_far =
-    subst (λ t. All (HasLabel op r (set labels t.number label)) (take (i + 1) starts)) (sym here)
-    (labels_more op r labels starts i s label less (subst (λ t. t.number < length labels) here inside)
-    (subst (λ t. label ≡ differs (answer op) (items_of r) (item_at r t.number)) here is) so_far)
-
 -- ---- all starts
 all_has : {A : Type 0} (P : A → Type 0) (xs : List A) → ((x : A) → Has xs x → P x) → All P xs
 all_has P xs f k d less = f (get_or xs k d) (has_get xs k d less)

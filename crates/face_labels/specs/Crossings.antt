@@ -2,17 +2,12 @@
 use Rattle.std.specs.Prelude.{◌≡◌, ℕ, ◌<◌, ℤ, IsTrue, List, length, slice_index_or}
 use Rattle.lay_point.specs.declared.point.Point.{Point}
 use Rattle.face_labels.specs.declared.crossing.Crossing.{Crossing}
-use Rattle.face_labels.specs.Lines.{nowhere}
 use Rattle.face_labels.specs.Picked.{picked}
 use Rattle.face_labels.specs.Rows.{crosses_row, crossing, rise}
 
 -- the numbers of those that cross the row, where the first has this number
 abbrev pub crossing_numbers : ℤ → ℕ → List (Point × Point) → List ℕ
 crossing_numbers row = picked (crosses_row row) (λ n e. n)
-
--- those of the numbers whose edges cross the row
-abbrev pub numbers_crossing : List (Point × Point) → ℤ → List ℕ → List ℕ
-numbers_crossing edges row = picked (λ n. crosses_row row (slice_index_or edges n nowhere)) (λ k n. n) 0
 
 -- the place is that of the edge of its number
 pub record IsCrossingOf (edges : List (Point × Point)) (row : ℤ) (c : Crossing) : Type 0 where

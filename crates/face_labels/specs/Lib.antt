@@ -7,5 +7,3 @@ pub mod Operations
 pub mod Picked
 pub mod Rows
 pub mod Starts
-pub mod Strips
-pub use Rattle.label_laws.specs.Labels

@@ -10,7 +10,6 @@ use crate::band::Band;
 use crate::line::Line;
 use crate::op::Op;
 use crate::start::{Start, starts};
-use crate::strip::Strip;
 use lay_point::{Edge, NoMemory};
 use snap_chains::CleanEdges;
 use std::alloc::{AllocError, Global};
@@ -33,11 +32,7 @@ pub fn label(
 }
 
 /// Returns for each edge whether the operation's answers differ on its two sides, if it is one of
-/// those that begin at the starts.
-///
-/// Takes less time where they are in order: of n starts, some √n have a strip together, so all
-/// edges are regarded √n times. A row then regards the edges of its strip alone, which are its own
-/// and those few that begin or end in the strip.
+/// those that begin at the starts. Takes less time where they are in order.
 fn labels_at(
     alloc: Global,
     edges: &CleanEdges,
@@ -53,14 +48,10 @@ fn labels_at(
     let Some(first) = starts.first() else {
         return Ok(labels);
     };
-    let together = starts.len().isqrt();
-    let mut strip = Strip::new(alloc, edges.edges(), first.y, first.y)?;
-    let mut line = Line::new(alloc, &mut strip, edges, first.y, first.y)?;
-    for index in 0..starts.len() {
-        let start = starts[index];
+    let mut line = Line::new(alloc, edges, first.y)?;
+    for start in starts {
         if start.y != line.row {
-            let last = starts[index.saturating_add(together).min(starts.len() - 1)];
-            line = Line::new(alloc, &mut strip, edges, start.y, last.y)?;
+            line = Line::new(alloc, edges, start.y)?;
         }
         labels[start.number] = line.differs(edges, start.number, op)?;
     }

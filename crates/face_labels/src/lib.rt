@@ -11,8 +11,7 @@
 //! each row in which an edge begins that is to be labelled, a gap moves between the row's edges to
 //! where the edge is judged, and each edge that it passes turns its owners in or out
 //! (`specs/Lines.antt`). So the shapes that hold at the gap are those that hold right of the edge,
-//! and with its owners turned those on its other side. A row's edges are looked for among those of
-//! a strip of rows, and only a strip's among all (`specs/Strips.antt`).
+//! and with its owners turned those on its other side.
 //!
 //! ```
 //! let clean = round(rt, alloc, &rings)?;
@@ -31,7 +30,6 @@ mod line;
 mod op;
 mod rows;
 mod start;
-mod strip;
 #[cfg(test)]
 mod tests;
 mod upward;

@@ -6,13 +6,11 @@ ghost use Rattle.face_labels.specs.Beside.{is_right_of};
 ghost use Rattle.face_labels.specs.Lines.{AreInside, BeginsAt, EndsBefore, IsLine, TurnsListed, edge_at, item_at, owners_at};
 ghost use Rattle.face_labels.specs.Operations.{answer};
 ghost use Rattle.face_labels.specs.Rows.{upward};
-ghost use Rattle.face_labels.specs.Strips.{IsStrip};
 
 use crate::beside::is_right_of;
 use crate::inside::Inside;
 use crate::op::Op;
-use crate::rows::row_edges_of_strip;
-use crate::strip::Strip;
+use crate::rows::row_edges;
 use lay_point::{Edge, NoMemory};
 use snap_chains::CleanEdges;
 use std::alloc::{AllocError, Global};
@@ -28,22 +26,12 @@ pub(crate) struct Line {
 }
 
 impl Line {
-    /// Returns the line of the row, with the gap right of all edges. If the strip hasn't the row, it
-    /// becomes that of the rows from there to `last`.
-    pub fn new(
-        alloc: Global,
-        strip: &mut Strip,
-        edges: &CleanEdges,
-        row: i32,
-        last: i32,
-    ) -> Result<Line, NoMemory>
-        requires { IsStrip edges.now.0 strip.old }
+    /// Returns the line of the row, with the gap right of all edges.
+    pub fn new(alloc: Global, edges: &CleanEdges, row: i32) -> Result<Line, NoMemory>
         ensures line { IfOk result (IsLine edges.now) }
         ensures row { IfOk result (λ line. line.row ≡ row) }
-        ensures strip { OnOk result (IsStrip edges.now.0 strip.new) }
     {
-        strip.cover(alloc, edges.edges(), row, last)?;
-        let numbers = row_edges_of_strip(alloc, edges, strip, row)?;
+        let numbers = row_edges(alloc, edges, row)?;
         let gap = numbers.len();
         let inside = Inside::new(alloc);
         Ok(Line {

@@ -2,7 +2,6 @@
 ghost use Rattle.std.specs.Prelude.{◌≡◌, IsTrue};
 ghost use Rattle.lay_point.specs.Edges.{is_before};
 ghost use Rattle.face_labels.specs.Rows.{crosses_row, upward};
-ghost use Rattle.face_labels.specs.Strips.{crosses_rows};
 
 use lay_point::{Edge, Point};
 
@@ -26,12 +25,4 @@ pub(crate) fn crosses_row(edge: Edge, row: i32) -> bool
 {
     let (low, high) = upward(edge);
     low.y <= row && row < high.y
-}
-
-/// Returns whether the edge crosses one of the rows from `low` to `high`.
-pub(crate) fn crosses_rows(edge: Edge, low: i32, high: i32) -> bool
-    ensures { result ≡ crosses_rows low high edge }
-{
-    let (lower, upper) = upward(edge);
-    lower.y <= high && low < upper.y
 }

@@ -6,7 +6,6 @@ pub mod IdOrder
 pub mod IdText
 pub mod Ids
 pub mod Items
-pub mod Kept
 pub mod Layout
 pub mod LayoutWith
 pub mod Lent

@@ -1,3 +1,2 @@
 pub mod Combining
 pub mod Faults
-pub use Rattle.shape_laws.specs.Shapes

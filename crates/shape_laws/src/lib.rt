@@ -11,6 +11,5 @@ mod limits;
 #[cfg(test)]
 mod tests;
 
-pub use face_labels::Op;
 pub use laws::{parts_are_unique, shapes_tell_places};
 pub use limits::MAX_SEGMENTS;

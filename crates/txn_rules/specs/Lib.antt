@@ -16,5 +16,3 @@ pub mod Covers
 pub mod Own
 pub mod Laws
 pub mod Transactions
-pub use Rattle.bool_rules.specs.Booleans
-pub use Rattle.bool_rules.specs.Op

@@ -6,4 +6,3 @@ pub mod Searching
 pub mod Moving
 pub mod Using
 pub mod Marking
-pub mod Shaping

@@ -10,27 +10,25 @@ use std::alloc::Global;
 use std::marker::Model;
 use txn_rules::{Done, Element};
 
-/// What an accepted command writes: items, or a symbol.
+/// What an accepted command writes: at most one item or one symbol.
 #[derive(Drop)]
 pub(crate) enum Written {
     /// It writes nothing.
     Nothing,
     /// Under this id stands this item from then on, or none.
     Item(ItemId, Option<Item>),
-    /// The same of each of these ids, one behind the other.
-    Items(Vec<(ItemId, Option<Item>)>),
     /// The symbol of this number has this slot from then on, or goes.
     Symbol(u32, Option<CellSlot>),
 }
 
-/// The answer to a command, the elements that it touches, what it writes, and how many items it makes.
+/// The answer to a command, the elements that it touches, what it writes, and whether it makes an item.
 /// Contracts see the act.
 #[derive(Drop)]
 pub(crate) struct Act {
     pub(crate) done: Done,
     pub(crate) elements: Vec<Element>,
     pub(crate) written: Written,
-    pub(crate) made: u32,
+    pub(crate) makes: bool,
 }
 
 impl Model for Act {
@@ -53,7 +51,7 @@ pub(crate) fn make_act(new: ItemId, item: Item, touched: Vec<Element>) -> Act
         done: Done::Made(new),
         elements: touched,
         written: Written::Item(new, Some(item)),
-        made: 1,
+        makes: true,
     }
 }
 
@@ -65,7 +63,7 @@ pub(crate) fn change_act(alloc: Global, id: ItemId, item: Option<Item>) -> Resul
         done: Done::Plain,
         elements: one(alloc, Element::Item(id))?,
         written: Written::Item(id, item),
-        made: 0,
+        makes: false,
     })
 }
 
@@ -77,7 +75,7 @@ pub(crate) fn look_act(alloc: Global, id: ItemId, item: Item) -> Result<Act, NoM
         done: Done::Found(item),
         elements: one(alloc, Element::Item(id))?,
         written: Written::Nothing,
-        made: 0,
+        makes: false,
     })
 }
 
@@ -89,7 +87,7 @@ pub(crate) fn make_cell_act(alloc: Global, number: u32) -> Result<Act, NoMemory>
         done: Done::Plain,
         elements: one(alloc, Element::Cell(number))?,
         written: Written::Symbol(number, Some(CellSlot::Made)),
-        made: 0,
+        makes: false,
     })
 }
 
@@ -105,7 +103,7 @@ pub(crate) fn drop_cell_act(alloc: Global, number: u32) -> Result<Act, NoMemory>
         done: Done::Plain,
         elements,
         written: Written::Symbol(number, None),
-        made: 0,
+        makes: false,
     })
 }
 

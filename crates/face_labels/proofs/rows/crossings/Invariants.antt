@@ -1,6 +1,6 @@
 use Rattle.face_labels.proofs.RowLemmas.{AreCrossings}
 use Rattle.face_labels.proofs.rows.crossings.Given as goal
 
--- where the edges of those of the numbers so far cross the row
+-- where those of the edges so far cross the row
 abbrev pub invariant-loop-number : goal.invariant-loop-number
-invariant-loop-number l = AreCrossings l.edges l.fn.row l.among l.number-index l.crossings.items
+invariant-loop-number l = AreCrossings l.edges l.fn.row l.number l.crossings.items

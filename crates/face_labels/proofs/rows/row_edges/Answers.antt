@@ -1,22 +1,14 @@
 -- The comparison of places is an order, and the edges of a row have different places.
-use Rattle.std.proofs.Common.{◌≡◌, ◌<◌, ◌*ℤ◌, length, map, to_z, of_z, w32, refl, sym, ap, subst, ◌∙◌, rules}
+use Rattle.std.proofs.Common.{◌≡◌, ◌*ℤ◌, map, to_z, of_z, w32, refl, sym, ap, subst, ◌∙◌, rules}
 use Rattle.std.specs.Ordering.{int_cmp, is_lt}
 use Rattle.std.specs.Prelude.{All}
 use Rattle.std.proofs.lemmas.Fn.{always_returns_same}
 use Rattle.std.proofs.lemmas.Int.{to_z-of_z}
 use Rattle.face_labels.specs.declared.crossing.Crossing.{Crossing}
-use Rattle.face_labels.specs.Crossings.{IsCrossingOf, numbers_crossing}
+use Rattle.face_labels.specs.Crossings.{IsCrossingOf, crossing_numbers}
 use Rattle.face_labels.specs.Rows.{AreRowEdges}
 use Rattle.face_labels.proofs.RowLemmas.{compared, is_left, ranks, row_edges_of}
-use Rattle.face_labels.proofs.StripLemmas.{strip_given, strip_has_row}
-use Rattle.face_labels.proofs.rows.row_edges_of_strip.Goals as goal
-
-pub crossings-requires : goal.crossings-requires
-crossings-requires c =
-    let edges = c.args.edges.now.0 in
-    let strip = c.args.strip.now in
-    coe 1 0 (i. All (λ n. n < length (c.edges.ensures.value i)) ((c.as_slice.ensures.value ∙ c.requires.strip) i))
-    (strip_given strip.low strip.high edges)
+use Rattle.face_labels.proofs.rows.row_edges.Goals as goal
 
 pub returns : goal.returns
 returns c =
@@ -29,10 +21,7 @@ returns c =
     ))) in
     let at : to_z w32 (of_z w32 c.args.row) ≡ c.args.row = to_z-of_z w32 c.args.row c.ranges.row in
     let same : c.edges.result.now ≡ edges = c.edges.ensures.value in
-    let strip = c.args.strip.now in
-    let crossed = c.in_ok-crossings.ensures.numbers
-    ∙ (λ i. numbers_crossing (same i) (at i) ((c.as_slice.ensures.value ∙ c.requires.strip) i))
-    ∙ strip_has_row strip.low c.args.row strip.high edges c.requires.low c.requires.high in
+    let crossed = c.in_ok-crossings.ensures.numbers ∙ (λ i. crossing_numbers (at i) 0 (same i)) in
     let places = coe 0 1 (i. All (IsCrossingOf (same i) (at i)) c.in_ok-crossings.crossings.items) c.in_ok-crossings.ensures.places in
     let rows = row_edges_of edges c.args.row c.edges.ensures.rising c.edges.ensures.clean c.in_ok-crossings.crossings.items sorted
     crossed places
