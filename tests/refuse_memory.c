@@ -5,6 +5,7 @@
 #include <errno.h>
 #include <stdio.h>
 #include <stdlib.h>
+#include <unistd.h>
 
 static long growths;
 
@@ -42,7 +43,7 @@ int posix_memalign(void **made, size_t align, size_t size) {
     return is_refused() ? ENOMEM : next(made, align, size);
 }
 
-__attribute__((destructor)) static void tell(void) {
+static void tell(void) {
     const char *name = getenv("GROWTHS");
     long told = growths;
     FILE *file = name == NULL ? NULL : fopen(name, "w");
@@ -50,4 +51,16 @@ __attribute__((destructor)) static void tell(void) {
         fprintf(file, "%ld\n", told);
         fclose(file);
     }
+}
+
+// A program that may start threads ends by `_exit`, which runs no destructors.
+void _exit(int status) {
+    void (*next)(int) = dlsym(RTLD_NEXT, "_exit");
+    tell();
+    next(status);
+    __builtin_unreachable();
+}
+
+__attribute__((destructor)) static void tell_at_end(void) {
+    tell();
 }

@@ -3,7 +3,7 @@ use Rattle.std.proofs.Common.{◌≡◌, inl, inr, ℕ, ◌+◌, Bool, true, fal
 use Rattle.lay_point.specs.declared.point.Point.{Point}
 use Rattle.lay_point.proofs.Members.{Has, contains}
 use Rattle.snap_chains.specs.Rounded.{Owned}
-use Rattle.label_laws.specs.Labels.{Item, differs, items_of}
+use Rattle.face_labels.specs.Labels.{Item, differs, items_of}
 use Rattle.face_labels.specs.declared.band.Band.{Band}
 use Rattle.face_labels.specs.declared.op.Op.{Op}
 use Rattle.face_labels.specs.Bands.{begins_in, labelled}

@@ -1,7 +1,7 @@
 -- The labels of all edges.
 use Rattle.std.specs.Prelude.{Bool, List, map}
 use Rattle.snap_chains.specs.Rounded.{Owned}
-use Rattle.label_laws.specs.Labels.{differs, items_of}
+use Rattle.face_labels.specs.Labels.{differs, items_of}
 use Rattle.face_labels.specs.declared.op.Op.{Op}
 use Rattle.face_labels.specs.Operations.{answer}
 

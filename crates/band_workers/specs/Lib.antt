@@ -1,1 +1,2 @@
 pub mod Labels
+pub use Rattle.face_labels.specs.declared.op.Op

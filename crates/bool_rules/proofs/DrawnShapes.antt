@@ -12,14 +12,14 @@ use Rattle.lay_point.specs.Rings.{IsRing}
 use Rattle.lay_point.proofs.Members.{Has, contains}
 use Rattle.lay_items.specs.Sound.{IsDrawn}
 use Rattle.lay_flat.specs.Flat.{FlatRing, IsFlat}
-use Rattle.label_laws.proofs.Upward.{operation_among}
-use Rattle.face_labels.specs.declared.op.Op.{Op}
-use Rattle.face_labels.specs.Operations.{answer, edges_of_op}
+use Rattle.shape_laws.proofs.Upward.{operation_among}
+use Rattle.shape_laws.specs.Op.{Op}
+use Rattle.shape_laws.specs.Operations.{answer, edges_of_op}
 use Rattle.link_laws.proofs.CountLemmas.{AreUndirected}
 use Rattle.link_laws.proofs.RingLaws.{AreSound, ring_from_sound}
 use Rattle.link_laws.proofs.StepLemmas.{all_sound}
 use Rattle.part_laws.specs.Parts.{AreParts, labelled}
-use Rattle.round_laws.proofs.InRange.{rounded_is_in_range}
+use Rattle.shape_laws.proofs.InRange.{rounded_is_in_range}
 use Rattle.shape_laws.specs.declared.limits.TheConstants.{MAX_SEGMENTS}
 use Rattle.shape_laws.specs.Shapes.{Rings, fits, is_short, op_rings, owned_of, rounded_inputs, segments_of, shapes_of}
 use Rattle.shape_laws.proofs.LabelLemmas.{parts_exist}

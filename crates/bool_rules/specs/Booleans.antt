@@ -8,7 +8,7 @@ use Rattle.lay_flat.specs.declared.fault.FlatFault.{FlatFault}
 use Rattle.lay_flat.specs.declared.fault.FlatFault.TheVariants.{TooMany}
 use Rattle.lay_flat.specs.Flat.{FlatRing}
 use Rattle.lay_flat.specs.Flattening.{and_then, flat_of}
-use Rattle.face_labels.specs.declared.op.Op.{Op}
+use Rattle.shape_laws.specs.Op.{Op}
 use Rattle.shape_laws.specs.Shapes.{Rings, fits, shapes_of}
 
 -- the shapes of an operation on two flattenings, where they keep the limits

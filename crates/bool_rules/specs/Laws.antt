@@ -9,8 +9,8 @@ use Rattle.lay_items.specs.Sound.{IsDrawn, IsSound}
 use Rattle.lay_flat.specs.Flat.{FlatRing, IsFlat}
 use Rattle.lay_flat.specs.Flattening.{flat_of}
 use Rattle.flat_laws.specs.Laws.{HaveSameBelow}
-use Rattle.face_labels.specs.declared.op.Op.{Op}
-use Rattle.face_labels.specs.Operations.{op_at}
+use Rattle.shape_laws.specs.Op.{Op}
+use Rattle.shape_laws.specs.Operations.{op_at}
 use Rattle.shape_laws.specs.Shapes.{Rings, rounded_inputs}
 use Rattle.bool_rules.specs.Booleans.{bool_shapes}
 

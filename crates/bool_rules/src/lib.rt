@@ -9,3 +9,4 @@
 mod laws;
 
 pub use laws::booleans_have_laws;
+pub use shape_laws::Op;

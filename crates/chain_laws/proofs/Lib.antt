@@ -7,3 +7,6 @@ pub mod Walks
 pub mod Rounded
 pub mod Undirected
 pub mod Edges
+pub use Rattle.edge_laws.proofs.Order
+pub use Rattle.edge_laws.proofs.Places
+pub use Rattle.edge_laws.proofs.SharedEnds

@@ -3,3 +3,4 @@ pub mod Parity
 pub mod Rising
 pub mod Rounding
 pub mod Undirected
+pub use Rattle.edge_laws.specs.Edges

@@ -7,10 +7,10 @@ use Rattle.std.proofs.lemmas.Bool.{false≢true}
 use Rattle.lay_point.specs.declared.point.Point.{Point}
 use Rattle.lay_point.specs.Points.{IsBefore}
 use Rattle.snap_pixels.specs.Segments.{AreParallel}
-use Rattle.edge_laws.specs.Edges.{IsEnd, IsOn, IsSharedEnd}
+use Rattle.chain_laws.specs.Edges.{IsEnd, IsOn, IsSharedEnd}
 use Rattle.int_laws.proofs.Polynomials.{#, lit, ◌⊕◌, ◌⊖◌, ◌⊗◌, identity}
 use Rattle.int_laws.proofs.Signs.{linear, below_or_same, times_lt, cancel_same, cancel_zero}
-use Rattle.edge_laws.proofs.Order.{same_point}
+use Rattle.chain_laws.proofs.Order.{same_point}
 use Rattle.chain_laws.proofs.ChainOrder.{before_is_strict, before_total}
 use Rattle.edge_test.specs.Meeting.{MeetAtEnds}
 use Rattle.edge_test.proofs.Lines.{parallels, one, first_on, last_on, inside}

@@ -2,3 +2,13 @@ pub mod Tests
 pub mod Lines
 pub mod Slanted
 pub mod Level
+pub use Rattle.chain_laws.proofs.Members
+pub use Rattle.chain_laws.proofs.Rising
+pub use Rattle.chain_laws.proofs.Undirected
+pub use Rattle.chain_laws.proofs.Parity
+pub use Rattle.chain_laws.proofs.Chains
+pub use Rattle.chain_laws.proofs.Rounded
+pub use Rattle.chain_laws.proofs.SharedEnds
+pub use Rattle.chain_laws.proofs.Edges
+pub use Rattle.chain_laws.proofs.ChainOrder
+pub use Rattle.chain_laws.proofs.Places

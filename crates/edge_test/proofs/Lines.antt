@@ -2,10 +2,10 @@
 use Rattle.std.proofs.Common.{◌≡◌, inl, inr, [], ◌∷◌, ℤ, pos, ◌+ℤ◌, ◌-ℤ◌, ◌*ℤ◌, ◌≤ℤ◌, ◌<ℤ◌, refl, sym, subst, ◌∙◌, arith, ⊎_elim}
 use Rattle.lay_point.specs.declared.point.Point.{Point}
 use Rattle.lay_point.specs.Points.{IsBefore}
-use Rattle.edge_laws.specs.Edges.{IsBetween, IsEnd, IsOn}
+use Rattle.chain_laws.specs.Edges.{IsBetween, IsEnd, IsOn}
 use Rattle.int_laws.proofs.Polynomials.{#, lit, ◌⊕◌, ◌⊖◌, ◌⊗◌, identity}
 use Rattle.int_laws.proofs.Signs.{linear, below_or_not, nonnegative_product, cancel_nonnegative, zero_product}
-use Rattle.edge_laws.proofs.Places.{turned_on}
+use Rattle.chain_laws.proofs.Places.{turned_on}
 
 zero_sum : (p q s t v : ℤ) → v ≡ p *ℤ s +ℤ q *ℤ t → s ≡ pos 0 → t ≡ pos 0 → v ≡ pos 0
 zero_sum p q s t v e hs ht =

@@ -5,11 +5,11 @@ use Rattle.std.specs.Prelude.{is_some}
 use Rattle.std.proofs.lemmas.Bool.{false≢true}
 use Rattle.lay_point.specs.declared.point.Point.{Point}
 use Rattle.snap_pixels.specs.Segments.{along, AreParallel, Crosses, IsCommon, IsFraction}
-use Rattle.edge_laws.specs.Edges.{IsBetween, IsEnd, IsOn, IsSharedEnd}
+use Rattle.chain_laws.specs.Edges.{IsBetween, IsEnd, IsOn, IsSharedEnd}
 use Rattle.int_laws.proofs.Division.{rounded}
 use Rattle.int_laws.proofs.Polynomials.{#, ◌⊕◌, ◌⊖◌, ◌⊗◌, identity}
 use Rattle.int_laws.proofs.Signs.{linear, below_or_not, nonnegative_product, cancel_same}
-use Rattle.edge_laws.proofs.Places.{IsAlong, along_at_multiple, somewhere}
+use Rattle.chain_laws.proofs.Places.{IsAlong, along_at_multiple, somewhere}
 use Rattle.edge_test.specs.Meeting.{HaveCommon, MeetAtEnds, ShareEnd}
 use Rattle.edge_test.proofs.Lines.{only_zero, through}
 

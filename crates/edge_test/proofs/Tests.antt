@@ -7,7 +7,7 @@ use Rattle.lay_point.specs.Edges.{is_before}
 use Rattle.lay_point.specs.Points.{point_eq}
 use Rattle.lay_point.specs.Same.{point_eq-Decides}
 use Rattle.lay_point.specs.Points.{IsBefore}
-use Rattle.edge_laws.specs.Edges.{IsEnd}
+use Rattle.chain_laws.specs.Edges.{IsEnd}
 
 pub before_by_test : (p q : Point) → is_before p q ≡ true → IsBefore p q
 before_by_test p q e = grind (arith, ints)

@@ -1,7 +1,7 @@
 -- Places that two edges have in common.
 use Rattle.std.specs.Prelude.{◌⊎◌, ℤ, pos, ◌≤ℤ◌}
 use Rattle.lay_point.specs.declared.point.Point.{Point}
-use Rattle.edge_laws.specs.Edges.{IsEnd, IsOn, IsSharedEnd}
+use Rattle.chain_laws.specs.Edges.{IsEnd, IsOn, IsSharedEnd}
 
 -- the edges have no place in common but a point that is an end of both
 abbrev pub MeetAtEnds : Point × Point → Point × Point → Type 0

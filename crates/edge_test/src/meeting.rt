@@ -5,7 +5,7 @@ ghost use Rattle.lay_point.specs.Edges.{is_before};
 ghost use Rattle.lay_point.specs.declared.point.Point.{Point};
 ghost use Rattle.lay_point.specs.Points.{IsBefore};
 ghost use Rattle.snap_pixels.specs.Segments.{AreParallel, cross};
-ghost use Rattle.edge_laws.specs.Edges.{IsEnd};
+ghost use Rattle.chain_laws.specs.Edges.{IsEnd};
 ghost use Rattle.edge_test.specs.Meeting.{HaveCommon, MeetAtEnds, ShareEnd};
 
 use lay_point::{Edge, Point};

@@ -8,8 +8,8 @@ use Rattle.int_laws.proofs.Signs.{linear, times_lt}
 use Rattle.lay_point.specs.declared.point.Point.{Point}
 use Rattle.lay_point.specs.Parity.{distance_right, is_crossed, is_crossed_rising}
 use Rattle.snap_pixels.specs.Segments.{cross}
-use Rattle.side_laws.specs.Slides.{IsPlaceInside}
-use Rattle.side_laws.proofs.Rows.{IsInRow}
+use Rattle.label_laws.specs.Slides.{IsPlaceInside}
+use Rattle.label_laws.proofs.Rows.{IsInRow}
 use Rattle.face_labels.specs.Beside.{is_right_of, weight}
 use Rattle.face_labels.specs.Rows.{rise, upward}
 

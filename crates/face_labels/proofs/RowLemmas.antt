@@ -22,9 +22,9 @@ use Rattle.lay_point.specs.Rising.{IsRising}
 use Rattle.lay_point.proofs.EdgeOrder.{edges_are_strict}
 use Rattle.lay_point.proofs.Members.{Has, contains, has}
 use Rattle.lay_point.proofs.Rising.{IsStrictOrder, before_rest, rising_rest}
-use Rattle.edge_test.specs.Meeting.{MeetAtEnds}
-use Rattle.side_laws.proofs.Rows.{Spans, apart_in_row, fraction_le}
-use Rattle.side_laws.proofs.Sides.{meet_first, meet_second}
+use Rattle.snap_chains.specs.Meeting.{MeetAtEnds}
+use Rattle.label_laws.proofs.Rows.{Spans, apart_in_row, fraction_le}
+use Rattle.label_laws.proofs.Sides.{meet_first, meet_second}
 use Rattle.snap_chains.specs.Rounded.{AreClean}
 use Rattle.face_labels.specs.declared.crossing.Crossing.{Crossing}
 use Rattle.face_labels.specs.Crossings.{IsCrossingOf, crossing_numbers}

@@ -13,9 +13,9 @@ use Rattle.lay_point.specs.Points.{point_eq}
 use Rattle.lay_point.proofs.EdgeOrder.{before_by_test, before_is_strict}
 use Rattle.lay_point.proofs.Members.{Has, contains}
 use Rattle.lay_point.proofs.Parity.{parity-map, parity_agree}
-use Rattle.edge_test.specs.Meeting.{MeetAtEnds}
-use Rattle.side_laws.specs.Slides.{AreUpward}
-use Rattle.side_laws.proofs.Slide.{slide}
+use Rattle.snap_chains.specs.Meeting.{MeetAtEnds}
+use Rattle.label_laws.specs.Slides.{AreUpward}
+use Rattle.label_laws.proofs.Slide.{slide}
 use Rattle.snap_chains.specs.declared.owner.Owner.{Owner}
 use Rattle.snap_chains.specs.Rounded.{AreClean, AreEven, Owned, is_listed}
 use Rattle.label_laws.specs.Labels.{Item, answer_on, differs, differs_at, items_of, odd_of, shapes_of}

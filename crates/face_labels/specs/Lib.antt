@@ -7,3 +7,4 @@ pub mod Operations
 pub mod Picked
 pub mod Rows
 pub mod Starts
+pub use Rattle.label_laws.specs.Labels

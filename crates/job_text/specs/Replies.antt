@@ -1,8 +1,9 @@
 -- Replies as CIF comments, one a line: the session, the number of the step, and the answer in words.
-use Rattle.std.specs.Prelude.{ℕ, ◌+◌, List, [], ◌∷◌, ◌++◌, codes, decimal, Bool, if◌then◌else◌}
+use Rattle.std.specs.Prelude.{ℕ, ◌+◌, ◌-◌, List, [], ◌∷◌, ◌++◌, codes, decimal, Bool, if◌then◌else◌}
 use Rattle.std.specs.Fmt.{signed_decimal}
 use Rattle.lay_cells.specs.declared.cell_id.CellId.{CellId}
 use Rattle.lay_cells.specs.declared.cell_id.CellId.TheVariants.{Top, Symbol}
+use Rattle.lay_items.specs.declared.id.ItemId.{ItemId}
 use Rattle.lay_items.specs.declared.item.Item.{Item}
 use Rattle.lay_items.specs.declared.item.Item.TheVariants.{Placed, Shape}
 use Rattle.lay_items.specs.IdText.{item_text}
@@ -11,7 +12,8 @@ use Rattle.lay_point.specs.declared.turn.Quarter.{Quarter}
 use Rattle.lay_point.specs.declared.turn.Quarter.TheVariants.{R0, R90, R180, R270}
 use Rattle.lay_point.specs.declared.turn.Turn.{Turn}
 use Rattle.txn_rules.specs.declared.command.Done.{Done}
-use Rattle.txn_rules.specs.declared.command.Done.TheVariants.{Made, Plain, Found}
+use Rattle.txn_rules.specs.declared.command.Done.TheVariants.{Made, Several, Empty, Plain, Found}
+use Rattle.txn_rules.specs.Own.{id_from}
 use Rattle.txn_rules.specs.Refusals.{txn_text}
 use Rattle.undo_rules.specs.declared.log.BookFault.TheVariants.{Depends, Moved, Stale}
 use Rattle.session_steps.specs.declared.Reply.{Reply}
@@ -60,9 +62,15 @@ found_text (Shape cell layer rings) = codes "shape " ++ cell_text cell ++ codes 
 found_text (Placed cell target turn) =
     codes "placed " ++ cell_text cell ++ codes " " ++ decimal target ++ codes " " ++ turning_text turn ++ point_text turn.shift
 
+-- new items, so many from this id on: the first and the last
+unfoldable pub several_text : ItemId → ℕ → List ℕ
+several_text first count = codes "made " ++ item_text first ++ codes " to " ++ item_text (id_from first (count - 1))
+
 -- the answer of a command
 abbrev pub done_text : Done → List ℕ
 done_text (Made id) = codes "made " ++ item_text id
+done_text (Several first count) = several_text first count
+done_text Empty = codes "empty"
 done_text Plain = codes "done"
 done_text (Found item) = found_text item
 

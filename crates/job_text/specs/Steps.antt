@@ -1,6 +1,8 @@
 -- Step lines: a word that names the step, and the words that it takes.
 use Rattle.std.specs.Prelude.{ℕ, List, [], ◌∷◌, ◌++◌, codes, Bool, if◌then◌else◌, Option, None, Some, option_map, ℤ}
 use Rattle.std.specs.Str.{bytes_eq}
+use Rattle.txn_rules.specs.Op.{Op}
+use Rattle.txn_rules.specs.Op.TheVariants.{And, Or, Not, Xor}
 use Rattle.lay_cells.specs.declared.cell_id.CellId.{CellId}
 use Rattle.lay_cells.specs.declared.cells.TheConstants.{MAX_SYMBOL}
 use Rattle.lay_items.specs.declared.id.ItemId.{ItemId}
@@ -8,7 +10,8 @@ use Rattle.lay_point.specs.declared.point.Point.{Point}
 use Rattle.lay_point.specs.declared.turn.Quarter.{Quarter}
 use Rattle.lay_point.specs.Names.{layer_name_of}
 use Rattle.txn_rules.specs.declared.command.Command.{Command}
-use Rattle.txn_rules.specs.declared.command.Command.TheVariants.{Box, Poly, Delete, Move, SetLayer, Place, Look, MakeCell, DropCell}
+use Rattle.txn_rules.specs.declared.command.Command.TheVariants.{Bool as Combine, Box, Poly, Delete, Move, SetLayer, Place, Look, MakeCell}
+use Rattle.txn_rules.specs.declared.command.Command.TheVariants.{DropCell}
 use Rattle.txn_rules.specs.declared.command.TxnId.{TxnId}
 use Rattle.session_steps.specs.declared.Step.{Step}
 use Rattle.session_steps.specs.declared.Step.TheVariants.{Open, Do, Commit, Cancel, Undo, Redo}
@@ -126,6 +129,24 @@ place_of words = do
   shift ← point_at turning.1
   ended shift.1 (Place cell.0 target.0 (record { mirror = turning.0.0; quarter = turning.0.1; shift = shift.0 }))
 
+-- the operation on layers that this word names
+unfoldable pub op_of : Word → Option Op
+op_of name =
+    if bytes_eq name (codes "and") then Some And
+    else if bytes_eq name (codes "or") then Some Or
+    else if bytes_eq name (codes "not") then Some Not
+    else if bytes_eq name (codes "xor") then Some Xor
+    else None
+
+-- what an operation takes: the cell, the layers of the first and the second input, and the layer of the new shapes
+unfoldable pub bool_of : Op → List Word → Option Command
+bool_of op words = do
+  cell ← cell_at words
+  a ← layer_at cell.1
+  b ← layer_at a.1
+  out ← layer_at b.1
+  ended out.1 (Combine op cell.0 a.0 b.0 out.0)
+
 -- the command that this word names, other than `box` and `poly`, with the words that it takes
 unfoldable pub short_command : Word → List Word → Option Command
 short_command name words =
@@ -136,7 +157,7 @@ short_command name words =
     else if bytes_eq name (codes "place") then place_of words
     else if bytes_eq name (codes "mkcell") then option_map MakeCell (symbol_alone words)
     else if bytes_eq name (codes "rmcell") then option_map DropCell (symbol_alone words)
-    else None
+    else (op_of name >>= λ op. bool_of op words)
 
 -- the command that this word names, with the words that it takes
 unfoldable pub command_of : Word → List Word → Option Command

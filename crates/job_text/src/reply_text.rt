@@ -1,9 +1,9 @@
 //! Replies as comments of a CIF text.
 ghost use Rattle.std.specs.Prelude.{◌≡◌, ◌++◌, [], OnOk, Some};
-ghost use Rattle.job_text.specs.Replies.{answer_text, bar_text, cell_text, fault_text, found_text, point_text, points_text, replies_text, reply_text, rings_text, session_text, turning_text};
+ghost use Rattle.job_text.specs.Replies.{answer_text, bar_text, cell_text, fault_text, found_text, point_text, points_text, replies_text, reply_text, rings_text, session_text, several_text, turning_text};
 
 use lay_cells::CellId;
-use lay_items::Item;
+use lay_items::{Item, ItemId};
 use lay_point::{NoMemory, Point, Quarter, Ring, Sequence, Turn};
 use session_steps::{Reply, StepFault};
 use std::fmt::{self, Display, Formatter};
@@ -58,6 +58,8 @@ fn push_answer(bytes: &mut Vec<u8>, reply: &Reply) -> Result<(), NoMemory>
         Reply::Done(Done::Found(item)) => push_found(bytes, item),
         Reply::Opened(txn) => write!(bytes, "opened {txn}").map_err(|_| NoMemory),
         Reply::Done(Done::Made(id)) => write!(bytes, "made {id}").map_err(|_| NoMemory),
+        Reply::Done(Done::Several { first, count }) => push_several(bytes, *first, *count),
+        Reply::Done(Done::Empty) => write!(bytes, "empty").map_err(|_| NoMemory),
         Reply::Done(Done::Plain) => write!(bytes, "done").map_err(|_| NoMemory),
         Reply::Committed(_) => write!(bytes, "committed").map_err(|_| NoMemory),
         Reply::Cancelled => write!(bytes, "cancelled").map_err(|_| NoMemory),
@@ -68,6 +70,16 @@ fn push_answer(bytes: &mut Vec<u8>, reply: &Reply) -> Result<(), NoMemory>
             write!(bytes, "{refusal}").map_err(|_| NoMemory)
         }
     }
+}
+
+/// Appends the words of new items, so many from this id on. No sum overflows 64 bits.
+#[tactic(auto, unfolding(crate::specs::Replies::several_text))]
+fn push_several(bytes: &mut Vec<u8>, first: ItemId, count: u32) -> Result<(), NoMemory>
+    ensures { OnOk result (bytes.new.items ≡ bytes.old.items ++ several_text first count) }
+{
+    let ItemId { session, txn, seq } = first;
+    let last = u64::from(seq) + u64::from(count.saturating_sub(1));
+    write!(bytes, "made {first} to {session}.{txn}.{last}").map_err(|_| NoMemory)
 }
 
 /// Appends the words of an item that was looked at.

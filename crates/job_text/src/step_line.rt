@@ -1,7 +1,7 @@
 //! Step lines.
 ghost use Rattle.std.specs.Prelude.{◌≡◌, Ok, [], ◌++◌, OnOk};
 ghost use Rattle.lay_point.specs.Memory.{IsAnswer};
-ghost use Rattle.job_text.specs.Steps.{box_of, command_of, layer_of, move_of, place_of, points_from, poly_of, short_command, step_named, step_of};
+ghost use Rattle.job_text.specs.Steps.{bool_of, box_of, command_of, layer_of, move_of, op_of, place_of, points_from, poly_of, short_command, step_named, step_of};
 ghost use Rattle.job_text.specs.Words.{words};
 
 use crate::fields::{
@@ -12,7 +12,7 @@ use crate::words::split_word;
 use lay_point::{LayerName, NoMemory, Point, Sequence, Turn};
 use session_steps::Step;
 use std::alloc::Global;
-use txn_rules::Command;
+use txn_rules::{Command, Op};
 
 /// The step that the words of a line say, `None` where they say none.
 #[tactic(auto, unfolding(crate::specs::Steps::step_of))]
@@ -88,7 +88,8 @@ fn short_command(name: &[u8], line: &[u8]) -> Option<Command>
     if name == "rmcell".as_bytes() {
         return symbol_alone(line).map(Command::DropCell);
     }
-    None
+    let op = op_of(name)?;
+    bool_of(op, line)
 }
 
 /// The command `box`: the cell, the layer and two opposite corners.
@@ -181,4 +182,42 @@ fn place_of(line: &[u8]) -> Option<Command>
         shift,
     };
     ended(behind, Command::Place { cell, target, turn })
+}
+
+/// The operation on layers of this name.
+#[tactic(auto, unfolding(crate::specs::Steps::op_of))]
+fn op_of(name: &[u8]) -> Option<Op>
+    ensures { result ≡ op_of name.now }
+{
+    match name {
+        b"and" => Some(Op::And),
+        b"or" => Some(Op::Or),
+        b"not" => Some(Op::Not),
+        b"xor" => Some(Op::Xor),
+        _ => None,
+    }
+}
+
+/// An operation on layers: the cell, the layers of both inputs, and that of the new shapes.
+#[tactic(auto, unfolding(crate::specs::Steps::bool_of))]
+fn bool_of(op: Op, line: &[u8]) -> Option<Command>
+    ensures { result ≡ bool_of op (words line.now) }
+{
+    let (cell, behind) = cell_at(line)?;
+    let (word, behind) = split_word(behind)?;
+    let a = LayerName::new(word)?;
+    let (word, behind) = split_word(behind)?;
+    let b = LayerName::new(word)?;
+    let (word, behind) = split_word(behind)?;
+    let out = LayerName::new(word)?;
+    ended(
+        behind,
+        Command::Bool {
+            op,
+            cell,
+            a,
+            b,
+            out,
+        },
+    )
 }

@@ -14,7 +14,7 @@ use Rattle.lay_point.specs.Edges.{same_edge, touches}
 use Rattle.lay_point.specs.Parity.{xor, parity, distance_right, is_crossed}
 use Rattle.lay_point.proofs.Members.{Has}
 use Rattle.lay_point.proofs.Parity.{parity_agree, parity_none, parity-xor}
-use Rattle.edge_test.specs.Meeting.{MeetAtEnds}
+use Rattle.snap_chains.specs.Meeting.{MeetAtEnds}
 use Rattle.snap_chains.specs.declared.owner.Input.{Input}
 use Rattle.snap_chains.specs.declared.owner.Input.TheVariants.{First, Second}
 use Rattle.snap_chains.specs.declared.owner.Owner.{Owner}

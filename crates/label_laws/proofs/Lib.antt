@@ -4,3 +4,6 @@ pub mod Shapes
 pub mod Places
 pub mod Upward
 pub mod Vertex
+pub use Rattle.side_laws.proofs.Rows
+pub use Rattle.side_laws.proofs.Sides
+pub use Rattle.side_laws.proofs.Slide

@@ -6,7 +6,7 @@ use Rattle.int_laws.proofs.Polynomials.{#, lit, ◌⊕◌, ◌⊖◌, ◌⊗◌,
 use Rattle.lay_point.specs.declared.point.Point.{Point}
 use Rattle.lay_point.specs.Edges.{touches}
 use Rattle.lay_point.specs.Parity.{parity, is_crossed}
-use Rattle.edge_test.specs.Meeting.{MeetAtEnds}
+use Rattle.snap_chains.specs.Meeting.{MeetAtEnds}
 use Rattle.snap_chains.specs.declared.owner.Owner.{Owner}
 use Rattle.snap_chains.specs.Rounded.{is_listed}
 use Rattle.label_laws.specs.Labels.{Item, answer_at, differs}

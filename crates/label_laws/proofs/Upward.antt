@@ -13,7 +13,7 @@ use Rattle.lay_point.proofs.EdgeOrder.{before_by_test, before_is_strict, edges_a
 use Rattle.lay_point.proofs.Members.{Has, has, contains}
 use Rattle.lay_point.proofs.Parity.{parity-map, parity_agree}
 use Rattle.lay_point.proofs.Rising.{before_rest, rising_rest}
-use Rattle.edge_test.specs.Meeting.{MeetAtEnds}
+use Rattle.snap_chains.specs.Meeting.{MeetAtEnds}
 use Rattle.snap_chains.specs.declared.owner.Owner.{Owner}
 use Rattle.snap_chains.specs.Rounded.{AreClean, IsRounded, Owned, is_listed}
 use Rattle.label_laws.specs.Labels.{Item, answer_at, answer_on, differs, differs_at, edges_of_operation, items_of, odd_of, shapes_of}

@@ -13,9 +13,9 @@ use Rattle.lay_point.specs.Points.{point_eq}
 use Rattle.lay_point.proofs.EdgeOrder.{same_by_test}
 use Rattle.lay_point.proofs.Members.{Has}
 use Rattle.lay_point.proofs.Parity.{parity_agree, parity_none, parity-xor, xor_self}
-use Rattle.edge_laws.specs.Edges.{IsBetween, IsEnd}
-use Rattle.edge_test.specs.Meeting.{MeetAtEnds}
-use Rattle.edge_test.proofs.Level.{other_way_round}
+use Rattle.snap_chains.specs.Edges.{IsBetween, IsEnd}
+use Rattle.snap_chains.specs.Meeting.{MeetAtEnds}
+use Rattle.snap_chains.proofs.Level.{other_way_round}
 use Rattle.snap_chains.specs.declared.owner.Owner.{Owner}
 use Rattle.snap_chains.specs.Rounded.{is_listed}
 use Rattle.label_laws.specs.Labels.{Item, answer_on, differs, odd_of, shapes_of}

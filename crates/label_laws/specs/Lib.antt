@@ -1,2 +1,3 @@
 pub mod Labels
 pub mod Laws
+pub use Rattle.side_laws.specs.Slides

@@ -7,7 +7,7 @@ use Rattle.snap_chains.specs.declared.owner.Input.TheVariants.{First, Second}
 use Rattle.snap_chains.specs.declared.owner.Owner.{Owner}
 use Rattle.snap_chains.specs.Round.{IsRoundOf}
 use Rattle.snap_chains.specs.Rounded.{Owned}
-use Rattle.round_laws.proofs.Exists.{rounding_is_computed}
+use Rattle.shape_laws.proofs.Exists.{rounding_is_computed}
 use Rattle.shape_laws.specs.Shapes.{owned_by, owned_of, rounded_inputs}
 use Rattle.shape_laws.proofs.TurningLemmas.{owned_are_rings}
 

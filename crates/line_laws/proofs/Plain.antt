@@ -8,6 +8,8 @@ use Rattle.std.proofs.lemmas.Bool.Decides.{nat_tests}
 use Rattle.std.proofs.lemmas.Int.{ints}
 use Rattle.std.proofs.lemmas.List.{length-append}
 use Rattle.std.proofs.lemmas.List.Folds.{list_all-append}
+use Rattle.txn_rules.specs.Op.{Op}
+use Rattle.txn_rules.specs.Op.TheVariants.{And, Not, Or, Xor}
 use Rattle.lay_cells.specs.declared.cell_id.CellId.{CellId}
 use Rattle.lay_cells.specs.declared.cell_id.CellId.TheVariants.{Symbol, Top}
 use Rattle.lay_items.specs.declared.id.ItemId.{ItemId}
@@ -17,14 +19,15 @@ use Rattle.lay_point.specs.declared.turn.Quarter.{Quarter}
 use Rattle.lay_point.specs.declared.turn.Quarter.TheVariants.{R0, R90, R180, R270}
 use Rattle.lay_point.specs.Names.{is_digit, is_layer_name, is_name_byte}
 use Rattle.txn_rules.specs.declared.command.Command.{Command}
-use Rattle.txn_rules.specs.declared.command.Command.TheVariants.{Box, Delete, DropCell, Look, MakeCell, Move, Place, Poly, SetLayer}
+use Rattle.txn_rules.specs.declared.command.Command.TheVariants.{Bool as Combine, Box, Delete, DropCell, Look, MakeCell, Move, Place, Poly}
+use Rattle.txn_rules.specs.declared.command.Command.TheVariants.{SetLayer}
 use Rattle.txn_rules.specs.declared.command.TxnId.{TxnId}
 use Rattle.session_steps.specs.declared.Step.{Step}
 use Rattle.session_steps.specs.declared.Step.TheVariants.{Cancel, Commit, Do, Open, Redo, Undo}
 use Rattle.job_text.specs.Steps.{Word}
 use Rattle.line_laws.specs.Written.{CanBeSaid, CanSay, IsCell, IsCoordinate, IsItem, IsLayer}
 use Rattle.line_laws.specs.Written.{IsPoint, IsTxn, cell_word, command_words, degrees, item_word}
-use Rattle.line_laws.specs.Written.{point_words, step_words, txn_word}
+use Rattle.line_laws.specs.Written.{op_word, point_words, step_words, txn_word}
 use Rattle.line_laws.proofs.Digits.{decimal_is}
 use Rattle.line_laws.proofs.Joined.{IsWord, is_plain}
 
@@ -116,6 +119,12 @@ two_words p words is more = (signed_word p.x is.column, (signed_word p.y is.row,
 last_two : (p : Point) → IsPoint p → AllByRecursion IsWord (point_words p)
 last_two p is = two_words p [] is tt
 
+op_is_word : (op : Op) → IsWord (op_word op)
+op_is_word And = record { some = omega arith; plain = refl }
+op_is_word Or = record { some = omega arith; plain = refl }
+op_is_word Not = record { some = omega arith; plain = refl }
+op_is_word Xor = record { some = omega arith; plain = refl }
+
 command_is_words : (command : Command) → CanSay command → AllByRecursion IsWord (command_words command)
 command_is_words (Box cell layer a b) is =
     let rest = two_words a (point_words b) is.2 (last_two b is.3) in
@@ -137,6 +146,8 @@ command_is_words (Place cell target turn) is =
       (cell_is_word cell is.0, (number, (turning_is_word turn.mirror turn.quarter, rest))),
     )
 command_is_words (Look id) is = (record { some = omega arith; plain = refl }, (item_is_word id is, tt))
+command_is_words (Combine op cell a b out) is =
+    (op_is_word op, (cell_is_word cell is.0, (layer_word a is.1, (layer_word b is.2, (layer_word out is.3, tt)))))
 command_is_words (MakeCell number) is =
     (record { some = omega arith; plain = refl }, (decimal_word number (omega (arith, is)), tt))
 command_is_words (DropCell number) is =

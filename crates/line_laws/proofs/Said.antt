@@ -3,18 +3,21 @@ use Rattle.std.proofs.Common.{◌≡◌, ℕ, ◌≤◌, List, [], ◌∷◌, �
 use Rattle.std.specs.Prelude.{flat_map, Some, option_map}
 use Rattle.std.specs.Fmt.{decimal, signed_decimal}
 use Rattle.std.specs.List.{AllByRecursion}
+use Rattle.txn_rules.specs.Op.{Op}
+use Rattle.txn_rules.specs.Op.TheVariants.{And, Not, Or, Xor}
 use Rattle.lay_cells.specs.declared.cell_id.CellId.{CellId}
 use Rattle.lay_cells.specs.declared.cells.TheConstants.{MAX_SYMBOL}
 use Rattle.lay_items.specs.declared.id.ItemId.{ItemId}
 use Rattle.lay_point.specs.declared.point.Point.{Point}
 use Rattle.lay_point.specs.declared.turn.Turn.{Turn}
 use Rattle.txn_rules.specs.declared.command.Command.{Command}
-use Rattle.txn_rules.specs.declared.command.Command.TheVariants.{Box, Delete, DropCell, Look, MakeCell, Move, Place, Poly, SetLayer}
+use Rattle.txn_rules.specs.declared.command.Command.TheVariants.{Bool as Combine, Box, Delete, DropCell, Look, MakeCell, Move, Place, Poly}
+use Rattle.txn_rules.specs.declared.command.Command.TheVariants.{SetLayer}
 use Rattle.txn_rules.specs.declared.command.TxnId.{TxnId}
 use Rattle.session_steps.specs.declared.Step.{Step}
 use Rattle.session_steps.specs.declared.Step.TheVariants.{Cancel, Commit, Do, Open, Redo, Undo}
-use Rattle.job_text.specs.Steps.{Word, box_of, command_of, item_alone, layer_of}
-use Rattle.job_text.specs.Steps.{move_of, place_of, point_at, point_of, points_from, poly_of}
+use Rattle.job_text.specs.Steps.{Word, bool_of, box_of, command_of, item_alone, layer_of}
+use Rattle.job_text.specs.Steps.{move_of, op_of, place_of, point_at, point_of, points_from, poly_of}
 use Rattle.job_text.specs.Steps.{short_command, step_named, step_of, symbol_alone, txn_alone}
 use Rattle.job_text.specs.Words.{◌>>=◌}
 use Rattle.line_laws.specs.Written.{CanBeSaid, CanSay, IsItem, IsPoint, IsTxn, cell_word}
@@ -76,8 +79,13 @@ unfolding place_of
 place_said cell target turn is =
     rw (cell_read cell is.0, number_read MAX_SYMBOL target (omega arith) is.1, turning_read turn, point_first turn.shift [] is.2) refl
 
+bool_said : (op : Op) (cell : CellId) (a b out : List ℕ) → CanSay (Combine op cell a b out) →
+    bool_of op (cell_word cell ∷ a ∷ b ∷ out ∷ []) ≡ Some (Combine op cell a b out)
+unfolding bool_of
+bool_said op cell a b out is = rw (cell_read cell is.0, is.1, is.2, is.3) refl
+
 command_said : (command : Command) → CanSay command → step_of (command_words command) ≡ Some (Do command)
-unfolding step_of step_named command_of short_command
+unfolding step_of step_named command_of short_command op_of
 command_said (Box cell layer a b) is = ap (option_map Do) (box_said cell layer a b is)
 command_said (Poly cell layer points) is = ap (option_map Do) (poly_said cell layer points is)
 command_said (Delete id) is = ap (λ o. option_map Do (option_map Delete o)) (item_only id is)
@@ -85,6 +93,10 @@ command_said (Move id dx dy) is = ap (option_map Do) (move_said id dx dy is)
 command_said (SetLayer id layer) is = ap (option_map Do) (layer_said id layer is)
 command_said (Place cell target turn) is = ap (option_map Do) (place_said cell target turn is)
 command_said (Look id) is = ap (λ o. option_map Do (option_map Look o)) (item_only id is)
+command_said (Combine And cell a b out) is = ap (option_map Do) (bool_said And cell a b out is)
+command_said (Combine Or cell a b out) is = ap (option_map Do) (bool_said Or cell a b out is)
+command_said (Combine Not cell a b out) is = ap (option_map Do) (bool_said Not cell a b out is)
+command_said (Combine Xor cell a b out) is = ap (option_map Do) (bool_said Xor cell a b out is)
 command_said (MakeCell number) is = ap (λ o. option_map Do (option_map MakeCell o)) (symbol_only number is)
 command_said (DropCell number) is = ap (λ o. option_map Do (option_map DropCell o)) (symbol_only number is)
 

@@ -3,6 +3,8 @@ use Rattle.std.specs.Prelude.{ℕ, List, [], ◌∷◌, ◌++◌, codes, flat_ma
 use Rattle.std.specs.Prelude.{Some}
 use Rattle.std.specs.List.{AllByRecursion}
 use Rattle.std.specs.Fmt.{decimal, signed_decimal}
+use Rattle.txn_rules.specs.Op.{Op}
+use Rattle.txn_rules.specs.Op.TheVariants.{And, Not, Or, Xor}
 use Rattle.lay_cells.specs.declared.cell_id.CellId.{CellId}
 use Rattle.lay_cells.specs.declared.cell_id.CellId.TheVariants.{Symbol, Top}
 use Rattle.lay_cells.specs.declared.cells.TheConstants.{MAX_SYMBOL}
@@ -13,7 +15,8 @@ use Rattle.lay_point.specs.declared.turn.Quarter.TheVariants.{R0, R90, R180, R27
 use Rattle.lay_point.specs.declared.turn.Turn.{Turn}
 use Rattle.lay_point.specs.Names.{layer_name_of}
 use Rattle.txn_rules.specs.declared.command.Command.{Command}
-use Rattle.txn_rules.specs.declared.command.Command.TheVariants.{Box, Delete, DropCell, Look, MakeCell, Move, Place, Poly, SetLayer}
+use Rattle.txn_rules.specs.declared.command.Command.TheVariants.{Bool as Combine, Box, Delete, DropCell, Look, MakeCell, Move, Place, Poly}
+use Rattle.txn_rules.specs.declared.command.Command.TheVariants.{SetLayer}
 use Rattle.txn_rules.specs.declared.command.TxnId.{TxnId}
 use Rattle.session_steps.specs.declared.Step.{Step}
 use Rattle.session_steps.specs.declared.Step.TheVariants.{Cancel, Commit, Do, Open, Redo, Undo}
@@ -46,6 +49,13 @@ degrees R270 = codes "270"
 abbrev pub turning_word : Turn → Word
 turning_word turn = (if turn.mirror then 109 else 114) ∷ degrees turn.quarter
 
+-- the operation's name
+abbrev pub op_word : Op → Word
+op_word And = codes "and"
+op_word Or = codes "or"
+op_word Not = codes "not"
+op_word Xor = codes "xor"
+
 abbrev pub command_words : Command → List Word
 command_words (Box cell layer a b) = codes "box" ∷ cell_word cell ∷ layer ∷ (point_words a ++ point_words b)
 command_words (Poly cell layer points) = codes "poly" ∷ cell_word cell ∷ layer ∷ flat_map point_words points
@@ -55,6 +65,7 @@ command_words (SetLayer id layer) = codes "layer" ∷ item_word id ∷ layer ∷
 command_words (Place cell target turn) =
     codes "place" ∷ cell_word cell ∷ decimal target ∷ turning_word turn ∷ point_words turn.shift
 command_words (Look id) = codes "look" ∷ item_word id ∷ []
+command_words (Combine op cell a b out) = op_word op ∷ cell_word cell ∷ a ∷ b ∷ out ∷ []
 command_words (MakeCell number) = codes "mkcell" ∷ decimal number ∷ []
 command_words (DropCell number) = codes "rmcell" ∷ decimal number ∷ []
 
@@ -114,6 +125,7 @@ CanSay (Move id dx dy) = IsItem id × IsPoint (record { x = dx; y = dy })
 CanSay (SetLayer id layer) = IsItem id × IsLayer layer
 CanSay (Place cell target turn) = IsCell cell × (target ≤ MAX_SYMBOL) × IsPoint turn.shift
 CanSay (Look id) = IsItem id
+CanSay (Combine op cell a b out) = IsCell cell × IsLayer a × IsLayer b × IsLayer out
 CanSay (MakeCell number) = number ≤ MAX_SYMBOL
 CanSay (DropCell number) = number ≤ MAX_SYMBOL
 

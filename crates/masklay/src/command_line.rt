@@ -8,6 +8,7 @@ use byte_io::{In, Out};
 use clap::error::ErrorKind;
 use clap::{Command, Error};
 use std::alloc::Global;
+use std::thread::Threads;
 use std::{env, io};
 
 /// What is wrong with a word that isn't UTF-8.
@@ -31,6 +32,7 @@ pub enum WordsFault {
 /// option yet: with an argument nothing is read, help is written to `out`, and what is wrong to
 /// `errors`.
 pub fn launch<I: In, O: Out, E: Out>(
+    rt: &(impl Threads + Sync),
     alloc: Global,
     words: Result<Vec<String>, WordsFault>,
     input: &mut I,
@@ -47,7 +49,7 @@ pub fn launch<I: In, O: Out, E: Out>(
         out.old out.new errors.old errors.new result × (input.new ≡ input.old)) }
 {
     match words {
-        Ok(words) if words.len() <= 1 => run(alloc, Options {}, input, out),
+        Ok(words) if words.len() <= 1 => run(rt, alloc, Options {}, input, out),
         Ok(words) => refuse(alloc, &words, out, errors),
         Err(WordsFault::NotUtf8) => put(errors, NOT_UTF_8, Status::CommandLine),
         Err(WordsFault::NoMemory) => put_memory(out),

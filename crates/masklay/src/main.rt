@@ -10,7 +10,7 @@
 //! ```text
 //! let mut input = MemoryIn::new(b"%cif\nE\n", 4096, 1000);
 //! let mut out = MemoryOut::new(alloc, 4096, 1000, Failing::ByErr);
-//! assert_eq!(rt; run(alloc, Options {}, &mut input, &mut out), Status::Done);
+//! assert_eq!(rt; run(&rt, alloc, Options {}, &mut input, &mut out), Status::Done);
 //! assert_eq!(rt; out.written(), b"DS 1 1 2;\nDF;\nC 1;\nE\n");
 //! ```
 #![tactic(auto)]
@@ -28,6 +28,6 @@ fn main(rt: HostRuntime) -> ExitCode {
     let mut out = StandardOutput::new(rt.stdout());
     let mut errors = StandardOutput::new(rt.stderr());
     let words = words(&rt);
-    let status = launch(rt.alloc(), words, &mut input, &mut out, &mut errors);
+    let status = launch(&rt, rt.alloc(), words, &mut input, &mut out, &mut errors);
     ExitCode::from(status.code())
 }

@@ -16,29 +16,42 @@ use output::output_of;
 use reading::{ReadFault, read_all};
 pub use status::Status;
 use std::alloc::Global;
+use std::thread::Threads;
 
 /// How the program is to run. There is no choice as yet.
 #[derive(Clone, Copy, Debug, PartialEq, Eq)]
 pub struct Options {}
 
 /// Reads a job from the input, runs it and writes its replies, their order and the CIF text of the
-/// layout, all after the last step; or the line that says why there is none.
-pub fn run<I: In, O: Out>(alloc: Global, _options: Options, input: &mut I, out: &mut O) -> Status
+/// layout, all after the last step; or the line that says why there is none. Booleans are rounded in as
+/// many threads as there are processors.
+pub fn run<I: In, O: Out>(
+    rt: &(impl Threads + Sync),
+    alloc: Global,
+    _options: Options,
+    input: &mut I,
+    out: &mut O,
+) -> Status
     ensures { IsRun I.remaining I.counts O.written O.failures input.old input.new
         out.old out.new result }
 {
     match read_all(alloc, input) {
-        Ok(bytes) => write_output(alloc, &bytes, out),
+        Ok(bytes) => write_output(rt, alloc, &bytes, out),
         Err(ReadFault::Device) => Status::Device,
         Err(ReadFault::NoMemory) => put_memory(out),
     }
 }
 
 /// Writes what the job of the bytes leads to.
-fn write_output<O: Out>(alloc: Global, bytes: &[u8], out: &mut O) -> Status
+fn write_output<O: Out>(
+    rt: &(impl Threads + Sync),
+    alloc: Global,
+    bytes: &[u8],
+    out: &mut O,
+) -> Status
     ensures { Ends O.written O.failures out.old out.new bytes.now result }
 {
-    match output_of(alloc, bytes) {
+    match output_of(rt, alloc, bytes) {
         Ok((text, status)) => put(out, &text, status),
         Err(NoMemory) => put_memory(out),
     }

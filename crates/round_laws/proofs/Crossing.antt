@@ -9,7 +9,7 @@ use Rattle.lay_point.specs.Points.{IsBefore}
 use Rattle.snap_pixels.specs.Segments.{Crosses, IsFraction, along, cross}
 use Rattle.snap_pixels.proofs.CrossingLemmas.{IsFound, Crosses-some, Crosses-none, Crosses-parallel, Crosses-same_turned, turned_left}
 use Rattle.snap_pixels.proofs.RoundLemmas.{IsRoundedTo-quotient}
-use Rattle.chain_laws.proofs.Members.{Has}
+use Rattle.snap_chains.proofs.Members.{Has}
 use Rattle.round_laws.specs.Crossings.{crossing_of, hot_centres, is_fraction, left_crossing, marks_of, nearest}
 use Rattle.round_laws.specs.Sorting.{point_order}
 use Rattle.round_laws.proofs.InRange.{and_true, both_true, le_by_test, test_by_le}

@@ -10,11 +10,11 @@ use Rattle.lay_point.specs.Edges.{undirected}
 use Rattle.lay_point.specs.Rings.{IsRing, NeighboursDiffer, closed as closed_ring}
 use Rattle.snap_pixels.specs.declared.segment.Segment.{Segment}
 use Rattle.snap_pixels.specs.Hot.{IsHot}
-use Rattle.chain_laws.specs.Chains.{IsChain}
-use Rattle.chain_laws.specs.Rising.{pairs}
-use Rattle.chain_laws.specs.Rounding.{IsRoundedPath, closed, further, point, tail}
-use Rattle.chain_laws.specs.Undirected.{AreEdgesOf, IsEdgeBefore, edges_of, is_owned}
-use Rattle.chain_laws.proofs.Members.{Has, has, contains, has-append_left, has-append_right}
+use Rattle.snap_chains.specs.Chains.{IsChain}
+use Rattle.snap_chains.specs.Rising.{pairs}
+use Rattle.snap_chains.specs.Rounding.{IsRoundedPath, closed, further, point, tail}
+use Rattle.snap_chains.specs.Undirected.{AreEdgesOf, IsEdgeBefore, edges_of, is_owned}
+use Rattle.snap_chains.proofs.Members.{Has, has, contains, has-append_left, has-append_right}
 use Rattle.snap_chains.specs.declared.owner.Owner.{Owner}
 use Rattle.snap_chains.specs.Owners.{IsOwnerBefore, owner_eq}
 use Rattle.snap_chains.specs.Round.{AreOwnersOf, walks_of}

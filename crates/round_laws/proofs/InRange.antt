@@ -19,16 +19,16 @@ use Rattle.snap_pixels.specs.Hot.{IsHot}
 use Rattle.snap_pixels.specs.Pixels.{HoldsPlace}
 use Rattle.snap_pixels.specs.Segments.{IsFraction, along}
 use Rattle.snap_pixels.proofs.RoundLemmas.{IsRoundedTo-low, IsRoundedTo-high}
-use Rattle.edge_laws.proofs.SharedEnds.{ends_differ}
-use Rattle.chain_laws.specs.Chains.{IsRoundedEdge}
-use Rattle.chain_laws.specs.Rising.{pairs}
-use Rattle.chain_laws.specs.Rounding.{IsRoundedPath, closed}
-use Rattle.chain_laws.specs.Undirected.{edges_of}
-use Rattle.chain_laws.proofs.Chains.{edge_of_neighbours}
-use Rattle.chain_laws.proofs.Members.{Has, has, contains, has-append}
-use Rattle.chain_laws.proofs.Rising.{pair_first, pair_second}
-use Rattle.chain_laws.proofs.Rounded.{rounded_paths_have_edges}
-use Rattle.chain_laws.proofs.Undirected.{gone}
+use Rattle.snap_chains.proofs.SharedEnds.{ends_differ}
+use Rattle.snap_chains.specs.Chains.{IsRoundedEdge}
+use Rattle.snap_chains.specs.Rising.{pairs}
+use Rattle.snap_chains.specs.Rounding.{IsRoundedPath, closed}
+use Rattle.snap_chains.specs.Undirected.{edges_of}
+use Rattle.snap_chains.proofs.Chains.{edge_of_neighbours}
+use Rattle.snap_chains.proofs.Members.{Has, has, contains, has-append}
+use Rattle.snap_chains.proofs.Rising.{pair_first, pair_second}
+use Rattle.snap_chains.proofs.RoundedChains.{rounded_paths_have_edges}
+use Rattle.snap_chains.proofs.Undirected.{gone}
 use Rattle.snap_chains.specs.declared.owner.Owner.{Owner}
 use Rattle.snap_chains.specs.OwnedRings.{AreRounded}
 use Rattle.snap_chains.specs.Round.{IsRoundOf}

@@ -6,7 +6,7 @@ use Rattle.snap_pixels.specs.declared.segment.Segment.{Segment}
 use Rattle.snap_pixels.specs.Hot.{IsHot}
 use Rattle.snap_pixels.specs.Segments.{Crosses}
 use Rattle.snap_pixels.proofs.MarkLemmas.{HoldsPlace-whole}
-use Rattle.chain_laws.proofs.Members.{Has, has, contains}
+use Rattle.snap_chains.proofs.Members.{Has, has, contains}
 use Rattle.snap_chains.specs.Sides.{ends_of}
 use Rattle.snap_chains.proofs.PathLemmas.{Contains-map, Has-map}
 use Rattle.round_laws.specs.Rounding.{way_along}

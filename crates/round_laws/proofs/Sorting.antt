@@ -10,9 +10,9 @@ use Rattle.std.proofs.lemmas.Cmp.{int_ranked, ranked}
 use Rattle.lay_point.specs.declared.point.Point.{Point}
 use Rattle.lay_point.specs.Points.{IsBefore}
 use Rattle.lay_point.proofs.EdgeOrder.{same_point}
-use Rattle.chain_laws.specs.Rising.{IsRising}
-use Rattle.chain_laws.specs.Undirected.{IsEdgeBefore}
-use Rattle.chain_laws.proofs.Members.{Has, has-append, has-append_left, has-append_right}
+use Rattle.snap_chains.specs.Rising.{IsRising}
+use Rattle.snap_chains.specs.Undirected.{IsEdgeBefore}
+use Rattle.snap_chains.proofs.Members.{Has, has-append, has-append_left, has-append_right}
 use Rattle.snap_chains.specs.declared.owner.Input.TheVariants.{First, Second}
 use Rattle.snap_chains.specs.declared.owner.Owner.{Owner}
 use Rattle.snap_chains.specs.Owners.{IsInputBefore, IsOwnerBefore}

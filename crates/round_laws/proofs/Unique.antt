@@ -5,15 +5,15 @@ use Rattle.lay_point.specs.declared.point.Point.{Point}
 use Rattle.snap_pixels.specs.declared.segment.Segment.{Segment}
 use Rattle.snap_pixels.specs.Hot.{IsHot}
 use Rattle.snap_pixels.specs.Segments.{Meets}
-use Rattle.edge_laws.specs.Edges.{IsBelow}
-use Rattle.chain_laws.specs.Chains.{IsChain}
-use Rattle.chain_laws.specs.Rising.{IsRising}
-use Rattle.chain_laws.specs.Rounding.{IsRoundedPath, closed, further, point, tail}
-use Rattle.chain_laws.specs.Undirected.{AreEdgesOf, IsEdgeBefore}
-use Rattle.chain_laws.proofs.ChainOrder.{below_is_strict}
-use Rattle.chain_laws.proofs.Members.{has, contains}
-use Rattle.chain_laws.proofs.Rising.{same_members}
-use Rattle.chain_laws.proofs.Undirected.{edges_are_strict}
+use Rattle.snap_chains.specs.Edges.{IsBelow}
+use Rattle.snap_chains.specs.Chains.{IsChain}
+use Rattle.snap_chains.specs.Rising.{IsRising}
+use Rattle.snap_chains.specs.Rounding.{IsRoundedPath, closed, further, point, tail}
+use Rattle.snap_chains.specs.Undirected.{AreEdgesOf, IsEdgeBefore}
+use Rattle.snap_chains.proofs.ChainOrder.{below_is_strict}
+use Rattle.snap_chains.proofs.Members.{has, contains}
+use Rattle.snap_chains.proofs.Rising.{same_members}
+use Rattle.snap_chains.proofs.Undirected.{edges_are_strict}
 use Rattle.snap_chains.specs.declared.owner.Owner.{Owner}
 use Rattle.snap_chains.specs.Owners.{IsOwnerBefore}
 use Rattle.snap_chains.specs.Round.{AreOwnersOf}

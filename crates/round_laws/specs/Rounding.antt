@@ -7,9 +7,9 @@ use Rattle.std.specs.declared.cmp.Ordering.{Ordering}
 use Rattle.std.specs.Ordering.{int_cmp, on, then_cmp}
 use Rattle.lay_point.specs.declared.point.Point.{Point}
 use Rattle.lay_point.specs.Edges.{undirected}
-use Rattle.chain_laws.specs.Rising.{pairs}
-use Rattle.chain_laws.specs.Rounding.{closed, tail}
-use Rattle.chain_laws.specs.Undirected.{edges_of, is_owned}
+use Rattle.snap_chains.specs.Rising.{pairs}
+use Rattle.snap_chains.specs.Rounding.{closed, tail}
+use Rattle.snap_chains.specs.Undirected.{edges_of, is_owned}
 use Rattle.snap_chains.specs.declared.owner.Owner.{Owner}
 use Rattle.snap_chains.specs.Round.{walks_of}
 use Rattle.snap_chains.specs.Rounded.{Owned}

@@ -9,7 +9,7 @@
 //!
 //! ```text
 //! let steps = vec![in alloc; (1, Step::Open), (1, Step::Do(command)), (1, Step::Commit)]?;
-//! let (machine, replies) = Machine::run(alloc, base, 1, steps)?;
+//! let (machine, replies) = Machine::run(rt, alloc, base, 1, steps, &OneBand)?;
 //! let layout = machine.book().snapshot();
 //! ```
 #![tactic(auto)]

@@ -8,11 +8,13 @@ ghost use Rattle.undo_book.specs.Replays.{CanBeRedone, replay};
 ghost use Rattle.session_core.specs.Commits.{reply_of, work_of};
 ghost use Rattle.session_core.specs.Machine.{IsNotForeign, Ran, Takes, is_session, start};
 
+use band_workers::Bands;
 use lay_items::Snapshot;
 use lay_point::NoMemory;
 use session_steps::{Reply, Step, StepFault};
 use std::alloc::Global;
 use std::marker::Model;
+use std::thread::Threads;
 use txn_work::{Command, TxnId, Work};
 use undo_book::{Book, CommitRefusal, MAX_CALLS};
 
@@ -74,8 +76,16 @@ impl Machine {
     }
 
     /// Takes a step of a session. `NoSession` comes first, then `AlreadyOpen` and `NotOpen`; these are
-    /// not logged. A refused commit leaves the transaction open, unless it is stale and has ended.
-    pub fn step(&mut self, alloc: Global, session: u8, step: Step) -> Reply
+    /// not logged. A refused commit leaves the transaction open, unless it is stale and has ended. `bands`
+    /// finds the edges of Booleans.
+    pub fn step(
+        &mut self,
+        rt: &(impl Threads + Sync),
+        alloc: Global,
+        session: u8,
+        step: Step,
+        bands: &impl Bands,
+    ) -> Reply
         ensures step { Takes self.old session step result self.new }
         // A session's open transaction is always the one that the book keeps for it.
         ensures own { IsNotForeign result }
@@ -91,7 +101,7 @@ impl Machine {
         }
         match step {
             Step::Open => self.open(alloc, session),
-            Step::Do(command) => self.run_command(alloc, session, command),
+            Step::Do(command) => self.run_command(rt, alloc, session, command, bands),
             Step::Commit => self.commit(alloc, session),
             Step::Cancel => self.cancel(session),
             Step::Undo(txn) => self.undo(alloc, session, txn),
@@ -127,7 +137,14 @@ impl Machine {
     }
 
     /// Runs a command in the session's transaction.
-    fn run_command(&mut self, alloc: Global, session: u8, command: Command) -> Reply
+    fn run_command(
+        &mut self,
+        rt: &(impl Threads + Sync),
+        alloc: Global,
+        session: u8,
+        command: Command,
+        bands: &impl Bands,
+    ) -> Reply
         requires { is_session self.old session ≡ true }
         ensures step { Takes self.old session (Step.Do command) result self.new }
         ensures own { IsNotForeign result }
@@ -136,7 +153,7 @@ impl Machine {
         let Some(mut work) = self.works[place].take() else {
             return Reply::Fault(StepFault::NotOpen);
         };
-        let answer = work.run(alloc, command);
+        let answer = work.run(rt, alloc, command, bands);
         self.works[place] = Some(work);
         match answer {
             Ok(done) => Reply::Done(done),
@@ -200,12 +217,15 @@ impl Machine {
         }
     }
 
-    /// The machine after these steps, each with the number of its session, and its answers to them.
+    /// The machine after these steps, each with the number of its session, and its answers to them. `bands`
+    /// finds the edges of Booleans.
     pub fn run(
+        rt: &(impl Threads + Sync),
         alloc: Global,
         base: Snapshot,
         sessions: u8,
         steps: Vec<(u8, Step)>,
+        bands: &impl Bands,
     ) -> Result<(Machine, Vec<Reply>), NoMemory>
         requires low { 1 ≤ sessions }
         requires high { sessions ≤ 64 }
@@ -216,7 +236,7 @@ impl Machine {
         let mut machine = Machine::new(alloc, base, sessions)?;
         let mut replies = Vec::with_capacity(alloc, steps.len())?;
         for (session, step) in steps {
-            let reply = machine.step(alloc, session, step);
+            let reply = machine.step(rt, alloc, session, step, bands);
             replies.push(reply)?;
         }
         // What the book says of its layout is said of the machine.

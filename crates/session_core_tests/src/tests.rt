@@ -1,12 +1,14 @@
 //! Tests of what no clause says: that steps succeed with ample memory, and that definitions mean what they
 //! should.
 
+use band_workers::OneBand;
 use lay_cells::CellId;
 use lay_items::Snapshot;
 use lay_point::{LayerName, Point};
 use session_core::{Machine, Reply, Step, StepFault};
 use std::alloc::Global;
 use std::test::*;
+use std::thread::Threads;
 use txn_rules::{Command, Done, TxnId};
 use undo_book::BookFault;
 
@@ -35,8 +37,10 @@ fn is_log_full(reply: &Reply) -> bool {
 fn two_sessions_have_no_third(rt: HostRuntime) -> Result<(), Fail> {
     let alloc = rt.alloc();
     let mut machine = Machine::new(alloc, empty(alloc)?, 2)?;
-    assert!(rt; machine.step(alloc, 3, Step::Open) == Reply::Fault(StepFault::NoSession));
-    assert!(rt; machine.step(alloc, 2, Step::Open) == Reply::Opened(1));
+    assert!(rt;
+        machine.step(&rt, alloc, 3, Step::Open, &OneBand) == Reply::Fault(StepFault::NoSession)
+    );
+    assert!(rt; machine.step(&rt, alloc, 2, Step::Open, &OneBand) == Reply::Opened(1));
     Ok(())
 }
 
@@ -45,16 +49,21 @@ fn two_sessions_have_no_third(rt: HostRuntime) -> Result<(), Fail> {
 fn a_full_log_leaves_the_transaction_open(rt: HostRuntime) -> Result<(), Fail> {
     let alloc = rt.alloc();
     let mut machine = Machine::with_log(alloc, empty(alloc)?, 1, 1)?;
-    assert!(rt; machine.step(alloc, 1, Step::Open) == Reply::Opened(1));
-    assert!(rt; is_log_full(&machine.step(alloc, 1, Step::Commit)));
-    assert!(rt; machine.step(alloc, 1, Step::Cancel) == Reply::Cancelled);
+    assert!(rt; machine.step(&rt, alloc, 1, Step::Open, &OneBand) == Reply::Opened(1));
+    assert!(rt; is_log_full(&machine.step(&rt, alloc, 1, Step::Commit, &OneBand)));
+    assert!(rt; machine.step(&rt, alloc, 1, Step::Cancel, &OneBand) == Reply::Cancelled);
     Ok(())
 }
 
 /// Opens a transaction of the session, and draws a box in it.
-fn begin(alloc: Global, machine: &mut Machine, session: u8) -> Result<bool, Fail> {
-    let opened = machine.step(alloc, session, Step::Open);
-    let drawn = machine.step(alloc, session, draw(i32::from(session))?);
+fn begin(
+    rt: &(impl Threads + Sync),
+    alloc: Global,
+    machine: &mut Machine,
+    session: u8,
+) -> Result<bool, Fail> {
+    let opened = machine.step(rt, alloc, session, Step::Open, &OneBand);
+    let drawn = machine.step(rt, alloc, session, draw(i32::from(session))?, &OneBand);
     Ok(opened == Reply::Opened(1) && matches!(drawn, Reply::Done(Done::Made(_))))
 }
 
@@ -65,17 +74,19 @@ fn sixty_four_sessions_commit_into_a_log_of_128(rt: HostRuntime) -> Result<(), F
     let alloc = rt.alloc();
     let mut machine = Machine::with_log(alloc, empty(alloc)?, 64, 128)?;
     for session in 1..65 {
-        assert!(rt; begin(alloc, &mut machine, session)?);
+        assert!(rt; begin(&rt, alloc, &mut machine, session)?);
     }
     for before in 0..64 {
         let txn = TxnId {
             session: 64 - before,
             txn: 1,
         };
-        assert!(rt; machine.step(alloc, 64 - before, Step::Commit) == Reply::Committed(txn));
+        assert!(rt;
+            machine.step(&rt, alloc, 64 - before, Step::Commit, &OneBand) == Reply::Committed(txn)
+        );
     }
     let txn = TxnId { session: 1, txn: 1 };
-    assert!(rt; is_log_full(&machine.step(alloc, 1, Step::Undo(txn))));
+    assert!(rt; is_log_full(&machine.step(&rt, alloc, 1, Step::Undo(txn), &OneBand)));
     assert_eq!(rt; machine.book().log().len(), 128);
     let mut session = 0;
     for (id, _) in machine.book().snapshot().version().iter() {

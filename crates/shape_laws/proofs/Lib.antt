@@ -4,3 +4,7 @@ pub mod LabelLemmas
 pub mod OneDivision
 pub mod SameEdges
 pub mod ShapeLemmas
+pub use Rattle.face_labels.proofs.Upward
+pub use Rattle.round_laws.proofs.InRange
+pub use Rattle.round_laws.proofs.Exists
+pub use Rattle.snap_chains.proofs.PathLemmas

@@ -11,7 +11,7 @@ use Rattle.snap_chains.specs.Round.{IsRoundOf}
 use Rattle.round_laws.specs.Laws.{AreInOrder}
 use Rattle.round_laws.proofs.Exists.{rounding_exists, rounding_is_computed}
 use Rattle.round_laws.proofs.InRange.{and_true, rounded_is_in_range, rounded_is_rounded}
-use Rattle.label_laws.proofs.Upward.{even_operation, operation_among, operation_law, operation_rises}
+use Rattle.face_labels.proofs.Upward.{even_operation, operation_among, operation_law, operation_rises}
 use Rattle.face_labels.specs.declared.op.Op.{Op}
 use Rattle.face_labels.specs.declared.op.Op.TheVariants.{And, Or, Not, Xor}
 use Rattle.face_labels.specs.Operations.{TellAnswer, answer, edges_of_op}

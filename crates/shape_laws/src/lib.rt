@@ -11,5 +11,6 @@ mod limits;
 #[cfg(test)]
 mod tests;
 
+pub use face_labels::Op;
 pub use laws::{parts_are_unique, shapes_tell_places};
 pub use limits::MAX_SEGMENTS;

@@ -11,7 +11,7 @@ use Rattle.lay_point.specs.Edges.{touches}
 use Rattle.lay_point.specs.Parity.{distance_right, is_crossed}
 use Rattle.lay_point.specs.Points.{point_eq}
 use Rattle.lay_point.proofs.EdgeOrder.{same_by_test, same_point}
-use Rattle.edge_laws.specs.Edges.{IsBetween, IsEnd, IsOn}
+use Rattle.edge_test.specs.Edges.{IsBetween, IsEnd, IsOn}
 use Rattle.edge_test.specs.Meeting.{MeetAtEnds}
 use Rattle.edge_test.proofs.Lines.{first_on, last_on}
 use Rattle.side_laws.proofs.Level.{Edge, beyond, from_on, in_row, level_no_row, right_of_point}

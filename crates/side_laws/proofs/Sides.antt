@@ -8,8 +8,8 @@ use Rattle.std.proofs.lemmas.Int.{ints}
 use Rattle.int_laws.proofs.Signs.{below_or_not, below_or_same, cancel_lt, cancel_same, linear, nonnegative_product, positive_product, times_le}
 use Rattle.lay_point.specs.declared.point.Point.{Point}
 use Rattle.lay_point.specs.Parity.{distance_right}
-use Rattle.edge_laws.specs.Edges.{IsBetween, IsEnd, IsOn}
-use Rattle.edge_laws.proofs.Places.{turned_on}
+use Rattle.edge_test.specs.Edges.{IsBetween, IsEnd, IsOn}
+use Rattle.edge_test.proofs.Places.{turned_on}
 use Rattle.edge_test.specs.Meeting.{MeetAtEnds}
 
 -- the place of these weights on the edge

@@ -10,12 +10,12 @@ use Rattle.snap_pixels.specs.Hot.{AreHotCentres, IsHot}
 use Rattle.lay_point.specs.Points.{IsBefore}
 use Rattle.snap_pixels.specs.Segments.{Meets}
 use Rattle.std.specs.Int.{int_signum}
-use Rattle.chain_laws.specs.Chains.{IsChain}
-use Rattle.chain_laws.specs.Rising.{IsRising, pairs, last}
-use Rattle.chain_laws.specs.Rounding.{IsRoundedPath, closed, further, point, tail}
-use Rattle.chain_laws.proofs.Members.{Has, has, contains}
-use Rattle.chain_laws.proofs.Chains.{chains_join_ends}
-use Rattle.chain_laws.proofs.Rounded.{rounded_paths_join_ends}
+use Rattle.edge_test.specs.Chains.{IsChain}
+use Rattle.edge_test.specs.Rising.{IsRising, pairs, last}
+use Rattle.edge_test.specs.Rounding.{IsRoundedPath, closed, further, point, tail}
+use Rattle.edge_test.proofs.Members.{Has, has, contains}
+use Rattle.edge_test.proofs.Chains.{chains_join_ends}
+use Rattle.edge_test.proofs.Rounded.{rounded_paths_join_ends}
 use Rattle.snap_chains.specs.Sides.{ends_of}
 use Rattle.snap_chains.proofs.OwnerLemmas.{map-push}
 

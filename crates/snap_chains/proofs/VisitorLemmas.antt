@@ -9,11 +9,11 @@ use Rattle.std.specs.List.Sorted.{IsPartitionedBy, IsPartitionPoint}
 use Rattle.std.proofs.lemmas.Bool.{cases_lt, false≢true}
 use Rattle.std.proofs.lemmas.List.{get_or-drop, get_or-take, length-drop, length-take}
 use Rattle.lay_point.specs.declared.point.Point.{Point}
-use Rattle.chain_laws.specs.Rising.{IsRising}
-use Rattle.chain_laws.specs.Undirected.{IsEdgeBefore}
-use Rattle.chain_laws.proofs.Members.{Has, has, contains}
-use Rattle.chain_laws.proofs.Rising.{rising_rest}
-use Rattle.chain_laws.proofs.Undirected.{edges_are_strict}
+use Rattle.edge_test.specs.Rising.{IsRising}
+use Rattle.edge_test.specs.Undirected.{IsEdgeBefore}
+use Rattle.edge_test.proofs.Members.{Has, has, contains}
+use Rattle.edge_test.proofs.Rising.{rising_rest}
+use Rattle.edge_test.proofs.Undirected.{edges_are_strict}
 use Rattle.snap_chains.specs.declared.owner.Input.TheVariants.{First}
 use Rattle.snap_chains.specs.declared.visits.Visit.{Visit}
 use Rattle.snap_chains.specs.Owners.{IsOwnerBefore}

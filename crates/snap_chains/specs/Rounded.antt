@@ -3,9 +3,9 @@ use Rattle.std.specs.Prelude.{◌≡◌, false, ◌&&◌, Bool, List, length, Al
 use Rattle.std.specs.List.{list_any, zip}
 use Rattle.lay_point.specs.declared.point.Point.{Point}
 use Rattle.edge_test.specs.Meeting.{MeetAtEnds}
-use Rattle.chain_laws.specs.Parity.{parity}
-use Rattle.chain_laws.specs.Rising.{IsRising}
-use Rattle.chain_laws.specs.Undirected.{IsEdgeBefore, touches}
+use Rattle.edge_test.specs.Parity.{parity}
+use Rattle.edge_test.specs.Rising.{IsRising}
+use Rattle.edge_test.specs.Undirected.{IsEdgeBefore, touches}
 use Rattle.snap_chains.specs.declared.owner.Owner.{Owner}
 use Rattle.snap_chains.specs.Owners.{IsOwnerBefore, owner_eq}
 

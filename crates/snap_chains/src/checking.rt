@@ -1,7 +1,7 @@
 //! The check whether edges are clean.
 ghost use Rattle.std.specs.Prelude.{◌≡◌, ◌<◌, IfErr, IfOk, MatchOption, OnOk, length, ℕ};
-ghost use Rattle.chain_laws.specs.Rising.{IsRising};
-ghost use Rattle.chain_laws.specs.Undirected.{IsEdgeBefore};
+ghost use Rattle.edge_test.specs.Rising.{IsRising};
+ghost use Rattle.edge_test.specs.Undirected.{IsEdgeBefore};
 ghost use Rattle.snap_chains.specs.Clean.{IsFirstPair, NamesFirst, TwoMeetAtEnds};
 ghost use Rattle.snap_chains.specs.Rounded.{AreClean};
 

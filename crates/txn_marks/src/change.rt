@@ -1,10 +1,11 @@
 //! Values before and after.
-ghost use Rattle.std.specs.Prelude.{◌≡◌, option_copied};
+ghost use Rattle.std.specs.Prelude.{◌≡◌, IfOk, option_copied};
 ghost use Rattle.lay_items.specs.Same.{option_item_eq};
 ghost use Rattle.txn_rules.specs.Changes.{change_of};
 ghost use Rattle.txn_rules.specs.Records.{option_slot_eq};
 
 use lay_items::{CellSlot, Item};
+use std::alloc::AllocError;
 use std::marker::Model;
 
 /// What stands under an id before and after, which differ. Contracts see the change.
@@ -39,6 +40,27 @@ impl ItemChange {
         ensures { option_copied result ≡ self.now.after }
     {
         self.after.as_ref()
+    }
+}
+
+impl Clone for ItemChange {
+    ghost is_clone = { λ change copy. copy ≡ change };
+
+    fn clone(&self) -> Result<ItemChange, AllocError> {
+        Ok(ItemChange {
+            before: cloned(self.before())?,
+            after: cloned(self.after())?,
+        })
+    }
+}
+
+/// Returns a copy of the item, where there is one. Its rings are shared.
+pub(crate) fn cloned(item: Option<&Item>) -> Result<Option<Item>, AllocError>
+    ensures { IfOk result (λ copy. copy ≡ option_copied item.entry) }
+{
+    match item {
+        Some(item) => Ok(Some(item.clone()?)),
+        None => Ok(None),
     }
 }
 

@@ -1,9 +1,9 @@
 //! The writes that apply changes, and those that revert them.
-ghost use Rattle.std.specs.Prelude.{◌≡◌, IfOk, map, option_copied};
+ghost use Rattle.std.specs.Prelude.{◌≡◌, IfOk, map};
 ghost use Rattle.txn_rules.specs.Records.{afters, befores, cell_record_of, record_of};
 ghost use Rattle.txn_rules.specs.Records.{slot_afters, slot_befores};
 
-use crate::change::{CellChange, ItemChange};
+use crate::change::{CellChange, ItemChange, cloned};
 use lay_items::{CellSlot, Item, ItemId};
 use lay_point::NoMemory;
 use std::alloc::Global;
@@ -18,7 +18,7 @@ pub(crate) fn item_afters(
 {
     let mut writes = Vec::with_capacity(alloc, items.len())?;
     for (id, change) in items {
-        writes.push((*id, copied(change.after())?))?;
+        writes.push((*id, cloned(change.after())?))?;
     }
     Ok(writes)
 }
@@ -32,7 +32,7 @@ pub(crate) fn item_befores(
 {
     let mut writes = Vec::with_capacity(alloc, items.len())?;
     for (id, change) in items {
-        writes.push((*id, copied(change.before())?))?;
+        writes.push((*id, cloned(change.before())?))?;
     }
     Ok(writes)
 }
@@ -65,14 +65,4 @@ pub(crate) fn symbol_befores(
         writes.push((*number, change.before()))?;
     }
     Ok(writes)
-}
-
-/// Returns a copy of the item, where there is one.
-fn copied(item: Option<&Item>) -> Result<Option<Item>, NoMemory>
-    ensures { IfOk result (λ copy. copy ≡ option_copied item.entry) }
-{
-    match item {
-        Some(item) => Ok(Some(item.clone()?)),
-        None => Ok(None),
-    }
 }

@@ -47,6 +47,16 @@ impl Writes {
         }
     }
 
+    /// Returns equal writes. The rings of items are shared.
+    pub fn copy(&self) -> Result<Writes, NoMemory>
+        ensures { IfOk result (λ copy. copy ≡ self.now) }
+    {
+        Ok(Writes {
+            items: self.items.clone()?,
+            symbols: self.symbols.clone()?,
+        })
+    }
+
     /// Returns what was written under the id, if anything was.
     pub fn item(&self, id: ItemId) -> Option<&ItemChange>
         ensures { option_copied result ≡ change_at self.now.items id }

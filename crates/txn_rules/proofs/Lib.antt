@@ -3,6 +3,8 @@ pub mod Maps
 pub mod Lying
 pub mod Reach
 pub mod Agreements
+pub mod Below
+pub mod Booleans
 pub mod SamePlans
 pub mod Rings
 pub mod Shifts

@@ -18,17 +18,22 @@ use Rattle.lay_items.specs.declared.item.Item as items
 use Rattle.lay_items.specs.declared.item.Item.TheVariants.{Placed, Shape}
 use Rattle.lay_items.specs.Layout.{Layout, is_cell, item_at}
 use Rattle.txn_rules.specs.declared.command.Command.{Command}
-use Rattle.txn_rules.specs.declared.command.Command.TheVariants.{Box, Delete, DropCell, Look, MakeCell, Move, Place, Poly, SetLayer}
+use Rattle.txn_rules.specs.declared.command.Command.TheVariants.{Bool as Combine, Box, Delete, DropCell, Look, MakeCell, Move, Place, Poly}
+use Rattle.txn_rules.specs.declared.command.Command.TheVariants.{SetLayer}
 use Rattle.txn_rules.specs.declared.element.Element.{Element}
 use Rattle.txn_rules.specs.declared.element.Element.TheVariants.{Calls, Cell, Content, Item, Uses}
 use Rattle.txn_rules.specs.declared.fault.CmdFault.{CmdFault}
 use Rattle.txn_rules.specs.declared.fault.CmdFault.TheVariants.{CellThere, CellUsed, Cycle, FewPoints, NoCell, NoItem, OutOfRange}
-use Rattle.txn_rules.specs.Acts.{Act, cell_elements, change_act, drop_cell_act, look_act, make_act, make_cell_act, place_act, shape_act}
+use Rattle.bool_rules.specs.Op.{Op}
+use Rattle.bool_rules.specs.Shapes.{Rings}
+use Rattle.bool_rules.specs.Booleans.{bool_shapes}
+use Rattle.txn_rules.specs.Acts.{Act, bool_act, cell_elements, change_act, drop_cell_act, look_act, make_act, make_cell_act, place_act, shape_act}
 use Rattle.txn_rules.specs.Covers.{IsCovered, has}
 use Rattle.txn_rules.specs.Elements.{element_cmp, elements_total}
 use Rattle.txn_rules.specs.Figures.{box_ring, is_item_in_range, moved, shape_of}
-use Rattle.txn_rules.specs.Plans.{drawn, is_used, move_to, plan, refused_if, relayer}
+use Rattle.txn_rules.specs.Plans.{drawn, is_used, move_to, plan, refused_if, relayer, shape_ids}
 use Rattle.txn_rules.specs.Reach.{is_among, reached}
+use Rattle.txn_rules.proofs.Booleans.{replaced_by, replaced_covered}
 use Rattle.txn_rules.proofs.Rings.{box_ring-ring, ring_of-ring}
 use Rattle.txn_rules.proofs.SamePlans.{drawn_by, given, moved_to, passed, relayered}
 
@@ -44,6 +49,8 @@ pub data IsPlanned (new : ItemId) (l : Layout) (act : Act) : Type 0 where
       → is_in_range turn.shift ≡ true → is_among cell (reached l (Symbol target)) ≡ false
       → place_act new cell target turn (reached l (Symbol target)) ≡ act → IsPlanned new l act
   looks : (id : ItemId) (item : items.Item) → item_at l id ≡ Some item → look_act id item ≡ act → IsPlanned new l act
+  replaces : (op : Op) (cell : CellId) (a b out : List ℕ) (shapes : List Rings) → bool_shapes l op cell a b ≡ Ok shapes
+      → bool_act new cell a b out (reached l cell) (shape_ids l cell out) shapes ≡ act → IsPlanned new l act
   makes_cell : (number : ℕ) → nat_lt MAX_SYMBOL number ≡ false → is_some (get l.symbols number) ≡ false → make_cell_act number ≡ act
       → IsPlanned new l act
   drops_cell : (number : ℕ) → is_used l number ≡ false → drop_cell_act number ≡ act → IsPlanned new l act
@@ -107,6 +114,9 @@ planned new (SetLayer id layer) l act h =
 planned new (Place cell target turn) l act h = planned_place new cell target turn l act h
 planned new (Look id) l act h =
     let item = given (item_at l id) NoItem (λ x. Ok (look_act id x)) act h in looks id item.0 item.1 (cc (item.2))
+planned new (Combine op cell a b out) l act h =
+    let is = replaced_by new cell a b out (reached l cell) (shape_ids l cell out) (bool_shapes l op cell a b) act h in
+    replaces op cell a b out is.0 is.1 is.2
 planned new (MakeCell number) l act h =
     let rest : Result Act CmdFault = refused_if (is_some (get l.symbols number)) CellThere (Ok (make_cell_act number)) in
     let small = passed (nat_lt MAX_SYMBOL number) OutOfRange rest act h in
@@ -137,6 +147,8 @@ covered new l act (relayers id layer old cell rings there same) =
 covered new l act (places cell target turn there found near acyclic same) = subst IsCovered same
     (made_covered new (Placed cell target turn) (cell_elements cell ++ Cell target ∷ map Calls (reached l (Symbol target))))
 covered new l act (looks id item there same) = subst IsCovered same (record { items = tt; symbols = tt })
+covered new l act (replaces op cell a b out shapes some same) =
+    subst IsCovered same (replaced_covered new cell a b out (reached l cell) (shape_ids l cell out) shapes)
 covered new l act (makes_cell number small free same) =
     subst IsCovered same (record { items = tt; symbols = (has_first (Cell number) [], tt) })
 covered new l act (drops_cell number unused same) =

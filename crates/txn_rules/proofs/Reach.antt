@@ -198,7 +198,7 @@ calls_left-entered (call ∷ calls) c seen unseen =
           rw there (omega arith)
 
 -- so the search ends
-ends : (calls : List Call) (n : ℕ) (pending seen : List CellId) → length pending + calls_left calls seen ≤ n →
+pub ends : (calls : List Call) (n : ℕ) (pending seen : List CellId) → length pending + calls_left calls seen ≤ n →
     (found : List CellId) × (explored (targets calls) n pending seen ≡ Some found)
 ends calls n [] seen h = ([], refl)
 ends calls zero (c ∷ pending) seen h = absurd (omega arith)
@@ -277,7 +277,7 @@ targets_called P (call ∷ calls) c each =
           (each call.1 (0, omega arith, λ i. (sym cells i, call.1)), rest)
       by_cell false is rest = rest
 
-all_among : (P : CellId → Type 0) (xs : List CellId) → AllByRecursion P xs → (d : CellId) → is_among d xs ≡ true → P d
+pub all_among : (P : CellId → Type 0) (xs : List CellId) → AllByRecursion P xs → (d : CellId) → is_among d xs ≡ true → P d
 all_among P [] all d there = absurd (true≢false (sym there))
 all_among P (x ∷ xs) all d there = elim (or_cases (cell_eq d x) (is_among d xs) there) [
   | inl first ↦ subst P (sym (same_cell d x first)) all.0

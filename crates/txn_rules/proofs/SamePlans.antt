@@ -19,7 +19,8 @@ use Rattle.lay_items.specs.IdOrder.{ids_exact, ids_total}
 use Rattle.lay_items.specs.Layout.{Layout, is_cell, item_at}
 use Rattle.lay_items.specs.Sound.{IsSound}
 use Rattle.txn_rules.specs.declared.command.Command.{Command}
-use Rattle.txn_rules.specs.declared.command.Command.TheVariants.{Box, Delete, DropCell, Look, MakeCell, Move, Place, Poly, SetLayer}
+use Rattle.txn_rules.specs.declared.command.Command.TheVariants.{Bool as Combine, Box, Delete, DropCell, Look, MakeCell, Move, Place, Poly}
+use Rattle.txn_rules.specs.declared.command.Command.TheVariants.{SetLayer}
 use Rattle.txn_rules.specs.declared.element.Element.{Element}
 use Rattle.txn_rules.specs.declared.element.Element.TheVariants.{Calls, Cell, Content, Item, Uses}
 use Rattle.txn_rules.specs.declared.fault.CmdFault.{CmdFault}
@@ -30,6 +31,7 @@ use Rattle.txn_rules.specs.Figures.{box_ring, is_item_in_range, moved, shape_of}
 use Rattle.txn_rules.specs.Lies.{lies}
 use Rattle.txn_rules.specs.Plans.{drawn, is_used, move_to, plan, refused_if, relayer, with_value}
 use Rattle.txn_rules.specs.Reach.{is_among, reached}
+use Rattle.txn_rules.proofs.Booleans.{same_bool}
 use Rattle.txn_rules.proofs.Agreements.{same_is_cell, same_item, same_slot}
 use Rattle.txn_rules.proofs.Lists.{all_mapped, all_parts}
 use Rattle.txn_rules.proofs.Lying.{filter-alike_maps, is_some_entry, list_any-filter}
@@ -203,5 +205,6 @@ same_plan new (Look id) l m act _ _ h agree =
     let item = given (item_at l id) NoItem (λ x. Ok (look_act id x)) act h in
     let same : look_act id item.0 ≡ act = cc (item.2) in
     on_item l m id (λ x. Ok (look_act id x)) act (sym (ap (λ (x : Act). x.elements) same)) h agree
+same_plan new (Combine op cell a b out) l m act one other h agree = same_bool new op cell a b out l m act one other h agree
 same_plan new (MakeCell number) l m act _ _ h agree = same_make_cell new number l m act h agree
 same_plan new (DropCell number) l m act _ _ h agree = same_drop_cell new number l m act h agree

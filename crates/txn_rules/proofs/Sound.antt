@@ -1,8 +1,9 @@
 -- Accepted commands, and runs of them, keep a layout sound.
-use Rattle.std.proofs.Common.{◌≡◌, ◌⊎◌, inl, inr, ℕ, Bool, true, false, ◌||◌, cond, List, [], ◌∷◌, Option, None, Some}
+use Rattle.std.proofs.Common.{◌≡◌, ◌⊎◌, inl, inr, ℕ, Bool, true, false, ◌||◌, cond, List, [], ◌∷◌, ◌++◌, Option, None, Ok, Some}
 use Rattle.std.proofs.Common.{is_some, nat_lt, refl, ap, sym, subst, ◌∙◌, arith}
 use Rattle.std.proofs.lemmas.Bool.{or_parts, true≢false}
 use Rattle.std.proofs.lemmas.Bool.Decides.{Decides-eqb, nat_tests}
+use Rattle.std.specs.List.{AllByRecursion}
 use Rattle.std.specs.Cmp.{nat_cmp_total}
 use Rattle.std.specs.FinMap.{get, nat_cmp-IsAntisymmetric}
 use Rattle.std.specs.Ordering.{eq_by_cmp, nat_cmp}
@@ -23,25 +24,31 @@ use Rattle.lay_items.specs.declared.version.CellSlot.TheVariants.{Base, Made}
 use Rattle.lay_items.specs.Calls.{Call, call_of, calls_of}
 use Rattle.lay_items.specs.IdOrder.{ids_exact, ids_total}
 use Rattle.lay_items.specs.Items.{cell_of}
-use Rattle.lay_items.specs.Layout.{Layout, is_cell, item_at}
+use Rattle.lay_items.specs.Layout.{Layout, Write, is_cell, item_at}
 use Rattle.lay_items.specs.Sound.{IsSound, IsSoundItem}
 use Rattle.lay_items.proofs.SoundLemmas.{one_ring}
 use Rattle.txn_rules.specs.declared.command.Command.{Command}
 use Rattle.txn_rules.specs.declared.command.Done.{Done}
 use Rattle.txn_rules.specs.declared.command.TxnId.{TxnId}
 use Rattle.txn_rules.specs.declared.element.Element.TheVariants.{Content, Uses}
-use Rattle.txn_rules.specs.Acts.{Act}
+use Rattle.bool_rules.specs.Op.{Op}
+use Rattle.bool_rules.specs.Shapes.{Rings}
+use Rattle.bool_rules.specs.Booleans.{bool_shapes}
+use Rattle.bool_rules.proofs.BooleanLaws.{booleans_are_drawn}
+use Rattle.txn_rules.specs.Acts.{Act, new_shapes, removals}
 use Rattle.txn_rules.specs.Effects.{Run, after_each, next_id}
 use Rattle.txn_rules.specs.Figures.{is_item_in_range, moved}
 use Rattle.txn_rules.specs.Lies.{lies}
-use Rattle.txn_rules.specs.Plans.{is_used}
+use Rattle.txn_rules.specs.Plans.{is_used, shape_ids}
 use Rattle.txn_rules.specs.Reach.{is_among, reached}
 use Rattle.txn_rules.specs.Writing.{rewritten}
+use Rattle.txn_rules.proofs.Booleans.{IsDrawnIn, WritesAs, bool_there, removed_as, written_drawn}
+use Rattle.txn_rules.proofs.Lists.{all_joined}
 use Rattle.txn_rules.proofs.CallLists.{AreButFor, IsCalled, acyclic_with, called_by_item, item_called}
 use Rattle.txn_rules.proofs.Lying.{no_entry_passes}
 use Rattle.txn_rules.proofs.Maps.{get-put, other_key, written_value}
 use Rattle.txn_rules.proofs.Planned.{IsPlanned, planned}
-use Rattle.txn_rules.proofs.Planned.IsPlanned.{deletes, draws, drops_cell, looks, makes_cell, moves, places, relayers}
+use Rattle.txn_rules.proofs.Planned.IsPlanned.{deletes, draws, drops_cell, looks, makes_cell, moves, places, relayers, replaces}
 use Rattle.txn_rules.proofs.Reach.{cell_eq-refl, reached-walks}
 use Rattle.txn_rules.proofs.Runs.{IsAct, run_keeps}
 use Rattle.txn_rules.proofs.Shifts.{drawn_shifted}
@@ -227,6 +234,31 @@ drops_cell-sound l number sound unused = record {
   old_slot : (q : ℕ) (slot : CellSlot) → get (with_slot l number None).symbols q ≡ Some slot → get l.symbols q ≡ Some slot
   old_slot q slot h = elim (written_slot l number None q slot h) [ inl here ↦ absurd (cc (here.1)) | inr old ↦ old ]
 
+-- shapes come and items go in a cell that is there
+shapes-sound : (cell : CellId) (writes : List Write) → AllByRecursion (WritesAs (IsDrawnIn cell)) writes → (l : Layout) → IsSound l →
+    is_cell l cell ≡ true → IsSound (rewritten l writes [])
+shapes-sound cell [] all l sound there = sound
+shapes-sound cell (w ∷ writes) all l sound there =
+    shapes-sound cell writes all.1 (with_item l w.0 w.1) first (same_cells l (with_item l w.0 w.1) cell refl there) where
+      drawn : (x : items.Item) → IsDrawnIn cell w.0 x → IsSoundItem l x
+      drawn x is = subst (IsSoundItem l) is.2 (there, is.3)
+
+      calls_none : (x : items.Item) (call : Call) → IsDrawnIn cell w.0 x → call_of x ≡ Some call → IsCalled l call
+      calls_none x call is h = let none : None ≡ Some call = ap call_of is.2 ∙ h in absurd cc
+
+      first : IsSound (with_item l w.0 w.1)
+      first = written-sound l w.0 w.1 sound (λ x h. drawn x (all.0 x h)) (λ x call h is. calls_none x call (all.0 x h) is)
+
+replaces-sound : (new : ItemId) (l : Layout) (op : Op) (cell : CellId) (a b out : List ℕ) (shapes : List Rings) → IsSound l →
+    bool_shapes l op cell a b ≡ Ok shapes →
+    IsSound (rewritten l (removals (shape_ids l cell out) ++ new_shapes new cell out shapes) [])
+replaces-sound new l op cell a b out shapes sound some =
+    let old = shape_ids l cell out in
+    let drawn = booleans_are_drawn l sound op cell a b shapes some in
+    shapes-sound cell (removals old ++ new_shapes new cell out shapes)
+    (all_joined (WritesAs (IsDrawnIn cell)) (removals old) (new_shapes new cell out shapes) (removed_as (IsDrawnIn cell) old)
+    (written_drawn cell out shapes new drawn)) l sound (bool_there l op cell a b shapes some)
+
 -- the layout after an act
 abbrev acted_on : Layout → Act → Layout
 acted_on l act = rewritten l act.items act.symbols
@@ -242,6 +274,8 @@ act-sound new l act (relayers id layer old cell rings there same) sound = subst 
 act-sound new l act (places cell target turn there found near apart same) sound = subst (λ (a : Act). IsSound (acted_on l a)) same
     (places-sound l new cell target turn sound there found near apart)
 act-sound new l act (looks id item there same) sound = subst (λ (a : Act). IsSound (acted_on l a)) same sound
+act-sound new l act (replaces op cell a b out shapes some same) sound = subst (λ (a : Act). IsSound (acted_on l a)) same
+    (replaces-sound new l op cell a b out shapes sound some)
 act-sound new l act (makes_cell number small free same) sound = subst (λ (a : Act). IsSound (acted_on l a)) same
     (makes_cell-sound l number sound small)
 act-sound new l act (drops_cell number unused same) sound = subst (λ (a : Act). IsSound (acted_on l a)) same

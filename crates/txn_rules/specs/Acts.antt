@@ -1,18 +1,19 @@
 -- Acts: what an accepted command does.
-use Rattle.std.specs.Prelude.{ℕ, List, [], ◌∷◌, ◌++◌, map, Option, None, Some}
+use Rattle.std.specs.Prelude.{ℕ, zero, suc, ◌+◌, List, [], ◌∷◌, ◌++◌, flat_map, length, map, Option, None, Some}
 use Rattle.lay_cells.specs.declared.cell_id.CellId.{CellId}
 use Rattle.lay_cells.specs.declared.cell_id.CellId.TheVariants.{Symbol, Top}
 use Rattle.lay_point.specs.declared.turn.Turn.{Turn}
 use Rattle.lay_items.specs.declared.id.ItemId.{ItemId}
 use Rattle.lay_items.specs.declared.item.Item as items
-use Rattle.lay_items.specs.declared.item.Item.TheVariants.{Placed}
+use Rattle.lay_items.specs.declared.item.Item.TheVariants.{Placed, Shape}
 use Rattle.lay_items.specs.declared.version.CellSlot.TheVariants.{Made as MadeSlot}
 use Rattle.lay_items.specs.Layout.{Write}
 use Rattle.txn_rules.specs.declared.command.Done.{Done}
-use Rattle.txn_rules.specs.declared.command.Done.TheVariants.{Found, Made, Plain}
+use Rattle.txn_rules.specs.declared.command.Done.TheVariants.{Empty, Found, Made, Plain, Several}
 use Rattle.txn_rules.specs.declared.element.Element.{Element}
-use Rattle.txn_rules.specs.declared.element.Element.TheVariants.{Calls, Cell, Content, Item, Uses}
+use Rattle.txn_rules.specs.declared.element.Element.TheVariants.{Calls, Cell, Content, Item, Layer, Uses}
 use Rattle.lay_items.specs.Layout.{SymbolWrite}
+use Rattle.bool_rules.specs.Shapes.{Rings}
 
 -- the answer, the elements that are touched, what is written, and how many items are made
 pub record Act : Type 0 where
@@ -72,4 +73,43 @@ drop_cell_act number = record {
   items = [];
   symbols = (number, None) ∷ [];
   made = 0;
+}
+
+-- the id behind this one
+abbrev pub id_after : ItemId → ItemId
+id_after id = record { session = id.session; txn = id.txn; seq = id.seq + 1 }
+
+-- shapes on a layer of a cell, under new ids from this one on
+abbrev pub new_shapes : ItemId → CellId → List ℕ → List Rings → List Write
+new_shapes new cell layer [] = []
+new_shapes new cell layer (rings ∷ shapes) = (new, Some (Shape cell layer rings)) ∷ new_shapes (id_after new) cell layer shapes
+
+-- the items of these ids go
+abbrev pub removals : List ItemId → List Write
+removals ids = map (λ id. (id, None)) ids
+
+-- so many new items, from this id on
+abbrev pub made_from : ItemId → ℕ → Done
+made_from new zero = Empty
+made_from new (suc zero) = Made new
+made_from new (suc (suc more)) = Several new (suc (suc more))
+
+-- what an operation on two layers reads in a cell: the calls, and the shapes on both layers
+abbrev pub operands : List ℕ → List ℕ → CellId → List Element
+operands a b cell = Calls cell ∷ Layer cell a ∷ Layer cell b ∷ []
+
+-- the elements of ids
+abbrev pub item_elements : List Write → List Element
+item_elements writes = map (λ write. Item write.0) writes
+
+-- the shapes of an operation take the place of those of the cell on their layer, which have these ids; these cells are reached
+-- from the cell
+abbrev pub bool_act : ItemId → CellId → List ℕ → List ℕ → List ℕ → List CellId → List ItemId → List Rings → Act
+bool_act new cell a b out cells old shapes = record {
+  done = made_from new (length shapes);
+  elements = item_elements (removals old ++ new_shapes new cell out shapes)
+      ++ (cell_elements cell ++ Layer cell out ∷ flat_map (operands a b) cells);
+  items = removals old ++ new_shapes new cell out shapes;
+  symbols = [];
+  made = length shapes;
 }

@@ -16,3 +16,5 @@ pub mod Covers
 pub mod Own
 pub mod Laws
 pub mod Transactions
+pub use Rattle.bool_rules.specs.Booleans
+pub use Rattle.bool_rules.specs.Op

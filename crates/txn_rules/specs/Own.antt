@@ -1,10 +1,10 @@
 -- The items that a transaction made.
-use Rattle.std.specs.Prelude.{◌≡◌, ℕ, ◌≤◌, None, Some}
+use Rattle.std.specs.Prelude.{◌≡◌, ℕ, ◌+◌, ◌<◌, ◌≤◌, None, Some}
 use Rattle.lay_items.specs.declared.id.ItemId.{ItemId}
 use Rattle.lay_items.specs.declared.item.Item as items
 use Rattle.lay_items.specs.Layout.{Layout, item_at}
 use Rattle.txn_rules.specs.declared.command.Done.{Done}
-use Rattle.txn_rules.specs.declared.command.Done.TheVariants.{Made}
+use Rattle.txn_rules.specs.declared.command.Done.TheVariants.{Empty, Found, Made, Plain, Several}
 use Rattle.txn_rules.specs.declared.command.TxnId.{TxnId}
 use Rattle.txn_rules.specs.Effects.{Run}
 
@@ -15,9 +15,21 @@ pub record IsOwn (txn : TxnId) (made : ℕ) (id : ItemId) : Type 0 where
   pub first : 1 ≤ id.seq
   pub last : id.seq ≤ made
 
--- an answer that names an item names one of the transaction's own
+-- the id that is so many behind this one
+abbrev pub id_from : ItemId → ℕ → ItemId
+id_from id n = record { session = id.session; txn = id.txn; seq = id.seq + n }
+
+-- the answer names the item of this id
+abbrev pub Names : Done → ItemId → Type 0
+Names (Made made) id = made ≡ id
+Names (Several first count) id = (n : ℕ) × (n < count) × (id_from first n ≡ id)
+Names Empty id = ⊥
+Names Plain id = ⊥
+Names (Found item) id = ⊥
+
+-- the items that an answer names are the transaction's own
 abbrev pub AnswersOwn : TxnId → ℕ → Done → Type 0
-AnswersOwn txn made done = (id : ItemId) → done ≡ Made id → IsOwn txn made id
+AnswersOwn txn made done = (id : ItemId) → Names done id → IsOwn txn made id
 
 -- items under ids that were free are the transaction's own
 abbrev pub NewAreOwn : TxnId → Layout → Run → Type 0

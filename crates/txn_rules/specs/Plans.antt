@@ -1,6 +1,7 @@
 -- What each command is to do on a layout, or why it is refused, in the order in which it is tested.
 -- Source: this project's own rules of editing.
-use Rattle.std.specs.Prelude.{ℕ, List, Bool, not, nat_lt, ◌&&◌, ◌||◌, Option, None, Some, Result, Ok, Err, is_some, if◌then◌else◌}
+use Rattle.std.specs.Prelude.{ℕ, List, map as map_list, Bool, not, nat_lt, ◌&&◌, ◌||◌, Option, None, Some, Result, Ok, Err, is_some}
+use Rattle.std.specs.Prelude.{if◌then◌else◌}
 use Rattle.std.specs.FinMap as map
 use Rattle.std.specs.List.{list_any}
 use Rattle.std.specs.Ordering.{int_eq}
@@ -16,13 +17,19 @@ use Rattle.lay_items.specs.declared.id.ItemId.{ItemId}
 use Rattle.lay_items.specs.declared.item.Item as items
 use Rattle.lay_items.specs.declared.item.Item.TheVariants as item
 use Rattle.lay_items.specs.Layout.{Layout, is_cell, item_at}
+use Rattle.lay_items.specs.Lent.{shapes_in}
+use Rattle.lay_flat.specs.declared.fault.FlatFault.{FlatFault}
+use Rattle.lay_flat.specs.declared.fault.FlatFault.TheVariants as flat_fault
+use Rattle.bool_rules.specs.Shapes.{Rings}
+use Rattle.bool_rules.specs.Booleans.{bool_shapes}
 use Rattle.txn_rules.specs.declared.command.Command.{Command}
-use Rattle.txn_rules.specs.declared.command.Command.TheVariants.{Box, Delete, DropCell, Look, MakeCell, Move, Place, Poly, SetLayer}
+use Rattle.txn_rules.specs.declared.command.Command.TheVariants.{Bool as Combine, Box, Delete, DropCell, Look, MakeCell, Move, Place, Poly}
+use Rattle.txn_rules.specs.declared.command.Command.TheVariants.{SetLayer}
 use Rattle.txn_rules.specs.declared.element.Element.TheVariants.{Content, Uses}
 use Rattle.txn_rules.specs.declared.fault.CmdFault.{CmdFault}
 use Rattle.txn_rules.specs.declared.fault.CmdFault.TheVariants.{CellThere, CellUsed, Cycle, FewPoints, NoCell, NoItem, NoMemory, NotShape}
-use Rattle.txn_rules.specs.declared.fault.CmdFault.TheVariants.{OutOfRange, TooMany}
-use Rattle.txn_rules.specs.Acts.{Act, change_act, drop_cell_act, look_act, make_cell_act, place_act, shape_act}
+use Rattle.txn_rules.specs.declared.fault.CmdFault.TheVariants.{OutOfRange, TooDeep, TooMany}
+use Rattle.txn_rules.specs.Acts.{Act, bool_act, change_act, drop_cell_act, look_act, make_cell_act, place_act, shape_act}
 use Rattle.txn_rules.specs.Figures.{box_ring, is_item_in_range, moved, shape_of}
 use Rattle.txn_rules.specs.Lies.{lies}
 use Rattle.txn_rules.specs.Reach.{is_among, reached}
@@ -62,6 +69,24 @@ abbrev pub is_used : Layout → ℕ → Bool
 is_used layout number =
     list_any (λ entry. lies (Content number) entry.0 entry.1 || lies (Uses number) entry.0 entry.1) (map.entries layout.items)
 
+-- why there are no shapes of an operation
+abbrev pub fault_of_flat : FlatFault → CmdFault
+fault_of_flat flat_fault.NoCell = NoCell
+fault_of_flat flat_fault.TooDeep = TooDeep
+fault_of_flat flat_fault.TooMany = TooMany
+fault_of_flat flat_fault.OutOfRange = OutOfRange
+fault_of_flat flat_fault.NoMemory = NoMemory
+
+-- the ids of a cell's shapes on a layer
+abbrev pub shape_ids : Layout → CellId → List ℕ → List ItemId
+shape_ids layout cell layer = map_list (λ shape. shape.0) (shapes_in layout cell layer)
+
+-- shapes take the place of those of the cell on a layer, which have these ids; these cells are reached from the cell
+abbrev pub replace_by : ItemId → CellId → List ℕ → List ℕ → List ℕ → List CellId → List ItemId → Result (List Rings) FlatFault
+    → Result Act CmdFault
+replace_by new cell a b out cells old (Ok shapes) = Ok (bool_act new cell a b out cells old shapes)
+replace_by new cell a b out cells old (Err fault) = Err (fault_of_flat fault)
+
 -- what a command does on a layout, where the next new item has this id
 unfoldable pub plan : ItemId → Command → Layout → Result Act CmdFault
 plan new (Box cell layer a b) layout =
@@ -81,6 +106,8 @@ plan new (Place cell target turn) layout =
     (refused_if (is_among cell (reached layout (Symbol target))) Cycle
     (Ok (place_act new cell target turn (reached layout (Symbol target)))))))
 plan new (Look id) layout = with_value (item_at layout id) NoItem (λ item. Ok (look_act id item))
+plan new (Combine op cell a b out) layout =
+    replace_by new cell a b out (reached layout cell) (shape_ids layout cell out) (bool_shapes layout op cell a b)
 plan new (MakeCell number) layout =
     refused_if (nat_lt MAX_SYMBOL number) OutOfRange
     (refused_if (is_some (map.get layout.symbols number)) CellThere (Ok (make_cell_act number)))

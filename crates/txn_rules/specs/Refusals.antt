@@ -2,7 +2,7 @@
 use Rattle.std.specs.Prelude.{ℕ, List, ◌++◌, codes, decimal}
 use Rattle.txn_rules.specs.declared.fault.CmdFault.{CmdFault}
 use Rattle.txn_rules.specs.declared.fault.CmdFault.TheVariants.{CellThere, CellUsed, Cycle, FewPoints, NoCell, NoItem, NoMemory, NotShape}
-use Rattle.txn_rules.specs.declared.fault.CmdFault.TheVariants.{OutOfRange, TooMany, TxnFull}
+use Rattle.txn_rules.specs.declared.fault.CmdFault.TheVariants.{OutOfRange, TooDeep, TooMany, TxnFull}
 use Rattle.txn_rules.specs.declared.command.TxnId.{TxnId}
 
 -- the number and the name of a refusal
@@ -17,6 +17,7 @@ command_code NotShape = (3, codes "NotShape")
 command_code FewPoints = (4, codes "FewPoints")
 command_code OutOfRange = (5, codes "OutOfRange")
 command_code Cycle = (6, codes "Cycle")
+command_code TooDeep = (7, codes "TooDeep")
 command_code TooMany = (8, codes "TooMany")
 command_code TxnFull = (10, codes "TxnFull")
 command_code NoMemory = (11, codes "NoMemory")

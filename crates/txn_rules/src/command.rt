@@ -2,6 +2,7 @@
 ghost use Rattle.std.specs.Prelude.{◌≡◌, IfOk, Ok};
 ghost use Rattle.lay_point.specs.Memory.{IsAnswer};
 
+use bool_rules::Op;
 use lay_cells::CellId;
 use lay_items::{Item, ItemId};
 use lay_point::{LayerName, NoMemory, Point, Sequence, Turn};
@@ -86,6 +87,19 @@ pub enum Command {
     },
     /// The item of this id is read.
     Look(ItemId),
+    /// The shapes of a cell on a layer give way to those of an operation on two layers below the cell.
+    Bool {
+        /// What is asked of a place, by whether the two layers hold there.
+        op: Op,
+        /// The cell.
+        cell: CellId,
+        /// The layer of the first input.
+        a: LayerName,
+        /// The layer of the second input.
+        b: LayerName,
+        /// The layer on which the new shapes are drawn.
+        out: LayerName,
+    },
     /// A new symbol of this number.
     MakeCell(u32),
     /// The symbol of this number goes, which holds nothing and isn't called.
@@ -129,6 +143,19 @@ impl Command {
                 turn: *turn,
             }),
             Command::Look(id) => Ok(Command::Look(*id)),
+            Command::Bool {
+                op,
+                cell,
+                a,
+                b,
+                out,
+            } => Ok(Command::Bool {
+                op: *op,
+                cell: *cell,
+                a: *a,
+                b: *b,
+                out: *out,
+            }),
             Command::MakeCell(number) => Ok(Command::MakeCell(*number)),
             Command::DropCell(number) => Ok(Command::DropCell(*number)),
         }
@@ -148,6 +175,15 @@ fn copied(alloc: Global, points: &Sequence<Point>) -> Result<Sequence<Point>, No
 pub enum Done {
     /// A new item stands under this id.
     Made(ItemId),
+    /// New items stand under this id and those behind it, two or more.
+    Several {
+        /// The first of their ids. The others have its session and transaction, and the next numbers.
+        first: ItemId,
+        /// How many they are.
+        count: u32,
+    },
+    /// No shape was to be made.
+    Empty,
     /// It is done.
     Plain,
     /// The item that was read.

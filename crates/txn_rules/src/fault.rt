@@ -26,8 +26,12 @@ pub enum CmdFault {
     /// The symbol to call is the cell of the call, or calls lead from it to that.
     #[error("the symbol would contain itself")]
     Cycle,
-    /// The ring has more points than it may have.
-    #[error("the ring has too many points")]
+    /// A walk of calls below the cell has too many calls.
+    #[error("calls lead too deep")]
+    TooDeep,
+    /// The ring has more points than it may have; or there are more walks, rings or sides below the cell, or
+    /// more points in a new ring or round the rings of a new shape, than there may be.
+    #[error("there are too many points, rings, sides or walks")]
     TooMany,
     /// The transaction has as many accepted commands, or new items, as it may have.
     #[error("the transaction has as many commands or new items as it may have")]
@@ -55,6 +59,7 @@ impl CmdFault {
             CmdFault::FewPoints => (4, "FewPoints"),
             CmdFault::OutOfRange => (5, "OutOfRange"),
             CmdFault::Cycle => (6, "Cycle"),
+            CmdFault::TooDeep => (7, "TooDeep"),
             CmdFault::TooMany => (8, "TooMany"),
             CmdFault::TxnFull => (10, "TxnFull"),
             CmdFault::NoMemory => (11, "NoMemory"),

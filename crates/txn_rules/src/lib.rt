@@ -18,6 +18,7 @@ mod record;
 #[cfg(test)]
 mod tests;
 
+pub use bool_rules::Op;
 pub use command::{Command, Done, MAX_COMMANDS, TxnId};
 pub use element::Element;
 pub use fault::CmdFault;

@@ -61,6 +61,7 @@ fn refusals_have_their_numbers(rt: HostRuntime) -> Result<(), Fail> {
         (CmdFault::FewPoints, 4),
         (CmdFault::OutOfRange, 5),
         (CmdFault::Cycle, 6),
+        (CmdFault::TooDeep, 7),
         (CmdFault::TooMany, 8),
         (CmdFault::TxnFull, 10),
         (CmdFault::NoMemory, 11),

@@ -2,3 +2,4 @@ pub mod Searches
 pub mod Shifting
 pub mod Marks
 pub mod Kept
+pub mod Operated

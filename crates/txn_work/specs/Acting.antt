@@ -1,5 +1,5 @@
 -- What contracts see of an act.
-use Rattle.std.specs.Prelude.{List, [], ◌∷◌, if◌then◌else◌, refl, ℕ}
+use Rattle.std.specs.Prelude.{List, [], ◌∷◌, refl, ℕ}
 use Rattle.std.specs.Coded.{Coded, code_by, coded×, coded_list, coded_option, coded_ℕ}
 use Rattle.lay_items.specs.contracts.item.Item as item
 use Rattle.lay_items.specs.contracts.version.CellSlot as slot
@@ -12,18 +12,20 @@ use Rattle.txn_rules.specs.declared.element.Element.{Element}
 use Rattle.txn_rules.specs.Acts.{Act}
 use Rattle.txn_work.specs.declared.act.Act.TheInside.{Inside}
 use Rattle.txn_work.specs.declared.act.Written.{Written}
-use Rattle.txn_work.specs.declared.act.Written.TheVariants.{Item, Nothing, Symbol}
+use Rattle.txn_work.specs.declared.act.Written.TheVariants.{Item, Items, Nothing, Symbol}
 
 -- what is written of items
 abbrev pub items_in : Written → List Write
 items_in Nothing = []
 items_in (Item id item) = (id, item) ∷ []
+items_in (Items writes) = writes.items
 items_in (Symbol number slot) = []
 
 -- and of symbols
 abbrev pub symbols_in : Written → List SymbolWrite
 symbols_in Nothing = []
 symbols_in (Item id item) = []
+symbols_in (Items writes) = []
 symbols_in (Symbol number slot) = (number, slot) ∷ []
 
 abbrev pub act_in : Inside → Act
@@ -32,7 +34,7 @@ act_in a = record {
   elements = a.elements.items;
   items = items_in a.written;
   symbols = symbols_in a.written;
-  made = if a.makes then 1 else 0;
+  made = a.made;
 }
 
 -- an act is stored as its parts

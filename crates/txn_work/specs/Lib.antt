@@ -6,3 +6,4 @@ pub mod Searching
 pub mod Moving
 pub mod Using
 pub mod Marking
+pub mod Shaping

@@ -1,6 +1,7 @@
 -- The search for the symbols to which calls lead: each is entered once, the first that is pending first.
 use Rattle.std.specs.Prelude.{ℕ, zero, suc, ◌+◌, List, [], ◌∷◌, ◌++◌, length, map, Option, None, Some, if◌then◌else◌, unwrap_or}
-use Rattle.lay_cells.specs.declared.cell_id.CellId.TheVariants.{Symbol}
+use Rattle.lay_cells.specs.declared.cell_id.CellId.{CellId}
+use Rattle.lay_cells.specs.declared.cell_id.CellId.TheVariants.{Symbol, Top}
 use Rattle.lay_cells.specs.Symbols.{has_symbol}
 use Rattle.lay_items.specs.Calls.{calls_of}
 use Rattle.lay_items.specs.Layout.{Layout}
@@ -9,9 +10,18 @@ use Rattle.lay_items.specs.Lent.{LentCall, calls_in}
 abbrev pub target_of : LentCall → ℕ
 target_of call = call.1
 
--- the symbols that are called in a symbol, in order of the calls
-abbrev pub called_in : Layout → ℕ → List ℕ
-called_in layout number = map target_of (calls_in layout (Symbol number))
+-- the symbols that are called in a cell, in order of the calls
+abbrev pub called_in : Layout → CellId → List ℕ
+called_in layout cell = map target_of (calls_in layout cell)
+
+-- in a symbol
+abbrev pub called_by : Layout → ℕ → List ℕ
+called_by layout number = called_in layout (Symbol number)
+
+-- the symbol that the cell is, or those that the top cell calls
+abbrev pub first_in : Layout → CellId → List ℕ
+first_in layout Top = called_in layout Top
+first_in layout (Symbol number) = number ∷ []
 
 -- the symbols found, and behind them the pending ones and those that they lead to, each once; None where there are more
 -- steps than counted
@@ -22,6 +32,16 @@ searched step (suc steps) (number ∷ pending) found =
     if has_symbol found number then searched step steps pending found
     else searched step steps (step number ++ pending) (found ++ number ∷ [])
 
--- those of a layout that one leads to, itself first: each call is looked at once
-unfoldable pub symbols_from : Layout → ℕ → List ℕ
-symbols_from layout from = unwrap_or (searched (called_in layout) (1 + length (calls_of layout)) (from ∷ []) []) []
+-- those of a layout that a cell leads to, itself first where it is one: each call is looked at once
+unfoldable pub symbols_from : Layout → CellId → List ℕ
+symbols_from layout from =
+    unwrap_or (searched (called_by layout) (length (first_in layout from) + length (calls_of layout)) (first_in layout from) []) []
+
+-- the top cell, where it is that
+abbrev pub top_in : CellId → List CellId
+top_in Top = Top ∷ []
+top_in (Symbol number) = []
+
+-- the cells that a cell leads to, itself first
+abbrev pub cells_from : Layout → CellId → List CellId
+cells_from layout from = top_in from ++ map Symbol (symbols_from layout from)

@@ -10,25 +10,27 @@ use std::alloc::Global;
 use std::marker::Model;
 use txn_rules::{Done, Element};
 
-/// What an accepted command writes: at most one item or one symbol.
+/// What an accepted command writes: items, or a symbol.
 #[derive(Drop)]
 pub(crate) enum Written {
     /// It writes nothing.
     Nothing,
     /// Under this id stands this item from then on, or none.
     Item(ItemId, Option<Item>),
+    /// The same of each of these ids, one behind the other.
+    Items(Vec<(ItemId, Option<Item>)>),
     /// The symbol of this number has this slot from then on, or goes.
     Symbol(u32, Option<CellSlot>),
 }
 
-/// The answer to a command, the elements that it touches, what it writes, and whether it makes an item.
+/// The answer to a command, the elements that it touches, what it writes, and how many items it makes.
 /// Contracts see the act.
 #[derive(Drop)]
 pub(crate) struct Act {
     pub(crate) done: Done,
     pub(crate) elements: Vec<Element>,
     pub(crate) written: Written,
-    pub(crate) makes: bool,
+    pub(crate) made: u32,
 }
 
 impl Model for Act {
@@ -51,7 +53,7 @@ pub(crate) fn make_act(new: ItemId, item: Item, touched: Vec<Element>) -> Act
         done: Done::Made(new),
         elements: touched,
         written: Written::Item(new, Some(item)),
-        makes: true,
+        made: 1,
     }
 }
 
@@ -63,7 +65,7 @@ pub(crate) fn change_act(alloc: Global, id: ItemId, item: Option<Item>) -> Resul
         done: Done::Plain,
         elements: one(alloc, Element::Item(id))?,
         written: Written::Item(id, item),
-        makes: false,
+        made: 0,
     })
 }
 
@@ -75,7 +77,7 @@ pub(crate) fn look_act(alloc: Global, id: ItemId, item: Item) -> Result<Act, NoM
         done: Done::Found(item),
         elements: one(alloc, Element::Item(id))?,
         written: Written::Nothing,
-        makes: false,
+        made: 0,
     })
 }
 
@@ -87,7 +89,7 @@ pub(crate) fn make_cell_act(alloc: Global, number: u32) -> Result<Act, NoMemory>
         done: Done::Plain,
         elements: one(alloc, Element::Cell(number))?,
         written: Written::Symbol(number, Some(CellSlot::Made)),
-        makes: false,
+        made: 0,
     })
 }
 
@@ -103,7 +105,7 @@ pub(crate) fn drop_cell_act(alloc: Global, number: u32) -> Result<Act, NoMemory>
         done: Done::Plain,
         elements,
         written: Written::Symbol(number, None),
-        makes: false,
+        made: 0,
     })
 }
 

@@ -14,11 +14,12 @@
 //! ```text
 //! let mut work = Work::new(alloc, snapshot, TxnId { session: 1, txn: 1 }, 0);
 //! let command = Command::Box { cell: CellId::Top, layer, a, b };
-//! assert_eq!(work.run(alloc, command), Ok(Done::Made(id)));
+//! assert_eq!(work.run(rt, alloc, command, &OneBand), Ok(Done::Made(id)));
 //! ```
 #![tactic(auto)]
 
 mod act;
+mod booleans;
 mod calls;
 mod cells;
 mod changes;

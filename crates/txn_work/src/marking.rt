@@ -1,5 +1,5 @@
 //! What an act leaves in the footprint and in the writes, or nothing where an allocation fails.
-ghost use Rattle.std.specs.Prelude.{◌≡◌, IfOk, OnErr, OnOk};
+ghost use Rattle.std.specs.Prelude.{◌≡◌, ◌∷◌, [], IfOk, OnErr, OnOk};
 ghost use Rattle.lay_items.specs.Layout.{Layout};
 ghost use Rattle.txn_rules.specs.Elements.{with_elements};
 ghost use Rattle.txn_rules.specs.Records.{records_between};
@@ -8,7 +8,7 @@ ghost use Rattle.txn_work.specs.Acting.{items_in, symbols_in};
 ghost use Rattle.txn_work.specs.Marking.{HasNone, missing_in, without_elements};
 
 use crate::act::Written;
-use lay_items::Snapshot;
+use lay_items::{Item, ItemId, Snapshot};
 use lay_point::NoMemory;
 use std::alloc::Global;
 use txn_marks::{Footprint, Writes};
@@ -94,13 +94,49 @@ fn write(
 {
     match written {
         Written::Nothing => Ok(()),
-        Written::Item(id, after) => {
-            let before = match snapshot.item(id) {
-                Some(item) => Some(item.copy(alloc)?),
-                None => None,
-            };
-            writes.set_item(id, before, after)
+        Written::Item(id, after) => write_item(alloc, snapshot, writes, id, after),
+        Written::Items(items) => {
+            // Some writes may fail behind others, so they are made in a copy.
+            let mut next = writes.copy()?;
+            write_items(alloc, snapshot, &mut next, items)?;
+            *writes = next;
+            Ok(())
         }
         Written::Symbol(number, after) => writes.set_symbol(number, snapshot.slot(number), after),
     }
+}
+
+/// Writes an item over a snapshot.
+fn write_item(
+    alloc: Global,
+    snapshot: &Snapshot,
+    writes: &mut Writes,
+    id: ItemId,
+    after: Option<Item>,
+) -> Result<(), NoMemory>
+    ensures ok { OnOk result ((m : Layout) → writes.old ≡ records_between snapshot.now m
+        → writes.new ≡ records_between snapshot.now (rewritten m ((id, after) ∷ []) [])) }
+    ensures err { OnErr result (writes.new ≡ writes.old) }
+{
+    let before = match snapshot.item(id) {
+        Some(item) => Some(item.copy(alloc)?),
+        None => None,
+    };
+    writes.set_item(id, before, after)
+}
+
+/// Writes items over a snapshot, one behind the other.
+fn write_items(
+    alloc: Global,
+    snapshot: &Snapshot,
+    writes: &mut Writes,
+    items: Vec<(ItemId, Option<Item>)>,
+) -> Result<(), NoMemory>
+    ensures { OnOk result ((m : Layout) → writes.old ≡ records_between snapshot.now m
+        → writes.new ≡ records_between snapshot.now (rewritten m items.items [])) }
+{
+    for (id, after) in items {
+        write_item(alloc, snapshot, writes, id, after)?;
+    }
+    Ok(())
 }

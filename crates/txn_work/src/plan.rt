@@ -4,19 +4,25 @@ ghost use Rattle.lay_point.specs.Memory.{IsAnswer};
 ghost use Rattle.txn_rules.specs.Plans.{plan};
 
 use crate::act::Act;
+use crate::booleans::{Asked, plan_bool};
 use crate::calls::plan_place;
 use crate::cells::{plan_drop_cell, plan_make_cell};
 use crate::changes::{plan_delete, plan_layer, plan_look, plan_move};
 use crate::seen::Seen;
 use crate::shapes::{plan_box, plan_poly};
+use band_workers::Bands;
 use lay_items::ItemId;
 use std::alloc::Global;
+use std::thread::Threads;
 use txn_rules::{CmdFault, Command};
 
 /// Plans a command on the layout as its transaction sees it, whose next new item has this id. The refusals
-/// come in the order of each command's tests. Any answer can give way to `NoMemory`.
+/// come in the order of each command's tests. Any answer can give way to `NoMemory`. `bands` finds the
+/// edges of a Boolean.
 pub(crate) fn plan(
+    rt: &(impl Threads + Sync),
     alloc: Global,
+    bands: &impl Bands,
     seen: &Seen<'_>,
     new: ItemId,
     command: &Command,
@@ -37,6 +43,22 @@ pub(crate) fn plan(
             plan_place(alloc, seen, new, *cell, *target, *turn)
         }
         Command::Look(id) => plan_look(alloc, seen, new, *id),
+        Command::Bool {
+            op,
+            cell,
+            a,
+            b,
+            out,
+        } => {
+            let asked = Asked {
+                op: *op,
+                cell: *cell,
+                a: *a,
+                b: *b,
+                out: *out,
+            };
+            plan_bool(rt, alloc, bands, seen, new, asked)
+        }
         Command::MakeCell(number) => plan_make_cell(alloc, seen, new, *number),
         Command::DropCell(number) => plan_drop_cell(alloc, seen, new, *number),
     }

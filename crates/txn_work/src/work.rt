@@ -1,5 +1,5 @@
 //! Transactions at work on a snapshot.
-ghost use Rattle.std.specs.Prelude.{◌≡◌, ◌+◌, ◌≤◌, [], if◌then◌else◌, IfOk, OnErr, OnOk, Ok, false, option_copied};
+ghost use Rattle.std.specs.Prelude.{◌≡◌, ◌+◌, ◌≤◌, [], IfOk, OnErr, OnOk, Ok, false, option_copied};
 ghost use Rattle.lay_point.specs.Memory.{IsAnswer};
 ghost use Rattle.lay_items.specs.Layout.{item_at};
 ghost use Rattle.lay_items.specs.Sound.{IsSound};
@@ -13,10 +13,12 @@ use crate::act::Act;
 use crate::marking::mark;
 use crate::plan::plan;
 use crate::seen::Seen;
+use band_workers::Bands;
 use lay_items::{Item, ItemId, Snapshot};
 use lay_point::{NoMemory, Sequence};
 use std::alloc::Global;
 use std::marker::Model;
+use std::thread::Threads;
 use txn_marks::{Footprint, Writes};
 use txn_rules::{CmdFault, Command, Done, MAX_COMMANDS, TxnId};
 
@@ -139,12 +141,19 @@ impl Work {
 
     /// Runs a command in the transaction. The refusals come in the order of the command's tests, and
     /// `TxnFull` after them; any answer can give way to `NoMemory`. A refused command changes nothing.
-    pub fn run(&mut self, alloc: Global, command: Command) -> Result<Done, CmdFault>
+    /// `bands` finds the edges of a Boolean, which is rounded in as many threads as there are processors.
+    pub fn run(
+        &mut self,
+        rt: &(impl Threads + Sync),
+        alloc: Global,
+        command: Command,
+        bands: &impl Bands,
+    ) -> Result<Done, CmdFault>
         ensures answer { IsAnswer CmdFault.NoMemory result (answer_to self.old command) }
         ensures ok { OnOk result (self.new ≡ after_command self.old command) }
         ensures err { OnErr result (self.new ≡ self.old) }
     {
-        let act = plan(alloc, &self.seen(), self.next_id(), &command)?;
+        let act = plan(rt, alloc, bands, &self.seen(), self.next_id(), &command)?;
         if self.has_no_room_for(&act) {
             return Err(CmdFault::TxnFull);
         }
@@ -173,7 +182,8 @@ impl Work {
     fn has_no_room_for(&self, act: &Act) -> bool
         ensures { result ≡ is_too_much (run_so_far self.now) act.now }
     {
-        self.commands.len() >= MAX_COMMANDS || (act.makes && self.made as usize >= MAX_COMMANDS)
+        self.commands.len() >= MAX_COMMANDS
+            || u64::from(self.made) + u64::from(act.made) > MAX_COMMANDS as u64
     }
 
     /// Performs what a command was planned to do.
@@ -189,9 +199,9 @@ impl Work {
             done,
             elements,
             written,
-            makes,
+            made,
         } = act;
-        let more = made_after(self.made, makes);
+        let more = made_after(self.made, made);
         self.commands.reserve(1)?;
         mark(
             alloc,
@@ -207,10 +217,10 @@ impl Work {
     }
 }
 
-/// Returns how many items are made behind an act.
-fn made_after(made: u32, makes: bool) -> u32
-    requires { made ≤ MAX_COMMANDS }
-    ensures { result ≡ made + (if makes then 1 else 0) }
+/// Returns how many items are made behind an act that makes so many.
+fn made_after(made: u32, more: u32) -> u32
+    requires { made + more ≤ MAX_COMMANDS }
+    ensures { result ≡ made + more }
 {
-    if makes { made + 1 } else { made }
+    made + more
 }

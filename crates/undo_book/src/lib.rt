@@ -16,7 +16,7 @@
 //! ```text
 //! let mut book = Book::new(alloc, base)?;
 //! let mut work = book.open(alloc, 1)?;
-//! work.run(alloc, command)?;
+//! work.run(rt, alloc, command, &OneBand)?;
 //! let txn = book.commit(alloc, work)?;
 //! book.undo(alloc, 1, txn)?;
 //! book.redo(alloc, 1, txn)?;

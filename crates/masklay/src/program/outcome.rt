@@ -6,6 +6,7 @@ ghost use Rattle.masklay.specs.declared.program.outcome.Stop.TheVariants.{NoMemo
 ghost use Rattle.session_core.specs.Machine.{is_memory};
 ghost use Rattle.masklay.specs.Outcome.{AnswersOutcome, finished_from, sessions_for, stop_of_cif, stop_of_job};
 
+use band_workers::OneBand;
 use cif_read::{CifFault, FaultKind, read};
 use job_text::{Job, JobFault, order_of};
 use lay_items::Snapshot;
@@ -13,6 +14,7 @@ use lay_point::{NoMemory, Sequence};
 use session_core::Machine;
 use session_steps::{Reply, Step, StepFault, dealt, in_turn};
 use std::alloc::Global;
+use std::thread::Threads;
 use txn_rules::CmdFault;
 use undo_rules::BookFault;
 
@@ -70,7 +72,11 @@ impl From<NoMemory> for Stop {
 
 /// Runs the job of the bytes.
 #[tactic(auto, unfolding(crate::specs::Outcome::IsOutcome))]
-pub(super) fn finish(alloc: Global, bytes: &[u8]) -> Result<Finished, Stop>
+pub(super) fn finish(
+    rt: &(impl Threads + Sync),
+    alloc: Global,
+    bytes: &[u8],
+) -> Result<Finished, Stop>
     ensures { AnswersOutcome bytes.now result }
 {
     let Job {
@@ -80,11 +86,12 @@ pub(super) fn finish(alloc: Global, bytes: &[u8]) -> Result<Finished, Stop>
     } = Job::read(alloc, bytes)?;
     let file = read(alloc, cif)?;
     let base = Snapshot::from_cif(alloc, file)?;
-    finish_steps(alloc, base, scripts, order)
+    finish_steps(rt, alloc, base, scripts, order)
 }
 
 /// Runs the scripts' steps in this order on the layout.
 fn finish_steps(
+    rt: &(impl Threads + Sync),
     alloc: Global,
     base: Snapshot,
     scripts: Sequence<Sequence<Step>>,
@@ -94,7 +101,7 @@ fn finish_steps(
 {
     let sessions = sessions_for(scripts.as_slice().len());
     let steps = in_turn(alloc, scripts, order.as_slice())?;
-    let (machine, replies) = Machine::run(alloc, base, sessions, steps)?;
+    let (machine, replies) = Machine::run(rt, alloc, base, sessions, steps, &OneBand)?;
     if is_out_of_memory(&replies) {
         return Err(Stop::NoMemory);
     }

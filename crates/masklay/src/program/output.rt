@@ -10,13 +10,18 @@ use job_text::comments;
 use lay_point::NoMemory;
 use std::alloc::Global;
 use std::io::Write;
+use std::thread::Threads;
 
 /// Returns what is to be written for the job of the bytes, and the status with which the program then
 /// ends.
-pub(super) fn output_of(alloc: Global, bytes: &[u8]) -> Result<(Vec<u8>, Status), NoMemory>
+pub(super) fn output_of(
+    rt: &(impl Threads + Sync),
+    alloc: Global,
+    bytes: &[u8],
+) -> Result<(Vec<u8>, Status), NoMemory>
     ensures { IfOk result (λ output. IsOutput bytes.now (record { text = output.0.items; status = output.1 })) }
 {
-    match finish(alloc, bytes) {
+    match finish(rt, alloc, bytes) {
         Ok(finished) => Ok((finished_text(alloc, &finished)?, Status::Done)),
         Err(Stop::JobFault(line)) => Ok((job_fault_text(alloc, line)?, Status::Job)),
         Err(Stop::CifFault(fault)) => Ok((cif_fault_text(alloc, fault)?, Status::Cif)),

@@ -1,6 +1,7 @@
 //! Tests of devices that fail. Whole jobs are files of tests/jobs, which tests/program runs.
 
 use super::*;
+use band_workers::OneBand;
 use byte_io::{Failing, MemoryIn, MemoryOut};
 use cif_read::read;
 use cif_write::write;
@@ -19,10 +20,11 @@ const FIRST_OUTPUT: &[u8] =
 
 /// How the program ends on the job and what it writes, where the input answers so many reads and the
 /// output takes so many bytes.
-fn ended(alloc: Global, job: &[u8], reads: usize, room: usize) -> (Status, MemoryOut) {
+fn ended(rt: &HostRuntime, job: &[u8], reads: usize, room: usize) -> (Status, MemoryOut) {
+    let alloc = rt.alloc();
     let mut input = MemoryIn::new(job, 5, reads);
     let mut out = MemoryOut::new(alloc, 1000, room, Failing::ByErr);
-    let status = run(alloc, Options {}, &mut input, &mut out);
+    let status = run(rt, alloc, Options {}, &mut input, &mut out);
     (status, out)
 }
 
@@ -37,7 +39,7 @@ fn ends_with_status_5_where_a_device_fails(rt: HostRuntime) {
         (b"", 1000, 0, b""),
     ];
     for (job, reads, room, want) in rows {
-        let (status, out) = ended(rt.alloc(), job, reads, room);
+        let (status, out) = ended(&rt, job, reads, room);
         assert_eq!(rt; status, Status::Device, "{want:?}");
         assert_eq!(rt; out.written(), want);
     }
@@ -47,7 +49,7 @@ fn ends_with_status_5_where_a_device_fails(rt: HostRuntime) {
 #[test]
 fn a_full_device_holds_a_prefix_of_the_output(rt: HostRuntime) {
     for room in 0..FIRST_OUTPUT.len() {
-        let (status, out) = ended(rt.alloc(), FIRST_RUN, 1000, room);
+        let (status, out) = ended(&rt, FIRST_RUN, 1000, room);
         assert_eq!(rt; status, Status::Device, "{room}");
         assert_eq!(rt; out.written(), &FIRST_OUTPUT[..room], "{room}");
     }
@@ -78,10 +80,22 @@ fn the_library_reads_edits_and_writes(rt: HostRuntime) -> Result<(), Fail> {
     let layer = LayerName::new(b"NP").ok_or("no layer name")?;
     let (a, b) = (Point { x: 0, y: 0 }, Point { x: 10, y: 10 });
     let cell = CellId::Top;
-    machine.step(alloc, 1, Step::Open);
-    machine.step(alloc, 1, Step::Do(Command::Box { cell, layer, a, b }));
-    machine.step(alloc, 1, Step::Commit);
-    machine.step(alloc, 1, Step::Undo(TxnId { session: 1, txn: 1 }));
+    machine.step(&rt, alloc, 1, Step::Open, &OneBand);
+    machine.step(
+        &rt,
+        alloc,
+        1,
+        Step::Do(Command::Box { cell, layer, a, b }),
+        &OneBand,
+    );
+    machine.step(&rt, alloc, 1, Step::Commit, &OneBand);
+    machine.step(
+        &rt,
+        alloc,
+        1,
+        Step::Undo(TxnId { session: 1, txn: 1 }),
+        &OneBand,
+    );
     let mut out = MemoryOut::new(alloc, 4096, 4096, Failing::ByErr);
     write(alloc, machine.book().snapshot(), &mut out)?;
     let want: &[u8] = b"DS 1 1 2;\nL NM;\nP -40 -20 40 -20 40 20 -40 20;\nDF;\nC 1;\nE\n";

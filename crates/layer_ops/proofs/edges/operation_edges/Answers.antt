@@ -3,7 +3,7 @@ use Rattle.std.proofs.Common.{◌≡◌, Bool, map, ◌∙◌}
 use Rattle.std.specs.Prelude.{filter}
 use Rattle.std.specs.List.{zip}
 use Rattle.lay_point.specs.declared.point.Point.{Point}
-use Rattle.label_laws.specs.Labels.{differs, items_of}
+use Rattle.face_labels.specs.Labels.{differs, items_of}
 use Rattle.face_labels.specs.Operations.{answer}
 use Rattle.layer_ops.proofs.Kept.{kept_by_labels}
 use Rattle.layer_ops.proofs.edges.operation_edges.Goals as goal

@@ -1,6 +1,6 @@
 -- Turned rings are rings, and rounding them has one answer.
 use Rattle.std.proofs.Common.{◌≡◌, sym, subst, ◌∙◌}
-use Rattle.round_laws.specs.Laws.{AreRings}
+use Rattle.shape_laws.specs.RoundLaws.{AreRings}
 use Rattle.shape_laws.specs.Shapes.{owned_of}
 use Rattle.shape_laws.proofs.TurningLemmas.{owned_are_rings}
 use Rattle.layer_ops.proofs.Both.{both_turned, rounded_is}

@@ -5,7 +5,7 @@ use Rattle.link_laws.specs.Linking.{rings_of}
 use Rattle.round_laws.specs.Crossings.{crossing_of, hot_centres}
 use Rattle.round_laws.specs.Meeting.{leaves_some_in, meets_of}
 use Rattle.round_laws.specs.Rounding.{chain_of, edges_gone, owners_of, rounded_of, walks_round}
-use Rattle.label_laws.specs.Labels.{differs}
+use Rattle.face_labels.specs.Labels.{differs}
 use Rattle.shape_laws.specs.Dividing.{parts_of}
 use Rattle.shape_laws.specs.Shapes.{shapes_of}
 use Rattle.shape_laws.proofs.tests.boxes_have_these_shapes.Goals as goal

@@ -4,4 +4,4 @@ use Rattle.txn_work.proofs.calls.called_in.Given as goal
 
 -- the symbols that are left come behind those so far
 abbrev pub invariant-loop-target : goal.invariant-loop-target
-invariant-loop-target l = l.called.items ++ map target_of l.target-iterator ≡ called_in l.layout l.number
+invariant-loop-target l = l.called.items ++ map target_of l.target-iterator ≡ called_in l.layout l.fn.cell

@@ -7,7 +7,7 @@ use Rattle.txn_work.proofs.calls.symbols_from.Given as goal
 abbrev pub invariant-loop-number : goal.invariant-loop-number
 invariant-loop-number l = record {
   seen : l.seen ≡ l.found.items;
-  searches : Searches l.layout l.pending.items l.found.items (symbols_from l.layout l.from);
+  searches : Searches l.layout l.pending.items l.found.items (symbols_from l.layout l.fn.from);
 }
 
 abbrev pub decreases-loop-number : goal.decreases-loop-number

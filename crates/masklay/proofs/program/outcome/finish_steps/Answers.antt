@@ -12,13 +12,13 @@ use Rattle.masklay.proofs.program.outcome.finish_steps.Goals as goal
 
 -- as many hands as sessions, so no more than 64
 pub order_of-requires : goal.order_of-requires
-order_of-requires c =
+order_of-requires g c =
     let few : c.sessions_for-sessions.result ≤ 64 = search rules in
     let hands : c.as_slice-4.result.now ≡ dealt c.args.order c.in_ok-machine.replies.items (replicate c.sessions_for-sessions.result []) = search rules in
     rw hands (few_hands c.args.order c.in_ok-machine.replies.items c.sessions_for-sessions.result few)
 
 pub returns : goal.returns
-returns c =
+returns g c =
     let n = c.sessions_for-sessions.result in
     let base = c.args.base in
     let order = c.args.order in

@@ -8,7 +8,7 @@ use Rattle.session_core.proofs.machine.Machine.run.Goals as goal
 
 -- the step led on from the steps before it
 pub loop-session-preserved : goal.loop-session-preserved
-loop-session-preserved c =
+loop-session-preserved g c =
     let old = start c.args.base c.args.sessions MAX_CALLS in
     let session = c.in-Some.session in
     let reply = c.step-reply.result in

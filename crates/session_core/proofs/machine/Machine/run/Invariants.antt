@@ -5,7 +5,7 @@ use Rattle.session_core.specs.Machine.{IsNotForeign, Ran, start}
 use Rattle.session_core.proofs.machine.Machine.run.Given as goal
 
 abbrev pub invariant-loop-session : goal.invariant-loop-session
-invariant-loop-session l = record {
+invariant-loop-session g l = record {
   ran : Ran (start l.fn.base l.fn.sessions MAX_CALLS) l.yielded l.replies.items l.machine;
   own : All IsNotForeign l.replies.items;
 }

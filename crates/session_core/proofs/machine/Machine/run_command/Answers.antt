@@ -8,7 +8,7 @@ use Rattle.session_core.proofs.machine.Machine.run_command.Goals as goal
 use Rattle.session_core.proofs.machine.Machine.run_command.Goals.{in-Ok, in-Err}
 
 pub invariant_of-self-2 : goal.invariant_of-self-2
-invariant_of-self-2 c =
+invariant_of-self-2 g c =
     let works = c.self.inside.works.items in
     let place = c.from-place.result - 1 in
     let t = taken_out c.self.inside c.args.self.now c.self.view_is c.self.invariant c.args.session c.from-place.result c.from-place.ensures
@@ -19,7 +19,7 @@ invariant_of-self-2 c =
     (commanded c.self.inside.book works place c.in-Some.work new c.self.invariant t.inside t.found same)
 
 pub returns-clause-step : goal.returns-clause-step
-returns-clause-step c =
+returns-clause-step g c =
     let s = machine_state c.self.inside in
     let works = c.self.inside.works.items in
     let place = c.from-place.result - 1 in

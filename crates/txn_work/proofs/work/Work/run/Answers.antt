@@ -10,7 +10,7 @@ use Rattle.txn_work.proofs.Kept.{refused_so, too_much_so}
 use Rattle.txn_work.proofs.work.Work.run.Goals as goal
 
 pub returns-in_err-act-clause-answer : goal.returns-in_err-act-clause-answer
-returns-in_err-act-clause-answer c =
+returns-in_err-act-clause-answer g c =
     let planned : IsAnswer NoMemory c.plan.result
     (plan (next_id c.args.self.now.id (run_so_far c.args.self.now)) c.args.command (run_so_far c.args.self.now).layout) =
     subst (λ (l : Layout). IsAnswer NoMemory c.plan.result (plan (next_id c.args.self.now.id (run_so_far c.args.self.now)) c.args.command l))
@@ -19,7 +19,7 @@ returns-in_err-act-clause-answer c =
     search rules
 
 pub returns-then-has_no_room_for-clause-answer : goal.returns-then-has_no_room_for-clause-answer
-returns-then-has_no_room_for-clause-answer c =
+returns-then-has_no_room_for-clause-answer g c =
     let planned : IsAnswer NoMemory c.plan.result
     (plan (next_id c.args.self.now.id (run_so_far c.args.self.now)) c.args.command (run_so_far c.args.self.now).layout) =
     subst (λ (l : Layout). IsAnswer NoMemory c.plan.result (plan (next_id c.args.self.now.id (run_so_far c.args.self.now)) c.args.command l))

@@ -1,0 +1,4 @@
+pub mod Numbered
+pub mod Replacing
+pub mod Places
+pub mod Others

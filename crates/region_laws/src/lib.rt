@@ -1,0 +1,15 @@
+//! Where the shapes are that a Boolean command writes.
+//!
+//! Such a command computes an operation on two layers: it removes the shapes of its cell on an
+//! output layer and writes those of the operation there. `bool_rules` says where the shapes of an
+//! operation are, and `txn_rules` what a command writes. The laws here join the two: directly
+//! behind the command a place is inside some shape of the cell on the output layer exactly where
+//! the operation holds of the two layers as they were, rounded together. So it is of the rings of
+//! the shapes, and of the one path for each shape that the text of a layout has. Shapes elsewhere,
+//! calls and symbols stay, where the ids of the new shapes are free. `commands_draw_operations`
+//! does nothing: it carries the laws.
+#![tactic(auto)]
+
+mod laws;
+
+pub use laws::commands_draw_operations;
