@@ -1,1 +1,2 @@
+pub mod BufferedLemmas
 pub mod DecimalLemmas

@@ -1,3 +1,4 @@
+pub mod Buffered
 pub mod Decimal
 pub mod Device
 pub mod Input

@@ -1,10 +1,12 @@
 //! Bytes in and out: devices, and decimal numbers as text.
 //!
-//! An `Out` takes bytes and an `In` gives them. Each has ghost members, which contracts read: what was
-//! written or remains to be read, `None` where the device can't know it, and counts of its calls. So a
-//! contract over any device says which bytes were written and how often it failed. `put_all` writes a
-//! whole text, or a prefix of it up to the first failure. `MemoryOut` and `MemoryIn` are devices in
-//! memory that fail where they are told to; tests use them in place of files.
+//! An `Out` takes bytes and an `In` gives them. Each has ghost members, which contracts read: what
+//! was written or remains to be read, `None` where the device can't know it, and counts of its calls.
+//! So a contract over any device says which bytes were written and how often it failed. `put_all`
+//! writes a whole text, or a prefix of it up to the first failure. An `OutBuffer` stands before a
+//! device that is to take many small pieces: it takes no memory, and keeps the first failure until
+//! `flush` reports it. `MemoryOut` and `MemoryIn` are devices in memory that fail where they are told
+//! to; tests use them in place of files.
 //!
 //! `push_unsigned` and `push_signed` append a number's decimal digits to a text, and `capped_decimal` is
 //! the way back: the value of digits of any length, in 32 bits.
@@ -18,6 +20,7 @@
 //! ```
 #![tactic(auto)]
 
+mod buffer;
 mod count;
 mod decimal;
 mod device;
@@ -26,6 +29,7 @@ mod memory;
 #[cfg(test)]
 mod tests;
 
+pub use buffer::OutBuffer;
 pub use count::GhostCount;
 pub use decimal::{capped_decimal, push_signed, push_unsigned};
 pub use device::{Out, OutFault, put_all};

@@ -24,6 +24,40 @@ fn a_full_output_has_a_prefix_of_the_bytes(rt: HostRuntime) {
     }
 }
 
+// Could catch bytes that are lost or change places where the buffer runs full or a piece is longer
+// than it, a device that is asked again after it failed, and a number that isn't put in digits.
+#[test]
+fn a_buffered_text_is_written_in_order(rt: HostRuntime) -> Result<(), Fail> {
+    let long = [b'x'; 5000];
+    let rows: [(usize, bool, usize); 4] = [
+        (usize::MAX, true, 10_000),
+        (4_999, false, 4_999),
+        (3, false, 3),
+        (0, false, 0),
+    ];
+    for (room, want, written) in rows {
+        let mut out = MemoryOut::new(rt.alloc(), 1000, room, Failing::ByErr);
+        let mut buffer = OutBuffer::new();
+        let mut text = Vec::new(rt.alloc());
+        for number in 0..1000 {
+            buffer.put_unsigned(&mut out, number);
+            push_unsigned(&mut text, number)?;
+        }
+        buffer.put(&mut out, &long);
+        buffer.put_signed(&mut out, -2_110);
+        buffer.put(&mut out, &long[..2_105]);
+        text.extend_from_slice(&long)?;
+        push_signed(&mut text, -2_110)?;
+        text.extend_from_slice(&long[..2_105])?;
+        let flushed = buffer.flush(&mut out);
+        assert_eq!(rt; flushed.is_ok(), want, "room {room}");
+        assert_eq!(rt; buffer.has_failed(), !want, "room {room}");
+        assert_eq!(rt; out.written().len(), written, "room {room}");
+        assert!(rt; text.starts_with(out.written()), "room {room}");
+    }
+    Ok(())
+}
+
 // Could catch an input that gives other pieces than it should, and one that doesn't fail.
 #[test]
 fn an_input_gives_its_bytes_and_fails(rt: HostRuntime) {
