@@ -18,6 +18,7 @@ use Rattle.cif_read.specs.declared.fault.FaultKind.{FaultKind}
 use Rattle.cif_read.specs.declared.fault.FaultKind.TheVariants.{Flash, Syntax, Wire}
 use Rattle.cif_read.specs.Content.{after_box, after_layer, after_polygon, effect_of}
 use Rattle.cif_read.specs.Meaning.{after_piece, definition_kind, read_as, unread_kind}
+use Rattle.cif_read.specs.Steps.{leaves}
 
 made : {A : Type 0} (content : Content) (offset : ℕ) (make : A → Command) (effect : A → Result Content FaultKind)
     → ((x : A) → effect_of content offset (make x) ≡ effect x) → (o : Option A)
@@ -70,6 +71,15 @@ pub comment_piece : (content : Content) (offset : ℕ) (bs : List ℕ)
 unfolding command_of unread_kind
 comment_piece content offset bs = by (is_comment bs) where
   by : (b : Bool) → read_as Syntax (effect_of content offset) (cond b (Some Comment) None) ≡ cond b (Ok content) (Err Syntax)
+  by true = refl
+  by false = refl
+
+-- what a comment leaves is the content before it
+pub comment_leaves : (content : Content) (bs : List ℕ) (result : Result (Unit {0}) FaultKind)
+    → result ≡ cond (is_comment bs) (Ok tt) (Err Syntax)
+    → leaves result content ≡ cond (is_comment bs) (Ok content) (Err Syntax)
+comment_leaves content bs result e = rw e (by (is_comment bs)) where
+  by : (b : Bool) → leaves {U = Unit {0}} (cond b (Ok tt) (Err Syntax)) content ≡ cond b (Ok content) (Err Syntax)
   by true = refl
   by false = refl
 

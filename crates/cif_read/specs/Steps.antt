@@ -12,3 +12,8 @@ and_then (Err e) next = Err e
 abbrev pub at_offset : {A : Type 0} → ℕ → Result A FaultKind → Result A CifFault
 at_offset offset (Ok x) = Ok x
 at_offset offset (Err kind) = Err (record { kind = kind; offset = offset })
+
+-- what a change that may be refused leaves, or its fault
+abbrev pub leaves : {U A E : Type 0} → Result U E → A → Result A E
+leaves (Ok _) x = Ok x
+leaves (Err e) x = Err e

@@ -1,5 +1,5 @@
 //! What the commands so far mean.
-ghost use Rattle.std.specs.Prelude.{◌≡◌, ◌+◌, ◌<◌, ◌^◌, MatchOption, Ok, Err, ⊤, if◌then◌else◌};
+ghost use Rattle.std.specs.Prelude.{◌≡◌, ◌+◌, ◌<◌, ◌^◌, MatchOption, OnOk, Ok, Err, ⊤, if◌then◌else◌};
 ghost use Rattle.lay_point.specs.Memory.{IsAnswer};
 ghost use Rattle.std.specs.List.{list_any};
 ghost use Rattle.cif_commands.specs.Boxes.{box_of};
@@ -14,6 +14,7 @@ ghost use Rattle.cif_read.specs.Content.{with_figure};
 ghost use Rattle.cif_read.specs.Meaning.{after_piece, definition_kind, read_as};
 ghost use Rattle.cif_read.specs.Polygons.{is_too_big};
 ghost use Rattle.cif_read.specs.Scales.{IsRatio};
+ghost use Rattle.cif_read.specs.Steps.{leaves};
 ghost use Rattle.cif_read.specs.Symbols.{definition_fault, has_zero_scale, is_big_definition};
 ghost use Rattle.cif_read.specs.declared.fault.FaultKind.TheVariants.{NoMemory as OutOfMemory, Syntax};
 
@@ -32,6 +33,7 @@ use cif_scan::{Class, skip};
 use lay_cells::{CellId, Cells, MAX_SYMBOL};
 use lay_point::{LayerName, NoMemory, Ring, Sequence, Turn};
 use std::alloc::Global;
+use std::mem;
 
 /// A definition that the text is in.
 #[derive(Clone, Copy, Debug)]
@@ -90,49 +92,29 @@ impl Content {
         }
     }
 
-    /// Returns what is meant after the bytes of the command at this offset, without their semicolon.
-    pub fn with(self, alloc: Global, offset: usize, bytes: &[u8]) -> Result<Content, FaultKind>
-        requires { counted self + 1 < 2 ^ 32 }
-        ensures { IsAnswer OutOfMemory result (after_piece self offset bytes.now) }
+    /// Applies the command at this offset, whose bytes stand here without their semicolon. After a fault the
+    /// content is not to be used.
+    pub fn apply(&mut self, alloc: Global, offset: usize, bytes: &[u8]) -> Result<(), FaultKind>
+        requires { counted self.old + 1 < 2 ^ 32 }
+        ensures { IsAnswer OutOfMemory (leaves result self.new) (after_piece self.old offset bytes.now) }
     {
         let Some((first, behind)) = bytes.split_first() else {
             return Err(FaultKind::Syntax);
         };
         if first.is_ascii_digit() {
-            return Ok(self.with_extension());
+            self.extensions += 1;
+            return Ok(());
         }
         match *first {
-            b'P' => self.with_polygon(alloc, behind),
-            b'B' => self.with_box(alloc, behind),
-            b'L' => self.with_layer(behind),
-            b'D' => self.with_bracket(skip(behind, Class::Blank)),
-            b'C' => self.with_call(alloc, offset, behind),
-            b'(' => self.with_comment(behind),
+            b'P' => self.add_polygon(alloc, behind),
+            b'B' => self.add_box(alloc, behind),
+            b'L' => self.set_layer(behind),
+            b'D' => self.apply_bracket(skip(behind, Class::Blank)),
+            b'C' => self.add_call(alloc, offset, behind),
+            b'(' => checked_comment(behind),
             b'W' => Err(FaultKind::Wire),
             b'R' => Err(FaultKind::Flash),
             _ => Err(FaultKind::Syntax),
-        }
-    }
-
-    /// Returns what is meant after an extension.
-    fn with_extension(self) -> Content
-        requires { counted self + 1 < 2 ^ 32 }
-        ensures { result ≡ record self { extensions = self.extensions + 1 } }
-    {
-        Content {
-            extensions: self.extensions + 1,
-            ..self
-        }
-    }
-
-    /// Returns what is meant after the comment behind a `(`.
-    fn with_comment(self, bytes: &[u8]) -> Result<Content, FaultKind>
-        ensures { result ≡ (if is_comment bytes.now then Ok self else Err Syntax) }
-    {
-        if is_comment(bytes) {
-            Ok(self)
-        } else {
-            Err(FaultKind::Syntax)
         }
     }
 
@@ -159,38 +141,36 @@ impl Content {
         }
     }
 
-    /// Returns what is meant after one more element.
-    fn with_figure(self, figure: Figure) -> Result<Content, NoMemory>
-        ensures { IsAnswer (record {}) result (Ok (with_figure self figure)) }
+    /// Adds an element.
+    fn add_figure(&mut self, alloc: Global, figure: Figure) -> Result<(), NoMemory>
+        ensures { OnOk result (self.new ≡ with_figure self.old figure) }
     {
         let cell = self.cell();
-        let mut elements = self.elements.into_vec();
+        let kept = mem::replace(&mut self.elements, Sequence::from_vec(Vec::new(alloc)));
+        let mut elements = kept.into_vec();
         elements.push(Element { cell, figure })?;
-        Ok(Content {
-            elements: Sequence::from_vec(elements),
-            ..self
-        })
+        self.elements = Sequence::from_vec(elements);
+        Ok(())
     }
 
-    /// Returns what is meant after a polygon on the layer, or after one that is dropped.
-    fn drawn(self, layer: LayerName, ring: Option<Ring>) -> Result<Content, FaultKind>
-        requires { counted self + 1 < 2 ^ 32 }
-        ensures { IsAnswer OutOfMemory result (Ok (drawn self layer ring)) }
+    /// Draws a polygon on the layer, or counts one that is dropped.
+    fn draw(&mut self, alloc: Global, layer: LayerName, ring: Option<Ring>) -> Result<(), NoMemory>
+        requires { counted self.old + 1 < 2 ^ 32 }
+        ensures { OnOk result (self.new ≡ drawn self.old layer ring) }
     {
         match ring {
-            Some(ring) => Ok(self.with_figure(Figure::Polygon { layer, ring })?),
-            None => Ok(Content {
-                dropped: self.dropped + 1,
-                ..self
-            }),
+            Some(ring) => self.add_figure(alloc, Figure::Polygon { layer, ring })?,
+            None => self.dropped += 1,
         }
+        Ok(())
     }
 
-    /// Returns what is meant after the polygon behind a `P`.
+    /// Adds the polygon behind a `P`.
     #[tactic(auto, unfolding(crate::specs::Content::after_polygon))]
-    fn with_polygon(self, alloc: Global, bytes: &[u8]) -> Result<Content, FaultKind>
-        requires { counted self + 1 < 2 ^ 32 }
-        ensures { IsAnswer OutOfMemory result (read_as Syntax (after_polygon self) (path_of bytes.now)) }
+    fn add_polygon(&mut self, alloc: Global, bytes: &[u8]) -> Result<(), FaultKind>
+        requires { counted self.old + 1 < 2 ^ 32 }
+        ensures { IsAnswer OutOfMemory (leaves result self.new)
+            (read_as Syntax (after_polygon self.old) (path_of bytes.now)) }
     {
         let vertices = read_path(alloc, bytes)?.ok_or(FaultKind::Syntax)?;
         if is_big_path(vertices.as_slice()) {
@@ -198,14 +178,15 @@ impl Content {
         }
         let layer = self.layer.ok_or(FaultKind::NoLayer)?;
         let ring = polygon_ring(alloc, self.scale(), vertices.as_slice())?;
-        self.drawn(layer, ring)
+        Ok(self.draw(alloc, layer, ring)?)
     }
 
-    /// Returns what is meant after the box behind a `B`.
+    /// Adds the box behind a `B`.
     #[tactic(auto, unfolding(crate::specs::Content::after_box))]
-    fn with_box(self, alloc: Global, bytes: &[u8]) -> Result<Content, FaultKind>
-        requires { counted self + 1 < 2 ^ 32 }
-        ensures { IsAnswer OutOfMemory result (read_as Syntax (after_box self) (box_of bytes.now)) }
+    fn add_box(&mut self, alloc: Global, bytes: &[u8]) -> Result<(), FaultKind>
+        requires { counted self.old + 1 < 2 ^ 32 }
+        ensures { IsAnswer OutOfMemory (leaves result self.new)
+            (read_as Syntax (after_box self.old) (box_of bytes.now)) }
     {
         let numbers = read_box(bytes).ok_or(FaultKind::Syntax)?;
         if is_big_box(numbers) {
@@ -216,42 +197,40 @@ impl Content {
         }
         let layer = self.layer.ok_or(FaultKind::NoLayer)?;
         let ring = box_ring(alloc, self.scale(), numbers)?;
-        self.drawn(layer, ring)
+        Ok(self.draw(alloc, layer, ring)?)
     }
 
-    /// Returns what is meant after the layer behind an `L`.
+    /// Sets the layer behind an `L`.
     #[tactic(auto, using(crate::proofs::LayerLemmas::layer_name_of_layer), unfolding(crate::specs::Content::after_layer))]
-    fn with_layer(self, bytes: &[u8]) -> Result<Content, FaultKind>
-        ensures { result ≡ read_as Syntax (after_layer self) (layer_of bytes.now) }
+    fn set_layer(&mut self, bytes: &[u8]) -> Result<(), FaultKind>
+        ensures { leaves result self.new ≡ read_as Syntax (after_layer self.old) (layer_of bytes.now) }
     {
         let name = read_layer(bytes).ok_or(FaultKind::Syntax)?;
         let name = LayerName::new(name).ok_or(FaultKind::LongName)?;
-        Ok(Content {
-            layer: Some(name),
-            ..self
-        })
+        self.layer = Some(name);
+        Ok(())
     }
 
-    /// Returns what is meant after the beginning or the end of a definition behind a `D` and blanks.
-    fn with_bracket(self, bytes: &[u8]) -> Result<Content, FaultKind>
-        ensures { IsAnswer OutOfMemory result
-            (read_as (definition_kind bytes.now) (effect_of self 0) (bracket_of bytes.now)) }
+    /// Begins or ends a definition, as the bytes behind a `D` and blanks say.
+    fn apply_bracket(&mut self, bytes: &[u8]) -> Result<(), FaultKind>
+        ensures { IsAnswer OutOfMemory (leaves result self.new)
+            (read_as (definition_kind bytes.now) (effect_of self.old 0) (bracket_of bytes.now)) }
     {
         match bytes {
             [b'S', behind @ ..] => {
                 let definition = read_definition(behind).ok_or(FaultKind::Syntax)?;
-                self.begun(definition)
+                self.begin(definition)
             }
-            [b'F', behind @ ..] if are_blanks(behind) => self.finished(),
+            [b'F', behind @ ..] if are_blanks(behind) => self.finish(),
             [b'D', ..] => Err(FaultKind::DeleteDef),
             _ => Err(FaultKind::Syntax),
         }
     }
 
-    /// Returns what is meant after the beginning of a definition.
+    /// Begins a definition.
     #[tactic(auto, unfolding(crate::specs::Content::after_start))]
-    fn begun(mut self, heading: Definition) -> Result<Content, FaultKind>
-        ensures { IsAnswer OutOfMemory result (after_start self heading) }
+    fn begin(&mut self, heading: Definition) -> Result<(), FaultKind>
+        ensures { IsAnswer OutOfMemory (leaves result self.new) (after_start self.old heading) }
     {
         if self.definition.is_some() {
             return Err(FaultKind::Syntax);
@@ -260,48 +239,32 @@ impl Content {
             return Err(fault);
         }
         self.symbols.add(heading.symbol)?;
-        Ok(Content {
-            layer: None,
-            definition: Some(OpenDefinition {
-                symbol: heading.symbol,
-                scale: Ratio::of(heading.scale),
-                saved: self.layer,
-            }),
-            ..self
-        })
+        self.definition = Some(OpenDefinition {
+            symbol: heading.symbol,
+            scale: Ratio::of(heading.scale),
+            saved: self.layer,
+        });
+        self.layer = None;
+        Ok(())
     }
 
-    /// Returns what is meant after the end of a definition.
-    fn finished(self) -> Result<Content, FaultKind>
-        ensures { result ≡ finished self self.definition }
+    /// Ends the definition.
+    fn finish(&mut self) -> Result<(), FaultKind>
+        ensures { leaves result self.new ≡ finished self.old self.old.definition }
     {
-        let Content {
-            definition,
-            symbols,
-            elements,
-            calls,
-            extensions,
-            dropped,
-            ..
-        } = self;
-        let Some(definition) = definition else {
+        let Some(definition) = self.definition else {
             return Err(FaultKind::Syntax);
         };
-        Ok(Content {
-            layer: definition.saved,
-            definition: None,
-            symbols,
-            elements,
-            calls,
-            extensions,
-            dropped,
-        })
+        self.layer = definition.saved;
+        self.definition = None;
+        Ok(())
     }
 
-    /// Returns what is meant after the call behind a `C`, whose command stands at this offset.
+    /// Adds the call behind a `C`, whose command stands at this offset.
     #[tactic(auto, unfolding(crate::specs::Content::after_call))]
-    fn with_call(self, alloc: Global, offset: usize, bytes: &[u8]) -> Result<Content, FaultKind>
-        ensures { IsAnswer OutOfMemory result (read_as Syntax (effect_of self offset) (call_of bytes.now)) }
+    fn add_call(&mut self, alloc: Global, offset: usize, bytes: &[u8]) -> Result<(), FaultKind>
+        ensures { IsAnswer OutOfMemory (leaves result self.new)
+            (read_as Syntax (effect_of self.old offset) (call_of bytes.now)) }
     {
         let call = read_call(alloc, bytes)?.ok_or(FaultKind::Syntax)?;
         let changes = call.changes.as_slice();
@@ -309,25 +272,41 @@ impl Content {
             return Err(FaultKind::TooBig);
         }
         let turn = call_turn(self.scale(), changes)?;
-        Ok(self.called(offset, call.symbol, turn)?)
+        Ok(self.call(alloc, offset, call.symbol, turn)?)
     }
 
-    /// Returns what is meant after a call.
-    fn called(self, offset: usize, target: u32, turn: Turn) -> Result<Content, NoMemory>
-        ensures { IsAnswer (record {}) result (Ok (called self offset target turn)) }
+    /// Calls the symbol of this number, turned.
+    fn call(
+        &mut self,
+        alloc: Global,
+        offset: usize,
+        target: u32,
+        turn: Turn,
+    ) -> Result<(), NoMemory>
+        ensures { OnOk result (self.new ≡ called self.old offset target turn) }
     {
         let caller = self.cell();
-        let content = self.with_figure(Figure::Call { target, turn })?;
-        let mut calls = content.calls.into_vec();
+        self.add_figure(alloc, Figure::Call { target, turn })?;
+        let kept = mem::replace(&mut self.calls, Sequence::from_vec(Vec::new(alloc)));
+        let mut calls = kept.into_vec();
         calls.push(Pending {
             offset,
             caller,
             target,
         })?;
-        Ok(Content {
-            calls: Sequence::from_vec(calls),
-            ..content
-        })
+        self.calls = Sequence::from_vec(calls);
+        Ok(())
+    }
+}
+
+/// Returns a fault where the bytes behind a `(` are no comment.
+fn checked_comment(bytes: &[u8]) -> Result<(), FaultKind>
+    ensures { result ≡ (if is_comment bytes.now then Ok tt else Err Syntax) }
+{
+    if is_comment(bytes) {
+        Ok(())
+    } else {
+        Err(FaultKind::Syntax)
     }
 }
 

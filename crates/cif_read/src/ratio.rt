@@ -1,5 +1,5 @@
 //! Distances in database units, half-hundredths of a micrometre.
-ghost use Rattle.std.specs.Prelude.{◌≡◌, ◌≤◌, ◌*◌, ◌^◌, ◌*ℤ◌, ◌<ℤ◌, pos, neg_ℤ, unsigned_abs};
+ghost use Rattle.std.specs.Prelude.{◌≡◌, ◌≤◌, ◌*◌, ◌/◌, ◌^◌, ◌*ℤ◌, ◌<ℤ◌, pos, neg_ℤ, unsigned_abs};
 ghost use Rattle.cif_scan.specs.declared.number.TheConstants.{MAX_MAGNITUDE};
 ghost use Rattle.cif_read.specs.Polygons.{point_in_range};
 ghost use Rattle.cif_read.specs.Scales.{IsRatio, doubled, is_whole, is_whole_vertex, product, scaled, scaled_vertex, value_of};
@@ -45,7 +45,8 @@ impl Ratio {
         requires { unsigned_abs distance ≤ 3 * MAX_MAGNITUDE }
         ensures { result ≡ is_whole self distance }
     {
-        self.product(distance) % u64::from(self.scale.denominator) == 0
+        self.scale.denominator == 1
+            || self.product(distance) % u64::from(self.scale.denominator) == 0
     }
 
     /// Returns the distance at this scale, where it is whole.
@@ -56,8 +57,20 @@ impl Ratio {
         ensures low { neg_ℤ (pos (2 ^ 64)) <ℤ result }
         ensures high { result <ℤ pos (2 ^ 64) }
     {
-        let magnitude = i128::from(self.product(distance) / u64::from(self.scale.denominator));
+        let magnitude = i128::from(self.quotient(distance));
         if distance < 0 { -magnitude } else { magnitude }
+    }
+
+    /// Returns the magnitude of the distance at this scale, rounded down. Most scales need no division.
+    fn quotient(self, distance: i64) -> u64
+        requires { unsigned_abs distance ≤ 3 * MAX_MAGNITUDE }
+        ensures { result ≡ product self distance / self.denominator }
+    {
+        let product = self.product(distance);
+        match self.scale.denominator {
+            1 => product,
+            denominator => product / u64::from(denominator),
+        }
     }
 
     /// Returns the magnitude of the distance times the numerator. Both factors are bounded so that it is

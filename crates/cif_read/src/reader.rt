@@ -11,6 +11,7 @@ ghost use Rattle.cif_read.specs.Content.{content_of, counted};
 ghost use Rattle.cif_read.specs.Kept.{IsKept};
 ghost use Rattle.cif_read.specs.Meaning.{AnswersMeaning, IsEndOf, after_bytes, at_ending, begins_with_end, content_in, no_memory};
 ghost use Rattle.cif_read.specs.Meaning.{too_long};
+ghost use Rattle.cif_read.specs.Steps.{leaves};
 
 use crate::binding::bound;
 use crate::content::Content;
@@ -62,7 +63,7 @@ fn content_in(alloc: Global, text: &[u8]) -> Result<Content, CifFault>
                 offset,
             });
         };
-        content = after_bytes(alloc, content, offset, &rest[..len])?;
+        apply(alloc, &mut content, offset, &rest[..len])?;
         rest = skip(&rest[len + 1..], Class::Gap);
     }
     ended(content, text.len(), rest)
@@ -78,19 +79,14 @@ fn begins_with_end(bytes: &[u8]) -> bool
     }
 }
 
-/// Returns what is meant after the bytes of the command at this offset.
+/// Applies the bytes of the command at this offset to the content before it.
 #[tactic(auto, unfolding(crate::specs::Meaning::after_bytes))]
-fn after_bytes(
-    alloc: Global,
-    content: Content,
-    offset: usize,
-    bytes: &[u8],
-) -> Result<Content, CifFault>
-    requires { counted content + 1 < 2 ^ 32 }
-    ensures { IsAnswer no_memory result (after_bytes content offset bytes.now) }
+fn apply(alloc: Global, content: &mut Content, offset: usize, bytes: &[u8]) -> Result<(), CifFault>
+    requires { counted content.old + 1 < 2 ^ 32 }
+    ensures { IsAnswer no_memory (leaves result content.new) (after_bytes content.old offset bytes.now) }
 {
-    match content.with(alloc, offset, bytes) {
-        Ok(next) => Ok(next),
+    match content.apply(alloc, offset, bytes) {
+        Ok(()) => Ok(()),
         Err(FaultKind::NoMemory) => Err(CifFault {
             kind: FaultKind::NoMemory,
             offset: 0,

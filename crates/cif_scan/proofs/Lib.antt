@@ -1,4 +1,5 @@
 pub mod ByteClasses
 pub mod NumberGrammar
 pub mod Runs
+pub mod Digits
 pub mod Steps

@@ -1,5 +1,5 @@
 -- Runs of bytes of a class at the front: what is taken and what is skipped.
-use Rattle.std.proofs.Common.{◌≡◌, ℕ, ◌+◌, ◌<◌, Bool, true, false, cond, List, [], ◌∷◌, ◌++◌, length, drop, refl, sym, arith, one-add}
+use Rattle.std.proofs.Common.{◌≡◌, ℕ, ◌+◌, ◌<◌, Bool, true, false, cond, List, [], ◌∷◌, ◌++◌, length, take, drop, refl, sym, arith, one-add}
 use Rattle.std.specs.List.{take_while, AllPass, list_all, prefix_len}
 use Rattle.std.proofs.lemmas.Bool.{and_parts}
 use Rattle.std.proofs.lemmas.List.{get_or-take, length-take, take-append-drop, take_at, drop_at}
@@ -24,8 +24,14 @@ abbrev pub Stops : (ℕ → Bool) → List ℕ → Type 0
 Stops passes [] = Unit {0}
 Stops passes (b ∷ bs) = passes b ≡ false
 
-skip-cons : (passes : ℕ → Bool) (b : ℕ) (bs : List ℕ) → skip passes (b ∷ bs) ≡ cond (passes b) (skip passes bs) (b ∷ bs)
+pub skip-cons : (passes : ℕ → Bool) (b : ℕ) (bs : List ℕ) → skip passes (b ∷ bs) ≡ cond (passes b) (skip passes bs) (b ∷ bs)
 skip-cons passes b bs = elim (passes b) as (λ p. drop (cond p (1 + prefix_len passes bs) 0) (b ∷ bs) ≡ cond p (skip passes bs) (b ∷ bs))
+    [ true ↦ rw one-add refl | false ↦ refl ]
+
+pub take_while-cons : (passes : ℕ → Bool) (b : ℕ) (bs : List ℕ)
+    → take_while passes (b ∷ bs) ≡ cond (passes b) (b ∷ take_while passes bs) []
+take_while-cons passes b bs =
+    elim (passes b) as (λ p. take (cond p (1 + prefix_len passes bs) 0) (b ∷ bs) ≡ cond p (b ∷ take_while passes bs) [])
     [ true ↦ rw one-add refl | false ↦ refl ]
 
 -- what is left doesn't begin with a byte that passes

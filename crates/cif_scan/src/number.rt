@@ -2,11 +2,14 @@
 //!
 //! What is read of a number is at most `MAX_MAGNITUDE + 1`, so that a greater one is known to be too big.
 ghost use Rattle.std.specs.Prelude.{◌≡◌};
+ghost use Rattle.std.specs.List.{take_while};
+ghost use Rattle.lay_point.specs.Names.{is_digit};
+ghost use Rattle.cif_scan.specs.Bytes.{skip};
+ghost use Rattle.cif_scan.specs.Grammar.{written};
 ghost use Rattle.cif_scan.specs.Numbers.{behind_separator, digits_at, integer_at, magnitude_at, signed_at};
 ghost use Rattle.cif_scan.specs.Views.{Gives};
 
-use crate::bytes::{Class, run_len, skip};
-use byte_io::capped_decimal;
+use crate::bytes::{Class, skip};
 
 /// The greatest magnitude that a text may write.
 pub const MAX_MAGNITUDE: u32 = 2_147_483_647;
@@ -69,9 +72,25 @@ fn magnitude(negative: bool, bytes: &[u8]) -> Option<(Number, &[u8])>
 fn digits(bytes: &[u8]) -> Option<(u32, &[u8])>
     ensures { Gives (λ f. (f.0, f.1.now)) result (digits_at bytes.now) }
 {
-    let (digits, behind) = bytes.split_at(run_len(bytes, Class::Digit));
-    if digits.is_empty() {
-        return None;
+    match bytes {
+        [first, ..] if first.is_ascii_digit() => Some(written(bytes)),
+        _ => None,
     }
-    Some((capped_decimal(MAX_MAGNITUDE + 1, digits), behind))
+}
+
+/// Returns what the digits at the start spell and what stands behind them, in one pass.
+fn written(bytes: &[u8]) -> (u32, &[u8])
+    ensures value { result.0 ≡ written (take_while is_digit bytes.now) }
+    ensures behind { result.1.now ≡ skip is_digit bytes.now }
+{
+    let mut value = 0u64;
+    let mut rest = bytes;
+    while let Some((byte, behind)) = rest.split_first() {
+        if !byte.is_ascii_digit() {
+            break;
+        }
+        value = (10 * value + u64::from(*byte - b'0')).min(u64::from(MAX_MAGNITUDE) + 1);
+        rest = behind;
+    }
+    (value as u32, rest)
 }

@@ -30,8 +30,8 @@ returns-in_default-clause-answer c =
     inr (sym (whole_means c.loop-alloc.content total rest (EndOf (Breaks (offset_of total rest))) _ (front_breaks total rest no_end none)
     c.loop-alloc.invariant.means))
 
-pub returns-in_err-content-clause-answer : goal.returns-in_err-content-clause-answer
-returns-in_err-content-clause-answer c =
+pub returns-in_err-apply-clause-answer : goal.returns-in_err-apply-clause-answer
+returns-in_err-apply-clause-answer c =
     let p = err_from_is_err_and c.from_residual.result c.from_residual.ensures.1 in
     let rest = c.loop-alloc.rest.now in
     let total = length c.args.text.now in
@@ -39,8 +39,8 @@ returns-in_err-content-clause-answer c =
     let some : command_len rest ≡ Some c.in-Some.len = search rules in
     let whole = whole_means c.loop-alloc.content total rest (CommandOf c.in-Some.len) _ (front_command total rest c.in-Some.len no_end some)
     c.loop-alloc.invariant.means in
-    rw (p.1, p.2) (fault_wanted no_memory c.in_err-content.field-0.0 _ (content_in c.args.text.now) (λ f e. whole ∙ rw e refl)
-    c.in_err-content.ensures)
+    rw (p.1, p.2) (fault_wanted no_memory c.in_err-apply.field-0.0 _ (content_in c.args.text.now) (λ f e. whole ∙ rw e refl)
+    c.in_err-apply.ensures)
 
 pub loop-alloc-preserved : goal.loop-alloc-preserved
 loop-alloc-preserved c =
@@ -50,14 +50,14 @@ loop-alloc-preserved c =
     let no_end : begins_with_end rest ≡ false = search rules in
     let some : command_len rest ≡ Some len = search rules in
     let front = front_command total rest len no_end some in
-    let next : after_bytes c.loop-alloc.content (offset_of total rest) (take len rest) ≡ Ok c.in_ok-content.content =
-    value_wanted no_memory c.in_ok-content.content _ c.in_ok-content.ensures in
+    let next : after_bytes c.loop-alloc.content (offset_of total rest) (take len rest) ≡ Ok c.apply.new.content =
+    value_wanted no_memory c.apply.new.content _ c.in_ok-apply.ensures in
     let behind : c.skip-rest-in-loop-alloc.result.now ≡ behind_command len rest =
     c.skip-rest-in-loop-alloc.ensures ∙ ap (skip is_gap) (take_rest rest (len + 1)) in
-    let whole : content_in c.args.text.now ≡ rest_means c.in_ok-content.content total (behind_command len rest) =
+    let whole : content_in c.args.text.now ≡ rest_means c.apply.new.content total (behind_command len rest) =
     whole_means c.loop-alloc.content total rest _ _ front c.loop-alloc.invariant.means ∙ rw next refl in
     let shorter = length-behind_command len rest (some_bytes total rest len front) in
-    let step = (kept_step c.loop-alloc.content c.in_ok-content.content (offset_of total rest) (take len rest) c.loop-alloc.invariant.kept next).1 in
+    let step = (kept_step c.loop-alloc.content c.apply.new.content (offset_of total rest) (take len rest) c.loop-alloc.invariant.kept next).1 in
     rw behind (record {
       means = sym whole;
       few = omega (arith, step.count, shorter, c.loop-alloc.invariant.few);
