@@ -1,11 +1,13 @@
 -- The items of a list under the ids of a text.
-use Rattle.std.proofs.Common.{◌≡◌, ◌<◌, ℕ, ◌+◌, Bool, true, false, List, [], ◌∷◌, Some, None, cond, refl, ap, ◌∙◌, arith, subst}
+use Rattle.std.proofs.Common.{◌≡◌, ◌<◌, ℕ, ◌+◌, Bool, true, false, List, [], ◌∷◌, ◌++◌, length, Some, None, cond, refl, ap, ◌∙◌, arith, subst}
 use Rattle.std.specs.declared.cmp.Ordering.TheVariants.{Less}
 use Rattle.std.specs.FinMap.{entries, find}
 use Rattle.std.specs.List.{AllByRecursion}
 use Rattle.std.specs.List.Sorted.{IsStrictlySortedBy}
 use Rattle.std.specs.Map.{keys_of}
 use Rattle.std.specs.Ordering.{eq_by_cmp, is_eq}
+use Rattle.cif_read.specs.declared.element.Element.{Element}
+use Rattle.lay_items.specs.FromCif.{item_of, items_of_elements}
 use Rattle.lay_items.specs.declared.id.ItemId.{ItemId}
 use Rattle.lay_items.specs.declared.item.Item.{Item}
 use Rattle.lay_items.specs.IdOrder.{ids_total}
@@ -56,3 +58,14 @@ found-all P k (item ∷ items) id found all at =
           → cond b (Some item) (find id_cmp id (numbered_from (k + 1) items)) ≡ Some found → P found
       by_id true rest e = let same : item ≡ found = cc in subst P same all.0
       by_id false rest e = rest e
+
+-- the last element of a text is numbered behind those before it
+pub numbered-last : (k : ℕ) (es : List Element) (e : Element) (behind : List (ItemId × Item))
+    → numbered_from k (items_of_elements (es ++ e ∷ [])) ++ behind
+    ≡ numbered_from k (items_of_elements es) ++ (text_id (length es + k), item_of e) ∷ behind
+numbered-last k [] e behind = let same : k ≡ 0 + k = omega arith in ap (λ n. (text_id n, item_of e) ∷ behind) same
+numbered-last k (f ∷ es) e behind =
+    let same : length es + (k + 1) ≡ length (f ∷ es) + k = omega arith in
+    ap (λ (rest : List (ItemId × Item)). (text_id k, item_of f) ∷ rest)
+    (numbered-last (k + 1) es e behind
+    ∙ ap (λ n. numbered_from (k + 1) (items_of_elements es) ++ (text_id n, item_of e) ∷ behind) same)

@@ -6,6 +6,7 @@ pub mod IdOrder
 pub mod IdText
 pub mod Ids
 pub mod Items
+pub mod Kept
 pub mod Layout
 pub mod LayoutWith
 pub mod Lent

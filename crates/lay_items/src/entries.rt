@@ -123,7 +123,7 @@ pub(crate) fn numbered(alloc: Global, items: Vec<Item>) -> Result<Vec<Entry>, No
 }
 
 /// Returns the id of an item of a text.
-fn text_id(seq: u32) -> ItemId
+pub(crate) fn text_id(seq: u32) -> ItemId
     ensures { result ≡ text_id seq }
 {
     ItemId {

@@ -1,21 +1,46 @@
 //! The elements of a text as items.
-ghost use Rattle.std.specs.Prelude.{◌≡◌, IfOk};
+ghost use Rattle.std.specs.Prelude.{◌≡◌, ◌+◌, IfOk, length};
 ghost use Rattle.lay_items.specs.FromCif.{item_of, items_of_elements};
+ghost use Rattle.lay_items.specs.LayoutWith.{numbered_from};
 
+use crate::entries::{Entry, text_id};
 use crate::item::{Item, Rings};
+use crate::parts::one_more;
 use cif_read::{Element, Figure};
 use lay_point::NoMemory;
 use std::alloc::Global;
+use std::collections::VecDeque;
 
-/// Returns the elements as items, in order.
-pub(crate) fn items_of(alloc: Global, elements: Vec<Element>) -> Result<Vec<Item>, NoMemory>
-    ensures { IfOk result (λ items. items.items ≡ items_of_elements elements.items) }
+/// Returns the elements as items under the ids 0.0.1 and on. They are taken from the end of the
+/// list, and its memory is given back on the way, so it doesn't stand whole beside the items.
+pub(crate) fn entries_of(alloc: Global, mut elements: Vec<Element>) -> Result<Vec<Entry>, NoMemory>
+    ensures { IfOk result
+        (λ entries. entries.items ≡ numbered_from 1 (items_of_elements elements.items)) }
 {
-    let mut items = Vec::with_capacity(alloc, elements.len())?;
-    for element in elements {
-        items.push(item_of(alloc, element)?)?;
+    let mut entries = VecDeque::with_capacity(alloc, elements.len())?;
+    while let Some(element) = elements.pop() {
+        let seq = seq_behind(&elements)?;
+        entries.push_front((text_id(seq), item_of(alloc, element)?))?;
+        give_back(&mut elements);
     }
-    Ok(items)
+    Ok(Vec::from(entries))
+}
+
+/// Returns the number of the element behind these, where a `u32` has it.
+fn seq_behind(elements: &[Element]) -> Result<u32, NoMemory>
+    ensures { IfOk result (λ seq. seq ≡ length elements.now + 1) }
+{
+    one_more(u32::try_from(elements.len()).map_err(|_| NoMemory)?)
+}
+
+/// Gives back the memory behind the elements once it is a quarter of their list. That is a share
+/// and not a number, so the time is in proportion to theirs even where all that are left are moved.
+fn give_back(elements: &mut Vec<Element>)
+    ensures { elements.new.items ≡ elements.old.items }
+{
+    if elements.len() <= elements.capacity() / 4 * 3 {
+        elements.shrink_to_fit();
+    }
 }
 
 /// Returns an element as an item.
@@ -24,15 +49,11 @@ fn item_of(alloc: Global, element: Element) -> Result<Item, NoMemory>
 {
     let Element { cell, figure } = element;
     match figure {
-        Figure::Polygon { layer, ring } => {
-            let mut rings = Vec::with_capacity(alloc, 1)?;
-            rings.push(ring)?;
-            Ok(Item::Shape {
-                cell,
-                layer,
-                rings: Rings::new(alloc, rings)?,
-            })
-        }
+        Figure::Polygon { layer, ring } => Ok(Item::Shape {
+            cell,
+            layer,
+            rings: Rings::one(alloc, ring)?,
+        }),
         Figure::Call { target, turn } => Ok(Item::Placed { cell, target, turn }),
     }
 }

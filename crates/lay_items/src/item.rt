@@ -1,7 +1,8 @@
 //! Items and their rings.
-ghost use Rattle.std.specs.Prelude.{◌≡◌, IfOk, Ok};
+ghost use Rattle.std.specs.Prelude.{◌≡◌, ◌∷◌, [], IfOk, Ok};
 ghost use Rattle.lay_point.specs.Memory.{IsAnswer};
 ghost use Rattle.lay_items.specs.Items.{cell_of};
+ghost use Rattle.lay_items.specs.Kept.{kept_rings};
 
 use lay_cells::CellId;
 use lay_point::{LayerName, NoMemory, Ring, Turn};
@@ -12,17 +13,25 @@ use std::sync::Arc;
 /// The rings of a shape, shared by all who hold them. Contracts see the list of them.
 #[derive(Debug, Drop)]
 pub struct Rings {
-    shared: Arc<Vec<Ring>>,
+    shared: Arc<Kept>,
+}
+
+/// How rings are kept. A sole one stands in its owner's allocation, and needs no list.
+#[derive(Debug, Drop)]
+enum Kept {
+    One(Ring),
+    Several(Vec<Ring>),
 }
 
 impl Model for Rings {
     ghost use Rattle.std.specs.Prelude.{List};
     ghost use Rattle.std.specs.Arc.{arc_value};
     ghost use Rattle.lay_point.specs.declared.point.Point.{Point};
+    ghost use Rattle.lay_items.specs.Kept.{kept_rings};
 
     ghost Value = { List (List Point) };
 
-    ghost view = { λ r. (arc_value r.shared).items };
+    ghost view = { λ r. kept_rings (arc_value r.shared) };
 }
 
 impl Rings {
@@ -30,7 +39,15 @@ impl Rings {
     pub fn new(alloc: Global, rings: Vec<Ring>) -> Result<Rings, NoMemory>
         ensures { IsAnswer (record {}) result (Ok rings.items) }
     {
-        let shared = Arc::new(alloc, rings)?;
+        let shared = Arc::new(alloc, Kept::of(rings))?;
+        Ok(Rings { shared })
+    }
+
+    /// Returns the ring, to be shared. It needs no list.
+    pub(crate) fn one(alloc: Global, ring: Ring) -> Result<Rings, NoMemory>
+        ensures { IsAnswer (record {}) result (Ok (ring ∷ [])) }
+    {
+        let shared = Arc::new(alloc, Kept::One(ring))?;
         Ok(Rings { shared })
     }
 
@@ -38,8 +55,14 @@ impl Rings {
     pub fn as_slice(&self) -> &[Ring]
         ensures { result.now ≡ self.now }
     {
-        let rings: &Vec<Ring> = &self.shared;
-        rings.as_slice()
+        self.kept().as_slice()
+    }
+
+    /// Returns what is shared.
+    fn kept(&self) -> &Kept
+        ensures { kept_rings result.now ≡ self.now }
+    {
+        &self.shared
     }
 
     /// Returns one more owner of the same rings.
@@ -48,6 +71,30 @@ impl Rings {
     {
         let shared = Arc::try_clone(&self.shared)?;
         Ok(Rings { shared })
+    }
+}
+
+impl Kept {
+    /// Returns the rings as they are kept.
+    fn of(mut rings: Vec<Ring>) -> Kept
+        ensures { kept_rings result ≡ rings.items }
+    {
+        if rings.len() == 1
+            && let Some(ring) = rings.pop()
+        {
+            return Kept::One(ring);
+        }
+        Kept::Several(rings)
+    }
+
+    /// Returns the rings, in order.
+    fn as_slice(&self) -> &[Ring]
+        ensures { result.now ≡ kept_rings self.now }
+    {
+        match self {
+            Kept::One(ring) => std::slice::from_ref(ring),
+            Kept::Several(rings) => rings.as_slice(),
+        }
     }
 }
 

@@ -1,6 +1,9 @@
 //! The items of a layout, by id and by cell.
 ghost use Rattle.std.specs.Prelude.{◌≡◌, IfOk, option_copied};
 ghost use Rattle.std.specs.FinMap as map;
+ghost use Rattle.std.specs.List.Sorted.{IsStrictlySortedBy};
+ghost use Rattle.std.specs.Map.{keys_of};
+ghost use Rattle.lay_items.specs.FromCif.{items_of_elements};
 ghost use Rattle.lay_items.specs.Ids.{id_cmp};
 ghost use Rattle.lay_items.specs.Items.{standing_in};
 ghost use Rattle.lay_items.specs.Layout.{AreRising, items_of, put_all};
@@ -9,9 +12,11 @@ ghost use Rattle.lay_items.specs.SameLayout.{items_eq};
 
 use crate::cell_index::CellIndex;
 use crate::entries::{Entry, are_same, find, merged, numbered};
+use crate::from_cif::entries_of;
 use crate::id::ItemId;
 use crate::item::Item;
 use crate::iter::{Entries, Items};
+use cif_read::Element;
 use lay_cells::CellId;
 use lay_point::NoMemory;
 use std::alloc::Global;
@@ -59,10 +64,25 @@ impl ItemMap {
     }
 
     /// Returns the items under the ids 0.0.1 and on.
-    pub(crate) fn of_text(alloc: Global, items: Vec<Item>) -> Result<ItemMap, NoMemory>
+    pub(crate) fn of_items(alloc: Global, items: Vec<Item>) -> Result<ItemMap, NoMemory>
         ensures { IfOk result (λ numbered. numbered ≡ items_of (numbered_from 1 items.items)) }
     {
-        let entries = numbered(alloc, items)?;
+        ItemMap::of(alloc, numbered(alloc, items)?)
+    }
+
+    /// Returns the elements of a text as items under the ids 0.0.1 and on.
+    pub(crate) fn of_text(alloc: Global, elements: Vec<Element>) -> Result<ItemMap, NoMemory>
+        ensures { IfOk result (λ numbered. numbered
+            ≡ items_of (numbered_from 1 (items_of_elements elements.items))) }
+    {
+        ItemMap::of(alloc, entries_of(alloc, elements)?)
+    }
+
+    /// Returns the map of these entries.
+    fn of(alloc: Global, entries: Vec<Entry>) -> Result<ItemMap, NoMemory>
+        requires { IsStrictlySortedBy id_cmp (keys_of entries.items) }
+        ensures { IfOk result (λ map. map ≡ items_of entries.items) }
+    {
         let index = CellIndex::of(alloc, &entries)?;
         Ok(ItemMap { entries, index })
     }

@@ -9,7 +9,6 @@ ghost use Rattle.lay_items.specs.Lent.{calls_in, points_at, shapes_in};
 ghost use Rattle.lay_items.specs.SlotOrder.{in_slot_order};
 ghost use Rattle.lay_items.specs.Sound.{IsSound};
 
-use crate::from_cif::items_of;
 use crate::id::ItemId;
 use crate::item::Item;
 use crate::iter::{Calls, Items, Shapes};
@@ -48,8 +47,7 @@ impl Snapshot {
         ensures { IsAnswer (record {}) result (Ok (layout_of file)) }
     {
         let (symbols, elements) = file.into_parts();
-        let items = items_of(alloc, elements)?;
-        let version = Version::of_parts(alloc, &symbols, items)?;
+        let version = Version::of_text(alloc, &symbols, elements)?;
         Snapshot::of(alloc, version)
     }
 

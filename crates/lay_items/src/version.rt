@@ -4,6 +4,7 @@ ghost use Rattle.std.specs.Arc.{arc_value};
 ghost use Rattle.std.specs.FinMap as map;
 ghost use Rattle.std.specs.Ordering.{nat_cmp};
 ghost use Rattle.lay_point.specs.Memory.{IsAnswer};
+ghost use Rattle.lay_items.specs.FromCif.{items_of_elements};
 ghost use Rattle.lay_items.specs.Ids.{id_cmp};
 ghost use Rattle.lay_items.specs.Items.{items_in};
 ghost use Rattle.lay_items.specs.Layout.{AreRising, changed, is_cell, item_at, no_items, put_all};
@@ -16,6 +17,7 @@ use crate::item::Item;
 use crate::item_map::ItemMap;
 use crate::iter::{Entries, Items};
 use crate::symbol_map::SymbolMap;
+use cif_read::Element;
 use lay_cells::{CellId, Cells};
 use lay_point::NoMemory;
 use std::alloc::Global;
@@ -66,7 +68,22 @@ impl Version {
         ensures { IsAnswer (record {}) result (Ok (layout_with symbols.now items.items)) }
     {
         let symbols = Arc::new(alloc, SymbolMap::of_text(alloc, symbols)?)?;
-        let items = Arc::new(alloc, ItemMap::of_text(alloc, items)?)?;
+        let items = Arc::new(alloc, ItemMap::of_items(alloc, items)?)?;
+        Ok(Version { symbols, items })
+    }
+
+    /// Returns the layout of these symbols, in this order, and of the elements of a text, of which
+    /// the q-th has the id 0.0.q.
+    pub(crate) fn of_text(
+        alloc: Global,
+        symbols: &Cells,
+        elements: Vec<Element>,
+    ) -> Result<Version, NoMemory>
+        ensures { IsAnswer (record {}) result
+            (Ok (layout_with symbols.now (items_of_elements elements.items))) }
+    {
+        let symbols = Arc::new(alloc, SymbolMap::of_text(alloc, symbols)?)?;
+        let items = Arc::new(alloc, ItemMap::of_text(alloc, elements)?)?;
         Ok(Version { symbols, items })
     }
 
