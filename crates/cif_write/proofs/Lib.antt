@@ -1,4 +1,6 @@
+pub mod BegunLemmas
 pub mod IdleLemmas
 pub mod LineLemmas
-pub mod WrapLemmas
 pub mod UnusedLemmas
+pub mod WayLemmas
+pub mod WrapLemmas

@@ -2,4 +2,5 @@ pub mod Idle
 pub mod Lines
 pub mod Text
 pub mod Unused
+pub mod Ways
 pub mod Wrap

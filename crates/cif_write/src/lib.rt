@@ -2,9 +2,11 @@
 //!
 //! A layout is written wrapped (`specs/Wrap.antt`): its items stand in symbols, each shape has the one path
 //! that goes round all its rings, and the top cell is one plain call. The text is a list of lines,
-//! `specs/Text.antt`. `push_text` appends it to bytes. `write` builds it whole in
-//! memory and then puts it to an `Out`, a device that takes bytes: so all of the text is written and
-//! nothing else, or a prefix of it where the device fails, or nothing where memory runs out.
+//! `specs/Text.antt`.
+//!
+//! It is put to an `Out`, a device that takes bytes, through an `OutBuffer`, so it never stands in
+//! memory as a whole. `prepare` does what can run out of memory, and `Prepared::put` writes: all of
+//! the text and nothing else, or a prefix of it where the device fails. `write` is the two.
 //!
 //! ```text
 //! let mut out = MemoryOut::new(alloc, 4096, 1_000_000, Failing::ByErr);
@@ -23,5 +25,4 @@ mod writer;
 
 pub use byte_io::{Out, OutFault};
 pub use laws::{lines_are_not_idle, the_wrapping_symbol_is_the_least_unused};
-pub use text::push_text;
-pub use writer::{WriteFault, write};
+pub use writer::{Prepared, WriteFault, prepare, write};

@@ -1,12 +1,13 @@
 //! Tests of what no clause says: that texts are written, and that definitions mean what they should.
 
 use super::*;
-use crate::text::push_call;
+use crate::points::put_bridged;
+use crate::text::put_call;
 use crate::wrap::least_unused;
-use byte_io::{Failing, MemoryOut};
+use byte_io::{Failing, MemoryOut, OutBuffer};
 use lay_cells::Cells;
 use lay_items::Snapshot;
-use lay_point::{Point, Quarter, Turn};
+use lay_point::{Point, Quarter, Ring, Turn};
 use std::alloc::Global;
 use std::test::*;
 
@@ -64,6 +65,76 @@ fn a_failing_device_has_a_prefix_of_the_text(rt: HostRuntime) {
     }
 }
 
+// Could catch bytes that are lost, change places or come twice where the buffer runs full, and a
+// failure that is forgotten or met again while the rest of the text is put.
+#[test]
+fn a_text_longer_than_the_buffer_is_cut_where_the_device_fails(
+    rt: HostRuntime,
+) -> Result<(), Fail> {
+    let mut text = Vec::from_slice(rt.alloc(), b"L NM;")?;
+    let mut whole = Vec::from_slice(rt.alloc(), b"DS 1 1 2;\nL NM;\n")?;
+    for _ in 0..300 {
+        text.extend_from_slice(b"B 40 20 0 0;")?;
+        whole.extend_from_slice(b"P -40 -20 40 -20 40 20 -40 20;\n")?;
+    }
+    text.extend_from_slice(b"E")?;
+    whole.extend_from_slice(b"DF;\nC 1;\nE\n")?;
+    let rows: [(usize, Result<(), WriteFault>, usize); 5] = [
+        (0, Err(WriteFault::Device), 0),
+        (4_095, Err(WriteFault::Device), 4_095),
+        (5_000, Err(WriteFault::Device), 5_000),
+        (9_326, Err(WriteFault::Device), 9_326),
+        (9_327, Ok(()), 9_327),
+    ];
+    for (room, want, written) in rows {
+        let mut out = MemoryOut::new(rt.alloc(), 1000, room, Failing::ByZero);
+        assert_eq!(rt; rewrite(rt.alloc(), &text, &mut out), want, "room {room}");
+        assert_eq!(rt; out.written().len(), written, "room {room}");
+        assert!(rt; whole.starts_with(out.written()), "room {room}");
+    }
+    Ok(())
+}
+
+/// Returns the ring of the corners.
+fn ring(alloc: Global, corners: &[(i32, i32)]) -> Result<Ring, Fail> {
+    let mut points = Vec::new(alloc);
+    for (x, y) in corners {
+        points.push(Point { x: *x, y: *y })?;
+    }
+    Ok(Ring::new(alloc, &points)?)
+}
+
+// Could catch a path that goes round the rings in another order, one that doesn't come back to the
+// start, and a repeat that is put where rings begin at one point.
+#[test]
+fn one_path_goes_round_all_rings(rt: HostRuntime) -> Result<(), Fail> {
+    let square: &[(i32, i32)] = &[(0, 0), (4, 0), (4, 4), (0, 4)];
+    let inner: &[(i32, i32)] = &[(1, 1), (2, 1), (2, 2)];
+    let touching: &[(i32, i32)] = &[(0, 0), (-1, 0), (-1, -1)];
+    let rows: [(&[&[(i32, i32)]], &[u8]); 5] = [
+        (&[], b""),
+        (&[square], b" 0 0 4 0 4 4 0 4"),
+        (&[square, inner], b" 0 0 4 0 4 4 0 4 0 0 1 1 2 1 2 2 1 1"),
+        (&[square, touching], b" 0 0 4 0 4 4 0 4 0 0 -1 0 -1 -1"),
+        (
+            &[square, touching, inner],
+            b" 0 0 4 0 4 4 0 4 0 0 -1 0 -1 -1 0 0 1 1 2 1 2 2 1 1",
+        ),
+    ];
+    for (shape, want) in rows {
+        let mut rings = Vec::new(rt.alloc());
+        for corners in shape {
+            rings.push(ring(rt.alloc(), corners)?)?;
+        }
+        let mut out = MemoryOut::new(rt.alloc(), 1000, 1000, Failing::ByErr);
+        let mut buffer = OutBuffer::new();
+        put_bridged(&mut out, &mut buffer, &rings);
+        assert!(rt; buffer.flush(&mut out).is_ok(), "{want:?}");
+        assert_eq!(rt; out.written(), want);
+    }
+    Ok(())
+}
+
 /// Returns the turn.
 fn turn(mirror: bool, quarter: Quarter, x: i32, y: i32) -> Turn {
     Turn {
@@ -76,7 +147,7 @@ fn turn(mirror: bool, quarter: Quarter, x: i32, y: i32) -> Turn {
 // Could catch a definition of a call's changes that isn't the format: their order, their letters, the direction of a quarter
 // turn, or a change that is written though there is none.
 #[test]
-fn a_call_says_what_it_changes(rt: HostRuntime) -> Result<(), Fail> {
+fn a_call_says_what_it_changes(rt: HostRuntime) {
     let rows: [(u32, Turn, &[u8]); 6] = [
         (1, turn(false, Quarter::R0, 0, 0), b"C 1;\n"),
         (1, turn(true, Quarter::R0, 20, 0), b"C 1 M X T 20 0;\n"),
@@ -98,11 +169,12 @@ fn a_call_says_what_it_changes(rt: HostRuntime) -> Result<(), Fail> {
         ),
     ];
     for (number, turn, want) in rows {
-        let mut bytes = Vec::new(rt.alloc());
-        push_call(&mut bytes, number, turn)?;
-        assert_eq!(rt; bytes.as_slice(), want);
+        let mut out = MemoryOut::new(rt.alloc(), 1000, 1000, Failing::ByErr);
+        let mut buffer = OutBuffer::new();
+        put_call(&mut out, &mut buffer, number, turn);
+        assert!(rt; buffer.flush(&mut out).is_ok(), "{want:?}");
+        assert_eq!(rt; out.written(), want);
     }
-    Ok(())
 }
 
 // Could catch 0 as a number for the wrapping symbol, a number that is in use, and one that isn't the least.

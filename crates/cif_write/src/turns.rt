@@ -1,10 +1,12 @@
 //! Turns as the changes of a call.
-ghost use Rattle.std.specs.Prelude.{◌≡◌, ◌++◌, OnOk};
+ghost use Rattle.std.specs.Prelude.{◌≡◌};
+ghost use Rattle.byte_io.specs.Buffered.{Buffered};
 ghost use Rattle.lay_point.specs.Turns.{unturned};
 ghost use Rattle.cif_write.specs.Lines.{mirror_text, quarter_text, shift_text, turn_text};
 
-use crate::points::push_point;
-use lay_point::{NoMemory, Point, Quarter, Turn};
+use crate::points::put_point;
+use byte_io::{Out, OutBuffer};
+use lay_point::{Point, Quarter, Turn};
 
 /// Returns the turn that changes nothing.
 pub(crate) fn unturned() -> Turn
@@ -17,26 +19,29 @@ pub(crate) fn unturned() -> Turn
     }
 }
 
-/// Appends what a call says of its turn: the mirror, the quarter turns and the shift that there are.
-pub(crate) fn push_turn(bytes: &mut Vec<u8>, turn: Turn) -> Result<(), NoMemory>
-    ensures { OnOk result (bytes.new.items ≡ bytes.old.items ++ turn_text turn) }
+/// Puts what a call says of its turn: the mirror, the quarter turns and the shift that there are.
+pub(crate) fn put_turn<O: Out>(out: &mut O, buffer: &mut OutBuffer, turn: Turn)
+    ensures { Buffered O.written O.failures out.old buffer.old out.new buffer.new (turn_text turn) }
 {
-    push_mirror(bytes, turn.mirror)?;
-    push_quarter(bytes, turn.quarter)?;
-    push_shift(bytes, turn.shift)
+    put_mirror(out, buffer, turn.mirror);
+    put_quarter(out, buffer, turn.quarter);
+    put_shift(out, buffer, turn.shift);
 }
 
-fn push_mirror(bytes: &mut Vec<u8>, mirror: bool) -> Result<(), NoMemory>
-    ensures { OnOk result (bytes.new.items ≡ bytes.old.items ++ mirror_text mirror) }
+/// Puts the mirror, if there is one.
+fn put_mirror<O: Out>(out: &mut O, buffer: &mut OutBuffer, mirror: bool)
+    ensures { Buffered O.written O.failures out.old buffer.old out.new buffer.new
+        (mirror_text mirror) }
 {
     if mirror {
-        bytes.extend_from_slice(b" M X")?;
+        buffer.put(out, b" M X");
     }
-    Ok(())
 }
 
-fn push_quarter(bytes: &mut Vec<u8>, quarter: Quarter) -> Result<(), NoMemory>
-    ensures { OnOk result (bytes.new.items ≡ bytes.old.items ++ quarter_text quarter) }
+/// Puts the direction of the x axis, if it has turned.
+fn put_quarter<O: Out>(out: &mut O, buffer: &mut OutBuffer, quarter: Quarter)
+    ensures { Buffered O.written O.failures out.old buffer.old out.new buffer.new
+        (quarter_text quarter) }
 {
     let words: &[u8] = match quarter {
         Quarter::R0 => b"",
@@ -44,16 +49,16 @@ fn push_quarter(bytes: &mut Vec<u8>, quarter: Quarter) -> Result<(), NoMemory>
         Quarter::R180 => b" R -1 0",
         Quarter::R270 => b" R 0 -1",
     };
-    bytes.extend_from_slice(words)?;
-    Ok(())
+    buffer.put(out, words);
 }
 
-fn push_shift(bytes: &mut Vec<u8>, shift: Point) -> Result<(), NoMemory>
-    ensures { OnOk result (bytes.new.items ≡ bytes.old.items ++ shift_text shift) }
+/// Puts the shift, if there is one.
+fn put_shift<O: Out>(out: &mut O, buffer: &mut OutBuffer, shift: Point)
+    ensures { Buffered O.written O.failures out.old buffer.old out.new buffer.new
+        (shift_text shift) }
 {
     if shift != (Point { x: 0, y: 0 }) {
-        bytes.extend_from_slice(b" T")?;
-        push_point(bytes, shift)?;
+        buffer.put(out, b" T");
+        put_point(out, buffer, shift);
     }
-    Ok(())
 }

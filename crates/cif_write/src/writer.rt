@@ -1,14 +1,17 @@
-//! Writing of a layout to a device.
-ghost use Rattle.std.specs.Prelude.{◌≡◌, ◌+◌, ◌↔◌, IsErrOf, OnOk};
+//! Writing of a layout to a device. All that takes memory comes before the first byte.
+ghost use Rattle.std.specs.Prelude.{◌≡◌, ◌+◌, ◌↔◌, IsErrOf, Ok, OnErr, OnOk};
 ghost use Rattle.cif_write.specs.declared.writer.WriteFault.TheVariants.{Device, NoMemory as OutOfMemory};
 ghost use Rattle.byte_io.specs.Device.{WroteAll, WrotePrefix};
 ghost use Rattle.cif_write.specs.Text.{text};
+ghost use Rattle.lay_point.specs.Memory.{IsAnswer};
 
-use crate::text::push_text;
-use byte_io::{Out, OutFault, put_all};
+use crate::text::put_text;
+use crate::wrap::least_unused;
+use byte_io::{Out, OutBuffer, OutFault};
 use lay_items::Snapshot;
 use lay_point::NoMemory;
 use std::alloc::Global;
+use std::marker::Model;
 use thiserror::Error;
 
 /// Why a layout isn't written whole.
@@ -38,8 +41,52 @@ impl From<NoMemory> for WriteFault {
     }
 }
 
-/// Writes the layout's text to the device.
-pub fn write<O: Out>(alloc: Global, snapshot: &Snapshot, out: &mut O) -> Result<(), WriteFault>
+/// A layout that can be written without memory. Contracts see the layout.
+#[derive(Drop)]
+pub struct Prepared<'s> {
+    snapshot: &'s Snapshot,
+    /// A number that no symbol has.
+    unused: u32,
+}
+
+impl<'s> Model for Prepared<'s> {
+    ghost use Rattle.std.specs.Prelude.{◌≡◌};
+    ghost use Rattle.lay_items.specs.Layout.{Layout, coded_layout};
+    ghost use Rattle.lay_items.specs.SlotOrder.{in_slot_order};
+    ghost use Rattle.cif_write.specs.Wrap.{least_unused};
+
+    ghost Value = { Layout };
+
+    ghost coded = { coded_layout };
+
+    ghost view = { λ p. p.snapshot.now };
+
+    ghost invariant = { λ p. p.unused ≡ least_unused (in_slot_order p.snapshot.now.symbols) };
+}
+
+/// Returns the layout, ready to be written.
+pub fn prepare(snapshot: &Snapshot) -> Result<Prepared<'_>, NoMemory>
+    ensures { IsAnswer (record {}) result (Ok snapshot.now) }
+{
+    let unused = least_unused(snapshot.cells())?;
+    Ok(Prepared { snapshot, unused })
+}
+
+impl<'s> Prepared<'s> {
+    /// Writes the layout's text to the device. It takes no memory.
+    pub fn put<O: Out>(&self, out: &mut O) -> Result<(), OutFault>
+        ensures ok { OnOk result (WroteAll O.written O.failures out.old out.new (text self.now)) }
+        ensures fault { OnErr result
+            (WrotePrefix O.written O.failures out.old out.new (text self.now)) }
+    {
+        let mut buffer = OutBuffer::new();
+        put_text(out, &mut buffer, self.snapshot, self.unused);
+        buffer.flush(out)
+    }
+}
+
+/// Writes the layout's text to the device. The allocator has no use as yet.
+pub fn write<O: Out>(_alloc: Global, snapshot: &Snapshot, out: &mut O) -> Result<(), WriteFault>
     ensures ok { OnOk result (WroteAll O.written O.failures out.old out.new (text snapshot.now)) }
     ensures device { IsErrOf result WriteFault.Device
         → WrotePrefix O.written O.failures out.old out.new (text snapshot.now) }
@@ -47,7 +94,6 @@ pub fn write<O: Out>(alloc: Global, snapshot: &Snapshot, out: &mut O) -> Result<
         ↔ (O.failures out.new ≡ O.failures out.old + 1) }
     ensures no_memory { IsErrOf result WriteFault.NoMemory → out.new ≡ out.old }
 {
-    let mut bytes = Vec::new(alloc);
-    push_text(alloc, &mut bytes, snapshot)?;
-    Ok(put_all(out, &bytes)?)
+    let prepared = prepare(snapshot)?;
+    Ok(prepared.put(out)?)
 }

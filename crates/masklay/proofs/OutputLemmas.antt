@@ -1,6 +1,7 @@
 -- What is kept of the input decides the output.
-use Rattle.std.proofs.Common.{◌≡◌, ℕ, ◌<◌, List, Option, Result, length, take, Ok, Err, inl, inr, sym, ap, subst, ◌∙◌, arith}
+use Rattle.std.proofs.Common.{◌≡◌, ℕ, ◌<◌, List, OnErr, OnOk, Option, Result, false, length, true, take, Ok, Err, inl, inr, refl, sym, ap, subst, ◌∙◌, arith}
 use Rattle.std.proofs.lemmas.Bool.{cases_lt}
+use Rattle.std.specs.Result.{is_err}
 use Rattle.std.proofs.lemmas.Bool.Decides.{nat_tests}
 use Rattle.std.proofs.lemmas.List.{length-take, take_all}
 use Rattle.job_text.specs.declared.job.JobFault.TheVariants.{Line}
@@ -11,8 +12,8 @@ use Rattle.masklay.specs.declared.program.status.Status.{Status}
 use Rattle.masklay.specs.declared.program.outcome.Finished.{Finished}
 use Rattle.masklay.specs.declared.program.outcome.Stop.{Stop}
 use Rattle.cif_read.proofs.OneMeaning.{one_meaning}
-use Rattle.masklay.specs.Outcome.{IsOutcome, IsOutcomeOf, finished_with}
-use Rattle.masklay.specs.Output.{Ends, IsOutput, Output, output_from}
+use Rattle.masklay.specs.Outcome.{AnswersOutcome, IsOutcome, IsOutcomeOf, finished_with}
+use Rattle.masklay.specs.Output.{Ends, IsOutput, Output, Writes, WritesOrMemory, output_from}
 use Rattle.masklay.specs.Reading.{kept_of}
 
 too_long_job : (bytes : List ℕ) → 16777216 < length bytes → job_of bytes ≡ Err (Line 0)
@@ -55,3 +56,23 @@ one_outcome bytes a b is same = one_outcome_of (job_of bytes) a b is same
 pub one_output : (bytes : List ℕ) (a b : Output) → IsOutput bytes a → IsOutput bytes b → a ≡ b
 one_output bytes a b (outcome, is, given) (other, same, put) =
     given ∙ ap output_from (one_outcome bytes outcome other is same) ∙ sym put
+
+-- ---- what is written of an outcome ends the program
+
+pub ends_by : {S : Type 0} (written : S → Option (List ℕ)) (failures : S → ℕ) (old new : S) (bytes : List ℕ)
+    (outcome : Result Finished Stop) (status : Status) → AnswersOutcome bytes outcome
+    → WritesOrMemory written failures old new (output_from outcome) status → Ends written failures old new bytes status
+ends_by written failures old new bytes outcome status (inr is) (inl wrote) = inl (output_from outcome, (outcome, is, refl), wrote)
+ends_by written failures old new bytes outcome status is (inr refused) = inr refused
+ends_by written failures old new bytes outcome status (inl none) (inl wrote) =
+    inr (subst (λ (o : Result Finished Stop). Writes written failures old new (output_from o) status) none wrote)
+
+-- ---- what a call's clauses say where its answer was tested
+
+pub at_err : {A E P : Type 0} (answer : Result A E) → is_err answer ≡ true → OnErr answer P → P
+at_err (Ok x) failed so = absurd (let it = failed in cc)
+at_err (Err e) failed so = so
+
+pub at_ok : {A E P : Type 0} (answer : Result A E) → is_err answer ≡ false → OnOk answer P → P
+at_ok (Ok x) fine so = so
+at_ok (Err e) fine so = absurd (let it = fine in cc)

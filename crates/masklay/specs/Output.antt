@@ -70,6 +70,11 @@ Writes written failures old new output status =
     ((status ≡ output.status) × WroteAll written failures old new output.text)
     ⊎ ((status ≡ Device) × WrotePrefix written failures old new output.text)
 
+-- the same; or a growth of memory was refused, and the line that says so was written
+abbrev pub WritesOrMemory : {S : Type 0} → (S → Option (List ℕ)) → (S → ℕ) → S → S → Output → Status → Type 0
+WritesOrMemory written failures old new output status =
+    Writes written failures old new output status ⊎ Writes written failures old new memory_output status
+
 -- From the old device to the new: the output of these bytes was written so; or a growth of memory was refused, and the line
 -- that says so was.
 abbrev pub Ends : {S : Type 0} → (S → Option (List ℕ)) → (S → ℕ) → S → S → List ℕ → Status → Type 0

@@ -1,11 +1,11 @@
-//! The program `masklay`: reads a job from standard input, a CIF text and the steps of a session on it,
-//! and writes the replies to the steps, their order and the CIF text of the layout that they lead to.
+//! The program `masklay`: reads a job from standard input, a CIF text and the steps of sessions on
+//! it, and writes the replies to the steps, their order and the CIF text of the layout that they lead to.
 //!
 //! `main` only wires the standard streams to [`command_line::launch`], which is generic over a device
 //! that gives bytes and two that take them. Without an argument it is [`program::run`]: a
-//! `job_text::Job` is read from the input, a `session_core::Machine` takes its steps, and the whole
-//! output is built and then written at once. What is written is `output_of` the bytes that were read
-//! (`specs/Output.antt`).
+//! `job_text::Job` is read from the input, a `session_core::Machine` takes its steps, and then the output
+//! is written; what it takes of memory is taken before its first byte. What is written is a function of
+//! the bytes that were read (`IsOutput` of `specs/Output.antt`).
 //!
 //! ```text
 //! let mut input = MemoryIn::new(b"%cif\nE\n", 4096, 1000);

@@ -11,8 +11,8 @@ mod status;
 mod tests;
 
 use byte_io::{In, Out, put_all};
-use lay_point::NoMemory;
-use output::output_of;
+use outcome::finish;
+use output::{write_finished, write_stop};
 use reading::{ReadFault, read_all};
 pub use status::Status;
 use std::alloc::Global;
@@ -36,7 +36,7 @@ pub fn run<I: In, O: Out>(
         out.old out.new result }
 {
     match read_all(alloc, input) {
-        Ok(bytes) => write_output(rt, alloc, &bytes, out),
+        Ok(bytes) => write_output(rt, alloc, bytes, out),
         Err(ReadFault::Device) => Status::Device,
         Err(ReadFault::NoMemory) => put_memory(out),
     }
@@ -46,14 +46,14 @@ pub fn run<I: In, O: Out>(
 fn write_output<O: Out>(
     rt: &(impl Threads + Sync),
     alloc: Global,
-    bytes: &[u8],
+    bytes: Vec<u8>,
     out: &mut O,
 ) -> Status
-    ensures { Ends O.written O.failures out.old out.new bytes.now result }
+    ensures { Ends O.written O.failures out.old out.new bytes.items result }
 {
-    match output_of(rt, alloc, bytes) {
-        Ok((text, status)) => put(out, &text, status),
-        Err(NoMemory) => put_memory(out),
+    match finish(rt, alloc, bytes) {
+        Ok(finished) => write_finished(alloc, &finished, out),
+        Err(stop) => write_stop(alloc, stop, out),
     }
 }
 

@@ -2,11 +2,11 @@
 use Rattle.std.proofs.Common.{◌≡◌, ℕ, true, List, [], ◌∷◌, ◌++◌, map, Result, Ok, Err, refl, sym, ap, ◌∙◌, subst, inl, inr, ◌⊎◌, All, length, ◌≤◌}
 use Rattle.std.specs.List.{flat_map}
 use Rattle.std.proofs.lemmas.List.{map-append}
-use Rattle.std.proofs.lemmas.List.Elements.{All-weaker, Contains-get_or}
+use Rattle.std.proofs.lemmas.List.Elements.{All-weaker}
 use Rattle.lay_point.specs.Turns.{unturned}
 use Rattle.lay_cells.specs.declared.cell_id.CellId.TheVariants.{Top}
 use Rattle.lay_cells.specs.Symbols.{has_symbol}
-use Rattle.lay_cells.specs.Walks.{IsAcyclic, call_at}
+use Rattle.lay_cells.specs.Walks.{IsAcyclic}
 use Rattle.lay_items.specs.declared.item.Item.{Item}
 use Rattle.lay_items.specs.declared.item.Item.TheVariants.{Placed, Shape}
 use Rattle.lay_items.specs.Calls.{calls_of}
@@ -19,7 +19,7 @@ use Rattle.cif_read.specs.declared.content.Content.{Content}
 use Rattle.cif_read.specs.declared.content.Pending.{Pending}
 use Rattle.cif_read.specs.declared.element.Figure.TheVariants.{Call}
 use Rattle.cif_read.specs.declared.fault.CifFault.{CifFault}
-use Rattle.cif_read.specs.Binding.{IsBindingFault, IsBound, IsBoundAs, contents_of, edge_of}
+use Rattle.cif_read.specs.Binding.{IsBound, contents_of, edge_of}
 use Rattle.cif_read.specs.Content.{content_of}
 use Rattle.cif_read.specs.Contents.{Contents, calls_in}
 use Rattle.cif_read.specs.Kept.{IsKept}

@@ -8,9 +8,11 @@ ghost use Rattle.cif_write.specs.Text.{text};
 ghost use Rattle.cif_write.specs.Wrap.{wrap, written};
 ghost use Rattle.trip_laws.specs.Laws.{AreNamed, IsNamed};
 
+use byte_io::{Failing, MemoryOut};
 use cif_read::{CifFault, read};
-use cif_write::push_text;
+use cif_write::write;
 use lay_items::{Item, Snapshot};
+use lay_point::NoMemory;
 use std::alloc::Global;
 
 /// Returns the layout, written and read again: itself, wrapped. A text that would be too long, or define
@@ -20,9 +22,9 @@ pub fn reread(alloc: Global, snapshot: &Snapshot) -> Result<Snapshot, CifFault>
         → IsAnswer no_memory result (Ok (wrap snapshot.now)) }
 {
     look_at_layers(snapshot);
-    let mut bytes = Vec::new(alloc);
-    push_text(alloc, &mut bytes, snapshot)?;
-    let file = read(alloc, bytes.as_slice())?;
+    let mut out = MemoryOut::new(alloc, usize::MAX, usize::MAX, Failing::ByErr);
+    write(alloc, snapshot, &mut out).map_err(|_| NoMemory)?;
+    let file = read(alloc, out.written())?;
     Ok(Snapshot::from_cif(alloc, file)?)
 }
 

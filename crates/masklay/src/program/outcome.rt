@@ -70,21 +70,22 @@ impl From<NoMemory> for Stop {
     }
 }
 
-/// Runs the job of the bytes.
+/// Runs the job of the bytes, which go once they are read.
 #[tactic(auto, unfolding(crate::specs::Outcome::IsOutcome))]
 pub(super) fn finish(
     rt: &(impl Threads + Sync),
     alloc: Global,
-    bytes: &[u8],
+    bytes: Vec<u8>,
 ) -> Result<Finished, Stop>
-    ensures { AnswersOutcome bytes.now result }
+    ensures { AnswersOutcome bytes.items result }
 {
     let Job {
         cif,
         scripts,
         order,
-    } = Job::read(alloc, bytes)?;
+    } = Job::read(alloc, &bytes)?;
     let file = read(alloc, cif)?;
+    drop(bytes);
     let base = Snapshot::from_cif(alloc, file)?;
     finish_steps(rt, alloc, base, scripts, order)
 }

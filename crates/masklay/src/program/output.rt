@@ -1,45 +1,77 @@
-//! The whole output, built before the first byte is written.
+//! What is written of a job's outcome. All that takes memory comes before the first byte.
 ghost use Rattle.std.specs.Prelude.{◌≡◌, ◌++◌, IfOk};
-ghost use Rattle.masklay.specs.Output.{cif_fault_text, IsOutput, finished_output, job_fault_text};
+ghost use Rattle.cif_write.specs.Text.{text};
+ghost use Rattle.job_text.specs.Order.{order_text};
+ghost use Rattle.job_text.specs.Replies.{replies_text};
+ghost use Rattle.masklay.specs.Output.{Writes, WritesOrMemory, cif_fault_text, finished_output, job_fault_text};
+ghost use Rattle.masklay.specs.Output.{stop_output};
+ghost use Rattle.masklay.specs.declared.program.status.Status.TheVariants.{Done};
 
-use crate::program::outcome::{Finished, Stop, finish};
+use crate::program::outcome::{Finished, Stop};
 use crate::program::status::Status;
+use crate::program::{put, put_memory};
+use byte_io::{Out, put_all};
 use cif_read::CifFault;
-use cif_write::push_text;
+use cif_write::{Prepared, prepare};
 use job_text::comments;
 use lay_point::NoMemory;
 use std::alloc::Global;
 use std::io::Write;
-use std::thread::Threads;
 
-/// Returns what is to be written for the job of the bytes, and the status with which the program then
-/// ends.
-pub(super) fn output_of(
-    rt: &(impl Threads + Sync),
-    alloc: Global,
-    bytes: &[u8],
-) -> Result<(Vec<u8>, Status), NoMemory>
-    ensures { IfOk result (λ output. IsOutput bytes.now (record { text = output.0.items; status = output.1 })) }
+/// Writes the replies, the order and the layout.
+pub(super) fn write_finished<O: Out>(alloc: Global, finished: &Finished, out: &mut O) -> Status
+    ensures { WritesOrMemory O.written O.failures out.old out.new (finished_output finished.now) result }
 {
-    match finish(rt, alloc, bytes) {
-        Ok(finished) => Ok((finished_text(alloc, &finished)?, Status::Done)),
-        Err(Stop::JobFault(line)) => Ok((job_fault_text(alloc, line)?, Status::Job)),
-        Err(Stop::CifFault(fault)) => Ok((cif_fault_text(alloc, fault)?, Status::Cif)),
-        Err(Stop::NoMemory) => Err(NoMemory),
+    match prepared(alloc, finished) {
+        Ok((comments, layout)) => put_finished(&comments, &layout, out),
+        Err(NoMemory) => put_memory(out),
     }
 }
 
-/// The replies, the order and the layout.
-fn finished_text(alloc: Global, finished: &Finished) -> Result<Vec<u8>, NoMemory>
-    ensures { IfOk result (λ bytes. bytes.items ≡ (finished_output finished.now).text) }
+/// Returns the lines of the replies and of the order, and the layout, ready to be written.
+fn prepared(alloc: Global, finished: &Finished) -> Result<(Vec<u8>, Prepared<'_>), NoMemory>
+    ensures { IfOk result (λ ready. (ready.0.items
+        ≡ replies_text finished.now.replies ++ order_text finished.now.order)
+        × (ready.1 ≡ finished.now.layout)) }
 {
-    let mut bytes = comments(
+    let comments = comments(
         alloc,
         finished.replies.as_slice(),
         finished.order.as_slice(),
     )?;
-    push_text(alloc, &mut bytes, &finished.layout)?;
-    Ok(bytes)
+    Ok((comments, prepare(&finished.layout)?))
+}
+
+/// Writes the comments, then the layout.
+fn put_finished<O: Out>(comments: &[u8], layout: &Prepared<'_>, out: &mut O) -> Status
+    ensures { Writes O.written O.failures out.old out.new
+        (record { text = comments.now ++ text layout.now; status = Done }) result }
+{
+    if put_all(out, comments).is_err() || layout.put(out).is_err() {
+        return Status::Device;
+    }
+    Status::Done
+}
+
+/// Writes the line that says why there is no layout.
+pub(super) fn write_stop<O: Out>(alloc: Global, stop: Stop, out: &mut O) -> Status
+    ensures { WritesOrMemory O.written O.failures out.old out.new (stop_output stop) result }
+{
+    match stop_text(alloc, stop) {
+        Ok((text, status)) => put(out, &text, status),
+        Err(NoMemory) => put_memory(out),
+    }
+}
+
+/// Returns the line that says why there is no layout, and the status with which the program then ends.
+fn stop_text(alloc: Global, stop: Stop) -> Result<(Vec<u8>, Status), NoMemory>
+    ensures { IfOk result (λ line. record { text = line.0.items; status = line.1 } ≡ stop_output stop) }
+{
+    match stop {
+        Stop::JobFault(line) => Ok((job_fault_text(alloc, line)?, Status::Job)),
+        Stop::CifFault(fault) => Ok((cif_fault_text(alloc, fault)?, Status::Cif)),
+        Stop::NoMemory => Err(NoMemory),
+    }
 }
 
 /// The line of a job's fault.

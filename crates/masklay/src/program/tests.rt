@@ -20,8 +20,13 @@ const FIRST_OUTPUT: &[u8] =
 
 /// How the program ends on the job and what it writes, where the input answers so many reads and the
 /// output takes so many bytes.
-fn ended(rt: &HostRuntime, job: &[u8], reads: usize, room: usize) -> (Status, MemoryOut) {
-    let alloc = rt.alloc();
+fn ended(
+    rt: &(impl Threads + Sync),
+    alloc: Global,
+    job: &[u8],
+    reads: usize,
+    room: usize,
+) -> (Status, MemoryOut) {
     let mut input = MemoryIn::new(job, 5, reads);
     let mut out = MemoryOut::new(alloc, 1000, room, Failing::ByErr);
     let status = run(rt, alloc, Options {}, &mut input, &mut out);
@@ -39,7 +44,7 @@ fn ends_with_status_5_where_a_device_fails(rt: HostRuntime) {
         (b"", 1000, 0, b""),
     ];
     for (job, reads, room, want) in rows {
-        let (status, out) = ended(&rt, job, reads, room);
+        let (status, out) = ended(&rt, rt.alloc(), job, reads, room);
         assert_eq!(rt; status, Status::Device, "{want:?}");
         assert_eq!(rt; out.written(), want);
     }
@@ -49,7 +54,7 @@ fn ends_with_status_5_where_a_device_fails(rt: HostRuntime) {
 #[test]
 fn a_full_device_holds_a_prefix_of_the_output(rt: HostRuntime) {
     for room in 0..FIRST_OUTPUT.len() {
-        let (status, out) = ended(&rt, FIRST_RUN, 1000, room);
+        let (status, out) = ended(&rt, rt.alloc(), FIRST_RUN, 1000, room);
         assert_eq!(rt; status, Status::Device, "{room}");
         assert_eq!(rt; out.written(), &FIRST_OUTPUT[..room], "{room}");
     }

@@ -1,4 +1,4 @@
-use Rattle.std.proofs.Common.{ℕ, List, arith, ◌∙◌, subst}
+use Rattle.std.proofs.Common.{ℕ, List, arith, subst}
 use Rattle.masklay.specs.Output.{Ends}
 use Rattle.masklay.proofs.OutputLemmas.{kept_ends}
 use Rattle.masklay.proofs.program.run.Goals as goal
@@ -10,7 +10,7 @@ returns-in-Ok g c =
     c.write_output.result in
     record {
       answered = λ bytes told ended. kept_ends g.O.Out.written g.O.Out.failures c.args.out.now c.write_output.new.out bytes
-          c.write_output.result (subst P (c.deref.ensures.value ∙ c.in-Ok.ensures.kept bytes told) c.write_output.ensures);
+          c.write_output.result (subst P (c.in-Ok.ensures.kept bytes told) c.write_output.ensures);
       unended = λ same _. let ended = c.in-Ok.ensures.how.0 in absurd (omega arith);
       failed = λ failed. absurd (failed c.in-Ok.ensures.how.1);
       reads = c.in-Ok.ensures.reads;

@@ -21,7 +21,7 @@ returns-in_err-file c room short =
     let layout = c.args.snapshot.now in
     let fault = c.in_err-file.field-0.0 in
     let may : FitsText layout = record { sound = c.look_at_layers.ensures.sound; named = c.look_at_layers.ensures.named; room = room } in
-    let whole : c.as_slice.result.now ≡ text layout = search rules in
+    let whole : c.written.result.now ≡ text layout = search rules in
     let answer : AnswersMeaning (text layout) (Err fault) = subst (λ t. AnswersMeaning t (Err fault)) whole c.in_err-file.ensures.answer in
     let none : fault ≡ no_memory = refused_again layout may short fault answer in
     inl (search rules)
@@ -31,7 +31,7 @@ returns c room short =
     let layout = c.args.snapshot.now in
     let file = c.in_ok-file.file in
     let may : FitsText layout = record { sound = c.look_at_layers.ensures.sound; named = c.look_at_layers.ensures.named; room = room } in
-    let whole : c.as_slice.result.now ≡ text layout = search rules in
+    let whole : c.written.result.now ≡ text layout = search rules in
     let answer : AnswersMeaning (text layout) (Ok file) = subst (λ t. AnswersMeaning t (Ok file)) whole c.in_ok-file.ensures.answer in
     let again : layout_of file ≡ wrap layout = accepted_again layout may short file answer in
     inr (ap Ok (same_value (record {}) c.in_ok-from_cif.field-0 (layout_of file) c.in_ok-from_cif.ensures ∙ again))

@@ -1,0 +1,7 @@
+use Rattle.std.proofs.Common.{rules}
+use Rattle.byte_io.proofs.BufferedLemmas.{Buffered-then}
+use Rattle.cif_write.proofs.BegunLemmas.{Buffered-is}
+use Rattle.cif_write.proofs.text.put_layer.Goals as goal
+
+pub returns : goal.returns
+returns g c = Buffered-is (Buffered-then (Buffered-then c.put.ensures c.put-2.ensures) c.put-3.ensures) (search rules)

@@ -1,0 +1,7 @@
+use Rattle.std.proofs.Common.{rules}
+use Rattle.byte_io.proofs.BufferedLemmas.{Buffered-then}
+use Rattle.cif_write.proofs.BegunLemmas.{Buffered-is}
+use Rattle.cif_write.proofs.text.put_start.Goals as goal
+
+pub returns : goal.returns
+returns g c = Buffered-is (Buffered-then (Buffered-then c.put.ensures c.put_unsigned.ensures) c.put-2.ensures) (search rules)
