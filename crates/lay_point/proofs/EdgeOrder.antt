@@ -1,10 +1,10 @@
 -- The orders of points and of undirected edges are strict, that of points is total, and tests of points and edges decide.
-use Rattle.std.proofs.Common.{◌≡◌, ◌⊎◌, inl, inr, Bool, true, false, cond, ◌&&◌, ◌||◌, ℤ, ◌<ℤ◌, refl, sym, ap, ap₂, subst, ◌∙◌}
+use Rattle.std.proofs.Common.{◌≡◌, ◌⊎◌, inl, inr, Bool, true, false, cond, ◌&&◌, ℤ, ◌<ℤ◌, refl, sym, ap₂, subst, ◌∙◌}
 use Rattle.std.proofs.Common.{arith, ⊎_elim, int_eq}
 use Rattle.std.proofs.lemmas.Int.{ints, by_lt_z}
 use Rattle.std.proofs.lemmas.Bool.Decides.{Decides-int_eq}
 use Rattle.lay_point.specs.declared.point.Point.{Point}
-use Rattle.lay_point.specs.Edges.{is_before, undirected, IsEdgeBefore, same_edge, touches}
+use Rattle.lay_point.specs.Edges.{is_before, undirected, IsEdgeBefore, same_edge}
 use Rattle.lay_point.specs.Points.{IsBefore, point_eq}
 use Rattle.lay_point.proofs.Parity.{IsEquality}
 use Rattle.lay_point.proofs.Rising.{IsStrictOrder}

@@ -1,5 +1,6 @@
 pub mod Bridges
 pub mod Edges
+mod Kept
 pub mod Memory
 pub mod Names
 pub mod Padded

@@ -1,6 +1,7 @@
 //! Rings: closed paths. Four points are kept in place.
 ghost use Rattle.std.specs.Prelude.{◌≡◌, ◌≤◌, ◌<ℤ◌, IfOk, IsTrue, length};
 ghost use Rattle.std.specs.List.{list_all};
+ghost use Rattle.lay_point.specs.Kept.{kept_points};
 ghost use Rattle.lay_point.specs.Memory.{IsAnswer};
 ghost use Rattle.lay_point.specs.Points.{is_in_range};
 ghost use Rattle.lay_point.specs.Rings.{IsRing, NeighboursDiffer, closed, opened, rectangle};
@@ -39,19 +40,27 @@ pub enum RingFault {
 /// last and the first among them. Contracts see the list of its points.
 #[derive(Debug, Drop)]
 pub struct Ring {
-    points: SmallVec<Point, 4>,
+    kept: Kept,
+}
+
+/// How a ring's points are kept. Four stand in place, and need no list.
+#[derive(Debug, Drop)]
+enum Kept {
+    Four([Point; 4]),
+    Other(Vec<Point>),
 }
 
 impl Model for Ring {
     ghost use Rattle.std.specs.Prelude.{List};
     ghost use Rattle.lay_point.specs.declared.point.Point.{Point};
+    ghost use Rattle.lay_point.specs.Kept.{kept_points};
     ghost use Rattle.lay_point.specs.Rings.{IsRing};
 
     ghost Value = { List Point };
 
-    ghost view = { λ r. r.points.items };
+    ghost view = { λ r. kept_points r.kept };
 
-    ghost invariant = { λ r. IsRing r.points.items };
+    ghost invariant = { λ r. IsRing (kept_points r.kept) };
 }
 
 impl Ring {
@@ -65,7 +74,7 @@ impl Ring {
     }
 
     /// Returns the upright rectangle with these corners, from `low` anticlockwise. It doesn't allocate.
-    pub fn rectangle(alloc: Global, low: Point, high: Point) -> Ring
+    pub fn rectangle(_alloc: Global, low: Point, high: Point) -> Ring
         requires low { IsTrue (is_in_range low) }
         requires high { IsTrue (is_in_range high) }
         requires wide { low.x <ℤ high.x }
@@ -73,18 +82,16 @@ impl Ring {
         ensures value { result ≡ rectangle low high }
         ensures ring { IsRing result }
     {
-        let mut points = SmallVec::new(alloc);
-        points.push_reserved(low);
-        points.push_reserved(Point {
+        let right = Point {
             x: high.x,
             y: low.y,
-        });
-        points.push_reserved(high);
-        points.push_reserved(Point {
+        };
+        let left = Point {
             x: low.x,
             y: high.y,
-        });
-        Ring { points }
+        };
+        let kept = Kept::Four([low, right, high, left]);
+        Ring { kept }
     }
 
     /// Returns the points of the ring, in order.
@@ -92,7 +99,42 @@ impl Ring {
         ensures value { result.now ≡ self.now }
         ensures ring { IsRing self.now }
     {
-        self.points.as_slice()
+        self.kept.as_slice()
+    }
+}
+
+impl Kept {
+    /// Returns the points as they are kept.
+    fn of(points: SmallVec<Point, 4>) -> Result<Kept, NoMemory>
+        ensures { IfOk result (λ kept. kept_points kept ≡ points.items) }
+    {
+        if let [first, second, third, fourth] = points.as_slice() {
+            return Ok(Kept::Four([*first, *second, *third, *fourth]));
+        }
+        Ok(Kept::Other(points.into_vec()?))
+    }
+
+    /// Returns the points, in order.
+    fn as_slice(&self) -> &[Point]
+        ensures { result.now ≡ kept_points self.now }
+    {
+        match self {
+            Kept::Four(points) => points.as_slice(),
+            Kept::Other(points) => points.as_slice(),
+        }
+    }
+}
+
+impl Clone for Ring {
+    ghost is_clone = { λ ring copy. copy ≡ ring };
+
+    /// Returns an equal ring. Four points take no memory.
+    fn clone(&self) -> Result<Ring, AllocError> {
+        let kept = match &self.kept {
+            Kept::Four(points) => Kept::Four(*points),
+            Kept::Other(points) => Kept::Other(points.clone()?),
+        };
+        Ok(Ring { kept })
     }
 }
 
@@ -158,7 +200,7 @@ fn opened(mut path: SmallVec<Point, 4>) -> SmallVec<Point, 4>
 /// Returns the ring of points without repeats.
 fn checked(points: SmallVec<Point, 4>) -> Result<Ring, RingFault>
     requires { 2 ≤ length points.items → NeighboursDiffer (closed points.items) }
-    ensures { result ≡ checked_ring points.items }
+    ensures { IsAnswer RingFault.NoMemory result (checked_ring points.items) }
 {
     if points.len() < 3 {
         return Err(RingFault::FewPoints);
@@ -169,7 +211,8 @@ fn checked(points: SmallVec<Point, 4>) -> Result<Ring, RingFault>
     if points.len() > MAX_RING_POINTS {
         return Err(RingFault::TooMany);
     }
-    Ok(Ring { points })
+    let kept = Kept::of(points).map_err(|_| RingFault::NoMemory)?;
+    Ok(Ring { kept })
 }
 
 fn are_in_range(points: &[Point]) -> bool
