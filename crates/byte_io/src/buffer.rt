@@ -1,5 +1,5 @@
 //! A buffer in front of a device, so that the device takes many small pieces at once.
-ghost use Rattle.std.specs.Prelude.{◌≡◌, [], OnErr, OnOk, decimal, if◌then◌else◌, is_none};
+ghost use Rattle.std.specs.Prelude.{◌≡◌, ◌∷◌, [], OnErr, OnOk, decimal, if◌then◌else◌, is_none};
 ghost use Rattle.std.specs.Fmt.{signed_decimal};
 ghost use Rattle.byte_io.specs.Buffered.{Buffered, held_with};
 
@@ -9,7 +9,7 @@ use itoa::Buffer;
 use std::marker::Model;
 
 /// How many bytes a buffer holds.
-const CAPACITY: usize = 4096;
+const CAPACITY: usize = 16_384;
 
 /// Bytes on their way to a device. The device takes them once they fill the buffer, and at `flush`.
 /// The buffer lies in the value itself and takes no memory.
@@ -60,6 +60,16 @@ impl OutBuffer {
         }
     }
 
+    /// Puts a byte behind those that are held back.
+    pub fn put_byte<O: Out>(&mut self, out: &mut O, byte: u8)
+        ensures { Buffered O.written O.failures out.old self.old out.new self.new (byte ∷ []) }
+    {
+        if self.failed || self.hold_byte(byte) {
+            return;
+        }
+        self.put(out, &[byte]);
+    }
+
     /// Puts the number's digits, without leading zeros.
     pub fn put_unsigned<O: Out>(&mut self, out: &mut O, number: u64)
         ensures { Buffered O.written O.failures out.old self.old out.new self.new (decimal number) }
@@ -99,5 +109,12 @@ impl OutBuffer {
         ensures { self.new ≡ (if result then held_with self.old bytes.now else self.old) }
     {
         self.held.try_extend_from_slice(bytes).is_ok()
+    }
+
+    /// Holds the byte back where there is room for it, and returns whether there was.
+    fn hold_byte(&mut self, byte: u8) -> bool
+        ensures { self.new ≡ (if result then held_with self.old (byte ∷ []) else self.old) }
+    {
+        self.held.try_push(byte).is_ok()
     }
 }

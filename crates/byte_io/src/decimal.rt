@@ -1,5 +1,5 @@
 //! Decimal numbers as text, and back.
-ghost use Rattle.std.specs.Prelude.{◌≡◌, ◌++◌, OnErr, OnOk, decimal};
+ghost use Rattle.std.specs.Prelude.{◌≡◌, ◌+◌, ◌++◌, OnErr, OnOk, decimal};
 ghost use Rattle.std.specs.Fmt.{signed_decimal};
 ghost use Rattle.std.specs.List.{AllPass};
 ghost use Rattle.lay_point.specs.Names.{is_digit};
@@ -28,15 +28,16 @@ pub fn push_signed(bytes: &mut Vec<u8>, integer: i32) -> Result<(), NoMemory>
     Ok(())
 }
 
-/// Returns the value of the digits, or `cap` where that is less. There may be any number of digits, or
-/// none.
-pub fn capped_decimal(cap: u32, digits: &[u8]) -> u32
+/// Returns the value of the digits, or one more than `limit` where that is less. There may be any
+/// number of digits, or none.
+pub fn capped_decimal(limit: u32, digits: &[u8]) -> u64
     requires { AllPass is_digit digits.now }
-    ensures { result ≡ capped_decimal cap digits.now }
+    ensures { result ≡ capped_decimal (limit + 1) digits.now }
 {
+    let cap = u64::from(limit) + 1;
     let mut value = 0u64;
     for digit in digits {
-        value = (10 * value + u64::from(*digit - b'0')).min(u64::from(cap));
+        value = (10 * value + u64::from(*digit - b'0')).min(cap);
     }
-    value as u32
+    value
 }

@@ -9,7 +9,7 @@
 //! to; tests use them in place of files.
 //!
 //! `push_unsigned` and `push_signed` append a number's decimal digits to a text, and `capped_decimal` is
-//! the way back: the value of digits of any length, in 32 bits.
+//! the way back: the value of digits of any length, up to a limit and one more.
 //!
 //! ```text
 //! let mut text = Vec::new(alloc);

@@ -90,7 +90,7 @@ fn numbers_have_their_digits(rt: HostRuntime) {
 // Could catch a definition of the value that isn't that of decimal digits.
 #[test]
 fn digits_have_their_value_up_to_the_cap(rt: HostRuntime) {
-    let rows: [(&[u8], u32); 5] = [
+    let rows: [(&[u8], u64); 5] = [
         (b"", 0),
         (b"00120", 120),
         (b"999", 999),
@@ -99,7 +99,7 @@ fn digits_have_their_value_up_to_the_cap(rt: HostRuntime) {
     ];
     for (digits, want) in rows {
         let value = if digits.iter().all(|b| b.is_ascii_digit()) {
-            capped_decimal(1000, digits)
+            capped_decimal(999, digits)
         } else {
             0
         };

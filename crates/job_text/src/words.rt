@@ -2,11 +2,11 @@
 ghost use Rattle.std.specs.Prelude.{◌+◌, ◌≡◌, ◌≤◌, [], neg_ℤ, length, not, option_map, pos, ◌<◌, ◌-◌, ◌^◌, IfSome, MatchOption, Some, None};
 ghost use Rattle.std.specs.List.{AllPass, list_all, position};
 ghost use Rattle.lay_point.specs.Names.{is_digit};
-ghost use Rattle.byte_io.specs.Decimal.{capped_decimal};
 ghost use Rattle.job_text.specs.Job.{is_none_of};
 ghost use Rattle.job_text.specs.Words.{IsFirstWord, before_dot, cell_of, coordinate_of, from_word, is_negative, is_number, is_separator, item_of, mirror_of, number_of, quarter_of, turning_of, txn_of, value_up_to, words};
 
 use crate::lines::place_of;
+use byte_io::capped_decimal;
 use lay_cells::{CellId, MAX_SYMBOL};
 use lay_items::ItemId;
 use lay_point::Quarter;
@@ -227,23 +227,10 @@ fn value_up_to(limit: u32, digits: &[u8]) -> Option<u32>
     ensures value { result ≡ value_up_to limit digits.now }
     ensures small { IfSome result (λ n. n ≤ limit) }
 {
-    let value = capped_value(limit, digits);
+    let value = capped_decimal(limit, digits);
     if u64::from(limit) < value {
         None
     } else {
         Some(value as u32)
     }
-}
-
-/// The value of the digits, or one more than the limit where that is less.
-fn capped_value(limit: u32, digits: &[u8]) -> u64
-    requires { AllPass is_digit digits.now }
-    ensures { result ≡ capped_decimal (limit + 1) digits.now }
-{
-    let cap = u64::from(limit) + 1;
-    let mut value = 0u64;
-    for digit in digits {
-        value = (10 * value + u64::from(*digit - b'0')).min(cap);
-    }
-    value
 }
