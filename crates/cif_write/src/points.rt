@@ -96,8 +96,8 @@ pub(crate) fn put_point<O: Out>(out: &mut O, buffer: &mut OutBuffer, point: Poin
     ensures { Buffered O.written O.failures out.old buffer.old out.new buffer.new
         (point_text point) }
 {
-    buffer.put(out, b" ");
+    buffer.put_byte(out, b' ');
     buffer.put_signed(out, point.x);
-    buffer.put(out, b" ");
+    buffer.put_byte(out, b' ');
     buffer.put_signed(out, point.y);
 }

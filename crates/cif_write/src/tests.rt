@@ -73,7 +73,7 @@ fn a_text_longer_than_the_buffer_is_cut_where_the_device_fails(
 ) -> Result<(), Fail> {
     let mut text = Vec::from_slice(rt.alloc(), b"L NM;")?;
     let mut whole = Vec::from_slice(rt.alloc(), b"DS 1 1 2;\nL NM;\n")?;
-    for _ in 0..300 {
+    for _ in 0..1200 {
         text.extend_from_slice(b"B 40 20 0 0;")?;
         whole.extend_from_slice(b"P -40 -20 40 -20 40 20 -40 20;\n")?;
     }
@@ -81,10 +81,10 @@ fn a_text_longer_than_the_buffer_is_cut_where_the_device_fails(
     whole.extend_from_slice(b"DF;\nC 1;\nE\n")?;
     let rows: [(usize, Result<(), WriteFault>, usize); 5] = [
         (0, Err(WriteFault::Device), 0),
-        (4_095, Err(WriteFault::Device), 4_095),
-        (5_000, Err(WriteFault::Device), 5_000),
-        (9_326, Err(WriteFault::Device), 9_326),
-        (9_327, Ok(()), 9_327),
+        (16_383, Err(WriteFault::Device), 16_383),
+        (20_000, Err(WriteFault::Device), 20_000),
+        (37_226, Err(WriteFault::Device), 37_226),
+        (37_227, Ok(()), 37_227),
     ];
     for (room, want, written) in rows {
         let mut out = MemoryOut::new(rt.alloc(), 1000, room, Failing::ByZero);

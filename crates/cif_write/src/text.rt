@@ -163,7 +163,7 @@ fn put_path<O: Out>(out: &mut O, buffer: &mut OutBuffer, rings: &Rings)
     ensures { Buffered O.written O.failures out.old buffer.old out.new buffer.new
         (line_text (Path (bridged rings.now))) }
 {
-    buffer.put(out, b"P");
+    buffer.put_byte(out, b'P');
     put_bridged(out, buffer, rings.as_slice());
     buffer.put(out, b";\n");
 }

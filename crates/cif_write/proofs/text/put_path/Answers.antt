@@ -4,4 +4,4 @@ use Rattle.cif_write.proofs.BegunLemmas.{Buffered-is}
 use Rattle.cif_write.proofs.text.put_path.Goals as goal
 
 pub returns : goal.returns
-returns g c = Buffered-is (Buffered-then (Buffered-then c.put.ensures c.put_bridged.ensures) c.put-2.ensures) (search rules)
+returns g c = Buffered-is (Buffered-then (Buffered-then c.put_byte.ensures c.put_bridged.ensures) c.put.ensures) (search rules)
