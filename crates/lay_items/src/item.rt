@@ -2,7 +2,6 @@
 ghost use Rattle.std.specs.Prelude.{◌≡◌, ◌∷◌, [], IfOk, Ok};
 ghost use Rattle.lay_point.specs.Memory.{IsAnswer};
 ghost use Rattle.lay_items.specs.Items.{cell_of};
-ghost use Rattle.lay_items.specs.Kept.{kept_rings};
 
 use lay_cells::CellId;
 use lay_point::{LayerName, NoMemory, Ring, Turn};
@@ -10,91 +9,78 @@ use std::alloc::{AllocError, Global};
 use std::marker::Model;
 use std::sync::Arc;
 
-/// The rings of a shape, shared by all who hold them. Contracts see the list of them.
+/// The rings of a shape. Contracts see the list of them.
 #[derive(Debug, Drop)]
 pub struct Rings {
-    shared: Arc<Kept>,
+    kept: Kept,
 }
 
-/// How rings are kept. A sole one stands in its owner's allocation, and needs no list.
+/// How rings are kept. A sole ring of four points stands in place, which takes less than a share of
+/// it would; all others are shared by all who hold them.
 #[derive(Debug, Drop)]
 enum Kept {
-    One(Ring),
-    Several(Vec<Ring>),
+    InPlace(Ring),
+    One(Arc<Ring>),
+    Several(Arc<Vec<Ring>>),
 }
 
 impl Model for Rings {
     ghost use Rattle.std.specs.Prelude.{List};
-    ghost use Rattle.std.specs.Arc.{arc_value};
     ghost use Rattle.lay_point.specs.declared.point.Point.{Point};
     ghost use Rattle.lay_items.specs.Kept.{kept_rings};
 
     ghost Value = { List (List Point) };
 
-    ghost view = { λ r. kept_rings (arc_value r.shared) };
+    ghost view = { λ r. kept_rings r.kept };
 }
 
 impl Rings {
     /// Returns the rings, to be shared.
-    pub fn new(alloc: Global, rings: Vec<Ring>) -> Result<Rings, NoMemory>
+    pub fn new(alloc: Global, mut rings: Vec<Ring>) -> Result<Rings, NoMemory>
         ensures { IsAnswer (record {}) result (Ok rings.items) }
     {
-        let shared = Arc::new(alloc, Kept::of(rings))?;
-        Ok(Rings { shared })
+        if rings.len() == 1
+            && let Some(ring) = rings.pop()
+        {
+            return Rings::one(alloc, ring);
+        }
+        let kept = Kept::Several(Arc::new(alloc, rings)?);
+        Ok(Rings { kept })
     }
 
     /// Returns the ring, to be shared. It needs no list.
     pub(crate) fn one(alloc: Global, ring: Ring) -> Result<Rings, NoMemory>
         ensures { IsAnswer (record {}) result (Ok (ring ∷ [])) }
     {
-        let shared = Arc::new(alloc, Kept::One(ring))?;
-        Ok(Rings { shared })
+        let kept = if ring.points().len() == 4 {
+            Kept::InPlace(ring)
+        } else {
+            Kept::One(Arc::new(alloc, ring)?)
+        };
+        Ok(Rings { kept })
     }
 
     /// Returns the rings, in order.
     pub fn as_slice(&self) -> &[Ring]
         ensures { result.now ≡ self.now }
     {
-        self.kept().as_slice()
-    }
-
-    /// Returns what is shared.
-    fn kept(&self) -> &Kept
-        ensures { kept_rings result.now ≡ self.now }
-    {
-        &self.shared
-    }
-
-    /// Returns one more owner of the same rings.
-    fn share(&self) -> Result<Rings, AllocError>
-        ensures { IfOk result (λ rings. rings ≡ self.now) }
-    {
-        let shared = Arc::try_clone(&self.shared)?;
-        Ok(Rings { shared })
-    }
-}
-
-impl Kept {
-    /// Returns the rings as they are kept.
-    fn of(mut rings: Vec<Ring>) -> Kept
-        ensures { kept_rings result ≡ rings.items }
-    {
-        if rings.len() == 1
-            && let Some(ring) = rings.pop()
-        {
-            return Kept::One(ring);
-        }
-        Kept::Several(rings)
-    }
-
-    /// Returns the rings, in order.
-    fn as_slice(&self) -> &[Ring]
-        ensures { result.now ≡ kept_rings self.now }
-    {
-        match self {
+        match &self.kept {
+            Kept::InPlace(ring) => std::slice::from_ref(ring),
             Kept::One(ring) => std::slice::from_ref(ring),
             Kept::Several(rings) => rings.as_slice(),
         }
+    }
+
+    /// Returns the same rings once more.
+    fn share(&self) -> Result<Rings, AllocError>
+        ensures { IfOk result (λ rings. rings ≡ self.now) }
+    {
+        let kept = match &self.kept {
+            Kept::InPlace(ring) => Kept::InPlace(ring.clone()?),
+            Kept::One(ring) => Kept::One(Arc::try_clone(ring)?),
+            Kept::Several(rings) => Kept::Several(Arc::try_clone(rings)?),
+        };
+        Ok(Rings { kept })
     }
 }
 
@@ -150,7 +136,8 @@ impl Item {
         }
     }
 
-    /// Returns an equal item. The rings are shared, not copied, so the allocator has no use as yet.
+    /// Returns an equal item. Rings are shared, but for a few points in place, so the allocator has no
+    /// use as yet.
     pub fn copy(&self, _alloc: Global) -> Result<Item, NoMemory>
         ensures { IsAnswer (record {}) result (Ok self.now) }
     {

@@ -18,16 +18,31 @@ fn id(seq: u32) -> ItemId
     }
 }
 
+/// Returns the ring of the corners.
+fn ring(alloc: Global, corners: &[(i32, i32)]) -> Result<Ring, Fail> {
+    let mut points = Vec::new(alloc);
+    for (x, y) in corners {
+        points.push(Point { x: *x, y: *y })?;
+    }
+    Ok(Ring::new(alloc, &points)?)
+}
+
+/// Returns the shape that rings of these corners draw on the layer.
+fn shape(alloc: Global, cell: CellId, layer: &[u8], drawn: &[&[(i32, i32)]]) -> Result<Item, Fail> {
+    let mut rings = Vec::new(alloc);
+    for corners in drawn {
+        rings.push(ring(alloc, corners)?)?;
+    }
+    let layer = LayerName::new(layer).ok_or("no layer name")?;
+    let rings = Rings::new(alloc, rings)?;
+    Ok(Item::Shape { cell, layer, rings })
+}
+
 /// Returns the square on the layer, of this half side around the origin.
 fn square(alloc: Global, cell: CellId, layer: &[u8], half: i32) -> Result<Item, Fail> {
     let low = half.checked_neg().ok_or("no half side")?;
     let corners = [(low, low), (half, low), (half, half), (low, half)];
-    let ring = Ring::new(alloc, &corners.map(|(x, y)| Point { x, y }))?;
-    let mut rings = Vec::new(alloc);
-    rings.push(ring)?;
-    let layer = LayerName::new(layer).ok_or("no layer name")?;
-    let rings = Rings::new(alloc, rings)?;
-    Ok(Item::Shape { cell, layer, rings })
+    shape(alloc, cell, layer, &[&corners])
 }
 
 /// Returns the snapshot of what the text means.
@@ -111,13 +126,18 @@ fn a_snapshot_answers_as_before(rt: HostRuntime) -> Result<(), Fail> {
     Ok(())
 }
 
-// Could catch copies that fail though there is memory.
+// Could catch copies that fail though there is memory, of rings in place and of those that are shared.
 #[test]
 fn a_copy_is_equal(rt: HostRuntime) -> Result<(), Fail> {
     let alloc = rt.alloc();
-    let item = square(alloc, CellId::Top, b"A", 1)?;
-    assert!(rt; item.copy(alloc)? == item && item.cell() == CellId::Top);
-    assert!(rt; item != square(alloc, CellId::Top, b"A", 2)?);
+    let square: &[(i32, i32)] = &[(0, 0), (4, 0), (4, 4), (0, 4)];
+    let triangle: &[(i32, i32)] = &[(0, 0), (4, 0), (0, 4)];
+    let drawn: [&[&[(i32, i32)]]; 4] = [&[square], &[triangle], &[square, triangle], &[]];
+    for rings in drawn {
+        let item = shape(alloc, CellId::Top, b"A", rings)?;
+        assert!(rt; item.copy(alloc)? == item && item.cell() == CellId::Top);
+        assert!(rt; item != shape(alloc, CellId::Top, b"A", &[triangle, square])?);
+    }
     Ok(())
 }
 
