@@ -14,7 +14,7 @@ const MAX_READS: u32 = 33_554_432;
 const _: () = prove!(MAX_READS == 33_554_432);
 
 /// How many bytes are asked for in one read.
-const BUFFER: usize = 4096;
+const BUFFER: usize = 16_384;
 
 /// Why the input isn't read to its end.
 #[derive(Clone, Copy, Debug, PartialEq, Eq)]

@@ -14,5 +14,5 @@ invariant-loop g l = record {
   turns : l.counter ≤ 33554432;
   unended : (g.I.In.counts l.input).ends ≡ (g.I.In.counts l.initial.input).ends;
   unfailing : (g.I.In.counts l.input).failures ≡ (g.I.In.counts l.initial.input).failures;
-  buffer : length l.buffer ≡ 4096;
+  buffer : length l.buffer ≡ 16384;
 }
