@@ -52,11 +52,8 @@ impl OutBuffer {
     pub fn put<O: Out>(&mut self, out: &mut O, bytes: &[u8])
         ensures { Buffered O.written O.failures out.old self.old out.new self.new bytes.now }
     {
-        if self.failed || self.hold(bytes) {
-            return;
-        }
-        if self.flush(out).is_ok() && !self.hold(bytes) {
-            self.failed = put_all(out, bytes).is_err();
+        if !self.hold(bytes) {
+            self.put_full(out, bytes);
         }
     }
 
@@ -64,10 +61,9 @@ impl OutBuffer {
     pub fn put_byte<O: Out>(&mut self, out: &mut O, byte: u8)
         ensures { Buffered O.written O.failures out.old self.old out.new self.new (byte ∷ []) }
     {
-        if self.failed || self.hold_byte(byte) {
-            return;
+        if !self.hold_byte(byte) {
+            self.put_full(out, &[byte]);
         }
-        self.put(out, &[byte]);
     }
 
     /// Puts the number's digits, without leading zeros.
@@ -102,6 +98,15 @@ impl OutBuffer {
         }
         self.held.clear();
         Ok(())
+    }
+
+    /// Puts the bytes, for which there is no room before a flush.
+    fn put_full<O: Out>(&mut self, out: &mut O, bytes: &[u8])
+        ensures { Buffered O.written O.failures out.old self.old out.new self.new bytes.now }
+    {
+        if self.flush(out).is_ok() && !self.hold(bytes) {
+            self.failed = put_all(out, bytes).is_err();
+        }
     }
 
     /// Holds the bytes back where there is room for them, and returns whether there was.
