@@ -111,54 +111,38 @@ impl Command {
     pub fn copy(&self, alloc: Global) -> Result<Command, NoMemory>
         ensures { IsAnswer (record {}) result (Ok self.now) }
     {
-        match self {
-            Command::Box { cell, layer, a, b } => Ok(Command::Box {
-                cell: *cell,
-                layer: *layer,
-                a: *a,
-                b: *b,
-            }),
+        Ok(match *self {
+            Command::Box { cell, layer, a, b } => Command::Box { cell, layer, a, b },
             Command::Poly {
                 cell,
                 layer,
-                points,
-            } => Ok(Command::Poly {
-                cell: *cell,
-                layer: *layer,
+                ref points,
+            } => Command::Poly {
+                cell,
+                layer,
                 points: copied(alloc, points)?,
-            }),
-            Command::Delete(id) => Ok(Command::Delete(*id)),
-            Command::Move { id, dx, dy } => Ok(Command::Move {
-                id: *id,
-                dx: *dx,
-                dy: *dy,
-            }),
-            Command::SetLayer { id, layer } => Ok(Command::SetLayer {
-                id: *id,
-                layer: *layer,
-            }),
-            Command::Place { cell, target, turn } => Ok(Command::Place {
-                cell: *cell,
-                target: *target,
-                turn: *turn,
-            }),
-            Command::Look(id) => Ok(Command::Look(*id)),
+            },
+            Command::Delete(id) => Command::Delete(id),
+            Command::Move { id, dx, dy } => Command::Move { id, dx, dy },
+            Command::SetLayer { id, layer } => Command::SetLayer { id, layer },
+            Command::Place { cell, target, turn } => Command::Place { cell, target, turn },
+            Command::Look(id) => Command::Look(id),
             Command::Bool {
                 op,
                 cell,
                 a,
                 b,
                 out,
-            } => Ok(Command::Bool {
-                op: *op,
-                cell: *cell,
-                a: *a,
-                b: *b,
-                out: *out,
-            }),
-            Command::MakeCell(number) => Ok(Command::MakeCell(*number)),
-            Command::DropCell(number) => Ok(Command::DropCell(*number)),
-        }
+            } => Command::Bool {
+                op,
+                cell,
+                a,
+                b,
+                out,
+            },
+            Command::MakeCell(number) => Command::MakeCell(number),
+            Command::DropCell(number) => Command::DropCell(number),
+        })
     }
 }
 
