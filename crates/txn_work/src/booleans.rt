@@ -35,6 +35,21 @@ pub(crate) struct Asked {
     pub(crate) out: LayerName,
 }
 
+impl Asked {
+    /// Returns what this operation of the first two layers below the cell is asked, for the last layer.
+    pub(crate) fn new(op: Op, cell: CellId, a: LayerName, b: LayerName, out: LayerName) -> Asked
+        ensures { result ≡ record { op = op; cell = cell; a = a; b = b; out = out } }
+    {
+        Asked {
+            op,
+            cell,
+            a,
+            b,
+            out,
+        }
+    }
+}
+
 /// Plans that the shapes of a cell on a layer give way to those of an operation.
 #[tactic(auto, unfolding(txn_rules::specs::Plans::plan))]
 pub(crate) fn plan_bool(

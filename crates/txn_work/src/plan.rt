@@ -50,13 +50,7 @@ pub(crate) fn plan(
             b,
             out,
         } => {
-            let asked = Asked {
-                op: *op,
-                cell: *cell,
-                a: *a,
-                b: *b,
-                out: *out,
-            };
+            let asked = Asked::new(*op, *cell, *a, *b, *out);
             plan_bool(rt, alloc, bands, seen, new, asked)
         }
         Command::MakeCell(number) => plan_make_cell(alloc, seen, new, *number),
