@@ -83,7 +83,7 @@ fn put_first(firsts: &mut BTreeMap<u64, u32>, key: u64, at: u32) -> Result<Optio
     Ok(firsts.insert(key, at)?)
 }
 
-/// Returns the number by which a cell is told from others.
+/// Returns the cell's number, which no other cell has.
 fn cell_key(cell: CellId) -> u64
     ensures { result ≡ cell_key cell }
 {

@@ -6,7 +6,7 @@
 //! among them, are equal. A `LayerName` keeps that it is 1 to `MAX_LAYER_NAME` digits and upper-case
 //! letters.
 //! Contracts see a ring as the list of its points, a name as the list of its bytes, and a `Sequence`
-//! as the list of its elements. Whether a place is inside closed paths is told by parity: `odd` of
+//! as the list of its elements. Parity says whether a place is inside closed paths: `odd` of
 //! `specs/Parity.antt`, over the edges of `specs/RingEdges.antt`.
 //!
 //! What may allocate takes the allocator and returns `NoMemory`, or that variant of its fault, where an
