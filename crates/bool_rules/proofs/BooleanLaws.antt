@@ -74,5 +74,6 @@ booleans_tell layout sound op cell a b shapes h =
 pub booleans_are_drawn : BooleansAreDrawn
 booleans_are_drawn layout sound op cell a b shapes h =
     let is = accepted layout op cell a b shapes h in
-    subst (AllByRecursion IsDrawn) is.are (shapes_drawn op is.first is.second (flattenings_are_flat layout sound cell a is.first is.first_flat)
+    subst (AllByRecursion IsDrawn) is.are (shapes_drawn op is.first is.second
+    (flattenings_are_flat layout sound cell a is.first is.first_flat)
     (flattenings_are_flat layout sound cell b is.second is.second_flat) is.within)

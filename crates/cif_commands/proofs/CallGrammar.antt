@@ -65,7 +65,8 @@ mirror_takes (b ∷ bs) gap c rest blank e =
     ]
   where
     along : (axis : ℕ) (made : Change) → ((text : List ℕ) → IsMirror axis text → IsChange text made) → b ≡ axis
-        → ◌≡◌ {A = Option (Change × List ℕ)} (Some (made, bs)) (Some (c, rest)) → Takes (λ text. IsChange text c) (77 ∷ (gap ++ (b ∷ bs))) rest
+        → ◌≡◌ {A = Option (Change × List ℕ)} (Some (made, bs)) (Some (c, rest))
+        → Takes (λ text. IsChange text c) (77 ∷ (gap ++ (b ∷ bs))) rest
     along axis made spells letter read =
         let same = some_pair_parts made c bs rest read in
         record {
@@ -76,7 +77,8 @@ mirror_takes (b ∷ bs) gap c rest blank e =
               (spells (77 ∷ (gap ++ (axis ∷ []))) (record { gap = gap; parts = refl; gap_blank = blank }));
         }
 
-pub change_takes : (bytes : List ℕ) (c : Change) (rest : List ℕ) → change_at bytes ≡ Some (c, rest) → Takes (λ text. IsChange text c) bytes rest
+pub change_takes : (bytes : List ℕ) (c : Change) (rest : List ℕ) → change_at bytes ≡ Some (c, rest)
+    → Takes (λ text. IsChange text c) bytes rest
 unfolding change_at
 change_takes [] c rest e = absurd (none_change (c, rest) e)
 change_takes (b ∷ bs) c rest e =

@@ -1,5 +1,6 @@
 -- A command that is read is spelled so, and what spells a command is read.
-use Rattle.std.proofs.Common.{◌≡◌, ℕ, true, false, List, [], ◌∷◌, ◌++◌, Option, Some, None, refl, sym, ap, ◌∙◌, subst, cond, inl, inr, arith}
+use Rattle.std.proofs.Common.{◌≡◌, ℕ, true, false, List, [], ◌∷◌, ◌++◌, Option, Some}
+use Rattle.std.proofs.Common.{None, refl, sym, ap, ◌∙◌, subst, cond, inl, inr, arith}
 use Rattle.std.specs.Prelude.{◌==◌, option_map}
 use Rattle.std.specs.List.{list_all, take_while}
 use Rattle.std.proofs.lemmas.Bool.{eqb-true}
@@ -24,7 +25,8 @@ use Rattle.cif_commands.proofs.OtherGrammar.{box_again, box_takes, definition_ag
 use Rattle.cif_commands.proofs.PathGrammar.{path_again, path_takes}
 
 -- what was made of what was read
-made_of : {A : Type 0} (made : A → Command) (o : Option A) (c : Command) → option_map made o ≡ Some c → (x : A) × (o ≡ Some x) × (made x ≡ c)
+made_of : {A : Type 0} (made : A → Command) (o : Option A) (c : Command) → option_map made o ≡ Some c
+    → (x : A) × (o ≡ Some x) × (made x ≡ c)
 made_of made None c e = absurd cc
 made_of made (Some x) c e = (x, refl, same_Some (made x) c e)
 

@@ -37,7 +37,8 @@ closing depth bytes rest h = record {
   parts = ap (λ t. 41 ∷ t) h.parts;
 }
 
-further : (b depth : ℕ) (bytes rest : List ℕ) → (b == 41) ≡ false → (b == 40) ≡ false → Levels depth bytes rest → Levels depth (b ∷ bytes) rest
+further : (b depth : ℕ) (bytes rest : List ℕ) → (b == 41) ≡ false → (b == 40) ≡ false → Levels depth bytes rest
+    → Levels depth (b ∷ bytes) rest
 further b depth bytes rest no_close no_open h = record {
   inner = byte b h.inner;
   outer = h.outer;

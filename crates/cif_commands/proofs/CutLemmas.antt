@@ -1,11 +1,13 @@
 -- Cutting goes on command by command, and the count of its steps never runs out.
-use Rattle.std.proofs.Common.{◌≡◌, ℕ, zero, suc, ◌+◌, ◌<◌, ◌≤◌, ◌∙◌, Bool, true, false, cond, Option, Some, None, List, [], ◌∷◌, length, take, drop, refl, ap, arith, add-one}
+use Rattle.std.proofs.Common.{◌≡◌, ℕ, zero, suc, ◌+◌, ◌<◌, ◌≤◌, ◌∙◌, Bool, true, false, cond, Option}
+use Rattle.std.proofs.Common.{Some, None, List, [], ◌∷◌, length, take, drop, refl, ap, arith, add-one}
 use Rattle.std.specs.Prelude.{◌==◌, nat_lt, option_map}
 use Rattle.std.proofs.lemmas.Bool.Decides.{nat_tests}
 use Rattle.std.specs.List.{position, position_or_len, prefix_len}
 use Rattle.std.proofs.lemmas.List.{length-drop}
 use Rattle.cif_scan.specs.Bytes.{is_gap, skip}
-use Rattle.cif_commands.specs.Cutting.{CommandOf, Cut, EndOf, Ending, Front, behind_command, cut_by, cut_from, cut_rest, front_of, offset_of, semicolon_from}
+use Rattle.cif_commands.specs.Cutting.{CommandOf, Cut, EndOf, Ending, Front, behind_command}
+use Rattle.cif_commands.specs.Cutting.{cut_by, cut_from, cut_rest, front_of, offset_of, semicolon_from}
 
 pub length-skip : (passes : ℕ → Bool) (bytes : List ℕ) → length (skip passes bytes) ≤ length bytes
 length-skip passes bytes = omega (arith, length-drop (prefix_len passes bytes) bytes)
@@ -75,12 +77,14 @@ plain_from : (place : ℕ) (bytes : List ℕ)
     → semicolon_from place 0 bytes ≡ option_map (λ n. place + n) (position (λ b. b == 59) bytes)
 unfolding semicolon_from
 plain_from place [] = refl
-plain_from place (b ∷ bs) = rw (position-cons (λ b. b == 59) b bs) (by (b == 59) (position (λ b. b == 59) bs) (plain_from (place + 1) bs)) where
-  by : (t : Bool) (o : Option ℕ) → semicolon_from (place + 1) 0 bs ≡ option_map (λ n. place + 1 + n) o
-      → cond t (Some place) (semicolon_from (place + 1) 0 bs) ≡ option_map (λ n. place + n) (cond t (Some 0) (option_map (λ n. n + 1) o))
-  by true o e = ap (λ n. Some n) (omega arith)
-  by false None e = e
-  by false (Some n) e = e ∙ ap (λ n. Some n) (omega arith)
+plain_from place (b ∷ bs) =
+    rw (position-cons (λ b. b == 59) b bs) (by (b == 59) (position (λ b. b == 59) bs) (plain_from (place + 1) bs)) where
+      by : (t : Bool) (o : Option ℕ) → semicolon_from (place + 1) 0 bs ≡ option_map (λ n. place + 1 + n) o
+          → cond t (Some place) (semicolon_from (place + 1) 0 bs)
+          ≡ option_map (λ n. place + n) (cond t (Some 0) (option_map (λ n. n + 1) o))
+      by true o e = ap (λ n. Some n) (omega arith)
+      by false None e = e
+      by false (Some n) e = e ∙ ap (λ n. Some n) (omega arith)
 
 pub plain_command : (bytes : List ℕ) → semicolon_from 1 0 bytes ≡ option_map (λ n. n + 1) (position (λ b. b == 59) bytes)
 plain_command bytes = plain_from 1 bytes ∙ by (position (λ b. b == 59) bytes) where

@@ -18,7 +18,8 @@ use Rattle.cif_commands.specs.declared.definitions.Scale.{Scale}
 use Rattle.cif_commands.specs.declared.paths.Vertex.{Vertex}
 use Rattle.cif_commands.specs.Commands.{Box, Call, Command, Comment, Extension, Finish, Layer, Polygon, Start}
 use Rattle.cif_commands.specs.Cutting.{command_len, next_depth, semicolon_from}
-use Rattle.cif_commands.specs.Grammar.{AreBlanks, AreChanges, AreVertices, IsChange, IsComment, IsDirection, IsScale, IsVertex, IsWrittenScale}
+use Rattle.cif_commands.specs.Grammar.{AreBlanks, AreChanges, AreVertices, IsChange}
+use Rattle.cif_commands.specs.Grammar.{IsComment, IsDirection, IsScale, IsVertex, IsWrittenScale}
 use Rattle.cif_commands.specs.Grammar.{Matched, NextVertex, Spells, byte, is_free, nothing, text_of, within}
 use Rattle.cif_commands.proofs.CutGrammar.{plain_found}
 
@@ -62,7 +63,8 @@ sign_plain false = refl
 
 signed_plain : (text : List ℕ) (n : Number) → IsSigned text n → ArePlain text
 signed_plain text n h =
-    let number = joined_plain (sign n.negative) h.digits (sign_plain n.negative) (all_plain is_digit h.digits digit_plain h.spelled.digits) in
+    let number = joined_plain (sign n.negative) h.digits (sign_plain n.negative)
+    (all_plain is_digit h.digits digit_plain h.spelled.digits) in
     rw h.parts (joined_plain h.front (sign n.negative ++ h.digits) (all_plain is_separator h.front separator_plain h.separators) number)
 
 vertex_plain : (text : List ℕ) (v : Vertex) → IsVertex text v → ArePlain text

@@ -21,7 +21,8 @@ use Rattle.cif_commands.specs.Grammar.{AreBlanks, IsBox, IsDirection, IsLayer, I
 use Rattle.cif_commands.specs.Layers.{layer_of, name_alone}
 use Rattle.cif_commands.specs.Paths.{next_vertex_at}
 use Rattle.cif_commands.proofs.PathGrammar.{next_again, next_not_blank, next_takes}
-use Rattle.cif_commands.proofs.Separators.{digits_not_blank, separator_again, separator_takes, stops_all, stops_some, back_not_blank, front_not_blank}
+use Rattle.cif_commands.proofs.Separators.{digits_not_blank, separator_again, separator_takes}
+use Rattle.cif_commands.proofs.Separators.{stops_all, stops_some, back_not_blank, front_not_blank}
 
 -- ---- layers
 

@@ -18,7 +18,8 @@ use Rattle.cif_commands.proofs.Separators.{back_not_blank, front_not_blank, sepa
 
 -- ---- one vertex
 
-pub vertex_takes : (bytes : List ℕ) (v : Vertex) (rest : List ℕ) → vertex_at bytes ≡ Some (v, rest) → Takes (λ text. IsVertex text v) bytes rest
+pub vertex_takes : (bytes : List ℕ) (v : Vertex) (rest : List ℕ) → vertex_at bytes ≡ Some (v, rest)
+    → Takes (λ text. IsVertex text v) bytes rest
 unfolding vertex_at
 vertex_takes bytes v rest e =
     after_some (signed_at bytes) _ (v, rest) e (λ x x_read after_x.

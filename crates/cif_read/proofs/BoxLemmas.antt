@@ -10,7 +10,8 @@ use Rattle.cif_scan.specs.declared.number.Number.{Number}
 use Rattle.cif_scan.specs.declared.number.TheConstants.{MAX_MAGNITUDE}
 use Rattle.cif_commands.specs.declared.boxes.BoxNumbers.{BoxNumbers}
 use Rattle.cif_commands.specs.declared.definitions.Scale.{Scale}
-use Rattle.cif_read.specs.Boxes.{greater_place, high_corner, is_big_box, is_flat, is_upright, is_whole_box, is_whole_side, lesser_place, low_corner}
+use Rattle.cif_read.specs.Boxes.{greater_place, high_corner, is_big_box, is_flat}
+use Rattle.cif_read.specs.Boxes.{is_upright, is_whole_box, is_whole_side, lesser_place, low_corner}
 use Rattle.cif_read.specs.Boxes.{side_x, side_y}
 use Rattle.cif_read.specs.Polygons.{point_in_range}
 use Rattle.cif_read.specs.Scales.{IsRatio, is_whole}
@@ -26,8 +27,18 @@ pub record AreSmall (b : BoxNumbers) : Type 0 where
 pub small_parts : (b : BoxNumbers) → is_big_box b ≡ false → AreSmall b
 unfolding is_big_box
 small_parts b h = elim (is_upright b) as (λ u. is_upright b ≡ u → AreSmall b) [
-  | true ↦ λ e. record { x = grind (arith, nat_tests); y = grind (arith, nat_tests); side_x = rw e (grind (arith, nat_tests)); side_y = rw e (grind (arith, nat_tests)) }
-  | false ↦ λ e. record { x = grind (arith, nat_tests); y = grind (arith, nat_tests); side_x = rw e (grind (arith, nat_tests)); side_y = rw e (grind (arith, nat_tests)) }
+  | true ↦ λ e. record {
+    x = grind (arith, nat_tests);
+    y = grind (arith, nat_tests);
+    side_x = rw e (grind (arith, nat_tests));
+    side_y = rw e (grind (arith, nat_tests));
+  }
+  | false ↦ λ e. record {
+    x = grind (arith, nat_tests);
+    y = grind (arith, nat_tests);
+    side_x = rw e (grind (arith, nat_tests));
+    side_y = rw e (grind (arith, nat_tests));
+  }
 ] refl
 
 -- the corners of a box with two sides, as they were found
@@ -39,8 +50,10 @@ pub spans : (scale : Scale) (b : BoxNumbers) (low high : Point) → IsRatio scal
     → point_in_range (low_corner scale b) ≡ Some low → point_in_range (high_corner scale b) ≡ Some high → Spans low high
 spans scale b low high ratio whole wide low_found high_found =
     let sides = and_parts (is_whole_side scale b.centre.x (side_x b)) (is_whole_side scale b.centre.y (side_y b)) whole in
-    let x = and_parts (is_whole scale (lesser_place b.centre.x (side_x b))) (is_whole scale (greater_place b.centre.x (side_x b))) sides.0 in
-    let y = and_parts (is_whole scale (lesser_place b.centre.y (side_y b))) (is_whole scale (greater_place b.centre.y (side_y b))) sides.1 in
+    let x = and_parts (is_whole scale (lesser_place b.centre.x (side_x b))) (is_whole scale (greater_place b.centre.x (side_x b)))
+    sides.0 in
+    let y = and_parts (is_whole scale (lesser_place b.centre.y (side_y b))) (is_whole scale (greater_place b.centre.y (side_y b)))
+    sides.1 in
     let low_is = (cond_some (is_in_range (low_corner scale b)) (low_corner scale b) low low_found).1 in
     let high_is = (cond_some (is_in_range (high_corner scale b)) (high_corner scale b) high high_found).1 in
     let some = some_sides b wide in

@@ -62,7 +62,8 @@ any_offset content offset kind (b ∷ bs) =
       by false false d blank = refl
 
 pub bracket_piece : (content : Content) (offset : ℕ) (bs : List ℕ)
-    → after_piece content offset (68 ∷ bs) ≡ read_as (definition_kind (skip is_blank bs)) (effect_of content 0) (bracket_of (skip is_blank bs))
+    → after_piece content offset (68 ∷ bs) ≡ read_as (definition_kind (skip is_blank bs)) (effect_of content 0)
+    (bracket_of (skip is_blank bs))
 unfolding command_of unread_kind
 bracket_piece content offset bs = any_offset content offset (definition_kind (skip is_blank bs)) (skip is_blank bs)
 

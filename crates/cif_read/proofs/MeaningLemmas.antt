@@ -1,9 +1,11 @@
 -- The meaning of a rest of a text goes on command by command.
-use Rattle.std.proofs.Common.{◌≡◌, ℕ, true, false, List, [], ◌∷◌, length, take, Option, Some, None, Result, Ok, Err, refl, sym, ap, ◌∙◌, inl, inr, cond, Bool, IfOk, subst}
+use Rattle.std.proofs.Common.{◌≡◌, ℕ, true, false, List, [], ◌∷◌, length, take, Option, Some, None}
+use Rattle.std.proofs.Common.{Result, Ok, Err, refl, sym, ap, ◌∙◌, inl, inr, cond, Bool, IfOk, subst}
 use Rattle.std.proofs.lemmas.Bool.{eqb-true}
 use Rattle.lay_point.specs.Memory.{IsAnswer}
 use Rattle.cif_scan.specs.Bytes.{is_blank, is_gap, skip}
-use Rattle.cif_commands.specs.Cutting.{Breaks, CommandOf, EndOf, Ends, Front, behind_command, command_len, cut, cut_by, cut_rest, first_offset}
+use Rattle.cif_commands.specs.Cutting.{Breaks, CommandOf, EndOf, Ends, Front}
+use Rattle.cif_commands.specs.Cutting.{behind_command, command_len, cut, cut_by, cut_rest, first_offset}
 use Rattle.cif_commands.specs.Cutting.{front_of, offset_of}
 use Rattle.cif_commands.proofs.CutLemmas.{cut_rest-step}
 use Rattle.cif_read.specs.declared.content.Content.{Content}

@@ -11,7 +11,8 @@ use Rattle.lay_point.specs.declared.ring.RingFault.{RingFault}
 use Rattle.lay_point.specs.declared.ring.RingFault.TheVariants.{FewPoints, NoMemory as NoRoom, OutOfRange, TooMany as ManyPoints}
 use Rattle.lay_point.specs.declared.ring.TheConstants.{MAX_RING_POINTS}
 use Rattle.lay_point.specs.Points.{is_in_range}
-use Rattle.lay_point.specs.Rings.{IsRing, NeighboursDiffer, checked_ring, closed, opened, rectangle, ring_of, without_neighbours, without_repeats}
+use Rattle.lay_point.specs.Rings.{IsRing, NeighboursDiffer, checked_ring, closed, opened}
+use Rattle.lay_point.specs.Rings.{rectangle, ring_of, without_neighbours, without_repeats}
 use Rattle.lay_point.proofs.RingLemmas.{opened-apart}
 use Rattle.cif_scan.proofs.Steps.{chosen_of}
 use Rattle.cif_commands.specs.declared.boxes.BoxNumbers.{BoxNumbers}
@@ -25,7 +26,8 @@ use Rattle.cif_read.specs.Scales.{IsRatio}
 use Rattle.cif_read.proofs.BoxLemmas.{spans}
 
 -- a refusal isn't a value
-pub taken : {A : Type 0} {E : Type 0} {P : Type 0} (t : Bool) (e : E) (r : Result A E) (x : A) → cond t (Err e) r ≡ Ok x → (t ≡ false → r ≡ Ok x → P) → P
+pub taken : {A : Type 0} {E : Type 0} {P : Type 0} (t : Bool) (e : E) (r : Result A E) (x : A) → cond t (Err e) r ≡ Ok x
+    → (t ≡ false → r ≡ Ok x → P) → P
 taken {A} {E} true e r x h next = absurd (no e x h) where
   no : (e : E) (x : A) → ◌≡◌ {A = Result A E} (Err e) (Ok x) → ⊥
   no e x h = cc
@@ -68,7 +70,8 @@ of_points : (found : Option (List Point)) (ring : Option (List Point)) → ring_
 of_points None ring e = absurd cc
 of_points (Some points) ring e = or_none (ring_of points) ring (ring_is points) e
 
-pub polygon_drawing : (scale : Scale) (vertices : List Vertex) (ring : Option (List Point)) → polygon_at scale vertices ≡ Ok ring → IsDrawing ring
+pub polygon_drawing : (scale : Scale) (vertices : List Vertex) (ring : Option (List Point)) → polygon_at scale vertices ≡ Ok ring
+    → IsDrawing ring
 unfolding polygon_at
 polygon_drawing scale vertices ring e = taken _ OffGrid _ ring e (λ _ e. of_points (points_from scale [] vertices) ring e)
 

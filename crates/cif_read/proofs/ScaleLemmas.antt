@@ -28,7 +28,8 @@ pub scaled_exact : (scale : Scale) (v : ℤ) → is_whole scale v ≡ true
 unfolding is_whole scaled
 scaled_exact scale (pos n) h =
     let q = n * scale.numerator / scale.denominator in
-    rw (not_negative n) (pos-*ℤ-pos q scale.denominator ∙ ap pos (exact (n * scale.numerator) scale.denominator h) ∙ sym (pos-*ℤ-pos n scale.numerator))
+    rw (not_negative n) (pos-*ℤ-pos q scale.denominator ∙ ap pos (exact (n * scale.numerator) scale.denominator h)
+    ∙ sym (pos-*ℤ-pos n scale.numerator))
 scaled_exact scale (negsuc n) h =
     let q = suc n * scale.numerator / scale.denominator in
     neg_ℤ-*ℤ (pos q) (pos scale.denominator) ∙ ap neg_ℤ (pos-*ℤ-pos q scale.denominator

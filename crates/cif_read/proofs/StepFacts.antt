@@ -1,5 +1,6 @@
 -- What each command keeps.
-use Rattle.std.proofs.Common.{◌≡◌, ℕ, ◌+◌, ◌≤◌, Bool, true, false, List, [], ◌∷◌, ◌++◌, length, Option, Some, None, Result, Ok, Err, refl, sym, ap}
+use Rattle.std.proofs.Common.{◌≡◌, ℕ, ◌+◌, ◌≤◌, Bool, true, false, List, [], ◌∷◌, ◌++◌}
+use Rattle.std.proofs.Common.{length, Option, Some, None, Result, Ok, Err, refl, sym, ap}
 use Rattle.std.proofs.Common.{◌∙◌, subst, arith, inl, inr, All, ◌||◌}
 use Rattle.std.specs.Prelude.{not, nat_eq, nat_lt}
 use Rattle.std.specs.List.{list_any, list_all}
@@ -88,7 +89,8 @@ record IsDrawn (content next : Content) : Type 0 where
   kept : IsKept content → IsKept next
   count : counted next ≤ counted content + 1
 
-with_polygon : (content : Content) (layer : List ℕ) (ring : Option (List Point)) → IsDrawing ring → IsDrawn content (drawn content layer ring)
+with_polygon : (content : Content) (layer : List ℕ) (ring : Option (List Point)) → IsDrawing ring
+    → IsDrawn content (drawn content layer ring)
 with_polygon content layer None is = record {
   same = refl;
   kept = λ k. record { few = k.few; numbers = k.numbers; scale = k.scale; inside = k.inside; elements = k.elements; calls = k.calls };
@@ -140,7 +142,8 @@ from_drawn content next c stands after d = record {
 
 -- ---- turns
 
-turned_in_range : (cs : List Change) (scale : Scale) (turn found : Turn) → is_in_range turn.shift ≡ true → turned_by scale turn cs ≡ Some found
+turned_in_range : (cs : List Change) (scale : Scale) (turn found : Turn) → is_in_range turn.shift ≡ true
+    → turned_by scale turn cs ≡ Some found
     → is_in_range found.shift ≡ true
 unfolding turned_by
 turned_in_range [] scale turn found h e =
@@ -192,7 +195,8 @@ start_step content next d e =
           inside = refl;
           kept = λ k. record {
             few = omega (arith, length-append content.symbols (d.symbol ∷ []), new.few);
-            numbers = All-append (λ n. n ≤ MAX_SYMBOL) content.symbols (d.symbol ∷ []) k.numbers (one (λ n. n ≤ MAX_SYMBOL) d.symbol new.small);
+            numbers =
+                All-append (λ n. n ≤ MAX_SYMBOL) content.symbols (d.symbol ∷ []) k.numbers (one (λ n. n ≤ MAX_SYMBOL) d.symbol new.small);
             scale = new.ratio;
             inside = new_cell content.symbols d.symbol;
             elements = All-weaker (IsKeptElement content.symbols) (IsKeptElement (content.symbols ++ d.symbol ∷ []))
@@ -277,7 +281,8 @@ box_step content next b ratio e =
     (on_layer_drawn content next content.layer (box_at (scale_of content.definition) b)
     (λ ring is. box_drawing (scale_of content.definition) b ring ratio is) e)))
 
-pub step_of : (content next : Content) (offset : ℕ) (c : Command) → IsRatio (scale_of content.definition) → effect_of content offset c ≡ Ok next
+pub step_of : (content next : Content) (offset : ℕ) (c : Command) → IsRatio (scale_of content.definition)
+    → effect_of content offset c ≡ Ok next
     → IsStep content c next
 step_of content next offset (Polygon vertices) ratio e = polygon_step content next vertices e
 step_of content next offset (Box b) ratio e = box_step content next b ratio e

@@ -1,5 +1,6 @@
 -- A definition without a fault is of a new symbol, within the limits.
-use Rattle.std.proofs.Common.{◌≡◌, ℕ, ◌≤◌, ◌<◌, Bool, true, false, cond, List, [], ◌∷◌, ◌++◌, length, Option, Some, None, Ok, refl, sym, ap, ◌∙◌, arith}
+use Rattle.std.proofs.Common.{◌≡◌, ℕ, ◌≤◌, ◌<◌, Bool, true, false, cond, List, [], ◌∷◌}
+use Rattle.std.proofs.Common.{◌++◌, length, Option, Some, None, Ok, refl, sym, ap, ◌∙◌, arith}
 use Rattle.std.proofs.lemmas.Bool.Decides.{nat_tests}
 use Rattle.std.specs.Prelude.{nat_lt}
 use Rattle.cif_read.specs.declared.fault.FaultKind.TheVariants.{TooMany}
@@ -20,7 +21,8 @@ pub record IsNewSymbol (symbols : List ℕ) (d : Definition) : Type 0 where
   pub ratio : IsRatio d.scale
 
 -- a refusal isn't none
-passed : {P : Type 0} (t : Bool) (kind : FaultKind) (rest : Option FaultKind) → cond t (Some kind) rest ≡ None → (t ≡ false → rest ≡ None → P) → P
+passed : {P : Type 0} (t : Bool) (kind : FaultKind) (rest : Option FaultKind) → cond t (Some kind) rest ≡ None
+    → (t ≡ false → rest ≡ None → P) → P
 passed true kind rest e next = absurd (some_none kind e) where
   some_none : (k : FaultKind) → ◌≡◌ {A = Option FaultKind} (Some k) None → ⊥
   some_none k e = cc

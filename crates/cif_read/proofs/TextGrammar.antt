@@ -1,5 +1,6 @@
 -- A text that is read is in the grammar and means what its commands mean, and a text of the grammar means what its commands mean.
-use Rattle.std.proofs.Common.{zero-add, ◌≡◌, ℕ, zero, suc, ◌+◌, ◌<◌, Bool, true, false, List, [], ◌∷◌, ◌++◌, length, take, drop, Option, Some, None, Result}
+use Rattle.std.proofs.Common.{zero-add, ◌≡◌, ℕ, zero, suc, ◌+◌, ◌<◌, Bool, true, false, List}
+use Rattle.std.proofs.Common.{[], ◌∷◌, ◌++◌, length, take, drop, Option, Some, None, Result}
 use Rattle.std.proofs.Common.{Ok, Err, refl, sym, ap, ◌∙◌, subst, arith}
 use Rattle.std.specs.List.{list_all, take_while}
 use Rattle.std.proofs.lemmas.List.{append-nil, drop-drop, drop_at, length-append, take_at}
@@ -19,7 +20,8 @@ use Rattle.cif_read.specs.Content.{after_command, after_commands, content_of, ef
 use Rattle.cif_read.specs.Kept.{IsKept}
 use Rattle.cif_read.specs.Meaning.{after_bytes, at_ending, begins_with_end, content_in, read_as, unread_kind}
 use Rattle.cif_read.specs.Steps.{and_then, at_offset}
-use Rattle.cif_read.proofs.MeaningLemmas.{at_end, end_parts, front_breaks, front_command, front_end, rest_means, rest_means-step, start_means}
+use Rattle.cif_read.proofs.MeaningLemmas.{at_end, end_parts, front_breaks, front_command}
+use Rattle.cif_read.proofs.MeaningLemmas.{front_end, rest_means, rest_means-step, start_means}
 use Rattle.cif_read.proofs.PieceFacts.{from_at_offset, kept_step}
 use Rattle.cif_read.proofs.StepFacts.{start_kept, step_of, then_ok}
 
@@ -103,7 +105,8 @@ module _ (n offset : ℕ) (content : Content) (text : List ℕ) (last : Content)
       let behind = drop (len + 1) rest in
       let place = offset + length gap in
       let step = rest_means-step content total rest _ (front_command total rest len no_end ends) in
-      let then = then_ok (after_bytes content (offset_of total rest) (take len rest)) (λ next. rest_means next total (behind_command len rest))
+      let then = then_ok (after_bytes content (offset_of total rest) (take len rest))
+      (λ next. rest_means next total (behind_command len rest))
       last (sym step ∙ e) in
       let next = then.0 in
       let bytes = kept_step content next (offset_of total rest) (take len rest) kept then.1 in
@@ -128,7 +131,8 @@ module _ (n offset : ℕ) (content : Content) (text : List ℕ) (last : Content)
       let found = shorter (place + length (take len rest) + 1) next behind last (bytes.1.kept kept) (omega arith) rest_is in
       let effect : effect_of content place read.command ≡ Ok next =
       subst (λ (o : ℕ). effect_of content o read.command ≡ Ok next) located read.effect in
-      let reads : ReadsFrom (inside_after (is_inside content.definition) read.command) (place + length (take len rest) + 1) behind found.commands =
+      let reads : ReadsFrom (inside_after (is_inside content.definition) read.command) (place + length (take len rest) + 1) behind
+      found.commands =
       subst (λ (b : Bool). ReadsFrom b (place + length (take len rest) + 1) behind found.commands) bytes.1.inside found.reads in
       record {
         commands = (place, read.command) ∷ found.commands;
@@ -136,7 +140,8 @@ module _ (n offset : ℕ) (content : Content) (text : List ℕ) (last : Content)
         means = rw effect found.means;
       }
 
-  accepted_step : AcceptedBelow n → rest_means content (offset + length text) (skip is_gap text) ≡ Ok last → Accepted content offset text last
+  accepted_step : AcceptedBelow n → rest_means content (offset + length text) (skip is_gap text) ≡ Ok last
+      → Accepted content offset text last
   accepted_step shorter e = by (front_kind (skip is_gap text)) where
     by : FrontKind (skip is_gap text) → Accepted content offset text last
     by (at_the_end behind rest) = accepted_end behind rest e
@@ -171,7 +176,8 @@ same_steps (Err fault) r' f g e same = rw (← e) refl
 command_means : (content : Content) (offset : ℕ) (bytes : List ℕ) (c : Command) → Spells bytes c
     → after_bytes content offset bytes ≡ after_command content offset c
 unfolding after_bytes after_command
-command_means content offset bytes c h = ap (λ o. at_offset offset (read_as (unread_kind bytes) (effect_of content offset) o)) (command_again bytes c h)
+command_means content offset bytes c h =
+    ap (λ o. at_offset offset (read_as (unread_kind bytes) (effect_of content offset) o)) (command_again bytes c h)
 
 from_command : (content next : Content) (offset : ℕ) (c : Command) → IsKept content → after_command content offset c ≡ Ok next
     → (IsKept next) × (is_inside next.definition ≡ inside_after (is_inside content.definition) c)

@@ -1,7 +1,8 @@
 -- The numbers and names of faults, as the product prints them.
 use Rattle.std.specs.Prelude.{ℕ, List, codes}
 use Rattle.cif_read.specs.declared.fault.FaultKind.{FaultKind}
-use Rattle.cif_read.specs.declared.fault.FaultKind.TheVariants.{AfterEnd, Cycle, DeleteDef, Flash, LongName, NoEnd, NoLayer, NoMemory, NoSymbol}
+use Rattle.cif_read.specs.declared.fault.FaultKind.TheVariants.{AfterEnd, Cycle, DeleteDef, Flash}
+use Rattle.cif_read.specs.declared.fault.FaultKind.TheVariants.{LongName, NoEnd, NoLayer, NoMemory, NoSymbol}
 use Rattle.cif_read.specs.declared.fault.FaultKind.TheVariants.{OffAxis, OffGrid, Syntax, TooBig, TooMany, TwoSymbols, Wire, ZeroScale}
 
 -- the number, and the bytes of the name

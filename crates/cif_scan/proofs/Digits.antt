@@ -21,7 +21,8 @@ capped_before limit value (d ∷ ds) =
 
 -- one more digit
 pub one_digit : (limit value b : ℕ) (bs : List ℕ) → is_digit b ≡ true
-    → capped_from limit (min (10 * value + (b - 48)) limit) (take_while is_digit bs) ≡ capped_from limit value (take_while is_digit (b ∷ bs))
+    → capped_from limit (min (10 * value + (b - 48)) limit) (take_while is_digit bs)
+    ≡ capped_from limit value (take_while is_digit (b ∷ bs))
 one_digit limit value b bs h =
     let taken : take_while is_digit (b ∷ bs) ≡ b ∷ take_while is_digit bs = take_while-cons is_digit b bs ∙ rw h refl in
     rw taken (capped_before limit (10 * value + (b - 48)) (take_while is_digit bs))

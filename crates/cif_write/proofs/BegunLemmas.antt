@@ -15,7 +15,8 @@ module _ {S : Type 0} {written : S → Option (List ℕ)} {failures : S → ℕ}
 
   -- a further part is put
   pub Begun-then : {a b c : S} {h k m : Option (List ℕ)} {rest whole part : List ℕ} (left : List ℕ)
-      → Begun written failures a h b k rest whole → Buffered written failures b k c m part → rest ≡ part ++ left → Begun written failures a h c m left whole
+      → Begun written failures a h b k rest whole → Buffered written failures b k c m part → rest ≡ part ++ left
+      → Begun written failures a h c m left whole
   Begun-then {part = part} left p q e =
       let (done, put, all) = p.begun in
       record { begun = (done ++ part, Buffered-then put q, append_assoc done part left ∙ ap (λ l. done ++ l) (sym e) ∙ all) }

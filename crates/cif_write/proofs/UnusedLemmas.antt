@@ -1,5 +1,6 @@
 -- The scan finds the least positive number that no symbol has: n symbols can't have all of 1 to n + 1.
-use Rattle.std.proofs.Common.{◌≡◌, ◌<◌, ◌≤◌, ℕ, zero, suc, ◌+◌, Bool, true, false, not, cond, ◌||◌, List, [], ◌∷◌, length, nat_eq, refl, ap, ◌∙◌, arith}
+use Rattle.std.proofs.Common.{◌≡◌, ◌<◌, ◌≤◌, ℕ, zero, suc, ◌+◌, Bool, true, false, not}
+use Rattle.std.proofs.Common.{cond, ◌||◌, List, [], ◌∷◌, length, nat_eq, refl, ap, ◌∙◌, arith}
 use Rattle.std.specs.Prelude.{filter}
 use Rattle.std.proofs.lemmas.Bool.{or_left, or_right}
 use Rattle.std.proofs.lemmas.Bool.Decides.{Decides-eqb, nat_tests}
@@ -53,7 +54,8 @@ all_used zero numbers h = omega arith
 all_used (suc j) numbers h =
     omega (
       arith,
-      all_used j (without (suc j) numbers) (λ m low high. has-without (suc j) m numbers (other_number m j high) (h m low (omega (arith, high)))),
+      all_used j (without (suc j) numbers) (λ m low high. has-without (suc j) m numbers (other_number m j high)
+          (h m low (omega (arith, high)))),
       length-without (suc j) numbers (h (suc j) (omega arith) (omega arith)),
     )
 
@@ -75,8 +77,10 @@ scan zero k numbers low used enough = by_answer (has_symbol numbers k) refl wher
   by_answer true is = absurd (omega (arith, enough, all_used k numbers (up_to k numbers used is)))
   by_answer false is = record { positive = low; unused = is; least = used }
 scan (suc count) k numbers low used enough = by_answer (has_symbol numbers k) refl (λ is.
-    scan count (k + 1) numbers (omega (arith, low)) (λ m one less. up_to k numbers used is m one (omega (arith, less))) (omega (arith, enough))) where
-      by_answer : (b : Bool) → has_symbol numbers k ≡ b → (has_symbol numbers k ≡ true → IsLeastUnused numbers (unused_from count (k + 1) numbers))
+    scan count (k + 1) numbers (omega (arith, low)) (λ m one less. up_to k numbers used is m one (omega (arith, less)))
+    (omega (arith, enough))) where
+      by_answer : (b : Bool) → has_symbol numbers k ≡ b
+          → (has_symbol numbers k ≡ true → IsLeastUnused numbers (unused_from count (k + 1) numbers))
           → IsLeastUnused numbers (cond b (unused_from count (k + 1) numbers) k)
       by_answer true is rest = rest is
       by_answer false is rest = record { positive = low; unused = is; least = used }

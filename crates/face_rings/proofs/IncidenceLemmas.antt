@@ -132,7 +132,8 @@ are_ends edges ends sorted e moved order = record {
   sorted = order;
   exact = λ end. (
     (λ c.
-        let m = end_has 0 edges end (subst (λ l. Has l end) e (has ends end (Contains-permutation sorted ends end (IsPermutation-sym ends sorted moved) c))) in
+        let m = end_has 0 edges end (subst (λ l. Has l end) e (has ends end
+        (Contains-permutation sorted ends end (IsPermutation-sym ends sorted moved) c))) in
         let number : m.0 ≡ end.edge = omega (arith, m.1) in
         (subst (λ k. k < length edges) number m.2, (λ d. subst (λ k. touches end.at (get_or edges k d) ≡ true) number (m.3 d)))),
     (λ h.
@@ -210,7 +211,8 @@ open_end edges ends used at first index s j d less on left =
     (subst (λ z. is_lt (point_cmp z.at at) ≡ true) c.2 (s.split.0 c.0 x (omega arith) before))))
     (λ (le : first ≤ c.0). le) (cases_lt c.0 first) in
     let reached : index ≤ c.0 = ⊎_elim
-    (λ (before : c.0 < index). absurd (false≢true (sym left ∙ subst (λ z. get_or used z.edge true ≡ true) c.2 (s.passed c.0 not_before before x))))
+    (λ (before : c.0 < index). absurd (false≢true (sym left ∙ subst (λ z. get_or used z.edge true ≡ true) c.2
+    (s.passed c.0 not_before before x))))
     (λ (le : index ≤ c.0). le) (cases_lt c.0 index) in
     (c.0, reached, c.1, (λ e. get_or_default ends c.0 e x c.1 ∙ c.2))
 

@@ -63,7 +63,8 @@ pub linking_first : (edges : List Ends) (i : Incidence) (n : ℕ) (rings : List 
     → left_of edges i.used.items ≡ get_or edges n d ∷ left_of edges (set i.used.items n true)
 linking_first edges i n rings h less here d = first_left edges i.used.items n d less h.sound.marks h.before here
 
-short_push : (rings : List (List Point)) (ring : List Point) → AllByRecursion (λ r. length r ≤ MAX_RING_POINTS) rings → length ring ≤ MAX_RING_POINTS
+short_push : (rings : List (List Point)) (ring : List Point) → AllByRecursion (λ r. length r ≤ MAX_RING_POINTS) rings
+    → length ring ≤ MAX_RING_POINTS
     → AllByRecursion (λ r. length r ≤ MAX_RING_POINTS) (rings ++ ring ∷ [])
 short_push [] ring h few = (few, tt)
 short_push (r ∷ rs) ring h few = (h.0, short_push rs ring h.1 few)
@@ -109,24 +110,28 @@ linking_ends edges i n rings h all =
     sym (append-nil rings) ∙ ap (λ rs. rings ++ rs) (sym rings_of-none) ∙ ap (λ l. rings ++ rings_of l) (sym none) ∙ h.whole
 
 -- a ring that is too long is one of all
-pub linking_too_long : (edges : List Ends) (i : Incidence) (n : ℕ) (rings : List (List Point)) → IsLinking edges i n rings → n < length edges
+pub linking_too_long : (edges : List Ends) (i : Incidence) (n : ℕ) (rings : List (List Point)) → IsLinking edges i n rings
+    → n < length edges
     → get_or i.used.items n true ≡ false → MAX_RING_POINTS < length (first_ring (left_of edges i.used.items))
     → Any (λ r. MAX_RING_POINTS < length r) (rings_of edges)
 linking_too_long edges i n rings h less here long =
     let d : Ends = (record { x = pos 0; y = pos 0 }, record { x = pos 0; y = pos 0 }) in
     let left = left_of edges i.used.items in
-    let next = next_ring_is left (get_or edges n d) (left_of edges (set i.used.items n true)) (linking_first edges i n rings h less here d) in
+    let next = next_ring_is left (get_or edges n d) (left_of edges (set i.used.items n true))
+    (linking_first edges i n rings h less here d) in
     let member : Has (rings_of edges) (first_ring left) =
     subst (λ rs. Has rs (first_ring left)) (ap (λ rs. rings ++ rs) (sym next) ∙ h.whole)
     (has-append_right rings (first_ring left ∷ rings_of (behind_first left)) (first_ring left) (inl refl)) in
     let c = contains (rings_of edges) (first_ring left) member in
     (c.0, first_ring left, c.1, c.2, long)
 
-pub all_short : (rings : List (List Point)) → AllByRecursion (λ r. length r ≤ MAX_RING_POINTS) rings → All (λ r. length r ≤ MAX_RING_POINTS) rings
+pub all_short : (rings : List (List Point)) → AllByRecursion (λ r. length r ≤ MAX_RING_POINTS) rings
+    → All (λ r. length r ≤ MAX_RING_POINTS) rings
 all_short rings h = All-from_recursion (λ r. length r ≤ MAX_RING_POINTS) rings h
 
 -- the ring that `Ring::new` answers, where its points make one
-pub ring_answer : {E D : Type 0} (no_memory : E) (Q : E → Type 0) (r wanted : Result (List Point) E) (m : Result (List Point) D) (points : List Point)
+pub ring_answer : {E D : Type 0} (no_memory : E) (Q : E → Type 0) (r wanted : Result (List Point) E) (m : Result (List Point) D)
+    (points : List Point)
     → (r ≡ Err no_memory) ⊎ (r ≡ wanted) → wanted ≡ Ok points → MatchResult r (λ x. m ≡ Ok x) Q → is_ok m ≡ is_ok r
     → IfOk m (λ x. x ≡ points)
 ring_answer no_memory Q (Ok x) wanted m points (inl e) w h k = absurd cc

@@ -1,5 +1,6 @@
 -- A text that means a fault begins with good commands, and what stands behind them has the fault.
-use Rattle.std.proofs.Common.{zero-add, append_assoc, ◌≡◌, ℕ, zero, suc, ◌+◌, ◌<◌, Bool, true, false, cond, List, [], ◌∷◌, ◌++◌, length, take, drop, Option, Some, None, Result}
+use Rattle.std.proofs.Common.{zero-add, append_assoc, ◌≡◌, ℕ, zero, suc, ◌+◌, ◌<◌, Bool, true, false}
+use Rattle.std.proofs.Common.{cond, List, [], ◌∷◌, ◌++◌, length, take, drop, Option, Some, None, Result}
 use Rattle.std.proofs.Common.{Ok, Err, refl, sym, ap, ◌∙◌, subst, arith, inl, inr, ◌⊎◌, ◌&&◌}
 use Rattle.std.specs.Prelude.{◌==◌, not}
 use Rattle.std.specs.List.{list_all, take_while}
@@ -23,13 +24,15 @@ use Rattle.cif_read.specs.declared.fault.FaultKind.{FaultKind}
 use Rattle.cif_read.specs.declared.fault.FaultKind.TheVariants.{AfterEnd, NoEnd, Syntax}
 use Rattle.cif_read.specs.Binding.{IsBoundAs}
 use Rattle.cif_read.specs.Content.{after_command, after_commands, content_of, effect_of, is_inside, start}
-use Rattle.cif_read.specs.Meaning.{IsEndOf, after_bytes, after_end, begins_with_end, content_in, definition_kind, fault_at, no_memory, read_as, unread_kind}
+use Rattle.cif_read.specs.Meaning.{IsEndOf, after_bytes, after_end, begins_with_end, content_in}
+use Rattle.cif_read.specs.Meaning.{definition_kind, fault_at, no_memory, read_as, unread_kind}
 use Rattle.cif_read.specs.Steps.{and_then, at_offset}
 use Rattle.cif_read.proofs.MeaningLemmas.{front_breaks, front_command, front_end, rest_means, rest_means-step, start_means}
 use Rattle.cif_read.proofs.PieceFacts.{read_from}
 use Rattle.cif_read.proofs.OneMeaning.{short_text}
 use Rattle.cif_read.proofs.TextGrammar.{FrontKind, accepted, at_a_break, at_a_command, at_the_end, front_kind}
-use Rattle.fault_laws.specs.Refusals.{BeginsWithNoGap, FaultsAreWhereTheyStand, HasBadCall, HasFault, HasNoSemicolon, IsWrong, Leaves, NoCommand, behind_end, refused, unended, unread, within}
+use Rattle.fault_laws.specs.Refusals.{BeginsWithNoGap, FaultsAreWhereTheyStand, HasBadCall, HasFault}
+use Rattle.fault_laws.specs.Refusals.{HasNoSemicolon, IsWrong, Leaves, NoCommand, behind_end, refused, unended, unread, within}
 
 -- ---- commands that stand at a place
 
@@ -113,7 +116,8 @@ unended_plain (b ∷ bs) stops none = by (b == 40) refl where
   by true e = inr (bs, ap (λ c. c ∷ bs) (eqb-true b 40 e))
   by false e =
       let depth : first_depth b ≡ 0 = rw e refl in
-      inl (and_from (is_plain b) (list_all is_plain bs) (gap_plain b stops) (plain_behind 1 bs (ap (λ d. semicolon_from 1 d bs) (sym depth) ∙ none)))
+      inl (and_from (is_plain b) (list_all is_plain bs) (gap_plain b stops)
+      (plain_behind 1 bs (ap (λ d. semicolon_from 1 d bs) (sym depth) ∙ none)))
 
 -- ---- a fault of a rest
 
@@ -213,7 +217,8 @@ module _ (n offset : ℕ) (content : Content) (text : List ℕ) (fault : CifFaul
       let broken : fault_at {A = Content} NoEnd (offset_of total rest) ≡ Err fault =
       sym (rest_means-step content total rest (EndOf (Breaks (offset_of total rest))) (front_breaks total rest no_end none)) ∙ e in
       let same : fault ≡ record { kind = NoEnd; offset = offset_of total rest } = cc in
-      here (unended (unended_plain rest (Stops-skip is_gap text) none) no_end (none_ended place_of rest none) (same ∙ ap (λ o. record { kind = NoEnd; offset = o }) located))
+      here (unended (unended_plain rest (Stops-skip is_gap text) none) no_end (none_ended place_of rest none)
+      (same ∙ ap (λ o. record { kind = NoEnd; offset = o }) located))
 
   module _ (len : ℕ) (no_end : begins_with_end (skip is_gap text) ≡ false) (ends : command_len (skip is_gap text) ≡ Some len) where
     bytes : List ℕ
@@ -249,7 +254,8 @@ module _ (n offset : ℕ) (content : Content) (text : List ℕ) (fault : CifFaul
           here (refused c (stands c read) (sym (ap (λ (x : CifFault). x.offset) same))
           (f ∙ ap (λ (x : CifFault). Err x.kind) same))
 
-      by_read : (o : Option Command) → command_of bytes ≡ o → at_offset place_of (read_as (unread_kind bytes) (effect_of content place_of) o) ≡ Err fault
+      by_read : (o : Option Command) → command_of bytes ≡ o
+          → at_offset place_of (read_as (unread_kind bytes) (effect_of content place_of) o) ≡ Err fault
           → Refused content offset text fault
       by_read None f e =
           let same : record { kind = unread_kind bytes; offset = place_of } ≡ fault = cc in
@@ -266,7 +272,8 @@ module _ (n offset : ℕ) (content : Content) (text : List ℕ) (fault : CifFaul
         let gap = take_while is_gap text in
         let read = read_from content next place_of bytes done in
         let lengths = text_length in
-        let rest_length : length (skip is_gap text) ≡ length bytes + suc (length behind) = ap length parts ∙ length-append bytes (59 ∷ behind) in
+        let rest_length : length (skip is_gap text) ≡ length bytes + suc (length behind) =
+        ap length parts ∙ length-append bytes (59 ∷ behind) in
         let on : place_of + length bytes + 1 + length behind ≡ offset + length text = omega (arith, lengths, rest_length) in
         let further : rest_means next (place_of + length bytes + 1 + length behind) (skip is_gap behind) ≡ Err fault =
         subst (λ (t : ℕ). rest_means next t (skip is_gap behind) ≡ Err fault) (sym on) e in
@@ -306,13 +313,15 @@ module _ (n offset : ℕ) (content : Content) (text : List ℕ) (fault : CifFaul
         further : Content → Result Content CifFault
         further next = rest_means next total (behind_command len (skip is_gap text))
 
-        by : (r : Result Content CifFault) → after_bytes content place_of bytes ≡ r → and_then r further ≡ Err fault → Refused content offset text fault
+        by : (r : Result Content CifFault) → after_bytes content place_of bytes ≡ r → and_then r further ≡ Err fault
+            → Refused content offset text fault
         by (Ok next) f e = refused_behind next shorter f e
         by (Err other) f e =
             let same : other ≡ fault = cc in
             refused_bytes (f ∙ ap Err same)
 
-  refused_step : RefusedBelow n → rest_means content (offset + length text) (skip is_gap text) ≡ Err fault → Refused content offset text fault
+  refused_step : RefusedBelow n → rest_means content (offset + length text) (skip is_gap text) ≡ Err fault
+      → Refused content offset text fault
   refused_step shorter e = by (front_kind (skip is_gap text)) where
     by : FrontKind (skip is_gap text) → Refused content offset text fault
     by (at_the_end behind rest) = refused_end behind rest e

@@ -1,5 +1,6 @@
 -- Where the first word stands.
-use Rattle.std.proofs.Common.{◌≡◌, ℕ, suc, ◌+◌, ◌-◌, ◌<◌, ◌≤◌, Bool, true, false, cond, List, [], ◌∷◌, drop, take, length, arith, sym, ap, subst, ◌∙◌, refl, unwrap_or}
+use Rattle.std.proofs.Common.{◌≡◌, ℕ, suc, ◌+◌, ◌-◌, ◌<◌, ◌≤◌, Bool, true, false, cond, List, []}
+use Rattle.std.proofs.Common.{◌∷◌, drop, take, length, arith, sym, ap, subst, ◌∙◌, refl, unwrap_or}
 use Rattle.std.specs.Prelude.{not, if◌then◌else◌}
 use Rattle.std.specs.List.{position, position_or_len}
 use Rattle.std.proofs.lemmas.List.{length-drop}
@@ -45,7 +46,8 @@ len_of-separator b line e = ap (λ t. cond (not t) (1 + len_of line) 0) e
 abbrev pub BeginsWith : List ℕ → ℕ → Type 0
 BeginsWith bytes n = words bytes ≡ take n bytes ∷ words (drop n bytes)
 
-ends_here : (b c : ℕ) (bytes : List ℕ) → is_separator b ≡ false → is_separator c ≡ true → BeginsWith (b ∷ c ∷ bytes) (suc (len_of (c ∷ bytes)))
+ends_here : (b c : ℕ) (bytes : List ℕ) → is_separator b ≡ false → is_separator c ≡ true
+    → BeginsWith (b ∷ c ∷ bytes) (suc (len_of (c ∷ bytes)))
 ends_here b c bytes word between =
     words-in_word b (c ∷ bytes) word
     ∙ ap (λ t. if t then (b ∷ []) ∷ words (c ∷ bytes) else in_front b (words (c ∷ bytes))) between
@@ -74,7 +76,8 @@ StartsAt line n =
     (words line ≡ take (len_of (drop n line)) (drop n line) ∷ words (drop (len_of (drop n line)) (drop n line)))
     × (0 < len_of (drop n line))
 
-starts-separator : (b : ℕ) (line : List ℕ) → is_separator b ≡ true → StartsAt line (start_of line) → StartsAt (b ∷ line) (start_of (b ∷ line))
+starts-separator : (b : ℕ) (line : List ℕ) → is_separator b ≡ true → StartsAt line (start_of line)
+    → StartsAt (b ∷ line) (start_of (b ∷ line))
 starts-separator b line e behind =
     subst (StartsAt (b ∷ line)) (sym (start_of-separator b line e)) (words-separator b line e ∙ behind.0, behind.1)
 
@@ -136,7 +139,8 @@ first_word line len word behind begins is_len is_word is_behind =
     let some : start < length line = omega arith in
     let here = starts line some in
     let len_is : len ≡ len_of (drop start line) = is_len ∙ found_or_len is_separator (from_word line) ∙ ap len_of from in
-    let word_is : word ≡ take (len_of (drop start line)) (drop start line) = is_word ∙ ap (take len) from ∙ ap (λ n. take n (drop start line)) len_is in
+    let word_is : word ≡ take (len_of (drop start line)) (drop start line) =
+    is_word ∙ ap (take len) from ∙ ap (λ n. take n (drop start line)) len_is in
     let behind_is : behind ≡ drop (len_of (drop start line)) (drop start line) =
     is_behind ∙ ap (drop len) from ∙ ap (λ n. drop n (drop start line)) len_is in
     record {

@@ -1,5 +1,6 @@
 -- The order in which the sessions' steps ran, as far as the log of the book has it.
-use Rattle.std.specs.Prelude.{ℕ, zero, suc, ◌+◌, ◌-◌, ◌%◌, List, [], ◌∷◌, ◌++◌, codes, decimal, drop, length, replicate, Bool, true, false, ◌||◌, ◌==◌}
+use Rattle.std.specs.Prelude.{ℕ, zero, suc, ◌+◌, ◌-◌, ◌%◌, List, [], ◌∷◌, ◌++◌, codes}
+use Rattle.std.specs.Prelude.{decimal, drop, length, replicate, Bool, true, false, ◌||◌, ◌==◌}
 use Rattle.std.specs.Prelude.{if◌then◌else◌, option_map, slice_get, slice_index, slice_set, unwrap_or}
 use Rattle.std.specs.List.{position}
 use Rattle.undo_rules.specs.declared.log.BookFault.{BookFault}

@@ -21,7 +21,8 @@ use Rattle.snap_chains.specs.declared.owner.Owner.{Owner}
 use Rattle.snap_chains.specs.Owners.{input_eq}
 use Rattle.snap_chains.specs.Rounded.{is_listed}
 use Rattle.label_laws.specs.Labels.{Item, answer_on, differs, differs_at, odd_of, shapes_of, some_of}
-use Rattle.label_laws.proofs.Cuts.{AreDistinct, IsLeftmost, and_false_right, count_less, count_of, leftmost, one_item, parity_of_one, row_positive, xor_false_right}
+use Rattle.label_laws.proofs.Cuts.{AreDistinct, IsLeftmost, and_false_right, count_less, count_of}
+use Rattle.label_laws.proofs.Cuts.{leftmost, one_item, parity_of_one, row_positive, xor_false_right}
 use Rattle.side_laws.proofs.Rows.{IsLeft, Spans, apart_in_row, crossed_spans, fraction_lt, rises_in, row_distance}
 use Rattle.side_laws.proofs.Rows.{row_inside, row_k, row_place, row_x, row_y, spans_crossed}
 use Rattle.side_laws.proofs.Slide.{AreUpward, IsPlaceInside, rising_only, slide, starts}
@@ -82,7 +83,8 @@ module _ (op : Bool → Bool → Bool) (none : op false false ≡ false) (items 
       → differs op items p ≡ differs_at op items p (row_k p.0) (row_x r p.0) (row_y r p.0)
   unfolding differs
   label_there p given r s =
-      let same : (o : Owner) → odd_of items o (pos 2) (p.0.0.x +ℤ p.0.1.x) (p.0.0.y +ℤ p.0.1.y) ≡ odd_of items o (row_k p.0) (row_x r p.0) (row_y r p.0) =
+      let same : (o : Owner) → odd_of items o (pos 2) (p.0.0.x +ℤ p.0.1.x) (p.0.0.y +ℤ p.0.1.y)
+      ≡ odd_of items o (row_k p.0) (row_x r p.0) (row_y r p.0) =
       λ o. slide items h (is_listed o) (even o) p given (rises_in r p.0 s) (pos 2) (p.0.0.x +ℤ p.0.1.x) (p.0.0.y +ℤ p.0.1.y)
       (row_k p.0) (row_x r p.0) (row_y r p.0) (midpoint_inside p.0 (rises_in r p.0 s)) (row_inside r p.0 s) in
       λ i. xor (answer_on op shapes (λ o. same o i)) (answer_on op shapes (λ o. xor (is_listed o p.1) (same o i)))
@@ -107,10 +109,12 @@ module _ (op : Bool → Bool → Bool) (none : op false false ≡ false) (items 
     to_right p given other t =
         let s = cut.spans p given t in
         let le = left.first p given t in
-        let meet = ⊎_elim (λ (same : m.0 ≡ p.0). absurd (other (sym same))) (λ (g : MeetAtEnds m.0 p.0). g) (h.meets m p left.given given) in
+        let meet = ⊎_elim (λ (same : m.0 ≡ p.0). absurd (other (sym same))) (λ (g : MeetAtEnds m.0 p.0). g)
+        (h.meets m p left.given given) in
         ⊎_elim
         (λ (less : (row_k p.0 *ℤ row_x r m.0) <ℤ (row_k m.0 *ℤ row_x r p.0)).
-        spans_crossed r (row_k m.0) (row_x r m.0) (row_y r m.0) p.0 (row_place r m.0 m_spans) s (omega (arith, linear, less, row_distance r m.0 p.0)))
+        spans_crossed r (row_k m.0) (row_x r m.0) (row_y r m.0) p.0 (row_place r m.0 m_spans) s
+        (omega (arith, linear, less, row_distance r m.0 p.0)))
         (λ (same : row_k p.0 *ℤ row_x r m.0 ≡ row_k m.0 *ℤ row_x r p.0). absurd (apart_in_row r m.0 p.0 m_spans s meet (sym same)))
         (below_or_same (row_k p.0 *ℤ row_x r m.0) (row_k m.0 *ℤ row_x r p.0) le)
 
@@ -152,7 +156,8 @@ module _ (op : Bool → Bool → Bool) (none : op false false ≡ false) (items 
           let c = right_is p gp t in
           let further = fraction_lt (row_k m.0) (row_x r m.0) (row_k p.0) (row_x r p.0) (row_k q.0) (row_x r q.0)
           (row_positive r m.0 m_spans) (row_positive r p.0 c.0) (row_positive r q.0 s) c.1.less less.less in
-          spans_crossed r (row_k m.0) (row_x r m.0) (row_y r m.0) q.0 (row_place r m.0 m_spans) s (omega (arith, linear, further, row_distance r m.0 q.0));
+          spans_crossed r (row_k m.0) (row_x r m.0) (row_y r m.0) q.0 (row_place r m.0 m_spans) s
+          (omega (arith, linear, further, row_distance r m.0 q.0));
     }
 
     fewer : count_of right items < count_of test items
@@ -177,8 +182,10 @@ module _ (op : Bool → Bool → Bool) (none : op false false ≡ false) (items 
       (answer_on op shapes (λ o. xor (is_listed o m.1) (odd_of items o (row_k m.0) (row_x r m.0) (row_y r m.0))))
       ∙ sym (λ i. answer_on op shapes (λ o. shapes_split o i)))
       (λ (empty : (q : Item) → Has items q → test q ≡ false).
-      parity_none (λ p. differs op items p && test p) items (λ p given. ap (λ b. differs op items p && b) (empty p given) ∙ and_false_right (differs op items p))
+      parity_none (λ p. differs op items p && test p) items (λ p given. ap (λ b. differs op items p && b) (empty p given)
+      ∙ and_false_right (differs op items p))
       ∙ sym ((λ i. answer_on op shapes (λ o.
-      parity_none (λ p. is_listed o p.1 && test p) items (λ p given. ap (λ b. is_listed o p.1 && b) (empty p given) ∙ and_false_right (is_listed o p.1)) i))
+      parity_none (λ p. is_listed o p.1 && test p) items (λ p given. ap (λ b. is_listed o p.1 && b) (empty p given)
+      ∙ and_false_right (is_listed o p.1)) i))
       ∙ no_shape op none shapes))
       (leftmost r test items cut.spans)

@@ -42,7 +42,8 @@ pub parity_of_one : (test : Item → Bool) (ps : List Item) (m : Item) → AreDi
     → parity (λ p. test p && same_edge p.0 m.0) ps ≡ test m
 parity_of_one test [] m h given = absurd given
 parity_of_one test (p ∷ ps) m h (inl e) =
-    ap₂ xor (ap (λ b. test p && b) (subst (λ z. same_edge p.0 z.0 ≡ true) e (edges_decide.itself p.0)) ∙ and_true_right (test p) ∙ ap test e)
+    ap₂ xor (ap (λ b. test p && b) (subst (λ z. same_edge p.0 z.0 ≡ true) e (edges_decide.itself p.0)) ∙ and_true_right (test p)
+    ∙ ap test e)
     (parity_none (λ q. test q && same_edge q.0 m.0) ps (λ q n.
     ap (λ b. test q && b) (edges_decide.apart q.0 m.0 (λ same. h.0 q n (ap (λ (z : Item). z.0) e ∙ sym same))) ∙ and_false_right (test q)))
     ∙ xor_false_right (test m)
@@ -61,7 +62,8 @@ count_le f g (p ∷ ps) h =
     let rest = count_le f g ps (λ q m. h q (inr m)) in
     by_tests (f p) (g p) (h p (inl refl)) rest
   where
-    by_tests : (a b : Bool) → (a ≡ true → b ≡ true) → count_of f ps ≤ count_of g ps → cond a 1 0 + count_of f ps ≤ cond b 1 0 + count_of g ps
+    by_tests : (a b : Bool) → (a ≡ true → b ≡ true) → count_of f ps ≤ count_of g ps
+        → cond a 1 0 + count_of f ps ≤ cond b 1 0 + count_of g ps
     by_tests true true k le = omega arith
     by_tests true false k le = absurd (no_way (k refl))
       where
@@ -87,7 +89,8 @@ count_less f g (p ∷ ps) m h (inr given) without_it with_it =
     let rest = count_less f g ps m (λ q n. h q (inr n)) given without_it with_it in
     by_tests (f p) (g p) (h p (inl refl)) rest
   where
-    by_tests : (a b : Bool) → (a ≡ true → b ≡ true) → count_of f ps < count_of g ps → cond a 1 0 + count_of f ps < cond b 1 0 + count_of g ps
+    by_tests : (a b : Bool) → (a ≡ true → b ≡ true) → count_of f ps < count_of g ps
+        → cond a 1 0 + count_of f ps < cond b 1 0 + count_of g ps
     by_tests true true k less = omega arith
     by_tests true false k less = absurd (no_way (k refl))
       where
@@ -138,7 +141,8 @@ leftmost r test (p ∷ ps) spans = by_test (test p) refl (leftmost r test ps (λ
         first q (inl same) t = subst (λ (z : Item). (row_k z.0 *ℤ row_x r p.0) ≤ℤ (row_k p.0 *ℤ row_x r z.0)) same (omega (arith, linear))
         first q (inr n) t = absurd (no_way (test q) t (none q n))
 
-    first_is_left : test p ≡ true → (m : Item) → IsLeftmost r test ps m → (row_k m.0 *ℤ row_x r p.0) ≤ℤ (row_k p.0 *ℤ row_x r m.0) → Found (p ∷ ps)
+    first_is_left : test p ≡ true → (m : Item) → IsLeftmost r test ps m → (row_k m.0 *ℤ row_x r p.0) ≤ℤ (row_k p.0 *ℤ row_x r m.0)
+        → Found (p ∷ ps)
     first_is_left e m h le = (p, record { given = inl refl; passes = e; first = first })
       where
         first : (q : Item) → Has (p ∷ ps) q → test q ≡ true → (row_k q.0 *ℤ row_x r p.0) ≤ℤ (row_k p.0 *ℤ row_x r q.0)

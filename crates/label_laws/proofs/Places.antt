@@ -50,7 +50,11 @@ row_down k y r h = ⊎_elim
 
 row_zero : (k : ℤ) → pos 1 ≤ℤ k → IsInRow (pos 0) k (pos 0)
 row_zero k scale =
-    record { scale = scale; low = omega (arith, linear, times_zero k); high = omega (arith, linear, scale, times_more k (pos 0), times_zero k) }
+    record {
+      scale = scale;
+      low = omega (arith, linear, times_zero k);
+      high = omega (arith, linear, scale, times_more k (pos 0), times_zero k);
+    }
 
 row_of : (k y : ℤ) → pos 1 ≤ℤ k → (r : ℤ) × IsInRow r k y
 row_of k (pos zero) scale = (pos 0, row_zero k scale)
@@ -78,7 +82,8 @@ module _ (items : List Item) (h : AreUpward items) where
         let c = crossed_spans r k x y p.0 q (h.rises p gp) t in
         ⊎_elim
         (λ (same : p.0 ≡ s.0). subst (λ f. is_crossed k x y f ≡ true) same t)
-        (λ (meet : MeetAtEnds p.0 s.0). spans_crossed r k x y s.0 q span (right_in_row r p.0 s.0 k x y (beside r k y q) c.0 span meet left c.1))
+        (λ (meet : MeetAtEnds p.0 s.0). spans_crossed r k x y s.0 q span
+        (right_in_row r p.0 s.0 k x y (beside r k y q) c.0 span meet left c.1))
         (h.meets p s gp gs);
   }
 

@@ -73,7 +73,8 @@ sum_turned a b = omega (arith, ints)
 label_same : (op : Bool → Bool → Bool) (items : List Item) (p : Item) → differs op (map up_item items) (up_item p) ≡ differs op items p
 unfolding differs
 label_same op items p =
-    (λ i. xor (answer_on op (shapes_same items i) (λ o. odd_same items o (pos 2) ((up p.0).0.x +ℤ (up p.0).1.x) ((up p.0).0.y +ℤ (up p.0).1.y) i))
+    (λ i. xor (answer_on op (shapes_same items i) (λ o. odd_same items o (pos 2) ((up p.0).0.x +ℤ (up p.0).1.x)
+    ((up p.0).0.y +ℤ (up p.0).1.y) i))
     (answer_on op (shapes_same items i)
     (λ o. xor (is_listed o p.1) (odd_same items o (pos 2) ((up p.0).0.x +ℤ (up p.0).1.x) ((up p.0).0.y +ℤ (up p.0).1.y) i))))
     ∙ either (λ e. differs_at op items (e, p.1) (pos 2) (e.0.x +ℤ e.1.x) (e.0.y +ℤ e.1.y)) (λ a b. λ i.
@@ -123,7 +124,8 @@ zip_has (e ∷ es) [] p m = absurd m
 zip_has (e ∷ es) (o ∷ os) p (inl same) = inl (ap (λ (q : Item). q.0) same)
 zip_has (e ∷ es) (o ∷ os) p (inr m) = inr (zip_has es os p m)
 
-distinct_up : (es : List (Point × Point)) (os : List (List Owner)) → IsRising IsEdgeBefore es → ((e : Point × Point) → Has es e → is_before e.0 e.1 ≡ true)
+distinct_up : (es : List (Point × Point)) (os : List (List Owner)) → IsRising IsEdgeBefore es
+    → ((e : Point × Point) → Has es e → is_before e.0 e.1 ≡ true)
     → AreDistinct (map up_item (zip es os))
 distinct_up [] os up_ lesser = tt
 distinct_up (e ∷ es) [] up_ lesser = tt
@@ -219,7 +221,8 @@ among f (e ∷ es) (o ∷ os) g m = by_test (f (e, o)) m (λ n. among f es os g 
     by_test true (inr n) further = inr (further n)
     by_test false n further = inr (further n)
 
-rising_first : (e : Point × Point) (es : List (Point × Point)) → ((g : Point × Point) → Has es g → IsEdgeBefore e g) → IsRising IsEdgeBefore es
+rising_first : (e : Point × Point) (es : List (Point × Point)) → ((g : Point × Point) → Has es g → IsEdgeBefore e g)
+    → IsRising IsEdgeBefore es
     → IsRising IsEdgeBefore (e ∷ es)
 rising_first e [] first h = tt
 rising_first e (f ∷ es) first h = (first f (inl refl), h)
@@ -239,5 +242,6 @@ rising_filter f (e ∷ es) (o ∷ os) h = by_test (f (e, o)) (rising_filter f es
 pub operation_rises : (r : Owned) → IsRounded r → (op : Bool → Bool → Bool) → IsRising IsEdgeBefore (edges_of_operation op (items_of r))
 operation_rises r rounded op = rising_filter (differs op (items_of r)) r.0 r.1 rounded.rising
 
-pub operation_among : (r : Owned) (op : Bool → Bool → Bool) (e : Point × Point) → Contains (edges_of_operation op (items_of r)) e → Contains r.0 e
+pub operation_among : (r : Owned) (op : Bool → Bool → Bool) (e : Point × Point) → Contains (edges_of_operation op (items_of r)) e
+    → Contains r.0 e
 operation_among r op e c = contains r.0 e (among (differs op (items_of r)) r.0 r.1 e (has (edges_of_operation op (items_of r)) e c))

@@ -19,12 +19,14 @@ use Rattle.snap_chains.proofs.Level.{other_way_round}
 use Rattle.snap_chains.specs.declared.owner.Owner.{Owner}
 use Rattle.snap_chains.specs.Rounded.{is_listed}
 use Rattle.label_laws.specs.Labels.{Item, answer_on, differs, odd_of, shapes_of}
-use Rattle.side_laws.proofs.Arms.{and_both, both_true, both_ways, le_zero, level_end, lt_zero, middle_left, middle_level, middle_right, not_nested, one_times}
+use Rattle.side_laws.proofs.Arms.{and_both, both_true, both_ways, le_zero, level_end, lt_zero}
+use Rattle.side_laws.proofs.Arms.{middle_left, middle_level, middle_right, not_nested, one_times}
 use Rattle.side_laws.proofs.Arms.{row_spans, spans_row, zero_le, zero_lt}
 use Rattle.label_laws.proofs.CutLaw.{IsCut, cut_law, same_edge-Decides}
 use Rattle.label_laws.proofs.Cuts.{AreDistinct, and_false_right, count_of, parity_of_one}
 use Rattle.side_laws.proofs.EvenEnds.{even_ends}
-use Rattle.side_laws.proofs.Level.{Edge, behind_here, beyond, ends_behind_here, ends_from_here, from_here, from_on, in_row, left_arm, right_arm, right_of_point, touches_here}
+use Rattle.side_laws.proofs.Level.{Edge, behind_here, beyond, ends_behind_here, ends_from_here}
+use Rattle.side_laws.proofs.Level.{from_here, from_on, in_row, left_arm, right_arm, right_of_point, touches_here}
 use Rattle.side_laws.proofs.Rows.{IsBesideRow, not_left_in_row, right_in_row}
 use Rattle.side_laws.proofs.Sides.{meet_first}
 use Rattle.side_laws.proofs.Slide.{AreUpward}
@@ -227,13 +229,18 @@ module _ (op : Bool → Bool → Bool) (none : op false false ≡ false) (items 
         (λ p m. ap (λ b. is_listed o p.1 && b) (out p m) ∙ and_false_right (is_listed o p.1))) in
         parity_none (λ p. differs op items p && arm p.0) items
         (λ p m. ap (λ b. differs op items p && b) (out p m) ∙ and_false_right (differs op items p))
-        ∙ sym ((λ i. xor (answer_on op shapes (λ o. same o i)) (answer_on op shapes (odds below))) ∙ xor_self (answer_on op shapes (odds below))))
+        ∙ sym ((λ i. xor (answer_on op shapes (λ o. same o i)) (answer_on op shapes (odds below)))
+        ∙ xor_self (answer_on op shapes (odds below))))
         (some_arm items)
 
   -- ---- the cuts at a point
   module _ (v : Point) where
     upper : IsBesideRow v.y (pos 1) v.y
-    upper = record { scale = omega (arith, linear); low = omega (arith, linear, one_times v.y); high = omega (arith, linear, one_times (v.y +ℤ pos 1)) }
+    upper = record {
+      scale = omega (arith, linear);
+      low = omega (arith, linear, one_times v.y);
+      high = omega (arith, linear, one_times (v.y +ℤ pos 1));
+    }
 
     lower : IsBesideRow (v.y -ℤ pos 1) (pos 1) v.y
     lower = record {
@@ -269,26 +276,34 @@ module _ (op : Bool → Bool → Bool) (none : op false false ≡ false) (items 
     cut_labels : (r : ℤ) (test : Item → Bool) → IsCut r items test → labels test ≡ answer_on op shapes (odds test)
     cut_labels r test cut = cut_law op none items h distinct even (suc (count_of test items)) r test (omega arith) cut
 
-    left_sum : (o : Owner) → xor (odds (λ p. from_on v.y v p.0) o) (odds (λ p. from_on (v.y -ℤ pos 1) v p.0) o) ≡ odds (λ p. left_arm v p.0) o
+    left_sum : (o : Owner) → xor (odds (λ p. from_on v.y v p.0) o) (odds (λ p. from_on (v.y -ℤ pos 1) v p.0) o)
+        ≡ odds (λ p. left_arm v p.0) o
     left_sum o = sum_of _ _ (sym (
         parity_agree (λ p. is_listed o p.1 && xor (from_here v p.0.0) (from_here v p.0.1))
-        (λ p. xor (xor (is_listed o p.1 && from_on v.y v p.0) (is_listed o p.1 && from_on (v.y -ℤ pos 1) v p.0)) (is_listed o p.1 && left_arm v p.0))
+        (λ p. xor (xor (is_listed o p.1 && from_on v.y v p.0) (is_listed o p.1 && from_on (v.y -ℤ pos 1) v p.0))
+        (is_listed o p.1 && left_arm v p.0))
         items (λ p m. ap (λ b. is_listed o p.1 && b) (ends_from_here v p.0 (h.rises p m))
         ∙ and_split (is_listed o p.1) (xor (from_on v.y v p.0) (from_on (v.y -ℤ pos 1) v p.0)) (left_arm v p.0)
-        ∙ ap (λ b. xor b (is_listed o p.1 && left_arm v p.0)) (and_split (is_listed o p.1) (from_on v.y v p.0) (from_on (v.y -ℤ pos 1) v p.0)))
-        ∙ parity-xor (λ p. xor (is_listed o p.1 && from_on v.y v p.0) (is_listed o p.1 && from_on (v.y -ℤ pos 1) v p.0)) (λ p. is_listed o p.1 && left_arm v p.0) items
+        ∙ ap (λ b. xor b (is_listed o p.1 && left_arm v p.0)) (and_split (is_listed o p.1) (from_on v.y v p.0)
+        (from_on (v.y -ℤ pos 1) v p.0)))
+        ∙ parity-xor (λ p. xor (is_listed o p.1 && from_on v.y v p.0) (is_listed o p.1 && from_on (v.y -ℤ pos 1) v p.0))
+        (λ p. is_listed o p.1 && left_arm v p.0) items
         ∙ ap (λ b. xor b (odds (λ p. left_arm v p.0) o))
         (parity-xor (λ p. is_listed o p.1 && from_on v.y v p.0) (λ p. is_listed o p.1 && from_on (v.y -ℤ pos 1) v p.0) items))
         ∙ even_ends (λ p. is_listed o p.1) items (even o) h.proper (from_here v))
 
-    right_sum : (o : Owner) → xor (odds (λ p. beyond v.y v p.0) o) (odds (λ p. beyond (v.y -ℤ pos 1) v p.0) o) ≡ odds (λ p. right_arm v p.0) o
+    right_sum : (o : Owner) → xor (odds (λ p. beyond v.y v p.0) o) (odds (λ p. beyond (v.y -ℤ pos 1) v p.0) o)
+        ≡ odds (λ p. right_arm v p.0) o
     right_sum o = sum_of _ _ (sym (
         parity_agree (λ p. is_listed o p.1 && xor (behind_here v p.0.0) (behind_here v p.0.1))
-        (λ p. xor (xor (is_listed o p.1 && beyond v.y v p.0) (is_listed o p.1 && beyond (v.y -ℤ pos 1) v p.0)) (is_listed o p.1 && right_arm v p.0))
+        (λ p. xor (xor (is_listed o p.1 && beyond v.y v p.0) (is_listed o p.1 && beyond (v.y -ℤ pos 1) v p.0))
+        (is_listed o p.1 && right_arm v p.0))
         items (λ p m. ap (λ b. is_listed o p.1 && b) (ends_behind_here v p.0 (h.rises p m))
         ∙ and_split (is_listed o p.1) (xor (beyond v.y v p.0) (beyond (v.y -ℤ pos 1) v p.0)) (right_arm v p.0)
-        ∙ ap (λ b. xor b (is_listed o p.1 && right_arm v p.0)) (and_split (is_listed o p.1) (beyond v.y v p.0) (beyond (v.y -ℤ pos 1) v p.0)))
-        ∙ parity-xor (λ p. xor (is_listed o p.1 && beyond v.y v p.0) (is_listed o p.1 && beyond (v.y -ℤ pos 1) v p.0)) (λ p. is_listed o p.1 && right_arm v p.0) items
+        ∙ ap (λ b. xor b (is_listed o p.1 && right_arm v p.0)) (and_split (is_listed o p.1) (beyond v.y v p.0)
+        (beyond (v.y -ℤ pos 1) v p.0)))
+        ∙ parity-xor (λ p. xor (is_listed o p.1 && beyond v.y v p.0) (is_listed o p.1 && beyond (v.y -ℤ pos 1) v p.0))
+        (λ p. is_listed o p.1 && right_arm v p.0) items
         ∙ ap (λ b. xor b (odds (λ p. right_arm v p.0) o))
         (parity-xor (λ p. is_listed o p.1 && beyond v.y v p.0) (λ p. is_listed o p.1 && beyond (v.y -ℤ pos 1) v p.0) items))
         ∙ even_ends (λ p. is_listed o p.1) items (even o) h.proper (behind_here v))
@@ -319,7 +334,8 @@ module _ (op : Bool → Bool → Bool) (none : op false false ≡ false) (items 
           absurd (omega (arith, linear, rises, flat)))
           (λ (meet : MeetAtEnds g.0 p.0). meet) (h.meets g p m n))))
           (λ (flat : p.0.0.y ≡ p.0.1.y).
-          let both = middle_level (pos 2) (arm.other.x +ℤ v.x) (arm.other.y +ℤ v.y) v p.0 (omega (arith, linear)) flat in both.0 ∙ sym both.1)
+          let both =
+          middle_level (pos 2) (arm.other.x +ℤ v.x) (arm.other.y +ℤ v.y) v p.0 (omega (arith, linear)) flat in both.0 ∙ sym both.1)
           (below_or_same p.0.0.y p.0.1.y (h.rises p n)))
 
       right_middle : (g : Item) → Has items g → right_arm v g.0 ≡ true → (p : Item) → Has items p
@@ -333,7 +349,8 @@ module _ (op : Bool → Bool → Bool) (none : op false false ≡ false) (items 
           absurd (omega (arith, linear, rises, flat)))
           (λ (meet : MeetAtEnds g.0 p.0). meet) (h.meets g p m n))))
           (λ (flat : p.0.0.y ≡ p.0.1.y).
-          let both = middle_level (pos 2) (arm.other.x +ℤ v.x) (arm.other.y +ℤ v.y) v p.0 (omega (arith, linear)) flat in both.0 ∙ sym both.2)
+          let both =
+          middle_level (pos 2) (arm.other.x +ℤ v.x) (arm.other.y +ℤ v.y) v p.0 (omega (arith, linear)) flat in both.0 ∙ sym both.2)
           (below_or_same p.0.0.y p.0.1.y (h.rises p n)))
 
       -- both to the point
@@ -349,7 +366,8 @@ module _ (op : Bool → Bool → Bool) (none : op false false ≡ false) (items 
           let b = left_of g n t in
           let both = arms_meet p.0 g.0 a.other b.other a.joins b.joins meet in
           ⊎_elim
-          (λ (less : a.other.x <ℤ b.other.x). absurd (not_nested a.other b.other v a.level b.level (inl (omega (arith, linear, less), b.left)) both))
+          (λ (less : a.other.x <ℤ b.other.x). absurd (not_nested a.other b.other v a.level b.level
+          (inl (omega (arith, linear, less), b.left)) both))
           (λ (le : b.other.x ≤ℤ a.other.x). absurd (not_nested b.other a.other v b.level a.level (inl (le, a.left))
           (other_way_round b.other v a.other v both)))
           (below_or_not a.other.x b.other.x))
@@ -362,7 +380,8 @@ module _ (op : Bool → Bool → Bool) (none : op false false ≡ false) (items 
           let b = right_of g n t in
           let both = arms_meet p.0 g.0 a.other b.other a.joins b.joins meet in
           ⊎_elim
-          (λ (less : a.other.x <ℤ b.other.x). absurd (not_nested b.other a.other v b.level a.level (inr (omega (arith, linear, less), a.right))
+          (λ (less : a.other.x <ℤ b.other.x). absurd (not_nested b.other a.other v b.level a.level
+          (inr (omega (arith, linear, less), a.right))
           (other_way_round b.other v a.other v both)))
           (λ (le : b.other.x ≤ℤ a.other.x). absurd (not_nested a.other b.other v a.level b.level (inr (le, b.right)) both))
           (below_or_not a.other.x b.other.x))
@@ -389,7 +408,8 @@ module _ (op : Bool → Bool → Bool) (none : op false false ≡ false) (items 
           (arms_sum (left_arm v) c2 c4 left_sum left_middle left_alone))
           (ap₂ xor (ap₂ xor (cut_labels v.y c1 (beyond_cut v.y upper)) (cut_labels (v.y -ℤ pos 1) c3 (beyond_cut (v.y -ℤ pos 1) lower)))
           (arms_sum (right_arm v) c1 c3 right_sum right_middle right_alone))
-          ∙ all_cancel (answer_on op shapes (odds c2)) (answer_on op shapes (odds c4)) (answer_on op shapes (odds c1)) (answer_on op shapes (odds c3))
+          ∙ all_cancel (answer_on op shapes (odds c2)) (answer_on op shapes (odds c4)) (answer_on op shapes (odds c1))
+          (answer_on op shapes (odds c3))
         where
           six_parts : (s a b c d e f : Bool) → (s && xor (xor (xor a b) c) (xor (xor d e) f))
               ≡ xor (xor (xor (s && a) (s && b)) (s && c)) (xor (xor (s && d) (s && e)) (s && f))

@@ -1,5 +1,6 @@
 -- Without a cycle no walk has more calls than the graph.
-use Rattle.std.proofs.Common.{◌≡◌, ◌∙◌, ◌≤◌, ◌<◌, ◌&&◌, ℕ, zero, suc, inl, inr, Bool, true, false, not, List, [], ◌∷◌, length, refl, ap, sym, subst, arith, nat_eq, Contains}
+use Rattle.std.proofs.Common.{◌≡◌, ◌∙◌, ◌≤◌, ◌<◌, ◌&&◌, ℕ, zero, suc, inl, inr, Bool, true, false}
+use Rattle.std.proofs.Common.{not, List, [], ◌∷◌, length, refl, ap, sym, subst, arith, nat_eq, Contains}
 use Rattle.std.specs.Prelude.{filter}
 use Rattle.std.specs.Bool.{Decides}
 use Rattle.std.proofs.lemmas.Bool.Decides.{Decides-and, Decides-eqb}
@@ -10,7 +11,8 @@ use Rattle.lay_cells.specs.WalkLists.{AreAllWalks, IsWalk, called, longest, stan
 use Rattle.lay_cells.specs.Walks.{IsAcyclic, Walks}
 use Rattle.lay_cells.specs.Walks.Walks.{goes, stays}
 use Rattle.lay_cells.proofs.FewerCalls.{AreAmong, IsAcyclic-fewer}
-use Rattle.lay_cells.proofs.MemberLemmas.{contains_behind, contains_cases, contains_filtered, contains_first, contains_none, filtered_contains, length-filter_drops}
+use Rattle.lay_cells.proofs.MemberLemmas.{contains_behind, contains_cases, contains_filtered}
+use Rattle.lay_cells.proofs.MemberLemmas.{contains_first, contains_none, filtered_contains, length-filter_drops}
 use Rattle.lay_cells.proofs.WalkListLemmas.{listed, longest-le, only_walks}
 
 abbrev Call : Type 0
@@ -20,12 +22,14 @@ abbrev IsWalkOf : List Call → CellId → List Call → Type 0
 IsWalkOf calls = IsWalk (standing_in calls) called
 
 -- a call that stands in a cell is one of the calls, and its first part is the cell
-pub stands : (calls : List Call) (cell : CellId) (call : Call) → Contains (standing_in calls cell) call → Contains calls call × (call.0 ≡ cell)
+pub stands : (calls : List Call) (cell : CellId) (call : Call) → Contains (standing_in calls cell) call
+    → Contains calls call × (call.0 ≡ cell)
 stands calls cell call h =
     let both = filtered_contains (λ (c : Call). cell_eq c.0 cell) calls call h in
     (both.0, (cell_eq-Decides call.0 cell).0 both.1)
 
-pub stands_in : (calls : List Call) (cell : CellId) (call : Call) → Contains calls call → call.0 ≡ cell → Contains (standing_in calls cell) call
+pub stands_in : (calls : List Call) (cell : CellId) (call : Call) → Contains calls call → call.0 ≡ cell
+    → Contains (standing_in calls cell) call
 stands_in calls cell call h e = contains_filtered (λ (c : Call). cell_eq c.0 cell) calls call h ((cell_eq-Decides call.0 cell).1 e)
 
 -- a walk leads to each cell in which one of its calls stands

@@ -1,5 +1,7 @@
 -- Tallies by position are those of the walks from the cells.
-use Rattle.std.proofs.Common.{◌≡◌, ◌∙◌, ◌≤◌, ◌<◌, ◌^◌, inl, inr, ℕ, zero, suc, ◌+◌, ◌++◌, List, [], ◌∷◌, length, map, refl, ap, sym, subst, arith, Contains, IsTrue, Option, None, Some, IsSome, IfSome, slice_set, replicate, is_some, false, take, get_or}
+use Rattle.std.proofs.Common.{◌≡◌, ◌∙◌, ◌≤◌, ◌<◌, ◌^◌, inl, inr, ℕ, zero, suc, ◌+◌, ◌++◌, List, [], ◌∷◌}
+use Rattle.std.proofs.Common.{length, map, refl, ap, sym, subst, arith, Contains, IsTrue, Option, None}
+use Rattle.std.proofs.Common.{Some, IsSome, IfSome, slice_set, replicate, is_some, false, take, get_or}
 use Rattle.std.proofs.lemmas.Bool.{cases_eq}
 use Rattle.std.proofs.lemmas.List.{get_or-set_other, get_or-set_same, length-set, map-append, take_more}
 use Rattle.std.proofs.lemmas.List.Elements.{Contains-get_or, Contains-push_cases}
@@ -12,7 +14,8 @@ use Rattle.lay_cells.specs.declared.tally.Tally.{Tally}
 use Rattle.lay_cells.specs.Graph.{AreRowsOf, AreWithin, position_of, row}
 use Rattle.lay_cells.specs.Places.{AreBelow, ArePositions}
 use Rattle.lay_cells.specs.Symbols.{has_cell}
-use Rattle.lay_cells.specs.Tallies.{AreShallow, AreTallied, AreTallies, AreTargetsKnown, IsKnown, IsLow, IsSum, IsTally, count_within, counted, greatest, height_within, tally_at}
+use Rattle.lay_cells.specs.Tallies.{AreShallow, AreTallied, AreTallies, AreTargetsKnown, IsKnown, IsLow}
+use Rattle.lay_cells.specs.Tallies.{IsSum, IsTally, count_within, counted, greatest, height_within, tally_at}
 use Rattle.lay_cells.specs.WalkLists.{called, longest, standing_in, walks_from, walks_within}
 use Rattle.lay_cells.specs.Walks.{IsAcyclic}
 use Rattle.lay_cells.proofs.AcyclicLemmas.{few_in_all, stands}
@@ -30,7 +33,8 @@ module _ (symbols : List ℕ) (calls : List (CellId × ℕ)) (rows : List (List 
   there : (cell : CellId) (call : CellId × ℕ) → Contains (standing_in calls cell) call → IsTrue (has_cell symbols (Symbol call.1))
   there cell call h = r.targets call.0 call.1 (stands calls cell call h).0
 
-  pub height-longest : (n : ℕ) (cell : CellId) → IsTrue (has_cell symbols cell) → height_within rows n (position_of symbols cell) ≡ longest (walks n cell)
+  pub height-longest : (n : ℕ) (cell : CellId) → IsTrue (has_cell symbols cell)
+      → height_within rows n (position_of symbols cell) ≡ longest (walks n cell)
   unfolding walks_within
   height-longest zero cell here = refl
   height-longest (suc n) cell here =
@@ -47,7 +51,8 @@ module _ (symbols : List ℕ) (calls : List (CellId × ℕ)) (rows : List (List 
             let rest = by_calls some (λ other h. each other (contains_behind call some other h)) in
             omega (arith, first, rest)
 
-  pub count-length : (n : ℕ) (cell : CellId) → IsTrue (has_cell symbols cell) → count_within rows n (position_of symbols cell) ≡ length (walks n cell)
+  pub count-length : (n : ℕ) (cell : CellId) → IsTrue (has_cell symbols cell)
+      → count_within rows n (position_of symbols cell) ≡ length (walks n cell)
   unfolding walks_within
   count-length zero cell here = omega arith
   count-length (suc n) cell here =
@@ -252,7 +257,10 @@ module _ (rows : List (List ℕ)) where
       let longer : take (i + 1) qs ≡ take i qs ++ q ∷ [] =
       take_more qs i q less ∙ ap (λ (x : ℕ). take i qs ++ x ∷ []) (sym at) in
       subst (λ (t : Tally). IsSum rows (take (i + 1) qs) t) (sym e)
-      (subst (λ (ts : List ℕ). IsSum rows ts (record { depth = max sum.depth (1 + tally.depth); walks = counted (sum.walks + tally.walks) }))
+      (subst (λ (ts : List ℕ). IsSum rows ts (record {
+        depth = max sum.depth (1 + tally.depth);
+        walks = counted (sum.walks + tally.walks);
+      }))
       (sym longer) (sum-more (take i qs) q sum tally so is))
 
   -- the position of one entry more
@@ -265,7 +273,8 @@ module _ (rows : List (List ℕ)) where
   pub entry-below : (order : List (ℕ × ℕ)) (n i : ℕ) → AreBelow (map (λ (e : ℕ × ℕ). e.1) order) n → i < length order
       → (get_or order i (0, 0)).1 < n
   entry-below order n i below less =
-      below (get_or order i (0, 0)).1 (contains_mapped (λ (e : ℕ × ℕ). e.1) order (get_or order i (0, 0)) (Contains-get_or order i (0, 0) less))
+      below (get_or order i (0, 0)).1 (contains_mapped (λ (e : ℕ × ℕ). e.1) order (get_or order i (0, 0))
+      (Contains-get_or order i (0, 0) less))
 
   -- after one round more, what has walks of one call more is known
   pub round-more : (old new : List (Option Tally)) (positions : List ℕ) (n : ℕ) → ArePositions positions (length rows)

@@ -1,5 +1,6 @@
 -- How deep walks go and how many there are, by position.
-use Rattle.std.specs.Prelude.{◌≡◌, ℕ, zero, suc, ◌+◌, ◌^◌, ◌<◌, ◌≤◌, List, [], ◌∷◌, Option, None, Some, Contains, IsSome, length, max, min, slice_index_or, sum_by}
+use Rattle.std.specs.Prelude.{◌≡◌, ℕ, zero, suc, ◌+◌, ◌^◌, ◌<◌, ◌≤◌, List, [], ◌∷◌, Option, None}
+use Rattle.std.specs.Prelude.{Some, Contains, IsSome, length, max, min, slice_index_or, sum_by}
 use Rattle.lay_cells.specs.declared.tally.TheConstants.{MAX_COUNTED_WALKS}
 use Rattle.lay_cells.specs.declared.tally.Tally.{Tally}
 use Rattle.lay_cells.specs.Graph.{row}

@@ -1,5 +1,6 @@
 -- The calls of a sound layout call its symbols.
-use Rattle.std.proofs.Common.{◌≡◌, ◌∙◌, ◌||◌, ℕ, Bool, true, false, List, [], ◌∷◌, Option, Some, None, cond, refl, ap, sym, map, nat_eq, is_some, IsTrue, arith}
+use Rattle.std.proofs.Common.{◌≡◌, ◌∙◌, ◌||◌, ℕ, Bool, true, false, List, [], ◌∷◌, Option}
+use Rattle.std.proofs.Common.{Some, None, cond, refl, ap, sym, map, nat_eq, is_some, IsTrue, arith}
 use Rattle.std.specs.declared.cmp.Ordering.{Ordering}
 use Rattle.std.specs.Cmp.{Equal-is, IsTotalOrder, eq_by_cmp_equiv, nat_cmp_total}
 use Rattle.std.specs.FinMap.{FinMap, IsAntisymmetric, entries, entries_sorted, find, get, get-entries, get-from_entries}
@@ -68,7 +69,8 @@ cell_there layout Top is = refl
 cell_there layout (Symbol n) is = has_slot layout.symbols n is
 
 -- what is so of all that is found is so of all entries
-all_found : {K X : Type 0} (R : K → K → Ordering) → IsTotalOrder R → IsAntisymmetric R → (P : X → Type 0) (es : List (K × X)) → AreDistinct R es
+all_found : {K X : Type 0} (R : K → K → Ordering) → IsTotalOrder R → IsAntisymmetric R → (P : X → Type 0) (es : List (K × X))
+    → AreDistinct R es
     → ((k : K) (x : X) → find R k es ≡ Some x → P x) → AllByRecursion (λ (e : K × X). P e.1) es
 all_found R total exact P [] h each = tt
 all_found {K} {X} R total exact P (e ∷ es) h each = (

@@ -1,5 +1,6 @@
 -- What a flattening answers, from its tests.
-use Rattle.std.proofs.Common.{◌≡◌, ◌∙◌, ◌≤◌, ◌<◌, ◌||◌, ℕ, inl, inr, Bool, true, false, not, Result, Ok, Err, List, cond, length, ap, is_none, subst, sym}
+use Rattle.std.proofs.Common.{◌≡◌, ◌∙◌, ◌≤◌, ◌<◌, ◌||◌, ℕ, inl, inr, Bool, true, false, not}
+use Rattle.std.proofs.Common.{Result, Ok, Err, List, cond, length, ap, is_none, subst, sym}
 use Rattle.lay_point.specs.Memory.{IsAnswer}
 use Rattle.std.specs.List.{list_all, list_any}
 use Rattle.lay_cells.specs.declared.cell_id.CellId.{CellId}
@@ -17,19 +18,22 @@ module _ (layout : Layout) (cell : CellId) (layer : List ℕ) where
   pub no_cell : is_cell layout cell ≡ false → flat_of layout cell layer ≡ Err NoCell
   unfolding flat_of
   no_cell is =
-      ap (λ b. cond b (and_then (tested layout cell) (λ _. flat_at (ends_of layout cell) (rings_at layout layer (ends_of layout cell)))) (Err NoCell)) is
+      ap (λ b. cond b (and_then (tested layout cell) (λ _. flat_at (ends_of layout cell)
+      (rings_at layout layer (ends_of layout cell)))) (Err NoCell)) is
 
   pub refused : (fault : FlatFault) → is_cell layout cell ≡ true → tested layout cell ≡ Err fault → flat_of layout cell layer ≡ Err fault
   unfolding flat_of
   refused fault is test =
-      ap (λ b. cond b (and_then (tested layout cell) (λ _. flat_at (ends_of layout cell) (rings_at layout layer (ends_of layout cell)))) (Err NoCell)) is
+      ap (λ b. cond b (and_then (tested layout cell) (λ _. flat_at (ends_of layout cell)
+      (rings_at layout layer (ends_of layout cell)))) (Err NoCell)) is
       ∙ ap (λ r. and_then r (λ _. flat_at (ends_of layout cell) (rings_at layout layer (ends_of layout cell)))) test
 
   pub reached : is_cell layout cell ≡ true → tested layout cell ≡ Ok (tt {0})
       → flat_of layout cell layer ≡ flat_at (ends_of layout cell) (rings_at layout layer (ends_of layout cell))
   unfolding flat_of
   reached is test =
-      ap (λ b. cond b (and_then (tested layout cell) (λ _. flat_at (ends_of layout cell) (rings_at layout layer (ends_of layout cell)))) (Err NoCell)) is
+      ap (λ b. cond b (and_then (tested layout cell) (λ _. flat_at (ends_of layout cell)
+      (rings_at layout layer (ends_of layout cell)))) (Err NoCell)) is
       ∙ ap (λ r. and_then r (λ _. flat_at (ends_of layout cell) (rings_at layout layer (ends_of layout cell)))) test
 
 abbrev pub outside : List End → List FlatRing → Bool
@@ -38,7 +42,8 @@ outside ends rings = list_any (λ (end : End). is_none end.turn) ends || not (li
 module _ (ends : List End) (rings : List FlatRing) where
   pub many : MAX_RINGS < length rings → flat_at ends rings ≡ Err TooMany
   unfolding flat_at
-  many above = ap (λ b. cond b (Err TooMany) (cond (outside ends rings) (Err OutOfRange) (Ok rings))) (is_above MAX_RINGS (length rings) above)
+  many above = ap (λ b. cond b (Err TooMany) (cond (outside ends rings) (Err OutOfRange) (Ok rings)))
+      (is_above MAX_RINGS (length rings) above)
 
   pub out_of_range : length rings ≤ MAX_RINGS → outside ends rings ≡ true → flat_at ends rings ≡ Err OutOfRange
   unfolding flat_at

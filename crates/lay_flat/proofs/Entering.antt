@@ -1,5 +1,7 @@
 -- Symbols that are entered behind others, each once.
-use Rattle.std.proofs.Common.{◌≡◌, ◌∙◌, ◌≤◌, ◌<◌, ◌+◌, ◌++◌, ◌⊎◌, ◌||◌, ℕ, zero, suc, inl, inr, Bool, true, false, true≢false, List, [], ◌∷◌, Some, None, cond, length, nat_eq, refl, ap, sym, subst, arith, length-append, take, append_assoc, append-nil}
+use Rattle.std.proofs.Common.{◌≡◌, ◌∙◌, ◌≤◌, ◌<◌, ◌+◌, ◌++◌, ◌⊎◌, ◌||◌, ℕ, zero, suc, inl, inr, Bool}
+use Rattle.std.proofs.Common.{true, false, true≢false, List, [], ◌∷◌, Some, None, cond, length, nat_eq}
+use Rattle.std.proofs.Common.{refl, ap, sym, subst, arith, length-append, take, append_assoc, append-nil}
 use Rattle.std.specs.Prelude.{slice_get}
 use Rattle.std.specs.Cmp.{nat_eq_equiv}
 use Rattle.std.specs.FinMap.{entries}
@@ -131,7 +133,8 @@ pub few : (layout : Layout) (s : List ℕ) → IsDistinct nat_eq s → IsKnown l
 few layout s distinct known = length-le_from_is_member nat_eq_equiv s (in_slot_order layout.symbols) distinct known
 
 -- the first of them
-pub first_known : (layout : Layout) → IsSound layout → (cell : CellId) → is_cell layout cell ≡ true → IsKnown layout (first_symbols layout cell)
+pub first_known : (layout : Layout) → IsSound layout → (cell : CellId) → is_cell layout cell ≡ true
+    → IsKnown layout (first_symbols layout cell)
 first_known layout sound Top is = known_called layout sound [] Top (λ n h. absurd (true≢false (sym h)))
 first_known layout sound (Symbol m) is =
     known_one layout [] m (λ n h. absurd (true≢false (sym h))) (cell_there layout (Symbol m) is)
@@ -256,5 +259,6 @@ take_whole (n ∷ s) (suc index) le none = ap (λ (ns : List ℕ). n ∷ ns) (ta
 
 pub has_at : (s : List ℕ) (index n : ℕ) → slice_get s index ≡ Some n → has_symbol s n ≡ true
 has_at [] index n at = absurd cc
-has_at (m ∷ s) zero n at = let same : m ≡ n = cc in subst (λ (k : ℕ). has_symbol (k ∷ s) n ≡ true) (sym same) (ap (λ b. b || has_symbol s n) (same_itself n))
+has_at (m ∷ s) zero n at =
+    let same : m ≡ n = cc in subst (λ (k : ℕ). has_symbol (k ∷ s) n ≡ true) (sym same) (ap (λ b. b || has_symbol s n) (same_itself n))
 has_at (m ∷ s) (suc index) n at = ap (λ b. nat_eq n m || b) (has_at s index n at) ∙ or_true (nat_eq n m)

@@ -1,5 +1,6 @@
 -- A layout's walks have the depth and the number of those of its graph, and each walk is among them.
-use Rattle.std.proofs.Common.{◌≡◌, ◌∙◌, ◌≤◌, ◌+◌, ◌-◌, ◌++◌, ◌⊎◌, ℕ, zero, suc, inl, inr, Bool, true, false, List, [], ◌∷◌, Option, Some, cond, length, map, refl, ap, sym, subst, arith, Contains}
+use Rattle.std.proofs.Common.{◌≡◌, ◌∙◌, ◌≤◌, ◌+◌, ◌-◌, ◌++◌, ◌⊎◌, ℕ, zero, suc, inl, inr, Bool, true, false}
+use Rattle.std.proofs.Common.{List, [], ◌∷◌, Option, Some, cond, length, map, refl, ap, sym, subst, arith, Contains}
 use Rattle.std.specs.Prelude.{flat_map, sum_by}
 use Rattle.std.specs.FinMap.{entries}
 use Rattle.std.specs.List.{AllByRecursion}
@@ -46,7 +47,8 @@ standing-entries cell (e ∷ es) = by_item e.0 e.1 (standing-entries cell es) wh
         ≡ map (in_graph cell) (calls_lent (cond b ((id, Placed c target turn) ∷ items_standing_in cell es) (items_standing_in cell es)))
     by_test true is =
         let same : c ≡ cell = (cell_eq-Decides c cell).0 is in
-        ap (λ (k : CellId). (k, target) ∷ standing_in (calls_among es) cell) same ∙ ap (λ (cs : List (CellId × ℕ)). (cell, target) ∷ cs) rest
+        ap (λ (k : CellId). (k, target) ∷ standing_in (calls_among es) cell) same
+        ∙ ap (λ (cs : List (CellId × ℕ)). (cell, target) ∷ cs) rest
     by_test false is = rest
 
 -- calls that stand in each cell of some as the layout's do, where these cells call each other alone
@@ -79,7 +81,8 @@ module _ (layout : Layout) (IsOne : CellId → Type 0) (calls : List (CellId × 
   unfolding walks_within
   same-length zero cell one = refl
   same-length (suc n) cell one =
-      length-more (calls_in layout) target_of n cell ∙ ap (λ (k : ℕ). 1 + k) (by_calls (same-length n) (calls_in layout cell) (are.closed cell one))
+      length-more (calls_in layout) target_of n cell ∙ ap (λ (k : ℕ). 1 + k)
+      (by_calls (same-length n) (calls_in layout cell) (are.closed cell one))
       ∙ ap (λ (cs : List (CellId × ℕ)). 1 + sum_by (λ (call : CellId × ℕ). length (graph_walks n (Symbol call.1))) cs)
       (sym (are.standing cell one))
       ∙ sym (length-more (standing_in calls) called n cell) where
@@ -116,7 +119,8 @@ module _ (layout : Layout) where
 
   module _ (acyclic : IsAcyclic calls) where
     few : (n : ℕ) (cell : CellId) → longest (walks n cell) ≤ length calls
-    few n cell = subst (λ (k : ℕ). k ≤ length calls) (sym (same-longest layout (λ _. Unit {0}) calls all_calls n cell tt)) (few_in_all calls n cell acyclic)
+    few n cell = subst (λ (k : ℕ). k ≤ length calls) (sym (same-longest layout (λ _. Unit {0}) calls all_calls n cell tt))
+        (few_in_all calls n cell acyclic)
 
     -- each walk is among those of the layout, and nothing else is
     pub all_walks : (cell : CellId) → AreWalks layout cell
@@ -165,23 +169,27 @@ module _ (layout : Layout) where
         by_calls each [] = refl
         by_calls each (c ∷ cs) =
             let mine : List (List LentCall) = map (λ (w : List LentCall). c ∷ w) (walks n (Symbol c.1)) in
-            let rest : List (List LentCall) = flat_map (λ (call : LentCall). map (λ (w : List LentCall). call ∷ w) (walks n (Symbol call.1))) cs in
+            let rest : List (List LentCall) =
+            flat_map (λ (call : LentCall). map (λ (w : List LentCall). call ∷ w) (walks n (Symbol call.1))) cs in
             ap (λ (es : List End). es ++ flat_map (λ (call : LentCall). ends_within layout n (Symbol call.1) (turn_after turn call.2)) cs)
             (each (Symbol c.1) (turn_after turn c.2) ∙ sym (further c (walks n (Symbol c.1))))
             ∙ ap (λ (es : List End). map (end_along cell turn) mine ++ es) (by_calls each cs)
             ∙ sym (map-append (end_along cell turn) mine rest)
 
   pub ends-more : (n : ℕ) (cell : CellId) (turn : Option Turn) → (n ≡ 0 → ⊥) → ends_within layout n cell turn
-      ≡ record { cell = cell; turn = turn } ∷ flat_map (λ (call : LentCall). ends_within layout (n - 1) (Symbol call.1) (turn_after turn call.2))
+      ≡ record { cell = cell; turn = turn } ∷ flat_map (λ (call : LentCall). ends_within layout (n - 1) (Symbol call.1)
+      (turn_after turn call.2))
       (calls_in layout cell)
   unfolding ends_within
   ends-more zero cell turn some = absurd (some refl)
   ends-more (suc n) cell turn some =
       let same : n ≡ suc n - 1 = omega arith in
-      ap (λ (k : ℕ). record { cell = cell; turn = turn } ∷ flat_map (λ (call : LentCall). ends_within layout k (Symbol call.1) (turn_after turn call.2))
+      ap (λ (k : ℕ). record { cell = cell; turn = turn } ∷ flat_map (λ (call : LentCall). ends_within layout k (Symbol call.1)
+      (turn_after turn call.2))
       (calls_in layout cell)) same
 
-  pub ends-none : (n : ℕ) (cell : CellId) (turn : Option Turn) → n ≡ 0 → ends_within layout n cell turn ≡ record { cell = cell; turn = turn } ∷ []
+  pub ends-none : (n : ℕ) (cell : CellId) (turn : Option Turn) → n ≡ 0
+      → ends_within layout n cell turn ≡ record { cell = cell; turn = turn } ∷ []
   unfolding ends_within
   ends-none n cell turn none = ap (λ (k : ℕ). ends_within layout k cell turn) none
 
@@ -189,7 +197,8 @@ module _ (layout : Layout) where
 module _ (layout : Layout) (sound : IsAcyclic (calls_of layout)) (cell : CellId) (graph : Calls) (is : IsGraphFrom layout cell graph) where
   own : AreCallsIn layout (IsIn cell graph.symbols) graph.calls
   own = record {
-    standing = λ c one. ap (λ (cs : List (CellId × ℕ)). standing_in cs c) is.calls ∙ standing_from layout cell graph.symbols is.reached c one;
+    standing = λ c one. ap (λ (cs : List (CellId × ℕ)). standing_in cs c) is.calls
+        ∙ standing_from layout cell graph.symbols is.reached c one;
     closed = λ c one. closed_in layout cell graph.symbols is.reached c one;
   }
 

@@ -1,5 +1,6 @@
 -- The rings that are lent stand one behind the other.
-use Rattle.std.proofs.Common.{◌≡◌, ◌∙◌, ◌≤◌, ◌<◌, ◌+◌, ◌++◌, inl, inr, ℕ, List, [], ◌∷◌, length, refl, ap, sym, subst, arith, append_assoc, take, get_or, None}
+use Rattle.std.proofs.Common.{◌≡◌, ◌∙◌, ◌≤◌, ◌<◌, ◌+◌, ◌++◌, inl, inr, ℕ, List, [], ◌∷◌}
+use Rattle.std.proofs.Common.{length, refl, ap, sym, subst, arith, append_assoc, take, get_or, None}
 use Rattle.std.proofs.lemmas.List.{length-append, length-map, length-take-le, map-append, take_more}
 use Rattle.lay_point.specs.declared.point.Point.{Point}
 use Rattle.lay_point.specs.declared.turn.Turn.{Turn}

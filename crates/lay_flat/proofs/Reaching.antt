@@ -1,5 +1,6 @@
 -- The symbols that a cell leads to, and the calls that stand in them.
-use Rattle.std.proofs.Common.{◌≡◌, ◌∙◌, ◌++◌, ◌||◌, ℕ, suc, inl, inr, Bool, true, false, true≢false, List, [], ◌∷◌, Some, cond, map, nat_eq, refl, ap, sym, subst, arith, Contains, IsTrue, append-nil}
+use Rattle.std.proofs.Common.{◌≡◌, ◌∙◌, ◌++◌, ◌||◌, ℕ, suc, inl, inr, Bool, true, false, true≢false, List, [], ◌∷◌}
+use Rattle.std.proofs.Common.{Some, cond, map, nat_eq, refl, ap, sym, subst, arith, Contains, IsTrue, append-nil}
 use Rattle.std.specs.Prelude.{slice_get}
 use Rattle.std.specs.List.{AllByRecursion, IsDistinct}
 use Rattle.std.proofs.lemmas.Bool.Decides.{nat_tests}

@@ -43,4 +43,5 @@ end_along cell turn walk = record { cell = end_of cell walk; turn = turn_along t
 unfoldable pub ends_within : Layout → ℕ → CellId → Option Turn → List End
 ends_within layout zero cell turn = record { cell = cell; turn = turn } ∷ []
 ends_within layout (suc n) cell turn =
-    record { cell = cell; turn = turn } ∷ flat_map (λ call. ends_within layout n (Symbol call.1) (turn_after turn call.2)) (calls_in layout cell)
+    record { cell = cell; turn = turn } ∷ flat_map (λ call. ends_within layout n (Symbol call.1) (turn_after turn call.2))
+    (calls_in layout cell)

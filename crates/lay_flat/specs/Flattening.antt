@@ -1,6 +1,7 @@
 -- What a flattening has.
 -- Source: Caltech Intermediate Form 2.0, symbol definitions and calls; the limits and the refusals are this project's own.
-use Rattle.std.specs.Prelude.{◌↔◌, ◌||◌, ℕ, ◌+◌, List, [], ◌∷◌, ◌++◌, Some, Result, Ok, Err, Contains, if◌then◌else◌, is_none, length, map, nat_lt, not, unwrap_or}
+use Rattle.std.specs.Prelude.{◌↔◌, ◌||◌, ℕ, ◌+◌, List, [], ◌∷◌, ◌++◌, Some, Result, Ok, Err}
+use Rattle.std.specs.Prelude.{Contains, if◌then◌else◌, is_none, length, map, nat_lt, not, unwrap_or}
 use Rattle.std.specs.List.{flat_map, list_all, list_any}
 use Rattle.lay_point.specs.declared.point.Point.{Point}
 use Rattle.lay_point.specs.declared.turn.Turn.{Turn}

@@ -1,5 +1,6 @@
 -- The items of a cell are found by the index of the first, and by that of the next of each.
-use Rattle.std.proofs.Common.{◌≡◌, ◌∙◌, ◌<◌, ◌+◌, ℕ, zero, suc, Bool, true, false, List, [], ◌∷◌, Some, cond, refl, ap, sym, arith, drop, length, get_or, unwrap_or, subst}
+use Rattle.std.proofs.Common.{◌≡◌, ◌∙◌, ◌<◌, ◌+◌, ℕ, zero, suc, Bool, true, false, List, [], ◌∷◌}
+use Rattle.std.proofs.Common.{Some, cond, refl, ap, sym, arith, drop, length, get_or, unwrap_or, subst}
 use Rattle.std.specs.Cmp.{Equal-is, nat_cmp_is, nat_cmp_total}
 use Rattle.std.specs.declared.cmp.Ordering.TheVariants.{Equal}
 use Rattle.std.specs.FinMap.{FinMap, get, get-empty, get-insert, insert}
@@ -36,7 +37,8 @@ skipped key [] = 0
 skipped key (e ∷ es) = cond (eq_by_cmp nat_cmp key (key_of e)) 0 (suc (skipped key es))
 
 -- the first is found behind them
-pub first-skipped : (key at : ℕ) (es : List (ItemId × Item)) → unwrap_or (get (firsts_from at es) key) (at + length es) ≡ at + skipped key es
+pub first-skipped : (key at : ℕ) (es : List (ItemId × Item))
+    → unwrap_or (get (firsts_from at es) key) (at + length es) ≡ at + skipped key es
 first-skipped key at [] = ap (λ o. unwrap_or o (at + 0)) (get-empty nat_cmp key)
 first-skipped key at (e ∷ es) =
     ap (λ o. unwrap_or o (at + length (e ∷ es))) (get-insert nat_cmp_total (firsts_from (at + 1) es) (key_of e) at key)

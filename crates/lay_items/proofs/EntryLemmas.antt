@@ -1,5 +1,6 @@
 -- The entries of a map are found under their keys; the numbers in slot order are those of the symbols, each once.
-use Rattle.std.proofs.Common.{◌≡◌, ℕ, Bool, true, false, ◌||◌, List, [], ◌∷◌, map, Option, Some, None, cond, refl, ap, sym, ◌∙◌, subst, All, nat_eq}
+use Rattle.std.proofs.Common.{◌≡◌, ℕ, Bool, true, false, ◌||◌, List, [], ◌∷◌, map}
+use Rattle.std.proofs.Common.{Option, Some, None, cond, refl, ap, sym, ◌∙◌, subst, All, nat_eq}
 use Rattle.std.specs.declared.cmp.Ordering.{Ordering}
 use Rattle.std.specs.Cmp.{Equal-is, IsTotalOrder, eq_by_cmp_equiv, nat_cmp_total}
 use Rattle.std.specs.FinMap.{FinMap, IsAntisymmetric, entries, entries_sorted, find, get, get-entries, get-from_entries}
@@ -53,7 +54,8 @@ record IsStanding (symbols : FinMap nat_cmp CellSlot) (k : Standing × ℕ) : Ty
   at : get symbols k.1 ≡ Some slot
   under : k.0 ≡ (rank slot, k.1)
 
-ranked : (symbols : FinMap nat_cmp CellSlot) (k : Standing × ℕ) (o : Option CellSlot) → get symbols k.0.1 ≡ o → of_rank k.0.0 k.0.1 o ≡ Some k.1
+ranked : (symbols : FinMap nat_cmp CellSlot) (k : Standing × ℕ) (o : Option CellSlot) → get symbols k.0.1 ≡ o
+    → of_rank k.0.0 k.0.1 o ≡ Some k.1
     → IsStanding symbols k
 ranked symbols k None at e = absurd cc
 ranked symbols k (Some slot) at e = by (is_eq by_rank) refl e where
@@ -63,12 +65,14 @@ ranked symbols k (Some slot) at e = by (is_eq by_rank) refl e where
   by : (b : Bool) → is_eq by_rank ≡ b → cond b (Some k.0.1) None ≡ Some k.1 → IsStanding symbols k
   by true is e =
       let number : k.0.1 ≡ k.1 = cc in
-      let same : k.0.0 ≡ rank slot = exact_pairs nat_cmp nat_cmp exact_unsigned exact_unsigned k.0.0 (rank slot) ((Equal-is by_rank).0 is) in
+      let same : k.0.0 ≡ rank slot =
+      exact_pairs nat_cmp nat_cmp exact_unsigned exact_unsigned k.0.0 (rank slot) ((Equal-is by_rank).0 is) in
       record { slot = slot; at = ap (get symbols) (sym number) ∙ at; under = λ i. (same i, number i) }
   by false is e = absurd cc
 
 -- what the map by standings has
-standing_at : (symbols : FinMap nat_cmp CellSlot) (r : ℕ × ℕ) (n : ℕ) → get (by_standing (entries symbols)) (r, n) ≡ of_rank r n (get symbols n)
+standing_at : (symbols : FinMap nat_cmp CellSlot) (r : ℕ × ℕ) (n : ℕ)
+    → get (by_standing (entries symbols)) (r, n) ≡ of_rank r n (get symbols n)
 standing_at symbols r n =
     get-from_entries standings_total (map standing_of (entries symbols)) (r, n)
     ∙ find-standings (entries symbols) r n (entries-distinct nat_cmp_total (λ a b e. exact_unsigned a b e) symbols)
@@ -94,10 +98,12 @@ module _ (symbols : FinMap nat_cmp CellSlot) where
   order-symbols =
       subst (All (λ n. (slot : CellSlot) × (get symbols n ≡ Some slot))) (sym order_is)
       (All-map (λ n. (slot : CellSlot) × (get symbols n ≡ Some slot)) (λ e. e.1) standings
-      (All-weaker (IsStanding symbols) (λ e. (slot : CellSlot) × (get symbols e.1 ≡ Some slot)) (λ e s. (s.slot, s.at)) standings all_standing))
+      (All-weaker (IsStanding symbols) (λ e. (slot : CellSlot) × (get symbols e.1 ≡ Some slot)) (λ e s. (s.slot, s.at)) standings
+      all_standing))
 
   -- a number that is found is among the values
-  found_value : (q : Standing) (n : ℕ) (es : List (Standing × ℕ)) → find standing_cmp q es ≡ Some n → list_any (nat_eq n) (map (λ e. e.1) es) ≡ true
+  found_value : (q : Standing) (n : ℕ) (es : List (Standing × ℕ)) → find standing_cmp q es ≡ Some n
+      → list_any (nat_eq n) (map (λ e. e.1) es) ≡ true
   found_value q n [] at = absurd cc
   found_value q n (e ∷ es) at = by (eq_by_cmp standing_cmp q e.0) at (found_value q n es) where
     by : (b : Bool) → cond b (Some e.1) (find standing_cmp q es) ≡ Some n
@@ -121,7 +127,8 @@ module _ (symbols : FinMap nat_cmp CellSlot) where
       (found_value (rank slot, n) n standings (sym (get-entries (by_standing (entries symbols)) (rank slot, n)) ∙ there))
 
   -- numbers under different standings differ
-  apart : (k : Standing × ℕ) (es : List (Standing × ℕ)) → find standing_cmp k.0 es ≡ None → IsStanding symbols k → All (IsStanding symbols) es
+  apart : (k : Standing × ℕ) (es : List (Standing × ℕ)) → find standing_cmp k.0 es ≡ None → IsStanding symbols k
+      → All (IsStanding symbols) es
       → All (λ e. find standing_cmp e.0 es ≡ Some e.1) es → All (λ n. nat_eq k.1 n ≡ false) (map (λ e. e.1) es)
   apart k es none s stands found =
       All-map (λ n. nat_eq k.1 n ≡ false) (λ e. e.1) es

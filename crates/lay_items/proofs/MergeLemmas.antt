@@ -1,5 +1,6 @@
 -- Writes merged into entries: what is found among them, and their order.
-use Rattle.std.proofs.Common.{◌≡◌, ◌∙◌, ◌<◌, ◌+◌, ◌++◌, ℕ, append_assoc, drop, get_or, length, Bool, true, false, List, [], ◌∷◌, Option, Some, None, cond, refl, ap, sym, subst}
+use Rattle.std.proofs.Common.{◌≡◌, ◌∙◌, ◌<◌, ◌+◌, ◌++◌, ℕ, append_assoc, drop, get_or, length, Bool}
+use Rattle.std.proofs.Common.{true, false, List, [], ◌∷◌, Option, Some, None, cond, refl, ap, sym, subst}
 use Rattle.std.specs.Prelude.{filter}
 use Rattle.std.specs.declared.cmp.Ordering.{Ordering}
 use Rattle.std.specs.declared.cmp.Ordering.TheVariants.{Equal, Greater, Less}
@@ -50,7 +51,8 @@ rising_tail w [] rising = tt
 rising_tail w (v ∷ ws) rising = rising.1
 
 -- an id before all of them isn't written
-unwritten : (ws : List Write) (q : ItemId) (old : Option Item) → AllByRecursion (λ y. id_cmp q y ≡ Less) (keys_of ws) → latest ws q old ≡ old
+unwritten : (ws : List Write) (q : ItemId) (old : Option Item) → AllByRecursion (λ y. id_cmp q y ≡ Less) (keys_of ws)
+    → latest ws q old ≡ old
 unwritten [] q old all = refl
 unwritten (w ∷ ws) q old all = ap (λ o. latest ws q (cond (is_eq o) w.1 old)) all.0 ∙ unwritten ws q old all.1
 
@@ -62,10 +64,12 @@ find-both q (e ∷ es) fs = by (eq_by_cmp id_cmp q e.0) (find-both q es fs) wher
   by true rest = refl
   by false rest = rest
 
-find-before : (q id : ItemId) (es : List (ItemId × Item)) → find id_cmp q (before id es) ≡ cond (is_lt (id_cmp q id)) (find id_cmp q es) None
+find-before : (q id : ItemId) (es : List (ItemId × Item))
+    → find id_cmp q (before id es) ≡ cond (is_lt (id_cmp q id)) (find id_cmp q es) None
 find-before q id es = find-where_key id_cmp (λ x. is_lt (id_cmp x id)) q (λ x e. ap (λ y. is_lt (id_cmp y id)) (sym (ids_exact q x e))) es
 
-find-behind : (q id : ItemId) (es : List (ItemId × Item)) → find id_cmp q (behind id es) ≡ cond (is_lt (id_cmp id q)) (find id_cmp q es) None
+find-behind : (q id : ItemId) (es : List (ItemId × Item))
+    → find id_cmp q (behind id es) ≡ cond (is_lt (id_cmp id q)) (find id_cmp q es) None
 find-behind q id es = find-where_key id_cmp (λ x. is_lt (id_cmp id x)) q (λ x e. ap (λ y. is_lt (id_cmp id y)) (sym (ids_exact q x e))) es
 
 find-entry : (q id : ItemId) (o : Option Item) → find id_cmp q (entry_of id o) ≡ cond (eq_by_cmp id_cmp q id) o None
@@ -89,7 +93,8 @@ find-merged es (w ∷ ws) q rising =
     ∙ (λ i. or_else (find-before q w.0 es i) (find-both q (entry_of w.0 w.1) (merged (behind w.0 es) ws) i))
     ∙ (λ i. or_else (cond (is_lt (id_cmp q w.0)) (find id_cmp q es) None) (or_else (find-entry q w.0 w.1 i)
     (find-merged (behind w.0 es) ws q (rising_tail w ws rising) i)))
-    ∙ ap (λ o. or_else (cond (is_lt (id_cmp q w.0)) (find id_cmp q es) None) (or_else (cond (eq_by_cmp id_cmp q w.0) w.1 None) (latest ws q o)))
+    ∙ ap (λ o. or_else (cond (is_lt (id_cmp q w.0)) (find id_cmp q es) None)
+    (or_else (cond (eq_by_cmp id_cmp q w.0) w.1 None) (latest ws q o)))
     (find-behind q w.0 es)
     ∙ by (id_cmp q w.0) refl (find id_cmp q es) where
       turned : (o : Ordering) → id_cmp q w.0 ≡ o → id_cmp w.0 q ≡ ordering_reverse o
@@ -102,7 +107,8 @@ find-merged es (w ∷ ws) q rising =
           → parts q w.0 old w.1 (latest ws q) ≡ latest ws q (cond (eq_by_cmp id_cmp q w.0) w.1 old)
       by Less is old =
           let none : (x : Option Item) → latest ws q x ≡ x =
-          λ x. unwritten ws q x (all_weaker (λ y. id_cmp w.0 y ≡ Less) (λ y. id_cmp q y ≡ Less) (λ y. ids_total.trans q w.0 y is) (keys_of ws) all) in
+          λ x. unwritten ws q x (all_weaker (λ y. id_cmp w.0 y ≡ Less) (λ y. id_cmp q y ≡ Less) (λ y. ids_total.trans q w.0 y is)
+          (keys_of ws) all) in
           (λ i. or_else (cond (is_lt (is i)) old None)
           (or_else (cond (is_eq (is i)) w.1 None) (latest ws q (cond (is_lt (turned Less is i)) old None))))
           ∙ ap (or_else old) (none None) ∙ or_none old ∙ sym (none old) ∙ ap (λ o. latest ws q (cond (is_eq o) w.1 old)) (sym is)
@@ -170,7 +176,8 @@ all-joined P [] id None fs es_all one fs_all = fs_all
 all-joined P [] id (Some item) fs es_all one fs_all = (one, fs_all)
 all-joined P (e ∷ es) id o fs es_all one fs_all = (es_all.0, all-joined P es id o fs es_all.1 one fs_all)
 
-sorted-joined : (es : List (ItemId × Item)) (id : ItemId) (o : Option Item) (fs : List (ItemId × Item)) → IsStrictlySortedBy id_cmp (keys_of es)
+sorted-joined : (es : List (ItemId × Item)) (id : ItemId) (o : Option Item) (fs : List (ItemId × Item))
+    → IsStrictlySortedBy id_cmp (keys_of es)
     → AllByRecursion (λ k. id_cmp k id ≡ Less) (keys_of es) → AllByRecursion (λ k. id_cmp id k ≡ Less) (keys_of fs)
     → IsStrictlySortedBy id_cmp (keys_of fs) → IsStrictlySortedBy id_cmp (keys_of (es ++ (entry_of id o ++ fs)))
 unfolding IsStrictlySortedBy
@@ -182,7 +189,8 @@ sorted-joined (e ∷ es) id o fs es_sorted low high sorted = (
   sorted-joined es id o fs es_sorted.1 low.1 high sorted,
 )
 
-all-merged : (P : ItemId → Type 0) (es : List (ItemId × Item)) (ws : List Write) → AllByRecursion P (keys_of es) → AllByRecursion P (keys_of ws)
+all-merged : (P : ItemId → Type 0) (es : List (ItemId × Item)) (ws : List Write) → AllByRecursion P (keys_of es)
+    → AllByRecursion P (keys_of ws)
     → AllByRecursion P (keys_of (merged es ws))
 all-merged P es [] all more = all
 all-merged P es (w ∷ ws) all more =
@@ -226,4 +234,5 @@ write_more new new1 new2 rest low high ws i w d whole lt is lows highs one two s
 pub sorted-behind : (id : ItemId) (es high : List (ItemId × Item)) → high ≡ behind id es → IsStrictlySortedBy id_cmp (keys_of es)
     → IsStrictlySortedBy id_cmp (keys_of high)
 sorted-behind id es high is sorted =
-    subst (λ (fs : List (ItemId × Item)). IsStrictlySortedBy id_cmp (keys_of fs)) (sym is) (sorted-kept (λ x. is_lt (id_cmp id x)) es sorted)
+    subst (λ (fs : List (ItemId × Item)). IsStrictlySortedBy id_cmp (keys_of fs)) (sym is)
+    (sorted-kept (λ x. is_lt (id_cmp id x)) es sorted)

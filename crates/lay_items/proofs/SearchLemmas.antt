@@ -1,5 +1,6 @@
 -- Entries in order of their keys: what halving finds among them, and what stands on both sides of it.
-use Rattle.std.proofs.Common.{◌≡◌, ◌∙◌, ◌<◌, ◌≤◌, ◌+◌, ℕ, zero, suc, List, [], ◌∷◌, Option, Some, None, Result, Ok, Err, IfErr, IfOk, cond, refl, ap, sym, arith, take, drop, length, get_or, subst}
+use Rattle.std.proofs.Common.{◌≡◌, ◌∙◌, ◌<◌, ◌≤◌, ◌+◌, ℕ, zero, suc, List, [], ◌∷◌, Option, Some, None, Result}
+use Rattle.std.proofs.Common.{Ok, Err, IfErr, IfOk, cond, refl, ap, sym, arith, take, drop, length, get_or, subst}
 use Rattle.std.specs.Prelude.{filter}
 use Rattle.std.specs.declared.cmp.Ordering.{Ordering}
 use Rattle.std.specs.declared.cmp.Ordering.TheVariants.{Equal, Greater, Less}
@@ -54,8 +55,10 @@ module _ {K X : Type 0} {R : K → K → Ordering} (total : IsTotalOrder R) (exa
   all_within : (es : List (K × X)) (k : K) → AllWithin (λ (e : K × X). R e.0 k ≡ Greater) es 0 (length es)
       → AllByRecursion (λ y. R k y ≡ Less) (keys_of es)
   all_within [] k all = tt
-  all_within (e ∷ es) k all =
-      (turned total e.0 k Greater (all 0 e (omega arith) (omega arith)), all_within es k (λ j d le lt. all (suc j) d (omega arith) (omega arith)))
+  all_within (e ∷ es) k all = (
+    turned total e.0 k Greater (all 0 e (omega arith) (omega arith)),
+    all_within es k (λ j d le lt. all (suc j) d (omega arith) (omega arith)),
+  )
 
   -- where the key has none
   pub gap : (es : List (K × X)) (k : K) (at : ℕ) → at ≤ length es → AllWithin (λ (e : K × X). R e.0 k ≡ Less) es 0 at
@@ -64,7 +67,8 @@ module _ {K X : Type 0} {R : K → K → Ordering} (total : IsTotalOrder R) (exa
   gap [] k (suc at) le low high = absurd (omega arith)
   gap (e ∷ es) k (suc at) le low high =
       low_first e es k at at None (low 0 e (omega arith) (omega arith))
-      (gap es k at (omega arith) (λ j d l h. low (suc j) d (omega arith) (omega arith)) (λ j d l h. high (suc j) d (omega arith) (omega arith)))
+      (gap es k at (omega arith) (λ j d l h. low (suc j) d (omega arith) (omega arith))
+      (λ j d l h. high (suc j) d (omega arith) (omega arith)))
 
   -- where it has one
   pub here : (es : List (K × X)) (k : K) (at : ℕ) (d : K × X) → IsStrictlySortedBy R (keys_of es) → at < length es
@@ -90,7 +94,8 @@ module _ {K X : Type 0} {R : K → K → Ordering} (total : IsTotalOrder R) (exa
       first_less (f ∷ fs) (suc i) lt eq all = first_less fs i (omega arith) eq all.1
 
   -- the comparisons with a key rise, as halving asks
-  pub rise : (es : List (K × X)) (k : K) → IsStrictlySortedBy R (keys_of es) → IsNonDecreasingBy (λ (e : K × X). ordering_index (R e.0 k)) es
+  pub rise : (es : List (K × X)) (k : K) → IsStrictlySortedBy R (keys_of es)
+      → IsNonDecreasingBy (λ (e : K × X). ordering_index (R e.0 k)) es
   unfolding IsStrictlySortedBy
   rise [] k sorted i j d le lt = absurd (omega arith)
   rise (e ∷ es) k sorted zero zero d le lt = omega arith
@@ -114,7 +119,8 @@ module _ {K X : Type 0} {R : K → K → Ordering} (total : IsTotalOrder R) (exa
   rise (e ∷ es) k sorted (suc i) (suc j) d le lt = rise es k sorted.1 i j d (omega arith) (omega arith)
 
 -- what a search by id ends at
-pub searched : (es : List (ItemId × Item)) (id : ItemId) → IsStrictlySortedBy id_cmp (keys_of es) → (r : Result ℕ ℕ) → IsSearchInRange r (length es)
+pub searched : (es : List (ItemId × Item)) (id : ItemId) → IsStrictlySortedBy id_cmp (keys_of es) → (r : Result ℕ ℕ)
+    → IsSearchInRange r (length es)
     → IsBinarySearchResult (λ (e : ItemId × Item). id_cmp e.0 id) es r
     → record { found : IfOk r (IsFoundAt es id); absent : IfErr r (IsGapAt es id) }
 searched es id sorted (Ok at) in_range equal = record {

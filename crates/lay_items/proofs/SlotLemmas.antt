@@ -1,10 +1,12 @@
 -- The symbols of a list, in slots of a text, stand in the order of the list.
-use Rattle.std.proofs.Common.{◌≡◌, ◌<◌, ℕ, ◌+◌, drop, get_or, length, Bool, true, false, ◌&&◌, List, [], ◌∷◌, Option, Some, None, cond, refl, ap, sym, ◌∙◌, arith, map}
+use Rattle.std.proofs.Common.{◌≡◌, ◌<◌, ℕ, ◌+◌, drop, get_or, length, Bool, true, false, ◌&&◌}
+use Rattle.std.proofs.Common.{List, [], ◌∷◌, Option, Some, None, cond, refl, ap, sym, ◌∙◌, arith, map}
 use Rattle.std.proofs.Common.{nat_eq, T}
 use Rattle.std.specs.declared.cmp.Ordering.{Ordering}
 use Rattle.std.specs.declared.cmp.Ordering.TheVariants.{Equal, Greater, Less}
 use Rattle.std.specs.Cmp.{Equal-is, IsTotalOrder, eq_by_cmp_equiv, nat_cmp_is, nat_cmp_total}
-use Rattle.std.specs.FinMap.{FinMap, IsAntisymmetric, insert, entries, entries_sorted, find, get-entries, get-from_entries, is_sorted, same_map, values}
+use Rattle.std.specs.FinMap.{FinMap, IsAntisymmetric, insert, entries, entries_sorted}
+use Rattle.std.specs.FinMap.{find, get-entries, get-from_entries, is_sorted, same_map, values}
 use Rattle.std.specs.FinMap.Entries.{below_all}
 use Rattle.std.specs.List.{AllByRecursion, IsDistinct}
 use Rattle.std.specs.List.Sorted.{IsStrictlySortedBy}
@@ -130,7 +132,8 @@ numbers_again p (n ∷ numbers) = ap (λ ns. n ∷ ns) (numbers_again (p + 1) nu
 unplaced : (n p : ℕ) (numbers : List ℕ) → AllByRecursion (λ y. nat_eq n y ≡ false) numbers → find nat_cmp n (placed_from p numbers) ≡ None
 unplaced n p [] h = refl
 unplaced n p (m ∷ numbers) h =
-    ap (λ b. cond b (Some (Base p)) (find nat_cmp n (placed_from (p + 1) numbers))) (same_test n m ∙ h.0) ∙ unplaced n (p + 1) numbers h.1 where
+    ap (λ b. cond b (Some (Base p)) (find nat_cmp n (placed_from (p + 1) numbers))) (same_test n m ∙ h.0)
+    ∙ unplaced n (p + 1) numbers h.1 where
       same_test : (n m : ℕ) → eq_by_cmp nat_cmp n m ≡ nat_eq n m
       same_test n m = same_from_decides (eq_by_cmp nat_cmp n m) (nat_eq n m) (
         λ e. exact_unsigned n m ((Equal-is (nat_cmp n m)).0 e),

@@ -1,5 +1,6 @@
 -- The numbers of symbols by slots are distinct, so each is added behind the others.
-use Rattle.std.proofs.Common.{◌≡◌, ◌∙◌, ◌++◌, ◌||◌, ℕ, Bool, true, false, List, [], ◌∷◌, Option, Some, None, cond, refl, ap, sym, map, arith, nat_eq}
+use Rattle.std.proofs.Common.{◌≡◌, ◌∙◌, ◌++◌, ◌||◌, ℕ, Bool, true, false, List, [], ◌∷◌}
+use Rattle.std.proofs.Common.{Option, Some, None, cond, refl, ap, sym, map, arith, nat_eq}
 use Rattle.std.specs.declared.cmp.Ordering.TheVariants.{Equal, Less}
 use Rattle.std.specs.Cmp.{Equal-is, eq_by_cmp_equiv}
 use Rattle.std.specs.FinMap.{FinMap, entries, entries_sorted, find, get, get-entries, get-from_entries, is_sorted}
@@ -98,7 +99,8 @@ module _ (symbols : FinMap nat_cmp CellSlot) where
       (find-standings es (rank e.1) e.0 h.1 ∙ ap (of_rank (rank e.1) e.0) h.0, standings-distinct es h.1)
 
 -- a number that is in no earlier place is added behind the others
-pub with_symbol-new : (symbols : List ℕ) (n : ℕ) (rest : List ℕ) → IsDistinct nat_eq (symbols ++ n ∷ rest) → with_symbol symbols n ≡ symbols ++ n ∷ []
+pub with_symbol-new : (symbols : List ℕ) (n : ℕ) (rest : List ℕ) → IsDistinct nat_eq (symbols ++ n ∷ rest)
+    → with_symbol symbols n ≡ symbols ++ n ∷ []
 unfolding IsDistinct
 with_symbol-new symbols n rest distinct = ap (λ b. cond b symbols (symbols ++ n ∷ [])) (absent symbols distinct) where
   first : (xs : List ℕ) (x : ℕ) → AllByRecursion (λ y. nat_eq x y ≡ false) (xs ++ n ∷ rest) → nat_eq x n ≡ false

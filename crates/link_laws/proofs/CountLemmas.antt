@@ -1,6 +1,7 @@
 -- The rings' edges are the edges that they were linked from: for each test as many pass. So every parity is the same,
 -- that of the edges which the half line from a place crosses among them.
-use Rattle.std.proofs.Common.{◌≡◌, inl, inr, ℕ, zero, suc, ◌+◌, Bool, true, false, not, cond, ◌||◌, List, [], ◌∷◌, ◌++◌, map, ℤ, refl, sym, ap, subst, ◌∙◌, arith}
+use Rattle.std.proofs.Common.{◌≡◌, inl, inr, ℕ, zero, suc, ◌+◌, Bool, true, false, not, cond}
+use Rattle.std.proofs.Common.{◌||◌, List, [], ◌∷◌, ◌++◌, map, ℤ, refl, sym, ap, subst, ◌∙◌, arith}
 use Rattle.std.specs.List.{count_by}
 use Rattle.std.proofs.lemmas.List.Sums.{sum_by-append, sum_by-cons}
 use Rattle.lay_point.specs.declared.point.Point.{Point}
@@ -47,10 +48,12 @@ gone_first : (test : Ends → Bool) (p at : Point) (qs ps : List Point) → ps �
     → count_by test (map undirected (pairs (p ∷ ps))) ≡ cond (test (undirected (p, at))) 1 0 + count_by test (map undirected (pairs ps))
 gone_first test p at qs ps e =
     let P : List Point → Type 0 =
-    λ zs. count_by test (map undirected (pairs (p ∷ zs))) ≡ cond (test (undirected (p, at))) 1 0 + count_by test (map undirected (pairs zs)) in
+    λ zs. count_by test (map undirected (pairs (p ∷ zs))) ≡ cond (test (undirected (p, at))) 1 0 + count_by test
+    (map undirected (pairs zs)) in
     subst P (sym e) (sum_by-cons (λ x. cond (test x) 1 0) (undirected (p, at)) (map undirected (pairs (at ∷ qs))))
 
-way_count : (test : Ends → Bool) (start at : Point) (es : List Ends) (points : List Point) (rest : List Ends) → IsWay start at es points rest
+way_count : (test : Ends → Bool) (start at : Point) (es : List Ends) (points : List Point) (rest : List Ends)
+    → IsWay start at es points rest
     → AreUndirected es → count_by test es ≡ count_by test (gone_by start points) + count_by test rest
 way_count test start at es points rest (at_start es₁) lesser = omega arith
 way_count test start at es points rest (onward at₁ e es₁ es₂ rest₁ points₁ apart h w) lesser =

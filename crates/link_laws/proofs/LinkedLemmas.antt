@@ -9,7 +9,8 @@ use Rattle.lay_point.proofs.Members.{Has, has, contains}
 use Rattle.lay_point.proofs.Rising.{before_rest}
 use Rattle.link_laws.specs.Linked.{AreLinked, IsLeastLeft, IsWayBack, back, done, on, ring}
 use Rattle.link_laws.specs.Linking.{Ends, other_end}
-use Rattle.link_laws.proofs.TakenLemmas.{IsTaken, here, has_other, other_has, taken_apart, taken_has, taken_least, taken_rising, taken_touches}
+use Rattle.link_laws.proofs.TakenLemmas.{IsTaken, here, has_other, other_has, taken_apart}
+use Rattle.link_laws.proofs.TakenLemmas.{taken_has, taken_least, taken_rising, taken_touches}
 use Rattle.link_laws.proofs.WayLemmas.{AreRings, IsWay, at_start, no_ring, onward, one_more}
 
 -- of the edges those that aren't gone, in order
@@ -88,7 +89,8 @@ rings_linked edges gone es rings (one_more e es₁ rest points rings₁ w h) lef
     ring gone behind.0 e points rings₁ (first_left edges gone es₁ e left) behind.1 (rings_linked edges behind.0 rest rings₁ h behind.2)
 
 -- ---- one list
-one_least : (edges gone : List Ends) (test : Ends → Bool) (e f : Ends) → IsLeastLeft edges gone test e → IsLeastLeft edges gone test f → e ≡ f
+one_least : (edges gone : List Ends) (test : Ends → Bool) (e f : Ends) → IsLeastLeft edges gone test e
+    → IsLeastLeft edges gone test f → e ≡ f
 one_least edges gone test e f h g =
     ⊎_elim (λ (same : e ≡ f). same) (λ (less : IsEdgeBefore e f).
     ⊎_elim (λ (same : f ≡ e). sym same)
@@ -102,7 +104,8 @@ one_way edges start gone at points g (back gone₁) gone' at' points' g' (back g
 one_way edges start gone at points g (back gone₁) gone' at' points' g' (on gone₂ g₂ at₂ e₂ points₂ apart h w) ge ae =
     absurd (apart (sym ae))
 one_way edges start gone at points g (on gone₁ g₁ at₁ e₁ points₁ apart h w) gone' at' points' g' (back gone₂) ge ae = absurd (apart ae)
-one_way edges start gone at points g (on gone₁ g₁ at₁ e₁ points₁ apart h w) gone' at' points' g' (on gone₂ g₂ at₂ e₂ points₂ apart₂ h₂ w₂) ge ae =
+one_way edges start gone at points g (on gone₁ g₁ at₁ e₁ points₁ apart h w) gone' at' points' g'
+    (on gone₂ g₂ at₂ e₂ points₂ apart₂ h₂ w₂) ge ae =
     let least : IsLeastLeft edges gone₁ (touches at₁) e₂ = coe 1 0 (k. IsLeastLeft edges (ge k) (touches (ae k)) e₂) h₂ in
     let same = one_least edges gone₁ (touches at₁) e₁ e₂ h least in
     let rest = one_way edges start (e₁ ∷ gone₁) (other_end at₁ e₁) points₁ g₁ w (e₂ ∷ gone₂) (other_end at₂ e₂) points₂ g₂ w₂
@@ -124,5 +127,6 @@ one_list edges gone rings (ring gone₁ g₁ e₁ points₁ rings₁ least₁ w�
     let others = one_list edges g₁ rings₁ h₁ g₂ rings₂ h₂ walked.1 in
     (λ k. ((same k).0 ∷ walked.0 k) ∷ others k)
 
-pub linked_once : (edges : List Ends) (rings rings' : List (List Point)) → AreLinked edges [] rings → AreLinked edges [] rings' → rings ≡ rings'
+pub linked_once : (edges : List Ends) (rings rings' : List (List Point)) → AreLinked edges [] rings → AreLinked edges [] rings'
+    → rings ≡ rings'
 linked_once edges rings rings' h h' = one_list edges [] rings h [] rings' h' refl

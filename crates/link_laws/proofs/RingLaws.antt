@@ -1,5 +1,6 @@
 -- The rings of rising edges with points in range have three points and more, in range, and no equal neighbours.
-use Rattle.std.proofs.Common.{◌≡◌, ◌≢◌, ◌≤◌, Bool, true, false, cond, ◌||◌, List, [], ◌∷◌, ◌++◌, length, inl, inr, refl, sym, subst, ◌∙◌, arith}
+use Rattle.std.proofs.Common.{◌≡◌, ◌≢◌, ◌≤◌, Bool, true, false, cond, ◌||◌, List, []}
+use Rattle.std.proofs.Common.{◌∷◌, ◌++◌, length, inl, inr, refl, sym, subst, ◌∙◌, arith}
 use Rattle.std.specs.List.{list_all}
 use Rattle.lay_point.specs.declared.point.Point.{Point}
 use Rattle.lay_point.specs.declared.ring.TheConstants.{MAX_RING_POINTS}
@@ -58,7 +59,8 @@ way_some start at es points rest (onward at₁ e es₁ es₂ rest₁ points₁ a
 
 -- back from the greater end of an edge that is walked no more, a way passes two points and more
 way_two : (e : Ends) (at : Point) (es : List Ends) (points : List Point) (rest : List Ends) → IsWay e.0 at es points rest → at ≡ e.1
-    → ¬ (e.0 ≡ e.1) → (¬ (Has es e)) → undirected (e.1, e.0) ≡ e → ((f : Ends) → Has es f → touches at f ≡ true → undirected (at, other_end at f) ≡ f)
+    → ¬ (e.0 ≡ e.1) → (¬ (Has es e)) → undirected (e.1, e.0) ≡ e
+    → ((f : Ends) → Has es f → touches at f ≡ true → undirected (at, other_end at f) ≡ f)
     → 2 ≤ length points
 way_two e at es points rest (at_start es₁) end differ absent itself each = absurd (differ end)
 way_two e at es points rest (onward at₁ f es₁ es₂ rest₁ points₁ apart h w) end differ absent itself each =

@@ -151,7 +151,8 @@ all_sound edges lesser even up fits =
     rings_sound edges (rings_of edges) (all_rings edges lesser even) up lesser
     (λ e m. both_true (is_in_range e.0) (is_in_range e.1) (all_has (λ f. IsTrue (is_in_range f.0 && is_in_range f.1)) edges fits e m))
 
-pub all_linked : (edges : List Ends) → AreUndirected edges → AreEven edges → IsRising IsEdgeBefore edges → AreLinked edges [] (rings_of edges)
+pub all_linked : (edges : List Ends) → AreUndirected edges → AreEven edges → IsRising IsEdgeBefore edges
+    → AreLinked edges [] (rings_of edges)
 all_linked edges lesser even up =
     rings_linked edges [] edges (rings_of edges) (all_rings edges lesser even)
     (record { given = λ f m. m; left = λ f m none. none; all = λ f m n. m; rising = up })

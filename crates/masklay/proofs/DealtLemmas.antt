@@ -1,5 +1,6 @@
 -- Dealt replies are as many lists as there are sessions.
-use Rattle.std.proofs.Common.{◌≡◌, ◌-◌, ◌++◌, ◌≤◌, ℕ, List, [], ◌∷◌, length, max, min, replicate, slice_index_or, slice_set, refl, subst, sym, ◌∙◌, arith}
+use Rattle.std.proofs.Common.{◌≡◌, ◌-◌, ◌++◌, ◌≤◌, ℕ, List, [], ◌∷◌, length, max, min}
+use Rattle.std.proofs.Common.{replicate, slice_index_or, slice_set, refl, subst, sym, ◌∙◌, arith}
 use Rattle.std.proofs.lemmas.List.{length-replicate, length-set}
 use Rattle.session_steps.specs.declared.Reply.{Reply}
 use Rattle.session_steps.specs.Turns.{dealt}

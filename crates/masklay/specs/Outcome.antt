@@ -53,7 +53,8 @@ finished_by sessions order ran =
 -- what becomes of these scripts on this layout, whose steps run in this order
 abbrev pub finished_from : Layout → List (List Step) → List ℕ → Finished
 finished_from base scripts order =
-    finished_by (sessions_for (length scripts)) order (after_steps (start base (sessions_for (length scripts)) MAX_CALLS) (in_turn order scripts))
+    finished_by (sessions_for (length scripts)) order (after_steps (start base (sessions_for (length scripts)) MAX_CALLS)
+    (in_turn order scripts))
 
 -- what becomes of a job whose CIF text means this
 abbrev pub finished_with : List (List Step) → List ℕ → Result Contents CifFault → Result Finished Stop

@@ -35,7 +35,7 @@ open_other s h session other work differ =
 
 -- ---- steps by their cores
 
--- what is told of a step's core
+-- what holds of a step's core
 pub record Told (after : State → ℕ → Step → Reply × State) (core : History → ℕ → Step → Option Transaction → Core) : Type 0 where
   pub is : (s : State) (session : ℕ) (step : Step) → is_session s session ≡ true →
       after s session step ≡ put s session (core s.history session step (open_of s session))

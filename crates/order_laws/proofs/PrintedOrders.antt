@@ -15,7 +15,8 @@ use Rattle.session_core.proofs.MachineLemmas.{ran_all, started}
 use Rattle.job_text.specs.Job.{fits}
 use Rattle.job_text.specs.Order.{is_logged, order_of}
 use Rattle.order_laws.specs.Rearranged as rearranged
-use Rattle.order_laws.specs.Rearranged.{HasMemory, IsKnown, JobsAnswerAlike, LeadsTo, StepsAnswerAlike, StepsComeInTurn, dealt_out, hands_of, scripts_of}
+use Rattle.order_laws.specs.Rearranged.{HasMemory, IsKnown, JobsAnswerAlike, LeadsTo}
+use Rattle.order_laws.specs.Rearranged.{StepsAnswerAlike, StepsComeInTurn, dealt_out, hands_of, scripts_of}
 use Rattle.order_laws.proofs.Events.{Event, Events}
 use Rattle.order_laws.proofs.Swaps.{Swapped, own, own_before}
 use Rattle.order_laws.proofs.Pulling.{names, turned, turns, log_leads}

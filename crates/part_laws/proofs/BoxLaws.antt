@@ -1,5 +1,6 @@
 -- A ring is even about a place outside its box, and boxes with a place in common touch.
-use Rattle.std.proofs.Common.{◌≡◌, ◌⊎◌, inl, inr, Bool, true, false, not, ◌&&◌, ◌||◌, List, [], ◌∷◌, ◌++◌, ℤ, pos, ◌+ℤ◌, ◌-ℤ◌, ◌*ℤ◌, ◌≤ℤ◌, ◌<ℤ◌}
+use Rattle.std.proofs.Common.{◌≡◌, ◌⊎◌, inl, inr, Bool, true, false, not, ◌&&◌, ◌||◌}
+use Rattle.std.proofs.Common.{List, [], ◌∷◌, ◌++◌, ℤ, pos, ◌+ℤ◌, ◌-ℤ◌, ◌*ℤ◌, ◌≤ℤ◌, ◌<ℤ◌}
 use Rattle.std.proofs.Common.{refl, sym, ap, ap₂, subst, ◌∙◌, ⊎_elim, arith}
 use Rattle.std.specs.Prelude.{int_le, int_lt}
 use Rattle.std.proofs.lemmas.Int.{ints, clamps}
@@ -169,7 +170,8 @@ last-back p q [] = refl
 last-back p q (r ∷ rs) = last-back p r rs
 
 -- ---- outside
-even_right : (k x y : ℤ) (ring : List Point) → pos 1 ≤ℤ k → (k *ℤ (box_of ring).1.x) <ℤ x → parity (is_crossed k x y) (edges_of_ring ring) ≡ false
+even_right : (k x y : ℤ) (ring : List Point) → pos 1 ≤ℤ k → (k *ℤ (box_of ring).1.x) <ℤ x
+    → parity (is_crossed k x y) (edges_of_ring ring) ≡ false
 even_right k x y ring scale out = parity_none (is_crossed k x y) (edges_of_ring ring) (λ e m.
     let ends = edge_in ring e m in
     let first = times_le k e.0.x (box_of ring).1.x (omega (arith, linear)) ends.0.right in
@@ -177,7 +179,8 @@ even_right k x y ring scale out = parity_none (is_crossed k x y) (edges_of_ring 
     ap₂ (λ a b. a || b) (rising_missed k x y e.0 e.1 scale (omega (arith, linear)) (omega (arith, linear)))
     (rising_missed k x y e.1 e.0 scale (omega (arith, linear)) (omega (arith, linear))))
 
-even_left : (k x y : ℤ) (ring : List Point) → pos 1 ≤ℤ k → x <ℤ (k *ℤ (box_of ring).0.x) → parity (is_crossed k x y) (edges_of_ring ring) ≡ false
+even_left : (k x y : ℤ) (ring : List Point) → pos 1 ≤ℤ k → x <ℤ (k *ℤ (box_of ring).0.x)
+    → parity (is_crossed k x y) (edges_of_ring ring) ≡ false
 even_left k x y [] scale out = refl
 even_left k x y (p ∷ ps) scale out =
     let ring = p ∷ ps in
@@ -209,9 +212,11 @@ even_level k x y ring scale out = parity_none (is_crossed k x y) (edges_of_ring 
     let high = times_le k e.0.y (box_of ring).1.y (omega (arith, linear)) ends.0.high in
     let high' = times_le k e.1.y (box_of ring).1.y (omega (arith, linear)) ends.1.high in
     ⊎_elim (λ (under : y <ℤ (k *ℤ (box_of ring).0.y)).
-    ap₂ (λ a b. a || b) (level_missed k x y e.0 e.1 (inl (omega (arith, linear)))) (level_missed k x y e.1 e.0 (inl (omega (arith, linear)))))
+    ap₂ (λ a b. a || b) (level_missed k x y e.0 e.1 (inl (omega (arith, linear))))
+    (level_missed k x y e.1 e.0 (inl (omega (arith, linear)))))
     (λ (over : (k *ℤ (box_of ring).1.y) <ℤ y).
-    ap₂ (λ a b. a || b) (level_missed k x y e.0 e.1 (inr (omega (arith, linear)))) (level_missed k x y e.1 e.0 (inr (omega (arith, linear)))))
+    ap₂ (λ a b. a || b) (level_missed k x y e.0 e.1 (inr (omega (arith, linear))))
+    (level_missed k x y e.1 e.0 (inr (omega (arith, linear)))))
     out)
 
 -- a ring is even about a place outside its box

@@ -1,5 +1,6 @@
 -- Heads of those that are joined, their labels, and the division by labels.
-use Rattle.std.proofs.Common.{◌≡◌, ◌≢◌, ◌⊎◌, ◌↔◌, inl, inr, ℕ, zero, suc, ◌+◌, ◌<◌, ◌≤◌, ◌==◌, Bool, true, false, ◌&&◌, cond, List, [], ◌∷◌, ◌++◌, length, map, get_or, set}
+use Rattle.std.proofs.Common.{◌≡◌, ◌≢◌, ◌⊎◌, ◌↔◌, inl, inr, ℕ, zero, suc, ◌+◌, ◌<◌, ◌≤◌, ◌==◌, Bool}
+use Rattle.std.proofs.Common.{true, false, ◌&&◌, cond, List, [], ◌∷◌, ◌++◌, length, map, get_or, set}
 use Rattle.std.proofs.Common.{refl, sym, ap, subst, ◌∙◌, ⊎_elim, arith, length-append}
 use Rattle.std.specs.Prelude.{max, min}
 use Rattle.std.proofs.lemmas.Bool.{cases_lt, false≢true}
@@ -165,10 +166,15 @@ pair_later : (boxes : List Box) (second first a b : ℕ) → AreJoinedUpTo boxes
 pair_later boxes second first a b (joined, less, inl early) = (joined, less, inl early)
 pair_later boxes second first a b (joined, less, inr (same, under)) = (joined, less, inr (same, omega arith))
 
-pub joined_by_boxes : (boxes : List Box) (i j : ℕ) (b c : Box) → i < length boxes → j < length boxes → b ≡ get_or boxes i b → c ≡ get_or boxes j c
+pub joined_by_boxes : (boxes : List Box) (i j : ℕ) (b c : Box) → i < length boxes → j < length boxes → b ≡ get_or boxes i b
+    → c ≡ get_or boxes j c
     → touch b c ≡ true → AreJoined boxes i j
-joined_by_boxes boxes i j b c li lj is_b is_c h =
-    (li, lj, (λ d. (λ k. touch (get_or_default boxes i d b li k) (get_or_default boxes j d c lj k)) ∙ (λ k. touch (sym is_b k) (sym is_c k)) ∙ h))
+joined_by_boxes boxes i j b c li lj is_b is_c h = (
+  li,
+  lj,
+  (λ d. (λ k. touch (get_or_default boxes i d b li k) (get_or_default boxes j d c lj k))
+      ∙ (λ k. touch (sym is_b k) (sym is_c k)) ∙ h),
+)
 
 pub pair_united : (boxes : List Box) (second first : ℕ) (heads heads' : List ℕ) (b c : Box) → first < second → second < length boxes
     → b ≡ get_or boxes first b → c ≡ get_or boxes second c → touch b c ≡ true
@@ -183,9 +189,11 @@ pair_united boxes second first heads heads' b c less inside is_b is_c touching h
 
 pub pair_apart : (boxes : List Box) (second first : ℕ) (heads : List ℕ) (b c : Box) → first < second → second < length boxes
     → b ≡ get_or boxes first b → c ≡ get_or boxes second c → touch b c ≡ false
-    → IsFinest (AreJoinedUpTo boxes second first) (length boxes) heads → IsFinest (AreJoinedUpTo boxes second (first + 1)) (length boxes) heads
+    → IsFinest (AreJoinedUpTo boxes second first) (length boxes) heads
+    → IsFinest (AreJoinedUpTo boxes second (first + 1)) (length boxes) heads
 pair_apart boxes second first heads b c less inside is_b is_c apart h =
-    finest_of_same (AreJoinedUpTo boxes second first) (AreJoinedUpTo boxes second (first + 1)) (length boxes) heads h (pair_later boxes second first)
+    finest_of_same (AreJoinedUpTo boxes second first) (AreJoinedUpTo boxes second (first + 1)) (length boxes) heads h
+    (pair_later boxes second first)
     (λ x y g. ⊎_elim (λ (old : AreJoinedUpTo boxes second first x y). h.joined x y old)
     (λ (new : (x ≡ first) × (y ≡ second)).
     let li : first < length boxes = omega arith in
@@ -200,7 +208,12 @@ pub pairs_done : (boxes : List Box) (second : ℕ) (heads : List ℕ) → IsFine
     → IsFinest (AreJoinedUpTo boxes (second + 1) 0) (length boxes) heads
 pairs_done boxes second heads h =
     finest_of_same (AreJoinedUpTo boxes second second) (AreJoinedUpTo boxes (second + 1) 0) (length boxes) heads h
-    (λ a b g. (g.0, g.1, ⊎_elim (λ (early : b < second). inl (omega arith)) (λ (tie : (b ≡ second) × (a < second)). inl (omega (arith, tie.0))) g.2))
+    (λ a b g. (
+      g.0,
+      g.1,
+      ⊎_elim (λ (early : b < second). inl (omega arith))
+          (λ (tie : (b ≡ second) × (a < second)). inl (omega (arith, tie.0))) g.2,
+    ))
     (λ a b g. h.joined a b (
       g.0,
       g.1,
@@ -217,14 +230,20 @@ and_turned false true = refl
 and_turned false false = refl
 
 -- all pairs
-pub all_pairs_done : (boxes : List Box) (n : ℕ) (heads : List ℕ) → length boxes ≤ n → IsFinest (AreJoinedUpTo boxes n 0) (length boxes) heads
+pub all_pairs_done : (boxes : List Box) (n : ℕ) (heads : List ℕ) → length boxes ≤ n
+    → IsFinest (AreJoinedUpTo boxes n 0) (length boxes) heads
     → IsFinest (AreJoined boxes) (length boxes) heads
 all_pairs_done boxes n heads all h =
     finest_of_same (AreJoinedUpTo boxes n 0) (AreJoined boxes) (length boxes) heads h (λ a b g. g.0)
     (λ a b g. ⊎_elim (λ (less : a < b). h.joined a b (g, less, inl (omega (arith, g.1))))
     (λ (le : b ≤ a). ⊎_elim
     (λ (more : b < a). sym (h.joined b a (
-      (g.1, g.0, (λ d. and_turned (is_up_to (get_or boxes b d).0 (get_or boxes a d).1) (is_up_to (get_or boxes a d).0 (get_or boxes b d).1) ∙ g.2 d)),
+      (
+        g.1,
+        g.0,
+        (λ d. and_turned (is_up_to (get_or boxes b d).0 (get_or boxes a d).1)
+            (is_up_to (get_or boxes a d).0 (get_or boxes b d).1) ∙ g.2 d),
+      ),
       more,
       inl (omega (arith, g.0)),
     )))
@@ -345,7 +364,12 @@ module _ (heads : List ℕ) (first : AreFirst heads) (n : ℕ) (inside : n < len
     numbered_old = record {
       each = ap length pushed ∙ length-append labels (l ∷ []) ∙ omega (arith, h.each);
       within = λ i lt. ⊎_elim (λ (b : i < n). omega (arith, before' i b, h.within i b))
-          (λ (ge : n ≤ i). let at : i ≡ n = omega arith in omega (arith, ap label' at, here', h.within (get_or heads n 0) head_before)) (cases_lt i n);
+          (λ (ge : n ≤ i). let at : i ≡ n = omega arith in omega (
+            arith,
+            ap label' at,
+            here',
+            h.within (get_or heads n 0) head_before,
+          )) (cases_lt i n);
       same = same_old;
       ordered = λ i p lt under. ⊎_elim
           (λ (b : i < n). let r = h.ordered i p b (omega (arith, before' i b)) in (r.0, r.1, before' r.0 (omega (arith, r.1)) ∙ r.2))

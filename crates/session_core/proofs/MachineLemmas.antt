@@ -1,6 +1,7 @@
 -- A machine keeps what it keeps, step after step.
 use Rattle.std.proofs.Common.{◌≡◌, ◌≢◌, ℕ, ◌+◌, ◌-◌, ◌<◌, ◌≤◌, Bool, true, false, ◌&&◌, cond, List, [], ◌∷◌, ◌++◌, length, nat_eq}
-use Rattle.std.proofs.Common.{nat_le, Option, None, Some, Result, Ok, Err, OnErr, OnOk, not, drop, slice_index_or, slice_set, inl, inr, refl, ap}
+use Rattle.std.proofs.Common.{nat_le, Option, None, Some, Result, Ok, Err, OnErr, OnOk}
+use Rattle.std.proofs.Common.{not, drop, slice_index_or, slice_set, inl, inr, refl, ap}
 use Rattle.std.proofs.Common.{sym, ◌∙◌, subst, arith, zero, suc, replicate}
 use Rattle.std.proofs.lemmas.Bool.{and_parts, cases_Bool, cases_eq, or_parts}
 use Rattle.std.proofs.lemmas.Bool.Decides.{nat_tests}
@@ -42,7 +43,8 @@ use Rattle.undo_rules.specs.Steps as book
 use Rattle.undo_rules.specs.declared.log.Call.{Call}
 use Rattle.session_core.specs.Commits.{reply_of, work_of}
 use Rattle.undo_rules.specs.Steps.{after_redo, after_undo, redo_refusal, undo_refusal, unless}
-use Rattle.undo_rules.specs.Steps.{after_open, after_stale, commit_own, commit_step, commit_unless, ended_state, is_log_full, is_own, is_pending}
+use Rattle.undo_rules.specs.Steps.{after_open, after_stale, commit_own, commit_step}
+use Rattle.undo_rules.specs.Steps.{commit_unless, ended_state, is_log_full, is_own, is_pending}
 use Rattle.undo_rules.specs.Steps.{logged, open_step, opening, redo_step, stale_by, state_of, undo_step, unused}
 use Rattle.undo_book.specs.Calls as held
 use Rattle.undo_book.specs.Calls.{TakesWork, handed_back, refused, with_work as with_answer}
@@ -375,7 +377,8 @@ stays : (s : State) (new : History) (session : ℕ) (txn : Transaction) → open
     with_work s new session (Some txn) ≡ s
 stays s new session txn found same =
     ap (λ h. with_work s h session (Some txn)) same
-    ∙ ap (λ w. record { history = s.history; works = w }) (ap (slice_set s.works (session - 1)) (sym found) ∙ set-get_or s.works (session - 1) None)
+    ∙ ap (λ w. record { history = s.history; works = w }) (ap (slice_set s.works (session - 1)) (sym found)
+    ∙ set-get_or s.works (session - 1) None)
 
 pub commits_so : (s : State) (new : History) (session place : ℕ) (txn : Transaction) (result : Result TxnId CommitRefusal) →
     open_of s session ≡ Some txn → place < 64 → IsOpen s.history place txn →
@@ -438,7 +441,8 @@ commits_so s new session place txn result found few is_open takes full = by_log 
   by_log false e = by_stale e (stale_by h.entries txn.footprint (drop (txn.opened + 1) h.log)) refl
 
 -- what is left is a state of a machine
-pub left_state : (h new : History) (works : Works) (place : ℕ) (txn : Transaction) (work : Option Transaction) → IsState (with_works h works) →
+pub left_state : (h new : History) (works : Works) (place : ℕ) (txn : Transaction) (work : Option Transaction)
+    → IsState (with_works h works) →
     place < length works → Left h new place txn work → IsState (with_works new (slice_set works place work))
 left_state h new works place txn work kept inside left =
     state_with h new works place work kept inside (left.sessions ∙ kept.sessions) left.others left.own

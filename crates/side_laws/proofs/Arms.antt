@@ -22,7 +22,8 @@ use Rattle.side_laws.proofs.Slide.{rising_only, starts}
 -- ---- places on a level edge
 level_on : (p q : Point) (k x y : ℤ) → p.y ≡ q.y → y ≡ k *ℤ q.y → IsBetween (k *ℤ p.x) x (k *ℤ q.x) → IsOn p q k x y
 level_on p q k x y level height between = record {
-  line = flat (x -ℤ k *ℤ p.x) (q.y -ℤ p.y) (y -ℤ k *ℤ p.y) (q.x -ℤ p.x) (omega (arith, linear, level)) (omega (arith, linear, height, same));
+  line = flat (x -ℤ k *ℤ p.x) (q.y -ℤ p.y) (y -ℤ k *ℤ p.y) (q.x -ℤ p.x) (omega (arith, linear, level))
+      (omega (arith, linear, height, same));
   column = between;
   row = inl (omega (arith, linear, height, same), omega (arith, linear, height));
 }
@@ -31,7 +32,8 @@ level_on p q k x y level height between = record {
     same = ap (λ z. k *ℤ z) level
 
     flat : (a b c d : ℤ) → b ≡ pos 0 → c ≡ pos 0 → a *ℤ b ≡ c *ℤ d
-    flat a b c d eb ec = ap (λ z. a *ℤ z) eb ∙ identity (a ∷ d ∷ []) (# 0 ⊗ lit (pos 0)) (lit (pos 0) ⊗ # 1) refl ∙ ap (λ z. z *ℤ d) (sym ec)
+    flat a b c d eb ec =
+        ap (λ z. a *ℤ z) eb ∙ identity (a ∷ d ∷ []) (# 0 ⊗ lit (pos 0)) (lit (pos 0) ⊗ # 1) refl ∙ ap (λ z. z *ℤ d) (sym ec)
 
 pub one_times : (z : ℤ) → pos 1 *ℤ z ≡ z
 one_times z = identity (z ∷ []) (lit (pos 1) ⊗ # 0) (# 0) refl
@@ -184,14 +186,24 @@ middle_left u v f level less up meet =
     (λ (outside : right_of_point v f <ℤ pos 0).
     let gap = positive_product (v.x -ℤ u.x) w (omega (arith, linear)) (omega (arith, linear, c.0.low, c.0.high)) in
     absurd (inside_level u v f.0 f.1 level c.0.low (omega (arith, linear, c.0.high)) (omega (arith, linear, c.0.low, c.0.high)) meet
-    (inl (omega (arith, linear, there_x v f.0 f.1, middle, flat, c.1, gap, spread v.x u.x w), omega (arith, linear, there_x v f.0 f.1, outside)))))
+    (inl (
+      omega (arith, linear, there_x v f.0 f.1, middle, flat, c.1, gap, spread v.x u.x w),
+      omega (arith, linear, there_x v f.0 f.1, outside),
+    ))))
     (λ (on : pos 0 ≤ℤ right_of_point v f). on)
     (below_or_not (right_of_point v f) (pos 0)))))
     (λ t.
     let both = both_true (in_row v.y f) (int_le (pos 0) (right_of_point v f)) t in
     let s = row_spans v.y f both.0 in
     let gap = positive_product (v.x -ℤ u.x) w (omega (arith, linear)) (omega (arith, linear, s.low, s.high)) in
-    spans_crossed v.y (pos 2) (u.x +ℤ v.x) (u.y +ℤ v.y) f q s (omega (arith, linear, middle, flat, gap, zero_le (right_of_point v f) both.1)))
+    spans_crossed v.y (pos 2) (u.x +ℤ v.x) (u.y +ℤ v.y) f q s (omega (
+      arith,
+      linear,
+      middle,
+      flat,
+      gap,
+      zero_le (right_of_point v f) both.1,
+    )))
 
 -- to the right of the middle of one that comes from the right: what is behind the point
 pub middle_right : (u v : Point) (f : Edge) → u.y ≡ v.y → v.x <ℤ u.x → f.0.y ≤ℤ f.1.y → MeetAtEnds (u, v) f
@@ -258,7 +270,8 @@ not_nested u u' v level level' order meet =
     near (inl h) = inl (omega (arith, linear, h.1), omega (arith, linear, h.1))
     near (inr h) = inr (omega (arith, linear, h.1), omega (arith, linear, h.1))
 
-    not_end : ((u.x ≤ℤ u'.x) × (u'.x <ℤ v.x)) ⊎ ((u'.x ≤ℤ u.x) × (v.x <ℤ u'.x)) → (e : Point) → IsEnd e u' v → u'.x +ℤ v.x ≡ pos 2 *ℤ e.x → ⊥
+    not_end : ((u.x ≤ℤ u'.x) × (u'.x <ℤ v.x)) ⊎ ((u'.x ≤ℤ u.x) × (v.x <ℤ u'.x)) → (e : Point) → IsEnd e u' v
+        → u'.x +ℤ v.x ≡ pos 2 *ℤ e.x → ⊥
     not_end (inl h) e (inl same) at = let there = at ∙ ap (λ (p : Point). pos 2 *ℤ p.x) same in omega (arith, linear, there, h.1)
     not_end (inl h) e (inr same) at = let there = at ∙ ap (λ (p : Point). pos 2 *ℤ p.x) same in omega (arith, linear, there, h.1)
     not_end (inr h) e (inl same) at = let there = at ∙ ap (λ (p : Point). pos 2 *ℤ p.x) same in omega (arith, linear, there, h.1)

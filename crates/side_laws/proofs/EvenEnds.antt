@@ -132,7 +132,8 @@ module _ {W : Type 0} (counts : (Point × Point) × W → Bool) (items : List ((
 
   ends_of : (ps : List ((Point × Point) × W)) (p : (Point × Point) × W) → Has ps p → Has (ends ps) p.0.0 × Has (ends ps) p.0.1
   ends_of [] p m = absurd m
-  ends_of (q ∷ ps) p (inl same) = (inl (ap (λ (r : (Point × Point) × W). r.0.0) same), inr (inl (ap (λ (r : (Point × Point) × W). r.0.1) same)))
+  ends_of (q ∷ ps) p (inl same) =
+      (inl (ap (λ (r : (Point × Point) × W). r.0.0) same), inr (inl (ap (λ (r : (Point × Point) × W). r.0.1) same)))
   ends_of (q ∷ ps) p (inr m) = let further = ends_of ps p m in (inr (inr further.0), inr (inr further.1))
 
   and_true : (a b : Bool) → a ≡ true → (a && b) ≡ b

@@ -172,7 +172,8 @@ module _ (v a b : Point) (rises : a.y <ℤ b.y) (side : ℤ → Bool) (point : �
 
   both_rows : a.y <ℤ v.y → v.y <ℤ b.y → here v.y ≡ here (v.y -ℤ pos 1)
   both_rows low high = ap (λ t. t && side (right_of_point v (a, b)))
-      (row_true v.y (a, b) (omega (arith, linear)) high ∙ sym (row_true (v.y -ℤ pos 1) (a, b) (omega (arith, linear)) (omega (arith, linear))))
+      (row_true v.y (a, b) (omega (arith, linear)) high ∙ sym (row_true (v.y -ℤ pos 1) (a, b) (omega (arith, linear))
+      (omega (arith, linear))))
 
   pub rows_and_ends : xor (at a) (at b) ≡ xor (here v.y) (here (v.y -ℤ pos 1))
   rows_and_ends = ⊎_elim
@@ -204,7 +205,8 @@ level_or_rises : (f : Edge) → f.0.y ≤ℤ f.1.y → (f.0.y ≡ f.1.y) ⊎ (f.
 level_or_rises f le = ⊎_elim (λ (less : f.0.y <ℤ f.1.y). inr less) (λ (e : f.0.y ≡ f.1.y). inl e) (below_or_same f.0.y f.1.y le)
 
 pub level_no_row : (r : ℤ) (f : Edge) → f.0.y ≡ f.1.y → in_row r f ≡ false
-level_no_row r f e = ⊎_elim (λ (less : r <ℤ f.0.y). row_false r f (inl less)) (λ (le : f.0.y ≤ℤ r). row_false r f (inr (omega (arith, linear, e))))
+level_no_row r f e =
+    ⊎_elim (λ (less : r <ℤ f.0.y). row_false r f (inl less)) (λ (le : f.0.y ≤ℤ r). row_false r f (inr (omega (arith, linear, e))))
     (below_or_not r f.0.y)
 
 pub ends_from_here : (v : Point) (f : Edge) → f.0.y ≤ℤ f.1.y
@@ -241,7 +243,8 @@ here_or_behind v u = by_test (int_eq u.y v.y)
   where
     by_x : xor (int_le v.x u.x) (int_lt v.x u.x) ≡ int_eq u.x v.x
     by_x = ⊎_elim
-        (λ (less : v.x <ℤ u.x). ap₂ xor (le_yes (omega (arith, linear))) (lt_yes less) ∙ sym (same_false u.x v.x (λ e. omega (arith, linear, e))))
+        (λ (less : v.x <ℤ u.x). ap₂ xor (le_yes (omega (arith, linear))) (lt_yes less)
+        ∙ sym (same_false u.x v.x (λ e. omega (arith, linear, e))))
         (λ (le : u.x ≤ℤ v.x). ⊎_elim
         (λ (more : u.x <ℤ v.x). ap₂ xor (le_no more) (lt_no le) ∙ sym (same_false u.x v.x (λ e. omega (arith, linear, e))))
         (λ (e : u.x ≡ v.x). ap₂ xor (le_yes (omega (arith, linear, e))) (lt_no le) ∙ sym (same_true u.x v.x e))

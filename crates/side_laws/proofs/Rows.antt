@@ -272,4 +272,12 @@ pub fraction_lt : (kp xp km xm kq xq : ℤ) → pos 0 <ℤ kp → pos 0 <ℤ km 
 fraction_lt kp xp km xm kq xq hp hm hq first second =
     let a = times_lt kq (km *ℤ xp) (kp *ℤ xm) hq first in
     let b = times_lt kp (kq *ℤ xm) (km *ℤ xq) hp second in
-    cancel_lt km (kq *ℤ xp) (kp *ℤ xq) (omega (arith, linear)) (omega (arith, linear, a, b, factors kq km xp, factors kq kp xm, factors kp km xq))
+    cancel_lt km (kq *ℤ xp) (kp *ℤ xq) (omega (arith, linear)) (omega (
+      arith,
+      linear,
+      a,
+      b,
+      factors kq km xp,
+      factors kq kp xm,
+      factors kp km xq,
+    ))

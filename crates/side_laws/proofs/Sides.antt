@@ -5,7 +5,8 @@ use Rattle.std.proofs.Common.{◌≡◌, inl, inr, true, false, [], ◌∷◌, �
 use Rattle.int_laws.proofs.Polynomials.{#, lit, ◌⊕◌, ◌⊖◌, ◌⊗◌, identity}
 use Rattle.std.specs.Prelude.{int_lt}
 use Rattle.std.proofs.lemmas.Int.{ints}
-use Rattle.int_laws.proofs.Signs.{below_or_not, below_or_same, cancel_lt, cancel_same, linear, nonnegative_product, positive_product, times_le}
+use Rattle.int_laws.proofs.Signs.{below_or_not, below_or_same, cancel_lt, cancel_same}
+use Rattle.int_laws.proofs.Signs.{linear, nonnegative_product, positive_product, times_le}
 use Rattle.lay_point.specs.declared.point.Point.{Point}
 use Rattle.lay_point.specs.Parity.{distance_right}
 use Rattle.edge_test.specs.Edges.{IsBetween, IsEnd, IsOn}
@@ -94,15 +95,18 @@ pub common_end : (a b c d : Point) (m l : ℤ) → MeetAtEnds (a, b) (c, d) → 
 common_end a b c d m l meet rises hm hl scale low high zero_ =
     let h = b.y -ℤ a.y in
     let positive : pos 0 <ℤ h = omega (arith, linear) in
-    let on_second = mixed_on c d (h *ℤ m) (h *ℤ l) (nonnegative_product h m (omega (arith, linear)) hm) (nonnegative_product h l (omega (arith, linear)) hl) in
+    let on_second = mixed_on c d (h *ℤ m) (h *ℤ l) (nonnegative_product h m (omega (arith, linear)) hm)
+    (nonnegative_product h l (omega (arith, linear)) hl) in
     let first = mixed_on a b ((m +ℤ l) *ℤ b.y -ℤ mixed m l c.y d.y) (mixed m l c.y d.y -ℤ (m +ℤ l) *ℤ a.y)
     (omega (arith, linear)) (omega (arith, linear)) in
-    let same_x : mixed ((m +ℤ l) *ℤ b.y -ℤ mixed m l c.y d.y) (mixed m l c.y d.y -ℤ (m +ℤ l) *ℤ a.y) a.x b.x ≡ mixed (h *ℤ m) (h *ℤ l) c.x d.x =
+    let same_x : mixed ((m +ℤ l) *ℤ b.y -ℤ mixed m l c.y d.y) (mixed m l c.y d.y -ℤ (m +ℤ l) *ℤ a.y) a.x b.x
+    ≡ mixed (h *ℤ m) (h *ℤ l) c.x d.x =
     omega (arith, linear, place_x a b c d m l, zero_) in
     let on_first = coe 0 1 (i. IsOn a b (place_k a b c d m l i) (same_x i) (place_y a b c d m l i)) first in
     let whole = positive_product h (m +ℤ l) positive (omega (arith, linear)) in
     let split : h *ℤ (m +ℤ l) ≡ h *ℤ m +ℤ h *ℤ l = identity (h ∷ m ∷ l ∷ []) (# 0 ⊗ (# 1 ⊕ # 2)) (# 0 ⊗ # 1 ⊕ # 0 ⊗ # 2) refl in
-    let shared = meet (h *ℤ m +ℤ h *ℤ l) (mixed (h *ℤ m) (h *ℤ l) c.x d.x) (mixed (h *ℤ m) (h *ℤ l) c.y d.y) (omega (arith, linear, whole, split))
+    let shared = meet (h *ℤ m +ℤ h *ℤ l) (mixed (h *ℤ m) (h *ℤ l) c.x d.x) (mixed (h *ℤ m) (h *ℤ l) c.y d.y)
+    (omega (arith, linear, whole, split))
     on_first on_second in
     record {
       end = shared.end;
@@ -121,7 +125,8 @@ right_between a b c d m l m' l' x y =
     identity (a.x ∷ a.y ∷ b.x ∷ b.y ∷ c.x ∷ c.y ∷ d.x ∷ d.y ∷ m ∷ l ∷ m' ∷ l' ∷ x ∷ y ∷ [])
     (((M ⊕ L) ⊗ # 0 ⊖ (M ⊗ # 4 ⊕ L ⊗ # 6)) ⊗ (# 3 ⊖ # 1) ⊕ ((M ⊗ # 5 ⊕ L ⊗ # 7) ⊖ (M ⊕ L) ⊗ # 1) ⊗ (# 2 ⊖ # 0))
     (# 12 ⊗ (((# 8 ⊕ # 9) ⊗ # 0 ⊖ (# 8 ⊗ # 4 ⊕ # 9 ⊗ # 6)) ⊗ (# 3 ⊖ # 1) ⊕ ((# 8 ⊗ # 5 ⊕ # 9 ⊗ # 7) ⊖ (# 8 ⊕ # 9) ⊗ # 1) ⊗ (# 2 ⊖ # 0))
-    ⊕ # 13 ⊗ (((# 10 ⊕ # 11) ⊗ # 0 ⊖ (# 10 ⊗ # 4 ⊕ # 11 ⊗ # 6)) ⊗ (# 3 ⊖ # 1) ⊕ ((# 10 ⊗ # 5 ⊕ # 11 ⊗ # 7) ⊖ (# 10 ⊕ # 11) ⊗ # 1) ⊗ (# 2 ⊖ # 0))) refl
+    ⊕ # 13 ⊗ (((# 10 ⊕ # 11) ⊗ # 0 ⊖ (# 10 ⊗ # 4 ⊕ # 11 ⊗ # 6)) ⊗ (# 3 ⊖ # 1) ⊕ ((# 10 ⊗ # 5 ⊕ # 11 ⊗ # 7) ⊖ (# 10 ⊕ # 11) ⊗ # 1) ⊗
+    (# 2 ⊖ # 0))) refl
 
 -- a combination of what two places have
 height_between : (m l m' l' x y c d : ℤ)
@@ -279,7 +284,8 @@ end_not_inside a b v (inr same) low high = let e = ap (λ (p : Point). p.y) same
 -- no place of the other edge there is on the edge
 pub not_on : (a b c d : Point) (m l : ℤ) → MeetAtEnds (a, b) (c, d) → a.y <ℤ b.y → IsInside a b c d m l → right_of a b c d m l ≡ pos 0 → ⊥
 not_on a b c d m l meet rises h zero_ =
-    let common = common_end a b c d m l meet rises h.first h.second h.scale (omega (arith, linear, h.above)) (omega (arith, linear, h.below)) zero_ in
+    let common = common_end a b c d m l meet rises h.first h.second h.scale (omega (arith, linear, h.above))
+    (omega (arith, linear, h.below)) zero_ in
     let scale : pos 0 ≤ℤ (m +ℤ l) = omega (arith, linear, h.scale) in
     end_not_inside a b common.end common.of_first
     (cancel_lt (m +ℤ l) a.y common.end.y scale (omega (arith, linear, h.above, common.height)))

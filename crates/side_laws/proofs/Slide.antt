@@ -47,7 +47,8 @@ starts k y c = int_le (k *ℤ c.y) y
 pub rising_only : (k x y : ℤ) (c d : Point) → pos 1 ≤ℤ k → c.y ≤ℤ d.y
     → is_crossed k x y (c, d) ≡ (starts k y c && not (starts k y d) && int_lt (pos 0) (distance_right k x y c d))
 rising_only k x y c d scale rises =
-    ap (λ b. is_crossed_rising k x y c d || b) (falling (starts k y d) (int_lt y (k *ℤ c.y)) (int_lt (pos 0) (distance_right k x y d c)) (λ low high.
+    ap (λ b. is_crossed_rising k x y c d || b) (falling (starts k y d) (int_lt y (k *ℤ c.y))
+    (int_lt (pos 0) (distance_right k x y d c)) (λ low high.
     let first = le_true (k *ℤ d.y) y low in
     let up = times_le k c.y d.y (omega (arith, linear)) rises in
     above_or first (omega (arith, linear)) high))
@@ -285,7 +286,8 @@ module _ (a b c d : Point) (k x y k' x' y' : ℤ) (rises : a.y <ℤ b.y) (up : c
 -- the edge itself isn't crossed there, and its ends are outside
 module _ (a b : Point) (k x y k' x' y' : ℤ) (rises : a.y <ℤ b.y) (q : IsPlaceInside a b k x y) (q' : IsPlaceInside a b k' x' y') where
   not_itself : (k x y : ℤ) → IsPlaceInside a b k x y → is_crossed k x y (a, b) ≡ false
-  not_itself k x y h = rising_only k x y a b h.scale (omega (arith, linear)) ∙ none (starts k y a && not (starts k y b)) (distance_right k x y a b) h.on
+  not_itself k x y h =
+      rising_only k x y a b h.scale (omega (arith, linear)) ∙ none (starts k y a && not (starts k y b)) (distance_right k x y a b) h.on
     where
       none : (s : Bool) (z : ℤ) → z ≡ pos 0 → (s && int_lt (pos 0) z) ≡ false
       none true z e = grind (arith, ints)

@@ -1,6 +1,7 @@
 -- A sorted list, gone from its start, where an element is put behind those kept so far, or takes away the last of them if it is the
 -- same: what is kept in the end is what is there an odd number of times.
-use Rattle.std.proofs.Common.{◌≡◌, ◌≢◌, ◌↔◌, ◌⊎◌, ⊎_elim, inl, inr, ℕ, zero, suc, ◌+◌, ◌-◌, ◌<◌, Bool, true, false, cond, List, [], ◌∷◌, ◌++◌}
+use Rattle.std.proofs.Common.{◌≡◌, ◌≢◌, ◌↔◌, ◌⊎◌, ⊎_elim, inl, inr, ℕ, zero, suc, ◌+◌}
+use Rattle.std.proofs.Common.{◌-◌, ◌<◌, Bool, true, false, cond, List, [], ◌∷◌, ◌++◌}
 use Rattle.std.proofs.Common.{length, get_or, take, refl, sym, ap, ◌∙◌, subst, arith, Contains, Decides}
 use Rattle.std.specs.Prelude.{IsTrue, Some, not, slice_get}
 use Rattle.std.specs.List.{sum_by}

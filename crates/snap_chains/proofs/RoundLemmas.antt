@@ -63,7 +63,8 @@ neighbours_differ rings walks h w m = differ_by_pairs w (λ c d n.
     ends_differ e.s c d
     (edge_of_neighbours (IsHot h.segments) e.s e.chain c d e.is_chain (has (pairs e.chain) (c, d) e.neighbours)).below)
 
-pub all_neighbours_differ : (rings : List (Owner × List Point)) (walks : List (Vec Point Global)) → AreRounded rings (map (λ w. w.items) walks)
+pub all_neighbours_differ : (rings : List (Owner × List Point)) (walks : List (Vec Point Global))
+    → AreRounded rings (map (λ w. w.items) walks)
     → All (λ w. NeighboursDiffer w.items) walks
 all_neighbours_differ rings walks h k d lt =
     neighbours_differ rings (map (λ w. w.items) walks) h (get_or walks k d).items
@@ -79,7 +80,8 @@ visited (r ∷ rings) (w ∷ walks) e =
     map-append (λ (v : Visit). v.edge) (visits_by r.0 w) (visits_of rings walks)
     ∙ ap₂ (λ a b. a ++ b) (edges_by (pairs w)) (visited rings walks (omega (arith, e)))
   where
-    edges_by : (ps : List (Point × Point)) → map (λ (v : Visit). v.edge) (map (λ p. record { edge = undirected p; owner = r.0 }) ps) ≡ map undirected ps
+    edges_by : (ps : List (Point × Point)) → map (λ (v : Visit). v.edge) (map (λ p. record { edge = undirected p; owner = r.0 }) ps)
+        ≡ map undirected ps
     edges_by [] = refl
     edges_by (p ∷ ps) = ap (λ l. undirected p ∷ l) (edges_by ps)
 
@@ -120,7 +122,8 @@ visits_by_owner o e (r ∷ rings) (w ∷ walks) =
     by_test : (b : Bool) (rest : List (List Point))
         → xor (parity (λ p. same_edge e (undirected p) && b) (pairs w)) (is_owned rest e) ≡ is_owned (cond b (w ∷ rest) rest) e
     by_test true rest =
-        ap (λ q. xor q (is_owned rest e)) (parity_agree (λ p. same_edge e (undirected p) && true) (λ p. same_edge e (undirected p)) (pairs w)
+        ap (λ q. xor q (is_owned rest e)) (parity_agree (λ p. same_edge e (undirected p) && true) (λ p. same_edge e (undirected p))
+        (pairs w)
         (λ p m. and-true (same_edge e (undirected p))) ∙ sym (parity-map (same_edge e) undirected (pairs w)))
         ∙ sym (parity-append (same_edge e) (map undirected (pairs w)) (edges_of undirected rest))
     by_test false rest =
@@ -152,7 +155,8 @@ owners_by_visits rings walks odd edges owners exact = zip_by (AreVisitors odd) (
     }) edges owners
 
 -- what comes of the visits, where the slices that calls lend are these lists
-pub round_of : (rings : List (Owner × List Point)) (walks : List (List Point)) (visits visits' : List Visit) (edges edges' : List (Point × Point))
+pub round_of : (rings : List (Owner × List Point)) (walks : List (List Point)) (visits visits' : List Visit)
+    (edges edges' : List (Point × Point))
     (odd odd' : List Visit) (owners : List (List Owner)) → AreRounded rings walks → visits ≡ visits_of rings walks
     → visits' ≡ visits → edges' ≡ edges → odd' ≡ odd
     → IsRising IsEdgeBefore edges → ((e : Point × Point) → Contains edges e ↔ Contains (map (λ (v : Visit). v.edge) visits') e)
@@ -190,7 +194,8 @@ list_has o (p ∷ owners) (inr m) = or-true (owner_eq p o) (is_listed o owners) 
 module _ (rings : List (Owner × List Point)) (walks : List (List Point)) where
   parity_listed : (o : Owner) (v : Point) (edges : List (Point × Point)) (owners : List (List Owner))
       → AllZip (AreOwnersOf rings walks) edges owners
-      → parity (λ p. is_listed o p.1 && touches v p.0) (zip edges owners) ≡ parity (λ e. is_owned (walks_of o rings walks) e && touches v e) edges
+      → parity (λ p. is_listed o p.1 && touches v p.0) (zip edges owners)
+      ≡ parity (λ e. is_owned (walks_of o rings walks) e && touches v e) edges
   parity_listed o v [] [] h = refl
   parity_listed o v [] (own ∷ owners) h = refl
   parity_listed o v (e ∷ edges) [] h = absurd h
@@ -213,7 +218,8 @@ walk_inside o [] walks w m = absurd m
 walk_inside o (r ∷ rings) [] w m = absurd m
 walk_inside o (r ∷ rings) (v ∷ walks) w m = by_test (walk_inside o rings walks w) (owner_eq r.0 o) m
   where
-    by_test : (Has (walks_of o rings walks) w → Has walks w) → (b : Bool) → Has (cond b (v ∷ walks_of o rings walks) (walks_of o rings walks)) w
+    by_test : (Has (walks_of o rings walks) w → Has walks w) → (b : Bool)
+        → Has (cond b (v ∷ walks_of o rings walks) (walks_of o rings walks)) w
         → Has (v ∷ walks) w
     by_test later true (inl e) = inl e
     by_test later true (inr n) = inr (later n)

@@ -1,5 +1,6 @@
 -- Of visits in order those of one edge are neighbours; their owners are in order.
-use Rattle.std.proofs.Common.{◌≡◌, ◌↔◌, ◌⊎◌, ⊎_elim, inl, inr, ℕ, zero, suc, ◌+◌, ◌-◌, ◌<◌, ◌≤◌, List, [], ◌∷◌, length, map, get_or, take, drop}
+use Rattle.std.proofs.Common.{◌≡◌, ◌↔◌, ◌⊎◌, ⊎_elim, inl, inr, ℕ, zero, suc, ◌+◌, ◌-◌}
+use Rattle.std.proofs.Common.{◌<◌, ◌≤◌, List, [], ◌∷◌, length, map, get_or, take, drop}
 use Rattle.std.proofs.Common.{Bool, true, false, refl, sym, ap, ◌∙◌, subst, arith, Contains}
 use Rattle.std.specs.Prelude.{slice_range}
 use Rattle.std.specs.declared.cmp.Ordering.{Ordering}
@@ -122,7 +123,8 @@ module _ (e : Point × Point) (vs : List Visit) (up : IsRising IsVisitBefore vs)
     pub places_in_order : from ≤ to
     places_in_order = ⊎_elim
         (λ (wrong : to < from). let inside : to < length vs = omega (arith, wrong, p.inside) in
-        absurd (not_both (edge_cmp (get_or vs to any).edge e) (p.early.0 to any (omega arith) wrong) (p.late.1 to any (omega arith) inside)))
+        absurd (not_both (edge_cmp (get_or vs to any).edge e) (p.early.0 to any (omega arith) wrong)
+        (p.late.1 to any (omega arith) inside)))
         (λ (right : from ≤ to). right)
         (cases_lt to from)
       where

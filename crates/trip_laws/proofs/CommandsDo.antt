@@ -1,5 +1,6 @@
 -- What the commands of written lines lead to.
-use Rattle.std.proofs.Common.{◌≡◌, ℕ, ◌≤◌, ◌<◌, true, false, cond, List, [], ◌∷◌, ◌++◌, length, map, None, Some, Option, Ok, Err, refl, ap, ◌∙◌, arith}
+use Rattle.std.proofs.Common.{◌≡◌, ℕ, ◌≤◌, ◌<◌, true, false, cond, List, [], ◌∷◌, ◌++◌}
+use Rattle.std.proofs.Common.{length, map, None, Some, Option, Ok, Err, refl, ap, ◌∙◌, arith}
 use Rattle.std.specs.Prelude.{nat_lt}
 use Rattle.std.proofs.lemmas.Bool.{le-ltb}
 use Rattle.std.proofs.lemmas.Bool.Decides.{nat_tests}
@@ -81,7 +82,8 @@ draws number layer symbols es ps ring calls offset =
 small_target : (target : ℕ) → target ≤ MAX_SYMBOL → nat_lt MAX_SYMBOL target ≡ false
 small_target target h = grind (arith, nat_tests)
 
-pub calls_turned : (number : ℕ) (set : Option (List ℕ)) (symbols : List ℕ) (es : List Element) (target : ℕ) (turn : Turn) → target ≤ MAX_SYMBOL
+pub calls_turned : (number : ℕ) (set : Option (List ℕ)) (symbols : List ℕ) (es : List Element) (target : ℕ) (turn : Turn)
+    → target ≤ MAX_SYMBOL
     → is_in_range turn.shift ≡ true
     → Does (inside number set symbols es) (command.Call target (changes_of turn))
     (inside number set symbols (es ++ record { cell = Symbol number; figure = Call target turn } ∷ []))

@@ -1,9 +1,11 @@
 -- What the cells of a sound layout hold.
-use Rattle.std.proofs.Common.{◌≡◌, ℕ, ◌≤◌, Bool, true, false, cond, List, [], ◌∷◌, Option, None, Some, refl, sym, subst, arith, All, Contains}
+use Rattle.std.proofs.Common.{◌≡◌, ℕ, ◌≤◌, Bool, true, false, cond, List, [], ◌∷◌}
+use Rattle.std.proofs.Common.{Option, None, Some, refl, sym, subst, arith, All, Contains}
 use Rattle.std.specs.Prelude.{IsTrue, is_some}
 use Rattle.std.specs.FinMap.{entries, get}
 use Rattle.std.specs.List.{cons_option, filter}
-use Rattle.std.proofs.lemmas.List.Elements.{All-cons, All-filter, All-head, All-map, All-nil, All-tail, All-weaker, Contains-append_left, Contains-append_right, filter_passes}
+use Rattle.std.proofs.lemmas.List.Elements.{All-cons, All-filter, All-head, All-map, All-nil, All-tail}
+use Rattle.std.proofs.lemmas.List.Elements.{All-weaker, Contains-append_left, Contains-append_right, filter_passes}
 use Rattle.lay_point.proofs.BridgeLemmas.{bridged_is_ring}
 use Rattle.lay_point.specs.SameTurn.{turn_eq}
 use Rattle.lay_point.specs.Turns.{unturned}
@@ -28,7 +30,8 @@ use Rattle.trip_laws.proofs.LinesLead.{IsWritable}
 -- ---- calls among items
 
 -- what is so of the calls of entries is so of the calls among them
-calls_among-all : (P : Call → Type 0) (es : List (ItemId × Item)) → All (λ e. (c : Call) → call_of e.1 ≡ Some c → P c) es → All P (calls_among es)
+calls_among-all : (P : Call → Type 0) (es : List (ItemId × Item)) → All (λ e. (c : Call) → call_of e.1 ≡ Some c → P c) es
+    → All P (calls_among es)
 calls_among-all P [] h = All-nil P
 calls_among-all P (e ∷ es) h =
     by (call_of e.1) refl (calls_among-all P es (All-tail (λ x. (c : Call) → call_of x.1 ≡ Some c → P c) e es h)) where
@@ -41,9 +44,11 @@ listed : (es : List (ItemId × Item)) → All (λ e. (c : Call) → call_of e.1 
 listed [] = All-nil (λ e. (c : Call) → call_of e.1 ≡ Some c → Contains [] c)
 listed (x ∷ es) =
     All-cons (λ e. (c : Call) → call_of e.1 ≡ Some c → Contains (calls_among (x ∷ es)) c) x es
-    (λ c at. subst (λ (o : Option Call). Contains (cons_option o (calls_among es)) c) (sym at) (Contains-append_left (c ∷ []) (calls_among es) c (first c)))
+    (λ c at. subst (λ (o : Option Call). Contains (cons_option o (calls_among es)) c) (sym at)
+    (Contains-append_left (c ∷ []) (calls_among es) c (first c)))
     (All-weaker (λ e. (c : Call) → call_of e.1 ≡ Some c → Contains (calls_among es) c)
-    (λ e. (c : Call) → call_of e.1 ≡ Some c → Contains (calls_among (x ∷ es)) c) (λ e h c at. behind (call_of x.1) c (h c at)) es (listed es))
+    (λ e. (c : Call) → call_of e.1 ≡ Some c → Contains (calls_among (x ∷ es)) c) (λ e h c at. behind (call_of x.1) c (h c at)) es
+    (listed es))
   where
     first : (c : Call) → Contains (c ∷ []) c
     first c = (0, omega arith, refl)
@@ -64,7 +69,8 @@ module _ (layout : Layout) (sound : IsSound layout) where
   -- an entry's item is the layout's
   entry-sound : All (λ e. IsSoundItem layout e.1) (entries layout.items)
   entry-sound =
-      All-weaker (λ e. get layout.items e.0 ≡ Some e.1) (λ e. IsSoundItem layout e.1) (λ e at. sound.items e.0 e.1 at) (entries layout.items)
+      All-weaker (λ e. get layout.items e.0 ≡ Some e.1) (λ e. IsSoundItem layout e.1) (λ e at. sound.items e.0 e.1 at)
+      (entries layout.items)
       (entries-found ids_total ids_exact layout.items)
 
   -- what a layout calls is there
@@ -103,7 +109,8 @@ module _ (layout : Layout) (sound : IsSound layout) where
         All-map (IsHeld layout cell) (λ (e : ItemId × Item). e.1) kept
         (λ i d h.
         let is = All-filter test
-        (λ e. IsSoundItem layout e.1 × IsNamed e.1 × ((c : Call) → call_of e.1 ≡ Some c → Contains (calls_of layout) c)) (entries layout.items)
+        (λ e. IsSoundItem layout e.1 × IsNamed e.1 × ((c : Call) → call_of e.1 ≡ Some c → Contains (calls_of layout) c))
+        (entries layout.items)
         held_entries i d h in
         record {
           sound = is.0;

@@ -1,5 +1,6 @@
 -- What the lines of items, of definitions and of a file lead to.
-use Rattle.std.proofs.Common.{◌≡◌, ℕ, ◌≤◌, Bool, true, false, cond, List, [], ◌∷◌, ◌++◌, length, map, None, Some, Option, refl, sym, ap, ◌∙◌, subst, arith, append_assoc, append-nil}
+use Rattle.std.proofs.Common.{◌≡◌, ℕ, ◌≤◌, Bool, true, false, cond, List, [], ◌∷◌, ◌++◌, length, map}
+use Rattle.std.proofs.Common.{None, Some, Option, refl, sym, ap, ◌∙◌, subst, arith, append_assoc, append-nil}
 use Rattle.std.specs.Prelude.{IsTrue}
 use Rattle.std.specs.List.{AllByRecursion, flat_map, list_all}
 use Rattle.std.proofs.lemmas.Bool.Decides.{nat_tests}
@@ -93,7 +94,8 @@ lines_apart lines more text =
     ap (λ t. t ++ text) (flat_map-append line.line_text lines more) ∙ append_assoc (lines_text lines) (lines_text more) text
 
 -- whatever layer is set in the end
-items_lead : (number : ℕ) (symbols : List ℕ) (last : Content) (text : List ℕ) (items : List Item) (set : Option (List ℕ)) (es : List Element)
+items_lead : (number : ℕ) (symbols : List ℕ) (last : Content) (text : List ℕ) (items : List Item) (set : Option (List ℕ))
+    (es : List Element)
     → AllByRecursion IsWritable items
     → ((end : Option (List ℕ)) → Reaches (inside number end symbols (es ++ map (element_of number) items)) last text)
     → Reaches (inside number set symbols es) last (lines_text (items_lines set items) ++ text)
@@ -121,7 +123,8 @@ definition_leads symbols es last text d may items reaches =
     (items_lines None d.items ++ Finish ∷ []) text (start_line d.number (omega (arith, may.small))) (begins symbols es d.number may)
     (subst (Reaches (inside d.number None begun es) last) (sym (lines_apart (items_lines None d.items) (Finish ∷ []) text))
     (items_lead d.number begun last (lines_text (Finish ∷ []) ++ text) d.items None es items
-    (λ end. first_leads (inside d.number end begun (es ++ elements_of d)) (outside begun (es ++ elements_of d)) last Finish command.Finish []
+    (λ end. first_leads (inside d.number end begun (es ++ elements_of d)) (outside begun (es ++ elements_of d)) last Finish
+    command.Finish []
     text finish_line (finishes d.number end begun (es ++ elements_of d)) reaches)))
 
 abbrev pub symbol_of : Definition → ℕ
@@ -160,9 +163,11 @@ file_read file may small =
     let symbols = map symbol_of file.definitions in
     let es = flat_map elements_of file.definitions in
     let last = outside symbols (elements_written file) in
-    subst (Reaches (outside [] []) last) (sym (flat_map-append line.line_text (definitions_lines file.definitions) (line.Call file.called unturned ∷ End ∷ [])))
+    subst (Reaches (outside [] []) last) (sym (flat_map-append line.line_text (definitions_lines file.definitions)
+    (line.Call file.called unturned ∷ End ∷ [])))
     (definitions_lead file.definitions [] [] last (lines_text (line.Call file.called unturned ∷ End ∷ [])) may
     (subst (Reaches (outside symbols es) last) (append-nil (lines_text (line.Call file.called unturned ∷ End ∷ [])))
-    (first_leads (outside symbols es) last last (line.Call file.called unturned) (command.Call file.called (changes_of unturned)) (End ∷ []) []
+    (first_leads (outside symbols es) last last (line.Call file.called unturned) (command.Call file.called (changes_of unturned))
+    (End ∷ []) []
     (call_line file.called unturned (omega (arith, small)) refl) (calls_plainly symbols es file.called small)
     (subst (Reaches last last) (sym (append-nil (lines_text (End ∷ [])))) (end_reached last refl)))))

@@ -1,5 +1,6 @@
 -- What is written of a sound layout is read back as that layout, wrapped.
-use Rattle.std.proofs.Common.{◌≡◌, ℕ, true, List, [], ◌∷◌, ◌++◌, map, Result, Ok, Err, refl, sym, ap, ◌∙◌, subst, inl, inr, ◌⊎◌, All, length, ◌≤◌}
+use Rattle.std.proofs.Common.{◌≡◌, ℕ, true, List, [], ◌∷◌, ◌++◌, map, Result, Ok, Err}
+use Rattle.std.proofs.Common.{refl, sym, ap, ◌∙◌, subst, inl, inr, ◌⊎◌, All, length, ◌≤◌}
 use Rattle.std.specs.List.{flat_map}
 use Rattle.std.proofs.lemmas.List.{map-append}
 use Rattle.std.proofs.lemmas.List.Elements.{All-weaker}
@@ -51,7 +52,8 @@ held_again : (number : ℕ) (items : List Item) → map item_of (map (element_of
 held_again number [] = refl
 held_again number (item ∷ items) = λ i. item_again number item i ∷ held_again number items i
 
-items_again : (ds : List Definition) → map item_of (flat_map elements_of ds) ≡ flat_map (λ (d : Definition). map (as_written d.number) d.items) ds
+items_again : (ds : List Definition) → map item_of (flat_map elements_of ds)
+    ≡ flat_map (λ (d : Definition). map (as_written d.number) d.items) ds
 items_again [] = refl
 items_again (d ∷ ds) =
     map-append item_of (elements_of d) (flat_map elements_of ds) ∙ (λ i. held_again d.number d.items i ++ items_again ds i)

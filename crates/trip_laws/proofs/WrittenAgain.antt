@@ -1,5 +1,6 @@
 -- The wrapped layout is written as the layout was.
-use Rattle.std.proofs.Common.{◌≡◌, ℕ, ◌+◌, Bool, true, false, cond, ◌||◌, List, [], ◌∷◌, ◌++◌, map, Option, None, refl, sym, ap, ◌∙◌, append-nil, nat_eq, arith}
+use Rattle.std.proofs.Common.{◌≡◌, ℕ, ◌+◌, Bool, true, false, cond, ◌||◌, List, [], ◌∷◌, ◌++◌}
+use Rattle.std.proofs.Common.{map, Option, None, refl, sym, ap, ◌∙◌, append-nil, nat_eq, arith}
 use Rattle.std.specs.List.{AllByRecursion, IsDistinct, filter, flat_map}
 use Rattle.std.proofs.lemmas.Bool.Decides.{Decides-eqb, nat_tests}
 use Rattle.std.proofs.lemmas.List.Elements.{filter-append}
@@ -22,7 +23,8 @@ use Rattle.lay_items.proofs.NumberedLemmas.{entries-numbered}
 use Rattle.lay_items.proofs.SlotLemmas.{in_slot_order-placed}
 use Rattle.cif_write.specs.Lines.{Call, End, Finish, Start, lines_text}
 use Rattle.cif_write.specs.Text.{definitions_lines, file_lines, item_lines, items_lines, layer_after, path_lines, text}
-use Rattle.cif_write.specs.Wrap.{Definition, Written, as_written, definition_of, held_in, items_written, least_unused, own_definitions, plain_target, wrap, written, written_with}
+use Rattle.cif_write.specs.Wrap.{Definition, Written, as_written, definition_of, held_in, items_written}
+use Rattle.cif_write.specs.Wrap.{least_unused, own_definitions, plain_target, wrap, written, written_with}
 use Rattle.trip_laws.specs.Laws.{WhatIsReadIsWrittenTheSame}
 use Rattle.trip_laws.proofs.LinesLead.{AreWritable, IsWritable, symbol_of}
 use Rattle.trip_laws.proofs.WrittenSymbols.{written_well}
@@ -36,9 +38,11 @@ numbered-standing : (cell : CellId) (k : ℕ) (items : List Item)
     → map (λ (e : ItemId × Item). e.1) (filter (λ e. stands_in cell e.1) (numbered_from k items)) ≡ filter (stands_in cell) items
 numbered-standing cell k [] = refl
 numbered-standing cell k (item ∷ items) = by (stands_in cell item) (numbered-standing cell (k + 1) items) where
-  by : (b : Bool) → map (λ (e : ItemId × Item). e.1) (filter (λ e. stands_in cell e.1) (numbered_from (k + 1) items)) ≡ filter (stands_in cell) items
+  by : (b : Bool) → map (λ (e : ItemId × Item). e.1) (filter (λ e. stands_in cell e.1) (numbered_from (k + 1) items))
+      ≡ filter (stands_in cell) items
       → map (λ (e : ItemId × Item). e.1)
-      (cond b ((text_id k, item) ∷ filter (λ e. stands_in cell e.1) (numbered_from (k + 1) items)) (filter (λ e. stands_in cell e.1) (numbered_from (k + 1) items)))
+      (cond b ((text_id k, item) ∷ filter (λ e. stands_in cell e.1) (numbered_from (k + 1) items))
+      (filter (λ e. stands_in cell e.1) (numbered_from (k + 1) items)))
       ≡ cond b (item ∷ filter (stands_in cell) items) (filter (stands_in cell) items)
   by true rest = ap (λ is. item ∷ is) rest
   by false rest = rest
@@ -60,7 +64,8 @@ same_cell : (number : ℕ) (item : Item) → cell_of (as_written number item) �
 same_cell number (Shape cell layer rings) = refl
 same_cell number (Placed cell target turn) = refl
 
-all_stand : (number : ℕ) (items : List Item) → filter (stands_in (Symbol number)) (map (as_written number) items) ≡ map (as_written number) items
+all_stand : (number : ℕ) (items : List Item) → filter (stands_in (Symbol number)) (map (as_written number) items)
+    ≡ map (as_written number) items
 all_stand number [] = refl
 all_stand number (item ∷ items) =
     let rest = filter (stands_in (Symbol number)) (map (as_written number) items) in
@@ -103,7 +108,8 @@ each_stands (d ∷ ds) distinct = (
   more [] apart h = tt
   more (e ∷ es) apart h = (
     filter-append (stands_in (Symbol e.number)) (items_again d) (flat_map items_again ds)
-        ∙ ap (λ is. is ++ filter (stands_in (Symbol e.number)) (flat_map items_again ds)) (none_stand d.number e.number d.items apart.0) ∙ h.0,
+        ∙ ap (λ is. is ++ filter (stands_in (Symbol e.number)) (flat_map items_again ds))
+        (none_stand d.number e.number d.items apart.0) ∙ h.0,
     more es apart.1 h.1,
   )
 
@@ -186,12 +192,14 @@ definitions_lines-again : (ds : List Definition) (symbols : List ℕ) → AreWri
 unfolding definition_again
 definitions_lines-again [] symbols may = refl
 definitions_lines-again (d ∷ ds) symbols may = λ i.
-    (Start d.number ∷ (items_lines-again d.number None d.items may.1 i ++ Finish ∷ [])) ++ definitions_lines-again ds (symbols ++ d.number ∷ []) may.2 i
+    (Start d.number ∷ (items_lines-again d.number None d.items may.1 i ++ Finish ∷ []))
+    ++ definitions_lines-again ds (symbols ++ d.number ∷ []) may.2 i
 
 -- ---- the text
 
 written_is : (layout : Layout) → written layout
-    ≡ written_with (own_definitions layout) (held_in layout Top) (least_unused (in_slot_order layout.symbols)) (plain_target (held_in layout Top))
+    ≡ written_with (own_definitions layout) (held_in layout Top) (least_unused (in_slot_order layout.symbols))
+    (plain_target (held_in layout Top))
 unfolding written
 written_is layout = refl
 

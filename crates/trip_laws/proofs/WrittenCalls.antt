@@ -1,5 +1,6 @@
 -- The calls that are written for a sound layout are of symbols that are written, and lead to no cycle.
-use Rattle.std.proofs.Common.{◌≡◌, ℕ, true, false, ◌||◌, List, [], ◌∷◌, ◌++◌, map, Option, Some, None, refl, sym, ap, ◌∙◌, subst, All, Contains, append-nil, nat_eq}
+use Rattle.std.proofs.Common.{◌≡◌, ℕ, true, false, ◌||◌, List, [], ◌∷◌, ◌++◌, map, Option, Some}
+use Rattle.std.proofs.Common.{None, refl, sym, ap, ◌∙◌, subst, All, Contains, append-nil, nat_eq}
 use Rattle.std.specs.List.{flat_map}
 use Rattle.std.proofs.lemmas.Bool.Decides.{Decides-eqb}
 use Rattle.std.proofs.lemmas.List.{map-append}
@@ -22,7 +23,8 @@ use Rattle.cif_read.specs.declared.element.Element.{Element}
 use Rattle.cif_read.specs.declared.element.Figure.{Figure}
 use Rattle.cif_read.specs.declared.element.Figure.TheVariants as figure
 use Rattle.cif_read.specs.Contents.{calls_in, with_call}
-use Rattle.cif_write.specs.Wrap.{Definition, Written, definition_of, held_in, least_unused, own_definitions, plain_target, written, written_with}
+use Rattle.cif_write.specs.Wrap.{Definition, Written, definition_of, held_in}
+use Rattle.cif_write.specs.Wrap.{least_unused, own_definitions, plain_target, written, written_with}
 use Rattle.cif_write.proofs.UnusedLemmas.{least_unused_is}
 use Rattle.trip_laws.specs.Laws.{AreNamed}
 use Rattle.trip_laws.proofs.HeldItems.{IsHeld, held, targets}
@@ -74,7 +76,8 @@ module _ (old : List (CellId × ℕ)) (own : List ℕ) (bound : All (λ c. has_s
         subst (λ (n : ℕ). has_symbol own n ≡ true) number h;
   }
   old_walk {from} {to} (goes {target = target} first rest) t e h =
-      old_step from target t to (All-contains (λ c. IsFrom old own c.0 c.1) calls (from, target) from_old first) e h (old_walk rest target refl)
+      old_step from target t to (All-contains (λ c. IsFrom old own c.0 c.1) calls (from, target) from_old first) e h
+      (old_walk rest target refl)
 
   closes_none : (cell : CellId) (target : ℕ) → IsFrom old own cell target → IsAcyclic old → Walks calls (Symbol target) cell → ⊥
   closes_none cell target (in_symbol {n = n} is there) acyclic walk =
@@ -122,7 +125,8 @@ each_there : (ns : List ℕ) → All (λ n. has_symbol ns n ≡ true) ns
 each_there [] = All-nil (λ n. has_symbol [] n ≡ true)
 each_there (n ∷ ns) =
     All-cons (λ m. has_symbol (n ∷ ns) m ≡ true) n ns (ap (λ b. b || has_symbol ns n) ((Decides-eqb n n).1 refl))
-    (All-weaker (λ m. has_symbol ns m ≡ true) (λ m. has_symbol (n ∷ ns) m ≡ true) (λ m h. or_true (nat_eq m n) (has_symbol ns m) h) ns (each_there ns))
+    (All-weaker (λ m. has_symbol ns m ≡ true) (λ m. has_symbol (n ∷ ns) m ≡ true) (λ m h. or_true (nat_eq m n) (has_symbol ns m) h)
+    ns (each_there ns))
 
 -- where a call comes from, and that its symbol is among these
 abbrev pub IsGood : Layout → List ℕ → CellId → ℕ → Type 0
@@ -157,7 +161,8 @@ module _ (layout : Layout) (sound : IsSound layout) (named : AreNamed layout) wh
         (λ t there. (in_new new there, target_within Top t there))
 
     -- with other definitions behind the layout's own
-    file_calls : (rest : List Definition) (called : ℕ) → AllCalls (IsGood layout all) (flat_map elements_of rest) → has_symbol all called ≡ true
+    file_calls : (rest : List Definition) (called : ℕ) → AllCalls (IsGood layout all) (flat_map elements_of rest)
+        → has_symbol all called ≡ true
         → AllCalls (IsGood layout all) (elements_written (record { definitions = own_definitions layout ++ rest; called = called }))
     file_calls rest called others h =
         both_calls (IsGood layout all) (flat_map elements_of (own_definitions layout ++ rest)) (top_call ∷ [])
@@ -173,16 +178,20 @@ module _ (layout : Layout) (sound : IsSound layout) (named : AreNamed layout) wh
       → has_symbol (map symbol_of (own_definitions layout ++ rest)) n ≡ true
   own_within rest n h =
       let all : map symbol_of (own_definitions layout ++ rest) ≡ own_numbers layout ++ map symbol_of rest =
-      map-append symbol_of (own_definitions layout) rest ∙ ap (λ ns. ns ++ map symbol_of rest) (numbers_again layout (own_numbers layout)) in
+      map-append symbol_of (own_definitions layout) rest ∙ ap (λ ns. ns ++ map symbol_of rest)
+      (numbers_again layout (own_numbers layout)) in
       ap (λ ns. has_symbol ns n) all ∙ list_any-append (nat_eq n) (own_numbers layout) (map symbol_of rest) ∙ rw h refl
 
   good_calls : (o : Option ℕ) → plain_target (held_in layout Top) ≡ o
       → IsWrittenWell (written_with (own_definitions layout) (held_in layout Top) (least_unused (own_numbers layout)) o)
       → WrittenCalls layout (written_with (own_definitions layout) (held_in layout Top) (least_unused (own_numbers layout)) o)
   good_calls (Some target) at well =
-      subst (λ (ds : List Definition). WrittenCalls layout (record { definitions = ds; called = target })) (append-nil (own_definitions layout))
-      (file_calls (map symbol_of (own_definitions layout ++ [])) (own_within []) [] target (All-nil (λ c. IsGood layout (map symbol_of (own_definitions layout ++ [])) c.0 c.1))
-      (subst (λ (ds : List Definition). has_symbol (map symbol_of ds) target ≡ true) (sym (append-nil (own_definitions layout))) well.called))
+      subst (λ (ds : List Definition). WrittenCalls layout (record { definitions = ds; called = target }))
+      (append-nil (own_definitions layout))
+      (file_calls (map symbol_of (own_definitions layout ++ [])) (own_within []) [] target
+      (All-nil (λ c. IsGood layout (map symbol_of (own_definitions layout ++ [])) c.0 c.1))
+      (subst (λ (ds : List Definition). has_symbol (map symbol_of ds) target ≡ true) (sym (append-nil (own_definitions layout)))
+      well.called))
   good_calls None at well =
       let unused = least_unused (own_numbers layout) in
       let wrapping : Definition = record { number = unused; items = held_in layout Top } in

@@ -1,5 +1,6 @@
 -- The symbols of a sound layout, and the one that wraps what the top cell holds, may be defined in turn.
-use Rattle.std.proofs.Common.{◌≡◌, ℕ, zero, suc, ◌+◌, ◌≤◌, ◌<◌, Bool, true, false, cond, List, [], ◌∷◌, ◌++◌, length, map, Option, None, Some, refl, sym, ap, ◌∙◌, subst, arith, All, append_assoc, append-nil, nat_eq}
+use Rattle.std.proofs.Common.{◌≡◌, ℕ, zero, suc, ◌+◌, ◌≤◌, ◌<◌, Bool, true, false, cond, List, [], ◌∷◌, ◌++◌, length, map}
+use Rattle.std.proofs.Common.{Option, None, Some, refl, sym, ap, ◌∙◌, subst, arith, All, append_assoc, append-nil, nat_eq}
 use Rattle.std.specs.Prelude.{is_some}
 use Rattle.std.specs.FinMap.{get}
 use Rattle.std.specs.List.{AllByRecursion, IsDistinct}
@@ -18,7 +19,8 @@ use Rattle.lay_items.specs.Sound.{IsSound}
 use Rattle.lay_items.proofs.EntryLemmas.{order-distinct, order-symbols, symbols-ordered}
 use Rattle.cif_read.specs.declared.file.TheConstants.{MAX_SYMBOLS}
 use Rattle.cif_read.proofs.StepFacts.{new_cell}
-use Rattle.cif_write.specs.Wrap.{Definition, Written, definition_of, held_in, least_unused, own_definitions, plain_target, unused_from, written, written_with}
+use Rattle.cif_write.specs.Wrap.{Definition, Written, definition_of, held_in, least_unused}
+use Rattle.cif_write.specs.Wrap.{own_definitions, plain_target, unused_from, written, written_with}
 use Rattle.cif_write.proofs.UnusedLemmas.{least_unused_is}
 use Rattle.trip_laws.specs.Laws.{AreNamed}
 use Rattle.trip_laws.proofs.HeldItems.{IsHeld, held, plain_called, small_symbol, writable}
@@ -63,7 +65,8 @@ module _ (layout : Layout) (sound : IsSound layout) (named : AreNamed layout) wh
       (All-weaker (IsHeld layout cell) IsWritable (writable layout sound cell) (held_in layout cell) (held layout sound named cell))
 
   -- symbols with different numbers, and what comes behind them
-  own_writable : (numbers symbols : List ℕ) (rest : List Definition) → IsDistinct nat_eq numbers → All (λ n. has_symbol symbols n ≡ false) numbers
+  own_writable : (numbers symbols : List ℕ) (rest : List Definition) → IsDistinct nat_eq numbers
+      → All (λ n. has_symbol symbols n ≡ false) numbers
       → All (λ n. n ≤ MAX_SYMBOL) numbers → length symbols + length numbers ≤ MAX_SYMBOLS → AreWritable (symbols ++ numbers) rest
       → AreWritable symbols (map (definition_of layout) numbers ++ rest)
   unfolding IsDistinct
@@ -89,7 +92,8 @@ module _ (layout : Layout) (sound : IsSound layout) (named : AreNamed layout) wh
 
   own : (rest : List Definition) → length (own_numbers layout) ≤ MAX_SYMBOLS → AreWritable (own_numbers layout) rest
       → AreWritable [] (own_definitions layout ++ rest)
-  own rest room may = own_writable (own_numbers layout) [] rest (order-distinct layout.symbols) (λ i d h. refl) small_numbers (omega (arith, room)) may
+  own rest room may =
+      own_writable (own_numbers layout) [] rest (order-distinct layout.symbols) (λ i d h. refl) small_numbers (omega (arith, room)) may
 
   -- each symbol of the layout is among its numbers
   pub has_number : (n : ℕ) → is_cell layout (Symbol n) ≡ true → has_symbol (own_numbers layout) n ≡ true
@@ -106,7 +110,8 @@ module _ (layout : Layout) (sound : IsSound layout) (named : AreNamed layout) wh
       record {
         definitions = subst (AreWritable []) (append-nil (own_definitions layout))
             (own [] (omega (arith, room, length-map (own_numbers layout) (definition_of layout))) tt);
-        called = subst (λ (ns : List ℕ). has_symbol ns target ≡ true) (sym (numbers_again layout (own_numbers layout))) (has_number target there);
+        called = subst (λ (ns : List ℕ). has_symbol ns target ≡ true) (sym (numbers_again layout (own_numbers layout)))
+            (has_number target there);
         small = small_symbol layout sound target there;
       }
   well None at room =

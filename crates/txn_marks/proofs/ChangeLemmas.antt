@@ -86,7 +86,8 @@ item_merges es fs cs id before after sorted h l m old at =
     let same : es ≡ entries changes = same_changes es (entries changes) (ap (λ (r : Records). r.items) old) in
     let new : fs ≡ entries (put changes id (change_of option_item_eq before after)) = entries_put ids_total ids_exact changes es fs id
     (change_of option_item_eq before after) same sorted h in
-    let merged : entries (put changes id (change_of option_item_eq before after)) ≡ entries (change_map option_item_eq l.items (put m.items id after)) =
+    let merged : entries (put changes id (change_of option_item_eq before after))
+    ≡ entries (change_map option_item_eq l.items (put m.items id after)) =
     ap entries (ap (λ b. put changes id (change_of option_item_eq b after)) (sym at) ∙ sym (changes_merge l m id after)) in
     λ i. record { items = map record_of ((new ∙ merged) i); symbols = ap (λ (r : Records). r.symbols) old i }
 

@@ -1,5 +1,6 @@
 -- Operations on layers as commands: what is known of an accepted one, and that it does the same where it reads the same.
-use Rattle.std.proofs.Common.{◌≡◌, inl, inr, ◌⊎◌, ℕ, zero, suc, ◌+◌, ◌<◌, Bool, true, false, List, [], ◌∷◌, ◌++◌, length, map, refl, ap, sym, subst}
+use Rattle.std.proofs.Common.{◌≡◌, inl, inr, ◌⊎◌, ℕ, zero, suc, ◌+◌, ◌<◌, Bool, true}
+use Rattle.std.proofs.Common.{false, List, [], ◌∷◌, ◌++◌, length, map, refl, ap, sym, subst}
 use Rattle.std.proofs.Common.{◌∙◌, arith}
 use Rattle.std.specs.Prelude.{None, Some, Result, Ok, Err, flat_map, if◌then◌else◌}
 use Rattle.std.specs.List.{AllByRecursion}
@@ -86,7 +87,8 @@ same_bool new op cell a b out l m act one other h agree =
     (cell_elements cell ++ Layer cell out ∷ flat_map (operands a b) cells) agreed).1 in
     let parts = all_parts (Agree l m) (cell_elements cell) (Layer cell out ∷ flat_map (operands a b) cells) read in
     let same_shapes : bool_shapes m op cell a b ≡ bool_shapes l op cell a b =
-    sym (booleans_read l m one other op cell a b (same_first l m cell a b parts.0 parts.1.1) (same_second l m cell a b parts.0 parts.1.1)) in
+    sym (booleans_read l m one other op cell a b (same_first l m cell a b parts.0 parts.1.1)
+    (same_second l m cell a b parts.0 parts.1.1)) in
     let same_cells : reached m cell ≡ cells = same_reach l m cell (on_calls l m a b cells parts.1.1) in
     let same_ids : shape_ids m cell out ≡ old = ap (map (λ shape. shape.0)) (sym (shapes_agree l m cell out parts.1.0)) in
     (λ i. replace_by new cell a b out (same_cells i) (same_ids i) (same_shapes i)) ∙ h
@@ -153,7 +155,8 @@ pub written_new : (cell : CellId) (layer : List ℕ) (shapes : List Rings) (new 
 written_new cell layer [] new = tt
 written_new cell layer (rings ∷ shapes) new = (
   (λ x h. (zero, omega arith, sym (first_new new))),
-  all_weaker (WritesAs (λ q x. IsNew (id_after new) (length shapes) q)) (WritesAs (λ q x. IsNew new (length {A = Rings} (rings ∷ shapes)) q))
+  all_weaker (WritesAs (λ q x. IsNew (id_after new) (length shapes) q))
+      (WritesAs (λ q x. IsNew new (length {A = Rings} (rings ∷ shapes)) q))
       (λ w known x h. let at = known x h in (suc at.0, omega (arith, at.1), at.2 ∙ later_new new at.0))
       (new_shapes (id_after new) cell layer shapes) (written_new cell layer shapes (id_after new)),
 )

@@ -27,7 +27,8 @@ use Rattle.txn_rules.specs.declared.fault.CmdFault.TheVariants.{CellThere, CellU
 use Rattle.bool_rules.specs.Op.{Op}
 use Rattle.bool_rules.specs.Shapes.{Rings}
 use Rattle.bool_rules.specs.Booleans.{bool_shapes}
-use Rattle.txn_rules.specs.Acts.{Act, bool_act, cell_elements, change_act, drop_cell_act, look_act, make_act, make_cell_act, place_act, shape_act}
+use Rattle.txn_rules.specs.Acts.{Act, bool_act, cell_elements, change_act, drop_cell_act}
+use Rattle.txn_rules.specs.Acts.{look_act, make_act, make_cell_act, place_act, shape_act}
 use Rattle.txn_rules.specs.Covers.{IsCovered, has}
 use Rattle.txn_rules.specs.Elements.{element_cmp, elements_total}
 use Rattle.txn_rules.specs.Figures.{box_ring, is_item_in_range, moved, shape_of}

@@ -1,5 +1,6 @@
 -- What a work keeps, and what follows.
-use Rattle.std.proofs.Common.{◌≡◌, ◌≤◌, ◌+◌, ℕ, true, false, [], ◌∷◌, ◌++◌, length, Some, Err, Ok, refl, ap, sym, subst, ◌∙◌, arith, length-append}
+use Rattle.std.proofs.Common.{◌≡◌, ◌≤◌, ◌+◌, ℕ, true, false, [], ◌∷◌, ◌++◌, length, Some}
+use Rattle.std.proofs.Common.{Err, Ok, refl, ap, sym, subst, ◌∙◌, arith, length-append}
 use Rattle.std.specs.Prelude.{nat_lt, unwrap_or}
 use Rattle.std.proofs.lemmas.Bool.Decides.{nat_tests}
 use Rattle.lay_items.specs.Layout.{Layout}
@@ -28,7 +29,8 @@ use Rattle.txn_work.specs.Works.{IsKept}
 pub same_run : (txn : Transaction) (made : ℕ) (k : IsKept txn made) → run_so_far txn ≡ k.run
 same_run txn made k = ap (λ o. unwrap_or o (begun txn.snapshot)) k.runs
 
-pub runs_so_far : (txn : Transaction) (made : ℕ) → IsKept txn made → after_each txn.id txn.commands (begun txn.snapshot) ≡ Some (run_so_far txn)
+pub runs_so_far : (txn : Transaction) (made : ℕ) → IsKept txn made
+    → after_each txn.id txn.commands (begun txn.snapshot) ≡ Some (run_so_far txn)
 runs_so_far txn made k = k.runs ∙ ap Some (sym (same_run txn made k))
 
 pub writes_so_far : (txn : Transaction) (made : ℕ) → IsKept txn made → txn.writes ≡ records_between txn.snapshot (run_so_far txn).layout
@@ -116,7 +118,8 @@ pub after_is : (txn : Transaction) (c : Command) (act : Act) → plan (next_id t
 after_is txn c act planned room = rw (effect_is txn.id c (run_so_far txn) act planned room) refl
 
 -- the transaction with what the act leaves in each part
-pub performed : (txn next : Transaction) (made : ℕ) (c : Command) (act : Act) → IsKept txn made → next.id ≡ txn.id → next.opened ≡ txn.opened →
+pub performed : (txn next : Transaction) (made : ℕ) (c : Command) (act : Act) → IsKept txn made → next.id ≡ txn.id
+    → next.opened ≡ txn.opened →
     next.snapshot ≡ txn.snapshot → next.commands ≡ txn.commands ++ c ∷ [] →
     next.writes ≡ records_between txn.snapshot (rewritten (run_so_far txn).layout act.items act.symbols) →
     next.footprint ≡ with_elements txn.footprint act.elements → next ≡ with_command txn c (perform (run_so_far txn) act)
@@ -129,18 +132,21 @@ performed txn next made c act k id opened snapshot commands writes footprint =
 pub room_left : (txn : Transaction) (made more : ℕ) (act : Act) → IsKept txn made → is_too_much (run_so_far txn) act ≡ false →
     more ≡ made + act.made → more ≤ MAX_COMMANDS
 room_left txn made more act k room m =
-    let parts = or_parts (nat_lt MAX_COMMANDS (length (run_so_far txn).dones + 1)) (nat_lt MAX_COMMANDS ((run_so_far txn).made + act.made)) room in
+    let parts = or_parts (nat_lt MAX_COMMANDS (length (run_so_far txn).dones + 1))
+    (nat_lt MAX_COMMANDS ((run_so_far txn).made + act.made)) room in
     let count = made_so_far txn made k in
     let few : (run_so_far txn).made + act.made ≤ MAX_COMMANDS = grind (arith, nat_tests, parts) in
     omega (arith, few, count, m)
 
 -- a command whose plan is refused, or for whose act there is no room, is refused so
-pub refused_so : (txn : Transaction) (c : Command) (fault : CmdFault) → plan (next_id txn.id (run_so_far txn)) c (run_so_far txn).layout ≡ Err fault →
+pub refused_so : (txn : Transaction) (c : Command) (fault : CmdFault)
+    → plan (next_id txn.id (run_so_far txn)) c (run_so_far txn).layout ≡ Err fault →
     answer_to txn c ≡ Err fault
 unfolding effect
 refused_so txn c fault planned = rw planned refl
 
-pub too_much_so : (txn : Transaction) (c : Command) (act : Act) → plan (next_id txn.id (run_so_far txn)) c (run_so_far txn).layout ≡ Ok act →
+pub too_much_so : (txn : Transaction) (c : Command) (act : Act)
+    → plan (next_id txn.id (run_so_far txn)) c (run_so_far txn).layout ≡ Ok act →
     is_too_much (run_so_far txn) act ≡ true → answer_to txn c ≡ Err TxnFull
 unfolding effect
 too_much_so txn c act planned full = rw (planned, full) refl

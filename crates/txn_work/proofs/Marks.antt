@@ -1,5 +1,6 @@
 -- Elements that are added to a footprint, and taken out again.
-use Rattle.std.proofs.Common.{◌≡◌, ℕ, Bool, true, false, ◌||◌, ◌&&◌, cond, not, List, [], ◌∷◌, ◌++◌, take, zero, suc, refl, ap, sym, subst, ◌∙◌, inl, inr, length}
+use Rattle.std.proofs.Common.{◌≡◌, ℕ, Bool, true, false, ◌||◌, ◌&&◌, cond, not, List, [], ◌∷◌}
+use Rattle.std.proofs.Common.{◌++◌, take, zero, suc, refl, ap, sym, subst, ◌∙◌, inl, inr, length}
 use Rattle.std.proofs.lemmas.Bool.{or_cases, or_left, or_right}
 use Rattle.std.specs.FinSet.{contains, contains-remove, insert, remove, same_set}
 use Rattle.std.specs.Ordering.{eq_by_cmp}
@@ -26,7 +27,7 @@ contains-without t (x ∷ es) e =
       swapped false true c = refl
       swapped false false c = refl
 
--- a front of the elements has no others
+-- a prefix of the elements has no others
 front_has : (n : ℕ) (es : List Element) (e : Element) → has e (take n es) ≡ true → has e es ≡ true
 front_has zero es e h = absurd cc
 front_has (suc n) [] e h = h

@@ -1,5 +1,6 @@
 -- The search for symbols finds what is reached.
-use Rattle.std.proofs.Common.{◌≡◌, ℕ, zero, suc, ◌+◌, Bool, true, false, ◌||◌, cond, nat_eq, List, [], ◌∷◌, ◌++◌, length, map, reverse, None, Some, unwrap_or, refl, ap, sym, subst, ◌∙◌, arith, length-append, append_assoc}
+use Rattle.std.proofs.Common.{◌≡◌, ℕ, zero, suc, ◌+◌, Bool, true, false, ◌||◌, cond, nat_eq, List, [], ◌∷◌, ◌++◌, length, map}
+use Rattle.std.proofs.Common.{reverse, None, Some, unwrap_or, refl, ap, sym, subst, ◌∙◌, arith, length-append, append_assoc}
 use Rattle.std.proofs.lemmas.List.{append-nil, length-map, length-reverse, map-append, reverse-append, reverse-reverse}
 use Rattle.std.specs.List.{cons_option}
 use Rattle.std.specs.FinMap.{entries}
@@ -15,7 +16,8 @@ use Rattle.lay_items.specs.Items.{items_in, standing_in}
 use Rattle.lay_items.specs.Layout.{Layout}
 use Rattle.lay_items.specs.Lent.{calls_in, calls_lent}
 use Rattle.txn_rules.specs.Reach.{explored, is_among, reached, targets}
-use Rattle.txn_rules.proofs.Reach.{Goes, calls_left, calls_left-entered, calls_left-none, cell_eq-refl, ends, goes_on, one_answer, reached-found, same_cell}
+use Rattle.txn_rules.proofs.Reach.{Goes, calls_left, calls_left-entered, calls_left-none}
+use Rattle.txn_rules.proofs.Reach.{cell_eq-refl, ends, goes_on, one_answer, reached-found, same_cell}
 use Rattle.txn_rules.proofs.Reach.Goes.{entered, passed}
 use Rattle.txn_work.specs.Searching.{called_by, called_in, cells_from, first_in, searched, symbols_from, target_of}
 
@@ -28,7 +30,8 @@ same_either_way c d = by_test (cell_eq c d) (cell_eq d c) refl refl where
   by_test false true e f = sym (sym (ap (λ x. cell_eq x d) (sym (same_cell d c f)) ∙ cell_eq-refl d) ∙ e)
 
 -- the symbols called in a cell are the targets of the calls that are lent
-targets-lent : (c : CellId) (es : List (ItemId × Item)) → targets (calls_among es) c ≡ map Symbol (map target_of (calls_lent (standing_in c es)))
+targets-lent : (c : CellId) (es : List (ItemId × Item))
+    → targets (calls_among es) c ≡ map Symbol (map target_of (calls_lent (standing_in c es)))
 targets-lent c [] = refl
 targets-lent c ((id, Shape cell layer rings) ∷ es) = targets-lent c es ∙ by_cell (cell_eq cell c) where
   by_cell : (b : Bool) → map Symbol (map target_of (calls_lent (standing_in c es)))
@@ -83,7 +86,8 @@ same_search l (suc k) (n ∷ pending) found seen rest h e =
 
       by_seen : Goes (targets (calls_of l)) k (Symbol n) (map Symbol pending) seen rest →
           (explored (targets (calls_of l)) k (map Symbol pending) seen ≡ Some rest → FindsSame l k pending found rest) →
-          ((later : List CellId) → explored (targets (calls_of l)) k (map Symbol (called_by l n ++ pending)) (Symbol n ∷ seen) ≡ Some later →
+          ((later : List CellId) → explored (targets (calls_of l)) k (map Symbol (called_by l n ++ pending)) (Symbol n ∷ seen)
+          ≡ Some later →
           FindsSame l k (called_by l n ++ pending) (found ++ n ∷ []) later) →
           FindsSame l (suc k) (n ∷ pending) found rest
       by_seen (passed is g) same new =
@@ -122,7 +126,8 @@ behind_top l =
     let steps : 1 + length (calls_of l) ≡ suc (length (calls_of l)) = omega arith in
     by_seen (goes_on (targets (calls_of l)) (length (calls_of l)) Top [] [] (reached l Top)
     (ap (λ k. explored (targets (calls_of l)) k (Top ∷ []) []) (sym steps) ∙ reached-found (calls_of l) Top)) where
-      by_seen : Goes (targets (calls_of l)) (length (calls_of l)) Top [] [] (reached l Top) → (rest : List CellId) × (Top ∷ rest ≡ reached l Top)
+      by_seen : Goes (targets (calls_of l)) (length (calls_of l)) Top [] [] (reached l Top)
+          → (rest : List CellId) × (Top ∷ rest ≡ reached l Top)
           × (explored (targets (calls_of l)) (length (calls_of l)) (targets (calls_of l) Top ++ []) (Top ∷ []) ≡ Some rest)
       by_seen (passed is g) = absurd cc
       by_seen (entered later is g j) = (later, j, g)
@@ -184,7 +189,8 @@ left_entered l n found new =
     ap length (targets-called l (Symbol n)) ∙ length-map (called_by l n) Symbol in
     let same : left l (found ++ n ∷ []) ≡ calls_left (calls_of l) (Symbol n ∷ map Symbol found) =
     ap (calls_left (calls_of l)) (map-append Symbol found (n ∷ []))
-    ∙ left_same (calls_of l) (map Symbol found ++ Symbol n ∷ []) (Symbol n ∷ map Symbol found) (λ c. among_pushed c (Symbol n) (map Symbol found)) in
+    ∙ left_same (calls_of l) (map Symbol found ++ Symbol n ∷ []) (Symbol n ∷ map Symbol found)
+    (λ c. among_pushed c (Symbol n) (map Symbol found)) in
     let entered = calls_left-entered (calls_of l) (Symbol n) (map Symbol found) unseen in
     omega (arith, lens, same, entered)
 
@@ -198,7 +204,8 @@ popped l pending rest found all n e s =
     let back : reverse pending ≡ n ∷ reverse rest = ap reverse e ∙ reverse-append rest (n ∷ []) in
     let len : length pending + left l found ≡ suc (length rest + left l found) =
     ap (λ xs. length xs + left l found) e ∙ ap (λ k. k + left l found) (length-append rest (n ∷ [])) ∙ (omega arith) in
-    sym (ap (λ k. searched (called_by l) k (reverse pending) found) len ∙ ap (λ p. searched (called_by l) (suc (length rest + left l found)) p found) back) ∙ s
+    sym (ap (λ k. searched (called_by l) k (reverse pending) found) len
+    ∙ ap (λ p. searched (called_by l) (suc (length rest + left l found)) p found) back) ∙ s
 
 pub goes_past : (l : Layout) (pending rest found all : List ℕ) (n : ℕ) → pending ≡ rest ++ n ∷ [] → has_symbol found n ≡ true →
     Searches l pending found all → Searches l rest found all

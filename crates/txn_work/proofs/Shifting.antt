@@ -1,5 +1,6 @@
 -- Points, rings and items that are drawn and shifted.
-use Rattle.std.proofs.Common.{◌≡◌, ◌≢◌, ◌≤◌, ◌<ℤ◌, ℤ, Bool, true, false, ◌&&◌, cond, List, [], ◌∷◌, ◌++◌, map, length, None, Some, Ok, refl, ap, sym, ◌∙◌, arith}
+use Rattle.std.proofs.Common.{◌≡◌, ◌≢◌, ◌≤◌, ◌<ℤ◌, ℤ, Bool, true, false, ◌&&◌, cond, List, []}
+use Rattle.std.proofs.Common.{◌∷◌, ◌++◌, map, length, None, Some, Ok, refl, ap, sym, ◌∙◌, arith}
 use Rattle.std.specs.Prelude.{IfSome, int_lt, is_some, nat_lt, not}
 use Rattle.std.specs.Int.{int_max, int_min}
 use Rattle.std.specs.List.{list_all}
@@ -11,7 +12,8 @@ use Rattle.lay_point.specs.declared.point.Point.{Point}
 use Rattle.lay_point.specs.declared.turn.Quarter.TheVariants.{R0}
 use Rattle.lay_point.specs.declared.ring.TheConstants.{MAX_RING_POINTS}
 use Rattle.lay_point.specs.Points.{is_in_range, point_eq}
-use Rattle.lay_point.specs.Rings.{IsRing, NeighboursDiffer, checked_ring, closed, kept_behind, opened, opened_behind, ring_of, without_repeats}
+use Rattle.lay_point.specs.Rings.{IsRing, NeighboursDiffer, checked_ring, closed}
+use Rattle.lay_point.specs.Rings.{kept_behind, opened, opened_behind, ring_of, without_repeats}
 use Rattle.lay_point.specs.Same.{point_eq-Decides}
 use Rattle.lay_point.specs.Turns.{shifted, turned, within_range}
 use Rattle.txn_rules.specs.Figures.{are_in_range, shifted_rings}

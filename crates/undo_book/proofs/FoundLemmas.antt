@@ -67,7 +67,8 @@ walked : (h : History) → IsHistory h → (txn : TxnId) (at : Found) → found 
     first_apart at.entry.footprint at.before at.entry.seen ≡ first_moved at.before (links_to at.before at.entry.footprint) at.entry.seen
 walked h is txn at there =
     let split = split_at h txn at there in
-    let kept : AreKept h.log h.base h.layout (at.before ++ at.entry ∷ at.later) = subst (AreKept h.log h.base h.layout) split.parts is.kept in
+    let kept : AreKept h.log h.base h.layout (at.before ++ at.entry ∷ at.later) =
+    subst (AreKept h.log h.base h.layout) split.parts is.kept in
     let (root, _) = root_of h.log h.base [] [] at.before at.entry at.later kept.rooted in
     subst (λ (seen : List TxnId). first_apart at.entry.footprint at.before seen
     ≡ first_moved at.before (links_to at.before at.entry.footprint) seen) root.seen

@@ -45,7 +45,8 @@ places_marked places live txn es are q = are q ∙ sym (place_marked live txn es
 -- a transaction under a new name goes into it
 pub places_pushed : (places new : List ((ℕ × ℕ) × ℕ)) (es : List Entry) (e : Entry) (name : TxnId) (place : ℕ) → e.txn ≡ name →
     place ≡ length es → AllByRecursion (λ other. txn_eq other.txn e.txn ≡ false) es → AreTheirPlaces places es →
-    ((q : ℕ × ℕ) → lookup (is_at (name_cmp q)) new ≡ cond (is_at (name_cmp (name_of name)) q) (Some place) (lookup (is_at (name_cmp q)) places))
+    ((q : ℕ × ℕ) → lookup (is_at (name_cmp q)) new ≡ cond (is_at (name_cmp (name_of name)) q) (Some place)
+    (lookup (is_at (name_cmp q)) places))
     → AreTheirPlaces new (es ++ e ∷ [])
 places_pushed places new es e name place named last apart are h txn =
     h (name_of txn) ∙ ap (λ b. cond b (Some place) (lookup (is_at (name_cmp (name_of txn))) places)) (same_name name txn)

@@ -13,7 +13,8 @@ use Rattle.undo_rules.proofs.Grounds.{ran_proper}
 use Rattle.undo_rules.proofs.Roots.{root_of}
 use Rattle.undo_rules.proofs.Undoing.{chain_sound}
 
-pub kept_sound : (log : List Logged) (base layout : Layout) (entries : List Entry) → AreKept log base layout entries → IsSound base → IsSound layout
+pub kept_sound : (log : List Logged) (base layout : Layout) (entries : List Entry) → AreKept log base layout entries → IsSound base
+    → IsSound layout
 kept_sound log base layout entries kept sound = chain_sound log entries base layout kept.chain sound
 
 pub entry_proper : (log : List Logged) (base layout : Layout) (before : List Entry) (entry : Entry) (later : List Entry) →

@@ -14,7 +14,8 @@ use Rattle.undo_rules.specs.declared.log.Logged.{Logged}
 use Rattle.undo_rules.specs.Books.{History, IsHistory}
 use Rattle.undo_rules.specs.Histories.{AreKept}
 use Rattle.undo_rules.specs.Links.{Entry, first_moved, first_reader, links_to, marked}
-use Rattle.undo_rules.specs.Steps.{Found, after_redo, after_undo, depends, found, logged, moved, or_else, redo_refusal, redo_refusal_at, remarked}
+use Rattle.undo_rules.specs.Steps.{Found, after_redo, after_undo, depends, found, logged}
+use Rattle.undo_rules.specs.Steps.{moved, or_else, redo_refusal, redo_refusal_at, remarked}
 use Rattle.undo_rules.specs.Steps.{undo_refusal, undo_refusal_at, with_mark}
 use Rattle.undo_rules.proofs.HistoryLaws.{puts_back, replays, takes_out}
 use Rattle.undo_rules.proofs.Logs.{kept_longer}
@@ -85,7 +86,8 @@ redoes h is session txn at there free =
     let can = can_redo at (sym (ap redo_refusal_at there) ∙ free) in
     let end : Layout = applied h.layout at.entry.writes in
     let call : Logged = record { session = session; call = Redo txn; answer = Redone } in
-    let kept : AreKept h.log h.base h.layout (at.before ++ at.entry ∷ at.later) = subst (AreKept h.log h.base h.layout) split.parts is.kept in
+    let kept : AreKept h.log h.base h.layout (at.before ++ at.entry ∷ at.later) =
+    subst (AreKept h.log h.base h.layout) split.parts is.kept in
     let back = puts_back h.log h.base h.layout at.before at.entry at.later is.sound kept can.undone can.unread can.unmoved in
     let still : AreKept h.log h.base end (remarked true txn h.entries) = subst (AreKept h.log h.base end) (sym (split.marks true)) back in
     record {
@@ -116,7 +118,8 @@ undoes h is session txn at there free =
     let can = can_undo at (sym (ap undo_refusal_at there) ∙ free) in
     let end : Layout = reverted h.layout at.entry.writes in
     let call : Logged = record { session = session; call = Undo txn; answer = Undone } in
-    let kept : AreKept h.log h.base h.layout (at.before ++ at.entry ∷ at.later) = subst (AreKept h.log h.base h.layout) split.parts is.kept in
+    let kept : AreKept h.log h.base h.layout (at.before ++ at.entry ∷ at.later) =
+    subst (AreKept h.log h.base h.layout) split.parts is.kept in
     let took = takes_out h.log h.base h.layout at.before at.entry at.later is.sound kept can.live can.unread in
     let still : AreKept h.log h.base end (remarked false txn h.entries) =
     subst (AreKept h.log h.base end) (sym (split.marks false)) took.kept in
@@ -175,7 +178,8 @@ undone_here b is session txn place entry placed there free =
       sound = does.sound;
       left = λ end log entries lay logs marks.
           let new : History = record b { layout = end; log = log; entries = entries } in
-          let marked_so : entries ≡ remarked false txn b.entries = marks ∙ sym (marked_there false b.entries txn place entry placed there) in
+          let marked_so : entries ≡ remarked false txn b.entries =
+          marks ∙ sym (marked_there false b.entries txn place entry placed there) in
           let same : after_undo b session txn ≡ new =
           does.after ∙ (λ i. record b { layout = sym lay i; log = sym logs i; entries = sym marked_so i }) in
           record {

@@ -1,5 +1,6 @@
 -- Going along beside the earlier transactions finds the first whose link has moved.
-use Rattle.std.proofs.Common.{◌≡◌, Bool, true, false, cond, ◌&&◌, ◌||◌, List, [], ◌∷◌, length, map, Option, None, Some, refl, sym, ap, ◌∙◌, arith}
+use Rattle.std.proofs.Common.{◌≡◌, Bool, true, false, cond, ◌&&◌, ◌||◌, List, [], ◌∷◌}
+use Rattle.std.proofs.Common.{length, map, Option, None, Some, refl, sym, ap, ◌∙◌, arith}
 use Rattle.std.specs.List.{AllByRecursion}
 use Rattle.txn_rules.specs.declared.command.TxnId.{TxnId}
 use Rattle.txn_rules.specs.Elements.{Touched}
@@ -14,7 +15,8 @@ passed : (entry : Entry) (name : TxnId) (names : List TxnId) → txn_eq name ent
 passed entry name names apart = ap (λ b. b || is_among entry.txn names) (txn_eq-sym name entry.txn apart)
 
 in_front : (es : List Entry) (name : TxnId) (one other : List TxnId) →
-    AllByRecursion (λ (u : Trace). txn_eq name u.txn ≡ false) (map trace_of es) → first_moved es (name ∷ one) other ≡ first_moved es one other
+    AllByRecursion (λ (u : Trace). txn_eq name u.txn ≡ false) (map trace_of es)
+    → first_moved es (name ∷ one) other ≡ first_moved es one other
 in_front [] name one other apart = refl
 in_front (e ∷ es) name one other apart =
     let rest = in_front es name one other apart.1 in
@@ -22,7 +24,8 @@ in_front (e ∷ es) name one other apart =
     (cond (is_among e.txn other) (Some e.txn) (rest i)))
 
 in_front_too : (es : List Entry) (name : TxnId) (one other : List TxnId) →
-    AllByRecursion (λ (u : Trace). txn_eq name u.txn ≡ false) (map trace_of es) → first_moved es one (name ∷ other) ≡ first_moved es one other
+    AllByRecursion (λ (u : Trace). txn_eq name u.txn ≡ false) (map trace_of es)
+    → first_moved es one (name ∷ other) ≡ first_moved es one other
 in_front_too [] name one other apart = refl
 in_front_too (e ∷ es) name one other apart =
     let rest = in_front_too es name one other apart.1 in

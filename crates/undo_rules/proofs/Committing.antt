@@ -31,7 +31,8 @@ pub chain_replays : (log : List Logged) (first : Layout) (entries : List Entry) 
     replay_from log first entries ≡ Some last
 chain_replays log first [] last chain = ap Some chain
 chain_replays log first (entry ∷ entries) last chain = by entry.live chain (λ l. chain_replays log l entries last) where
-  by : (live : Bool) → MatchBool live ((next : Layout) × Ran log entry first next × Chain log next entries last) (Chain log first entries last)
+  by : (live : Bool) → MatchBool live ((next : Layout) × Ran log entry first next × Chain log next entries last)
+      (Chain log first entries last)
       → ((l : Layout) → Chain log l entries last → replay_from log l entries ≡ Some last)
       → cond live (run_on entry (commands_at log entry.place) first (λ next. replay_from log next entries)) (replay_from log first entries)
       ≡ Some last
@@ -100,7 +101,8 @@ pub entered_kept : (log : List Logged) (base layout next : Layout) (entries : Li
     AreKept log base next (entries ++ entry ∷ [])
 entered_kept log base layout next entries entry sound is ran links named kept = record {
   chain = chain_join log entries (entry ∷ []) base layout next kept.chain
-      (subst (λ (live : Bool). MatchBool live ((m : Layout) × Ran log entry layout m × (m ≡ next)) (layout ≡ next)) (sym is) (next, ran, refl));
+      (subst (λ (live : Bool). MatchBool live ((m : Layout) × Ran log entry layout m × (m ≡ next)) (layout ≡ next)) (sym is)
+      (next, ran, refl));
   rooted = rooted_more log base [] [] entries entry
       (record {
         marks = map live_of entries;
@@ -120,7 +122,8 @@ commits log base snapshot opened layout entries changes entry commands run sound
     live links named kept =
     let touched = entry.footprint in
     let agree : AgreeOn snapshot layout touched = λ e has.
-    agree-trans snapshot opened layout e (agree-sym opened snapshot e (its e has)) (agreed_since opened layout touched changes since free e has) in
+    agree-trans snapshot opened layout e (agree-sym opened snapshot e (its e has))
+    (agreed_since opened layout touched changes since free e has) in
     let layout_sound = chain_sound log entries base layout kept.chain sound in
     let found = frame entry.txn commands (begun snapshot) run runs (begun layout) (record {
       made = refl;

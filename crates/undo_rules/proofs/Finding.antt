@@ -1,5 +1,6 @@
 -- Transactions by their names, and what a mark leaves as it was.
-use Rattle.std.proofs.Common.{◌≡◌, ℕ, Bool, true, false, cond, List, [], ◌∷◌, ◌++◌, Option, None, Some, option_map, refl, sym, ap, subst, ◌∙◌, append_assoc, append-nil}
+use Rattle.std.proofs.Common.{◌≡◌, ℕ, Bool, true, false, cond, List, [], ◌∷◌, ◌++◌, Option, None}
+use Rattle.std.proofs.Common.{Some, option_map, refl, sym, ap, subst, ◌∙◌, append_assoc, append-nil}
 use Rattle.std.specs.Prelude.{is_some}
 use Rattle.std.specs.List.{AllByRecursion}
 use Rattle.txn_rules.specs.declared.command.TxnId.{TxnId}
@@ -16,12 +17,14 @@ pub record IsFound (before entries : List Entry) (txn : TxnId) (at : Found) : Ty
   pub written : writes_of entries txn ≡ Some at.entry.writes
   pub marks : (live : Bool) → remarked live txn entries ≡ front ++ marked live at.entry ∷ at.later
 
-pub found_is : (before entries : List Entry) (txn : TxnId) (at : Found) → found_behind before entries txn ≡ Some at → IsFound before entries txn at
+pub found_is : (before entries : List Entry) (txn : TxnId) (at : Found) → found_behind before entries txn ≡ Some at
+    → IsFound before entries txn at
 found_is before [] txn at h = absurd cc
 found_is before (entry ∷ later) txn at h =
     by (txn_eq entry.txn txn) refl h (λ e. found_is (before ++ entry ∷ []) later txn at e) where
       by : (b : Bool) → txn_eq entry.txn txn ≡ b
-          → cond b (Some (record { before = before; entry = entry; later = later })) (found_behind (before ++ entry ∷ []) later txn) ≡ Some at
+          → cond b (Some (record { before = before; entry = entry; later = later })) (found_behind (before ++ entry ∷ []) later txn)
+          ≡ Some at
           → (found_behind (before ++ entry ∷ []) later txn ≡ Some at → IsFound (before ++ entry ∷ []) later txn at)
           → IsFound before (entry ∷ later) txn at
       by true is h rest =

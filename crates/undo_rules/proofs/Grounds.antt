@@ -27,7 +27,8 @@ apart_from : (ws : Records) (es : List Element) (e : Element) → list_any (some
     list_any (eq_by_cmp element_cmp e) es ≡ true → some_meets ws e ≡ false
 apart_from ws [] e free has = absurd cc
 apart_from ws (x ∷ es) e free has = by (some_meets ws x) refl (eq_by_cmp element_cmp e x) refl free has (apart_from ws es e) where
-  by : (met : Bool) → some_meets ws x ≡ met → (same : Bool) → eq_by_cmp element_cmp e x ≡ same → (met || list_any (some_meets ws) es) ≡ false
+  by : (met : Bool) → some_meets ws x ≡ met → (same : Bool) → eq_by_cmp element_cmp e x ≡ same
+      → (met || list_any (some_meets ws) es) ≡ false
       → (same || list_any (eq_by_cmp element_cmp e) es) ≡ true
       → (list_any (some_meets ws) es ≡ false → list_any (eq_by_cmp element_cmp e) es ≡ true → some_meets ws e ≡ false)
       → some_meets ws e ≡ false

@@ -1,4 +1,4 @@
--- Transactions laid on a base in two ways: what they agree on.
+-- Transactions applied to a base in two ways: what they agree on.
 use Rattle.std.proofs.Common.{◌≡◌, Bool, true, false, List, [], ◌∷◌, refl, sym}
 use Rattle.lay_items.specs.Layout.{Layout}
 use Rattle.txn_rules.specs.declared.element.Element.{Element}
@@ -16,7 +16,7 @@ SameMarks e (t ∷ ts) [] ns = ⊥
 SameMarks e (t ∷ ts) (m ∷ ms) [] = ⊥
 SameMarks e (t ∷ ts) (m ∷ ms) (n ∷ ns) = (some_meets t.writes e ≡ true → m ≡ n) × SameMarks e ts ms ns
 
--- laid on layouts that agree on an element, so do those to which they lead
+-- applied to layouts that agree on an element, they lead to ones that do
 pub laid-agree : (e : Element) (ts : List Trace) (ms ns : List Bool) (k l m n : Layout) → SameMarks e ts ms ns → Laid ts ms k m →
     Laid ts ns l n → Agree k l e → Agree m n e
 laid-agree e [] ms ns k l m n same first other agree =

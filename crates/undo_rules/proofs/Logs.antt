@@ -1,5 +1,6 @@
 -- What is kept stays so with a longer log.
-use Rattle.std.proofs.Common.{◌≡◌, ℕ, ◌≤◌, zero, suc, Bool, true, false, List, [], ◌∷◌, ◌++◌, length, drop, Option, None, Some, refl, ap, ◌∙◌, arith, slice_get}
+use Rattle.std.proofs.Common.{◌≡◌, ℕ, ◌≤◌, zero, suc, Bool, true, false, List, [], ◌∷◌, ◌++◌}
+use Rattle.std.proofs.Common.{length, drop, Option, None, Some, refl, ap, ◌∙◌, arith, slice_get}
 use Rattle.std.specs.Prelude.{MatchBool}
 use Rattle.std.proofs.lemmas.List.Elements.{filter_map-append}
 use Rattle.lay_items.specs.Layout.{Layout}
@@ -17,7 +18,8 @@ get-push (z ∷ xs) x (suc i) y h = get-push xs x i y h
 told_longer : (log : List Logged) (call : Logged) (place : ℕ) (commands : List Command) → commands_at log place ≡ Some commands →
     commands_at (log ++ call ∷ []) place ≡ Some commands
 told_longer log call place commands h = by (slice_get log place) refl h where
-  by : (at : Option Logged) → slice_get log place ≡ at → commands_in at ≡ Some commands → commands_at (log ++ call ∷ []) place ≡ Some commands
+  by : (at : Option Logged) → slice_get log place ≡ at → commands_in at ≡ Some commands
+      → commands_at (log ++ call ∷ []) place ≡ Some commands
   by None is h = absurd cc
   by (Some there) is h = ap commands_in (get-push log call place there is) ∙ h
 
@@ -36,7 +38,8 @@ chain_longer : (log : List Logged) (call : Logged) (entries : List Entry) (first
     Chain (log ++ call ∷ []) first entries last
 chain_longer log call [] first last chain = chain
 chain_longer log call (entry ∷ entries) first last chain = by entry.live chain (λ l. chain_longer log call entries l last) where
-  by : (live : Bool) → MatchBool live ((next : Layout) × Ran log entry first next × Chain log next entries last) (Chain log first entries last)
+  by : (live : Bool) → MatchBool live ((next : Layout) × Ran log entry first next × Chain log next entries last)
+      (Chain log first entries last)
       → ((l : Layout) → Chain log l entries last → Chain (log ++ call ∷ []) l entries last)
       → MatchBool live ((next : Layout) × Ran (log ++ call ∷ []) entry first next × Chain (log ++ call ∷ []) next entries last)
       (Chain (log ++ call ∷ []) first entries last)
@@ -76,5 +79,6 @@ drop_longer zero xs x h = refl
 drop_longer (suc n) [] x h = absurd (omega (arith, h))
 drop_longer (suc n) (y ∷ xs) x h = drop_longer n xs x (omega (arith, h))
 
-pub changed_longer : (calls : List Logged) (call : Logged) → changed_among (calls ++ call ∷ []) ≡ changed_among calls ++ changed_among (call ∷ [])
+pub changed_longer : (calls : List Logged) (call : Logged)
+    → changed_among (calls ++ call ∷ []) ≡ changed_among calls ++ changed_among (call ∷ [])
 changed_longer calls call = filter_map-append changed_in calls (call ∷ [])

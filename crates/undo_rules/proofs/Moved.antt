@@ -1,5 +1,6 @@
 -- Links that no transaction is in alone are equal.
-use Rattle.std.proofs.Common.{◌≡◌, ◌==◌, Bool, true, false, cond, ◌&&◌, ◌||◌, List, [], ◌∷◌, length, map, None, Some, refl, sym, ap, ◌∙◌, arith}
+use Rattle.std.proofs.Common.{◌≡◌, ◌==◌, Bool, true, false, cond, ◌&&◌, ◌||◌, List, []}
+use Rattle.std.proofs.Common.{◌∷◌, length, map, None, Some, refl, sym, ap, ◌∙◌, arith}
 use Rattle.std.specs.List.{AllByRecursion}
 use Rattle.std.proofs.lemmas.Bool.Decides.{Decides-eqb}
 use Rattle.txn_rules.specs.declared.command.TxnId.{TxnId}
@@ -16,7 +17,8 @@ none_moved [] one other h = tt
 none_moved (entry ∷ entries) one other h =
     by (is_among entry.txn one) refl (is_among entry.txn other) refl h (none_moved entries one other) where
       by : (a : Bool) → is_among entry.txn one ≡ a → (b : Bool) → is_among entry.txn other ≡ b
-          → cond a (cond b (first_moved entries one other) (Some entry.txn)) (cond b (Some entry.txn) (first_moved entries one other)) ≡ None
+          → cond a (cond b (first_moved entries one other) (Some entry.txn))
+          (cond b (Some entry.txn) (first_moved entries one other)) ≡ None
           → (first_moved entries one other ≡ None → AreIn one other (map trace_of entries))
           → (is_among entry.txn one ≡ is_among entry.txn other) × AreIn one other (map trace_of entries)
       by true is true are h rest = (is ∙ sym are, rest h)
@@ -58,7 +60,8 @@ behind t (u ∷ ts) one other apart are =
       behind t ts one other apart.1 are.1,
     )
 
-pub equal_where_in : (touched : Touched) (ts : List Trace) (ms ns : List Bool) → AreNamed ts → length ms ≡ length ts → length ns ≡ length ts →
+pub equal_where_in : (touched : Touched) (ts : List Trace) (ms ns : List Bool) → AreNamed ts → length ms ≡ length ts
+    → length ns ≡ length ts →
     AreIn (linked touched ts ms) (linked touched ts ns) ts → linked touched ts ms ≡ linked touched ts ns
 equal_where_in touched [] ms ns named long lasting are = refl
 equal_where_in touched (t ∷ ts) [] ns named long lasting are = absurd cc

@@ -1,5 +1,6 @@
 -- A refusal that is logged, an open, and a stale commit keep what a book keeps true.
-use Rattle.std.proofs.Common.{◌≡◌, ◌≢◌, ◌⊎◌, inl, inr, ℕ, ◌+◌, ◌-◌, ◌≤◌, ◌<◌, zero, suc, true, List, [], ◌∷◌, ◌++◌, length, drop, None, Some}
+use Rattle.std.proofs.Common.{◌≡◌, ◌≢◌, ◌⊎◌, inl, inr, ℕ, ◌+◌, ◌-◌, ◌≤◌, ◌<◌, zero}
+use Rattle.std.proofs.Common.{suc, true, List, [], ◌∷◌, ◌++◌, length, drop, None, Some}
 use Rattle.std.proofs.Common.{refl, sym, ap, subst, ◌∙◌, arith, append-nil, slice_get, slice_set, slice_index_or}
 use Rattle.std.specs.Prelude.{is_some}
 use Rattle.std.specs.List.{AllByRecursion, cons_option, filter_map}
@@ -11,7 +12,8 @@ use Rattle.undo_rules.specs.declared.log.BookFault.{BookFault}
 use Rattle.undo_rules.specs.declared.log.Call.{Call}
 use Rattle.undo_rules.specs.declared.log.Call.TheVariants.{Open}
 use Rattle.undo_rules.specs.declared.log.Logged.{Logged}
-use Rattle.undo_rules.specs.Books.{History, IsHistory, IsNamed, Pending, SessionState, changed_among, changed_in, changes_since, entry_of, writes_of}
+use Rattle.undo_rules.specs.Books.{History, IsHistory, IsNamed, Pending, SessionState}
+use Rattle.undo_rules.specs.Books.{changed_among, changed_in, changes_since, entry_of, writes_of}
 use Rattle.undo_rules.specs.Histories.{IsSince}
 use Rattle.undo_rules.specs.Links.{Entry}
 use Rattle.undo_rules.specs.Steps.{after_open, ended, ended_state, logged, state_of, unused}
@@ -63,7 +65,8 @@ silent_among log call silent =
     changed_longer log call ∙ ap (λ names. changed_among log ++ names) (λ i. cons_option (silent i) []) ∙ append-nil (changed_among log)
 
 -- a call that is refused
-pub refused_keeps : (h : History) → IsHistory h → (session : ℕ) (call : Call) (fault : BookFault) → IsHistory (logged h session call (Refused fault))
+pub refused_keeps : (h : History) → IsHistory h → (session : ℕ) (call : Call) (fault : BookFault)
+    → IsHistory (logged h session call (Refused fault))
 refused_keeps h is session call fault =
     let entered : Logged = record { session = session; call = call; answer = Refused fault } in
     record {

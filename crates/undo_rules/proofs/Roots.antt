@@ -1,5 +1,6 @@
 -- What is kept of the transactions stays so where one of them is marked otherwise.
-use Rattle.std.proofs.Common.{◌≡◌, ◌⊎◌, inl, inr, Bool, true, List, [], ◌∷◌, ◌++◌, length, map, refl, sym, subst, ◌∙◌, append_assoc, append-nil, arith}
+use Rattle.std.proofs.Common.{◌≡◌, ◌⊎◌, inl, inr, Bool, true, List, [], ◌∷◌, ◌++◌, length}
+use Rattle.std.proofs.Common.{map, refl, sym, subst, ◌∙◌, append_assoc, append-nil, arith}
 use Rattle.std.proofs.lemmas.List.{length-append}
 use Rattle.lay_items.specs.Layout.{Layout}
 use Rattle.txn_rules.specs.Records.{Records}
@@ -81,7 +82,8 @@ rooted_again log base earlier ms [] entry later live long unread linked_so (root
 rooted_again log base earlier ms (b ∷ before) entry later live long unread linked_so (root, links, rest) = (
   root,
   links,
-  rooted_again log base (earlier ++ trace_of b ∷ []) (ms ++ b.live ∷ []) before entry later live (longer ms earlier b.live (trace_of b) long)
+  rooted_again log base (earlier ++ trace_of b ∷ []) (ms ++ b.live ∷ []) before entry later live
+      (longer ms earlier b.live (trace_of b) long)
       unread (λ is. (λ i. linked entry.footprint (append_assoc earlier (trace_of b ∷ []) (map trace_of before) i)
       (append_assoc ms (b.live ∷ []) (map live_of before) i)) ∙ linked_so is) rest,
 )

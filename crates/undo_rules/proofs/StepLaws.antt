@@ -24,7 +24,8 @@ use Rattle.undo_rules.specs.Books.{History, IsHistory, changed_among, changed_by
 use Rattle.undo_rules.specs.Books.{writes_of}
 use Rattle.undo_rules.specs.Histories.{AreKept, IsSince}
 use Rattle.undo_rules.specs.Links.{Entry, first_moved, first_reader, links_to}
-use Rattle.undo_rules.specs.Steps.{Found, after_redo, after_undo, depends, found, logged, moved, or_else, redo_refusal, redo_refusal_at, remarked}
+use Rattle.undo_rules.specs.Steps.{Found, after_redo, after_undo, depends, found, logged}
+use Rattle.undo_rules.specs.Steps.{moved, or_else, redo_refusal, redo_refusal_at, remarked}
 use Rattle.undo_rules.specs.Steps.{settled, undo_refusal, undo_refusal_at, with_mark}
 use Rattle.undo_rules.proofs.Chains.{no_reader}
 use Rattle.undo_rules.proofs.Committing.{chain_replays, since_more}
@@ -61,7 +62,8 @@ one_more : (log : List Logged) (call : Logged) (entries : List Entry) (live : Bo
     place < length log → changed_in call ≡ Some txn → writes_of entries txn ≡ Some ws →
     changes_since (log ++ call ∷ []) (remarked live txn entries) place ≡ changes_since log entries place ++ ws ∷ []
 one_more log call entries live txn ws place within changed written =
-    ap (λ calls. filter_map (writes_of (remarked live txn entries)) (changed_among calls)) (drop_longer (place + 1) log call (omega (arith, within)))
+    ap (λ calls. filter_map (writes_of (remarked live txn entries)) (changed_among calls))
+    (drop_longer (place + 1) log call (omega (arith, within)))
     ∙ ap (filter_map (writes_of (remarked live txn entries))) (changed_longer (drop (place + 1) log) call)
     ∙ same_changes live txn entries (changed_among (drop (place + 1) log) ++ changed_among (call ∷ []))
     ∙ filter_map-append (writes_of entries) (changed_among (drop (place + 1) log)) (changed_among (call ∷ []))
@@ -132,7 +134,8 @@ undo_at h is session txn at found live unread =
     (subst IsHistory (sym same) after, ap (λ (x : History). x.layout) same ∙ sym to)
 
 -- an accepted undo keeps what a book keeps true, and reverts the transaction's records
-pub undo_keeps : (h : History) → IsHistory h → (session : ℕ) (txn : TxnId) → undo_refusal h txn ≡ None → IsHistory (after_undo h session txn)
+pub undo_keeps : (h : History) → IsHistory h → (session : ℕ) (txn : TxnId) → undo_refusal h txn ≡ None
+    → IsHistory (after_undo h session txn)
 undo_keeps h is session txn = by (found h txn) refl where
   by : (at : Option Found) → found h txn ≡ at → undo_refusal_at at ≡ None → IsHistory (after_undo h session txn)
   by None there none = absurd cc
@@ -162,7 +165,8 @@ redo_at h is session txn at found undone unread unmoved =
     subst IsHistory (sym (settled_is (logged (with_mark h true txn) session (Redo txn) Redone) end after.kept)) after
 
 -- and so does an accepted redo
-pub redo_keeps : (h : History) → IsHistory h → (session : ℕ) (txn : TxnId) → redo_refusal h txn ≡ None → IsHistory (after_redo h session txn)
+pub redo_keeps : (h : History) → IsHistory h → (session : ℕ) (txn : TxnId) → redo_refusal h txn ≡ None
+    → IsHistory (after_redo h session txn)
 redo_keeps h is session txn = by (found h txn) refl where
   by : (at : Option Found) → found h txn ≡ at → redo_refusal_at at ≡ None → IsHistory (after_redo h session txn)
   by None there none = absurd cc

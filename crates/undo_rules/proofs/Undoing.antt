@@ -20,12 +20,13 @@ use Rattle.undo_rules.proofs.Roots.{ran_marked, root_of, rooted_again}
 
 -- ---- chains
 
--- the live ones of a chain are laid on its first layout
+-- the live ones of a chain lead from its first layout to its last
 pub chain_laid : (log : List Logged) (entries : List Entry) (first last : Layout) → Chain log first entries last →
     Laid (map trace_of entries) (map live_of entries) first last
 chain_laid log [] first last chain = chain
 chain_laid log (entry ∷ entries) first last chain = by entry.live chain (λ l. chain_laid log entries l last) where
-  by : (live : Bool) → MatchBool live ((next : Layout) × Ran log entry first next × Chain log next entries last) (Chain log first entries last)
+  by : (live : Bool) → MatchBool live ((next : Layout) × Ran log entry first next × Chain log next entries last)
+      (Chain log first entries last)
       → ((l : Layout) → Chain log l entries last → Laid (map trace_of entries) (map live_of entries) l last)
       → MatchBool live ((next : Layout) × Lead entry.writes first next × Laid (map trace_of entries) (map live_of entries) next last)
       (Laid (map trace_of entries) (map live_of entries) first last)
@@ -62,7 +63,8 @@ pub chain_join : (log : List Logged) (before later : List Entry) (first mid last
 chain_join log [] later first mid last front back = subst (λ (l : Layout). Chain log l later last) (sym front) back
 chain_join log (entry ∷ before) later first mid last front back =
     by entry.live front (λ l rest. chain_join log before later l mid last rest back) where
-      by : (live : Bool) → MatchBool live ((next : Layout) × Ran log entry first next × Chain log next before mid) (Chain log first before mid)
+      by : (live : Bool) → MatchBool live ((next : Layout) × Ran log entry first next × Chain log next before mid)
+          (Chain log first before mid)
           → ((l : Layout) → Chain log l before mid → Chain log l (before ++ later) last)
           → MatchBool live ((next : Layout) × Ran log entry first next × Chain log next (before ++ later) last)
           (Chain log first (before ++ later) last)
@@ -144,7 +146,8 @@ redone_kept log base layout before entry later sound is unread links kept =
           let named = named_front before (entry ∷ later) kept.named in
           let agree : AgreeOn root.before first entry.footprint = λ e has.
           laid-agree e (map trace_of before) root.marks (map live_of before) base base root.before first
-          (equal_links entry.footprint e (λ ws free. apart ws entry.footprint free e has) (map trace_of before) root.marks (map live_of before)
+          (equal_links entry.footprint e (λ ws free. apart ws entry.footprint free e has) (map trace_of before) root.marks
+          (map live_of before)
           named root.count (length-map before live_of ∙ sym (length-map before trace_of)) (root.seen ∙ sym links)) root.laid laid
           (agree-equal base base e refl) in
           let first_sound = chain_sound log before base first front sound in

@@ -1,5 +1,6 @@
 -- Histories: the live transactions, run in the order of their commits, lead from the base to the layout.
-use Rattle.std.specs.Prelude.{◌≡◌, ℕ, List, [], ◌∷◌, ◌++◌, length, map, Bool, true, false, Option, None, Some, if◌then◌else◌, slice_get, MatchBool}
+use Rattle.std.specs.Prelude.{◌≡◌, ℕ, List, [], ◌∷◌, ◌++◌, length, map, Bool, true}
+use Rattle.std.specs.Prelude.{false, Option, None, Some, if◌then◌else◌, slice_get, MatchBool}
 use Rattle.std.specs.List.{AllByRecursion}
 use Rattle.lay_items.specs.Layout.{Layout}
 use Rattle.lay_items.specs.Sound.{IsSound}

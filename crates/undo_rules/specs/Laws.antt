@@ -87,7 +87,8 @@ abbrev pub AnOpenKeepsTheBook : Type 0
 AnOpenKeepsTheBook = (h : History) → IsHistory h → (session : ℕ) → 1 ≤ session → session ≤ 64 → IsHistory (after_open h session)
 
 abbrev pub ARefusalKeepsTheBook : Type 0
-ARefusalKeepsTheBook = (h : History) → IsHistory h → (session : ℕ) (call : Call) (fault : BookFault) → IsHistory (logged h session call (Refused fault))
+ARefusalKeepsTheBook =
+    (h : History) → IsHistory h → (session : ℕ) (call : Call) (fault : BookFault) → IsHistory (logged h session call (Refused fault))
 
 -- the work is the one that its session opened last and that is not committed yet; and on what it touched the layout at its open
 -- is as its snapshot has it

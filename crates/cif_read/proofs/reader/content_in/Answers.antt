@@ -7,7 +7,8 @@ use Rattle.cif_commands.proofs.CutLemmas.{length-behind_command, length-skip, so
 use Rattle.cif_read.specs.Content.{start}
 use Rattle.cif_read.specs.Kept.{IsKept}
 use Rattle.cif_read.specs.Meaning.{after_bytes, begins_with_end, content_in, no_memory}
-use Rattle.cif_read.proofs.MeaningLemmas.{at_end_keeps, end_parts, fault_wanted, front_breaks, front_command, front_end, rest_means, start_means, value_wanted, whole_means}
+use Rattle.cif_read.proofs.MeaningLemmas.{at_end_keeps, end_parts, fault_wanted, front_breaks}
+use Rattle.cif_read.proofs.MeaningLemmas.{front_command, front_end, rest_means, start_means, value_wanted, whole_means}
 use Rattle.cif_read.proofs.PieceFacts.{kept_step}
 use Rattle.cif_read.proofs.StepFacts.{start_kept}
 use Rattle.cif_read.proofs.reader.content_in.Goals as goal
@@ -57,7 +58,8 @@ loop-alloc-preserved c =
     let whole : content_in c.args.text.now ≡ rest_means c.apply.new.content total (behind_command len rest) =
     whole_means c.loop-alloc.content total rest _ _ front c.loop-alloc.invariant.means ∙ rw next refl in
     let shorter = length-behind_command len rest (some_bytes total rest len front) in
-    let step = (kept_step c.loop-alloc.content c.apply.new.content (offset_of total rest) (take len rest) c.loop-alloc.invariant.kept next).1 in
+    let step = (kept_step c.loop-alloc.content c.apply.new.content (offset_of total rest) (take len rest)
+    c.loop-alloc.invariant.kept next).1 in
     rw behind (record {
       means = sym whole;
       few = omega (arith, step.count, shorter, c.loop-alloc.invariant.few);

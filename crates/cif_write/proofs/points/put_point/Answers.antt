@@ -5,5 +5,6 @@ use Rattle.cif_write.proofs.points.put_point.Goals as goal
 
 pub returns : goal.returns
 returns g c =
-    Buffered-is (Buffered-then (Buffered-then (Buffered-then c.put_byte.ensures c.put_signed.ensures) c.put_byte-2.ensures) c.put_signed-2.ensures)
+    Buffered-is (Buffered-then (Buffered-then (Buffered-then c.put_byte.ensures c.put_signed.ensures) c.put_byte-2.ensures)
+    c.put_signed-2.ensures)
     (search rules)

@@ -21,5 +21,6 @@ loop-position-preserved g c =
     let of_items : List (ItemId × Item) → List ℕ =
     λ es. lines_text (definition_lines (record { number = number; items = map item_of es })) in
     let left = λ (k : ℕ). lines_text (definitions_lines (map (definition_of snapshot) (drop k cells))) in
-    Begun-then {rest = left i} (left (i + 1)) c.loop-position.invariant (Buffered-is c.put_definition.ensures (ap of_items c.items-items.ensures))
+    Begun-then {rest = left i} (left (i + 1)) c.loop-position.invariant
+    (Buffered-is c.put_definition.ensures (ap of_items c.items-items.ensures))
     (definitions_text-step (definition_of snapshot) cells i number within (get_or_from_slice_get cells i number number at))

@@ -1,4 +1,5 @@
-use Rattle.std.proofs.Common.{◌≡◌, ◌<◌, ◌+◌, ◌∷◌, [], ◌++◌, Vec, Global, refl, length, map, get_or, take, sym, ap, ◌∙◌, arith, append_assoc, length-append}
+use Rattle.std.proofs.Common.{◌≡◌, ◌<◌, ◌+◌, ◌∷◌, [], ◌++◌, Vec, Global, refl, length, map}
+use Rattle.std.proofs.Common.{get_or, take, sym, ap, ◌∙◌, arith, append_assoc, length-append}
 use Rattle.std.proofs.lemmas.List.{get_or-map, length-map, length-take-le, take_more}
 use Rattle.lay_point.specs.declared.ring.Ring.{Ring}
 use Rattle.part_laws.specs.Heads.{AreDivided}
@@ -31,7 +32,8 @@ loop-ring-preserved c =
     let inside : l < length parts = omega (arith, c.requires.within n 0 lt) in
     let old = c.index_mut.result.now in
     let next = divided_more c.args.count (take n labels) c.loop-ring.yielded (map (λ (part : Vec Ring Global). part.items) parts) l
-    c.in-Some.ring old.items c.push.new.self.items h.2 (omega (arith, length-take-le n labels (omega arith), h.0)) (c.requires.within n 0 lt)
+    c.in-Some.ring old.items c.push.new.self.items h.2 (omega (arith, length-take-le n labels (omega arith), h.0))
+    (c.requires.within n 0 lt)
     (ap (λ (part : Vec Ring Global). part.items) c.index_mut.ensures.value
     ∙ sym (get_or-map (λ (part : Vec Ring Global). part.items) parts l old old.items inside)) c.in_ok-push.ensures.items in (
       ap (λ k. k + 1) h.0 ∙ sym (length-append c.loop-ring.yielded (c.in-Some.ring ∷ [])),

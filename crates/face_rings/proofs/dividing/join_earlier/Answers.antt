@@ -26,4 +26,5 @@ pub returns : goal.returns
 returns c =
     let all : c.loop-first.first ≡ c.args.second = omega (arith, c.loop-first-test.false, c.loop-first.auto.first-end) in
     pairs_done c.args.boxes.now c.args.second c.loop-first.heads
-    (subst (λ f. IsFinest (AreJoinedUpTo c.args.boxes.now c.args.second f) (length c.args.boxes.now) c.loop-first.heads) all c.loop-first.invariant)
+    (subst (λ f. IsFinest (AreJoinedUpTo c.args.boxes.now c.args.second f) (length c.args.boxes.now) c.loop-first.heads) all
+    c.loop-first.invariant)

@@ -15,13 +15,16 @@ loop-number-preserved c =
     elim c.if-heads-number.branch [
       | then-heads-number+in_ok-push w ↦
           let own : get_or heads n 0 ≡ n = search rules in
-          let next = numbered_fresh heads c.requires n c.loop-number-test.true labels w.push.new.self.items count h.0 own w.in_ok-push.ensures.items in
+          let next =
+          numbered_fresh heads c.requires n c.loop-number-test.true labels w.push.new.self.items count h.0 own
+          w.in_ok-push.ensures.items in
           coe 1 0 (k. IsNumbered heads (n + 1) (w.labels-is k).items (w.count-is k) × (w.count-is k ≤ n + 1)) (next, omega (arith, h.1))
       | else-heads-number+in_ok-push-2 w ↦
           let other : get_or heads n 0 ≢ n = search rules in
           let low = (c.requires n c.loop-number-test.true).0 in
           let before : get_or heads n 0 < length labels = omega (arith, h.0.each, low, other) in
           let next = numbered_old heads c.requires n c.loop-number-test.true labels w.push-else-heads-number.new.self.items count h.0 other
-          w.index.result.now (w.index.ensures ∙ get_or_default labels (get_or heads n 0) w.index.result.now 0 before) w.in_ok-push-2.ensures.items in
+          w.index.result.now (w.index.ensures ∙ get_or_default labels (get_or heads n 0) w.index.result.now 0 before)
+          w.in_ok-push-2.ensures.items in
           coe 1 0 (k. IsNumbered heads (n + 1) (w.labels-is k).items (w.count-is k) × (w.count-is k ≤ n + 1)) (next, omega (arith, h.1))
     ]

@@ -12,7 +12,8 @@ use Rattle.face_rings.specs.declared.fault.LinkFault.TheVariants.{TooMany}
 use Rattle.link_laws.specs.Linked.{AreLinked}
 use Rattle.link_laws.proofs.CountLemmas.{rings_count, rings_odd}
 use Rattle.link_laws.proofs.StepLemmas.{all_linked, all_rings, all_sound, undirected_edges}
-use Rattle.face_rings.proofs.LinkLemmas.{IsLinking, all_short, linking_ends, linking_first, linking_goes_on, linking_skips, linking_sound, linking_too_long}
+use Rattle.face_rings.proofs.LinkLemmas.{IsLinking, all_short, linking_ends, linking_first}
+use Rattle.face_rings.proofs.LinkLemmas.{linking_goes_on, linking_skips, linking_sound, linking_too_long}
 use Rattle.link_laws.proofs.RingLaws.{AreSound}
 use Rattle.face_rings.proofs.linking.link.Goals as goal
 use Rattle.face_rings.proofs.linking.link.Goals.{then-not-index+in_ok-ring+in_ok-push, else-not-index}
@@ -41,14 +42,16 @@ pub next_ring-requires-clause-first : goal.next_ring-requires-clause-first
 next_ring-requires-clause-first c =
     let h = c.loop-number.invariant in
     linking_first c.args.edges.now c.loop-number.unused c.loop-number.number c.loop-number.rings.items h c.loop-number-test.true
-    (mark_is c.loop-number.unused.used.items c.loop-number.number c.index.result.now false (omega (arith, h.sound.marks, c.loop-number-test.true))
+    (mark_is c.loop-number.unused.used.items c.loop-number.number c.index.result.now false
+    (omega (arith, h.sound.marks, c.loop-number-test.true))
     c.index.ensures c.if-not-index.true)
 
 pub next_ring-requires-clause-ring : goal.next_ring-requires-clause-ring
 next_ring-requires-clause-ring c =
     let h = c.loop-number.invariant in
     linking_sound c.args.edges.now c.loop-number.unused c.loop-number.number c.loop-number.rings.items h c.loop-number-test.true
-    (mark_is c.loop-number.unused.used.items c.loop-number.number c.index.result.now false (omega (arith, h.sound.marks, c.loop-number-test.true))
+    (mark_is c.loop-number.unused.used.items c.loop-number.number c.index.result.now false
+    (omega (arith, h.sound.marks, c.loop-number-test.true))
     c.index.ensures c.if-not-index.true)
 
 pub loop-number-preserved : goal.loop-number-preserved
@@ -61,7 +64,8 @@ loop-number-preserved c =
     elim c.if-not-index.branch [
       | then-not-index+in_ok-ring+in_ok-push w ↦
           let here = mark_is unused.used.items n c.index.result.now false inside c.index.ensures w.if-not-index.true in
-          let next = linking_goes_on edges unused w.next_ring.new.unused n c.loop-number.rings.items w.push.new.self.items w.in_ok-ring.ring h
+          let next =
+          linking_goes_on edges unused w.next_ring.new.unused n c.loop-number.rings.items w.push.new.self.items w.in_ok-ring.ring h
           c.loop-number-test.true here w.in_ok-ring.ensures.sound w.in_ok-ring.ensures.kept w.in_ok-ring.ensures.marked
           w.in_ok-ring.ensures.ring w.in_ok-ring.ensures.left w.in_ok-ring.ensures.short w.in_ok-push.ensures.items in
           coe 1 0 (k. IsLinking edges (w.unused-is k) (n + 1) (w.rings-is k).items) next
@@ -77,7 +81,8 @@ returns-in_err-ring-clause-too_many c = λ e.
     let p = err_from_is_err_and c.from_residual-in_err-ring.result c.from_residual-in_err-ring.ensures.1 in
     let too_many : c.next_ring.result ≡ Err TooMany = cc (c.in_err-ring.was, p.1, p.2, e) in
     linking_too_long c.args.edges.now c.loop-number.unused c.loop-number.number c.loop-number.rings.items h c.loop-number-test.true
-    (mark_is c.loop-number.unused.used.items c.loop-number.number c.index.result.now false (omega (arith, h.sound.marks, c.loop-number-test.true))
+    (mark_is c.loop-number.unused.used.items c.loop-number.number c.index.result.now false
+    (omega (arith, h.sound.marks, c.loop-number-test.true))
     c.index.ensures c.if-not-index.true) (c.next_ring.ensures.too_many too_many)
 
 pub returns-clause-value : goal.returns-clause-value
@@ -87,14 +92,17 @@ returns-clause-value c = linking_ends c.args.edges.now c.loop-number.unused c.lo
 pub returns-clause-linked : goal.returns-clause-linked
 returns-clause-linked c =
     let edges = c.args.edges.now in
-    let value = linking_ends edges c.loop-number.unused c.loop-number.number c.loop-number.rings.items c.loop-number.invariant c.loop-number-test.false in
-    subst (AreLinked edges []) (sym value) (all_linked edges (undirected_edges edges c.in_ok-unused.ensures.lesser) c.requires.even c.requires.rising)
+    let value = linking_ends edges c.loop-number.unused c.loop-number.number c.loop-number.rings.items c.loop-number.invariant
+    c.loop-number-test.false in
+    subst (AreLinked edges []) (sym value) (all_linked edges (undirected_edges edges c.in_ok-unused.ensures.lesser) c.requires.even
+    c.requires.rising)
 
 pub returns-clause-once : goal.returns-clause-once
 returns-clause-once c =
     let edges = c.args.edges.now in
     let lesser = undirected_edges edges c.in_ok-unused.ensures.lesser in
-    let value = linking_ends edges c.loop-number.unused c.loop-number.number c.loop-number.rings.items c.loop-number.invariant c.loop-number-test.false in
+    let value = linking_ends edges c.loop-number.unused c.loop-number.number c.loop-number.rings.items c.loop-number.invariant
+    c.loop-number-test.false in
     λ test. ap (λ rs. count_by test (map undirected (edges_of rs))) value
     ∙ rings_count test edges (rings_of edges) (all_rings edges lesser c.requires.even) lesser
 
@@ -102,10 +110,13 @@ pub returns-clause-parity : goal.returns-clause-parity
 returns-clause-parity c =
     let edges = c.args.edges.now in
     let lesser = undirected_edges edges c.in_ok-unused.ensures.lesser in
-    let value = linking_ends edges c.loop-number.unused c.loop-number.number c.loop-number.rings.items c.loop-number.invariant c.loop-number-test.false in
-    λ k x y. ap (λ rs. odd (edges_of rs) k x y) value ∙ rings_odd edges (rings_of edges) (all_rings edges lesser c.requires.even) lesser k x y
+    let value = linking_ends edges c.loop-number.unused c.loop-number.number c.loop-number.rings.items c.loop-number.invariant
+    c.loop-number-test.false in
+    λ k x y. ap (λ rs. odd (edges_of rs) k x y) value ∙ rings_odd edges (rings_of edges) (all_rings edges lesser c.requires.even)
+    lesser k x y
 
 pub returns-clause-short : goal.returns-clause-short
 returns-clause-short c =
-    let value = linking_ends c.args.edges.now c.loop-number.unused c.loop-number.number c.loop-number.rings.items c.loop-number.invariant c.loop-number-test.false in
+    let value = linking_ends c.args.edges.now c.loop-number.unused c.loop-number.number c.loop-number.rings.items
+    c.loop-number.invariant c.loop-number-test.false in
     subst (All (λ r. length r ≤ MAX_RING_POINTS)) value (all_short c.loop-number.rings.items c.loop-number.invariant.short)

@@ -16,5 +16,6 @@ loop-x-preserved c =
     let is : point_of x y ≡ Some point = search rules in
     let pushed : c.push.new.self.items ≡ old ++ point ∷ [] = search rules in
     ap (λ l. points_from l (words c.in-Some-split_word.behind.now)) pushed
-    ∙ sym (points_from-point old x y point (words c.loop-x.rest.now) (words c.in-Some.behind.now) (words c.in-Some-split_word.behind.now) first second is)
+    ∙ sym (points_from-point old x y point (words c.loop-x.rest.now) (words c.in-Some.behind.now)
+    (words c.in-Some-split_word.behind.now) first second is)
     ∙ c.loop-x.invariant

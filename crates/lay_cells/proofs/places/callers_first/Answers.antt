@@ -71,7 +71,8 @@ loop-turn-preserved c = elim c.match-pop.branch [
       let path : c.match-pop.path.items ≡ w.visit.new.path.items = ap (λ (v : Vec ℕ). v.items) w.path-is in
       record {
         len = ap (λ (xs : List Mark). length xs) marks ∙ (w.in_ok-visit.ensures.len ∙ c.loop-turn.invariant.len);
-        pending = rw pending (subst (λ (n : ℕ). AreBelow w.visit.new.pending.items n) c.loop-turn.invariant.len w.in_ok-visit.ensures.pending);
+        pending = rw pending (subst (λ (n : ℕ). AreBelow w.visit.new.pending.items n) c.loop-turn.invariant.len
+            w.in_ok-visit.ensures.pending);
         path = rw path (subst (λ (n : ℕ). AreBelow w.visit.new.path.items n) c.loop-turn.invariant.len w.in_ok-visit.ensures.path);
       }
   | in_default w ↦

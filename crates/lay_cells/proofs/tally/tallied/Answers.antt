@@ -47,6 +47,7 @@ unwrap-requires c =
     let rows = rows_of c.args.rows.now.items in
     let end : c.args.rounds ≡ c.loop-round._round = omega (arith, c.loop-round-test.false, c.loop-round.auto) in
     let is : IsLow rows c.loop-round._round c.args.start =
-    subst (λ (n : ℕ). IsLow rows n c.args.start) end (low rows c.args.rounds c.args.start (c.requires.bounded c.args.rounds c.args.start)) in
+    subst (λ (n : ℕ). IsLow rows n c.args.start) end (low rows c.args.rounds c.args.start
+    (c.requires.bounded c.args.rounds c.args.start)) in
     subst (λ (o : Option Tally). IsSome o) (sym c.tally_at-2.ensures)
     (c.loop-round.invariant.known c.args.start c.requires.start is)

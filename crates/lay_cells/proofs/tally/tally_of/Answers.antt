@@ -8,7 +8,8 @@ use Rattle.lay_cells.proofs.tally.tally_of.Goals as goal
 
 -- no target yet
 pub loop-target-init : goal.loop-target-init
-loop-target-init c = subst (λ t. IsSum (rows_of c.args.rows.now.items) [] t) (sym c.uncalled-sum.ensures) (sum-none (rows_of c.args.rows.now.items))
+loop-target-init c =
+    subst (λ t. IsSum (rows_of c.args.rows.now.items) [] t) (sym c.uncalled-sum.ensures) (sum-none (rows_of c.args.rows.now.items))
 
 pub with-sum-requires-clause-depth : goal.with-sum-requires-clause-depth
 with-sum-requires-clause-depth c =
@@ -28,7 +29,8 @@ loop-target-preserved c =
     let qs = row rows c.args.position in
     let i = c.loop-target.target-index in
     let slice : c.as_slice-target-items.result.now ≡ qs =
-    c.as_slice-target-items.ensures.value ∙ row_read c.args.rows.now.items c.args.position c.index.result.now c.requires.position c.index.ensures in
+    c.as_slice-target-items.ensures.value ∙ row_read c.args.rows.now.items c.args.position c.index.result.now c.requires.position
+    c.index.ensures in
     let target : ℕ = get_or c.as_slice-target-items.result.now i 0 in
     let is : IsTally rows target c.in_ok-tally_at.field-0 = c.requires.sound target _ (sym c.tally_at.ensures ∙ c.in_ok-tally_at.was) in
     sum-next rows qs i target c.loop-target.sum c.in_ok-tally_at.field-0 c.with-sum.result

@@ -10,7 +10,8 @@ use Rattle.lay_flat.proofs.ends.+list_ends.Goals as goal
 pub returns-then-calls-eq0 : goal.returns-then-calls-eq0
 returns-then-calls-eq0 t c =
     c.in_ok-push.ensures.items
-    ∙ ap (λ (es : List End). c.args.ends.now.items ++ es) (sym (ends-none c.args.snapshot.now c.args.calls c.args.cell c.args.turn c.if-calls-eq0.true))
+    ∙ ap (λ (es : List End). c.args.ends.now.items ++ es) (sym (ends-none c.args.snapshot.now c.args.calls c.args.cell c.args.turn
+    c.if-calls-eq0.true))
 
 pub loop-target-init : goal.loop-target-init
 loop-target-init t c =

@@ -12,7 +12,8 @@ use Rattle.lay_flat.proofs.Answered.{many_from, no_cell, outside_from, passed_fr
 use Rattle.lay_flat.proofs.LayoutWalks.{all_walks, ends_are}
 use Rattle.lay_flat.proofs.Tested.{shallow}
 use Rattle.lay_flat.proofs.flattening.flatten.Goals as goal
-use Rattle.lay_flat.proofs.flattening.flatten.Goals.{then-is_any_outside-via-then-is_any_outside, then-is_any_outside-via-else-is_any_outside+then-not-are_within}
+use Rattle.lay_flat.proofs.flattening.flatten.Goals.{then-is_any_outside-via-then-is_any_outside}
+use Rattle.lay_flat.proofs.flattening.flatten.Goals.{then-is_any_outside-via-else-is_any_outside+then-not-are_within}
 
 pub returns-then-not-is_cell-clause-walks : goal.returns-then-not-is_cell-clause-walks
 returns-then-not-is_cell-clause-walks c = all_walks c.args.snapshot.now c.version.ensures.sound.acyclic c.args.cell
@@ -53,7 +54,8 @@ returns-in_err-rings-clause-answer c =
     let layout : Layout = c.args.snapshot.now in
     let is : is_cell layout c.args.cell ≡ true =
     ap (λ (l : Layout). is_cell l c.args.cell) (sym c.version.ensures.value) ∙ sym c.if-not-is_cell.ensures in
-    let passed : tested layout c.args.cell ≡ Ok (tt {0}) = passed_from c.in_ok-test_walks.field-0 (tested layout c.args.cell) c.in_ok-test_walks.ensures in
+    let passed : tested layout c.args.cell ≡ Ok (tt {0}) =
+    passed_from c.in_ok-test_walks.field-0 (tested layout c.args.cell) c.in_ok-test_walks.ensures in
     let ends : List End = c.list_ends.new.ends.items in
     let same : ends ≡ ends_of layout c.args.cell =
     c.in_ok-list_ends.ensures
@@ -61,7 +63,8 @@ returns-in_err-rings-clause-answer c =
     ∙ ap (λ (t : Turn). ends_within layout 64 c.args.cell (Some t)) c.unturned.ensures
     ∙ ends_are layout c.args.cell 64 c.version.ensures.sound.acyclic (shallow layout c.args.cell passed) in
     let fact : IsAnswer {T = List FlatRing} NoMemory (Err c.in_err-rings.field-0.0) (flat_of layout c.args.cell c.args.layer.now) =
-    many_from layout c.args.cell c.args.layer.now c.deref.result.now _ is passed (c.deref.ensures.value ∙ same) c.in_err-rings.ensures.err in
+    many_from layout c.args.cell c.args.layer.now c.deref.result.now _ is passed (c.deref.ensures.value ∙ same)
+    c.in_err-rings.ensures.err in
     search (rules, fact)
 
 pub returns-then-is_any_outside-clause-answer : goal.returns-then-is_any_outside-clause-answer
@@ -69,7 +72,8 @@ returns-then-is_any_outside-clause-answer c =
     let layout : Layout = c.args.snapshot.now in
     let is : is_cell layout c.args.cell ≡ true =
     ap (λ (l : Layout). is_cell l c.args.cell) (sym c.version.ensures.value) ∙ sym c.if-not-is_cell.ensures in
-    let passed : tested layout c.args.cell ≡ Ok (tt {0}) = passed_from c.in_ok-test_walks.field-0 (tested layout c.args.cell) c.in_ok-test_walks.ensures in
+    let passed : tested layout c.args.cell ≡ Ok (tt {0}) =
+    passed_from c.in_ok-test_walks.field-0 (tested layout c.args.cell) c.in_ok-test_walks.ensures in
     let ends : List End = c.list_ends.new.ends.items in
     let same : ends ≡ ends_of layout c.args.cell =
     c.in_ok-list_ends.ensures
@@ -95,7 +99,8 @@ returns-clause-answer c =
     let layout : Layout = c.args.snapshot.now in
     let is : is_cell layout c.args.cell ≡ true =
     ap (λ (l : Layout). is_cell l c.args.cell) (sym c.version.ensures.value) ∙ sym c.if-not-is_cell.ensures in
-    let passed : tested layout c.args.cell ≡ Ok (tt {0}) = passed_from c.in_ok-test_walks.field-0 (tested layout c.args.cell) c.in_ok-test_walks.ensures in
+    let passed : tested layout c.args.cell ≡ Ok (tt {0}) =
+    passed_from c.in_ok-test_walks.field-0 (tested layout c.args.cell) c.in_ok-test_walks.ensures in
     let ends : List End = c.list_ends.new.ends.items in
     let same : ends ≡ ends_of layout c.args.cell =
     c.in_ok-list_ends.ensures
@@ -105,7 +110,8 @@ returns-clause-answer c =
     let rings : List FlatRing = c.in_ok-rings.rings.items in
     let lent = c.in_ok-rings.ensures.ok ∙ ap (rings_at layout c.args.layer.now) c.deref.ensures.value in
     let read : list_any (λ (end : End). is_none end.turn) ends ≡ false =
-    ap (list_any (λ (end : End). is_none end.turn)) (sym c.deref-2.ensures.value) ∙ sym c.is_any_outside.ensures ∙ c.if-is_any_outside.false in
+    ap (list_any (λ (end : End). is_none end.turn)) (sym c.deref-2.ensures.value) ∙ sym c.is_any_outside.ensures
+    ∙ c.if-is_any_outside.false in
     let all : list_all is_within rings ≡ true =
     ap (list_all is_within) (sym c.deref-else-is_any_outside.ensures.value) ∙ sym c.are_within.ensures ∙ c.if-not-are_within.false in
     within_from layout c.args.cell c.args.layer.now ends rings is passed same lent c.in_ok-rings.ensures.few

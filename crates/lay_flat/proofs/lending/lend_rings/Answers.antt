@@ -20,7 +20,8 @@ returns-in_err-number-clause-err c =
     end_default c.loop-end-test.true)
     ∙ c.loop-end.invariant.rest in
     let fact : IsTooMany (rings_at c.args.snapshot.now c.args.layer.now c.args.ends.now) c.in_err-number.field-0.0 =
-    too_many-same _ _ _ whole (too_many-more (c.loop-end.rings.items ++ rings_from c.loop-end.number here) _ _ c.in_err-number.ensures.err) in
+    too_many-same _ _ _ whole (too_many-more (c.loop-end.rings.items ++ rings_from c.loop-end.number here) _ _
+    c.in_err-number.ensures.err) in
     search (rules, fact)
 
 -- one end more
@@ -33,7 +34,8 @@ loop-end-preserved c =
     record {
       rest = (λ j. c.in_ok-number.ensures.ok j ++ rings_from (c.in_ok-number.ensures.number j) behind)
           ∙ ends-whole c.loop-end.rings.items c.loop-end.number here behind
-          ∙ sym (at_drop_more (λ (es : List End). c.loop-end.rings.items ++ rings_from c.loop-end.number (flat_map drawn es)) c.args.ends.now i
+          ∙ sym (at_drop_more (λ (es : List End). c.loop-end.rings.items ++ rings_from c.loop-end.number (flat_map drawn es))
+          c.args.ends.now i
           end_default c.loop-end-test.true)
           ∙ c.loop-end.invariant.rest;
       few = c.in_ok-number.ensures.few;

@@ -19,8 +19,10 @@ loop-position-preserved c =
       place = place;
       rest = ap (λ m. inserted m (placed_from (c.loop-position.position + 1 + 1) (drop (c.loop-position.position + 1) c.args.symbols.now)))
           c.in_ok-insert_symbol.ensures
-          ∙ placed_more old c.args.symbols.now c.loop-position.position c.unwrap.result c.in_ok-place.place _ (omega (arith, c.loop-position-test.true, c.len-position-end.ensures.value))
-          (get_or_from_slice_get c.args.symbols.now c.loop-position.position c.unwrap.result c.unwrap.result found) place c.loop-position.invariant.rest;
+          ∙ placed_more old c.args.symbols.now c.loop-position.position c.unwrap.result c.in_ok-place.place _
+          (omega (arith, c.loop-position-test.true, c.len-position-end.ensures.value))
+          (get_or_from_slice_get c.args.symbols.now c.loop-position.position c.unwrap.result c.unwrap.result found) place
+          c.loop-position.invariant.rest;
     }
 
 -- none is left

@@ -24,7 +24,8 @@ invariant_of-rounded g c =
     let visited = c.in_ok-visits.ensures
     ∙ ap (λ l. visits_of c.args.rings.now (map (λ (w : Vec Point Global). w.items) l)) c.as_slice.ensures.value in
     let made = round_of c.args.rings.now walks c.in_ok-visits.visits.items c.as_slice-2.result.now c.in_ok-edges.edges.items
-    c.as_slice-3.result.now c.in_ok-odd.odd.items c.as_slice-4.result.now (map (λ (v : Vec Owner Global). v.items) c.in_ok-owners.owners.items)
+    c.as_slice-3.result.now c.in_ok-odd.odd.items c.as_slice-4.result.now
+    (map (λ (v : Vec Owner Global). v.items) c.in_ok-owners.owners.items)
     c.in_ok-walks.ensures visited c.as_slice-2.ensures.value c.as_slice-3.ensures.value c.as_slice-4.ensures.value
     c.in_ok-edges.ensures.rising c.in_ok-edges.ensures.exact c.in_ok-odd.ensures.exact c.in_ok-owners.ensures in
     round_is_rounded c.args.rings.now _ _ made
@@ -35,7 +36,8 @@ invariant_of-result g c =
     let visited = c.in_ok-visits.ensures
     ∙ ap (λ l. visits_of c.args.rings.now (map (λ (w : Vec Point Global). w.items) l)) c.as_slice.ensures.value in
     let made = round_of c.args.rings.now walks c.in_ok-visits.visits.items c.as_slice-2.result.now c.in_ok-edges.edges.items
-    c.as_slice-3.result.now c.in_ok-odd.odd.items c.as_slice-4.result.now (map (λ (v : Vec Owner Global). v.items) c.in_ok-owners.owners.items)
+    c.as_slice-3.result.now c.in_ok-odd.odd.items c.as_slice-4.result.now
+    (map (λ (v : Vec Owner Global). v.items) c.in_ok-owners.owners.items)
     c.in_ok-walks.ensures visited c.as_slice-2.ensures.value c.as_slice-3.ensures.value c.as_slice-4.ensures.value
     c.in_ok-edges.ensures.rising c.in_ok-edges.ensures.exact c.in_ok-odd.ensures.exact c.in_ok-owners.ensures in
     round_is_clean c.args.rings.now _ _ made
@@ -46,6 +48,7 @@ returns g c =
     let visited = c.in_ok-visits.ensures
     ∙ ap (λ l. visits_of c.args.rings.now (map (λ (w : Vec Point Global). w.items) l)) c.as_slice.ensures.value in
     round_of c.args.rings.now walks c.in_ok-visits.visits.items c.as_slice-2.result.now c.in_ok-edges.edges.items
-    c.as_slice-3.result.now c.in_ok-odd.odd.items c.as_slice-4.result.now (map (λ (v : Vec Owner Global). v.items) c.in_ok-owners.owners.items)
+    c.as_slice-3.result.now c.in_ok-odd.odd.items c.as_slice-4.result.now
+    (map (λ (v : Vec Owner Global). v.items) c.in_ok-owners.owners.items)
     c.in_ok-walks.ensures visited c.as_slice-2.ensures.value c.as_slice-3.ensures.value c.as_slice-4.ensures.value
     c.in_ok-edges.ensures.rising c.in_ok-edges.ensures.exact c.in_ok-odd.ensures.exact c.in_ok-owners.ensures

@@ -3,7 +3,8 @@ use Rattle.std.proofs.lemmas.List.Sorted.{IsPartitionPoint-from_clause}
 use Rattle.edge_test.specs.Rising.{IsRising}
 use Rattle.snap_chains.specs.declared.visits.Visit.{Visit}
 use Rattle.snap_chains.specs.Visits.{IsVisitBefore}
-use Rattle.snap_chains.proofs.VisitorLemmas.{ArePlaces, early_part, is_earlier, is_no_later, late_part, part_has, part_rises, places_in_order}
+use Rattle.snap_chains.proofs.VisitorLemmas.{ArePlaces, early_part, is_earlier, is_no_later}
+use Rattle.snap_chains.proofs.VisitorLemmas.{late_part, part_has, part_rises, places_in_order}
 use Rattle.snap_chains.proofs.visitors.visits_of_edge.Goals as goal
 
 pub part-requires-clause-ordered : goal.part-requires-clause-ordered

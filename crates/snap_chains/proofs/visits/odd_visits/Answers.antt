@@ -64,7 +64,8 @@ returns-clause-rising c = c.loop-visit.invariant.rising
 pub returns-clause-exact : goal.returns-clause-exact
 returns-clause-exact c = λ v.
     let all = take_all c.loop-visit.visit-index c.as_slice-visit-items.result.now (search rules) in
-    let same : parity (visit_eq v) (take c.loop-visit.visit-index c.as_slice-visit-items.result.now) ≡ parity (visit_eq v) c.args.visits.items =
+    let same : parity (visit_eq v) (take c.loop-visit.visit-index c.as_slice-visit-items.result.now)
+    ≡ parity (visit_eq v) c.args.visits.items =
     ap (parity (visit_eq v)) (all ∙ c.as_slice-visit-items.ensures.value)
     ∙ parity_permutation (visit_eq v) c.args.visits.items c.sort_unstable.new.self.items c.sort_unstable.ensures.permutation in
     let exact = c.loop-visit.invariant.exact v in

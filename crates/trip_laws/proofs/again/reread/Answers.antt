@@ -12,7 +12,8 @@ use Rattle.trip_laws.proofs.again.reread.Goals as goal
 
 -- an answer that is a value is the wanted one
 same_value : (no_memory : NoMemory) (value wanted : Layout)
-    → (◌≡◌ {A = Result Layout NoMemory} (Ok value) (Err no_memory)) ⊎ (◌≡◌ {A = Result Layout NoMemory} (Ok value) (Ok wanted)) → value ≡ wanted
+    → (◌≡◌ {A = Result Layout NoMemory} (Ok value) (Err no_memory)) ⊎ (◌≡◌ {A = Result Layout NoMemory} (Ok value) (Ok wanted))
+    → value ≡ wanted
 same_value no_memory value wanted (inl e) = absurd cc
 same_value no_memory value wanted (inr e) = cc
 

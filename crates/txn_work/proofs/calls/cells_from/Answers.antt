@@ -6,5 +6,6 @@ use Rattle.txn_work.proofs.calls.cells_from.Goals as goal
 
 pub returns : goal.returns
 returns c =
-    let all : c.push_symbols.new.cells.items ≡ top_in c.args.from ++ map Symbol (symbols_from c.args.layout.now c.args.from) = search rules in
+    let all : c.push_symbols.new.cells.items ≡ top_in c.args.from ++ map Symbol (symbols_from c.args.layout.now c.args.from) =
+    search rules in
     all ∙ (ends_reached c.args.layout.now c.args.from).1

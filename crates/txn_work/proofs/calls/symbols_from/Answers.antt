@@ -38,6 +38,7 @@ loop-number-preserved-in-Continue-branch-4 c =
     let next : c.push_called.new.pending.items ≡ rest ++ reverse (called_by l n) = search rules in
     record {
       seen = search rules;
-      searches = rw more (goes_in l c.loop-number.pending.items rest c.push_called.new.pending.items found (symbols_from l c.args.from) n top new next
+      searches = rw more (goes_in l c.loop-number.pending.items rest c.push_called.new.pending.items found
+          (symbols_from l c.args.from) n top new next
           c.loop-number.invariant.searches);
     }

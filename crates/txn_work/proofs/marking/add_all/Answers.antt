@@ -11,7 +11,8 @@ pub returns-then-is_err-clause-err : goal.returns-then-is_err-clause-err
 returns-then-is_err-clause-err c =
     let same : c.insert.new.self ≡ with_elements c.args.footprint.now (take c.loop-element.element-index c.args.fresh.now) = search rules in
     let gone : c.remove_all.new.footprint ≡ without_elements c.insert.new.self c.args.fresh.now = search rules in
-    gone ∙ ap (λ t. without_elements t c.args.fresh.now) same ∙ undone c.args.footprint.now c.loop-element.element-index c.args.fresh.now c.requires
+    gone ∙ ap (λ t. without_elements t c.args.fresh.now) same ∙ undone c.args.footprint.now c.loop-element.element-index
+    c.args.fresh.now c.requires
 
 pub loop-element-preserved : goal.loop-element-preserved
 loop-element-preserved c =

@@ -3,7 +3,8 @@ use Rattle.std.specs.Prelude.{◌==◌}
 use Rattle.lay_point.specs.Names.{is_digit}
 use Rattle.cif_scan.specs.Bytes.{is_blank, skip}
 use Rattle.cif_commands.proofs.CallSteps.{no_bytes}
-use Rattle.cif_read.proofs.Dispatch.{box_piece, bracket_piece, call_piece, comment_leaves, comment_piece, empty_piece, extension_piece, flash_piece, layer_piece}
+use Rattle.cif_read.proofs.Dispatch.{box_piece, bracket_piece, call_piece, comment_leaves}
+use Rattle.cif_read.proofs.Dispatch.{comment_piece, empty_piece, extension_piece, flash_piece, layer_piece}
 use Rattle.cif_read.proofs.Dispatch.{other_piece, polygon_piece, wire_piece}
 use Rattle.cif_read.proofs.content.Content.apply.Goals as goal
 
@@ -73,4 +74,5 @@ returns-in_default-first c =
     let comment : (first == 40) ≡ false = search rules in
     let wire : (first == 87) ≡ false = search rules in
     let flash : (first == 82) ≡ false = search rules in
-    rw whole (inr (sym (other_piece c.args.self.now c.args.offset first c.in-Some.behind.now polygon box layer bracket call comment digit wire flash)))
+    rw whole (inr (sym (other_piece c.args.self.now c.args.offset first c.in-Some.behind.now polygon box layer bracket call comment
+    digit wire flash)))

@@ -7,7 +7,8 @@ use Rattle.std.specs.List.Sorted.{IsPartitionPoint}
 use Rattle.std.specs.Ordering.{is_lt}
 use Rattle.face_rings.specs.Incidence.{AreEndsOf, IsUsedAt, point_cmp, left_of}
 use Rattle.link_laws.specs.Linking.{Ends}
-use Rattle.face_rings.proofs.IncidenceLemmas.{IsSearch, marks_kept, not_other, other, search_found, search_kept, search_marked, search_over, search_passed, searched}
+use Rattle.face_rings.proofs.IncidenceLemmas.{IsSearch, marks_kept, not_other, other, search_found}
+use Rattle.face_rings.proofs.IncidenceLemmas.{search_kept, search_marked, search_over, search_passed, searched}
 use Rattle.face_rings.proofs.incidence.Incidence.take_at.Goals as goal
 
 in_edges : (edges : List Ends) (ends all : List End) (used marks : List Bool) → AreEndsOf edges ends → length used ≡ length edges
@@ -52,11 +53,19 @@ returns-then-index-len-clause-sound c =
     let first = c.first_at-first.result in
     let index = c.first_unused-index.result in
     let less : first < length i.cursors.items =
-    omega (arith, c.requires.cursors, c.first_at-first.ensures.bound, ap length c.deref.ensures.value, c.if-first-len.false, c.len.ensures) in
+    omega (
+      arith,
+      c.requires.cursors,
+      c.first_at-first.ensures.bound,
+      ap length c.deref.ensures.value,
+      c.if-first-len.false,
+      c.len.ensures,
+    ) in
     let s = searched c.args.edges.now i c.requires c.args.at first c.index.result.now c.max.result index less
     (split_of c.args.at first _ i.ends.items c.deref.ensures.value c.first_at-first.ensures.split) c.index.ensures c.max.ensures
     c.first_unused-index.ensures.reached
-    (passed_of c.max.result index _ i.ends.items _ i.used.items c.deref-2.ensures.value c.deref-3.ensures.value c.first_unused-index.ensures.passed) in
+    (passed_of c.max.result index _ i.ends.items _ i.used.items c.deref-2.ensures.value c.deref-3.ensures.value
+    c.first_unused-index.ensures.passed) in
     search_kept c.args.edges.now i c.requires c.args.at first index less s
 
 pub returns-then-index-len-clause-taken : goal.returns-then-index-len-clause-taken
@@ -65,11 +74,19 @@ returns-then-index-len-clause-taken c =
     let first = c.first_at-first.result in
     let index = c.first_unused-index.result in
     let less : first < length i.cursors.items =
-    omega (arith, c.requires.cursors, c.first_at-first.ensures.bound, ap length c.deref.ensures.value, c.if-first-len.false, c.len.ensures) in
+    omega (
+      arith,
+      c.requires.cursors,
+      c.first_at-first.ensures.bound,
+      ap length c.deref.ensures.value,
+      c.if-first-len.false,
+      c.len.ensures,
+    ) in
     let s = searched c.args.edges.now i c.requires c.args.at first c.index.result.now c.max.result index less
     (split_of c.args.at first _ i.ends.items c.deref.ensures.value c.first_at-first.ensures.split) c.index.ensures c.max.ensures
     c.first_unused-index.ensures.reached
-    (passed_of c.max.result index _ i.ends.items _ i.used.items c.deref-2.ensures.value c.deref-3.ensures.value c.first_unused-index.ensures.passed) in
+    (passed_of c.max.result index _ i.ends.items _ i.used.items c.deref-2.ensures.value c.deref-3.ensures.value
+    c.first_unused-index.ensures.passed) in
     let over : length i.ends.items ≤ index = omega (arith, c.if-index-len.true, c.len-2.ensures) in
     (search_over c.args.edges.now i.ends.items i.used.items c.args.at first index s over, refl)
 
@@ -79,11 +96,19 @@ returns-then-ne-clause-sound c =
     let first = c.first_at-first.result in
     let index = c.first_unused-index.result in
     let less : first < length i.cursors.items =
-    omega (arith, c.requires.cursors, c.first_at-first.ensures.bound, ap length c.deref.ensures.value, c.if-first-len.false, c.len.ensures) in
+    omega (
+      arith,
+      c.requires.cursors,
+      c.first_at-first.ensures.bound,
+      ap length c.deref.ensures.value,
+      c.if-first-len.false,
+      c.len.ensures,
+    ) in
     let s = searched c.args.edges.now i c.requires c.args.at first c.index.result.now c.max.result index less
     (split_of c.args.at first _ i.ends.items c.deref.ensures.value c.first_at-first.ensures.split) c.index.ensures c.max.ensures
     c.first_unused-index.ensures.reached
-    (passed_of c.max.result index _ i.ends.items _ i.used.items c.deref-2.ensures.value c.deref-3.ensures.value c.first_unused-index.ensures.passed) in
+    (passed_of c.max.result index _ i.ends.items _ i.used.items c.deref-2.ensures.value c.deref-3.ensures.value
+    c.first_unused-index.ensures.passed) in
     search_kept c.args.edges.now i c.requires c.args.at first index less s
 
 pub returns-then-ne-clause-taken : goal.returns-then-ne-clause-taken
@@ -92,11 +117,19 @@ returns-then-ne-clause-taken c =
     let first = c.first_at-first.result in
     let index = c.first_unused-index.result in
     let less : first < length i.cursors.items =
-    omega (arith, c.requires.cursors, c.first_at-first.ensures.bound, ap length c.deref.ensures.value, c.if-first-len.false, c.len.ensures) in
+    omega (
+      arith,
+      c.requires.cursors,
+      c.first_at-first.ensures.bound,
+      ap length c.deref.ensures.value,
+      c.if-first-len.false,
+      c.len.ensures,
+    ) in
     let s = searched c.args.edges.now i c.requires c.args.at first c.index.result.now c.max.result index less
     (split_of c.args.at first _ i.ends.items c.deref.ensures.value c.first_at-first.ensures.split) c.index.ensures c.max.ensures
     c.first_unused-index.ensures.reached
-    (passed_of c.max.result index _ i.ends.items _ i.used.items c.deref-2.ensures.value c.deref-3.ensures.value c.first_unused-index.ensures.passed) in
+    (passed_of c.max.result index _ i.ends.items _ i.used.items c.deref-2.ensures.value c.deref-3.ensures.value
+    c.first_unused-index.ensures.passed) in
     let inside : index < length i.ends.items = omega (arith, c.if-index-len.false, c.len-2.ensures) in (
       search_passed c.args.edges.now i.ends.items i.used.items c.args.at first index s c.index-2.result.now inside c.index-2.ensures
           (other c.index-2.result.now.at c.args.at c.if-ne.ensures),
@@ -109,11 +142,19 @@ returns-clause-sound c =
     let first = c.first_at-first.result in
     let index = c.first_unused-index.result in
     let less : first < length i.cursors.items =
-    omega (arith, c.requires.cursors, c.first_at-first.ensures.bound, ap length c.deref.ensures.value, c.if-first-len.false, c.len.ensures) in
+    omega (
+      arith,
+      c.requires.cursors,
+      c.first_at-first.ensures.bound,
+      ap length c.deref.ensures.value,
+      c.if-first-len.false,
+      c.len.ensures,
+    ) in
     let s = searched c.args.edges.now i c.requires c.args.at first c.index.result.now c.max.result index less
     (split_of c.args.at first _ i.ends.items c.deref.ensures.value c.first_at-first.ensures.split) c.index.ensures c.max.ensures
     c.first_unused-index.ensures.reached
-    (passed_of c.max.result index _ i.ends.items _ i.used.items c.deref-2.ensures.value c.deref-3.ensures.value c.first_unused-index.ensures.passed) in
+    (passed_of c.max.result index _ i.ends.items _ i.used.items c.deref-2.ensures.value c.deref-3.ensures.value
+    c.first_unused-index.ensures.passed) in
     let inside : index < length i.ends.items = omega (arith, c.if-index-len.false, c.len-2.ensures) in
     let own = (c.requires.ends.exact c.index-2.result.now).0 (index, inside, sym c.index-2.ensures) in
     search_marked c.args.edges.now i c.requires c.args.at first index c.index-2.result.now.edge less
@@ -125,11 +166,19 @@ returns-clause-taken c =
     let first = c.first_at-first.result in
     let index = c.first_unused-index.result in
     let less : first < length i.cursors.items =
-    omega (arith, c.requires.cursors, c.first_at-first.ensures.bound, ap length c.deref.ensures.value, c.if-first-len.false, c.len.ensures) in
+    omega (
+      arith,
+      c.requires.cursors,
+      c.first_at-first.ensures.bound,
+      ap length c.deref.ensures.value,
+      c.if-first-len.false,
+      c.len.ensures,
+    ) in
     let s = searched c.args.edges.now i c.requires c.args.at first c.index.result.now c.max.result index less
     (split_of c.args.at first _ i.ends.items c.deref.ensures.value c.first_at-first.ensures.split) c.index.ensures c.max.ensures
     c.first_unused-index.ensures.reached
-    (passed_of c.max.result index _ i.ends.items _ i.used.items c.deref-2.ensures.value c.deref-3.ensures.value c.first_unused-index.ensures.passed) in
+    (passed_of c.max.result index _ i.ends.items _ i.used.items c.deref-2.ensures.value c.deref-3.ensures.value
+    c.first_unused-index.ensures.passed) in
     let inside : index < length i.ends.items = omega (arith, c.if-index-len.false, c.len-2.ensures) in
     let end = c.index-2.result.now in
     let lt : index < length c.deref-2.result.now = omega (arith, inside, ap length c.deref-2.ensures.value) in

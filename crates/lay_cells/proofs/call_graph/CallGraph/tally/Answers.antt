@@ -32,7 +32,8 @@ tallied-requires-clause-order c =
 pub tallied-requires-clause-bounded : goal.tallied-requires-clause-bounded
 tallied-requires-clause-bounded c = λ n p.
     let acyclic : IsAcyclic c.self.inside.calls.items = subst (λ (v : Calls). IsAcyclic v.calls) (sym c.self.view_is) c.requires.acyclic in
-    let few = height-few c.self.inside.symbols c.self.inside.calls.items (rows_of c.self.inside.targets.items) c.self.invariant acyclic n p in
+    let few = height-few c.self.inside.symbols c.self.inside.calls.items (rows_of c.self.inside.targets.items) c.self.invariant
+    acyclic n p in
     omega (arith, few, c.len-2.ensures)
 
 pub returns-clause-depth : goal.returns-clause-depth

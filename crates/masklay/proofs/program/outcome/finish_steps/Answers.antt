@@ -14,7 +14,8 @@ use Rattle.masklay.proofs.program.outcome.finish_steps.Goals as goal
 pub order_of-requires : goal.order_of-requires
 order_of-requires g c =
     let few : c.sessions_for-sessions.result ≤ 64 = search rules in
-    let hands : c.as_slice-4.result.now ≡ dealt c.args.order c.in_ok-machine.replies.items (replicate c.sessions_for-sessions.result []) = search rules in
+    let hands : c.as_slice-4.result.now ≡ dealt c.args.order c.in_ok-machine.replies.items
+    (replicate c.sessions_for-sessions.result []) = search rules in
     rw hands (few_hands c.args.order c.in_ok-machine.replies.items c.sessions_for-sessions.result few)
 
 pub returns : goal.returns
@@ -37,6 +38,7 @@ returns g c =
       order = (printed ∙ ap (order_of machine.history.log) told) i;
       layout = layout i;
     } in
-    let so : finished ≡ finished_by n order (after_steps (start base n MAX_CALLS) steps) = parts ∙ (λ i. finished_by n order (all.0 i, all.1 i)) in
+    let so : finished ≡ finished_by n order (after_steps (start base n MAX_CALLS) steps) =
+    parts ∙ (λ i. finished_by n order (all.0 i, all.1 i)) in
     let count : n ≡ sessions_for (length c.args.scripts) = search rules in
     inr (ap Ok (so ∙ ap (λ k. finished_by k order (after_steps (start base k MAX_CALLS) steps)) count))

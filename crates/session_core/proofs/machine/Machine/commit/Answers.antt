@@ -19,11 +19,13 @@ invariant_of-self-2 c =
     let place = c.from-place.result - 1 in
     let t = taken_out c.self.inside c.args.self.now c.self.view_is c.self.invariant c.args.session c.from-place.result c.from-place.ensures
     c.requires c.index_mut.result.now c.take.result c.in-Some.work c.index_mut.ensures.value c.take.ensures.value c.in-Some.is in
-    let made = commits_so (machine_state c.self.inside) c.commit.new.self c.args.session place c.in-Some.work c.commit.result t.is_open t.few
+    let made = commits_so (machine_state c.self.inside) c.commit.new.self c.args.session place c.in-Some.work c.commit.result
+    t.is_open t.few
     (c.self.invariant.works place c.in-Some.work t.found) c.commit.ensures.step c.commit.ensures.full in
     subst (λ (w : List (Option Transaction)). IsState (record { history = c.commit.new.self; works = w }))
     (sym (set-set works place c.take.new.self c.outcome-reply.result.1 ∙ ap (slice_set works place) c.outcome-reply.ensures.work))
-    (left_state c.self.inside.book c.commit.new.self works place c.in-Some.work (work_of c.commit.result) c.self.invariant t.inside made.left)
+    (left_state c.self.inside.book c.commit.new.self works place c.in-Some.work (work_of c.commit.result) c.self.invariant t.inside
+    made.left)
 
 pub returns-clause-step : goal.returns-clause-step
 returns-clause-step c =
@@ -35,7 +37,8 @@ returns-clause-step c =
     c.requires c.index_mut.result.now c.take.result c.in-Some.work c.index_mut.ensures.value c.take.ensures.value c.in-Some.is in
     let made = commits_so s c.commit.new.self session place c.in-Some.work c.commit.result t.is_open t.few
     (c.self.invariant.works place c.in-Some.work t.found) c.commit.ensures.step c.commit.ensures.full in
-    let end : State = record { history = c.commit.new.self; works = slice_set (slice_set works place c.take.new.self) place c.outcome-reply.result.1 } in
+    let end : State =
+    record { history = c.commit.new.self; works = slice_set (slice_set works place c.take.new.self) place c.outcome-reply.result.1 } in
     let is_end : end ≡ with_work s c.commit.new.self session (work_of c.commit.result) =
     ap (λ w. record { history = c.commit.new.self; works = w }) (set-set works place c.take.new.self c.outcome-reply.result.1
     ∙ ap (slice_set works place) c.outcome-reply.ensures.work
@@ -51,6 +54,7 @@ returns-clause-own c =
     let place = c.from-place.result - 1 in
     let t = taken_out c.self.inside c.args.self.now c.self.view_is c.self.invariant c.args.session c.from-place.result c.from-place.ensures
     c.requires c.index_mut.result.now c.take.result c.in-Some.work c.index_mut.ensures.value c.take.ensures.value c.in-Some.is in
-    let made = commits_so (machine_state c.self.inside) c.commit.new.self c.args.session place c.in-Some.work c.commit.result t.is_open t.few
+    let made = commits_so (machine_state c.self.inside) c.commit.new.self c.args.session place c.in-Some.work c.commit.result
+    t.is_open t.few
     (c.self.invariant.works place c.in-Some.work t.found) c.commit.ensures.step c.commit.ensures.full in
     λ e. made.own (sym c.outcome-reply.ensures.reply ∙ e)

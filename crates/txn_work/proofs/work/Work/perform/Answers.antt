@@ -40,7 +40,8 @@ invariant_of-self-2 c =
     c.in_ok-mark.ensures.writes (run_so_far old).layout (writes_so_far old c.self.inside.made c.self.invariant)
     ∙ ap (λ (a : Act). records_between old.snapshot (rewritten (run_so_far old).layout a.items a.symbols)) c.act.view_is in
     let planned : plan (next_id old.id (run_so_far old)) c.args.command (run_so_far old).layout ≡ Ok act =
-    subst (λ (t : Transaction). plan (next_id t.id (run_so_far t)) c.args.command (run_so_far t).layout ≡ Ok act) (sym same) c.requires.planned in
+    subst (λ (t : Transaction). plan (next_id t.id (run_so_far t)) c.args.command (run_so_far t).layout ≡ Ok act) (sym same)
+    c.requires.planned in
     let room : is_too_much (run_so_far old) act ≡ false =
     subst (λ (t : Transaction). is_too_much (run_so_far t) act ≡ false) (sym same) c.requires.room in
     let more : c.made_after-more.result ≡ c.self.inside.made + act.made = search rules in
@@ -70,7 +71,8 @@ returns-clause-ok c =
     c.in_ok-mark.ensures.writes (run_so_far old).layout (writes_so_far old c.self.inside.made c.self.invariant)
     ∙ ap (λ (a : Act). records_between old.snapshot (rewritten (run_so_far old).layout a.items a.symbols)) c.act.view_is in
     let planned : plan (next_id old.id (run_so_far old)) c.args.command (run_so_far old).layout ≡ Ok act =
-    subst (λ (t : Transaction). plan (next_id t.id (run_so_far t)) c.args.command (run_so_far t).layout ≡ Ok act) (sym same) c.requires.planned in
+    subst (λ (t : Transaction). plan (next_id t.id (run_so_far t)) c.args.command (run_so_far t).layout ≡ Ok act) (sym same)
+    c.requires.planned in
     let room : is_too_much (run_so_far old) act ≡ false =
     subst (λ (t : Transaction). is_too_much (run_so_far t) act ≡ false) (sym same) c.requires.room in
     let is : next ≡ with_command old c.args.command (perform (run_so_far old) act) =

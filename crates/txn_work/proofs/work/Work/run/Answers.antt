@@ -13,8 +13,10 @@ pub returns-in_err-act-clause-answer : goal.returns-in_err-act-clause-answer
 returns-in_err-act-clause-answer g c =
     let planned : IsAnswer NoMemory c.plan.result
     (plan (next_id c.args.self.now.id (run_so_far c.args.self.now)) c.args.command (run_so_far c.args.self.now).layout) =
-    subst (λ (l : Layout). IsAnswer NoMemory c.plan.result (plan (next_id c.args.self.now.id (run_so_far c.args.self.now)) c.args.command l))
-    c.seen.ensures (subst (λ (i : ItemId). IsAnswer NoMemory c.plan.result (plan i c.args.command c.seen.result)) c.next_id.ensures c.plan.ensures) in
+    subst (λ (l : Layout). IsAnswer NoMemory c.plan.result (plan (next_id c.args.self.now.id (run_so_far c.args.self.now))
+    c.args.command l))
+    c.seen.ensures (subst (λ (i : ItemId). IsAnswer NoMemory c.plan.result (plan i c.args.command c.seen.result)) c.next_id.ensures
+    c.plan.ensures) in
     let kept = refused_so c.args.self.now c.args.command in
     search rules
 
@@ -22,8 +24,10 @@ pub returns-then-has_no_room_for-clause-answer : goal.returns-then-has_no_room_f
 returns-then-has_no_room_for-clause-answer g c =
     let planned : IsAnswer NoMemory c.plan.result
     (plan (next_id c.args.self.now.id (run_so_far c.args.self.now)) c.args.command (run_so_far c.args.self.now).layout) =
-    subst (λ (l : Layout). IsAnswer NoMemory c.plan.result (plan (next_id c.args.self.now.id (run_so_far c.args.self.now)) c.args.command l))
-    c.seen.ensures (subst (λ (i : ItemId). IsAnswer NoMemory c.plan.result (plan i c.args.command c.seen.result)) c.next_id.ensures c.plan.ensures) in
+    subst (λ (l : Layout). IsAnswer NoMemory c.plan.result (plan (next_id c.args.self.now.id (run_so_far c.args.self.now))
+    c.args.command l))
+    c.seen.ensures (subst (λ (i : ItemId). IsAnswer NoMemory c.plan.result (plan i c.args.command c.seen.result)) c.next_id.ensures
+    c.plan.ensures) in
     let full : is_too_much (run_so_far c.args.self.now) c.in_ok-act.act ≡ true = search rules in
     let kept = too_much_so c.args.self.now c.args.command c.in_ok-act.act in
     search rules

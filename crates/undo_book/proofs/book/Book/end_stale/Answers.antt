@@ -18,7 +18,8 @@ left c =
     let b = history_of c.self.inside in
     let work = c.args.work in
     let log : c.push.new.self.items ≡ c.self.inside.log.items
-    ++ record { session = work.id.session; call = Commit work.id work.commands; answer = Refused (Stale c.args.other) } ∷ [] = search rules in
+    ++ record { session = work.id.session; call = Commit work.id work.commands; answer = Refused (Stale c.args.other) } ∷ [] =
+    search rules in
     let sessions : c.end_pending.new.sessions.items ≡ slice_set c.self.inside.sessions.items (work.id.session - 1)
     (ended_state (state_of b work.id.session)) = search rules in
     stale_so b c.args.self.now c.self.view_is c.self.invariant.history work c.args.other c.requires.own c.push.new.self.items

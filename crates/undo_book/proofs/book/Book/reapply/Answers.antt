@@ -60,7 +60,8 @@ left : (c : goal.After-drop-self-inside) → LeavesRedone c.args.self.now (histo
   entries = c.mark_at.new.entries;
 })) c.args.session c.args.txn
 left c =
-    let can = redone_at (history_of c.self.inside) c.args.self.now c.self.view_is c.self.invariant.history c.args.session c.args.txn c.args.place
+    let can = redone_at (history_of c.self.inside) c.args.self.now c.self.view_is c.self.invariant.history c.args.session c.args.txn
+    c.args.place
     c.index-entry.result.now c.requires.place c.index-entry.ensures c.requires.free in
     let written : c.in_ok-layout.layout ≡ applied c.self.inside.layout c.entry.inside.writes = search rules in
     let layout : c.in_ok-layout.layout ≡ applied c.self.inside.layout c.index-entry.result.now.writes =

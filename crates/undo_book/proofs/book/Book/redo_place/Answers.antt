@@ -8,14 +8,16 @@ returns-in_default c = redo_refusal_none c.args.self.now c.args.txn (sym c.place
 
 pub returns-in-Some-redo_refusal_at : goal.returns-in-Some-redo_refusal_at
 returns-in-Some-redo_refusal_at c =
-    redo_answer c.args.self.now (subst IsHistory c.self.view_is c.self.invariant.history) c.args.txn c.in-Some.place c.deref.result.now c.redo_refusal_at.result c.in-Some.ensures.value
+    redo_answer c.args.self.now (subst IsHistory c.self.view_is c.self.invariant.history) c.args.txn c.in-Some.place
+    c.deref.result.now c.redo_refusal_at.result c.in-Some.ensures.value
     (c.deref.ensures.value ∙ ap (λ (h : History). h.entries) c.self.view_is) c.redo_refusal_at.ensures
     ∙ c.in-Some-redo_refusal_at.is
 
 pub returns-in-None : goal.returns-in-None
 returns-in-None c = (
   sym c.in-Some.ensures.value,
-  redo_answer c.args.self.now (subst IsHistory c.self.view_is c.self.invariant.history) c.args.txn c.in-Some.place c.deref.result.now c.redo_refusal_at.result c.in-Some.ensures.value
+  redo_answer c.args.self.now (subst IsHistory c.self.view_is c.self.invariant.history) c.args.txn c.in-Some.place
+      c.deref.result.now c.redo_refusal_at.result c.in-Some.ensures.value
       (c.deref.ensures.value ∙ ap (λ (h : History). h.entries) c.self.view_is) c.redo_refusal_at.ensures
       ∙ c.in-None.is,
   c.in-Some.ensures.there,
