@@ -8,8 +8,13 @@
 //! the shapes, and of the one path for each shape that the text of a layout has. Shapes elsewhere,
 //! calls and symbols stay, where the ids of the new shapes are free. `commands_draw_operations`
 //! does nothing: it carries the laws.
+//!
+//! `undo_rules` says what a history is: live transactions, whose commands run in the order of their
+//! commits give the layout. `operations_stay_in_histories` carries the same law over the layout at
+//! the end of a history, which is what is written: it holds there until another live transaction
+//! writes on the layer.
 #![tactic(auto)]
 
 mod laws;
 
-pub use laws::commands_draw_operations;
+pub use laws::{commands_draw_operations, operations_stay_in_histories};
