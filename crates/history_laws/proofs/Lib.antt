@@ -1,3 +1,4 @@
 pub mod Works
 pub mod Stepping
 pub mod Runs
+pub mod Texts

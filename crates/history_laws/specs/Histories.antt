@@ -1,15 +1,19 @@
 -- Where the steps of sessions lead.
-use Rattle.std.specs.Prelude.{◌≡◌, ℕ, ◌≤◌, true, List, ◌∷◌, ◌++◌, Some}
+use Rattle.std.specs.Prelude.{◌≡◌, ℕ, ◌≤◌, true, List, ◌∷◌, ◌++◌, Some, Ok}
 use Rattle.lay_cells.specs.declared.cell_id.CellId.{CellId}
+use Rattle.cif_read.specs.Contents.{Contents}
+use Rattle.cif_read.specs.Meaning.{IsMeaning}
+use Rattle.lay_items.specs.FromCif.{layout_of}
 use Rattle.lay_items.specs.Layout.{Layout}
 use Rattle.lay_items.specs.Sound.{IsSound}
 use Rattle.face_labels.specs.declared.op.Op.{Op}
 use Rattle.txn_rules.specs.declared.command.Command.{Command}
 use Rattle.txn_rules.specs.declared.command.Command.TheVariants.{Bool as Combine}
+use Rattle.txn_rules.specs.declared.command.TxnId.{TxnId}
 use Rattle.undo_rules.specs.Books.{History, IsHistory}
 use Rattle.undo_rules.specs.Histories.{commands_at}
 use Rattle.undo_rules.specs.Links.{Entry}
-use Rattle.region_laws.specs.Staying.{Stays}
+use Rattle.region_laws.specs.Staying.{HasNone, Stays}
 use Rattle.session_steps.specs.declared.Reply.{Reply}
 use Rattle.session_steps.specs.declared.Step.{Step}
 use Rattle.session_core.specs.Machine.{Ran, State, after_steps, start}
@@ -40,3 +44,8 @@ MachinesKeepOperations = (base : Layout) (sessions limit : ℕ) (steps : List (�
 abbrev pub ProgramsKeepOperations : Type 0
 ProgramsKeepOperations = (base : Layout) (sessions limit : ℕ) (steps : List (ℕ × Step)) → IsSound base → sessions ≤ 64
     → KeepsOperations base (after_steps (start base sessions limit) steps).1.history
+
+-- The layout that a text means is such a base, and none of its items has an id of a transaction: sessions are numbered from 1.
+abbrev pub TextsMeanBases : Type 0
+TextsMeanBases = (text : List ℕ) (file : Contents) → IsMeaning text (Ok file)
+    → IsSound (layout_of file) × ((txn : TxnId) → 1 ≤ txn.session → HasNone txn (layout_of file))

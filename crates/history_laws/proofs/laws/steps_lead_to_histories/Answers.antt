@@ -1,4 +1,5 @@
 use Rattle.history_laws.proofs.Runs.{lead, machine, program}
+use Rattle.history_laws.proofs.Texts.{bases}
 use Rattle.history_laws.proofs.laws.steps_lead_to_histories.Goals as goal
 
 pub returns-clause-histories : goal.returns-clause-histories
@@ -9,3 +10,6 @@ returns-clause-machine c = machine
 
 pub returns-clause-program : goal.returns-clause-program
 returns-clause-program c = program
+
+pub returns-clause-texts : goal.returns-clause-texts
+returns-clause-texts c = bases
