@@ -11,10 +11,10 @@ use Rattle.lay_flat.specs.declared.fault.FlatFault.{FlatFault}
 use Rattle.lay_flat.specs.declared.fault.FlatFault.TheVariants.{TooMany}
 use Rattle.lay_flat.specs.Flat.{FlatRing}
 use Rattle.lay_flat.specs.Flattening.{and_then, flat_of}
-use Rattle.flat_laws.proofs.Below.{same_flattening}
-use Rattle.shape_laws.specs.Op.{Op}
-use Rattle.shape_laws.specs.Shapes.{Rings, fits, shapes_of}
-use Rattle.shape_laws.proofs.ShapeLemmas.{shapes_tell_places}
+use Rattle.lay_flat_laws.proofs.Below.{same_flattening}
+use Rattle.bool_shape_laws.specs.Op.{Op}
+use Rattle.bool_shape_laws.specs.Shapes.{Rings, fits, shapes_of}
+use Rattle.bool_shape_laws.proofs.ShapeLemmas.{shapes_tell_places}
 use Rattle.bool_rules.specs.Booleans.{bool_shapes, shapes_within}
 use Rattle.bool_rules.specs.Laws.{BooleansAreDrawn, BooleansReadWhatIsBelow, BooleansTellPlaces}
 use Rattle.bool_rules.proofs.DrawnShapes.{shapes_drawn}

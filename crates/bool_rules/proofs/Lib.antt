@@ -2,4 +2,4 @@ pub mod BooleanLaws
 pub mod DrawnShapes
 pub mod Everywhere
 pub mod Flats
-pub use Rattle.shape_laws.proofs.PathLemmas
+pub use Rattle.bool_shape_laws.proofs.PathLemmas

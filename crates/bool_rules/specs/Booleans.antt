@@ -8,8 +8,8 @@ use Rattle.lay_flat.specs.declared.fault.FlatFault.{FlatFault}
 use Rattle.lay_flat.specs.declared.fault.FlatFault.TheVariants.{TooMany}
 use Rattle.lay_flat.specs.Flat.{FlatRing}
 use Rattle.lay_flat.specs.Flattening.{and_then, flat_of}
-use Rattle.shape_laws.specs.Op.{Op}
-use Rattle.shape_laws.specs.Shapes.{Rings, fits, shapes_of}
+use Rattle.bool_shape_laws.specs.Op.{Op}
+use Rattle.bool_shape_laws.specs.Shapes.{Rings, fits, shapes_of}
 
 -- the shapes of an operation on two flattenings, where they keep the limits
 abbrev pub shapes_within : Op → List FlatRing → List FlatRing → Result (List Rings) FlatFault

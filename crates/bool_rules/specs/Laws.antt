@@ -8,10 +8,10 @@ use Rattle.lay_items.specs.Layout.{Layout}
 use Rattle.lay_items.specs.Sound.{IsDrawn, IsSound}
 use Rattle.lay_flat.specs.Flat.{FlatRing, IsFlat}
 use Rattle.lay_flat.specs.Flattening.{flat_of}
-use Rattle.flat_laws.specs.Laws.{HaveSameBelow}
-use Rattle.shape_laws.specs.Op.{Op}
-use Rattle.shape_laws.specs.Operations.{op_at}
-use Rattle.shape_laws.specs.Shapes.{Rings, rounded_inputs}
+use Rattle.lay_flat_laws.specs.Laws.{HaveSameBelow}
+use Rattle.bool_shape_laws.specs.Op.{Op}
+use Rattle.bool_shape_laws.specs.Operations.{op_at}
+use Rattle.bool_shape_laws.specs.Shapes.{Rings, rounded_inputs}
 use Rattle.bool_rules.specs.Booleans.{bool_shapes}
 
 -- a flattening of a sound layout has rings whose turned points are in range

@@ -8,5 +8,5 @@
 
 mod laws;
 
+pub use bool_shape_laws::Op;
 pub use laws::booleans_have_laws;
-pub use shape_laws::Op;

@@ -7,8 +7,8 @@ use Rattle.std.proofs.Math.Nat.{div-add-mod, mul_comm}
 use Rattle.std.proofs.lemmas.Bool.{eqb-true}
 use Rattle.std.specs.Prelude.{◌==◌, int_lt}
 use Rattle.std.proofs.lemmas.Bool.Decides.{nat_tests}
-use Rattle.int_laws.proofs.Products.{*ℤ_comm, neg_ℤ-*ℤ}
-use Rattle.int_laws.proofs.Signs.{cancel_lt, times_lt}
+use Rattle.lay_int_laws.proofs.Products.{*ℤ_comm, neg_ℤ-*ℤ}
+use Rattle.lay_int_laws.proofs.Signs.{cancel_lt, times_lt}
 use Rattle.cif_commands.specs.declared.definitions.Scale.{Scale}
 use Rattle.cif_read.specs.Scales.{IsRatio, is_whole, scaled}
 

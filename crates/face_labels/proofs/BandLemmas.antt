@@ -5,7 +5,7 @@ use Rattle.std.specs.Prelude.{int_le, int_lt}
 use Rattle.std.proofs.lemmas.Bool.{cases_lt}
 use Rattle.std.proofs.lemmas.Int.{ints}
 use Rattle.std.proofs.lemmas.List.{get_or_default}
-use Rattle.int_laws.proofs.Signs.{linear}
+use Rattle.lay_int_laws.proofs.Signs.{linear}
 use Rattle.lay_point.specs.declared.point.Point.{Point}
 use Rattle.face_labels.specs.declared.band.Band.{Band}
 use Rattle.face_labels.specs.Bands.{begins_in}

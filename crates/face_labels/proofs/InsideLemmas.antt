@@ -20,7 +20,7 @@ use Rattle.snap_chains.specs.declared.owner.Owner.{Owner}
 use Rattle.snap_chains.specs.Owners.{IsOwnerBefore, input_eq, owner_eq}
 use Rattle.snap_chains.specs.Rounded.{is_listed}
 use Rattle.snap_chains.proofs.VisitOrder.{owners_are_strict}
-use Rattle.label_laws.specs.Labels.{answer_on, some_of}
+use Rattle.face_label_laws.specs.Labels.{answer_on, some_of}
 use Rattle.face_labels.specs.declared.inside.Inside.{Inside}
 use Rattle.face_labels.specs.declared.op.Op.{Op}
 use Rattle.face_labels.specs.Inside.{IsAnswerOf, IsDifference, Turns, holds}

@@ -8,7 +8,7 @@ use Rattle.std.proofs.lemmas.Bool.{cases_lt}
 use Rattle.std.proofs.lemmas.Bool.Decides.{Decides-eqb}
 use Rattle.std.proofs.lemmas.Int.{ints}
 use Rattle.std.proofs.lemmas.List.{get_or_default}
-use Rattle.int_laws.proofs.Signs.{linear}
+use Rattle.lay_int_laws.proofs.Signs.{linear}
 use Rattle.lay_point.specs.declared.point.Point.{Point}
 use Rattle.lay_point.specs.Edges.{IsEdgeBefore}
 use Rattle.lay_point.specs.Parity.{xor, parity, distance_right, is_crossed}
@@ -16,11 +16,11 @@ use Rattle.lay_point.specs.Rising.{IsRising}
 use Rattle.lay_point.proofs.Members.{Has, contains, has}
 use Rattle.lay_point.proofs.Parity.{IsEquality, parity_of_occurrences}
 use Rattle.lay_point.proofs.Rising.{IsStrictOrder, rising_rest}
-use Rattle.label_laws.proofs.Rows.{IsInRow, Spans, beside, crossed_spans, fraction_lt, right_in_row, spans_crossed}
+use Rattle.face_label_laws.proofs.Rows.{IsInRow, Spans, beside, crossed_spans, fraction_lt, right_in_row, spans_crossed}
 use Rattle.snap_chains.specs.declared.owner.Owner.{Owner}
 use Rattle.snap_chains.specs.Rounded.{AreClean, AreEven, Owned, is_listed}
-use Rattle.label_laws.specs.Labels.{Item, items_of, odd_of}
-use Rattle.label_laws.specs.Laws.{AreLesserFirst}
+use Rattle.face_label_laws.specs.Labels.{Item, items_of, odd_of}
+use Rattle.face_label_laws.specs.Laws.{AreLesserFirst}
 use Rattle.face_labels.specs.Beside.{is_right_of, weight}
 use Rattle.face_labels.specs.Lines.{BeginsAt, EndsBefore, edge_at, nowhere, owners_at}
 use Rattle.face_labels.specs.Rows.{AreRowEdges, CrossesRow, IsLeftOf, crosses_row, crossing, rise, upward}

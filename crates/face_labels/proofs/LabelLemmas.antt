@@ -10,8 +10,8 @@ use Rattle.lay_point.proofs.Members.{Has, contains, has, has-append_left, has-ap
 use Rattle.snap_chains.specs.declared.owner.Owner.{Owner}
 use Rattle.snap_chains.specs.Owners.{IsOwnerBefore, owner_eq}
 use Rattle.snap_chains.specs.Rounded.{AreClean, AreEven, Owned, is_listed}
-use Rattle.label_laws.specs.Labels.{Item, answer_on, differs, items_of, odd_of, shapes_of}
-use Rattle.label_laws.specs.Laws.{AreLesserFirst}
+use Rattle.face_label_laws.specs.Labels.{Item, answer_on, differs, items_of, odd_of, shapes_of}
+use Rattle.face_label_laws.specs.Laws.{AreLesserFirst}
 use Rattle.face_labels.specs.declared.inside.Inside.{Inside}
 use Rattle.face_labels.specs.declared.op.Op.{Op}
 use Rattle.face_labels.specs.Inside.{IsDifference, holds}

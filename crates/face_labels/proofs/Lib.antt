@@ -9,4 +9,4 @@ pub mod ProductLemmas
 pub mod RowLemmas
 pub mod SideLemmas
 pub mod StartLemmas
-pub use Rattle.label_laws.proofs.Upward
+pub use Rattle.face_label_laws.proofs.Upward

@@ -15,7 +15,7 @@ use Rattle.std.proofs.lemmas.List.{get_or_default, map-append}
 use Rattle.std.proofs.lemmas.List.Elements.{All-push, recursion_from_All}
 use Rattle.std.proofs.lemmas.List.Sorted.{All-permutation, Contains-permutation, IsPermutation-map}
 use Rattle.std.proofs.lemmas.Map.Keys.{IsDistinct-IsPermutation}
-use Rattle.int_laws.proofs.Signs.{below_or_same}
+use Rattle.lay_int_laws.proofs.Signs.{below_or_same}
 use Rattle.lay_point.specs.declared.point.Point.{Point}
 use Rattle.lay_point.specs.Edges.{IsEdgeBefore}
 use Rattle.lay_point.specs.Rising.{IsRising}
@@ -23,8 +23,8 @@ use Rattle.lay_point.proofs.EdgeOrder.{edges_are_strict}
 use Rattle.lay_point.proofs.Members.{Has, contains, has}
 use Rattle.lay_point.proofs.Rising.{IsStrictOrder, before_rest, rising_rest}
 use Rattle.snap_chains.specs.Meeting.{MeetAtEnds}
-use Rattle.label_laws.proofs.Rows.{Spans, apart_in_row, fraction_le}
-use Rattle.label_laws.proofs.Sides.{meet_first, meet_second}
+use Rattle.face_label_laws.proofs.Rows.{Spans, apart_in_row, fraction_le}
+use Rattle.face_label_laws.proofs.Sides.{meet_first, meet_second}
 use Rattle.snap_chains.specs.Rounded.{AreClean}
 use Rattle.face_labels.specs.declared.crossing.Crossing.{Crossing}
 use Rattle.face_labels.specs.Crossings.{IsCrossingOf, crossing_numbers}

@@ -4,8 +4,8 @@ use Rattle.std.proofs.Common.{ℤ, pos, ◌+ℤ◌, ◌-ℤ◌, ◌*ℤ◌, ◌�
 use Rattle.std.specs.Prelude.{int_le, int_lt}
 use Rattle.std.specs.List.{zip}
 use Rattle.std.proofs.lemmas.Int.{ints}
-use Rattle.int_laws.proofs.Polynomials.{#, lit, ◌⊕◌, ◌⊗◌, identity}
-use Rattle.int_laws.proofs.Signs.{below_or_not, linear}
+use Rattle.lay_int_laws.proofs.Polynomials.{#, lit, ◌⊕◌, ◌⊗◌, identity}
+use Rattle.lay_int_laws.proofs.Signs.{below_or_not, linear}
 use Rattle.lay_point.specs.declared.point.Point.{Point}
 use Rattle.lay_point.specs.Edges.{is_before, same_edge, touches}
 use Rattle.lay_point.specs.Parity.{xor, parity, is_crossed}
@@ -14,13 +14,13 @@ use Rattle.lay_point.proofs.EdgeOrder.{before_by_test, before_is_strict}
 use Rattle.lay_point.proofs.Members.{Has, contains}
 use Rattle.lay_point.proofs.Parity.{parity-map, parity_agree}
 use Rattle.snap_chains.specs.Meeting.{MeetAtEnds}
-use Rattle.label_laws.specs.Slides.{AreUpward}
-use Rattle.label_laws.proofs.Slide.{slide}
+use Rattle.face_label_laws.specs.Slides.{AreUpward}
+use Rattle.face_label_laws.proofs.Slide.{slide}
 use Rattle.snap_chains.specs.declared.owner.Owner.{Owner}
 use Rattle.snap_chains.specs.Rounded.{AreClean, AreEven, Owned, is_listed}
-use Rattle.label_laws.specs.Labels.{Item, answer_on, differs, differs_at, items_of, odd_of, shapes_of}
-use Rattle.label_laws.specs.Laws.{AreLesserFirst}
-use Rattle.label_laws.proofs.CutLaw.{same_edge-Decides}
+use Rattle.face_label_laws.specs.Labels.{Item, answer_on, differs, differs_at, items_of, odd_of, shapes_of}
+use Rattle.face_label_laws.specs.Laws.{AreLesserFirst}
+use Rattle.face_label_laws.proofs.CutLaw.{same_edge-Decides}
 use Rattle.face_labels.specs.Beside.{weight}
 use Rattle.face_labels.specs.Rows.{upward}
 use Rattle.face_labels.proofs.NearLemmas.{at_k, at_x, at_y, either, near, near_inside, near_k, upward_crossed, upward_rises, weight_of}

@@ -14,7 +14,7 @@ use Rattle.lay_point.specs.Edges.{is_before}
 use Rattle.lay_point.proofs.Members.{Has, contains}
 use Rattle.snap_chains.specs.declared.owner.Owner.{Owner}
 use Rattle.snap_chains.specs.Rounded.{Owned}
-use Rattle.label_laws.specs.Labels.{Item, differs, items_of}
+use Rattle.face_label_laws.specs.Labels.{Item, differs, items_of}
 use Rattle.face_labels.specs.declared.band.Band.{Band}
 use Rattle.face_labels.specs.declared.op.Op.{Op}
 use Rattle.face_labels.specs.declared.start.Start.{Start}

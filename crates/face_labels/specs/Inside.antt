@@ -7,7 +7,7 @@ use Rattle.snap_chains.specs.declared.owner.Input.{Input}
 use Rattle.snap_chains.specs.declared.owner.Input.TheVariants.{First, Second}
 use Rattle.snap_chains.specs.declared.owner.Owner.{Owner}
 use Rattle.snap_chains.specs.Owners.{owner_eq}
-use Rattle.label_laws.specs.Labels.{answer_on}
+use Rattle.face_label_laws.specs.Labels.{answer_on}
 use Rattle.face_labels.specs.declared.inside.Inside.{Inside}
 use Rattle.face_labels.specs.declared.op.Op.{Op}
 use Rattle.face_labels.specs.Operations.{answer}

@@ -7,4 +7,4 @@ pub mod Operations
 pub mod Picked
 pub mod Rows
 pub mod Starts
-pub use Rattle.label_laws.specs.Labels
+pub use Rattle.face_label_laws.specs.Labels

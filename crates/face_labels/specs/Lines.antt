@@ -4,7 +4,7 @@ use Rattle.lay_point.specs.declared.point.Point.{Point}
 use Rattle.lay_point.specs.Parity.{xor, parity}
 use Rattle.snap_chains.specs.declared.owner.Owner.{Owner}
 use Rattle.snap_chains.specs.Rounded.{Owned, is_listed}
-use Rattle.label_laws.specs.Labels.{Item}
+use Rattle.face_label_laws.specs.Labels.{Item}
 use Rattle.face_labels.specs.declared.inside.Inside.{Inside}
 use Rattle.face_labels.specs.declared.line.Line.{Line}
 use Rattle.face_labels.specs.Beside.{is_right_of}

@@ -5,8 +5,8 @@ use Rattle.lay_point.specs.Edges.{IsEdgeBefore, touches}
 use Rattle.lay_point.specs.Parity.{xor, odd, parity}
 use Rattle.lay_point.specs.Rising.{IsRising}
 use Rattle.snap_chains.specs.Rounded.{AreClean, IsRounded, Owned}
-use Rattle.label_laws.specs.Labels.{answer_at, edges_of_operation, items_of}
-use Rattle.label_laws.specs.Laws.{AreLesserFirst}
+use Rattle.face_label_laws.specs.Labels.{answer_at, edges_of_operation, items_of}
+use Rattle.face_label_laws.specs.Laws.{AreLesserFirst}
 use Rattle.face_labels.specs.declared.op.Op.{Op}
 use Rattle.face_labels.specs.declared.op.Op.TheVariants.{And, Or, Not, Xor}
 

@@ -1,7 +1,7 @@
 //! Labels: whether an operation's answers differ on the two sides of an edge.
 ghost use Rattle.std.specs.Prelude.{◌≡◌, ◌<◌, ◌≤◌, All, IfOk, length};
 ghost use Rattle.std.specs.List.{zip};
-ghost use Rattle.label_laws.specs.Laws.{AreLesserFirst};
+ghost use Rattle.face_label_laws.specs.Laws.{AreLesserFirst};
 ghost use Rattle.face_labels.specs.Bands.{begins_in, labelled};
 ghost use Rattle.face_labels.specs.Picked.{picked};
 ghost use Rattle.face_labels.specs.Starts.{HasLabel, IsStartOf};

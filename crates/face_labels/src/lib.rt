@@ -1,7 +1,7 @@
 //! Operations on two layers, and which edges of the rounded inputs are theirs.
 //!
 //! An operation's edges are those on whose two sides its answers differ
-//! (`label_laws/specs/Labels.antt`). They tell its answer: a place is to the left of an odd number
+//! (`face_label_laws/specs/Labels.antt`). They tell its answer: a place is to the left of an odd number
 //! of them exactly where the operation holds there.
 //!
 //! The row r is the height r + 1/2. `row_edges` lists the edges that cross a row, from left to

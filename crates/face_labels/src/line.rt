@@ -1,7 +1,7 @@
 //! A row with a gap between two of its edges, which moves to where an edge is judged.
 ghost use Rattle.std.specs.Prelude.{◌≡◌, ◌<◌, ◌≤◌, All, IfOk, OnOk, drop, length, slice_index};
-ghost use Rattle.label_laws.specs.Labels.{differs, items_of};
-ghost use Rattle.label_laws.specs.Laws.{AreLesserFirst};
+ghost use Rattle.face_label_laws.specs.Labels.{differs, items_of};
+ghost use Rattle.face_label_laws.specs.Laws.{AreLesserFirst};
 ghost use Rattle.face_labels.specs.Beside.{is_right_of};
 ghost use Rattle.face_labels.specs.Lines.{AreInside, BeginsAt, EndsBefore, IsLine, TurnsListed, edge_at, item_at, owners_at};
 ghost use Rattle.face_labels.specs.Operations.{answer};

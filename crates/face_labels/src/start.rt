@@ -2,7 +2,7 @@
 ghost use Rattle.std.specs.Prelude.{◌≡◌, All, IfOk};
 ghost use Rattle.std.specs.List.Sorted.{IsPermutation};
 ghost use Rattle.lay_point.specs.declared.point.Point.{Point};
-ghost use Rattle.label_laws.specs.Laws.{AreLesserFirst};
+ghost use Rattle.face_label_laws.specs.Laws.{AreLesserFirst};
 ghost use Rattle.face_labels.specs.Starts.{start_of, starts_of};
 
 use crate::band::Band;

@@ -1,7 +1,7 @@
 //! Bounding boxes of rings.
 ghost use Rattle.std.specs.Prelude.{◌≡◌};
 ghost use Rattle.std.specs.Int.{int_max, int_min};
-ghost use Rattle.part_laws.specs.Parts.{box_of, grown, is_up_to, touch};
+ghost use Rattle.face_part_laws.specs.Parts.{box_of, grown, is_up_to, touch};
 
 use lay_point::{Point, Ring};
 use std::marker::Model;

@@ -19,8 +19,8 @@ ghost use Rattle.std.specs.List.{list_any};
 ghost use Rattle.lay_point.specs.declared.point.Point.{Point};
 ghost use Rattle.lay_point.specs.Parity.{odd};
 ghost use Rattle.lay_point.specs.RingEdges.{edges_of};
-ghost use Rattle.part_laws.specs.Parts.{AreJoined, AreParts, box_of};
-ghost use Rattle.part_laws.specs.Heads.{AreDivided, AreFirst, AreJoinedUpTo, IsFinest, IsNumbered, united};
+ghost use Rattle.face_part_laws.specs.Parts.{AreJoined, AreParts, box_of};
+ghost use Rattle.face_part_laws.specs.Heads.{AreDivided, AreFirst, AreJoinedUpTo, IsFinest, IsNumbered, united};
 
 use crate::bounds::{Bounds, bounds_of};
 use lay_point::{NoMemory, Ring};

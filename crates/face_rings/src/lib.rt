@@ -7,7 +7,7 @@
 //! keeps the parity of every place.
 //!
 //! Contracts see a ring and a path as the list of its points, and an edge as the pair of its ends, the lesser
-//! first. What the rings and the parts are stands in `link_laws/specs/` and `part_laws/specs/`.
+//! first. What the rings and the parts are stands in `face_link_laws/specs/` and `face_part_laws/specs/`.
 //!
 //! ```text
 //! let rings = link(alloc, &edges)?;

@@ -7,9 +7,9 @@ use Rattle.snap_chains.specs.declared.owner.Input.TheVariants.{First, Second}
 use Rattle.snap_chains.specs.declared.owner.Owner.{Owner}
 use Rattle.snap_chains.specs.Round.{IsRoundOf}
 use Rattle.snap_chains.specs.Rounded.{Owned}
-use Rattle.shape_laws.proofs.Exists.{rounding_is_computed}
-use Rattle.shape_laws.specs.Shapes.{owned_by, owned_of, rounded_inputs}
-use Rattle.shape_laws.proofs.TurningLemmas.{owned_are_rings}
+use Rattle.bool_shape_laws.proofs.Exists.{rounding_is_computed}
+use Rattle.bool_shape_laws.specs.Shapes.{owned_by, owned_of, rounded_inputs}
+use Rattle.bool_shape_laws.proofs.TurningLemmas.{owned_are_rings}
 
 -- first the rings of the one, then those of the other
 pub both_turned : (a b : List FlatRing) (none first both : List (Owner × List Point)) → none ≡ []

@@ -1,3 +1,3 @@
 pub mod Combining
 pub mod Faults
-pub use Rattle.shape_laws.specs.Shapes
+pub use Rattle.bool_shape_laws.specs.Shapes

@@ -5,7 +5,7 @@ ghost use Rattle.lay_point.specs.Memory.{IsAnswer};
 ghost use Rattle.lay_point.specs.Parity.{odd};
 ghost use Rattle.lay_point.specs.RingEdges.{edges_of};
 ghost use Rattle.face_labels.specs.Operations.{op_at};
-ghost use Rattle.shape_laws.specs.Shapes.{rounded_inputs};
+ghost use Rattle.bool_shape_laws.specs.Shapes.{rounded_inputs};
 ghost use Rattle.layer_ops.specs.Combining.{combined, lists_of};
 
 use crate::counting::are_few;

@@ -1,11 +1,11 @@
 //! How many sides the rings of flattenings have.
 ghost use Rattle.std.specs.Prelude.{◌≡◌, ◌+◌, All, length, min, nat_le, sum_by};
 ghost use Rattle.lay_flat.specs.Flat.{IsFlat};
-ghost use Rattle.shape_laws.specs.declared.limits.TheConstants.{MAX_SEGMENTS};
-ghost use Rattle.shape_laws.specs.Shapes.{segments_of};
+ghost use Rattle.bool_shape_laws.specs.declared.limits.TheConstants.{MAX_SEGMENTS};
+ghost use Rattle.bool_shape_laws.specs.Shapes.{segments_of};
 
+use bool_shape_laws::MAX_SEGMENTS;
 use lay_flat::{Flat, FlatRing};
-use shape_laws::MAX_SEGMENTS;
 
 /// Returns whether the rings of both have few enough sides for an operation.
 pub(crate) fn are_few(a: &Flat, b: &Flat) -> bool

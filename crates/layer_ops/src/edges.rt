@@ -3,7 +3,7 @@ ghost use Rattle.std.specs.Prelude.{◌≡◌, All, IfOk, OnOk, filter, length, 
 ghost use Rattle.std.specs.List.{zip};
 ghost use Rattle.lay_flat.specs.Flat.{IsFlat};
 ghost use Rattle.face_labels.specs.Operations.{edges_of_op};
-ghost use Rattle.shape_laws.specs.Shapes.{rounded_inputs};
+ghost use Rattle.bool_shape_laws.specs.Shapes.{rounded_inputs};
 
 use crate::turning::{add_turned, lend_all};
 use band_workers::Bands;

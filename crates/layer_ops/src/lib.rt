@@ -21,6 +21,6 @@ mod shapes;
 mod tests;
 mod turning;
 
+pub use bool_shape_laws::MAX_SEGMENTS;
 pub use combining::combine;
 pub use fault::OpFault;
-pub use shape_laws::MAX_SEGMENTS;

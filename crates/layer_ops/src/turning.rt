@@ -6,7 +6,7 @@ ghost use Rattle.lay_point.specs.Points.{is_in_range};
 ghost use Rattle.lay_point.specs.SameTurn.{turn_eq};
 ghost use Rattle.lay_point.specs.Turns.{turned, unturned};
 ghost use Rattle.lay_flat.specs.Flat.{IsFlat};
-ghost use Rattle.shape_laws.specs.Shapes.{owned_by};
+ghost use Rattle.bool_shape_laws.specs.Shapes.{owned_by};
 
 use lay_flat::{Flat, FlatRing};
 use lay_point::{NoMemory, Point, Quarter, Turn};

@@ -14,8 +14,8 @@ use Rattle.lay_point.specs.Same.{point_eq-Decides}
 use Rattle.snap_pixels.specs.declared.segment.Segment.{Segment}
 use Rattle.snap_pixels.specs.Segments.{Meets}
 use Rattle.snap_pixels.proofs.OrderLemmas.{point_cmp, point_cmp_total, IsBefore-from_Less}
-use Rattle.edge_test.specs.Edges.{key, IsBelow}
-use Rattle.edge_test.specs.Chains.{IsChain}
+use Rattle.snap_edge_test.specs.Edges.{key, IsBelow}
+use Rattle.snap_edge_test.specs.Chains.{IsChain}
 use Rattle.snap_chains.proofs.Sorted.{IsOrder, same_tests, sorted_once}
 
 -- the order along the segment, as `cmp` of the key and the point computes it

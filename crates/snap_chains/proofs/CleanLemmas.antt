@@ -4,13 +4,13 @@ use Rattle.std.proofs.lemmas.Bool.{cases_lt}
 use Rattle.std.proofs.lemmas.List.{get_or_default}
 use Rattle.std.proofs.lemmas.List.Elements.{Contains-get_or}
 use Rattle.lay_point.specs.declared.point.Point.{Point}
-use Rattle.edge_test.specs.Rising.{IsRising}
-use Rattle.edge_test.specs.Undirected.{IsEdgeBefore}
-use Rattle.edge_test.proofs.Members.{has}
-use Rattle.edge_test.proofs.Rising.{IsStrictOrder, before_rest, rising_rest}
-use Rattle.edge_test.proofs.Undirected.{edges_are_strict}
-use Rattle.edge_test.specs.Meeting.{MeetAtEnds}
-use Rattle.edge_test.proofs.Level.{other_way_round}
+use Rattle.snap_edge_test.specs.Rising.{IsRising}
+use Rattle.snap_edge_test.specs.Undirected.{IsEdgeBefore}
+use Rattle.snap_edge_test.proofs.Members.{has}
+use Rattle.snap_edge_test.proofs.Rising.{IsStrictOrder, before_rest, rising_rest}
+use Rattle.snap_edge_test.proofs.Undirected.{edges_are_strict}
+use Rattle.snap_edge_test.specs.Meeting.{MeetAtEnds}
+use Rattle.snap_edge_test.proofs.Level.{other_way_round}
 use Rattle.snap_chains.specs.Clean.{IsFirstPair, TwoMeetAtEnds}
 use Rattle.snap_chains.specs.Rounded.{AreClean}
 

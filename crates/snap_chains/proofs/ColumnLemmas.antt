@@ -12,7 +12,7 @@ use Rattle.lay_point.specs.Points.{IsBefore}
 use Rattle.snap_pixels.specs.Segments.{Meets}
 use Rattle.snap_pixels.proofs.OrderLemmas.{IsRising-next}
 use Rattle.snap_pixels.proofs.BoxLemmas.{Meets-apart}
-use Rattle.int_laws.proofs.Signs.{linear}
+use Rattle.lay_int_laws.proofs.Signs.{linear}
 
 column_le : (p q : Point) → IsBefore p q → p.x ≤ℤ q.x
 column_le p q (inl less) = omega (arith, linear)

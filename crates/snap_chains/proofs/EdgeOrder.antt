@@ -11,7 +11,7 @@ use Rattle.lay_point.specs.contracts.edge.EdgeOrd.TheImpl.Laws.{matches_eq-law}
 use Rattle.lay_point.specs.contracts.point.PointOrd.TheImpl.Laws.{matches_eq-law as point_ties}
 use Rattle.lay_point.specs.Same.{point_eq-Decides}
 use Rattle.snap_pixels.proofs.OrderLemmas.{point_cmp, point_cmp_total, IsBefore-from_Less}
-use Rattle.edge_test.specs.Undirected.{IsEdgeBefore, same_edge}
+use Rattle.snap_edge_test.specs.Undirected.{IsEdgeBefore, same_edge}
 use Rattle.snap_chains.proofs.Sorted.{IsOrder}
 
 -- what `cmp` of edges computes

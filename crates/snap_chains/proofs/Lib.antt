@@ -11,11 +11,11 @@ pub mod OddLemmas
 pub mod VisitLemmas
 pub mod VisitorLemmas
 pub mod RoundLemmas
-pub use Rattle.edge_test.proofs.Members
-pub use Rattle.edge_test.proofs.SharedEnds
-pub use Rattle.edge_test.proofs.Chains
-pub use Rattle.edge_test.proofs.Rising
-pub use Rattle.edge_test.proofs.Rounded as RoundedChains
-pub use Rattle.edge_test.proofs.Undirected
-pub use Rattle.edge_test.proofs.ChainOrder
-pub use Rattle.edge_test.proofs.Level
+pub use Rattle.snap_edge_test.proofs.Members
+pub use Rattle.snap_edge_test.proofs.SharedEnds
+pub use Rattle.snap_edge_test.proofs.Chains
+pub use Rattle.snap_edge_test.proofs.Rising
+pub use Rattle.snap_edge_test.proofs.Rounded as RoundedChains
+pub use Rattle.snap_edge_test.proofs.Undirected
+pub use Rattle.snap_edge_test.proofs.ChainOrder
+pub use Rattle.snap_edge_test.proofs.Level

@@ -16,11 +16,11 @@ use Rattle.std.proofs.lemmas.List.MinMax.{ranks_by}
 use Rattle.std.proofs.lemmas.List.Sorted.{sorted_far, sum_by-IsPermutation}
 use Rattle.std.proofs.lemmas.List.Sums.{sum_by-cons}
 use Rattle.std.proofs.lemmas.Option.{get_or_from_slice_get, slice_get-get_or, slice_get_within}
-use Rattle.edge_test.specs.Parity.{parity, xor}
-use Rattle.edge_test.specs.Rising.{IsRising, last}
-use Rattle.edge_test.proofs.Members.{Has, has, contains, has-append, has-append_left, has-append_right}
-use Rattle.edge_test.proofs.Parity.{parity-append, xor-false}
-use Rattle.edge_test.proofs.Rising.{IsStrictOrder, before_rest, rising_rest}
+use Rattle.snap_edge_test.specs.Parity.{parity, xor}
+use Rattle.snap_edge_test.specs.Rising.{IsRising, last}
+use Rattle.snap_edge_test.proofs.Members.{Has, has, contains, has-append, has-append_left, has-append_right}
+use Rattle.snap_edge_test.proofs.Parity.{parity-append, xor-false}
+use Rattle.snap_edge_test.proofs.Rising.{IsStrictOrder, before_rest, rising_rest}
 
 -- ---- parities of a list in another order
 abbrev is_odd : ℕ → Bool

@@ -4,9 +4,9 @@ use Rattle.std.specs.Prelude.{All, replicate}
 use Rattle.std.specs.List.{AllByRecursion, zip}
 use Rattle.std.proofs.lemmas.List.Elements.{All-from_recursion}
 use Rattle.lay_point.specs.declared.point.Point.{Point}
-use Rattle.edge_test.specs.Parity.{parity}
-use Rattle.edge_test.specs.Rising.{IsRising}
-use Rattle.edge_test.specs.Undirected.{IsEdgeBefore, touches}
+use Rattle.snap_edge_test.specs.Parity.{parity}
+use Rattle.snap_edge_test.specs.Rising.{IsRising}
+use Rattle.snap_edge_test.specs.Undirected.{IsEdgeBefore, touches}
 use Rattle.snap_chains.specs.declared.owner.Owner.{Owner}
 use Rattle.snap_chains.specs.Owners.{IsOwnerBefore}
 use Rattle.snap_chains.specs.Rounded.{is_listed, IsRounded}

@@ -10,12 +10,12 @@ use Rattle.snap_pixels.specs.Hot.{AreHotCentres, IsHot}
 use Rattle.lay_point.specs.Points.{IsBefore}
 use Rattle.snap_pixels.specs.Segments.{Meets}
 use Rattle.std.specs.Int.{int_signum}
-use Rattle.edge_test.specs.Chains.{IsChain}
-use Rattle.edge_test.specs.Rising.{IsRising, pairs, last}
-use Rattle.edge_test.specs.Rounding.{IsRoundedPath, closed, further, point, tail}
-use Rattle.edge_test.proofs.Members.{Has, has, contains}
-use Rattle.edge_test.proofs.Chains.{chains_join_ends}
-use Rattle.edge_test.proofs.Rounded.{rounded_paths_join_ends}
+use Rattle.snap_edge_test.specs.Chains.{IsChain}
+use Rattle.snap_edge_test.specs.Rising.{IsRising, pairs, last}
+use Rattle.snap_edge_test.specs.Rounding.{IsRoundedPath, closed, further, point, tail}
+use Rattle.snap_edge_test.proofs.Members.{Has, has, contains}
+use Rattle.snap_edge_test.proofs.Chains.{chains_join_ends}
+use Rattle.snap_edge_test.proofs.Rounded.{rounded_paths_join_ends}
 use Rattle.snap_chains.specs.Sides.{ends_of}
 use Rattle.snap_chains.proofs.OwnerLemmas.{map-push}
 

@@ -11,16 +11,16 @@ use Rattle.lay_point.specs.declared.point.Point.{Point}
 use Rattle.lay_point.specs.Rings.{NeighboursDiffer}
 use Rattle.snap_pixels.specs.declared.segment.Segment.{Segment}
 use Rattle.snap_pixels.specs.Hot.{IsHot}
-use Rattle.edge_test.proofs.SharedEnds.{ends_differ}
-use Rattle.edge_test.specs.Parity.{parity, xor}
-use Rattle.edge_test.specs.Rising.{IsRising, pairs}
-use Rattle.edge_test.specs.Rounding.{IsRoundedPath, closed}
-use Rattle.edge_test.specs.Undirected.{AreEdgesOf, AreRoundedRings, IsEdgeBefore, edges_of, is_owned, same_edge, touches, undirected}
-use Rattle.edge_test.proofs.Chains.{edge_of_neighbours}
-use Rattle.edge_test.proofs.Edges.{edges_are_clean, owned_edges_are_even}
-use Rattle.edge_test.proofs.Members.{Has, has, contains}
-use Rattle.edge_test.proofs.Parity.{parity-append, parity-map, parity_agree, parity_none}
-use Rattle.edge_test.proofs.Rounded.{rounded_paths_have_edges}
+use Rattle.snap_edge_test.proofs.SharedEnds.{ends_differ}
+use Rattle.snap_edge_test.specs.Parity.{parity, xor}
+use Rattle.snap_edge_test.specs.Rising.{IsRising, pairs}
+use Rattle.snap_edge_test.specs.Rounding.{IsRoundedPath, closed}
+use Rattle.snap_edge_test.specs.Undirected.{AreEdgesOf, AreRoundedRings, IsEdgeBefore, edges_of, is_owned, same_edge, touches, undirected}
+use Rattle.snap_edge_test.proofs.Chains.{edge_of_neighbours}
+use Rattle.snap_edge_test.proofs.Edges.{edges_are_clean, owned_edges_are_even}
+use Rattle.snap_edge_test.proofs.Members.{Has, has, contains}
+use Rattle.snap_edge_test.proofs.Parity.{parity-append, parity-map, parity_agree, parity_none}
+use Rattle.snap_edge_test.proofs.Rounded.{rounded_paths_have_edges}
 use Rattle.snap_chains.specs.declared.owner.Owner.{Owner}
 use Rattle.snap_chains.specs.declared.visits.Visit.{Visit}
 use Rattle.snap_chains.specs.OwnedRings.{AreRounded}

@@ -5,7 +5,7 @@ use Rattle.std.proofs.lemmas.List.{take_more}
 use Rattle.lay_point.specs.declared.point.Point.{Point}
 use Rattle.lay_point.specs.Edges.{undirected}
 use Rattle.lay_point.specs.Rings.{NeighboursDiffer}
-use Rattle.edge_test.specs.Rising.{last, pairs}
+use Rattle.snap_edge_test.specs.Rising.{last, pairs}
 use Rattle.snap_chains.specs.declared.owner.Owner.{Owner}
 use Rattle.snap_chains.specs.declared.visits.Visit.{Visit}
 use Rattle.snap_chains.specs.Visits.{visits_by, visits_of}

@@ -6,9 +6,9 @@ use Rattle.std.specs.Ordering.{eq_by_cmp, is_eq, nat_cmp, on, then_cmp, ordering
 use Rattle.std.specs.Cmp.{IsTotalOrder}
 use Rattle.std.proofs.lemmas.Bool.Decides.{Decides-and, Decides-eqb, Decides-like}
 use Rattle.std.proofs.lemmas.Cmp.{nat_cmp_total, on_total, then_total, ranked, tied_itself}
-use Rattle.edge_test.specs.Undirected.{IsEdgeBefore}
-use Rattle.edge_test.proofs.Rising.{IsStrictOrder}
-use Rattle.edge_test.proofs.Undirected.{edges_are_strict}
+use Rattle.snap_edge_test.specs.Undirected.{IsEdgeBefore}
+use Rattle.snap_edge_test.proofs.Rising.{IsStrictOrder}
+use Rattle.snap_edge_test.proofs.Undirected.{edges_are_strict}
 use Rattle.snap_chains.specs.declared.owner.Input.{Input}
 use Rattle.snap_chains.specs.declared.owner.Input.TheVariants.{First, Second}
 use Rattle.snap_chains.specs.declared.owner.Owner.{Owner}

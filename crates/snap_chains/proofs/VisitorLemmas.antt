@@ -10,11 +10,11 @@ use Rattle.std.specs.List.Sorted.{IsPartitionedBy, IsPartitionPoint}
 use Rattle.std.proofs.lemmas.Bool.{cases_lt, false≢true}
 use Rattle.std.proofs.lemmas.List.{get_or-drop, get_or-take, length-drop, length-take}
 use Rattle.lay_point.specs.declared.point.Point.{Point}
-use Rattle.edge_test.specs.Rising.{IsRising}
-use Rattle.edge_test.specs.Undirected.{IsEdgeBefore}
-use Rattle.edge_test.proofs.Members.{Has, has, contains}
-use Rattle.edge_test.proofs.Rising.{rising_rest}
-use Rattle.edge_test.proofs.Undirected.{edges_are_strict}
+use Rattle.snap_edge_test.specs.Rising.{IsRising}
+use Rattle.snap_edge_test.specs.Undirected.{IsEdgeBefore}
+use Rattle.snap_edge_test.proofs.Members.{Has, has, contains}
+use Rattle.snap_edge_test.proofs.Rising.{rising_rest}
+use Rattle.snap_edge_test.proofs.Undirected.{edges_are_strict}
 use Rattle.snap_chains.specs.declared.owner.Input.TheVariants.{First}
 use Rattle.snap_chains.specs.declared.visits.Visit.{Visit}
 use Rattle.snap_chains.specs.Owners.{IsOwnerBefore}

@@ -5,9 +5,9 @@ pub mod Owners
 pub mod Rounded
 pub mod Round
 pub mod Visits
-pub use Rattle.edge_test.specs.Chains
-pub use Rattle.edge_test.specs.Rising
-pub use Rattle.edge_test.specs.Rounding
-pub use Rattle.edge_test.specs.Undirected
-pub use Rattle.edge_test.specs.Edges
-pub use Rattle.edge_test.specs.Meeting
+pub use Rattle.snap_edge_test.specs.Chains
+pub use Rattle.snap_edge_test.specs.Rising
+pub use Rattle.snap_edge_test.specs.Rounding
+pub use Rattle.snap_edge_test.specs.Undirected
+pub use Rattle.snap_edge_test.specs.Edges
+pub use Rattle.snap_edge_test.specs.Meeting

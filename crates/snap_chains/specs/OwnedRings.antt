@@ -4,8 +4,8 @@ use Rattle.std.specs.Prelude.{◌≡◌, List, flat_map, map}
 use Rattle.std.specs.List.{AllZip}
 use Rattle.lay_point.specs.declared.point.Point.{Point}
 use Rattle.snap_pixels.specs.declared.segment.Segment.{Segment}
-use Rattle.edge_test.specs.Rising.{pairs}
-use Rattle.edge_test.specs.Rounding.{IsRoundedPath, closed}
+use Rattle.snap_edge_test.specs.Rising.{pairs}
+use Rattle.snap_edge_test.specs.Rounding.{IsRoundedPath, closed}
 use Rattle.snap_chains.specs.declared.owner.Owner.{Owner}
 use Rattle.snap_chains.specs.Sides.{ends_of}
 

@@ -3,8 +3,8 @@
 use Rattle.std.specs.Prelude.{◌↔◌, List, [], ◌∷◌, Contains, IsTrue, if◌then◌else◌}
 use Rattle.std.specs.List.{AllZip}
 use Rattle.lay_point.specs.declared.point.Point.{Point}
-use Rattle.edge_test.specs.Rising.{IsRising}
-use Rattle.edge_test.specs.Undirected.{AreEdgesOf, is_owned}
+use Rattle.snap_edge_test.specs.Rising.{IsRising}
+use Rattle.snap_edge_test.specs.Undirected.{AreEdgesOf, is_owned}
 use Rattle.snap_chains.specs.declared.owner.Owner.{Owner}
 use Rattle.snap_chains.specs.OwnedRings.{AreRounded}
 use Rattle.snap_chains.specs.Owners.{IsOwnerBefore, owner_eq}

@@ -2,10 +2,10 @@
 use Rattle.std.specs.Prelude.{◌≡◌, false, ◌&&◌, Bool, List, length, All, Contains}
 use Rattle.std.specs.List.{list_any, zip}
 use Rattle.lay_point.specs.declared.point.Point.{Point}
-use Rattle.edge_test.specs.Meeting.{MeetAtEnds}
-use Rattle.edge_test.specs.Parity.{parity}
-use Rattle.edge_test.specs.Rising.{IsRising}
-use Rattle.edge_test.specs.Undirected.{IsEdgeBefore, touches}
+use Rattle.snap_edge_test.specs.Meeting.{MeetAtEnds}
+use Rattle.snap_edge_test.specs.Parity.{parity}
+use Rattle.snap_edge_test.specs.Rising.{IsRising}
+use Rattle.snap_edge_test.specs.Undirected.{IsEdgeBefore, touches}
 use Rattle.snap_chains.specs.declared.owner.Owner.{Owner}
 use Rattle.snap_chains.specs.Owners.{IsOwnerBefore, owner_eq}
 

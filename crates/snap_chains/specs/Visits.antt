@@ -2,8 +2,8 @@
 use Rattle.std.specs.Prelude.{◌≡◌, ◌⊎◌, ◌↔◌, Bool, ◌&&◌, List, [], ◌∷◌, ◌++◌, map, Contains}
 use Rattle.lay_point.specs.declared.point.Point.{Point}
 use Rattle.lay_point.specs.Edges.{undirected}
-use Rattle.edge_test.specs.Rising.{IsRising, pairs}
-use Rattle.edge_test.specs.Undirected.{IsEdgeBefore, same_edge}
+use Rattle.snap_edge_test.specs.Rising.{IsRising, pairs}
+use Rattle.snap_edge_test.specs.Undirected.{IsEdgeBefore, same_edge}
 use Rattle.snap_chains.specs.declared.owner.Owner.{Owner}
 use Rattle.snap_chains.specs.declared.visits.Visit.{Visit}
 use Rattle.snap_chains.specs.Owners.{IsOwnerBefore, owner_eq}

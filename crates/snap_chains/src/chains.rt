@@ -3,8 +3,8 @@ ghost use Rattle.std.specs.Prelude.{◌≡◌, ◌↔◌, ◌^◌, neg_ℤ, pos,
 ghost use Rattle.std.specs.Int.{int_signum};
 ghost use Rattle.lay_point.specs.declared.point.Point.{Point};
 ghost use Rattle.snap_pixels.specs.Segments.{Meets};
-ghost use Rattle.edge_test.specs.Edges.{key};
-ghost use Rattle.edge_test.specs.Chains.{IsChain};
+ghost use Rattle.snap_edge_test.specs.Edges.{key};
+ghost use Rattle.snap_edge_test.specs.Chains.{IsChain};
 
 use crate::columns_of::columns;
 use lay_point::{NoMemory, Point};

@@ -1,7 +1,7 @@
 //! Clean edges: those that meet at their ends only.
 ghost use Rattle.std.specs.Prelude.{◌≡◌, ◌<◌, ◌≤◌, IfErr, IfOk, MatchOption, OnOk, Some, length, slice_get};
-ghost use Rattle.edge_test.specs.Rising.{IsRising};
-ghost use Rattle.edge_test.specs.Undirected.{IsEdgeBefore};
+ghost use Rattle.snap_edge_test.specs.Rising.{IsRising};
+ghost use Rattle.snap_edge_test.specs.Undirected.{IsEdgeBefore};
 ghost use Rattle.snap_chains.specs.Owners.{IsOwnerBefore};
 ghost use Rattle.snap_chains.specs.Rounded.{AreClean, AreEven};
 

@@ -2,7 +2,7 @@
 //!
 //! Lengths are in database units of 5 nanometres, and a coordinate may be any `i32`. The chain of a
 //! segment has the hot centres whose pixels it meets, in the order in which it goes (`IsChain` of
-//! `chain_laws`). Edges have no direction, and are in the order of their lesser ends, then of their
+//! `snap_chain_laws`). Edges have no direction, and are in the order of their lesser ends, then of their
 //! greater ones.
 //!
 //! A rounded ring joins the chains of its sides (`ring_sides`, `round_ring`). `round_rings` rounds the

@@ -3,8 +3,8 @@ ghost use Rattle.std.specs.Prelude.{◌≡◌, ◌≢◌, ◌++◌, Contains, If
 ghost use Rattle.lay_point.specs.declared.point.Point.{Point};
 ghost use Rattle.lay_point.specs.Rings.{IsRing, NeighboursDiffer};
 ghost use Rattle.snap_pixels.specs.Hot.{AreHotCentres};
-ghost use Rattle.edge_test.specs.Rising.{pairs};
-ghost use Rattle.edge_test.specs.Rounding.{IsRoundedPath, closed, tail};
+ghost use Rattle.snap_edge_test.specs.Rising.{pairs};
+ghost use Rattle.snap_edge_test.specs.Rounding.{IsRoundedPath, closed, tail};
 ghost use Rattle.snap_chains.specs.Sides.{ends_of};
 
 use crate::chains::chain;

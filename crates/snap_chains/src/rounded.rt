@@ -1,8 +1,8 @@
 //! Edges of rounded rings, with the shapes that own them.
 ghost use Rattle.std.specs.Prelude.{◌≡◌, ◌↔◌, ◌<◌, [], All, Contains, IfOk, Some, length, map, replicate, slice_get};
 ghost use Rattle.lay_point.specs.declared.point.Point.{Point};
-ghost use Rattle.edge_test.specs.Rising.{IsRising};
-ghost use Rattle.edge_test.specs.Undirected.{IsEdgeBefore};
+ghost use Rattle.snap_edge_test.specs.Rising.{IsRising};
+ghost use Rattle.snap_edge_test.specs.Undirected.{IsEdgeBefore};
 ghost use Rattle.snap_chains.specs.Owners.{IsOwnerBefore};
 ghost use Rattle.snap_chains.specs.Rounded.{AreEven};
 

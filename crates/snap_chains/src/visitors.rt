@@ -1,7 +1,7 @@
 //! The owners of edges, from the visits of these.
 ghost use Rattle.std.specs.Prelude.{◌≡◌, ◌≤◌, ◌↔◌, Contains, IfOk, length, map, slice_range};
 ghost use Rattle.std.specs.List.{AllZip};
-ghost use Rattle.edge_test.specs.Rising.{IsRising};
+ghost use Rattle.snap_edge_test.specs.Rising.{IsRising};
 ghost use Rattle.snap_chains.specs.declared.visits.Visit.{Visit};
 ghost use Rattle.snap_chains.specs.Visits.{AreVisitors, IsVisitBefore};
 

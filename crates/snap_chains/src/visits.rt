@@ -15,9 +15,9 @@ ghost use Rattle.std.specs.Prelude.{
 ghost use Rattle.lay_point.specs.declared.point.Point.{Point};
 ghost use Rattle.lay_point.specs.Edges.{undirected};
 ghost use Rattle.lay_point.specs.Rings.{NeighboursDiffer};
-ghost use Rattle.edge_test.specs.Parity.{parity};
-ghost use Rattle.edge_test.specs.Rising.{IsRising};
-ghost use Rattle.edge_test.specs.Undirected.{IsEdgeBefore};
+ghost use Rattle.snap_edge_test.specs.Parity.{parity};
+ghost use Rattle.snap_edge_test.specs.Rising.{IsRising};
+ghost use Rattle.snap_edge_test.specs.Undirected.{IsEdgeBefore};
 ghost use Rattle.snap_chains.specs.declared.visits.Visit.{Visit};
 ghost use Rattle.snap_chains.specs.Visits.{IsVisitBefore, visit_eq, visits_by, visits_of};
 

@@ -3,8 +3,8 @@ use Rattle.std.proofs.Common.{◌≡◌, ◌^◌, [], ◌∷◌, ℤ, pos, neg_�
 use Rattle.std.proofs.lemmas.Int.{ints, to_z-of_z}
 use mir.Syntax.{w32, w64, w128}
 use mir.Val.{to_z, of_z, SFits}
-use Rattle.int_laws.proofs.Polynomials.{#, lit, ◌⊕◌, ◌⊖◌, ◌⊗◌, identity}
-use Rattle.int_laws.proofs.Signs.{linear, nonnegative_product}
+use Rattle.lay_int_laws.proofs.Polynomials.{#, lit, ◌⊕◌, ◌⊖◌, ◌⊗◌, identity}
+use Rattle.lay_int_laws.proofs.Signs.{linear, nonnegative_product}
 
 -- a number between minus m and m
 pub record IsUpTo (m a : ℤ) : Type 0 where

@@ -1,7 +1,7 @@
 -- Points of segments whose boxes are apart.
 use Rattle.std.proofs.Common.{◌≡◌, ◌↔◌, Some, None, ◌⊎◌, inl, inr, ⊎_elim, [], ◌∷◌, ℤ, pos, ◌+ℤ◌, ◌-ℤ◌, ◌*ℤ◌, ◌≤ℤ◌, ◌<ℤ◌, refl, sym, arith}
-use Rattle.int_laws.proofs.Polynomials.{#, lit, ◌⊕◌, ◌⊖◌, ◌⊗◌, identity}
-use Rattle.int_laws.proofs.Signs.{linear, below_or_not, nonnegative_product}
+use Rattle.lay_int_laws.proofs.Polynomials.{#, lit, ◌⊕◌, ◌⊖◌, ◌⊗◌, identity}
+use Rattle.lay_int_laws.proofs.Signs.{linear, below_or_not, nonnegative_product}
 use Rattle.lay_point.specs.declared.point.Point.{Point}
 use Rattle.snap_pixels.specs.Boxes.{AreApart, AreBelow}
 use Rattle.snap_pixels.specs.Pixels.{IsRoundedTo}

@@ -5,8 +5,8 @@ use Rattle.std.proofs.Common.{◌<ℤ◌, refl, sym, ◌∙◌, arith}
 use Rattle.std.proofs.lemmas.Int.{ints, to_z-of_z}
 use mir.Syntax.{w128}
 use mir.Val.{to_z, of_z, SFits}
-use Rattle.int_laws.proofs.Polynomials.{Expr, #, lit, ◌⊕◌, ◌⊖◌, ◌⊗◌, ⊝, identity}
-use Rattle.int_laws.proofs.Signs.{linear, nonnegative_product, times_le, cancel_le, cancel_nonnegative}
+use Rattle.lay_int_laws.proofs.Polynomials.{Expr, #, lit, ◌⊕◌, ◌⊖◌, ◌⊗◌, ⊝, identity}
+use Rattle.lay_int_laws.proofs.Signs.{linear, nonnegative_product, times_le, cancel_le, cancel_nonnegative}
 use Rattle.lay_point.specs.declared.point.Point.{Point}
 use Rattle.snap_pixels.specs.Pixels.{IsRoundedTo}
 use Rattle.snap_pixels.specs.Segments.{AreParallel, Crosses, IsCommon, IsFraction, along, cross}

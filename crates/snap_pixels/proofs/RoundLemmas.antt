@@ -6,8 +6,8 @@ use Rattle.std.proofs.lemmas.Int.{ints, to_z-of_z}
 use mir.Syntax.{w32, w128}
 use mir.Val.{to_z, of_z, SFits}
 use borrow.Author.Differences.{product_is}
-use Rattle.int_laws.proofs.Polynomials.{#, lit, ◌⊕◌, ◌⊗◌, identity}
-use Rattle.int_laws.proofs.Signs.{linear, cancel_le, cancel_lt, times_le, times_lt}
+use Rattle.lay_int_laws.proofs.Polynomials.{#, lit, ◌⊕◌, ◌⊗◌, identity}
+use Rattle.lay_int_laws.proofs.Signs.{linear, cancel_le, cancel_lt, times_le, times_lt}
 use Rattle.snap_pixels.specs.Pixels.{IsRoundedTo}
 use Rattle.snap_pixels.specs.Segments.{along}
 

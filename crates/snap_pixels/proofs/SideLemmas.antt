@@ -2,8 +2,8 @@
 use Rattle.std.proofs.Common.{◌≡◌, ◌⊎◌, inl, inr, Bool, true, false, ◌↔◌, [], ◌∷◌, ℤ, pos, neg_ℤ, ◌+ℤ◌, ◌-ℤ◌, ◌*ℤ◌, ◌≤ℤ◌}
 use Rattle.std.proofs.Common.{◌<ℤ◌, refl, sym, ◌∙◌, arith}
 use Rattle.std.specs.Prelude.{IsTrue, MatchBool}
-use Rattle.int_laws.proofs.Polynomials.{#, lit, ◌⊕◌, ◌⊖◌, ◌⊗◌, ⊝, identity}
-use Rattle.int_laws.proofs.Signs.{linear, nonnegative_product, positive_product, cancel_nonnegative, cancel_positive}
+use Rattle.lay_int_laws.proofs.Polynomials.{#, lit, ◌⊕◌, ◌⊖◌, ◌⊗◌, ⊝, identity}
+use Rattle.lay_int_laws.proofs.Signs.{linear, nonnegative_product, positive_product, cancel_nonnegative, cancel_positive}
 use Rattle.lay_point.specs.declared.point.Point.{Point}
 use Rattle.snap_pixels.specs.declared.side.Side.{Side}
 use Rattle.snap_pixels.specs.declared.span.Span.{Span}

@@ -1,5 +1,5 @@
 use Rattle.std.proofs.Common.{◌≡◌, drop}
-use Rattle.part_laws.specs.Parts.{box_of, grown_by}
+use Rattle.face_part_laws.specs.Parts.{box_of, grown_by}
 use Rattle.face_rings.proofs.bounds.bounds_of.Given as goal
 
 -- the box so far, grown by the points that are left, is the box of all points

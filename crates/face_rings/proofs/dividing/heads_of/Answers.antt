@@ -1,4 +1,4 @@
-use Rattle.part_laws.proofs.PartLemmas.{all_pairs_done}
+use Rattle.face_part_laws.proofs.PartLemmas.{all_pairs_done}
 use Rattle.face_rings.proofs.dividing.heads_of.Goals as goal
 
 pub returns : goal.returns

@@ -1,6 +1,6 @@
 use Rattle.std.proofs.Common.{◌≡◌, ◌+◌, List, ℕ, length, sym, ap, subst, ◌∙◌, arith}
-use Rattle.part_laws.specs.Heads.{AreJoinedUpTo, IsFinest}
-use Rattle.part_laws.proofs.PartLemmas.{pair_apart, pair_united, pairs_done}
+use Rattle.face_part_laws.specs.Heads.{AreJoinedUpTo, IsFinest}
+use Rattle.face_part_laws.proofs.PartLemmas.{pair_apart, pair_united, pairs_done}
 use Rattle.face_rings.proofs.dividing.join_earlier.Goals as goal
 use Rattle.face_rings.proofs.dividing.join_earlier.Goals.{then-touches, else-touches}
 

@@ -1,5 +1,5 @@
 use Rattle.std.proofs.Common.{length}
-use Rattle.part_laws.specs.Heads.{AreJoinedUpTo, IsFinest}
+use Rattle.face_part_laws.specs.Heads.{AreJoinedUpTo, IsFinest}
 use Rattle.face_rings.proofs.dividing.join_earlier.Given as goal
 
 abbrev pub invariant-loop-first : goal.invariant-loop-first

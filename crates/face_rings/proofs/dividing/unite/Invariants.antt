@@ -1,5 +1,5 @@
 use Rattle.std.proofs.Common.{◌≡◌, ◌<◌, ◌≤◌, ℕ, length, get_or}
-use Rattle.part_laws.specs.Heads.{united}
+use Rattle.face_part_laws.specs.Heads.{united}
 use Rattle.face_rings.proofs.dividing.unite.Given as goal
 
 -- the heads before the index are united, and those behind it are as they were

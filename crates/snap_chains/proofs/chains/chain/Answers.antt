@@ -1,7 +1,7 @@
 use Rattle.std.proofs.Common.{rules, subst, Contains}
 use Rattle.std.proofs.lemmas.Fn.{always_returns_same}
-use Rattle.edge_test.specs.Chains.{IsChain}
-use Rattle.edge_test.specs.Edges.{key}
+use Rattle.snap_edge_test.specs.Chains.{IsChain}
+use Rattle.snap_edge_test.specs.Edges.{key}
 use Rattle.snap_chains.proofs.ChainLemmas.{chain_of}
 use Rattle.snap_chains.proofs.chains.chain.Goals as goal
 

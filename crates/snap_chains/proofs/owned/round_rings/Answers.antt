@@ -2,8 +2,8 @@ use Rattle.std.proofs.Common.{List, ◌+◌, map, take, Contains, rules, sym, ap
 use Rattle.std.specs.List.{AllZip}
 use Rattle.std.proofs.lemmas.List.{take_all}
 use Rattle.lay_point.specs.declared.point.Point.{Point}
-use Rattle.edge_test.specs.Rising.{pairs}
-use Rattle.edge_test.specs.Rounding.{IsRoundedPath, closed}
+use Rattle.snap_edge_test.specs.Rising.{pairs}
+use Rattle.snap_edge_test.specs.Rounding.{IsRoundedPath, closed}
 use Rattle.snap_chains.specs.declared.owner.Owner.{Owner}
 use Rattle.snap_chains.specs.Sides.{ends_of}
 use Rattle.snap_chains.proofs.OwnedLemmas.{Contains-flat_map, zip_more}

@@ -1,6 +1,6 @@
 use Rattle.std.proofs.Common.{map, take}
 use Rattle.std.specs.List.{AllZip}
-use Rattle.edge_test.specs.Rounding.{IsRoundedPath, closed}
+use Rattle.snap_edge_test.specs.Rounding.{IsRoundedPath, closed}
 use Rattle.snap_chains.proofs.owned.round_rings.Given as goal
 
 -- the rounded rings so far

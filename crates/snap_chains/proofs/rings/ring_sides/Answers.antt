@@ -2,8 +2,8 @@ use Rattle.std.proofs.Common.{◌≡◌, [], ◌∷◌, ◌++◌, map, get_or, t
 use Rattle.std.proofs.lemmas.List.{take_all, take_more}
 use Rattle.lay_point.specs.declared.point.Point.{Point}
 use Rattle.lay_point.specs.Rings.{NeighboursDiffer}
-use Rattle.edge_test.specs.Rising.{last, pairs}
-use Rattle.edge_test.specs.Rounding.{closed}
+use Rattle.snap_edge_test.specs.Rising.{last, pairs}
+use Rattle.snap_edge_test.specs.Rounding.{closed}
 use Rattle.snap_chains.specs.Sides.{ends_of}
 use Rattle.snap_chains.proofs.OwnerLemmas.{map-push}
 use Rattle.snap_chains.proofs.PathLemmas.{differ_at, differ_last, last-push, pairs-push}

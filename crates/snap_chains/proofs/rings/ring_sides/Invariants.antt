@@ -1,5 +1,5 @@
 use Rattle.std.proofs.Common.{◌≡◌, ◌∷◌, map, take}
-use Rattle.edge_test.specs.Rising.{last, pairs}
+use Rattle.snap_edge_test.specs.Rising.{last, pairs}
 use Rattle.snap_chains.specs.Sides.{ends_of}
 use Rattle.snap_chains.proofs.rings.ring_sides.Given as goal
 

@@ -1,5 +1,5 @@
 use Rattle.std.proofs.Common.{◌≡◌, [], ◌∷◌, ◌++◌, ◌+◌, map, take, rules, sym, ap, ◌∙◌, subst}
-use Rattle.edge_test.specs.Rounding.{IsRoundedPath, point, tail}
+use Rattle.snap_edge_test.specs.Rounding.{IsRoundedPath, point, tail}
 use Rattle.snap_chains.specs.Sides.{ends_of}
 use Rattle.snap_chains.proofs.PathLemmas.{next_side, whole_ring}
 use Rattle.snap_chains.proofs.rings.round_ring.Goals as goal

@@ -1,6 +1,6 @@
 use Rattle.std.proofs.Common.{◌≡◌, List, ◌∷◌, map, take}
 use Rattle.lay_point.specs.declared.point.Point.{Point}
-use Rattle.edge_test.specs.Rounding.{IsRoundedPath}
+use Rattle.snap_edge_test.specs.Rounding.{IsRoundedPath}
 use Rattle.snap_chains.proofs.rings.round_ring.Given as goal
 
 -- the rounded path of the sides so far

@@ -1,6 +1,6 @@
 use Rattle.std.proofs.Common.{◌≡◌, ◌↔◌, Contains, rules, sym, subst}
 use Rattle.std.proofs.lemmas.List.Sorted.{IsPartitionPoint-from_clause}
-use Rattle.edge_test.specs.Rising.{IsRising}
+use Rattle.snap_edge_test.specs.Rising.{IsRising}
 use Rattle.snap_chains.specs.declared.visits.Visit.{Visit}
 use Rattle.snap_chains.specs.Visits.{IsVisitBefore}
 use Rattle.snap_chains.proofs.VisitorLemmas.{ArePlaces, early_part, is_earlier, is_no_later}

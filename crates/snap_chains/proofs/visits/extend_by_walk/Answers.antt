@@ -3,7 +3,7 @@ use Rattle.std.proofs.lemmas.List.{take_all, take_more}
 use Rattle.lay_point.specs.declared.point.Point.{Point}
 use Rattle.lay_point.specs.Edges.{undirected}
 use Rattle.lay_point.specs.Rings.{NeighboursDiffer}
-use Rattle.edge_test.specs.Rising.{last}
+use Rattle.snap_edge_test.specs.Rising.{last}
 use Rattle.snap_chains.specs.Visits.{visits_by}
 use Rattle.snap_chains.proofs.PathLemmas.{last-push}
 use Rattle.snap_chains.proofs.VisitLemmas.{differ_in, visits_by-push}

@@ -1,6 +1,6 @@
 use Rattle.std.proofs.Common.{◌≡◌, ◌∷◌, ◌++◌, take}
 use Rattle.lay_point.specs.declared.point.Point.{Point}
-use Rattle.edge_test.specs.Rising.{last}
+use Rattle.snap_edge_test.specs.Rising.{last}
 use Rattle.snap_chains.specs.Visits.{visits_by}
 use Rattle.snap_chains.proofs.visits.extend_by_walk.Given as goal
 

@@ -4,8 +4,8 @@ use Rattle.std.specs.Option.{option_copied, option_eq}
 use Rattle.std.specs.List.Sorted.{IsSorted}
 use Rattle.std.proofs.lemmas.Bool.{false≢true}
 use Rattle.std.proofs.lemmas.List.{take_all}
-use Rattle.edge_test.specs.Parity.{parity}
-use Rattle.edge_test.proofs.Members.{has}
+use Rattle.snap_edge_test.specs.Parity.{parity}
+use Rattle.snap_edge_test.proofs.Members.{has}
 use Rattle.snap_chains.specs.declared.visits.Visit.{Visit}
 use Rattle.snap_chains.specs.contracts.visits.VisitOrd.TheImpl.Laws.{matches_eq-law}
 use Rattle.snap_chains.specs.contracts.visits.VisitPartialEq.TheImpl as visit_equality

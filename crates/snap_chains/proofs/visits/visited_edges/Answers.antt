@@ -1,7 +1,7 @@
 use Rattle.std.proofs.Common.{◌↔◌, Contains, map, rules, ap, ◌∙◌, subst}
 use Rattle.std.proofs.lemmas.List.{take_all}
 use Rattle.lay_point.specs.declared.point.Point.{Point}
-use Rattle.edge_test.specs.Undirected.{IsEdgeBefore}
+use Rattle.snap_edge_test.specs.Undirected.{IsEdgeBefore}
 use Rattle.snap_chains.specs.declared.visits.Visit.{Visit}
 use Rattle.snap_chains.proofs.EdgeOrder.{edge_order}
 use Rattle.snap_chains.proofs.Sorted.{sorted_once}

@@ -1,7 +1,7 @@
 use Rattle.std.proofs.Common.{◌≡◌, ◌↔◌, [], length, rules, ap, ◌∙◌, subst, Contains}
 use Rattle.std.specs.Prelude.{replicate}
 use Rattle.lay_point.specs.declared.point.Point.{Point}
-use Rattle.edge_test.specs.Undirected.{IsEdgeBefore}
+use Rattle.snap_edge_test.specs.Undirected.{IsEdgeBefore}
 use Rattle.snap_chains.proofs.EdgeOrder.{edge_order}
 use Rattle.snap_chains.proofs.OwnerLemmas.{rounded_without_owners}
 use Rattle.snap_chains.proofs.Sorted.{sorted_once}

@@ -1,6 +1,6 @@
 use Rattle.std.proofs.Common.{◌<◌, Vec, Global, length, map, sym, ap, ◌∙◌, subst, arith}
 use Rattle.std.proofs.lemmas.List.{get_or-map, length-map}
-use Rattle.edge_test.specs.Rising.{IsRising}
+use Rattle.snap_edge_test.specs.Rising.{IsRising}
 use Rattle.snap_chains.specs.declared.owner.Owner.{Owner}
 use Rattle.snap_chains.specs.Owners.{IsOwnerBefore}
 use Rattle.snap_chains.specs.Rounded.{Owned}

@@ -1,0 +1,10 @@
+pub mod TurningLemmas
+pub mod HeadLemmas
+pub mod LabelLemmas
+pub mod OneDivision
+pub mod SameEdges
+pub mod ShapeLemmas
+pub use Rattle.face_labels.proofs.Upward
+pub use Rattle.snap_round_laws.proofs.InRange
+pub use Rattle.snap_round_laws.proofs.Exists
+pub use Rattle.snap_chains.proofs.PathLemmas

@@ -1,6 +1,0 @@
-pub mod Chains
-pub mod Parity
-pub mod Rising
-pub mod Rounding
-pub mod Undirected
-pub use Rattle.edge_laws.specs.Edges

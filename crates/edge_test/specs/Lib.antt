@@ -1,7 +1,0 @@
-pub mod Meeting
-pub use Rattle.chain_laws.specs.Edges
-pub use Rattle.chain_laws.specs.Chains
-pub use Rattle.chain_laws.specs.Rising
-pub use Rattle.chain_laws.specs.Undirected
-pub use Rattle.chain_laws.specs.Rounding
-pub use Rattle.chain_laws.specs.Parity

@@ -1,0 +1,9 @@
+pub mod CutLaw
+pub mod Cuts
+pub mod Shapes
+pub mod Places
+pub mod Upward
+pub mod Vertex
+pub use Rattle.face_side_laws.proofs.Rows
+pub use Rattle.face_side_laws.proofs.Sides
+pub use Rattle.face_side_laws.proofs.Slide

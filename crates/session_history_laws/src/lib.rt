@@ -1,0 +1,13 @@
+//! Where the steps of sessions lead: to a history, and to a layout in which operations on layers stay.
+//!
+//! `session_core` says what a step answers and leaves, `undo_rules` what a history is, and
+//! `undo_region_laws` what stays of an operation in a history. The laws here join them: whatever steps
+//! sessions take from a sound layout, in whatever order, what they leave is a history from that
+//! layout. So at its end, which is what is written, the shapes of each operation of a live
+//! transaction still hold where the operation did, until another live one writes on the layer.
+//! `steps_lead_to_histories` does nothing: it carries the laws.
+#![tactic(auto)]
+
+mod laws;
+
+pub use laws::steps_lead_to_histories;

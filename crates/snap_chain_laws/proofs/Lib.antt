@@ -1,0 +1,12 @@
+pub mod Members
+pub mod Rising
+pub mod ChainOrder
+pub mod Chains
+pub mod Parity
+pub mod Walks
+pub mod Rounded
+pub mod Undirected
+pub mod Edges
+pub use Rattle.snap_edge_laws.proofs.Order
+pub use Rattle.snap_edge_laws.proofs.Places
+pub use Rattle.snap_edge_laws.proofs.SharedEnds

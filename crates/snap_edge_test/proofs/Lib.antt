@@ -1,0 +1,14 @@
+pub mod Tests
+pub mod Lines
+pub mod Slanted
+pub mod Level
+pub use Rattle.snap_chain_laws.proofs.Members
+pub use Rattle.snap_chain_laws.proofs.Rising
+pub use Rattle.snap_chain_laws.proofs.Undirected
+pub use Rattle.snap_chain_laws.proofs.Parity
+pub use Rattle.snap_chain_laws.proofs.Chains
+pub use Rattle.snap_chain_laws.proofs.Rounded
+pub use Rattle.snap_chain_laws.proofs.SharedEnds
+pub use Rattle.snap_chain_laws.proofs.Edges
+pub use Rattle.snap_chain_laws.proofs.ChainOrder
+pub use Rattle.snap_chain_laws.proofs.Places
