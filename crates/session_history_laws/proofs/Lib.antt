@@ -2,3 +2,4 @@ pub mod Works
 pub mod Stepping
 pub mod Runs
 pub mod Texts
+pub mod Undoing

@@ -16,7 +16,7 @@ use Rattle.session_history_laws.specs.Histories.{KeepsOperations, MachinesKeepOp
 use Rattle.session_history_laws.proofs.Stepping.{IsGood, stepped}
 use Rattle.session_history_laws.proofs.Works.{no_works}
 
-begins : (base : Layout) (sessions limit : ℕ) → IsSound base → sessions ≤ 64 → IsGood base (start base sessions limit)
+pub begins : (base : Layout) (sessions limit : ℕ) → IsSound base → sessions ≤ 64 → IsGood base (start base sessions limit)
 begins base sessions limit sound few = record {
   few = subst (λ n. n ≤ 64) (sym (length-replicate sessions None)) few;
   history = begins_history (fresh base limit) sound refl refl refl refl;
@@ -24,8 +24,8 @@ begins base sessions limit sound few = record {
   works = no_works sessions;
 }
 
-goes_on : (base : Layout) (steps : List (ℕ × Step)) (replies : List Reply) (old new : State) → IsGood base old → Ran old steps replies new →
-    IsGood base new
+pub goes_on : (base : Layout) (steps : List (ℕ × Step)) (replies : List Reply) (old new : State) → IsGood base old
+    → Ran old steps replies new → IsGood base new
 goes_on base [] [] old new good ran = subst (IsGood base) (sym ran) good
 goes_on base [] (reply ∷ replies) old new good ran = absurd ran
 goes_on base (step ∷ steps) [] old new good ran = absurd ran
@@ -36,7 +36,7 @@ goes_on base (step ∷ steps) (reply ∷ replies) old new good (mid, takes, rest
     | inr memory ↦ subst (IsGood base) (sym memory.2) good
   ]
 
-all_steps : (base : Layout) (steps : List (ℕ × Step)) (old : State) → IsGood base old → IsGood base (after_steps old steps).1
+pub all_steps : (base : Layout) (steps : List (ℕ × Step)) (old : State) → IsGood base old → IsGood base (after_steps old steps).1
 all_steps base [] old good = good
 all_steps base (step ∷ steps) old good =
     all_steps base steps (step_outcome old step.0 step.1).1 (stepped base old step.0 step.1 good)

@@ -1,10 +1,11 @@
-//! What holds behind all steps of all sessions, as a call that does nothing.
+//! What holds after all steps of all sessions, as calls that do nothing.
 ghost use Rattle.session_history_laws.specs.Histories.{
   MachinesKeepOperations,
   ProgramsKeepOperations,
   StepsLeadToHistories,
   TextsMeanBases,
 };
+ghost use Rattle.session_history_laws.specs.Undoing.{MachinesTakeOut, ProgramsTakeOut, RedosAtOncePutBack};
 
 /// Whatever steps sessions take from a sound layout, also where memory is refused to some, they lead
 /// to a history from that layout. What an operation on layers draws stays in it. The program's
@@ -15,4 +16,15 @@ pub fn steps_lead_to_histories()
     ensures machine { MachinesKeepOperations }
     ensures program { ProgramsKeepOperations }
     ensures texts { TextsMeanBases }
+{}
+
+/// Undo is exact for every interleaving: wherever the steps of sessions have come, an undo of a live
+/// transaction whose writes no later live one touched succeeds and gives the layout of the same history
+/// without it; and a redo at once, by any session, gives the former layout back: whatever opens, commands,
+/// looks, cancels and refused calls come between. Two answers can stand in place of each: out of memory,
+/// and that the log is full.
+pub fn undos_take_out()
+    ensures machine { MachinesTakeOut }
+    ensures program { ProgramsTakeOut }
+    ensures at_once { RedosAtOncePutBack }
 {}

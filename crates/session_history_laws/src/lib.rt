@@ -5,9 +5,11 @@
 //! sessions take from a sound layout, in whatever order, what they leave is a history from that
 //! layout. So at its end, which is what is written, the shapes of each operation of a live
 //! transaction still hold where the operation did, until another live one writes on the layer.
-//! `steps_lead_to_histories` does nothing: it carries the laws.
+//! At each step of these an undo takes a transaction out of the history exactly, and a redo at once puts
+//! it back.
+//! `steps_lead_to_histories` and `undos_take_out` do nothing: they carry the laws.
 #![tactic(auto)]
 
 mod laws;
 
-pub use laws::steps_lead_to_histories;
+pub use laws::{steps_lead_to_histories, undos_take_out};

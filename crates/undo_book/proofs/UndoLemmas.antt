@@ -71,15 +71,15 @@ can_redo at free = by at.entry.live refl free where
 -- ---- redo
 
 -- the history behind a redo: the layout is the one with the records applied
-record Redoes (h : History) (session : ℕ) (txn : TxnId) (at : Found) : Type 0 where
-  proper : AreProper at.entry.writes
-  sound : IsSound (applied h.layout at.entry.writes)
-  history : IsHistory (after_redo h session txn)
-  after : after_redo h session txn
+pub record Redoes (h : History) (session : ℕ) (txn : TxnId) (at : Found) : Type 0 where
+  pub proper : AreProper at.entry.writes
+  pub sound : IsSound (applied h.layout at.entry.writes)
+  pub history : IsHistory (after_redo h session txn)
+  pub after : after_redo h session txn
       ≡ record (logged (with_mark h true txn) session (Redo txn) Redone) { layout = applied h.layout at.entry.writes }
-  again : replay (with_mark h true txn) ≡ Some (applied h.layout at.entry.writes)
+  pub again : replay (with_mark h true txn) ≡ Some (applied h.layout at.entry.writes)
 
-redoes : (h : History) → IsHistory h → (session : ℕ) (txn : TxnId) (at : Found) → found h txn ≡ Some at → redo_refusal h txn ≡ None →
+pub redoes : (h : History) → IsHistory h → (session : ℕ) (txn : TxnId) (at : Found) → found h txn ≡ Some at → redo_refusal h txn ≡ None →
     Redoes h session txn at
 redoes h is session txn at there free =
     let split = split_at h txn at there in
@@ -102,16 +102,16 @@ redoes h is session txn at there free =
 -- ---- undo
 
 -- the history behind an undo: the layout is the one with the records reverted, and a redo at once leads back
-record Undoes (h : History) (session : ℕ) (txn : TxnId) (at : Found) : Type 0 where
-  proper : AreProper at.entry.writes
-  sound : IsSound (reverted h.layout at.entry.writes)
-  history : IsHistory (after_undo h session txn)
-  after : after_undo h session txn
+pub record Undoes (h : History) (session : ℕ) (txn : TxnId) (at : Found) : Type 0 where
+  pub proper : AreProper at.entry.writes
+  pub sound : IsSound (reverted h.layout at.entry.writes)
+  pub history : IsHistory (after_undo h session txn)
+  pub after : after_undo h session txn
       ≡ record (logged (with_mark h false txn) session (Undo txn) Undone) { layout = reverted h.layout at.entry.writes }
-  without : replay (with_mark h false txn) ≡ Some (reverted h.layout at.entry.writes)
-  again : CanBeRedone (after_undo h session txn) session txn h.layout
+  pub without : replay (with_mark h false txn) ≡ Some (reverted h.layout at.entry.writes)
+  pub again : CanBeRedone (after_undo h session txn) session txn h.layout
 
-undoes : (h : History) → IsHistory h → (session : ℕ) (txn : TxnId) (at : Found) → found h txn ≡ Some at → undo_refusal h txn ≡ None →
+pub undoes : (h : History) → IsHistory h → (session : ℕ) (txn : TxnId) (at : Found) → found h txn ≡ Some at → undo_refusal h txn ≡ None →
     Undoes h session txn at
 undoes h is session txn at there free =
     let split = split_at h txn at there in
