@@ -1,0 +1,6 @@
+pub mod SearchLemmas
+pub mod WrittenLemmas
+pub mod ShareLemmas
+pub mod PlaceLemmas
+pub mod OrderLemmas
+pub mod BookLemmas

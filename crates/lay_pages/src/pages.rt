@@ -1,0 +1,154 @@
+//! The map as a list of books of pages.
+ghost use Rattle.std.specs.Prelude.{◌≡◌, ◌+◌, ◌*◌, ◌≤◌, [], IfOk, length, option_copied};
+ghost use Rattle.std.specs.FinMap.{find};
+ghost use Rattle.std.specs.List.Sorted.{IsStrictlySortedBy};
+ghost use Rattle.std.specs.Map.{keys_of};
+ghost use Rattle.lay_pages.specs.Written.{count_of, written, written_all};
+
+use crate::keys::{Kept, PageKey};
+use crate::look::{count_pages, find};
+use crate::page::Book;
+use crate::share::append;
+use crate::update::books_with;
+use std::alloc::{AllocError, Global};
+use std::marker::Model;
+
+/// Entries in order of their keys, in pages of 1 to 64 entries and books of 1 to 64 pages, which maps
+/// share. Contracts see the list of the entries.
+#[derive(Drop)]
+pub struct Pages<K: PageKey, V: Kept> {
+    books: Vec<Book<K, V>>,
+    len: usize,
+}
+
+impl<K: PageKey, V: Kept> Model for Pages<K, V> {
+    ghost use Rattle.std.specs.Prelude.{List};
+    ghost use Rattle.lay_pages.specs.Shared.{AreKept, entries_in, pages_in};
+
+    ghost Value = { List (K × V) };
+
+    ghost view = { λ p. entries_in (pages_in p.books.items) };
+
+    ghost invariant = { λ p. AreKept K.cmp (pages_in p.books.items) p.len };
+}
+
+impl<K: PageKey, V: Kept> Pages<K, V> {
+    /// Returns no entries.
+    pub fn new(alloc: Global) -> Pages<K, V>
+        ensures { result ≡ [] }
+    {
+        Pages {
+            books: Vec::new(alloc),
+            len: 0,
+        }
+    }
+
+    /// Returns the value under the key.
+    ///
+    /// # Cost
+    ///
+    /// Comparisons in proportion to the logarithm of the number of entries.
+    pub fn get(&self, key: K) -> Option<&V>
+        ensures { option_copied result ≡ find K.cmp key self.now }
+    {
+        find(&self.books, key)
+    }
+
+    /// Returns the number of entries.
+    pub fn len(&self) -> usize
+        ensures count { result ≡ length self.now }
+        ensures sorted { IsStrictlySortedBy K.cmp (keys_of self.now) }
+    {
+        self.len
+    }
+
+    /// Returns the number of pages.
+    ///
+    /// # Cost
+    ///
+    /// Goes over the books, of which there are few where most pages and books are full.
+    pub fn pages(&self) -> usize
+        ensures few { result ≤ length self.now }
+        ensures full { length self.now ≤ 64 * result }
+    {
+        count_pages(&self.books, self.len)
+    }
+
+    /// Returns the entries after a write: under the key is this value from then on, or none.
+    ///
+    /// # Cost
+    ///
+    /// Makes a page, a book and the list of the books anew, of up to 64 entries, 64 pages and a book for
+    /// some 2,000 to 4,096 entries. The others are shared.
+    pub fn with(&self, alloc: Global, key: K, value: Option<V>) -> Result<Pages<K, V>, AllocError>
+        ensures entries { IfOk result (λ new. new ≡ written K.cmp key value self.now) }
+        ensures sorted { IfOk result (λ new. IsStrictlySortedBy K.cmp (keys_of new)) }
+    {
+        let len = self.len_with(key, &value)?;
+        let books = books_with(alloc, &self.books, key, value)?;
+        Ok(Pages { books, len })
+    }
+
+    /// Returns the number of entries after a write, where a `usize` has it.
+    fn len_with(&self, key: K, value: &Option<V>) -> Result<usize, AllocError>
+        ensures { IfOk result (λ len. len + count_of (find K.cmp key self.now)
+            ≡ length self.now + count_of value.now) }
+    {
+        let more = match value {
+            Some(_) => self.len.checked_add(1).ok_or(AllocError)?,
+            None => self.len,
+        };
+        match self.get(key) {
+            Some(_) => Ok(more - 1),
+            None => Ok(more),
+        }
+    }
+
+    /// Returns the entries after these writes, the first of them first.
+    ///
+    /// # Cost
+    ///
+    /// That of each write.
+    pub fn with_all(
+        &self,
+        alloc: Global,
+        writes: &[(K, Option<V>)],
+    ) -> Result<Pages<K, V>, AllocError>
+        ensures entries { IfOk result (λ new. new ≡ written_all K.cmp self.now writes.now) }
+        ensures sorted { IfOk result (λ new. IsStrictlySortedBy K.cmp (keys_of new)) }
+    {
+        let mut new = self.share(alloc)?;
+        for (key, value) in writes {
+            let kept = copied(value)?;
+            new = new.with(alloc, *key, kept)?;
+        }
+        Ok(new)
+    }
+
+    /// Returns the same entries once more.
+    ///
+    /// # Cost
+    ///
+    /// Copies the list of the books.
+    pub fn share(&self, alloc: Global) -> Result<Pages<K, V>, AllocError>
+        ensures entries { IfOk result (λ new. new ≡ self.now) }
+        ensures sorted { IfOk result (λ new. IsStrictlySortedBy K.cmp (keys_of new)) }
+    {
+        let mut books = Vec::new(alloc);
+        append(&mut books, &self.books)?;
+        Ok(Pages {
+            books,
+            len: self.len,
+        })
+    }
+}
+
+/// Returns a copy of the value, where there is one.
+fn copied<V: Kept>(value: &Option<V>) -> Result<Option<V>, AllocError>
+    ensures { IfOk result (λ copy. copy ≡ value.now) }
+{
+    match value {
+        Some(value) => Ok(Some(value.clone()?)),
+        None => Ok(None),
+    }
+}
