@@ -49,12 +49,14 @@ module _ {K X : Type 0} {R : K → K → Ordering} (total : IsTotalOrder R) (exa
         (λ i. length (cond (is_lt (is i)) (e ∷ lower R k es) (lower R k es))
         + (count_of (cond (is_eq (turned total e.0 k Less is i)) (Some e.1) (find R k es))
         + length (cond (is_lt (turned total e.0 k Less is i)) (e ∷ higher R k es) (higher R k es))))
-        ∙ (let one : suc (length (lower R k es)) + (count_of (find R k es) + length (higher R k es)) ≡ suc (length es) = omega (arith, rest) in one)
+        ∙ (let one : suc (length (lower R k es)) + (count_of (find R k es) + length (higher R k es)) ≡ suc (length es) = omega
+        (arith, rest) in one)
     by Greater is rest =
         (λ i. length (cond (is_lt (is i)) (e ∷ lower R k es) (lower R k es))
         + (count_of (cond (is_eq (turned total e.0 k Greater is i)) (Some e.1) (find R k es))
         + length (cond (is_lt (turned total e.0 k Greater is i)) (e ∷ higher R k es) (higher R k es))))
-        ∙ (let one : length (lower R k es) + (count_of (find R k es) + suc (length (higher R k es))) ≡ suc (length es) = omega (arith, rest) in one)
+        ∙ (let one : length (lower R k es) + (count_of (find R k es) + suc (length (higher R k es))) ≡ suc (length es) = omega
+        (arith, rest) in one)
     by Equal is rest =
         let all : AllAbove R k es = subst (λ q. AllAbove R q es) (exact e.0 k is) (above_all e.0 es sorted.0) in
         (λ i. length (cond (is_lt (is i)) (e ∷ lower R k es) (lower R k es))

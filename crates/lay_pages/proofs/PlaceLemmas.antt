@@ -1,6 +1,7 @@
 -- Which of the joined lists a write falls into.
 use Rattle.std.proofs.Common.{◌⊎◌, inl, inr}
-use Rattle.std.proofs.Common.{◌≡◌, ◌∙◌, ◌<◌, ◌≤◌, ◌++◌, ℕ, zero, suc, List, [], ◌∷◌, Option, append_assoc, refl, ap, sym, take, drop, length, get_or, arith, subst}
+use Rattle.std.proofs.Common.{◌≡◌, ◌∙◌, ◌<◌, ◌≤◌, ◌++◌, ℕ, zero, suc, List, [], ◌∷◌}
+use Rattle.std.proofs.Common.{Option, append_assoc, refl, ap, sym, take, drop, length, get_or, arith, subst}
 use Rattle.std.specs.declared.cmp.Ordering.{Ordering}
 use Rattle.std.specs.declared.cmp.Ordering.TheVariants.{Equal, Greater, Less}
 use Rattle.std.specs.Cmp.{IsTotalOrder}
@@ -125,7 +126,8 @@ sorted-left : {K X : Type 0} (R : K → K → Ordering) (low high : List (K × X
 unfolding IsStrictlySortedBy
 sorted-left R [] high sorted = tt
 sorted-left {K} {X} R (e ∷ low) high sorted = (all low sorted.0, sorted-left R low high sorted.1) where
-  all : (es : List (K × X)) → AllByRecursion (λ y. R e.0 y ≡ Less) (keys_of (es ++ high)) → AllByRecursion (λ y. R e.0 y ≡ Less) (keys_of es)
+  all : (es : List (K × X)) → AllByRecursion (λ y. R e.0 y ≡ Less) (keys_of (es ++ high)) → AllByRecursion (λ y. R e.0 y ≡ Less)
+      (keys_of es)
   all [] h = tt
   all (f ∷ es) h = (h.0, all es h.1)
 
@@ -133,5 +135,6 @@ sorted-left {K} {X} R (e ∷ low) high sorted = (all low sorted.0, sorted-left R
 pub sorted-at : {K X : Type 0} (R : K → K → Ordering) (cs : List (List (K × X))) (at : ℕ) (d : List (K × X)) → at < length cs
     → IsStrictlySortedBy R (keys_of (joined cs)) → IsStrictlySortedBy R (keys_of (get_or cs at d))
 sorted-at {K} {X} R cs at d lt sorted =
-    sorted-left R (get_or cs at d) (joined (drop (suc at) cs)) (sorted-right R (joined (take at cs)) (get_or cs at d ++ joined (drop (suc at) cs))
+    sorted-left R (get_or cs at d) (joined (drop (suc at) cs)) (sorted-right R (joined (take at cs)) (get_or cs at d ++ joined (drop
+    (suc at) cs))
     (subst (λ (es : List (K × X)). IsStrictlySortedBy R (keys_of es)) (joined-at cs at d lt) sorted))

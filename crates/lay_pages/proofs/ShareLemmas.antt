@@ -156,7 +156,8 @@ sized_parts {A} grows (x ∷ xs) le = by grows (nat_le (length (x ∷ xs)) 64) r
       let more : 64 < length (x ∷ xs) = grind (arith, nat_tests) in
       two 32 (omega arith) (omega arith) (omega (arith, more)) (omega (arith, le))
 
-pub parts_map : {A B : Type 0} (f : A → B) (grows : Bool) (xs : List A) → map (λ ys. map f ys) (parts_of grows xs) ≡ parts_of grows (map f xs)
+pub parts_map : {A B : Type 0} (f : A → B) (grows : Bool) (xs : List A) → map (λ ys. map f ys) (parts_of grows xs) ≡ parts_of grows
+    (map f xs)
 parts_map f grows [] = refl
 parts_map {A} {B} f grows (x ∷ xs) =
     by (nat_le (length (x ∷ xs)) 64) (cond grows 64 32)

@@ -12,6 +12,8 @@ mod page;
 mod pages;
 mod place;
 mod share;
+#[cfg(test)]
+mod tests;
 mod update;
 
 pub use keys::{Kept, PageKey};

@@ -38,7 +38,15 @@ loop-book-preserved g c =
     let count : c.len-pages.result ≡ length c.book-item.result.value.items = search rules in
     let so_far : c.loop-book.pages ≡ length (joined (take i (pages_in c.args.books.now))) = c.loop-book.invariant in
     let more : c.loop-book.pages + c.len-pages.result ≡ length (joined (take (i + 1) (pages_in c.args.books.now))) =
-    omega (arith, count, so_far, ap length one, count_items c.book-item.result.value.items, pages_more (pages_in c.args.books.now) i in_lists) in
+    omega (
+      arith,
+      count,
+      so_far,
+      ap length one,
+      count_items c.book-item.result.value.items,
+      pages_more (pages_in c.args.books.now) i
+          in_lists,
+    ) in
     more
 
 pub returns-clause-few : goal.returns-clause-few
