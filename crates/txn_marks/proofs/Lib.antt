@@ -1,5 +1,6 @@
 pub mod AnyLemmas
 pub mod ChangeLemmas
 pub mod CompareLemmas
+pub mod HomeLemmas
 pub mod SetLemmas
 pub mod TouchLemmas

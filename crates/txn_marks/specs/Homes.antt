@@ -1,12 +1,19 @@
 -- The elements in which a value lies.
-use Rattle.std.specs.Prelude.{List, [], ◌∷◌}
+use Rattle.std.specs.Prelude.{◌≡◌, List, [], ◌∷◌, ◌++◌, ◌||◌, Option, None, Some, if◌then◌else◌, is_some}
+use Rattle.std.specs.FinSet as set
+use Rattle.std.specs.List.{flat_map}
 use Rattle.lay_cells.specs.declared.cell_id.CellId.{CellId}
 use Rattle.lay_cells.specs.declared.cell_id.CellId.TheVariants.{Symbol, Top}
 use Rattle.lay_items.specs.declared.id.ItemId.{ItemId}
 use Rattle.lay_items.specs.declared.item.Item as items
 use Rattle.lay_items.specs.declared.item.Item.TheVariants.{Placed, Shape}
 use Rattle.txn_rules.specs.declared.element.Element.{Element}
-use Rattle.txn_rules.specs.declared.element.Element.TheVariants.{Calls, Content, Item, Layer, Uses}
+use Rattle.txn_rules.specs.declared.element.Element.TheVariants.{Calls, Cell, Content, Item, Layer, Uses}
+use Rattle.txn_rules.specs.declared.record.CellRecord.{CellRecord}
+use Rattle.txn_rules.specs.declared.record.Record.{Record}
+use Rattle.txn_rules.specs.Elements.{Touched}
+use Rattle.txn_rules.specs.Meets.{some_meets}
+use Rattle.txn_rules.specs.Records.{Records}
 
 -- the content of a symbol; the top cell is always there, and its content is no element
 abbrev pub content_of : CellId → List Element
@@ -17,3 +24,24 @@ content_of (Symbol number) = Content number ∷ []
 abbrev pub homes : ItemId → items.Item → List Element
 homes id (Shape cell layer rings) = Item id ∷ Layer cell layer ∷ content_of cell
 homes id (Placed cell target turn) = Item id ∷ Calls cell ∷ Uses target ∷ content_of cell
+
+-- those of an item, if there is one
+abbrev pub homes_of : ItemId → Option items.Item → List Element
+homes_of id None = []
+homes_of id (Some item) = homes id item
+
+-- those of both values of a record
+abbrev pub record_homes : Record → List Element
+record_homes w = homes_of w.id w.before ++ homes_of w.id w.after
+
+-- the symbol of a record, where it is there before or after
+abbrev pub cell_homes : CellRecord → List Element
+cell_homes w = if is_some w.before || is_some w.after then Cell w.number ∷ [] else []
+
+-- the elements that records meet
+abbrev pub met_by : Records → List Element
+met_by records = flat_map record_homes records.items ++ flat_map cell_homes records.symbols
+
+-- these are the elements that some record meets, and no others
+abbrev pub AreMetBy : Records → Touched → Type 0
+AreMetBy records met = (e : Element) → set.contains met e ≡ some_meets records e

@@ -52,6 +52,13 @@ impl Footprint {
         self.elements.remove(&element);
     }
 
+    /// Lends the elements, in order.
+    pub fn elements(&self) -> &BTreeSet<Element>
+        ensures { set.from_list result.now.keys ≡ self.now }
+    {
+        &self.elements
+    }
+
     /// Returns whether the element is in it.
     pub fn contains(&self, element: Element) -> bool
         ensures { result ≡ set.contains self.now element }

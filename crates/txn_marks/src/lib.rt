@@ -13,6 +13,7 @@
 #![tactic(auto)]
 
 mod change;
+mod elements;
 mod footprint;
 mod lying;
 mod met;

@@ -4,9 +4,11 @@ ghost use Rattle.std.specs.BTreeMap.{IsOrdered, IsUnchanged, Updates};
 ghost use Rattle.lay_items.specs.Sound.{IsSound};
 ghost use Rattle.txn_rules.specs.Meets.{touches};
 ghost use Rattle.txn_rules.specs.Records.{AreProper, applied, change_at, reverted, slot_change_at};
+ghost use Rattle.txn_marks.specs.Homes.{AreMetBy};
 ghost use Rattle.txn_marks.specs.WritesOf.{Merges, MergesSymbol};
 
 use crate::change::{CellChange, ItemChange, cell_change, item_change};
+use crate::elements::{add_items, add_symbols};
 use crate::footprint::Footprint;
 use crate::met::{items_touch, symbols_touch};
 use crate::values::{item_afters, item_befores, symbol_afters, symbol_befores};
@@ -27,6 +29,7 @@ pub struct Writes {
 impl Model for Writes {
     ghost use Rattle.txn_rules.specs.Records.{Records};
     ghost use Rattle.txn_marks.specs.Coded.{coded_records};
+    ghost use Rattle.txn_marks.specs.Homes.{AreMetBy};
     ghost use Rattle.txn_marks.specs.WritesOf.{records_in};
 
     ghost Value = { Records };
@@ -117,6 +120,16 @@ impl Writes {
         let items = item_befores(alloc, &self.items)?;
         let symbols = symbol_befores(alloc, &self.symbols)?;
         Snapshot::of(alloc, layout.version().with(alloc, &items, &symbols)?)
+    }
+
+    /// Returns the elements that some record meets: those in which a value lies, before or after.
+    pub fn elements(&self, alloc: Global) -> Result<Footprint, NoMemory>
+        ensures { IfOk result (λ met. AreMetBy self.now met) }
+    {
+        let mut met = Footprint::new(alloc);
+        add_items(&mut met, &self.items)?;
+        add_symbols(&mut met, &self.symbols)?;
+        Ok(met)
     }
 
     /// Returns whether some record meets an element of the footprint.
