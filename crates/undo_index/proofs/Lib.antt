@@ -1,0 +1,4 @@
+pub mod FirstLemmas
+pub mod PairLemmas
+pub mod ListedLemmas
+pub mod RangeLemmas

@@ -1,0 +1,33 @@
+-- First places that pass a test.
+use Rattle.std.specs.Prelude.{◌≡◌, ℕ, ◌<◌, ◌≤◌, Bool, true, false, List, [], ◌∷◌, Option, None, Some, if◌then◌else◌, nat_lt, slice_get}
+
+-- the first place from this one on that passes the test; None where there is none
+abbrev pub IsFirst : (ℕ → Bool) → ℕ → Option ℕ → Type 0
+IsFirst test from None = (p : ℕ) → from ≤ p → test p ≡ false
+IsFirst test from (Some first) = (from ≤ first) × (test first ≡ true) × ((p : ℕ) → from ≤ p → p < first → test p ≡ false)
+
+-- the lesser one of two places, of which either may be missing
+abbrev pub lesser : Option ℕ → Option ℕ → Option ℕ
+lesser None other = other
+lesser (Some a) None = Some a
+lesser (Some a) (Some b) = if nat_lt b a then Some b else Some a
+
+-- what is found of an item, where there is one
+abbrev pub look : {X Y : Type 0} → (X → Option Y) → Option X → Option Y
+look f None = None
+look f (Some x) = f x
+
+-- the first of two, where there is one, else the second
+abbrev pub or_some : {Y : Type 0} → Option Y → Option Y → Option Y
+or_some None other = other
+or_some (Some y) other = Some y
+
+-- what is found of the first of these items of which something is
+abbrev pub first_some : {X Y : Type 0} → (X → Option Y) → List X → Option Y
+first_some f [] = None
+first_some f (x ∷ xs) = or_some (f x) (first_some f xs)
+
+-- what is found of the item at a place
+abbrev pub found_at : {X Y : Type 0} → (X → Option Y) → List X → Option ℕ → Option Y
+found_at f xs None = None
+found_at f xs (Some p) = look f (slice_get xs p)

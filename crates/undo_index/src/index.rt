@@ -1,0 +1,60 @@
+//! Who wrote and who read what.
+ghost use Rattle.std.specs.Prelude.{◌≡◌, OnErr, OnOk};
+ghost use Rattle.undo_index.specs.Listed.{AreAdded, AreRemoved, IsNew, nowhere};
+
+use crate::listing::Listing;
+use lay_point::NoMemory;
+use std::alloc::Global;
+use txn_marks::Footprint;
+
+/// The live transactions of a history, by what they wrote and by what they touched.
+#[derive(Drop)]
+pub struct Index {
+    /// Under each element the places of the live transactions that wrote it.
+    pub writers: Listing,
+    /// Under each element the places of the live transactions that read or wrote it.
+    pub readers: Listing,
+}
+
+impl Index {
+    /// Returns the index of no history.
+    pub fn new(alloc: Global) -> Index
+        ensures writers { result.writers ≡ nowhere }
+        ensures readers { result.readers ≡ nowhere }
+    {
+        Index {
+            writers: Listing::new(alloc),
+            readers: Listing::new(alloc),
+        }
+    }
+
+    /// Lists a transaction as live, with the elements that it wrote and those that it touched. Out of memory
+    /// all stays as it was where it isn't listed.
+    pub fn enter(
+        &mut self,
+        met: &Footprint,
+        footprint: &Footprint,
+        place: u32,
+    ) -> Result<(), NoMemory>
+        ensures writers { OnOk result (AreAdded self.old.writers met.now place self.new.writers) }
+        ensures readers { OnOk result (AreAdded self.old.readers footprint.now place self.new.readers) }
+        ensures same_writers { OnErr result (IsNew self.old.writers place → self.new.writers ≡ self.old.writers) }
+        ensures same_readers { OnErr result (IsNew self.old.readers place → self.new.readers ≡ self.old.readers) }
+    {
+        self.writers.add(met, place)?;
+        if self.readers.add(footprint, place).is_err() {
+            self.writers.remove(met, place);
+            return Err(NoMemory {});
+        }
+        Ok(())
+    }
+
+    /// Lists a transaction as live no longer.
+    pub fn leave(&mut self, met: &Footprint, footprint: &Footprint, place: u32)
+        ensures writers { AreRemoved self.old.writers met.now place self.new.writers }
+        ensures readers { AreRemoved self.old.readers footprint.now place self.new.readers }
+    {
+        self.writers.remove(met, place);
+        self.readers.remove(footprint, place);
+    }
+}

@@ -1,0 +1,179 @@
+//! Places under elements.
+ghost use Rattle.std.specs.Prelude.{◌≡◌, ℕ, ◌==◌, ◌||◌, ◌&&◌, IfOk, OnErr, OnOk, nat_lt};
+ghost use Rattle.std.specs.FinSet as set;
+ghost use Rattle.std.specs.BTreeSet.{contains as has};
+ghost use Rattle.std.specs.List.{list_any};
+ghost use Rattle.std.specs.Ordering.{nat_cmp};
+ghost use Rattle.undo_index.specs.First.{IsFirst, lesser};
+ghost use Rattle.undo_index.specs.Listed.{AreAdded, AreRemoved, IsNew, is_listed, nowhere, pairs_below};
+
+use lay_point::NoMemory;
+use std::alloc::Global;
+use std::collections::BTreeSet;
+use std::marker::Model;
+use txn_marks::Footprint;
+use txn_rules::Element;
+
+/// Places listed under elements. Contracts see the finite set of the pairs.
+#[derive(Drop)]
+pub struct Listing {
+    pairs: BTreeSet<(Element, u32)>,
+}
+
+impl Model for Listing {
+    ghost use Rattle.std.specs.FinSet as set;
+    ghost use Rattle.undo_index.specs.Listed.{Listed, coded_listed};
+
+    ghost Value = { Listed };
+
+    ghost coded = { coded_listed };
+
+    ghost view = { λ l. set.from_list l.pairs.keys };
+}
+
+impl Listing {
+    /// Returns a listing of nothing.
+    pub fn new(alloc: Global) -> Listing
+        ensures { result ≡ nowhere }
+    {
+        Listing {
+            pairs: BTreeSet::new(alloc),
+        }
+    }
+
+    /// Lists the place under each of the elements. Out of memory it takes those back that it listed, so what
+    /// was listed stays as it was where the place is a new one.
+    ///
+    /// # Cost
+    ///
+    /// As many steps as there are elements, each by the logarithm of the number of pairs.
+    pub fn add(&mut self, elements: &Footprint, place: u32) -> Result<(), NoMemory>
+        ensures ok { OnOk result (AreAdded self.old elements.now place self.new) }
+        ensures err { OnErr result (IsNew self.old place → self.new ≡ self.old) }
+    {
+        for element in elements.elements() {
+            if self.insert(*element, place).is_err() {
+                self.remove(elements, place);
+                return Err(NoMemory {});
+            }
+        }
+        Ok(())
+    }
+
+    /// Lists the place no longer under any of the elements.
+    ///
+    /// # Cost
+    ///
+    /// As that of `add`.
+    pub fn remove(&mut self, elements: &Footprint, place: u32)
+        ensures { AreRemoved self.old elements.now place self.new }
+    {
+        for element in elements.elements() {
+            self.remove_one(*element, place);
+        }
+    }
+
+    /// Returns the least place from this one on that is listed under one of the elements.
+    ///
+    /// # Cost
+    ///
+    /// As that of `add`.
+    pub fn first_among(&self, elements: &Footprint, from: u32) -> Option<u32>
+        ensures { IsFirst (λ p. list_any (λ e. is_listed self.now e p) (set.items elements.now)) from result }
+    {
+        let mut least = None;
+        for element in elements.elements() {
+            least = lesser(least, self.first(*element, from));
+        }
+        least
+    }
+
+    /// Returns all places below this one that are listed under one of the elements.
+    ///
+    /// # Cost
+    ///
+    /// As that of `add`, and as many steps as places are listed there under each of the elements, each by the
+    /// logarithm of the number of these.
+    pub fn all_among(
+        &self,
+        alloc: Global,
+        elements: &Footprint,
+        below: u32,
+    ) -> Result<BTreeSet<u32>, NoMemory>
+        ensures { IfOk result (λ places. (p : ℕ) → has nat_cmp places p
+            ≡ (nat_lt p below && list_any (λ e. is_listed self.now e p) (set.items elements.now))) }
+    {
+        let mut places = BTreeSet::new(alloc);
+        for element in elements.elements() {
+            self.gather(*element, below, &mut places)?;
+        }
+        Ok(places)
+    }
+
+    /// Lists the place under the element.
+    fn insert(&mut self, element: Element, place: u32) -> Result<(), NoMemory>
+        ensures ok { OnOk result (self.new ≡ set.insert self.old (element, place)) }
+        ensures err { OnErr result (self.new ≡ self.old) }
+    {
+        self.pairs.insert((element, place))?;
+        Ok(())
+    }
+
+    /// Lists the place no longer under the element.
+    fn remove_one(&mut self, element: Element, place: u32)
+        ensures { self.new ≡ set.remove self.old (element, place) }
+    {
+        self.pairs.remove(&(element, place));
+    }
+
+    /// Returns the least place from this one on that is listed under the element.
+    fn first(&self, element: Element, from: u32) -> Option<u32>
+        ensures { IsFirst (is_listed self.now element) from result }
+    {
+        match self.pairs.range((element, from)..).next() {
+            Some((found, place)) if *found == element => Some(*place),
+            _ => None,
+        }
+    }
+
+    /// Adds the places below this one that are listed under the element.
+    fn gather(
+        &self,
+        element: Element,
+        below: u32,
+        places: &mut BTreeSet<u32>,
+    ) -> Result<(), NoMemory>
+        ensures { OnOk result ((p : ℕ) → has nat_cmp places.new p
+            ≡ (has nat_cmp places.old p || (nat_lt p below && is_listed self.now element p))) }
+    {
+        gather_under(&self.pairs, &element, below, places)?;
+        Ok(())
+    }
+}
+
+/// Adds the places below this one of the pairs of the element.
+fn gather_under(
+    pairs: &BTreeSet<(Element, u32)>,
+    element: &Element,
+    below: u32,
+    places: &mut BTreeSet<u32>,
+) -> Result<(), NoMemory>
+    ensures { OnOk result ((p : ℕ) → has nat_cmp places.new p
+        ≡ (has nat_cmp places.old p || list_any (λ k. p == k.1) (pairs_below element.now below pairs.now))) }
+{
+    for pair in pairs.range((*element, 0)..(*element, below)) {
+        places.insert(pair.1)?;
+    }
+    Ok(())
+}
+
+/// Returns the lesser one of two places, of which either may be missing.
+fn lesser(one: Option<u32>, other: Option<u32>) -> Option<u32>
+    ensures { result ≡ lesser one other }
+{
+    match (one, other) {
+        (None, _) => other,
+        (_, None) => one,
+        (Some(a), Some(b)) => { if b < a { Some(b) } else { Some(a) } }
+    }
+}
