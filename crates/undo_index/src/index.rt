@@ -34,7 +34,7 @@ impl Index {
         &mut self,
         met: &Footprint,
         footprint: &Footprint,
-        place: u32,
+        place: usize,
     ) -> Result<(), NoMemory>
         ensures writers { OnOk result (AreAdded self.old.writers met.now place self.new.writers) }
         ensures readers { OnOk result (AreAdded self.old.readers footprint.now place self.new.readers) }
@@ -50,7 +50,7 @@ impl Index {
     }
 
     /// Lists a transaction as live no longer.
-    pub fn leave(&mut self, met: &Footprint, footprint: &Footprint, place: u32)
+    pub fn leave(&mut self, met: &Footprint, footprint: &Footprint, place: usize)
         ensures writers { AreRemoved self.old.writers met.now place self.new.writers }
         ensures readers { AreRemoved self.old.readers footprint.now place self.new.readers }
     {

@@ -17,7 +17,7 @@ use txn_rules::Element;
 /// Places listed under elements. Contracts see the finite set of the pairs.
 #[derive(Drop)]
 pub struct Listing {
-    pairs: BTreeSet<(Element, u32)>,
+    pairs: BTreeSet<(Element, usize)>,
 }
 
 impl Model for Listing {
@@ -47,7 +47,7 @@ impl Listing {
     /// # Cost
     ///
     /// As many steps as there are elements, each by the logarithm of the number of pairs.
-    pub fn add(&mut self, elements: &Footprint, place: u32) -> Result<(), NoMemory>
+    pub fn add(&mut self, elements: &Footprint, place: usize) -> Result<(), NoMemory>
         ensures ok { OnOk result (AreAdded self.old elements.now place self.new) }
         ensures err { OnErr result (IsNew self.old place → self.new ≡ self.old) }
     {
@@ -65,7 +65,7 @@ impl Listing {
     /// # Cost
     ///
     /// As that of `add`.
-    pub fn remove(&mut self, elements: &Footprint, place: u32)
+    pub fn remove(&mut self, elements: &Footprint, place: usize)
         ensures { AreRemoved self.old elements.now place self.new }
     {
         for element in elements.elements() {
@@ -78,7 +78,7 @@ impl Listing {
     /// # Cost
     ///
     /// As that of `add`.
-    pub fn first_among(&self, elements: &Footprint, from: u32) -> Option<u32>
+    pub fn first_among(&self, elements: &Footprint, from: usize) -> Option<usize>
         ensures { IsFirst (λ p. list_any (λ e. is_listed self.now e p) (set.items elements.now)) from result }
     {
         let mut least = None;
@@ -98,8 +98,8 @@ impl Listing {
         &self,
         alloc: Global,
         elements: &Footprint,
-        below: u32,
-    ) -> Result<BTreeSet<u32>, NoMemory>
+        below: usize,
+    ) -> Result<BTreeSet<usize>, NoMemory>
         ensures { IfOk result (λ places. (p : ℕ) → has nat_cmp places p
             ≡ (nat_lt p below && list_any (λ e. is_listed self.now e p) (set.items elements.now))) }
     {
@@ -111,7 +111,7 @@ impl Listing {
     }
 
     /// Lists the place under the element.
-    fn insert(&mut self, element: Element, place: u32) -> Result<(), NoMemory>
+    fn insert(&mut self, element: Element, place: usize) -> Result<(), NoMemory>
         ensures ok { OnOk result (self.new ≡ set.insert self.old (element, place)) }
         ensures err { OnErr result (self.new ≡ self.old) }
     {
@@ -120,14 +120,14 @@ impl Listing {
     }
 
     /// Lists the place no longer under the element.
-    fn remove_one(&mut self, element: Element, place: u32)
+    fn remove_one(&mut self, element: Element, place: usize)
         ensures { self.new ≡ set.remove self.old (element, place) }
     {
         self.pairs.remove(&(element, place));
     }
 
     /// Returns the least place from this one on that is listed under the element.
-    fn first(&self, element: Element, from: u32) -> Option<u32>
+    fn first(&self, element: Element, from: usize) -> Option<usize>
         ensures { IsFirst (is_listed self.now element) from result }
     {
         match self.pairs.range((element, from)..).next() {
@@ -140,8 +140,8 @@ impl Listing {
     fn gather(
         &self,
         element: Element,
-        below: u32,
-        places: &mut BTreeSet<u32>,
+        below: usize,
+        places: &mut BTreeSet<usize>,
     ) -> Result<(), NoMemory>
         ensures { OnOk result ((p : ℕ) → has nat_cmp places.new p
             ≡ (has nat_cmp places.old p || (nat_lt p below && is_listed self.now element p))) }
@@ -153,10 +153,10 @@ impl Listing {
 
 /// Adds the places below this one of the pairs of the element.
 fn gather_under(
-    pairs: &BTreeSet<(Element, u32)>,
+    pairs: &BTreeSet<(Element, usize)>,
     element: &Element,
-    below: u32,
-    places: &mut BTreeSet<u32>,
+    below: usize,
+    places: &mut BTreeSet<usize>,
 ) -> Result<(), NoMemory>
     ensures { OnOk result ((p : ℕ) → has nat_cmp places.new p
         ≡ (has nat_cmp places.old p || list_any (λ k. p == k.1) (pairs_below element.now below pairs.now))) }
@@ -168,7 +168,7 @@ fn gather_under(
 }
 
 /// Returns the lesser one of two places, of which either may be missing.
-fn lesser(one: Option<u32>, other: Option<u32>) -> Option<u32>
+fn lesser(one: Option<usize>, other: Option<usize>) -> Option<usize>
     ensures { result ≡ lesser one other }
 {
     match (one, other) {
