@@ -30,10 +30,15 @@ both_true false b e = absurd cc
 all_true : (a b : Bool) → a ≡ true → b ≡ true → (a && b) ≡ true
 all_true a b f g = rw (f, g) refl
 
-begins : (band : Band) (e : Point × Point) → band.low ≤ℤ (upward e).0.y → (upward e).0.y <ℤ band.high → begins_in band e ≡ true
+pub begins : (band : Band) (e : Point × Point) → band.low ≤ℤ (upward e).0.y → (upward e).0.y <ℤ band.high → begins_in band e ≡ true
 begins band e low high =
     all_true (int_le band.low (upward e).0.y) (int_lt (upward e).0.y band.high) (true_le band.low (upward e).0.y low)
     (true_lt (upward e).0.y band.high high)
+
+pub bounds : (band : Band) (e : Point × Point) → begins_in band e ≡ true → (band.low ≤ℤ (upward e).0.y) × ((upward e).0.y <ℤ band.high)
+bounds band e h =
+    let both = both_true (int_le band.low (upward e).0.y) (int_lt (upward e).0.y band.high) h in
+    (le_true band.low (upward e).0.y both.0, lt_true (upward e).0.y band.high both.1)
 
 -- in a band that is no narrower begins what begins in the old one, and one edge more
 pub begin_more : (old new : Band) (edges : List (Point × Point)) (i : ℕ) (e : Point × Point) → i < length edges → e ≡ get_or edges i e

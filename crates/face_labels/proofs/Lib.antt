@@ -1,6 +1,7 @@
 pub mod BandLemmas
 pub mod InsideLemmas
 pub mod JudgeLemmas
+pub mod KeptLemmas
 pub mod LabelLemmas
 pub mod LineLemmas
 pub mod NearLemmas

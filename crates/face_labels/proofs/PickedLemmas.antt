@@ -1,6 +1,6 @@
 -- What is picked from a list, element by element.
 use Rattle.std.proofs.Common.{◌≡◌, inl, inr, ℕ, zero, suc, ◌+◌, ◌<◌, Bool, true, false, cond, List, [], ◌∷◌, ◌++◌}
-use Rattle.std.proofs.Common.{length, get_or, take, sym, ap, subst, ◌∙◌, arith}
+use Rattle.std.proofs.Common.{length, get_or, take, refl, sym, ap, subst, ◌∙◌, arith}
 use Rattle.std.proofs.lemmas.List.{append-nil, length-take-le, take_more}
 use Rattle.lay_point.proofs.Members.{Has}
 use Rattle.face_labels.specs.Picked.{picked}
@@ -76,3 +76,16 @@ module _ {A B : Type 0} (test : A → Bool) (make : ℕ → A → B) where
       by_test true (inl same) further = record { index = zero; inside = omega arith; is = λ d. ap (λ m. make m x) (omega arith) ∙ same }
       by_test true (inr h) further = later (further h)
       by_test false h further = later (further h)
+
+  -- what holds of all that is made of elements that pass
+  pub picked_all : (P : B → Type 0) → ((m : ℕ) (x : A) → test x ≡ true → P (make m x)) → (n : ℕ) (xs : List A) (b : B)
+      → Has (picked test make n xs) b → P b
+  picked_all P f n [] b m = absurd m
+  picked_all P f n (x ∷ xs) b m = by_test (test x) (f n x) m (λ h. picked_all P f (n + 1) xs b h)
+    where
+      by_test : (t : Bool) → (t ≡ true → P (make n x))
+          → Has (cond t (make n x ∷ picked test make (n + 1) xs) (picked test make (n + 1) xs)) b
+          → (Has (picked test make (n + 1) xs) b → P b) → P b
+      by_test true here (inl same) further = subst P same (here refl)
+      by_test true here (inr h) further = further h
+      by_test false here h further = further h

@@ -190,7 +190,7 @@ ranks = record {
 }
 
 module _ (edges : List (Point × Point)) (row : ℤ) (rising : IsRising IsEdgeBefore edges) (clean : AreClean edges) where
-  left_of : (a b : Crossing) → IsCrossingOf edges row a → IsCrossingOf edges row b → nat_eq a.number b.number ≡ false → is_left b a ≡ false
+  pub left_of : (a b : Crossing) → IsCrossingOf edges row a → IsCrossingOf edges row b → nat_eq a.number b.number ≡ false → is_left b a ≡ false
       → IsLeftOf edges row a.number b.number
   left_of a b ha hb apart sorted d =
       let e = get_or edges a.number d in
@@ -217,7 +217,7 @@ module _ (edges : List (Point × Point)) (row : ℤ) (rising : IsRising IsEdgeBe
     all_rising (b ∷ cs) all.1 apart.1 (λ k d less. sorted (suc k) d (omega arith)),
   )
 
-  crosses_of : (cs : List Crossing) (n : ℕ) → AllByRecursion (IsCrossingOf edges row) cs → Has (map (λ c. c.number) cs) n
+  pub crosses_of : (cs : List Crossing) (n : ℕ) → AllByRecursion (IsCrossingOf edges row) cs → Has (map (λ c. c.number) cs) n
       → CrossesRow edges row n
   crosses_of [] n all m = absurd m
   crosses_of (c ∷ cs) n all (inl same) = subst (CrossesRow edges row) same (all.0.given, all.0.crosses)

@@ -1,5 +1,5 @@
 -- Where the edges of a band begin.
-use Rattle.std.specs.Prelude.{◌≡◌, ℕ, ◌<◌, Bool, false, List, length, slice_index_or}
+use Rattle.std.specs.Prelude.{◌≡◌, ◌⊎◌, ℕ, ◌<◌, ◌≤◌, ◌≤ℤ◌, ℤ, Bool, false, List, length, slice_index_or, Contains}
 use Rattle.lay_point.specs.declared.point.Point.{Point}
 use Rattle.snap_chains.specs.Rounded.{Owned}
 use Rattle.face_label_laws.specs.Labels.{differs, items_of}
@@ -28,3 +28,22 @@ pub record IsStartOf (r : Owned) (s : Start) : Type 0 where
 -- at the edge's number is its label
 abbrev pub HasLabel : Op → Owned → List Bool → Start → Type 0
 HasLabel op r labels s = slice_index_or labels s.number false ≡ differs (answer op) (items_of r) (item_at r s.number)
+
+-- a start is in no later row than those behind it
+abbrev pub AreByRow : List Start → Type 0
+AreByRow starts = (i j : ℕ) (d : Start) → i ≤ j → j < length starts → (slice_index_or starts i d).y ≤ℤ (slice_index_or starts j d).y
+
+-- one of the starts is that of the edge of this number, in this row or before it
+abbrev pub BeginsBy : List Start → ℤ → ℕ → Type 0
+BeginsBy starts row n = (s : Start) × Contains starts s × (s.number ≡ n) × (s.y ≤ℤ row)
+
+-- to the old numbers are added those of the edges that begin in this row or before it
+pub record AddsBegun (starts : List Start) (row : ℤ) (old new : List ℕ) : Type 0 where
+  pub kept : (n : ℕ) → Contains old n → Contains new n
+  pub begun : (n : ℕ) → BeginsBy starts row n → Contains new n
+  pub all : (n : ℕ) → Contains new n → Contains old n ⊎ BeginsBy starts row n
+
+-- of the edges that begin in the rows between two of the starts none is left out
+abbrev pub AreAllStarts : Owned → List Start → Type 0
+AreAllStarts r starts = (s t : Start) (n : ℕ) → Contains starts s → Contains starts t → n < length r.0
+    → s.y ≤ℤ (upward (edge_at r n)).0.y → (upward (edge_at r n)).0.y ≤ℤ t.y → Contains starts (start_of n (edge_at r n))

@@ -4,7 +4,7 @@ ghost use Rattle.std.specs.List.{zip};
 ghost use Rattle.face_label_laws.specs.Laws.{AreLesserFirst};
 ghost use Rattle.face_labels.specs.Bands.{begins_in, labelled};
 ghost use Rattle.face_labels.specs.Picked.{picked};
-ghost use Rattle.face_labels.specs.Starts.{HasLabel, IsStartOf};
+ghost use Rattle.face_labels.specs.Starts.{AreAllStarts, AreByRow, HasLabel, IsStartOf};
 
 use crate::band::Band;
 use crate::line::Line;
@@ -32,7 +32,7 @@ pub fn label(
 }
 
 /// Returns for each edge whether the operation's answers differ on its two sides, if it is one of
-/// those that begin at the starts. Takes less time where they are in order.
+/// those that begin at the starts, which are in order of their rows.
 fn labels_at(
     alloc: Global,
     edges: &CleanEdges,
@@ -40,6 +40,8 @@ fn labels_at(
     op: Op,
 ) -> Result<Vec<bool>, NoMemory>
     requires starts { All (IsStartOf edges.now) starts.now }
+    requires rows { AreByRow starts.now }
+    requires all { AreAllStarts edges.now starts.now }
     requires lesser { AreLesserFirst edges.now.0 }
     ensures len { IfOk result (λ labels. length labels.items ≡ length edges.now.0) }
     ensures labels { IfOk result (λ labels. All (HasLabel op edges.now labels.items) starts.now) }
@@ -49,9 +51,10 @@ fn labels_at(
         return Ok(labels);
     };
     let mut line = Line::new(alloc, edges, first.y)?;
-    for start in starts {
+    for index in 0..starts.len() {
+        let start = starts[index];
         if start.y != line.row {
-            line = Line::new(alloc, edges, start.y)?;
+            line = line.later(alloc, edges, start.y, &starts[index..])?;
         }
         labels[start.number] = line.differs(edges, start.number, op)?;
     }

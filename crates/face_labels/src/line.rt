@@ -1,16 +1,31 @@
 //! A row with a gap between two of its edges, which moves to where an edge is judged.
-ghost use Rattle.std.specs.Prelude.{◌≡◌, ◌<◌, ◌≤◌, All, IfOk, OnOk, drop, length, slice_index};
+ghost use Rattle.std.specs.Prelude.{
+  ◌≡◌,
+  ◌<◌,
+  ◌≤◌,
+  ℕ,
+  ◌≤ℤ◌,
+  ◌<ℤ◌,
+  All,
+  IfOk,
+  OnOk,
+  drop,
+  length,
+  slice_index,
+};
 ghost use Rattle.face_label_laws.specs.Labels.{differs, items_of};
 ghost use Rattle.face_label_laws.specs.Laws.{AreLesserFirst};
 ghost use Rattle.face_labels.specs.Beside.{is_right_of};
 ghost use Rattle.face_labels.specs.Lines.{AreInside, BeginsAt, EndsBefore, IsLine, TurnsListed, edge_at, item_at, owners_at};
 ghost use Rattle.face_labels.specs.Operations.{answer};
 ghost use Rattle.face_labels.specs.Rows.{upward};
+ghost use Rattle.face_labels.specs.Starts.{AreByRow, BeginsBy, IsStartOf};
 
 use crate::beside::is_right_of;
 use crate::inside::Inside;
 use crate::op::Op;
-use crate::rows::row_edges;
+use crate::rows::{row_edges, row_edges_among};
+use crate::start::{Start, add_begun};
 use lay_point::{Edge, NoMemory};
 use snap_chains::CleanEdges;
 use std::alloc::{AllocError, Global};
@@ -32,6 +47,38 @@ impl Line {
         ensures row { IfOk result (λ line. line.row ≡ row) }
     {
         let numbers = row_edges(alloc, edges, row)?;
+        let gap = numbers.len();
+        let inside = Inside::new(alloc);
+        Ok(Line {
+            row,
+            numbers,
+            gap,
+            inside,
+        })
+    }
+
+    /// Returns the line of a later row, with the gap right of all edges. Of the edges of this line those
+    /// that end before it are left out. The starts, in order, are those of edges that begin behind this
+    /// line, and of later ones.
+    pub fn later(
+        &self,
+        alloc: Global,
+        edges: &CleanEdges,
+        row: i32,
+        starts: &[Start],
+    ) -> Result<Line, NoMemory>
+        requires line { IsLine edges.now self.now }
+        requires later { self.now.row ≤ℤ row }
+        requires starts { All (IsStartOf edges.now) starts.now }
+        requires rows { AreByRow starts.now }
+        requires begun { (n : ℕ) → n < length edges.now.0 → self.now.row <ℤ (upward (edge_at edges.now n)).0.y
+            → (upward (edge_at edges.now n)).0.y ≤ℤ row → BeginsBy starts.now row n }
+        ensures line { IfOk result (IsLine edges.now) }
+        ensures row { IfOk result (λ line. line.row ≡ row) }
+    {
+        let mut candidates = Vec::from_slice(alloc, self.numbers.as_slice())?;
+        add_begun(&mut candidates, starts, row)?;
+        let numbers = row_edges_among(alloc, edges, candidates.as_slice(), row)?;
         let gap = numbers.len();
         let inside = Inside::new(alloc);
         Ok(Line {

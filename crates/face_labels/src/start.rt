@@ -1,9 +1,9 @@
 //! Where edges begin.
-ghost use Rattle.std.specs.Prelude.{◌≡◌, All, IfOk};
+ghost use Rattle.std.specs.Prelude.{◌≡◌, int_lt, IfOk, OnOk};
 ghost use Rattle.std.specs.List.Sorted.{IsPermutation};
 ghost use Rattle.lay_point.specs.declared.point.Point.{Point};
 ghost use Rattle.face_label_laws.specs.Laws.{AreLesserFirst};
-ghost use Rattle.face_labels.specs.Starts.{start_of, starts_of};
+ghost use Rattle.face_labels.specs.Starts.{AddsBegun, AreByRow, start_of, starts_of};
 
 use crate::band::Band;
 use crate::upward::upward;
@@ -37,6 +37,7 @@ impl Start {
 /// Returns where the edges begin that do so in the band, in order.
 pub(crate) fn starts(alloc: Global, edges: &[Edge], band: Band) -> Result<Vec<Start>, AllocError>
     ensures starts { IfOk result (λ starts. IsPermutation (starts_of band edges.now) starts.items) }
+    ensures rows { IfOk result (λ starts. AreByRow starts.items) }
     ensures lesser { IfOk result (λ starts. AreLesserFirst edges.now) }
 {
     let mut starts = Vec::new(alloc);
@@ -48,4 +49,29 @@ pub(crate) fn starts(alloc: Global, edges: &[Edge], band: Band) -> Result<Vec<St
     }
     starts.sort_unstable();
     Ok(starts)
+}
+
+/// Adds the numbers of the edges that begin in the row or before it.
+pub(crate) fn add_begun(
+    numbers: &mut Vec<usize>,
+    starts: &[Start],
+    row: i32,
+) -> Result<(), AllocError>
+    requires { AreByRow starts.now }
+    ensures { OnOk result (AddsBegun starts.now row numbers.old.items numbers.new.items) }
+{
+    for start in starts {
+        if begins_after(*start, row) {
+            return Ok(());
+        }
+        numbers.push(start.number)?;
+    }
+    Ok(())
+}
+
+/// Returns whether the edge begins after the row.
+fn begins_after(start: Start, row: i32) -> bool
+    ensures { result ≡ int_lt row start.y }
+{
+    row < start.y
 }

@@ -1,5 +1,5 @@
 -- Centres in order rise by x; so those in the columns of a segment are neighbours, and no other is met.
-use Rattle.std.proofs.Common.{◌≡◌, ⊎_elim, ℕ, zero, suc, ◌+◌, ◌-◌, ◌<◌, ◌≤◌, inl, inr, List, length, get_or, drop, true, false}
+use Rattle.std.proofs.Common.{◌≡◌, ⊎_elim, ℕ, zero, suc, ◌+◌, ◌-◌, ◌<◌, ◌≤◌, inl, inr, List, length, get_or, drop, map, true, false}
 use Rattle.std.proofs.Common.{ℤ, ◌≤ℤ◌, ◌<ℤ◌, sym, ap, ◌∙◌, subst, arith, Contains}
 use Rattle.std.specs.Prelude.{int_lt, int_le, slice_range}
 use Rattle.std.specs.List.Sorted.{IsPartitionedBy, IsPartitionPoint}
@@ -7,10 +7,10 @@ use Rattle.std.proofs.lemmas.Bool.{cases_lt}
 use Rattle.std.proofs.lemmas.Int.{ints}
 use Rattle.std.proofs.lemmas.List.{get_or-drop, get_or-take, length-drop, length-take}
 use Rattle.lay_point.specs.declared.point.Point.{Point}
-use Rattle.snap_pixels.specs.Order.{IsRising}
+use Rattle.snap_pixels.specs.Order.{AreTurned, IsRising, turned}
 use Rattle.lay_point.specs.Points.{IsBefore}
 use Rattle.snap_pixels.specs.Segments.{Meets}
-use Rattle.snap_pixels.proofs.OrderLemmas.{IsRising-next}
+use Rattle.snap_pixels.proofs.OrderLemmas.{IsRising-next, turned_members}
 use Rattle.snap_pixels.proofs.BoxLemmas.{Meets-apart}
 use Rattle.lay_int_laws.proofs.Signs.{linear}
 
@@ -107,3 +107,19 @@ columns_have_all cs low high from to a b h p c (k, lt, at) met =
       get_or-take (to - from) (drop from cs) (k - from) c (omega arith) ∙ get_or-drop from cs (k - from) c ∙ ap (λ j. get_or cs j c) back
           ∙ at,
     )
+
+-- ---- on the other side of the diagonal
+pub meets_turned : (a b c : Point) → Meets a b c → Meets (turned a) (turned b) (turned c)
+meets_turned a b c (k, t, f, place) = (k, t, f, record { column = place.row; row = place.column })
+
+pub back_inside : (hot others part found : List Point) → AreTurned hot others → ((c : Point) → Contains part c → Contains others c)
+    → found ≡ map turned part → (c : Point) → Contains found c → Contains hot c
+back_inside hot others part found other inside is c m =
+    (other c).0 (inside (turned c) ((turned_members part (turned c)).0 (subst (λ l. Contains l c) is m)))
+
+pub back_all : (hot others part found : List Point) (a b : Point) → AreTurned hot others
+    → ((c : Point) → Contains others c → Meets (turned a) (turned b) c → Contains part c)
+    → found ≡ map turned part → (c : Point) → Contains hot c → Meets a b c → Contains found c
+back_all hot others part found a b other all is c m met =
+    subst (λ l. Contains l c) (sym is)
+    ((turned_members part (turned c)).1 (all (turned c) ((other c).1 m) (meets_turned a b c met)))

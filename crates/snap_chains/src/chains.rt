@@ -6,7 +6,7 @@ ghost use Rattle.snap_pixels.specs.Segments.{Meets};
 ghost use Rattle.snap_edge_test.specs.Edges.{key};
 ghost use Rattle.snap_edge_test.specs.Chains.{IsChain};
 
-use crate::columns_of::columns;
+use crate::candidates::candidates;
 use lay_point::{NoMemory, Point};
 use snap_pixels::{HotSet, Segment, meets};
 use std::alloc::{AllocError, Global};
@@ -18,7 +18,8 @@ use std::cmp::Ordering;
 pub fn chain(alloc: Global, segment: &Segment, hot: &HotSet) -> Result<Vec<Point>, NoMemory>
     ensures { IfOk result (λ points. IsChain (Contains hot.now) segment.now points.items) }
 {
-    let mut points = met(alloc, segment, columns(segment, hot.centres()))?;
+    let candidates = candidates(alloc, segment, hot)?;
+    let mut points = met(alloc, segment, candidates.as_slice())?;
     points.sort_unstable_by_key(|point: &Point| (key(segment, *point), *point));
     points.dedup();
     Ok(points)

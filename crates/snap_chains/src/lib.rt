@@ -27,6 +27,7 @@
 //! ```
 #![tactic(auto)]
 
+mod candidates;
 mod chains;
 mod checking;
 mod clean_edges;

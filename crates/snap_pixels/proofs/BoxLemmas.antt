@@ -9,7 +9,7 @@ use Rattle.snap_pixels.specs.Segments.{Crosses, IsFraction, Meets, along}
 use Rattle.snap_pixels.proofs.RoundLemmas.{IsRoundedTo-high, IsRoundedTo-low}
 
 module _ (k t : ℤ) (f : IsFraction t k) (a b : ℤ) where
-  along_at_most : (h : ℤ) → a ≤ℤ h → b ≤ℤ h → along k t a b ≤ℤ (h *ℤ k)
+  pub along_at_most : (h : ℤ) → a ≤ℤ h → b ≤ℤ h → along k t a b ≤ℤ (h *ℤ k)
   along_at_most h p q =
       let e = identity (k ∷ t ∷ a ∷ b ∷ h ∷ [])
       ((# 4 ⊖ # 2) ⊗ (# 0 ⊖ # 1) ⊕ (# 4 ⊖ # 3) ⊗ # 1) (# 4 ⊗ # 0 ⊖ (# 2 ⊗ (# 0 ⊖ # 1) ⊕ # 3 ⊗ # 1)) refl in
@@ -17,7 +17,7 @@ module _ (k t : ℤ) (f : IsFraction t k) (a b : ℤ) where
       let right = nonnegative_product (h -ℤ b) t (omega (arith, linear)) f.low in
       omega (arith, linear)
 
-  along_at_least : (h : ℤ) → h ≤ℤ a → h ≤ℤ b → (h *ℤ k) ≤ℤ along k t a b
+  pub along_at_least : (h : ℤ) → h ≤ℤ a → h ≤ℤ b → (h *ℤ k) ≤ℤ along k t a b
   along_at_least h p q =
       let e = identity (k ∷ t ∷ a ∷ b ∷ h ∷ [])
       ((# 2 ⊖ # 4) ⊗ (# 0 ⊖ # 1) ⊕ (# 3 ⊖ # 4) ⊗ # 1) (# 2 ⊗ (# 0 ⊖ # 1) ⊕ # 3 ⊗ # 1 ⊖ # 4 ⊗ # 0) refl in

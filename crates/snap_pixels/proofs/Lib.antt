@@ -1,8 +1,10 @@
 pub mod BoundLemmas
 pub mod BoxLemmas
 pub mod CrossingLemmas
+pub mod CutLemmas
 pub mod HotLemmas
 pub mod MarkLemmas
 pub mod OrderLemmas
+pub mod PartLemmas
 pub mod RoundLemmas
 pub mod SideLemmas

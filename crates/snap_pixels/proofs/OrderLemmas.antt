@@ -1,9 +1,10 @@
 -- The order of points as `Ord` computes it, and lists that rise in it.
-use Rattle.std.proofs.Common.{◌≡◌, ◌≢◌, ◌↔◌, ⊎_elim, ℕ, ◌+◌, ◌<◌, inl, inr, zero, suc, List, [], ◌∷◌, length, get_or, false}
+use Rattle.std.proofs.Common.{◌≡◌, ◌≢◌, ◌↔◌, ⊎_elim, ℕ, ◌+◌, ◌<◌, inl, inr, zero, suc, Bool, List, [], ◌∷◌, length, get_or, map, false}
 use Rattle.std.proofs.Common.{Result, Ok, Err, refl, sym, ap, ◌∙◌, subst, arith, Contains, Decides}
+use mathlib.Core.HLevel.{⊥_prop, Π_prop, is_prop→PathP}
 use Rattle.std.specs.declared.cmp.Ordering.{Ordering}
 use Rattle.std.specs.declared.cmp.Ordering.TheVariants.{Less, Equal, Greater}
-use Rattle.std.specs.Prelude.{is_ok}
+use Rattle.std.specs.Prelude.{is_ok, ◌&&◌}
 use Rattle.std.specs.Ordering.{int_cmp, is_lt, on, then_cmp, ordering_then, ordering_reverse}
 use Rattle.std.specs.Cmp.{IsTotalOrder, int_cmp_is, decided}
 use Rattle.std.specs.List.Retain.{IsFiltered, DiffersFromLast}
@@ -14,11 +15,14 @@ use Rattle.std.proofs.lemmas.Cmp.{int_ranked, int_cmp_total, on_total, then_tota
 use Rattle.std.proofs.lemmas.List.Filters.{dedup_is}
 use Rattle.std.proofs.lemmas.List.Kept.{IsStrictlySortedBy-dedup, Contains-dedup, Contains-from_dedup}
 use Rattle.std.proofs.lemmas.List.Sorted.{searchable_from_sorted, Contains-permutation, IsPermutation-sym}
+use Rattle.std.proofs.lemmas.Bool.Decides.{Decides-and, Decides-like}
 use Rattle.lay_point.specs.declared.point.Point.{Point}
 use Rattle.lay_point.specs.contracts.point.PointOrd.TheImpl.Laws.{matches_eq-law}
 use Rattle.lay_point.specs.Points.{point_eq}
 use Rattle.lay_point.specs.Same.{point_eq-Decides}
-use Rattle.snap_pixels.specs.Order.{IsRising}
+use Rattle.snap_pixels.specs.declared.segment.Segment.{Segment}
+use Rattle.snap_pixels.specs.Order.{AreTurned, IsRising, turned}
+use Rattle.lay_point.proofs.Members.{Has, contains, has}
 use Rattle.lay_point.specs.Points.{IsBefore}
 
 -- what `cmp` of points computes
@@ -93,6 +97,32 @@ found-Decides ps x (Err i) up lt at = (λ e. absurd (false≢true e), λ w. absu
       (λ above. not_there (get_or ps w.0 x) x Greater (λ e. cc) (parts.1 w.0 x above w.1) w.2)
       (cases_lt w.0 i)
 
+-- a sort and then `dedup` keep what a list holds
+pub once_members : {A : Type 0} (E : A → A → Bool) → ((a b : A) → Decides (E a b) (a ≡ b)) → (xs ys zs : List A)
+    → IsPermutation xs ys → IsFiltered (DiffersFromLast E) [] ys zs → (a : A) → Contains zs a ↔ Contains xs a
+once_members E same xs ys zs moved filtered a =
+    let kept = dedup_is E ys zs filtered in
+    let back = IsPermutation-sym xs ys moved in (
+      (λ w. Contains-permutation ys xs a back (Contains-from_dedup E ys a (subst (λ l. Contains l a) kept w))),
+      (λ w. subst (λ l. Contains l a) (sym kept)
+          (Contains-dedup (decided E same) (λ b d e. (same b d).0 e) ys a (Contains-permutation xs ys a moved w))),
+    )
+
+-- equal segments have equal ends
+abbrev pub segment_eq : Segment → Segment → Bool
+segment_eq s t = point_eq s.a t.a && point_eq s.b t.b
+
+pub segment_eq-Decides : (s t : Segment) → Decides (segment_eq s t) (s ≡ t)
+segment_eq-Decides s t =
+    Decides-like (segment_eq s t)
+    (λ both. λ i. record {
+      a = both.0 i;
+      b = both.1 i;
+      differ = is_prop→PathP (λ j. both.0 j ≢ both.1 j) (λ j. Π_prop (λ e. ⊥_prop)) s.differ t.differ i;
+    })
+    (λ e. (ap (λ (u : Segment). u.a) e, ap (λ (u : Segment). u.b) e))
+    (Decides-and _ _ (point_eq-Decides s.a t.a) (point_eq-Decides s.b t.b))
+
 -- what a sort and then `dedup` make of points
 pub record IsSortedOnce (xs zs : List Point) : Type 0 where
   pub rising : IsRising zs
@@ -102,13 +132,36 @@ pub IsSortedOnce-from_dedup : (xs ys zs : List Point) → IsPermutation xs ys �
     → IsFiltered (DiffersFromLast point_eq) [] ys zs → IsSortedOnce xs zs
 IsSortedOnce-from_dedup xs ys zs moved sorted filtered =
     let kept = dedup_is point_eq ys zs filtered in
-    let back = IsPermutation-sym xs ys moved in
     record {
       rising = subst IsRising (sym kept) (IsRising-from_strict _ (IsStrictlySortedBy-dedup point_cmp_total matches_eq-law ys sorted));
-      members = λ p. (
-        (λ w. Contains-permutation ys xs p back (Contains-from_dedup point_eq ys p (subst (λ l. Contains l p) kept w))),
-        (λ w. subst (λ l. Contains l p) (sym kept)
-            (Contains-dedup (decided point_eq point_eq-Decides) (λ q r e. (point_eq-Decides q r).0 e) ys p
-            (Contains-permutation xs ys p moved w))),
-      );
+      members = once_members point_eq point_eq-Decides xs ys zs moved filtered;
     }
+
+-- ---- on the other side of the diagonal
+has_turned : (ps : List Point) (p : Point) → Has ps p → Has (map turned ps) (turned p)
+has_turned [] p m = absurd m
+has_turned (q ∷ qs) p (inl same) = inl (ap turned same)
+has_turned (q ∷ qs) p (inr m) = inr (has_turned qs p m)
+
+turned_has : (ps : List Point) (p : Point) → Has (map turned ps) (turned p) → Has ps p
+turned_has [] p m = absurd m
+turned_has (q ∷ qs) p (inl same) = inl (ap turned same)
+turned_has (q ∷ qs) p (inr m) = inr (turned_has qs p m)
+
+pub turned_members : (ps : List Point) → AreTurned ps (map turned ps)
+turned_members ps p = (
+  (λ m. contains ps p (turned_has ps p (has (map turned ps) (turned p) m))),
+  (λ m. contains (map turned ps) (turned p) (has_turned ps p (has ps p m))),
+)
+
+pub turned_once : (ps all sorted once : List Point) → all ≡ map turned ps → IsPermutation all sorted → IsSorted point_cmp sorted
+    → IsFiltered (DiffersFromLast point_eq) [] sorted once → IsRising once × AreTurned ps once
+turned_once ps all sorted once is moved order filtered =
+    let o = IsSortedOnce-from_dedup all sorted once moved order filtered in (
+      o.rising,
+      λ p.
+          let m = turned_members ps p in (
+            (λ w. m.0 (subst (λ l. Contains l (turned p)) is ((o.members (turned p)).0 w))),
+            (λ w. (o.members (turned p)).1 (subst (λ l. Contains l (turned p)) (sym is) (m.1 w))),
+          ),
+    )

@@ -1,7 +1,9 @@
 pub mod Boxes
+pub mod Cuts
 pub mod Hot
 pub mod Marks
 pub mod Order
+pub mod Parts
 pub mod Pixels
 pub mod Segments
 pub mod Sides

@@ -1,9 +1,10 @@
 //! Sets of hot centres.
-ghost use Rattle.std.specs.Prelude.{◌≡◌, ◌↔◌, IsTrue, Contains};
+ghost use Rattle.std.specs.Prelude.{◌≡◌, ◌↔◌, IfOk, IsTrue, Contains, map};
 ghost use Rattle.lay_point.specs.declared.point.Point.{Point};
-ghost use Rattle.snap_pixels.specs.Order.{IsRising};
+ghost use Rattle.snap_pixels.specs.Order.{AreTurned, IsRising, turned};
 
 use lay_point::Point;
+use std::alloc::{AllocError, Global};
 use std::marker::Model;
 
 /// The centres of hot pixels, each once, in the order of points: by x, then by y. Contracts see
@@ -11,29 +12,38 @@ use std::marker::Model;
 #[derive(Debug, Drop)]
 pub struct HotSet {
     centres: Vec<Point>,
+    /// The centres with x and y exchanged, in order.
+    turned: Vec<Point>,
 }
 
 impl Model for HotSet {
     ghost use Rattle.std.specs.Prelude.{List};
     ghost use Rattle.lay_point.specs.declared.point.Point.{Point};
-    ghost use Rattle.snap_pixels.specs.Order.{IsRising};
+    ghost use Rattle.snap_pixels.specs.Order.{AreTurned, IsRising};
 
     ghost Value = { List Point };
 
     ghost view = { λ h. h.centres.items };
 
-    ghost invariant = { λ h. IsRising h.centres.items };
+    ghost invariant = { λ h. IsRising h.centres.items × IsRising h.turned.items
+        × AreTurned h.centres.items h.turned.items };
 }
 
 impl HotSet {
     /// Returns the set of these centres, which may be in any order and more than once.
-    pub(crate) fn from_unsorted(mut centres: Vec<Point>) -> HotSet
-        ensures rising { IsRising result }
-        ensures members { (c : Point) → Contains result c ↔ Contains centres.items c }
+    pub(crate) fn from_unsorted(
+        alloc: Global,
+        mut centres: Vec<Point>,
+    ) -> Result<HotSet, AllocError>
+        ensures rising { IfOk result (λ hot. IsRising hot) }
+        ensures members { IfOk result (λ hot. (c : Point) → Contains hot c ↔ Contains centres.items c) }
     {
         centres.sort_unstable();
         centres.dedup();
-        HotSet { centres }
+        let mut turned = turned_all(alloc, centres.as_slice())?;
+        turned.sort_unstable();
+        turned.dedup();
+        Ok(HotSet { centres, turned })
     }
 
     /// Returns whether the pixel of `centre` is hot.
@@ -49,5 +59,34 @@ impl HotSet {
         ensures rising { IsRising self.now }
     {
         self.centres.as_slice()
+    }
+
+    /// Returns the hot centres with x and y exchanged, in order.
+    pub fn turned(&self) -> &[Point]
+        ensures rising { IsRising result.now }
+        ensures members { AreTurned self.now result.now }
+    {
+        self.turned.as_slice()
+    }
+}
+
+/// Returns the points with x and y exchanged.
+pub fn turned_all(alloc: Global, points: &[Point]) -> Result<Vec<Point>, AllocError>
+    ensures { IfOk result (λ others. others.items ≡ map turned points.now) }
+{
+    let mut others = Vec::with_capacity(alloc, points.len())?;
+    for point in points {
+        others.push(turned(*point))?;
+    }
+    Ok(others)
+}
+
+/// Returns the point with x and y exchanged.
+pub fn turned(point: Point) -> Point
+    ensures { result ≡ turned point }
+{
+    Point {
+        x: point.y,
+        y: point.x,
     }
 }

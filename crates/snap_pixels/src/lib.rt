@@ -27,10 +27,14 @@
 #![tactic(auto)]
 
 mod boxes;
+mod cell;
 mod crossing;
+mod cut;
+mod distinct;
 mod exact;
 mod hot_set;
 mod meeting;
+mod parts;
 mod rounding;
 mod search;
 mod segment;
@@ -41,7 +45,7 @@ mod tests;
 
 pub use crossing::crossing as crossing_centre;
 pub use exact::{MAX_AREA, area};
-pub use hot_set::HotSet;
+pub use hot_set::{HotSet, turned, turned_all};
 pub use meeting::meets;
 pub use search::{hot, hot_plain};
 pub use segment::Segment;

@@ -1,10 +1,12 @@
 //! Segments with two different ends.
 ghost use Rattle.std.specs.Prelude.{◌≡◌, ◌≢◌, ◌↔◌, IsNone, IfSome};
+ghost use Rattle.snap_pixels.specs.Order.{turned};
 
+use crate::hot_set::turned;
 use lay_point::Point;
 
 /// A segment from one point to a different one, in database units of 5 nanometres.
-#[derive(Clone, Copy, Debug, PartialEq, Eq)]
+#[derive(Clone, Copy, Debug, PartialEq, Eq, PartialOrd, Ord)]
 pub struct Segment {
     a: Point,
     b: Point,
@@ -35,5 +37,16 @@ impl Segment {
         ensures { result ≡ self.now.b }
     {
         self.b
+    }
+
+    /// Returns the segment with x and y exchanged.
+    pub fn turned(&self) -> Segment
+        ensures a { result.a ≡ turned self.now.a }
+        ensures b { result.b ≡ turned self.now.b }
+    {
+        Segment {
+            a: turned(self.a),
+            b: turned(self.b),
+        }
     }
 }

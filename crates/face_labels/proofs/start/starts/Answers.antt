@@ -1,6 +1,7 @@
 use Rattle.std.proofs.Common.{◌≡◌, ◌+◌, ◌++◌, [], ◌∷◌, true, false, take, sym, ap, ◌∙◌, rules}
 use Rattle.face_labels.specs.Bands.{begins_in}
 use Rattle.face_labels.specs.Starts.{start_of, starts_of}
+use Rattle.face_labels.proofs.KeptLemmas.{by_row}
 use Rattle.face_labels.proofs.PickedLemmas.{picked_more, picked_passed}
 use Rattle.face_labels.proofs.StartLemmas.{one_more_lesser}
 use Rattle.face_labels.proofs.start.starts.Goals as goal
@@ -26,3 +27,6 @@ loop-number-preserved c =
           ∙ sym (picked_passed (begins_in band) start_of edges n e less c.index-edges-number.is passed)
     ] in
     (next, one_more_lesser edges n e less c.index-edges-number.is c.has.ensures.lesser c.loop-number.invariant.1)
+
+pub returns-clause-rows : goal.returns-clause-rows
+returns-clause-rows c = by_row c.sort_unstable.new.self.items c.sort_unstable.ensures.sorted

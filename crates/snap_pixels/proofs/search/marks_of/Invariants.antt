@@ -1,7 +1,7 @@
 use Rattle.std.proofs.Common.{◌↔◌, Contains}
 use Rattle.lay_point.specs.declared.point.Point.{Point}
 use Rattle.snap_pixels.specs.Marks.{MarkedBelow}
-use Rattle.snap_pixels.proofs.search.hot_plain.Given as goal
+use Rattle.snap_pixels.proofs.search.marks_of.Given as goal
 
 -- what the segments so far have marked
 abbrev pub invariant-loop-i : goal.invariant-loop-i

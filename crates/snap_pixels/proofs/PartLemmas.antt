@@ -1,0 +1,103 @@
+-- Lists of segments that are searched apart, and what is found in them.
+use Rattle.std.proofs.Common.{ℕ, ◌+◌, ◌<◌, zero, suc, length, get_or, take, append-nil, append_assoc}
+use Rattle.std.proofs.Common.{◌≡◌, Result, Ok, ◌⊎◌, inl, inr, ⊎_elim, ◌↔◌, List, [], ◌∷◌, ◌++◌, map, Contains, sym, ap, subst, ◌∙◌, arith}
+use Rattle.std.specs.Prelude.{IfOk, flat_map}
+use Rattle.std.specs.List.{AllZip}
+use Rattle.std.proofs.lemmas.List.Elements.{Contains-append_cases, Contains-append_left, Contains-append_right}
+use Rattle.lay_point.specs.declared.point.Point.{Point}
+use Rattle.snap_pixels.specs.declared.segment.Segment.{Segment}
+use Rattle.snap_pixels.specs.Hot.{IsHot}
+use Rattle.snap_pixels.specs.Parts.{IsHotInOne}
+use Rattle.snap_pixels.proofs.CutLemmas.{IsHot-among}
+
+one_more : {A B C D : Type 0} → (A ↔ (B ⊎ C)) → (D ⊎ A) ↔ ((D ⊎ B) ⊎ C)
+one_more h = (
+  ⊎_elim (λ d. inl (inl d)) (λ a. ⊎_elim (λ b. inl (inr b)) (λ c. inr c) (h.0 a)),
+  ⊎_elim (⊎_elim (λ d. inl d) (λ b. inr (h.1 (inl b)))) (λ c. inr (h.1 (inr c))),
+)
+
+module _ {V : Type 0} (items : V → List Segment) where
+  pushed : (old : List V) (part : V) (c : Point)
+      → IsHotInOne (map items (old ++ part ∷ [])) c ↔ (IsHotInOne (map items old) c ⊎ IsHot (items part) c)
+  pushed [] part c = (⊎_elim (λ h. inr h) (λ n. absurd n), ⊎_elim (λ n. absurd n) (λ h. inl h))
+  pushed (v ∷ vs) part c = one_more (pushed vs part c)
+
+  -- one part more
+  pub IsHotInOne-push : (old new : List V) (part : V) → new ≡ old ++ part ∷ []
+      → (c : Point) → IsHotInOne (map items new) c ↔ (IsHotInOne (map items old) c ⊎ IsHot (items part) c)
+  IsHotInOne-push old new part e c =
+      subst (λ l. IsHotInOne (map items l) c ↔ (IsHotInOne (map items old) c ⊎ IsHot (items part) c)) (sym e) (pushed old part c)
+
+-- the parts of one side, and then those of the other
+pub both_sides : {N M O L H S : Type 0} → (S ↔ (L ⊎ H)) → (M ↔ (O ⊎ L)) → (N ↔ (M ⊎ H)) → N ↔ (O ⊎ S)
+both_sides s m n = (
+  (λ w. ⊎_elim (λ v. ⊎_elim (λ o. inl o) (λ l. inr (s.1 (inl l))) (m.0 v)) (λ h. inr (s.1 (inr h))) (n.0 w)),
+  ⊎_elim (λ o. n.1 (inl (m.1 (inl o)))) (λ w. ⊎_elim (λ l. n.1 (inl (m.1 (inr l)))) (λ h. n.1 (inr h)) (s.0 w)),
+)
+
+module _ {V W : Type 0} (E : Type 0) (items : V → List Segment) (points : W → List Point) where
+  abbrev pub AreFound : V → Result W E → Type 0
+  AreFound part r = IfOk r (λ w. (c : Point) → Contains (points w) c ↔ IsHot (items part) c)
+
+  -- the lists of the parts' hot centres hold those of all parts
+  found_in_lists : (parts : List V) (ws : List W) → AllZip AreFound parts (map Ok ws)
+      → (c : Point) → Contains (flat_map points ws) c ↔ IsHotInOne (map items parts) c
+  found_in_lists [] [] h c = ((λ w. absurd (omega (arith, w.1))), (λ n. absurd n))
+  found_in_lists [] (w ∷ ws) h c = absurd h
+  found_in_lists (p ∷ ps) [] h c = absurd h
+  found_in_lists (p ∷ ps) (w ∷ ws) h c =
+      let rest = found_in_lists ps ws h.1 c in (
+        (λ m. ⊎_elim (λ here. inl ((h.0 c).0 here)) (λ there. inr (rest.0 there))
+            (Contains-append_cases (points w) (flat_map points ws) c m)),
+        ⊎_elim (λ here. Contains-append_left (points w) (flat_map points ws) c ((h.0 c).1 here))
+            (λ there. Contains-append_right (points w) (flat_map points ws) c (rest.1 there)),
+      )
+
+  pub found_in_parts : (parts : List V) (rs : List (Result W E)) (ws : List W) → AllZip AreFound parts rs
+      → rs ≡ map Ok ws → (marked : List Point) → marked ≡ flat_map points ws
+      → (c : Point) → Contains marked c ↔ IsHotInOne (map items parts) c
+  found_in_parts parts rs ws h e marked is c =
+      subst (λ l. Contains l c ↔ IsHotInOne (map items parts) c) (sym is)
+      (found_in_lists parts ws (subst (AllZip AreFound parts) e h) c)
+
+pub through : {A B C : Type 0} → (A ↔ B) → (B ↔ C) → A ↔ C
+through f g = ((λ a. g.0 (f.0 a)), (λ c. f.1 (g.1 c)))
+
+-- what the lists hold, with one list more
+module _ {V : Type 0} (points : V → List Point) where
+  flat_more : (lists : List V) (n : ℕ) (v : V) → n < length lists → get_or lists n v ≡ v
+      → flat_map points (take (suc n) lists) ≡ flat_map points (take n lists) ++ points v
+  flat_more [] n v lt at = absurd (omega (arith, lt))
+  flat_more (w ∷ ws) zero v lt at = append-nil (points w) ∙ ap points at
+  flat_more (w ∷ ws) (suc n) v lt at =
+      ap (λ l. points w ++ l) (flat_more ws n v (omega (arith, lt)) at)
+      ∙ sym (append_assoc (points w) (flat_map points (take n ws)) (points v))
+
+  pub list_more : (lists : List V) (n : ℕ) (v : V) (old new : List Point) → n < length lists → get_or lists n v ≡ v
+      → new ≡ old ++ points v → ((c : Point) → Contains old c ↔ Contains (flat_map points (take n lists)) c)
+      → (c : Point) → Contains new c ↔ Contains (flat_map points (take (n + 1) lists)) c
+  list_more lists n v old new lt at added so_far c =
+      let all : List Point = flat_map points (take n lists) in
+      let next : suc n ≡ n + 1 = omega arith in
+      let more = subst (λ m. flat_map points (take m lists) ≡ all ++ points v) next (flat_more lists n v lt at) in (
+        (λ w. subst (λ l. Contains l c) (sym more) (⊎_elim
+            (λ was. Contains-append_left all (points v) c ((so_far c).0 was))
+            (λ is. Contains-append_right all (points v) c is)
+            (Contains-append_cases old (points v) c (subst (λ l. Contains l c) added w)))),
+        (λ w. subst (λ l. Contains l c) (sym added) (⊎_elim
+            (λ was. Contains-append_left old (points v) c ((so_far c).1 was))
+            (λ is. Contains-append_right old (points v) c is)
+            (Contains-append_cases all (points v) c (subst (λ l. Contains l c) more w)))),
+      )
+
+-- segments that are each in the other list have the same hot pixels
+pub IsHot-same : (once segments : List Segment) → ((s : Segment) → Contains once s ↔ Contains segments s)
+    → (c : Point) → IsHot once c ↔ IsHot segments c
+IsHot-same once segments same c = (
+  IsHot-among once segments (λ s w. (same s).0 w) c,
+  IsHot-among segments once (λ s w. (same s).1 w) c,
+)
+
+-- in no parts there is nothing before
+pub all_new : {A N B : Type 0} → (N → ⊥) → (A ↔ (N ⊎ B)) → A ↔ B
+all_new none h = ((λ a. ⊎_elim (λ n. absurd (none n)) (λ b. b) (h.0 a)), (λ b. h.1 (inr b)))

@@ -1,0 +1,77 @@
+//! Lines across which a list of segments is divided.
+ghost use Rattle.std.specs.Prelude.{◌≡◌, ◌||◌, IfOk, filter, int_le};
+ghost use Rattle.snap_pixels.specs.Cuts.{reaches_high, reaches_low};
+
+use crate::segment::Segment;
+use std::alloc::{AllocError, Global};
+
+/// A line across which segments are divided: the places of this x, or of this y.
+#[derive(Clone, Copy, Debug)]
+pub(crate) enum Cut {
+    Column(i32),
+    Row(i32),
+}
+
+impl Cut {
+    /// Returns whether some of the segment is on the line or on its lower side.
+    pub fn reaches_low(self, segment: &Segment) -> bool
+        ensures { result ≡ reaches_low self segment.now }
+    {
+        let (a, b) = (segment.a(), segment.b());
+        match self {
+            Cut::Column(at) => one_is_at_most(a.x, b.x, at),
+            Cut::Row(at) => one_is_at_most(a.y, b.y, at),
+        }
+    }
+
+    /// Returns whether some of the segment is on the line or on its higher side.
+    pub fn reaches_high(self, segment: &Segment) -> bool
+        ensures { result ≡ reaches_high self segment.now }
+    {
+        let (a, b) = (segment.a(), segment.b());
+        match self {
+            Cut::Column(at) => one_is_at_least(a.x, b.x, at),
+            Cut::Row(at) => one_is_at_least(a.y, b.y, at),
+        }
+    }
+
+    /// Returns the segments that reach the lower side.
+    pub fn low_part(self, alloc: Global, segments: &[Segment]) -> Result<Vec<Segment>, AllocError>
+        ensures { IfOk result (λ part. part.items ≡ filter (reaches_low self) segments.now) }
+    {
+        let mut part = Vec::new(alloc);
+        for segment in segments {
+            if self.reaches_low(segment) {
+                part.push(*segment)?;
+            }
+        }
+        Ok(part)
+    }
+
+    /// Returns the segments that reach the higher side.
+    pub fn high_part(self, alloc: Global, segments: &[Segment]) -> Result<Vec<Segment>, AllocError>
+        ensures { IfOk result (λ part. part.items ≡ filter (reaches_high self) segments.now) }
+    {
+        let mut part = Vec::new(alloc);
+        for segment in segments {
+            if self.reaches_high(segment) {
+                part.push(*segment)?;
+            }
+        }
+        Ok(part)
+    }
+}
+
+/// Returns whether one of the two numbers is at most `at`.
+fn one_is_at_most(a: i32, b: i32, at: i32) -> bool
+    ensures { result ≡ (int_le a at || int_le b at) }
+{
+    a <= at || b <= at
+}
+
+/// Returns whether one of the two numbers is at least `at`.
+fn one_is_at_least(a: i32, b: i32, at: i32) -> bool
+    ensures { result ≡ (int_le at a || int_le at b) }
+{
+    at <= a || at <= b
+}
