@@ -1,13 +1,13 @@
 -- The edges of a row, from candidates among which they all are.
 use Rattle.std.proofs.Common.{◌≡◌, ◌⊎◌, inl, inr, ⊎_elim, ℕ, zero, suc, ◌+◌, ◌-◌, ◌<◌, ◌≤◌, Bool, true, false, ◌&&◌, cond, List, [], ◌∷◌, ◌++◌}
-use Rattle.std.proofs.Common.{length, get_or, drop, map, take, Contains, ℤ, ◌*ℤ◌, ◌≤ℤ◌, ◌<ℤ◌, refl, sym, ap, subst, ◌∙◌, arith, add-one, eq-eqb}
-use Rattle.std.specs.Prelude.{All, nat_eq, nat_lt, int_le, int_lt}
+use Rattle.std.proofs.Common.{length, get_or, drop, map, take, Contains, ℤ, ◌≤ℤ◌, ◌<ℤ◌, refl, sym, ap, subst, ◌∙◌, arith, add-one}
+use Rattle.std.specs.Prelude.{All, nat_eq, int_le, int_lt}
 use Rattle.std.specs.List.{AllByRecursion, dedup, dedup_from}
 use Rattle.std.specs.List.Sorted.{IsPermutation, IsSorted, IsSortedBy}
 use Rattle.std.specs.Cmp.{IsTotalOrder}
 use Rattle.std.specs.Ordering.{int_cmp, is_lt, nat_cmp, on, ordering_then, then_cmp}
 use Rattle.std.specs.declared.cmp.Ordering.{Ordering}
-use Rattle.std.specs.declared.cmp.Ordering.TheVariants.{Equal, Greater, Less}
+use Rattle.std.specs.declared.cmp.Ordering.TheVariants.{Less}
 use Rattle.std.proofs.lemmas.Bool.{cases_lt}
 use Rattle.std.proofs.lemmas.Bool.Decides.{Decides-eqb, nat_tests}
 use Rattle.std.specs.Cmp.{int_cmp_is}
@@ -32,9 +32,8 @@ use Rattle.face_labels.specs.Lines.{edge_at, nowhere}
 use Rattle.face_labels.specs.Rows.{AreRowEdges, CrossesRow, IsLeftOf, crosses_row, crossing, rise, upward}
 use Rattle.face_labels.specs.Starts.{AddsBegun, AreAllStarts, AreByRow, BeginsBy, IsStartOf, start_of, starts_of}
 use Rattle.face_labels.proofs.BandLemmas.{begins, bounds}
-use Rattle.face_labels.proofs.LineLemmas.{row_given}
 use Rattle.face_labels.proofs.PickedLemmas.{picked_all, picked_has}
-use Rattle.face_labels.proofs.RowLemmas.{crosses_of, has_get, is_left, left_of, spans_of}
+use Rattle.face_labels.proofs.RowLemmas.{crosses_of, is_left, left_of, spans_of}
 
 -- ---- those of the candidates that cross
 pub record AreCrossingsAmong (edges : List (Point × Point)) (row : ℤ) (candidates : List ℕ) (cs : List Crossing) : Type 0 where

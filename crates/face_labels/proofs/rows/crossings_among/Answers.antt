@@ -1,4 +1,4 @@
-use Rattle.std.proofs.Common.{◌≡◌, ◌+◌, ◌<◌, length, get_or, to_z, of_z, w32, take, sym, subst, ◌∙◌, rules, ℕ, map, Contains}
+use Rattle.std.proofs.Common.{◌≡◌, ◌+◌, ◌<◌, length, get_or, to_z, of_z, w32, take, sym, subst, ◌∙◌, rules, Contains}
 use Rattle.std.proofs.lemmas.Int.{to_z-of_z}
 use Rattle.std.proofs.lemmas.List.{get_or_default, take_all}
 use Rattle.face_labels.specs.Rows.{CrossesRow, crosses_row}

@@ -1,4 +1,4 @@
-use Rattle.std.proofs.Common.{rules, subst, sym, Contains, List, ◌↔◌}
+use Rattle.std.proofs.Common.{rules, subst, Contains, List, ◌↔◌}
 use Rattle.std.proofs.lemmas.Fn.{always_returns_same}
 use Rattle.lay_point.specs.declared.point.Point.{Point}
 use Rattle.snap_edge_test.specs.Edges.{key}

@@ -1,5 +1,5 @@
 -- Of the edges of the later row those that begin by this one cross it, and the others are among the starts.
-use Rattle.std.proofs.Common.{◌≡◌, ◌≤ℤ◌, Contains, to_z, of_z, w32, get_or, length, ℕ, List, ◌<◌, subst, sym, ◌∙◌}
+use Rattle.std.proofs.Common.{◌≡◌, ◌≤ℤ◌, Contains, to_z, of_z, w32, length, ℕ, List, ◌<◌, subst, sym, ◌∙◌}
 use Rattle.std.proofs.lemmas.Int.{to_z-of_z}
 use Rattle.std.specs.Prelude.{All}
 use Rattle.face_labels.specs.Lines.{edge_at}
