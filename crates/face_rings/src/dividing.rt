@@ -102,6 +102,9 @@ fn unite(heads: &mut [usize], i: usize, j: usize)
 {
     let low = heads[i].min(heads[j]);
     let high = heads[i].max(heads[j]);
+    if low == high {
+        return;
+    }
     for index in 0..heads.len() {
         if heads[index] == high {
             heads[index] = low;
