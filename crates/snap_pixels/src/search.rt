@@ -25,8 +25,9 @@ const MARKS: usize = 65_536;
 /// # Cost
 ///
 /// Equal segments are asked once. On segments that are short beside the whole, the time is that of a
-/// sort of the segments and the crossings. It is at most about twice that of `hot_plain` on the distinct
-/// segments. The memory is that of the segments, nine times at most, and of the hot pixels.
+/// sort of the segments and the crossings. The pairs asked are at most about twice those of `hot_plain`
+/// on the distinct segments. The lists hold at most nine times the segments, and a hot pixel once for
+/// each list that finds it, until these are joined.
 pub fn hot(
     rt: &(impl Threads + Sync),
     alloc: Global,
