@@ -1,8 +1,8 @@
 //! An index of a history: who wrote and who read what.
 //!
-//! A [`Listing`] has places listed under elements, in order. An [`Index`] has three of them: the live
-//! transactions that wrote an element, those that touched it, and the logged calls that changed one that wrote
-//! it. What touches a footprint is then looked up by its elements, and not asked of each transaction.
+//! A [`Listing`] has places listed under elements, in order. An [`Index`] has two of them: the live
+//! transactions that wrote an element, and those that touched it. So who wrote what a footprint has, and who
+//! touched what was written, is looked up by elements, and not asked of each transaction.
 //!
 //! Contracts see a listing as the finite set of its pairs.
 #![tactic(auto)]
