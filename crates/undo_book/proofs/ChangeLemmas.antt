@@ -243,7 +243,7 @@ again_kept earlier last log entries call txn place live are changed placed = rec
 
 -- ---- the same of equal lists
 
-same_lists : {e f : List (Option ℕ)} {l m : List ℕ} {g h : List Logged} {s t : List Entry} → f ≡ e → m ≡ l → h ≡ g → t ≡ s →
+pub same_lists : {e f : List (Option ℕ)} {l m : List ℕ} {g h : List Logged} {s t : List Entry} → f ≡ e → m ≡ l → h ≡ g → t ≡ s →
     AreChanges e l g s → AreChanges f m h t
 same_lists {e} {f} {l} {m} {g} {h} {s} {t} earlier last log entries are =
     subst (λ (x : List (Option ℕ)). AreChanges x m h t) (sym earlier)

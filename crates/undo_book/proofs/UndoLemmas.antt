@@ -160,6 +160,7 @@ pub record LeavesUndone (now new : History) (session : ℕ) (txn : TxnId) : Type
 
 pub record IsUndone (b now : History) (session : ℕ) (txn : TxnId) (place : ℕ) (entry : Entry) : Type 0 where
   pub there : slice_get b.entries place ≡ Some entry
+  pub live : entry.live ≡ true
   pub proper : AreProper entry.writes
   pub sound : IsSound (reverted b.layout entry.writes)
   pub left : (end : Layout) (log : List Logged) (entries : List Entry) → end ≡ reverted b.layout entry.writes →
@@ -171,9 +172,11 @@ undone_here : (b : History) → IsHistory b → (session : ℕ) (txn : TxnId) (p
     slice_get b.entries place ≡ Some entry → undo_refusal b txn ≡ None → IsUndone b b session txn place entry
 undone_here b is session txn place entry placed there free =
     let at : Found = record { before = take place b.entries; entry = entry; later = drop (suc place) b.entries } in
-    let does = undoes b is session txn at (found_there [] b.entries txn place entry placed there) free in
+    let found_so : found b txn ≡ Some at = found_there [] b.entries txn place entry placed there in
+    let does = undoes b is session txn at found_so free in
     record {
       there = there;
+      live = (can_undo at (sym (ap undo_refusal_at found_so) ∙ free)).live;
       proper = does.proper;
       sound = does.sound;
       left = λ end log entries lay logs marks.
@@ -208,6 +211,7 @@ pub record LeavesRedone (now new : History) (session : ℕ) (txn : TxnId) : Type
 
 pub record IsRedone (b now : History) (session : ℕ) (txn : TxnId) (place : ℕ) (entry : Entry) : Type 0 where
   pub there : slice_get b.entries place ≡ Some entry
+  pub undone : entry.live ≡ false
   pub proper : AreProper entry.writes
   pub sound : IsSound (applied b.layout entry.writes)
   pub left : (end : Layout) (log : List Logged) (entries : List Entry) → end ≡ applied b.layout entry.writes →
@@ -219,9 +223,11 @@ redone_here : (b : History) → IsHistory b → (session : ℕ) (txn : TxnId) (p
     slice_get b.entries place ≡ Some entry → redo_refusal b txn ≡ None → IsRedone b b session txn place entry
 redone_here b is session txn place entry placed there free =
     let at : Found = record { before = take place b.entries; entry = entry; later = drop (suc place) b.entries } in
-    let does = redoes b is session txn at (found_there [] b.entries txn place entry placed there) free in
+    let found_so : found b txn ≡ Some at = found_there [] b.entries txn place entry placed there in
+    let does = redoes b is session txn at found_so free in
     record {
       there = there;
+      undone = (can_redo at (sym (ap redo_refusal_at found_so) ∙ free)).undone;
       proper = does.proper;
       sound = does.sound;
       left = λ end log entries lay logs marks.

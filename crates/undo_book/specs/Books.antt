@@ -2,6 +2,7 @@
 use Rattle.undo_rules.specs.Books.{History, IsHistory}
 use Rattle.undo_book.specs.declared.book.Book.TheInside.{Inside}
 use Rattle.undo_book.specs.Changes.{AreChanges}
+use Rattle.undo_book.specs.Indexed.{AreIndexed}
 use Rattle.undo_book.specs.Places.{AreTheirPlaces}
 
 -- a book as its history
@@ -15,8 +16,10 @@ history_of b = record {
   sessions = b.sessions.items;
 }
 
--- a book keeps what a history keeps true, the places of its transactions, and those of their changes in its log
+-- a book keeps what a history keeps true, the places of its transactions, those of their changes in its log, and who of the live
+-- ones wrote and touched what
 pub record IsBook (b : Inside) : Type 0 where
   pub history : IsHistory (history_of b)
   pub places : AreTheirPlaces b.places.entries b.entries.items
   pub changes : AreChanges b.changes.earlier.items b.changes.last.items b.log.items b.entries.items
+  pub index : AreIndexed b.index.writers b.index.readers b.entries.items

@@ -4,4 +4,5 @@ pub mod Walks
 pub mod Replays
 pub mod Calls
 pub mod Changes
+pub mod Indexed
 pub mod Books

@@ -12,6 +12,7 @@ use lay_point::NoMemory;
 use std::alloc::Global;
 use std::collections::BTreeMap;
 use std::marker::Model;
+use undo_index::Index;
 use undo_rules::{Answer, BookFault, Call, Logged};
 
 /// The most calls that a book logs.
@@ -33,6 +34,8 @@ pub struct Book {
     /// The places of the transactions by their names: session and number.
     pub(crate) places: BTreeMap<(u8, u16), usize>,
     pub(crate) changes: Changes,
+    /// Who wrote and who read what, by their places.
+    pub(crate) index: Index,
 }
 
 impl Model for Book {
@@ -73,6 +76,7 @@ impl Book {
             sessions: unused_sessions(alloc)?,
             places: BTreeMap::new(alloc),
             changes: Changes::new(alloc),
+            index: Index::new(alloc),
         })
     }
 

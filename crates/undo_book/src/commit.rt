@@ -6,7 +6,6 @@ ghost use Rattle.undo_book.specs.Replays.{RunsAgain};
 
 use crate::book::Book;
 use crate::entry::Entry;
-use crate::links::links_to;
 use crate::session::end_pending;
 use lay_point::Sequence;
 use std::alloc::Global;
@@ -122,7 +121,10 @@ impl Book {
         let Ok(layout) = work.writes().applied(alloc, &self.layout) else {
             return Err(refused(BookFault::NoMemory, work));
         };
-        let Ok(seen) = links_to(alloc, &self.entries, work.footprint()) else {
+        let Ok(seen) = self.links_to(alloc, work.footprint()) else {
+            return Err(refused(BookFault::NoMemory, work));
+        };
+        let Ok(met) = work.writes().elements(alloc) else {
             return Err(refused(BookFault::NoMemory, work));
         };
         if self.entries.reserve(1).is_err()
@@ -132,7 +134,11 @@ impl Book {
             return Err(refused(BookFault::NoMemory, work));
         }
         let index = self.entries.len();
+        if self.index.enter(&met, work.footprint(), index).is_err() {
+            return Err(refused(BookFault::NoMemory, work));
+        }
         let Ok(_) = self.places.insert((txn.session, txn.txn), index) else {
+            self.index.leave(&met, work.footprint(), index);
             return Err(refused(BookFault::NoMemory, work));
         };
         let place = self.log.len() as u32;
@@ -142,6 +148,7 @@ impl Book {
             place,
             writes,
             footprint,
+            met,
             seen: Sequence::from_vec(seen),
             live: true,
         };

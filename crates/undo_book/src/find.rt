@@ -4,6 +4,7 @@ ghost use Rattle.undo_rules.specs.Books.{writes_of};
 ghost use Rattle.undo_rules.specs.Steps.{redo_refusal, stale_by, touching};
 ghost use Rattle.undo_rules.specs.Steps.{undo_refusal, undo_refusal_at};
 ghost use Rattle.undo_book.specs.Changes.{first_change};
+ghost use Rattle.undo_book.specs.Indexed.{AreIndexed};
 ghost use Rattle.undo_book.specs.Places.{found_at, place_of};
 ghost use Rattle.undo_book.specs.Walks.{redo_refusal_along};
 
@@ -13,6 +14,7 @@ use crate::entry::Entry;
 use crate::links::{changed_in, first_moved, first_reader};
 use txn_marks::Footprint;
 use txn_rules::TxnId;
+use undo_index::Index;
 use undo_rules::BookFault;
 
 impl Book {
@@ -35,7 +37,7 @@ impl Book {
         let Some(place) = self.place_of(txn) else {
             return Err(BookFault::NoTxn);
         };
-        match undo_refusal_at(&self.entries, place) {
+        match undo_refusal_at(&self.index, &self.entries, place) {
             Some(fault) => Err(fault),
             None => Ok(place),
         }
@@ -52,7 +54,7 @@ impl Book {
         let Some(place) = self.place_of(txn) else {
             return Err(BookFault::NoTxn);
         };
-        match redo_refusal_at(&self.entries, place) {
+        match redo_refusal_at(&self.index, &self.entries, place) {
             Some(fault) => Err(fault),
             None => Ok(place),
         }
@@ -97,27 +99,29 @@ impl Book {
 }
 
 /// Returns why the transaction at this place can't be undone.
-fn undo_refusal_at(entries: &[Entry], place: usize) -> Option<BookFault>
-    requires { place < length entries.now }
+fn undo_refusal_at(index: &Index, entries: &[Entry], place: usize) -> Option<BookFault>
+    requires place { place < length entries.now }
+    requires index { AreIndexed index.now.writers index.now.readers entries.now }
     ensures { result ≡ undo_refusal_at (found_at entries.now place) }
 {
     let entry = &entries[place];
     if !entry.live {
         return Some(BookFault::NotLive);
     }
-    first_reader(&entry.writes, &entries[place + 1..]).map(BookFault::Depends)
+    first_reader(index, entries, entry, place + 1).map(BookFault::Depends)
 }
 
 /// Returns why the transaction at this place can't be redone.
-fn redo_refusal_at(entries: &[Entry], place: usize) -> Option<BookFault>
-    requires { place < length entries.now }
+fn redo_refusal_at(index: &Index, entries: &[Entry], place: usize) -> Option<BookFault>
+    requires place { place < length entries.now }
+    requires index { AreIndexed index.now.writers index.now.readers entries.now }
     ensures { result ≡ redo_refusal_along (found_at entries.now place) }
 {
     let entry = &entries[place];
     if entry.live {
         return Some(BookFault::StillLive);
     }
-    if let Some(reader) = first_reader(&entry.writes, &entries[place + 1..]) {
+    if let Some(reader) = first_reader(index, entries, entry, place + 1) {
         return Some(BookFault::Depends(reader));
     }
     first_moved(&entries[..place], &entry.footprint, entry.seen.as_slice()).map(BookFault::Moved)

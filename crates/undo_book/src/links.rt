@@ -1,43 +1,75 @@
 //! Which transactions touched what others wrote.
-ghost use Rattle.std.specs.Prelude.{◌≡◌, IfOk};
+ghost use Rattle.std.specs.Prelude.{◌≡◌, IfOk, drop};
+ghost use Rattle.std.specs.List.{filter_map};
+ghost use Rattle.std.specs.List.Sorted.{IsStrictlySortedBy};
+ghost use Rattle.std.specs.Ordering.{nat_cmp};
 ghost use Rattle.undo_rules.specs.Books.{changed_by, changed_in};
 ghost use Rattle.undo_rules.specs.Links.{first_reader, links_to};
+ghost use Rattle.undo_book.specs.Indexed.{AreIndexed, name_at};
 ghost use Rattle.undo_book.specs.Walks.{first_apart, is_linked, next_seen};
 
+use crate::book::Book;
 use crate::entry::Entry;
 use lay_point::NoMemory;
 use std::alloc::Global;
-use txn_marks::{Footprint, Writes};
+use std::collections::BTreeSet;
+use txn_marks::Footprint;
 use txn_rules::TxnId;
+use undo_index::Index;
 use undo_rules::{Answer, Call, Logged};
 
-/// Returns the first live one of these transactions that touched what was written.
-pub(crate) fn first_reader(writes: &Writes, entries: &[Entry]) -> Option<TxnId>
-    ensures { result ≡ first_reader writes.now entries.now }
+/// Returns the first live transaction from this place on that touched what another one wrote.
+pub(crate) fn first_reader(
+    index: &Index,
+    entries: &[Entry],
+    entry: &Entry,
+    from: usize,
+) -> Option<TxnId>
+    requires { AreIndexed index.now.writers index.now.readers entries.now }
+    ensures { result ≡ first_reader entry.now.writes (drop from entries.now) }
 {
-    for entry in entries {
-        if entry.live && writes.touch(&entry.footprint) {
-            return Some(entry.txn);
-        }
-    }
-    None
+    let place = index.readers.first_among(entry.met(), from)?;
+    Some(entries.get(place)?.txn)
 }
 
-/// Returns the live ones of these transactions that wrote what is touched.
-pub(crate) fn links_to(
+impl Book {
+    /// Returns the live transactions that wrote what is touched, in order.
+    ///
+    /// # Cost
+    ///
+    /// As many steps as there are elements in the footprint, and as many as live transactions wrote each of
+    /// them, each by the logarithm of all that is listed. So where many transactions each read what all of
+    /// them wrote, their links take as much time and memory as they are long.
+    pub(crate) fn links_to(
+        &self,
+        alloc: Global,
+        footprint: &Footprint,
+    ) -> Result<Vec<TxnId>, NoMemory>
+        ensures { IfOk result (λ links. links.items ≡ links_to self.now.entries footprint.now) }
+    {
+        let end = self.entries.len();
+        let places = self.index.writers.all_among(alloc, footprint, end)?;
+        let names = names_at(alloc, &self.entries, &places)?;
+        Ok(names)
+    }
+}
+
+/// Returns the names of the transactions at these places.
+fn names_at(
     alloc: Global,
     entries: &[Entry],
-    footprint: &Footprint,
+    places: &BTreeSet<usize>,
 ) -> Result<Vec<TxnId>, NoMemory>
-    ensures { IfOk result (λ links. links.items ≡ links_to entries.now footprint.now) }
+    ensures names { IfOk result (λ names. names.items ≡ filter_map (name_at entries.now) places.now.keys) }
+    ensures ordered { IsStrictlySortedBy nat_cmp places.now.keys }
 {
-    let mut links = Vec::new(alloc);
-    for entry in entries {
-        if is_linked(entry, footprint) {
-            links.push(entry.txn)?;
+    let mut names = Vec::new(alloc);
+    for place in places {
+        if let Some(entry) = entries.get(*place) {
+            names.push(entry.txn)?;
         }
     }
-    Ok(links)
+    Ok(names)
 }
 
 /// Returns the first of these transactions that is live and wrote what is touched, and was not seen, or the

@@ -56,6 +56,7 @@ impl Book {
         let layout = entry.writes.applied(alloc, &self.layout)?;
         self.log.reserve(1)?;
         self.changes.reserve_call()?;
+        self.index.enter(entry.met(), &entry.footprint, place)?;
         self.changes.add_again(place, self.log.len() as u32);
         mark_at(&mut self.entries, place, true);
         let logged = Logged {

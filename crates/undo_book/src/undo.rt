@@ -58,6 +58,7 @@ impl Book {
         let layout = entry.writes.reverted(alloc, &self.layout)?;
         self.log.reserve(1)?;
         self.changes.reserve_call()?;
+        self.index.leave(entry.met(), &entry.footprint, place);
         self.changes.add_again(place, self.log.len() as u32);
         mark_at(&mut self.entries, place, false);
         let logged = Logged {

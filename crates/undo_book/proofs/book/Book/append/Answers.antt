@@ -5,10 +5,16 @@ use Rattle.undo_rules.specs.declared.log.Answer.TheVariants.{Committed}
 use Rattle.undo_rules.specs.declared.log.Call.TheVariants.{Commit}
 use Rattle.undo_rules.specs.declared.log.Logged.{Logged}
 use Rattle.undo_rules.specs.Steps.{ended_state, entered, state_of}
+use Rattle.txn_marks.specs.Homes.{AreMetBy}
+use Rattle.undo_index.specs.Listed.{AreAdded, AreRemoved, IsNew}
 use Rattle.undo_book.specs.Books.{history_of}
 use Rattle.undo_book.specs.Places.{AreTheirPlaces}
 use Rattle.undo_book.proofs.ChangeLemmas.{commit_so}
 use Rattle.undo_book.proofs.CommitLemmas.{LeavesCommitted, committed_so}
+use Rattle.undo_book.specs.Indexed.{AreIndexed}
+use Rattle.undo_book.proofs.IndexedLemmas.{commit_indexed, new_here}
+use Rattle.undo_book.proofs.SameLemmas.{same_book}
+use Rattle.undo_index.proofs.ListedLemmas.{withdrawn}
 use Rattle.undo_book.proofs.IndexLemmas.{places_pushed}
 use Rattle.undo_book.proofs.book.Book.append.Goals as goal
 
@@ -48,6 +54,20 @@ left c =
     (ended_state (state_of b work.id.session)) = search rules in
     can.left c.in-Ok.layout c.push-2.new.self.items c.push.new.self.items c.end_pending.new.sessions.items layout log (entry c) sessions
 
+-- who wrote and touched what
+indexed : (c : goal.After-drop-self-inside) → AreIndexed c.enter.new.self.writers c.enter.new.self.readers c.push.new.self.items
+indexed c =
+    let was = c.self.inside.index in
+    let work = c.args.work in
+    let met = c.in-Ok-elements.met in
+    let last : c.len-index.result ≡ length c.self.inside.entries.items = search rules in
+    let added : AreAdded was.writers met c.len-index.result c.enter.new.self.writers = search rules in
+    let read : AreAdded was.readers work.footprint c.len-index.result c.enter.new.self.readers = search rules in
+    let are : AreMetBy work.writes met = search rules in
+    commit_indexed was.writers was.readers c.enter.new.self.writers c.enter.new.self.readers c.self.inside.entries.items
+    c.push.new.self.items (entered (history_of c.self.inside) work) met c.len-index.result c.self.invariant.index added read are refl last
+    (entry c)
+
 pub invariant_of-self-2 : goal.invariant_of-self-2
 invariant_of-self-2 c =
     let b = history_of c.self.inside in
@@ -65,6 +85,7 @@ invariant_of-self-2 c =
       places = subst (AreTheirPlaces c.insert.new.self.entries) (sym (entry c))
           (places_pushed c.self.inside.places.entries c.insert.new.self.entries c.self.inside.entries.items (entered b work) c.id-txn.result
           c.len-index.result (sym c.id-txn.ensures.value) last can.apart c.self.invariant.places c.in-Ok-insert.ensures.updates.0);
+      index = indexed c;
       changes = commit_so call (entered b work) c.self.invariant.changes refl can.apart earlier changed log (entry c);
     }
 
@@ -73,3 +94,27 @@ returns-clause-ok c = (left c).is
 
 pub returns-clause-ran : goal.returns-clause-ran
 returns-clause-ran c = (left c).ran
+
+pub invariant_of-self-then-is_err-4 : goal.invariant_of-self-then-is_err-4
+invariant_of-self-then-is_err-4 c =
+    let was = c.self.inside.index in
+    let last : c.len-index.result ≡ length c.self.inside.entries.items = search rules in
+    let fresh = new_here was.writers was.readers c.self.inside.entries.items c.len-index.result c.self.invariant.index last in
+    let writers : IsNew was.writers c.len-index.result → c.enter.new.self.writers ≡ was.writers = search rules in
+    let readers : IsNew was.readers c.len-index.result → c.enter.new.self.readers ≡ was.readers = search rules in
+    same_book c.self.inside _ (search rules) refl (search rules) (search rules) (writers fresh.0) (readers fresh.1) c.self.invariant
+
+pub invariant_of-self-in_default-insert : goal.invariant_of-self-in_default-insert
+invariant_of-self-in_default-insert c =
+    let was = c.self.inside.index in
+    let met = c.in-Ok-elements.met in
+    let last : c.len-index.result ≡ length c.self.inside.entries.items = search rules in
+    let fresh = new_here was.writers was.readers c.self.inside.entries.items c.len-index.result c.self.invariant.index last in
+    let added : AreAdded was.writers met c.len-index.result c.enter.new.self.writers = search rules in
+    let read : AreAdded was.readers c.args.work.footprint c.len-index.result c.enter.new.self.readers = search rules in
+    let gone : AreRemoved c.enter.new.self.writers met c.len-index.result c.leave.new.self.writers = search rules in
+    let unread : AreRemoved c.enter.new.self.readers c.args.work.footprint c.len-index.result c.leave.new.self.readers = search rules in
+    same_book c.self.inside _ (search rules) (search rules) (search rules) (search rules)
+    (withdrawn was.writers c.enter.new.self.writers c.leave.new.self.writers met c.len-index.result added gone fresh.0)
+    (withdrawn was.readers c.enter.new.self.readers c.leave.new.self.readers c.args.work.footprint c.len-index.result read unread fresh.1)
+    c.self.invariant

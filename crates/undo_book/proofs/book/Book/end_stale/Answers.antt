@@ -36,5 +36,6 @@ invariant_of-self-2 c =
     record {
       history = (left c).history;
       places = c.self.invariant.places;
+      index = c.self.invariant.index;
       changes = unchanged_so call c.self.invariant.changes refl earlier last log;
     }

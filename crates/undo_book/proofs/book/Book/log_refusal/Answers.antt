@@ -18,5 +18,6 @@ invariant_of-self-2 c =
       history = subst WithLog (sym log)
           (refused_keeps (history_of c.self.inside) c.self.invariant.history c.args.session c.args.call c.args.fault);
       places = c.self.invariant.places;
+      index = c.self.invariant.index;
       changes = unchanged_so call c.self.invariant.changes refl earlier last log;
     }

@@ -33,5 +33,6 @@ invariant_of-self-2 c =
     record {
       history = subst (λ (h : History). IsHistory h) (sym same) (open_keeps now is s c.requires.low c.requires.high);
       places = c.self.invariant.places;
+      index = c.self.invariant.index;
       changes = unchanged_so call c.self.invariant.changes refl earlier last logged;
     }

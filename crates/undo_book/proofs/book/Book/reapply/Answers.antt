@@ -8,8 +8,12 @@ use Rattle.undo_rules.specs.Links.{Entry}
 use Rattle.undo_rules.specs.Steps.{remarked}
 use Rattle.txn_rules.specs.Records.{AreProper, applied}
 use Rattle.lay_items.specs.Sound.{IsSound}
+use Rattle.undo_index.specs.Listed.{AreAdded, IsNew}
 use Rattle.undo_book.specs.Books.{history_of}
 use Rattle.undo_book.specs.Places.{AreTheirPlaces, place_of}
+use Rattle.undo_book.specs.Indexed.{AreIndexed}
+use Rattle.undo_book.proofs.IndexedLemmas.{redo_indexed, undone_new}
+use Rattle.undo_book.proofs.SameLemmas.{same_book}
 use Rattle.undo_book.proofs.ChangeLemmas.{again_so}
 use Rattle.undo_book.proofs.IndexLemmas.{places_marked}
 use Rattle.undo_book.proofs.PlaceLemmas.{place_within}
@@ -71,6 +75,22 @@ left c =
     can.left c.in_ok-layout.layout c.push.new.self.items c.mark_at.new.entries.items layout log
     (c.mark_at.ensures c.index-entry.result.now can.there)
 
+-- who wrote and touched what
+indexed : (c : goal.After-drop-self-inside) → AreIndexed c.enter.new.self.writers c.enter.new.self.readers c.mark_at.new.entries.items
+indexed c =
+    let was = c.self.inside.index in
+    let entry = c.index-entry.result.now in
+    let can = redone_at (history_of c.self.inside) c.args.self.now c.self.view_is c.self.invariant.history c.args.session c.args.txn c.args.place
+    entry c.requires.place c.index-entry.ensures c.requires.free in
+    let within : c.args.place < length c.self.inside.entries.items =
+    subst (λ (h : History). c.args.place < length h.entries) (sym c.self.view_is)
+    (place_within c.args.self.now.entries c.args.txn c.args.place c.requires.place) in
+    let wrote_it : AreAdded was.writers c.met.result.now c.args.place c.enter.new.self.writers = search rules in
+    let read_it : AreAdded was.readers entry.footprint c.args.place c.enter.new.self.readers = search rules in
+    redo_indexed was.writers was.readers c.enter.new.self.writers c.enter.new.self.readers c.self.inside.entries.items
+    c.mark_at.new.entries.items c.args.place entry c.met.result.now c.self.invariant.index wrote_it read_it c.met.ensures can.undone can.there
+    within (c.mark_at.ensures entry can.there)
+
 pub invariant_of-self-2 : goal.invariant_of-self-2
 invariant_of-self-2 c =
     let is = left c in
@@ -86,6 +106,7 @@ invariant_of-self-2 c =
       history = is.history;
       places = subst (AreTheirPlaces c.self.inside.places.entries) (sym marks)
           (places_marked c.self.inside.places.entries true c.args.txn h.entries c.self.invariant.places);
+      index = indexed c;
       changes = again_so call c.args.txn c.args.place true c.self.invariant.changes refl
           (ap (λ (x : History). place_of c.args.txn x.entries) c.self.view_is ∙ c.requires.place) earlier last log marks;
     }
@@ -95,3 +116,14 @@ returns-clause-ok c = (left c).is
 
 pub returns-clause-again : goal.returns-clause-again
 returns-clause-again c = (left c).again
+
+pub invariant_of-self-in_err-enter : goal.invariant_of-self-in_err-enter
+invariant_of-self-in_err-enter c =
+    let was = c.self.inside.index in
+    let entry = c.index-entry.result.now in
+    let can = redone_at (history_of c.self.inside) c.args.self.now c.self.view_is c.self.invariant.history c.args.session c.args.txn c.args.place
+    entry c.requires.place c.index-entry.ensures c.requires.free in
+    let fresh = undone_new was.writers was.readers c.self.inside.entries.items c.args.place entry c.self.invariant.index can.there can.undone in
+    let writers : IsNew was.writers c.args.place → c.enter.new.self.writers ≡ was.writers = search rules in
+    let readers : IsNew was.readers c.args.place → c.enter.new.self.readers ≡ was.readers = search rules in
+    same_book c.self.inside _ (search rules) refl (search rules) (search rules) (writers fresh.0) (readers fresh.1) c.self.invariant

@@ -8,8 +8,11 @@ use Rattle.undo_rules.specs.Links.{Entry}
 use Rattle.undo_rules.specs.Steps.{remarked}
 use Rattle.txn_rules.specs.Records.{AreProper, reverted}
 use Rattle.lay_items.specs.Sound.{IsSound}
+use Rattle.undo_index.specs.Listed.{AreRemoved}
 use Rattle.undo_book.specs.Books.{history_of}
 use Rattle.undo_book.specs.Places.{AreTheirPlaces, place_of}
+use Rattle.undo_book.specs.Indexed.{AreIndexed}
+use Rattle.undo_book.proofs.IndexedLemmas.{undo_indexed}
 use Rattle.undo_book.proofs.ChangeLemmas.{again_so}
 use Rattle.undo_book.proofs.IndexLemmas.{places_marked}
 use Rattle.undo_book.proofs.PlaceLemmas.{place_within}
@@ -71,6 +74,22 @@ left c =
     can.left c.in_ok-layout.layout c.push.new.self.items c.mark_at.new.entries.items layout log
     (c.mark_at.ensures c.index-entry.result.now can.there)
 
+-- who wrote and touched what
+indexed : (c : goal.After-drop-self-inside) → AreIndexed c.leave.new.self.writers c.leave.new.self.readers c.mark_at.new.entries.items
+indexed c =
+    let was = c.self.inside.index in
+    let entry = c.index-entry.result.now in
+    let can = undone_at (history_of c.self.inside) c.args.self.now c.self.view_is c.self.invariant.history c.args.session c.args.txn c.args.place
+    entry c.requires.place c.index-entry.ensures c.requires.free in
+    let within : c.args.place < length c.self.inside.entries.items =
+    subst (λ (h : History). c.args.place < length h.entries) (sym c.self.view_is)
+    (place_within c.args.self.now.entries c.args.txn c.args.place c.requires.place) in
+    let wrote_it : AreRemoved was.writers c.met.result.now c.args.place c.leave.new.self.writers = search rules in
+    let read_it : AreRemoved was.readers entry.footprint c.args.place c.leave.new.self.readers = search rules in
+    undo_indexed was.writers was.readers c.leave.new.self.writers c.leave.new.self.readers c.self.inside.entries.items
+    c.mark_at.new.entries.items c.args.place entry c.met.result.now c.self.invariant.index wrote_it read_it c.met.ensures can.live can.there
+    within (c.mark_at.ensures entry can.there)
+
 pub invariant_of-self-2 : goal.invariant_of-self-2
 invariant_of-self-2 c =
     let is = left c in
@@ -86,6 +105,7 @@ invariant_of-self-2 c =
       history = is.history;
       places = subst (AreTheirPlaces c.self.inside.places.entries) (sym marks)
           (places_marked c.self.inside.places.entries false c.args.txn h.entries c.self.invariant.places);
+      index = indexed c;
       changes = again_so call c.args.txn c.args.place false c.self.invariant.changes refl
           (ap (λ (x : History). place_of c.args.txn x.entries) c.self.view_is ∙ c.requires.place) earlier last log marks;
     }
