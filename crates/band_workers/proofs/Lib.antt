@@ -1,1 +1,2 @@
 pub mod AllLabels
+pub mod JoinLemmas

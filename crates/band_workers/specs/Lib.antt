@@ -1,2 +1,3 @@
+pub mod Cuts
+pub mod Joined
 pub mod Labels
-pub use Rattle.face_labels.specs.declared.op.Op

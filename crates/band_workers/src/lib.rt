@@ -12,9 +12,15 @@
 #![tactic(auto)]
 
 mod bands;
+mod cuts;
+mod gate;
+mod joined;
 mod one_band;
+mod scoped_bands;
 #[cfg(test)]
 mod tests;
 
 pub use bands::Bands;
+pub use gate::{Gate, OpenGate};
 pub use one_band::OneBand;
+pub use scoped_bands::{MAX_WORKERS, ScopedBands, label_in_bands};

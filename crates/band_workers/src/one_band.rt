@@ -6,13 +6,20 @@ use face_labels::{Band, Op, label};
 use lay_point::NoMemory;
 use snap_chains::CleanEdges;
 use std::alloc::{AllocError, Global};
+use std::thread::Threads;
 
 /// Labels all edges in one band, on the caller's thread.
 #[derive(Clone, Copy, Debug, PartialEq, Eq)]
 pub struct OneBand;
 
 impl Bands for OneBand {
-    fn label_all(&self, alloc: Global, edges: &CleanEdges, op: Op) -> Result<Vec<bool>, NoMemory> {
+    fn label_all<R: Threads + Sync>(
+        &self,
+        _rt: &R,
+        alloc: Global,
+        edges: &CleanEdges,
+        op: Op,
+    ) -> Result<Vec<bool>, NoMemory> {
         let band = Band::of(edges.edges());
         let labels = label(alloc, edges, band, op)?;
         let values = values(alloc, labels.as_slice())?;

@@ -41,6 +41,6 @@ pub fn combine(
         return Err(OpFault::TooMany);
     }
     let inputs = round_both(rt, alloc, a, b)?;
-    let edges = operation_edges(alloc, op, &inputs, bands)?;
+    let edges = operation_edges(rt, alloc, op, &inputs, bands)?;
     shapes(alloc, &edges)
 }

@@ -34,6 +34,7 @@ pub(crate) fn round_both<'s>(
 
 /// Returns the edges of the operation, in order.
 pub(crate) fn operation_edges(
+    rt: &(impl Threads + Sync),
     alloc: Global,
     op: Op,
     edges: &CleanEdges,
@@ -41,7 +42,7 @@ pub(crate) fn operation_edges(
 ) -> Result<Vec<Edge>, NoMemory>
     ensures { IfOk result (λ kept. kept.items ≡ edges_of_op op edges.now) }
 {
-    let labels = bands.label_all(alloc, edges, op)?;
+    let labels = bands.label_all(rt, alloc, edges, op)?;
     Ok(labelled(alloc, edges.edges(), &labels)?)
 }
 

@@ -8,7 +8,7 @@ abbrev AllBegin : List (Point × Point) → (Point × Point → Bool) → Type 0
 AllBegin edges test = (e : Point × Point) → Contains edges e → test e ≡ true
 
 pub returns : goal.returns
-returns c =
+returns g c =
     let band = c.of-band.result in
     let all = coe 0 1 (i. AllBegin (c.edges.ensures.value i) (begins_in band)) c.of-band.ensures in
     c.in_ok-values.ensures ∙ ap (map (λ (q : ℕ × Bool). q.1)) (c.as_slice.ensures.value ∙ c.in_ok-labels.ensures)

@@ -1,0 +1,244 @@
+-- The workers' labels, joined and put in order, are those of all edges.
+use Rattle.std.proofs.Common.{◌≡◌, ◌≢◌, ◌⊎◌, inl, inr, ℕ, zero, suc, ◌+◌, ◌-◌, ◌<◌, Bool, true, false, List, [], ◌∷◌, ◌++◌}
+use Rattle.std.proofs.Common.{rules, length, get_or, replicate, Ok, Err, Contains, refl, sym, ap, subst, ◌∙◌, arith}
+use Rattle.std.specs.Prelude.{ℤ, pos, int_le, int_lt, ◌≤ℤ◌, ◌<ℤ◌, ◌&&◌, slice_set}
+use Rattle.std.specs.Global.{Vec}
+use Rattle.std.specs.List.{AllByRecursion}
+use Rattle.std.proofs.lemmas.Int.{ints}
+use Rattle.std.proofs.lemmas.List.{ext_get_or, get_or-map, get_or-set_other, get_or-set_same, length-map, length-replicate, length-set}
+use Rattle.std.proofs.lemmas.Slice.Zip.{length-zip}
+use Rattle.lay_point.specs.declared.point.Point.{Point}
+use Rattle.lay_point.proofs.Members.{Has, contains, has-append, has-append_left, has-append_right}
+use Rattle.snap_chains.specs.Rounded.{Owned}
+use Rattle.face_labels.specs.Labels.{Item, differs, items_of}
+use Rattle.face_labels.specs.declared.op.Op.{Op}
+use Rattle.face_labels.specs.declared.band.Band.{Band}
+use Rattle.face_labels.specs.Bands.{begins_in, labelled}
+use Rattle.face_labels.specs.Rows.{upward}
+use Rattle.face_labels.specs.Operations.{answer}
+use Rattle.face_labels.proofs.PickedLemmas.{picked_has, picked_of}
+use Rattle.face_labels.proofs.SideLemmas.{zip_first}
+use Rattle.band_workers.specs.Cuts.{IsLabelled, band_at, whole_band}
+use Rattle.band_workers.specs.Joined.{AreWithin, Part, joined_onto, put_all}
+use Rattle.band_workers.specs.Labels.{labels_of}
+
+-- ---- joining
+
+-- all labels of this part are among the joined ones
+abbrev AllAmong : List (ℕ × Bool) → Part → Type 0
+AllAmong all part = (labels : Vec (ℕ × Bool)) × (part ≡ Ok labels) × ((p : ℕ × Bool) → Has labels.items p → Has all p)
+
+-- a joined label is one of those before, or of some part
+abbrev IsFrom : List (ℕ × Bool) → List Part → ℕ × Bool → Type 0
+IsFrom before parts p = Has before p
+    ⊎ ((i : ℕ) × (labels : Vec (ℕ × Bool)) × (i < length parts) × (((d : Part) → get_or parts i d ≡ Ok labels) × Has labels.items p))
+
+record IsJoin (before : List (ℕ × Bool)) (parts : List Part) (all : List (ℕ × Bool)) : Type 0 where
+  kept : (p : ℕ × Bool) → Has before p → Has all p
+  each : (i : ℕ) (d : Part) → i < length parts → AllAmong all (get_or parts i d)
+  from : (p : ℕ × Bool) → Has all p → IsFrom before parts p
+
+is_join : (before : List (ℕ × Bool)) (parts : List Part) (all : List (ℕ × Bool)) → joined_onto before parts ≡ Ok all → IsJoin before parts all
+is_join before [] all is = let same : before ≡ all = search rules in record {
+  kept = λ p m. subst (λ l. Has l p) same m;
+  each = λ i d less. absurd (omega arith);
+  from = λ p m. inl (subst (λ l. Has l p) (sym same) m);
+}
+is_join before (Err fault ∷ parts) all is = absurd cc
+is_join before (Ok labels ∷ parts) all is =
+    let h = is_join (before ++ labels.items) parts all is in record {
+      kept = λ p m. h.kept p (has-append_left before labels.items p m);
+      each = each h;
+      from = λ p m. elim (h.from p m) [
+        | inl there ↦ elim (has-append before labels.items p there) [
+          | inl first ↦ inl first
+          | inr second ↦ inr (zero, labels, omega arith, ((λ d. refl), second))
+        ]
+        | inr later ↦ inr (suc later.0, later.1, omega (arith, later.2), later.3)
+      ];
+    }
+  where
+    each : IsJoin (before ++ labels.items) parts all → (i : ℕ) (d : Part) → i < length (Ok labels ∷ parts)
+        → AllAmong all (get_or (Ok labels ∷ parts) i d)
+    each h zero d less = (labels, refl, λ p m. h.kept p (has-append_right before labels.items p m))
+    each h (suc i) d less = h.each i d (omega arith)
+
+-- ---- putting in order
+
+-- the label is that of its number
+record IsRight (wanted : List Bool) (p : ℕ × Bool) : Type 0 where
+  within : p.0 < length wanted
+  is : get_or wanted p.0 false ≡ p.1
+
+-- some label has this number
+abbrev Numbered : ℕ → List (ℕ × Bool) → Type 0
+Numbered n [] = ⊥
+Numbered n (p ∷ ps) = (p.0 ≡ n) ⊎ Numbered n ps
+
+has_number : (ps : List (ℕ × Bool)) (n : ℕ) (b : Bool) → Has ps (n, b) → Numbered n ps
+has_number [] n b m = absurd m
+has_number (p ∷ ps) n b (inl e) = inl (ap (λ (q : ℕ × Bool). q.0) e)
+has_number (p ∷ ps) n b (inr m) = inr (has_number ps n b m)
+
+put_right : (wanted labels : List Bool) (ps : List (ℕ × Bool)) → length labels ≡ length wanted → AllByRecursion (IsRight wanted) ps
+    → ((n : ℕ) → n < length wanted → (get_or labels n false ≡ get_or wanted n false) ⊎ Numbered n ps) → put_all labels ps ≡ wanted
+put_right wanted labels [] len right some =
+    ext_get_or false labels wanted len (λ n less. elim (some n (omega (arith, len))) [ inl e ↦ e | inr none ↦ absurd none ])
+put_right wanted labels (p ∷ ps) len right some =
+    put_right wanted (slice_set labels p.0 p.1) ps (length-set labels p.0 p.1 ∙ len) right.1 (λ n less. elim (some n less) [
+      | inl e ↦ by_number n (nat_same n p.0) (inl e)
+      | inr there ↦ elim there [ inl is ↦ inl (here n (sym is)) | inr later ↦ inr later ]
+    ])
+  where
+    nat_same : (n m : ℕ) → (n ≡ m) ⊎ (n ≢ m)
+    nat_same n m = search rules
+
+    here : (n : ℕ) → n ≡ p.0 → get_or (slice_set labels p.0 p.1) n false ≡ get_or wanted n false
+    here n e = ap (λ m. get_or (slice_set labels p.0 p.1) m false) e
+        ∙ get_or-set_same labels p.0 p.1 false (omega (arith, right.0.within, len)) ∙ sym right.0.is
+        ∙ ap (λ m. get_or wanted m false) (sym e)
+
+    by_number : (n : ℕ) → (n ≡ p.0) ⊎ (n ≢ p.0) → (get_or labels n false ≡ get_or wanted n false) ⊎ Numbered n ps
+        → (get_or (slice_set labels p.0 p.1) n false ≡ get_or wanted n false) ⊎ Numbered n ps
+    by_number n (inl e) was = inl (here n e)
+    by_number n (inr other) (inl e) = inl (get_or-set_other labels p.0 n p.1 false other ∙ e)
+    by_number n (inr other) (inr later) = inr later
+
+-- ---- cuts
+
+lt_true : (a b : ℤ) → int_lt a b ≡ true → a <ℤ b
+lt_true a b h = grind (arith, ints)
+
+lt_false : (a b : ℤ) → int_lt a b ≡ false → b ≤ℤ a
+lt_false a b h = grind (arith, ints)
+
+le_true : (a b : ℤ) → int_le a b ≡ true → a ≤ℤ b
+le_true a b h = grind (arith, ints)
+
+true_le : (a b : ℤ) → a ≤ℤ b → int_le a b ≡ true
+true_le a b h = grind (arith, ints)
+
+-- what is from the first cut on and before the cut k is in a band before that
+abbrev IsBetween : List ℤ → ℕ → ℤ → Type 0
+IsBetween cuts k y = (i : ℕ) × (i < k) × (int_le (get_or cuts i (pos 0)) y ≡ true) × (int_lt y (get_or cuts (i + 1) (pos 0)) ≡ true)
+
+between : (cuts : List ℤ) (y : ℤ) (k : ℕ) → int_le (get_or cuts 0 (pos 0)) y ≡ true → int_lt y (get_or cuts k (pos 0)) ≡ true
+    → IsBetween cuts k y
+between cuts y zero low high =
+    absurd (omega (arith, ints, le_true (get_or cuts 0 (pos 0)) y low, lt_true y (get_or cuts 0 (pos 0)) high))
+between cuts y (suc k) low high = by_test (int_lt y (get_or cuts k (pos 0))) refl (between cuts y k low)
+  where
+    by_test : (b : Bool) → int_lt y (get_or cuts k (pos 0)) ≡ b
+        → (int_lt y (get_or cuts k (pos 0)) ≡ true → IsBetween cuts k y) → IsBetween cuts (suc k) y
+    by_test true before earlier = let h = earlier before in (h.0, omega (arith, h.1), h.2, h.3)
+    by_test false not_before earlier =
+        let next : suc k ≡ k + 1 = omega arith in (
+          k,
+          omega arith,
+          true_le (get_or cuts k (pos 0)) y (lt_false y (get_or cuts k (pos 0)) not_before),
+          subst (λ m. int_lt y (get_or cuts m (pos 0)) ≡ true) next high,
+        )
+
+-- ---- all together
+
+all_has : {A : Type 0} (P : A → Type 0) (xs : List A) → ((x : A) → Has xs x → P x) → AllByRecursion P xs
+all_has P [] f = tt
+all_has P (x ∷ xs) f = (f x (inl refl), all_has P xs (λ y m. f y (inr m)))
+
+has_get_or : {A : Type 0} (xs : List A) (i : ℕ) (d : A) → i < length xs → Has xs (get_or xs i d)
+has_get_or [] i d less = absurd (omega arith)
+has_get_or (x ∷ xs) zero d less = inl refl
+has_get_or (x ∷ xs) (suc i) d less = inr (has_get_or xs i d (omega arith))
+
+both_true : (a b : Bool) → (a && b) ≡ true → (a ≡ true) × (b ≡ true)
+both_true true true h = (refl, refl)
+both_true true false h = absurd cc
+both_true false b h = absurd cc
+
+of_ok : (op : Op) (r : Owned) (band : Band) (part : Part) (labels : Vec (ℕ × Bool)) → part ≡ Ok labels → IsLabelled op r band part
+    → labels.items ≡ labelled op r band
+of_ok op r band part labels is h = subst (IsLabelled op r band) is h
+
+-- the parts of bands into which the rows of all edges were cut
+pub record AreParts (op : Op) (r : Owned) (cuts : List ℤ) (parts : List Part) : Type 0 where
+  pub paired : length r.1 ≡ length r.0
+  pub count : length parts + 1 ≡ length cuts
+  pub each : (i : ℕ) (d : Part) → i < length parts → IsLabelled op r (band_at cuts i) (get_or parts i d)
+  pub whole : (e : Point × Point) → Contains r.0 e → begins_in (whole_band cuts) e ≡ true
+
+module _ (op : Op) (r : Owned) (cuts : List ℤ) (parts : List Part) (all : List (ℕ × Bool)) (h : AreParts op r cuts parts)
+    (joined : joined_onto [] parts ≡ Ok all) where
+  abbrev wanted : List Bool
+  wanted = labels_of op r
+
+  abbrev no_item : Item
+  no_item = ((record { x = pos 0; y = pos 0 }, record { x = pos 0; y = pos 0 }), [])
+
+  abbrev no_part : Part
+  no_part = Err (record {})
+
+  abbrev label : Item → Bool
+  label = differs (answer op) (items_of r)
+
+  len_items : length (items_of r) ≡ length r.0
+  len_items = let m = length-zip r.0 r.1 in omega (arith, m, h.paired)
+
+  len_wanted : length wanted ≡ length r.0
+  len_wanted = length-map (items_of r) label ∙ len_items
+
+  right : (p : ℕ × Bool) → Has all p → IsRight wanted p
+  right p m = elim ((is_join [] parts all joined).from p m) [
+    | inl none ↦ absurd none
+    | inr from ↦
+        let labels = from.1 in
+        let items = of_ok op r (band_at cuts from.0) (get_or parts from.0 no_part) labels (from.3.0 no_part) (h.each from.0 no_part from.2) in
+        let q = picked_of (λ p. begins_in (band_at cuts from.0) p.0) (λ n p. (n, label p)) 0 (items_of r) p (subst (λ l. Has l p) items from.3.1) in
+        let is = q.is no_item in
+        let plain : 0 + q.index ≡ q.index = omega arith in
+        let at : q.index ≡ p.0 = sym plain ∙ ap (λ (z : ℕ × Bool). z.0) is in
+        record {
+          within = omega (arith, at, q.inside, len_wanted, len_items);
+          is = ap (λ i. get_or wanted i false) (sym at) ∙ get_or-map label (items_of r) q.index no_item false q.inside
+              ∙ ap (λ (z : ℕ × Bool). z.1) is;
+        }
+  ]
+
+  -- an edge in whose band's part its label is given
+  in_part : (n i : ℕ) → n < length (items_of r) → i < length parts
+      → begins_in (band_at cuts i) (get_or (items_of r) n no_item).0 ≡ true → Numbered n all
+  in_part n i inside less begins =
+      let part = get_or parts i no_part in
+      let among : AllAmong all part = (is_join [] parts all joined).each i no_part less in
+      let items : among.0.items ≡ labelled op r (band_at cuts i) =
+      of_ok op r (band_at cuts i) part among.0 among.1 (h.each i no_part less) in
+      let b = label (get_or (items_of r) n no_item) in
+      let plain : 0 + n ≡ n = omega arith in
+      let m : Has (labelled op r (band_at cuts i)) (n, b) = subst (λ k. Has (labelled op r (band_at cuts i)) (k, b)) plain
+      (picked_has (λ p. begins_in (band_at cuts i) p.0) (λ n p. (n, label p)) 0 (items_of r) n no_item inside begins) in
+      let given : Has among.0.items (n, b) = subst (λ l. Has l (n, b)) (sym {A = List (ℕ × Bool)} items) m in
+      has_number all n b (among.2 (n, b) given)
+
+  -- a band in which the edge begins
+  abbrev IsInBand : Point × Point → Type 0
+  IsInBand e = (i : ℕ) × (i < length parts) × (begins_in (band_at cuts i) e ≡ true)
+
+  in_band : (e : Point × Point) → begins_in (whole_band cuts) e ≡ true → IsInBand e
+  in_band e whole =
+      let both = both_true (int_le (whole_band cuts).low (upward e).0.y) (int_lt (upward e).0.y (whole_band cuts).high) whole in
+      let b = between cuts (upward e).0.y (length cuts - 1) both.0 both.1 in
+      (b.0, omega (arith, b.1, h.count), rw (b.2, b.3) refl)
+
+  some : (n : ℕ) → n < length wanted → Numbered n all
+  some n less =
+      let inside : n < length (items_of r) = omega (arith, less, len_wanted, len_items) in
+      let item = get_or (items_of r) n no_item in
+      let given : Contains r.0 item.0 = contains r.0 item.0 (zip_first r.0 r.1 item (has_get_or (items_of r) n no_item inside)) in
+      let band = in_band item.0 (h.whole item.0 given) in
+      in_part n band.0 inside band.1 band.2
+
+  pub are_within : AreWithin (length r.0) all
+  are_within = all_has (λ p. p.0 < length r.0) all (λ p m. let w = (right p m).within in omega (arith, w, len_wanted))
+
+  pub in_order_is : put_all (replicate (length r.0) false) all ≡ labels_of op r
+  in_order_is = put_right wanted (replicate (length r.0) false) all (length-replicate (length r.0) false ∙ sym len_wanted)
+      (all_has (IsRight wanted) all right) (λ n less. inr (some n less))
