@@ -1,0 +1,27 @@
+-- Places in a text of lines, each of which ends with a newline, the last perhaps without one.
+use Rattle.std.specs.Prelude.{◌≡◌, ◌≢◌, ◌⊎◌, ◌<◌, ◌≤◌, ◌+◌, ◌-◌, ◌++◌, ℕ, nat_eq, if◌then◌else◌, List, [], ◌∷◌, take, slice_index_or, codes, decimal}
+
+-- how many lines end in these bytes
+abbrev pub newlines : List ℕ → ℕ
+newlines [] = 0
+newlines (byte ∷ bytes) = if nat_eq byte 10 then newlines bytes + 1 else newlines bytes
+
+-- how many lines end before the byte at this offset
+abbrev pub lines_before : List ℕ → ℕ → ℕ
+lines_before text offset = newlines (take offset text)
+
+-- the line of the byte at this offset, or of the text's end, begins there
+pub record IsLineStart (text : List ℕ) (offset start : ℕ) : Type 0 where
+  pub before : start ≤ offset
+  pub one : (i : ℕ) → start ≤ i → i < offset → slice_index_or text i 0 ≢ 10
+  pub first : (start ≡ 0) ⊎ (slice_index_or text (start - 1) 0 ≡ 10)
+
+-- how the lines begin that tell of a place
+unfoldable pub heading_text : ℕ → ℕ → List ℕ
+heading_text line column = codes "masklay: line " ++ decimal line ++ codes ", column " ++ decimal column ++ codes ": "
+
+-- these lines tell the place of the byte at this offset: its line and its column, both counted from 1
+abbrev pub TellsPlace : List ℕ → ℕ → List ℕ → Type 0
+TellsPlace text offset lines =
+    (start : ℕ) × IsLineStart text offset start
+    × (rest : List ℕ) × (lines ≡ heading_text (1 + lines_before text offset) (1 + (offset - start)) ++ rest)

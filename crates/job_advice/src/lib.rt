@@ -1,0 +1,26 @@
+//! What a person is told of a fault: where it is, what is wrong there, and what to do.
+//!
+//! A program answers a fault of a job or of its CIF text by one line with a number, for other programs. For a
+//! person [`of_cif_fault`] and [`of_job_fault`] make some lines of text of it: line and column, the line
+//! with a caret under the place, what was expected, and what to change, in the editor that wrote the text
+//! where that is the cure. The place is proved to be that of the fault (`specs/Places.antt`); what the sentences
+//! say is tested.
+//!
+//! ```text
+//! masklay: line 2, column 7: a wire, which isn't read
+//!   L NM; W 10 0 0 40 0; E
+//!         ^
+//!   Write the polygon of its outline, `P x y x y ..;`. In KLayout turn paths into polygons before saving.
+//! ```
+#![tactic(auto)]
+
+mod advice;
+mod cif_words;
+mod job_words;
+mod line;
+mod place;
+#[cfg(test)]
+mod tests;
+mod window;
+
+pub use advice::{of_cif_fault, of_job_fault};
