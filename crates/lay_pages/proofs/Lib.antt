@@ -4,3 +4,4 @@ pub mod ShareLemmas
 pub mod PlaceLemmas
 pub mod OrderLemmas
 pub mod BookLemmas
+pub mod FillLemmas

@@ -1,7 +1,7 @@
 -- Entries in order of their keys: what halving finds among them, and what stands on both sides of it.
 use Rattle.std.proofs.Common.{◌≡◌, ◌∙◌, ◌<◌, ◌≤◌, ◌+◌, ℕ, zero, suc, List, [], ◌∷◌, Option, Some, None, Result}
 use Rattle.std.proofs.Common.{Ok, Err, IfErr, IfOk, cond, refl, ap, sym, arith, take, drop, length, get_or, subst}
-use Rattle.std.specs.Prelude.{filter}
+use Rattle.std.specs.Prelude.{filter, not}
 use Rattle.std.specs.declared.cmp.Ordering.{Ordering}
 use Rattle.std.specs.declared.cmp.Ordering.TheVariants.{Equal, Greater, Less}
 use Rattle.std.specs.Cmp.{IsTotalOrder}
@@ -23,10 +23,14 @@ module _ {K X : Type 0} {R : K → K → Ordering} (total : IsTotalOrder R) (exa
   abbrev pub upper : K → List (K × X) → List (K × X)
   upper k es = filter (λ e. is_lt (R k e.0)) es
 
+  abbrev pub from : K → List (K × X) → List (K × X)
+  from k es = filter (λ e. not (is_lt (R e.0 k))) es
+
   -- what stands on both sides of an index, and what is found there
   pub record IsSplit (es : List (K × X)) (k : K) (at next : ℕ) (found : Option X) : Type 0 where
     pub lower : lower k es ≡ take at es
     pub upper : upper k es ≡ drop next es
+    pub from : from k es ≡ drop at es
     pub value : find R k es ≡ found
 
   -- an entry before the key
@@ -35,16 +39,19 @@ module _ {K X : Type 0} {R : K → K → Ordering} (total : IsTotalOrder R) (exa
   low_first e es k at next found less rest = record {
     lower = ap (λ o. cond (is_lt o) (e ∷ lower k es) (lower k es)) less ∙ ap (λ xs. e ∷ xs) rest.lower;
     upper = ap (λ o. cond (is_lt o) (e ∷ upper k es) (upper k es)) (turned total e.0 k Less less) ∙ rest.upper;
+    from = ap (λ o. cond (not (is_lt o)) (e ∷ from k es) (from k es)) less ∙ rest.from;
     value = ap (λ o. cond (is_eq o) (Some e.1) (find R k es)) (turned total e.0 k Less less) ∙ rest.value;
   }
 
   -- entries after the key
   all_upper : (es : List (K × X)) (k : K) → AllByRecursion (λ y. R k y ≡ Less) (keys_of es) → IsSplit es k 0 0 None
-  all_upper [] k all = record { lower = refl; upper = refl; value = refl }
+  all_upper [] k all = record { lower = refl; upper = refl; from = refl; value = refl }
   all_upper (e ∷ es) k all =
       let rest = all_upper es k all.1 in record {
         lower = ap (λ o. cond (is_lt o) (e ∷ lower k es) (lower k es)) (turned total k e.0 Less all.0) ∙ rest.lower;
         upper = ap (λ o. cond (is_lt o) (e ∷ upper k es) (upper k es)) all.0 ∙ ap (λ xs. e ∷ xs) rest.upper;
+        from = ap (λ o. cond (not (is_lt o)) (e ∷ from k es) (from k es)) (turned total k e.0 Less all.0)
+            ∙ ap (λ xs. e ∷ xs) rest.from;
         value = ap (λ o. cond (is_eq o) (Some e.1) (find R k es)) all.0 ∙ rest.value;
       }
 
@@ -76,6 +83,7 @@ module _ {K X : Type 0} {R : K → K → Ordering} (total : IsTotalOrder R) (exa
       let rest = all_upper es k (subst (λ q. AllByRecursion (λ y. R q y ≡ Less) (keys_of es)) same sorted.0) in record {
         lower = ap (λ o. cond (is_lt o) (e ∷ lower k es) (lower k es)) (equal e) ∙ rest.lower;
         upper = ap (λ o. cond (is_lt o) (e ∷ upper k es) (upper k es)) (turned total e.0 k Equal (equal e)) ∙ rest.upper;
+        from = ap (λ o. cond (not (is_lt o)) (e ∷ from k es) (from k es)) (equal e) ∙ ap (λ xs. e ∷ xs) rest.from;
         value = ap (λ o. cond (is_eq o) (Some e.1) (find R k es)) (turned total e.0 k Equal (equal e));
       }
   here (e ∷ es) k (suc at) d sorted lt equal =
@@ -127,6 +135,7 @@ module _ {K X : Type 0} {R : K → K → Ordering} (total : IsTotalOrder R) (exa
     found = record {
       in_range = in_range;
       before = (here es k at (some es at in_range) sorted in_range equal).lower;
+      from = (here es k at (some es at in_range) sorted in_range equal).from;
       after = (here es k at (some es at in_range) sorted in_range equal).upper ∙ ap (λ n. drop n es) up;
       item = λ d. (here es k at d sorted in_range equal).value;
     };
@@ -137,4 +146,4 @@ module _ {K X : Type 0} {R : K → K → Ordering} (total : IsTotalOrder R) (exa
   searched es k sorted (Err at) in_range parted =
       let sides = parted (rise es k sorted) in
       let split = gap es k at in_range sides.0 sides.1 in
-      record { found = tt; absent = record { in_range = in_range; before = split.lower; after = split.upper; no_item = split.value } }
+      record { found = tt; absent = record { in_range = in_range; before = split.lower; after = split.upper; from = split.from; no_item = split.value } }

@@ -11,7 +11,7 @@ use Rattle.lay_pages.specs.Written.{AllAbove, AllBelow, entry_of, higher, lower,
 use Rattle.lay_pages.proofs.SearchLemmas.{turned}
 
 module _ {K X : Type 0} {R : K → K → Ordering} (total : IsTotalOrder R) where
-  filter-append : (p : K × X → Bool) (es fs : List (K × X)) → filter p (es ++ fs) ≡ filter p es ++ filter p fs
+  pub filter-append : (p : K × X → Bool) (es fs : List (K × X)) → filter p (es ++ fs) ≡ filter p es ++ filter p fs
   filter-append p [] fs = refl
   filter-append p (e ∷ es) fs = by (p e) (filter-append p es fs) where
     by : (b : Bool) → filter p (es ++ fs) ≡ filter p es ++ filter p fs

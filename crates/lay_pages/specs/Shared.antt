@@ -47,3 +47,20 @@ pub record AreBooks {K X : Type 0} (R : K → K → Ordering) (lists : List (Lis
 pub record AreKept {K X : Type 0} (R : K → K → Ordering) (lists : List (List (List (K × X)))) (len : ℕ) : Type 0 where
   pub kept : AreBooks R lists
   pub count : len ≡ length (entries_in lists)
+
+-- lists, and the one behind them that grows
+abbrev pub filled : {X : Type 0} → List (List X) → List X → List X
+filled lists last = joined lists ++ last
+
+pub record AreFilled {X : Type 0} (lists : List (List X)) (last : List X) : Type 0 where
+  pub sized : AreSized lists
+  pub full : length last ≤ 64
+
+-- and how many elements there are
+pub record AreTaken {X : Type 0} (lists : List (List X)) (last : List X) (len : ℕ) : Type 0 where
+  pub taken : AreFilled lists last
+  pub count : len ≡ length (filled lists last)
+
+-- what is left of a page, of the pages of a book and of books
+abbrev pub left : {X : Type 0} → List X → List (List X) → List (List (List X)) → List X
+left entries pages books = entries ++ (joined pages ++ entries_in books)

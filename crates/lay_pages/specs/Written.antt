@@ -1,5 +1,5 @@
 -- Entries in order of their keys: those on both sides of a key, and what a write makes of them.
-use Rattle.std.specs.Prelude.{◌≡◌, ℕ, ◌+◌, ◌<◌, ◌≤◌, List, [], ◌∷◌, ◌++◌, Option, None, Some, drop, filter, length, take}
+use Rattle.std.specs.Prelude.{◌≡◌, ℕ, ◌+◌, ◌<◌, ◌≤◌, List, [], ◌∷◌, ◌++◌, Option, None, Some, drop, filter, length, not, take}
 use Rattle.std.specs.declared.cmp.Ordering.{Ordering}
 use Rattle.std.specs.declared.cmp.Ordering.TheVariants.{Less}
 use Rattle.std.specs.FinMap.{find}
@@ -14,11 +14,16 @@ module _ {K X : Type 0} (R : K → K → Ordering) where
   abbrev pub higher : K → List (K × X) → List (K × X)
   higher k es = filter (λ e. is_lt (R k e.0)) es
 
+  -- those that aren't before the key
+  abbrev pub from_key : K → List (K × X) → List (K × X)
+  from_key k es = filter (λ e. not (is_lt (R e.0 k))) es
+
   -- the key has an entry, of this index
   pub record IsFoundAt (es : List (K × X)) (k : K) (at : ℕ) : Type 0 where
     pub in_range : at < length es
     pub before : lower k es ≡ take at es
     pub after : higher k es ≡ drop (at + 1) es
+    pub from : from_key k es ≡ drop at es
     pub item : HoldsAt (λ e. find R k es ≡ Some e.1) es at
 
   -- it has none, which would have this index
@@ -26,6 +31,7 @@ module _ {K X : Type 0} (R : K → K → Ordering) where
     pub in_range : at ≤ length es
     pub before : lower k es ≡ take at es
     pub after : higher k es ≡ drop at es
+    pub from : from_key k es ≡ drop at es
     pub no_item : find R k es ≡ None
 
   abbrev pub AllBelow : K → List (K × X) → Type 0

@@ -6,7 +6,10 @@
 //! order of the keys.
 #![tactic(auto)]
 
+mod builder;
+mod entries;
 mod keys;
+mod lists;
 mod look;
 mod page;
 mod pages;
@@ -16,5 +19,7 @@ mod share;
 mod tests;
 mod update;
 
+pub use builder::PagesBuilder;
+pub use entries::Entries;
 pub use keys::{Kept, PageKey};
 pub use pages::Pages;

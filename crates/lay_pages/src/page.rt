@@ -3,7 +3,7 @@ ghost use Rattle.std.specs.Prelude.{◌≡◌, ◌++◌, ◌<◌, IfOk, OnOk, If
 ghost use Rattle.std.specs.FinMap.{find};
 ghost use Rattle.std.specs.List.Sorted.{IsStrictlySortedBy};
 ghost use Rattle.std.specs.Map.{keys_of};
-ghost use Rattle.lay_pages.specs.Written.{IsFirstKey, IsFoundAt, IsGapAt, entry_of, higher, lower, written};
+ghost use Rattle.lay_pages.specs.Written.{IsFirstKey, IsFoundAt, IsGapAt, entry_of, from_key, higher, lower, written};
 
 use crate::keys::{Kept, PageKey};
 use std::alloc::{AllocError, Global};
@@ -52,6 +52,17 @@ fn around<K: PageKey, V>(page: &[(K, V)], key: K) -> (&[(K, V)], &[(K, V)])
     match search(page, key) {
         Ok(at) => (&page[..at], &page[at + 1..]),
         Err(at) => (&page[..at], &page[at..]),
+    }
+}
+
+/// Returns the entries from the key on.
+pub(crate) fn from<K: PageKey, V>(page: &[(K, V)], key: K) -> &[(K, V)]
+    requires { IsStrictlySortedBy K.cmp (keys_of page.now) }
+    ensures { result.now ≡ from_key K.cmp key page.now }
+{
+    match search(page, key) {
+        Ok(at) => &page[at..],
+        Err(at) => &page[at..],
     }
 }
 

@@ -3,8 +3,10 @@ ghost use Rattle.std.specs.Prelude.{◌≡◌, ◌+◌, ◌*◌, ◌≤◌, [], 
 ghost use Rattle.std.specs.FinMap.{find};
 ghost use Rattle.std.specs.List.Sorted.{IsStrictlySortedBy};
 ghost use Rattle.std.specs.Map.{keys_of};
-ghost use Rattle.lay_pages.specs.Written.{count_of, written, written_all};
+ghost use Rattle.lay_pages.specs.Shared.{AreKept, entries_in, pages_in};
+ghost use Rattle.lay_pages.specs.Written.{count_of, from_key, written, written_all};
 
+use crate::entries::Entries;
 use crate::keys::{Kept, PageKey};
 use crate::look::{count_pages, find};
 use crate::page::Book;
@@ -41,6 +43,34 @@ impl<K: PageKey, V: Kept> Pages<K, V> {
             books: Vec::new(alloc),
             len: 0,
         }
+    }
+
+    /// Returns the map of the entries of the books.
+    pub(crate) fn of(books: Vec<Book<K, V>>, len: usize) -> Pages<K, V>
+        requires { AreKept K.cmp (pages_in books.items) len }
+        ensures { result ≡ entries_in (pages_in books.items) }
+    {
+        Pages { books, len }
+    }
+
+    /// Lends the entries, in order of their keys.
+    pub fn iter(&self) -> Entries<'_, K, V>
+        ensures entries { result ≡ self.now }
+        ensures sorted { IsStrictlySortedBy K.cmp (keys_of self.now) }
+    {
+        Entries::all(&self.books)
+    }
+
+    /// Lends the entries from a key on, in order of their keys.
+    ///
+    /// # Cost
+    ///
+    /// Comparisons in proportion to the logarithm of the number of entries, before the first is lent.
+    pub fn from(&self, key: K) -> Entries<'_, K, V>
+        ensures entries { result ≡ from_key K.cmp key self.now }
+        ensures sorted { IsStrictlySortedBy K.cmp (keys_of self.now) }
+    {
+        Entries::from(&self.books, key)
     }
 
     /// Returns the value under the key.

@@ -58,7 +58,7 @@ pub(crate) fn cut<T: Drop>(
 }
 
 /// Returns the list, shared.
-fn shared<T: Drop>(alloc: Global, list: Vec<T>) -> Result<Arc<Vec<T>>, AllocError>
+pub(crate) fn shared<T: Drop>(alloc: Global, list: Vec<T>) -> Result<Arc<Vec<T>>, AllocError>
     ensures { IfOk result (λ new. new.value.items ≡ list.items) }
 {
     Ok(Arc::new(alloc, list)?)
