@@ -96,7 +96,7 @@ module _ {K X : Type 0} {R : K → K → Ordering} (total : IsTotalOrder R) (exa
     by true rest = (all.0, rest)
     by false rest = rest
 
-  sorted-kept : (p : K → Bool) (es : List (K × X)) → IsStrictlySortedBy R (keys_of es)
+  pub sorted-kept : (p : K → Bool) (es : List (K × X)) → IsStrictlySortedBy R (keys_of es)
       → IsStrictlySortedBy R (keys_of (filter (λ (e : K × X). p e.0) es))
   unfolding IsStrictlySortedBy
   sorted-kept p [] sorted = tt

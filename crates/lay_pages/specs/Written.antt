@@ -1,5 +1,5 @@
 -- Entries in order of their keys: those on both sides of a key, and what a write makes of them.
-use Rattle.std.specs.Prelude.{◌≡◌, ℕ, ◌+◌, ◌<◌, ◌≤◌, List, [], ◌∷◌, ◌++◌, Option, None, Some, drop, filter, length, not, take}
+use Rattle.std.specs.Prelude.{◌≡◌, ℕ, ◌+◌, ◌<◌, ◌≤◌, Bool, ◌&&◌, List, [], ◌∷◌, ◌++◌, Option, None, Some, drop, filter, length, not, take}
 use Rattle.std.specs.declared.cmp.Ordering.{Ordering}
 use Rattle.std.specs.declared.cmp.Ordering.TheVariants.{Less}
 use Rattle.std.specs.FinMap.{find}
@@ -68,3 +68,7 @@ IsFirstKey k (e ∷ es) = e.0 ≡ k
 abbrev pub count_of : {X : Type 0} → Option X → ℕ
 count_of None = 0
 count_of (Some x) = 1
+
+-- the same value under the same key
+abbrev pub are_equal : {K X : Type 0} → (K → K → Bool) → (X → X → Bool) → K × X → K × X → Bool
+are_equal key_eq value_eq e f = key_eq e.0 f.0 && value_eq e.1 f.1

@@ -1,9 +1,10 @@
 //! Entries that are lent, in order of their keys.
 ghost use Rattle.std.specs.Prelude.{◌≡◌, ◌<◌, ◌++◌, length};
+ghost use Rattle.std.specs.Cmp.Lexicographic.{pointwise};
 ghost use Rattle.std.specs.List.Sorted.{IsStrictlySortedBy};
 ghost use Rattle.std.specs.Map.{keys_of};
 ghost use Rattle.lay_pages.specs.Shared.{AreBooks, AreSized, entries_in, items_of, joined, pages_in};
-ghost use Rattle.lay_pages.specs.Written.{from_key};
+ghost use Rattle.lay_pages.specs.Written.{are_equal, from_key};
 
 use crate::keys::{Kept, PageKey};
 use crate::page;
@@ -93,4 +94,24 @@ impl<'a, K: PageKey, V: Kept> Iterator for Entries<'a, K, V> {
         self.entries = entries;
         Some((*key, value))
     }
+}
+
+/// Returns whether others are the same entries.
+pub(crate) fn are_same<K: PageKey, V: Kept + PartialEq>(
+    entries: Entries<'_, K, V>,
+    mut others: Entries<'_, K, V>,
+) -> bool
+    ensures { result ≡ pointwise (are_equal K.eq V.eq) entries.entry others.entry }
+{
+    for (key, value) in entries {
+        match others.next() {
+            Some((other_key, other)) => {
+                if key != other_key || value != other {
+                    return false;
+                }
+            }
+            None => return false,
+        }
+    }
+    others.next().is_none()
 }

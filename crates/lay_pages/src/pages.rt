@@ -1,12 +1,13 @@
 //! The map as a list of books of pages.
 ghost use Rattle.std.specs.Prelude.{◌≡◌, ◌+◌, ◌*◌, ◌≤◌, [], IfOk, length, option_copied};
+ghost use Rattle.std.specs.Cmp.Lexicographic.{pointwise};
 ghost use Rattle.std.specs.FinMap.{find};
 ghost use Rattle.std.specs.List.Sorted.{IsStrictlySortedBy};
 ghost use Rattle.std.specs.Map.{keys_of};
 ghost use Rattle.lay_pages.specs.Shared.{AreKept, entries_in, pages_in};
-ghost use Rattle.lay_pages.specs.Written.{count_of, from_key, written, written_all};
+ghost use Rattle.lay_pages.specs.Written.{are_equal, count_of, from_key, written, written_all};
 
-use crate::entries::Entries;
+use crate::entries::{Entries, are_same};
 use crate::keys::{Kept, PageKey};
 use crate::look::{count_pages, find};
 use crate::page::Book;
@@ -68,9 +69,22 @@ impl<K: PageKey, V: Kept> Pages<K, V> {
     /// Comparisons in proportion to the logarithm of the number of entries, before the first is lent.
     pub fn from(&self, key: K) -> Entries<'_, K, V>
         ensures entries { result ≡ from_key K.cmp key self.now }
-        ensures sorted { IsStrictlySortedBy K.cmp (keys_of self.now) }
+        ensures sorted { IsStrictlySortedBy K.cmp (keys_of result) }
     {
         Entries::from(&self.books, key)
+    }
+
+    /// Returns whether others are the same values under the same keys.
+    ///
+    /// # Cost
+    ///
+    /// Compares entry by entry up to the first that differs.
+    pub fn is_same(&self, other: &Pages<K, V>) -> bool
+    where
+        V: PartialEq,
+        ensures { result ≡ pointwise (are_equal K.eq V.eq) self.now other.now }
+    {
+        are_same(self.iter(), other.iter())
     }
 
     /// Returns the value under the key.
