@@ -1,12 +1,11 @@
 pub mod CallLemmas
-pub mod CellLemmas
 pub mod EntryLemmas
 pub mod DistinctLemmas
 pub mod MapLemmas
-pub mod MergeLemmas
 pub mod NumberedLemmas
 pub mod SameLemmas
-pub mod SearchLemmas
 pub mod SlotLemmas
 pub mod SoundLemmas
 pub mod SymbolLemmas
+pub mod HomeLemmas
+pub mod PutLemmas

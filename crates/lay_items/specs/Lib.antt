@@ -1,6 +1,5 @@
 pub mod ByCell
 pub mod Calls
-pub mod Entries
 pub mod FromCif
 pub mod IdOrder
 pub mod IdText

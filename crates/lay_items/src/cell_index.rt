@@ -1,90 +1,118 @@
-//! Where the items of each cell stand among all items.
-ghost use Rattle.std.specs.Prelude.{◌≡◌, [], IfOk, OnOk, length, unwrap_or};
-ghost use Rattle.std.specs.FinMap as map;
-ghost use Rattle.std.specs.Ordering.{nat_cmp};
-ghost use Rattle.lay_items.specs.ByCell.{AreIndexed, cell_key};
+//! Which items stand in each cell.
+ghost use Rattle.std.specs.Prelude.{◌≡◌, IfOk, map, option_copied};
+ghost use Rattle.std.specs.List.Sorted.{IsStrictlySortedBy};
+ghost use Rattle.std.specs.Map.{keys_of};
+ghost use Rattle.lay_items.specs.ByCell.{AreIndexed, cell_key, home_cmp, home_of, homes_in, unit_entry, with_home, without_home};
+ghost use Rattle.lay_items.specs.Ids.{id_cmp};
 
-use crate::entries::Entry;
+use crate::id::ItemId;
+use crate::item::Item;
 use lay_cells::CellId;
+use lay_pages::{PageKey, Pages, PagesBuilder};
 use lay_point::NoMemory;
 use std::alloc::Global;
-use std::collections::BTreeMap;
 
-/// For each cell the index of its first item, and for each item the index of the next in its cell. Where
-/// there is none, that is the number of items.
-#[derive(Drop)]
-pub(crate) struct CellIndex {
-    firsts: BTreeMap<u64, u32>,
-    pub(crate) nexts: Vec<u32>,
+/// Where an item stands: the number of its cell, and its id. They are ordered by cell, then by id.
+#[derive(Clone, Copy, Debug, PartialEq, Eq, PartialOrd, Ord)]
+pub(crate) struct Home {
+    pub(crate) cell: u64,
+    pub(crate) id: ItemId,
 }
 
-impl CellIndex {
-    /// Returns the index of no items.
-    pub(crate) fn new(alloc: Global) -> CellIndex
-        ensures { AreIndexed [] result.firsts.entries result.nexts.items }
-    {
-        CellIndex {
-            firsts: BTreeMap::new(alloc),
-            nexts: Vec::new(alloc),
-        }
-    }
+impl PageKey for Home {
+    ghost use Rattle.lay_items.specs.ByCell.{homes_exact};
 
-    /// Returns the index of these items. It is filled from the last of them on.
-    pub(crate) fn of(alloc: Global, entries: &[Entry]) -> Result<CellIndex, NoMemory>
-        ensures { IfOk result (λ index. AreIndexed entries.now index.firsts.entries index.nexts.items) }
-    {
-        let end = count_of(entries)?;
-        let mut firsts = BTreeMap::new(alloc);
-        let mut nexts = Vec::with_capacity(alloc, entries.len())?;
-        let mut at = end;
-        while at > 0 {
-            at -= 1;
-            let key = cell_key(entries[at as usize].1.cell());
-            let next = put_first(&mut firsts, key, at)?;
-            nexts.push(next.unwrap_or(end))?;
-        }
-        nexts.reverse();
-        Ok(CellIndex { firsts, nexts })
-    }
-
-    /// Returns the index of the first item of a cell, or the end where it has none.
-    pub(crate) fn start(&self, cell: CellId, end: usize) -> usize
-        ensures { result ≡ unwrap_or
-            (map.get (map.from_entries {R = nat_cmp} self.now.firsts.entries) (cell_key cell)) end }
-    {
-        match self.first(cell) {
-            Some(at) => at as usize,
-            None => end,
-        }
-    }
-
-    /// Returns the index of the first item of a cell, where it has one.
-    fn first(&self, cell: CellId) -> Option<u32>
-        ensures { result ≡ map.get (map.from_entries {R = nat_cmp} self.now.firsts.entries) (cell_key cell) }
-    {
-        self.firsts.get(&cell_key(cell)).copied()
-    }
+    ghost exact = { homes_exact };
 }
 
-/// Returns the number of entries, where a `u32` has it.
-fn count_of(entries: &[Entry]) -> Result<u32, NoMemory>
-    ensures { IfOk result (λ count. count ≡ length entries.now) }
+/// Where all items stand, so that those of a cell are found together.
+pub(crate) type Homes = Pages<Home, ()>;
+
+/// Returns where these items stand.
+pub(crate) fn homes_of(alloc: Global, items: &Pages<ItemId, Item>) -> Result<Homes, NoMemory>
+    requires { IsStrictlySortedBy id_cmp (keys_of items.now) }
+    ensures indexed { IfOk result (λ homes. AreIndexed items.now homes) }
+    ensures sorted { IfOk result (λ homes. IsStrictlySortedBy home_cmp (keys_of homes)) }
 {
-    u32::try_from(entries.len()).map_err(|_| NoMemory)
+    let mut homes = list_of(alloc, items)?;
+    homes.sort_by_key(|home| home.cell)?;
+    let homes = built(alloc, homes)?;
+    Ok(homes)
 }
 
-/// Inserts the index of a cell's first item, and returns the one before.
-fn put_first(firsts: &mut BTreeMap<u64, u32>, key: u64, at: u32) -> Result<Option<u32>, NoMemory>
-    ensures before { IfOk result
-        (λ before. before ≡ map.get (map.from_entries {R = nat_cmp} firsts.old.entries) key) }
-    ensures firsts { OnOk result (map.from_entries {R = nat_cmp} firsts.new.entries
-        ≡ map.insert (map.from_entries firsts.old.entries) key at) }
+/// Returns where these items stand, in order of the ids.
+fn list_of(alloc: Global, items: &Pages<ItemId, Item>) -> Result<Vec<Home>, NoMemory>
+    ensures { IfOk result (λ homes. homes.items ≡ homes_in items.now) }
 {
-    Ok(firsts.insert(key, at)?)
+    let mut homes = Vec::with_capacity(alloc, items.len())?;
+    for (id, item) in items.iter() {
+        homes.push(home_of(id, item))?;
+    }
+    Ok(homes)
+}
+
+/// Returns the pages of a list in order.
+fn built(alloc: Global, homes: Vec<Home>) -> Result<Homes, NoMemory>
+    requires { IsStrictlySortedBy home_cmp homes.items }
+    ensures { IfOk result (λ pages. pages ≡ map unit_entry homes.items) }
+{
+    let mut pages = PagesBuilder::new(alloc);
+    for home in homes {
+        pages = pages.push(alloc, home, ())?;
+    }
+    let pages = pages.build(alloc)?;
+    Ok(pages)
+}
+
+/// Returns the homes without that of an item, where there is one of this id.
+pub(crate) fn without(
+    alloc: Global,
+    homes: &Homes,
+    id: ItemId,
+    item: Option<&Item>,
+) -> Result<Homes, NoMemory>
+    ensures homes { IfOk result (λ new. new ≡ without_home id (option_copied item.entry) homes.now) }
+    ensures sorted { IfOk result (λ new. IsStrictlySortedBy home_cmp (keys_of new)) }
+{
+    let new = match item {
+        Some(item) => homes.with(alloc, home_of(id, item), None)?,
+        None => homes.share(alloc)?,
+    };
+    Ok(new)
+}
+
+/// Returns the homes with that of an item, where there is one.
+pub(crate) fn with(
+    alloc: Global,
+    homes: Homes,
+    id: ItemId,
+    item: &Option<Item>,
+) -> Result<Homes, NoMemory>
+    requires { IsStrictlySortedBy home_cmp (keys_of homes) }
+    ensures homes { IfOk result (λ new. new ≡ with_home id item.now homes) }
+    ensures sorted { IfOk result (λ new. IsStrictlySortedBy home_cmp (keys_of new)) }
+{
+    match item {
+        Some(item) => {
+            let new = homes.with(alloc, home_of(id, item), Some(()))?;
+            Ok(new)
+        }
+        None => Ok(homes),
+    }
+}
+
+/// Returns where an item stands.
+fn home_of(id: ItemId, item: &Item) -> Home
+    ensures { result ≡ home_of id item.now }
+{
+    Home {
+        cell: cell_key(item.cell()),
+        id,
+    }
 }
 
 /// Returns the cell's number, which no other cell has.
-fn cell_key(cell: CellId) -> u64
+pub(crate) fn cell_key(cell: CellId) -> u64
     ensures { result ≡ cell_key cell }
 {
     match cell {

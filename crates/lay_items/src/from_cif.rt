@@ -1,36 +1,36 @@
 //! The elements of a text as items.
-ghost use Rattle.std.specs.Prelude.{◌≡◌, ◌+◌, IfOk, length};
+ghost use Rattle.std.specs.Prelude.{◌≡◌, IfOk};
 ghost use Rattle.lay_items.specs.FromCif.{item_of, items_of_elements};
 ghost use Rattle.lay_items.specs.LayoutWith.{numbered_from};
 
-use crate::entries::{Entry, text_id};
+use crate::id::ItemId;
 use crate::item::{Item, Rings};
+use crate::numbered::text_id;
 use crate::parts::one_more;
 use cif_read::{Element, Figure};
+use lay_pages::{Pages, PagesBuilder};
 use lay_point::NoMemory;
 use std::alloc::Global;
-use std::collections::VecDeque;
 
 /// Returns the elements as items under the ids 0.0.1 and on. They are taken from the end of the
-/// list, and its memory is given back on the way, so it doesn't stand whole beside the items.
-pub(crate) fn entries_of(alloc: Global, mut elements: Vec<Element>) -> Result<Vec<Entry>, NoMemory>
+/// list turned round, and its memory is given back on the way, so it doesn't stand whole beside the items.
+pub(crate) fn pages_of(
+    alloc: Global,
+    mut elements: Vec<Element>,
+) -> Result<Pages<ItemId, Item>, NoMemory>
     ensures { IfOk result
-        (λ entries. entries.items ≡ numbered_from 1 (items_of_elements elements.items)) }
+        (λ pages. pages ≡ numbered_from 1 (items_of_elements elements.items)) }
 {
-    let mut entries = VecDeque::with_capacity(alloc, elements.len())?;
+    let mut pages = PagesBuilder::new(alloc);
+    let mut seq: u32 = 0;
+    elements.reverse();
     while let Some(element) = elements.pop() {
-        let seq = seq_behind(&elements)?;
-        entries.push_front((text_id(seq), item_of(alloc, element)?))?;
+        seq = one_more(seq)?;
+        pages = pages.push(alloc, text_id(seq), item_of(alloc, element)?)?;
         give_back(&mut elements);
     }
-    Ok(Vec::from(entries))
-}
-
-/// Returns the number of the element behind these, where a `u32` has it.
-fn seq_behind(elements: &[Element]) -> Result<u32, NoMemory>
-    ensures { IfOk result (λ seq. seq ≡ length elements.now + 1) }
-{
-    one_more(u32::try_from(elements.len()).map_err(|_| NoMemory)?)
+    let pages = pages.build(alloc)?;
+    Ok(pages)
 }
 
 /// Gives back the memory behind the elements once it is a quarter of their list. That is a share

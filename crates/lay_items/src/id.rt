@@ -1,5 +1,6 @@
 //! The names of items.
 
+use lay_pages::PageKey;
 use std::fmt;
 
 /// The name of an item: the session and the transaction that made it, and its number among the
@@ -13,6 +14,12 @@ pub struct ItemId {
     pub txn: u16,
     /// The item of that transaction, from 1.
     pub seq: u32,
+}
+
+impl PageKey for ItemId {
+    ghost use Rattle.lay_items.specs.IdOrder.{ids_exact};
+
+    ghost exact = { ids_exact };
 }
 
 impl fmt::Display for ItemId {

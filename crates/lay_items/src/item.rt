@@ -167,3 +167,7 @@ impl Clone for Item {
         }
     }
 }
+
+impl lay_pages::Kept for Item {
+    ghost same = { λ value copy is. is };
+}

@@ -1,23 +1,26 @@
 //! The items of a layout, by id and by cell.
-ghost use Rattle.std.specs.Prelude.{◌≡◌, IfOk, option_copied};
+ghost use Rattle.std.specs.Prelude.{◌≡◌, ◌≤◌, ◌*◌, IfOk, option_copied};
 ghost use Rattle.std.specs.FinMap as map;
 ghost use Rattle.std.specs.List.Sorted.{IsStrictlySortedBy};
 ghost use Rattle.std.specs.Map.{keys_of};
 ghost use Rattle.lay_items.specs.FromCif.{items_of_elements};
 ghost use Rattle.lay_items.specs.Ids.{id_cmp};
 ghost use Rattle.lay_items.specs.Items.{standing_in};
-ghost use Rattle.lay_items.specs.Layout.{AreRising, items_of, put_all};
+ghost use Rattle.lay_items.specs.Layout.{items_of, put, put_all};
 ghost use Rattle.lay_items.specs.LayoutWith.{numbered_from};
 ghost use Rattle.lay_items.specs.SameLayout.{items_eq};
 
-use crate::cell_index::CellIndex;
-use crate::entries::{Entry, are_same, find, merged, numbered};
-use crate::from_cif::entries_of;
+use crate::cell_index;
+use crate::cell_index::{Homes, homes_of};
+use crate::from_cif::pages_of;
 use crate::id::ItemId;
 use crate::item::Item;
 use crate::iter::{Entries, Items};
+use crate::numbered::numbered;
+use crate::trees::are_same_pages;
 use cif_read::Element;
 use lay_cells::CellId;
+use lay_pages::Pages;
 use lay_point::NoMemory;
 use std::alloc::Global;
 use std::marker::Model;
@@ -25,20 +28,17 @@ use std::marker::Model;
 /// The items of a layout. Contracts see the finite map from ids to items.
 #[derive(Drop)]
 pub(crate) struct ItemMap {
-    /// In order of the ids.
-    entries: Vec<Entry>,
-    /// Where those of each cell stand among them.
-    index: CellIndex,
+    items: Pages<ItemId, Item>,
+    /// Where they stand.
+    homes: Homes,
 }
 
 impl Model for ItemMap {
     ghost use Rattle.std.specs.FinMap as map;
     ghost use Rattle.std.specs.FinMap.{FinMap};
-    ghost use Rattle.std.specs.List.Sorted.{IsStrictlySortedBy};
-    ghost use Rattle.std.specs.Map.{keys_of};
     ghost use Rattle.lay_items.specs.contracts.item.Item as item;
     ghost use Rattle.lay_items.specs.declared.item.Item.{Item};
-    ghost use Rattle.lay_items.specs.ByCell.{AreIndexed};
+    ghost use Rattle.lay_items.specs.ByCell.{AreHeld};
     ghost use Rattle.lay_items.specs.Ids.{coded_id, id_cmp};
     ghost use Rattle.lay_items.specs.Layout.{items_of};
 
@@ -46,10 +46,9 @@ impl Model for ItemMap {
 
     ghost coded = { map.code coded_id item.the_row.coded };
 
-    ghost view = { λ m. items_of m.entries.items };
+    ghost view = { λ m. items_of m.items };
 
-    ghost invariant = { λ m. IsStrictlySortedBy id_cmp (keys_of m.entries.items)
-        × AreIndexed m.entries.items m.index.firsts.entries m.index.nexts.items };
+    ghost invariant = { λ m. AreHeld m.items m.homes };
 }
 
 impl ItemMap {
@@ -58,8 +57,8 @@ impl ItemMap {
         ensures { result ≡ map.empty }
     {
         ItemMap {
-            entries: Vec::new(alloc),
-            index: CellIndex::new(alloc),
+            items: Pages::new(alloc),
+            homes: Pages::new(alloc),
         }
     }
 
@@ -75,51 +74,59 @@ impl ItemMap {
         ensures { IfOk result (λ numbered. numbered
             ≡ items_of (numbered_from 1 (items_of_elements elements.items))) }
     {
-        ItemMap::of(alloc, entries_of(alloc, elements)?)
+        ItemMap::of(alloc, pages_of(alloc, elements)?)
     }
 
-    /// Returns the map of these entries.
-    fn of(alloc: Global, entries: Vec<Entry>) -> Result<ItemMap, NoMemory>
-        requires { IsStrictlySortedBy id_cmp (keys_of entries.items) }
-        ensures { IfOk result (λ map. map ≡ items_of entries.items) }
+    /// Returns the map of these items.
+    fn of(alloc: Global, items: Pages<ItemId, Item>) -> Result<ItemMap, NoMemory>
+        requires { IsStrictlySortedBy id_cmp (keys_of items) }
+        ensures { IfOk result (λ map. map ≡ items_of items) }
     {
-        let index = CellIndex::of(alloc, &entries)?;
-        Ok(ItemMap { entries, index })
+        let homes = homes_of(alloc, &items)?;
+        Ok(ItemMap { items, homes })
     }
 
     /// Returns the item of this id.
     pub(crate) fn get(&self, id: ItemId) -> Option<&Item>
         ensures { option_copied result ≡ map.get self.now id }
     {
-        find(&self.entries, id)
+        self.items.get(id)
     }
 
     /// Returns the number of items.
     pub(crate) fn len(&self) -> usize
         ensures { result ≡ map.len self.now }
     {
-        self.entries.len()
+        self.items.len()
+    }
+
+    /// Returns the number of pages of items.
+    pub(crate) fn pages(&self) -> usize
+        ensures few { result ≤ map.len self.now }
+        ensures full { map.len self.now ≤ 64 * result }
+    {
+        self.items.pages()
     }
 
     /// Returns the ids and the items, in order of the ids.
     pub(crate) fn iter(&self) -> Entries<'_>
         ensures { result ≡ map.entries self.now }
     {
-        Entries::new(&self.entries)
+        Entries::new(self.items.iter())
     }
 
     /// Lends the items of a cell, in order of their ids.
     pub(crate) fn in_cell(&self, cell: CellId) -> Items<'_>
         ensures { result ≡ standing_in cell (map.entries self.now) }
     {
-        Items::new(&self.entries, &self.index, cell)
+        Items::new(&self.items, &self.homes, cell)
     }
 
     /// Returns whether others are the same items under the same ids.
     pub(crate) fn is_same(&self, other: &ItemMap) -> bool
         ensures { result ≡ items_eq self.now other.now }
     {
-        are_same(&self.entries, &other.entries)
+        are_same_pages(&self.items, &other.items)
     }
 
     /// Returns the items after these writes.
@@ -128,11 +135,42 @@ impl ItemMap {
         alloc: Global,
         writes: &[(ItemId, Option<Item>)],
     ) -> Result<ItemMap, NoMemory>
-        requires { AreRising id_cmp writes.now }
         ensures { IfOk result (λ new. new ≡ put_all self.now writes.now) }
     {
-        let entries = merged(alloc, &self.entries, writes)?;
-        let index = CellIndex::of(alloc, &entries)?;
-        Ok(ItemMap { entries, index })
+        let mut new = self.share(alloc)?;
+        for (id, item) in writes {
+            new = new.written(alloc, *id, item)?;
+        }
+        Ok(new)
+    }
+
+    /// Returns the same items once more.
+    fn share(&self, alloc: Global) -> Result<ItemMap, NoMemory>
+        ensures { IfOk result (λ new. new ≡ self.now) }
+    {
+        let items = self.items.share(alloc)?;
+        let homes = self.homes.share(alloc)?;
+        Ok(ItemMap { items, homes })
+    }
+
+    /// Returns the items after a write. One page or two of the items are made anew, and of the homes one or
+    /// two where an item comes or goes.
+    fn written(&self, alloc: Global, id: ItemId, item: &Option<Item>) -> Result<ItemMap, NoMemory>
+        ensures { IfOk result (λ new. new ≡ put self.now id item.now) }
+    {
+        let homes = cell_index::without(alloc, &self.homes, id, self.items.get(id))?;
+        let homes = cell_index::with(alloc, homes, id, item)?;
+        let items = self.items.with(alloc, id, copied(item)?)?;
+        Ok(ItemMap { items, homes })
+    }
+}
+
+/// Returns a copy of the item, where there is one.
+fn copied(item: &Option<Item>) -> Result<Option<Item>, NoMemory>
+    ensures { IfOk result (λ copy. copy ≡ item.now) }
+{
+    match item {
+        Some(item) => Ok(Some(item.clone()?)),
+        None => Ok(None),
     }
 }

@@ -1,18 +1,19 @@
 //! All items, the items of a cell, its shapes on a layer and its calls, lent in order of their ids.
 ghost use Rattle.std.specs.Prelude.{◌≡◌};
+ghost use Rattle.lay_items.specs.ByCell.{first_home};
 
-use crate::cell_index::CellIndex;
-use crate::entries::Entry;
+use crate::cell_index::{Home, Homes, cell_key};
 use crate::id::ItemId;
 use crate::item::Item;
 use lay_cells::CellId;
+use lay_pages::Pages;
 use lay_point::{LayerName, Ring, Turn};
 use std::marker::Model;
 
 /// Lends items with their ids, in order of the ids. Contracts see the list of those that are left.
 #[derive(Drop)]
 pub struct Entries<'a> {
-    rest: &'a [Entry],
+    rest: lay_pages::Entries<'a, ItemId, Item>,
 }
 
 impl<'a> Model for Entries<'a> {
@@ -22,13 +23,13 @@ impl<'a> Model for Entries<'a> {
 
     ghost Value = { List (ItemId × Item) };
 
-    ghost view = { λ e. e.rest.now };
+    ghost view = { λ e. e.rest };
 }
 
 impl<'a> Entries<'a> {
     /// Returns these entries.
-    pub(crate) fn new(rest: &'a [Entry]) -> Entries<'a>
-        ensures { result ≡ rest.now }
+    pub(crate) fn new(rest: lay_pages::Entries<'a, ItemId, Item>) -> Entries<'a>
+        ensures { result ≡ rest.entry }
     {
         Entries { rest }
     }
@@ -44,9 +45,7 @@ impl<'a> Iterator for Entries<'a> {
     ghost remaining = { item_count (λ left. left) };
 
     fn next(&mut self) -> Option<(ItemId, &'a Item)> {
-        let ((id, item), rest) = self.rest.split_first()?;
-        self.rest = rest;
-        Some((*id, item))
+        self.rest.next()
     }
 }
 
@@ -54,45 +53,56 @@ impl<'a> Iterator for Entries<'a> {
 /// are left.
 #[derive(Drop)]
 pub struct Items<'a> {
-    entries: &'a [Entry],
-    nexts: &'a [u32],
-    cell: CellId,
-    /// The index of the next item, or that behind all.
-    at: usize,
+    /// Those of the cell, and of the cells behind it.
+    homes: lay_pages::Entries<'a, Home, ()>,
+    items: &'a Pages<ItemId, Item>,
+    /// The number of the cell.
+    cell: u64,
 }
 
 impl<'a> Model for Items<'a> {
-    ghost use Rattle.std.specs.Prelude.{◌≡◌, List, drop, length};
+    ghost use Rattle.std.specs.Prelude.{List};
     ghost use Rattle.lay_items.specs.declared.id.ItemId.{ItemId};
     ghost use Rattle.lay_items.specs.declared.item.Item.{Item};
-    ghost use Rattle.lay_items.specs.ByCell.{StartsIn, nexts_from};
-    ghost use Rattle.lay_items.specs.Items.{standing_in};
+    ghost use Rattle.lay_items.specs.ByCell.{AreLent, listed, looked_up};
 
     ghost Value = { List (ItemId × Item) };
 
-    ghost view = { λ i. standing_in i.cell (drop i.at i.entries.now) };
+    ghost view = { λ i. looked_up i.items.now (listed i.cell i.homes) };
 
-    ghost invariant = { λ i. (i.nexts.now ≡ nexts_from (length i.entries.now) 0 i.entries.now)
-        × StartsIn i.cell (drop i.at i.entries.now) };
+    ghost invariant = { λ i. AreLent i.cell i.homes i.items.now };
 }
 
 impl<'a> Items<'a> {
     ghost use Rattle.std.specs.Prelude.{◌≡◌};
+    ghost use Rattle.std.specs.List.Sorted.{IsStrictlySortedBy};
+    ghost use Rattle.std.specs.Map.{keys_of};
     ghost use Rattle.lay_items.specs.ByCell.{AreIndexed};
+    ghost use Rattle.lay_items.specs.Ids.{id_cmp};
     ghost use Rattle.lay_items.specs.Items.{standing_in};
 
     /// Returns those of the items that stand in the cell.
-    pub(crate) fn new(entries: &'a [Entry], index: &'a CellIndex, cell: CellId) -> Items<'a>
-        requires { AreIndexed entries.now index.now.firsts.entries index.now.nexts.items }
-        ensures { result ≡ standing_in cell entries.now }
+    pub(crate) fn new(items: &'a Pages<ItemId, Item>, homes: &'a Homes, cell: CellId) -> Items<'a>
+        requires sorted { IsStrictlySortedBy id_cmp (keys_of items.now) }
+        requires indexed { AreIndexed items.now homes.now }
+        ensures { result ≡ standing_in cell items.now }
     {
-        Items {
-            entries,
-            nexts: &index.nexts,
-            cell,
-            at: index.start(cell, entries.len()),
-        }
+        let cell = cell_key(cell);
+        let homes = homes.from(first_home(cell));
+        Items { homes, items, cell }
     }
+}
+
+/// Returns the first home that a cell may have.
+fn first_home(cell: u64) -> Home
+    ensures { result ≡ first_home cell }
+{
+    let id = ItemId {
+        session: 0,
+        txn: 0,
+        seq: 0,
+    };
+    Home { cell, id }
 }
 
 impl<'a> Iterator for Items<'a> {
@@ -105,9 +115,11 @@ impl<'a> Iterator for Items<'a> {
     ghost remaining = { item_count (λ left. left) };
 
     fn next(&mut self) -> Option<(ItemId, &'a Item)> {
-        let (id, item) = self.entries.get(self.at)?;
-        self.at = self.nexts[self.at] as usize;
-        Some((*id, item))
+        let (home, _) = self.homes.next()?;
+        if home.cell != self.cell {
+            return None;
+        }
+        Some((home.id, self.items.get(home.id).unwrap()))
     }
 }
 

@@ -16,12 +16,12 @@
 #![tactic(auto)]
 
 mod cell_index;
-mod entries;
 mod from_cif;
 mod id;
 mod item;
 mod item_map;
 mod iter;
+mod numbered;
 mod parts;
 mod snapshot;
 mod symbol_map;

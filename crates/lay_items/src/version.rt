@@ -1,5 +1,5 @@
 //! Versions of a layout, each a map of symbols and one of items, which they share.
-ghost use Rattle.std.specs.Prelude.{◌≡◌, IfOk, Ok, option_copied};
+ghost use Rattle.std.specs.Prelude.{◌≡◌, ◌≤◌, ◌*◌, IfOk, Ok, option_copied};
 ghost use Rattle.std.specs.Arc.{arc_value};
 ghost use Rattle.std.specs.FinMap as map;
 ghost use Rattle.std.specs.Ordering.{nat_cmp};
@@ -101,6 +101,15 @@ impl Version {
         self.item_map().len()
     }
 
+    /// Returns the number of pages of items. A page has 64 at most, and versions share those that no write
+    /// between them falls in.
+    pub fn pages(&self) -> usize
+        ensures few { result ≤ map.len self.now.items }
+        ensures full { map.len self.now.items ≤ 64 * result }
+    {
+        self.item_map().pages()
+    }
+
     /// Returns whether the cell is there: the top cell, and each symbol.
     pub fn is_cell(&self, cell: CellId) -> bool
         ensures { result ≡ is_cell self.now cell }
@@ -186,7 +195,6 @@ impl Version {
         alloc: Global,
         writes: &[(ItemId, Option<Item>)],
     ) -> Result<Arc<ItemMap>, NoMemory>
-        requires { AreRising id_cmp writes.now }
         ensures { IfOk result (λ new. arc_value new ≡ put_all self.now.items writes.now) }
     {
         if writes.is_empty() {

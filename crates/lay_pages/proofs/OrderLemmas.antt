@@ -81,6 +81,30 @@ module _ {K X : Type 0} {R : K → K → Ordering} (total : IsTotalOrder R) (exa
     by None count = omega (arith, count)
     by (Some y) count = omega (arith, count)
 
+  -- what is there, written again, changes nothing
+  pub written-same : (k : K) (es : List (K × X)) → IsStrictlySortedBy R (keys_of es) → written R k (find R k es) es ≡ es
+  unfolding IsStrictlySortedBy
+  written-same k [] sorted = refl
+  written-same k (e ∷ es) sorted = by (R e.0 k) refl (written-same k es sorted.1) where
+    by : (o : Ordering) → R e.0 k ≡ o → written R k (find R k es) es ≡ es → written R k (find R k (e ∷ es)) (e ∷ es) ≡ e ∷ es
+    by Less is rest =
+        (λ i. cond (is_lt (is i)) (e ∷ lower R k es) (lower R k es)
+        ++ (entry_of k (cond (is_eq (turned total e.0 k Less is i)) (Some e.1) (find R k es))
+        ++ cond (is_lt (turned total e.0 k Less is i)) (e ∷ higher R k es) (higher R k es)))
+        ∙ ap (λ xs. e ∷ xs) rest
+    by Equal is rest =
+        let same : e.0 ≡ k = exact e.0 k is in
+        let all : AllAbove R k es = subst (λ q. AllAbove R q es) same (above_all e.0 es sorted.0) in
+        (λ i. cond (is_lt (is i)) (e ∷ lower R k es) (lower R k es)
+        ++ (entry_of k (cond (is_eq (turned total e.0 k Equal is i)) (Some e.1) (find R k es))
+        ++ cond (is_lt (turned total e.0 k Equal is i)) (e ∷ higher R k es) (higher R k es)))
+        ∙ (λ i. lower-above total k es all i ++ ((k, e.1) ∷ higher-above total k es all i)) ∙ ap (λ q. (q, e.1) ∷ es) (sym same)
+    by Greater is rest =
+        let first : R k e.0 ≡ Less = turned total e.0 k Greater is in
+        let all : AllAbove R k (e ∷ es) = (first, above_all k es (after total k e.0 first (keys_of es) sorted.0)) in
+        λ i. lower-above total k (e ∷ es) all i
+        ++ (entry_of k (find-above k (e ∷ es) all i) ++ higher-above total k (e ∷ es) all i)
+
   -- what is found is there
   pub some-found : (k : K) (es : List (K × X)) → IsStrictlySortedBy R (keys_of es) → count_of (find R k es) ≤ length es
   some-found k es sorted = omega (arith, sides k es sorted)

@@ -9,7 +9,5 @@ use Rattle.lay_items.proofs.item_map.ItemMap.in_cell.Goals as goal
 
 pub returns : goal.returns
 returns c =
-    c.new.ensures
-    ∙ ap (standing_in c.args.cell) (c.deref.ensures.value ∙ sym (entries_again id_cmp ids_total c.self.inside.entries.items
-    c.self.invariant.0))
+    c.new.ensures ∙ ap (standing_in c.args.cell) (sym (entries_again id_cmp ids_total c.self.inside.items c.self.invariant.ids))
     ∙ ap (λ (m : FinMap id_cmp Item). standing_in c.args.cell (entries m)) c.self.view_is

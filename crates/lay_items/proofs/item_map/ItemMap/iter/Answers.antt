@@ -7,5 +7,5 @@ use Rattle.lay_items.proofs.item_map.ItemMap.iter.Goals as goal
 
 pub returns : goal.returns
 returns c =
-    c.new.ensures ∙ c.deref.ensures.value ∙ sym (entries_again id_cmp ids_total c.self.inside.entries.items c.self.invariant.0)
+    c.new.ensures ∙ c.iter.ensures.entries ∙ sym (entries_again id_cmp ids_total c.self.inside.items c.self.invariant.ids)
     ∙ ap entries c.self.view_is

@@ -11,5 +11,5 @@ use Rattle.lay_items.proofs.item_map.ItemMap.of_text.Goals as goal
 -- numbers rise
 pub of-requires : goal.of-requires
 of-requires c =
-    subst (λ (es : List (ItemId × Item)). IsStrictlySortedBy id_cmp (keys_of es)) (sym c.in_ok-entries_of.ensures)
+    subst (λ (es : List (ItemId × Item)). IsStrictlySortedBy id_cmp (keys_of es)) (sym c.in_ok-pages_of.ensures)
     (numbered_sorted 1 (items_of_elements c.args.elements.items))

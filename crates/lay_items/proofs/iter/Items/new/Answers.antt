@@ -1,25 +1,28 @@
-use Rattle.std.proofs.Common.{◌≡◌, ◌∙◌, ℕ, ap, drop, length, subst, sym, unwrap_or}
-use Rattle.std.specs.FinMap.{FinMap, get}
-use Rattle.std.specs.Ordering.{nat_cmp}
-use Rattle.lay_items.specs.ByCell.{StartsIn, cell_key}
-use Rattle.lay_items.specs.Items.{standing_in}
-use Rattle.lay_items.proofs.CellLemmas.{skipped, standing-skipped, start-is, starts-skipped}
+use Rattle.std.proofs.Common.{◌≡◌, ◌∙◌, List, ap, subst, sym}
+use Rattle.std.specs.List.Sorted.{IsStrictlySortedBy}
+use Rattle.std.specs.Map.{keys_of}
+use Rattle.lay_pages.specs.Written.{from_key}
+use Rattle.lay_items.specs.declared.cell_index.Home.{Home}
+use Rattle.lay_items.specs.ByCell.{AreLent, Homed, first_home, home_cmp, ids_in, listed, looked_up}
+use Rattle.lay_items.proofs.HomeLemmas.{lent_from, listed_from, looked_standing}
 use Rattle.lay_items.proofs.iter.Items.new.Goals as goal
 
 pub invariant_of-result : goal.invariant_of-result
 invariant_of-result c =
-    let es = c.args.entries.now in
-    let at : c.start.result ≡ skipped (cell_key c.args.cell) es =
-    c.start.ensures ∙ ap (λ (m : FinMap nat_cmp ℕ). unwrap_or (get m (cell_key c.args.cell)) (length es)) c.requires.0
-    ∙ start-is c.args.cell es in (
-      c.deref.ensures.value ∙ c.requires.1,
-      subst (λ n. StartsIn c.args.cell (drop n es)) (sym at) (starts-skipped c.args.cell es),
-    )
+    let key = c.cell_key-cell.result in
+    let homes = c.args.homes.now in
+    let is : c.from-homes.result ≡ from_key home_cmp (first_home key) homes =
+    c.from-homes.ensures.entries ∙ ap (λ (h : Home). from_key home_cmp h homes) c.first_home.ensures in
+    subst (λ (hs : List Homed). AreLent key hs c.args.items.now) (sym is)
+    (lent_from key homes c.args.items.now c.requires.sorted
+    (subst (λ (hs : List Homed). IsStrictlySortedBy home_cmp (keys_of hs)) is c.from-homes.ensures.sorted) c.requires.indexed)
 
 pub returns : goal.returns
 returns c =
-    let es = c.args.entries.now in
-    let at : c.start.result ≡ skipped (cell_key c.args.cell) es =
-    c.start.ensures ∙ ap (λ (m : FinMap nat_cmp ℕ). unwrap_or (get m (cell_key c.args.cell)) (length es)) c.requires.0
-    ∙ start-is c.args.cell es in
-    ap (λ n. standing_in c.args.cell (drop n es)) at ∙ sym (standing-skipped c.args.cell es)
+    let key = c.cell_key-cell.result in
+    let homes = c.args.homes.now in
+    let items = c.args.items.now in
+    let is : c.from-homes.result ≡ from_key home_cmp (first_home key) homes =
+    c.from-homes.ensures.entries ∙ ap (λ (h : Home). from_key home_cmp h homes) c.first_home.ensures in
+    ap (λ (hs : List Homed). looked_up items (listed key hs)) is ∙ ap (looked_up items) (listed_from key homes ∙ c.requires.indexed key)
+    ∙ ap (λ k. looked_up items (ids_in k items)) c.cell_key-cell.ensures ∙ looked_standing c.args.cell items c.requires.sorted

@@ -1,0 +1,20 @@
+use Rattle.std.proofs.Common.{◌≡◌, ◌∙◌, ap, arith, sym, length}
+use Rattle.std.specs.FinMap.{from_entries, len, len-entries}
+use Rattle.lay_items.specs.IdOrder.{ids_total}
+use Rattle.lay_items.specs.Ids.{id_cmp}
+use Rattle.lay_items.proofs.MapLemmas.{entries_again}
+use Rattle.lay_items.proofs.item_map.ItemMap.pages.Goals as goal
+
+pub returns-clause-few : goal.returns-clause-few
+returns-clause-few c =
+    let count : length c.self.inside.items ≡ len c.args.self.now =
+    sym (ap length (entries_again id_cmp ids_total c.self.inside.items c.self.invariant.ids))
+    ∙ sym (len-entries (from_entries {R = id_cmp} c.self.inside.items)) ∙ ap len c.self.view_is in
+    omega (arith, count, c.pages.ensures.few)
+
+pub returns-clause-full : goal.returns-clause-full
+returns-clause-full c =
+    let count : length c.self.inside.items ≡ len c.args.self.now =
+    sym (ap length (entries_again id_cmp ids_total c.self.inside.items c.self.invariant.ids))
+    ∙ sym (len-entries (from_entries {R = id_cmp} c.self.inside.items)) ∙ ap len c.self.view_is in
+    omega (arith, count, c.pages.ensures.full)
