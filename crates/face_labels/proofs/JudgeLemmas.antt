@@ -1,5 +1,5 @@
--- Behind the gap of a row are the edges that are right of the place at which an edge is judged; so the shapes that hold
--- there are those that hold at that place.
+-- Behind a gap of a row are the edges that are right of a place; so the shapes that an odd number of them lists are those
+-- that hold at the place.
 use Rattle.std.proofs.Common.{◌≡◌, ◌≢◌, ◌⊎◌, inl, inr, ℕ, zero, suc, ◌+◌, ◌<◌, ◌≤◌, Bool, true, false, ◌&&◌, ◌||◌, List, [], ◌∷◌}
 use Rattle.std.proofs.Common.{length, get_or, drop, Contains, ℤ, pos, ◌*ℤ◌, ◌≤ℤ◌, ◌<ℤ◌, refl, sym, ap, ap₂, subst, ◌∙◌, ⊎_elim, arith}
 use Rattle.std.specs.Prelude.{int_le, int_lt, nat_eq}
@@ -18,14 +18,12 @@ use Rattle.lay_point.proofs.Parity.{IsEquality, parity_of_occurrences}
 use Rattle.lay_point.proofs.Rising.{IsStrictOrder, rising_rest}
 use Rattle.face_label_laws.proofs.Rows.{IsInRow, Spans, beside, crossed_spans, fraction_lt, right_in_row, spans_crossed}
 use Rattle.snap_chains.specs.declared.owner.Owner.{Owner}
-use Rattle.snap_chains.specs.Rounded.{AreClean, AreEven, Owned, is_listed}
+use Rattle.snap_chains.specs.Rounded.{AreClean, Owned, is_listed}
 use Rattle.face_label_laws.specs.Labels.{Item, items_of, odd_of}
-use Rattle.face_label_laws.specs.Laws.{AreLesserFirst}
-use Rattle.face_labels.specs.Beside.{is_right_of, weight}
-use Rattle.face_labels.specs.Lines.{BeginsAt, EndsBefore, edge_at, nowhere, owners_at}
+use Rattle.face_labels.specs.Lines.{edge_at, nowhere, owners_at}
 use Rattle.face_labels.specs.Rows.{AreRowEdges, CrossesRow, IsLeftOf, crosses_row, crossing, rise, upward}
-use Rattle.face_labels.proofs.InsideLemmas.{parity_any}
-use Rattle.face_labels.proofs.NearLemmas.{at_k, at_x, at_y, near_in_row, right_there, upward_crossed, upward_rises, weight_of}
+use Rattle.face_labels.proofs.OwnerLemmas.{parity_any}
+use Rattle.face_labels.proofs.NearLemmas.{upward_crossed, upward_rises}
 use Rattle.face_labels.proofs.RowLemmas.{before_by_number, has_get, other_edge, spans_of, upward_meet}
 
 -- ---- lists by number
@@ -149,7 +147,7 @@ pub record IsBeforeIn (edges : List (Point × Point)) (row : ℤ) (m n : ℕ) : 
 rise_positive : (row : ℤ) (e : Point × Point) → crosses_row row e ≡ true → pos 0 <ℤ rise e
 rise_positive row e h = let s = spans_of row e h in omega (arith, linear, s.low, s.high)
 
-before_strict : (edges : List (Point × Point)) (row : ℤ) → IsStrictOrder (IsBeforeIn edges row)
+pub before_strict : (edges : List (Point × Point)) (row : ℤ) → IsStrictOrder (IsBeforeIn edges row)
 before_strict edges row = record {
   irreflexive = λ m h. let less = h.left nowhere in omega (arith, linear, less);
   transitive = λ l m n h g. record {
@@ -164,7 +162,7 @@ before_strict edges row = record {
   };
 }
 
-before_rising : (edges : List (Point × Point)) (row : ℤ) (ns : List ℕ) → ((n : ℕ) → Has ns n → CrossesRow edges row n)
+pub before_rising : (edges : List (Point × Point)) (row : ℤ) (ns : List ℕ) → ((n : ℕ) → Has ns n → CrossesRow edges row n)
     → IsRising (IsLeftOf edges row) ns → IsRising (IsBeforeIn edges row) ns
 before_rising edges row [] all h = tt
 before_rising edges row (m ∷ []) all h = tt
@@ -173,131 +171,127 @@ before_rising edges row (m ∷ n ∷ ns) all h = (
   before_rising edges row (n ∷ ns) (λ k g. all k (inr g)) h.1,
 )
 
--- ---- an edge and its row
-module _ (r : Owned) (rising : IsRising IsEdgeBefore r.0) (paired : length r.1 ≡ length r.0) (even : AreEven r) (clean : AreClean r.0)
-    (lesser : AreLesserFirst r.0) (e : Point × Point) (numbers : List ℕ) (gap : ℕ) (row : AreRowEdges r.0 (upward e).0.y numbers)
-    (ends : EndsBefore r numbers e gap) (begins : BeginsAt r numbers e gap) where
-  abbrev y : ℤ
-  y = (upward e).0.y
+-- ---- a place and its row
+-- the edge is right of the place
+abbrev pub is_right : ℤ → ℤ → ℤ → Owned → ℕ → Bool
+is_right k x y r n = int_lt (pos 0) (distance_right k x y (upward (edge_at r n)).0 (upward (edge_at r n)).1)
 
+module _ (r : Owned) (rising : IsRising IsEdgeBefore r.0) (paired : length r.1 ≡ length r.0) (clean : AreClean r.0) (row k x y : ℤ)
+    (place : IsInRow row k y) (numbers : List ℕ) (edges : AreRowEdges r.0 row numbers) where
   abbrev right : ℕ → Bool
-  right n = is_right_of e (edge_at r n)
+  right n = is_right k x y r n
 
-  place : IsInRow y (at_k e) (at_y e)
-  place = near_in_row (weight e) (upward e).0 (upward e).1 (upward_rises e) (weight_of e)
+  in_order : IsRising (IsBeforeIn r.0 row) numbers
+  in_order = before_rising r.0 row numbers (λ n m. (edges.exact n).0 (contains numbers n m)) edges.rising
 
-  in_order : IsRising (IsBeforeIn r.0 y) numbers
-  in_order = before_rising r.0 y numbers (λ n m. (row.exact n).0 (contains numbers n m)) row.rising
-
-  far : (n : ℕ) → right n ≡ true → pos 0 <ℤ distance_right (at_k e) (at_x e) (at_y e) (upward (edge_at r n)).0 (upward (edge_at r n)).1
-  far n t = lt_true (pos 0) (distance_right (at_k e) (at_x e) (at_y e) (upward (edge_at r n)).0 (upward (edge_at r n)).1)
-      (sym (right_there e (edge_at r n)) ∙ t)
+  far : (n : ℕ) → right n ≡ true → pos 0 <ℤ distance_right k x y (upward (edge_at r n)).0 (upward (edge_at r n)).1
+  far n t = lt_true (pos 0) (distance_right k x y (upward (edge_at r n)).0 (upward (edge_at r n)).1) t
 
   -- with an edge all further right in its row are right of the place
-  further : (m n : ℕ) → IsBeforeIn r.0 y m n → right m ≡ true → right n ≡ true
+  further : (m n : ℕ) → IsBeforeIn r.0 row m n → right m ≡ true → right n ≡ true
   further m n h t =
       let f = edge_at r m in
       let g = edge_at r n in
       let differ : m ≢ n = λ same. let less = h.left nowhere in
-      let here : (rise g *ℤ crossing y g) <ℤ (rise g *ℤ crossing y g) =
-      subst (λ k. (rise g *ℤ crossing y (edge_at r k)) <ℤ (rise (edge_at r k) *ℤ crossing y g)) same less in
+      let here : (rise g *ℤ crossing row g) <ℤ (rise g *ℤ crossing row g) =
+      subst (λ l. (rise g *ℤ crossing row (edge_at r l)) <ℤ (rise (edge_at r l) *ℤ crossing row g)) same less in
       omega (arith, linear, here) in
       let other : ¬ (f ≡ g) = other_edge r.0 m n nowhere rising differ h.first.0 h.second.0 in
       let meet = upward_meet f g
       (clean f g (contains r.0 f (has_get r.0 m nowhere h.first.0)) (contains r.0 g (has_get r.0 n nowhere h.second.0)) other) in
-      right_there e g
-      ∙ true_lt (pos 0) (distance_right (at_k e) (at_x e) (at_y e) (upward g).0 (upward g).1)
-      (right_in_row y (upward f) (upward g) (at_k e) (at_x e) (at_y e) (beside y (at_k e) (at_y e) place) (spans_of y f (h.first.1 nowhere))
-      (spans_of y g (h.second.1 nowhere)) meet (record { less = h.left nowhere }) (far m t))
+      true_lt (pos 0) (distance_right k x y (upward g).0 (upward g).1)
+      (right_in_row row (upward f) (upward g) k x y (beside row k y place) (spans_of row f (h.first.1 nowhere))
+      (spans_of row g (h.second.1 nowhere)) meet (record { less = h.left nowhere }) (far m t))
 
-  behind : (i : ℕ) → gap ≤ i → i < length numbers → right (get_or numbers i 0) ≡ true
-  behind i le less = ⊎_elim
-      (λ (after : gap < i). further (get_or numbers gap 0) (get_or numbers i 0)
-      (before_by_number (IsBeforeIn r.0 y) (before_strict r.0 y) numbers gap i 0 in_order after less) (begins (omega arith)))
-      (λ (ge : i ≤ gap). let same : gap ≡ i = omega arith in subst (λ k. right (get_or numbers k 0) ≡ true) same (begins (omega arith)))
-      (cases_lt gap i)
+  module _ (gap : ℕ) (ends : (j : ℕ) → suc j ≡ gap → right (get_or numbers j 0) ≡ false)
+      (begins : gap < length numbers → right (get_or numbers gap 0) ≡ true) where
+    behind : (i : ℕ) → gap ≤ i → i < length numbers → right (get_or numbers i 0) ≡ true
+    behind i le less = ⊎_elim
+        (λ (after : gap < i). further (get_or numbers gap 0) (get_or numbers i 0)
+        (before_by_number (IsBeforeIn r.0 row) (before_strict r.0 row) numbers gap i 0 in_order after less) (begins (omega arith)))
+        (λ (ge : i ≤ gap). let same : gap ≡ i = omega arith in subst (λ l. right (get_or numbers l 0) ≡ true) same (begins (omega arith)))
+        (cases_lt gap i)
 
-  front : (i : ℕ) → i < gap → i < length numbers → gap ≤ length numbers → right (get_or numbers i 0) ≡ true → ⊥
-  front i less inside bound t = by_gap gap refl
-    where
-      no_way : (b : Bool) → b ≡ true → b ≡ false → ⊥
-      no_way b s f = absurd cc
+    front : (i : ℕ) → i < gap → i < length numbers → gap ≤ length numbers → right (get_or numbers i 0) ≡ true → ⊥
+    front i less inside bound t = by_gap gap refl
+      where
+        no_way : (b : Bool) → b ≡ true → b ≡ false → ⊥
+        no_way b s f = absurd cc
 
-      by_gap : (k : ℕ) → k ≡ gap → ⊥
-      by_gap zero same = omega arith
-      by_gap (suc k) same = no_way (right (get_or numbers k 0)) (⊎_elim
-          (λ (before : i < k). further (get_or numbers i 0) (get_or numbers k 0)
-          (before_by_number (IsBeforeIn r.0 y) (before_strict r.0 y) numbers i k 0 in_order before (omega arith)) t)
-          (λ (ge : k ≤ i). let here : i ≡ k = omega arith in subst (λ j. right (get_or numbers j 0) ≡ true) here t)
-          (cases_lt i k)) (ends k same)
+        by_gap : (k : ℕ) → k ≡ gap → ⊥
+        by_gap zero same = omega arith
+        by_gap (suc k) same = no_way (right (get_or numbers k 0)) (⊎_elim
+            (λ (before : i < k). further (get_or numbers i 0) (get_or numbers k 0)
+            (before_by_number (IsBeforeIn r.0 row) (before_strict r.0 row) numbers i k 0 in_order before (omega arith)) t)
+            (λ (ge : k ≤ i). let here : i ≡ k = omega arith in subst (λ j. right (get_or numbers j 0) ≡ true) here t)
+            (cases_lt i k)) (ends k same)
 
-  -- behind the gap is exactly what the place's half line crosses
-  behind_crossed : gap ≤ length numbers → (n : ℕ) → n < length r.0
-      → parity (nat_eq n) (drop gap numbers) ≡ is_crossed (at_k e) (at_x e) (at_y e) (edge_at r n)
-  behind_crossed bound n inside =
-      parity_any (IsBeforeIn r.0 y) (before_strict r.0 y) (nat_eq n) (drop gap numbers)
-      (rising_drop (IsBeforeIn r.0 y) numbers gap in_order)
-      (λ l m h t. nat_equality.apart n m (λ same. (before_strict r.0 y).irreflexive l
-      (subst (IsBeforeIn r.0 y l) (sym same ∙ (Decides-eqb n l).0 t) h)))
-      ∙ both_ways (list_any (nat_eq n) (drop gap numbers)) (is_crossed (at_k e) (at_x e) (at_y e) (edge_at r n))
-      (λ t.
-      let found = has_drop numbers gap n (any_has (drop gap numbers) n t) in
-      let i = found.1 in
-      let f = edge_at r n in
-      let there : right n ≡ true = subst (λ k. right k ≡ true) i.is (behind found.0 i.behind i.inside) in
-      let member : Contains numbers n =
-      subst (Contains numbers) i.is (contains numbers (get_or numbers found.0 0) (has_get numbers found.0 0 i.inside)) in
-      sym (upward_crossed (at_k e) (at_x e) (at_y e) f)
-      ∙ spans_crossed y (at_k e) (at_x e) (at_y e) (upward f) place (spans_of y f (((row.exact n).0 member).1 nowhere)) (far n there))
-      (λ t.
-      let f = edge_at r n in
-      let c = crossed_spans y (at_k e) (at_x e) (at_y e) (upward f) place (upward_rises f)
-      (upward_crossed (at_k e) (at_x e) (at_y e) f ∙ t) in
-      let there : right n ≡ true = right_there e f
-      ∙ true_lt (pos 0) (distance_right (at_k e) (at_x e) (at_y e) (upward f).0 (upward f).1) c.1 in
-      let member = has_at_zero numbers n (has numbers n ((row.exact n).1 (
-        inside,
-        λ d. subst (λ g. crosses_row y g ≡ true)
-            (get_or_default r.0 n nowhere d inside) (spans_test y f c.0),
-      ))) in
-      let i = member.1 in
-      has_any (drop gap numbers) n (⊎_elim
-      (λ (less : member.0 < gap). absurd (front member.0 less i.inside bound (subst (λ k. right k ≡ true) (sym i.is) there)))
-      (λ (le : gap ≤ member.0). subst (Has (drop gap numbers)) i.is (drop_has numbers gap member.0 le i.inside))
-      (cases_lt member.0 gap)))
-    where
-      spans_test : (y : ℤ) (f : Point × Point) → Spans y (upward f) → crosses_row y f ≡ true
-      spans_test y f s = both (true_le (upward f).0.y y s.low) (true_lt y (upward f).1.y s.high)
-        where
-          true_le : (a b : ℤ) → a ≤ℤ b → int_le a b ≡ true
-          true_le a b h = grind (arith, ints)
+    -- behind the gap is exactly what the place's half line crosses
+    behind_crossed : gap ≤ length numbers → (n : ℕ) → n < length r.0
+        → parity (nat_eq n) (drop gap numbers) ≡ is_crossed k x y (edge_at r n)
+    behind_crossed bound n inside =
+        parity_any (IsBeforeIn r.0 row) (before_strict r.0 row) (nat_eq n) (drop gap numbers)
+        (rising_drop (IsBeforeIn r.0 row) numbers gap in_order)
+        (λ l m h t. nat_equality.apart n m (λ same. (before_strict r.0 row).irreflexive l
+        (subst (IsBeforeIn r.0 row l) (sym same ∙ (Decides-eqb n l).0 t) h)))
+        ∙ both_ways (list_any (nat_eq n) (drop gap numbers)) (is_crossed k x y (edge_at r n))
+        (λ t.
+        let found = has_drop numbers gap n (any_has (drop gap numbers) n t) in
+        let i = found.1 in
+        let f = edge_at r n in
+        let there : right n ≡ true = subst (λ k. right k ≡ true) i.is (behind found.0 i.behind i.inside) in
+        let member : Contains numbers n =
+        subst (Contains numbers) i.is (contains numbers (get_or numbers found.0 0) (has_get numbers found.0 0 i.inside)) in
+        sym (upward_crossed k x y f)
+        ∙ spans_crossed row k x y (upward f) place (spans_of row f (((edges.exact n).0 member).1 nowhere)) (far n there))
+        (λ t.
+        let f = edge_at r n in
+        let c = crossed_spans row k x y (upward f) place (upward_rises f)
+        (upward_crossed k x y f ∙ t) in
+        let there : right n ≡ true = true_lt (pos 0) (distance_right k x y (upward f).0 (upward f).1) c.1 in
+        let member = has_at_zero numbers n (has numbers n ((edges.exact n).1 (
+          inside,
+          λ d. subst (λ g. crosses_row row g ≡ true)
+              (get_or_default r.0 n nowhere d inside) (spans_test row f c.0),
+        ))) in
+        let i = member.1 in
+        has_any (drop gap numbers) n (⊎_elim
+        (λ (less : member.0 < gap). absurd (front member.0 less i.inside bound (subst (λ k. right k ≡ true) (sym i.is) there)))
+        (λ (le : gap ≤ member.0). subst (Has (drop gap numbers)) i.is (drop_has numbers gap member.0 le i.inside))
+        (cases_lt member.0 gap)))
+      where
+        spans_test : (y : ℤ) (f : Point × Point) → Spans y (upward f) → crosses_row y f ≡ true
+        spans_test y f s = both (true_le (upward f).0.y y s.low) (true_lt y (upward f).1.y s.high)
+          where
+            true_le : (a b : ℤ) → a ≤ℤ b → int_le a b ≡ true
+            true_le a b h = grind (arith, ints)
 
-          both : {a b : Bool} → a ≡ true → b ≡ true → (a && b) ≡ true
-          both {a} {b} s t = rw (s, t) refl
+            both : {a b : Bool} → a ≡ true → b ≡ true → (a && b) ≡ true
+            both {a} {b} s t = rw (s, t) refl
 
-  pub odd_behind : gap ≤ length numbers → (o : Owner)
-      → parity (λ n. is_listed o (owners_at r n)) (drop gap numbers) ≡ odd_of (items_of r) o (at_k e) (at_x e) (at_y e)
-  odd_behind bound o =
-      sym (parity_of_occurrences (λ m n. m < n) below_strict nat_eq nat_equality (λ n. is_listed o (owners_at r n)) (numbers_from 0 r.0)
-      (drop gap numbers) (below_rising 0 r.0) given)
-      ∙ by_number (λ p. is_listed o p.1 && is_crossed (at_k e) (at_x e) (at_y e) p.0)
-      (λ n. parity (nat_eq n) (drop gap numbers) && is_listed o (owners_at r n)) 0 r.0 r.1 paired (λ i less.
-      let same : 0 + i ≡ i = omega arith in
-      ap (λ n. parity (nat_eq n) (drop gap numbers) && is_listed o (owners_at r n)) same
-      ∙ ap (λ b. b && is_listed o (owners_at r i)) (behind_crossed bound i less)
-      ∙ and_turned (is_crossed (at_k e) (at_x e) (at_y e) (edge_at r i)) (is_listed o (owners_at r i)))
-    where
-      and_turned : (a b : Bool) → (a && b) ≡ (b && a)
-      and_turned true true = refl
-      and_turned true false = refl
-      and_turned false true = refl
-      and_turned false false = refl
+    pub odd_behind : gap ≤ length numbers → (o : Owner)
+        → parity (λ n. is_listed o (owners_at r n)) (drop gap numbers) ≡ odd_of (items_of r) o k x y
+    odd_behind bound o =
+        sym (parity_of_occurrences (λ m n. m < n) below_strict nat_eq nat_equality (λ n. is_listed o (owners_at r n)) (numbers_from 0 r.0)
+        (drop gap numbers) (below_rising 0 r.0) given)
+        ∙ by_number (λ p. is_listed o p.1 && is_crossed k x y p.0)
+        (λ n. parity (nat_eq n) (drop gap numbers) && is_listed o (owners_at r n)) 0 r.0 r.1 paired (λ i less.
+        let same : 0 + i ≡ i = omega arith in
+        ap (λ n. parity (nat_eq n) (drop gap numbers) && is_listed o (owners_at r n)) same
+        ∙ ap (λ b. b && is_listed o (owners_at r i)) (behind_crossed bound i less)
+        ∙ and_turned (is_crossed k x y (edge_at r i)) (is_listed o (owners_at r i)))
+      where
+        and_turned : (a b : Bool) → (a && b) ≡ (b && a)
+        and_turned true true = refl
+        and_turned true false = refl
+        and_turned false true = refl
+        and_turned false false = refl
 
-      given : (n : ℕ) → Has (drop gap numbers) n → Has (numbers_from 0 r.0) n
-      given n m =
-          let found = has_drop numbers gap n m in
-          let i = found.1 in
-          let member : Contains numbers n =
-          subst (Contains numbers) i.is (contains numbers (get_or numbers found.0 0) (has_get numbers found.0 0 i.inside)) in
-          let same : 0 + n ≡ n = omega arith in
-          subst (Has (numbers_from 0 r.0)) same (numbers_have 0 r.0 n ((row.exact n).0 member).0)
+        given : (n : ℕ) → Has (drop gap numbers) n → Has (numbers_from 0 r.0) n
+        given n m =
+            let found = has_drop numbers gap n m in
+            let i = found.1 in
+            let member : Contains numbers n =
+            subst (Contains numbers) i.is (contains numbers (get_or numbers found.0 0) (has_get numbers found.0 0 i.inside)) in
+            let same : 0 + n ≡ n = omega arith in
+            subst (Has (numbers_from 0 r.0)) same (numbers_have 0 r.0 n ((edges.exact n).0 member).0)

@@ -357,6 +357,6 @@ by_row-drop starts i h j k d le less =
     let q = get_or-drop i starts k d in
     coe 1 0 (z. (p z).y ≤ℤ (q z).y) (h (i + j) (i + k) d (omega arith) inside)
 
--- what code gives for `&starts[i..]`
-pub rest : (starts : List Start) (i : ℕ) → take (length starts - i) (drop i starts) ≡ drop i starts
-rest starts i = take_all (length starts - i) (drop i starts) (omega (arith, length-drop i starts))
+-- what code gives for `&xs[i..]`
+pub rest : {A : Type 0} (xs : List A) (i : ℕ) → take (length xs - i) (drop i xs) ≡ drop i xs
+rest xs i = take_all (length xs - i) (drop i xs) (omega (arith, length-drop i xs))

@@ -1,10 +1,15 @@
--- An edge's label, from the shapes that hold at the gap where it is judged.
+-- An edge's label, from the shapes that hold on its sides; and those of all edges of a row.
 use Rattle.std.proofs.Common.{◌≡◌, ◌⊎◌, inl, inr, ℕ, zero, suc, ◌<◌, ◌≤◌, Bool, true, false, ◌&&◌, ◌||◌, List, [], ◌∷◌}
-use Rattle.std.proofs.Common.{length, get_or, drop, refl, sym, ap, subst, ◌∙◌, ⊎_elim, arith}
+use Rattle.std.proofs.Common.{◌+◌, ℤ, pos, ◌+ℤ◌, ◌<ℤ◌, length, get_or, drop, refl, sym, ap, subst, ◌∙◌, ⊎_elim, arith}
+use Rattle.std.specs.Prelude.{int_lt}
+use Rattle.std.proofs.lemmas.Int.{ints}
+use Rattle.std.proofs.lemmas.List.{drop-drop, get_or-drop, get_or_default, length-drop}
+use Rattle.lay_int_laws.proofs.Signs.{linear}
+use Rattle.face_label_laws.proofs.Rows.{row_distance, row_inside, row_k, row_place, row_x, row_y}
 use Rattle.std.specs.List.{zip}
 use Rattle.lay_point.specs.declared.point.Point.{Point}
 use Rattle.lay_point.specs.Edges.{IsEdgeBefore}
-use Rattle.lay_point.specs.Parity.{xor, parity, is_crossed}
+use Rattle.lay_point.specs.Parity.{xor, parity, distance_right, is_crossed}
 use Rattle.lay_point.specs.Rising.{IsRising}
 use Rattle.lay_point.proofs.Members.{Has, contains, has, has-append_left, has-append_right}
 use Rattle.snap_chains.specs.declared.owner.Owner.{Owner}
@@ -12,16 +17,18 @@ use Rattle.snap_chains.specs.Owners.{IsOwnerBefore, owner_eq}
 use Rattle.snap_chains.specs.Rounded.{AreClean, AreEven, Owned, is_listed}
 use Rattle.face_label_laws.specs.Labels.{Item, answer_on, differs, items_of, odd_of, shapes_of}
 use Rattle.face_label_laws.specs.Laws.{AreLesserFirst}
-use Rattle.face_labels.specs.declared.inside.Inside.{Inside}
 use Rattle.face_labels.specs.declared.op.Op.{Op}
-use Rattle.face_labels.specs.Inside.{IsDifference, holds}
-use Rattle.face_labels.specs.Lines.{AreInside, BeginsAt, EndsBefore, edge_at, item_at, nowhere, owners_at}
+use Rattle.face_labels.specs.declared.sides.Sides.{Sides}
+use Rattle.face_labels.specs.Beside.{weight}
+use Rattle.face_labels.specs.Lines.{BeginsAt, EndsBefore, edge_at, item_at, nowhere, owners_at}
 use Rattle.face_labels.specs.Operations.{answer}
 use Rattle.face_labels.specs.Rows.{AreRowEdges, upward}
-use Rattle.face_labels.proofs.InsideLemmas.{listed_of, same_owner}
-use Rattle.face_labels.proofs.JudgeLemmas.{odd_behind}
-use Rattle.face_labels.proofs.NearLemmas.{at_k, at_x, at_y}
-use Rattle.face_labels.proofs.SideLemmas.{judged_there}
+use Rattle.face_labels.specs.Sides.{AreBehind, AreSidesOf, AreSound, IsDifference, holds_beside, is_odd_in}
+use Rattle.face_labels.proofs.OwnerLemmas.{same_owner}
+use Rattle.face_labels.proofs.JudgeLemmas.{IsBeforeIn, before_rising, before_strict, is_right, odd_behind}
+use Rattle.face_labels.proofs.NearLemmas.{at_k, at_x, at_y, near_in_row, right_there, upward_rises, weight_of}
+use Rattle.face_labels.proofs.RowLemmas.{before_by_number, has_get, spans_of}
+use Rattle.face_labels.proofs.SideLemmas.{crossed_beside, judged_beside}
 
 or_cases : (a b : Bool) → (a || b) ≡ true → (a ≡ true) ⊎ (b ≡ true)
 or_cases true b e = inl refl
@@ -54,33 +61,85 @@ zip_at (e ∷ es) [] n count less = absurd (omega arith)
 zip_at (e ∷ es) (o ∷ os) zero count less = inl refl
 zip_at (e ∷ es) (o ∷ os) (suc n) count less = inr (zip_at es os n (omega arith) (omega arith))
 
--- what is known of the edges, and of the row
+-- what is known of the row and of the gap
 pub record IsJudged (r : Owned) (n : ℕ) (numbers : List ℕ) (gap : ℕ) : Type 0 where
-  pub rising : IsRising IsEdgeBefore r.0
-  pub paired : length r.1 ≡ length r.0
-  pub even : AreEven r
-  pub clean : AreClean r.0
-  pub lesser : AreLesserFirst r.0
+  pub sound : AreSound r
   pub given : n < length r.0
   pub row : AreRowEdges r.0 (upward (edge_at r n)).0.y numbers
   pub bound : gap ≤ length numbers
   pub ends : EndsBefore r numbers (edge_at r n) gap
   pub begins : BeginsAt r numbers (edge_at r n) gap
 
-pub label_of : (op : Op) (r : Owned) (n : ℕ) (numbers : List ℕ) (gap : ℕ) → IsJudged r n numbers gap → (i : Inside)
-    → AreInside r (drop gap numbers) i → (owners : List Owner) → owners_at r n ≡ owners → IsRising IsOwnerBefore owners
-    → (result : Bool) → IsDifference op owners i result → result ≡ differs (answer op) (items_of r) (item_at r n)
-label_of op r n numbers gap h i inside owners own ordered result is =
+-- what those behind the gap tell is what holds beside the edge
+pub gap_beside : (r : Owned) (n : ℕ) (numbers : List ℕ) (gap : ℕ) → IsJudged r n numbers gap → (o : Owner)
+    → is_odd_in r (drop gap numbers) o ≡ holds_beside r n o
+gap_beside r n numbers gap h o =
+    let e = edge_at r n in
+    let there = zip_at r.0 r.1 n h.sound.paired h.given in
+    odd_behind r h.sound.rising h.sound.paired h.sound.clean (upward e).0.y (at_k e) (at_x e) (at_y e)
+    (near_in_row (weight e) (upward e).0 (upward e).1 (upward_rises e) (weight_of e)) numbers h.row gap
+    (λ j next. sym (right_there e (edge_at r (get_or numbers j 0))) ∙ h.ends j next)
+    (λ less. sym (right_there e (edge_at r (get_or numbers gap 0))) ∙ h.begins less) h.bound o
+    ∙ judged_beside r h.sound.even h.sound.clean h.sound.lesser o (item_at r n) there
+
+pub label_of : (op : Op) (r : Owned) (n : ℕ) (numbers : List ℕ) (gap : ℕ) → IsJudged r n numbers gap → (sides : Sides)
+    → AreSidesOf (owners_at r n) (is_odd_in r (drop gap numbers)) sides
+    → (result : Bool) → IsDifference op sides result → result ≡ differs (answer op) (items_of r) (item_at r n)
+unfolding differs
+label_of op r n numbers gap h sides own result is =
     let e = edge_at r n in
     let items = items_of r in
-    let there = zip_at r.0 r.1 n h.paired h.given in
-    let same : (o : Owner) → holds i o ≡ odd_of items o (at_k e) (at_x e) (at_y e) =
-    λ o. inside o ∙ odd_behind r h.rising h.paired h.even h.clean h.lesser e numbers gap h.row h.ends h.begins h.bound o in
-    let listed : (o : Owner) → parity (λ p. owner_eq p o) owners ≡ is_listed o (owners_at r n) =
-    λ o. listed_of owners o ordered ∙ sym (ap (is_listed o) own) in
-    is (shapes_of items)
-    (λ o t. contains (shapes_of items) o (odd_shape (λ p. is_crossed (at_k e) (at_x e) (at_y e) p.0) o items (sym (same o) ∙ t)))
-    (λ o m. contains (shapes_of items) o (shapes_have items (item_at r n) o there (subst (λ os. Has os o) (sym own) (has owners o m))))
+    let owners = owners_at r n in
+    let there = zip_at r.0 r.1 n h.sound.paired h.given in
+    let same = gap_beside r n numbers gap h in
+    is (is_odd_in r (drop gap numbers)) owners (shapes_of items) own
+    (λ o t. contains (shapes_of items) o (odd_shape (λ p. is_crossed (pos 2) (e.0.x +ℤ e.1.x) (e.0.y +ℤ e.1.y) p.0) o items
+    (sym (same o) ∙ t)))
+    (λ o m. contains (shapes_of items) o (shapes_have items (item_at r n) o there (listed_has o owners m)))
     ∙ (λ k. xor (answer_on (answer op) (shapes_of items) (λ o. same o k))
-    (answer_on (answer op) (shapes_of items) (λ o. xor (listed o k) (same o k))))
-    ∙ sym (judged_there r h.even h.clean h.lesser (answer op) (item_at r n) there)
+    (answer_on (answer op) (shapes_of items) (λ o. xor (is_listed o owners) (same o k))))
+
+-- ---- all edges of a row
+-- what those behind an edge of a row tell is what holds beside it
+pub row_behind : (r : Owned) → AreSound r → (row : ℤ) (numbers : List ℕ) → AreRowEdges r.0 row numbers → AreBehind r numbers
+row_behind r sound row numbers edges i less o =
+    let n = get_or numbers i 0 in
+    let e = edge_at r n in
+    let u = upward e in
+    let cross = (edges.exact n).0 (contains numbers n (has_get numbers i 0 less)) in
+    let s = spans_of row e (cross.1 nowhere) in
+    odd_behind r sound.rising sound.paired sound.clean row (row_k u) (row_x row u) (row_y row u) (row_place row u s) numbers edges (i + 1)
+    (λ j next. let at : i ≡ j = omega arith in
+    subst (λ l. is_right (row_k u) (row_x row u) (row_y row u) r (get_or numbers l 0) ≡ false) at
+    (not_right (distance_right (row_k u) (row_x row u) (row_y row u) u.0 u.1) (row_inside row u s).on))
+    (λ inside. let b = before_by_number (IsBeforeIn r.0 row) (before_strict r.0 row) numbers i (i + 1) 0
+    (before_rising r.0 row numbers (λ m h. (edges.exact m).0 (contains numbers m h)) edges.rising) (omega arith) inside in
+    let f = edge_at r (get_or numbers (i + 1) 0) in
+    let left = b.left nowhere in
+    right_then (distance_right (row_k u) (row_x row u) (row_y row u) (upward f).0 (upward f).1)
+    (omega (arith, linear, left, row_distance row u (upward f))))
+    (omega arith) o
+    ∙ crossed_beside r sound.even sound.clean sound.lesser o (item_at r n) (zip_at r.0 r.1 n sound.paired cross.0) row s
+  where
+    not_right : (z : ℤ) → z ≡ pos 0 → int_lt (pos 0) z ≡ false
+    not_right z e = grind (arith, ints)
+
+    right_then : (z : ℤ) → pos 0 <ℤ z → int_lt (pos 0) z ≡ true
+    right_then z e = grind (arith, ints)
+
+-- and so in a part of it up to its right end
+pub behind-drop : (r : Owned) (numbers : List ℕ) (gap : ℕ) → AreBehind r numbers → AreBehind r (drop gap numbers)
+behind-drop r numbers gap h i less o =
+    let inside : gap + i < length numbers = omega (arith, length-drop gap numbers) in
+    let next : (gap + i) + 1 ≡ gap + (i + 1) = omega arith in
+    ap (λ l. is_odd_in r l o) (drop-drop (i + 1) gap numbers ∙ ap (λ m. drop m numbers) (sym next))
+    ∙ h (gap + i) inside o
+    ∙ sym (ap (λ m. holds_beside r m o) (get_or-drop gap numbers i 0))
+
+-- the row's numbers are those of edges
+pub row_given : (edges : List (Point × Point)) (row : ℤ) (numbers xs : List ℕ) → xs ≡ numbers → AreRowEdges edges row numbers
+    → (k d : ℕ) → k < length xs → get_or xs k d < length edges
+row_given edges row numbers xs same h k d less =
+    let lt : k < length numbers = subst (λ ns. k < length ns) same less in
+    let own = (h.exact (get_or numbers k d)).0 (k, lt, sym (get_or_default numbers k d (get_or numbers k d) lt)) in
+    subst (λ ns. get_or ns k d < length edges) (sym same) own.0

@@ -1,13 +1,14 @@
 pub mod BandLemmas
-pub mod InsideLemmas
+pub mod CountLemmas
 pub mod JudgeLemmas
 pub mod KeptLemmas
 pub mod LabelLemmas
-pub mod LineLemmas
 pub mod NearLemmas
+pub mod OwnerLemmas
 pub mod PickedLemmas
 pub mod ProductLemmas
 pub mod RowLemmas
 pub mod SideLemmas
 pub mod StartLemmas
+pub mod StateLemmas
 pub use Rattle.face_label_laws.proofs.Upward

@@ -1,4 +1,4 @@
--- The answers on the two sides of an edge are those at the place at which it is judged.
+-- The shapes that hold beside an edge hold at the place at which it is judged, and in each row that it crosses.
 use Rattle.std.proofs.Common.{◌≡◌, ◌⊎◌, inl, inr, Bool, true, false, ◌&&◌, ◌||◌, cond, List, [], ◌∷◌, map}
 use Rattle.std.proofs.Common.{ℤ, pos, ◌+ℤ◌, ◌-ℤ◌, ◌*ℤ◌, ◌≤ℤ◌, ◌<ℤ◌, refl, sym, ap, subst, ◌∙◌, ⊎_elim, arith}
 use Rattle.std.specs.Prelude.{int_le, int_lt}
@@ -14,11 +14,12 @@ use Rattle.lay_point.proofs.EdgeOrder.{before_by_test, before_is_strict}
 use Rattle.lay_point.proofs.Members.{Has, contains}
 use Rattle.lay_point.proofs.Parity.{parity-map, parity_agree}
 use Rattle.snap_chains.specs.Meeting.{MeetAtEnds}
-use Rattle.face_label_laws.specs.Slides.{AreUpward}
+use Rattle.face_label_laws.specs.Slides.{AreUpward, IsPlaceInside}
+use Rattle.face_label_laws.proofs.Rows.{Spans, rises_in, row_inside, row_k, row_x, row_y}
 use Rattle.face_label_laws.proofs.Slide.{slide}
 use Rattle.snap_chains.specs.declared.owner.Owner.{Owner}
 use Rattle.snap_chains.specs.Rounded.{AreClean, AreEven, Owned, is_listed}
-use Rattle.face_label_laws.specs.Labels.{Item, answer_on, differs, differs_at, items_of, odd_of, shapes_of}
+use Rattle.face_label_laws.specs.Labels.{Item, items_of, odd_of}
 use Rattle.face_label_laws.specs.Laws.{AreLesserFirst}
 use Rattle.face_label_laws.proofs.CutLaw.{same_edge-Decides}
 use Rattle.face_labels.specs.Beside.{weight}
@@ -109,40 +110,36 @@ module _ (r : Owned) (even : AreEven r) (clean : AreClean r.0) (lesser : AreLess
   sum_turned a b = omega (arith, ints)
 
   -- the midpoint has the weight 1
-  at_midpoint : (op : Bool → Bool → Bool) (p : Item) → differs op items p
-      ≡ differs_at op items p (near_k (pos 1)) (near (pos 1) (upward p.0).0.x (upward p.0).1.x)
-      (near (pos 1) (upward p.0).0.y (upward p.0).1.y)
-  unfolding differs
-  at_midpoint op p =
-      sym (either (λ e. differs_at op items p (pos 2) (e.0.x +ℤ e.1.x) (e.0.y +ℤ e.1.y)) (λ a b. λ i.
-      differs_at op items p (pos 2) (sum_turned a.x b.x i) (sum_turned a.y b.y i)) p.0)
-      ∙ (λ i. differs_at op items p (pos 2) (one_times (upward p.0).0.x (upward p.0).1.x i) (one_times (upward p.0).0.y (upward p.0).1.y i))
+  at_midpoint : (o : Owner) (e : Point × Point) → odd_of items o (pos 2) (e.0.x +ℤ e.1.x) (e.0.y +ℤ e.1.y)
+      ≡ odd_of items o (near_k (pos 1)) (near (pos 1) (upward e).0.x (upward e).1.x) (near (pos 1) (upward e).0.y (upward e).1.y)
+  at_midpoint o e =
+      sym (either (λ f. odd_of items o (pos 2) (f.0.x +ℤ f.1.x) (f.0.y +ℤ f.1.y)) (λ a b. λ i.
+      odd_of items o (pos 2) (sum_turned a.x b.x i) (sum_turned a.y b.y i)) e)
+      ∙ (λ i. odd_of items o (pos 2) (one_times (upward e).0.x (upward e).1.x i) (one_times (upward e).0.y (upward e).1.y i))
 
   -- and all along an edge that isn't level the parities are the same
-  along : (o : Owner) (p : Item) → Has items p → (upward p.0).0.y <ℤ (upward p.0).1.y → (w : ℤ) → pos 1 ≤ℤ w
-      → odd_of items o (near_k (pos 1)) (near (pos 1) (upward p.0).0.x (upward p.0).1.x) (near (pos 1) (upward p.0).0.y (upward p.0).1.y)
-      ≡ odd_of items o (near_k w) (near w (upward p.0).0.x (upward p.0).1.x) (near w (upward p.0).0.y (upward p.0).1.y)
-  along o p m rises w whole =
+  along : (o : Owner) (p : Item) → Has items p → (upward p.0).0.y <ℤ (upward p.0).1.y → (k x y : ℤ)
+      → IsPlaceInside (upward p.0).0 (upward p.0).1 k x y
+      → odd_of items o k x y ≡ odd_of items o (pos 2) (p.0.0.x +ℤ p.0.1.x) (p.0.0.y +ℤ p.0.1.y)
+  along o p m rises k x y q =
       let a = (upward p.0).0 in
       let b = (upward p.0).1 in
-      sym (odd_upward o (near_k (pos 1)) (near (pos 1) a.x b.x) (near (pos 1) a.y b.y))
+      sym (odd_upward o k x y)
       ∙ slide risen are_upward (is_listed o) (even_upward o) (upward p.0, p.1) (has_map (λ (q : Item). (upward q.0, q.1)) items p m) rises
-      (near_k (pos 1)) (near (pos 1) a.x b.x) (near (pos 1) a.y b.y) (near_k w) (near w a.x b.x) (near w a.y b.y)
-      (near_inside (pos 1) a b rises (omega (arith, linear))) (near_inside w a b rises whole)
-      ∙ odd_upward o (near_k w) (near w a.x b.x) (near w a.y b.y)
+      k x y (near_k (pos 1)) (near (pos 1) a.x b.x) (near (pos 1) a.y b.y) q (near_inside (pos 1) a b rises (omega (arith, linear)))
+      ∙ odd_upward o (near_k (pos 1)) (near (pos 1) a.x b.x) (near (pos 1) a.y b.y)
+      ∙ sym (at_midpoint o p.0)
 
-  pub judged_there : (op : Bool → Bool → Bool) (p : Item) → Has items p → differs op items p
-      ≡ differs_at op items p (at_k p.0) (at_x p.0) (at_y p.0)
-  judged_there op p m = ⊎_elim
-      (λ (rises : (upward p.0).0.y <ℤ (upward p.0).1.y).
-      let same = λ (o : Owner). along o p m rises (weight p.0) (weight_of p.0).whole in
-      at_midpoint op p
-      ∙ (λ i. xor (answer_on op (shapes_of items) (λ o. same o i))
-      (answer_on op (shapes_of items) (λ o. xor (is_listed o p.1) (same o i)))))
+  -- at the place where it is judged
+  pub judged_beside : (o : Owner) (p : Item) → Has items p
+      → odd_of items o (at_k p.0) (at_x p.0) (at_y p.0) ≡ odd_of items o (pos 2) (p.0.0.x +ℤ p.0.1.x) (p.0.0.y +ℤ p.0.1.y)
+  judged_beside o p m = ⊎_elim
+      (λ (rises : (upward p.0).0.y <ℤ (upward p.0).1.y). along o p m rises (at_k p.0) (at_x p.0) (at_y p.0)
+      (near_inside (weight p.0) (upward p.0).0 (upward p.0).1 rises (weight_of p.0).whole))
       (λ (le : (upward p.0).1.y ≤ℤ (upward p.0).0.y).
-      at_midpoint op p
-      ∙ ap (λ w. differs_at op items p (near_k w) (near w (upward p.0).0.x (upward p.0).1.x) (near w (upward p.0).0.y (upward p.0).1.y))
-      (sym (level_weight (upward p.0).0.y (upward p.0).1.y le)))
+      ap (λ w. odd_of items o (near_k w) (near w (upward p.0).0.x (upward p.0).1.x) (near w (upward p.0).0.y (upward p.0).1.y))
+      (level_weight (upward p.0).0.y (upward p.0).1.y le)
+      ∙ sym (at_midpoint o p.0))
       (below_or_not (upward p.0).0.y (upward p.0).1.y)
     where
       level_weight : (a b : ℤ) → b ≤ℤ a → cond (int_lt (pos 0) (pos 2 *ℤ (b -ℤ a))) (pos 2 *ℤ (b -ℤ a) -ℤ pos 1) (pos 1) ≡ pos 1
@@ -150,3 +147,11 @@ module _ (r : Owned) (even : AreEven r) (clean : AreClean r.0) (lesser : AreLess
         where
           not_less : (z : ℤ) → z ≤ℤ pos 0 → int_lt (pos 0) z ≡ false
           not_less z h = grind (arith, ints)
+
+  -- and in each row that it crosses
+  pub crossed_beside : (o : Owner) (p : Item) → Has items p → (row : ℤ) → Spans row (upward p.0)
+      → odd_of items o (row_k (upward p.0)) (row_x row (upward p.0)) (row_y row (upward p.0))
+      ≡ odd_of items o (pos 2) (p.0.0.x +ℤ p.0.1.x) (p.0.0.y +ℤ p.0.1.y)
+  crossed_beside o p m row s =
+      along o p m (rises_in row (upward p.0) s) (row_k (upward p.0)) (row_x row (upward p.0)) (row_y row (upward p.0))
+      (row_inside row (upward p.0) s)

@@ -1,10 +1,11 @@
 pub mod Bands
 pub mod Beside
+pub mod Counts
 pub mod Crossings
-pub mod Inside
 pub mod Lines
 pub mod Operations
 pub mod Picked
 pub mod Rows
+pub mod Sides
 pub mod Starts
 pub use Rattle.face_label_laws.specs.Labels

@@ -56,7 +56,7 @@ fn labels_at(
         if start.y != line.row {
             line = line.later(alloc, edges, start.y, &starts[index..])?;
         }
-        labels[start.number] = line.differs(edges, start.number, op)?;
+        labels[start.number] = line.differs(alloc, edges, start.number, op)?;
     }
     Ok(labels)
 }

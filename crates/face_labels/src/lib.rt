@@ -7,11 +7,11 @@
 //! The row r is the height r + 1/2. `row_edges` lists the edges that cross a row, from left to
 //! right (`specs/Rows.antt`). `label` tells for each edge that begins in a band of rows whether it
 //! is one of the operation's (`specs/Bands.antt`). Each edge is judged close to its lower end
-//! (`specs/Beside.antt`): at its crossing of the row there, and at its midpoint if it is level. For
-//! each row in which an edge begins that is to be labelled, a gap moves between the row's edges to
-//! where the edge is judged, and each edge that it passes turns its owners in or out
-//! (`specs/Lines.antt`). So the shapes that hold at the gap are those that hold right of the edge,
-//! and with its owners turned those on its other side.
+//! (`specs/Beside.antt`): at its crossing of the row there, and at its midpoint if it is level. What
+//! holds right of an edge is the same all along it, so it is found once, where the edge begins, and kept
+//! (`specs/Sides.antt`): how many shapes of each input hold on its two sides (`specs/Counts.antt`), and
+//! which of its owners are among those on its right. Right of an edge holds what holds left of the next
+//! edge of its row.
 //!
 //! ```
 //! let clean = round(rt, alloc, &rings)?;
@@ -21,14 +21,15 @@
 
 mod band;
 mod beside;
+mod counts;
 mod crossing;
 mod exact;
-mod inside;
 mod labels;
 mod laws;
 mod line;
 mod op;
 mod rows;
+mod sides;
 mod start;
 #[cfg(test)]
 mod tests;

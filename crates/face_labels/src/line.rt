@@ -1,4 +1,4 @@
-//! A row with a gap between two of its edges, which moves to where an edge is judged.
+//! The edges of a row, with the shapes on the two sides of each.
 ghost use Rattle.std.specs.Prelude.{
   ◌≡◌,
   ◌<◌,
@@ -8,156 +8,127 @@ ghost use Rattle.std.specs.Prelude.{
   ◌<ℤ◌,
   All,
   IfOk,
+  None,
   OnOk,
-  drop,
   length,
+  replicate,
   slice_index,
 };
 ghost use Rattle.face_label_laws.specs.Labels.{differs, items_of};
 ghost use Rattle.face_label_laws.specs.Laws.{AreLesserFirst};
 ghost use Rattle.face_labels.specs.Beside.{is_right_of};
-ghost use Rattle.face_labels.specs.Lines.{AreInside, BeginsAt, EndsBefore, IsLine, TurnsListed, edge_at, item_at, owners_at};
+ghost use Rattle.face_labels.specs.Lines.{BeginsAt, EndsBefore, edge_at, item_at};
 ghost use Rattle.face_labels.specs.Operations.{answer};
-ghost use Rattle.face_labels.specs.Rows.{upward};
+ghost use Rattle.face_labels.specs.Rows.{AreRowEdges, upward};
+ghost use Rattle.face_labels.specs.Sides.{AreBehind, AreKnown, IsKnown, IsLine};
 ghost use Rattle.face_labels.specs.Starts.{AreByRow, BeginsBy, IsStartOf};
 
 use crate::beside::is_right_of;
-use crate::inside::Inside;
 use crate::op::Op;
 use crate::rows::{row_edges, row_edges_among};
+use crate::sides::Sides;
 use crate::start::{Start, add_begun};
 use lay_point::{Edge, NoMemory};
 use snap_chains::CleanEdges;
 use std::alloc::{AllocError, Global};
 
-/// The edges of a row, from left to right, and the shapes that hold at a gap.
+/// The edges of a row, from left to right. What holds on the sides of an edge is the same in all rows that
+/// it crosses, so it is found once, where the edge comes in.
 #[derive(Debug, Drop)]
 pub(crate) struct Line {
     pub row: i32,
     pub numbers: Vec<usize>,
-    /// How many of the edges are left of the gap.
-    pub gap: usize,
-    pub inside: Inside,
+    /// By the numbers of the edges, the sides of those of this row and of earlier ones.
+    pub known: Vec<Option<Sides>>,
 }
 
 impl Line {
-    /// Returns the line of the row, with the gap right of all edges.
+    /// Returns the line of the row.
     pub fn new(alloc: Global, edges: &CleanEdges, row: i32) -> Result<Line, NoMemory>
+        requires lesser { AreLesserFirst edges.now.0 }
         ensures line { IfOk result (IsLine edges.now) }
         ensures row { IfOk result (λ line. line.row ≡ row) }
     {
         let numbers = row_edges(alloc, edges, row)?;
-        let gap = numbers.len();
-        let inside = Inside::new(alloc);
+        let mut known = no_sides(alloc, edges.edges().len())?;
+        find_sides(alloc, edges, numbers.as_slice(), &mut known)?;
         Ok(Line {
             row,
             numbers,
-            gap,
-            inside,
+            known,
         })
     }
 
-    /// Returns the line of a later row, with the gap right of all edges. Of the edges of this line those
-    /// that end before it are left out. The starts, in order, are those of edges that begin behind this
-    /// line, and of later ones.
+    /// Returns the line of a later row. Of the edges of this line those that end before it are left out. The
+    /// starts, in order, are those of edges that begin behind this line, and of later ones.
     pub fn later(
-        &self,
+        self,
         alloc: Global,
         edges: &CleanEdges,
         row: i32,
         starts: &[Start],
     ) -> Result<Line, NoMemory>
-        requires line { IsLine edges.now self.now }
-        requires later { self.now.row ≤ℤ row }
+        requires line { IsLine edges.now self }
+        requires later { self.row ≤ℤ row }
         requires starts { All (IsStartOf edges.now) starts.now }
         requires rows { AreByRow starts.now }
-        requires begun { (n : ℕ) → n < length edges.now.0 → self.now.row <ℤ (upward (edge_at edges.now n)).0.y
+        requires begun { (n : ℕ) → n < length edges.now.0 → self.row <ℤ (upward (edge_at edges.now n)).0.y
             → (upward (edge_at edges.now n)).0.y ≤ℤ row → BeginsBy starts.now row n }
         ensures line { IfOk result (IsLine edges.now) }
         ensures row { IfOk result (λ line. line.row ≡ row) }
     {
-        let mut candidates = Vec::from_slice(alloc, self.numbers.as_slice())?;
+        let mut candidates = self.numbers;
+        let mut known = self.known;
         add_begun(&mut candidates, starts, row)?;
         let numbers = row_edges_among(alloc, edges, candidates.as_slice(), row)?;
-        let gap = numbers.len();
-        let inside = Inside::new(alloc);
+        find_sides(alloc, edges, numbers.as_slice(), &mut known)?;
         Ok(Line {
             row,
             numbers,
-            gap,
-            inside,
+            known,
         })
     }
 
-    /// Moves the gap to where the edge of this number is judged, which begins in this row. Returns
-    /// whether the operation's answers differ on its two sides.
-    pub fn differs(&mut self, edges: &CleanEdges, number: usize, op: Op) -> Result<bool, AllocError>
-        requires line { IsLine edges.now self.old }
+    /// Returns whether the operation's answers differ on the two sides of the edge of this number, which
+    /// begins in this row.
+    pub fn differs(
+        &self,
+        alloc: Global,
+        edges: &CleanEdges,
+        number: usize,
+        op: Op,
+    ) -> Result<bool, AllocError>
+        requires line { IsLine edges.now self.now }
         requires given { number < length edges.now.0 }
-        requires row { (upward (edge_at edges.now number)).0.y ≡ self.old.row }
-        requires lesser { AreLesserFirst edges.now.0 }
-        ensures value { IfOk result (λ label.
+        requires row { (upward (edge_at edges.now number)).0.y ≡ self.now.row }
+        ensures { IfOk result (λ label.
             label ≡ differs (answer op) (items_of edges.now) (item_at edges.now number)) }
-        ensures line { OnOk result (IsLine edges.now self.new) }
-        ensures row { OnOk result (self.new.row ≡ self.old.row) }
     {
-        let edge = edges.edges()[number];
         let numbers = self.numbers.as_slice();
-        let left = pass_left(edges, numbers, self.gap, edge, &mut self.inside)?;
-        let gap = pass_right(edges, numbers, left, edge, &mut self.inside)?;
-        self.gap = gap;
-        let label = self.inside.differs(edges.owners(number), op)?;
-        Ok(label)
+        let gap = gap_beside(edges, numbers, edges.edges()[number]);
+        let sides = Sides::of(alloc, edges, &numbers[gap..], self.known.as_slice(), number)?;
+        Ok(sides.differs(op))
     }
 }
 
-/// Moves the gap to the left over the edges that are right of the edge. Returns where it is then.
-fn pass_left(
-    edges: &CleanEdges,
-    numbers: &[usize],
-    from: usize,
-    edge: Edge,
-    inside: &mut Inside,
-) -> Result<usize, AllocError>
+/// Returns where in the row the edges begin that are right of the edge.
+fn gap_beside(edges: &CleanEdges, numbers: &[usize], edge: Edge) -> usize
     requires given { All (λ n. n < length edges.now.0) numbers.now }
-    requires bound { from ≤ length numbers.now }
-    requires inside { AreInside edges.now (drop from numbers.now) inside.old }
-    ensures bound { IfOk result (λ gap. gap ≤ from) }
-    ensures inside { IfOk result (λ gap. AreInside edges.now (drop gap numbers.now) inside.new) }
-    ensures before { IfOk result (EndsBefore edges.now numbers.now edge) }
+    ensures bound { result ≤ length numbers.now }
+    ensures before { EndsBefore edges.now numbers.now edge result }
+    ensures behind { BeginsAt edges.now numbers.now edge result }
 {
-    let mut gap = from;
-    while gap > 0 && is_right_at(edges, numbers, gap - 1, edge) {
-        gap -= 1;
-        turn_at(edges, numbers, gap, inside)?;
+    let mut low = 0;
+    let mut high = numbers.len();
+    while low < high {
+        let middle = low + (high - low) / 2;
+        if is_right_at(edges, numbers, middle, edge) {
+            high = middle;
+        } else {
+            low = middle + 1;
+        }
     }
-    Ok(gap)
-}
-
-/// Moves the gap to the right over the edges that aren't right of the edge. Returns where it is
-/// then.
-fn pass_right(
-    edges: &CleanEdges,
-    numbers: &[usize],
-    from: usize,
-    edge: Edge,
-    inside: &mut Inside,
-) -> Result<usize, AllocError>
-    requires given { All (λ n. n < length edges.now.0) numbers.now }
-    requires bound { from ≤ length numbers.now }
-    requires inside { AreInside edges.now (drop from numbers.now) inside.old }
-    requires before { EndsBefore edges.now numbers.now edge from }
-    ensures bound { IfOk result (λ gap. gap ≤ length numbers.now) }
-    ensures inside { IfOk result (λ gap. AreInside edges.now (drop gap numbers.now) inside.new) }
-    ensures before { IfOk result (EndsBefore edges.now numbers.now edge) }
-    ensures behind { IfOk result (BeginsAt edges.now numbers.now edge) }
-{
-    let mut gap = from;
-    while gap < numbers.len() && !is_right_at(edges, numbers, gap, edge) {
-        turn_at(edges, numbers, gap, inside)?;
-        gap += 1;
-    }
-    Ok(gap)
+    low
 }
 
 /// Returns whether the edge at this index of the row is right of the edge.
@@ -170,19 +141,44 @@ fn is_right_at(edges: &CleanEdges, numbers: &[usize], index: usize, edge: Edge) 
     is_right_of(edge, edges.edges()[number])
 }
 
-/// Turns the owners of the edge at this index of the row.
-fn turn_at(
+/// Returns a list of so many sides that aren't known.
+fn no_sides(alloc: Global, count: usize) -> Result<Vec<Option<Sides>>, AllocError>
+    ensures { IfOk result (λ known. known.items ≡ replicate count None) }
+{
+    let mut known = Vec::new(alloc);
+    for _ in 0..count {
+        known.push(None)?;
+    }
+    Ok(known)
+}
+
+/// Finds the sides of those of a row's edges of which they aren't known, from right to left.
+fn find_sides(
+    alloc: Global,
     edges: &CleanEdges,
     numbers: &[usize],
-    index: usize,
-    inside: &mut Inside,
+    known: &mut Vec<Option<Sides>>,
 ) -> Result<(), AllocError>
     requires given { All (λ n. n < length edges.now.0) numbers.now }
-    requires index { index < length numbers.now }
-    ensures { OnOk result
-        (TurnsListed (owners_at edges.now (slice_index numbers.now index)) inside.old inside.new) }
+    requires behind { AreBehind edges.now numbers.now }
+    requires known { AreKnown edges.now known.old.items }
+    ensures known { OnOk result (AreKnown edges.now known.new.items) }
+    ensures all { OnOk result (All (IsKnown known.new.items) numbers.now) }
 {
-    let number = numbers[index];
-    inside.turn_all(edges.owners(number))?;
+    let mut index = numbers.len();
+    while index > 0 {
+        index -= 1;
+        let number = numbers[index];
+        if known[number].is_none() {
+            let sides = Sides::of(
+                alloc,
+                edges,
+                &numbers[index + 1..],
+                known.as_slice(),
+                number,
+            )?;
+            known[number] = Some(sides);
+        }
+    }
     Ok(())
 }

@@ -5,8 +5,9 @@ use Rattle.std.proofs.lemmas.Int.{to_z-of_z}
 use Rattle.std.proofs.lemmas.List.{get_or_default, take_all}
 use Rattle.std.proofs.lemmas.List.Elements.{All-drop}
 use Rattle.face_labels.specs.declared.start.Start.{Start}
-use Rattle.face_labels.specs.Lines.{IsLine, edge_at}
+use Rattle.face_labels.specs.Lines.{edge_at}
 use Rattle.face_labels.specs.Rows.{upward}
+use Rattle.face_labels.specs.Sides.{IsLine}
 use Rattle.face_labels.specs.Starts.{AreByRow, BeginsBy, HasLabel, IsStartOf}
 use Rattle.face_labels.proofs.KeptLemmas.{begun_behind, by_row-drop, not_later, rest}
 use Rattle.face_labels.proofs.StartLemmas.{labels_more}
@@ -77,15 +78,19 @@ loop-index-preserved c =
       | else-start-line w ↦ search rules
     ] in
     let back : (i + 1) - 1 ≡ i = omega arith in
+    let after : IsLine c.args.edges.now c.if-start-line.line = elim c.if-start-line.branch [
+      | then-start-line+in_ok-line-2 w ↦ subst (IsLine c.args.edges.now) (sym w.line-is) w.in_ok-line-2.ensures.line
+      | else-start-line w ↦ subst (IsLine c.args.edges.now) (sym w.line-is) c.loop-index.invariant.line
+    ] in
     record {
       count = length-set c.loop-index.labels.items s.number c.in_ok-labels-2.field-0 ∙ c.loop-index.invariant.count;
-      line = c.in_ok-labels-2.ensures.line;
-      row = λ d. c.in_ok-labels-2.ensures.row ∙ sym here
+      line = after;
+      row = λ d. sym here
           ∙ ap (λ (z : Start). z.y) (get_or_default starts i origin d c.loop-index-test.true)
           ∙ sym (ap (λ k. (get_or starts k d).y) back);
       labels = labels_more c.args.op c.args.edges.now c.loop-index.labels.items starts i origin c.in_ok-labels-2.field-0
           c.loop-index-test.true
-          (omega (arith, own.given, c.loop-index.invariant.count)) c.in_ok-labels-2.ensures.value c.loop-index.invariant.labels;
+          (omega (arith, own.given, c.loop-index.invariant.count)) c.in_ok-labels-2.ensures c.loop-index.invariant.labels;
     }
 
 pub returns-clause-labels : goal.returns-clause-labels

@@ -1,44 +1,63 @@
 -- The gap is where the edge is judged.
-use Rattle.std.proofs.Common.{◌≡◌, [], get_or, subst, ◌∙◌}
+use Rattle.std.proofs.Common.{◌≡◌, ◌<◌, ◌-◌, ℕ, drop, take, length, get_or, sym, ap, subst, ◌∙◌}
+use Rattle.std.specs.Prelude.{All}
 use Rattle.std.proofs.lemmas.List.{get_or_default}
-use Rattle.std.proofs.lemmas.Option.{get_or_from_slice_get}
+use Rattle.std.proofs.lemmas.List.Elements.{All-drop}
 use Rattle.face_labels.specs.Lines.{BeginsAt, EndsBefore, edge_at, nowhere, owners_at}
 use Rattle.face_labels.specs.Rows.{AreRowEdges}
-use Rattle.face_labels.proofs.LabelLemmas.{label_of}
-use Rattle.face_labels.proofs.LineLemmas.{row_given}
+use Rattle.face_labels.specs.Sides.{AreBehind, AreSidesOf, IsKnown, is_odd_in}
+use Rattle.face_labels.proofs.KeptLemmas.{rest}
+use Rattle.face_labels.proofs.LabelLemmas.{behind-drop, label_of, row_behind, row_given}
 use Rattle.face_labels.proofs.line.Line.differs.Goals as goal
 
-pub pass_left-requires-clause-given : goal.pass_left-requires-clause-given
-pass_left-requires-clause-given c =
-    row_given c.args.edges.now.0 c.args.self.now.row c.args.self.now.numbers.items c.as_slice-numbers.result.now
-    c.as_slice-numbers.ensures.value
-    c.requires.line.edges
+pub gap_beside-gap-requires : goal.gap_beside-gap-requires
+gap_beside-gap-requires c =
+    record {
+      given = row_given c.args.edges.now.0 c.args.self.now.row c.args.self.now.numbers.items c.as_slice-numbers.result.now
+          c.as_slice-numbers.ensures.value c.requires.line.edges;
+    }
 
-pub pass_right-requires-clause-given : goal.pass_right-requires-clause-given
-pass_right-requires-clause-given c =
-    row_given c.args.edges.now.0 c.args.self.now.row c.args.self.now.numbers.items c.as_slice-numbers.result.now
-    c.as_slice-numbers.ensures.value
-    c.requires.line.edges
+pub of-requires-clause-behind : goal.of-requires-clause-behind
+of-requires-clause-behind c =
+    let r = c.args.edges.now in
+    let numbers = c.as_slice-numbers.result.now in
+    let gap = c.gap_beside-gap.result in
+    let rows = subst (AreRowEdges r.0 c.args.self.now.row) (sym c.as_slice-numbers.ensures.value) c.requires.line.edges in
+    subst (AreBehind r) (sym (rest numbers gap))
+    (behind-drop r numbers gap (row_behind r c.requires.line.sound c.args.self.now.row numbers rows))
 
-pub returns-clause-value : goal.returns-clause-value
-returns-clause-value c =
+pub of-requires-clause-all_given : goal.of-requires-clause-all_given
+of-requires-clause-all_given c =
+    let r = c.args.edges.now in
+    let numbers = c.as_slice-numbers.result.now in
+    let gap = c.gap_beside-gap.result in
+    let given = row_given r.0 c.args.self.now.row c.args.self.now.numbers.items numbers c.as_slice-numbers.ensures.value
+    c.requires.line.edges in
+    subst (All (λ n. n < length r.0)) (sym (rest numbers gap)) (All-drop (λ n. n < length r.0) gap numbers given)
+
+pub of-requires-clause-all : goal.of-requires-clause-all
+of-requires-clause-all c =
+    let numbers = c.as_slice-numbers.result.now in
+    let gap = c.gap_beside-gap.result in
+    let all = coe 1 0 (i. All (IsKnown (c.as_slice.ensures.value i)) (c.as_slice-numbers.ensures.value i)) c.requires.line.all in
+    subst (All (IsKnown c.as_slice.result.now)) (sym (rest numbers gap)) (All-drop (IsKnown c.as_slice.result.now) gap numbers all)
+
+pub returns : goal.returns
+returns c =
     let r = c.args.edges.now in
     let n = c.args.number in
     let numbers = c.as_slice-numbers.result.now in
+    let gap = c.gap_beside-gap.result in
     let at : c.index-edges-number.result ≡ edge_at r n =
     c.index-edges-number.is ∙ (λ i. get_or (c.edges.ensures.value i) n c.index-edges-number.result)
     ∙ get_or_default r.0 n c.index-edges-number.result nowhere c.requires.given in
-    let own : owners_at r n ≡ c.owners.result.now = get_or_from_slice_get r.1 n c.owners.result.now [] c.owners.ensures.value in
-    label_of c.args.op r n numbers c.in_ok-gap.gap (record {
-      rising = c.edges.ensures.rising;
-      paired = c.edges.ensures.paired;
-      even = c.edges.ensures.even;
-      clean = c.edges.ensures.clean;
-      lesser = c.requires.lesser;
+    label_of c.args.op r n numbers gap (record {
+      sound = c.requires.line.sound;
       given = c.requires.given;
       row = coe 1 0 (i. AreRowEdges r.0 (c.requires.row i) (c.as_slice-numbers.ensures.value i)) c.requires.line.edges;
-      bound = c.in_ok-gap.ensures.bound;
-      ends = subst (λ e. EndsBefore r numbers e c.in_ok-gap.gap) at c.in_ok-gap.ensures.before;
-      begins = subst (λ e. BeginsAt r numbers e c.in_ok-gap.gap) at c.in_ok-gap.ensures.behind;
-    }) c.pass_right.new.inside c.in_ok-gap.ensures.inside c.owners.result.now own c.owners.ensures.rising c.in_ok-label.label
-    c.in_ok-label.ensures.value
+      bound = c.gap_beside-gap.ensures.bound;
+      ends = subst (λ e. EndsBefore r numbers e gap) at c.gap_beside-gap.ensures.before;
+      begins = subst (λ e. BeginsAt r numbers e gap) at c.gap_beside-gap.ensures.behind;
+    }) c.in_ok-sides.sides
+    (subst (λ l. AreSidesOf (owners_at r n) (is_odd_in r l) c.in_ok-sides.sides) (rest numbers gap) c.in_ok-sides.ensures)
+    c.differs.result c.differs.ensures

@@ -1,0 +1,129 @@
+-- Sides of edges that are known, and what those of a row tell about a gap in it.
+use Rattle.std.proofs.Common.{◌≡◌, ⊎_elim, ℕ, zero, suc, ◌+◌, ◌-◌, ◌<◌, ◌≤◌, Bool, true, false, not, List, [], ◌∷◌, None, Option, Some}
+use Rattle.std.proofs.Common.{length, get_or, drop, map, set, replicate, add-one, refl, sym, ap, subst, ◌∙◌, arith}
+use Rattle.std.specs.Prelude.{All, nat_eq}
+use Rattle.std.specs.Option.{is_some}
+use Rattle.std.proofs.Math.Seq.{drop-cons}
+use Rattle.std.proofs.Math.ListN.{length-set}
+use Rattle.std.proofs.lemmas.Bool.Decides.{Decides-eqb}
+use Rattle.std.proofs.lemmas.List.{get_or-set_other, get_or-set_same, get_or_default}
+use Rattle.lay_point.specs.Parity.{xor, parity}
+use Rattle.snap_chains.specs.declared.owner.Owner.{Owner}
+use Rattle.snap_chains.specs.Rounded.{Owned, is_listed}
+use Rattle.face_labels.specs.declared.counts.Counts.{Counts}
+use Rattle.face_labels.specs.declared.sides.Sides.{Sides}
+use Rattle.face_labels.specs.Counts.{AreCounts}
+use Rattle.face_labels.specs.Lines.{owners_at}
+use Rattle.face_labels.specs.Sides.{AreBehind, AreKnown, AreSidesOf, IsKnown, holds_beside, is_odd_in, sides_at}
+
+pub counts_agree : (c : Counts) (f g : Owner → Bool) → ((o : Owner) → f o ≡ g o) → AreCounts c f → AreCounts c g
+counts_agree c f g same h = coe 0 1 (i. AreCounts c (λ o. same o i)) h
+
+pub sides_agree : (owners : List Owner) (f g : Owner → Bool) (sides : Sides) → ((o : Owner) → f o ≡ g o) → AreSidesOf owners f sides
+    → AreSidesOf owners g sides
+sides_agree owners f g sides same h = coe 0 1 (i. AreSidesOf owners (λ o. same o i) sides) h
+
+-- ---- behind an edge
+pub split_at : (numbers : List ℕ) (gap : ℕ) → gap < length numbers → drop gap numbers ≡ get_or numbers gap 0 ∷ drop (gap + 1) numbers
+split_at numbers gap less = drop-cons numbers gap 0 less ∙ ap (λ m. get_or numbers gap 0 ∷ drop m numbers) (sym (add-one gap))
+
+-- one edge more
+pub odd_split : (r : Owned) (numbers : List ℕ) (gap : ℕ) (o : Owner) → gap < length numbers
+    → is_odd_in r (drop gap numbers) o ≡ xor (is_listed o (owners_at r (get_or numbers gap 0))) (is_odd_in r (drop (gap + 1) numbers) o)
+odd_split r numbers gap o less = ap (λ l. is_odd_in r l o) (split_at numbers gap less)
+
+-- what holds left of an edge, by what holds beside it
+pub odd_left : (r : Owned) (numbers : List ℕ) (gap : ℕ) (o : Owner) → AreBehind r numbers → gap < length numbers
+    → is_odd_in r (drop gap numbers) o
+    ≡ xor (is_listed o (owners_at r (get_or numbers gap 0))) (holds_beside r (get_or numbers gap 0) o)
+odd_left r numbers gap o h less =
+    odd_split r numbers gap o less ∙ ap (xor (is_listed o (owners_at r (get_or numbers gap 0)))) (h gap less o)
+
+pub first_left : (r : Owned) (numbers : List ℕ) (known : List (Option Sides)) (m : ℕ) (sides : Sides) → AreBehind r numbers
+    → AreKnown r known → 0 < length numbers → get_or numbers 0 0 ≡ m → sides_at known m ≡ Some sides
+    → AreCounts sides.left (is_odd_in r numbers)
+first_left r numbers known m sides behind h less at is =
+    counts_agree sides.left (λ o. xor (is_listed o (owners_at r m)) (holds_beside r m o)) (is_odd_in r numbers)
+    (λ o. ap (λ k. xor (is_listed o (owners_at r k)) (holds_beside r k o)) (sym at) ∙ sym (odd_left r numbers 0 o behind less))
+    (h.sides m sides is).left
+
+-- ---- known sides
+none_some : (x : Sides) → None ≡ Some x → ⊥
+none_some x e = absurd cc
+
+pub known_not_none : (known : List (Option Sides)) (m : ℕ) → IsKnown known m → sides_at known m ≡ None → ⊥
+known_not_none known m h e = none_some h.0 (sym e ∙ h.1)
+
+-- at a number that isn't there, there are none
+pub known_inside : (known : List (Option Sides)) (m : ℕ) (sides : Sides) → sides_at known m ≡ Some sides → m < length known
+known_inside [] m sides e = absurd (none_some sides e)
+known_inside (k ∷ ks) zero sides e = omega arith
+known_inside (k ∷ ks) (suc m) sides e = let less = known_inside ks m sides e in omega arith
+
+none_at : (n m : ℕ) → sides_at (replicate n None) m ≡ None
+none_at zero m = refl
+none_at (suc n) zero = refl
+none_at (suc n) (suc m) = none_at n m
+
+pub none_known : (r : Owned) (n : ℕ) (known : List (Option Sides)) → known ≡ replicate n None → length known ≡ length r.0
+    → AreKnown r known
+none_known r n known e count = record {
+  count = count;
+  sides = λ m sides is. absurd (none_some sides (sym (none_at n m) ∙ sym (ap (λ l. sides_at l m) e) ∙ is));
+}
+
+some_same : (x y : Sides) → Some x ≡ Some y → x ≡ y
+some_same x y e = cc
+
+pub known_more : (r : Owned) (known : List (Option Sides)) (n : ℕ) (sides : Sides) → n < length known
+    → AreSidesOf (owners_at r n) (holds_beside r n) sides → AreKnown r known → AreKnown r (set known n (Some sides))
+known_more r known n sides less is h = record {
+  count = length-set known n (Some sides) ∙ h.count;
+  sides = λ m other found. by_number m other found (nat_eq n m) refl;
+}
+  where
+    by_number : (m : ℕ) (other : Sides) → sides_at (set known n (Some sides)) m ≡ Some other → (b : Bool) → nat_eq n m ≡ b
+        → AreSidesOf (owners_at r m) (holds_beside r m) other
+    by_number m other found true t =
+        let same = (Decides-eqb n m).0 t in
+        let here : sides ≡ other = some_same sides other (sym (get_or-set_same known n (Some sides) None less)
+        ∙ subst (λ k. sides_at (set known n (Some sides)) k ≡ Some other) (sym same) found) in
+        subst (λ k. AreSidesOf (owners_at r k) (holds_beside r k) other) same
+        (subst (AreSidesOf (owners_at r n) (holds_beside r n)) here is)
+    by_number m other found false t =
+        h.sides m other (sym (get_or-set_other known n m (Some sides) None (λ same. let t' = (Decides-eqb n m).1 (sym same) in absurd cc))
+        ∙ found)
+
+-- what is known stays so
+pub still_known : (known : List (Option Sides)) (n m : ℕ) (sides : Sides) → n < length known → IsKnown known m
+    → IsKnown (set known n (Some sides)) m
+still_known known n m sides less h = by_number (nat_eq n m) refl
+  where
+    by_number : (b : Bool) → nat_eq n m ≡ b → IsKnown (set known n (Some sides)) m
+    by_number true t =
+        let same = (Decides-eqb n m).0 t in
+        (sides, subst (λ k. sides_at (set known n (Some sides)) k ≡ Some sides) same (get_or-set_same known n (Some sides) None less))
+    by_number false t =
+        (h.0, get_or-set_other known n m (Some sides) None (λ same. let t' = (Decides-eqb n m).1 (sym same) in absurd cc) ∙ h.1)
+
+pub now_known : (known : List (Option Sides)) (n : ℕ) (sides : Sides) → n < length known → IsKnown (set known n (Some sides)) n
+now_known known n sides less = (sides, get_or-set_same known n (Some sides) None less)
+
+some_known : (x : Option Sides) → is_some x ≡ true → (sides : Sides) × (x ≡ Some sides)
+some_known None e = absurd cc
+some_known (Some sides) e = (sides, refl)
+
+pub known_by_test : (known : List (Option Sides)) (n : ℕ) (x : Option Sides) → x ≡ sides_at known n → is_some x ≡ true → IsKnown known n
+known_by_test known n x is e = let s = some_known x e in (s.0, sym is ∙ s.1)
+
+-- ---- all from an index on
+all_cons : (P : ℕ → Type 0) (x : ℕ) (xs : List ℕ) → P x → All P xs → All P (x ∷ xs)
+all_cons P x xs first rest zero d less = first
+all_cons P x xs first rest (suc k) d less = rest k d (omega arith)
+
+pub all_before : (P : ℕ → Type 0) (numbers : List ℕ) (i : ℕ) → 0 < i → i ≤ length numbers → P (get_or numbers (i - 1) 0)
+    → All P (drop i numbers) → All P (drop (i - 1) numbers)
+all_before P numbers i more bound first rest =
+    let back : (i - 1) + 1 ≡ i = omega arith in
+    subst (All P) (sym (split_at numbers (i - 1) (omega arith) ∙ ap (λ k. get_or numbers (i - 1) 0 ∷ drop k numbers) back))
+    (all_cons P (get_or numbers (i - 1) 0) (drop i numbers) first rest)

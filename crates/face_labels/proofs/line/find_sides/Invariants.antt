@@ -1,0 +1,15 @@
+use Rattle.std.proofs.Common.{◌≤◌, drop, length}
+use Rattle.std.specs.Prelude.{All}
+use Rattle.face_labels.specs.Sides.{AreKnown, IsKnown}
+use Rattle.face_labels.proofs.line.find_sides.Given as goal
+
+-- the sides of those from the index on are known
+abbrev pub invariant-loop-index : goal.invariant-loop-index
+invariant-loop-index l = record {
+  bound : l.index ≤ length l.numbers;
+  known : AreKnown l.edges l.known.items;
+  all : All (IsKnown l.known.items) (drop l.index l.numbers);
+}
+
+abbrev pub decreases-loop-index : goal.decreases-loop-index
+decreases-loop-index l = l.index

@@ -1,0 +1,69 @@
+-- The shapes that hold on the two sides of an edge.
+use Rattle.std.specs.Prelude.{◌≡◌, ℕ, ◌+◌, ◌<◌, All, pos, ◌+ℤ◌, Bool, Contains, IsTrue, List, None, Option, Some, drop, length, map, slice_index, slice_index_or}
+use Rattle.lay_point.specs.Edges.{IsEdgeBefore}
+use Rattle.lay_point.specs.Parity.{xor, parity}
+use Rattle.lay_point.specs.Rising.{IsRising}
+use Rattle.snap_chains.specs.declared.owner.Owner.{Owner}
+use Rattle.snap_chains.specs.Rounded.{AreClean, AreEven, Owned, is_listed}
+use Rattle.face_label_laws.specs.Labels.{answer_on, items_of, odd_of}
+use Rattle.face_label_laws.specs.Laws.{AreLesserFirst}
+use Rattle.face_labels.specs.declared.line.Line.{Line}
+use Rattle.face_labels.specs.declared.op.Op.{Op}
+use Rattle.face_labels.specs.declared.sides.Sides.{Sides}
+use Rattle.face_labels.specs.Counts.{AreCounts}
+use Rattle.face_labels.specs.Lines.{edge_at, owners_at}
+use Rattle.face_labels.specs.Operations.{answer}
+use Rattle.face_labels.specs.Rows.{AreRowEdges}
+
+-- an odd number of these edges lists the owner
+abbrev pub is_odd_in : Owned → List ℕ → Owner → Bool
+is_odd_in r numbers o = parity (λ n. is_listed o (owners_at r n)) numbers
+
+-- the owner holds right of the edge's midpoint, or above that of a level edge
+abbrev pub holds_beside : Owned → ℕ → Owner → Bool
+holds_beside r n o =
+    odd_of (items_of r) o (pos 2) ((edge_at r n).0.x +ℤ (edge_at r n).1.x) ((edge_at r n).0.y +ℤ (edge_at r n).1.y)
+
+-- these are edges of a row from some place on to its right end: what holds beside each is what those behind it tell
+abbrev pub AreBehind : Owned → List ℕ → Type 0
+AreBehind r numbers = (i : ℕ) → i < length numbers → (o : Owner) → is_odd_in r (drop (i + 1) numbers) o
+    ≡ holds_beside r (slice_index numbers i) o
+
+-- of an edge with these owners, if those shapes hold on its right
+pub record AreSidesOf (owners : List Owner) (holds : Owner → Bool) (sides : Sides) : Type 0 where
+  pub right : AreCounts sides.right holds
+  pub left : AreCounts sides.left (λ o. xor (is_listed o owners) (holds o))
+  pub inside : sides.inside.items ≡ map holds owners
+
+-- whether the operation's answers on the two sides differ, of whatever edge they are, if only these shapes can hold there
+abbrev pub IsDifference : Op → Sides → Bool → Type 0
+IsDifference op sides result = (holds : Owner → Bool) (owners shapes : List Owner) → AreSidesOf owners holds sides
+    → ((o : Owner) → IsTrue (holds o) → Contains shapes o)
+    → ((o : Owner) → IsTrue (is_listed o owners) → Contains shapes o)
+    → result ≡ xor (answer_on (answer op) shapes holds) (answer_on (answer op) shapes (λ o. xor (is_listed o owners) (holds o)))
+
+abbrev pub sides_at : List (Option Sides) → ℕ → Option Sides
+sides_at known n = slice_index_or known n None
+
+-- those that are known are those of the edges of their numbers
+pub record AreKnown (r : Owned) (known : List (Option Sides)) : Type 0 where
+  pub count : length known ≡ length r.0
+  pub sides : (n : ℕ) (sides : Sides) → sides_at known n ≡ Some sides → AreSidesOf (owners_at r n) (holds_beside r n) sides
+
+abbrev pub IsKnown : List (Option Sides) → ℕ → Type 0
+IsKnown known n = (sides : Sides) × (sides_at known n ≡ Some sides)
+
+-- clean rounded edges, each from its lesser end to the other
+pub record AreSound (r : Owned) : Type 0 where
+  pub rising : IsRising IsEdgeBefore r.0
+  pub paired : length r.1 ≡ length r.0
+  pub even : AreEven r
+  pub clean : AreClean r.0
+  pub lesser : AreLesserFirst r.0
+
+-- the edges of the row, with the sides of all of them
+pub record IsLine (r : Owned) (line : Line) : Type 0 where
+  pub sound : AreSound r
+  pub edges : AreRowEdges r.0 line.row line.numbers.items
+  pub known : AreKnown r line.known.items
+  pub all : All (IsKnown line.known.items) line.numbers.items
