@@ -16,7 +16,7 @@ use Rattle.face_labels.specs.declared.counts.Counts.{Counts}
 use Rattle.face_labels.specs.declared.op.Op.{Op}
 use Rattle.face_labels.specs.Counts.{AreCounts, all_shapes, count, count_in}
 use Rattle.face_labels.specs.Operations.{answer}
-use Rattle.face_labels.proofs.OwnerLemmas.{input_itself, same_input, same_owner}
+use Rattle.face_labels.proofs.OwnerLemmas.{any_true, input_itself, owner_itself, same_input, same_owner}
 
 -- ---- counts
 count_same : (f g : ℕ → Bool) (n : ℕ) → ((k : ℕ) → k < n → f k ≡ g k) → count f n ≡ count g n
@@ -86,13 +86,6 @@ counted f (suc n) h = by_test (f n) refl h (λ g. counted f n g)
 -- ---- a shape that is turned
 abbrev pub of_input : Input → (Owner → Bool) → ℕ → Bool
 of_input input holds shape = holds (record { input = input; shape = shape })
-
-owner_itself : (o : Owner) → owner_eq o o ≡ true
-owner_itself o = both (input_eq o.input o.input) (input_itself o.input) ((Decides-eqb o.shape o.shape).1 refl)
-  where
-    both : (a : Bool) → a ≡ true → {b : Bool} → b ≡ true → (a && b) ≡ true
-    both true e f = f
-    both false e f = absurd cc
 
 other_false : (o p : Owner) → (o ≡ p → ⊥) → owner_eq o p ≡ false
 other_false o p apart = by_test (owner_eq o p) refl
@@ -191,15 +184,6 @@ none_counted (suc n) = none_counted n
 any_none : {A : Type 0} (test : A → Bool) (xs : List A) → ((x : A) → test x ≡ false) → list_any test xs ≡ false
 any_none test [] none = refl
 any_none test (x ∷ xs) none = ap₂ (λ a b. a || b) (none x) (any_none test xs none)
-
-pub any_true : {A : Type 0} (test : A → Bool) (xs : List A) (x : A) → Has xs x → test x ≡ true → list_any test xs ≡ true
-any_true test [] x m t = absurd m
-any_true test (y ∷ ys) x (inl same) t = ap (λ b. b || list_any test ys) (ap test same ∙ t)
-any_true test (y ∷ ys) x (inr m) t = later (test y) (any_true test ys x m t)
-  where
-    later : (a : Bool) {b : Bool} → b ≡ true → (a || b) ≡ true
-    later true h = refl
-    later false h = h
 
 -- some shape of the input holds exactly where there is one to count
 some_of_count : (input : Input) (n : ℕ) (holds : Owner → Bool) (shapes : List Owner) → n ≡ count_in input holds

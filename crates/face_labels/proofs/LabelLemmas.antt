@@ -29,6 +29,7 @@ use Rattle.face_labels.proofs.JudgeLemmas.{IsBeforeIn, before_rising, before_str
 use Rattle.face_labels.proofs.NearLemmas.{at_k, at_x, at_y, near_in_row, right_there, upward_rises, weight_of}
 use Rattle.face_labels.proofs.RowLemmas.{before_by_number, has_get, spans_of}
 use Rattle.face_labels.proofs.SideLemmas.{crossed_beside, judged_beside}
+use Rattle.face_labels.proofs.StateLemmas.{sides_agree}
 
 or_cases : (a b : Bool) → (a || b) ≡ true → (a ≡ true) ⊎ (b ≡ true)
 or_cases true b e = inl refl
@@ -82,22 +83,26 @@ gap_beside r n numbers gap h o =
     (λ less. sym (right_there e (edge_at r (get_or numbers gap 0))) ∙ h.begins less) h.bound o
     ∙ judged_beside r h.sound.even h.sound.clean h.sound.lesser o (item_at r n) there
 
-pub label_of : (op : Op) (r : Owned) (n : ℕ) (numbers : List ℕ) (gap : ℕ) → IsJudged r n numbers gap → (sides : Sides)
-    → AreSidesOf (owners_at r n) (is_odd_in r (drop gap numbers)) sides
+-- the label, from what holds on the edge's sides
+pub label_beside : (op : Op) (r : Owned) (n : ℕ) → AreSound r → n < length r.0 → (sides : Sides)
+    → AreSidesOf (owners_at r n) (holds_beside r n) sides
     → (result : Bool) → IsDifference op sides result → result ≡ differs (answer op) (items_of r) (item_at r n)
 unfolding differs
-label_of op r n numbers gap h sides own result is =
+label_beside op r n sound given sides own result is =
     let e = edge_at r n in
     let items = items_of r in
     let owners = owners_at r n in
-    let there = zip_at r.0 r.1 n h.sound.paired h.given in
-    let same = gap_beside r n numbers gap h in
-    is (is_odd_in r (drop gap numbers)) owners (shapes_of items) own
-    (λ o t. contains (shapes_of items) o (odd_shape (λ p. is_crossed (pos 2) (e.0.x +ℤ e.1.x) (e.0.y +ℤ e.1.y) p.0) o items
-    (sym (same o) ∙ t)))
+    let there = zip_at r.0 r.1 n sound.paired given in
+    is (holds_beside r n) owners (shapes_of items) own
+    (λ o t. contains (shapes_of items) o (odd_shape (λ p. is_crossed (pos 2) (e.0.x +ℤ e.1.x) (e.0.y +ℤ e.1.y) p.0) o items t))
     (λ o m. contains (shapes_of items) o (shapes_have items (item_at r n) o there (listed_has o owners m)))
-    ∙ (λ k. xor (answer_on (answer op) (shapes_of items) (λ o. same o k))
-    (answer_on (answer op) (shapes_of items) (λ o. xor (is_listed o owners) (same o k))))
+
+pub label_of : (op : Op) (r : Owned) (n : ℕ) (numbers : List ℕ) (gap : ℕ) → IsJudged r n numbers gap → (sides : Sides)
+    → AreSidesOf (owners_at r n) (is_odd_in r (drop gap numbers)) sides
+    → (result : Bool) → IsDifference op sides result → result ≡ differs (answer op) (items_of r) (item_at r n)
+label_of op r n numbers gap h sides own result is =
+    label_beside op r n h.sound h.given sides (sides_agree (owners_at r n) (is_odd_in r (drop gap numbers)) (holds_beside r n) sides
+    (gap_beside r n numbers gap h) own) result is
 
 -- ---- all edges of a row
 -- what those behind an edge of a row tell is what holds beside it

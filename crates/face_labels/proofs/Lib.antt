@@ -4,6 +4,7 @@ pub mod JudgeLemmas
 pub mod KeptLemmas
 pub mod LabelLemmas
 pub mod NearLemmas
+pub mod OrderLemmas
 pub mod OwnerLemmas
 pub mod PickedLemmas
 pub mod ProductLemmas

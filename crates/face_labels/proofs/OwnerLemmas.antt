@@ -38,6 +38,22 @@ same_owner o p e =
     let second = (Decides-eqb o.shape p.shape).0 both.1 in
     λ i. record { input = first i; shape = second i }
 
+pub owner_itself : (o : Owner) → owner_eq o o ≡ true
+owner_itself o = both (input_eq o.input o.input) (input_itself o.input) ((Decides-eqb o.shape o.shape).1 refl)
+  where
+    both : (a : Bool) → a ≡ true → {b : Bool} → b ≡ true → (a && b) ≡ true
+    both true e f = f
+    both false e f = absurd cc
+
+pub any_true : {A : Type 0} (test : A → Bool) (xs : List A) (x : A) → Has xs x → test x ≡ true → list_any test xs ≡ true
+any_true test [] x m t = absurd m
+any_true test (y ∷ ys) x (inl same) t = ap (λ b. b || list_any test ys) (ap test same ∙ t)
+any_true test (y ∷ ys) x (inr m) t = later (test y) (any_true test ys x m t)
+  where
+    later : (a : Bool) {b : Bool} → b ≡ true → (a || b) ≡ true
+    later true h = refl
+    later false h = h
+
 -- ---- each owner once
 -- where one passes, none behind it does
 pub parity_any : {A : Type 0} (Before : A → A → Type 0) → IsStrictOrder Before → (test : A → Bool) (xs : List A) → IsRising Before xs
@@ -87,3 +103,6 @@ turn_more owners i d o x less =
 pub listed_of : (owners : List Owner) (o : Owner) → IsRising IsOwnerBefore owners → parity (λ p. owner_eq p o) owners ≡ is_listed o owners
 listed_of owners o h =
     parity_any IsOwnerBefore owners_are_strict (λ p. owner_eq p o) owners h (λ p q before same. other_owner p q o before same)
+
+pub listed_at : (owners : List Owner) (i : ℕ) (o : Owner) → i < length owners → get_or owners i o ≡ o → is_listed o owners ≡ true
+listed_at owners i o less is = any_true (λ p. owner_eq p o) owners o (subst (Has owners) is (has_get owners i o less)) (owner_itself o)

@@ -38,3 +38,8 @@ IsLeftOf edges row m n = (d : Point × Point) → IsLeftInRow row (slice_index_o
 pub record AreRowEdges (edges : List (Point × Point)) (row : ℤ) (numbers : List ℕ) : Type 0 where
   pub exact : (n : ℕ) → Contains numbers n ↔ CrossesRow edges row n
   pub rising : IsRising (IsLeftOf edges row) numbers
+
+-- numbers of edges that cross the row, from left to right
+pub record AreSomeRowEdges (edges : List (Point × Point)) (row : ℤ) (numbers : List ℕ) : Type 0 where
+  pub members : (n : ℕ) → Contains numbers n → CrossesRow edges row n
+  pub rising : IsRising (IsLeftOf edges row) numbers

@@ -37,12 +37,6 @@ AreByRow starts = (i j : ℕ) (d : Start) → i ≤ j → j < length starts → 
 abbrev pub BeginsBy : List Start → ℤ → ℕ → Type 0
 BeginsBy starts row n = (s : Start) × Contains starts s × (s.number ≡ n) × (s.y ≤ℤ row)
 
--- to the old numbers are added those of the edges that begin in this row or before it
-pub record AddsBegun (starts : List Start) (row : ℤ) (old new : List ℕ) : Type 0 where
-  pub kept : (n : ℕ) → Contains old n → Contains new n
-  pub begun : (n : ℕ) → BeginsBy starts row n → Contains new n
-  pub all : (n : ℕ) → Contains new n → Contains old n ⊎ BeginsBy starts row n
-
 -- of the edges that begin in the rows between two of the starts none is left out
 abbrev pub AreAllStarts : Owned → List Start → Type 0
 AreAllStarts r starts = (s t : Start) (n : ℕ) → Contains starts s → Contains starts t → n < length r.0

@@ -27,6 +27,7 @@ mod exact;
 mod labels;
 mod laws;
 mod line;
+mod moves;
 mod op;
 mod rows;
 mod sides;

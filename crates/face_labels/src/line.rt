@@ -2,33 +2,32 @@
 ghost use Rattle.std.specs.Prelude.{
   ◌≡◌,
   ◌<◌,
-  ◌≤◌,
   ℕ,
   ◌≤ℤ◌,
   ◌<ℤ◌,
   All,
+  Contains,
   IfOk,
   None,
   OnOk,
   length,
   replicate,
-  slice_index,
 };
 ghost use Rattle.face_label_laws.specs.Labels.{differs, items_of};
 ghost use Rattle.face_label_laws.specs.Laws.{AreLesserFirst};
-ghost use Rattle.face_labels.specs.Beside.{is_right_of};
-ghost use Rattle.face_labels.specs.Lines.{BeginsAt, EndsBefore, edge_at, item_at};
+ghost use Rattle.face_labels.specs.Lines.{edge_at, item_at};
 ghost use Rattle.face_labels.specs.Operations.{answer};
-ghost use Rattle.face_labels.specs.Rows.{AreRowEdges, upward};
+ghost use Rattle.face_labels.specs.Rows.{upward};
 ghost use Rattle.face_labels.specs.Sides.{AreBehind, AreKnown, IsKnown, IsLine};
+ghost use Rattle.face_labels.specs.declared.start.Start.{Start};
 ghost use Rattle.face_labels.specs.Starts.{AreByRow, BeginsBy, IsStartOf};
 
-use crate::beside::is_right_of;
+use crate::moves::{gap_beside, insert_begun, still_crossing};
 use crate::op::Op;
-use crate::rows::{row_edges, row_edges_among};
+use crate::rows::row_edges;
 use crate::sides::Sides;
-use crate::start::{Start, add_begun};
-use lay_point::{Edge, NoMemory};
+use crate::start::Start;
+use lay_point::NoMemory;
 use snap_chains::CleanEdges;
 use std::alloc::{AllocError, Global};
 
@@ -60,7 +59,7 @@ impl Line {
     }
 
     /// Returns the line of a later row. Of the edges of this line those that end before it are left out. The
-    /// starts, in order, are those of edges that begin behind this line, and of later ones.
+    /// starts, in order, are those of edges that begin behind this line, none of them before that row.
     pub fn later(
         self,
         alloc: Global,
@@ -72,15 +71,15 @@ impl Line {
         requires later { self.row ≤ℤ row }
         requires starts { All (IsStartOf edges.now) starts.now }
         requires rows { AreByRow starts.now }
+        requires behind { (s : Start) → Contains starts.now s → row ≤ℤ s.y }
         requires begun { (n : ℕ) → n < length edges.now.0 → self.row <ℤ (upward (edge_at edges.now n)).0.y
             → (upward (edge_at edges.now n)).0.y ≤ℤ row → BeginsBy starts.now row n }
         ensures line { IfOk result (IsLine edges.now) }
         ensures row { IfOk result (λ line. line.row ≡ row) }
     {
-        let mut candidates = self.numbers;
+        let mut numbers = still_crossing(alloc, edges, self.numbers.as_slice(), row)?;
         let mut known = self.known;
-        add_begun(&mut candidates, starts, row)?;
-        let numbers = row_edges_among(alloc, edges, candidates.as_slice(), row)?;
+        insert_begun(edges, &mut numbers, starts, row)?;
         find_sides(alloc, edges, numbers.as_slice(), &mut known)?;
         Ok(Line {
             row,
@@ -104,41 +103,14 @@ impl Line {
         ensures { IfOk result (λ label.
             label ≡ differs (answer op) (items_of edges.now) (item_at edges.now number)) }
     {
+        if let Some(sides) = self.known[number].as_ref() {
+            return Ok(sides.differs(op));
+        }
         let numbers = self.numbers.as_slice();
         let gap = gap_beside(edges, numbers, edges.edges()[number]);
         let sides = Sides::of(alloc, edges, &numbers[gap..], self.known.as_slice(), number)?;
         Ok(sides.differs(op))
     }
-}
-
-/// Returns where in the row the edges begin that are right of the edge.
-fn gap_beside(edges: &CleanEdges, numbers: &[usize], edge: Edge) -> usize
-    requires given { All (λ n. n < length edges.now.0) numbers.now }
-    ensures bound { result ≤ length numbers.now }
-    ensures before { EndsBefore edges.now numbers.now edge result }
-    ensures behind { BeginsAt edges.now numbers.now edge result }
-{
-    let mut low = 0;
-    let mut high = numbers.len();
-    while low < high {
-        let middle = low + (high - low) / 2;
-        if is_right_at(edges, numbers, middle, edge) {
-            high = middle;
-        } else {
-            low = middle + 1;
-        }
-    }
-    low
-}
-
-/// Returns whether the edge at this index of the row is right of the edge.
-fn is_right_at(edges: &CleanEdges, numbers: &[usize], index: usize, edge: Edge) -> bool
-    requires given { All (λ n. n < length edges.now.0) numbers.now }
-    requires index { index < length numbers.now }
-    ensures { result ≡ is_right_of edge (edge_at edges.now (slice_index numbers.now index)) }
-{
-    let number = numbers[index];
-    is_right_of(edge, edges.edges()[number])
 }
 
 /// Returns a list of so many sides that aren't known.

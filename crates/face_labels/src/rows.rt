@@ -1,7 +1,7 @@
 //! The edges of a row, from left to right.
-ghost use Rattle.std.specs.Prelude.{◌≡◌, ◌<◌, ℕ, All, Contains, IfOk, length, map};
+ghost use Rattle.std.specs.Prelude.{◌≡◌, All, IfOk, map};
 ghost use Rattle.face_labels.specs.Crossings.{IsCrossingOf, crossing_numbers};
-ghost use Rattle.face_labels.specs.Rows.{AreRowEdges, CrossesRow};
+ghost use Rattle.face_labels.specs.Rows.{AreRowEdges};
 
 use crate::crossing::Crossing;
 use crate::upward::crosses_row;
@@ -31,48 +31,6 @@ fn crossings(alloc: Global, edges: &[Edge], row: i32) -> Result<Vec<Crossing>, A
         let edge = edges[number];
         if crosses_row(edge, row) {
             crossings.push(Crossing::new(edge, number, row))?;
-        }
-    }
-    Ok(crossings)
-}
-
-/// Returns the numbers of those of the candidates that cross the height `row + 1/2`, from left to
-/// right. All edges that do so are among them, and an edge may be there more than once. Takes least
-/// time where they are in order.
-pub(crate) fn row_edges_among(
-    alloc: Global,
-    edges: &CleanEdges,
-    candidates: &[usize],
-    row: i32,
-) -> Result<Vec<usize>, NoMemory>
-    requires given { All (λ n. n < length edges.now.0) candidates.now }
-    requires all { (n : ℕ) → CrossesRow edges.now.0 row n → Contains candidates.now n }
-    ensures { IfOk result (λ numbers. AreRowEdges edges.now.0 row numbers.items) }
-{
-    let mut crossings = crossings_among(alloc, edges.edges(), candidates, row)?;
-    crossings.sort_unstable_by(|first: &Crossing, second: &Crossing| first.compare(*second));
-    let mut numbers = numbers_of(alloc, crossings.as_slice())?;
-    numbers.dedup();
-    Ok(numbers)
-}
-
-/// Returns where those of the candidates that cross the row do so.
-fn crossings_among(
-    alloc: Global,
-    edges: &[Edge],
-    candidates: &[usize],
-    row: i32,
-) -> Result<Vec<Crossing>, AllocError>
-    requires { All (λ n. n < length edges.now) candidates.now }
-    ensures all { IfOk result (λ crossings. (n : ℕ) → CrossesRow edges.now row n
-        → Contains candidates.now n → Contains (map (λ c. c.number) crossings.items) n) }
-    ensures places { IfOk result (λ crossings. All (IsCrossingOf edges.now row) crossings.items) }
-{
-    let mut crossings = Vec::new(alloc);
-    for number in candidates {
-        let edge = edges[*number];
-        if crosses_row(edge, row) {
-            crossings.push(Crossing::new(edge, *number, row))?;
         }
     }
     Ok(crossings)

@@ -9,8 +9,7 @@ ghost use Rattle.std.specs.Prelude.{
   MatchOption,
   false,
   length,
-  map,
-  true,
+  slice_index_or,
 };
 ghost use Rattle.snap_chains.specs.declared.owner.Owner.{Owner};
 ghost use Rattle.snap_chains.specs.Owners.{owner_eq};
@@ -97,25 +96,23 @@ fn holds_right(edges: &CleanEdges, behind: &[usize], known: &[Option<Sides>], ow
     ensures { result ≡ is_odd_in edges.now behind.now owner }
 {
     for number in behind {
-        let sides = known[*number].as_ref().unwrap();
-        let found = inside_of(edges.owners(*number), sides.inside.as_slice(), owner);
-        if let Some(inside) = found {
-            return !inside;
+        if let Some(index) = index_of(edges.owners(*number), owner) {
+            let sides = known[*number].as_ref().unwrap();
+            let inside = sides.inside.as_slice();
+            return !inside[index];
         }
     }
     false
 }
 
-/// Returns whether the owner is inside, if it is one of these.
-fn inside_of(owners: &[Owner], inside: &[bool], owner: Owner) -> Option<bool>
-    requires { length inside.now ≡ length owners.now }
-    ensures { (holds : Owner → Bool) → inside.now ≡ map holds owners.now
-        → MatchOption result (is_listed owner owners.now ≡ false)
-        (λ found. (is_listed owner owners.now ≡ true) × (found ≡ holds owner)) }
+/// Returns the index of the owner, if it is one of these.
+fn index_of(owners: &[Owner], owner: Owner) -> Option<usize>
+    ensures { MatchOption result (is_listed owner owners.now ≡ false)
+        (λ index. (index < length owners.now) × (slice_index_or owners.now index owner ≡ owner)) }
 {
     for index in 0..owners.len() {
         if is_same(owners[index], owner) {
-            return Some(inside[index]);
+            return Some(index);
         }
     }
     None

@@ -1,9 +1,9 @@
 //! Where edges begin.
-ghost use Rattle.std.specs.Prelude.{◌≡◌, int_lt, IfOk, OnOk};
+ghost use Rattle.std.specs.Prelude.{◌≡◌, int_lt, IfOk};
 ghost use Rattle.std.specs.List.Sorted.{IsPermutation};
 ghost use Rattle.lay_point.specs.declared.point.Point.{Point};
 ghost use Rattle.face_label_laws.specs.Laws.{AreLesserFirst};
-ghost use Rattle.face_labels.specs.Starts.{AddsBegun, AreByRow, start_of, starts_of};
+ghost use Rattle.face_labels.specs.Starts.{AreByRow, start_of, starts_of};
 
 use crate::band::Band;
 use crate::upward::upward;
@@ -51,26 +51,8 @@ pub(crate) fn starts(alloc: Global, edges: &[Edge], band: Band) -> Result<Vec<St
     Ok(starts)
 }
 
-/// Adds the numbers of the edges that begin in the row or before it.
-pub(crate) fn add_begun(
-    numbers: &mut Vec<usize>,
-    starts: &[Start],
-    row: i32,
-) -> Result<(), AllocError>
-    requires { AreByRow starts.now }
-    ensures { OnOk result (AddsBegun starts.now row numbers.old.items numbers.new.items) }
-{
-    for start in starts {
-        if begins_after(*start, row) {
-            return Ok(());
-        }
-        numbers.push(start.number)?;
-    }
-    Ok(())
-}
-
 /// Returns whether the edge begins after the row.
-fn begins_after(start: Start, row: i32) -> bool
+pub(crate) fn begins_after(start: Start, row: i32) -> bool
     ensures { result ≡ int_lt row start.y }
 {
     row < start.y

@@ -1,4 +1,4 @@
-use Rattle.std.proofs.Common.{◌≡◌, ◌+◌, ◌-◌, ◌<◌, ◌≤ℤ◌, ◌<ℤ◌, ℕ, pos, get_or, length, to_z, of_z, w32, sym, subst, ap, ◌∙◌, arith, rules}
+use Rattle.std.proofs.Common.{◌≡◌, ◌+◌, ◌-◌, ◌<◌, ◌≤ℤ◌, ◌<ℤ◌, ℕ, pos, Contains, get_or, length, to_z, of_z, w32, sym, subst, ap, ◌∙◌, arith, rules}
 use Rattle.std.specs.Prelude.{All}
 use Rattle.std.proofs.Math.ListN.{length-set}
 use Rattle.std.proofs.lemmas.Int.{to_z-of_z}
@@ -9,7 +9,7 @@ use Rattle.face_labels.specs.Lines.{edge_at}
 use Rattle.face_labels.specs.Rows.{upward}
 use Rattle.face_labels.specs.Sides.{IsLine}
 use Rattle.face_labels.specs.Starts.{AreByRow, BeginsBy, HasLabel, IsStartOf}
-use Rattle.face_labels.proofs.KeptLemmas.{begun_behind, by_row-drop, not_later, rest}
+use Rattle.face_labels.proofs.KeptLemmas.{begun_behind, by_row-drop, none_earlier, not_later, rest}
 use Rattle.face_labels.proofs.StartLemmas.{labels_more}
 use Rattle.face_labels.proofs.labels.labels_at.Goals as goal
 use Rattle.face_labels.proofs.labels.labels_at.Goals.{then-start-line+in_ok-line-2, else-start-line}
@@ -48,6 +48,16 @@ later-requires-clause-begun c =
     c.loop-index.invariant.row (λ d. at ∙ ap (λ (z : Start). z.y) (get_or_default starts i origin d c.loop-index-test.true)) in
     subst (λ l. (n : ℕ) → n < length r.0 → c.loop-index.line.row <ℤ (upward (edge_at r n)).0.y → (upward (edge_at r n)).0.y ≤ℤ row
     → BeginsBy l row n) (sym (rest starts i)) all
+
+pub later-requires-clause-behind : goal.later-requires-clause-behind
+unfolding origin
+later-requires-clause-behind c = λ s found.
+    let starts = c.args.starts.now in
+    let i = c.loop-index.index in
+    let first = get_or starts i origin in
+    let at : to_z w32 (of_z w32 first.y) ≡ first.y = to_z-of_z w32 first.y (search rules) in
+    subst (λ z. z ≤ℤ s.y) (sym at)
+    (none_earlier starts i origin s c.requires.rows c.loop-index-test.true (subst (λ l. Contains l s) (rest starts i) found))
 
 pub differs-requires-clause-line : goal.differs-requires-clause-line
 differs-requires-clause-line c =

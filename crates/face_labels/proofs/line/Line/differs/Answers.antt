@@ -1,13 +1,14 @@
 -- The gap is where the edge is judged.
-use Rattle.std.proofs.Common.{◌≡◌, ◌<◌, ◌-◌, ℕ, drop, take, length, get_or, sym, ap, subst, ◌∙◌}
+use Rattle.std.proofs.Common.{◌≡◌, ◌<◌, ◌-◌, ℕ, drop, take, length, get_or, sym, ap, subst, ◌∙◌, None, Some, arith}
+use Rattle.std.specs.Option.{option_copied}
 use Rattle.std.specs.Prelude.{All}
 use Rattle.std.proofs.lemmas.List.{get_or_default}
 use Rattle.std.proofs.lemmas.List.Elements.{All-drop}
 use Rattle.face_labels.specs.Lines.{BeginsAt, EndsBefore, edge_at, nowhere, owners_at}
 use Rattle.face_labels.specs.Rows.{AreRowEdges}
-use Rattle.face_labels.specs.Sides.{AreBehind, AreSidesOf, IsKnown, is_odd_in}
+use Rattle.face_labels.specs.Sides.{AreBehind, AreSidesOf, IsKnown, is_odd_in, sides_at}
 use Rattle.face_labels.proofs.KeptLemmas.{rest}
-use Rattle.face_labels.proofs.LabelLemmas.{behind-drop, label_of, row_behind, row_given}
+use Rattle.face_labels.proofs.LabelLemmas.{behind-drop, label_beside, label_of, row_behind, row_given}
 use Rattle.face_labels.proofs.line.Line.differs.Goals as goal
 
 pub gap_beside-gap-requires : goal.gap_beside-gap-requires
@@ -60,4 +61,15 @@ returns c =
       begins = subst (λ e. BeginsAt r numbers e gap) at c.gap_beside-gap.ensures.behind;
     }) c.in_ok-sides.sides
     (subst (λ l. AreSidesOf (owners_at r n) (is_odd_in r l) c.in_ok-sides.sides) (rest numbers gap) c.in_ok-sides.ensures)
-    c.differs.result c.differs.ensures
+    c.differs-2.result c.differs-2.ensures
+
+pub returns-in-Some : goal.returns-in-Some
+returns-in-Some c =
+    let r = c.args.edges.now in
+    let known = c.args.self.now.known.items in
+    let n = c.args.number in
+    let given : n < length known = omega (arith, c.requires.given, c.requires.line.known.count) in
+    let is : sides_at known n ≡ Some c.in-Some.sides.now =
+    sym (c.index.ensures ∙ get_or_default known n _ None given) ∙ sym c.as_ref.ensures.value ∙ ap option_copied c.in-Some.is in
+    label_beside c.args.op r n c.requires.line.sound c.requires.given c.in-Some.sides.now
+    (c.requires.line.known.sides n c.in-Some.sides.now is) c.differs.result c.differs.ensures

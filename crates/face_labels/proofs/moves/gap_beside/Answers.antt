@@ -3,7 +3,7 @@ use Rattle.std.proofs.Common.{◌≡◌, ◌+◌, ◌<◌, ◌≤◌, ◌-◌, �
 use Rattle.std.specs.Prelude.{slice_index}
 use Rattle.face_labels.specs.Beside.{is_right_of}
 use Rattle.face_labels.specs.Lines.{edge_at}
-use Rattle.face_labels.proofs.line.gap_beside.Goals as goal
+use Rattle.face_labels.proofs.moves.gap_beside.Goals as goal
 
 pub loop-low-preserved : goal.loop-low-preserved
 loop-low-preserved c =

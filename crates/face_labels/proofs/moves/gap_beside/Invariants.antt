@@ -1,6 +1,6 @@
 use Rattle.std.proofs.Common.{◌≤◌, ◌-◌, length}
 use Rattle.face_labels.specs.Lines.{BeginsAt, EndsBefore}
-use Rattle.face_labels.proofs.line.gap_beside.Given as goal
+use Rattle.face_labels.proofs.moves.gap_beside.Given as goal
 
 -- those before `low` aren't right of the edge, and that at `high` is
 abbrev pub invariant-loop-low : goal.invariant-loop-low

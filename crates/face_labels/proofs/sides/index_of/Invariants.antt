@@ -1,6 +1,6 @@
 use Rattle.std.proofs.Common.{◌≡◌, false, take}
 use Rattle.snap_chains.specs.Rounded.{is_listed}
-use Rattle.face_labels.proofs.sides.inside_of.Given as goal
+use Rattle.face_labels.proofs.sides.index_of.Given as goal
 
 -- the owner is none of those so far
 abbrev pub invariant-loop-index : goal.invariant-loop-index
