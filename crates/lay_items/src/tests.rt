@@ -5,6 +5,7 @@ use super::*;
 use lay_cells::{CellId, Cells};
 use lay_point::{LayerName, Point, Quarter, Ring, Turn};
 use std::alloc::Global;
+use std::collections::BTreeMap;
 use std::test::*;
 
 /// Returns the id of an item of a text.
@@ -187,5 +188,59 @@ fn a_slice_keeps_its_points_where_its_item_is_taken_out(rt: HostRuntime) -> Resu
     assert_eq!(rt; without.size(), 0);
     let want = [(-5, -3), (5, -3), (5, 3), (-5, 3)];
     assert!(rt; slice.iter().map(|point| (point.x, point.y)).eq(want));
+    Ok(())
+}
+
+/// Returns the layout with an item under the id, or without one.
+fn written(
+    alloc: Global,
+    before: &Version,
+    id: ItemId,
+    item: Option<Item>,
+) -> Result<Version, Fail> {
+    let mut writes = Vec::new(alloc);
+    writes.push((id, item))?;
+    Ok(before.with(alloc, &writes, &[])?)
+}
+
+/// Returns whether the layout has the items of a plain map, in its order, all in one cell.
+fn has_items_of(version: &Version, plain: &BTreeMap<ItemId, Item>) -> bool {
+    let mut items = version.iter();
+    let mut standing = version.items(CellId::Symbol(7));
+    for (id, item) in plain {
+        if items.next() != Some((*id, item)) || standing.next() != Some((*id, item)) {
+            return false;
+        }
+    }
+    items.next().is_none() && standing.next().is_none() && version.size() == plain.len()
+}
+
+// Could catch pages that are cut before they are full, empty pages that are kept, and versions whose pages are
+// written though they share them.
+#[test]
+fn versions_keep_their_items_while_pages_are_cut_and_go(rt: HostRuntime) -> Result<(), Fail> {
+    let alloc = rt.alloc();
+    let mut version = Version::new(alloc)?;
+    let mut plain = BTreeMap::new(alloc);
+    let mut kept = Vec::new(alloc);
+    for seq in 1..66 {
+        let item = square(alloc, CellId::Symbol(7), b"A", 2)?;
+        let next = written(alloc, &version, id(seq), Some(item.copy(alloc)?))?;
+        kept.push((version, plain.clone()?))?;
+        plain.insert(id(seq), item)?;
+        assert!(rt; next.pages() == if seq < 65 { 1 } else { 2 });
+        version = next;
+    }
+    for seq in 1..66 {
+        let next = written(alloc, &version, id(seq), None)?;
+        assert!(rt; seq > 1 || (next.size() == 64 && next.pages() == 2));
+        kept.push((version, plain.clone()?))?;
+        plain.remove(&id(seq));
+        version = next;
+    }
+    assert!(rt; version.size() == 0 && version.pages() == 0 && plain.is_empty());
+    for (version, plain) in &kept {
+        assert!(rt; has_items_of(version, plain));
+    }
     Ok(())
 }

@@ -115,3 +115,20 @@ fn a_hundred_thousand_writes_leave_what_a_plain_map_has(rt: HostRuntime) -> Resu
     }
     Ok(())
 }
+
+// Could catch entries that are lent twice or passed over where a page or a book ends, and a start behind the key.
+#[test]
+fn entries_are_lent_in_order_from_a_key_on(rt: HostRuntime) -> Result<(), Fail> {
+    let alloc = rt.alloc();
+    let mut map: Pages<u32, u32> = Pages::new(alloc);
+    for key in 0..5000 {
+        map = map.with(alloc, key, Some(key))?;
+    }
+    assert!(rt; map.iter().map(|(key, _)| key).eq(0..5000));
+    assert!(rt; map.from(2500).map(|(key, _)| key).eq(2500..5000));
+    let less = map.with(alloc, 2500, None)?;
+    assert!(rt; less.from(2500).map(|(key, _)| key).eq(2501..5000));
+    assert!(rt; less.from(5000).next().is_none() && map.from(0).next() == Some((0, &0)));
+    assert!(rt; !less.is_same(&map) && less.with(alloc, 2500, Some(2500))?.is_same(&map));
+    Ok(())
+}
