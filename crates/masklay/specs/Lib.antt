@@ -3,3 +3,4 @@ pub mod Outcome
 pub mod Output
 pub mod Run
 pub mod Launch
+pub mod Telling

@@ -1,12 +1,14 @@
 //! The command line.
-ghost use Rattle.std.specs.Prelude.{◌≡◌, ◌≤◌, ◌<◌, IfErr, IfOk, vec_len};
+ghost use Rattle.std.specs.Prelude.{◌≡◌, ◌≤◌, ◌<◌, ◌⊎◌, IfErr, IfOk, vec_len};
+ghost use Rattle.masklay.specs.declared.command_line.OptionsFault.TheVariants.{Clap};
 ghost use Rattle.masklay.specs.Launch.{EndsEarly};
 ghost use Rattle.masklay.specs.Run.{IsRun};
+ghost use Rattle.masklay.specs.Telling.{Tells};
 
-use crate::program::{Options, Status, put, put_memory, run};
+use crate::program::{MAX_WORKERS, Options, Status, put, put_memory, run};
 use byte_io::{In, Out};
 use clap::error::ErrorKind;
-use clap::{Command, Error};
+use clap::{Arg, ArgAction, Command, Error};
 use std::alloc::Global;
 use std::thread::Threads;
 use std::{env, io};
@@ -15,9 +17,18 @@ use std::{env, io};
 const NOT_UTF_8: &[u8] =
     b"error: invalid UTF-8 was detected in an argument\n\nFor more information, try '--help'.\n";
 
-/// What is wrong with the word that ends the options.
-const NO_OPTIONS: &[u8] =
-    b"error: unexpected argument '--' found\n\nFor more information, try '--help'.\n";
+/// What is wrong with a number of workers.
+const BAD_WORKERS: &[u8] =
+    b"error: the number of workers is from 1 to 64\n\nFor more information, try '--help'.\n";
+
+/// What help says behind the options.
+const EXAMPLE: &str =
+    "Coordinates of steps are database units of 5 nanometres; those of the CIF text are hundredths of a micrometre, times the scale of its definition.
+
+Example, in a shell:
+  printf '%%cif\nL M; B 40 20 0 0; E\n%%session 1\nopen\nbox top M 0 0 30 30\nor top M M Q\ncommit\n' | masklay
+
+Statuses: 0 all was written, refused steps included; 2 a mistake in the command line; 3 a fault of the job, 4 of its CIF text, each a line on standard output, and in words on standard error; 5 a device failed; 6 out of memory.";
 
 /// Why the words of the command line can't be had.
 #[derive(Clone, Copy, Debug, PartialEq, Eq)]
@@ -28,9 +39,9 @@ pub enum WordsFault {
     NoMemory,
 }
 
-/// Runs the program as the words of its command line say, of which the first names it. There is no
-/// option yet: with an argument nothing is read, help is written to `out`, and what is wrong to
-/// `errors`.
+/// Runs the program as the words of its command line say, of which the first names it. Where clap takes them
+/// for a mistake, or as asking for help or the version, nothing is read: help is written to `out`, and what is
+/// wrong to `errors`.
 pub fn launch<I: In, O: Out, E: Out>(
     rt: &(impl Threads + Sync),
     alloc: Global,
@@ -39,40 +50,85 @@ pub fn launch<I: In, O: Out, E: Out>(
     out: &mut O,
     errors: &mut E,
 ) -> Status
-    ensures run { IfOk words (λ words. vec_len words ≤ 1
+    ensures plain { IfOk words (λ words. vec_len words ≤ 1
         → IsRun I.remaining I.counts O.written O.failures input.old input.new out.old out.new result
-        × (errors.new ≡ errors.old)) }
-    ensures early { IfOk words (λ words. 1 < vec_len words
-        → EndsEarly O.written O.failures E.written E.failures
-        out.old out.new errors.old errors.new result × (input.new ≡ input.old)) }
+        × Tells E.written E.failures errors.old errors.new result) }
+    ensures options { IfOk words (λ words. 1 < vec_len words
+        → (IsRun I.remaining I.counts O.written O.failures input.old input.new out.old out.new result
+        × Tells E.written E.failures errors.old errors.new result)
+        ⊎ (EndsEarly O.written O.failures E.written E.failures
+        out.old out.new errors.old errors.new result × (input.new ≡ input.old))) }
     ensures wordless { IfErr words (λ _. EndsEarly O.written O.failures E.written E.failures
         out.old out.new errors.old errors.new result × (input.new ≡ input.old)) }
 {
     match words {
-        Ok(words) if words.len() <= 1 => run(rt, alloc, Options {}, input, out),
-        Ok(words) => refuse(alloc, &words, out, errors),
+        Ok(words) if words.len() <= 1 => run(rt, alloc, Options { workers: 1 }, input, out, errors),
+        Ok(words) => match options_of(alloc, &words) {
+            Ok(options) => run(rt, alloc, options, input, out, errors),
+            Err(fault) => refuse(alloc, fault, out, errors),
+        },
         Err(WordsFault::NotUtf8) => put(errors, NOT_UTF_8, Status::CommandLine),
         Err(WordsFault::NoMemory) => put_memory(out),
     }
 }
 
-/// Writes what `clap` says of words with an argument.
-fn refuse<O: Out, E: Out>(alloc: Global, words: &[String], out: &mut O, errors: &mut E) -> Status
-    ensures { EndsEarly O.written O.failures E.written E.failures
-        out.old out.new errors.old errors.new result }
-{
-    match command(alloc).try_get_matches_from(words) {
-        // To clap the word `--` ends the options, of which there are none.
-        Ok(_) => put(errors, NO_OPTIONS, Status::CommandLine),
-        Err(error) => say(alloc, &error, out, errors),
+/// Why the words say no options.
+#[derive(Drop)]
+enum OptionsFault {
+    /// clap's answer: a mistake, or the text that was asked for.
+    Clap(Error),
+    /// The number of workers is none, or none from 1 to 64.
+    Workers,
+}
+
+impl From<Error> for OptionsFault {
+    ghost from_gives = { λ error fault. fault ≡ Clap error };
+
+    fn from(error: Error) -> OptionsFault {
+        OptionsFault::Clap(error)
     }
 }
 
-/// The program's name and what it does.
-fn command<'a>(alloc: Global) -> Command<'a> {
-    Command::new(alloc, "masklay").about(
-        "Reads a job from standard input: a CIF text and steps on its layout. Writes the replies, their order and the CIF text of the layout that they lead to.",
-    )
+/// Returns the options that the words say.
+fn options_of(alloc: Global, words: &[String]) -> Result<Options, OptionsFault> {
+    let matches = command(alloc)?.try_get_matches_from(words)?;
+    let Some(word) = matches.get_str("workers") else {
+        return Ok(Options { workers: 1 });
+    };
+    match word.parse::<u8>() {
+        Ok(workers) if 1 <= workers && workers <= MAX_WORKERS => Ok(Options { workers }),
+        _ => Err(OptionsFault::Workers),
+    }
+}
+
+/// Writes what is said in place of a run.
+fn refuse<O: Out, E: Out>(alloc: Global, fault: OptionsFault, out: &mut O, errors: &mut E) -> Status
+    ensures { EndsEarly O.written O.failures E.written E.failures
+        out.old out.new errors.old errors.new result }
+{
+    match fault {
+        OptionsFault::Workers => put(errors, BAD_WORKERS, Status::CommandLine),
+        OptionsFault::Clap(error) => say(alloc, &error, out, errors),
+    }
+}
+
+/// The program's name, what it does, and its options.
+fn command<'a>(alloc: Global) -> Result<Command<'a>, Error> {
+    let workers = Arg::new(alloc, "workers")
+        .long("workers")
+        .value_name("N")
+        .help(
+            "How many threads find the edges of an operation, from 1 to 64; the output is the same",
+        )
+        .action(ArgAction::Set);
+    let command = Command::new(alloc, "masklay")
+        .version("0.1.0")
+        .about(
+            "Reads a job from standard input: a CIF text and steps on its layout. Writes the replies, their order and the CIF text of the layout that they lead to.",
+        )
+        .after_help(EXAMPLE)
+        .arg(workers)?;
+    Ok(command)
 }
 
 /// Writes clap's text: help to `out`, and what is wrong to `errors`.

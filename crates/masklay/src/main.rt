@@ -2,7 +2,7 @@
 //! it, and writes the replies to the steps, their order and the CIF text of the layout that they lead to.
 //!
 //! `main` only wires the standard streams to [`command_line::launch`], which is generic over a device
-//! that gives bytes and two that take them. Without an argument it is [`program::run`]: a
+//! that gives bytes and two that take them. It is [`program::run`] with the options that the words say: a
 //! `job_text::Job` is read from the input, a `session_core::Machine` takes its steps, and then the output
 //! is written; what it takes of memory is taken before its first byte. What is written is a function of
 //! the bytes that were read (`IsOutput` of `specs/Output.antt`).
@@ -10,7 +10,9 @@
 //! ```text
 //! let mut input = MemoryIn::new(b"%cif\nE\n", 4096, 1000);
 //! let mut out = MemoryOut::new(alloc, 4096, 1000, Failing::ByErr);
-//! assert_eq!(rt; run(&rt, alloc, Options {}, &mut input, &mut out), Status::Done);
+//! let mut errors = MemoryOut::new(alloc, 4096, 1000, Failing::ByErr);
+//! let options = Options { workers: 4 };
+//! assert_eq!(rt; run(&rt, alloc, options, &mut input, &mut out, &mut errors), Status::Done);
 //! assert_eq!(rt; out.written(), b"DS 1 1 2;\nDF;\nC 1;\nE\n");
 //! ```
 #![tactic(auto)]

@@ -2,58 +2,75 @@
 ghost use Rattle.std.specs.Prelude.{◌≡◌};
 ghost use Rattle.masklay.specs.Output.{Ends, Writes, memory_output};
 ghost use Rattle.masklay.specs.Run.{IsRun};
+ghost use Rattle.masklay.specs.Telling.{Tells};
 
+mod empty_top;
+mod options;
 mod outcome;
 mod output;
 mod reading;
 mod status;
+mod telling;
 #[cfg(test)]
 mod tests;
 
 use byte_io::{In, Out, put_all};
+pub use options::{MAX_WORKERS, Options};
 use outcome::finish;
 use output::{write_finished, write_stop};
 use reading::{ReadFault, read_all};
 pub use status::Status;
 use std::alloc::Global;
 use std::thread::Threads;
-
-/// How the program is to run. There is no choice as yet.
-#[derive(Clone, Copy, Debug, PartialEq, Eq)]
-pub struct Options {}
+use telling::{tell_of_stop, tell_of_top};
 
 /// Reads a job from the input, runs it and writes its replies, their order and the CIF text of the
 /// layout, all after the last step; or the line that says why there is none. Booleans are rounded in as
-/// many threads as there are processors.
-pub fn run<I: In, O: Out>(
+/// many threads as there are processors. A fault is told to `errors` too, in words for a person, and so is a
+/// top cell that is empty while the layout has symbols.
+pub fn run<I: In, O: Out, E: Out>(
     rt: &(impl Threads + Sync),
     alloc: Global,
-    _options: Options,
+    options: Options,
     input: &mut I,
     out: &mut O,
+    errors: &mut E,
 ) -> Status
-    ensures { IsRun I.remaining I.counts O.written O.failures input.old input.new
+    ensures run { IsRun I.remaining I.counts O.written O.failures input.old input.new
         out.old out.new result }
+    ensures told { Tells E.written E.failures errors.old errors.new result }
 {
     match read_all(alloc, input) {
-        Ok(bytes) => write_output(rt, alloc, bytes, out),
+        Ok(bytes) => write_output(rt, alloc, options, bytes, out, errors),
         Err(ReadFault::Device) => Status::Device,
         Err(ReadFault::NoMemory) => put_memory(out),
     }
 }
 
 /// Writes what the job of the bytes leads to.
-fn write_output<O: Out>(
+fn write_output<O: Out, E: Out>(
     rt: &(impl Threads + Sync),
     alloc: Global,
+    options: Options,
     bytes: Vec<u8>,
     out: &mut O,
+    errors: &mut E,
 ) -> Status
-    ensures { Ends O.written O.failures out.old out.new bytes.items result }
+    ensures output { Ends O.written O.failures out.old out.new bytes.items result }
+    ensures told { Tells E.written E.failures errors.old errors.new result }
 {
-    match finish(rt, alloc, bytes) {
-        Ok(finished) => write_finished(alloc, &finished, out),
-        Err(stop) => write_stop(alloc, stop, out),
+    let mut bytes = bytes;
+    match finish(rt, alloc, options, &mut bytes) {
+        Ok(finished) => {
+            let status = write_finished(alloc, &finished, out);
+            tell_of_top(alloc, &finished.layout, status, errors);
+            status
+        }
+        Err(stop) => {
+            let status = write_stop(alloc, stop, out);
+            tell_of_stop(alloc, &bytes, stop, status, errors);
+            status
+        }
     }
 }
 

@@ -1,12 +1,14 @@
 //! What the program does with a job.
-ghost use Rattle.std.specs.Prelude.{◌≡◌, Ok};
+ghost use Rattle.std.specs.Prelude.{◌≡◌, ◌≤◌, IfOk, Ok};
 ghost use Rattle.std.specs.List.{list_any};
 ghost use Rattle.lay_point.specs.Memory.{IsAnswer};
 ghost use Rattle.masklay.specs.declared.program.outcome.Stop.TheVariants.{NoMemory as OutOfMemory};
-ghost use Rattle.session_core.specs.Machine.{is_memory};
+ghost use Rattle.session_core.specs.Machine.{Ran, is_memory, start};
+ghost use Rattle.undo_book.specs.declared.book.TheConstants.{MAX_CALLS};
 ghost use Rattle.masklay.specs.Outcome.{AnswersOutcome, finished_from, sessions_for, stop_of_cif, stop_of_job};
 
-use band_workers::OneBand;
+use crate::program::options::{MAX_WORKERS, Options};
+use band_workers::{OneBand, ScopedBands};
 use cif_read::{CifFault, FaultKind, read};
 use job_text::{Job, JobFault, order_of};
 use lay_items::Snapshot;
@@ -70,30 +72,32 @@ impl From<NoMemory> for Stop {
     }
 }
 
-/// Runs the job of the bytes, which go once they are read.
+/// Runs the job of the bytes, which go once they are read: where the job or its text has a fault they stay.
 #[tactic(auto, unfolding(crate::specs::Outcome::IsOutcome))]
 pub(super) fn finish(
     rt: &(impl Threads + Sync),
     alloc: Global,
-    bytes: Vec<u8>,
+    options: Options,
+    bytes: &mut Vec<u8>,
 ) -> Result<Finished, Stop>
-    ensures { AnswersOutcome bytes.items result }
+    ensures { AnswersOutcome bytes.old.items result }
 {
     let Job {
         cif,
         scripts,
         order,
-    } = Job::read(alloc, &bytes)?;
+    } = Job::read(alloc, bytes.as_slice())?;
     let file = read(alloc, cif)?;
-    drop(bytes);
+    *bytes = Vec::new(alloc);
     let base = Snapshot::from_cif(alloc, file)?;
-    finish_steps(rt, alloc, base, scripts, order)
+    finish_steps(rt, alloc, options, base, scripts, order)
 }
 
 /// Runs the scripts' steps in this order on the layout.
 fn finish_steps(
     rt: &(impl Threads + Sync),
     alloc: Global,
+    options: Options,
     base: Snapshot,
     scripts: Sequence<Sequence<Step>>,
     order: Sequence<u8>,
@@ -102,7 +106,7 @@ fn finish_steps(
 {
     let sessions = sessions_for(scripts.as_slice().len());
     let steps = in_turn(alloc, scripts, order.as_slice())?;
-    let (machine, replies) = Machine::run(rt, alloc, base, sessions, steps, &OneBand)?;
+    let (machine, replies) = run_steps(rt, alloc, options, base, sessions, steps)?;
     if is_out_of_memory(&replies) {
         return Err(Stop::NoMemory);
     }
@@ -113,6 +117,26 @@ fn finish_steps(
         replies,
         order: Sequence::from_vec(order),
     })
+}
+
+/// Runs the steps, each with the number of its session, with as many workers as the options say.
+fn run_steps(
+    rt: &(impl Threads + Sync),
+    alloc: Global,
+    options: Options,
+    base: Snapshot,
+    sessions: u8,
+    steps: Vec<(u8, Step)>,
+) -> Result<(Machine, Vec<Reply>), NoMemory>
+    requires low { 1 ≤ sessions }
+    requires high { sessions ≤ 64 }
+    ensures { IfOk result (λ r. Ran (start base sessions MAX_CALLS) steps.items r.1.items r.0) }
+{
+    if options.workers < 2 {
+        return Machine::run(rt, alloc, base, sessions, steps, &OneBand);
+    }
+    let bands = ScopedBands::new(options.workers.min(MAX_WORKERS));
+    Machine::run(rt, alloc, base, sessions, steps, &bands)
 }
 
 /// Returns how many sessions run so many scripts: a job without steps has one that takes none.

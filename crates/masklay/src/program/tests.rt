@@ -29,7 +29,9 @@ fn ended(
 ) -> (Status, MemoryOut) {
     let mut input = MemoryIn::new(job, 5, reads);
     let mut out = MemoryOut::new(alloc, 1000, room, Failing::ByErr);
-    let status = run(rt, alloc, Options {}, &mut input, &mut out);
+    let mut errors = MemoryOut::new(alloc, 1000, 1000, Failing::ByErr);
+    let options = Options { workers: 1 };
+    let status = run(rt, alloc, options, &mut input, &mut out, &mut errors);
     (status, out)
 }
 

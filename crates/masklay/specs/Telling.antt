@@ -1,0 +1,23 @@
+-- What a person is told, beside the output.
+use Rattle.std.specs.Prelude.{◌≡◌, ℕ, ◌⊎◌, Bool, true, false, List, Option}
+use Rattle.byte_io.specs.Device.{WroteAll, WrotePrefix}
+use Rattle.masklay.specs.declared.program.status.Status.{Status}
+use Rattle.masklay.specs.declared.program.status.Status.TheVariants.{Done, CommandLine, Job, Cif, Device, Memory}
+
+-- a run that ends so may have something to tell: of a fault, or of a layout that was written
+abbrev pub may_tell : Status → Bool
+may_tell Done = true
+may_tell CommandLine = false
+may_tell Job = true
+may_tell Cif = true
+may_tell Device = false
+may_tell Memory = false
+
+-- From the old device to the new: the text was written, or the device failed, and a prefix was.
+abbrev pub IsTold : {E : Type 0} → (E → Option (List ℕ)) → (E → ℕ) → E → E → List ℕ → Type 0
+IsTold told failed errors errors' text = WroteAll told failed errors errors' text ⊎ WrotePrefix told failed errors errors' text
+
+-- From the old device to the new: nothing was told; or a text was, and the run ended so that there may be something to tell.
+abbrev pub Tells : {E : Type 0} → (E → Option (List ℕ)) → (E → ℕ) → E → E → Status → Type 0
+Tells told failed errors errors' status =
+    (errors' ≡ errors) ⊎ ((may_tell status ≡ true) × ((text : List ℕ) × IsTold told failed errors errors' text))

@@ -1,0 +1,71 @@
+//! What a person is told on standard error.
+ghost use Rattle.std.specs.Prelude.{◌≡◌};
+ghost use Rattle.masklay.specs.Telling.{IsTold, Tells, may_tell};
+
+use crate::program::empty_top::advice_on_top;
+use crate::program::outcome::Stop;
+use crate::program::status::Status;
+use byte_io::{Out, put_all};
+use job_advice::{of_cif_fault, of_job_fault};
+use lay_items::Snapshot;
+use lay_point::NoMemory;
+use std::alloc::Global;
+
+/// Tells why there is no layout, where the program ends with the status of a fault. What the device doesn't
+/// take, or memory doesn't hold, isn't told.
+pub(super) fn tell_of_stop<E: Out>(
+    alloc: Global,
+    job: &[u8],
+    stop: Stop,
+    status: Status,
+    errors: &mut E,
+)
+    ensures { Tells E.written E.failures errors.old errors.new status }
+{
+    let advice = match stop {
+        Stop::JobFault(line) => of_job_fault(alloc, job, line),
+        Stop::CifFault(fault) => of_cif_fault(alloc, job, fault),
+        Stop::NoMemory => Err(NoMemory),
+    };
+    if let Ok(lines) = advice {
+        tell(&lines, status, errors);
+    }
+}
+
+/// Tells that the top cell is empty, where all was written and the layout has symbols.
+pub(super) fn tell_of_top<E: Out>(alloc: Global, layout: &Snapshot, status: Status, errors: &mut E)
+    ensures { Tells E.written E.failures errors.old errors.new status }
+{
+    if let Ok(lines) = advice_on_top(alloc, layout) {
+        tell(&lines, status, errors);
+    }
+}
+
+/// Writes the lines where the program ends with a status of which there may be something to tell.
+fn tell<E: Out>(lines: &[u8], status: Status, errors: &mut E)
+    ensures { Tells E.written E.failures errors.old errors.new status }
+{
+    if may_tell(status) && !lines.is_empty() {
+        put_words(lines, errors);
+    }
+}
+
+/// Whether a run that ends so may have something to tell.
+fn may_tell(status: Status) -> bool
+    ensures { result ≡ may_tell status }
+{
+    match status {
+        Status::Done | Status::Job | Status::Cif => true,
+        Status::CommandLine | Status::Device | Status::Memory => false,
+    }
+}
+
+/// Writes the lines, as far as the device takes them.
+fn put_words<E: Out>(lines: &[u8], errors: &mut E)
+    ensures { IsTold E.written E.failures errors.old errors.new lines.now }
+{
+    match put_all(errors, lines) {
+        Ok(()) => {}
+        Err(_) => {}
+    }
+}
