@@ -45,11 +45,11 @@ sized_map f (xs ∷ lists) sized =
     let same = length_map f xs in
     ((omega (arith, same, sized.0.0), omega (arith, same, sized.0.1)), sized_map f lists sized.1)
 
-left_all : {A : Type 0} (P : A → Type 0) (xs ys : List A) → AllByRecursion P (xs ++ ys) → AllByRecursion P xs
+pub left_all : {A : Type 0} (P : A → Type 0) (xs ys : List A) → AllByRecursion P (xs ++ ys) → AllByRecursion P xs
 left_all P [] ys all = tt
 left_all P (x ∷ xs) ys all = (all.0, left_all P xs ys all.1)
 
-right_all : {A : Type 0} (P : A → Type 0) (xs ys : List A) → AllByRecursion P (xs ++ ys) → AllByRecursion P ys
+pub right_all : {A : Type 0} (P : A → Type 0) (xs ys : List A) → AllByRecursion P (xs ++ ys) → AllByRecursion P ys
 right_all P [] ys all = all
 right_all P (x ∷ xs) ys all = right_all P xs ys all.1
 

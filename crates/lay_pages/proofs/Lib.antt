@@ -5,3 +5,4 @@ pub mod PlaceLemmas
 pub mod OrderLemmas
 pub mod BookLemmas
 pub mod FillLemmas
+pub mod NearLemmas

@@ -74,7 +74,7 @@ pub sized-at : {A : Type 0} (cs : List (List A)) (at : ℕ) (d : List A) → at 
 sized-at {A} cs at d lt sized = all-at (λ (xs : List A). (1 ≤ length xs) × (length xs ≤ 64)) cs at d lt sized
 
 -- entries in order are in order from any of them on
-sorted-right : {K X : Type 0} (R : K → K → Ordering) (low high : List (K × X)) → IsStrictlySortedBy R (keys_of (low ++ high))
+pub sorted-right : {K X : Type 0} (R : K → K → Ordering) (low high : List (K × X)) → IsStrictlySortedBy R (keys_of (low ++ high))
     → IsStrictlySortedBy R (keys_of high)
 unfolding IsStrictlySortedBy
 sorted-right R [] high sorted = sorted
@@ -121,7 +121,7 @@ head-joined k [] head = head
 head-joined k ([] ∷ lists) head = absurd head
 head-joined k ((e ∷ es) ∷ lists) head = head
 
-sorted-left : {K X : Type 0} (R : K → K → Ordering) (low high : List (K × X)) → IsStrictlySortedBy R (keys_of (low ++ high))
+pub sorted-left : {K X : Type 0} (R : K → K → Ordering) (low high : List (K × X)) → IsStrictlySortedBy R (keys_of (low ++ high))
     → IsStrictlySortedBy R (keys_of low)
 unfolding IsStrictlySortedBy
 sorted-left R [] high sorted = tt

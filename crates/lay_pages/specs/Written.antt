@@ -4,8 +4,10 @@ use Rattle.std.specs.declared.cmp.Ordering.{Ordering}
 use Rattle.std.specs.declared.cmp.Ordering.TheVariants.{Less}
 use Rattle.std.specs.FinMap.{find}
 use Rattle.std.specs.List.{AllByRecursion, HoldsAt}
+use Rattle.std.specs.List.Sorted.{IsStrictlySortedBy}
+use Rattle.std.specs.Map.{keys_of}
 use Rattle.std.specs.Ordering.{is_lt}
-use Rattle.lay_pages.specs.Shared.{joined}
+use Rattle.lay_pages.specs.Shared.{AreBooks, entries_in, joined}
 
 module _ {K X : Type 0} (R : K → K → Ordering) where
   abbrev pub lower : K → List (K × X) → List (K × X)
@@ -72,3 +74,15 @@ count_of (Some x) = 1
 -- the same value under the same key
 abbrev pub are_equal : {K X : Type 0} → (K → K → Bool) → (X → X → Bool) → K × X → K × X → Bool
 are_equal key_eq value_eq e f = key_eq e.0 f.0 && value_eq e.1 f.1
+
+-- entries that stand together among others
+pub record IsPart {A : Type 0} (part all : List A) : Type 0 where
+  pub before : List A
+  pub behind : List A
+  pub is : all ≡ before ++ (part ++ behind)
+
+-- entries of books, in order
+pub record AreNear {K X : Type 0} (R : K → K → Ordering) (near : List (K × X)) (lists : List (List (List (K × X)))) : Type 0 where
+  pub books : AreBooks R lists
+  pub sorted : IsStrictlySortedBy R (keys_of near)
+  pub kept : AllByRecursion (λ (e : K × X). find R e.0 (entries_in lists) ≡ Some e.1) near

@@ -8,6 +8,7 @@
 
 mod builder;
 mod entries;
+mod finder;
 mod keys;
 mod lists;
 mod look;
@@ -21,5 +22,6 @@ mod update;
 
 pub use builder::PagesBuilder;
 pub use entries::Entries;
+pub use finder::Finder;
 pub use keys::{Kept, PageKey};
 pub use pages::Pages;

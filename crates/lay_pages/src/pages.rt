@@ -8,6 +8,7 @@ ghost use Rattle.lay_pages.specs.Shared.{AreKept, entries_in, pages_in};
 ghost use Rattle.lay_pages.specs.Written.{are_equal, count_of, from_key, written, written_all};
 
 use crate::entries::{Entries, are_same};
+use crate::finder::Finder;
 use crate::keys::{Kept, PageKey};
 use crate::look::{count_pages, find};
 use crate::page::Book;
@@ -96,6 +97,13 @@ impl<K: PageKey, V: Kept> Pages<K, V> {
         ensures { option_copied result ≡ find K.cmp key self.now }
     {
         find(&self.books, key)
+    }
+
+    /// Returns what finds values, with few comparisons where a key is near the last.
+    pub fn finder(&self) -> Finder<'_, K, V>
+        ensures { result ≡ self.now }
+    {
+        Finder::new(&self.books)
     }
 
     /// Returns the number of entries.

@@ -1,0 +1,84 @@
+//! Values found near those that were found before.
+ghost use Rattle.std.specs.Prelude.{◌≡◌, ◌<◌, length, option_copied};
+ghost use Rattle.std.specs.FinMap.{find};
+ghost use Rattle.std.specs.List.Sorted.{IsStrictlySortedBy};
+ghost use Rattle.std.specs.Map.{keys_of};
+ghost use Rattle.lay_pages.specs.Shared.{AreBooks, AreSized, entries_in, items_of, joined, pages_in};
+ghost use Rattle.lay_pages.specs.Written.{IsPart};
+
+use crate::keys::{Kept, PageKey};
+use crate::page;
+use crate::page::{Book, Page};
+use crate::place::{book_of, page_of};
+use std::marker::Model;
+
+/// Finds the values of a map, with few comparisons where a key is of the page of the last. Contracts see the
+/// list of the map's entries.
+#[derive(Drop)]
+pub struct Finder<'a, K: PageKey, V: Kept> {
+    books: &'a [Book<K, V>],
+    /// The page into which the last key fell.
+    near: &'a [(K, V)],
+}
+
+impl<'a, K: PageKey, V: Kept> Model for Finder<'a, K, V> {
+    ghost use Rattle.std.specs.Prelude.{List};
+    ghost use Rattle.lay_pages.specs.Shared.{entries_in, pages_in};
+    ghost use Rattle.lay_pages.specs.Written.{AreNear};
+
+    ghost Value = { List (K × V) };
+
+    ghost view = { λ f. entries_in (pages_in f.books.now) };
+
+    ghost invariant = { λ f. AreNear K.cmp f.near.now (pages_in f.books.now) };
+}
+
+impl<'a, K: PageKey, V: Kept> Finder<'a, K, V> {
+    /// Returns what finds the values in the books.
+    pub(crate) fn new(books: &'a [Book<K, V>]) -> Finder<'a, K, V>
+        requires { AreBooks K.cmp (pages_in books.now) }
+        ensures { result ≡ entries_in (pages_in books.now) }
+    {
+        Finder { books, near: &[] }
+    }
+
+    /// Returns the value under the key.
+    pub fn get(&mut self, key: K) -> Option<&'a V>
+        ensures value { option_copied result ≡ find K.cmp key self.old }
+        ensures same { self.new ≡ self.old }
+    {
+        let near = self.near;
+        let found = page::find(near, key);
+        if found.is_some() {
+            return found;
+        }
+        let near = page_at(self.books, key);
+        self.near = near;
+        page::find(near, key)
+    }
+}
+
+/// Returns the page into which the key falls. Where there is no page, it has no entries.
+fn page_at<K: PageKey, V: Kept>(books: &[Book<K, V>], key: K) -> &[(K, V)]
+    requires { AreBooks K.cmp (pages_in books.now) }
+    ensures part { IsPart result.now (entries_in (pages_in books.now)) }
+    ensures found { find K.cmp key result.now ≡ find K.cmp key (entries_in (pages_in books.now)) }
+{
+    if books.is_empty() {
+        return &[];
+    }
+    let at = book_of(books, key);
+    page_in_book(&books[at], key)
+}
+
+/// Returns the page of a book into which the key falls.
+fn page_in_book<K: PageKey, V: Kept>(book: &[Page<K, V>], key: K) -> &[(K, V)]
+    requires some { 0 < length book.now }
+    requires sized { AreSized (items_of book.now) }
+    requires sorted { IsStrictlySortedBy K.cmp (keys_of (joined (items_of book.now))) }
+    ensures part { IsPart result.now (joined (items_of book.now)) }
+    ensures found { find K.cmp key result.now ≡ find K.cmp key (joined (items_of book.now)) }
+{
+    let at = page_of(book, key);
+    &book[at]
+}
