@@ -9,3 +9,4 @@ pub mod SoundLemmas
 pub mod SymbolLemmas
 pub mod HomeLemmas
 pub mod PutLemmas
+pub mod MergeLemmas

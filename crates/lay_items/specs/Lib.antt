@@ -1,5 +1,6 @@
 pub mod ByCell
 pub mod Calls
+pub mod Entries
 pub mod FromCif
 pub mod IdOrder
 pub mod IdText

@@ -6,12 +6,13 @@ ghost use Rattle.std.specs.Map.{keys_of};
 ghost use Rattle.lay_items.specs.FromCif.{items_of_elements};
 ghost use Rattle.lay_items.specs.Ids.{id_cmp};
 ghost use Rattle.lay_items.specs.Items.{standing_in};
-ghost use Rattle.lay_items.specs.Layout.{items_of, put, put_all};
+ghost use Rattle.lay_items.specs.Layout.{AreRising, items_of, put, put_all};
 ghost use Rattle.lay_items.specs.LayoutWith.{numbered_from};
 ghost use Rattle.lay_items.specs.SameLayout.{items_eq};
 
 use crate::cell_index;
 use crate::cell_index::{Homes, homes_of};
+use crate::entries::{listed, merged, paged};
 use crate::from_cif::pages_of;
 use crate::id::ItemId;
 use crate::item::Item;
@@ -129,8 +130,36 @@ impl ItemMap {
         are_same_pages(&self.items, &other.items)
     }
 
-    /// Returns the items after these writes.
+    /// Returns the items after these writes. Where they are many, one pass over all items is faster.
     pub(crate) fn with(
+        &self,
+        alloc: Global,
+        writes: &[(ItemId, Option<Item>)],
+    ) -> Result<ItemMap, NoMemory>
+        requires { AreRising id_cmp writes.now }
+        ensures { IfOk result (λ new. new ≡ put_all self.now writes.now) }
+    {
+        let new = if writes.len() > self.items.len() / 32 {
+            self.merged(alloc, writes)?
+        } else {
+            self.written_all(alloc, writes)?
+        };
+        Ok(new)
+    }
+
+    /// Returns the items after these writes, made by one pass over all of them.
+    fn merged(&self, alloc: Global, writes: &[(ItemId, Option<Item>)]) -> Result<ItemMap, NoMemory>
+        requires { AreRising id_cmp writes.now }
+        ensures { IfOk result (λ new. new ≡ put_all self.now writes.now) }
+    {
+        let entries = listed(alloc, &self.items)?;
+        let entries = merged(alloc, &entries, writes)?;
+        let new = ItemMap::of(alloc, paged(alloc, entries)?)?;
+        Ok(new)
+    }
+
+    /// Returns the items after these writes, made one after another.
+    fn written_all(
         &self,
         alloc: Global,
         writes: &[(ItemId, Option<Item>)],

@@ -16,6 +16,7 @@
 #![tactic(auto)]
 
 mod cell_index;
+mod entries;
 mod from_cif;
 mod id;
 mod item;

@@ -195,6 +195,7 @@ impl Version {
         alloc: Global,
         writes: &[(ItemId, Option<Item>)],
     ) -> Result<Arc<ItemMap>, NoMemory>
+        requires { AreRising id_cmp writes.now }
         ensures { IfOk result (λ new. arc_value new ≡ put_all self.now.items writes.now) }
     {
         if writes.is_empty() {

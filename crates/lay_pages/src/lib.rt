@@ -24,4 +24,5 @@ pub use builder::PagesBuilder;
 pub use entries::Entries;
 pub use finder::Finder;
 pub use keys::{Kept, PageKey};
+pub use page::around;
 pub use pages::Pages;

@@ -43,8 +43,12 @@ fn search<K: PageKey, V>(page: &[(K, V)], key: K) -> Result<usize, usize>
     page.binary_search_by_key(&key, |entry| entry.0)
 }
 
-/// Returns the entries before the key, and those after it.
-fn around<K: PageKey, V>(page: &[(K, V)], key: K) -> (&[(K, V)], &[(K, V)])
+/// Returns the entries before the key, and those after it. They are in order of their keys.
+///
+/// # Cost
+///
+/// Comparisons in proportion to the logarithm of their number.
+pub fn around<K: PageKey, V>(page: &[(K, V)], key: K) -> (&[(K, V)], &[(K, V)])
     requires { IsStrictlySortedBy K.cmp (keys_of page.now) }
     ensures before { result.0.now ≡ lower K.cmp key page.now }
     ensures after { result.1.now ≡ higher K.cmp key page.now }

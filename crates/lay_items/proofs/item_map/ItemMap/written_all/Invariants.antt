@@ -1,6 +1,6 @@
 use Rattle.std.proofs.Common.{◌≡◌, drop}
 use Rattle.lay_items.specs.Layout.{put_all}
-use Rattle.lay_items.proofs.item_map.ItemMap.with.Given as goal
+use Rattle.lay_items.proofs.item_map.ItemMap.written_all.Given as goal
 
 -- the writes that are left make of what is new what all of them make
 abbrev pub invariant-loop-id : goal.invariant-loop-id

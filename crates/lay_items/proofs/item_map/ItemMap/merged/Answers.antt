@@ -1,0 +1,43 @@
+use Rattle.std.proofs.Common.{◌≡◌, ◌∙◌, List, ap, subst, sym}
+use Rattle.std.specs.FinMap.{FinMap}
+use Rattle.std.specs.List.Sorted.{IsStrictlySortedBy}
+use Rattle.std.specs.Map.{keys_of}
+use Rattle.lay_items.specs.declared.id.ItemId.{ItemId}
+use Rattle.lay_items.specs.declared.item.Item.{Item}
+use Rattle.lay_items.specs.Entries.{merged}
+use Rattle.lay_items.specs.Ids.{id_cmp}
+use Rattle.lay_items.specs.Layout.{items_of, put_all}
+use Rattle.lay_items.proofs.MergeLemmas.{merged-is, sorted-merged}
+use Rattle.lay_items.proofs.item_map.ItemMap.merged.Goals as goal
+
+pub merged-requires : goal.merged-requires
+merged-requires c =
+    subst (λ (es : List (ItemId × Item)). IsStrictlySortedBy id_cmp (keys_of es)) (sym (c.deref.ensures.value ∙ c.in_ok-entries.ensures))
+    c.self.invariant.ids
+
+pub paged-requires : goal.paged-requires
+paged-requires c =
+    let own = c.self.inside.items in
+    let new : c.in_ok-entries-2.entries.items ≡ merged own c.args.writes.now =
+    c.in_ok-entries-2.ensures
+    ∙ ap (λ (es : List (ItemId × Item)). merged es c.args.writes.now) (c.deref.ensures.value ∙ c.in_ok-entries.ensures) in
+    subst (λ (es : List (ItemId × Item)). IsStrictlySortedBy id_cmp (keys_of es)) (sym new)
+    (sorted-merged own c.args.writes.now c.self.invariant.ids c.requires)
+
+pub of-requires : goal.of-requires
+of-requires c =
+    let own = c.self.inside.items in
+    let new : c.in_ok-paged.field-0 ≡ merged own c.args.writes.now =
+    c.in_ok-paged.ensures ∙ c.in_ok-entries-2.ensures
+    ∙ ap (λ (es : List (ItemId × Item)). merged es c.args.writes.now) (c.deref.ensures.value ∙ c.in_ok-entries.ensures) in
+    subst (λ (es : List (ItemId × Item)). IsStrictlySortedBy id_cmp (keys_of es)) (sym new)
+    (sorted-merged own c.args.writes.now c.self.invariant.ids c.requires)
+
+pub returns : goal.returns
+returns c =
+    let own = c.self.inside.items in
+    let new : c.in_ok-paged.field-0 ≡ merged own c.args.writes.now =
+    c.in_ok-paged.ensures ∙ c.in_ok-entries-2.ensures
+    ∙ ap (λ (es : List (ItemId × Item)). merged es c.args.writes.now) (c.deref.ensures.value ∙ c.in_ok-entries.ensures) in
+    c.in_ok-new.ensures ∙ ap items_of new ∙ merged-is own c.args.writes.now c.requires
+    ∙ ap (λ (m : FinMap id_cmp Item). put_all m c.args.writes.now) c.self.view_is
