@@ -1,5 +1,5 @@
 -- The shapes that hold on the two sides of an edge.
-use Rattle.std.specs.Prelude.{◌≡◌, ℕ, ◌+◌, ◌<◌, All, pos, ◌+ℤ◌, Bool, Contains, IsTrue, List, None, Option, Some, drop, length, map, slice_index, slice_index_or}
+use Rattle.std.specs.Prelude.{◌≡◌, ◌⊎◌, ℕ, ◌+◌, ◌<◌, ◌≤◌, All, true, false, pos, ◌+ℤ◌, Bool, Contains, IsTrue, List, None, Option, Some, drop, length, map, slice_index, slice_index_or}
 use Rattle.lay_point.specs.Edges.{IsEdgeBefore}
 use Rattle.lay_point.specs.Parity.{xor, parity}
 use Rattle.lay_point.specs.Rising.{IsRising}
@@ -10,6 +10,8 @@ use Rattle.face_label_laws.specs.Laws.{AreLesserFirst}
 use Rattle.face_labels.specs.declared.line.Line.{Line}
 use Rattle.face_labels.specs.declared.op.Op.{Op}
 use Rattle.face_labels.specs.declared.sides.Sides.{Sides}
+use Rattle.face_labels.specs.declared.sides.Told.{Told}
+use Rattle.face_labels.specs.declared.sides.Told.TheVariants.{Inside, Nothing, Unknown}
 use Rattle.face_labels.specs.Counts.{AreCounts}
 use Rattle.face_labels.specs.Lines.{edge_at, owners_at}
 use Rattle.face_labels.specs.Operations.{answer}
@@ -52,6 +54,17 @@ pub record AreKnown (r : Owned) (known : List (Option Sides)) : Type 0 where
 
 abbrev pub IsKnown : List (Option Sides) → ℕ → Type 0
 IsKnown known n = (sides : Sides) × (sides_at known n ≡ Some sides)
+
+-- what is told is whether the owner lists the edge of this number and, if so and if its sides are known, whether it holds beside it
+abbrev pub IsTold : Owned → List (Option Sides) → ℕ → Owner → Told → Type 0
+IsTold r known n o Nothing = is_listed o (owners_at r n) ≡ false
+IsTold r known n o Unknown = (is_listed o (owners_at r n) ≡ true) × (sides_at known n ≡ None)
+IsTold r known n o (Inside inside) = (is_listed o (owners_at r n) ≡ true) × (inside ≡ holds_beside r n o)
+
+-- in the row the edge of this number stands between the edges left of it and those right of it, or isn't there
+pub record StandsAt (numbers : List ℕ) (n left right : ℕ) : Type 0 where
+  pub bound : right ≤ length numbers
+  pub place : (left ≡ right) ⊎ ((left + 1 ≡ right) × (slice_index numbers left ≡ n))
 
 -- clean rounded edges, each from its lesser end to the other
 pub record AreSound (r : Owned) : Type 0 where

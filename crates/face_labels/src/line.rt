@@ -108,7 +108,15 @@ impl Line {
         }
         let numbers = self.numbers.as_slice();
         let gap = gap_beside(edges, numbers, edges.edges()[number]);
-        let sides = Sides::of(alloc, edges, &numbers[gap..], self.known.as_slice(), number)?;
+        let sides = Sides::of(
+            alloc,
+            edges,
+            numbers,
+            gap,
+            gap,
+            self.known.as_slice(),
+            number,
+        )?;
         Ok(sides.differs(op))
     }
 }
@@ -145,7 +153,9 @@ fn find_sides(
             let sides = Sides::of(
                 alloc,
                 edges,
-                &numbers[index + 1..],
+                numbers,
+                index,
+                index + 1,
                 known.as_slice(),
                 number,
             )?;

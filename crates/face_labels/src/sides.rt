@@ -2,21 +2,25 @@
 ghost use Rattle.std.specs.Prelude.{
   ◌≡◌,
   ◌<◌,
+  ◌≤◌,
   ℕ,
   All,
   Bool,
   IfOk,
   MatchOption,
+  drop,
   false,
   length,
+  nat_lt,
   slice_index_or,
 };
+ghost use Rattle.lay_point.specs.Parity.{xor};
 ghost use Rattle.snap_chains.specs.declared.owner.Owner.{Owner};
 ghost use Rattle.snap_chains.specs.Owners.{owner_eq};
 ghost use Rattle.snap_chains.specs.Rounded.{is_listed};
 ghost use Rattle.face_labels.specs.Counts.{AreCounts};
 ghost use Rattle.face_labels.specs.Lines.{owners_at};
-ghost use Rattle.face_labels.specs.Sides.{AreBehind, AreKnown, AreSidesOf, IsDifference, IsKnown, is_odd_in};
+ghost use Rattle.face_labels.specs.Sides.{AreBehind, AreKnown, AreSidesOf, IsDifference, IsKnown, IsTold, StandsAt, is_odd_in};
 
 use crate::counts::Counts;
 use crate::op::Op;
@@ -32,34 +36,49 @@ pub(crate) struct Sides {
     pub inside: Vec<bool>,
 }
 
+/// What an edge tells of a shape.
+#[derive(Clone, Copy, Debug)]
+pub(crate) enum Told {
+    /// The shape doesn't own the edge.
+    Nothing,
+    /// It does, but the edge's sides aren't known.
+    Unknown,
+    /// Whether it holds right of the edge.
+    Inside(bool),
+}
+
 impl Sides {
-    /// Returns the sides of the edge of this number, where those behind are all edges of its row that are
-    /// right of it.
+    /// Returns the sides of the edge of this number. Of the edges of its row those before `left` are left of
+    /// it, and those from `right` on, whose sides are all known, are right of it.
     pub fn of(
         alloc: Global,
         edges: &CleanEdges,
-        behind: &[usize],
+        numbers: &[usize],
+        left: usize,
+        right: usize,
         known: &[Option<Sides>],
         number: usize,
     ) -> Result<Sides, AllocError>
         requires given { number < length edges.now.0 }
-        requires behind { AreBehind edges.now behind.now }
+        requires place { StandsAt numbers.now number left right }
+        requires behind { AreBehind edges.now numbers.now }
         requires known { AreKnown edges.now known.now }
-        requires all_given { All (λ n. n < length edges.now.0) behind.now }
-        requires all { All (IsKnown known.now) behind.now }
-        ensures { IfOk result (AreSidesOf (owners_at edges.now number) (is_odd_in edges.now behind.now)) }
+        requires numbers { All (λ n. n < length edges.now.0) numbers.now }
+        requires all { All (IsKnown known.now) (drop right numbers.now) }
+        ensures { IfOk result (AreSidesOf (owners_at edges.now number)
+            (is_odd_in edges.now (drop right numbers.now))) }
     {
-        let right = right_counts(edges, behind, known);
-        let mut left = right;
+        let right_of = right_counts(edges, &numbers[right..], known);
+        let mut left_of = right_of;
         let mut inside = Vec::new(alloc);
         for owner in edges.owners(number) {
-            let holds = holds_right(edges, behind, known, *owner);
-            left = left.turned(*owner, holds);
+            let holds = holds_right(edges, numbers, left, right, known, *owner);
+            left_of = left_of.turned(*owner, holds);
             inside.push(holds)?;
         }
         Ok(Sides {
-            right,
-            left,
+            right: right_of,
+            left: left_of,
             inside,
         })
     }
@@ -87,22 +106,56 @@ fn right_counts(edges: &CleanEdges, behind: &[usize], known: &[Option<Sides>]) -
     known[next].as_ref().unwrap().left
 }
 
-/// Returns whether the shape holds left of the first of these edges of a row.
-fn holds_right(edges: &CleanEdges, behind: &[usize], known: &[Option<Sides>], owner: Owner) -> bool
-    requires behind { AreBehind edges.now behind.now }
+/// Returns whether the shape holds right of the edges before `right`. Where `left` is less, an edge that it
+/// owns stands between. The next edge of the shape tells, on either side.
+fn holds_right(
+    edges: &CleanEdges,
+    numbers: &[usize],
+    left: usize,
+    right: usize,
+    known: &[Option<Sides>],
+    owner: Owner,
+) -> bool
+    requires order { left ≤ right }
+    requires bound { right ≤ length numbers.now }
+    requires between { is_odd_in edges.now (drop left numbers.now) owner
+        ≡ xor (nat_lt left right) (is_odd_in edges.now (drop right numbers.now) owner) }
+    requires behind { AreBehind edges.now numbers.now }
     requires known { AreKnown edges.now known.now }
-    requires given { All (λ n. n < length edges.now.0) behind.now }
-    requires all { All (IsKnown known.now) behind.now }
-    ensures { result ≡ is_odd_in edges.now behind.now owner }
+    requires numbers { All (λ n. n < length edges.now.0) numbers.now }
+    requires all { All (IsKnown known.now) (drop right numbers.now) }
+    ensures { result ≡ is_odd_in edges.now (drop right numbers.now) owner }
 {
-    for number in behind {
-        if let Some(index) = index_of(edges.owners(*number), owner) {
-            let sides = known[*number].as_ref().unwrap();
-            let inside = sides.inside.as_slice();
-            return !inside[index];
+    let mut before = left;
+    for index in right..numbers.len() {
+        if let Told::Inside(inside) = asked(edges, known, numbers[index], owner) {
+            return !inside;
+        }
+        if before > 0 {
+            before -= 1;
+            match asked(edges, known, numbers[before], owner) {
+                Told::Nothing => {}
+                Told::Unknown => before = 0,
+                Told::Inside(inside) => return inside != (left < right),
+            }
         }
     }
     false
+}
+
+/// Returns what the edge of this number tells of the shape.
+fn asked(edges: &CleanEdges, known: &[Option<Sides>], number: usize, owner: Owner) -> Told
+    requires given { number < length edges.now.0 }
+    requires known { AreKnown edges.now known.now }
+    ensures { IsTold edges.now known.now number owner result }
+{
+    let Some(index) = index_of(edges.owners(number), owner) else {
+        return Told::Nothing;
+    };
+    match known[number].as_ref() {
+        None => Told::Unknown,
+        Some(sides) => Told::Inside(sides.inside.as_slice()[index]),
+    }
 }
 
 /// Returns the index of the owner, if it is one of these.

@@ -1,9 +1,8 @@
-use Rattle.std.proofs.Common.{◌≡◌, ◌+◌, ◌-◌, ◌<◌, ◌≤◌, ℕ, true, None, not, drop, get_or, length, sym, ap, subst, ◌∙◌, arith}
+use Rattle.std.proofs.Common.{◌≡◌, ◌+◌, ◌-◌, ◌<◌, ◌≤◌, ℕ, true, None, not, inr, refl, drop, get_or, length, sym, ap, subst, ◌∙◌, arith}
 use Rattle.std.specs.Prelude.{All}
 use Rattle.std.proofs.lemmas.List.{get_or_default}
 use Rattle.face_labels.specs.Lines.{owners_at}
 use Rattle.face_labels.specs.Sides.{IsKnown, holds_beside, is_odd_in}
-use Rattle.face_labels.proofs.KeptLemmas.{rest}
 use Rattle.face_labels.proofs.StateLemmas.{all_before, known_by_test, known_more, now_known, sides_agree, still_known}
 use Rattle.face_labels.proofs.line.find_sides.Goals as goal
 
@@ -12,7 +11,7 @@ of-requires-clause-all c =
     let numbers = c.args.numbers.now in
     let i = c.loop-index.index in
     let back : (i - 1) + 1 ≡ i = omega (arith, c.loop-index-test.true) in
-    let same = rest numbers ((i - 1) + 1) ∙ ap (λ k. drop k numbers) back in
+    let same = ap (λ k. drop k numbers) back in
     coe 1 0 (z. All (IsKnown (c.as_slice.ensures.value z)) (same z)) c.loop-index.invariant.all
 
 pub loop-index-preserved-in_ok-sides-2 : goal.loop-index-preserved-in_ok-sides-2
@@ -28,12 +27,16 @@ loop-index-preserved-in_ok-sides-2 c =
     record {
       bound = omega (arith, c.loop-index.invariant.bound);
       known = known_more r known n sides given
-          (sides_agree (owners_at r n) _ (holds_beside r n) sides
-          (λ o. ap (λ l. is_odd_in r l o) (rest numbers ((i - 1) + 1)) ∙ c.requires.behind (i - 1) inside o) c.in_ok-sides.ensures)
+          (sides_agree (owners_at r n) (is_odd_in r (drop ((i - 1) + 1) numbers)) (holds_beside r n) sides
+          (λ o. c.requires.behind (i - 1) inside o) c.in_ok-sides.ensures)
           c.loop-index.invariant.known;
       all = all_before (IsKnown _) numbers i c.loop-index-test.true c.loop-index.invariant.bound (now_known known n sides given)
           (λ k d less. still_known known n (get_or (drop i numbers) k d) sides given (c.loop-index.invariant.all k d less));
     }
+
+pub of-requires-clause-place : goal.of-requires-clause-place
+of-requires-clause-place c =
+    record { bound = omega (arith, c.loop-index-test.true, c.loop-index.invariant.bound); place = inr (refl, refl) }
 
 pub loop-index-preserved : goal.loop-index-preserved
 loop-index-preserved c =

@@ -1,68 +1,71 @@
-use Rattle.std.proofs.Common.{◌≡◌, ◌+◌, ◌<◌, true, false, not, [], None, Some, length, get_or, drop, map, refl, sym, ap, subst, ◌∙◌}
-use Rattle.std.specs.Option.{is_some, option_copied}
-use Rattle.std.proofs.lemmas.List.{get_or_default, get_or-map, length-map}
-use Rattle.std.proofs.lemmas.Option.{get_or_from_slice_get}
+use Rattle.std.proofs.Common.{◌≡◌, ⊎_elim, ◌+◌, ◌-◌, ◌<◌, ◌≤◌, ℕ, Bool, true, false, not, length, get_or, drop, sym, ap, subst, ◌∙◌, arith}
+use Rattle.std.specs.Prelude.{nat_lt}
+use Rattle.std.proofs.lemmas.List.{get_or-drop, length-drop}
 use Rattle.lay_point.specs.Parity.{xor}
 use Rattle.snap_chains.specs.Rounded.{is_listed}
 use Rattle.face_labels.specs.Lines.{owners_at}
-use Rattle.face_labels.specs.Sides.{holds_beside, is_odd_in, sides_at}
-use Rattle.face_labels.proofs.OwnerLemmas.{listed_at}
-use Rattle.face_labels.proofs.StateLemmas.{known_inside, odd_left, odd_split}
+use Rattle.face_labels.specs.Sides.{IsKnown, holds_beside, is_odd_in}
+use Rattle.face_labels.proofs.StateLemmas.{not_told_right, odd_left, odd_split, told_left}
 use Rattle.face_labels.proofs.sides.holds_right.Goals as goal
+use Rattle.face_labels.proofs.sides.holds_right.Goals.{then-before-gt0+in-Nothing, then-before-gt0+in-Unknown, else-before-gt0}
 
-pub unwrap-sides-requires : goal.unwrap-sides-requires
-unwrap-sides-requires c =
-    let known = c.args.known.now in
-    let m = get_or c.args.behind.now c.loop-number.number-index 0 in
-    let own = c.requires.all c.loop-number.number-index 0 c.loop-number-test.true in
-    let at = c.index-known-number.is ∙ get_or_default known m c.index-known-number.result None (known_inside known m own.0 own.1) in
-    c.as_ref.ensures.variant ∙ ap is_some (at ∙ own.1)
-
-pub bounds-inside-index : goal.bounds-inside-index
-bounds-inside-index c =
-    let r = c.args.edges.now in
-    let known = c.args.known.now in
-    let m = get_or c.args.behind.now c.loop-number.number-index 0 in
-    let own = c.requires.all c.loop-number.number-index 0 c.loop-number-test.true in
-    let at = c.index-known-number.is ∙ get_or_default known m c.index-known-number.result None (known_inside known m own.0 own.1) in
-    let sides = c.unwrap-sides.result.now in
-    let is : sides_at known m ≡ Some sides = sym at ∙ sym c.as_ref.ensures.value ∙ ap option_copied c.unwrap-sides.ensures in
-    let owners : owners_at r m ≡ c.owners.result.now = get_or_from_slice_get r.1 m c.owners.result.now [] c.owners.ensures.value in
-    let same : length c.as_slice-inside.result.now ≡ length c.owners.result.now =
-    ap length (c.as_slice-inside.ensures.value ∙ (c.requires.known.sides m sides is).inside) ∙ length-map (owners_at r m) (holds_beside r m) ∙ ap length owners in
-    subst (λ k. c.in-Some.index < k) (sym same) c.in-Some.ensures.0
-
-pub returns-in-Some : goal.returns-in-Some
-returns-in-Some c =
+-- the next one on the right tells
+pub returns-in-Inside : goal.returns-in-Inside
+returns-in-Inside c =
     let r = c.args.edges.now in
     let o = c.args.owner in
-    let behind = c.args.behind.now in
-    let known = c.args.known.now in
-    let i = c.loop-number.number-index in
-    let j = c.in-Some.index in
-    let m = get_or behind i 0 in
-    let own = c.requires.all i 0 c.loop-number-test.true in
-    let at = c.index-known-number.is ∙ get_or_default known m c.index-known-number.result None (known_inside known m own.0 own.1) in
-    let sides = c.unwrap-sides.result.now in
-    let is : sides_at known m ≡ Some sides = sym at ∙ sym c.as_ref.ensures.value ∙ ap option_copied c.unwrap-sides.ensures in
-    let owners : owners_at r m ≡ c.owners.result.now = get_or_from_slice_get r.1 m c.owners.result.now [] c.owners.ensures.value in
-    let found = c.in-Some.ensures in
-    let listed : is_listed o (owners_at r m) ≡ true = ap (is_listed o) owners ∙ listed_at c.owners.result.now j o found.0 found.1 in
-    let inside = ap (λ l. get_or l j false) (c.as_slice-inside.ensures.value ∙ (c.requires.known.sides m sides is).inside
-    ∙ ap (map (holds_beside r m)) owners)
-    ∙ get_or-map (holds_beside r m) c.owners.result.now j o false found.0 ∙ ap (holds_beside r m) found.1 in
-    ap not inside
-    ∙ sym (c.loop-number.invariant ∙ odd_left r behind i o c.requires.behind c.loop-number-test.true
-    ∙ ap (λ b. xor b (holds_beside r m o)) listed)
+    let numbers = c.args.numbers.now in
+    let i = c.loop-index.index in
+    let m = get_or numbers i 0 in
+    ap not c.in-Inside.ensures.1
+    ∙ sym (c.loop-index.invariant.right ∙ odd_left r numbers i o c.requires.behind c.loop-index-test.true
+    ∙ ap (λ b. xor b (holds_beside r m o)) c.in-Inside.ensures.0)
 
-pub loop-number-preserved : goal.loop-number-preserved
-loop-number-preserved c =
+-- or the next one on the left
+pub returns-in-Inside-asked : goal.returns-in-Inside-asked
+returns-in-Inside-asked c =
+    let bound = c.loop-index.invariant.bound in
+    told_left c.args.edges.now c.args.numbers.now c.args.left c.args.right c.loop-index.before c.args.owner
+    (nat_lt c.args.left c.args.right) c.in-Inside-asked.inside c.requires.behind c.if-before-gt0.true
+    (omega (arith, bound, c.requires.order, c.requires.bound)) (c.loop-index.invariant.left c.if-before-gt0.true) c.requires.between
+    c.in-Inside-asked.ensures.1
+
+pub loop-index-preserved : goal.loop-index-preserved
+loop-index-preserved c =
     let r = c.args.edges.now in
     let o = c.args.owner in
-    let behind = c.args.behind.now in
-    let i = c.loop-number.number-index in
-    let m = get_or behind i 0 in
-    let owners : owners_at r m ≡ c.owners.result.now = get_or_from_slice_get r.1 m c.owners.result.now [] c.owners.ensures.value in
-    let listed : is_listed o (owners_at r m) ≡ false = ap (is_listed o) owners ∙ c.in_default.ensures in
-    c.loop-number.invariant ∙ odd_split r behind i o c.loop-number-test.true
-    ∙ ap (λ b. xor b (is_odd_in r (drop (i + 1) behind) o)) listed
+    let numbers = c.args.numbers.now in
+    let i = c.loop-index.index in
+    let b = c.loop-index.before in
+    let left = c.args.left in
+    let new = c.if-before-gt0.before in
+    let own = c.requires.all (i - c.args.right) 0
+    (omega (arith, length-drop c.args.right numbers, c.loop-index-test.true, c.loop-index.auto.index)) in
+    let here : get_or (drop c.args.right numbers) (i - c.args.right) 0 ≡ get_or numbers i 0 =
+    get_or-drop c.args.right numbers (i - c.args.right) 0 ∙ ap (λ k. get_or numbers k 0) (omega (arith, c.loop-index.auto.index)) in
+    let listed = not_told_right r c.args.known.now (get_or numbers i 0) o c.asked.result
+    (subst (IsKnown c.args.known.now) here own) c.asked.ensures c.in_default.not-Inside in
+    let bound : new ≤ left = elim c.if-before-gt0.branch [
+      | then-before-gt0+in-Nothing w ↦ omega (arith, w.before-is, c.loop-index.invariant.bound)
+      | then-before-gt0+in-Unknown w ↦ omega (arith, w.before-is)
+      | else-before-gt0 w ↦ omega (arith, w.before-is, c.loop-index.invariant.bound)
+    ] in
+    let passed : 0 < new → is_odd_in r (drop new numbers) o ≡ is_odd_in r (drop left numbers) o = elim c.if-before-gt0.branch [
+      | then-before-gt0+in-Nothing w ↦
+          λ some.
+          let back : (b - 1) + 1 ≡ b = omega (arith, w.if-before-gt0.true) in
+          let inside : b - 1 < length numbers =
+          omega (arith, w.if-before-gt0.true, c.loop-index.invariant.bound, c.requires.order, c.requires.bound) in
+          ap (λ k. is_odd_in r (drop k numbers) o) w.before-is
+          ∙ odd_split r numbers (b - 1) o inside
+          ∙ ap (λ t. xor t (is_odd_in r (drop ((b - 1) + 1) numbers) o)) w.in-Nothing.ensures
+          ∙ ap (λ k. is_odd_in r (drop k numbers) o) back ∙ c.loop-index.invariant.left w.if-before-gt0.true
+      | then-before-gt0+in-Unknown w ↦ λ some. absurd (omega (arith, w.before-is))
+      | else-before-gt0 w ↦ λ some. absurd (omega (arith, w.before-is, w.if-before-gt0.false))
+    ] in
+    record {
+      bound = bound;
+      right = c.loop-index.invariant.right ∙ odd_split r numbers i o c.loop-index-test.true
+          ∙ ap (λ t. xor t (is_odd_in r (drop (i + 1) numbers) o)) listed;
+      left = passed;
+    }

@@ -1,5 +1,5 @@
 -- The gap is where the edge is judged.
-use Rattle.std.proofs.Common.{◌≡◌, ◌<◌, ◌-◌, ℕ, drop, take, length, get_or, sym, ap, subst, ◌∙◌, None, Some, arith}
+use Rattle.std.proofs.Common.{◌≡◌, ◌<◌, ◌-◌, ℕ, drop, take, length, get_or, sym, ap, subst, ◌∙◌, inl, refl, None, Some, arith}
 use Rattle.std.specs.Option.{option_copied}
 use Rattle.std.specs.Prelude.{All}
 use Rattle.std.proofs.lemmas.List.{get_or_default}
@@ -7,8 +7,7 @@ use Rattle.std.proofs.lemmas.List.Elements.{All-drop}
 use Rattle.face_labels.specs.Lines.{BeginsAt, EndsBefore, edge_at, nowhere, owners_at}
 use Rattle.face_labels.specs.Rows.{AreRowEdges}
 use Rattle.face_labels.specs.Sides.{AreBehind, AreSidesOf, IsKnown, is_odd_in, sides_at}
-use Rattle.face_labels.proofs.KeptLemmas.{rest}
-use Rattle.face_labels.proofs.LabelLemmas.{behind-drop, label_beside, label_of, row_behind, row_given}
+use Rattle.face_labels.proofs.LabelLemmas.{label_beside, label_of, row_behind, row_given}
 use Rattle.face_labels.proofs.line.Line.differs.Goals as goal
 
 pub gap_beside-gap-requires : goal.gap_beside-gap-requires
@@ -18,30 +17,26 @@ gap_beside-gap-requires c =
           c.as_slice-numbers.ensures.value c.requires.line.edges;
     }
 
+pub of-requires-clause-place : goal.of-requires-clause-place
+of-requires-clause-place c = record { bound = c.gap_beside-gap.ensures.bound; place = inl refl }
+
 pub of-requires-clause-behind : goal.of-requires-clause-behind
 of-requires-clause-behind c =
     let r = c.args.edges.now in
-    let numbers = c.as_slice-numbers.result.now in
-    let gap = c.gap_beside-gap.result in
     let rows = subst (AreRowEdges r.0 c.args.self.now.row) (sym c.as_slice-numbers.ensures.value) c.requires.line.edges in
-    subst (AreBehind r) (sym (rest numbers gap))
-    (behind-drop r numbers gap (row_behind r c.requires.line.sound c.args.self.now.row numbers rows))
+    row_behind r c.requires.line.sound c.args.self.now.row c.as_slice-numbers.result.now rows
 
-pub of-requires-clause-all_given : goal.of-requires-clause-all_given
-of-requires-clause-all_given c =
-    let r = c.args.edges.now in
-    let numbers = c.as_slice-numbers.result.now in
-    let gap = c.gap_beside-gap.result in
-    let given = row_given r.0 c.args.self.now.row c.args.self.now.numbers.items numbers c.as_slice-numbers.ensures.value
-    c.requires.line.edges in
-    subst (All (λ n. n < length r.0)) (sym (rest numbers gap)) (All-drop (λ n. n < length r.0) gap numbers given)
+pub of-requires-clause-numbers : goal.of-requires-clause-numbers
+of-requires-clause-numbers c =
+    row_given c.args.edges.now.0 c.args.self.now.row c.args.self.now.numbers.items c.as_slice-numbers.result.now
+    c.as_slice-numbers.ensures.value c.requires.line.edges
 
 pub of-requires-clause-all : goal.of-requires-clause-all
 of-requires-clause-all c =
     let numbers = c.as_slice-numbers.result.now in
     let gap = c.gap_beside-gap.result in
     let all = coe 1 0 (i. All (IsKnown (c.as_slice.ensures.value i)) (c.as_slice-numbers.ensures.value i)) c.requires.line.all in
-    subst (All (IsKnown c.as_slice.result.now)) (sym (rest numbers gap)) (All-drop (IsKnown c.as_slice.result.now) gap numbers all)
+    All-drop (IsKnown c.as_slice.result.now) gap numbers all
 
 pub returns : goal.returns
 returns c =
@@ -60,7 +55,7 @@ returns c =
       ends = subst (λ e. EndsBefore r numbers e gap) at c.gap_beside-gap.ensures.before;
       begins = subst (λ e. BeginsAt r numbers e gap) at c.gap_beside-gap.ensures.behind;
     }) c.in_ok-sides.sides
-    (subst (λ l. AreSidesOf (owners_at r n) (is_odd_in r l) c.in_ok-sides.sides) (rest numbers gap) c.in_ok-sides.ensures)
+    c.in_ok-sides.ensures
     c.differs-2.result c.differs-2.ensures
 
 pub returns-in-Some : goal.returns-in-Some
