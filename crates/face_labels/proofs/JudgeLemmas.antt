@@ -46,7 +46,7 @@ has_at_zero (x ∷ xs) n (inr m) =
     let i = h.1 in
     (suc h.0, record { behind = omega arith; inside = omega (arith, i.inside); is = i.is })
 
-has_drop : (xs : List ℕ) (gap n : ℕ) → Has (drop gap xs) n → (i : ℕ) × IsAt xs gap n i
+pub has_drop : (xs : List ℕ) (gap n : ℕ) → Has (drop gap xs) n → (i : ℕ) × IsAt xs gap n i
 has_drop [] zero n m = absurd m
 has_drop [] (suc gap) n m = absurd m
 has_drop (x ∷ xs) zero n m = has_at_zero (x ∷ xs) n m

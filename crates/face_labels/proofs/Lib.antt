@@ -8,6 +8,7 @@ pub mod OrderLemmas
 pub mod OwnerLemmas
 pub mod PickedLemmas
 pub mod ProductLemmas
+pub mod ReachLemmas
 pub mod RowLemmas
 pub mod SideLemmas
 pub mod StartLemmas

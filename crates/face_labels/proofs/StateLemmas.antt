@@ -9,6 +9,7 @@ use Rattle.std.proofs.Math.ListN.{length-set}
 use Rattle.std.proofs.lemmas.Bool.Decides.{Decides-eqb, nat_tests}
 use Rattle.std.proofs.lemmas.List.{get_or-set_other, get_or-set_same, get_or_default}
 use Rattle.lay_point.specs.Parity.{xor, parity}
+use Rattle.lay_point.proofs.Parity.{parity_none}
 use Rattle.snap_chains.specs.declared.owner.Owner.{Owner}
 use Rattle.snap_chains.specs.Rounded.{Owned, is_listed}
 use Rattle.face_labels.specs.declared.counts.Counts.{Counts}
@@ -17,6 +18,7 @@ use Rattle.face_labels.specs.declared.sides.Told.{Told}
 use Rattle.face_labels.specs.declared.sides.Told.TheVariants.{Inside, Nothing, Unknown}
 use Rattle.face_labels.specs.Counts.{AreCounts}
 use Rattle.face_labels.specs.Lines.{owners_at}
+use Rattle.face_labels.proofs.JudgeLemmas.{has_drop}
 use Rattle.face_labels.specs.Sides.{AreBehind, AreKnown, AreSidesOf, IsKnown, IsTold, StandsAt, holds_beside, is_odd_in, sides_at}
 
 pub counts_agree : (c : Counts) (f g : Owner → Bool) → ((o : Owner) → f o ≡ g o) → AreCounts c f → AreCounts c g
@@ -183,3 +185,11 @@ odd_between r numbers n left right o h listed = ⊎_elim
 
     not_less : (m n : ℕ) → n ≤ m → nat_lt m n ≡ false
     not_less m n h = grind (arith, nat_tests)
+
+-- where none from an index on lists the owner
+pub none_behind : (r : Owned) (numbers : List ℕ) (index : ℕ) (o : Owner)
+    → ((k : ℕ) → index ≤ k → k < length numbers → is_listed o (owners_at r (get_or numbers k 0)) ≡ false)
+    → is_odd_in r (drop index numbers) o ≡ false
+none_behind r numbers index o none = parity_none (λ m. is_listed o (owners_at r m)) (drop index numbers) (λ m found.
+    let at = has_drop numbers index m found in
+    subst (λ j. is_listed o (owners_at r j) ≡ false) at.1.is (none at.0 at.1.behind at.1.inside))

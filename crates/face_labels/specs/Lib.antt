@@ -5,6 +5,7 @@ pub mod Crossings
 pub mod Lines
 pub mod Operations
 pub mod Picked
+pub mod Reaches
 pub mod Rows
 pub mod Sides
 pub mod Starts

@@ -15,6 +15,7 @@ use Rattle.face_labels.specs.declared.sides.Told.TheVariants.{Inside, Nothing, U
 use Rattle.face_labels.specs.Counts.{AreCounts}
 use Rattle.face_labels.specs.Lines.{edge_at, owners_at}
 use Rattle.face_labels.specs.Operations.{answer}
+use Rattle.face_labels.specs.Reaches.{IsReach}
 use Rattle.face_labels.specs.Rows.{AreRowEdges}
 
 -- an odd number of these edges lists the owner
@@ -80,3 +81,4 @@ pub record IsLine (r : Owned) (line : Line) : Type 0 where
   pub edges : AreRowEdges r.0 line.row line.numbers.items
   pub known : AreKnown r line.known.items
   pub all : All (IsKnown line.known.items) line.numbers.items
+  pub reach : IsReach r line.reach

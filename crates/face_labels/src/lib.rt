@@ -29,6 +29,7 @@ mod laws;
 mod line;
 mod moves;
 mod op;
+mod reach;
 mod rows;
 mod sides;
 mod start;

@@ -17,6 +17,7 @@ ghost use Rattle.face_label_laws.specs.Labels.{differs, items_of};
 ghost use Rattle.face_label_laws.specs.Laws.{AreLesserFirst};
 ghost use Rattle.face_labels.specs.Lines.{edge_at, item_at};
 ghost use Rattle.face_labels.specs.Operations.{answer};
+ghost use Rattle.face_labels.specs.Reaches.{EndAtReach};
 ghost use Rattle.face_labels.specs.Rows.{upward};
 ghost use Rattle.face_labels.specs.Sides.{AreBehind, AreKnown, IsKnown, IsLine};
 ghost use Rattle.face_labels.specs.declared.start.Start.{Start};
@@ -24,6 +25,7 @@ ghost use Rattle.face_labels.specs.Starts.{AreByRow, BeginsBy, IsStartOf};
 
 use crate::moves::{gap_beside, insert_begun, still_crossing};
 use crate::op::Op;
+use crate::reach::Reach;
 use crate::rows::row_edges;
 use crate::sides::Sides;
 use crate::start::Start;
@@ -39,6 +41,7 @@ pub(crate) struct Line {
     pub numbers: Vec<usize>,
     /// By the numbers of the edges, the sides of those of this row and of earlier ones.
     pub known: Vec<Option<Sides>>,
+    pub reach: Reach,
 }
 
 impl Line {
@@ -50,11 +53,13 @@ impl Line {
     {
         let numbers = row_edges(alloc, edges, row)?;
         let mut known = no_sides(alloc, edges.edges().len())?;
-        find_sides(alloc, edges, numbers.as_slice(), &mut known)?;
+        let reach = Reach::of_edges(alloc, edges)?;
+        find_sides(alloc, edges, numbers.as_slice(), &mut known, &reach)?;
         Ok(Line {
             row,
             numbers,
             known,
+            reach,
         })
     }
 
@@ -79,12 +84,14 @@ impl Line {
     {
         let mut numbers = still_crossing(alloc, edges, self.numbers.as_slice(), row)?;
         let mut known = self.known;
+        let reach = self.reach;
         insert_begun(edges, &mut numbers, starts, row)?;
-        find_sides(alloc, edges, numbers.as_slice(), &mut known)?;
+        find_sides(alloc, edges, numbers.as_slice(), &mut known, &reach)?;
         Ok(Line {
             row,
             numbers,
             known,
+            reach,
         })
     }
 
@@ -115,6 +122,7 @@ impl Line {
             gap,
             gap,
             self.known.as_slice(),
+            &self.reach,
             number,
         )?;
         Ok(sides.differs(op))
@@ -138,10 +146,12 @@ fn find_sides(
     edges: &CleanEdges,
     numbers: &[usize],
     known: &mut Vec<Option<Sides>>,
+    reach: &Reach,
 ) -> Result<(), AllocError>
     requires given { All (λ n. n < length edges.now.0) numbers.now }
     requires behind { AreBehind edges.now numbers.now }
     requires known { AreKnown edges.now known.old.items }
+    requires reach { EndAtReach edges.now reach.now numbers.now }
     ensures known { OnOk result (AreKnown edges.now known.new.items) }
     ensures all { OnOk result (All (IsKnown known.new.items) numbers.now) }
 {
@@ -157,6 +167,7 @@ fn find_sides(
                 index,
                 index + 1,
                 known.as_slice(),
+                reach,
                 number,
             )?;
             known[number] = Some(sides);

@@ -20,10 +20,12 @@ ghost use Rattle.snap_chains.specs.Owners.{owner_eq};
 ghost use Rattle.snap_chains.specs.Rounded.{is_listed};
 ghost use Rattle.face_labels.specs.Counts.{AreCounts};
 ghost use Rattle.face_labels.specs.Lines.{owners_at};
+ghost use Rattle.face_labels.specs.Reaches.{EndAt, EndAtReach};
 ghost use Rattle.face_labels.specs.Sides.{AreBehind, AreKnown, AreSidesOf, IsDifference, IsKnown, IsTold, StandsAt, is_odd_in};
 
 use crate::counts::Counts;
 use crate::op::Op;
+use crate::reach::{Reach, is_beyond};
 use snap_chains::{CleanEdges, Owner};
 use std::alloc::{AllocError, Global};
 
@@ -57,6 +59,7 @@ impl Sides {
         left: usize,
         right: usize,
         known: &[Option<Sides>],
+        reach: &Reach,
         number: usize,
     ) -> Result<Sides, AllocError>
         requires given { number < length edges.now.0 }
@@ -65,6 +68,7 @@ impl Sides {
         requires known { AreKnown edges.now known.now }
         requires numbers { All (λ n. n < length edges.now.0) numbers.now }
         requires all { All (IsKnown known.now) (drop right numbers.now) }
+        requires reach { EndAtReach edges.now reach.now numbers.now }
         ensures { IfOk result (AreSidesOf (owners_at edges.now number)
             (is_odd_in edges.now (drop right numbers.now))) }
     {
@@ -72,7 +76,8 @@ impl Sides {
         let mut left_of = right_of;
         let mut inside = Vec::new(alloc);
         for owner in edges.owners(number) {
-            let holds = holds_right(edges, numbers, left, right, known, *owner);
+            let limit = reach.limit(*owner);
+            let holds = holds_right(edges, numbers, left, right, known, limit, *owner);
             left_of = left_of.turned(*owner, holds);
             inside.push(holds)?;
         }
@@ -107,13 +112,15 @@ fn right_counts(edges: &CleanEdges, behind: &[usize], known: &[Option<Sides>]) -
 }
 
 /// Returns whether the shape holds right of the edges before `right`. Where `left` is less, an edge that it
-/// owns stands between. The next edge of the shape tells, on either side.
+/// owns stands between. The next edge of the shape tells, on either side; behind an edge beyond the shape's
+/// limit there is none.
 fn holds_right(
     edges: &CleanEdges,
     numbers: &[usize],
     left: usize,
     right: usize,
     known: &[Option<Sides>],
+    limit: Option<i32>,
     owner: Owner,
 ) -> bool
     requires order { left ≤ right }
@@ -124,11 +131,16 @@ fn holds_right(
     requires known { AreKnown edges.now known.now }
     requires numbers { All (λ n. n < length edges.now.0) numbers.now }
     requires all { All (IsKnown known.now) (drop right numbers.now) }
+    requires ends { EndAt edges.now numbers.now owner limit }
     ensures { result ≡ is_odd_in edges.now (drop right numbers.now) owner }
 {
     let mut before = left;
     for index in right..numbers.len() {
-        if let Told::Inside(inside) = asked(edges, known, numbers[index], owner) {
+        let number = numbers[index];
+        if is_beyond(edges.edges()[number], limit) {
+            return false;
+        }
+        if let Told::Inside(inside) = asked(edges, known, number, owner) {
             return !inside;
         }
         if before > 0 {

@@ -1,11 +1,12 @@
 use Rattle.std.proofs.Common.{◌≡◌, ⊎_elim, ◌+◌, ◌-◌, ◌<◌, ◌≤◌, ℕ, Bool, true, false, not, length, get_or, drop, sym, ap, subst, ◌∙◌, arith}
 use Rattle.std.specs.Prelude.{nat_lt}
-use Rattle.std.proofs.lemmas.List.{get_or-drop, length-drop}
+use Rattle.std.proofs.lemmas.List.{get_or-drop, get_or_default, length-drop}
 use Rattle.lay_point.specs.Parity.{xor}
 use Rattle.snap_chains.specs.Rounded.{is_listed}
-use Rattle.face_labels.specs.Lines.{owners_at}
+use Rattle.face_labels.specs.Lines.{edge_at, nowhere}
+use Rattle.face_labels.specs.Reaches.{is_beyond}
 use Rattle.face_labels.specs.Sides.{IsKnown, holds_beside, is_odd_in}
-use Rattle.face_labels.proofs.StateLemmas.{not_told_right, odd_left, odd_split, told_left}
+use Rattle.face_labels.proofs.StateLemmas.{none_behind, not_told_right, odd_left, odd_split, told_left}
 use Rattle.face_labels.proofs.sides.holds_right.Goals as goal
 use Rattle.face_labels.proofs.sides.holds_right.Goals.{then-before-gt0+in-Nothing, then-before-gt0+in-Unknown, else-before-gt0}
 
@@ -69,3 +70,18 @@ loop-index-preserved c =
           ∙ ap (λ t. xor t (is_odd_in r (drop (i + 1) numbers) o)) listed;
       left = passed;
     }
+
+-- behind an edge beyond the limit there is none
+pub returns-then-is_beyond : goal.returns-then-is_beyond
+returns-then-is_beyond c =
+    let r = c.args.edges.now in
+    let numbers = c.args.numbers.now in
+    let i = c.loop-index.index in
+    let n = get_or numbers i 0 in
+    let edge : c.index-edges-number.result ≡ edge_at r n =
+    c.index-edges-number.is ∙ (λ k. get_or (c.edges.ensures.value k) n c.index-edges-number.result)
+    ∙ get_or_default r.0 n c.index-edges-number.result nowhere (c.requires.numbers i 0 c.loop-index-test.true) in
+    let beyond : is_beyond c.args.limit (edge_at r n) ≡ true =
+    sym (ap (is_beyond c.args.limit) edge) ∙ sym c.is_beyond.ensures ∙ c.if-is_beyond.true in
+    sym (c.loop-index.invariant.right
+    ∙ none_behind r numbers i c.args.owner (λ k le less. c.requires.ends i k le less beyond))

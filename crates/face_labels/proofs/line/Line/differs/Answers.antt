@@ -6,8 +6,10 @@ use Rattle.std.proofs.lemmas.List.{get_or_default}
 use Rattle.std.proofs.lemmas.List.Elements.{All-drop}
 use Rattle.face_labels.specs.Lines.{BeginsAt, EndsBefore, edge_at, nowhere, owners_at}
 use Rattle.face_labels.specs.Rows.{AreRowEdges}
+use Rattle.face_labels.specs.Reaches.{EndAtReach}
 use Rattle.face_labels.specs.Sides.{AreBehind, AreSidesOf, IsKnown, is_odd_in, sides_at}
 use Rattle.face_labels.proofs.LabelLemmas.{label_beside, label_of, row_behind, row_given}
+use Rattle.face_labels.proofs.ReachLemmas.{row_ends}
 use Rattle.face_labels.proofs.line.Line.differs.Goals as goal
 
 pub gap_beside-gap-requires : goal.gap_beside-gap-requires
@@ -68,3 +70,10 @@ returns-in-Some c =
     sym (c.index.ensures ∙ get_or_default known n _ None given) ∙ sym c.as_ref.ensures.value ∙ ap option_copied c.in-Some.is in
     label_beside c.args.op r n c.requires.line.sound c.requires.given c.in-Some.sides.now
     (c.requires.line.known.sides n c.in-Some.sides.now is) c.differs.result c.differs.ensures
+
+pub of-requires-clause-reach : goal.of-requires-clause-reach
+of-requires-clause-reach c =
+    let r = c.args.edges.now in
+    let line = c.args.self.now in
+    subst (EndAtReach r line.reach) (sym c.as_slice-numbers.ensures.value)
+    (row_ends r line.reach line.row line.numbers.items c.requires.line.reach c.requires.line.edges)

@@ -3,9 +3,11 @@ use Rattle.std.specs.Prelude.{All}
 use Rattle.std.proofs.lemmas.Int.{to_z-of_z}
 use Rattle.std.proofs.lemmas.List.{length-replicate}
 use Rattle.face_labels.specs.Rows.{AreRowEdges}
+use Rattle.face_labels.specs.Reaches.{EndAtReach}
 use Rattle.face_labels.specs.Sides.{AreBehind, AreSound, IsKnown}
 use Rattle.face_labels.proofs.LabelLemmas.{row_behind, row_given}
 use Rattle.face_labels.proofs.StateLemmas.{none_known}
+use Rattle.face_labels.proofs.ReachLemmas.{row_ends}
 use Rattle.face_labels.proofs.line.Line.new.Goals as goal
 
 pub find_sides-requires-clause-given : goal.find_sides-requires-clause-given
@@ -46,4 +48,12 @@ returns-clause-line c =
       edges = c.in_ok-numbers.ensures;
       known = c.in_ok-find_sides.ensures.known;
       all = subst (All (IsKnown c.find_sides.new.known.items)) c.as_slice.ensures.value c.in_ok-find_sides.ensures.all;
+      reach = c.in_ok-reach.ensures;
     }
+
+pub find_sides-requires-clause-reach : goal.find_sides-requires-clause-reach
+find_sides-requires-clause-reach c =
+    let r = c.args.edges.now in
+    subst (EndAtReach r c.in_ok-reach.reach) (sym c.as_slice.ensures.value)
+    (row_ends r c.in_ok-reach.reach (to_z w32 (of_z w32 c.args.row)) c.in_ok-numbers.numbers.items c.in_ok-reach.ensures
+    c.in_ok-numbers.ensures)
