@@ -1,0 +1,9 @@
+pub mod SameLemmas
+pub mod LegalLemmas
+pub mod MeantLemmas
+pub mod OwnLemmas
+pub mod GuardLemmas
+pub mod SeatLemmas
+pub mod FitLemmas
+pub mod CloseLemmas
+pub mod LawLemmas

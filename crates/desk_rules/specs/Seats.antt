@@ -1,0 +1,139 @@
+-- Seats: a session's own calls, and logs in which they are.
+use Rattle.std.specs.Prelude.{◌≡◌, ℕ, ◌+◌, ◌==◌, ◌≤◌, ◌<◌, List, [], ◌∷◌, ◌++◌, length, Bool, true, false, Option, None, Some}
+use Rattle.std.specs.Prelude.{slice_get, refl}
+use Rattle.std.specs.Coded.{Coded, code_by, coded×, coded_list, coded_ℕ}
+use Rattle.lay_items.specs.Layout.{Layout}
+use Rattle.undo_rules.specs.declared.log.Answer.{Answer}
+use Rattle.undo_rules.specs.declared.log.Call.{Call}
+use Rattle.undo_rules.specs.declared.log.Logged.{Logged}
+use Rattle.undo_rules.specs.Books.{History}
+use Rattle.undo_rules.specs.Steps.{fresh}
+use Rattle.desk_rules.specs.declared.kept.Kept.{Kept}
+use Rattle.desk_rules.specs.contracts.kept.Kept as kept
+use Rattle.desk_rules.specs.Legal.{IsLegal}
+use Rattle.desk_rules.specs.Same.{logged_eq}
+
+-- what contracts see of a seat: its session, and the session's logged calls
+pub record Seat : Type 0 where
+  pub session : ℕ
+  pub own : List Kept
+
+-- a seat is stored as its parts
+abbrev pub coded_seat : Coded Seat
+coded_seat =
+    code_by (ℕ × List Kept) (coded× coded_ℕ (coded_list kept.the_row.coded))
+    (λ s. (s.session, s.own)) (λ p. record { session = p.0; own = p.1 }) (λ _. refl)
+
+-- ---- the calls of a session
+
+-- the call stands first in the session's list, where it is the session's
+abbrev pub with_own : Bool → Kept → List Kept → List Kept
+with_own true k ks = k ∷ ks
+with_own false k ks = ks
+
+-- the calls of the session in a log, with their places, of which the first is this one
+abbrev pub own_from : ℕ → ℕ → List Logged → List Kept
+own_from session place [] = []
+own_from session place (c ∷ cs) =
+    with_own (c.session == session) (record { place = place; logged = c }) (own_from session (place + 1) cs)
+
+abbrev pub own_calls : ℕ → List Logged → List Kept
+own_calls session log = own_from session 0 log
+
+-- calls of the session at rising places, from this one on
+abbrev pub IsRising : ℕ → ℕ → List Kept → Type 0
+IsRising session place [] = Unit {0}
+IsRising session place (k ∷ ks) = (place ≤ k.place) × (k.logged.session ≡ session) × IsRising session (k.place + 1) ks
+
+-- ---- calls in a log
+
+-- the log has the call at its place
+abbrev pub IsIn : List Logged → Kept → Type 0
+IsIn log k = slice_get log k.place ≡ Some k.logged
+
+abbrev pub same_at : Option Logged → Logged → Bool
+same_at None call = false
+same_at (Some c) call = logged_eq c call
+
+-- the test of that
+abbrev pub is_in : List Logged → Kept → Bool
+is_in log k = same_at (slice_get log k.place) k.logged
+
+-- the last of some calls
+abbrev pub last_behind : Kept → List Kept → Kept
+last_behind k [] = k
+last_behind k (next ∷ ks) = last_behind next ks
+
+abbrev pub last_of : List Kept → Option Kept
+last_of [] = None
+last_of (k ∷ ks) = Some (last_behind k ks)
+
+abbrev pub IsLastIn : List Logged → Option Kept → Type 0
+IsLastIn log None = Unit {0}
+IsLastIn log (Some k) = IsIn log k
+
+abbrev pub is_last_in : List Logged → Option Kept → Bool
+is_last_in log None = true
+is_last_in log (Some k) = is_in log k
+
+abbrev pub IsBelow : ℕ → Option Kept → Type 0
+IsBelow place None = Unit {0}
+IsBelow place (Some k) = k.place < place
+
+abbrev pub place_of : Option Kept → ℕ
+place_of None = 0
+place_of (Some k) = k.place
+
+-- ---- a call that was made
+
+-- the history is that after a legal log from this base, with so many sessions. Its last call is this one, at its place. It has as
+-- many calls of the session as the seat then has, and the seat's call before this one stands before it, at its own place
+pub record MadeAt (base : Layout) (sessions : ℕ) (h : History) (session : ℕ) (before : List Kept) (k : Kept) : Type 0 where
+  pub legal : IsLegal sessions (fresh base h.limit) h.log h
+  pub last : IsIn h.log k
+  pub whole : length h.log ≡ k.place + 1
+  pub count : length (own_calls session h.log) ≡ length before + 1
+  pub earlier : IsLastIn h.log (last_of before)
+  pub below : IsBelow k.place (last_of before)
+
+-- there is such a history
+pub record Made (session : ℕ) (before : List Kept) (k : Kept) : Type 0 where
+  pub base : Layout
+  pub sessions : ℕ
+  pub history : History
+  pub at : MadeAt base sessions history session before k
+
+-- the call at this place
+abbrev pub kept_at : ℕ → ℕ → Call → Answer → Kept
+kept_at place session call answer = record { place = place; logged = record { session = session; call = call; answer = answer } }
+
+-- the seat with one more call
+abbrev pub with_call : Seat → Kept → Seat
+with_call seat k = record { session = seat.session; own = seat.own ++ k ∷ [] }
+
+-- the seat gains this call, of which there is such a log
+pub record Gains (old : Seat) (call : Call) (answer : Answer) (new : Seat) : Type 0 where
+  pub place : ℕ
+  pub gained : new ≡ with_call old (kept_at place old.session call answer)
+  pub made : Made old.session old.own (kept_at place old.session call answer)
+
+-- the seat gains the call where it is logged, and else is as before
+abbrev pub GainsLogged : Option Answer → Seat → Call → Seat → Type 0
+GainsLogged None old call new = new ≡ old
+GainsLogged (Some answer) old call new = Gains old call answer new
+
+-- such a history, where the call is logged
+abbrev pub MadeLogged : Option Answer → Layout → ℕ → History → ℕ → List Kept → Call → ℕ → Type 0
+MadeLogged None base sessions h session before call place = Unit {0}
+MadeLogged (Some answer) base sessions h session before call place = MadeAt base sessions h session before
+    (kept_at place session call answer)
+
+-- how many calls this adds
+abbrev pub added : Option Answer → ℕ
+added None = 0
+added (Some answer) = 1
+
+-- the calls with this one, where it is logged
+abbrev pub with_kept : Option Answer → ℕ → List Kept → Call → ℕ → List Kept
+with_kept None session own call place = own
+with_kept (Some answer) session own call place = own ++ kept_at place session call answer ∷ []
