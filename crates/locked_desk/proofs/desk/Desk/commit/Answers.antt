@@ -1,0 +1,25 @@
+use Rattle.std.proofs.Common.{rules, ◌∙◌, ap, refl}
+use Rattle.undo_rules.specs.declared.log.Call.TheVariants.{Commit}
+use Rattle.desk_rules.proofs.SeatLemmas.{seat_kept}
+use Rattle.locked_desk.specs.Desks.{commit_answer, desk_commit_answer}
+use Rattle.locked_desk.proofs.CallLemmas.{commit_by_book_answer, gains_kept}
+use Rattle.locked_desk.proofs.desk.Desk.commit.Goals as goal
+
+pub invariant_of-seat-2 : goal.invariant_of-seat-2
+invariant_of-seat-2 g c =
+    let was = c.seat.invariant in
+    seat_kept (commit_answer c.in-Ok-committed.done.0) c.commit-committed.new.self.book.base c.commit-committed.new.self.sessions
+    c.commit-committed.new.self.book
+    c.seat.inside.session c.seat.inside.own.items c.as_slice.result.now c.keep.new.own.items (Commit c.args.work.id c.args.work.commands)
+    c.in-Ok-committed.done.1 c.commit-committed.new.share.parts c.commit-committed.new.share.amount c.seat.inside.share.amount
+    (was.0, was.1, refl, was.3) (search rules)
+    c.in-Ok-committed.ensures.made (search rules) c.commit-committed.ensures.parts c.in-Ok-committed.ensures.amount
+
+pub returns-clause-gains : goal.returns-clause-gains
+returns-clause-gains g c =
+    gains_kept (commit_answer c.in-Ok-committed.done.0) (desk_commit_answer c.commit_by_book.result) c.commit-committed.new.self.book.base
+    c.commit-committed.new.self.sessions c.commit-committed.new.self.book c.seat.inside.session c.seat.inside.own.items
+    c.as_slice.result.now
+    c.keep.new.own.items (Commit c.args.work.id c.args.work.commands) c.in-Ok-committed.done.1 c.seat.view_is refl (search rules)
+    (search rules)
+    c.in-Ok-committed.ensures.made (ap desk_commit_answer c.commit_by_book.ensures ∙ commit_by_book_answer c.in-Ok-committed.done.0)

@@ -1,0 +1,5 @@
+pub mod Stored
+pub mod Desks
+pub mod Closing
+pub mod Runs
+pub mod Jobs

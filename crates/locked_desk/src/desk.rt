@@ -1,0 +1,151 @@
+//! Desks.
+ghost use Rattle.std.specs.Prelude.{◌≡◌, ◌≢◌, ◌≤◌, IfOk, false, true, replicate};
+ghost use Rattle.desk_rules.specs.Close.{empty_seats};
+
+use crate::guarded::{Guarded, fresh_guard};
+use crate::seat::{Seat, empty_seat};
+use lay_items::Snapshot;
+use lay_point::NoMemory;
+use std::alloc::Global;
+use std::marker::{Model, PhantomData};
+use std::sync::Mutex;
+use std::sync::ledger::{Blank, Ledger, Share};
+use undo_book::{Book, MAX_CALLS};
+
+/// How many sessions a desk has, which is the number of its ledger's parts.
+#[derive(Drop)]
+pub(crate) struct Sessions<L: Ledger> {
+    pub(crate) number: u8,
+    of: PhantomData<L>,
+    ghost all: { number ≡ L.parts },
+    ghost some: { (1 ≤ number) × (number ≤ 64) },
+}
+
+/// A book under a lock, with a fixed number of sessions. `L` tells its seats from those of other desks.
+/// Contracts see the layout that it was made with, and the number of sessions.
+#[derive(Drop)]
+pub struct Desk<L: Ledger> {
+    pub(crate) base: Snapshot,
+    pub(crate) sessions: Sessions<L>,
+    pub(crate) lock: Mutex<Guarded<L>>,
+}
+
+impl<L: Ledger> Model for Desk<L> {
+    ghost use Rattle.desk_rules.specs.Guards.{Desk};
+    ghost use Rattle.locked_desk.specs.Stored.{coded_desk};
+
+    ghost Value = { Desk };
+
+    ghost coded = { coded_desk };
+
+    ghost view = { λ d. record { base = d.base; sessions = d.sessions.number } };
+}
+
+impl<L: Ledger> Desk<L> {
+    /// Returns a desk of this layout, with so many sessions and a seat for each. Its book logs `MAX_CALLS`
+    /// calls at most.
+    pub fn new(
+        alloc: Global,
+        base: Snapshot,
+        sessions: u8,
+        blank: Blank,
+    ) -> Result<(Desk<L>, Vec<Seat<L>>), NoMemory>
+        requires name { blank.name ≡ L.name }
+        requires parts { blank.parts ≡ L.parts }
+        requires one_each { blank.parts ≡ sessions }
+        requires low { 1 ≤ sessions }
+        requires high { sessions ≤ 64 }
+        ensures desk { IfOk result (λ r. r.0 ≡ record { base = base; sessions = sessions }) }
+        ensures seats { IfOk result (λ r. r.1.items ≡ empty_seats sessions) }
+    {
+        Desk::with_log(alloc, base, sessions, MAX_CALLS, blank)
+    }
+
+    /// Returns such a desk whose book logs as many calls as `limit` at most.
+    pub fn with_log(
+        alloc: Global,
+        base: Snapshot,
+        sessions: u8,
+        limit: u32,
+        blank: Blank,
+    ) -> Result<(Desk<L>, Vec<Seat<L>>), NoMemory>
+        requires name { blank.name ≡ L.name }
+        requires parts { blank.parts ≡ L.parts }
+        requires one_each { blank.parts ≡ sessions }
+        requires low { 1 ≤ sessions }
+        requires high { sessions ≤ 64 }
+        requires some { 1 ≤ limit }
+        requires most { limit ≤ MAX_CALLS }
+        ensures desk { IfOk result (λ r. r.0 ≡ record { base = base; sessions = sessions }) }
+        ensures seats { IfOk result (λ r. r.1.items ≡ empty_seats sessions) }
+    {
+        let (calls, rest) = blank.open::<L>();
+        let (seats, counts) = seats_of(alloc, sessions, rest)?;
+        let book = Book::with_log(alloc, base.share(alloc)?, limit)?;
+        let lock = Mutex::new(fresh_guard(sessions, book, limit, counts, calls));
+        Ok((new_desk(base, sessions, lock), seats))
+    }
+
+    /// Returns the number of sessions.
+    pub fn sessions(&self) -> u8
+        ensures value { result ≡ self.now.sessions }
+        ensures parts { result ≡ L.parts }
+        ensures range { (1 ≤ result) × (result ≤ 64) }
+    {
+        self.sessions.number
+    }
+
+    /// Returns whether this is the layout and the number of sessions that the desk was made with.
+    pub(crate) fn is_own(&self, base: &Snapshot, sessions: u8) -> bool
+        ensures { result ≡ true → (base.now ≡ self.now.base) × (sessions ≡ self.now.sessions) }
+    {
+        is_same(base, &self.base) && sessions == self.sessions.number
+    }
+}
+
+/// Returns whether the two are the same layout.
+pub(crate) fn is_same(one: &Snapshot, other: &Snapshot) -> bool
+    ensures same { result ≡ true → one.now ≡ other.now }
+    ensures other { result ≡ false → one.now ≢ other.now }
+{
+    *one == *other
+}
+
+/// Returns a seat for each session, which has a part of the share, and as many zeros.
+fn seats_of<L: Ledger>(
+    alloc: Global,
+    sessions: u8,
+    share: Share<L>,
+) -> Result<(Vec<Seat<L>>, Vec<usize>), NoMemory>
+    requires parts { share.parts ≡ sessions }
+    requires amount { share.amount ≡ 0 }
+    ensures seats { IfOk result (λ r. r.0.items ≡ empty_seats sessions) }
+    ensures counts { IfOk result (λ r. r.1.items ≡ replicate sessions 0) }
+{
+    let mut rest = share;
+    let mut seats = Vec::with_capacity(alloc, usize::from(sessions))?;
+    let mut counts = Vec::with_capacity(alloc, usize::from(sessions))?;
+    for i in 0..sessions {
+        let share = rest.split_off(1, 0);
+        seats.push(empty_seat(alloc, i + 1, share))?;
+        counts.push(0)?;
+    }
+    Ok((seats, counts))
+}
+
+/// Returns a desk of as many sessions as the ledger has parts.
+fn new_desk<L: Ledger>(base: Snapshot, sessions: u8, lock: Mutex<Guarded<L>>) -> Desk<L>
+    requires all { sessions ≡ L.parts }
+    requires some { (1 ≤ sessions) × (sessions ≤ 64) }
+    ensures { result ≡ record { base = base; sessions = sessions } }
+{
+    let sessions = Sessions {
+        number: sessions,
+        of: PhantomData,
+    };
+    Desk {
+        base,
+        sessions,
+        lock,
+    }
+}

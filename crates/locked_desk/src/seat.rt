@@ -1,0 +1,60 @@
+//! Seats: tokens of sessions.
+ghost use Rattle.std.specs.Prelude.{◌≡◌, ◌≤◌, []};
+
+use desk_rules::Kept;
+use std::alloc::Global;
+use std::marker::Model;
+use std::sync::ledger::{Ledger, Share};
+
+/// A session's token: its logged calls, and its share of the desk's count of calls. It can't be copied.
+/// Contracts see the session and its calls.
+#[derive(Drop)]
+pub struct Seat<L: Ledger> {
+    pub(crate) session: u8,
+    pub(crate) own: Vec<Kept>,
+    pub(crate) share: Share<L>,
+}
+
+impl<L: Ledger> Model for Seat<L> {
+    ghost use Rattle.std.specs.Prelude.{◌≡◌, ◌≤◌, length};
+    ghost use Rattle.desk_rules.specs.Seats.{IsRising, Seat, coded_seat};
+
+    ghost Value = { Seat };
+
+    ghost coded = { coded_seat };
+
+    ghost view = { λ s. record { session = s.session; own = s.own.items } };
+
+    ghost invariant = { λ s. (1 ≤ s.session) × IsRising s.session 0 s.own.items × (s.share.parts ≡ 1)
+        × (s.share.amount ≡ length s.own.items) };
+}
+
+impl<L: Ledger> Seat<L> {
+    /// Returns the session.
+    pub fn session(&self) -> u8
+        ensures value { result ≡ self.now.session }
+    {
+        self.session
+    }
+
+    /// Lends the session's logged calls with their places, in order.
+    pub fn own(&self) -> &[Kept]
+        ensures { result.now ≡ self.now.own }
+    {
+        self.own.as_slice()
+    }
+}
+
+/// Returns the seat of a session without calls.
+pub(crate) fn empty_seat<L: Ledger>(alloc: Global, session: u8, share: Share<L>) -> Seat<L>
+    requires low { 1 ≤ session }
+    requires parts { share.parts ≡ 1 }
+    requires amount { share.amount ≡ 0 }
+    ensures { result ≡ record { session = session; own = [] } }
+{
+    Seat {
+        session,
+        own: Vec::new(alloc),
+        share,
+    }
+}

@@ -1,0 +1,45 @@
+//! Snapshots of a desk.
+ghost use Rattle.std.specs.Prelude.{IfErr, IfOk};
+ghost use Rattle.desk_rules.specs.Close.{Shows};
+ghost use Rattle.locked_desk.specs.Desks.{IsShownFault};
+
+use crate::desk::Desk;
+use crate::fault::DeskFault;
+use crate::seat::Seat;
+use lay_items::Snapshot;
+use std::alloc::Global;
+use std::sync::Wait;
+use std::sync::ledger::Ledger;
+
+impl<L: Ledger> Desk<L> {
+    /// Returns the layout after a legal log in which the calls of the seat's session are the seat's. Refused
+    /// as `Differs` where the log doesn't have one of the seat's calls at its place, of which the first is
+    /// named, or has others of the session; or as `Differs` of session 0 where the base or the number of
+    /// sessions isn't the desk's own. `NoMemory` can stand in place of any answer.
+    pub fn snapshot<R: Wait>(
+        &self,
+        rt: &R,
+        alloc: Global,
+        seat: &Seat<L>,
+    ) -> Result<Snapshot, DeskFault>
+        ensures shows { IfOk result (λ layout. Shows self.now seat.now layout) }
+        ensures fault { IfErr result (λ fault. IsShownFault fault seat.now) }
+    {
+        let shown = self
+            .lock
+            .lock(rt)
+            .snapshot(alloc, seat.session, seat.own.as_slice());
+        match shown {
+            Ok((layout, base, sessions)) => {
+                if !self.is_own(&base, sessions) {
+                    return Err(DeskFault::Differs {
+                        session: 0,
+                        place: 0,
+                    });
+                }
+                Ok(layout)
+            }
+            Err(fault) => Err(fault),
+        }
+    }
+}
