@@ -8,7 +8,7 @@ use Rattle.lay_flat.specs.declared.fault.FlatFault.{FlatFault}
 use Rattle.lay_flat.specs.declared.fault.FlatFault.TheVariants as flat
 use Rattle.lay_flat.specs.Flat.{FlatRing}
 use Rattle.lay_flat.specs.Flattening.{and_then, flat_of}
-use Rattle.band_workers.specs.Op.{Op}
+use Rattle.txn_rules.specs.Op.{Op}
 use Rattle.layer_ops.specs.Shapes.{Rings, fits, shapes_of}
 use Rattle.txn_rules.specs.Booleans.{bool_shapes, shapes_within}
 use Rattle.layer_ops.specs.declared.fault.OpFault.{OpFault}
