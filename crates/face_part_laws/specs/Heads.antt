@@ -1,10 +1,6 @@
 -- How joined ones are found: each has a head, the first of those that it is joined to, directly or through others.
-use Rattle.std.specs.Prelude.{◌≡◌, ◌⊎◌, ◌↔◌, ℕ, ◌<◌, ◌≤◌, ◌==◌, max, min, List, length, slice_index, slice_index_or, if◌then◌else◌}
-use Rattle.face_part_laws.specs.Parts.{AreJoined, Box, labelled}
-
--- joined, and looked at before: pairs come by their second, then by their first
-abbrev pub AreJoinedUpTo : List Box → ℕ → ℕ → ℕ → ℕ → Type 0
-AreJoinedUpTo boxes second first i j = AreJoined boxes i j × (i < j) × ((j < second) ⊎ ((j ≡ second) × (i < first)))
+use Rattle.std.specs.Prelude.{◌≡◌, ◌↔◌, ℕ, ◌<◌, ◌≤◌, List, length, slice_index, slice_index_or}
+use Rattle.face_part_laws.specs.Parts.{labelled}
 
 -- a head is no later than what it is the head of, and is its own head
 abbrev pub AreFirst : List ℕ → Type 0
@@ -18,10 +14,6 @@ pub record IsFinest (Joined : ℕ → ℕ → Type 0) (n : ℕ) (heads : List �
   pub joined : (i j : ℕ) → Joined i j → slice_index heads i ≡ slice_index heads j
   pub finest : (other : ℕ → ℕ) → ((i j : ℕ) → Joined i j → other i ≡ other j)
       → (i j : ℕ) → i < n → j < n → slice_index heads i ≡ slice_index heads j → other i ≡ other j
-
--- the head, where those with the heads a and b are united
-abbrev pub united : ℕ → ℕ → ℕ → ℕ
-united a b head = if head == max a b then min a b else head
 
 -- of the first n those with one head have one label, and labels come in the order of the heads
 pub record IsNumbered (heads : List ℕ) (n : ℕ) (labels : List ℕ) (count : ℕ) : Type 0 where

@@ -19,10 +19,10 @@ ghost use Rattle.std.specs.List.{list_any};
 ghost use Rattle.lay_point.specs.declared.point.Point.{Point};
 ghost use Rattle.lay_point.specs.Parity.{odd};
 ghost use Rattle.lay_point.specs.RingEdges.{edges_of};
-ghost use Rattle.face_part_laws.specs.Parts.{AreJoined, AreParts, box_of};
-ghost use Rattle.face_part_laws.specs.Heads.{AreDivided, AreFirst, AreJoinedUpTo, IsFinest, IsNumbered, united};
+ghost use Rattle.face_part_laws.specs.Parts.{AreParts, box_of};
+ghost use Rattle.face_part_laws.specs.Heads.{AreDivided, AreFirst, IsNumbered};
 
-use crate::bounds::{Bounds, bounds_of};
+use face_joins::{Bounds, bounds_of, joined_heads};
 use lay_point::{NoMemory, Ring};
 use std::alloc::{AllocError, Global};
 
@@ -41,7 +41,7 @@ pub fn parts(alloc: Global, rings: Vec<Ring>) -> Result<Vec<Vec<Ring>>, NoMemory
         ≡ odd (edges_of rings.items) k x y) }
 {
     let boxes = boxes_of(alloc, &rings)?;
-    let heads = heads_of(alloc, &boxes)?;
+    let heads = joined_heads(alloc, &boxes)?;
     let (labels, count) = labels_of(alloc, &heads)?;
     Ok(divided(alloc, rings, &labels, count)?)
 }
@@ -55,61 +55,6 @@ fn boxes_of(alloc: Global, rings: &[Ring]) -> Result<Vec<Bounds>, AllocError>
         boxes.push(bounds_of(ring))?;
     }
     Ok(boxes)
-}
-
-/// Returns for each box the number of the first one that it is joined to, directly or through others.
-fn heads_of(alloc: Global, boxes: &[Bounds]) -> Result<Vec<usize>, AllocError>
-    ensures { IfOk result (λ heads. IsFinest (AreJoined boxes.now) (length boxes.now) heads.items) }
-{
-    let mut heads = numbers(alloc, boxes.len())?;
-    for second in 0..boxes.len() {
-        join_earlier(boxes, &mut heads, second);
-    }
-    Ok(heads)
-}
-
-/// Returns the numbers below `count`.
-fn numbers(alloc: Global, count: usize) -> Result<Vec<usize>, AllocError>
-    ensures len { IfOk result (λ all. length all.items ≡ count) }
-    ensures each { IfOk result (λ all. (k : ℕ) → k < count → slice_index all.items k ≡ k) }
-{
-    let mut all = Vec::new(alloc);
-    for number in 0..count {
-        all.push(number)?;
-    }
-    Ok(all)
-}
-
-/// Joins the box of this number to the earlier ones that it touches.
-fn join_earlier(boxes: &[Bounds], heads: &mut [usize], second: usize)
-    requires inside { second < length boxes.now }
-    requires so_far { IsFinest (AreJoinedUpTo boxes.now second 0) (length boxes.now) heads.old }
-    ensures { IsFinest (AreJoinedUpTo boxes.now (second + 1) 0) (length boxes.now) heads.new }
-{
-    for first in 0..second {
-        if boxes[first].touches(boxes[second]) {
-            unite(heads, first, second);
-        }
-    }
-}
-
-/// Gives all that have the head of `i` or that of `j` the lesser of the two.
-fn unite(heads: &mut [usize], i: usize, j: usize)
-    requires first { i < length heads.old }
-    requires second { j < length heads.old }
-    ensures { (k : ℕ) → k < length heads.old → slice_index heads.new k
-        ≡ united (slice_index heads.old i) (slice_index heads.old j) (slice_index heads.old k) }
-{
-    let low = heads[i].min(heads[j]);
-    let high = heads[i].max(heads[j]);
-    if low == high {
-        return;
-    }
-    for index in 0..heads.len() {
-        if heads[index] == high {
-            heads[index] = low;
-        }
-    }
 }
 
 /// Returns the number of each one's part, in the order of the heads, and how many parts there are.

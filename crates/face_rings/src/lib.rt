@@ -18,7 +18,6 @@
 //! ```
 #![tactic(auto)]
 
-mod bounds;
 mod bridging;
 mod dividing;
 mod fault;
