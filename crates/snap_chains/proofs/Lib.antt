@@ -10,6 +10,7 @@ pub mod VisitOrder
 pub mod OddLemmas
 pub mod VisitLemmas
 pub mod VisitorLemmas
+pub mod ListLemmas
 pub mod RoundLemmas
 pub use Rattle.snap_edge_test.proofs.Members
 pub use Rattle.snap_edge_test.proofs.SharedEnds

@@ -4,7 +4,9 @@ use Rattle.std.proofs.Common.{length, map, get_or, refl, sym, ap, ap₂, ◌∙�
 use Rattle.std.specs.Prelude.{All, IsTrue}
 use Rattle.std.specs.List.{AllZip, AllByRecursion, zip}
 use Rattle.std.proofs.lemmas.Bool.{false≢true}
+use Rattle.std.specs.List.Sorted.{IsPermutation}
 use Rattle.std.proofs.lemmas.List.{map-append}
+use Rattle.std.proofs.lemmas.List.Sorted.{Contains-permutation, IsPermutation-sym}
 use Rattle.std.proofs.lemmas.List.Elements.{All-from_recursion, Contains-get_or}
 use Rattle.std.proofs.lemmas.Slice.Zip.{AllZip-long}
 use Rattle.lay_point.specs.declared.point.Point.{Point}
@@ -28,7 +30,8 @@ use Rattle.snap_chains.specs.Owners.{IsOwnerBefore, owner_eq}
 use Rattle.snap_chains.specs.Round.{AreOwnersOf, IsRoundOf, walks_of}
 use Rattle.snap_chains.specs.Rounded.{AreClean, IsRounded, is_listed}
 use Rattle.snap_chains.specs.Visits.{AreVisitors, visit_eq, visits_by, visits_of}
-use Rattle.snap_chains.proofs.PathLemmas.{Contains-map}
+use Rattle.snap_chains.proofs.PathLemmas.{Contains-map, Has-map}
+use Rattle.snap_chains.proofs.OddLemmas.{parity_permutation}
 use Rattle.snap_chains.proofs.Sorted.{same_tests}
 use Rattle.snap_chains.proofs.VisitOrder.{owner_eq-Decides}
 
@@ -155,9 +158,17 @@ owners_by_visits rings walks odd edges owners exact = zip_by (AreVisitors odd) (
     }) edges owners
 
 -- what comes of the visits, where the slices that calls lend are these lists
+-- the visits in another order have the same edges
+edges_in_order : (xs ys : List Visit) → IsPermutation xs ys → (e : Point × Point)
+    → Contains (map (λ (v : Visit). v.edge) xs) e → Contains (map (λ (v : Visit). v.edge) ys) e
+edges_in_order xs ys same e m =
+    let found = Has-map (λ (v : Visit). v.edge) xs e (has (map (λ (v : Visit). v.edge) xs) e m) in
+    subst (Contains (map (λ (v : Visit). v.edge) ys)) found.2
+    (Contains-map (λ (v : Visit). v.edge) ys found.0 (Contains-permutation xs ys found.0 same (contains xs found.0 found.1)))
+
 pub round_of : (rings : List (Owner × List Point)) (walks : List (List Point)) (visits visits' : List Visit)
     (edges edges' : List (Point × Point))
-    (odd odd' : List Visit) (owners : List (List Owner)) → AreRounded rings walks → visits ≡ visits_of rings walks
+    (odd odd' : List Visit) (owners : List (List Owner)) → AreRounded rings walks → IsPermutation (visits_of rings walks) visits
     → visits' ≡ visits → edges' ≡ edges → odd' ≡ odd
     → IsRising IsEdgeBefore edges → ((e : Point × Point) → Contains edges e ↔ Contains (map (λ (v : Visit). v.edge) visits') e)
     → ((v : Visit) → Contains odd v ↔ IsTrue (parity (visit_eq v) visits)) → AllZip (AreVisitors odd') edges' owners
@@ -166,9 +177,16 @@ round_of rings walks visits visits' edges edges' odd odd' owners h e same same_e
   walks = walks;
   rounded = h;
   edges = edges_visited rings walks edges h up
-      (subst (λ l. (e : Point × Point) → Contains edges e ↔ Contains (map (λ (v : Visit). v.edge) l) e) (same ∙ e) exact);
+      (λ f. (
+        (λ m. edges_in_order visits (visits_of rings walks) (IsPermutation-sym _ _ e) f
+            (subst (λ l. Contains (map (λ (v : Visit). v.edge) l) f) same ((exact f).0 m))),
+        (λ m. (exact f).1 (subst (λ l. Contains (map (λ (v : Visit). v.edge) l) f) (sym same)
+            (edges_in_order (visits_of rings walks) visits e f m))),
+      ));
   owners = owners_by_visits rings walks odd edges owners
-      (subst (λ l. (v : Visit) → Contains odd v ↔ IsTrue (parity (visit_eq v) l)) e odd_exact)
+      (λ v.
+          let parities = parity_permutation (visit_eq v) (visits_of rings walks) visits e in
+          ((λ m. sym parities ∙ (odd_exact v).0 m), (λ t. (odd_exact v).1 (parities ∙ t))))
       (coe 0 1 (i. AllZip (AreVisitors (same_odd i)) (same_edges i) owners) visited_by);
 }
 

@@ -5,6 +5,7 @@ pub mod Owners
 pub mod Rounded
 pub mod Round
 pub mod Visits
+pub mod OwnerLists
 pub use Rattle.snap_edge_test.specs.Chains
 pub use Rattle.snap_edge_test.specs.Rising
 pub use Rattle.snap_edge_test.specs.Rounding

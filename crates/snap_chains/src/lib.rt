@@ -34,12 +34,12 @@ mod clean_edges;
 mod columns_of;
 mod owned;
 mod owner;
+mod owner_lists;
 mod rings;
 mod rounded;
 mod rounding;
 #[cfg(test)]
 mod tests;
-mod visitors;
 mod visits;
 
 pub use chains::chain;

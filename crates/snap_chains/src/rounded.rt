@@ -1,5 +1,5 @@
 //! Edges of rounded rings, with the shapes that own them.
-ghost use Rattle.std.specs.Prelude.{◌≡◌, ◌↔◌, ◌<◌, [], All, Contains, IfOk, Some, length, map, replicate, slice_get};
+ghost use Rattle.std.specs.Prelude.{◌≡◌, ◌↔◌, ◌<◌, [], All, Contains, IfOk, Some, length, replicate, slice_get};
 ghost use Rattle.lay_point.specs.declared.point.Point.{Point};
 ghost use Rattle.snap_edge_test.specs.Rising.{IsRising};
 ghost use Rattle.snap_edge_test.specs.Undirected.{IsEdgeBefore};
@@ -7,8 +7,9 @@ ghost use Rattle.snap_chains.specs.Owners.{IsOwnerBefore};
 ghost use Rattle.snap_chains.specs.Rounded.{AreEven};
 
 use crate::owner::Owner;
+use crate::owner_lists::OwnerLists;
 use lay_point::{Edge, NoMemory};
-use std::alloc::{AllocError, Global};
+use std::alloc::Global;
 use std::marker::Model;
 
 /// Distinct edges in order, each with the shapes that own it, in order and each once. Of the edges that
@@ -17,18 +18,17 @@ use std::marker::Model;
 #[derive(Debug, Drop)]
 pub struct Rounded {
     pub(crate) edges: Vec<Edge>,
-    pub(crate) owners: Vec<Vec<Owner>>,
+    pub(crate) owners: OwnerLists,
 }
 
 impl Model for Rounded {
-    ghost use Rattle.std.specs.Prelude.{map};
     ghost use Rattle.snap_chains.specs.Rounded.{IsRounded, Owned};
 
     ghost Value = { Owned };
 
-    ghost view = { λ r. (r.edges.items, map (λ v. v.items) r.owners.items) };
+    ghost view = { λ r. (r.edges.items, r.owners) };
 
-    ghost invariant = { λ r. IsRounded (r.edges.items, map (λ v. v.items) r.owners.items) };
+    ghost invariant = { λ r. IsRounded (r.edges.items, r.owners) };
 }
 
 impl Rounded {
@@ -40,7 +40,7 @@ impl Rounded {
         let mut kept = Vec::from_slice(alloc, edges)?;
         kept.sort_unstable();
         kept.dedup();
-        let owners = no_owners(alloc, kept.len())?;
+        let owners = OwnerLists::empty(alloc, kept.len())?;
         Ok(Rounded {
             edges: kept,
             owners,
@@ -63,17 +63,6 @@ impl Rounded {
         ensures value { slice_get self.now.1 edge ≡ Some result.now }
         ensures rising { IsRising IsOwnerBefore result.now }
     {
-        self.owners[edge].as_slice()
+        self.owners.get(edge)
     }
-}
-
-/// Returns so many empty lists of owners.
-fn no_owners(alloc: Global, count: usize) -> Result<Vec<Vec<Owner>>, AllocError>
-    ensures { IfOk result (λ lists. map (λ v. v.items) lists.items ≡ replicate count []) }
-{
-    let mut lists = Vec::new(alloc);
-    for _ in 0..count {
-        lists.push(Vec::new(alloc))?;
-    }
-    Ok(lists)
 }

@@ -5,9 +5,9 @@ ghost use Rattle.snap_chains.specs.Round.{IsRoundOf};
 
 use crate::clean_edges::CleanEdges;
 use crate::owned::{OwnedRing, round_rings};
+use crate::owner_lists::OwnerLists;
 use crate::rounded::Rounded;
-use crate::visitors::visitors_of_all;
-use crate::visits::{all_visits, odd_visits, visited_edges};
+use crate::visits::{all_visits, in_order, odd_visits, visited_edges};
 use lay_point::NoMemory;
 use std::alloc::Global;
 use std::thread::Threads;
@@ -27,9 +27,10 @@ pub fn round(
 {
     let walks = round_rings(rt, alloc, rings)?;
     let visits = all_visits(alloc, rings, walks.as_slice())?;
+    let visits = in_order(rt, visits);
     let edges = visited_edges(alloc, visits.as_slice())?;
     let odd = odd_visits(alloc, visits)?;
-    let owners = visitors_of_all(alloc, edges.as_slice(), odd.as_slice())?;
+    let owners = OwnerLists::of_visits(alloc, edges.as_slice(), odd.as_slice())?;
     let rounded = Rounded { edges, owners };
     Ok(CleanEdges { rounded })
 }

@@ -1,9 +1,9 @@
 use Rattle.std.proofs.Common.{Vec, Global, length, map, sym, ap, ◌∙◌, subst}
 use Rattle.std.specs.Prelude.{All}
+use Rattle.std.specs.List.Sorted.{IsPermutation}
 use Rattle.std.proofs.lemmas.List.{length-map}
 use Rattle.lay_point.specs.declared.point.Point.{Point}
 use Rattle.lay_point.specs.Rings.{NeighboursDiffer}
-use Rattle.snap_chains.specs.declared.owner.Owner.{Owner}
 use Rattle.snap_chains.specs.Visits.{visits_of}
 use Rattle.snap_chains.proofs.RoundLemmas.{all_neighbours_differ, as_many_walks, round_is_clean, round_is_rounded, round_of}
 use Rattle.snap_chains.proofs.rounding.round.Goals as goal
@@ -21,11 +21,12 @@ all_visits-requires-clause-differ g c =
 pub invariant_of-rounded : goal.invariant_of-rounded
 invariant_of-rounded g c =
     let walks = map (λ (w : Vec Point Global). w.items) c.in_ok-walks.walks.items in
-    let visited = c.in_ok-visits.ensures
-    ∙ ap (λ l. visits_of c.args.rings.now (map (λ (w : Vec Point Global). w.items) l)) c.as_slice.ensures.value in
-    let made = round_of c.args.rings.now walks c.in_ok-visits.visits.items c.as_slice-2.result.now c.in_ok-edges.edges.items
+    let visited = subst (λ l. IsPermutation l c.in_order-visits.result.items) (c.in_ok-visits.ensures
+    ∙ ap (λ l. visits_of c.args.rings.now (map (λ (w : Vec Point Global). w.items) l)) c.as_slice.ensures.value)
+    c.in_order-visits.ensures in
+    let made = round_of c.args.rings.now walks c.in_order-visits.result.items c.as_slice-2.result.now c.in_ok-edges.edges.items
     c.as_slice-3.result.now c.in_ok-odd.odd.items c.as_slice-4.result.now
-    (map (λ (v : Vec Owner Global). v.items) c.in_ok-owners.owners.items)
+    c.in_ok-owners.owners
     c.in_ok-walks.ensures visited c.as_slice-2.ensures.value c.as_slice-3.ensures.value c.as_slice-4.ensures.value
     c.in_ok-edges.ensures.rising c.in_ok-edges.ensures.exact c.in_ok-odd.ensures.exact c.in_ok-owners.ensures in
     round_is_rounded c.args.rings.now _ _ made
@@ -33,11 +34,12 @@ invariant_of-rounded g c =
 pub invariant_of-result : goal.invariant_of-result
 invariant_of-result g c =
     let walks = map (λ (w : Vec Point Global). w.items) c.in_ok-walks.walks.items in
-    let visited = c.in_ok-visits.ensures
-    ∙ ap (λ l. visits_of c.args.rings.now (map (λ (w : Vec Point Global). w.items) l)) c.as_slice.ensures.value in
-    let made = round_of c.args.rings.now walks c.in_ok-visits.visits.items c.as_slice-2.result.now c.in_ok-edges.edges.items
+    let visited = subst (λ l. IsPermutation l c.in_order-visits.result.items) (c.in_ok-visits.ensures
+    ∙ ap (λ l. visits_of c.args.rings.now (map (λ (w : Vec Point Global). w.items) l)) c.as_slice.ensures.value)
+    c.in_order-visits.ensures in
+    let made = round_of c.args.rings.now walks c.in_order-visits.result.items c.as_slice-2.result.now c.in_ok-edges.edges.items
     c.as_slice-3.result.now c.in_ok-odd.odd.items c.as_slice-4.result.now
-    (map (λ (v : Vec Owner Global). v.items) c.in_ok-owners.owners.items)
+    c.in_ok-owners.owners
     c.in_ok-walks.ensures visited c.as_slice-2.ensures.value c.as_slice-3.ensures.value c.as_slice-4.ensures.value
     c.in_ok-edges.ensures.rising c.in_ok-edges.ensures.exact c.in_ok-odd.ensures.exact c.in_ok-owners.ensures in
     round_is_clean c.args.rings.now _ _ made
@@ -45,10 +47,11 @@ invariant_of-result g c =
 pub returns : goal.returns
 returns g c =
     let walks = map (λ (w : Vec Point Global). w.items) c.in_ok-walks.walks.items in
-    let visited = c.in_ok-visits.ensures
-    ∙ ap (λ l. visits_of c.args.rings.now (map (λ (w : Vec Point Global). w.items) l)) c.as_slice.ensures.value in
-    round_of c.args.rings.now walks c.in_ok-visits.visits.items c.as_slice-2.result.now c.in_ok-edges.edges.items
+    let visited = subst (λ l. IsPermutation l c.in_order-visits.result.items) (c.in_ok-visits.ensures
+    ∙ ap (λ l. visits_of c.args.rings.now (map (λ (w : Vec Point Global). w.items) l)) c.as_slice.ensures.value)
+    c.in_order-visits.ensures in
+    round_of c.args.rings.now walks c.in_order-visits.result.items c.as_slice-2.result.now c.in_ok-edges.edges.items
     c.as_slice-3.result.now c.in_ok-odd.odd.items c.as_slice-4.result.now
-    (map (λ (v : Vec Owner Global). v.items) c.in_ok-owners.owners.items)
+    c.in_ok-owners.owners
     c.in_ok-walks.ensures visited c.as_slice-2.ensures.value c.as_slice-3.ensures.value c.as_slice-4.ensures.value
     c.in_ok-edges.ensures.rising c.in_ok-edges.ensures.exact c.in_ok-odd.ensures.exact c.in_ok-owners.ensures

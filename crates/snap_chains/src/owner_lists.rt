@@ -1,0 +1,103 @@
+//! The owners of edges, from the visits of these.
+ghost use Rattle.std.specs.Prelude.{◌≡◌, ◌<◌, [], IfOk, Some, length, map, replicate, slice_get};
+ghost use Rattle.std.specs.List.{AllZip};
+ghost use Rattle.snap_edge_test.specs.Rising.{IsRising};
+ghost use Rattle.snap_chains.specs.declared.visits.Visit.{Visit};
+ghost use Rattle.snap_chains.specs.Owners.{IsOwnerBefore};
+ghost use Rattle.snap_chains.specs.OwnerLists.{HasVisitors, IsInside, lists_of};
+ghost use Rattle.snap_chains.specs.Visits.{AreVisitors, IsVisitBefore};
+
+use crate::owner::Owner;
+use crate::visits::Visit;
+use lay_point::Edge;
+use std::alloc::{AllocError, Global};
+use std::marker::Model;
+
+/// Where a list begins, and where it ends.
+#[derive(Clone, Copy, Debug)]
+pub(crate) struct Part {
+    from: usize,
+    to: usize,
+}
+
+/// A list of owners for each of some edges, all in one. Contracts see the list of the lists.
+#[derive(Debug, Drop)]
+pub(crate) struct OwnerLists {
+    owners: Vec<Owner>,
+    parts: Vec<Part>,
+}
+
+impl Model for OwnerLists {
+    ghost use Rattle.std.specs.Prelude.{All, List, length};
+    ghost use Rattle.snap_chains.specs.declared.owner.Owner.{Owner};
+    ghost use Rattle.snap_chains.specs.OwnerLists.{IsInside, lists_of};
+
+    ghost Value = { List (List Owner) };
+
+    ghost view = { λ l. lists_of l.owners.items l.parts.items };
+
+    ghost invariant = { λ l. All (IsInside (length l.owners.items)) l.parts.items };
+}
+
+impl OwnerLists {
+    /// Returns so many empty lists.
+    pub fn empty(alloc: Global, count: usize) -> Result<OwnerLists, AllocError>
+        ensures { IfOk result (λ lists. lists ≡ replicate count []) }
+    {
+        let mut parts = Vec::new(alloc);
+        for _ in 0..count {
+            parts.push(Part { from: 0, to: 0 })?;
+        }
+        Ok(OwnerLists {
+            owners: Vec::new(alloc),
+            parts,
+        })
+    }
+
+    /// Returns for each edge the owners of its visits, in order.
+    pub fn of_visits(
+        alloc: Global,
+        edges: &[Edge],
+        visits: &[Visit],
+    ) -> Result<OwnerLists, AllocError>
+        requires { IsRising IsVisitBefore visits.now }
+        ensures { IfOk result (λ lists. AllZip (AreVisitors visits.now) edges.now lists) }
+    {
+        let owners = owners_of(alloc, visits)?;
+        let mut parts = Vec::new(alloc);
+        for edge in edges {
+            parts.push(visits_of_edge(visits, edge))?;
+        }
+        Ok(OwnerLists { owners, parts })
+    }
+
+    /// Returns the list of this number.
+    pub fn get(&self, number: usize) -> &[Owner]
+        requires { number < length self.now }
+        ensures { slice_get self.now number ≡ Some result.now }
+    {
+        let part = self.parts[number];
+        &self.owners[part.from..part.to]
+    }
+}
+
+/// Returns the owners of the visits.
+fn owners_of(alloc: Global, visits: &[Visit]) -> Result<Vec<Owner>, AllocError>
+    ensures { IfOk result (λ owners. owners.items ≡ map (λ v. v.owner) visits.now) }
+{
+    let mut owners = Vec::new(alloc);
+    for visit in visits {
+        owners.push(visit.owner)?;
+    }
+    Ok(owners)
+}
+
+/// Returns where the visits of the edge are.
+fn visits_of_edge(visits: &[Visit], edge: &Edge) -> Part
+    requires { IsRising IsVisitBefore visits.now }
+    ensures { HasVisitors visits.now edge.now result }
+{
+    let from = visits.partition_point(|visit: &Visit| visit.edge.cmp(edge).is_lt());
+    let to = visits.partition_point(|visit: &Visit| visit.edge.cmp(edge).is_le());
+    Part { from, to }
+}
