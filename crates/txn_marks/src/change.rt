@@ -5,26 +5,36 @@ ghost use Rattle.txn_rules.specs.Changes.{change_of};
 ghost use Rattle.txn_rules.specs.Records.{option_slot_eq};
 
 use lay_items::{CellSlot, Item};
-use std::alloc::AllocError;
+use lay_point::NoMemory;
+use std::alloc::{AllocError, Global};
 use std::marker::Model;
+use std::sync::Arc;
 
-/// What stands under an id before and after, which differ. Contracts see the change.
+/// The values of an item before and after.
+#[derive(Debug, Drop)]
+pub(crate) struct Values {
+    before: Option<Item>,
+    after: Option<Item>,
+}
+
+/// What stands under an id before and after, which differ, shared by all who hold it. Contracts see the
+/// change.
 #[derive(Debug, Drop)]
 pub struct ItemChange {
-    pub(crate) before: Option<Item>,
-    pub(crate) after: Option<Item>,
+    values: Arc<Values>,
 }
 
 impl Model for ItemChange {
     ghost use Rattle.txn_rules.specs.Changes.{Change};
     ghost use Rattle.lay_items.specs.declared.item.Item.{Item};
     ghost use Rattle.txn_marks.specs.Coded.{coded_item_change};
+    ghost use Rattle.std.specs.Arc.{arc_value};
 
     ghost Value = { Change Item };
 
     ghost coded = { coded_item_change };
 
-    ghost view = { λ c. record { before = c.before; after = c.after } };
+    ghost view = { λ c. record { before = (arc_value c.values).before; after = (arc_value c.values).after } };
 }
 
 impl ItemChange {
@@ -32,14 +42,14 @@ impl ItemChange {
     pub fn before(&self) -> Option<&Item>
         ensures { option_copied result ≡ self.now.before }
     {
-        self.before.as_ref()
+        self.values.before.as_ref()
     }
 
     /// What stands there after, if anything does.
     pub fn after(&self) -> Option<&Item>
         ensures { option_copied result ≡ self.now.after }
     {
-        self.after.as_ref()
+        self.values.after.as_ref()
     }
 }
 
@@ -48,8 +58,7 @@ impl Clone for ItemChange {
 
     fn clone(&self) -> Result<ItemChange, AllocError> {
         Ok(ItemChange {
-            before: cloned(self.before())?,
-            after: cloned(self.after())?,
+            values: Arc::try_clone(&self.values)?,
         })
     }
 }
@@ -102,13 +111,18 @@ impl CellChange {
 }
 
 /// Returns the change from one item to the other, where they differ.
-pub(crate) fn item_change(before: Option<Item>, after: Option<Item>) -> Option<ItemChange>
-    ensures { result ≡ change_of option_item_eq before after }
+pub(crate) fn item_change(
+    alloc: Global,
+    before: Option<Item>,
+    after: Option<Item>,
+) -> Result<Option<ItemChange>, NoMemory>
+    ensures { IfOk result (λ change. change ≡ change_of option_item_eq before after) }
 {
     if before == after {
-        return None;
+        return Ok(None);
     }
-    Some(ItemChange { before, after })
+    let values = Arc::new(alloc, Values { before, after })?;
+    Ok(Some(ItemChange { values }))
 }
 
 /// Returns the change from one slot to the other, where they differ.

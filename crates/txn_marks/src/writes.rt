@@ -24,6 +24,7 @@ use std::marker::Model;
 pub struct Writes {
     items: BTreeMap<ItemId, ItemChange>,
     symbols: BTreeMap<u32, CellChange>,
+    alloc: Global,
 }
 
 impl Model for Writes {
@@ -47,6 +48,7 @@ impl Writes {
         Writes {
             items: BTreeMap::new(alloc),
             symbols: BTreeMap::new(alloc),
+            alloc,
         }
     }
 
@@ -57,6 +59,7 @@ impl Writes {
         Ok(Writes {
             items: self.items.clone()?,
             symbols: self.symbols.clone()?,
+            alloc: self.alloc,
         })
     }
 
@@ -84,7 +87,8 @@ impl Writes {
         ensures ok { OnOk result (Merges self.old id before after self.new) }
         ensures err { OnErr result (self.new ≡ self.old) }
     {
-        keep(&mut self.items, id, item_change(before, after))
+        let change = item_change(self.alloc, before, after)?;
+        keep(&mut self.items, id, change)
     }
 
     /// Writes a symbol, which had the slot `before` in the first of the two layouts.
