@@ -185,8 +185,8 @@ round_of rings walks visits visits' edges edges' odd odd' owners h e same same_e
       ));
   owners = owners_by_visits rings walks odd edges owners
       (λ v.
-          let parities = parity_permutation (visit_eq v) (visits_of rings walks) visits e in
-          ((λ m. sym parities ∙ (odd_exact v).0 m), (λ t. (odd_exact v).1 (parities ∙ t))))
+      let parities = parity_permutation (visit_eq v) (visits_of rings walks) visits e in
+      ((λ m. sym parities ∙ (odd_exact v).0 m), (λ t. (odd_exact v).1 (parities ∙ t))))
       (coe 0 1 (i. AllZip (AreVisitors (same_odd i)) (same_edges i) owners) visited_by);
 }
 

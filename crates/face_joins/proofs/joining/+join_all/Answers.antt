@@ -16,9 +16,14 @@ join_all-requires t c =
     let useful : 0 < c.args.depth = subst (IsUseful c.args.depth) c.in-Some.is c.in_ok-cut.ensures in
     let all = subst (λ l. All (λ k. k < length c.args.boxes.now) l) (sym c.as_slice-3.ensures.value) c.requires.inside in (
       omega (arith, useful, c.decreases),
-      (c.join_to_widest.ensures.grows.forest, (c.join_to_widest.ensures.grows.each ∙ c.requires.each,
+      (
+        c.join_to_widest.ensures.grows.forest,
+        (
+          c.join_to_widest.ensures.grows.each ∙ c.requires.each,
           all_inside c.in_ok-low.low.items (length c.args.boxes.now)
-          (inside_part (reaches_low c.in-Some.cut) c.args.boxes.now c.as_slice-3.result.now c.in_ok-low.low.items all c.in_ok-low.ensures))),
+              (inside_part (reaches_low c.in-Some.cut) c.args.boxes.now c.as_slice-3.result.now c.in_ok-low.low.items all c.in_ok-low.ensures),
+        ),
+      ),
     )
 
 pub join_all-requires-2 : goal.join_all-requires-2
@@ -26,11 +31,15 @@ join_all-requires-2 t c =
     let useful : 0 < c.args.depth = subst (IsUseful c.args.depth) c.in-Some.is c.in_ok-cut.ensures in
     let all = subst (λ l. All (λ k. k < length c.args.boxes.now) l) (sym c.as_slice-4.ensures.value) c.requires.inside in (
       omega (arith, useful, c.decreases),
-      (c.in_ok-join_all.ensures.grows.forest,
-          (c.in_ok-join_all.ensures.grows.each ∙ c.join_to_widest.ensures.grows.each ∙ c.requires.each,
+      (
+        c.in_ok-join_all.ensures.grows.forest,
+        (
+          c.in_ok-join_all.ensures.grows.each ∙ c.join_to_widest.ensures.grows.each ∙ c.requires.each,
           all_inside c.in_ok-high.high.items (length c.args.boxes.now)
-          (inside_part (reaches_high c.in-Some.cut) c.args.boxes.now c.as_slice-4.result.now c.in_ok-high.high.items all
-          c.in_ok-high.ensures))),
+              (inside_part (reaches_high c.in-Some.cut) c.args.boxes.now c.as_slice-4.result.now c.in_ok-high.high.items all
+              c.in_ok-high.ensures),
+        ),
+      ),
     )
 
 pub returns : goal.returns

@@ -18,8 +18,7 @@ returns c =
     (early_part e vs c.requires) (λ a r q k. search rules) in
     let late = IsPartitionPoint-from_clause (is_no_later e) _ _ c.partition_point-to.ensures.partitioned
     (late_part e vs c.requires) (λ a r q k. search rules) in
-    let places : ArePlaces e vs from to = record { early = early; late = late; inside = c.partition_point-from.ensures.bound } in
-    (
+    let places : ArePlaces e vs from to = record { early = early; late = late; inside = c.partition_point-from.ensures.bound } in (
       (places_in_order e vs c.requires _ _ places, c.partition_point-to.ensures.bound),
       subst (AreVisitors vs e) (map-range (λ (v : Visit). v.owner) vs from to)
           (visitors_of_part e vs (slice_range vs from to) (part_rises e vs c.requires from to) (part_has e vs c.requires _ _ places)),
