@@ -1,5 +1,5 @@
 -- First places that pass a test.
-use Rattle.std.specs.Prelude.{◌≡◌, ℕ, ◌<◌, ◌≤◌, Bool, true, false, List, [], ◌∷◌, Option, None, Some, if◌then◌else◌, nat_lt, slice_get}
+use Rattle.std.specs.Prelude.{◌≡◌, ℕ, ◌<◌, ◌≤◌, Bool, true, false, not, ◌&&◌, ◌||◌, List, [], ◌∷◌, Option, None, Some, if◌then◌else◌, nat_lt, slice_get}
 
 -- the first place from this one on that passes the test; None where there is none
 abbrev pub IsFirst : (ℕ → Bool) → ℕ → Option ℕ → Type 0
@@ -11,6 +11,10 @@ abbrev pub lesser : Option ℕ → Option ℕ → Option ℕ
 lesser None other = other
 lesser (Some a) None = Some a
 lesser (Some a) (Some b) = if nat_lt b a then Some b else Some a
+
+-- one of two holds, and the other doesn't
+abbrev pub is_apart : Bool → Bool → Bool
+is_apart a b = (a && not b) || (b && not a)
 
 -- what is found of an item, where there is one
 abbrev pub look : {X Y : Type 0} → (X → Option Y) → Option X → Option Y

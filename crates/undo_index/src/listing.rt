@@ -168,7 +168,7 @@ fn gather_under(
 }
 
 /// Returns the lesser one of two places, of which either may be missing.
-fn lesser(one: Option<usize>, other: Option<usize>) -> Option<usize>
+pub(crate) fn lesser(one: Option<usize>, other: Option<usize>) -> Option<usize>
     ensures { result ≡ lesser one other }
 {
     match (one, other) {
