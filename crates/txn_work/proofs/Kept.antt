@@ -1,7 +1,7 @@
 -- What a work keeps, and what follows.
 use Rattle.std.proofs.Common.{◌≡◌, ◌≤◌, ◌+◌, ℕ, true, false, [], ◌∷◌, ◌++◌, length, Some}
 use Rattle.std.proofs.Common.{Err, Ok, refl, ap, sym, subst, ◌∙◌, arith, length-append}
-use Rattle.std.specs.Prelude.{nat_lt, unwrap_or}
+use Rattle.std.specs.Prelude.{IfSome, Option, None, nat_lt, unwrap_or}
 use Rattle.std.proofs.lemmas.Bool.Decides.{nat_tests}
 use Rattle.lay_items.specs.Layout.{Layout}
 use Rattle.lay_items.specs.Sound.{IsSound}
@@ -52,6 +52,11 @@ is_transaction txn made k = record { run = k.run; runs = k.runs; writes = k.writ
 pub seen_so_far : (txn : Transaction) (made : ℕ) → IsKept txn made → applied txn.snapshot txn.writes ≡ (run_so_far txn).layout
 seen_so_far txn made k =
     ap (applied txn.snapshot) (writes_so_far txn made k) ∙ (records_lead txn.snapshot (run_so_far txn).layout).2
+
+-- a layout that is kept, told by another name
+pub same_whole : {l m : Layout} (o : Option Layout) → l ≡ m → IfSome o (λ n. n ≡ m) → IfSome o (λ n. n ≡ l)
+same_whole None same is = tt
+same_whole (Some n) same is = is ∙ sym same
 
 pub overlays : (txn : Transaction) (made : ℕ) → IsKept txn made → Overlays txn.snapshot txn.writes
 overlays txn made k =
@@ -107,6 +112,25 @@ next_kept txn made more c act k planned room m few = record {
   answered = length-append (run_so_far txn).dones (act.done ∷ []) ∙ ap (λ n. n + 1) (answered_so_far txn made k)
       ∙ sym (length-append txn.commands (c ∷ []));
 }
+
+-- the layout after the act is sound
+pub next_sound : (txn : Transaction) (made : ℕ) (c : Command) (act : Act) → IsKept txn made →
+    plan (next_id txn.id (run_so_far txn)) c (run_so_far txn).layout ≡ Ok act → is_too_much (run_so_far txn) act ≡ false →
+    IsSound (rewritten (run_so_far txn).layout act.items act.symbols)
+next_sound txn made c act k planned room =
+    runs_keep_sound txn.id (txn.commands ++ c ∷ []) txn.snapshot (perform (run_so_far txn) act)
+    (after_each-push txn.id txn.commands c (begun txn.snapshot) (run_so_far txn) (act.done, perform (run_so_far txn) act)
+    (runs_so_far txn made k) (effect_is txn.id c (run_so_far txn) act planned room)) k.sound
+
+-- and it is the one that the transaction then sees
+pub next_layout : (txn : Transaction) (made more : ℕ) (c : Command) (act : Act) → IsKept txn made →
+    plan (next_id txn.id (run_so_far txn)) c (run_so_far txn).layout ≡ Ok act → is_too_much (run_so_far txn) act ≡ false →
+    more ≡ made + act.made → more ≤ MAX_COMMANDS → (run_so_far (with_command txn c (perform (run_so_far txn) act))).layout
+    ≡ rewritten (run_so_far txn).layout act.items act.symbols
+unfolding next_kept
+next_layout txn made more c act k planned room m few =
+    ap (λ (r : Run). r.layout) (same_run (with_command txn c (perform (run_so_far txn) act)) more
+    (next_kept txn made more c act k planned room m few))
 
 -- what a command is answered, and the transaction after it, where its act was planned
 pub answer_is : (txn : Transaction) (c : Command) (act : Act) → plan (next_id txn.id (run_so_far txn)) c (run_so_far txn).layout ≡ Ok act →

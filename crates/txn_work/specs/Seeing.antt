@@ -1,4 +1,5 @@
 -- The layout as a transaction sees it: its snapshot with what it wrote.
+use Rattle.std.specs.Prelude.{◌≡◌, IfSome, option_copied}
 use Rattle.lay_items.specs.Layout.{Layout}
 use Rattle.lay_items.specs.Sound.{IsSound}
 use Rattle.txn_rules.specs.Records.{AreProper, Lead, Records, applied}
@@ -13,5 +14,7 @@ pub record Overlays (snapshot : Layout) (writes : Records) : Type 0 where
   pub leads : Lead writes snapshot (applied snapshot writes)
   pub sound : IsSound (applied snapshot writes)
 
-abbrev pub IsSeen : Inside → Type 0
-IsSeen s = Overlays s.snapshot.now s.writes.now
+-- the layout that is kept, if one is, is that of the writes over the snapshot
+pub record IsSeen (s : Inside) : Type 0 where
+  pub over : Overlays s.snapshot.now s.writes.now
+  pub whole : IfSome (option_copied s.whole) (λ l. l ≡ seen_layout s)

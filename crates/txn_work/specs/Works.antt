@@ -1,11 +1,12 @@
 -- What contracts see of a work, and what it keeps.
-use Rattle.std.specs.Prelude.{◌≡◌, ◌≤◌, ℕ, length, Some}
+use Rattle.std.specs.Prelude.{◌≡◌, ◌≤◌, ℕ, length, IfSome, Some}
 use Rattle.lay_items.specs.Sound.{IsSound}
 use Rattle.txn_rules.specs.declared.command.TheConstants.{MAX_COMMANDS}
 use Rattle.txn_rules.specs.Effects.{Run, after_each, begun}
 use Rattle.txn_rules.specs.Records.{records_between}
 use Rattle.txn_rules.specs.Transactions.{Transaction}
 use Rattle.txn_work.specs.declared.work.Work.TheInside.{Inside}
+use Rattle.txn_work.specs.Answers.{run_so_far}
 
 -- a work as its transaction
 abbrev pub transaction_of : Inside → Transaction
@@ -29,5 +30,7 @@ pub record IsKept (txn : Transaction) (made : ℕ) : Type 0 where
   pub few : made ≤ MAX_COMMANDS
   pub answered : length run.dones ≡ length txn.commands
 
-abbrev pub IsWork : Inside → Type 0
-IsWork w = IsKept (transaction_of w) w.made
+-- and the layout that it keeps, if it does, is what they make of its snapshot
+pub record IsWork (w : Inside) : Type 0 where
+  pub kept : IsKept (transaction_of w) w.made
+  pub whole : IfSome w.whole (λ l. l ≡ (run_so_far (transaction_of w)).layout)

@@ -3,8 +3,9 @@ ghost use Rattle.std.specs.Prelude.{◌≡◌, [], ◌∷◌, IfOk, List, None};
 ghost use Rattle.txn_rules.specs.declared.element.Element as elements;
 ghost use Rattle.txn_rules.specs.declared.element.Element.TheVariants.{Item as ItemElement};
 ghost use Rattle.txn_rules.specs.Acts.{change_act, drop_cell_act, look_act, make_act, make_cell_act};
+ghost use Rattle.txn_rules.specs.Writing.{rewritten};
 
-use lay_items::{CellSlot, Item, ItemId};
+use lay_items::{CellSlot, Item, ItemId, Version};
 use lay_point::NoMemory;
 use std::alloc::Global;
 use std::marker::Model;
@@ -42,6 +43,51 @@ impl Model for Act {
     ghost coded = { coded_act };
 
     ghost view = { act_in };
+}
+
+impl Act {
+    /// Returns the layout after what the act writes. What isn't written is shared.
+    pub(crate) fn over(&self, alloc: Global, layout: &Version) -> Result<Version, NoMemory>
+        ensures { IfOk result (λ new. new ≡ rewritten layout.now self.now.items self.now.symbols) }
+    {
+        match &self.written {
+            Written::Nothing => layout.with(alloc, &[], &[]),
+            Written::Item(id, item) => item_over(alloc, layout, *id, item),
+            Written::Items(items) => items_over(alloc, layout, items.as_slice()),
+            Written::Symbol(number, slot) => layout.with(alloc, &[], &[(*number, *slot)]),
+        }
+    }
+}
+
+/// Returns the layout after a write of an item.
+fn item_over(
+    alloc: Global,
+    layout: &Version,
+    id: ItemId,
+    item: &Option<Item>,
+) -> Result<Version, NoMemory>
+    ensures { IfOk result (λ new. new ≡ rewritten layout.now ((id, item.now) ∷ []) []) }
+{
+    let item = match item {
+        Some(item) => Some(item.copy(alloc)?),
+        None => None,
+    };
+    layout.with(alloc, &[(id, item)], &[])
+}
+
+/// Returns the layout after these writes of items, one behind the other.
+fn items_over(
+    alloc: Global,
+    layout: &Version,
+    items: &[(ItemId, Option<Item>)],
+) -> Result<Version, NoMemory>
+    ensures { IfOk result (λ new. new ≡ rewritten layout.now items.now []) }
+{
+    let mut new = layout.with(alloc, &[], &[])?;
+    for write in items {
+        new = new.with(alloc, std::slice::from_ref(write), &[])?;
+    }
+    Ok(new)
 }
 
 /// An item comes to stand under a new id. The elements begin with that of the id.

@@ -1,5 +1,5 @@
 //! The layout as a transaction sees it.
-ghost use Rattle.std.specs.Prelude.{◌≡◌, IfOk, option_copied};
+ghost use Rattle.std.specs.Prelude.{◌≡◌, IfOk, IfSome, option_copied};
 ghost use Rattle.std.specs.FinMap as map;
 ghost use Rattle.lay_items.specs.Layout.{is_cell, item_at};
 ghost use Rattle.lay_items.specs.Sound.{IsSound};
@@ -13,11 +13,13 @@ use std::alloc::Global;
 use std::marker::Model;
 use txn_marks::Writes;
 
-/// A snapshot with writes over it. Contracts see the layout that they make.
+/// A snapshot with writes over it, and the layout that they make, where it is kept. Contracts see that
+/// layout.
 #[derive(Drop)]
 pub(crate) struct Seen<'a> {
     snapshot: &'a Snapshot,
     writes: &'a Writes,
+    whole: Option<&'a Snapshot>,
 }
 
 impl<'a> Model for Seen<'a> {
@@ -34,12 +36,21 @@ impl<'a> Model for Seen<'a> {
 }
 
 impl<'a> Seen<'a> {
-    /// Returns the snapshot with the writes over it.
-    pub(crate) fn new(snapshot: &'a Snapshot, writes: &'a Writes) -> Seen<'a>
-        requires { Overlays snapshot.now writes.now }
+    /// Returns the snapshot with the writes over it. `whole` is the layout that they make, where it is kept.
+    pub(crate) fn new(
+        snapshot: &'a Snapshot,
+        writes: &'a Writes,
+        whole: Option<&'a Snapshot>,
+    ) -> Seen<'a>
+        requires over { Overlays snapshot.now writes.now }
+        requires whole { IfSome (option_copied whole) (λ l. l ≡ applied snapshot.now writes.now) }
         ensures { result ≡ applied snapshot.now writes.now }
     {
-        Seen { snapshot, writes }
+        Seen {
+            snapshot,
+            writes,
+            whole,
+        }
     }
 
     /// Returns the item of this id.
@@ -76,6 +87,9 @@ impl<'a> Seen<'a> {
     pub(crate) fn whole(&self, alloc: Global) -> Result<Snapshot, NoMemory>
         ensures value { IfOk result (λ whole. whole ≡ self.now) }
     {
-        self.writes.applied(alloc, self.snapshot)
+        match self.whole {
+            Some(whole) => whole.share(alloc),
+            None => self.writes.applied(alloc, self.snapshot),
+        }
     }
 }

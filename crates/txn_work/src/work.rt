@@ -1,5 +1,5 @@
 //! Transactions at work on a snapshot.
-ghost use Rattle.std.specs.Prelude.{◌≡◌, ◌+◌, ◌≤◌, [], IfOk, OnErr, OnOk, Ok, false, option_copied};
+ghost use Rattle.std.specs.Prelude.{◌≡◌, ◌+◌, ◌≤◌, [], IfOk, IfSome, OnErr, OnOk, Ok, false, option_copied};
 ghost use Rattle.lay_point.specs.Memory.{IsAnswer};
 ghost use Rattle.lay_items.specs.Layout.{item_at};
 ghost use Rattle.lay_items.specs.Sound.{IsSound};
@@ -7,6 +7,7 @@ ghost use Rattle.txn_rules.specs.Effects.{is_too_much, next_id};
 ghost use Rattle.txn_rules.specs.Elements.{untouched};
 ghost use Rattle.txn_rules.specs.Plans.{plan};
 ghost use Rattle.txn_rules.specs.Transactions.{IsTransaction};
+ghost use Rattle.txn_rules.specs.Writing.{rewritten};
 ghost use Rattle.txn_work.specs.Answers.{after_command, answer_to, run_so_far};
 
 use crate::act::Act;
@@ -29,6 +30,8 @@ pub struct Work {
     id: TxnId,
     opened: u32,
     snapshot: Snapshot,
+    /// The layout as it sees it, once a command needed it whole.
+    whole: Option<Snapshot>,
     commands: Vec<Command>,
     /// How many items they made.
     made: u32,
@@ -69,6 +72,7 @@ impl Work {
             id,
             opened,
             snapshot,
+            whole: None,
             commands: Vec::new(alloc),
             made: 0,
             writes: Writes::new(alloc),
@@ -132,8 +136,10 @@ impl Work {
         ensures writes { result.1 ≡ self.writes }
         ensures footprint { result.2 ≡ self.footprint }
     {
+        let mut commands = self.commands;
+        commands.shrink_to_fit();
         (
-            Sequence::from_vec(self.commands),
+            Sequence::from_vec(commands),
             self.writes,
             self.footprint,
         )
@@ -153,6 +159,7 @@ impl Work {
         ensures ok { OnOk result (self.new ≡ after_command self.old command) }
         ensures err { OnErr result (self.new ≡ self.old) }
     {
+        self.keep_whole(alloc, &command)?;
         let act = plan(rt, alloc, bands, &self.seen(), self.next_id(), &command)?;
         if self.has_no_room_for(&act) {
             return Err(CmdFault::TxnFull);
@@ -164,7 +171,32 @@ impl Work {
     fn seen(&self) -> Seen<'_>
         ensures { result ≡ (run_so_far self.now).layout }
     {
-        Seen::new(&self.snapshot, &self.writes)
+        Seen::new(&self.snapshot, &self.writes, self.whole.as_ref())
+    }
+
+    /// Keeps the layout as the transaction sees it, where the command needs it whole: it goes on with each
+    /// command, so it is made once.
+    fn keep_whole(&mut self, alloc: Global, command: &Command) -> Result<(), NoMemory>
+        ensures { self.new ≡ self.old }
+    {
+        if self.whole.is_none() && needs_whole(command) {
+            let whole = self.seen().whole(alloc)?;
+            self.whole = Some(whole);
+        }
+        Ok(())
+    }
+
+    /// Returns the layout after an act that was planned, where the one before it is kept and memory is left.
+    fn whole_after(&self, alloc: Global, command: &Command, act: &Act) -> Option<Snapshot>
+        requires planned { plan (next_id self.now.id (run_so_far self.now)) command.now
+            (run_so_far self.now).layout ≡ Ok act.now }
+        requires room { is_too_much (run_so_far self.now) act.now ≡ false }
+        ensures { IfSome result (λ whole.
+            whole ≡ rewritten (run_so_far self.now).layout act.now.items act.now.symbols) }
+    {
+        let whole = self.whole.as_ref()?;
+        let next = act.over(alloc, whole.version()).ok()?;
+        Snapshot::of(alloc, next).ok()
     }
 
     /// Returns the id of the next new item.
@@ -195,6 +227,7 @@ impl Work {
         ensures ok { OnOk result (self.new ≡ after_command self.old command) }
         ensures err { OnErr result (self.new ≡ self.old) }
     {
+        let whole = self.whole_after(alloc, &command, &act);
         let Act {
             done,
             elements,
@@ -212,8 +245,19 @@ impl Work {
             written,
         )?;
         self.made = more;
+        self.whole = whole;
         self.commands.push(command).unwrap();
         Ok(done)
+    }
+}
+
+/// Returns whether the command goes over more of the layout than single items and symbols.
+fn needs_whole(command: &Command) -> bool {
+    match command {
+        Command::Place { .. } => true,
+        Command::Bool { .. } => true,
+        Command::DropCell(_) => true,
+        _ => false,
     }
 }
 
