@@ -138,11 +138,7 @@ impl Work {
     {
         let mut commands = self.commands;
         commands.shrink_to_fit();
-        (
-            Sequence::from_vec(commands),
-            self.writes,
-            self.footprint,
-        )
+        (Sequence::from_vec(commands), self.writes, self.footprint)
     }
 
     /// Runs a command in the transaction. The refusals come in the order of the command's tests, and
