@@ -30,19 +30,19 @@ past_end : {X : Type 0} (test : X → Bool) (xs : List X) → passes test (slice
 past_end test [] = refl
 past_end test (x ∷ xs) = past_end test xs
 
-suc_zero : (i : ℕ) → (suc i == 0) ≡ false
+pub suc_zero : (i : ℕ) → (suc i == 0) ≡ false
 suc_zero i = by (suc i == 0) refl where
   by : (b : Bool) → (suc i == 0) ≡ b → b ≡ false
   by true is = let e : suc i ≡ 0 = (Decides-eqb (suc i) 0).0 is in absurd (omega (arith, e))
   by false is = refl
 
-zero_suc : (i : ℕ) → (0 == suc i) ≡ false
+pub zero_suc : (i : ℕ) → (0 == suc i) ≡ false
 zero_suc i = by (0 == suc i) refl where
   by : (b : Bool) → (0 == suc i) ≡ b → b ≡ false
   by true is = let e : 0 ≡ suc i = (Decides-eqb 0 (suc i)).0 is in absurd (omega (arith, e))
   by false is = refl
 
-suc_suc : (i j : ℕ) → (suc i == suc j) ≡ (i == j)
+pub suc_suc : (i j : ℕ) → (suc i == suc j) ≡ (i == j)
 suc_suc i j = same_from_decides (suc i == suc j) (i == j)
     (Decides-like {Q = i ≡ j} (suc i == suc j) (λ e. omega (arith, e)) (λ e. ap suc e) (Decides-eqb (suc i) (suc j))) (Decides-eqb i j)
 

@@ -9,4 +9,4 @@ pub mod SameLemmas
 pub mod SoundLemmas
 pub mod StaleLemmas
 pub mod UndoLemmas
-pub mod WalkLemmas
+pub mod MovedLemmas

@@ -17,8 +17,7 @@ use Rattle.txn_rules.specs.Meets.{some_meets}
 use Rattle.txn_marks.proofs.AnyLemmas.{any_alike, any_none}
 use Rattle.undo_rules.specs.Links.{Entry, links_to}
 use Rattle.undo_index.specs.Listed.{Listed, is_listed}
-use Rattle.undo_book.specs.Indexed.{Lists, name_at, wrote}
-use Rattle.undo_book.specs.Walks.{is_linked}
+use Rattle.undo_book.specs.Indexed.{Lists, is_linked, name_at, wrote}
 use Rattle.undo_book.proofs.IndexedLemmas.{any_live}
 
 -- ---- rising places

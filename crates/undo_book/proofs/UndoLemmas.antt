@@ -25,7 +25,7 @@ use Rattle.undo_book.specs.Replays.{CanBeRedone, replay}
 use Rattle.undo_book.proofs.FoundLemmas.{split_at}
 use Rattle.undo_book.proofs.PlaceLemmas.{found_marked, found_there, marked_there, place_within}
 use Rattle.undo_book.proofs.SoundLemmas.{entry_proper, kept_sound}
-use Rattle.undo_book.proofs.WalkLemmas.{unmoved_same}
+use Rattle.undo_book.proofs.MovedLemmas.{unmoved_same}
 
 -- ---- what nothing is against
 

@@ -5,7 +5,8 @@ use Rattle.txn_rules.specs.declared.command.TxnId.{TxnId}
 use Rattle.txn_rules.specs.declared.element.Element.{Element}
 use Rattle.txn_rules.specs.Lies.{passes}
 use Rattle.txn_rules.specs.Meets.{some_meets}
-use Rattle.undo_rules.specs.Links.{Entry}
+use Rattle.txn_rules.specs.Elements.{Touched}
+use Rattle.undo_rules.specs.Links.{Entry, touches}
 use Rattle.undo_index.specs.Listed.{Listed, is_listed}
 
 -- the transaction is live, and its records meet the element
@@ -24,6 +25,10 @@ Lists test listed entries = (e : Element) (i : ℕ) → is_listed listed e i ≡
 pub record AreIndexed (wrote_by read_by : Listed) (entries : List Entry) : Type 0 where
   pub writers : Lists wrote wrote_by entries
   pub readers : Lists touched read_by entries
+
+-- the transaction is live and wrote what is touched
+abbrev pub is_linked : Entry → Touched → Bool
+is_linked entry touched = entry.live && touches entry.writes touched
 
 -- the name of the transaction at a place
 abbrev pub name_at : List Entry → ℕ → Option TxnId

@@ -1,6 +1,5 @@
 pub mod Coded
 pub mod Places
-pub mod Walks
 pub mod Replays
 pub mod Calls
 pub mod Changes

@@ -148,7 +148,6 @@ impl Book {
             place,
             writes,
             footprint,
-            met,
             seen: Sequence::from_vec(seen),
             live: true,
         };

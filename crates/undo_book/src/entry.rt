@@ -1,6 +1,5 @@
 //! Committed transactions.
 ghost use Rattle.std.specs.Prelude.{◌≡◌, ◌<◌, Some, slice_get, slice_set, vec_len};
-ghost use Rattle.txn_marks.specs.Homes.{AreMetBy};
 ghost use Rattle.undo_rules.specs.Links.{Entry as Kept, marked};
 
 use lay_point::Sequence;
@@ -8,22 +7,18 @@ use std::marker::Model;
 use txn_marks::{Footprint, Writes};
 use txn_rules::TxnId;
 
-/// A committed transaction, with the elements in which what it wrote lies. Contracts see the record of its
-/// other parts.
+/// A committed transaction. Contracts see the record of its parts.
 #[derive(Debug, Drop)]
 pub struct Entry {
     pub(crate) txn: TxnId,
     pub(crate) place: u32,
     pub(crate) writes: Writes,
     pub(crate) footprint: Footprint,
-    /// The elements that its records meet.
-    pub(crate) met: Footprint,
     pub(crate) seen: Sequence<TxnId>,
     pub(crate) live: bool,
 }
 
 impl Model for Entry {
-    ghost use Rattle.txn_marks.specs.Homes.{AreMetBy};
     ghost use Rattle.undo_rules.specs.Links.{Entry};
     ghost use Rattle.undo_book.specs.Coded.{coded_entry};
 
@@ -39,8 +34,6 @@ impl Model for Entry {
       seen = e.seen;
       live = e.live;
     } };
-
-    ghost invariant = { λ e. AreMetBy e.writes e.met };
 }
 
 impl Entry {
@@ -84,13 +77,6 @@ impl Entry {
         ensures { result ≡ self.now.live }
     {
         self.live
-    }
-
-    /// Lends the elements that its records meet.
-    pub(crate) fn met(&self) -> &Footprint
-        ensures { AreMetBy self.now.writes result.now }
-    {
-        &self.met
     }
 
     /// Marks it as live, or as undone.

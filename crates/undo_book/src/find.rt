@@ -1,17 +1,20 @@
 //! Transactions by their names, and what is against undoing or redoing them.
-ghost use Rattle.std.specs.Prelude.{◌≡◌, ◌<◌, IfSome, MatchResult, None, Some, drop, length};
+ghost use Rattle.std.specs.Prelude.{◌≡◌, ◌<◌, IfOk, IfSome, MatchResult, None, Some, drop, length, map};
 ghost use Rattle.undo_rules.specs.Books.{writes_of};
-ghost use Rattle.undo_rules.specs.Steps.{redo_refusal, stale_by, touching};
+ghost use Rattle.undo_rules.specs.Links.{AreNamed, trace_of};
+ghost use Rattle.undo_rules.specs.Steps.{redo_refusal, redo_refusal_at, stale_by, touching};
 ghost use Rattle.undo_rules.specs.Steps.{undo_refusal, undo_refusal_at};
 ghost use Rattle.undo_book.specs.Changes.{first_change};
 ghost use Rattle.undo_book.specs.Indexed.{AreIndexed};
-ghost use Rattle.undo_book.specs.Places.{found_at, place_of};
-ghost use Rattle.undo_book.specs.Walks.{redo_refusal_along};
+ghost use Rattle.undo_book.specs.Places.{AreTheirPlaces, found_at, place_of};
 
 use crate::book::Book;
 use crate::changes::is_before;
 use crate::entry::Entry;
 use crate::links::{changed_in, first_moved, first_reader};
+use lay_point::NoMemory;
+use std::alloc::Global;
+use std::collections::BTreeMap;
 use txn_marks::Footprint;
 use txn_rules::TxnId;
 use undo_index::Index;
@@ -28,35 +31,45 @@ impl Book {
 
     /// Returns the place of the transaction of this name, where nothing is against undoing it, or why it
     /// can't be undone.
-    pub(crate) fn undo_place(&self, txn: TxnId) -> Result<usize, BookFault>
-        ensures { MatchResult result
+    pub(crate) fn undo_place(
+        &self,
+        alloc: Global,
+        txn: TxnId,
+    ) -> Result<Result<usize, BookFault>, NoMemory>
+        ensures { IfOk result (λ answer. MatchResult answer
             (λ place. (place_of txn self.now.entries ≡ Some place)
             × (undo_refusal self.now txn ≡ None) × (place < length self.now.entries))
-            (λ fault. undo_refusal self.now txn ≡ Some fault) }
+            (λ fault. undo_refusal self.now txn ≡ Some fault)) }
     {
         let Some(place) = self.place_of(txn) else {
-            return Err(BookFault::NoTxn);
+            return Ok(Err(BookFault::NoTxn));
         };
-        match undo_refusal_at(&self.index, &self.entries, place) {
-            Some(fault) => Err(fault),
-            None => Ok(place),
+        let refusal = undo_refusal_at(alloc, &self.index, &self.entries, place)?;
+        match refusal {
+            Some(fault) => Ok(Err(fault)),
+            None => Ok(Ok(place)),
         }
     }
 
     /// Returns the place of the transaction of this name, where nothing is against redoing it, or why it
     /// can't be redone.
-    pub(crate) fn redo_place(&self, txn: TxnId) -> Result<usize, BookFault>
-        ensures { MatchResult result
+    pub(crate) fn redo_place(
+        &self,
+        alloc: Global,
+        txn: TxnId,
+    ) -> Result<Result<usize, BookFault>, NoMemory>
+        ensures { IfOk result (λ answer. MatchResult answer
             (λ place. (place_of txn self.now.entries ≡ Some place)
             × (redo_refusal self.now txn ≡ None) × (place < length self.now.entries))
-            (λ fault. redo_refusal self.now txn ≡ Some fault) }
+            (λ fault. redo_refusal self.now txn ≡ Some fault)) }
     {
         let Some(place) = self.place_of(txn) else {
-            return Err(BookFault::NoTxn);
+            return Ok(Err(BookFault::NoTxn));
         };
-        match redo_refusal_at(&self.index, &self.entries, place) {
-            Some(fault) => Err(fault),
-            None => Ok(place),
+        let refusal = redo_refusal_at(alloc, &self.index, &self.places, &self.entries, place)?;
+        match refusal {
+            Some(fault) => Ok(Err(fault)),
+            None => Ok(Ok(place)),
         }
     }
 
@@ -99,30 +112,46 @@ impl Book {
 }
 
 /// Returns why the transaction at this place can't be undone.
-fn undo_refusal_at(index: &Index, entries: &[Entry], place: usize) -> Option<BookFault>
+fn undo_refusal_at(
+    alloc: Global,
+    index: &Index,
+    entries: &[Entry],
+    place: usize,
+) -> Result<Option<BookFault>, NoMemory>
     requires place { place < length entries.now }
     requires index { AreIndexed index.now.writers index.now.readers entries.now }
-    ensures { result ≡ undo_refusal_at (found_at entries.now place) }
+    ensures { IfOk result (λ refusal. refusal ≡ undo_refusal_at (found_at entries.now place)) }
 {
     let entry = &entries[place];
     if !entry.live {
-        return Some(BookFault::NotLive);
+        return Ok(Some(BookFault::NotLive));
     }
-    first_reader(index, entries, entry, place + 1).map(BookFault::Depends)
+    let met = entry.writes.elements(alloc)?;
+    Ok(first_reader(index, entries, entry, &met, place + 1).map(BookFault::Depends))
 }
 
 /// Returns why the transaction at this place can't be redone.
-fn redo_refusal_at(index: &Index, entries: &[Entry], place: usize) -> Option<BookFault>
+fn redo_refusal_at(
+    alloc: Global,
+    index: &Index,
+    places: &BTreeMap<(u8, u16), usize>,
+    entries: &[Entry],
+    place: usize,
+) -> Result<Option<BookFault>, NoMemory>
     requires place { place < length entries.now }
     requires index { AreIndexed index.now.writers index.now.readers entries.now }
-    ensures { result ≡ redo_refusal_along (found_at entries.now place) }
+    requires places { AreTheirPlaces places.now.entries entries.now }
+    requires named { AreNamed (map trace_of entries.now) }
+    ensures { IfOk result (λ refusal. refusal ≡ redo_refusal_at (found_at entries.now place)) }
 {
     let entry = &entries[place];
     if entry.live {
-        return Some(BookFault::StillLive);
+        return Ok(Some(BookFault::StillLive));
     }
-    if let Some(reader) = first_reader(index, entries, entry, place + 1) {
-        return Some(BookFault::Depends(reader));
+    let met = entry.writes.elements(alloc)?;
+    if let Some(reader) = first_reader(index, entries, entry, &met, place + 1) {
+        return Ok(Some(BookFault::Depends(reader)));
     }
-    first_moved(&entries[..place], &entry.footprint, entry.seen.as_slice()).map(BookFault::Moved)
+    let moved = first_moved(alloc, index, places, entries, place)?;
+    Ok(moved.map(BookFault::Moved))
 }

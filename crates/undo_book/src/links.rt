@@ -1,35 +1,108 @@
 //! Which transactions touched what others wrote.
-ghost use Rattle.std.specs.Prelude.{◌≡◌, IfOk, drop};
-ghost use Rattle.std.specs.List.{filter_map};
+ghost use Rattle.std.specs.Prelude.{◌≡◌, ◌<◌, ℕ, ◌||◌, ◌&&◌, IfOk, OnOk, drop, length, map, nat_lt};
+ghost use Rattle.std.specs.BTreeSet.{contains as has};
+ghost use Rattle.std.specs.List.{filter_map, list_any};
 ghost use Rattle.std.specs.List.Sorted.{IsStrictlySortedBy};
 ghost use Rattle.std.specs.Ordering.{nat_cmp};
+ghost use Rattle.txn_marks.specs.Homes.{AreMetBy};
 ghost use Rattle.undo_rules.specs.Books.{changed_by, changed_in};
-ghost use Rattle.undo_rules.specs.Links.{first_reader, links_to};
+ghost use Rattle.undo_rules.specs.Links.{AreNamed, first_reader, links_to, trace_of};
 ghost use Rattle.undo_book.specs.Indexed.{AreIndexed, name_at};
-ghost use Rattle.undo_book.specs.Walks.{first_apart, is_linked, next_seen};
+ghost use Rattle.undo_book.specs.Places.{AreTheirPlaces, found_at, moved_at, named_at, stands_at};
 
 use crate::book::Book;
 use crate::entry::Entry;
 use lay_point::NoMemory;
 use std::alloc::Global;
-use std::collections::BTreeSet;
+use std::collections::{BTreeMap, BTreeSet};
 use txn_marks::Footprint;
 use txn_rules::TxnId;
-use undo_index::Index;
+use undo_index::{Index, first_apart};
 use undo_rules::{Answer, Call, Logged};
 
-/// Returns the first live transaction from this place on that touched what another one wrote.
+/// Returns the first live transaction from this place on that touched what another one wrote, of which the
+/// records meet these elements.
 pub(crate) fn first_reader(
     index: &Index,
     entries: &[Entry],
     entry: &Entry,
+    met: &Footprint,
     from: usize,
 ) -> Option<TxnId>
-    requires { AreIndexed index.now.writers index.now.readers entries.now }
+    requires index { AreIndexed index.now.writers index.now.readers entries.now }
+    requires met { AreMetBy entry.now.writes met.now }
     ensures { result ≡ first_reader entry.now.writes (drop from entries.now) }
 {
-    let place = index.readers.first_among(entry.met(), from)?;
+    let place = index.readers.first_among(met, from)?;
     Some(entries.get(place)?.txn)
+}
+
+/// Returns the first of the transactions before this place that is linked to the one there and that it
+/// hasn't seen, or the other way round.
+///
+/// # Cost
+///
+/// As that of `links_to`, and as many steps as it has seen, each by the logarithm of the number of
+/// transactions.
+pub(crate) fn first_moved(
+    alloc: Global,
+    index: &Index,
+    places: &BTreeMap<(u8, u16), usize>,
+    entries: &[Entry],
+    place: usize,
+) -> Result<Option<TxnId>, NoMemory>
+    requires place { place < length entries.now }
+    requires index { AreIndexed index.now.writers index.now.readers entries.now }
+    requires places { AreTheirPlaces places.now.entries entries.now }
+    requires named { AreNamed (map trace_of entries.now) }
+    ensures { IfOk result (λ moved. moved ≡ moved_at (found_at entries.now place)) }
+{
+    let entry = &entries[place];
+    let linked = index.writers.all_among(alloc, &entry.footprint, place)?;
+    let seen = places_of(alloc, places, entry.seen.as_slice(), place)?;
+    Ok(named_at(entries, first_apart(&linked, &seen)))
+}
+
+/// Returns the places below this one at which transactions of these names stand.
+fn places_of(
+    alloc: Global,
+    places: &BTreeMap<(u8, u16), usize>,
+    names: &[TxnId],
+    below: usize,
+) -> Result<BTreeSet<usize>, NoMemory>
+    ensures { IfOk result (λ found. (p : ℕ) → has nat_cmp found p
+        ≡ (nat_lt p below && list_any (stands_at places.now.entries p) names.now)) }
+{
+    let mut found = BTreeSet::new(alloc);
+    for name in names {
+        place_of(places, *name, below, &mut found)?;
+    }
+    Ok(found)
+}
+
+/// Adds the place at which the transaction of this name stands, where that is below the other one.
+fn place_of(
+    places: &BTreeMap<(u8, u16), usize>,
+    name: TxnId,
+    below: usize,
+    found: &mut BTreeSet<usize>,
+) -> Result<(), NoMemory>
+    ensures { OnOk result ((p : ℕ) → has nat_cmp found.new p
+        ≡ (has nat_cmp found.old p || (nat_lt p below && stands_at places.now.entries p name))) }
+{
+    if let Some(place) = places.get(&(name.session, name.txn)) {
+        if *place < below {
+            found.insert(*place)?;
+        }
+    }
+    Ok(())
+}
+
+/// Returns the name of the transaction at the place, if there is one.
+fn named_at(entries: &[Entry], place: Option<usize>) -> Option<TxnId>
+    ensures { result ≡ named_at entries.now place }
+{
+    Some(entries.get(place?)?.txn)
 }
 
 impl Book {
@@ -70,39 +143,6 @@ fn names_at(
         }
     }
     Ok(names)
-}
-
-/// Returns the first of these transactions that is live and wrote what is touched, and was not seen, or the
-/// other way round. Those that were seen stand in the order of the transactions.
-pub(crate) fn first_moved(entries: &[Entry], footprint: &Footprint, seen: &[TxnId]) -> Option<TxnId>
-    ensures { result ≡ first_apart footprint.now entries.now seen.now }
-{
-    let mut seen = seen;
-    for entry in entries {
-        let (was_seen, rest) = next_seen(entry.txn, seen);
-        if is_linked(entry, footprint) != was_seen {
-            return Some(entry.txn);
-        }
-        seen = rest;
-    }
-    None
-}
-
-/// Returns whether the transaction is the first of those that were seen, and those that are left.
-fn next_seen(txn: TxnId, seen: &[TxnId]) -> (bool, &[TxnId])
-    ensures { (result.0, result.1.now) ≡ next_seen txn seen.now }
-{
-    match seen.split_first() {
-        Some((first, rest)) if txn == *first => (true, rest),
-        _ => (false, seen),
-    }
-}
-
-/// Returns whether the transaction is live and wrote what is touched.
-fn is_linked(entry: &Entry, footprint: &Footprint) -> bool
-    ensures { result ≡ is_linked entry.now footprint.now }
-{
-    entry.live && entry.writes.touch(footprint)
 }
 
 /// Returns the transaction that the logged call committed, undid or redid, if it was accepted.

@@ -28,7 +28,7 @@ impl Book {
         if self.is_full() {
             return Err(BookFault::LogFull);
         }
-        match self.redo_place(txn) {
+        match self.redo_place(alloc, txn)? {
             Ok(place) => Ok(self.reapply(alloc, session, txn, place)?),
             Err(fault) => {
                 self.log_refusal(session, Call::Redo(txn), fault)?;
@@ -54,9 +54,10 @@ impl Book {
     {
         let entry = &self.entries[place];
         let layout = entry.writes.applied(alloc, &self.layout)?;
+        let met = entry.writes.elements(alloc)?;
         self.log.reserve(1)?;
         self.changes.reserve_call()?;
-        self.index.enter(entry.met(), &entry.footprint, place)?;
+        self.index.enter(&met, &entry.footprint, place)?;
         self.changes.add_again(place, self.log.len() as u32);
         mark_at(&mut self.entries, place, true);
         let logged = Logged {

@@ -29,7 +29,7 @@ impl Book {
         if self.is_full() {
             return Err(BookFault::LogFull);
         }
-        match self.undo_place(txn) {
+        match self.undo_place(alloc, txn)? {
             Ok(place) => Ok(self.revert(alloc, session, txn, place)?),
             Err(fault) => {
                 self.log_refusal(session, Call::Undo(txn), fault)?;
@@ -56,9 +56,10 @@ impl Book {
     {
         let entry = &self.entries[place];
         let layout = entry.writes.reverted(alloc, &self.layout)?;
+        let met = entry.writes.elements(alloc)?;
         self.log.reserve(1)?;
         self.changes.reserve_call()?;
-        self.index.leave(entry.met(), &entry.footprint, place);
+        self.index.leave(&met, &entry.footprint, place);
         self.changes.add_again(place, self.log.len() as u32);
         mark_at(&mut self.entries, place, false);
         let logged = Logged {

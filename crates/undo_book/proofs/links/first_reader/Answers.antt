@@ -11,32 +11,32 @@ use Rattle.undo_book.proofs.links.first_reader.Goals as goal
 pub returns-in_err-place : goal.returns-in_err-place
 returns-in_err-place c =
     let r = c.args.index.now.readers in
-    let met = c.met.result.now in
+    let met = c.args.met.now in
     let none : c.from_residual.result ≡ None = search rules in
     let at : c.first_among.result ≡ None = search rules in
-    none ∙ sym (reader_found c.args.entry.now.writes r c.args.entries.now met c.args.from None c.requires.readers c.met.ensures
+    none ∙ sym (reader_found c.args.entry.now.writes r c.args.entries.now met c.args.from None c.requires.index.readers c.requires.met
     (subst (IsFirst (λ q. list_any (λ e. is_listed r e q) (items met)) c.args.from) at c.first_among.ensures))
 
 pub returns-in_err-get : goal.returns-in_err-get
 returns-in_err-get c =
     let r = c.args.index.now.readers in
-    let met = c.met.result.now in
+    let met = c.args.met.now in
     let none : c.from_residual-in_err-get.result ≡ None = search rules in
     let at : c.first_among.result ≡ Some c.in_ok-place.place = search rules in
     let gone : slice_get c.args.entries.now c.in_ok-place.place ≡ None =
     slice_get_past c.args.entries.now c.in_ok-place.place c.in_err-get.ensures.lookup.3 in
-    none ∙ sym (reader_gone c.args.entry.now.writes r c.args.entries.now met c.args.from c.in_ok-place.place c.requires.readers c.met.ensures
+    none ∙ sym (reader_gone c.args.entry.now.writes r c.args.entries.now met c.args.from c.in_ok-place.place c.requires.index.readers c.requires.met
     (subst (IsFirst (λ q. list_any (λ e. is_listed r e q) (items met)) c.args.from) at c.first_among.ensures) gone)
 
 pub returns : goal.returns
 returns c =
     let r = c.args.index.now.readers in
-    let met = c.met.result.now in
+    let met = c.args.met.now in
     let at : c.first_among.result ≡ Some c.in_ok-place.place = search rules in
     let lookup = c.in_ok-get.ensures.lookup in
     let there : slice_get c.args.entries.now c.in_ok-place.place ≡ Some c.in_ok-get.field-0.now =
     slice_get_read c.args.entries.now (length c.args.entries.now) c.in_ok-place.place c.in_ok-get.field-0.now refl lookup.3.0 lookup.1 in
     ap (λ (e : Entry). Some e.txn) c.branch.view_is
     ∙ sym (reader_is c.args.entry.now.writes r c.args.entries.now met c.args.from c.in_ok-place.place c.in_ok-get.field-0.now
-    c.requires.readers c.met.ensures
+    c.requires.index.readers c.requires.met
     (subst (IsFirst (λ q. list_any (λ e. is_listed r e q) (items met)) c.args.from) at c.first_among.ensures) there)

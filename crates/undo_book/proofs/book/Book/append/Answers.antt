@@ -31,12 +31,12 @@ applied-requires-clause-sound c =
     c.id-txn.ensures.transaction (search rules) c.requires.own c.requires.fresh).sound
 
 -- the transaction as it is entered
-entry : (c : goal.After-drop-self-inside) → c.push.new.self.items
+entry : (c : goal.After-drop-met-inside-2) → c.push.new.self.items
     ≡ c.self.inside.entries.items ++ entered (history_of c.self.inside) c.args.work ∷ []
 entry c = search rules
 
 -- what is left at the end
-left : (c : goal.After-drop-self-inside) → LeavesCommitted c.args.self.now (history_of (record c.self.inside {
+left : (c : goal.After-drop-met-inside-2) → LeavesCommitted c.args.self.now (history_of (record c.self.inside {
   layout = c.in-Ok.layout;
   log = c.push-2.new.self;
   entries = c.push.new.self;
@@ -55,7 +55,7 @@ left c =
     can.left c.in-Ok.layout c.push-2.new.self.items c.push.new.self.items c.end_pending.new.sessions.items layout log (entry c) sessions
 
 -- who wrote and touched what
-indexed : (c : goal.After-drop-self-inside) → AreIndexed c.enter.new.self.writers c.enter.new.self.readers c.push.new.self.items
+indexed : (c : goal.After-drop-met-inside-2) → AreIndexed c.enter.new.self.writers c.enter.new.self.readers c.push.new.self.items
 indexed c =
     let was = c.self.inside.index in
     let work = c.args.work in

@@ -8,6 +8,7 @@ use Rattle.undo_rules.specs.Links.{Entry}
 use Rattle.undo_rules.specs.Steps.{remarked}
 use Rattle.txn_rules.specs.Records.{AreProper, reverted}
 use Rattle.lay_items.specs.Sound.{IsSound}
+use Rattle.txn_marks.specs.Homes.{AreMetBy}
 use Rattle.undo_index.specs.Listed.{AreRemoved}
 use Rattle.undo_book.specs.Books.{history_of}
 use Rattle.undo_book.specs.Places.{AreTheirPlaces, place_of}
@@ -57,7 +58,7 @@ mark_at-requires c =
     omega (arith, within, len)
 
 -- what is left at the end
-left : (c : goal.After-drop-self-inside) → LeavesUndone c.args.self.now (history_of (record c.self.inside {
+left : (c : goal.After-drop-met-inside-2) → LeavesUndone c.args.self.now (history_of (record c.self.inside {
   layout = c.in_ok-layout.layout;
   log = c.push.new.self;
   entries = c.mark_at.new.entries;
@@ -75,7 +76,7 @@ left c =
     (c.mark_at.ensures c.index-entry.result.now can.there)
 
 -- who wrote and touched what
-indexed : (c : goal.After-drop-self-inside) → AreIndexed c.leave.new.self.writers c.leave.new.self.readers c.mark_at.new.entries.items
+indexed : (c : goal.After-drop-met-inside-2) → AreIndexed c.leave.new.self.writers c.leave.new.self.readers c.mark_at.new.entries.items
 indexed c =
     let was = c.self.inside.index in
     let entry = c.index-entry.result.now in
@@ -84,10 +85,12 @@ indexed c =
     let within : c.args.place < length c.self.inside.entries.items =
     subst (λ (h : History). c.args.place < length h.entries) (sym c.self.view_is)
     (place_within c.args.self.now.entries c.args.txn c.args.place c.requires.place) in
-    let wrote_it : AreRemoved was.writers c.met.result.now c.args.place c.leave.new.self.writers = search rules in
+    let met : AreMetBy c.entry.inside.writes c.in_ok-met.met = search rules in
+    let are : AreMetBy entry.writes c.in_ok-met.met = subst (λ (e : Entry). AreMetBy e.writes c.in_ok-met.met) c.entry.view_is met in
+    let wrote_it : AreRemoved was.writers c.in_ok-met.met c.args.place c.leave.new.self.writers = search rules in
     let read_it : AreRemoved was.readers entry.footprint c.args.place c.leave.new.self.readers = search rules in
     undo_indexed was.writers was.readers c.leave.new.self.writers c.leave.new.self.readers c.self.inside.entries.items
-    c.mark_at.new.entries.items c.args.place entry c.met.result.now c.self.invariant.index wrote_it read_it c.met.ensures can.live can.there
+    c.mark_at.new.entries.items c.args.place entry c.in_ok-met.met c.self.invariant.index wrote_it read_it are can.live can.there
     within (c.mark_at.ensures entry can.there)
 
 pub invariant_of-self-2 : goal.invariant_of-self-2
