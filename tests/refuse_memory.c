@@ -11,12 +11,12 @@ static long growths;
 
 static int is_refused(void) {
     const char *refused = getenv("REFUSE"), *all = getenv("REFUSE_ALL");
-    growths += 1;
+    long growth = __atomic_add_fetch(&growths, 1, __ATOMIC_SEQ_CST);
     if (refused == NULL) {
         return 0;
     }
     long first = atol(refused);
-    return growths == first || (growths > first && all != NULL && atol(all) == 1);
+    return growth == first || (growth > first && all != NULL && atol(all) == 1);
 }
 
 void *malloc(size_t size) {

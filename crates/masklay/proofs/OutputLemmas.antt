@@ -1,5 +1,5 @@
 -- What is kept of the input decides the output.
-use Rattle.std.proofs.Common.{◌≡◌, ℕ, ◌<◌, List, OnErr, OnOk, Option, Result, false, length}
+use Rattle.std.proofs.Common.{◌≡◌, ℕ, ◌<◌, Bool, List, OnErr, OnOk, Option, Result, false, length}
 use Rattle.std.proofs.Common.{true, take, Ok, Err, inl, inr, refl, sym, ap, subst, ◌∙◌, arith}
 use Rattle.std.proofs.lemmas.Bool.{cases_lt}
 use Rattle.std.specs.Result.{is_err}
@@ -13,7 +13,8 @@ use Rattle.masklay.specs.declared.program.status.Status.{Status}
 use Rattle.masklay.specs.declared.program.outcome.Finished.{Finished}
 use Rattle.masklay.specs.declared.program.outcome.Stop.{Stop}
 use Rattle.cif_read.proofs.OneMeaning.{one_meaning}
-use Rattle.masklay.specs.Outcome.{AnswersOutcome, IsOutcome, IsOutcomeOf, finished_with}
+use Rattle.masklay.specs.Outcome.{IsOutcome, IsOutcomeOf, finished_with}
+use Rattle.masklay.specs.Threads.{AnswersOutcome, BecomesOf, IsThreadedOutcome, IsThreadedOutcomeOf}
 use Rattle.masklay.specs.Output.{Ends, IsOutput, Output, Writes, WritesOrMemory, output_from}
 use Rattle.masklay.specs.Reading.{kept_of}
 
@@ -31,19 +32,26 @@ kept_job bytes =
           ∙ sym (too_long_job bytes (omega arith))
     ]
 
--- one byte more than a job may have is enough to tell its output
-pub kept_output : (bytes : List ℕ) (output : Output) → IsOutput (kept_of bytes) output → IsOutput bytes output
-unfolding IsOutcome
-kept_output bytes output (outcome, is, same) =
-    (outcome, subst (λ (job : Result Job JobFault). IsOutcomeOf job outcome) (kept_job bytes) is, same)
+-- one byte more than a job may have is enough to tell what becomes of it
+kept_outcome : (threaded : Bool) (bytes : List ℕ) (outcome : Result Finished Stop) → BecomesOf threaded (kept_of bytes) outcome
+    → BecomesOf threaded bytes outcome
+unfolding IsOutcome IsThreadedOutcome
+kept_outcome false bytes outcome is = subst (λ (job : Result Job JobFault). IsOutcomeOf job outcome) (kept_job bytes) is
+kept_outcome true bytes outcome is = subst (λ (job : Result Job JobFault). IsThreadedOutcomeOf job outcome) (kept_job bytes) is
+
+-- and its output
+pub kept_output : (threaded : Bool) (bytes : List ℕ) (output : Output) → IsOutput threaded (kept_of bytes) output
+    → IsOutput threaded bytes output
+kept_output threaded bytes output (outcome, is, same) = (outcome, kept_outcome threaded bytes outcome is, same)
 
 -- what was kept of the input has the input's output
-pub kept_ends : {S : Type 0} (written : S → Option (List ℕ)) (failures : S → ℕ) (old new : S) (bytes : List ℕ) (status : Status)
-    → Ends written failures old new (kept_of bytes) status → Ends written failures old new bytes status
-kept_ends written failures old new bytes status (inl (output, is, wrote)) = inl (output, kept_output bytes output is, wrote)
-kept_ends written failures old new bytes status (inr refused) = inr refused
+pub kept_ends : {S : Type 0} (written : S → Option (List ℕ)) (failures : S → ℕ) (old new : S) (threaded : Bool) (bytes : List ℕ)
+    (status : Status) → Ends written failures old new threaded (kept_of bytes) status → Ends written failures old new threaded bytes status
+kept_ends written failures old new threaded bytes status (inl (output, is, wrote)) =
+    inl (output, kept_output threaded bytes output is, wrote)
+kept_ends written failures old new threaded bytes status (inr refused) = inr refused
 
--- ---- bytes have one output
+-- ---- bytes have one output, where sessions take turns
 
 one_outcome_of : (job : Result Job JobFault) (a b : Result Finished Stop) → IsOutcomeOf job a → IsOutcomeOf job b → a ≡ b
 one_outcome_of (Err fault) a b is same = is ∙ sym same
@@ -54,18 +62,19 @@ one_outcome : (bytes : List ℕ) (a b : Result Finished Stop) → IsOutcome byte
 unfolding IsOutcome
 one_outcome bytes a b is same = one_outcome_of (job_of bytes) a b is same
 
-pub one_output : (bytes : List ℕ) (a b : Output) → IsOutput bytes a → IsOutput bytes b → a ≡ b
+pub one_output : (bytes : List ℕ) (a b : Output) → IsOutput false bytes a → IsOutput false bytes b → a ≡ b
 one_output bytes a b (outcome, is, given) (other, same, put) =
     given ∙ ap output_from (one_outcome bytes outcome other is same) ∙ sym put
 
 -- ---- what is written of an outcome ends the program
 
-pub ends_by : {S : Type 0} (written : S → Option (List ℕ)) (failures : S → ℕ) (old new : S) (bytes : List ℕ)
-    (outcome : Result Finished Stop) (status : Status) → AnswersOutcome bytes outcome
-    → WritesOrMemory written failures old new (output_from outcome) status → Ends written failures old new bytes status
-ends_by written failures old new bytes outcome status (inr is) (inl wrote) = inl (output_from outcome, (outcome, is, refl), wrote)
-ends_by written failures old new bytes outcome status is (inr refused) = inr refused
-ends_by written failures old new bytes outcome status (inl none) (inl wrote) =
+pub ends_by : {S : Type 0} (written : S → Option (List ℕ)) (failures : S → ℕ) (old new : S) (threaded : Bool) (bytes : List ℕ)
+    (outcome : Result Finished Stop) (status : Status) → AnswersOutcome threaded bytes outcome
+    → WritesOrMemory written failures old new (output_from outcome) status → Ends written failures old new threaded bytes status
+ends_by written failures old new threaded bytes outcome status (inr is) (inl wrote) =
+    inl (output_from outcome, (outcome, is, refl), wrote)
+ends_by written failures old new threaded bytes outcome status is (inr refused) = inr refused
+ends_by written failures old new threaded bytes outcome status (inl none) (inl wrote) =
     inr (subst (λ (o : Result Finished Stop). Writes written failures old new (output_from o) status) none wrote)
 
 -- ---- what a call's clauses say where its answer was tested

@@ -1,5 +1,6 @@
 pub mod Reading
 pub mod Outcome
+pub mod Threads
 pub mod Output
 pub mod Run
 pub mod Launch

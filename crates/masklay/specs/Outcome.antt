@@ -1,5 +1,5 @@
 -- What becomes of a job: the replies, the order and the layout, or why there are none.
-use Rattle.std.specs.Prelude.{◌≡◌, ◌⊎◌, ℕ, List, [], length, max, min, replicate, Result, Ok, Err}
+use Rattle.std.specs.Prelude.{◌≡◌, ℕ, List, [], length, max, min, replicate, Result, Ok, Err}
 use Rattle.cif_read.specs.declared.fault.CifFault.{CifFault}
 use Rattle.cif_read.specs.declared.fault.FaultKind.TheVariants.{NoMemory as CifMemory}
 use Rattle.cif_read.specs.declared.fault.FaultKind.{FaultKind}
@@ -69,7 +69,3 @@ IsOutcomeOf (Ok job) outcome =
 -- what becomes of the job of these bytes
 unfoldable pub IsOutcome : List ℕ → Result Finished Stop → Type 0
 IsOutcome bytes outcome = IsOutcomeOf (job_of bytes) outcome
-
--- the same, or out of memory in its place
-abbrev pub AnswersOutcome : List ℕ → Result Finished Stop → Type 0
-AnswersOutcome bytes outcome = (outcome ≡ Err NoMemory) ⊎ IsOutcome bytes outcome

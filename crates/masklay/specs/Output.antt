@@ -1,16 +1,16 @@
 -- The output of the program: a text and a status.
-use Rattle.std.specs.Prelude.{◌≡◌, ℕ, List, ◌++◌, codes, decimal, Option, Result, Ok, Err, ◌⊎◌}
+use Rattle.std.specs.Prelude.{◌≡◌, ℕ, Bool, List, ◌++◌, codes, decimal, Option, Result, Ok, Err, ◌⊎◌}
 use Rattle.cif_read.specs.declared.fault.CifFault.{CifFault}
 use Rattle.cif_read.specs.Faults.{name_of, number_of}
 use Rattle.byte_io.specs.Device.{WroteAll, WrotePrefix}
 use Rattle.cif_write.specs.Text.{text}
 use Rattle.masklay.specs.declared.program.outcome.Finished.{Finished}
 use Rattle.masklay.specs.declared.program.outcome.Stop.{Stop}
-use Rattle.masklay.specs.declared.program.outcome.Stop.TheVariants.{JobFault, CifFault as CifStop, NoMemory}
+use Rattle.masklay.specs.declared.program.outcome.Stop.TheVariants.{JobFault, CifFault as CifStop, DeskFault, NoMemory}
 use Rattle.masklay.specs.declared.program.status.Status.{Status}
-use Rattle.masklay.specs.declared.program.status.Status.TheVariants.{Done, CommandLine, Job, Cif, Device, Memory}
+use Rattle.masklay.specs.declared.program.status.Status.TheVariants.{Done, CommandLine, Job, Cif, Device, Memory, Desk}
 use Rattle.job_text.specs.Order.{order_text}
-use Rattle.masklay.specs.Outcome.{IsOutcome}
+use Rattle.masklay.specs.Threads.{BecomesOf}
 use Rattle.job_text.specs.Replies.{replies_text}
 
 -- the number with which the process ends
@@ -21,6 +21,7 @@ code_of Job = 3
 code_of Cif = 4
 code_of Device = 5
 code_of Memory = 6
+code_of Desk = 7
 
 -- what is written, and the status with which the program ends
 pub record Output : Type 0 where
@@ -37,6 +38,10 @@ cif_fault_text fault =
     codes "cif fault " ++ decimal (number_of fault.kind) ++ codes " " ++ name_of fault.kind ++ codes " at " ++ decimal fault.offset ++
     codes "\n"
 
+-- the line of a desk's fault
+abbrev pub desk_fault_text : List ℕ
+desk_fault_text = codes "desk fault\n"
+
 -- what is written where a growth of memory was refused
 abbrev pub memory_output : Output
 memory_output = record { text = codes "out of memory\n"; status = Memory }
@@ -45,6 +50,7 @@ memory_output = record { text = codes "out of memory\n"; status = Memory }
 abbrev pub stop_output : Stop → Output
 stop_output (JobFault line) = record { text = job_fault_text line; status = Job }
 stop_output (CifStop fault) = record { text = cif_fault_text fault; status = Cif }
+stop_output DeskFault = record { text = desk_fault_text; status = Desk }
 stop_output NoMemory = memory_output
 
 -- the comments of the replies and of the order, and the text of the layout
@@ -59,9 +65,9 @@ abbrev pub output_from : Result Finished Stop → Output
 output_from (Ok finished) = finished_output finished
 output_from (Err stop) = stop_output stop
 
--- what the program writes, and how it ends, where its input is these bytes
-abbrev pub IsOutput : List ℕ → Output → Type 0
-IsOutput bytes output = (outcome : Result Finished Stop) × IsOutcome bytes outcome × (output ≡ output_from outcome)
+-- what the program writes, and how it ends, where its input is these bytes, by whether sessions run in threads
+abbrev pub IsOutput : Bool → List ℕ → Output → Type 0
+IsOutput threaded bytes output = (outcome : Result Finished Stop) × BecomesOf threaded bytes outcome × (output ≡ output_from outcome)
 
 -- From the old device to the new: all of the output was written and nothing else, and the program ended with its status;
 -- or the device failed, and a prefix was written.
@@ -77,7 +83,7 @@ WritesOrMemory written failures old new output status =
 
 -- From the old device to the new: the output of these bytes was written so; or a growth of memory was refused, and the line
 -- that says so was.
-abbrev pub Ends : {S : Type 0} → (S → Option (List ℕ)) → (S → ℕ) → S → S → List ℕ → Status → Type 0
-Ends written failures old new bytes status =
-    ((output : Output) × IsOutput bytes output × Writes written failures old new output status)
+abbrev pub Ends : {S : Type 0} → (S → Option (List ℕ)) → (S → ℕ) → S → S → Bool → List ℕ → Status → Type 0
+Ends written failures old new threaded bytes status =
+    ((output : Output) × IsOutput threaded bytes output × Writes written failures old new output status)
     ⊎ Writes written failures old new memory_output status

@@ -2,7 +2,7 @@
 use Rattle.std.specs.Prelude.{◌≡◌, ℕ, ◌⊎◌, Bool, true, false, List, Option}
 use Rattle.byte_io.specs.Device.{WroteAll, WrotePrefix}
 use Rattle.masklay.specs.declared.program.status.Status.{Status}
-use Rattle.masklay.specs.declared.program.status.Status.TheVariants.{Done, CommandLine, Job, Cif, Device, Memory}
+use Rattle.masklay.specs.declared.program.status.Status.TheVariants.{Done, CommandLine, Job, Cif, Device, Memory, Desk}
 
 -- a run that ends so may have something to tell: of a fault, or of a layout that was written
 abbrev pub may_tell : Status → Bool
@@ -12,6 +12,7 @@ may_tell Job = true
 may_tell Cif = true
 may_tell Device = false
 may_tell Memory = false
+may_tell Desk = false
 
 -- From the old device to the new: the text was written, or the device failed, and a prefix was.
 abbrev pub IsTold : {E : Type 0} → (E → Option (List ℕ)) → (E → ℕ) → E → E → List ℕ → Type 0

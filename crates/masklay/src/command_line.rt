@@ -1,7 +1,8 @@
 //! The command line.
-ghost use Rattle.std.specs.Prelude.{◌≡◌, ◌≤◌, ◌<◌, ◌⊎◌, IfErr, IfOk, vec_len};
+ghost use Rattle.std.specs.Prelude.{◌≡◌, ◌≤◌, ◌<◌, ◌⊎◌, IfErr, IfOk, false, vec_len};
+ghost use Rattle.std.specs.List.{list_any};
 ghost use Rattle.masklay.specs.declared.command_line.OptionsFault.TheVariants.{Clap};
-ghost use Rattle.masklay.specs.Launch.{EndsEarly};
+ghost use Rattle.masklay.specs.Launch.{EndsEarly, asks_for_threads, is_threaded};
 ghost use Rattle.masklay.specs.Run.{IsRun};
 ghost use Rattle.masklay.specs.Telling.{Tells};
 
@@ -10,6 +11,7 @@ use byte_io::{In, Out};
 use clap::error::ErrorKind;
 use clap::{Arg, ArgAction, Command, Error};
 use std::alloc::Global;
+use std::sync::Wait;
 use std::thread::Threads;
 use std::{env, io};
 
@@ -28,7 +30,7 @@ const EXAMPLE: &str =
 Example, in a shell:
   printf '%%cif\nL M; B 40 20 0 0; E\n%%session 1\nopen\nbox top M 0 0 30 30\nor top M M Q\ncommit\n' | masklay
 
-Statuses: 0 all was written, refused steps included; 2 a mistake in the command line; 3 a fault of the job, 4 of its CIF text, each a line on standard output, and in words on standard error; 5 a device failed; 6 out of memory.";
+Statuses: 0 all was written, refused steps included; 2 a mistake in the command line; 3 a fault of the job, 4 of its CIF text, each a line on standard output, and in words on standard error; 5 a device failed; 6 out of memory; 7 the sessions' desk was at fault, where they ran in threads.";
 
 /// Why the words of the command line can't be had.
 #[derive(Clone, Copy, Debug, PartialEq, Eq)]
@@ -43,7 +45,7 @@ pub enum WordsFault {
 /// for a mistake, or as asking for help or the version, nothing is read: help is written to `out`, and what is
 /// wrong to `errors`.
 pub fn launch<I: In, O: Out, E: Out>(
-    rt: &(impl Threads + Sync),
+    rt: &(impl Threads + Wait + Sync),
     alloc: Global,
     words: Result<Vec<String>, WordsFault>,
     input: &mut I,
@@ -51,10 +53,10 @@ pub fn launch<I: In, O: Out, E: Out>(
     errors: &mut E,
 ) -> Status
     ensures plain { IfOk words (λ words. vec_len words ≤ 1
-        → IsRun I.remaining I.counts O.written O.failures input.old input.new out.old out.new result
+        → IsRun false I.remaining I.counts O.written O.failures input.old input.new out.old out.new result
         × Tells E.written E.failures errors.old errors.new result) }
     ensures options { IfOk words (λ words. 1 < vec_len words
-        → (IsRun I.remaining I.counts O.written O.failures input.old input.new out.old out.new result
+        → (IsRun (asks_for_threads words.items) I.remaining I.counts O.written O.failures input.old input.new out.old out.new result
         × Tells E.written E.failures errors.old errors.new result)
         ⊎ (EndsEarly O.written O.failures E.written E.failures
         out.old out.new errors.old errors.new result × (input.new ≡ input.old))) }
@@ -62,7 +64,13 @@ pub fn launch<I: In, O: Out, E: Out>(
         out.old out.new errors.old errors.new result × (input.new ≡ input.old)) }
 {
     match words {
-        Ok(words) if words.len() <= 1 => run(rt, alloc, Options { workers: 1 }, input, out, errors),
+        Ok(words) if words.len() <= 1 => {
+            let options = Options {
+                workers: 1,
+                threaded: false,
+            };
+            run(rt, alloc, options, input, out, errors)
+        }
         Ok(words) => match options_of(alloc, &words) {
             Ok(options) => run(rt, alloc, options, input, out, errors),
             Err(fault) => refuse(alloc, fault, out, errors),
@@ -90,15 +98,50 @@ impl From<Error> for OptionsFault {
 }
 
 /// Returns the options that the words say.
-fn options_of(alloc: Global, words: &[String]) -> Result<Options, OptionsFault> {
+fn options_of(alloc: Global, words: &[String]) -> Result<Options, OptionsFault>
+    ensures { IfOk result (λ options. options.threaded ≡ asks_for_threads words.now) }
+{
+    let workers = workers_of(alloc, words)?;
+    Ok(Options {
+        workers,
+        threaded: asks_for_threads(words),
+    })
+}
+
+/// Returns the number of workers that the words say, if clap takes them.
+fn workers_of(alloc: Global, words: &[String]) -> Result<u8, OptionsFault> {
     let matches = command(alloc)?.try_get_matches_from(words)?;
     let Some(word) = matches.get_str("workers") else {
-        return Ok(Options { workers: 1 });
+        return Ok(1);
     };
     match word.parse::<u8>() {
-        Ok(workers) if 1 <= workers && workers <= MAX_WORKERS => Ok(Options { workers }),
+        Ok(workers) if 1 <= workers && workers <= MAX_WORKERS => Ok(workers),
         _ => Err(OptionsFault::Workers),
     }
+}
+
+/// Returns whether an argument is `--threaded`. In words that clap takes none is it but the option.
+fn asks_for_threads(words: &[String]) -> bool
+    ensures { result ≡ asks_for_threads words.now }
+{
+    match words.split_first() {
+        Some((_, arguments)) => has_threaded(arguments),
+        None => false,
+    }
+}
+
+/// Returns whether one of the arguments is.
+fn has_threaded(arguments: &[String]) -> bool
+    ensures { result ≡ list_any is_threaded arguments.now }
+{
+    arguments.iter().any(|argument| is_threaded(argument))
+}
+
+/// Returns whether the word is the option that asks for threads.
+fn is_threaded(word: &String) -> bool
+    ensures { result ≡ is_threaded word.now }
+{
+    word.as_bytes() == b"--threaded".as_slice()
 }
 
 /// Writes what is said in place of a run.
@@ -121,13 +164,18 @@ fn command<'a>(alloc: Global) -> Result<Command<'a>, Error> {
             "How many threads find the edges of an operation, from 1 to 64; the output is the same",
         )
         .action(ArgAction::Set);
+    let threaded = Arg::new(alloc, "threaded")
+        .long("threaded")
+        .help("Runs each session in a thread of its own; the job's order plays no part")
+        .action(ArgAction::SetTrue);
     let command = Command::new(alloc, "masklay")
         .version("0.1.0")
         .about(
             "Reads a job from standard input: a CIF text and steps on its layout. Writes the replies, their order and the CIF text of the layout that they lead to.",
         )
         .after_help(EXAMPLE)
-        .arg(workers)?;
+        .arg(workers)?
+        .arg(threaded)?;
     Ok(command)
 }
 

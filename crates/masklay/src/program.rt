@@ -13,6 +13,7 @@ mod status;
 mod telling;
 #[cfg(test)]
 mod tests;
+mod threads;
 
 use byte_io::{In, Out, put_all};
 pub use options::{MAX_WORKERS, Options};
@@ -21,22 +22,24 @@ use output::{write_finished, write_stop};
 use reading::{ReadFault, read_all};
 pub use status::Status;
 use std::alloc::Global;
+use std::sync::Wait;
 use std::thread::Threads;
 use telling::{tell_of_stop, tell_of_top};
 
 /// Reads a job from the input, runs it and writes its replies, their order and the CIF text of the
 /// layout, all after the last step; or the line that says why there is none. Booleans are rounded in as
 /// many threads as there are processors. A fault is told to `errors` too, in words for a person, and so is a
-/// top cell that is empty while the layout has symbols.
+/// top cell that is empty while the layout has symbols. With `threaded` the sessions run in threads over one
+/// desk, the job's own order plays no part, and the order that is written is that of the desk's log.
 pub fn run<I: In, O: Out, E: Out>(
-    rt: &(impl Threads + Sync),
+    rt: &(impl Threads + Wait + Sync),
     alloc: Global,
     options: Options,
     input: &mut I,
     out: &mut O,
     errors: &mut E,
 ) -> Status
-    ensures run { IsRun I.remaining I.counts O.written O.failures input.old input.new
+    ensures run { IsRun options.threaded I.remaining I.counts O.written O.failures input.old input.new
         out.old out.new result }
     ensures told { Tells E.written E.failures errors.old errors.new result }
 {
@@ -49,14 +52,14 @@ pub fn run<I: In, O: Out, E: Out>(
 
 /// Writes what the job of the bytes leads to.
 fn write_output<O: Out, E: Out>(
-    rt: &(impl Threads + Sync),
+    rt: &(impl Threads + Wait + Sync),
     alloc: Global,
     options: Options,
     bytes: Vec<u8>,
     out: &mut O,
     errors: &mut E,
 ) -> Status
-    ensures output { Ends O.written O.failures out.old out.new bytes.items result }
+    ensures output { Ends O.written O.failures out.old out.new options.threaded bytes.items result }
     ensures told { Tells E.written E.failures errors.old errors.new result }
 {
     let mut bytes = bytes;

@@ -3,10 +3,12 @@
 /// The most workers.
 pub use band_workers::MAX_WORKERS;
 
-/// How the program is to run. The output doesn't depend on it.
+/// How the program is to run.
 #[derive(Clone, Copy, Debug, PartialEq, Eq)]
 pub struct Options {
     /// How many threads label the edges of a Boolean, from 1 to `MAX_WORKERS`; 0 is taken as 1, and more as
-    /// `MAX_WORKERS`.
+    /// `MAX_WORKERS`. The output doesn't depend on it.
     pub workers: u8,
+    /// Whether the steps of each session run in a thread of its own, in place of the job's order.
+    pub threaded: bool,
 }

@@ -5,17 +5,21 @@ ghost use Rattle.lay_point.specs.Memory.{IsAnswer};
 ghost use Rattle.masklay.specs.declared.program.outcome.Stop.TheVariants.{NoMemory as OutOfMemory};
 ghost use Rattle.session_core.specs.Machine.{Ran, is_memory, start};
 ghost use Rattle.undo_book.specs.declared.book.TheConstants.{MAX_CALLS};
-ghost use Rattle.masklay.specs.Outcome.{AnswersOutcome, finished_from, sessions_for, stop_of_cif, stop_of_job};
+ghost use Rattle.masklay.specs.Outcome.{finished_from, sessions_for, stop_of_cif, stop_of_job};
+ghost use Rattle.masklay.specs.Threads.{AnswersOutcome, stop_of_run};
 
 use crate::program::options::{MAX_WORKERS, Options};
+use crate::program::threads::finish_threads;
 use band_workers::{OneBand, ScopedBands};
 use cif_read::{CifFault, FaultKind, read};
 use job_text::{Job, JobFault, order_of};
 use lay_items::Snapshot;
 use lay_point::{NoMemory, Sequence};
+use locked_desk::RunFault;
 use session_core::Machine;
 use session_steps::{Reply, Step, StepFault, dealt, in_turn};
 use std::alloc::Global;
+use std::sync::Wait;
 use std::thread::Threads;
 use txn_rules::CmdFault;
 use undo_rules::BookFault;
@@ -27,6 +31,8 @@ pub(super) enum Stop {
     JobFault(u32),
     /// The first fault of the CIF text.
     CifFault(CifFault),
+    /// The desk of sessions in threads didn't have what a seat keeps, or not all seats.
+    DeskFault,
     /// A growth of memory was refused, or a step was answered so.
     NoMemory,
 }
@@ -64,6 +70,17 @@ impl From<CifFault> for Stop {
     }
 }
 
+impl From<RunFault> for Stop {
+    ghost from_gives = { λ fault stop. stop ≡ stop_of_run fault };
+
+    fn from(fault: RunFault) -> Stop {
+        match fault {
+            RunFault::Differs { .. } | RunFault::MissingSeat { .. } => Stop::DeskFault,
+            RunFault::NoMemory => Stop::NoMemory,
+        }
+    }
+}
+
 impl From<NoMemory> for Stop {
     ghost from_gives = { λ _ stop. stop ≡ OutOfMemory };
 
@@ -73,14 +90,14 @@ impl From<NoMemory> for Stop {
 }
 
 /// Runs the job of the bytes, which go once they are read: where the job or its text has a fault they stay.
-#[tactic(auto, unfolding(crate::specs::Outcome::IsOutcome))]
+#[tactic(auto, unfolding(crate::specs::Outcome::IsOutcome, crate::specs::Threads::IsThreadedOutcome))]
 pub(super) fn finish(
-    rt: &(impl Threads + Sync),
+    rt: &(impl Threads + Wait + Sync),
     alloc: Global,
     options: Options,
     bytes: &mut Vec<u8>,
 ) -> Result<Finished, Stop>
-    ensures { AnswersOutcome bytes.old.items result }
+    ensures { AnswersOutcome options.threaded bytes.old.items result }
 {
     let Job {
         cif,
@@ -90,6 +107,9 @@ pub(super) fn finish(
     let file = read(alloc, cif)?;
     *bytes = Vec::new(alloc);
     let base = Snapshot::from_cif(alloc, file)?;
+    if options.threaded {
+        return finish_threads(rt, alloc, options.workers, base, scripts);
+    }
     finish_steps(rt, alloc, options, base, scripts, order)
 }
 
@@ -147,7 +167,7 @@ fn sessions_for(scripts: usize) -> u8
 }
 
 /// Returns whether one of the steps was out of memory.
-fn is_out_of_memory(replies: &[Reply]) -> bool
+pub(super) fn is_out_of_memory(replies: &[Reply]) -> bool
     ensures { result ≡ list_any is_memory replies.now }
 {
     replies.iter().any(|reply| is_memory(reply))

@@ -3,8 +3,8 @@ ghost use Rattle.std.specs.Prelude.{◌≡◌, ◌++◌, IfOk};
 ghost use Rattle.cif_write.specs.Text.{text};
 ghost use Rattle.job_text.specs.Order.{order_text};
 ghost use Rattle.job_text.specs.Replies.{replies_text};
-ghost use Rattle.masklay.specs.Output.{Writes, WritesOrMemory, cif_fault_text, finished_output, job_fault_text};
-ghost use Rattle.masklay.specs.Output.{stop_output};
+ghost use Rattle.masklay.specs.Output.{Writes, WritesOrMemory, cif_fault_text, desk_fault_text, finished_output};
+ghost use Rattle.masklay.specs.Output.{job_fault_text, stop_output};
 ghost use Rattle.masklay.specs.declared.program.status.Status.TheVariants.{Done};
 
 use crate::program::outcome::{Finished, Stop};
@@ -70,6 +70,7 @@ fn stop_text(alloc: Global, stop: Stop) -> Result<(Vec<u8>, Status), NoMemory>
     match stop {
         Stop::JobFault(line) => Ok((job_fault_text(alloc, line)?, Status::Job)),
         Stop::CifFault(fault) => Ok((cif_fault_text(alloc, fault)?, Status::Cif)),
+        Stop::DeskFault => Ok((desk_fault_text(alloc)?, Status::Desk)),
         Stop::NoMemory => Err(NoMemory),
     }
 }
@@ -81,6 +82,15 @@ fn job_fault_text(alloc: Global, line: u32) -> Result<Vec<u8>, NoMemory>
 {
     let mut bytes = Vec::new(alloc);
     write!(bytes, "job fault at line {line}\n").map_err(|_| NoMemory)?;
+    Ok(bytes)
+}
+
+/// The line of a desk's fault.
+fn desk_fault_text(alloc: Global) -> Result<Vec<u8>, NoMemory>
+    ensures { IfOk result (λ bytes. bytes.items ≡ desk_fault_text) }
+{
+    let mut bytes = Vec::new(alloc);
+    bytes.extend_from_slice(b"desk fault\n")?;
     Ok(bytes)
 }
 

@@ -17,6 +17,8 @@ pub enum Status {
     Device,
     /// A growth of memory was refused.
     Memory,
+    /// The desk of sessions in threads differed from what they keep.
+    Desk,
 }
 
 impl Status {
@@ -31,6 +33,7 @@ impl Status {
             Status::Cif => 4,
             Status::Device => 5,
             Status::Memory => 6,
+            Status::Desk => 7,
         }
     }
 }

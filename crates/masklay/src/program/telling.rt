@@ -25,6 +25,7 @@ pub(super) fn tell_of_stop<E: Out>(
     let advice = match stop {
         Stop::JobFault(line) => of_job_fault(alloc, job, line),
         Stop::CifFault(fault) => of_cif_fault(alloc, job, fault),
+        Stop::DeskFault => Ok(Vec::new(alloc)),
         Stop::NoMemory => Err(NoMemory),
     };
     if let Ok(lines) = advice {
@@ -56,7 +57,7 @@ fn may_tell(status: Status) -> bool
 {
     match status {
         Status::Done | Status::Job | Status::Cif => true,
-        Status::CommandLine | Status::Device | Status::Memory => false,
+        Status::CommandLine | Status::Device | Status::Memory | Status::Desk => false,
     }
 }
 

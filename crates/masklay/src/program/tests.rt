@@ -12,16 +12,16 @@ use session_core::{Machine, Step};
 use std::test::*;
 use txn_work::{Command, TxnId};
 
-const FIRST_RUN: &[u8] =
+const UNDONE_BOX: &[u8] =
     b"%cif\nL NM; B 40 20 0 0; E\n%session 1\nopen\nbox top NP 0 0 10 10\ncommit\nundo 1.1\n";
 
-const FIRST_OUTPUT: &[u8] =
+const UNDONE_BOX_OUTPUT: &[u8] =
     b"(1 1 opened 1);\n(1 2 made 1.1.1);\n(1 3 committed);\n(1 4 undone);\n(order 1 1 1 1);\nDS 1 1 2;\nL NM;\nP -40 -20 40 -20 40 20 -40 20;\nDF;\nC 1;\nE\n";
 
 /// How the program ends on the job and what it writes, where the input answers so many reads and the
 /// output takes so many bytes.
 fn ended(
-    rt: &(impl Threads + Sync),
+    rt: &(impl Threads + Wait + Sync),
     alloc: Global,
     job: &[u8],
     reads: usize,
@@ -30,7 +30,10 @@ fn ended(
     let mut input = MemoryIn::new(job, 5, reads);
     let mut out = MemoryOut::new(alloc, 1000, room, Failing::ByErr);
     let mut errors = MemoryOut::new(alloc, 1000, 1000, Failing::ByErr);
-    let options = Options { workers: 1 };
+    let options = Options {
+        workers: 1,
+        threaded: false,
+    };
     let status = run(rt, alloc, options, &mut input, &mut out, &mut errors);
     (status, out)
 }
@@ -40,7 +43,7 @@ fn ended(
 #[test]
 fn ends_with_status_5_where_a_device_fails(rt: HostRuntime) {
     let rows: [(&[u8], usize, usize, &[u8]); 4] = [
-        (FIRST_RUN, 3, 1000, b""),
+        (UNDONE_BOX, 3, 1000, b""),
         (b"%cif\nL NM; B 40 20 0 0; E", 1000, 10, b"DS 1 1 2;\n"),
         (b"%cif\n", 1000, 3, b"cif"),
         (b"", 1000, 0, b""),
@@ -55,10 +58,10 @@ fn ends_with_status_5_where_a_device_fails(rt: HostRuntime) {
 // Could catch bytes that are written in another order or twice, and a failure that is passed over, at any byte.
 #[test]
 fn a_full_device_holds_a_prefix_of_the_output(rt: HostRuntime) {
-    for room in 0..FIRST_OUTPUT.len() {
-        let (status, out) = ended(&rt, rt.alloc(), FIRST_RUN, 1000, room);
+    for room in 0..UNDONE_BOX_OUTPUT.len() {
+        let (status, out) = ended(&rt, rt.alloc(), UNDONE_BOX, 1000, room);
         assert_eq!(rt; status, Status::Device, "{room}");
-        assert_eq!(rt; out.written(), &FIRST_OUTPUT[..room], "{room}");
+        assert_eq!(rt; out.written(), &UNDONE_BOX_OUTPUT[..room], "{room}");
     }
 }
 
@@ -72,6 +75,7 @@ fn statuses_have_their_numbers(rt: HostRuntime) {
         (Status::Cif, 4),
         (Status::Device, 5),
         (Status::Memory, 6),
+        (Status::Desk, 7),
     ];
     for (status, code) in rows {
         assert_eq!(rt; status.code(), code);
