@@ -1,0 +1,10 @@
+//! Tests of `locked_desk`, by its public calls alone.
+//!
+//! A crate with tests is proved twice, with them and without, so they stand in a crate of their own. Nothing
+//! stands on it.
+#![tactic(auto)]
+
+#[cfg(test)]
+mod calls;
+#[cfg(test)]
+mod runs;
