@@ -1,0 +1,5 @@
+pub mod Laws
+pub mod Once
+pub mod Oriented
+pub mod Slants
+pub mod Winding
