@@ -38,7 +38,8 @@ record IsJoin (before : List (ℕ × Bool)) (parts : List Part) (all : List (ℕ
   each : (i : ℕ) (d : Part) → i < length parts → AllAmong all (get_or parts i d)
   from : (p : ℕ × Bool) → Has all p → IsFrom before parts p
 
-is_join : (before : List (ℕ × Bool)) (parts : List Part) (all : List (ℕ × Bool)) → joined_onto before parts ≡ Ok all → IsJoin before parts all
+is_join : (before : List (ℕ × Bool)) (parts : List Part) (all : List (ℕ × Bool)) → joined_onto before parts ≡ Ok all → IsJoin before parts
+    all
 is_join before [] all is = let same : before ≡ all = search rules in record {
   kept = λ p m. subst (λ l. Has l p) same m;
   each = λ i d less. absurd (omega arith);
@@ -191,8 +192,10 @@ module _ (op : Op) (r : Owned) (cuts : List ℤ) (parts : List Part) (all : List
     | inl none ↦ absurd none
     | inr from ↦
         let labels = from.1 in
-        let items = of_ok op r (band_at cuts from.0) (get_or parts from.0 no_part) labels (from.3.0 no_part) (h.each from.0 no_part from.2) in
-        let q = picked_of (λ p. begins_in (band_at cuts from.0) p.0) (λ n p. (n, label p)) 0 (items_of r) p (subst (λ l. Has l p) items from.3.1) in
+        let items = of_ok op r (band_at cuts from.0) (get_or parts from.0 no_part) labels (from.3.0 no_part)
+        (h.each from.0 no_part from.2) in
+        let q = picked_of (λ p. begins_in (band_at cuts from.0) p.0) (λ n p. (n, label p)) 0 (items_of r) p
+        (subst (λ l. Has l p) items from.3.1) in
         let is = q.is no_item in
         let plain : 0 + q.index ≡ q.index = omega arith in
         let at : q.index ≡ p.0 = sym plain ∙ ap (λ (z : ℕ × Bool). z.0) is in

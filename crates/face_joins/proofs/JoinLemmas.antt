@@ -130,11 +130,19 @@ one_side at a b c d h g = by_tests (int_le a at || int_le b at) (int_le c at || 
     by_tests false t e f =
         let over = above a b e in
         let reach = le_true a d h in
-        inr (or_left (int_lt at a) (int_lt at b) (lt_true at a over.0), or_right (int_lt at c) (int_lt at d) (lt_true at d (omega (arith, ints, over.0, reach))))
+        inr (
+          or_left (int_lt at a) (int_lt at b) (lt_true at a over.0),
+          or_right (int_lt at c) (int_lt at d)
+              (lt_true at d (omega (arith, ints, over.0, reach))),
+        )
     by_tests true false e f =
         let over = above c d f in
         let reach = le_true c b g in
-        inr (or_right (int_lt at a) (int_lt at b) (lt_true at b (omega (arith, ints, over.0, reach))), or_left (int_lt at c) (int_lt at d) (lt_true at c over.0))
+        inr (
+          or_right (int_lt at a) (int_lt at b) (lt_true at b (omega (arith, ints, over.0, reach))),
+          or_left (int_lt at c) (int_lt at d)
+              (lt_true at c over.0),
+        )
 
 module _ (b c : Box) (h : touch b c ≡ true) where
   halves : (is_up_to b.0 c.1 ≡ true) × (is_up_to c.0 b.1 ≡ true)

@@ -1,5 +1,28 @@
 -- Counts of the shapes that hold, and the answer where they do.
-use Rattle.std.proofs.Common.{◌≡◌, ◌≢◌, ◌⊎◌, ⊎_elim, ◌↔◌, inl, inr, ℕ, zero, suc, ◌+◌, ◌-◌, ◌^◌, ◌<◌, ◌≤◌, Bool, true, false, not, ◌&&◌, ◌||◌, cond}
+use Rattle.std.proofs.Common.{
+  ◌≡◌,
+  ◌≢◌,
+  ◌⊎◌,
+  ⊎_elim,
+  ◌↔◌,
+  inl,
+  inr,
+  ℕ,
+  zero,
+  suc,
+  ◌+◌,
+  ◌-◌,
+  ◌^◌,
+  ◌<◌,
+  ◌≤◌,
+  Bool,
+  true,
+  false,
+  not,
+  ◌&&◌,
+  ◌||◌,
+  cond,
+}
 use Rattle.std.proofs.Common.{List, [], ◌∷◌, Contains, refl, sym, ap, ap₂, subst, ◌∙◌, arith}
 use Rattle.std.specs.Prelude.{nat_eq}
 use Rattle.std.specs.List.{list_any}
@@ -79,7 +102,8 @@ counted : (f : ℕ → Bool) (n : ℕ) → 0 < count f n → (s : ℕ) × (f s �
 counted f zero h = absurd (omega arith)
 counted f (suc n) h = by_test (f n) refl h (λ g. counted f n g)
   where
-    by_test : (b : Bool) → f n ≡ b → 0 < cond b (suc (count f n)) (count f n) → (0 < count f n → (s : ℕ) × (f s ≡ true)) → (s : ℕ) × (f s ≡ true)
+    by_test : (b : Bool) → f n ≡ b → 0 < cond b (suc (count f n)) (count f n) → (0 < count f n → (s : ℕ) × (f s ≡ true)) → (s : ℕ) ×
+        (f s ≡ true)
     by_test true t g further = (n, t)
     by_test false t g further = further g
 

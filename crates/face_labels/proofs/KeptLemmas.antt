@@ -1,5 +1,27 @@
 -- Starts in order, and the edges that begin at them.
-use Rattle.std.proofs.Common.{◌≡◌, ◌⊎◌, inl, inr, ⊎_elim, ℕ, zero, suc, ◌+◌, ◌-◌, ◌<◌, ◌≤◌, Bool, true, false, ◌&&◌, cond, List, [], ◌∷◌, ◌++◌}
+use Rattle.std.proofs.Common.{
+  ◌≡◌,
+  ◌⊎◌,
+  inl,
+  inr,
+  ⊎_elim,
+  ℕ,
+  zero,
+  suc,
+  ◌+◌,
+  ◌-◌,
+  ◌<◌,
+  ◌≤◌,
+  Bool,
+  true,
+  false,
+  ◌&&◌,
+  cond,
+  List,
+  [],
+  ◌∷◌,
+  ◌++◌,
+}
 use Rattle.std.proofs.Common.{length, get_or, drop, map, take, Contains, ℤ, ◌≤ℤ◌, ◌<ℤ◌, refl, sym, ap, subst, ◌∙◌, arith, add-one}
 use Rattle.std.specs.Prelude.{All, nat_eq, int_le, int_lt}
 use Rattle.std.specs.List.{AllByRecursion, dedup, dedup_from}
@@ -13,8 +35,27 @@ use Rattle.std.proofs.lemmas.Bool.Decides.{Decides-eqb, nat_tests}
 use Rattle.std.specs.Cmp.{int_cmp_is}
 use Rattle.std.proofs.lemmas.Cmp.{int_cmp_total, nat_cmp_total, on_total, then_total}
 use Rattle.std.proofs.lemmas.Int.{ints}
-use Rattle.std.proofs.lemmas.List.{get_or_default, append_assoc, get_or-drop, get_or-take, length-drop, length-take, map-append, take_all, take_more}
-use Rattle.std.proofs.lemmas.List.Elements.{All-push, Contains-append_cases, Contains-append_left, Contains-append_right, Contains-get_or, Contains-push, Contains-push_cases, recursion_from_All}
+use Rattle.std.proofs.lemmas.List.{
+  get_or_default,
+  append_assoc,
+  get_or-drop,
+  get_or-take,
+  length-drop,
+  length-take,
+  map-append,
+  take_all,
+  take_more,
+}
+use Rattle.std.proofs.lemmas.List.Elements.{
+  All-push,
+  Contains-append_cases,
+  Contains-append_left,
+  Contains-append_right,
+  Contains-get_or,
+  Contains-push,
+  Contains-push_cases,
+  recursion_from_All,
+}
 use Rattle.std.proofs.lemmas.List.Kept.{Contains-dedup_nat, Contains-from_dedup}
 use Rattle.std.proofs.lemmas.List.Sorted.{All-permutation, Contains-permutation, IsPermutation-map, IsPermutation-sym, ranks_by, sorted_far}
 use Rattle.lay_int_laws.proofs.Signs.{linear, below_or_not}
@@ -119,7 +160,8 @@ all_starts r band starts moved s t n in_s in_t given from to =
     in_band : (s : Start) → Contains starts s → (band.low ≤ℤ s.y) × (s.y <ℤ band.high)
     in_band s m =
         picked_all (begins_in band) start_of (λ (z : Start). (band.low ≤ℤ z.y) × (z.y <ℤ band.high)) (λ m e h. bounds band e h) 0 r.0 s
-        (has (starts_of band r.0) s (Contains-permutation starts (starts_of band r.0) s (IsPermutation-sym (starts_of band r.0) starts moved) m))
+        (has (starts_of band r.0) s (Contains-permutation starts (starts_of band r.0) s
+        (IsPermutation-sym (starts_of band r.0) starts moved) m))
 
 -- the row before, in a loop over the starts
 pub not_later : (starts : List Start) (i : ℕ) (row : ℤ) (d : Start) → AreByRow starts → i < length starts
@@ -141,7 +183,8 @@ begun_behind r starts i row row' h all less at at' n given behind upto =
     ⊎_elim
     (λ (before : m.0 < i).
     let early = h m.0 (i - 1) s (omega arith) (omega arith) in
-    let here : s.y ≤ℤ row = subst (λ z. z ≤ℤ row) (ap (λ (z : Start). z.y) m.2) (subst (λ z. (get_or starts m.0 s).y ≤ℤ z) (sym (at s)) early) in
+    let here : s.y ≤ℤ row = subst (λ z. z ≤ℤ row) (ap (λ (z : Start). z.y) m.2)
+    (subst (λ z. (get_or starts m.0 s).y ≤ℤ z) (sym (at s)) early) in
     absurd (omega (arith, linear)))
     (λ (ge : i ≤ m.0).
     let back : i + (m.0 - i) ≡ m.0 = omega arith in (

@@ -1,5 +1,28 @@
 -- The order of a row's edges: it is kept from row to row, and an edge that begins has its place in it.
-use Rattle.std.proofs.Common.{◌≡◌, ◌≢◌, ◌⊎◌, inl, inr, ⊎_elim, ℕ, zero, suc, ◌+◌, ◌<◌, ◌≤◌, Bool, true, false, not, ◌&&◌, cond, List, [], ◌∷◌, ◌++◌}
+use Rattle.std.proofs.Common.{
+  ◌≡◌,
+  ◌≢◌,
+  ◌⊎◌,
+  inl,
+  inr,
+  ⊎_elim,
+  ℕ,
+  zero,
+  suc,
+  ◌+◌,
+  ◌<◌,
+  ◌≤◌,
+  Bool,
+  true,
+  false,
+  not,
+  ◌&&◌,
+  cond,
+  List,
+  [],
+  ◌∷◌,
+  ◌++◌,
+}
 use Rattle.std.proofs.Common.{length, get_or, drop, take, Contains, ℤ, pos, ◌+ℤ◌, ◌-ℤ◌, ◌*ℤ◌, ◌≤ℤ◌, ◌<ℤ◌, refl, sym, ap, subst, ◌∙◌, arith}
 use Rattle.std.specs.Prelude.{filter, int_le, int_lt, nat_eq}
 use Rattle.std.specs.List.{insert}
@@ -16,7 +39,20 @@ use Rattle.lay_point.proofs.Members.{Has, contains, has}
 use Rattle.lay_point.proofs.Rising.{IsStrictOrder, before_rest, rising_rest}
 use Rattle.snap_chains.specs.Meeting.{MeetAtEnds}
 use Rattle.snap_chains.specs.Rounded.{AreClean, Owned}
-use Rattle.face_label_laws.proofs.Rows.{IsLeft, Spans, apart_in_row, crossed_spans, rises_in, row_distance, row_inside, row_k, row_place, row_x, row_y, spans_crossed}
+use Rattle.face_label_laws.proofs.Rows.{
+  IsLeft,
+  Spans,
+  apart_in_row,
+  crossed_spans,
+  rises_in,
+  row_distance,
+  row_inside,
+  row_k,
+  row_place,
+  row_x,
+  row_y,
+  spans_crossed,
+}
 use Rattle.face_label_laws.proofs.Slide.{slide_edge, starts}
 use Rattle.face_labels.specs.declared.start.Start.{Start}
 use Rattle.face_labels.specs.Beside.{is_right_of, weight}
@@ -139,8 +175,11 @@ rising_insert Before (x ∷ xs) zero n bound h before behind = (behind (omega ar
 rising_insert Before (x ∷ []) (suc zero) n bound h before behind = (before zero refl, tt)
 rising_insert Before (x ∷ []) (suc (suc gap)) n bound h before behind = absurd (omega arith)
 rising_insert Before (x ∷ y ∷ ys) (suc zero) n bound h before behind = (before zero refl, (behind (omega arith), h.1))
-rising_insert Before (x ∷ y ∷ ys) (suc (suc gap)) n bound h before behind =
-    (h.0, rising_insert Before (y ∷ ys) (suc gap) n (omega arith) h.1 (λ k next. before (suc k) (ap suc next)) (λ less. behind (omega arith)))
+rising_insert Before (x ∷ y ∷ ys) (suc (suc gap)) n bound h before behind = (
+  h.0,
+  rising_insert Before (y ∷ ys) (suc gap) n (omega arith) h.1 (λ k next. before (suc k) (ap suc next))
+      (λ less. behind (omega arith)),
+)
 
 -- ---- an edge that begins in the row
 -- the place where it is judged is where it crosses the row
@@ -164,7 +203,8 @@ steep e rises = ap (λ b. cond b (rise e -ℤ pos 1) (pos 1)) (positive (rise e)
     positive z h = grind (arith, ints)
 
 right_in_begin : (e f : Point × Point) → (upward e).0.y <ℤ (upward e).1.y
-    → is_right_of e f ≡ int_lt (pos 0) (distance_right (row_k (upward e)) (row_x (upward e).0.y (upward e)) (row_y (upward e).0.y (upward e))
+    → is_right_of e f ≡ int_lt (pos 0) (distance_right (row_k (upward e)) (row_x (upward e).0.y (upward e))
+    (row_y (upward e).0.y (upward e))
     (upward f).0 (upward f).1)
 right_in_begin e f rises =
     let u = upward e in

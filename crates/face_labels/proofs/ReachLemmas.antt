@@ -1,5 +1,28 @@
 -- How far shapes reach: limits that grow, and rows in which nothing of a shape is behind an edge beyond its limit.
-use Rattle.std.proofs.Common.{◌≡◌, ⊎_elim, ℕ, ◌+◌, ◌<◌, ◌≤◌, Bool, true, false, ◌&&◌, ◌||◌, cond, List, [], ◌∷◌, None, Option, Some, length, get_or, set, take}
+use Rattle.std.proofs.Common.{
+  ◌≡◌,
+  ⊎_elim,
+  ℕ,
+  ◌+◌,
+  ◌<◌,
+  ◌≤◌,
+  Bool,
+  true,
+  false,
+  ◌&&◌,
+  ◌||◌,
+  cond,
+  List,
+  [],
+  ◌∷◌,
+  None,
+  Option,
+  Some,
+  length,
+  get_or,
+  set,
+  take,
+}
 use Rattle.std.proofs.Common.{ℤ, pos, ◌+ℤ◌, ◌-ℤ◌, ◌*ℤ◌, ◌≤ℤ◌, ◌<ℤ◌, refl, sym, ap, subst, ◌∙◌, arith}
 use Rattle.std.specs.Prelude.{int_le, int_lt, nat_eq, slice_get}
 use Rattle.std.proofs.Math.ListN.{length-set}
@@ -89,7 +112,8 @@ pub reach_more : (old new : Reach) (owners : List Owner) (i : ℕ) (d : Owner) (
     → (o : Owner) (limit : ℤ) → is_listed o (take (i + 1) owners) ≡ true → reach_of new o ≡ Some limit → x ≤ℤ limit
 reach_more old new owners i d x less grown here so_far o limit listed e =
     by_tests (is_listed o (take i owners)) (owner_eq (get_or owners i d) o) refl refl
-    (sym (ap (is_listed o) (take_more owners i d less) ∙ list_any-append (λ p. owner_eq p o) (take i owners) (get_or owners i d ∷ [])) ∙ listed)
+    (sym (ap (is_listed o) (take_more owners i d less) ∙ list_any-append (λ p. owner_eq p o) (take i owners) (get_or owners i d ∷ [])) ∙
+    listed)
   where
     by_tests : (a b : Bool) → is_listed o (take i owners) ≡ a → owner_eq (get_or owners i d) o ≡ b → (a || (b || false)) ≡ true → x ≤ℤ limit
     by_tests true b s t h =

@@ -190,7 +190,8 @@ ranks = record {
 }
 
 module _ (edges : List (Point × Point)) (row : ℤ) (rising : IsRising IsEdgeBefore edges) (clean : AreClean edges) where
-  pub left_of : (a b : Crossing) → IsCrossingOf edges row a → IsCrossingOf edges row b → nat_eq a.number b.number ≡ false → is_left b a ≡ false
+  pub left_of : (a b : Crossing) → IsCrossingOf edges row a → IsCrossingOf edges row b → nat_eq a.number b.number ≡ false → is_left b a ≡
+      false
       → IsLeftOf edges row a.number b.number
   left_of a b ha hb apart sorted d =
       let e = get_or edges a.number d in

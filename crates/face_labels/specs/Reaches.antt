@@ -1,5 +1,25 @@
 -- How far to the right the edges of each shape reach.
-use Rattle.std.specs.Prelude.{◌≡◌, ℕ, ◌<◌, ◌≤◌, ℤ, ◌≤ℤ◌, ◌<ℤ◌, int_lt, Bool, true, false, ◌&&◌, List, None, Option, Some, length, slice_get, slice_index}
+use Rattle.std.specs.Prelude.{
+  ◌≡◌,
+  ℕ,
+  ◌<◌,
+  ◌≤◌,
+  ℤ,
+  ◌≤ℤ◌,
+  ◌<ℤ◌,
+  int_lt,
+  Bool,
+  true,
+  false,
+  ◌&&◌,
+  List,
+  None,
+  Option,
+  Some,
+  length,
+  slice_get,
+  slice_index,
+}
 use Rattle.lay_point.specs.declared.point.Point.{Point}
 use Rattle.snap_chains.specs.declared.owner.Input.{Input}
 use Rattle.snap_chains.specs.declared.owner.Input.TheVariants.{First, Second}

@@ -1,5 +1,29 @@
 -- The shapes that hold on the two sides of an edge.
-use Rattle.std.specs.Prelude.{◌≡◌, ◌⊎◌, ℕ, ◌+◌, ◌<◌, ◌≤◌, All, true, false, pos, ◌+ℤ◌, Bool, Contains, IsTrue, List, None, Option, Some, drop, length, map, slice_index, slice_index_or}
+use Rattle.std.specs.Prelude.{
+  ◌≡◌,
+  ◌⊎◌,
+  ℕ,
+  ◌+◌,
+  ◌<◌,
+  ◌≤◌,
+  All,
+  true,
+  false,
+  pos,
+  ◌+ℤ◌,
+  Bool,
+  Contains,
+  IsTrue,
+  List,
+  None,
+  Option,
+  Some,
+  drop,
+  length,
+  map,
+  slice_index,
+  slice_index_or,
+}
 use Rattle.lay_point.specs.Edges.{IsEdgeBefore}
 use Rattle.lay_point.specs.Parity.{xor, parity}
 use Rattle.lay_point.specs.Rising.{IsRising}

@@ -9,7 +9,16 @@ use Rattle.lay_point.proofs.EdgeOrder.{same_by_test, points_decide}
 use Rattle.lay_point.proofs.Members.{Has}
 use Rattle.lay_point.proofs.Parity.{xor-false, xor_comm, xor_self, xor_cancel}
 use Rattle.face_link_laws.specs.Linking.{Ends, along, other_end, rings_from, take_at, way}
-use Rattle.face_link_laws.proofs.TakenLemmas.{IsTaken, is_taken, none_taken, other_has, taken_has, taken_length, taken_parity, taken_touches}
+use Rattle.face_link_laws.proofs.TakenLemmas.{
+  IsTaken,
+  is_taken,
+  none_taken,
+  other_has,
+  taken_has,
+  taken_length,
+  taken_parity,
+  taken_touches,
+}
 
 -- the ends differ
 abbrev pub AreProper : List Ends → Type 0

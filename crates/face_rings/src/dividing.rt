@@ -28,7 +28,7 @@ use std::alloc::{AllocError, Global};
 
 /// Returns the parts of the rings: rings whose bounding boxes have a point in common, their sides
 /// included, are in one part, and no part could be divided. Parts are in the order of their first rings,
-/// and the rings of a part in theirs. The number of steps is that of the pairs of rings.
+/// and the rings of a part in theirs. The work is that of `face_joins`: no pair of rings is asked.
 ///
 /// A place is in the boxes of one part at most. So some part has an odd number of edges to the right of
 /// it exactly where all rings together have.

@@ -1,5 +1,24 @@
 -- Places in a text of lines, each of which ends with a newline, the last perhaps without one.
-use Rattle.std.specs.Prelude.{◌≡◌, ◌≢◌, ◌⊎◌, ◌<◌, ◌≤◌, ◌+◌, ◌-◌, ◌++◌, ℕ, nat_eq, if◌then◌else◌, List, [], ◌∷◌, take, slice_index_or, codes, decimal}
+use Rattle.std.specs.Prelude.{
+  ◌≡◌,
+  ◌≢◌,
+  ◌⊎◌,
+  ◌<◌,
+  ◌≤◌,
+  ◌+◌,
+  ◌-◌,
+  ◌++◌,
+  ℕ,
+  nat_eq,
+  if◌then◌else◌,
+  List,
+  [],
+  ◌∷◌,
+  take,
+  slice_index_or,
+  codes,
+  decimal,
+}
 
 -- how many lines end in these bytes
 abbrev pub newlines : List ℕ → ℕ

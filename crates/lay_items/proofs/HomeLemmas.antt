@@ -20,7 +20,19 @@ use Rattle.lay_pages.proofs.OrderLemmas.{written-same}
 use Rattle.lay_items.specs.declared.cell_index.Home.{Home}
 use Rattle.lay_items.specs.declared.id.ItemId.{ItemId}
 use Rattle.lay_items.specs.declared.item.Item.{Item}
-use Rattle.lay_items.specs.ByCell.{AreIndexed, AreLent, Homed, cell_key, first_home, found_first, home_cmp, home_of, homes_exact, homes_in, homes_total}
+use Rattle.lay_items.specs.ByCell.{
+  AreIndexed,
+  AreLent,
+  Homed,
+  cell_key,
+  first_home,
+  found_first,
+  home_cmp,
+  home_of,
+  homes_exact,
+  homes_in,
+  homes_total,
+}
 use Rattle.lay_items.specs.ByCell.{ids_in, key_of, listed, looked_up, unit_entry, with_home, without_home}
 use Rattle.lay_items.specs.IdOrder.{ids_exact, ids_total}
 use Rattle.lay_items.specs.Ids.{id_cmp}
@@ -245,7 +257,8 @@ indexed_written id x es hs sorted homes rest indexed key =
       by false is =
           listed_there key (cell_key (cell_of item)) id None hs homes is ∙ sym same ∙ ap (λ t. rewritten id t (listed key hs)) is
 
-    inn : (x : Option Item) (fs : List Homed) → IsStrictlySortedBy home_cmp (keys_of fs) → listed key fs ≡ rewritten id false (listed key hs)
+    inn : (x : Option Item) (fs : List Homed) → IsStrictlySortedBy home_cmp (keys_of fs) → listed key fs ≡ rewritten id false
+        (listed key hs)
         → listed key (with_home id x fs) ≡ rewritten id (is_in key x) (listed key hs)
     inn None fs up same = same
     inn (Some item) fs up same = by (cell_key (cell_of item) == key) refl where
@@ -444,7 +457,8 @@ listed_units : (key : ℕ) (hs : List Home) → listed key (map unit_entry hs) �
 listed_units key [] = refl
 listed_units key (h ∷ hs) = by (h.cell == key) (listed_units key hs) where
   by : (b : Bool) → listed key (map unit_entry hs) ≡ map (λ (g : Home). g.id) (filter (λ (g : Home). g.cell == key) hs)
-      → map (λ (g : Homed). g.0.id) (cond b (unit_entry h ∷ filter (in_cell key) (map unit_entry hs)) (filter (in_cell key) (map unit_entry hs)))
+      → map (λ (g : Homed). g.0.id) (cond b (unit_entry h ∷ filter (in_cell key) (map unit_entry hs))
+      (filter (in_cell key) (map unit_entry hs)))
       ≡ map (λ (g : Home). g.id) (cond b (h ∷ filter (λ (g : Home). g.cell == key) hs) (filter (λ (g : Home). g.cell == key) hs))
   by true rest = ap (λ ids. h.id ∷ ids) rest
   by false rest = rest
@@ -453,7 +467,8 @@ ids_homes : (key : ℕ) (es : List (ItemId × Item)) → map (λ h. h.id) (filte
 ids_homes key [] = refl
 ids_homes key (e ∷ es) = by (key_of e == key) (ids_homes key es) where
   by : (b : Bool) → map (λ (g : Home). g.id) (filter (λ (g : Home). g.cell == key) (homes_in es)) ≡ ids_in key es
-      → map (λ (g : Home). g.id) (cond b (home_of e.0 e.1 ∷ filter (λ (g : Home). g.cell == key) (homes_in es)) (filter (λ (g : Home). g.cell == key) (homes_in es)))
+      → map (λ (g : Home). g.id) (cond b (home_of e.0 e.1 ∷ filter (λ (g : Home). g.cell == key) (homes_in es))
+      (filter (λ (g : Home). g.cell == key) (homes_in es)))
       ≡ map (λ (f : ItemId × Item). f.0) (cond b (e ∷ filter (λ f. key_of f == key) es) (filter (λ f. key_of f == key) es))
   by true rest = ap (λ ids. e.0 ∷ ids) rest
   by false rest = rest

@@ -44,7 +44,8 @@ homes_total = then_total (on_total (λ a. a.cell) nat_cmp_total) (on_total (λ a
 
 pub homes_exact : IsAntisymmetric home_cmp
 homes_exact a b h =
-    ap (λ (p : ℕ × ItemId). record { cell = p.0; id = p.1 }) (exact_pairs nat_cmp id_cmp exact_unsigned ids_exact (a.cell, a.id) (b.cell, b.id) h)
+    ap (λ (p : ℕ × ItemId). record { cell = p.0; id = p.1 }) (exact_pairs nat_cmp id_cmp exact_unsigned ids_exact (a.cell, a.id)
+    (b.cell, b.id) h)
 
 -- the first that a cell may have
 abbrev pub first_home : ℕ → Home

@@ -101,7 +101,8 @@ module _ {K X : Type 0} {R : K → K → Ordering} (total : IsTotalOrder R) wher
       let up : suc at ≡ at + 1 = omega arith in
       ap (from_key R k) (joined-at lists at d place.in_range)
       ∙ filter-append total (λ e. not (is_lt (R e.0 k))) (joined (take at lists)) (get_or lists at d ++ joined (drop (suc at) lists))
-      ∙ ap (λ es. es ++ from_key R k (get_or lists at d ++ joined (drop (suc at) lists))) (from-below k (joined (take at lists)) place.below)
+      ∙ ap (λ es. es ++ from_key R k (get_or lists at d ++ joined (drop (suc at) lists)))
+      (from-below k (joined (take at lists)) place.below)
       ∙ filter-append total (λ e. not (is_lt (R e.0 k))) (get_or lists at d) (joined (drop (suc at) lists))
       ∙ (λ i. from_key R k (get_or lists at d) ++ from_key R k (joined (drop (up i) lists)))
       ∙ ap (λ es. from_key R k (get_or lists at d) ++ es) (from-above k (joined (drop (at + 1) lists)) place.above)

@@ -146,4 +146,14 @@ module _ {K X : Type 0} {R : K → K → Ordering} (total : IsTotalOrder R) (exa
   searched es k sorted (Err at) in_range parted =
       let sides = parted (rise es k sorted) in
       let split = gap es k at in_range sides.0 sides.1 in
-      record { found = tt; absent = record { in_range = in_range; before = split.lower; after = split.upper; from = split.from; no_item = split.value } }
+      record {
+        found = tt;
+        absent = record {
+          in_range = in_range;
+          before = split.lower;
+          after = split.upper;
+          from = split.from;
+          no_item =
+              split.value;
+        };
+      }

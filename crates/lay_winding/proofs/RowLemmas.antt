@@ -5,7 +5,16 @@ use Rattle.std.proofs.Common.{ℤ, pos, ◌+ℤ◌, ◌-ℤ◌, ◌*ℤ◌, ◌�
 use Rattle.std.specs.Bool.{beq}
 use Rattle.std.specs.Prelude.{int_le, int_lt}
 use Rattle.lay_int_laws.proofs.Polynomials.{Expr, #, ◌⊕◌, ◌⊖◌, ◌⊗◌, identity}
-use Rattle.lay_int_laws.proofs.Signs.{linear, nonnegative_product, positive_product, times_le, times_lt, cancel_lt, cancel_nonnegative, cancel_positive}
+use Rattle.lay_int_laws.proofs.Signs.{
+  linear,
+  nonnegative_product,
+  positive_product,
+  times_le,
+  times_lt,
+  cancel_lt,
+  cancel_nonnegative,
+  cancel_positive,
+}
 use Rattle.lay_point.specs.declared.point.Point.{Point}
 use Rattle.lay_point.specs.Parity.{is_crossed_rising, rises_past, distance_right}
 use Rattle.snap_pixels.specs.Segments.{cross}
@@ -80,15 +89,35 @@ module _ (low high : ℤ) (order : low <ℤ high) (e f : Slant) (here : Reaches 
   bottom : pos 0 ≤ℤ gap_at_bottom e f → (h : ℤ) × (h ≤ℤ low) × (pos 0 ≤ℤ (level e f +ℤ h *ℤ lean e f))
   bottom = elim (int_le f.low.y e.low.y) as (λ b. pos 0 ≤ℤ cond b (cross f.low e.low f.low f.high) (cross f.low e.low e.low e.high)
       → (h : ℤ) × (h ≤ℤ low) × (pos 0 ≤ℤ (level e f +ℤ h *ℤ lean e f))) [
-        | true ↦ λ g. (e.low.y, here.from, subst (λ z. pos 0 ≤ℤ z) (sym (low_by_f e f)) (nonnegative_product (rise e) (cross f.low e.low f.low f.high) rise_e g))
-        | false ↦ λ g. (f.low.y, there.from, subst (λ z. pos 0 ≤ℤ z) (sym (low_by_e e f)) (nonnegative_product (rise f) (cross f.low e.low e.low e.high) rise_f g))
+        | true ↦ λ g. (
+          e.low.y,
+          here.from,
+          subst (λ z. pos 0 ≤ℤ z) (sym (low_by_f e f))
+              (nonnegative_product (rise e) (cross f.low e.low f.low f.high) rise_e g),
+        )
+        | false ↦ λ g. (
+          f.low.y,
+          there.from,
+          subst (λ z. pos 0 ≤ℤ z) (sym (low_by_e e f))
+              (nonnegative_product (rise f) (cross f.low e.low e.low e.high) rise_f g),
+        )
       ]
 
   top : pos 0 ≤ℤ gap_at_top e f → (h : ℤ) × (high ≤ℤ h) × (pos 0 ≤ℤ (level e f +ℤ h *ℤ lean e f))
   top = elim (int_le e.high.y f.high.y) as (λ b. pos 0 ≤ℤ cond b (cross f.high e.high f.low f.high) (cross f.high e.high e.low e.high)
       → (h : ℤ) × (high ≤ℤ h) × (pos 0 ≤ℤ (level e f +ℤ h *ℤ lean e f))) [
-        | true ↦ λ g. (e.high.y, here.to, subst (λ z. pos 0 ≤ℤ z) (sym (high_by_f e f)) (nonnegative_product (rise e) (cross f.high e.high f.low f.high) rise_e g))
-        | false ↦ λ g. (f.high.y, there.to, subst (λ z. pos 0 ≤ℤ z) (sym (high_by_e e f)) (nonnegative_product (rise f) (cross f.high e.high e.low e.high) rise_f g))
+        | true ↦ λ g. (
+          e.high.y,
+          here.to,
+          subst (λ z. pos 0 ≤ℤ z) (sym (high_by_f e f))
+              (nonnegative_product (rise e) (cross f.high e.high f.low f.high) rise_e g),
+        )
+        | false ↦ λ g. (
+          f.high.y,
+          there.to,
+          subst (λ z. pos 0 ≤ℤ z) (sym (high_by_e e f))
+              (nonnegative_product (rise f) (cross f.high e.high e.low e.high) rise_f g),
+        )
       ]
 
   -- between two heights where e isn't left of f it isn't either

@@ -52,7 +52,8 @@ no_count k x y s e = ap (λ b. cond b (signed s.up) (pos 0)) e
 
 -- ---- what an edge counts and what its slant does
 not_falling : (k x y : ℤ) (a b : Point) → pos 1 ≤ℤ k → a.y ≤ℤ b.y → is_crossed_rising k x y b a ≡ false
-not_falling k x y a b scale h = not_crossed k x y b a (λ past not_yet. let q = times_le k a.y b.y (omega (arith, linear)) h in omega (arith, linear))
+not_falling k x y a b scale h = not_crossed k x y b a (λ past not_yet. let q = times_le k a.y b.y (omega (arith, linear)) h in omega
+    (arith, linear))
 
 upward : (k x y : ℤ) (e : Point × Point) → pos 1 ≤ℤ k → e.0.y ≤ℤ e.1.y
     → turn k x y e ≡ cond (is_crossed_rising k x y e.0 e.1) (pos 1) (pos 0)

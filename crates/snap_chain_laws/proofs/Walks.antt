@@ -7,7 +7,15 @@ use Rattle.snap_chain_laws.specs.Rounding.{tail, closed}
 use Rattle.snap_chain_laws.specs.Undirected.{edges_of}
 use Rattle.snap_chain_laws.proofs.Members.{Has}
 use Rattle.snap_chain_laws.proofs.Rising.{IsStrictOrder}
-use Rattle.snap_chain_laws.proofs.Parity.{IsEquality, xor_self, parity-append, parity-map, parity_agree, parity_of_walk, parity_of_occurrences}
+use Rattle.snap_chain_laws.proofs.Parity.{
+  IsEquality,
+  xor_self,
+  parity-append,
+  parity-map,
+  parity_agree,
+  parity_of_walk,
+  parity_of_occurrences,
+}
 
 -- ---- joined
 last-append : {A : Type 0} (x : A) (xs ys : List A) → last x (xs ++ ys) ≡ last (last x xs) ys

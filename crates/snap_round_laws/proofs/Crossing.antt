@@ -14,7 +14,15 @@ use Rattle.snap_round_laws.specs.Crossings.{crossing_of, hot_centres, is_fractio
 use Rattle.snap_round_laws.specs.Sorting.{point_order}
 use Rattle.snap_round_laws.proofs.InRange.{and_true, both_true, le_by_test, test_by_le}
 use Rattle.snap_round_laws.proofs.Sides.{IsMarked}
-use Rattle.snap_round_laws.proofs.Sorting.{filter_map_has, flat_map_has, has_filter_map, has_flat_map, has_sorted, points_ranked, sorted_has}
+use Rattle.snap_round_laws.proofs.Sorting.{
+  filter_map_has,
+  flat_map_has,
+  has_filter_map,
+  has_flat_map,
+  has_sorted,
+  points_ranked,
+  sorted_has,
+}
 
 -- ---- tests
 pub lt_by_test : (a b : ℤ) → int_lt a b ≡ true → a <ℤ b

@@ -15,7 +15,18 @@ use Rattle.snap_pixels.specs.Segments.{Meets, along}
 use Rattle.snap_pixels.specs.Sides.{depth}
 use Rattle.snap_pixels.proofs.SideLemmas.{lower_is, upper_is, later_passes, open_passes, closed_passes, earlier_passes, open_leaves}
 use Rattle.snap_pixels.proofs.SideLemmas.{closed_leaves, holds_between, holds_none, holds_touching, touching_none}
-use Rattle.snap_round_laws.specs.Meeting.{Bound, bound_order, earlier, finish, later, leaves_all, leaves_some, leaves_some_in, lower, meets_of}
+use Rattle.snap_round_laws.specs.Meeting.{
+  Bound,
+  bound_order,
+  earlier,
+  finish,
+  later,
+  leaves_all,
+  leaves_some,
+  leaves_some_in,
+  lower,
+  meets_of,
+}
 use Rattle.snap_round_laws.specs.Meeting.{narrower, start, upper}
 use Rattle.snap_round_laws.specs.Sorting.{by_order}
 use Rattle.snap_round_laws.proofs.Crossing.{lt_by_test, test_by_lt}

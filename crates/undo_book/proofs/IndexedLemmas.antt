@@ -97,7 +97,8 @@ module _ (test : Element → Entry → Bool) where
             ap (λ b. b || test e next) was
 
   left : (listed new : Listed) (es : List Entry) (i : ℕ) (entry next : Entry) (elements : Touched) → Lists test listed es →
-      slice_get es i ≡ Some entry → i < length es → AreRemoved listed elements i new → ((e : Element) → contains elements e ≡ test e entry) →
+      slice_get es i ≡ Some entry → i < length es → AreRemoved listed elements i new →
+      ((e : Element) → contains elements e ≡ test e entry) →
       ((e : Element) → test e next ≡ false) → Lists test new (slice_set es i next)
   left listed new es i entry next elements lists at less removed are none e j =
       removed e j ∙ (λ k. lists e j k && not ((j == i) && are e k)) ∙ by (j == i) refl ∙ sym (set_at (test e) es i next less j) where
@@ -207,7 +208,8 @@ module _ (writes : Records) where
   meets_either : (met footprint : Touched) → AreMetBy writes met →
       list_any (λ e. contains footprint e) (items met) ≡ touches writes footprint
   meets_either met footprint are =
-      any_alike (contains footprint) (λ e. list_any (λ f. element_eq f e) (items footprint)) (items met) (λ e. sym (contains-back footprint e))
+      any_alike (contains footprint) (λ e. list_any (λ f. element_eq f e) (items footprint)) (items met)
+      (λ e. sym (contains-back footprint e))
       ∙ any_swap (λ e f. element_eq f e) (items met) (items footprint)
       ∙ any_alike (λ f. list_any (λ e. element_eq f e) (items met)) (some_meets writes) (items footprint)
       (λ f. sym (contains-items met f) ∙ are f)

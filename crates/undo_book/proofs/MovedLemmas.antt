@@ -1,5 +1,27 @@
 -- The first transaction whose link has moved is the one at the first place that is linked now and wasn't seen, or the other way round.
-use Rattle.std.proofs.Common.{◌≡◌, ℕ, ◌<◌, ◌≤◌, ◌==◌, zero, suc, Bool, true, false, not, cond, ◌||◌, ◌&&◌, List, [], ◌∷◌, length, map, take, drop}
+use Rattle.std.proofs.Common.{
+  ◌≡◌,
+  ℕ,
+  ◌<◌,
+  ◌≤◌,
+  ◌==◌,
+  zero,
+  suc,
+  Bool,
+  true,
+  false,
+  not,
+  cond,
+  ◌||◌,
+  ◌&&◌,
+  List,
+  [],
+  ◌∷◌,
+  length,
+  map,
+  take,
+  drop,
+}
 use Rattle.std.proofs.Common.{Option, None, Some, option_map, refl, sym, ap, ◌∙◌, arith, slice_get}
 use Rattle.std.specs.Prelude.{is_some, nat_lt}
 use Rattle.std.proofs.lemmas.Bool.Decides.{nat_tests}
@@ -20,7 +42,17 @@ use Rattle.undo_index.specs.First.{IsFirst, first_some, found_at, is_apart, look
 use Rattle.undo_index.specs.Listed.{Listed, is_listed}
 use Rattle.undo_index.proofs.FirstLemmas.{first_alike, first_found}
 use Rattle.undo_book.specs.Indexed.{Lists, wrote}
-use Rattle.undo_book.specs.Places.{AreTheirPlaces, found_at as place_found, is_place, moved_at, name_cmp, name_of, named_at, place_of, stands_at}
+use Rattle.undo_book.specs.Places.{
+  AreTheirPlaces,
+  found_at as place_found,
+  is_place,
+  moved_at,
+  name_cmp,
+  name_of,
+  named_at,
+  place_of,
+  stands_at,
+}
 use Rattle.undo_book.proofs.IndexLemmas.{names_equal}
 use Rattle.undo_book.proofs.IndexedLemmas.{any_live, suc_suc, suc_zero, zero_suc}
 
@@ -173,7 +205,8 @@ module _ (touched : Touched) (names : List TxnId) (w : Listed) (es : List Entry)
   abbrev pub was_seen : ℕ → Bool
   was_seen p = nat_lt p place && list_any (stands_at places p) names
 
-  seen_so : AreTheirPlaces places es → (p : ℕ) → list_any (stands_at places p) names ≡ list_any (λ name. is_place p (place_of name es)) names
+  seen_so : AreTheirPlaces places es → (p : ℕ) → list_any (stands_at places p) names ≡ list_any (λ name. is_place p (place_of name es))
+      names
   seen_so are p = any_alike (stands_at places p) (λ name. is_place p (place_of name es)) names (λ name. ap (is_place p) (are name))
 
   linked_so : Lists wrote w es → (p : ℕ) → (o : Option Entry) → slice_get es p ≡ o →
@@ -251,7 +284,8 @@ pub moved_here : (w : Listed) (es : List Entry) (places : List ((ℕ × ℕ) × 
 moved_here w es places place entry touched names linked seen o at same sames lists are named links sees first =
     moved_found touched names w es places place lists are named o
     (first_alike (λ p. is_apart (contains nat_cmp linked p) (contains nat_cmp seen p))
-    (λ p. is_apart (nat_lt p place && list_any (λ e. is_listed w e p) (items touched)) (nat_lt p place && list_any (stands_at places p) names))
+    (λ p. is_apart (nat_lt p place && list_any (λ e. is_listed w e p) (items touched))
+    (nat_lt p place && list_any (stands_at places p) names))
     0 o (λ p i. is_apart (links p i) (sees p i)) first)
     ∙ (λ i. first_moved (take place es) (links_to (take place es) (same i)) (sames i))
     ∙ sym (ap (λ x. moved_at (option_map (λ (e : Entry). record { before = take place es; entry = e; later = drop (suc place) es }) x)) at)

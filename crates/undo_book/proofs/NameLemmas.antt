@@ -81,7 +81,8 @@ module _ (fp : Touched) where
   next n i = omega arith
 
   -- without the first transaction, which isn't listed
-  skipped : (n : ℕ) (e : Entry) (es : List Entry) (ks : List ℕ) (name : ℕ → Option TxnId) → Tell n (e ∷ es) ks name → Tell (suc n) es ks name
+  skipped : (n : ℕ) (e : Entry) (es : List Entry) (ks : List ℕ) (name : ℕ → Option TxnId) → Tell n (e ∷ es) ks name → Tell (suc n) es ks
+      name
   skipped n e es ks name tell = record {
     there = λ i. ap (λ p. list_any (is_at (nat_cmp p)) ks) (sym (next n i)) ∙ tell.there (suc i);
     named = λ i entry at. ap name (sym (next n i)) ∙ tell.named (suc i) entry at;

@@ -1,5 +1,23 @@
 -- Places of transactions among the committed ones, by their names.
-use Rattle.std.specs.Prelude.{◌≡◌, ℕ, ◌==◌, suc, Bool, false, List, [], ◌∷◌, take, drop, Option, None, Some, option_map, if◌then◌else◌, slice_get}
+use Rattle.std.specs.Prelude.{
+  ◌≡◌,
+  ℕ,
+  ◌==◌,
+  suc,
+  Bool,
+  false,
+  List,
+  [],
+  ◌∷◌,
+  take,
+  drop,
+  Option,
+  None,
+  Some,
+  option_map,
+  if◌then◌else◌,
+  slice_get,
+}
 use Rattle.std.specs.declared.cmp.Ordering.{Ordering}
 use Rattle.std.specs.BTreeMap.{is_at}
 use Rattle.std.specs.Map.{lookup}

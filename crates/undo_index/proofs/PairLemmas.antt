@@ -6,7 +6,17 @@ use Rattle.std.specs.declared.cmp.Ordering.TheVariants.{Equal, Greater, Less}
 use Rattle.std.specs.BTreeMap.{is_at}
 use Rattle.std.specs.Cmp.{IsTotalOrder, eq_by_cmp_equiv, unsigned_tied}
 use Rattle.std.specs.FinMap.{nat_cmp-IsAntisymmetric}
-use Rattle.std.specs.FinSet.{IsAntisymmetric, contains, contains-from_list, contains-insert, contains-remove, from_list, insert, remove, same_set}
+use Rattle.std.specs.FinSet.{
+  IsAntisymmetric,
+  contains,
+  contains-from_list,
+  contains-insert,
+  contains-remove,
+  from_list,
+  insert,
+  remove,
+  same_set,
+}
 use Rattle.std.specs.List.{list_any}
 use Rattle.std.specs.Ordering.{eq_by_cmp, is_eq, nat_cmp, ordering_then}
 use Rattle.txn_rules.specs.declared.element.Element.{Element}

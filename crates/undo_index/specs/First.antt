@@ -1,5 +1,25 @@
 -- First places that pass a test.
-use Rattle.std.specs.Prelude.{◌≡◌, ℕ, ◌<◌, ◌≤◌, Bool, true, false, not, ◌&&◌, ◌||◌, List, [], ◌∷◌, Option, None, Some, if◌then◌else◌, nat_lt, slice_get}
+use Rattle.std.specs.Prelude.{
+  ◌≡◌,
+  ℕ,
+  ◌<◌,
+  ◌≤◌,
+  Bool,
+  true,
+  false,
+  not,
+  ◌&&◌,
+  ◌||◌,
+  List,
+  [],
+  ◌∷◌,
+  Option,
+  None,
+  Some,
+  if◌then◌else◌,
+  nat_lt,
+  slice_get,
+}
 
 -- the first place from this one on that passes the test; None where there is none
 abbrev pub IsFirst : (ℕ → Bool) → ℕ → Option ℕ → Type 0

@@ -21,7 +21,8 @@ join_all-requires t c =
         (
           c.join_to_widest.ensures.grows.each ∙ c.requires.each,
           all_inside c.in_ok-low.low.items (length c.args.boxes.now)
-              (inside_part (reaches_low c.in-Some.cut) c.args.boxes.now c.as_slice-3.result.now c.in_ok-low.low.items all c.in_ok-low.ensures),
+              (inside_part (reaches_low c.in-Some.cut) c.args.boxes.now c.as_slice-3.result.now c.in_ok-low.low.items all
+              c.in_ok-low.ensures),
         ),
       ),
     )

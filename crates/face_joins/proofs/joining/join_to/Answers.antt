@@ -16,7 +16,8 @@ loop-number-preserved c =
     let after : List ℕ → Bool → Type 0 = λ parents all. IsJoining boxes c.args.parents.now parents c.args.one numbers (i + 1) all in
     elim c.if-touches.branch [
       | then-touches w ↦
-          subst (λ all. after c.if-touches.parents all) (sym w.all-is) (subst (λ parents. after parents c.loop-number.all) (sym w.parents-is)
+          subst (λ all. after c.if-touches.parents all) (sym w.all-is)
+          (subst (λ parents. after parents c.loop-number.all) (sym w.parents-is)
           (joining_takes boxes c.args.parents.now c.loop-number.parents c.args.one numbers i c.loop-number.all b d
           c.loop-number.invariant c.requires.each c.loop-number-test.true c.requires.one inside c.index-boxes-one.is
           c.index-boxes-number.is w.unite.new.parents (sym c.touches.ensures ∙ w.if-touches.true) w.unite.auto.parents

@@ -1,4 +1,25 @@
-use Rattle.std.proofs.Common.{◌≡◌, ◌+◌, ◌-◌, ◌<◌, ◌≤ℤ◌, ◌<ℤ◌, ℕ, pos, Contains, get_or, length, to_z, of_z, w32, sym, subst, ap, ◌∙◌, arith, rules}
+use Rattle.std.proofs.Common.{
+  ◌≡◌,
+  ◌+◌,
+  ◌-◌,
+  ◌<◌,
+  ◌≤ℤ◌,
+  ◌<ℤ◌,
+  ℕ,
+  pos,
+  Contains,
+  get_or,
+  length,
+  to_z,
+  of_z,
+  w32,
+  sym,
+  subst,
+  ap,
+  ◌∙◌,
+  arith,
+  rules,
+}
 use Rattle.std.specs.Prelude.{All}
 use Rattle.std.proofs.Math.ListN.{length-set}
 use Rattle.std.proofs.lemmas.Int.{to_z-of_z}

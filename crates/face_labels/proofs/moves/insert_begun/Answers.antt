@@ -1,5 +1,28 @@
 -- The edge of a start that isn't after the row begins in it.
-use Rattle.std.proofs.Common.{◌≡◌, ⊎_elim, ◌+◌, ◌<◌, ◌≤◌, ◌<ℤ◌, ◌≤ℤ◌, true, pos, Contains, get_or, length, to_z, of_z, w32, sym, subst, ap, ◌∙◌, arith, ℕ, List}
+use Rattle.std.proofs.Common.{
+  ◌≡◌,
+  ⊎_elim,
+  ◌+◌,
+  ◌<◌,
+  ◌≤◌,
+  ◌<ℤ◌,
+  ◌≤ℤ◌,
+  true,
+  pos,
+  Contains,
+  get_or,
+  length,
+  to_z,
+  of_z,
+  w32,
+  sym,
+  subst,
+  ap,
+  ◌∙◌,
+  arith,
+  ℕ,
+  List,
+}
 use Rattle.std.proofs.lemmas.Bool.{cases_lt}
 use Rattle.std.proofs.lemmas.Int.{to_z-of_z}
 use Rattle.std.proofs.lemmas.List.{get_or_default}
@@ -41,7 +64,8 @@ insert_edge-requires-clause-crosses c =
     let at : row ≡ c.args.row = to_z-of_z w32 c.args.row c.ranges.row in
     let own = c.requires.starts i origin less in
     let early : s.y ≤ℤ row = lt_false row s.y (sym c.begins_after.ensures ∙ c.if-begins_after.false) in
-    let there = begins_there r s row own (subst (λ z. z ≤ℤ s.y) (sym at) (c.requires.behind s (Contains-get_or starts i origin less))) early in
+    let there = begins_there r s row own (subst (λ z. z ≤ℤ s.y) (sym at) (c.requires.behind s (Contains-get_or starts i origin less)))
+    early in
     let edge : c.index-edges-start.result ≡ edge_at r s.number =
     c.index-edges-start.is ∙ (λ k. get_or (c.edges.ensures.value k) s.number c.index-edges-start.result)
     ∙ get_or_default r.0 s.number c.index-edges-start.result nowhere own.given in
@@ -62,7 +86,8 @@ insert_edge-requires-clause-some c =
     let at : row ≡ c.args.row = to_z-of_z w32 c.args.row c.ranges.row in
     let own = c.requires.starts i origin less in
     let early : s.y ≤ℤ row = lt_false row s.y (sym c.begins_after.ensures ∙ c.if-begins_after.false) in
-    let there = begins_there r s row own (subst (λ z. z ≤ℤ s.y) (sym at) (c.requires.behind s (Contains-get_or starts i origin less))) early in
+    let there = begins_there r s row own (subst (λ z. z ≤ℤ s.y) (sym at) (c.requires.behind s (Contains-get_or starts i origin less)))
+    early in
     subst (λ z. AreSomeRowEdges r.0 z c.loop-start.numbers.items) (sym there) c.loop-start.invariant.some
 
 pub loop-start-preserved : goal.loop-start-preserved
@@ -77,7 +102,8 @@ loop-start-preserved c =
     let at : row ≡ c.args.row = to_z-of_z w32 c.args.row c.ranges.row in
     let own = c.requires.starts i origin less in
     let early : s.y ≤ℤ row = lt_false row s.y (sym c.begins_after.ensures ∙ c.if-begins_after.false) in
-    let there = begins_there r s row own (subst (λ z. z ≤ℤ s.y) (sym at) (c.requires.behind s (Contains-get_or starts i origin less))) early in
+    let there = begins_there r s row own (subst (λ z. z ≤ℤ s.y) (sym at) (c.requires.behind s (Contains-get_or starts i origin less)))
+    early in
     let edge : c.index-edges-start.result ≡ edge_at r s.number =
     c.index-edges-start.is ∙ (λ k. get_or (c.edges.ensures.value k) s.number c.index-edges-start.result)
     ∙ get_or_default r.0 s.number c.index-edges-start.result nowhere own.given in

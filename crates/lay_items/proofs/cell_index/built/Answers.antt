@@ -11,7 +11,8 @@ use Rattle.lay_items.proofs.cell_index.built.Goals as goal
 pub build-requires : goal.build-requires
 build-requires c =
     let none : into_iter_items c.loop-home.home-iterator ≡ [] =
-    nil_from_length (into_iter_items c.loop-home.home-iterator) (omega (arith, c.in-None.ensures.steps.0, c.loop-home.home-iterator.rest.ok)) in
+    nil_from_length (into_iter_items c.loop-home.home-iterator)
+    (omega (arith, c.in-None.ensures.steps.0, c.loop-home.home-iterator.rest.ok)) in
     let all : c.loop-home.pages ≡ map unit_entry c.args.homes.items =
     sym (append-nil c.loop-home.pages) ∙ ap (λ (hs : List Home). c.loop-home.pages ++ map unit_entry hs) (sym none)
     ∙ c.loop-home.invariant in

@@ -14,7 +14,8 @@ use Rattle.lay_items.proofs.numbered.numbered.Goals as goal
 pub build-requires : goal.build-requires
 build-requires c =
     let none : into_iter_items c.loop-item.item-iterator ≡ [] =
-    nil_from_length (into_iter_items c.loop-item.item-iterator) (omega (arith, c.in-None.ensures.steps.0, c.loop-item.item-iterator.rest.ok)) in
+    nil_from_length (into_iter_items c.loop-item.item-iterator)
+    (omega (arith, c.in-None.ensures.steps.0, c.loop-item.item-iterator.rest.ok)) in
     let all : c.loop-item.pages ≡ numbered_from 1 c.args.items.items =
     sym (append-nil c.loop-item.pages)
     ∙ ap (λ (items : List Item). c.loop-item.pages ++ numbered_from (c.loop-item.seq + 1) items) (sym none) ∙ c.loop-item.invariant in

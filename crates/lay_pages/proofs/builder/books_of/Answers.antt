@@ -8,7 +8,8 @@ use Rattle.lay_pages.proofs.builder.books_of.Goals as goal
 pub returns-clause-entries : goal.returns-clause-entries
 returns-clause-entries g c =
     let none : into_iter_items c.loop-page.page-iterator ≡ [] =
-    nil_from_length (into_iter_items c.loop-page.page-iterator) (omega (arith, c.in-None.ensures.steps.0, c.loop-page.page-iterator.rest.ok)) in
+    nil_from_length (into_iter_items c.loop-page.page-iterator)
+    (omega (arith, c.in-None.ensures.steps.0, c.loop-page.page-iterator.rest.ok)) in
     let pages = filled (items_of c.loop-page.lists.lists.items) c.loop-page.lists.last.items in
     let all : joined (items_of c.in_ok-books.books.items) ≡ c.args.pages.items =
     c.in_ok-books.ensures.elements ∙ sym (append-nil pages) ∙ ap (λ ps. pages ++ ps) (sym none) ∙ c.loop-page.invariant.pages in
@@ -17,7 +18,8 @@ returns-clause-entries g c =
 pub returns-clause-books : goal.returns-clause-books
 returns-clause-books g c =
     let none : into_iter_items c.loop-page.page-iterator ≡ [] =
-    nil_from_length (into_iter_items c.loop-page.page-iterator) (omega (arith, c.in-None.ensures.steps.0, c.loop-page.page-iterator.rest.ok)) in
+    nil_from_length (into_iter_items c.loop-page.page-iterator)
+    (omega (arith, c.in-None.ensures.steps.0, c.loop-page.page-iterator.rest.ok)) in
     let pages = filled (items_of c.loop-page.lists.lists.items) c.loop-page.lists.last.items in
     let all : joined (items_of c.in_ok-books.books.items) ≡ c.args.pages.items =
     c.in_ok-books.ensures.elements ∙ sym (append-nil pages) ∙ ap (λ ps. pages ++ ps) (sym none) ∙ c.loop-page.invariant.pages in
@@ -26,7 +28,8 @@ returns-clause-books g c =
 pub returns-clause-pages : goal.returns-clause-pages
 returns-clause-pages g c =
     let none : into_iter_items c.loop-page.page-iterator ≡ [] =
-    nil_from_length (into_iter_items c.loop-page.page-iterator) (omega (arith, c.in-None.ensures.steps.0, c.loop-page.page-iterator.rest.ok)) in
+    nil_from_length (into_iter_items c.loop-page.page-iterator)
+    (omega (arith, c.in-None.ensures.steps.0, c.loop-page.page-iterator.rest.ok)) in
     let pages = filled (items_of c.loop-page.lists.lists.items) c.loop-page.lists.last.items in
     let all : joined (items_of c.in_ok-books.books.items) ≡ c.args.pages.items =
     c.in_ok-books.ensures.elements ∙ sym (append-nil pages) ∙ ap (λ ps. pages ++ ps) (sym none) ∙ c.loop-page.invariant.pages in

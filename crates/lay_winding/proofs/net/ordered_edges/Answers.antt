@@ -16,4 +16,5 @@ loop-edge-preserved c = λ k x y.
     c.ordered_edge.ensures c.in-Some.ensures.cases.0 (c.loop-edge.invariant k x y)
 
 pub returns : goal.returns
-returns c = λ k x y. odd_none k x y c.loop-edge.ordered.items c.loop-edge.left.now c.args.edges.now c.in_default.ensures.cases (c.loop-edge.invariant k x y)
+returns c = λ k x y. odd_none k x y c.loop-edge.ordered.items c.loop-edge.left.now c.args.edges.now c.in_default.ensures.cases
+    (c.loop-edge.invariant k x y)

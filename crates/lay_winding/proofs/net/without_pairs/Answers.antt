@@ -23,4 +23,5 @@ loop-edge-preserved c = λ k x y.
     (inl refl) c.in-Some.ensures.cases.0 (c.loop-edge.invariant k x y)
 
 pub returns : goal.returns
-returns c = λ k x y. odd_none k x y c.loop-edge.kept.items c.loop-edge.left.now c.args.edges.now c.in_default.ensures.cases (c.loop-edge.invariant k x y)
+returns c = λ k x y. odd_none k x y c.loop-edge.kept.items c.loop-edge.left.now c.args.edges.now c.in_default.ensures.cases
+    (c.loop-edge.invariant k x y)

@@ -25,7 +25,8 @@ returns-in_err-get c =
     let at : c.first_among.result ≡ Some c.in_ok-place.place = search rules in
     let gone : slice_get c.args.entries.now c.in_ok-place.place ≡ None =
     slice_get_past c.args.entries.now c.in_ok-place.place c.in_err-get.ensures.lookup.3 in
-    none ∙ sym (reader_gone c.args.entry.now.writes r c.args.entries.now met c.args.from c.in_ok-place.place c.requires.index.readers c.requires.met
+    none ∙ sym (reader_gone c.args.entry.now.writes r c.args.entries.now met c.args.from c.in_ok-place.place c.requires.index.readers
+    c.requires.met
     (subst (IsFirst (λ q. list_any (λ e. is_listed r e q) (items met)) c.args.from) at c.first_among.ensures) gone)
 
 pub returns : goal.returns

@@ -35,7 +35,8 @@ find_sides-requires-clause-given c =
     let row = to_z w32 (of_z w32 c.args.row) in
     let at : row ≡ c.args.row = to_z-of_z w32 c.args.row c.ranges.row in
     let put = c.in_ok-insert_begun.ensures in
-    let rows = later_row r old row c.args.self.numbers.items c.in_ok-numbers.numbers.items c.insert_begun.new.numbers.items c.args.starts.now
+    let rows = later_row r old row c.args.self.numbers.items c.in_ok-numbers.numbers.items c.insert_begun.new.numbers.items
+    c.args.starts.now
     (subst (λ z. old ≤ℤ z) (sym at) c.requires.later) c.requires.line.edges
     (c.in_ok-numbers.ensures ∙ ap (filter (λ n. crosses_row row (edge_at r n))) c.as_slice.ensures.value) put.some put.kept put.begun
     (λ n given behind upto. subst (λ z. BeginsBy c.args.starts.now z n) (sym at)
@@ -49,7 +50,8 @@ find_sides-requires-clause-behind c =
     let row = to_z w32 (of_z w32 c.args.row) in
     let at : row ≡ c.args.row = to_z-of_z w32 c.args.row c.ranges.row in
     let put = c.in_ok-insert_begun.ensures in
-    let rows = later_row r old row c.args.self.numbers.items c.in_ok-numbers.numbers.items c.insert_begun.new.numbers.items c.args.starts.now
+    let rows = later_row r old row c.args.self.numbers.items c.in_ok-numbers.numbers.items c.insert_begun.new.numbers.items
+    c.args.starts.now
     (subst (λ z. old ≤ℤ z) (sym at) c.requires.later) c.requires.line.edges
     (c.in_ok-numbers.ensures ∙ ap (filter (λ n. crosses_row row (edge_at r n))) c.as_slice.ensures.value) put.some put.kept put.begun
     (λ n given behind upto. subst (λ z. BeginsBy c.args.starts.now z n) (sym at)
@@ -64,7 +66,8 @@ returns-clause-line c =
     let row = to_z w32 (of_z w32 c.args.row) in
     let at : row ≡ c.args.row = to_z-of_z w32 c.args.row c.ranges.row in
     let put = c.in_ok-insert_begun.ensures in
-    let rows = later_row r old row c.args.self.numbers.items c.in_ok-numbers.numbers.items c.insert_begun.new.numbers.items c.args.starts.now
+    let rows = later_row r old row c.args.self.numbers.items c.in_ok-numbers.numbers.items c.insert_begun.new.numbers.items
+    c.args.starts.now
     (subst (λ z. old ≤ℤ z) (sym at) c.requires.later) c.requires.line.edges
     (c.in_ok-numbers.ensures ∙ ap (filter (λ n. crosses_row row (edge_at r n))) c.as_slice.ensures.value) put.some put.kept put.begun
     (λ n given behind upto. subst (λ z. BeginsBy c.args.starts.now z n) (sym at)
@@ -84,7 +87,8 @@ find_sides-requires-clause-reach c =
     let row = to_z w32 (of_z w32 c.args.row) in
     let at : row ≡ c.args.row = to_z-of_z w32 c.args.row c.ranges.row in
     let put = c.in_ok-insert_begun.ensures in
-    let rows = later_row r old row c.args.self.numbers.items c.in_ok-numbers.numbers.items c.insert_begun.new.numbers.items c.args.starts.now
+    let rows = later_row r old row c.args.self.numbers.items c.in_ok-numbers.numbers.items c.insert_begun.new.numbers.items
+    c.args.starts.now
     (subst (λ z. old ≤ℤ z) (sym at) c.requires.later) c.requires.line.edges
     (c.in_ok-numbers.ensures ∙ ap (filter (λ n. crosses_row row (edge_at r n))) c.as_slice.ensures.value) put.some put.kept put.begun
     (λ n given behind upto. subst (λ z. BeginsBy c.args.starts.now z n) (sym at)

@@ -11,7 +11,8 @@ returns-in-First-clause-second c = grown_none c.args.self.now.second.items
 pub returns-in-First-clause-reached : goal.returns-in-First-clause-reached
 returns-in-First-clause-reached c = λ limit e.
     subst (λ z. z ≤ℤ limit) (to_z-of_z w32 c.args.x c.ranges.x)
-    (c.raise.ensures.reached limit (subst (λ i. slice_get (list_of (record { first = c.raise.new.limits; second = c.args.self.now.second }) i) c.args.owner.shape ≡ Some limit) c.in-First.is e))
+    (c.raise.ensures.reached limit (subst (λ i. slice_get (list_of
+    (record { first = c.raise.new.limits; second = c.args.self.now.second }) i) c.args.owner.shape ≡ Some limit) c.in-First.is e))
 
 pub returns-in-Second-clause-first : goal.returns-in-Second-clause-first
 returns-in-Second-clause-first c = grown_none c.args.self.now.first.items
@@ -19,4 +20,6 @@ returns-in-Second-clause-first c = grown_none c.args.self.now.first.items
 pub returns-in-Second-clause-reached : goal.returns-in-Second-clause-reached
 returns-in-Second-clause-reached c = λ limit e.
     subst (λ z. z ≤ℤ limit) (to_z-of_z w32 c.args.x c.ranges.x)
-    (c.raise-in-Second.ensures.reached limit (subst (λ i. slice_get (list_of (record { first = c.args.self.now.first; second = c.raise-in-Second.new.limits }) i) c.args.owner.shape ≡ Some limit) c.in-Second.is e))
+    (c.raise-in-Second.ensures.reached limit (subst (λ i. slice_get
+    (list_of (record { first = c.args.self.now.first; second = c.raise-in-Second.new.limits }) i) c.args.owner.shape ≡ Some limit)
+    c.in-Second.is e))

@@ -1,4 +1,25 @@
-use Rattle.std.proofs.Common.{◌≡◌, ⊎_elim, ◌+◌, ◌<◌, ◌≤◌, ◌≤ℤ◌, [], Some, true, length, get_or, to_z, of_z, w32, sym, ap, subst, ◌∙◌, arith, rules}
+use Rattle.std.proofs.Common.{
+  ◌≡◌,
+  ⊎_elim,
+  ◌+◌,
+  ◌<◌,
+  ◌≤◌,
+  ◌≤ℤ◌,
+  [],
+  Some,
+  true,
+  length,
+  get_or,
+  to_z,
+  of_z,
+  w32,
+  sym,
+  ap,
+  subst,
+  ◌∙◌,
+  arith,
+  rules,
+}
 use Rattle.std.proofs.lemmas.Bool.{cases_lt}
 use Rattle.std.proofs.lemmas.Int.{ints, to_z-of_z}
 use Rattle.std.proofs.lemmas.List.{get_or_default}

@@ -1,4 +1,23 @@
-use Rattle.std.proofs.Common.{◌∙◌, ◌<◌, ◌+◌, ◌++◌, ◌-◌, List, [], append_assoc, arith, ap, drop, get_or, length, map, rules, subst, sym, take}
+use Rattle.std.proofs.Common.{
+  ◌∙◌,
+  ◌<◌,
+  ◌+◌,
+  ◌++◌,
+  ◌-◌,
+  List,
+  [],
+  append_assoc,
+  arith,
+  ap,
+  drop,
+  get_or,
+  length,
+  map,
+  rules,
+  subst,
+  sym,
+  take,
+}
 use Rattle.std.proofs.lemmas.List.{get_or-map, take_rest}
 use Rattle.std.specs.List.Sorted.{IsStrictlySortedBy}
 use Rattle.std.specs.Map.{keys_of}

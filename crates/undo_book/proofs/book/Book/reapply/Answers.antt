@@ -81,7 +81,8 @@ indexed : (c : goal.After-drop-met-inside-2) → AreIndexed c.enter.new.self.wri
 indexed c =
     let was = c.self.inside.index in
     let entry = c.index-entry.result.now in
-    let can = redone_at (history_of c.self.inside) c.args.self.now c.self.view_is c.self.invariant.history c.args.session c.args.txn c.args.place
+    let can = redone_at (history_of c.self.inside) c.args.self.now c.self.view_is c.self.invariant.history c.args.session c.args.txn
+    c.args.place
     entry c.requires.place c.index-entry.ensures c.requires.free in
     let within : c.args.place < length c.self.inside.entries.items =
     subst (λ (h : History). c.args.place < length h.entries) (sym c.self.view_is)
@@ -124,9 +125,11 @@ pub invariant_of-self-in_err-enter : goal.invariant_of-self-in_err-enter
 invariant_of-self-in_err-enter c =
     let was = c.self.inside.index in
     let entry = c.index-entry.result.now in
-    let can = redone_at (history_of c.self.inside) c.args.self.now c.self.view_is c.self.invariant.history c.args.session c.args.txn c.args.place
+    let can = redone_at (history_of c.self.inside) c.args.self.now c.self.view_is c.self.invariant.history c.args.session c.args.txn
+    c.args.place
     entry c.requires.place c.index-entry.ensures c.requires.free in
-    let fresh = undone_new was.writers was.readers c.self.inside.entries.items c.args.place entry c.self.invariant.index can.there can.undone in
+    let fresh = undone_new was.writers was.readers c.self.inside.entries.items c.args.place entry c.self.invariant.index can.there
+    can.undone in
     let writers : IsNew was.writers c.args.place → c.enter.new.self.writers ≡ was.writers = search rules in
     let readers : IsNew was.readers c.args.place → c.enter.new.self.readers ≡ was.readers = search rules in
     same_book c.self.inside _ (search rules) refl (search rules) (search rules) (writers fresh.0) (readers fresh.1) c.self.invariant

@@ -80,7 +80,8 @@ indexed : (c : goal.After-drop-met-inside-2) → AreIndexed c.leave.new.self.wri
 indexed c =
     let was = c.self.inside.index in
     let entry = c.index-entry.result.now in
-    let can = undone_at (history_of c.self.inside) c.args.self.now c.self.view_is c.self.invariant.history c.args.session c.args.txn c.args.place
+    let can = undone_at (history_of c.self.inside) c.args.self.now c.self.view_is c.self.invariant.history c.args.session c.args.txn
+    c.args.place
     entry c.requires.place c.index-entry.ensures c.requires.free in
     let within : c.args.place < length c.self.inside.entries.items =
     subst (λ (h : History). c.args.place < length h.entries) (sym c.self.view_is)

@@ -26,7 +26,8 @@ returns-then-is_err-clause-err c fresh =
     let old = c.args.self.now in
     let same : c.insert.new.self ≡ c.loop-element.self = search rules in
     taken_back old c.args.elements.now c.args.place c.insert.new.self c.remove.new.self c.loop-element.element-iterator
-    (subst (λ (s : Listed). Adds old c.args.elements.now c.args.place s c.loop-element.element-iterator) (sym same) c.loop-element.invariant)
+    (subst (λ (s : Listed). Adds old c.args.elements.now c.args.place s c.loop-element.element-iterator) (sym same)
+    c.loop-element.invariant)
     c.remove.ensures fresh
 
 pub returns-clause-ok : goal.returns-clause-ok

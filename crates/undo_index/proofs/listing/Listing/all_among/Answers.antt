@@ -16,5 +16,6 @@ loop-element-init c p =
     let none : c.new-places.result.keys ≡ [] = search rules in
     ap (λ xs. list_any (is_at (nat_cmp p)) xs
     || (nat_lt p c.args.below && list_any (λ e. is_listed c.args.self.now e p) c.into_iter-element-iterator.result)) none
-    ∙ ap (λ b. nat_lt p c.args.below && b) (any_so (λ e. is_listed c.args.self.now e p) c.into_iter-element-iterator.result c.args.elements.now
+    ∙ ap (λ b. nat_lt p c.args.below && b) (any_so (λ e. is_listed c.args.self.now e p) c.into_iter-element-iterator.result
+    c.args.elements.now
     (ap (λ (xs : List Element). from_list {R = element_cmp} xs) keys ∙ c.elements-element-items.ensures))

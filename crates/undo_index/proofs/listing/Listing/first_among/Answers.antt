@@ -23,7 +23,8 @@ loop-element-preserved c =
     let all = items c.args.elements.now in
     subst (λ (o : Option ℕ). Leaves there c.args.from all c.next.new.self o) (sym c.lesser-least.ensures)
     (leaves_less there c.args.from all c.in-Some.element.now c.next.new.self c.loop-element.least c.first.result
-    (subst (λ (rest : List Element). Leaves there c.args.from all rest c.loop-element.least) c.in-Some.ensures.steps c.loop-element.invariant)
+    (subst (λ (rest : List Element). Leaves there c.args.from all rest c.loop-element.least) c.in-Some.ensures.steps
+    c.loop-element.invariant)
     c.first.ensures)
 
 pub returns : goal.returns
@@ -31,4 +32,5 @@ returns c =
     let there = is_listed c.args.self.now in
     let all = items c.args.elements.now in
     leaves_none there c.args.from all c.loop-element.least
-    (subst (λ (rest : List Element). Leaves there c.args.from all rest c.loop-element.least) c.in-None.ensures.steps.0 c.loop-element.invariant)
+    (subst (λ (rest : List Element). Leaves there c.args.from all rest c.loop-element.least) c.in-None.ensures.steps.0
+    c.loop-element.invariant)
