@@ -67,8 +67,23 @@ impl CallGraph {
         Ok(())
     }
 
-    /// Returns whether a walk of calls leads from a cell to another. A cell leads to itself by no call.
+    /// Returns whether both are cells and a walk of calls leads from the first to the second. A cell leads to
+    /// itself by no call.
     pub fn reaches(&self, alloc: Global, from: CellId, to: CellId) -> Result<bool, NoMemory>
+        ensures from { IfOk result (λ found. IsTrue found → IsTrue (has_cell self.now.symbols from)) }
+        ensures to { IfOk result (λ found. IsTrue found → IsTrue (has_cell self.now.symbols to)) }
+        ensures sound { IfOk result (λ found. IsTrue found → Walks self.now.calls from to) }
+        ensures complete { IfOk result (λ found. IsTrue (has_cell self.now.symbols from)
+            → IsTrue (has_cell self.now.symbols to) → Walks self.now.calls from to → IsTrue found) }
+    {
+        if has_cell(&self.symbols, from) && has_cell(&self.symbols, to) {
+            return self.leads(alloc, from, to);
+        }
+        Ok(false)
+    }
+
+    /// Returns whether a walk of calls leads from a cell to another.
+    fn leads(&self, alloc: Global, from: CellId, to: CellId) -> Result<bool, NoMemory>
         requires from { IsTrue (has_cell self.now.symbols from) }
         requires to { IsTrue (has_cell self.now.symbols to) }
         ensures sound { IfOk result (λ found. IsTrue found → Walks self.now.calls from to) }
@@ -156,7 +171,17 @@ impl CallGraph {
         if goes_later(&self.symbols, places, call) {
             return Ok(false);
         }
-        self.reaches(alloc, CellId::Symbol(call.1), call.0)
+        self.leads(alloc, CellId::Symbol(call.1), call.0)
+    }
+}
+
+/// Returns whether this is the top cell or one of the symbols.
+fn has_cell(symbols: &Cells, cell: CellId) -> bool
+    ensures { result ≡ has_cell symbols.now cell }
+{
+    match cell {
+        CellId::Top => true,
+        CellId::Symbol(number) => symbols.position(number).is_some(),
     }
 }
 

@@ -39,20 +39,16 @@ fn graph_of(alloc: Global, symbols: &Cells, calls: &[(CellId, u32)]) -> Result<C
     Ok(graph)
 }
 
-/// Whether the calls between the symbols lead from a cell to another, where both are cells.
+/// Whether the calls between the symbols lead from a cell to another.
 fn leads(
     alloc: Global,
     numbers: &[u32],
     calls: &[(CellId, u32)],
     from: CellId,
     to: CellId,
-) -> Result<Option<bool>, NoMemory> {
+) -> Result<bool, NoMemory> {
     let symbols = symbols_of(alloc, numbers)?;
-    let graph = graph_of(alloc, &symbols, calls)?;
-    if is_cell(&symbols, from) && is_cell(&symbols, to) {
-        return Ok(Some(graph.reaches(alloc, from, to)?));
-    }
-    Ok(None)
+    graph_of(alloc, &symbols, calls)?.reaches(alloc, from, to)
 }
 
 // Could catch that the numbers stand in another order than they were added in, or that a call fails.
@@ -80,7 +76,11 @@ fn calls_lead_down(rt: HostRuntime) -> Result<(), Fail> {
     let one = CellId::Symbol(1);
     let two = CellId::Symbol(2);
     let nine = CellId::Symbol(9);
-    let rows: [(&[(CellId, u32)], CellId, CellId, bool); 12] = [
+    let none = CellId::Symbol(3);
+    let rows: [(&[(CellId, u32)], CellId, CellId, bool); 15] = [
+        (&[(top, 1)], none, none, false),
+        (&[(top, 1)], top, none, false),
+        (&[(top, 1)], none, one, false),
         (&[], one, one, true),
         (&[], top, top, true),
         (&[], top, one, false),
@@ -96,7 +96,7 @@ fn calls_lead_down(rt: HostRuntime) -> Result<(), Fail> {
     ];
     for (calls, from, to, want) in rows {
         let found = leads(rt.alloc(), &[9, 1, 2], calls, from, to)?;
-        assert_eq!(rt; found, Some(want), "{calls:?} from {from:?} to {to:?}");
+        assert_eq!(rt; found, want, "{calls:?} from {from:?} to {to:?}");
     }
     Ok(())
 }
@@ -112,14 +112,8 @@ fn a_chain_of_65_leads_from_its_first_to_its_last(rt: HostRuntime) -> Result<(),
     }
     let first = CellId::Symbol(0);
     let last = CellId::Symbol(64);
-    assert_eq!(rt;
-        leads(rt.alloc(), &numbers, &calls, first, last)?,
-        Some(true)
-    );
-    assert_eq!(rt;
-        leads(rt.alloc(), &numbers, &calls, last, first)?,
-        Some(false)
-    );
+    assert_eq!(rt; leads(rt.alloc(), &numbers, &calls, first, last)?, true);
+    assert_eq!(rt; leads(rt.alloc(), &numbers, &calls, last, first)?, false);
     Ok(())
 }
 

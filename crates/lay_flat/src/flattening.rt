@@ -1,5 +1,5 @@
 //! Flattening a layer below a cell.
-ghost use Rattle.std.specs.Prelude.{◌≡◌, IsTrue};
+ghost use Rattle.std.specs.Prelude.{◌≡◌, Err, IsTrue, false};
 ghost use Rattle.std.specs.List.{list_all, list_any};
 ghost use Rattle.std.specs.Prelude.{is_none};
 ghost use Rattle.lay_point.specs.Memory.{IsAnswer};
@@ -28,6 +28,7 @@ pub fn flatten<'s>(
     layer: &LayerName,
 ) -> Result<Flat<'s>, FlatFault>
     ensures answer { IsAnswer FlatFault.NoMemory result (flat_of snapshot.now cell layer.now) }
+    ensures no_cell { is_cell snapshot.now cell ≡ false → result ≡ Err FlatFault.NoCell }
     ensures walks { AreWalks snapshot.now cell }
 {
     if !snapshot.version().is_cell(cell) {

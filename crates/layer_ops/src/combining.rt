@@ -1,11 +1,12 @@
 //! An operation on two flattenings.
-ghost use Rattle.std.specs.Prelude.{◌≡◌, IfOk, map, pos, ℤ, ◌≤ℤ◌};
+ghost use Rattle.std.specs.Prelude.{◌≡◌, ◌<◌, Err, IfOk, map, pos, ℤ, ◌≤ℤ◌};
 ghost use Rattle.std.specs.List.{list_any};
 ghost use Rattle.lay_point.specs.Memory.{IsAnswer};
 ghost use Rattle.lay_point.specs.Parity.{odd};
 ghost use Rattle.lay_point.specs.RingEdges.{edges_of};
 ghost use Rattle.face_labels.specs.Operations.{op_at};
-ghost use Rattle.bool_shape_laws.specs.Shapes.{rounded_inputs};
+ghost use Rattle.bool_shape_laws.specs.declared.limits.TheConstants.{MAX_SEGMENTS};
+ghost use Rattle.bool_shape_laws.specs.Shapes.{rounded_inputs, segments_of};
 ghost use Rattle.layer_ops.specs.Combining.{combined, lists_of};
 
 use crate::counting::are_few;
@@ -31,6 +32,7 @@ pub fn combine(
     bands: &impl Bands,
 ) -> Result<Vec<Vec<Ring>>, OpFault>
     ensures answer { IsAnswer OpFault.NoMemory (lists_of result) (combined op a.now b.now) }
+    ensures too_many { MAX_SEGMENTS < segments_of a.now b.now → result ≡ Err OpFault.TooMany }
 
     // Some shape has (x / k, y / k) inside exactly where the operation holds of the rounded inputs.
     ensures places { IfOk result (λ shapes. (k x y : ℤ) → pos 1 ≤ℤ k →

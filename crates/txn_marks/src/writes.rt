@@ -1,9 +1,17 @@
 //! What a transaction wrote.
-ghost use Rattle.std.specs.Prelude.{◌≡◌, [], IfOk, OnErr, OnOk, option_copied};
+ghost use Rattle.std.specs.Prelude.{◌≡◌, [], IfOk, OnErr, OnOk, map, option_copied};
 ghost use Rattle.std.specs.BTreeMap.{IsOrdered, IsUnchanged, Updates};
 ghost use Rattle.lay_items.specs.Sound.{IsSound};
 ghost use Rattle.txn_rules.specs.Meets.{touches};
-ghost use Rattle.txn_rules.specs.Records.{AreProper, applied, change_at, reverted, slot_change_at};
+ghost use Rattle.txn_rules.specs.Records.{
+  AreProper,
+  applied,
+  cell_record_of,
+  change_at,
+  record_of,
+  reverted,
+  slot_change_at,
+};
 ghost use Rattle.txn_marks.specs.Homes.{AreMetBy};
 ghost use Rattle.txn_marks.specs.WritesOf.{Merges, MergesSymbol};
 
@@ -75,6 +83,20 @@ impl Writes {
         ensures { option_copied result ≡ slot_change_at self.now.symbols number }
     {
         self.symbols.get(&number)
+    }
+
+    /// Lends the changes of items, in order of their ids.
+    pub fn items(&self) -> &BTreeMap<ItemId, ItemChange>
+        ensures { map record_of result.now.entries ≡ self.now.items }
+    {
+        &self.items
+    }
+
+    /// Lends the changes of symbols, in order of their numbers.
+    pub fn symbols(&self) -> &BTreeMap<u32, CellChange>
+        ensures { map cell_record_of result.now.entries ≡ self.now.symbols }
+    {
+        &self.symbols
     }
 
     /// Writes an item, which had the value `before` in the first of the two layouts.

@@ -41,6 +41,8 @@ impl Book {
     pub fn commit(&mut self, alloc: Global, work: Work) -> Result<TxnId, CommitRefusal>
         ensures step { TakesWork self.old work (commit_step self.old work) result self.new }
         ensures full { is_log_full self.old ≡ true → result ≡ Err (refused BookFault.LogFull work) }
+        ensures foreign { is_log_full self.old ≡ false → is_own self.old work ≡ false
+            → result ≡ Err (refused BookFault.Foreign work) }
         // The commands, run on the layout at the commit, give what they gave in the work.
         ensures ran { OnOk result (RunsAgain work self.old.layout self.new.layout) }
     {

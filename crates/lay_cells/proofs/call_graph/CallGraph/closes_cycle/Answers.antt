@@ -13,15 +13,15 @@ returns-then-goes_later-clause-complete c = λ walk.
     (subst (λ (v : Calls). goes_later v.symbols c.args.places.now.items c.args.call ≡ true) c.self.view_is up) walk)
 
 -- a call is between cells
-pub reaches-requires-clause-from : goal.reaches-requires-clause-from
-reaches-requires-clause-from c =
+pub leads-requires-clause-from : goal.leads-requires-clause-from
+leads-requires-clause-from c =
     let there : Contains c.self.inside.calls.items c.args.call =
     subst (λ (v : Calls). Contains v.calls c.args.call) (sym c.self.view_is) c.requires.call in
     subst (λ (v : Calls). IsTrue (has_symbol v.symbols c.args.call.1)) c.self.view_is
     (c.self.invariant.targets c.args.call.0 c.args.call.1 there)
 
-pub reaches-requires-clause-to : goal.reaches-requires-clause-to
-reaches-requires-clause-to c =
+pub leads-requires-clause-to : goal.leads-requires-clause-to
+leads-requires-clause-to c =
     let there : Contains c.self.inside.calls.items c.args.call =
     subst (λ (v : Calls). Contains v.calls c.args.call) (sym c.self.view_is) c.requires.call in
     subst (λ (v : Calls). IsTrue (has_cell v.symbols c.args.call.0)) c.self.view_is

@@ -5,7 +5,7 @@ use Rattle.lay_cells.specs.Symbols.{has_cell}
 use Rattle.lay_cells.specs.Walks.{Calls, Walks}
 use Rattle.lay_cells.proofs.GraphLemmas.{position_of-within}
 use Rattle.lay_cells.proofs.WalkLemmas.{mark_from_walk, targets_within, walk_from_mark}
-use Rattle.lay_cells.proofs.call_graph.CallGraph.reaches.Goals as goal
+use Rattle.lay_cells.proofs.call_graph.CallGraph.leads.Goals as goal
 
 pub reached-requires-clause-start : goal.reached-requires-clause-start
 reached-requires-clause-start c =
