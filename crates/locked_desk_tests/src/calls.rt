@@ -149,3 +149,57 @@ fn a_seat_is_missed_and_brought(rt: HostRuntime) -> Result<(), Fail> {
     assert!(rt; session == Some(2));
     Ok(())
 }
+
+/// Draws a box in a transaction of the session and commits it, and returns whether it was accepted.
+fn commits<L: Ledger, R: Threads + Wait + Sync>(
+    rt: &R,
+    alloc: Global,
+    desk: &Desk<L>,
+    seat: &mut Seat<L>,
+) -> Result<bool, Fail> {
+    let mut work = drawn(rt, alloc, desk, seat)?;
+    let base = ItemId {
+        session: 0,
+        txn: 0,
+        seq: 1,
+    };
+    work.run(rt, alloc, Command::Delete(base), &OneBand)?;
+    Ok(desk.commit(rt, alloc, seat, work).is_ok())
+}
+
+/// Returns whether the points that a snapshot of session 2 lends are the box's also after session 1 took the
+/// box out.
+fn keeps_points<L: Ledger, R: Threads + Wait + Sync>(
+    rt: &R,
+    alloc: Global,
+    blank: Blank,
+) -> Result<bool, Fail>
+    requires { (blank.name ≡ L.name) × (blank.parts ≡ L.parts) × (blank.parts ≡ 2) }
+{
+    let (desk, mut seats) = Desk::<L>::new(alloc, one_box(alloc)?, 2, blank)?;
+    let Some(reader) = seats.pop() else {
+        return Ok(false);
+    };
+    let Some(mut writer) = seats.pop() else {
+        return Ok(false);
+    };
+    let base = ItemId {
+        session: 0,
+        txn: 0,
+        seq: 1,
+    };
+    let old = desk.snapshot(rt, alloc, &reader)?;
+    let points = old.points(base, 0).ok_or("no points")?;
+    let gone = commits(rt, alloc, &desk, &mut writer)?
+        && desk.snapshot(rt, alloc, &reader)?.item(base).is_none();
+    Ok(gone && points.len() == 4 && points.first() == Some(&Point { x: -4, y: -2 }))
+}
+
+// Could catch points that a later commit frees or writes over, which the built program alone could show, and a snapshot of a
+// desk that is none of the layout now.
+#[test]
+fn a_slice_keeps_its_points(rt: HostRuntime) -> Result<(), Fail> {
+    let kept = keeps_points::<Brand, HostRuntime>(&rt, rt.alloc(), Blank::new(2))?;
+    assert!(rt; kept);
+    Ok(())
+}
