@@ -1,5 +1,5 @@
 -- The output of the program: a text and a status.
-use Rattle.std.specs.Prelude.{◌≡◌, ℕ, Bool, List, ◌++◌, codes, decimal, Option, Result, Ok, Err, ◌⊎◌}
+use Rattle.std.specs.Prelude.{◌≡◌, ℕ, Bool, false, List, ◌++◌, codes, decimal, Option, Result, Ok, Err, ◌⊎◌}
 use Rattle.cif_read.specs.declared.fault.CifFault.{CifFault}
 use Rattle.cif_read.specs.Faults.{name_of, number_of}
 use Rattle.byte_io.specs.Device.{WroteAll, WrotePrefix}
@@ -68,6 +68,10 @@ output_from (Err stop) = stop_output stop
 -- what the program writes, and how it ends, where its input is these bytes, by whether sessions run in threads
 abbrev pub IsOutput : Bool → List ℕ → Output → Type 0
 IsOutput threaded bytes output = (outcome : Result Finished Stop) × BecomesOf threaded bytes outcome × (output ≡ output_from outcome)
+
+-- where sessions take turns, an input has no two outputs
+abbrev pub HasOneOutput : Type 0
+HasOneOutput = (bytes : List ℕ) (a b : Output) → IsOutput false bytes a → IsOutput false bytes b → a ≡ b
 
 -- From the old device to the new: all of the output was written and nothing else, and the program ended with its status;
 -- or the device failed, and a prefix was written.

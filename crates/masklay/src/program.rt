@@ -1,6 +1,6 @@
 //! The program as a function of its input: reads the job, runs its steps and writes the answers.
 ghost use Rattle.std.specs.Prelude.{◌≡◌};
-ghost use Rattle.masklay.specs.Output.{Ends, Writes, memory_output};
+ghost use Rattle.masklay.specs.Output.{Ends, HasOneOutput, Writes, memory_output};
 ghost use Rattle.masklay.specs.Run.{IsRun};
 ghost use Rattle.masklay.specs.Telling.{Tells};
 
@@ -30,7 +30,9 @@ use telling::{tell_of_stop, tell_of_top};
 /// layout, all after the last step; or the line that says why there is none. Booleans are rounded in as
 /// many threads as there are processors. A fault is told to `errors` too, in words for a person, and so is a
 /// top cell that is empty while the layout has symbols. With `threaded` the sessions run in threads over one
-/// desk, the job's own order plays no part, and the order that is written is that of the desk's log.
+/// desk, the job's own order plays no part, and the order that is written is that of the desk's log. Without,
+/// the input alone decides the output.
+#[tactic(auto, using(crate::proofs::OutputLemmas::one_output))]
 pub fn run<I: In, O: Out, E: Out>(
     rt: &(impl Threads + Wait + Sync),
     alloc: Global,
@@ -42,6 +44,7 @@ pub fn run<I: In, O: Out, E: Out>(
     ensures run { IsRun options.threaded I.remaining I.counts O.written O.failures input.old input.new
         out.old out.new result }
     ensures told { Tells E.written E.failures errors.old errors.new result }
+    ensures one { HasOneOutput }
 {
     match read_all(alloc, input) {
         Ok(bytes) => write_output(rt, alloc, options, bytes, out, errors),
