@@ -5,3 +5,4 @@ pub mod Jobs
 pub mod Job
 pub mod Replies
 pub mod Order
+pub mod Live

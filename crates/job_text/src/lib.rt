@@ -6,6 +6,9 @@
 //! a comment for each reply and the order in which the steps ran, which [`order_of`] makes from the log of
 //! a book.
 //!
+//! A live run has its steps in lines `SESSION STEP`, which come one at a time: [`live_line`] says what a line
+//! asks for, and [`reply_line`] and [`odd_line`] give the comments that answer it.
+//!
 //! Which job the bytes are is `specs/Job.antt`, on the lines of `specs/Lines.antt`, their words of
 //! `specs/Words.antt` and the steps of `specs/Steps.antt`; the comments are `specs/Replies.antt` and
 //! `specs/Order.antt`. Contracts see a job as the record of its text's bytes, its
@@ -20,6 +23,7 @@
 mod fields;
 mod job;
 mod lines;
+mod live;
 mod order;
 mod order_section;
 mod printing;
@@ -30,5 +34,6 @@ mod words;
 
 pub use byte_io::{In, InFault};
 pub use job::{Job, JobFault, MAX_JOB};
+pub use live::{LiveLine, live_line, odd_line, reply_line};
 pub use order::order_of;
 pub use printing::{comments, print};

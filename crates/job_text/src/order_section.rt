@@ -97,7 +97,7 @@ fn push_named(order: &mut Vec<u8>, line: &[u8]) -> Result<(), NoMemory>
 
 /// The session that the number names; 0 stands for those above `MAX_SESSION` too.
 #[tactic(auto, unfolding(crate::specs::Job::session_of))]
-fn session_of(word: &[u8]) -> u8
+pub(crate) fn session_of(word: &[u8]) -> u8
     ensures { result ≡ session_of word.now }
 {
     number_of(MAX_SESSION, word).unwrap_or(0) as u8

@@ -41,7 +41,12 @@ fn push_session(bytes: &mut Vec<u8>, session: u64, replies: &[Reply]) -> Result<
 
 /// Appends the line of a reply to a step of a session.
 #[tactic(auto, unfolding(crate::specs::Replies::reply_text))]
-fn push_reply(bytes: &mut Vec<u8>, session: u64, step: u64, reply: &Reply) -> Result<(), NoMemory>
+pub(crate) fn push_reply(
+    bytes: &mut Vec<u8>,
+    session: u64,
+    step: u64,
+    reply: &Reply,
+) -> Result<(), NoMemory>
     ensures { OnOk result (bytes.new.items ≡ bytes.old.items ++ reply_text session step reply.now) }
 {
     write!(bytes, "({session} {step} ").map_err(|_| NoMemory)?;
