@@ -86,7 +86,7 @@ dot_place digits rest h =
 behind_dot : (digits rest : List ℕ) → drop (length digits + 1) (digits ++ 46 ∷ rest) ≡ rest
 behind_dot digits rest = drop-append-add digits (46 ∷ rest) 1
 
-dot_read : (limit n : ℕ) (rest : List ℕ) → limit < 2 ^ 64 → n ≤ limit → before_dot limit (decimal n ++ 46 ∷ rest) ≡ Some (n, rest)
+pub dot_read : (limit n : ℕ) (rest : List ℕ) → limit < 2 ^ 64 → n ≤ limit → before_dot limit (decimal n ++ 46 ∷ rest) ≡ Some (n, rest)
 unfolding before_dot
 dot_read limit n rest most within =
     let digits = decimal_is n (omega (arith, most, within)) in

@@ -52,7 +52,7 @@ decimal_word n h =
 longer : (b : ℕ) (word : List ℕ) → is_plain b ≡ true → list_all is_plain word ≡ true → IsWord (b ∷ word)
 longer b word first rest = record { some = omega arith; plain = rw (first, rest) refl }
 
-signed_word : (z : ℤ) → IsCoordinate z → IsWord (signed_decimal z)
+pub signed_word : (z : ℤ) → IsCoordinate z → IsWord (signed_decimal z)
 signed_word (pos n) is =
     let high : pos n ≤ℤ pos 2147483647 = is.high in
     decimal_word n (omega (arith, ints, high))
@@ -61,7 +61,7 @@ signed_word (negsuc n) is =
     longer 45 (decimal (suc n)) refl (decimal_word (suc n) (omega (arith, ints, low))).plain
 
 -- with a dot between them
-dotted : (a b : List ℕ) → IsWord a → IsWord b → IsWord (a ++ 46 ∷ b)
+pub dotted : (a b : List ℕ) → IsWord a → IsWord b → IsWord (a ++ 46 ∷ b)
 dotted a b first second = record {
   some = let many = first.some in omega (arith, many, length-append a (46 ∷ b));
   plain = list_all-append is_plain a (46 ∷ b) ∙ rw (first.plain, second.plain) refl;
@@ -73,24 +73,24 @@ is_name name is = by_test (is_layer_name name) is where
   by_test true h = refl
   by_test false h = absurd (cc)
 
-layer_word : (name : List ℕ) → IsLayer name → IsWord name
+pub layer_word : (name : List ℕ) → IsLayer name → IsWord name
 layer_word name is =
     let parts = and_parts (nat_le 1 (length name) && nat_le (length name) MAX_LAYER_NAME) (list_all is_name_byte name) (is_name name is) in
     let some = (and_parts (nat_le 1 (length name)) (nat_le (length name) MAX_LAYER_NAME) parts.0).0 in
     record { some = grind (arith, nat_tests, some); plain = all_plain is_name_byte name_plain name parts.1 }
 
-cell_is_word : (cell : CellId) → IsCell cell → IsWord (cell_word cell)
+pub cell_is_word : (cell : CellId) → IsCell cell → IsWord (cell_word cell)
 cell_is_word Top is = record { some = omega arith; plain = refl }
 cell_is_word (Symbol number) is = decimal_word number (omega (arith, is))
 
-txn_is_word : (txn : TxnId) → IsTxn txn → IsWord (txn_word txn)
+pub txn_is_word : (txn : TxnId) → IsTxn txn → IsWord (txn_word txn)
 txn_is_word txn is =
     let session = is.session in
     let number = is.number in
     dotted (decimal txn.session) (decimal txn.txn) (decimal_word txn.session (omega (arith, session)))
     (decimal_word txn.txn (omega (arith, number)))
 
-item_is_word : (id : ItemId) → IsItem id → IsWord (item_word id)
+pub item_is_word : (id : ItemId) → IsItem id → IsWord (item_word id)
 item_is_word id is =
     let session = is.session in
     let txn = is.txn in
@@ -98,7 +98,7 @@ item_is_word id is =
     dotted (decimal id.session) (decimal id.txn ++ 46 ∷ decimal id.seq) (decimal_word id.session (omega (arith, session)))
     (dotted (decimal id.txn) (decimal id.seq) (decimal_word id.txn (omega (arith, txn))) (decimal_word id.seq (omega (arith, seq))))
 
-turning_is_word : (mirror : Bool) (q : Quarter) → IsWord ((if mirror then 109 else 114) ∷ degrees q)
+pub turning_is_word : (mirror : Bool) (q : Quarter) → IsWord ((if mirror then 109 else 114) ∷ degrees q)
 turning_is_word true R0 = record { some = omega arith; plain = refl }
 turning_is_word true R90 = record { some = omega arith; plain = refl }
 turning_is_word true R180 = record { some = omega arith; plain = refl }
@@ -108,15 +108,15 @@ turning_is_word false R90 = record { some = omega arith; plain = refl }
 turning_is_word false R180 = record { some = omega arith; plain = refl }
 turning_is_word false R270 = record { some = omega arith; plain = refl }
 
-points_are_words : (points : List Point) → AllByRecursion IsPoint points → AllByRecursion IsWord (flat_map point_words points)
+pub points_are_words : (points : List Point) → AllByRecursion IsPoint points → AllByRecursion IsWord (flat_map point_words points)
 points_are_words [] all = all
 points_are_words (p ∷ points) all =
     (signed_word p.x all.0.column, (signed_word p.y all.0.row, points_are_words points all.1))
 
-two_words : (p : Point) (words : List Word) → IsPoint p → AllByRecursion IsWord words → AllByRecursion IsWord (point_words p ++ words)
+pub two_words : (p : Point) (words : List Word) → IsPoint p → AllByRecursion IsWord words → AllByRecursion IsWord (point_words p ++ words)
 two_words p words is more = (signed_word p.x is.column, (signed_word p.y is.row, more))
 
-last_two : (p : Point) → IsPoint p → AllByRecursion IsWord (point_words p)
+pub last_two : (p : Point) → IsPoint p → AllByRecursion IsWord (point_words p)
 last_two p is = two_words p [] is tt
 
 op_is_word : (op : Op) → IsWord (op_word op)

@@ -1,0 +1,3 @@
+pub mod AnswerWords
+pub mod OrderRead
+pub mod ReplyRead
