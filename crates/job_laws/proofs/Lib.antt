@@ -1,0 +1,5 @@
+pub mod Choices
+pub mod Heads
+pub mod Orders
+pub mod Sessions
+pub mod Whole
