@@ -1,4 +1,5 @@
-//! What holds of every step and its line, as a call that does nothing.
+//! What holds of every text, and of every step and its line, as calls that do nothing.
+ghost use Rattle.job_line_laws.specs.Cuts.{LinesAreCut, WordsAreCut};
 ghost use Rattle.job_line_laws.specs.Laws.{LinesSayTheirSteps, LinesTellSteps};
 
 /// The line of a step says that step, for each step whose numbers a line can have. So steps of the same
@@ -6,4 +7,10 @@ ghost use Rattle.job_line_laws.specs.Laws.{LinesSayTheirSteps, LinesTellSteps};
 pub fn lines_tell_steps()
     ensures said { LinesSayTheirSteps }
     ensures told { LinesTellSteps }
+{}
+
+/// Bytes are cut into lines after each newline, and into words at spaces and tabs, and in no other way.
+pub fn lines_and_words_are_cut()
+    ensures lines { LinesAreCut }
+    ensures words { WordsAreCut }
 {}
