@@ -1,0 +1,4 @@
+pub mod DistanceLemmas
+pub mod PlaceLemmas
+pub mod ChangeLemmas
+pub mod AxisLemmas

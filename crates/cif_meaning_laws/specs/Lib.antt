@@ -1,0 +1,4 @@
+pub mod Distances
+pub mod Directions
+pub mod Changes
+pub mod Boxes
