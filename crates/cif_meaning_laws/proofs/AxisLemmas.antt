@@ -1,6 +1,6 @@
 -- A box along an axis, as distances from its centre.
 use Rattle.std.proofs.Common.{◌≡◌, ◌⊎◌, inl, inr, ℕ, zero, suc, Bool, true, false, cond, ◌&&◌, ◌||◌, List, [], ◌∷◌, Option, Some, None}
-use Rattle.std.proofs.Common.{Result, Ok, Err, ℤ, pos, neg_ℤ, ◌+ℤ◌, ◌-ℤ◌, ◌*ℤ◌, ◌≤ℤ◌, ◌<ℤ◌, refl, sym, ap, subst, ◌∙◌, arith}
+use Rattle.std.proofs.Common.{Result, Ok, Err, ℤ, pos, neg_ℤ, ◌+ℤ◌, ◌-ℤ◌, ◌*ℤ◌, ◌≤ℤ◌, ◌<ℤ◌, refl, sym, subst, ◌∙◌, arith}
 use Rattle.std.specs.Prelude.{◌==◌, ◌↔◌, MatchOption, not, unwrap_or}
 use Rattle.std.proofs.lemmas.Bool.{and_parts, false≢true}
 use Rattle.std.proofs.lemmas.Bool.Decides.{nat_tests}
@@ -17,7 +17,7 @@ use Rattle.cif_commands.specs.declared.paths.Vertex.{Vertex}
 use Rattle.cif_read.specs.declared.content.Content.{Content}
 use Rattle.cif_read.specs.declared.fault.FaultKind.{FaultKind}
 use Rattle.cif_read.specs.declared.fault.FaultKind.TheVariants.{OffGrid, TooBig}
-use Rattle.cif_read.specs.Boxes.{box_at, box_between, greater_place, high_corner, is_askew, is_flat, is_on_axis, is_upright, is_whole_box}
+use Rattle.cif_read.specs.Boxes.{box_at, box_between, greater_place, high_corner, is_askew, is_flat, is_on_axis, is_whole_box}
 use Rattle.cif_read.specs.Boxes.{is_whole_side, is_zero, lesser_place, low_corner, ring_between, side_x, side_y, some_vertex}
 use Rattle.cif_read.specs.Content.{after_box, scale_of}
 use Rattle.cif_read.specs.Scales.{IsRatio, doubled, is_whole, scaled}

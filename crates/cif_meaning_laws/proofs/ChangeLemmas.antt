@@ -1,5 +1,5 @@
 -- A change as a turn takes a point where the change takes it, and changes in a row where they take it in turn.
-use Rattle.std.proofs.Common.{◌≡◌, inl, inr, ℕ, zero, suc, Bool, true, false, cond, List, [], ◌∷◌, ◌++◌, Option, Some, None, Result, Ok, Err}
+use Rattle.std.proofs.Common.{◌≡◌, inl, inr, ℕ, zero, suc, Bool, true, false, cond, List, [], ◌∷◌, ◌++◌, Option, Some, None, Ok}
 use Rattle.std.proofs.Common.{ℤ, pos, neg_ℤ, ◌+ℤ◌, ◌-ℤ◌, ◌*ℤ◌, ◌<ℤ◌, refl, sym, ap, ap₂, subst, ◌∙◌, arith}
 use Rattle.std.specs.Prelude.{◌==◌, ◌↔◌, ◌||◌, not}
 use Rattle.std.specs.List.{list_all, list_any}
@@ -22,15 +22,14 @@ use Rattle.cif_commands.specs.declared.calls.Change.TheVariants.{Direction, Mirr
 use Rattle.cif_commands.specs.declared.definitions.Scale.{Scale}
 use Rattle.cif_commands.specs.declared.paths.Vertex.{Vertex}
 use Rattle.cif_read.specs.declared.content.Content.{Content}
-use Rattle.cif_read.specs.declared.fault.FaultKind.{FaultKind}
 use Rattle.cif_read.specs.declared.fault.FaultKind.TheVariants.{OffAxis, OffGrid}
 use Rattle.cif_read.specs.Boxes.{is_on_axis}
 use Rattle.cif_read.specs.Calls.{call_turn, origin, is_askew_change, is_whole_change, turn_in_range, turn_of, turn_or_fault, turned_by}
 use Rattle.cif_read.specs.Content.{after_call, scale_of}
-use Rattle.cif_read.specs.Scales.{IsRatio, doubled, is_whole, scaled, scaled_vertex, value_of}
+use Rattle.cif_read.specs.Scales.{IsRatio, doubled, is_whole, scaled, value_of}
 use Rattle.cif_read.proofs.RingFacts.{taken}
 use Rattle.cif_read.proofs.ScaleLemmas.{scaled_exact}
-use Rattle.cif_meaning_laws.specs.Changes.{CallsMovePoints, IsCallBy, IsShifted, IsTurned, TakeInTurn, Takes}
+use Rattle.cif_meaning_laws.specs.Changes.{CallsMovePoints, IsCallBy, IsTurned, TakeInTurn, Takes}
 use Rattle.cif_meaning_laws.specs.Directions.{IsLength, x_of, y_of}
 use Rattle.cif_meaning_laws.specs.Distances.{IsDistance}
 use Rattle.cif_meaning_laws.proofs.DistanceLemmas.{call_called, only_units}

@@ -4,7 +4,6 @@ use Rattle.std.proofs.Common.{ℤ, pos, negsuc, neg_ℤ, ◌*ℤ◌, ◌<ℤ◌,
 use Rattle.std.specs.Prelude.{◌==◌, length, nat_lt, unsigned_abs}
 use Rattle.std.proofs.Math.IntN.{pos-*ℤ-pos, negsuc-*ℤ-pos}
 use Rattle.std.proofs.Math.Nat.{mul-mod_left}
-use Rattle.std.proofs.lemmas.Bool.Decides.{nat_tests}
 use Rattle.lay_int_laws.proofs.Products.{*ℤ_comm}
 use Rattle.lay_int_laws.proofs.Signs.{cancel_same, linear}
 use Rattle.lay_point.specs.declared.layer_name.TheConstants.{MAX_LAYER_NAME}
@@ -23,7 +22,8 @@ use Rattle.cif_read.specs.declared.fault.FaultKind.TheVariants.{LongName, OffAxi
 use Rattle.lay_point.specs.declared.turn.Turn.{Turn}
 use Rattle.cif_read.specs.Boxes.{box_at, is_askew, is_big_box}
 use Rattle.cif_read.specs.Calls.{call_turn}
-use Rattle.cif_read.specs.Content.{after_box, after_call, after_layer, after_polygon, after_start, begun, called, drawn, effect_of, finished}
+use Rattle.cif_read.specs.Content.{after_box, after_call, after_layer, after_polygon, after_start, begun, called, drawn, effect_of}
+use Rattle.cif_read.specs.Content.{finished}
 use Rattle.cif_read.specs.Content.{is_big_call, is_inside, on_layer, scale_of}
 use Rattle.cif_read.specs.Polygons.{is_too_big, polygon_at}
 use Rattle.cif_read.specs.Scales.{IsRatio, doubled, is_whole, scaled}

@@ -18,7 +18,6 @@ use Rattle.lay_point.proofs.RingLemmas.{point_eq-true}
 use Rattle.cif_scan.proofs.Steps.{after_some}
 use Rattle.cif_commands.specs.declared.definitions.Scale.{Scale}
 use Rattle.cif_commands.specs.declared.paths.Vertex.{Vertex}
-use Rattle.cif_commands.specs.Commands.{Polygon}
 use Rattle.cif_read.specs.declared.content.Content.{Content}
 use Rattle.cif_read.specs.declared.fault.FaultKind.TheVariants.{OffGrid}
 use Rattle.cif_read.specs.Calls.{origin}

@@ -1,7 +1,7 @@
 -- Distances: what is written, in hundredths of a micrometre, multiplied and divided by the scale of its definition.
 -- Source: Caltech Intermediate Form 2.0, symbol definitions: a scale a / b multiplies each distance in the definition by a and
 -- divides it by b. That there are two database units to a hundredth of a micrometre is this project's own.
-use Rattle.std.specs.Prelude.{◌≡◌, ◌⊎◌, ℕ, ℤ, pos, ◌*ℤ◌, List, [], ◌∷◌, Option, None, Some, Ok, Contains, IsTrue, MatchOption, true, ⊤}
+use Rattle.std.specs.Prelude.{◌≡◌, ◌⊎◌, ℕ, ℤ, pos, ◌*ℤ◌, List, [], ◌∷◌, Option, Some, Ok, Contains, MatchOption, true, ⊤}
 use Rattle.lay_point.specs.declared.point.Point.{Point}
 use Rattle.cif_scan.specs.declared.number.Number.{Number}
 use Rattle.cif_commands.specs.declared.definitions.Scale.{Scale}
