@@ -4,3 +4,4 @@ pub mod Fields
 pub mod Joined
 pub mod Plain
 pub mod Said
+pub mod Sayings
