@@ -1,17 +1,17 @@
 -- A live run: what each line is answered, and what it leaves.
-use Rattle.std.specs.Prelude.{ℕ, ◌+◌, List, [], ◌∷◌, ◌++◌, Bool, true, false, replicate, slice_index, slice_set, refl}
-use Rattle.std.specs.Coded.{Coded, code_by, coded×, coded_list, coded_ℕ}
+use Rattle.std.specs.Prelude.{ℕ, ◌+◌, List, [], ◌∷◌, ◌++◌, Bool, true, false, replicate, slice_index, slice_set}
 use Rattle.lay_items.specs.Layout.{Layout}
 use Rattle.undo_book.specs.declared.book.TheConstants.{MAX_CALLS}
 use Rattle.session_steps.specs.declared.Reply.{Reply}
 use Rattle.session_steps.specs.declared.Step.{Step as StepOf}
-use Rattle.session_steps.specs.contracts.Reply as reply
-use Rattle.session_core.specs.Machine.{State, coded_state, start, step_outcome}
+use Rattle.session_core.specs.Machine.{State, start, step_outcome}
 use Rattle.job_text.specs.declared.live.LiveLine.{LiveLine}
 use Rattle.job_text.specs.declared.live.LiveLine.TheVariants.{Blank, Step, Write, Odd}
 use Rattle.job_text.specs.Live.{live_line, odd_text}
 use Rattle.job_text.specs.Replies.{reply_text}
 use Rattle.job_text.specs.Words.{words_of}
+use Rattle.job_live.specs.declared.live.Answer.{Answer}
+use Rattle.job_live.specs.declared.live.Live.{Live}
 
 -- the state of the machine, the session of each step and its reply, how many steps each session took, and how many lines came
 pub record Run : Type 0 where
@@ -21,6 +21,16 @@ pub record Run : Type 0 where
   pub taken : List ℕ
   pub lines : ℕ
 
+-- what contracts see of a live run
+abbrev pub run_of : Live → Run
+run_of l = record {
+  state = l.machine;
+  sessions = l.sessions.items;
+  replies = l.replies.items;
+  taken = l.taken.items;
+  lines = l.lines;
+}
+
 -- a run on this layout before its first line, of 64 sessions
 abbrev pub begun : Layout → Run
 begun base = record { state = start base 64 MAX_CALLS; sessions = []; replies = []; taken = replicate 65 0; lines = 0 }
@@ -28,6 +38,10 @@ begun base = record { state = start base 64 MAX_CALLS; sessions = []; replies = 
 -- a comment, and whether the layout is wanted
 abbrev pub Said : Type 0
 Said = List ℕ × Bool
+
+-- what contracts see of an answer
+abbrev pub said_of : Answer → Said
+said_of a = (a.comment.items, a.is_layout_wanted)
 
 -- the run with one line more
 abbrev pub one_more : Run → Run
@@ -74,11 +88,3 @@ after_line run line = answered run (live_line (words_of line))
 abbrev pub after_lines : Run → List (List ℕ) → Run
 after_lines run [] = run
 after_lines run (line ∷ lines) = after_lines (after_line run line).0 lines
-
--- a run is stored as its parts
-abbrev pub coded_run : Coded Run
-coded_run =
-    code_by (State × List ℕ × List Reply × List ℕ × ℕ)
-    (coded× coded_state (coded× (coded_list coded_ℕ) (coded× (coded_list reply.the_row.coded) (coded× (coded_list coded_ℕ) coded_ℕ))))
-    (λ r. (r.state, r.sessions, r.replies, r.taken, r.lines))
-    (λ p. record { state = p.0; sessions = p.1.0; replies = p.1.1.0; taken = p.1.1.1.0; lines = p.1.1.1.1 }) (λ _. refl)

@@ -3,7 +3,7 @@ ghost use Rattle.std.specs.Prelude.{◌≡◌, ◌+◌, [], IfOk, replicate, sli
 ghost use Rattle.session_steps.specs.Turns.{dealt};
 ghost use Rattle.session_core.specs.Machine.{is_memory};
 ghost use Rattle.job_text.specs.Order.{order_of, order_text};
-ghost use Rattle.job_live.specs.Live.{after_line, after_step, begun, one_more};
+ghost use Rattle.job_live.specs.Live.{after_line, after_step, begun, one_more, run_of, said_of};
 
 use band_workers::Bands;
 use job_text::{LiveLine, comments, live_line, odd_line, order_of, reply_line};
@@ -12,7 +12,6 @@ use lay_point::NoMemory;
 use session_core::Machine;
 use session_steps::{Reply, Step, StepFault, dealt};
 use std::alloc::Global;
-use std::marker::Model;
 use std::thread::Threads;
 use txn_rules::CmdFault;
 use undo_rules::BookFault;
@@ -30,7 +29,7 @@ pub struct Answer {
 }
 
 /// A live run. Contracts see the state of its machine, the steps' sessions and replies so far, and how many
-/// lines came.
+/// lines came (`run_of`).
 #[derive(Drop)]
 pub struct Live {
     machine: Machine,
@@ -41,26 +40,10 @@ pub struct Live {
     lines: u64,
 }
 
-impl Model for Live {
-    ghost use Rattle.job_live.specs.Live.{Run, coded_run};
-
-    ghost Value = { Run };
-
-    ghost coded = { coded_run };
-
-    ghost view = { λ l. record {
-      state = l.machine;
-      sessions = l.sessions.items;
-      replies = l.replies.items;
-      taken = l.taken.items;
-      lines = l.lines;
-    } };
-}
-
 impl Live {
     /// Returns a run on this layout, before its first line.
     pub fn new(alloc: Global, base: Snapshot) -> Result<Live, NoMemory>
-        ensures { IfOk result (λ run. run ≡ begun base) }
+        ensures { IfOk result (λ run. run_of run ≡ begun base) }
     {
         Ok(Live {
             machine: Machine::new(alloc, base, SESSIONS)?,
@@ -73,7 +56,7 @@ impl Live {
 
     /// The layout as it is now.
     pub fn layout(&self) -> &Snapshot
-        ensures { result.now ≡ self.now.state.history.layout }
+        ensures { result.now ≡ self.now.machine.history.layout }
     {
         self.machine.book().snapshot()
     }
@@ -92,8 +75,7 @@ impl Live {
         line: &[u8],
         bands: &impl Bands,
     ) -> Result<(Live, Answer), NoMemory>
-        ensures { IfOk result (λ r. (r.0, (r.1.comment.items, r.1.is_layout_wanted))
-            ≡ after_line self line.now) }
+        ensures { IfOk result (λ r. (run_of r.0, said_of r.1) ≡ after_line (run_of self) line.now) }
     {
         let number = self.lines.checked_add(1).ok_or(NoMemory)?;
         match live_line(alloc, line)? {
@@ -109,9 +91,9 @@ impl Live {
 
     /// Returns the comments of the order in which the steps ran, and the layout at the end.
     pub fn end(self, alloc: Global) -> Result<(Vec<u8>, Snapshot), NoMemory>
-        ensures order { IfOk result (λ r. r.0.items ≡ order_text (order_of self.state.history.log
-            (dealt self.sessions self.replies (replicate 64 [])))) }
-        ensures layout { IfOk result (λ r. r.1 ≡ self.state.history.layout) }
+        ensures order { IfOk result (λ r. r.0.items ≡ order_text (order_of self.machine.history.log
+            (dealt self.sessions.items self.replies.items (replicate 64 [])))) }
+        ensures layout { IfOk result (λ r. r.1 ≡ self.machine.history.layout) }
     {
         let Live {
             machine,
@@ -134,8 +116,7 @@ impl Live {
         step: Step,
         bands: &impl Bands,
     ) -> Result<(Live, Answer), NoMemory>
-        ensures { IfOk result (λ r. (r.0, (r.1.comment.items, r.1.is_layout_wanted))
-            ≡ after_step self session step) }
+        ensures { IfOk result (λ r. (run_of r.0, said_of r.1) ≡ after_step (run_of self) session step) }
     {
         let mut run = self;
         let reply = run.machine.step(rt, alloc, session, step, bands);
@@ -159,8 +140,8 @@ impl Live {
     /// Returns the run with one line more, which takes no step and is answered so.
     fn one_more(self, lines: u64, comment: Vec<u8>, is_layout_wanted: bool) -> (Live, Answer)
         requires { lines ≡ self.lines + 1 }
-        ensures { (result.0, (result.1.comment.items, result.1.is_layout_wanted))
-            ≡ (one_more self, (comment.items, is_layout_wanted)) }
+        ensures run { run_of result.0 ≡ one_more (run_of self) }
+        ensures said { said_of result.1 ≡ (comment.items, is_layout_wanted) }
     {
         let mut run = self;
         run.lines = lines;
