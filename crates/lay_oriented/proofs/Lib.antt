@@ -1,0 +1,2 @@
+pub mod DirectedLemmas
+pub mod CompleteLemmas
