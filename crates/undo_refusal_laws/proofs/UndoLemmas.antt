@@ -3,7 +3,7 @@ use Rattle.std.proofs.Common.{◌≡◌, ◌≢◌, inl, inr, ℕ, Bool, true, f
 use Rattle.std.proofs.Common.{Result, Err, refl, sym, ap, subst, ◌∙◌, arith}
 use Rattle.std.specs.Prelude.{not, Contains}
 use Rattle.std.proofs.lemmas.Bool.Decides.{nat_tests}
-use Rattle.lay_point.proofs.Members.{Has, contains, has}
+use Rattle.lay_point.proofs.Members.{Has, contains, has, has-append_left, has-append_right}
 use Rattle.txn_rules.specs.declared.command.TxnId.{TxnId}
 use Rattle.txn_rules.specs.Records.{Records}
 use Rattle.undo_rules.specs.declared.log.BookFault.{BookFault}
@@ -145,12 +145,20 @@ moved_test entry e linked was are (inl h) =
 moved_test entry e linked was are (inr h) =
     (λ i. differ (told_false linked are.linked_is h.0 i) (are.was_so h.1 i))
 
+-- the parts of a list are in it
+placed : (es before : List Entry) (it : Entry) (rest : List Entry) → es ≡ before ++ it ∷ rest → Has es it
+placed es before it rest place =
+    subst (λ (all : List Entry). Has all it) (sym place) (has-append_right before (it ∷ rest) it (inl refl))
+
+in_front : (es before rest : List Entry) (y : Entry) → es ≡ before ++ rest → Has before y → Has es y
+in_front es before rest y place m = subst (λ (all : List Entry). Has all y) (sym place) (has-append_left before rest y m)
+
 first_moved_is : (earlier : List Entry) (entry : Entry) (name : TxnId) → AreNamed (map trace_of earlier)
     → first_moved earlier (links_to earlier entry.footprint) entry.seen ≡ Some name → IsFirstMoved entry earlier name
 first_moved_is earlier entry name named e =
     let test = has_moved earlier entry in
     let f = first_found test name_of earlier name (sym (moved_first earlier (links_to earlier entry.footprint) entry.seen) ∙ e) in
-    let at : Has earlier f.it = subst (λ (es : List Entry). Has es f.it) (sym f.place) (placed f.before f.it f.rest) in
+    let at = placed earlier f.before f.it f.rest f.place in
     record {
       before = f.before;
       moved = f.it;
@@ -159,24 +167,15 @@ first_moved_is earlier entry name named e =
       named = f.named;
       has_moved = moved_by entry f.it _ _ (are_tests earlier entry f.it named at) f.passed;
       first = λ y m.
-          let there : Has earlier y = subst (λ (es : List Entry). Has es y) (sym f.place) (in_front f.before (f.it ∷ f.rest) y (has f.before y m)) in
+          let there = in_front earlier f.before (f.it ∷ f.rest) y f.place (has f.before y m) in
           told_not (test y) (moved_test entry y _ _ (are_tests earlier entry y named there)) (f.first y (has f.before y m));
     }
-  where
-    placed : (before : List Entry) (it : Entry) (rest : List Entry) → Has (before ++ it ∷ rest) it
-    placed [] it rest = inl refl
-    placed (x ∷ xs) it rest = inr (placed xs it rest)
-
-    in_front : (before rest : List Entry) (y : Entry) → Has before y → Has (before ++ rest) y
-    in_front [] rest y m = absurd m
-    in_front (x ∷ xs) rest y (inl same) = inl same
-    in_front (x ∷ xs) rest y (inr m) = inr (in_front xs rest y m)
 
 first_moved_so : (earlier : List Entry) (entry : Entry) (name : TxnId) → AreNamed (map trace_of earlier) → IsFirstMoved entry earlier name
     → first_moved earlier (links_to earlier entry.footprint) entry.seen ≡ Some name
 first_moved_so earlier entry name named is =
     let test = has_moved earlier entry in
-    let at : Has earlier is.moved = subst (λ (es : List Entry). Has es is.moved) (sym is.place) (placed is.before is.moved is.rest) in
+    let at = placed earlier is.before is.moved is.rest is.place in
     moved_first earlier (links_to earlier entry.footprint) entry.seen ∙ first_is test name_of earlier name (record {
       before = is.before;
       it = is.moved;
@@ -185,18 +184,9 @@ first_moved_so earlier entry name named is =
       named = is.named;
       passed = moved_test entry is.moved _ _ (are_tests earlier entry is.moved named at) is.has_moved;
       first = λ y m.
-          let there : Has earlier y = subst (λ (es : List Entry). Has es y) (sym is.place) (in_front is.before (is.moved ∷ is.rest) y m) in
+          let there = in_front earlier is.before (is.moved ∷ is.rest) y is.place m in
           told_false (test y) (moved_by entry y _ _ (are_tests earlier entry y named there)) (is.first y (contains is.before y m));
     })
-  where
-    placed : (before : List Entry) (it : Entry) (rest : List Entry) → Has (before ++ it ∷ rest) it
-    placed [] it rest = inl refl
-    placed (x ∷ xs) it rest = inr (placed xs it rest)
-
-    in_front : (before rest : List Entry) (y : Entry) → Has before y → Has (before ++ rest) y
-    in_front [] rest y m = absurd m
-    in_front (x ∷ xs) rest y (inl same) = inl same
-    in_front (x ∷ xs) rest y (inr m) = inr (in_front xs rest y m)
 
 -- ---- a transaction that is found
 
