@@ -9,28 +9,28 @@ use Rattle.job_laws.specs.JobLines.{BeginsSections, IsBlank, IsOfText, IsOnly, L
 use Rattle.job_laws.proofs.Choices.{choose, none_is, not_err, ok_same, only_is}
 
 -- lines without words, and then `%cif`
-pub record BeginsWithHead (all behind : List Line) : Type 0 where
+pub record BeginsWithHead (all others : List Line) : Type 0 where
   pub blanks : List Line
   pub head : Line
-  pub parts : all ≡ blanks ++ (head ∷ behind)
+  pub parts : all ≡ blanks ++ (head ∷ others)
   pub none : AllByRecursion IsBlank blanks
   pub names : IsOnly (codes "%cif") head
 
-pub head_sound : (n : ℕ) (all : List Line) (m : ℕ) (behind : List Line) → head_of n all ≡ Ok (m, behind) → BeginsWithHead all behind
-head_sound n [] m behind h = not_err (m, behind) (FaultLine 1) h
-head_sound n (line ∷ more) m behind h =
+pub head_sound : (n : ℕ) (all : List Line) (m : ℕ) (others : List Line) → head_of n all ≡ Ok (m, others) → BeginsWithHead all others
+head_sound n [] m others h = not_err (m, others) (FaultLine 1) h
+head_sound n (line ∷ more) m others h =
     choose (is_none_of (words_of line)) (head_of (n + 1) more)
-    (if is_only (codes "%cif") (words_of line) then Ok (n + 1, more) else Err (FaultLine n)) (Ok (m, behind)) h
-    (λ e same. after_blank line more behind (none_is (words_of line) e) (head_sound (n + 1) more m behind same))
+    (if is_only (codes "%cif") (words_of line) then Ok (n + 1, more) else Err (FaultLine n)) (Ok (m, others)) h
+    (λ e same. after_blank line more others (none_is (words_of line) e) (head_sound (n + 1) more m others same))
     (λ e same.
-    choose (is_only (codes "%cif") (words_of line)) (Ok (n + 1, more)) (Err (FaultLine n)) (Ok (m, behind)) same
+    choose (is_only (codes "%cif") (words_of line)) (Ok (n + 1, more)) (Err (FaultLine n)) (Ok (m, others)) same
     (λ named found.
-    here line more behind (only_is (codes "%cif") (words_of line) named)
-    (ap (λ p. p.1) (ok_same (n + 1, more) (m, behind) found)))
-    (λ other refused. not_err (m, behind) (FaultLine n) refused)) where
-      after_blank : (line : Line) (more behind : List Line) → IsBlank line → BeginsWithHead more behind →
-          BeginsWithHead (line ∷ more) behind
-      after_blank line more behind blank first = record {
+    here line more others (only_is (codes "%cif") (words_of line) named)
+    (ap (λ p. p.1) (ok_same (n + 1, more) (m, others) found)))
+    (λ other refused. not_err (m, others) (FaultLine n) refused)) where
+      after_blank : (line : Line) (more others : List Line) → IsBlank line → BeginsWithHead more others →
+          BeginsWithHead (line ∷ more) others
+      after_blank line more others blank first = record {
         blanks = line ∷ first.blanks;
         head = first.head;
         parts = ap (λ l. line ∷ l) first.parts;
@@ -38,21 +38,21 @@ head_sound n (line ∷ more) m behind h =
         names = first.names;
       }
 
-      here : (line : Line) (more behind : List Line) → IsOnly (codes "%cif") line → more ≡ behind → BeginsWithHead (line ∷ more) behind
-      here line more behind named same =
+      here : (line : Line) (more others : List Line) → IsOnly (codes "%cif") line → more ≡ others → BeginsWithHead (line ∷ more) others
+      here line more others named same =
           record { blanks = []; head = line; parts = ap (λ l. line ∷ l) same; none = tt; names = named }
 
-head_here : (n : ℕ) (head : Line) (behind : List Line) → IsOnly (codes "%cif") head → head_of n (head ∷ behind) ≡ Ok (n + 1, behind)
-head_here n head behind named =
-    ap (λ ws. if is_none_of ws then head_of (n + 1) behind
-    else if is_only (codes "%cif") ws then Ok (n + 1, behind) else Err (FaultLine n)) named
+head_here : (n : ℕ) (head : Line) (others : List Line) → IsOnly (codes "%cif") head → head_of n (head ∷ others) ≡ Ok (n + 1, others)
+head_here n head others named =
+    ap (λ ws. if is_none_of ws then head_of (n + 1) others
+    else if is_only (codes "%cif") ws then Ok (n + 1, others) else Err (FaultLine n)) named
 
-pub head_complete : (n : ℕ) (blanks : List Line) (head : Line) (behind : List Line) → AllByRecursion IsBlank blanks →
-    IsOnly (codes "%cif") head → (m : ℕ) × (head_of n (blanks ++ (head ∷ behind)) ≡ Ok (m, behind))
-head_complete n [] head behind none named = (n + 1, head_here n head behind named)
-head_complete n (line ∷ blanks) head behind none named =
-    let more = head_complete (n + 1) blanks head behind none.1 named in
-    let rest = blanks ++ (head ∷ behind) in (
+pub head_complete : (n : ℕ) (blanks : List Line) (head : Line) (others : List Line) → AllByRecursion IsBlank blanks →
+    IsOnly (codes "%cif") head → (m : ℕ) × (head_of n (blanks ++ (head ∷ others)) ≡ Ok (m, others))
+head_complete n [] head others none named = (n + 1, head_here n head others named)
+head_complete n (line ∷ blanks) head others none named =
+    let more = head_complete (n + 1) blanks head others none.1 named in
+    let rest = blanks ++ (head ∷ others) in (
       more.0,
       ap (λ ws. if is_none_of ws then head_of (n + 1) rest
           else if is_only (codes "%cif") ws then Ok (n + 1, rest) else Err (FaultLine n)) none.0 ∙ more.1,

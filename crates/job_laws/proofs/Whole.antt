@@ -69,12 +69,12 @@ read_so bytes head sections order job first second third cif scripts same =
 
 sections_job_complete : (bytes : List ℕ) (job : Job) → IsJob bytes job → sections_job bytes ≡ Ok job
 sections_job_complete bytes job is =
-    let behind = is.text ++ is.sections in
-    let head = head_complete 1 is.blanks is.head behind is.none is.names in
+    let others = is.text ++ is.sections in
+    let head = head_complete 1 is.blanks is.head others is.none is.names in
     let text = text_complete head.0 is.text is.sections is.plain is.begins in
     let ends = begins_order job.scripts is.last job.order is.ordered in
     let read = sections_complete text.0 is.sections job.scripts is.last is.sessions ends in
-    read_so bytes (head.0, behind) (job.scripts, (read.0, is.last)) job.order job
+    read_so bytes (head.0, others) (job.scripts, (read.0, is.last)) job.order job
     (ap (head_of 1) is.parts ∙ head.1) (ap sections_at text.1 ∙ read.1)
     (order_complete job.scripts read.0 is.last job.order is.ordered) (text.2 ∙ sym is.cif) refl refl
 

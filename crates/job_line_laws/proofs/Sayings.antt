@@ -72,8 +72,8 @@ unfolding point_at
 next_point ws f b h more =
     bound (point_at ws) f b h (λ found is left.
     next coordinate_of ws (λ x. coordinate_at x.1 >>= λ y. Some (record { x = x.0; y = y.0 }, y.1)) found is
-    (λ x behind c first column then_y.
-    next coordinate_of behind (λ y. Some (record { x = c; y = y.0 }, y.1)) found then_y (λ y rest d second row made.
+    (λ x others c first column then_y.
+    next coordinate_of others (λ y. Some (record { x = c; y = y.0 }, y.1)) found then_y (λ y rest d second row made.
     let parts : ws ≡ x ∷ y ∷ rest = cc in
     more x y rest (record { x = c; y = d }) parts (record { column = column; row = row })
     (ap f (same_value (record { x = c; y = d }, rest) found made) ∙ left))))

@@ -40,7 +40,7 @@ use Rattle.job_reply_laws.specs.Told.{CanAnswer, CanRefuse, CanShow, CanTell, Is
 
 -- ---- the words
 
--- what stands between two rings
+-- what is between two rings
 abbrev pub bar_words : List (List Point) → List Word
 bar_words [] = []
 bar_words (ring ∷ rings) = codes "/" ∷ []

@@ -44,7 +44,7 @@ number_first n rest few ends =
     let is = decimal_is n few in
     digits_first (decimal n) rest is.some is.digits ends ∙ ap (λ m. m ∷ numbers_in rest) is.value
 
--- what stands before a number, and what ends its line
+-- what comes before a number, and what ends its line
 abbrev opening : Bool → List ℕ
 opening starts = if starts then codes "(order" else []
 
