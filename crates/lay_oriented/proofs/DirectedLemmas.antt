@@ -45,7 +45,8 @@ unwritten (w ∷ ws) q old all = ap (λ o. latest ws q (cond (is_eq o) w.1 old))
 -- the first id has what it is to have, and another what it has behind it
 first_after : (id : ItemId) (x : Item) (other found old : Option Item) (ws : List Write) (q : ItemId)
     → AllByRecursion (λ y. id_cmp id y ≡ Less) (keys_of ws) → found ≡ latest ws q old
-    → cond (eq_by_cmp id_cmp q id) (Some x) found ≡ latest ws q (cond (eq_by_cmp id_cmp q id) (Some x) (cond (eq_by_cmp id_cmp q id) other old))
+    → cond (eq_by_cmp id_cmp q id) (Some x) found
+    ≡ latest ws q (cond (eq_by_cmp id_cmp q id) (Some x) (cond (eq_by_cmp id_cmp q id) other old))
 first_after id x other found old ws q above is = by (id_cmp q id) refl where
   by : (o : Ordering) → id_cmp q id ≡ o
       → cond (is_eq o) (Some x) found ≡ latest ws q (cond (is_eq o) (Some x) (cond (is_eq o) other old))
@@ -226,5 +227,7 @@ writes_sound l ws n is sound = record {
   apart = sound.apart;
   items = λ q y there. sound_same l (put_all l.items ws) y (sound-after l q (entries l.items) ws n is
       (λ x found. sound.items q x (get-entries l.items q ∙ found)) y (sym (get-after l.items ws n is q) ∙ there));
-  acyclic = subst IsAcyclic (sym (ap calls_among (entries-after l.items ws n is) ∙ calls_among-after (entries l.items) ws n is)) sound.acyclic;
+  acyclic =
+      subst IsAcyclic (sym (ap calls_among (entries-after l.items ws n is) ∙ calls_among-after (entries l.items) ws n is))
+      sound.acyclic;
 }

@@ -28,7 +28,8 @@ loop-id-preserved c =
     let step : IsShape c.in-Some.item.now = search rules in
     let count : length c.loop-id.id-iterator ≡ suc (length c.next.new.self) = ap length left in
     record {
-      writes = complete_otherwise all c.next.new.self (c.in-Some.id, c.in-Some.item.now) c.loop-id.writes.items c.loop-id.staying (c.loop-id.staying + 1) step
+      writes = complete_otherwise all c.next.new.self (c.in-Some.id, c.in-Some.item.now) c.loop-id.writes.items c.loop-id.staying
+          (c.loop-id.staying + 1) step
           refl
           (subst (λ (l : List (ItemId × Item)). Completes all l c.loop-id.writes.items c.loop-id.staying) left c.loop-id.invariant.writes);
       few = omega (arith, count, c.loop-id.invariant.few);
