@@ -1,3 +1,4 @@
 pub mod ReadingLemmas
 pub mod DealtLemmas
 pub mod OutputLemmas
+pub mod GivenLemmas

@@ -14,7 +14,8 @@ use Rattle.masklay.specs.declared.program.outcome.Finished.{Finished}
 use Rattle.masklay.specs.declared.program.outcome.Stop.{Stop}
 use Rattle.cif_read.proofs.OneMeaning.{one_meaning}
 use Rattle.masklay.specs.Outcome.{IsOutcome, IsOutcomeOf, finished_with}
-use Rattle.masklay.specs.Threads.{AnswersOutcome, BecomesOf, IsThreadedOutcome, IsThreadedOutcomeOf}
+use Rattle.masklay.specs.Oriented.{AnswersGiven, IsGiven}
+use Rattle.masklay.specs.Threads.{BecomesOf, IsThreadedOutcome, IsThreadedOutcomeOf}
 use Rattle.masklay.specs.Output.{Ends, IsOutput, Output, Writes, WritesOrMemory, output_from}
 use Rattle.masklay.specs.Reading.{kept_of}
 
@@ -39,19 +40,25 @@ unfolding IsOutcome IsThreadedOutcome
 kept_outcome false bytes outcome is = subst (λ (job : Result Job JobFault). IsOutcomeOf job outcome) (kept_job bytes) is
 kept_outcome true bytes outcome is = subst (λ (job : Result Job JobFault). IsThreadedOutcomeOf job outcome) (kept_job bytes) is
 
+kept_given : (threaded oriented : Bool) (bytes : List ℕ) (given : Result Finished Stop) → IsGiven threaded oriented (kept_of bytes) given
+    → IsGiven threaded oriented bytes given
+kept_given threaded false bytes given is = kept_outcome threaded bytes given is
+kept_given threaded true bytes given (outcome, is, directed) = (outcome, kept_outcome threaded bytes outcome is, directed)
+
 -- and its output
-pub kept_output : (threaded : Bool) (bytes : List ℕ) (output : Output) → IsOutput threaded (kept_of bytes) output
-    → IsOutput threaded bytes output
-kept_output threaded bytes output (outcome, is, same) = (outcome, kept_outcome threaded bytes outcome is, same)
+pub kept_output : (threaded oriented : Bool) (bytes : List ℕ) (output : Output) → IsOutput threaded oriented (kept_of bytes) output
+    → IsOutput threaded oriented bytes output
+kept_output threaded oriented bytes output (outcome, is, same) = (outcome, kept_given threaded oriented bytes outcome is, same)
 
 -- what was kept of the input has the input's output
-pub kept_ends : {S : Type 0} (written : S → Option (List ℕ)) (failures : S → ℕ) (old new : S) (threaded : Bool) (bytes : List ℕ)
-    (status : Status) → Ends written failures old new threaded (kept_of bytes) status → Ends written failures old new threaded bytes status
-kept_ends written failures old new threaded bytes status (inl (output, is, wrote)) =
-    inl (output, kept_output threaded bytes output is, wrote)
-kept_ends written failures old new threaded bytes status (inr refused) = inr refused
+pub kept_ends : {S : Type 0} (written : S → Option (List ℕ)) (failures : S → ℕ) (old new : S) (threaded oriented : Bool)
+    (bytes : List ℕ) (status : Status) → Ends written failures old new threaded oriented (kept_of bytes) status
+    → Ends written failures old new threaded oriented bytes status
+kept_ends written failures old new threaded oriented bytes status (inl (output, is, wrote)) =
+    inl (output, kept_output threaded oriented bytes output is, wrote)
+kept_ends written failures old new threaded oriented bytes status (inr refused) = inr refused
 
--- ---- bytes have one output, where sessions take turns
+-- ---- bytes have one output, where sessions take turns and shapes stay
 
 one_outcome_of : (job : Result Job JobFault) (a b : Result Finished Stop) → IsOutcomeOf job a → IsOutcomeOf job b → a ≡ b
 one_outcome_of (Err fault) a b is same = is ∙ sym same
@@ -62,19 +69,20 @@ one_outcome : (bytes : List ℕ) (a b : Result Finished Stop) → IsOutcome byte
 unfolding IsOutcome
 one_outcome bytes a b is same = one_outcome_of (job_of bytes) a b is same
 
-pub one_output : (bytes : List ℕ) (a b : Output) → IsOutput false bytes a → IsOutput false bytes b → a ≡ b
+pub one_output : (bytes : List ℕ) (a b : Output) → IsOutput false false bytes a → IsOutput false false bytes b → a ≡ b
 one_output bytes a b (outcome, is, given) (other, same, put) =
     given ∙ ap output_from (one_outcome bytes outcome other is same) ∙ sym put
 
 -- ---- what is written of an outcome ends the program
 
-pub ends_by : {S : Type 0} (written : S → Option (List ℕ)) (failures : S → ℕ) (old new : S) (threaded : Bool) (bytes : List ℕ)
-    (outcome : Result Finished Stop) (status : Status) → AnswersOutcome threaded bytes outcome
-    → WritesOrMemory written failures old new (output_from outcome) status → Ends written failures old new threaded bytes status
-ends_by written failures old new threaded bytes outcome status (inr is) (inl wrote) =
+pub ends_by : {S : Type 0} (written : S → Option (List ℕ)) (failures : S → ℕ) (old new : S) (threaded oriented : Bool)
+    (bytes : List ℕ) (outcome : Result Finished Stop) (status : Status) → AnswersGiven threaded oriented bytes outcome
+    → WritesOrMemory written failures old new (output_from outcome) status
+    → Ends written failures old new threaded oriented bytes status
+ends_by written failures old new threaded oriented bytes outcome status (inr is) (inl wrote) =
     inl (output_from outcome, (outcome, is, refl), wrote)
-ends_by written failures old new threaded bytes outcome status is (inr refused) = inr refused
-ends_by written failures old new threaded bytes outcome status (inl none) (inl wrote) =
+ends_by written failures old new threaded oriented bytes outcome status is (inr refused) = inr refused
+ends_by written failures old new threaded oriented bytes outcome status (inl none) (inl wrote) =
     inr (subst (λ (o : Result Finished Stop). Writes written failures old new (output_from o) status) none wrote)
 
 -- ---- what a call's clauses say where its answer was tested

@@ -16,6 +16,15 @@ abbrev pub asks_for_threads : List (String Global) → Bool
 asks_for_threads [] = false
 asks_for_threads (name ∷ arguments) = list_any is_threaded arguments
 
+-- the argument that asks for directed shapes
+abbrev pub is_oriented : String Global → Bool
+is_oriented word = bytes_eq (string_bytes word) (codes "--oriented")
+
+-- whether one of the arguments does
+abbrev pub asks_for_directions : List (String Global) → Bool
+asks_for_directions [] = false
+asks_for_directions (name ∷ arguments) = list_any is_oriented arguments
+
 -- From the old devices to the new: a text of help was written to the output, or one of what is wrong to the errors, or
 -- memory was refused and the output has the line that says so; and the other device is as it was.
 abbrev pub EndsEarly : {O E : Type 0} → (O → Option (List ℕ)) → (O → ℕ) → (E → Option (List ℕ)) → (E → ℕ) → O → O → E → E → Status → Type 0

@@ -10,7 +10,7 @@ use Rattle.masklay.specs.declared.program.outcome.Stop.TheVariants.{JobFault, Ci
 use Rattle.masklay.specs.declared.program.status.Status.{Status}
 use Rattle.masklay.specs.declared.program.status.Status.TheVariants.{Done, CommandLine, Job, Cif, Device, Memory, Desk}
 use Rattle.job_text.specs.Order.{order_text}
-use Rattle.masklay.specs.Threads.{BecomesOf}
+use Rattle.masklay.specs.Oriented.{IsGiven}
 use Rattle.job_text.specs.Replies.{replies_text}
 
 -- the number with which the process ends
@@ -65,13 +65,15 @@ abbrev pub output_from : Result Finished Stop → Output
 output_from (Ok finished) = finished_output finished
 output_from (Err stop) = stop_output stop
 
--- what the program writes, and how it ends, where its input is these bytes, by whether sessions run in threads
-abbrev pub IsOutput : Bool → List ℕ → Output → Type 0
-IsOutput threaded bytes output = (outcome : Result Finished Stop) × BecomesOf threaded bytes outcome × (output ≡ output_from outcome)
+-- what the program writes, and how it ends, where its input is these bytes, by whether sessions run in threads and whether shapes
+-- are directed
+abbrev pub IsOutput : Bool → Bool → List ℕ → Output → Type 0
+IsOutput threaded oriented bytes output =
+    (outcome : Result Finished Stop) × IsGiven threaded oriented bytes outcome × (output ≡ output_from outcome)
 
--- where sessions take turns, an input has no two outputs
+-- where sessions take turns and shapes stay as they are, an input has no two outputs
 abbrev pub HasOneOutput : Type 0
-HasOneOutput = (bytes : List ℕ) (a b : Output) → IsOutput false bytes a → IsOutput false bytes b → a ≡ b
+HasOneOutput = (bytes : List ℕ) (a b : Output) → IsOutput false false bytes a → IsOutput false false bytes b → a ≡ b
 
 -- From the old device to the new: all of the output was written and nothing else, and the program ended with its status;
 -- or the device failed, and a prefix was written.
@@ -87,7 +89,7 @@ WritesOrMemory written failures old new output status =
 
 -- From the old device to the new: the output of these bytes was written so; or a growth of memory was refused, and the line
 -- that says so was.
-abbrev pub Ends : {S : Type 0} → (S → Option (List ℕ)) → (S → ℕ) → S → S → Bool → List ℕ → Status → Type 0
-Ends written failures old new threaded bytes status =
-    ((output : Output) × IsOutput threaded bytes output × Writes written failures old new output status)
+abbrev pub Ends : {S : Type 0} → (S → Option (List ℕ)) → (S → ℕ) → S → S → Bool → Bool → List ℕ → Status → Type 0
+Ends written failures old new threaded oriented bytes status =
+    ((output : Output) × IsOutput threaded oriented bytes output × Writes written failures old new output status)
     ⊎ Writes written failures old new memory_output status

@@ -8,12 +8,13 @@ use Rattle.masklay.specs.Output.{Ends, Writes, memory_output}
 use Rattle.masklay.specs.Reading.{IsEndless}
 
 -- from the old input and output device to the new, where the program ended with this status; by whether sessions run in threads
-pub record IsRun {I O : Type 0} (threaded : Bool) (remaining : I → Option (List ℕ)) (counts : I → Counts) (written : O → Option (List ℕ))
+-- and whether shapes are directed
+pub record IsRun {I O : Type 0} (threaded oriented : Bool) (remaining : I → Option (List ℕ)) (counts : I → Counts) (written : O → Option (List ℕ))
     (failures : O → ℕ)
     (input input' : I) (out out' : O) (status : Status) : Type 0 where
   -- where the input's bytes were read to their end, their output is written
   pub answered : (bytes : List ℕ) → remaining input ≡ Some bytes → (counts input).ends < (counts input').ends →
-      Ends written failures out out' threaded bytes status
+      Ends written failures out out' threaded oriented bytes status
   -- they are read to their end, but where the device fails or is endless, and where memory is refused
   pub unended : (counts input').ends ≡ (counts input).ends → (counts input').failures ≡ (counts input).failures →
       (IsEndless (counts input) (counts input') × (status ≡ Device) × (out' ≡ out)) ⊎ Writes written failures out out' memory_output status

@@ -2,7 +2,7 @@
 ghost use Rattle.std.specs.Prelude.{◌≡◌, ◌≤◌, ◌<◌, ◌⊎◌, IfErr, IfOk, false, vec_len};
 ghost use Rattle.std.specs.List.{list_any};
 ghost use Rattle.masklay.specs.declared.command_line.OptionsFault.TheVariants.{Clap};
-ghost use Rattle.masklay.specs.Launch.{EndsEarly, asks_for_threads, is_threaded};
+ghost use Rattle.masklay.specs.Launch.{EndsEarly, asks_for_directions, asks_for_threads, is_oriented, is_threaded};
 ghost use Rattle.masklay.specs.Run.{IsRun};
 ghost use Rattle.masklay.specs.Telling.{Tells};
 
@@ -53,10 +53,11 @@ pub fn launch<I: In, O: Out, E: Out>(
     errors: &mut E,
 ) -> Status
     ensures plain { IfOk words (λ words. vec_len words ≤ 1
-        → IsRun false I.remaining I.counts O.written O.failures input.old input.new out.old out.new result
+        → IsRun false false I.remaining I.counts O.written O.failures input.old input.new out.old out.new result
         × Tells E.written E.failures errors.old errors.new result) }
     ensures options { IfOk words (λ words. 1 < vec_len words
-        → (IsRun (asks_for_threads words.items) I.remaining I.counts O.written O.failures input.old input.new out.old out.new result
+        → (IsRun (asks_for_threads words.items) (asks_for_directions words.items)
+        I.remaining I.counts O.written O.failures input.old input.new out.old out.new result
         × Tells E.written E.failures errors.old errors.new result)
         ⊎ (EndsEarly O.written O.failures E.written E.failures
         out.old out.new errors.old errors.new result × (input.new ≡ input.old))) }
@@ -68,6 +69,7 @@ pub fn launch<I: In, O: Out, E: Out>(
             let options = Options {
                 workers: 1,
                 threaded: false,
+                oriented: false,
             };
             run(rt, alloc, options, input, out, errors)
         }
@@ -99,12 +101,14 @@ impl From<Error> for OptionsFault {
 
 /// Returns the options that the words say.
 fn options_of(alloc: Global, words: &[String]) -> Result<Options, OptionsFault>
-    ensures { IfOk result (λ options. options.threaded ≡ asks_for_threads words.now) }
+    ensures threaded { IfOk result (λ options. options.threaded ≡ asks_for_threads words.now) }
+    ensures oriented { IfOk result (λ options. options.oriented ≡ asks_for_directions words.now) }
 {
     let workers = workers_of(alloc, words)?;
     Ok(Options {
         workers,
         threaded: asks_for_threads(words),
+        oriented: asks_for_directions(words),
     })
 }
 
@@ -144,6 +148,30 @@ fn is_threaded(word: &String) -> bool
     word.as_bytes() == b"--threaded".as_slice()
 }
 
+/// Returns whether an argument is `--oriented`.
+fn asks_for_directions(words: &[String]) -> bool
+    ensures { result ≡ asks_for_directions words.now }
+{
+    match words.split_first() {
+        Some((_, arguments)) => has_oriented(arguments),
+        None => false,
+    }
+}
+
+/// Returns whether one of the arguments is.
+fn has_oriented(arguments: &[String]) -> bool
+    ensures { result ≡ list_any is_oriented arguments.now }
+{
+    arguments.iter().any(|argument| is_oriented(argument))
+}
+
+/// Returns whether the word is the option that asks for directed shapes.
+fn is_oriented(word: &String) -> bool
+    ensures { result ≡ is_oriented word.now }
+{
+    word.as_bytes() == b"--oriented".as_slice()
+}
+
 /// Writes what is said in place of a run.
 fn refuse<O: Out, E: Out>(alloc: Global, fault: OptionsFault, out: &mut O, errors: &mut E) -> Status
     ensures { EndsEarly O.written O.failures E.written E.failures
@@ -168,6 +196,10 @@ fn command<'a>(alloc: Global) -> Result<Command<'a>, Error> {
         .long("threaded")
         .help("Runs each session in a thread of its own; the job's order plays no part")
         .action(ArgAction::SetTrue);
+    let oriented = Arg::new(alloc, "oriented")
+        .long("oriented")
+        .help("Directs each shape's path, so that readers by winding number see its holes too")
+        .action(ArgAction::SetTrue);
     let command = Command::new(alloc, "masklay")
         .version("0.1.0")
         .about(
@@ -175,7 +207,8 @@ fn command<'a>(alloc: Global) -> Result<Command<'a>, Error> {
         )
         .after_help(EXAMPLE)
         .arg(workers)?
-        .arg(threaded)?;
+        .arg(threaded)?
+        .arg(oriented)?;
     Ok(command)
 }
 

@@ -6,13 +6,14 @@
 //! `job_text::Job` is read from the input, a `session_core::Machine` takes its steps, and then the output
 //! is written; what it takes of memory is taken before its first byte. What is written is a function of
 //! the bytes that were read (`IsOutput` of `specs/Output.antt`); with `--threaded` the sessions run in
-//! threads, by `desk_run`, and what is written is that of one of their runs (`specs/Threads.antt`).
+//! threads, by `desk_run`, and what is written is that of one of their runs (`specs/Threads.antt`); with `--oriented` the
+//! layout's shapes are directed by `lay_oriented` before it is written (`specs/Oriented.antt`).
 //!
 //! ```text
 //! let mut input = MemoryIn::new(b"%cif\nE\n", 4096, 1000);
 //! let mut out = MemoryOut::new(alloc, 4096, 1000, Failing::ByErr);
 //! let mut errors = MemoryOut::new(alloc, 4096, 1000, Failing::ByErr);
-//! let options = Options { workers: 4, threaded: false };
+//! let options = Options { workers: 4, threaded: false, oriented: false };
 //! assert_eq!(rt; run(&rt, alloc, options, &mut input, &mut out, &mut errors), Status::Done);
 //! assert_eq!(rt; out.written(), b"DS 1 1 2;\nDF;\nC 1;\nE\n");
 //! ```

@@ -6,6 +6,7 @@ ghost use Rattle.masklay.specs.Telling.{Tells};
 
 mod empty_top;
 mod options;
+mod oriented;
 mod outcome;
 mod output;
 mod reading;
@@ -17,21 +18,22 @@ mod threads;
 
 use byte_io::{In, Out, put_all};
 pub use options::{MAX_WORKERS, Options};
-use outcome::finish;
+use oriented::{Given, finish_given};
 use output::{write_finished, write_stop};
 use reading::{ReadFault, read_all};
 pub use status::Status;
 use std::alloc::Global;
 use std::sync::Wait;
 use std::thread::Threads;
-use telling::{tell_of_stop, tell_of_top};
+use telling::{tell_of_layout, tell_of_stop};
 
 /// Reads a job from the input, runs it and writes its replies, their order and the CIF text of the
 /// layout, all after the last step; or the line that says why there is none. Booleans are rounded in as
 /// many threads as there are processors. A fault is told to `errors` too, in words for a person, and so is a
 /// top cell that is empty while the layout has symbols. With `threaded` the sessions run in threads over one
-/// desk, the job's own order plays no part, and the order that is written is that of the desk's log. Without,
-/// the input alone decides the output.
+/// desk, the job's own order plays no part, and the order that is written is that of the desk's log. With
+/// `oriented` the layout's shapes are directed before it is written, and where some stay as they were that is told
+/// to `errors` too. Without both, the input alone decides the output.
 #[tactic(auto, using(crate::proofs::OutputLemmas::one_output))]
 pub fn run<I: In, O: Out, E: Out>(
     rt: &(impl Threads + Wait + Sync),
@@ -41,8 +43,8 @@ pub fn run<I: In, O: Out, E: Out>(
     out: &mut O,
     errors: &mut E,
 ) -> Status
-    ensures run { IsRun options.threaded I.remaining I.counts O.written O.failures input.old input.new
-        out.old out.new result }
+    ensures run { IsRun options.threaded options.oriented I.remaining I.counts O.written O.failures
+        input.old input.new out.old out.new result }
     ensures told { Tells E.written E.failures errors.old errors.new result }
     ensures one { HasOneOutput }
 {
@@ -62,14 +64,15 @@ fn write_output<O: Out, E: Out>(
     out: &mut O,
     errors: &mut E,
 ) -> Status
-    ensures output { Ends O.written O.failures out.old out.new options.threaded bytes.items result }
+    ensures output { Ends O.written O.failures out.old out.new
+        options.threaded options.oriented bytes.items result }
     ensures told { Tells E.written E.failures errors.old errors.new result }
 {
     let mut bytes = bytes;
-    match finish(rt, alloc, options, &mut bytes) {
-        Ok(finished) => {
+    match finish_given(rt, alloc, options, &mut bytes) {
+        Ok(Given { finished, staying }) => {
             let status = write_finished(alloc, &finished, out);
-            tell_of_top(alloc, &finished.layout, status, errors);
+            tell_of_layout(alloc, &finished.layout, staying, status, errors);
             status
         }
         Err(stop) => {

@@ -11,4 +11,7 @@ pub struct Options {
     pub workers: u8,
     /// Whether the steps of each session run in a thread of its own, in place of the job's order.
     pub threaded: bool,
+    /// Whether each shape of the layout is written by a path that readers by winding number and readers by
+    /// parity see alike, as far as one is found.
+    pub oriented: bool,
 }

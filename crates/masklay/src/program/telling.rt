@@ -3,6 +3,7 @@ ghost use Rattle.std.specs.Prelude.{◌≡◌};
 ghost use Rattle.masklay.specs.Telling.{IsTold, Tells, may_tell};
 
 use crate::program::empty_top::advice_on_top;
+use crate::program::oriented::put_staying;
 use crate::program::outcome::Stop;
 use crate::program::status::Status;
 use byte_io::{Out, put_all};
@@ -33,13 +34,27 @@ pub(super) fn tell_of_stop<E: Out>(
     }
 }
 
-/// Tells that the top cell is empty, where all was written and the layout has symbols.
-pub(super) fn tell_of_top<E: Out>(alloc: Global, layout: &Snapshot, status: Status, errors: &mut E)
+/// Tells that the top cell is empty, where all was written and the layout has symbols, and how many shapes stay
+/// as they were though all were to be directed.
+pub(super) fn tell_of_layout<E: Out>(
+    alloc: Global,
+    layout: &Snapshot,
+    staying: usize,
+    status: Status,
+    errors: &mut E,
+)
     ensures { Tells E.written E.failures errors.old errors.new status }
 {
-    if let Ok(lines) = advice_on_top(alloc, layout) {
+    if let Ok(lines) = advice_on_layout(alloc, layout, staying) {
         tell(&lines, status, errors);
     }
+}
+
+/// Says what there is to say of a layout that is written.
+fn advice_on_layout(alloc: Global, layout: &Snapshot, staying: usize) -> Result<Vec<u8>, NoMemory> {
+    let mut lines = advice_on_top(alloc, layout)?;
+    put_staying(&mut lines, staying)?;
+    Ok(lines)
 }
 
 /// Writes the lines where the program ends with a status of which there may be something to tell.

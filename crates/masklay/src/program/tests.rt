@@ -33,6 +33,7 @@ fn ended(
     let options = Options {
         workers: 1,
         threaded: false,
+        oriented: false,
     };
     let status = run(rt, alloc, options, &mut input, &mut out, &mut errors);
     (status, out)

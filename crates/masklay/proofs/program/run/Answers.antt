@@ -7,10 +7,10 @@ use Rattle.masklay.proofs.program.run.Goals as goal
 pub returns-in-Ok-clause-run : goal.returns-in-Ok-clause-run
 returns-in-Ok-clause-run g c =
     let P : List ℕ → Type 0 = λ kept. Ends g.O.Out.written g.O.Out.failures c.args.out.now c.write_output.new.out
-    c.args.options.threaded kept c.write_output.result in
+    c.args.options.threaded c.args.options.oriented kept c.write_output.result in
     record {
       answered = λ bytes told ended. kept_ends g.O.Out.written g.O.Out.failures c.args.out.now c.write_output.new.out
-          c.args.options.threaded bytes c.write_output.result (subst P (c.in-Ok.ensures.kept bytes told) c.write_output.ensures.output);
+          c.args.options.threaded c.args.options.oriented bytes c.write_output.result (subst P (c.in-Ok.ensures.kept bytes told) c.write_output.ensures.output);
       unended = λ same _. let ended = c.in-Ok.ensures.how.0 in absurd (omega arith);
       failed = λ failed. absurd (failed c.in-Ok.ensures.how.1);
       reads = c.in-Ok.ensures.reads;

@@ -1,0 +1,29 @@
+-- What is given out where shapes are to be directed, so that readers by winding number and readers by parity see them alike.
+use Rattle.std.specs.Prelude.{◌≡◌, ◌⊎◌, ℕ, Bool, true, false, List, Result, Ok, Err}
+use Rattle.lay_items.specs.Layout.{Layout}
+use Rattle.lay_oriented.specs.Directed.{IsDirected}
+use Rattle.masklay.specs.declared.program.outcome.Finished.{Finished}
+use Rattle.masklay.specs.declared.program.outcome.Stop.{Stop}
+use Rattle.masklay.specs.declared.program.oriented.Given.{Given}
+use Rattle.masklay.specs.declared.program.outcome.Stop.TheVariants.{NoMemory}
+use Rattle.masklay.specs.Threads.{BecomesOf}
+
+-- the same replies and order, and the layout with its shapes directed, but for some that stay; or the same stop
+abbrev pub IsDirectedOutcome : Result Finished Stop → Result Finished Stop → Type 0
+IsDirectedOutcome (Ok finished) given =
+    (layout : Layout) × (staying : ℕ) × IsDirected finished.layout layout staying × (given ≡ Ok (record finished { layout = layout }))
+IsDirectedOutcome (Err stop) given = given ≡ Err stop
+
+-- what is given out for these bytes, by whether sessions run in threads and whether shapes are directed
+abbrev pub IsGiven : Bool → Bool → List ℕ → Result Finished Stop → Type 0
+IsGiven threaded false bytes given = BecomesOf threaded bytes given
+IsGiven threaded true bytes given = (outcome : Result Finished Stop) × BecomesOf threaded bytes outcome × IsDirectedOutcome outcome given
+
+-- what is given out, without the number of shapes that stay
+abbrev pub finished_part : Result Given Stop → Result Finished Stop
+finished_part (Ok given) = Ok given.finished
+finished_part (Err stop) = Err stop
+
+-- the same, or out of memory in its place
+abbrev pub AnswersGiven : Bool → Bool → List ℕ → Result Finished Stop → Type 0
+AnswersGiven threaded oriented bytes given = (given ≡ Err NoMemory) ⊎ IsGiven threaded oriented bytes given
