@@ -9,8 +9,8 @@ use Rattle.masklay.specs.Reading.{IsEndless}
 
 -- from the old input and output device to the new, where the program ended with this status; by whether sessions run in threads
 -- and whether shapes are directed
-pub record IsRun {I O : Type 0} (threaded oriented : Bool) (remaining : I → Option (List ℕ)) (counts : I → Counts) (written : O → Option (List ℕ))
-    (failures : O → ℕ)
+pub record IsRun {I O : Type 0} (threaded oriented : Bool) (remaining : I → Option (List ℕ)) (counts : I → Counts)
+    (written : O → Option (List ℕ)) (failures : O → ℕ)
     (input input' : I) (out out' : O) (status : Status) : Type 0 where
   -- where the input's bytes were read to their end, their output is written
   pub answered : (bytes : List ℕ) → remaining input ≡ Some bytes → (counts input).ends < (counts input').ends →
