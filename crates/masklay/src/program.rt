@@ -34,7 +34,6 @@ use telling::{tell_of_layout, tell_of_stop};
 /// desk, the job's own order plays no part, and the order that is written is that of the desk's log. With
 /// `oriented` the layout's shapes are directed before it is written, and where some stay as they were that is told
 /// to `errors` too. Without both, the input alone decides the output.
-#[tactic(auto, using(crate::proofs::OutputLemmas::one_output))]
 pub fn run<I: In, O: Out, E: Out>(
     rt: &(impl Threads + Wait + Sync),
     alloc: Global,

@@ -1,6 +1,6 @@
 use Rattle.std.proofs.Common.{ℕ, List, arith, subst}
 use Rattle.masklay.specs.Output.{Ends}
-use Rattle.masklay.proofs.OutputLemmas.{kept_ends}
+use Rattle.masklay.proofs.OutputLemmas.{kept_ends, one_output}
 use Rattle.masklay.proofs.program.run.Goals as goal
 
 -- what was kept of the input has the input's output
@@ -15,3 +15,12 @@ returns-in-Ok-clause-run g c =
       failed = λ failed. absurd (failed c.in-Ok.ensures.how.1);
       reads = c.in-Ok.ensures.reads;
     }
+
+pub returns-in-Ok-clause-one : goal.returns-in-Ok-clause-one
+returns-in-Ok-clause-one g c = one_output
+
+pub returns-in-Err-Device-clause-one : goal.returns-in-Err-Device-clause-one
+returns-in-Err-Device-clause-one g c = one_output
+
+pub returns-in-Err-NoMemory-clause-one : goal.returns-in-Err-NoMemory-clause-one
+returns-in-Err-NoMemory-clause-one g c = one_output
