@@ -1,0 +1,2 @@
+pub mod DealtLemmas
+pub mod LineLemmas
