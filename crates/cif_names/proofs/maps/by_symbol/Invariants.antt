@@ -1,0 +1,8 @@
+use Rattle.std.proofs.Common.{◌≡◌, ◌++◌, ℕ, drop}
+use Rattle.cif_names.specs.Maps.{bytes_at}
+use Rattle.cif_names.specs.Woven.{lines_in}
+use Rattle.cif_names.proofs.maps.by_symbol.Given as goal
+
+-- each symbol's lines so far, and those of the entries that are left
+abbrev pub invariant-loop-entry : goal.invariant-loop-entry
+invariant-loop-entry l = (n : ℕ) → bytes_at l.map.entries n ++ lines_in n (drop l.entry-index l.entries) ≡ lines_in n l.entries

@@ -1,0 +1,62 @@
+-- What is kept beside a layout is no part of its text.
+use Rattle.std.specs.Prelude.{◌≡◌, ℕ, ◌*◌, ◌≤◌, ◌==◌, Some, List, [], ◌∷◌, codes, flat_map, nat_eq, Bool, true, false, ◌||◌, not, IsTrue}
+use Rattle.std.specs.Prelude.{if◌then◌else◌}
+use Rattle.std.specs.List.{AllByRecursion, list_all, starts_with}
+use Rattle.cif_scan.specs.declared.number.Number.{Number}
+use Rattle.cif_commands.specs.declared.definitions.Scale.{Scale}
+use Rattle.cif_names.specs.declared.names.Entry.{Entry}
+use Rattle.cif_names.specs.Entries.{limit_of, scaled}
+use Rattle.cif_names.specs.Lines.{lines}
+use Rattle.cif_names.specs.Names.{names_of}
+use Rattle.cif_names.specs.Woven.{with_names}
+
+abbrev pub is_empty : List ℕ → Bool
+is_empty [] = true
+is_empty (b ∷ bs) = false
+
+-- one newline, and nothing behind it
+abbrev pub is_line : List ℕ → Bool
+is_line [] = false
+is_line (b ∷ bs) = if b == 10 then is_empty bs else is_line bs
+
+-- whether a line is one of a name or a label: only that of a label with a layer begins with a space
+abbrev pub is_kept_line : List ℕ → Bool
+is_kept_line line =
+    starts_with nat_eq line (codes "9 ") || starts_with nat_eq line (codes "94 ") || starts_with nat_eq line (codes " ")
+
+-- an entry is one line, and such a one
+pub record IsKeptLine (entry : Entry) : Type 0 where
+  pub one : IsTrue (is_line entry.line)
+  pub kept : IsTrue (is_kept_line entry.line)
+
+-- all that is kept of any text
+abbrev pub KeptLinesAreLines : Type 0
+KeptLinesAreLines = (text : List ℕ) → AllByRecursion IsKeptLine (names_of text).entries
+
+-- the line, unless it is one of a name or a label
+abbrev pub unless_kept : List ℕ → List ℕ
+unless_kept line = if is_kept_line line then [] else line
+
+-- the text without its lines of names and labels
+abbrev pub without_names : List ℕ → List ℕ
+without_names text = flat_map unless_kept (lines text)
+
+-- no line of the text is one of a name or a label
+abbrev pub HasNoNames : List ℕ → Type 0
+HasNoNames text = IsTrue (list_all (λ line. not (is_kept_line line)) (lines text))
+
+-- without these lines a text is what it was, whichever text they were taken from
+abbrev pub TextIsTheSame : Type 0
+TextIsTheSame = (text written : List ℕ) → HasNoNames written → without_names (with_names (names_of text) written) ≡ written
+
+-- these database units are the written distance at this scale, with its sign, and have 32 bits
+pub record IsCoordinate (scale : Scale) (written units : Number) : Type 0 where
+  pub distance : units.magnitude * scale.denominator ≡ 2 * written.magnitude * scale.numerator
+  pub sign : units.negative ≡ written.negative
+  pub bits : units.magnitude ≤ limit_of written.negative
+
+-- a label's coordinate is these units, where there are such, and else the label is left out; a scale's second number of 0 has none
+pub record LabelsAreScaled : Type 0 where
+  pub kept : (scale : Scale) (written units : Number) → scaled scale written ≡ Some units → IsCoordinate scale written units
+  pub only : (scale : Scale) (written units : Number) → 1 ≤ scale.denominator → IsCoordinate scale written units
+      → scaled scale written ≡ Some units

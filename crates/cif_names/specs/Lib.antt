@@ -1,0 +1,10 @@
+pub mod Entries
+pub mod Laws
+pub mod Lines
+pub mod Maps
+pub mod Names
+pub mod Pieces
+pub mod Places
+pub mod Seen
+pub mod Words
+pub mod Woven

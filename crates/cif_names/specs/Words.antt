@@ -1,0 +1,65 @@
+-- Words of a command, and the numbers that they spell.
+use Rattle.std.specs.Prelude.{ℕ, ◌==◌, nat_le, nat_lt, List, [], ◌∷◌, length, Bool, true, false, ◌&&◌, ◌||◌, not, Option, None, Some, option_map}
+use Rattle.std.specs.Prelude.{if◌then◌else◌}
+use Rattle.std.specs.List.{list_all, take_while}
+use Rattle.lay_point.specs.Names.{is_digit}
+use Rattle.byte_io.specs.Decimal.{decimal_value}
+use Rattle.cif_scan.specs.declared.number.Number.{Number}
+use Rattle.cif_scan.specs.Bytes.{skip}
+use Rattle.cif_scan.specs.Numbers.{◌>>=◌}
+
+-- a byte of a word
+abbrev pub is_dark : ℕ → Bool
+is_dark b = nat_lt 32 b
+
+-- a byte between words
+abbrev pub is_space : ℕ → Bool
+is_space b = nat_le b 32
+
+-- a byte or more, and what stands behind them
+abbrev pub word_by : List ℕ → List ℕ → Option (List ℕ × List ℕ)
+word_by [] behind = None
+word_by (b ∷ bs) behind = Some (b ∷ bs, behind)
+
+-- the first word of the bytes, and what stands behind it
+unfoldable pub word_at : List ℕ → Option (List ℕ × List ℕ)
+word_at bytes = let rest = skip is_space bytes in word_by (take_while is_dark rest) (skip is_dark rest)
+
+-- a byte between coordinates: a comma may stand there too
+abbrev pub is_between : ℕ → Bool
+is_between b = is_space b || b == 44
+
+-- a byte of a coordinate
+abbrev pub is_within : ℕ → Bool
+is_within b = is_dark b && not (b == 44)
+
+-- the first coordinate of the bytes, and what stands behind it
+unfoldable pub field_at : List ℕ → Option (List ℕ × List ℕ)
+field_at bytes = let rest = skip is_between bytes in word_by (take_while is_within rest) (skip is_within rest)
+
+-- the word of bytes that have just one
+unfoldable pub only_word : List ℕ → Option (List ℕ)
+only_word bytes = do
+  word ← word_at bytes
+  if list_all is_space word.1 then Some word.0 else None
+
+-- a digit or more and nothing else
+abbrev pub is_number : List ℕ → Bool
+is_number word = nat_lt 0 (length word) && list_all is_digit word
+
+-- the value of decimal digits, unless it is above the limit
+abbrev pub value_up_to : ℕ → List ℕ → Option ℕ
+value_up_to limit digits = if nat_le (decimal_value digits) limit then Some (decimal_value digits) else None
+
+-- the number that the word spells, up to 2^31
+unfoldable pub magnitude_of : List ℕ → Option ℕ
+magnitude_of word = if is_number word then value_up_to 2147483648 word else None
+
+-- a number with this sign
+abbrev pub with_sign : Bool → Option ℕ → Option Number
+with_sign negative magnitude = option_map (λ n. record { negative = negative; magnitude = n }) magnitude
+
+-- the integer that the word spells, with a `-` before it or without
+unfoldable pub integer_of : List ℕ → Option Number
+integer_of [] = with_sign false (magnitude_of [])
+integer_of (b ∷ bs) = if b == 45 then with_sign true (magnitude_of bs) else with_sign false (magnitude_of (b ∷ bs))

@@ -1,0 +1,18 @@
+//! What holds of every text and of what is kept, as calls that do nothing.
+ghost use Rattle.cif_names.specs.Laws.{KeptLinesAreLines, LabelsAreScaled, TextIsTheSame};
+
+/// Each entry that is kept of a text is one line, and begins with `9 `, `94 ` or a space.
+pub fn kept_lines_are_lines()
+    ensures { KeptLinesAreLines }
+{}
+
+/// A text in which no line begins with `9 `, `94 ` or a space, with what is kept of another text in it, is the text again once the
+/// lines that begin so are taken out.
+pub fn without_them_the_text_is_the_same()
+    ensures { TextIsTheSame }
+{}
+
+/// A label's coordinate, times the second number of the definition's scale, is twice the written one times the first.
+pub fn labels_are_scaled()
+    ensures { LabelsAreScaled }
+{}

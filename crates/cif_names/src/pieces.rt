@@ -1,0 +1,29 @@
+//! The commands of a text, one at a time.
+ghost use Rattle.std.specs.Prelude.{◌≡◌, MatchOption};
+ghost use Rattle.cif_read.specs.Meaning.{begins_with_end};
+ghost use Rattle.cif_names.specs.Pieces.{HasNone, IsFirst};
+
+use cif_commands::command_len;
+use cif_scan::{Class, skip};
+
+/// Returns the command at the start of a rest of a text, without its semicolon, and what stands behind that and gaps.
+/// `None` where the text ends or breaks off.
+pub(crate) fn split_piece(rest: &[u8]) -> Option<(&[u8], &[u8])>
+    ensures { MatchOption result (HasNone rest.now) (λ p. IsFirst rest.now p.0.now p.1.now) }
+{
+    if begins_with_end(rest) {
+        return None;
+    }
+    let len = command_len(rest)?;
+    Some((&rest[..len], skip(&rest[len + 1..], Class::Gap)))
+}
+
+/// Returns whether the bytes begin with the `E` that ends a text.
+fn begins_with_end(bytes: &[u8]) -> bool
+    ensures { result ≡ begins_with_end bytes.now }
+{
+    match bytes {
+        [b'E', ..] => true,
+        _ => false,
+    }
+}

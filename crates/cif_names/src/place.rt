@@ -1,0 +1,94 @@
+//! Where a command of a text stands.
+ghost use Rattle.std.specs.Prelude.{◌≡◌};
+ghost use Rattle.cif_names.specs.Places.{after_bracket, layer_at, layered, opened, outside, place_after};
+
+use cif_commands::{Definition, Scale, are_blanks, read_definition, read_layer};
+use cif_scan::{Class, skip};
+use lay_point::LayerName;
+
+/// Where a command stands.
+#[derive(Clone, Copy, Debug)]
+pub(crate) struct Place {
+    /// The symbol whose definition is open.
+    pub symbol: Option<u32>,
+    /// The scale of distances.
+    pub scale: Scale,
+    /// The layer that is set.
+    pub layer: Option<LayerName>,
+}
+
+impl Place {
+    /// Returns the place in no definition, with no layer set.
+    pub fn outside() -> Place
+        ensures { result ≡ outside }
+    {
+        Place {
+            symbol: None,
+            scale: Scale {
+                numerator: 1,
+                denominator: 1,
+            },
+            layer: None,
+        }
+    }
+
+    /// Returns the place behind this command, which stands here.
+    #[tactic(auto, unfolding(crate::specs::Places::place_after))]
+    pub fn after(self, piece: &[u8]) -> Place
+        ensures { result ≡ place_after self piece.now }
+    {
+        match piece {
+            [b'D', behind @ ..] => self.after_bracket(skip(behind, Class::Blank)),
+            [b'L', behind @ ..] => self.layered(layer_at(behind)),
+            _ => self,
+        }
+    }
+
+    /// Returns the place behind a `D`, blanks and these bytes.
+    fn after_bracket(self, bytes: &[u8]) -> Place
+        ensures { result ≡ after_bracket self bytes.now }
+    {
+        match bytes {
+            [b'S', behind @ ..] => self.opened(read_definition(behind)),
+            [b'F', behind @ ..] if are_blanks(behind) => Place::outside(),
+            _ => self,
+        }
+    }
+
+    /// Returns the place in the definition, if there is one.
+    fn opened(self, definition: Option<Definition>) -> Place
+        ensures { result ≡ opened self definition }
+    {
+        match definition {
+            None => self,
+            Some(definition) => Place {
+                symbol: Some(definition.symbol),
+                scale: definition.scale,
+                layer: None,
+            },
+        }
+    }
+
+    /// Returns the place with this layer set, if there is one.
+    fn layered(self, layer: Option<LayerName>) -> Place
+        ensures { result ≡ layered self layer }
+    {
+        match layer {
+            None => self,
+            Some(layer) => Place {
+                symbol: self.symbol,
+                scale: self.scale,
+                layer: Some(layer),
+            },
+        }
+    }
+}
+
+/// Returns the layer behind an `L`.
+#[tactic(auto, unfolding(crate::specs::Places::layer_at))]
+fn layer_at(bytes: &[u8]) -> Option<LayerName>
+    ensures { result ≡ layer_at bytes.now }
+{
+    let name = read_layer(bytes)?;
+    LayerName::new(name)
+}
