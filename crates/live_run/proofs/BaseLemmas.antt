@@ -1,0 +1,108 @@
+-- What the layout of a head tells of its lines.
+use Rattle.std.proofs.Common.{◌≡◌, ℕ, ◌+◌, ◌⊎◌, List, Bool, true, Result, Ok, Err, inl, inr, refl, sym, ap, ◌∙◌, subst}
+use Rattle.std.specs.Prelude.{Vec}
+use Rattle.std.specs.declared.alloc.Global.{Global}
+use Rattle.cif_read.specs.declared.fault.CifFault.{CifFault}
+use Rattle.cif_read.specs.declared.fault.FaultKind.{FaultKind}
+use Rattle.cif_read.specs.declared.fault.FaultKind.TheVariants.{NoMemory as CifMemory}
+use Rattle.cif_read.specs.Contents.{Contents}
+use Rattle.cif_read.specs.Meaning.{IsMeaning}
+use Rattle.lay_items.specs.FromCif.{layout_of}
+use Rattle.lay_items.specs.Layout.{Layout}
+use Rattle.job_text.specs.declared.job.JobFault.{JobFault}
+use Rattle.job_text.specs.declared.job.JobFault.TheVariants.{Line, NoMemory as JobMemory}
+use Rattle.job_text.specs.Job.{job_of}
+use Rattle.job_live.specs.Live.{Run, begun, run_of}
+use Rattle.job_live.specs.declared.live.Live.{Live}
+use Rattle.live_run.specs.declared.base.HeadFault.{HeadFault}
+use Rattle.live_run.specs.declared.base.HeadFault.TheVariants.{Cif as CifHead, Job as JobHead, Memory as MemoryHead}
+use Rattle.live_run.specs.declared.course.Course.TheVariants.{Steps}
+use Rattle.live_run.specs.Cif.{cif_from}
+use Rattle.live_run.specs.Course.{HeadTo, IsBaseFrom, IsBaseOf, Opens, Refuses, end_of_head, head_cif, head_kind}
+
+-- a fault of a CIF text is a head's, or out of memory
+of_kind : (fault : CifFault) (kind : FaultKind) → (head_kind fault kind ≡ MemoryHead) ⊎ (head_kind fault kind ≡ CifHead fault)
+of_kind fault CifMemory = inl refl
+of_kind fault kind = inr refl
+
+by_cif : (fault : CifFault) → (head_cif fault ≡ MemoryHead) ⊎ (head_cif fault ≡ CifHead fault)
+by_cif fault = of_kind fault fault.kind
+
+-- ---- a layout
+
+abbrev IsFile : Result (List ℕ) JobFault → Layout → Type 0
+IsFile from base = (cif : List ℕ) × (file : Contents) × (from ≡ Ok cif) × IsMeaning cif (Ok file) × (base ≡ layout_of file)
+
+file_of : (from : Result (List ℕ) JobFault) (base : Layout) → IsBaseFrom from (Ok base) → IsFile from base
+file_of (Err fault) base is = absurd (let e = is in cc)
+file_of (Ok cif) base (Err fault, means, is) = absurd (let e = is in cc)
+file_of (Ok cif) base (Ok file, means, is) = let same : base ≡ layout_of file = cc in (cif, file, refl, means, same)
+
+pub base_file : (head : List ℕ) (number : ℕ) (base : Layout) → IsBaseOf head number (Ok base)
+    → IsFile (cif_from number true (job_of head)) base
+unfolding IsBaseOf
+base_file head number base (inl none) = absurd (let e = none in cc)
+base_file head number base (inr is) = file_of (cif_from number true (job_of head)) base is
+
+pub opens : (head : List ℕ) (number : ℕ) (base : Layout) (run : Run) → IsBaseOf head number (Ok base) → run ≡ begun base
+    → Opens head number run
+opens head number base run is new =
+    let (cif, file, from, means, same) = base_file head number base is in (cif, file, from, means, new ∙ ap begun same)
+
+-- ---- a fault
+
+abbrev fault_on : ℕ → Result (List ℕ) JobFault
+fault_on line = Err (Line line)
+
+job_of_fault : (from : Result (List ℕ) JobFault) (line : ℕ) → IsBaseFrom from (Err (JobHead line)) → from ≡ Err (Line line)
+job_of_fault (Err (Line n)) line is = let same : line ≡ n = cc in ap fault_on (sym same)
+job_of_fault (Err JobMemory) line is = absurd (let e = is in cc)
+job_of_fault (Ok cif) line (Ok file, means, is) = absurd (let e = is in cc)
+job_of_fault (Ok cif) line (Err fault, means, is) =
+    elim (by_cif fault) [
+      | inl e ↦ absurd (let h = is in let k = e in cc)
+      | inr e ↦ absurd (let h = is in let k = e in cc)
+    ]
+
+pub base_job : (head : List ℕ) (number line : ℕ) → IsBaseOf head number (Err (JobHead line))
+    → cif_from number true (job_of head) ≡ Err (Line line)
+unfolding IsBaseOf
+base_job head number line (inl none) = absurd (let e = none in cc)
+base_job head number line (inr is) = job_of_fault (cif_from number true (job_of head)) line is
+
+abbrev IsFaulty : Result (List ℕ) JobFault → CifFault → Type 0
+IsFaulty from fault = (cif : List ℕ) × (from ≡ Ok cif) × IsMeaning cif (Err fault)
+
+cif_of_fault : (from : Result (List ℕ) JobFault) (fault : CifFault) → IsBaseFrom from (Err (CifHead fault)) → IsFaulty from fault
+cif_of_fault (Err (Line n)) fault is = absurd (let e = is in cc)
+cif_of_fault (Err JobMemory) fault is = absurd (let e = is in cc)
+cif_of_fault (Ok cif) fault (Ok file, means, is) = absurd (let e = is in cc)
+cif_of_fault (Ok cif) fault (Err other, means, is) =
+    elim (by_cif other) [
+      | inl e ↦ absurd (let h = is in let k = e in cc)
+      | inr e ↦
+          let same : other ≡ fault = let h = is in let k = e in cc in
+          (cif, refl, subst (λ (f : CifFault). IsMeaning cif (Err f)) same means)
+    ]
+
+pub base_cif : (head : List ℕ) (number : ℕ) (fault : CifFault) → IsBaseOf head number (Err (CifHead fault))
+    → IsFaulty (cif_from number true (job_of head)) fault
+unfolding IsBaseOf
+base_cif head number fault (inl none) = absurd (let e = none in cc)
+base_cif head number fault (inr is) = cif_of_fault (cif_from number true (job_of head)) fault is
+
+-- with this fault no run begins
+pub refuses : (head : List ℕ) (number : ℕ) (fault : HeadFault) (text : Vec ℕ Global) → text.items ≡ head → IsBaseOf head number (Err fault)
+    → Refuses true head number (end_of_head fault text)
+refuses head number (JobHead line) text same is = (base_job head number line is, same)
+refuses head number (CifHead fault) text same is =
+    let (cif, from, means) = base_cif head number fault is in (cif, from, means, same)
+refuses head number MemoryHead text same is = tt
+
+-- ---- a live line
+
+pub head_opens : (t : Bool) (head : List ℕ) (count number : ℕ) (line : List ℕ) (live : Live) → t ≡ true → number ≡ count + 1
+    → Opens head number (run_of live) → HeadTo t head count line (Ok (Steps live))
+head_opens t head count number line live is next opens =
+    subst (λ (b : Bool). HeadTo b head count line (Ok (Steps live))) (sym is)
+    (run_of live, subst (λ (n : ℕ). Opens head n (run_of live)) next opens, refl)

@@ -1,0 +1,142 @@
+-- Where a live run stands between two lines, and what the next line leads to.
+use Rattle.std.specs.Prelude.{◌≡◌, ℕ, ◌+◌, ◌⊎◌, ⊤, List, ◌++◌, Bool, true, false, Option, Result, Ok, Err, Vec}
+use Rattle.byte_io.specs.Device.{WroteAll, WrotePrefix}
+use Rattle.std.specs.declared.alloc.Global.{Global}
+use Rattle.cif_read.specs.declared.fault.CifFault.{CifFault}
+use Rattle.cif_read.specs.declared.fault.FaultKind.{FaultKind}
+use Rattle.cif_read.specs.declared.fault.FaultKind.TheVariants.{NoMemory as CifMemory}
+use Rattle.cif_read.specs.Contents.{Contents}
+use Rattle.cif_read.specs.Meaning.{IsMeaning}
+use Rattle.cif_write.specs.declared.writer.WriteFault.{WriteFault}
+use Rattle.cif_write.specs.declared.writer.WriteFault.TheVariants.{Device as DeviceFault, NoMemory}
+use Rattle.lay_items.specs.FromCif.{layout_of}
+use Rattle.lay_items.specs.Layout.{Layout}
+use Rattle.job_text.specs.declared.job.JobFault.{JobFault}
+use Rattle.job_text.specs.declared.job.JobFault.TheVariants.{Line, NoMemory as JobMemory}
+use Rattle.job_text.specs.Job.{job_of}
+use Rattle.job_live.specs.declared.live.Live.{Live}
+use Rattle.job_live.specs.Live.{Run, Said, after_line, begun, run_of}
+use Rattle.live_run.specs.declared.base.HeadFault.{HeadFault}
+use Rattle.live_run.specs.declared.base.HeadFault.TheVariants.{Cif as CifHead, Job as JobHead, Memory as MemoryHead}
+use Rattle.live_run.specs.declared.course.Course.{Course}
+use Rattle.live_run.specs.declared.course.Course.TheVariants.{Head, Steps}
+use Rattle.live_run.specs.declared.ending.LiveEnd.{LiveEnd}
+use Rattle.live_run.specs.declared.ending.LiveEnd.TheVariants.{Cif, Device, Done, Job, Memory}
+use Rattle.live_run.specs.Cif.{cif_from, is_live}
+use Rattle.live_run.specs.Said.{closing, said_text}
+
+-- before the live line, the lines so far, joined, and how many they are; behind it, the run
+pub data Phase : Type 0 where
+  InHead : List ℕ → ℕ → Phase
+  InSteps : Run → Phase
+
+-- what contracts see of a course
+abbrev pub phase_of : Course → Phase
+phase_of (Head text count) = InHead text.items count
+phase_of (Steps live) = InSteps (run_of live)
+
+-- ---- the head of a run: its lines in front of the live line
+
+-- the fault of a head at a fault of its job
+abbrev pub head_job : JobFault → HeadFault
+head_job (Line line) = JobHead line
+head_job JobMemory = MemoryHead
+
+-- the fault of a head at a fault of this kind
+abbrev pub head_kind : CifFault → FaultKind → HeadFault
+head_kind fault CifMemory = MemoryHead
+head_kind fault kind = CifHead fault
+
+-- the fault of a head at a fault of its CIF text
+abbrev pub head_cif : CifFault → HeadFault
+head_cif fault = head_kind fault fault.kind
+
+-- the end of a run whose head has this fault and this text
+abbrev pub end_of_head : HeadFault → Vec ℕ Global → LiveEnd
+end_of_head (JobHead line) text = Job line text
+end_of_head (CifHead fault) text = Cif fault text
+end_of_head MemoryHead text = Memory
+
+-- the layout of a CIF text that means this
+abbrev pub base_with : Result Contents CifFault → Result Layout HeadFault
+base_with (Ok file) = Ok (layout_of file)
+base_with (Err fault) = Err (head_cif fault)
+
+-- the layout of a head with this CIF text
+abbrev pub IsBaseFrom : Result (List ℕ) JobFault → Result Layout HeadFault → Type 0
+IsBaseFrom (Err fault) result = result ≡ Err (head_job fault)
+IsBaseFrom (Ok cif) result = (meaning : Result Contents CifFault) × IsMeaning cif meaning × (result ≡ base_with meaning)
+
+-- the layout on which a run begins behind this head, where the live line has this number; or out of memory in its place
+unfoldable pub IsBaseOf : List ℕ → ℕ → Result Layout HeadFault → Type 0
+IsBaseOf head number result = (result ≡ Err MemoryHead) ⊎ IsBaseFrom (cif_from number true (job_of head)) result
+
+-- a run begins behind this head
+abbrev pub Opens : List ℕ → ℕ → Run → Type 0
+Opens head number run =
+    (cif : List ℕ) × (file : Contents) × (cif_from number true (job_of head) ≡ Ok cif) × IsMeaning cif (Ok file)
+    × (run ≡ begun (layout_of file))
+
+-- none does, by whether there is a live line
+abbrev pub Refuses : Bool → List ℕ → ℕ → LiveEnd → Type 0
+Refuses live head number Done = ⊥
+Refuses live head number (Job line text) = (cif_from number live (job_of head) ≡ Err (Line line)) × (text.items ≡ head)
+Refuses live head number (Cif fault text) =
+    (cif : List ℕ) × (cif_from number live (job_of head) ≡ Ok cif) × IsMeaning cif (Err fault) × (text.items ≡ head)
+Refuses live head number Device = ⊥
+Refuses live head number Memory = ⊤
+
+-- a run begins behind this head, or none does
+abbrev pub OpensTo : List ℕ → ℕ → Result Live LiveEnd → Type 0
+OpensTo head number (Ok live) = Opens head number (run_of live)
+OpensTo head number (Err end) = Refuses true head number end
+
+-- ---- a line
+
+-- the end of a run at a fault of what it writes
+abbrev pub end_of_write : WriteFault → LiveEnd
+end_of_write DeviceFault = Device
+end_of_write NoMemory = Memory
+
+-- what a line behind this head leads to, by whether it is live
+abbrev pub HeadTo : Bool → List ℕ → ℕ → List ℕ → Result Course LiveEnd → Type 0
+HeadTo false head count line (Ok course) = phase_of course ≡ InHead (head ++ line) (count + 1)
+HeadTo false head count line (Err end) = end ≡ Memory
+HeadTo true head count line (Ok course) = (run : Run) × Opens head (count + 1) run × (phase_of course ≡ InSteps run)
+HeadTo true head count line (Err end) = Refuses true head (count + 1) end
+
+module _ {O : Type 0} (written : O → Option (List ℕ)) (failures : O → ℕ) (out out' : O) where
+  -- the text was written; or the device failed, and a prefix was; or memory was refused, and nothing was
+  abbrev pub Puts : {A : Type 0} → List ℕ → Result A WriteFault → Type 0
+  Puts text (Ok x) = WroteAll written failures out out' text
+  Puts text (Err DeviceFault) = WrotePrefix written failures out out' text
+  Puts text (Err NoMemory) = out' ≡ out
+
+  -- what a line of a run leads to, which leaves this and is answered so
+  abbrev pub AnswersTo : Run × Said → Result Course LiveEnd → Type 0
+  AnswersTo said (Ok course) = (phase_of course ≡ InSteps said.0) × WroteAll written failures out out' (said_text said)
+  AnswersTo said (Err Done) = ⊥
+  AnswersTo said (Err (Job line text)) = ⊥
+  AnswersTo said (Err (Cif fault text)) = ⊥
+  AnswersTo said (Err Device) = WrotePrefix written failures out out' (said_text said)
+  AnswersTo said (Err Memory) = out' ≡ out
+
+  -- what a line leads to
+  abbrev pub HearsTo : Phase → List ℕ → Result Course LiveEnd → Type 0
+  HearsTo (InHead head count) line result = (out' ≡ out) × HeadTo (is_live line) head count line result
+  HearsTo (InSteps run) line result = AnswersTo (after_line run line) result
+
+  -- ---- the end
+
+  -- what the end of the input leads to in a run
+  abbrev pub RunCloses : Run → LiveEnd → Type 0
+  RunCloses run Done = WroteAll written failures out out' (closing run)
+  RunCloses run (Job line text) = ⊥
+  RunCloses run (Cif fault text) = ⊥
+  RunCloses run Device = WrotePrefix written failures out out' (closing run)
+  RunCloses run Memory = out' ≡ out
+
+  -- what the end of the input leads to
+  abbrev pub ClosesTo : Phase → LiveEnd → Type 0
+  ClosesTo (InHead head count) end = (out' ≡ out) × Refuses false head (count + 1) end
+  ClosesTo (InSteps run) end = RunCloses run end

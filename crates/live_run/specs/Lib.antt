@@ -1,0 +1,5 @@
+pub mod Cif
+pub mod Said
+pub mod Ending
+pub mod Course
+pub mod Ear

@@ -1,0 +1,61 @@
+//! How a live run ends.
+ghost use Rattle.std.specs.Prelude.{◌≡◌};
+ghost use Rattle.live_run.specs.declared.ending.LiveEnd.TheVariants.{Device as DeviceEnd, Memory as MemoryEnd};
+ghost use Rattle.live_run.specs.Course.{end_of_write};
+
+use byte_io::InFault;
+use cif_read::CifFault;
+use cif_write::WriteFault;
+use lay_point::NoMemory;
+
+/// How a live run ended.
+#[derive(Debug, Drop)]
+pub enum LiveEnd {
+    /// The input came to its end, and each line is answered.
+    Done,
+    /// The job in front of the line `%live` has a fault, or a script, or there is no such line. Nothing is written.
+    Job {
+        /// The first line with a fault, counted from 1; 0 where the job is too long.
+        line: u32,
+        /// The lines before `%live`.
+        text: Vec<u8>,
+    },
+    /// The job's CIF text has a fault. Nothing is written.
+    Cif {
+        /// The first fault.
+        fault: CifFault,
+        /// The lines before `%live`.
+        text: Vec<u8>,
+    },
+    /// A device failed, or the input gave bytes in each of 33,554,432 reads.
+    Device,
+    /// A growth of memory was refused. What is written answers some first lines.
+    Memory,
+}
+
+impl From<NoMemory> for LiveEnd {
+    ghost from_gives = { λ _ end. end ≡ MemoryEnd };
+
+    fn from(_refused: NoMemory) -> LiveEnd {
+        LiveEnd::Memory
+    }
+}
+
+impl From<WriteFault> for LiveEnd {
+    ghost from_gives = { λ fault end. end ≡ end_of_write fault };
+
+    fn from(fault: WriteFault) -> LiveEnd {
+        match fault {
+            WriteFault::Device => LiveEnd::Device,
+            WriteFault::NoMemory => LiveEnd::Memory,
+        }
+    }
+}
+
+impl From<InFault> for LiveEnd {
+    ghost from_gives = { λ _ end. end ≡ DeviceEnd };
+
+    fn from(_failed: InFault) -> LiveEnd {
+        LiveEnd::Device
+    }
+}
