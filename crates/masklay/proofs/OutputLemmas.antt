@@ -1,5 +1,5 @@
 -- What is kept of the input decides the output.
-use Rattle.std.proofs.Common.{◌≡◌, ℕ, ◌<◌, Bool, List, OnErr, OnOk, Option, Result, false, length}
+use Rattle.std.proofs.Common.{◌≡◌, ℕ, ◌<◌, Bool, List, OnErr, OnOk, Option, Some, Result, false, length}
 use Rattle.std.proofs.Common.{true, take, Ok, Err, inl, inr, refl, sym, ap, subst, ◌∙◌, arith}
 use Rattle.std.proofs.lemmas.Bool.{cases_lt}
 use Rattle.std.specs.Result.{is_err}
@@ -14,9 +14,13 @@ use Rattle.masklay.specs.declared.program.outcome.Finished.{Finished}
 use Rattle.masklay.specs.declared.program.outcome.Stop.{Stop}
 use Rattle.cif_read.proofs.OneMeaning.{one_meaning}
 use Rattle.masklay.specs.Outcome.{IsOutcome, IsOutcomeOf, finished_with}
+use Rattle.cif_names.specs.declared.names.Names.{Names}
+use Rattle.cif_names.specs.Names.{names_of}
+use Rattle.masklay.specs.Asked.{Asked}
+use Rattle.masklay.specs.Named.{cif_in, names_for, names_in}
 use Rattle.masklay.specs.Oriented.{AnswersGiven, IsGiven}
 use Rattle.masklay.specs.Threads.{BecomesOf, IsThreadedOutcome, IsThreadedOutcomeOf}
-use Rattle.masklay.specs.Output.{Ends, IsOutput, Output, Writes, WritesOrMemory, output_from}
+use Rattle.masklay.specs.Output.{Ends, IsOutput, Output, Writes, WritesOrMemory, in_turns, output_from, written_output}
 use Rattle.masklay.specs.Reading.{kept_of}
 
 too_long_job : (bytes : List ℕ) → 16777216 < length bytes → job_of bytes ≡ Err (Line 0)
@@ -45,18 +49,26 @@ kept_given : (threaded oriented : Bool) (bytes : List ℕ) (given : Result Finis
 kept_given threaded false bytes given is = kept_outcome threaded bytes given is
 kept_given threaded true bytes given (outcome, is, directed) = (outcome, kept_outcome threaded bytes outcome is, directed)
 
+-- the same names and labels
+kept_names : (named : Bool) (bytes : List ℕ) → names_in named (kept_of bytes) ≡ names_in named bytes
+kept_names false bytes = refl
+kept_names true bytes = ap (λ (job : Result Job JobFault). Some (names_of (cif_in job))) (kept_job bytes)
+
 -- and its output
-pub kept_output : (threaded oriented : Bool) (bytes : List ℕ) (output : Output) → IsOutput threaded oriented (kept_of bytes) output
-    → IsOutput threaded oriented bytes output
-kept_output threaded oriented bytes output (outcome, is, same) = (outcome, kept_given threaded oriented bytes outcome is, same)
+pub kept_output : (asked : Asked) (bytes : List ℕ) (output : Output) → IsOutput asked (kept_of bytes) output → IsOutput asked bytes output
+kept_output asked bytes output (outcome, is, same) = (
+  outcome,
+  kept_given asked.threaded asked.oriented bytes outcome is,
+  same ∙ ap (λ (names : Option Names). output_from names outcome) (kept_names asked.named bytes),
+)
 
 -- what was kept of the input has the input's output
-pub kept_ends : {S : Type 0} (written : S → Option (List ℕ)) (failures : S → ℕ) (old new : S) (threaded oriented : Bool)
-    (bytes : List ℕ) (status : Status) → Ends written failures old new threaded oriented (kept_of bytes) status
-    → Ends written failures old new threaded oriented bytes status
-kept_ends written failures old new threaded oriented bytes status (inl (output, is, wrote)) =
-    inl (output, kept_output threaded oriented bytes output is, wrote)
-kept_ends written failures old new threaded oriented bytes status (inr refused) = inr refused
+pub kept_ends : {S : Type 0} (written : S → Option (List ℕ)) (failures : S → ℕ) (old new : S) (asked : Asked)
+    (bytes : List ℕ) (status : Status) → Ends written failures old new asked (kept_of bytes) status
+    → Ends written failures old new asked bytes status
+kept_ends written failures old new asked bytes status (inl (output, is, wrote)) =
+    inl (output, kept_output asked bytes output is, wrote)
+kept_ends written failures old new asked bytes status (inr refused) = inr refused
 
 -- ---- bytes have one output, where sessions take turns and shapes stay
 
@@ -69,21 +81,34 @@ one_outcome : (bytes : List ℕ) (a b : Result Finished Stop) → IsOutcome byte
 unfolding IsOutcome
 one_outcome bytes a b is same = one_outcome_of (job_of bytes) a b is same
 
-pub one_output : (bytes : List ℕ) (a b : Output) → IsOutput false false bytes a → IsOutput false false bytes b → a ≡ b
-one_output bytes a b (outcome, is, given) (other, same, put) =
-    given ∙ ap output_from (one_outcome bytes outcome other is same) ∙ sym put
+pub one_output : (named : Bool) (bytes : List ℕ) (a b : Output) → IsOutput (in_turns named) bytes a → IsOutput (in_turns named) bytes b
+    → a ≡ b
+one_output named bytes a b (outcome, is, given) (other, same, put) =
+    given ∙ ap (output_from (names_in named bytes)) (one_outcome bytes outcome other is same) ∙ sym put
 
 -- ---- what is written of an outcome ends the program
 
-pub ends_by : {S : Type 0} (written : S → Option (List ℕ)) (failures : S → ℕ) (old new : S) (threaded oriented : Bool)
-    (bytes : List ℕ) (outcome : Result Finished Stop) (status : Status) → AnswersGiven threaded oriented bytes outcome
-    → WritesOrMemory written failures old new (output_from outcome) status
-    → Ends written failures old new threaded oriented bytes status
-ends_by written failures old new threaded oriented bytes outcome status (inr is) (inl wrote) =
-    inl (output_from outcome, (outcome, is, refl), wrote)
-ends_by written failures old new threaded oriented bytes outcome status is (inr refused) = inr refused
-ends_by written failures old new threaded oriented bytes outcome status (inl none) (inl wrote) =
-    inr (subst (λ (o : Result Finished Stop). Writes written failures old new (output_from o) status) none wrote)
+pub ends_by : {S : Type 0} (written : S → Option (List ℕ)) (failures : S → ℕ) (old new : S) (asked : Asked)
+    (bytes : List ℕ) (outcome : Result Finished Stop) (status : Status) → AnswersGiven asked.threaded asked.oriented bytes outcome
+    → WritesOrMemory written failures old new (output_from (names_in asked.named bytes) outcome) status
+    → Ends written failures old new asked bytes status
+ends_by written failures old new asked bytes outcome status (inr is) (inl wrote) =
+    inl (output_from (names_in asked.named bytes) outcome, (outcome, is, refl), wrote)
+ends_by written failures old new asked bytes outcome status is (inr refused) = inr refused
+ends_by written failures old new asked bytes outcome status (inl none) (inl wrote) =
+    inr (subst (λ (o : Result Finished Stop). Writes written failures old new (output_from (names_in asked.named bytes) o) status)
+    none wrote)
+
+-- where the names and labels are the job's, as far as the layout has symbols for them
+pub ends_named : {S : Type 0} (written : S → Option (List ℕ)) (failures : S → ℕ) (old new : S) (asked : Asked)
+    (bytes : List ℕ) (names : Option Names) (finished : Finished) (status : Status)
+    → names ≡ names_for (names_in asked.named bytes) finished.layout
+    → AnswersGiven asked.threaded asked.oriented bytes (Ok finished)
+    → WritesOrMemory written failures old new (written_output names finished) status
+    → Ends written failures old new asked bytes status
+ends_named written failures old new asked bytes names finished status same is wrote =
+    ends_by written failures old new asked bytes (Ok finished) status is
+    (subst (λ (n : Option Names). WritesOrMemory written failures old new (written_output n finished) status) same wrote)
 
 -- ---- what a call's clauses say where its answer was tested
 

@@ -1,29 +1,55 @@
--- How the program ends where its command line has an argument. The first word names the program.
-use Rattle.std.specs.Prelude.{◌≡◌, ℕ, ◌⊎◌, Bool, false, List, [], ◌∷◌, Option, String, codes, string_bytes}
+-- What the words of a command line ask for, and how the program ends early. The first word names the program.
+use Rattle.std.specs.Prelude.{◌≡◌, ℕ, ◌⊎◌, Bool, true, false, List, [], ◌∷◌, Option, String, codes, string_bytes}
 use Rattle.std.specs.Global.{Global}
 use Rattle.std.specs.List.{list_any}
 use Rattle.std.specs.Str.{bytes_eq}
+use Rattle.byte_io.specs.Input.{Counts}
+use Rattle.masklay.specs.declared.command_line.Wish.{Wish}
+use Rattle.masklay.specs.declared.command_line.Wish.TheVariants.{Job, Live}
 use Rattle.masklay.specs.declared.program.status.Status.{Status}
 use Rattle.masklay.specs.declared.program.status.Status.TheVariants.{CommandLine, Done}
+use Rattle.masklay.specs.Asked.{Asked, asked_of}
+use Rattle.masklay.specs.Live.{IsLive}
 use Rattle.masklay.specs.Output.{Writes, memory_output}
+use Rattle.masklay.specs.Run.{IsRun}
 
--- the argument that asks for threads
-abbrev pub is_threaded : String Global → Bool
-is_threaded word = bytes_eq (string_bytes word) (codes "--threaded")
+-- whether the word is this option
+abbrev pub is_option : List ℕ → String Global → Bool
+is_option option word = bytes_eq (string_bytes word) option
 
--- whether one of the arguments does, which are the words after the first
-abbrev pub asks_for_threads : List (String Global) → Bool
-asks_for_threads [] = false
-asks_for_threads (name ∷ arguments) = list_any is_threaded arguments
+-- whether one of the arguments is, which are the words after the first
+abbrev pub asks : List ℕ → List (String Global) → Bool
+asks option [] = false
+asks option (name ∷ arguments) = list_any (is_option option) arguments
 
--- the argument that asks for directed shapes
-abbrev pub is_oriented : String Global → Bool
-is_oriented word = bytes_eq (string_bytes word) (codes "--oriented")
+-- whether a live run is asked for
+abbrev pub asks_to_live : List (String Global) → Bool
+asks_to_live words = asks (codes "--live") words
 
--- whether one of the arguments does
-abbrev pub asks_for_directions : List (String Global) → Bool
-asks_for_directions [] = false
-asks_for_directions (name ∷ arguments) = list_any is_oriented arguments
+-- what a job's run is asked for
+abbrev pub asked_in : List (String Global) → Asked
+asked_in words = record {
+  threaded = asks (codes "--threaded") words;
+  oriented = asks (codes "--oriented") words;
+  named = asks (codes "--names") words;
+}
+
+-- nothing beside the run of a job
+abbrev pub nothing_asked : Asked
+nothing_asked = record { threaded = false; oriented = false; named = false }
+
+-- what is to be run for these words
+abbrev pub Says : Wish → List (String Global) → Type 0
+Says (Job options) words = (asks_to_live words ≡ false) × (asked_of options ≡ asked_in words)
+Says (Live workers) words = asks_to_live words ≡ true
+
+-- from the old devices to the new: the run of a job that was asked so, or a live run
+abbrev pub Runs : {I O : Type 0} → Bool → Asked → (I → Option (List ℕ)) → (I → Counts) → (O → Option (List ℕ)) → (O → ℕ)
+    → I → I → O → O → Status → Type 0
+Runs false asked remaining counts written failures input input' out out' status =
+    IsRun asked remaining counts written failures input input' out out' status
+Runs true asked remaining counts written failures input input' out out' status =
+    IsLive remaining counts written failures input input' out out' status
 
 -- From the old devices to the new: a text of help was written to the output, or one of what is wrong to the errors, or
 -- memory was refused and the output has the line that says so; and the other device is as it was.

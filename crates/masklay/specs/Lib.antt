@@ -2,7 +2,10 @@ pub mod Reading
 pub mod Outcome
 pub mod Threads
 pub mod Oriented
+pub mod Asked
+pub mod Named
 pub mod Output
 pub mod Run
 pub mod Launch
 pub mod Telling
+pub mod Live

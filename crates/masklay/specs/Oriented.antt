@@ -19,10 +19,15 @@ abbrev pub IsGiven : Bool → Bool → List ℕ → Result Finished Stop → Typ
 IsGiven threaded false bytes given = BecomesOf threaded bytes given
 IsGiven threaded true bytes given = (outcome : Result Finished Stop) × BecomesOf threaded bytes outcome × IsDirectedOutcome outcome given
 
--- what is given out, without the number of shapes that stay
+-- the replies, the order and the layout of what is given out
 abbrev pub finished_part : Result Given Stop → Result Finished Stop
 finished_part (Ok given) = Ok given.finished
 finished_part (Err stop) = Err stop
+
+-- the same of a layout that is directed, with how many shapes stay
+abbrev pub directed_part : Result (Finished × ℕ) Stop → Result Finished Stop
+directed_part (Ok directed) = Ok directed.0
+directed_part (Err stop) = Err stop
 
 -- the same, or out of memory in its place
 abbrev pub AnswersGiven : Bool → Bool → List ℕ → Result Finished Stop → Type 0

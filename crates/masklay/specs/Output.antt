@@ -10,6 +10,9 @@ use Rattle.masklay.specs.declared.program.outcome.Stop.TheVariants.{JobFault, Ci
 use Rattle.masklay.specs.declared.program.status.Status.{Status}
 use Rattle.masklay.specs.declared.program.status.Status.TheVariants.{Done, CommandLine, Job, Cif, Device, Memory, Desk}
 use Rattle.job_text.specs.Order.{order_text}
+use Rattle.cif_names.specs.declared.names.Names.{Names}
+use Rattle.masklay.specs.Asked.{Asked}
+use Rattle.masklay.specs.Named.{names_for, names_in, text_with}
 use Rattle.masklay.specs.Oriented.{IsGiven}
 use Rattle.job_text.specs.Replies.{replies_text}
 
@@ -53,27 +56,36 @@ stop_output (CifStop fault) = record { text = cif_fault_text fault; status = Cif
 stop_output DeskFault = record { text = desk_fault_text; status = Desk }
 stop_output NoMemory = memory_output
 
--- the comments of the replies and of the order, and the text of the layout
-abbrev pub finished_output : Finished → Output
-finished_output finished = record {
-  text = (replies_text finished.replies ++ order_text finished.order) ++ text finished.layout;
+-- the comments of the replies and of the order, and the text of the layout with these names and labels in it, if there are any
+abbrev pub written_output : Option Names → Finished → Output
+written_output names finished = record {
+  text = (replies_text finished.replies ++ order_text finished.order) ++ text_with names (text finished.layout);
   status = Done;
 }
 
+-- the same, of names and labels those of the layout's symbols and of no symbol
+abbrev pub finished_output : Option Names → Finished → Output
+finished_output names finished = written_output (names_for names finished.layout) finished
+
 -- what is written where this became of the job
-abbrev pub output_from : Result Finished Stop → Output
-output_from (Ok finished) = finished_output finished
-output_from (Err stop) = stop_output stop
+abbrev pub output_from : Option Names → Result Finished Stop → Output
+output_from names (Ok finished) = finished_output names finished
+output_from names (Err stop) = stop_output stop
 
--- what the program writes, and how it ends, where its input is these bytes, by whether sessions run in threads and whether shapes
--- are directed
-abbrev pub IsOutput : Bool → Bool → List ℕ → Output → Type 0
-IsOutput threaded oriented bytes output =
-    (outcome : Result Finished Stop) × IsGiven threaded oriented bytes outcome × (output ≡ output_from outcome)
+-- what the program writes, and how it ends, where its input is these bytes and it is asked so
+abbrev pub IsOutput : Asked → List ℕ → Output → Type 0
+IsOutput asked bytes output =
+    (outcome : Result Finished Stop) × IsGiven asked.threaded asked.oriented bytes outcome
+    × (output ≡ output_from (names_in asked.named bytes) outcome)
 
--- where sessions take turns and shapes stay as they are, an input has no two outputs
+-- sessions take turns and shapes stay as they are
+abbrev pub in_turns : Bool → Asked
+in_turns named = record { threaded = false; oriented = false; named = named }
+
+-- asked so, an input has no two outputs
 abbrev pub HasOneOutput : Type 0
-HasOneOutput = (bytes : List ℕ) (a b : Output) → IsOutput false false bytes a → IsOutput false false bytes b → a ≡ b
+HasOneOutput =
+    (named : Bool) (bytes : List ℕ) (a b : Output) → IsOutput (in_turns named) bytes a → IsOutput (in_turns named) bytes b → a ≡ b
 
 -- From the old device to the new: all of the output was written and nothing else, and the program ended with its status;
 -- or the device failed, and a prefix was written.
@@ -89,7 +101,7 @@ WritesOrMemory written failures old new output status =
 
 -- From the old device to the new: the output of these bytes was written so; or a growth of memory was refused, and the line
 -- that says so was.
-abbrev pub Ends : {S : Type 0} → (S → Option (List ℕ)) → (S → ℕ) → S → S → Bool → Bool → List ℕ → Status → Type 0
-Ends written failures old new threaded oriented bytes status =
-    ((output : Output) × IsOutput threaded oriented bytes output × Writes written failures old new output status)
+abbrev pub Ends : {S : Type 0} → (S → Option (List ℕ)) → (S → ℕ) → S → S → Asked → List ℕ → Status → Type 0
+Ends written failures old new asked bytes status =
+    ((output : Output) × IsOutput asked bytes output × Writes written failures old new output status)
     ⊎ Writes written failures old new memory_output status

@@ -1,20 +1,20 @@
 -- How a run of the program ended.
-use Rattle.std.specs.Prelude.{◌≡◌, ◌≢◌, ℕ, ◌+◌, ◌<◌, ◌≤◌, ◌⊎◌, Bool, List, Option, Some}
+use Rattle.std.specs.Prelude.{◌≡◌, ◌≢◌, ℕ, ◌+◌, ◌<◌, ◌≤◌, ◌⊎◌, List, Option, Some}
 use Rattle.byte_io.specs.Input.{Counts}
 use Rattle.masklay.specs.declared.program.reading.TheConstants.{MAX_READS}
 use Rattle.masklay.specs.declared.program.status.Status.{Status}
 use Rattle.masklay.specs.declared.program.status.Status.TheVariants.{Device}
+use Rattle.masklay.specs.Asked.{Asked}
 use Rattle.masklay.specs.Output.{Ends, Writes, memory_output}
 use Rattle.masklay.specs.Reading.{IsEndless}
 
--- from the old input and output device to the new, where the program ended with this status; by whether sessions run in threads
--- and whether shapes are directed
-pub record IsRun {I O : Type 0} (threaded oriented : Bool) (remaining : I → Option (List ℕ)) (counts : I → Counts)
+-- from the old input and output device to the new, where the program was asked so and ended with this status
+pub record IsRun {I O : Type 0} (asked : Asked) (remaining : I → Option (List ℕ)) (counts : I → Counts)
     (written : O → Option (List ℕ)) (failures : O → ℕ)
     (input input' : I) (out out' : O) (status : Status) : Type 0 where
   -- where the input's bytes were read to their end, their output is written
   pub answered : (bytes : List ℕ) → remaining input ≡ Some bytes → (counts input).ends < (counts input').ends →
-      Ends written failures out out' threaded oriented bytes status
+      Ends written failures out out' asked bytes status
   -- they are read to their end, but where the device fails or is endless, and where memory is refused
   pub unended : (counts input').ends ≡ (counts input).ends → (counts input').failures ≡ (counts input).failures →
       (IsEndless (counts input) (counts input') × (status ≡ Device) × (out' ≡ out)) ⊎ Writes written failures out out' memory_output status

@@ -1,12 +1,12 @@
 //! The command line.
-ghost use Rattle.std.specs.Prelude.{◌≡◌, ◌≤◌, ◌<◌, ◌⊎◌, IfErr, IfOk, false, vec_len};
+ghost use Rattle.std.specs.Prelude.{◌≡◌, ◌≤◌, ◌<◌, ◌⊎◌, IfErr, IfOk, vec_len};
 ghost use Rattle.std.specs.List.{list_any};
 ghost use Rattle.masklay.specs.declared.command_line.OptionsFault.TheVariants.{Clap};
-ghost use Rattle.masklay.specs.Launch.{EndsEarly, asks_for_directions, asks_for_threads, is_oriented, is_threaded};
+ghost use Rattle.masklay.specs.Launch.{EndsEarly, Runs, Says, asked_in, asks, asks_to_live, is_option, nothing_asked};
 ghost use Rattle.masklay.specs.Run.{IsRun};
 ghost use Rattle.masklay.specs.Telling.{Tells};
 
-use crate::program::{MAX_WORKERS, Options, Status, put, put_memory, run};
+use crate::program::{MAX_WORKERS, Options, Status, live, put, put_memory, run};
 use byte_io::{In, Out};
 use clap::error::ErrorKind;
 use clap::{Arg, ArgAction, Command, Error};
@@ -22,6 +22,10 @@ const NOT_UTF_8: &[u8] =
 /// What is wrong with a number of workers.
 const BAD_WORKERS: &[u8] =
     b"error: the number of workers is from 1 to 64\n\nFor more information, try '--help'.\n";
+
+/// What is wrong with an option beside `--live`.
+const LIVE_ALONE: &[u8] =
+    b"error: '--live' can be used with '--workers' alone\n\nFor more information, try '--help'.\n";
 
 /// What help says behind the options.
 const EXAMPLE: &str =
@@ -53,10 +57,11 @@ pub fn launch<I: In, O: Out, E: Out>(
     errors: &mut E,
 ) -> Status
     ensures plain { IfOk words (λ words. vec_len words ≤ 1
-        → IsRun false false I.remaining I.counts O.written O.failures input.old input.new out.old out.new result
+        → IsRun nothing_asked I.remaining I.counts O.written O.failures
+        input.old input.new out.old out.new result
         × Tells E.written E.failures errors.old errors.new result) }
     ensures options { IfOk words (λ words. 1 < vec_len words
-        → (IsRun (asks_for_threads words.items) (asks_for_directions words.items)
+        → (Runs (asks_to_live words.items) (asked_in words.items)
         I.remaining I.counts O.written O.failures input.old input.new out.old out.new result
         × Tells E.written E.failures errors.old errors.new result)
         ⊎ (EndsEarly O.written O.failures E.written E.failures
@@ -65,21 +70,32 @@ pub fn launch<I: In, O: Out, E: Out>(
         out.old out.new errors.old errors.new result × (input.new ≡ input.old)) }
 {
     match words {
-        Ok(words) if words.len() <= 1 => {
-            let options = Options {
-                workers: 1,
-                threaded: false,
-                oriented: false,
-            };
-            run(rt, alloc, options, input, out, errors)
-        }
-        Ok(words) => match options_of(alloc, &words) {
-            Ok(options) => run(rt, alloc, options, input, out, errors),
+        Ok(words) if words.len() <= 1 => run(rt, alloc, PLAIN, input, out, errors),
+        Ok(words) => match wish_of(alloc, &words) {
+            Ok(Wish::Job(options)) => run(rt, alloc, options, input, out, errors),
+            Ok(Wish::Live(workers)) => live(rt, alloc, workers, input, out, errors),
             Err(fault) => refuse(alloc, fault, out, errors),
         },
         Err(WordsFault::NotUtf8) => put(errors, NOT_UTF_8, Status::CommandLine),
         Err(WordsFault::NoMemory) => put_memory(out),
     }
+}
+
+/// What is run where there is no argument.
+const PLAIN: Options = Options {
+    workers: 1,
+    threaded: false,
+    oriented: false,
+    named: false,
+};
+
+/// What the words ask for.
+#[derive(Clone, Copy, Debug, PartialEq, Eq)]
+enum Wish {
+    /// The run of a job.
+    Job(Options),
+    /// A live run with so many workers.
+    Live(u8),
 }
 
 /// Why the words say no options.
@@ -89,6 +105,8 @@ enum OptionsFault {
     Clap(Error),
     /// The number of workers is none, or none from 1 to 64.
     Workers,
+    /// Another option stands beside `--live`.
+    LiveAlone,
 }
 
 impl From<Error> for OptionsFault {
@@ -99,17 +117,24 @@ impl From<Error> for OptionsFault {
     }
 }
 
-/// Returns the options that the words say.
-fn options_of(alloc: Global, words: &[String]) -> Result<Options, OptionsFault>
-    ensures threaded { IfOk result (λ options. options.threaded ≡ asks_for_threads words.now) }
-    ensures oriented { IfOk result (λ options. options.oriented ≡ asks_for_directions words.now) }
+/// Returns what the words ask for.
+fn wish_of(alloc: Global, words: &[String]) -> Result<Wish, OptionsFault>
+    ensures { IfOk result (λ wish. Says wish words.now) }
 {
     let workers = workers_of(alloc, words)?;
-    Ok(Options {
+    let options = Options {
         workers,
-        threaded: asks_for_threads(words),
-        oriented: asks_for_directions(words),
-    })
+        threaded: asks(b"--threaded", words),
+        oriented: asks(b"--oriented", words),
+        named: asks(b"--names", words),
+    };
+    if !asks(b"--live", words) {
+        return Ok(Wish::Job(options));
+    }
+    if options.threaded || options.oriented || options.named {
+        return Err(OptionsFault::LiveAlone);
+    }
+    Ok(Wish::Live(workers))
 }
 
 /// Returns the number of workers that the words say, if clap takes them.
@@ -124,52 +149,23 @@ fn workers_of(alloc: Global, words: &[String]) -> Result<u8, OptionsFault> {
     }
 }
 
-/// Returns whether an argument is `--threaded`. In words that clap takes none is it but the option.
-fn asks_for_threads(words: &[String]) -> bool
-    ensures { result ≡ asks_for_threads words.now }
+/// Returns whether an argument is this option. In words that clap takes none is it but the option.
+fn asks(option: &[u8], words: &[String]) -> bool
+    ensures { result ≡ asks option.now words.now }
 {
     match words.split_first() {
-        Some((_, arguments)) => has_threaded(arguments),
+        Some((_, arguments)) => has(option, arguments),
         None => false,
     }
 }
 
 /// Returns whether one of the arguments is.
-fn has_threaded(arguments: &[String]) -> bool
-    ensures { result ≡ list_any is_threaded arguments.now }
+fn has(option: &[u8], arguments: &[String]) -> bool
+    ensures { result ≡ list_any (is_option option.now) arguments.now }
 {
-    arguments.iter().any(|argument| is_threaded(argument))
-}
-
-/// Returns whether the word is the option that asks for threads.
-fn is_threaded(word: &String) -> bool
-    ensures { result ≡ is_threaded word.now }
-{
-    word.as_bytes() == b"--threaded".as_slice()
-}
-
-/// Returns whether an argument is `--oriented`.
-fn asks_for_directions(words: &[String]) -> bool
-    ensures { result ≡ asks_for_directions words.now }
-{
-    match words.split_first() {
-        Some((_, arguments)) => has_oriented(arguments),
-        None => false,
-    }
-}
-
-/// Returns whether one of the arguments is.
-fn has_oriented(arguments: &[String]) -> bool
-    ensures { result ≡ list_any is_oriented arguments.now }
-{
-    arguments.iter().any(|argument| is_oriented(argument))
-}
-
-/// Returns whether the word is the option that asks for directed shapes.
-fn is_oriented(word: &String) -> bool
-    ensures { result ≡ is_oriented word.now }
-{
-    word.as_bytes() == b"--oriented".as_slice()
+    arguments
+        .iter()
+        .any(|argument| argument.as_bytes() == option)
 }
 
 /// Writes what is said in place of a run.
@@ -179,6 +175,7 @@ fn refuse<O: Out, E: Out>(alloc: Global, fault: OptionsFault, out: &mut O, error
 {
     match fault {
         OptionsFault::Workers => put(errors, BAD_WORKERS, Status::CommandLine),
+        OptionsFault::LiveAlone => put(errors, LIVE_ALONE, Status::CommandLine),
         OptionsFault::Clap(error) => say(alloc, &error, out, errors),
     }
 }
@@ -200,6 +197,18 @@ fn command<'a>(alloc: Global) -> Result<Command<'a>, Error> {
         .long("oriented")
         .help("Directs each shape's path, so that readers by winding number see its holes too")
         .action(ArgAction::SetTrue);
+    let names = Arg::new(alloc, "names")
+        .long("names")
+        .help(
+            "Writes each symbol with the name (9) and the labels (94) that it had in the text that was read",
+        )
+        .action(ArgAction::SetTrue);
+    let live = Arg::new(alloc, "live")
+        .long("live")
+        .help(
+            "Answers each step at once: after `%cif`, the text and `%live` come lines `SESSION STEP`, or `%write`",
+        )
+        .action(ArgAction::SetTrue);
     let command = Command::new(alloc, "masklay")
         .version("0.1.0")
         .about(
@@ -208,7 +217,9 @@ fn command<'a>(alloc: Global) -> Result<Command<'a>, Error> {
         .after_help(EXAMPLE)
         .arg(workers)?
         .arg(threaded)?
-        .arg(oriented)?;
+        .arg(oriented)?
+        .arg(names)?
+        .arg(live)?;
     Ok(command)
 }
 

@@ -1,10 +1,13 @@
 //! The program as a function of its input: reads the job, runs its steps and writes the answers.
 ghost use Rattle.std.specs.Prelude.{◌≡◌};
+ghost use Rattle.masklay.specs.Asked.{asked_of};
 ghost use Rattle.masklay.specs.Output.{Ends, HasOneOutput, Writes, memory_output};
 ghost use Rattle.masklay.specs.Run.{IsRun};
 ghost use Rattle.masklay.specs.Telling.{Tells};
 
 mod empty_top;
+mod live;
+mod named;
 mod options;
 mod oriented;
 mod outcome;
@@ -17,9 +20,10 @@ mod tests;
 mod threads;
 
 use byte_io::{In, Out, put_all};
+pub use live::live;
 pub use options::{MAX_WORKERS, Options};
-use oriented::{Given, finish_given};
-use output::{write_finished, write_stop};
+use oriented::finish_given;
+use output::{write_given, write_stop};
 use reading::{ReadFault, read_all};
 pub use status::Status;
 use std::alloc::Global;
@@ -33,7 +37,8 @@ use telling::{tell_of_layout, tell_of_stop};
 /// top cell that is empty while the layout has symbols. With `threaded` the sessions run in threads over one
 /// desk, the job's own order plays no part, and the order that is written is that of the desk's log. With
 /// `oriented` the layout's shapes are directed before it is written, and where some stay as they were that is told
-/// to `errors` too. Without both, the input alone decides the output.
+/// to `errors` too. Without both, the input alone decides the output. With `named` each symbol is written with the names
+/// and labels that it had in the job's text.
 pub fn run<I: In, O: Out, E: Out>(
     rt: &(impl Threads + Wait + Sync),
     alloc: Global,
@@ -42,7 +47,7 @@ pub fn run<I: In, O: Out, E: Out>(
     out: &mut O,
     errors: &mut E,
 ) -> Status
-    ensures run { IsRun options.threaded options.oriented I.remaining I.counts O.written O.failures
+    ensures run { IsRun (asked_of options) I.remaining I.counts O.written O.failures
         input.old input.new out.old out.new result }
     ensures told { Tells E.written E.failures errors.old errors.new result }
     ensures one { HasOneOutput }
@@ -63,15 +68,14 @@ fn write_output<O: Out, E: Out>(
     out: &mut O,
     errors: &mut E,
 ) -> Status
-    ensures output { Ends O.written O.failures out.old out.new
-        options.threaded options.oriented bytes.items result }
+    ensures output { Ends O.written O.failures out.old out.new (asked_of options) bytes.items result }
     ensures told { Tells E.written E.failures errors.old errors.new result }
 {
     let mut bytes = bytes;
     match finish_given(rt, alloc, options, &mut bytes) {
-        Ok(Given { finished, staying }) => {
-            let status = write_finished(alloc, &finished, out);
-            tell_of_layout(alloc, &finished.layout, staying, status, errors);
+        Ok(given) => {
+            let status = write_given(alloc, &given, out);
+            tell_of_layout(alloc, &given, status, errors);
             status
         }
         Err(stop) => {

@@ -14,4 +14,6 @@ pub struct Options {
     /// Whether each shape of the layout is written by a path that readers by winding number and readers by
     /// parity see alike, as far as one is found.
     pub oriented: bool,
+    /// Whether each symbol is written with the names and labels that it had in the text that was read.
+    pub named: bool,
 }

@@ -1,8 +1,13 @@
-//! What is given out of a job: its outcome, with the layout's shapes directed where that is asked for.
-ghost use Rattle.masklay.specs.Oriented.{AnswersGiven, finished_part};
+//! What is given out of a job: its outcome, with the layout's shapes directed and with the names of its text where that is
+//! asked for.
+ghost use Rattle.std.specs.Prelude.{◌≡◌, IfOk};
+ghost use Rattle.masklay.specs.Named.{names_for, names_in};
+ghost use Rattle.masklay.specs.Oriented.{AnswersGiven, directed_part, finished_part};
 
+use crate::program::named::{names_for, names_in};
 use crate::program::options::Options;
 use crate::program::outcome::{Finished, Stop, finish};
+use cif_names::Names;
 use lay_oriented::{Directed, oriented_layout};
 use lay_point::NoMemory;
 use std::alloc::Global;
@@ -15,23 +20,46 @@ use std::thread::Threads;
 pub(super) struct Given {
     /// The replies, the order and the layout.
     pub(super) finished: Finished,
+    /// The names and labels that the layout's symbols had in the job's text, where they keep them.
+    pub(super) names: Option<Names>,
     /// How many shapes stay as they were, though all were to be directed.
     pub(super) staying: usize,
 }
 
-/// Runs the job of the bytes, and directs its layout's shapes where the options say so.
+/// Runs the job of the bytes, directs its layout's shapes and keeps its text's names and labels, where the options say so.
 pub(super) fn finish_given(
     rt: &(impl Threads + Wait + Sync),
     alloc: Global,
     options: Options,
     bytes: &mut Vec<u8>,
 ) -> Result<Given, Stop>
-    ensures { AnswersGiven options.threaded options.oriented bytes.old.items (finished_part result) }
+    ensures outcome { AnswersGiven options.threaded options.oriented bytes.old.items (finished_part result) }
+    ensures names { IfOk result (λ given. given.names
+        ≡ names_for (names_in options.named bytes.old.items) given.finished.layout) }
+{
+    let names = names_in(alloc, options, bytes.as_slice())?;
+    let (finished, staying) = finish_directed(rt, alloc, options, bytes)?;
+    let names = names_for(alloc, names, &finished.layout)?;
+    Ok(Given {
+        finished,
+        names,
+        staying,
+    })
+}
+
+/// Runs the job of the bytes, and directs its layout's shapes where the options say so. Returns also how many of
+/// them stay as they were.
+fn finish_directed(
+    rt: &(impl Threads + Wait + Sync),
+    alloc: Global,
+    options: Options,
+    bytes: &mut Vec<u8>,
+) -> Result<(Finished, usize), Stop>
+    ensures { AnswersGiven options.threaded options.oriented bytes.old.items (directed_part result) }
 {
     let finished = finish(rt, alloc, options, bytes)?;
     if !options.oriented {
-        let staying = 0;
-        return Ok(Given { finished, staying });
+        return Ok((finished, 0));
     }
     let Finished {
         replies,
@@ -44,7 +72,7 @@ pub(super) fn finish_given(
         order,
         layout,
     };
-    Ok(Given { finished, staying })
+    Ok((finished, staying))
 }
 
 /// Appends how many shapes stay as they were, where some do.

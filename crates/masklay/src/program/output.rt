@@ -1,16 +1,18 @@
 //! What is written of a job's outcome. All that takes memory comes before the first byte.
-ghost use Rattle.std.specs.Prelude.{◌≡◌, ◌++◌, IfOk};
+ghost use Rattle.std.specs.Prelude.{◌≡◌, ◌++◌, IfOk, None, Some};
 ghost use Rattle.cif_write.specs.Text.{text};
 ghost use Rattle.job_text.specs.Order.{order_text};
 ghost use Rattle.job_text.specs.Replies.{replies_text};
-ghost use Rattle.masklay.specs.Output.{Writes, WritesOrMemory, cif_fault_text, desk_fault_text, finished_output};
+ghost use Rattle.masklay.specs.Output.{Writes, WritesOrMemory, cif_fault_text, desk_fault_text, written_output};
 ghost use Rattle.masklay.specs.Output.{job_fault_text, stop_output};
 ghost use Rattle.masklay.specs.declared.program.status.Status.TheVariants.{Done};
 
+use crate::program::oriented::Given;
 use crate::program::outcome::{Finished, Stop};
 use crate::program::status::Status;
 use crate::program::{put, put_memory};
-use byte_io::{Out, put_all};
+use byte_io::{Failing, MemoryOut, Out, put_all};
+use cif_names::{Names, with_names};
 use cif_read::CifFault;
 use cif_write::{Prepared, prepare};
 use job_text::comments;
@@ -18,14 +20,56 @@ use lay_point::NoMemory;
 use std::alloc::Global;
 use std::io::Write;
 
+/// Writes the replies, the order and the layout, with the names and labels in it if there are any.
+pub(super) fn write_given<O: Out>(alloc: Global, given: &Given, out: &mut O) -> Status
+    ensures { WritesOrMemory O.written O.failures out.old out.new
+        (written_output given.now.names given.now.finished) result }
+{
+    match &given.names {
+        None => write_finished(alloc, &given.finished, out),
+        Some(names) => write_named(alloc, names, &given.finished, out),
+    }
+}
+
 /// Writes the replies, the order and the layout.
-pub(super) fn write_finished<O: Out>(alloc: Global, finished: &Finished, out: &mut O) -> Status
-    ensures { WritesOrMemory O.written O.failures out.old out.new (finished_output finished.now) result }
+fn write_finished<O: Out>(alloc: Global, finished: &Finished, out: &mut O) -> Status
+    ensures { WritesOrMemory O.written O.failures out.old out.new (written_output None finished.now) result }
 {
     match prepared(alloc, finished) {
         Ok((comments, layout)) => put_finished(&comments, &layout, out),
         Err(NoMemory) => put_memory(out),
     }
+}
+
+/// Writes the replies, the order and the layout with the names and labels in it.
+fn write_named<O: Out>(alloc: Global, names: &Names, finished: &Finished, out: &mut O) -> Status
+    ensures { WritesOrMemory O.written O.failures out.old out.new
+        (written_output (Some names.now) finished.now) result }
+{
+    match named_bytes(alloc, names, finished) {
+        Ok(bytes) => put(out, &bytes, Status::Done),
+        Err(NoMemory) => put_memory(out),
+    }
+}
+
+/// Returns the replies, the order and the layout with the names and labels in it.
+fn named_bytes(alloc: Global, names: &Names, finished: &Finished) -> Result<Vec<u8>, NoMemory>
+    ensures { IfOk result (λ bytes. bytes.items ≡ (written_output (Some names.now) finished.now).text) }
+{
+    let (comments, layout) = prepared(alloc, finished)?;
+    let mut bytes = comments;
+    let text = text_of(alloc, &layout)?;
+    bytes.extend_from_slice(&with_names(alloc, names, &text)?)?;
+    Ok(bytes)
+}
+
+/// Returns the text of the layout.
+fn text_of(alloc: Global, layout: &Prepared<'_>) -> Result<Vec<u8>, NoMemory>
+    ensures { IfOk result (λ bytes. bytes.items ≡ text layout.now) }
+{
+    let mut out = MemoryOut::new(alloc, usize::MAX, usize::MAX, Failing::ByErr);
+    layout.put(&mut out).map_err(|_| NoMemory)?;
+    Ok(out.written().to_vec(alloc)?)
 }
 
 /// Returns the lines of the replies and of the order, and the layout, ready to be written.

@@ -3,12 +3,12 @@ ghost use Rattle.std.specs.Prelude.{◌≡◌};
 ghost use Rattle.masklay.specs.Telling.{IsTold, Tells, may_tell};
 
 use crate::program::empty_top::advice_on_top;
-use crate::program::oriented::put_staying;
+use crate::program::named::put_left_out;
+use crate::program::oriented::{Given, put_staying};
 use crate::program::outcome::Stop;
 use crate::program::status::Status;
 use byte_io::{Out, put_all};
 use job_advice::{of_cif_fault, of_job_fault};
-use lay_items::Snapshot;
 use lay_point::NoMemory;
 use std::alloc::Global;
 
@@ -34,26 +34,21 @@ pub(super) fn tell_of_stop<E: Out>(
     }
 }
 
-/// Tells that the top cell is empty, where all was written and the layout has symbols, and how many shapes stay
-/// as they were though all were to be directed.
-pub(super) fn tell_of_layout<E: Out>(
-    alloc: Global,
-    layout: &Snapshot,
-    staying: usize,
-    status: Status,
-    errors: &mut E,
-)
+/// Tells that the top cell is empty, where all was written and the layout has symbols, how many shapes stay
+/// as they were though all were to be directed, and how many names and labels are left out.
+pub(super) fn tell_of_layout<E: Out>(alloc: Global, given: &Given, status: Status, errors: &mut E)
     ensures { Tells E.written E.failures errors.old errors.new status }
 {
-    if let Ok(lines) = advice_on_layout(alloc, layout, staying) {
+    if let Ok(lines) = advice_on_layout(alloc, given) {
         tell(&lines, status, errors);
     }
 }
 
 /// Says what there is to say of a layout that is written.
-fn advice_on_layout(alloc: Global, layout: &Snapshot, staying: usize) -> Result<Vec<u8>, NoMemory> {
-    let mut lines = advice_on_top(alloc, layout)?;
-    put_staying(&mut lines, staying)?;
+fn advice_on_layout(alloc: Global, given: &Given) -> Result<Vec<u8>, NoMemory> {
+    let mut lines = advice_on_top(alloc, &given.finished.layout)?;
+    put_staying(&mut lines, given.staying)?;
+    put_left_out(&mut lines, &given.names)?;
     Ok(lines)
 }
 

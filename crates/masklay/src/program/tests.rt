@@ -34,6 +34,7 @@ fn ended(
         workers: 1,
         threaded: false,
         oriented: false,
+        named: false,
     };
     let status = run(rt, alloc, options, &mut input, &mut out, &mut errors);
     (status, out)

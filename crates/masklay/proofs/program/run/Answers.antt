@@ -1,4 +1,5 @@
 use Rattle.std.proofs.Common.{ℕ, List, arith, subst}
+use Rattle.masklay.specs.Asked.{asked_of}
 use Rattle.masklay.specs.Output.{Ends}
 use Rattle.masklay.proofs.OutputLemmas.{kept_ends, one_output}
 use Rattle.masklay.proofs.program.run.Goals as goal
@@ -7,10 +8,10 @@ use Rattle.masklay.proofs.program.run.Goals as goal
 pub returns-in-Ok-clause-run : goal.returns-in-Ok-clause-run
 returns-in-Ok-clause-run g c =
     let P : List ℕ → Type 0 = λ kept. Ends g.O.Out.written g.O.Out.failures c.args.out.now c.write_output.new.out
-    c.args.options.threaded c.args.options.oriented kept c.write_output.result in
+    (asked_of c.args.options) kept c.write_output.result in
     record {
       answered = λ bytes told ended. kept_ends g.O.Out.written g.O.Out.failures c.args.out.now c.write_output.new.out
-          c.args.options.threaded c.args.options.oriented bytes c.write_output.result (subst P (c.in-Ok.ensures.kept bytes told) c.write_output.ensures.output);
+          (asked_of c.args.options) bytes c.write_output.result (subst P (c.in-Ok.ensures.kept bytes told) c.write_output.ensures.output);
       unended = λ same _. let ended = c.in-Ok.ensures.how.0 in absurd (omega arith);
       failed = λ failed. absurd (failed c.in-Ok.ensures.how.1);
       reads = c.in-Ok.ensures.reads;

@@ -1,5 +1,5 @@
 use Rattle.masklay.proofs.GivenLemmas.{asked, given_directed}
-use Rattle.masklay.proofs.program.oriented.finish_given.Goals as goal
+use Rattle.masklay.proofs.program.oriented.finish_directed.Goals as goal
 
 -- the layout of the outcome was directed
 pub returns : goal.returns

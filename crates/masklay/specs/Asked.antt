@@ -1,0 +1,15 @@
+-- What a run is asked for, but for its workers, which change nothing that is written.
+use Rattle.std.specs.Prelude.{Bool}
+use Rattle.masklay.specs.declared.program.options.Options.{Options}
+
+pub record Asked : Type 0 where
+  -- whether sessions run in threads
+  pub threaded : Bool
+  -- whether shapes are directed
+  pub oriented : Bool
+  -- whether symbols keep the names and labels that they had in the text that was read
+  pub named : Bool
+
+-- what options ask for
+abbrev pub asked_of : Options → Asked
+asked_of options = record { threaded = options.threaded; oriented = options.oriented; named = options.named }

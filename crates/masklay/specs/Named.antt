@@ -1,0 +1,30 @@
+-- The text of a layout with the names and labels of the text that was read.
+use Rattle.std.specs.Prelude.{ℕ, List, [], Bool, true, false, Option, None, Some, Result, Ok, Err}
+use Rattle.cif_names.specs.declared.names.Names.{Names}
+use Rattle.cif_names.specs.Names.{names_of, within}
+use Rattle.cif_names.specs.Woven.{with_names}
+use Rattle.lay_items.specs.Layout.{Layout}
+use Rattle.lay_items.specs.SlotOrder.{in_slot_order}
+use Rattle.job_text.specs.Job.{job_of}
+use Rattle.job_text.specs.Jobs.{Job}
+use Rattle.job_text.specs.declared.job.JobFault.{JobFault}
+
+-- the CIF text of a job; one with a fault has none
+abbrev pub cif_in : Result Job JobFault → List ℕ
+cif_in (Ok job) = job.cif
+cif_in (Err fault) = []
+
+-- the text that is written, with these names and labels in it, if there are any
+abbrev pub text_with : Option Names → List ℕ → List ℕ
+text_with None text = text
+text_with (Some names) text = with_names names text
+
+-- the names and labels of the job of these bytes, where symbols keep them
+abbrev pub names_in : Bool → List ℕ → Option Names
+names_in false bytes = None
+names_in true bytes = Some (names_of (cif_in (job_of bytes)))
+
+-- those of the symbols that are in the layout, and those of none
+abbrev pub names_for : Option Names → Layout → Option Names
+names_for None layout = None
+names_for (Some names) layout = Some (within (in_slot_order layout.symbols) names)
