@@ -1,0 +1,163 @@
+"""A layout in a process of its own, and its sessions."""
+
+from __future__ import annotations
+
+import re
+import threading
+from types import TracebackType
+from typing import List, Optional, Tuple, Type, Union
+
+from .errors import MasklayError, ProcessError
+from .process import Process, Program
+from .replies import accepted, words_of
+from .transaction import Transaction
+
+#: How many sessions a layout has.
+SESSIONS = 64
+NAME = re.compile(r"\d+\.\d+")
+ORDER = re.compile(rb"\(order((?: \d+)+)\);\n")
+
+
+class Layout:
+    """A layout that sessions edit. `Layout.read` makes one; as a context manager it is closed at the end.
+
+    Threads may share it, with a session each: a call has the process for itself until its reply has come.
+    """
+
+    #: After `close`: the numbers of the sessions in the order in which their steps ran.
+    order: List[int]
+
+    def __init__(self, process: Process) -> None:
+        self.order = []
+        self._process = process
+        self._lock = threading.Lock()
+        self._given = 0
+        self._taken = [0] * (SESSIONS + 1)
+        self._closed: Optional[str] = None
+
+    @classmethod
+    def read(
+        cls,
+        cif: Union[bytes, str],
+        program: Program = "masklay",
+        *,
+        workers: int = 1,
+        timeout: float = 60.0,
+    ) -> "Layout":
+        """Starts the program on a CIF text.
+
+        `program` is its path, or a list of words. `workers` find the edges of an operation. Each call waits `timeout` seconds for
+        its reply, and raises `Late` then.
+
+        Raises `TextFault` where the text isn't read, and `OSError` where the program can't be started.
+        """
+        options = ["--workers", str(workers)] if workers != 1 else []
+        process = Process(cif, program, options, timeout)
+        try:
+            # A line that is no step changes nothing: its answer shows that the text was read.
+            process.ask(b"?")
+        except BaseException:
+            process.kill()
+            raise
+        return cls(process)
+
+    def session(self) -> "Session":
+        """Returns the next session: 1 at first, 64 at last. A 65th is refused as `NoSession`."""
+        with self._lock:
+            if self._given == SESSIONS:
+                raise MasklayError(30, "NoSession")
+            self._given += 1
+            return Session(self, self._given)
+
+    def step(self, session: int, step: str) -> str:
+        """Sends a step of a session as a line of a job's script has it, and returns the words of its reply, as `made 1.1.1`.
+
+        All other calls go through this one. Raises `MasklayError` where the step is refused, and `StepError` where it is none.
+        """
+        if not step.isprintable():
+            raise ValueError(f"a step is one line of printed characters, and not {step!r}")
+        line = f"{session} {step}".encode("utf-8")
+        with self._lock:
+            words = words_of(self._process.ask(line), session, self._taken[session] + 1)
+            self._taken[session] += 1
+        return accepted(words)
+
+    def undo(self, name: str) -> None:
+        """Takes the transaction of this name back, whichever session made it. It is a step of session 1."""
+        self._named(1, "undo", name)
+
+    def redo(self, name: str) -> None:
+        """Brings a transaction back that was undone. It is a step of session 1."""
+        self._named(1, "redo", name)
+
+    def _named(self, session: int, word: str, name: str) -> None:
+        if not NAME.fullmatch(name):
+            raise ValueError(f"a transaction's name is like 1.1, and not {name!r}")
+        self.step(session, f"{word} {name}")
+
+    def write(self) -> str:
+        """Returns the CIF text of the layout as it is now, without what is in open transactions."""
+        with self._lock:
+            return decoded(self._process.ask_text(b"%write"))
+
+    def close(self) -> str:
+        """Ends the process and returns the CIF text of the layout. Open transactions are lost. A second call returns the same."""
+        with self._lock:
+            if self._closed is None:
+                lines, self.order = without_order(self._process.finish())
+                self._closed = decoded(lines)
+            return self._closed
+
+    def __enter__(self) -> "Layout":
+        return self
+
+    def __exit__(
+        self, kind: Optional[Type[BaseException]], error: Optional[BaseException], trace: Optional[TracebackType]
+    ) -> None:
+        try:
+            self.close()
+        except ProcessError:
+            if error is None:
+                raise
+        finally:
+            self._process.kill()
+
+
+class Session:
+    """One who edits a layout, with at most one transaction open. `Layout.session` gives it."""
+
+    #: Its number, from 1 to 64.
+    number: int
+
+    def __init__(self, layout: Layout, number: int) -> None:
+        self.layout, self.number = layout, number
+
+    def transaction(self) -> Transaction:
+        """Returns a transaction, which a `with` opens, and commits at its end, or cancels where an exception leaves it."""
+        return Transaction(self)
+
+    def step(self, step: str) -> str:
+        """Sends a step as a line of a job's script has it, and returns the words of its reply."""
+        return self.layout.step(self.number, step)
+
+    def undo(self, name: str) -> None:
+        """Takes the transaction of this name back, whichever session made it."""
+        self.layout._named(self.number, "undo", name)
+
+    def redo(self, name: str) -> None:
+        """Brings a transaction back that was undone."""
+        self.layout._named(self.number, "redo", name)
+
+
+def decoded(text: bytes) -> str:
+    """Returns a text of bytes as a string, from which the bytes can be had again, if they aren't UTF-8 too."""
+    return text.decode("utf-8", "surrogateescape")
+
+
+def without_order(output: bytes) -> Tuple[bytes, List[int]]:
+    """Returns what is written at the end without the comments of the order at its beginning, and the order."""
+    order: List[int] = []
+    while (found := ORDER.match(output)) is not None:
+        order += [int(word) for word in found[1].split()]
+        output = output[found.end() :]
+    return output, order

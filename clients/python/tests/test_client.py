@@ -1,0 +1,360 @@
+"""Tests of the client against the built program: env MASKLAY, else crates/masklay/out/masklay of this repository."""
+
+import os
+import subprocess
+import sys
+import tempfile
+import threading
+import time
+import unittest
+from pathlib import Path
+
+from masklay import (
+    Late, Layout, MasklayError, OutOfMemory, Placed, ProcessError, Shape, StepError, TextFault, rewritten, um,
+)  # fmt: skip
+
+HERE = Path(__file__).resolve().parent
+PROGRAM = os.environ.get("MASKLAY", str(HERE.parents[2] / "crates/masklay/out/masklay"))
+#: How long a reply may take; a program that answers at the end of its input only never does.
+TIMEOUT = 10.0
+
+
+def read(cif="E", program=PROGRAM, **options):
+    """Returns the layout of a text."""
+    return Layout.read(cif, program, **{"timeout": TIMEOUT, **options})
+
+
+def fake(*lines):
+    """Returns a program of these lines of Python."""
+    return [sys.executable, "-c", "import sys, time\n" + "\n".join(lines)]
+
+
+class Editing(unittest.TestCase):
+    """What is drawn in transactions."""
+
+    def test_a_box_is_written(self):
+        """Could catch corners in another unit or order, a commit that isn't sent, and an id that isn't the reply's."""
+        with read() as layout:
+            with layout.session().transaction() as t:
+                self.assertIsNone(t.name)
+                self.assertEqual(t.box("M", (30, 20), (0, 0)), "1.1.1")
+            self.assertEqual(t.name, "1.1")
+            text = layout.write()
+        self.assertEqual(text, "DS 1 1 2;\nL M;\nP 0 0 30 0 30 20 0 20;\nDF;\nC 1;\nE\n")
+
+    def test_all_commands(self):
+        """Could catch a command with its words in another order, and a look that is taken apart wrongly."""
+        with read("DS 1; L A; B 2 2 1 1; DF; C 1; E") as layout, layout.session().transaction() as t:
+            self.assertEqual(t.make_cell(7), 7)
+            poly = t.polygon("Q", [(0, 0), (4, 0), (4, 6)], cell=7)
+            self.assertEqual(t.look(poly), Shape(7, "Q", (((0, 0), (4, 0), (4, 6)),)))
+            t.set_layer(poly, "Z9")
+            t.move(poly, -1, 2)
+            self.assertEqual(t.look(poly), Shape(7, "Z9", (((-1, 2), (3, 2), (3, 8)),)))
+            call = t.place(7, (5, -6), turn="m90", cell=1)
+            self.assertEqual(t.look(call), Placed(1, 7, "m90", (5, -6)))
+            self.assertEqual(t.look("0.0.1"), Shape(1, "A", (((0, 0), (4, 0), (4, 4), (0, 4)),)))
+            t.delete(call)
+            t.delete(poly)
+            t.remove_cell(7)
+            self.assertEqual((poly, call), ("1.1.1", "1.1.2"))
+
+    def test_booleans(self):
+        """Could catch an operation that is another, exchanged layers, and ids or rings that are lost."""
+        with read() as layout, layout.session().transaction() as t:
+            t.box("A", (0, 0), (60, 60))
+            t.box("B", (20, 20), (40, 40))
+            t.box("C", (20, -10), (40, 70))
+            (ring,) = t.boolean("not", "A", "B", "Q")
+            self.assertEqual(len(t.look(ring).rings), 2)
+            self.assertEqual(t.boolean("not", "A", "C", "R"), ["1.1.5", "1.1.6"])
+            self.assertEqual(t.boolean("not", "B", "A", "S"), [])
+            (both,) = t.boolean("and", "A", "B", "S")
+            self.assertEqual(sorted(t.look(both).rings[0]), [(20, 20), (20, 40), (40, 20), (40, 40)])
+            (either,) = t.boolean("or", "A", "B", "S")
+            self.assertEqual(sorted(t.look(either).rings[0]), [(0, 0), (0, 60), (60, 0), (60, 60)])
+            self.assertEqual(len(t.look(t.boolean("xor", "A", "B", "S")[0]).rings), 2)
+
+    def test_an_exception_cancels(self):
+        """Could catch a transaction that is committed, or left open, where its block fails."""
+        with read() as layout:
+            session = layout.session()
+            with self.assertRaisesRegex(KeyError, "mine"):
+                with session.transaction() as t:
+                    t.box("M", (0, 0), (1, 1))
+                    raise KeyError("mine")
+            self.assertIsNone(t.name)
+            with session.transaction():
+                pass
+            self.assertNotIn("P ", layout.write())
+
+    def test_a_text_is_rewritten(self):
+        """Could catch options that aren't given to the program, and a fault that is taken for a text."""
+        with read(workers=2) as layout:
+            with layout.session().transaction() as t:
+                t.box("A", (0, 0), (60, 60))
+                t.box("B", (20, 20), (40, 40))
+                t.boolean("not", "A", "B", "Q")
+            text = layout.write()
+            self.assertEqual(layout.close(), text)
+        self.assertEqual(rewritten(text, PROGRAM, oriented=False), text)
+        self.assertNotEqual(rewritten(text, PROGRAM), text)
+        named = "DS 1; 9 INV; L A; B 2 2 0 0; DF; C 1; E"
+        self.assertIn("\n9 INV;\n", rewritten(named, PROGRAM))
+        self.assertNotIn("INV", rewritten(named, PROGRAM, names=False))
+        with self.assertRaises(TextFault):
+            rewritten("W 1;", PROGRAM)
+
+
+class History(unittest.TestCase):
+    """Undo by name, and what is in the way."""
+
+    def test_undo_and_redo_by_name(self):
+        """Could catch an undo of the newest in place of the named one, and a layout that is written as it was before."""
+        with read() as layout:
+            one, two = layout.session(), layout.session()
+            with one.transaction() as first:
+                first.box("M", (0, 0), (1, 1))
+            with two.transaction() as second:
+                second.box("M", (0, 0), (2, 2))
+            both = layout.write()
+            layout.undo(first.name)
+            self.assertEqual(layout.write(), "DS 1 1 2;\nL M;\nP 0 0 2 0 2 2 0 2;\nDF;\nC 1;\nE\n")
+            two.redo(first.name)
+            self.assertEqual(layout.write(), both)
+            one.undo(second.name)
+            self.assertEqual(layout.write(), "DS 1 1 2;\nL M;\nP 0 0 1 0 1 1 0 1;\nDF;\nC 1;\nE\n")
+            layout.redo(second.name)
+            self.assertEqual(layout.write(), both)
+            self.assertEqual((first.name, second.name), ("1.1", "2.1"))
+
+    def test_a_refusal_names_the_transaction(self):
+        """Could catch a refusal that is passed over, another number, and a name that is lost."""
+        with read() as layout:
+            session = layout.session()
+            with session.transaction() as first:
+                pad = first.box("M", (0, 0), (1, 1))
+            with session.transaction() as second:
+                second.move(pad, 5, 5)
+            with self.assertRaises(MasklayError) as caught:
+                layout.undo(first.name)
+            refused = caught.exception
+            self.assertEqual((refused.number, refused.name, refused.transaction), (23, "Depends", second.name))
+            self.assertEqual(str(refused), "fault 23 Depends 1.2")
+            with self.assertRaises(MasklayError) as caught:
+                layout.undo("5.5")
+            self.assertEqual((caught.exception.name, caught.exception.transaction), ("NoTxn", None))
+
+    def test_a_stale_commit(self):
+        """Could catch a commit whose refusal is lost, and a session that can't go on behind it."""
+        with read("L M; B 2 2 0 0; E") as layout:
+            one, two = layout.session(), layout.session()
+            with self.assertRaises(MasklayError) as caught:
+                with one.transaction() as t:
+                    t.move("0.0.1", 1, 1)
+                    with two.transaction() as u:
+                        u.delete("0.0.1")
+            self.assertEqual((caught.exception.name, caught.exception.transaction, t.name), ("Stale", u.name, None))
+            with one.transaction() as t:
+                t.box("N", (0, 0), (1, 1))
+            self.assertEqual(t.name, "1.2")
+
+    def test_a_commit_that_stays_open(self):
+        """Could catch a session that can't go on, where a commit is refused and its transaction stays open: it has to be cancelled."""
+        lines = ["(fault line 1);", "(1 1 opened 1);", "(1 2 fault 26 LogFull);", "(1 3 cancelled);", "(1 4 opened 2);"]
+        program = fake(
+            "[sys.stdin.readline() for _ in range(3)]",
+            f"for said in {lines}: line = sys.stdin.readline(); print(said if said[5] != 'c' or 'cancel' in line else '', flush=True)",
+            "sys.stdin.read()",
+        )
+        layout = read(program=program)
+        session = layout.session()
+        with self.assertRaises(MasklayError) as caught, session.transaction():
+            pass
+        self.assertEqual(caught.exception.name, "LogFull")
+        self.assertEqual(session.step("open"), "opened 2")
+        layout.close()
+
+    def test_a_refused_command_changes_nothing(self):
+        """Could catch a transaction that ends with a refusal which is caught."""
+        with read() as layout:
+            with layout.session().transaction() as t:
+                with self.assertRaises(MasklayError) as caught:
+                    t.box("M", (0, 0), (0, 5))
+                self.assertEqual((caught.exception.number, caught.exception.name), (4, "FewPoints"))
+                self.assertEqual(t.box("M", (0, 0), (1, 5)), "1.1.1")
+            self.assertEqual(t.name, "1.1")
+
+    def test_sessions_are_64(self):
+        """Could catch sessions with one number, and a 65th."""
+        with read() as layout:
+            self.assertEqual([layout.session().number for _ in range(64)], list(range(1, 65)))
+            with self.assertRaises(MasklayError) as caught:
+                layout.session()
+            self.assertEqual(caught.exception.name, "NoSession")
+            self.assertEqual(layout.step(64, "open"), "opened 1")
+
+    def test_threads(self):
+        """Could catch replies that come to another thread than the one that asked."""
+        with read() as layout:
+
+            def draw(session):
+                for n in range(1, 11):
+                    with session.transaction() as t:
+                        made.append((t.box("M", (0, 0), (session.number, n)), f"{session.number}.{n}.1"))
+
+            made = []
+            threads = [threading.Thread(target=draw, args=(layout.session(),)) for _ in range(4)]
+            for it in threads:
+                it.start()
+            for it in threads:
+                it.join()
+            self.assertEqual(len(made), 40)
+            for given, wanted in made:
+                self.assertEqual(given, wanted)
+            layout.close()
+            self.assertEqual(sorted(layout.order), sorted([1, 2, 3, 4] * 30))
+
+
+class Ends(unittest.TestCase):
+    """Faults of texts, lines and processes."""
+
+    def test_a_fault_of_the_text(self):
+        """Could catch a fault that is found at the first step only, and words of standard error that are lost."""
+        with self.assertRaises(TextFault) as caught:
+            read("L NM;\nW 10 0 0 40 0; E")
+        fault = caught.exception
+        self.assertEqual((fault.number, fault.name, fault.offset, fault.status), (3, "Wire", 6, 4))
+        self.assertIn("line 3, column 1: a wire", fault.said)
+
+    def test_a_large_text(self):
+        """Could catch two processes that wait for each other, where a text is longer than a pipe."""
+        boxes = 40_000
+        with read(b"L M;" + b"B 2 2 0 0;\n" * boxes + b"E") as layout:
+            self.assertEqual(layout.write().count("P -2 -2"), boxes)
+
+    def test_lines_of_the_program(self):
+        """Could catch a text, or a word of a step, that the program takes for steps."""
+        for text in ("E\n%live\n1 open", "(\n%session 1\n); E", b"(\n%order 1\n); E"):
+            with self.assertRaises(ValueError):
+                read(text)
+        with read() as layout, layout.session().transaction() as t:
+            for layer in ("M 0 0 1 1\n1 commit", "m", "", "ABCDEFGHIJKLMNOPQ", "M N"):
+                with self.assertRaises(ValueError):
+                    t.box(layer, (0, 0), (1, 1))
+            for step in ("open\n1 open", "commit\r", "undo\t1.1\x00"):
+                with self.assertRaises(ValueError):
+                    layout.step(1, step)
+            for item in ("1.1", "1.1.1 0 0", "x"):
+                with self.assertRaises(ValueError):
+                    t.move(item, 1, 1)
+            with self.assertRaises(TypeError):
+                t.box("M", (0, 0), (1.0, 1))
+            self.assertEqual(t.box("M", (0, 0), (1, 1)), "1.1.1")
+
+    def test_a_line_that_is_no_step(self):
+        """Could catch an odd line that is counted as a step, or ends the process."""
+        with read() as layout:
+            session = layout.session()
+            with self.assertRaises(StepError):
+                session.step("opens")
+            with self.assertRaises(StepError), session.transaction() as t:
+                t.box("M", (0, 0), (1 << 31, 1))
+            with session.transaction() as t:
+                pass
+            self.assertEqual(t.name, "1.2")
+
+    def test_close(self):
+        """Could catch a text at the end that isn't the layout's, an open transaction that is in it, and a use behind it."""
+        layout = read()
+        session = layout.session()
+        with session.transaction() as t:
+            t.box("M", (0, 0), (1, 1))
+        text = layout.write()
+        open_one = session.transaction()
+        open_one.open()
+        open_one.box("M", (0, 0), (2, 2))
+        self.assertEqual(layout.close(), text)
+        self.assertEqual(layout.order, [1] * 5)
+        self.assertEqual(layout.close(), text)
+        with self.assertRaises(ProcessError):
+            layout.write()
+        with read(text) as again:
+            self.assertEqual(again.write(), text)
+
+    def test_no_program(self):
+        """Could catch a program that isn't there and is waited for."""
+        with self.assertRaises(OSError):
+            read(program=str(HERE / "no-program"))
+
+    def test_replies_come_at_once(self):
+        """Could catch a program that answers late: each reply has to be there before the next line is sent."""
+        with read() as layout:
+            session, slowest = layout.session(), 0.0
+            for _ in range(100):
+                begun = time.monotonic()
+                with session.transaction() as t:
+                    t.box("M", (0, 0), (1, 1))
+                slowest = max(slowest, time.monotonic() - begun)
+            self.assertLess(slowest, TIMEOUT)
+
+    def test_a_late_program(self):
+        """Could catch a client that waits for ever, or takes a late reply for another's."""
+        for program in (
+            fake("sys.stdin.read()", "print('(fault line 1);')"),
+            fake("time.sleep(60)"),
+            fake("print('(fault line 1);', flush=True)", "sys.stdin.read()"),
+        ):
+            begun = time.monotonic()
+            with self.assertRaises(Late):
+                with read(b"L M;" + b"B 2 2 0 0;\n" * 40_000 + b"E", program=program, timeout=1.0) as layout:
+                    with layout.session().transaction():
+                        pass
+            self.assertLess(time.monotonic() - begun, 20)
+
+    def test_a_dead_program(self):
+        """Could catch an end of the process that is taken for a reply, and words of it that are lost."""
+        ready = "[sys.stdin.readline() for _ in range(4)]; print('(fault line 1);', flush=True); sys.stdin.readline()"
+        for words, kind, status in (
+            ("sys.stderr.write('so\\n'); sys.exit(5)", ProcessError, 5),
+            ("sys.stderr.write('so\\n'); print('out of memory'); sys.exit(6)", OutOfMemory, 6),
+            ("sys.stderr.write('so\\n'); print('(2 1 opened 1);'); sys.exit(0)", ProcessError, None),
+            ("sys.stderr.write('so\\n'); print('(1 2 opened 1);'); sys.exit(0)", ProcessError, None),
+        ):
+            layout = read(program=fake(ready, words))
+            with self.assertRaises(kind) as caught:
+                layout.session().step("open")
+            if status is not None:
+                self.assertEqual((caught.exception.status, caught.exception.said), (status, "so\n"))
+                with self.assertRaises(kind):
+                    layout.close()
+        with self.assertRaises(ProcessError):
+            read(program=fake("pass"))
+
+
+class Example(unittest.TestCase):
+    """The example of the documents."""
+
+    def test_pads(self):
+        """Could catch an example that fails, and one that writes another text than the one beside it."""
+        path = {**os.environ, "PYTHONPATH": str(HERE.parent / "src"), "PYTHONDONTWRITEBYTECODE": "1"}
+        script = HERE.parent / "examples/pads.py"
+        done = subprocess.run([sys.executable, str(script), PROGRAM], env=path, capture_output=True, timeout=60)
+        self.assertEqual(done.returncode, 0, done.stderr.decode())
+        self.assertEqual(done.stdout.decode(), (HERE.parent / "examples/pads.cif").read_text(encoding="ascii"))
+        self.assertEqual(done.stderr.decode(), "9 frames, 1.4.1 to 1.4.9, by transaction 1.4\nundo 1.3: Depends 1.4\n")
+
+
+class Units(unittest.TestCase):
+    """Micrometres."""
+
+    def test_um(self):
+        """Could catch another unit, a float's rounding that is taken for a fraction of a unit, and a fraction that is dropped."""
+        self.assertEqual([um(1), um(0.15), um(-2.005), um("1/8"), um(0.1 + 0.2)], [200, 30, -401, 25, 60])
+        for x in (0.001, 1 / 3, "0.0049"):
+            with self.assertRaises(ValueError):
+                um(x)
+
+
+if __name__ == "__main__":
+    unittest.main()
