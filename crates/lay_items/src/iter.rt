@@ -6,7 +6,7 @@ use crate::cell_index::{Home, Homes, cell_key};
 use crate::id::ItemId;
 use crate::item::Item;
 use lay_cells::CellId;
-use lay_pages::Pages;
+use lay_pages::{Finder, Pages};
 use lay_point::{LayerName, Ring, Turn};
 use std::marker::Model;
 
@@ -55,7 +55,7 @@ impl<'a> Iterator for Entries<'a> {
 pub struct Items<'a> {
     /// Those of the cell, and of the cells behind it.
     homes: lay_pages::Entries<'a, Home, ()>,
-    items: &'a Pages<ItemId, Item>,
+    items: Finder<'a, ItemId, Item>,
     /// The number of the cell.
     cell: u64,
 }
@@ -68,9 +68,9 @@ impl<'a> Model for Items<'a> {
 
     ghost Value = { List (ItemId × Item) };
 
-    ghost view = { λ i. looked_up i.items.now (listed i.cell i.homes) };
+    ghost view = { λ i. looked_up i.items (listed i.cell i.homes) };
 
-    ghost invariant = { λ i. AreLent i.cell i.homes i.items.now };
+    ghost invariant = { λ i. AreLent i.cell i.homes i.items };
 }
 
 impl<'a> Items<'a> {
@@ -89,6 +89,7 @@ impl<'a> Items<'a> {
     {
         let cell = cell_key(cell);
         let homes = homes.from(first_home(cell));
+        let items = items.finder();
         Items { homes, items, cell }
     }
 }

@@ -3,6 +3,8 @@ use Rattle.std.proofs.Common.{
   ◌≡◌,
   ◌∙◌,
   ◌<◌,
+  ◌≤◌,
+  ◌-◌,
   ◌++◌,
   ℕ,
   suc,
@@ -21,7 +23,7 @@ use Rattle.std.proofs.Common.{
   cond,
 }
 use Rattle.std.proofs.Common.{drop, get_or, length, map, refl, subst, sym, take}
-use Rattle.std.specs.Prelude.{is_some}
+use Rattle.std.proofs.lemmas.List.{append-nil, length-drop, take-append-drop, take_all}
 use Rattle.std.specs.declared.cmp.Ordering.{Ordering}
 use Rattle.std.specs.declared.cmp.Ordering.TheVariants.{Less}
 use Rattle.std.specs.Cmp.{Equal-is, IsTotalOrder, eq_by_cmp_equiv}
@@ -51,6 +53,16 @@ part_within xs ys zs one two = record {
       ∙ (λ i. (two.before ++ one.before) ++ append_assoc xs one.behind two.behind i);
 }
 
+-- those from a place on
+pub part_from : {A : Type 0} (xs : List A) (n : ℕ) → n ≤ length xs → IsPart (take (length xs - n) (drop n xs)) xs
+part_from xs n inside = record {
+  before = take n xs;
+  behind = [];
+  is = sym (take-append-drop n xs) ∙ ap (λ rest. take n xs ++ rest) (sym (append-nil _ ∙ take_all _ (drop n xs) all));
+} where
+  all : length (drop n xs) ≤ length xs - n
+  all = omega (arith, length-drop n xs)
+
 module _ {K X : Type 0} {R : K → K → Ordering} (total : IsTotalOrder R) (exact : IsAntisymmetric R) where
   -- entries in order are found under their keys
   pub found_sorted : (es : List (K × X)) → IsStrictlySortedBy R (keys_of es) → AllByRecursion (λ (e : K × X). find R e.0 es ≡ Some e.1) es
@@ -68,6 +80,18 @@ module _ {K X : Type 0} {R : K → K → Ordering} (total : IsTotalOrder R) (exa
       more fs all.1 found.1,
     )
 
+  -- a part of near entries
+  pub near_within : (rest near : List (K × X)) (lists : List (List (List (K × X)))) → AreNear R near lists → IsPart rest near
+      → AreNear R rest lists
+  near_within rest near lists are part =
+      let P : K × X → Type 0 = λ e. find R e.0 (entries_in lists) ≡ Some e.1 in
+      let sorted = subst (λ (es : List (K × X)). IsStrictlySortedBy R (keys_of es)) part.is are.sorted in
+      let all = subst (λ (es : List (K × X)). AllByRecursion P es) part.is are.kept in record {
+        books = are.books;
+        sorted = sorted-left R rest part.behind (sorted-right R part.before (rest ++ part.behind) sorted);
+        kept = left_all P rest part.behind (right_all P part.before (rest ++ part.behind) all);
+      }
+
   -- what is found among some of them
   pub near_found : (k : K) (x : X) (near all : List (K × X)) → AllByRecursion (λ (e : K × X). find R e.0 all ≡ Some e.1) near
       → find R k near ≡ Some x → find R k all ≡ Some x
@@ -77,13 +101,6 @@ module _ {K X : Type 0} {R : K → K → Ordering} (total : IsTotalOrder R) (exa
         → find R k all ≡ Some x
     by true is found rest = ap (λ q. find R q all) (exact k e.0 ((Equal-is (R k e.0)).0 is)) ∙ kept.0 ∙ found
     by false is found rest = rest found
-
-  pub near_same : (k : K) (near all : List (K × X)) → AllByRecursion (λ (e : K × X). find R e.0 all ≡ Some e.1) near
-      → is_some (find R k near) ≡ true → find R k near ≡ find R k all
-  near_same k near all kept some = by (find R k near) refl some where
-    by : (o : Option X) → find R k near ≡ o → is_some o ≡ true → find R k near ≡ find R k all
-    by None is none = absurd cc
-    by (Some x) is some = is ∙ sym (near_found k x near all kept is)
 
   pub near_part : (near : List (K × X)) (lists : List (List (List (K × X)))) → AreBooks R lists → IsPart near (entries_in lists)
       → AreNear R near lists

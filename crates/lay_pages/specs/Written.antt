@@ -28,6 +28,11 @@ module _ {K X : Type 0} (R : K → K → Ordering) where
     pub from : from_key k es ≡ drop at es
     pub item : HoldsAt (λ e. find R k es ≡ Some e.1) es at
 
+  -- this index is the key's
+  pub record IsHere (es : List (K × X)) (k : K) (at : ℕ) : Type 0 where
+    pub in_range : at < length es
+    pub item : HoldsAt (λ e. find R k es ≡ Some e.1) es at
+
   -- it has none, which would have this index
   pub record IsGapAt (es : List (K × X)) (k : K) (at : ℕ) : Type 0 where
     pub in_range : at ≤ length es

@@ -7,17 +7,16 @@ ghost use Rattle.lay_pages.specs.Shared.{AreBooks, AreSized, entries_in, items_o
 ghost use Rattle.lay_pages.specs.Written.{IsPart};
 
 use crate::keys::{Kept, PageKey};
-use crate::page;
-use crate::page::{Book, Page};
+use crate::page::{Book, Page, find_on};
 use crate::place::{book_of, page_of};
 use std::marker::Model;
 
-/// Finds the values of a map, with few comparisons where a key is of the page of the last. Contracts see the
+/// Finds the values of a map, with few comparisons where a key is near the last. Contracts see the
 /// list of the map's entries.
 #[derive(Drop)]
 pub struct Finder<'a, K: PageKey, V: Kept> {
     books: &'a [Book<K, V>],
-    /// The page into which the last key fell.
+    /// What is after the last entry that was found, in its page.
     near: &'a [(K, V)],
 }
 
@@ -43,18 +42,34 @@ impl<'a, K: PageKey, V: Kept> Finder<'a, K, V> {
     }
 
     /// Returns the value under the key.
+    ///
+    /// # Cost
+    ///
+    /// One comparison where the key is that of the entry after the last that was found, a page's logarithm
+    /// where it is of the same page, else comparisons in proportion to the logarithm of the number of entries.
     pub fn get(&mut self, key: K) -> Option<&'a V>
         ensures value { option_copied result ≡ find K.cmp key self.old }
         ensures same { self.new ≡ self.old }
     {
         let near = self.near;
-        let found = page::find(near, key);
-        if found.is_some() {
-            return found;
+        match find_on(near, key) {
+            Some((value, rest)) => {
+                self.near = rest;
+                Some(value)
+            }
+            None => self.get_far(key),
         }
-        let near = page_at(self.books, key);
-        self.near = near;
-        page::find(near, key)
+    }
+
+    /// Returns the value under the key, wherever it is.
+    fn get_far(&mut self, key: K) -> Option<&'a V>
+        ensures value { option_copied result ≡ find K.cmp key self.old }
+        ensures same { self.new ≡ self.old }
+    {
+        let page = page_at(self.books, key);
+        let (value, rest) = find_on(page, key)?;
+        self.near = rest;
+        Some(value)
     }
 }
 

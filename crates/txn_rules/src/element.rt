@@ -1,5 +1,7 @@
 //! The parts of a layout that commands read and write, and their order.
 ghost use Rattle.std.specs.Prelude.{◌≡◌, refl};
+ghost use Rattle.std.specs.Cmp.Lexicographic.{slice_cmp};
+ghost use Rattle.std.specs.Ordering.{nat_cmp};
 ghost use Rattle.txn_rules.specs.Elements.{cell_number, cell_rank, name_of, numbers_of};
 
 use lay_cells::CellId;
@@ -72,6 +74,17 @@ fn cell_number(cell: CellId) -> u32
     }
 }
 
+/// Returns the order of the first two of these numbers that differ.
+fn compare(one: [u32; 4], other: [u32; 4]) -> Ordering
+    ensures { result ≡ slice_cmp nat_cmp one other }
+{
+    one[0]
+        .cmp(&other[0])
+        .then(one[1].cmp(&other[1]))
+        .then(one[2].cmp(&other[2]))
+        .then(one[3].cmp(&other[3]))
+}
+
 impl Ord for Element {
     ghost use Rattle.txn_rules.specs.Elements.{element_cmp, elements_total};
 
@@ -84,9 +97,10 @@ impl Ord for Element {
     ghost matches_eq = { λ _ _. refl };
 
     fn cmp(&self, other: &Element) -> Ordering {
-        self.numbers()
-            .cmp(&other.numbers())
-            .then(self.name().cmp(other.name()))
+        match compare(self.numbers(), other.numbers()) {
+            Ordering::Equal => self.name().cmp(other.name()),
+            unequal => unequal,
+        }
     }
 }
 
