@@ -1,8 +1,12 @@
 use Rattle.std.proofs.Common.{◌≡◌, ◌∷◌, true, rules}
 use Rattle.std.specs.Prelude.{is_none}
-use Rattle.cif_write.proofs.BegunLemmas.{Begun-failed, Begun-then, Buffered-is}
+use Rattle.cif_write.proofs.BegunLemmas.{Begun-failed, Begun-nothing, Begun-then, Buffered-is}
 use Rattle.cif_write.proofs.LineLemmas.{items_text-step}
 use Rattle.cif_write.proofs.text.put_items.Goals as goal
+
+-- nothing has been put
+pub loop-item-init : goal.loop-item-init
+loop-item-init g c = Begun-nothing c.args.out.now c.args.buffer.now _
 
 -- the device has failed
 pub returns-then-has_failed : goal.returns-then-has_failed
