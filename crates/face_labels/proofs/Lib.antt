@@ -1,5 +1,6 @@
 pub mod BandLemmas
 pub mod CountLemmas
+pub mod EndLemmas
 pub mod JudgeLemmas
 pub mod KeptLemmas
 pub mod LabelLemmas

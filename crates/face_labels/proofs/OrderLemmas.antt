@@ -1,42 +1,18 @@
 -- The order of a row's edges: it is kept from row to row, and an edge that begins has its place in it.
-use Rattle.std.proofs.Common.{
-  ◌≡◌,
-  ◌≢◌,
-  ◌⊎◌,
-  inl,
-  inr,
-  ⊎_elim,
-  ℕ,
-  zero,
-  suc,
-  ◌+◌,
-  ◌<◌,
-  ◌≤◌,
-  Bool,
-  true,
-  false,
-  not,
-  ◌&&◌,
-  cond,
-  List,
-  [],
-  ◌∷◌,
-  ◌++◌,
-}
-use Rattle.std.proofs.Common.{length, get_or, drop, take, Contains, ℤ, pos, ◌+ℤ◌, ◌-ℤ◌, ◌*ℤ◌, ◌≤ℤ◌, ◌<ℤ◌, refl, sym, ap, subst, ◌∙◌, arith}
-use Rattle.std.specs.Prelude.{filter, int_le, int_lt, nat_eq}
+use Rattle.std.proofs.Common.{◌≡◌, ◌≢◌, ◌⊎◌, inl, inr, ⊎_elim, ℕ, zero, suc, ◌<◌, ◌≤◌, Bool, true, false, not, ◌&&◌, cond, List, [], ◌∷◌}
+use Rattle.std.proofs.Common.{length, get_or, Contains, ℤ, pos, ◌+ℤ◌, ◌-ℤ◌, ◌*ℤ◌, ◌≤ℤ◌, ◌<ℤ◌, refl, sym, ap, subst, ◌∙◌, arith}
+use Rattle.std.specs.Prelude.{int_le, int_lt}
 use Rattle.std.specs.List.{insert}
 use Rattle.std.proofs.lemmas.Int.{ints}
 use Rattle.std.proofs.lemmas.List.{get_or_default}
 use Rattle.std.proofs.lemmas.List.Sorted.{Contains-permutation, IsPermutation-insert, IsPermutation-sym}
 use Rattle.lay_int_laws.proofs.Polynomials.{#, lit, ◌⊕◌, ◌⊖◌, ◌⊗◌, identity}
-use Rattle.lay_int_laws.proofs.Signs.{below_or_not, below_or_same, linear, times_le, times_lt}
+use Rattle.lay_int_laws.proofs.Signs.{below_or_not, below_or_same, linear, times_le}
 use Rattle.lay_point.specs.declared.point.Point.{Point}
 use Rattle.lay_point.specs.Edges.{IsEdgeBefore}
 use Rattle.lay_point.specs.Parity.{xor, distance_right, is_crossed}
 use Rattle.lay_point.specs.Rising.{IsRising}
 use Rattle.lay_point.proofs.Members.{Has, contains, has}
-use Rattle.lay_point.proofs.Rising.{IsStrictOrder, before_rest, rising_rest}
 use Rattle.snap_chains.specs.Meeting.{MeetAtEnds}
 use Rattle.snap_chains.specs.Rounded.{AreClean, Owned}
 use Rattle.face_label_laws.proofs.Rows.{
@@ -61,7 +37,7 @@ use Rattle.face_labels.specs.Rows.{AreRowEdges, AreSomeRowEdges, CrossesRow, IsL
 use Rattle.face_labels.specs.Starts.{BeginsBy}
 use Rattle.face_labels.proofs.KeptLemmas.{crosses}
 use Rattle.face_labels.proofs.JudgeLemmas.{IsBeforeIn, before_rising, before_strict}
-use Rattle.face_labels.proofs.NearLemmas.{at_k, at_x, at_y, near_k, near, right_there}
+use Rattle.face_labels.proofs.NearLemmas.{near_k, near, right_there}
 use Rattle.face_labels.proofs.RowLemmas.{has_get, other_edge, spans_of, upward_meet}
 
 true_le : (a b : ℤ) → a ≤ℤ b → int_le a b ≡ true
@@ -119,48 +95,22 @@ kept_order row row' e f later se se' sf sf' meet left =
     same_by_none false true c d e f g = let h : true ≡ false = e ∙ (λ i. xor (f i) (g i)) in absurd cc
 
 -- ---- rising lists
-rising_from : (Before : ℕ → ℕ → Type 0) (x : ℕ) (ys : List ℕ) → ((y : ℕ) → Has ys y → Before x y) → IsRising Before ys
+pub rising_from : (Before : ℕ → ℕ → Type 0) (x : ℕ) (ys : List ℕ) → ((y : ℕ) → Has ys y → Before x y) → IsRising Before ys
     → IsRising Before (x ∷ ys)
 rising_from Before x [] ahead h = tt
 rising_from Before x (y ∷ ys) ahead h = (ahead y (inl refl), h)
 
-filter_has : (test : ℕ → Bool) (xs : List ℕ) (y : ℕ) → Has (filter test xs) y → Has xs y × (test y ≡ true)
-filter_has test [] y m = absurd m
-filter_has test (x ∷ xs) y m = by_test (test x) refl m (filter_has test xs y)
-  where
-    by_test : (b : Bool) → test x ≡ b → Has (cond b (x ∷ filter test xs) (filter test xs)) y
-        → (Has (filter test xs) y → Has xs y × (test y ≡ true)) → Has (x ∷ xs) y × (test y ≡ true)
-    by_test true t (inl same) further = (inl same, subst (λ z. test z ≡ true) same t)
-    by_test true t (inr m) further = let h = further m in (inr h.0, h.1)
-    by_test false t m further = let h = further m in (inr h.0, h.1)
+-- what rises in one order rises in another, if that agrees on its elements
+rising_agree : (Before After : ℕ → ℕ → Type 0) (xs : List ℕ) → ((x y : ℕ) → Has xs x → Has xs y → Before x y → After x y)
+    → IsRising Before xs → IsRising After xs
+rising_agree Before After [] agree h = tt
+rising_agree Before After (x ∷ []) agree h = tt
+rising_agree Before After (x ∷ y ∷ ys) agree h = (
+  agree x y (inl refl) (inr (inl refl)) h.0,
+  rising_agree Before After (y ∷ ys) (λ a b in_a in_b. agree a b (inr in_a) (inr in_b)) h.1,
+)
 
-has_filter : (test : ℕ → Bool) (xs : List ℕ) (y : ℕ) → Has xs y → test y ≡ true → Has (filter test xs) y
-has_filter test [] y m t = absurd m
-has_filter test (x ∷ xs) y (inl same) t = by_test (test x) (ap test same ∙ t)
-  where
-    by_test : (b : Bool) → b ≡ true → Has (cond b (x ∷ filter test xs) (filter test xs)) y
-    by_test true e = inl same
-    by_test false e = absurd cc
-has_filter test (x ∷ xs) y (inr m) t = by_test (test x) (has_filter test xs y m t)
-  where
-    by_test : (b : Bool) → Has (filter test xs) y → Has (cond b (x ∷ filter test xs) (filter test xs)) y
-    by_test true h = inr h
-    by_test false h = h
-
--- those that pass rise in another order too, if it agrees on them
-rising_filter : (Before After : ℕ → ℕ → Type 0) → IsStrictOrder Before → (test : ℕ → Bool)
-    → ((x y : ℕ) → test x ≡ true → test y ≡ true → Before x y → After x y) → (xs : List ℕ) → IsRising Before xs
-    → IsRising After (filter test xs)
-rising_filter Before After laws test agree [] h = tt
-rising_filter Before After laws test agree (x ∷ xs) h =
-    by_test (test x) refl (rising_filter Before After laws test agree xs (rising_rest Before x xs h))
-  where
-    by_test : (b : Bool) → test x ≡ b → IsRising After (filter test xs) → IsRising After (cond b (x ∷ filter test xs) (filter test xs))
-    by_test true t rest = rising_from After x (filter test xs)
-        (λ y m. let g = filter_has test xs y m in agree x y t g.1 (before_rest Before laws x xs y h g.0)) rest
-    by_test false t rest = rest
-
-rising_map : (Before After : ℕ → ℕ → Type 0) → ((x y : ℕ) → Before x y → After x y) → (xs : List ℕ) → IsRising Before xs → IsRising After xs
+pub rising_map : (Before After : ℕ → ℕ → Type 0) → ((x y : ℕ) → Before x y → After x y) → (xs : List ℕ) → IsRising Before xs → IsRising After xs
 rising_map Before After f [] h = tt
 rising_map Before After f (x ∷ []) h = tt
 rising_map Before After f (x ∷ y ∷ ys) h = (f x y h.0, rising_map Before After f (y ∷ ys) h.1)
@@ -297,62 +247,56 @@ module _ (r : Owned) (rising : IsRising IsEdgeBefore r.0) (clean : AreClean r.0)
       by_place m (inl same) = subst (CrossesRow r.0 (upward (edge_at r n)).0.y) same given
       by_place m (inr found) = h.members m (contains numbers m found)
 
-  -- of a row's edges those that cross a later row are in order there
-  pub still_in_order : (row row' : ℤ) (numbers : List ℕ) → row ≤ℤ row' → AreRowEdges r.0 row numbers
-      → AreSomeRowEdges r.0 row' (filter (λ n. crosses_row row' (edge_at r n)) numbers)
-  still_in_order row row' numbers later h =
-      let test = λ (n : ℕ). crosses_row row' (edge_at r n) in
+  -- edges of a row that cross a later row too are in order there
+  pub still_in_order : (row row' : ℤ) (numbers : List ℕ) → row ≤ℤ row' → AreSomeRowEdges r.0 row numbers
+      → ((n : ℕ) → Contains numbers n → CrossesRow r.0 row' n) → AreSomeRowEdges r.0 row' numbers
+  still_in_order row row' numbers later h cross =
+      let there : (n : ℕ) → Has numbers n → CrossesRow r.0 row' n = λ n found. cross n (contains numbers n found) in
       record {
-        members = λ n found. let g = filter_has test numbers n (has (filter test numbers) n found) in
-            crosses_there n ((h.exact n).0 (contains numbers n g.0)).0 g.1;
-        rising = rising_map (IsBeforeIn r.0 row') (IsLeftOf r.0 row') (λ l m b. b.left) (filter test numbers)
-            (rising_filter (IsBeforeIn r.0 row) (IsBeforeIn r.0 row') (before_strict r.0 row) test
-            (λ m n s t b.
+        members = cross;
+        rising = rising_agree (IsBeforeIn r.0 row) (IsLeftOf r.0 row') numbers
+            (λ m n in_m in_n b.
             let e = edge_at r m in
             let f = edge_at r n in
+            let s = there m in_m in
+            let t = there n in_n in
             let apart : m ≢ n = λ same. (before_strict r.0 row).irreflexive n (subst (λ k. IsBeforeIn r.0 row k n) same b) in
-            let left = kept_order row row' (upward e) (upward f) later (spans_of row e (b.first.1 nowhere)) (spans_of row' e s)
-            (spans_of row f (b.second.1 nowhere)) (spans_of row' f t) (meets m n apart b.first.0 b.second.0)
-            (record { less = b.left nowhere }) in
-            before_any_in r row' m n (crosses_there m b.first.0 s) (crosses_there n b.second.0 t) left.less)
-            numbers (before_rising r.0 row numbers (λ n found. (h.exact n).0 (contains numbers n found)) h.rising));
+            let left = kept_order row row' (upward e) (upward f) later (spans_of row e (b.first.1 nowhere))
+            (spans_of row' e (s.1 nowhere)) (spans_of row f (b.second.1 nowhere)) (spans_of row' f (t.1 nowhere))
+            (meets m n apart b.first.0 b.second.0) (record { less = b.left nowhere }) in
+            (before_any_in r row' m n s t left.less).left)
+            (before_rising r.0 row numbers (λ n found. h.members n (contains numbers n found)) h.rising);
       }
-    where
-      crosses_there : (n : ℕ) → n < length r.0 → crosses_row row' (edge_at r n) ≡ true → CrossesRow r.0 row' n
-      crosses_there n inside t =
-          (inside, λ d. subst (λ f. crosses_row row' f ≡ true) (get_or_default r.0 n nowhere d inside) t)
+
+-- an edge of the later row has begun, or it was in the row
+pub begun_or_there : (r : Owned) (row row' : ℤ) (numbers : List ℕ) (n : ℕ) → row ≤ℤ row' → AreRowEdges r.0 row numbers
+    → CrossesRow r.0 row' n → (row <ℤ (upward (edge_at r n)).0.y) ⊎ Contains numbers n
+begun_or_there r row row' numbers n later old cross =
+    let e = edge_at r n in
+    let s = spans_of row' e (cross.1 nowhere) in
+    ⊎_elim
+    (λ (behind : row <ℤ (upward e).0.y). inl behind)
+    (λ (before : (upward e).0.y ≤ℤ row). inr ((old.exact n).1 (
+      cross.0,
+      λ d. subst (λ f. crosses_row row f ≡ true) (get_or_default r.0 n nowhere d cross.0)
+          (crosses row e before (omega (arith, linear, s.high, later))),
+    )))
+    (below_or_not row (upward e).0.y)
 
 -- the edges of the later row: those that go on, and those that have begun
-pub row_of : (r : Owned) (row row' : ℤ) (numbers new : List ℕ) → row ≤ℤ row' → AreRowEdges r.0 row numbers → AreSomeRowEdges r.0 row' new
-    → ((n : ℕ) → Contains (filter (λ m. crosses_row row' (edge_at r m)) numbers) n → Contains new n)
-    → ((n : ℕ) → CrossesRow r.0 row' n → row <ℤ (upward (edge_at r n)).0.y → Contains new n)
-    → AreRowEdges r.0 row' new
-row_of r row row' numbers new later old h kept begun = record {
-  exact = λ n. (
-    h.members n,
-    λ cross.
-        let e = edge_at r n in
-        let s = spans_of row' e (cross.1 nowhere) in
-        ⊎_elim
-        (λ (behind : row <ℤ (upward e).0.y). begun n cross behind)
-        (λ (before : (upward e).0.y ≤ℤ row).
-        let there : CrossesRow r.0 row n = (
-          cross.0,
-          λ d. subst (λ f. crosses_row row f ≡ true) (get_or_default r.0 n nowhere d cross.0)
-              (crosses row e before (omega (arith, linear, s.high, later))),
-        ) in
-        kept n (contains (filter (λ m. crosses_row row' (edge_at r m)) numbers) n
-        (has_filter (λ m. crosses_row row' (edge_at r m)) numbers n (has numbers n ((old.exact n).1 there)) (cross.1 nowhere))))
-        (below_or_not row (upward e).0.y),
-  );
-  rising = h.rising;
-}
-
 pub later_row : (r : Owned) (row row' : ℤ) (numbers kept new : List ℕ) (starts : List Start) → row ≤ℤ row' → AreRowEdges r.0 row numbers
-    → kept ≡ filter (λ m. crosses_row row' (edge_at r m)) numbers → AreSomeRowEdges r.0 row' new
+    → ((n : ℕ) → Contains numbers n → CrossesRow r.0 row' n → Contains kept n) → AreSomeRowEdges r.0 row' new
     → ((n : ℕ) → Contains kept n → Contains new n) → ((n : ℕ) → BeginsBy starts row' n → CrossesRow r.0 row' n → Contains new n)
     → ((n : ℕ) → n < length r.0 → row <ℤ (upward (edge_at r n)).0.y → (upward (edge_at r n)).0.y ≤ℤ row' → BeginsBy starts row' n)
     → AreRowEdges r.0 row' new
-later_row r row row' numbers kept new starts later old is some goes_on put begun =
-    row_of r row row' numbers new later old some (λ n found. goes_on n (subst (λ l. Contains l n) (sym is) found))
-    (λ n cross behind. put n (begun n cross.0 behind (spans_of row' (edge_at r n) (cross.1 nowhere)).low) cross)
+later_row r row row' numbers kept new starts later old stays some goes_on put begun = record {
+  exact = λ n. (
+    some.members n,
+    λ cross. ⊎_elim
+        (λ (behind : row <ℤ (upward (edge_at r n)).0.y).
+        put n (begun n cross.0 behind (spans_of row' (edge_at r n) (cross.1 nowhere)).low) cross)
+        (λ (there : Contains numbers n). goes_on n (stays n there cross))
+        (begun_or_there r row row' numbers n later old cross),
+  );
+  rising = some.rising;
+}

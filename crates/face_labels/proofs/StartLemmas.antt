@@ -65,10 +65,10 @@ labels_more op r labels starts i d label less inside is so_far =
     (get_or-set_same labels s.number label false inside ∙ is))
 
 -- ---- all starts
-all_has : {A : Type 0} (P : A → Type 0) (xs : List A) → ((x : A) → Has xs x → P x) → All P xs
+pub all_has : {A : Type 0} (P : A → Type 0) (xs : List A) → ((x : A) → Has xs x → P x) → All P xs
 all_has P xs f k d less = f (get_or xs k d) (has_get xs k d less)
 
-has_all : {A : Type 0} (P : A → Type 0) (xs : List A) (x : A) → All P xs → Contains xs x → P x
+pub has_all : {A : Type 0} (P : A → Type 0) (xs : List A) (x : A) → All P xs → Contains xs x → P x
 has_all P xs x all m = subst P m.2 (all m.0 x m.1)
 
 pub are_starts : (r : Owned) (band : Band) (starts : List Start) → IsPermutation (starts_of band r.0) starts → All (IsStartOf r) starts

@@ -1,6 +1,7 @@
 pub mod Bands
 pub mod Beside
 pub mod Counts
+pub mod Ends
 pub mod Crossings
 pub mod Lines
 pub mod Operations

@@ -37,6 +37,7 @@ use Rattle.face_labels.specs.declared.sides.Sides.{Sides}
 use Rattle.face_labels.specs.declared.sides.Told.{Told}
 use Rattle.face_labels.specs.declared.sides.Told.TheVariants.{Inside, Nothing, Unknown}
 use Rattle.face_labels.specs.Counts.{AreCounts}
+use Rattle.face_labels.specs.Ends.{AreEnds}
 use Rattle.face_labels.specs.Lines.{edge_at, owners_at}
 use Rattle.face_labels.specs.Operations.{answer}
 use Rattle.face_labels.specs.Reaches.{IsReach}
@@ -106,3 +107,4 @@ pub record IsLine (r : Owned) (line : Line) : Type 0 where
   pub known : AreKnown r line.known.items
   pub all : All (IsKnown line.known.items) line.numbers.items
   pub reach : IsReach r line.reach
+  pub ends : AreEnds r line.row line.ends.items line.passed

@@ -15,15 +15,17 @@ ghost use Rattle.std.specs.Prelude.{
 };
 ghost use Rattle.face_label_laws.specs.Labels.{differs, items_of};
 ghost use Rattle.face_label_laws.specs.Laws.{AreLesserFirst};
+ghost use Rattle.face_labels.specs.Ends.{AreEnds};
 ghost use Rattle.face_labels.specs.Lines.{edge_at, item_at};
 ghost use Rattle.face_labels.specs.Operations.{answer};
-ghost use Rattle.face_labels.specs.Reaches.{EndAtReach};
-ghost use Rattle.face_labels.specs.Rows.{upward};
-ghost use Rattle.face_labels.specs.Sides.{AreBehind, AreKnown, IsKnown, IsLine};
+ghost use Rattle.face_labels.specs.Rows.{AreRowEdges, upward};
+ghost use Rattle.face_labels.specs.Sides.{AreSound, IsLine};
 ghost use Rattle.face_labels.specs.declared.start.Start.{Start};
 ghost use Rattle.face_labels.specs.Starts.{AreByRow, BeginsBy, IsStartOf};
 
-use crate::moves::{gap_beside, insert_begun, still_crossing};
+use crate::ends::{End, ends_above, take_out_ended};
+use crate::finds::{find_begun, find_sides};
+use crate::moves::{gap_beside, insert_begun};
 use crate::op::Op;
 use crate::reach::Reach;
 use crate::rows::row_edges;
@@ -42,6 +44,10 @@ pub(crate) struct Line {
     /// By the numbers of the edges, the sides of those of this row and of earlier ones.
     pub known: Vec<Option<Sides>>,
     pub reach: Reach,
+    /// Where edges end, in order of the heights.
+    pub ends: Vec<End>,
+    /// Up to where in that list edges end below this row.
+    pub passed: usize,
 }
 
 impl Line {
@@ -55,11 +61,14 @@ impl Line {
         let mut known = no_sides(alloc, edges.edges().len())?;
         let reach = Reach::of_edges(alloc, edges)?;
         find_sides(alloc, edges, numbers.as_slice(), &mut known, &reach)?;
+        let ends = ends_above(alloc, edges.edges(), row)?;
         Ok(Line {
             row,
             numbers,
             known,
             reach,
+            ends,
+            passed: 0,
         })
     }
 
@@ -82,16 +91,35 @@ impl Line {
         ensures line { IfOk result (IsLine edges.now) }
         ensures row { IfOk result (λ line. line.row ≡ row) }
     {
-        let mut numbers = still_crossing(alloc, edges, self.numbers.as_slice(), row)?;
+        let mut numbers = self.numbers;
         let mut known = self.known;
         let reach = self.reach;
-        insert_begun(edges, &mut numbers, starts, row)?;
-        find_sides(alloc, edges, numbers.as_slice(), &mut known, &reach)?;
+        let ends = self.ends;
+        let passed = move_on(
+            edges,
+            &mut numbers,
+            self.row,
+            row,
+            ends.as_slice(),
+            self.passed,
+            starts,
+        )?;
+        find_begun(
+            alloc,
+            edges,
+            numbers.as_slice(),
+            starts,
+            row,
+            &mut known,
+            &reach,
+        )?;
         Ok(Line {
             row,
             numbers,
             known,
             reach,
+            ends,
+            passed,
         })
     }
 
@@ -140,38 +168,30 @@ fn no_sides(alloc: Global, count: usize) -> Result<Vec<Option<Sides>>, AllocErro
     Ok(known)
 }
 
-/// Finds the sides of those of a row's edges of which they aren't known, from right to left.
-fn find_sides(
-    alloc: Global,
+/// Makes the edges of a row those of a later one: takes out those that end below it, and puts in those that
+/// begin in it. Of the ends, `passed` are below the row; returns how many are below the later one.
+fn move_on(
     edges: &CleanEdges,
-    numbers: &[usize],
-    known: &mut Vec<Option<Sides>>,
-    reach: &Reach,
-) -> Result<(), AllocError>
-    requires given { All (λ n. n < length edges.now.0) numbers.now }
-    requires behind { AreBehind edges.now numbers.now }
-    requires known { AreKnown edges.now known.old.items }
-    requires reach { EndAtReach edges.now reach.now numbers.now }
-    ensures known { OnOk result (AreKnown edges.now known.new.items) }
-    ensures all { OnOk result (All (IsKnown known.new.items) numbers.now) }
+    numbers: &mut Vec<usize>,
+    from: i32,
+    row: i32,
+    ends: &[End],
+    passed: usize,
+    starts: &[Start],
+) -> Result<usize, AllocError>
+    requires sound { AreSound edges.now }
+    requires edges { AreRowEdges edges.now.0 from numbers.old.items }
+    requires ends { AreEnds edges.now from ends.now passed }
+    requires later { from ≤ℤ row }
+    requires starts { All (IsStartOf edges.now) starts.now }
+    requires rows { AreByRow starts.now }
+    requires behind { (s : Start) → Contains starts.now s → row ≤ℤ s.y }
+    requires begun { (n : ℕ) → n < length edges.now.0 → from <ℤ (upward (edge_at edges.now n)).0.y
+        → (upward (edge_at edges.now n)).0.y ≤ℤ row → BeginsBy starts.now row n }
+    ensures edges { OnOk result (AreRowEdges edges.now.0 row numbers.new.items) }
+    ensures ends { IfOk result (λ passed. AreEnds edges.now row ends.now passed) }
 {
-    let mut index = numbers.len();
-    while index > 0 {
-        index -= 1;
-        let number = numbers[index];
-        if known[number].is_none() {
-            let sides = Sides::of(
-                alloc,
-                edges,
-                numbers,
-                index,
-                index + 1,
-                known.as_slice(),
-                reach,
-                number,
-            )?;
-            known[number] = Some(sides);
-        }
-    }
-    Ok(())
+    let below = take_out_ended(edges, numbers, from, row, ends, passed);
+    insert_begun(edges, numbers, starts, row)?;
+    Ok(below)
 }

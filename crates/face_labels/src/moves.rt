@@ -9,10 +9,8 @@ ghost use Rattle.std.specs.Prelude.{
   ◌≤ℤ◌,
   All,
   Contains,
-  IfOk,
   OnOk,
   false,
-  filter,
   length,
   slice_index,
   true,
@@ -20,7 +18,7 @@ ghost use Rattle.std.specs.Prelude.{
 ghost use Rattle.face_labels.specs.declared.start.Start.{Start};
 ghost use Rattle.face_labels.specs.Beside.{is_right_of};
 ghost use Rattle.face_labels.specs.Lines.{BeginsAt, EndsBefore, edge_at};
-ghost use Rattle.face_labels.specs.Rows.{AreSomeRowEdges, CrossesRow, crosses_row, upward};
+ghost use Rattle.face_labels.specs.Rows.{AreSomeRowEdges, CrossesRow, upward};
 ghost use Rattle.face_labels.specs.Starts.{AreByRow, BeginsBy, IsStartOf};
 
 use crate::beside::is_right_of;
@@ -28,26 +26,7 @@ use crate::start::{Start, begins_after};
 use crate::upward::crosses_row;
 use lay_point::Edge;
 use snap_chains::CleanEdges;
-use std::alloc::{AllocError, Global};
-
-/// Returns those of the edges that cross the row, in the order given.
-pub(crate) fn still_crossing(
-    alloc: Global,
-    edges: &CleanEdges,
-    numbers: &[usize],
-    row: i32,
-) -> Result<Vec<usize>, AllocError>
-    requires { All (λ n. n < length edges.now.0) numbers.now }
-    ensures { IfOk result (λ kept. kept.items ≡ filter (λ n. crosses_row row (edge_at edges.now n)) numbers.now) }
-{
-    let mut kept = Vec::with_capacity(alloc, numbers.len())?;
-    for number in numbers {
-        if crosses_row(edges.edges()[*number], row) {
-            kept.push(*number)?;
-        }
-    }
-    Ok(kept)
-}
+use std::alloc::AllocError;
 
 /// Puts the edges that begin in the row to their places among its edges. None of the starts, which are in
 /// order, is before the row.

@@ -1,97 +1,57 @@
--- Of the edges of the later row those that begin by this one cross it, and the others are among the starts.
-use Rattle.std.proofs.Common.{◌≡◌, ◌≤ℤ◌, ◌<ℤ◌, Contains, to_z, of_z, w32, length, ℕ, List, ◌<◌, ap, subst, sym, ◌∙◌}
+-- Of the edges of the later row those that don't begin at the starts were in this one, so their sides are known.
+use Rattle.std.proofs.Common.{◌≡◌, ◌≤ℤ◌, ◌<ℤ◌, inl, inr, ⊎_elim, Contains, to_z, of_z, w32, subst, sym}
+use Rattle.std.specs.Prelude.{All}
 use Rattle.std.proofs.lemmas.Int.{to_z-of_z}
-use Rattle.std.specs.Prelude.{All, filter}
+use Rattle.face_labels.specs.Ends.{AreEnds}
 use Rattle.face_labels.specs.Lines.{edge_at, nowhere}
-use Rattle.face_labels.specs.Rows.{AreRowEdges, AreSomeRowEdges, CrossesRow, crosses_row, upward}
 use Rattle.face_labels.specs.Reaches.{EndAtReach}
+use Rattle.face_labels.specs.Rows.{upward}
 use Rattle.face_labels.specs.Sides.{AreBehind, IsKnown}
 use Rattle.face_labels.specs.Starts.{BeginsBy}
-use Rattle.face_labels.proofs.LabelLemmas.{row_behind, row_given}
-use Rattle.face_labels.proofs.OrderLemmas.{later_row, still_in_order}
+use Rattle.face_labels.proofs.LabelLemmas.{row_behind}
+use Rattle.face_labels.proofs.OrderLemmas.{begun_or_there}
 use Rattle.face_labels.proofs.ReachLemmas.{row_ends}
+use Rattle.face_labels.proofs.RowLemmas.{spans_of}
+use Rattle.face_labels.proofs.StartLemmas.{has_all}
 use Rattle.face_labels.proofs.line.Line.later.Goals as goal
 
-pub still_crossing-requires : goal.still_crossing-requires
-still_crossing-requires c =
-    row_given c.args.edges.now.0 c.args.self.row c.args.self.numbers.items c.as_slice.result.now c.as_slice.ensures.value
-    c.requires.line.edges
-
-pub insert_begun-requires-clause-some : goal.insert_begun-requires-clause-some
-insert_begun-requires-clause-some c =
+pub find_begun-requires-clause-behind : goal.find_begun-requires-clause-behind
+find_begun-requires-clause-behind c =
     let r = c.args.edges.now in
-    let row = to_z w32 (of_z w32 c.args.row) in
-    let at : row ≡ c.args.row = to_z-of_z w32 c.args.row c.ranges.row in
-    let sound = c.requires.line.sound in
-    subst (AreSomeRowEdges r.0 row)
-    (sym (c.in_ok-numbers.ensures ∙ ap (filter (λ n. crosses_row row (edge_at r n))) c.as_slice.ensures.value))
-    (still_in_order r sound.rising sound.clean c.args.self.row row c.args.self.numbers.items
-    (subst (λ z. c.args.self.row ≤ℤ z) (sym at) c.requires.later) c.requires.line.edges)
-
-pub find_sides-requires-clause-given : goal.find_sides-requires-clause-given
-find_sides-requires-clause-given c =
-    let r = c.args.edges.now in
-    let old = c.args.self.row in
-    let row = to_z w32 (of_z w32 c.args.row) in
-    let at : row ≡ c.args.row = to_z-of_z w32 c.args.row c.ranges.row in
-    let put = c.in_ok-insert_begun.ensures in
-    let rows = later_row r old row c.args.self.numbers.items c.in_ok-numbers.numbers.items c.insert_begun.new.numbers.items
-    c.args.starts.now
-    (subst (λ z. old ≤ℤ z) (sym at) c.requires.later) c.requires.line.edges
-    (c.in_ok-numbers.ensures ∙ ap (filter (λ n. crosses_row row (edge_at r n))) c.as_slice.ensures.value) put.some put.kept put.begun
-    (λ n given behind upto. subst (λ z. BeginsBy c.args.starts.now z n) (sym at)
-    (c.requires.begun n given behind (subst (λ z. (upward (edge_at r n)).0.y ≤ℤ z) at upto))) in
-    row_given r.0 row c.insert_begun.new.numbers.items c.as_slice-2.result.now c.as_slice-2.ensures.value rows
-
-pub find_sides-requires-clause-behind : goal.find_sides-requires-clause-behind
-find_sides-requires-clause-behind c =
-    let r = c.args.edges.now in
-    let old = c.args.self.row in
-    let row = to_z w32 (of_z w32 c.args.row) in
-    let at : row ≡ c.args.row = to_z-of_z w32 c.args.row c.ranges.row in
-    let put = c.in_ok-insert_begun.ensures in
-    let rows = later_row r old row c.args.self.numbers.items c.in_ok-numbers.numbers.items c.insert_begun.new.numbers.items
-    c.args.starts.now
-    (subst (λ z. old ≤ℤ z) (sym at) c.requires.later) c.requires.line.edges
-    (c.in_ok-numbers.ensures ∙ ap (filter (λ n. crosses_row row (edge_at r n))) c.as_slice.ensures.value) put.some put.kept put.begun
-    (λ n given behind upto. subst (λ z. BeginsBy c.args.starts.now z n) (sym at)
-    (c.requires.begun n given behind (subst (λ z. (upward (edge_at r n)).0.y ≤ℤ z) at upto))) in
     subst (AreBehind r) (sym c.as_slice-2.ensures.value)
-    (row_behind r c.requires.line.sound row c.insert_begun.new.numbers.items rows)
+    (row_behind r c.requires.line.sound (to_z w32 (of_z w32 c.args.row)) c.move_on.new.numbers.items c.in_ok-passed.ensures.edges)
+
+pub find_begun-requires-clause-others : goal.find_begun-requires-clause-others
+find_begun-requires-clause-others c = λ n found.
+    let r = c.args.edges.now in
+    let old = c.args.self in
+    let row = to_z w32 (of_z w32 c.args.row) in
+    let at : row ≡ c.args.row = to_z-of_z w32 c.args.row c.ranges.row in
+    let later = subst (λ z. old.row ≤ℤ z) (sym at) c.requires.later in
+    let cross = (c.in_ok-passed.ensures.edges.exact n).0 (subst (λ l. Contains l n) c.as_slice-2.ensures.value found) in
+    let upto : (upward (edge_at r n)).0.y ≤ℤ c.args.row =
+    subst (λ z. (upward (edge_at r n)).0.y ≤ℤ z) at (spans_of row (edge_at r n) (cross.1 nowhere)).low in
+    ⊎_elim
+    (λ (behind : old.row <ℤ (upward (edge_at r n)).0.y).
+    inl (subst (λ z. BeginsBy c.args.starts.now z n) (sym at) (c.requires.begun n cross.0 behind upto)))
+    (λ (there : Contains old.numbers.items n). inr (has_all (IsKnown old.known.items) old.numbers.items n c.requires.line.all there))
+    (begun_or_there r old.row row old.numbers.items n later c.requires.line.edges cross)
+
+pub find_begun-requires-clause-reach : goal.find_begun-requires-clause-reach
+find_begun-requires-clause-reach c =
+    let r = c.args.edges.now in
+    subst (EndAtReach r c.args.self.reach) (sym c.as_slice-2.ensures.value)
+    (row_ends r c.args.self.reach (to_z w32 (of_z w32 c.args.row)) c.move_on.new.numbers.items c.requires.line.reach
+    c.in_ok-passed.ensures.edges)
 
 pub returns-clause-line : goal.returns-clause-line
 returns-clause-line c =
-    let r = c.args.edges.now in
-    let old = c.args.self.row in
-    let row = to_z w32 (of_z w32 c.args.row) in
-    let at : row ≡ c.args.row = to_z-of_z w32 c.args.row c.ranges.row in
-    let put = c.in_ok-insert_begun.ensures in
-    let rows = later_row r old row c.args.self.numbers.items c.in_ok-numbers.numbers.items c.insert_begun.new.numbers.items
-    c.args.starts.now
-    (subst (λ z. old ≤ℤ z) (sym at) c.requires.later) c.requires.line.edges
-    (c.in_ok-numbers.ensures ∙ ap (filter (λ n. crosses_row row (edge_at r n))) c.as_slice.ensures.value) put.some put.kept put.begun
-    (λ n given behind upto. subst (λ z. BeginsBy c.args.starts.now z n) (sym at)
-    (c.requires.begun n given behind (subst (λ z. (upward (edge_at r n)).0.y ≤ℤ z) at upto))) in
     record {
       sound = c.requires.line.sound;
-      edges = rows;
-      known = c.in_ok-find_sides.ensures.known;
-      all = subst (All (IsKnown c.find_sides.new.known.items)) c.as_slice-2.ensures.value c.in_ok-find_sides.ensures.all;
+      edges = c.in_ok-passed.ensures.edges;
+      known = c.in_ok-find_begun.ensures.known;
+      all = subst (All (IsKnown c.find_begun.new.known.items)) c.as_slice-2.ensures.value c.in_ok-find_begun.ensures.all;
       reach = c.requires.line.reach;
+      ends = subst (λ l. AreEnds c.args.edges.now (to_z w32 (of_z w32 c.args.row)) l c.in_ok-passed.passed) c.as_slice.ensures.value
+          c.in_ok-passed.ensures.ends;
     }
-
-pub find_sides-requires-clause-reach : goal.find_sides-requires-clause-reach
-find_sides-requires-clause-reach c =
-    let r = c.args.edges.now in
-    let old = c.args.self.row in
-    let row = to_z w32 (of_z w32 c.args.row) in
-    let at : row ≡ c.args.row = to_z-of_z w32 c.args.row c.ranges.row in
-    let put = c.in_ok-insert_begun.ensures in
-    let rows = later_row r old row c.args.self.numbers.items c.in_ok-numbers.numbers.items c.insert_begun.new.numbers.items
-    c.args.starts.now
-    (subst (λ z. old ≤ℤ z) (sym at) c.requires.later) c.requires.line.edges
-    (c.in_ok-numbers.ensures ∙ ap (filter (λ n. crosses_row row (edge_at r n))) c.as_slice.ensures.value) put.some put.kept put.begun
-    (λ n given behind upto. subst (λ z. BeginsBy c.args.starts.now z n) (sym at)
-    (c.requires.begun n given behind (subst (λ z. (upward (edge_at r n)).0.y ≤ℤ z) at upto))) in
-    subst (EndAtReach r c.args.self.reach) (sym c.as_slice-2.ensures.value)
-    (row_ends r c.args.self.reach row c.insert_begun.new.numbers.items c.requires.line.reach rows)

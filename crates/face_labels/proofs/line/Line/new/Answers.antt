@@ -1,10 +1,11 @@
-use Rattle.std.proofs.Common.{◌≡◌, None, length, replicate, to_z, of_z, w32, sym, ap, subst, ◌∙◌}
+use Rattle.std.proofs.Common.{None, length, to_z, of_z, w32, sym, ap, subst, ◌∙◌}
 use Rattle.std.specs.Prelude.{All}
-use Rattle.std.proofs.lemmas.Int.{to_z-of_z}
+use Rattle.std.specs.List.Sorted.{IsPermutation}
 use Rattle.std.proofs.lemmas.List.{length-replicate}
-use Rattle.face_labels.specs.Rows.{AreRowEdges}
+use Rattle.face_labels.specs.Ends.{ends_of}
 use Rattle.face_labels.specs.Reaches.{EndAtReach}
 use Rattle.face_labels.specs.Sides.{AreBehind, AreSound, IsKnown}
+use Rattle.face_labels.proofs.EndLemmas.{ends_in_order}
 use Rattle.face_labels.proofs.LabelLemmas.{row_behind, row_given}
 use Rattle.face_labels.proofs.StateLemmas.{none_known}
 use Rattle.face_labels.proofs.ReachLemmas.{row_ends}
@@ -37,6 +38,7 @@ find_sides-requires-clause-known c =
 
 pub returns-clause-line : goal.returns-clause-line
 returns-clause-line c =
+    let r = c.args.edges.now in
     record {
       sound = record {
         rising = c.edges.ensures.rising;
@@ -49,6 +51,10 @@ returns-clause-line c =
       known = c.in_ok-find_sides.ensures.known;
       all = subst (All (IsKnown c.find_sides.new.known.items)) c.as_slice.ensures.value c.in_ok-find_sides.ensures.all;
       reach = c.in_ok-reach.ensures;
+      ends = ends_in_order r (to_z w32 (of_z w32 c.args.row)) c.in_ok-ends.ends.items
+          (subst (λ es. IsPermutation (ends_of (to_z w32 (of_z w32 c.args.row)) es) c.in_ok-ends.ends.items) c.edges-2.ensures.value
+          c.in_ok-ends.ensures.ends)
+          c.in_ok-ends.ensures.order;
     }
 
 pub find_sides-requires-clause-reach : goal.find_sides-requires-clause-reach

@@ -1,7 +1,7 @@
 use Rattle.std.proofs.Common.{◌≤◌, drop, length}
 use Rattle.std.specs.Prelude.{All}
 use Rattle.face_labels.specs.Sides.{AreKnown, IsKnown}
-use Rattle.face_labels.proofs.line.find_sides.Given as goal
+use Rattle.face_labels.proofs.finds.find_sides.Given as goal
 
 -- the sides of those from the index on are known
 abbrev pub invariant-loop-index : goal.invariant-loop-index

@@ -1,0 +1,15 @@
+use Rattle.std.proofs.Common.{◌≤◌, length}
+use Rattle.face_labels.specs.Sides.{AreKnown}
+use Rattle.face_labels.proofs.StateLemmas.{AreOthersKnown}
+use Rattle.face_labels.proofs.finds.find_at.Given as goal
+
+-- the sides of those that don't stand at one of the places left are known
+abbrev pub invariant-loop-left : goal.invariant-loop-left
+invariant-loop-left l = record {
+  bound : l.left ≤ length l.places;
+  known : AreKnown l.edges l.known.items;
+  others : AreOthersKnown l.numbers l.places l.left l.known.items;
+}
+
+abbrev pub decreases-loop-left : goal.decreases-loop-left
+decreases-loop-left l = l.left
