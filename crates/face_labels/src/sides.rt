@@ -26,6 +26,7 @@ ghost use Rattle.face_labels.specs.Sides.{AreBehind, AreKnown, AreSidesOf, IsDif
 use crate::counts::Counts;
 use crate::op::Op;
 use crate::reach::{Reach, is_beyond};
+use smallvec::SmallVec;
 use snap_chains::{CleanEdges, Owner};
 use std::alloc::{AllocError, Global};
 
@@ -34,8 +35,8 @@ use std::alloc::{AllocError, Global};
 pub(crate) struct Sides {
     pub right: Counts,
     pub left: Counts,
-    /// Whether each owner holds right of the edge.
-    pub inside: Vec<bool>,
+    /// Whether each owner holds right of the edge. Up to eight stand in place, and need no list.
+    pub inside: SmallVec<bool, 8>,
 }
 
 /// What an edge tells of a shape.
@@ -74,7 +75,7 @@ impl Sides {
     {
         let right_of = right_counts(edges, &numbers[right..], known);
         let mut left_of = right_of;
-        let mut inside = Vec::new(alloc);
+        let mut inside = SmallVec::new(alloc);
         for owner in edges.owners(number) {
             let limit = reach.limit(*owner);
             let holds = holds_right(edges, numbers, left, right, known, limit, *owner);

@@ -20,7 +20,7 @@ bounds-as_slice-index c =
     ∙ ap option_copied c.in-Some-as_ref.is in
     let owners : owners_at r n ≡ c.owners.result.now = get_or_from_slice_get r.1 n c.owners.result.now [] c.owners.ensures.value in
     let same : length c.as_slice.result.now ≡ length c.owners.result.now =
-    ap length (c.as_slice.ensures.value ∙ (c.requires.known.sides n sides is).inside) ∙ length-map (owners_at r n) (holds_beside r n)
+    ap length (c.as_slice.ensures ∙ (c.requires.known.sides n sides is).inside) ∙ length-map (owners_at r n) (holds_beside r n)
     ∙ ap length owners in
     subst (λ k. c.in-Some.index < k) (sym same) c.in-Some.ensures.0
 
@@ -52,7 +52,7 @@ returns-in-Some-as_ref c =
     ∙ ap option_copied c.in-Some-as_ref.is in
     let owners : owners_at r n ≡ c.owners.result.now = get_or_from_slice_get r.1 n c.owners.result.now [] c.owners.ensures.value in (
       ap (is_listed o) owners ∙ listed_at c.owners.result.now j o found.0 found.1,
-      ap (λ l. get_or l j false) (c.as_slice.ensures.value ∙ (c.requires.known.sides n sides is).inside ∙ ap (map (holds_beside r n))
+      ap (λ l. get_or l j false) (c.as_slice.ensures ∙ (c.requires.known.sides n sides is).inside ∙ ap (map (holds_beside r n))
           owners)
           ∙ get_or-map (holds_beside r n) c.owners.result.now j o false found.0 ∙ ap (holds_beside r n) found.1,
     )

@@ -49,7 +49,7 @@ loop-owner-preserved c =
           (c.turned-left_of.ensures was c.loop-owner.invariant.left
           (ap (λ b. xor b (is_odd_in r behind o)) (none_before owners i first c.owners-owner-items.ensures.rising less)
           ∙ sym c.holds_right-holds.ensures));
-      inside = c.in_ok-push.ensures.items ∙ (λ k. c.loop-owner.invariant.inside k ++ c.holds_right-holds.ensures k ∷ [])
+      inside = c.in_ok-push.ensures.ok ∙ (λ k. c.loop-owner.invariant.inside k ++ c.holds_right-holds.ensures k ∷ [])
           ∙ sym (ap (map (is_odd_in r behind)) (take_more owners i first less) ∙ map-append (is_odd_in r behind) (take i owners) (o ∷ []));
     }
 
