@@ -11,7 +11,8 @@
 //! holds right of an edge is the same all along it, so it is found once, where the edge begins, and kept
 //! (`specs/Sides.antt`): how many shapes of each input hold on its two sides (`specs/Counts.antt`), and
 //! which of its owners are among those on its right. Right of an edge holds what holds left of the next
-//! edge of its row.
+//! edge of its row. From row to row the edges that end are taken out and those that begin are put in
+//! (`specs/Ends.antt`, `specs/Starts.antt`); the others aren't gone through.
 //!
 //! ```
 //! let clean = round(rt, alloc, &rings)?;

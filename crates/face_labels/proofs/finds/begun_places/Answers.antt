@@ -29,15 +29,6 @@ returns-then-begins_after-clause-all c = λ k less begun.
     (late_from starts c.args.row i origin c.requires.rows (subst (λ z. z <ℤ (get_or starts i origin).y) at late) c.loop-start-test.true)
     (λ j d before inside same. c.loop-start.invariant.all j d before inside k less same) (get_or numbers k 0) begun refl
 
-pub returns-clause-all : goal.returns-clause-all
-returns-clause-all c = λ k less begun.
-    let starts = c.args.starts.now in
-    let numbers = c.args.numbers.now in
-    let i = c.loop-start.start-index in
-    begins_in_front starts c.args.row i (λ m. get_or numbers k 0 ≡ m → Contains c.loop-start.places.items k)
-    (λ j d le inside. absurd (omega (arith, c.loop-start-test.false)))
-    (λ j d before inside same. c.loop-start.invariant.all j d before inside k less same) (get_or numbers k 0) begun refl
-
 pub place_of-requires-clause-some : goal.place_of-requires-clause-some
 place_of-requires-clause-some c =
     let r = c.args.edges.now in
