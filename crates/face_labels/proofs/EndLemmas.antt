@@ -164,7 +164,8 @@ not_there r row e n is low cross same =
     let high : row <ℤ e.y = subst (λ z. row <ℤ z) height s.high in
     absurd (omega (arith, linear, high, low))
 
-module _ (r : Owned) (from row : ℤ) (ends : List End) (passed i : ℕ) (old new : List ℕ) (h : ArePassed r from row ends passed i old new) where
+module _ (r : Owned) (from row : ℤ) (ends : List End) (passed i : ℕ) (old new : List ℕ)
+    (h : ArePassed r from row ends passed i old new) where
   pub passed_more : (after : List ℕ) (e : End) → All (IsEndOf r) ends → i < length ends → (get_or ends i e).y ≤ℤ row
       → IsWithout r from new (get_or ends i e).number after → ArePassed r from row ends passed (i + 1) old after
   passed_more after e own less low without = record {

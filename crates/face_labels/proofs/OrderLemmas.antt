@@ -110,7 +110,8 @@ rising_agree Before After (x ∷ y ∷ ys) agree h = (
   rising_agree Before After (y ∷ ys) (λ a b in_a in_b. agree a b (inr in_a) (inr in_b)) h.1,
 )
 
-pub rising_map : (Before After : ℕ → ℕ → Type 0) → ((x y : ℕ) → Before x y → After x y) → (xs : List ℕ) → IsRising Before xs → IsRising After xs
+pub rising_map : (Before After : ℕ → ℕ → Type 0) → ((x y : ℕ) → Before x y → After x y) → (xs : List ℕ) → IsRising Before xs
+    → IsRising After xs
 rising_map Before After f [] h = tt
 rising_map Before After f (x ∷ []) h = tt
 rising_map Before After f (x ∷ y ∷ ys) h = (f x y h.0, rising_map Before After f (y ∷ ys) h.1)

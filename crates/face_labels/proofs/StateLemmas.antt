@@ -1,6 +1,6 @@
 -- Sides of edges that are known, and what those of a row tell about a gap in it.
-use Rattle.std.proofs.Common.{◌≡◌, ◌⊎◌, inl, inr, ⊎_elim, ℕ, zero, suc, ◌+◌, ◌-◌, ◌<◌, ◌≤◌, Bool, true, false, not, List, [], ◌∷◌, None, Option, Some}
-use Rattle.std.proofs.Common.{Contains, length, get_or, drop, set, replicate, add-one, refl, sym, ap, subst, ◌∙◌, arith}
+use Rattle.std.proofs.Common.{◌≡◌, ◌⊎◌, inl, inr, ⊎_elim, ℕ, zero, suc, ◌+◌, ◌-◌, ◌<◌, ◌≤◌, Bool, true, false, not, List, [], ◌∷◌}
+use Rattle.std.proofs.Common.{None, Option, Some, Contains, length, get_or, drop, set, replicate, add-one, refl, sym, ap, subst, ◌∙◌, arith}
 use Rattle.std.specs.Prelude.{All, nat_eq, nat_lt}
 use Rattle.std.specs.Bool.{beq}
 use Rattle.std.specs.List.Sorted.{IsNonDecreasing}
@@ -243,7 +243,8 @@ one_fewer numbers places i known new some h kept here k less = ⊎_elim
         let same : i - 1 ≡ place.0 = omega (arith, lt, ge, some) in
         inr (subst (λ j. IsKnown new (get_or numbers j 0)) (ap (λ m. get_or places m 0) same ∙ place.2) here)
 
-pub none_left : (numbers places : List ℕ) (known : List (Option Sides)) → AreOthersKnown numbers places 0 known → All (IsKnown known) numbers
+pub none_left : (numbers places : List ℕ) (known : List (Option Sides)) → AreOthersKnown numbers places 0 known
+    → All (IsKnown known) numbers
 none_left numbers places known h k d less = ⊎_elim
     (λ (place : (m : ℕ) × (m < 0) × (get_or places m 0 ≡ k)). let lt = place.1 in absurd (omega (arith, lt)))
     (λ (own : IsKnown known (get_or numbers k 0)). subst (IsKnown known) (get_or_default numbers k 0 d less) own)

@@ -1,5 +1,6 @@
 -- The place of an edge that crosses the row is where it stands.
-use Rattle.std.proofs.Common.{◌≡◌, ⊎_elim, ◌<◌, ◌≤◌, ◌<ℤ◌, ◌++◌, [], ◌∷◌, ℕ, List, true, false, pos, Contains, get_or, length, to_z, of_z, w32, refl, sym, subst, ap, ◌∙◌, arith, rules}
+use Rattle.std.proofs.Common.{◌≡◌, ⊎_elim, ◌<◌, ◌≤◌, ◌<ℤ◌, ◌++◌, [], ◌∷◌, ℕ, List, true, false, pos}
+use Rattle.std.proofs.Common.{Contains, get_or, length, to_z, of_z, w32, refl, sym, subst, ap, ◌∙◌, arith, rules}
 use Rattle.std.specs.Prelude.{All}
 use Rattle.std.proofs.lemmas.Bool.{cases_lt}
 use Rattle.std.proofs.lemmas.Int.{to_z-of_z}
