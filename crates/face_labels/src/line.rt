@@ -95,24 +95,9 @@ impl Line {
         let mut known = self.known;
         let reach = self.reach;
         let ends = self.ends;
-        let passed = move_on(
-            edges,
-            &mut numbers,
-            self.row,
-            row,
-            ends.as_slice(),
-            self.passed,
-            starts,
-        )?;
-        find_begun(
-            alloc,
-            edges,
-            numbers.as_slice(),
-            starts,
-            row,
-            &mut known,
-            &reach,
-        )?;
+        let from = self.row;
+        let passed = move_on(edges, &mut numbers, from, row, &ends, self.passed, starts)?;
+        find_begun(alloc, edges, &numbers, starts, row, &mut known, &reach)?;
         Ok(Line {
             row,
             numbers,
