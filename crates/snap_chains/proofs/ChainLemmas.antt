@@ -49,18 +49,17 @@ along_order s = record {
   less = λ p q h. below_by_key s p q (int_cmp (key s p) (key s q)) refl h;
 }
 
--- the centres of the columns that are met, sorted, each once
-pub chain_of : (s : Segment) (hot columns points moved chain : List Point)
-    → ((c : Point) → Contains columns c → Contains hot c) → ((c : Point) → Contains hot c → Meets s.a s.b c → Contains columns c)
-    → ((c : Point) → Contains points c ↔ (Contains columns c × Meets s.a s.b c))
+-- the hot centres that are met, sorted, each once
+pub chain_of : (s : Segment) (hot points moved chain : List Point)
+    → ((c : Point) → Contains points c ↔ (Contains hot c × Meets s.a s.b c))
     → IsPermutation points moved → IsSorted (along_cmp s) moved → IsFiltered (DiffersFromLast point_eq) [] moved chain
     → IsChain (Contains hot) s chain
-chain_of s hot columns points moved chain inside all met move sorted filtered =
+chain_of s hot points moved chain met move sorted filtered =
     let once = sorted_once (IsBelow s) (along_order s) points moved chain move sorted filtered in
     record {
       rising = once.rising;
       exact = λ c. (
-        (λ w. let m = (met c).0 ((once.members c).0 w) in (inside c m.0, m.1)),
-        (λ h. (once.members c).1 ((met c).1 (all c h.0 h.1, h.1))),
+        (λ w. (met c).0 ((once.members c).0 w)),
+        (λ h. (once.members c).1 ((met c).1 h)),
       );
     }

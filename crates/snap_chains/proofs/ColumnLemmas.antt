@@ -1,9 +1,10 @@
--- Centres in order rise by x; so those in the columns of a segment are neighbours, and no other is met.
-use Rattle.std.proofs.Common.{◌≡◌, ⊎_elim, ℕ, zero, suc, ◌+◌, ◌-◌, ◌<◌, ◌≤◌, inl, inr, List, length, get_or, drop, map, true, false}
-use Rattle.std.proofs.Common.{ℤ, ◌≤ℤ◌, ◌<ℤ◌, sym, ap, ◌∙◌, subst, arith, Contains}
-use Rattle.std.specs.Prelude.{int_lt, int_le, slice_range}
+-- Centres in order: no centre before the low corner of a segment's box is met, and none behind its high corner.
+use Rattle.std.proofs.Common.{◌≡◌, ◌↔◌, ⊎_elim, ℕ, zero, suc, ◌+◌, ◌-◌, ◌<◌, ◌≤◌, ◌⊎◌, inl, inr, List, length, get_or, drop, map, true, false}
+use Rattle.std.proofs.Common.{ℤ, ◌≤ℤ◌, ◌<ℤ◌, sym, ap, ◌∙◌, subst, arith, Bool, Contains, Decides}
+use Rattle.std.specs.Prelude.{int_lt, not, slice_range}
 use Rattle.std.specs.List.Sorted.{IsPartitionedBy, IsPartitionPoint}
-use Rattle.std.proofs.lemmas.Bool.{cases_lt}
+use Rattle.std.proofs.lemmas.Bool.{cases_lt, false≢true}
+use Rattle.std.proofs.lemmas.Bool.Decides.{Decides-and, Decides-int_eq, Decides-not, Decides-or}
 use Rattle.std.proofs.lemmas.Int.{ints}
 use Rattle.std.proofs.lemmas.List.{get_or-drop, get_or-take, length-drop, length-take}
 use Rattle.lay_point.specs.declared.point.Point.{Point}
@@ -13,113 +14,183 @@ use Rattle.snap_pixels.specs.Segments.{Meets}
 use Rattle.snap_pixels.proofs.OrderLemmas.{IsRising-next, turned_members}
 use Rattle.snap_pixels.proofs.BoxLemmas.{Meets-apart}
 use Rattle.lay_int_laws.proofs.Signs.{linear}
+use Rattle.snap_chains.specs.Columns.{HoldMet, is_before}
 
-column_le : (p q : Point) → IsBefore p q → p.x ≤ℤ q.x
-column_le p q (inl less) = omega (arith, linear)
-column_le p q (inr tie) = omega (arith, linear, tie.0)
+Decides-int_lt : (a b : ℤ) → Decides (int_lt a b) (a <ℤ b)
+Decides-int_lt a b = ((λ t. grind (arith, ints)), (λ h. grind (arith, ints)))
 
-columns_rise : (cs : List Point) → IsRising cs → (i j : ℕ) (d : Point) → i ≤ j → j < length cs → (get_or cs i d).x ≤ℤ (get_or cs j d).x
-columns_rise cs h i zero d le lt =
+pub Decides-is_before : (p q : Point) → Decides (is_before p q) (IsBefore p q)
+Decides-is_before p q =
+    Decides-or _ _ (Decides-int_lt p.x q.x) (Decides-and _ _ (Decides-int_eq p.x q.x) (Decides-int_lt p.y q.y))
+
+-- before, or the same
+abbrev IsAtMost : Point → Point → Type 0
+IsAtMost p q = (p ≡ q) ⊎ IsBefore p q
+
+before_trans : (p q r : Point) → IsBefore p q → IsBefore q r → IsBefore p r
+before_trans p q r (inl h) (inl g) = inl (omega (arith, linear))
+before_trans p q r (inl h) (inr g) = inl (omega (arith, linear, g.0))
+before_trans p q r (inr h) (inl g) = inl (omega (arith, linear, h.0))
+before_trans p q r (inr h) (inr g) = inr (h.0 ∙ g.0, omega (arith, linear, h.1, g.1))
+
+centres_rise : (cs : List Point) → IsRising cs → (i j : ℕ) (d : Point) → i ≤ j → j < length cs → IsAtMost (get_or cs i d) (get_or cs j d)
+centres_rise cs h i zero d le lt =
     let e : i ≡ zero = omega arith in
-    subst (λ k. (get_or cs k d).x ≤ℤ (get_or cs zero d).x) (sym e) (omega (arith, linear))
-columns_rise cs h i (suc j) d le lt = ⊎_elim
+    inl (ap (λ k. get_or cs k d) e)
+centres_rise cs h i (suc j) d le lt = ⊎_elim
     (λ (less : i < suc j).
-    let before = columns_rise cs h i j d (omega arith) (omega arith) in
     let next : j + 1 ≡ suc j = omega arith in
-    let step = column_le (get_or cs j d) (get_or cs (suc j) d) (subst (λ k. IsBefore (get_or cs j d) (get_or cs k d)) next
-    (IsRising-next cs h j d (omega arith))) in
-    omega (arith, linear))
+    let step = subst (λ k. IsBefore (get_or cs j d) (get_or cs k d)) next (IsRising-next cs h j d (omega arith)) in
+    inr (⊎_elim
+    (λ same. subst (λ p. IsBefore p (get_or cs (suc j) d)) (sym same) step)
+    (λ before. before_trans (get_or cs i d) (get_or cs j d) (get_or cs (suc j) d) before step)
+    (centres_rise cs h i j d (omega arith) (omega arith))))
     (λ (ge : suc j ≤ i).
     let e : i ≡ suc j = omega arith in
-    subst (λ k. (get_or cs k d).x ≤ℤ (get_or cs (suc j) d).x) (sym e) (omega (arith, linear)))
+    inl (ap (λ k. get_or cs k d) e))
     (cases_lt i (suc j))
 
-lt_below : (a b h : ℤ) → a ≤ℤ b → int_lt b h ≡ true → int_lt a h ≡ true
-lt_below a b h le t = grind (arith, ints)
+pub left_part : (low : Point) (cs : List Point) → IsRising cs → IsPartitionedBy (λ c. is_before c low) cs
+left_part low cs up i j d le lt t =
+    let less = (Decides-is_before (get_or cs j d) low).0 t in
+    (Decides-is_before (get_or cs i d) low).1 (⊎_elim
+    (λ same. subst (λ p. IsBefore p low) (sym same) less)
+    (λ before. before_trans (get_or cs i d) (get_or cs j d) low before less)
+    (centres_rise cs up i j d le lt))
 
-le_below : (a b h : ℤ) → a ≤ℤ b → int_le b h ≡ true → int_le a h ≡ true
-le_below a b h le t = grind (arith, ints)
+Decides-no_later : (high c : Point) → Decides (not (is_before high c)) (¬ IsBefore high c)
+Decides-no_later high c = Decides-not _ (Decides-is_before high c)
 
-pub left_part : (h : ℤ) (cs : List Point) → IsRising cs → IsPartitionedBy (λ c. int_lt c.x h) cs
-left_part h cs up i j d le lt t = lt_below (get_or cs i d).x (get_or cs j d).x h (columns_rise cs up i j d le lt) t
+pub right_part : (high : Point) (cs : List Point) → IsRising cs → IsPartitionedBy (λ c. not (is_before high c)) cs
+right_part high cs up i j d le lt t =
+    let no_later = (Decides-no_later high (get_or cs j d)).0 t in
+    (Decides-no_later high (get_or cs i d)).1 (λ later. no_later (⊎_elim
+    (λ same. subst (IsBefore high) same later)
+    (λ before. before_trans high (get_or cs i d) (get_or cs j d) later before)
+    (centres_rise cs up i j d le lt)))
 
-pub right_part : (h : ℤ) (cs : List Point) → IsRising cs → IsPartitionedBy (λ c. int_le c.x h) cs
-right_part h cs up i j d le lt t = le_below (get_or cs i d).x (get_or cs j d).x h (columns_rise cs up i j d le lt) t
+-- the corners of a box round a and b
+pub record AreCorners (low high a b : Point) : Type 0 where
+  pub left_of_a : low.x ≤ℤ a.x
+  pub left_of_b : low.x ≤ℤ b.x
+  pub below_a : low.y ≤ℤ a.y
+  pub below_b : low.y ≤ℤ b.y
+  pub right_of_a : a.x ≤ℤ high.x
+  pub right_of_b : b.x ≤ℤ high.x
+  pub above_a : a.y ≤ℤ high.y
+  pub above_b : b.y ≤ℤ high.y
 
--- the columns from low to high are all that a segment from a to b goes through
-pub record AreColumns (low high : ℤ) (a b : Point) : Type 0 where
-  pub low_first : low ≤ℤ a.x
-  pub low_last : low ≤ℤ b.x
-  pub high_first : a.x ≤ℤ high
-  pub high_last : b.x ≤ℤ high
-
--- the centres from the index `from` on are in the column low or later, and those from `to` on behind the column high
-pub record ArePlaces (cs : List Point) (low high : ℤ) (from to : ℕ) : Type 0 where
-  pub early : IsPartitionPoint (λ c. int_lt c.x low ≡ true) (λ c. int_lt c.x low ≡ false) cs from
-  pub late : IsPartitionPoint (λ c. int_le c.x high ≡ true) (λ c. int_le c.x high ≡ false) cs to
+-- the centres from the index `from` on aren't before the low corner, and those from `to` on are behind the high one
+pub record ArePlaces (cs : List Point) (low high : Point) (from to : ℕ) : Type 0 where
+  pub early : IsPartitionPoint (λ c. is_before c low ≡ true) (λ c. is_before c low ≡ false) cs from
+  pub late : IsPartitionPoint (λ c. not (is_before high c) ≡ true) (λ c. not (is_before high c) ≡ false) cs to
   pub inside : from ≤ length cs
 
-not_both : (low high a x : ℤ) → low ≤ℤ a → a ≤ℤ high → int_lt x low ≡ true → int_le x high ≡ false → ⊥
-not_both low high a x lo hi early late = grind (arith, ints)
+module _ (low high a b : Point) (h : AreCorners low high a b) where
+  not_both : (c : Point) → IsBefore c low → IsBefore high c → ⊥
+  not_both c (inl e) (inl l) = omega (arith, linear, h.left_of_a, h.right_of_a)
+  not_both c (inl e) (inr l) = omega (arith, linear, h.left_of_a, h.right_of_a, l.0)
+  not_both c (inr e) (inl l) = omega (arith, linear, h.left_of_a, h.right_of_a, e.0)
+  not_both c (inr e) (inr l) = omega (arith, linear, h.below_a, h.above_a, e.1, l.1)
 
-pub places_in_order : (cs : List Point) (low high : ℤ) (from to : ℕ) (a b : Point) → AreColumns low high a b →
-    ArePlaces cs low high from to → from ≤ to
-places_in_order cs low high from to a b h p = ⊎_elim
-    (λ (wrong : to < from). absurd (not_both low high a.x (get_or cs to a).x h.low_first h.high_first
-    (p.early.0 to a (omega arith) wrong) (p.late.1 to a (omega arith) (omega (arith, p.inside)))))
-    (λ (right : from ≤ to). right)
-    (cases_lt to from)
+  early_apart : (c : Point) → IsBefore c low → Meets a b c → ⊥
+  early_apart c (inl e) met = Meets-apart a b c (inl (inr (
+    omega (arith, linear, h.left_of_a),
+    omega (arith, linear, h.left_of_b),
+    omega (arith, linear, h.left_of_a),
+    omega (arith, linear, h.left_of_b),
+  ))) met
+  early_apart c (inr e) met = Meets-apart a b c (inr (inr (
+    omega (arith, linear, h.below_a, e.1),
+    omega (arith, linear, h.below_b, e.1),
+    omega (arith, linear, h.below_a, e.1),
+    omega (arith, linear, h.below_b, e.1),
+  ))) met
 
-is_lt : (x h : ℤ) → int_lt x h ≡ true → x <ℤ h
-is_lt x h t = grind (arith, ints)
+  late_apart : (c : Point) → IsBefore high c → Meets a b c → ⊥
+  late_apart c (inl l) met = Meets-apart a b c (inl (inl (
+    omega (arith, linear, h.right_of_a),
+    omega (arith, linear, h.right_of_a),
+    omega (arith, linear, h.right_of_b),
+    omega (arith, linear, h.right_of_b),
+  ))) met
+  late_apart c (inr l) met = Meets-apart a b c (inr (inl (
+    omega (arith, linear, h.above_a, l.1),
+    omega (arith, linear, h.above_a, l.1),
+    omega (arith, linear, h.above_b, l.1),
+    omega (arith, linear, h.above_b, l.1),
+  ))) met
 
-is_gt : (x h : ℤ) → int_le x h ≡ false → h <ℤ x
-is_gt x h t = grind (arith, ints)
+  module _ (cs : List Point) (from to : ℕ) (p : ArePlaces cs low high from to) where
+    is_late : (c : Point) → not (is_before high c) ≡ false → IsBefore high c
+    is_late c t = later (is_before high c) (Decides-is_before high c) t
+      where
+        later : (r : Bool) → Decides r (IsBefore high c) → not r ≡ false → IsBefore high c
+        later true d e = d.0 (λ i. true)
+        later false d e = absurd (false≢true (sym e))
 
-pub columns_have_all : (cs : List Point) (low high : ℤ) (from to : ℕ) (a b : Point) → AreColumns low high a b →
-    ArePlaces cs low high from to
-    → (c : Point) → Contains cs c → Meets a b c → Contains (slice_range cs from to) c
-columns_have_all cs low high from to a b h p c (k, lt, at) met =
-    let not_early : from ≤ k = ⊎_elim
-    (λ (early : k < from).
-    let less : c.x <ℤ low = is_lt c.x low (subst (λ (v : Point). int_lt v.x low ≡ true) at (p.early.0 k c (omega arith) early)) in
-    absurd (Meets-apart a b c (inl (inr (
-      omega (arith, linear, h.low_first),
-      omega (arith, linear, h.low_last),
-      omega (arith, linear, h.low_first),
-      omega (arith, linear, h.low_last),
-    ))) met))
-    (λ (right : from ≤ k). right) (cases_lt k from) in
-    let not_late : k < to = ⊎_elim
-    (λ (right : k < to). right)
-    (λ (late : to ≤ k).
-    let more : high <ℤ c.x = is_gt c.x high (subst (λ (v : Point). int_le v.x high ≡ false) at (p.late.1 k c late lt)) in
-    absurd (Meets-apart a b c (inl (inl (
-      omega (arith, linear, h.high_first),
-      omega (arith, linear, h.high_first),
-      omega (arith, linear, h.high_last),
-      omega (arith, linear, h.high_last),
-    ))) met))
-    (cases_lt k to) in
+    pub places_in_order : from ≤ to
+    places_in_order = ⊎_elim
+        (λ (wrong : to < from). absurd (not_both (get_or cs to a)
+        ((Decides-is_before (get_or cs to a) low).0 (p.early.0 to a (omega arith) wrong))
+        (is_late (get_or cs to a) (p.late.1 to a (omega arith) (omega (arith, p.inside))))))
+        (λ (right : from ≤ to). right)
+        (cases_lt to from)
+
+    pub hold_met : HoldMet cs a b (from, to)
+    hold_met k c lt at met = (
+      ⊎_elim
+          (λ (early : k < from).
+          let less = (Decides-is_before c low).0 (subst (λ (v : Point). is_before v low ≡ true) at (p.early.0 k c (omega arith) early)) in
+          absurd (early_apart c less met))
+          (λ (right : from ≤ k). right)
+          (cases_lt k from),
+      ⊎_elim
+          (λ (right : k < to). right)
+          (λ (late : to ≤ k).
+          let more = is_late c (subst (λ (v : Point). not (is_before high v) ≡ false) at (p.late.1 k c late lt)) in
+          absurd (late_apart c more met))
+          (cases_lt k to),
+    )
+
+pub columns_have_all : (cs : List Point) (a b : Point) (places : ℕ × ℕ) → HoldMet cs a b places
+    → (c : Point) → Contains cs c → Meets a b c → Contains (slice_range cs places.0 places.1) c
+columns_have_all cs a b (from, to) held c (k, lt, at) met =
+    let inside = held k c lt at met in
+    let not_early : from ≤ k = inside.0 in
+    let not_late : k < to = inside.1 in
     let back : from + (k - from) ≡ k = omega arith in (
       k - from,
-      omega (arith, length-take (to - from) (drop from cs), length-drop from cs),
+      omega (arith, lt, not_early, not_late, length-take (to - from) (drop from cs), length-drop from cs),
       get_or-take (to - from) (drop from cs) (k - from) c (omega arith) ∙ get_or-drop from cs (k - from) c ∙ ap (λ j. get_or cs j c) back
           ∙ at,
     )
+
+-- of the centres in the columns of a segment those that are met
+pub met_in_columns : (hot columns met : List Point) (a b : Point) → ((c : Point) → Contains columns c → Contains hot c)
+    → ((c : Point) → Contains hot c → Meets a b c → Contains columns c)
+    → ((c : Point) → Contains met c ↔ (Contains columns c × Meets a b c)) → (c : Point) → Contains met c ↔ (Contains hot c × Meets a b c)
+met_in_columns hot columns met a b inside all are_met c = (
+  (λ m. let there = (are_met c).0 m in (inside c there.0, there.1)),
+  (λ h. (are_met c).1 (all c h.0 h.1, h.1)),
+)
 
 -- ---- on the other side of the diagonal
 pub meets_turned : (a b c : Point) → Meets a b c → Meets (turned a) (turned b) (turned c)
 meets_turned a b c (k, t, f, place) = (k, t, f, record { column = place.row; row = place.column })
 
-pub back_inside : (hot others part found : List Point) → AreTurned hot others → ((c : Point) → Contains part c → Contains others c)
-    → found ≡ map turned part → (c : Point) → Contains found c → Contains hot c
-back_inside hot others part found other inside is c m =
-    (other c).0 (inside (turned c) ((turned_members part (turned c)).0 (subst (λ l. Contains l c) is m)))
-
-pub back_all : (hot others part found : List Point) (a b : Point) → AreTurned hot others
-    → ((c : Point) → Contains others c → Meets (turned a) (turned b) c → Contains part c)
-    → found ≡ map turned part → (c : Point) → Contains hot c → Meets a b c → Contains found c
-back_all hot others part found a b other all is c m met =
-    subst (λ l. Contains l c) (sym is)
-    ((turned_members part (turned c)).1 (all (turned c) ((other c).1 m) (meets_turned a b c met)))
+-- of the centres in the rows of a segment those that are met, turned back
+pub met_in_rows : (hot others rows met found : List Point) (a b : Point) → AreTurned hot others
+    → ((c : Point) → Contains rows c → Contains others c)
+    → ((c : Point) → Contains others c → Meets (turned a) (turned b) c → Contains rows c)
+    → ((c : Point) → Contains met c ↔ (Contains rows c × Meets (turned a) (turned b) c))
+    → found ≡ map turned met → (c : Point) → Contains found c ↔ (Contains hot c × Meets a b c)
+met_in_rows hot others rows met found a b other inside all are_met is c = (
+  (λ m.
+      let there = (are_met (turned c)).0 ((turned_members met (turned c)).0 (subst (λ l. Contains l c) is m)) in
+      ((other c).0 (inside (turned c) there.0), meets_turned (turned a) (turned b) (turned c) there.1)),
+  (λ h.
+      let across = meets_turned a b c h.1 in
+      subst (λ l. Contains l c) (sym is)
+      ((turned_members met (turned c)).1 ((are_met (turned c)).1 (all (turned c) ((other c).1 h.0) across, across)))),
+)

@@ -6,6 +6,7 @@ pub mod Rounded
 pub mod Round
 pub mod Visits
 pub mod OwnerLists
+pub mod Columns
 pub use Rattle.snap_edge_test.specs.Chains
 pub use Rattle.snap_edge_test.specs.Rising
 pub use Rattle.snap_edge_test.specs.Rounding

@@ -1,15 +1,14 @@
 //! Chains of segments: the hot centres that they meet, in the order in which they go.
-ghost use Rattle.std.specs.Prelude.{◌≡◌, ◌↔◌, ◌^◌, neg_ℤ, pos, ◌-ℤ◌, ◌*ℤ◌, ◌≤ℤ◌, Contains, IfOk};
+ghost use Rattle.std.specs.Prelude.{◌≡◌, ◌^◌, neg_ℤ, pos, ◌-ℤ◌, ◌*ℤ◌, ◌≤ℤ◌, Contains, IfOk};
 ghost use Rattle.std.specs.Int.{int_signum};
 ghost use Rattle.lay_point.specs.declared.point.Point.{Point};
-ghost use Rattle.snap_pixels.specs.Segments.{Meets};
 ghost use Rattle.snap_edge_test.specs.Edges.{key};
 ghost use Rattle.snap_edge_test.specs.Chains.{IsChain};
 
-use crate::candidates::candidates;
+use crate::candidates::met_hot;
 use lay_point::{NoMemory, Point};
-use snap_pixels::{HotSet, Segment, meets};
-use std::alloc::{AllocError, Global};
+use snap_pixels::{HotSet, Segment};
+use std::alloc::Global;
 use std::cmp::Ordering;
 
 /// Returns the hot centres whose pixels the segment meets, in the order in which it goes.
@@ -18,24 +17,9 @@ use std::cmp::Ordering;
 pub fn chain(alloc: Global, segment: &Segment, hot: &HotSet) -> Result<Vec<Point>, NoMemory>
     ensures { IfOk result (λ points. IsChain (Contains hot.now) segment.now points.items) }
 {
-    let candidates = candidates(alloc, segment, hot)?;
-    let mut points = met(alloc, segment, candidates.as_slice())?;
+    let mut points = met_hot(alloc, segment, hot)?;
     points.sort_unstable_by_key(|point: &Point| (key(segment, *point), *point));
     points.dedup();
-    Ok(points)
-}
-
-/// Returns those of the centres whose pixels the segment meets.
-fn met(alloc: Global, segment: &Segment, centres: &[Point]) -> Result<Vec<Point>, AllocError>
-    ensures { IfOk result (λ points. (c : Point) → Contains points.items c
-        ↔ (Contains centres.now c × Meets segment.now.a segment.now.b c)) }
-{
-    let mut points = Vec::new(alloc);
-    for centre in centres {
-        if meets(segment, *centre) {
-            points.push(*centre)?;
-        }
-    }
     Ok(points)
 }
 

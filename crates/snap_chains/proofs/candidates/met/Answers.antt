@@ -3,8 +3,8 @@ use Rattle.std.proofs.lemmas.List.{take_all, get_or_default}
 use Rattle.lay_point.specs.declared.point.Point.{Point}
 use Rattle.snap_pixels.specs.Segments.{Meets}
 use Rattle.snap_chains.proofs.Sorted.{kept_more}
-use Rattle.snap_chains.proofs.chains.met.Goals as goal
-use Rattle.snap_chains.proofs.chains.met.Goals.{then-meets+in_ok-push, else-meets}
+use Rattle.snap_chains.proofs.candidates.met.Goals as goal
+use Rattle.snap_chains.proofs.candidates.met.Goals.{then-meets+in_ok-push, else-meets}
 
 pub loop-centre-preserved : goal.loop-centre-preserved
 loop-centre-preserved c =
