@@ -1,6 +1,6 @@
 -- Centres in order: no centre before the low corner of a segment's box is met, and none behind its high corner.
-use Rattle.std.proofs.Common.{◌≡◌, ◌↔◌, ⊎_elim, ℕ, zero, suc, ◌+◌, ◌-◌, ◌<◌, ◌≤◌, ◌⊎◌, inl, inr, List, length, get_or, drop, map, true, false}
-use Rattle.std.proofs.Common.{ℤ, ◌≤ℤ◌, ◌<ℤ◌, sym, ap, ◌∙◌, subst, arith, Bool, Contains, Decides}
+use Rattle.std.proofs.Common.{◌≡◌, ◌↔◌, ⊎_elim, ℕ, zero, suc, ◌+◌, ◌-◌, ◌<◌, ◌≤◌, ◌⊎◌, inl, inr, List, length, get_or, drop, map}
+use Rattle.std.proofs.Common.{ℤ, ◌≤ℤ◌, ◌<ℤ◌, sym, ap, ◌∙◌, subst, arith, Bool, true, false, Contains, Decides}
 use Rattle.std.specs.Prelude.{int_lt, not, slice_range}
 use Rattle.std.specs.List.Sorted.{IsPartitionedBy, IsPartitionPoint}
 use Rattle.std.proofs.lemmas.Bool.{cases_lt, false≢true}

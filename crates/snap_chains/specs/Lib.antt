@@ -7,6 +7,7 @@ pub mod Round
 pub mod Visits
 pub mod OwnerLists
 pub mod Columns
+pub mod Slabs
 pub use Rattle.snap_edge_test.specs.Chains
 pub use Rattle.snap_edge_test.specs.Rising
 pub use Rattle.snap_edge_test.specs.Rounding

@@ -5,7 +5,7 @@ ghost use Rattle.lay_point.specs.declared.point.Point.{Point};
 ghost use Rattle.snap_edge_test.specs.Edges.{key};
 ghost use Rattle.snap_edge_test.specs.Chains.{IsChain};
 
-use crate::candidates::met_hot;
+use crate::finder::Finder;
 use lay_point::{NoMemory, Point};
 use snap_pixels::{HotSet, Segment};
 use std::alloc::Global;
@@ -17,7 +17,20 @@ use std::cmp::Ordering;
 pub fn chain(alloc: Global, segment: &Segment, hot: &HotSet) -> Result<Vec<Point>, NoMemory>
     ensures { IfOk result (λ points. IsChain (Contains hot.now) segment.now points.items) }
 {
-    let mut points = met_hot(alloc, segment, hot)?;
+    let finder = Finder::plain(alloc, hot);
+    let points = chain_in(alloc, segment, &finder)?;
+    Ok(points)
+}
+
+/// Returns the chain of the segment, as `chain` does, of the centres of the finder.
+pub(crate) fn chain_in(
+    alloc: Global,
+    segment: &Segment,
+    finder: &Finder,
+) -> Result<Vec<Point>, NoMemory>
+    ensures { IfOk result (λ points. IsChain (Contains finder.now) segment.now points.items) }
+{
+    let mut points = finder.met(alloc, segment)?;
     points.sort_unstable_by_key(|point: &Point| (key(segment, *point), *point));
     points.dedup();
     Ok(points)

@@ -32,12 +32,14 @@ mod chains;
 mod checking;
 mod clean_edges;
 mod columns_of;
+mod finder;
 mod owned;
 mod owner;
 mod owner_lists;
 mod rings;
 mod rounded;
 mod rounding;
+mod slabs;
 #[cfg(test)]
 mod tests;
 mod visits;

@@ -3,8 +3,9 @@ ghost use Rattle.std.specs.Prelude.{◌≡◌, All, IfOk, map};
 ghost use Rattle.lay_point.specs.Rings.{IsRing};
 ghost use Rattle.snap_chains.specs.OwnedRings.{AreRounded, AreSides};
 
+use crate::finder::Finder;
 use crate::owner::Owner;
-use crate::rings::{ring_sides, round_ring};
+use crate::rings::{ring_sides, round_ring_in};
 use lay_point::{NoMemory, Point};
 use snap_pixels::{Segment, hot};
 use std::alloc::Global;
@@ -44,9 +45,10 @@ pub fn round_rings(
 {
     let segments = all_sides(alloc, rings)?;
     let found = hot(rt, alloc, &segments)?;
+    let finder = Finder::with_slabs(alloc, &found)?;
     let mut walks = Vec::new(alloc);
     for ring in rings {
-        walks.push(round_ring(alloc, &segments, &found, ring.points)?)?;
+        walks.push(round_ring_in(alloc, &segments, &finder, ring.points)?)?;
     }
     Ok(walks)
 }

@@ -7,7 +7,8 @@ ghost use Rattle.snap_edge_test.specs.Rising.{pairs};
 ghost use Rattle.snap_edge_test.specs.Rounding.{IsRoundedPath, closed, tail};
 ghost use Rattle.snap_chains.specs.Sides.{ends_of};
 
-use crate::chains::chain;
+use crate::chains::chain_in;
+use crate::finder::Finder;
 use lay_point::{NoMemory, Point};
 use snap_pixels::{HotSet, Segment};
 use std::alloc::{AllocError, Global};
@@ -27,6 +28,24 @@ pub fn round_ring(
     requires sides { (e : Point × Point) → Contains (pairs (closed ring.now)) e → Contains (map ends_of _segments.now) e }
     ensures { IfOk result (λ walk. IsRoundedPath _segments.now (closed ring.now) walk.items) }
 {
+    let finder = Finder::plain(alloc, hot);
+    let walk = round_ring_in(alloc, _segments, &finder, ring)?;
+    Ok(walk)
+}
+
+/// Returns the rounded ring, as `round_ring` does. The centres of the finder are the hot pixels of all
+/// the segments.
+pub(crate) fn round_ring_in(
+    alloc: Global,
+    _segments: &[Segment],
+    finder: &Finder,
+    ring: &[Point],
+) -> Result<Vec<Point>, NoMemory>
+    requires hot { AreHotCentres _segments.now finder.now }
+    requires ring { IsRing ring.now }
+    requires sides { (e : Point × Point) → Contains (pairs (closed ring.now)) e → Contains (map ends_of _segments.now) e }
+    ensures { IfOk result (λ walk. IsRoundedPath _segments.now (closed ring.now) walk.items) }
+{
     let mut walk = Vec::new(alloc);
     let Some((first, _)) = ring.split_first() else {
         return Ok(walk);
@@ -34,7 +53,7 @@ pub fn round_ring(
     walk.push(*first)?;
     let sides = ring_sides(alloc, ring)?;
     for side in sides.as_slice() {
-        let points = chain(alloc, side, hot)?;
+        let points = chain_in(alloc, side, finder)?;
         extend_by_rest(&mut walk, points.as_slice())?;
     }
     Ok(walk)

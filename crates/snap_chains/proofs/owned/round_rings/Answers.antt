@@ -10,8 +10,8 @@ use Rattle.snap_chains.proofs.OwnedLemmas.{Contains-flat_map, zip_more}
 use Rattle.snap_chains.proofs.OwnerLemmas.{map-push}
 use Rattle.snap_chains.proofs.owned.round_rings.Goals as goal
 
-pub round_ring-requires-clause-sides : goal.round_ring-requires-clause-sides
-round_ring-requires-clause-sides g c = λ e m.
+pub round_ring_in-requires-clause-sides : goal.round_ring_in-requires-clause-sides
+round_ring_in-requires-clause-sides g c = λ e m.
     let points = ap (λ (r : Owner × List Point). r.1) c.ring.view_is in
     Contains-flat_map (λ (r : Owner × List Point). pairs (closed r.1)) c.args.rings.now c.loop-ring.ring-index c.ring-item.result
     (map ends_of c.deref-in-loop-ring.result.now) c.loop-ring-test.true c.ring-item.is
@@ -22,14 +22,14 @@ pub loop-ring-preserved : goal.loop-ring-preserved
 loop-ring-preserved g c =
     let Rounds : Owner × List Point → List Point → Type 0 = λ r w. IsRoundedPath c.in_ok-segments.segments.items (closed r.1) w in
     let points = ap (λ (r : Owner × List Point). r.1) c.ring.view_is in
-    let rounded : Rounds c.ring-item.result c.in_ok-round_ring.field-0.items =
+    let rounded : Rounds c.ring-item.result c.in_ok-round_ring_in.field-0.items =
     coe 0 1 (i. IsRoundedPath (c.deref-in-loop-ring.ensures.value i)
-    (closed (points i)) c.in_ok-round_ring.field-0.items) c.in_ok-round_ring.ensures in
+    (closed (points i)) c.in_ok-round_ring_in.field-0.items) c.in_ok-round_ring_in.ensures in
     let more = ap (map (λ w. w.items)) c.in_ok-push.ensures.items
-    ∙ map-push (λ w. w.items) c.loop-ring.walks.items c.in_ok-round_ring.field-0 in
+    ∙ map-push (λ w. w.items) c.loop-ring.walks.items c.in_ok-round_ring_in.field-0 in
     subst (λ l. AllZip Rounds (take (c.loop-ring.ring-index + 1) c.args.rings.now) l) (sym more)
     (zip_more Rounds c.args.rings.now (map (λ w. w.items) c.loop-ring.walks.items) c.loop-ring.ring-index c.ring-item.result
-    c.in_ok-round_ring.field-0.items c.loop-ring-test.true c.ring-item.is c.loop-ring.invariant rounded)
+    c.in_ok-round_ring_in.field-0.items c.loop-ring-test.true c.ring-item.is c.loop-ring.invariant rounded)
 
 pub returns : goal.returns
 returns g c =

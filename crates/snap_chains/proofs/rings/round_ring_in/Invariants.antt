@@ -1,7 +1,7 @@
 use Rattle.std.proofs.Common.{◌≡◌, List, ◌∷◌, map, take}
 use Rattle.lay_point.specs.declared.point.Point.{Point}
 use Rattle.snap_edge_test.specs.Rounding.{IsRoundedPath}
-use Rattle.snap_chains.proofs.rings.round_ring.Given as goal
+use Rattle.snap_chains.proofs.rings.round_ring_in.Given as goal
 
 -- the rounded path of the sides so far
 abbrev pub invariant-loop-side : goal.invariant-loop-side

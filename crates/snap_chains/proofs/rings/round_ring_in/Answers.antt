@@ -2,7 +2,7 @@ use Rattle.std.proofs.Common.{◌≡◌, [], ◌∷◌, ◌++◌, ◌+◌, map, 
 use Rattle.snap_edge_test.specs.Rounding.{IsRoundedPath, point, tail}
 use Rattle.snap_chains.specs.Sides.{ends_of}
 use Rattle.snap_chains.proofs.PathLemmas.{next_side, whole_ring}
-use Rattle.snap_chains.proofs.rings.round_ring.Goals as goal
+use Rattle.snap_chains.proofs.rings.round_ring_in.Goals as goal
 
 pub loop-side-init : goal.loop-side-init
 loop-side-init c = λ p ps e.
@@ -19,7 +19,7 @@ loop-side-preserved c = λ p ps e.
     let are_sides = ap (map ends_of) c.as_slice-side-items.ensures.value ∙ c.in_ok-sides.ensures in
     let walked = c.in_ok-extend_by_rest.ensures ∙ ap (λ l. c.loop-side.walk.items ++ tail l) c.as_slice.ensures.value in
     subst (IsRoundedPath c.args._segments.now (p ∷ map (λ t. t.b) (take (c.loop-side.side-index + 1) sides))) (sym walked)
-    (next_side c.args._segments.now c.args.hot.now c.args.ring.now c.loop-side.walk.items c.in_ok-points.points.items sides
+    (next_side c.args._segments.now c.args.finder.now c.args.ring.now c.loop-side.walk.items c.in_ok-points.points.items sides
     c.loop-side.side-index s
     c.requires.hot c.requires.sides are_sides c.loop-side-test.true c.side-item.is c.in_ok-points.ensures p ps e
     (c.loop-side.invariant p ps e))
