@@ -11,6 +11,7 @@ pub mod VisitOrder
 pub mod OddLemmas
 pub mod VisitLemmas
 pub mod VisitorLemmas
+pub mod ScanLemmas
 pub mod ListLemmas
 pub mod RoundLemmas
 pub use Rattle.snap_edge_test.proofs.Members

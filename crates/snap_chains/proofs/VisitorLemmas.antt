@@ -31,7 +31,7 @@ is_earlier e v = is_lt (edge_cmp v.edge e)
 abbrev pub is_no_later : Point × Point → Visit → Bool
 is_no_later e v = is_le (edge_cmp v.edge e)
 
-earlier : (f e : Point × Point) → is_lt (edge_cmp f e) ≡ true → IsEdgeBefore f e
+pub earlier : (f e : Point × Point) → is_lt (edge_cmp f e) ≡ true → IsEdgeBefore f e
 earlier f e h = edge_order.less f e (by_order (edge_cmp f e) h)
   where
     by_order : (o : Ordering) → is_lt o ≡ true → o ≡ Less
@@ -39,7 +39,7 @@ earlier f e h = edge_order.less f e (by_order (edge_cmp f e) h)
     by_order Equal h = cc
     by_order Greater h = cc
 
-no_later : (f e : Point × Point) → is_le (edge_cmp f e) ≡ true → (f ≡ e) ⊎ IsEdgeBefore f e
+pub no_later : (f e : Point × Point) → is_le (edge_cmp f e) ≡ true → (f ≡ e) ⊎ IsEdgeBefore f e
 no_later f e h = by_order (edge_cmp f e) refl h
   where
     by_order : (o : Ordering) → o ≡ edge_cmp f e → is_le o ≡ true → (f ≡ e) ⊎ IsEdgeBefore f e
@@ -47,7 +47,7 @@ no_later f e h = by_order (edge_cmp f e) refl h
     by_order Equal s h = inl (edge_exact f e (sym s))
     by_order Greater s h = cc
 
-less_by_before : (f e : Point × Point) → IsEdgeBefore f e → edge_cmp f e ≡ Less
+pub less_by_before : (f e : Point × Point) → IsEdgeBefore f e → edge_cmp f e ≡ Less
 less_by_before f e h = by_order (edge_cmp f e) refl
   where
     by_order : (o : Ordering) → o ≡ edge_cmp f e → edge_cmp f e ≡ Less

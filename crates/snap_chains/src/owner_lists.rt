@@ -1,10 +1,12 @@
 //! The owners of edges, from the visits of these.
-ghost use Rattle.std.specs.Prelude.{◌≡◌, ◌<◌, [], IfOk, Some, length, map, replicate, slice_get};
+ghost use Rattle.std.specs.Prelude.{◌≡◌, ◌↔◌, ◌<◌, ◌≤◌, [], IfOk, IsTrue, Some, length, map, replicate, slice_get};
 ghost use Rattle.std.specs.List.{AllZip};
 ghost use Rattle.snap_edge_test.specs.Rising.{IsRising};
+ghost use Rattle.snap_edge_test.specs.Undirected.{IsEdgeBefore};
 ghost use Rattle.snap_chains.specs.declared.visits.Visit.{Visit};
 ghost use Rattle.snap_chains.specs.Owners.{IsOwnerBefore};
 ghost use Rattle.snap_chains.specs.OwnerLists.{HasVisitors, IsInside, lists_of};
+ghost use Rattle.snap_chains.specs.Scans.{AreEarlier, AreNoLater, EndsEarlier, EndsNoLater};
 ghost use Rattle.snap_chains.specs.Visits.{AreVisitors, IsVisitBefore};
 
 use crate::owner::Owner;
@@ -54,19 +56,23 @@ impl OwnerLists {
         })
     }
 
-    /// Returns for each edge the owners of its visits, in order.
+    /// Returns for each edge the owners of its visits, in order. Both are gone through once.
     pub fn of_visits(
         alloc: Global,
         edges: &[Edge],
         visits: &[Visit],
     ) -> Result<OwnerLists, AllocError>
-        requires { IsRising IsVisitBefore visits.now }
+        requires rising { IsRising IsVisitBefore visits.now }
+        requires edges { IsRising IsEdgeBefore edges.now }
         ensures { IfOk result (λ lists. AllZip (AreVisitors visits.now) edges.now lists) }
     {
         let owners = owners_of(alloc, visits)?;
         let mut parts = Vec::new(alloc);
+        let mut at = 0;
         for edge in edges {
-            parts.push(visits_of_edge(visits, edge))?;
+            let part = next_part(visits, at, *edge);
+            at = part.to;
+            parts.push(part)?;
         }
         Ok(OwnerLists { owners, parts })
     }
@@ -92,12 +98,54 @@ fn owners_of(alloc: Global, visits: &[Visit]) -> Result<Vec<Owner>, AllocError>
     Ok(owners)
 }
 
-/// Returns where the visits of the edge are.
-fn visits_of_edge(visits: &[Visit], edge: &Edge) -> Part
-    requires { IsRising IsVisitBefore visits.now }
-    ensures { HasVisitors visits.now edge.now result }
+/// Returns where the visits of the edge are, of which none is before the index `at`.
+fn next_part(visits: &[Visit], at: usize, edge: Edge) -> Part
+    requires rising { IsRising IsVisitBefore visits.now }
+    requires inside { at ≤ length visits.now }
+    requires before { AreEarlier visits.now at edge }
+    ensures visitors { HasVisitors visits.now edge result }
+    ensures passed { AreNoLater visits.now result.to edge }
 {
-    let from = visits.partition_point(|visit: &Visit| visit.edge.cmp(edge).is_lt());
-    let to = visits.partition_point(|visit: &Visit| visit.edge.cmp(edge).is_le());
+    let from = past_earlier(visits, at, edge);
+    let to = past_no_later(visits, from, edge);
     Part { from, to }
+}
+
+/// Returns the index of the first visit from `at` on that isn't of an earlier edge, or that of the end.
+fn past_earlier(visits: &[Visit], at: usize, edge: Edge) -> usize
+    requires inside { at ≤ length visits.now }
+    requires before { AreEarlier visits.now at edge }
+    ensures inside { result ≤ length visits.now }
+    ensures before { AreEarlier visits.now result edge }
+    ensures end { EndsEarlier visits.now result edge }
+{
+    for number in at..visits.len() {
+        if !is_before(visits[number].edge, edge) {
+            return number;
+        }
+    }
+    visits.len()
+}
+
+/// Returns the index of the first visit from `at` on that is of a later edge, or that of the end.
+fn past_no_later(visits: &[Visit], at: usize, edge: Edge) -> usize
+    requires inside { at ≤ length visits.now }
+    requires passed { AreNoLater visits.now at edge }
+    ensures inside { result ≤ length visits.now }
+    ensures passed { AreNoLater visits.now result edge }
+    ensures end { EndsNoLater visits.now result edge }
+{
+    for number in at..visits.len() {
+        if is_before(edge, visits[number].edge) {
+            return number;
+        }
+    }
+    visits.len()
+}
+
+/// Returns whether the edge `a` is before `b`.
+fn is_before(a: Edge, b: Edge) -> bool
+    ensures { IsTrue result ↔ IsEdgeBefore a b }
+{
+    a.cmp(&b).is_lt()
 }
