@@ -10,6 +10,7 @@ pub mod OwnedLemmas
 pub mod VisitOrder
 pub mod OddLemmas
 pub mod VisitLemmas
+pub mod KeyLemmas
 pub mod VisitorLemmas
 pub mod ScanLemmas
 pub mod ListLemmas

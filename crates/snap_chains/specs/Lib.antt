@@ -7,6 +7,7 @@ pub mod Round
 pub mod Visits
 pub mod OwnerLists
 pub mod Scans
+pub mod Keys
 pub mod Columns
 pub mod Slabs
 pub use Rattle.snap_edge_test.specs.Chains

@@ -33,6 +33,7 @@ mod checking;
 mod clean_edges;
 mod columns_of;
 mod finder;
+mod keys;
 mod owned;
 mod owner;
 mod owner_lists;

@@ -4,10 +4,11 @@ ghost use Rattle.lay_point.specs.Rings.{IsRing};
 ghost use Rattle.snap_chains.specs.Round.{IsRoundOf};
 
 use crate::clean_edges::CleanEdges;
+use crate::keys::in_order;
 use crate::owned::{OwnedRing, round_rings};
 use crate::owner_lists::OwnerLists;
 use crate::rounded::Rounded;
-use crate::visits::{all_visits, in_order, odd_visits, visited_edges};
+use crate::visits::{all_visits, odd_visits, visited_edges};
 use lay_point::NoMemory;
 use std::alloc::Global;
 use std::thread::Threads;
@@ -27,7 +28,7 @@ pub fn round(
 {
     let walks = round_rings(rt, alloc, rings)?;
     let visits = all_visits(alloc, rings, walks.as_slice())?;
-    let visits = in_order(rt, visits);
+    let visits = in_order(rt, alloc, visits)?;
     let edges = visited_edges(alloc, visits.as_slice())?;
     let odd = odd_visits(alloc, visits)?;
     let owners = OwnerLists::of_visits(alloc, edges.as_slice(), odd.as_slice())?;

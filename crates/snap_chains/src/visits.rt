@@ -12,7 +12,6 @@ ghost use Rattle.std.specs.Prelude.{
   length,
   map,
 };
-ghost use Rattle.std.specs.List.Sorted.{IsPermutation};
 ghost use Rattle.lay_point.specs.declared.point.Point.{Point};
 ghost use Rattle.lay_point.specs.Edges.{undirected};
 ghost use Rattle.lay_point.specs.Rings.{NeighboursDiffer};
@@ -25,9 +24,7 @@ ghost use Rattle.snap_chains.specs.Visits.{IsVisitBefore, visit_eq, visits_by, v
 use crate::owned::OwnedRing;
 use crate::owner::Owner;
 use lay_point::{Edge, Point};
-use rayon::slice::par_sort_unstable;
 use std::alloc::{AllocError, Global};
-use std::thread::Threads;
 
 /// That a ring of a shape goes an edge. Visits are in the order of their edges, then of their owners.
 #[derive(Clone, Copy, Debug, PartialEq, Eq, PartialOrd, Ord)]
@@ -80,15 +77,6 @@ fn edge_between(a: Point, b: Point) -> Edge
     ensures { result ≡ undirected (a, b) }
 {
     Edge::new(a, b).unwrap()
-}
-
-/// Returns the visits in order, which are sorted in as many threads as there are processors.
-pub(crate) fn in_order(rt: &(impl Threads + Sync), visits: Vec<Visit>) -> Vec<Visit>
-    ensures { IsPermutation visits.items result.items }
-{
-    let mut visits = visits;
-    par_sort_unstable(rt, visits.as_mut_slice());
-    visits
 }
 
 /// Returns the edges of the visits, each once, in order. Visits in order take the least time.

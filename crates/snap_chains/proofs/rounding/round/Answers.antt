@@ -21,10 +21,10 @@ all_visits-requires-clause-differ g c =
 pub invariant_of-rounded : goal.invariant_of-rounded
 invariant_of-rounded g c =
     let walks = map (λ (w : Vec Point Global). w.items) c.in_ok-walks.walks.items in
-    let visited = subst (λ l. IsPermutation l c.in_order-visits.result.items) (c.in_ok-visits.ensures
+    let visited = subst (λ l. IsPermutation l c.in_ok-visits-2.visits.items) (c.in_ok-visits.ensures
     ∙ ap (λ l. visits_of c.args.rings.now (map (λ (w : Vec Point Global). w.items) l)) c.as_slice.ensures.value)
-    c.in_order-visits.ensures in
-    let made = round_of c.args.rings.now walks c.in_order-visits.result.items c.as_slice-2.result.now c.in_ok-edges.edges.items
+    c.in_ok-visits-2.ensures in
+    let made = round_of c.args.rings.now walks c.in_ok-visits-2.visits.items c.as_slice-2.result.now c.in_ok-edges.edges.items
     c.as_slice-3.result.now c.in_ok-odd.odd.items c.as_slice-4.result.now
     c.in_ok-owners.owners
     c.in_ok-walks.ensures visited c.as_slice-2.ensures.value c.as_slice-3.ensures.value c.as_slice-4.ensures.value
@@ -34,10 +34,10 @@ invariant_of-rounded g c =
 pub invariant_of-result : goal.invariant_of-result
 invariant_of-result g c =
     let walks = map (λ (w : Vec Point Global). w.items) c.in_ok-walks.walks.items in
-    let visited = subst (λ l. IsPermutation l c.in_order-visits.result.items) (c.in_ok-visits.ensures
+    let visited = subst (λ l. IsPermutation l c.in_ok-visits-2.visits.items) (c.in_ok-visits.ensures
     ∙ ap (λ l. visits_of c.args.rings.now (map (λ (w : Vec Point Global). w.items) l)) c.as_slice.ensures.value)
-    c.in_order-visits.ensures in
-    let made = round_of c.args.rings.now walks c.in_order-visits.result.items c.as_slice-2.result.now c.in_ok-edges.edges.items
+    c.in_ok-visits-2.ensures in
+    let made = round_of c.args.rings.now walks c.in_ok-visits-2.visits.items c.as_slice-2.result.now c.in_ok-edges.edges.items
     c.as_slice-3.result.now c.in_ok-odd.odd.items c.as_slice-4.result.now
     c.in_ok-owners.owners
     c.in_ok-walks.ensures visited c.as_slice-2.ensures.value c.as_slice-3.ensures.value c.as_slice-4.ensures.value
@@ -47,10 +47,10 @@ invariant_of-result g c =
 pub returns : goal.returns
 returns g c =
     let walks = map (λ (w : Vec Point Global). w.items) c.in_ok-walks.walks.items in
-    let visited = subst (λ l. IsPermutation l c.in_order-visits.result.items) (c.in_ok-visits.ensures
+    let visited = subst (λ l. IsPermutation l c.in_ok-visits-2.visits.items) (c.in_ok-visits.ensures
     ∙ ap (λ l. visits_of c.args.rings.now (map (λ (w : Vec Point Global). w.items) l)) c.as_slice.ensures.value)
-    c.in_order-visits.ensures in
-    round_of c.args.rings.now walks c.in_order-visits.result.items c.as_slice-2.result.now c.in_ok-edges.edges.items
+    c.in_ok-visits-2.ensures in
+    round_of c.args.rings.now walks c.in_ok-visits-2.visits.items c.as_slice-2.result.now c.in_ok-edges.edges.items
     c.as_slice-3.result.now c.in_ok-odd.odd.items c.as_slice-4.result.now
     c.in_ok-owners.owners
     c.in_ok-walks.ensures visited c.as_slice-2.ensures.value c.as_slice-3.ensures.value c.as_slice-4.ensures.value
