@@ -52,31 +52,32 @@ impl<'h> Finder<'h> {
         }
     }
 
-    /// Returns a finder for many segments. Where centres lie evenly, a slab is half as wide as one centre
-    /// is from the next.
+    /// Returns a finder for many segments. Where centres lie evenly, a slab is four times as wide as one
+    /// centre is from the next, so that a short segment goes through one slab mostly.
     pub fn with_slabs(alloc: Global, hot: &'h HotSet) -> Result<Finder<'h>, AllocError>
         ensures { IfOk result (λ finder. finder ≡ hot.now) }
     {
         let centres = hot.centres();
-        let size = (centres.len().isqrt() / 2).max(LEAST_SIZE);
+        let size = (centres.len().isqrt() * 4).max(LEAST_SIZE);
         let slabs = slabs_of(alloc, centres, size)?;
         Ok(Finder { hot, size, slabs })
     }
 
-    /// Returns the hot centres whose pixels the segment meets. Asked are those in its columns, or in its
-    /// rows, or in its rows of the slabs that it goes through, whichever are the fewest.
+    /// Returns the hot centres whose pixels the segment meets. Asked are those in its columns where they are
+    /// few, else those in its rows of the slabs that it goes through, or in its rows if it is level.
     pub fn met(&self, alloc: Global, segment: &Segment) -> Result<Vec<Point>, AllocError>
         ensures { IfOk result (λ points. (c : Point) → Contains points.items c
             ↔ (Contains self.now c × Meets segment.now.a segment.now.b c)) }
     {
         let (from, to) = places(segment, self.hot.centres());
         let across = segment.turned();
-        let in_rows = columns(&across, self.hot.turned());
-        if let Some(slabs) = self.slabs_between(from, to, in_rows.len()) {
+        let is_level = segment.a().y == segment.b().y;
+        if let Some(slabs) = self.slabs_between(from, to, is_level) {
             let in_slabs = met_in_each(alloc, &across, slabs)?;
             let points = turned_all(alloc, in_slabs.as_slice())?;
             return Ok(points);
         }
+        let in_rows = rows(&across, self.hot.turned(), to - from);
         let fewer = in_rows.len() < to - from;
         if fewer {
             let found = met(alloc, &across, in_rows)?;
@@ -88,8 +89,8 @@ impl<'h> Finder<'h> {
     }
 
     /// Returns the slabs of the centres from the index `from` on, before `to`, where it takes less time to
-    /// search them than to ask all these centres, or as many as there are in `rows`.
-    fn slabs_between(&self, from: usize, to: usize, rows: usize) -> Option<&[Vec<Point>]>
+    /// search them than to ask all these centres. A level segment is left to its rows.
+    fn slabs_between(&self, from: usize, to: usize, is_level: bool) -> Option<&[Vec<Point>]>
         requires ordered { from ≤ to }
         requires inside { to ≤ length self.now }
         ensures rising { IfSome result (λ slabs. All (λ s. IsRising s.items) slabs.now) }
@@ -99,10 +100,23 @@ impl<'h> Finder<'h> {
     {
         let first = from / self.size;
         let last = to / self.size;
-        let few = rows.min(to - from);
-        if last >= self.slabs.len() || few / SLAB_STEPS <= last - first {
+        if is_level || last >= self.slabs.len() || (to - from) / SLAB_STEPS <= last - first {
             return None;
         }
         Some(&self.slabs[first..last + 1])
     }
+}
+
+/// Returns the centres in the rows of a segment. Both are turned. Where only so few are in its columns that
+/// a search takes longer than to ask these, all centres are returned.
+fn rows<'a>(across: &Segment, turned: &'a [Point], in_columns: usize) -> &'a [Point]
+    requires { IsRising turned.now }
+    ensures inside { (c : Point) → Contains result.now c → Contains turned.now c }
+    ensures all { (c : Point) → Contains turned.now c → Meets across.now.a across.now.b c
+        → Contains result.now c }
+{
+    if in_columns <= SLAB_STEPS {
+        return turned;
+    }
+    columns(across, turned)
 }

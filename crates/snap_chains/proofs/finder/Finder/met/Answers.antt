@@ -24,15 +24,15 @@ returns-in-Some c =
 pub returns-then-fewer : goal.returns-then-fewer
 returns-then-fewer c =
     let s = c.args.segment.now in
-    let rows = c.columns-in_rows.result.now in
+    let rows = c.rows-in_rows.result.now in
     let found = c.in_ok-found.found.items in
     let other = subst (λ (l : List Point). AreTurned l c.turned.result.now) c.self.view_is c.turned.ensures.members in
     let all = coe 0 1 (i. (p : Point) → Contains c.turned.result.now p → Meets (c.turned-across.ensures.a i) (c.turned-across.ensures.b i) p
-    → Contains rows p) c.columns-in_rows.ensures.all in
+    → Contains rows p) c.rows-in_rows.ensures.all in
     let are_met = coe 0 1 (i. (p : Point) → Contains found p
     ↔ (Contains rows p × Meets (c.turned-across.ensures.a i) (c.turned-across.ensures.b i) p)) c.in_ok-found.ensures in
     met_in_rows c.args.self.now c.turned.result.now rows found c.in_ok-points-2.points.items s.a s.b other
-    c.columns-in_rows.ensures.inside all are_met (c.in_ok-points-2.ensures ∙ ap (map turned) c.as_slice-then-fewer.ensures.value)
+    c.rows-in_rows.ensures.inside all are_met (c.in_ok-points-2.ensures ∙ ap (map turned) c.as_slice-then-fewer.ensures.value)
 
 pub returns : goal.returns
 returns c =
