@@ -17,7 +17,7 @@ lines (b ∷ bytes) = if b == 10 then (b ∷ []) ∷ lines bytes else in_front b
 abbrev pub first_len : List ℕ → ℕ
 first_len bytes = unwrap_or (option_map (λ n. n + 1) (position (λ b. b == 10) bytes)) (length bytes)
 
--- the bytes begin with this line, and this is behind it
+-- the bytes begin with this line, and this stands behind it
 pub record IsFirstLine (bytes line behind : List ℕ) : Type 0 where
   pub first : lines bytes ≡ line ∷ lines behind
   pub parts : bytes ≡ line ++ behind

@@ -44,7 +44,7 @@ words_of line = words (content line)
 abbrev pub from_word : List ℕ → List ℕ
 from_word line = drop (unwrap_or (position (λ b. not (is_separator b)) line) (length line)) line
 
--- this is the first word of the bytes, and this is behind it
+-- this is the first word of the bytes, and this stands behind it
 pub record IsFirstWord (bytes word behind : List ℕ) : Type 0 where
   pub first : words bytes ≡ word ∷ words behind
   pub shorter : length behind < length bytes

@@ -7,9 +7,11 @@ ghost use Rattle.job_text.specs.Words.{words, words_of};
 
 use crate::lines::content;
 use crate::order_section::session_of;
-use crate::reply_text::push_reply;
+use crate::reply_text::put_reply;
 use crate::step_line::step_of;
+use crate::text_out::TextOut;
 use crate::words::{is_blank, split_word};
+use byte_io::OutBuffer;
 use lay_point::NoMemory;
 use session_steps::{Reply, Step as SessionStep};
 use std::alloc::Global;
@@ -59,9 +61,11 @@ fn step_line(alloc: Global, session: u8, line: &[u8]) -> Result<LiveLine, NoMemo
 pub fn reply_line(alloc: Global, session: u8, step: u64, reply: &Reply) -> Result<Vec<u8>, NoMemory>
     ensures { IfOk result (λ line. line.items ≡ reply_text session step reply.now) }
 {
-    let mut line = Vec::new(alloc);
-    push_reply(&mut line, u64::from(session), step, reply)?;
-    Ok(line)
+    let mut out = TextOut::new(alloc);
+    let mut buffer = OutBuffer::new();
+    put_reply(&mut out, &mut buffer, u64::from(session), step, reply);
+    buffer.flush(&mut out).map_err(|_| NoMemory)?;
+    Ok(out.into_bytes())
 }
 
 /// Returns the comment that says that the line of this number, counted from 1, is odd.

@@ -1,14 +1,15 @@
 //! The order in which the steps ran, made from the log, and its lines.
-ghost use Rattle.std.specs.Prelude.{◌≡◌, ◌<◌, ◌≤◌, ◌++◌, ◌+◌, ◌-◌, ◌^◌, IfOk, IfSome, OnOk, length, replicate, slice_index};
+ghost use Rattle.std.specs.Prelude.{◌≡◌, ◌<◌, ◌≤◌, ◌++◌, ◌+◌, ◌-◌, ◌^◌, ◌%◌, ◌==◌, ◌||◌, [], IfOk, IfSome, OnOk, codes, if◌then◌else◌};
+ghost use Rattle.std.specs.Prelude.{length, replicate, slice_index};
 ghost use Rattle.std.specs.List.{position};
+ghost use Rattle.byte_io.specs.Buffered.{Buffered};
 ghost use Rattle.job_text.specs.Order.{is_logged, is_logged_fault, left_of, number_text, order_of, order_text, replies_of, rest_from, steps_to_logged};
 
 use crate::words::MAX_SESSION;
+use byte_io::{Out, OutBuffer};
 use lay_point::{NoMemory, Sequence};
 use session_steps::{Reply, StepFault};
 use std::alloc::Global;
-use std::fmt::{self, Display, Formatter};
-use std::io::Write;
 use undo_rules::{BookFault, Logged};
 
 /// How many numbers a line of the order has.
@@ -141,50 +142,53 @@ fn is_logged_fault(fault: BookFault) -> bool
     }
 }
 
-/// Appends the lines of the order.
-pub(crate) fn push_order(bytes: &mut Vec<u8>, order: &[u8]) -> Result<(), NoMemory>
-    ensures { OnOk result (bytes.new.items ≡ bytes.old.items ++ order_text order.now) }
+/// Puts the lines of the order.
+pub(crate) fn put_order<O: Out>(out: &mut O, buffer: &mut OutBuffer, order: &[u8])
+    ensures { Buffered O.written O.failures out.old buffer.old out.new buffer.new
+        (order_text order.now) }
 {
     let mut index = 0;
     let mut rest = order;
     while let Some((session, behind)) = rest.split_first() {
-        let number = OrderNumber {
-            index,
-            last: behind.is_empty(),
-            session: *session,
-        };
-        write!(bytes, "{number}").map_err(|_| NoMemory)?;
+        put_number(out, buffer, index, behind.is_empty(), *session);
         index += 1;
         rest = behind;
     }
-    Ok(())
 }
 
-/// A number of the order, in comments of `LINE` numbers: its index, from 0, and whether it is the last.
-#[derive(Clone, Copy)]
-struct OrderNumber {
+/// Puts a number of the order, in comments of `LINE` numbers, by its index, from 0, and whether it is the last.
+fn put_number<O: Out>(
+    out: &mut O,
+    buffer: &mut OutBuffer,
     index: usize,
     last: bool,
     session: u8,
+)
+    ensures { Buffered O.written O.failures out.old buffer.old out.new buffer.new
+        (number_text index last session) }
+{
+    put_head(out, buffer, index);
+    buffer.put_byte(out, b' ');
+    buffer.put_unsigned(out, u64::from(session));
+    put_tail(out, buffer, index, last);
 }
 
-impl Display for OrderNumber {
-    ghost use Rattle.std.specs.Prelude.{Some};
-    ghost use Rattle.job_text.specs.Order.{number_text};
+/// Puts what stands in front of a number of the order, where it is the first of its comment.
+fn put_head<O: Out>(out: &mut O, buffer: &mut OutBuffer, index: usize)
+    ensures { Buffered O.written O.failures out.old buffer.old out.new buffer.new
+        (if index % 16 == 0 then codes "(order" else []) }
+{
+    if index % LINE == 0 {
+        buffer.put(out, b"(order");
+    }
+}
 
-    ghost output = { λ n. Some (number_text n.index n.last n.session) };
-
-    #[tactic(auto, unfolding(crate::specs::Order::number_text))]
-    fn fmt<W: fmt::Write>(&self, f: &mut Formatter<W>) -> fmt::Result {
-        let session = self.session;
-        let place = self.index % LINE;
-        if place == 0 {
-            write!(f, "(order")?;
-        }
-        write!(f, " {session}")?;
-        if place == LINE - 1 || self.last {
-            write!(f, ");\n")?;
-        }
-        Ok(())
+/// Puts what stands behind a number of the order, where it is the last of its comment.
+fn put_tail<O: Out>(out: &mut O, buffer: &mut OutBuffer, index: usize, last: bool)
+    ensures { Buffered O.written O.failures out.old buffer.old out.new buffer.new
+        (if (index + 1) % 16 == 0 || last then codes ");\n" else []) }
+{
+    if index % LINE == LINE - 1 || last {
+        buffer.put(out, b");\n");
     }
 }

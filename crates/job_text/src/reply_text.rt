@@ -1,206 +1,310 @@
-//! Replies as comments of a CIF text.
-ghost use Rattle.std.specs.Prelude.{◌≡◌, ◌++◌, [], OnOk, Some};
-ghost use Rattle.job_text.specs.Replies.{answer_text, bar_text, cell_text, fault_text, found_text, point_text, points_text, replies_text, reply_text, rings_text, session_text, several_text, turning_text};
+//! Replies as comments of a CIF text. Each call puts its text to the device through the buffer, and takes
+//! no memory.
+ghost use Rattle.std.specs.Prelude.{◌++◌, codes, decimal, if◌then◌else◌};
+ghost use Rattle.byte_io.specs.Buffered.{Buffered};
+ghost use Rattle.lay_items.specs.IdText.{item_text};
+ghost use Rattle.lay_items.specs.declared.item.Item.TheVariants.{Placed, Shape};
+ghost use Rattle.txn_rules.specs.Refusals.{txn_text};
+ghost use Rattle.job_text.specs.Replies.{answer_text, bar_text, cell_text, fault_text, found_text, named_text, point_text};
+ghost use Rattle.job_text.specs.Replies.{points_text, quarter_text, replies_text, reply_text, rings_text, session_text};
+ghost use Rattle.job_text.specs.Replies.{several_text, turning_text};
 
+use byte_io::{Out, OutBuffer};
 use lay_cells::CellId;
 use lay_items::{Item, ItemId};
-use lay_point::{NoMemory, Point, Quarter, Ring, Sequence, Turn};
+use lay_point::{LayerName, Point, Quarter, Ring, Sequence, Turn};
 use session_steps::{Reply, StepFault};
-use std::fmt::{self, Display, Formatter};
-use std::io::Write;
-use txn_rules::Done;
+use txn_rules::{Done, TxnId};
 use undo_rules::BookFault;
 
-/// Appends the lines of the replies to the steps of all sessions, of which the first is session 1.
-pub(crate) fn push_replies(
-    bytes: &mut Vec<u8>,
+/// Puts the lines of the replies to the steps of all sessions, of which the first is session 1.
+pub(crate) fn put_replies<O: Out>(
+    out: &mut O,
+    buffer: &mut OutBuffer,
     sessions: &[Sequence<Reply>],
-) -> Result<(), NoMemory>
-    ensures { OnOk result (bytes.new.items ≡ bytes.old.items ++ replies_text sessions.now) }
+)
+    ensures { Buffered O.written O.failures out.old buffer.old out.new buffer.new
+        (replies_text sessions.now) }
 {
     let mut session: u64 = 1;
     for replies in sessions {
-        push_session(bytes, session, replies.as_slice())?;
+        put_session(out, buffer, session, replies.as_slice());
         session += 1;
     }
-    Ok(())
 }
 
-/// Appends the lines of the replies to the steps of a session, of which the first is step 1.
-fn push_session(bytes: &mut Vec<u8>, session: u64, replies: &[Reply]) -> Result<(), NoMemory>
-    ensures { OnOk result (bytes.new.items ≡ bytes.old.items
-        ++ session_text session 1 replies.now) }
+/// Puts the lines of the replies to the steps of a session, of which the first is step 1.
+fn put_session<O: Out>(out: &mut O, buffer: &mut OutBuffer, session: u64, replies: &[Reply])
+    ensures { Buffered O.written O.failures out.old buffer.old out.new buffer.new
+        (session_text session 1 replies.now) }
 {
     let mut step: u64 = 1;
     for reply in replies {
-        push_reply(bytes, session, step, reply)?;
+        put_reply(out, buffer, session, step, reply);
         step += 1;
     }
-    Ok(())
 }
 
-/// Appends the line of a reply to a step of a session.
-#[tactic(auto, unfolding(crate::specs::Replies::reply_text))]
-pub(crate) fn push_reply(
-    bytes: &mut Vec<u8>,
+/// Puts the line of a reply to a step of a session.
+pub(crate) fn put_reply<O: Out>(
+    out: &mut O,
+    buffer: &mut OutBuffer,
     session: u64,
     step: u64,
     reply: &Reply,
-) -> Result<(), NoMemory>
-    ensures { OnOk result (bytes.new.items ≡ bytes.old.items ++ reply_text session step reply.now) }
+)
+    ensures { Buffered O.written O.failures out.old buffer.old out.new buffer.new
+        (reply_text session step reply.now) }
 {
-    write!(bytes, "({session} {step} ").map_err(|_| NoMemory)?;
-    push_answer(bytes, reply)?;
-    write!(bytes, ");\n").map_err(|_| NoMemory)
+    buffer.put_byte(out, b'(');
+    buffer.put_unsigned(out, session);
+    buffer.put_byte(out, b' ');
+    buffer.put_unsigned(out, step);
+    buffer.put_byte(out, b' ');
+    put_answer(out, buffer, reply);
+    buffer.put(out, b");\n");
 }
 
-/// Appends the words of an answer.
+/// Puts the words of an answer.
 #[tactic(auto, unfolding(crate::specs::Replies::answer_text))]
-fn push_answer(bytes: &mut Vec<u8>, reply: &Reply) -> Result<(), NoMemory>
-    ensures { OnOk result (bytes.new.items ≡ bytes.old.items ++ answer_text reply.now) }
+fn put_answer<O: Out>(out: &mut O, buffer: &mut OutBuffer, reply: &Reply)
+    ensures { Buffered O.written O.failures out.old buffer.old out.new buffer.new
+        (answer_text reply.now) }
 {
     match reply {
-        Reply::Done(Done::Found(item)) => push_found(bytes, item),
-        Reply::Opened(txn) => write!(bytes, "opened {txn}").map_err(|_| NoMemory),
-        Reply::Done(Done::Made(id)) => write!(bytes, "made {id}").map_err(|_| NoMemory),
-        Reply::Done(Done::Several { first, count }) => push_several(bytes, *first, *count),
-        Reply::Done(Done::Empty) => write!(bytes, "empty").map_err(|_| NoMemory),
-        Reply::Done(Done::Plain) => write!(bytes, "done").map_err(|_| NoMemory),
-        Reply::Committed(_) => write!(bytes, "committed").map_err(|_| NoMemory),
-        Reply::Cancelled => write!(bytes, "cancelled").map_err(|_| NoMemory),
-        Reply::Undone => write!(bytes, "undone").map_err(|_| NoMemory),
-        Reply::Redone => write!(bytes, "redone").map_err(|_| NoMemory),
-        Reply::Fault(fault) => {
-            let refusal = Refusal(*fault);
-            write!(bytes, "{refusal}").map_err(|_| NoMemory)
-        }
+        Reply::Done(Done::Found(item)) => put_found(out, buffer, item),
+        Reply::Opened(txn) => put_opened(out, buffer, *txn),
+        Reply::Done(Done::Made(id)) => put_made(out, buffer, *id),
+        Reply::Done(Done::Several { first, count }) => put_several(out, buffer, *first, *count),
+        Reply::Done(Done::Empty) => buffer.put(out, b"empty"),
+        Reply::Done(Done::Plain) => buffer.put(out, b"done"),
+        Reply::Committed(_) => buffer.put(out, b"committed"),
+        Reply::Cancelled => buffer.put(out, b"cancelled"),
+        Reply::Undone => buffer.put(out, b"undone"),
+        Reply::Redone => buffer.put(out, b"redone"),
+        Reply::Fault(fault) => put_refusal(out, buffer, *fault),
     }
 }
 
-/// Appends the words of new items, so many from this id on. No sum overflows 64 bits.
-#[tactic(auto, unfolding(crate::specs::Replies::several_text))]
-fn push_several(bytes: &mut Vec<u8>, first: ItemId, count: u32) -> Result<(), NoMemory>
-    ensures { OnOk result (bytes.new.items ≡ bytes.old.items ++ several_text first count) }
+/// Puts the words of a new transaction of this number.
+fn put_opened<O: Out>(out: &mut O, buffer: &mut OutBuffer, txn: u16)
+    ensures { Buffered O.written O.failures out.old buffer.old out.new buffer.new
+        (codes "opened " ++ decimal txn) }
 {
-    let ItemId { session, txn, seq } = first;
-    let last = u64::from(seq) + u64::from(count.saturating_sub(1));
-    write!(bytes, "made {first} to {session}.{txn}.{last}").map_err(|_| NoMemory)
+    buffer.put(out, b"opened ");
+    buffer.put_unsigned(out, u64::from(txn));
 }
 
-/// Appends the words of an item that was looked at.
-#[tactic(auto, unfolding(crate::specs::Replies::found_text))]
-fn push_found(bytes: &mut Vec<u8>, item: &Item) -> Result<(), NoMemory>
-    ensures { OnOk result (bytes.new.items ≡ bytes.old.items ++ found_text item.now) }
+/// Puts the words of a new item.
+fn put_made<O: Out>(out: &mut O, buffer: &mut OutBuffer, id: ItemId)
+    ensures { Buffered O.written O.failures out.old buffer.old out.new buffer.new
+        (codes "made " ++ item_text id) }
+{
+    buffer.put(out, b"made ");
+    put_id(out, buffer, id.session, id.txn, u64::from(id.seq));
+}
+
+/// Puts the words of new items, so many from this id on. No sum overflows 64 bits.
+fn put_several<O: Out>(out: &mut O, buffer: &mut OutBuffer, first: ItemId, count: u32)
+    ensures { Buffered O.written O.failures out.old buffer.old out.new buffer.new
+        (several_text first count) }
+{
+    let last = u64::from(first.seq) + u64::from(count.saturating_sub(1));
+    put_made(out, buffer, first);
+    buffer.put(out, b" to ");
+    put_id(out, buffer, first.session, first.txn, last);
+}
+
+/// Puts the name of an item.
+fn put_id<O: Out>(out: &mut O, buffer: &mut OutBuffer, session: u8, txn: u16, seq: u64)
+    ensures { Buffered O.written O.failures out.old buffer.old out.new buffer.new
+        (item_text (record { session = session; txn = txn; seq = seq; })) }
+{
+    put_txn(out, buffer, TxnId { session, txn });
+    buffer.put_byte(out, b'.');
+    buffer.put_unsigned(out, seq);
+}
+
+/// Puts the name of a transaction.
+fn put_txn<O: Out>(out: &mut O, buffer: &mut OutBuffer, txn: TxnId)
+    ensures { Buffered O.written O.failures out.old buffer.old out.new buffer.new (txn_text txn) }
+{
+    buffer.put_unsigned(out, u64::from(txn.session));
+    buffer.put_byte(out, b'.');
+    buffer.put_unsigned(out, u64::from(txn.txn));
+}
+
+/// Puts the words of an item that was looked at.
+fn put_found<O: Out>(out: &mut O, buffer: &mut OutBuffer, item: &Item)
+    ensures { Buffered O.written O.failures out.old buffer.old out.new buffer.new
+        (found_text item.now) }
 {
     match item {
         Item::Shape { cell, layer, rings } => {
-            let cell = CellName(*cell);
-            write!(bytes, "shape {cell} ").map_err(|_| NoMemory)?;
-            bytes.extend_from_slice(layer.as_bytes())?;
-            push_rings(bytes, rings.as_slice())
+            put_shape(out, buffer, *cell, *layer, rings.as_slice());
         }
-        Item::Placed { cell, target, turn } => {
-            let cell = CellName(*cell);
-            let turning = Turning(*turn);
-            let shift = Spaced(turn.shift);
-            write!(bytes, "placed {cell} {target} {turning}{shift}").map_err(|_| NoMemory)
-        }
+        Item::Placed { cell, target, turn } => put_placed(out, buffer, *cell, *target, *turn),
     }
 }
 
-/// Appends the points of the rings, with ` / ` between two rings.
-fn push_rings(bytes: &mut Vec<u8>, rings: &[Ring]) -> Result<(), NoMemory>
-    ensures { OnOk result (bytes.new.items ≡ bytes.old.items ++ rings_text rings.now) }
+/// Puts the words of a shape.
+fn put_shape<O: Out>(
+    out: &mut O,
+    buffer: &mut OutBuffer,
+    cell: CellId,
+    layer: LayerName,
+    rings: &[Ring],
+)
+    ensures { Buffered O.written O.failures out.old buffer.old out.new buffer.new
+        (found_text (Shape cell layer rings.now)) }
+{
+    buffer.put(out, b"shape ");
+    put_cell(out, buffer, cell);
+    buffer.put_byte(out, b' ');
+    buffer.put(out, layer.as_bytes());
+    put_rings(out, buffer, rings);
+}
+
+/// Puts the words of a placed symbol.
+fn put_placed<O: Out>(
+    out: &mut O,
+    buffer: &mut OutBuffer,
+    cell: CellId,
+    target: u32,
+    turn: Turn,
+)
+    ensures { Buffered O.written O.failures out.old buffer.old out.new buffer.new
+        (found_text (Placed cell target turn)) }
+{
+    buffer.put(out, b"placed ");
+    put_cell(out, buffer, cell);
+    buffer.put_byte(out, b' ');
+    buffer.put_unsigned(out, u64::from(target));
+    buffer.put_byte(out, b' ');
+    put_turning(out, buffer, turn);
+    put_point(out, buffer, turn.shift);
+}
+
+/// Puts the points of the rings, with ` / ` between two rings.
+fn put_rings<O: Out>(out: &mut O, buffer: &mut OutBuffer, rings: &[Ring])
+    ensures { Buffered O.written O.failures out.old buffer.old out.new buffer.new
+        (rings_text rings.now) }
 {
     let mut rest = rings;
     while let Some((ring, behind)) = rest.split_first() {
-        push_points(bytes, ring.points())?;
-        if !behind.is_empty() {
-            bytes.extend_from_slice(" /".as_bytes())?;
-        }
+        put_points(out, buffer, ring.points());
+        put_bar(out, buffer, behind);
         rest = behind;
     }
-    Ok(())
 }
 
-/// Appends the points, each after a space.
-fn push_points(bytes: &mut Vec<u8>, points: &[Point]) -> Result<(), NoMemory>
-    ensures { OnOk result (bytes.new.items ≡ bytes.old.items ++ points_text points.now) }
+/// Puts what stands between a ring and those behind it.
+fn put_bar<O: Out>(out: &mut O, buffer: &mut OutBuffer, behind: &[Ring])
+    ensures { Buffered O.written O.failures out.old buffer.old out.new buffer.new
+        (bar_text behind.now) }
+{
+    if !behind.is_empty() {
+        buffer.put(out, b" /");
+    }
+}
+
+/// Puts the points, each behind a space.
+fn put_points<O: Out>(out: &mut O, buffer: &mut OutBuffer, points: &[Point])
+    ensures { Buffered O.written O.failures out.old buffer.old out.new buffer.new
+        (points_text points.now) }
 {
     for point in points {
-        let point = Spaced(*point);
-        write!(bytes, "{point}").map_err(|_| NoMemory)?;
-    }
-    Ok(())
-}
-
-/// A point, after a space.
-#[derive(Clone, Copy)]
-struct Spaced(Point);
-
-impl Display for Spaced {
-    ghost output = { λ spaced. Some (point_text spaced.0) };
-
-    #[tactic(auto, unfolding(crate::specs::Replies::point_text))]
-    fn fmt<W: fmt::Write>(&self, f: &mut Formatter<W>) -> fmt::Result {
-        let Point { x, y } = self.0;
-        write!(f, " {x} {y}")
+        put_point(out, buffer, *point);
     }
 }
 
-/// A cell, as jobs name it.
-#[derive(Clone, Copy)]
-struct CellName(CellId);
+/// Puts a point, behind a space.
+fn put_point<O: Out>(out: &mut O, buffer: &mut OutBuffer, point: Point)
+    ensures { Buffered O.written O.failures out.old buffer.old out.new buffer.new
+        (point_text point) }
+{
+    buffer.put_byte(out, b' ');
+    buffer.put_signed(out, point.x);
+    buffer.put_byte(out, b' ');
+    buffer.put_signed(out, point.y);
+}
 
-impl Display for CellName {
-    ghost output = { λ cell. Some (cell_text cell.0) };
-
-    fn fmt<W: fmt::Write>(&self, f: &mut Formatter<W>) -> fmt::Result {
-        match self.0 {
-            CellId::Top => write!(f, "top"),
-            CellId::Symbol(number) => write!(f, "{number}"),
-        }
+/// Puts a cell, as jobs name it.
+fn put_cell<O: Out>(out: &mut O, buffer: &mut OutBuffer, cell: CellId)
+    ensures { Buffered O.written O.failures out.old buffer.old out.new buffer.new (cell_text cell) }
+{
+    match cell {
+        CellId::Top => buffer.put(out, b"top"),
+        CellId::Symbol(number) => buffer.put_unsigned(out, u64::from(number)),
     }
 }
 
-/// A turn without its shift, as jobs name it.
-#[derive(Clone, Copy)]
-struct Turning(Turn);
+/// Puts a turn without its shift, as jobs name it.
+fn put_turning<O: Out>(out: &mut O, buffer: &mut OutBuffer, turn: Turn)
+    ensures { Buffered O.written O.failures out.old buffer.old out.new buffer.new
+        (turning_text turn) }
+{
+    put_mirror(out, buffer, turn.mirror);
+    put_quarter(out, buffer, turn.quarter);
+}
 
-impl Display for Turning {
-    ghost output = { λ turning. Some (turning_text turning.0) };
-
-    #[tactic(auto, unfolding(crate::specs::Replies::turning_text))]
-    fn fmt<W: fmt::Write>(&self, f: &mut Formatter<W>) -> fmt::Result {
-        if self.0.mirror {
-            write!(f, "m")?;
-        } else {
-            write!(f, "r")?;
-        }
-        match self.0.quarter {
-            Quarter::R0 => write!(f, "0"),
-            Quarter::R90 => write!(f, "90"),
-            Quarter::R180 => write!(f, "180"),
-            Quarter::R270 => write!(f, "270"),
-        }
+/// Puts whether a turn mirrors.
+fn put_mirror<O: Out>(out: &mut O, buffer: &mut OutBuffer, mirror: bool)
+    ensures { Buffered O.written O.failures out.old buffer.old out.new buffer.new
+        (if mirror then codes "m" else codes "r") }
+{
+    if mirror {
+        buffer.put(out, b"m");
+    } else {
+        buffer.put(out, b"r");
     }
 }
 
-/// The words of a refusal: its number, its name, and the transaction that it names.
-#[derive(Clone, Copy)]
-struct Refusal(StepFault);
+/// Puts the degrees of quarter turns.
+fn put_quarter<O: Out>(out: &mut O, buffer: &mut OutBuffer, quarter: Quarter)
+    ensures { Buffered O.written O.failures out.old buffer.old out.new buffer.new
+        (quarter_text quarter) }
+{
+    let degrees: &[u8] = match quarter {
+        Quarter::R0 => b"0",
+        Quarter::R90 => b"90",
+        Quarter::R180 => b"180",
+        Quarter::R270 => b"270",
+    };
+    buffer.put(out, degrees);
+}
 
-impl Display for Refusal {
-    ghost output = { λ refusal. Some (fault_text refusal.0) };
+/// Puts the words of a refusal: its number, its name, and the transaction that it names.
+fn put_refusal<O: Out>(out: &mut O, buffer: &mut OutBuffer, fault: StepFault)
+    ensures { Buffered O.written O.failures out.old buffer.old out.new buffer.new
+        (fault_text fault) }
+{
+    let (number, name) = fault.code();
+    buffer.put(out, b"fault ");
+    buffer.put_unsigned(out, u64::from(number));
+    buffer.put_byte(out, b' ');
+    buffer.put(out, name.as_bytes());
+    put_named(out, buffer, fault);
+}
 
-    #[tactic(auto, unfolding(crate::specs::Replies::fault_text))]
-    fn fmt<W: fmt::Write>(&self, f: &mut Formatter<W>) -> fmt::Result {
-        let (number, name) = self.0.code();
-        match self.0 {
-            StepFault::Book(
-                BookFault::Depends(txn) | BookFault::Moved(txn) | BookFault::Stale(txn),
-            ) => write!(f, "fault {number} {name} {txn}"),
-            _ => write!(f, "fault {number} {name}"),
-        }
+/// Puts the transaction that a refusal names, behind a space.
+fn put_named<O: Out>(out: &mut O, buffer: &mut OutBuffer, fault: StepFault)
+    ensures { Buffered O.written O.failures out.old buffer.old out.new buffer.new
+        (named_text fault) }
+{
+    match fault {
+        StepFault::Book(
+            BookFault::Depends(txn) | BookFault::Moved(txn) | BookFault::Stale(txn),
+        ) => put_spaced(out, buffer, txn),
+        _ => {}
     }
+}
+
+/// Puts the name of a transaction, behind a space.
+fn put_spaced<O: Out>(out: &mut O, buffer: &mut OutBuffer, txn: TxnId)
+    ensures { Buffered O.written O.failures out.old buffer.old out.new buffer.new
+        (codes " " ++ txn_text txn) }
+{
+    buffer.put_byte(out, b' ');
+    put_txn(out, buffer, txn);
 }
