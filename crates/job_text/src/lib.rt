@@ -4,8 +4,8 @@
 //! line, and at last `%order` and the sessions in the order of their steps. [`Job::read`] gives the text,
 //! the steps of each session and their order, or the number of the first line with a fault. [`print`] puts
 //! a comment for each reply and the order in which the steps ran, which [`order_of`] makes from the log of
-//! a book. They go to the device piece by piece, so their text never stands in memory as a whole and none is
-//! taken: [`put_comments`] is the same without a fault for it, and [`comments`] gives the text instead.
+//! a book. They go to the device piece by piece and take no memory: [`put_comments`] is the same without a
+//! fault for it. [`comments`] gives their text instead.
 //!
 //! A live run has its steps in lines `SESSION STEP`, which come one at a time: [`live_line`] says what a line
 //! asks for, and [`reply_line`] and [`odd_line`] give the comments that answer it.

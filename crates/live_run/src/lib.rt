@@ -30,4 +30,4 @@ mod run;
 mod tests;
 
 pub use ending::LiveEnd;
-pub use run::run_live;
+pub use run::{MAX_READS, run_live};

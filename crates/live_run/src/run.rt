@@ -10,8 +10,8 @@ use byte_io::{In, Out};
 use std::alloc::Global;
 use std::thread::Threads;
 
-/// The most reads of the input.
-const MAX_READS: u32 = 33_554_432;
+/// The most reads of an input.
+pub const MAX_READS: u32 = 33_554_432;
 
 const _: () = prove!(MAX_READS == 33_554_432);
 

@@ -17,7 +17,7 @@ use Rattle.masklay.specs.Run.{IsRun}
 abbrev pub is_option : List ℕ → String Global → Bool
 is_option option word = bytes_eq (string_bytes word) option
 
--- whether one of the arguments is, which are the words after the first
+-- whether one of the arguments is, which are the words behind the first
 abbrev pub asks : List ℕ → List (String Global) → Bool
 asks option [] = false
 asks option (name ∷ arguments) = list_any (is_option option) arguments

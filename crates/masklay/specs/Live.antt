@@ -1,7 +1,8 @@
 -- A live run of the program: what is written behind its last answer, and how it ends.
-use Rattle.std.specs.Prelude.{◌≡◌, ℕ, List, Option}
+use Rattle.std.specs.Prelude.{◌≡◌, ℕ, ◌+◌, ◌≤◌, List, Option}
 use Rattle.byte_io.specs.Input.{Counts}
 use Rattle.live_run.specs.Ending.{IsLiveRun}
+use Rattle.live_run.specs.declared.run.TheConstants.{MAX_READS}
 use Rattle.live_run.specs.declared.ending.LiveEnd.{LiveEnd}
 use Rattle.live_run.specs.declared.ending.LiveEnd.TheVariants.{Done as AllSaid, Job as JobEnd, Cif as CifEnd}
 use Rattle.live_run.specs.declared.ending.LiveEnd.TheVariants.{Device as DeviceEnd, Memory as MemoryEnd}
@@ -27,3 +28,5 @@ pub record IsLive {I O : Type 0} (remaining : I → Option (List ℕ)) (counts :
   pub end : LiveEnd
   pub ran : IsLiveRun remaining counts written failures input input' out answered end
   pub closed : IsClosed written failures answered out' end status
+  -- the input is read so often at most
+  pub reads : (counts input').reads ≤ (counts input).reads + MAX_READS

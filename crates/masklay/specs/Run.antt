@@ -1,7 +1,7 @@
 -- How a run of the program ended.
 use Rattle.std.specs.Prelude.{◌≡◌, ◌≢◌, ℕ, ◌+◌, ◌<◌, ◌≤◌, ◌⊎◌, List, Option, Some}
 use Rattle.byte_io.specs.Input.{Counts}
-use Rattle.masklay.specs.declared.program.reading.TheConstants.{MAX_READS}
+use Rattle.live_run.specs.declared.run.TheConstants.{MAX_READS}
 use Rattle.masklay.specs.declared.program.status.Status.{Status}
 use Rattle.masklay.specs.declared.program.status.Status.TheVariants.{Device}
 use Rattle.masklay.specs.Asked.{Asked}

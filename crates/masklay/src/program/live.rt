@@ -1,6 +1,7 @@
 //! A live run: steps in lines, each answered before the next is read.
-ghost use Rattle.std.specs.Prelude.{◌≡◌};
+ghost use Rattle.std.specs.Prelude.{◌≡◌, ◌+◌, ◌≤◌};
 ghost use Rattle.live_run.specs.Ending.{IsLiveRun};
+ghost use Rattle.live_run.specs.declared.run.TheConstants.{MAX_READS};
 ghost use Rattle.masklay.specs.Live.{IsClosed, IsLive};
 ghost use Rattle.masklay.specs.Telling.{Tells};
 
@@ -44,7 +45,8 @@ fn answer_lines<I: In, O: Out>(
     input: &mut I,
     out: &mut O,
 ) -> LiveEnd
-    ensures { IsLiveRun I.remaining I.counts O.written O.failures input.old input.new out.old out.new result }
+    ensures run { IsLiveRun I.remaining I.counts O.written O.failures input.old input.new out.old out.new result }
+    ensures reads { (I.counts input.new).reads ≤ (I.counts input.old).reads + MAX_READS }
 {
     if workers < 2 {
         return run_live(rt, alloc, &OneBand, input, out);

@@ -11,11 +11,11 @@ use crate::program::oriented::Given;
 use crate::program::outcome::{Finished, Stop};
 use crate::program::status::Status;
 use crate::program::{put, put_memory};
-use byte_io::{Failing, MemoryOut, Out, put_all};
+use byte_io::{Failing, MemoryOut, Out};
 use cif_names::{Names, with_names};
 use cif_read::CifFault;
 use cif_write::{Prepared, prepare};
-use job_text::comments;
+use job_text::{comments, put_comments};
 use lay_point::NoMemory;
 use std::alloc::Global;
 use std::io::Write;
@@ -26,17 +26,17 @@ pub(super) fn write_given<O: Out>(alloc: Global, given: &Given, out: &mut O) -> 
         (written_output given.now.names given.now.finished) result }
 {
     match &given.names {
-        None => write_finished(alloc, &given.finished, out),
+        None => write_finished(&given.finished, out),
         Some(names) => write_named(alloc, names, &given.finished, out),
     }
 }
 
 /// Writes the replies, the order and the layout.
-fn write_finished<O: Out>(alloc: Global, finished: &Finished, out: &mut O) -> Status
+fn write_finished<O: Out>(finished: &Finished, out: &mut O) -> Status
     ensures { WritesOrMemory O.written O.failures out.old out.new (written_output None finished.now) result }
 {
-    match prepared(alloc, finished) {
-        Ok((comments, layout)) => put_finished(&comments, &layout, out),
+    match prepare(&finished.layout) {
+        Ok(layout) => put_finished(finished, &layout, out),
         Err(NoMemory) => put_memory(out),
     }
 }
@@ -56,42 +56,37 @@ fn write_named<O: Out>(alloc: Global, names: &Names, finished: &Finished, out: &
 fn named_bytes(alloc: Global, names: &Names, finished: &Finished) -> Result<Vec<u8>, NoMemory>
     ensures { IfOk result (λ bytes. bytes.items ≡ (written_output (Some names.now) finished.now).text) }
 {
-    let (comments, layout) = prepared(alloc, finished)?;
-    let mut bytes = comments;
+    let layout = prepare(&finished.layout)?;
     let text = text_of(alloc, &layout)?;
-    bytes.extend_from_slice(&with_names(alloc, names, &text)?)?;
-    Ok(bytes)
-}
-
-/// Returns the text of the layout.
-fn text_of(alloc: Global, layout: &Prepared<'_>) -> Result<Vec<u8>, NoMemory>
-    ensures { IfOk result (λ bytes. bytes.items ≡ text layout.now) }
-{
-    let mut out = MemoryOut::new(alloc, usize::MAX, usize::MAX, Failing::ByErr);
-    layout.put(&mut out).map_err(|_| NoMemory)?;
-    Ok(out.written().to_vec(alloc)?)
-}
-
-/// Returns the lines of the replies and of the order, and the layout, ready to be written.
-fn prepared(alloc: Global, finished: &Finished) -> Result<(Vec<u8>, Prepared<'_>), NoMemory>
-    ensures { IfOk result (λ ready. (ready.0.items
-        ≡ replies_text finished.now.replies ++ order_text finished.now.order)
-        × (ready.1 ≡ finished.now.layout)) }
-{
-    let comments = comments(
+    let mut bytes = comments(
         alloc,
         finished.replies.as_slice(),
         finished.order.as_slice(),
     )?;
-    Ok((comments, prepare(&finished.layout)?))
+    bytes.extend_from_slice(&with_names(alloc, names, text.written())?)?;
+    Ok(bytes)
 }
 
-/// Writes the comments, then the layout.
-fn put_finished<O: Out>(comments: &[u8], layout: &Prepared<'_>, out: &mut O) -> Status
-    ensures { Writes O.written O.failures out.old out.new
-        (record { text = comments.now ++ text layout.now; status = Done }) result }
+/// Returns a device that holds the text of the layout.
+fn text_of(alloc: Global, layout: &Prepared<'_>) -> Result<MemoryOut, NoMemory>
+    ensures { IfOk result (λ out. out.bytes.items ≡ text layout.now) }
 {
-    if put_all(out, comments).is_err() || layout.put(out).is_err() {
+    let mut out = MemoryOut::new(alloc, usize::MAX, usize::MAX, Failing::ByErr);
+    layout.put(&mut out).map_err(|_| NoMemory)?;
+    Ok(out)
+}
+
+/// Writes the replies, the order and then this layout.
+fn put_finished<O: Out>(finished: &Finished, layout: &Prepared<'_>, out: &mut O) -> Status
+    ensures { Writes O.written O.failures out.old out.new
+        (record {
+          text = (replies_text finished.now.replies ++ order_text finished.now.order) ++ text layout.now;
+          status = Done;
+        }) result }
+{
+    let replies = finished.replies.as_slice();
+    let order = finished.order.as_slice();
+    if put_comments(out, replies, order).is_err() || layout.put(out).is_err() {
         return Status::Device;
     }
     Status::Done

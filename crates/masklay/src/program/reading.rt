@@ -1,17 +1,14 @@
 //! Reading of the whole input.
 ghost use Rattle.std.specs.Prelude.{◌≡◌, ◌++◌, ◌+◌, ◌≤◌, ℕ, List, IfOk, OnOk, Some, length};
+ghost use Rattle.live_run.specs.declared.run.TheConstants.{MAX_READS};
 ghost use Rattle.masklay.specs.declared.program.reading.ReadFault.TheVariants.{Device as Stopped, NoMemory as OutOfMemory};
 ghost use Rattle.masklay.specs.Reading.{HowRead, kept_of};
 
 use byte_io::{In, InFault};
 use job_text::MAX_JOB;
 use lay_point::NoMemory;
+use live_run::MAX_READS;
 use std::alloc::Global;
-
-/// The most reads of the input.
-const MAX_READS: u32 = 33_554_432;
-
-const _: () = prove!(MAX_READS == 33_554_432);
 
 /// How many bytes are asked for in one read.
 const BUFFER: usize = 16_384;
