@@ -1,6 +1,6 @@
 -- Words of a command, and the numbers that they spell.
-use Rattle.std.specs.Prelude.{ℕ, ◌==◌, nat_le, nat_lt, List, [], ◌∷◌, length, Bool, true, false, ◌&&◌, ◌||◌, not, Option, None, Some, option_map}
-use Rattle.std.specs.Prelude.{if◌then◌else◌}
+use Rattle.std.specs.Prelude.{ℕ, ◌==◌, nat_le, nat_lt, List, [], ◌∷◌, length, Bool, true, false, ◌&&◌, ◌||◌, not}
+use Rattle.std.specs.Prelude.{Option, None, Some, option_map, if◌then◌else◌}
 use Rattle.std.specs.List.{list_all, take_while}
 use Rattle.lay_point.specs.Names.{is_digit}
 use Rattle.byte_io.specs.Decimal.{decimal_value}
