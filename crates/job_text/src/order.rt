@@ -157,13 +157,7 @@ pub(crate) fn put_order<O: Out>(out: &mut O, buffer: &mut OutBuffer, order: &[u8
 }
 
 /// Puts a number of the order, in comments of `LINE` numbers, by its index, from 0, and whether it is the last.
-fn put_number<O: Out>(
-    out: &mut O,
-    buffer: &mut OutBuffer,
-    index: usize,
-    last: bool,
-    session: u8,
-)
+fn put_number<O: Out>(out: &mut O, buffer: &mut OutBuffer, index: usize, last: bool, session: u8)
     ensures { Buffered O.written O.failures out.old buffer.old out.new buffer.new
         (number_text index last session) }
 {

@@ -18,11 +18,7 @@ use txn_rules::{Done, TxnId};
 use undo_rules::BookFault;
 
 /// Puts the lines of the replies to the steps of all sessions, of which the first is session 1.
-pub(crate) fn put_replies<O: Out>(
-    out: &mut O,
-    buffer: &mut OutBuffer,
-    sessions: &[Sequence<Reply>],
-)
+pub(crate) fn put_replies<O: Out>(out: &mut O, buffer: &mut OutBuffer, sessions: &[Sequence<Reply>])
     ensures { Buffered O.written O.failures out.old buffer.old out.new buffer.new
         (replies_text sessions.now) }
 {
@@ -118,7 +114,7 @@ fn put_several<O: Out>(out: &mut O, buffer: &mut OutBuffer, first: ItemId, count
 /// Puts the name of an item.
 fn put_id<O: Out>(out: &mut O, buffer: &mut OutBuffer, session: u8, txn: u16, seq: u64)
     ensures { Buffered O.written O.failures out.old buffer.old out.new buffer.new
-        (item_text (record { session = session; txn = txn; seq = seq; })) }
+        (item_text (record { session = session; txn = txn; seq = seq })) }
 {
     put_txn(out, buffer, TxnId { session, txn });
     buffer.put_byte(out, b'.');
@@ -166,13 +162,7 @@ fn put_shape<O: Out>(
 }
 
 /// Puts the words of a placed symbol.
-fn put_placed<O: Out>(
-    out: &mut O,
-    buffer: &mut OutBuffer,
-    cell: CellId,
-    target: u32,
-    turn: Turn,
-)
+fn put_placed<O: Out>(out: &mut O, buffer: &mut OutBuffer, cell: CellId, target: u32, turn: Turn)
     ensures { Buffered O.written O.failures out.old buffer.old out.new buffer.new
         (found_text (Placed cell target turn)) }
 {
@@ -293,9 +283,8 @@ fn put_named<O: Out>(out: &mut O, buffer: &mut OutBuffer, fault: StepFault)
         (named_text fault) }
 {
     match fault {
-        StepFault::Book(
-            BookFault::Depends(txn) | BookFault::Moved(txn) | BookFault::Stale(txn),
-        ) => put_spaced(out, buffer, txn),
+        StepFault::Book(BookFault::Depends(txn) | BookFault::Moved(txn) | BookFault::Stale(txn)) =>
+            put_spaced(out, buffer, txn),
         _ => {}
     }
 }
