@@ -59,3 +59,16 @@ IsArea-products r s h g =
       is = is;
       small = rw is (record { low = omega (arith, linear, h.low, g.high); high = omega (arith, linear, h.high, g.low) });
     }
+
+-- the sum of two of them
+pub sum_of_products : (r s : ℤ) → IsUpTo (pos (2 ^ 64)) r → IsUpTo (pos (2 ^ 64)) s
+    → to_z w128 (of_z w128 (to_z w128 (of_z w128 r) +ℤ to_z w128 (of_z w128 s))) ≡ r +ℤ s
+sum_of_products r s h g =
+    let fits_r : SFits w128 r = omega (arith, ints, h.low, h.high) in
+    let fits_s : SFits w128 s = omega (arith, ints, g.low, g.high) in
+    let fits : SFits w128 (r +ℤ s) = omega (arith, ints, h.low, h.high, g.low, g.high) in
+    ap (λ z. to_z w128 (of_z w128 z)) (λ i. to_z-of_z w128 r fits_r i +ℤ to_z-of_z w128 s fits_s i) ∙ to_z-of_z w128 (r +ℤ s) fits
+
+-- a product of two coordinates, as code passes these
+pub product_is : (a b r : ℤ) → SFits w32 a → SFits w32 b → r ≡ to_z w32 (of_z w32 a) *ℤ to_z w32 (of_z w32 b) → r ≡ a *ℤ b
+product_is a b r f g e = e ∙ (λ i. to_z-of_z w32 a f i *ℤ to_z-of_z w32 b g i)

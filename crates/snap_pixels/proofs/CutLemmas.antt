@@ -1,6 +1,6 @@
 -- What two segments have in common is on one side of a line, so both reach that side.
 use Rattle.std.proofs.Common.{◌≡◌, ◌⊎◌, inl, inr, ⊎_elim, ◌↔◌, Bool, true, false, cond, List, [], ◌∷◌, Contains, ℤ, pos, ◌+ℤ◌, ◌*ℤ◌}
-use Rattle.std.proofs.Common.{◌≤ℤ◌, ◌<ℤ◌, neg_ℤ, refl, sym, subst, arith}
+use Rattle.std.proofs.Common.{◌≤ℤ◌, ◌<ℤ◌, neg_ℤ, refl, sym, subst, arith, ◌∙◌}
 use Rattle.std.specs.Prelude.{filter, int_le, ◌||◌}
 use Rattle.std.proofs.lemmas.Int.{ints}
 use Rattle.lay_int_laws.proofs.Polynomials.{#, lit, ◌⊕◌, ◌⊖◌, ◌⊗◌, identity}
@@ -8,9 +8,10 @@ use Rattle.lay_int_laws.proofs.Signs.{linear, below_or_not}
 use Rattle.lay_point.specs.declared.point.Point.{Point}
 use Rattle.lay_point.proofs.Members.{Has, contains, has}
 use Rattle.snap_pixels.specs.declared.cut.Cut.{Cut}
-use Rattle.snap_pixels.specs.declared.cut.Cut.TheVariants.{Column, Row}
+use Rattle.snap_pixels.specs.declared.cut.Cut.TheVariants.{Column, Row, Slanted}
+use Rattle.snap_pixels.specs.declared.direction.Direction.{Direction}
 use Rattle.snap_pixels.specs.declared.segment.Segment.{Segment}
-use Rattle.snap_pixels.specs.Cuts.{reaches_high, reaches_low}
+use Rattle.snap_pixels.specs.Cuts.{reach, reaches_high, reaches_low}
 use Rattle.snap_pixels.specs.Hot.{IsHot}
 use Rattle.snap_pixels.specs.Segments.{Crosses, IsFraction, along}
 use Rattle.snap_pixels.proofs.BoxLemmas.{along_at_least, along_at_most}
@@ -66,10 +67,27 @@ module _ (k t t' a b c d m : ℤ) (f : IsFraction t k) (f' : IsFraction t' k) (e
       ))
       (below_or_not (m *ℤ k) (along k t a b))
 
+-- ---- in any direction
+-- of a place on the way between two points
+reach_along : (d : Direction) (k t : ℤ) (a b : Point)
+    → along k t (reach d a) (reach d b) ≡ d.x *ℤ along k t a.x b.x +ℤ d.y *ℤ along k t a.y b.y
+reach_along d k t a b = identity (k ∷ t ∷ d.x ∷ d.y ∷ a.x ∷ a.y ∷ b.x ∷ b.y ∷ [])
+    ((# 2 ⊗ # 4 ⊕ # 3 ⊗ # 5) ⊗ (# 0 ⊖ # 1) ⊕ (# 2 ⊗ # 6 ⊕ # 3 ⊗ # 7) ⊗ # 1)
+    (# 2 ⊗ (# 4 ⊗ (# 0 ⊖ # 1) ⊕ # 6 ⊗ # 1) ⊕ # 3 ⊗ (# 5 ⊗ (# 0 ⊖ # 1) ⊕ # 7 ⊗ # 1)) refl
+
+-- of a place that is on two of them
+reach_common : (d : Direction) (k t t' : ℤ) (a b a' b' : Point) → along k t a.x b.x ≡ along k t' a'.x b'.x
+    → along k t a.y b.y ≡ along k t' a'.y b'.y → along k t (reach d a) (reach d b) ≡ along k t' (reach d a') (reach d b')
+reach_common d k t t' a b a' b' column row =
+    reach_along d k t a b ∙ (λ i. d.x *ℤ column i +ℤ d.y *ℤ row i) ∙ sym (reach_along d k t' a' b')
+
 both_reach : (cut : Cut) (s t : Segment) (c : Point) → Crosses s.a s.b t.a t.b c
     → ((reaches_low cut s ≡ true) × (reaches_low cut t ≡ true)) ⊎ ((reaches_high cut s ≡ true) × (reaches_high cut t ≡ true))
 both_reach (Column m) s t c (apart, k, l, l', h, place) = one_side k l l' s.a.x s.b.x t.a.x t.b.x m h.first h.second h.column
 both_reach (Row m) s t c (apart, k, l, l', h, place) = one_side k l l' s.a.y s.b.y t.a.y t.b.y m h.first h.second h.row
+both_reach (Slanted d m) s t c (apart, k, l, l', h, place) =
+    one_side k l l' (reach d s.a) (reach d s.b) (reach d t.a) (reach d t.b) m h.first h.second
+    (reach_common d k l l' s.a s.b t.a t.b h.column h.row)
 
 either : (a b m : ℤ) → ((int_le a m || int_le b m) ≡ true) ⊎ ((int_le m a || int_le m b) ≡ true)
 either a b m = ⊎_elim
@@ -80,6 +98,7 @@ either a b m = ⊎_elim
 one_reaches : (cut : Cut) (s : Segment) → (reaches_low cut s ≡ true) ⊎ (reaches_high cut s ≡ true)
 one_reaches (Column m) s = either s.a.x s.b.x m
 one_reaches (Row m) s = either s.a.y s.b.y m
+one_reaches (Slanted d m) s = either (reach d s.a) (reach d s.b) m
 
 -- ---- lists of those that pass a test
 module _ {A : Type 0} (p : A → Bool) where

@@ -1,6 +1,7 @@
 //! Boxes of places, and where to halve them. Nothing here is a matter of correctness: a list of
 //! segments may be divided across any line.
 use crate::cut::Cut;
+use crate::direction::Direction;
 use crate::segment::Segment;
 use lay_point::Point;
 
@@ -55,24 +56,17 @@ impl Cell {
         }
     }
 
-    /// Returns the division of the segments across the middle column or row with the fewer pairs, or
-    /// `None` where the box is too small.
+    /// Returns the division of the segments across a line, the one of these with the fewest pairs: the middle
+    /// column, the middle row, and one along a segment where neither divides well. Returns `None` where the box
+    /// is too small, and no line is along.
     pub fn division(self, segments: &[Segment]) -> Option<Division> {
-        let column = middle(self.low.x, self.high.x).map(|at: i32| Cut::Column(at));
-        let row = middle(self.low.y, self.high.y).map(|at: i32| Cut::Row(at));
-        match (column, row) {
-            (Some(column), Some(row)) => {
-                let columns = Division::across(column, segments);
-                let rows = Division::across(row, segments);
-                if columns.pairs() <= rows.pairs() {
-                    Some(columns)
-                } else {
-                    Some(rows)
-                }
-            }
-            (Some(column), None) => Some(Division::across(column, segments)),
-            (None, Some(row)) => Some(Division::across(row, segments)),
-            (None, None) => None,
+        let column = middle(self.low.x, self.high.x)
+            .map(|at: i32| Division::across(Cut::Column(at), segments));
+        let row =
+            middle(self.low.y, self.high.y).map(|at: i32| Division::across(Cut::Row(at), segments));
+        match fewer_pairs(column, row) {
+            Some(straight) if straight.divides_well(segments) => Some(straight),
+            straight => fewer_pairs(straight, slanted(segments)),
         }
     }
 
@@ -81,6 +75,7 @@ impl Cell {
         let (x, y) = match cut {
             Cut::Column(at) => (at, self.high.y),
             Cut::Row(at) => (self.high.x, at),
+            Cut::Slanted(..) => (self.high.x, self.high.y),
         };
         Cell {
             low: self.low,
@@ -93,6 +88,7 @@ impl Cell {
         let (x, y) = match cut {
             Cut::Column(at) => (at, self.low.y),
             Cut::Row(at) => (self.low.x, at),
+            Cut::Slanted(..) => (self.low.x, self.low.y),
         };
         Cell {
             low: Point { x, y },
@@ -107,6 +103,33 @@ fn middle(low: i32, high: i32) -> Option<i32> {
         return None;
     }
     Some((low / 2).wrapping_add(high / 2))
+}
+
+/// Returns the division across a line along the segment in the middle of the list, halfway between those that
+/// begin least and most far across it. Parallel segments, which a column or a row hardly tells apart, are told
+/// apart so.
+fn slanted(segments: &[Segment]) -> Option<Division> {
+    let direction = Direction::across(segments.get(segments.len() / 2)?);
+    let (mut low, mut high) = (i128::MAX, i128::MIN);
+    for segment in segments {
+        let reach = direction.reach(segment.a());
+        low = low.min(reach);
+        high = high.max(reach);
+    }
+    if low >= high {
+        return None;
+    }
+    let at = (low / 2).wrapping_add(high / 2);
+    Some(Division::across(Cut::Slanted(direction, at), segments))
+}
+
+/// Returns the division with the fewer pairs, of those that are there.
+fn fewer_pairs(one: Option<Division>, other: Option<Division>) -> Option<Division> {
+    match (one, other) {
+        (Some(one), Some(other)) if other.pairs() < one.pairs() => Some(other),
+        (None, other) => other,
+        (one, _) => one,
+    }
 }
 
 /// How many segments a line leaves on its lower side and on its higher one: those on both sides are
@@ -132,6 +155,11 @@ impl Division {
     /// Returns twice the number of pairs on the two sides, about.
     pub fn pairs(self) -> usize {
         square(self.low).saturating_add(square(self.high))
+    }
+
+    /// Returns whether the two sides have less than three quarters of the segments' pairs.
+    pub fn divides_well(self, segments: &[Segment]) -> bool {
+        self.pairs() / 3 < square(segments.len()) / 4
     }
 
     /// Returns how many of the segments are on both sides.

@@ -2,14 +2,16 @@
 ghost use Rattle.std.specs.Prelude.{◌≡◌, ◌||◌, IfOk, filter, int_le};
 ghost use Rattle.snap_pixels.specs.Cuts.{reaches_high, reaches_low};
 
+use crate::direction::Direction;
 use crate::segment::Segment;
 use std::alloc::{AllocError, Global};
 
-/// A line across which segments are divided: the places of this x, or of this y.
+/// A line across which segments are divided: the places of this x, of this y, or so far in a direction.
 #[derive(Clone, Copy, Debug)]
 pub(crate) enum Cut {
     Column(i32),
     Row(i32),
+    Slanted(Direction, i128),
 }
 
 impl Cut {
@@ -21,6 +23,7 @@ impl Cut {
         match self {
             Cut::Column(at) => one_is_at_most(a.x, b.x, at),
             Cut::Row(at) => one_is_at_most(a.y, b.y, at),
+            Cut::Slanted(direction, at) => one_is_up_to(direction.reach(a), direction.reach(b), at),
         }
     }
 
@@ -32,6 +35,7 @@ impl Cut {
         match self {
             Cut::Column(at) => one_is_at_least(a.x, b.x, at),
             Cut::Row(at) => one_is_at_least(a.y, b.y, at),
+            Cut::Slanted(direction, at) => one_is_from(direction.reach(a), direction.reach(b), at),
         }
     }
 
@@ -74,4 +78,18 @@ fn one_is_at_least(a: i32, b: i32, at: i32) -> bool
     ensures { result ≡ (int_le at a || int_le at b) }
 {
     at <= a || at <= b
+}
+
+/// Returns whether one of the two reaches is at most `most`.
+fn one_is_up_to(a: i128, b: i128, most: i128) -> bool
+    ensures { result ≡ (int_le a most || int_le b most) }
+{
+    a <= most || b <= most
+}
+
+/// Returns whether one of the two reaches is at least `least`.
+fn one_is_from(a: i128, b: i128, least: i128) -> bool
+    ensures { result ≡ (int_le least a || int_le least b) }
+{
+    least <= a || least <= b
 }

@@ -30,6 +30,7 @@ mod boxes;
 mod cell;
 mod crossing;
 mod cut;
+mod direction;
 mod distinct;
 mod exact;
 mod hot_set;

@@ -24,8 +24,8 @@ const MARKS: usize = 65_536;
 ///
 /// # Cost
 ///
-/// Equal segments are asked once. On segments that are short beside the whole, the time is that of a
-/// sort of the segments and the crossings. The pairs asked are at most about twice those of `hot_plain`
+/// Equal segments are asked once. On segments that are short beside the whole, and on long ones that are
+/// parallel, the time is that of a sort of the segments and the crossings. The pairs asked are at most about twice those of `hot_plain`
 /// on the distinct segments. The lists hold at most nine times the segments, and a hot pixel once for
 /// each list that finds it, until these are joined.
 pub fn hot(
