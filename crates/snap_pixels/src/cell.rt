@@ -60,10 +60,14 @@ impl Cell {
     /// column, the middle row, and one along a segment where neither divides well. Returns `None` where the box
     /// is too small, and no line is along.
     pub fn division(self, segments: &[Segment]) -> Option<Division> {
-        let column = middle(self.low.x, self.high.x)
-            .map(|at: i32| Division::across(Cut::Column(at), segments));
-        let row =
-            middle(self.low.y, self.high.y).map(|at: i32| Division::across(Cut::Row(at), segments));
+        let column = middle(self.low.x, self.high.x).map(|at: i32| Division::across(
+            Cut::Column(at),
+            segments,
+        ));
+        let row = middle(self.low.y, self.high.y).map(|at: i32| Division::across(
+            Cut::Row(at),
+            segments,
+        ));
         match fewer_pairs(column, row) {
             Some(straight) if straight.divides_well(segments) => Some(straight),
             straight => fewer_pairs(straight, slanted(segments)),
