@@ -16,7 +16,7 @@ use Rattle.snap_pixels.proofs.BoxLemmas.{Meets-apart}
 use Rattle.lay_int_laws.proofs.Signs.{linear}
 use Rattle.snap_chains.specs.Columns.{HoldMet, is_before}
 
-Decides-int_lt : (a b : ℤ) → Decides (int_lt a b) (a <ℤ b)
+pub Decides-int_lt : (a b : ℤ) → Decides (int_lt a b) (a <ℤ b)
 Decides-int_lt a b = ((λ t. grind (arith, ints)), (λ h. grind (arith, ints)))
 
 pub Decides-is_before : (p q : Point) → Decides (is_before p q) (IsBefore p q)
@@ -24,7 +24,7 @@ Decides-is_before p q =
     Decides-or _ _ (Decides-int_lt p.x q.x) (Decides-and _ _ (Decides-int_eq p.x q.x) (Decides-int_lt p.y q.y))
 
 -- before, or the same
-abbrev IsAtMost : Point → Point → Type 0
+abbrev pub IsAtMost : Point → Point → Type 0
 IsAtMost p q = (p ≡ q) ⊎ IsBefore p q
 
 before_trans : (p q r : Point) → IsBefore p q → IsBefore q r → IsBefore p r
@@ -33,7 +33,7 @@ before_trans p q r (inl h) (inr g) = inl (omega (arith, linear, g.0))
 before_trans p q r (inr h) (inl g) = inl (omega (arith, linear, h.0))
 before_trans p q r (inr h) (inr g) = inr (h.0 ∙ g.0, omega (arith, linear, h.1, g.1))
 
-centres_rise : (cs : List Point) → IsRising cs → (i j : ℕ) (d : Point) → i ≤ j → j < length cs → IsAtMost (get_or cs i d) (get_or cs j d)
+pub centres_rise : (cs : List Point) → IsRising cs → (i j : ℕ) (d : Point) → i ≤ j → j < length cs → IsAtMost (get_or cs i d) (get_or cs j d)
 centres_rise cs h i zero d le lt =
     let e : i ≡ zero = omega arith in
     inl (ap (λ k. get_or cs k d) e)

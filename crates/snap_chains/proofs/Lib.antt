@@ -1,6 +1,7 @@
 pub mod Sorted
 pub mod ChainLemmas
 pub mod ColumnLemmas
+pub mod ClipLemmas
 pub mod SlabLemmas
 pub mod EdgeOrder
 pub mod OwnerLemmas

@@ -1,13 +1,13 @@
 -- Slabs: the one of the quotient of an index holds the centre at that index.
 use Rattle.std.proofs.Common.{◌≡◌, ◌↔◌, ⊎_elim, ℕ, zero, suc, ◌+◌, ◌-◌, ◌*◌, ◌/◌, ◌%◌, ◌<◌, ◌≤◌}
-use Rattle.std.proofs.Common.{List, [], ◌∷◌, ◌++◌, length, map, get_or, take, drop, Vec, Global, refl, sym, ap, ◌∙◌, subst, arith, Contains}
+use Rattle.std.proofs.Common.{List, [], ◌∷◌, ◌++◌, length, map, get_or, take, drop, refl, sym, ap, ◌∙◌, subst, arith, Contains}
 use Rattle.std.specs.Prelude.{flat_map, slice_range}
 use Rattle.std.proofs.lemmas.Nat.{div-add-mod', le-div, mod_below}
 use Rattle.std.proofs.lemmas.List.{drop-drop, get_or-drop, get_or-take, length-drop, length-take, take_more}
 use Rattle.std.proofs.lemmas.List.Elements.{Contains-append_cases, Contains-append_left, Contains-append_right}
 use native.Mathlib.Nat.{suc-mul}
 use Rattle.lay_point.specs.declared.point.Point.{Point}
-use Rattle.snap_pixels.specs.Order.{AreTurned, IsRising, turned}
+use Rattle.snap_pixels.specs.Order.{AreTurned, turned}
 use Rattle.snap_pixels.specs.Segments.{Meets}
 use Rattle.snap_pixels.proofs.OrderLemmas.{turned_members}
 use Rattle.snap_edge_test.proofs.Members.{Has, has, contains, has-append}
@@ -18,36 +18,32 @@ use Rattle.snap_chains.proofs.OwnedLemmas.{Contains-flat_map}
 
 -- ---- cutting
 -- the centres behind so many slabs
-abbrev pub behind : ℕ → List Point → List (Vec Point Global) → List Point
+abbrev pub behind : ℕ → List Point → List (List Point) → List Point
 behind size cs [] = cs
 behind size cs (s ∷ slabs) = behind size (drop size cs) slabs
 
-pub one_slab_more : (size : ℕ) (cs rest : List Point) (slabs : List (Vec Point Global)) (s : Vec Point Global) → AreSlabs size cs slabs
-    → rest ≡ behind size cs slabs → IsRising s.items → AreTurned (take size rest) s.items → AreSlabs size cs (slabs ++ s ∷ [])
-one_slab_more size cs rest [] s h e up turn = (up, subst (λ l. AreTurned (take size l) s.items) e turn, tt)
-one_slab_more size cs rest (t ∷ slabs) s h e up turn = (h.0, h.1, one_slab_more size (drop size cs) rest slabs s h.2 e up turn)
+pub one_slab_more : (size : ℕ) (cs rest : List Point) (slabs : List (List Point)) (s : List Point) → AreSlabs size cs slabs
+    → rest ≡ behind size cs slabs → AreTurned (take size rest) s → AreSlabs size cs (slabs ++ s ∷ [])
+one_slab_more size cs rest [] s h e turn = (subst (λ l. AreTurned (take size l) s) e turn, tt)
+one_slab_more size cs rest (t ∷ slabs) s h e turn = (h.0, one_slab_more size (drop size cs) rest slabs s h.1 e turn)
 
-pub behind-push : (size : ℕ) (cs rest : List Point) (slabs : List (Vec Point Global)) (s : Vec Point Global) → rest ≡ behind size cs slabs
+pub behind-push : (size : ℕ) (cs rest : List Point) (slabs : List (List Point)) (s : List Point) → rest ≡ behind size cs slabs
     → drop size rest ≡ behind size cs (slabs ++ s ∷ [])
 behind-push size cs rest [] s e = ap (drop size) e
 behind-push size cs rest (t ∷ slabs) s e = behind-push size (drop size cs) rest slabs s e
 
 -- ---- finding
-slab_at : (size : ℕ) (cs : List Point) (slabs : List (Vec Point Global)) → AreSlabs size cs slabs → (k : ℕ) (d : Vec Point Global)
-    → k < length slabs → IsRising (get_or slabs k d).items × AreTurned (take size (drop (k * size) cs)) (get_or slabs k d).items
+slab_at : (size : ℕ) (cs : List Point) (slabs : List (List Point)) → AreSlabs size cs slabs → (k : ℕ) (d : List Point)
+    → k < length slabs → AreTurned (take size (drop (k * size) cs)) (get_or slabs k d)
 slab_at size cs [] h k d lt = absurd (omega arith)
 slab_at size cs (s ∷ slabs) h zero d lt =
     let none : zero ≡ zero * size = omega arith in
-    (h.0, subst (λ n. AreTurned (take size (drop n cs)) s.items) none h.1)
+    subst (λ n. AreTurned (take size (drop n cs)) s) none h.0
 slab_at size cs (s ∷ slabs) h (suc k) d lt =
-    let later = slab_at size (drop size cs) slabs h.2 k d (omega arith) in
+    let later = slab_at size (drop size cs) slabs h.1 k d (omega arith) in
     let place : size + k * size ≡ suc k * size = omega (arith, suc-mul k size) in
     let same = drop-drop (k * size) size cs ∙ ap (λ n. drop n cs) place in
-    (later.0, subst (λ l. AreTurned (take size l) (get_or slabs k d).items) same later.1)
-
-pub all_rise : (size : ℕ) (cs : List Point) (slabs : List (Vec Point Global)) → AreSlabs size cs slabs → (k : ℕ) (d : Vec Point Global)
-    → k < length slabs → IsRising (get_or slabs k d).items
-all_rise size cs slabs h k d lt = (slab_at size cs slabs h k d lt).0
+    subst (λ l. AreTurned (take size l) (get_or slabs k d)) same later
 
 pub in_whole : (size n : ℕ) (cs : List Point) (c : Point) → Contains (take size (drop n cs)) c → Contains cs c
 in_whole size n cs c (k, lt, at) =
@@ -55,13 +51,13 @@ in_whole size n cs c (k, lt, at) =
     let inside : n + k < length cs = omega (arith, lt, length-take size (drop n cs), length-drop n cs) in
     (n + k, inside, sym (get_or-take size (drop n cs) k c few ∙ get_or-drop n cs k c) ∙ at)
 
-slab_inside : (size : ℕ) (cs : List Point) (slabs : List (Vec Point Global)) → AreSlabs size cs slabs → (k : ℕ) (d : Vec Point Global)
-    → k < length slabs → (c : Point) → Contains (get_or slabs k d).items c → Contains cs (turned c)
-slab_inside size cs slabs h k d lt c m = in_whole size (k * size) cs (turned c) (((slab_at size cs slabs h k d lt).1 (turned c)).0 m)
+slab_inside : (size : ℕ) (cs : List Point) (slabs : List (List Point)) → AreSlabs size cs slabs → (k : ℕ) (d : List Point)
+    → k < length slabs → (c : Point) → Contains (get_or slabs k d) c → Contains cs (turned c)
+slab_inside size cs slabs h k d lt c m = in_whole size (k * size) cs (turned c) ((slab_at size cs slabs h k d lt (turned c)).0 m)
 
-slab_has : (size : ℕ) (cs : List Point) (slabs : List (Vec Point Global)) → AreSlabs size cs slabs → 0 < size → (i : ℕ) (c : Point)
-    → i < length cs → get_or cs i c ≡ c → (d : Vec Point Global) → i / size < length slabs
-    → Contains (get_or slabs (i / size) d).items (turned c)
+slab_has : (size : ℕ) (cs : List Point) (slabs : List (List Point)) → AreSlabs size cs slabs → 0 < size → (i : ℕ) (c : Point)
+    → i < length cs → get_or cs i c ≡ c → (d : List Point) → i / size < length slabs
+    → Contains (get_or slabs (i / size) d) (turned c)
 slab_has size cs slabs h pos i c lt at d few =
     let k = i / size in
     let r = i % size in
@@ -72,7 +68,7 @@ slab_has size cs slabs h pos i c lt at d few =
       omega (arith, lt, whole, small, length-take size (drop (k * size) cs), length-drop (k * size) cs),
       get_or-take size (drop (k * size) cs) r c small ∙ get_or-drop (k * size) cs r c ∙ ap (λ j. get_or cs j c) whole ∙ at,
     ) in
-    ((slab_at size cs slabs h k d few).1 c).1 there
+    (slab_at size cs slabs h k d few c).1 there
 
 -- ---- slabs that are neighbours
 Has-flat_map : {A B : Type 0} (f : A → List B) (xs : List A) (y : B) → Has (flat_map f xs) y
@@ -100,25 +96,18 @@ div_mono a b size pos le =
     let whole : a / size * size + a % size ≡ a = div-add-mod' a size in
     le-div (a / size) b size pos (omega (arith, whole, le))
 
-module _ (size : ℕ) (cs : List Point) (slabs : List (Vec Point Global)) (are : AreSlabs size cs slabs) (first end : ℕ)
+module _ (size : ℕ) (cs : List Point) (slabs : List (List Point)) (are : AreSlabs size cs slabs) (first end : ℕ)
     (inside : end ≤ length slabs) where
-  pub range_rises : (k : ℕ) (d : Vec Point Global) → k < length (slice_range slabs first end)
-      → IsRising (get_or (slice_range slabs first end) k d).items
-  range_rises k d lt =
-      let few : k < end - first = omega (arith, lt, length-range slabs first end inside) in
-      subst (λ (s : Vec Point Global). IsRising s.items) (sym (get_or-range slabs first end k d few))
-      (all_rise size cs slabs are (first + k) d (omega (arith, few, inside)))
-
   pub range_inside : (c : Point) → Contains (points_in (slice_range slabs first end)) c → Contains cs (turned c)
   range_inside c m =
-      let found = Has-flat_map (λ (s : Vec Point Global). s.items) (slice_range slabs first end) c
+      let found = Has-flat_map (λ (s : List Point). s) (slice_range slabs first end) c
       (has (points_in (slice_range slabs first end)) c m) in
       let k = found.0 in
       let s = found.1 in
       let few : k < end - first = omega (arith, found.2, length-range slabs first end inside) in
       let here : get_or slabs (first + k) s ≡ s = sym (get_or-range slabs first end k s few) ∙ found.3 in
       slab_inside size cs slabs are (first + k) s (omega (arith, few, inside)) c
-      (subst (λ (v : Vec Point Global). Contains v.items c) (sym here) found.4)
+      (subst (λ (v : List Point). Contains v c) (sym here) found.4)
 
   pub range_holds : 0 < size → (from to : ℕ) → first ≡ from / size → end ≡ to / size + 1
       → HoldPlaces cs from to (slice_range slabs first end)
@@ -132,9 +121,9 @@ module _ (size : ℕ) (cs : List Point) (slabs : List (Vec Point Global)) (are :
       let s = there.0 in
       let here : get_or (slice_range slabs first end) (k - first) s ≡ s =
       get_or-range slabs first end (k - first) s few ∙ ap (λ j. get_or slabs j s) back ∙ there.1 in
-      let held = subst (λ (v : Vec Point Global). Contains v.items (turned c)) there.1
+      let held = subst (λ (v : List Point). Contains v (turned c)) there.1
       (slab_has size cs slabs are pos i c below at s (omega (arith, high, inside))) in
-      Contains-flat_map (λ (v : Vec Point Global). v.items) (slice_range slabs first end) (k - first) s
+      Contains-flat_map (λ (v : List Point). v) (slice_range slabs first end) (k - first) s
       (points_in (slice_range slabs first end))
       (omega (arith, few, length-range slabs first end inside)) (sym here) refl (turned c) held
 
@@ -176,7 +165,7 @@ gathered {A = A} {B = B} f P xs i x part near old found new lt at is inside all 
   more = ap (flat_map f) (take_more xs i x lt ∙ ap (λ v. take i xs ++ v ∷ []) (sym at)) ∙ flat_push (take i xs) x
 
 -- of the centres in slabs those that are met, turned back
-pub met_in_slabs : (hot met found : List Point) (slabs : List (Vec Point Global)) (a b : Point) (from to : ℕ) → HoldMet hot a b (from, to)
+pub met_in_slabs : (hot met found : List Point) (slabs : List (List Point)) (a b : Point) (from to : ℕ) → HoldMet hot a b (from, to)
     → ((c : Point) → Contains (points_in slabs) c → Contains hot (turned c)) → HoldPlaces hot from to slabs
     → ((c : Point) → Contains met c ↔ (Contains (points_in slabs) c × Meets (turned a) (turned b) c))
     → found ≡ map turned met → (c : Point) → Contains found c ↔ (Contains hot c × Meets a b c)

@@ -10,6 +10,7 @@ pub mod Scans
 pub mod Keys
 pub mod Columns
 pub mod Slabs
+pub mod Clips
 pub use Rattle.snap_edge_test.specs.Chains
 pub use Rattle.snap_edge_test.specs.Rising
 pub use Rattle.snap_edge_test.specs.Rounding

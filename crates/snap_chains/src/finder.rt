@@ -1,5 +1,5 @@
 //! The search of the hot centres that a segment meets.
-ghost use Rattle.std.specs.Prelude.{◌≡◌, ◌↔◌, ◌<◌, ◌≤◌, All, Contains, IfOk, IfSome, length};
+ghost use Rattle.std.specs.Prelude.{◌≡◌, ◌↔◌, ◌<◌, ◌≤◌, Contains, IfOk, IfSome, length};
 ghost use Rattle.lay_point.specs.declared.point.Point.{Point};
 ghost use Rattle.snap_pixels.specs.Order.{IsRising, turned};
 ghost use Rattle.snap_pixels.specs.Segments.{Meets};
@@ -7,6 +7,7 @@ ghost use Rattle.snap_chains.specs.Slabs.{HoldPlaces, points_in};
 
 use crate::candidates::met;
 use crate::columns_of::{columns, places};
+use crate::slab::Slab;
 use crate::slabs::{met_in_each, slabs_of};
 use lay_point::Point;
 use snap_pixels::{HotSet, Segment, turned_all};
@@ -25,7 +26,7 @@ pub(crate) struct Finder<'h> {
     hot: &'h HotSet,
     /// How many centres are in a slab.
     size: usize,
-    slabs: Vec<Vec<Point>>,
+    slabs: Vec<Slab>,
 }
 
 impl<'h> Model for Finder<'h> {
@@ -90,10 +91,9 @@ impl<'h> Finder<'h> {
 
     /// Returns the slabs of the centres from the index `from` on, before `to`, where it takes less time to
     /// search them than to ask all these centres. A level segment is left to its rows.
-    fn slabs_between(&self, from: usize, to: usize, is_level: bool) -> Option<&[Vec<Point>]>
+    fn slabs_between(&self, from: usize, to: usize, is_level: bool) -> Option<&[Slab]>
         requires ordered { from ≤ to }
         requires inside { to ≤ length self.now }
-        ensures rising { IfSome result (λ slabs. All (λ s. IsRising s.items) slabs.now) }
         ensures inside { IfSome result (λ slabs. (c : Point) → Contains (points_in slabs.now) c
             → Contains self.now (turned c)) }
         ensures all { IfSome result (λ slabs. HoldPlaces self.now from to slabs.now) }

@@ -31,6 +31,7 @@ mod candidates;
 mod chains;
 mod checking;
 mod clean_edges;
+mod clip;
 mod columns_of;
 mod finder;
 mod keys;
@@ -40,6 +41,7 @@ mod owner_lists;
 mod rings;
 mod rounded;
 mod rounding;
+mod slab;
 mod slabs;
 #[cfg(test)]
 mod tests;

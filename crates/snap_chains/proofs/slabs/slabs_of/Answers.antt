@@ -18,12 +18,11 @@ loop-preserved c =
     let rest = c.loop.rest.now in
     let part = c.split_at.ensures.front ∙ ap (λ n. take n rest) c.min.ensures ∙ take_min size rest in
     let later = c.split_at.ensures.back ∙ ap (λ n. drop n rest) c.min.ensures ∙ drop_min size rest in
-    let turn = subst (λ (l : List Point). AreTurned l c.in_ok-slab.slab.items) part c.in_ok-slab.ensures.members in
+    let turn = subst (λ (l : List Point). AreTurned l c.in_ok-slab.slab) part c.in_ok-slab.ensures in
     let slabs = c.loop.slabs.items in
     record {
       slabs = subst (AreSlabs size c.args.centres.now) (sym c.in_ok-push.ensures.items)
-          (one_slab_more size c.args.centres.now rest slabs c.in_ok-slab.slab c.loop.invariant.slabs c.loop.invariant.rest
-          c.in_ok-slab.ensures.rising turn);
+          (one_slab_more size c.args.centres.now rest slabs c.in_ok-slab.slab c.loop.invariant.slabs c.loop.invariant.rest turn);
       rest = later ∙ behind-push size c.args.centres.now rest slabs c.in_ok-slab.slab c.loop.invariant.rest
           ∙ ap (behind size c.args.centres.now) (sym c.in_ok-push.ensures.items);
     }

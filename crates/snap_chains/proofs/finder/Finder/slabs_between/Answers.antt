@@ -3,18 +3,8 @@ use Rattle.std.specs.Prelude.{slice_range}
 use Rattle.lay_point.specs.declared.point.Point.{Point}
 use Rattle.snap_pixels.specs.Order.{turned}
 use Rattle.snap_chains.specs.Slabs.{AreSlabs, HoldPlaces}
-use Rattle.snap_chains.proofs.SlabLemmas.{range_holds, range_inside, range_rises}
+use Rattle.snap_chains.proofs.SlabLemmas.{range_holds, range_inside}
 use Rattle.snap_chains.proofs.finder.Finder.slabs_between.Goals as goal
-
-pub returns-clause-rising : goal.returns-clause-rising
-returns-clause-rising c =
-    let size = c.self.inside.size in
-    let first = c.args.from / size in
-    let end = c.args.to / size + 1 in
-    let slabs = c.deref.result.now in
-    let are = subst (AreSlabs size c.self.inside.hot.now) (sym c.deref.ensures.value) c.self.invariant.1 in
-    let inside : end ≤ length slabs = search rules in
-    range_rises size c.self.inside.hot.now slabs are first end inside
 
 pub returns-clause-inside : goal.returns-clause-inside
 returns-clause-inside c = λ p m.
