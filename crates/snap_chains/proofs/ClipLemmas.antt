@@ -219,6 +219,7 @@ both_met cs a b (f, t) (f', t') from to h g low high k c lt at met =
     low_of : (from ≤ f) ⊎ (from ≤ f') → f ≤ k → f' ≤ k → from ≤ k
     low_of (inl e) p q = omega arith
     low_of (inr e) p q = omega arith
+
     high_of : (t ≤ to) ⊎ (t' ≤ to) → k < t → k < t' → k < to
     high_of (inl e) p q = omega arith
     high_of (inr e) p q = omega arith
