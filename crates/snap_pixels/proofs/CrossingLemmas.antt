@@ -217,12 +217,8 @@ Crosses-swapped a b c d p (apart, k, t, t', h, place) =
       record { column = subst (λ x. IsRoundedTo p.x k x) h.column place.column; row = subst (λ y. IsRoundedTo p.y k y) h.row place.row },
     )
 
-cross-itself : (a b : Point) → cross a b a b ≡ pos 0
+pub cross-itself : (a b : Point) → cross a b a b ≡ pos 0
 cross-itself a b = identity (a.x ∷ a.y ∷ b.x ∷ b.y ∷ []) (cross_of (# 0) (# 1) (# 2) (# 3) (# 0) (# 1) (# 2) (# 3)) (lit (pos 0)) refl
-
--- no segment crosses itself
-pub itself_parallel : (a b p : Point) → Crosses a b a b p → ⊥
-itself_parallel a b p h = h.0 (cross-itself a b)
 
 pub Crosses-parallel : (a b c d : Point) → AreParallel a b c d → (p : Point) → Crosses a b c d p ↔ (None ≡ Some p)
 Crosses-parallel a b c d parallel p = ((λ h. absurd (h.0 parallel)), (λ e. cc))

@@ -3,6 +3,7 @@ pub mod BoxLemmas
 pub mod CrossingLemmas
 pub mod CutLemmas
 pub mod HotLemmas
+pub mod KindLemmas
 pub mod MarkLemmas
 pub mod OrderLemmas
 pub mod PartLemmas

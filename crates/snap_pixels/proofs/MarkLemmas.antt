@@ -7,7 +7,7 @@ use Rattle.std.proofs.lemmas.List.{take_more, take_all}
 use Rattle.std.proofs.lemmas.List.Elements.{Contains-append_left, Contains-push, Contains-push_cases}
 use Rattle.lay_point.specs.declared.point.Point.{Point}
 use Rattle.snap_pixels.specs.declared.segment.Segment.{Segment}
-use Rattle.snap_pixels.specs.Marks.{CrossesOne, FirstMarks}
+use Rattle.snap_pixels.specs.Marks.{CrossesOne, Marks, RunMarks}
 use Rattle.snap_pixels.specs.Pixels.{HoldsPlace, IsRoundedTo}
 use Rattle.snap_pixels.specs.Segments.{Crosses}
 
@@ -82,27 +82,26 @@ CrossesOne-step s t later i found begun old new lt at exact e so_far c =
     joined (Contains-found old new found e c) (so_far c) (CrossesOne-more s t later i found lt at exact c)
 
 -- after the two ends and the loop
-pub FirstMarks-whole : (s : Segment) (later segments : List Segment) (begun marked old : List Point) (n : ℕ)
-    → segments ≡ s ∷ later → begun ≡ (old ++ s.a ∷ []) ++ s.b ∷ [] → length later ≤ n
+pub Marks-whole : (s : Segment) (later : List Segment) (begun marked old : List Point) (n : ℕ)
+    → begun ≡ (old ++ s.a ∷ []) ++ s.b ∷ [] → length later ≤ n
     → ((c : Point) → Contains marked c ↔ (Contains begun c ⊎ CrossesOne s (take n later) c))
-    → (c : Point) → Contains marked c ↔ (Contains old c ⊎ FirstMarks segments c)
-FirstMarks-whole s later segments begun marked old n whole e over so_far c =
-    rw whole (
-      (λ w. ⊎_elim
-          (λ b. ⊎_elim
-          (λ was. ⊎_elim (λ o. inl o) (λ (a : s.a ≡ c). inr (inl (inl ((HoldsPlace-whole s.a c).1 a)))) (Contains-push_cases old s.a c was))
-          (λ (b : s.b ≡ c). inr (inl (inr ((HoldsPlace-whole s.b c).1 b))))
-          (Contains-push_cases (old ++ s.a ∷ []) s.b c (subst (λ l. Contains l c) e b)))
-          (λ k. inr (inr (subst (λ l. CrossesOne s l c) all k)))
-          ((so_far c).0 w)),
-      ⊎_elim
-          (λ o. ends (Contains-append_left _ _ c (Contains-append_left _ _ c o)))
-          (⊎_elim
-          (⊎_elim
-          (λ h. ends (Contains-append_left _ _ c (at_end s.a old ((HoldsPlace-whole s.a c).0 h))))
-          (λ h. ends (at_end s.b (old ++ s.a ∷ []) ((HoldsPlace-whole s.b c).0 h))))
-          (λ k. (so_far c).1 (inr (subst (λ l. CrossesOne s l c) (sym all) k)))),
-    )
+    → (c : Point) → Contains marked c ↔ (Contains old c ⊎ Marks s later c)
+Marks-whole s later begun marked old n e over so_far c = (
+  (λ w. ⊎_elim
+      (λ b. ⊎_elim
+      (λ was. ⊎_elim (λ o. inl o) (λ (a : s.a ≡ c). inr (inl (inl ((HoldsPlace-whole s.a c).1 a)))) (Contains-push_cases old s.a c was))
+      (λ (b : s.b ≡ c). inr (inl (inr ((HoldsPlace-whole s.b c).1 b))))
+      (Contains-push_cases (old ++ s.a ∷ []) s.b c (subst (λ l. Contains l c) e b)))
+      (λ k. inr (inr (subst (λ l. CrossesOne s l c) all k)))
+      ((so_far c).0 w)),
+  ⊎_elim
+      (λ o. ends (Contains-append_left _ _ c (Contains-append_left _ _ c o)))
+      (⊎_elim
+      (⊎_elim
+      (λ h. ends (Contains-append_left _ _ c (at_end s.a old ((HoldsPlace-whole s.a c).0 h))))
+      (λ h. ends (at_end s.b (old ++ s.a ∷ []) ((HoldsPlace-whole s.b c).0 h))))
+      (λ k. (so_far c).1 (inr (subst (λ l. CrossesOne s l c) (sym all) k)))),
+)
   where
     all : take n later ≡ later
     all = take_all n later over
@@ -112,3 +111,35 @@ FirstMarks-whole s later segments begun marked old n whole e over so_far c =
 
     at_end : (p : Point) (l : List Point) → p ≡ c → Contains (l ++ p ∷ []) c
     at_end p l same = subst (λ q. Contains (l ++ p ∷ []) q) same (Contains-push l p)
+
+-- one more segment of a run
+RunMarks-more : (s : Segment) (run later : List Segment) (i : ℕ) → i < length run → get_or run i s ≡ s
+    → (c : Point) → RunMarks (take (i + 1) run) later c ↔ (RunMarks (take i run) later c ⊎ Marks s later c)
+RunMarks-more s run later i lt at c = (
+  (λ w. ⊎_elim
+      (λ (was : Contains (take i run) w.0). inl (w.0, was, w.2))
+      (λ (same : s ≡ w.0). inr (subst (λ (u : Segment). Marks u later c) (sym same) w.2))
+      (Contains-push_cases (take i run) s w.0 (subst (λ l. Contains l w.0) e w.1))),
+  (⊎_elim
+      (λ w. (w.0, subst (λ l. Contains l w.0) (sym e) (Contains-append_left _ _ w.0 w.1), w.2))
+      (λ h. (s, subst (λ l. Contains l s) (sym e) (Contains-push _ s), h))),
+)
+  where
+    e : take (i + 1) run ≡ take i run ++ s ∷ []
+    e = take_more run i s lt ∙ ap (λ u. take i run ++ u ∷ []) at
+
+-- a step of the loop over a run
+pub RunMarks-step : (s : Segment) (run later : List Segment) (i : ℕ) (begun old new : List Point)
+    → i < length run → get_or run i s ≡ s
+    → ((c : Point) → Contains new c ↔ (Contains old c ⊎ Marks s later c))
+    → ((c : Point) → Contains old c ↔ (Contains begun c ⊎ RunMarks (take i run) later c))
+    → (c : Point) → Contains new c ↔ (Contains begun c ⊎ RunMarks (take (i + 1) run) later c)
+RunMarks-step s run later i begun old new lt at more so_far c =
+    joined (more c) (so_far c) (RunMarks-more s run later i lt at c)
+
+-- after the loop
+pub RunMarks-whole : (run later : List Segment) (begun marked : List Point) (n : ℕ) → length run ≤ n
+    → ((c : Point) → Contains marked c ↔ (Contains begun c ⊎ RunMarks (take n run) later c))
+    → (c : Point) → Contains marked c ↔ (Contains begun c ⊎ RunMarks run later c)
+RunMarks-whole run later begun marked n over so_far c =
+    subst (λ l. Contains marked c ↔ (Contains begun c ⊎ RunMarks l later c)) (take_all n run over) (so_far c)

@@ -1,6 +1,7 @@
 pub mod Boxes
 pub mod Cuts
 pub mod Hot
+pub mod Kinds
 pub mod Marks
 pub mod Order
 pub mod Parts

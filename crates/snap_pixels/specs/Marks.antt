@@ -1,6 +1,6 @@
--- Which pixels the search marks, segment by segment. Each segment marks the pixels of its ends, and those of the points
--- that it has in common with later segments that aren't parallel.
-use Rattle.std.specs.Prelude.{ℕ, ◌<◌, ◌⊎◌, List, [], ◌∷◌, drop, Contains, ◌↔◌}
+-- Which pixels the search marks, run by run: those of the ends of each segment of a run, and those of the points that it
+-- has in common with segments after the run that aren't parallel to it.
+use Rattle.std.specs.Prelude.{◌⊎◌, List, Contains}
 use Rattle.lay_point.specs.declared.point.Point.{Point}
 use Rattle.snap_pixels.specs.declared.segment.Segment.{Segment}
 use Rattle.snap_pixels.specs.Hot.{HoldsEnd}
@@ -10,15 +10,10 @@ use Rattle.snap_pixels.specs.Segments.{Crosses}
 abbrev pub CrossesOne : Segment → List Segment → Point → Type 0
 CrossesOne s others c = (t : Segment) × Contains others t × Crosses s.a s.b t.a t.b c
 
--- the first of the segments marks the pixel of c
-abbrev pub FirstMarks : List Segment → Point → Type 0
-FirstMarks [] c = ⊥
-FirstMarks (s ∷ later) c = HoldsEnd s c ⊎ CrossesOne s later c
+-- the segment marks the pixel of c, where it is asked about these
+abbrev pub Marks : Segment → List Segment → Point → Type 0
+Marks s others c = HoldsEnd s c ⊎ CrossesOne s others c
 
--- these are the centres that the first of the segments marks
-abbrev pub AreFirstMarks : List Segment → List Point → Type 0
-AreFirstMarks segments centres = (c : Point) → Contains centres c ↔ FirstMarks segments c
-
--- one of the first n segments marks the pixel of c
-abbrev pub MarkedBelow : List Segment → ℕ → Point → Type 0
-MarkedBelow segments n c = (i : ℕ) × (i < n) × FirstMarks (drop i segments) c
+-- one of the run marks the pixel of c, where each is asked about the segments after the run
+abbrev pub RunMarks : List Segment → List Segment → Point → Type 0
+RunMarks run later c = (s : Segment) × Contains run s × Marks s later c

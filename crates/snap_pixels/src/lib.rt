@@ -34,6 +34,7 @@ mod direction;
 mod distinct;
 mod exact;
 mod hot_set;
+mod kind;
 mod meeting;
 mod parts;
 mod rounding;

@@ -2,11 +2,12 @@
 ghost use Rattle.std.specs.Prelude.{◌≡◌, ◌↔◌, ◌⊎◌, OnOk, IfOk, Contains, flat_map};
 ghost use Rattle.lay_point.specs.declared.point.Point.{Point};
 ghost use Rattle.snap_pixels.specs.Hot.{AreHotCentres, IsHot};
-ghost use Rattle.snap_pixels.specs.Marks.{FirstMarks};
+ghost use Rattle.snap_pixels.specs.Marks.{Marks, RunMarks};
 
 use crate::crossing::crossing;
 use crate::distinct::{distinct, thin};
 use crate::hot_set::HotSet;
+use crate::kind::{put_by_kind, run_length};
 use crate::parts::parts_of;
 use crate::segment::Segment;
 use lay_point::{NoMemory, Point};
@@ -24,10 +25,12 @@ const MARKS: usize = 65_536;
 ///
 /// # Cost
 ///
-/// Equal segments are asked once. On segments that are short beside the whole, and on long ones that are
-/// parallel, the time is that of a sort of the segments and the crossings. The pairs asked are at most about twice those of `hot_plain`
-/// on the distinct segments. The lists hold at most nine times the segments, and a hot pixel once for
-/// each list that finds it, until these are joined.
+/// Equal segments are asked once, and two along the same axis aren't asked about each other, since they are
+/// parallel. On segments that are short beside the whole, and on long ones that are parallel, the time is that of
+/// a sort of the segments and the crossings. Of nested boxes a small part of the pairs is asked, which grows
+/// faster than their number. The pairs asked are at most about twice those of distinct segments that aren't along
+/// the same axis. The lists hold at most nine times the segments, and a hot pixel once for each list that finds
+/// it, until these are joined.
 pub fn hot(
     rt: &(impl Threads + Sync),
     alloc: Global,
@@ -35,7 +38,8 @@ pub fn hot(
 ) -> Result<HotSet, NoMemory>
     ensures { IfOk result (AreHotCentres segments.now) }
 {
-    let once = distinct(alloc, segments)?;
+    let mut once = distinct(alloc, segments)?;
+    put_by_kind(&mut once)?;
     let parts = parts_of(alloc, once.as_slice())?;
     let lists = parts
         .as_slice()
@@ -55,7 +59,8 @@ pub fn hot(
     Ok(found)
 }
 
-/// Returns the hot pixels of the segments, found in this thread from all pairs of them.
+/// Returns the hot pixels of the segments, found in this thread, undivided: of neighbours along the same axis none
+/// is asked about another, and all other pairs are asked.
 pub fn hot_plain(alloc: Global, segments: &[Segment]) -> Result<HotSet, NoMemory>
     ensures { IfOk result (AreHotCentres segments.now) }
 {
@@ -70,11 +75,50 @@ fn marks_of(alloc: Global, segments: &[Segment]) -> Result<Vec<Point>, AllocErro
 {
     let mut marked = Vec::new(alloc);
     let mut limit = MARKS;
-    for i in 0..segments.len() {
-        mark_first(&mut marked, &segments[i..])?;
-        limit = thin(&mut marked, limit);
+    let mut rest = segments;
+    while !rest.is_empty() {
+        let (run, later) = rest.split_at(run_length(rest));
+        limit = mark_run(&mut marked, run, later, limit)?;
+        rest = later;
     }
     Ok(marked)
+}
+
+/// Adds the centres that the segments of a run mark, each of which is asked about the later segments alone.
+/// Returns the limit from which on repeats are removed.
+fn mark_run(
+    marked: &mut Vec<Point>,
+    run: &[Segment],
+    later: &[Segment],
+    mut limit: usize,
+) -> Result<usize, AllocError>
+    ensures { OnOk result ((c : Point)
+        → Contains marked.new.items c ↔ (Contains marked.old.items c ⊎ RunMarks run.now later.now c)) }
+{
+    for segment in run {
+        mark_segment(marked, segment, later)?;
+        limit = thin(marked, limit);
+    }
+    Ok(limit)
+}
+
+/// Adds the centres that the segment marks: those of its ends and of its crossings with the later segments.
+fn mark_segment(
+    marked: &mut Vec<Point>,
+    segment: &Segment,
+    later: &[Segment],
+) -> Result<(), AllocError>
+    ensures { OnOk result ((c : Point)
+        → Contains marked.new.items c ↔ (Contains marked.old.items c ⊎ Marks segment.now later.now c)) }
+{
+    marked.push(segment.a())?;
+    marked.push(segment.b())?;
+    for other in later {
+        if let Some(centre) = crossing(segment, other) {
+            marked.push(centre)?;
+        }
+    }
+    Ok(())
 }
 
 /// Returns the centres of all lists, in any order.
@@ -89,22 +133,4 @@ fn joined(alloc: Global, lists: &[Vec<Point>]) -> Result<Vec<Point>, AllocError>
         limit = thin(&mut all, limit);
     }
     Ok(all)
-}
-
-/// Adds the centres that the first of the segments marks.
-fn mark_first(marked: &mut Vec<Point>, segments: &[Segment]) -> Result<(), AllocError>
-    ensures { OnOk result ((c : Point)
-        → Contains marked.new.items c ↔ (Contains marked.old.items c ⊎ FirstMarks segments.now c)) }
-{
-    let Some((first, later)) = segments.split_first() else {
-        return Ok(());
-    };
-    marked.push(first.a())?;
-    marked.push(first.b())?;
-    for other in later {
-        if let Some(centre) = crossing(first, other) {
-            marked.push(centre)?;
-        }
-    }
-    Ok(())
 }

@@ -22,7 +22,8 @@ returns g c =
     found_in_parts AllocError (λ v. v.items) (λ v. v.items) parts h.0 made.0 each made.1 (flat_map (λ v. v.items) made.0) refl in
     let joined = λ (p : Point). subst (λ l. Contains c.in_ok-marked.marked.items p ↔ Contains (flat_map (λ v. v.items) l) p) lists
     (c.in_ok-marked.ensures p) in
-    let same = IsHot-same c.in_ok-once.once.items c.args.segments.now c.in_ok-once.ensures in
+    let same = IsHot-same c.put_by_kind.new.segments.items c.args.segments.now
+    (λ s. through (c.put_by_kind.ensures s) (c.in_ok-once.ensures s)) in
     let searched = λ (p : Point). subst (λ l. IsHotInOne (map (λ part. part.items) parts) p ↔ IsHot l p) c.as_slice.ensures.value
     (c.in_ok-parts.ensures p) in
     AreHotCentres-marked c.args.segments.now c.in_ok-marked.marked.items c.in_ok-found.found

@@ -1,8 +1,11 @@
-use Rattle.std.proofs.Common.{◌↔◌, Contains}
+use Rattle.std.proofs.Common.{◌↔◌, ◌⊎◌, Contains, length}
 use Rattle.lay_point.specs.declared.point.Point.{Point}
-use Rattle.snap_pixels.specs.Marks.{MarkedBelow}
+use Rattle.snap_pixels.specs.Hot.{IsHot}
 use Rattle.snap_pixels.proofs.search.marks_of.Given as goal
 
--- what the segments so far have marked
-abbrev pub invariant-loop-i : goal.invariant-loop-i
-invariant-loop-i l = (c : Point) → Contains l.marked.items c ↔ MarkedBelow l.segments l.i c
+-- the hot pixels are those that are marked, and those of the segments that are left
+abbrev pub invariant-loop-rest : goal.invariant-loop-rest
+invariant-loop-rest l = (c : Point) → IsHot l.fn.segments c ↔ (Contains l.marked.items c ⊎ IsHot l.rest c)
+
+abbrev pub decreases-loop-rest : goal.decreases-loop-rest
+decreases-loop-rest l = length l.rest
