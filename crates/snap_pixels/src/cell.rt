@@ -1,15 +1,30 @@
 //! Boxes of places, and where to halve them. Nothing here is a matter of correctness: a list of
 //! segments may be divided across any line.
+use crate::counts::Counts;
 use crate::cut::Cut;
 use crate::direction::Direction;
+use crate::kind::Kind;
 use crate::segment::Segment;
 use lay_point::Point;
+
+/// A division may have one pair in so many more than the undivided list. So the pairs of all parts, at
+/// most `DEPTH` divisions deep, are at most about twice those of the segments.
+const SLACK: usize = 64;
 
 /// The places between two points.
 #[derive(Clone, Copy, Debug)]
 pub(crate) struct Cell {
     low: Point,
     high: Point,
+    /// The line to try next where none divides well.
+    turn: Turn,
+}
+
+/// Columns and rows take turns.
+#[derive(Clone, Copy, Debug)]
+enum Turn {
+    Column,
+    Row,
 }
 
 impl Cell {
@@ -20,6 +35,7 @@ impl Cell {
         let mut cell = Cell {
             low: corner,
             high: corner,
+            turn: Turn::Column,
         };
         for segment in segments {
             cell = cell.with(segment.a()).with(segment.b());
@@ -38,6 +54,7 @@ impl Cell {
                 x: self.high.x.max(point.x),
                 y: self.high.y.max(point.y),
             },
+            turn: self.turn,
         }
     }
 
@@ -53,24 +70,42 @@ impl Cell {
                 x: self.high.x.min(round.high.x),
                 y: self.high.y.min(round.high.y),
             },
+            turn: self.turn,
         }
     }
 
-    /// Returns the division of the segments across a line, the one of these with the fewest pairs: the middle
-    /// column, the middle row, and one along a segment where neither divides well. Returns `None` where the box
-    /// is too small, and no line is along.
-    pub fn division(self, segments: &[Segment]) -> Option<Division> {
+    /// Returns the division of the segments across a line: of the middle column and the middle row the one with
+    /// fewer pairs, where it divides well, or one along a slanted segment, where that one does. Where none does,
+    /// columns and rows take turns: the sides of nested boxes are parted by a column and a row together, the first
+    /// of which leaves all pairs. Returns `None` where the box is too small, and no segment is slanted.
+    ///
+    /// The segments have these counts, and are in the order of their kinds.
+    pub fn division(self, segments: &[Segment], whole: Counts) -> Option<Division> {
         let column = middle(self.low.x, self.high.x).map(|at: i32| Division::across(
             Cut::Column(at),
             segments,
+            whole,
         ));
         let row = middle(self.low.y, self.high.y).map(|at: i32| Division::across(
             Cut::Row(at),
             segments,
+            whole,
         ));
-        match fewer_pairs(column, row) {
-            Some(straight) if straight.divides_well(segments) => Some(straight),
-            straight => fewer_pairs(straight, slanted(segments)),
+        let straight = fewer_pairs(column, row);
+        if divides_well(straight) {
+            return straight;
+        }
+        let fewest = fewer_pairs(straight, slanted(segments, whole));
+        if divides_well(fewest) {
+            return fewest;
+        }
+        let next = match self.turn {
+            Turn::Column => column,
+            Turn::Row => row,
+        };
+        match next {
+            Some(next) if next.is_allowed() => Some(next),
+            _ => fewest,
         }
     }
 
@@ -84,6 +119,7 @@ impl Cell {
         Cell {
             low: self.low,
             high: Point { x, y },
+            turn: self.turn_after(cut),
         }
     }
 
@@ -97,6 +133,16 @@ impl Cell {
         Cell {
             low: Point { x, y },
             high: self.high,
+            turn: self.turn_after(cut),
+        }
+    }
+
+    /// Returns the turn of the two halves.
+    fn turn_after(self, cut: Cut) -> Turn {
+        match cut {
+            Cut::Column(_) => Turn::Row,
+            Cut::Row(_) => Turn::Column,
+            Cut::Slanted(..) => self.turn,
         }
     }
 }
@@ -109,11 +155,11 @@ fn middle(low: i32, high: i32) -> Option<i32> {
     Some((low / 2).wrapping_add(high / 2))
 }
 
-/// Returns the division across a line along the segment in the middle of the list, halfway between those that
-/// begin least and most far across it. Parallel segments, which a column or a row hardly tells apart, are told
+/// Returns the division across a line along the slanted segment in the middle of the list, halfway between those
+/// that begin least and most far across it. Parallel segments, which a column or a row hardly tells apart, are told
 /// apart so.
-fn slanted(segments: &[Segment]) -> Option<Division> {
-    let direction = Direction::across(segments.get(segments.len() / 2)?);
+fn slanted(segments: &[Segment], whole: Counts) -> Option<Division> {
+    let direction = Direction::across(whole.middle_slanted(segments)?);
     let (mut low, mut high) = (i128::MAX, i128::MIN);
     for segment in segments {
         let reach = direction.reach(segment.a());
@@ -124,7 +170,7 @@ fn slanted(segments: &[Segment]) -> Option<Division> {
         return None;
     }
     let at = (low / 2).wrapping_add(high / 2);
-    Some(Division::across(Cut::Slanted(direction, at), segments))
+    Some(Division::across(Cut::Slanted(direction, at), segments, whole))
 }
 
 /// Returns the division with the fewer pairs, of those that are there.
@@ -136,45 +182,70 @@ fn fewer_pairs(one: Option<Division>, other: Option<Division>) -> Option<Divisio
     }
 }
 
+/// Returns whether there is a division, and its two sides have less than three quarters of the segments' pairs.
+fn divides_well(division: Option<Division>) -> bool {
+    division.is_some_and(|division: Division| division.pairs() / 3 < division.whole.pairs() / 4)
+}
+
 /// How many segments a line leaves on its lower side and on its higher one: those on both sides are
 /// counted for each.
 #[derive(Clone, Copy, Debug)]
 pub(crate) struct Division {
     pub cut: Cut,
-    low: usize,
-    high: usize,
+    low: Counts,
+    high: Counts,
+    whole: Counts,
 }
 
 impl Division {
-    /// Returns the division of the segments across this line.
-    fn across(cut: Cut, segments: &[Segment]) -> Division {
-        let (mut low, mut high): (usize, usize) = (0, 0);
+    /// Returns the division across this line of the segments, which have these counts.
+    fn across(cut: Cut, segments: &[Segment], whole: Counts) -> Division {
+        let (mut low, mut high) = (Counts::none(), Counts::none());
         for segment in segments {
-            low = low.wrapping_add(usize::from(cut.reaches_low(segment)));
-            high = high.wrapping_add(usize::from(cut.reaches_high(segment)));
+            let kind = Kind::of(segment);
+            low = low.with(kind, usize::from(cut.reaches_low(segment)));
+            high = high.with(kind, usize::from(cut.reaches_high(segment)));
         }
-        Division { cut, low, high }
+        Division {
+            cut,
+            low,
+            high,
+            whole,
+        }
     }
 
-    /// Returns twice the number of pairs on the two sides, about.
+    /// Returns twice the number of pairs that are asked on the two sides, about.
     pub fn pairs(self) -> usize {
-        square(self.low).saturating_add(square(self.high))
+        self.low.pairs().saturating_add(self.high.pairs())
     }
 
-    /// Returns whether the two sides have less than three quarters of the segments' pairs.
-    pub fn divides_well(self, segments: &[Segment]) -> bool {
-        self.pairs() / 3 < square(segments.len()) / 4
+    /// Returns whether the two sides have no more pairs than the undivided list, but for the slack.
+    pub fn is_allowed(self) -> bool {
+        let whole = self.whole.pairs();
+        self.pairs() <= whole.saturating_add(whole / SLACK)
     }
 
     /// Returns how many of the segments are on both sides.
-    pub fn repeats(self, segments: &[Segment]) -> usize {
+    pub fn repeats(self) -> usize {
         self.low
-            .saturating_add(self.high)
-            .saturating_sub(segments.len())
+            .all()
+            .saturating_add(self.high.all())
+            .saturating_sub(self.whole.all())
+    }
+
+    /// Returns the shares of the spare repeats that the two sides have, by their pairs: a side that asks none
+    /// isn't divided.
+    pub fn shares(self, spare: usize) -> (usize, usize) {
+        let pairs = self.pairs();
+        (
+            share(spare, self.low.pairs(), pairs),
+            share(spare, self.high.pairs(), pairs),
+        )
     }
 }
 
-/// Returns the square of the number, or the greatest number where that is less.
-pub(crate) fn square(n: usize) -> usize {
-    n.saturating_mul(n)
+/// Returns the share of the spare repeats that so many of the pairs have.
+fn share(spare: usize, part: usize, whole: usize) -> usize {
+    let times = (spare as u128).saturating_mul(part as u128);
+    usize::try_from(times / (whole.max(1) as u128)).unwrap_or(spare)
 }

@@ -28,6 +28,7 @@
 
 mod boxes;
 mod cell;
+mod counts;
 mod crossing;
 mod cut;
 mod direction;

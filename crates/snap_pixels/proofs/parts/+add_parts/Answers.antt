@@ -12,8 +12,8 @@ returns-in_default t c =
 
 pub returns : goal.returns
 returns t c = λ p.
-    let low = c.in_ok-low.ensures ∙ ap (filter (reaches_low c.in-Some.cut)) c.as_slice-2.ensures.value in
-    let high = c.in_ok-high.ensures ∙ ap (filter (reaches_high c.in-Some.cut)) c.as_slice-3.ensures.value in
+    let low = c.in_ok-low.ensures ∙ ap (filter (reaches_low c.in-Some.division.cut)) c.as_slice-2.ensures.value in
+    let high = c.in_ok-high.ensures ∙ ap (filter (reaches_high c.in-Some.division.cut)) c.as_slice-3.ensures.value in
     both_sides
-    (IsHot-divided c.in-Some.cut c.args.segments.items c.in_ok-low.low.items c.in_ok-high.high.items low high p)
+    (IsHot-divided c.in-Some.division.cut c.args.segments.items c.in_ok-low.low.items c.in_ok-high.high.items low high p)
     (c.in_ok-add_parts.ensures p) (c.in_ok-add_parts-2.ensures p)
