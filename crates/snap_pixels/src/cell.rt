@@ -58,17 +58,24 @@ impl Cell {
         }
     }
 
-    /// Returns the part of the box that is in the box round the segments.
-    pub fn narrowed(self, segments: &[Segment]) -> Cell {
-        let round = Cell::round(segments);
+    /// Returns the part of the box in which those of the segments may cross that are asked about each other. The
+    /// segments have these counts, and are in the order of their kinds.
+    pub fn narrowed(self, segments: &[Segment], counts: Counts) -> Cell {
+        let (not_upright, not_level) = counts.asked(segments);
+        self.within(Cell::round(not_upright))
+            .within(Cell::round(not_level))
+    }
+
+    /// Returns the part of the box that is in the other one.
+    fn within(self, other: Cell) -> Cell {
         Cell {
             low: Point {
-                x: self.low.x.max(round.low.x),
-                y: self.low.y.max(round.low.y),
+                x: self.low.x.max(other.low.x),
+                y: self.low.y.max(other.low.y),
             },
             high: Point {
-                x: self.high.x.min(round.high.x),
-                y: self.high.y.min(round.high.y),
+                x: self.high.x.min(other.high.x),
+                y: self.high.y.min(other.high.y),
             },
             turn: self.turn,
         }

@@ -58,8 +58,15 @@ impl Counts {
             .saturating_add(among_slanted)
     }
 
-    /// Returns the slanted segment in the middle of those of a list that has these counts and is in the order
-    /// of kinds, or `None` where there is none.
+    /// Returns those that aren't upright and those that aren't level, of a list that has these counts and is in
+    /// the order of kinds. Each pair that is asked has one of either.
+    pub fn asked(self, segments: &[Segment]) -> (&[Segment], &[Segment]) {
+        let levels = self.levels.min(segments.len());
+        let not_upright = levels.saturating_add(self.slanted).min(segments.len());
+        (&segments[..not_upright], &segments[levels..])
+    }
+
+    /// Returns the slanted segment in the middle of such a list, or `None` where there is none.
     pub fn middle_slanted(self, segments: &[Segment]) -> Option<&Segment> {
         if self.slanted == 0 {
             return None;

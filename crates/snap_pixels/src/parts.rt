@@ -71,7 +71,7 @@ fn useful_division(segments: &[Segment], cell: Cell, spare: usize, depth: usize)
     if depth == 0 || whole.pairs() <= FEW * FEW {
         return None;
     }
-    let division = cell.narrowed(segments).division(segments, whole)?;
+    let division = cell.narrowed(segments, whole).division(segments, whole)?;
     if division.repeats() > spare || !division.is_allowed() {
         return None;
     }
