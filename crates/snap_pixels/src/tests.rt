@@ -1,6 +1,9 @@
 //! Tests of what no clause says: that the definitions are those of snap rounding, and that calls
 //! succeed.
 
+use super::counts::Counts;
+use super::kind::put_by_kind;
+use super::parts::parts_of;
 use super::*;
 use lay_point::Point;
 use std::alloc::{AllocError, Global};
@@ -127,5 +130,34 @@ fn contains_each_centre(rt: HostRuntime) -> Result<(), Fail> {
     assert!(rt; found.contains(at(2, 2)));
     assert!(rt; found.contains(at(0, 4)));
     assert!(rt; !found.contains(at(1, 1)));
+    Ok(())
+}
+
+/// Returns the sides of so many boxes in one another, in the order of their kinds.
+fn nested_boxes(alloc: Global, number: u16) -> Result<Vec<Segment>, AllocError> {
+    let mut all = Vec::new(alloc);
+    for i in 1..number {
+        let far = i32::from(i);
+        let corners = [at(-far, -far), at(far, -far), at(far, far), at(-far, far)];
+        let [a, b, c, d] = corners;
+        let sides = segments(alloc, &[(a, b), (b, c), (c, d), (d, a)])?;
+        all.extend_from_slice(sides.as_slice())?;
+    }
+    put_by_kind(&mut all)?;
+    Ok(all)
+}
+
+// Could catch lines that leave the sides of nested boxes together, so that their crossings are searched in the
+// square of their number: no clause says which lines are taken.
+#[test]
+fn asks_few_pairs_of_nested_boxes(rt: HostRuntime) -> Result<(), Fail> {
+    let all = nested_boxes(rt.alloc(), 201)?;
+    let parts = parts_of(rt.alloc(), all.as_slice())?;
+    let mut asked: usize = 0;
+    for part in parts.as_slice() {
+        asked = asked.saturating_add(Counts::of(part.as_slice()).pairs());
+    }
+    let whole = Counts::of(all.as_slice()).pairs();
+    assert!(rt; asked < whole / 8, "{asked} of {whole}");
     Ok(())
 }
