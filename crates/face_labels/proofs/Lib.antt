@@ -1,6 +1,7 @@
 pub mod BandLemmas
 pub mod CountLemmas
 pub mod EndLemmas
+pub mod EndedLemmas
 pub mod JudgeLemmas
 pub mod KeptLemmas
 pub mod LabelLemmas

@@ -43,7 +43,7 @@ impl End {
     }
 
     /// Returns whether the edge ends above the row.
-    fn is_above(self, row: i32) -> bool
+    pub fn is_above(self, row: i32) -> bool
         ensures { result ≡ int_lt row self.y }
     {
         row < self.y

@@ -24,6 +24,7 @@ mod band;
 mod beside;
 mod counts;
 mod crossing;
+mod ended;
 mod ends;
 mod exact;
 mod finds;

@@ -23,7 +23,8 @@ ghost use Rattle.face_labels.specs.Sides.{AreSound, IsLine};
 ghost use Rattle.face_labels.specs.declared.start.Start.{Start};
 ghost use Rattle.face_labels.specs.Starts.{AreByRow, BeginsBy, IsStartOf};
 
-use crate::ends::{End, ends_above, take_out_ended};
+use crate::ended::without_ended;
+use crate::ends::{End, ends_above};
 use crate::finds::{find_begun, find_sides};
 use crate::moves::{gap_beside, insert_begun};
 use crate::op::Op;
@@ -96,7 +97,7 @@ impl Line {
         let reach = self.reach;
         let ends = self.ends;
         let from = self.row;
-        let passed = move_on(edges, &mut numbers, from, row, &ends, self.passed, starts)?;
+        let passed = move_on(alloc, edges, &mut numbers, from, row, &ends, self.passed, starts)?;
         find_begun(alloc, edges, &numbers, starts, row, &mut known, &reach)?;
         Ok(Line {
             row,
@@ -156,6 +157,7 @@ fn no_sides(alloc: Global, count: usize) -> Result<Vec<Option<Sides>>, AllocErro
 /// Makes the edges of a row those of a later one: takes out those that end below it, and puts in those that
 /// begin in it. Of the ends, `passed` are below the row; returns how many are below the later one.
 fn move_on(
+    alloc: Global,
     edges: &CleanEdges,
     numbers: &mut Vec<usize>,
     from: i32,
@@ -176,7 +178,7 @@ fn move_on(
     ensures edges { OnOk result (AreRowEdges edges.now.0 row numbers.new.items) }
     ensures ends { IfOk result (λ passed. AreEnds edges.now row ends.now passed) }
 {
-    let below = take_out_ended(edges, numbers, from, row, ends, passed);
+    let below = without_ended(alloc, edges, numbers, from, row, ends, passed)?;
     insert_begun(edges, numbers, starts, row)?;
     Ok(below)
 }

@@ -7,8 +7,8 @@ use Rattle.face_labels.specs.Starts.{BeginsBy}
 use Rattle.face_labels.proofs.OrderLemmas.{later_row}
 use Rattle.face_labels.proofs.line.move_on.Goals as goal
 
-pub take_out_ended-below-requires-clause-some : goal.take_out_ended-below-requires-clause-some
-take_out_ended-below-requires-clause-some c =
+pub without_ended-requires-clause-some : goal.without_ended-requires-clause-some
+without_ended-requires-clause-some c =
     let r = c.args.edges.now in
     let at : to_z w32 (of_z w32 c.args.from) ≡ c.args.from = to_z-of_z w32 c.args.from c.ranges.from in
     subst (λ z. AreSomeRowEdges r.0 z c.args.numbers.now.items) (sym at)
@@ -23,7 +23,7 @@ returns-clause-edges c =
     let put = c.in_ok-insert_begun.ensures in
     let new = c.insert_begun.new.numbers.items in
     subst (λ z. AreRowEdges r.0 z new) at
-    (later_row r from row c.args.numbers.now.items c.take_out_ended-below.new.numbers.items new c.args.starts.now
-    (subst (λ z. from ≤ℤ z) (sym at) c.requires.later) c.requires.edges c.take_out_ended-below.ensures.kept put.some put.kept put.begun
+    (later_row r from row c.args.numbers.now.items c.without_ended.new.numbers.items new c.args.starts.now
+    (subst (λ z. from ≤ℤ z) (sym at) c.requires.later) c.requires.edges c.in_ok-below.ensures.kept put.some put.kept put.begun
     (λ n given behind upto. subst (λ z. BeginsBy c.args.starts.now z n) (sym at)
     (c.requires.begun n given behind (subst (λ z. (upward (edge_at r n)).0.y ≤ℤ z) at upto))))
