@@ -130,11 +130,12 @@ pub(crate) fn place_of(edges: &CleanEdges, numbers: &[usize], number: usize, row
     requires some { AreSomeRowEdges edges.now.0 row numbers.now }
     ensures { (k : ℕ) → k < length numbers.now → slice_index numbers.now k ≡ number → k ≡ result }
 {
+    let own = crossing_of(edges, number, row);
     let mut low = 0;
     let mut high = numbers.len();
     while low < high {
         let middle = low + (high - low) / 2;
-        if is_left_at(edges, numbers, middle, number, row) {
+        if is_left_at(edges, numbers, middle, own, row) {
             low = middle + 1;
         } else {
             high = middle;
@@ -143,17 +144,23 @@ pub(crate) fn place_of(edges: &CleanEdges, numbers: &[usize], number: usize, row
     low
 }
 
-/// Returns whether the edge at this index of the row crosses it left of the edge of this number.
-fn is_left_at(edges: &CleanEdges, numbers: &[usize], index: usize, number: usize, row: i32) -> bool
+/// Returns whether the edge at this index of the row crosses it left of where another does.
+fn is_left_at(
+    edges: &CleanEdges,
+    numbers: &[usize],
+    index: usize,
+    other: Crossing,
+    row: i32,
+) -> bool
     requires index { index < length numbers.now }
-    requires crosses { CrossesRow edges.now.0 row number }
     requires some { AreSomeRowEdges edges.now.0 row numbers.now }
+    requires x { other.x ≡ crossing row (edge_at edges.now other.number) }
+    requires rise { other.rise ≡ rise (edge_at edges.now other.number) }
     ensures { result
-        ≡ is_left_in_row row (edge_at edges.now (slice_index numbers.now index)) (edge_at edges.now number) }
+        ≡ is_left_in_row row (edge_at edges.now (slice_index numbers.now index)) (edge_at edges.now other.number) }
 {
     let place = crossing_of(edges, numbers[index], row);
-    let own = crossing_of(edges, number, row);
-    place.compare(own).is_lt()
+    place.compare(other).is_lt()
 }
 
 /// Returns where the edge of this number crosses the row.
@@ -161,6 +168,7 @@ fn crossing_of(edges: &CleanEdges, number: usize, row: i32) -> Crossing
     requires { CrossesRow edges.now.0 row number }
     ensures x { result.x ≡ crossing row (edge_at edges.now number) }
     ensures rise { result.rise ≡ rise (edge_at edges.now number) }
+    ensures number { result.number ≡ number }
 {
     Crossing::new(edges.edges()[number], number, row)
 }

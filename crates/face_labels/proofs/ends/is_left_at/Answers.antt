@@ -4,7 +4,7 @@ use Rattle.std.specs.Ordering.{is_lt}
 use Rattle.std.proofs.lemmas.Int.{to_z-of_z}
 use Rattle.std.proofs.lemmas.List.Elements.{Contains-get_or}
 use Rattle.face_labels.specs.Lines.{edge_at}
-use Rattle.face_labels.specs.Rows.{CrossesRow, is_left_in_row}
+use Rattle.face_labels.specs.Rows.{CrossesRow, crossing, is_left_in_row}
 use Rattle.face_labels.proofs.RowLemmas.{compared}
 use Rattle.face_labels.proofs.ends.is_left_at.Goals as goal
 
@@ -19,11 +19,12 @@ pub returns : goal.returns
 returns c =
     let r = c.args.edges.now in
     let e = edge_at r (get_or c.args.numbers.now c.args.index 0) in
-    let f = edge_at r c.args.number in
+    let q = c.args.other in
+    let f = edge_at r q.number in
     let p = c.crossing_of-place in
-    let q = c.crossing_of-own in
-    let at : to_z w32 (of_z w32 c.args.row) ≡ c.args.row = to_z-of_z w32 c.args.row c.ranges.row in
+    let row = to_z w32 (of_z w32 c.args.row) in
+    let at : row ≡ c.args.row = to_z-of_z w32 c.args.row c.ranges.row in
     let lt : c.is_lt.result ≡ is_lt c.compare.result = search rules in
-    lt ∙ ap is_lt c.compare.ensures ∙ compared (q.result.rise *ℤ p.result.x) (p.result.rise *ℤ q.result.x)
-    ∙ (λ i. int_lt (q.ensures.rise i *ℤ p.ensures.x i) (p.ensures.rise i *ℤ q.ensures.x i))
+    lt ∙ ap is_lt c.compare.ensures ∙ compared (q.rise *ℤ p.result.x) (p.result.rise *ℤ q.x)
+    ∙ (λ i. int_lt (c.requires.rise i *ℤ p.ensures.x i) (p.ensures.rise i *ℤ (c.requires.x ∙ ap (λ z. crossing z f) (sym at)) i))
     ∙ ap (λ z. is_left_in_row z e f) at

@@ -17,7 +17,8 @@ loop-low-preserved-then-is_left_at c =
     let less : middle < high = omega (arith, c.loop-low-test.true) in
     let inside : middle < length numbers = omega (arith, c.loop-low.invariant.bound) in
     let left : is_left_in_row row (edge_at r (get_or numbers middle 0)) (edge_at r c.args.number) ≡ true =
-    sym c.is_left_at.ensures ∙ c.if-is_left_at.true in
+    subst (λ n. is_left_in_row row (edge_at r (get_or numbers middle 0)) (edge_at r n) ≡ true) c.crossing_of-own.ensures.number
+    (sym c.is_left_at.ensures ∙ c.if-is_left_at.true) in
     record {
       order = omega arith;
       bound = c.loop-low.invariant.bound;
@@ -37,7 +38,8 @@ loop-low-preserved c =
     let less : middle < high = omega (arith, c.loop-low-test.true) in
     let inside : middle < length numbers = omega (arith, c.loop-low.invariant.bound) in
     let not_left : is_left_in_row row (edge_at r (get_or numbers middle 0)) (edge_at r c.args.number) ≡ false =
-    sym c.is_left_at.ensures ∙ c.if-is_left_at.false in
+    subst (λ n. is_left_in_row row (edge_at r (get_or numbers middle 0)) (edge_at r n) ≡ false) c.crossing_of-own.ensures.number
+    (sym c.is_left_at.ensures ∙ c.if-is_left_at.false) in
     record {
       order = omega arith;
       bound = omega arith;
