@@ -15,7 +15,7 @@ const _: () = prove!(MAX_LAYER_NAME == 16);
 pub struct LayerName {
     /// The name, and zeros behind it.
     bytes: [u8; MAX_LAYER_NAME],
-    len: usize,
+    len: u8,
 }
 
 impl Model for LayerName {
@@ -46,7 +46,7 @@ impl LayerName {
         padded[..bytes.len()].copy_from_slice(bytes);
         Some(LayerName {
             bytes: padded,
-            len: bytes.len(),
+            len: bytes.len() as u8,
         })
     }
 
@@ -55,7 +55,7 @@ impl LayerName {
         ensures value { result.now ≡ self.now }
         ensures name { IsTrue (is_layer_name self.now) }
     {
-        &self.bytes[..self.len]
+        &self.bytes[..usize::from(self.len)]
     }
 }
 
