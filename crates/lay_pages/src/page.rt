@@ -113,7 +113,7 @@ pub(crate) fn with<K: PageKey, V: Kept>(
     ensures { IfOk result (λ new. new.items ≡ written K.cmp key value page.now) }
 {
     let (before, after) = around(page, key);
-    let mut new = Vec::new(alloc);
+    let mut new = Vec::with_capacity(alloc, page.len().saturating_add(1))?;
     append(&mut new, before)?;
     if let Some(value) = value {
         new.push((key, value))?;

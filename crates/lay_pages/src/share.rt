@@ -16,7 +16,7 @@ pub(crate) fn spliced<T: Drop>(
     ensures { IfOk result (λ new. values_of new.items
         ≡ take at (values_of list.now) ++ (values_of others.now ++ drop (at + 1) (values_of list.now))) }
 {
-    let mut new = Vec::new(alloc);
+    let mut new = Vec::with_capacity(alloc, list.len().saturating_add(others.len()))?;
     append(&mut new, &list[..at])?;
     append(&mut new, others)?;
     append(&mut new, &list[at + 1..])?;
