@@ -75,6 +75,14 @@ impl Machine {
         &self.book
     }
 
+    /// Ends the sessions. Returns their book; open transactions go.
+    pub fn into_book(self) -> Book
+        ensures { result ≡ self.history }
+    {
+        let Machine { book, .. } = self;
+        book
+    }
+
     /// Takes a step of a session. `NoSession` comes first, then `AlreadyOpen` and `NotOpen`; these are
     /// not logged. A refused commit leaves the transaction open, unless it is stale and has ended. `bands`
     /// finds the edges of Booleans.

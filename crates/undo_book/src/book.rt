@@ -109,6 +109,15 @@ impl Book {
         self.entries.as_slice()
     }
 
+    /// Ends the history. Returns its layout and its log; all else goes.
+    pub fn end(self) -> (Snapshot, Vec<Logged>)
+        ensures layout { result.0 ≡ self.layout }
+        ensures log { result.1.items ≡ self.log }
+    {
+        let Book { layout, log, .. } = self;
+        (layout, log)
+    }
+
     /// Returns whether the log has as many calls as it may have.
     pub(crate) fn is_full(&self) -> bool
         ensures { result ≡ is_log_full self.now }

@@ -130,10 +130,12 @@ fn finish_steps(
     if is_out_of_memory(&replies) {
         return Err(Stop::NoMemory);
     }
+    // The rest of the history takes the most memory, and goes before the replies are dealt.
+    let (layout, log) = machine.into_book().end();
     let replies = dealt(alloc, sessions, order.as_slice(), replies)?;
-    let order = order_of(alloc, machine.book().log(), replies.as_slice())?;
+    let order = order_of(alloc, &log, replies.as_slice())?;
     Ok(Finished {
-        layout: machine.book().snapshot().share(alloc)?,
+        layout,
         replies,
         order: Sequence::from_vec(order),
     })
