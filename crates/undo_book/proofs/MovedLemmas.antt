@@ -26,7 +26,6 @@ use Rattle.std.proofs.Common.{Option, None, Some, option_map, refl, sym, ap, ◌
 use Rattle.std.specs.Prelude.{is_some, nat_lt}
 use Rattle.std.proofs.lemmas.Bool.Decides.{nat_tests}
 use Rattle.std.specs.BTreeMap.{is_at}
-use Rattle.std.specs.BTreeSet.{BTreeSet, contains}
 use Rattle.std.specs.FinSet.{items}
 use Rattle.std.specs.List.{AllByRecursion, list_any}
 use Rattle.std.specs.Ordering.{nat_cmp}
@@ -38,7 +37,7 @@ use Rattle.txn_marks.proofs.AnyLemmas.{any_alike, any_none}
 use Rattle.undo_rules.specs.Links.{AreNamed, Entry, Trace, first_moved, is_among, linked, links_to, live_of, touches, trace_of, txn_eq}
 use Rattle.undo_rules.proofs.EqualLinks.{linked-all, txn_eq-same}
 use Rattle.undo_rules.proofs.Moved.{not_among, txn_eq-sym}
-use Rattle.undo_index.specs.First.{IsFirst, first_some, found_at, is_apart, look, or_some}
+use Rattle.undo_index.specs.First.{IsFirst, first_some, found_at, has, is_apart, look, or_some}
 use Rattle.undo_index.specs.Listed.{Listed, is_listed}
 use Rattle.undo_index.proofs.FirstLemmas.{first_alike, first_found}
 use Rattle.undo_book.specs.Indexed.{Lists, wrote}
@@ -274,16 +273,16 @@ module _ (touched : Touched) (names : List TxnId) (w : Listed) (es : List Entry)
       (apart_so lists are named) first in
       sym (moved_some before (links_to before touched) names ∙ first_found f before 0 o alike ∙ named_so o alike)
 
--- the same of the places that two sets have
+-- the same of the places that two lists have
 pub moved_here : (w : Listed) (es : List Entry) (places : List ((ℕ × ℕ) × ℕ)) (place : ℕ) (entry : Entry) (touched : Touched)
-    (names : List TxnId) (linked seen : BTreeSet ℕ) (o : Option ℕ) → slice_get es place ≡ Some entry → touched ≡ entry.footprint →
+    (names : List TxnId) (linked seen : List ℕ) (o : Option ℕ) → slice_get es place ≡ Some entry → touched ≡ entry.footprint →
     names ≡ entry.seen → Lists wrote w es → AreTheirPlaces places es → AreNamed (map trace_of es) →
-    ((p : ℕ) → contains nat_cmp linked p ≡ (nat_lt p place && list_any (λ e. is_listed w e p) (items touched))) →
-    ((p : ℕ) → contains nat_cmp seen p ≡ (nat_lt p place && list_any (stands_at places p) names)) →
-    IsFirst (λ p. is_apart (contains nat_cmp linked p) (contains nat_cmp seen p)) 0 o → named_at es o ≡ moved_at (place_found es place)
+    ((p : ℕ) → has linked p ≡ (nat_lt p place && list_any (λ e. is_listed w e p) (items touched))) →
+    ((p : ℕ) → has seen p ≡ (nat_lt p place && list_any (stands_at places p) names)) →
+    IsFirst (λ p. is_apart (has linked p) (has seen p)) 0 o → named_at es o ≡ moved_at (place_found es place)
 moved_here w es places place entry touched names linked seen o at same sames lists are named links sees first =
     moved_found touched names w es places place lists are named o
-    (first_alike (λ p. is_apart (contains nat_cmp linked p) (contains nat_cmp seen p))
+    (first_alike (λ p. is_apart (has linked p) (has seen p))
     (λ p. is_apart (nat_lt p place && list_any (λ e. is_listed w e p) (items touched))
     (nat_lt p place && list_any (stands_at places p) names))
     0 o (λ p i. is_apart (links p i) (sees p i)) first)

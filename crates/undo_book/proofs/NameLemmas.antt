@@ -1,11 +1,8 @@
 -- The names of the transactions at the places that are listed.
 use Rattle.std.proofs.Common.{◌≡◌, ℕ, ◌+◌, ◌-◌, ◌<◌, ◌≤◌, ◌==◌, zero, suc, Bool, true, false, cond, ◌||◌, ◌&&◌, List, [], ◌∷◌, length}
-use Rattle.std.proofs.Common.{◌++◌, Option, None, Some, option_map, append_assoc, refl, sym, ap, subst, ◌∙◌, arith, slice_get}
+use Rattle.std.proofs.Common.{◌++◌, Option, None, Some, option_map, drop, get_or, refl, sym, ap, subst, ◌∙◌, arith, slice_get}
 use Rattle.std.specs.Prelude.{nat_lt}
 use Rattle.std.proofs.lemmas.Bool.Decides.{Decides-eqb, nat_tests}
-use Rattle.std.specs.declared.cmp.Ordering.TheVariants.{Equal, Greater, Less}
-use Rattle.std.specs.BTreeMap.{is_at}
-use Rattle.std.specs.Cmp.{unsigned_tied}
 use Rattle.std.specs.FinSet.{items}
 use Rattle.std.specs.List.{AllByRecursion, cons_option, filter_map, list_any}
 use Rattle.std.specs.List.Sorted.{IsStrictlySortedBy}
@@ -16,39 +13,18 @@ use Rattle.txn_rules.specs.Lies.{passes}
 use Rattle.txn_rules.specs.Meets.{some_meets}
 use Rattle.txn_marks.proofs.AnyLemmas.{any_alike, any_none}
 use Rattle.undo_rules.specs.Links.{Entry, links_to}
+use Rattle.undo_index.specs.First.{has}
 use Rattle.undo_index.specs.Listed.{Listed, is_listed}
+use Rattle.undo_index.proofs.ApartLemmas.{above, below_all, drop_next, further}
 use Rattle.undo_book.specs.Indexed.{Lists, is_linked, name_at, wrote}
 use Rattle.undo_book.proofs.IndexedLemmas.{any_live}
 
 -- ---- rising places
 
-less_so : (a b : ℕ) → nat_cmp a b ≡ Less → a < b
-less_so a b h = by (nat_lt a b) refl (a == b) refl h where
-  by : (x : Bool) → nat_lt a b ≡ x → (y : Bool) → (a == b) ≡ y → cond x Less (cond y Equal Greater) ≡ Less → a < b
-  by true less y same h = grind (arith, nat_tests, less)
-  by false less true same h = absurd cc
-  by false less false same h = absurd cc
-
-at_so : (p k : ℕ) → is_at (nat_cmp p) k ≡ (p == k)
-at_so p k = unsigned_tied p k
-
--- no place below them all is one of them
-below_all : (n : ℕ) (ks : List ℕ) → AllByRecursion (λ k. n < k) ks → list_any (is_at (nat_cmp n)) ks ≡ false
-below_all n [] all = refl
-below_all n (k ∷ ks) all = by (n == k) refl (below_all n ks all.1) where
-  by : (b : Bool) → (n == k) ≡ b → list_any (is_at (nat_cmp n)) ks ≡ false
-      → (is_at (nat_cmp n) k || list_any (is_at (nat_cmp n)) ks) ≡ false
-  by true is rest = let same : n ≡ k = (Decides-eqb n k).0 is in absurd (omega (arith, same, all.0))
-  by false is rest = (λ i. (at_so n k ∙ is) i || rest i)
-
 -- places that rise, from one on
 abbrev pub Rise : ℕ → List ℕ → Type 0
 Rise n [] = Unit {0}
 Rise n (k ∷ ks) = (n ≤ k) × AllByRecursion (λ j. k < j) ks × Rise (suc k) ks
-
-above : (a : ℕ) (ks : List ℕ) → AllByRecursion (λ y. nat_cmp a y ≡ Less) ks → AllByRecursion (λ j. a < j) ks
-above a [] all = tt
-above a (k ∷ ks) all = (less_so a k all.0, above a ks all.1)
 
 from_on : (n : ℕ) (ks : List ℕ) → AllByRecursion (λ j. n < j) ks → IsStrictlySortedBy nat_cmp ks → Rise (suc n) ks
 unfolding IsStrictlySortedBy
@@ -61,11 +37,6 @@ unfolding IsStrictlySortedBy
 rise [] sorted = tt
 rise (k ∷ ks) sorted = (omega arith, above k ks sorted.0, from_on k ks (above k ks sorted.0) sorted.1)
 
--- below them all is what is below the first
-further : (ks : List ℕ) (n k : ℕ) → n < k → AllByRecursion (λ j. k < j) ks → AllByRecursion (λ j. n < j) ks
-further [] n k less all = tt
-further (j ∷ js) n k less all = (omega (arith, less, all.0), further js n k less all.1)
-
 -- ---- their names
 
 module _ (fp : Touched) where
@@ -74,7 +45,7 @@ module _ (fp : Touched) where
 
   -- the places from n on at which linked transactions stand, and the names there
   pub record Tell (n : ℕ) (es : List Entry) (ks : List ℕ) (name : ℕ → Option TxnId) : Type 0 where
-    pub there : (i : ℕ) → list_any (is_at (nat_cmp (n + i))) ks ≡ passes test (slice_get es i)
+    pub there : (i : ℕ) → has ks (n + i) ≡ passes test (slice_get es i)
     pub named : (i : ℕ) (entry : Entry) → slice_get es i ≡ Some entry → name (n + i) ≡ Some entry.txn
 
   next : (n i : ℕ) → n + suc i ≡ suc n + i
@@ -84,7 +55,7 @@ module _ (fp : Touched) where
   skipped : (n : ℕ) (e : Entry) (es : List Entry) (ks : List ℕ) (name : ℕ → Option TxnId) → Tell n (e ∷ es) ks name → Tell (suc n) es ks
       name
   skipped n e es ks name tell = record {
-    there = λ i. ap (λ p. list_any (is_at (nat_cmp p)) ks) (sym (next n i)) ∙ tell.there (suc i);
+    there = λ i. ap (λ p. has ks p) (sym (next n i)) ∙ tell.there (suc i);
     named = λ i entry at. ap name (sym (next n i)) ∙ tell.named (suc i) entry at;
   }
 
@@ -92,12 +63,12 @@ module _ (fp : Touched) where
   taken : (n : ℕ) (e : Entry) (es : List Entry) (k : ℕ) (ks : List ℕ) (name : ℕ → Option TxnId) → k ≡ n →
       Tell n (e ∷ es) (k ∷ ks) name → Tell (suc n) es ks name
   taken n e es k ks name same tell = record {
-    there = λ i. sym (ap (λ b. b || list_any (is_at (nat_cmp (suc n + i))) ks) (apart i))
-        ∙ ap (λ p. list_any (is_at (nat_cmp p)) (k ∷ ks)) (sym (next n i)) ∙ tell.there (suc i);
+    there = λ i. sym (ap (λ b. b || has ks (suc n + i)) (apart i))
+        ∙ ap (λ p. has (k ∷ ks) p) (sym (next n i)) ∙ tell.there (suc i);
     named = λ i entry at. ap name (sym (next n i)) ∙ tell.named (suc i) entry at;
   } where
-    apart : (i : ℕ) → is_at (nat_cmp (suc n + i)) k ≡ false
-    apart i = at_so (suc n + i) k ∙ by (suc n + i == k) refl where
+    apart : (i : ℕ) → (suc n + i == k) ≡ false
+    apart i = by (suc n + i == k) refl where
       by : (b : Bool) → (suc n + i == k) ≡ b → b ≡ false
       by true is = let equal : suc n + i ≡ k = (Decides-eqb (suc n + i) k).0 is in absurd (omega (arith, equal, same))
       by false is = refl
@@ -111,11 +82,11 @@ module _ (fp : Touched) where
   nothing : (ks : List ℕ) (n : ℕ) (name : ℕ → Option TxnId) → Rise n ks → Tell n [] ks name → Named [] ks name
   nothing [] n name rises tell = refl
   nothing (k ∷ ks) n name rises tell = absurd (no (tell.there (k - n))) where
-    no : list_any (is_at (nat_cmp (n + (k - n)))) (k ∷ ks) ≡ false → ⊥
+    no : has (k ∷ ks) (n + (k - n)) ≡ false → ⊥
     no h =
         let same : n + (k - n) ≡ k = omega (arith, rises.0) in
-        let here : is_at (nat_cmp (n + (k - n))) k ≡ true = at_so (n + (k - n)) k ∙ (Decides-eqb (n + (k - n)) k).1 same in
-        let yes : true ≡ false = sym (ap (λ b. b || list_any (is_at (nat_cmp (n + (k - n)))) ks) here) ∙ h in
+        let here : (n + (k - n) == k) ≡ true = (Decides-eqb (n + (k - n)) k).1 same in
+        let yes : true ≡ false = sym (ap (λ b. b || has ks (n + (k - n))) here) ∙ h in
         absurd cc
 
   pub names_so : (es : List Entry) (n : ℕ) (ks : List ℕ) (name : ℕ → Option TxnId) → Rise n ks → Tell n es ks name → Named es ks name
@@ -133,9 +104,9 @@ module _ (fp : Touched) where
         by true is rest other =
             let same : k ≡ n = (Decides-eqb k n).0 is in
             let zero_on : k ≡ n + 0 = same ∙ sym (from_zero n) in
-            let here : is_at (nat_cmp (n + 0)) k ≡ true = at_so (n + 0) k ∙ (Decides-eqb (n + 0) k).1 (sym zero_on) in
+            let here : (n + 0 == k) ≡ true = (Decides-eqb (n + 0) k).1 (sym zero_on) in
             let yes : test e ≡ true =
-            sym (tell.there 0) ∙ ap (λ b. b || list_any (is_at (nat_cmp (n + 0))) ks) here in
+            sym (tell.there 0) ∙ ap (λ b. b || has ks (n + 0)) here in
             let name_is : name k ≡ Some e.txn = ap name zero_on ∙ tell.named 0 e refl in
             ap (λ o. cons_option o (filter_map name ks)) name_is ∙ ap (λ xs. e.txn ∷ xs) (rest same)
             ∙ sym (ap (λ b. cond b (e.txn ∷ links_to es fp) (links_to es fp)) yes)
@@ -143,7 +114,7 @@ module _ (fp : Touched) where
             let more : suc n ≤ k = grind (arith, nat_tests, is, rises.0) in
             let far : AllByRecursion (λ j. n < j) (k ∷ ks) = (omega (arith, more), further ks n k (omega (arith, more)) rises.1) in
             let no : test e ≡ false =
-            sym (tell.there 0) ∙ ap (λ p. list_any (is_at (nat_cmp p)) (k ∷ ks)) (from_zero n) ∙ below_all n (k ∷ ks) far in
+            sym (tell.there 0) ∙ ap (λ p. has (k ∷ ks) p) (from_zero n) ∙ below_all n (k ∷ ks) far in
             other more ∙ sym (ap (λ b. cond b (e.txn ∷ links_to es fp) (links_to es fp)) no)
 
 -- ---- the links of a footprint
@@ -167,10 +138,10 @@ within (e ∷ es) t (suc i) = ap (λ b. b && passes t (slice_get es i)) (less i 
 
 pub links_so : (fp : Touched) (w : Listed) (es : List Entry) (ks : List ℕ) (end : ℕ) → Lists wrote w es → end ≡ length es →
     IsStrictlySortedBy nat_cmp ks →
-    ((p : ℕ) → list_any (is_at (nat_cmp p)) ks ≡ (nat_lt p end && list_any (λ e. is_listed w e p) (items fp))) →
+    ((p : ℕ) → has ks p ≡ (nat_lt p end && list_any (λ e. is_listed w e p) (items fp))) →
     filter_map (name_at es) ks ≡ links_to es fp
 links_so fp w es ks end lists last sorted are = names_so fp es 0 ks (name_at es) (rise ks sorted) (record {
-  there = λ i. ap (λ p. list_any (is_at (nat_cmp p)) ks) (zero_on i)
+  there = λ i. ap (λ p. has ks p) (zero_on i)
       ∙ are i ∙ (λ k. nat_lt i (last k) && linked i k) ∙ within es (λ entry. is_linked entry fp) i;
   named = λ i entry at. ap (name_at es) (zero_on i) ∙ ap (λ o. option_map (λ (e : Entry). e.txn) o) at;
 }) where
@@ -187,9 +158,14 @@ links_so fp w es ks end lists last sorted are = names_so fp es 0 ks (name_at es)
 
 -- ---- names gathered one by one
 
-pub one_more : (names : List TxnId) (o : Option TxnId) (x : TxnId) (rest : List TxnId) → o ≡ Some x →
-    (names ++ x ∷ []) ++ rest ≡ names ++ cons_option o rest
-one_more names o x rest is = append_assoc names (x ∷ []) rest ∙ sym (ap (λ p. names ++ cons_option p rest) is)
-
-pub no_more : (names : List TxnId) (o : Option TxnId) (rest : List TxnId) → o ≡ None → names ++ rest ≡ names ++ cons_option o rest
-no_more names o rest is = sym (ap (λ p. names ++ cons_option p rest) is)
+-- with the name at the next place
+pub named_next : (name : ℕ → Option TxnId) (places : List ℕ) (i d : ℕ) (names more : List TxnId) (o : Option TxnId) → i < length places →
+    o ≡ name (get_or places i d) → ((rest : List TxnId) → more ++ rest ≡ names ++ cons_option o rest) →
+    names ++ filter_map name (drop i places) ≡ filter_map name places →
+    more ++ filter_map name (drop (i + 1) places) ≡ filter_map name places
+named_next name places i d names more o less is pushed so_far =
+    let next : i + 1 ≡ suc i = omega arith in
+    ap (λ j. more ++ filter_map name (drop j places)) next
+    ∙ pushed (filter_map name (drop (suc i) places))
+    ∙ ap (λ p. names ++ cons_option p (filter_map name (drop (suc i) places))) is
+    ∙ sym (ap (λ ks. names ++ filter_map name ks) (drop_next places i d less)) ∙ so_far

@@ -1,12 +1,12 @@
 //! Which transactions touched what others wrote.
-ghost use Rattle.std.specs.Prelude.{◌≡◌, ◌<◌, ℕ, ◌||◌, ◌&&◌, IfOk, OnOk, drop, length, map, nat_lt};
-ghost use Rattle.std.specs.BTreeSet.{contains as has};
-ghost use Rattle.std.specs.List.{filter_map, list_any};
+ghost use Rattle.std.specs.Prelude.{◌≡◌, ◌<◌, ℕ, ◌||◌, ◌&&◌, ◌++◌, List, IfOk, OnOk, drop, length, map, nat_lt};
+ghost use Rattle.std.specs.List.{cons_option, filter_map, list_any};
 ghost use Rattle.std.specs.List.Sorted.{IsStrictlySortedBy};
 ghost use Rattle.std.specs.Ordering.{nat_cmp};
 ghost use Rattle.txn_marks.specs.Homes.{AreMetBy};
 ghost use Rattle.undo_rules.specs.Books.{changed_by, changed_in};
 ghost use Rattle.undo_rules.specs.Links.{AreNamed, first_reader, links_to, trace_of};
+ghost use Rattle.undo_index.specs.First.{has};
 ghost use Rattle.undo_book.specs.Indexed.{AreIndexed, name_at};
 ghost use Rattle.undo_book.specs.Places.{AreTheirPlaces, found_at, moved_at, named_at, stands_at};
 
@@ -14,10 +14,10 @@ use crate::book::Book;
 use crate::entry::Entry;
 use lay_point::NoMemory;
 use std::alloc::Global;
-use std::collections::{BTreeMap, BTreeSet};
+use std::collections::BTreeMap;
 use txn_marks::Footprint;
 use txn_rules::TxnId;
-use undo_index::{Index, first_apart};
+use undo_index::{Index, first_apart, put_in_order};
 use undo_rules::{Answer, Call, Logged};
 
 /// Returns the first live transaction from this place on that touched what another one wrote, of which the
@@ -60,23 +60,25 @@ pub(crate) fn first_moved(
     let entry = &entries[place];
     let linked = index.writers.all_among(alloc, &entry.footprint, place)?;
     let seen = places_of(alloc, places, entry.seen.as_slice(), place)?;
-    Ok(named_at(entries, first_apart(&linked, &seen)))
+    Ok(named_at(entries, first_apart(linked.as_slice(), seen.as_slice())))
 }
 
-/// Returns the places below this one at which transactions of these names stand.
+/// Returns the places below this one at which transactions of these names stand, in rising order.
 fn places_of(
     alloc: Global,
     places: &BTreeMap<(u8, u16), usize>,
     names: &[TxnId],
     below: usize,
-) -> Result<BTreeSet<usize>, NoMemory>
-    ensures { IfOk result (λ found. (p : ℕ) → has nat_cmp found p
+) -> Result<Vec<usize>, NoMemory>
+    ensures rising { IfOk result (λ found. IsStrictlySortedBy nat_cmp found.items) }
+    ensures places { IfOk result (λ found. (p : ℕ) → has found.items p
         ≡ (nat_lt p below && list_any (stands_at places.now.entries p) names.now)) }
 {
-    let mut found = BTreeSet::new(alloc);
+    let mut found = Vec::new(alloc);
     for name in names {
         place_of(places, *name, below, &mut found)?;
     }
+    put_in_order(&mut found);
     Ok(found)
 }
 
@@ -85,14 +87,14 @@ fn place_of(
     places: &BTreeMap<(u8, u16), usize>,
     name: TxnId,
     below: usize,
-    found: &mut BTreeSet<usize>,
+    found: &mut Vec<usize>,
 ) -> Result<(), NoMemory>
-    ensures { OnOk result ((p : ℕ) → has nat_cmp found.new p
-        ≡ (has nat_cmp found.old p || (nat_lt p below && stands_at places.now.entries p name))) }
+    ensures { OnOk result ((p : ℕ) → has found.new.items p
+        ≡ (has found.old.items p || (nat_lt p below && stands_at places.now.entries p name))) }
 {
     if let Some(place) = places.get(&(name.session, name.txn)) {
         if *place < below {
-            found.insert(*place)?;
+            found.push(*place)?;
         }
     }
     Ok(())
@@ -110,9 +112,10 @@ impl Book {
     ///
     /// # Cost
     ///
-    /// As many steps as there are elements in the footprint, and as many as live transactions wrote each of
-    /// them, each by the logarithm of all that is listed. So where many transactions each read what all of
-    /// them wrote, their links take as much time and memory as they are long.
+    /// As many steps as there are elements in the footprint, each by the logarithm of all that is listed, and
+    /// one for each live transaction that wrote one of them, or its logarithm where several elements have
+    /// writers. So where many transactions each read what all of them wrote, their links take as much time and
+    /// memory as they are long.
     pub(crate) fn links_to(
         &self,
         alloc: Global,
@@ -122,27 +125,31 @@ impl Book {
     {
         let end = self.entries.len();
         let places = self.index.writers.all_among(alloc, footprint, end)?;
-        let names = names_at(alloc, &self.entries, &places)?;
+        let names = names_at(alloc, &self.entries, places.as_slice())?;
         Ok(names)
     }
 }
 
 /// Returns the names of the transactions at these places.
-fn names_at(
-    alloc: Global,
-    entries: &[Entry],
-    places: &BTreeSet<usize>,
-) -> Result<Vec<TxnId>, NoMemory>
-    ensures names { IfOk result (λ names. names.items ≡ filter_map (name_at entries.now) places.now.keys) }
-    ensures ordered { IsStrictlySortedBy nat_cmp places.now.keys }
+fn names_at(alloc: Global, entries: &[Entry], places: &[usize]) -> Result<Vec<TxnId>, NoMemory>
+    ensures { IfOk result (λ names. names.items ≡ filter_map (name_at entries.now) places.now) }
 {
     let mut names = Vec::new(alloc);
     for place in places {
-        if let Some(entry) = entries.get(*place) {
-            names.push(entry.txn)?;
-        }
+        push_some(&mut names, named_at(entries, Some(*place)))?;
     }
     Ok(names)
+}
+
+/// Adds the name, if there is one.
+fn push_some(names: &mut Vec<TxnId>, name: Option<TxnId>) -> Result<(), NoMemory>
+    ensures { OnOk result ((rest : List TxnId) → names.new.items ++ rest
+        ≡ names.old.items ++ cons_option name rest) }
+{
+    match name {
+        Some(name) => Ok(names.push(name)?),
+        None => Ok(()),
+    }
 }
 
 /// Returns the transaction that the logged call committed, undid or redid, if it was accepted.

@@ -4,6 +4,7 @@ use Rattle.std.specs.Prelude.{
   ℕ,
   ◌<◌,
   ◌≤◌,
+  ◌==◌,
   Bool,
   true,
   false,
@@ -20,6 +21,7 @@ use Rattle.std.specs.Prelude.{
   nat_lt,
   slice_get,
 }
+use Rattle.std.specs.List.{list_any}
 
 -- the first place from this one on that passes the test; None where there is none
 abbrev pub IsFirst : (ℕ → Bool) → ℕ → Option ℕ → Type 0
@@ -31,6 +33,15 @@ abbrev pub lesser : Option ℕ → Option ℕ → Option ℕ
 lesser None other = other
 lesser (Some a) None = Some a
 lesser (Some a) (Some b) = if nat_lt b a then Some b else Some a
+
+-- a place is one of these
+abbrev pub has : List ℕ → ℕ → Bool
+has places p = list_any (λ place. p == place) places
+
+-- the first one of these places, if there is one
+abbrev pub first_of : List ℕ → Option ℕ
+first_of [] = None
+first_of (place ∷ places) = Some place
 
 -- one of two holds, and the other doesn't
 abbrev pub is_apart : Bool → Bool → Bool

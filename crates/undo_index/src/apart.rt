@@ -1,41 +1,34 @@
-//! Places that one of two sets has alone.
-ghost use Rattle.std.specs.Prelude.{◌==◌, ◌&&◌, not};
-ghost use Rattle.std.specs.BTreeSet.{contains as has};
+//! Places that one of two lists has alone.
+ghost use Rattle.std.specs.Prelude.{◌≡◌};
+ghost use Rattle.std.specs.List.Sorted.{IsStrictlySortedBy};
 ghost use Rattle.std.specs.Ordering.{nat_cmp};
-ghost use Rattle.undo_index.specs.First.{IsFirst, is_apart};
+ghost use Rattle.undo_index.specs.First.{IsFirst, first_of, has, is_apart};
 
 use crate::listing::lesser;
-use std::collections::BTreeSet;
 
-/// Returns the least place that one of the two sets has and the other hasn't.
+/// Returns the least place that one of the two lists has and the other hasn't. In each the places rise.
 ///
 /// # Cost
 ///
-/// As many steps as both have places, each by the logarithm of their number.
-pub fn first_apart(one: &BTreeSet<usize>, other: &BTreeSet<usize>) -> Option<usize>
-    ensures { IsFirst (λ p. is_apart (has nat_cmp one.now p) (has nat_cmp other.now p)) 0 result }
+/// As many steps as the two have places in common before that one.
+pub fn first_apart(one: &[usize], other: &[usize]) -> Option<usize>
+    requires one { IsStrictlySortedBy nat_cmp one.now }
+    requires other { IsStrictlySortedBy nat_cmp other.now }
+    ensures { IsFirst (λ p. is_apart (has one.now p) (has other.now p)) 0 result }
 {
-    lesser(first_without(one, other), first_without(other, one))
+    let mut left = other;
+    for place in one {
+        match left.split_first() {
+            Some((next, behind)) if *next == *place => left = behind,
+            _ => return lesser(Some(*place), first_of(left)),
+        }
+    }
+    first_of(left)
 }
 
-/// Returns the least place of a set that the other one hasn't.
-fn first_without(places: &BTreeSet<usize>, other: &BTreeSet<usize>) -> Option<usize>
-    ensures { IsFirst (λ p. has nat_cmp places.now p && not (has nat_cmp other.now p)) 0 result }
+/// Returns the first one of these places, if there is one.
+fn first_of(places: &[usize]) -> Option<usize>
+    ensures { result ≡ first_of places.now }
 {
-    let mut least = None;
-    for place in places {
-        least = lesser(least, without(*place, other));
-    }
-    least
-}
-
-/// Returns the place, where the set hasn't got it.
-fn without(place: usize, other: &BTreeSet<usize>) -> Option<usize>
-    ensures { IsFirst (λ p. (p == place) && not (has nat_cmp other.now p)) 0 result }
-{
-    if other.contains(&place) {
-        None
-    } else {
-        Some(place)
-    }
+    Some(*places.first()?)
 }

@@ -3,7 +3,7 @@
 //! A [`Listing`] has places listed under elements, in order. An [`Index`] has two of them: the live
 //! transactions that wrote an element, and those that touched it. So who wrote what a footprint has, and who
 //! touched what was written, is looked up by elements, and not asked of each transaction. [`first_apart`]
-//! compares the places that are linked with those that were.
+//! compares the places that are linked with those that were, both brought in order by [`put_in_order`].
 //!
 //! Contracts see a listing as the finite set of its pairs.
 #![tactic(auto)]
@@ -14,4 +14,4 @@ mod listing;
 
 pub use apart::first_apart;
 pub use index::Index;
-pub use listing::Listing;
+pub use listing::{Listing, put_in_order};

@@ -1,10 +1,10 @@
 //! Places under elements.
-ghost use Rattle.std.specs.Prelude.{◌≡◌, ℕ, ◌==◌, ◌||◌, ◌&&◌, IfOk, OnErr, OnOk, nat_lt};
+ghost use Rattle.std.specs.Prelude.{◌≡◌, ℕ, ◌++◌, ◌||◌, ◌&&◌, IfOk, OnErr, OnOk, map, nat_lt};
 ghost use Rattle.std.specs.FinSet as set;
-ghost use Rattle.std.specs.BTreeSet.{contains as has};
 ghost use Rattle.std.specs.List.{list_any};
+ghost use Rattle.std.specs.List.Sorted.{IsStrictlySortedBy};
 ghost use Rattle.std.specs.Ordering.{nat_cmp};
-ghost use Rattle.undo_index.specs.First.{IsFirst, lesser};
+ghost use Rattle.undo_index.specs.First.{IsFirst, has, lesser};
 ghost use Rattle.undo_index.specs.Listed.{AreAdded, AreRemoved, IsNew, is_listed, nowhere, pairs_below};
 
 use lay_point::NoMemory;
@@ -88,25 +88,27 @@ impl Listing {
         least
     }
 
-    /// Returns all places below this one that are listed under one of the elements.
+    /// Returns all places below this one that are listed under one of the elements, in rising order.
     ///
     /// # Cost
     ///
-    /// As that of `add`, and as many steps as places are listed there under each of the elements, each by the
-    /// logarithm of the number of these.
+    /// As that of `add`, and as that of bringing the places in order that are listed there under each of the
+    /// elements: one step for each where one element alone has any, else by the logarithm of their number.
     pub fn all_among(
         &self,
         alloc: Global,
         elements: &Footprint,
         below: usize,
-    ) -> Result<BTreeSet<usize>, NoMemory>
-        ensures { IfOk result (λ places. (p : ℕ) → has nat_cmp places p
+    ) -> Result<Vec<usize>, NoMemory>
+        ensures rising { IfOk result (λ places. IsStrictlySortedBy nat_cmp places.items) }
+        ensures places { IfOk result (λ places. (p : ℕ) → has places.items p
             ≡ (nat_lt p below && list_any (λ e. is_listed self.now e p) (set.items elements.now))) }
     {
-        let mut places = BTreeSet::new(alloc);
+        let mut places = Vec::new(alloc);
         for element in elements.elements() {
             self.gather(*element, below, &mut places)?;
         }
+        put_in_order(&mut places);
         Ok(places)
     }
 
@@ -141,30 +143,43 @@ impl Listing {
         &self,
         element: Element,
         below: usize,
-        places: &mut BTreeSet<usize>,
+        places: &mut Vec<usize>,
     ) -> Result<(), NoMemory>
-        ensures { OnOk result ((p : ℕ) → has nat_cmp places.new p
-            ≡ (has nat_cmp places.old p || (nat_lt p below && is_listed self.now element p))) }
+        ensures { OnOk result ((p : ℕ) → has places.new.items p
+            ≡ (has places.old.items p || (nat_lt p below && is_listed self.now element p))) }
     {
         gather_under(&self.pairs, &element, below, places)?;
         Ok(())
     }
 }
 
-/// Adds the places below this one of the pairs of the element.
+/// Adds the places below this one of the pairs of the element, in their order.
 fn gather_under(
     pairs: &BTreeSet<(Element, usize)>,
     element: &Element,
     below: usize,
-    places: &mut BTreeSet<usize>,
+    places: &mut Vec<usize>,
 ) -> Result<(), NoMemory>
-    ensures { OnOk result ((p : ℕ) → has nat_cmp places.new p
-        ≡ (has nat_cmp places.old p || list_any (λ k. p == k.1) (pairs_below element.now below pairs.now))) }
+    ensures { OnOk result (places.new.items
+        ≡ places.old.items ++ map (λ k. k.1) (pairs_below element.now below pairs.now)) }
 {
     for pair in pairs.range((*element, 0)..(*element, below)) {
-        places.insert(pair.1)?;
+        places.push(pair.1)?;
     }
     Ok(())
+}
+
+/// Brings places in rising order, each once.
+///
+/// # Cost
+///
+/// One step for each where they are in order, else by the logarithm of their number.
+pub fn put_in_order(places: &mut Vec<usize>)
+    ensures rising { IsStrictlySortedBy nat_cmp places.new.items }
+    ensures same { (p : ℕ) → has places.new.items p ≡ has places.old.items p }
+{
+    places.sort_unstable();
+    places.dedup();
 }
 
 /// Returns the lesser one of two places, of which either may be missing.

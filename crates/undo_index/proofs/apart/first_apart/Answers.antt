@@ -1,14 +1,34 @@
-use Rattle.std.proofs.Common.{◌&&◌, not, ◌≡◌, ℕ, Option, subst, sym, rules}
-use Rattle.std.specs.BTreeSet.{contains}
-use Rattle.std.specs.Ordering.{nat_cmp}
-use Rattle.undo_index.specs.First.{IsFirst, is_apart}
-use Rattle.undo_index.proofs.FirstLemmas.{lesser_first}
+use Rattle.std.proofs.Common.{◌≡◌, suc, [], ◌∷◌, drop, get_or, ap, subst, sym, ◌∙◌, arith, Some}
+use Rattle.std.proofs.lemmas.List.{drop_all}
+use Rattle.undo_index.proofs.ApartLemmas.{drop_next, fronts_differ, no_places, one_ends, other_ends, unequal}
+use Rattle.undo_index.specs.First.{IsFirst, has, is_apart, lesser}
 use Rattle.undo_index.proofs.apart.first_apart.Goals as goal
+use Rattle.undo_index.proofs.apart.first_apart.Goals.{in_default-via-in-Some+else-next-place, in_default-via-in_default}
+
+-- one of the two has no place left, or their fronts differ
+pub returns-in_default : goal.returns-in_default
+returns-in_default c =
+    let one = c.args.one.now in
+    let other = c.args.other.now in
+    let i = c.loop-place.place-index in
+    let left = c.loop-place.left.now in
+    let rest : drop i one ≡ get_or one i 0 ∷ drop (suc i) one = drop_next one i 0 c.loop-place-test.true in
+    let is = c.lesser.ensures ∙ ap (lesser (Some (get_or one i 0))) c.first_of.ensures in
+    subst (IsFirst (λ p. is_apart (has one p) (has other p)) 0) (sym is) (
+    elim c.in_default.branch [
+      | in_default-via-in-Some+else-next-place w ↦
+          fronts_differ one other c.requires.one c.requires.other (drop i one) left (get_or one i 0) (drop (suc i) one)
+          w.in-Some.next.now w.in-Some.behind.now c.loop-place.invariant rest w.in-Some.ensures.cases.0 (unequal _ _ w.if-next-place.false)
+      | in_default-via-in_default w ↦
+          other_ends one other c.requires.one c.requires.other (drop i one) left (get_or one i 0) (drop (suc i) one)
+          c.loop-place.invariant rest (no_places left w.in_default.ensures.cases)
+    ]
+    )
 
 pub returns : goal.returns
 returns c =
-    let one = contains nat_cmp c.args.one.now in
-    let other = contains nat_cmp c.args.other.now in
-    subst (λ (o : Option ℕ). IsFirst (λ p. is_apart (one p) (other p)) 0 o) (sym c.lesser.ensures)
-    (lesser_first (λ p. one p && not (other p)) (λ p. other p && not (one p)) 0 c.first_without.result c.first_without-2.result
-    c.first_without.ensures c.first_without-2.ensures)
+    let none : drop c.loop-place.place-index c.args.one.now ≡ [] =
+    drop_all c.loop-place.place-index c.args.one.now (omega (arith, c.loop-place-test.false)) in
+    subst (IsFirst (λ p. is_apart (has c.args.one.now p) (has c.args.other.now p)) 0) (sym c.first_of-2.ensures)
+    (one_ends c.args.one.now c.args.other.now c.requires.one c.requires.other (drop c.loop-place.place-index c.args.one.now)
+    c.loop-place.left.now c.loop-place.invariant none)
