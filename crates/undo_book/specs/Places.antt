@@ -47,6 +47,11 @@ name_cmp a b = ordering_then (nat_cmp a.0 b.0) (nat_cmp a.1 b.1)
 abbrev pub AreTheirPlaces : List ((ℕ × ℕ) × ℕ) → List Entry → Type 0
 AreTheirPlaces places entries = (txn : TxnId) → lookup (is_at (name_cmp (name_of txn))) places ≡ place_of txn entries
 
+-- under one more name stands a place
+abbrev pub IsPutUnder : TxnId → ℕ → List ((ℕ × ℕ) × ℕ) → List ((ℕ × ℕ) × ℕ) → Type 0
+IsPutUnder txn place old new = (q : ℕ × ℕ) → lookup (is_at (name_cmp q)) new
+    ≡ (if is_at (name_cmp (name_of txn)) q then Some place else lookup (is_at (name_cmp q)) old)
+
 -- under a name stands this place
 abbrev pub is_place : ℕ → Option ℕ → Bool
 is_place p None = false

@@ -1,16 +1,25 @@
 //! Commits.
 ghost use Rattle.std.specs.Prelude.{◌≡◌, ◌+◌, IfErr, IfOk, OnErr, OnOk, Err, None, Some, false, true, drop};
+ghost use Rattle.txn_marks.specs.Homes.{AreMetBy};
+ghost use Rattle.txn_rules.specs.Records.{applied};
+ghost use Rattle.undo_index.specs.Listed.{AreAdded, IsNew};
+ghost use Rattle.undo_rules.specs.Links.{links_to};
 ghost use Rattle.undo_rules.specs.Steps.{after_commit, commit_step, is_log_full, is_own, stale_by};
 ghost use Rattle.undo_book.specs.Calls.{EndsStale, TakesWork, refused};
+ghost use Rattle.undo_book.specs.Places.{IsPutUnder};
 ghost use Rattle.undo_book.specs.Replays.{RunsAgain};
 
 use crate::book::Book;
 use crate::entry::Entry;
 use crate::session::end_pending;
-use lay_point::Sequence;
+use lay_items::Snapshot;
+use lay_point::NoMemory;
 use std::alloc::Global;
+use std::collections::BTreeMap;
+use txn_marks::Footprint;
 use txn_rules::TxnId;
 use txn_work::Work;
+use undo_index::Index;
 use undo_rules::{Answer, BookFault, Call, Logged};
 
 /// A refused commit.
@@ -20,6 +29,17 @@ pub struct CommitRefusal {
     pub fault: BookFault,
     /// The work, to be used again. A stale one has ended, and isn't handed back.
     pub work: Option<Work>,
+}
+
+/// What a commit leaves and keeps, made before it changes anything.
+#[derive(Drop)]
+struct Prepared {
+    /// The layout behind it.
+    layout: Snapshot,
+    /// The transactions that it is linked to.
+    seen: Vec<TxnId>,
+    /// The elements in which what it wrote lies.
+    met: Footprint,
 }
 
 /// Returns a refused commit with its work.
@@ -120,15 +140,10 @@ impl Book {
         let txn = work.id();
         // Its snapshot is sound.
         work.snapshot().version();
-        let Ok(layout) = work.writes().applied(alloc, &self.layout) else {
+        let Ok(prepared) = self.prepare(alloc, &work) else {
             return Err(refused(BookFault::NoMemory, work));
         };
-        let Ok(seen) = self.links_to(alloc, work.footprint()) else {
-            return Err(refused(BookFault::NoMemory, work));
-        };
-        let Ok(met) = work.writes().elements(alloc) else {
-            return Err(refused(BookFault::NoMemory, work));
-        };
+        let Prepared { layout, seen, met } = prepared;
         if self.entries.reserve(1).is_err()
             || self.log.reserve(1).is_err()
             || self.changes.reserve_commit().is_err()
@@ -136,23 +151,14 @@ impl Book {
             return Err(refused(BookFault::NoMemory, work));
         }
         let index = self.entries.len();
-        if self.index.enter(&met, work.footprint(), index).is_err() {
+        let touched = work.footprint();
+        let listed = list_at(&mut self.index, &mut self.places, txn, index, &met, touched);
+        if listed.is_err() {
             return Err(refused(BookFault::NoMemory, work));
         }
-        let Ok(_) = self.places.insert((txn.session, txn.txn), index) else {
-            self.index.leave(&met, work.footprint(), index);
-            return Err(refused(BookFault::NoMemory, work));
-        };
         let place = self.log.len() as u32;
         let (commands, writes, footprint) = work.into_parts();
-        let entry = Entry {
-            txn,
-            place,
-            writes,
-            footprint,
-            seen: Sequence::from_vec(seen),
-            live: true,
-        };
+        let entry = Entry::new(txn, place, writes, footprint, seen);
         self.entries.push(entry).unwrap();
         let logged = Logged {
             session: txn.session,
@@ -165,4 +171,49 @@ impl Book {
         self.layout = layout;
         Ok(txn)
     }
+
+    /// Makes what a commit of the work leaves and keeps, and changes nothing yet.
+    fn prepare(&self, alloc: Global, work: &Work) -> Result<Prepared, NoMemory>
+        requires own { is_own self.now work.now ≡ true }
+        requires fresh { stale_by self.now.entries work.now.footprint
+            (drop (work.now.opened + 1) self.now.log) ≡ None }
+        ensures layout { IfOk result (λ made. made.layout ≡ applied self.now.layout work.now.writes) }
+        ensures seen { IfOk result (λ made. made.seen.items ≡ links_to self.now.entries work.now.footprint) }
+        ensures met { IfOk result (λ made. AreMetBy work.now.writes made.met) }
+    {
+        work.id();
+        // Its snapshot is sound.
+        work.snapshot().version();
+        let layout = work.writes().applied(alloc, &self.layout)?;
+        let seen = self.links_to(alloc, work.footprint())?;
+        let met = work.writes().elements(alloc)?;
+        Ok(Prepared { layout, seen, met })
+    }
+}
+
+/// Lists a transaction at its place, under its name and under the elements that it wrote and touched. Out of
+/// memory all stays as it was where its place is a new one.
+fn list_at(
+    index: &mut Index,
+    places: &mut BTreeMap<(u8, u16), usize>,
+    txn: TxnId,
+    place: usize,
+    met: &Footprint,
+    footprint: &Footprint,
+) -> Result<(), NoMemory>
+    ensures writers { OnOk result (AreAdded index.old.writers met.now place index.new.writers) }
+    ensures readers { OnOk result (AreAdded index.old.readers footprint.now place index.new.readers) }
+    ensures places { OnOk result (IsPutUnder txn place places.old.entries places.new.entries) }
+    ensures same_writers { OnErr result (IsNew index.old.writers place
+        → index.new.writers ≡ index.old.writers) }
+    ensures same_readers { OnErr result (IsNew index.old.readers place
+        → index.new.readers ≡ index.old.readers) }
+    ensures same_places { OnErr result (places.new.entries ≡ places.old.entries) }
+{
+    index.enter(met, footprint, place)?;
+    if places.insert((txn.session, txn.txn), place).is_err() {
+        index.leave(met, footprint, place);
+        return Err(NoMemory {});
+    }
+    Ok(())
 }

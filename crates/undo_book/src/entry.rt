@@ -1,5 +1,5 @@
 //! Committed transactions.
-ghost use Rattle.std.specs.Prelude.{◌≡◌, ◌<◌, Some, slice_get, slice_set, vec_len};
+ghost use Rattle.std.specs.Prelude.{◌≡◌, ◌<◌, Some, slice_get, slice_set, true, vec_len};
 ghost use Rattle.undo_rules.specs.Links.{Entry as Kept, marked};
 
 use lay_point::Sequence;
@@ -37,6 +37,33 @@ impl Model for Entry {
 }
 
 impl Entry {
+    /// Returns a transaction that is live, linked to those that it has seen.
+    pub(crate) fn new(
+        txn: TxnId,
+        place: u32,
+        writes: Writes,
+        footprint: Footprint,
+        seen: Vec<TxnId>,
+    ) -> Entry
+        ensures { result ≡ record {
+          txn = txn;
+          place = place;
+          writes = writes;
+          footprint = footprint;
+          seen = seen.items;
+          live = true;
+        } }
+    {
+        Entry {
+            txn,
+            place,
+            writes,
+            footprint,
+            seen: Sequence::from_vec(seen),
+            live: true,
+        }
+    }
+
     /// Returns its name.
     pub fn txn(&self) -> TxnId
         ensures { result ≡ self.now.txn }

@@ -1,0 +1,18 @@
+use Rattle.std.proofs.Common.{rules, subst, sym}
+use Rattle.lay_items.specs.Sound.{IsSound}
+use Rattle.txn_rules.specs.Records.{AreProper, Records, applied}
+use Rattle.undo_book.specs.Books.{history_of}
+use Rattle.undo_book.proofs.CommitLemmas.{committed_so}
+use Rattle.undo_book.proofs.book.Book.prepare.Goals as goal
+
+pub applied-requires-clause-proper : goal.applied-requires-clause-proper
+applied-requires-clause-proper c =
+    subst (λ (ws : Records). AreProper ws) (sym c.writes.ensures)
+    (committed_so (history_of c.self.inside) c.args.self.now c.self.view_is c.self.invariant.history c.args.work.now
+    c.id.ensures.transaction (search rules) c.requires.own c.requires.fresh).proper
+
+pub applied-requires-clause-sound : goal.applied-requires-clause-sound
+applied-requires-clause-sound c =
+    subst (λ (ws : Records). IsSound (applied c.self.inside.layout ws)) (sym c.writes.ensures)
+    (committed_so (history_of c.self.inside) c.args.self.now c.self.view_is c.self.invariant.history c.args.work.now
+    c.id.ensures.transaction (search rules) c.requires.own c.requires.fresh).sound
