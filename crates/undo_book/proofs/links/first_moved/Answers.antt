@@ -1,4 +1,4 @@
-use Rattle.std.proofs.Common.{◌≡◌, ◌∙◌, ℕ, ◌&&◌, Option, Some, ap, length, refl, rules, slice_get, subst, sym, List}
+use Rattle.std.proofs.Common.{◌≡◌, ◌∙◌, ℕ, ◌&&◌, Some, ap, length, refl, rules, slice_get, subst, List}
 use Rattle.std.proofs.lemmas.Option.{slice_get_read}
 use Rattle.std.specs.Prelude.{nat_lt}
 use Rattle.std.specs.FinSet.{items}
@@ -6,7 +6,7 @@ use Rattle.std.specs.List.{list_any}
 use Rattle.undo_rules.specs.Links.{Entry}
 use Rattle.undo_index.specs.First.{IsFirst, has, is_apart}
 use Rattle.undo_index.specs.Listed.{is_listed}
-use Rattle.undo_book.specs.Places.{found_at, moved_at, named_at, stands_at}
+use Rattle.undo_book.specs.Places.{named_at, stands_at}
 use Rattle.undo_book.proofs.MovedLemmas.{moved_here}
 use Rattle.undo_book.proofs.links.first_moved.Goals as goal
 
