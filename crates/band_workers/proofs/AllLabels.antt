@@ -3,7 +3,7 @@ use Rattle.std.proofs.Common.{◌≡◌, inl, inr, ℕ, ◌+◌, Bool, true, fal
 use Rattle.lay_point.specs.declared.point.Point.{Point}
 use Rattle.lay_point.proofs.Members.{Has, contains}
 use Rattle.snap_chains.specs.Rounded.{Owned}
-use Rattle.face_labels.specs.Labels.{Item, differs, items_of}
+use Rattle.face_labels.specs.Labels.{Item, differs, owned_items}
 use Rattle.face_labels.specs.declared.band.Band.{Band}
 use Rattle.face_labels.specs.declared.op.Op.{Op}
 use Rattle.face_labels.specs.Bands.{begins_in, labelled}
@@ -30,4 +30,4 @@ all_picked band label n (p ∷ ps) all =
 pub all_labels : (op : Op) (r : Owned) (band : Band) → ((e : Point × Point) → Contains r.0 e → begins_in band e ≡ true)
     → map (λ (q : ℕ × Bool). q.1) (labelled op r band) ≡ labels_of op r
 all_labels op r band all =
-    all_picked band (differs (answer op) (items_of r)) 0 (items_of r) (λ p m. all p.0 (contains r.0 p.0 (zip_first r.0 r.1 p m)))
+    all_picked band (differs (answer op) (owned_items r)) 0 (owned_items r) (λ p m. all p.0 (contains r.0 p.0 (zip_first r.0 r.1 p m)))

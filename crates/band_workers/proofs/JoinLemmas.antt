@@ -10,7 +10,7 @@ use Rattle.std.proofs.lemmas.Slice.Zip.{length-zip}
 use Rattle.lay_point.specs.declared.point.Point.{Point}
 use Rattle.lay_point.proofs.Members.{Has, contains, has-append, has-append_left, has-append_right}
 use Rattle.snap_chains.specs.Rounded.{Owned}
-use Rattle.face_labels.specs.Labels.{Item, differs, items_of}
+use Rattle.face_labels.specs.Labels.{Item, differs, owned_items}
 use Rattle.face_labels.specs.declared.op.Op.{Op}
 use Rattle.face_labels.specs.declared.band.Band.{Band}
 use Rattle.face_labels.specs.Bands.{begins_in, labelled}
@@ -19,7 +19,7 @@ use Rattle.face_labels.specs.Operations.{answer}
 use Rattle.face_labels.proofs.PickedLemmas.{picked_has, picked_of}
 use Rattle.face_labels.proofs.SideLemmas.{zip_first}
 use Rattle.band_workers.specs.Cuts.{IsLabelled, band_at, whole_band}
-use Rattle.band_workers.specs.Joined.{AreWithin, Part, joined_onto, put_all}
+use Rattle.band_workers.specs.Joined.{AreNumbersBelow, Part, joined_onto, with_labels}
 use Rattle.band_workers.specs.Labels.{labels_of}
 
 -- ---- joining
@@ -82,7 +82,7 @@ has_number (p ∷ ps) n b (inl e) = inl (ap (λ (q : ℕ × Bool). q.0) e)
 has_number (p ∷ ps) n b (inr m) = inr (has_number ps n b m)
 
 put_right : (wanted labels : List Bool) (ps : List (ℕ × Bool)) → length labels ≡ length wanted → AllByRecursion (IsRight wanted) ps
-    → ((n : ℕ) → n < length wanted → (get_or labels n false ≡ get_or wanted n false) ⊎ Numbered n ps) → put_all labels ps ≡ wanted
+    → ((n : ℕ) → n < length wanted → (get_or labels n false ≡ get_or wanted n false) ⊎ Numbered n ps) → with_labels labels ps ≡ wanted
 put_right wanted labels [] len right some =
     ext_get_or false labels wanted len (λ n less. elim (some n (omega (arith, len))) [ inl e ↦ e | inr none ↦ absurd none ])
 put_right wanted labels (p ∷ ps) len right some =
@@ -179,13 +179,13 @@ module _ (op : Op) (r : Owned) (cuts : List ℤ) (parts : List Part) (all : List
   no_part = Err (record {})
 
   abbrev label : Item → Bool
-  label = differs (answer op) (items_of r)
+  label = differs (answer op) (owned_items r)
 
-  len_items : length (items_of r) ≡ length r.0
+  len_items : length (owned_items r) ≡ length r.0
   len_items = let m = length-zip r.0 r.1 in omega (arith, m, h.paired)
 
   len_wanted : length wanted ≡ length r.0
-  len_wanted = length-map (items_of r) label ∙ len_items
+  len_wanted = length-map (owned_items r) label ∙ len_items
 
   right : (p : ℕ × Bool) → Has all p → IsRight wanted p
   right p m = elim ((is_join [] parts all joined).from p m) [
@@ -194,30 +194,30 @@ module _ (op : Op) (r : Owned) (cuts : List ℤ) (parts : List Part) (all : List
         let labels = from.1 in
         let items = of_ok op r (band_at cuts from.0) (get_or parts from.0 no_part) labels (from.3.0 no_part)
         (h.each from.0 no_part from.2) in
-        let q = picked_of (λ p. begins_in (band_at cuts from.0) p.0) (λ n p. (n, label p)) 0 (items_of r) p
+        let q = picked_of (λ p. begins_in (band_at cuts from.0) p.0) (λ n p. (n, label p)) 0 (owned_items r) p
         (subst (λ l. Has l p) items from.3.1) in
         let is = q.is no_item in
         let plain : 0 + q.index ≡ q.index = omega arith in
         let at : q.index ≡ p.0 = sym plain ∙ ap (λ (z : ℕ × Bool). z.0) is in
         record {
           within = omega (arith, at, q.inside, len_wanted, len_items);
-          is = ap (λ i. get_or wanted i false) (sym at) ∙ get_or-map label (items_of r) q.index no_item false q.inside
+          is = ap (λ i. get_or wanted i false) (sym at) ∙ get_or-map label (owned_items r) q.index no_item false q.inside
               ∙ ap (λ (z : ℕ × Bool). z.1) is;
         }
   ]
 
   -- an edge in whose band's part its label is given
-  in_part : (n i : ℕ) → n < length (items_of r) → i < length parts
-      → begins_in (band_at cuts i) (get_or (items_of r) n no_item).0 ≡ true → Numbered n all
+  in_part : (n i : ℕ) → n < length (owned_items r) → i < length parts
+      → begins_in (band_at cuts i) (get_or (owned_items r) n no_item).0 ≡ true → Numbered n all
   in_part n i inside less begins =
       let part = get_or parts i no_part in
       let among : AllAmong all part = (is_join [] parts all joined).each i no_part less in
       let items : among.0.items ≡ labelled op r (band_at cuts i) =
       of_ok op r (band_at cuts i) part among.0 among.1 (h.each i no_part less) in
-      let b = label (get_or (items_of r) n no_item) in
+      let b = label (get_or (owned_items r) n no_item) in
       let plain : 0 + n ≡ n = omega arith in
       let m : Has (labelled op r (band_at cuts i)) (n, b) = subst (λ k. Has (labelled op r (band_at cuts i)) (k, b)) plain
-      (picked_has (λ p. begins_in (band_at cuts i) p.0) (λ n p. (n, label p)) 0 (items_of r) n no_item inside begins) in
+      (picked_has (λ p. begins_in (band_at cuts i) p.0) (λ n p. (n, label p)) 0 (owned_items r) n no_item inside begins) in
       let given : Has among.0.items (n, b) = subst (λ l. Has l (n, b)) (sym {A = List (ℕ × Bool)} items) m in
       has_number all n b (among.2 (n, b) given)
 
@@ -233,15 +233,15 @@ module _ (op : Op) (r : Owned) (cuts : List ℤ) (parts : List Part) (all : List
 
   some : (n : ℕ) → n < length wanted → Numbered n all
   some n less =
-      let inside : n < length (items_of r) = omega (arith, less, len_wanted, len_items) in
-      let item = get_or (items_of r) n no_item in
-      let given : Contains r.0 item.0 = contains r.0 item.0 (zip_first r.0 r.1 item (has_get_or (items_of r) n no_item inside)) in
+      let inside : n < length (owned_items r) = omega (arith, less, len_wanted, len_items) in
+      let item = get_or (owned_items r) n no_item in
+      let given : Contains r.0 item.0 = contains r.0 item.0 (zip_first r.0 r.1 item (has_get_or (owned_items r) n no_item inside)) in
       let band = in_band item.0 (h.whole item.0 given) in
       in_part n band.0 inside band.1 band.2
 
-  pub are_within : AreWithin (length r.0) all
+  pub are_within : AreNumbersBelow (length r.0) all
   are_within = all_has (λ p. p.0 < length r.0) all (λ p m. let w = (right p m).within in omega (arith, w, len_wanted))
 
-  pub in_order_is : put_all (replicate (length r.0) false) all ≡ labels_of op r
+  pub in_order_is : with_labels (replicate (length r.0) false) all ≡ labels_of op r
   in_order_is = put_right wanted (replicate (length r.0) false) all (length-replicate (length r.0) false ∙ sym len_wanted)
       (all_has (IsRight wanted) all right) (λ n less. inr (some n less))

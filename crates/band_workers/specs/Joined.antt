@@ -15,10 +15,10 @@ joined_onto numbered (Ok labels ∷ parts) = joined_onto (numbered ++ labels.ite
 joined_onto numbered (Err fault ∷ parts) = Err fault
 
 -- the numbers are below the count
-abbrev pub AreWithin : ℕ → List (ℕ × Bool) → Type 0
-AreWithin count numbered = AllByRecursion (λ (p : ℕ × Bool). p.0 < count) numbered
+abbrev pub AreNumbersBelow : ℕ → List (ℕ × Bool) → Type 0
+AreNumbersBelow count numbered = AllByRecursion (λ (p : ℕ × Bool). p.0 < count) numbered
 
 -- each label put at its number
-abbrev pub put_all : List Bool → List (ℕ × Bool) → List Bool
-put_all labels [] = labels
-put_all labels (p ∷ ps) = put_all (slice_set labels p.0 p.1) ps
+abbrev pub with_labels : List Bool → List (ℕ × Bool) → List Bool
+with_labels labels [] = labels
+with_labels labels (p ∷ ps) = with_labels (slice_set labels p.0 p.1) ps

@@ -1,10 +1,10 @@
 -- The labels of all edges.
 use Rattle.std.specs.Prelude.{Bool, List, map}
 use Rattle.snap_chains.specs.Rounded.{Owned}
-use Rattle.face_labels.specs.Labels.{differs, items_of}
+use Rattle.face_labels.specs.Labels.{differs, owned_items}
 use Rattle.face_labels.specs.declared.op.Op.{Op}
 use Rattle.face_labels.specs.Operations.{answer}
 
 -- for each edge, in order, whether the operation's answers differ on its two sides
 abbrev pub labels_of : Op → Owned → List Bool
-labels_of op r = map (differs (answer op) (items_of r)) (items_of r)
+labels_of op r = map (differs (answer op) (owned_items r)) (owned_items r)

@@ -1,6 +1,6 @@
 //! The workers' labels as one list.
 ghost use Rattle.std.specs.Prelude.{◌≡◌, [], false, Ok, IfOk, replicate};
-ghost use Rattle.band_workers.specs.Joined.{AreWithin, joined_onto, put_all};
+ghost use Rattle.band_workers.specs.Joined.{AreNumbersBelow, joined_onto, with_labels};
 
 use crate::scoped_bands::Labels;
 use lay_point::NoMemory;
@@ -24,8 +24,8 @@ pub(crate) fn in_order(
     count: usize,
     numbered: &[(usize, bool)],
 ) -> Result<Vec<bool>, AllocError>
-    requires { AreWithin count numbered.now }
-    ensures { IfOk result (λ labels. labels.items ≡ put_all (replicate count false) numbered.now) }
+    requires { AreNumbersBelow count numbered.now }
+    ensures { IfOk result (λ labels. labels.items ≡ with_labels (replicate count false) numbered.now) }
 {
     let mut labels = vec![in alloc; false; count]?;
     let mut rest = numbered;

@@ -10,24 +10,24 @@ use Rattle.lay_point.specs.RingEdges.{pairs}
 use Rattle.lay_point.proofs.Members.{Has, contains, has, has-append, has-append_left, has-append_right}
 use Rattle.lay_point.proofs.Parity.{parity-append, parity-map, parity-xor, parity_agree, parity_none}
 use Rattle.snap_chains.specs.Rising.{IsRising}
-use Rattle.snap_chains.specs.Undirected.{edges_of, is_owned}
+use Rattle.snap_chains.specs.Undirected.{is_owned, walked_edges}
 use Rattle.snap_chains.proofs.Rising.{before_rest, rising_rest}
 use Rattle.snap_chains.proofs.Undirected.{edges_are_strict}
 use Rattle.snap_chains.specs.declared.owner.Input.{Input}
 use Rattle.snap_chains.specs.declared.owner.Input.TheVariants.{First, Second}
 use Rattle.snap_chains.specs.declared.owner.Owner.{Owner}
 use Rattle.snap_chains.specs.Owners.{input_eq, owner_eq}
-use Rattle.snap_chains.specs.Round.{AreOwnersOf, IsRoundOf, walks_of}
-use Rattle.snap_chains.specs.Rounded.{Owned, is_listed}
+use Rattle.snap_chains.specs.Round.{AreOwnersOf, IsRoundOf, owner_walks}
+use Rattle.snap_chains.specs.Rounded.{Owned, is_owner_listed}
 use Rattle.snap_chains.proofs.VisitOrder.{owner_eq-Decides}
-use Rattle.face_label_laws.specs.Labels.{Item, answer_at, items_of, odd_of, shapes_of, some_of}
+use Rattle.face_label_laws.specs.Labels.{Item, answer_at, listed_shapes, odd_of, owned_items, some_of}
 use Rattle.face_label_laws.proofs.Cuts.{AreDistinct, and_false_right, parity_of_one}
 use Rattle.face_label_laws.proofs.Shapes.{inputs_are_their_shapes}
 use Rattle.face_link_laws.proofs.ParityLemmas.{is_crossed-IsEdgeTest}
 use Rattle.face_labels.specs.Operations.{answer}
 use Rattle.bool_shape_laws.specs.Shapes.{owned_of, rounded_inputs}
 use Rattle.bool_shape_laws.proofs.ShapeLemmas.{inputs_round, shapes_tell_places}
-use Rattle.bool_ring_laws.specs.Inside.{AnswersAreThoseOfRings, OwnersAreThoseOfRings, ShapesAreThoseOfRings, holds, is_inside}
+use Rattle.bool_ring_laws.specs.Inside.{AnswersAreThoseOfRings, OwnersAreThoseOfRings, ShapesAreThoseOfRings, holds, is_inside_rounded}
 
 -- ---- tests that agree
 same_if : (a b : Bool) → (a ≡ true → b ≡ true) → (b ≡ true → a ≡ true) → a ≡ b
@@ -91,10 +91,10 @@ item_owners R (e ∷ es) [] h p m = absurd h
 item_owners R (e ∷ es) (o ∷ os) h p (inl same) = subst (λ (z : Item). R z.0 z.1) same h.0
 item_owners R (e ∷ es) (o ∷ os) h p (inr m) = item_owners R es os h.1 p m
 
-listed_has : (o : Owner) (os : List Owner) → is_listed o os ≡ true → Has os o
+listed_has : (o : Owner) (os : List Owner) → is_owner_listed o os ≡ true → Has os o
 listed_has o [] e = absurd (false≢true e)
 listed_has o (p ∷ os) e = ⊎_elim (λ (here : owner_eq p o ≡ true). inl ((owner_eq-Decides p o).0 here))
-    (λ (there : is_listed o os ≡ true). inr (listed_has o os there)) (or_cases (owner_eq p o) (is_listed o os) e)
+    (λ (there : is_owner_listed o os ≡ true). inr (listed_has o os there)) (or_cases (owner_eq p o) (is_owner_listed o os) e)
 
 any_true : {A : Type 0} (test : A → Bool) (xs : List A) (x : A) → Has xs x → test x ≡ true → list_any test xs ≡ true
 any_true test [] x m t = absurd m
@@ -110,23 +110,23 @@ true_any test [] e = absurd (false≢true e)
 true_any test (y ∷ xs) e = ⊎_elim (λ (here : test y ≡ true). (y, inl refl, here))
     (λ (there : list_any test xs ≡ true). let r = true_any test xs there in (r.0, inr r.1, r.2)) (or_cases (test y) (list_any test xs) e)
 
-has_listed : (o : Owner) (os : List Owner) → Has os o → is_listed o os ≡ true
+has_listed : (o : Owner) (os : List Owner) → Has os o → is_owner_listed o os ≡ true
 has_listed o os m = any_true (λ p. owner_eq p o) os o m ((owner_eq-Decides o o).1 refl)
 
 -- ---- the walks of one owner
 walks_among : (o : Owner) (rings : List (Owner × List Point)) (walks : List (List Point)) (e : Point × Point)
-    → Has (edges_of undirected (walks_of o rings walks)) e → Has (edges_of undirected walks) e
+    → Has (walked_edges undirected (owner_walks o rings walks)) e → Has (walked_edges undirected walks) e
 walks_among o [] walks e m = absurd m
 walks_among o (r ∷ rings) [] e m = absurd m
 walks_among o (r ∷ rings) (w ∷ walks) e m = by_test (owner_eq r.0 o) (walks_among o rings walks e) m
   where
-    by_test : (b : Bool) → (Has (edges_of undirected (walks_of o rings walks)) e → Has (edges_of undirected walks) e)
-        → Has (edges_of undirected (cond b (w ∷ walks_of o rings walks) (walks_of o rings walks))) e
-        → Has (map undirected (pairs w) ++ edges_of undirected walks) e
+    by_test : (b : Bool) → (Has (walked_edges undirected (owner_walks o rings walks)) e → Has (walked_edges undirected walks) e)
+        → Has (walked_edges undirected (cond b (w ∷ owner_walks o rings walks) (owner_walks o rings walks))) e
+        → Has (map undirected (pairs w) ++ walked_edges undirected walks) e
     by_test true later m = ⊎_elim (λ (here : Has (map undirected (pairs w)) e). has-append_left (map undirected (pairs w)) _ e here)
-        (λ (there : Has (edges_of undirected (walks_of o rings walks)) e).
+        (λ (there : Has (walked_edges undirected (owner_walks o rings walks)) e).
         has-append_right (map undirected (pairs w)) _ e (later there))
-        (has-append (map undirected (pairs w)) (edges_of undirected (walks_of o rings walks)) e m)
+        (has-append (map undirected (pairs w)) (walked_edges undirected (owner_walks o rings walks)) e m)
     by_test false later m = has-append_right (map undirected (pairs w)) _ e (later m)
 
 crossed_undirected : (k x y : ℤ) (p : Point × Point) → is_crossed k x y (undirected p) ≡ is_crossed k x y p
@@ -137,11 +137,11 @@ crossed_undirected k x y p = by_test (is_before p.0 p.1)
     by_test false = (is_crossed-IsEdgeTest k x y).turned p.1 p.0
 
 crossed_walks : (k x y : ℤ) (walks : List (List Point))
-    → parity (is_crossed k x y) (edges_of undirected walks) ≡ odd (flat_map pairs walks) k x y
+    → parity (is_crossed k x y) (walked_edges undirected walks) ≡ odd (flat_map pairs walks) k x y
 unfolding odd
 crossed_walks k x y [] = refl
 crossed_walks k x y (w ∷ walks) =
-    parity-append (is_crossed k x y) (map undirected (pairs w)) (edges_of undirected walks)
+    parity-append (is_crossed k x y) (map undirected (pairs w)) (walked_edges undirected walks)
     ∙ ap₂ xor (parity-map (is_crossed k x y) undirected (pairs w)
     ∙ parity_agree (λ p. is_crossed k x y (undirected p)) (is_crossed k x y) (pairs w) (λ p m. crossed_undirected k x y p))
     (crossed_walks k x y walks)
@@ -149,19 +149,20 @@ crossed_walks k x y (w ∷ walks) =
 
 pub owners_of_rings : OwnersAreThoseOfRings
 owners_of_rings rings r h o k x y =
-    let goes = edges_of undirected (walks_of o rings h.walks) in
-    parity_agree (λ (p : Item). is_listed o p.1 && is_crossed k x y p.0)
-    (λ (p : Item). is_crossed k x y p.0 && parity (same_edge p.0) goes) (items_of r)
-    (λ p m. and_comm (is_listed o p.1) (is_crossed k x y p.0) ∙ ap (λ b. is_crossed k x y p.0 && b) (listed p m))
-    ∙ odd_ones (is_crossed k x y) (items_of r) (distinct_items r.0 r.1 h.edges.rising) goes
+    let goes = walked_edges undirected (owner_walks o rings h.walks) in
+    parity_agree (λ (p : Item). is_owner_listed o p.1 && is_crossed k x y p.0)
+    (λ (p : Item). is_crossed k x y p.0 && parity (same_edge p.0) goes) (owned_items r)
+    (λ p m. and_comm (is_owner_listed o p.1) (is_crossed k x y p.0) ∙ ap (λ b. is_crossed k x y p.0 && b) (listed p m))
+    ∙ odd_ones (is_crossed k x y) (owned_items r) (distinct_items r.0 r.1 h.edges.rising) goes
     (λ e m. edge_item (AreOwnersOf rings h.walks) r.0 r.1 h.owners e
-    (has r.0 e ((h.edges.exact e).1 (contains (edges_of undirected h.walks) e (walks_among o rings h.walks e m)))))
-    ∙ crossed_walks k x y (walks_of o rings h.walks)
+    (has r.0 e ((h.edges.exact e).1 (contains (walked_edges undirected h.walks) e (walks_among o rings h.walks e m)))))
+    ∙ crossed_walks k x y (owner_walks o rings h.walks)
   where
-    listed : (p : Item) → Has (items_of r) p → is_listed o p.1 ≡ parity (same_edge p.0) (edges_of undirected (walks_of o rings h.walks))
+    listed : (p : Item) → Has (owned_items r) p
+        → is_owner_listed o p.1 ≡ parity (same_edge p.0) (walked_edges undirected (owner_walks o rings h.walks))
     listed p m =
         let owners = item_owners (AreOwnersOf rings h.walks) r.0 r.1 h.owners p m in
-        same_if (is_listed o p.1) (is_owned (walks_of o rings h.walks) p.0)
+        same_if (is_owner_listed o p.1) (is_owned (owner_walks o rings h.walks) p.0)
         (λ t. (owners.exact o).0 (contains p.1 o (listed_has o p.1 t)))
         (λ t. has_listed o p.1 (has p.1 o ((owners.exact o).1 t)))
 
@@ -178,38 +179,38 @@ input_itself Second = refl
 
 -- a shape that has a place inside has a ring
 inside_has : (k x y : ℤ) (o : Owner) (rings : List (Owner × List Point)) (walks : List (List Point))
-    → odd (flat_map pairs (walks_of o rings walks)) k x y ≡ true → (r : Owner × List Point) × Has rings r × (r.0 ≡ o)
+    → odd (flat_map pairs (owner_walks o rings walks)) k x y ≡ true → (r : Owner × List Point) × Has rings r × (r.0 ≡ o)
 unfolding odd
 inside_has k x y o [] walks e = absurd (false≢true e)
 inside_has k x y o (r ∷ rings) [] e = absurd (false≢true e)
 inside_has k x y o (r ∷ rings) (w ∷ walks) e = by_test (owner_eq r.0 o) refl (inside_has k x y o rings walks) e
   where
     by_test : (b : Bool) → owner_eq r.0 o ≡ b
-        → (parity (is_crossed k x y) (flat_map pairs (walks_of o rings walks)) ≡ true
+        → (parity (is_crossed k x y) (flat_map pairs (owner_walks o rings walks)) ≡ true
         → (q : Owner × List Point) × Has rings q × (q.0 ≡ o))
-        → parity (is_crossed k x y) (flat_map pairs (cond b (w ∷ walks_of o rings walks) (walks_of o rings walks))) ≡ true
+        → parity (is_crossed k x y) (flat_map pairs (cond b (w ∷ owner_walks o rings walks) (owner_walks o rings walks))) ≡ true
         → (q : Owner × List Point) × Has (r ∷ rings) q × (q.0 ≡ o)
     by_test true t later e = (r, inl refl, (owner_eq-Decides r.0 o).0 t)
     by_test false t later e = let further = later e in (further.0, inr further.1, further.2)
 
 input_holds : (rings : List (Owner × List Point)) (r : Owned) (h : IsRoundOf rings r) (input : Input) (k x y : ℤ)
-    → some_of input (shapes_of (items_of r)) (λ o. odd_of (items_of r) o k x y) ≡ holds input rings h.walks k x y
+    → some_of input (listed_shapes (owned_items r)) (λ o. odd_of (owned_items r) o k x y) ≡ holds input rings h.walks k x y
 input_holds rings r h input k x y = same_if _ _
     (λ t.
     let shape = (inputs_are_their_shapes r input k x y).0 t in
     let o : Owner = record { input = input; shape = shape.0 } in
     let inside = sym (owners_of_rings rings r h o k x y) ∙ shape.1 in
     let found = inside_has k x y o rings h.walks inside in
-    any_true (λ (q : Owner × List Point). input_eq q.0.input input && is_inside rings h.walks q.0 k x y) rings found.0 found.1
-    (subst (λ z. (input_eq z.input input && is_inside rings h.walks z k x y) ≡ true) (sym found.2)
-    (ap (λ b. b && is_inside rings h.walks o k x y) (input_itself input) ∙ inside)))
+    any_true (λ (q : Owner × List Point). input_eq q.0.input input && is_inside_rounded rings h.walks q.0 k x y) rings found.0 found.1
+    (subst (λ z. (input_eq z.input input && is_inside_rounded rings h.walks z k x y) ≡ true) (sym found.2)
+    (ap (λ b. b && is_inside_rounded rings h.walks o k x y) (input_itself input) ∙ inside)))
     (λ t.
-    let found = true_any (λ (q : Owner × List Point). input_eq q.0.input input && is_inside rings h.walks q.0 k x y) rings t in
-    let both = and_parts (input_eq found.0.0.input input) (is_inside rings h.walks found.0.0 k x y) found.2 in
+    let found = true_any (λ (q : Owner × List Point). input_eq q.0.input input && is_inside_rounded rings h.walks q.0 k x y) rings t in
+    let both = and_parts (input_eq found.0.0.input input) (is_inside_rounded rings h.walks found.0.0 k x y) found.2 in
     let same = input_same found.0.0.input input both.0 in
     (inputs_are_their_shapes r input k x y).1 (
       found.0.0.shape,
-      ap (λ i. odd_of (items_of r) (record { input = i; shape = found.0.0.shape }) k x y) (sym same)
+      ap (λ i. odd_of (owned_items r) (record { input = i; shape = found.0.0.shape }) k x y) (sym same)
           ∙ owners_of_rings rings r h found.0.0 k x y ∙ both.1,
     ))
 

@@ -10,7 +10,7 @@ use Rattle.lay_items.specs.Sound.{IsDrawn}
 use Rattle.lay_flat.specs.declared.fault.FlatFault.{FlatFault}
 use Rattle.lay_flat.specs.declared.fault.FlatFault.TheVariants.{TooMany}
 use Rattle.lay_flat.specs.Flat.{FlatRing}
-use Rattle.lay_flat.specs.Flattening.{and_then, flat_of}
+use Rattle.lay_flat.specs.Flattening.{flat_of, on_success}
 use Rattle.lay_flat_laws.proofs.Below.{same_flattening}
 use Rattle.bool_shape_laws.specs.Op.{Op}
 use Rattle.bool_shape_laws.specs.Shapes.{Rings, fits, shapes_of}
@@ -25,8 +25,8 @@ unfolding bool_shapes
 booleans_read l m one other op cell a b first second =
     let same_a = same_flattening l m one other cell a first in
     let same_b = same_flattening l m one other cell b second in
-    ap (λ r. and_then r (λ f. and_then (flat_of l cell b) (λ g. shapes_within op f g))) same_a
-    ∙ ap (λ r. and_then (flat_of m cell a) (λ f. and_then r (λ g. shapes_within op f g))) same_b
+    ap (λ r. on_success r (λ f. on_success (flat_of l cell b) (λ g. shapes_within op f g))) same_a
+    ∙ ap (λ r. on_success (flat_of m cell a) (λ f. on_success r (λ g. shapes_within op f g))) same_b
 
 -- the two flattenings of an operation that is accepted, and its shapes
 record IsAccepted (layout : Layout) (op : Op) (cell : CellId) (a b : List ℕ) (shapes : List Rings) : Type 0 where
@@ -49,12 +49,12 @@ accepted layout op cell a b shapes h = by_first (flat_of layout cell a) (flat_of
   by_test first second false fit one other g = absurd (cc)
 
   by_second : (first : List FlatRing) (r : Result (List FlatRing) FlatFault) → flat_of layout cell a ≡ Ok first →
-      flat_of layout cell b ≡ r → and_then r (λ second. shapes_within op first second) ≡ Ok shapes → IsAccepted layout op cell a b shapes
+      flat_of layout cell b ≡ r → on_success r (λ second. shapes_within op first second) ≡ Ok shapes → IsAccepted layout op cell a b shapes
   by_second first (Ok second) one other g = by_test first second (fits op first second) refl one other g
   by_second first (Err fault) one other g = absurd (cc)
 
   by_first : (r s : Result (List FlatRing) FlatFault) → flat_of layout cell a ≡ r → flat_of layout cell b ≡ s →
-      and_then r (λ first. and_then s (λ second. shapes_within op first second)) ≡ Ok shapes → IsAccepted layout op cell a b shapes
+      on_success r (λ first. on_success s (λ second. shapes_within op first second)) ≡ Ok shapes → IsAccepted layout op cell a b shapes
   by_first (Ok first) s one other g = by_second first s one other g
   by_first (Err fault) s one other g = absurd (cc)
 

@@ -18,7 +18,7 @@ use Rattle.bool_shape_laws.specs.Operations.{answer, edges_of_op}
 use Rattle.face_link_laws.proofs.CountLemmas.{AreUndirected}
 use Rattle.face_link_laws.proofs.RingLaws.{AreSound, ring_from_sound}
 use Rattle.face_link_laws.proofs.StepLemmas.{all_sound}
-use Rattle.face_part_laws.specs.Parts.{AreParts, labelled}
+use Rattle.face_part_laws.specs.Parts.{AreParts, with_label}
 use Rattle.bool_shape_laws.proofs.InRange.{rounded_is_in_range}
 use Rattle.bool_shape_laws.specs.declared.limits.TheConstants.{MAX_SEGMENTS}
 use Rattle.bool_shape_laws.specs.Shapes.{Rings, fits, is_short, op_rings, owned_of, rounded_inputs, segments_of, shapes_of}
@@ -32,29 +32,29 @@ each_has P [] h = tt
 each_has P (x ∷ xs) h = (h x (inl refl), each_has P xs (λ y m. h y (inr m)))
 
 -- of rings with a label each are rings
-labelled_rings : (p : ℕ) (labels : List ℕ) (rings : Rings) → AllByRecursion IsRing rings → AllByRecursion IsRing (labelled p labels rings)
+labelled_rings : (p : ℕ) (labels : List ℕ) (rings : Rings) → AllByRecursion IsRing rings → AllByRecursion IsRing (with_label p labels rings)
 labelled_rings p [] rings all = tt
 labelled_rings p (l ∷ labels) [] all = tt
 labelled_rings p (l ∷ labels) (ring ∷ rings) all = by_test (l == p) (labelled_rings p labels rings all.1) where
-  by_test : (t : Bool) → AllByRecursion IsRing (labelled p labels rings)
-      → AllByRecursion IsRing (if t then ring ∷ labelled p labels rings else labelled p labels rings)
+  by_test : (t : Bool) → AllByRecursion IsRing (with_label p labels rings)
+      → AllByRecursion IsRing (if t then ring ∷ with_label p labels rings else with_label p labels rings)
   by_test true rest = (all.0, rest)
   by_test false rest = rest
 
 -- and there is one where a label is used
 labelled_some : (p : ℕ) (labels : List ℕ) (rings : Rings) (j : ℕ) → j < length rings → length labels ≡ length rings →
     slice_index labels j ≡ p →
-    1 ≤ length (labelled p labels rings)
+    1 ≤ length (with_label p labels rings)
 labelled_some p [] [] j inside each is = absurd (omega (arith, inside))
 labelled_some p [] (ring ∷ rings) j inside each is = absurd (omega (arith, each))
 labelled_some p (l ∷ labels) [] j inside each is = absurd (omega (arith, inside))
 labelled_some p (l ∷ labels) (ring ∷ rings) zero inside each is =
     let same : (l == p) ≡ true = grind (arith, nat_tests, is) in
-    subst (λ t. 1 ≤ length (if t then ring ∷ labelled p labels rings else labelled p labels rings)) (sym same) (omega arith)
+    subst (λ t. 1 ≤ length (if t then ring ∷ with_label p labels rings else with_label p labels rings)) (sym same) (omega arith)
 labelled_some p (l ∷ labels) (ring ∷ rings) (suc j) inside each is =
     by_test (l == p) (labelled_some p labels rings j (omega (arith, inside)) (omega (arith, each)) is) where
-      by_test : (t : Bool) → 1 ≤ length (labelled p labels rings)
-          → 1 ≤ length (if t then ring ∷ labelled p labels rings else labelled p labels rings)
+      by_test : (t : Bool) → 1 ≤ length (with_label p labels rings)
+          → 1 ≤ length (if t then ring ∷ with_label p labels rings else with_label p labels rings)
       by_test true some = omega arith
       by_test false some = some
 

@@ -21,7 +21,7 @@ use Rattle.lay_flat.specs.declared.fault.FlatFault.{FlatFault}
 use Rattle.lay_flat.specs.declared.fault.FlatFault.TheVariants.{NoCell, OutOfRange, TooMany}
 use Rattle.lay_flat.specs.declared.flat.TheConstants.{MAX_RINGS}
 use Rattle.lay_flat.specs.Flat.{FlatRing, IsFlat, is_within}
-use Rattle.lay_flat.specs.Flattening.{Drawn, and_then, drawn_at, ends_of, flat_at, flat_of, rings_at, rings_from, rings_of, tested}
+use Rattle.lay_flat.specs.Flattening.{Drawn, drawn_at, ends_of, flat_at, flat_of, on_success, rings_at, rings_from, rings_of, tested}
 use Rattle.bool_rules.specs.Laws.{FlatteningsAreFlat}
 use Rattle.bool_rules.proofs.Everywhere.{IfKept, all-append, all-filter, all-filter_map, all-flat_map}
 use Rattle.bool_rules.proofs.Everywhere.{all-map, by_place, by_recursion, tested_each, weaker}
@@ -113,7 +113,7 @@ came layout cell layer out h = by_cell (is_cell layout cell) (tested layout cell
   answer : Result (List FlatRing) FlatFault
   answer = flat_at (ends_of layout cell) (rings_at layout layer (ends_of layout cell))
 
-  by_cell : (t : Bool) (r : Result (Unit {0}) FlatFault) → (if t then and_then r (λ _. answer) else Err NoCell) ≡ Ok out → answer ≡ Ok out
+  by_cell : (t : Bool) (r : Result (Unit {0}) FlatFault) → (if t then on_success r (λ _. answer) else Err NoCell) ≡ Ok out → answer ≡ Ok out
   by_cell true (Ok x) g = g
   by_cell true (Err fault) g = absurd (cc)
   by_cell false r g = absurd (cc)

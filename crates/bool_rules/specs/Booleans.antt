@@ -7,7 +7,7 @@ use Rattle.lay_items.specs.Layout.{Layout}
 use Rattle.lay_flat.specs.declared.fault.FlatFault.{FlatFault}
 use Rattle.lay_flat.specs.declared.fault.FlatFault.TheVariants.{TooMany}
 use Rattle.lay_flat.specs.Flat.{FlatRing}
-use Rattle.lay_flat.specs.Flattening.{and_then, flat_of}
+use Rattle.lay_flat.specs.Flattening.{flat_of, on_success}
 use Rattle.bool_shape_laws.specs.Op.{Op}
 use Rattle.bool_shape_laws.specs.Shapes.{Rings, fits, shapes_of}
 
@@ -18,4 +18,4 @@ shapes_within op first second = if fits op first second then Ok (shapes_of op fi
 -- the shapes, or the first refusal
 unfoldable pub bool_shapes : Layout → Op → CellId → List ℕ → List ℕ → Result (List Rings) FlatFault
 bool_shapes layout op cell a b =
-    and_then (flat_of layout cell a) (λ first. and_then (flat_of layout cell b) (λ second. shapes_within op first second))
+    on_success (flat_of layout cell a) (λ first. on_success (flat_of layout cell b) (λ second. shapes_within op first second))

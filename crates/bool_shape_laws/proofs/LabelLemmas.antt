@@ -11,9 +11,9 @@ use Rattle.std.proofs.lemmas.List.Sums.{sum_by_push}
 use Rattle.std.proofs.Math.Seq.{take-suc}
 use Rattle.lay_point.specs.declared.point.Point.{Point}
 use Rattle.face_part_laws.specs.Heads.{AreDivided, AreFirst, IsNumbered}
-use Rattle.face_part_laws.specs.Parts.{ArePartsBy, box_of, labelled}
+use Rattle.face_part_laws.specs.Parts.{ArePartsBy, bounding_box, with_label}
 use Rattle.face_part_laws.proofs.PartLemmas.{are_parts, numbered_fresh, numbered_old}
-use Rattle.bool_shape_laws.specs.Dividing.{heads_before, heads_of, labels_of, parts_by, parts_of}
+use Rattle.bool_shape_laws.specs.Dividing.{heads_before, heads_of, part_labels, parts_by, parts_of}
 use Rattle.bool_shape_laws.specs.Laws.{PartsExist}
 use Rattle.bool_shape_laws.proofs.HeadLemmas.{heads_are_finest}
 
@@ -100,7 +100,7 @@ module _ (heads : List ℕ) (first : AreFirst heads) where
   numbered_to zero le = none_numbered
   numbered_to (suc n) le = one_more n (omega arith) (numbered_to n (omega arith))
 
-  pub labels_are_numbered : IsNumbered heads (length heads) (labels_of heads) (heads_before heads (length heads))
+  pub labels_are_numbered : IsNumbered heads (length heads) (part_labels heads) (heads_before heads (length heads))
   labels_are_numbered =
       subst (λ hs. IsNumbered heads (length heads) (map (heads_before heads) hs) (number (length heads)))
       (take_all (length heads) heads (omega arith))
@@ -108,27 +108,27 @@ module _ (heads : List ℕ) (first : AreFirst heads) where
 
 -- ---- parts
 divided_by : (heads : List ℕ) (rings : List (List Point))
-    → AreDivided (heads_before heads (length heads)) (labels_of heads) rings (parts_by heads rings)
+    → AreDivided (heads_before heads (length heads)) (part_labels heads) rings (parts_by heads rings)
 divided_by heads rings =
-    let part : ℕ → List (List Point) = λ p. labelled p (labels_of heads) rings in record {
+    let part : ℕ → List (List Point) = λ p. with_label p (part_labels heads) rings in record {
       each = length-map-range_with_len part 0 (heads_before heads (length heads));
       members = λ p d lt. get_or-map-range_with_len part 0 (heads_before heads (length heads)) p p d lt (omega arith);
     }
 
-pub parts_are_parts : (rings : List (List Point)) → ArePartsBy (labels_of (heads_of (map box_of rings))) rings (parts_of rings)
+pub parts_are_parts : (rings : List (List Point)) → ArePartsBy (part_labels (heads_of (map bounding_box rings))) rings (parts_of rings)
 unfolding parts_of
 parts_are_parts rings =
-    let boxes = map box_of rings in
+    let boxes = map bounding_box rings in
     let heads = heads_of boxes in
     let finest = heads_are_finest boxes in
-    are_parts rings boxes heads (labels_of heads) (heads_before heads (length heads)) (parts_by heads rings) refl finest
+    are_parts rings boxes heads (part_labels heads) (heads_before heads (length heads)) (parts_by heads rings) refl finest
     (labels_are_numbered heads finest.first) (divided_by heads rings)
 
 -- as many as heads
 pub length-parts_of : (rings : List (List Point))
-    → length (parts_of rings) ≡ heads_before (heads_of (map box_of rings)) (length (heads_of (map box_of rings)))
+    → length (parts_of rings) ≡ heads_before (heads_of (map bounding_box rings)) (length (heads_of (map bounding_box rings)))
 unfolding parts_of
-length-parts_of rings = (divided_by (heads_of (map box_of rings)) rings).each
+length-parts_of rings = (divided_by (heads_of (map bounding_box rings)) rings).each
 
 pub parts_exist : PartsExist
-parts_exist rings = (labels_of (heads_of (map box_of rings)), parts_are_parts rings)
+parts_exist rings = (part_labels (heads_of (map bounding_box rings)), parts_are_parts rings)

@@ -4,7 +4,7 @@ use Rattle.std.proofs.lemmas.Bool.{cases_lt}
 use Rattle.std.proofs.lemmas.Grind.{same_number_lists}
 use Rattle.std.proofs.lemmas.List.{same_lists}
 use Rattle.lay_point.specs.declared.point.Point.{Point}
-use Rattle.face_part_laws.specs.Parts.{ArePartsBy, labelled}
+use Rattle.face_part_laws.specs.Parts.{ArePartsBy, with_label}
 use Rattle.bool_shape_laws.specs.Laws.{PartsAreUnique}
 
 -- rings with one label have one of any other labels
@@ -59,4 +59,4 @@ parts_are_unique rings parts parts' (labels, h) (labels', g) =
     let many = no_fewer rings labels' labels parts' parts g h in
     let same = same_labels rings labels labels' parts parts' h g in
     same_lists parts parts' (omega (arith, few, many)) (λ k d lt.
-    h.rings_of_part k d lt ∙ ap (λ ls. labelled k ls rings) same ∙ sym (g.rings_of_part k d (omega (arith, few, many))))
+    h.rings_of_part k d lt ∙ ap (λ ls. with_label k ls rings) same ∙ sym (g.rings_of_part k d (omega (arith, few, many))))

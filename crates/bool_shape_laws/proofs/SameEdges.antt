@@ -10,34 +10,34 @@ use Rattle.std.proofs.lemmas.List.Sums.{sum_by-append, sum_by-cons}
 use Rattle.lay_point.specs.declared.point.Point.{Point}
 use Rattle.lay_point.specs.Edges.{undirected}
 use Rattle.lay_point.specs.RingEdges.{edges_of, edges_of_ring}
-use Rattle.face_part_laws.specs.Parts.{box_of, labelled}
-use Rattle.bool_shape_laws.specs.Dividing.{heads_before, heads_of, labels_of, parts_of}
+use Rattle.face_part_laws.specs.Parts.{bounding_box, with_label}
+use Rattle.bool_shape_laws.specs.Dividing.{heads_before, heads_of, part_labels, parts_of}
 use Rattle.bool_shape_laws.proofs.LabelLemmas.{length-parts_of, parts_are_parts}
 
 -- ---- a sum over what is labelled from a number on
 module _ {A : Type 0} (w : A → ℕ) where
   -- the sum of those whose labels are any of n from a on
   abbrev sum_from : List ℕ → List A → ℕ → ℕ → ℕ
-  sum_from labels xs a n = sum_by (λ part. sum_by w part) (map (λ p. labelled p labels xs) (range_with_len a n))
+  sum_from labels xs a n = sum_by (λ part. sum_by w part) (map (λ p. with_label p labels xs) (range_with_len a n))
 
   sum_next : (labels : List ℕ) (xs : List A) (a n : ℕ)
-      → sum_from labels xs a (suc n) ≡ sum_by w (labelled a labels xs) + sum_from labels xs (a + 1) n
+      → sum_from labels xs a (suc n) ≡ sum_by w (with_label a labels xs) + sum_from labels xs (a + 1) n
   sum_next labels xs a n =
-      sum_by-cons (λ part. sum_by w part) (labelled a labels xs) (map (λ p. labelled p labels xs) (range_with_len (a + 1) n))
+      sum_by-cons (λ part. sum_by w part) (with_label a labels xs) (map (λ p. with_label p labels xs) (range_with_len (a + 1) n))
 
   none_labelled : (xs : List A) (a n : ℕ) → sum_from [] xs a n ≡ 0
   none_labelled xs a zero = refl
   none_labelled xs a (suc n) = let rest = none_labelled xs (a + 1) n in sum_next [] xs a n ∙ omega (arith, rest)
 
   label_cases : (l p : ℕ) (x : A) (labels : List ℕ) (xs : List A)
-      → ((l ≡ p) × (sum_by w (labelled p (l ∷ labels) (x ∷ xs)) ≡ w x + sum_by w (labelled p labels xs)))
-      ⊎ ((l ≢ p) × (sum_by w (labelled p (l ∷ labels) (x ∷ xs)) ≡ sum_by w (labelled p labels xs)))
+      → ((l ≡ p) × (sum_by w (with_label p (l ∷ labels) (x ∷ xs)) ≡ w x + sum_by w (with_label p labels xs)))
+      ⊎ ((l ≢ p) × (sum_by w (with_label p (l ∷ labels) (x ∷ xs)) ≡ sum_by w (with_label p labels xs)))
   label_cases l p x labels xs = by_test (l == p) refl
     where
       by_test : (b : Bool) → (l == p) ≡ b
-          → ((l ≡ p) × (sum_by w (cond b (x ∷ labelled p labels xs) (labelled p labels xs)) ≡ w x + sum_by w (labelled p labels xs)))
-          ⊎ ((l ≢ p) × (sum_by w (cond b (x ∷ labelled p labels xs) (labelled p labels xs)) ≡ sum_by w (labelled p labels xs)))
-      by_test true e = inl ((Decides-eqb l p).0 e, sum_by-cons w x (labelled p labels xs))
+          → ((l ≡ p) × (sum_by w (cond b (x ∷ with_label p labels xs) (with_label p labels xs)) ≡ w x + sum_by w (with_label p labels xs)))
+          ⊎ ((l ≢ p) × (sum_by w (cond b (x ∷ with_label p labels xs) (with_label p labels xs)) ≡ sum_by w (with_label p labels xs)))
+      by_test true e = inl ((Decides-eqb l p).0 e, sum_by-cons w x (with_label p labels xs))
       by_test false e = inr ((λ same. false≢true (sym e ∙ (Decides-eqb l p).1 same)), refl)
 
   -- a label below them doesn't count
@@ -90,10 +90,10 @@ pub parts_have_edges : (test : Point × Point → Bool) (rings : List (List Poin
 unfolding parts_of
 parts_have_edges test rings =
     let edges : List Point → ℕ = λ ring. count_by test (map undirected (edges_of_ring ring)) in
-    let heads = heads_of (map box_of rings) in
+    let heads = heads_of (map bounding_box rings) in
     let h = parts_are_parts rings in
     count_of_pieces test edges_of (parts_of rings)
     ∙ ap (λ (f : List (List Point) → ℕ). sum_by f (parts_of rings)) (λ k part. count_of_pieces test edges_of_ring part k)
-    ∙ all_labelled edges (labels_of heads) rings (heads_before heads (length heads)) h.each
+    ∙ all_labelled edges (part_labels heads) rings (heads_before heads (length heads)) h.each
     (λ i lt. omega (arith, h.within i lt, length-parts_of rings))
     ∙ sym (count_of_pieces test edges_of_ring rings)

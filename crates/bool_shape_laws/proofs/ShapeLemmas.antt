@@ -8,7 +8,7 @@ use Rattle.lay_point.specs.declared.point.Point.{Point}
 use Rattle.lay_point.proofs.Members.{contains}
 use Rattle.lay_flat.specs.Flat.{FlatRing, IsFlat}
 use Rattle.snap_chains.specs.Round.{IsRoundOf}
-use Rattle.snap_round_laws.specs.Laws.{AreInOrder}
+use Rattle.snap_round_laws.specs.Laws.{AreCleanEdges}
 use Rattle.snap_round_laws.proofs.Exists.{rounding_exists, rounding_is_computed}
 use Rattle.snap_round_laws.proofs.InRange.{and_true, rounded_is_in_range, rounded_is_rounded}
 use Rattle.face_labels.proofs.Upward.{even_operation, operation_among, operation_law, operation_rises}
@@ -42,7 +42,7 @@ module _ (op : Op) (a b : List FlatRing) (flat_a : All IsFlat a) (flat_b : All I
   pub inputs_round : IsRoundOf (owned_of a b) (rounded_inputs a b)
   inputs_round = rounding_exists (owned_of a b) (owned_are_rings a b flat_a flat_b)
 
-  pub inputs_in_order : AreInOrder (rounded_inputs a b)
+  pub inputs_in_order : AreCleanEdges (rounded_inputs a b)
   inputs_in_order = rounded_is_rounded (owned_of a b) (owned_are_rings a b flat_a flat_b) (rounded_inputs a b) inputs_round
 
   pub edges_tell : TellAnswer op (rounded_inputs a b)

@@ -17,7 +17,7 @@ use Rattle.lay_flat.specs.Flat.{FlatRing, IsFlat}
 use Rattle.snap_chains.specs.declared.owner.Input.{Input}
 use Rattle.snap_chains.specs.declared.owner.Input.TheVariants.{First, Second}
 use Rattle.snap_chains.specs.declared.owner.Owner.{Owner}
-use Rattle.snap_round_laws.specs.Laws.{AreRings}
+use Rattle.snap_round_laws.specs.Laws.{AreOwnedRings}
 use Rattle.bool_shape_laws.specs.Shapes.{owned_by, owned_of}
 
 -- ---- different points stay different
@@ -66,12 +66,12 @@ turned_is_ring ring h =
     }
 
 -- ---- of all rings
-turned_are_rings : (input : Input) (rings : List FlatRing) → All IsFlat rings → AreRings (map (owned_by input) rings)
+turned_are_rings : (input : Input) (rings : List FlatRing) → All IsFlat rings → AreOwnedRings (map (owned_by input) rings)
 turned_are_rings input rings h =
     All-map (λ (r : Owner × List Point). IsRing r.1) (owned_by input) rings
     (All-weaker IsFlat (λ (r : FlatRing). IsRing (map (turned r.1) r.0)) turned_is_ring rings h)
 
-pub owned_are_rings : (a b : List FlatRing) → All IsFlat a → All IsFlat b → AreRings (owned_of a b)
+pub owned_are_rings : (a b : List FlatRing) → All IsFlat a → All IsFlat b → AreOwnedRings (owned_of a b)
 owned_are_rings a b ha hb =
     All-append (λ (r : Owner × List Point). IsRing r.1) (map (owned_by First) a) (map (owned_by Second) b)
     (turned_are_rings First a ha) (turned_are_rings Second b hb)

@@ -3,7 +3,7 @@
 use Rattle.std.specs.Prelude.{ℕ, suc, ◌==◌, Bool, false, ◌&&◌, ◌||◌, List, [], ◌∷◌, count_by, length, map, slice_index, if◌then◌else◌}
 use Rattle.std.specs.List.{range_with_len}
 use Rattle.lay_point.specs.declared.point.Point.{Point}
-use Rattle.face_part_laws.specs.Parts.{Box, box_of, labelled, touch}
+use Rattle.face_part_laws.specs.Parts.{Box, bounding_box, touch, with_label}
 
 -- the box touches one of these that has this head
 abbrev pub touches_head : Box → ℕ → List Box → List ℕ → Bool
@@ -25,13 +25,13 @@ abbrev pub heads_before : List ℕ → ℕ → ℕ
 heads_before heads n = count_by (λ k. slice_index heads k == k) (range_with_len 0 n)
 
 -- for each ring the number of its part; parts come in the order of their heads
-abbrev pub labels_of : List ℕ → List ℕ
-labels_of heads = map (heads_before heads) heads
+abbrev pub part_labels : List ℕ → List ℕ
+part_labels heads = map (heads_before heads) heads
 
 -- for each head the rings that have it, in order
 abbrev pub parts_by : List ℕ → List (List Point) → List (List (List Point))
-parts_by heads rings = map (λ p. labelled p (labels_of heads) rings) (range_with_len 0 (heads_before heads (length heads)))
+parts_by heads rings = map (λ p. with_label p (part_labels heads) rings) (range_with_len 0 (heads_before heads (length heads)))
 
 -- the parts of the rings
 unfoldable pub parts_of : List (List Point) → List (List (List Point))
-parts_of rings = parts_by (heads_of (map box_of rings)) rings
+parts_of rings = parts_by (heads_of (map bounding_box rings)) rings

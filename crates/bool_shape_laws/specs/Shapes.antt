@@ -15,7 +15,7 @@ use Rattle.snap_chains.specs.Rounded.{Owned}
 use Rattle.snap_round_laws.specs.Rounding.{rounded_of}
 use Rattle.face_labels.specs.declared.op.Op.{Op}
 use Rattle.face_labels.specs.Operations.{edges_of_op}
-use Rattle.face_link_laws.specs.Linking.{rings_of}
+use Rattle.face_link_laws.specs.Linking.{linked_rings}
 use Rattle.bool_shape_laws.specs.declared.limits.TheConstants.{MAX_SEGMENTS}
 use Rattle.bool_shape_laws.specs.Dividing.{parts_of}
 
@@ -41,7 +41,7 @@ rounded_inputs a b = rounded_of (owned_of a b)
 
 -- the rings that the operation's edges make
 abbrev pub op_rings : Op → List FlatRing → List FlatRing → Rings
-op_rings op a b = rings_of (edges_of_op op (rounded_inputs a b))
+op_rings op a b = linked_rings (edges_of_op op (rounded_inputs a b))
 
 -- the shapes of the operation
 unfoldable pub shapes_of : Op → List FlatRing → List FlatRing → List Rings

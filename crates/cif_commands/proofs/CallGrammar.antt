@@ -18,7 +18,7 @@ use Rattle.cif_commands.specs.declared.calls.Change.TheVariants.{Direction, Mirr
 use Rattle.cif_commands.specs.declared.paths.Vertex.{Vertex}
 use Rattle.cif_commands.specs.Calls.{axis_at, by_point, change_at, changes_from, changes_of}
 use Rattle.cif_commands.specs.Commands.{Call, Command}
-use Rattle.cif_commands.specs.Grammar.{AreBlanks, AreChanges, IsCall, IsChange, IsMirror, IsPointChange, NextChange, Spells}
+use Rattle.cif_commands.specs.Grammar.{AreBlanks, AreCallChanges, IsCall, IsChange, IsMirror, IsPointChange, NextChange, Spells}
 use Rattle.cif_commands.specs.Paths.{vertex_at}
 use Rattle.cif_commands.specs.Reading.{call_of}
 use Rattle.cif_commands.proofs.PathGrammar.{vertex_again, vertex_takes}
@@ -153,7 +153,7 @@ blank_only bytes e =
     ap (list_all is_blank) all ∙ list_all-take_while is_blank bytes
 
 pub changes_takes : (steps : ℕ) (found : List Change) (bytes rest : List ℕ) (all : List Change) → skip is_blank bytes ≡ rest
-    → changes_from steps found rest ≡ Some all → (cs : List Change) × (all ≡ found ++ cs) × AreChanges bytes cs
+    → changes_from steps found rest ≡ Some all → (cs : List Change) × (all ≡ found ++ cs) × AreCallChanges bytes cs
 unfolding changes_from
 changes_takes zero found bytes rest all left e = absurd cc
 changes_takes (suc steps) found bytes [] all left e = ([], sym (same_Some found all e) ∙ sym (append-nil found), blank_only bytes left)
@@ -176,7 +176,7 @@ changes_takes (suc steps) found bytes (b ∷ bs) all left e =
       ),
     )
 
-pub changes_stop : (text : List ℕ) (cs : List Change) → AreChanges text cs → Stops is_digit text
+pub changes_stop : (text : List ℕ) (cs : List Change) → AreCallChanges text cs → Stops is_digit text
 changes_stop text [] h = stops_all is_blank is_digit text blank_no_digit h
 changes_stop text (c ∷ cs) h = rw h.0.parts (by_gap h.0.gap h.0.gap_blank) where
   by_gap : (gap : List ℕ) → AreBlanks gap → Stops is_digit (gap ++ (h.0.spelling ++ h.0.rest))
@@ -208,7 +208,7 @@ next_length text c h =
     ap length h.parts ∙ length-append h.gap (h.spelling ++ h.rest) ∙ ap (λ n. length h.gap + n) (length-append h.spelling h.rest) in
     omega arith
 
-pub changes_again : (cs : List Change) (steps : ℕ) (found : List Change) (text : List ℕ) → AreChanges text cs → length text < steps
+pub changes_again : (cs : List Change) (steps : ℕ) (found : List Change) (text : List ℕ) → AreCallChanges text cs → length text < steps
     → changes_from steps found (skip is_blank text) ≡ Some (found ++ cs)
 unfolding changes_from
 changes_again cs zero found text h enough = absurd (omega arith)
@@ -240,7 +240,7 @@ call_takes bytes d e =
       rest = symbol.0.1;
       parts = ap (λ t. 67 ∷ t) front.parts;
       symbol_is = front.spelled;
-      changed = subst (λ (cs : List Change). AreChanges symbol.0.1 cs) (sym read.1) read.2;
+      changed = subst (λ (cs : List Change). AreCallChanges symbol.0.1 cs) (sym read.1) read.2;
     })
 
 pub call_again : (text : List ℕ) (symbol : ℕ) (cs : List Change) (h : IsCall text symbol cs)

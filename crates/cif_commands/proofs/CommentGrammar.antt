@@ -9,14 +9,14 @@ use Rattle.std.proofs.lemmas.Option.{same_Some}
 use Rattle.cif_scan.specs.Bytes.{is_blank}
 use Rattle.cif_scan.proofs.Steps.{chosen_of}
 use Rattle.cif_commands.specs.Comments.{are_blanks_behind, behind_closing, is_comment}
-use Rattle.cif_commands.specs.Grammar.{IsComment, Matched, byte, is_free, nothing, text_of, within}
+use Rattle.cif_commands.specs.Grammar.{IsComment, Matched, byte, is_free, matched_text, nothing, within}
 
 -- ---- what is read is spelled so
 
 -- texts, a closing parenthesis behind each, and a rest
 abbrev closed_text : List Matched → List ℕ → List ℕ
 closed_text [] rest = rest
-closed_text (m ∷ ms) rest = text_of m ++ (41 ∷ closed_text ms rest)
+closed_text (m ∷ ms) rest = matched_text m ++ (41 ∷ closed_text ms rest)
 
 -- what is open at so great a depth: the innermost text, and those round it
 record Levels (depth : ℕ) (bytes rest : List ℕ) : Type 0 where
@@ -25,7 +25,7 @@ record Levels (depth : ℕ) (bytes rest : List ℕ) : Type 0 where
   count : length outer ≡ depth
   inner_free : is_free inner ≡ true
   outer_free : list_all is_free outer ≡ true
-  parts : bytes ≡ text_of inner ++ (41 ∷ closed_text outer rest)
+  parts : bytes ≡ matched_text inner ++ (41 ∷ closed_text outer rest)
 
 closing : (depth : ℕ) (bytes rest : List ℕ) → Levels depth bytes rest → Levels (suc depth) (41 ∷ bytes) rest
 closing depth bytes rest h = record {
@@ -51,7 +51,7 @@ further b depth bytes rest no_close no_open h = record {
 opening : (depth : ℕ) (bytes rest : List ℕ) → Levels (suc depth) bytes rest → Levels depth (40 ∷ bytes) rest
 opening depth bytes rest h = by_outer h.outer h.count h.outer_free h.parts where
   by_outer : (outer : List Matched) → length outer ≡ suc depth → list_all is_free outer ≡ true
-      → bytes ≡ text_of h.inner ++ (41 ∷ closed_text outer rest) → Levels depth (40 ∷ bytes) rest
+      → bytes ≡ matched_text h.inner ++ (41 ∷ closed_text outer rest) → Levels depth (40 ∷ bytes) rest
   by_outer [] count free parts = absurd (omega arith)
   by_outer (m ∷ ms) count free parts =
       let frees = and_parts (is_free m) (list_all is_free ms) free in
@@ -61,7 +61,7 @@ opening depth bytes rest h = by_outer h.outer h.count h.outer_free h.parts where
         count = omega arith;
         inner_free = and_from (is_free h.inner) (is_free m) h.inner_free frees.0;
         outer_free = frees.1;
-        parts = ap (λ t. 40 ∷ t) (parts ∙ sym (append_assoc (text_of h.inner) (41 ∷ text_of m) (41 ∷ closed_text ms rest)));
+        parts = ap (λ t. 40 ∷ t) (parts ∙ sym (append_assoc (matched_text h.inner) (41 ∷ matched_text m) (41 ∷ closed_text ms rest)));
       }
 
 none_some : (rest : List ℕ) → ◌≡◌ {A = Option (List ℕ)} None (Some rest) → ⊥
@@ -107,7 +107,7 @@ comment_takes bytes e =
     record {
       inside = levels.inner;
       behind = found.0;
-      parts = ap (λ t. 40 ∷ t) (levels.parts ∙ ap (λ o. text_of levels.inner ++ (41 ∷ closed_text o found.0)) none);
+      parts = ap (λ t. 40 ∷ t) (levels.parts ∙ ap (λ o. matched_text levels.inner ++ (41 ∷ closed_text o found.0)) none);
       free = levels.inner_free;
       behind_blank = found.2;
     }
@@ -136,21 +136,22 @@ pass_close : (depth : ℕ) (bs : List ℕ) → behind_closing (suc depth) (41 �
 unfolding behind_closing
 pass_close depth bs = refl
 
-pass : (m : Matched) (depth : ℕ) (bs : List ℕ) → is_free m ≡ true → behind_closing depth (text_of m ++ bs) ≡ behind_closing depth bs
+pass : (m : Matched) (depth : ℕ) (bs : List ℕ) → is_free m ≡ true → behind_closing depth (matched_text m ++ bs) ≡ behind_closing depth bs
 pass nothing depth bs free = refl
 pass (byte b more) depth bs free =
     let parts = and_parts (not (b == 40 || b == 41)) (is_free more) free in
     let other = free_byte b parts.0 in
-    pass_byte b depth (text_of more ++ bs) other.0 other.1 ∙ pass more depth bs parts.1
+    pass_byte b depth (matched_text more ++ bs) other.0 other.1 ∙ pass more depth bs parts.1
 pass (within inner more) depth bs free =
     let parts = and_parts (is_free inner) (is_free more) free in
-    pass_open depth ((text_of inner ++ (41 ∷ text_of more)) ++ bs)
-    ∙ ap (behind_closing (suc depth)) (append_assoc (text_of inner) (41 ∷ text_of more) bs)
-    ∙ pass inner (suc depth) (41 ∷ (text_of more ++ bs)) parts.0 ∙ pass_close depth (text_of more ++ bs) ∙ pass more depth bs parts.1
+    pass_open depth ((matched_text inner ++ (41 ∷ matched_text more)) ++ bs)
+    ∙ ap (behind_closing (suc depth)) (append_assoc (matched_text inner) (41 ∷ matched_text more) bs)
+    ∙ pass inner (suc depth) (41 ∷ (matched_text more ++ bs)) parts.0 ∙ pass_close depth (matched_text more ++ bs)
+        ∙ pass more depth bs parts.1
 
 last_close : (bs : List ℕ) → behind_closing 0 (41 ∷ bs) ≡ Some bs
 unfolding behind_closing
 last_close bs = refl
 
-pub comment_again : (text : List ℕ) (h : IsComment text) → is_comment (text_of h.inside ++ (41 ∷ h.behind)) ≡ true
+pub comment_again : (text : List ℕ) (h : IsComment text) → is_comment (matched_text h.inside ++ (41 ∷ h.behind)) ≡ true
 comment_again text h = rw (pass h.inside 0 (41 ∷ h.behind) h.free, last_close h.behind) h.behind_blank

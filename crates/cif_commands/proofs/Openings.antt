@@ -18,9 +18,9 @@ use Rattle.cif_commands.specs.declared.definitions.Scale.{Scale}
 use Rattle.cif_commands.specs.declared.paths.Vertex.{Vertex}
 use Rattle.cif_commands.specs.Commands.{Box, Call, Command, Comment, Extension, Finish, Layer, Polygon, Start}
 use Rattle.cif_commands.specs.Cutting.{command_len, next_depth, semicolon_from}
-use Rattle.cif_commands.specs.Grammar.{AreBlanks, AreChanges, AreVertices, IsChange}
+use Rattle.cif_commands.specs.Grammar.{AreBlanks, AreCallChanges, AreVertices, IsChange}
 use Rattle.cif_commands.specs.Grammar.{IsComment, IsDirection, IsScale, IsVertex, IsWrittenScale}
-use Rattle.cif_commands.specs.Grammar.{Matched, NextVertex, Spells, byte, is_free, nothing, text_of, within}
+use Rattle.cif_commands.specs.Grammar.{Matched, NextVertex, Spells, byte, is_free, matched_text, nothing, within}
 use Rattle.cif_commands.proofs.CutGrammar.{plain_found}
 
 pub record Opening (text : List ℕ) : Type 0 where
@@ -105,7 +105,7 @@ change_plain text MirrorX h = rw h.parts (joined_plain h.gap (88 ∷ []) (blanks
 change_plain text MirrorY h = rw h.parts (joined_plain h.gap (89 ∷ []) (blanks_plain h.gap h.gap_blank) refl)
 change_plain text (Direction v) h = rw h.1 (vertex_plain h.0 v h.2)
 
-changes_plain : (text : List ℕ) (cs : List Change) → AreChanges text cs → ArePlain text
+changes_plain : (text : List ℕ) (cs : List Change) → AreCallChanges text cs → ArePlain text
 changes_plain text [] h = blanks_plain text h
 changes_plain text (c ∷ cs) h =
     rw h.0.parts (joined_plain h.0.gap (h.0.spelling ++ h.0.rest) (blanks_plain h.0.gap h.0.gap_blank)
@@ -153,24 +153,24 @@ deep_step place depth b bs = rw (deep depth) refl
 
 -- matched text inside parentheses is passed
 inside_passed : (m : Matched) (place depth : ℕ) (bs : List ℕ) → is_free m ≡ true
-    → semicolon_from place (suc depth) (text_of m ++ bs) ≡ semicolon_from (place + length (text_of m)) (suc depth) bs
+    → semicolon_from place (suc depth) (matched_text m ++ bs) ≡ semicolon_from (place + length (matched_text m)) (suc depth) bs
 inside_passed nothing place depth bs free = ap (λ n. semicolon_from n (suc depth) bs) (omega arith)
 inside_passed (byte b more) place depth bs free =
     let parts = and_parts (not (b == 40 || b == 41)) (is_free more) free in
     let other = free_byte b parts.0 in
     let same : next_depth (suc depth) b ≡ suc depth = rw (other.1, other.0) refl in
-    let count : place + 1 + length (text_of more) ≡ place + length (b ∷ text_of more) = omega arith in
-    deep_step place depth b (text_of more ++ bs) ∙ ap (λ d. semicolon_from (place + 1) d (text_of more ++ bs)) same
+    let count : place + 1 + length (matched_text more) ≡ place + length (b ∷ matched_text more) = omega arith in
+    deep_step place depth b (matched_text more ++ bs) ∙ ap (λ d. semicolon_from (place + 1) d (matched_text more ++ bs)) same
     ∙ inside_passed more (place + 1) depth bs parts.1 ∙ ap (λ n. semicolon_from n (suc depth) bs) count
 inside_passed (within inner more) place depth bs free =
     let parts = and_parts (is_free inner) (is_free more) free in
-    let behind = text_of more ++ bs in
-    let place' = place + 1 + length (text_of inner) in
-    let whole : length (text_of (within inner more)) ≡ suc (length (text_of inner) + suc (length (text_of more))) =
-    ap suc (length-append (text_of inner) (41 ∷ text_of more)) in
-    let count : place' + 1 + length (text_of more) ≡ place + length (text_of (within inner more)) = omega (arith, whole) in
-    deep_step place depth 40 ((text_of inner ++ (41 ∷ text_of more)) ++ bs)
-    ∙ ap (semicolon_from (place + 1) (suc (suc depth))) (append_assoc (text_of inner) (41 ∷ text_of more) bs)
+    let behind = matched_text more ++ bs in
+    let place' = place + 1 + length (matched_text inner) in
+    let whole : length (matched_text (within inner more)) ≡ suc (length (matched_text inner) + suc (length (matched_text more))) =
+    ap suc (length-append (matched_text inner) (41 ∷ matched_text more)) in
+    let count : place' + 1 + length (matched_text more) ≡ place + length (matched_text (within inner more)) = omega (arith, whole) in
+    deep_step place depth 40 ((matched_text inner ++ (41 ∷ matched_text more)) ++ bs)
+    ∙ ap (semicolon_from (place + 1) (suc (suc depth))) (append_assoc (matched_text inner) (41 ∷ matched_text more) bs)
     ∙ inside_passed inner (place + 1) (suc depth) (41 ∷ behind) parts.0 ∙ deep_step place' (suc depth) 41 behind
     ∙ inside_passed more (place' + 1) depth bs parts.1 ∙ ap (λ n. semicolon_from n (suc depth) bs) count
 
@@ -178,12 +178,12 @@ comment_opening : (text : List ℕ) → IsComment text → Opening text
 unfolding command_len is_gap is_blank is_mark
 comment_opening text h = record {
   first = 40;
-  more = text_of h.inside ++ (41 ∷ h.behind);
+  more = matched_text h.inside ++ (41 ∷ h.behind);
   parts = h.parts;
   no_gap = refl;
   no_end = refl;
   len = λ rest.
-      let inner = text_of h.inside in
+      let inner = matched_text h.inside in
       let place = 1 + length inner in
       let behind = h.behind ++ (59 ∷ rest) in
       let passed : semicolon_from 1 1 ((inner ++ (41 ∷ h.behind)) ++ (59 ∷ rest)) ≡ semicolon_from place 1 (41 ∷ behind) =

@@ -155,9 +155,9 @@ pub record NextChange (text : List ℕ) (c : Change) : Type 0 where
   pub spelled : IsChange spelling c
 
 -- { {blank} change } {blank}
-abbrev pub AreChanges : List ℕ → List Change → Type 0
-AreChanges text [] = AreBlanks text
-AreChanges text (c ∷ cs) = (first : NextChange text c) × AreChanges first.rest cs
+abbrev pub AreCallChanges : List ℕ → List Change → Type 0
+AreCallChanges text [] = AreBlanks text
+AreCallChanges text (c ∷ cs) = (first : NextChange text c) × AreCallChanges first.rest cs
 
 -- "C" integer { {blank} change } {blank}
 pub record IsCall (text : List ℕ) (symbol : ℕ) (changes : List Change) : Type 0 where
@@ -165,7 +165,7 @@ pub record IsCall (text : List ℕ) (symbol : ℕ) (changes : List Change) : Typ
   pub rest : List ℕ
   pub parts : text ≡ 67 ∷ (symbol_text ++ rest)
   pub symbol_is : IsInteger symbol_text symbol
-  pub changed : AreChanges rest changes
+  pub changed : AreCallChanges rest changes
 
 -- ---- extensions and comments
 
@@ -183,10 +183,10 @@ pub data Matched : Type 0 where
   byte : ℕ → Matched → Matched
   within : Matched → Matched → Matched
 
-abbrev pub text_of : Matched → List ℕ
-text_of nothing = []
-text_of (byte b more) = b ∷ text_of more
-text_of (within inner more) = 40 ∷ (text_of inner ++ (41 ∷ text_of more))
+abbrev pub matched_text : Matched → List ℕ
+matched_text nothing = []
+matched_text (byte b more) = b ∷ matched_text more
+matched_text (within inner more) = 40 ∷ (matched_text inner ++ (41 ∷ matched_text more))
 
 -- no single byte is a parenthesis
 abbrev pub is_free : Matched → Bool
@@ -198,7 +198,7 @@ is_free (within inner more) = is_free inner && is_free more
 pub record IsComment (text : List ℕ) : Type 0 where
   pub inside : Matched
   pub behind : List ℕ
-  pub parts : text ≡ 40 ∷ (text_of inside ++ (41 ∷ behind))
+  pub parts : text ≡ 40 ∷ (matched_text inside ++ (41 ∷ behind))
   pub free : IsTrue (is_free inside)
   pub behind_blank : AreBlanks behind
 

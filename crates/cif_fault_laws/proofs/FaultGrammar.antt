@@ -23,7 +23,7 @@ use Rattle.cif_read.specs.declared.fault.CifFault.{CifFault}
 use Rattle.cif_read.specs.declared.fault.FaultKind.{FaultKind}
 use Rattle.cif_read.specs.declared.fault.FaultKind.TheVariants.{AfterEnd, NoEnd, Syntax}
 use Rattle.cif_read.specs.Binding.{IsBoundAs}
-use Rattle.cif_read.specs.Content.{after_command, after_commands, content_of, effect_of, is_inside, start}
+use Rattle.cif_read.specs.Content.{after_command_at, after_commands, content_of, effect_of, empty_content, is_inside}
 use Rattle.cif_read.specs.Meaning.{IsEndOf, after_bytes, after_end, begins_with_end, content_in}
 use Rattle.cif_read.specs.Meaning.{definition_kind, fault_at, no_memory, read_as, unread_kind}
 use Rattle.cif_read.specs.Steps.{and_then, at_offset}
@@ -267,7 +267,7 @@ module _ (n offset : ℕ) (content : Content) (text : List ℕ) (fault : CifFaul
     -- the command is good, and the fault stands behind it
     refused_behind : (next : Content) → RefusedBelow n → after_bytes content place_of bytes ≡ Ok next
         → rest_means next (offset + length text) (behind_command len (skip is_gap text)) ≡ Err fault → Refused content offset text fault
-    unfolding place_of after_commands after_command bytes behind
+    unfolding place_of after_commands after_command_at bytes behind
     refused_behind next shorter done e =
         let gap = take_while is_gap text in
         let read = read_from content next place_of bytes done in
@@ -335,7 +335,7 @@ refused_from (suc n) offset content text fault short e = refused_step n offset c
 has_fault : (text : List ℕ) (fault : CifFault) → content_in text ≡ Err fault → HasFault text fault
 unfolding content_of
 has_fault text fault e =
-    let found = refused_from (length text + 1) 0 start text fault (omega arith) (rw zero-add (start_means text ∙ e)) in
+    let found = refused_from (length text + 1) 0 empty_content text fault (omega arith) (rw zero-add (start_means text ∙ e)) in
     record {
       before = found.before;
       content = found.next;

@@ -19,14 +19,15 @@ use Rattle.cif_read.specs.declared.fault.FaultKind.{FaultKind}
 use Rattle.cif_read.specs.declared.fault.FaultKind.TheVariants.{OffGrid, TooBig}
 use Rattle.cif_read.specs.Boxes.{box_at, box_between, greater_place, high_corner, is_askew, is_flat, is_on_axis, is_whole_box}
 use Rattle.cif_read.specs.Boxes.{is_whole_side, is_zero, lesser_place, low_corner, ring_between, side_x, side_y, some_vertex}
-use Rattle.cif_read.specs.Content.{after_box, scale_of}
+use Rattle.cif_read.specs.Content.{after_box, current_scale}
 use Rattle.cif_read.specs.Scales.{IsRatio, doubled, is_whole, scaled}
 use Rattle.cif_read.proofs.RingFacts.{taken}
 use Rattle.cif_read.proofs.ScaleLemmas.{scaled_exact}
-use Rattle.cif_meaning_laws.specs.Boxes.{BoxesHoldTheirPoints, HasZeroSide, IsBetween, IsBoxOf, IsInBox, IsWithinHalf, away, direction_of}
+use Rattle.cif_meaning_laws.specs.Boxes.{BoxesHoldTheirPoints, HasZeroSide, IsBoxOf, IsInBox, IsInRectangle, IsWithinHalf, away}
+use Rattle.cif_meaning_laws.specs.Boxes.{box_direction}
 use Rattle.cif_meaning_laws.specs.Boxes.{x_axis}
 use Rattle.cif_meaning_laws.specs.Directions.{IsLength, x_of, y_of}
-use Rattle.cif_meaning_laws.specs.Distances.{IsDrawn}
+use Rattle.cif_meaning_laws.specs.Distances.{DrawsRing}
 use Rattle.cif_meaning_laws.proofs.ChangeLemmas.{askew, no_value, not_none, vertex}
 use Rattle.cif_meaning_laws.proofs.DistanceLemmas.{box_drew}
 
@@ -247,16 +248,16 @@ straight_is : (o : Option Vertex) → some_vertex (λ v. not (is_on_axis v)) o �
 straight_is None h = refl
 straight_is (Some v) h = grind (arith, nat_tests)
 
-box_aligned : (b : BoxNumbers) (n : ℤ) → is_askew b ≡ false → IsAligned (direction_of b) b.length b.width (side_x b) (side_y b) n
+box_aligned : (b : BoxNumbers) (n : ℤ) → is_askew b ≡ false → IsAligned (box_direction b) b.length b.width (side_x b) (side_y b) n
 box_aligned b n straight =
-    let v = direction_of b in
-    subst (λ u. IsAligned (direction_of b) b.length b.width (cond u b.width b.length) (cond u b.length b.width) n)
+    let v = box_direction b in
+    subst (λ u. IsAligned (box_direction b) b.length b.width (cond u b.width b.length) (cond u b.length b.width) n)
     (sym (upright_is b.direction))
     (aligned v.x.negative v.x.magnitude v.y.negative v.y.magnitude (straight_is b.direction straight) b.length b.width n)
 
 box_points : (scale : Scale) (b : BoxNumbers) → IsRatio scale → is_askew b ≡ false → is_whole_box scale b ≡ true → (length : ℤ)
-    → (al : IsAligned (direction_of b) b.length b.width (side_x b) (side_y b) (pos scale.numerator)) → (p : Point)
-    → IsBetween (low_corner scale b) (high_corner scale b) p ↔ IsInBox scale b al.reach p
+    → (al : IsAligned (box_direction b) b.length b.width (side_x b) (side_y b) (pos scale.numerator)) → (p : Point)
+    → IsInRectangle (low_corner scale b) (high_corner scale b) p ↔ IsInBox scale b al.reach p
 box_points scale b ratio straight whole length al p =
     let sides = and_parts (is_whole_side scale b.centre.x (side_x b)) (is_whole_side scale b.centre.y (side_y b)) whole in
     let x = are_ends scale b.centre.x (side_x b) ratio sides.0 in
@@ -321,8 +322,8 @@ unfolding box_at
 box_shape scale b ring ratio straight e =
     taken (not (is_whole_box scale b)) OffGrid _ ring e (λ whole e. between_box scale b ring ratio straight (grind (arith, nat_tests)) e)
 
-box_law : (content next : Content) (b : BoxNumbers) → IsRatio (scale_of content.definition) → after_box content b ≡ Ok next
-    → IsDrawn content next (HasZeroSide b) (IsBoxOf (scale_of content.definition) b)
+box_law : (content next : Content) (b : BoxNumbers) → IsRatio (current_scale content.definition) → after_box content b ≡ Ok next
+    → DrawsRing content next (HasZeroSide b) (IsBoxOf (current_scale content.definition) b)
 box_law content next b ratio e =
     let d = box_drew content next b e in
     record {
@@ -330,7 +331,7 @@ box_law content next b ratio e =
       set = d.drew.set;
       ring = d.drew.ring;
       next_is = d.drew.next_is;
-      wanted = box_shape (scale_of content.definition) b d.drew.ring ratio d.straight d.drew.is;
+      wanted = box_shape (current_scale content.definition) b d.drew.ring ratio d.straight d.drew.is;
     }
 
 pub boxes_law : BoxesHoldTheirPoints

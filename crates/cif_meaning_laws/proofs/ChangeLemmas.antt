@@ -24,12 +24,13 @@ use Rattle.cif_commands.specs.declared.paths.Vertex.{Vertex}
 use Rattle.cif_read.specs.declared.content.Content.{Content}
 use Rattle.cif_read.specs.declared.fault.FaultKind.TheVariants.{OffAxis, OffGrid}
 use Rattle.cif_read.specs.Boxes.{is_on_axis}
-use Rattle.cif_read.specs.Calls.{call_turn, origin, is_askew_change, is_whole_change, turn_in_range, turn_of, turn_or_fault, turned_by}
-use Rattle.cif_read.specs.Content.{after_call, scale_of}
+use Rattle.cif_read.specs.Calls.{call_turn, origin, is_askew_change, is_whole_change, turn_in_range, turn_of, turn_or_fault}
+use Rattle.cif_read.specs.Calls.{turn_changed_by}
+use Rattle.cif_read.specs.Content.{after_call, current_scale}
 use Rattle.cif_read.specs.Scales.{IsRatio, doubled, is_whole, scaled, value_of}
 use Rattle.cif_read.proofs.RingFacts.{taken}
 use Rattle.cif_read.proofs.ScaleLemmas.{scaled_exact}
-use Rattle.cif_meaning_laws.specs.Changes.{CallsMovePoints, IsCallBy, IsTurned, TakeInTurn, Takes}
+use Rattle.cif_meaning_laws.specs.Changes.{CallsMovePoints, IsCallBy, IsRotated, MapsPoint, TakeInTurn}
 use Rattle.cif_meaning_laws.specs.Directions.{IsLength, x_of, y_of}
 use Rattle.cif_meaning_laws.specs.Distances.{IsDistance}
 use Rattle.cif_meaning_laws.proofs.DistanceLemmas.{call_called, only_units}
@@ -75,7 +76,7 @@ no_value false = refl
 
 -- where a turn by a direction takes a point, that is told by the direction's numbers and its length
 turned_one : (v : Vertex) (k u w : ℤ) → x_of v ≡ u → y_of v ≡ w → pos 0 <ℤ k → k *ℤ k ≡ u *ℤ u +ℤ w *ℤ w → (p t q : Point)
-    → t.x *ℤ k ≡ p.x *ℤ u -ℤ p.y *ℤ w → t.y *ℤ k ≡ p.x *ℤ w +ℤ p.y *ℤ u → IsTurned v p q ↔ (t ≡ q)
+    → t.x *ℤ k ≡ p.x *ℤ u -ℤ p.y *ℤ w → t.y *ℤ k ≡ p.x *ℤ w +ℤ p.y *ℤ u → IsRotated v p q ↔ (t ≡ q)
 turned_one v k u w is_u is_w some square p t q is_x is_y = (forth, back)
   where
     length : IsLength v k
@@ -87,15 +88,15 @@ turned_one v k u w is_u is_w some square p t q is_x is_y = (forth, back)
     at_y : t.y *ℤ k ≡ p.x *ℤ y_of v +ℤ p.y *ℤ x_of v
     at_y = is_y ∙ ap₂ (λ a b. p.x *ℤ b +ℤ p.y *ℤ a) (sym is_u) (sym is_w)
 
-    forth : IsTurned v p q → t ≡ q
+    forth : IsRotated v p q → t ≡ q
     forth h =
         let same = one_length v h.length k h.is_length length in
         same_point t q
         (cancel_same k t.x q.x some (*ℤ_comm k t.x ∙ at_x ∙ sym h.x ∙ ap (λ l. q.x *ℤ l) same ∙ *ℤ_comm q.x k))
         (cancel_same k t.y q.y some (*ℤ_comm k t.y ∙ at_y ∙ sym h.y ∙ ap (λ l. q.y *ℤ l) same ∙ *ℤ_comm q.y k))
 
-    back : t ≡ q → IsTurned v p q
-    back e = subst (IsTurned v p) e (record { length = k; is_length = length; x = at_x; y = at_y })
+    back : t ≡ q → IsRotated v p q
+    back e = subst (IsRotated v p) e (record { length = k; is_length = length; x = at_x; y = at_y })
 
 some_of : (m : ℕ) → pos 0 <ℤ pos (suc m)
 some_of m = omega (arith, linear)
@@ -159,7 +160,7 @@ south_is scale a n p =
 
 direction : (scale : Scale) (x_negative : Bool) (x : ℕ) (y_negative : Bool) (y : ℕ) → is_on_axis (vertex x_negative x y_negative y) ≡ true
     → (p q : Point)
-    → IsTurned (vertex x_negative x y_negative y) p q ↔ (turned (turn_of scale (Direction (vertex x_negative x y_negative y))) p ≡ q)
+    → IsRotated (vertex x_negative x y_negative y) p q ↔ (turned (turn_of scale (Direction (vertex x_negative x y_negative y))) p ≡ q)
 unfolding turned
 direction scale a zero b zero h p q = absurd cc
 direction scale a (suc m) b (suc n) h p q = absurd (false≢true (sym (askew a m b n) ∙ h))
@@ -170,11 +171,11 @@ direction scale true (suc m) b zero h p q =
     turned_one (vertex true (suc m) b 0) (pos (suc m)) (neg_ℤ (pos (suc m))) (pos 0) refl (no_value b) (some_of m)
     (square_minus_x (pos (suc m))) p _ q (west_x p.x p.y (pos (suc m))) (west_y p.x p.y (pos (suc m)))
 direction scale a zero false (suc n) h p q =
-    subst (λ (t : Point). IsTurned (vertex a 0 false (suc n)) p q ↔ (t ≡ q)) (sym (north_is scale a n p))
+    subst (λ (t : Point). IsRotated (vertex a 0 false (suc n)) p q ↔ (t ≡ q)) (sym (north_is scale a n p))
     (turned_one (vertex a 0 false (suc n)) (pos (suc n)) (pos 0) (pos (suc n)) (no_value a) refl (some_of n) (square_y (pos (suc n))) p
     (record { x = neg_ℤ p.y +ℤ pos 0; y = p.x +ℤ pos 0 }) q (north_x p.x p.y (pos (suc n))) (north_y p.x p.y (pos (suc n))))
 direction scale a zero true (suc n) h p q =
-    subst (λ (t : Point). IsTurned (vertex a 0 true (suc n)) p q ↔ (t ≡ q)) (sym (south_is scale a n p))
+    subst (λ (t : Point). IsRotated (vertex a 0 true (suc n)) p q ↔ (t ≡ q)) (sym (south_is scale a n p))
     (turned_one (vertex a 0 true (suc n)) (pos (suc n)) (pos 0) (neg_ℤ (pos (suc n))) (no_value a) refl (some_of n)
     (square_minus_y (pos (suc n))) p (record { x = p.y +ℤ pos 0; y = neg_ℤ p.x +ℤ pos 0 }) q
     (south_x p.x p.y (pos (suc n))) (south_y p.x p.y (pos (suc n))))
@@ -198,7 +199,7 @@ moved_back scale n a b whole e =
     subst (IsDistance scale n) same (scaled_exact scale (doubled n) whole)
 
 one_change : (scale : Scale) (c : Change) → IsRatio scale → is_askew_change c ≡ false → is_whole_change scale c ≡ true → (p q : Point)
-    → Takes scale c p q ↔ (turned (turn_of scale c) p ≡ q)
+    → MapsPoint scale c p q ↔ (turned (turn_of scale c) p ≡ q)
 unfolding turned
 one_change scale (Shift v) ratio straight whole p q =
     let both = and_parts (is_whole scale (doubled v.x)) (is_whole scale (doubled v.y)) whole in (
@@ -229,16 +230,16 @@ or_parts true b h = absurd cc
 or_parts false b h = (refl, h)
 
 in_turn : (scale : Scale) (from : Turn) (cs : List Change) (turn : Turn) → IsRatio scale → list_any is_askew_change cs ≡ false
-    → list_all (is_whole_change scale) cs ≡ true → turned_by scale from cs ≡ Some turn → (p q : Point)
+    → list_all (is_whole_change scale) cs ≡ true → turn_changed_by scale from cs ≡ Some turn → (p q : Point)
     → TakeInTurn scale cs (turned from p) q ↔ (turned turn p ≡ q)
-unfolding turned_by
+unfolding turn_changed_by
 in_turn scale from [] turn ratio straight whole e p q =
     let same : from ≡ turn = cc in
     ((λ h. ap (λ t. turned t p) (sym same) ∙ h), (λ h. ap (λ t. turned t p) same ∙ h))
 in_turn scale from (c ∷ cs) turn ratio straight whole e p q =
     let bent = or_parts (is_askew_change c) (list_any is_askew_change cs) straight in
     let both = and_parts (is_whole_change scale c) (list_all (is_whole_change scale) cs) whole in
-    after_some (turn_in_range (composed from (turn_of scale c))) (λ next. turned_by scale next cs) turn e (λ next is rest.
+    after_some (turn_in_range (composed from (turn_of scale c))) (λ next. turn_changed_by scale next cs) turn e (λ next is rest.
     let same : composed from (turn_of scale c) ≡ next =
     (cond_some (is_in_range (composed from (turn_of scale c)).shift) (composed from (turn_of scale c)) next is).1 in
     let led : turned (turn_of scale c) (turned from p) ≡ turned next p =
@@ -254,7 +255,7 @@ unfolding turned
 not_turned p = same_point _ p (plus_zero p.x) (plus_zero p.y)
 
 in_turn_from : (scale : Scale) (cs : List Change) (found : Option Turn) (turn : Turn) → IsRatio scale → list_any is_askew_change cs ≡ false
-    → list_all (is_whole_change scale) cs ≡ true → turned_by scale unturned cs ≡ found → turn_or_fault found ≡ Ok turn → (p q : Point)
+    → list_all (is_whole_change scale) cs ≡ true → turn_changed_by scale unturned cs ≡ found → turn_or_fault found ≡ Ok turn → (p q : Point)
     → TakeInTurn scale cs p q ↔ (turned turn p ≡ q)
 in_turn_from scale cs None turn ratio straight whole is e p q = absurd cc
 in_turn_from scale cs (Some found) turn ratio straight whole is e p q =
@@ -268,14 +269,15 @@ unfolding call_turn
 call_points scale cs turn ratio e p q =
     taken (list_any is_askew_change cs) OffAxis _ turn e (λ straight e.
     taken (not (list_all (is_whole_change scale) cs)) OffGrid _ turn e (λ whole e.
-    in_turn_from scale cs (turned_by scale unturned cs) turn ratio straight (not_false (list_all (is_whole_change scale) cs) whole) refl e
+    in_turn_from scale cs (turn_changed_by scale unturned cs) turn ratio straight
+        (not_false (list_all (is_whole_change scale) cs) whole) refl e
     p q))
 
-call_by : (content next : Content) (offset symbol : ℕ) (cs : List Change) → IsRatio (scale_of content.definition)
+call_by : (content next : Content) (offset symbol : ℕ) (cs : List Change) → IsRatio (current_scale content.definition)
     → after_call content offset symbol cs ≡ Ok next → IsCallBy content next offset symbol cs
 call_by content next offset symbol cs ratio e =
     let c = call_called content next offset symbol cs e in
-    record { turn = c.turn; next_is = c.next_is; points = λ p q. call_points (scale_of content.definition) cs c.turn ratio c.is p q }
+    record { turn = c.turn; next_is = c.next_is; points = λ p q. call_points (current_scale content.definition) cs c.turn ratio c.is p q }
 
 more_changes : (scale : Scale) (first more : List Change) (p q : Point)
     → TakeInTurn scale (first ++ more) p q ↔ ((m : Point) × TakeInTurn scale first p m × TakeInTurn scale more m q)

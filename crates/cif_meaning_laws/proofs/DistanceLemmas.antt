@@ -22,9 +22,10 @@ use Rattle.cif_read.specs.declared.fault.FaultKind.TheVariants.{LongName, OffAxi
 use Rattle.lay_point.specs.declared.turn.Turn.{Turn}
 use Rattle.cif_read.specs.Boxes.{box_at, is_askew, is_big_box}
 use Rattle.cif_read.specs.Calls.{call_turn}
-use Rattle.cif_read.specs.Content.{after_box, after_call, after_layer, after_polygon, after_start, begun, called, drawn, effect_of}
+use Rattle.cif_read.specs.Content.{after_box, after_call, after_layer, after_polygon, after_start, called, definition_begun, drawn}
+use Rattle.cif_read.specs.Content.{effect_of}
 use Rattle.cif_read.specs.Content.{finished}
-use Rattle.cif_read.specs.Content.{is_big_call, is_inside, on_layer, scale_of}
+use Rattle.cif_read.specs.Content.{current_scale, is_big_call, is_inside, on_layer}
 use Rattle.cif_read.specs.Polygons.{is_too_big, polygon_at}
 use Rattle.cif_read.specs.Scales.{IsRatio, doubled, is_whole, scaled}
 use Rattle.cif_read.specs.Steps.{and_then}
@@ -92,31 +93,31 @@ on_layer_drew content next (Some layer) (Ok ring) set e =
     record { layer = layer; set = set; ring = ring; is = refl; next_is = sym same }
 
 pub polygon_drew : (content next : Content) (vertices : List Vertex) → after_polygon content vertices ≡ Ok next
-    → Drew content next (polygon_at (scale_of content.definition) vertices)
+    → Drew content next (polygon_at (current_scale content.definition) vertices)
 unfolding after_polygon
 polygon_drew content next vertices e =
     taken (list_any is_too_big vertices) TooBig _ next e (λ _ e.
-    on_layer_drew content next content.layer (polygon_at (scale_of content.definition) vertices) refl e)
+    on_layer_drew content next content.layer (polygon_at (current_scale content.definition) vertices) refl e)
 
 pub record DrewBox (content next : Content) (b : BoxNumbers) : Type 0 where
   pub straight : is_askew b ≡ false
-  pub drew : Drew content next (box_at (scale_of content.definition) b)
+  pub drew : Drew content next (box_at (current_scale content.definition) b)
 
 pub box_drew : (content next : Content) (b : BoxNumbers) → after_box content b ≡ Ok next → DrewBox content next b
 unfolding after_box
 box_drew content next b e =
     taken (is_big_box b) TooBig _ next e (λ _ e. taken (is_askew b) OffAxis _ next e (λ straight e. record {
       straight = straight;
-      drew = on_layer_drew content next content.layer (box_at (scale_of content.definition) b) refl e;
+      drew = on_layer_drew content next content.layer (box_at (current_scale content.definition) b) refl e;
     }))
 
 pub record CalledBy (content next : Content) (offset symbol : ℕ) (changes : List Change) : Type 0 where
   pub turn : Turn
-  pub is : call_turn (scale_of content.definition) changes ≡ Ok turn
+  pub is : call_turn (current_scale content.definition) changes ≡ Ok turn
   pub next_is : next ≡ called content offset symbol turn
 
 turned_call : (content next : Content) (offset symbol : ℕ) (changes : List Change) (r : Result Turn FaultKind)
-    → call_turn (scale_of content.definition) changes ≡ r
+    → call_turn (current_scale content.definition) changes ≡ r
     → and_then r (λ turn. Ok (called content offset symbol turn)) ≡ Ok next → CalledBy content next offset symbol changes
 turned_call content next offset symbol changes (Ok turn) is e =
     let same : called content offset symbol turn ≡ next = cc in
@@ -128,36 +129,36 @@ pub call_called : (content next : Content) (offset symbol : ℕ) (changes : List
 unfolding after_call
 call_called content next offset symbol changes e =
     taken (is_big_call symbol changes) TooBig _ next e (λ _ e.
-    turned_call content next offset symbol changes (call_turn (scale_of content.definition) changes) refl e)
+    turned_call content next offset symbol changes (call_turn (current_scale content.definition) changes) refl e)
 
 -- ---- scales
 
 -- a command that keeps the definition keeps its scale
-kept_scale : (content next : Content) (c : Command) → IsRatio (scale_of content.definition)
-    → scale_of next.definition ≡ scale_of content.definition → IsRatio (scale_of next.definition)
+kept_scale : (content next : Content) (c : Command) → IsRatio (current_scale content.definition)
+    → current_scale next.definition ≡ current_scale content.definition → IsRatio (current_scale next.definition)
 kept_scale content next c ratio e = subst IsRatio (sym e) ratio
 
-drawn_scale : (content : Content) (layer : List ℕ) (ring : Option (List Point)) → scale_of (drawn content layer ring).definition
-    ≡ scale_of content.definition
+drawn_scale : (content : Content) (layer : List ℕ) (ring : Option (List Point)) → current_scale (drawn content layer ring).definition
+    ≡ current_scale content.definition
 drawn_scale content layer None = refl
 drawn_scale content layer (Some ring) = refl
 
 drew_scale : (content next : Content) (drawing : Result (Option (List Point)) FaultKind) → Drew content next drawing
-    → scale_of next.definition ≡ scale_of content.definition
+    → current_scale next.definition ≡ current_scale content.definition
 drew_scale content next drawing d =
-    ap (λ (n : Content). scale_of n.definition) d.next_is ∙ drawn_scale content d.layer d.ring
+    ap (λ (n : Content). current_scale n.definition) d.next_is ∙ drawn_scale content d.layer d.ring
 
 layer_scale : (content next : Content) (name : List ℕ) → after_layer content name ≡ Ok next
-    → scale_of next.definition ≡ scale_of content.definition
+    → current_scale next.definition ≡ current_scale content.definition
 unfolding after_layer
 layer_scale content next name e =
     let made : Content = record content { layer = Some name } in
     taken (nat_lt MAX_LAYER_NAME (length name)) LongName (Ok made) next e (λ _ e.
     let same : made ≡ next = cc in
-    ap (λ (n : Content). scale_of n.definition) (sym same))
+    ap (λ (n : Content). current_scale n.definition) (sym same))
 
 begun_scale : (content next : Content) (offset : ℕ) (d : Definition) (fault : Option FaultKind)
-    → definition_fault content.symbols d ≡ fault → begun content d fault ≡ Ok next → IsNextScale content next (Start d)
+    → definition_fault content.symbols d ≡ fault → definition_begun content d fault ≡ Ok next → IsNextScale content next (Start d)
 begun_scale content next offset d (Some kind) is e = absurd cc
 begun_scale content next offset d None is e =
     let made : Content = record content {
@@ -186,7 +187,7 @@ finish_scale content next (Some o) e =
       ratio = record { some = omega arith; numerator = omega arith; denominator = omega arith };
     })
 
-pub next_scale : (content next : Content) (offset : ℕ) (c : Command) → IsRatio (scale_of content.definition)
+pub next_scale : (content next : Content) (offset : ℕ) (c : Command) → IsRatio (current_scale content.definition)
     → effect_of content offset c ≡ Ok next → IsNextScale content next c
 next_scale content next offset (Polygon vertices) ratio e =
     let same = drew_scale content next _ (polygon_drew content next vertices e) in
@@ -200,15 +201,17 @@ next_scale content next offset (Layer name) ratio e =
 next_scale content next offset (Start d) ratio e = start_scale content next offset d e
 next_scale content next offset Finish ratio e = finish_scale content next content.definition e
 next_scale content next offset (Call symbol cs) ratio e =
-    let same : scale_of next.definition ≡ scale_of content.definition =
-    ap (λ (n : Content). scale_of n.definition) (call_called content next offset symbol cs e).next_is in
+    let same : current_scale next.definition ≡ current_scale content.definition =
+    ap (λ (n : Content). current_scale n.definition) (call_called content next offset symbol cs e).next_is in
     record { scale = same; ratio = kept_scale content next (Call symbol cs) ratio same }
 next_scale content next offset Extension ratio e =
     let made : Content = record content { extensions = content.extensions + 1 } in
     let is : made ≡ next = cc in
-    let same : scale_of next.definition ≡ scale_of content.definition = ap (λ (n : Content). scale_of n.definition) (sym is) in
+    let same : current_scale next.definition ≡ current_scale content.definition =
+        ap (λ (n : Content). current_scale n.definition) (sym is) in
     record { scale = same; ratio = kept_scale content next Extension ratio same }
 next_scale content next offset Comment ratio e =
     let is : content ≡ next = cc in
-    let same : scale_of next.definition ≡ scale_of content.definition = ap (λ (n : Content). scale_of n.definition) (sym is) in
+    let same : current_scale next.definition ≡ current_scale content.definition =
+        ap (λ (n : Content). current_scale n.definition) (sym is) in
     record { scale = same; ratio = kept_scale content next Comment ratio same }

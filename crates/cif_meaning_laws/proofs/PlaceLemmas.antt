@@ -21,12 +21,12 @@ use Rattle.cif_commands.specs.declared.paths.Vertex.{Vertex}
 use Rattle.cif_read.specs.declared.content.Content.{Content}
 use Rattle.cif_read.specs.declared.fault.FaultKind.TheVariants.{OffGrid}
 use Rattle.cif_read.specs.Calls.{origin}
-use Rattle.cif_read.specs.Content.{after_polygon, scale_of}
+use Rattle.cif_read.specs.Content.{after_polygon, current_scale}
 use Rattle.cif_read.specs.Polygons.{point_in_range, points_from, polygon_at, ring_of_points, ring_or_none}
 use Rattle.cif_read.specs.Scales.{IsRatio, doubled, is_whole, is_whole_vertex, scaled_vertex}
 use Rattle.cif_read.proofs.RingFacts.{taken}
 use Rattle.cif_read.proofs.ScaleLemmas.{scaled_exact}
-use Rattle.cif_meaning_laws.specs.Distances.{ArePlaces, AreAtTwo, DistancesAreScaled, IsDrawn, IsPlace, IsPolygonOf}
+use Rattle.cif_meaning_laws.specs.Distances.{ArePlaces, AreAtTwo, DistancesAreScaled, DrawsRing, IsPlace, IsPolygonOf}
 use Rattle.cif_meaning_laws.proofs.DistanceLemmas.{is_scaled, next_scale, only_units, polygon_drew}
 
 -- ---- what is left of a list
@@ -247,9 +247,10 @@ polygon_shape scale vs ring ratio e =
     taken (not (list_all (is_whole_vertex scale) vs)) OffGrid _ ring e (λ whole e.
     points_shape scale vs (points_from scale [] vs) ring ratio (grind (arith, nat_tests)) refl e)
 
-polygon_law : (content next : Content) (vertices : List Vertex) → IsRatio (scale_of content.definition)
+polygon_law : (content next : Content) (vertices : List Vertex) → IsRatio (current_scale content.definition)
     → after_polygon content vertices ≡ Ok next
-    → IsDrawn content next (AreAtTwo (scale_of content.definition) vertices) (IsPolygonOf (scale_of content.definition) vertices)
+    → DrawsRing content next (AreAtTwo (current_scale content.definition) vertices)
+        (IsPolygonOf (current_scale content.definition) vertices)
 polygon_law content next vertices ratio e =
     let d = polygon_drew content next vertices e in
     record {
@@ -257,7 +258,7 @@ polygon_law content next vertices ratio e =
       set = d.set;
       ring = d.ring;
       next_is = d.next_is;
-      wanted = polygon_shape (scale_of content.definition) vertices d.ring ratio d.is;
+      wanted = polygon_shape (current_scale content.definition) vertices d.ring ratio d.is;
     }
 
 pub distances_law : DistancesAreScaled

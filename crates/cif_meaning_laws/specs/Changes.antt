@@ -11,7 +11,7 @@ use Rattle.cif_commands.specs.declared.definitions.Scale.{Scale}
 use Rattle.cif_commands.specs.declared.paths.Vertex.{Vertex}
 use Rattle.cif_commands.specs.Commands as command
 use Rattle.cif_read.specs.declared.content.Content.{Content}
-use Rattle.cif_read.specs.Content.{called, effect_of, scale_of}
+use Rattle.cif_read.specs.Content.{called, current_scale, effect_of}
 use Rattle.cif_read.specs.Scales.{IsRatio}
 use Rattle.cif_meaning_laws.specs.Directions.{IsLength, x_of, y_of}
 use Rattle.cif_meaning_laws.specs.Distances.{IsDistance}
@@ -23,32 +23,32 @@ pub record IsShifted (scale : Scale) (v : Vertex) (p q : Point) : Type 0 where
 
 -- the plane was turned round the origin, so that (1, 0) went to the direction's unit vector, and (0, 1) to the one a quarter
 -- turn anticlockwise from it
-pub record IsTurned (v : Vertex) (p q : Point) : Type 0 where
+pub record IsRotated (v : Vertex) (p q : Point) : Type 0 where
   pub length : ℤ
   pub is_length : IsLength v length
   pub x : q.x *ℤ length ≡ (p.x *ℤ x_of v) -ℤ (p.y *ℤ y_of v)
   pub y : q.y *ℤ length ≡ (p.x *ℤ y_of v) +ℤ (p.y *ℤ x_of v)
 
 -- a change takes one point to another
-abbrev pub Takes : Scale → Change → Point → Point → Type 0
-Takes scale (Shift v) p q = IsShifted scale v p q
-Takes scale MirrorX p q = (q.x ≡ neg_ℤ p.x) × (q.y ≡ p.y)
-Takes scale MirrorY p q = (q.x ≡ p.x) × (q.y ≡ neg_ℤ p.y)
-Takes scale (Direction v) p q = IsTurned v p q
+abbrev pub MapsPoint : Scale → Change → Point → Point → Type 0
+MapsPoint scale (Shift v) p q = IsShifted scale v p q
+MapsPoint scale MirrorX p q = (q.x ≡ neg_ℤ p.x) × (q.y ≡ p.y)
+MapsPoint scale MirrorY p q = (q.x ≡ p.x) × (q.y ≡ neg_ℤ p.y)
+MapsPoint scale (Direction v) p q = IsRotated v p q
 
 -- changes do, one after the other
 abbrev pub TakeInTurn : Scale → List Change → Point → Point → Type 0
 TakeInTurn scale [] p q = p ≡ q
-TakeInTurn scale (c ∷ cs) p q = (m : Point) × Takes scale c p m × TakeInTurn scale cs m q
+TakeInTurn scale (c ∷ cs) p q = (m : Point) × MapsPoint scale c p m × TakeInTurn scale cs m q
 
 -- a call of the symbol was kept, which takes a point where the changes take it
 pub record IsCallBy (content next : Content) (offset symbol : ℕ) (changes : List Change) : Type 0 where
   pub turn : Turn
   pub next_is : next ≡ called content offset symbol turn
-  pub points : (p q : Point) → TakeInTurn (scale_of content.definition) changes p q ↔ (turned turn p ≡ q)
+  pub points : (p q : Point) → TakeInTurn (current_scale content.definition) changes p q ↔ (turned turn p ≡ q)
 
 pub record CallsMovePoints : Type 0 where
-  pub calls : (content next : Content) (offset symbol : ℕ) (changes : List Change) → IsRatio (scale_of content.definition)
+  pub calls : (content next : Content) (offset symbol : ℕ) (changes : List Change) → IsRatio (current_scale content.definition)
       → effect_of content offset (command.Call symbol changes) ≡ Ok next → IsCallBy content next offset symbol changes
   -- more changes start from where the first ones led
   pub more : (scale : Scale) (first more : List Change) (p q : Point)

@@ -10,7 +10,7 @@ use Rattle.cif_commands.specs.Commands.{Command}
 use Rattle.cif_commands.specs.Commands as command
 use Rattle.cif_commands.specs.Definitions.{plain_scale}
 use Rattle.cif_read.specs.declared.content.Content.{Content}
-use Rattle.cif_read.specs.Content.{drawn, effect_of, scale_of, start}
+use Rattle.cif_read.specs.Content.{current_scale, drawn, effect_of, empty_content}
 use Rattle.cif_read.specs.Scales.{IsRatio, doubled, is_whole, scaled, value_of}
 
 -- these database units are the written distance at this scale
@@ -39,8 +39,8 @@ scale_after command.Comment scale = scale
 
 -- a scale that may be kept, and the next one
 pub record IsNextScale (content next : Content) (c : Command) : Type 0 where
-  pub scale : scale_of next.definition ≡ scale_after c (scale_of content.definition)
-  pub ratio : IsRatio (scale_of next.definition)
+  pub scale : current_scale next.definition ≡ scale_after c (current_scale content.definition)
+  pub ratio : IsRatio (current_scale next.definition)
 
 -- the points are places of these vertices, in their order; a vertex may be left out
 abbrev pub ArePlaces : Scale → List Vertex → List Point → Type 0
@@ -60,7 +60,7 @@ pub record AreAtTwo (scale : Scale) (vertices : List Vertex) : Type 0 where
   pub each : (v : Vertex) (p : Point) → Contains vertices v → IsPlace scale v p → (p ≡ one) ⊎ (p ≡ other)
 
 -- something was drawn on the layer that is set: a ring that is as wanted, or none, where that may be
-pub record IsDrawn (content next : Content) (MayDrop : Type 0) (IsWanted : List Point → Type 0) : Type 0 where
+pub record DrawsRing (content next : Content) (MayDrop : Type 0) (IsWanted : List Point → Type 0) : Type 0 where
   pub layer : List ℕ
   pub set : content.layer ≡ Some layer
   pub ring : Option (List Point)
@@ -70,9 +70,10 @@ pub record IsDrawn (content next : Content) (MayDrop : Type 0) (IsWanted : List 
 pub record DistancesAreScaled : Type 0 where
   pub distances : (scale : Scale) (n : Number) → IsRatio scale → IsScaled scale n
   -- the first scale is 1 to 1; each command leaves the one that the definition says, and it is a ratio
-  pub first : scale_of start.definition ≡ plain_scale
-  pub scales : (content next : Content) (offset : ℕ) (c : Command) → IsRatio (scale_of content.definition)
+  pub first : current_scale empty_content.definition ≡ plain_scale
+  pub scales : (content next : Content) (offset : ℕ) (c : Command) → IsRatio (current_scale content.definition)
       → effect_of content offset c ≡ Ok next → IsNextScale content next c
-  pub polygons : (content next : Content) (offset : ℕ) (vertices : List Vertex) → IsRatio (scale_of content.definition)
+  pub polygons : (content next : Content) (offset : ℕ) (vertices : List Vertex) → IsRatio (current_scale content.definition)
       → effect_of content offset (command.Polygon vertices) ≡ Ok next
-      → IsDrawn content next (AreAtTwo (scale_of content.definition) vertices) (IsPolygonOf (scale_of content.definition) vertices)
+      → DrawsRing content next (AreAtTwo (current_scale content.definition) vertices)
+          (IsPolygonOf (current_scale content.definition) vertices)

@@ -21,10 +21,10 @@ use Rattle.cif_commands.specs.Layers.{layer_of}
 use Rattle.cif_names.specs.declared.names.Names.{Names}
 use Rattle.cif_names.specs.declared.place.Place.{Place}
 use Rattle.cif_names.specs.Entries.{Label, coordinate_of, in_bits, label_command, label_of, label_text, layer_bytes, layer_text}
-use Rattle.cif_names.specs.Entries.{limit_of, name_text, number_text, product, scaled, sign_text, word_behind, word_text}
+use Rattle.cif_names.specs.Entries.{limit_of, name_text, number_text, product_in_units, scaled_to_units, sign_text, word_behind, word_text}
 use Rattle.cif_names.specs.Laws.{IsKeptLine, KeptLinesAreLines, is_kept_line, is_line}
-use Rattle.cif_names.specs.Names.{kept_after, kept_by, label_line, name_line, names_from, names_of, nothing, one_more}
-use Rattle.cif_names.specs.Places.{after_bracket, layer_at, layered, opened, outside, place_after}
+use Rattle.cif_names.specs.Names.{kept_after, label_line, name_line, names_after, names_from, names_of, nothing, with_line}
+use Rattle.cif_names.specs.Places.{after_bracket, layer_at, layered, outside, place_after, place_opened}
 use Rattle.cif_names.specs.Words.{field_at, integer_of, is_dark, is_space, only_word, word_at, word_by}
 use Rattle.cif_names.proofs.SameText.{is_line-other}
 
@@ -113,18 +113,19 @@ in_bits-small negative n = by negative (nat_le n (limit_of negative)) refl where
   by true false e = tt
   by false false e = tt
 
-scaled-small : (scale : Scale) (n : Number) → IfSome (scaled scale n) IsSmall
-unfolding scaled
-scaled-small scale n = by (scale.denominator == 0) (product scale n.magnitude % scale.denominator == 0) where
-  by : (t u : Bool) → IfSome (cond t None (cond u (in_bits n.negative (product scale n.magnitude / scale.denominator)) None)) IsSmall
+scaled_to_units-small : (scale : Scale) (n : Number) → IfSome (scaled_to_units scale n) IsSmall
+unfolding scaled_to_units
+scaled_to_units-small scale n = by (scale.denominator == 0) (product_in_units scale n.magnitude % scale.denominator == 0) where
+  by : (t u : Bool) → IfSome (cond t None (cond u (in_bits n.negative (product_in_units scale n.magnitude / scale.denominator)) None))
+      IsSmall
   by true u = tt
-  by false true = in_bits-small n.negative (product scale n.magnitude / scale.denominator)
+  by false true = in_bits-small n.negative (product_in_units scale n.magnitude / scale.denominator)
   by false false = tt
 
 coordinate-small : (scale : Scale) (word : List ℕ) → IfSome (coordinate_of scale word) IsSmall
 unfolding coordinate_of
 coordinate-small scale word =
-    bind_if (integer_of word) _ (λ _. ⊤) IsSmall (anything (integer_of word)) (λ n _. scaled-small scale n)
+    bind_if (integer_of word) _ (λ _. ⊤) IsSmall (anything (integer_of word)) (λ n _. scaled_to_units-small scale n)
 
 sign_plain : (n : Number) → IsPlain (sign_text n)
 sign_plain n = by (n.negative && not (n.magnitude == 0)) where
@@ -229,35 +230,36 @@ all_push : {X : Type 0} (P : X → Type 0) (xs : List X) (x : X) → AllByRecurs
 all_push P [] x all p = (p, tt)
 all_push P (y ∷ ys) x all p = (all.0, all_push P ys x all.1 p)
 
-one_more-kept : (kept : Names) (symbol : Option ℕ) (o : Option (List ℕ)) → AreKept kept → IfSome o IsKept → AreKept (one_more kept symbol o)
-one_more-kept kept symbol None are is = are
-one_more-kept kept symbol (Some line) are is =
+with_line-kept : (kept : Names) (symbol : Option ℕ) (o : Option (List ℕ)) → AreKept kept → IfSome o IsKept
+    → AreKept (with_line kept symbol o)
+with_line-kept kept symbol None are is = are
+with_line-kept kept symbol (Some line) are is =
     all_push IsKeptLine kept.entries (record { symbol = symbol; line = line }) are (record { one = is.0; kept = is.1 })
 
-kept_by-kept : (kept : Names) (place : Place) (o : Option (List ℕ × List ℕ)) → AreKept kept → IfSome place.layer IsPlain
-    → AreKept (kept_by kept place o)
-kept_by-kept kept place None are set = are
-kept_by-kept kept place (Some w) are set = by (bytes_eq w.0 (codes "9")) (bytes_eq w.0 (codes "94")) where
-  by : (t u : Bool) → AreKept (cond t (one_more kept place.symbol (name_line place.symbol w.1))
-      (cond u (one_more kept place.symbol (label_line place w.1)) kept))
-  by true u = one_more-kept kept place.symbol _ are (name_line-kept place.symbol w.1)
-  by false true = one_more-kept kept place.symbol _ are (label_line-kept place w.1 set)
+names_after-kept : (kept : Names) (place : Place) (o : Option (List ℕ × List ℕ)) → AreKept kept → IfSome place.layer IsPlain
+    → AreKept (names_after kept place o)
+names_after-kept kept place None are set = are
+names_after-kept kept place (Some w) are set = by (bytes_eq w.0 (codes "9")) (bytes_eq w.0 (codes "94")) where
+  by : (t u : Bool) → AreKept (cond t (with_line kept place.symbol (name_line place.symbol w.1))
+      (cond u (with_line kept place.symbol (label_line place w.1)) kept))
+  by true u = with_line-kept kept place.symbol _ are (name_line-kept place.symbol w.1)
+  by false true = with_line-kept kept place.symbol _ are (label_line-kept place w.1 set)
   by false false = are
 
 kept_after-kept : (kept : Names) (place : Place) (bytes : List ℕ) → AreKept kept → IfSome place.layer IsPlain
     → AreKept (kept_after kept place bytes)
 unfolding kept_after
-kept_after-kept kept place bytes are set = kept_by-kept kept place (word_at bytes) are set
+kept_after-kept kept place bytes are set = names_after-kept kept place (word_at bytes) are set
 
-opened-plain : (place : Place) (o : Option Definition) → IfSome place.layer IsPlain → IfSome (opened place o).layer IsPlain
-opened-plain place None set = set
-opened-plain place (Some d) set = tt
+place_opened-plain : (place : Place) (o : Option Definition) → IfSome place.layer IsPlain → IfSome (place_opened place o).layer IsPlain
+place_opened-plain place None set = set
+place_opened-plain place (Some d) set = tt
 
 after_bracket-plain : (place : Place) (bytes : List ℕ) → IfSome place.layer IsPlain → IfSome (after_bracket place bytes).layer IsPlain
 after_bracket-plain place [] set = set
 after_bracket-plain place (b ∷ bs) set = by (b == 83) (b == 70 && list_all is_blank bs) where
-  by : (t u : Bool) → IfSome (cond t (opened place (definition_of bs)) (cond u outside place)).layer IsPlain
-  by true u = opened-plain place (definition_of bs) set
+  by : (t u : Bool) → IfSome (cond t (place_opened place (definition_of bs)) (cond u outside place)).layer IsPlain
+  by true u = place_opened-plain place (definition_of bs) set
   by false true = tt
   by false false = set
 

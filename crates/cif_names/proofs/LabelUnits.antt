@@ -7,8 +7,8 @@ use Rattle.std.proofs.lemmas.Bool.Decides.{nat_tests}
 use Rattle.std.proofs.lemmas.Nat.{div-add-mod'}
 use Rattle.cif_scan.specs.declared.number.Number.{Number}
 use Rattle.cif_commands.specs.declared.definitions.Scale.{Scale}
-use Rattle.cif_names.specs.Entries.{in_bits, limit_of, product, scaled}
-use Rattle.cif_names.specs.Laws.{IsCoordinate, LabelsAreScaled}
+use Rattle.cif_names.specs.Entries.{in_bits, limit_of, product_in_units, scaled_to_units}
+use Rattle.cif_names.specs.Laws.{IsDistanceInUnits, LabelsAreScaled}
 
 -- ---- quotients
 
@@ -36,34 +36,35 @@ fits negative n units e = by (nat_le n (limit_of negative)) refl e where
     bits = grind (arith, nat_tests);
   }
 
-kept_units : (scale : Scale) (written units : Number) → scaled scale written ≡ Some units → IsCoordinate scale written units
-unfolding scaled
+kept_units : (scale : Scale) (written units : Number) → scaled_to_units scale written ≡ Some units → IsDistanceInUnits scale written units
+unfolding scaled_to_units
 kept_units scale written units e =
-    by (scale.denominator == 0) (product scale written.magnitude % scale.denominator == 0) refl e where
-      by : (t u : Bool) → (product scale written.magnitude % scale.denominator == 0) ≡ u
-          → cond t None (cond u (in_bits written.negative (product scale written.magnitude / scale.denominator)) None) ≡ Some units
-          → IsCoordinate scale written units
+    by (scale.denominator == 0) (product_in_units scale written.magnitude % scale.denominator == 0) refl e where
+      by : (t u : Bool) → (product_in_units scale written.magnitude % scale.denominator == 0) ≡ u
+          → cond t None (cond u (in_bits written.negative (product_in_units scale written.magnitude / scale.denominator)) None) ≡ Some units
+          → IsDistanceInUnits scale written units
       by true u f e = absurd cc
       by false false f e = absurd cc
       by false true f e =
-          let is = fits written.negative (product scale written.magnitude / scale.denominator) units e in
+          let is = fits written.negative (product_in_units scale written.magnitude / scale.denominator) units e in
           record {
-            distance = ap (λ k. k * scale.denominator) is.magnitude ∙ whole_quotient (product scale written.magnitude) scale.denominator f;
+            distance = ap (λ k. k * scale.denominator) is.magnitude
+                ∙ whole_quotient (product_in_units scale written.magnitude) scale.denominator f;
             sign = is.sign;
             bits = rw is.magnitude is.bits;
           }
 
 -- ---- what is there is kept
 
-only_units : (scale : Scale) (written units : Number) → 1 ≤ scale.denominator → IsCoordinate scale written units
-    → scaled scale written ≡ Some units
-unfolding scaled
+only_units : (scale : Scale) (written units : Number) → 1 ≤ scale.denominator → IsDistanceInUnits scale written units
+    → scaled_to_units scale written ≡ Some units
+unfolding scaled_to_units
 only_units scale written units some is =
     let positive : 0 < scale.denominator = omega (arith, some) in
     let some_scale : (scale.denominator == 0) ≡ false = grind (arith, nat_tests) in
-    let none : product scale written.magnitude % scale.denominator ≡ 0 =
+    let none : product_in_units scale written.magnitude % scale.denominator ≡ 0 =
     ap (λ k. k % scale.denominator) (sym is.distance) ∙ mul-mod_left units.magnitude scale.denominator in
-    let quotient : product scale written.magnitude / scale.denominator ≡ units.magnitude =
+    let quotient : product_in_units scale written.magnitude / scale.denominator ≡ units.magnitude =
     ap (λ k. k / scale.denominator) (sym is.distance) ∙ mul-div_left units.magnitude positive in
     let low : nat_le units.magnitude (limit_of written.negative) ≡ true = grind (arith, nat_tests, is.bits) in
     rw (some_scale, none, quotient, low) (ap (λ b. Some (record { negative = b; magnitude = units.magnitude })) (sym is.sign))

@@ -6,7 +6,7 @@ use Rattle.cif_commands.proofs.CutLemmas.{cut_rest-step, length-behind_command, 
 use Rattle.cif_read.specs.Meaning.{begins_with_end}
 use Rattle.cif_read.proofs.MeaningLemmas.{end_parts, front_breaks, front_command, front_end}
 use Rattle.cif_names.specs.Names.{names_from, names_of, nothing}
-use Rattle.cif_names.specs.Pieces.{HasNone, IsFirst}
+use Rattle.cif_names.specs.Pieces.{HasNoCommand, IsFirstPiece}
 use Rattle.cif_names.specs.Places.{outside}
 
 pieces-step : (total : ℕ) (rest : List ℕ) (front : Front) → front_of total rest ≡ front
@@ -16,18 +16,18 @@ pieces-step total rest front e =
     ∙ ap (λ f. (cut_by total rest f (λ len. cut_rest total (behind_command len rest))).pieces) e
 
 -- where the text ends there is none
-pub none_at_end : (rest : List ℕ) → begins_with_end rest ≡ true → HasNone rest
+pub none_at_end : (rest : List ℕ) → begins_with_end rest ≡ true → HasNoCommand rest
 none_at_end rest ends total =
     let parts = end_parts rest ends in
     pieces-step total rest _ (front_end total rest parts.0 parts.1)
 
 -- nor where it breaks off
-pub none_broken : (rest : List ℕ) → begins_with_end rest ≡ false → command_len rest ≡ None → HasNone rest
+pub none_broken : (rest : List ℕ) → begins_with_end rest ≡ false → command_len rest ≡ None → HasNoCommand rest
 none_broken rest no_end none total = pieces-step total rest _ (front_breaks total rest no_end none)
 
 -- else there is one
 pub first_piece : (rest : List ℕ) (len : ℕ) → begins_with_end rest ≡ false → command_len rest ≡ Some len
-    → IsFirst rest (take len rest) (behind_command len rest)
+    → IsFirstPiece rest (take len rest) (behind_command len rest)
 first_piece rest len no_end some =
     let long = length-behind_command len rest (some_bytes 0 rest len (front_command 0 rest len no_end some)) in
     record {

@@ -19,21 +19,22 @@ abbrev pub in_bits : Bool → ℕ → Option Number
 in_bits negative n = if nat_le n (limit_of negative) then Some (record { negative = negative; magnitude = n }) else None
 
 -- a magnitude in hundredths of a micrometre, times the scale's numerator, in database units
-abbrev pub product : Scale → ℕ → ℕ
-product scale n = 2 * n * scale.numerator
+abbrev pub product_in_units : Scale → ℕ → ℕ
+product_in_units scale n = 2 * n * scale.numerator
 
 -- a distance at this scale, where it is whole and has 32 bits
-unfoldable pub scaled : Scale → Number → Option Number
-scaled scale n =
+unfoldable pub scaled_to_units : Scale → Number → Option Number
+scaled_to_units scale n =
     if scale.denominator == 0 then None
-    else if product scale n.magnitude % scale.denominator == 0 then in_bits n.negative (product scale n.magnitude / scale.denominator)
+    else if product_in_units scale n.magnitude % scale.denominator == 0
+        then in_bits n.negative (product_in_units scale n.magnitude / scale.denominator)
     else None
 
 -- the coordinate that a word spells at this scale
 unfoldable pub coordinate_of : Scale → List ℕ → Option Number
 coordinate_of scale word = do
   number ← integer_of word
-  scaled scale number
+  scaled_to_units scale number
 
 -- a label: its text, its place, the layer that is set, and the word behind its place; no bytes where there is none
 pub record Label : Type 0 where

@@ -5,8 +5,8 @@ use Rattle.std.specs.List.{AllByRecursion, list_all, starts_with}
 use Rattle.cif_scan.specs.declared.number.Number.{Number}
 use Rattle.cif_commands.specs.declared.definitions.Scale.{Scale}
 use Rattle.cif_names.specs.declared.names.Entry.{Entry}
-use Rattle.cif_names.specs.Entries.{limit_of, scaled}
-use Rattle.cif_names.specs.Lines.{lines}
+use Rattle.cif_names.specs.Entries.{limit_of, scaled_to_units}
+use Rattle.cif_names.specs.Lines.{text_lines}
 use Rattle.cif_names.specs.Names.{names_of}
 use Rattle.cif_names.specs.Woven.{with_names}
 
@@ -39,24 +39,24 @@ unless_kept line = if is_kept_line line then [] else line
 
 -- the text without its lines of names and labels
 abbrev pub without_names : List ℕ → List ℕ
-without_names text = flat_map unless_kept (lines text)
+without_names text = flat_map unless_kept (text_lines text)
 
 -- no line of the text is one of a name or a label
 abbrev pub HasNoNames : List ℕ → Type 0
-HasNoNames text = IsTrue (list_all (λ line. not (is_kept_line line)) (lines text))
+HasNoNames text = IsTrue (list_all (λ line. not (is_kept_line line)) (text_lines text))
 
 -- without these lines a text is what it was, whichever text they were taken from
 abbrev pub TextIsTheSame : Type 0
 TextIsTheSame = (text written : List ℕ) → HasNoNames written → without_names (with_names (names_of text) written) ≡ written
 
 -- these database units are the written distance at this scale, with its sign, and have 32 bits
-pub record IsCoordinate (scale : Scale) (written units : Number) : Type 0 where
+pub record IsDistanceInUnits (scale : Scale) (written units : Number) : Type 0 where
   pub distance : units.magnitude * scale.denominator ≡ 2 * written.magnitude * scale.numerator
   pub sign : units.negative ≡ written.negative
   pub bits : units.magnitude ≤ limit_of written.negative
 
 -- a label's coordinate is these units, where there are such, and else the label is left out; a scale's second number of 0 has none
 pub record LabelsAreScaled : Type 0 where
-  pub kept : (scale : Scale) (written units : Number) → scaled scale written ≡ Some units → IsCoordinate scale written units
-  pub only : (scale : Scale) (written units : Number) → 1 ≤ scale.denominator → IsCoordinate scale written units
-      → scaled scale written ≡ Some units
+  pub kept : (scale : Scale) (written units : Number) → scaled_to_units scale written ≡ Some units → IsDistanceInUnits scale written units
+  pub only : (scale : Scale) (written units : Number) → 1 ≤ scale.denominator → IsDistanceInUnits scale written units
+      → scaled_to_units scale written ≡ Some units

@@ -24,22 +24,22 @@ abbrev pub label_line : Place → List ℕ → Option (List ℕ)
 label_line place bytes = option_map label_text (label_of place bytes)
 
 -- one line more of this symbol, or one command more that is left out
-abbrev pub one_more : Names → Option ℕ → Option (List ℕ) → Names
-one_more kept symbol None = record { entries = kept.entries; left_out = kept.left_out + 1 }
-one_more kept symbol (Some line) =
+abbrev pub with_line : Names → Option ℕ → Option (List ℕ) → Names
+with_line kept symbol None = record { entries = kept.entries; left_out = kept.left_out + 1 }
+with_line kept symbol (Some line) =
     record { entries = kept.entries ++ record { symbol = symbol; line = line } ∷ []; left_out = kept.left_out }
 
 -- what is kept after a command with this first word, and these bytes behind it
-abbrev pub kept_by : Names → Place → Option (List ℕ × List ℕ) → Names
-kept_by kept place None = kept
-kept_by kept place (Some word) =
-    if bytes_eq word.0 (codes "9") then one_more kept place.symbol (name_line place.symbol word.1)
-    else if bytes_eq word.0 (codes "94") then one_more kept place.symbol (label_line place word.1)
+abbrev pub names_after : Names → Place → Option (List ℕ × List ℕ) → Names
+names_after kept place None = kept
+names_after kept place (Some word) =
+    if bytes_eq word.0 (codes "9") then with_line kept place.symbol (name_line place.symbol word.1)
+    else if bytes_eq word.0 (codes "94") then with_line kept place.symbol (label_line place word.1)
     else kept
 
 -- what is kept after a command at this place
 unfoldable pub kept_after : Names → Place → List ℕ → Names
-kept_after kept place bytes = kept_by kept place (word_at bytes)
+kept_after kept place bytes = names_after kept place (word_at bytes)
 
 -- what is kept after these commands, the first at this place
 unfoldable pub names_from : Names → Place → List (ℕ × List ℕ) → Names
@@ -56,9 +56,9 @@ is_there symbols None = true
 is_there symbols (Some symbol) = has_symbol symbols symbol
 
 -- whether an entry is one of these symbols, or of none
-abbrev pub is_within : List ℕ → Entry → Bool
-is_within symbols e = is_there symbols e.symbol
+abbrev pub is_of_symbols : List ℕ → Entry → Bool
+is_of_symbols symbols e = is_there symbols e.symbol
 
 -- those of these symbols, and those of no symbol
 abbrev pub within : List ℕ → Names → Names
-within symbols kept = record { entries = filter (is_within symbols) kept.entries; left_out = kept.left_out }
+within symbols kept = record { entries = filter (is_of_symbols symbols) kept.entries; left_out = kept.left_out }

@@ -14,15 +14,15 @@ abbrev pub outside : Place
 outside = record { symbol = None; scale = plain_scale; layer = None }
 
 -- a definition that is read opens its symbol
-abbrev pub opened : Place → Option Definition → Place
-opened place None = place
-opened place (Some d) = record { symbol = Some d.symbol; scale = d.scale; layer = None }
+abbrev pub place_opened : Place → Option Definition → Place
+place_opened place None = place
+place_opened place (Some d) = record { symbol = Some d.symbol; scale = d.scale; layer = None }
 
 -- behind a `D` and blanks: an `S` and a definition, or an `F`
 abbrev pub after_bracket : Place → List ℕ → Place
 after_bracket place [] = place
 after_bracket place (b ∷ bs) =
-    if b == 83 then opened place (definition_of bs)
+    if b == 83 then place_opened place (definition_of bs)
     else if b == 70 && list_all is_blank bs then outside
     else place
 

@@ -30,12 +30,12 @@ abbrev pub is_between : ℕ → Bool
 is_between b = is_space b || b == 44
 
 -- a byte of a coordinate
-abbrev pub is_within : ℕ → Bool
-is_within b = is_dark b && not (b == 44)
+abbrev pub is_coordinate_byte : ℕ → Bool
+is_coordinate_byte b = is_dark b && not (b == 44)
 
 -- the first coordinate of the bytes, and what stands behind it
 unfoldable pub field_at : List ℕ → Option (List ℕ × List ℕ)
-field_at bytes = let rest = skip is_between bytes in word_by (take_while is_within rest) (skip is_within rest)
+field_at bytes = let rest = skip is_between bytes in word_by (take_while is_coordinate_byte rest) (skip is_coordinate_byte rest)
 
 -- the word of bytes that have just one
 unfoldable pub only_word : List ℕ → Option (List ℕ)
@@ -44,16 +44,16 @@ only_word bytes = do
   if list_all is_space word.1 then Some word.0 else None
 
 -- a digit or more and nothing else
-abbrev pub is_number : List ℕ → Bool
-is_number word = nat_lt 0 (length word) && list_all is_digit word
+abbrev pub is_all_digits : List ℕ → Bool
+is_all_digits word = nat_lt 0 (length word) && list_all is_digit word
 
 -- the value of decimal digits, unless it is above the limit
-abbrev pub value_up_to : ℕ → List ℕ → Option ℕ
-value_up_to limit digits = if nat_le (decimal_value digits) limit then Some (decimal_value digits) else None
+abbrev pub value_within : ℕ → List ℕ → Option ℕ
+value_within limit digits = if nat_le (decimal_value digits) limit then Some (decimal_value digits) else None
 
 -- the number that the word spells, up to 2^31
 unfoldable pub magnitude_of : List ℕ → Option ℕ
-magnitude_of word = if is_number word then value_up_to 2147483648 word else None
+magnitude_of word = if is_all_digits word then value_within 2147483648 word else None
 
 -- a number with this sign
 abbrev pub with_sign : Bool → Option ℕ → Option Number

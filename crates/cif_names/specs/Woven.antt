@@ -7,33 +7,33 @@ use Rattle.std.specs.List.{list_any, starts_with}
 use Rattle.cif_scan.specs.Numbers.{integer_at}
 use Rattle.cif_names.specs.declared.names.Entry.{Entry}
 use Rattle.cif_names.specs.declared.names.Names.{Names}
-use Rattle.cif_names.specs.Lines.{lines}
+use Rattle.cif_names.specs.Lines.{text_lines}
 
-abbrev pub number_of : Option (ℕ × List ℕ) → Option ℕ
-number_of None = None
-number_of (Some p) = Some p.0
+abbrev pub first_number : Option (ℕ × List ℕ) → Option ℕ
+first_number None = None
+first_number (Some p) = Some p.0
 
 -- the number behind these bytes at the front of a line
 unfoldable pub number_behind : List ℕ → List ℕ → Option ℕ
-number_behind front line = if starts_with nat_eq line front then number_of (integer_at (drop (length front) line)) else None
+number_behind front line = if starts_with nat_eq line front then first_number (integer_at (drop (length front) line)) else None
 
 -- whether a line has its newline
-abbrev pub is_ended : List ℕ → Bool
-is_ended line = list_any (λ b. b == 10) line
+abbrev pub has_newline : List ℕ → Bool
+has_newline line = list_any (λ b. b == 10) line
 
 -- the symbol whose definition a line begins
 unfoldable pub started : List ℕ → Option ℕ
-started line = if is_ended line then number_behind (codes "DS ") line else None
+started line = if has_newline line then number_behind (codes "DS ") line else None
 
 -- the symbol that a line calls, or where it calls none, the one before
-abbrev pub later : Option ℕ → Option ℕ → Option ℕ
-later before None = before
-later before (Some symbol) = Some symbol
+abbrev pub last_called : Option ℕ → Option ℕ → Option ℕ
+last_called before None = before
+last_called before (Some symbol) = Some symbol
 
 -- the symbol that the last call of the lines names
 abbrev pub last_call : Option ℕ → List (List ℕ) → Option ℕ
 last_call before [] = before
-last_call before (line ∷ behind) = last_call (later before (number_behind (codes "C ") line)) behind
+last_call before (line ∷ behind) = last_call (last_called before (number_behind (codes "C ") line)) behind
 
 -- this is the symbol, and there is one
 abbrev pub is_symbol : ℕ → Option ℕ → Bool
@@ -76,4 +76,4 @@ woven of_symbol top called lines = flat_map (woven_line of_symbol top called) li
 -- the text with the lines of what is kept in it
 unfoldable pub with_names : Names → List ℕ → List ℕ
 with_names kept written =
-    woven (λ n. lines_in n kept.entries) (lines_at_top kept.entries) (last_call None (lines written)) (lines written)
+    woven (λ n. lines_in n kept.entries) (lines_at_top kept.entries) (last_call None (text_lines written)) (text_lines written)

@@ -1,11 +1,11 @@
 //! Lines of a text.
 ghost use Rattle.std.specs.Prelude.{◌≡◌, ◌<◌, ◌==◌, ◌≤◌, [], IfSome, MatchOption, length};
 ghost use Rattle.std.specs.List.{position};
-ghost use Rattle.cif_names.specs.Lines.{IsFirstLine, first_len};
+ghost use Rattle.cif_names.specs.Lines.{StartsWithLine, first_line_len};
 
 /// Returns the first line of the bytes, with its newline, and what stands behind it. `None` where there is none.
 pub(crate) fn split_line(bytes: &[u8]) -> Option<(&[u8], &[u8])>
-    ensures { MatchOption result (bytes.now ≡ []) (λ p. IsFirstLine bytes.now p.0.now p.1.now) }
+    ensures { MatchOption result (bytes.now ≡ []) (λ p. StartsWithLine bytes.now p.0.now p.1.now) }
 {
     if bytes.is_empty() {
         return None;
@@ -15,7 +15,7 @@ pub(crate) fn split_line(bytes: &[u8]) -> Option<(&[u8], &[u8])>
 
 /// Returns how many bytes the first line has, its newline included.
 fn first_len(bytes: &[u8]) -> usize
-    ensures value { result ≡ first_len bytes.now }
+    ensures value { result ≡ first_line_len bytes.now }
     ensures inside { result ≤ length bytes.now }
 {
     match newline_place(bytes) {

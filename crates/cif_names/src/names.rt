@@ -1,6 +1,6 @@
 //! What is kept of a text's names and labels.
 ghost use Rattle.std.specs.Prelude.{◌≡◌, IfOk, OnOk};
-ghost use Rattle.cif_names.specs.Names.{is_within, kept_after, names_of, nothing, one_more, within};
+ghost use Rattle.cif_names.specs.Names.{is_of_symbols, kept_after, names_of, nothing, with_line, within};
 
 use crate::labels::{label_line, name_line};
 use crate::pieces::split_piece;
@@ -25,7 +25,7 @@ pub(crate) struct Entry {
 impl Entry {
     /// Returns whether the line is one of these symbols, or of none.
     fn is_within(&self, symbols: &Cells) -> bool
-        ensures { result ≡ is_within symbols.now self.now }
+        ensures { result ≡ is_of_symbols symbols.now self.now }
     {
         match self.symbol {
             Some(symbol) => symbols.position(symbol).is_some(),
@@ -131,7 +131,7 @@ impl Names {
         symbol: Option<u32>,
         line: Option<Sequence<u8>>,
     ) -> Result<(), NoMemory>
-        ensures { OnOk result (self.new ≡ one_more self.old symbol line) }
+        ensures { OnOk result (self.new ≡ with_line self.old symbol line) }
     {
         match line {
             None => self.left_out = self.left_out.checked_add(1).ok_or(NoMemory)?,

@@ -2,8 +2,8 @@
 ghost use Rattle.std.specs.Prelude.{◌≡◌, ◌≤◌, ◌<◌, ◌^◌, IfSome};
 ghost use Rattle.std.specs.List.{AllPass, list_all};
 ghost use Rattle.lay_point.specs.Names.{is_digit};
-ghost use Rattle.cif_names.specs.Entries.{coordinate_of, in_bits, limit_of, product, scaled};
-ghost use Rattle.cif_names.specs.Words.{integer_of, is_number, magnitude_of, value_up_to, with_sign};
+ghost use Rattle.cif_names.specs.Entries.{coordinate_of, in_bits, limit_of, product_in_units, scaled_to_units};
+ghost use Rattle.cif_names.specs.Words.{integer_of, is_all_digits, magnitude_of, value_within, with_sign};
 
 use byte_io::capped_decimal;
 use cif_commands::Scale;
@@ -25,10 +25,10 @@ pub(crate) fn coordinate_of(scale: Scale, word: &[u8]) -> Option<Number>
 }
 
 /// Returns the distance at this scale, in database units.
-#[tactic(auto, unfolding(crate::specs::Entries::scaled))]
+#[tactic(auto, unfolding(crate::specs::Entries::scaled_to_units))]
 fn scaled(scale: Scale, number: Number) -> Option<Number>
     requires { number.magnitude ≤ 2147483648 }
-    ensures { result ≡ scaled scale number }
+    ensures { result ≡ scaled_to_units scale number }
 {
     if scale.denominator == 0 {
         return None;
@@ -44,7 +44,7 @@ fn scaled(scale: Scale, number: Number) -> Option<Number>
 /// Returns the magnitude in database units, times the scale's numerator.
 fn product(scale: Scale, magnitude: u32) -> u64
     requires { magnitude ≤ 2147483648 }
-    ensures { result ≡ product scale magnitude }
+    ensures { result ≡ product_in_units scale magnitude }
 {
     2 * u64::from(magnitude) * u64::from(scale.numerator)
 }
@@ -112,7 +112,7 @@ fn magnitude_of(word: &[u8]) -> Option<u32>
 
 /// Returns whether the word is a digit or more and nothing else.
 fn is_number(word: &[u8]) -> bool
-    ensures { result ≡ is_number word.now }
+    ensures { result ≡ is_all_digits word.now }
 {
     !word.is_empty() && are_digits(word)
 }
@@ -127,7 +127,7 @@ fn are_digits(bytes: &[u8]) -> bool
 /// Returns the value of the digits, `None` where it is above the limit.
 fn value_up_to(limit: u32, digits: &[u8]) -> Option<u32>
     requires { AllPass is_digit digits.now }
-    ensures value { result ≡ value_up_to limit digits.now }
+    ensures value { result ≡ value_within limit digits.now }
     ensures small { IfSome result (λ n. n ≤ limit) }
 {
     let value = capped_decimal(limit, digits);

@@ -1,7 +1,7 @@
 //! The commands of a text, one at a time.
 ghost use Rattle.std.specs.Prelude.{◌≡◌, MatchOption};
 ghost use Rattle.cif_read.specs.Meaning.{begins_with_end};
-ghost use Rattle.cif_names.specs.Pieces.{HasNone, IsFirst};
+ghost use Rattle.cif_names.specs.Pieces.{HasNoCommand, IsFirstPiece};
 
 use cif_commands::command_len;
 use cif_scan::{Class, skip};
@@ -9,7 +9,7 @@ use cif_scan::{Class, skip};
 /// Returns the command at the start of a rest of a text, without its semicolon, and what stands behind that and gaps.
 /// `None` where the text ends or breaks off.
 pub(crate) fn split_piece(rest: &[u8]) -> Option<(&[u8], &[u8])>
-    ensures { MatchOption result (HasNone rest.now) (λ p. IsFirst rest.now p.0.now p.1.now) }
+    ensures { MatchOption result (HasNoCommand rest.now) (λ p. IsFirstPiece rest.now p.0.now p.1.now) }
 {
     if begins_with_end(rest) {
         return None;

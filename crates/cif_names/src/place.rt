@@ -1,6 +1,6 @@
 //! Where a command of a text stands.
 ghost use Rattle.std.specs.Prelude.{◌≡◌};
-ghost use Rattle.cif_names.specs.Places.{after_bracket, layer_at, layered, opened, outside, place_after};
+ghost use Rattle.cif_names.specs.Places.{after_bracket, layer_at, layered, outside, place_after, place_opened};
 
 use cif_commands::{Definition, Scale, are_blanks, read_definition, read_layer};
 use cif_scan::{Class, skip};
@@ -57,7 +57,7 @@ impl Place {
 
     /// Returns the place in the definition, if there is one.
     fn opened(self, definition: Option<Definition>) -> Place
-        ensures { result ≡ opened self definition }
+        ensures { result ≡ place_opened self definition }
     {
         match definition {
             None => self,

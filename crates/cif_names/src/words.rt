@@ -2,7 +2,7 @@
 ghost use Rattle.std.specs.Prelude.{◌≡◌, ◌≤◌, length};
 ghost use Rattle.std.specs.List.{list_all, prefix_len};
 ghost use Rattle.cif_scan.specs.Views.{Gives};
-ghost use Rattle.cif_names.specs.Words.{field_at, is_between, is_dark, is_space, is_within, only_word, word_at};
+ghost use Rattle.cif_names.specs.Words.{field_at, is_between, is_coordinate_byte, is_dark, is_space, only_word, word_at};
 
 /// Returns the first word of the bytes, and what stands behind it. `None` where there is no word.
 #[tactic(auto, unfolding(crate::specs::Words::word_at))]
@@ -75,7 +75,7 @@ fn between_len(bytes: &[u8]) -> usize
 
 /// Returns how many bytes at the start are of a coordinate.
 fn within_len(bytes: &[u8]) -> usize
-    ensures value { result ≡ prefix_len is_within bytes.now }
+    ensures value { result ≡ prefix_len is_coordinate_byte bytes.now }
     ensures within { result ≤ length bytes.now }
 {
     bytes.iter().take_while(|b| is_within(**b)).count()
@@ -90,7 +90,7 @@ fn is_between(byte: u8) -> bool
 
 /// Returns whether the byte is of a coordinate.
 fn is_within(byte: u8) -> bool
-    ensures { result ≡ is_within byte }
+    ensures { result ≡ is_coordinate_byte byte }
 {
     is_dark(byte) && byte != b','
 }

@@ -1,8 +1,8 @@
 //! A text with the lines of what is kept in it.
 ghost use Rattle.std.specs.Prelude.{◌≡◌, ◌++◌, None, IfOk, OnOk};
-ghost use Rattle.cif_names.specs.Lines.{lines};
+ghost use Rattle.cif_names.specs.Lines.{text_lines};
 ghost use Rattle.cif_names.specs.Maps.{bytes_at};
-ghost use Rattle.cif_names.specs.Woven.{heading, is_ended, is_symbol, last_call, later, number_behind, started, with_names, woven};
+ghost use Rattle.cif_names.specs.Woven.{has_newline, heading, is_symbol, last_call, last_called, number_behind, started, with_names, woven};
 ghost use Rattle.cif_names.specs.Woven.{woven_line};
 
 use crate::lines::split_line;
@@ -37,7 +37,7 @@ fn woven(
     called: Option<u32>,
     written: &[u8],
 ) -> Result<Vec<u8>, NoMemory>
-    ensures { IfOk result (λ bytes. bytes.items ≡ woven (bytes_at symbols.now.entries) top.now called (lines written.now)) }
+    ensures { IfOk result (λ bytes. bytes.items ≡ woven (bytes_at symbols.now.entries) top.now called (text_lines written.now)) }
 {
     let mut bytes = Vec::new(alloc);
     let mut rest = written;
@@ -107,14 +107,14 @@ fn started(line: &[u8]) -> Option<u32>
 
 /// Returns whether the line has its newline.
 fn is_ended(line: &[u8]) -> bool
-    ensures { result ≡ is_ended line.now }
+    ensures { result ≡ has_newline line.now }
 {
     line.iter().any(|b| *b == b'\n')
 }
 
 /// Returns the symbol that the text's last call names.
 fn last_call(written: &[u8]) -> Option<u32>
-    ensures { result ≡ last_call None (lines written.now) }
+    ensures { result ≡ last_call None (text_lines written.now) }
 {
     let mut called = None;
     let mut rest = written;
@@ -127,7 +127,7 @@ fn last_call(written: &[u8]) -> Option<u32>
 
 /// Returns the symbol, or where there is none, the one before.
 fn later(before: Option<u32>, symbol: Option<u32>) -> Option<u32>
-    ensures { result ≡ later before symbol }
+    ensures { result ≡ last_called before symbol }
 {
     match symbol {
         None => before,

@@ -11,7 +11,7 @@ use Rattle.cif_commands.proofs.CutLemmas.{cut_rest-step}
 use Rattle.cif_read.specs.declared.content.Content.{Content}
 use Rattle.cif_read.specs.declared.fault.CifFault.{CifFault}
 use Rattle.cif_read.specs.declared.fault.FaultKind.TheVariants.{Syntax}
-use Rattle.cif_read.specs.Content.{is_inside, start}
+use Rattle.cif_read.specs.Content.{empty_content, is_inside}
 use Rattle.cif_read.specs.Meaning.{after_bytes, after_cut, after_end, after_pieces, at_ending, begins_with_end, content_in, fault_at}
 use Rattle.cif_read.specs.Steps.{and_then}
 
@@ -37,7 +37,7 @@ rest_means-step content total rest front e = ap (after_cut content) (cut_rest-st
     ∙ by_cut content total rest (front_of total rest) ∙ ap (means_by content total rest) e
 
 -- the text behind its first gap means what the text means
-pub start_means : (text : List ℕ) → rest_means start (length text) (skip is_gap text) ≡ content_in text
+pub start_means : (text : List ℕ) → rest_means empty_content (length text) (skip is_gap text) ≡ content_in text
 unfolding content_in cut
 start_means text = refl
 

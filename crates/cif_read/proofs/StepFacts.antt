@@ -35,10 +35,11 @@ use Rattle.cif_read.specs.declared.fault.FaultKind.TheVariants.{LongName, OffAxi
 use Rattle.lay_point.specs.declared.layer_name.TheConstants.{MAX_LAYER_NAME}
 use Rattle.cif_read.specs.Binding.{edge_of}
 use Rattle.cif_read.specs.Boxes.{box_at, is_askew, is_big_box}
-use Rattle.cif_read.specs.Calls.{call_turn, is_askew_change, is_whole_change, turn_in_range, turn_of, turn_or_fault, turned_by}
-use Rattle.cif_read.specs.Content.{after_box, after_call, after_layer, after_polygon, after_start, begun, called, cell_of, counted, drawn}
-use Rattle.cif_read.specs.Content.{effect_of, finished, is_big_call, is_inside, on_layer, scale_of, start}
-use Rattle.cif_read.specs.Contents.{calls_in, with_call}
+use Rattle.cif_read.specs.Calls.{call_turn, is_askew_change, is_whole_change, turn_changed_by, turn_in_range, turn_of, turn_or_fault}
+use Rattle.cif_read.specs.Content.{after_box, after_call, after_layer, after_polygon, after_start, called, content_size, current_cell}
+use Rattle.cif_read.specs.Content.{definition_begun, drawn}
+use Rattle.cif_read.specs.Content.{current_scale, effect_of, empty_content, finished, is_big_call, is_inside, on_layer}
+use Rattle.cif_read.specs.Contents.{element_calls, with_call}
 use Rattle.cif_read.specs.Kept.{IsKept, IsKeptElement}
 use Rattle.cif_read.specs.Polygons.{is_too_big, polygon_at}
 use Rattle.cif_read.specs.Scales.{IsRatio}
@@ -68,10 +69,10 @@ joined : (cell : CellId) (f : Figure) (xs ys : List (CellId × ℕ)) → with_ca
 joined cell (figure.Polygon layer ring) xs ys = refl
 joined cell (figure.Call target turn) xs ys = refl
 
-calls_in-append : (es : List Element) (e : Element) → calls_in (es ++ e ∷ []) ≡ calls_in es ++ with_call e.cell e.figure []
-calls_in-append [] e = refl
-calls_in-append (d ∷ ds) e = ap (with_call d.cell d.figure) (calls_in-append ds e)
-    ∙ joined d.cell d.figure (calls_in ds) (with_call e.cell e.figure [])
+element_calls-append : (es : List Element) (e : Element) → element_calls (es ++ e ∷ []) ≡ element_calls es ++ with_call e.cell e.figure []
+element_calls-append [] e = refl
+element_calls-append (d ∷ ds) e = ap (with_call d.cell d.figure) (element_calls-append ds e)
+    ∙ joined d.cell d.figure (element_calls ds) (with_call e.cell e.figure [])
 
 one : {A : Type 0} (P : A → Type 0) (x : A) → P x → All P (x ∷ [])
 one P x p = All-cons P x [] p (All-nil P)
@@ -81,13 +82,13 @@ pub record IsStep (content : Content) (c : Command) (next : Content) : Type 0 wh
   pub stands : may_stand (is_inside content.definition) c ≡ true
   pub inside : is_inside next.definition ≡ inside_after (is_inside content.definition) c
   pub kept : IsKept content → IsKept next
-  pub count : counted next ≤ counted content + 1
+  pub count : content_size next ≤ content_size content + 1
 
 -- the same of what keeps the definition
 record IsDrawn (content next : Content) : Type 0 where
   same : next.definition ≡ content.definition
   kept : IsKept content → IsKept next
-  count : counted next ≤ counted content + 1
+  count : content_size next ≤ content_size content + 1
 
 with_polygon : (content : Content) (layer : List ℕ) (ring : Option (List Point)) → IsDrawing ring
     → IsDrawn content (drawn content layer ring)
@@ -105,12 +106,12 @@ with_polygon content layer (Some ring) is = record {
     inside = k.inside;
     elements = All-append (IsKeptElement content.symbols) content.elements (made ∷ []) k.elements
         (one (IsKeptElement content.symbols) made (k.inside, is));
-    calls = k.calls ∙ sym (calls_in-append content.elements made ∙ append-none (calls_in content.elements));
+    calls = k.calls ∙ sym (element_calls-append content.elements made ∙ append-none (element_calls content.elements));
   };
   count = omega (arith, length-append content.elements (made ∷ []));
 } where
   made : Element
-  made = record { cell = cell_of content.definition; figure = figure.Polygon layer ring }
+  made = record { cell = current_cell content.definition; figure = figure.Polygon layer ring }
 
   append-none : {A : Type 0} (xs : List A) → xs ++ [] ≡ xs
   append-none [] = refl
@@ -143,14 +144,14 @@ from_drawn content next c stands after d = record {
 -- ---- turns
 
 turned_in_range : (cs : List Change) (scale : Scale) (turn found : Turn) → is_in_range turn.shift ≡ true
-    → turned_by scale turn cs ≡ Some found
+    → turn_changed_by scale turn cs ≡ Some found
     → is_in_range found.shift ≡ true
-unfolding turned_by
+unfolding turn_changed_by
 turned_in_range [] scale turn found h e =
     let same : turn ≡ found = cc in
     rw (← same) h
 turned_in_range (c ∷ cs) scale turn found h e =
-    let read = bind_some (turn_in_range (composed turn (turn_of scale c))) (λ next. turned_by scale next cs) found e in
+    let read = bind_some (turn_in_range (composed turn (turn_of scale c))) (λ next. turn_changed_by scale next cs) found e in
     turned_in_range cs scale read.0 found (by (composed turn (turn_of scale c)) read.0 read.1) read.2
   where
     by : (t next : Turn) → turn_in_range t ≡ Some next → is_in_range next.shift ≡ true
@@ -165,8 +166,8 @@ call_in_range : (scale : Scale) (cs : List Change) (turn : Turn) → call_turn s
 unfolding call_turn
 call_in_range scale cs turn e =
     taken (list_any is_askew_change cs) OffAxis _ turn e (λ _ e.
-    taken (not (list_all (is_whole_change scale) cs)) OffGrid _ turn e (λ _ e. by (turned_by scale unturned cs) refl e)) where
-      by : (o : Option Turn) → turned_by scale unturned cs ≡ o → turn_or_fault o ≡ Ok turn → is_in_range turn.shift ≡ true
+    taken (not (list_all (is_whole_change scale) cs)) OffGrid _ turn e (λ _ e. by (turn_changed_by scale unturned cs) refl e)) where
+      by : (o : Option Turn) → turn_changed_by scale unturned cs ≡ o → turn_or_fault o ≡ Ok turn → is_in_range turn.shift ≡ true
       by None f e = absurd (no_value _ turn e)
       by (Some t) f e =
           let same : t ≡ turn = cc in
@@ -180,7 +181,7 @@ start_step content next d e =
     taken (is_inside content.definition) _ _ next e (λ outside e. by (definition_fault content.symbols d) refl outside e)
   where
     by : (fault : Option FaultKind) → definition_fault content.symbols d ≡ fault → is_inside content.definition ≡ false
-        → begun content d fault ≡ Ok next → IsStep content (Start d) next
+        → definition_begun content d fault ≡ Ok next → IsStep content (Start d) next
     by (Some fault) f outside e = absurd (no_value fault next e)
     by None f outside e =
         let new = new_symbol content.symbols d f in
@@ -231,10 +232,10 @@ call_step : (content next : Content) (offset symbol : ℕ) (cs : List Change) �
 unfolding after_call
 call_step content next offset symbol cs e =
     taken (is_big_call symbol cs) _ _ next e (λ small e.
-    let step = then_ok (call_turn (scale_of content.definition) cs) (λ turn. Ok (called content offset symbol turn)) next e in
+    let step = then_ok (call_turn (current_scale content.definition) cs) (λ turn. Ok (called content offset symbol turn)) next e in
     let same : called content offset symbol step.0 ≡ next = cc in
-    let made : Element = record { cell = cell_of content.definition; figure = figure.Call symbol step.0 } in
-    let pending : Pending = record { offset = offset; caller = cell_of content.definition; target = symbol } in
+    let made : Element = record { cell = current_cell content.definition; figure = figure.Call symbol step.0 } in
+    let pending : Pending = record { offset = offset; caller = current_cell content.definition; target = symbol } in
     subst (λ (n : Content). IsStep content (Call symbol cs) n) same (record {
       stands = refl;
       inside = refl;
@@ -244,9 +245,9 @@ call_step content next offset symbol cs e =
         scale = k.scale;
         inside = k.inside;
         elements = All-append (IsKeptElement content.symbols) content.elements (made ∷ []) k.elements
-            (one (IsKeptElement content.symbols) made (k.inside, call_in_range (scale_of content.definition) cs step.0 step.1));
+            (one (IsKeptElement content.symbols) made (k.inside, call_in_range (current_scale content.definition) cs step.0 step.1));
         calls = map-append edge_of content.calls (pending ∷ [])
-            ∙ ap (λ t. t ++ (cell_of content.definition, symbol) ∷ []) k.calls ∙ sym (calls_in-append content.elements made);
+            ∙ ap (λ t. t ++ (current_cell content.definition, symbol) ∷ []) k.calls ∙ sym (element_calls-append content.elements made);
       };
       count = omega (arith, length-append content.elements (made ∷ []));
     }))
@@ -270,18 +271,18 @@ polygon_step : (content next : Content) (vertices : List Vertex)
 unfolding after_polygon
 polygon_step content next vertices e =
     taken (list_any is_too_big vertices) TooBig _ next e (λ _ e. from_drawn content next (Polygon vertices) refl refl
-    (on_layer_drawn content next content.layer (polygon_at (scale_of content.definition) vertices)
-    (λ ring is. polygon_drawing (scale_of content.definition) vertices ring is) e))
+    (on_layer_drawn content next content.layer (polygon_at (current_scale content.definition) vertices)
+    (λ ring is. polygon_drawing (current_scale content.definition) vertices ring is) e))
 
-box_step : (content next : Content) (b : BoxNumbers) → IsRatio (scale_of content.definition) → after_box content b ≡ Ok next
+box_step : (content next : Content) (b : BoxNumbers) → IsRatio (current_scale content.definition) → after_box content b ≡ Ok next
     → IsStep content (Box b) next
 unfolding after_box
 box_step content next b ratio e =
     taken (is_big_box b) TooBig _ next e (λ _ e. taken (is_askew b) OffAxis _ next e (λ _ e. from_drawn content next (Box b) refl refl
-    (on_layer_drawn content next content.layer (box_at (scale_of content.definition) b)
-    (λ ring is. box_drawing (scale_of content.definition) b ring ratio is) e)))
+    (on_layer_drawn content next content.layer (box_at (current_scale content.definition) b)
+    (λ ring is. box_drawing (current_scale content.definition) b ring ratio is) e)))
 
-pub step_of : (content next : Content) (offset : ℕ) (c : Command) → IsRatio (scale_of content.definition)
+pub step_of : (content next : Content) (offset : ℕ) (c : Command) → IsRatio (current_scale content.definition)
     → effect_of content offset c ≡ Ok next
     → IsStep content c next
 step_of content next offset (Polygon vertices) ratio e = polygon_step content next vertices e
@@ -303,7 +304,7 @@ step_of content next offset Comment ratio e =
     let same : content ≡ next = cc in
     subst (λ (n : Content). IsStep content Comment n) same (record { stands = refl; inside = refl; kept = λ k. k; count = omega arith })
 
-pub start_kept : IsKept start
+pub start_kept : IsKept empty_content
 start_kept = record {
   few = omega arith;
   numbers = All-nil (λ n. n ≤ MAX_SYMBOL);

@@ -16,7 +16,7 @@ use Rattle.cif_commands.proofs.Openings.{Opening, opening}
 use Rattle.cif_commands.proofs.Pieces.{piece_takes}
 use Rattle.cif_read.specs.declared.content.Content.{Content}
 use Rattle.cif_read.specs.declared.fault.CifFault.{CifFault}
-use Rattle.cif_read.specs.Content.{after_command, after_commands, content_of, effect_of, is_inside, start}
+use Rattle.cif_read.specs.Content.{after_command_at, after_commands, content_of, effect_of, empty_content, is_inside}
 use Rattle.cif_read.specs.Kept.{IsKept}
 use Rattle.cif_read.specs.Meaning.{after_bytes, at_ending, begins_with_end, content_in, read_as, unread_kind}
 use Rattle.cif_read.specs.Steps.{and_then, at_offset}
@@ -97,7 +97,7 @@ module _ (n offset : ℕ) (content : Content) (text : List ℕ) (last : Content)
 
   accepted_command : (len : ℕ) → AcceptedBelow n → begins_with_end (skip is_gap text) ≡ false → command_len (skip is_gap text) ≡ Some len
       → rest_means content (offset + length text) (skip is_gap text) ≡ Ok last → Accepted content offset text last
-  unfolding after_commands after_command
+  unfolding after_commands after_command_at
   accepted_command len shorter no_end ends e =
       let total = offset + length text in
       let gap = take_while is_gap text in
@@ -160,7 +160,7 @@ pub accepted : (text : List ℕ) (last : Content) → content_in text ≡ Ok las
     → (commands : List (ℕ × Command)) × Reads text commands × (content_of commands ≡ Ok last)
 unfolding content_of
 accepted text last e =
-    let found = accepted_from (length text + 1) 0 start text last start_kept (omega arith) (rw zero-add (start_means text ∙ e)) in
+    let found = accepted_from (length text + 1) 0 empty_content text last start_kept (omega arith) (rw zero-add (start_means text ∙ e)) in
     (found.commands, found.reads, found.means)
 
 -- ---- what is in the grammar is read
@@ -174,14 +174,14 @@ same_steps (Ok x) r' f g e same = rw (← e) (same x (sym e))
 same_steps (Err fault) r' f g e same = rw (← e) refl
 
 command_means : (content : Content) (offset : ℕ) (bytes : List ℕ) (c : Command) → Spells bytes c
-    → after_bytes content offset bytes ≡ after_command content offset c
-unfolding after_bytes after_command
+    → after_bytes content offset bytes ≡ after_command_at content offset c
+unfolding after_bytes after_command_at
 command_means content offset bytes c h =
     ap (λ o. at_offset offset (read_as (unread_kind bytes) (effect_of content offset) o)) (command_again bytes c h)
 
-from_command : (content next : Content) (offset : ℕ) (c : Command) → IsKept content → after_command content offset c ≡ Ok next
+from_command : (content next : Content) (offset : ℕ) (c : Command) → IsKept content → after_command_at content offset c ≡ Ok next
     → (IsKept next) × (is_inside next.definition ≡ inside_after (is_inside content.definition) c)
-unfolding after_command
+unfolding after_command_at
 from_command content next offset c kept e =
     let step = step_of content next offset c kept.scale (from_at_offset offset (effect_of content offset c) next e) in
     (step.kept kept, step.inside)
@@ -210,11 +210,11 @@ complete_from (c ∷ cs) offset content text kept h =
     let located : offset_of total spelled ≡ c.0 = omega (arith, first.located) in
     let on : c.0 + len + 1 + length first.rest ≡ total = omega (arith, first.located) in
     let no_end : begins_with_end spelled ≡ false = ap (λ t. begins_with_end (t ++ (59 ∷ first.rest))) shape.parts ∙ shape.no_end in
-    let command : after_bytes content (offset_of total spelled) (take len spelled) ≡ after_command content c.0 c.1 =
+    let command : after_bytes content (offset_of total spelled) (take len spelled) ≡ after_command_at content c.0 c.1 =
     rw (located, take_at first.spelling (59 ∷ first.rest) len refl) (command_means content c.0 first.spelling c.1 first.spells) in
     let behind : behind_command len spelled ≡ skip is_gap first.rest =
     ap (skip is_gap) (sym (drop-drop 1 len spelled) ∙ ap (drop 1) (drop_at first.spelling (59 ∷ first.rest) len refl)) in
-    let further : (next : Content) → after_command content c.0 c.1 ≡ Ok next
+    let further : (next : Content) → after_command_at content c.0 c.1 ≡ Ok next
     → rest_means next total (behind_command len spelled) ≡ after_commands next cs = λ next done.
     let from = from_command content next c.0 c.1 kept done in
     ap (rest_means next total) behind ∙ ap (λ t. rest_means next t (skip is_gap first.rest)) (sym on)
@@ -222,8 +222,8 @@ complete_from (c ∷ cs) offset content text kept h =
     (subst (λ (b : Bool). ReadsFrom b (c.0 + len + 1) first.rest cs) (sym from.1) h.2) in
     ap (rest_means content total) left ∙ rest_means-step content total spelled (CommandOf len)
     (front_command total spelled len no_end (shape.len first.rest))
-    ∙ same_steps _ (after_command content c.0 c.1) _ (λ next. after_commands next cs) command further
+    ∙ same_steps _ (after_command_at content c.0 c.1) _ (λ next. after_commands next cs) command further
 
 pub complete : (text : List ℕ) (commands : List (ℕ × Command)) → Reads text commands → content_in text ≡ content_of commands
 unfolding content_of
-complete text commands h = sym (start_means text) ∙ (rw zero-add at (complete_from commands 0 start text start_kept h))
+complete text commands h = sym (start_means text) ∙ (rw zero-add at (complete_from commands 0 empty_content text start_kept h))

@@ -61,11 +61,11 @@ abbrev pub turn_in_range : Turn → Option Turn
 turn_in_range turn = if is_in_range turn.shift then Some turn else None
 
 -- the turn, changed by one change after the other; none where one of them leads out of range
-unfoldable pub turned_by : Scale → Turn → List Change → Option Turn
-turned_by scale turn [] = Some turn
-turned_by scale turn (c ∷ cs) = do
+unfoldable pub turn_changed_by : Scale → Turn → List Change → Option Turn
+turn_changed_by scale turn [] = Some turn
+turn_changed_by scale turn (c ∷ cs) = do
   next ← turn_in_range (composed turn (turn_of scale c))
-  turned_by scale next cs
+  turn_changed_by scale next cs
 
 abbrev pub turn_or_fault : Option Turn → Result Turn FaultKind
 turn_or_fault None = Err TooBig
@@ -76,4 +76,4 @@ unfoldable pub call_turn : Scale → List Change → Result Turn FaultKind
 call_turn scale changes =
     if list_any is_askew_change changes then Err OffAxis
     else if not (list_all (is_whole_change scale) changes) then Err OffGrid
-    else turn_or_fault (turned_by scale unturned changes)
+    else turn_or_fault (turn_changed_by scale unturned changes)

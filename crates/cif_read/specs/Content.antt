@@ -32,31 +32,31 @@ use Rattle.cif_read.specs.Steps.{and_then, at_offset}
 use Rattle.cif_read.specs.Symbols.{definition_fault}
 
 -- no layer is set, and nothing is defined or drawn
-abbrev pub start : Content
-start = record { layer = None; definition = None; symbols = []; elements = []; calls = []; extensions = 0; dropped = 0 }
+abbrev pub empty_content : Content
+empty_content = record { layer = None; definition = None; symbols = []; elements = []; calls = []; extensions = 0; dropped = 0 }
 
 abbrev pub is_inside : Option OpenDefinition → Bool
 is_inside None = false
 is_inside (Some o) = true
 
 -- the cell that is drawn in
-abbrev pub cell_of : Option OpenDefinition → CellId
-cell_of None = Top
-cell_of (Some o) = Symbol o.symbol
+abbrev pub current_cell : Option OpenDefinition → CellId
+current_cell None = Top
+current_cell (Some o) = Symbol o.symbol
 
 -- the scale of the distances
-abbrev pub scale_of : Option OpenDefinition → Scale
-scale_of None = plain_scale
-scale_of (Some o) = o.scale
+abbrev pub current_scale : Option OpenDefinition → Scale
+current_scale None = plain_scale
+current_scale (Some o) = o.scale
 
 -- how many elements and extensions there were
-abbrev pub counted : Content → ℕ
-counted content = length content.elements + content.extensions + content.dropped
+abbrev pub content_size : Content → ℕ
+content_size content = length content.elements + content.extensions + content.dropped
 
 -- one element more
 abbrev pub with_figure : Content → Figure → Content
 with_figure content figure = record content {
-  elements = content.elements ++ record { cell = cell_of content.definition; figure = figure } ∷ [];
+  elements = content.elements ++ record { cell = current_cell content.definition; figure = figure } ∷ [];
 }
 
 -- one polygon more, or one more that is dropped
@@ -72,28 +72,28 @@ on_layer content (Some layer) drawing = and_then drawing (λ ring. Ok (drawn con
 unfoldable pub after_polygon : Content → List Vertex → Result Content FaultKind
 after_polygon content vertices =
     if list_any is_too_big vertices then Err TooBig
-    else on_layer content content.layer (polygon_at (scale_of content.definition) vertices)
+    else on_layer content content.layer (polygon_at (current_scale content.definition) vertices)
 
 unfoldable pub after_box : Content → BoxNumbers → Result Content FaultKind
 after_box content b =
     if is_big_box b then Err TooBig
     else if is_askew b then Err OffAxis
-    else on_layer content content.layer (box_at (scale_of content.definition) b)
+    else on_layer content content.layer (box_at (current_scale content.definition) b)
 
 unfoldable pub after_layer : Content → List ℕ → Result Content FaultKind
 after_layer content name = if nat_lt MAX_LAYER_NAME (length name) then Err LongName else Ok (record content { layer = Some name })
 
 -- a definition begins where it has this fault, or none
-abbrev pub begun : Content → Definition → Option FaultKind → Result Content FaultKind
-begun content d (Some fault) = Err fault
-begun content d None = Ok (record content {
+abbrev pub definition_begun : Content → Definition → Option FaultKind → Result Content FaultKind
+definition_begun content d (Some fault) = Err fault
+definition_begun content d None = Ok (record content {
   layer = None;
   definition = Some (record { symbol = d.symbol; scale = d.scale; saved = content.layer });
   symbols = content.symbols ++ d.symbol ∷ [];
 })
 
 unfoldable pub after_start : Content → Definition → Result Content FaultKind
-after_start content d = if is_inside content.definition then Err Syntax else begun content d (definition_fault content.symbols d)
+after_start content d = if is_inside content.definition then Err Syntax else definition_begun content d (definition_fault content.symbols d)
 
 abbrev pub finished : Content → Option OpenDefinition → Result Content FaultKind
 finished content None = Err Syntax
@@ -102,7 +102,7 @@ finished content (Some o) = Ok (record content { layer = o.saved; definition = N
 -- one call more, which stands at this offset
 abbrev pub called : Content → ℕ → ℕ → Turn → Content
 called content offset target turn = record (with_figure content (Call target turn)) {
-  calls = content.calls ++ record { offset = offset; caller = cell_of content.definition; target = target } ∷ [];
+  calls = content.calls ++ record { offset = offset; caller = current_cell content.definition; target = target } ∷ [];
 }
 
 -- some number of a call is above its limit
@@ -112,7 +112,7 @@ is_big_call symbol changes = nat_lt MAX_SYMBOL symbol || list_any is_big_change 
 unfoldable pub after_call : Content → ℕ → ℕ → List Change → Result Content FaultKind
 after_call content offset symbol changes =
     if is_big_call symbol changes then Err TooBig
-    else and_then (call_turn (scale_of content.definition) changes) (λ turn. Ok (called content offset symbol turn))
+    else and_then (call_turn (current_scale content.definition) changes) (λ turn. Ok (called content offset symbol turn))
 
 -- what is meant after the command at this offset
 abbrev pub effect_of : Content → ℕ → Command → Result Content FaultKind
@@ -125,14 +125,14 @@ effect_of content offset (command.Call symbol changes) = after_call content offs
 effect_of content offset command.Extension = Ok (record content { extensions = content.extensions + 1 })
 effect_of content offset command.Comment = Ok content
 
-unfoldable pub after_command : Content → ℕ → Command → Result Content CifFault
-after_command content offset c = at_offset offset (effect_of content offset c)
+unfoldable pub after_command_at : Content → ℕ → Command → Result Content CifFault
+after_command_at content offset c = at_offset offset (effect_of content offset c)
 
 -- what is meant after commands with their offsets, or the first fault
 unfoldable pub after_commands : Content → List (ℕ × Command) → Result Content CifFault
 after_commands content [] = Ok content
-after_commands content (c ∷ cs) = and_then (after_command content c.0 c.1) (λ next. after_commands next cs)
+after_commands content (c ∷ cs) = and_then (after_command_at content c.0 c.1) (λ next. after_commands next cs)
 
 -- what the commands of a text mean, or the first fault
 unfoldable pub content_of : List (ℕ × Command) → Result Content CifFault
-content_of commands = after_commands start commands
+content_of commands = after_commands empty_content commands

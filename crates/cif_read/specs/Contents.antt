@@ -25,9 +25,9 @@ abbrev pub with_call : CellId → Figure → List (CellId × ℕ) → List (Cell
 with_call cell (Polygon layer ring) calls = calls
 with_call cell (Call target turn) calls = (cell, target) ∷ calls
 
-abbrev pub calls_in : List Element → List (CellId × ℕ)
-calls_in [] = []
-calls_in (e ∷ es) = with_call e.cell e.figure (calls_in es)
+abbrev pub element_calls : List Element → List (CellId × ℕ)
+element_calls [] = []
+element_calls (e ∷ es) = with_call e.cell e.figure (element_calls es)
 
 -- what may be drawn where these symbols are
 abbrev pub IsSoundFigure : List ℕ → Figure → Type 0
@@ -42,4 +42,4 @@ pub record IsSoundFile (file : Contents) : Type 0 where
   pub few : length file.symbols ≤ MAX_SYMBOLS
   pub numbers : All (λ n. n ≤ MAX_SYMBOL) file.symbols
   pub elements : All (IsSoundElement file.symbols) file.elements
-  pub acyclic : IsAcyclic (calls_in file.elements)
+  pub acyclic : IsAcyclic (element_calls file.elements)

@@ -6,27 +6,27 @@ use Rattle.cif_read.specs.declared.fault.FaultKind.TheVariants.{LongName, NoEnd,
 use Rattle.cif_read.specs.declared.fault.FaultKind.TheVariants.{OffAxis, OffGrid, Syntax, TooBig, TooMany, TwoSymbols, Wire, ZeroScale}
 
 -- the number, and the bytes of the name
-abbrev pub label_of : FaultKind → ℕ × List ℕ
-label_of NoEnd = (1, codes "NoEnd")
-label_of Syntax = (2, codes "Syntax")
-label_of Wire = (3, codes "Wire")
-label_of Flash = (4, codes "Flash")
-label_of DeleteDef = (5, codes "DeleteDef")
-label_of OffAxis = (6, codes "OffAxis")
-label_of NoLayer = (7, codes "NoLayer")
-label_of OffGrid = (8, codes "OffGrid")
-label_of TooBig = (9, codes "TooBig")
-label_of TwoSymbols = (10, codes "TwoSymbols")
-label_of NoSymbol = (11, codes "NoSymbol")
-label_of Cycle = (12, codes "Cycle")
-label_of AfterEnd = (13, codes "AfterEnd")
-label_of LongName = (14, codes "LongName")
-label_of ZeroScale = (15, codes "ZeroScale")
-label_of TooMany = (16, codes "TooMany")
-label_of NoMemory = (17, codes "NoMemory")
+abbrev pub fault_label : FaultKind → ℕ × List ℕ
+fault_label NoEnd = (1, codes "NoEnd")
+fault_label Syntax = (2, codes "Syntax")
+fault_label Wire = (3, codes "Wire")
+fault_label Flash = (4, codes "Flash")
+fault_label DeleteDef = (5, codes "DeleteDef")
+fault_label OffAxis = (6, codes "OffAxis")
+fault_label NoLayer = (7, codes "NoLayer")
+fault_label OffGrid = (8, codes "OffGrid")
+fault_label TooBig = (9, codes "TooBig")
+fault_label TwoSymbols = (10, codes "TwoSymbols")
+fault_label NoSymbol = (11, codes "NoSymbol")
+fault_label Cycle = (12, codes "Cycle")
+fault_label AfterEnd = (13, codes "AfterEnd")
+fault_label LongName = (14, codes "LongName")
+fault_label ZeroScale = (15, codes "ZeroScale")
+fault_label TooMany = (16, codes "TooMany")
+fault_label NoMemory = (17, codes "NoMemory")
 
-abbrev pub number_of : FaultKind → ℕ
-number_of kind = (label_of kind).0
+abbrev pub fault_number : FaultKind → ℕ
+fault_number kind = (fault_label kind).0
 
-abbrev pub name_of : FaultKind → List ℕ
-name_of kind = (label_of kind).1
+abbrev pub fault_name : FaultKind → List ℕ
+fault_name kind = (fault_label kind).1

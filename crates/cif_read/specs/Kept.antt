@@ -10,9 +10,9 @@ use Rattle.cif_read.specs.declared.element.Figure.{Figure}
 use Rattle.cif_read.specs.declared.element.Figure.TheVariants.{Call, Polygon}
 use Rattle.cif_read.specs.declared.file.TheConstants.{MAX_SYMBOLS}
 use Rattle.cif_read.specs.Binding.{edge_of}
-use Rattle.cif_read.specs.Content.{cell_of, scale_of}
+use Rattle.cif_read.specs.Content.{current_cell, current_scale}
 use Rattle.cif_read.specs.Scales.{IsRatio}
-use Rattle.cif_read.specs.Contents.{calls_in}
+use Rattle.cif_read.specs.Contents.{element_calls}
 
 -- what may be drawn before the calls are bound
 abbrev pub IsKeptFigure : Figure → Type 0
@@ -26,7 +26,7 @@ IsKeptElement symbols e = IsTrue (has_cell symbols e.cell) × IsKeptFigure e.fig
 pub record IsKept (content : Content) : Type 0 where
   pub few : length content.symbols ≤ MAX_SYMBOLS
   pub numbers : All (λ n. n ≤ MAX_SYMBOL) content.symbols
-  pub scale : IsRatio (scale_of content.definition)
-  pub inside : IsTrue (has_cell content.symbols (cell_of content.definition))
+  pub scale : IsRatio (current_scale content.definition)
+  pub inside : IsTrue (has_cell content.symbols (current_cell content.definition))
   pub elements : All (IsKeptElement content.symbols) content.elements
-  pub calls : map edge_of content.calls ≡ calls_in content.elements
+  pub calls : map edge_of content.calls ≡ element_calls content.elements

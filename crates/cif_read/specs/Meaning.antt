@@ -12,7 +12,7 @@ use Rattle.cif_read.specs.declared.fault.FaultKind.{FaultKind}
 use Rattle.cif_read.specs.declared.fault.FaultKind.TheVariants.{AfterEnd, DeleteDef, Flash, NoEnd, NoMemory, Syntax, TooMany, Wire}
 use Rattle.cif_read.specs.declared.file.TheConstants.{MAX_TEXT}
 use Rattle.cif_read.specs.Binding.{IsBoundAs}
-use Rattle.cif_read.specs.Content.{effect_of, is_inside, start}
+use Rattle.cif_read.specs.Content.{effect_of, empty_content, is_inside}
 use Rattle.cif_read.specs.Contents.{Contents}
 use Rattle.cif_read.specs.Steps.{and_then, at_offset}
 
@@ -71,7 +71,7 @@ after_cut content c = after_pieces content c.pieces c.ending
 
 -- what a text that isn't too long means before its calls are bound, or its first fault
 unfoldable pub content_in : List ℕ → Result Content CifFault
-content_in text = after_cut start (cut text)
+content_in text = after_cut empty_content (cut text)
 
 -- a text is too long
 abbrev pub too_long : CifFault

@@ -8,8 +8,8 @@ ghost use Rattle.cif_commands.specs.Layers.{layer_of};
 ghost use Rattle.cif_commands.specs.Paths.{path_of};
 ghost use Rattle.cif_commands.specs.Reading.{bracket_of, call_of};
 ghost use Rattle.cif_read.specs.Calls.{is_big_change};
-ghost use Rattle.cif_read.specs.Content.{after_box, after_call, after_layer, after_polygon, after_start, called, cell_of};
-ghost use Rattle.cif_read.specs.Content.{counted, drawn, effect_of, finished, is_big_call, is_inside, scale_of, start};
+ghost use Rattle.cif_read.specs.Content.{after_box, after_call, after_layer, after_polygon, after_start, called, current_cell};
+ghost use Rattle.cif_read.specs.Content.{content_size, current_scale, drawn, effect_of, empty_content, finished, is_big_call, is_inside};
 ghost use Rattle.cif_read.specs.Content.{with_figure};
 ghost use Rattle.cif_read.specs.Meaning.{after_piece, definition_kind, read_as};
 ghost use Rattle.cif_read.specs.Polygons.{is_too_big};
@@ -79,7 +79,7 @@ pub struct Content {
 impl Content {
     /// Returns the content in which no layer is set and nothing is defined or drawn.
     pub fn new(alloc: Global) -> Content
-        ensures { result ≡ start }
+        ensures { result ≡ empty_content }
     {
         Content {
             layer: None,
@@ -95,7 +95,7 @@ impl Content {
     /// Applies the command at this offset, whose bytes stand here without their semicolon. After a fault the
     /// content is not to be used.
     pub fn apply(&mut self, alloc: Global, offset: usize, bytes: &[u8]) -> Result<(), FaultKind>
-        requires { counted self.old + 1 < 2 ^ 32 }
+        requires { content_size self.old + 1 < 2 ^ 32 }
         ensures { IsAnswer OutOfMemory (leaves result self.new) (after_piece self.old offset bytes.now) }
     {
         let Some((first, behind)) = bytes.split_first() else {
@@ -120,7 +120,7 @@ impl Content {
 
     /// Returns the cell that is drawn in.
     fn cell(&self) -> CellId
-        ensures { result ≡ cell_of self.now.definition }
+        ensures { result ≡ current_cell self.now.definition }
     {
         match self.definition {
             Some(definition) => CellId::Symbol(definition.symbol),
@@ -130,7 +130,7 @@ impl Content {
 
     /// Returns the scale of the distances.
     fn scale(&self) -> Ratio
-        ensures { result ≡ scale_of self.now.definition }
+        ensures { result ≡ current_scale self.now.definition }
     {
         match self.definition {
             Some(definition) => definition.scale,
@@ -155,7 +155,7 @@ impl Content {
 
     /// Draws a polygon on the layer, or counts one that is dropped.
     fn draw(&mut self, alloc: Global, layer: LayerName, ring: Option<Ring>) -> Result<(), NoMemory>
-        requires { counted self.old + 1 < 2 ^ 32 }
+        requires { content_size self.old + 1 < 2 ^ 32 }
         ensures { OnOk result (self.new ≡ drawn self.old layer ring) }
     {
         match ring {
@@ -168,7 +168,7 @@ impl Content {
     /// Adds the polygon behind a `P`.
     #[tactic(auto, unfolding(crate::specs::Content::after_polygon))]
     fn add_polygon(&mut self, alloc: Global, bytes: &[u8]) -> Result<(), FaultKind>
-        requires { counted self.old + 1 < 2 ^ 32 }
+        requires { content_size self.old + 1 < 2 ^ 32 }
         ensures { IsAnswer OutOfMemory (leaves result self.new)
             (read_as Syntax (after_polygon self.old) (path_of bytes.now)) }
     {
@@ -184,7 +184,7 @@ impl Content {
     /// Adds the box behind a `B`.
     #[tactic(auto, unfolding(crate::specs::Content::after_box))]
     fn add_box(&mut self, alloc: Global, bytes: &[u8]) -> Result<(), FaultKind>
-        requires { counted self.old + 1 < 2 ^ 32 }
+        requires { content_size self.old + 1 < 2 ^ 32 }
         ensures { IsAnswer OutOfMemory (leaves result self.new)
             (read_as Syntax (after_box self.old) (box_of bytes.now)) }
     {

@@ -1,6 +1,6 @@
 //! Why a text is refused.
 ghost use Rattle.std.specs.Prelude.{◌≡◌};
-ghost use Rattle.cif_read.specs.Faults.{label_of, name_of, number_of};
+ghost use Rattle.cif_read.specs.Faults.{fault_label, fault_name, fault_number};
 ghost use Rattle.cif_read.specs.declared.fault.FaultKind.TheVariants as kinds;
 
 use lay_point::{MAX_LAYER_NAME, NoMemory};
@@ -66,20 +66,20 @@ pub enum FaultKind {
 impl FaultKind {
     /// Returns the number by which the product names this kind.
     pub fn number(self) -> u32
-        ensures { result ≡ number_of self }
+        ensures { result ≡ fault_number self }
     {
         self.label().0
     }
 
     /// Returns the word by which the product names this kind.
     pub fn name(self) -> &'static str
-        ensures { result.now ≡ name_of self }
+        ensures { result.now ≡ fault_name self }
     {
         self.label().1
     }
 
     fn label(self) -> (u32, &'static str)
-        ensures { (result.0, result.1.now) ≡ label_of self }
+        ensures { (result.0, result.1.now) ≡ fault_label self }
     {
         match self {
             FaultKind::NoEnd => (1, "NoEnd"),

@@ -7,7 +7,7 @@ ghost use Rattle.cif_commands.specs.Grammar.{Reads};
 ghost use Rattle.cif_scan.specs.Bytes.{is_blank, skip};
 ghost use Rattle.cif_read.specs.declared.content.Content.{Content};
 ghost use Rattle.cif_read.specs.Binding.{IsBoundAs};
-ghost use Rattle.cif_read.specs.Content.{content_of, counted};
+ghost use Rattle.cif_read.specs.Content.{content_of, content_size};
 ghost use Rattle.cif_read.specs.Kept.{IsKept};
 ghost use Rattle.cif_read.specs.Meaning.{AnswersMeaning, IsEndOf, after_bytes, at_ending, begins_with_end, content_in, no_memory};
 ghost use Rattle.cif_read.specs.Meaning.{too_long};
@@ -82,7 +82,7 @@ fn begins_with_end(bytes: &[u8]) -> bool
 /// Applies the bytes of the command at this offset to the content before it.
 #[tactic(auto, unfolding(crate::specs::Meaning::after_bytes))]
 fn apply(alloc: Global, content: &mut Content, offset: usize, bytes: &[u8]) -> Result<(), CifFault>
-    requires { counted content.old + 1 < 2 ^ 32 }
+    requires { content_size content.old + 1 < 2 ^ 32 }
     ensures { IsAnswer no_memory (leaves result content.new) (after_bytes content.old offset bytes.now) }
 {
     match content.apply(alloc, offset, bytes) {

@@ -4,7 +4,7 @@ ghost use Rattle.std.specs.List.{list_all, list_any};
 ghost use Rattle.lay_point.specs.Turns.{composed, unturned};
 ghost use Rattle.cif_read.specs.Calls.{call_turn, is_askew_change, is_big_change, is_whole_change, quarter_to};
 ghost use Rattle.cif_commands.specs.declared.calls.Change.TheVariants as changes_of;
-ghost use Rattle.cif_read.specs.Calls.{turn_in_range, turn_of, turned_by};
+ghost use Rattle.cif_read.specs.Calls.{turn_changed_by, turn_in_range, turn_of};
 
 use crate::boxes::{is_on_axis, is_zero};
 use crate::fault::FaultKind;
@@ -79,10 +79,10 @@ fn is_whole_change(scale: Ratio, change: Change) -> bool
 }
 
 /// Returns the turn that makes the changes one after the other, or `None` where it leaves the range.
-#[tactic(auto, unfolding(crate::specs::Calls::turned_by))]
+#[tactic(auto, unfolding(crate::specs::Calls::turn_changed_by))]
 fn turned_by(scale: Ratio, changes: &[Change]) -> Option<Turn>
     requires { list_any is_big_change changes.now ≡ false }
-    ensures { result ≡ turned_by scale unturned changes.now }
+    ensures { result ≡ turn_changed_by scale unturned changes.now }
 {
     let mut turn = turned(false, Quarter::R0);
     for change in changes {

@@ -8,7 +8,7 @@ use Rattle.std.proofs.lemmas.Option.{some_pair_parts}
 use Rattle.lay_point.specs.Names.{is_digit}
 use Rattle.cif_scan.specs.declared.number.Number.{Number}
 use Rattle.cif_scan.specs.Bytes.{is_separator, skip}
-use Rattle.cif_scan.specs.Grammar.{IsDigits, IsInteger, IsSigned, sign, written}
+use Rattle.cif_scan.specs.Grammar.{IsDigits, IsInteger, IsSigned, capped_magnitude, sign}
 use Rattle.cif_scan.specs.Numbers.{digits_at, integer_at, magnitude_at, sign_at, signed_at, spelled_by}
 use Rattle.cif_scan.proofs.Steps.{bind_some, chosen_of}
 use Rattle.cif_scan.proofs.ByteClasses.{digit_no_minus, digit_no_separator, minus_no_separator}
@@ -24,7 +24,7 @@ spelled_takes : (digits behind : List ℕ) (n : ℕ) (rest : List ℕ) → list_
     → spelled_by digits behind ≡ Some (n, rest) → IsDigits digits n × (behind ≡ rest)
 spelled_takes [] behind n rest passes e = absurd cc
 spelled_takes (d ∷ ds) behind n rest passes e =
-    let parts = some_pair_parts (written (d ∷ ds)) n behind rest e in
+    let parts = some_pair_parts (capped_magnitude (d ∷ ds)) n behind rest e in
     (record { some = omega arith; digits = passes; value = parts.0 }, parts.1)
 
 pub digits_takes : (bytes : List ℕ) (n : ℕ) (rest : List ℕ) → digits_at bytes ≡ Some (n, rest)

@@ -24,12 +24,12 @@ unfoldable pub is_gap : ℕ → Bool
 is_gap b = b == 59 || is_blank b
 
 -- what the class holds
-abbrev pub is_in : Class → ℕ → Bool
-is_in Blank = is_blank
-is_in Separator = is_separator
-is_in Gap = is_gap
-is_in Name = is_name_byte
-is_in Digit = is_digit
+abbrev pub is_in_class : Class → ℕ → Bool
+is_in_class Blank = is_blank
+is_in_class Separator = is_separator
+is_in_class Gap = is_gap
+is_in_class Name = is_name_byte
+is_in_class Digit = is_digit
 
 -- what stands behind the bytes at the front that pass
 abbrev pub skip : (ℕ → Bool) → List ℕ → List ℕ

@@ -10,14 +10,14 @@ use Rattle.cif_scan.specs.declared.number.TheConstants.{MAX_MAGNITUDE}
 use Rattle.cif_scan.specs.Bytes.{is_separator}
 
 -- what digits spell; one above the greatest magnitude, where that is less
-abbrev pub written : List ℕ → ℕ
-written digits = capped_decimal (MAX_MAGNITUDE + 1) digits
+abbrev pub capped_magnitude : List ℕ → ℕ
+capped_magnitude digits = capped_decimal (MAX_MAGNITUDE + 1) digits
 
 -- digit {digit}
 pub record IsDigits (text : List ℕ) (n : ℕ) : Type 0 where
   pub some : 1 ≤ length text
   pub digits : IsTrue (list_all is_digit text)
-  pub value : written text ≡ n
+  pub value : capped_magnitude text ≡ n
 
 -- {separator} digit {digit}
 pub record IsInteger (text : List ℕ) (n : ℕ) : Type 0 where

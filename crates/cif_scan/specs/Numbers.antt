@@ -5,7 +5,7 @@ use Rattle.std.specs.List.{take_while}
 use Rattle.lay_point.specs.Names.{is_digit}
 use Rattle.cif_scan.specs.declared.number.Number.{Number}
 use Rattle.cif_scan.specs.Bytes.{is_separator, skip}
-use Rattle.cif_scan.specs.Grammar.{written}
+use Rattle.cif_scan.specs.Grammar.{capped_magnitude}
 
 -- a reader takes something from the start of the bytes, and gives what it is and what stands behind it
 infixl 10 ◌>>=◌
@@ -15,7 +15,7 @@ o >>= f = option_and_then f o
 -- digits and what stands behind them, where there are digits
 abbrev pub spelled_by : List ℕ → List ℕ → Option (ℕ × List ℕ)
 spelled_by [] behind = None
-spelled_by (d ∷ ds) behind = Some (written (d ∷ ds), behind)
+spelled_by (d ∷ ds) behind = Some (capped_magnitude (d ∷ ds), behind)
 
 -- digit {digit}
 unfoldable pub digits_at : List ℕ → Option (ℕ × List ℕ)

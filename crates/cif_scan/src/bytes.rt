@@ -1,7 +1,7 @@
 //! The classes of bytes that the grammar speaks of, and runs of them.
 ghost use Rattle.std.specs.Prelude.{◌≡◌, ◌≤◌, length};
 ghost use Rattle.std.specs.List.{prefix_len};
-ghost use Rattle.cif_scan.specs.Bytes.{is_blank, is_gap, is_in, is_mark, is_separator, skip};
+ghost use Rattle.cif_scan.specs.Bytes.{is_blank, is_gap, is_in_class, is_mark, is_separator, skip};
 
 /// A class of bytes.
 #[derive(Clone, Copy, Debug, PartialEq, Eq)]
@@ -21,7 +21,7 @@ pub enum Class {
 impl Class {
     /// Returns whether the byte is of this class.
     pub fn contains(self, byte: u8) -> bool
-        ensures { result ≡ is_in self byte }
+        ensures { result ≡ is_in_class self byte }
     {
         match self {
             Class::Blank => is_blank(byte),
@@ -63,7 +63,7 @@ fn is_gap(byte: u8) -> bool
 
 /// Returns how many bytes at the start are of the class.
 pub fn run_len(bytes: &[u8], class: Class) -> usize
-    ensures value { result ≡ prefix_len (is_in class) bytes.now }
+    ensures value { result ≡ prefix_len (is_in_class class) bytes.now }
     ensures within { result ≤ length bytes.now }
 {
     bytes.iter().take_while(|b| class.contains(**b)).count()
@@ -71,7 +71,7 @@ pub fn run_len(bytes: &[u8], class: Class) -> usize
 
 /// Skips the bytes of the class at the start.
 pub fn skip(bytes: &[u8], class: Class) -> &[u8]
-    ensures { result.now ≡ skip (is_in class) bytes.now }
+    ensures { result.now ≡ skip (is_in_class class) bytes.now }
 {
     &bytes[run_len(bytes, class)..]
 }

@@ -5,7 +5,7 @@ ghost use Rattle.std.specs.Prelude.{◌≡◌};
 ghost use Rattle.std.specs.List.{take_while};
 ghost use Rattle.lay_point.specs.Names.{is_digit};
 ghost use Rattle.cif_scan.specs.Bytes.{skip};
-ghost use Rattle.cif_scan.specs.Grammar.{written};
+ghost use Rattle.cif_scan.specs.Grammar.{capped_magnitude};
 ghost use Rattle.cif_scan.specs.Numbers.{behind_separator, digits_at, integer_at, magnitude_at, signed_at};
 ghost use Rattle.cif_scan.specs.Views.{Gives};
 
@@ -80,7 +80,7 @@ fn digits(bytes: &[u8]) -> Option<(u32, &[u8])>
 
 /// Returns what the digits at the start spell and what stands behind them, in one pass.
 fn written(bytes: &[u8]) -> (u32, &[u8])
-    ensures value { result.0 ≡ written (take_while is_digit bytes.now) }
+    ensures value { result.0 ≡ capped_magnitude (take_while is_digit bytes.now) }
     ensures behind { result.1.now ≡ skip is_digit bytes.now }
 {
     let mut value = 0u64;

@@ -19,7 +19,7 @@ use Rattle.cif_read.specs.declared.element.Element.{Element}
 use Rattle.cif_read.specs.declared.element.Figure.TheVariants.{Call, Polygon}
 use Rattle.cif_read.specs.declared.fault.FaultKind.TheVariants.{TooBig}
 use Rattle.cif_read.specs.declared.file.TheConstants.{MAX_SYMBOLS}
-use Rattle.cif_read.specs.Content.{after_call, after_layer, after_polygon, after_start, begun, called, on_layer}
+use Rattle.cif_read.specs.Content.{after_call, after_layer, after_polygon, after_start, called, definition_begun, on_layer}
 use Rattle.cif_read.specs.Polygons.{polygon_at}
 use Rattle.cif_read.specs.Steps.{and_then}
 use Rattle.cif_read.specs.Symbols.{definition_fault}
@@ -61,7 +61,7 @@ pub begins : (symbols : List ℕ) (es : List Element) (number : ℕ) → MayBegi
     → Does (outside symbols es) (command.Start (halved_definition number)) (inside number None (symbols ++ number ∷ []) es)
 unfolding after_start
 begins symbols es number may calls offset =
-    (calls, ap (begun (with_calls (outside symbols es) calls) (halved_definition number)) (no_fault symbols number may))
+    (calls, ap (definition_begun (with_calls (outside symbols es) calls) (halved_definition number)) (no_fault symbols number may))
 
 pub sets_layer : (number : ℕ) (set : Option (List ℕ)) (symbols : List ℕ) (es : List Element) (name : List ℕ) → length name ≤ MAX_LAYER_NAME
     → Does (inside number set symbols es) (command.Layer name) (inside number (Some name) symbols es)

@@ -17,37 +17,37 @@ use Rattle.lay_items.specs.declared.id.ItemId.{ItemId}
 use Rattle.lay_items.specs.declared.item.Item.{Item}
 use Rattle.lay_items.specs.declared.item.Item.TheVariants.{Placed, Shape}
 use Rattle.lay_items.specs.declared.version.CellSlot.{CellSlot}
-use Rattle.lay_items.specs.Calls.{Call, call_of, calls_among, calls_of}
+use Rattle.lay_items.specs.Calls.{Call, as_call, calls_among, calls_of}
 use Rattle.lay_items.specs.IdOrder.{ids_exact, ids_total}
 use Rattle.lay_items.specs.Items.{cell_of, items_in}
 use Rattle.lay_items.specs.Layout.{Layout, is_cell}
 use Rattle.lay_items.specs.Sound.{IsSound, IsSoundItem}
 use Rattle.lay_items.proofs.EntryLemmas.{entries-found}
 use Rattle.cif_write.specs.Wrap.{held_in, plain_target}
-use Rattle.cif_trip_laws.specs.Laws.{AreNamed, IsNamed}
+use Rattle.cif_trip_laws.specs.Laws.{AreOnNamedLayers, IsOnNamedLayer}
 use Rattle.cif_trip_laws.proofs.LinesLead.{IsWritable}
 
 -- ---- calls among items
 
 -- what is so of the calls of entries is so of the calls among them
-calls_among-all : (P : Call → Type 0) (es : List (ItemId × Item)) → All (λ e. (c : Call) → call_of e.1 ≡ Some c → P c) es
+calls_among-all : (P : Call → Type 0) (es : List (ItemId × Item)) → All (λ e. (c : Call) → as_call e.1 ≡ Some c → P c) es
     → All P (calls_among es)
 calls_among-all P [] h = All-nil P
 calls_among-all P (e ∷ es) h =
-    by (call_of e.1) refl (calls_among-all P es (All-tail (λ x. (c : Call) → call_of x.1 ≡ Some c → P c) e es h)) where
-      by : (o : Option Call) → call_of e.1 ≡ o → All P (calls_among es) → All P (cons_option o (calls_among es))
+    by (as_call e.1) refl (calls_among-all P es (All-tail (λ x. (c : Call) → as_call x.1 ≡ Some c → P c) e es h)) where
+      by : (o : Option Call) → as_call e.1 ≡ o → All P (calls_among es) → All P (cons_option o (calls_among es))
       by None at rest = rest
-      by (Some c) at rest = All-cons P c (calls_among es) (All-head (λ x. (c : Call) → call_of x.1 ≡ Some c → P c) e es h c at) rest
+      by (Some c) at rest = All-cons P c (calls_among es) (All-head (λ x. (c : Call) → as_call x.1 ≡ Some c → P c) e es h c at) rest
 
 -- each entry's call is among them
-listed : (es : List (ItemId × Item)) → All (λ e. (c : Call) → call_of e.1 ≡ Some c → Contains (calls_among es) c) es
-listed [] = All-nil (λ e. (c : Call) → call_of e.1 ≡ Some c → Contains [] c)
+listed : (es : List (ItemId × Item)) → All (λ e. (c : Call) → as_call e.1 ≡ Some c → Contains (calls_among es) c) es
+listed [] = All-nil (λ e. (c : Call) → as_call e.1 ≡ Some c → Contains [] c)
 listed (x ∷ es) =
-    All-cons (λ e. (c : Call) → call_of e.1 ≡ Some c → Contains (calls_among (x ∷ es)) c) x es
+    All-cons (λ e. (c : Call) → as_call e.1 ≡ Some c → Contains (calls_among (x ∷ es)) c) x es
     (λ c at. subst (λ (o : Option Call). Contains (cons_option o (calls_among es)) c) (sym at)
     (Contains-append_left (c ∷ []) (calls_among es) c (first c)))
-    (All-weaker (λ e. (c : Call) → call_of e.1 ≡ Some c → Contains (calls_among es) c)
-    (λ e. (c : Call) → call_of e.1 ≡ Some c → Contains (calls_among (x ∷ es)) c) (λ e h c at. behind (call_of x.1) c (h c at)) es
+    (All-weaker (λ e. (c : Call) → as_call e.1 ≡ Some c → Contains (calls_among es) c)
+    (λ e. (c : Call) → as_call e.1 ≡ Some c → Contains (calls_among (x ∷ es)) c) (λ e h c at. behind (as_call x.1) c (h c at)) es
     (listed es))
   where
     first : (c : Call) → Contains (c ∷ []) c
@@ -61,9 +61,9 @@ listed (x ∷ es) =
 
 pub record IsHeld (layout : Layout) (cell : CellId) (item : Item) : Type 0 where
   pub sound : IsSoundItem layout item
-  pub named : IsNamed item
+  pub named : IsOnNamedLayer item
   pub stands : cell_of item ≡ cell
-  pub listed : (c : Call) → call_of item ≡ Some c → Contains (calls_of layout) c
+  pub listed : (c : Call) → as_call item ≡ Some c → Contains (calls_of layout) c
 
 module _ (layout : Layout) (sound : IsSound layout) where
   -- an entry's item is the layout's
@@ -78,10 +78,10 @@ module _ (layout : Layout) (sound : IsSound layout) where
   unfolding calls_of
   targets =
       calls_among-all (λ c. IsTrue (is_cell layout (Symbol c.1))) (entries layout.items)
-      (All-weaker (λ e. IsSoundItem layout e.1) (λ e. (c : Call) → call_of e.1 ≡ Some c → IsTrue (is_cell layout (Symbol c.1)))
+      (All-weaker (λ e. IsSoundItem layout e.1) (λ e. (c : Call) → as_call e.1 ≡ Some c → IsTrue (is_cell layout (Symbol c.1)))
       (λ e is. by e.1 is) (entries layout.items) entry-sound)
     where
-      by : (item : Item) → IsSoundItem layout item → (c : Call) → call_of item ≡ Some c → IsTrue (is_cell layout (Symbol c.1))
+      by : (item : Item) → IsSoundItem layout item → (c : Call) → as_call item ≡ Some c → IsTrue (is_cell layout (Symbol c.1))
       by (Shape cell layer rings) is c at = absurd cc
       by (Placed cell target turn) is c at =
           let same : (cell, target) ≡ c = cc in
@@ -93,8 +93,9 @@ module _ (layout : Layout) (sound : IsSound layout) where
     by None at h = absurd cc
     by (Some slot) at h = sound.numbers number slot at
 
-  module _ (named : AreNamed layout) where
-    held_entries : All (λ e. IsSoundItem layout e.1 × IsNamed e.1 × ((c : Call) → call_of e.1 ≡ Some c → Contains (calls_of layout) c))
+  module _ (named : AreOnNamedLayers layout) where
+    held_entries : All (λ e. IsSoundItem layout e.1 × IsOnNamedLayer e.1
+        × ((c : Call) → as_call e.1 ≡ Some c → Contains (calls_of layout) c))
         (entries layout.items)
     unfolding calls_of
     held_entries i d h =
@@ -109,7 +110,7 @@ module _ (layout : Layout) (sound : IsSound layout) where
         All-map (IsHeld layout cell) (λ (e : ItemId × Item). e.1) kept
         (λ i d h.
         let is = All-filter test
-        (λ e. IsSoundItem layout e.1 × IsNamed e.1 × ((c : Call) → call_of e.1 ≡ Some c → Contains (calls_of layout) c))
+        (λ e. IsSoundItem layout e.1 × IsOnNamedLayer e.1 × ((c : Call) → as_call e.1 ≡ Some c → Contains (calls_of layout) c))
         (entries layout.items)
         held_entries i d h in
         record {

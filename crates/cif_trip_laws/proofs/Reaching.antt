@@ -6,7 +6,7 @@ use Rattle.cif_commands.specs.Commands.{Command}
 use Rattle.cif_commands.specs.Grammar.{ReadsFrom}
 use Rattle.cif_read.specs.declared.content.Content.{Content}
 use Rattle.cif_read.specs.declared.content.Pending.{Pending}
-use Rattle.cif_read.specs.Content.{after_command, after_commands, effect_of, is_inside}
+use Rattle.cif_read.specs.Content.{after_command_at, after_commands, effect_of, is_inside}
 use Rattle.cif_read.specs.Kept.{IsKept}
 use Rattle.cif_read.proofs.StepFacts.{step_of}
 use Rattle.cif_write.specs.Lines.{End, Line, line_text, lines_text}
@@ -36,7 +36,7 @@ Does from c next = (calls : List Pending) (offset : ℕ)
 -- a line of a command leads where the command does
 line_leads : (from next last : Content) (line : Line) (c : Command) (text : List ℕ) → IsLineOf line c → Does from c next
     → Reaches next last text → Reaches from last (line_text line ++ text)
-unfolding after_commands after_command is_gap is_blank is_mark
+unfolding after_commands after_command_at is_gap is_blank is_mark
 line_leads from next last line c text is does reaches calls offset gap kept passed =
     let content = with_calls from calls in
     let place = offset + length gap in

@@ -22,7 +22,7 @@ use Rattle.cif_read.specs.declared.element.Figure.TheVariants.{Call}
 use Rattle.cif_read.specs.declared.fault.CifFault.{CifFault}
 use Rattle.cif_read.specs.Binding.{IsBound, contents_of, edge_of}
 use Rattle.cif_read.specs.Content.{content_of}
-use Rattle.cif_read.specs.Contents.{Contents, calls_in}
+use Rattle.cif_read.specs.Contents.{Contents, element_calls}
 use Rattle.cif_read.specs.Kept.{IsKept}
 use Rattle.cif_read.specs.declared.file.TheConstants.{MAX_TEXT}
 use Rattle.cif_read.specs.Meaning.{AnswersMeaning, IsEndOf, content_within, no_memory}
@@ -34,7 +34,7 @@ use Rattle.lay_items.specs.FromCif.{item_of, layout_of}
 use Rattle.lay_items.proofs.SoundLemmas.{layout_of-sound}
 use Rattle.cif_write.specs.Text.{text}
 use Rattle.cif_write.specs.Wrap.{Definition, Written, as_written, items_written, wrap, written}
-use Rattle.cif_trip_laws.specs.Laws.{AreNamed, FitsText, IsReread, WhatIsWrappedIsSound, WhatIsWrittenIsReadBack}
+use Rattle.cif_trip_laws.specs.Laws.{AreOnNamedLayers, FitsText, IsReread, WhatIsWrappedIsSound, WhatIsWrittenIsReadBack}
 use Rattle.cif_trip_laws.proofs.CommandsDo.{outside}
 use Rattle.cif_trip_laws.proofs.HeldItems.{targets}
 use Rattle.cif_trip_laws.proofs.LinesLead.{element_of, elements_of, elements_written, file_read, symbol_of}
@@ -65,23 +65,24 @@ written_again file =
 
 -- ---- the calls are bound
 
-module _ (layout : Layout) (sound : IsSound layout) (named : AreNamed layout) where
-  bound : (file : Written) (calls : List Pending) → WrittenCalls layout file → map edge_of calls ≡ calls_in (elements_written file)
+module _ (layout : Layout) (sound : IsSound layout) (named : AreOnNamedLayers layout) where
+  bound : (file : Written) (calls : List Pending) → WrittenCalls layout file → map edge_of calls ≡ element_calls (elements_written file)
       → All (IsBound (map symbol_of file.definitions)) calls
   bound file calls good e =
       let all = map symbol_of file.definitions in
       unmapped (λ c. has_symbol all c.1 ≡ true) edge_of calls
       (subst (All (λ c. has_symbol all c.1 ≡ true)) (sym e)
-      (All-weaker (λ c. IsGood layout all c.0 c.1) (λ c. has_symbol all c.1 ≡ true) (λ c g. g.1) (calls_in (elements_written file)) good))
+      (All-weaker (λ c. IsGood layout all c.0 c.1) (λ c. has_symbol all c.1 ≡ true) (λ c g. g.1)
+          (element_calls (elements_written file)) good))
 
-  acyclic : (file : Written) (calls : List Pending) → WrittenCalls layout file → map edge_of calls ≡ calls_in (elements_written file)
+  acyclic : (file : Written) (calls : List Pending) → WrittenCalls layout file → map edge_of calls ≡ element_calls (elements_written file)
       → IsAcyclic (map edge_of calls)
   acyclic file calls good e =
       subst IsAcyclic (sym e)
       (still_acyclic (calls_of layout) (own_numbers layout) (λ i d h. has_number layout sound named _ (targets layout sound i d h))
-      (calls_in (elements_written file))
+      (element_calls (elements_written file))
       (All-weaker (λ c. IsGood layout (map symbol_of file.definitions) c.0 c.1) (λ c. IsFrom (calls_of layout) (own_numbers layout) c.0 c.1)
-      (λ c g. g.0) (calls_in (elements_written file)) good) sound.acyclic)
+      (λ c g. g.0) (element_calls (elements_written file)) good) sound.acyclic)
 
 -- ---- the laws
 

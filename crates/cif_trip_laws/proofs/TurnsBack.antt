@@ -14,7 +14,7 @@ use Rattle.cif_commands.specs.declared.calls.Change.{Change}
 use Rattle.cif_commands.specs.declared.calls.Change.TheVariants.{Shift}
 use Rattle.cif_commands.specs.Definitions.{plain_scale}
 use Rattle.cif_read.specs.Calls.{call_turn, is_askew_change, is_big_change}
-use Rattle.cif_read.specs.Calls.{is_whole_change, origin, turn_in_range, turn_or_fault, turned_by}
+use Rattle.cif_read.specs.Calls.{is_whole_change, origin, turn_changed_by, turn_in_range, turn_or_fault}
 use Rattle.cif_read.specs.Polygons.{point_in_range}
 use Rattle.cif_read.proofs.TurnLemmas.{shift_found, sum_of}
 use Rattle.cif_trip_laws.proofs.ScaledBack.{point_back, small_point, whole_point}
@@ -66,8 +66,8 @@ abbrev unshifted : Bool → Quarter → Turn
 unshifted mirror quarter = record { mirror = mirror; quarter = quarter; shift = origin }
 
 front_turned : (mirror : Bool) (quarter : Quarter) (cs : List Change)
-    → turned_by half unturned (front mirror quarter cs) ≡ turned_by half (unshifted mirror quarter) cs
-unfolding turned_by composed turned
+    → turn_changed_by half unturned (front mirror quarter cs) ≡ turn_changed_by half (unshifted mirror quarter) cs
+unfolding turn_changed_by composed turned
 front_turned true R0 cs = refl
 front_turned true R90 cs = refl
 front_turned true R180 cs = refl
@@ -102,15 +102,16 @@ sum_is mirror quarter shift = λ i. record { x = zero_first shift.x i; y = zero_
 
 shift_turned : (mirror : Bool) (quarter : Quarter) (shift : Point) → is_in_range shift ≡ true → (none : Bool)
     → point_eq shift origin ≡ none
-    → turned_by half (unshifted mirror quarter) (shifts none shift) ≡ Some (record { mirror = mirror; quarter = quarter; shift = shift })
-unfolding turned_by
+    → turn_changed_by half (unshifted mirror quarter) (shifts none shift)
+        ≡ Some (record { mirror = mirror; quarter = quarter; shift = shift })
+unfolding turn_changed_by
 shift_turned mirror quarter shift h true e =
     ap (λ s. Some (record { mirror = mirror; quarter = quarter; shift = s })) (sym (point_eq-true shift origin e))
 shift_turned mirror quarter shift h false e =
     let turn = unshifted mirror quarter in
     let found : point_in_range (sum_of turn shift) ≡ Some shift =
     ap point_in_range (sum_is mirror quarter shift) ∙ ap (λ b. cond b (Some shift) None) h in
-    ap (λ o. option_and_then (λ next. turned_by half next []) o)
+    ap (λ o. option_and_then (λ next. turn_changed_by half next []) o)
     (ap (λ s. turn_in_range (composed turn (record { mirror = false; quarter = R0; shift = s }))) (point_back shift)
     ∙ sym (shift_found turn shift (Some shift) found))
 
@@ -132,5 +133,5 @@ turn_back turn h =
 
 -- the turn that changes nothing, at any scale
 pub unturned_back : call_turn plain_scale (changes_of unturned) ≡ Ok unturned
-unfolding call_turn turned_by
+unfolding call_turn turn_changed_by
 unturned_back = refl

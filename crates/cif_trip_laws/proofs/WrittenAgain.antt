@@ -23,7 +23,7 @@ use Rattle.lay_items.proofs.NumberedLemmas.{entries-numbered}
 use Rattle.lay_items.proofs.SlotLemmas.{in_slot_order-placed}
 use Rattle.cif_write.specs.Lines.{Call, End, Finish, Start, lines_text}
 use Rattle.cif_write.specs.Text.{definitions_lines, file_lines, item_lines, items_lines, layer_after, path_lines, text}
-use Rattle.cif_write.specs.Wrap.{Definition, Written, as_written, definition_of, held_in, items_written}
+use Rattle.cif_write.specs.Wrap.{Definition, Written, as_written, held_in, items_written, written_definition}
 use Rattle.cif_write.specs.Wrap.{least_unused, own_definitions, plain_target, wrap, written, written_with}
 use Rattle.cif_trip_laws.specs.Laws.{WhatIsReadIsWrittenTheSame}
 use Rattle.cif_trip_laws.proofs.LinesLead.{AreWritable, IsWritable, symbol_of}
@@ -132,7 +132,7 @@ definition_again d = record { number = d.number; items = items_again d }
 definitions_again : (layout : Layout) (file : Written) (ds : List Definition)
     → ((n : ℕ) → held_in layout (Symbol n) ≡ filter (stands_in (Symbol n)) (flat_map items_again file.definitions))
     → AllByRecursion (λ d. filter (stands_in (Symbol d.number)) (flat_map items_again file.definitions) ≡ items_again d) ds
-    → map (definition_of layout) (map symbol_of ds) ≡ map definition_again ds
+    → map (written_definition layout) (map symbol_of ds) ≡ map definition_again ds
 unfolding definition_again
 definitions_again layout file [] held each = refl
 definitions_again layout file (d ∷ ds) held each = λ i.
@@ -228,7 +228,7 @@ module _ (layout : Layout) (may : AreWritable [] (written layout).definitions) w
   own_again : own_definitions (wrap layout) ≡ map definition_again ds
   unfolding ds
   own_again =
-      ap (map (definition_of (wrap layout))) symbols_again
+      ap (map (written_definition (wrap layout))) symbols_again
       ∙ definitions_again (wrap layout) (written layout) ds symbol_held (each_stands ds (numbers_distinct ds [] may))
 
   written-wrap : written (wrap layout) ≡ record { definitions = map definition_again ds; called = (written layout).called }

@@ -22,11 +22,11 @@ use Rattle.lay_items.proofs.EntryLemmas.{or_true}
 use Rattle.cif_read.specs.declared.element.Element.{Element}
 use Rattle.cif_read.specs.declared.element.Figure.{Figure}
 use Rattle.cif_read.specs.declared.element.Figure.TheVariants as figure
-use Rattle.cif_read.specs.Contents.{calls_in, with_call}
-use Rattle.cif_write.specs.Wrap.{Definition, Written, definition_of, held_in}
+use Rattle.cif_read.specs.Contents.{element_calls, with_call}
+use Rattle.cif_write.specs.Wrap.{Definition, Written, held_in, written_definition}
 use Rattle.cif_write.specs.Wrap.{least_unused, own_definitions, plain_target, written, written_with}
 use Rattle.cif_write.proofs.UnusedLemmas.{least_unused_is}
-use Rattle.cif_trip_laws.specs.Laws.{AreNamed}
+use Rattle.cif_trip_laws.specs.Laws.{AreOnNamedLayers}
 use Rattle.cif_trip_laws.proofs.HeldItems.{IsHeld, held, targets}
 use Rattle.cif_trip_laws.proofs.LinesLead.{element_of, elements_of, elements_written, symbol_of}
 use Rattle.cif_trip_laws.proofs.WrittenSymbols.{IsWrittenWell, has_number, numbers_again, own_numbers}
@@ -95,7 +95,7 @@ module _ (old : List (CellId × ℕ)) (own : List ℕ) (bound : All (λ c. has_s
 
 -- what is so of all calls among elements
 abbrev pub AllCalls : (CellId → ℕ → Type 0) → List Element → Type 0
-AllCalls P es = All (λ c. P c.0 c.1) (calls_in es)
+AllCalls P es = All (λ c. P c.0 c.1) (element_calls es)
 
 -- the calls among what a cell holds, written in the symbol of this number
 held_calls : (P : CellId → ℕ → Type 0) (layout : Layout) (cell : CellId) (number : ℕ) (items : List Item) → All (IsHeld layout cell) items
@@ -107,19 +107,19 @@ held_calls P layout cell number (Placed other target turn ∷ items) h says =
     let first = All-head (IsHeld layout cell) (Placed other target turn) items h in
     let listed : Contains (calls_of layout) (cell, target) =
     subst (λ (c : CellId). Contains (calls_of layout) (c, target)) first.stands (first.listed (other, target) refl) in
-    All-cons (λ c. P c.0 c.1) (Symbol number, target) (calls_in (map (element_of number) items)) (says target listed)
+    All-cons (λ c. P c.0 c.1) (Symbol number, target) (element_calls (map (element_of number) items)) (says target listed)
     (held_calls P layout cell number items (All-tail (IsHeld layout cell) (Placed other target turn) items h) says)
 
-calls_in-joined : (xs ys : List Element) → calls_in (xs ++ ys) ≡ calls_in xs ++ calls_in ys
-calls_in-joined [] ys = refl
-calls_in-joined (x ∷ xs) ys = ap (with_call x.cell x.figure) (calls_in-joined xs ys) ∙ by x.figure where
-  by : (f : Figure) → with_call x.cell f (calls_in xs ++ calls_in ys) ≡ with_call x.cell f (calls_in xs) ++ calls_in ys
+element_calls-joined : (xs ys : List Element) → element_calls (xs ++ ys) ≡ element_calls xs ++ element_calls ys
+element_calls-joined [] ys = refl
+element_calls-joined (x ∷ xs) ys = ap (with_call x.cell x.figure) (element_calls-joined xs ys) ∙ by x.figure where
+  by : (f : Figure) → with_call x.cell f (element_calls xs ++ element_calls ys) ≡ with_call x.cell f (element_calls xs) ++ element_calls ys
   by (figure.Polygon layer ring) = refl
   by (figure.Call target turn) = refl
 
 both_calls : (P : CellId → ℕ → Type 0) (xs ys : List Element) → AllCalls P xs → AllCalls P ys → AllCalls P (xs ++ ys)
 both_calls P xs ys h g =
-    subst (All (λ c. P c.0 c.1)) (sym (calls_in-joined xs ys)) (All-append (λ c. P c.0 c.1) (calls_in xs) (calls_in ys) h g)
+    subst (All (λ c. P c.0 c.1)) (sym (element_calls-joined xs ys)) (All-append (λ c. P c.0 c.1) (element_calls xs) (element_calls ys) h g)
 
 each_there : (ns : List ℕ) → All (λ n. has_symbol ns n ≡ true) ns
 each_there [] = All-nil (λ n. has_symbol [] n ≡ true)
@@ -136,7 +136,7 @@ IsGood layout all cell target = IsFrom (calls_of layout) (own_numbers layout) ce
 abbrev pub WrittenCalls : Layout → Written → Type 0
 WrittenCalls layout file = AllCalls (IsGood layout (map symbol_of file.definitions)) (elements_written file)
 
-module _ (layout : Layout) (sound : IsSound layout) (named : AreNamed layout) where
+module _ (layout : Layout) (sound : IsSound layout) (named : AreOnNamedLayers layout) where
   own_bound : All (λ c. has_symbol (own_numbers layout) c.1 ≡ true) (calls_of layout)
   own_bound i d h = has_number layout sound named _ (targets layout sound i d h)
 
@@ -146,10 +146,11 @@ module _ (layout : Layout) (sound : IsSound layout) (named : AreNamed layout) wh
         within t (All-contains (λ c. has_symbol (own_numbers layout) c.1 ≡ true) (calls_of layout) (cell, t) own_bound there)
 
     own_calls : (ns : List ℕ) → All (λ n. has_symbol (own_numbers layout) n ≡ true) ns
-        → AllCalls (IsGood layout all) (flat_map elements_of (map (definition_of layout) ns))
+        → AllCalls (IsGood layout all) (flat_map elements_of (map (written_definition layout) ns))
     own_calls [] h = All-nil (λ c. IsGood layout all c.0 c.1)
     own_calls (n ∷ ns) h =
-        both_calls (IsGood layout all) (elements_of (definition_of layout n)) (flat_map elements_of (map (definition_of layout) ns))
+        both_calls (IsGood layout all) (elements_of (written_definition layout n))
+            (flat_map elements_of (map (written_definition layout) ns))
         (held_calls (IsGood layout all) layout (Symbol n) n (held_in layout (Symbol n)) (held layout sound named (Symbol n))
         (λ t there. (in_symbol (All-head (λ m. has_symbol (own_numbers layout) m ≡ true) n ns h) there, target_within (Symbol n) t there)))
         (own_calls ns (All-tail (λ m. has_symbol (own_numbers layout) m ≡ true) n ns h))

@@ -19,10 +19,10 @@ use Rattle.lay_items.specs.Sound.{IsSound}
 use Rattle.lay_items.proofs.EntryLemmas.{order-distinct, order-symbols, symbols-ordered}
 use Rattle.cif_read.specs.declared.file.TheConstants.{MAX_SYMBOLS}
 use Rattle.cif_read.proofs.StepFacts.{new_cell}
-use Rattle.cif_write.specs.Wrap.{Definition, Written, definition_of, held_in, least_unused}
+use Rattle.cif_write.specs.Wrap.{Definition, Written, held_in, least_unused, written_definition}
 use Rattle.cif_write.specs.Wrap.{own_definitions, plain_target, unused_from, written, written_with}
 use Rattle.cif_write.proofs.UnusedLemmas.{least_unused_is}
-use Rattle.cif_trip_laws.specs.Laws.{AreNamed}
+use Rattle.cif_trip_laws.specs.Laws.{AreOnNamedLayers}
 use Rattle.cif_trip_laws.proofs.HeldItems.{IsHeld, held, plain_called, small_symbol, writable}
 use Rattle.cif_trip_laws.proofs.LinesLead.{AreWritable, IsWritable, symbol_of}
 
@@ -46,7 +46,7 @@ still_new symbols m n new apart =
 abbrev pub own_numbers : Layout → List ℕ
 own_numbers layout = in_slot_order layout.symbols
 
-pub numbers_again : (layout : Layout) (ns : List ℕ) → map symbol_of (map (definition_of layout) ns) ≡ ns
+pub numbers_again : (layout : Layout) (ns : List ℕ) → map symbol_of (map (written_definition layout) ns) ≡ ns
 numbers_again layout [] = refl
 numbers_again layout (n ∷ ns) = ap (λ ms. n ∷ ms) (numbers_again layout ns)
 
@@ -58,7 +58,7 @@ pub record IsWrittenWell (file : Written) : Type 0 where
   pub called : has_symbol (map symbol_of file.definitions) file.called ≡ true
   pub small : file.called ≤ MAX_SYMBOL
 
-module _ (layout : Layout) (sound : IsSound layout) (named : AreNamed layout) where
+module _ (layout : Layout) (sound : IsSound layout) (named : AreOnNamedLayers layout) where
   all_writable : (cell : CellId) → AllByRecursion IsWritable (held_in layout cell)
   all_writable cell =
       recursion_from_All IsWritable (held_in layout cell)
@@ -68,7 +68,7 @@ module _ (layout : Layout) (sound : IsSound layout) (named : AreNamed layout) wh
   own_writable : (numbers symbols : List ℕ) (rest : List Definition) → IsDistinct nat_eq numbers
       → All (λ n. has_symbol symbols n ≡ false) numbers
       → All (λ n. n ≤ MAX_SYMBOL) numbers → length symbols + length numbers ≤ MAX_SYMBOLS → AreWritable (symbols ++ numbers) rest
-      → AreWritable symbols (map (definition_of layout) numbers ++ rest)
+      → AreWritable symbols (map (written_definition layout) numbers ++ rest)
   unfolding IsDistinct
   own_writable [] symbols rest distinct new small room may = subst (λ (ns : List ℕ). AreWritable ns rest) (append-nil symbols) may
   own_writable (n ∷ ns) symbols rest distinct new small room may = (
@@ -109,7 +109,7 @@ module _ (layout : Layout) (sound : IsSound layout) (named : AreNamed layout) wh
       let there = plain_called layout sound (held_in layout Top) target (held layout sound named Top) at in
       record {
         definitions = subst (AreWritable []) (append-nil (own_definitions layout))
-            (own [] (omega (arith, room, length-map (own_numbers layout) (definition_of layout))) tt);
+            (own [] (omega (arith, room, length-map (own_numbers layout) (written_definition layout))) tt);
         called = subst (λ (ns : List ℕ). has_symbol ns target ≡ true) (sym (numbers_again layout (own_numbers layout)))
             (has_number target there);
         small = small_symbol layout sound target there;
@@ -119,7 +119,8 @@ module _ (layout : Layout) (sound : IsSound layout) (named : AreNamed layout) wh
       let wrapping : Definition = record { number = unused; items = held_in layout Top } in
       let is = least_unused_is (own_numbers layout) in
       let less : length (own_numbers layout) < MAX_SYMBOLS =
-      omega (arith, room, length-map (own_numbers layout) (definition_of layout), length-append (own_definitions layout) (wrapping ∷ [])) in
+      omega (arith, room, length-map (own_numbers layout) (written_definition layout),
+          length-append (own_definitions layout) (wrapping ∷ [])) in
       let small : unused ≤ MAX_SYMBOL = omega (arith, less, unused_within (length (own_numbers layout)) 1 (own_numbers layout)) in
       record {
         definitions = own (wrapping ∷ []) (omega (arith, less))

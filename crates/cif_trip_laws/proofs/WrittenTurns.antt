@@ -12,7 +12,7 @@ use Rattle.cif_scan.specs.Grammar.{IsDigits, IsSigned, sign}
 use Rattle.cif_commands.specs.declared.calls.Change.{Change}
 use Rattle.cif_commands.specs.declared.calls.Change.TheVariants.{Direction, MirrorX, Shift}
 use Rattle.cif_commands.specs.declared.paths.Vertex.{Vertex}
-use Rattle.cif_commands.specs.Grammar.{AreChanges, IsChange}
+use Rattle.cif_commands.specs.Grammar.{AreCallChanges, IsChange}
 use Rattle.cif_write.specs.Lines.{mirror_text, point_text, quarter_text, shift_text, turn_text}
 use Rattle.cif_trip_laws.proofs.WrittenNumbers.{point_spelled, vertex_of}
 
@@ -41,16 +41,16 @@ changes_of turn = mirror_changes turn.mirror ++ (quarter_changes turn.quarter ++
 -- ---- their texts
 
 -- a space and a change, then others
-one_more : (spelling rest : List ℕ) (c : Change) (cs : List Change) → IsChange spelling c → AreChanges rest cs
-    → AreChanges (32 ∷ (spelling ++ rest)) (c ∷ cs)
+one_more : (spelling rest : List ℕ) (c : Change) (cs : List Change) → IsChange spelling c → AreCallChanges rest cs
+    → AreCallChanges (32 ∷ (spelling ++ rest)) (c ∷ cs)
 unfolding is_blank is_mark
 one_more spelling rest c cs h further =
     (record { gap = 32 ∷ []; spelling = spelling; rest = rest; parts = refl; gap_blank = refl; spelled = h }, further)
 
-shift_spelled : (shift : Point) → is_in_range shift ≡ true → AreChanges (shift_text shift) (shift_changes shift)
+shift_spelled : (shift : Point) → is_in_range shift ≡ true → AreCallChanges (shift_text shift) (shift_changes shift)
 unfolding is_separator is_blank is_mark
 shift_spelled shift within = by (point_eq shift (record { x = pos 0; y = pos 0 })) where
-  by : (none : Bool) → AreChanges (cond none [] (32 ∷ (84 ∷ point_text shift))) (cond none [] (Shift (vertex_of shift) ∷ []))
+  by : (none : Bool) → AreCallChanges (cond none [] (32 ∷ (84 ∷ point_text shift))) (cond none [] (Shift (vertex_of shift) ∷ []))
   by true = refl
   by false = rw (← append-nil (84 ∷ point_text shift)) (one_more (84 ∷ point_text shift) [] (Shift (vertex_of shift)) []
       (point_text shift, refl, point_spelled shift within) refl)
@@ -65,8 +65,8 @@ signed : (negative : Bool) (d n : ℕ) → IsDigits (d ∷ []) n → (front : Li
     → IsSigned (front ++ (sign negative ++ (d ∷ []))) (record { negative = negative; magnitude = n })
 signed negative d n is front h = record { front = front; digits = d ∷ []; parts = refl; separators = h; spelled = is }
 
-quarter_spelled : (quarter : Quarter) (rest : List ℕ) (cs : List Change) → AreChanges rest cs
-    → AreChanges (quarter_text quarter ++ rest) (quarter_changes quarter ++ cs)
+quarter_spelled : (quarter : Quarter) (rest : List ℕ) (cs : List Change) → AreCallChanges rest cs
+    → AreCallChanges (quarter_text quarter ++ rest) (quarter_changes quarter ++ cs)
 unfolding is_separator is_blank is_mark
 quarter_spelled R0 rest cs h = h
 quarter_spelled R90 rest cs h = one_more (82 ∷ 32 ∷ 48 ∷ 32 ∷ 49 ∷ []) rest (Direction (along false 0 false 1)) cs (
@@ -109,16 +109,17 @@ quarter_spelled R270 rest cs h = one_more (82 ∷ 32 ∷ 48 ∷ 32 ∷ 45 ∷ 49
   },
 ) h
 
-mirror_spelled : (mirror : Bool) (rest : List ℕ) (cs : List Change) → AreChanges rest cs
-    → AreChanges (mirror_text mirror ++ rest) (mirror_changes mirror ++ cs)
+mirror_spelled : (mirror : Bool) (rest : List ℕ) (cs : List Change) → AreCallChanges rest cs
+    → AreCallChanges (mirror_text mirror ++ rest) (mirror_changes mirror ++ cs)
 unfolding is_blank is_mark
 mirror_spelled true rest cs h =
     one_more (77 ∷ 32 ∷ 88 ∷ []) rest MirrorX cs (record { gap = 32 ∷ []; parts = refl; gap_blank = refl }) h
 mirror_spelled false rest cs h = h
 
-pub turn_spelled : (turn : Turn) → is_in_range turn.shift ≡ true → AreChanges (turn_text turn) (changes_of turn)
+pub turn_spelled : (turn : Turn) → is_in_range turn.shift ≡ true → AreCallChanges (turn_text turn) (changes_of turn)
 turn_spelled turn within =
     let shift = shift_text turn.shift in
-    subst (λ (t : List ℕ). AreChanges t (changes_of turn)) (sym (append_assoc (mirror_text turn.mirror) (quarter_text turn.quarter) shift))
+    subst (λ (t : List ℕ). AreCallChanges t (changes_of turn))
+        (sym (append_assoc (mirror_text turn.mirror) (quarter_text turn.quarter) shift))
     (mirror_spelled turn.mirror (quarter_text turn.quarter ++ shift) (quarter_changes turn.quarter ++ shift_changes turn.shift)
     (quarter_spelled turn.quarter shift (shift_changes turn.shift) (shift_spelled turn.shift within)))

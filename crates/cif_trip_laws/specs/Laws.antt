@@ -21,13 +21,13 @@ use Rattle.cif_write.specs.Text.{text}
 use Rattle.cif_write.specs.Wrap.{wrap, written}
 
 -- a shape is on a layer that has a name
-abbrev pub IsNamed : Item → Type 0
-IsNamed (Shape cell layer rings) = IsTrue (is_layer_name layer)
-IsNamed (Placed cell target turn) = Unit {0}
+abbrev pub IsOnNamedLayer : Item → Type 0
+IsOnNamedLayer (Shape cell layer rings) = IsTrue (is_layer_name layer)
+IsOnNamedLayer (Placed cell target turn) = Unit {0}
 
 -- all shapes of a layout are
-abbrev pub AreNamed : Layout → Type 0
-AreNamed layout = (id : ItemId) (item : Item) → item_at layout id ≡ Some item → IsNamed item
+abbrev pub AreOnNamedLayers : Layout → Type 0
+AreOnNamedLayers layout = (id : ItemId) (item : Item) → item_at layout id ≡ Some item → IsOnNamedLayer item
 
 -- the text of a layout is commands of the grammar, whose meaning is bound as a file that has the layout, wrapped
 abbrev pub IsReadBack : Layout → Type 0
@@ -42,7 +42,7 @@ IsReread layout = length (text layout) ≤ MAX_TEXT → (result : Result Content
 -- a layout that a text can hold: it is sound, its layers have names, and no more symbols are written than a text may define
 pub record FitsText (layout : Layout) : Type 0 where
   pub sound : IsSound layout
-  pub named : AreNamed layout
+  pub named : AreOnNamedLayers layout
   pub room : length (written layout).definitions ≤ MAX_SYMBOLS
 
 abbrev pub WhatIsWrittenIsReadBack : Type 0

@@ -6,7 +6,7 @@ ghost use Rattle.cif_read.specs.declared.file.TheConstants.{MAX_SYMBOLS, MAX_TEX
 ghost use Rattle.cif_read.specs.Meaning.{no_memory};
 ghost use Rattle.cif_write.specs.Text.{text};
 ghost use Rattle.cif_write.specs.Wrap.{wrap, written};
-ghost use Rattle.cif_trip_laws.specs.Laws.{AreNamed, IsNamed};
+ghost use Rattle.cif_trip_laws.specs.Laws.{AreOnNamedLayers, IsOnNamedLayer};
 
 use byte_io::{Failing, MemoryOut};
 use cif_read::{CifFault, read};
@@ -30,7 +30,7 @@ pub fn reread(alloc: Global, snapshot: &Snapshot) -> Result<Snapshot, CifFault>
 
 /// Looks at each layer's name. The type of a layer keeps that it has one.
 pub fn look_at_layers(snapshot: &Snapshot)
-    ensures named { AreNamed snapshot.now }
+    ensures named { AreOnNamedLayers snapshot.now }
     ensures sound { IsSound snapshot.now }
 {
     for (_, item) in snapshot.version().iter() {
@@ -40,7 +40,7 @@ pub fn look_at_layers(snapshot: &Snapshot)
 
 /// Looks at the name of the layer that the item is drawn on, if it is drawn.
 fn look_at_layer(item: &Item)
-    ensures { IsNamed item.now }
+    ensures { IsOnNamedLayer item.now }
 {
     if let Item::Shape { layer, .. } = item {
         layer.as_bytes();

@@ -12,7 +12,7 @@ use Rattle.lay_point.specs.Same.{names_eq}
 use Rattle.lay_point.specs.Turns.{unturned}
 use Rattle.cif_write.specs.Lines.{Call, End, Finish, Line, OnLayer, Path, Start, line_text, lines_text}
 use Rattle.cif_write.specs.Text.{definition_lines, definitions_lines, file_lines, item_lines, items_lines, layer_after, path_lines}
-use Rattle.cif_write.specs.Wrap.{Definition, item_of, plain_target, written_with}
+use Rattle.cif_write.specs.Wrap.{Definition, entry_item, plain_target, written_with}
 
 -- ---- a shape
 -- the path of a layer that isn't set
@@ -39,12 +39,12 @@ path_text-set (Some name) layer path e = by_test (names_eq name layer) e where
 -- an item, then those behind it
 pub items_text-step : (set after : Option (List ℕ)) (id : ItemId) (item : Item) (entries left : List (ItemId × Item))
     → entries ≡ (id, item) ∷ left → after ≡ layer_after set item
-    → lines_text (items_lines set (map item_of entries))
-    ≡ lines_text (item_lines set item) ++ lines_text (items_lines after (map item_of left))
+    → lines_text (items_lines set (map entry_item entries))
+    ≡ lines_text (item_lines set item) ++ lines_text (items_lines after (map entry_item left))
 items_text-step set after id item entries left first next =
-    ap (λ es. lines_text (items_lines set (map item_of es))) first
-    ∙ flat_map-append line_text (item_lines set item) (items_lines (layer_after set item) (map item_of left))
-    ∙ ap (λ s. lines_text (item_lines set item) ++ lines_text (items_lines s (map item_of left))) (sym next)
+    ap (λ es. lines_text (items_lines set (map entry_item es))) first
+    ∙ flat_map-append line_text (item_lines set item) (items_lines (layer_after set item) (map entry_item left))
+    ∙ ap (λ s. lines_text (item_lines set item) ++ lines_text (items_lines s (map entry_item left))) (sym next)
 
 -- a symbol: its first line, its items and its last line
 pub definition_text : (number : ℕ) (items : List Line)

@@ -10,18 +10,18 @@ use Rattle.lay_point.specs.Rings.{IsRing, closed, kept_behind, opened, opened_be
 use Rattle.lay_point.specs.Same.{point_eq-Decides}
 use Rattle.lay_point.proofs.RingLemmas.{point_eq-true}
 use Rattle.cif_write.specs.Lines.{path_text, point_text}
-use Rattle.cif_write.specs.Ways.{last_of, kept_of, kept_by, ways}
+use Rattle.cif_write.specs.Ways.{last_point, kept_of, kept_by, ways}
 
 -- ---- points behind points
-pub kept_of-append : (held : Point) (xs ys : List Point) → kept_of held (xs ++ ys) ≡ kept_of held xs ++ kept_of (last_of held xs) ys
+pub kept_of-append : (held : Point) (xs ys : List Point) → kept_of held (xs ++ ys) ≡ kept_of held xs ++ kept_of (last_point held xs) ys
 kept_of-append held [] ys = refl
 kept_of-append held (p ∷ ps) ys =
     ap (λ l. kept_by held p ++ l) (kept_of-append p ps ys)
-    ∙ sym (append_assoc (kept_by held p) (kept_of p ps) (kept_of (last_of p ps) ys))
+    ∙ sym (append_assoc (kept_by held p) (kept_of p ps) (kept_of (last_point p ps) ys))
 
-pub last_of-append : (held : Point) (xs ys : List Point) → last_of held (xs ++ ys) ≡ last_of (last_of held xs) ys
-last_of-append held [] ys = refl
-last_of-append held (p ∷ ps) ys = last_of-append p ps ys
+pub last_point-append : (held : Point) (xs ys : List Point) → last_point held (xs ++ ys) ≡ last_point (last_point held xs) ys
+last_point-append held [] ys = refl
+last_point-append held (p ∷ ps) ys = last_point-append p ps ys
 
 -- ---- the ways to further rings
 further_ways : (start : Point) (ring : List Point) (rings : List (List Point))
@@ -47,15 +47,15 @@ point_eq-comm p q = by_tests (point_eq p q) (point_eq q p) refl refl where
 
 -- what is open of the kept points is what is put of them
 opened-kept_of : (start held : Point) (xs : List Point)
-    → opened_behind start (held ∷ kept_behind held xs) ≡ kept_of held xs ++ kept_by (last_of held xs) start
+    → opened_behind start (held ∷ kept_behind held xs) ≡ kept_of held xs ++ kept_by (last_point held xs) start
 opened-kept_of start held [] = ap (λ b. cond b [] (held ∷ [])) (point_eq-comm start held)
 opened-kept_of start held (p ∷ ps) = by_test (point_eq held p) refl (opened-kept_of start p ps) where
   by_test : (b : Bool) → point_eq held p ≡ b
-      → opened_behind start (p ∷ kept_behind p ps) ≡ kept_of p ps ++ kept_by (last_of p ps) start
+      → opened_behind start (p ∷ kept_behind p ps) ≡ kept_of p ps ++ kept_by (last_point p ps) start
       → opened_behind start (held ∷ cond b (kept_behind held ps) (p ∷ kept_behind p ps))
-      ≡ (cond b [] (held ∷ []) ++ kept_of p ps) ++ kept_by (last_of p ps) start
+      ≡ (cond b [] (held ∷ []) ++ kept_of p ps) ++ kept_by (last_point p ps) start
   by_test true e behind =
-      subst (λ q. opened_behind start (q ∷ kept_behind q ps) ≡ kept_of p ps ++ kept_by (last_of p ps) start)
+      subst (λ q. opened_behind start (q ∷ kept_behind q ps) ≡ kept_of p ps ++ kept_by (last_point p ps) start)
       (sym (point_eq-true held p e)) behind
   by_test false e behind = ap (λ l. held ∷ l) behind
 
@@ -68,7 +68,7 @@ point_eq-apart p q apart = by_test (point_eq p q) refl where
 -- the bridged path of a ring and others, as it is put
 pub bridged-kept_of : (start p : Point) (ps : List Point) (rings : List (List Point)) → IsRing (start ∷ p ∷ ps)
     → bridged ((start ∷ p ∷ ps) ∷ rings)
-    ≡ start ∷ kept_of p (ps ++ ways start rings) ++ kept_by (last_of p (ps ++ ways start rings)) start
+    ≡ start ∷ kept_of p (ps ++ ways start rings) ++ kept_by (last_point p (ps ++ ways start rings)) start
 unfolding bridged without_repeats
 bridged-kept_of start p ps rings ring =
     ap (λ l. opened (without_neighbours l)) (joined_ways start (p ∷ ps) rings)
@@ -90,46 +90,46 @@ behind_text-step held points i d h =
 
 -- the way to a ring, then those to the rings behind it
 pub ways_text-step : (held start after : Point) (rings : List (List Point)) (i : ℕ) (d : List Point) → i < length rings
-    → after ≡ last_of held (start ∷ closed (get_or rings i d))
+    → after ≡ last_point held (start ∷ closed (get_or rings i d))
     → path_text (kept_of held (ways start (drop i rings)))
     ≡ path_text (kept_of held (start ∷ closed (get_or rings i d))) ++ path_text (kept_of after (ways start (drop (i + 1) rings)))
 ways_text-step held start after rings i d h last =
     let way = start ∷ closed (get_or rings i d) in
     let left = ways start (drop (i + 1) rings) in
     at_drop_more (λ rs. path_text (kept_of held (ways start rs))) rings i d h
-    ∙ ap path_text (kept_of-append held way left) ∙ path_text-append (kept_of held way) (kept_of (last_of held way) left)
+    ∙ ap path_text (kept_of-append held way left) ∙ path_text-append (kept_of held way) (kept_of (last_point held way) left)
     ∙ ap (λ p. path_text (kept_of held way) ++ path_text (kept_of p left)) (sym last)
 
 pub ways_last-step : (held start after : Point) (rings : List (List Point)) (i : ℕ) (d : List Point) → i < length rings
-    → after ≡ last_of held (start ∷ closed (get_or rings i d))
-    → last_of after (ways start (drop (i + 1) rings)) ≡ last_of held (ways start (drop i rings))
+    → after ≡ last_point held (start ∷ closed (get_or rings i d))
+    → last_point after (ways start (drop (i + 1) rings)) ≡ last_point held (ways start (drop i rings))
 ways_last-step held start after rings i d h last =
     let way = start ∷ closed (get_or rings i d) in
     let left = ways start (drop (i + 1) rings) in
-    ap (λ p. last_of p left) last ∙ sym (last_of-append held way left)
-    ∙ sym (at_drop_more (λ rs. last_of held (ways start rs)) rings i d h)
+    ap (λ p. last_point p left) last ∙ sym (last_point-append held way left)
+    ∙ sym (at_drop_more (λ rs. last_point held (ways start rs)) rings i d h)
 
 -- the start, a ring, and its first point again
 pub way_text : (held start first round : Point) (points : List Point) (d : Point) → IsRing points → first ≡ get_or points 0 d
-    → round ≡ last_of start points
+    → round ≡ last_point start points
     → (path_text (kept_by held start) ++ path_text (kept_of start points)) ++ path_text (kept_by round first)
     ≡ path_text (kept_of held (start ∷ closed points))
 way_text held start first round [] d ring is last = absurd (omega (arith, ring.enough))
 way_text held start first round (p ∷ ps) d ring is last =
     (λ i. (path_text (kept_by held start) ++ path_text (kept_of start (p ∷ ps))) ++ path_text (kept_by (last i) (is i)))
     ∙ ap (λ l. (path_text (kept_by held start) ++ path_text (kept_of start (p ∷ ps))) ++ path_text l)
-    (sym (append-nil (kept_by (last_of start (p ∷ ps)) p)))
+    (sym (append-nil (kept_by (last_point start (p ∷ ps)) p)))
     ∙ append_assoc (path_text (kept_by held start)) (path_text (kept_of start (p ∷ ps)))
-    (path_text (kept_of (last_of start (p ∷ ps)) (p ∷ [])))
+    (path_text (kept_of (last_point start (p ∷ ps)) (p ∷ [])))
     ∙ ap (λ l. path_text (kept_by held start) ++ l)
-    (sym (path_text-append (kept_of start (p ∷ ps)) (kept_of (last_of start (p ∷ ps)) (p ∷ [])))
+    (sym (path_text-append (kept_of start (p ∷ ps)) (kept_of (last_point start (p ∷ ps)) (p ∷ [])))
     ∙ ap path_text (sym (kept_of-append start (p ∷ ps) (p ∷ []))))
     ∙ sym (path_text-append (kept_by held start) (kept_of start (closed (p ∷ ps))))
 
 pub way_last : (held start first : Point) (points : List Point) (d : Point) → IsRing points → first ≡ get_or points 0 d
-    → first ≡ last_of held (start ∷ closed points)
+    → first ≡ last_point held (start ∷ closed points)
 way_last held start first [] d ring is = absurd (omega (arith, ring.enough))
-way_last held start first (p ∷ ps) d ring is = is ∙ sym (last_of-append start (p ∷ ps) (p ∷ []))
+way_last held start first (p ∷ ps) d ring is = is ∙ sym (last_point-append start (p ∷ ps) (p ∷ []))
 
 -- no rings have no path
 pub no_path : (rings : List (List Point)) → length rings ≡ 0 → [] ≡ path_text (bridged rings)
@@ -142,26 +142,26 @@ grouped a b c d = simp append_assoc
 
 -- the first ring and the ways to the others
 bridged_text-of : (start p : Point) (ps : List Point) (rings : List (List Point)) → IsRing (start ∷ p ∷ ps)
-    → ((point_text start ++ path_text (kept_of p ps)) ++ path_text (kept_of (last_of p ps) (ways start rings)))
-    ++ path_text (kept_by (last_of (last_of p ps) (ways start rings)) start)
+    → ((point_text start ++ path_text (kept_of p ps)) ++ path_text (kept_of (last_point p ps) (ways start rings)))
+    ++ path_text (kept_by (last_point (last_point p ps) (ways start rings)) start)
     ≡ path_text (bridged ((start ∷ p ∷ ps) ∷ rings))
 bridged_text-of start p ps rings ring =
     let left = ways start rings in
     let first = kept_of p ps in
-    let others = kept_of (last_of p ps) left in
-    let last = kept_by (last_of (last_of p ps) left) start in
+    let others = kept_of (last_point p ps) left in
+    let last = kept_by (last_point (last_point p ps) left) start in
     let apart : path_text ((first ++ others) ++ last) ≡ (path_text first ++ path_text others) ++ path_text last =
     path_text-append (first ++ others) last ∙ ap (λ l. l ++ path_text last) (path_text-append first others) in
     let points : bridged ((start ∷ p ∷ ps) ∷ rings) ≡ start ∷ ((first ++ others) ++ last) =
     bridged-kept_of start p ps rings ring
-    ∙ (λ i. start ∷ (kept_of-append p ps left i ++ kept_by (last_of-append p ps left i) start)) in
+    ∙ (λ i. start ∷ (kept_of-append p ps left i ++ kept_by (last_point-append p ps left i) start)) in
     grouped (point_text start) (path_text first) (path_text others) (path_text last)
     ∙ ap (λ l. point_text start ++ l) (sym apart) ∙ sym (ap path_text points)
 
 pub bridged_text : (first points behind : List Point) (rings others : List (List Point)) (start second round last d : Point)
     → IsRing first → rings ≡ first ∷ others → points ≡ first → start ≡ get_or points 0 d → second ≡ get_or points 1 d
     → behind ≡ drop 2 points
-    → round ≡ last_of second behind → last ≡ last_of round (ways start others)
+    → round ≡ last_point second behind → last ≡ last_point round (ways start others)
     → ((point_text start ++ path_text (kept_of second behind)) ++ path_text (kept_of round (ways start others)))
     ++ path_text (kept_by last start) ≡ path_text (bridged rings)
 bridged_text [] points behind rings others start second round last d ring all same e0 e1 e2 e3 e4 =

@@ -19,6 +19,6 @@ kept_of held [] = []
 kept_of held (p ∷ ps) = kept_by held p ++ kept_of p ps
 
 -- the last of the points, or the one that is held back where there are none
-abbrev pub last_of : Point → List Point → Point
-last_of held [] = held
-last_of held (p ∷ ps) = last_of p ps
+abbrev pub last_point : Point → List Point → Point
+last_point held [] = held
+last_point held (p ∷ ps) = last_point p ps

@@ -26,19 +26,19 @@ pub record Written : Type 0 where
   pub definitions : List Definition
   pub called : ℕ
 
-abbrev pub item_of : ItemId × Item → Item
-item_of entry = entry.1
+abbrev pub entry_item : ItemId × Item → Item
+entry_item entry = entry.1
 
 -- the items of a cell, in order of their ids
 abbrev pub held_in : Layout → CellId → List Item
-held_in layout cell = map item_of (items_in layout cell)
+held_in layout cell = map entry_item (items_in layout cell)
 
-abbrev pub definition_of : Layout → ℕ → Definition
-definition_of layout number = record { number = number; items = held_in layout (Symbol number) }
+abbrev pub written_definition : Layout → ℕ → Definition
+written_definition layout number = record { number = number; items = held_in layout (Symbol number) }
 
 -- the layout's own symbols, in the order of their slots
 abbrev pub own_definitions : Layout → List Definition
-own_definitions layout = map (definition_of layout) (in_slot_order layout.symbols)
+own_definitions layout = map (written_definition layout) (in_slot_order layout.symbols)
 
 -- the first of so many numbers, from this one on, that no symbol has, or the one behind them
 abbrev pub unused_from : ℕ → ℕ → List ℕ → ℕ

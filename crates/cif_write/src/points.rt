@@ -5,7 +5,7 @@ ghost use Rattle.byte_io.specs.Buffered.{Buffered};
 ghost use Rattle.lay_point.specs.Bridges.{bridged};
 ghost use Rattle.lay_point.specs.Rings.{closed};
 ghost use Rattle.cif_write.specs.Lines.{path_text, point_text};
-ghost use Rattle.cif_write.specs.Ways.{kept_by, kept_of, last_of, ways};
+ghost use Rattle.cif_write.specs.Ways.{kept_by, kept_of, last_point, ways};
 
 use byte_io::{Out, OutBuffer};
 use lay_point::{Point, Ring};
@@ -37,7 +37,7 @@ fn put_ways<O: Out>(
 ) -> Point
     ensures put { Buffered O.written O.failures out.old buffer.old out.new buffer.new
         (path_text (kept_of held (ways start rings.now))) }
-    ensures last { result ≡ last_of held (ways start rings.now) }
+    ensures last { result ≡ last_point held (ways start rings.now) }
 {
     let mut last = held;
     for ring in rings {
@@ -57,7 +57,7 @@ fn put_way<O: Out>(
 ) -> Point
     ensures put { Buffered O.written O.failures out.old buffer.old out.new buffer.new
         (path_text (kept_of held (start ∷ closed ring.now))) }
-    ensures last { result ≡ last_of held (start ∷ closed ring.now) }
+    ensures last { result ≡ last_point held (start ∷ closed ring.now) }
 {
     let points = ring.points();
     put_unless_next(out, buffer, held, start);
@@ -71,7 +71,7 @@ fn put_way<O: Out>(
 fn put_behind<O: Out>(out: &mut O, buffer: &mut OutBuffer, held: Point, points: &[Point]) -> Point
     ensures put { Buffered O.written O.failures out.old buffer.old out.new buffer.new
         (path_text (kept_of held points.now)) }
-    ensures last { result ≡ last_of held points.now }
+    ensures last { result ≡ last_point held points.now }
 {
     let mut last = held;
     for point in points {

@@ -5,7 +5,7 @@ ghost use Rattle.byte_io.specs.Buffered.{Buffered};
 ghost use Rattle.cif_write.specs.Lines.{Call, OnLayer, Path, Start, line_text, lines_text};
 ghost use Rattle.cif_write.specs.Text.{definition_lines, definitions_lines, item_lines, items_lines};
 ghost use Rattle.cif_write.specs.Text.{layer_after, path_lines, text};
-ghost use Rattle.cif_write.specs.Wrap.{item_of, least_unused, own_definitions, wrapping};
+ghost use Rattle.cif_write.specs.Wrap.{entry_item, least_unused, own_definitions, wrapping};
 ghost use Rattle.lay_items.specs.SlotOrder.{in_slot_order};
 ghost use Rattle.lay_point.specs.Bridges.{bridged};
 
@@ -75,7 +75,7 @@ fn put_definition<O: Out>(out: &mut O, buffer: &mut OutBuffer, number: u32, item
     ensures { Buffered O.written O.failures out.old buffer.old out.new buffer.new
         (lines_text (definition_lines (record {
           number = number;
-          items = map item_of items.entry;
+          items = map entry_item items.entry;
         }))) }
 {
     put_start(out, buffer, number);
@@ -96,7 +96,7 @@ fn put_start<O: Out>(out: &mut O, buffer: &mut OutBuffer, number: u32)
 /// Puts the lines of a symbol's items.
 fn put_items<O: Out>(out: &mut O, buffer: &mut OutBuffer, items: Items<'_>)
     ensures { Buffered O.written O.failures out.old buffer.old out.new buffer.new
-        (lines_text (items_lines None (map item_of items.entry))) }
+        (lines_text (items_lines None (map entry_item items.entry))) }
 {
     let mut set = None;
     for (_, item) in items {

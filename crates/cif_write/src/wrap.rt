@@ -1,6 +1,6 @@
 //! What the top cell is wrapped in.
 ghost use Rattle.std.specs.Prelude.{◌≡◌, IfOk, map};
-ghost use Rattle.cif_write.specs.Wrap.{item_of, least_unused, plain_target};
+ghost use Rattle.cif_write.specs.Wrap.{entry_item, least_unused, plain_target};
 
 use crate::turns::unturned;
 use lay_cells::Cells;
@@ -9,7 +9,7 @@ use lay_point::NoMemory;
 
 /// Returns the symbol that the items call, where they are one call with no mirror, turn or shift.
 pub(crate) fn plain_target(items: Items<'_>) -> Option<u32>
-    ensures { result ≡ plain_target (map item_of items.entry) }
+    ensures { result ≡ plain_target (map entry_item items.entry) }
 {
     let mut items = items;
     let (_, first) = items.next()?;

@@ -12,10 +12,10 @@ use Rattle.undo_rules.specs.declared.log.Logged.{Logged}
 use Rattle.undo_rules.specs.Books.{History}
 use Rattle.undo_rules.specs.Steps.{fresh}
 use Rattle.desk_rules.specs.declared.kept.Kept.{Kept}
-use Rattle.desk_rules.specs.Close.{AreRising, HasAll, IsClosed, Shows, has_seat, missing_call, missing_place, or_missing, own_total}
+use Rattle.desk_rules.specs.Close.{AreSeatsRising, HasAll, IsClosed, Shows, has_seat, missing_call, missing_place, or_missing, own_total}
 use Rattle.desk_rules.specs.Guards.{Desk, ones}
 use Rattle.desk_rules.specs.Legal.{IsLegal}
-use Rattle.desk_rules.specs.Seats.{IsIn, IsRising, Seat, is_in, own_calls, own_from, with_own}
+use Rattle.desk_rules.specs.Seats.{AreCallsRising, IsIn, Seat, is_in, own_calls, own_from, with_own}
 use Rattle.desk_rules.proofs.FitLemmas.{fits, from_start, length_with, same_own}
 use Rattle.desk_rules.proofs.GuardLemmas.{is_in-is}
 
@@ -164,7 +164,7 @@ or_none : (session : ℕ) (first : Option ℕ) (rest : Option (ℕ × ℕ)) → 
 or_none session None rest e = (refl, e)
 or_none session (Some place) rest e = absurd (grind rules)
 
-fit_all : (log : List Logged) (seats : List Seat) → AreRising seats → missing_call log seats ≡ None
+fit_all : (log : List Logged) (seats : List Seat) → AreSeatsRising seats → missing_call log seats ≡ None
     → own_total seats ≤ weigh (λ s. calls_of s log) seats
 fit_all log [] rising none = omega arith
 fit_all log (seat ∷ seats) rising none =
@@ -173,7 +173,7 @@ fit_all log (seat ∷ seats) rising none =
     let len = length_calls seat.session 0 log in
     let rest = fit_all log seats rising.1 parts.1 in omega (arith, one, len, rest)
 
-own_all : (log : List Logged) (seats : List Seat) → AreRising seats → missing_call log seats ≡ None
+own_all : (log : List Logged) (seats : List Seat) → AreSeatsRising seats → missing_call log seats ≡ None
     → weigh (λ s. calls_of s log) seats ≤ own_total seats
     → AllByRecursion (λ (seat : Seat). own_calls seat.session log ≡ seat.own) seats
 own_all log [] rising none tight = tt
@@ -189,7 +189,7 @@ own_all log (seat ∷ seats) rising none tight =
 
 pub closes : (desk : Desk) (sessions : ℕ) (book : History) (seats : List Seat)
     → IsLegal sessions (fresh book.base book.limit) book.log book
-    → AreRising seats → missing_call book.log seats ≡ None → length seats ≤ desk.sessions → HasAll desk.sessions seats
+    → AreSeatsRising seats → missing_call book.log seats ≡ None → length seats ≤ desk.sessions → HasAll desk.sessions seats
     → own_total seats ≡ length book.log → book.base ≡ desk.base → IsClosed desk seats book
 closes desk sessions book seats legal rising none few all total base =
     let count = each_once desk.sessions (λ s. calls_of s book.log) seats few all in
@@ -246,7 +246,7 @@ alone sessions session h end log own legal low high is one =
     ∙ alone_from 0 h end log (subst (λ n. IsLegal n h log end) one legal)
 
 -- the session's calls are the seat's, where all these are in the log, and it has as many
-pub own_shown : (session : ℕ) (log : List Logged) (own : List Kept) → IsRising session 0 own → missing_place log own ≡ None
+pub own_shown : (session : ℕ) (log : List Logged) (own : List Kept) → AreCallsRising session 0 own → missing_place log own ≡ None
     → length (own_calls session log) ≡ length own → own_calls session log ≡ own
 own_shown session log own rising none len = sym (same_own session 0 log own rising (from_start log own (all_in log own none)) (sym len))
 

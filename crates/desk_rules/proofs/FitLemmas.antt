@@ -7,7 +7,7 @@ use Rattle.std.specs.List.{AllByRecursion}
 use Rattle.std.specs.Prelude.{slice_get}
 use Rattle.undo_rules.specs.declared.log.Logged.{Logged}
 use Rattle.desk_rules.specs.declared.kept.Kept.{Kept}
-use Rattle.desk_rules.specs.Seats.{IsIn, IsRising, own_from, with_own}
+use Rattle.desk_rules.specs.Seats.{AreCallsRising, IsIn, own_from, with_own}
 use Rattle.desk_rules.specs.Guards.{ones}
 
 -- the log from this place on has the call
@@ -20,7 +20,7 @@ AreFrom p log own = AllByRecursion (IsFrom p log) own
 some_same : {X : Type 0} (x y : X) → Some x ≡ Some y → x ≡ y
 some_same x y e = ap (λ o. elim o [ None ↦ x | Some z ↦ z ]) e
 
-rising_lower : (s p q : ℕ) (own : List Kept) → q ≤ p → IsRising s p own → IsRising s q own
+rising_lower : (s p q : ℕ) (own : List Kept) → q ≤ p → AreCallsRising s p own → AreCallsRising s q own
 rising_lower s p q [] less r = tt
 rising_lower s p q (k ∷ ks) less r = ((let l = r.0 in omega (arith, l, less)), r.1, r.2)
 
@@ -28,7 +28,7 @@ shift_one : (p place : ℕ) (c : Logged) (cs : List Logged) → p + 1 ≤ place
     → slice_get (c ∷ cs) (place - p) ≡ slice_get cs (place - (p + 1))
 shift_one p place c cs low = let e : place - p ≡ suc (place - (p + 1)) = omega (arith, low) in ap (slice_get (c ∷ cs)) e
 
-shift : (s p : ℕ) (c : Logged) (cs : List Logged) (own : List Kept) → IsRising s (p + 1) own → AreFrom p (c ∷ cs) own
+shift : (s p : ℕ) (c : Logged) (cs : List Logged) (own : List Kept) → AreCallsRising s (p + 1) own → AreFrom p (c ∷ cs) own
     → AreFrom (p + 1) cs own
 shift s p c cs [] r all = tt
 shift s p c cs (k ∷ ks) r all = (
@@ -48,21 +48,22 @@ here p c cs k at is =
 same_session : (a b : ℕ) → a ≡ b → (a == b) ≡ true
 same_session a b e = grind (arith, nat_tests)
 
-pub fits : (s p : ℕ) (log : List Logged) (own : List Kept) → IsRising s p own → AreFrom p log own → length own ≤ length (own_from s p log)
+pub fits : (s p : ℕ) (log : List Logged) (own : List Kept) → AreCallsRising s p own → AreFrom p log own
+    → length own ≤ length (own_from s p log)
 fits s p log [] r all = omega arith
 fits s p [] (k ∷ ks) r all = absurd (let h = all.0 in grind rules)
 fits s p (c ∷ cs) (k ∷ ks) r all = elim (cases_eq k.place p) [
   | inl at ↦
       let is : c ≡ k.logged = here p c cs k at all.0 in
       let yes : (c.session == s) ≡ true = same_session c.session s (ap (λ (l : Logged). l.session) is ∙ r.1) in
-      let rest : IsRising s (p + 1) ks = subst (λ n. IsRising s (n + 1) ks) at r.2 in
+      let rest : AreCallsRising s (p + 1) ks = subst (λ n. AreCallsRising s (n + 1) ks) at r.2 in
       let more = fits s (p + 1) cs ks rest (shift s p c cs ks rest all.1) in
       let len = length_with (c.session == s) (record { place = p; logged = c }) (own_from s (p + 1) cs) in
       let one : ones (c.session == s) ≡ 1 = ap ones yes in
       omega (arith, more, len, one)
   | inr other ↦
       let later : p + 1 ≤ k.place = (let l = r.0 in grind (arith, nat_tests)) in
-      let rest : IsRising s (p + 1) (k ∷ ks) = (later, r.1, r.2) in
+      let rest : AreCallsRising s (p + 1) (k ∷ ks) = (later, r.1, r.2) in
       let more = fits s (p + 1) cs (k ∷ ks) rest (shift s p c cs (k ∷ ks) rest all) in
       let len = length_with (c.session == s) (record { place = p; logged = c }) (own_from s (p + 1) cs) in
       omega (arith, more, len)
@@ -80,7 +81,7 @@ tail_same : (b : Bool) (k : Kept) (own rest : List Kept) → length own ≡ leng
 tail_same true k own rest len less same = absurd (omega (arith, len, less))
 tail_same false k own rest len less same = same len
 
-pub same_own : (s p : ℕ) (log : List Logged) (own : List Kept) → IsRising s p own → AreFrom p log own
+pub same_own : (s p : ℕ) (log : List Logged) (own : List Kept) → AreCallsRising s p own → AreFrom p log own
     → length own ≡ length (own_from s p log)
     → own ≡ own_from s p log
 same_own s p log [] r all len = nothing (own_from s p log) (sym len)
@@ -89,7 +90,7 @@ same_own s p (c ∷ cs) (k ∷ ks) r all len = elim (cases_eq k.place p) [
   | inl at ↦
       let is : c ≡ k.logged = here p c cs k at all.0 in
       let yes : (c.session == s) ≡ true = same_session c.session s (ap (λ (l : Logged). l.session) is ∙ r.1) in
-      let rest : IsRising s (p + 1) ks = subst (λ n. IsRising s (n + 1) ks) at r.2 in
+      let rest : AreCallsRising s (p + 1) ks = subst (λ n. AreCallsRising s (n + 1) ks) at r.2 in
       let fromr = shift s p c cs ks rest all.1 in
       let lens = length_with (c.session == s) (record { place = p; logged = c }) (own_from s (p + 1) cs) in
       let one : ones (c.session == s) ≡ 1 = ap ones yes in
@@ -99,7 +100,7 @@ same_own s p (c ∷ cs) (k ∷ ks) r all len = elim (cases_eq k.place p) [
       ∙ ap (λ b. with_own b (record { place = p; logged = c }) (own_from s (p + 1) cs)) (sym yes)
   | inr other ↦
       let later : p + 1 ≤ k.place = (let l = r.0 in grind (arith, nat_tests)) in
-      let rest : IsRising s (p + 1) (k ∷ ks) = (later, r.1, r.2) in
+      let rest : AreCallsRising s (p + 1) (k ∷ ks) = (later, r.1, r.2) in
       let fromr = shift s p c cs (k ∷ ks) rest all in
       tail_same (c.session == s) (record { place = p; logged = c }) (k ∷ ks) (own_from s (p + 1) cs) len
       (fits s (p + 1) cs (k ∷ ks) rest fromr) (same_own s (p + 1) cs (k ∷ ks) rest fromr)

@@ -15,9 +15,9 @@ use Rattle.undo_rules.specs.Books.{History}
 use Rattle.undo_rules.specs.Steps.{fresh}
 use Rattle.desk_rules.specs.declared.kept.Kept.{Kept}
 use Rattle.lay_items.specs.Sound.{IsSound}
-use Rattle.desk_rules.specs.Guards.{AreCounts, Guard, IsGuard, counted, has_last, ones}
+use Rattle.desk_rules.specs.Guards.{AreCallCounts, Guard, IsGuard, has_last, ones, with_one_counted}
 use Rattle.desk_rules.specs.Legal.{Grew, IsLegal, Leads, Stepped, outcome}
-use Rattle.desk_rules.specs.Seats.{IsBelow, IsIn, IsLastIn, MadeLogged, added, is_in, is_last_in, last_of, own_calls, same_at}
+use Rattle.desk_rules.specs.Seats.{IsIn, IsLastIn, IsPastCall, MadeLogged, calls_added, is_in, is_last_in, last_of, own_calls, same_at}
 use Rattle.desk_rules.proofs.LegalLemmas.{grown, legal_push}
 use Rattle.desk_rules.proofs.OwnLemmas.{length-own-push}
 
@@ -59,8 +59,8 @@ ones_other : (a b : ℕ) → (a ≡ b → ⊥) → ones (a == b) ≡ 0
 ones_other a b other = let t : (a == b) ≡ false = grind (arith, nat_tests) in ap ones t
 
 -- one more call of the session is counted
-count_push : (n : ℕ) (counts : List ℕ) (log : List Logged) (c : Logged) → AreCounts n counts log → 1 ≤ c.session → c.session ≤ n
-    → AreCounts n (slice_set counts (c.session - 1) (slice_index counts (c.session - 1) + 1)) (log ++ c ∷ [])
+count_push : (n : ℕ) (counts : List ℕ) (log : List Logged) (c : Logged) → AreCallCounts n counts log → 1 ≤ c.session → c.session ≤ n
+    → AreCallCounts n (slice_set counts (c.session - 1) (slice_index counts (c.session - 1) + 1)) (log ++ c ∷ [])
 count_push n counts log c are low high = record {
   all = length-set counts (c.session - 1) _ ∙ are.all;
   each = λ i below. elim (cases_eq i (c.session - 1)) [
@@ -106,7 +106,7 @@ guard_grown g next session call answer kept sound low high made grew =
           (subst (λ b. IsLegal g.sessions (fresh b next.limit) (g.book.log ++ c ∷ []) next) (sym grew.base)
           (subst (λ l. IsLegal g.sessions (fresh g.book.base l) (g.book.log ++ c ∷ []) next) (sym grew.limit) legal));
       pending = grew.pending sound kept.pending;
-      counts = subst (AreCounts g.sessions counts) (sym grew.log) (count_push g.sessions g.counts g.book.log c kept.counts low high);
+      counts = subst (AreCallCounts g.sessions counts) (sym grew.log) (count_push g.sessions g.counts g.book.log c kept.counts low high);
       total =
           let t = kept.total in let l = ap length grew.log in let a = length-append g.book.log (c ∷ []) in omega (arith, t, l, a);
     }
@@ -155,7 +155,7 @@ last_in_more : (log : List Logged) (c : Logged) (last : Option Kept) → IsLastI
 last_in_more log c None found = tt
 last_in_more log c (Some k) found = get_more log c k.place k.logged found
 
-last_below : (log : List Logged) (last : Option Kept) → IsLastIn log last → IsBelow (length log) last
+last_below : (log : List Logged) (last : Option Kept) → IsLastIn log last → IsPastCall (length log) last
 last_below log None found = tt
 last_below log (Some k) found = slice_get_within log k.place k.logged found
 
@@ -184,14 +184,15 @@ made_logged g next session place call (Some answer) own kept sound look (inl mad
           let one = ones_same session session refl in
           let here = ap (λ log. length (own_calls session log)) grew.log in omega (arith, was, grown-by, one, here);
       earlier = subst (λ log. IsLastIn log (last_of own)) (sym grew.log) (last_in_more g.book.log c (last_of own) look.last);
-      below = subst (λ p. IsBelow p (last_of own)) (sym at) (last_below g.book.log (last_of own) look.last);
+      below = subst (λ p. IsPastCall p (last_of own)) (sym at) (last_below g.book.log (last_of own) look.last);
     }
 
 -- the state behind a call
 pub guard_after : (g : Guard) (next : History) (session : ℕ) (call : Call) (answer : Option Answer) (more : Bool) → IsGuard g
     → IsSound g.book.layout → 1 ≤ session
     → session ≤ g.sessions → Stepped g.book session call answer next → more ≡ nat_lt (length g.book.log) (length next.log)
-    → IsGuard (record { sessions = g.sessions; book = next; counts = counted more g.counts (session - 1); total = g.total + ones more })
+    → IsGuard (record { sessions = g.sessions; book = next; counts = with_one_counted more g.counts (session - 1);
+        total = g.total + ones more })
 guard_after g next session call answer true kept sound low high stepped is =
     let less : length g.book.log < length next.log = grind (arith, nat_tests) in
     guard_more g next session call answer kept sound low high stepped less
@@ -202,7 +203,7 @@ guard_after g next session call answer false kept sound low high stepped is =
 
 -- the calls that are added are those that are logged
 pub added_is : (h next : History) (session : ℕ) (call : Call) (answer : Option Answer) → Stepped h session call answer next
-    → ones (nat_lt (length h.log) (length next.log)) ≡ added answer
+    → ones (nat_lt (length h.log) (length next.log)) ≡ calls_added answer
 added_is h next session call None stepped =
     let same : next ≡ h = grown h next session call None stepped in
     let l = ap (λ (s : History). length s.log) same in
@@ -218,10 +219,10 @@ pub guard_called : (g : Guard) (next : History) (session : ℕ) (call : Call) (a
     (counts : List ℕ) (total : ℕ) (more : Bool)
     → IsGuard g → IsSound g.book.layout → Looked g session own → Stepped g.book session call answer next
     → more ≡ nat_lt (length g.book.log) (length next.log)
-    → counts ≡ counted more g.counts (session - 1) → total ≡ g.total + ones more
+    → counts ≡ with_one_counted more g.counts (session - 1) → total ≡ g.total + ones more
     → IsGuard (record { sessions = g.sessions; book = next; counts = counts; total = total })
 guard_called g next session call answer own counts total more kept sound look stepped is counts-are total-is =
     subst (λ cs. IsGuard (record { sessions = g.sessions; book = next; counts = cs; total = total })) (sym counts-are)
-    (subst (λ t. IsGuard (record { sessions = g.sessions; book = next; counts = counted more g.counts (session - 1); total = t }))
+    (subst (λ t. IsGuard (record { sessions = g.sessions; book = next; counts = with_one_counted more g.counts (session - 1); total = t }))
     (sym total-is)
     (guard_after g next session call answer more kept sound look.low look.high stepped is))

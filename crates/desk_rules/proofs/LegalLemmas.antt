@@ -20,11 +20,12 @@ use Rattle.undo_rules.specs.Books.{History, Pending, SessionState}
 use Rattle.undo_rules.specs.Links.{first_moved, first_reader, links_to}
 use Rattle.undo_rules.specs.Steps.{Found, after_commit, after_open, after_redo, after_stale, after_undo, commit_step, commit_unless}
 use Rattle.undo_rules.specs.Steps.{depends}
-use Rattle.undo_rules.specs.Steps.{ended_state, found, is_log_full, is_own, logged, moved, open_step, opening, or_else, redo_refusal}
+use Rattle.undo_rules.specs.Steps.{ended_state, found, is_log_full, is_own, logged, moved_refusal, open_step, opening, or_else}
+use Rattle.undo_rules.specs.Steps.{redo_refusal}
 use Rattle.undo_rules.specs.Steps.{redo_refusal_at}
 use Rattle.undo_rules.specs.Steps.{redo_step, stale_by, state_of, undo_refusal, undo_refusal_at, undo_step, unless}
 use Rattle.undo_rules.proofs.OpenLaws.{set_cases}
-use Rattle.desk_rules.specs.Legal.{ArePendingSound, Grew, Grown, IsLegal, Leads, Stepped, Takes, answer_of, commit_meant, meant}
+use Rattle.desk_rules.specs.Legal.{ArePendingSound, Grew, Grown, IsLegal, Leads, Stepped, TakesCall, answer_of, commit_meant, meant}
 use Rattle.desk_rules.specs.Legal.{meant_by, meant_of}
 use Rattle.desk_rules.specs.Legal.{opened_answer, outcome, refusal, told, told_open}
 
@@ -81,7 +82,7 @@ plain_depends : (txn : Option TxnId) → IsPlain (depends txn)
 plain_depends None = plain_none
 plain_depends (Some txn) = plain_some (Depends txn) refl
 
-plain_moved : (txn : Option TxnId) → IsPlain (moved txn)
+plain_moved : (txn : Option TxnId) → IsPlain (moved_refusal txn)
 plain_moved None = plain_none
 plain_moved (Some txn) = plain_some (Moved txn) refl
 
@@ -100,10 +101,10 @@ plain_redo : (at : Option Found) → IsPlain (redo_refusal_at at)
 plain_redo None = plain_some NoTxn refl
 plain_redo (Some at) = by at.entry.live where
   by : (live : Bool) → IsPlain (cond live (Some StillLive) (or_else (depends (first_reader at.entry.writes at.later))
-      (moved (first_moved at.before (links_to at.before at.entry.footprint) at.entry.seen))))
+      (moved_refusal (first_moved at.before (links_to at.before at.entry.footprint) at.entry.seen))))
   by true = plain_some StillLive refl
   by false = plain_either (depends (first_reader at.entry.writes at.later))
-      (moved (first_moved at.before (links_to at.before at.entry.footprint) at.entry.seen))
+      (moved_refusal (first_moved at.before (links_to at.before at.entry.footprint) at.entry.seen))
       (plain_depends (first_reader at.entry.writes at.later))
       (plain_moved (first_moved at.before (links_to at.before at.entry.footprint) at.entry.seen))
 
@@ -199,21 +200,21 @@ grown h next session call answer (inr fails) = subst (λ a. Grown h session call
 -- ---- calls of a book, which may be out of memory
 
 told_takes : {T : Type 0} (done : Answer) (h next : History) (wanted : Result T BookFault × History) (result : Result T BookFault)
-    → Takes h wanted result next → (told done wanted ≡ (answer_of done result, next)) ⊎ ((answer_of done result ≡ None) × (next ≡ h))
+    → TakesCall h wanted result next → (told done wanted ≡ (answer_of done result, next)) ⊎ ((answer_of done result ≡ None) × (next ≡ h))
 told_takes done h next wanted result (inl takes) = inl (λ i. (answer_of done (sym takes.0 i), sym takes.1 i))
 told_takes done h next wanted result (inr fails) = inr (ap (answer_of done) fails.0, fails.1)
 
-pub stepped_open : (h next : History) (session : ℕ) (result : Result Transaction BookFault) → Takes h (open_step h session) result next
+pub stepped_open : (h next : History) (session : ℕ) (result : Result Transaction BookFault) → TakesCall h (open_step h session) result next
     → Stepped h session Open (opened_answer result) next
 stepped_open h next session result (inl takes) = inl (λ i. (opened_answer (sym takes.0 i), sym takes.1 i))
 stepped_open h next session result (inr fails) = inr (ap opened_answer fails.0, fails.1)
 
 pub stepped_undo : (h next : History) (session : ℕ) (txn : TxnId) (result : Result (Unit {0}) BookFault)
-    → Takes h (undo_step h session txn) result next → Stepped h session (Undo txn) (answer_of Undone result) next
+    → TakesCall h (undo_step h session txn) result next → Stepped h session (Undo txn) (answer_of Undone result) next
 stepped_undo h next session txn result takes = told_takes Undone h next (undo_step h session txn) result takes
 
 pub stepped_redo : (h next : History) (session : ℕ) (txn : TxnId) (result : Result (Unit {0}) BookFault)
-    → Takes h (redo_step h session txn) result next → Stepped h session (Redo txn) (answer_of Redone result) next
+    → TakesCall h (redo_step h session txn) result next → Stepped h session (Redo txn) (answer_of Redone result) next
 stepped_redo h next session txn result takes = told_takes Redone h next (redo_step h session txn) result takes
 
 -- the work of an accepted open
@@ -225,7 +226,7 @@ opens_by h session full many =
       after_open h session,
     ))
 
-pub opened_work : (h next : History) (session : ℕ) (work : Transaction) → Takes h (open_step h session) (Ok work) next
+pub opened_work : (h next : History) (session : ℕ) (work : Transaction) → TakesCall h (open_step h session) (Ok work) next
     → (work ≡ opening h session) × (next.layout ≡ h.layout)
 unfolding opens_by
 opened_work h next session work (inr fails) = absurd (let e = fails.0 in cc)

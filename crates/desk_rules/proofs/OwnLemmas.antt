@@ -6,7 +6,7 @@ use Rattle.std.specs.Prelude.{slice_get}
 use Rattle.undo_rules.specs.declared.log.Logged.{Logged}
 use Rattle.desk_rules.specs.declared.kept.Kept.{Kept}
 use Rattle.desk_rules.specs.Guards.{ones}
-use Rattle.desk_rules.specs.Seats.{IsBelow, IsRising, last_behind, last_of, own_from, with_own}
+use Rattle.desk_rules.specs.Seats.{AreCallsRising, IsPastCall, last_behind, last_of, own_from, with_own}
 
 with_own-append : (b : Bool) (k : Kept) (ks xs : List Kept) → with_own b k (ks ++ xs) ≡ with_own b k ks ++ xs
 with_own-append true k ks xs = refl
@@ -54,14 +54,14 @@ pub last_found : (k : Kept) (ks : List Kept) → slice_get (k ∷ ks) (length ks
 last_found k [] = refl
 last_found k (next ∷ ks) = last_found next ks
 
-rising_first : (s p q : ℕ) (k : Kept) (ks : List Kept) → IsRising s p (k ∷ ks) → (last_behind k ks).place < q → k.place < q
+rising_first : (s p q : ℕ) (k : Kept) (ks : List Kept) → AreCallsRising s p (k ∷ ks) → (last_behind k ks).place < q → k.place < q
 rising_first s p q k [] r below = below
 rising_first s p q k (next ∷ ks) r below =
     let h = rising_first s (k.place + 1) q next ks r.2 below in let n = r.2.0 in omega (arith, h, n)
 
-pub rising_push : (s p : ℕ) (own : List Kept) (k : Kept) → IsRising s p own → p ≤ k.place → k.logged.session ≡ s
-    → IsBelow k.place (last_of own)
-    → IsRising s p (own ++ k ∷ [])
+pub rising_push : (s p : ℕ) (own : List Kept) (k : Kept) → AreCallsRising s p own → p ≤ k.place → k.logged.session ≡ s
+    → IsPastCall k.place (last_of own)
+    → AreCallsRising s p (own ++ k ∷ [])
 rising_push s p [] k r low is below = (low, is, tt)
 rising_push s p (x ∷ []) k r low is below = (r.0, r.1, ((let b : x.place < k.place = below in omega (arith, b)), is, tt))
 rising_push s p (x ∷ y ∷ ys) k r low is below =

@@ -6,20 +6,20 @@ use Rattle.undo_rules.specs.declared.log.Answer.{Answer}
 use Rattle.undo_rules.specs.declared.log.Call.{Call}
 use Rattle.undo_rules.specs.Books.{History}
 use Rattle.desk_rules.specs.declared.kept.Kept.{Kept}
-use Rattle.desk_rules.specs.Seats.{GainsLogged, IsRising, MadeLogged, Seat, added, with_kept}
+use Rattle.desk_rules.specs.Seats.{AreCallsRising, GainsLogged, MadeLogged, Seat, calls_added, with_kept}
 use Rattle.desk_rules.proofs.OwnLemmas.{rising_push}
 
 pub rising_kept : (answer : Option Answer) (base : Layout) (sessions : ℕ) (state : History) (session : ℕ) (own : List Kept)
     (call : Call) (place : ℕ)
-    → MadeLogged answer base sessions state session own call place → IsRising session 0 own
-    → IsRising session 0 (with_kept answer session own call place)
+    → MadeLogged answer base sessions state session own call place → AreCallsRising session 0 own
+    → AreCallsRising session 0 (with_kept answer session own call place)
 rising_kept None base sessions state session own call place made rising = rising
 rising_kept (Some answer) base sessions state session own call place made rising =
     rising_push session 0 own (record { place = place; logged = record { session = session; call = call; answer = answer } }) rising
     (omega arith) refl made.below
 
 pub length_kept : (answer : Option Answer) (session : ℕ) (own : List Kept) (call : Call) (place : ℕ)
-    → length (with_kept answer session own call place) ≡ length own + added answer
+    → length (with_kept answer session own call place) ≡ length own + calls_added answer
 length_kept None session own call place = omega arith
 length_kept (Some answer) session own call place =
     length-append own (record { place = place; logged = record { session = session; call = call; answer = answer } } ∷ [])
@@ -37,15 +37,15 @@ gains_logged (Some answer) base sessions state old call place made = record {
 -- what a seat keeps, behind a call
 pub seat_kept : (answer : Option Answer) (base : Layout) (sessions : ℕ) (state : History) (session : ℕ) (own given kept : List Kept)
     (call : Call) (place parts amount was : ℕ)
-    → (1 ≤ session) × IsRising session 0 own × (parts ≡ parts) × (was ≡ length own) → given ≡ own
+    → (1 ≤ session) × AreCallsRising session 0 own × (parts ≡ parts) × (was ≡ length own) → given ≡ own
     → MadeLogged answer base sessions state session given call place
-    → kept ≡ with_kept answer session own call place → parts ≡ 1 → amount ≡ was + added answer
-    → (1 ≤ session) × IsRising session 0 kept × (parts ≡ 1) × (amount ≡ length kept)
+    → kept ≡ with_kept answer session own call place → parts ≡ 1 → amount ≡ was + calls_added answer
+    → (1 ≤ session) × AreCallsRising session 0 kept × (parts ≡ 1) × (amount ≡ length kept)
 seat_kept answer base sessions state session own given kept call place parts amount was before given-is made kept-is one amount-is =
     let here : MadeLogged answer base sessions state session own call place =
     subst (λ (l : List Kept). MadeLogged answer base sessions state session l call place) given-is made in (
       before.0,
-      subst (IsRising session 0) (sym kept-is) (rising_kept answer base sessions state session own call place here before.1),
+      subst (AreCallsRising session 0) (sym kept-is) (rising_kept answer base sessions state session own call place here before.1),
       one,
-      amount-is ∙ ap (λ n. n + added answer) before.3 ∙ sym (length_kept answer session own call place) ∙ ap length (sym kept-is),
+      amount-is ∙ ap (λ n. n + calls_added answer) before.3 ∙ sym (length_kept answer session own call place) ∙ ap length (sym kept-is),
     )

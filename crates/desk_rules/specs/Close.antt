@@ -10,7 +10,7 @@ use Rattle.undo_rules.specs.Steps.{fresh}
 use Rattle.desk_rules.specs.declared.kept.Kept.{Kept}
 use Rattle.desk_rules.specs.Guards.{Desk}
 use Rattle.desk_rules.specs.Legal.{IsLegal}
-use Rattle.desk_rules.specs.Seats.{IsRising, Seat, is_in, own_calls}
+use Rattle.desk_rules.specs.Seats.{AreCallsRising, Seat, is_in, own_calls}
 
 -- how many calls the seats have
 abbrev pub own_total : List Seat → ℕ
@@ -37,8 +37,8 @@ missing_call log [] = None
 missing_call log (seat ∷ seats) = or_missing seat.session (missing_place log seat.own) (missing_call log seats)
 
 -- each seat's calls are its session's, at rising places
-abbrev pub AreRising : List Seat → Type 0
-AreRising seats = AllByRecursion (λ (seat : Seat). IsRising seat.session 0 seat.own) seats
+abbrev pub AreSeatsRising : List Seat → Type 0
+AreSeatsRising seats = AllByRecursion (λ (seat : Seat). AreCallsRising seat.session 0 seat.own) seats
 
 -- each session up to this one has a seat
 abbrev pub HasAll : ℕ → List Seat → Type 0

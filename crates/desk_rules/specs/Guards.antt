@@ -16,7 +16,7 @@ pub record Guard : Type 0 where
   pub total : ℕ
 
 -- these are the numbers of calls of the sessions in the log
-pub record AreCounts (sessions : ℕ) (counts : List ℕ) (log : List Logged) : Type 0 where
+pub record AreCallCounts (sessions : ℕ) (counts : List ℕ) (log : List Logged) : Type 0 where
   pub all : length counts ≡ sessions
   pub each : (i : ℕ) → i < sessions → slice_index counts i ≡ length (own_calls (i + 1) log)
 
@@ -25,7 +25,7 @@ pub record IsGuard (g : Guard) : Type 0 where
   pub few : g.sessions ≤ 64
   pub legal : IsLegal g.sessions (fresh g.book.base g.book.limit) g.book.log g.book
   pub pending : ArePendingSound g.book.sessions
-  pub counts : AreCounts g.sessions g.counts g.book.log
+  pub counts : AreCallCounts g.sessions g.counts g.book.log
   pub total : g.total ≡ length g.book.log
 
 -- what contracts see of a desk: the layout and the number of sessions that it was made with
@@ -40,9 +40,9 @@ has_last g session own =
     && ((slice_index g.counts (session - 1) == length own) && is_last_in g.book.log (last_of own))
 
 -- one more call is counted at this place, where there is one more
-abbrev pub counted : Bool → List ℕ → ℕ → List ℕ
-counted true counts i = slice_set counts i (slice_index counts i + 1)
-counted false counts i = counts
+abbrev pub with_one_counted : Bool → List ℕ → ℕ → List ℕ
+with_one_counted true counts i = slice_set counts i (slice_index counts i + 1)
+with_one_counted false counts i = counts
 
 abbrev pub ones : Bool → ℕ
 ones true = 1

@@ -11,10 +11,10 @@ use Rattle.undo_rules.specs.Books.{History}
 use Rattle.undo_rules.specs.Laws.{IsOwnWork}
 use Rattle.undo_rules.specs.Steps.{commit_step, fresh, is_own}
 use Rattle.desk_rules.specs.declared.kept.Kept.{Kept}
-use Rattle.desk_rules.specs.Close.{AreRising, HasAll, IsClosed, missing_call, own_total}
+use Rattle.desk_rules.specs.Close.{AreSeatsRising, HasAll, IsClosed, missing_call, own_total}
 use Rattle.desk_rules.specs.Guards.{Desk}
 use Rattle.desk_rules.specs.Legal.{ArePendingSound, IsLegal, Stepped, answer_of}
-use Rattle.desk_rules.specs.Seats.{IsIn, IsRising, Seat, own_calls}
+use Rattle.desk_rules.specs.Seats.{AreCallsRising, IsIn, Seat, own_calls}
 
 -- the history after a legal log has that log, and what it began with
 pub record HasLog (first : Layout) (most : ℕ) (calls : List Logged) (h : History) : Type 0 where
@@ -33,7 +33,7 @@ LogsLeadToOne = (sessions : ℕ) (start : History) (log : List Logged) (g h : Hi
 
 -- calls of a session at rising places, all in a log, are all its calls where they are as many
 abbrev pub AsManyAreAll : Type 0
-AsManyAreAll = (session : ℕ) (log : List Logged) (own : List Kept) → IsRising session 0 own → AllByRecursion (IsIn log) own
+AsManyAreAll = (session : ℕ) (log : List Logged) (own : List Kept) → AreCallsRising session 0 own → AllByRecursion (IsIn log) own
     → length own ≡ length (own_calls session log) → own ≡ own_calls session log
 
 -- where each session has a seat, and no more seats are there than sessions, and their calls are all in the log and as many as it
@@ -41,7 +41,7 @@ AsManyAreAll = (session : ℕ) (log : List Logged) (own : List Kept) → IsRisin
 abbrev pub ACountCloses : Type 0
 ACountCloses = (desk : Desk) (sessions : ℕ) (book : History) (seats : List Seat)
     → IsLegal sessions (fresh book.base book.limit) book.log book
-    → AreRising seats → missing_call book.log seats ≡ None → length seats ≤ desk.sessions → HasAll desk.sessions seats
+    → AreSeatsRising seats → missing_call book.log seats ≡ None → length seats ≤ desk.sessions → HasAll desk.sessions seats
     → own_total seats ≡ length book.log → book.base ≡ desk.base → IsClosed desk seats book
 
 -- a commit of a work is that of the transaction which the log means by its commands: these run on the layout at the pending open

@@ -113,5 +113,5 @@ abbrev pub Stepped : History → ℕ → Call → Option Answer → History → 
 Stepped h session call answer next = (outcome h session call ≡ (answer, next)) ⊎ ((answer ≡ None) × (next ≡ h))
 
 -- what is answered or out of memory, as a call of a book is
-abbrev pub Takes : {T : Type 0} → History → Result T BookFault × History → Result T BookFault → History → Type 0
-Takes old wanted result new = ((result ≡ wanted.0) × (new ≡ wanted.1)) ⊎ ((result ≡ Err NoMemory) × (new ≡ old))
+abbrev pub TakesCall : {T : Type 0} → History → Result T BookFault × History → Result T BookFault → History → Type 0
+TakesCall old wanted result new = ((result ≡ wanted.0) × (new ≡ wanted.1)) ⊎ ((result ≡ Err NoMemory) × (new ≡ old))

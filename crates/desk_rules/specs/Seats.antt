@@ -41,9 +41,9 @@ abbrev pub own_calls : ℕ → List Logged → List Kept
 own_calls session log = own_from session 0 log
 
 -- calls of the session at rising places, from this one on
-abbrev pub IsRising : ℕ → ℕ → List Kept → Type 0
-IsRising session place [] = Unit {0}
-IsRising session place (k ∷ ks) = (place ≤ k.place) × (k.logged.session ≡ session) × IsRising session (k.place + 1) ks
+abbrev pub AreCallsRising : ℕ → ℕ → List Kept → Type 0
+AreCallsRising session place [] = Unit {0}
+AreCallsRising session place (k ∷ ks) = (place ≤ k.place) × (k.logged.session ≡ session) × AreCallsRising session (k.place + 1) ks
 
 -- ---- calls in a log
 
@@ -76,13 +76,13 @@ abbrev pub is_last_in : List Logged → Option Kept → Bool
 is_last_in log None = true
 is_last_in log (Some k) = is_in log k
 
-abbrev pub IsBelow : ℕ → Option Kept → Type 0
-IsBelow place None = Unit {0}
-IsBelow place (Some k) = k.place < place
+abbrev pub IsPastCall : ℕ → Option Kept → Type 0
+IsPastCall place None = Unit {0}
+IsPastCall place (Some k) = k.place < place
 
-abbrev pub place_of : Option Kept → ℕ
-place_of None = 0
-place_of (Some k) = k.place
+abbrev pub place_or_zero : Option Kept → ℕ
+place_or_zero None = 0
+place_or_zero (Some k) = k.place
 
 -- ---- a call that was made
 
@@ -94,7 +94,7 @@ pub record MadeAt (base : Layout) (sessions : ℕ) (h : History) (session : ℕ)
   pub whole : length h.log ≡ k.place + 1
   pub count : length (own_calls session h.log) ≡ length before + 1
   pub earlier : IsLastIn h.log (last_of before)
-  pub below : IsBelow k.place (last_of before)
+  pub below : IsPastCall k.place (last_of before)
 
 -- there is such a history
 pub record Made (session : ℕ) (before : List Kept) (k : Kept) : Type 0 where
@@ -104,18 +104,18 @@ pub record Made (session : ℕ) (before : List Kept) (k : Kept) : Type 0 where
   pub at : MadeAt base sessions history session before k
 
 -- the call at this place
-abbrev pub kept_at : ℕ → ℕ → Call → Answer → Kept
-kept_at place session call answer = record { place = place; logged = record { session = session; call = call; answer = answer } }
+abbrev pub kept_call : ℕ → ℕ → Call → Answer → Kept
+kept_call place session call answer = record { place = place; logged = record { session = session; call = call; answer = answer } }
 
 -- the seat with one more call
-abbrev pub with_call : Seat → Kept → Seat
-with_call seat k = record { session = seat.session; own = seat.own ++ k ∷ [] }
+abbrev pub seat_with_call : Seat → Kept → Seat
+seat_with_call seat k = record { session = seat.session; own = seat.own ++ k ∷ [] }
 
 -- the seat gains this call, of which there is such a log
 pub record Gains (old : Seat) (call : Call) (answer : Answer) (new : Seat) : Type 0 where
   pub place : ℕ
-  pub gained : new ≡ with_call old (kept_at place old.session call answer)
-  pub made : Made old.session old.own (kept_at place old.session call answer)
+  pub gained : new ≡ seat_with_call old (kept_call place old.session call answer)
+  pub made : Made old.session old.own (kept_call place old.session call answer)
 
 -- the seat gains the call where it is logged, and else is as before
 abbrev pub GainsLogged : Option Answer → Seat → Call → Seat → Type 0
@@ -126,14 +126,14 @@ GainsLogged (Some answer) old call new = Gains old call answer new
 abbrev pub MadeLogged : Option Answer → Layout → ℕ → History → ℕ → List Kept → Call → ℕ → Type 0
 MadeLogged None base sessions h session before call place = Unit {0}
 MadeLogged (Some answer) base sessions h session before call place = MadeAt base sessions h session before
-    (kept_at place session call answer)
+    (kept_call place session call answer)
 
 -- how many calls this adds
-abbrev pub added : Option Answer → ℕ
-added None = 0
-added (Some answer) = 1
+abbrev pub calls_added : Option Answer → ℕ
+calls_added None = 0
+calls_added (Some answer) = 1
 
 -- the calls with this one, where it is logged
 abbrev pub with_kept : Option Answer → ℕ → List Kept → Call → ℕ → List Kept
 with_kept None session own call place = own
-with_kept (Some answer) session own call place = own ++ kept_at place session call answer ∷ []
+with_kept (Some answer) session own call place = own ++ kept_call place session call answer ∷ []

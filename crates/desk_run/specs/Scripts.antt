@@ -5,7 +5,7 @@ use Rattle.undo_rules.specs.Books.{History}
 use Rattle.session_steps.specs.declared.Reply.{Reply}
 use Rattle.session_steps.specs.declared.Step.{Step}
 use Rattle.desk_rules.specs.Close.{empty_seats}
-use Rattle.locked_desk.specs.Runs.{IsRun}
+use Rattle.locked_desk.specs.Runs.{IsDeskRun}
 
 -- one script that takes no step, where there are none
 abbrev pub or_one : List (List Step) → List (List Step)
@@ -19,7 +19,7 @@ desk_scripts scripts = take 64 (or_one scripts)
 -- a new desk of this layout, with as many sessions as scripts, ran these scripts with these replies, and closed with this book
 abbrev pub RunsOn : Layout → List (List Step) → List (List Reply) → History → Type 0
 RunsOn base scripts replies book =
-    IsRun (record { base = base; sessions = length scripts }) (empty_seats (length scripts)) scripts replies book
+    IsDeskRun (record { base = base; sessions = length scripts }) (empty_seats (length scripts)) scripts replies book
 
 -- the same of the scripts of a job
 abbrev pub RunsScripts : Layout → List (List Step) → List (List Reply) → History → Type 0

@@ -13,7 +13,7 @@ use Rattle.face_joins.specs.declared.cut.Cut.{Cut}
 use Rattle.face_joins.specs.declared.cut.Cut.TheVariants.{Column, Row}
 use Rattle.face_part_laws.proofs.PartLemmas.{joined_by_boxes}
 use Rattle.face_joins.specs.Forest.{IsForest, root_of, united}
-use Rattle.face_joins.specs.Joining.{AreOnlyJoined, Grows, IsPartOf, Joins, reaches_high, reaches_low}
+use Rattle.face_joins.specs.Joining.{AreOnlyJoined, Grows, IsPartOf, Joins, box_reaches_high, box_reaches_low}
 use Rattle.face_joins.proofs.ForestLemmas.{root_ends, root_le, root_of_own, united_cases}
 
 -- ---- trees that grow
@@ -155,23 +155,24 @@ module _ (b c : Box) (h : touch b c ≡ true) where
   second = and_parts (int_le c.0.x b.1.x) (int_le c.0.y b.1.y) halves.1
 
   both_reach : (cut : Cut)
-      → ((reaches_low cut b ≡ true) × (reaches_low cut c ≡ true)) ⊎ ((reaches_high cut b ≡ true) × (reaches_high cut c ≡ true))
+      → ((box_reaches_low cut b ≡ true) × (box_reaches_low cut c ≡ true))
+          ⊎ ((box_reaches_high cut b ≡ true) × (box_reaches_high cut c ≡ true))
   both_reach (Column at) = one_side at b.0.x b.1.x c.0.x c.1.x first.0 second.0
   both_reach (Row at) = one_side at b.0.y b.1.y c.0.y c.1.y first.1 second.1
 
 -- the lists of the two sides
 pub joined_by_sides : (boxes : List Box) (cut : Cut) (numbers low high : List ℕ) (old mid new : List ℕ) → length old ≡ length boxes
-    → IsPartOf (reaches_low cut) boxes numbers low → IsPartOf (reaches_high cut) boxes numbers high
+    → IsPartOf (box_reaches_low cut) boxes numbers low → IsPartOf (box_reaches_high cut) boxes numbers high
     → Joins boxes low old mid → Joins boxes high mid new → Joins boxes numbers old new
 joined_by_sides boxes cut numbers low high old mid new each is_low is_high l h = record {
   grows = grows_on boxes old mid new l.grows h.grows;
   joined = λ i j mi mj touching.
       let d : Box = get_or boxes i (record { x = pos 0; y = pos 0 }, record { x = pos 0; y = pos 0 }) in
       ⊎_elim
-      (λ (both : (reaches_low cut (get_or boxes i d) ≡ true) × (reaches_low cut (get_or boxes j d) ≡ true)).
+      (λ (both : (box_reaches_low cut (get_or boxes i d) ≡ true) × (box_reaches_low cut (get_or boxes j d) ≡ true)).
       h.grows.kept i j (omega (arith, touching.0, each, l.grows.each)) (omega (arith, touching.1, each, l.grows.each))
       (l.joined i j (is_low.all i d mi both.0) (is_low.all j d mj both.1) touching))
-      (λ (both : (reaches_high cut (get_or boxes i d) ≡ true) × (reaches_high cut (get_or boxes j d) ≡ true)).
+      (λ (both : (box_reaches_high cut (get_or boxes i d) ≡ true) × (box_reaches_high cut (get_or boxes j d) ≡ true)).
       h.joined i j (is_high.all i d mi both.0) (is_high.all j d mj both.1) touching)
       (both_reach (get_or boxes i d) (get_or boxes j d) (touching.2 d) cut);
 }

@@ -23,14 +23,14 @@ pub record Joins (boxes : List Box) (numbers old new : List ℕ) : Type 0 where
   pub joined : (i j : ℕ) → Contains numbers i → Contains numbers j → AreJoined boxes i j → root_of new i ≡ root_of new j
 
 -- whether a corner of the box is on the line or on its lower side
-abbrev pub reaches_low : Cut → Box → Bool
-reaches_low (Column at) b = int_le b.0.x at || int_le b.1.x at
-reaches_low (Row at) b = int_le b.0.y at || int_le b.1.y at
+abbrev pub box_reaches_low : Cut → Box → Bool
+box_reaches_low (Column at) b = int_le b.0.x at || int_le b.1.x at
+box_reaches_low (Row at) b = int_le b.0.y at || int_le b.1.y at
 
 -- whether a corner of the box is on the higher side of the line
-abbrev pub reaches_high : Cut → Box → Bool
-reaches_high (Column at) b = int_lt at b.0.x || int_lt at b.1.x
-reaches_high (Row at) b = int_lt at b.0.y || int_lt at b.1.y
+abbrev pub box_reaches_high : Cut → Box → Bool
+box_reaches_high (Column at) b = int_lt at b.0.x || int_lt at b.1.x
+box_reaches_high (Row at) b = int_lt at b.0.y || int_lt at b.1.y
 
 -- some of the numbers, and of those whose boxes pass the test all
 pub record IsPartOf (test : Box → Bool) (boxes : List Box) (numbers part : List ℕ) : Type 0 where

@@ -1,7 +1,7 @@
 //! Bounding boxes of rings.
 ghost use Rattle.std.specs.Prelude.{◌≡◌};
 ghost use Rattle.std.specs.Int.{int_max, int_min};
-ghost use Rattle.face_part_laws.specs.Parts.{box_of, grown, is_up_to, touch};
+ghost use Rattle.face_part_laws.specs.Parts.{bounding_box, grown, is_up_to, touch};
 
 use lay_point::{Point, Ring};
 use std::marker::Model;
@@ -51,7 +51,7 @@ impl Bounds {
 
 /// Returns the bounding box of the ring.
 pub fn bounds_of(ring: &Ring) -> Bounds
-    ensures { result ≡ box_of ring.now }
+    ensures { result ≡ bounding_box ring.now }
 {
     let points = ring.points();
     let first = points[0];

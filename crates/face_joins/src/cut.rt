@@ -1,7 +1,7 @@
 //! Lines across which a list of boxes is divided.
 ghost use Rattle.std.specs.Prelude.{◌≡◌, ◌<◌, All, Contains, IfOk, IsTrue, OnOk, length, slice_index_or, ℕ};
 ghost use Rattle.face_part_laws.specs.Parts.{Box};
-ghost use Rattle.face_joins.specs.Joining.{IsPartOf, reaches_high, reaches_low};
+ghost use Rattle.face_joins.specs.Joining.{IsPartOf, box_reaches_high, box_reaches_low};
 
 use crate::bounds::Bounds;
 use std::alloc::{AllocError, Global};
@@ -16,7 +16,7 @@ pub(crate) enum Cut {
 impl Cut {
     /// Returns whether a corner of the box is on the line or on its lower side.
     pub fn reaches_low(self, bounds: Bounds) -> bool
-        ensures { result ≡ reaches_low self bounds }
+        ensures { result ≡ box_reaches_low self bounds }
     {
         match self {
             Cut::Column(at) => bounds.low.x <= at || bounds.high.x <= at,
@@ -26,7 +26,7 @@ impl Cut {
 
     /// Returns whether a corner of the box is on the higher side of the line.
     pub fn reaches_high(self, bounds: Bounds) -> bool
-        ensures { result ≡ reaches_high self bounds }
+        ensures { result ≡ box_reaches_high self bounds }
     {
         match self {
             Cut::Column(at) => at < bounds.low.x || at < bounds.high.x,
@@ -42,7 +42,7 @@ impl Cut {
         numbers: &[usize],
     ) -> Result<Vec<usize>, AllocError>
         requires { All (λ k. k < length boxes.now) numbers.now }
-        ensures { IfOk result (λ part. IsPartOf (reaches_low self) boxes.now numbers.now part.items) }
+        ensures { IfOk result (λ part. IsPartOf (box_reaches_low self) boxes.now numbers.now part.items) }
     {
         let mut part = Vec::new(alloc);
         for number in numbers {
@@ -61,7 +61,7 @@ impl Cut {
         numbers: &[usize],
     ) -> Result<Vec<usize>, AllocError>
         requires { All (λ k. k < length boxes.now) numbers.now }
-        ensures { IfOk result (λ part. IsPartOf (reaches_high self) boxes.now numbers.now part.items) }
+        ensures { IfOk result (λ part. IsPartOf (box_reaches_high self) boxes.now numbers.now part.items) }
     {
         let mut part = Vec::new(alloc);
         for number in numbers {

@@ -19,8 +19,8 @@ use Rattle.snap_chains.specs.declared.owner.Input.{Input}
 use Rattle.snap_chains.specs.declared.owner.Input.TheVariants.{First, Second}
 use Rattle.snap_chains.specs.declared.owner.Owner.{Owner}
 use Rattle.snap_chains.specs.Owners.{input_eq}
-use Rattle.snap_chains.specs.Rounded.{is_listed}
-use Rattle.face_label_laws.specs.Labels.{Item, answer_on, differs, differs_at, odd_of, shapes_of, some_of}
+use Rattle.snap_chains.specs.Rounded.{is_owner_listed}
+use Rattle.face_label_laws.specs.Labels.{Item, answer_on, differs, differs_at, listed_shapes, odd_of, some_of}
 use Rattle.face_label_laws.proofs.Cuts.{AreDistinct, IsLeftmost, and_false_right, count_less, count_of}
 use Rattle.face_label_laws.proofs.Cuts.{leftmost, one_item, parity_of_one, row_positive, xor_false_right}
 use Rattle.face_side_laws.proofs.Rows.{IsLeft, Spans, apart_in_row, crossed_spans, fraction_lt, rises_in, row_distance}
@@ -65,9 +65,9 @@ cancel true true = refl
 cancel true false = refl
 
 module _ (op : Bool → Bool → Bool) (none : op false false ≡ false) (items : List Item) (h : AreUpward items) (distinct : AreDistinct items)
-    (even : (o : Owner) (v : Point) → parity (λ p. is_listed o p.1 && touches v p.0) items ≡ false) where
+    (even : (o : Owner) (v : Point) → parity (λ p. is_owner_listed o p.1 && touches v p.0) items ≡ false) where
   abbrev shapes : List Owner
-  shapes = shapes_of items
+  shapes = listed_shapes items
 
   -- ---- labels in a row
   midpoint_inside : (e : Point × Point) → e.0.y <ℤ e.1.y → IsPlaceInside e.0 e.1 (pos 2) (e.0.x +ℤ e.1.x) (e.0.y +ℤ e.1.y)
@@ -85,9 +85,9 @@ module _ (op : Bool → Bool → Bool) (none : op false false ≡ false) (items 
   label_there p given r s =
       let same : (o : Owner) → odd_of items o (pos 2) (p.0.0.x +ℤ p.0.1.x) (p.0.0.y +ℤ p.0.1.y)
       ≡ odd_of items o (row_k p.0) (row_x r p.0) (row_y r p.0) =
-      λ o. slide items h (is_listed o) (even o) p given (rises_in r p.0 s) (pos 2) (p.0.0.x +ℤ p.0.1.x) (p.0.0.y +ℤ p.0.1.y)
+      λ o. slide items h (is_owner_listed o) (even o) p given (rises_in r p.0 s) (pos 2) (p.0.0.x +ℤ p.0.1.x) (p.0.0.y +ℤ p.0.1.y)
       (row_k p.0) (row_x r p.0) (row_y r p.0) (midpoint_inside p.0 (rises_in r p.0 s)) (row_inside r p.0 s) in
-      λ i. xor (answer_on op shapes (λ o. same o i)) (answer_on op shapes (λ o. xor (is_listed o p.1) (same o i)))
+      λ i. xor (answer_on op shapes (λ o. same o i)) (answer_on op shapes (λ o. xor (is_owner_listed o p.1) (same o i)))
 
   -- ---- one edge of a cut, and those to its right
   module _ (r : ℤ) (test : Item → Bool) (cut : IsCut r items test) (m : Item) (left : IsLeftmost r test items m) where
@@ -165,7 +165,7 @@ module _ (op : Bool → Bool → Bool) (none : op false false ≡ false) (items 
 
   -- ---- the law of cuts
   pub cut_law : (n : ℕ) (r : ℤ) (test : Item → Bool) → count_of test items < n → IsCut r items test
-      → parity (λ p. differs op items p && test p) items ≡ answer_on op shapes (λ o. parity (λ p. is_listed o p.1 && test p) items)
+      → parity (λ p. differs op items p && test p) items ≡ answer_on op shapes (λ o. parity (λ p. is_owner_listed o p.1 && test p) items)
   cut_law zero r test less cut = absurd (omega arith)
   cut_law (suc n) r test less cut = ⊎_elim
       (λ (found : (m : Item) × IsLeftmost r test items m).
@@ -173,19 +173,19 @@ module _ (op : Bool → Bool → Bool) (none : op false false ≡ false) (items 
       let left = found.1 in
       let fewer_here = fewer r test cut m left in
       let rest = cut_law n r (right r test cut m left) (omega arith) (right_cut r test cut m left) in
-      let shapes_split : (o : Owner) → parity (λ p. is_listed o p.1 && test p) items
-      ≡ xor (is_listed o m.1) (odd_of items o (row_k m.0) (row_x r m.0) (row_y r m.0)) =
-      λ o. split_parity r test cut m left (λ p. is_listed o p.1) in
+      let shapes_split : (o : Owner) → parity (λ p. is_owner_listed o p.1 && test p) items
+      ≡ xor (is_owner_listed o m.1) (odd_of items o (row_k m.0) (row_x r m.0) (row_y r m.0)) =
+      λ o. split_parity r test cut m left (λ p. is_owner_listed o p.1) in
       split_parity r test cut m left (differs op items)
       ∙ ap₂ xor (label_there m left.given r (m_spans r test cut m left)) rest
       ∙ cancel (answer_on op shapes (λ o. odd_of items o (row_k m.0) (row_x r m.0) (row_y r m.0)))
-      (answer_on op shapes (λ o. xor (is_listed o m.1) (odd_of items o (row_k m.0) (row_x r m.0) (row_y r m.0))))
+      (answer_on op shapes (λ o. xor (is_owner_listed o m.1) (odd_of items o (row_k m.0) (row_x r m.0) (row_y r m.0))))
       ∙ sym (λ i. answer_on op shapes (λ o. shapes_split o i)))
       (λ (empty : (q : Item) → Has items q → test q ≡ false).
       parity_none (λ p. differs op items p && test p) items (λ p given. ap (λ b. differs op items p && b) (empty p given)
       ∙ and_false_right (differs op items p))
       ∙ sym ((λ i. answer_on op shapes (λ o.
-      parity_none (λ p. is_listed o p.1 && test p) items (λ p given. ap (λ b. is_listed o p.1 && b) (empty p given)
-      ∙ and_false_right (is_listed o p.1)) i))
+      parity_none (λ p. is_owner_listed o p.1 && test p) items (λ p given. ap (λ b. is_owner_listed o p.1 && b) (empty p given)
+      ∙ and_false_right (is_owner_listed o p.1)) i))
       ∙ no_shape op none shapes))
       (leftmost r test items cut.spans)

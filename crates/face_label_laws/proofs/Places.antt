@@ -8,7 +8,7 @@ use Rattle.lay_point.specs.Edges.{touches}
 use Rattle.lay_point.specs.Parity.{parity, is_crossed}
 use Rattle.snap_chains.specs.Meeting.{MeetAtEnds}
 use Rattle.snap_chains.specs.declared.owner.Owner.{Owner}
-use Rattle.snap_chains.specs.Rounded.{is_listed}
+use Rattle.snap_chains.specs.Rounded.{is_owner_listed}
 use Rattle.face_label_laws.specs.Labels.{Item, answer_at, differs}
 use Rattle.face_label_laws.proofs.CutLaw.{IsCut, cut_law}
 use Rattle.face_label_laws.proofs.Cuts.{AreDistinct, count_of}
@@ -88,7 +88,7 @@ module _ (items : List Item) (h : AreUpward items) where
   }
 
 pub place_law : (op : Bool → Bool → Bool) → op false false ≡ false → (items : List Item) → AreUpward items → AreDistinct items
-    → ((o : Owner) (v : Point) → parity (λ p. is_listed o p.1 && touches v p.0) items ≡ false)
+    → ((o : Owner) (v : Point) → parity (λ p. is_owner_listed o p.1 && touches v p.0) items ≡ false)
     → (k x y : ℤ) → pos 1 ≤ℤ k → parity (λ p. differs op items p && is_crossed k x y p.0) items ≡ answer_at op items k x y
 unfolding answer_at
 place_law op none items h distinct even k x y scale =

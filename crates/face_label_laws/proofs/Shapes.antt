@@ -8,8 +8,8 @@ use Rattle.snap_chains.specs.declared.owner.Input.{Input}
 use Rattle.snap_chains.specs.declared.owner.Input.TheVariants.{First, Second}
 use Rattle.snap_chains.specs.declared.owner.Owner.{Owner}
 use Rattle.snap_chains.specs.Owners.{input_eq, owner_eq}
-use Rattle.snap_chains.specs.Rounded.{is_listed}
-use Rattle.face_label_laws.specs.Labels.{Item, items_of, odd_of, shapes_of}
+use Rattle.snap_chains.specs.Rounded.{is_owner_listed}
+use Rattle.face_label_laws.specs.Labels.{Item, listed_shapes, odd_of, owned_items}
 use Rattle.face_label_laws.specs.Laws.{InputsAreTheirShapes}
 
 input_by_test : (i j : Input) → input_eq i j ≡ true → i ≡ j
@@ -37,10 +37,10 @@ or_cases : (a b : Bool) → (a || b) ≡ true → (a ≡ true) ⊎ (b ≡ true)
 or_cases true b e = inl refl
 or_cases false b e = inr e
 
-listed_has : (o : Owner) (os : List Owner) → is_listed o os ≡ true → Has os o
+listed_has : (o : Owner) (os : List Owner) → is_owner_listed o os ≡ true → Has os o
 listed_has o [] e = absurd cc
 listed_has o (p ∷ os) e = ⊎_elim (λ (here : owner_eq p o ≡ true). inl (owner_by_test p o here))
-    (λ (there : is_listed o os ≡ true). inr (listed_has o os there)) (or_cases (owner_eq p o) (is_listed o os) e)
+    (λ (there : is_owner_listed o os ≡ true). inr (listed_has o os there)) (or_cases (owner_eq p o) (is_owner_listed o os) e)
 
 -- an odd number is one at least
 odd_has : (test : Item → Bool) (items : List Item) → parity test items ≡ true → (p : Item) × Has items p × (test p ≡ true)
@@ -52,10 +52,10 @@ odd_has test (p ∷ ps) e = by_test (test p) refl e (λ f. odd_has test ps f)
     by_test true t f further = (p, inl refl, t)
     by_test false t f further = let r = further f in (r.0, inr r.1, r.2)
 
-shapes_have : (items : List Item) (p : Item) (o : Owner) → Has items p → Has p.1 o → Has (shapes_of items) o
+shapes_have : (items : List Item) (p : Item) (o : Owner) → Has items p → Has p.1 o → Has (listed_shapes items) o
 shapes_have [] p o m n = absurd m
-shapes_have (q ∷ qs) p o (inl same) n = has-append_left q.1 (shapes_of qs) o (subst (λ (z : Item). Has z.1 o) (sym same) n)
-shapes_have (q ∷ qs) p o (inr m) n = has-append_right q.1 (shapes_of qs) o (shapes_have qs p o m n)
+shapes_have (q ∷ qs) p o (inl same) n = has-append_left q.1 (listed_shapes qs) o (subst (λ (z : Item). Has z.1 o) (sym same) n)
+shapes_have (q ∷ qs) p o (inr m) n = has-append_right q.1 (listed_shapes qs) o (shapes_have qs p o m n)
 
 any_true : (test : Owner → Bool) (os : List Owner) (o : Owner) → Has os o → test o ≡ true → list_any test os ≡ true
 any_true test [] o m t = absurd m
@@ -74,15 +74,15 @@ true_any test (p ∷ os) e = ⊎_elim (λ (here : test p ≡ true). (p, here))
 pub inputs_are_their_shapes : InputsAreTheirShapes
 inputs_are_their_shapes r input k x y = (
   (λ e.
-      let found = true_any (λ o. input_eq o.input input && odd_of (items_of r) o k x y) (shapes_of (items_of r)) e in
-      let both = both_true (input_eq found.0.input input) (odd_of (items_of r) found.0 k x y) found.1 in
+      let found = true_any (λ o. input_eq o.input input && odd_of (owned_items r) o k x y) (listed_shapes (owned_items r)) e in
+      let both = both_true (input_eq found.0.input input) (odd_of (owned_items r) found.0 k x y) found.1 in
       let same = input_by_test found.0.input input both.0 in
-      (found.0.shape, ap (λ i. odd_of (items_of r) (record { input = i; shape = found.0.shape }) k x y) (sym same) ∙ both.1)),
+      (found.0.shape, ap (λ i. odd_of (owned_items r) (record { input = i; shape = found.0.shape }) k x y) (sym same) ∙ both.1)),
   (λ found.
       let o : Owner = record { input = input; shape = found.0 } in
-      let one = odd_has (λ p. is_listed o p.1 && is_crossed k x y p.0) (items_of r) found.1 in
-      let listed = both_true (is_listed o one.0.1) (is_crossed k x y one.0.0) one.2 in
-      any_true (λ p. input_eq p.input input && odd_of (items_of r) p k x y) (shapes_of (items_of r)) o
-      (shapes_have (items_of r) one.0 o one.1 (listed_has o one.0.1 listed.0))
-      (ap (λ b. b && odd_of (items_of r) o k x y) (input_itself input) ∙ found.1)),
+      let one = odd_has (λ p. is_owner_listed o p.1 && is_crossed k x y p.0) (owned_items r) found.1 in
+      let listed = both_true (is_owner_listed o one.0.1) (is_crossed k x y one.0.0) one.2 in
+      any_true (λ p. input_eq p.input input && odd_of (owned_items r) p k x y) (listed_shapes (owned_items r)) o
+      (shapes_have (owned_items r) one.0 o one.1 (listed_has o one.0.1 listed.0))
+      (ap (λ b. b && odd_of (owned_items r) o k x y) (input_itself input) ∙ found.1)),
 )

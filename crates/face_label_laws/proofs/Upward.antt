@@ -15,8 +15,9 @@ use Rattle.lay_point.proofs.Parity.{parity-map, parity_agree}
 use Rattle.lay_point.proofs.Rising.{before_rest, rising_rest}
 use Rattle.snap_chains.specs.Meeting.{MeetAtEnds}
 use Rattle.snap_chains.specs.declared.owner.Owner.{Owner}
-use Rattle.snap_chains.specs.Rounded.{AreClean, IsRounded, Owned, is_listed}
-use Rattle.face_label_laws.specs.Labels.{Item, answer_at, answer_on, differs, differs_at, edges_of_operation, items_of, odd_of, shapes_of}
+use Rattle.snap_chains.specs.Rounded.{AreClean, IsRounded, Owned, is_owner_listed}
+use Rattle.face_label_laws.specs.Labels.{Item, answer_at, answer_on, differs, differs_at, edges_of_operation, listed_shapes, odd_of}
+use Rattle.face_label_laws.specs.Labels.{owned_items}
 use Rattle.face_label_laws.specs.Laws.{AreLesserFirst}
 use Rattle.face_label_laws.proofs.CutLaw.{same_edge-Decides}
 use Rattle.face_label_laws.proofs.Cuts.{AreDistinct}
@@ -53,15 +54,15 @@ up_touches : (v : Point) (e : Point × Point) → touches v (up e) ≡ touches v
 up_touches v = either (touches v) (λ a b. or_turned (point_eq a v) (point_eq b v))
 
 -- ---- the same shapes, parities and labels
-shapes_same : (items : List Item) → shapes_of (map up_item items) ≡ shapes_of items
+shapes_same : (items : List Item) → listed_shapes (map up_item items) ≡ listed_shapes items
 shapes_same [] = refl
 shapes_same (p ∷ ps) = ap (λ os. p.1 ++ os) (shapes_same ps)
 
 odd_same : (items : List Item) (o : Owner) (k x y : ℤ) → odd_of (map up_item items) o k x y ≡ odd_of items o k x y
 odd_same items o k x y =
-    parity-map (λ p. is_listed o p.1 && is_crossed k x y p.0) up_item items
-    ∙ parity_agree (λ p. is_listed o p.1 && is_crossed k x y (up p.0)) (λ p. is_listed o p.1 && is_crossed k x y p.0) items
-    (λ p m. ap (λ b. is_listed o p.1 && b) (up_crossed k x y p.0))
+    parity-map (λ p. is_owner_listed o p.1 && is_crossed k x y p.0) up_item items
+    ∙ parity_agree (λ p. is_owner_listed o p.1 && is_crossed k x y (up p.0)) (λ p. is_owner_listed o p.1 && is_crossed k x y p.0) items
+    (λ p m. ap (λ b. is_owner_listed o p.1 && b) (up_crossed k x y p.0))
 
 answer_same : (op : Bool → Bool → Bool) (items : List Item) (k x y : ℤ) → answer_at op (map up_item items) k x y ≡ answer_at op items k x y
 unfolding answer_at
@@ -76,7 +77,7 @@ label_same op items p =
     (λ i. xor (answer_on op (shapes_same items i) (λ o. odd_same items o (pos 2) ((up p.0).0.x +ℤ (up p.0).1.x)
     ((up p.0).0.y +ℤ (up p.0).1.y) i))
     (answer_on op (shapes_same items i)
-    (λ o. xor (is_listed o p.1) (odd_same items o (pos 2) ((up p.0).0.x +ℤ (up p.0).1.x) ((up p.0).0.y +ℤ (up p.0).1.y) i))))
+    (λ o. xor (is_owner_listed o p.1) (odd_same items o (pos 2) ((up p.0).0.x +ℤ (up p.0).1.x) ((up p.0).0.y +ℤ (up p.0).1.y) i))))
     ∙ either (λ e. differs_at op items (e, p.1) (pos 2) (e.0.x +ℤ e.1.x) (e.0.y +ℤ e.1.y)) (λ a b. λ i.
     differs_at op items (p.0, p.1) (pos 2) (sum_turned a.x b.x i) (sum_turned a.y b.y i)) p.0
 
@@ -140,20 +141,20 @@ distinct_up (e ∷ es) (o ∷ os) rising lesser = (
 )
 
 module _ (r : Owned) (rounded : IsRounded r) (clean : AreClean r.0) (lesser : AreLesserFirst r.0) where
-  edge_of : (p : Item) → Has (items_of r) p → Has r.0 p.0
+  edge_of : (p : Item) → Has (owned_items r) p → Has r.0 p.0
   edge_of p m = zip_has r.0 r.1 p m
 
-  upward : AreUpward (map up_item (items_of r))
+  upward : AreUpward (map up_item (owned_items r))
   upward = record {
-    rises = λ q m. let p = has_map (items_of r) q m in subst (λ (z : Item). z.0.0.y ≤ℤ z.0.1.y) p.2 (up_rises p.0.0);
+    rises = λ q m. let p = has_map (owned_items r) q m in subst (λ (z : Item). z.0.0.y ≤ℤ z.0.1.y) p.2 (up_rises p.0.0);
     proper = λ q m.
-        let p = has_map (items_of r) q m in
+        let p = has_map (owned_items r) q m in
         let l = lesser p.0.0 (contains r.0 p.0.0 (edge_of p.0 p.1)) in
         subst (λ (z : Item). ¬ (z.0.0 ≡ z.0.1)) p.2 (up_proper p.0.0 (λ same.
         before_is_strict.irreflexive p.0.0.1 (before_by_test p.0.0.1 p.0.0.1 (subst (λ v. is_before v p.0.0.1 ≡ true) same l))));
     meets = λ q s m n.
-        let p = has_map (items_of r) q m in
-        let t = has_map (items_of r) s n in
+        let p = has_map (owned_items r) q m in
+        let t = has_map (owned_items r) s n in
         let two = both p.0.0 t.0.0 (edge_of p.0 p.1) (edge_of t.0 t.1) (same_edge p.0.0 t.0.0) refl in
         coe 0 1 (i. ((p.2 i).0 ≡ (t.2 i).0) ⊎ MeetAtEnds (p.2 i).0 (t.2 i).0) two;
   }
@@ -163,14 +164,14 @@ module _ (r : Owned) (rounded : IsRounded r) (clean : AreClean r.0) (lesser : Ar
       both e f m n false t = inr (up_meet e f (clean e f (contains r.0 e m) (contains r.0 f n) (λ same.
           let t' = (same_edge-Decides e f).1 same in absurd cc)))
 
-  even_up : (o : Owner) (v : Point) → parity (λ p. is_listed o p.1 && touches v p.0) (map up_item (items_of r)) ≡ false
+  even_up : (o : Owner) (v : Point) → parity (λ p. is_owner_listed o p.1 && touches v p.0) (map up_item (owned_items r)) ≡ false
   even_up o v =
-      parity-map (λ p. is_listed o p.1 && touches v p.0) up_item (items_of r)
-      ∙ parity_agree (λ p. is_listed o p.1 && touches v (up p.0)) (λ p. is_listed o p.1 && touches v p.0) (items_of r)
-      (λ p m. ap (λ b. is_listed o p.1 && b) (up_touches v p.0))
+      parity-map (λ p. is_owner_listed o p.1 && touches v p.0) up_item (owned_items r)
+      ∙ parity_agree (λ p. is_owner_listed o p.1 && touches v (up p.0)) (λ p. is_owner_listed o p.1 && touches v p.0) (owned_items r)
+      (λ p m. ap (λ b. is_owner_listed o p.1 && b) (up_touches v p.0))
       ∙ rounded.even o v
 
-  distinct : AreDistinct (map up_item (items_of r))
+  distinct : AreDistinct (map up_item (owned_items r))
   distinct = distinct_up r.0 r.1 rounded.rising (λ e m. lesser e (contains r.0 e m))
 
   filtered : (f : Item → Bool) (test : Point × Point → Bool) (items : List Item)
@@ -186,27 +187,27 @@ module _ (r : Owned) (rounded : IsRounded r) (clean : AreClean r.0) (lesser : Ar
 
   -- of the operation's edges an odd number is to the right of a place exactly where the operation holds there
   pub operation_law : (op : Bool → Bool → Bool) → op false false ≡ false → (k x y : ℤ) → pos 1 ≤ℤ k
-      → odd (edges_of_operation op (items_of r)) k x y ≡ answer_at op (items_of r) k x y
+      → odd (edges_of_operation op (owned_items r)) k x y ≡ answer_at op (owned_items r) k x y
   unfolding odd
   operation_law op none k x y scale =
-      filtered (differs op (items_of r)) (is_crossed k x y) (items_of r)
-      ∙ sym (parity-map (λ p. differs op (map up_item (items_of r)) p && is_crossed k x y p.0) up_item (items_of r)
-      ∙ parity_agree (λ p. differs op (map up_item (items_of r)) (up_item p) && is_crossed k x y (up p.0))
-      (λ p. differs op (items_of r) p && is_crossed k x y p.0) (items_of r)
-      (λ p m. ap₂ (λ a b. a && b) (label_same op (items_of r) p) (up_crossed k x y p.0)))
-      ∙ place_law op none (map up_item (items_of r)) upward distinct even_up k x y scale
-      ∙ answer_same op (items_of r) k x y
+      filtered (differs op (owned_items r)) (is_crossed k x y) (owned_items r)
+      ∙ sym (parity-map (λ p. differs op (map up_item (owned_items r)) p && is_crossed k x y p.0) up_item (owned_items r)
+      ∙ parity_agree (λ p. differs op (map up_item (owned_items r)) (up_item p) && is_crossed k x y (up p.0))
+      (λ p. differs op (owned_items r) p && is_crossed k x y p.0) (owned_items r)
+      (λ p m. ap₂ (λ a b. a && b) (label_same op (owned_items r) p) (up_crossed k x y p.0)))
+      ∙ place_law op none (map up_item (owned_items r)) upward distinct even_up k x y scale
+      ∙ answer_same op (owned_items r) k x y
 
   -- an even number of them stands at each point
   pub even_operation : (op : Bool → Bool → Bool) → op false false ≡ false → (v : Point)
-      → parity (touches v) (edges_of_operation op (items_of r)) ≡ false
+      → parity (touches v) (edges_of_operation op (owned_items r)) ≡ false
   even_operation op none v =
-      filtered (differs op (items_of r)) (touches v) (items_of r)
-      ∙ sym (parity-map (λ p. differs op (map up_item (items_of r)) p && touches v p.0) up_item (items_of r)
-      ∙ parity_agree (λ p. differs op (map up_item (items_of r)) (up_item p) && touches v (up p.0))
-      (λ p. differs op (items_of r) p && touches v p.0) (items_of r)
-      (λ p m. ap₂ (λ a b. a && b) (label_same op (items_of r) p) (up_touches v p.0)))
-      ∙ even_law op none (map up_item (items_of r)) upward distinct even_up v
+      filtered (differs op (owned_items r)) (touches v) (owned_items r)
+      ∙ sym (parity-map (λ p. differs op (map up_item (owned_items r)) p && touches v p.0) up_item (owned_items r)
+      ∙ parity_agree (λ p. differs op (map up_item (owned_items r)) (up_item p) && touches v (up p.0))
+      (λ p. differs op (owned_items r) p && touches v p.0) (owned_items r)
+      (λ p m. ap₂ (λ a b. a && b) (label_same op (owned_items r) p) (up_touches v p.0)))
+      ∙ even_law op none (map up_item (owned_items r)) upward distinct even_up v
 
 -- ---- in order
 among : (f : Item → Bool) (es : List (Point × Point)) (os : List (List Owner)) (g : Point × Point)
@@ -239,9 +240,9 @@ rising_filter f (e ∷ es) (o ∷ os) h = by_test (f (e, o)) (rising_filter f es
         (λ g m. before_rest IsEdgeBefore edges_are_strict e es g h (among f es os g m)) rest
     by_test false rest = rest
 
-pub operation_rises : (r : Owned) → IsRounded r → (op : Bool → Bool → Bool) → IsRising IsEdgeBefore (edges_of_operation op (items_of r))
-operation_rises r rounded op = rising_filter (differs op (items_of r)) r.0 r.1 rounded.rising
+pub operation_rises : (r : Owned) → IsRounded r → (op : Bool → Bool → Bool) → IsRising IsEdgeBefore (edges_of_operation op (owned_items r))
+operation_rises r rounded op = rising_filter (differs op (owned_items r)) r.0 r.1 rounded.rising
 
-pub operation_among : (r : Owned) (op : Bool → Bool → Bool) (e : Point × Point) → Contains (edges_of_operation op (items_of r)) e
+pub operation_among : (r : Owned) (op : Bool → Bool → Bool) (e : Point × Point) → Contains (edges_of_operation op (owned_items r)) e
     → Contains r.0 e
-operation_among r op e c = contains r.0 e (among (differs op (items_of r)) r.0 r.1 e (has (edges_of_operation op (items_of r)) e c))
+operation_among r op e c = contains r.0 e (among (differs op (owned_items r)) r.0 r.1 e (has (edges_of_operation op (owned_items r)) e c))

@@ -13,12 +13,12 @@ use Rattle.lay_point.specs.Points.{point_eq}
 use Rattle.lay_point.proofs.EdgeOrder.{same_by_test}
 use Rattle.lay_point.proofs.Members.{Has}
 use Rattle.lay_point.proofs.Parity.{parity_agree, parity_none, parity-xor, xor_self}
-use Rattle.snap_chains.specs.Edges.{IsBetween, IsEnd}
+use Rattle.snap_chains.specs.Edges.{IsBetween, IsEndpoint}
 use Rattle.snap_chains.specs.Meeting.{MeetAtEnds}
 use Rattle.snap_chains.proofs.Level.{other_way_round}
 use Rattle.snap_chains.specs.declared.owner.Owner.{Owner}
-use Rattle.snap_chains.specs.Rounded.{is_listed}
-use Rattle.face_label_laws.specs.Labels.{Item, answer_on, differs, odd_of, shapes_of}
+use Rattle.snap_chains.specs.Rounded.{is_owner_listed}
+use Rattle.face_label_laws.specs.Labels.{Item, answer_on, differs, listed_shapes, odd_of}
 use Rattle.face_side_laws.proofs.Arms.{and_both, both_true, both_ways, le_zero, level_end, lt_zero}
 use Rattle.face_side_laws.proofs.Arms.{middle_left, middle_level, middle_right, not_nested, one_times}
 use Rattle.face_side_laws.proofs.Arms.{row_spans, spans_row, zero_le, zero_lt}
@@ -63,7 +63,7 @@ abbrev Joins : Edge → Point → Point → Type 0
 Joins g u v = (g ≡ (u, v)) ⊎ (g ≡ (v, u))
 
 abbrev EndsIt : Edge → Point → Type 0
-EndsIt g v = g.0.y ≡ g.1.y → v.y ≡ g.1.y → IsBetween g.0.x v.x g.1.x → IsEnd v g.0 g.1
+EndsIt g v = g.0.y ≡ g.1.y → v.y ≡ g.1.y → IsBetween g.0.x v.x g.1.x → IsEndpoint v g.0 g.1
 
 eq_true : (a b : ℤ) → int_eq a b ≡ true → a ≡ b
 eq_true a b e = (Decides-int_eq a b).0 e
@@ -166,12 +166,12 @@ middle_of g u v P (inr same) h =
     turned a b = omega (arith, ints)
 
 module _ (op : Bool → Bool → Bool) (none : op false false ≡ false) (items : List Item) (h : AreUpward items) (distinct : AreDistinct items)
-    (even : (o : Owner) (v : Point) → parity (λ p. is_listed o p.1 && touches v p.0) items ≡ false) where
+    (even : (o : Owner) (v : Point) → parity (λ p. is_owner_listed o p.1 && touches v p.0) items ≡ false) where
   abbrev shapes : List Owner
-  shapes = shapes_of items
+  shapes = listed_shapes items
 
   abbrev odds : (Item → Bool) → Owner → Bool
-  odds test o = parity (λ p. is_listed o p.1 && test p) items
+  odds test o = parity (λ p. is_owner_listed o p.1 && test p) items
 
   abbrev labels : (Item → Bool) → Bool
   labels test = parity (λ p. differs op items p && test p) items
@@ -212,12 +212,12 @@ module _ (op : Bool → Bool → Bool) (none : op false false ≡ false) (items 
         (λ s. ap arm ((same_edge-Decides p.0 g.0).0 s) ∙ t)))
         ∙ parity_of_one test items g distinct given in
         let there : (o : Owner) → odd_of items o (pos 2) (g.0.0.x +ℤ g.0.1.x) (g.0.0.y +ℤ g.0.1.y) ≡ odds above o =
-        λ o. parity_agree (λ p. is_listed o p.1 && is_crossed (pos 2) (g.0.0.x +ℤ g.0.1.x) (g.0.0.y +ℤ g.0.1.y) p.0)
-        (λ p. is_listed o p.1 && above p) items (λ p m. ap (λ b. is_listed o p.1 && b) (middle g given t p m)) in
-        let behind : (o : Owner) → xor (is_listed o g.1) (odds above o) ≡ odds below o =
-        λ o. sym (other_of (odds above o) (odds below o) (is_listed o g.1) (sum o ∙ only (λ p. is_listed o p.1))) in
+        λ o. parity_agree (λ p. is_owner_listed o p.1 && is_crossed (pos 2) (g.0.0.x +ℤ g.0.1.x) (g.0.0.y +ℤ g.0.1.y) p.0)
+        (λ p. is_owner_listed o p.1 && above p) items (λ p m. ap (λ b. is_owner_listed o p.1 && b) (middle g given t p m)) in
+        let behind : (o : Owner) → xor (is_owner_listed o g.1) (odds above o) ≡ odds below o =
+        λ o. sym (other_of (odds above o) (odds below o) (is_owner_listed o g.1) (sum o ∙ only (λ p. is_owner_listed o p.1))) in
         only (differs op items)
-        ∙ (λ i. xor (answer_on op shapes (λ o. there o i)) (answer_on op shapes (λ o. xor (is_listed o g.1) (there o i))))
+        ∙ (λ i. xor (answer_on op shapes (λ o. there o i)) (answer_on op shapes (λ o. xor (is_owner_listed o g.1) (there o i))))
         ∙ (λ i. xor (answer_on op shapes (odds above)) (answer_on op shapes (λ o. behind o i)))
 
     pub arms_sum : labels (λ p. arm p.0) ≡ xor (answer_on op shapes (odds above)) (answer_on op shapes (odds below))
@@ -225,8 +225,8 @@ module _ (op : Bool → Bool → Bool) (none : op false false ≡ false) (items 
         (λ (found : (g : Item) × Has items g × (arm g.0 ≡ true)). arm_label found.0 found.1 found.2)
         (λ (out : (p : Item) → Has items p → arm p.0 ≡ false).
         let same : (o : Owner) → odds above o ≡ odds below o =
-        λ o. sum_of (odds above o) (odds below o) (sum o ∙ parity_none (λ p. is_listed o p.1 && arm p.0) items
-        (λ p m. ap (λ b. is_listed o p.1 && b) (out p m) ∙ and_false_right (is_listed o p.1))) in
+        λ o. sum_of (odds above o) (odds below o) (sum o ∙ parity_none (λ p. is_owner_listed o p.1 && arm p.0) items
+        (λ p m. ap (λ b. is_owner_listed o p.1 && b) (out p m) ∙ and_false_right (is_owner_listed o p.1))) in
         parity_none (λ p. differs op items p && arm p.0) items
         (λ p m. ap (λ b. differs op items p && b) (out p m) ∙ and_false_right (differs op items p))
         ∙ sym ((λ i. xor (answer_on op shapes (λ o. same o i)) (answer_on op shapes (odds below)))
@@ -279,34 +279,34 @@ module _ (op : Bool → Bool → Bool) (none : op false false ≡ false) (items 
     left_sum : (o : Owner) → xor (odds (λ p. from_on v.y v p.0) o) (odds (λ p. from_on (v.y -ℤ pos 1) v p.0) o)
         ≡ odds (λ p. left_arm v p.0) o
     left_sum o = sum_of _ _ (sym (
-        parity_agree (λ p. is_listed o p.1 && xor (from_here v p.0.0) (from_here v p.0.1))
-        (λ p. xor (xor (is_listed o p.1 && from_on v.y v p.0) (is_listed o p.1 && from_on (v.y -ℤ pos 1) v p.0))
-        (is_listed o p.1 && left_arm v p.0))
-        items (λ p m. ap (λ b. is_listed o p.1 && b) (ends_from_here v p.0 (h.rises p m))
-        ∙ and_split (is_listed o p.1) (xor (from_on v.y v p.0) (from_on (v.y -ℤ pos 1) v p.0)) (left_arm v p.0)
-        ∙ ap (λ b. xor b (is_listed o p.1 && left_arm v p.0)) (and_split (is_listed o p.1) (from_on v.y v p.0)
+        parity_agree (λ p. is_owner_listed o p.1 && xor (from_here v p.0.0) (from_here v p.0.1))
+        (λ p. xor (xor (is_owner_listed o p.1 && from_on v.y v p.0) (is_owner_listed o p.1 && from_on (v.y -ℤ pos 1) v p.0))
+        (is_owner_listed o p.1 && left_arm v p.0))
+        items (λ p m. ap (λ b. is_owner_listed o p.1 && b) (ends_from_here v p.0 (h.rises p m))
+        ∙ and_split (is_owner_listed o p.1) (xor (from_on v.y v p.0) (from_on (v.y -ℤ pos 1) v p.0)) (left_arm v p.0)
+        ∙ ap (λ b. xor b (is_owner_listed o p.1 && left_arm v p.0)) (and_split (is_owner_listed o p.1) (from_on v.y v p.0)
         (from_on (v.y -ℤ pos 1) v p.0)))
-        ∙ parity-xor (λ p. xor (is_listed o p.1 && from_on v.y v p.0) (is_listed o p.1 && from_on (v.y -ℤ pos 1) v p.0))
-        (λ p. is_listed o p.1 && left_arm v p.0) items
+        ∙ parity-xor (λ p. xor (is_owner_listed o p.1 && from_on v.y v p.0) (is_owner_listed o p.1 && from_on (v.y -ℤ pos 1) v p.0))
+        (λ p. is_owner_listed o p.1 && left_arm v p.0) items
         ∙ ap (λ b. xor b (odds (λ p. left_arm v p.0) o))
-        (parity-xor (λ p. is_listed o p.1 && from_on v.y v p.0) (λ p. is_listed o p.1 && from_on (v.y -ℤ pos 1) v p.0) items))
-        ∙ even_ends (λ p. is_listed o p.1) items (even o) h.proper (from_here v))
+        (parity-xor (λ p. is_owner_listed o p.1 && from_on v.y v p.0) (λ p. is_owner_listed o p.1 && from_on (v.y -ℤ pos 1) v p.0) items))
+        ∙ even_ends (λ p. is_owner_listed o p.1) items (even o) h.proper (from_here v))
 
     right_sum : (o : Owner) → xor (odds (λ p. beyond v.y v p.0) o) (odds (λ p. beyond (v.y -ℤ pos 1) v p.0) o)
         ≡ odds (λ p. right_arm v p.0) o
     right_sum o = sum_of _ _ (sym (
-        parity_agree (λ p. is_listed o p.1 && xor (behind_here v p.0.0) (behind_here v p.0.1))
-        (λ p. xor (xor (is_listed o p.1 && beyond v.y v p.0) (is_listed o p.1 && beyond (v.y -ℤ pos 1) v p.0))
-        (is_listed o p.1 && right_arm v p.0))
-        items (λ p m. ap (λ b. is_listed o p.1 && b) (ends_behind_here v p.0 (h.rises p m))
-        ∙ and_split (is_listed o p.1) (xor (beyond v.y v p.0) (beyond (v.y -ℤ pos 1) v p.0)) (right_arm v p.0)
-        ∙ ap (λ b. xor b (is_listed o p.1 && right_arm v p.0)) (and_split (is_listed o p.1) (beyond v.y v p.0)
+        parity_agree (λ p. is_owner_listed o p.1 && xor (behind_here v p.0.0) (behind_here v p.0.1))
+        (λ p. xor (xor (is_owner_listed o p.1 && beyond v.y v p.0) (is_owner_listed o p.1 && beyond (v.y -ℤ pos 1) v p.0))
+        (is_owner_listed o p.1 && right_arm v p.0))
+        items (λ p m. ap (λ b. is_owner_listed o p.1 && b) (ends_behind_here v p.0 (h.rises p m))
+        ∙ and_split (is_owner_listed o p.1) (xor (beyond v.y v p.0) (beyond (v.y -ℤ pos 1) v p.0)) (right_arm v p.0)
+        ∙ ap (λ b. xor b (is_owner_listed o p.1 && right_arm v p.0)) (and_split (is_owner_listed o p.1) (beyond v.y v p.0)
         (beyond (v.y -ℤ pos 1) v p.0)))
-        ∙ parity-xor (λ p. xor (is_listed o p.1 && beyond v.y v p.0) (is_listed o p.1 && beyond (v.y -ℤ pos 1) v p.0))
-        (λ p. is_listed o p.1 && right_arm v p.0) items
+        ∙ parity-xor (λ p. xor (is_owner_listed o p.1 && beyond v.y v p.0) (is_owner_listed o p.1 && beyond (v.y -ℤ pos 1) v p.0))
+        (λ p. is_owner_listed o p.1 && right_arm v p.0) items
         ∙ ap (λ b. xor b (odds (λ p. right_arm v p.0) o))
-        (parity-xor (λ p. is_listed o p.1 && beyond v.y v p.0) (λ p. is_listed o p.1 && beyond (v.y -ℤ pos 1) v p.0) items))
-        ∙ even_ends (λ p. is_listed o p.1) items (even o) h.proper (behind_here v))
+        (parity-xor (λ p. is_owner_listed o p.1 && beyond v.y v p.0) (λ p. is_owner_listed o p.1 && beyond (v.y -ℤ pos 1) v p.0) items))
+        ∙ even_ends (λ p. is_owner_listed o p.1) items (even o) h.proper (behind_here v))
 
     -- where some edge ends at the point
     module _ (w : Item) (given : Has items w) (touching : touches v w.0 ≡ true) where

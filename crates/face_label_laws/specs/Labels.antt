@@ -10,7 +10,7 @@ use Rattle.snap_chains.specs.declared.owner.Input.{Input}
 use Rattle.snap_chains.specs.declared.owner.Input.TheVariants.{First, Second}
 use Rattle.snap_chains.specs.declared.owner.Owner.{Owner}
 use Rattle.snap_chains.specs.Owners.{input_eq}
-use Rattle.snap_chains.specs.Rounded.{Owned, is_listed}
+use Rattle.snap_chains.specs.Rounded.{Owned, is_owner_listed}
 
 -- an edge with the shapes that list it
 abbrev pub Item : Type 0
@@ -18,11 +18,11 @@ Item = (Point × Point) × List Owner
 
 -- the half line from the place to the right crosses an odd number of the edges that list the shape
 abbrev pub odd_of : List Item → Owner → ℤ → ℤ → ℤ → Bool
-odd_of items o k x y = parity (λ p. is_listed o p.1 && is_crossed k x y p.0) items
+odd_of items o k x y = parity (λ p. is_owner_listed o p.1 && is_crossed k x y p.0) items
 
 -- the shapes that are listed, each as often as it is
-abbrev pub shapes_of : List Item → List Owner
-shapes_of items = flat_map (λ p. p.1) items
+abbrev pub listed_shapes : List Item → List Owner
+listed_shapes items = flat_map (λ p. p.1) items
 
 -- some shape of the input passes
 abbrev pub some_of : Input → List Owner → (Owner → Bool) → Bool
@@ -34,20 +34,20 @@ answer_on op shapes inside = op (some_of First shapes inside) (some_of Second sh
 
 -- the operation's answer at a place
 unfoldable pub answer_at : (Bool → Bool → Bool) → List Item → ℤ → ℤ → ℤ → Bool
-answer_at op items k x y = answer_on op (shapes_of items) (λ o. odd_of items o k x y)
+answer_at op items k x y = answer_on op (listed_shapes items) (λ o. odd_of items o k x y)
 
 -- the answers on the two sides of the edge at a place on it: on its other side the shapes that list it are turned
 abbrev pub differs_at : (Bool → Bool → Bool) → List Item → Item → ℤ → ℤ → ℤ → Bool
 differs_at op items p k x y =
-    xor (answer_on op (shapes_of items) (λ o. odd_of items o k x y))
-    (answer_on op (shapes_of items) (λ o. xor (is_listed o p.1) (odd_of items o k x y)))
+    xor (answer_on op (listed_shapes items) (λ o. odd_of items o k x y))
+    (answer_on op (listed_shapes items) (λ o. xor (is_owner_listed o p.1) (odd_of items o k x y)))
 
 -- the answers on its two sides differ, at the midpoint
 unfoldable pub differs : (Bool → Bool → Bool) → List Item → Item → Bool
 differs op items p = differs_at op items p (pos 2) (p.0.0.x +ℤ p.0.1.x) (p.0.0.y +ℤ p.0.1.y)
 
-abbrev pub items_of : Owned → List Item
-items_of r = zip r.0 r.1
+abbrev pub owned_items : Owned → List Item
+owned_items r = zip r.0 r.1
 
 -- the edges of the operation, in order
 abbrev pub edges_of_operation : (Bool → Bool → Bool) → List Item → List (Point × Point)

@@ -20,7 +20,7 @@ use Rattle.lay_point.proofs.Members.{Has, contains, has}
 use Rattle.lay_point.proofs.Rising.{IsStrictOrder, before_rest, rising_rest}
 use Rattle.snap_chains.specs.Rounded.{Owned}
 use Rattle.face_labels.specs.declared.ends.End.{End}
-use Rattle.face_labels.specs.Ends.{AreByHeight, AreEnds, EndsFrom, IsEndOf, end_of, ends_of}
+use Rattle.face_labels.specs.Ends.{AreByHeight, AreEnds, EndsFrom, IsEdgeEnd, edge_end, ends_beyond}
 use Rattle.face_labels.specs.Lines.{edge_at, nowhere}
 use Rattle.face_labels.specs.Rows.{AreSomeRowEdges, CrossesRow, IsLeftOf, crosses_row, crossing, is_left_in_row, rise, upward}
 use Rattle.face_labels.specs.Sides.{AreSound}
@@ -157,7 +157,7 @@ none_passed r from row ends passed old some = record {
 }
 
 -- the edge of an end that isn't above the row doesn't cross it
-not_there : (r : Owned) (row : ℤ) (e : End) (n : ℕ) → IsEndOf r e → e.y ≤ℤ row → CrossesRow r.0 row n → n ≢ e.number
+not_there : (r : Owned) (row : ℤ) (e : End) (n : ℕ) → IsEdgeEnd r e → e.y ≤ℤ row → CrossesRow r.0 row n → n ≢ e.number
 not_there r row e n is low cross same =
     let s = spans_of row (edge_at r n) (cross.1 nowhere) in
     let height : (upward (edge_at r n)).1.y ≡ e.y = ap (λ k. (upward (edge_at r k)).1.y) same ∙ is.height in
@@ -166,7 +166,7 @@ not_there r row e n is low cross same =
 
 module _ (r : Owned) (from row : ℤ) (ends : List End) (passed i : ℕ) (old new : List ℕ)
     (h : ArePassed r from row ends passed i old new) where
-  pub passed_more : (after : List ℕ) (e : End) → All (IsEndOf r) ends → i < length ends → (get_or ends i e).y ≤ℤ row
+  pub passed_more : (after : List ℕ) (e : End) → All (IsEdgeEnd r) ends → i < length ends → (get_or ends i e).y ≤ℤ row
       → IsWithout r from new (get_or ends i e).number after → ArePassed r from row ends passed (i + 1) old after
   passed_more after e own less low without = record {
     some = without.some;
@@ -189,7 +189,7 @@ module _ (r : Owned) (from row : ℤ) (ends : List End) (passed i : ℕ) (old ne
     ends_behind : (n : ℕ) → n < length r.0 → row <ℤ (upward (edge_at r n)).1.y → EndsFrom ends i n
     ends_behind n inside high =
         let at = given.ahead n inside (omega (arith, linear, later, high)) in
-        let e : End = end_of n (edge_at r n) in
+        let e : End = edge_end n (edge_at r n) in
         let is = given.own at.index e at.inside in
         let height : (upward (edge_at r n)).1.y ≡ (get_or ends at.index e).y =
         ap (λ k. (upward (edge_at r k)).1.y) (sym (at.is e)) ∙ is.height in
@@ -221,7 +221,7 @@ module _ (r : Owned) (from row : ℤ) (ends : List End) (passed i : ℕ) (old ne
         (λ (high : row <ℤ (upward e).1.y). high)
         (λ (low : (upward e).1.y ≤ℤ row).
         let at = given.ahead n own.0 s.high in
-        let d : End = end_of n e in
+        let d : End = edge_end n e in
         let is = given.own at.index d at.inside in
         let height : (upward e).1.y ≡ (get_or ends at.index d).y = ap (λ k. (upward (edge_at r k)).1.y) (sym (at.is d)) ∙ is.height in
         let there : (get_or ends at.index d).y ≤ℤ row = subst (λ z. z ≤ℤ row) height low in
@@ -266,22 +266,22 @@ by_height ends sorted i j d le less = ⊎_elim
     (below_or_not (get_or ends j d).y (get_or ends i d).y)
 
 -- those of all edges that end above the row, in order
-pub ends_in_order : (r : Owned) (row : ℤ) (ends : List End) → IsPermutation (ends_of row r.0) ends → AreByHeight ends
+pub ends_in_order : (r : Owned) (row : ℤ) (ends : List End) → IsPermutation (ends_beyond row r.0) ends → AreByHeight ends
     → AreEnds r row ends 0
 ends_in_order r row ends moved order = record {
-  own = All-permutation (IsEndOf r) (ends_of row r.0) ends moved (all_has (IsEndOf r) (ends_of row r.0) (λ e m.
-      let p = picked_of test end_of 0 r.0 e m in
+  own = All-permutation (IsEdgeEnd r) (ends_beyond row r.0) ends moved (all_has (IsEdgeEnd r) (ends_beyond row r.0) (λ e m.
+      let p = picked_of test edge_end 0 r.0 e m in
       let zero_more : 0 + p.index ≡ p.index = omega arith in
-      subst (IsEndOf r) (p.is nowhere) (record {
+      subst (IsEdgeEnd r) (p.is nowhere) (record {
         given = subst (λ k. k < length r.0) (sym zero_more) p.inside;
         height = ap (λ k. (upward (edge_at r k)).1.y) zero_more;
       })));
   order = order;
   ahead = λ n inside high.
       let zero_more : 0 + n ≡ n = omega arith in
-      let e : End = end_of (0 + n) (edge_at r n) in
-      let here = picked_has test end_of 0 r.0 n nowhere inside (true_lt row (upward (edge_at r n)).1.y high) in
-      let m = Contains-permutation (ends_of row r.0) ends e moved (contains (ends_of row r.0) e here) in
+      let e : End = edge_end (0 + n) (edge_at r n) in
+      let here = picked_has test edge_end 0 r.0 n nowhere inside (true_lt row (upward (edge_at r n)).1.y high) in
+      let m = Contains-permutation (ends_beyond row r.0) ends e moved (contains (ends_beyond row r.0) e here) in
       record {
         index = m.0;
         behind = omega arith;

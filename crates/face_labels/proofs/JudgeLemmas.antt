@@ -18,8 +18,8 @@ use Rattle.lay_point.proofs.Parity.{IsEquality, parity_of_occurrences}
 use Rattle.lay_point.proofs.Rising.{IsStrictOrder, rising_rest}
 use Rattle.face_label_laws.proofs.Rows.{IsInRow, Spans, beside, crossed_spans, fraction_lt, right_in_row, spans_crossed}
 use Rattle.snap_chains.specs.declared.owner.Owner.{Owner}
-use Rattle.snap_chains.specs.Rounded.{AreClean, Owned, is_listed}
-use Rattle.face_label_laws.specs.Labels.{Item, items_of, odd_of}
+use Rattle.snap_chains.specs.Rounded.{AreClean, Owned, is_owner_listed}
+use Rattle.face_label_laws.specs.Labels.{Item, odd_of, owned_items}
 use Rattle.face_labels.specs.Lines.{edge_at, nowhere, owners_at}
 use Rattle.face_labels.specs.Rows.{AreRowEdges, CrossesRow, IsLeftOf, crosses_row, crossing, rise, upward}
 use Rattle.face_labels.proofs.OwnerLemmas.{parity_any}
@@ -270,16 +270,17 @@ module _ (r : Owned) (rising : IsRising IsEdgeBefore r.0) (paired : length r.1 �
             both {a} {b} s t = rw (s, t) refl
 
     pub odd_behind : gap ≤ length numbers → (o : Owner)
-        → parity (λ n. is_listed o (owners_at r n)) (drop gap numbers) ≡ odd_of (items_of r) o k x y
+        → parity (λ n. is_owner_listed o (owners_at r n)) (drop gap numbers) ≡ odd_of (owned_items r) o k x y
     odd_behind bound o =
-        sym (parity_of_occurrences (λ m n. m < n) below_strict nat_eq nat_equality (λ n. is_listed o (owners_at r n)) (numbers_from 0 r.0)
+        sym (parity_of_occurrences (λ m n. m < n) below_strict nat_eq nat_equality
+            (λ n. is_owner_listed o (owners_at r n)) (numbers_from 0 r.0)
         (drop gap numbers) (below_rising 0 r.0) given)
-        ∙ by_number (λ p. is_listed o p.1 && is_crossed k x y p.0)
-        (λ n. parity (nat_eq n) (drop gap numbers) && is_listed o (owners_at r n)) 0 r.0 r.1 paired (λ i less.
+        ∙ by_number (λ p. is_owner_listed o p.1 && is_crossed k x y p.0)
+        (λ n. parity (nat_eq n) (drop gap numbers) && is_owner_listed o (owners_at r n)) 0 r.0 r.1 paired (λ i less.
         let same : 0 + i ≡ i = omega arith in
-        ap (λ n. parity (nat_eq n) (drop gap numbers) && is_listed o (owners_at r n)) same
-        ∙ ap (λ b. b && is_listed o (owners_at r i)) (behind_crossed bound i less)
-        ∙ and_turned (is_crossed k x y (edge_at r i)) (is_listed o (owners_at r i)))
+        ap (λ n. parity (nat_eq n) (drop gap numbers) && is_owner_listed o (owners_at r n)) same
+        ∙ ap (λ b. b && is_owner_listed o (owners_at r i)) (behind_crossed bound i less)
+        ∙ and_turned (is_crossed k x y (edge_at r i)) (is_owner_listed o (owners_at r i)))
       where
         and_turned : (a b : Bool) → (a && b) ≡ (b && a)
         and_turned true true = refl

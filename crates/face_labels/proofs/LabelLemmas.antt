@@ -14,13 +14,13 @@ use Rattle.lay_point.specs.Rising.{IsRising}
 use Rattle.lay_point.proofs.Members.{Has, contains, has, has-append_left, has-append_right}
 use Rattle.snap_chains.specs.declared.owner.Owner.{Owner}
 use Rattle.snap_chains.specs.Owners.{IsOwnerBefore, owner_eq}
-use Rattle.snap_chains.specs.Rounded.{AreClean, AreEven, Owned, is_listed}
-use Rattle.face_label_laws.specs.Labels.{Item, answer_on, differs, items_of, odd_of, shapes_of}
+use Rattle.snap_chains.specs.Rounded.{AreClean, AreEven, Owned, is_owner_listed}
+use Rattle.face_label_laws.specs.Labels.{Item, answer_on, differs, listed_shapes, odd_of, owned_items}
 use Rattle.face_label_laws.specs.Laws.{AreLesserFirst}
 use Rattle.face_labels.specs.declared.op.Op.{Op}
 use Rattle.face_labels.specs.declared.sides.Sides.{Sides}
 use Rattle.face_labels.specs.Beside.{weight}
-use Rattle.face_labels.specs.Lines.{BeginsAt, EndsBefore, edge_at, item_at, nowhere, owners_at}
+use Rattle.face_labels.specs.Lines.{BeginsAt, EndsBefore, edge_at, nowhere, owned_item_at, owners_at}
 use Rattle.face_labels.specs.Operations.{answer}
 use Rattle.face_labels.specs.Rows.{AreRowEdges, upward}
 use Rattle.face_labels.specs.Sides.{AreBehind, AreSidesOf, AreSound, IsDifference, holds_beside, is_odd_in}
@@ -35,25 +35,26 @@ or_cases : (a b : Bool) → (a || b) ≡ true → (a ≡ true) ⊎ (b ≡ true)
 or_cases true b e = inl refl
 or_cases false b e = inr e
 
-listed_has : (o : Owner) (os : List Owner) → is_listed o os ≡ true → Has os o
+listed_has : (o : Owner) (os : List Owner) → is_owner_listed o os ≡ true → Has os o
 listed_has o [] e = absurd cc
 listed_has o (p ∷ os) e = ⊎_elim (λ (here : owner_eq p o ≡ true). inl (same_owner p o here))
-    (λ (there : is_listed o os ≡ true). inr (listed_has o os there)) (or_cases (owner_eq p o) (is_listed o os) e)
+    (λ (there : is_owner_listed o os ≡ true). inr (listed_has o os there)) (or_cases (owner_eq p o) (is_owner_listed o os) e)
 
 -- a shape of which there is an odd number of edges is listed
-odd_shape : (f : Item → Bool) (o : Owner) (items : List Item) → parity (λ p. is_listed o p.1 && f p) items ≡ true → Has (shapes_of items) o
+odd_shape : (f : Item → Bool) (o : Owner) (items : List Item) → parity (λ p. is_owner_listed o p.1 && f p) items ≡ true
+    → Has (listed_shapes items) o
 odd_shape f o [] e = absurd cc
-odd_shape f o (p ∷ ps) e = by_test (is_listed o p.1) refl e (λ g. odd_shape f o ps g)
+odd_shape f o (p ∷ ps) e = by_test (is_owner_listed o p.1) refl e (λ g. odd_shape f o ps g)
   where
-    by_test : (b : Bool) → is_listed o p.1 ≡ b → xor (b && f p) (parity (λ q. is_listed o q.1 && f q) ps) ≡ true
-        → (parity (λ q. is_listed o q.1 && f q) ps ≡ true → Has (shapes_of ps) o) → Has (shapes_of (p ∷ ps)) o
-    by_test true t g further = has-append_left p.1 (shapes_of ps) o (listed_has o p.1 t)
-    by_test false t g further = has-append_right p.1 (shapes_of ps) o (further g)
+    by_test : (b : Bool) → is_owner_listed o p.1 ≡ b → xor (b && f p) (parity (λ q. is_owner_listed o q.1 && f q) ps) ≡ true
+        → (parity (λ q. is_owner_listed o q.1 && f q) ps ≡ true → Has (listed_shapes ps) o) → Has (listed_shapes (p ∷ ps)) o
+    by_test true t g further = has-append_left p.1 (listed_shapes ps) o (listed_has o p.1 t)
+    by_test false t g further = has-append_right p.1 (listed_shapes ps) o (further g)
 
-shapes_have : (items : List Item) (p : Item) (o : Owner) → Has items p → Has p.1 o → Has (shapes_of items) o
+shapes_have : (items : List Item) (p : Item) (o : Owner) → Has items p → Has p.1 o → Has (listed_shapes items) o
 shapes_have [] p o m n = absurd m
-shapes_have (q ∷ qs) p o (inl same) n = has-append_left q.1 (shapes_of qs) o (subst (λ (z : Item). Has z.1 o) (sym same) n)
-shapes_have (q ∷ qs) p o (inr m) n = has-append_right q.1 (shapes_of qs) o (shapes_have qs p o m n)
+shapes_have (q ∷ qs) p o (inl same) n = has-append_left q.1 (listed_shapes qs) o (subst (λ (z : Item). Has z.1 o) (sym same) n)
+shapes_have (q ∷ qs) p o (inr m) n = has-append_right q.1 (listed_shapes qs) o (shapes_have qs p o m n)
 
 pub zip_at : (es : List (Point × Point)) (os : List (List Owner)) (n : ℕ) → length os ≡ length es → n < length es
     → Has (zip es os) (get_or es n nowhere, get_or os n [])
@@ -81,25 +82,25 @@ gap_beside r n numbers gap h o =
     (near_in_row (weight e) (upward e).0 (upward e).1 (upward_rises e) (weight_of e)) numbers h.row gap
     (λ j next. sym (right_there e (edge_at r (get_or numbers j 0))) ∙ h.ends j next)
     (λ less. sym (right_there e (edge_at r (get_or numbers gap 0))) ∙ h.begins less) h.bound o
-    ∙ judged_beside r h.sound.even h.sound.clean h.sound.lesser o (item_at r n) there
+    ∙ judged_beside r h.sound.even h.sound.clean h.sound.lesser o (owned_item_at r n) there
 
 -- the label, from what holds on the edge's sides
 pub label_beside : (op : Op) (r : Owned) (n : ℕ) → AreSound r → n < length r.0 → (sides : Sides)
     → AreSidesOf (owners_at r n) (holds_beside r n) sides
-    → (result : Bool) → IsDifference op sides result → result ≡ differs (answer op) (items_of r) (item_at r n)
+    → (result : Bool) → IsDifference op sides result → result ≡ differs (answer op) (owned_items r) (owned_item_at r n)
 unfolding differs
 label_beside op r n sound given sides own result is =
     let e = edge_at r n in
-    let items = items_of r in
+    let items = owned_items r in
     let owners = owners_at r n in
     let there = zip_at r.0 r.1 n sound.paired given in
-    is (holds_beside r n) owners (shapes_of items) own
-    (λ o t. contains (shapes_of items) o (odd_shape (λ p. is_crossed (pos 2) (e.0.x +ℤ e.1.x) (e.0.y +ℤ e.1.y) p.0) o items t))
-    (λ o m. contains (shapes_of items) o (shapes_have items (item_at r n) o there (listed_has o owners m)))
+    is (holds_beside r n) owners (listed_shapes items) own
+    (λ o t. contains (listed_shapes items) o (odd_shape (λ p. is_crossed (pos 2) (e.0.x +ℤ e.1.x) (e.0.y +ℤ e.1.y) p.0) o items t))
+    (λ o m. contains (listed_shapes items) o (shapes_have items (owned_item_at r n) o there (listed_has o owners m)))
 
 pub label_of : (op : Op) (r : Owned) (n : ℕ) (numbers : List ℕ) (gap : ℕ) → IsJudged r n numbers gap → (sides : Sides)
     → AreSidesOf (owners_at r n) (is_odd_in r (drop gap numbers)) sides
-    → (result : Bool) → IsDifference op sides result → result ≡ differs (answer op) (items_of r) (item_at r n)
+    → (result : Bool) → IsDifference op sides result → result ≡ differs (answer op) (owned_items r) (owned_item_at r n)
 label_of op r n numbers gap h sides own result is =
     label_beside op r n h.sound h.given sides (sides_agree (owners_at r n) (is_odd_in r (drop gap numbers)) (holds_beside r n) sides
     (gap_beside r n numbers gap h) own) result is
@@ -124,7 +125,7 @@ row_behind r sound row numbers edges i less o =
     right_then (distance_right (row_k u) (row_x row u) (row_y row u) (upward f).0 (upward f).1)
     (omega (arith, linear, left, row_distance row u (upward f))))
     (omega arith) o
-    ∙ crossed_beside r sound.even sound.clean sound.lesser o (item_at r n) (zip_at r.0 r.1 n sound.paired cross.0) row s
+    ∙ crossed_beside r sound.even sound.clean sound.lesser o (owned_item_at r n) (zip_at r.0 r.1 n sound.paired cross.0) row s
   where
     not_right : (z : ℤ) → z ≡ pos 0 → int_lt (pos 0) z ≡ false
     not_right z e = grind (arith, ints)

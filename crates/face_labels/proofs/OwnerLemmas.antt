@@ -13,7 +13,7 @@ use Rattle.snap_chains.specs.declared.owner.Input.{Input}
 use Rattle.snap_chains.specs.declared.owner.Input.TheVariants.{First, Second}
 use Rattle.snap_chains.specs.declared.owner.Owner.{Owner}
 use Rattle.snap_chains.specs.Owners.{IsOwnerBefore, input_eq, owner_eq}
-use Rattle.snap_chains.specs.Rounded.{is_listed}
+use Rattle.snap_chains.specs.Rounded.{is_owner_listed}
 use Rattle.snap_chains.proofs.VisitOrder.{owners_are_strict}
 use Rattle.face_labels.proofs.RowLemmas.{has_get}
 
@@ -100,9 +100,10 @@ turn_more owners i d o x less =
     ∙ parity-append (λ q. owner_eq q o) (take i owners) (get_or owners i d ∷ []) in
     sym (xor_assoc a p x) ∙ ap (λ z. xor z x) (xor_comm a p) ∙ sym (ap (λ z. xor z x) (further ∙ ap (xor p) (xor-false a)))
 
-pub listed_of : (owners : List Owner) (o : Owner) → IsRising IsOwnerBefore owners → parity (λ p. owner_eq p o) owners ≡ is_listed o owners
+pub listed_of : (owners : List Owner) (o : Owner) → IsRising IsOwnerBefore owners
+    → parity (λ p. owner_eq p o) owners ≡ is_owner_listed o owners
 listed_of owners o h =
     parity_any IsOwnerBefore owners_are_strict (λ p. owner_eq p o) owners h (λ p q before same. other_owner p q o before same)
 
-pub listed_at : (owners : List Owner) (i : ℕ) (o : Owner) → i < length owners → get_or owners i o ≡ o → is_listed o owners ≡ true
+pub listed_at : (owners : List Owner) (i : ℕ) (o : Owner) → i < length owners → get_or owners i o ≡ o → is_owner_listed o owners ≡ true
 listed_at owners i o less is = any_true (λ p. owner_eq p o) owners o (subst (Has owners) is (has_get owners i o less)) (owner_itself o)

@@ -41,10 +41,10 @@ use Rattle.snap_chains.specs.declared.owner.Input.{Input}
 use Rattle.snap_chains.specs.declared.owner.Input.TheVariants.{First, Second}
 use Rattle.snap_chains.specs.declared.owner.Owner.{Owner}
 use Rattle.snap_chains.specs.Owners.{owner_eq}
-use Rattle.snap_chains.specs.Rounded.{Owned, is_listed}
+use Rattle.snap_chains.specs.Rounded.{Owned, is_owner_listed}
 use Rattle.face_labels.specs.declared.reach.Reach.{Reach}
 use Rattle.face_labels.specs.Lines.{edge_at, nowhere, owners_at}
-use Rattle.face_labels.specs.Reaches.{EndAtReach, HaveGrown, IsInReach, IsReach, is_beyond, list_of, reach_of}
+use Rattle.face_labels.specs.Reaches.{EndAtReach, HaveGrown, IsInReach, IsReach, is_beyond, reach_list, reach_of}
 use Rattle.face_labels.specs.Rows.{AreRowEdges, crossing, rise, upward}
 use Rattle.face_labels.proofs.JudgeLemmas.{IsBeforeIn, before_rising, before_strict}
 use Rattle.face_labels.proofs.OwnerLemmas.{same_owner}
@@ -90,8 +90,9 @@ pub record HasGrown (old new : Reach) : Type 0 where
   pub first : HaveGrown old.first.items new.first.items
   pub second : HaveGrown old.second.items new.second.items
 
-grown_of : (old new : Reach) → HasGrown old new → (input : Input) (shape : ℕ) (limit : ℤ) → slice_get (list_of new input) shape ≡ Some limit
-    → (before : ℤ) × (slice_get (list_of old input) shape ≡ Some before) × (before ≤ℤ limit)
+grown_of : (old new : Reach) → HasGrown old new → (input : Input) (shape : ℕ) (limit : ℤ)
+    → slice_get (reach_list new input) shape ≡ Some limit
+    → (before : ℤ) × (slice_get (reach_list old input) shape ≡ Some before) × (before ≤ℤ limit)
 grown_of old new h First shape limit e = h.first shape limit e
 grown_of old new h Second shape limit e = h.second shape limit e
 
@@ -108,14 +109,16 @@ still_in_reach r old new n grown h o limit listed e =
 -- one shape more reaches to x
 pub reach_more : (old new : Reach) (owners : List Owner) (i : ℕ) (d : Owner) (x : ℤ) → i < length owners → HasGrown old new
     → ((limit : ℤ) → reach_of new (get_or owners i d) ≡ Some limit → x ≤ℤ limit)
-    → ((o : Owner) (limit : ℤ) → is_listed o (take i owners) ≡ true → reach_of old o ≡ Some limit → x ≤ℤ limit)
-    → (o : Owner) (limit : ℤ) → is_listed o (take (i + 1) owners) ≡ true → reach_of new o ≡ Some limit → x ≤ℤ limit
+    → ((o : Owner) (limit : ℤ) → is_owner_listed o (take i owners) ≡ true → reach_of old o ≡ Some limit → x ≤ℤ limit)
+    → (o : Owner) (limit : ℤ) → is_owner_listed o (take (i + 1) owners) ≡ true → reach_of new o ≡ Some limit → x ≤ℤ limit
 reach_more old new owners i d x less grown here so_far o limit listed e =
-    by_tests (is_listed o (take i owners)) (owner_eq (get_or owners i d) o) refl refl
-    (sym (ap (is_listed o) (take_more owners i d less) ∙ list_any-append (λ p. owner_eq p o) (take i owners) (get_or owners i d ∷ [])) ∙
+    by_tests (is_owner_listed o (take i owners)) (owner_eq (get_or owners i d) o) refl refl
+    (sym (ap (is_owner_listed o) (take_more owners i d less)
+        ∙ list_any-append (λ p. owner_eq p o) (take i owners) (get_or owners i d ∷ [])) ∙
     listed)
   where
-    by_tests : (a b : Bool) → is_listed o (take i owners) ≡ a → owner_eq (get_or owners i d) o ≡ b → (a || (b || false)) ≡ true → x ≤ℤ limit
+    by_tests : (a b : Bool) → is_owner_listed o (take i owners) ≡ a → owner_eq (get_or owners i d) o ≡ b → (a || (b || false)) ≡ true
+        → x ≤ℤ limit
     by_tests true b s t h =
         let g = grown_of old new grown o.input o.shape limit e in
         let was = so_far o g.0 s g.1 in
@@ -190,7 +193,7 @@ row_ends r reach row numbers all h o i k le less beyond =
         (((h.exact (get_or numbers j 0)).0 (contains numbers (get_or numbers j 0) (has_get numbers j 0 inside))).1 nowhere)
 
     by_test : (limit : ℤ) → reach_of reach o ≡ Some limit → limit <ℤ (edge_at r (get_or numbers i 0)).0.x
-        → limit <ℤ (edge_at r (get_or numbers i 0)).1.x → (b : Bool) → is_listed o (owners_at r (get_or numbers k 0)) ≡ b → b ≡ false
+        → limit <ℤ (edge_at r (get_or numbers i 0)).1.x → (b : Bool) → is_owner_listed o (owners_at r (get_or numbers k 0)) ≡ b → b ≡ false
     by_test limit e first second false t = refl
     by_test limit e first second true t =
         let f = edge_at r (get_or numbers i 0) in
@@ -211,8 +214,8 @@ row_ends r reach row numbers all h o i k le less beyond =
         (cases_lt i k)
 
     by_limit : (limit : Option ℤ) → reach_of reach o ≡ limit → is_beyond limit (edge_at r (get_or numbers i 0)) ≡ true
-        → is_listed o (owners_at r (get_or numbers k 0)) ≡ false
+        → is_owner_listed o (owners_at r (get_or numbers k 0)) ≡ false
     by_limit None e t = absurd cc
     by_limit (Some limit) e t =
         let both = both_less limit (edge_at r (get_or numbers i 0)).0.x (edge_at r (get_or numbers i 0)).1.x t in
-        by_test limit e both.0 both.1 (is_listed o (owners_at r (get_or numbers k 0))) refl
+        by_test limit e both.0 both.1 (is_owner_listed o (owners_at r (get_or numbers k 0))) refl

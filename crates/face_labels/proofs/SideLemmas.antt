@@ -18,8 +18,8 @@ use Rattle.face_label_laws.specs.Slides.{AreUpward, IsPlaceInside}
 use Rattle.face_label_laws.proofs.Rows.{Spans, rises_in, row_inside, row_k, row_x, row_y}
 use Rattle.face_label_laws.proofs.Slide.{slide}
 use Rattle.snap_chains.specs.declared.owner.Owner.{Owner}
-use Rattle.snap_chains.specs.Rounded.{AreClean, AreEven, Owned, is_listed}
-use Rattle.face_label_laws.specs.Labels.{Item, items_of, odd_of}
+use Rattle.snap_chains.specs.Rounded.{AreClean, AreEven, Owned, is_owner_listed}
+use Rattle.face_label_laws.specs.Labels.{Item, odd_of, owned_items}
 use Rattle.face_label_laws.specs.Laws.{AreLesserFirst}
 use Rattle.face_label_laws.proofs.CutLaw.{same_edge-Decides}
 use Rattle.face_labels.specs.Beside.{weight}
@@ -55,7 +55,7 @@ zip_first (e ∷ es) (o ∷ os) p (inr m) = inr (zip_first es os p m)
 
 module _ (r : Owned) (even : AreEven r) (clean : AreClean r.0) (lesser : AreLesserFirst r.0) where
   abbrev items : List Item
-  items = items_of r
+  items = owned_items r
 
   abbrev risen : List Item
   risen = map (λ (p : Item). (upward p.0, p.1)) items
@@ -90,18 +90,19 @@ module _ (r : Owned) (even : AreEven r) (clean : AreClean r.0) (lesser : AreLess
       both e f m n false t = inr (upward_meet e f (clean e f (contains r.0 e m) (contains r.0 f n) (λ same.
           let t' = (same_edge-Decides e f).1 same in absurd cc)))
 
-  even_upward : (o : Owner) (v : Point) → parity (λ p. is_listed o p.1 && touches v p.0) risen ≡ false
+  even_upward : (o : Owner) (v : Point) → parity (λ p. is_owner_listed o p.1 && touches v p.0) risen ≡ false
   even_upward o v =
-      parity-map (λ p. is_listed o p.1 && touches v p.0) (λ (p : Item). (upward p.0, p.1)) items
-      ∙ parity_agree (λ p. is_listed o p.1 && touches v (upward p.0)) (λ p. is_listed o p.1 && touches v p.0) items
-      (λ p m. ap (λ b. is_listed o p.1 && b) (either (touches v) (or_turned v) p.0))
+      parity-map (λ p. is_owner_listed o p.1 && touches v p.0) (λ (p : Item). (upward p.0, p.1)) items
+      ∙ parity_agree (λ p. is_owner_listed o p.1 && touches v (upward p.0)) (λ p. is_owner_listed o p.1 && touches v p.0) items
+      (λ p m. ap (λ b. is_owner_listed o p.1 && b) (either (touches v) (or_turned v) p.0))
       ∙ even o v
 
-  odd_upward : (o : Owner) (k x y : ℤ) → parity (λ p. is_listed o p.1 && is_crossed k x y p.0) risen ≡ odd_of items o k x y
+  odd_upward : (o : Owner) (k x y : ℤ) → parity (λ p. is_owner_listed o p.1 && is_crossed k x y p.0) risen ≡ odd_of items o k x y
   odd_upward o k x y =
-      parity-map (λ p. is_listed o p.1 && is_crossed k x y p.0) (λ (p : Item). (upward p.0, p.1)) items
-      ∙ parity_agree (λ p. is_listed o p.1 && is_crossed k x y (upward p.0)) (λ p. is_listed o p.1 && is_crossed k x y p.0) items
-      (λ p m. ap (λ b. is_listed o p.1 && b) (upward_crossed k x y p.0))
+      parity-map (λ p. is_owner_listed o p.1 && is_crossed k x y p.0) (λ (p : Item). (upward p.0, p.1)) items
+      ∙ parity_agree (λ p. is_owner_listed o p.1 && is_crossed k x y (upward p.0))
+          (λ p. is_owner_listed o p.1 && is_crossed k x y p.0) items
+      (λ p m. ap (λ b. is_owner_listed o p.1 && b) (upward_crossed k x y p.0))
 
   one_times : (a b : ℤ) → a +ℤ b ≡ near (pos 1) a b
   one_times a b = identity (a ∷ b ∷ []) (# 0 ⊕ # 1) (lit (pos 1) ⊗ # 0 ⊕ # 1) refl
@@ -125,7 +126,8 @@ module _ (r : Owned) (even : AreEven r) (clean : AreClean r.0) (lesser : AreLess
       let a = (upward p.0).0 in
       let b = (upward p.0).1 in
       sym (odd_upward o k x y)
-      ∙ slide risen are_upward (is_listed o) (even_upward o) (upward p.0, p.1) (has_map (λ (q : Item). (upward q.0, q.1)) items p m) rises
+      ∙ slide risen are_upward (is_owner_listed o) (even_upward o) (upward p.0, p.1)
+          (has_map (λ (q : Item). (upward q.0, q.1)) items p m) rises
       k x y (near_k (pos 1)) (near (pos 1) a.x b.x) (near (pos 1) a.y b.y) q (near_inside (pos 1) a b rises (omega (arith, linear)))
       ∙ odd_upward o (near_k (pos 1)) (near (pos 1) a.x b.x) (near (pos 1) a.y b.y)
       ∙ sym (at_midpoint o p.0)

@@ -14,12 +14,12 @@ use Rattle.lay_point.specs.Edges.{is_before}
 use Rattle.lay_point.proofs.Members.{Has, contains}
 use Rattle.snap_chains.specs.declared.owner.Owner.{Owner}
 use Rattle.snap_chains.specs.Rounded.{Owned}
-use Rattle.face_label_laws.specs.Labels.{Item, differs, items_of}
+use Rattle.face_label_laws.specs.Labels.{Item, differs, owned_items}
 use Rattle.face_labels.specs.declared.band.Band.{Band}
 use Rattle.face_labels.specs.declared.op.Op.{Op}
 use Rattle.face_labels.specs.declared.start.Start.{Start}
 use Rattle.face_labels.specs.Bands.{begins_in, labelled}
-use Rattle.face_labels.specs.Lines.{edge_at, item_at, nowhere}
+use Rattle.face_labels.specs.Lines.{edge_at, nowhere, owned_item_at}
 use Rattle.face_labels.specs.Operations.{answer}
 use Rattle.face_labels.specs.Picked.{picked}
 use Rattle.face_labels.specs.Rows.{upward}
@@ -41,20 +41,20 @@ one_more_lesser edges n e less is_e lesser so_far k d lt = ⊎_elim
 
 -- ---- labels that are written
 label_kept : (op : Op) (r : Owned) (labels : List Bool) (n : ℕ) (label : Bool) (s : Start) → n < length labels
-    → label ≡ differs (answer op) (items_of r) (item_at r n) → HasLabel op r labels s → HasLabel op r (set labels n label) s
+    → label ≡ differs (answer op) (owned_items r) (owned_item_at r n) → HasLabel op r labels s → HasLabel op r (set labels n label) s
 label_kept op r labels n label s less is h = by_number (nat_eq n s.number) refl
   where
     by_number : (b : Bool) → nat_eq n s.number ≡ b → HasLabel op r (set labels n label) s
     by_number true t =
         let same = (Decides-eqb n s.number).0 t in
-        subst (λ k. get_or (set labels n label) k false ≡ differs (answer op) (items_of r) (item_at r k)) same
+        subst (λ k. get_or (set labels n label) k false ≡ differs (answer op) (owned_items r) (owned_item_at r k)) same
         (get_or-set_same labels n label false less ∙ is)
     by_number false t =
         get_or-set_other labels n s.number label false (λ same. let t' = (Decides-eqb n s.number).1 (sym same) in absurd cc) ∙ h
 
 pub labels_more : (op : Op) (r : Owned) (labels : List Bool) (starts : List Start) (i : ℕ) (d : Start) (label : Bool) → i < length starts
     → (get_or starts i d).number < length labels
-    → label ≡ differs (answer op) (items_of r) (item_at r (get_or starts i d).number)
+    → label ≡ differs (answer op) (owned_items r) (owned_item_at r (get_or starts i d).number)
     → All (HasLabel op r labels) (take i starts)
     → All (HasLabel op r (set labels (get_or starts i d).number label)) (take (i + 1) starts)
 labels_more op r labels starts i d label less inside is so_far =
@@ -111,9 +111,9 @@ pub labels_of_band : (op : Op) (r : Owned) (band : Band) (starts : List Start) (
     → length labels ≡ length r.0 → IsPermutation (starts_of band r.0) starts → All (HasLabel op r labels) starts
     → written_labels band 0 (zip r.0 labels) ≡ labelled op r band
 labels_of_band op r band starts labels paired count moved all =
-    picked_labels band (differs (answer op) (items_of r)) 0 r.0 labels r.1 count paired (λ i less begins.
+    picked_labels band (differs (answer op) (owned_items r)) 0 r.0 labels r.1 count paired (λ i less begins.
     let same : 0 + i ≡ i = omega arith in
     let s : Start = start_of (0 + i) (get_or r.0 i nowhere) in
     let here = has_all (HasLabel op r labels) starts s all (Contains-permutation (starts_of band r.0) starts s moved
     (contains (starts_of band r.0) s (picked_has (begins_in band) start_of 0 r.0 i nowhere less begins))) in
-    subst (λ k. get_or labels k false ≡ differs (answer op) (items_of r) (item_at r k)) same here)
+    subst (λ k. get_or labels k false ≡ differs (answer op) (owned_items r) (owned_item_at r k)) same here)

@@ -13,7 +13,7 @@ use Rattle.std.proofs.lemmas.List.{get_or-drop, get_or-set_other, get_or-set_sam
 use Rattle.lay_point.specs.Parity.{xor}
 use Rattle.lay_point.proofs.Parity.{parity_none}
 use Rattle.snap_chains.specs.declared.owner.Owner.{Owner}
-use Rattle.snap_chains.specs.Rounded.{Owned, is_listed}
+use Rattle.snap_chains.specs.Rounded.{Owned, is_owner_listed}
 use Rattle.face_labels.specs.declared.counts.Counts.{Counts}
 use Rattle.face_labels.specs.declared.sides.Sides.{Sides}
 use Rattle.face_labels.specs.declared.sides.Told.{Told}
@@ -36,22 +36,23 @@ split_at numbers gap less = drop-cons numbers gap 0 less ∙ ap (λ m. get_or nu
 
 -- one edge more
 pub odd_split : (r : Owned) (numbers : List ℕ) (gap : ℕ) (o : Owner) → gap < length numbers
-    → is_odd_in r (drop gap numbers) o ≡ xor (is_listed o (owners_at r (get_or numbers gap 0))) (is_odd_in r (drop (gap + 1) numbers) o)
+    → is_odd_in r (drop gap numbers) o
+        ≡ xor (is_owner_listed o (owners_at r (get_or numbers gap 0))) (is_odd_in r (drop (gap + 1) numbers) o)
 odd_split r numbers gap o less = ap (λ l. is_odd_in r l o) (split_at numbers gap less)
 
 -- what holds left of an edge, by what holds beside it
 pub odd_left : (r : Owned) (numbers : List ℕ) (gap : ℕ) (o : Owner) → AreBehind r numbers → gap < length numbers
     → is_odd_in r (drop gap numbers) o
-    ≡ xor (is_listed o (owners_at r (get_or numbers gap 0))) (holds_beside r (get_or numbers gap 0) o)
+    ≡ xor (is_owner_listed o (owners_at r (get_or numbers gap 0))) (holds_beside r (get_or numbers gap 0) o)
 odd_left r numbers gap o h less =
-    odd_split r numbers gap o less ∙ ap (xor (is_listed o (owners_at r (get_or numbers gap 0)))) (h gap less o)
+    odd_split r numbers gap o less ∙ ap (xor (is_owner_listed o (owners_at r (get_or numbers gap 0)))) (h gap less o)
 
 pub first_left : (r : Owned) (numbers : List ℕ) (known : List (Option Sides)) (m : ℕ) (sides : Sides) → AreBehind r numbers
     → AreKnown r known → 0 < length numbers → get_or numbers 0 0 ≡ m → sides_at known m ≡ Some sides
     → AreCounts sides.left (is_odd_in r numbers)
 first_left r numbers known m sides behind h less at is =
-    counts_agree sides.left (λ o. xor (is_listed o (owners_at r m)) (holds_beside r m o)) (is_odd_in r numbers)
-    (λ o. ap (λ k. xor (is_listed o (owners_at r k)) (holds_beside r k o)) (sym at) ∙ sym (odd_left r numbers 0 o behind less))
+    counts_agree sides.left (λ o. xor (is_owner_listed o (owners_at r m)) (holds_beside r m o)) (is_odd_in r numbers)
+    (λ o. ap (λ k. xor (is_owner_listed o (owners_at r k)) (holds_beside r k o)) (sym at) ∙ sym (odd_left r numbers 0 o behind less))
     (h.sides m sides is).left
 
 -- ---- known sides
@@ -138,7 +139,7 @@ all_before P numbers i more bound first rest =
 -- ---- what edges tell
 -- of an edge right of the place, whose sides are known, nothing is told only where it doesn't list the owner
 pub not_told_right : (r : Owned) (known : List (Option Sides)) (n : ℕ) (o : Owner) (told : Told) → IsKnown known n
-    → IsTold r known n o told → ((b : Bool) → told ≡ Inside b → ⊥) → is_listed o (owners_at r n) ≡ false
+    → IsTold r known n o told → ((b : Bool) → told ≡ Inside b → ⊥) → is_owner_listed o (owners_at r n) ≡ false
 not_told_right r known n o Nothing own is other = is
 not_told_right r known n o Unknown own is other = absurd (known_not_none known n own is.1)
 not_told_right r known n o (Inside b) own is other = absurd (other b refl)
@@ -168,7 +169,7 @@ before numbers n left right h = ⊎_elim (λ (same : left ≡ right). omega arit
 
 -- between the edges left of it and those right of it there is only itself
 pub odd_between : (r : Owned) (numbers : List ℕ) (n left right : ℕ) (o : Owner) → StandsAt numbers n left right
-    → is_listed o (owners_at r n) ≡ true
+    → is_owner_listed o (owners_at r n) ≡ true
     → is_odd_in r (drop left numbers) o ≡ xor (nat_lt left right) (is_odd_in r (drop right numbers) o)
 odd_between r numbers n left right o h listed = ⊎_elim
     (λ (same : left ≡ right).
@@ -178,7 +179,7 @@ odd_between r numbers n left right o h listed = ⊎_elim
     let e = next.0 in
     let bound = h.bound in
     odd_split r numbers left o (omega arith)
-    ∙ (λ i. xor ((ap (λ m. is_listed o (owners_at r m)) next.1 ∙ listed) i) (is_odd_in r (drop (next.0 i) numbers) o))
+    ∙ (λ i. xor ((ap (λ m. is_owner_listed o (owners_at r m)) next.1 ∙ listed) i) (is_odd_in r (drop (next.0 i) numbers) o))
     ∙ sym (ap (λ b. xor b (is_odd_in r (drop right numbers) o)) (less left right (omega arith))))
     h.place
   where
@@ -190,11 +191,11 @@ odd_between r numbers n left right o h listed = ⊎_elim
 
 -- where none from an index on lists the owner
 pub none_behind : (r : Owned) (numbers : List ℕ) (index : ℕ) (o : Owner)
-    → ((k : ℕ) → index ≤ k → k < length numbers → is_listed o (owners_at r (get_or numbers k 0)) ≡ false)
+    → ((k : ℕ) → index ≤ k → k < length numbers → is_owner_listed o (owners_at r (get_or numbers k 0)) ≡ false)
     → is_odd_in r (drop index numbers) o ≡ false
-none_behind r numbers index o none = parity_none (λ m. is_listed o (owners_at r m)) (drop index numbers) (λ m found.
+none_behind r numbers index o none = parity_none (λ m. is_owner_listed o (owners_at r m)) (drop index numbers) (λ m found.
     let at = has_drop numbers index m found in
-    subst (λ j. is_listed o (owners_at r j) ≡ false) at.1.is (none at.0 at.1.behind at.1.inside))
+    subst (λ j. is_owner_listed o (owners_at r j) ≡ false) at.1.is (none at.0 at.1.behind at.1.inside))
 
 -- ---- the edges of a row at some places
 -- those that don't stand at one of the first i places are known

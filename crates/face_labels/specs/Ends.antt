@@ -8,15 +8,15 @@ use Rattle.face_labels.specs.Picked.{picked}
 use Rattle.face_labels.specs.Rows.{upward}
 
 -- where the edge ends
-abbrev pub end_of : ℕ → Point × Point → End
-end_of n e = record { y = (upward e).1.y; number = n }
+abbrev pub edge_end : ℕ → Point × Point → End
+edge_end n e = record { y = (upward e).1.y; number = n }
 
 -- where those of the edges end that do so above the row
-abbrev pub ends_of : ℤ → List (Point × Point) → List End
-ends_of row edges = picked (λ e. int_lt row (upward e).1.y) end_of 0 edges
+abbrev pub ends_beyond : ℤ → List (Point × Point) → List End
+ends_beyond row edges = picked (λ e. int_lt row (upward e).1.y) edge_end 0 edges
 
 -- the end is that of the edge of its number
-pub record IsEndOf (r : Owned) (e : End) : Type 0 where
+pub record IsEdgeEnd (r : Owned) (e : End) : Type 0 where
   pub given : e.number < length r.0
   pub height : (upward (edge_at r e.number)).1.y ≡ e.y
 
@@ -33,6 +33,6 @@ pub record EndsFrom (ends : List End) (place n : ℕ) : Type 0 where
 
 -- ends in order, where those of all edges that end above the row are from this place on
 pub record AreEnds (r : Owned) (row : ℤ) (ends : List End) (place : ℕ) : Type 0 where
-  pub own : All (IsEndOf r) ends
+  pub own : All (IsEdgeEnd r) ends
   pub order : AreByHeight ends
   pub ahead : (n : ℕ) → n < length r.0 → row <ℤ (upward (edge_at r n)).1.y → EndsFrom ends place n

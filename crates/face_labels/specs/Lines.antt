@@ -16,8 +16,8 @@ edge_at r n = slice_index_or r.0 n nowhere
 abbrev pub owners_at : Owned → ℕ → List Owner
 owners_at r n = slice_index_or r.1 n []
 
-abbrev pub item_at : Owned → ℕ → Item
-item_at r n = (edge_at r n, owners_at r n)
+abbrev pub owned_item_at : Owned → ℕ → Item
+owned_item_at r n = (edge_at r n, owners_at r n)
 
 -- the edge before the gap isn't right of e, and the one behind it is
 abbrev pub EndsBefore : Owned → List ℕ → Point × Point → ℕ → Type 0

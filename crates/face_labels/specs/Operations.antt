@@ -5,7 +5,7 @@ use Rattle.lay_point.specs.Edges.{IsEdgeBefore, touches}
 use Rattle.lay_point.specs.Parity.{xor, odd, parity}
 use Rattle.lay_point.specs.Rising.{IsRising}
 use Rattle.snap_chains.specs.Rounded.{AreClean, IsRounded, Owned}
-use Rattle.face_label_laws.specs.Labels.{answer_at, edges_of_operation, items_of}
+use Rattle.face_label_laws.specs.Labels.{answer_at, edges_of_operation, owned_items}
 use Rattle.face_label_laws.specs.Laws.{AreLesserFirst}
 use Rattle.face_labels.specs.declared.op.Op.{Op}
 use Rattle.face_labels.specs.declared.op.Op.TheVariants.{And, Or, Not, Xor}
@@ -19,11 +19,11 @@ answer Xor first second = xor first second
 
 -- the edges on whose two sides the operation's answers differ
 abbrev pub edges_of_op : Op → Owned → List (Point × Point)
-edges_of_op op r = edges_of_operation (answer op) (items_of r)
+edges_of_op op r = edges_of_operation (answer op) (owned_items r)
 
 -- the operation's answer at a place
 abbrev pub op_at : Op → Owned → ℤ → ℤ → ℤ → Bool
-op_at op r = answer_at (answer op) (items_of r)
+op_at op r = answer_at (answer op) (owned_items r)
 
 -- what holds of the edges of an operation on clean rounded inputs: they tell its answer at every place, and they can be
 -- linked to rings

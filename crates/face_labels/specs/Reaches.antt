@@ -24,17 +24,17 @@ use Rattle.lay_point.specs.declared.point.Point.{Point}
 use Rattle.snap_chains.specs.declared.owner.Input.{Input}
 use Rattle.snap_chains.specs.declared.owner.Input.TheVariants.{First, Second}
 use Rattle.snap_chains.specs.declared.owner.Owner.{Owner}
-use Rattle.snap_chains.specs.Rounded.{Owned, is_listed}
+use Rattle.snap_chains.specs.Rounded.{Owned, is_owner_listed}
 use Rattle.face_labels.specs.declared.reach.Reach.{Reach}
 use Rattle.face_labels.specs.Lines.{edge_at, owners_at}
 
-abbrev pub list_of : Reach → Input → List ℤ
-list_of reach First = reach.first.items
-list_of reach Second = reach.second.items
+abbrev pub reach_list : Reach → Input → List ℤ
+reach_list reach First = reach.first.items
+reach_list reach Second = reach.second.items
 
 -- where a shape has one, it is its limit
 abbrev pub reach_of : Reach → Owner → Option ℤ
-reach_of reach o = slice_get (list_of reach o.input) o.shape
+reach_of reach o = slice_get (reach_list reach o.input) o.shape
 
 -- no limit has become less, and none has come or gone
 abbrev pub HaveGrown : List ℤ → List ℤ → Type 0
@@ -43,7 +43,7 @@ HaveGrown old new = (shape : ℕ) (limit : ℤ) → slice_get new shape ≡ Some
 
 -- the edge of this number isn't beyond the limits of its shapes
 abbrev pub IsInReach : Owned → Reach → ℕ → Type 0
-IsInReach r reach n = (o : Owner) (limit : ℤ) → is_listed o (owners_at r n) ≡ true → reach_of reach o ≡ Some limit
+IsInReach r reach n = (o : Owner) (limit : ℤ) → is_owner_listed o (owners_at r n) ≡ true → reach_of reach o ≡ Some limit
     → ((edge_at r n).0.x ≤ℤ limit) × ((edge_at r n).1.x ≤ℤ limit)
 
 abbrev pub IsReach : Owned → Reach → Type 0
@@ -57,7 +57,7 @@ is_beyond (Some limit) e = int_lt limit e.0.x && int_lt limit e.1.x
 -- behind an edge of the list that is beyond the limit there is none of the shape
 abbrev pub EndAt : Owned → List ℕ → Owner → Option ℤ → Type 0
 EndAt r numbers o limit = (i k : ℕ) → i ≤ k → k < length numbers → is_beyond limit (edge_at r (slice_index numbers i)) ≡ true
-    → is_listed o (owners_at r (slice_index numbers k)) ≡ false
+    → is_owner_listed o (owners_at r (slice_index numbers k)) ≡ false
 
 abbrev pub EndAtReach : Owned → Reach → List ℕ → Type 0
 EndAtReach r reach numbers = (o : Owner) → EndAt r numbers o (reach_of reach o)

@@ -2,12 +2,12 @@
 use Rattle.std.specs.Prelude.{◌≡◌, ◌⊎◌, ℕ, ◌<◌, ◌≤◌, ◌≤ℤ◌, ℤ, Bool, false, List, length, slice_index_or, Contains}
 use Rattle.lay_point.specs.declared.point.Point.{Point}
 use Rattle.snap_chains.specs.Rounded.{Owned}
-use Rattle.face_label_laws.specs.Labels.{differs, items_of}
+use Rattle.face_label_laws.specs.Labels.{differs, owned_items}
 use Rattle.face_labels.specs.declared.band.Band.{Band}
 use Rattle.face_labels.specs.declared.op.Op.{Op}
 use Rattle.face_labels.specs.declared.start.Start.{Start}
 use Rattle.face_labels.specs.Bands.{begins_in}
-use Rattle.face_labels.specs.Lines.{edge_at, item_at}
+use Rattle.face_labels.specs.Lines.{edge_at, owned_item_at}
 use Rattle.face_labels.specs.Operations.{answer}
 use Rattle.face_labels.specs.Picked.{picked}
 use Rattle.face_labels.specs.Rows.{upward}
@@ -27,7 +27,7 @@ pub record IsStartOf (r : Owned) (s : Start) : Type 0 where
 
 -- at the edge's number is its label
 abbrev pub HasLabel : Op → Owned → List Bool → Start → Type 0
-HasLabel op r labels s = slice_index_or labels s.number false ≡ differs (answer op) (items_of r) (item_at r s.number)
+HasLabel op r labels s = slice_index_or labels s.number false ≡ differs (answer op) (owned_items r) (owned_item_at r s.number)
 
 -- a start is in no later row than those behind it
 abbrev pub AreByRow : List Start → Type 0

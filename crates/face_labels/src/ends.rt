@@ -14,7 +14,7 @@ ghost use Rattle.std.specs.Prelude.{
   true,
 };
 ghost use Rattle.std.specs.List.Sorted.{IsPermutation};
-ghost use Rattle.face_labels.specs.Ends.{AreByHeight, AreEnds, end_of, ends_of};
+ghost use Rattle.face_labels.specs.Ends.{AreByHeight, AreEnds, edge_end, ends_beyond};
 ghost use Rattle.face_labels.specs.Lines.{edge_at};
 ghost use Rattle.face_labels.specs.Rows.{AreSomeRowEdges, CrossesRow, crossing, is_left_in_row, rise};
 ghost use Rattle.face_labels.specs.Sides.{AreSound};
@@ -36,7 +36,7 @@ pub(crate) struct End {
 impl End {
     /// Returns where the edge of this number ends.
     fn new(edge: Edge, number: usize) -> End
-        ensures { result ≡ end_of number edge }
+        ensures { result ≡ edge_end number edge }
     {
         let (_, high) = upward(edge);
         End { y: high.y, number }
@@ -52,7 +52,7 @@ impl End {
 
 /// Returns where the edges end that do so above the row, in order.
 pub(crate) fn ends_above(alloc: Global, edges: &[Edge], row: i32) -> Result<Vec<End>, AllocError>
-    ensures ends { IfOk result (λ ends. IsPermutation (ends_of row edges.now) ends.items) }
+    ensures ends { IfOk result (λ ends. IsPermutation (ends_beyond row edges.now) ends.items) }
     ensures order { IfOk result (λ ends. AreByHeight ends.items) }
 {
     let mut ends = Vec::new(alloc);

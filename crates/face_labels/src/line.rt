@@ -13,10 +13,10 @@ ghost use Rattle.std.specs.Prelude.{
   length,
   replicate,
 };
-ghost use Rattle.face_label_laws.specs.Labels.{differs, items_of};
+ghost use Rattle.face_label_laws.specs.Labels.{differs, owned_items};
 ghost use Rattle.face_label_laws.specs.Laws.{AreLesserFirst};
 ghost use Rattle.face_labels.specs.Ends.{AreEnds};
-ghost use Rattle.face_labels.specs.Lines.{edge_at, item_at};
+ghost use Rattle.face_labels.specs.Lines.{edge_at, owned_item_at};
 ghost use Rattle.face_labels.specs.Operations.{answer};
 ghost use Rattle.face_labels.specs.Rows.{AreRowEdges, upward};
 ghost use Rattle.face_labels.specs.Sides.{AreSound, IsLine};
@@ -122,7 +122,7 @@ impl Line {
         requires given { number < length edges.now.0 }
         requires row { (upward (edge_at edges.now number)).0.y ≡ self.now.row }
         ensures { IfOk result (λ label.
-            label ≡ differs (answer op) (items_of edges.now) (item_at edges.now number)) }
+            label ≡ differs (answer op) (owned_items edges.now) (owned_item_at edges.now number)) }
     {
         if let Some(sides) = self.known[number].as_ref() {
             return Ok(sides.differs(op));

@@ -1,7 +1,7 @@
 //! How far to the right the edges of each shape reach.
 ghost use Rattle.std.specs.Prelude.{◌≡◌, ◌<ℤ◌, ◌≤ℤ◌, ℤ, IfOk, Some, false, length, slice_get, true};
 ghost use Rattle.snap_chains.specs.declared.owner.Owner.{Owner};
-ghost use Rattle.snap_chains.specs.Rounded.{is_listed};
+ghost use Rattle.snap_chains.specs.Rounded.{is_owner_listed};
 ghost use Rattle.face_labels.specs.Reaches.{HaveGrown, IsReach, is_beyond, reach_of};
 
 use lay_point::Edge;
@@ -37,7 +37,7 @@ impl Reach {
     fn extend(&mut self, owners: &[Owner], x: i32)
         ensures first { HaveGrown self.old.first.items self.new.first.items }
         ensures second { HaveGrown self.old.second.items self.new.second.items }
-        ensures reached { (o : Owner) (limit : ℤ) → is_listed o owners.now ≡ true → reach_of self.new o ≡ Some limit
+        ensures reached { (o : Owner) (limit : ℤ) → is_owner_listed o owners.now ≡ true → reach_of self.new o ≡ Some limit
             → x ≤ℤ limit }
     {
         for owner in owners {

@@ -17,7 +17,7 @@ ghost use Rattle.std.specs.Prelude.{
 ghost use Rattle.lay_point.specs.Parity.{xor};
 ghost use Rattle.snap_chains.specs.declared.owner.Owner.{Owner};
 ghost use Rattle.snap_chains.specs.Owners.{owner_eq};
-ghost use Rattle.snap_chains.specs.Rounded.{is_listed};
+ghost use Rattle.snap_chains.specs.Rounded.{is_owner_listed};
 ghost use Rattle.face_labels.specs.Counts.{AreCounts};
 ghost use Rattle.face_labels.specs.Lines.{owners_at};
 ghost use Rattle.face_labels.specs.Reaches.{EndAt, EndAtReach};
@@ -173,7 +173,7 @@ fn asked(edges: &CleanEdges, known: &[Option<Sides>], number: usize, owner: Owne
 
 /// Returns the index of the owner, if it is one of these.
 fn index_of(owners: &[Owner], owner: Owner) -> Option<usize>
-    ensures { MatchOption result (is_listed owner owners.now ≡ false)
+    ensures { MatchOption result (is_owner_listed owner owners.now ≡ false)
         (λ index. (index < length owners.now) × (slice_index_or owners.now index owner ≡ owner)) }
 {
     for index in 0..owners.len() {

@@ -9,7 +9,7 @@ use Rattle.lay_point.specs.Rising.{IsRising}
 use Rattle.lay_point.proofs.EdgeOrder.{points_decide}
 use Rattle.lay_point.proofs.Members.{Has, contains}
 use Rattle.face_link_laws.specs.Linked.{AreLinked}
-use Rattle.face_link_laws.specs.Linking.{Ends, along, behind_first, first_ring, other_end, rings_from, rings_of, take_at, way}
+use Rattle.face_link_laws.specs.Linking.{Ends, behind_first, first_ring, linked_rings, other_end, ring_along, rings_up_to, take_at, way}
 use Rattle.face_link_laws.proofs.TakenLemmas.{is_taken, taken_length}
 use Rattle.face_link_laws.proofs.CountLemmas.{AreUndirected, proper_from_undirected}
 use Rattle.face_link_laws.proofs.LinkedLemmas.{rings_linked}
@@ -24,16 +24,17 @@ pub way_stops : (start at : Point) (es : List Ends) → at ≡ start → whole_w
 way_stops start at es same =
     let t : point_eq at start ≡ true = subst (λ v. point_eq at v ≡ true) same (points_decide.itself at) in rw t refl
 
-way_goes : (start at : Point) (es : List Ends) → at ≢ start → whole_way start at es ≡ along (way (length es) start) at es (take_at at es)
+way_goes : (start at : Point) (es : List Ends) → at ≢ start
+    → whole_way start at es ≡ ring_along (way (length es) start) at es (take_at at es)
 way_goes start at es apart = let f = points_decide.apart at start apart in rw f refl
 
 pub way_ends : (start at : Point) (es : List Ends) → at ≢ start → take_at at es ≡ None → whole_way start at es ≡ (at ∷ [], es)
-way_ends start at es apart h = way_goes start at es apart ∙ ap (along (way (length es) start) at es) h
+way_ends start at es apart h = way_goes start at es apart ∙ ap (ring_along (way (length es) start) at es) h
 
 pub way_further : (start at : Point) (es : List Ends) (t : Ends × List Ends) → at ≢ start → take_at at es ≡ Some t
     → whole_way start at es ≡ (at ∷ (whole_way start (other_end at t.0) t.1).0, (whole_way start (other_end at t.0) t.1).1)
 way_further start at es t apart h =
-    way_goes start at es apart ∙ ap (along (way (length es) start) at es) h
+    way_goes start at es apart ∙ ap (ring_along (way (length es) start) at es) h
     ∙ ap (λ n. (at ∷ (way n start (other_end at t.0) t.1).0, (way n start (other_end at t.0) t.1).1))
     (taken_length at es t.0 t.1 (is_taken at es t h))
 
@@ -80,7 +81,7 @@ taken_shorter at left left' e h = let count = taken_length at left e left' (is_t
 
 -- ---- from ring to ring
 along_less : (go : Point → List Ends → List Point × List Ends) → ((at : Point) (es : List Ends) → length (go at es).1 ≤ length es)
-    → (at : Point) (es : List Ends) (o : Option (Ends × List Ends)) → take_at at es ≡ o → length (along go at es o).1 ≤ length es
+    → (at : Point) (es : List Ends) (o : Option (Ends × List Ends)) → take_at at es ≡ o → length (ring_along go at es o).1 ≤ length es
 along_less go less at es None h = omega arith
 along_less go less at es (Some t) h =
     let further = less (other_end at t.0) t.1 in
@@ -90,12 +91,12 @@ along_less go less at es (Some t) h =
 way_less : (n : ℕ) (start at : Point) (es : List Ends) → length (way n start at es).1 ≤ length es
 way_less zero start at es = omega arith
 way_less (suc n) start at es =
-    elim (point_eq at start) as (λ b. length (cond b ([], es) (along (way n start) at es (take_at at es))).1 ≤ length es) [
+    elim (point_eq at start) as (λ b. length (cond b ([], es) (ring_along (way n start) at es (take_at at es))).1 ≤ length es) [
       | true ↦ omega arith
       | false ↦ along_less (way n start) (way_less n start) at es (take_at at es) refl
     ]
 
-rings_same : (n m : ℕ) (es : List Ends) → length es ≤ n → length es ≤ m → rings_from n es ≡ rings_from m es
+rings_same : (n m : ℕ) (es : List Ends) → length es ≤ n → length es ≤ m → rings_up_to n es ≡ rings_up_to m es
 rings_same zero zero es h g = refl
 rings_same zero (suc m) [] h g = refl
 rings_same zero (suc m) (e ∷ es) h g = absurd (omega arith)
@@ -106,28 +107,29 @@ rings_same (suc n) (suc m) (e ∷ es) h g =
     let less = way_less (suc (length es)) e.0 e.1 es in
     ap (λ rs. first_ring (e ∷ es) ∷ rs) (rings_same n m (behind_first (e ∷ es)) (omega arith) (omega arith))
 
-pub rings_of-first : (e : Ends) (es : List Ends) → rings_of (e ∷ es) ≡ first_ring (e ∷ es) ∷ rings_of (behind_first (e ∷ es))
-unfolding rings_of
-rings_of-first e es =
+pub linked_rings-first : (e : Ends) (es : List Ends) → linked_rings (e ∷ es) ≡ first_ring (e ∷ es) ∷ linked_rings (behind_first (e ∷ es))
+unfolding linked_rings
+linked_rings-first e es =
     let less = way_less (suc (length es)) e.0 e.1 es in
     ap (λ rs. first_ring (e ∷ es) ∷ rs)
     (rings_same (length es) (length (behind_first (e ∷ es))) (behind_first (e ∷ es)) less (omega arith))
 
 -- the first edge isn't used: its ring comes next
 pub next_ring_is : (left : List Ends) (e : Ends) (es : List Ends) → left ≡ e ∷ es
-    → rings_of left ≡ first_ring left ∷ rings_of (behind_first left)
-next_ring_is left e es same = subst (λ l. rings_of l ≡ first_ring l ∷ rings_of (behind_first l)) (sym same) (rings_of-first e es)
+    → linked_rings left ≡ first_ring left ∷ linked_rings (behind_first left)
+next_ring_is left e es same =
+    subst (λ l. linked_rings l ≡ first_ring l ∷ linked_rings (behind_first l)) (sym same) (linked_rings-first e es)
 
 pub one_more_ring : (rings more all : List (List Point)) (ring : List Point) (left left' : List Ends) (e : Ends) (es : List Ends)
-    → left ≡ e ∷ es → rings ++ rings_of left ≡ all → more ≡ rings ++ ring ∷ [] → ring ≡ first_ring left → left' ≡ behind_first left
-    → more ++ rings_of left' ≡ all
+    → left ≡ e ∷ es → rings ++ linked_rings left ≡ all → more ≡ rings ++ ring ∷ [] → ring ≡ first_ring left → left' ≡ behind_first left
+    → more ++ linked_rings left' ≡ all
 one_more_ring rings more all ring left left' e es same so_far pushed is_ring behind =
-    (λ k. pushed k ++ rings_of (behind k)) ∙ append_assoc rings (ring ∷ []) (rings_of (behind_first left))
-    ∙ ap (λ r. rings ++ r ∷ rings_of (behind_first left)) is_ring
+    (λ k. pushed k ++ linked_rings (behind k)) ∙ append_assoc rings (ring ∷ []) (linked_rings (behind_first left))
+    ∙ ap (λ r. rings ++ r ∷ linked_rings (behind_first left)) is_ring
     ∙ ap (λ rs. rings ++ rs) (sym (next_ring_is left e es same)) ∙ so_far
 
-pub sound_next : (left : List Ends) (e : Ends) (es : List Ends) → left ≡ e ∷ es → AreSound (rings_of left)
-    → IsSound (first_ring left) × AreSound (rings_of (behind_first left))
+pub sound_next : (left : List Ends) (e : Ends) (es : List Ends) → left ≡ e ∷ es → AreSound (linked_rings left)
+    → IsSound (first_ring left) × AreSound (linked_rings (behind_first left))
 sound_next left e es same h = subst AreSound (next_ring_is left e es same) h
 
 -- ---- all edges
@@ -141,18 +143,18 @@ both_true : (a b : Bool) → (a && b) ≡ true → (a ≡ true) × (b ≡ true)
 both_true true b e = (refl, e)
 both_true false b e = absurd cc
 
-pub all_rings : (edges : List Ends) → AreUndirected edges → AreEven edges → AreRings edges (rings_of edges)
-unfolding rings_of
+pub all_rings : (edges : List Ends) → AreUndirected edges → AreEven edges → AreRings edges (linked_rings edges)
+unfolding linked_rings
 all_rings edges lesser even = are_rings (length edges) edges (omega arith) (proper_from_undirected edges lesser) even
 
 pub all_sound : (edges : List Ends) → AreUndirected edges → AreEven edges → IsRising IsEdgeBefore edges
-    → All (λ e. IsTrue (is_in_range e.0 && is_in_range e.1)) edges → AreSound (rings_of edges)
+    → All (λ e. IsTrue (is_in_range e.0 && is_in_range e.1)) edges → AreSound (linked_rings edges)
 all_sound edges lesser even up fits =
-    rings_sound edges (rings_of edges) (all_rings edges lesser even) up lesser
+    rings_sound edges (linked_rings edges) (all_rings edges lesser even) up lesser
     (λ e m. both_true (is_in_range e.0) (is_in_range e.1) (all_has (λ f. IsTrue (is_in_range f.0 && is_in_range f.1)) edges fits e m))
 
 pub all_linked : (edges : List Ends) → AreUndirected edges → AreEven edges → IsRising IsEdgeBefore edges
-    → AreLinked edges [] (rings_of edges)
+    → AreLinked edges [] (linked_rings edges)
 all_linked edges lesser even up =
-    rings_linked edges [] edges (rings_of edges) (all_rings edges lesser even)
+    rings_linked edges [] edges (linked_rings edges) (all_rings edges lesser even)
     (record { given = λ f m. m; left = λ f m none. none; all = λ f m n. m; rising = up })

@@ -12,7 +12,7 @@ use Rattle.lay_point.proofs.EdgeOrder.{edges_are_strict}
 use Rattle.lay_point.proofs.Members.{Has}
 use Rattle.lay_point.proofs.Parity.{xor_assoc, xor_comm}
 use Rattle.lay_point.proofs.Rising.{before_rest, rising_rest}
-use Rattle.face_link_laws.specs.Linking.{Ends, behind, take_at}
+use Rattle.face_link_laws.specs.Linking.{Ends, keeping_first, take_at}
 
 -- the edge is the first at the point, with the others
 pub data IsTaken (v : Point) : List Ends → Ends → List Ends → Type 0 where
@@ -21,7 +21,7 @@ pub data IsTaken (v : Point) : List Ends → Ends → List Ends → Type 0 where
 
 -- ---- from the definition
 taken_behind : (v : Point) (f : Ends) (es : List Ends) (o : Option (Ends × List Ends)) (t : Ends × List Ends) → touches v f ≡ false
-    → ((u : Ends × List Ends) → o ≡ Some u → IsTaken v es u.0 u.1) → behind f o ≡ Some t → IsTaken v (f ∷ es) t.0 t.1
+    → ((u : Ends × List Ends) → o ≡ Some u → IsTaken v es u.0 u.1) → keeping_first f o ≡ Some t → IsTaken v (f ∷ es) t.0 t.1
 taken_behind v f es None t off further h = absurd cc
 taken_behind v f es (Some u) t off further h =
     let same : (u.0, f ∷ u.1) ≡ t = cc in
@@ -30,12 +30,13 @@ taken_behind v f es (Some u) t off further h =
 pub is_taken : (v : Point) (es : List Ends) (t : Ends × List Ends) → take_at v es ≡ Some t → IsTaken v es t.0 t.1
 is_taken v [] t h = absurd cc
 is_taken v (e ∷ es) t h =
-    elim (touches v e) as (λ b. touches v e ≡ b → cond b (Some (e, es)) (behind e (take_at v es)) ≡ Some t → IsTaken v (e ∷ es) t.0 t.1) [
+    elim (touches v e) as (λ b. touches v e ≡ b → cond b (Some (e, es)) (keeping_first e (take_at v es)) ≡ Some t
+        → IsTaken v (e ∷ es) t.0 t.1) [
       | true ↦ λ at g. let same : (e, es) ≡ t = cc in subst (λ (z : Ends × List Ends). IsTaken v (e ∷ es) z.0 z.1) same (here e es at)
       | false ↦ λ off g. taken_behind v e es (take_at v es) t off (λ u k. is_taken v es u k) g
     ] refl h
 
-none_behind : (f : Ends) (o : Option (Ends × List Ends)) → behind f o ≡ None → o ≡ None
+none_behind : (f : Ends) (o : Option (Ends × List Ends)) → keeping_first f o ≡ None → o ≡ None
 none_behind f None h = refl
 none_behind f (Some u) h = absurd cc
 
@@ -43,7 +44,7 @@ none_behind f (Some u) h = absurd cc
 pub none_taken : (v : Point) (es : List Ends) → take_at v es ≡ None → parity (touches v) es ≡ false
 none_taken v [] h = refl
 none_taken v (e ∷ es) h =
-    elim (touches v e) as (λ b. cond b (Some (e, es)) (behind e (take_at v es)) ≡ None → xor b (parity (touches v) es) ≡ false) [
+    elim (touches v e) as (λ b. cond b (Some (e, es)) (keeping_first e (take_at v es)) ≡ None → xor b (parity (touches v) es) ≡ false) [
       | true ↦ λ g. absurd cc
       | false ↦ λ g. none_taken v es (none_behind e (take_at v es) g)
     ] h

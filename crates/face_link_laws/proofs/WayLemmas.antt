@@ -8,7 +8,7 @@ use Rattle.lay_point.specs.Points.{point_eq}
 use Rattle.lay_point.proofs.EdgeOrder.{same_by_test, points_decide}
 use Rattle.lay_point.proofs.Members.{Has}
 use Rattle.lay_point.proofs.Parity.{xor-false, xor_comm, xor_self, xor_cancel}
-use Rattle.face_link_laws.specs.Linking.{Ends, along, other_end, rings_from, take_at, way}
+use Rattle.face_link_laws.specs.Linking.{Ends, other_end, ring_along, rings_up_to, take_at, way}
 use Rattle.face_link_laws.proofs.TakenLemmas.{
   IsTaken,
   is_taken,
@@ -90,7 +90,7 @@ ComesBack n start = (at : Point) (es : List Ends) → length es < n → ArePrope
 
 way_further : (n : ℕ) (start at : Point) (es : List Ends) → ComesBack n start → length es < suc n → AreProper es → StandAt start at es
     → point_eq at start ≡ false → (o : Option (Ends × List Ends)) → take_at at es ≡ o
-    → IsWay start at es (along (way n start) at es o).0 (along (way n start) at es o).1
+    → IsWay start at es (ring_along (way n start) at es o).0 (ring_along (way n start) at es o).1
 way_further n start at es further less proper stands e None h =
     let even : parity (touches at) es ≡ false = none_taken at es h in
     let not_start : point_eq start at ≡ false = points_decide.apart start at (λ same. not_there at start e (sym same)) in
@@ -107,8 +107,8 @@ pub is_way : (n : ℕ) (start : Point) → ComesBack n start
 is_way zero start at es less proper stands = absurd (omega arith)
 is_way (suc n) start at es less proper stands =
     elim (point_eq at start) as (λ b. point_eq at start ≡ b
-    → IsWay start at es (cond b ([], es) (along (way n start) at es (take_at at es))).0
-    (cond b ([], es) (along (way n start) at es (take_at at es))).1) [
+    → IsWay start at es (cond b ([], es) (ring_along (way n start) at es (take_at at es))).0
+    (cond b ([], es) (ring_along (way n start) at es (take_at at es))).1) [
       | true ↦ λ e. subst (λ v. IsWay start v es [] es) (sym (same_by_test at start e)) (at_start es)
       | false ↦ λ e. way_further n start at es (is_way n start) less proper stands e (take_at at es) refl
     ] refl
@@ -149,7 +149,7 @@ first_stands e es proper even x =
     ∙ other_touches e.0 x e (proper e (inl refl)) (ap (λ b. b || point_eq e.1 e.0) (points_decide.itself e.0))
     ∙ ap (λ b. xor (point_eq e.0 x) (point_eq (cond b e.1 e.0) x)) (points_decide.itself e.0)
 
-pub are_rings : (n : ℕ) (es : List Ends) → length es ≤ n → AreProper es → AreEven es → AreRings es (rings_from n es)
+pub are_rings : (n : ℕ) (es : List Ends) → length es ≤ n → AreProper es → AreEven es → AreRings es (rings_up_to n es)
 are_rings zero [] less proper even = no_ring
 are_rings zero (e ∷ es) less proper even = absurd (omega arith)
 are_rings (suc n) [] less proper even = no_ring
@@ -160,6 +160,6 @@ are_rings (suc n) (e ∷ es) less proper even =
     let behind_first : AreProper es = λ f m. proper f (inr m) in
     let w : IsWay e.0 e.1 es points rest = is_way (suc (length es)) e.0 e.1 es (omega arith) behind_first stands in
     let shorter = way_shorter e.0 e.1 es points rest w in
-    one_more e es rest points (rings_from n rest) w
+    one_more e es rest points (rings_up_to n rest) w
     (are_rings n rest (omega arith) (λ f m. proper f (inr (way_keeps e.0 e.1 es points rest w f m)))
     (way_stands e.0 e.1 es points rest w behind_first stands))

@@ -14,7 +14,7 @@ use Rattle.lay_point.specs.Rising.{last}
 use Rattle.lay_point.proofs.Members.{Has, has-append}
 use Rattle.lay_point.proofs.Parity.{parity_agree, parity_none, parity_of_walk, xor_self}
 use Rattle.lay_point.proofs.Rising.{pair_first, pair_second}
-use Rattle.face_part_laws.specs.Parts.{Box, box_of, grown, grown_by, is_in_box, touch}
+use Rattle.face_part_laws.specs.Parts.{Box, bounding_box, grown, grown_by, is_in_box, touch}
 
 -- ---- the box has all points
 pub record IsIn (b : Box) (p : Point) : Type 0 where
@@ -49,7 +49,7 @@ grown_by_has b (p ∷ ps) q (inr (inr m)) = grown_by_has (grown b p) ps q (inr m
 itself_in : (p : Point) → IsIn (p, p) p
 itself_in p = record { left = omega (arith, ints); right = omega (arith, ints); low = omega (arith, ints); high = omega (arith, ints) }
 
-pub box_has : (ring : List Point) (q : Point) → Has ring q → IsIn (box_of ring) q
+pub box_has : (ring : List Point) (q : Point) → Has ring q → IsIn (bounding_box ring) q
 box_has [] q m = absurd m
 box_has (p ∷ ps) q (inl same) = grown_by_has (p, p) ps q (inl (subst (IsIn (p, p)) same (itself_in p)))
 box_has (p ∷ ps) q (inr m) = grown_by_has (p, p) ps q (inr m)
@@ -159,7 +159,7 @@ closed_has (p ∷ ps) q (inr m) =
     only (inl same) = same
     only (inr none) = absurd none
 
-edge_in : (ring : List Point) (e : Point × Point) → Has (edges_of_ring ring) e → IsIn (box_of ring) e.0 × IsIn (box_of ring) e.1
+edge_in : (ring : List Point) (e : Point × Point) → Has (edges_of_ring ring) e → IsIn (bounding_box ring) e.0 × IsIn (bounding_box ring) e.1
 edge_in ring e m = (
   box_has ring e.0 (closed_has ring e.0 (pair_first (closed ring) e.0 e.1 m)),
   box_has ring e.1 (closed_has ring e.1 (pair_second (closed ring) e.0 e.1 m)),
@@ -170,16 +170,16 @@ last-back p q [] = refl
 last-back p q (r ∷ rs) = last-back p r rs
 
 -- ---- outside
-even_right : (k x y : ℤ) (ring : List Point) → pos 1 ≤ℤ k → (k *ℤ (box_of ring).1.x) <ℤ x
+even_right : (k x y : ℤ) (ring : List Point) → pos 1 ≤ℤ k → (k *ℤ (bounding_box ring).1.x) <ℤ x
     → parity (is_crossed k x y) (edges_of_ring ring) ≡ false
 even_right k x y ring scale out = parity_none (is_crossed k x y) (edges_of_ring ring) (λ e m.
     let ends = edge_in ring e m in
-    let first = times_le k e.0.x (box_of ring).1.x (omega (arith, linear)) ends.0.right in
-    let second = times_le k e.1.x (box_of ring).1.x (omega (arith, linear)) ends.1.right in
+    let first = times_le k e.0.x (bounding_box ring).1.x (omega (arith, linear)) ends.0.right in
+    let second = times_le k e.1.x (bounding_box ring).1.x (omega (arith, linear)) ends.1.right in
     ap₂ (λ a b. a || b) (rising_missed k x y e.0 e.1 scale (omega (arith, linear)) (omega (arith, linear)))
     (rising_missed k x y e.1 e.0 scale (omega (arith, linear)) (omega (arith, linear))))
 
-even_left : (k x y : ℤ) (ring : List Point) → pos 1 ≤ℤ k → x <ℤ (k *ℤ (box_of ring).0.x)
+even_left : (k x y : ℤ) (ring : List Point) → pos 1 ≤ℤ k → x <ℤ (k *ℤ (bounding_box ring).0.x)
     → parity (is_crossed k x y) (edges_of_ring ring) ≡ false
 even_left k x y [] scale out = refl
 even_left k x y (p ∷ ps) scale out =
@@ -187,8 +187,8 @@ even_left k x y (p ∷ ps) scale out =
     let under : Point → Bool = λ v. int_le (k *ℤ v.y) y in
     parity_agree (is_crossed k x y) (λ e. xor (under e.0) (under e.1)) (edges_of_ring ring) (λ e m.
     let ends = edge_in ring e m in
-    let first = times_le k (box_of ring).0.x e.0.x (omega (arith, linear)) ends.0.left in
-    let second = times_le k (box_of ring).0.x e.1.x (omega (arith, linear)) ends.1.left in
+    let first = times_le k (bounding_box ring).0.x e.0.x (omega (arith, linear)) ends.0.left in
+    let second = times_le k (bounding_box ring).0.x e.1.x (omega (arith, linear)) ends.1.left in
     ap₂ (λ a b. a || b) (rising_met k x y e.0 e.1 scale (omega (arith, linear)) (omega (arith, linear)))
     (rising_met k x y e.1 e.0 scale (omega (arith, linear)) (omega (arith, linear)))
     ∙ xor_by_parts (under e.0) (under e.1))
@@ -203,30 +203,30 @@ level_missed k x y p q out = and_false (rises_past k y p q) (int_lt (pos 0) (dis
     let high = lt_true y (k *ℤ q.y) both.1 in
     ⊎_elim (λ (above : y <ℤ (k *ℤ p.y)). omega (arith, linear)) (λ (below : (k *ℤ q.y) ≤ℤ y). omega (arith, linear)) out)
 
-even_level : (k x y : ℤ) (ring : List Point) → pos 1 ≤ℤ k → (y <ℤ (k *ℤ (box_of ring).0.y)) ⊎ ((k *ℤ (box_of ring).1.y) <ℤ y)
+even_level : (k x y : ℤ) (ring : List Point) → pos 1 ≤ℤ k → (y <ℤ (k *ℤ (bounding_box ring).0.y)) ⊎ ((k *ℤ (bounding_box ring).1.y) <ℤ y)
     → parity (is_crossed k x y) (edges_of_ring ring) ≡ false
 even_level k x y ring scale out = parity_none (is_crossed k x y) (edges_of_ring ring) (λ e m.
     let ends = edge_in ring e m in
-    let low = times_le k (box_of ring).0.y e.0.y (omega (arith, linear)) ends.0.low in
-    let low' = times_le k (box_of ring).0.y e.1.y (omega (arith, linear)) ends.1.low in
-    let high = times_le k e.0.y (box_of ring).1.y (omega (arith, linear)) ends.0.high in
-    let high' = times_le k e.1.y (box_of ring).1.y (omega (arith, linear)) ends.1.high in
-    ⊎_elim (λ (under : y <ℤ (k *ℤ (box_of ring).0.y)).
+    let low = times_le k (bounding_box ring).0.y e.0.y (omega (arith, linear)) ends.0.low in
+    let low' = times_le k (bounding_box ring).0.y e.1.y (omega (arith, linear)) ends.1.low in
+    let high = times_le k e.0.y (bounding_box ring).1.y (omega (arith, linear)) ends.0.high in
+    let high' = times_le k e.1.y (bounding_box ring).1.y (omega (arith, linear)) ends.1.high in
+    ⊎_elim (λ (under : y <ℤ (k *ℤ (bounding_box ring).0.y)).
     ap₂ (λ a b. a || b) (level_missed k x y e.0 e.1 (inl (omega (arith, linear))))
     (level_missed k x y e.1 e.0 (inl (omega (arith, linear)))))
-    (λ (over : (k *ℤ (box_of ring).1.y) <ℤ y).
+    (λ (over : (k *ℤ (bounding_box ring).1.y) <ℤ y).
     ap₂ (λ a b. a || b) (level_missed k x y e.0 e.1 (inr (omega (arith, linear))))
     (level_missed k x y e.1 e.0 (inr (omega (arith, linear)))))
     out)
 
 -- a ring is even about a place outside its box
-pub even_outside : (k x y : ℤ) (ring : List Point) → pos 1 ≤ℤ k → is_in_box k x y (box_of ring) ≡ false
+pub even_outside : (k x y : ℤ) (ring : List Point) → pos 1 ≤ℤ k → is_in_box k x y (bounding_box ring) ≡ false
     → parity (is_crossed k x y) (edges_of_ring ring) ≡ false
 even_outside k x y ring scale out = by_tests (int_le (k *ℤ b.0.x) x) (int_le x (k *ℤ b.1.x)) (int_le (k *ℤ b.0.y) y) (int_le y (k *ℤ b.1.y))
     refl refl refl refl out
   where
     b : Box
-    b = box_of ring
+    b = bounding_box ring
 
     by_tests : (l r d u : Bool) → int_le (k *ℤ b.0.x) x ≡ l → int_le x (k *ℤ b.1.x) ≡ r → int_le (k *ℤ b.0.y) y ≡ d
         → int_le y (k *ℤ b.1.y) ≡ u → (l && r && d && u) ≡ false → parity (is_crossed k x y) (edges_of_ring ring) ≡ false

@@ -10,7 +10,7 @@ use Rattle.lay_point.specs.declared.point.Point.{Point}
 use Rattle.lay_point.specs.Parity.{xor, parity, is_crossed, odd}
 use Rattle.lay_point.specs.RingEdges.{edges_of, edges_of_ring}
 use Rattle.lay_point.proofs.Parity.{parity-append}
-use Rattle.face_part_laws.specs.Parts.{AreJoined, AreParts, ArePartsBy, box_of, is_in_box, labelled, touch}
+use Rattle.face_part_laws.specs.Parts.{AreJoined, AreParts, ArePartsBy, bounding_box, is_in_box, touch, with_label}
 use Rattle.face_part_laws.proofs.BoxLaws.{even_outside, touch_by_place}
 
 -- ---- of all rings together
@@ -28,7 +28,7 @@ eq_cases l p false h = inr ((λ same. false≢true (sym h ∙ (Decides-eqb l p).
 module _ {A : Type 0} (odd_one : A → Bool) (p : ℕ) where
   pub labelled_all : (labels : List ℕ) (xs : List A) → length labels ≡ length xs
       → ((i : ℕ) (d : A) → i < length xs → get_or labels i 0 ≢ p → odd_one (get_or xs i d) ≡ false)
-      → parity odd_one (labelled p labels xs) ≡ parity odd_one xs
+      → parity odd_one (with_label p labels xs) ≡ parity odd_one xs
   labelled_all [] [] same even = refl
   labelled_all [] (x ∷ xs) same even = absurd (omega arith)
   labelled_all (l ∷ ls) [] same even = absurd (omega arith)
@@ -41,7 +41,7 @@ module _ {A : Type 0} (odd_one : A → Bool) (p : ℕ) where
 
   pub labelled_none : (labels : List ℕ) (xs : List A) → length labels ≡ length xs
       → ((i : ℕ) (d : A) → i < length xs → get_or labels i 0 ≡ p → odd_one (get_or xs i d) ≡ false)
-      → parity odd_one (labelled p labels xs) ≡ false
+      → parity odd_one (with_label p labels xs) ≡ false
   labelled_none [] xs same even = refl
   labelled_none (l ∷ ls) [] same even = refl
   labelled_none (l ∷ ls) (x ∷ xs) same even =
@@ -75,37 +75,38 @@ any_one f (x ∷ xs) (suc k) e less h =
 -- ---- about a place
 -- a ring in whose box the place is, if there is one
 some_box : (k x y : ℤ) (rings : List (List Point))
-    → ((i : ℕ) × (i < length rings) × ((d : List Point) → is_in_box k x y (box_of (get_or rings i d)) ≡ true))
-    ⊎ ((i : ℕ) (d : List Point) → i < length rings → is_in_box k x y (box_of (get_or rings i d)) ≡ false)
+    → ((i : ℕ) × (i < length rings) × ((d : List Point) → is_in_box k x y (bounding_box (get_or rings i d)) ≡ true))
+    ⊎ ((i : ℕ) (d : List Point) → i < length rings → is_in_box k x y (bounding_box (get_or rings i d)) ≡ false)
 some_box k x y [] = inr (λ i d lt. absurd (omega arith))
-some_box k x y (r ∷ rs) = by_test (is_in_box k x y (box_of r)) refl (some_box k x y rs)
+some_box k x y (r ∷ rs) = by_test (is_in_box k x y (bounding_box r)) refl (some_box k x y rs)
   where
     Found : List (List Point) → Type 0
-    Found rings = (i : ℕ) × (i < length rings) × ((d : List Point) → is_in_box k x y (box_of (get_or rings i d)) ≡ true)
+    Found rings = (i : ℕ) × (i < length rings) × ((d : List Point) → is_in_box k x y (bounding_box (get_or rings i d)) ≡ true)
 
     None : List (List Point) → Type 0
-    None rings = (i : ℕ) (d : List Point) → i < length rings → is_in_box k x y (box_of (get_or rings i d)) ≡ false
+    None rings = (i : ℕ) (d : List Point) → i < length rings → is_in_box k x y (bounding_box (get_or rings i d)) ≡ false
 
-    none_here : is_in_box k x y (box_of r) ≡ false → None rs → None (r ∷ rs)
+    none_here : is_in_box k x y (bounding_box r) ≡ false → None rs → None (r ∷ rs)
     none_here h rest zero d lt = h
     none_here h rest (suc i) d lt = rest i d (omega arith)
 
-    by_test : (b : Bool) → is_in_box k x y (box_of r) ≡ b → Found rs ⊎ None rs → Found (r ∷ rs) ⊎ None (r ∷ rs)
+    by_test : (b : Bool) → is_in_box k x y (bounding_box r) ≡ b → Found rs ⊎ None rs → Found (r ∷ rs) ⊎ None (r ∷ rs)
     by_test true h rest = inl (zero, omega arith, (λ d. h))
     by_test false h (inl found) = inl (suc found.0, omega (arith, found.1), found.2)
     by_test false h (inr none) = inr (none_here h none)
 
 joined_by_place : (k x y : ℤ) (rings : List (List Point)) (i j : ℕ) → pos 1 ≤ℤ k → i < length rings → j < length rings
-    → ((d : List Point) → is_in_box k x y (box_of (get_or rings i d)) ≡ true)
-    → ((d : List Point) → is_in_box k x y (box_of (get_or rings j d)) ≡ true) → AreJoined (map box_of rings) i j
+    → ((d : List Point) → is_in_box k x y (bounding_box (get_or rings i d)) ≡ true)
+    → ((d : List Point) → is_in_box k x y (bounding_box (get_or rings j d)) ≡ true) → AreJoined (map bounding_box rings) i j
 joined_by_place k x y rings i j scale li lj hi hj =
-    let count = length-map rings box_of in (
+    let count = length-map rings bounding_box in (
       omega arith,
       omega arith,
       (λ d.
-          let bi = get_or-map box_of rings i [] d li in
-          let bj = get_or-map box_of rings j [] d lj in
-          ap₂ touch bi bj ∙ touch_by_place k x y (box_of (get_or rings i [])) (box_of (get_or rings j [])) scale (hi []) (hj [])),
+          let bi = get_or-map bounding_box rings i [] d li in
+          let bj = get_or-map bounding_box rings j [] d lj in
+          ap₂ touch bi bj ∙ touch_by_place k x y (bounding_box (get_or rings i []))
+              (bounding_box (get_or rings j [])) scale (hi []) (hj [])),
     )
 
 not_true : (b : Bool) → (b ≡ true → ⊥) → b ≡ false
@@ -124,17 +125,17 @@ some_part_is_odd k x y labels rings parts scale h = ⊎_elim found none (some_bo
     odd_ring r = parity test (edges_of_ring r)
 
     part_is : (p : ℕ) (d : List (List Point)) → p < length parts
-        → parity test (edges_of (get_or parts p d)) ≡ parity odd_ring (labelled p labels rings)
-    part_is p d lt = ap (λ part. parity test (edges_of part)) (h.rings_of_part p d lt) ∙ parity_by_rings test (labelled p labels rings)
+        → parity test (edges_of (get_or parts p d)) ≡ parity odd_ring (with_label p labels rings)
+    part_is p d lt = ap (λ part. parity test (edges_of part)) (h.rings_of_part p d lt) ∙ parity_by_rings test (with_label p labels rings)
 
-    found : (i : ℕ) × (i < length rings) × ((d : List Point) → is_in_box k x y (box_of (get_or rings i d)) ≡ true)
+    found : (i : ℕ) × (i < length rings) × ((d : List Point) → is_in_box k x y (bounding_box (get_or rings i d)) ≡ true)
         → list_any (λ part. parity test (edges_of part)) parts ≡ parity test (edges_of rings)
     found (i, li, hi) =
         let p = get_or labels i 0 in
         let apart = λ (j : ℕ) (d : List Point) (lj : j < length rings) (other : get_or labels j 0 ≢ p).
-        even_outside k x y (get_or rings j d) scale (not_true (is_in_box k x y (box_of (get_or rings j d))) (λ hj.
+        even_outside k x y (get_or rings j d) scale (not_true (is_in_box k x y (bounding_box (get_or rings j d))) (λ hj.
         other (sym (h.joined i j (joined_by_place k x y rings i j scale li lj hi
-        (λ e. ap (λ r. is_in_box k x y (box_of r)) (get_or_default rings j e d lj) ∙ hj)))))) in
+        (λ e. ap (λ r. is_in_box k x y (bounding_box r)) (get_or_default rings j e d lj) ∙ hj)))))) in
         any_one (λ part. parity test (edges_of part)) parts p [] (h.within i li)
         (λ q d lq differ. part_is q d lq ∙ labelled_none odd_ring q labels rings h.each
         (λ j e lj same. apart j e lj (λ again. differ (sym same ∙ again))))
@@ -142,7 +143,7 @@ some_part_is_odd k x y labels rings parts scale h = ⊎_elim found none (some_bo
         ∙ labelled_all odd_ring p labels rings h.each apart
         ∙ sym (parity_by_rings test rings)
 
-    none : ((i : ℕ) (d : List Point) → i < length rings → is_in_box k x y (box_of (get_or rings i d)) ≡ false)
+    none : ((i : ℕ) (d : List Point) → i < length rings → is_in_box k x y (bounding_box (get_or rings i d)) ≡ false)
         → list_any (λ part. parity test (edges_of part)) parts ≡ parity test (edges_of rings)
     none out =
         let even = λ (j : ℕ) (d : List Point) (lj : j < length rings). even_outside k x y (get_or rings j d) scale (out j d lj) in

@@ -7,7 +7,7 @@ use Rattle.std.proofs.lemmas.Bool.Decides.{Decides-eqb}
 use Rattle.std.proofs.lemmas.List.{get_or_default, length-map}
 use Rattle.std.proofs.Math.ListN.{length-set}
 use Rattle.lay_point.specs.declared.point.Point.{Point}
-use Rattle.face_part_laws.specs.Parts.{AreJoined, ArePartsBy, Box, box_of, labelled, touch}
+use Rattle.face_part_laws.specs.Parts.{AreJoined, ArePartsBy, Box, bounding_box, touch, with_label}
 use Rattle.face_part_laws.specs.Heads.{AreDivided, AreFirst, IsFinest, IsNumbered}
 
 eq_cases : (l p : ℕ) (b : Bool) → (l == p) ≡ b → ((l ≡ p) × (b ≡ true)) ⊎ ((l ≢ p) × (b ≡ false))
@@ -188,26 +188,26 @@ map-set f (y ∷ xs) zero x = refl
 map-set f (y ∷ xs) (suc i) x = ap (λ l. f y ∷ l) (map-set f xs i x)
 
 labelled_here : {A : Type 0} (p : ℕ) (labels : List ℕ) (xs : List A) (l : ℕ) (x : A) → length labels ≡ length xs → l ≡ p
-    → labelled p (labels ++ l ∷ []) (xs ++ x ∷ []) ≡ labelled p labels xs ++ x ∷ []
+    → with_label p (labels ++ l ∷ []) (xs ++ x ∷ []) ≡ with_label p labels xs ++ x ∷ []
 labelled_here p [] [] l x same here =
     let t : (l == p) ≡ true = (Decides-eqb l p).1 here in rw t refl
 labelled_here p [] (y ∷ xs) l x same here = absurd (omega arith)
 labelled_here p (k ∷ ks) [] l x same here = absurd (omega arith)
 labelled_here p (k ∷ ks) (y ∷ xs) l x same here =
     let rest = labelled_here p ks xs l x (omega arith) here in
-    elim (k == p) as (λ b. cond b (y ∷ labelled p (ks ++ l ∷ []) (xs ++ x ∷ [])) (labelled p (ks ++ l ∷ []) (xs ++ x ∷ []))
-    ≡ cond b (y ∷ labelled p ks xs) (labelled p ks xs) ++ x ∷ []) [ true ↦ ap (λ z. y ∷ z) rest | false ↦ rest ]
+    elim (k == p) as (λ b. cond b (y ∷ with_label p (ks ++ l ∷ []) (xs ++ x ∷ [])) (with_label p (ks ++ l ∷ []) (xs ++ x ∷ []))
+    ≡ cond b (y ∷ with_label p ks xs) (with_label p ks xs) ++ x ∷ []) [ true ↦ ap (λ z. y ∷ z) rest | false ↦ rest ]
 
 labelled_other : {A : Type 0} (p : ℕ) (labels : List ℕ) (xs : List A) (l : ℕ) (x : A) → length labels ≡ length xs → l ≢ p
-    → labelled p (labels ++ l ∷ []) (xs ++ x ∷ []) ≡ labelled p labels xs
+    → with_label p (labels ++ l ∷ []) (xs ++ x ∷ []) ≡ with_label p labels xs
 labelled_other p [] [] l x same other = ⊎_elim (λ (here : (l ≡ p) × ((l == p) ≡ true)). absurd (other here.0))
     (λ (apart : (l ≢ p) × ((l == p) ≡ false)). rw apart.1 refl) (eq_cases l p (l == p) refl)
 labelled_other p [] (y ∷ xs) l x same other = absurd (omega arith)
 labelled_other p (k ∷ ks) [] l x same other = absurd (omega arith)
 labelled_other p (k ∷ ks) (y ∷ xs) l x same other =
     let rest = labelled_other p ks xs l x (omega arith) other in
-    elim (k == p) as (λ b. cond b (y ∷ labelled p (ks ++ l ∷ []) (xs ++ x ∷ [])) (labelled p (ks ++ l ∷ []) (xs ++ x ∷ []))
-    ≡ cond b (y ∷ labelled p ks xs) (labelled p ks xs)) [ true ↦ ap (λ z. y ∷ z) rest | false ↦ rest ]
+    elim (k == p) as (λ b. cond b (y ∷ with_label p (ks ++ l ∷ []) (xs ++ x ∷ [])) (with_label p (ks ++ l ∷ []) (xs ++ x ∷ []))
+    ≡ cond b (y ∷ with_label p ks xs) (with_label p ks xs)) [ true ↦ ap (λ z. y ∷ z) rest | false ↦ rest ]
 
 pub divided_more : {A : Type 0} (count : ℕ) (labels : List ℕ) (xs : List A) (parts : List (List A)) (l : ℕ) (x : A) (old new : List A)
     → AreDivided count labels xs parts → length labels ≡ length xs → l < count → old ≡ get_or parts l old → new ≡ old ++ x ∷ []
@@ -216,7 +216,7 @@ divided_more {A} count labels xs parts l x old new h same less is_old pushed = r
   each = length-set parts l new ∙ h.each;
   members = λ p d lt. ⊎_elim
       (λ (here : (l ≡ p) × (get_or (set parts l new) p d ≡ new)).
-      here.1 ∙ pushed ∙ ap (λ z. z ++ x ∷ []) (is_old ∙ h.members l old less ∙ ap (λ q. labelled q labels xs) here.0)
+      here.1 ∙ pushed ∙ ap (λ z. z ++ x ∷ []) (is_old ∙ h.members l old less ∙ ap (λ q. with_label q labels xs) here.0)
       ∙ sym (labelled_here p labels xs l x same here.0))
       (λ (other : (l ≢ p) × (get_or (set parts l new) p d ≡ get_or parts p d)).
       other.1 ∙ h.members p d lt ∙ sym (labelled_other p labels xs l x same other.0))
@@ -225,10 +225,10 @@ divided_more {A} count labels xs parts l x old new h same less is_old pushed = r
 
 -- ---- all together
 pub are_parts : (rings : List (List Point)) (boxes : List Box) (heads labels : List ℕ) (count : ℕ) (parts : List (List (List Point)))
-    → boxes ≡ map box_of rings → IsFinest (AreJoined boxes) (length boxes) heads → IsNumbered heads (length heads) labels count
+    → boxes ≡ map bounding_box rings → IsFinest (AreJoined boxes) (length boxes) heads → IsNumbered heads (length heads) labels count
     → AreDivided count labels rings parts → ArePartsBy labels rings parts
 are_parts rings boxes heads labels count parts is_boxes h numbered divided =
-    let n : length boxes ≡ length rings = ap length is_boxes ∙ length-map rings box_of in
+    let n : length boxes ≡ length rings = ap length is_boxes ∙ length-map rings bounding_box in
     let heads_n : length heads ≡ length rings = h.each ∙ n in
     record {
       each = numbered.each ∙ heads_n;

@@ -1,6 +1,6 @@
 -- How joined ones are found: each has a head, the first of those that it is joined to, directly or through others.
 use Rattle.std.specs.Prelude.{◌≡◌, ◌↔◌, ℕ, ◌<◌, ◌≤◌, List, length, slice_index, slice_index_or}
-use Rattle.face_part_laws.specs.Parts.{labelled}
+use Rattle.face_part_laws.specs.Parts.{with_label}
 
 -- a head is no later than what it is the head of, and is its own head
 abbrev pub AreFirst : List ℕ → Type 0
@@ -26,4 +26,4 @@ pub record IsNumbered (heads : List ℕ) (n : ℕ) (labels : List ℕ) (count : 
 -- so many parts, each with the elements that have its label
 pub record AreDivided {A : Type 0} (count : ℕ) (labels : List ℕ) (xs : List A) (parts : List (List A)) : Type 0 where
   pub each : length parts ≡ count
-  pub members : (p : ℕ) (d : List A) → p < count → slice_index_or parts p d ≡ labelled p labels xs
+  pub members : (p : ℕ) (d : List A) → p < count → slice_index_or parts p d ≡ with_label p labels xs

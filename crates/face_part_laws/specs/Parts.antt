@@ -21,9 +21,9 @@ grown_by b [] = b
 grown_by b (p ∷ ps) = grown_by (grown b p) ps
 
 -- the bounding box; a ring has points
-abbrev pub box_of : List Point → Box
-box_of [] = (record { x = pos 0; y = pos 0 }, record { x = pos 0; y = pos 0 })
-box_of (p ∷ ps) = grown_by (p, p) ps
+abbrev pub bounding_box : List Point → Box
+bounding_box [] = (record { x = pos 0; y = pos 0 }, record { x = pos 0; y = pos 0 })
+bounding_box (p ∷ ps) = grown_by (p, p) ps
 
 -- p is neither to the right of q nor above it
 abbrev pub is_up_to : Point → Point → Bool
@@ -43,24 +43,24 @@ AreJoined boxes i j = (i < length boxes) × (j < length boxes)
     × ((d : Box) → touch (slice_index_or boxes i d) (slice_index_or boxes j d) ≡ true)
 
 -- those of the elements whose label is p, in order
-abbrev pub labelled : {A : Type 0} → ℕ → List ℕ → List A → List A
-labelled p [] xs = []
-labelled p (l ∷ ls) [] = []
-labelled p (l ∷ ls) (x ∷ xs) = if l == p then x ∷ labelled p ls xs else labelled p ls xs
+abbrev pub with_label : {A : Type 0} → ℕ → List ℕ → List A → List A
+with_label p [] xs = []
+with_label p (l ∷ ls) [] = []
+with_label p (l ∷ ls) (x ∷ xs) = if l == p then x ∷ with_label p ls xs else with_label p ls xs
 
 -- each ring has a label, the number of its part
 pub record ArePartsBy (labels : List ℕ) (rings : List (List Point)) (parts : List (List (List Point))) : Type 0 where
   pub each : length labels ≡ length rings
   pub within : (i : ℕ) → i < length rings → slice_index labels i < length parts
   -- joined rings are in one part, and in each division of the rings of which that is so the rings of a part are together
-  pub joined : (i j : ℕ) → AreJoined (map box_of rings) i j → slice_index labels i ≡ slice_index labels j
-  pub finest : (other : ℕ → ℕ) → ((i j : ℕ) → AreJoined (map box_of rings) i j → other i ≡ other j)
+  pub joined : (i j : ℕ) → AreJoined (map bounding_box rings) i j → slice_index labels i ≡ slice_index labels j
+  pub finest : (other : ℕ → ℕ) → ((i j : ℕ) → AreJoined (map bounding_box rings) i j → other i ≡ other j)
       → (i j : ℕ) → i < length rings → j < length rings → slice_index labels i ≡ slice_index labels j → other i ≡ other j
   -- parts come in the order of their first rings, and none is empty
   pub ordered : (i p : ℕ) → i < length rings → p < slice_index labels i → (j : ℕ) × (j < i) × (slice_index labels j ≡ p)
   pub used : (p : ℕ) → p < length parts → (j : ℕ) × (j < length rings) × (slice_index labels j ≡ p)
   -- a part has its rings in their order
-  pub rings_of_part : (p : ℕ) (d : List (List Point)) → p < length parts → slice_index_or parts p d ≡ labelled p labels rings
+  pub rings_of_part : (p : ℕ) (d : List (List Point)) → p < length parts → slice_index_or parts p d ≡ with_label p labels rings
 
 abbrev pub AreParts : List (List Point) → List (List (List Point)) → Type 0
 AreParts rings parts = (labels : List ℕ) × ArePartsBy labels rings parts

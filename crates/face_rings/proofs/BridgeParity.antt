@@ -2,7 +2,7 @@
 -- leave out edges without a length.
 use Rattle.std.proofs.Common.{◌≡◌, Bool, true, false, cond, List, [], ◌∷◌, ◌++◌, ℤ, refl, sym, ap, ◌∙◌, subst, append_assoc, arith}
 use Rattle.lay_point.specs.declared.point.Point.{Point}
-use Rattle.lay_point.specs.Bridges.{bridged, further, joined}
+use Rattle.lay_point.specs.Bridges.{bridged, further, round_all}
 use Rattle.lay_point.specs.Parity.{xor, parity, odd, is_crossed}
 use Rattle.lay_point.specs.Points.{point_eq}
 use Rattle.lay_point.specs.RingEdges.{pairs, edges_of_ring, edges_of}
@@ -77,7 +77,7 @@ parity_of_further test laws start (ring ∷ next ∷ rings) =
     ∙ sym (parity-append test (edges_of_ring ring) (edges_of (next ∷ rings)))
 
 parity_of_joined : (test : Point × Point → Bool) → IsEdgeTest test → (start : Point) (points : List Point) (rings : List (List Point))
-    → parity test (edges_of_ring (joined ((start ∷ points) ∷ rings))) ≡ parity test (edges_of ((start ∷ points) ∷ rings))
+    → parity test (edges_of_ring (round_all ((start ∷ points) ∷ rings))) ≡ parity test (edges_of ((start ∷ points) ∷ rings))
 parity_of_joined test laws start points [] =
     let ring = parity test (edges_of_ring (start ∷ points)) in
     sym (xor_false ring) ∙ sym (parity-append test (edges_of_ring (start ∷ points)) [])
@@ -98,14 +98,14 @@ pub odd-without_repeats : (ps : List Point) (k x y : ℤ) → odd (edges_of_ring
 unfolding odd
 odd-without_repeats ps k x y = parity-without_repeats (is_crossed k x y) (is_crossed-IsEdgeTest k x y) ps
 
-pub odd-joined : (ring : List Point) (rings : List (List Point)) → IsRing ring
-    → (k x y : ℤ) → odd (edges_of_ring (joined (ring ∷ rings))) k x y ≡ odd (edges_of (ring ∷ rings)) k x y
+pub odd-round_all : (ring : List Point) (rings : List (List Point)) → IsRing ring
+    → (k x y : ℤ) → odd (edges_of_ring (round_all (ring ∷ rings))) k x y ≡ odd (edges_of (ring ∷ rings)) k x y
 unfolding odd
-odd-joined [] rings h k x y = absurd (omega (arith, h.enough))
-odd-joined (start ∷ points) rings h k x y = parity_of_joined (is_crossed k x y) (is_crossed-IsEdgeTest k x y) start points rings
+odd-round_all [] rings h k x y = absurd (omega (arith, h.enough))
+odd-round_all (start ∷ points) rings h k x y = parity_of_joined (is_crossed k x y) (is_crossed-IsEdgeTest k x y) start points rings
 
 -- the law of the bridged path
 pub odd-bridged : (ring : List Point) (rings : List (List Point)) → IsRing ring
     → (k x y : ℤ) → odd (edges_of_ring (bridged (ring ∷ rings))) k x y ≡ odd (edges_of (ring ∷ rings)) k x y
 unfolding bridged
-odd-bridged ring rings h k x y = odd-without_repeats (joined (ring ∷ rings)) k x y ∙ odd-joined ring rings h k x y
+odd-bridged ring rings h k x y = odd-without_repeats (round_all (ring ∷ rings)) k x y ∙ odd-round_all ring rings h k x y

@@ -23,7 +23,7 @@ use Rattle.face_rings.specs.declared.incidence.End.{End}
 use Rattle.face_rings.specs.declared.incidence.Incidence.{Incidence}
 use Rattle.face_rings.specs.Incidence.{AreEndsOf, IsIncidence, IsUsedAt, KeepsMarks, end_cmp, point_cmp, left_of}
 use Rattle.face_part_laws.proofs.PartLemmas.{get_or-set}
-use Rattle.face_link_laws.specs.Linking.{Ends, behind, take_at}
+use Rattle.face_link_laws.specs.Linking.{Ends, keeping_first, take_at}
 
 -- ---- what `!=` of points answers
 pub not_other : (p q : Point) → false ≡ not (point_eq p q) → p ≡ q
@@ -157,7 +157,7 @@ take_unused at (e ∷ es) (true ∷ marks) (suc i) d less same left here before 
 take_unused at (e ∷ es) (false ∷ marks) (suc i) d less same left here before =
     let off : touches at e ≡ false = before zero (omega arith) refl in
     let further = take_unused at es marks i d (omega arith) (omega arith) left here (λ j lt. before (suc j) (omega arith)) in
-    rw off (ap (behind e) further)
+    rw off (ap (keeping_first e) further)
 
 pub none_unused : (at : Point) (es : List Ends) (marks : List Bool) (d : Ends)
     → ((j : ℕ) → j < length es → get_or marks j true ≡ false → touches at (get_or es j d) ≡ false)
@@ -168,7 +168,7 @@ none_unused at (e ∷ es) (true ∷ marks) d before = none_unused at es marks d 
 none_unused at (e ∷ es) (false ∷ marks) d before =
     let off : touches at e ≡ false = before zero (omega arith) refl in
     let further = none_unused at es marks d (λ j lt. before (suc j) (omega arith)) in
-    rw off (ap (behind e) further)
+    rw off (ap (keeping_first e) further)
 
 not_true : (b : Bool) → (b ≡ true → ⊥) → b ≡ false
 not_true true h = absurd (h refl)

@@ -11,7 +11,7 @@ use Rattle.lay_point.specs.Rings.{IsRing}
 use Rattle.lay_point.proofs.Members.{Has, contains, has-append_right}
 use Rattle.face_rings.specs.declared.incidence.Incidence.{Incidence}
 use Rattle.face_rings.specs.Incidence.{IsIncidence, KeepsMarks, left_of}
-use Rattle.face_link_laws.specs.Linking.{Ends, behind_first, first_ring, rings_of}
+use Rattle.face_link_laws.specs.Linking.{Ends, behind_first, first_ring, linked_rings}
 use Rattle.face_link_laws.proofs.RingLaws.{AreSound, ring_from_sound}
 use Rattle.face_link_laws.proofs.StepLemmas.{next_ring_is, one_more_ring, sound_next}
 
@@ -38,8 +38,8 @@ none_left (e ∷ es) (m ∷ used) same all =
 pub record IsLinking (edges : List Ends) (i : Incidence) (number : ℕ) (rings : List (List Point)) : Type 0 where
   pub sound : IsIncidence edges i
   pub before : (k : ℕ) → k < number → get_or i.used.items k true ≡ true
-  pub whole : rings ++ rings_of (left_of edges i.used.items) ≡ rings_of edges
-  pub rest : AreSound (rings_of (left_of edges i.used.items))
+  pub whole : rings ++ linked_rings (left_of edges i.used.items) ≡ linked_rings edges
+  pub rest : AreSound (linked_rings (left_of edges i.used.items))
   pub short : AllByRecursion (λ ring. length ring ≤ MAX_RING_POINTS) rings
 
 before_next : (used : List Bool) (n : ℕ) → ((k : ℕ) → k < n → get_or used k true ≡ true) → get_or used n true ≡ true
@@ -92,37 +92,37 @@ linking_goes_on edges i i' n rings more ring h less here sound' keeps marked is_
     record {
       sound = sound';
       before = before_next i'.used.items n (λ k lt. keeps k (h.before k lt)) marked;
-      whole = one_more_ring rings more (rings_of edges) ring left (left_of edges i'.used.items) (get_or edges n d)
+      whole = one_more_ring rings more (linked_rings edges) ring left (left_of edges i'.used.items) (get_or edges n d)
           (left_of edges (set i.used.items n true)) first h.whole pushed is_ring behind;
-      rest = subst (λ l. AreSound (rings_of l)) (sym behind) next.1;
+      rest = subst (λ l. AreSound (linked_rings l)) (sym behind) next.1;
       short = subst (AllByRecursion (λ r. length r ≤ MAX_RING_POINTS)) (sym pushed)
           (short_push rings ring h.short (subst (λ r. length r ≤ MAX_RING_POINTS) (sym is_ring) few));
     }
 
-rings_of-none : rings_of [] ≡ []
-unfolding rings_of
-rings_of-none = refl
+linked_rings-none : linked_rings [] ≡ []
+unfolding linked_rings
+linked_rings-none = refl
 
 pub linking_ends : (edges : List Ends) (i : Incidence) (n : ℕ) (rings : List (List Point)) → IsLinking edges i n rings → length edges ≤ n
-    → rings ≡ rings_of edges
+    → rings ≡ linked_rings edges
 linking_ends edges i n rings h all =
     let none = none_left edges i.used.items h.sound.marks (λ k lt. h.before k (omega arith)) in
-    sym (append-nil rings) ∙ ap (λ rs. rings ++ rs) (sym rings_of-none) ∙ ap (λ l. rings ++ rings_of l) (sym none) ∙ h.whole
+    sym (append-nil rings) ∙ ap (λ rs. rings ++ rs) (sym linked_rings-none) ∙ ap (λ l. rings ++ linked_rings l) (sym none) ∙ h.whole
 
 -- a ring that is too long is one of all
 pub linking_too_long : (edges : List Ends) (i : Incidence) (n : ℕ) (rings : List (List Point)) → IsLinking edges i n rings
     → n < length edges
     → get_or i.used.items n true ≡ false → MAX_RING_POINTS < length (first_ring (left_of edges i.used.items))
-    → Any (λ r. MAX_RING_POINTS < length r) (rings_of edges)
+    → Any (λ r. MAX_RING_POINTS < length r) (linked_rings edges)
 linking_too_long edges i n rings h less here long =
     let d : Ends = (record { x = pos 0; y = pos 0 }, record { x = pos 0; y = pos 0 }) in
     let left = left_of edges i.used.items in
     let next = next_ring_is left (get_or edges n d) (left_of edges (set i.used.items n true))
     (linking_first edges i n rings h less here d) in
-    let member : Has (rings_of edges) (first_ring left) =
+    let member : Has (linked_rings edges) (first_ring left) =
     subst (λ rs. Has rs (first_ring left)) (ap (λ rs. rings ++ rs) (sym next) ∙ h.whole)
-    (has-append_right rings (first_ring left ∷ rings_of (behind_first left)) (first_ring left) (inl refl)) in
-    let c = contains (rings_of edges) (first_ring left) member in
+    (has-append_right rings (first_ring left ∷ linked_rings (behind_first left)) (first_ring left) (inl refl)) in
+    let c = contains (linked_rings edges) (first_ring left) member in
     (c.0, first_ring left, c.1, c.2, long)
 
 pub all_short : (rings : List (List Point)) → AllByRecursion (λ r. length r ≤ MAX_RING_POINTS) rings

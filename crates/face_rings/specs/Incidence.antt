@@ -24,13 +24,13 @@ abbrev pub end_cmp : End → End → Ordering
 end_cmp = then_cmp (on (λ e. e.at) point_cmp) (on (λ e. e.edge) nat_cmp)
 
 -- the end stands at an end of the edge of its number
-abbrev pub IsEndOf : List Ends → End → Type 0
-IsEndOf edges end = (end.edge < length edges) × ((d : Ends) → IsTrue (touches end.at (slice_index_or edges end.edge d)))
+abbrev pub IsAtEdgeEnd : List Ends → End → Type 0
+IsAtEdgeEnd edges end = (end.edge < length edges) × ((d : Ends) → IsTrue (touches end.at (slice_index_or edges end.edge d)))
 
 -- the ends of the edges, in order
 pub record AreEndsOf (edges : List Ends) (ends : List End) : Type 0 where
   pub sorted : IsSorted end_cmp ends
-  pub exact : (end : End) → Contains ends end ↔ IsEndOf edges end
+  pub exact : (end : End) → Contains ends end ↔ IsAtEdgeEnd edges end
 
 -- the edge of the end at this index is used
 abbrev pub IsUsedAt : List Bool → List End → ℕ → Type 0

@@ -1,6 +1,6 @@
 //! One path round all rings of a shape.
 ghost use Rattle.std.specs.Prelude.{◌≡◌, ◌++◌, ◌∷◌, ℤ, IfOk, OnOk};
-ghost use Rattle.lay_point.specs.Bridges.{bridged, further, joined};
+ghost use Rattle.lay_point.specs.Bridges.{bridged, further, round_all};
 ghost use Rattle.lay_point.specs.Parity.{odd};
 ghost use Rattle.lay_point.specs.RingEdges.{edges_of, edges_of_ring};
 ghost use Rattle.lay_point.specs.Rings.{IsRing, closed};
@@ -30,7 +30,7 @@ pub fn bridge(alloc: Global, rings: &[Ring]) -> Result<Vec<Point>, NoMemory>
 /// Returns the path round the first ring and the others, with its repeats.
 fn joined(alloc: Global, first: &[Point], others: &[Ring]) -> Result<Vec<Point>, NoMemory>
     requires { IsRing first.now }
-    ensures { IfOk result (λ path. path.items ≡ joined (first.now ∷ others.now)) }
+    ensures { IfOk result (λ path. path.items ≡ round_all (first.now ∷ others.now)) }
 {
     let mut path = first.to_vec(alloc)?;
     if !others.is_empty() {

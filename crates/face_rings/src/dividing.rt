@@ -19,7 +19,7 @@ ghost use Rattle.std.specs.List.{list_any};
 ghost use Rattle.lay_point.specs.declared.point.Point.{Point};
 ghost use Rattle.lay_point.specs.Parity.{odd};
 ghost use Rattle.lay_point.specs.RingEdges.{edges_of};
-ghost use Rattle.face_part_laws.specs.Parts.{AreParts, box_of};
+ghost use Rattle.face_part_laws.specs.Parts.{AreParts, bounding_box};
 ghost use Rattle.face_part_laws.specs.Heads.{AreDivided, AreFirst, IsNumbered};
 
 use face_joins::{Bounds, bounds_of, joined_heads};
@@ -48,7 +48,7 @@ pub fn parts(alloc: Global, rings: Vec<Ring>) -> Result<Vec<Vec<Ring>>, NoMemory
 
 /// Returns the bounding boxes of the rings.
 fn boxes_of(alloc: Global, rings: &[Ring]) -> Result<Vec<Bounds>, AllocError>
-    ensures { IfOk result (λ boxes. boxes.items ≡ map box_of rings.now) }
+    ensures { IfOk result (λ boxes. boxes.items ≡ map bounding_box rings.now) }
 {
     let mut boxes = Vec::new(alloc);
     for ring in rings {

@@ -34,7 +34,7 @@ ghost use Rattle.lay_point.specs.Rings.{IsRing};
 ghost use Rattle.lay_point.specs.Rising.{IsRising};
 ghost use Rattle.face_rings.specs.Incidence.{IsIncidence, KeepsMarks, left_of};
 ghost use Rattle.face_link_laws.specs.Linked.{AreLinked};
-ghost use Rattle.face_link_laws.specs.Linking.{Ends, behind_first, first_ring, other_end, rings_of, way};
+ghost use Rattle.face_link_laws.specs.Linking.{Ends, behind_first, first_ring, linked_rings, other_end, way};
 
 use crate::fault::LinkFault;
 use crate::incidence::Incidence;
@@ -52,7 +52,7 @@ pub fn link(alloc: Global, edges: &[Edge]) -> Result<Vec<Ring>, LinkFault>
     requires rising { IsRising IsEdgeBefore edges.now }
     requires in_range { All (λ e. IsTrue (is_in_range e.0 && is_in_range e.1)) edges.now }
     requires even { (v : Point) → parity (touches v) edges.now ≡ false }
-    ensures value { IfOk result (λ rings. rings.items ≡ rings_of edges.now) }
+    ensures value { IfOk result (λ rings. rings.items ≡ linked_rings edges.now) }
     ensures linked { IfOk result (λ rings. AreLinked edges.now [] rings.items) }
 
     // For each test as many of the rings' edges pass as of the edges.
@@ -62,8 +62,8 @@ pub fn link(alloc: Global, edges: &[Edge]) -> Result<Vec<Ring>, LinkFault>
     // The place (x, y) at scale k stands for (x / k, y / k) where 1 ≤ k; the law holds for all k.
     ensures parity { IfOk result (λ rings.
         (k x y : ℤ) → odd (edges_of rings.items) k x y ≡ odd edges.now k x y) }
-    ensures short { OnOk result (All (λ ring. length ring ≤ most) (rings_of edges.now)) }
-    ensures too_many { IsErrOf result LinkFault.TooMany → Any (λ ring. most < length ring) (rings_of edges.now) }
+    ensures short { OnOk result (All (λ ring. length ring ≤ most) (linked_rings edges.now)) }
+    ensures too_many { IsErrOf result LinkFault.TooMany → Any (λ ring. most < length ring) (linked_rings edges.now) }
 {
     let mut unused = Incidence::new(alloc, edges)?;
     let mut rings = Vec::new(alloc);

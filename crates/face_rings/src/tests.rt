@@ -5,7 +5,7 @@ ghost use Rattle.lay_point.specs.declared.point.Point.{Point};
 ghost use Rattle.lay_point.specs.Parity.{odd};
 ghost use Rattle.lay_point.specs.RingEdges.{edges_of_ring};
 ghost use Rattle.lay_point.specs.Rings.{rectangle};
-ghost use Rattle.face_link_laws.specs.Linking.{rings_of};
+ghost use Rattle.face_link_laws.specs.Linking.{linked_rings};
 
 use super::*;
 use lay_point::{Point, Ring};
@@ -86,10 +86,10 @@ fn a_square_has_these_places_inside()
 
 // Could catch a rule that starts a ring elsewhere, goes the other way round, or goes straight on where two
 // rings meet: of the squares from (0, 0) to (2, 2) and from (2, 2) to (4, 4) each is a ring of its own.
-#[tactic(auto, unfolding(face_link_laws::specs::Linking::rings_of))]
+#[tactic(auto, unfolding(face_link_laws::specs::Linking::linked_rings))]
 fn squares_that_meet_at_a_corner_are_two_rings()
     ensures { let at : ℕ → ℕ → Point = λ x y. record { x = pos x; y = pos y } in
-        rings_of ((at 0 0, at 0 2) ∷ (at 0 0, at 2 0) ∷ (at 0 2, at 2 2) ∷ (at 2 0, at 2 2)
+        linked_rings ((at 0 0, at 0 2) ∷ (at 0 0, at 2 0) ∷ (at 0 2, at 2 2) ∷ (at 2 0, at 2 2)
         ∷ (at 2 2, at 2 4) ∷ (at 2 2, at 4 2) ∷ (at 2 4, at 4 4) ∷ (at 4 2, at 4 4) ∷ [])
         ≡ (at 0 0 ∷ at 0 2 ∷ at 2 2 ∷ at 2 0 ∷ []) ∷ (at 2 2 ∷ at 2 4 ∷ at 4 4 ∷ at 4 2 ∷ []) ∷ [] }
 {}

@@ -11,7 +11,7 @@ use Rattle.lay_point.specs.Edges.{touches}
 use Rattle.lay_point.specs.Parity.{distance_right, is_crossed}
 use Rattle.lay_point.specs.Points.{point_eq}
 use Rattle.lay_point.proofs.EdgeOrder.{same_by_test, same_point}
-use Rattle.snap_edge_test.specs.Edges.{IsBetween, IsEnd, IsOn}
+use Rattle.snap_edge_test.specs.Edges.{IsBetween, IsEndpoint, IsOn}
 use Rattle.snap_edge_test.specs.Meeting.{MeetAtEnds}
 use Rattle.snap_edge_test.proofs.Lines.{first_on, last_on}
 use Rattle.face_side_laws.proofs.Level.{Edge, beyond, from_on, in_row, level_no_row, right_of_point}
@@ -40,20 +40,20 @@ one_times z = identity (z ∷ []) (lit (pos 1) ⊗ # 0) (# 0) refl
 
 -- an end of an edge that is on a level edge is an end of that one
 pub level_end : (p q v : Point) (w : Edge) → p.y ≡ q.y → v.y ≡ q.y → IsBetween p.x v.x q.x → touches v w ≡ true
-    → ((p, q) ≡ w) ⊎ MeetAtEnds (p, q) w → IsEnd v p q
+    → ((p, q) ≡ w) ⊎ MeetAtEnds (p, q) w → IsEndpoint v p q
 level_end p q v w level height between touching (inl same) = ends_of p q (subst (λ f. touches v f ≡ true) (sym same) touching)
   where
-    ends_of : (a b : Point) → touches v (a, b) ≡ true → IsEnd v a b
+    ends_of : (a b : Point) → touches v (a, b) ≡ true → IsEndpoint v a b
     ends_of a b t = by_test (point_eq a v) refl t
       where
-        by_test : (s : Bool) → point_eq a v ≡ s → (s || point_eq b v) ≡ true → IsEnd v a b
+        by_test : (s : Bool) → point_eq a v ≡ s → (s || point_eq b v) ≡ true → IsEndpoint v a b
         by_test true e g = inl (sym (same_by_test a v e))
         by_test false e g = inr (sym (same_by_test b v g))
 level_end p q v w level height between touching (inr meet) =
     let on = level_on p q (pos 1) v.x v.y level (height ∙ sym (one_times q.y)) (scaled between) in
     let shared = meet (pos 1) v.x v.y (omega (arith, linear)) on (end_on (point_eq w.0 v) refl touching) in
     let same : v ≡ shared.end = same_point v shared.end (shared.column ∙ one_times shared.end.x) (shared.row ∙ one_times shared.end.y) in
-    subst (λ z. IsEnd z p q) (sym same) shared.of_first
+    subst (λ z. IsEndpoint z p q) (sym same) shared.of_first
   where
     scaled : IsBetween p.x v.x q.x → IsBetween (pos 1 *ℤ p.x) v.x (pos 1 *ℤ q.x)
     scaled (inl h) = inl (omega (arith, linear, one_times p.x, h.0), omega (arith, linear, one_times q.x, h.1))
@@ -94,7 +94,7 @@ inside_level u v c d level low high rises meet between =
     weak w a b x (inr h) = inr (omega (arith, linear, h.0), omega (arith, linear, h.1))
 
     not_end : (w : ℤ) (u v : Point) (x : ℤ) → (((w *ℤ u.x) <ℤ x) × (x <ℤ (w *ℤ v.x))) ⊎ (((w *ℤ v.x) <ℤ x) × (x <ℤ (w *ℤ u.x)))
-        → (e : Point) → IsEnd e u v → x ≡ w *ℤ e.x → ⊥
+        → (e : Point) → IsEndpoint e u v → x ≡ w *ℤ e.x → ⊥
     not_end w u v x between e (inl same) at =
         let there = at ∙ ap (λ (p : Point). w *ℤ p.x) same in
         ⊎_elim (λ (h : ((w *ℤ u.x) <ℤ x) × (x <ℤ (w *ℤ v.x))). omega (arith, linear, there, h.0))
@@ -270,7 +270,7 @@ not_nested u u' v level level' order meet =
     near (inl h) = inl (omega (arith, linear, h.1), omega (arith, linear, h.1))
     near (inr h) = inr (omega (arith, linear, h.1), omega (arith, linear, h.1))
 
-    not_end : ((u.x ≤ℤ u'.x) × (u'.x <ℤ v.x)) ⊎ ((u'.x ≤ℤ u.x) × (v.x <ℤ u'.x)) → (e : Point) → IsEnd e u' v
+    not_end : ((u.x ≤ℤ u'.x) × (u'.x <ℤ v.x)) ⊎ ((u'.x ≤ℤ u.x) × (v.x <ℤ u'.x)) → (e : Point) → IsEndpoint e u' v
         → u'.x +ℤ v.x ≡ pos 2 *ℤ e.x → ⊥
     not_end (inl h) e (inl same) at = let there = at ∙ ap (λ (p : Point). pos 2 *ℤ p.x) same in omega (arith, linear, there, h.1)
     not_end (inl h) e (inr same) at = let there = at ∙ ap (λ (p : Point). pos 2 *ℤ p.x) same in omega (arith, linear, there, h.1)

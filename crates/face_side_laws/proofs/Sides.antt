@@ -9,7 +9,7 @@ use Rattle.lay_int_laws.proofs.Signs.{below_or_not, below_or_same, cancel_lt, ca
 use Rattle.lay_int_laws.proofs.Signs.{linear, nonnegative_product, positive_product, times_le}
 use Rattle.lay_point.specs.declared.point.Point.{Point}
 use Rattle.lay_point.specs.Parity.{distance_right}
-use Rattle.snap_edge_test.specs.Edges.{IsBetween, IsEnd, IsOn}
+use Rattle.snap_edge_test.specs.Edges.{IsBetween, IsEndpoint, IsOn}
 use Rattle.snap_edge_test.proofs.Places.{turned_on}
 use Rattle.snap_edge_test.specs.Meeting.{MeetAtEnds}
 
@@ -85,8 +85,8 @@ scaled_k h m l z = identity (h ∷ m ∷ l ∷ z ∷ []) ((# 0 ⊗ # 1 ⊕ # 0 �
 -- an end of both edges at the height of those weights
 pub record IsEndAt (a b c d : Point) (m l : ℤ) : Type 0 where
   pub end : Point
-  pub of_first : IsEnd end a b
-  pub of_second : IsEnd end c d
+  pub of_first : IsEndpoint end a b
+  pub of_second : IsEndpoint end c d
   pub height : mixed m l c.y d.y ≡ (m +ℤ l) *ℤ end.y
 
 pub common_end : (a b c d : Point) (m l : ℤ) → MeetAtEnds (a, b) (c, d) → a.y <ℤ b.y → pos 0 ≤ℤ m → pos 0 ≤ℤ l → pos 1 ≤ℤ (m +ℤ l)
@@ -277,7 +277,7 @@ within a b c d m l h = record {
   below = omega (arith, linear, h.below);
 }
 
-end_not_inside : (a b v : Point) → IsEnd v a b → a.y <ℤ v.y → v.y <ℤ b.y → ⊥
+end_not_inside : (a b v : Point) → IsEndpoint v a b → a.y <ℤ v.y → v.y <ℤ b.y → ⊥
 end_not_inside a b v (inl same) low high = let e = ap (λ (p : Point). p.y) same in omega (arith, linear)
 end_not_inside a b v (inr same) low high = let e = ap (λ (p : Point). p.y) same in omega (arith, linear)
 
@@ -349,7 +349,7 @@ scale_there c d k y z =
     identity (c.y ∷ d.y ∷ k ∷ y ∷ z ∷ []) (((# 2 ⊗ # 1 ⊖ # 3) ⊕ (# 3 ⊖ # 2 ⊗ # 0)) ⊗ # 4) ((# 1 ⊖ # 0) ⊗ (# 2 ⊗ # 4)) refl
 
 -- ---- from the other end
-turned_end : (v a b : Point) → IsEnd v a b → IsEnd v b a
+turned_end : (v a b : Point) → IsEndpoint v a b → IsEndpoint v b a
 turned_end v a b (inl e) = inr e
 turned_end v a b (inr e) = inl e
 

@@ -9,9 +9,9 @@ use Rattle.std.proofs.lemmas.Slice.Eq.{bytes_eq-Decides}
 use Rattle.session_steps.specs.declared.Step.{Step}
 use Rattle.job_text.specs.declared.job.JobFault.{JobFault}
 use Rattle.job_text.specs.declared.job.JobFault.TheVariants.{Line}
-use Rattle.job_text.specs.Job.{◌>>=◌, is_none_of, is_only, is_only_number, is_session, is_session_number, with_step}
-use Rattle.job_text.specs.Steps.{Word, command_of, op_of, short_command, step_named, step_of}
-use Rattle.job_text.specs.Words.{number_of}
+use Rattle.job_text.specs.Job.{◌>>=◌, is_none_of, is_only, is_only_number, is_session_line, is_session_number, steps_with}
+use Rattle.job_text.specs.Steps.{Word, command_named, op_of, short_command, step_named, step_of}
+use Rattle.job_text.specs.Words.{parsed_number}
 
 -- the result of an `if`, by what it comes from
 pub choose : {A P : Type 0} (b : Bool) (x y r : A) → (if b then x else y) ≡ r → (b ≡ true → x ≡ r → P) → (b ≡ false → y ≡ r → P) → P
@@ -53,12 +53,12 @@ number_is (Some m) n h =
 pub record AreSession (session : ℕ) (ws : List Word) : Type 0 where
   pub word : Word
   pub words : ws ≡ codes "%session" ∷ word ∷ []
-  pub number : number_of 64 word ≡ Some session
+  pub number : parsed_number 64 word ≡ Some session
 
 three_same : (v w name : Word) (ws : List Word) → v ≡ name → ws ≡ [] → v ∷ w ∷ ws ≡ name ∷ w ∷ []
 three_same v w name ws first rest = cc
 
-pub session_is : (session : ℕ) (ws : List Word) → is_session session ws ≡ true → AreSession session ws
+pub session_is : (session : ℕ) (ws : List Word) → is_session_line session ws ≡ true → AreSession session ws
 session_is session [] h = absurd (cc)
 session_is session (v ∷ []) h = absurd (no_and (bytes_eq v (codes "%session")) h) where
   no_and : (b : Bool) → (b && false) ≡ true → ⊥
@@ -70,16 +70,16 @@ session_is session (v ∷ w ∷ ws) h =
     record {
       word = w;
       words = three_same v w (codes "%session") ws ((bytes_eq-Decides v (codes "%session")).0 parts.0) (none_is ws more.1);
-      number = number_is (number_of 64 w) session more.0;
+      number = number_is (parsed_number 64 w) session more.0;
     }
 
 eq_same : (n : ℕ) → nat_eq n n ≡ true
 eq_same n = grind (arith, nat_tests)
 
-pub is_the_session : (session : ℕ) (ws : List Word) → AreSession session ws → is_session session ws ≡ true
+pub is_the_session : (session : ℕ) (ws : List Word) → AreSession session ws → is_session_line session ws ≡ true
 is_the_session session ws is =
     let word = is.word in
-    ap (is_session session) is.words
+    ap (is_session_line session) is.words
     ∙ ap (λ o. option_eq nat_eq o (Some session) && true) is.number
     ∙ ap (λ t. t && true) (eq_same session)
 
@@ -89,11 +89,11 @@ no_step : {P : Type 0} (ws : List Word) (step : Step) → step_of ws ≡ None �
 no_step ws step none some = absurd (cc)
 
 order_no_step : step_of (codes "%order" ∷ []) ≡ None
-unfolding step_of step_named command_of short_command op_of
+unfolding step_of step_named command_named short_command op_of
 order_no_step = refl
 
 session_no_step : (word : Word) → step_of (codes "%session" ∷ word ∷ []) ≡ None
-unfolding step_of step_named command_of short_command op_of
+unfolding step_of step_named command_named short_command op_of
 session_no_step word = refl
 
 by_test : (b : Bool) → (b ≡ true → ⊥) → b ≡ false
@@ -105,9 +105,9 @@ step_no_order ws step h =
     by_test (is_only (codes "%order") ws) λ is.
     no_step ws step (ap step_of (only_is (codes "%order") ws is) ∙ order_no_step) h
 
-pub step_no_session : (session : ℕ) (ws : List Word) (step : Step) → step_of ws ≡ Some step → is_session session ws ≡ false
+pub step_no_session : (session : ℕ) (ws : List Word) (step : Step) → step_of ws ≡ Some step → is_session_line session ws ≡ false
 step_no_session session ws step h =
-    by_test (is_session session ws) λ is.
+    by_test (is_session_line session ws) λ is.
     let named = session_is session ws is in
     no_step ws step (ap step_of named.words ∙ session_no_step named.word) h
 
@@ -134,18 +134,18 @@ by_words steps n ws f b false h blank said = by_step steps n f b (step_of ws) h 
 
 -- what a line does to the steps so far
 pub stepped : {B P : Type 0} (steps : List Step) (n : ℕ) (ws : List Word) (f : List Step → Result B JobFault) (b : B)
-    → (with_step steps n ws >>= f) ≡ Ok b → (ws ≡ [] → f steps ≡ Ok b → P)
+    → (steps_with steps n ws >>= f) ≡ Ok b → (ws ≡ [] → f steps ≡ Ok b → P)
     → ((step : Step) → step_of ws ≡ Some step → f (steps ++ step ∷ []) ≡ Ok b → P) → P
-unfolding with_step
+unfolding steps_with
 stepped steps n ws f b h blank said = by_words steps n ws f b (is_none_of ws) h (λ e. blank (none_is ws e)) said
 
-pub with_none : (steps : List Step) (n : ℕ) (ws : List Word) → ws ≡ [] → with_step steps n ws ≡ Ok steps
-unfolding with_step
-with_none steps n ws h = ap (with_step steps n) h
+pub with_none : (steps : List Step) (n : ℕ) (ws : List Word) → ws ≡ [] → steps_with steps n ws ≡ Ok steps
+unfolding steps_with
+with_none steps n ws h = ap (steps_with steps n) h
 
 pub with_some : (steps : List Step) (n : ℕ) (ws : List Word) (step : Step) → step_of ws ≡ Some step
-    → with_step steps n ws ≡ Ok (steps ++ step ∷ [])
-unfolding with_step
+    → steps_with steps n ws ≡ Ok (steps ++ step ∷ [])
+unfolding steps_with
 with_some steps n ws step h =
     ap (λ t. if t then Ok steps else (ok_or (step_of ws) (Line n) >>= λ s. Ok (steps ++ s ∷ []))) (step_some ws step h)
     ∙ ap (λ o. ok_or o (Line n) >>= λ s. Ok (steps ++ s ∷ [])) h

@@ -6,57 +6,57 @@ use Rattle.job_text.specs.Job.{is_section, named_in, one_by_one, total_len}
 use Rattle.job_text.specs.Jobs.{Job}
 use Rattle.job_text.specs.Lines.{lines}
 use Rattle.job_text.specs.Steps.{Word, step_of}
-use Rattle.job_text.specs.Words.{is_number, number_of, words_of}
+use Rattle.job_text.specs.Words.{is_number, parsed_number, words_of}
 
-abbrev pub Line : Type 0
-Line = List ℕ
+abbrev pub JobLine : Type 0
+JobLine = List ℕ
 
 -- the lines, one after the other
-abbrev pub all_of : List Line → List ℕ
+abbrev pub all_of : List JobLine → List ℕ
 all_of [] = []
 all_of (line ∷ lines) = line ++ all_of lines
 
 -- a line without words
-abbrev pub IsBlank : Line → Type 0
+abbrev pub IsBlank : JobLine → Type 0
 IsBlank line = words_of line ≡ []
 
 -- the words of the line are this name alone
-abbrev pub IsOnly : List ℕ → Line → Type 0
+abbrev pub IsOnly : List ℕ → JobLine → Type 0
 IsOnly name line = words_of line ≡ name ∷ []
 
 -- a line of the text: it doesn't begin with `%session` or `%order`
-abbrev pub IsOfText : Line → Type 0
+abbrev pub IsOfText : JobLine → Type 0
 IsOfText line = is_section line ≡ false
 
 -- where a line comes after the text, it begins so
-abbrev pub BeginsSections : List Line → Type 0
+abbrev pub BeginsSections : List JobLine → Type 0
 BeginsSections [] = Unit {0}
 BeginsSections (line ∷ lines) = is_section line ≡ true
 
 -- `%session` and the session's number, which is at most 64
-pub record NamesSession (session : ℕ) (line : Line) : Type 0 where
+pub record NamesSession (session : ℕ) (line : JobLine) : Type 0 where
   pub word : Word
   pub words : words_of line ≡ codes "%session" ∷ word ∷ []
-  pub number : number_of 64 word ≡ Some session
+  pub number : parsed_number 64 word ≡ Some session
 
 -- the lines say these steps, one a line, but for lines without words
-abbrev pub AreSteps : List Line → List Step → Type 0
+abbrev pub AreSteps : List JobLine → List Step → Type 0
 AreSteps [] steps = steps ≡ []
 AreSteps (line ∷ lines) steps =
     (IsBlank line × AreSteps lines steps)
     ⊎ ((step : Step) × (more : List Step) × (steps ≡ step ∷ more) × (step_of (words_of line) ≡ Some step) × AreSteps lines more)
 
 -- the line that names a session, those that say its steps, and what comes after them
-pub record BeginsWithSession (session : ℕ) (all : List Line) (script : List Step) : Type 0 where
-  pub head : Line
-  pub body : List Line
-  pub rest : List Line
+pub record BeginsWithSession (session : ℕ) (all : List JobLine) (script : List Step) : Type 0 where
+  pub head : JobLine
+  pub body : List JobLine
+  pub rest : List JobLine
   pub parts : all ≡ head ∷ (body ++ rest)
   pub names : NamesSession session head
   pub steps : AreSteps body script
 
 -- the lines are these sessions, from this number on without a gap, and then the last lines
-abbrev pub AreSessions : ℕ → List Line → List (List Step) → List Line → Type 0
+abbrev pub AreSessions : ℕ → List JobLine → List (List Step) → List JobLine → Type 0
 AreSessions session all [] last = all ≡ last
 AreSessions session all (script ∷ scripts) last =
     (first : BeginsWithSession session all script) × AreSessions (session + 1) first.rest scripts last
@@ -68,13 +68,13 @@ AreCounted session (script ∷ scripts) order =
     (count_by (λ n. n == session) order ≡ length script) × AreCounted (session + 1) scripts order
 
 -- a line of the order: all its words are numbers
-abbrev pub AreNumbers : Line → Type 0
+abbrev pub AreNumbers : JobLine → Type 0
 AreNumbers line = list_all is_number (words_of line) ≡ true
 
 -- `%order`, and the sessions that the lines name, each as often as it has steps, and no others
-pub record NamesOrder (scripts : List (List Step)) (all : List Line) (order : List ℕ) : Type 0 where
-  pub head : Line
-  pub body : List Line
+pub record NamesOrder (scripts : List (List Step)) (all : List JobLine) (order : List ℕ) : Type 0 where
+  pub head : JobLine
+  pub body : List JobLine
   pub parts : all ≡ head ∷ body
   pub names : IsOnly (codes "%order") head
   pub numbers : AllByRecursion AreNumbers body
@@ -83,16 +83,16 @@ pub record NamesOrder (scripts : List (List Step)) (all : List Line) (order : Li
   pub counted : AreCounted 1 scripts order
 
 -- the order that the last lines name; without them, the sessions one after the other
-abbrev pub IsOrder : List (List Step) → List Line → List ℕ → Type 0
+abbrev pub IsOrder : List (List Step) → List JobLine → List ℕ → Type 0
 IsOrder scripts last order = ((last ≡ []) × (order ≡ one_by_one 1 scripts)) ⊎ NamesOrder scripts last order
 
 -- lines without words, `%cif`, the text, the sessions and the order
 pub record IsJob (bytes : List ℕ) (job : Job) : Type 0 where
-  pub blanks : List Line
-  pub head : Line
-  pub text : List Line
-  pub sections : List Line
-  pub last : List Line
+  pub blanks : List JobLine
+  pub head : JobLine
+  pub text : List JobLine
+  pub sections : List JobLine
+  pub last : List JobLine
   pub parts : lines bytes ≡ blanks ++ (head ∷ (text ++ sections))
   pub none : AllByRecursion IsBlank blanks
   pub names : IsOnly (codes "%cif") head

@@ -10,7 +10,7 @@ use Rattle.std.proofs.lemmas.List.Folds.{list_all-append}
 use Rattle.std.proofs.lemmas.List.Sums.{fold_push}
 use Rattle.byte_io.specs.Decimal.{decimal_value}
 use Rattle.lay_point.specs.Names.{is_digit}
-use Rattle.job_text.specs.Words.{number_of}
+use Rattle.job_text.specs.Words.{parsed_number}
 
 -- digits that spell a number
 pub record IsDecimal (n : ℕ) (text : List ℕ) : Type 0 where
@@ -38,13 +38,13 @@ pub decimal_is : (n : ℕ) → n < 2 ^ 64 → IsDecimal n (decimal n)
 decimal_is n h = decimal_by_steps IsDecimal one_digit more_digits n h
 
 -- digits that spell a number within the limit are read as it
-pub digits_read : (limit n : ℕ) (text : List ℕ) → IsDecimal n text → n ≤ limit → number_of limit text ≡ Some n
-unfolding number_of
+pub digits_read : (limit n : ℕ) (text : List ℕ) → IsDecimal n text → n ≤ limit → parsed_number limit text ≡ Some n
+unfolding parsed_number
 digits_read limit n text is h =
     let some = is.some in
     let digits = is.digits in
     let value = is.value in
     grind (arith, nat_tests, digits, value)
 
-pub number_read : (limit n : ℕ) → limit < 2 ^ 64 → n ≤ limit → number_of limit (decimal n) ≡ Some n
+pub number_read : (limit n : ℕ) → limit < 2 ^ 64 → n ≤ limit → parsed_number limit (decimal n) ≡ Some n
 number_read limit n most h = digits_read limit n (decimal n) (decimal_is n (omega arith)) h

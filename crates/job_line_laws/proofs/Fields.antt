@@ -19,7 +19,8 @@ use Rattle.lay_point.specs.declared.turn.Quarter.TheVariants.{R0, R90, R180, R27
 use Rattle.lay_point.specs.declared.turn.Turn.{Turn}
 use Rattle.lay_point.specs.Names.{is_digit}
 use Rattle.txn_rules.specs.declared.command.TxnId.{TxnId}
-use Rattle.job_text.specs.Words.{◌>>=◌, before_dot, cell_of, coordinate_of, is_negative, item_of, number_of, quarter_of, turning_of, txn_of}
+use Rattle.job_text.specs.Words.{◌>>=◌, before_dot, parsed_cell, parsed_coordinate, is_negative, parsed_item, parsed_number, parsed_quarter}
+use Rattle.job_text.specs.Words.{parsed_turning, parsed_txn}
 use Rattle.job_line_laws.specs.Written.{IsCell, IsCoordinate, IsItem, IsTxn, cell_word, degrees, item_word, turning_word, txn_word}
 use Rattle.job_line_laws.proofs.Digits.{decimal_is, digits_read, number_read}
 
@@ -34,8 +35,8 @@ first_no_sign (b ∷ text) h =
 sign_first : (text : List ℕ) → is_negative (45 ∷ text) ≡ true
 sign_first text = grind (arith, nat_tests)
 
-pub coordinate_read : (z : ℤ) → IsCoordinate z → coordinate_of (signed_decimal z) ≡ Some z
-unfolding coordinate_of
+pub coordinate_read : (z : ℤ) → IsCoordinate z → parsed_coordinate (signed_decimal z) ≡ Some z
+unfolding parsed_coordinate
 coordinate_read (pos n) is =
     let high : pos n ≤ℤ pos 2147483647 = is.high in
     let within : n ≤ 2147483647 = omega (arith, ints, high) in
@@ -55,8 +56,8 @@ no_name (b ∷ text) h =
     let other : (b == 116) ≡ false = grind (arith, nat_tests, first) in
     rw other refl
 
-pub cell_read : (cell : CellId) → IsCell cell → cell_of (cell_word cell) ≡ Some cell
-unfolding cell_of
+pub cell_read : (cell : CellId) → IsCell cell → parsed_cell (cell_word cell) ≡ Some cell
+unfolding parsed_cell
 cell_read Top is = refl
 cell_read (Symbol number) is =
     let digits = decimal_is number (omega (arith, is)) in
@@ -90,17 +91,17 @@ pub dot_read : (limit n : ℕ) (rest : List ℕ) → limit < 2 ^ 64 → n ≤ li
 unfolding before_dot
 dot_read limit n rest most within =
     let digits = decimal_is n (omega (arith, most, within)) in
-    let number : number_of limit (take (length (decimal n)) (decimal n ++ 46 ∷ rest)) ≡ Some n =
-    ap (number_of limit) (take-append_seam (decimal n) (46 ∷ rest)) ∙ digits_read limit n (decimal n) digits within in
+    let number : parsed_number limit (take (length (decimal n)) (decimal n ++ 46 ∷ rest)) ≡ Some n =
+    ap (parsed_number limit) (take-append_seam (decimal n) (46 ∷ rest)) ∙ digits_read limit n (decimal n) digits within in
     rw (dot_place (decimal n) rest digits.digits, number, behind_dot (decimal n) rest) refl
 
-pub txn_read : (txn : TxnId) → IsTxn txn → txn_of (txn_word txn) ≡ Some txn
-unfolding txn_of
+pub txn_read : (txn : TxnId) → IsTxn txn → parsed_txn (txn_word txn) ≡ Some txn
+unfolding parsed_txn
 txn_read txn is =
     rw (dot_read 64 txn.session (decimal txn.txn) (omega arith) is.session, number_read 65535 txn.txn (omega arith) is.number) refl
 
-pub item_read : (id : ItemId) → IsItem id → item_of (item_word id) ≡ Some id
-unfolding item_of
+pub item_read : (id : ItemId) → IsItem id → parsed_item (item_word id) ≡ Some id
+unfolding parsed_item
 item_read id is =
     rw (
       dot_read 64 id.session (decimal id.txn ++ 46 ∷ decimal id.seq) (omega arith) is.session,
@@ -110,17 +111,17 @@ item_read id is =
 
 -- ---- turns
 
-quarter_read : (q : Quarter) → quarter_of (degrees q) ≡ Some q
-unfolding quarter_of
+quarter_read : (q : Quarter) → parsed_quarter (degrees q) ≡ Some q
+unfolding parsed_quarter
 quarter_read R0 = refl
 quarter_read R90 = refl
 quarter_read R180 = refl
 quarter_read R270 = refl
 
-turning_is : (mirror : Bool) (q : Quarter) → turning_of ((if mirror then 109 else 114) ∷ degrees q) ≡ Some (mirror, q)
-unfolding turning_of
+turning_is : (mirror : Bool) (q : Quarter) → parsed_turning ((if mirror then 109 else 114) ∷ degrees q) ≡ Some (mirror, q)
+unfolding parsed_turning
 turning_is true q = ap (λ o. o >>= λ quarter. Some (true, quarter)) (quarter_read q)
 turning_is false q = ap (λ o. o >>= λ quarter. Some (false, quarter)) (quarter_read q)
 
-pub turning_read : (turn : Turn) → turning_of (turning_word turn) ≡ Some (turn.mirror, turn.quarter)
+pub turning_read : (turn : Turn) → parsed_turning (turning_word turn) ≡ Some (turn.mirror, turn.quarter)
 turning_read turn = turning_is turn.mirror turn.quarter

@@ -9,8 +9,8 @@ use Rattle.std.proofs.lemmas.List.{length-append}
 use Rattle.std.proofs.lemmas.List.Folds.{list_all-append}
 use Rattle.job_text.specs.Lines.{content, ends_with, in_front, without_last}
 use Rattle.job_text.specs.Steps.{Word}
-use Rattle.job_text.specs.Words.{is_between, is_separator, words, words_of}
-use Rattle.job_line_laws.specs.Written.{joined, line_of}
+use Rattle.job_text.specs.Words.{is_word_end, is_word_separator, words, words_of}
+use Rattle.job_line_laws.specs.Written.{line_of, spaced_words}
 
 -- a byte that prints and isn't a space, or lies beyond ASCII
 abbrev pub is_plain : ℕ → Bool
@@ -21,30 +21,30 @@ pub record IsWord (word : Word) : Type 0 where
   pub some : 1 ≤ length word
   pub plain : list_all is_plain word ≡ true
 
-plain_no_separator : (b : ℕ) → is_plain b ≡ true → is_separator b ≡ false
+plain_no_separator : (b : ℕ) → is_plain b ≡ true → is_word_separator b ≡ false
 plain_no_separator b h = grind (arith, nat_tests)
 
 -- the words from a byte of a word on
 abbrev in_word : ℕ → List ℕ → List (List ℕ)
-in_word b line = if is_between line then (b ∷ []) ∷ words line else in_front b (words line)
+in_word b line = if is_word_end line then (b ∷ []) ∷ words line else in_front b (words line)
 
 words-plain : (b : ℕ) (line : List ℕ) → is_plain b ≡ true → words (b ∷ line) ≡ in_word b line
 words-plain b line h = ap (λ t. if t then words line else in_word b line) (plain_no_separator b h)
 
 -- a word, where nothing of it follows
-word_first : (b : ℕ) (word rest : List ℕ) → list_all is_plain (b ∷ word) ≡ true → is_between rest ≡ true →
+word_first : (b : ℕ) (word rest : List ℕ) → list_all is_plain (b ∷ word) ≡ true → is_word_end rest ≡ true →
     words ((b ∷ word) ++ rest) ≡ (b ∷ word) ∷ words rest
 word_first b [] rest h ends =
     words-plain b rest (and_parts (is_plain b) true h).0 ∙ ap (λ t. if t then (b ∷ []) ∷ words rest else in_front b (words rest)) ends
 word_first b (c ∷ word) rest h ends =
     let parts = and_parts (is_plain b) (list_all is_plain (c ∷ word)) h in
     let more = word_first c word rest parts.1 ends in
-    let other : is_separator c ≡ false = plain_no_separator c (and_parts (is_plain c) (list_all is_plain word) parts.1).0 in
+    let other : is_word_separator c ≡ false = plain_no_separator c (and_parts (is_plain c) (list_all is_plain word) parts.1).0 in
     words-plain b ((c ∷ word) ++ rest) parts.0
     ∙ ap (λ t. if t then (b ∷ []) ∷ words ((c ∷ word) ++ rest) else in_front b (words ((c ∷ word) ++ rest))) other
     ∙ ap (in_front b) more
 
-word_then : (word rest : List ℕ) → IsWord word → is_between rest ≡ true → words (word ++ rest) ≡ word ∷ words rest
+word_then : (word rest : List ℕ) → IsWord word → is_word_end rest ≡ true → words (word ++ rest) ≡ word ∷ words rest
 word_then [] rest is ends = absurd (omega (arith, is.some))
 word_then (b ∷ word) rest is ends = word_first b word rest is.plain ends
 
@@ -55,10 +55,11 @@ no_more word is = ap words (sym (no_rest word)) ∙ word_then word [] is refl wh
   no_rest (x ∷ xs) = ap (λ l. x ∷ l) (no_rest xs)
 
 -- the words of what is joined
-pub words-joined : (ws : List Word) → AllByRecursion IsWord ws → words (joined ws) ≡ ws
-words-joined [] all = refl
-words-joined (w ∷ []) all = no_more w all.0
-words-joined (w ∷ v ∷ ws) all = word_then w (32 ∷ joined (v ∷ ws)) all.0 refl ∙ ap (λ l. w ∷ l) (words-joined (v ∷ ws) all.1)
+pub words-spaced_words : (ws : List Word) → AllByRecursion IsWord ws → words (spaced_words ws) ≡ ws
+words-spaced_words [] all = refl
+words-spaced_words (w ∷ []) all = no_more w all.0
+words-spaced_words (w ∷ v ∷ ws) all = word_then w (32 ∷ spaced_words (v ∷ ws)) all.0 refl
+    ∙ ap (λ l. w ∷ l) (words-spaced_words (v ∷ ws) all.1)
 
 -- all bytes are a space or greater
 abbrev is_high : ℕ → Bool
@@ -73,11 +74,11 @@ high_word (b ∷ word) h =
     let parts = and_parts (is_plain b) (list_all is_plain word) h in
     rw (high_byte b parts.0, high_word word parts.1) refl
 
-high_joined : (ws : List Word) → AllByRecursion IsWord ws → list_all is_high (joined ws) ≡ true
+high_joined : (ws : List Word) → AllByRecursion IsWord ws → list_all is_high (spaced_words ws) ≡ true
 high_joined [] all = refl
 high_joined (w ∷ []) all = high_word w all.0.plain
 high_joined (w ∷ v ∷ ws) all =
-    list_all-append is_high w (32 ∷ joined (v ∷ ws))
+    list_all-append is_high w (32 ∷ spaced_words (v ∷ ws))
     ∙ rw (high_word w all.0.plain, high_joined (v ∷ ws) all.1) refl
 
 high_at : (bytes : List ℕ) (i : ℕ) → list_all is_high bytes ≡ true → i < length bytes → is_high (slice_index bytes i) ≡ true
@@ -119,6 +120,7 @@ pub words-line : (ws : List Word) → AllByRecursion IsWord ws → words_of (lin
 unfolding content
 words-line ws all =
     let high = high_joined ws all in
-    ap (λ l. words (without_last 13 l)) (without-newline (joined ws))
-    ∙ ap (λ t. words (if t then take (length (joined ws) - 1) (joined ws) else joined ws)) (without-return (joined ws) high)
-    ∙ words-joined ws all
+    ap (λ l. words (without_last 13 l)) (without-newline (spaced_words ws))
+    ∙ ap (λ t. words (if t then take (length (spaced_words ws) - 1) (spaced_words ws) else spaced_words ws))
+        (without-return (spaced_words ws) high)
+    ∙ words-spaced_words ws all

@@ -25,7 +25,7 @@ use Rattle.txn_rules.specs.declared.command.TxnId.{TxnId}
 use Rattle.session_steps.specs.declared.Step.{Step}
 use Rattle.session_steps.specs.declared.Step.TheVariants.{Cancel, Commit, Do, Open, Redo, Undo}
 use Rattle.job_text.specs.Steps.{Word}
-use Rattle.job_line_laws.specs.Written.{CanBeSaid, CanSay, IsCell, IsCoordinate, IsItem, IsLayer}
+use Rattle.job_line_laws.specs.Written.{CanBeSaid, CanSay, IsCell, IsCoordinate, IsItem, IsLayerName}
 use Rattle.job_line_laws.specs.Written.{IsPoint, IsTxn, cell_word, command_words, degrees, item_word}
 use Rattle.job_line_laws.specs.Written.{op_word, point_words, step_words, txn_word}
 use Rattle.job_line_laws.proofs.Digits.{decimal_is}
@@ -67,13 +67,13 @@ dotted a b first second = record {
   plain = list_all-append is_plain a (46 ∷ b) ∙ rw (first.plain, second.plain) refl;
 }
 
-is_name : (name : List ℕ) → IsLayer name → is_layer_name name ≡ true
+is_name : (name : List ℕ) → IsLayerName name → is_layer_name name ≡ true
 is_name name is = by_test (is_layer_name name) is where
   by_test : (t : Bool) → (if t then Some name else None) ≡ Some name → t ≡ true
   by_test true h = refl
   by_test false h = absurd (cc)
 
-pub layer_word : (name : List ℕ) → IsLayer name → IsWord name
+pub layer_word : (name : List ℕ) → IsLayerName name → IsWord name
 layer_word name is =
     let parts = and_parts (nat_le 1 (length name) && nat_le (length name) MAX_LAYER_NAME) (list_all is_name_byte name) (is_name name is) in
     let some = (and_parts (nat_le 1 (length name)) (nat_le (length name) MAX_LAYER_NAME) parts.0).0 in

@@ -16,8 +16,8 @@ use Rattle.txn_rules.specs.declared.command.Command.TheVariants.{SetLayer}
 use Rattle.txn_rules.specs.declared.command.TxnId.{TxnId}
 use Rattle.session_steps.specs.declared.Step.{Step}
 use Rattle.session_steps.specs.declared.Step.TheVariants.{Cancel, Commit, Do, Open, Redo, Undo}
-use Rattle.job_text.specs.Steps.{Word, bool_of, box_of, command_of, item_alone, layer_of}
-use Rattle.job_text.specs.Steps.{move_of, op_of, place_of, point_at, point_of, points_from, poly_of}
+use Rattle.job_text.specs.Steps.{Word, bool_command, box_command, command_named, item_alone, layer_command}
+use Rattle.job_text.specs.Steps.{leading_point, move_command, op_of, parsed_points, place_command, point_of, poly_command}
 use Rattle.job_text.specs.Steps.{short_command, step_named, step_of, symbol_alone, txn_alone}
 use Rattle.job_text.specs.Words.{◌>>=◌}
 use Rattle.job_line_laws.specs.Written.{CanBeSaid, CanSay, IsItem, IsPoint, IsTxn, cell_word}
@@ -37,13 +37,13 @@ symbol_only : (number : ℕ) → number ≤ MAX_SYMBOL → symbol_alone (decimal
 unfolding symbol_alone
 symbol_only number is = rw (number_read MAX_SYMBOL number (omega arith) is) refl
 
-point_first : (p : Point) (words : List Word) → IsPoint p → point_at (point_words p ++ words) ≡ Some (p, words)
-unfolding point_at
+point_first : (p : Point) (words : List Word) → IsPoint p → leading_point (point_words p ++ words) ≡ Some (p, words)
+unfolding leading_point
 point_first p words is = rw (coordinate_read p.x is.column, coordinate_read p.y is.row) refl
 
 box_said : (cell : CellId) (layer : List ℕ) (a b : Point) → CanSay (Box cell layer a b) →
-    box_of (cell_word cell ∷ layer ∷ (point_words a ++ point_words b)) ≡ Some (Box cell layer a b)
-unfolding box_of
+    box_command (cell_word cell ∷ layer ∷ (point_words a ++ point_words b)) ≡ Some (Box cell layer a b)
+unfolding box_command
 box_said cell layer a b is =
     rw (cell_read cell is.0, is.1, point_first a (point_words b) is.2, point_first b [] is.3) refl
 
@@ -52,40 +52,41 @@ unfolding point_of
 point_said p is = rw (coordinate_read p.x is.column, coordinate_read p.y is.row) refl
 
 points_said : (before points : List Point) → AllByRecursion IsPoint points →
-    points_from before (flat_map point_words points) ≡ Some (before ++ points)
+    parsed_points before (flat_map point_words points) ≡ Some (before ++ points)
 points_said before [] all = ap Some (sym (append-nil before))
 points_said before (p ∷ points) all =
-    ap (λ o. o >>= λ q. points_from (before ++ q ∷ []) (flat_map point_words points)) (point_said p all.0)
+    ap (λ o. o >>= λ q. parsed_points (before ++ q ∷ []) (flat_map point_words points)) (point_said p all.0)
     ∙ points_said (before ++ p ∷ []) points all.1
     ∙ ap Some (append_assoc before (p ∷ []) points)
 
 poly_said : (cell : CellId) (layer : List ℕ) (points : List Point) → CanSay (Poly cell layer points) →
-    poly_of (cell_word cell ∷ layer ∷ flat_map point_words points) ≡ Some (Poly cell layer points)
-unfolding poly_of
+    poly_command (cell_word cell ∷ layer ∷ flat_map point_words points) ≡ Some (Poly cell layer points)
+unfolding poly_command
 poly_said cell layer points is = rw (cell_read cell is.0, is.1, points_said [] points is.2) refl
 
 move_said : (id : ItemId) (dx dy : ℤ) → CanSay (Move id dx dy) →
-    move_of (item_word id ∷ point_words (record { x = dx; y = dy })) ≡ Some (Move id dx dy)
-unfolding move_of
+    move_command (item_word id ∷ point_words (record { x = dx; y = dy })) ≡ Some (Move id dx dy)
+unfolding move_command
 move_said id dx dy is = rw (item_read id is.0, point_first (record { x = dx; y = dy }) [] is.1) refl
 
-layer_said : (id : ItemId) (layer : List ℕ) → CanSay (SetLayer id layer) → layer_of (item_word id ∷ layer ∷ []) ≡ Some (SetLayer id layer)
-unfolding layer_of
+layer_said : (id : ItemId) (layer : List ℕ) → CanSay (SetLayer id layer)
+    → layer_command (item_word id ∷ layer ∷ []) ≡ Some (SetLayer id layer)
+unfolding layer_command
 layer_said id layer is = rw (item_read id is.0, is.1) refl
 
 place_said : (cell : CellId) (target : ℕ) (turn : Turn) → CanSay (Place cell target turn) →
-    place_of (cell_word cell ∷ decimal target ∷ turning_word turn ∷ point_words turn.shift) ≡ Some (Place cell target turn)
-unfolding place_of
+    place_command (cell_word cell ∷ decimal target ∷ turning_word turn ∷ point_words turn.shift) ≡ Some (Place cell target turn)
+unfolding place_command
 place_said cell target turn is =
     rw (cell_read cell is.0, number_read MAX_SYMBOL target (omega arith) is.1, turning_read turn, point_first turn.shift [] is.2) refl
 
 bool_said : (op : Op) (cell : CellId) (a b out : List ℕ) → CanSay (Combine op cell a b out) →
-    bool_of op (cell_word cell ∷ a ∷ b ∷ out ∷ []) ≡ Some (Combine op cell a b out)
-unfolding bool_of
+    bool_command op (cell_word cell ∷ a ∷ b ∷ out ∷ []) ≡ Some (Combine op cell a b out)
+unfolding bool_command
 bool_said op cell a b out is = rw (cell_read cell is.0, is.1, is.2, is.3) refl
 
 command_said : (command : Command) → CanSay command → step_of (command_words command) ≡ Some (Do command)
-unfolding step_of step_named command_of short_command op_of
+unfolding step_of step_named command_named short_command op_of
 command_said (Box cell layer a b) is = ap (option_map Do) (box_said cell layer a b is)
 command_said (Poly cell layer points) is = ap (option_map Do) (poly_said cell layer points is)
 command_said (Delete id) is = ap (λ o. option_map Do (option_map Delete o)) (item_only id is)

@@ -3,22 +3,22 @@ use Rattle.std.specs.Prelude.{◌≡◌, ◌⊎◌, ℕ, ◌≤◌, List, [], �
 use Rattle.std.specs.List.{list_all}
 use Rattle.job_text.specs.Lines.{lines}
 use Rattle.job_text.specs.Steps.{Word}
-use Rattle.job_text.specs.Words.{is_between, is_separator, words}
+use Rattle.job_text.specs.Words.{is_word_end, is_word_separator, words}
 
 -- a byte of a line, before its newline
-abbrev pub is_inside : ℕ → Bool
-is_inside b = not (b == 10)
+abbrev pub is_line_byte : ℕ → Bool
+is_line_byte b = not (b == 10)
 
 -- a byte of a word
 abbrev pub is_of_word : ℕ → Bool
-is_of_word b = not (is_separator b)
+is_of_word b = not (is_word_separator b)
 
 -- the bytes begin with this line: what it says, and a newline, or else the end of the bytes
 pub record BeginsWithLine (bytes line : List ℕ) : Type 0 where
   pub said : List ℕ
   pub rest : List ℕ
   pub parts : bytes ≡ line ++ rest
-  pub whole : list_all is_inside said ≡ true
+  pub whole : list_all is_line_byte said ≡ true
   pub ended : (line ≡ said ++ 10 ∷ []) ⊎ ((line ≡ said) × (1 ≤ length said) × (rest ≡ []))
 
 -- the bytes are these lines
@@ -31,14 +31,14 @@ pub record BeginsWithWord (bytes : List ℕ) (word : Word) : Type 0 where
   pub gap : List ℕ
   pub rest : List ℕ
   pub parts : bytes ≡ gap ++ (word ++ rest)
-  pub blank : list_all is_separator gap ≡ true
+  pub blank : list_all is_word_separator gap ≡ true
   pub some : 1 ≤ length word
   pub whole : list_all is_of_word word ≡ true
-  pub ends : is_between rest ≡ true
+  pub ends : is_word_end rest ≡ true
 
 -- the words of the bytes are these, and there is nothing else but spaces and tabs
 abbrev pub AreWords : List ℕ → List Word → Type 0
-AreWords bytes [] = list_all is_separator bytes ≡ true
+AreWords bytes [] = list_all is_word_separator bytes ≡ true
 AreWords bytes (word ∷ more) = (first : BeginsWithWord bytes word) × AreWords first.rest more
 
 -- the bytes are their lines, and no others

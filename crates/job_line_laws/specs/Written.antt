@@ -78,14 +78,14 @@ step_words (Undo txn) = codes "undo" ∷ txn_word txn ∷ []
 step_words (Redo txn) = codes "redo" ∷ txn_word txn ∷ []
 
 -- the words, with a space between them
-abbrev pub joined : List Word → List ℕ
-joined [] = []
-joined (word ∷ []) = word
-joined (word ∷ next ∷ words) = word ++ 32 ∷ joined (next ∷ words)
+abbrev pub spaced_words : List Word → List ℕ
+spaced_words [] = []
+spaced_words (word ∷ []) = word
+spaced_words (word ∷ next ∷ words) = word ++ 32 ∷ spaced_words (next ∷ words)
 
 -- and a newline behind them
 abbrev pub line_of : List Word → List ℕ
-line_of words = joined words ++ 10 ∷ []
+line_of words = spaced_words words ++ 10 ∷ []
 
 -- ---- what a line can say
 
@@ -114,18 +114,18 @@ pub record IsItem (id : ItemId) : Type 0 where
   pub seq : id.seq ≤ 4294967295
 
 -- a layer has a name
-abbrev pub IsLayer : List ℕ → Type 0
-IsLayer name = layer_name_of name ≡ Some name
+abbrev pub IsLayerName : List ℕ → Type 0
+IsLayerName name = layer_name_of name ≡ Some name
 
 abbrev pub CanSay : Command → Type 0
-CanSay (Box cell layer a b) = IsCell cell × IsLayer layer × IsPoint a × IsPoint b
-CanSay (Poly cell layer points) = IsCell cell × IsLayer layer × AllByRecursion IsPoint points
+CanSay (Box cell layer a b) = IsCell cell × IsLayerName layer × IsPoint a × IsPoint b
+CanSay (Poly cell layer points) = IsCell cell × IsLayerName layer × AllByRecursion IsPoint points
 CanSay (Delete id) = IsItem id
 CanSay (Move id dx dy) = IsItem id × IsPoint (record { x = dx; y = dy })
-CanSay (SetLayer id layer) = IsItem id × IsLayer layer
+CanSay (SetLayer id layer) = IsItem id × IsLayerName layer
 CanSay (Place cell target turn) = IsCell cell × (target ≤ MAX_SYMBOL) × IsPoint turn.shift
 CanSay (Look id) = IsItem id
-CanSay (Combine op cell a b out) = IsCell cell × IsLayer a × IsLayer b × IsLayer out
+CanSay (Combine op cell a b out) = IsCell cell × IsLayerName a × IsLayerName b × IsLayerName out
 CanSay (MakeCell number) = number ≤ MAX_SYMBOL
 CanSay (DropCell number) = number ≤ MAX_SYMBOL
 

@@ -9,19 +9,19 @@ use Rattle.job_text.specs.declared.live.LiveLine.{LiveLine}
 use Rattle.job_text.specs.declared.live.LiveLine.TheVariants.{Blank, Step, Write, Odd}
 use Rattle.job_text.specs.Live.{live_line}
 use Rattle.job_text.specs.Words.{words_of}
-use Rattle.job_live.specs.Live.{Run, after_line, after_lines, after_step, answered, begun, one_more}
+use Rattle.job_live.specs.Live.{LiveRun, after_line, after_lines, after_step, answered, before_first_line, one_more}
 use Rattle.job_live.specs.Laws.{LedBy, LinesAreSteps, steps_in, steps_of}
 
 -- from the first run the steps led to the second
-record Leads (run : Run) (steps : List (ℕ × StepOf)) (run' : Run) : Type 0 where
+record Leads (run : LiveRun) (steps : List (ℕ × StepOf)) (run' : LiveRun) : Type 0 where
   state : run'.state ≡ (after_steps run.state steps).1
   replies : run'.replies ≡ run.replies ++ (after_steps run.state steps).0
   sessions : run'.sessions ≡ run.sessions ++ map (λ step. step.0) steps
 
 LeadAll : List (List ℕ) → Type 0
-LeadAll lines = (run : Run) → Leads run (steps_in lines) (after_lines run lines)
+LeadAll lines = (run : LiveRun) → Leads run (steps_in lines) (after_lines run lines)
 
-lead_on : (run : Run) (said : LiveLine) (lines : List (List ℕ)) → LeadAll lines
+lead_on : (run : LiveRun) (said : LiveLine) (lines : List (List ℕ)) → LeadAll lines
     → Leads run (steps_of said ++ steps_in lines) (after_lines (answered run said).0 lines)
 unfolding LeadAll
 lead_on run Blank lines more =
@@ -47,4 +47,4 @@ leads (line ∷ lines) run = lead_on run (live_line (words_of line)) lines (lead
 pub lines_lead : LinesAreSteps
 unfolding LeadAll
 lines_lead base lines =
-    let h = leads lines (begun base) in record { state = h.state; replies = h.replies; sessions = h.sessions }
+    let h = leads lines (before_first_line base) in record { state = h.state; replies = h.replies; sessions = h.sessions }

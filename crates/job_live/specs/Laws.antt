@@ -8,7 +8,7 @@ use Rattle.job_text.specs.declared.live.LiveLine.{LiveLine}
 use Rattle.job_text.specs.declared.live.LiveLine.TheVariants.{Blank, Step, Write, Odd}
 use Rattle.job_text.specs.Live.{live_line}
 use Rattle.job_text.specs.Words.{words_of}
-use Rattle.job_live.specs.Live.{Run, after_lines, begun}
+use Rattle.job_live.specs.Live.{LiveRun, after_lines, before_first_line}
 
 -- the step that a line says, if it says one
 abbrev pub steps_of : LiveLine → List (ℕ × StepOf)
@@ -23,11 +23,11 @@ steps_in [] = []
 steps_in (line ∷ lines) = steps_of (live_line (words_of line)) ++ steps_in lines
 
 -- a run led where these steps lead, with their sessions and their replies
-pub record LedBy (base : Layout) (steps : List (ℕ × StepOf)) (run : Run) : Type 0 where
+pub record LedBy (base : Layout) (steps : List (ℕ × StepOf)) (run : LiveRun) : Type 0 where
   pub state : run.state ≡ (after_steps (start base 64 MAX_CALLS) steps).1
   pub replies : run.replies ≡ (after_steps (start base 64 MAX_CALLS) steps).0
   pub sessions : run.sessions ≡ map (λ step. step.0) steps
 
 -- so do lines, whatever they are
 abbrev pub LinesAreSteps : Type 0
-LinesAreSteps = (base : Layout) (lines : List (List ℕ)) → LedBy base (steps_in lines) (after_lines (begun base) lines)
+LinesAreSteps = (base : Layout) (lines : List (List ℕ)) → LedBy base (steps_in lines) (after_lines (before_first_line base) lines)

@@ -14,7 +14,7 @@ use Rattle.job_live.specs.declared.live.Answer.{Answer}
 use Rattle.job_live.specs.declared.live.Live.{Live}
 
 -- the state of the machine, the session of each step and its reply, how many steps each session took, and how many lines came
-pub record Run : Type 0 where
+pub record LiveRun : Type 0 where
   pub state : State
   pub sessions : List ℕ
   pub replies : List Reply
@@ -22,7 +22,7 @@ pub record Run : Type 0 where
   pub lines : ℕ
 
 -- what contracts see of a live run
-abbrev pub run_of : Live → Run
+abbrev pub run_of : Live → LiveRun
 run_of l = record {
   state = l.machine;
   sessions = l.sessions.items;
@@ -32,8 +32,8 @@ run_of l = record {
 }
 
 -- a run on this layout before its first line, of 64 sessions
-abbrev pub begun : Layout → Run
-begun base = record { state = start base 64 MAX_CALLS; sessions = []; replies = []; taken = replicate 65 0; lines = 0 }
+abbrev pub before_first_line : Layout → LiveRun
+before_first_line base = record { state = start base 64 MAX_CALLS; sessions = []; replies = []; taken = replicate 65 0; lines = 0 }
 
 -- a comment, and whether the layout is wanted
 abbrev pub Said : Type 0
@@ -44,7 +44,7 @@ abbrev pub said_of : Answer → Said
 said_of a = (a.comment.items, a.is_layout_wanted)
 
 -- the run with one line more
-abbrev pub one_more : Run → Run
+abbrev pub one_more : LiveRun → LiveRun
 one_more run = record {
   state = run.state;
   sessions = run.sessions;
@@ -54,11 +54,11 @@ one_more run = record {
 }
 
 -- the number of the session's next step
-abbrev pub next_of : Run → ℕ → ℕ
+abbrev pub next_of : LiveRun → ℕ → ℕ
 next_of run session = slice_index run.taken session + 1
 
 -- the run after a step that was answered so and left this state
-abbrev pub stepped : Run → ℕ → Reply × State → Run
+abbrev pub stepped : LiveRun → ℕ → Reply × State → LiveRun
 stepped run session took = record {
   state = took.1;
   sessions = run.sessions ++ session ∷ [];
@@ -68,23 +68,23 @@ stepped run session took = record {
 }
 
 -- what a step is answered, and what it leaves
-abbrev pub after_step : Run → ℕ → StepOf → Run × Said
+abbrev pub after_step : LiveRun → ℕ → StepOf → LiveRun × Said
 after_step run session step =
     let took = step_outcome run.state session step in
     (stepped run session took, (reply_text session (next_of run session) took.0, false))
 
 -- what a line that says this is answered
-abbrev pub answered : Run → LiveLine → Run × Said
+abbrev pub answered : LiveRun → LiveLine → LiveRun × Said
 answered run Blank = (one_more run, ([], false))
 answered run (Step session step) = after_step run session step
 answered run Write = (one_more run, ([], true))
 answered run Odd = (one_more run, (odd_text (run.lines + 1), false))
 
 -- what a line is answered
-unfoldable pub after_line : Run → List ℕ → Run × Said
+unfoldable pub after_line : LiveRun → List ℕ → LiveRun × Said
 after_line run line = answered run (live_line (words_of line))
 
 -- the run after these lines
-abbrev pub after_lines : Run → List (List ℕ) → Run
+abbrev pub after_lines : LiveRun → List (List ℕ) → LiveRun
 after_lines run [] = run
 after_lines run (line ∷ lines) = after_lines (after_line run line).0 lines

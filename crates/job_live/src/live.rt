@@ -3,7 +3,7 @@ ghost use Rattle.std.specs.Prelude.{◌≡◌, ◌+◌, [], IfOk, replicate, sli
 ghost use Rattle.session_steps.specs.Turns.{dealt};
 ghost use Rattle.session_core.specs.Machine.{is_memory};
 ghost use Rattle.job_text.specs.Order.{order_of, order_text};
-ghost use Rattle.job_live.specs.Live.{after_line, after_step, begun, one_more, run_of, said_of};
+ghost use Rattle.job_live.specs.Live.{after_line, after_step, before_first_line, one_more, run_of, said_of};
 
 use band_workers::Bands;
 use job_text::{LiveLine, comments, live_line, odd_line, order_of, reply_line};
@@ -43,7 +43,7 @@ pub struct Live {
 impl Live {
     /// Returns a run on this layout, before its first line.
     pub fn new(alloc: Global, base: Snapshot) -> Result<Live, NoMemory>
-        ensures { IfOk result (λ run. run_of run ≡ begun base) }
+        ensures { IfOk result (λ run. run_of run ≡ before_first_line base) }
     {
         Ok(Live {
             machine: Machine::new(alloc, base, SESSIONS)?,

@@ -29,14 +29,14 @@ use Rattle.session_steps.specs.declared.Reply.TheVariants.{Opened, Done as Comma
 use Rattle.session_steps.specs.declared.StepFault.{StepFault}
 use Rattle.session_steps.specs.declared.StepFault.TheVariants.{AlreadyOpen, Book, Command, NoSession, NotOpen}
 use Rattle.session_steps.specs.Refusals.{step_code}
-use Rattle.job_text.specs.Replies.{answer_text, bar_text, cell_text, done_text, fault_text, found_text, named_text, point_text}
-use Rattle.job_text.specs.Replies.{points_text, quarter_text, rings_text, several_text, turning_text}
+use Rattle.job_text.specs.Replies.{answer_text, bar_text, cell_text, done_text, fault_text, found_text, named_text, spaced_point}
+use Rattle.job_text.specs.Replies.{degrees_text, points_text, rings_text, several_text, turning_text}
 use Rattle.job_text.specs.Steps.{Word}
-use Rattle.job_line_laws.specs.Written.{IsItem, cell_word, degrees, item_word, joined, point_words, turning_word, txn_word}
+use Rattle.job_line_laws.specs.Written.{IsItem, cell_word, degrees, item_word, point_words, spaced_words, turning_word, txn_word}
 use Rattle.job_line_laws.proofs.Joined.{IsWord}
 use Rattle.job_line_laws.proofs.Plain.{cell_is_word, decimal_word, dotted, item_is_word, last_two, layer_word, points_are_words}
 use Rattle.job_line_laws.proofs.Plain.{turning_is_word, txn_is_word}
-use Rattle.job_reply_laws.specs.Told.{CanAnswer, CanRefuse, CanShow, CanTell, IsDrawn}
+use Rattle.job_reply_laws.specs.Told.{CanAnswer, CanRefuse, CanShow, CanTell, HasPoints}
 
 -- ---- the words
 
@@ -108,12 +108,12 @@ after-append [] vs = refl
 after-append (w ∷ ws) vs =
     ap (λ t. 32 ∷ (w ++ t)) (after-append ws vs) ∙ ap (λ t. 32 ∷ t) (sym (append_assoc w (after ws) (after vs)))
 
-joined-after : (w : Word) (ws : List Word) → joined (w ∷ ws) ≡ w ++ after ws
-joined-after w [] = sym (append-nil w)
-joined-after w (v ∷ ws) = ap (λ t. w ++ 32 ∷ t) (joined-after v ws)
+spaced_words-after : (w : Word) (ws : List Word) → spaced_words (w ∷ ws) ≡ w ++ after ws
+spaced_words-after w [] = sym (append-nil w)
+spaced_words-after w (v ∷ ws) = ap (λ t. w ++ 32 ∷ t) (spaced_words-after v ws)
 
 points_after : (ring : List Point) → points_text ring ≡ after (flat_map point_words ring)
-unfolding point_text
+unfolding spaced_point
 points_after [] = refl
 points_after (p ∷ ring) =
     ap (λ t. 32 ∷ t) (two_then (signed_decimal p.x) (signed_decimal p.y) (points_text ring))
@@ -137,7 +137,7 @@ cell_same : (cell : CellId) → cell_text cell ≡ cell_word cell
 cell_same Top = refl
 cell_same (Symbol number) = refl
 
-quarter_same : (q : Quarter) → quarter_text q ≡ degrees q
+quarter_same : (q : Quarter) → degrees_text q ≡ degrees q
 quarter_same R0 = refl
 quarter_same R90 = refl
 quarter_same R180 = refl
@@ -151,7 +151,7 @@ letter_same false text = refl
 turning_same : (turn : Turn) → turning_text turn ≡ turning_word turn
 unfolding turning_text
 turning_same turn =
-    letter_same turn.mirror (quarter_text turn.quarter)
+    letter_same turn.mirror (degrees_text turn.quarter)
     ∙ ap (λ t. (if turn.mirror then 109 else 114) ∷ t) (quarter_same turn.quarter)
 
 txn_same : (txn : TxnId) → txn_text txn ≡ txn_word txn
@@ -161,9 +161,9 @@ item_same : (id : ItemId) → item_text id ≡ item_word id
 item_same id = three (decimal id.session) (decimal id.txn) (decimal id.seq) 46 46
 
 placed_joined : (cell turning : Word) (target : ℕ) (shift : Point) →
-    codes "placed " ++ cell ++ codes " " ++ decimal target ++ codes " " ++ turning ++ point_text shift
-    ≡ joined (codes "placed" ∷ cell ∷ decimal target ∷ turning ∷ point_words shift)
-unfolding point_text
+    codes "placed " ++ cell ++ codes " " ++ decimal target ++ codes " " ++ turning ++ spaced_point shift
+    ≡ spaced_words (codes "placed" ∷ cell ∷ decimal target ∷ turning ∷ point_words shift)
+unfolding spaced_point
 placed_joined cell turning target shift =
     ap (λ t. codes "placed " ++ t)
     (three_then cell (decimal target) turning (32 ∷ ((signed_decimal shift.x ++ 32 ∷ []) ++ signed_decimal shift.y)))
@@ -171,32 +171,32 @@ placed_joined cell turning target shift =
     (between (signed_decimal shift.x) (signed_decimal shift.y) 32)
 
 shape_joined : (cell layer : Word) (rings : List (List Point)) →
-    codes "shape " ++ cell ++ codes " " ++ layer ++ rings_text rings ≡ joined (codes "shape" ∷ cell ∷ layer ∷ ring_words rings)
+    codes "shape " ++ cell ++ codes " " ++ layer ++ rings_text rings ≡ spaced_words (codes "shape" ∷ cell ∷ layer ∷ ring_words rings)
 shape_joined cell layer rings =
     ap (λ t. codes "shape " ++ t) (two_then cell layer (rings_text rings))
     ∙ ap (λ t. codes "shape " ++ (cell ++ 32 ∷ (layer ++ t))) (rings_after rings)
-    ∙ ap (λ t. codes "shape " ++ (cell ++ 32 ∷ t)) (sym (joined-after layer (ring_words rings)))
+    ∙ ap (λ t. codes "shape " ++ (cell ++ 32 ∷ t)) (sym (spaced_words-after layer (ring_words rings)))
 
-found_joined : (item : Item) → found_text item ≡ joined (found_words item)
+found_joined : (item : Item) → found_text item ≡ spaced_words (found_words item)
 unfolding found_text
 found_joined (Shape cell layer rings) =
     ap (λ t. codes "shape " ++ t ++ codes " " ++ layer ++ rings_text rings) (cell_same cell)
     ∙ shape_joined (cell_word cell) layer rings
 found_joined (Placed cell target turn) =
-    ap (λ t. codes "placed " ++ t ++ codes " " ++ decimal target ++ codes " " ++ turning_text turn ++ point_text turn.shift)
+    ap (λ t. codes "placed " ++ t ++ codes " " ++ decimal target ++ codes " " ++ turning_text turn ++ spaced_point turn.shift)
     (cell_same cell)
-    ∙ ap (λ t. codes "placed " ++ cell_word cell ++ codes " " ++ decimal target ++ codes " " ++ t ++ point_text turn.shift)
+    ∙ ap (λ t. codes "placed " ++ cell_word cell ++ codes " " ++ decimal target ++ codes " " ++ t ++ spaced_point turn.shift)
     (turning_same turn)
     ∙ placed_joined (cell_word cell) (turning_word turn) target turn.shift
 
-several_joined : (first : ItemId) (count : ℕ) → several_text first count ≡ joined (done_words (Several first count))
+several_joined : (first : ItemId) (count : ℕ) → several_text first count ≡ spaced_words (done_words (Several first count))
 unfolding several_text
 several_joined first count =
     ap (λ t. codes "made " ++ t ++ codes " to " ++ item_text (id_from first (count - 1))) (item_same first)
     ∙ ap (λ t. codes "made " ++ item_word first ++ codes " to " ++ t) (item_same (id_from first (count - 1)))
     ∙ ap (λ t. codes "made " ++ t) (append_assoc (item_word first) (codes " to ") (item_word (id_from first (count - 1))))
 
-done_joined : (done : Done) → done_text done ≡ joined (done_words done)
+done_joined : (done : Done) → done_text done ≡ spaced_words (done_words done)
 done_joined (Made id) = ap (λ t. codes "made " ++ t) (item_same id)
 done_joined (Several first count) = several_joined first count
 done_joined Empty = refl
@@ -223,18 +223,18 @@ named_after AlreadyOpen = refl
 named_after NotOpen = refl
 
 refusal_joined : (number : ℕ) (name named : List ℕ) (ws : List Word) → named ≡ after ws →
-    codes "fault " ++ decimal number ++ codes " " ++ name ++ named ≡ joined (codes "fault" ∷ decimal number ∷ name ∷ ws)
+    codes "fault " ++ decimal number ++ codes " " ++ name ++ named ≡ spaced_words (codes "fault" ∷ decimal number ∷ name ∷ ws)
 refusal_joined number name named ws is =
     ap (λ t. codes "fault " ++ t) (two_then (decimal number) name named)
     ∙ ap (λ t. codes "fault " ++ (decimal number ++ 32 ∷ (name ++ t))) is
-    ∙ ap (λ t. codes "fault " ++ (decimal number ++ 32 ∷ t)) (sym (joined-after name ws))
+    ∙ ap (λ t. codes "fault " ++ (decimal number ++ 32 ∷ t)) (sym (spaced_words-after name ws))
 
-fault_joined : (fault : StepFault) → fault_text fault ≡ joined (codes "fault" ∷ fault_words fault)
+fault_joined : (fault : StepFault) → fault_text fault ≡ spaced_words (codes "fault" ∷ fault_words fault)
 unfolding fault_text
 fault_joined fault =
     refusal_joined (step_code fault).0 (step_code fault).1 (named_text fault) (named_words fault) (named_after fault)
 
-pub answer_joined : (reply : Reply) → answer_text reply ≡ joined (answer_words reply)
+pub answer_joined : (reply : Reply) → answer_text reply ≡ spaced_words (answer_words reply)
 unfolding answer_text
 answer_joined (Opened txn) = refl
 answer_joined (CommandDone done) = done_joined done
@@ -254,7 +254,7 @@ bar_is_word : (rings : List (List Point)) → AllByRecursion IsWord (bar_words r
 bar_is_word [] = tt
 bar_is_word (ring ∷ rings) = (record { some = omega arith; plain = refl }, tt)
 
-rings_are_words : (rings : List (List Point)) → AllByRecursion IsDrawn rings → AllByRecursion IsWord (ring_words rings)
+rings_are_words : (rings : List (List Point)) → AllByRecursion HasPoints rings → AllByRecursion IsWord (ring_words rings)
 rings_are_words [] all = tt
 rings_are_words (ring ∷ rings) all =
     words-append (flat_map point_words ring) (bar_words rings ++ ring_words rings) (points_are_words ring all.0.points)

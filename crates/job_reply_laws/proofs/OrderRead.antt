@@ -8,7 +8,7 @@ use Rattle.std.proofs.lemmas.Bool.{and_parts}
 use Rattle.lay_point.specs.Names.{is_digit}
 use Rattle.byte_io.specs.Decimal.{decimal_value}
 use Rattle.job_text.specs.Lines.{in_front}
-use Rattle.job_text.specs.Order.{number_text, order_from, order_text}
+use Rattle.job_text.specs.Order.{order_from, order_number_text, order_text}
 use Rattle.job_line_laws.proofs.Digits.{decimal_is}
 use Rattle.job_reply_laws.specs.Laws.{IsCount}
 use Rattle.job_reply_laws.specs.Numbers.{is_digit_first, numbers_in, runs}
@@ -79,8 +79,8 @@ abbrev ends_at : ℕ → Bool → Bool
 ends_at place last = (place + 1) % 16 == 0 || last
 
 number_parts : (place : ℕ) (last : Bool) (n : ℕ) (rest : List ℕ) →
-    number_text place last n ++ rest ≡ opening (starts_at place) ++ 32 ∷ (decimal n ++ (closing (ends_at place last) ++ rest))
-unfolding number_text
+    order_number_text place last n ++ rest ≡ opening (starts_at place) ++ 32 ∷ (decimal n ++ (closing (ends_at place last) ++ rest))
+unfolding order_number_text
 number_parts place last n rest = four (opening (starts_at place)) (decimal n) (closing (ends_at place last)) rest
 
 no_digit_first : (place : ℕ) (order : List ℕ) → is_digit_first (order_from place order) ≡ false

@@ -29,15 +29,15 @@ use Rattle.session_steps.specs.declared.Reply.TheVariants.{Opened, Done as Comma
 use Rattle.session_steps.specs.declared.StepFault.{StepFault}
 use Rattle.session_steps.specs.declared.StepFault.TheVariants.{AlreadyOpen, Book, Command, NoSession, NotOpen}
 use Rattle.job_text.specs.Replies.{answer_text, reply_text}
-use Rattle.job_text.specs.Steps.{Word, point_at, point_of}
-use Rattle.job_text.specs.Words.{◌>>=◌, before_dot, cell_of, item_of, number_of, turning_of, txn_of, words}
-use Rattle.job_line_laws.specs.Written.{IsCoordinate, IsItem, IsPoint, IsTxn, item_word, joined, point_words, txn_word}
+use Rattle.job_text.specs.Steps.{Word, leading_point, point_of}
+use Rattle.job_text.specs.Words.{◌>>=◌, before_dot, parsed_cell, parsed_item, parsed_number, parsed_turning, parsed_txn, words}
+use Rattle.job_line_laws.specs.Written.{IsCoordinate, IsItem, IsPoint, IsTxn, item_word, point_words, spaced_words, txn_word}
 use Rattle.job_line_laws.proofs.Digits.{decimal_is, number_read}
 use Rattle.job_line_laws.proofs.Fields.{cell_read, coordinate_read, dot_read, item_read, turning_read, txn_read}
-use Rattle.job_line_laws.proofs.Joined.{words-joined}
+use Rattle.job_line_laws.proofs.Joined.{words-spaced_words}
 use Rattle.job_line_laws.proofs.Plain.{decimal_word}
 use Rattle.job_reply_laws.specs.Laws.{IsCount, TellTheSame}
-use Rattle.job_reply_laws.specs.Told.{CanAnswer, CanRefuse, CanShow, CanTell, IsCommitted, IsDrawn}
+use Rattle.job_reply_laws.specs.Told.{CanAnswer, CanRefuse, CanShow, CanTell, HasPoints, IsCommitted}
 use Rattle.job_reply_laws.proofs.AnswerWords.{answer_is_words, answer_joined, answer_words, done_words, fault_words, found_words}
 use Rattle.job_reply_laws.proofs.AnswerWords.{ring_words, three}
 
@@ -59,7 +59,7 @@ shape_of : List Word → Option Item
 shape_of [] = None
 shape_of (cell ∷ []) = None
 shape_of (cell ∷ layer ∷ words) = do
-  cell ← cell_of cell
+  cell ← parsed_cell cell
   layer ← layer_name_of layer
   rings ← rings_of words
   Some (Shape cell layer rings)
@@ -69,10 +69,10 @@ placed_of [] = None
 placed_of (cell ∷ []) = None
 placed_of (cell ∷ target ∷ []) = None
 placed_of (cell ∷ target ∷ turning ∷ words) = do
-  cell ← cell_of cell
-  target ← number_of MAX_SYMBOL target
-  turning ← turning_of turning
-  shift ← point_at words
+  cell ← parsed_cell cell
+  target ← parsed_number MAX_SYMBOL target
+  turning ← parsed_turning turning
+  shift ← leading_point words
   Some (Placed cell target (record { mirror = turning.0; quarter = turning.1; shift = shift.0 }))
 
 -- the number of an item, of any session and transaction
@@ -80,21 +80,21 @@ last_of : Word → Option ℕ
 last_of bytes = do
   session ← before_dot 64 bytes
   txn ← before_dot 65535 session.1
-  number_of 8589934590 txn.1
+  parsed_number 8589934590 txn.1
 
 made_of : List Word → Option Done
 made_of [] = None
-made_of (first ∷ []) = option_map Made (item_of first)
+made_of (first ∷ []) = option_map Made (parsed_item first)
 made_of (first ∷ to ∷ []) = None
 made_of (first ∷ to ∷ last ∷ words) = do
-  first ← item_of first
+  first ← parsed_item first
   last ← last_of last
   Some (Several first (last - first.seq + 1))
 
 named_of : (TxnId → BookFault) → List Word → Option StepFault
 named_of meaning [] = None
 named_of meaning (name ∷ []) = None
-named_of meaning (name ∷ txn ∷ words) = option_map (λ t. Book (meaning t)) (txn_of txn)
+named_of meaning (name ∷ txn ∷ words) = option_map (λ t. Book (meaning t)) (parsed_txn txn)
 
 abbrev fault_numbered : ℕ → List Word → Option StepFault
 fault_numbered n words =
@@ -127,11 +127,11 @@ fault_numbered n words =
 
 fault_of : List Word → Option StepFault
 fault_of [] = None
-fault_of (number ∷ words) = number_of 255 number >>= λ n. fault_numbered n words
+fault_of (number ∷ words) = parsed_number 255 number >>= λ n. fault_numbered n words
 
 opened_of : List Word → Option Reply
 opened_of [] = None
-opened_of (txn ∷ words) = option_map Opened (number_of 65535 txn)
+opened_of (txn ∷ words) = option_map Opened (parsed_number 65535 txn)
 
 answer_named : Word → List Word → Option Reply
 answer_named name words =
@@ -185,7 +185,7 @@ points_read front (p ∷ ring) more all =
     ∙ points_read (front ++ p ∷ []) ring more all.1
     ∙ ap (λ f. rings_from f more) (append_assoc front (p ∷ []) ring)
 
-rings_read : (front ring : List Point) (rings : List (List Point)) → AllByRecursion IsPoint ring → AllByRecursion IsDrawn rings →
+rings_read : (front ring : List Point) (rings : List (List Point)) → AllByRecursion IsPoint ring → AllByRecursion HasPoints rings →
     rings_from front (ring_words (ring ∷ rings)) ≡ Some ((front ++ ring) ∷ rings)
 rings_read front ring [] first all = points_read front ring [] first
 rings_read front ring ([] ∷ rings) first all = absurd (omega (arith, all.0.some))
@@ -193,13 +193,13 @@ rings_read front ring ((p ∷ next) ∷ rings) first all =
     points_read front ring (codes "/" ∷ ring_words ((p ∷ next) ∷ rings)) first
     ∙ ap (λ o. option_map (λ rs. (front ++ ring) ∷ rs) o) (rings_read [] (p ∷ next) rings all.0.points all.1)
 
-all_rings_read : (rings : List (List Point)) → AllByRecursion IsDrawn rings → rings_of (ring_words rings) ≡ Some rings
+all_rings_read : (rings : List (List Point)) → AllByRecursion HasPoints rings → rings_of (ring_words rings) ≡ Some rings
 all_rings_read [] all = refl
 all_rings_read ([] ∷ rings) all = absurd (omega (arith, all.0.some))
 all_rings_read ((p ∷ ring) ∷ rings) all = rings_read [] (p ∷ ring) rings all.0.points all.1
 
-point_first : (p : Point) → IsPoint p → point_at (point_words p) ≡ Some (p, [])
-unfolding point_at
+point_first : (p : Point) → IsPoint p → leading_point (point_words p) ≡ Some (p, [])
+unfolding leading_point
 point_first p is = rw (coordinate_read p.x is.column, coordinate_read p.y is.row) refl
 
 found_read : (item : Item) → CanShow item → answer_of (found_words item) ≡ Some (CommandDone (Found item))
@@ -317,11 +317,11 @@ words_first (Fault fault) = (codes "fault", fault_words fault, refl)
 
 -- words in front of others
 joined_front : (a b : Word) (ws : List Word) (w : Word) (vs : List Word) → ws ≡ w ∷ vs →
-    joined (a ∷ b ∷ ws) ≡ a ++ 32 ∷ (b ++ 32 ∷ joined ws)
+    spaced_words (a ∷ b ∷ ws) ≡ a ++ 32 ∷ (b ++ 32 ∷ spaced_words ws)
 joined_front a b ws w vs is = rw is refl
 
 line_joined : (session step : ℕ) (reply : Reply) →
-    reply_text session step reply ≡ 40 ∷ (joined (line_words session step reply) ++ codes ");\n")
+    reply_text session step reply ≡ 40 ∷ (spaced_words (line_words session step reply) ++ codes ");\n")
 unfolding reply_text
 line_joined session step reply =
     let first = words_first reply in
@@ -331,9 +331,9 @@ line_joined session step reply =
     (sym (joined_front (decimal session) (decimal step) (answer_words reply) first.0 first.1 first.2))
 
 line_read : (session step : ℕ) (reply : Reply) → IsCount session → IsCount step → CanTell reply →
-    words (joined (line_words session step reply)) ≡ line_words session step reply
+    words (spaced_words (line_words session step reply)) ≡ line_words session step reply
 line_read session step reply first second is =
-    words-joined (line_words session step reply)
+    words-spaced_words (line_words session step reply)
     (decimal_word session first, (decimal_word step second, answer_is_words reply is))
 
 no_front : (a b : List ℕ) → 40 ∷ a ≡ 40 ∷ b → a ≡ b
@@ -401,9 +401,10 @@ pub lines_tell : (session step : ℕ) (a : Reply) (other turn : ℕ) (b : Reply)
     IsCount other → IsCount turn → CanTell b → reply_text session step a ≡ reply_text other turn b →
     TellTheSame session step a other turn b
 lines_tell session step a other turn b c1 c2 is c3 c4 too same =
-    let texts = no_front (joined (line_words session step a) ++ codes ");\n") (joined (line_words other turn b) ++ codes ");\n")
+    let texts = no_front (spaced_words (line_words session step a) ++ codes ");\n") (spaced_words (line_words other turn b) ++ codes ");\n")
     (sym (line_joined session step a) ∙ same ∙ line_joined other turn b) in
-    let joint = append_cancel_right (joined (line_words session step a)) (joined (line_words other turn b)) (codes ");\n") texts in
+    let joint = append_cancel_right (spaced_words (line_words session step a)) (spaced_words (line_words other turn b)) (codes ");\n")
+        texts in
     let equal : line_words session step a ≡ line_words other turn b =
     sym (line_read session step a c1 c2 is) ∙ ap words joint ∙ line_read other turn b c3 c4 too in
     let parts = words_same (decimal session) (decimal step) (answer_words a) (decimal other) (decimal turn) (answer_words b) equal in

@@ -12,16 +12,16 @@ use Rattle.session_steps.specs.declared.Reply.{Reply}
 use Rattle.session_steps.specs.declared.Reply.TheVariants.{Opened, Done as CommandDone, Committed, Cancelled, Undone, Redone, Fault}
 use Rattle.session_steps.specs.declared.StepFault.{StepFault}
 use Rattle.session_steps.specs.declared.StepFault.TheVariants.{Book}
-use Rattle.job_line_laws.specs.Written.{IsCell, IsItem, IsLayer, IsPoint, IsTxn}
+use Rattle.job_line_laws.specs.Written.{IsCell, IsItem, IsLayerName, IsPoint, IsTxn}
 
 -- a ring has a point or more
-pub record IsDrawn (ring : List Point) : Type 0 where
+pub record HasPoints (ring : List Point) : Type 0 where
   pub some : 1 ≤ length ring
   pub points : AllByRecursion IsPoint ring
 
 -- an item that was looked at
 abbrev pub CanShow : Item → Type 0
-CanShow (Shape cell layer rings) = IsCell cell × IsLayer layer × AllByRecursion IsDrawn rings
+CanShow (Shape cell layer rings) = IsCell cell × IsLayerName layer × AllByRecursion HasPoints rings
 CanShow (Placed cell target turn) = IsCell cell × (target ≤ MAX_SYMBOL) × IsPoint turn.shift
 
 -- the answer of a command; where items are new, there is one or more

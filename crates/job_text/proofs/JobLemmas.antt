@@ -5,7 +5,7 @@ use Rattle.std.proofs.Math.Seq.{drop-append_seam, drop-nil, take-append_seam, ta
 use Rattle.std.specs.Prelude.{Some}
 use Rattle.lay_point.specs.declared.point.Point.{Point}
 use Rattle.job_text.specs.Job.{is_section, sections_of, text_of}
-use Rattle.job_text.specs.Steps.{point_of, points_from}
+use Rattle.job_text.specs.Steps.{parsed_points, point_of}
 use Rattle.job_text.specs.Words.{◌>>=◌}
 
 no_parts : (line behind : List ℕ) → line ++ behind ≡ [] → (line ≡ []) × (behind ≡ [])
@@ -41,8 +41,8 @@ pub sections_of-line : (number : ℕ) (all : List (List ℕ)) (line : List ℕ) 
 sections_of-line number all line behind is other = rw (is, other) refl
 
 -- a point goes from the words that are left to the points so far
-pub points_from-point : (points : List Point) (x y : List ℕ) (point : Point) (all behind more : List (List ℕ)) →
-    all ≡ x ∷ behind → behind ≡ y ∷ more → point_of x y ≡ Some point → points_from points all ≡ points_from (points ++ point ∷ []) more
-points_from-point points x y point all behind more first second is =
-    ap (points_from points) (first ∙ ap (λ l. x ∷ l) second)
-    ∙ ap (λ o. o >>= λ p. points_from (points ++ p ∷ []) more) is
+pub parsed_points-point : (points : List Point) (x y : List ℕ) (point : Point) (all behind more : List (List ℕ)) →
+    all ≡ x ∷ behind → behind ≡ y ∷ more → point_of x y ≡ Some point → parsed_points points all ≡ parsed_points (points ++ point ∷ []) more
+parsed_points-point points x y point all behind more first second is =
+    ap (parsed_points points) (first ∙ ap (λ l. x ∷ l) second)
+    ∙ ap (λ o. o >>= λ p. parsed_points (points ++ p ∷ []) more) is

@@ -10,7 +10,7 @@ use Rattle.session_steps.specs.declared.Step.{Step}
 use Rattle.job_text.specs.Jobs.{Job}
 use Rattle.job_text.specs.Lines.{lines}
 use Rattle.job_text.specs.Steps.{step_of}
-use Rattle.job_text.specs.Words.{is_number, number_of, words_of}
+use Rattle.job_text.specs.Words.{is_number, parsed_number, words_of}
 
 -- the step that follows takes what this one gives, and nothing follows a fault
 infixl 10 ◌>>=◌
@@ -55,7 +55,7 @@ sections_of number (line ∷ behind) = if is_section line then (number, line ∷
 
 -- whether the word spells this number of a session
 abbrev pub is_session_number : ℕ → List ℕ → Bool
-is_session_number session word = option_eq nat_eq (number_of 64 word) (Some session)
+is_session_number session word = option_eq nat_eq (parsed_number 64 word) (Some session)
 
 -- whether the one word spells this number of a session
 abbrev pub is_only_number : ℕ → List (List ℕ) → Bool
@@ -63,17 +63,17 @@ is_only_number session [] = false
 is_only_number session (word ∷ words) = is_session_number session word && is_none_of words
 
 -- whether the words are `%session` and this number
-abbrev pub is_session : ℕ → List (List ℕ) → Bool
-is_session session [] = false
-is_session session (name ∷ words) = bytes_eq name (codes "%session") && is_only_number session words
+abbrev pub is_session_line : ℕ → List (List ℕ) → Bool
+is_session_line session [] = false
+is_session_line session (name ∷ words) = bytes_eq name (codes "%session") && is_only_number session words
 
 -- the steps of each session, in order, and what stands from the order on
 abbrev pub Sections : Type 0
 Sections = List (List Step) × Place
 
 -- these steps, and the one of the words, if there are any
-unfoldable pub with_step : List Step → ℕ → List (List ℕ) → Result (List Step) JobFault
-with_step steps number words =
+unfoldable pub steps_with : List Step → ℕ → List (List ℕ) → Result (List Step) JobFault
+steps_with steps number words =
     if is_none_of words then Ok steps
     else (ok_or (step_of words) (Line number) >>= λ step. Ok (steps ++ step ∷ []))
 
@@ -82,20 +82,20 @@ abbrev pub scripts_of : List (List Step) → List Step → ℕ → List (List �
 scripts_of done steps number [] = Ok (done ++ steps ∷ [], (number, []))
 scripts_of done steps number (line ∷ behind) =
     if is_only (codes "%order") (words_of line) then Ok (done ++ steps ∷ [], (number, line ∷ behind))
-    else if is_session (length done + 2) (words_of line) then scripts_of (done ++ steps ∷ []) [] (number + 1) behind
-    else (with_step steps number (words_of line) >>= λ steps. scripts_of done steps (number + 1) behind)
+    else if is_session_line (length done + 2) (words_of line) then scripts_of (done ++ steps ∷ []) [] (number + 1) behind
+    else (steps_with steps number (words_of line) >>= λ steps. scripts_of done steps (number + 1) behind)
 
 -- The sections: `%session 1` and the scripts, or the order at once, or nothing.
 unfoldable pub sections_at : Place → Result Sections JobFault
 sections_at (number, []) = Ok ([], (number, []))
 sections_at (number, (line ∷ behind)) =
     if is_only (codes "%order") (words_of line) then Ok ([], (number, line ∷ behind))
-    else if is_session 1 (words_of line) then scripts_of [] [] (number + 1) behind
+    else if is_session_line 1 (words_of line) then scripts_of [] [] (number + 1) behind
     else Err (Line number)
 
 -- the session that a number names; 0 is none, and stands for those above 64 too
 unfoldable pub session_of : List ℕ → ℕ
-session_of word = unwrap_or (number_of 64 word) 0
+session_of word = unwrap_or (parsed_number 64 word) 0
 
 -- the sessions that the words name; words that aren't numbers name none
 abbrev pub named_by : List (List ℕ) → List ℕ
@@ -124,8 +124,8 @@ are_counted session (script ∷ scripts) order =
     (count_by (λ n. n == session) order == length script) && are_counted (session + 1) scripts order
 
 -- whether each session stands in the order as often as it has steps, and nothing else does
-unfoldable pub fits : {A : Type 0} → List (List A) → List ℕ → Bool
-fits scripts order = (length order == total_len scripts) && are_counted 1 scripts order
+unfoldable pub order_fits : {A : Type 0} → List (List A) → List ℕ → Bool
+order_fits scripts order = (length order == total_len scripts) && are_counted 1 scripts order
 
 -- all steps of the session of this number, then those of the next
 abbrev pub one_by_one : {A : Type 0} → ℕ → List (List A) → List ℕ
@@ -140,7 +140,7 @@ unless_odd (Some number) order = Err (Line number)
 -- The order that these lines name, behind `%order` on this line, which is at fault where the counts are wrong.
 unfoldable pub named_order : List (List Step) → ℕ → List (List ℕ) → Result (List ℕ) JobFault
 named_order scripts number behind =
-    if fits scripts (named_in behind) then unless_odd (odd_line (number + 1) behind) (named_in behind) else Err (Line number)
+    if order_fits scripts (named_in behind) then unless_odd (odd_line (number + 1) behind) (named_in behind) else Err (Line number)
 
 -- The order of the steps: what `%order` names, or one session after the other.
 unfoldable pub order_at : List (List Step) → Place → Result (List ℕ) JobFault

@@ -38,8 +38,8 @@ replies_of sessions zero = []
 replies_of sessions (suc index) = unwrap_or (slice_get sessions index) []
 
 -- the replies of a session to steps that aren't in the order so far, of which it has so many of each session
-abbrev pub left_of : List (List Reply) → List ℕ → ℕ → List Reply
-left_of sessions taken session = drop (slice_index taken session) (replies_of sessions session)
+abbrev pub replies_left : List (List Reply) → List ℕ → ℕ → List Reply
+replies_left sessions taken session = drop (slice_index taken session) (replies_of sessions session)
 
 -- what is left of the sessions from this number on, one session after the other
 abbrev pub rest_from : ℕ → List (List Reply) → List ℕ → List ℕ
@@ -51,9 +51,9 @@ rest_from session (replies ∷ sessions) taken =
 abbrev pub order_behind : List (List Reply) → List ℕ → List Logged → List ℕ
 order_behind sessions taken [] = rest_from 1 sessions taken
 order_behind sessions taken (call ∷ log) =
-    replicate (steps_to_logged (left_of sessions taken call.session)) call.session
+    replicate (steps_to_logged (replies_left sessions taken call.session)) call.session
     ++ order_behind sessions (slice_set taken call.session
-    (slice_index taken call.session + steps_to_logged (left_of sessions taken call.session))) log
+    (slice_index taken call.session + steps_to_logged (replies_left sessions taken call.session))) log
 
 -- For each logged call its session's number, once for each step of the session behind its last logged one, up to and
 -- with the call's. After the log the steps that are left.
@@ -61,15 +61,15 @@ abbrev pub order_of : List Logged → List (List Reply) → List ℕ
 order_of log sessions = order_behind sessions (replicate 256 0) log
 
 -- a number of the order, in comments of sixteen numbers, one a line: its place, and whether it is the last
-unfoldable pub number_text : ℕ → Bool → ℕ → List ℕ
-number_text place last number =
+unfoldable pub order_number_text : ℕ → Bool → ℕ → List ℕ
+order_number_text place last number =
     (if place % 16 == 0 then codes "(order" else []) ++ codes " " ++ decimal number ++
     (if (place + 1) % 16 == 0 || last then codes ");\n" else [])
 
 -- the numbers of the order from this place on
 abbrev pub order_from : ℕ → List ℕ → List ℕ
 order_from place [] = []
-order_from place (number ∷ behind) = number_text place (length behind == 0) number ++ order_from (place + 1) behind
+order_from place (number ∷ behind) = order_number_text place (length behind == 0) number ++ order_from (place + 1) behind
 
 abbrev pub order_text : List ℕ → List ℕ
 order_text order = order_from 0 order

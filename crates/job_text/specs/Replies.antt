@@ -28,12 +28,12 @@ cell_text Top = codes "top"
 cell_text (Symbol number) = decimal number
 
 -- a point: a space before each coordinate
-unfoldable pub point_text : Point → List ℕ
-point_text p = codes " " ++ signed_decimal p.x ++ codes " " ++ signed_decimal p.y
+unfoldable pub spaced_point : Point → List ℕ
+spaced_point p = codes " " ++ signed_decimal p.x ++ codes " " ++ signed_decimal p.y
 
 abbrev pub points_text : List Point → List ℕ
 points_text [] = []
-points_text (p ∷ points) = point_text p ++ points_text points
+points_text (p ∷ points) = spaced_point p ++ points_text points
 
 -- what stands between two rings
 abbrev pub bar_text : List (List Point) → List ℕ
@@ -46,21 +46,21 @@ rings_text [] = []
 rings_text (ring ∷ rings) = points_text ring ++ bar_text rings ++ rings_text rings
 
 -- the degrees of quarter turns
-abbrev pub quarter_text : Quarter → List ℕ
-quarter_text R0 = codes "0"
-quarter_text R90 = codes "90"
-quarter_text R180 = codes "180"
-quarter_text R270 = codes "270"
+abbrev pub degrees_text : Quarter → List ℕ
+degrees_text R0 = codes "0"
+degrees_text R90 = codes "90"
+degrees_text R180 = codes "180"
+degrees_text R270 = codes "270"
 
 -- a turn without its shift: whether it mirrors, and its degrees
 unfoldable pub turning_text : Turn → List ℕ
-turning_text turn = (if turn.mirror then codes "m" else codes "r") ++ quarter_text turn.quarter
+turning_text turn = (if turn.mirror then codes "m" else codes "r") ++ degrees_text turn.quarter
 
 -- an item that was looked at
 unfoldable pub found_text : Item → List ℕ
 found_text (Shape cell layer rings) = codes "shape " ++ cell_text cell ++ codes " " ++ layer ++ rings_text rings
 found_text (Placed cell target turn) =
-    codes "placed " ++ cell_text cell ++ codes " " ++ decimal target ++ codes " " ++ turning_text turn ++ point_text turn.shift
+    codes "placed " ++ cell_text cell ++ codes " " ++ decimal target ++ codes " " ++ turning_text turn ++ spaced_point turn.shift
 
 -- new items, so many from this id on: the first and the last
 unfoldable pub several_text : ItemId → ℕ → List ℕ

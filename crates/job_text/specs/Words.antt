@@ -20,20 +20,20 @@ abbrev pub ◌>>=◌ : {A B : Type 0} → Option A → (A → Option B) → Opti
 o >>= f = option_and_then f o
 
 -- spaces and tabs separate words
-abbrev pub is_separator : ℕ → Bool
-is_separator b = b == 32 || b == 9
+abbrev pub is_word_separator : ℕ → Bool
+is_word_separator b = b == 32 || b == 9
 
 -- whether no word goes on at the first of the bytes
-abbrev pub is_between : List ℕ → Bool
-is_between [] = true
-is_between (b ∷ bytes) = is_separator b
+abbrev pub is_word_end : List ℕ → Bool
+is_word_end [] = true
+is_word_end (b ∷ bytes) = is_word_separator b
 
 -- the words of the bytes
 abbrev pub words : List ℕ → List (List ℕ)
 words [] = []
 words (b ∷ bytes) =
-    if is_separator b then words bytes
-    else if is_between bytes then (b ∷ []) ∷ words bytes
+    if is_word_separator b then words bytes
+    else if is_word_end bytes then (b ∷ []) ∷ words bytes
     else in_front b (words bytes)
 
 -- the words that a line says
@@ -42,7 +42,7 @@ words_of line = words (content line)
 
 -- the line from its first word on
 abbrev pub from_word : List ℕ → List ℕ
-from_word line = drop (unwrap_or (position (λ b. not (is_separator b)) line) (length line)) line
+from_word line = drop (unwrap_or (position (λ b. not (is_word_separator b)) line) (length line)) line
 
 -- this is the first word of the bytes, and this stands behind it
 pub record IsFirstWord (bytes word behind : List ℕ) : Type 0 where
@@ -58,52 +58,52 @@ abbrev pub value_up_to : ℕ → List ℕ → Option ℕ
 value_up_to limit digits = if nat_le (decimal_value digits) limit then Some (decimal_value digits) else None
 
 -- the number that the word spells, up to the limit; leading zeros are allowed, a sign isn't
-unfoldable pub number_of : ℕ → List ℕ → Option ℕ
-number_of limit bytes = if is_number bytes then value_up_to limit bytes else None
+unfoldable pub parsed_number : ℕ → List ℕ → Option ℕ
+parsed_number limit bytes = if is_number bytes then value_up_to limit bytes else None
 
 -- whether the word begins with a minus sign
 abbrev pub is_negative : List ℕ → Bool
 is_negative bytes = nat_lt 0 (length bytes) && (slice_index bytes 0 == 45)
 
 -- a coordinate as written: a number of 32 bits, behind a minus sign or not; `-0` is allowed
-unfoldable pub coordinate_of : List ℕ → Option ℤ
-coordinate_of bytes =
-    if is_negative bytes then option_map (λ n. neg_ℤ (pos n)) (number_of 2147483648 (drop 1 bytes)) else option_map pos
-    (number_of 2147483647 bytes)
+unfoldable pub parsed_coordinate : List ℕ → Option ℤ
+parsed_coordinate bytes =
+    if is_negative bytes then option_map (λ n. neg_ℤ (pos n)) (parsed_number 2147483648 (drop 1 bytes)) else option_map pos
+    (parsed_number 2147483647 bytes)
 
 -- a cell: `top`, or a symbol's number up to `MAX_SYMBOL`
-unfoldable pub cell_of : List ℕ → Option CellId
-cell_of bytes = if bytes_eq bytes (codes "top") then Some Top else option_map Symbol (number_of MAX_SYMBOL bytes)
+unfoldable pub parsed_cell : List ℕ → Option CellId
+parsed_cell bytes = if bytes_eq bytes (codes "top") then Some Top else option_map Symbol (parsed_number MAX_SYMBOL bytes)
 
 -- the number before the first dot, up to the limit, and what stands behind the dot
 unfoldable pub before_dot : ℕ → List ℕ → Option (ℕ × List ℕ)
 before_dot limit bytes = do
   dot ← position (λ b. b == 46) bytes
-  number ← number_of limit (take dot bytes)
+  number ← parsed_number limit (take dot bytes)
   Some (number, drop (dot + 1) bytes)
 
 -- a session up to 64, and one of its transactions up to 65,535
-unfoldable pub txn_of : List ℕ → Option TxnId
-txn_of bytes = do
+unfoldable pub parsed_txn : List ℕ → Option TxnId
+parsed_txn bytes = do
   session ← before_dot 64 bytes
-  txn ← number_of 65535 session.1
+  txn ← parsed_number 65535 session.1
   Some (record { session = session.0; txn = txn })
 
 -- the same, and one of the transaction's items, up to 4,294,967,295
-unfoldable pub item_of : List ℕ → Option ItemId
-item_of bytes = do
+unfoldable pub parsed_item : List ℕ → Option ItemId
+parsed_item bytes = do
   session ← before_dot 64 bytes
   txn ← before_dot 65535 session.1
-  seq ← number_of 4294967295 txn.1
+  seq ← parsed_number 4294967295 txn.1
   Some (record { session = session.0; txn = txn.0; seq = seq })
 
 -- whether a turn's letter mirrors first
-abbrev pub mirror_of : ℕ → Option Bool
-mirror_of b = if b == 114 then Some false else if b == 109 then Some true else None
+abbrev pub parsed_mirror : ℕ → Option Bool
+parsed_mirror b = if b == 114 then Some false else if b == 109 then Some true else None
 
 -- the quarter turns of so many degrees
-unfoldable pub quarter_of : List ℕ → Option Quarter
-quarter_of bytes =
+unfoldable pub parsed_quarter : List ℕ → Option Quarter
+parsed_quarter bytes =
     if bytes_eq bytes (codes "0") then Some R0
     else if bytes_eq bytes (codes "90") then Some R90
     else if bytes_eq bytes (codes "180") then Some R180
@@ -111,9 +111,9 @@ quarter_of bytes =
     else None
 
 -- whether a turn mirrors, and its quarter turns: `r` or `m`, and the degrees
-unfoldable pub turning_of : List ℕ → Option (Bool × Quarter)
-turning_of [] = None
-turning_of (b ∷ bytes) = do
-  mirror ← mirror_of b
-  quarter ← quarter_of bytes
+unfoldable pub parsed_turning : List ℕ → Option (Bool × Quarter)
+parsed_turning [] = None
+parsed_turning (b ∷ bytes) = do
+  mirror ← parsed_mirror b
+  quarter ← parsed_quarter bytes
   Some (mirror, quarter)

@@ -1,7 +1,7 @@
 //! What the first words of a line mean, and what stands behind them.
 ghost use Rattle.std.specs.Prelude.{◌≡◌, option_map};
 ghost use Rattle.job_text.specs.Job.{is_none_of};
-ghost use Rattle.job_text.specs.Steps.{cell_at, coordinate_at, ended, item_alone, item_at, point_at, point_of, symbol_alone, symbol_at, turning_at, txn_alone, txn_at};
+ghost use Rattle.job_text.specs.Steps.{if_ended, item_alone, leading_cell, leading_coordinate, leading_item, leading_point, leading_symbol, leading_turning, leading_txn, point_of, symbol_alone, txn_alone};
 ghost use Rattle.job_text.specs.Words.{words};
 
 use crate::words::{
@@ -14,7 +14,7 @@ use txn_rules::TxnId;
 
 /// The cell that the first word names, and what stands behind the word.
 pub(crate) fn cell_at(line: &[u8]) -> Option<(CellId, &[u8])>
-    ensures { option_map (λ p. (p.0, words p.1.now)) result ≡ cell_at (words line.now) }
+    ensures { option_map (λ p. (p.0, words p.1.now)) result ≡ leading_cell (words line.now) }
 {
     let (word, behind) = split_word(line)?;
     Some((cell_of(word)?, behind))
@@ -22,7 +22,7 @@ pub(crate) fn cell_at(line: &[u8]) -> Option<(CellId, &[u8])>
 
 /// The number of a symbol that the first word spells, and what stands behind the word.
 pub(crate) fn symbol_at(line: &[u8]) -> Option<(u32, &[u8])>
-    ensures { option_map (λ p. (p.0, words p.1.now)) result ≡ symbol_at (words line.now) }
+    ensures { option_map (λ p. (p.0, words p.1.now)) result ≡ leading_symbol (words line.now) }
 {
     let (word, behind) = split_word(line)?;
     Some((number_of(MAX_SYMBOL, word)?, behind))
@@ -30,7 +30,7 @@ pub(crate) fn symbol_at(line: &[u8]) -> Option<(u32, &[u8])>
 
 /// The item that the first word names, and what stands behind the word.
 pub(crate) fn item_at(line: &[u8]) -> Option<(ItemId, &[u8])>
-    ensures { option_map (λ p. (p.0, words p.1.now)) result ≡ item_at (words line.now) }
+    ensures { option_map (λ p. (p.0, words p.1.now)) result ≡ leading_item (words line.now) }
 {
     let (word, behind) = split_word(line)?;
     Some((item_of(word)?, behind))
@@ -38,16 +38,16 @@ pub(crate) fn item_at(line: &[u8]) -> Option<(ItemId, &[u8])>
 
 /// The turn without its shift that the first word names, and what stands behind the word.
 pub(crate) fn turning_at(line: &[u8]) -> Option<((bool, Quarter), &[u8])>
-    ensures { option_map (λ p. (p.0, words p.1.now)) result ≡ turning_at (words line.now) }
+    ensures { option_map (λ p. (p.0, words p.1.now)) result ≡ leading_turning (words line.now) }
 {
     let (word, behind) = split_word(line)?;
     Some((turning_of(word)?, behind))
 }
 
 /// The point that the first two words spell, and what stands behind them.
-#[tactic(auto, unfolding(crate::specs::Steps::point_at))]
+#[tactic(auto, unfolding(crate::specs::Steps::leading_point))]
 pub(crate) fn point_at(line: &[u8]) -> Option<(Point, &[u8])>
-    ensures { option_map (λ p. (p.0, words p.1.now)) result ≡ point_at (words line.now) }
+    ensures { option_map (λ p. (p.0, words p.1.now)) result ≡ leading_point (words line.now) }
 {
     let (x, behind) = coordinate_at(line)?;
     let (y, behind) = coordinate_at(behind)?;
@@ -56,7 +56,7 @@ pub(crate) fn point_at(line: &[u8]) -> Option<(Point, &[u8])>
 
 /// The coordinate that the first word spells, and what stands behind the word.
 fn coordinate_at(line: &[u8]) -> Option<(i32, &[u8])>
-    ensures { option_map (λ p. (p.0, words p.1.now)) result ≡ coordinate_at (words line.now) }
+    ensures { option_map (λ p. (p.0, words p.1.now)) result ≡ leading_coordinate (words line.now) }
 {
     let (word, behind) = split_word(line)?;
     Some((coordinate_of(word)?, behind))
@@ -74,7 +74,7 @@ pub(crate) fn point_of(x: &[u8], y: &[u8]) -> Option<Point>
 
 /// The transaction that the one word names, and what stands behind the word.
 fn txn_at(line: &[u8]) -> Option<(TxnId, &[u8])>
-    ensures { option_map (λ p. (p.0, words p.1.now)) result ≡ txn_at (words line.now) }
+    ensures { option_map (λ p. (p.0, words p.1.now)) result ≡ leading_txn (words line.now) }
 {
     let (word, behind) = split_word(line)?;
     Some((txn_of(word)?, behind))
@@ -109,7 +109,7 @@ pub(crate) fn symbol_alone(line: &[u8]) -> Option<u32>
 
 /// The value, where no word is left.
 pub(crate) fn ended<T: Drop>(line: &[u8], value: T) -> Option<T>
-    ensures { result ≡ ended (words line.now) value }
+    ensures { result ≡ if_ended (words line.now) value }
 {
     if is_blank(line) { Some(value) } else { None }
 }

@@ -3,7 +3,7 @@ ghost use Rattle.std.specs.Prelude.{◌≡◌, ◌<◌, ◌≤◌, ◌++◌, ◌
 ghost use Rattle.std.specs.Prelude.{length, replicate, slice_index};
 ghost use Rattle.std.specs.List.{position};
 ghost use Rattle.byte_io.specs.Buffered.{Buffered};
-ghost use Rattle.job_text.specs.Order.{is_logged, is_logged_fault, left_of, number_text, order_of, order_text, replies_of, rest_from, steps_to_logged};
+ghost use Rattle.job_text.specs.Order.{is_logged, is_logged_fault, order_number_text, order_of, order_text, replies_left, replies_of, rest_from, steps_to_logged};
 
 use crate::words::MAX_SESSION;
 use byte_io::{Out, OutBuffer};
@@ -66,7 +66,7 @@ fn push_rest(
 /// Returns the replies of a session to steps that aren't in the order so far.
 fn left_of<'a>(sessions: &'a [Sequence<Reply>], taken: &[usize], session: u8) -> &'a [Reply]
     requires { length taken.now ≡ SESSIONS }
-    ensures value { result.now ≡ left_of sessions.now taken.now session }
+    ensures value { result.now ≡ replies_left sessions.now taken.now session }
     ensures fits { slice_index taken.now session + length result.now < 2 ^ 64 }
 {
     let replies = replies_of(sessions, session);
@@ -159,7 +159,7 @@ pub(crate) fn put_order<O: Out>(out: &mut O, buffer: &mut OutBuffer, order: &[u8
 /// Puts a number of the order, in comments of `LINE` numbers, by its index, from 0, and whether it is the last.
 fn put_number<O: Out>(out: &mut O, buffer: &mut OutBuffer, index: usize, last: bool, session: u8)
     ensures { Buffered O.written O.failures out.old buffer.old out.new buffer.new
-        (number_text index last session) }
+        (order_number_text index last session) }
 {
     put_head(out, buffer, index);
     buffer.put_byte(out, b' ');

@@ -3,7 +3,7 @@ ghost use Rattle.std.specs.Prelude.{◌≡◌, ◌+◌, ◌++◌, ◌<◌, ◌==
 ghost use Rattle.std.specs.List.{list_all};
 ghost use Rattle.lay_point.specs.Memory.{IsAnswer};
 ghost use Rattle.job_text.specs.declared.job.JobFault.TheVariants.{NoMemory as OutOfMemory};
-ghost use Rattle.job_text.specs.Job.{are_counted, fits, named_by, named_in, named_order, odd_line, one_by_one, order_at, session_of, total_len};
+ghost use Rattle.job_text.specs.Job.{are_counted, named_by, named_in, named_order, odd_line, one_by_one, order_at, order_fits, session_of, total_len};
 ghost use Rattle.job_text.specs.Lines.{lines};
 ghost use Rattle.job_text.specs.Words.{is_number, words};
 
@@ -135,9 +135,9 @@ fn are_numbers(line: &[u8]) -> bool
 }
 
 /// Returns whether each session stands in the order as often as it has steps, and nothing else does.
-#[tactic(auto, unfolding(crate::specs::Job::fits))]
+#[tactic(auto, unfolding(crate::specs::Job::order_fits))]
 fn fits(scripts: &[Sequence<Step>], order: &[u8]) -> bool
-    ensures { result ≡ fits scripts.now order.now }
+    ensures { result ≡ order_fits scripts.now order.now }
 {
     has_total_len(scripts, order.len()) && are_counted(scripts, order)
 }

@@ -5,8 +5,8 @@ ghost use Rattle.byte_io.specs.Buffered.{Buffered};
 ghost use Rattle.lay_items.specs.IdText.{item_text};
 ghost use Rattle.lay_items.specs.declared.item.Item.TheVariants.{Placed, Shape};
 ghost use Rattle.txn_rules.specs.Refusals.{txn_text};
-ghost use Rattle.job_text.specs.Replies.{answer_text, bar_text, cell_text, fault_text, found_text, named_text, point_text};
-ghost use Rattle.job_text.specs.Replies.{points_text, quarter_text, replies_text, reply_text, rings_text, session_text};
+ghost use Rattle.job_text.specs.Replies.{answer_text, bar_text, cell_text, fault_text, found_text, named_text, spaced_point};
+ghost use Rattle.job_text.specs.Replies.{degrees_text, points_text, replies_text, reply_text, rings_text, session_text};
 ghost use Rattle.job_text.specs.Replies.{several_text, turning_text};
 
 use byte_io::{Out, OutBuffer};
@@ -211,7 +211,7 @@ fn put_points<O: Out>(out: &mut O, buffer: &mut OutBuffer, points: &[Point])
 /// Puts a point, behind a space.
 fn put_point<O: Out>(out: &mut O, buffer: &mut OutBuffer, point: Point)
     ensures { Buffered O.written O.failures out.old buffer.old out.new buffer.new
-        (point_text point) }
+        (spaced_point point) }
 {
     buffer.put_byte(out, b' ');
     buffer.put_signed(out, point.x);
@@ -253,7 +253,7 @@ fn put_mirror<O: Out>(out: &mut O, buffer: &mut OutBuffer, mirror: bool)
 /// Puts the degrees of quarter turns.
 fn put_quarter<O: Out>(out: &mut O, buffer: &mut OutBuffer, quarter: Quarter)
     ensures { Buffered O.written O.failures out.old buffer.old out.new buffer.new
-        (quarter_text quarter) }
+        (degrees_text quarter) }
 {
     let degrees: &[u8] = match quarter {
         Quarter::R0 => b"0",

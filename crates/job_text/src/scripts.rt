@@ -3,7 +3,7 @@ ghost use Rattle.std.specs.Prelude.{◌≡◌, ◌+◌, ◌++◌, ◌∷◌, [],
 ghost use Rattle.std.specs.Result.{result_map_both};
 ghost use Rattle.lay_point.specs.Memory.{IsAnswer};
 ghost use Rattle.job_text.specs.declared.job.JobFault.TheVariants.{NoMemory as OutOfMemory};
-ghost use Rattle.job_text.specs.Job.{Sections, is_only_number, is_session, is_session_number, scripts_of, sections_at, with_step};
+ghost use Rattle.job_text.specs.Job.{Sections, is_only_number, is_session_line, is_session_number, scripts_of, sections_at, steps_with};
 ghost use Rattle.job_text.specs.Lines.{lines};
 ghost use Rattle.job_text.specs.Words.{words};
 
@@ -91,10 +91,10 @@ fn with_last(
 }
 
 /// Appends the step that the words of the line say, if there are any.
-#[tactic(auto, unfolding(crate::specs::Job::with_step))]
+#[tactic(auto, unfolding(crate::specs::Job::steps_with))]
 fn push_step(alloc: Global, steps: &mut Vec<Step>, number: u32, line: &[u8]) -> Result<(), JobFault>
     ensures { IsAnswer OutOfMemory (result_map_both (λ _. steps.new.items) (λ fault. fault) result)
-        (with_step steps.old.items number (words line.now)) }
+        (steps_with steps.old.items number (words line.now)) }
 {
     if is_blank(line) {
         return Ok(());
@@ -119,7 +119,7 @@ fn push_taken<T: Drop>(items: &mut Vec<T>, item: &mut Option<T>) -> Result<(), N
 
 /// Returns whether the line's words are `%session` and this number.
 fn is_session(session: usize, line: &[u8]) -> bool
-    ensures value { result ≡ is_session session (words line.now) }
+    ensures value { result ≡ is_session_line session (words line.now) }
     ensures small { IsTrue result → session ≤ MAX_SESSION }
 {
     match split_word(line) {

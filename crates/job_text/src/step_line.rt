@@ -1,7 +1,7 @@
 //! Step lines.
 ghost use Rattle.std.specs.Prelude.{◌≡◌, Ok, [], ◌++◌, OnOk};
 ghost use Rattle.lay_point.specs.Memory.{IsAnswer};
-ghost use Rattle.job_text.specs.Steps.{bool_of, box_of, command_of, layer_of, move_of, op_of, place_of, points_from, poly_of, short_command, step_named, step_of};
+ghost use Rattle.job_text.specs.Steps.{bool_command, box_command, command_named, layer_command, move_command, op_of, parsed_points, place_command, poly_command, short_command, step_named, step_of};
 ghost use Rattle.job_text.specs.Words.{words};
 
 use crate::fields::{
@@ -49,9 +49,9 @@ fn step_named(alloc: Global, name: &[u8], line: &[u8]) -> Result<Option<Step>, N
 }
 
 /// The command of this name, with the words behind that.
-#[tactic(auto, unfolding(crate::specs::Steps::command_of))]
+#[tactic(auto, unfolding(crate::specs::Steps::command_named))]
 fn command_of(alloc: Global, name: &[u8], line: &[u8]) -> Result<Option<Command>, NoMemory>
-    ensures { IsAnswer (record {}) result (Ok (command_of name.now (words line.now))) }
+    ensures { IsAnswer (record {}) result (Ok (command_named name.now (words line.now))) }
 {
     if name == "box".as_bytes() {
         return Ok(box_of(line));
@@ -93,9 +93,9 @@ fn short_command(name: &[u8], line: &[u8]) -> Option<Command>
 }
 
 /// The command `box`: the cell, the layer and two opposite corners.
-#[tactic(auto, unfolding(crate::specs::Steps::box_of))]
+#[tactic(auto, unfolding(crate::specs::Steps::box_command))]
 fn box_of(line: &[u8]) -> Option<Command>
-    ensures { result ≡ box_of (words line.now) }
+    ensures { result ≡ box_command (words line.now) }
 {
     let (cell, behind) = cell_at(line)?;
     let (word, behind) = split_word(behind)?;
@@ -106,9 +106,9 @@ fn box_of(line: &[u8]) -> Option<Command>
 }
 
 /// The command `poly`: the cell, the layer and the points.
-#[tactic(auto, unfolding(crate::specs::Steps::poly_of))]
+#[tactic(auto, unfolding(crate::specs::Steps::poly_command))]
 fn poly_of(alloc: Global, line: &[u8]) -> Result<Option<Command>, NoMemory>
-    ensures { IsAnswer (record {}) result (Ok (poly_of (words line.now))) }
+    ensures { IsAnswer (record {}) result (Ok (poly_command (words line.now))) }
 {
     let Some((cell, behind)) = cell_at(line) else {
         return Ok(None);
@@ -129,7 +129,7 @@ fn poly_of(alloc: Global, line: &[u8]) -> Result<Option<Command>, NoMemory>
 
 /// The points that the words spell, two words a point.
 fn points_of(alloc: Global, line: &[u8]) -> Result<Option<Sequence<Point>>, NoMemory>
-    ensures { IsAnswer (record {}) result (Ok (points_from [] (words line.now))) }
+    ensures { IsAnswer (record {}) result (Ok (parsed_points [] (words line.now))) }
 {
     let mut points = Vec::new(alloc);
     let mut rest = line;
@@ -147,9 +147,9 @@ fn points_of(alloc: Global, line: &[u8]) -> Result<Option<Sequence<Point>>, NoMe
 }
 
 /// The command `move`: the item, and how far to the right and up.
-#[tactic(auto, unfolding(crate::specs::Steps::move_of))]
+#[tactic(auto, unfolding(crate::specs::Steps::move_command))]
 fn move_of(line: &[u8]) -> Option<Command>
-    ensures { result ≡ move_of (words line.now) }
+    ensures { result ≡ move_command (words line.now) }
 {
     let (id, behind) = item_at(line)?;
     let (Point { x: dx, y: dy }, behind) = point_at(behind)?;
@@ -157,9 +157,9 @@ fn move_of(line: &[u8]) -> Option<Command>
 }
 
 /// The command `layer`: the item and the layer.
-#[tactic(auto, unfolding(crate::specs::Steps::layer_of))]
+#[tactic(auto, unfolding(crate::specs::Steps::layer_command))]
 fn layer_of(line: &[u8]) -> Option<Command>
-    ensures { result ≡ layer_of (words line.now) }
+    ensures { result ≡ layer_command (words line.now) }
 {
     let (id, behind) = item_at(line)?;
     let (word, behind) = split_word(behind)?;
@@ -168,9 +168,9 @@ fn layer_of(line: &[u8]) -> Option<Command>
 }
 
 /// The command `place`: the cell, the symbol to call, the turn without its shift, and the shift.
-#[tactic(auto, unfolding(crate::specs::Steps::place_of))]
+#[tactic(auto, unfolding(crate::specs::Steps::place_command))]
 fn place_of(line: &[u8]) -> Option<Command>
-    ensures { result ≡ place_of (words line.now) }
+    ensures { result ≡ place_command (words line.now) }
 {
     let (cell, behind) = cell_at(line)?;
     let (target, behind) = symbol_at(behind)?;
@@ -199,9 +199,9 @@ fn op_of(name: &[u8]) -> Option<Op>
 }
 
 /// An operation on layers: the cell, the layers of both inputs, and that of the new shapes.
-#[tactic(auto, unfolding(crate::specs::Steps::bool_of))]
+#[tactic(auto, unfolding(crate::specs::Steps::bool_command))]
 fn bool_of(op: Op, line: &[u8]) -> Option<Command>
-    ensures { result ≡ bool_of op (words line.now) }
+    ensures { result ≡ bool_command op (words line.now) }
 {
     let (cell, behind) = cell_at(line)?;
     let (word, behind) = split_word(behind)?;

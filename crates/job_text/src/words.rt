@@ -3,7 +3,7 @@ ghost use Rattle.std.specs.Prelude.{◌+◌, ◌≡◌, ◌≤◌, [], neg_ℤ, 
 ghost use Rattle.std.specs.List.{AllPass, list_all, position};
 ghost use Rattle.lay_point.specs.Names.{is_digit};
 ghost use Rattle.job_text.specs.Job.{is_none_of};
-ghost use Rattle.job_text.specs.Words.{IsFirstWord, before_dot, cell_of, coordinate_of, from_word, is_negative, is_number, is_separator, item_of, mirror_of, number_of, quarter_of, turning_of, txn_of, value_up_to, words};
+ghost use Rattle.job_text.specs.Words.{IsFirstWord, before_dot, from_word, is_negative, is_number, is_word_separator, parsed_cell, parsed_coordinate, parsed_item, parsed_mirror, parsed_number, parsed_quarter, parsed_turning, parsed_txn, value_up_to, words};
 
 use crate::lines::place_of;
 use byte_io::capped_decimal;
@@ -46,7 +46,7 @@ fn from_word(line: &[u8]) -> &[u8]
 
 /// Where the first word begins.
 fn word_place(line: &[u8]) -> Option<usize>
-    ensures value { result ≡ position (λ b. not (is_separator b)) line.now }
+    ensures value { result ≡ position (λ b. not (is_word_separator b)) line.now }
     ensures inside { IfSome result (λ n. n < length line.now) }
 {
     line.iter().position(|b| !is_separator(*b))
@@ -54,7 +54,7 @@ fn word_place(line: &[u8]) -> Option<usize>
 
 /// Where the first separator stands.
 fn separator_place(line: &[u8]) -> Option<usize>
-    ensures value { result ≡ position is_separator line.now }
+    ensures value { result ≡ position is_word_separator line.now }
     ensures inside { IfSome result (λ n. n < length line.now) }
 {
     line.iter().position(|b| is_separator(*b))
@@ -69,15 +69,15 @@ pub(crate) fn is_blank(line: &[u8]) -> bool
 
 /// Returns whether the byte separates words.
 fn is_separator(byte: u8) -> bool
-    ensures { result ≡ is_separator byte }
+    ensures { result ≡ is_word_separator byte }
 {
     byte == b' ' || byte == b'\t'
 }
 
 /// The cell that the word names.
-#[tactic(auto, unfolding(crate::specs::Words::cell_of))]
+#[tactic(auto, unfolding(crate::specs::Words::parsed_cell))]
 pub(crate) fn cell_of(word: &[u8]) -> Option<CellId>
-    ensures { result ≡ cell_of word.now }
+    ensures { result ≡ parsed_cell word.now }
 {
     match word {
         b"top" => Some(CellId::Top),
@@ -86,9 +86,9 @@ pub(crate) fn cell_of(word: &[u8]) -> Option<CellId>
 }
 
 /// The transaction that the word names.
-#[tactic(auto, unfolding(crate::specs::Words::txn_of))]
+#[tactic(auto, unfolding(crate::specs::Words::parsed_txn))]
 pub(crate) fn txn_of(word: &[u8]) -> Option<TxnId>
-    ensures { result ≡ txn_of word.now }
+    ensures { result ≡ parsed_txn word.now }
 {
     let (session, behind) = before_dot(MAX_SESSION, word)?;
     let txn = number_of(MAX_TXN, behind)?;
@@ -99,9 +99,9 @@ pub(crate) fn txn_of(word: &[u8]) -> Option<TxnId>
 }
 
 /// The item that the word names.
-#[tactic(auto, unfolding(crate::specs::Words::item_of))]
+#[tactic(auto, unfolding(crate::specs::Words::parsed_item))]
 pub(crate) fn item_of(word: &[u8]) -> Option<ItemId>
-    ensures { result ≡ item_of word.now }
+    ensures { result ≡ parsed_item word.now }
 {
     let (session, behind) = before_dot(MAX_SESSION, word)?;
     let (txn, behind) = before_dot(MAX_TXN, behind)?;
@@ -125,9 +125,9 @@ fn before_dot(limit: u32, word: &[u8]) -> Option<(u32, &[u8])>
 }
 
 /// Whether a turn mirrors, and its quarter turns, as the word spells them.
-#[tactic(auto, unfolding(crate::specs::Words::turning_of))]
+#[tactic(auto, unfolding(crate::specs::Words::parsed_turning))]
 pub(crate) fn turning_of(word: &[u8]) -> Option<(bool, Quarter)>
-    ensures { result ≡ turning_of word.now }
+    ensures { result ≡ parsed_turning word.now }
 {
     let (letter, degrees) = word.split_first()?;
     let mirror = mirror_of(*letter)?;
@@ -136,7 +136,7 @@ pub(crate) fn turning_of(word: &[u8]) -> Option<(bool, Quarter)>
 
 /// Whether a turn of this letter mirrors.
 fn mirror_of(letter: u8) -> Option<bool>
-    ensures { result ≡ mirror_of letter }
+    ensures { result ≡ parsed_mirror letter }
 {
     match letter {
         b'r' => Some(false),
@@ -146,9 +146,9 @@ fn mirror_of(letter: u8) -> Option<bool>
 }
 
 /// The quarter turns of so many degrees.
-#[tactic(auto, unfolding(crate::specs::Words::quarter_of))]
+#[tactic(auto, unfolding(crate::specs::Words::parsed_quarter))]
 fn quarter_of(degrees: &[u8]) -> Option<Quarter>
-    ensures { result ≡ quarter_of degrees.now }
+    ensures { result ≡ parsed_quarter degrees.now }
 {
     match degrees {
         b"0" => Some(Quarter::R0),
@@ -160,9 +160,9 @@ fn quarter_of(degrees: &[u8]) -> Option<Quarter>
 }
 
 /// The coordinate that the word spells.
-#[tactic(auto, unfolding(crate::specs::Words::coordinate_of))]
+#[tactic(auto, unfolding(crate::specs::Words::parsed_coordinate))]
 pub(crate) fn coordinate_of(word: &[u8]) -> Option<i32>
-    ensures { result ≡ coordinate_of word.now }
+    ensures { result ≡ parsed_coordinate word.now }
 {
     if is_negative(word) {
         let number = number_of(MAX_COORDINATE + 1, &word[1..])?;
@@ -196,9 +196,9 @@ fn is_negative(word: &[u8]) -> bool
 }
 
 /// The number that the word spells, `None` where it spells none up to the limit.
-#[tactic(auto, unfolding(crate::specs::Words::number_of))]
+#[tactic(auto, unfolding(crate::specs::Words::parsed_number))]
 pub(crate) fn number_of(limit: u32, word: &[u8]) -> Option<u32>
-    ensures value { result ≡ number_of limit word.now }
+    ensures value { result ≡ parsed_number limit word.now }
     ensures small { IfSome result (λ n. n ≤ limit) }
 {
     if !is_number(word) {

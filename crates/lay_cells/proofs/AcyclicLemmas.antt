@@ -7,7 +7,7 @@ use Rattle.std.proofs.lemmas.Bool.Decides.{Decides-and, Decides-eqb}
 use Rattle.lay_cells.specs.declared.cell_id.CellId.{CellId}
 use Rattle.lay_cells.specs.declared.cell_id.CellId.TheVariants.{Symbol}
 use Rattle.lay_cells.specs.SameCell.{cell_eq, cell_eq-Decides}
-use Rattle.lay_cells.specs.WalkLists.{AreAllWalks, IsWalk, called, longest, standing_in, walks_from, walks_within}
+use Rattle.lay_cells.specs.WalkLists.{AreAllWalks, IsWalk, called_symbol, calls_standing_in, longest, walks_from, walks_within}
 use Rattle.lay_cells.specs.Walks.{IsAcyclic, Walks}
 use Rattle.lay_cells.specs.Walks.Walks.{goes, stays}
 use Rattle.lay_cells.proofs.FewerCalls.{AreAmong, IsAcyclic-fewer}
@@ -19,17 +19,17 @@ abbrev Call : Type 0
 Call = CellId × ℕ
 
 abbrev IsWalkOf : List Call → CellId → List Call → Type 0
-IsWalkOf calls = IsWalk (standing_in calls) called
+IsWalkOf calls = IsWalk (calls_standing_in calls) called_symbol
 
 -- a call that stands in a cell is one of the calls, and its first part is the cell
-pub stands : (calls : List Call) (cell : CellId) (call : Call) → Contains (standing_in calls cell) call
+pub stands : (calls : List Call) (cell : CellId) (call : Call) → Contains (calls_standing_in calls cell) call
     → Contains calls call × (call.0 ≡ cell)
 stands calls cell call h =
     let both = filtered_contains (λ (c : Call). cell_eq c.0 cell) calls call h in
     (both.0, (cell_eq-Decides call.0 cell).0 both.1)
 
 pub stands_in : (calls : List Call) (cell : CellId) (call : Call) → Contains calls call → call.0 ≡ cell
-    → Contains (standing_in calls cell) call
+    → Contains (calls_standing_in calls cell) call
 stands_in calls cell call h e = contains_filtered (λ (c : Call). cell_eq c.0 cell) calls call h ((cell_eq-Decides call.0 cell).1 e)
 
 -- a walk leads to each cell in which one of its calls stands
@@ -106,12 +106,13 @@ few_calls (suc n) calls le acyclic cell (call ∷ walk) is =
 pub all_walks : (calls : List Call) (cell : CellId) → IsAcyclic calls → AreAllWalks calls cell (walks_from calls cell)
 unfolding walks_from
 all_walks calls cell acyclic walk = (
-  λ h. (only_walks (standing_in calls) called (length calls) cell walk h).0,
-  λ is. listed (standing_in calls) called (length calls) cell walk is (few_calls (length calls) calls (omega arith) acyclic cell walk is),
+  λ h. (only_walks (calls_standing_in calls) called_symbol (length calls) cell walk h).0,
+  λ is. listed (calls_standing_in calls) called_symbol (length calls) cell walk is
+      (few_calls (length calls) calls (omega arith) acyclic cell walk is),
 )
 
 pub few_in_all : (calls : List Call) (n : ℕ) (cell : CellId) → IsAcyclic calls
-    → longest (walks_within (standing_in calls) called n cell) ≤ length calls
+    → longest (walks_within (calls_standing_in calls) called_symbol n cell) ≤ length calls
 few_in_all calls n cell acyclic =
     longest-le _ (length calls) (λ walk h. few_calls (length calls) calls (omega arith) acyclic cell walk
-    (only_walks (standing_in calls) called n cell walk h).0)
+    (only_walks (calls_standing_in calls) called_symbol n cell walk h).0)

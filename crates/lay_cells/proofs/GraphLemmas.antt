@@ -15,7 +15,7 @@ use Rattle.lay_cells.specs.declared.cell_id.CellId.TheVariants.{Top, Symbol}
 use Rattle.lay_cells.specs.Graph.{AreRowsOf, HasCall, position_of, row, rows_of, with_target}
 use Rattle.lay_cells.specs.SameCell.{cell_eq, cell_eq-Decides}
 use Rattle.lay_cells.specs.Symbols.{has_cell, has_symbol}
-use Rattle.lay_cells.specs.WalkLists.{standing_in}
+use Rattle.lay_cells.specs.WalkLists.{calls_standing_in}
 
 -- a position is among the cells
 pub position_of-within : (symbols : List ℕ) (cell : CellId) → position_of symbols cell < length symbols + 1
@@ -107,7 +107,7 @@ module _ (symbols : List ℕ) (calls : List (CellId × ℕ)) (rows : List (List 
   place call = position_of symbols (Symbol call.1)
 
   targets_of : List (CellId × ℕ) → CellId → List ℕ
-  targets_of calls' cell = map place (standing_in calls' cell)
+  targets_of calls' cell = map place (calls_standing_in calls' cell)
 
   row-same : row more p ≡ row rows p ++ q ∷ []
   unfolding more
@@ -156,25 +156,25 @@ module _ (symbols : List ℕ) (calls : List (CellId × ℕ)) (rows : List (List 
   unfolding targets_of
   listed-caller cell e there =
       let passes : cell_eq caller cell ≡ true = (cell_eq-Decides caller cell).1 (sym e) in
-      let one : standing_in ((caller, target) ∷ []) cell ≡ (caller, target) ∷ [] =
+      let one : calls_standing_in ((caller, target) ∷ []) cell ≡ (caller, target) ∷ [] =
       ap (λ b. cond b ((caller, target) ∷ []) []) passes in
       let here : p ≡ position_of symbols cell = at ∙ ap (position_of symbols) (sym e) in
       subst (λ (i : ℕ). row more i ≡ targets_of (calls ++ (caller, target) ∷ []) cell) here
       (row-same ∙ ap (λ (i : ℕ). row rows i ++ q ∷ []) here ∙ ap (λ (xs : List ℕ). xs ++ q ∷ []) (r.listed cell there)
-      ∙ ap (λ (t : ℕ). map place (standing_in calls cell) ++ t ∷ []) to
-      ∙ sym (map-append place (standing_in calls cell) ((caller, target) ∷ []))
+      ∙ ap (λ (t : ℕ). map place (calls_standing_in calls cell) ++ t ∷ []) to
+      ∙ sym (map-append place (calls_standing_in calls cell) ((caller, target) ∷ []))
       ∙ sym (ap (map place) (filter-append (λ (c : CellId × ℕ). cell_eq c.0 cell) calls ((caller, target) ∷ [])
-      ∙ ap (λ (cs : List (CellId × ℕ)). standing_in calls cell ++ cs) one)))
+      ∙ ap (λ (cs : List (CellId × ℕ)). calls_standing_in calls cell ++ cs) one)))
 
   listed-other : (cell : CellId) → (cell ≡ caller → ⊥) → (position_of symbols cell ≡ p → ⊥) → IsTrue (has_cell symbols cell)
       → row more (position_of symbols cell) ≡ targets_of (calls ++ (caller, target) ∷ []) cell
   unfolding targets_of
   listed-other cell ne elsewhere there =
       let fails : cell_eq caller cell ≡ false = is_false (cell_eq caller cell) (λ e. ne (sym ((cell_eq-Decides caller cell).0 e))) in
-      let none : standing_in ((caller, target) ∷ []) cell ≡ [] = ap (λ b. cond b ((caller, target) ∷ []) []) fails in
+      let none : calls_standing_in ((caller, target) ∷ []) cell ≡ [] = ap (λ b. cond b ((caller, target) ∷ []) []) fails in
       row-other (position_of symbols cell) elsewhere ∙ r.listed cell there
       ∙ sym (ap (map place) (filter-append (λ (c : CellId × ℕ). cell_eq c.0 cell) calls ((caller, target) ∷ [])
-      ∙ ap (λ (cs : List (CellId × ℕ)). standing_in calls cell ++ cs) none ∙ append-nil (standing_in calls cell)))
+      ∙ ap (λ (cs : List (CellId × ℕ)). calls_standing_in calls cell ++ cs) none ∙ append-nil (calls_standing_in calls cell)))
 
   listed-more : IsTrue (has_cell symbols caller) → (cell : CellId) → IsTrue (has_cell symbols cell)
       → row more (position_of symbols cell) ≡ targets_of (calls ++ (caller, target) ∷ []) cell

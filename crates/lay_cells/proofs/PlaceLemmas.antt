@@ -10,7 +10,7 @@ use Rattle.std.proofs.lemmas.Bool.{cases_eq}
 use Rattle.std.proofs.lemmas.List.Sorted.{Contains-permutation, IsPermutation-sym}
 use Rattle.lay_cells.specs.declared.cell_id.CellId.{CellId}
 use Rattle.lay_cells.specs.declared.cell_id.CellId.TheVariants.{Symbol}
-use Rattle.lay_cells.specs.Places.{AreBelow, AreOrdered, ArePositions, goes_later, keeps_order, place_of}
+use Rattle.lay_cells.specs.Places.{AreBelow, AreOrdered, ArePositions, cell_place, goes_later, keeps_order}
 use Rattle.lay_cells.specs.Walks.{Calls, ClosesCycle, Walks}
 use Rattle.lay_cells.specs.Walks.Walks.{stays, goes}
 use Rattle.lay_cells.proofs.MemberLemmas.{contains_mapped, mapped_contains}
@@ -46,7 +46,7 @@ ordered_without_places symbols (call ∷ calls) = ordered_without_places symbols
 
 module _ (graph : Calls) (places : List ℕ) (ordered : AreOrdered graph places) where
   place : CellId → ℕ
-  place cell = place_of graph.symbols places cell
+  place cell = cell_place graph.symbols places cell
 
   passes : (call : CellId × ℕ) → Contains graph.calls call → keeps_order graph.symbols places call ≡ true
   passes call h =

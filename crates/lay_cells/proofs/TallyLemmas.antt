@@ -14,9 +14,9 @@ use Rattle.lay_cells.specs.declared.tally.Tally.{Tally}
 use Rattle.lay_cells.specs.Graph.{AreRowsOf, AreWithin, position_of, row}
 use Rattle.lay_cells.specs.Places.{AreBelow, ArePositions}
 use Rattle.lay_cells.specs.Symbols.{has_cell}
-use Rattle.lay_cells.specs.Tallies.{AreShallow, AreTallied, AreTallies, AreTargetsKnown, IsKnown, IsLow}
+use Rattle.lay_cells.specs.Tallies.{AreShallow, AreTallied, AreTallies, AreTargetsKnown, IsLow, IsTallied}
 use Rattle.lay_cells.specs.Tallies.{IsSum, IsTally, count_within, counted, greatest, height_within, tally_at}
-use Rattle.lay_cells.specs.WalkLists.{called, longest, standing_in, walks_from, walks_within}
+use Rattle.lay_cells.specs.WalkLists.{called_symbol, calls_standing_in, longest, walks_from, walks_within}
 use Rattle.lay_cells.specs.Walks.{IsAcyclic}
 use Rattle.lay_cells.proofs.AcyclicLemmas.{few_in_all, stands}
 use Rattle.lay_cells.proofs.MemberLemmas.{contains_behind, contains_cases, contains_first, contains_mapped, contains_none}
@@ -24,13 +24,13 @@ use Rattle.lay_cells.proofs.WalkListLemmas.{length-more, longest-more}
 
 module _ (symbols : List ℕ) (calls : List (CellId × ℕ)) (rows : List (List ℕ)) (r : AreRowsOf symbols calls rows) where
   abbrev walks : ℕ → CellId → List (List (CellId × ℕ))
-  walks = walks_within (standing_in calls) called
+  walks = walks_within (calls_standing_in calls) called_symbol
 
   abbrev place : CellId × ℕ → ℕ
   place call = position_of symbols (Symbol call.1)
 
   -- what a cell calls is there
-  there : (cell : CellId) (call : CellId × ℕ) → Contains (standing_in calls cell) call → IsTrue (has_cell symbols (Symbol call.1))
+  there : (cell : CellId) (call : CellId × ℕ) → Contains (calls_standing_in calls cell) call → IsTrue (has_cell symbols (Symbol call.1))
   there cell call h = r.targets call.0 call.1 (stands calls cell call h).0
 
   pub height-longest : (n : ℕ) (cell : CellId) → IsTrue (has_cell symbols cell)
@@ -39,12 +39,12 @@ module _ (symbols : List ℕ) (calls : List (CellId × ℕ)) (rows : List (List 
   height-longest zero cell here = refl
   height-longest (suc n) cell here =
       ap (greatest (λ (q : ℕ). 1 + height_within rows n q)) (r.listed cell here)
-      ∙ by_calls (standing_in calls cell) (λ call h. height-longest n (Symbol call.1) (there cell call h))
-      ∙ sym (longest-more (standing_in calls) called n cell) where
+      ∙ by_calls (calls_standing_in calls cell) (λ call h. height-longest n (Symbol call.1) (there cell call h))
+      ∙ sym (longest-more (calls_standing_in calls) called_symbol n cell) where
         by_calls : (some : List (CellId × ℕ)) → ((call : CellId × ℕ) → Contains some call
             → height_within rows n (place call) ≡ longest (walks n (Symbol call.1)))
             → greatest (λ (q : ℕ). 1 + height_within rows n q) (map place some)
-            ≡ greatest (λ (call : CellId × ℕ). 1 + longest (walks n (Symbol (called call)))) some
+            ≡ greatest (λ (call : CellId × ℕ). 1 + longest (walks n (Symbol (called_symbol call)))) some
         by_calls [] each = refl
         by_calls (call ∷ some) each =
             let first = each call (contains_first call some) in
@@ -57,12 +57,12 @@ module _ (symbols : List ℕ) (calls : List (CellId × ℕ)) (rows : List (List 
   count-length zero cell here = omega arith
   count-length (suc n) cell here =
       ap (λ (qs : List ℕ). 1 + sum_by (count_within rows n) qs) (r.listed cell here)
-      ∙ ap (λ (k : ℕ). 1 + k) (by_calls (standing_in calls cell) (λ call h. count-length n (Symbol call.1) (there cell call h)))
-      ∙ sym (length-more (standing_in calls) called n cell) where
+      ∙ ap (λ (k : ℕ). 1 + k) (by_calls (calls_standing_in calls cell) (λ call h. count-length n (Symbol call.1) (there cell call h)))
+      ∙ sym (length-more (calls_standing_in calls) called_symbol n cell) where
         by_calls : (some : List (CellId × ℕ)) → ((call : CellId × ℕ) → Contains some call
             → count_within rows n (place call) ≡ length (walks n (Symbol call.1)))
             → sum_by (count_within rows n) (map place some)
-            ≡ sum_by (λ (call : CellId × ℕ). length (walks n (Symbol (called call)))) some
+            ≡ sum_by (λ (call : CellId × ℕ). length (walks n (Symbol (called_symbol call)))) some
         by_calls [] each = refl
         by_calls (call ∷ some) each =
             let first = each call (contains_first call some) in
@@ -72,7 +72,7 @@ module _ (symbols : List ℕ) (calls : List (CellId × ℕ)) (rows : List (List 
               first,
               rest,
               sum_by-cons (count_within rows n) (place call) (map place some),
-              sum_by-cons (λ (other : CellId × ℕ). length (walks n (Symbol (called other)))) call some,
+              sum_by-cons (λ (other : CellId × ℕ). length (walks n (Symbol (called_symbol other)))) call some,
             )
 
   -- no walk has more calls than there are
@@ -190,7 +190,7 @@ module _ (rows : List (List ℕ)) where
     ];
     more = λ q h targets. elim (contains_cases p [] q h) [
       | inl e ↦
-          subst (λ (k : ℕ). IsKnown new k) e (subst (λ (o : Option Tally). IsSome o) (sym here)
+          subst (λ (k : ℕ). IsTallied new k) e (subst (λ (o : Option Tally). IsSome o) (sym here)
           (all (subst (λ (k : ℕ). AreTargetsKnown rows old k) (sym e) targets)))
       | inr behind ↦ absurd (contains_none q behind)
     ];
@@ -205,13 +205,13 @@ module _ (rows : List (List ℕ)) where
     unknown h = absurd cc
 
   -- what is known already stays
-  pub at_none : (p : ℕ) (old : List (Option Tally)) → AreTallies rows old → IsKnown old p → AreTallied rows old (p ∷ []) old
+  pub at_none : (p : ℕ) (old : List (Option Tally)) → AreTallies rows old → IsTallied old p → AreTallied rows old (p ∷ []) old
   at_none p old sound known = record {
     whole = refl;
     sound = sound;
     kept = λ q h. h;
     more = λ q h targets. elim (contains_cases p [] q h) [
-      | inl e ↦ subst (λ (k : ℕ). IsKnown old k) e known
+      | inl e ↦ subst (λ (k : ℕ). IsTallied old k) e known
       | inr behind ↦ absurd (contains_none q behind)
     ];
   }
@@ -228,7 +228,7 @@ module _ (rows : List (List ℕ)) where
     kept = λ q h. then.kept q (first.kept q h);
     more = λ q h targets. elim (Contains-push_cases ps p q h) [
       | inl before ↦ then.kept q (first.more q before targets)
-      | inr e ↦ subst (λ (k : ℕ). IsKnown new k) e
+      | inr e ↦ subst (λ (k : ℕ). IsTallied new k) e
           (then.more p (contains_first p []) (λ t k. first.kept t (targets t (subst (λ (i : ℕ). Contains (row rows i) t) e k))))
     ];
   }
@@ -279,7 +279,7 @@ module _ (rows : List (List ℕ)) where
   -- after one round more, what has walks of one call more is known
   pub round-more : (old new : List (Option Tally)) (positions : List ℕ) (n : ℕ) → ArePositions positions (length rows)
       → AreTallied rows old positions new → AreWithin rows
-      → ((p : ℕ) → p < length rows → IsLow rows n p → IsKnown old p)
-      → (p : ℕ) → p < length rows → IsLow rows (suc n) p → IsKnown new p
+      → ((p : ℕ) → p < length rows → IsLow rows n p → IsTallied old p)
+      → (p : ℕ) → p < length rows → IsLow rows (suc n) p → IsTallied new p
   round-more old new positions n all tallied within known p less low =
       tallied.more p ((all p).1 less) (λ q h. known q (within p q h) (low q h))

@@ -5,7 +5,7 @@ use Rattle.std.specs.List.{position_or_len}
 use Rattle.lay_cells.specs.declared.cell_id.CellId.{CellId}
 use Rattle.lay_cells.specs.declared.cell_id.CellId.TheVariants.{Top, Symbol}
 use Rattle.lay_cells.specs.Symbols.{has_cell}
-use Rattle.lay_cells.specs.WalkLists.{standing_in}
+use Rattle.lay_cells.specs.WalkLists.{calls_standing_in}
 
 -- the position of a cell: a symbol's among the symbols, and the top cell's behind them
 abbrev pub position_of : List ℕ → CellId → ℕ
@@ -38,7 +38,7 @@ pub record AreRowsOf (symbols : List ℕ) (calls : List (CellId × ℕ)) (rows :
       → Contains (row rows (position_of symbols caller)) (position_of symbols (Symbol target))
   pub sound : (p q : ℕ) → Contains (row rows p) q → HasCall symbols calls p q
   pub listed : (cell : CellId) → IsTrue (has_cell symbols cell)
-      → row rows (position_of symbols cell) ≡ map (λ call. position_of symbols (Symbol call.1)) (standing_in calls cell)
+      → row rows (position_of symbols cell) ≡ map (λ call. position_of symbols (Symbol call.1)) (calls_standing_in calls cell)
 
 -- each target is among the rows
 abbrev pub AreWithin : List (List ℕ) → Type 0

@@ -7,16 +7,16 @@ use Rattle.lay_cells.specs.Graph.{position_of}
 use Rattle.lay_cells.specs.Walks.{Calls}
 
 -- the place of a cell, from a list by position; 0 where the list has none
-abbrev pub place_of : List ℕ → List ℕ → CellId → ℕ
-place_of symbols places cell = slice_index_or places (position_of symbols cell) 0
+abbrev pub cell_place : List ℕ → List ℕ → CellId → ℕ
+cell_place symbols places cell = slice_index_or places (position_of symbols cell) 0
 
 -- the call goes to no earlier place
 abbrev pub keeps_order : List ℕ → List ℕ → CellId × ℕ → Bool
-keeps_order symbols places call = nat_le (place_of symbols places call.0) (place_of symbols places (Symbol call.1))
+keeps_order symbols places call = nat_le (cell_place symbols places call.0) (cell_place symbols places (Symbol call.1))
 
 -- the call goes to a later place
 abbrev pub goes_later : List ℕ → List ℕ → CellId × ℕ → Bool
-goes_later symbols places call = nat_lt (place_of symbols places call.0) (place_of symbols places (Symbol call.1))
+goes_later symbols places call = nat_lt (cell_place symbols places call.0) (cell_place symbols places (Symbol call.1))
 
 -- no call goes to an earlier place
 abbrev pub AreOrdered : Calls → List ℕ → Type 0

@@ -42,8 +42,8 @@ pub record IsSum (rows : List (List ℕ)) (targets : List ℕ) (tally : Tally) :
 abbrev pub tally_at : List (Option Tally) → ℕ → Option Tally
 tally_at tallies p = slice_index_or tallies p None
 
-abbrev pub IsKnown : List (Option Tally) → ℕ → Type 0
-IsKnown tallies p = IsSome (tally_at tallies p)
+abbrev pub IsTallied : List (Option Tally) → ℕ → Type 0
+IsTallied tallies p = IsSome (tally_at tallies p)
 
 -- each that is known is right
 abbrev pub AreTallies : List (List ℕ) → List (Option Tally) → Type 0
@@ -51,14 +51,14 @@ AreTallies rows tallies = (p : ℕ) (tally : Tally) → tally_at tallies p ≡ S
 
 -- what the cell at this position calls is known
 abbrev pub AreTargetsKnown : List (List ℕ) → List (Option Tally) → ℕ → Type 0
-AreTargetsKnown rows tallies p = (q : ℕ) → Contains (row rows p) q → IsKnown tallies q
+AreTargetsKnown rows tallies p = (q : ℕ) → Contains (row rows p) q → IsTallied tallies q
 
 -- those that can be known from what was known are known after it
 pub record AreTallied (rows : List (List ℕ)) (old : List (Option Tally)) (positions : List ℕ) (new : List (Option Tally)) : Type 0 where
   pub whole : length new ≡ length old
   pub sound : AreTallies rows new
-  pub kept : (p : ℕ) → IsKnown old p → IsKnown new p
-  pub more : (p : ℕ) → Contains positions p → AreTargetsKnown rows old p → IsKnown new p
+  pub kept : (p : ℕ) → IsTallied old p → IsTallied new p
+  pub more : (p : ℕ) → Contains positions p → AreTargetsKnown rows old p → IsTallied new p
 
 -- no walk from the cell at this position has so many calls
 abbrev pub IsLow : List (List ℕ) → ℕ → ℕ → Type 0

@@ -25,17 +25,17 @@ longest [] = 0
 longest (walk ∷ walks) = max (length walk) (longest walks)
 
 -- a graph's calls that stand in a cell, in order
-abbrev pub standing_in : List (CellId × ℕ) → CellId → List (CellId × ℕ)
-standing_in calls cell = filter (λ call. cell_eq call.0 cell) calls
+abbrev pub calls_standing_in : List (CellId × ℕ) → CellId → List (CellId × ℕ)
+calls_standing_in calls cell = filter (λ call. cell_eq call.0 cell) calls
 
 -- the number of the symbol that a call calls
-abbrev pub called : CellId × ℕ → ℕ
-called call = call.1
+abbrev pub called_symbol : CellId × ℕ → ℕ
+called_symbol call = call.1
 
 -- the walks from a cell; where there is no cycle none has more calls than the graph
 unfoldable pub walks_from : List (CellId × ℕ) → CellId → List (List (CellId × ℕ))
-walks_from calls cell = walks_within (standing_in calls) called (length calls) cell
+walks_from calls cell = walks_within (calls_standing_in calls) called_symbol (length calls) cell
 
 -- each walk is listed, and nothing else is
 abbrev pub AreAllWalks : List (CellId × ℕ) → CellId → List (List (CellId × ℕ)) → Type 0
-AreAllWalks calls cell walks = (walk : List (CellId × ℕ)) → Contains walks walk ↔ IsWalk (standing_in calls) called cell walk
+AreAllWalks calls cell walks = (walk : List (CellId × ℕ)) → Contains walks walk ↔ IsWalk (calls_standing_in calls) called_symbol cell walk

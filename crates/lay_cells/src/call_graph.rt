@@ -3,7 +3,7 @@ ghost use Rattle.std.specs.Prelude.{◌≡◌, ◌↔◌, ℕ, ◌+◌, ◌<◌,
 ghost use Rattle.std.specs.Prelude.{IsNone, IsTrue, OnErr, OnOk, length};
 ghost use Rattle.std.specs.List.{list_all};
 ghost use Rattle.lay_cells.specs.Graph.{position_of, row, rows_of, with_target};
-ghost use Rattle.lay_cells.specs.Places.{AreOrdered, goes_later, keeps_order, place_of};
+ghost use Rattle.lay_cells.specs.Places.{AreOrdered, cell_place, goes_later, keeps_order};
 ghost use Rattle.lay_cells.specs.Symbols.{has_cell};
 ghost use Rattle.lay_cells.specs.Tallies.{counted};
 ghost use Rattle.lay_cells.specs.WalkLists.{AreAllWalks, longest, walks_from};
@@ -208,7 +208,7 @@ fn goes_later(symbols: &Cells, places: &Vec<usize>, call: (CellId, u32)) -> bool
 
 /// Returns the place of a cell, or 0 where it has none.
 fn place_of(symbols: &Cells, places: &Vec<usize>, cell: CellId) -> usize
-    ensures { result ≡ place_of symbols.now places.now.items cell }
+    ensures { result ≡ cell_place symbols.now places.now.items cell }
 {
     places.get(position_of(symbols, cell)).copied().unwrap_or(0)
 }

@@ -10,7 +10,7 @@ use Rattle.lay_flat.specs.declared.fault.FlatFault.{FlatFault}
 use Rattle.lay_flat.specs.declared.fault.FlatFault.TheVariants.{NoCell, NoMemory, OutOfRange, TooMany}
 use Rattle.lay_flat.specs.declared.flat.TheConstants.{MAX_RINGS}
 use Rattle.lay_flat.specs.Flat.{FlatRing, is_within}
-use Rattle.lay_flat.specs.Flattening.{and_then, ends_of, flat_at, flat_of, rings_at, tested}
+use Rattle.lay_flat.specs.Flattening.{ends_of, flat_at, flat_of, on_success, rings_at, tested}
 use Rattle.lay_flat.specs.Lending.{IsTooMany}
 use Rattle.lay_flat.proofs.Tested.{is_above, is_not_above}
 
@@ -18,23 +18,23 @@ module _ (layout : Layout) (cell : CellId) (layer : List ℕ) where
   pub no_cell : is_cell layout cell ≡ false → flat_of layout cell layer ≡ Err NoCell
   unfolding flat_of
   no_cell is =
-      ap (λ b. cond b (and_then (tested layout cell) (λ _. flat_at (ends_of layout cell)
+      ap (λ b. cond b (on_success (tested layout cell) (λ _. flat_at (ends_of layout cell)
       (rings_at layout layer (ends_of layout cell)))) (Err NoCell)) is
 
   pub refused : (fault : FlatFault) → is_cell layout cell ≡ true → tested layout cell ≡ Err fault → flat_of layout cell layer ≡ Err fault
   unfolding flat_of
   refused fault is test =
-      ap (λ b. cond b (and_then (tested layout cell) (λ _. flat_at (ends_of layout cell)
+      ap (λ b. cond b (on_success (tested layout cell) (λ _. flat_at (ends_of layout cell)
       (rings_at layout layer (ends_of layout cell)))) (Err NoCell)) is
-      ∙ ap (λ r. and_then r (λ _. flat_at (ends_of layout cell) (rings_at layout layer (ends_of layout cell)))) test
+      ∙ ap (λ r. on_success r (λ _. flat_at (ends_of layout cell) (rings_at layout layer (ends_of layout cell)))) test
 
   pub reached : is_cell layout cell ≡ true → tested layout cell ≡ Ok (tt {0})
       → flat_of layout cell layer ≡ flat_at (ends_of layout cell) (rings_at layout layer (ends_of layout cell))
   unfolding flat_of
   reached is test =
-      ap (λ b. cond b (and_then (tested layout cell) (λ _. flat_at (ends_of layout cell)
+      ap (λ b. cond b (on_success (tested layout cell) (λ _. flat_at (ends_of layout cell)
       (rings_at layout layer (ends_of layout cell)))) (Err NoCell)) is
-      ∙ ap (λ r. and_then r (λ _. flat_at (ends_of layout cell) (rings_at layout layer (ends_of layout cell)))) test
+      ∙ ap (λ r. on_success r (λ _. flat_at (ends_of layout cell) (rings_at layout layer (ends_of layout cell)))) test
 
 abbrev pub outside : List End → List FlatRing → Bool
 outside ends rings = list_any (λ (end : End). is_none end.turn) ends || not (list_all is_within rings)

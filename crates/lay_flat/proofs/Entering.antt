@@ -23,7 +23,7 @@ use Rattle.lay_items.specs.Layout.{Layout, is_cell}
 use Rattle.lay_items.specs.Lent.{LentCall, calls_in, calls_lent}
 use Rattle.lay_items.specs.SlotOrder.{in_slot_order}
 use Rattle.lay_items.specs.Sound.{IsSound}
-use Rattle.lay_flat.specs.Graphs.{AreAmong, AreReached, BeginsIn, first_symbols, graph_calls, symbol_calls, with_called}
+use Rattle.lay_flat.specs.Graphs.{AreCallsTo, BeginsIn, CoverReached, first_symbols, graph_calls, symbol_calls, with_called}
 use Rattle.lay_flat.proofs.Addable.{IsPlaceable, all_placeable, cell_there}
 use Rattle.lay_flat.proofs.Reaching.{IsKnown, same_itself, same_number}
 
@@ -92,34 +92,34 @@ before s (call ∷ calls) =
       distinct = λ d. rest.distinct (one.distinct d);
     }
 
-pub among_new : (s : List ℕ) (calls : List LentCall) → AreAmong (with_called s calls) calls
+pub among_new : (s : List ℕ) (calls : List LentCall) → AreCallsTo (with_called s calls) calls
 among_new s [] = tt
 among_new s (call ∷ calls) = (
   (before (with_symbol s call.1) calls).kept call.1 (there_one s call.1),
   among_new (with_symbol s call.1) calls,
 )
 
-pub among_more : (s t : List ℕ) (calls : List LentCall) → ((n : ℕ) → has_symbol s n ≡ true → has_symbol t n ≡ true) → AreAmong s calls
-    → AreAmong t calls
+pub among_more : (s t : List ℕ) (calls : List LentCall) → ((n : ℕ) → has_symbol s n ≡ true → has_symbol t n ≡ true) → AreCallsTo s calls
+    → AreCallsTo t calls
 among_more s t [] kept h = tt
 among_more s t (call ∷ calls) kept h = (kept call.1 h.0, among_more s t calls kept h.1)
 
 -- what a layout's calls call is one of its symbols
 lent_there : (symbols : List ℕ) (cell : CellId) (es : List (ItemId × Item))
-    → AllByRecursion (λ (e : ItemId × Item). IsPlaceable symbols e.1) es → AreAmong symbols (calls_lent (standing_in cell es))
+    → AllByRecursion (λ (e : ItemId × Item). IsPlaceable symbols e.1) es → AreCallsTo symbols (calls_lent (standing_in cell es))
 lent_there symbols cell [] all = tt
 lent_there symbols cell (e ∷ es) all = by_item e.0 e.1 all.0 (cell_eq (cell_of e.1) cell) (lent_there symbols cell es all.1) where
-  by_item : (id : ItemId) (item : Item) → IsPlaceable symbols item → (b : Bool) → AreAmong symbols (calls_lent (standing_in cell es))
-      → AreAmong symbols (calls_lent (cond b ((id, item) ∷ standing_in cell es) (standing_in cell es)))
+  by_item : (id : ItemId) (item : Item) → IsPlaceable symbols item → (b : Bool) → AreCallsTo symbols (calls_lent (standing_in cell es))
+      → AreCallsTo symbols (calls_lent (cond b ((id, item) ∷ standing_in cell es) (standing_in cell es)))
   by_item id (Shape c layer rings) here true rest = rest
   by_item id (Placed c target turn) here true rest = (here, rest)
   by_item id item here false rest = rest
 
-calls_there : (layout : Layout) → IsSound layout → (cell : CellId) → AreAmong (in_slot_order layout.symbols) (calls_in layout cell)
+calls_there : (layout : Layout) → IsSound layout → (cell : CellId) → AreCallsTo (in_slot_order layout.symbols) (calls_in layout cell)
 unfolding calls_in items_in
 calls_there layout sound cell = lent_there (in_slot_order layout.symbols) cell (entries layout.items) (all_placeable layout sound)
 
-known_more : (layout : Layout) (s : List ℕ) (calls : List LentCall) → IsKnown layout s → AreAmong (in_slot_order layout.symbols) calls
+known_more : (layout : Layout) (s : List ℕ) (calls : List LentCall) → IsKnown layout s → AreCallsTo (in_slot_order layout.symbols) calls
     → IsKnown layout (with_called s calls)
 known_more layout s [] known all = known
 known_more layout s (call ∷ calls) known all = known_more layout (with_symbol s call.1) calls (known_one layout s call.1 known all.0) all.1
@@ -155,7 +155,7 @@ begins_more layout (Symbol n) s t kept h = kept n h
 
 -- what those before the index call is there
 abbrev pub AreClosedTo : Layout → List ℕ → ℕ → Type 0
-AreClosedTo layout s index = (i n : ℕ) → i < index → slice_get s i ≡ Some n → AreAmong s (calls_in layout (Symbol n))
+AreClosedTo layout s index = (i n : ℕ) → i < index → slice_get s i ≡ Some n → AreCallsTo s (calls_in layout (Symbol n))
 
 pub closed_more : (layout : Layout) (s : List ℕ) (index m : ℕ) → index < length s → slice_get s index ≡ Some m → AreClosedTo layout s index
     → AreClosedTo layout (with_called s (calls_in layout (Symbol m))) (index + 1)
@@ -173,18 +173,18 @@ closed_more layout s index m within at closed i n le there =
       before_or (suc a) zero h = absurd (omega (arith, h))
       before_or (suc a) (suc b) h = elim (before_or a b (omega (arith, h))) [ inl l ↦ inl (omega (arith, l)) | inr e ↦ inr (ap suc e) ]
 
-      by_order : (i < index) ⊎ (i ≡ index) → AreAmong (with_called s (calls_in layout (Symbol m))) (calls_in layout (Symbol n))
+      by_order : (i < index) ⊎ (i ≡ index) → AreCallsTo (with_called s (calls_in layout (Symbol m))) (calls_in layout (Symbol n))
       by_order (inl less) = among_more s (with_called s (calls_in layout (Symbol m))) (calls_in layout (Symbol n))
           (before s (calls_in layout (Symbol m))).kept (closed i n less (old (omega (arith, less, within))))
       by_order (inr same) =
           let here : slice_get s index ≡ Some n = subst (λ (k : ℕ). slice_get s k ≡ Some n) same (old (omega (arith, same, within))) in
           let equal : m ≡ n = cc in
-          subst (λ (k : ℕ). AreAmong (with_called s (calls_in layout (Symbol m))) (calls_in layout (Symbol k))) equal
+          subst (λ (k : ℕ). AreCallsTo (with_called s (calls_in layout (Symbol m))) (calls_in layout (Symbol k))) equal
           (among_new s (calls_in layout (Symbol m)))
 
 -- where the index is behind the last, all are closed
 pub closed_all : (layout : Layout) (s : List ℕ) (index : ℕ) → slice_get s index ≡ None → AreClosedTo layout s index
-    → (i n : ℕ) → slice_get s i ≡ Some n → AreAmong s (calls_in layout (Symbol n))
+    → (i n : ℕ) → slice_get s i ≡ Some n → AreCallsTo s (calls_in layout (Symbol n))
 closed_all layout s index none closed i n at = closed i n (by_past s index i n none at) at where
   by_past : (xs : List ℕ) (k j x : ℕ) → slice_get xs k ≡ None → slice_get xs j ≡ Some x → j < k
   by_past [] k j x none at = absurd cc
@@ -230,7 +230,7 @@ found_more layout sound cell s index n so at t same = subst (λ (u : List ℕ). 
   }
 
 pub found_all : (layout : Layout) (cell : CellId) (s : List ℕ) (index : ℕ) → FoundSo layout cell s index → slice_get s index ≡ None
-    → AreReached layout cell s
+    → CoverReached layout cell s
 found_all layout cell s index so none =
     record { begins = so.begins; closed = closed_all layout s index none so.closed; distinct = so.distinct }
 

@@ -12,7 +12,7 @@ use Rattle.lay_cells.specs.declared.cell_id.CellId.{CellId}
 use Rattle.lay_cells.specs.declared.cell_id.CellId.TheVariants.{Symbol}
 use Rattle.lay_cells.specs.SameCell.{cell_eq, cell_eq-Decides}
 use Rattle.lay_cells.specs.Tallies.{greatest}
-use Rattle.lay_cells.specs.WalkLists.{IsWalk, called, longest, standing_in, walks_from, walks_within}
+use Rattle.lay_cells.specs.WalkLists.{IsWalk, called_symbol, calls_standing_in, longest, walks_from, walks_within}
 use Rattle.lay_cells.specs.Walks.{Calls, IsAcyclic}
 use Rattle.lay_cells.proofs.AcyclicLemmas.{few_in_all, stands}
 use Rattle.lay_cells.proofs.FewerCalls.{AreAmong, IsAcyclic-fewer}
@@ -31,29 +31,31 @@ use Rattle.lay_flat.specs.Flattening.{AreWalks, ends_of}
 use Rattle.lay_flat.specs.Graphs.{IsGraphFrom, in_graph}
 use Rattle.lay_flat.proofs.Reaching.{IsIn, begins_in, calls_stand, closed_in, standing_from}
 
-standing-entries : (cell : CellId) (es : List (ItemId × Item)) → standing_in (calls_among es) cell
+standing-entries : (cell : CellId) (es : List (ItemId × Item)) → calls_standing_in (calls_among es) cell
     ≡ map (in_graph cell) (calls_lent (items_standing_in cell es))
 standing-entries cell [] = refl
 standing-entries cell (e ∷ es) = by_item e.0 e.1 (standing-entries cell es) where
-  by_item : (id : ItemId) (item : Item) → standing_in (calls_among es) cell ≡ map (in_graph cell) (calls_lent (items_standing_in cell es))
-      → standing_in (calls_among ((id, item) ∷ es)) cell ≡ map (in_graph cell) (calls_lent (items_standing_in cell ((id, item) ∷ es)))
+  by_item : (id : ItemId) (item : Item)
+      → calls_standing_in (calls_among es) cell ≡ map (in_graph cell) (calls_lent (items_standing_in cell es))
+      → calls_standing_in (calls_among ((id, item) ∷ es)) cell ≡ map (in_graph cell) (calls_lent (items_standing_in cell ((id, item) ∷ es)))
   by_item id (Shape c layer rings) rest = by_test (cell_eq c cell) where
-    by_test : (b : Bool) → standing_in (calls_among es) cell
+    by_test : (b : Bool) → calls_standing_in (calls_among es) cell
         ≡ map (in_graph cell) (calls_lent (cond b ((id, Shape c layer rings) ∷ items_standing_in cell es) (items_standing_in cell es)))
     by_test true = rest
     by_test false = rest
   by_item id (Placed c target turn) rest = by_test (cell_eq c cell) refl where
-    by_test : (b : Bool) → cell_eq c cell ≡ b → cond b ((c, target) ∷ standing_in (calls_among es) cell) (standing_in (calls_among es) cell)
+    by_test : (b : Bool) → cell_eq c cell ≡ b
+        → cond b ((c, target) ∷ calls_standing_in (calls_among es) cell) (calls_standing_in (calls_among es) cell)
         ≡ map (in_graph cell) (calls_lent (cond b ((id, Placed c target turn) ∷ items_standing_in cell es) (items_standing_in cell es)))
     by_test true is =
         let same : c ≡ cell = (cell_eq-Decides c cell).0 is in
-        ap (λ (k : CellId). (k, target) ∷ standing_in (calls_among es) cell) same
+        ap (λ (k : CellId). (k, target) ∷ calls_standing_in (calls_among es) cell) same
         ∙ ap (λ (cs : List (CellId × ℕ)). (cell, target) ∷ cs) rest
     by_test false is = rest
 
 -- calls that stand in each cell of some as the layout's do, where these cells call each other alone
 pub record AreCallsIn (layout : Layout) (IsOne : CellId → Type 0) (calls : List (CellId × ℕ)) : Type 0 where
-  pub standing : (cell : CellId) → IsOne cell → standing_in calls cell ≡ map (in_graph cell) (calls_in layout cell)
+  pub standing : (cell : CellId) → IsOne cell → calls_standing_in calls cell ≡ map (in_graph cell) (calls_in layout cell)
   pub closed : (cell : CellId) → IsOne cell → AllByRecursion (λ (call : LentCall). IsOne (Symbol call.1)) (calls_in layout cell)
 
 module _ (layout : Layout) (IsOne : CellId → Type 0) (calls : List (CellId × ℕ)) (are : AreCallsIn layout IsOne calls) where
@@ -61,7 +63,7 @@ module _ (layout : Layout) (IsOne : CellId → Type 0) (calls : List (CellId × 
   lent_walks = walks_within (calls_in layout) target_of
 
   abbrev graph_walks : ℕ → CellId → List (List (CellId × ℕ))
-  graph_walks = walks_within (standing_in calls) called
+  graph_walks = walks_within (calls_standing_in calls) called_symbol
 
   pub same-longest : (n : ℕ) (cell : CellId) → IsOne cell → longest (lent_walks n cell) ≡ longest (graph_walks n cell)
   unfolding walks_within
@@ -69,7 +71,7 @@ module _ (layout : Layout) (IsOne : CellId → Type 0) (calls : List (CellId × 
   same-longest (suc n) cell one =
       longest-more (calls_in layout) target_of n cell ∙ by_calls (same-longest n) (calls_in layout cell) (are.closed cell one)
       ∙ ap (greatest (λ (call : CellId × ℕ). 1 + longest (graph_walks n (Symbol call.1)))) (sym (are.standing cell one))
-      ∙ sym (longest-more (standing_in calls) called n cell) where
+      ∙ sym (longest-more (calls_standing_in calls) called_symbol n cell) where
         by_calls : ((other : CellId) → IsOne other → longest (lent_walks n other) ≡ longest (graph_walks n other)) → (cs : List LentCall)
             → AllByRecursion (λ (call : LentCall). IsOne (Symbol call.1)) cs
             → greatest (λ (call : LentCall). 1 + longest (lent_walks n (Symbol call.1))) cs
@@ -85,7 +87,7 @@ module _ (layout : Layout) (IsOne : CellId → Type 0) (calls : List (CellId × 
       (by_calls (same-length n) (calls_in layout cell) (are.closed cell one))
       ∙ ap (λ (cs : List (CellId × ℕ)). 1 + sum_by (λ (call : CellId × ℕ). length (graph_walks n (Symbol call.1))) cs)
       (sym (are.standing cell one))
-      ∙ sym (length-more (standing_in calls) called n cell) where
+      ∙ sym (length-more (calls_standing_in calls) called_symbol n cell) where
         by_calls : ((other : CellId) → IsOne other → length (lent_walks n other) ≡ length (graph_walks n other)) → (cs : List LentCall)
             → AllByRecursion (λ (call : LentCall). IsOne (Symbol call.1)) cs
             → sum_by (λ (call : LentCall). length (lent_walks n (Symbol call.1))) cs
@@ -106,7 +108,7 @@ module _ (layout : Layout) where
   abbrev walks : ℕ → CellId → List (List LentCall)
   walks = walks_within (calls_in layout) target_of
 
-  pub standing-lent : (cell : CellId) → standing_in calls cell ≡ map (in_graph cell) (calls_in layout cell)
+  pub standing-lent : (cell : CellId) → calls_standing_in calls cell ≡ map (in_graph cell) (calls_in layout cell)
   unfolding calls_of calls_in items_in
   standing-lent cell = standing-entries cell (entries layout.items)
 
@@ -197,7 +199,7 @@ module _ (layout : Layout) where
 module _ (layout : Layout) (sound : IsAcyclic (calls_of layout)) (cell : CellId) (graph : Calls) (is : IsGraphFrom layout cell graph) where
   own : AreCallsIn layout (IsIn cell graph.symbols) graph.calls
   own = record {
-    standing = λ c one. ap (λ (cs : List (CellId × ℕ)). standing_in cs c) is.calls
+    standing = λ c one. ap (λ (cs : List (CellId × ℕ)). calls_standing_in cs c) is.calls
         ∙ standing_from layout cell graph.symbols is.reached c one;
     closed = λ c one. closed_in layout cell graph.symbols is.reached c one;
   }

@@ -56,15 +56,15 @@ flat_at ends rings =
     then Err TooMany
     else (if list_any (λ end. is_none end.turn) ends || not (list_all is_within rings) then Err OutOfRange else Ok rings)
 
-abbrev pub and_then : {A B E : Type 0} → Result A E → (A → Result B E) → Result B E
-and_then (Ok x) f = f x
-and_then (Err e) f = Err e
+abbrev pub on_success : {A B E : Type 0} → Result A E → (A → Result B E) → Result B E
+on_success (Ok x) f = f x
+on_success (Err e) f = Err e
 
 -- all pairs of a walk from the cell and a shape on the layer in its last cell, in order: their rings, or why there are none
 unfoldable pub flat_of : Layout → CellId → List ℕ → Result (List FlatRing) FlatFault
 flat_of layout cell layer =
     if is_cell layout cell
-    then and_then (tested layout cell) (λ _. flat_at (ends_of layout cell) (rings_at layout layer (ends_of layout cell)))
+    then on_success (tested layout cell) (λ _. flat_at (ends_of layout cell) (rings_at layout layer (ends_of layout cell)))
     else Err NoCell
 
 -- a walk is among those of the definition exactly where each call stands in the cell that the one before calls

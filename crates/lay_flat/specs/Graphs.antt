@@ -36,25 +36,25 @@ first_symbols layout Top = with_called [] (calls_in layout Top)
 first_symbols layout (Symbol number) = number ∷ []
 
 -- each of these calls calls one of the symbols
-abbrev pub AreAmong : List ℕ → List LentCall → Type 0
-AreAmong symbols calls = AllByRecursion (λ call. IsTrue (has_symbol symbols call.1)) calls
+abbrev pub AreCallsTo : List ℕ → List LentCall → Type 0
+AreCallsTo symbols calls = AllByRecursion (λ call. IsTrue (has_symbol symbols call.1)) calls
 
 -- the cell is one of the symbols, or is the top cell and calls them
 abbrev pub BeginsIn : Layout → CellId → List ℕ → Type 0
-BeginsIn layout Top symbols = AreAmong symbols (calls_in layout Top)
+BeginsIn layout Top symbols = AreCallsTo symbols (calls_in layout Top)
 BeginsIn layout (Symbol number) symbols = IsTrue (has_symbol symbols number)
 
 -- the symbols call only each other
 abbrev pub AreClosed : Layout → List ℕ → Type 0
-AreClosed layout symbols = (i number : ℕ) → slice_get symbols i ≡ Some number → AreAmong symbols (calls_in layout (Symbol number))
+AreClosed layout symbols = (i number : ℕ) → slice_get symbols i ≡ Some number → AreCallsTo symbols (calls_in layout (Symbol number))
 
 -- the symbols, each once, have the cell and all that it leads to
-pub record AreReached (layout : Layout) (cell : CellId) (symbols : List ℕ) : Type 0 where
+pub record CoverReached (layout : Layout) (cell : CellId) (symbols : List ℕ) : Type 0 where
   pub begins : BeginsIn layout cell symbols
   pub closed : AreClosed layout symbols
   pub distinct : IsDistinct nat_eq symbols
 
 -- the graph has the calls of the cell and of all that it leads to
 pub record IsGraphFrom (layout : Layout) (cell : CellId) (graph : Calls) : Type 0 where
-  pub reached : AreReached layout cell graph.symbols
+  pub reached : CoverReached layout cell graph.symbols
   pub calls : graph.calls ≡ top_calls layout cell ++ symbol_calls layout graph.symbols

@@ -8,7 +8,7 @@ ghost use Rattle.lay_items.specs.Lent.{calls_in};
 ghost use Rattle.lay_items.specs.SlotOrder.{in_slot_order};
 ghost use Rattle.lay_items.specs.Sound.{IsSound};
 ghost use Rattle.lay_flat.specs.Ends.{walks_of};
-ghost use Rattle.lay_flat.specs.Graphs.{AreAmong, AreReached, BeginsIn, IsGraphFrom, graph_calls};
+ghost use Rattle.lay_flat.specs.Graphs.{AreCallsTo, BeginsIn, CoverReached, IsGraphFrom, graph_calls};
 ghost use Rattle.lay_flat.specs.Graphs.{AreClosed, first_symbols, symbol_calls, top_calls, with_called};
 
 use lay_cells::{CallGraph, CellId, Cells};
@@ -78,7 +78,7 @@ fn add_top(graph: &mut CallGraph, snapshot: &Snapshot, cell: CellId) -> Result<(
 /// Adds the calls that stand in a cell.
 fn add_calls(graph: &mut CallGraph, snapshot: &Snapshot, cell: CellId) -> Result<(), NoMemory>
     requires cell { IsTrue (has_cell graph.old.symbols cell) }
-    requires targets { AreAmong graph.old.symbols (calls_in snapshot.now cell) }
+    requires targets { AreCallsTo graph.old.symbols (calls_in snapshot.now cell) }
     ensures { OnOk result
         (graph.new ≡ record graph.old { calls = graph.old.calls ++ graph_calls snapshot.now cell }) }
 {
@@ -92,7 +92,7 @@ fn add_calls(graph: &mut CallGraph, snapshot: &Snapshot, cell: CellId) -> Result
 /// at once.
 fn symbols_from(alloc: Global, snapshot: &Snapshot, cell: CellId) -> Result<Cells, NoMemory>
     requires { IsTrue (is_cell snapshot.now cell) }
-    ensures { IfOk result (AreReached snapshot.now cell) }
+    ensures { IfOk result (CoverReached snapshot.now cell) }
 {
     let _version = snapshot.version();
     // no more can be reached, and a usize counts them

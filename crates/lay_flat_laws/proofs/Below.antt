@@ -15,7 +15,7 @@ use Rattle.lay_flat.specs.declared.fault.FlatFault.TheVariants.{NoCell, TooDeep,
 use Rattle.lay_flat.specs.declared.flat.TheConstants.{MAX_DEPTH, MAX_RINGS}
 use Rattle.lay_flat.specs.Flat.{FlatRing}
 use Rattle.lay_flat.specs.Ends.{end_along, end_of, target_of, turn_along, walks_of}
-use Rattle.lay_flat.specs.Flattening.{and_then, drawn_at, ends_of, flat_at, flat_of, rings_at, rings_from, tested}
+use Rattle.lay_flat.specs.Flattening.{drawn_at, ends_of, flat_at, flat_of, on_success, rings_at, rings_from, tested}
 use Rattle.lay_flat.proofs.LayoutWalks.{all_walks, walks_at}
 use Rattle.lay_flat_laws.specs.Laws.{HaveSameBelow}
 
@@ -89,11 +89,12 @@ same_rings l m sound cell layer same walks =
 -- what two layouts flatten to, where the tests, the ends and the rings are the same
 same_answer : (b : Bool) (t u : Result (Unit {0}) FlatFault) (ends others : List End) (rings drawn : List FlatRing) →
     t ≡ u → ends ≡ others → rings ≡ drawn →
-    (if b then and_then t (λ _. flat_at ends rings) else Err NoCell) ≡ (if b then and_then u (λ _. flat_at others drawn) else Err NoCell)
+    (if b then on_success t (λ _. flat_at ends rings) else Err NoCell)
+        ≡ (if b then on_success u (λ _. flat_at others drawn) else Err NoCell)
 same_answer b t u ends others rings drawn tests same_end same_ring =
-    ap (λ r. if b then and_then r (λ _. flat_at ends rings) else Err NoCell) tests
-    ∙ ap (λ es. if b then and_then u (λ _. flat_at es rings) else Err NoCell) same_end
-    ∙ ap (λ rs. if b then and_then u (λ _. flat_at others rs) else Err NoCell) same_ring
+    ap (λ r. if b then on_success r (λ _. flat_at ends rings) else Err NoCell) tests
+    ∙ ap (λ es. if b then on_success u (λ _. flat_at es rings) else Err NoCell) same_end
+    ∙ ap (λ rs. if b then on_success u (λ _. flat_at others rs) else Err NoCell) same_ring
 
 pub same_flattening : (l m : Layout) → IsSound l → IsSound m → (cell : CellId) (layer : List ℕ) → HaveSameBelow l m cell layer →
     flat_of l cell layer ≡ flat_of m cell layer
@@ -103,5 +104,5 @@ same_flattening l m one other cell layer same =
     same_answer (is_cell l cell) (tested l cell) (tested m cell) (ends_of l cell) (ends_of m cell)
     (rings_at l layer (ends_of l cell)) (rings_at m layer (ends_of m cell))
     (same_tested l m cell walks) (same_ends l m cell walks) (same_rings l m one cell layer same walks)
-    ∙ ap (λ b. if b then and_then (tested m cell) (λ _. flat_at (ends_of m cell)
+    ∙ ap (λ b. if b then on_success (tested m cell) (λ _. flat_at (ends_of m cell)
     (rings_at m layer (ends_of m cell))) else Err NoCell) same.there

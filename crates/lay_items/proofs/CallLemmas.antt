@@ -9,7 +9,7 @@ use Rattle.std.proofs.lemmas.List.Elements.{Contains-append_cases, Contains-appe
 use Rattle.lay_cells.proofs.FewerCalls.{AreAmong}
 use Rattle.lay_items.specs.declared.id.ItemId.{ItemId}
 use Rattle.lay_items.specs.declared.item.Item.{Item}
-use Rattle.lay_items.specs.Calls.{Call, call_of, calls_among, calls_of}
+use Rattle.lay_items.specs.Calls.{Call, as_call, calls_among, calls_of}
 use Rattle.lay_items.specs.IdOrder.{ids_total}
 use Rattle.lay_items.specs.Ids.{id_cmp}
 use Rattle.lay_items.specs.Layout.{Layout}
@@ -27,21 +27,21 @@ contains_more (Some y) xs ys among x h = elim (Contains-append_cases (y ∷ []) 
 ]
 
 -- an entry that is no call
-no_call_first : (item : Item) (calls : List Call) → call_of item ≡ None → AreAmong (cons_option (call_of item) calls) calls
+no_call_first : (item : Item) (calls : List Call) → as_call item ≡ None → AreAmong (cons_option (as_call item) calls) calls
 no_call_first item calls none x h = subst (λ (o : Option Call). Contains (cons_option o calls) x) none h
 
-put_fewer : (id : ItemId) (item : Item) (es : List (ItemId × Item)) → call_of item ≡ None
+put_fewer : (id : ItemId) (item : Item) (es : List (ItemId × Item)) → as_call item ≡ None
     → AreAmong (calls_among (put id_cmp id item es)) (calls_among es)
 put_fewer id item [] none = no_call_first item [] none
 put_fewer id item (e ∷ es) none = by_id (id_cmp id e.0) (put_fewer id item es none) where
   by_id : (o : Ordering) → AreAmong (calls_among (put id_cmp id item es)) (calls_among es)
       → AreAmong (calls_among (by_order o ((id, item) ∷ e ∷ es) ((e.0, item) ∷ es) (e ∷ put id_cmp id item es))) (calls_among (e ∷ es))
   by_id Less rest = no_call_first item (calls_among (e ∷ es)) none
-  by_id Equal rest = λ x h. contains_behind (call_of e.1) (calls_among es) x (no_call_first item (calls_among es) none x h)
-  by_id Greater rest = contains_more (call_of e.1) (calls_among (put id_cmp id item es)) (calls_among es) rest
+  by_id Equal rest = λ x h. contains_behind (as_call e.1) (calls_among es) x (no_call_first item (calls_among es) none x h)
+  by_id Greater rest = contains_more (as_call e.1) (calls_among (put id_cmp id item es)) (calls_among es) rest
 
 -- with one more item that is no call, the layout's calls are among those before
-pub calls_of-insert : (layout : Layout) (id : ItemId) (item : Item) → call_of item ≡ None
+pub calls_of-insert : (layout : Layout) (id : ItemId) (item : Item) → as_call item ≡ None
     → AreAmong (calls_of (record { symbols = layout.symbols; items = insert layout.items id item })) (calls_of layout)
 unfolding calls_of
 calls_of-insert layout id item none x h =

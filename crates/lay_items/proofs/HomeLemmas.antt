@@ -15,13 +15,13 @@ use Rattle.std.proofs.lemmas.List.{map-append}
 use Rattle.lay_cells.specs.declared.cell_id.CellId.{CellId}
 use Rattle.lay_cells.specs.declared.cell_id.CellId.TheVariants.{Symbol, Top}
 use Rattle.lay_cells.specs.SameCell.{cell_eq, cell_eq-Decides}
-use Rattle.lay_pages.specs.Written.{entry_of, from_key, higher, lower, written}
+use Rattle.lay_pages.specs.Written.{after_write, from_key, higher, lower, written_entries}
 use Rattle.lay_pages.proofs.OrderLemmas.{written-same}
 use Rattle.lay_items.specs.declared.cell_index.Home.{Home}
 use Rattle.lay_items.specs.declared.id.ItemId.{ItemId}
 use Rattle.lay_items.specs.declared.item.Item.{Item}
 use Rattle.lay_items.specs.ByCell.{
-  AreIndexed,
+  AreIndexedByCell,
   AreLent,
   Homed,
   cell_key,
@@ -159,18 +159,18 @@ is_in key None = false
 is_in key (Some item) = cell_key (cell_of item) == key
 
 ids_written : (key : ℕ) (id : ItemId) (x : Option Item) (es : List (ItemId × Item))
-    → ids_in key (written id_cmp id x es) ≡ rewritten id (is_in key x) (ids_in key es)
+    → ids_in key (after_write id_cmp id x es) ≡ rewritten id (is_in key x) (ids_in key es)
 ids_written key id x es =
     picked_append (λ (e : ItemId × Item). e.0) (λ (e : ItemId × Item). key_of e == key) (lower id_cmp id es)
-    (entry_of id x ++ higher id_cmp id es)
+    (written_entries id x ++ higher id_cmp id es)
     ∙ (λ i. picked_filter (λ (e : ItemId × Item). e.0) (λ (e : ItemId × Item). key_of e == key)
     (λ (e : ItemId × Item). is_lt (id_cmp e.0 id)) (λ k. is_lt (id_cmp k id)) (λ a here. refl) es i
-    ++ picked_append (λ (e : ItemId × Item). e.0) (λ (e : ItemId × Item). key_of e == key) (entry_of id x) (higher id_cmp id es) i)
+    ++ picked_append (λ (e : ItemId × Item). e.0) (λ (e : ItemId × Item). key_of e == key) (written_entries id x) (higher id_cmp id es) i)
     ∙ (λ i. ids_before id (ids_in key es) ++ (one x i
     ++ picked_filter (λ (e : ItemId × Item). e.0) (λ (e : ItemId × Item). key_of e == key)
     (λ (e : ItemId × Item). is_lt (id_cmp id e.0)) (λ k. is_lt (id_cmp id k)) (λ a here. refl) es i))
   where
-    one : (x : Option Item) → ids_in key (entry_of id x) ≡ one_if id (is_in key x)
+    one : (x : Option Item) → ids_in key (written_entries id x) ≡ one_if id (is_in key x)
     one None = refl
     one (Some item) = by (cell_key (cell_of item) == key) where
       by : (b : Bool) → map (λ (e : ItemId × Item). e.0) (cond b ((id, item) ∷ []) []) ≡ one_if id b
@@ -190,13 +190,13 @@ home_at cell id = record { cell = cell; id = id }
 
 -- the home's cell
 listed_here : (key cell : ℕ) (id : ItemId) (u : Option (Unit {0})) (hs : List Homed) → (cell == key) ≡ true
-    → listed key (written home_cmp (home_at cell id) u hs) ≡ rewritten id (is_some u) (listed key hs)
+    → listed key (after_write home_cmp (home_at cell id) u hs) ≡ rewritten id (is_some u) (listed key hs)
 listed_here key cell id u hs here =
     picked_append (λ (h : Homed). h.0.id) (in_cell key) (lower home_cmp (home_at cell id) hs)
-    (entry_of (home_at cell id) u ++ higher home_cmp (home_at cell id) hs)
+    (written_entries (home_at cell id) u ++ higher home_cmp (home_at cell id) hs)
     ∙ (λ i. picked_filter (λ (h : Homed). h.0.id) (in_cell key) (λ (h : Homed). is_lt (home_cmp h.0 (home_at cell id)))
     (λ k. is_lt (id_cmp k id)) (λ h at. ap (λ o. is_lt (ordering_then o (id_cmp h.0.id id))) (same_cmp h.0.cell cell (same h at))) hs i
-    ++ picked_append (λ (h : Homed). h.0.id) (in_cell key) (entry_of (home_at cell id) u) (higher home_cmp (home_at cell id) hs) i)
+    ++ picked_append (λ (h : Homed). h.0.id) (in_cell key) (written_entries (home_at cell id) u) (higher home_cmp (home_at cell id) hs) i)
     ∙ (λ i. ids_before id (listed key hs) ++ (one u i
     ++ picked_filter (λ (h : Homed). h.0.id) (in_cell key) (λ (h : Homed). is_lt (home_cmp (home_at cell id) h.0))
     (λ k. is_lt (id_cmp id k))
@@ -205,27 +205,27 @@ listed_here key cell id u hs here =
     same : (h : Homed) → in_cell key h ≡ true → h.0.cell ≡ cell
     same h at = (Decides-eqb h.0.cell key).0 at ∙ sym ((Decides-eqb cell key).0 here)
 
-    one : (u : Option (Unit {0})) → listed key (entry_of (home_at cell id) u) ≡ one_if id (is_some u)
+    one : (u : Option (Unit {0})) → listed key (written_entries (home_at cell id) u) ≡ one_if id (is_some u)
     one None = refl
     one (Some v) = ap (λ b. map (λ (h : Homed). h.0.id) (cond b ((home_at cell id, v) ∷ []) [])) here
 
 -- another cell
 listed_parts : (key cell : ℕ) (id : ItemId) (u : Option (Unit {0})) (hs : List Homed) → (cell == key) ≡ false
-    → listed key (written home_cmp (home_at cell id) u hs)
+    → listed key (after_write home_cmp (home_at cell id) u hs)
     ≡ listed key (lower home_cmp (home_at cell id) hs) ++ listed key (higher home_cmp (home_at cell id) hs)
 listed_parts key cell id u hs there =
     picked_append (λ (h : Homed). h.0.id) (in_cell key) (lower home_cmp (home_at cell id) hs)
-    (entry_of (home_at cell id) u ++ higher home_cmp (home_at cell id) hs)
+    (written_entries (home_at cell id) u ++ higher home_cmp (home_at cell id) hs)
     ∙ ap (λ ids. listed key (lower home_cmp (home_at cell id) hs) ++ ids)
-    (picked_append (λ (h : Homed). h.0.id) (in_cell key) (entry_of (home_at cell id) u) (higher home_cmp (home_at cell id) hs)
+    (picked_append (λ (h : Homed). h.0.id) (in_cell key) (written_entries (home_at cell id) u) (higher home_cmp (home_at cell id) hs)
     ∙ ap (λ ids. ids ++ listed key (higher home_cmp (home_at cell id) hs)) (one u))
   where
-    one : (u : Option (Unit {0})) → listed key (entry_of (home_at cell id) u) ≡ []
+    one : (u : Option (Unit {0})) → listed key (written_entries (home_at cell id) u) ≡ []
     one None = refl
     one (Some v) = ap (λ b. map (λ (h : Homed). h.0.id) (cond b ((home_at cell id, v) ∷ []) [])) there
 
 listed_there : (key cell : ℕ) (id : ItemId) (u : Option (Unit {0})) (hs : List Homed) → IsStrictlySortedBy home_cmp (keys_of hs)
-    → (cell == key) ≡ false → listed key (written home_cmp (home_at cell id) u hs) ≡ listed key hs
+    → (cell == key) ≡ false → listed key (after_write home_cmp (home_at cell id) u hs) ≡ listed key hs
 listed_there key cell id u hs sorted there =
     listed_parts key cell id u hs there ∙ sym (listed_parts key cell id (find home_cmp (home_at cell id) hs) hs there)
     ∙ ap (listed key) (written-same homes_total homes_exact (home_at cell id) hs sorted)
@@ -233,8 +233,8 @@ listed_there key cell id u hs sorted there =
 -- the index after a write
 pub indexed_written : (id : ItemId) (x : Option Item) (es : List (ItemId × Item)) (hs : List Homed)
     → IsStrictlySortedBy id_cmp (keys_of es) → IsStrictlySortedBy home_cmp (keys_of hs)
-    → IsStrictlySortedBy home_cmp (keys_of (without_home id (find id_cmp id es) hs)) → AreIndexed es hs
-    → AreIndexed (written id_cmp id x es) (with_home id x (without_home id (find id_cmp id es) hs))
+    → IsStrictlySortedBy home_cmp (keys_of (without_home id (find id_cmp id es) hs)) → AreIndexedByCell es hs
+    → AreIndexedByCell (after_write id_cmp id x es) (with_home id x (without_home id (find id_cmp id es) hs))
 indexed_written id x es hs sorted homes rest indexed key =
     inn x (without_home id (find id_cmp id es) hs) rest (out (find id_cmp id es) still) ∙ ap (rewritten id (is_in key x)) (indexed key)
     ∙ sym (ids_written key id x es)
@@ -252,7 +252,7 @@ indexed_written id x es hs sorted homes rest indexed key =
     out None same = sym same
     out (Some item) same = by (cell_key (cell_of item) == key) refl where
       by : (t : Bool) → (cell_key (cell_of item) == key) ≡ t
-          → listed key (written home_cmp (home_of id item) None hs) ≡ rewritten id false (listed key hs)
+          → listed key (after_write home_cmp (home_of id item) None hs) ≡ rewritten id false (listed key hs)
       by true is = listed_here key (cell_key (cell_of item)) id None hs is
       by false is =
           listed_there key (cell_key (cell_of item)) id None hs homes is ∙ sym same ∙ ap (λ t. rewritten id t (listed key hs)) is
@@ -263,7 +263,7 @@ indexed_written id x es hs sorted homes rest indexed key =
     inn None fs up same = same
     inn (Some item) fs up same = by (cell_key (cell_of item) == key) refl where
       by : (t : Bool) → (cell_key (cell_of item) == key) ≡ t
-          → listed key (written home_cmp (home_of id item) (Some tt) fs)
+          → listed key (after_write home_cmp (home_of id item) (Some tt) fs)
           ≡ rewritten id (cell_key (cell_of item) == key) (listed key hs)
       by true is =
           listed_here key (cell_key (cell_of item)) id (Some tt) fs is ∙ ap (rewritten id true) same ∙ rewritten_again id (listed key hs)
@@ -355,7 +355,7 @@ cell_from key h above = by (nat_lt h.0.cell key) refl where
   by false is = grind (arith, nat_tests)
 
 pub lent_from : (key : ℕ) (hs : List Homed) (es : List (ItemId × Item)) → IsStrictlySortedBy id_cmp (keys_of es)
-    → IsStrictlySortedBy home_cmp (keys_of (from_key home_cmp (first_home key) hs)) → AreIndexed es hs
+    → IsStrictlySortedBy home_cmp (keys_of (from_key home_cmp (first_home key) hs)) → AreIndexedByCell es hs
     → AreLent key (from_key home_cmp (first_home key) hs) es
 lent_from key hs es sorted up indexed = record {
   sorted = up;
@@ -577,7 +577,7 @@ homes_sorted (h ∷ hs) rising each = (
 -- the homes of entries in order, sorted by cell
 pub record AreSorted (es : List (ItemId × Item)) (hs : List Home) : Type 0 where
   pub sorted : IsStrictlySortedBy home_cmp hs
-  pub indexed : AreIndexed es (map unit_entry hs)
+  pub indexed : AreIndexedByCell es (map unit_entry hs)
 
 pub homes_by_cell : (es : List (ItemId × Item)) (xs hs : List Home) → IsStrictlySortedBy id_cmp (keys_of es) → xs ≡ homes_in es
     → IsNonDecreasingBy (λ (h : Home). h.cell) hs → IsStableByKey (λ (h : Home). h.cell) nat_cmp xs hs → AreSorted es hs

@@ -13,10 +13,10 @@ use Rattle.std.specs.Ordering.{eq_by_cmp, is_eq, is_lt, ordering_reverse}
 use Rattle.std.proofs.lemmas.List.{at_drop_more}
 use Rattle.lay_items.specs.declared.id.ItemId.{ItemId}
 use Rattle.lay_items.specs.declared.item.Item.{Item}
-use Rattle.lay_items.specs.Entries.{before, behind, entry_of, merged}
+use Rattle.lay_items.specs.Entries.{entries_after, entries_before, item_entries, merged}
 use Rattle.lay_items.specs.IdOrder.{ids_exact, ids_total}
 use Rattle.lay_items.specs.Ids.{id_cmp}
-use Rattle.lay_items.specs.Layout.{AreRising, Write, items_of, put, put_all}
+use Rattle.lay_items.specs.Layout.{AreRising, Write, map_of_items, put, put_all}
 use Rattle.lay_items.proofs.DistinctLemmas.{or_else, or_none}
 
 -- ---- what is found
@@ -64,15 +64,17 @@ find-both q (e ∷ es) fs = by (eq_by_cmp id_cmp q e.0) (find-both q es fs) wher
   by true rest = refl
   by false rest = rest
 
-find-before : (q id : ItemId) (es : List (ItemId × Item))
-    → find id_cmp q (before id es) ≡ cond (is_lt (id_cmp q id)) (find id_cmp q es) None
-find-before q id es = find-where_key id_cmp (λ x. is_lt (id_cmp x id)) q (λ x e. ap (λ y. is_lt (id_cmp y id)) (sym (ids_exact q x e))) es
+find-entries_before : (q id : ItemId) (es : List (ItemId × Item))
+    → find id_cmp q (entries_before id es) ≡ cond (is_lt (id_cmp q id)) (find id_cmp q es) None
+find-entries_before q id es =
+    find-where_key id_cmp (λ x. is_lt (id_cmp x id)) q (λ x e. ap (λ y. is_lt (id_cmp y id)) (sym (ids_exact q x e))) es
 
-find-behind : (q id : ItemId) (es : List (ItemId × Item))
-    → find id_cmp q (behind id es) ≡ cond (is_lt (id_cmp id q)) (find id_cmp q es) None
-find-behind q id es = find-where_key id_cmp (λ x. is_lt (id_cmp id x)) q (λ x e. ap (λ y. is_lt (id_cmp id y)) (sym (ids_exact q x e))) es
+find-entries_after : (q id : ItemId) (es : List (ItemId × Item))
+    → find id_cmp q (entries_after id es) ≡ cond (is_lt (id_cmp id q)) (find id_cmp q es) None
+find-entries_after q id es =
+    find-where_key id_cmp (λ x. is_lt (id_cmp id x)) q (λ x e. ap (λ y. is_lt (id_cmp id y)) (sym (ids_exact q x e))) es
 
-find-entry : (q id : ItemId) (o : Option Item) → find id_cmp q (entry_of id o) ≡ cond (eq_by_cmp id_cmp q id) o None
+find-entry : (q id : ItemId) (o : Option Item) → find id_cmp q (item_entries id o) ≡ cond (eq_by_cmp id_cmp q id) o None
 find-entry q id None = by (eq_by_cmp id_cmp q id) where
   by : (b : Bool) → ◌≡◌ {A = Option Item} None (cond b None None)
   by true = refl
@@ -89,13 +91,13 @@ find-merged : (es : List (ItemId × Item)) (ws : List Write) (q : ItemId) → Ar
     → find id_cmp q (merged es ws) ≡ latest ws q (find id_cmp q es)
 find-merged es [] q rising = refl
 find-merged es (w ∷ ws) q rising =
-    find-both q (before w.0 es) (entry_of w.0 w.1 ++ merged (behind w.0 es) ws)
-    ∙ (λ i. or_else (find-before q w.0 es i) (find-both q (entry_of w.0 w.1) (merged (behind w.0 es) ws) i))
+    find-both q (entries_before w.0 es) (item_entries w.0 w.1 ++ merged (entries_after w.0 es) ws)
+    ∙ (λ i. or_else (find-entries_before q w.0 es i) (find-both q (item_entries w.0 w.1) (merged (entries_after w.0 es) ws) i))
     ∙ (λ i. or_else (cond (is_lt (id_cmp q w.0)) (find id_cmp q es) None) (or_else (find-entry q w.0 w.1 i)
-    (find-merged (behind w.0 es) ws q (rising_tail w ws rising) i)))
+    (find-merged (entries_after w.0 es) ws q (rising_tail w ws rising) i)))
     ∙ ap (λ o. or_else (cond (is_lt (id_cmp q w.0)) (find id_cmp q es) None)
     (or_else (cond (eq_by_cmp id_cmp q w.0) w.1 None) (latest ws q o)))
-    (find-behind q w.0 es)
+    (find-entries_after q w.0 es)
     ∙ by (id_cmp q w.0) refl (find id_cmp q es) where
       turned : (o : Ordering) → id_cmp q w.0 ≡ o → id_cmp w.0 q ≡ ordering_reverse o
       turned o is = ids_total.antisymm w.0 q ∙ ap ordering_reverse is
@@ -124,10 +126,11 @@ find-merged es (w ∷ ws) q rising =
           ∙ ap (λ o. latest ws q (cond (is_eq o) w.1 old)) (sym is)
 
 -- the items of merged entries
-pub merged-is : (es : List (ItemId × Item)) (ws : List Write) → AreRising id_cmp ws → items_of (merged es ws) ≡ put_all (items_of es) ws
+pub merged-is : (es : List (ItemId × Item)) (ws : List Write) → AreRising id_cmp ws
+    → map_of_items (merged es ws) ≡ put_all (map_of_items es) ws
 merged-is es ws rising = same_map ids_total ids_exact _ _ (λ q.
     get-from_entries ids_total (merged es ws) q ∙ find-merged es ws q rising
-    ∙ ap (latest ws q) (sym (get-from_entries ids_total es q)) ∙ sym (get-put_all (items_of es) ws q))
+    ∙ ap (latest ws q) (sym (get-from_entries ids_total es q)) ∙ sym (get-put_all (map_of_items es) ws q))
 
 -- ---- their order
 
@@ -171,7 +174,7 @@ module _ (p : ItemId → Bool) where
     by false is rest = rest
 
 all-joined : (P : ItemId → Type 0) (es : List (ItemId × Item)) (id : ItemId) (o : Option Item) (fs : List (ItemId × Item))
-    → AllByRecursion P (keys_of es) → P id → AllByRecursion P (keys_of fs) → AllByRecursion P (keys_of (es ++ (entry_of id o ++ fs)))
+    → AllByRecursion P (keys_of es) → P id → AllByRecursion P (keys_of fs) → AllByRecursion P (keys_of (es ++ (item_entries id o ++ fs)))
 all-joined P [] id None fs es_all one fs_all = fs_all
 all-joined P [] id (Some item) fs es_all one fs_all = (one, fs_all)
 all-joined P (e ∷ es) id o fs es_all one fs_all = (es_all.0, all-joined P es id o fs es_all.1 one fs_all)
@@ -179,7 +182,7 @@ all-joined P (e ∷ es) id o fs es_all one fs_all = (es_all.0, all-joined P es i
 sorted-joined : (es : List (ItemId × Item)) (id : ItemId) (o : Option Item) (fs : List (ItemId × Item))
     → IsStrictlySortedBy id_cmp (keys_of es)
     → AllByRecursion (λ k. id_cmp k id ≡ Less) (keys_of es) → AllByRecursion (λ k. id_cmp id k ≡ Less) (keys_of fs)
-    → IsStrictlySortedBy id_cmp (keys_of fs) → IsStrictlySortedBy id_cmp (keys_of (es ++ (entry_of id o ++ fs)))
+    → IsStrictlySortedBy id_cmp (keys_of fs) → IsStrictlySortedBy id_cmp (keys_of (es ++ (item_entries id o ++ fs)))
 unfolding IsStrictlySortedBy
 sorted-joined [] id None fs es_sorted low high sorted = sorted
 sorted-joined [] id (Some item) fs es_sorted low high sorted = (high, sorted)
@@ -194,45 +197,46 @@ all-merged : (P : ItemId → Type 0) (es : List (ItemId × Item)) (ws : List Wri
     → AllByRecursion P (keys_of (merged es ws))
 all-merged P es [] all more = all
 all-merged P es (w ∷ ws) all more =
-    all-joined P (before w.0 es) w.0 w.1 (merged (behind w.0 es) ws) (all-kept (λ x. is_lt (id_cmp x w.0)) P es all) more.0
-    (all-merged P (behind w.0 es) ws (all-kept (λ x. is_lt (id_cmp w.0 x)) P es all) more.1)
+    all-joined P (entries_before w.0 es) w.0 w.1 (merged (entries_after w.0 es) ws) (all-kept (λ x. is_lt (id_cmp x w.0)) P es all) more.0
+    (all-merged P (entries_after w.0 es) ws (all-kept (λ x. is_lt (id_cmp w.0 x)) P es all) more.1)
 
 pub sorted-merged : (es : List (ItemId × Item)) (ws : List Write) → IsStrictlySortedBy id_cmp (keys_of es) → AreRising id_cmp ws
     → IsStrictlySortedBy id_cmp (keys_of (merged es ws))
 sorted-merged es [] sorted rising = sorted
 sorted-merged es (w ∷ ws) sorted rising =
-    sorted-joined (before w.0 es) w.0 w.1 (merged (behind w.0 es) ws) (sorted-kept (λ x. is_lt (id_cmp x w.0)) es sorted)
-    (all_weaker (λ k. is_lt (id_cmp k w.0) ≡ true) (λ k. id_cmp k w.0 ≡ Less) (λ k. less (id_cmp k w.0)) (keys_of (before w.0 es))
+    sorted-joined (entries_before w.0 es) w.0 w.1 (merged (entries_after w.0 es) ws) (sorted-kept (λ x. is_lt (id_cmp x w.0)) es sorted)
+    (all_weaker (λ k. is_lt (id_cmp k w.0) ≡ true) (λ k. id_cmp k w.0 ≡ Less) (λ k. less (id_cmp k w.0)) (keys_of (entries_before w.0 es))
     (all-passes (λ x. is_lt (id_cmp x w.0)) es))
-    (all-merged (λ k. id_cmp w.0 k ≡ Less) (behind w.0 es) ws
-    (all_weaker (λ k. is_lt (id_cmp w.0 k) ≡ true) (λ k. id_cmp w.0 k ≡ Less) (λ k. less (id_cmp w.0 k)) (keys_of (behind w.0 es))
+    (all-merged (λ k. id_cmp w.0 k ≡ Less) (entries_after w.0 es) ws
+    (all_weaker (λ k. is_lt (id_cmp w.0 k) ≡ true) (λ k. id_cmp w.0 k ≡ Less) (λ k. less (id_cmp w.0 k)) (keys_of (entries_after w.0 es))
     (all-passes (λ x. is_lt (id_cmp w.0 x)) es)) (rising_all w ws rising))
-    (sorted-merged (behind w.0 es) ws (sorted-kept (λ x. is_lt (id_cmp w.0 x)) es sorted) (rising_tail w ws rising))
+    (sorted-merged (entries_after w.0 es) ws (sorted-kept (λ x. is_lt (id_cmp w.0 x)) es sorted) (rising_tail w ws rising))
 
 -- ---- step by step
 
 merged-step : (es : List (ItemId × Item)) (w : Write) (ws : List Write)
-    → before w.0 es ++ (entry_of w.0 w.1 ++ merged (behind w.0 es) ws) ≡ merged es (w ∷ ws)
+    → entries_before w.0 es ++ (item_entries w.0 w.1 ++ merged (entries_after w.0 es) ws) ≡ merged es (w ∷ ws)
 merged-step es w ws = refl
 
 -- one write more
 pub write_more : (new new1 new2 rest low high : List (ItemId × Item)) (ws : List Write) (i : ℕ) (w d : Write) (whole : List (ItemId × Item))
-    → i < length ws → w ≡ get_or ws i d → low ≡ before w.0 rest → high ≡ behind w.0 rest → new1 ≡ new ++ low
-    → new2 ≡ new1 ++ entry_of w.0 w.1 → new ++ merged rest (drop i ws) ≡ whole → new2 ++ merged high (drop (i + 1) ws) ≡ whole
+    → i < length ws → w ≡ get_or ws i d → low ≡ entries_before w.0 rest → high ≡ entries_after w.0 rest → new1 ≡ new ++ low
+    → new2 ≡ new1 ++ item_entries w.0 w.1 → new ++ merged rest (drop i ws) ≡ whole → new2 ++ merged high (drop (i + 1) ws) ≡ whole
 write_more new new1 new2 rest low high ws i w d whole lt is lows highs one two so_far =
-    let parted : (new ++ before w.0 rest) ++ (entry_of w.0 w.1 ++ merged (behind w.0 rest) (drop (i + 1) ws))
-    ≡ new ++ (before w.0 rest ++ (entry_of w.0 w.1 ++ merged (behind w.0 rest) (drop (i + 1) ws))) =
-    append_assoc new (before w.0 rest) (entry_of w.0 w.1 ++ merged (behind w.0 rest) (drop (i + 1) ws)) in
+    let parted : (new ++ entries_before w.0 rest) ++ (item_entries w.0 w.1 ++ merged (entries_after w.0 rest) (drop (i + 1) ws))
+    ≡ new ++ (entries_before w.0 rest ++ (item_entries w.0 w.1 ++ merged (entries_after w.0 rest) (drop (i + 1) ws))) =
+    append_assoc new (entries_before w.0 rest) (item_entries w.0 w.1 ++ merged (entries_after w.0 rest) (drop (i + 1) ws)) in
     let read : new ++ merged rest (w ∷ drop (i + 1) ws) ≡ new ++ merged rest (get_or ws i d ∷ drop (i + 1) ws) =
     ap (λ (v : Write). new ++ merged rest (v ∷ drop (i + 1) ws)) is in
-    ap (λ es. es ++ merged high (drop (i + 1) ws)) (two ∙ ap (λ es. es ++ entry_of w.0 w.1) one)
-    ∙ (λ k. ((new ++ lows k) ++ entry_of w.0 w.1) ++ merged (highs k) (drop (i + 1) ws))
-    ∙ append_assoc (new ++ before w.0 rest) (entry_of w.0 w.1) (merged (behind w.0 rest) (drop (i + 1) ws)) ∙ parted
+    ap (λ es. es ++ merged high (drop (i + 1) ws)) (two ∙ ap (λ es. es ++ item_entries w.0 w.1) one)
+    ∙ (λ k. ((new ++ lows k) ++ item_entries w.0 w.1) ++ merged (highs k) (drop (i + 1) ws))
+    ∙ append_assoc (new ++ entries_before w.0 rest) (item_entries w.0 w.1) (merged (entries_after w.0 rest) (drop (i + 1) ws)) ∙ parted
     ∙ ap (λ es. new ++ es) (merged-step rest w (drop (i + 1) ws)) ∙ read
     ∙ sym (at_drop_more (λ (vs : List Write). new ++ merged rest vs) ws i d lt) ∙ so_far
 
-pub sorted-behind : (id : ItemId) (es high : List (ItemId × Item)) → high ≡ behind id es → IsStrictlySortedBy id_cmp (keys_of es)
+pub sorted-entries_after : (id : ItemId) (es high : List (ItemId × Item)) → high ≡ entries_after id es
+    → IsStrictlySortedBy id_cmp (keys_of es)
     → IsStrictlySortedBy id_cmp (keys_of high)
-sorted-behind id es high is sorted =
+sorted-entries_after id es high is sorted =
     subst (λ (fs : List (ItemId × Item)). IsStrictlySortedBy id_cmp (keys_of fs)) (sym is)
     (sorted-kept (λ x. is_lt (id_cmp id x)) es sorted)

@@ -13,7 +13,7 @@ use Rattle.lay_items.specs.declared.id.ItemId.{ItemId}
 use Rattle.lay_items.specs.declared.item.Item.{Item}
 use Rattle.lay_items.specs.IdOrder.{ids_total}
 use Rattle.lay_items.specs.Ids.{id_cmp}
-use Rattle.lay_items.specs.Layout.{items_of}
+use Rattle.lay_items.specs.Layout.{map_of_items}
 use Rattle.lay_items.specs.LayoutWith.{numbered_from, text_id}
 use Rattle.lay_items.proofs.DistinctLemmas.{AreDistinct}
 use Rattle.lay_items.proofs.MapLemmas.{entries_again}
@@ -46,7 +46,7 @@ numbered_sorted k [] = tt
 numbered_sorted k (item ∷ items) = (id_first k (k + 1) items (omega arith), numbered_sorted (k + 1) items)
 
 -- the entries of their map
-pub entries-numbered : (k : ℕ) (items : List Item) → entries (items_of (numbered_from k items)) ≡ numbered_from k items
+pub entries-numbered : (k : ℕ) (items : List Item) → entries (map_of_items (numbered_from k items)) ≡ numbered_from k items
 entries-numbered k items = entries_again id_cmp ids_total (numbered_from k items) (numbered_sorted k items)
 
 -- what is so of all items is so of one that is found

@@ -7,17 +7,17 @@ use Rattle.std.specs.Cmp.Lexicographic.{as_long, pointwise}
 use Rattle.std.specs.FinMap.{entries, from_entries}
 use Rattle.std.specs.List.Sorted.{IsStrictlySortedBy}
 use Rattle.std.proofs.lemmas.Bool.Decides.{Decides-eqb}
-use Rattle.lay_items.specs.SameMap.{entry_eq, map_eq}
+use Rattle.lay_items.specs.SameMap.{keyed_value_eq, map_eq}
 use Rattle.lay_items.proofs.MapLemmas.{entries_again}
 
 -- the entries of the maps of two trees are compared as those of the trees
 pub map_eq-of : {K X : Type 0} (R : K → K → Ordering) → IsTotalOrder R
     → (key_eq : K → K → Bool) (value_eq : X → X → Bool) (es fs : List (K × X)) →
     IsStrictlySortedBy R (keys_of es) → IsStrictlySortedBy R (keys_of fs)
-    → map_eq key_eq value_eq (from_entries {R = R} es) (from_entries {R = R} fs) ≡ pointwise (entry_eq key_eq value_eq) es fs
+    → map_eq key_eq value_eq (from_entries {R = R} es) (from_entries {R = R} fs) ≡ pointwise (keyed_value_eq key_eq value_eq) es fs
 unfolding map_eq
 map_eq-of R total key_eq value_eq es fs sorted_es sorted_fs =
-    let same = entry_eq key_eq value_eq in
+    let same = keyed_value_eq key_eq value_eq in
     ap (λ xs. pointwise same xs (entries (from_entries {R = R} fs))) (entries_again R total es sorted_es)
     ∙ ap (pointwise same es) (entries_again R total fs sorted_fs)
 

@@ -22,10 +22,10 @@ use Rattle.lay_cells.specs.Walks.{IsAcyclic}
 use Rattle.cif_read.specs.declared.element.Element.{Element}
 use Rattle.cif_read.specs.declared.element.Figure.{Figure}
 use Rattle.cif_read.specs.declared.element.Figure.TheVariants.{Call, Polygon}
-use Rattle.cif_read.specs.Contents.{Contents, IsSoundElement, IsSoundFigure, IsSoundFile, calls_in, with_call}
+use Rattle.cif_read.specs.Contents.{Contents, IsSoundElement, IsSoundFigure, IsSoundFile, element_calls, with_call}
 use Rattle.lay_items.specs.declared.version.CellSlot.{CellSlot}
 use Rattle.lay_items.specs.declared.version.CellSlot.TheVariants.{Base}
-use Rattle.lay_items.specs.Calls.{call_of, calls_among, calls_of}
+use Rattle.lay_items.specs.Calls.{as_call, calls_among, calls_of}
 use Rattle.lay_items.specs.Calls as calls
 use Rattle.lay_items.specs.FromCif.{item_in, item_of, items_of_elements, layout_of}
 use Rattle.lay_items.specs.IdOrder.{ids_total}
@@ -122,12 +122,12 @@ sound_items file (e ∷ es) all = (
 
 -- ---- calls
 
-one_call : (cell : CellId) (f : Figure) (rest : List calls.Call) → cons_option (call_of (item_in cell f)) rest ≡ with_call cell f rest
+one_call : (cell : CellId) (f : Figure) (rest : List calls.Call) → cons_option (as_call (item_in cell f)) rest ≡ with_call cell f rest
 one_call cell (Polygon layer ring) rest = refl
 one_call cell (Call target turn) rest = refl
 
 -- the calls of the layout are those of the text
-same_calls : (k : ℕ) (es : List Element) → calls_among (numbered_from k (items_of_elements es)) ≡ calls_in es
+same_calls : (k : ℕ) (es : List Element) → calls_among (numbered_from k (items_of_elements es)) ≡ element_calls es
 same_calls k [] = refl
 same_calls k (e ∷ es) =
     one_call e.cell e.figure (calls_among (numbered_from (k + 1) (items_of_elements es)))

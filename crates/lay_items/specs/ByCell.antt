@@ -18,7 +18,7 @@ use Rattle.lay_items.specs.declared.item.Item.{Item}
 use Rattle.lay_items.specs.IdOrder.{ids_exact, ids_total}
 use Rattle.lay_items.specs.Ids.{id_cmp}
 use Rattle.lay_items.specs.Items.{cell_of}
-use Rattle.lay_pages.specs.Written.{written}
+use Rattle.lay_pages.specs.Written.{after_write}
 
 -- cells are told apart by numbers: 0 for the top cell, and one more than its own for a symbol
 abbrev pub cell_key : CellId → ℕ
@@ -67,24 +67,24 @@ abbrev pub listed : ℕ → List Homed → List ItemId
 listed key homes = map (λ homed. homed.0.id) (filter (λ homed. homed.0.cell == key) homes)
 
 -- the index has of each cell the ids of the items that stand in it, in order
-abbrev pub AreIndexed : List (ItemId × Item) → List Homed → Type 0
-AreIndexed entries homes = (key : ℕ) → listed key homes ≡ ids_in key entries
+abbrev pub AreIndexedByCell : List (ItemId × Item) → List Homed → Type 0
+AreIndexedByCell entries homes = (key : ℕ) → listed key homes ≡ ids_in key entries
 
 -- items in order of their ids, and their index
 pub record AreHeld (entries : List (ItemId × Item)) (index : List Homed) : Type 0 where
   pub ids : IsStrictlySortedBy id_cmp (keys_of entries)
   pub homes : IsStrictlySortedBy home_cmp (keys_of index)
-  pub indexed : AreIndexed entries index
+  pub indexed : AreIndexedByCell entries index
 
 -- the index without an item, where there was one under the id
 abbrev pub without_home : ItemId → Option Item → List Homed → List Homed
 without_home id None homes = homes
-without_home id (Some item) homes = written home_cmp (home_of id item) None homes
+without_home id (Some item) homes = after_write home_cmp (home_of id item) None homes
 
 -- and with one, where there is one from then on
 abbrev pub with_home : ItemId → Option Item → List Homed → List Homed
 with_home id None homes = homes
-with_home id (Some item) homes = written home_cmp (home_of id item) (Some tt) homes
+with_home id (Some item) homes = after_write home_cmp (home_of id item) (Some tt) homes
 
 -- ---- what is lent of a cell
 

@@ -13,13 +13,13 @@ abbrev pub Call : Type 0
 Call = CellId × ℕ
 
 -- the call that an item is, if it is one
-abbrev pub call_of : Item → Option Call
-call_of (Shape cell layer rings) = None
-call_of (Placed cell target turn) = Some (cell, target)
+abbrev pub as_call : Item → Option Call
+as_call (Shape cell layer rings) = None
+as_call (Placed cell target turn) = Some (cell, target)
 
 -- those among these items, in order
 abbrev pub calls_among : List (ItemId × Item) → List Call
-calls_among entries = filter_map (λ entry. call_of entry.1) entries
+calls_among entries = filter_map (λ entry. as_call entry.1) entries
 
 -- those of a layout, in order of their ids
 unfoldable pub calls_of : Layout → List Call

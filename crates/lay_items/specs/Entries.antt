@@ -6,19 +6,19 @@ use Rattle.lay_items.specs.declared.item.Item.{Item}
 use Rattle.lay_items.specs.Ids.{id_cmp}
 use Rattle.lay_items.specs.Layout.{Write}
 
-abbrev pub before : ItemId → List (ItemId × Item) → List (ItemId × Item)
-before id entries = filter (λ entry. is_lt (id_cmp entry.0 id)) entries
+abbrev pub entries_before : ItemId → List (ItemId × Item) → List (ItemId × Item)
+entries_before id entries = filter (λ entry. is_lt (id_cmp entry.0 id)) entries
 
-abbrev pub behind : ItemId → List (ItemId × Item) → List (ItemId × Item)
-behind id entries = filter (λ entry. is_lt (id_cmp id entry.0)) entries
+abbrev pub entries_after : ItemId → List (ItemId × Item) → List (ItemId × Item)
+entries_after id entries = filter (λ entry. is_lt (id_cmp id entry.0)) entries
 
 -- what a write leaves under its id
-abbrev pub entry_of : ItemId → Option Item → List (ItemId × Item)
-entry_of id None = []
-entry_of id (Some item) = (id, item) ∷ []
+abbrev pub item_entries : ItemId → Option Item → List (ItemId × Item)
+item_entries id None = []
+item_entries id (Some item) = (id, item) ∷ []
 
 -- the entries after these writes, each of an id behind the one before
 abbrev pub merged : List (ItemId × Item) → List Write → List (ItemId × Item)
 merged entries [] = entries
 merged entries (write ∷ writes) =
-    before write.0 entries ++ (entry_of write.0 write.1 ++ merged (behind write.0 entries) writes)
+    entries_before write.0 entries ++ (item_entries write.0 write.1 ++ merged (entries_after write.0 entries) writes)

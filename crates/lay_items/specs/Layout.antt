@@ -38,8 +38,8 @@ abbrev pub symbols_of : List (ℕ × CellSlot) → FinMap nat_cmp CellSlot
 symbols_of entries = map.from_entries entries
 
 -- the items of a list of ids and items
-abbrev pub items_of : List (ItemId × Item) → FinMap id_cmp Item
-items_of entries = map.from_entries entries
+abbrev pub map_of_items : List (ItemId × Item) → FinMap id_cmp Item
+map_of_items entries = map.from_entries entries
 
 -- the item of this id
 abbrev pub item_at : Layout → ItemId → Option Item
@@ -78,8 +78,8 @@ abbrev pub changed : Layout → Writes → Layout
 changed layout writes = record { symbols = put_all layout.symbols writes.symbols; items = put_all layout.items writes.items }
 
 -- the layout after writes of items alone
-abbrev pub written : Layout → List Write → Layout
-written layout writes = changed layout (record { items = writes; symbols = [] })
+abbrev pub after_item_writes : Layout → List Write → Layout
+after_item_writes layout writes = changed layout (record { items = writes; symbols = [] })
 
 -- each key is above the one before it
 abbrev pub AreRising : {K X : Type 0} → (K → K → Ordering) → List (K × X) → Type 0
@@ -87,5 +87,5 @@ AreRising cmp [] = Unit {0}
 AreRising cmp (w ∷ []) = Unit {0}
 AreRising cmp (w ∷ v ∷ writes) = (cmp w.0 v.0 ≡ Less) × AreRising cmp (v ∷ writes)
 
-abbrev pub IsRising : List Write → Type 0
-IsRising writes = AreRising id_cmp writes
+abbrev pub AreWritesRising : List Write → Type 0
+AreWritesRising writes = AreRising id_cmp writes

@@ -4,7 +4,7 @@ use Rattle.lay_items.specs.declared.id.ItemId.{ItemId}
 use Rattle.lay_items.specs.declared.item.Item.{Item}
 use Rattle.lay_items.specs.declared.version.CellSlot.{CellSlot}
 use Rattle.lay_items.specs.declared.version.CellSlot.TheVariants.{Base}
-use Rattle.lay_items.specs.Layout.{Layout, items_of, symbols_of}
+use Rattle.lay_items.specs.Layout.{Layout, map_of_items, symbols_of}
 
 -- the symbols of these numbers with slots of a text, from this place on
 abbrev pub placed_from : ℕ → List ℕ → List (ℕ × CellSlot)
@@ -22,4 +22,4 @@ numbered_from seq (item ∷ items) = (text_id seq, item) ∷ numbered_from (seq 
 
 -- the symbols of these numbers in this order, and item q under 0.0.q
 abbrev pub layout_with : List ℕ → List Item → Layout
-layout_with numbers items = record { symbols = symbols_of (placed_from 1 numbers); items = items_of (numbered_from 1 items) }
+layout_with numbers items = record { symbols = symbols_of (placed_from 1 numbers); items = map_of_items (numbered_from 1 items) }

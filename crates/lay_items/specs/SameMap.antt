@@ -10,20 +10,20 @@ use Rattle.std.proofs.lemmas.Bool.Decides.{Decides-and, Decides-like}
 use Rattle.std.proofs.lemmas.Slice.Eq.{slice_eq-Decides}
 
 -- the same value under the same key
-abbrev pub entry_eq : {K X : Type 0} → (K → K → Bool) → (X → X → Bool) → K × X → K × X → Bool
-entry_eq key_eq value_eq p q = key_eq p.0 q.0 && value_eq p.1 q.1
+abbrev pub keyed_value_eq : {K X : Type 0} → (K → K → Bool) → (X → X → Bool) → K × X → K × X → Bool
+keyed_value_eq key_eq value_eq p q = key_eq p.0 q.0 && value_eq p.1 q.1
 
 entry_eq-Decides : {K X : Type 0} (key_eq : K → K → Bool) (value_eq : X → X → Bool)
     → ((a b : K) → Decides (key_eq a b) (a ≡ b)) → ((x y : X) → Decides (value_eq x y) (x ≡ y)) → (p q : K × X)
-    → Decides (entry_eq key_eq value_eq p q) (p ≡ q)
+    → Decides (keyed_value_eq key_eq value_eq p q) (p ≡ q)
 entry_eq-Decides {K} {X} key_eq value_eq keys values p q =
-    Decides-like (entry_eq key_eq value_eq p q) (λ both. λ i. (both.0 i, both.1 i))
+    Decides-like (keyed_value_eq key_eq value_eq p q) (λ both. λ i. (both.0 i, both.1 i))
     (λ e. (ap (λ (r : K × X). r.0) e, ap (λ (r : K × X). r.1) e))
     (Decides-and _ _ (keys p.0 q.0) (values p.1 q.1))
 
 -- the same values under the same keys
 unfoldable pub map_eq : {K X : Type 0} {R : K → K → Ordering} → (K → K → Bool) → (X → X → Bool) → FinMap R X → FinMap R X → Bool
-map_eq key_eq value_eq m n = pointwise (entry_eq key_eq value_eq) (map.entries m) (map.entries n)
+map_eq key_eq value_eq m n = pointwise (keyed_value_eq key_eq value_eq) (map.entries m) (map.entries n)
 
 pub map_eq-Decides : {K X : Type 0} {R : K → K → Ordering} (key_eq : K → K → Bool) (value_eq : X → X → Bool)
     → ((a b : K) → Decides (key_eq a b) (a ≡ b)) → ((x y : X) → Decides (value_eq x y) (x ≡ y)) → (m n : FinMap R X)

@@ -2,7 +2,7 @@
 ghost use Rattle.std.specs.Prelude.{◌≡◌, IfOk, map, option_copied};
 ghost use Rattle.std.specs.List.Sorted.{IsStrictlySortedBy};
 ghost use Rattle.std.specs.Map.{keys_of};
-ghost use Rattle.lay_items.specs.ByCell.{AreIndexed, cell_key, home_cmp, home_of, homes_in, unit_entry, with_home, without_home};
+ghost use Rattle.lay_items.specs.ByCell.{AreIndexedByCell, cell_key, home_cmp, home_of, homes_in, unit_entry, with_home, without_home};
 ghost use Rattle.lay_items.specs.Ids.{id_cmp};
 
 use crate::id::ItemId;
@@ -31,7 +31,7 @@ pub(crate) type Homes = Pages<Home, ()>;
 /// Returns where these items stand.
 pub(crate) fn homes_of(alloc: Global, items: &Pages<ItemId, Item>) -> Result<Homes, NoMemory>
     requires { IsStrictlySortedBy id_cmp (keys_of items.now) }
-    ensures indexed { IfOk result (λ homes. AreIndexed items.now homes) }
+    ensures indexed { IfOk result (λ homes. AreIndexedByCell items.now homes) }
     ensures sorted { IfOk result (λ homes. IsStrictlySortedBy home_cmp (keys_of homes)) }
 {
     let mut homes = list_of(alloc, items)?;

@@ -6,7 +6,7 @@ ghost use Rattle.std.specs.Map.{keys_of};
 ghost use Rattle.lay_items.specs.FromCif.{items_of_elements};
 ghost use Rattle.lay_items.specs.Ids.{id_cmp};
 ghost use Rattle.lay_items.specs.Items.{standing_in};
-ghost use Rattle.lay_items.specs.Layout.{AreRising, items_of, put, put_all};
+ghost use Rattle.lay_items.specs.Layout.{AreRising, map_of_items, put, put_all};
 ghost use Rattle.lay_items.specs.LayoutWith.{numbered_from};
 ghost use Rattle.lay_items.specs.SameLayout.{items_eq};
 
@@ -41,13 +41,13 @@ impl Model for ItemMap {
     ghost use Rattle.lay_items.specs.declared.item.Item.{Item};
     ghost use Rattle.lay_items.specs.ByCell.{AreHeld};
     ghost use Rattle.lay_items.specs.Ids.{coded_id, id_cmp};
-    ghost use Rattle.lay_items.specs.Layout.{items_of};
+    ghost use Rattle.lay_items.specs.Layout.{map_of_items};
 
     ghost Value = { FinMap id_cmp Item };
 
     ghost coded = { map.code coded_id item.the_row.coded };
 
-    ghost view = { λ m. items_of m.items };
+    ghost view = { λ m. map_of_items m.items };
 
     ghost invariant = { λ m. AreHeld m.items m.homes };
 }
@@ -65,7 +65,7 @@ impl ItemMap {
 
     /// Returns the items under the ids 0.0.1 and on.
     pub(crate) fn of_items(alloc: Global, items: Vec<Item>) -> Result<ItemMap, NoMemory>
-        ensures { IfOk result (λ numbered. numbered ≡ items_of (numbered_from 1 items.items)) }
+        ensures { IfOk result (λ numbered. numbered ≡ map_of_items (numbered_from 1 items.items)) }
     {
         ItemMap::of(alloc, numbered(alloc, items)?)
     }
@@ -73,7 +73,7 @@ impl ItemMap {
     /// Returns the elements of a text as items under the ids 0.0.1 and on.
     pub(crate) fn of_text(alloc: Global, elements: Vec<Element>) -> Result<ItemMap, NoMemory>
         ensures { IfOk result (λ numbered. numbered
-            ≡ items_of (numbered_from 1 (items_of_elements elements.items))) }
+            ≡ map_of_items (numbered_from 1 (items_of_elements elements.items))) }
     {
         ItemMap::of(alloc, pages_of(alloc, elements)?)
     }
@@ -81,7 +81,7 @@ impl ItemMap {
     /// Returns the map of these items.
     fn of(alloc: Global, items: Pages<ItemId, Item>) -> Result<ItemMap, NoMemory>
         requires { IsStrictlySortedBy id_cmp (keys_of items) }
-        ensures { IfOk result (λ map. map ≡ items_of items) }
+        ensures { IfOk result (λ map. map ≡ map_of_items items) }
     {
         let homes = homes_of(alloc, &items)?;
         Ok(ItemMap { items, homes })

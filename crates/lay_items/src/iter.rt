@@ -77,14 +77,14 @@ impl<'a> Items<'a> {
     ghost use Rattle.std.specs.Prelude.{◌≡◌};
     ghost use Rattle.std.specs.List.Sorted.{IsStrictlySortedBy};
     ghost use Rattle.std.specs.Map.{keys_of};
-    ghost use Rattle.lay_items.specs.ByCell.{AreIndexed};
+    ghost use Rattle.lay_items.specs.ByCell.{AreIndexedByCell};
     ghost use Rattle.lay_items.specs.Ids.{id_cmp};
     ghost use Rattle.lay_items.specs.Items.{standing_in};
 
     /// Returns those of the items that stand in the cell.
     pub(crate) fn new(items: &'a Pages<ItemId, Item>, homes: &'a Homes, cell: CellId) -> Items<'a>
         requires sorted { IsStrictlySortedBy id_cmp (keys_of items.now) }
-        requires indexed { AreIndexed items.now homes.now }
+        requires indexed { AreIndexedByCell items.now homes.now }
         ensures { result ≡ standing_in cell items.now }
     {
         let cell = cell_key(cell);

@@ -26,7 +26,7 @@ use Rattle.lay_items.specs.Layout.{Layout}
 use Rattle.lay_items.specs.Lent.{LentCall, LentShape, call_lent, calls_in, shape_on, shapes_in}
 use Rattle.lay_flat.specs.Ends.{end_along, end_of, target_of, walks_of}
 use Rattle.lay_flat.specs.Flattening.{drawn_at, ends_of}
-use Rattle.lay_order_laws.specs.Order.{AreInOrder, IsIdBefore, IsPlaceBefore, IsWalkBefore, Place, ShapesAreNumberedInOrder}
+use Rattle.lay_order_laws.specs.Order.{AreInOrder, IsIdBefore, IsPlaceBefore, IsWalkBefore, ShapesAreNumberedInOrder, WalkedShape}
 use Rattle.lay_order_laws.specs.Order.{drawn_of, places, places_on}
 
 -- ---- lists in order
@@ -219,7 +219,7 @@ places_in_order layout cell layer =
     (shapes_in layout (end_of cell walk) layer) (shapes_in_order layout (end_of cell walk) layer))
     across (walks_of layout cell) (all_walks_in_order layout cell)
   where
-    across : (w v : List LentCall) (p q : Place) → IsWalkBefore w v → Has (places_on layout cell layer w) p
+    across : (w v : List LentCall) (p q : WalkedShape) → IsWalkBefore w v → Has (places_on layout cell layer w) p
         → Has (places_on layout cell layer v) q → IsPlaceBefore p q
     across w v p q less m n =
         let r = has_map (λ (shape : LentShape). (w, shape)) (shapes_in layout (end_of cell w) layer) p m in

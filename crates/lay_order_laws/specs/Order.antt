@@ -28,23 +28,23 @@ IsWalkBefore (c ∷ w) [] = ⊥
 IsWalkBefore (c ∷ w) (d ∷ v) = IsIdBefore c.0 d.0 ⊎ ((c ≡ d) × IsWalkBefore w v)
 
 -- a shape at the end of a walk
-abbrev pub Place : Type 0
-Place = List LentCall × LentShape
+abbrev pub WalkedShape : Type 0
+WalkedShape = List LentCall × LentShape
 
 -- by walk, then by the shape's id
-abbrev pub IsPlaceBefore : Place → Place → Type 0
+abbrev pub IsPlaceBefore : WalkedShape → WalkedShape → Type 0
 IsPlaceBefore p q = IsWalkBefore p.0 q.0 ⊎ ((p.0 ≡ q.0) × IsIdBefore p.1.0 q.1.0)
 
 -- the shapes on the layer at the end of this walk from the cell
-abbrev pub places_on : Layout → CellId → List ℕ → List LentCall → List Place
+abbrev pub places_on : Layout → CellId → List ℕ → List LentCall → List WalkedShape
 places_on layout cell layer walk = map (λ shape. (walk, shape)) (shapes_in layout (end_of cell walk) layer)
 
 -- those at the ends of all walks
-abbrev pub places : Layout → CellId → List ℕ → List Place
+abbrev pub places : Layout → CellId → List ℕ → List WalkedShape
 places layout cell layer = flat_map (places_on layout cell layer) (walks_of layout cell)
 
 -- what is drawn there
-abbrev pub drawn_of : Place → Drawn
+abbrev pub drawn_of : WalkedShape → Drawn
 drawn_of p = (unwrap_or (turn_along (Some unturned) p.0) unturned, p.1.1)
 
 pub record AreNumberedInOrder (layout : Layout) (cell : CellId) (layer : List ℕ) : Type 0 where

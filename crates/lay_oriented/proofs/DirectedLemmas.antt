@@ -15,7 +15,7 @@ use Rattle.lay_items.specs.declared.item.Item.TheVariants.{Placed, Shape}
 use Rattle.lay_items.specs.Calls.{calls_among, calls_of}
 use Rattle.lay_items.specs.IdOrder.{ids_exact, ids_total}
 use Rattle.lay_items.specs.Ids.{id_cmp}
-use Rattle.lay_items.specs.Layout.{AreRising, Layout, Write, changed, is_cell, items_of, put, put_all}
+use Rattle.lay_items.specs.Layout.{AreRising, Layout, Write, changed, is_cell, map_of_items, put, put_all}
 use Rattle.lay_items.specs.Sound.{IsSound, IsSoundItem}
 use Rattle.lay_items.proofs.MapLemmas.{entries_again, sorted_keys}
 use Rattle.lay_items.proofs.SlotLemmas.{tested}
@@ -132,7 +132,7 @@ get-after items ws n is q =
 entries-after : (items : FinMap id_cmp Item) (ws : List Write) (n : ℕ) (is : AreWrites (entries items) ws n)
     → entries (put_all items ws) ≡ after (entries items) ws n is
 entries-after items ws n is =
-    ap entries (same_map ids_total ids_exact (put_all items ws) (items_of (after (entries items) ws n is)) (λ q.
+    ap entries (same_map ids_total ids_exact (put_all items ws) (map_of_items (after (entries items) ws n is)) (λ q.
     get-after items ws n is q ∙ sym (get-from_entries ids_total (after (entries items) ws n is) q)))
     ∙ entries_again id_cmp ids_total (after (entries items) ws n is)
     (subst (IsStrictlySortedBy id_cmp) (sym (keys_of-after (entries items) ws n is)) (sorted_entries items))

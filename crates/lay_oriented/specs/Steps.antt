@@ -8,10 +8,10 @@ use Rattle.lay_oriented.specs.declared.directing.Step.TheVariants.{Alike, Otherw
 use Rattle.lay_oriented.specs.Directed.{IsSeenAlike, IsShape, IsTurned}
 
 -- what is found for an item
-abbrev pub IsStep : Item → Step → Type 0
-IsStep item Alike = IsSeenAlike item
-IsStep item (Turned new) = IsTurned item new
-IsStep item Otherwise = IsShape item
+abbrev pub IsFoundFor : Item → Step → Type 0
+IsFoundFor item Alike = IsSeenAlike item
+IsFoundFor item (Turned new) = IsTurned item new
+IsFoundFor item Otherwise = IsShape item
 
 -- the writes of the turned shapes among these items, in their order, and how many shapes readers may see otherwise
 abbrev pub AreWrites : List (ItemId × Item) → List Write → ℕ → Type 0

@@ -5,7 +5,7 @@ ghost use Rattle.std.specs.List.{AllByRecursion};
 ghost use Rattle.lay_point.specs.Rings.{IsRing};
 ghost use Rattle.lay_items.specs.Sound.{IsDrawn};
 ghost use Rattle.lay_oriented.specs.Directed.{IsDirected};
-ghost use Rattle.lay_oriented.specs.Steps.{AreWrites, IsStep};
+ghost use Rattle.lay_oriented.specs.Steps.{AreWrites, IsFoundFor};
 
 use face_rings::bridge;
 use lay_items::{Item, ItemId, Rings, Snapshot, Version};
@@ -71,7 +71,7 @@ fn writes_of(
 
 /// Returns what is found for the item.
 fn step_of(alloc: Global, item: &Item) -> Result<Step, NoMemory>
-    ensures { IfOk result (IsStep item.now) }
+    ensures { IfOk result (IsFoundFor item.now) }
 {
     let Item::Shape { cell, layer, rings } = item else {
         return Ok(Step::Alike);

@@ -9,7 +9,7 @@ use Rattle.std.specs.List.{AllByRecursion}
 use Rattle.std.specs.List.Sorted.{IsStrictlySortedBy}
 use Rattle.std.specs.Map.{keys_of}
 use Rattle.lay_pages.specs.Shared.{AreBooks, AreSized, entries_in, joined}
-use Rattle.lay_pages.specs.Written.{IsPlace, written}
+use Rattle.lay_pages.specs.Written.{IsPlace, after_write}
 use Rattle.lay_pages.proofs.OrderLemmas.{sorted-written, write-level}
 use Rattle.lay_pages.proofs.PlaceLemmas.{all-at, sized-at, sorted-at}
 use Rattle.lay_pages.proofs.ShareLemmas.{all_append, all_spliced, joined_twice, length_map, spliced_at, spliced_map}
@@ -33,12 +33,12 @@ book_at {K} {X} R lists at books lt = record {
 
 -- books after a write
 pub record AreAfter {K X : Type 0} (R : K → K → Ordering) (k : K) (x : Option X) (old new : List (List (List (K × X)))) : Type 0 where
-  pub entries : entries_in new ≡ written R k x (entries_in old)
+  pub entries : entries_in new ≡ after_write R k x (entries_in old)
   pub books : AreBooks R new
 
 pub books_after : {K X : Type 0} {R : K → K → Ordering} (total : IsTotalOrder R) (exact : IsAntisymmetric R) (k : K) (x : Option X)
     (old others new : List (List (List (K × X)))) (at : ℕ) → AreBooks R old → at < length old → IsPlace R k (map joined old) at
-    → entries_in others ≡ written R k x (joined (get_or old at [])) → AreSized others
+    → entries_in others ≡ after_write R k x (joined (get_or old at [])) → AreSized others
     → AllByRecursion (λ (ps : List (List (K × X))). AreSized ps) others → new ≡ spliced_at at old others → AreAfter R k x old new
 books_after {K} {X} {R} total exact k x old others new at books lt place one sized pages is = record {
   entries = same;
@@ -51,10 +51,10 @@ books_after {K} {X} {R} total exact k x old others new at books lt place one siz
         (sorted-written total exact k x (entries_in old) books.sorted);
   };
 } where
-  same : entries_in new ≡ written R k x (entries_in old)
+  same : entries_in new ≡ after_write R k x (entries_in old)
   same =
       write-level total exact k x (map joined old) (map joined others) (map joined new) at [] place
-      (one ∙ ap (written R k x) (sym (get_or-map joined old at [] [] lt))) (spliced_map joined at new old others is)
+      (one ∙ ap (after_write R k x) (sym (get_or-map joined old at [] [] lt))) (spliced_map joined at new old others is)
 
 -- ---- how many pages there are
 

@@ -12,7 +12,7 @@ use Rattle.std.specs.List.Sorted.{IsStrictlySortedBy}
 use Rattle.std.specs.Map.{keys_of}
 use Rattle.std.specs.Ordering.{is_eq, is_lt}
 use Rattle.lay_pages.specs.Shared.{joined}
-use Rattle.lay_pages.specs.Written.{AllAbove, AllBelow, IsPlace, count_of, entry_of, higher, lower, written}
+use Rattle.lay_pages.specs.Written.{AllAbove, AllBelow, IsPlace, after_write, count_of, higher, lower, written_entries}
 use Rattle.lay_pages.proofs.SearchLemmas.{turned}
 use Rattle.lay_pages.proofs.PlaceLemmas.{joined-at, written-at}
 use Rattle.lay_pages.proofs.ShareLemmas.{joined_append, spliced_at}
@@ -67,43 +67,43 @@ module _ {K X : Type 0} {R : K → K → Ordering} (total : IsTotalOrder R) (exa
 
   -- a write puts one more entry, and takes out what was found
   pub count-written : (k : K) (x : Option X) (es : List (K × X)) → IsStrictlySortedBy R (keys_of es)
-      → length (written R k x es) + count_of (find R k es) ≡ length es + count_of x
+      → length (after_write R k x es) + count_of (find R k es) ≡ length es + count_of x
   count-written k x es sorted = by x where
-    by : (x : Option X) → length (written R k x es) + count_of (find R k es) ≡ length es + count_of x
+    by : (x : Option X) → length (after_write R k x es) + count_of (find R k es) ≡ length es + count_of x
     by None = omega (arith, sides k es sorted, length-append (lower R k es) (higher R k es))
     by (Some y) = omega (arith, sides k es sorted, length-append (lower R k es) ((k, y) ∷ higher R k es))
 
   pub written-full : (k : K) (x : Option X) (es : List (K × X)) → IsStrictlySortedBy R (keys_of es)
-      → length (written R k x es) ≤ length es + 1
+      → length (after_write R k x es) ≤ length es + 1
   written-full k x es sorted = by x (count-written k x es sorted) where
-    by : (y : Option X) → length (written R k x es) + count_of (find R k es) ≡ length es + count_of y
-        → length (written R k x es) ≤ length es + 1
+    by : (y : Option X) → length (after_write R k x es) + count_of (find R k es) ≡ length es + count_of y
+        → length (after_write R k x es) ≤ length es + 1
     by None count = omega (arith, count)
     by (Some y) count = omega (arith, count)
 
   -- what is there, written again, changes nothing
-  pub written-same : (k : K) (es : List (K × X)) → IsStrictlySortedBy R (keys_of es) → written R k (find R k es) es ≡ es
+  pub written-same : (k : K) (es : List (K × X)) → IsStrictlySortedBy R (keys_of es) → after_write R k (find R k es) es ≡ es
   unfolding IsStrictlySortedBy
   written-same k [] sorted = refl
   written-same k (e ∷ es) sorted = by (R e.0 k) refl (written-same k es sorted.1) where
-    by : (o : Ordering) → R e.0 k ≡ o → written R k (find R k es) es ≡ es → written R k (find R k (e ∷ es)) (e ∷ es) ≡ e ∷ es
+    by : (o : Ordering) → R e.0 k ≡ o → after_write R k (find R k es) es ≡ es → after_write R k (find R k (e ∷ es)) (e ∷ es) ≡ e ∷ es
     by Less is rest =
         (λ i. cond (is_lt (is i)) (e ∷ lower R k es) (lower R k es)
-        ++ (entry_of k (cond (is_eq (turned total e.0 k Less is i)) (Some e.1) (find R k es))
+        ++ (written_entries k (cond (is_eq (turned total e.0 k Less is i)) (Some e.1) (find R k es))
         ++ cond (is_lt (turned total e.0 k Less is i)) (e ∷ higher R k es) (higher R k es)))
         ∙ ap (λ xs. e ∷ xs) rest
     by Equal is rest =
         let same : e.0 ≡ k = exact e.0 k is in
         let all : AllAbove R k es = subst (λ q. AllAbove R q es) same (above_all e.0 es sorted.0) in
         (λ i. cond (is_lt (is i)) (e ∷ lower R k es) (lower R k es)
-        ++ (entry_of k (cond (is_eq (turned total e.0 k Equal is i)) (Some e.1) (find R k es))
+        ++ (written_entries k (cond (is_eq (turned total e.0 k Equal is i)) (Some e.1) (find R k es))
         ++ cond (is_lt (turned total e.0 k Equal is i)) (e ∷ higher R k es) (higher R k es)))
         ∙ (λ i. lower-above total k es all i ++ ((k, e.1) ∷ higher-above total k es all i)) ∙ ap (λ q. (q, e.1) ∷ es) (sym same)
     by Greater is rest =
         let first : R k e.0 ≡ Less = turned total e.0 k Greater is in
         let all : AllAbove R k (e ∷ es) = (first, above_all k es (after total k e.0 first (keys_of es) sorted.0)) in
         λ i. lower-above total k (e ∷ es) all i
-        ++ (entry_of k (find-above k (e ∷ es) all i) ++ higher-above total k (e ∷ es) all i)
+        ++ (written_entries k (find-above k (e ∷ es) all i) ++ higher-above total k (e ∷ es) all i)
 
   -- what is found is there
   pub some-found : (k : K) (es : List (K × X)) → IsStrictlySortedBy R (keys_of es) → count_of (find R k es) ≤ length es
@@ -147,14 +147,14 @@ module _ {K X : Type 0} {R : K → K → Ordering} (total : IsTotalOrder R) (exa
     by false is rest = rest
 
   all-joined : (P : K → Type 0) (es : List (K × X)) (k : K) (x : Option X) (fs : List (K × X)) → AllByRecursion P (keys_of es)
-      → P k → AllByRecursion P (keys_of fs) → AllByRecursion P (keys_of (es ++ (entry_of k x ++ fs)))
+      → P k → AllByRecursion P (keys_of fs) → AllByRecursion P (keys_of (es ++ (written_entries k x ++ fs)))
   all-joined P [] k None fs all one more = more
   all-joined P [] k (Some x) fs all one more = (one, more)
   all-joined P (e ∷ es) k x fs all one more = (all.0, all-joined P es k x fs all.1 one more)
 
   sorted-joined : (es : List (K × X)) (k : K) (x : Option X) (fs : List (K × X)) → IsStrictlySortedBy R (keys_of es)
       → AllByRecursion (λ q. R q k ≡ Less) (keys_of es) → AllByRecursion (λ q. R k q ≡ Less) (keys_of fs)
-      → IsStrictlySortedBy R (keys_of fs) → IsStrictlySortedBy R (keys_of (es ++ (entry_of k x ++ fs)))
+      → IsStrictlySortedBy R (keys_of fs) → IsStrictlySortedBy R (keys_of (es ++ (written_entries k x ++ fs)))
   unfolding IsStrictlySortedBy
   sorted-joined [] k None fs one low high two = two
   sorted-joined [] k (Some x) fs one low high two = (high, two)
@@ -164,7 +164,7 @@ module _ {K X : Type 0} {R : K → K → Ordering} (total : IsTotalOrder R) (exa
   )
 
   pub sorted-written : (k : K) (x : Option X) (es : List (K × X)) → IsStrictlySortedBy R (keys_of es)
-      → IsStrictlySortedBy R (keys_of (written R k x es))
+      → IsStrictlySortedBy R (keys_of (after_write R k x es))
   sorted-written k x es sorted =
       sorted-joined (lower R k es) k x (higher R k es) (sorted-kept (λ q. is_lt (R q k)) es sorted) (all-lower k es) (all-higher k es)
       (sorted-kept (λ q. is_lt (R k q)) es sorted)
@@ -173,8 +173,8 @@ module _ {K X : Type 0} {R : K → K → Ordering} (total : IsTotalOrder R) (exa
 
   -- others in place of the one that a write falls into
   pub write-level : (k : K) (x : Option X) (lists others new : List (List (K × X))) (at : ℕ) (d : List (K × X)) → IsPlace R k lists at
-      → joined others ≡ written R k x (get_or lists at d) → new ≡ spliced_at at lists others
-      → joined new ≡ written R k x (joined lists)
+      → joined others ≡ after_write R k x (get_or lists at d) → new ≡ spliced_at at lists others
+      → joined new ≡ after_write R k x (joined lists)
   write-level k x lists others new at d place one is =
       let up : suc at ≡ at + 1 = omega arith in
       ap joined is ∙ joined_append (take at lists) (others ++ drop (at + 1) lists)

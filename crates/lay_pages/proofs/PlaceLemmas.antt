@@ -10,7 +10,7 @@ use Rattle.std.specs.List.{AllByRecursion}
 use Rattle.std.specs.List.Sorted.{IsStrictlySortedBy}
 use Rattle.std.specs.Map.{keys_of}
 use Rattle.lay_pages.specs.Shared.{AreSized, joined}
-use Rattle.lay_pages.specs.Written.{AllAbove, AllBelow, IsFirstKey, written}
+use Rattle.lay_pages.specs.Written.{AllAbove, AllBelow, IsFirstKey, after_write}
 use Rattle.lay_pages.proofs.SearchLemmas.{turned}
 use Rattle.lay_pages.proofs.WrittenLemmas.{written-between}
 
@@ -58,9 +58,9 @@ module _ {K X : Type 0} {R : K → K → Ordering} (total : IsTotalOrder R) (exa
   -- a write into one of the lists
   pub written-at : (k : K) (x : Option X) (cs : List (List (K × X))) (at : ℕ) (d : List (K × X)) → at < length cs
       → AllBelow R k (joined (take at cs)) → AllAbove R k (joined (drop (suc at) cs))
-      → written R k x (joined cs) ≡ joined (take at cs) ++ (written R k x (get_or cs at d) ++ joined (drop (suc at) cs))
+      → after_write R k x (joined cs) ≡ joined (take at cs) ++ (after_write R k x (get_or cs at d) ++ joined (drop (suc at) cs))
   written-at k x cs at d lt below above =
-      ap (written R k x) (joined-at cs at d lt)
+      ap (after_write R k x) (joined-at cs at d lt)
       ∙ written-between total k x (joined (take at cs)) (get_or cs at d) (joined (drop (suc at) cs)) below above
 
 -- what is so of all is so of one of them

@@ -8,7 +8,7 @@ use Rattle.std.specs.Arc.{arc_value}
 use Rattle.std.specs.declared.sync.Arc.{Arc}
 use Rattle.std.specs.declared.vec.Vec.{Vec}
 use Rattle.std.specs.List.{AllByRecursion}
-use Rattle.lay_pages.specs.Shared.{AreSized, entries_in, items_of, joined, pages_in, parts_of, values_of}
+use Rattle.lay_pages.specs.Shared.{AreSized, entries_in, items_of, joined, page_parts, pages_in, values_of}
 
 -- ---- what maps keep
 
@@ -109,7 +109,7 @@ joined_twice (x ∷ xs) = ap (λ zs. joined x ++ zs) (joined_twice xs) ∙ sym (
 
 -- ---- lists that are cut
 
-pub joined_parts : {A : Type 0} (grows : Bool) (xs : List A) → joined (parts_of grows xs) ≡ xs
+pub joined_parts : {A : Type 0} (grows : Bool) (xs : List A) → joined (page_parts grows xs) ≡ xs
 joined_parts grows [] = refl
 joined_parts {A} grows (x ∷ xs) = by (nat_le (length (x ∷ xs)) 64) where
   two : (n : ℕ) → joined (take n (x ∷ xs) ∷ drop n (x ∷ xs) ∷ []) ≡ x ∷ xs
@@ -120,7 +120,7 @@ joined_parts {A} grows (x ∷ xs) = by (nat_le (length (x ∷ xs)) 64) where
   by true = append-nil (x ∷ xs)
   by false = two (cond grows 64 32)
 
-pub few_parts : {A : Type 0} (grows : Bool) (xs : List A) → length (parts_of grows xs) ≤ 2
+pub few_parts : {A : Type 0} (grows : Bool) (xs : List A) → length (page_parts grows xs) ≤ 2
 few_parts grows [] = omega arith
 few_parts {A} grows (x ∷ xs) = by (nat_le (length (x ∷ xs)) 64) where
   by : (b : Bool)
@@ -129,7 +129,7 @@ few_parts {A} grows (x ∷ xs) = by (nat_le (length (x ∷ xs)) 64) where
   by false = omega arith
 
 pub all_parts : {A : Type 0} (P : A → Type 0) (grows : Bool) (xs : List A) → AllByRecursion P xs
-    → AllByRecursion (λ (ys : List A). AllByRecursion P ys) (parts_of grows xs)
+    → AllByRecursion (λ (ys : List A). AllByRecursion P ys) (page_parts grows xs)
 all_parts P grows [] all = tt
 all_parts {A} P grows (x ∷ xs) all = by (nat_le (length (x ∷ xs)) 64) where
   by : (b : Bool) → AllByRecursion (λ (ys : List A). AllByRecursion P ys)
@@ -137,7 +137,7 @@ all_parts {A} P grows (x ∷ xs) all = by (nat_le (length (x ∷ xs)) 64) where
   by true = (all, tt)
   by false = (all_take P (cond grows 64 32) (x ∷ xs) all, (all_drop P (cond grows 64 32) (x ∷ xs) all, tt))
 
-pub sized_parts : {A : Type 0} (grows : Bool) (xs : List A) → length xs ≤ 65 → AreSized (parts_of grows xs)
+pub sized_parts : {A : Type 0} (grows : Bool) (xs : List A) → length xs ≤ 65 → AreSized (page_parts grows xs)
 sized_parts grows [] le = tt
 sized_parts {A} grows (x ∷ xs) le = by grows (nat_le (length (x ∷ xs)) 64) refl where
   two : (n : ℕ) → 1 ≤ n → n ≤ 64 → n < length (x ∷ xs) → length (x ∷ xs) ≤ n + 64
@@ -156,7 +156,7 @@ sized_parts {A} grows (x ∷ xs) le = by grows (nat_le (length (x ∷ xs)) 64) r
       let more : 64 < length (x ∷ xs) = grind (arith, nat_tests) in
       two 32 (omega arith) (omega arith) (omega (arith, more)) (omega (arith, le))
 
-pub parts_map : {A B : Type 0} (f : A → B) (grows : Bool) (xs : List A) → map (λ ys. map f ys) (parts_of grows xs) ≡ parts_of grows
+pub parts_map : {A B : Type 0} (f : A → B) (grows : Bool) (xs : List A) → map (λ ys. map f ys) (page_parts grows xs) ≡ page_parts grows
     (map f xs)
 parts_map f grows [] = refl
 parts_map {A} {B} f grows (x ∷ xs) =
@@ -199,14 +199,14 @@ pub record AreCut {X : Type 0} (pages : List (List X)) (lists : List (List (List
   pub sized : AllByRecursion AreSized lists
 
 pub are_cut : {X Y Z V W : Type 0} (grows : Bool) (list : List (Arc (Vec X Y) Z)) (new : List (Arc (Vec (Arc (Vec X Y) Z) V) W))
-    → length list ≤ 65 → AreSized (items_of list) → items_of new ≡ parts_of grows list → AreCut (items_of list) (pages_in new)
+    → length list ≤ 65 → AreSized (items_of list) → items_of new ≡ page_parts grows list → AreCut (items_of list) (pages_in new)
 are_cut {X} {Y} {Z} {V} {W} grows list new le sized is =
     subst (λ (books : List (List (List X))). AreCut (items_of list) books) (sym shape) (record {
-      entries = joined_twice (parts_of grows (items_of list)) ∙ ap joined (joined_parts grows (items_of list));
+      entries = joined_twice (page_parts grows (items_of list)) ∙ ap joined (joined_parts grows (items_of list));
       books = sized_parts grows (items_of list) (omega (arith, count_items list, le));
       sized = all_parts (λ (xs : List X). (1 ≤ length xs) × (length xs ≤ 64)) grows (items_of list) sized;
     }) where
-      shape : pages_in new ≡ parts_of grows (items_of list)
+      shape : pages_in new ≡ page_parts grows (items_of list)
       shape =
           sym (mapped_twice (λ (ps : List (Arc (Vec X Y) Z)). items_of ps) (λ (s : Arc (Vec (Arc (Vec X Y) Z) V) W). s.value.items) new)
           ∙ ap (map (λ (ps : List (Arc (Vec X Y) Z)). items_of ps)) is

@@ -7,7 +7,7 @@ use Rattle.std.specs.declared.cmp.Ordering.{Ordering}
 use Rattle.std.specs.declared.cmp.Ordering.TheVariants.{Less}
 use Rattle.std.specs.Cmp.{IsTotalOrder}
 use Rattle.std.specs.Ordering.{is_lt}
-use Rattle.lay_pages.specs.Written.{AllAbove, AllBelow, entry_of, higher, lower, written}
+use Rattle.lay_pages.specs.Written.{AllAbove, AllBelow, after_write, higher, lower, written_entries}
 use Rattle.lay_pages.proofs.SearchLemmas.{turned}
 
 module _ {K X : Type 0} {R : K → K → Ordering} (total : IsTotalOrder R) where
@@ -41,7 +41,7 @@ module _ {K X : Type 0} {R : K → K → Ordering} (total : IsTotalOrder R) wher
 
   -- a write between entries below its key and entries above it
   pub written-between : (k : K) (x : Option X) (low mid high : List (K × X)) → AllBelow R k low → AllAbove R k high
-      → written R k x (low ++ (mid ++ high)) ≡ low ++ (written R k x mid ++ high)
+      → after_write R k x (low ++ (mid ++ high)) ≡ low ++ (after_write R k x mid ++ high)
   written-between k x low mid high below above =
       let lows : lower R k (low ++ (mid ++ high)) ≡ low ++ lower R k mid =
       filter-append (λ e. is_lt (R e.0 k)) low (mid ++ high)
@@ -51,7 +51,7 @@ module _ {K X : Type 0} {R : K → K → Ordering} (total : IsTotalOrder R) wher
       filter-append (λ e. is_lt (R k e.0)) low (mid ++ high)
       ∙ (λ i. higher-below k low below i ++ filter-append (λ e. is_lt (R k e.0)) mid high i)
       ∙ (λ i. higher R k mid ++ higher-above k high above i) in
-      (λ i. lows i ++ (entry_of k x ++ highs i))
-      ∙ append_assoc low (lower R k mid) (entry_of k x ++ (higher R k mid ++ high))
-      ∙ ap (λ xs. low ++ (lower R k mid ++ xs)) (sym (append_assoc (entry_of k x) (higher R k mid) high))
-      ∙ ap (λ xs. low ++ xs) (sym (append_assoc (lower R k mid) (entry_of k x ++ higher R k mid) high))
+      (λ i. lows i ++ (written_entries k x ++ highs i))
+      ∙ append_assoc low (lower R k mid) (written_entries k x ++ (higher R k mid ++ high))
+      ∙ ap (λ xs. low ++ (lower R k mid ++ xs)) (sym (append_assoc (written_entries k x) (higher R k mid) high))
+      ∙ ap (λ xs. low ++ xs) (sym (append_assoc (lower R k mid) (written_entries k x ++ higher R k mid) high))

@@ -31,9 +31,9 @@ abbrev pub entries_in : {X : Type 0} → List (List (List X)) → List X
 entries_in books = joined (map joined books)
 
 -- a list of up to 64, or two where there are more: the first has 64 where the list grows at its end, else 32
-abbrev pub parts_of : {X : Type 0} → Bool → List X → List (List X)
-parts_of grows [] = []
-parts_of grows (x ∷ xs) =
+abbrev pub page_parts : {X : Type 0} → Bool → List X → List (List X)
+page_parts grows [] = []
+page_parts grows (x ∷ xs) =
     cond (nat_le (length (x ∷ xs)) 64) ((x ∷ xs) ∷ [])
     (take (cond grows 64 32) (x ∷ xs) ∷ drop (cond grows 64 32) (x ∷ xs) ∷ [])
 
@@ -44,7 +44,7 @@ pub record AreBooks {K X : Type 0} (R : K → K → Ordering) (lists : List (Lis
   pub sorted : IsStrictlySortedBy R (keys_of (entries_in lists))
 
 -- and how many entries there are
-pub record AreKept {K X : Type 0} (R : K → K → Ordering) (lists : List (List (List (K × X)))) (len : ℕ) : Type 0 where
+pub record AreCountedBooks {K X : Type 0} (R : K → K → Ordering) (lists : List (List (List (K × X)))) (len : ℕ) : Type 0 where
   pub kept : AreBooks R lists
   pub count : len ≡ length (entries_in lists)
 

@@ -54,18 +54,18 @@ module _ {K X : Type 0} (R : K → K → Ordering) where
     pub above : AllAbove k (joined (drop (at + 1) lists))
 
 -- what a write leaves under its key
-abbrev pub entry_of : {K X : Type 0} → K → Option X → List (K × X)
-entry_of k None = []
-entry_of k (Some x) = (k, x) ∷ []
+abbrev pub written_entries : {K X : Type 0} → K → Option X → List (K × X)
+written_entries k None = []
+written_entries k (Some x) = (k, x) ∷ []
 
 -- the entries after a write
-abbrev pub written : {K X : Type 0} → (K → K → Ordering) → K → Option X → List (K × X) → List (K × X)
-written R k x es = lower R k es ++ (entry_of k x ++ higher R k es)
+abbrev pub after_write : {K X : Type 0} → (K → K → Ordering) → K → Option X → List (K × X) → List (K × X)
+after_write R k x es = lower R k es ++ (written_entries k x ++ higher R k es)
 
 -- the entries after these writes, the first of them first
 abbrev pub written_all : {K X : Type 0} → (K → K → Ordering) → List (K × X) → List (K × Option X) → List (K × X)
 written_all R es [] = es
-written_all R es (write ∷ writes) = written_all R (written R write.0 write.1 es) writes
+written_all R es (write ∷ writes) = written_all R (after_write R write.0 write.1 es) writes
 
 abbrev pub IsFirstKey : {K X : Type 0} → K → List (K × X) → Type 0
 IsFirstKey k [] = ⊥

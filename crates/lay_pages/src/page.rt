@@ -3,7 +3,7 @@ ghost use Rattle.std.specs.Prelude.{◌≡◌, ◌++◌, ◌<◌, IfOk, OnOk, If
 ghost use Rattle.std.specs.FinMap.{find};
 ghost use Rattle.std.specs.List.Sorted.{IsStrictlySortedBy};
 ghost use Rattle.std.specs.Map.{keys_of};
-ghost use Rattle.lay_pages.specs.Written.{IsFirstKey, IsFoundAt, IsGapAt, IsHere, IsPart, entry_of, from_key, higher, lower, written};
+ghost use Rattle.lay_pages.specs.Written.{IsFirstKey, IsFoundAt, IsGapAt, IsHere, IsPart, after_write, from_key, higher, lower, written_entries};
 
 use crate::keys::{Kept, PageKey};
 use std::alloc::{AllocError, Global};
@@ -110,7 +110,7 @@ pub(crate) fn with<K: PageKey, V: Kept>(
     value: Option<V>,
 ) -> Result<Vec<(K, V)>, AllocError>
     requires { IsStrictlySortedBy K.cmp (keys_of page.now) }
-    ensures { IfOk result (λ new. new.items ≡ written K.cmp key value page.now) }
+    ensures { IfOk result (λ new. new.items ≡ after_write K.cmp key value page.now) }
 {
     let (before, after) = around(page, key);
     let mut new = Vec::with_capacity(alloc, page.len().saturating_add(1))?;

@@ -4,8 +4,8 @@ ghost use Rattle.std.specs.Cmp.Lexicographic.{pointwise};
 ghost use Rattle.std.specs.FinMap.{find};
 ghost use Rattle.std.specs.List.Sorted.{IsStrictlySortedBy};
 ghost use Rattle.std.specs.Map.{keys_of};
-ghost use Rattle.lay_pages.specs.Shared.{AreKept, entries_in, pages_in};
-ghost use Rattle.lay_pages.specs.Written.{are_equal, count_of, from_key, written, written_all};
+ghost use Rattle.lay_pages.specs.Shared.{AreCountedBooks, entries_in, pages_in};
+ghost use Rattle.lay_pages.specs.Written.{after_write, are_equal, count_of, from_key, written_all};
 
 use crate::entries::{Entries, are_same};
 use crate::finder::Finder;
@@ -27,13 +27,13 @@ pub struct Pages<K: PageKey, V: Kept> {
 
 impl<K: PageKey, V: Kept> Model for Pages<K, V> {
     ghost use Rattle.std.specs.Prelude.{List};
-    ghost use Rattle.lay_pages.specs.Shared.{AreKept, entries_in, pages_in};
+    ghost use Rattle.lay_pages.specs.Shared.{AreCountedBooks, entries_in, pages_in};
 
     ghost Value = { List (K × V) };
 
     ghost view = { λ p. entries_in (pages_in p.books.items) };
 
-    ghost invariant = { λ p. AreKept K.cmp (pages_in p.books.items) p.len };
+    ghost invariant = { λ p. AreCountedBooks K.cmp (pages_in p.books.items) p.len };
 }
 
 impl<K: PageKey, V: Kept> Pages<K, V> {
@@ -49,7 +49,7 @@ impl<K: PageKey, V: Kept> Pages<K, V> {
 
     /// Returns the map of the entries of the books.
     pub(crate) fn of(books: Vec<Book<K, V>>, len: usize) -> Pages<K, V>
-        requires { AreKept K.cmp (pages_in books.items) len }
+        requires { AreCountedBooks K.cmp (pages_in books.items) len }
         ensures { result ≡ entries_in (pages_in books.items) }
     {
         Pages { books, len }
@@ -133,7 +133,7 @@ impl<K: PageKey, V: Kept> Pages<K, V> {
     /// Makes a page, a book and the list of the books anew, of up to 64 entries, 64 pages and a book for
     /// some 2,000 to 4,096 entries. The others are shared.
     pub fn with(&self, alloc: Global, key: K, value: Option<V>) -> Result<Pages<K, V>, AllocError>
-        ensures entries { IfOk result (λ new. new ≡ written K.cmp key value self.now) }
+        ensures entries { IfOk result (λ new. new ≡ after_write K.cmp key value self.now) }
         ensures sorted { IfOk result (λ new. IsStrictlySortedBy K.cmp (keys_of new)) }
     {
         let len = self.len_with(key, &value)?;

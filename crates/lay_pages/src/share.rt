@@ -1,6 +1,6 @@
 //! Lists of shared values: what is put in place of one of them, and a list cut in two.
 ghost use Rattle.std.specs.Prelude.{◌≡◌, ◌++◌, ◌<◌, ◌≤◌, ◌+◌, IfOk, OnOk, length, take, drop, [], ◌∷◌};
-ghost use Rattle.lay_pages.specs.Shared.{items_of, parts_of, values_of};
+ghost use Rattle.lay_pages.specs.Shared.{items_of, page_parts, values_of};
 
 use std::alloc::{AllocError, Global};
 use std::sync::Arc;
@@ -41,7 +41,7 @@ pub(crate) fn cut<T: Drop>(
     grows: bool,
 ) -> Result<Vec<Arc<Vec<T>>>, AllocError>
     requires { length list.items ≤ 65 }
-    ensures { IfOk result (λ new. items_of new.items ≡ parts_of grows list.items) }
+    ensures { IfOk result (λ new. items_of new.items ≡ page_parts grows list.items) }
 {
     let mut new = Vec::new(alloc);
     if list.is_empty() {

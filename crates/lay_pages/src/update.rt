@@ -4,7 +4,7 @@ ghost use Rattle.std.specs.List.{AllByRecursion};
 ghost use Rattle.std.specs.List.Sorted.{IsStrictlySortedBy};
 ghost use Rattle.std.specs.Map.{keys_of};
 ghost use Rattle.lay_pages.specs.Shared.{AreBooks, AreSized, entries_in, items_of, joined, pages_in};
-ghost use Rattle.lay_pages.specs.Written.{written};
+ghost use Rattle.lay_pages.specs.Written.{after_write};
 
 use crate::keys::{Kept, PageKey};
 use crate::page;
@@ -23,7 +23,7 @@ pub(crate) fn books_with<K: PageKey, V: Kept>(
 ) -> Result<Vec<Book<K, V>>, AllocError>
     requires { AreBooks K.cmp (pages_in books.now) }
     ensures entries { IfOk result (λ new. entries_in (pages_in new.items)
-        ≡ written K.cmp key value (entries_in (pages_in books.now))) }
+        ≡ after_write K.cmp key value (entries_in (pages_in books.now))) }
     ensures books { IfOk result (λ new. AreBooks K.cmp (pages_in new.items)) }
 {
     if books.is_empty() {
@@ -41,7 +41,7 @@ fn first_books<K: PageKey, V: Kept>(
     key: K,
     value: Option<V>,
 ) -> Result<Vec<Book<K, V>>, AllocError>
-    ensures entries { IfOk result (λ new. entries_in (pages_in new.items) ≡ written K.cmp key value []) }
+    ensures entries { IfOk result (λ new. entries_in (pages_in new.items) ≡ after_write K.cmp key value []) }
     ensures books { IfOk result (λ new. AreBooks K.cmp (pages_in new.items)) }
 {
     let none = Vec::new(alloc);
@@ -62,7 +62,7 @@ fn book_with<K: PageKey, V: Kept>(
     requires sized { AreSized (items_of book.now) }
     requires sorted { IsStrictlySortedBy K.cmp (keys_of (joined (items_of book.now))) }
     ensures entries { IfOk result (λ new. entries_in (pages_in new.items)
-        ≡ written K.cmp key value (joined (items_of book.now))) }
+        ≡ after_write K.cmp key value (joined (items_of book.now))) }
     ensures books { IfOk result (λ new. AreSized (pages_in new.items)) }
     ensures pages { IfOk result (λ new. AllByRecursion AreSized (pages_in new.items)) }
 {
@@ -98,7 +98,7 @@ fn page_with<K: PageKey, V: Kept>(
 ) -> Result<Vec<Page<K, V>>, AllocError>
     requires full { length page.now ≤ 64 }
     requires sorted { IsStrictlySortedBy K.cmp (keys_of page.now) }
-    ensures entries { IfOk result (λ new. joined (items_of new.items) ≡ written K.cmp key value page.now) }
+    ensures entries { IfOk result (λ new. joined (items_of new.items) ≡ after_write K.cmp key value page.now) }
     ensures sized { IfOk result (λ new. AreSized (items_of new.items)) }
     ensures few { IfOk result (λ new. length new.items ≤ 2) }
 {

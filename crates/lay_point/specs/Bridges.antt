@@ -18,11 +18,11 @@ joined_behind start points [] = start ∷ points
 joined_behind start points (ring ∷ rings) = closed (start ∷ points) ++ further start (ring ∷ rings)
 
 -- round all rings; a ring has points
-abbrev pub joined : List (List Point) → List Point
-joined [] = []
-joined ([] ∷ rings) = []
-joined ((start ∷ points) ∷ rings) = joined_behind start points rings
+abbrev pub round_all : List (List Point) → List Point
+round_all [] = []
+round_all ([] ∷ rings) = []
+round_all ((start ∷ points) ∷ rings) = joined_behind start points rings
 
 -- the path, without points that equal the one before
 unfoldable pub bridged : List (List Point) → List Point
-bridged rings = without_repeats (joined rings)
+bridged rings = without_repeats (round_all rings)

@@ -11,11 +11,11 @@ use Rattle.lay_point.specs.Points.{point_eq}
 use Rattle.lay_point.specs.Same.{point_eq-Decides}
 
 -- how many quarter turns
-abbrev pub count_of : Quarter → ℕ
-count_of R0 = 0
-count_of R90 = 1
-count_of R180 = 2
-count_of R270 = 3
+abbrev pub quarter_turns : Quarter → ℕ
+quarter_turns R0 = 0
+quarter_turns R90 = 1
+quarter_turns R180 = 2
+quarter_turns R270 = 3
 
 -- so many quarter turns, up to three
 quarter_of : ℕ → Quarter
@@ -24,21 +24,22 @@ quarter_of (suc zero) = R90
 quarter_of (suc (suc zero)) = R180
 quarter_of (suc (suc (suc n))) = R270
 
-quarter_of-count_of : (q : Quarter) → quarter_of (count_of q) ≡ q
+quarter_of-quarter_turns : (q : Quarter) → quarter_of (quarter_turns q) ≡ q
 unfolding quarter_of
-quarter_of-count_of R0 = refl
-quarter_of-count_of R90 = refl
-quarter_of-count_of R180 = refl
-quarter_of-count_of R270 = refl
+quarter_of-quarter_turns R0 = refl
+quarter_of-quarter_turns R90 = refl
+quarter_of-quarter_turns R180 = refl
+quarter_of-quarter_turns R270 = refl
 
 -- the same number of quarter turns
 abbrev pub quarter_eq : Quarter → Quarter → Bool
-quarter_eq q r = count_of q == count_of r
+quarter_eq q r = quarter_turns q == quarter_turns r
 
 pub quarter_eq-Decides : (q r : Quarter) → Decides (quarter_eq q r) (q ≡ r)
 quarter_eq-Decides q r =
-    Decides-like (quarter_eq q r) (λ e. sym (quarter_of-count_of q) ∙ ap quarter_of e ∙ quarter_of-count_of r) (λ e. ap count_of e)
-    (Decides-eqb (count_of q) (count_of r))
+    Decides-like (quarter_eq q r) (λ e. sym (quarter_of-quarter_turns q) ∙ ap quarter_of e ∙ quarter_of-quarter_turns r)
+        (λ e. ap quarter_turns e)
+    (Decides-eqb (quarter_turns q) (quarter_turns r))
 
 pub quarter_eq_equiv : IsEquivalence quarter_eq
 quarter_eq_equiv = decided quarter_eq quarter_eq-Decides

@@ -1,7 +1,7 @@
 //! Turns: mirrors, quarter turns and shifts of the layout's plane.
 ghost use Rattle.std.specs.Prelude.{◌≡◌, neg_ℤ, ◌+ℤ◌, Some, None, if◌then◌else◌};
 ghost use Rattle.lay_point.specs.Points.{is_coordinate, is_in_range};
-ghost use Rattle.lay_point.specs.SameTurn.{count_of};
+ghost use Rattle.lay_point.specs.SameTurn.{quarter_turns};
 ghost use Rattle.lay_point.specs.Turns.{composed, composed_quarter, mirrored_x, next_quarter, opposite};
 ghost use Rattle.lay_point.specs.Turns.{quarters, turned, turned_by, within_range};
 ghost use Rattle.lay_point.specs.TurnMaps.{ComposedMap, IsNearby};
@@ -35,7 +35,7 @@ pub struct Turn {
 impl Quarter {
     /// Returns how many quarter turns these are.
     fn count(self) -> u8
-        ensures { result ≡ count_of self }
+        ensures { result ≡ quarter_turns self }
     {
         match self {
             Quarter::R0 => 0,

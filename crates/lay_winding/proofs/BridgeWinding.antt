@@ -5,7 +5,7 @@ use Rattle.std.proofs.Common.{append_assoc, arith}
 use Rattle.std.specs.List.{AllByRecursion}
 use Rattle.lay_int_laws.proofs.Signs.{linear}
 use Rattle.lay_point.specs.declared.point.Point.{Point}
-use Rattle.lay_point.specs.Bridges.{bridged, further, joined}
+use Rattle.lay_point.specs.Bridges.{bridged, further, round_all}
 use Rattle.lay_point.specs.Points.{point_eq}
 use Rattle.lay_point.specs.RingEdges.{pairs, edges_of_ring, edges_of}
 use Rattle.lay_point.specs.Rings.{IsRing, closed, kept_behind, opened_behind, without_repeats}
@@ -74,7 +74,7 @@ module _ (f : Point × Point → ℤ) (laws : IsTurn f) where
       ∙ sym (sum_of-append f (edges_of_ring ring) (edges_of (next ∷ rings)))
 
   sum_of_joined : (start : Point) (points : List Point) (rings : List (List Point))
-      → sum_of f (edges_of_ring (joined ((start ∷ points) ∷ rings))) ≡ sum_of f (edges_of ((start ∷ points) ∷ rings))
+      → sum_of f (edges_of_ring (round_all ((start ∷ points) ∷ rings))) ≡ sum_of f (edges_of ((start ∷ points) ∷ rings))
   sum_of_joined start points [] =
       let alone = sum_of-append f (edges_of_ring (start ∷ points)) [] in omega (arith, linear)
   sum_of_joined start points (ring ∷ rings) =
@@ -93,5 +93,5 @@ winding-bridged [] k x y h = refl
 winding-bridged ([] ∷ rings) k x y h = absurd (omega (arith, h.0.enough))
 winding-bridged ((start ∷ points) ∷ rings) k x y h =
     let laws = turn-IsTurn k x y in
-    sum_of-without_repeats (turn k x y) laws (joined ((start ∷ points) ∷ rings))
+    sum_of-without_repeats (turn k x y) laws (round_all ((start ∷ points) ∷ rings))
     ∙ sum_of_joined (turn k x y) laws start points rings

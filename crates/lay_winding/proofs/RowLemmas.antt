@@ -19,7 +19,7 @@ use Rattle.lay_point.specs.declared.point.Point.{Point}
 use Rattle.lay_point.specs.Parity.{is_crossed_rising, rises_past, distance_right}
 use Rattle.snap_pixels.specs.Segments.{cross}
 use Rattle.lay_winding.specs.declared.slant.Slant.{Slant}
-use Rattle.lay_winding.specs.Slants.{count_of, counts, gap_at_bottom, gap_at_top, is_not_left, leads, signed, spans, take_turns}
+use Rattle.lay_winding.specs.Slants.{counts, gap_at_bottom, gap_at_top, is_not_left, leads, signed, slant_count, spans, take_turns}
 use Rattle.lay_winding.specs.Once.{IsZeroOrOne}
 use Rattle.lay_winding.proofs.SlantLemmas.{both_true, le_true, le_false, lt_true, lt_false, true_le, true_lt, no_count}
 
@@ -172,7 +172,7 @@ module _ (low high k x y : ℤ) (scale : pos 1 ≤ℤ k) (from : (k *ℤ low) �
   abbrev is_right : Slant → Bool
   is_right s = int_lt (pos 0) (distance s)
 
-  count_is : (s : Slant) → Reaches low high s → count_of k x y s ≡ cond (is_right s) (signed s.up) (pos 0)
+  count_is : (s : Slant) → Reaches low high s → slant_count k x y s ≡ cond (is_right s) (signed s.up) (pos 0)
   count_is s reach = ap (λ b. cond b (signed s.up) (pos 0)) (crossed_is s reach)
 
   record IsFirst (up : Bool) (e : Slant) (es : List Slant) : Type 0 where
@@ -229,7 +229,7 @@ module _ (low high k x y : ℤ) (scale : pos 1 ≤ℤ k) (from : (k *ℤ low) �
       by_test : IsFirst up e es → (counts k x y es ≡ pos 0) ⊎ (counts k x y es ≡ signed (not up)) → (b : Bool) → is_right e ≡ b
           → (counts k x y (e ∷ es) ≡ pos 0) ⊎ (counts k x y (e ∷ es) ≡ signed up)
       by_test p rest true hits =
-          let one : count_of k x y e ≡ signed up = count_is e p.reach ∙ ap (λ b. cond b (signed e.up) (pos 0)) hits ∙ ap signed p.same in
+          let one : slant_count k x y e ≡ signed up = count_is e p.reach ∙ ap (λ b. cond b (signed e.up) (pos 0)) hits ∙ ap signed p.same in
           subst (λ z. (z +ℤ counts k x y es ≡ pos 0) ⊎ (z +ℤ counts k x y es ≡ signed up)) (sym one)
           (flipped up (counts k x y es) rest)
       by_test p rest false misses = inl (none_right up e es h misses)

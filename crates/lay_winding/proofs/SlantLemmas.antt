@@ -7,7 +7,7 @@ use Rattle.lay_int_laws.proofs.Signs.{below_or_not, linear, times_le, times_lt}
 use Rattle.lay_point.specs.declared.point.Point.{Point}
 use Rattle.lay_point.specs.Parity.{is_crossed_rising, rises_past, distance_right}
 use Rattle.lay_winding.specs.declared.slant.Slant.{Slant}
-use Rattle.lay_winding.specs.Slants.{added, are_by_height, begin_from, count_of, counts, ending_above, signed, slant_of, slants_of}
+use Rattle.lay_winding.specs.Slants.{added, are_by_height, begin_from, counts, ending_above, signed, slant_count, slant_of, slants_of}
 use Rattle.lay_winding.specs.Winding.{sum_of, turn, winding}
 use Rattle.lay_winding.proofs.WindingLemmas.{sum_of-append}
 
@@ -47,7 +47,7 @@ not_past a b y h = by_test (int_le a y) (int_lt y b) refl refl
 pub not_crossed : (k x y : ℤ) (a b : Point) → (((k *ℤ a.y) ≤ℤ y) → (y <ℤ (k *ℤ b.y)) → ⊥) → is_crossed_rising k x y a b ≡ false
 not_crossed k x y a b h = ap (λ t. t && int_lt (pos 0) (distance_right k x y a b)) (not_past (k *ℤ a.y) (k *ℤ b.y) y h)
 
-pub no_count : (k x y : ℤ) (s : Slant) → is_crossed_rising k x y s.low s.high ≡ false → count_of k x y s ≡ pos 0
+pub no_count : (k x y : ℤ) (s : Slant) → is_crossed_rising k x y s.low s.high ≡ false → slant_count k x y s ≡ pos 0
 no_count k x y s e = ap (λ b. cond b (signed s.up) (pos 0)) e
 
 -- ---- what an edge counts and what its slant does
@@ -95,8 +95,8 @@ counts_above k x y height [] scale h = refl
 counts_above k x y height (s ∷ ss) scale h = by_test (counts_above k x y height ss scale h) (int_lt height s.high.y) refl
   where
     by_test : counts k x y (ending_above height ss) ≡ counts k x y ss → (b : Bool) → int_lt height s.high.y ≡ b
-        → counts k x y (cond b (s ∷ ending_above height ss) (ending_above height ss)) ≡ count_of k x y s +ℤ counts k x y ss
-    by_test rest true e = ap (λ z. count_of k x y s +ℤ z) rest
+        → counts k x y (cond b (s ∷ ending_above height ss) (ending_above height ss)) ≡ slant_count k x y s +ℤ counts k x y ss
+    by_test rest true e = ap (λ z. slant_count k x y s +ℤ z) rest
     by_test rest false e =
         let less = times_le k s.high.y height (omega (arith, linear)) (lt_false height s.high.y e) in
         let none = no_count k x y s (not_crossed k x y s.low s.high (λ past not_yet. omega (arith, linear))) in

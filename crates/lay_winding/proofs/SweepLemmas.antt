@@ -7,15 +7,16 @@ use Rattle.std.proofs.lemmas.List.Sorted.{IsPermutation-insert}
 use Rattle.lay_int_laws.proofs.Signs.{below_or_not, linear, times_le}
 use Rattle.lay_winding.specs.declared.slant.Slant.{Slant}
 use Rattle.lay_winding.specs.Once.{AreOnce, IsZeroOrOne}
-use Rattle.lay_winding.specs.Slants.{are_begun_from, are_by_height, begin_from, count_of, counts, ending_above, is_sound_band, take_turns}
+use Rattle.lay_winding.specs.Slants.{are_begun_from, are_by_height, begin_from, counts, ending_above, is_sound_band, slant_count}
+use Rattle.lay_winding.specs.Slants.{take_turns}
 use Rattle.lay_winding.proofs.RowLemmas.{once_in_band}
 use Rattle.lay_winding.proofs.SlantLemmas.{both_true, counts_above, counts_below, le_true, true_le}
 use Rattle.lay_winding.proofs.WindingLemmas.{sum_of-permutation}
 
 pub counts-insert : (k x y : ℤ) (slants : List Slant) (place : ℕ) (s : Slant)
-    → counts k x y (insert slants place s) ≡ count_of k x y s +ℤ counts k x y slants
+    → counts k x y (insert slants place s) ≡ slant_count k x y s +ℤ counts k x y slants
 counts-insert k x y slants place s =
-    sum_of-permutation (count_of k x y) (s ∷ slants) (insert slants place s) (IsPermutation-insert slants place s)
+    sum_of-permutation (slant_count k x y) (s ∷ slants) (insert slants place s) (IsPermutation-insert slants place s)
 
 pub record IsSwept (slants : List Slant) (row : ℤ) (active left : List Slant) : Type 0 where
   pub below : (k x y : ℤ) → pos 1 ≤ℤ k → y <ℤ (k *ℤ row) → IsZeroOrOne (counts k x y slants)
@@ -70,11 +71,11 @@ swept_all slants row active left swept none over = λ k x y scale. ⊎_elim (λ 
 
 -- one slant less to add
 pub one_added : (k x y : ℤ) (s : Slant) (old new left behind first all : List Slant)
-    → counts k x y new ≡ count_of k x y s +ℤ counts k x y old → left ≡ s ∷ behind
+    → counts k x y new ≡ slant_count k x y s +ℤ counts k x y old → left ≡ s ∷ behind
     → counts k x y old +ℤ counts k x y left ≡ counts k x y first +ℤ counts k x y all
     → counts k x y new +ℤ counts k x y behind ≡ counts k x y first +ℤ counts k x y all
 one_added k x y s old new left behind first all more left_is so_far =
-    let split : counts k x y left ≡ count_of k x y s +ℤ counts k x y behind = ap (counts k x y) left_is in omega (arith, linear)
+    let split : counts k x y left ≡ slant_count k x y s +ℤ counts k x y behind = ap (counts k x y) left_is in omega (arith, linear)
 
 pub order_behind : (s : Slant) (left behind : List Slant) → left ≡ s ∷ behind → are_by_height left ≡ true → are_by_height behind ≡ true
 order_behind s left behind left_is order =

@@ -46,11 +46,11 @@ abbrev pub signed : Bool → ℤ
 signed up = if up then pos 1 else neg_ℤ (pos 1)
 
 -- what a slant counts about a place
-abbrev pub count_of : ℤ → ℤ → ℤ → Slant → ℤ
-count_of k x y s = if is_crossed_rising k x y s.low s.high then signed s.up else pos 0
+abbrev pub slant_count : ℤ → ℤ → ℤ → Slant → ℤ
+slant_count k x y s = if is_crossed_rising k x y s.low s.high then signed s.up else pos 0
 
 abbrev pub counts : ℤ → ℤ → ℤ → List Slant → ℤ
-counts k x y slants = sum_of (count_of k x y) slants
+counts k x y slants = sum_of (slant_count k x y) slants
 
 -- ---- side by side
 -- how far e is to the right of f where the later of the two begins, and where the earlier of them ends, each times the rise of

@@ -11,7 +11,7 @@ ghost use Rattle.std.specs.Prelude.{
   [],
 };
 ghost use Rattle.lay_winding.specs.Once.{AreOnce};
-ghost use Rattle.lay_winding.specs.Slants.{are_begun_from, are_by_height, count_of, counts, ending_above, is_sound_band};
+ghost use Rattle.lay_winding.specs.Slants.{are_begun_from, are_by_height, counts, ending_above, is_sound_band, slant_count};
 
 use crate::band::{are_by_height, begin_from, take_turns};
 use crate::slant::Slant;
@@ -126,7 +126,7 @@ pub(crate) fn add_begun<'a>(
 
 /// Puts the slant to its place among those of the height at which it begins.
 fn add_slant(active: &mut Vec<Slant>, slant: Slant) -> Result<(), AllocError>
-    ensures { OnOk result ((k x y : ℤ) → counts k x y active.new.items ≡ count_of k x y slant +ℤ counts k x y active.old.items) }
+    ensures { OnOk result ((k x y : ℤ) → counts k x y active.new.items ≡ slant_count k x y slant +ℤ counts k x y active.old.items) }
 {
     let place = place_of(active.as_slice(), slant);
     active.insert(place, slant)?;

@@ -21,7 +21,7 @@ use Rattle.bool_shape_laws.specs.Shapes.{Rings, are_short, fits, is_short, op_ri
 use Rattle.bool_shape_laws.proofs.ShapeLemmas.{edges_in_range, edges_tell, tell_places}
 use Rattle.layer_ops.specs.declared.fault.OpFault.{OpFault}
 use Rattle.layer_ops.specs.declared.fault.OpFault.TheVariants.{NoMemory, TooMany}
-use Rattle.layer_ops.specs.Combining.{combined, lists_of, shaped}
+use Rattle.layer_ops.specs.Combining.{combined, shape_lists, shaped}
 
 -- what linking requires of edges
 pub record AreLinkable (edges : List Ends) : Type 0 where
@@ -64,7 +64,7 @@ shapes_are op a b lists (inl refused) = absurd cc
 shapes_are op a b lists (inr so) = shapes_by_test (fits op a b) lists (shapes_of op a b) so
 
 pub places_are : (op : Op) (a b : List FlatRing) (result : Result (Vec (Vec Ring)) OpFault) → All IsFlat a → All IsFlat b
-    → IsAnswer NoMemory (lists_of result) (combined op a b)
+    → IsAnswer NoMemory (shape_lists result) (combined op a b)
     → IfOk result (λ shapes. (k x y : ℤ) → pos 1 ≤ℤ k →
     list_any (λ shape. odd (edges_of shape) k x y) (map (λ shape. shape.items) shapes.items) ≡ op_at op (rounded_inputs a b) k x y)
 places_are op a b (Err fault) flat_a flat_b h = tt

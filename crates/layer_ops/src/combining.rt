@@ -7,7 +7,7 @@ ghost use Rattle.lay_point.specs.RingEdges.{edges_of};
 ghost use Rattle.face_labels.specs.Operations.{op_at};
 ghost use Rattle.bool_shape_laws.specs.declared.limits.TheConstants.{MAX_SEGMENTS};
 ghost use Rattle.bool_shape_laws.specs.Shapes.{rounded_inputs, segments_of};
-ghost use Rattle.layer_ops.specs.Combining.{combined, lists_of};
+ghost use Rattle.layer_ops.specs.Combining.{combined, shape_lists};
 
 use crate::counting::are_few;
 use crate::edges::{operation_edges, round_both};
@@ -31,7 +31,7 @@ pub fn combine(
     b: &Flat<'_>,
     bands: &impl Bands,
 ) -> Result<Vec<Vec<Ring>>, OpFault>
-    ensures answer { IsAnswer OpFault.NoMemory (lists_of result) (combined op a.now b.now) }
+    ensures answer { IsAnswer OpFault.NoMemory (shape_lists result) (combined op a.now b.now) }
     ensures too_many { MAX_SEGMENTS < segments_of a.now b.now → result ≡ Err OpFault.TooMany }
 
     // Some shape has (x / k, y / k) inside exactly where the operation holds of the rounded inputs.

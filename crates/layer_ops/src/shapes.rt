@@ -8,7 +8,7 @@ ghost use Rattle.lay_point.specs.Parity.{parity};
 ghost use Rattle.lay_point.specs.Points.{is_in_range};
 ghost use Rattle.lay_point.specs.Rising.{IsRising};
 ghost use Rattle.bool_shape_laws.specs.Shapes.{is_short};
-ghost use Rattle.layer_ops.specs.Combining.{lists_of, shaped, tested};
+ghost use Rattle.layer_ops.specs.Combining.{shape_lists, shaped, tested_shapes};
 
 use crate::fault::OpFault;
 use face_rings::{bridge, link, parts};
@@ -20,7 +20,7 @@ pub(crate) fn shapes(alloc: Global, edges: &[Edge]) -> Result<Vec<Vec<Ring>>, Op
     requires rising { IsRising IsEdgeBefore edges.now }
     requires in_range { All (λ e. IsTrue (is_in_range e.0 && is_in_range e.1)) edges.now }
     requires even { (v : Point) → parity (touches v) edges.now ≡ false }
-    ensures { IsAnswer OpFault.NoMemory (lists_of result) (shaped edges.now) }
+    ensures { IsAnswer OpFault.NoMemory (shape_lists result) (shaped edges.now) }
 {
     let rings = link(alloc, edges)?;
     let shapes = parts(alloc, rings)?;
@@ -30,7 +30,7 @@ pub(crate) fn shapes(alloc: Global, edges: &[Edge]) -> Result<Vec<Vec<Ring>>, Op
 
 /// Tests that one path round each of the shapes is short enough for a polygon.
 fn test_paths(alloc: Global, shapes: &[Vec<Ring>]) -> Result<(), OpFault>
-    ensures { IsAnswer OpFault.NoMemory result (tested (map (λ shape. shape.items) shapes.now)) }
+    ensures { IsAnswer OpFault.NoMemory result (tested_shapes (map (λ shape. shape.items) shapes.now)) }
 {
     for shape in shapes {
         if !is_path_short(alloc, shape)? {

@@ -12,13 +12,13 @@ use Rattle.lay_items.specs.Layout.{Layout}
 use Rattle.job_text.specs.declared.job.JobFault.{JobFault}
 use Rattle.job_text.specs.declared.job.JobFault.TheVariants.{Line, NoMemory as JobMemory}
 use Rattle.job_text.specs.Job.{job_of}
-use Rattle.job_live.specs.Live.{Run, begun, run_of}
+use Rattle.job_live.specs.Live.{LiveRun, before_first_line, run_of}
 use Rattle.job_live.specs.declared.live.Live.{Live}
 use Rattle.live_run.specs.declared.base.HeadFault.{HeadFault}
 use Rattle.live_run.specs.declared.base.HeadFault.TheVariants.{Cif as CifHead, Job as JobHead, Memory as MemoryHead}
 use Rattle.live_run.specs.declared.course.Course.TheVariants.{Steps}
 use Rattle.live_run.specs.Cif.{cif_from}
-use Rattle.live_run.specs.Course.{HeadTo, IsBaseFrom, IsBaseOf, Opens, Refuses, end_of_head, head_cif, head_kind}
+use Rattle.live_run.specs.Course.{BeginsRun, HeadTo, IsBaseFrom, IsBaseOf, Refuses, end_of_head, head_cif, head_kind}
 
 -- a fault of a CIF text is a head's, or out of memory
 of_kind : (fault : CifFault) (kind : FaultKind) → (head_kind fault kind ≡ MemoryHead) ⊎ (head_kind fault kind ≡ CifHead fault)
@@ -44,10 +44,10 @@ unfolding IsBaseOf
 base_file head number base (inl none) = absurd (let e = none in cc)
 base_file head number base (inr is) = file_of (cif_from number true (job_of head)) base is
 
-pub opens : (head : List ℕ) (number : ℕ) (base : Layout) (run : Run) → IsBaseOf head number (Ok base) → run ≡ begun base
-    → Opens head number run
+pub opens : (head : List ℕ) (number : ℕ) (base : Layout) (run : LiveRun) → IsBaseOf head number (Ok base) → run ≡ before_first_line base
+    → BeginsRun head number run
 opens head number base run is new =
-    let (cif, file, from, means, same) = base_file head number base is in (cif, file, from, means, new ∙ ap begun same)
+    let (cif, file, from, means, same) = base_file head number base is in (cif, file, from, means, new ∙ ap before_first_line same)
 
 -- ---- a fault
 
@@ -102,7 +102,7 @@ refuses head number MemoryHead text same is = tt
 -- ---- a live line
 
 pub head_opens : (t : Bool) (head : List ℕ) (count number : ℕ) (line : List ℕ) (live : Live) → t ≡ true → number ≡ count + 1
-    → Opens head number (run_of live) → HeadTo t head count line (Ok (Steps live))
+    → BeginsRun head number (run_of live) → HeadTo t head count line (Ok (Steps live))
 head_opens t head count number line live is next opens =
     subst (λ (b : Bool). HeadTo b head count line (Ok (Steps live))) (sym is)
-    (run_of live, subst (λ (n : ℕ). Opens head n (run_of live)) next opens, refl)
+    (run_of live, subst (λ (n : ℕ). BeginsRun head n (run_of live)) next opens, refl)

@@ -6,7 +6,7 @@ use Rattle.std.proofs.Common.{length-append}
 use Rattle.std.specs.List.{concat}
 use Rattle.job_text.specs.declared.job.JobFault.{JobFault}
 use Rattle.job_text.specs.Job.{job_of}
-use Rattle.job_live.specs.Live.{Run, after_line, after_lines}
+use Rattle.job_live.specs.Live.{LiveRun, after_line, after_lines}
 use Rattle.live_run.specs.Cif.{before, behind, cif_from, cif_of, is_live}
 use Rattle.live_run.specs.Said.{answers, said_text}
 
@@ -84,12 +84,12 @@ cif_none seen h = ap (λ (ls : List (List ℕ)). cif_by ls (behind seen)) (befor
 
 -- ---- what is said
 
-pub after_more : (run : Run) (heard : List (List ℕ)) (line : List ℕ)
+pub after_more : (run : LiveRun) (heard : List (List ℕ)) (line : List ℕ)
     → after_lines run (heard ++ line ∷ []) ≡ (after_line (after_lines run heard) line).0
 after_more run [] line = refl
 after_more run (first ∷ heard) line = after_more (after_line run first).0 heard line
 
-pub answers_more : (run : Run) (heard : List (List ℕ)) (line : List ℕ)
+pub answers_more : (run : LiveRun) (heard : List (List ℕ)) (line : List ℕ)
     → answers run (heard ++ line ∷ []) ≡ answers run heard ++ said_text (after_line (after_lines run heard) line)
 answers_more run [] line = append-nil (said_text (after_line run line))
 answers_more run (first ∷ heard) line =

@@ -8,7 +8,7 @@ use Rattle.std.specs.List.{list_all}
 use Rattle.std.proofs.lemmas.List.Elements.{filter-append}
 use Rattle.job_text.specs.Lines.{in_front, lines}
 use Rattle.live_run.specs.Cif.{is_ended, whole}
-use Rattle.live_run.specs.Ear.{IsCut, is_inside}
+use Rattle.live_run.specs.Ear.{IsCut, is_not_newline}
 
 both : (x y : Bool) → (x && y) ≡ true → (x ≡ true) × (y ≡ true)
 both true y h = (refl, h)
@@ -22,41 +22,42 @@ other_inside : (t : Bool) → t ≡ false → not t ≡ true
 other_inside true h = absurd (let e = h in cc)
 other_inside false h = refl
 
-all_more : (line : List ℕ) (b : ℕ) → list_all is_inside line ≡ true → is_inside b ≡ true → list_all is_inside (line ++ b ∷ []) ≡ true
+all_more : (line : List ℕ) (b : ℕ) → list_all is_not_newline line ≡ true → is_not_newline b ≡ true
+    → list_all is_not_newline (line ++ b ∷ []) ≡ true
 all_more [] b all one = rw one refl
 all_more (a ∷ line) b all one =
-    let (first, rest) = both (is_inside a) (list_all is_inside line) all in
+    let (first, rest) = both (is_not_newline a) (list_all is_not_newline line) all in
     let more = all_more line b rest one in
     rw (first, more) refl
 
 -- a byte in a line stands in front of the first of the lines behind it
-pub in_line : (b : ℕ) (bytes : List ℕ) → is_inside b ≡ true → lines (b ∷ bytes) ≡ in_front b (lines bytes)
+pub in_line : (b : ℕ) (bytes : List ℕ) → is_not_newline b ≡ true → lines (b ∷ bytes) ≡ in_front b (lines bytes)
 in_line b bytes h = let other : eqb b 10 ≡ false = is_other (eqb b 10) h in rw other refl
 
 -- a newline ends what has come of a line
-pub ended_line : (line more : List ℕ) → list_all is_inside line ≡ true → lines (line ++ 10 ∷ more) ≡ (line ++ 10 ∷ []) ∷ lines more
+pub ended_line : (line more : List ℕ) → list_all is_not_newline line ≡ true → lines (line ++ 10 ∷ more) ≡ (line ++ 10 ∷ []) ∷ lines more
 ended_line [] more h = refl
 ended_line (b ∷ line) more h =
-    let (first, rest) = both (is_inside b) (list_all is_inside line) h in
+    let (first, rest) = both (is_not_newline b) (list_all is_not_newline line) h in
     in_line b (line ++ 10 ∷ more) first ∙ ap (in_front b) (ended_line line more rest)
 
 -- bytes without a newline are one line
-pub one_line : (b : ℕ) (line : List ℕ) → list_all is_inside (b ∷ line) ≡ true → lines (b ∷ line) ≡ (b ∷ line) ∷ []
-one_line b [] h = in_line b [] (both (is_inside b) true h).0
+pub one_line : (b : ℕ) (line : List ℕ) → list_all is_not_newline (b ∷ line) ≡ true → lines (b ∷ line) ≡ (b ∷ line) ∷ []
+one_line b [] h = in_line b [] (both (is_not_newline b) true h).0
 one_line b (c ∷ line) h =
-    let (first, rest) = both (is_inside b) (list_all is_inside (c ∷ line)) h in
+    let (first, rest) = both (is_not_newline b) (list_all is_not_newline (c ∷ line)) h in
     in_line b (c ∷ line) first ∙ ap (in_front b) (one_line c line rest)
 
-unended : (b : ℕ) (line : List ℕ) → list_all is_inside (b ∷ line) ≡ true → is_ended (b ∷ line) ≡ false
-unended b [] h = is_other (eqb b 10) (both (is_inside b) true h).0
-unended b (c ∷ line) h = unended c line (both (is_inside b) (list_all is_inside (c ∷ line)) h).1
+unended : (b : ℕ) (line : List ℕ) → list_all is_not_newline (b ∷ line) ≡ true → is_ended (b ∷ line) ≡ false
+unended b [] h = is_other (eqb b 10) (both (is_not_newline b) true h).0
+unended b (c ∷ line) h = unended c line (both (is_not_newline b) (list_all is_not_newline (c ∷ line)) h).1
 
 with_newline : (line : List ℕ) → is_ended (line ++ 10 ∷ []) ≡ true
 with_newline [] = refl
 with_newline (b ∷ []) = refl
 with_newline (b ∷ c ∷ line) = with_newline (c ∷ line)
 
-no_whole : (line : List ℕ) → list_all is_inside line ≡ true → filter is_ended (lines line) ≡ []
+no_whole : (line : List ℕ) → list_all is_not_newline line ≡ true → filter is_ended (lines line) ≡ []
 no_whole [] h = refl
 no_whole (b ∷ line) h =
     let is : is_ended (b ∷ line) ≡ false = unended b line h in

@@ -10,7 +10,7 @@ use Rattle.cif_read.specs.Contents.{Contents}
 use Rattle.lay_items.specs.FromCif.{layout_of}
 use Rattle.job_text.specs.Lines.{lines}
 use Rattle.job_text.specs.Job.{job_of}
-use Rattle.job_live.specs.Live.{Run, after_line, after_lines, begun}
+use Rattle.job_live.specs.Live.{LiveRun, after_line, after_lines, before_first_line}
 use Rattle.live_run.specs.declared.course.Course.{Course}
 use Rattle.live_run.specs.declared.ending.LiveEnd.{LiveEnd}
 use Rattle.live_run.specs.declared.ending.LiveEnd.TheVariants.{Cif, Device, Done, Job, Memory}
@@ -50,16 +50,16 @@ module _ {O : Type 0} (written : O → Option (List ℕ)) (failures : O → ℕ)
   said_nothing seen none = subst (λ rest. IsSaidBehind seen rest []) (sym none) refl
 
   said_answers : (seen heard : List (List ℕ)) (file : Contents) → behind seen ≡ Some heard → IsBase seen file
-      → IsSaid seen (answers (begun (layout_of file)) heard)
+      → IsSaid seen (answers (before_first_line (layout_of file)) heard)
   said_answers seen heard file h is =
-      subst (λ rest. IsSaidBehind seen rest (answers (begun (layout_of file)) heard)) (sym h) (file, is, refl)
+      subst (λ rest. IsSaidBehind seen rest (answers (before_first_line (layout_of file)) heard)) (sym h) (file, is, refl)
 
   -- what is said where a run stands
   pub said_at : (base out : O) (seen : List (List ℕ)) (phase : Phase) → IsAt written failures base out seen phase
       → (said : List ℕ) × IsSaid seen said × WroteAll written failures base out said
   said_at base out seen (InHead head count) (none, joined, counted, same) = ([], said_nothing seen none, wrote_none base out same)
   said_at base out seen (InSteps run) (heard, file, h, is, ran, wrote) =
-      (answers (begun (layout_of file)) heard, said_answers seen heard file h is, wrote)
+      (answers (before_first_line (layout_of file)) heard, said_answers seen heard file h is, wrote)
 
   -- ---- a line is heard
 
@@ -92,11 +92,11 @@ module _ {O : Type 0} (written : O → Option (List ℕ)) (failures : O → ℕ)
   heard_line base out out' seen line (InHead head count) course (none, joined, counted, same) (still, to) =
       opened base out' seen line head count (is_live line) course refl none joined counted (still ∙ same) to
   heard_line base out out' seen line (InSteps run) course (heard, file, h, is, ran, wrote) (led, put) =
-      let first = begun (layout_of file) in
+      let first = before_first_line (layout_of file) in
       let took = after_line (after_lines first heard) line in
-      let led' : phase_of course ≡ InSteps took.0 = led ∙ ap (λ (r : Run). InSteps (after_line r line).0) ran in
+      let led' : phase_of course ≡ InSteps took.0 = led ∙ ap (λ (r : LiveRun). InSteps (after_line r line).0) ran in
       let put' : WroteAll written failures out out' (said_text took) =
-      subst (λ (r : Run). WroteAll written failures out out' (said_text (after_line r line))) ran put in
+      subst (λ (r : LiveRun). WroteAll written failures out out' (said_text (after_line r line))) ran put in
       subst (IsAt written failures base out' (seen ++ line ∷ [])) (sym led') (
         heard ++ line ∷ [],
         file,
@@ -160,7 +160,7 @@ module _ {O : Type 0} (written : O → Option (List ℕ)) (failures : O → ℕ)
   head_stops ended base out' seen line head count given unseen true end all holds live none joined counted same r =
       refused ended base out' seen line head count given unseen end all holds live none joined counted same r
 
-  run_stops : (ended : Type 0) (base out out' : O) (seen : List (List ℕ)) (line : List ℕ) (run : Run) (given : List ℕ)
+  run_stops : (ended : Type 0) (base out out' : O) (seen : List (List ℕ)) (line : List ℕ) (run : LiveRun) (given : List ℕ)
       (unseen : List (List ℕ)) (end : LiveEnd) → lines given ≡ seen ++ line ∷ unseen
       → IsAt written failures base out seen (InSteps run) → HearsTo written failures out out' (InSteps run) line (Err end)
       → IsStop written failures base out' given ended end
@@ -168,10 +168,10 @@ module _ {O : Type 0} (written : O → Option (List ℕ)) (failures : O → ℕ)
   run_stops ended base out out' seen line run given unseen (Job n text) all at r = absurd r
   run_stops ended base out out' seen line run given unseen (Cif fault text) all at r = absurd r
   run_stops ended base out out' seen line run given unseen Device all (heard, file, h, is, ran, wrote) r =
-      let first = begun (layout_of file) in
+      let first = before_first_line (layout_of file) in
       let took = after_line (after_lines first heard) line in
       let put : WrotePrefix written failures out out' (said_text took) =
-      subst (λ (r : Run). WrotePrefix written failures out out' (said_text (after_line r line))) ran r in (
+      subst (λ (r : LiveRun). WrotePrefix written failures out out' (said_text (after_line r line))) ran r in (
         seen ++ line ∷ [],
         unseen,
         answers first (heard ++ line ∷ []),
@@ -221,13 +221,13 @@ module _ {O : Type 0} (written : O → Option (List ℕ)) (failures : O → ℕ)
   head_closes base out' seen head count given Memory all none joined counted same r =
       (seen, [], [], append-nil seen ∙ sym all, said_nothing seen none, wrote_none base out' same)
 
-  run_closes : (base out out' : O) (seen : List (List ℕ)) (run : Run) (given : List ℕ) (end : LiveEnd)
+  run_closes : (base out out' : O) (seen : List (List ℕ)) (run : LiveRun) (given : List ℕ) (end : LiveEnd)
       → lines given ≡ seen → IsAt written failures base out seen (InSteps run) → RunCloses written failures out out' run end
       → IsStop written failures base out' given ⊤ end
   run_closes base out out' seen run given Done all (heard, file, h, is, ran, wrote) r =
-      let first = begun (layout_of file) in
+      let first = before_first_line (layout_of file) in
       let put : WroteAll written failures out out' (closing (after_lines first heard)) =
-      subst (λ (r : Run). WroteAll written failures out out' (closing r)) ran r in (
+      subst (λ (r : LiveRun). WroteAll written failures out out' (closing r)) ran r in (
         tt,
         answers first heard ++ closing (after_lines first heard),
         subst (λ (ls : List (List ℕ)). IsWhole ls (answers first heard ++ closing (after_lines first heard))) (sym all)
@@ -237,9 +237,9 @@ module _ {O : Type 0} (written : O → Option (List ℕ)) (failures : O → ℕ)
   run_closes base out out' seen run given (Job n text) all at r = absurd r
   run_closes base out out' seen run given (Cif fault text) all at r = absurd r
   run_closes base out out' seen run given Device all (heard, file, h, is, ran, wrote) r =
-      let first = begun (layout_of file) in
+      let first = before_first_line (layout_of file) in
       let put : WrotePrefix written failures out out' (closing (after_lines first heard)) =
-      subst (λ (r : Run). WrotePrefix written failures out out' (closing r)) ran r in (
+      subst (λ (r : LiveRun). WrotePrefix written failures out out' (closing r)) ran r in (
         seen,
         [],
         answers first heard ++ closing (after_lines first heard),

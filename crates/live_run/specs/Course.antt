@@ -15,7 +15,7 @@ use Rattle.job_text.specs.declared.job.JobFault.{JobFault}
 use Rattle.job_text.specs.declared.job.JobFault.TheVariants.{Line, NoMemory as JobMemory}
 use Rattle.job_text.specs.Job.{job_of}
 use Rattle.job_live.specs.declared.live.Live.{Live}
-use Rattle.job_live.specs.Live.{Run, Said, after_line, begun, run_of}
+use Rattle.job_live.specs.Live.{LiveRun, Said, after_line, before_first_line, run_of}
 use Rattle.live_run.specs.declared.base.HeadFault.{HeadFault}
 use Rattle.live_run.specs.declared.base.HeadFault.TheVariants.{Cif as CifHead, Job as JobHead, Memory as MemoryHead}
 use Rattle.live_run.specs.declared.course.Course.{Course}
@@ -28,7 +28,7 @@ use Rattle.live_run.specs.Said.{closing, said_text}
 -- before the live line, the lines so far, joined, and how many they are; behind it, the run
 pub data Phase : Type 0 where
   InHead : List ℕ → ℕ → Phase
-  InSteps : Run → Phase
+  InSteps : LiveRun → Phase
 
 -- what contracts see of a course
 abbrev pub phase_of : Course → Phase
@@ -72,10 +72,10 @@ unfoldable pub IsBaseOf : List ℕ → ℕ → Result Layout HeadFault → Type 
 IsBaseOf head number result = (result ≡ Err MemoryHead) ⊎ IsBaseFrom (cif_from number true (job_of head)) result
 
 -- a run begins behind this head
-abbrev pub Opens : List ℕ → ℕ → Run → Type 0
-Opens head number run =
+abbrev pub BeginsRun : List ℕ → ℕ → LiveRun → Type 0
+BeginsRun head number run =
     (cif : List ℕ) × (file : Contents) × (cif_from number true (job_of head) ≡ Ok cif) × IsMeaning cif (Ok file)
-    × (run ≡ begun (layout_of file))
+    × (run ≡ before_first_line (layout_of file))
 
 -- none does, by whether there is a live line
 abbrev pub Refuses : Bool → List ℕ → ℕ → LiveEnd → Type 0
@@ -88,7 +88,7 @@ Refuses live head number Memory = ⊤
 
 -- a run begins behind this head, or none does
 abbrev pub OpensTo : List ℕ → ℕ → Result Live LiveEnd → Type 0
-OpensTo head number (Ok live) = Opens head number (run_of live)
+OpensTo head number (Ok live) = BeginsRun head number (run_of live)
 OpensTo head number (Err end) = Refuses true head number end
 
 -- ---- a line
@@ -102,7 +102,7 @@ end_of_write NoMemory = Memory
 abbrev pub HeadTo : Bool → List ℕ → ℕ → List ℕ → Result Course LiveEnd → Type 0
 HeadTo false head count line (Ok course) = phase_of course ≡ InHead (head ++ line) (count + 1)
 HeadTo false head count line (Err end) = end ≡ Memory
-HeadTo true head count line (Ok course) = (run : Run) × Opens head (count + 1) run × (phase_of course ≡ InSteps run)
+HeadTo true head count line (Ok course) = (run : LiveRun) × BeginsRun head (count + 1) run × (phase_of course ≡ InSteps run)
 HeadTo true head count line (Err end) = Refuses true head (count + 1) end
 
 module _ {O : Type 0} (written : O → Option (List ℕ)) (failures : O → ℕ) (out out' : O) where
@@ -113,7 +113,7 @@ module _ {O : Type 0} (written : O → Option (List ℕ)) (failures : O → ℕ)
   Puts text (Err NoMemory) = out' ≡ out
 
   -- what a line of a run leads to, which leaves this and is answered so
-  abbrev pub AnswersTo : Run × Said → Result Course LiveEnd → Type 0
+  abbrev pub AnswersTo : LiveRun × Said → Result Course LiveEnd → Type 0
   AnswersTo said (Ok course) = (phase_of course ≡ InSteps said.0) × WroteAll written failures out out' (said_text said)
   AnswersTo said (Err Done) = ⊥
   AnswersTo said (Err (Job line text)) = ⊥
@@ -129,7 +129,7 @@ module _ {O : Type 0} (written : O → Option (List ℕ)) (failures : O → ℕ)
   -- ---- the end
 
   -- what the end of the input leads to in a run
-  abbrev pub RunCloses : Run → LiveEnd → Type 0
+  abbrev pub RunCloses : LiveRun → LiveEnd → Type 0
   RunCloses run Done = WroteAll written failures out out' (closing run)
   RunCloses run (Job line text) = ⊥
   RunCloses run (Cif fault text) = ⊥

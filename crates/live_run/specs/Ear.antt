@@ -7,7 +7,7 @@ use Rattle.byte_io.specs.Input.{Counts}
 use Rattle.cif_read.specs.Contents.{Contents}
 use Rattle.lay_items.specs.FromCif.{layout_of}
 use Rattle.job_text.specs.Lines.{lines}
-use Rattle.job_live.specs.Live.{after_lines, begun}
+use Rattle.job_live.specs.Live.{after_lines, before_first_line}
 use Rattle.live_run.specs.declared.course.Course.{Course}
 use Rattle.live_run.specs.declared.ear.Ear.{Ear}
 use Rattle.live_run.specs.declared.ending.LiveEnd.{LiveEnd}
@@ -17,14 +17,14 @@ use Rattle.live_run.specs.Ending.{IsEnded, IsLiveRun, IsStop}
 use Rattle.live_run.specs.Said.{IsBase, answers}
 
 -- whether the byte ends no line
-abbrev pub is_inside : ℕ → Bool
-is_inside b = not (b == 10)
+abbrev pub is_not_newline : ℕ → Bool
+is_not_newline b = not (b == 10)
 
 -- the bytes are these lines, each with its newline, and so much of the next
 pub record IsCut (bytes : List ℕ) (seen : List (List ℕ)) (line : List ℕ) : Type 0 where
   pub cut : (more : List ℕ) → lines (bytes ++ more) ≡ seen ++ lines (line ++ more)
   pub ended : filter is_ended seen ≡ seen
-  pub inside : list_all is_inside line ≡ true
+  pub inside : list_all is_not_newline line ≡ true
 
 module _ {O : Type 0} (written : O → Option (List ℕ)) (failures : O → ℕ) (base out : O) where
   -- from the device before the first line to this one, these lines were answered, and the run stands here
@@ -32,7 +32,8 @@ module _ {O : Type 0} (written : O → Option (List ℕ)) (failures : O → ℕ)
   IsAt seen (InHead head count) = (behind seen ≡ None) × (head ≡ concat seen) × (count ≡ length seen) × (out ≡ base)
   IsAt seen (InSteps run) =
       (heard : List (List ℕ)) × (file : Contents) × (behind seen ≡ Some heard) × IsBase seen file
-      × (run ≡ after_lines (begun (layout_of file)) heard) × WroteAll written failures base out (answers (begun (layout_of file)) heard)
+      × (run ≡ after_lines (before_first_line (layout_of file)) heard)
+          × WroteAll written failures base out (answers (before_first_line (layout_of file)) heard)
 
   -- the same, by the bytes that were given
   abbrev pub Hears : List ℕ → Phase → List ℕ → Type 0

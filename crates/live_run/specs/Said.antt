@@ -7,24 +7,24 @@ use Rattle.lay_items.specs.FromCif.{layout_of}
 use Rattle.lay_items.specs.Layout.{Layout}
 use Rattle.session_steps.specs.Turns.{dealt}
 use Rattle.job_text.specs.Order.{order_of, order_text}
-use Rattle.job_live.specs.Live.{Run, Said, after_line, after_lines, begun}
+use Rattle.job_live.specs.Live.{LiveRun, Said, after_line, after_lines, before_first_line}
 use Rattle.live_run.specs.Cif.{behind, cif_of}
 
 -- the text of an answer: its comment, and this layout where it is wanted
-abbrev pub answer_text : Layout → Said → List ℕ
-answer_text layout said = said.0 ++ (if said.1 then text layout else [])
+abbrev pub comment_and_layout : Layout → Said → List ℕ
+comment_and_layout layout said = said.0 ++ (if said.1 then text layout else [])
 
 -- what a line is answered, where the layout is as the line left it
-abbrev pub said_text : Run × Said → List ℕ
-said_text took = answer_text took.0.state.history.layout took.1
+abbrev pub said_text : LiveRun × Said → List ℕ
+said_text took = comment_and_layout took.0.state.history.layout took.1
 
 -- what these lines are answered, in order
-abbrev pub answers : Run → List (List ℕ) → List ℕ
+abbrev pub answers : LiveRun → List (List ℕ) → List ℕ
 answers run [] = []
 answers run (line ∷ lines) = said_text (after_line run line) ++ answers (after_line run line).0 lines
 
 -- what is written at the end: the order of the steps, and the layout
-abbrev pub closing : Run → List ℕ
+abbrev pub closing : LiveRun → List ℕ
 closing run =
     order_text (order_of run.state.history.log (dealt run.sessions run.replies (replicate 64 [])))
     ++ text run.state.history.layout
@@ -36,7 +36,7 @@ IsBase lines file = (cif : List ℕ) × (cif_of lines ≡ Ok cif) × IsMeaning c
 -- what is said, by the lines behind the live line
 abbrev pub IsSaidBehind : List (List ℕ) → Option (List (List ℕ)) → List ℕ → Type 0
 IsSaidBehind lines None said = said ≡ []
-IsSaidBehind lines (Some heard) said = (file : Contents) × IsBase lines file × (said ≡ answers (begun (layout_of file)) heard)
+IsSaidBehind lines (Some heard) said = (file : Contents) × IsBase lines file × (said ≡ answers (before_first_line (layout_of file)) heard)
 
 -- what is said once these lines came: nothing before the live line, and behind it the answer of each line
 abbrev pub IsSaid : List (List ℕ) → List ℕ → Type 0
@@ -46,4 +46,4 @@ IsSaid lines said = IsSaidBehind lines (behind lines) said
 abbrev pub IsWhole : List (List ℕ) → List ℕ → Type 0
 IsWhole lines said =
     (heard : List (List ℕ)) × (file : Contents) × (behind lines ≡ Some heard) × IsBase lines file
-    × (said ≡ answers (begun (layout_of file)) heard ++ closing (after_lines (begun (layout_of file)) heard))
+    × (said ≡ answers (before_first_line (layout_of file)) heard ++ closing (after_lines (before_first_line (layout_of file)) heard))

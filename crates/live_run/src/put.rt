@@ -3,7 +3,7 @@ ghost use Rattle.std.specs.Prelude.{◌≡◌, ◌++◌};
 ghost use Rattle.cif_write.specs.Text.{text};
 ghost use Rattle.job_live.specs.Live.{said_of};
 ghost use Rattle.live_run.specs.Course.{Puts};
-ghost use Rattle.live_run.specs.Said.{answer_text};
+ghost use Rattle.live_run.specs.Said.{comment_and_layout};
 
 use byte_io::{Out, put_all};
 use cif_write::{WriteFault, prepare};
@@ -16,7 +16,7 @@ pub(crate) fn put_answer<O: Out>(
     answer: &Answer,
     layout: &Snapshot,
 ) -> Result<(), WriteFault>
-    ensures { Puts O.written O.failures out.old out.new (answer_text layout.now (said_of answer.now)) result }
+    ensures { Puts O.written O.failures out.old out.new (comment_and_layout layout.now (said_of answer.now)) result }
 {
     if answer.is_layout_wanted {
         return put_both(out, answer.comment.as_slice(), layout);

@@ -11,8 +11,8 @@ use Rattle.desk_rules.specs.Seats.{Seat}
 use Rattle.locked_desk.specs.declared.fault.RunFault.{RunFault}
 use Rattle.locked_desk.specs.declared.steps.Job.{Job}
 use Rattle.locked_desk.specs.declared.steps.Outcome.{Outcome}
-use Rattle.locked_desk.specs.Jobs.{AreEnds, AreJobs}
-use Rattle.locked_desk.specs.Runs.{AllRan, IsRun, RunsSo}
+use Rattle.locked_desk.specs.Jobs.{AllSucceeded, AreJobs}
+use Rattle.locked_desk.specs.Runs.{AllRan, IsDeskRun, RunsSo}
 
 -- one session more has its job
 pub jobs_push : {L : Type 0} (given : List Seat) (n : ℕ) (scripts : List (List Step)) (jobs : List (Job L)) (steps : List Step)
@@ -36,8 +36,8 @@ jobs_length given n (s ∷ ss) (j ∷ js) are = ap suc (jobs_length given (n + 1
 -- one session more has ended
 pub ends_push : {L : Type 0} (outcomes : List (Result (Outcome L) RunFault)) (seats : List Seat) (replies : List (List Reply))
     (outcome : Outcome L)
-    → AreEnds outcomes seats replies
-    → AreEnds (outcomes ++ Ok outcome ∷ []) (seats ++ outcome.seat ∷ []) (replies ++ outcome.replies ∷ [])
+    → AllSucceeded outcomes seats replies
+    → AllSucceeded (outcomes ++ Ok outcome ∷ []) (seats ++ outcome.seat ∷ []) (replies ++ outcome.replies ∷ [])
 ends_push [] [] [] outcome are = (refl, refl, tt)
 ends_push (Ok o ∷ os) (s ∷ ss) (r ∷ rs) outcome are = (are.0, are.1, ends_push os ss rs outcome are.2)
 ends_push os ss rs outcome are = absurd are
@@ -66,7 +66,7 @@ all_led desk (j ∷ js) (r ∷ rs) same each =
 pub all_ran : {L : Type 0} (desk : Desk) (given : List Seat) (n : ℕ) (scripts : List (List Step)) (jobs : List (Job L))
     (results : List (Result (Outcome L) RunFault))
     (seats : List Seat) (replies : List (List Reply)) → AreJobs given n scripts jobs → AllLed desk jobs results
-    → AreEnds results seats replies
+    → AllSucceeded results seats replies
     → AllRan desk n (map (λ (j : Job L). j.seat) jobs) scripts replies seats
 all_ran desk given n [] [] [] [] [] are led ends = tt
 all_ran desk given n (s ∷ ss) (j ∷ js) (Ok o ∷ os) (e ∷ es) (r ∷ rs) are led ends = (
@@ -105,12 +105,12 @@ job_after {L} given scripts jobs new steps job are its same new-is =
 
 pub ends_after : {L : Type 0} (results : List (Result (Outcome L) RunFault)) (seats more : List Seat) (replies further : List
     (List Reply))
-    (result : Result (Outcome L) RunFault) (outcome : Outcome L) → AreEnds results seats replies → result ≡ Ok outcome
-    → more ≡ seats ++ outcome.seat ∷ [] → further ≡ replies ++ outcome.replies ∷ [] → AreEnds (results ++ result ∷ []) more further
+    (result : Result (Outcome L) RunFault) (outcome : Outcome L) → AllSucceeded results seats replies → result ≡ Ok outcome
+    → more ≡ seats ++ outcome.seat ∷ [] → further ≡ replies ++ outcome.replies ∷ [] → AllSucceeded (results ++ result ∷ []) more further
 ends_after {L} results seats more replies further result outcome are ok more-is further-is =
-    subst (λ (r : Result (Outcome L) RunFault). AreEnds (results ++ r ∷ []) more further) (sym ok)
-    (subst (λ (ss : List Seat). AreEnds (results ++ Ok outcome ∷ []) ss further) (sym more-is)
-    (subst (λ (rs : List (List Reply)). AreEnds (results ++ Ok outcome ∷ []) (seats ++ outcome.seat ∷ []) rs) (sym further-is)
+    subst (λ (r : Result (Outcome L) RunFault). AllSucceeded (results ++ r ∷ []) more further) (sym ok)
+    (subst (λ (ss : List Seat). AllSucceeded (results ++ Ok outcome ∷ []) ss further) (sym more-is)
+    (subst (λ (rs : List (List Reply)). AllSucceeded (results ++ Ok outcome ∷ []) (seats ++ outcome.seat ∷ []) rs) (sym further-is)
     (ends_push results seats replies outcome are)))
 
 -- the run of a desk that is closed
@@ -119,7 +119,7 @@ pub is_run : {L : Type 0} (desk : Desk) (given : List Seat) (scripts : List (Lis
     (ends : List Seat) (replies : List (List Reply)) (book : History) → AreJobs given 1 scripts jobs → length results ≡ length jobs
     → ((i : ℕ) (d : Result (Outcome L) RunFault) (e : Job L) → i < length jobs
     → Led desk (slice_index_or jobs i e) (slice_index_or results i d))
-    → AreEnds results ends replies → IsClosed desk ends book → IsRun desk given scripts replies book
+    → AllSucceeded results ends replies → IsClosed desk ends book → IsDeskRun desk given scripts replies book
 is_run {L} desk given scripts jobs results ends replies book are same each end closed = record {
   seats = map (λ (j : Job L). j.seat) jobs;
   ends = ends;

@@ -12,7 +12,7 @@ use Rattle.undo_rules.specs.declared.log.Call.TheVariants.{Commit, Open}
 use Rattle.undo_rules.specs.Books.{History}
 use Rattle.undo_rules.specs.Steps.{commit_step, commit_unless, is_log_full, is_own, stale_by}
 use Rattle.undo_book.specs.declared.commit.CommitRefusal.{CommitRefusal}
-use Rattle.undo_book.specs.Calls.{TakesWork, refused, with_work}
+use Rattle.undo_book.specs.Calls.{TakesWork, refused, with_refused_work}
 use Rattle.undo_book.proofs.CommitLemmas.{own_work}
 use Rattle.desk_rules.specs.Legal.{ArePendingSound, Stepped, answer_of, opened_answer}
 use Rattle.desk_rules.proofs.MeantLemmas.{stepped_work}
@@ -20,7 +20,7 @@ use Rattle.lay_items.specs.Layout.{Layout}
 use Rattle.undo_rules.specs.declared.log.Call.{Call}
 use Rattle.desk_rules.specs.declared.kept.Kept.{Kept}
 use Rattle.desk_rules.specs.Guards.{Desk}
-use Rattle.desk_rules.specs.Seats.{GainsLogged, MadeAt, MadeLogged, Seat, kept_at, with_kept}
+use Rattle.desk_rules.specs.Seats.{GainsLogged, MadeAt, MadeLogged, Seat, kept_call, with_kept}
 use Rattle.desk_rules.proofs.SeatLemmas.{gains_logged}
 use Rattle.locked_desk.specs.Desks.{OpensAt, by_book, commit_answer, commit_by_book, desk_answer, desk_commit_answer}
 
@@ -33,7 +33,7 @@ commit_by_book_answer (Ok txn) = refl
 commit_by_book_answer (Err refused) = refl
 
 committed_answer : (work : Transaction) (result : Result TxnId BookFault)
-    → commit_answer (with_work result work) ≡ answer_of Committed result
+    → commit_answer (with_refused_work result work) ≡ answer_of Committed result
 committed_answer work (Ok txn) = refl
 committed_answer work (Err fault) = refl
 
@@ -61,7 +61,8 @@ commit_id h work txn is = by (is_log_full h) (is_own h work) (stale_by h.entries
   by false true None e = cc
   by false true (Some other) e = absurd cc
 
-with_work_ok : (work : Transaction) (result : Result TxnId BookFault) (txn : TxnId) → Ok txn ≡ with_work result work → result ≡ Ok txn
+with_work_ok : (work : Transaction) (result : Result TxnId BookFault) (txn : TxnId) → Ok txn ≡ with_refused_work result work
+    → result ≡ Ok txn
 with_work_ok work (Ok t) txn e = cc
 with_work_ok work (Err fault) txn e = absurd cc
 
@@ -70,7 +71,8 @@ pub committed_txn : (h next : History) (work : Transaction) (txn : TxnId) → Ta
 committed_txn h next work txn (inr fails) = absurd (let e = fails.0 in cc)
 committed_txn h next work txn (inl takes) = sym (commit_id h work txn (with_work_ok work (commit_step h work).0 txn takes.0))
 
-with_work_err : (work : Transaction) (result : Result TxnId BookFault) (refusal : CommitRefusal) → Err refusal ≡ with_work result work
+with_work_err : (work : Transaction) (result : Result TxnId BookFault) (refusal : CommitRefusal)
+    → Err refusal ≡ with_refused_work result work
     → refusal ≡ refused refusal.fault work
 with_work_err work (Ok t) refusal e = absurd cc
 with_work_err work (Err fault) refusal e =
@@ -132,15 +134,15 @@ opens_at {old} {new} desk work result h sessions session own given kept place ol
     subst (λ (l : List Kept). MadeLogged (opened_answer result) h.base sessions h session l Open place) given-is made in
     let two : MadeLogged (Some (Opened work.id.txn)) h.base sessions h session own Open place =
     subst (λ (a : Option Answer). MadeLogged a h.base sessions h session own Open place) told one in
-    let three : MadeAt h.base sessions h session own (kept_at work.opened session Open (Opened work.id.txn)) =
-    subst (λ (p : ℕ). MadeAt h.base sessions h session own (kept_at p session Open (Opened work.id.txn))) (sym its.1) two in
-    let four : MadeAt desk.base sessions h session own (kept_at work.opened session Open (Opened work.id.txn)) =
-    subst (λ (b : Layout). MadeAt b sessions h session own (kept_at work.opened session Open (Opened work.id.txn))) base-is three in
-    let five : MadeAt desk.base desk.sessions h session own (kept_at work.opened session Open (Opened work.id.txn)) =
-    subst (λ (n : ℕ). MadeAt desk.base n h session own (kept_at work.opened session Open (Opened work.id.txn))) sessions-is four in
-    let kept-as : kept ≡ own ++ kept_at work.opened session Open (Opened work.id.txn) ∷ [] =
+    let three : MadeAt h.base sessions h session own (kept_call work.opened session Open (Opened work.id.txn)) =
+    subst (λ (p : ℕ). MadeAt h.base sessions h session own (kept_call p session Open (Opened work.id.txn))) (sym its.1) two in
+    let four : MadeAt desk.base sessions h session own (kept_call work.opened session Open (Opened work.id.txn)) =
+    subst (λ (b : Layout). MadeAt b sessions h session own (kept_call work.opened session Open (Opened work.id.txn))) base-is three in
+    let five : MadeAt desk.base desk.sessions h session own (kept_call work.opened session Open (Opened work.id.txn)) =
+    subst (λ (n : ℕ). MadeAt desk.base n h session own (kept_call work.opened session Open (Opened work.id.txn))) sessions-is four in
+    let kept-as : kept ≡ own ++ kept_call work.opened session Open (Opened work.id.txn) ∷ [] =
     kept-is ∙ ap (λ (a : Option Answer). with_kept a session own Open place) told
-    ∙ ap (λ (p : ℕ). own ++ kept_at p session Open (Opened work.id.txn) ∷ []) (sym its.1) in
+    ∙ ap (λ (p : ℕ). own ++ kept_call p session Open (Opened work.id.txn) ∷ []) (sym its.1) in
     let opens : OpensAt desk (record { session = session; own = own }) work (record { session = session; own = kept }) = record {
       gained = ap (λ (l : List Kept). record { session = session; own = l }) kept-as;
       history = h;

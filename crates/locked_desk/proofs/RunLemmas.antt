@@ -19,13 +19,13 @@ use Rattle.session_steps.specs.declared.StepFault.TheVariants as faults
 use Rattle.desk_rules.specs.Guards.{Desk}
 use Rattle.desk_rules.specs.Seats.{Gains, GainsLogged, Seat}
 use Rattle.locked_desk.specs.Desks.{OpensAt, open_call}
-use Rattle.locked_desk.specs.Runs.{AreAnswers, Changes, Ran, Refuses, RunsCommand, Stays, StepsTo}
-use Rattle.locked_desk.specs.Runs.{command_reply, logged_reply}
+use Rattle.locked_desk.specs.Runs.{AreAnswers, BookRefuses, CallsNothing, Changes, RanSteps, RunsCommand, StepsTo}
+use Rattle.locked_desk.specs.Runs.{logged_reply, reply_to_command}
 
 pub ran_push : (d : Desk) (held : Option Transaction) (seat : Seat) (steps : List Step) (given : List Reply) (mid : Seat)
     (last : Option Transaction)
-    (step : Step) (reply : Reply) (end : Seat) (next : Option Transaction) → Ran d held seat steps given mid last
-    → StepsTo d last mid step reply end next → Ran d held seat (steps ++ step ∷ []) (given ++ reply ∷ []) end next
+    (step : Step) (reply : Reply) (end : Seat) (next : Option Transaction) → RanSteps d held seat steps given mid last
+    → StepsTo d last mid step reply end next → RanSteps d held seat (steps ++ step ∷ []) (given ++ reply ∷ []) end next
 ran_push d held seat [] [] mid last step reply end next ran to = (
   end,
   next,
@@ -76,11 +76,11 @@ opens_some d seat work end opens = record {
 }
 
 stays_any : (answer : Reply) (seat : Seat) (held : Option Transaction) (reply : Reply) (end : Seat) (next : Option Transaction)
-    → logged_reply answer ≡ None → Stays answer seat held reply end next → GainsAny (logged_reply reply) seat end
+    → logged_reply answer ≡ None → CallsNothing answer seat held reply end next → GainsAny (logged_reply reply) seat end
 stays_any answer seat held reply end next silent stays =
     subst (λ p. GainsAny p seat end) (sym (ap logged_reply stays.0 ∙ silent)) stays.1
 
-refuses_any : (seat : Seat) (call : Call) (reply : Reply) (end : Seat) → Refuses seat call reply end
+refuses_any : (seat : Seat) (call : Call) (reply : Reply) (end : Seat) → BookRefuses seat call reply end
     → GainsAny (logged_reply reply) seat end
 refuses_any seat call reply end refused =
     subst (λ p. GainsAny (logged_reply p) seat end) (sym refused.replied)
@@ -96,7 +96,7 @@ command_silent : (work : Transaction) (command : _) (reply : Reply) (after : Tra
     → logged_reply reply ≡ None
 command_silent work command reply after (inr out) = ap logged_reply out.0
 command_silent work command reply after (inl is) = ap logged_reply is.0 ∙ by _ where
-  by : (answer : _) → logged_reply (command_reply answer) ≡ None
+  by : (answer : _) → logged_reply (reply_to_command answer) ≡ None
   by (Ok done) = refl
   by (Err fault) = refl
 

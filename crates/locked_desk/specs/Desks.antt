@@ -16,19 +16,19 @@ use Rattle.desk_rules.specs.declared.kept.Kept.{Kept}
 use Rattle.desk_rules.specs.Close.{missing_place}
 use Rattle.desk_rules.specs.Guards.{Desk}
 use Rattle.desk_rules.specs.Legal.{refusal}
-use Rattle.desk_rules.specs.Seats.{Gains, GainsLogged, MadeAt, Seat, kept_at, last_of, place_of, with_call}
+use Rattle.desk_rules.specs.Seats.{Gains, GainsLogged, MadeAt, Seat, kept_call, last_of, place_or_zero, seat_with_call}
 use Rattle.locked_desk.specs.declared.fault.DeskFault.{DeskFault}
 use Rattle.locked_desk.specs.declared.fault.DeskFault.TheVariants.{Book, Differs}
 use Rattle.locked_desk.specs.declared.fault.DeskRefusal.{DeskRefusal}
 
 -- the refusal that names the session and its last place
-abbrev pub differs : ℕ → List Kept → DeskFault
-differs session own = Differs session (place_of (last_of own))
+abbrev pub differs_refusal : ℕ → List Kept → DeskFault
+differs_refusal session own = Differs session (place_or_zero (last_of own))
 
 -- a refusal of the desk's own names the seat's session and last place
-abbrev pub IsNamed : DeskFault → Seat → Type 0
-IsNamed (Book fault) seat = Unit {0}
-IsNamed (Differs session place) seat = Differs session place ≡ differs seat.session seat.own
+abbrev pub NamesSeat : DeskFault → Seat → Type 0
+NamesSeat (Book fault) seat = Unit {0}
+NamesSeat (Differs session place) seat = Differs session place ≡ differs_refusal seat.session seat.own
 
 -- what is logged of a refusal
 abbrev pub fault_answer : DeskFault → Option Answer
@@ -49,12 +49,12 @@ by_book (Err fault) = Err (Book fault)
 
 -- the call of an open that made this work
 abbrev pub open_call : Seat → Transaction → Kept
-open_call seat work = kept_at work.opened seat.session Open (Opened work.id.txn)
+open_call seat work = kept_call work.opened seat.session Open (Opened work.id.txn)
 
 -- the seat gains the open, of which there is such a log from the desk's base and sessions, and the work begins on the layout
 -- after it
 pub record OpensAt (desk : Desk) (old : Seat) (work : Transaction) (new : Seat) : Type 0 where
-  pub gained : new ≡ with_call old (open_call old work)
+  pub gained : new ≡ seat_with_call old (open_call old work)
   pub history : History
   pub at : MadeAt desk.base desk.sessions history old.session old.own (open_call old work)
   pub snapshot : work.snapshot ≡ history.layout
@@ -66,7 +66,7 @@ abbrev pub Opens : Desk → Result Transaction DeskFault → Seat → Seat → T
 Opens desk (Ok work) old new = OpensAt desk old work new
 Opens desk (Err (Book fault)) old new = GainsLogged (refusal fault) old Open new
 Opens desk (Err (Differs session place)) old new =
-    ((new ≡ old) × (Differs session place ≡ differs old.session old.own))
+    ((new ≡ old) × (Differs session place ≡ differs_refusal old.session old.own))
     ⊎ ((session ≡ 0) × (place ≡ 0) × (number : ℕ) × Gains old Open (Opened number) new)
 
 -- ---- commit
@@ -106,7 +106,7 @@ other_fault h = full_or_foreign (is_log_full h)
 
 -- the look at the last call found no such log, or memory was refused
 abbrev pub IsLooked : DeskFault → ℕ → List Kept → Type 0
-IsLooked fault session own = (fault ≡ Book NoMemory) ⊎ (fault ≡ differs session own)
+IsLooked fault session own = (fault ≡ Book NoMemory) ⊎ (fault ≡ differs_refusal session own)
 
 -- the same of a look at all calls, which names the first that is missing
 abbrev pub IsLookedAt : Option ℕ → DeskFault → ℕ → List Kept → Type 0

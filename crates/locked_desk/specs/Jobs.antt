@@ -20,8 +20,8 @@ AreJobs given session (steps ∷ scripts) (job ∷ jobs) =
 AreJobs given session scripts jobs = ⊥
 
 -- no session failed, and these are the seats at the end and the replies
-abbrev pub AreEnds : {L : Type 0} → List (Result (Outcome L) RunFault) → List Seat → List (List Reply) → Type 0
-AreEnds [] [] [] = Unit {0}
-AreEnds (Ok outcome ∷ outcomes) (seat ∷ seats) (replies ∷ more) =
-    (seat ≡ outcome.seat) × (replies ≡ outcome.replies) × AreEnds outcomes seats more
-AreEnds outcomes seats replies = ⊥
+abbrev pub AllSucceeded : {L : Type 0} → List (Result (Outcome L) RunFault) → List Seat → List (List Reply) → Type 0
+AllSucceeded [] [] [] = Unit {0}
+AllSucceeded (Ok outcome ∷ outcomes) (seat ∷ seats) (replies ∷ more) =
+    (seat ≡ outcome.seat) × (replies ≡ outcome.replies) × AllSucceeded outcomes seats more
+AllSucceeded outcomes seats replies = ⊥

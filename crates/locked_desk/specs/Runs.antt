@@ -47,19 +47,19 @@ pub record OpensSo (desk : Desk) (seat : Seat) (reply : Reply) (end : Seat) (nex
   pub opens : OpensAt desk seat work end
 
 -- the book refuses the call, which is in the seat where it is logged
-pub record Refuses (seat : Seat) (call : Call) (reply : Reply) (end : Seat) : Type 0 where
+pub record BookRefuses (seat : Seat) (call : Call) (reply : Reply) (end : Seat) : Type 0 where
   pub fault : BookFault
   pub replied : reply ≡ Fault (Book fault)
   pub gains : GainsLogged (refusal fault) seat call end
 
-abbrev pub command_reply : Result dones.Done CmdFault → Reply
-command_reply (Ok done) = Done done
-command_reply (Err fault) = Fault (CommandFault fault)
+abbrev pub reply_to_command : Result dones.Done CmdFault → Reply
+reply_to_command (Ok done) = Done done
+reply_to_command (Err fault) = Fault (CommandFault fault)
 
 -- the command is answered as it is to be and leaves what it is to leave, or it is out of memory and nothing changes
 abbrev pub RunsCommand : Transaction → Command → Reply → Transaction → Type 0
 RunsCommand work command reply next =
-    ((reply ≡ command_reply (answer_to work command)) × (next ≡ after_command work command))
+    ((reply ≡ reply_to_command (answer_to work command)) × (next ≡ after_command work command))
     ⊎ ((reply ≡ Fault (CommandFault NoMemory)) × (next ≡ work))
 
 -- the work is committed, or refused by the book and handed back unless it was stale
@@ -76,7 +76,7 @@ pub record RefusesWork (seat : Seat) (work : Transaction) (reply : Reply) (end :
 
 -- the call is answered so and in the seat, or it is refused
 abbrev pub Changes : Reply → Answer → Seat → Call → Reply → Seat → Type 0
-Changes done answer seat call reply end = ((reply ≡ done) × GainsLogged (Some answer) seat call end) ⊎ Refuses seat call reply end
+Changes done answer seat call reply end = ((reply ≡ done) × GainsLogged (Some answer) seat call end) ⊎ BookRefuses seat call reply end
 
 -- the reply to an undo or a redo
 abbrev pub RepliesTo : Result (Unit {0}) DeskFault → Reply → Reply → Type 0
@@ -85,32 +85,32 @@ RepliesTo (Err (DeskBook fault)) done reply = reply ≡ Fault (Book fault)
 RepliesTo (Err (Differs session place)) done reply = ⊥
 
 -- nothing is called
-abbrev pub Stays : Reply → Seat → Option Transaction → Reply → Seat → Option Transaction → Type 0
-Stays answer seat held reply end next = (reply ≡ answer) × (end ≡ seat) × (next ≡ held)
+abbrev pub CallsNothing : Reply → Seat → Option Transaction → Reply → Seat → Option Transaction → Type 0
+CallsNothing answer seat held reply end next = (reply ≡ answer) × (end ≡ seat) × (next ≡ held)
 
 abbrev pub StepsTo : Desk → Option Transaction → Seat → Step → Reply → Seat → Option Transaction → Type 0
 StepsTo desk None seat Open reply end next =
-    OpensSo desk seat reply end next ⊎ (Refuses seat calls.Open reply end × (next ≡ None))
-StepsTo desk (Some work) seat Open reply end next = Stays (Fault AlreadyOpen) seat (Some work) reply end next
-StepsTo desk None seat (Do command) reply end next = Stays (Fault NotOpen) seat None reply end next
+    OpensSo desk seat reply end next ⊎ (BookRefuses seat calls.Open reply end × (next ≡ None))
+StepsTo desk (Some work) seat Open reply end next = CallsNothing (Fault AlreadyOpen) seat (Some work) reply end next
+StepsTo desk None seat (Do command) reply end next = CallsNothing (Fault NotOpen) seat None reply end next
 StepsTo desk (Some work) seat (Do command) reply end next =
     (end ≡ seat) × (after : Transaction) × RunsCommand work command reply after × (next ≡ Some after)
-StepsTo desk None seat Commit reply end next = Stays (Fault NotOpen) seat None reply end next
+StepsTo desk None seat Commit reply end next = CallsNothing (Fault NotOpen) seat None reply end next
 StepsTo desk (Some work) seat Commit reply end next = CommitsSo seat work reply end next ⊎ RefusesWork seat work reply end next
-StepsTo desk None seat Cancel reply end next = Stays (Fault NotOpen) seat None reply end next
-StepsTo desk (Some work) seat Cancel reply end next = Stays Cancelled seat None reply end next
+StepsTo desk None seat Cancel reply end next = CallsNothing (Fault NotOpen) seat None reply end next
+StepsTo desk (Some work) seat Cancel reply end next = CallsNothing Cancelled seat None reply end next
 StepsTo desk held seat (Undo txn) reply end next = Changes Undone answers.Undone seat (calls.Undo txn) reply end × (next ≡ held)
 StepsTo desk held seat (Redo txn) reply end next = Changes Redone answers.Redone seat (calls.Redo txn) reply end × (next ≡ held)
 
 -- ---- all steps of a session
 
 -- the steps, one after another
-abbrev pub Ran : Desk → Option Transaction → Seat → List Step → List Reply → Seat → Option Transaction → Type 0
-Ran desk held seat [] [] end last = (end ≡ seat) × (last ≡ held)
-Ran desk held seat [] (reply ∷ replies) end last = ⊥
-Ran desk held seat (step ∷ steps) [] end last = ⊥
-Ran desk held seat (step ∷ steps) (reply ∷ replies) end last =
-    (mid : Seat) × (next : Option Transaction) × StepsTo desk held seat step reply mid next × Ran desk next mid steps replies end last
+abbrev pub RanSteps : Desk → Option Transaction → Seat → List Step → List Reply → Seat → Option Transaction → Type 0
+RanSteps desk held seat [] [] end last = (end ≡ seat) × (last ≡ held)
+RanSteps desk held seat [] (reply ∷ replies) end last = ⊥
+RanSteps desk held seat (step ∷ steps) [] end last = ⊥
+RanSteps desk held seat (step ∷ steps) (reply ∷ replies) end last =
+    (mid : Seat) × (next : Option Transaction) × StepsTo desk held seat step reply mid next × RanSteps desk next mid steps replies end last
 
 -- the replies to the steps that are logged are, in order, the answers of the calls that the seat gained
 pub record AreAnswers (seat : Seat) (replies : List Reply) (end : Seat) : Type 0 where
@@ -122,7 +122,7 @@ pub record AreAnswers (seat : Seat) (replies : List Reply) (end : Seat) : Type 0
 -- with nothing open at the start
 pub record RunsSo (desk : Desk) (seat : Seat) (steps : List Step) (replies : List Reply) (end : Seat) : Type 0 where
   pub last : Option Transaction
-  pub ran : Ran desk None seat steps replies end last
+  pub ran : RanSteps desk None seat steps replies end last
   pub answers : AreAnswers seat replies end
 
 -- ---- all sessions
@@ -135,7 +135,7 @@ AllRan desk session (seat ∷ seats) (steps ∷ scripts) (replies ∷ more) (end
 AllRan desk session seats scripts replies ends = ⊥
 
 -- the sessions ran from seats that were given, each from that of its own number, and the desk is closed with those that they led to
-pub record IsRun (desk : Desk) (given : List Seat) (scripts : List (List Step)) (replies : List (List Reply)) (book : History)
+pub record IsDeskRun (desk : Desk) (given : List Seat) (scripts : List (List Step)) (replies : List (List Reply)) (book : History)
     : Type 0 where
   pub seats : List Seat
   pub ends : List Seat

@@ -2,7 +2,7 @@
 ghost use Rattle.std.specs.Prelude.{◌≡◌, ◌≢◌, ◌<◌, IfErr, IfOk, vec_capacity, vec_len};
 ghost use Rattle.desk_rules.specs.Legal.{answer_of, opened_answer, refusal};
 ghost use Rattle.desk_rules.specs.Seats.{GainsLogged, with_kept};
-ghost use Rattle.locked_desk.specs.Desks.{IsNamed, IsOther, Opens, by_book, commit_answer, commit_by_book, desk_answer};
+ghost use Rattle.locked_desk.specs.Desks.{IsOther, NamesSeat, Opens, by_book, commit_answer, commit_by_book, desk_answer};
 ghost use Rattle.locked_desk.specs.Desks.{desk_commit_answer, desk_refused};
 
 use crate::desk::Desk;
@@ -77,7 +77,7 @@ impl<L: Ledger> Desk<L> {
         ensures gains { GainsLogged (desk_commit_answer result) seat.old (Call.Commit work.id work.commands) seat.new }
         ensures txn { IfOk result (λ txn. txn ≡ work.id) }
         ensures back { IfErr result (λ refusal. refusal ≡ desk_refused refusal.fault work) }
-        ensures named { IfErr result (λ refusal. IsNamed refusal.fault seat.old) }
+        ensures named { IfErr result (λ refusal. NamesSeat refusal.fault seat.old) }
         ensures foreign { work.id.session ≢ seat.old.session → IsOther result }
     {
         let Seat {
@@ -118,7 +118,7 @@ impl<L: Ledger> Desk<L> {
         txn: TxnId,
     ) -> Result<(), DeskFault>
         ensures gains { GainsLogged (desk_answer Answer.Undone result) seat.old (Call.Undo txn) seat.new }
-        ensures named { IfErr result (λ fault. IsNamed fault seat.old) }
+        ensures named { IfErr result (λ fault. NamesSeat fault seat.old) }
     {
         let Seat {
             session,
@@ -151,7 +151,7 @@ impl<L: Ledger> Desk<L> {
         txn: TxnId,
     ) -> Result<(), DeskFault>
         ensures gains { GainsLogged (desk_answer Answer.Redone result) seat.old (Call.Redo txn) seat.new }
-        ensures named { IfErr result (λ fault. IsNamed fault seat.old) }
+        ensures named { IfErr result (λ fault. NamesSeat fault seat.old) }
     {
         let Seat {
             session,

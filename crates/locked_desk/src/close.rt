@@ -1,6 +1,6 @@
 //! Closing a desk with its seats.
 ghost use Rattle.std.specs.Prelude.{◌≡◌, ◌+◌, ◌-◌, ◌<◌, ◌≤◌, IfErr, IfOk, IsNone, IfSome, false, length};
-ghost use Rattle.desk_rules.specs.Close.{AreRising, HasAll, IsClosed, has_seat, missing_call, own_total};
+ghost use Rattle.desk_rules.specs.Close.{AreSeatsRising, HasAll, IsClosed, has_seat, missing_call, own_total};
 ghost use Rattle.locked_desk.specs.Closing.{IsOtherBase, IsRefusedClose};
 
 use crate::desk::{Desk, is_same};
@@ -165,7 +165,7 @@ fn audited<L: Ledger>(seats: Vec<Seat<L>>, calls: &mut ledger::Book<L>) -> Vec<S
     ensures seats { result.items ≡ seats.items }
     ensures few { length seats.items ≤ L.parts }
     ensures whole { length seats.items ≡ L.parts → own_total seats.items ≡ calls.old.total }
-    ensures rising { AreRising seats.items }
+    ensures rising { AreSeatsRising seats.items }
 {
     let mut seats = seats;
     audit_all(seats.as_mut_slice(), calls);
@@ -178,7 +178,7 @@ fn audit_all<L: Ledger>(seats: &mut [Seat<L>], calls: &mut ledger::Book<L>)
     requires some { 0 < length seats.old }
     ensures few { length seats.old ≤ L.parts }
     ensures whole { length seats.old ≡ L.parts → own_total seats.old ≡ calls.old.total }
-    ensures rising { AreRising seats.old }
+    ensures rising { AreSeatsRising seats.old }
     ensures seats { seats.new ≡ seats.old }
 {
     let Some((seat, rest)) = seats.split_first_mut() else {
@@ -198,7 +198,7 @@ fn audit<L: Ledger>(seats: &mut [Seat<L>], seen: &mut Share<L>, calls: &mut ledg
     requires { seen.old.parts ≤ L.parts }
     ensures few { seen.old.parts + length seats.old ≤ L.parts }
     ensures whole { seen.old.parts + length seats.old ≡ L.parts → seen.old.amount + own_total seats.old ≡ calls.old.total }
-    ensures rising { AreRising seats.old }
+    ensures rising { AreSeatsRising seats.old }
     ensures seats { seats.new ≡ seats.old }
     ensures parts { seen.new.parts ≡ seen.old.parts }
     ensures amount { seen.new.amount ≡ seen.old.amount }

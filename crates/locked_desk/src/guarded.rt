@@ -4,10 +4,10 @@ ghost use Rattle.std.specs.Prelude.{vec_len};
 ghost use Rattle.undo_rules.specs.Steps.{fresh};
 ghost use Rattle.undo_book.specs.Calls.{refused};
 ghost use Rattle.desk_rules.specs.Close.{missing_place};
-ghost use Rattle.desk_rules.specs.Guards.{counted, has_last, ones};
+ghost use Rattle.desk_rules.specs.Guards.{has_last, ones, with_one_counted};
 ghost use Rattle.desk_rules.specs.Legal.{IsLegal, answer_of, opened_answer};
-ghost use Rattle.desk_rules.specs.Seats.{IsRising, MadeLogged, added, own_calls};
-ghost use Rattle.locked_desk.specs.Desks.{IsLooked, IsLookedThrough, commit_answer, differs, full_or_foreign, other_fault};
+ghost use Rattle.desk_rules.specs.Seats.{AreCallsRising, MadeLogged, calls_added, own_calls};
+ghost use Rattle.locked_desk.specs.Desks.{IsLooked, IsLookedThrough, commit_answer, differs_refusal, full_or_foreign, other_fault};
 
 use crate::fault::DeskFault;
 use desk_rules::{Kept, is_last_in, missing_place};
@@ -75,7 +75,7 @@ impl<L: Ledger> Guarded<L> {
         ensures work { IfOk result (λ r. IfOk r.0 (λ w. (w.id.session ≡ session) × (w.opened ≡ r.1)
             × (w.snapshot ≡ self.new.book.layout) × (w.commands ≡ []))) }
         ensures base { IfOk result (λ r. (r.2 ≡ self.new.book.base) × (r.3 ≡ self.new.sessions)) }
-        ensures amount { IfOk result (λ r. share.new.amount ≡ share.old.amount + added (opened_answer r.0)) }
+        ensures amount { IfOk result (λ r. share.new.amount ≡ share.old.amount + calls_added (opened_answer r.0)) }
         ensures refused { IfErr result (λ fault. IsLooked fault session own.now × (share.new.amount ≡ share.old.amount)) }
         ensures parts { share.new.parts ≡ 1 }
     {
@@ -112,8 +112,8 @@ impl<L: Ledger> Guarded<L> {
         requires { share.old.parts ≡ 1 }
         ensures made { IfOk result (λ r. MadeLogged (answer_of Answer.Undone r.0) self.new.book.base self.new.sessions self.new.book
             session own.now (Call.Undo txn) r.1) }
-        ensures amount { IfOk result (λ r. share.new.amount ≡ share.old.amount + added (answer_of Answer.Undone r.0)) }
-        ensures refused { IfErr result (λ fault. (fault ≡ differs session own.now) × (share.new.amount ≡ share.old.amount)) }
+        ensures amount { IfOk result (λ r. share.new.amount ≡ share.old.amount + calls_added (answer_of Answer.Undone r.0)) }
+        ensures refused { IfErr result (λ fault. (fault ≡ differs_refusal session own.now) × (share.new.amount ≡ share.old.amount)) }
         ensures parts { share.new.parts ≡ 1 }
     {
         if !self.has_last(session, own) {
@@ -148,8 +148,8 @@ impl<L: Ledger> Guarded<L> {
         requires { share.old.parts ≡ 1 }
         ensures made { IfOk result (λ r. MadeLogged (answer_of Answer.Redone r.0) self.new.book.base self.new.sessions self.new.book
             session own.now (Call.Redo txn) r.1) }
-        ensures amount { IfOk result (λ r. share.new.amount ≡ share.old.amount + added (answer_of Answer.Redone r.0)) }
-        ensures refused { IfErr result (λ fault. (fault ≡ differs session own.now) × (share.new.amount ≡ share.old.amount)) }
+        ensures amount { IfOk result (λ r. share.new.amount ≡ share.old.amount + calls_added (answer_of Answer.Redone r.0)) }
+        ensures refused { IfErr result (λ fault. (fault ≡ differs_refusal session own.now) × (share.new.amount ≡ share.old.amount)) }
         ensures parts { share.new.parts ≡ 1 }
     {
         if !self.has_last(session, own) {
@@ -187,7 +187,7 @@ impl<L: Ledger> Guarded<L> {
         ensures txn { IfOk result (λ r. IfOk r.0 (λ txn. txn ≡ work.id)) }
         ensures back { IfOk result (λ r. IfErr r.0 (λ refusal. refusal ≡ refused refusal.fault work)) }
         ensures foreign { IfOk result (λ r. work.id.session ≢ session → r.0 ≡ Err (refused (other_fault self.old.book) work)) }
-        ensures amount { IfOk result (λ r. share.new.amount ≡ share.old.amount + added (commit_answer r.0)) }
+        ensures amount { IfOk result (λ r. share.new.amount ≡ share.old.amount + calls_added (commit_answer r.0)) }
         ensures none { IfErr result (λ back. (back ≡ work) × (share.new.amount ≡ share.old.amount)) }
         ensures parts { share.new.parts ≡ 1 }
     {
@@ -220,7 +220,7 @@ impl<L: Ledger> Guarded<L> {
             session own.now (Call.Commit work.id work.commands) result.1 }
         ensures txn { IfOk result.0 (λ txn. txn ≡ work.id) }
         ensures back { IfErr result.0 (λ refusal. refusal ≡ refused refusal.fault work) }
-        ensures amount { share.new.amount ≡ share.old.amount + added (commit_answer result.0) }
+        ensures amount { share.new.amount ≡ share.old.amount + calls_added (commit_answer result.0) }
         ensures parts { share.new.parts ≡ 1 }
     {
         let _calls = own.len();
@@ -250,7 +250,7 @@ impl<L: Ledger> Guarded<L> {
         session: u8,
         own: &[Kept],
     ) -> Result<(Snapshot, Snapshot, u8), DeskFault>
-        requires { IsRising session 0 own.now }
+        requires { AreCallsRising session 0 own.now }
         ensures value { IfOk result (λ r. (r.0 ≡ self.now.book.layout) × (r.1 ≡ self.now.book.base) × (r.2 ≡ self.now.sessions)) }
         ensures own { IfOk result (λ r. own_calls session self.now.book.log ≡ own.now) }
         ensures range { IfOk result (λ r. (1 ≤ session) × (session ≤ self.now.sessions)) }
@@ -271,7 +271,7 @@ impl<L: Ledger> Guarded<L> {
         session: u8,
         own: &[Kept],
     ) -> Result<(Snapshot, Snapshot, u8), DeskFault>
-        requires rising { IsRising session 0 own.now }
+        requires rising { AreCallsRising session 0 own.now }
         requires there { missing_place self.now.book.log own.now ≡ None }
         ensures value { IfOk result (λ r. (r.0 ≡ self.now.book.layout) × (r.1 ≡ self.now.book.base) × (r.2 ≡ self.now.sessions)) }
         ensures own { IfOk result (λ r. own_calls session self.now.book.log ≡ own.now) }
@@ -291,7 +291,7 @@ impl<L: Ledger> Guarded<L> {
 
 /// Returns the refusal that names the session and its last place.
 pub(crate) fn differs(session: u8, own: &[Kept]) -> DeskFault
-    ensures { result ≡ differs session own.now }
+    ensures { result ≡ differs_refusal session own.now }
 {
     let place = match own.last() {
         Some(kept) => kept.place,
@@ -327,7 +327,7 @@ fn count_call<L: Ledger>(
     requires high { session ≤ vec_len counts.old }
     requires room { slice_index counts.old.items (session - 1) < 2 ^ 63 }
     requires part { share.old.parts ≡ 1 }
-    ensures counts { counts.new.items ≡ counted more counts.old.items (session - 1) }
+    ensures counts { counts.new.items ≡ with_one_counted more counts.old.items (session - 1) }
     ensures total { calls.new.total ≡ calls.old.total + ones more }
     ensures amount { share.new.amount ≡ share.old.amount + ones more }
     ensures parts { share.new.parts ≡ 1 }

@@ -17,7 +17,7 @@ pub struct Seat<L: Ledger> {
 
 impl<L: Ledger> Model for Seat<L> {
     ghost use Rattle.std.specs.Prelude.{◌≡◌, ◌≤◌, length};
-    ghost use Rattle.desk_rules.specs.Seats.{IsRising, Seat, coded_seat};
+    ghost use Rattle.desk_rules.specs.Seats.{AreCallsRising, Seat, coded_seat};
 
     ghost Value = { Seat };
 
@@ -25,7 +25,7 @@ impl<L: Ledger> Model for Seat<L> {
 
     ghost view = { λ s. record { session = s.session; own = s.own.items } };
 
-    ghost invariant = { λ s. (1 ≤ s.session) × IsRising s.session 0 s.own.items × (s.share.parts ≡ 1)
+    ghost invariant = { λ s. (1 ≤ s.session) × AreCallsRising s.session 0 s.own.items × (s.share.parts ≡ 1)
         × (s.share.amount ≡ length s.own.items) };
 }
 

@@ -1,8 +1,8 @@
 //! Sessions in threads, from their seats to the closed desk.
 ghost use Rattle.std.specs.Prelude.{◌≡◌, ℕ, ◌<◌, ◌≤◌, IfOk, IfSome, length, slice_index_or, vec_len};
 ghost use Rattle.std.specs.List.{Contains};
-ghost use Rattle.locked_desk.specs.Jobs.{AreAmong, AreEnds, AreJobs};
-ghost use Rattle.locked_desk.specs.Runs.{IsRun, RunsSo};
+ghost use Rattle.locked_desk.specs.Jobs.{AllSucceeded, AreAmong, AreJobs};
+ghost use Rattle.locked_desk.specs.Runs.{IsDeskRun, RunsSo};
 
 use crate::close::{CloseRefusal, Closed};
 use crate::desk::Desk;
@@ -45,7 +45,7 @@ where
     G: SessionGate + Sync,
     B: Bands + Sync,
     requires { length scripts ≡ desk.sessions }
-    ensures { IfOk result (λ run. IsRun desk seats.items scripts run.replies run.closed.book) }
+    ensures { IfOk result (λ run. IsDeskRun desk seats.items scripts run.replies run.closed.book) }
 {
     let jobs = jobs_of(alloc, seats, scripts)?;
     let outcomes = run_jobs(rt, alloc, &desk, jobs, gate, bands)?;
@@ -133,7 +133,7 @@ fn ended<L: Ledger>(
     alloc: Global,
     outcomes: Vec<Result<Outcome<L>, RunFault>>,
 ) -> Result<(Vec<Seat<L>>, Sequence<Sequence<Reply>>), RunFault>
-    ensures { IfOk result (λ r. AreEnds outcomes.items r.0.items r.1) }
+    ensures { IfOk result (λ r. AllSucceeded outcomes.items r.0.items r.1) }
 {
     let mut seats = Vec::with_capacity(alloc, outcomes.len())?;
     let mut replies = Vec::with_capacity(alloc, outcomes.len())?;

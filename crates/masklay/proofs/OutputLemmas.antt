@@ -20,15 +20,15 @@ use Rattle.masklay.specs.Asked.{Asked}
 use Rattle.masklay.specs.Named.{cif_in, names_for, names_in}
 use Rattle.masklay.specs.Oriented.{AnswersGiven, IsGiven}
 use Rattle.masklay.specs.Threads.{BecomesOf, IsThreadedOutcome, IsThreadedOutcomeOf}
-use Rattle.masklay.specs.Output.{Ends, IsOutput, Output, Writes, WritesOrMemory, in_turns, output_from, written_output}
-use Rattle.masklay.specs.Reading.{kept_of}
+use Rattle.masklay.specs.Output.{EndsAsAsked, IsOutput, Output, WritesOrMemory, WritesOutput, in_turns, output_from, written_output}
+use Rattle.masklay.specs.Reading.{input_kept}
 
 too_long_job : (bytes : List ℕ) → 16777216 < length bytes → job_of bytes ≡ Err (Line 0)
 unfolding job_of
 too_long_job bytes long = grind (arith, nat_tests)
 
-kept_job : (bytes : List ℕ) → job_of (kept_of bytes) ≡ job_of bytes
-unfolding kept_of
+kept_job : (bytes : List ℕ) → job_of (input_kept bytes) ≡ job_of bytes
+unfolding input_kept
 kept_job bytes =
     elim (cases_lt 16777217 (length bytes)) [
       | inr short ↦ ap job_of (take_all 16777217 bytes short)
@@ -38,24 +38,25 @@ kept_job bytes =
     ]
 
 -- one byte more than a job may have is enough to tell what becomes of it
-kept_outcome : (threaded : Bool) (bytes : List ℕ) (outcome : Result Finished Stop) → BecomesOf threaded (kept_of bytes) outcome
+kept_outcome : (threaded : Bool) (bytes : List ℕ) (outcome : Result Finished Stop) → BecomesOf threaded (input_kept bytes) outcome
     → BecomesOf threaded bytes outcome
 unfolding IsOutcome IsThreadedOutcome
 kept_outcome false bytes outcome is = subst (λ (job : Result Job JobFault). IsOutcomeOf job outcome) (kept_job bytes) is
 kept_outcome true bytes outcome is = subst (λ (job : Result Job JobFault). IsThreadedOutcomeOf job outcome) (kept_job bytes) is
 
-kept_given : (threaded oriented : Bool) (bytes : List ℕ) (given : Result Finished Stop) → IsGiven threaded oriented (kept_of bytes) given
+kept_given : (threaded oriented : Bool) (bytes : List ℕ) (given : Result Finished Stop) → IsGiven threaded oriented (input_kept bytes) given
     → IsGiven threaded oriented bytes given
 kept_given threaded false bytes given is = kept_outcome threaded bytes given is
 kept_given threaded true bytes given (outcome, is, directed) = (outcome, kept_outcome threaded bytes outcome is, directed)
 
 -- the same names and labels
-kept_names : (named : Bool) (bytes : List ℕ) → names_in named (kept_of bytes) ≡ names_in named bytes
+kept_names : (named : Bool) (bytes : List ℕ) → names_in named (input_kept bytes) ≡ names_in named bytes
 kept_names false bytes = refl
 kept_names true bytes = ap (λ (job : Result Job JobFault). Some (names_of (cif_in job))) (kept_job bytes)
 
 -- and its output
-pub kept_output : (asked : Asked) (bytes : List ℕ) (output : Output) → IsOutput asked (kept_of bytes) output → IsOutput asked bytes output
+pub kept_output : (asked : Asked) (bytes : List ℕ) (output : Output) → IsOutput asked (input_kept bytes) output
+    → IsOutput asked bytes output
 kept_output asked bytes output (outcome, is, same) = (
   outcome,
   kept_given asked.threaded asked.oriented bytes outcome is,
@@ -64,8 +65,8 @@ kept_output asked bytes output (outcome, is, same) = (
 
 -- what was kept of the input has the input's output
 pub kept_ends : {S : Type 0} (written : S → Option (List ℕ)) (failures : S → ℕ) (old new : S) (asked : Asked)
-    (bytes : List ℕ) (status : Status) → Ends written failures old new asked (kept_of bytes) status
-    → Ends written failures old new asked bytes status
+    (bytes : List ℕ) (status : Status) → EndsAsAsked written failures old new asked (input_kept bytes) status
+    → EndsAsAsked written failures old new asked bytes status
 kept_ends written failures old new asked bytes status (inl (output, is, wrote)) =
     inl (output, kept_output asked bytes output is, wrote)
 kept_ends written failures old new asked bytes status (inr refused) = inr refused
@@ -91,12 +92,12 @@ one_output named bytes a b (outcome, is, given) (other, same, put) =
 pub ends_by : {S : Type 0} (written : S → Option (List ℕ)) (failures : S → ℕ) (old new : S) (asked : Asked)
     (bytes : List ℕ) (outcome : Result Finished Stop) (status : Status) → AnswersGiven asked.threaded asked.oriented bytes outcome
     → WritesOrMemory written failures old new (output_from (names_in asked.named bytes) outcome) status
-    → Ends written failures old new asked bytes status
+    → EndsAsAsked written failures old new asked bytes status
 ends_by written failures old new asked bytes outcome status (inr is) (inl wrote) =
     inl (output_from (names_in asked.named bytes) outcome, (outcome, is, refl), wrote)
 ends_by written failures old new asked bytes outcome status is (inr refused) = inr refused
 ends_by written failures old new asked bytes outcome status (inl none) (inl wrote) =
-    inr (subst (λ (o : Result Finished Stop). Writes written failures old new (output_from (names_in asked.named bytes) o) status)
+    inr (subst (λ (o : Result Finished Stop). WritesOutput written failures old new (output_from (names_in asked.named bytes) o) status)
     none wrote)
 
 -- where the names and labels are the job's, as far as the layout has symbols for them
@@ -105,7 +106,7 @@ pub ends_named : {S : Type 0} (written : S → Option (List ℕ)) (failures : S 
     → names ≡ names_for (names_in asked.named bytes) finished.layout
     → AnswersGiven asked.threaded asked.oriented bytes (Ok finished)
     → WritesOrMemory written failures old new (written_output names finished) status
-    → Ends written failures old new asked bytes status
+    → EndsAsAsked written failures old new asked bytes status
 ends_named written failures old new asked bytes names finished status same is wrote =
     ends_by written failures old new asked bytes (Ok finished) status is
     (subst (λ (n : Option Names). WritesOrMemory written failures old new (written_output n finished) status) same wrote)

@@ -2,7 +2,7 @@
 use Rattle.std.proofs.Common.{◌≡◌, ℕ, zero, suc, ◌+◌, ◌-◌, ◌≤◌, List, [], ◌∷◌, ◌++◌, length, min, take, arith, sym, ap, ◌∙◌, refl}
 use Rattle.std.proofs.lemmas.List.{take_min}
 use Rattle.std.proofs.Math.Seq.{take-append-add}
-use Rattle.masklay.specs.Reading.{kept_of}
+use Rattle.masklay.specs.Reading.{input_kept}
 
 -- the front of a front is the front
 front_again : (n : ℕ) (xs ys : List ℕ) → take n (take n xs ++ ys) ≡ take n (xs ++ ys)
@@ -19,14 +19,15 @@ room_taken limit kept piece fits =
     ∙ ap (λ n. take n (kept ++ piece)) (sym room)
 
 pub room_kept : (kept piece : List ℕ) → length kept ≤ 16777217 →
-    kept ++ take (min (16777217 - length kept) (length piece)) piece ≡ kept_of (kept ++ piece)
-unfolding kept_of
+    kept ++ take (min (16777217 - length kept) (length piece)) piece ≡ input_kept (kept ++ piece)
+unfolding input_kept
 room_kept kept piece fits = room_taken 16777217 kept piece fits
 
-pub kept_more : (done kept piece new : List ℕ) → kept ≡ kept_of done → new ≡ kept_of (kept ++ piece) → new ≡ kept_of (done ++ piece)
-unfolding kept_of
+pub kept_more : (done kept piece new : List ℕ) → kept ≡ input_kept done → new ≡ input_kept (kept ++ piece)
+    → new ≡ input_kept (done ++ piece)
+unfolding input_kept
 kept_more done kept piece new so_far is = is ∙ ap (λ l. take 16777217 (l ++ piece)) so_far ∙ front_again 16777217 done piece
 
-pub kept_none : [] ≡ kept_of []
-unfolding kept_of
+pub kept_none : [] ≡ input_kept []
+unfolding input_kept
 kept_none = refl

@@ -10,7 +10,7 @@ use Rattle.masklay.specs.declared.program.status.Status.{Status}
 use Rattle.masklay.specs.declared.program.status.Status.TheVariants.{CommandLine, Done}
 use Rattle.masklay.specs.Asked.{Asked, asked_of}
 use Rattle.masklay.specs.Live.{IsLive}
-use Rattle.masklay.specs.Output.{Writes, memory_output}
+use Rattle.masklay.specs.Output.{WritesOutput, memory_output}
 use Rattle.masklay.specs.Run.{IsRun}
 
 -- whether the word is this option
@@ -39,9 +39,9 @@ abbrev pub nothing_asked : Asked
 nothing_asked = record { threaded = false; oriented = false; named = false }
 
 -- what is to be run for these words
-abbrev pub Says : Wish → List (String Global) → Type 0
-Says (Job options) words = (asks_to_live words ≡ false) × (asked_of options ≡ asked_in words)
-Says (Live workers) words = asks_to_live words ≡ true
+abbrev pub IsWishOf : Wish → List (String Global) → Type 0
+IsWishOf (Job options) words = (asks_to_live words ≡ false) × (asked_of options ≡ asked_in words)
+IsWishOf (Live workers) words = asks_to_live words ≡ true
 
 -- from the old devices to the new: the run of a job that was asked so, or a live run
 abbrev pub Runs : {I O : Type 0} → Bool → Asked → (I → Option (List ℕ)) → (I → Counts) → (O → Option (List ℕ)) → (O → ℕ)
@@ -55,6 +55,6 @@ Runs true asked remaining counts written failures input input' out out' status =
 -- memory was refused and the output has the line that says so; and the other device is as it was.
 abbrev pub EndsEarly : {O E : Type 0} → (O → Option (List ℕ)) → (O → ℕ) → (E → Option (List ℕ)) → (E → ℕ) → O → O → E → E → Status → Type 0
 EndsEarly written failures told failed out out' errors errors' status =
-    ((text : List ℕ) × Writes written failures out out' (record { text = text; status = Done }) status × (errors' ≡ errors))
-    ⊎ (((text : List ℕ) × Writes told failed errors errors' (record { text = text; status = CommandLine }) status × (out' ≡ out))
-    ⊎ (Writes written failures out out' memory_output status × (errors' ≡ errors)))
+    ((text : List ℕ) × WritesOutput written failures out out' (record { text = text; status = Done }) status × (errors' ≡ errors))
+    ⊎ (((text : List ℕ) × WritesOutput told failed errors errors' (record { text = text; status = CommandLine }) status × (out' ≡ out))
+    ⊎ (WritesOutput written failures out out' memory_output status × (errors' ≡ errors)))

@@ -1,7 +1,7 @@
 -- The output of the program: a text and a status.
 use Rattle.std.specs.Prelude.{◌≡◌, ℕ, Bool, false, List, ◌++◌, codes, decimal, Option, Result, Ok, Err, ◌⊎◌}
 use Rattle.cif_read.specs.declared.fault.CifFault.{CifFault}
-use Rattle.cif_read.specs.Faults.{name_of, number_of}
+use Rattle.cif_read.specs.Faults.{fault_name, fault_number}
 use Rattle.byte_io.specs.Device.{WroteAll, WrotePrefix}
 use Rattle.cif_write.specs.Text.{text}
 use Rattle.masklay.specs.declared.program.outcome.Finished.{Finished}
@@ -38,7 +38,7 @@ job_fault_text line = codes "job fault at line " ++ decimal line ++ codes "\n"
 -- the line of a CIF text's fault
 unfoldable pub cif_fault_text : CifFault → List ℕ
 cif_fault_text fault =
-    codes "cif fault " ++ decimal (number_of fault.kind) ++ codes " " ++ name_of fault.kind ++ codes " at " ++ decimal fault.offset ++
+    codes "cif fault " ++ decimal (fault_number fault.kind) ++ codes " " ++ fault_name fault.kind ++ codes " at " ++ decimal fault.offset ++
     codes "\n"
 
 -- the line of a desk's fault
@@ -89,19 +89,19 @@ HasOneOutput =
 
 -- From the old device to the new: all of the output was written and nothing else, and the program ended with its status;
 -- or the device failed, and a prefix was written.
-abbrev pub Writes : {S : Type 0} → (S → Option (List ℕ)) → (S → ℕ) → S → S → Output → Status → Type 0
-Writes written failures old new output status =
+abbrev pub WritesOutput : {S : Type 0} → (S → Option (List ℕ)) → (S → ℕ) → S → S → Output → Status → Type 0
+WritesOutput written failures old new output status =
     ((status ≡ output.status) × WroteAll written failures old new output.text)
     ⊎ ((status ≡ Device) × WrotePrefix written failures old new output.text)
 
 -- the same; or a growth of memory was refused, and the line that says so was written
 abbrev pub WritesOrMemory : {S : Type 0} → (S → Option (List ℕ)) → (S → ℕ) → S → S → Output → Status → Type 0
 WritesOrMemory written failures old new output status =
-    Writes written failures old new output status ⊎ Writes written failures old new memory_output status
+    WritesOutput written failures old new output status ⊎ WritesOutput written failures old new memory_output status
 
 -- From the old device to the new: the output of these bytes was written so; or a growth of memory was refused, and the line
 -- that says so was.
-abbrev pub Ends : {S : Type 0} → (S → Option (List ℕ)) → (S → ℕ) → S → S → Asked → List ℕ → Status → Type 0
-Ends written failures old new asked bytes status =
-    ((output : Output) × IsOutput asked bytes output × Writes written failures old new output status)
-    ⊎ Writes written failures old new memory_output status
+abbrev pub EndsAsAsked : {S : Type 0} → (S → Option (List ℕ)) → (S → ℕ) → S → S → Asked → List ℕ → Status → Type 0
+EndsAsAsked written failures old new asked bytes status =
+    ((output : Output) × IsOutput asked bytes output × WritesOutput written failures old new output status)
+    ⊎ WritesOutput written failures old new memory_output status

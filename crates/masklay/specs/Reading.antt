@@ -5,8 +5,8 @@ use Rattle.masklay.specs.declared.program.reading.ReadFault.{ReadFault}
 use Rattle.masklay.specs.declared.program.reading.ReadFault.TheVariants.{Device, NoMemory}
 
 -- what is kept of the input: one byte more than a job may have
-unfoldable pub kept_of : List ℕ → List ℕ
-kept_of bytes = take 16777217 bytes
+unfoldable pub input_kept : List ℕ → List ℕ
+input_kept bytes = take 16777217 bytes
 
 -- the device gave bytes as often as it may be read, and didn't end the input
 abbrev pub IsEndless : Counts → Counts → Type 0

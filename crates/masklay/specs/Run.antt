@@ -5,7 +5,7 @@ use Rattle.live_run.specs.declared.run.TheConstants.{MAX_READS}
 use Rattle.masklay.specs.declared.program.status.Status.{Status}
 use Rattle.masklay.specs.declared.program.status.Status.TheVariants.{Device}
 use Rattle.masklay.specs.Asked.{Asked}
-use Rattle.masklay.specs.Output.{Ends, Writes, memory_output}
+use Rattle.masklay.specs.Output.{EndsAsAsked, WritesOutput, memory_output}
 use Rattle.masklay.specs.Reading.{IsEndless}
 
 -- from the old input and output device to the new, where the program was asked so and ended with this status
@@ -14,10 +14,11 @@ pub record IsRun {I O : Type 0} (asked : Asked) (remaining : I → Option (List 
     (input input' : I) (out out' : O) (status : Status) : Type 0 where
   -- where the input's bytes were read to their end, their output is written
   pub answered : (bytes : List ℕ) → remaining input ≡ Some bytes → (counts input).ends < (counts input').ends →
-      Ends written failures out out' asked bytes status
+      EndsAsAsked written failures out out' asked bytes status
   -- they are read to their end, but where the device fails or is endless, and where memory is refused
   pub unended : (counts input').ends ≡ (counts input).ends → (counts input').failures ≡ (counts input).failures →
-      (IsEndless (counts input) (counts input') × (status ≡ Device) × (out' ≡ out)) ⊎ Writes written failures out out' memory_output status
+      (IsEndless (counts input) (counts input') × (status ≡ Device) × (out' ≡ out))
+          ⊎ WritesOutput written failures out out' memory_output status
   -- where the input's device fails nothing is written
   pub failed : (counts input').failures ≢ (counts input).failures → (status ≡ Device) × (out' ≡ out)
   -- the input is read so often at most

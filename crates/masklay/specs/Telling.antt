@@ -15,10 +15,10 @@ may_tell Memory = false
 may_tell Desk = false
 
 -- From the old device to the new: the text was written, or the device failed, and a prefix was.
-abbrev pub IsTold : {E : Type 0} → (E → Option (List ℕ)) → (E → ℕ) → E → E → List ℕ → Type 0
-IsTold told failed errors errors' text = WroteAll told failed errors errors' text ⊎ WrotePrefix told failed errors errors' text
+abbrev pub IsReported : {E : Type 0} → (E → Option (List ℕ)) → (E → ℕ) → E → E → List ℕ → Type 0
+IsReported told failed errors errors' text = WroteAll told failed errors errors' text ⊎ WrotePrefix told failed errors errors' text
 
 -- From the old device to the new: nothing was told; or a text was, and the run ended so that there may be something to tell.
-abbrev pub Tells : {E : Type 0} → (E → Option (List ℕ)) → (E → ℕ) → E → E → Status → Type 0
-Tells told failed errors errors' status =
-    (errors' ≡ errors) ⊎ ((may_tell status ≡ true) × ((text : List ℕ) × IsTold told failed errors errors' text))
+abbrev pub MayReport : {E : Type 0} → (E → Option (List ℕ)) → (E → ℕ) → E → E → Status → Type 0
+MayReport told failed errors errors' status =
+    (errors' ≡ errors) ⊎ ((may_tell status ≡ true) × ((text : List ℕ) × IsReported told failed errors errors' text))

@@ -2,9 +2,9 @@
 ghost use Rattle.std.specs.Prelude.{◌≡◌, ◌≤◌, ◌<◌, ◌⊎◌, IfErr, IfOk, vec_len};
 ghost use Rattle.std.specs.List.{list_any};
 ghost use Rattle.masklay.specs.declared.command_line.OptionsFault.TheVariants.{Clap};
-ghost use Rattle.masklay.specs.Launch.{EndsEarly, Runs, Says, asked_in, asks, asks_to_live, is_option, nothing_asked};
+ghost use Rattle.masklay.specs.Launch.{EndsEarly, IsWishOf, Runs, asked_in, asks, asks_to_live, is_option, nothing_asked};
 ghost use Rattle.masklay.specs.Run.{IsRun};
-ghost use Rattle.masklay.specs.Telling.{Tells};
+ghost use Rattle.masklay.specs.Telling.{MayReport};
 
 use crate::program::{MAX_WORKERS, Options, Status, live, put, put_memory, run};
 use byte_io::{In, Out};
@@ -59,11 +59,11 @@ pub fn launch<I: In, O: Out, E: Out>(
     ensures plain { IfOk words (λ words. vec_len words ≤ 1
         → IsRun nothing_asked I.remaining I.counts O.written O.failures
         input.old input.new out.old out.new result
-        × Tells E.written E.failures errors.old errors.new result) }
+        × MayReport E.written E.failures errors.old errors.new result) }
     ensures options { IfOk words (λ words. 1 < vec_len words
         → (Runs (asks_to_live words.items) (asked_in words.items)
         I.remaining I.counts O.written O.failures input.old input.new out.old out.new result
-        × Tells E.written E.failures errors.old errors.new result)
+        × MayReport E.written E.failures errors.old errors.new result)
         ⊎ (EndsEarly O.written O.failures E.written E.failures
         out.old out.new errors.old errors.new result × (input.new ≡ input.old))) }
     ensures wordless { IfErr words (λ _. EndsEarly O.written O.failures E.written E.failures
@@ -119,7 +119,7 @@ impl From<Error> for OptionsFault {
 
 /// Returns what the words ask for.
 fn wish_of(alloc: Global, words: &[String]) -> Result<Wish, OptionsFault>
-    ensures { IfOk result (λ wish. Says wish words.now) }
+    ensures { IfOk result (λ wish. IsWishOf wish words.now) }
 {
     let workers = workers_of(alloc, words)?;
     let options = Options {

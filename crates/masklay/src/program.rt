@@ -1,9 +1,9 @@
 //! The program as a function of its input: reads the job, runs its steps and writes the answers.
 ghost use Rattle.std.specs.Prelude.{◌≡◌};
 ghost use Rattle.masklay.specs.Asked.{asked_of};
-ghost use Rattle.masklay.specs.Output.{Ends, HasOneOutput, Writes, memory_output};
+ghost use Rattle.masklay.specs.Output.{EndsAsAsked, HasOneOutput, WritesOutput, memory_output};
 ghost use Rattle.masklay.specs.Run.{IsRun};
-ghost use Rattle.masklay.specs.Telling.{Tells};
+ghost use Rattle.masklay.specs.Telling.{MayReport};
 
 mod empty_top;
 mod live;
@@ -49,7 +49,7 @@ pub fn run<I: In, O: Out, E: Out>(
 ) -> Status
     ensures run { IsRun (asked_of options) I.remaining I.counts O.written O.failures
         input.old input.new out.old out.new result }
-    ensures told { Tells E.written E.failures errors.old errors.new result }
+    ensures told { MayReport E.written E.failures errors.old errors.new result }
     ensures one { HasOneOutput }
 {
     match read_all(alloc, input) {
@@ -68,8 +68,8 @@ fn write_output<O: Out, E: Out>(
     out: &mut O,
     errors: &mut E,
 ) -> Status
-    ensures output { Ends O.written O.failures out.old out.new (asked_of options) bytes.items result }
-    ensures told { Tells E.written E.failures errors.old errors.new result }
+    ensures output { EndsAsAsked O.written O.failures out.old out.new (asked_of options) bytes.items result }
+    ensures told { MayReport E.written E.failures errors.old errors.new result }
 {
     let mut bytes = bytes;
     match finish_given(rt, alloc, options, &mut bytes) {
@@ -88,14 +88,14 @@ fn write_output<O: Out, E: Out>(
 
 /// Writes the line for a refused growth of memory, which can stand in place of any output.
 pub fn put_memory<O: Out>(out: &mut O) -> Status
-    ensures { Writes O.written O.failures out.old out.new memory_output result }
+    ensures { WritesOutput O.written O.failures out.old out.new memory_output result }
 {
     put(out, b"out of memory\n", Status::Memory)
 }
 
 /// Writes the text, and returns the status that goes with it, or that of a failed device.
 pub fn put<O: Out>(out: &mut O, text: &[u8], status: Status) -> Status
-    ensures { Writes O.written O.failures out.old out.new
+    ensures { WritesOutput O.written O.failures out.old out.new
         (record { text = text.now; status = status }) result }
 {
     match put_all(out, text) {

@@ -37,7 +37,7 @@ use Rattle.txn_rules.specs.declared.element.Element.{Element}
 use Rattle.txn_rules.specs.declared.element.Element.TheVariants.{Calls, Cell, Content, Item, Layer, Uses}
 use Rattle.txn_rules.specs.Compared.{entry_eq, lying, same_in}
 use Rattle.txn_rules.proofs.Steps.{option_slot_eq-Decides}
-use Rattle.txn_work.specs.Answers.{after_command, after_effect, answer_of, answer_to, run_so_far}
+use Rattle.txn_work.specs.Answers.{after_command, after_effect, answer_to, done_of_effect, run_so_far}
 use Rattle.undo_rules.specs.Books.{History, SessionState}
 use Rattle.undo_rules.specs.Steps as book
 use Rattle.undo_rules.specs.declared.log.Call.{Call}
@@ -47,17 +47,17 @@ use Rattle.undo_rules.specs.Steps.{after_open, after_stale, commit_own, commit_s
 use Rattle.undo_rules.specs.Steps.{commit_unless, ended_state, is_log_full, is_own, is_pending}
 use Rattle.undo_rules.specs.Steps.{logged, open_step, opening, redo_step, stale_by, state_of, undo_step, unused}
 use Rattle.undo_book.specs.Calls as held
-use Rattle.undo_book.specs.Calls.{TakesWork, handed_back, refused, with_work as with_answer}
+use Rattle.undo_book.specs.Calls.{TakesWork, handed_back, refused, with_refused_work as with_answer}
 use Rattle.session_steps.specs.declared.Reply.{Reply}
 use Rattle.session_steps.specs.declared.Reply.TheVariants.{Fault}
 use Rattle.session_steps.specs.declared.Step.{Step}
 use Rattle.session_steps.specs.declared.Step.TheVariants.{Cancel, Commit, Do, Open, Redo, Undo}
 use Rattle.session_steps.specs.declared.StepFault.TheVariants.{Book}
 use Rattle.session_core.specs.Machine as machine
-use Rattle.session_core.specs.Machine.{Ran, State, Takes, TakesOr, after_steps, command_reply, is_certain, is_memory, is_session}
+use Rattle.session_core.specs.Machine.{Ran, State, TakesOr, TakesStep, after_steps, command_reply, is_certain, is_memory, is_session}
 use Rattle.session_core.specs.Machine.{memory_reply, open_of, step_outcome, with_work}
 use Rattle.session_core.specs.declared.machine.Machine.TheInside.{Inside}
-use Rattle.session_core.specs.Machines.{IsMachine, IsOpen, IsState, kept_at, machine_state}
+use Rattle.session_core.specs.Machines.{IsMachine, IsOpen, IsState, kept_session, machine_state}
 
 abbrev Works : Type 0
 Works = List (Option Transaction)
@@ -67,7 +67,7 @@ abbrev with_works : History → Works → State
 with_works h works = record { history = h; works = works }
 
 -- a transaction is open as far as the book keeps the same of its session
-open_as : (h new : History) (place : ℕ) (txn : Transaction) → kept_at new place ≡ kept_at h place → IsOpen h place txn →
+open_as : (h new : History) (place : ℕ) (txn : Transaction) → kept_session new place ≡ kept_session h place → IsOpen h place txn →
     IsOpen new place txn
 open_as h new place txn same is_open = record {
   session = is_open.session;
@@ -86,7 +86,7 @@ state_as h new works kept same = record {
 -- something changes for one session
 pub state_with : (h new : History) (works : Works) (place : ℕ) (work : Option Transaction) → IsState (with_works h works) →
     place < length works → length new.sessions ≡ 64 →
-    ((k : ℕ) → k ≢ place → kept_at new k ≡ kept_at h k) → ((txn : Transaction) → work ≡ Some txn → IsOpen new place txn) →
+    ((k : ℕ) → k ≢ place → kept_session new k ≡ kept_session h k) → ((txn : Transaction) → work ≡ Some txn → IsOpen new place txn) →
     IsState (with_works new (slice_set works place work))
 state_with h new works place work kept inside sessions others own = record {
   few = subst (λ n. n ≤ 64) (sym (length-set works place work)) kept.few;
@@ -163,11 +163,11 @@ opened h new works session txn kept low high takes =
     let sessions : length h.sessions ≡ 64 = kept.sessions in
     let number = (state_of h session).opens + 1 in
     let state : SessionState = record { opens = number; pending = Some (record { place = length h.log; snapshot = h.layout }) } in
-    let there : kept_at new (session - 1) ≡ state = ap (λ (k : History). kept_at k (session - 1)) both.1
+    let there : kept_session new (session - 1) ≡ state = ap (λ (k : History). kept_session k (session - 1)) both.1
     ∙ get_or-set_at h.sessions (session - 1) (session - 1) state unused refl (omega arith) in
     state_with h new works (session - 1) (Some txn) kept (omega arith)
     (ap (λ (k : History). length k.sessions) both.1 ∙ length-set h.sessions (session - 1) state ∙ kept.sessions)
-    (λ k other. ap (λ (x : History). kept_at x k) both.1 ∙ get_or-set_other h.sessions (session - 1) k state unused other)
+    (λ k other. ap (λ (x : History). kept_session x k) both.1 ∙ get_or-set_other h.sessions (session - 1) k state unused other)
     (λ t same.
     let is : t ≡ opening h session = cc in
     subst (λ (t : Transaction). IsOpen new (session - 1) t) (sym is) (record {
@@ -246,7 +246,7 @@ own_of h place txn few is_open =
     let low : nat_le 1 txn.id.session ≡ true = grind (arith, nat_tests) in
     let high : nat_le txn.id.session 64 ≡ true = grind (arith, nat_tests) in
     let back : txn.id.session - 1 ≡ place = omega arith in
-    let at : state_of h txn.id.session ≡ kept_at h place = ap (kept_at h) back in
+    let at : state_of h txn.id.session ≡ kept_session h place = ap (kept_session h) back in
     rw (low, high) (pending_own (state_of h txn.id.session) txn (ap (λ (s : SessionState). s.opens) at ∙ is_open.opens)
     (ap (λ (s : SessionState). s.pending) at ∙ is_open.pending))
 
@@ -292,7 +292,7 @@ answered_plainly (Ok done) = refl
 answered_plainly (Err fault) = refl
 
 refused_same : (txn : Transaction) (command : Command) (r : Result (Done × Run) CmdFault) (fault : CmdFault) →
-    Err fault ≡ answer_of r → after_effect txn command r ≡ txn
+    Err fault ≡ done_of_effect r → after_effect txn command r ≡ txn
 refused_same txn command (Ok next) fault h = absurd cc
 refused_same txn command (Err other) fault h = refl
 
@@ -301,7 +301,7 @@ pub ran_command : (s end : State) (session : ℕ) (command : Command) (txn new :
     is_session s session ≡ true → open_of s session ≡ Some txn →
     IsAnswer CommandMemory answer (answer_to txn command) → OnOk answer (new ≡ after_command txn command) → OnErr answer (new ≡ txn) →
     end ≡ with_work s s.history session (Some new) →
-    Takes s session (Do command) (command_reply answer) end
+    TakesStep s session (Do command) (command_reply answer) end
 ran_command s end session command txn new answer there found answered ok err is_end =
     rw (there, found) (by_answer answer answered ok err) where
       wanted : Reply × State
@@ -342,13 +342,13 @@ cancelled h works place kept inside =
 -- back is open as before
 pub record Left (h new : History) (place : ℕ) (txn : Transaction) (work : Option Transaction) : Type 0 where
   pub sessions : length new.sessions ≡ length h.sessions
-  pub others : (k : ℕ) → k ≢ place → kept_at new k ≡ kept_at h k
+  pub others : (k : ℕ) → k ≢ place → kept_session new k ≡ kept_session h k
   pub own : (t : Transaction) → work ≡ Some t → IsOpen new place t
 
 unchanged : (h new : History) (place : ℕ) (txn : Transaction) → IsOpen h place txn → new ≡ h → Left h new place txn (Some txn)
 unchanged h new place txn is_open same = record {
   sessions = ap (λ (k : History). length k.sessions) same;
-  others = λ k other. ap (λ (x : History). kept_at x k) same;
+  others = λ k other. ap (λ (x : History). kept_session x k) same;
   own = λ t e. let is : txn ≡ t = cc in subst (λ (x : History). IsOpen x place t) (sym same) (subst (IsOpen h place) is is_open);
 }
 
@@ -369,7 +369,7 @@ ended_so h new place txn is_open same =
 pub record Commits (s : State) (new : History) (session place : ℕ) (txn : Transaction) (result : Result TxnId CommitRefusal) : Type 0 where
   pub left : Left s.history new place txn (work_of result)
   pub own : reply_of result ≢ Fault (Book Foreign)
-  pub step : TakesOr (Fault (Book NoMemory)) s (machine.after_commit s session txn (commit_step s.history txn)) (reply_of result)
+  pub step : TakesOr (Fault (Book NoMemory)) s (machine.commit_outcome s session txn (commit_step s.history txn)) (reply_of result)
       (with_work s new session (work_of result))
 
 -- with its transaction in its place the session is as it was
@@ -389,7 +389,7 @@ commits_so s new session place txn result found few is_open takes full = by_log 
   h = s.history
 
   out : commit_step h txn ≡ commit_step h txn → new ≡ h → result ≡ Err (refused NoMemory txn) →
-      is_certain (machine.after_commit s session txn (commit_step h txn)).0 ≡ false → Commits s new session place txn result
+      is_certain (machine.commit_outcome s session txn (commit_step h txn)).0 ≡ false → Commits s new session place txn result
   out same kept is plain = subst (Commits s new session place txn) (sym is) (record {
     left = unchanged h new place txn is_open kept;
     own = λ e. cc;
@@ -478,9 +478,9 @@ redo_keeps h new session txn result takes =
 
 -- one more step
 pub ran_push : (steps : List (ℕ × Step)) (replies : List Reply) (old mid new : State) (session : ℕ) (step : Step) (reply : Reply) →
-    Ran old steps replies mid → Takes mid session step reply new →
+    Ran old steps replies mid → TakesStep mid session step reply new →
     Ran old (steps ++ (session, step) ∷ []) (replies ++ reply ∷ []) new
-ran_push [] [] old mid new session step reply ran takes = (new, subst (λ s. Takes s session step reply new) ran takes, refl)
+ran_push [] [] old mid new session step reply ran takes = (new, subst (λ s. TakesStep s session step reply new) ran takes, refl)
 ran_push [] (r ∷ replies) old mid new session step reply ran takes = absurd ran
 ran_push (s ∷ steps) [] old mid new session step reply ran takes = absurd ran
 ran_push (s ∷ steps) (r ∷ replies) old mid new session step reply ran takes =
@@ -495,7 +495,7 @@ memory_told (Undo txn) = refl
 memory_told (Redo txn) = refl
 
 -- a step that isn't out of memory is answered as it is to be
-took : (s new : State) (session : ℕ) (step : Step) (reply : Reply) → Takes s session step reply new → is_memory reply ≡ false →
+took : (s new : State) (session : ℕ) (step : Step) (reply : Reply) → TakesStep s session step reply new → is_memory reply ≡ false →
     (reply ≡ (step_outcome s session step).0) × (new ≡ (step_outcome s session step).1)
 took s new session step reply takes plain = elim takes [
   | inl exact ↦ exact

@@ -57,13 +57,13 @@ with_history s history = record { history = history; works = s.works }
 -- ---- what a session's step answers and leaves, where the session has this open
 
 -- a transaction that the book opened is the session's
-abbrev pub after_open : State → ℕ → Result Transaction BookFault × History → Reply × State
-after_open s session (Ok txn, history) = (Opened txn.id.txn, with_work s history session (Some txn))
-after_open s session (Err fault, history) = (Fault (Book fault), with_history s history)
+abbrev pub open_outcome : State → ℕ → Result Transaction BookFault × History → Reply × State
+open_outcome s session (Ok txn, history) = (Opened txn.id.txn, with_work s history session (Some txn))
+open_outcome s session (Err fault, history) = (Fault (Book fault), with_history s history)
 
 -- with a transaction open there is no second
 abbrev pub open_in : State → ℕ → Option Transaction → Reply × State
-open_in s session None = after_open s session (open_step s.history session)
+open_in s session None = open_outcome s session (open_step s.history session)
 open_in s session (Some txn) = (Fault AlreadyOpen, s)
 
 -- the answer to a command as a reply
@@ -81,13 +81,13 @@ run_in s session command (Some txn) = (
 )
 
 -- after a commit the session has nothing open; a refused one leaves it what is handed back, and nothing where it was stale
-abbrev pub after_commit : State → ℕ → Transaction → Result TxnId BookFault × History → Reply × State
-after_commit s session txn (Ok id, history) = (Committed id, with_work s history session None)
-after_commit s session txn (Err fault, history) = (Fault (Book fault), with_work s history session (handed_back fault txn))
+abbrev pub commit_outcome : State → ℕ → Transaction → Result TxnId BookFault × History → Reply × State
+commit_outcome s session txn (Ok id, history) = (Committed id, with_work s history session None)
+commit_outcome s session txn (Err fault, history) = (Fault (Book fault), with_work s history session (handed_back fault txn))
 
 abbrev pub commit_in : State → ℕ → Option Transaction → Reply × State
 commit_in s session None = (Fault NotOpen, s)
-commit_in s session (Some txn) = after_commit s session txn (commit_step s.history txn)
+commit_in s session (Some txn) = commit_outcome s session txn (commit_step s.history txn)
 
 -- a cancel gives the transaction up, and the book isn't touched
 abbrev pub cancel_in : State → ℕ → Option Transaction → Reply × State
@@ -144,8 +144,8 @@ TakesOr memory old wanted reply new =
     ((reply ≡ wanted.0) × (new ≡ wanted.1)) ⊎ ((is_certain wanted.0 ≡ false) × (reply ≡ memory) × (new ≡ old))
 
 -- a step is answered as it is to be and leaves what it is to leave, or memory is wanted and nothing changes
-abbrev pub Takes : State → ℕ → Step → Reply → State → Type 0
-Takes old session step reply new = TakesOr (memory_reply step) old (step_outcome old session step) reply new
+abbrev pub TakesStep : State → ℕ → Step → Reply → State → Type 0
+TakesStep old session step reply new = TakesOr (memory_reply step) old (step_outcome old session step) reply new
 
 -- the work of the session's transaction isn't foreign to the book
 abbrev pub IsNotForeign : Reply → Type 0
@@ -158,7 +158,7 @@ abbrev pub Ran : State → List (ℕ × Step) → List Reply → State → Type 
 Ran old [] [] new = new ≡ old
 Ran old [] (reply ∷ replies) new = ⊥
 Ran old (step ∷ steps) [] new = ⊥
-Ran old (step ∷ steps) (reply ∷ replies) new = (mid : State) × Takes old step.0 step.1 reply mid × Ran mid steps replies new
+Ran old (step ∷ steps) (reply ∷ replies) new = (mid : State) × TakesStep old step.0 step.1 reply mid × Ran mid steps replies new
 
 -- what the steps are answered, and the state that they leave, where no memory is refused
 abbrev pub after_steps : State → List (ℕ × Step) → List Reply × State

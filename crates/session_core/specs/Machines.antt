@@ -11,15 +11,15 @@ abbrev pub machine_state : Inside → State
 machine_state m = record { history = m.book; works = m.works.items }
 
 -- what the book keeps of the session at this place, from 0
-abbrev pub kept_at : History → ℕ → SessionState
-kept_at history place = slice_index_or history.sessions place unused
+abbrev pub kept_session : History → ℕ → SessionState
+kept_session history place = slice_index_or history.sessions place unused
 
 -- the transaction is the one that the session at this place opened last, on the layout at its open, and that is
 -- not committed yet
 pub record IsOpen (history : History) (place : ℕ) (txn : Transaction) : Type 0 where
   pub session : txn.id.session ≡ place + 1
-  pub opens : (kept_at history place).opens ≡ txn.id.txn
-  pub pending : (kept_at history place).pending ≡ Some (record { place = txn.opened; snapshot = txn.snapshot })
+  pub opens : (kept_session history place).opens ≡ txn.id.txn
+  pub pending : (kept_session history place).pending ≡ Some (record { place = txn.opened; snapshot = txn.snapshot })
 
 -- at most 64 sessions, and each open transaction is the one that the book keeps for its session
 pub record IsState (s : State) : Type 0 where

@@ -6,7 +6,7 @@ ghost use Rattle.txn_rules.specs.declared.command.TxnId.{TxnId as TxnName};
 ghost use Rattle.undo_rules.specs.Steps.{with_mark};
 ghost use Rattle.undo_book.specs.Replays.{CanBeRedone, replay};
 ghost use Rattle.session_core.specs.Commits.{reply_of, work_of};
-ghost use Rattle.session_core.specs.Machine.{IsNotForeign, Ran, Takes, is_session, start};
+ghost use Rattle.session_core.specs.Machine.{IsNotForeign, Ran, TakesStep, is_session, start};
 
 use band_workers::Bands;
 use lay_items::Snapshot;
@@ -94,7 +94,7 @@ impl Machine {
         step: Step,
         bands: &impl Bands,
     ) -> Reply
-        ensures step { Takes self.old session step result self.new }
+        ensures step { TakesStep self.old session step result self.new }
         // A session's open transaction is always the one that the book keeps for it.
         ensures own { IsNotForeign result }
         // An accepted undo gives the layout of the same history without the transaction.
@@ -127,7 +127,7 @@ impl Machine {
     /// Opens a transaction of the session.
     fn open(&mut self, alloc: Global, session: u8) -> Reply
         requires { is_session self.old session ≡ true }
-        ensures step { Takes self.old session Step.Open result self.new }
+        ensures step { TakesStep self.old session Step.Open result self.new }
         ensures own { IsNotForeign result }
     {
         let place = usize::from(session) - 1;
@@ -154,7 +154,7 @@ impl Machine {
         bands: &impl Bands,
     ) -> Reply
         requires { is_session self.old session ≡ true }
-        ensures step { Takes self.old session (Step.Do command) result self.new }
+        ensures step { TakesStep self.old session (Step.Do command) result self.new }
         ensures own { IsNotForeign result }
     {
         let place = usize::from(session) - 1;
@@ -172,7 +172,7 @@ impl Machine {
     /// Commits the session's transaction.
     fn commit(&mut self, alloc: Global, session: u8) -> Reply
         requires { is_session self.old session ≡ true }
-        ensures step { Takes self.old session Step.Commit result self.new }
+        ensures step { TakesStep self.old session Step.Commit result self.new }
         ensures own { IsNotForeign result }
     {
         let place = usize::from(session) - 1;
@@ -187,7 +187,7 @@ impl Machine {
     /// Gives the session's transaction up.
     fn cancel(&mut self, session: u8) -> Reply
         requires { is_session self.old session ≡ true }
-        ensures step { Takes self.old session Step.Cancel result self.new }
+        ensures step { TakesStep self.old session Step.Cancel result self.new }
         ensures own { IsNotForeign result }
     {
         let place = usize::from(session) - 1;
@@ -201,7 +201,7 @@ impl Machine {
     /// Undoes a transaction.
     fn undo(&mut self, alloc: Global, session: u8, txn: TxnId) -> Reply
         requires { is_session self.old session ≡ true }
-        ensures step { Takes self.old session (Step.Undo txn) result self.new }
+        ensures step { TakesStep self.old session (Step.Undo txn) result self.new }
         ensures own { IsNotForeign result }
         ensures without { result ≡ Reply.Undone
             → replay (with_mark self.old.history false txn) ≡ Some self.new.history.layout }
@@ -216,7 +216,7 @@ impl Machine {
     /// Redoes a transaction.
     fn redo(&mut self, alloc: Global, session: u8, txn: TxnId) -> Reply
         requires { is_session self.old session ≡ true }
-        ensures step { Takes self.old session (Step.Redo txn) result self.new }
+        ensures step { TakesStep self.old session (Step.Redo txn) result self.new }
         ensures own { IsNotForeign result }
     {
         match self.book.redo(alloc, session, txn) {

@@ -24,7 +24,7 @@ use Rattle.undo_book.proofs.CommitLemmas.{own_work}
 use Rattle.undo_book.proofs.SoundLemmas.{kept_sound}
 use Rattle.session_steps.specs.declared.Step.{Step}
 use Rattle.session_steps.specs.declared.Step.TheVariants.{Cancel, Commit, Do, Open, Redo, Undo}
-use Rattle.session_core.specs.Machine.{State, after_commit, after_open, commit_in, is_session, open_in, open_of, redo_in}
+use Rattle.session_core.specs.Machine.{State, commit_in, commit_outcome, is_session, open_in, open_of, open_outcome, redo_in}
 use Rattle.session_core.specs.Machine.{step_in, step_outcome, undo_in, with_history, with_work}
 use Rattle.session_history_laws.proofs.Works.{AreWorks, IsOpenWork, commands_work, opens_work, work_at, works_with}
 
@@ -60,7 +60,7 @@ module _ (base : Layout) (s : State) (good : IsGood base s) (session : ℕ) (low
   opens : (work : Option Transaction) → IsGood base (open_in s session work).1
   opens (Some txn) = good
   opens None = by (is_log_full h) (nat_le 65535 (state_of h session).opens) where
-    by : (b c : Bool) → IsGood base (after_open s session (cond b (Err LogFull, h)
+    by : (b c : Bool) → IsGood base (open_outcome s session (cond b (Err LogFull, h)
         (cond c (Err SessionFull, logged h session call.Open (Refused SessionFull)) (Ok (opening h session), book.after_open h session)))).1
     by true c = kept base s good h is refl
     by false true = kept base s good (logged h session call.Open (Refused SessionFull))
@@ -74,7 +74,8 @@ module _ (base : Layout) (s : State) (good : IsGood base s) (session : ℕ) (low
       by (is_log_full h) (is_own h txn) (stale_by h.entries txn.footprint (drop (txn.opened + 1) h.log)) refl refl where
         by : (b c : Bool) (stale : Option TxnId) → is_own h txn ≡ c →
             stale_by h.entries txn.footprint (drop (txn.opened + 1) h.log) ≡ stale →
-            IsGood base (after_commit s session txn (cond b (Err LogFull, h) (cond (not c) (Err Foreign, h) (commit_unless stale h txn)))).1
+            IsGood base (commit_outcome s session txn
+                (cond b (Err LogFull, h) (cond (not c) (Err Foreign, h) (commit_unless stale h txn)))).1
         by true c stale own fresh = left base s good session h is refl (Some txn) held
         by false false stale own fresh = left base s good session h is refl (Some txn) held
         by false true None own fresh = left base s good session (book.after_commit h txn)

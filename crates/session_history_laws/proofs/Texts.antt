@@ -9,7 +9,7 @@ use Rattle.cif_commands.specs.Cutting.{Ending, Breaks, Ends, cut}
 use Rattle.cif_read.specs.declared.content.Content.{Content}
 use Rattle.cif_read.specs.declared.fault.CifFault.{CifFault}
 use Rattle.cif_read.specs.declared.file.TheConstants.{MAX_TEXT}
-use Rattle.cif_read.specs.Content.{start}
+use Rattle.cif_read.specs.Content.{empty_content}
 use Rattle.cif_read.specs.Contents.{Contents, IsSoundFile}
 use Rattle.cif_read.specs.Kept.{IsKept}
 use Rattle.cif_read.specs.Meaning.{IsEndOf, after_bytes, after_pieces, content_in, content_within, too_long}
@@ -26,7 +26,7 @@ use Rattle.lay_items.specs.LayoutWith.{numbered_from, text_id}
 use Rattle.lay_items.specs.Sound.{IsSound}
 use Rattle.lay_items.proofs.SoundLemmas.{layout_of-sound}
 use Rattle.txn_rules.specs.declared.command.TxnId.{TxnId}
-use Rattle.undo_region_laws.specs.Staying.{HasNone}
+use Rattle.undo_region_laws.specs.Staying.{HasNoItemOf}
 use Rattle.session_history_laws.specs.Histories.{TextsMeanBases}
 
 -- what is meant after commands keeps what is kept of the content before them
@@ -44,7 +44,7 @@ unfolding content_in
 kept_text text content e = by (nat_lt MAX_TEXT (length text)) e where
   by : (b : Bool) → cond b (Err too_long) (content_in text) ≡ Ok content → IsKept content
   by true f = absurd cc
-  by false f = kept_pieces (cut text).pieces (cut text).ending start content start_kept f
+  by false f = kept_pieces (cut text).pieces (cut text).ending empty_content content start_kept f
 
 meaning_sound : (text : List ℕ) (file : Contents) (r : Result Content CifFault) → content_within text ≡ r → IsEndOf r (Ok file)
     → IsSound (layout_of file)
@@ -62,7 +62,7 @@ unfound k [] id first = refl
 unfound k (item ∷ items) id first =
     ap (λ b. cond b (Some item) (find id_cmp id (numbered_from (k + 1) items))) (apart id k first) ∙ unfound (k + 1) items id first
 
-has_none : (file : Contents) (txn : TxnId) → 1 ≤ txn.session → HasNone txn (layout_of file)
+has_none : (file : Contents) (txn : TxnId) → 1 ≤ txn.session → HasNoItemOf txn (layout_of file)
 has_none file txn first id session number =
     let items = items_of_elements file.elements in
     get-from_entries ids_total (numbered_from 1 items) id ∙ unfound 1 items id (subst (λ n. 1 ≤ n) (sym session) first)

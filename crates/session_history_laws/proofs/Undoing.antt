@@ -13,7 +13,7 @@ use Rattle.undo_rules.specs.declared.log.BookFault.{BookFault}
 use Rattle.undo_rules.specs.declared.log.BookFault.TheVariants.{Foreign, LogFull, NoMemory as BookMemory, NoTxn, NotLive, SessionFull}
 use Rattle.undo_rules.specs.declared.log.Call.TheVariants as call
 use Rattle.undo_rules.specs.Books.{History, IsHistory}
-use Rattle.undo_rules.specs.Links.{Entry, first_reader, touches}
+use Rattle.undo_rules.specs.Links.{Entry, first_reader, meets_touched}
 use Rattle.undo_rules.specs.Steps as book
 use Rattle.undo_rules.specs.Steps.{Found, after_redo, after_undo, commit_unless, depends, found, found_behind, is_log_full, is_own}
 use Rattle.undo_rules.specs.Steps.{logged, opening, redo_refusal, redo_refusal_at, stale_by, state_of, undo_refusal, undo_refusal_at}
@@ -25,7 +25,7 @@ use Rattle.session_steps.specs.declared.Reply.TheVariants.{Fault, Undone}
 use Rattle.session_steps.specs.declared.Step.{Step}
 use Rattle.session_steps.specs.declared.Step.TheVariants.{Cancel, Commit, Do, Open, Redo, Undo}
 use Rattle.session_steps.specs.declared.StepFault.TheVariants.{Book, NoSession}
-use Rattle.session_core.specs.Machine.{Ran, State, Takes, after_commit, after_open, after_steps, cancel_in, commit_in, is_session}
+use Rattle.session_core.specs.Machine.{Ran, State, TakesStep, after_steps, cancel_in, commit_in, commit_outcome, is_session, open_outcome}
 use Rattle.session_core.specs.Machine.{open_in, open_of, redo_in, run_in, start, step_in, step_outcome, undo_in}
 use Rattle.session_history_laws.specs.Undoing.{AreIdle, IsPutBack, IsTakenOut, IsUnread, MachinesTakeOut, ProgramsTakeOut}
 use Rattle.session_history_laws.specs.Undoing.{RedosAtOncePutBack, is_change}
@@ -51,7 +51,7 @@ module _ (s : State) (session : ℕ) where
   opens : (work : Option Transaction) → IsSame h (open_in s session work).1.history
   opens (Some txn) = same h
   opens None = by (is_log_full h) (nat_le 65535 (state_of h session).opens) where
-    by : (b c : Bool) → IsSame h (after_open s session (cond b (Err LogFull, h)
+    by : (b c : Bool) → IsSame h (open_outcome s session (cond b (Err LogFull, h)
         (cond c (Err SessionFull, logged h session call.Open (Refused SessionFull))
         (Ok (opening h session), book.after_open h session)))).1.history
     by true c = record { layout = refl; entries = refl }
@@ -70,7 +70,7 @@ module _ (s : State) (session : ℕ) where
   commits None idle = same h
   commits (Some txn) idle = by (is_log_full h) (is_own h txn) (stale_by h.entries txn.footprint (drop (txn.opened + 1) h.log)) idle where
     by : (b c : Bool) (stale : Option TxnId) →
-        let to = after_commit s session txn (cond b (Err LogFull, h) (cond (not c) (Err Foreign, h) (commit_unless stale h txn))) in
+        let to = commit_outcome s session txn (cond b (Err LogFull, h) (cond (not c) (Err Foreign, h) (commit_unless stale h txn))) in
         is_change to.0 ≡ false → IsSame h to.1.history
     by true c stale idle = record { layout = refl; entries = refl }
     by false false stale idle = record { layout = refl; entries = refl }
@@ -127,9 +127,9 @@ goes_idle (step ∷ steps) (reply ∷ replies) old new (mid, takes, rest) (one, 
 -- ---- an undo
 
 none_reads : (writes : Records) (later : List Entry)
-    → AllByRecursion (λ (e : Entry). e.live ≡ true → touches writes e.footprint ≡ false) later → first_reader writes later ≡ None
+    → AllByRecursion (λ (e : Entry). e.live ≡ true → meets_touched writes e.footprint ≡ false) later → first_reader writes later ≡ None
 none_reads writes [] all = refl
-none_reads writes (e ∷ es) (one, all) = by e.live (touches writes e.footprint) one (none_reads writes es all) where
+none_reads writes (e ∷ es) (one, all) = by e.live (meets_touched writes e.footprint) one (none_reads writes es all) where
   by : (live met : Bool) → (live ≡ true → met ≡ false) → first_reader writes es ≡ None
       → cond (live && met) (Some e.txn) (first_reader writes es) ≡ None
   by true true one rest = let both : true ≡ false = one refl in absurd cc
@@ -192,7 +192,7 @@ record IsUndone (s : State) (session : ℕ) (txn : TxnId) (new : State) : Type 0
 not_undone : {A : Type 0} → Undone ≡ Fault (Book BookMemory) → A
 not_undone h = absurd cc
 
-accepted : (s : State) (session : ℕ) (txn : TxnId) (new : State) → Takes s session (Undo txn) Undone new → IsUndone s session txn new
+accepted : (s : State) (session : ℕ) (txn : TxnId) (new : State) → TakesStep s session (Undo txn) Undone new → IsUndone s session txn new
 accepted s session txn new takes = elim takes [
   | inl exact ↦ by (is_session s session) (is_log_full s.history) (undo_refusal s.history txn) refl exact.0 exact.1
   | inr memory ↦ not_undone memory.1
@@ -237,7 +237,7 @@ put_back h is session other txn free then still idle = by (found h txn) refl whe
         }
 
 answered : (s : State) (other : ℕ) (txn : TxnId) (layout : Layout) → IsFree s.history other txn layout → is_session s other ≡ true
-    → (reply : Reply) (last : State) → Takes s other (Redo txn) reply last → IsPutBack layout s.history reply last
+    → (reply : Reply) (last : State) → TakesStep s other (Redo txn) reply last → IsPutBack layout s.history reply last
 answered s other txn layout is known reply last takes = elim takes [
   | inl exact ↦ by (is_session s other) (is_log_full s.history) (redo_refusal s.history txn) known refl is.free exact.0 exact.1
   | inr memory ↦ inr (inl memory.1)

@@ -13,7 +13,7 @@ use Rattle.txn_rules.specs.declared.command.TxnId.{TxnId}
 use Rattle.undo_rules.specs.Books.{History, IsHistory}
 use Rattle.undo_rules.specs.Histories.{commands_at}
 use Rattle.undo_rules.specs.Links.{Entry}
-use Rattle.undo_region_laws.specs.Staying.{HasNone, Stays}
+use Rattle.undo_region_laws.specs.Staying.{HasNoItemOf, Stays}
 use Rattle.session_steps.specs.declared.Reply.{Reply}
 use Rattle.session_steps.specs.declared.Step.{Step}
 use Rattle.session_core.specs.Machine.{Ran, State, after_steps, start}
@@ -48,4 +48,4 @@ ProgramsKeepOperations = (base : Layout) (sessions limit : ℕ) (steps : List (�
 -- The layout that a text means is such a base, and none of its items has an id of a transaction: sessions are numbered from 1.
 abbrev pub TextsMeanBases : Type 0
 TextsMeanBases = (text : List ℕ) (file : Contents) → IsMeaning text (Ok file)
-    → IsSound (layout_of file) × ((txn : TxnId) → 1 ≤ txn.session → HasNone txn (layout_of file))
+    → IsSound (layout_of file) × ((txn : TxnId) → 1 ≤ txn.session → HasNoItemOf txn (layout_of file))

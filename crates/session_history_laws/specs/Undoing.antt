@@ -6,7 +6,7 @@ use Rattle.lay_items.specs.Sound.{IsSound}
 use Rattle.txn_rules.specs.declared.command.TxnId.{TxnId}
 use Rattle.undo_rules.specs.declared.log.BookFault.TheVariants.{LogFull, NoMemory as BookMemory}
 use Rattle.undo_rules.specs.Books.{History}
-use Rattle.undo_rules.specs.Links.{Entry, touches}
+use Rattle.undo_rules.specs.Links.{Entry, meets_touched}
 use Rattle.undo_rules.specs.Steps.{Found, found, is_log_full, with_mark}
 use Rattle.undo_book.specs.Replays.{replay}
 use Rattle.session_steps.specs.declared.Reply.{Reply}
@@ -14,7 +14,7 @@ use Rattle.session_steps.specs.declared.Reply.TheVariants.{Committed, Fault, Red
 use Rattle.session_steps.specs.declared.Step.{Step}
 use Rattle.session_steps.specs.declared.Step.TheVariants.{Redo, Undo}
 use Rattle.session_steps.specs.declared.StepFault.TheVariants.{Book}
-use Rattle.session_core.specs.Machine.{Ran, State, Takes, after_steps, is_session, start, step_outcome}
+use Rattle.session_core.specs.Machine.{Ran, State, TakesStep, after_steps, is_session, start, step_outcome}
 
 -- the call had no room: memory was refused, or the log is full
 abbrev pub IsWithoutRoom : History → Reply → Type 0
@@ -25,7 +25,7 @@ pub record IsUnread (h : History) (txn : TxnId) : Type 0 where
   pub at : Found
   pub there : found h txn ≡ Some at
   pub live : at.entry.live ≡ true
-  pub unread : AllByRecursion (λ (later : Entry). later.live ≡ true → touches at.entry.writes later.footprint ≡ false) at.later
+  pub unread : AllByRecursion (λ (later : Entry). later.live ≡ true → meets_touched at.entry.writes later.footprint ≡ false) at.later
 
 -- it is undone, and the layout is that of the same history without it; or the call had no room
 abbrev pub IsTakenOut : History → TxnId → Reply → State → Type 0
@@ -37,7 +37,7 @@ abbrev pub MachinesTakeOut : Type 0
 MachinesTakeOut = (base : Layout) (sessions limit : ℕ) (steps : List (ℕ × Step)) (replies : List Reply) (s : State)
     → IsSound base → sessions ≤ 64 → Ran (start base sessions limit) steps replies s
     → (session : ℕ) (txn : TxnId) (reply : Reply) (new : State) → is_session s session ≡ true → IsUnread s.history txn
-    → Takes s session (Undo txn) reply new → IsTakenOut s.history txn reply new
+    → TakesStep s session (Undo txn) reply new → IsTakenOut s.history txn reply new
 
 -- and so it is where no memory is refused, as in the program's answers
 abbrev pub ProgramsTakeOut : Type 0
@@ -68,7 +68,7 @@ IsPutBack layout h reply new = ((reply ≡ Redone) × (new.history.layout ≡ la
 abbrev pub RedosAtOncePutBack : Type 0
 RedosAtOncePutBack = (base : Layout) (sessions limit : ℕ) (steps : List (ℕ × Step)) (replies : List Reply) (s : State)
     → IsSound base → sessions ≤ 64 → Ran (start base sessions limit) steps replies s
-    → (session : ℕ) (txn : TxnId) (undone : State) → Takes s session (Undo txn) Undone undone
+    → (session : ℕ) (txn : TxnId) (undone : State) → TakesStep s session (Undo txn) Undone undone
     → (between : List (ℕ × Step)) (said : List Reply) (then : State) → Ran undone between said then → AreIdle said
-    → (other : ℕ) (reply : Reply) (last : State) → is_session then other ≡ true → Takes then other (Redo txn) reply last
+    → (other : ℕ) (reply : Reply) (last : State) → is_session then other ≡ true → TakesStep then other (Redo txn) reply last
     → IsPutBack s.history.layout then.history reply last

@@ -12,7 +12,7 @@ use Rattle.session_steps.specs.Turns.{in_turn}
 use Rattle.session_core.specs.Machine.{State, after_steps, step_outcome}
 use Rattle.job_text.specs.Order.{is_logged, order_behind}
 use Rattle.session_order_laws.specs.Rearranged as rearranged
-use Rattle.session_order_laws.specs.Rearranged.{HasMemory, IsKnown, LeadsTo, dealt_out, hands_of, scripts_of}
+use Rattle.session_order_laws.specs.Rearranged.{HasMemory, HasSession, LeadsTo, dealt_out, dealt_scripts, hands_of}
 use Rattle.session_order_laws.proofs.Events.{Event, Events}
 use Rattle.session_order_laws.proofs.Swaps.{Swapped, all_same, behind, both, goes_on, none, own, own_same, swap}
 use Rattle.session_order_laws.proofs.Pulling.{callers, names, turned}

@@ -76,7 +76,7 @@ open_is : (s : State) (session : ℕ) (work : Option Transaction) → open_of s 
     machine.open_in s session work ≡ put s session (open_core s.history session work)
 open_is s session (Some txn) found = ap (λ t. (Fault AlreadyOpen, t)) (sym (stays s s.history session (Some txn) found))
 open_is s session None found = by (open_step s.history session).0 (open_step s.history session).1 where
-  by : (r : Result Transaction BookFault) (h : History) → machine.after_open s session (r, h) ≡ put s session (opened (r, h))
+  by : (r : Result Transaction BookFault) (h : History) → machine.open_outcome s session (r, h) ≡ put s session (opened (r, h))
   by (Ok txn) h = refl
   by (Err fault) h = ap (λ t. (Fault (Book fault), t)) (sym (stays s h session None found))
 
@@ -89,7 +89,7 @@ commit_is : (s : State) (session : ℕ) (work : Option Transaction) → open_of 
     machine.commit_in s session work ≡ put s session (commit_core s.history work)
 commit_is s session None found = ap (λ t. (Fault NotOpen, t)) (sym (stays s s.history session None found))
 commit_is s session (Some txn) found = by (commit_step s.history txn).0 (commit_step s.history txn).1 where
-  by : (r : Result TxnId BookFault) (h : History) → machine.after_commit s session txn (r, h) ≡ put s session (committed txn (r, h))
+  by : (r : Result TxnId BookFault) (h : History) → machine.commit_outcome s session txn (r, h) ≡ put s session (committed txn (r, h))
   by (Ok id) h = refl
   by (Err fault) h = refl
 

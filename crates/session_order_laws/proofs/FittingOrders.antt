@@ -9,7 +9,7 @@ use Rattle.std.proofs.lemmas.List.Sorted.{length_permutation, sum_by-IsPermutati
 use Rattle.std.proofs.lemmas.List.Sums.{count_by-le-length, sum_by-cons}
 use Rattle.session_steps.specs.declared.Step.{Step}
 use Rattle.session_steps.specs.Turns.{in_turn}
-use Rattle.job_text.specs.Job.{are_counted, fits, total_len}
+use Rattle.job_text.specs.Job.{are_counted, order_fits, total_len}
 use Rattle.session_order_laws.proofs.JobTurns.{AreTurns, Names, all_turns, times, times_more}
 
 -- each session is counted
@@ -122,9 +122,9 @@ named_so scripts (name ∷ order) all =
     let high = parts.1 in
     ((grind (arith, nat_tests), grind (arith, nat_tests)), named_so scripts order all.1)
 
-pub fitting_turns : (scripts : List (List Step)) (order : List ℕ) → fits scripts order ≡ true →
+pub fitting_turns : (scripts : List (List Step)) (order : List ℕ) → order_fits scripts order ≡ true →
     AreTurns scripts order (in_turn order scripts)
-unfolding fits
+unfolding order_fits
 fitting_turns scripts order fitting =
     let parts = and_parts (nat_eq (length order) (total_len scripts)) (are_counted 1 scripts order) fitting in
     all_turns order scripts
@@ -141,9 +141,9 @@ counted_again (script ∷ scripts) session order new same =
     (sum_by-IsPermutation (λ n. cond (nat_eq n session) 1 0) order new same)
     ∙ ap (λ b. nat_eq (times session order) (length script) && b) (counted_again scripts (session + 1) order new same)
 
-pub fits_again : (scripts : List (List Step)) (order new : List ℕ) → fits scripts order ≡ true → IsPermutation order new →
-    fits scripts new ≡ true
-unfolding fits
+pub fits_again : (scripts : List (List Step)) (order new : List ℕ) → order_fits scripts order ≡ true → IsPermutation order new →
+    order_fits scripts new ≡ true
+unfolding order_fits
 fits_again scripts order new fitting same =
     let parts = and_parts (nat_eq (length order) (total_len scripts)) (are_counted 1 scripts order) fitting in
     and_from (nat_eq (length new) (total_len scripts)) (are_counted 1 scripts new)

@@ -60,13 +60,13 @@ module _ (s : State) (session : ℕ) (kept : IsState s) (low : 1 ≤ session) (h
     is_open : IsOpen s.history (session - 1) txn
     is_open = kept.works (session - 1) txn found
 
-    full : is_log_full s.history ≡ true → held.with_work (commit_step s.history txn).0 txn ≡ Err (held.refused LogFull txn)
-    full is = ap (λ b. held.with_work (cond {A = Result TxnId BookFault × History} b (Err LogFull, s.history)
+    full : is_log_full s.history ≡ true → held.with_refused_work (commit_step s.history txn).0 txn ≡ Err (held.refused LogFull txn)
+    full is = ap (λ b. held.with_refused_work (cond {A = Result TxnId BookFault × History} b (Err LogFull, s.history)
         (cond (not (is_own s.history txn)) (Err Foreign, s.history) (commit_own s.history txn))).0 txn) is
 
     by : (r : Result TxnId BookFault) (new : History) →
-        held.TakesWork s.history txn (commit_step s.history txn) (held.with_work r txn) new →
-        (is_log_full s.history ≡ true → held.with_work r txn ≡ Err (held.refused LogFull txn)) →
+        held.TakesWork s.history txn (commit_step s.history txn) (held.with_refused_work r txn) new →
+        (is_log_full s.history ≡ true → held.with_refused_work r txn ≡ Err (held.refused LogFull txn)) →
         IsState (with_work s (committed txn (r, new)).1 session (committed txn (r, new)).2)
     by (Ok id) new takes full = machines.left_state s.history new s.works (session - 1) txn None kept (omega arith)
         (machines.commits_so s new session (session - 1) txn (Ok id) found few is_open takes full).left

@@ -12,11 +12,11 @@ use Rattle.session_steps.specs.declared.Step.{Step}
 use Rattle.session_steps.specs.Turns.{in_turn}
 use Rattle.session_core.specs.Machine.{State, after_steps, is_memory, start}
 use Rattle.session_core.proofs.MachineLemmas.{ran_all, started}
-use Rattle.job_text.specs.Job.{fits}
+use Rattle.job_text.specs.Job.{order_fits}
 use Rattle.job_text.specs.Order.{is_logged, order_of}
 use Rattle.session_order_laws.specs.Rearranged as rearranged
-use Rattle.session_order_laws.specs.Rearranged.{HasMemory, IsKnown, JobsAnswerAlike, LeadsTo}
-use Rattle.session_order_laws.specs.Rearranged.{StepsAnswerAlike, StepsComeInTurn, dealt_out, hands_of, scripts_of}
+use Rattle.session_order_laws.specs.Rearranged.{HasMemory, HasSession, JobsAnswerAlike, LeadsTo}
+use Rattle.session_order_laws.specs.Rearranged.{StepsAnswerAlike, StepsComeInTurn, dealt_out, dealt_scripts, hands_of}
 use Rattle.session_order_laws.proofs.Events.{Event, Events}
 use Rattle.session_order_laws.proofs.Swaps.{Swapped, own, own_before}
 use Rattle.session_order_laws.proofs.Pulling.{names, turned, turns, log_leads}
@@ -61,17 +61,18 @@ printed_events base sessions limit steps few known =
 abbrev Alike : ℕ → List (ℕ × Step) → State → List Reply × State → Type 0
 Alike sessions steps old end =
     IsPermutation (rearranged.names steps) (order_of end.1.history.log (hands_of sessions (rearranged.names steps) end.0))
-    × LeadsTo sessions (scripts_of sessions steps) (order_of end.1.history.log (hands_of sessions (rearranged.names steps) end.0)) old end.1
+    × LeadsTo sessions (dealt_scripts sessions steps) (order_of end.1.history.log (hands_of sessions (rearranged.names steps) end.0))
+        old end.1
     (hands_of sessions (rearranged.names steps) end.0)
 
 alike : (base : Layout) (sessions limit : ℕ) (steps : List (ℕ × Step)) → sessions ≤ 64 →
-    AllByRecursion IsKnown (after_steps (start base sessions limit) steps).0 →
+    AllByRecursion HasSession (after_steps (start base sessions limit) steps).0 →
     Alike sessions steps (start base sessions limit) (after_steps (start base sessions limit) steps)
 alike base sessions limit steps few known = (
   subst (IsPermutation (rearranged.names steps)) (sym p.printed)
       (subst (λ ns. IsPermutation ns (names p.new)) (sym (names_so events) ∙ ap rearranged.names p.run.steps_are)
       (same_names events p.new p.swapped)),
-  leads_to sessions (scripts_of sessions steps) steps end.0 old end.1 events p.new p.run (omega (arith, len))
+  leads_to sessions (dealt_scripts sessions steps) steps end.0 old end.1 events p.new p.run (omega (arith, len))
       (subst (λ n. AreOf n events) (sym len) are) scripts_are p.swapped
       (order_of end.1.history.log (hands_of sessions (rearranged.names steps) end.0)) p.printed,
 ) where
@@ -91,11 +92,11 @@ alike base sessions limit steps few known = (
   are : AreOf sessions (events_of (start base sessions limit) steps)
   are = subst (λ n. AreOf n (events_of (start base sessions limit) steps)) (length-replicate sessions None) p.run.are
 
-  len : length (scripts_of sessions steps) ≡ sessions
+  len : length (dealt_scripts sessions steps) ≡ sessions
   len = length_dealt steps (replicate sessions []) ∙ length-replicate sessions []
 
-  scripts_are : AreScripts (scripts_of sessions steps) (events_of (start base sessions limit) steps)
-  scripts_are index inside = ap (λ ss. get_or (scripts_of sessions ss) index []) (sym p.run.steps_are)
+  scripts_are : AreScripts (dealt_scripts sessions steps) (events_of (start base sessions limit) steps)
+  scripts_are index inside = ap (λ ss. get_or (dealt_scripts sessions ss) index []) (sym p.run.steps_are)
       ∙ own_dealt (λ e. e.step) sessions events are index
 
 both_false : (a b : Bool) → a ≡ false → b ≡ false → (a || b) ≡ false
@@ -111,7 +112,7 @@ steps_alike base sessions limit steps replies final few ran memory known =
     let both = ran_all steps replies old final ran (no_memory replies (recursion_from_All HasMemory replies memory)) in
     let end : after_steps old steps ≡ (replies, final) = λ i. (sym both.0 i, sym both.1 i) in
     subst (Alike sessions steps old) end (alike base sessions limit steps few
-    (subst (AllByRecursion IsKnown) both.0 (recursion_from_All IsKnown replies known)))
+    (subst (AllByRecursion HasSession) both.0 (recursion_from_All HasSession replies known)))
 
 are_so : (sessions : ℕ) (events : Events) → AllByRecursion (IsOfOne sessions) (turns_with (λ e. e.step) events) → AreOf sessions events
 are_so sessions [] all = tt
@@ -126,14 +127,14 @@ pub steps_come_in_turn : StepsComeInTurn
 steps_come_in_turn sessions steps known =
     ap (λ ns. in_turn ns scripts) (ap rearranged.names (sym (same steps)) ∙ names_so events)
     ∙ in_turn_is events scripts (subst (λ n. AreOf n events) (sym len) are)
-    (λ index inside. ap (λ ss. get_or (scripts_of sessions ss) index []) (sym (same steps))
+    (λ index inside. ap (λ ss. get_or (dealt_scripts sessions ss) index []) (sym (same steps))
     ∙ own_dealt (λ e. e.step) sessions events are index)
     ∙ same steps where
       events : Events
       events = unanswered steps
 
       scripts : List (List Step)
-      scripts = scripts_of sessions steps
+      scripts = dealt_scripts sessions steps
 
       same : (steps : List (ℕ × Step)) → turns_with (λ e. e.step) (unanswered steps) ≡ steps
       same [] = refl
@@ -143,7 +144,7 @@ steps_come_in_turn sessions steps known =
       are = are_so sessions events (subst (AllByRecursion (IsOfOne sessions)) (sym (same steps))
           (recursion_from_All (IsOfOne sessions) steps known))
 
-      len : length (scripts_of sessions steps) ≡ sessions
+      len : length (dealt_scripts sessions steps) ≡ sessions
       len = length_dealt steps (replicate sessions []) ∙ length-replicate sessions []
 
 -- ---- jobs
@@ -167,7 +168,7 @@ more_known few sessions more (step ∷ steps) all =
 
 pub jobs_alike : JobsAnswerAlike
 jobs_alike base sessions limit scripts order fewer few fitting = (
-  subst (λ ns. fits scripts ns ≡ true) (sym printed_now)
+  subst (λ ns. order_fits scripts ns ≡ true) (sym printed_now)
       (fits_again scripts order (names p.new) fitting (subst (λ ns. IsPermutation ns (names p.new)) names_now
       (same_names events p.new p.swapped))),
   subst (λ ns. LeadsTo sessions scripts (order_of end.1.history.log (hands_of sessions order end.0)) old end.1

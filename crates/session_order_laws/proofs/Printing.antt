@@ -10,7 +10,7 @@ use Rattle.std.proofs.lemmas.Option.{unwrap_or-slice_get}
 use Rattle.undo_rules.specs.declared.log.Logged.{Logged}
 use Rattle.session_steps.specs.declared.Reply.{Reply}
 use Rattle.session_steps.specs.declared.Step.{Step}
-use Rattle.job_text.specs.Order.{is_logged, left_of, order_behind, replies_of, rest_from, steps_to_logged}
+use Rattle.job_text.specs.Order.{is_logged, order_behind, replies_left, replies_of, rest_from, steps_to_logged}
 use Rattle.session_order_laws.proofs.Events.{Event, Events}
 use Rattle.session_order_laws.proofs.Pulling.{Leads, caller_before, callers, callers_left, left, names, pulled, turned}
 use Rattle.session_order_laws.proofs.Hands.{all_left, count_all, count_before, count_to, hand, hand_left, names_pulled, none_left, own_left}
@@ -109,7 +109,7 @@ first_caller sessions caller more (event ∷ events) are same =
 
 -- what a session is left with, by its place
 left_at : (hands : List (List Reply)) (taken : List ℕ) (session index : ℕ) → session ≡ suc index →
-    left_of hands taken session ≡ drop (slice_index taken session) (get_or hands index [])
+    replies_left hands taken session ≡ drop (slice_index taken session) (get_or hands index [])
 left_at hands taken session index is =
     ap (λ s. drop (slice_index taken session) (replies_of hands s)) is
     ∙ ap (drop (slice_index taken session)) (unwrap_or-slice_get hands index [])
@@ -177,10 +177,10 @@ order_is (call ∷ log) hands taken events callers_are are few same =
       known : (1 ≤ session) × (session ≤ length hands)
       known = first_caller (length hands) session sessions events are callers_are
 
-      times : steps_to_logged (left_of hands taken session) ≡ count
+      times : steps_to_logged (replies_left hands taken session) ≡ count
       times =
           let low = known.0 in
           let high = known.1 in
           let at : session ≡ suc (session - 1) = omega arith in
-          steps_counted (left_of hands taken session)
+          steps_counted (replies_left hands taken session)
           ∙ ap (count_to is_logged) (left_at hands taken session (session - 1) at ∙ same session (session - 1) at (omega arith))

@@ -10,7 +10,7 @@ use Rattle.session_steps.specs.declared.Step.{Step}
 use Rattle.session_core.specs.Machine.{State, after_steps, is_session, open_of, step_outcome}
 use Rattle.session_core.specs.Machines.{IsState}
 use Rattle.job_text.specs.Order.{is_logged}
-use Rattle.session_order_laws.specs.Rearranged.{IsKnown}
+use Rattle.session_order_laws.specs.Rearranged.{HasSession}
 use Rattle.session_order_laws.proofs.Events.{Event}
 use Rattle.session_order_laws.proofs.Swaps.{Goes}
 use Rattle.session_order_laws.proofs.Dealing.{AreOf, turns_with}
@@ -73,7 +73,7 @@ run_is (step ∷ steps) old kept known =
     }
 
 -- steps whose sessions are all there
-pub all_known : (steps : List (ℕ × Step)) (old : State) → AllByRecursion IsKnown (after_steps old steps).0 →
+pub all_known : (steps : List (ℕ × Step)) (old : State) → AllByRecursion HasSession (after_steps old steps).0 →
     AllByRecursion (IsOfOne (length old.works)) steps
 all_known [] old known = tt
 all_known (step ∷ steps) old known =

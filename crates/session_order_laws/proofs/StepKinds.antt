@@ -19,7 +19,7 @@ use Rattle.undo_rules.specs.declared.log.Logged.{Logged}
 use Rattle.undo_rules.specs.Books.{History}
 use Rattle.undo_rules.specs.Links.{first_moved, first_reader, links_to}
 use Rattle.undo_rules.specs.Steps.{Found, after_open, after_redo, after_undo, commit_unless, depends, found, is_log_full, is_own, logged}
-use Rattle.undo_rules.specs.Steps.{moved, opening, or_else, redo_refusal, redo_refusal_at, stale_by, state_of, undo_refusal}
+use Rattle.undo_rules.specs.Steps.{moved_refusal, opening, or_else, redo_refusal, redo_refusal_at, stale_by, state_of, undo_refusal}
 use Rattle.undo_rules.specs.Steps.{undo_refusal_at, unless}
 use Rattle.session_steps.specs.declared.Reply.{Reply}
 use Rattle.session_steps.specs.declared.Reply.TheVariants.{Fault, Redone, Undone}
@@ -97,7 +97,8 @@ redo_noted : (at : Option Found) → is_noted (redo_refusal_at at) ≡ true
 redo_noted None = refl
 redo_noted (Some at) = by at.entry.live (first_reader at.entry.writes at.later)
     (first_moved at.before (links_to at.before at.entry.footprint) at.entry.seen) where
-      by : (live : Bool) (reader move : Option TxnId) → is_noted (cond live (Some StillLive) (or_else (depends reader) (moved move))) ≡ true
+      by : (live : Bool) (reader move : Option TxnId)
+          → is_noted (cond live (Some StillLive) (or_else (depends reader) (moved_refusal move))) ≡ true
       by true reader move = refl
       by false None None = refl
       by false None (Some txn) = refl

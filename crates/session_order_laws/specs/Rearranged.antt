@@ -8,7 +8,7 @@ use Rattle.session_steps.specs.declared.Step.{Step}
 use Rattle.session_steps.specs.declared.StepFault.TheVariants.{NoSession}
 use Rattle.session_steps.specs.Turns.{dealt, in_turn}
 use Rattle.session_core.specs.Machine.{Ran, State, after_steps, is_memory, start}
-use Rattle.job_text.specs.Job.{fits}
+use Rattle.job_text.specs.Job.{order_fits}
 use Rattle.job_text.specs.Order.{order_of}
 
 -- what each session has, and behind it what it is dealt in these turns
@@ -22,13 +22,13 @@ abbrev pub names : List (ℕ × Step) → List ℕ
 names steps = map (λ step. step.0) steps
 
 -- the steps of each of so many sessions
-abbrev pub scripts_of : ℕ → List (ℕ × Step) → List (List Step)
-scripts_of sessions steps = dealt_out steps (replicate sessions [])
+abbrev pub dealt_scripts : ℕ → List (ℕ × Step) → List (List Step)
+dealt_scripts sessions steps = dealt_out steps (replicate sessions [])
 
 -- taken as they were dealt out, steps come in their own order again
 abbrev pub StepsComeInTurn : Type 0
 StepsComeInTurn = (sessions : ℕ) (steps : List (ℕ × Step)) → All (λ step. (1 ≤ step.0) × (step.0 ≤ sessions)) steps
-    → in_turn (names steps) (scripts_of sessions steps) ≡ steps
+    → in_turn (names steps) (dealt_scripts sessions steps) ≡ steps
 
 -- the replies to each, where the sessions took their steps in this order
 abbrev pub hands_of : ℕ → List ℕ → List Reply → List (List Reply)
@@ -44,23 +44,23 @@ abbrev pub HasMemory : Reply → Type 0
 HasMemory reply = is_memory reply ≡ false
 
 -- the answer isn't that there is no such session
-abbrev pub IsKnown : Reply → Type 0
-IsKnown reply = reply ≢ Fault NoSession
+abbrev pub HasSession : Reply → Type 0
+HasSession reply = reply ≢ Fault NoSession
 
 -- Whatever steps sessions took: in the printed order, which names each session as often, they lead to the same.
 abbrev pub StepsAnswerAlike : Type 0
 StepsAnswerAlike = (base : Layout) (sessions limit : ℕ) (steps : List (ℕ × Step)) (replies : List Reply) (final : State)
-    → sessions ≤ 64 → Ran (start base sessions limit) steps replies final → All HasMemory replies → All IsKnown replies
+    → sessions ≤ 64 → Ran (start base sessions limit) steps replies final → All HasMemory replies → All HasSession replies
     → let hands = hands_of sessions (names steps) replies in
     let printed = order_of final.history.log hands in
     IsPermutation (names steps) printed
-    × LeadsTo sessions (scripts_of sessions steps) printed (start base sessions limit) final hands
+    × LeadsTo sessions (dealt_scripts sessions steps) printed (start base sessions limit) final hands
 
 -- A job's scripts, whatever order fits them: the printed order fits them too, and they lead to the same.
 abbrev pub JobsAnswerAlike : Type 0
 JobsAnswerAlike = (base : Layout) (sessions limit : ℕ) (scripts : List (List Step)) (order : List ℕ)
-    → length scripts ≤ sessions → sessions ≤ 64 → fits scripts order ≡ true
+    → length scripts ≤ sessions → sessions ≤ 64 → order_fits scripts order ≡ true
     → let ran = after_steps (start base sessions limit) (in_turn order scripts) in
     let hands = hands_of sessions order ran.0 in
     let printed = order_of ran.1.history.log hands in
-    (fits scripts printed ≡ true) × LeadsTo sessions scripts printed (start base sessions limit) ran.1 hands
+    (order_fits scripts printed ≡ true) × LeadsTo sessions scripts printed (start base sessions limit) ran.1 hands

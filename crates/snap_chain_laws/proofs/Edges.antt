@@ -5,14 +5,14 @@ use Rattle.lay_point.specs.declared.point.Point.{Point}
 use Rattle.lay_point.specs.Points.{point_eq}
 use Rattle.snap_pixels.specs.declared.segment.Segment.{Segment}
 use Rattle.snap_pixels.specs.Hot.{IsHot}
-use Rattle.snap_edge_laws.specs.Edges.{IsOn, IsEnd}
+use Rattle.snap_edge_laws.specs.Edges.{IsOn, IsEndpoint}
 use Rattle.snap_edge_laws.proofs.Places.{turned_on}
 use Rattle.snap_edge_laws.proofs.SharedEnds.{ends_differ}
 use Rattle.snap_chain_laws.specs.Rising.{pairs, IsFromTo}
 use Rattle.snap_chain_laws.specs.Parity.{xor}
 use Rattle.snap_chain_laws.specs.Chains.{IsRoundedEdge}
-use Rattle.snap_chain_laws.specs.Rounding.{closed}
-use Rattle.snap_chain_laws.specs.Undirected.{IsEdgeBefore, same_edge, touches, edges_of, is_owned, AreRoundedRings}
+use Rattle.snap_chain_laws.specs.Rounding.{closed_walk}
+use Rattle.snap_chain_laws.specs.Undirected.{IsEdgeBefore, same_edge, touches, walked_edges, is_owned, AreRoundedRings}
 use Rattle.lay_point.specs.Edges.{undirected}
 use Rattle.snap_chain_laws.specs.Undirected.{AreEdgesOf, EdgesAreClean, OwnedEdgesAreEven}
 use Rattle.snap_chain_laws.proofs.Members.{Has, has, contains}
@@ -34,9 +34,9 @@ record ComesFrom (segments : List Segment) (e : Point × Point) : Type 0 where
 comes_from : (segments : List Segment) (walks : List (List Point)) (edges : List (Point × Point)) → AreRoundedRings segments walks
     → AreEdgesOf walks edges → (e : Point × Point) → Contains edges e → ComesFrom segments e
 comes_from segments walks edges rings h e m =
-    let r = gone undirected walks e (has (edges_of undirected walks) e ((h.exact e).0 m)) in
+    let r = gone undirected walks e (has (walked_edges undirected walks) e ((h.exact e).0 m)) in
     let ring = rings r.walk (contains walks r.walk r.given) in
-    let rounded = rounded_paths_have_edges segments (closed ring.0) r.walk ring.1 r.pair.0 r.pair.1
+    let rounded = rounded_paths_have_edges segments (closed_walk ring.0) r.walk ring.1 r.pair.0 r.pair.1
     (contains (pairs r.walk) r.pair r.neighbours) in
     record {
       pair = r.pair;
@@ -55,7 +55,7 @@ on_pair e p k x y (inl g) h = subst (λ v. IsOn v p.1 k x y) g.0 (subst (λ v. I
 on_pair e p k x y (inr g) h =
     turned_on p.1 p.0 k x y (subst (λ v. IsOn v p.0 k x y) g.0 (subst (λ v. IsOn e.0 v k x y) g.1 h))
 
-end_of_edge : (e p : Point × Point) (v : Point) → HasEndsOf e p → IsEnd v p.0 p.1 → IsEnd v e.0 e.1
+end_of_edge : (e p : Point × Point) (v : Point) → HasEndsOf e p → IsEndpoint v p.0 p.1 → IsEndpoint v e.0 e.1
 unfolding HasEndsOf
 end_of_edge e p v (inl g) (inl h) = inl (h ∙ sym g.0)
 end_of_edge e p v (inl g) (inr h) = inr (h ∙ sym g.1)
@@ -98,5 +98,5 @@ owned_edges_are_even segments walks some edges rings h inside v =
     (all_closed some (λ w m. let ring = rings w (inside w (contains some w m)) in
     rounded_ring_is_closed segments ring.0 w ring.1))
     edges h.rising
-    (λ e m. has edges e ((h.exact e).1 (contains (edges_of undirected walks) e
+    (λ e m. has edges e ((h.exact e).1 (contains (walked_edges undirected walks) e
     (edges_of_more undirected some walks (λ w n. has walks w (inside w (contains some w n))) e m))))

@@ -4,7 +4,7 @@ use Rattle.lay_point.specs.declared.point.Point.{Point}
 use Rattle.snap_pixels.specs.declared.segment.Segment.{Segment}
 use Rattle.snap_chain_laws.specs.Rising.{pairs, last, IsFromTo}
 use Rattle.snap_chain_laws.specs.Chains.{IsRoundedEdge}
-use Rattle.snap_chain_laws.specs.Rounding.{closed, IsRoundedPath, point, further, RoundedPathsJoinEnds, RoundedPathsHaveEdges}
+use Rattle.snap_chain_laws.specs.Rounding.{closed_walk, IsRoundedPath, point, further, RoundedPathsJoinEnds, RoundedPathsHaveEdges}
 use Rattle.snap_chain_laws.specs.Rounding.{RoundedRingsAreEven}
 use Rattle.snap_chain_laws.proofs.Members.{Has, has, contains, has-append}
 use Rattle.snap_chain_laws.proofs.Chains.{chains_join_ends}
@@ -53,11 +53,11 @@ empty_path segments path points (point q) e = absurd cc
 empty_path segments path points (further s path' chain rest given h g) e = absurd cc
 
 -- a rounded ring comes back to where it starts
-pub rounded_ring_is_closed : (segments : List Segment) (ring points : List Point) → IsRoundedPath segments (closed ring) points
+pub rounded_ring_is_closed : (segments : List Segment) (ring points : List Point) → IsRoundedPath segments (closed_walk ring) points
     → (a : Point) × IsFromTo a a points
 rounded_ring_is_closed segments [] points h = absurd (empty_path segments [] points h refl)
 rounded_ring_is_closed segments (p ∷ ps) points h =
-    (p, rounded_paths_join_ends segments (closed (p ∷ ps)) points h p p (closed_from_to p ps))
+    (p, rounded_paths_join_ends segments (closed_walk (p ∷ ps)) points h p p (closed_from_to p ps))
 
 pub rounded_rings_are_even : (segments : List Segment) → RoundedRingsAreEven segments
 rounded_rings_are_even segments ring points h test =

@@ -10,7 +10,7 @@ use Rattle.snap_edge_laws.specs.Edges.{AreOneEdge}
 use Rattle.snap_edge_laws.proofs.Order.{same_point}
 use Rattle.snap_chain_laws.specs.Rising.{pairs}
 use Rattle.snap_chain_laws.specs.Parity.{xor}
-use Rattle.snap_chain_laws.specs.Undirected.{IsEdgeBefore, same_edge, edges_of}
+use Rattle.snap_chain_laws.specs.Undirected.{IsEdgeBefore, same_edge, walked_edges}
 use Rattle.lay_point.specs.Edges.{is_before, undirected}
 use Rattle.snap_chain_laws.proofs.Members.{Has, has-append, has-append_left, has-append_right}
 use Rattle.snap_chain_laws.proofs.Rising.{IsStrictOrder}
@@ -79,25 +79,25 @@ map-has u [] x m = absurd m
 map-has u (y ∷ xs) x (inl g) = inl (ap u g)
 map-has u (y ∷ xs) x (inr m) = inr (map-has u xs x m)
 
-pub gone : {A E : Type 0} (u : A × A → E) (walks : List (List A)) (e : E) → Has (edges_of u walks) e → IsGone u walks e
+pub gone : {A E : Type 0} (u : A × A → E) (walks : List (List A)) (e : E) → Has (walked_edges u walks) e → IsGone u walks e
 gone u [] e m = absurd m
 gone u (w ∷ ws) e m = ⊎_elim
     (λ (here : Has (map u (pairs w)) e). let r = has-map u (pairs w) e here in
     record { walk = w; pair = r.0; given = inl refl; neighbours = r.1; goes = r.2 })
-    (λ (there : Has (edges_of u ws) e). let r = gone u ws e there in
+    (λ (there : Has (walked_edges u ws) e). let r = gone u ws e there in
     record { walk = r.walk; pair = r.pair; given = inr r.given; neighbours = r.neighbours; goes = r.goes })
-    (has-append (map u (pairs w)) (edges_of u ws) e m)
+    (has-append (map u (pairs w)) (walked_edges u ws) e m)
 
 goes_edge : {A E : Type 0} (u : A × A → E) (walks : List (List A)) (w : List A) (p : A × A) → Has walks w → Has (pairs w) p
-    → Has (edges_of u walks) (u p)
+    → Has (walked_edges u walks) (u p)
 goes_edge u [] w p m g = absurd m
 goes_edge u (v ∷ ws) w p (inl e) g =
-    has-append_left (map u (pairs v)) (edges_of u ws) (u p) (map-has u (pairs v) p (subst (λ z. Has (pairs z) p) (sym e) g))
-goes_edge u (v ∷ ws) w p (inr m) g = has-append_right (map u (pairs v)) (edges_of u ws) (u p) (goes_edge u ws w p m g)
+    has-append_left (map u (pairs v)) (walked_edges u ws) (u p) (map-has u (pairs v) p (subst (λ z. Has (pairs z) p) (sym e) g))
+goes_edge u (v ∷ ws) w p (inr m) g = has-append_right (map u (pairs v)) (walked_edges u ws) (u p) (goes_edge u ws w p m g)
 
 -- more walks go more edges
 pub edges_of_more : {A E : Type 0} (u : A × A → E) (some walks : List (List A)) → ((w : List A) → Has some w → Has walks w)
-    → (e : E) → Has (edges_of u some) e → Has (edges_of u walks) e
+    → (e : E) → Has (walked_edges u some) e → Has (walked_edges u walks) e
 edges_of_more u some walks inside e m =
     let r = gone u some e m in
-    subst (Has (edges_of u walks)) r.goes (goes_edge u walks r.walk r.pair (inside r.walk r.given) r.neighbours)
+    subst (Has (walked_edges u walks)) r.goes (goes_edge u walks r.walk r.pair (inside r.walk r.given) r.neighbours)

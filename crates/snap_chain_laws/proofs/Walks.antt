@@ -3,8 +3,8 @@
 use Rattle.std.proofs.Common.{◌≡◌, Bool, true, false, ◌&&◌, ◌||◌, List, [], ◌∷◌, ◌++◌, map, refl, sym, ap, ap₂, subst, ◌∙◌}
 use Rattle.snap_chain_laws.specs.Rising.{IsRising, pairs, last, IsFromTo}
 use Rattle.snap_chain_laws.specs.Parity.{xor, parity}
-use Rattle.snap_chain_laws.specs.Rounding.{tail, closed}
-use Rattle.snap_chain_laws.specs.Undirected.{edges_of}
+use Rattle.snap_chain_laws.specs.Rounding.{tail, closed_walk}
+use Rattle.snap_chain_laws.specs.Undirected.{walked_edges}
 use Rattle.snap_chain_laws.proofs.Members.{Has}
 use Rattle.snap_chain_laws.proofs.Rising.{IsStrictOrder}
 use Rattle.snap_chain_laws.proofs.Parity.{
@@ -50,7 +50,7 @@ joined_pairs a b c xs ys h g =
     (pairs_known a b h.rest g.rest h.last_is))
 
 -- ---- closed
-pub closed_from_to : {A : Type 0} (x : A) (xs : List A) → IsFromTo x x (closed (x ∷ xs))
+pub closed_from_to : {A : Type 0} (x : A) (xs : List A) → IsFromTo x x (closed_walk (x ∷ xs))
 closed_from_to x xs = record { rest = xs ++ (x ∷ []); first_is = refl; last_is = last-append x xs (x ∷ []) }
 
 pub even_walk : {A : Type 0} (f : A → Bool) (a : A) (xs : List A) → IsFromTo a a xs
@@ -64,10 +64,11 @@ AreClosed [] = Unit {0}
 AreClosed {A} (w ∷ ws) = ((a : A) × IsFromTo a a w) × AreClosed ws
 
 pub even_walks : {A E : Type 0} (u : A × A → E) (test : E → Bool) (f : A → Bool)
-    → ((e : A × A) → test (u e) ≡ xor (f e.0) (f e.1)) → (walks : List (List A)) → AreClosed walks → parity test (edges_of u walks) ≡ false
+    → ((e : A × A) → test (u e) ≡ xor (f e.0) (f e.1)) → (walks : List (List A)) → AreClosed walks
+        → parity test (walked_edges u walks) ≡ false
 even_walks u test f e [] h = refl
 even_walks {A} u test f e (w ∷ ws) h =
-    parity-append test (map u (pairs w)) (edges_of u ws)
+    parity-append test (map u (pairs w)) (walked_edges u ws)
     ∙ ap₂ xor (parity-map test u (pairs w)
     ∙ parity_agree (λ p. test (u p)) (λ p. xor (f p.0) (f p.1)) (pairs w) (λ p m. e p) ∙ even_walk f h.0.0 w h.0.1)
     (even_walks u test f e ws h.1)
@@ -76,10 +77,10 @@ even_walks {A} u test f e (w ∷ ws) h =
 pub even_edges : {A E : Type 0} (Before : E → E → Type 0) → IsStrictOrder Before → (same : E → E → Bool) → IsEquality same
     → (u : A × A → E) (test : E → Bool) (f : A → Bool) → ((e : A × A) → test (u e) ≡ xor (f e.0) (f e.1))
     → (walks : List (List A)) → AreClosed walks → (edges : List E) → IsRising Before edges
-    → ((o : E) → Has (edges_of u walks) o → Has edges o)
-    → parity (λ x. parity (same x) (edges_of u walks) && test x) edges ≡ false
+    → ((o : E) → Has (walked_edges u walks) o → Has edges o)
+    → parity (λ x. parity (same x) (walked_edges u walks) && test x) edges ≡ false
 even_edges Before laws same decides u test f e walks closed edges h inside =
-    parity_of_occurrences Before laws same decides test edges (edges_of u walks) h inside ∙ even_walks u test f e walks closed
+    parity_of_occurrences Before laws same decides test edges (walked_edges u walks) h inside ∙ even_walks u test f e walks closed
 
 -- an edge whose ends differ has the vertex v for one of them exactly where one of the two is v and the other isn't
 pub touches-xor : {A : Type 0} (same : A → A → Bool) → IsEquality same → (a b v : A) → ¬ (a ≡ b)

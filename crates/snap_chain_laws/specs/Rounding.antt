@@ -14,9 +14,9 @@ tail [] = []
 tail (x ∷ xs) = xs
 
 -- the points of a ring, and its first again
-abbrev pub closed : {A : Type 0} → List A → List A
-closed [] = []
-closed (x ∷ xs) = x ∷ (xs ++ (x ∷ []))
+abbrev pub closed_walk : {A : Type 0} → List A → List A
+closed_walk [] = []
+closed_walk (x ∷ xs) = x ∷ (xs ++ (x ∷ []))
 
 -- the rounded path, over the hot centres of the segments: the chain of the first edge, and then the rounded rest without the point that
 -- it shares with the chain
@@ -37,5 +37,5 @@ RoundedPathsHaveEdges segments = (path points : List Point) → IsRoundedPath se
 
 -- of the edges of a rounded ring an even number have ends that differ in a test of points
 abbrev pub RoundedRingsAreEven : List Segment → Type 0
-RoundedRingsAreEven segments = (ring points : List Point) → IsRoundedPath segments (closed ring) points →
+RoundedRingsAreEven segments = (ring points : List Point) → IsRoundedPath segments (closed_walk ring) points →
     (test : Point → Bool) → parity (λ e. xor (test e.0) (test e.1)) (pairs points) ≡ false

@@ -6,26 +6,26 @@ use Rattle.snap_pixels.specs.declared.segment.Segment.{Segment}
 use Rattle.snap_edge_laws.specs.Edges.{IsOn, IsSharedEnd}
 use Rattle.snap_chain_laws.specs.Parity.{parity}
 use Rattle.snap_chain_laws.specs.Rising.{IsRising, pairs}
-use Rattle.snap_chain_laws.specs.Rounding.{closed, IsRoundedPath}
+use Rattle.snap_chain_laws.specs.Rounding.{closed_walk, IsRoundedPath}
 
 -- the edges that the walks go, each as often as they go it, where a pair of neighbours goes the edge u of it
-abbrev pub edges_of : {A E : Type 0} → (A × A → E) → List (List A) → List E
-edges_of u [] = []
-edges_of u (w ∷ ws) = map u (pairs w) ++ edges_of u ws
+abbrev pub walked_edges : {A E : Type 0} → (A × A → E) → List (List A) → List E
+walked_edges u [] = []
+walked_edges u (w ∷ ws) = map u (pairs w) ++ walked_edges u ws
 
 -- the walks go the edge an odd number of times
 abbrev pub is_owned : List (List Point) → Point × Point → Bool
-is_owned walks e = parity (same_edge e) (edges_of undirected walks)
+is_owned walks e = parity (same_edge e) (walked_edges undirected walks)
 
 -- each of the walks is a rounded ring, closed
 abbrev pub AreRoundedRings : List Segment → List (List Point) → Type 0
 AreRoundedRings segments walks =
-    (w : List Point) → Contains walks w → (ring : List Point) × IsRoundedPath segments (closed ring) w
+    (w : List Point) → Contains walks w → (ring : List Point) × IsRoundedPath segments (closed_walk ring) w
 
 -- the edges that the walks go, each once, in order
 pub record AreEdgesOf (walks : List (List Point)) (edges : List (Point × Point)) : Type 0 where
   pub rising : IsRising IsEdgeBefore edges
-  pub exact : (e : Point × Point) → Contains edges e ↔ Contains (edges_of undirected walks) e
+  pub exact : (e : Point × Point) → Contains edges e ↔ Contains (walked_edges undirected walks) e
 
 -- two different edges of rounded rings have no place in common but a shared end
 abbrev pub EdgesAreClean : List Segment → Type 0

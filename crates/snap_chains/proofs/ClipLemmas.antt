@@ -10,7 +10,7 @@ use Rattle.std.proofs.lemmas.List.Elements.{Contains-push_cases}
 use Rattle.lay_int_laws.proofs.Polynomials.{#, lit, ◌⊕◌, ◌⊖◌, ◌⊗◌, identity}
 use Rattle.lay_int_laws.proofs.Signs.{linear, below_or_not, cancel_le, nonnegative_product}
 use Rattle.lay_point.specs.declared.point.Point.{Point}
-use Rattle.snap_pixels.specs.Order.{IsRising}
+use Rattle.snap_pixels.specs.Order.{ArePointsRising}
 use Rattle.snap_pixels.specs.Pixels.{IsRoundedTo}
 use Rattle.snap_pixels.specs.Segments.{Meets, along, cross}
 use Rattle.snap_chains.specs.Clips.{IsSlack, is_off}
@@ -150,7 +150,7 @@ row_at_most p q (inl e) = let f : p.x ≡ q.x = ap (λ v. v.x) e in omega (arith
 row_at_most p q (inr (inl h)) = omega (arith, linear)
 row_at_most p q (inr (inr h)) = omega (arith, linear, h.0)
 
-pub off_first : (a b : Point) (s low high : ℤ) (cs : List Point) → a.y ≤ℤ b.y → IsRising cs → IsPartitionedBy (λ c. is_off a b s low high c) cs
+pub off_first : (a b : Point) (s low high : ℤ) (cs : List Point) → a.y ≤ℤ b.y → ArePointsRising cs → IsPartitionedBy (λ c. is_off a b s low high c) cs
 off_first a b s low high cs h up i j d le lt t =
     let p = get_or cs i d in
     let q = get_or cs j d in
@@ -163,7 +163,7 @@ off_first a b s low high cs h up i j d le lt t =
 Decides-near : (a b : Point) (s low high : ℤ) (c : Point) → Decides (not (is_off a b s low high c)) (¬ IsOff a b s low high c)
 Decides-near a b s low high c = Decides-not _ (Decides-is_off a b s low high c)
 
-pub off_last : (a b : Point) (s low high : ℤ) (cs : List Point) → b.y ≤ℤ a.y → IsRising cs
+pub off_last : (a b : Point) (s low high : ℤ) (cs : List Point) → b.y ≤ℤ a.y → ArePointsRising cs
     → IsPartitionedBy (λ c. not (is_off a b s low high c)) cs
 off_last a b s low high cs h up i j d le lt t =
     let p = get_or cs i d in

@@ -9,7 +9,7 @@ use Rattle.snap_edge_test.specs.Rising.{IsRising}
 use Rattle.snap_edge_test.specs.Undirected.{IsEdgeBefore, touches}
 use Rattle.snap_chains.specs.declared.owner.Owner.{Owner}
 use Rattle.snap_chains.specs.Owners.{IsOwnerBefore}
-use Rattle.snap_chains.specs.Rounded.{is_listed, IsRounded}
+use Rattle.snap_chains.specs.Rounded.{is_owner_listed, IsRounded}
 
 pub map-push : {A B : Type 0} (f : A → B) (xs : List A) (x : A) → map f (xs ++ x ∷ []) ≡ map f xs ++ f x ∷ []
 map-push f [] x = refl
@@ -27,7 +27,7 @@ length-replicate_none zero x = refl
 length-replicate_none (suc n) x = omega (arith, length-replicate_none n x)
 
 none_even : (o : Owner) (v : Point) (edges : List (Point × Point)) (n : ℕ)
-    → parity (λ p. is_listed o p.1 && touches v p.0) (zip edges (replicate n [])) ≡ false
+    → parity (λ p. is_owner_listed o p.1 && touches v p.0) (zip edges (replicate n [])) ≡ false
 none_even o v [] zero = refl
 none_even o v [] (suc n) = refl
 none_even o v (e ∷ es) zero = refl
@@ -45,5 +45,5 @@ rounded_without_owners edges owners up e = record {
   paired = ap length e ∙ length-replicate_none (length edges) [];
   ordered = subst (All (IsRising IsOwnerBefore)) (sym e)
       (All-from_recursion (IsRising IsOwnerBefore) (replicate (length edges) []) (none_ordered (length edges)));
-  even = λ o v. ap (λ l. parity (λ p. is_listed o p.1 && touches v p.0) (zip edges l)) e ∙ none_even o v edges (length edges);
+  even = λ o v. ap (λ l. parity (λ p. is_owner_listed o p.1 && touches v p.0) (zip edges l)) e ∙ none_even o v edges (length edges);
 }

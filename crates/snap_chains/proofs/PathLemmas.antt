@@ -12,11 +12,11 @@ use Rattle.snap_pixels.specs.Segments.{Meets}
 use Rattle.std.specs.Int.{int_signum}
 use Rattle.snap_edge_test.specs.Chains.{IsChain}
 use Rattle.snap_edge_test.specs.Rising.{IsRising, pairs, last}
-use Rattle.snap_edge_test.specs.Rounding.{IsRoundedPath, closed, further, point, tail}
+use Rattle.snap_edge_test.specs.Rounding.{IsRoundedPath, closed_walk, further, point, tail}
 use Rattle.snap_edge_test.proofs.Members.{Has, has, contains}
 use Rattle.snap_edge_test.proofs.Chains.{chains_join_ends}
 use Rattle.snap_edge_test.proofs.Rounded.{rounded_paths_join_ends}
-use Rattle.snap_chains.specs.Sides.{ends_of}
+use Rattle.snap_chains.specs.Sides.{segment_ends}
 use Rattle.snap_chains.proofs.OwnerLemmas.{map-push}
 
 -- ---- neighbours
@@ -44,14 +44,14 @@ abbrev pub AreLinked : Point → List Segment → Type 0
 AreLinked p [] = Unit {0}
 AreLinked p (s ∷ ss) = (s.a ≡ p) × AreLinked s.b ss
 
-pub sides_linked : (x : Point) (ys : List Point) (sides : List Segment) → map ends_of sides ≡ pairs (x ∷ ys)
+pub sides_linked : (x : Point) (ys : List Point) (sides : List Segment) → map segment_ends sides ≡ pairs (x ∷ ys)
     → AreLinked x sides × (map (λ s. s.b) sides ≡ ys)
 sides_linked x [] [] e = (tt, refl)
 sides_linked x [] (s ∷ ss) e = absurd cc
 sides_linked x (y ∷ ys) [] e = absurd cc
 sides_linked x (y ∷ ys) (s ∷ ss) e =
-    let here : ends_of s ≡ (x, y) = cc in
-    let there : map ends_of ss ≡ pairs (y ∷ ys) = cc in
+    let here : segment_ends s ≡ (x, y) = cc in
+    let there : map segment_ends ss ≡ pairs (y ∷ ys) = cc in
     let rest = sides_linked y ys ss there in
     let start = ap (λ (p : Point × Point). p.0) here in
     let end = ap (λ (p : Point × Point). p.1) here in
@@ -127,11 +127,12 @@ same_chain Hot s t chain ea eb h = record {
 }
 
 -- one more side, which has the ends of one of the segments
-side_of_some : (segments : List Segment) (s : Segment) (chain path walk : List Point) → Contains (map ends_of segments) (ends_of s)
+side_of_some : (segments : List Segment) (s : Segment) (chain path walk : List Point)
+    → Contains (map segment_ends segments) (segment_ends s)
     → IsChain (IsHot segments) s chain → IsRoundedPath segments path walk → last_of s.a path ≡ s.a
     → IsRoundedPath segments (path ++ s.b ∷ []) (walk ++ tail chain)
 side_of_some segments s chain path walk among h so_far link =
-    let found = Has-map ends_of segments (ends_of s) (has (map ends_of segments) (ends_of s) among) in
+    let found = Has-map segment_ends segments (segment_ends s) (has (map segment_ends segments) (segment_ends s) among) in
     let t = found.0 in
     let ea : t.a ≡ s.a = ap (λ (p : Point × Point). p.0) found.2 in
     let eb : t.b ≡ s.b = ap (λ (p : Point × Point). p.1) found.2 in
@@ -143,27 +144,28 @@ side_of_some segments s chain path walk among h so_far link =
 -- one more side of a ring
 pub next_side : (segments : List Segment) (hot ring walk chain : List Point) (sides : List Segment) (i : ℕ) (s : Segment) →
     AreHotCentres segments hot
-    → ((e : Point × Point) → Contains (pairs (closed ring)) e → Contains (map ends_of segments) e) → map ends_of sides ≡ pairs (closed ring)
+    → ((e : Point × Point) → Contains (pairs (closed_walk ring)) e → Contains (map segment_ends segments) e)
+        → map segment_ends sides ≡ pairs (closed_walk ring)
     → i < length sides → s ≡ get_or sides i s → IsChain (Contains hot) s chain
     → (p : Point) (ps : List Point) → ring ≡ p ∷ ps → IsRoundedPath segments (p ∷ map (λ t. t.b) (take i sides)) walk
     → IsRoundedPath segments (p ∷ map (λ t. t.b) (take (i + 1) sides)) (walk ++ tail chain)
 next_side segments hot ring walk chain sides i s all among are_sides lt at is_chain p ps e so_far =
-    let linked = sides_linked p (ps ++ p ∷ []) sides (are_sides ∙ ap (λ r. pairs (closed r)) e) in
-    let on_ring : Contains (pairs (closed ring)) (ends_of s) =
-    subst (λ l. Contains l (ends_of s)) are_sides (Contains-map ends_of sides s (i, lt, sym at)) in
+    let linked = sides_linked p (ps ++ p ∷ []) sides (are_sides ∙ ap (λ r. pairs (closed_walk r)) e) in
+    let on_ring : Contains (pairs (closed_walk ring)) (segment_ends s) =
+    subst (λ l. Contains l (segment_ends s)) are_sides (Contains-map segment_ends sides s (i, lt, sym at)) in
     let link = linked_at p sides linked.0 i s lt ∙ ap (λ (t : Segment). t.a) (sym at) in
     let more = take_more sides i s lt ∙ ap (λ t. take i sides ++ t ∷ []) (sym at) in
     subst (λ l. IsRoundedPath segments (p ∷ l) (walk ++ tail chain))
     (sym (ap (map (λ (t : Segment). t.b)) more ∙ map-push (λ (t : Segment). t.b) (take i sides) s))
-    (side_of_some segments s chain (p ∷ map (λ t. t.b) (take i sides)) walk (among (ends_of s) on_ring)
+    (side_of_some segments s chain (p ∷ map (λ t. t.b) (take i sides)) walk (among (segment_ends s) on_ring)
     (chain_of_hot segments hot s chain all is_chain) so_far link)
 
 -- all sides
 pub whole_ring : (segments : List Segment) (ring walk : List Point) (sides : List Segment) (i : ℕ) (p : Point) (ps : List Point) →
     length sides ≤ i
-    → ring ≡ p ∷ ps → map ends_of sides ≡ pairs (closed ring) → IsRoundedPath segments (p ∷ map (λ t. t.b) (take i sides)) walk
-    → IsRoundedPath segments (closed ring) walk
+    → ring ≡ p ∷ ps → map segment_ends sides ≡ pairs (closed_walk ring) → IsRoundedPath segments (p ∷ map (λ t. t.b) (take i sides)) walk
+    → IsRoundedPath segments (closed_walk ring) walk
 whole_ring segments ring walk sides i p ps over e are_sides h =
-    let linked = sides_linked p (ps ++ p ∷ []) sides (are_sides ∙ ap (λ r. pairs (closed r)) e) in
-    subst (λ r. IsRoundedPath segments (closed r) walk) (sym e)
+    let linked = sides_linked p (ps ++ p ∷ []) sides (are_sides ∙ ap (λ r. pairs (closed_walk r)) e) in
+    subst (λ r. IsRoundedPath segments (closed_walk r) walk) (sym e)
     (subst (λ l. IsRoundedPath segments (p ∷ l) walk) (ap (map (λ (t : Segment). t.b)) (take_all i sides over) ∙ linked.1) h)

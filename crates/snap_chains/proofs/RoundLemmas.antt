@@ -16,8 +16,9 @@ use Rattle.snap_pixels.specs.Hot.{IsHot}
 use Rattle.snap_edge_test.proofs.SharedEnds.{ends_differ}
 use Rattle.snap_edge_test.specs.Parity.{parity, xor}
 use Rattle.snap_edge_test.specs.Rising.{IsRising, pairs}
-use Rattle.snap_edge_test.specs.Rounding.{IsRoundedPath, closed}
-use Rattle.snap_edge_test.specs.Undirected.{AreEdgesOf, AreRoundedRings, IsEdgeBefore, edges_of, is_owned, same_edge, touches, undirected}
+use Rattle.snap_edge_test.specs.Rounding.{IsRoundedPath, closed_walk}
+use Rattle.snap_edge_test.specs.Undirected.{AreEdgesOf, AreRoundedRings, IsEdgeBefore, is_owned, same_edge, touches, undirected}
+use Rattle.snap_edge_test.specs.Undirected.{walked_edges}
 use Rattle.snap_edge_test.proofs.Chains.{edge_of_neighbours}
 use Rattle.snap_edge_test.proofs.Edges.{edges_are_clean, owned_edges_are_even}
 use Rattle.snap_edge_test.proofs.Members.{Has, has, contains}
@@ -27,8 +28,8 @@ use Rattle.snap_chains.specs.declared.owner.Owner.{Owner}
 use Rattle.snap_chains.specs.declared.visits.Visit.{Visit}
 use Rattle.snap_chains.specs.OwnedRings.{AreRounded}
 use Rattle.snap_chains.specs.Owners.{IsOwnerBefore, owner_eq}
-use Rattle.snap_chains.specs.Round.{AreOwnersOf, IsRoundOf, walks_of}
-use Rattle.snap_chains.specs.Rounded.{AreClean, IsRounded, is_listed}
+use Rattle.snap_chains.specs.Round.{AreOwnersOf, IsRoundOf, owner_walks}
+use Rattle.snap_chains.specs.Rounded.{AreClean, IsRounded, is_owner_listed}
 use Rattle.snap_chains.specs.Visits.{AreVisitors, visit_eq, visits_by, visits_of}
 use Rattle.snap_chains.proofs.PathLemmas.{Contains-map, Has-map}
 use Rattle.snap_chains.proofs.OddLemmas.{parity_permutation}
@@ -37,12 +38,12 @@ use Rattle.snap_chains.proofs.VisitOrder.{owner_eq-Decides}
 
 -- ---- rounded rings
 rounded_ring : (segments : List Segment) (rings : List (Owner × List Point)) (walks : List (List Point))
-    → AllZip (λ r w. IsRoundedPath segments (closed r.1) w) rings walks → (w : List Point) → Has walks w
-    → (ring : List Point) × IsRoundedPath segments (closed ring) w
+    → AllZip (λ r w. IsRoundedPath segments (closed_walk r.1) w) rings walks → (w : List Point) → Has walks w
+    → (ring : List Point) × IsRoundedPath segments (closed_walk ring) w
 rounded_ring segments [] [] h w m = absurd m
 rounded_ring segments [] (v ∷ walks) h w m = absurd h
 rounded_ring segments (r ∷ rings) [] h w m = absurd m
-rounded_ring segments (r ∷ rings) (v ∷ walks) h w (inl e) = (r.1, subst (IsRoundedPath segments (closed r.1)) e h.0)
+rounded_ring segments (r ∷ rings) (v ∷ walks) h w (inl e) = (r.1, subst (IsRoundedPath segments (closed_walk r.1)) e h.0)
 rounded_ring segments (r ∷ rings) (v ∷ walks) h w (inr m) = rounded_ring segments rings walks h.1 w m
 
 rounded_rings : (rings : List (Owner × List Point)) (walks : List (List Point)) (h : AreRounded rings walks)
@@ -50,7 +51,7 @@ rounded_rings : (rings : List (Owner × List Point)) (walks : List (List Point))
 rounded_rings rings walks h w m = rounded_ring h.segments rings walks h.rounded w (has walks w m)
 
 pub as_many_walks : (rings : List (Owner × List Point)) (walks : List (List Point)) → AreRounded rings walks → length rings ≡ length walks
-as_many_walks rings walks h = sym (AllZip-long (λ r w. IsRoundedPath h.segments (closed r.1) w) rings walks h.rounded)
+as_many_walks rings walks h = sym (AllZip-long (λ r w. IsRoundedPath h.segments (closed_walk r.1) w) rings walks h.rounded)
 
 differ_by_pairs : (w : List Point) → ((c d : Point) → Has (pairs w) (c, d) → c ≢ d) → NeighboursDiffer w
 differ_by_pairs [] h = tt
@@ -62,7 +63,7 @@ neighbours_differ : (rings : List (Owner × List Point)) (walks : List (List Poi
     → Contains walks w → NeighboursDiffer w
 neighbours_differ rings walks h w m = differ_by_pairs w (λ c d n.
     let ring = rounded_rings rings walks h w m in
-    let e = rounded_paths_have_edges h.segments (closed ring.0) w ring.1 c d (contains (pairs w) (c, d) n) in
+    let e = rounded_paths_have_edges h.segments (closed_walk ring.0) w ring.1 c d (contains (pairs w) (c, d) n) in
     ends_differ e.s c d
     (edge_of_neighbours (IsHot h.segments) e.s e.chain c d e.is_chain (has (pairs e.chain) (c, d) e.neighbours)).below)
 
@@ -75,7 +76,7 @@ all_neighbours_differ rings walks h k d lt =
 
 -- ---- visits
 visited : (rings : List (Owner × List Point)) (walks : List (List Point)) → length rings ≡ length walks
-    → map (λ (v : Visit). v.edge) (visits_of rings walks) ≡ edges_of undirected walks
+    → map (λ (v : Visit). v.edge) (visits_of rings walks) ≡ walked_edges undirected walks
 visited [] [] e = refl
 visited [] (w ∷ walks) e = absurd (omega (arith, e))
 visited (r ∷ rings) [] e = absurd (omega (arith, e))
@@ -112,7 +113,7 @@ and-false false = refl
 
 -- the visits of the edge by the owner are as many as the owner's walks go it, up to an even number
 visits_by_owner : (o : Owner) (e : Point × Point) (rings : List (Owner × List Point)) (walks : List (List Point))
-    → parity (visit_eq (record { edge = e; owner = o })) (visits_of rings walks) ≡ is_owned (walks_of o rings walks) e
+    → parity (visit_eq (record { edge = e; owner = o })) (visits_of rings walks) ≡ is_owned (owner_walks o rings walks) e
 visits_by_owner o e [] walks = refl
 visits_by_owner o e (r ∷ rings) [] = refl
 visits_by_owner o e (r ∷ rings) (w ∷ walks) =
@@ -120,7 +121,7 @@ visits_by_owner o e (r ∷ rings) (w ∷ walks) =
     ∙ ap₂ xor (parity-map (visit_eq (record { edge = e; owner = o })) (λ p. record { edge = undirected p; owner = r.0 }) (pairs w)
     ∙ ap (λ b. parity (λ p. same_edge e (undirected p) && b) (pairs w)) (owner_turned o r.0))
     (visits_by_owner o e rings walks)
-    ∙ by_test (owner_eq r.0 o) (walks_of o rings walks)
+    ∙ by_test (owner_eq r.0 o) (owner_walks o rings walks)
   where
     by_test : (b : Bool) (rest : List (List Point))
         → xor (parity (λ p. same_edge e (undirected p) && b) (pairs w)) (is_owned rest e) ≡ is_owned (cond b (w ∷ rest) rest) e
@@ -128,7 +129,7 @@ visits_by_owner o e (r ∷ rings) (w ∷ walks) =
         ap (λ q. xor q (is_owned rest e)) (parity_agree (λ p. same_edge e (undirected p) && true) (λ p. same_edge e (undirected p))
         (pairs w)
         (λ p m. and-true (same_edge e (undirected p))) ∙ sym (parity-map (same_edge e) undirected (pairs w)))
-        ∙ sym (parity-append (same_edge e) (map undirected (pairs w)) (edges_of undirected rest))
+        ∙ sym (parity-append (same_edge e) (map undirected (pairs w)) (walked_edges undirected rest))
     by_test false rest =
         ap (λ q. xor q (is_owned rest e)) (parity_none (λ p. same_edge e (undirected p) && false) (pairs w)
         (λ p m. and-false (same_edge e (undirected p))))
@@ -191,11 +192,11 @@ round_of rings walks visits visits' edges edges' odd odd' owners h e same same_e
 }
 
 -- ---- what the types keep
-listed : (o : Owner) (owners : List Owner) → is_listed o owners ≡ true → Has owners o
+listed : (o : Owner) (owners : List Owner) → is_owner_listed o owners ≡ true → Has owners o
 listed o [] h = absurd (false≢true h)
 listed o (p ∷ owners) h = by_test (listed o owners) (owner_eq p o) refl h
   where
-    by_test : (is_listed o owners ≡ true → Has owners o) → (b : Bool) → b ≡ owner_eq p o → is_listed o (p ∷ owners) ≡ true
+    by_test : (is_owner_listed o owners ≡ true → Has owners o) → (b : Bool) → b ≡ owner_eq p o → is_owner_listed o (p ∷ owners) ≡ true
         → Has (p ∷ owners) o
     by_test later true e t = inl ((owner_eq-Decides p o).0 (sym e))
     by_test later false e t = inr (later (rw (← e) at t))
@@ -204,22 +205,22 @@ or-true : (b c : Bool) → c ≡ true → (b || c) ≡ true
 or-true true c h = refl
 or-true false c h = h
 
-list_has : (o : Owner) (owners : List Owner) → Has owners o → is_listed o owners ≡ true
+list_has : (o : Owner) (owners : List Owner) → Has owners o → is_owner_listed o owners ≡ true
 list_has o [] m = absurd m
 list_has o (p ∷ owners) (inl e) = rw ((owner_eq-Decides p o).1 e) refl
-list_has o (p ∷ owners) (inr m) = or-true (owner_eq p o) (is_listed o owners) (list_has o owners m)
+list_has o (p ∷ owners) (inr m) = or-true (owner_eq p o) (is_owner_listed o owners) (list_has o owners m)
 
 module _ (rings : List (Owner × List Point)) (walks : List (List Point)) where
   parity_listed : (o : Owner) (v : Point) (edges : List (Point × Point)) (owners : List (List Owner))
       → AllZip (AreOwnersOf rings walks) edges owners
-      → parity (λ p. is_listed o p.1 && touches v p.0) (zip edges owners)
-      ≡ parity (λ e. is_owned (walks_of o rings walks) e && touches v e) edges
+      → parity (λ p. is_owner_listed o p.1 && touches v p.0) (zip edges owners)
+      ≡ parity (λ e. is_owned (owner_walks o rings walks) e && touches v e) edges
   parity_listed o v [] [] h = refl
   parity_listed o v [] (own ∷ owners) h = refl
   parity_listed o v (e ∷ edges) [] h = absurd h
   parity_listed o v (e ∷ edges) (own ∷ owners) h =
       ap₂ (λ b p. xor (b && touches v e) p)
-      (same_tests (is_listed o own) (is_owned (walks_of o rings walks) e)
+      (same_tests (is_owner_listed o own) (is_owned (owner_walks o rings walks) e)
       (λ t. (h.0.exact o).0 (contains own o (listed o own t))) (λ t. list_has o own (has own o ((h.0.exact o).1 t))))
       (parity_listed o v edges owners h.1)
 
@@ -230,14 +231,15 @@ module _ (rings : List (Owner × List Point)) (walks : List (List Point)) where
   all_ordered (e ∷ edges) [] h = absurd h
   all_ordered (e ∷ edges) (own ∷ owners) h = (h.0.rising, all_ordered edges owners h.1)
 
-walk_inside : (o : Owner) (rings : List (Owner × List Point)) (walks : List (List Point)) (w : List Point) → Has (walks_of o rings walks) w
+walk_inside : (o : Owner) (rings : List (Owner × List Point)) (walks : List (List Point)) (w : List Point)
+    → Has (owner_walks o rings walks) w
     → Has walks w
 walk_inside o [] walks w m = absurd m
 walk_inside o (r ∷ rings) [] w m = absurd m
 walk_inside o (r ∷ rings) (v ∷ walks) w m = by_test (walk_inside o rings walks w) (owner_eq r.0 o) m
   where
-    by_test : (Has (walks_of o rings walks) w → Has walks w) → (b : Bool)
-        → Has (cond b (v ∷ walks_of o rings walks) (walks_of o rings walks)) w
+    by_test : (Has (owner_walks o rings walks) w → Has walks w) → (b : Bool)
+        → Has (cond b (v ∷ owner_walks o rings walks) (owner_walks o rings walks)) w
         → Has (v ∷ walks) w
     by_test later true (inl e) = inl e
     by_test later true (inr n) = inr (later n)
@@ -251,8 +253,8 @@ round_is_rounded rings edges owners h = record {
   paired = AllZip-long (AreOwnersOf rings h.walks) edges owners h.owners;
   ordered = All-from_recursion (IsRising IsOwnerBefore) owners (all_ordered rings h.walks edges owners h.owners);
   even = λ o v. parity_listed rings h.walks o v edges owners h.owners
-      ∙ owned_edges_are_even h.rounded.segments h.walks (walks_of o rings h.walks) edges (rounded_rings rings h.walks h.rounded) h.edges
-      (λ w m. contains h.walks w (walk_inside o rings h.walks w (has (walks_of o rings h.walks) w m))) v;
+      ∙ owned_edges_are_even h.rounded.segments h.walks (owner_walks o rings h.walks) edges (rounded_rings rings h.walks h.rounded) h.edges
+      (λ w m. contains h.walks w (walk_inside o rings h.walks w (has (owner_walks o rings h.walks) w m))) v;
 }
 
 -- and it is clean

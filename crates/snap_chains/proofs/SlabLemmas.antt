@@ -7,7 +7,7 @@ use Rattle.std.proofs.lemmas.List.{drop-drop, get_or-drop, get_or-take, length-d
 use Rattle.std.proofs.lemmas.List.Elements.{Contains-append_cases, Contains-append_left, Contains-append_right}
 use native.Mathlib.Nat.{suc-mul}
 use Rattle.lay_point.specs.declared.point.Point.{Point}
-use Rattle.snap_pixels.specs.Order.{AreTurned, turned}
+use Rattle.snap_pixels.specs.Order.{AreTransposed, transposed}
 use Rattle.snap_pixels.specs.Segments.{Meets}
 use Rattle.snap_pixels.proofs.OrderLemmas.{turned_members}
 use Rattle.snap_edge_test.proofs.Members.{Has, has, contains, has-append}
@@ -23,8 +23,8 @@ behind size cs [] = cs
 behind size cs (s ∷ slabs) = behind size (drop size cs) slabs
 
 pub one_slab_more : (size : ℕ) (cs rest : List Point) (slabs : List (List Point)) (s : List Point) → AreSlabs size cs slabs
-    → rest ≡ behind size cs slabs → AreTurned (take size rest) s → AreSlabs size cs (slabs ++ s ∷ [])
-one_slab_more size cs rest [] s h e turn = (subst (λ l. AreTurned (take size l) s) e turn, tt)
+    → rest ≡ behind size cs slabs → AreTransposed (take size rest) s → AreSlabs size cs (slabs ++ s ∷ [])
+one_slab_more size cs rest [] s h e turn = (subst (λ l. AreTransposed (take size l) s) e turn, tt)
 one_slab_more size cs rest (t ∷ slabs) s h e turn = (h.0, one_slab_more size (drop size cs) rest slabs s h.1 e turn)
 
 pub behind-push : (size : ℕ) (cs rest : List Point) (slabs : List (List Point)) (s : List Point) → rest ≡ behind size cs slabs
@@ -34,16 +34,16 @@ behind-push size cs rest (t ∷ slabs) s e = behind-push size (drop size cs) res
 
 -- ---- finding
 slab_at : (size : ℕ) (cs : List Point) (slabs : List (List Point)) → AreSlabs size cs slabs → (k : ℕ) (d : List Point)
-    → k < length slabs → AreTurned (take size (drop (k * size) cs)) (get_or slabs k d)
+    → k < length slabs → AreTransposed (take size (drop (k * size) cs)) (get_or slabs k d)
 slab_at size cs [] h k d lt = absurd (omega arith)
 slab_at size cs (s ∷ slabs) h zero d lt =
     let none : zero ≡ zero * size = omega arith in
-    subst (λ n. AreTurned (take size (drop n cs)) s) none h.0
+    subst (λ n. AreTransposed (take size (drop n cs)) s) none h.0
 slab_at size cs (s ∷ slabs) h (suc k) d lt =
     let later = slab_at size (drop size cs) slabs h.1 k d (omega arith) in
     let place : size + k * size ≡ suc k * size = omega (arith, suc-mul k size) in
     let same = drop-drop (k * size) size cs ∙ ap (λ n. drop n cs) place in
-    subst (λ l. AreTurned (take size l) (get_or slabs k d)) same later
+    subst (λ l. AreTransposed (take size l) (get_or slabs k d)) same later
 
 pub in_whole : (size n : ℕ) (cs : List Point) (c : Point) → Contains (take size (drop n cs)) c → Contains cs c
 in_whole size n cs c (k, lt, at) =
@@ -52,12 +52,12 @@ in_whole size n cs c (k, lt, at) =
     (n + k, inside, sym (get_or-take size (drop n cs) k c few ∙ get_or-drop n cs k c) ∙ at)
 
 slab_inside : (size : ℕ) (cs : List Point) (slabs : List (List Point)) → AreSlabs size cs slabs → (k : ℕ) (d : List Point)
-    → k < length slabs → (c : Point) → Contains (get_or slabs k d) c → Contains cs (turned c)
-slab_inside size cs slabs h k d lt c m = in_whole size (k * size) cs (turned c) ((slab_at size cs slabs h k d lt (turned c)).0 m)
+    → k < length slabs → (c : Point) → Contains (get_or slabs k d) c → Contains cs (transposed c)
+slab_inside size cs slabs h k d lt c m = in_whole size (k * size) cs (transposed c) ((slab_at size cs slabs h k d lt (transposed c)).0 m)
 
 slab_has : (size : ℕ) (cs : List Point) (slabs : List (List Point)) → AreSlabs size cs slabs → 0 < size → (i : ℕ) (c : Point)
     → i < length cs → get_or cs i c ≡ c → (d : List Point) → i / size < length slabs
-    → Contains (get_or slabs (i / size) d) (turned c)
+    → Contains (get_or slabs (i / size) d) (transposed c)
 slab_has size cs slabs h pos i c lt at d few =
     let k = i / size in
     let r = i % size in
@@ -98,7 +98,7 @@ div_mono a b size pos le =
 
 module _ (size : ℕ) (cs : List Point) (slabs : List (List Point)) (are : AreSlabs size cs slabs) (first end : ℕ)
     (inside : end ≤ length slabs) where
-  pub range_inside : (c : Point) → Contains (points_in (slice_range slabs first end)) c → Contains cs (turned c)
+  pub range_inside : (c : Point) → Contains (points_in (slice_range slabs first end)) c → Contains cs (transposed c)
   range_inside c m =
       let found = Has-flat_map (λ (s : List Point). s) (slice_range slabs first end) c
       (has (points_in (slice_range slabs first end)) c m) in
@@ -121,11 +121,11 @@ module _ (size : ℕ) (cs : List Point) (slabs : List (List Point)) (are : AreSl
       let s = there.0 in
       let here : get_or (slice_range slabs first end) (k - first) s ≡ s =
       get_or-range slabs first end (k - first) s few ∙ ap (λ j. get_or slabs j s) back ∙ there.1 in
-      let held = subst (λ (v : List Point). Contains v (turned c)) there.1
+      let held = subst (λ (v : List Point). Contains v (transposed c)) there.1
       (slab_has size cs slabs are pos i c below at s (omega (arith, high, inside))) in
       Contains-flat_map (λ (v : List Point). v) (slice_range slabs first end) (k - first) s
       (points_in (slice_range slabs first end))
-      (omega (arith, few, length-range slabs first end inside)) (sym here) refl (turned c) held
+      (omega (arith, few, length-range slabs first end inside)) (sym here) refl (transposed c) held
 
 -- ---- what is met in slabs
 -- what is met in one more list
@@ -166,17 +166,17 @@ gathered {A = A} {B = B} f P xs i x part near old found new lt at is inside all 
 
 -- of the centres in slabs those that are met, turned back
 pub met_in_slabs : (hot met found : List Point) (slabs : List (List Point)) (a b : Point) (from to : ℕ) → HoldMet hot a b (from, to)
-    → ((c : Point) → Contains (points_in slabs) c → Contains hot (turned c)) → HoldPlaces hot from to slabs
-    → ((c : Point) → Contains met c ↔ (Contains (points_in slabs) c × Meets (turned a) (turned b) c))
-    → found ≡ map turned met → (c : Point) → Contains found c ↔ (Contains hot c × Meets a b c)
+    → ((c : Point) → Contains (points_in slabs) c → Contains hot (transposed c)) → HoldPlaces hot from to slabs
+    → ((c : Point) → Contains met c ↔ (Contains (points_in slabs) c × Meets (transposed a) (transposed b) c))
+    → found ≡ map transposed met → (c : Point) → Contains found c ↔ (Contains hot c × Meets a b c)
 met_in_slabs hot met found slabs a b from to held inside holds are_met is c = (
   (λ m.
-      let there = (are_met (turned c)).0 ((turned_members met (turned c)).0 (subst (λ l. Contains l c) is m)) in
-      (inside (turned c) there.0, meets_turned (turned a) (turned b) (turned c) there.1)),
+      let there = (are_met (transposed c)).0 ((turned_members met (transposed c)).0 (subst (λ l. Contains l c) is m)) in
+      (inside (transposed c) there.0, meets_turned (transposed a) (transposed b) (transposed c) there.1)),
   (λ h.
       let across = meets_turned a b c h.1 in
       let k = h.0.0 in
       let place = held k c h.0.1 h.0.2 h.1 in
       let there = holds k c place.0 place.1 h.0.1 h.0.2 in
-      subst (λ l. Contains l c) (sym is) ((turned_members met (turned c)).1 ((are_met (turned c)).1 (there, across)))),
+      subst (λ l. Contains l c) (sym is) ((turned_members met (transposed c)).1 ((are_met (transposed c)).1 (there, across)))),
 )

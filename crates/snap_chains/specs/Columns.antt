@@ -5,8 +5,8 @@ use Rattle.lay_point.specs.declared.point.Point.{Point}
 use Rattle.snap_pixels.specs.Segments.{Meets}
 
 -- by x, then by y
-abbrev pub is_before : Point → Point → Bool
-is_before p q = int_lt p.x q.x || (int_eq p.x q.x && int_lt p.y q.y)
+abbrev pub is_lesser_point : Point → Point → Bool
+is_lesser_point p q = int_lt p.x q.x || (int_eq p.x q.x && int_lt p.y q.y)
 
 -- the centres that the segment from a to b meets are at indices from the first on, before the second
 abbrev pub HoldMet : List Point → Point → Point → ℕ × ℕ → Type 0

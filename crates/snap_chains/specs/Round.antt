@@ -11,16 +11,16 @@ use Rattle.snap_chains.specs.Owners.{IsOwnerBefore, owner_eq}
 use Rattle.snap_chains.specs.Rounded.{Owned}
 
 -- the walks round the owner's rings, where each ring has its walk at the same place
-abbrev pub walks_of : Owner → List (Owner × List Point) → List (List Point) → List (List Point)
-walks_of o [] walks = []
-walks_of o (r ∷ rings) [] = []
-walks_of o (r ∷ rings) (w ∷ walks) = if owner_eq r.0 o then w ∷ walks_of o rings walks else walks_of o rings walks
+abbrev pub owner_walks : Owner → List (Owner × List Point) → List (List Point) → List (List Point)
+owner_walks o [] walks = []
+owner_walks o (r ∷ rings) [] = []
+owner_walks o (r ∷ rings) (w ∷ walks) = if owner_eq r.0 o then w ∷ owner_walks o rings walks else owner_walks o rings walks
 
 -- the owners of an edge, in order: those whose walks, all together, go it an odd number of times
 pub record AreOwnersOf (rings : List (Owner × List Point)) (walks : List (List Point)) (e : Point × Point) (owners : List Owner)
     : Type 0 where
   pub rising : IsRising IsOwnerBefore owners
-  pub exact : (o : Owner) → Contains owners o ↔ IsTrue (is_owned (walks_of o rings walks) e)
+  pub exact : (o : Owner) → Contains owners o ↔ IsTrue (is_owned (owner_walks o rings walks) e)
 
 -- the edges that the rounded rings go, each once and in order, and the owners of each
 pub record IsRoundOf (rings : List (Owner × List Point)) (r : Owned) : Type 0 where

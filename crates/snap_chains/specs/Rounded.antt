@@ -13,12 +13,12 @@ use Rattle.snap_chains.specs.Owners.{IsOwnerBefore, owner_eq}
 abbrev pub Owned : Type 0
 Owned = List (Point × Point) × List (List Owner)
 
-abbrev pub is_listed : Owner → List Owner → Bool
-is_listed o owners = list_any (λ p. owner_eq p o) owners
+abbrev pub is_owner_listed : Owner → List Owner → Bool
+is_owner_listed o owners = list_any (λ p. owner_eq p o) owners
 
 -- of the edges that list the owner an even number have the point for an end
 abbrev pub AreEven : Owned → Type 0
-AreEven r = (o : Owner) (v : Point) → parity (λ p. is_listed o p.1 && touches v p.0) (zip r.0 r.1) ≡ false
+AreEven r = (o : Owner) (v : Point) → parity (λ p. is_owner_listed o p.1 && touches v p.0) (zip r.0 r.1) ≡ false
 
 pub record IsRounded (r : Owned) : Type 0 where
   pub rising : IsRising IsEdgeBefore r.0

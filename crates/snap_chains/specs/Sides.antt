@@ -2,5 +2,5 @@
 use Rattle.lay_point.specs.declared.point.Point.{Point}
 use Rattle.snap_pixels.specs.declared.segment.Segment.{Segment}
 
-abbrev pub ends_of : Segment → Point × Point
-ends_of s = (s.a, s.b)
+abbrev pub segment_ends : Segment → Point × Point
+segment_ends s = (s.a, s.b)

@@ -1,7 +1,7 @@
 //! The rows that a segment reaches within some columns.
 ghost use Rattle.std.specs.Prelude.{◌≤ℤ◌, ◌<ℤ◌, ◌-ℤ◌, ◌^◌, ◌≡◌, ◌≤◌, pos, int_lt, Contains, length};
 ghost use Rattle.lay_point.specs.declared.point.Point.{Point};
-ghost use Rattle.snap_pixels.specs.Order.{IsRising};
+ghost use Rattle.snap_pixels.specs.Order.{ArePointsRising};
 ghost use Rattle.snap_pixels.specs.Segments.{Meets, cross};
 ghost use Rattle.snap_chains.specs.Clips.{IsSlack, is_off};
 ghost use Rattle.snap_chains.specs.Columns.{HoldMet};
@@ -12,7 +12,7 @@ use snap_pixels::{Segment, area};
 /// Returns where the centres begin that the segment may meet, and where they end. Both are turned, and all
 /// centres are between two columns: left out are those in rows that it doesn't reach there.
 pub(crate) fn reached(segment: &Segment, low: i32, high: i32, centres: &[Point]) -> (usize, usize)
-    requires rising { IsRising centres.now }
+    requires rising { ArePointsRising centres.now }
     requires columns { (c : Point) → Contains centres.now c → (low ≤ℤ c.y) × (c.y ≤ℤ high) }
     ensures inside { result.1 ≤ length centres.now }
     ensures all { HoldMet centres.now segment.now.a segment.now.b result }

@@ -1,9 +1,9 @@
 //! The columns that a segment goes through.
 ghost use Rattle.std.specs.Prelude.{◌≡◌, ◌≤◌, ◌≤ℤ◌, Contains, length};
 ghost use Rattle.lay_point.specs.declared.point.Point.{Point};
-ghost use Rattle.snap_pixels.specs.Order.{IsRising};
+ghost use Rattle.snap_pixels.specs.Order.{ArePointsRising};
 ghost use Rattle.snap_pixels.specs.Segments.{Meets};
-ghost use Rattle.snap_chains.specs.Columns.{HoldMet, is_before};
+ghost use Rattle.snap_chains.specs.Columns.{HoldMet, is_lesser_point};
 
 use lay_point::Point;
 use snap_pixels::Segment;
@@ -11,7 +11,7 @@ use snap_pixels::Segment;
 /// Returns the centres from the least to the greatest column of the segment; in these two columns only
 /// those that aren't below its box, or above it. Of an upright segment these are the ones between its ends.
 pub(crate) fn columns<'a>(segment: &Segment, centres: &'a [Point]) -> &'a [Point]
-    requires { IsRising centres.now }
+    requires { ArePointsRising centres.now }
     ensures inside { (c : Point) → Contains result.now c → Contains centres.now c }
     ensures all { (c : Point) → Contains centres.now c → Meets segment.now.a segment.now.b c
         → Contains result.now c }
@@ -22,7 +22,7 @@ pub(crate) fn columns<'a>(segment: &Segment, centres: &'a [Point]) -> &'a [Point
 
 /// Returns where these centres begin, and where they end.
 pub(crate) fn places(segment: &Segment, centres: &[Point]) -> (usize, usize)
-    requires { IsRising centres.now }
+    requires { ArePointsRising centres.now }
     ensures ordered { result.0 ≤ result.1 }
     ensures inside { result.1 ≤ length centres.now }
     ensures all { HoldMet centres.now segment.now.a segment.now.b result }
@@ -63,7 +63,7 @@ fn high_corner(a: Point, b: Point) -> Point
 
 /// Returns whether `p` is before `q` in the order of points.
 fn is_before(p: Point, q: Point) -> bool
-    ensures { result ≡ is_before p q }
+    ensures { result ≡ is_lesser_point p q }
 {
     p.x < q.x || (p.x == q.x && p.y < q.y)
 }

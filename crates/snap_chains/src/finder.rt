@@ -1,7 +1,7 @@
 //! The search of the hot centres that a segment meets.
 ghost use Rattle.std.specs.Prelude.{◌≡◌, ◌↔◌, ◌<◌, ◌≤◌, Contains, IfOk, IfSome, length};
 ghost use Rattle.lay_point.specs.declared.point.Point.{Point};
-ghost use Rattle.snap_pixels.specs.Order.{IsRising, turned};
+ghost use Rattle.snap_pixels.specs.Order.{ArePointsRising, transposed};
 ghost use Rattle.snap_pixels.specs.Segments.{Meets};
 ghost use Rattle.snap_chains.specs.Slabs.{HoldPlaces, points_in};
 
@@ -95,7 +95,7 @@ impl<'h> Finder<'h> {
         requires ordered { from ≤ to }
         requires inside { to ≤ length self.now }
         ensures inside { IfSome result (λ slabs. (c : Point) → Contains (points_in slabs.now) c
-            → Contains self.now (turned c)) }
+            → Contains self.now (transposed c)) }
         ensures all { IfSome result (λ slabs. HoldPlaces self.now from to slabs.now) }
     {
         let first = from / self.size;
@@ -110,7 +110,7 @@ impl<'h> Finder<'h> {
 /// Returns the centres in the rows of a segment. Both are turned. Where only so few are in its columns that
 /// a search takes longer than to ask these, all centres are returned.
 fn rows<'a>(across: &Segment, turned: &'a [Point], in_columns: usize) -> &'a [Point]
-    requires { IsRising turned.now }
+    requires { ArePointsRising turned.now }
     ensures inside { (c : Point) → Contains result.now c → Contains turned.now c }
     ensures all { (c : Point) → Contains turned.now c → Meets across.now.a across.now.b c
         → Contains result.now c }

@@ -4,8 +4,8 @@ ghost use Rattle.lay_point.specs.declared.point.Point.{Point};
 ghost use Rattle.lay_point.specs.Rings.{IsRing, NeighboursDiffer};
 ghost use Rattle.snap_pixels.specs.Hot.{AreHotCentres};
 ghost use Rattle.snap_edge_test.specs.Rising.{pairs};
-ghost use Rattle.snap_edge_test.specs.Rounding.{IsRoundedPath, closed, tail};
-ghost use Rattle.snap_chains.specs.Sides.{ends_of};
+ghost use Rattle.snap_edge_test.specs.Rounding.{IsRoundedPath, closed_walk, tail};
+ghost use Rattle.snap_chains.specs.Sides.{segment_ends};
 
 use crate::chains::chain_in;
 use crate::finder::Finder;
@@ -25,8 +25,8 @@ pub fn round_ring(
 ) -> Result<Vec<Point>, NoMemory>
     requires hot { AreHotCentres _segments.now hot.now }
     requires ring { IsRing ring.now }
-    requires sides { (e : Point × Point) → Contains (pairs (closed ring.now)) e → Contains (map ends_of _segments.now) e }
-    ensures { IfOk result (λ walk. IsRoundedPath _segments.now (closed ring.now) walk.items) }
+    requires sides { (e : Point × Point) → Contains (pairs (closed_walk ring.now)) e → Contains (map segment_ends _segments.now) e }
+    ensures { IfOk result (λ walk. IsRoundedPath _segments.now (closed_walk ring.now) walk.items) }
 {
     let finder = Finder::plain(alloc, hot);
     let walk = round_ring_in(alloc, _segments, &finder, ring)?;
@@ -43,8 +43,8 @@ pub(crate) fn round_ring_in(
 ) -> Result<Vec<Point>, NoMemory>
     requires hot { AreHotCentres _segments.now finder.now }
     requires ring { IsRing ring.now }
-    requires sides { (e : Point × Point) → Contains (pairs (closed ring.now)) e → Contains (map ends_of _segments.now) e }
-    ensures { IfOk result (λ walk. IsRoundedPath _segments.now (closed ring.now) walk.items) }
+    requires sides { (e : Point × Point) → Contains (pairs (closed_walk ring.now)) e → Contains (map segment_ends _segments.now) e }
+    ensures { IfOk result (λ walk. IsRoundedPath _segments.now (closed_walk ring.now) walk.items) }
 {
     let mut walk = Vec::new(alloc);
     let Some((first, _)) = ring.split_first() else {
@@ -61,8 +61,8 @@ pub(crate) fn round_ring_in(
 
 /// Returns the sides of the ring: from each point to the next, and from the last to the first.
 pub fn ring_sides(alloc: Global, ring: &[Point]) -> Result<Vec<Segment>, NoMemory>
-    requires { NeighboursDiffer (closed ring.now) }
-    ensures { IfOk result (λ sides. map ends_of sides.items ≡ pairs (closed ring.now)) }
+    requires { NeighboursDiffer (closed_walk ring.now) }
+    ensures { IfOk result (λ sides. map segment_ends sides.items ≡ pairs (closed_walk ring.now)) }
 {
     let mut sides = Vec::new(alloc);
     let Some((first, later)) = ring.split_first() else {
@@ -80,7 +80,7 @@ pub fn ring_sides(alloc: Global, ring: &[Point]) -> Result<Vec<Segment>, NoMemor
 /// Returns the segment between two different points.
 fn side_between(a: Point, b: Point) -> Segment
     requires { a ≢ b }
-    ensures { ends_of result ≡ (a, b) }
+    ensures { segment_ends result ≡ (a, b) }
 {
     Segment::new(a, b).unwrap()
 }

@@ -1,7 +1,7 @@
 //! A slab: neighbours among the hot centres, in the order of their rows.
 ghost use Rattle.std.specs.Prelude.{◌≤ℤ◌, Contains, IfOk};
 ghost use Rattle.lay_point.specs.declared.point.Point.{Point};
-ghost use Rattle.snap_pixels.specs.Order.{AreTurned};
+ghost use Rattle.snap_pixels.specs.Order.{AreTransposed};
 ghost use Rattle.snap_pixels.specs.Segments.{Meets};
 
 use crate::clip::reached;
@@ -27,20 +27,20 @@ pub(crate) struct Slab {
 impl Model for Slab {
     ghost use Rattle.std.specs.Prelude.{◌≤ℤ◌, Contains, List};
     ghost use Rattle.lay_point.specs.declared.point.Point.{Point};
-    ghost use Rattle.snap_pixels.specs.Order.{IsRising};
+    ghost use Rattle.snap_pixels.specs.Order.{ArePointsRising};
 
     ghost Value = { List Point };
 
     ghost view = { λ s. s.centres.items };
 
-    ghost invariant = { λ s. IsRising s.centres.items
+    ghost invariant = { λ s. ArePointsRising s.centres.items
         × ((c : Point) → Contains s.centres.items c → (s.low ≤ℤ c.y) × (c.y ≤ℤ s.high)) };
 }
 
 impl Slab {
     /// Returns the slab of these centres.
     pub fn of(alloc: Global, part: &[Point]) -> Result<Slab, AllocError>
-        ensures { IfOk result (λ slab. AreTurned part.now slab) }
+        ensures { IfOk result (λ slab. AreTransposed part.now slab) }
     {
         let mut centres = turned_all(alloc, part)?;
         centres.sort_unstable();

@@ -8,7 +8,7 @@ use Rattle.snap_pixels.specs.Pixels.{IsRoundedTo, HoldsPlace}
 use Rattle.snap_pixels.specs.Segments.{along, IsFraction}
 use Rattle.snap_piece_laws.specs.Areas.{IsConvex}
 use Rattle.snap_piece_laws.specs.Pieces.{sideways, IsOnPiece, HasEnd, first, second, third, fourth, HasEndMeanwhile}
-use Rattle.snap_edge_laws.specs.Edges.{IsBetween, IsEnd}
+use Rattle.snap_edge_laws.specs.Edges.{IsBetween, IsEndpoint}
 use Rattle.lay_int_laws.proofs.Polynomials.{#, ◌⊕◌, ◌⊖◌, ◌⊗◌, identity}
 use Rattle.lay_int_laws.proofs.Signs.{linear, nonnegative_product, positive_product, below_or_not}
 use Rattle.snap_edge_laws.proofs.Rounding.{mixed, mixed_before, mixed_after}
@@ -61,7 +61,7 @@ mixture_between m l u w part =
 -- a mixture of the two points of an edge's segment is in the pixel of a hot centre: so this is an end of the edge
 pub end_by_mixture : (Hot : Point → Type 0) (s : Segment) (p q r : Point) (k u w m l : ℤ) → IsSpan Hot s q r k u w → Hot p
     → IsFraction l m → HoldsPlace p (k *ℤ m) (along m l (place s k u).x (place s k w).x) (along m l (place s k u).y (place s k w).y)
-    → IsEnd p q r
+    → IsEndpoint p q r
 end_by_mixture Hot s p q r k u w m l span hot part h =
     span.between p m (along m l u w) part.scale hot
     (record {
@@ -77,7 +77,7 @@ end_by_mixture Hot s p q r k u w m l span hot part h =
 
 -- a point of a segment in the pixel of p isn't on the piece from q's to r's, while all move along x; nor later along y
 never_sideways : (Hot : Point → Type 0) (s s' : Segment) (p q r : Point) (k v u w n i : ℤ) → IsSpan Hot s q r k u w → Hot p
-    → ¬ (IsEnd p q r) → IsSpot s' p k v → IsFraction i n
+    → ¬ (IsEndpoint p q r) → IsSpot s' p k v → IsFraction i n
     → IsOnPiece (sideways n i (place s' k v) (p.x *ℤ k)) (sideways n i (place s k u) (q.x *ℤ k)) (sideways n i (place s k w) (r.x *ℤ k))
     → ⊥
 never_sideways Hot s s' p q r k v u w n i span hot other spot time h =
@@ -93,7 +93,7 @@ abbrev pub upwards : ℤ → ℤ → ℤ → Point → Point → Point
 upwards k n i p c = record { x = c.x *ℤ k; y = along n i p.y (c.y *ℤ k) }
 
 never_upwards : (Hot : Point → Type 0) (s s' : Segment) (p q r : Point) (k v u w n i : ℤ) → IsSpan Hot s q r k u w → Hot p
-    → ¬ (IsEnd p q r) → IsSpot s' p k v → IsFraction i n
+    → ¬ (IsEndpoint p q r) → IsSpot s' p k v → IsFraction i n
     → IsOnPiece (upwards k n i (place s' k v) p) (upwards k n i (place s k u) q) (upwards k n i (place s k w) r)
     → ⊥
 never_upwards Hot s s' p q r k v u w n i span hot other spot time h =
@@ -108,13 +108,13 @@ never_upwards Hot s s' p q r k v u w n i span hot other spot time h =
 pub record AreApart (Hot : Point → Type 0) (s s' : Segment) (p q r t : Point) (k u v w z : ℤ) : Type 0 where
   pub first_span : IsSpan Hot s p r k u w
   pub second_span : IsSpan Hot s' q t k v z
-  pub p_off : ¬ (IsEnd p q t)
-  pub r_off : ¬ (IsEnd r q t)
-  pub q_off : ¬ (IsEnd q p r)
-  pub t_off : ¬ (IsEnd t p r)
+  pub p_off : ¬ (IsEndpoint p q t)
+  pub r_off : ¬ (IsEndpoint r q t)
+  pub q_off : ¬ (IsEndpoint q p r)
+  pub t_off : ¬ (IsEndpoint t p r)
 
 -- the ends in the other order
-pub swap_ends : (p q r : Point) → ¬ (IsEnd p q r) → ¬ (IsEnd p r q)
+pub swap_ends : (p q r : Point) → ¬ (IsEndpoint p q r) → ¬ (IsEndpoint p r q)
 swap_ends p q r h e = h (⊎_elim inr inl e)
 
 no_end_sideways : (Hot : Point → Type 0) (s s' : Segment) (p q r t : Point) (k u v w z : ℤ) → AreApart Hot s s' p q r t k u v w z

@@ -6,7 +6,7 @@ use Rattle.snap_pixels.specs.declared.segment.Segment.{Segment}
 use Rattle.snap_pixels.specs.Pixels.{IsRoundedTo, HoldsPlace}
 use Rattle.snap_pixels.specs.Segments.{along, AreParallel, IsCommon, IsFraction, Crosses}
 use Rattle.snap_piece_laws.specs.Areas.{area, IsConvex}
-use Rattle.snap_edge_laws.specs.Edges.{IsEnd}
+use Rattle.snap_edge_laws.specs.Edges.{IsEndpoint}
 use Rattle.lay_int_laws.proofs.Polynomials.{#, lit, ◌⊕◌, ◌⊖◌, ◌⊗◌, identity}
 use Rattle.lay_int_laws.proofs.Signs.{linear, positive_product}
 use Rattle.lay_int_laws.proofs.Division.{rounded}
@@ -38,9 +38,9 @@ centre_of k x y scale =
     (record { x = column.0; y = row.0 }, record { column = (column.1, column.2); row = (row.1, row.2) })
 
 -- an end of both edges is an end in common
-no_common_end : (h p q r t : Point) → ¬ (IsEnd p q t) → ¬ (IsEnd r q t) → IsEnd h p r → IsEnd h q t → ⊥
-no_common_end h p q r t p_off r_off (inl e) g = p_off (subst (λ (c : Point). IsEnd c q t) e g)
-no_common_end h p q r t p_off r_off (inr e) g = r_off (subst (λ (c : Point). IsEnd c q t) e g)
+no_common_end : (h p q r t : Point) → ¬ (IsEndpoint p q t) → ¬ (IsEndpoint r q t) → IsEndpoint h p r → IsEndpoint h q t → ⊥
+no_common_end h p q r t p_off r_off (inl e) g = p_off (subst (λ (c : Point). IsEndpoint c q t) e g)
+no_common_end h p q r t p_off r_off (inr e) g = r_off (subst (λ (c : Point). IsEndpoint c q t) e g)
 
 pub no_crossing_at_rest : (Hot : Point → Type 0) (s s' : Segment) (p q r t : Point) (k u v w z : ℤ)
     → AreApart Hot s s' p q r t k u v w z → ((c : Point) → Crosses s.a s.b s'.a s'.b c → Hot c)

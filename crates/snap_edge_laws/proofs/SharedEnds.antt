@@ -5,7 +5,7 @@ use Rattle.lay_point.specs.declared.point.Point.{Point}
 use Rattle.snap_pixels.specs.declared.segment.Segment.{Segment}
 use Rattle.snap_pixels.specs.Segments.{along}
 use Rattle.snap_piece_laws.specs.Pieces.{IsOnPiece}
-use Rattle.snap_edge_laws.specs.Edges.{IsBelow, IsEnd}
+use Rattle.snap_edge_laws.specs.Edges.{IsBelow, IsEndpoint}
 use Rattle.lay_int_laws.proofs.Polynomials.{#, lit, ◌⊕◌, ◌⊖◌, ◌⊗◌, identity}
 use Rattle.lay_int_laws.proofs.Signs.{linear, cancel_same, below_or_not, below_or_same}
 use Rattle.snap_edge_laws.proofs.Rounding.{mixed_after, rounded_centre}
@@ -28,7 +28,7 @@ pub record IsClear (Hot : Point → Type 0) (c d : Point) : Type 0 where
   pub first_hot : Hot c
   pub last_hot : Hot d
   pub differ : ¬ (c ≡ d)
-  pub only_ends : (v : Point) → Hot v → IsOnPiece v c d → IsEnd v c d
+  pub only_ends : (v : Point) → Hot v → IsOnPiece v c d → IsEndpoint v c d
 
 -- an equation of a mixture, at scale k
 at_scale : (k m l a b v : ℤ) → m *ℤ v ≡ along m l a b → m *ℤ (v *ℤ k) ≡ along m l (a *ℤ k) (b *ℤ k)

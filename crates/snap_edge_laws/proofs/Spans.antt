@@ -5,7 +5,7 @@ use Rattle.lay_point.specs.declared.point.Point.{Point}
 use Rattle.snap_pixels.specs.declared.segment.Segment.{Segment}
 use Rattle.lay_point.specs.Points.{IsBefore}
 use Rattle.snap_pixels.specs.Segments.{Meets}
-use Rattle.snap_edge_laws.specs.Edges.{key, IsBelow, IsEdgeOf, IsBetween, IsEnd}
+use Rattle.snap_edge_laws.specs.Edges.{key, IsBelow, IsEdgeOf, IsBetween, IsEndpoint}
 use Rattle.lay_int_laws.proofs.Polynomials.{#, ◌⊖◌, ◌⊗◌, identity}
 use Rattle.lay_int_laws.proofs.Signs.{linear, nonnegative_product, positive_product, times_le, below_or_not, below_or_same}
 use Rattle.snap_edge_laws.proofs.Rounding.{rounded_at_multiple}
@@ -47,7 +47,7 @@ first_comes_first s c d k u w h g below = ⊎_elim (λ (less : u <ℤ w). less) 
         (λ (tie : (key s c ≡ key s d) × IsBefore c d). not_before_itself c d (key_same s d c k w u g h le (sym tie.0)) tie.1) below
 
 between_in_order : (Hot : Point → Type 0) (s : Segment) (c d v : Point) (k u w z : ℤ) → IsEdgeOf Hot s c d
-    → IsSpot s c k u → IsSpot s d k w → Hot v → IsSpot s v k z → u ≤ℤ z → z ≤ℤ w → IsEnd v c d
+    → IsSpot s c k u → IsSpot s d k w → Hot v → IsSpot s v k z → u ≤ℤ z → z ≤ℤ w → IsEndpoint v c d
 between_in_order Hot s c d v k u w z edge hc hd hot hv after before =
     ⊎_elim (λ (above : key s c <ℤ key s v). ⊎_elim
     (λ (under : key s v <ℤ key s d). absurd (edge.none_between v hot met (inl above) (inl under)))
@@ -65,7 +65,7 @@ pub record IsSpan (Hot : Point → Type 0) (s : Segment) (c d : Point) (k u w : 
   pub last_hot : Hot d
   pub first : IsSpot s c k u
   pub last : IsSpot s d k w
-  pub between : (v : Point) (m z : ℤ) → pos 1 ≤ℤ m → Hot v → IsSpot s v (k *ℤ m) z → IsBetween (u *ℤ m) z (w *ℤ m) → IsEnd v c d
+  pub between : (v : Point) (m z : ℤ) → pos 1 ≤ℤ m → Hot v → IsSpot s v (k *ℤ m) z → IsBetween (u *ℤ m) z (w *ℤ m) → IsEndpoint v c d
 
 span_at : (Hot : Point → Type 0) (s : Segment) (c d : Point) (k u w : ℤ) → IsEdgeOf Hot s c d
     → IsSpot s c k u → IsSpot s d k w → IsSpan Hot s c d k u w

@@ -4,7 +4,7 @@ use Rattle.lay_point.specs.declared.point.Point.{Point}
 use Rattle.snap_pixels.specs.declared.segment.Segment.{Segment}
 use Rattle.snap_pixels.specs.Segments.{along, Crosses}
 use Rattle.snap_pixels.specs.Hot.{IsHot}
-use Rattle.snap_edge_laws.specs.Edges.{IsEnd, IsEdgeOf, IsOn, AreOneEdge, IsSharedEnd, MeetOnlyAtEnds}
+use Rattle.snap_edge_laws.specs.Edges.{IsEndpoint, IsEdgeOf, IsOn, AreOneEdge, IsSharedEnd, MeetOnlyAtEnds}
 use Rattle.lay_int_laws.proofs.Signs.{linear, cancel_same}
 use Rattle.lay_int_laws.proofs.Products.{*ℤ_comm}
 use Rattle.snap_edge_laws.proofs.Order.{same_point}
@@ -55,7 +55,7 @@ turned_first Hot c d c' d' k x y m l l' h = record {
 
 -- some end is shared
 shared : (Hot : Point → Type 0) (c d c' d' : Point) (k x y m l l' : ℤ) → pos 1 ≤ℤ k → AreMet Hot c d c' d' k x y m l l'
-    → ¬ (AreOneEdge c d c' d') → IsEnd c c' d' ⊎ IsEnd d c' d' → IsSharedEnd c d c' d' k x y
+    → ¬ (AreOneEdge c d c' d') → IsEndpoint c c' d' ⊎ IsEndpoint d c' d' → IsSharedEnd c d c' d' k x y
 shared Hot c d c' d' k x y m l l' scale h other (inl (inl e)) = ⊎_elim
     (λ (both : d ≡ d'). absurd (other (inl (e, both))))
     (λ (at : IsPlaceOf c k x y).
@@ -115,11 +115,12 @@ meeting_of Hot c d c' d' k x y m l l' scale h =
     }
 
 -- an end of the one edge is an end of the other, or none is
-some_shared_or_none : (c d c' d' : Point) → (IsEnd c c' d' ⊎ IsEnd d c' d') ⊎ ((¬ (IsEnd c c' d')) × (¬ (IsEnd d c' d')))
+some_shared_or_none : (c d c' d' : Point)
+    → (IsEndpoint c c' d' ⊎ IsEndpoint d c' d') ⊎ ((¬ (IsEndpoint c c' d')) × (¬ (IsEndpoint d c' d')))
 some_shared_or_none c d c' d' = ⊎_elim (λ e. inl (inl e))
     (λ none. ⊎_elim (λ e. inl (inr e)) (λ none'. inr (none, none')) (end_or_not d c' d')) (end_or_not c c' d')
   where
-    end_or_not : (v p q : Point) → IsEnd v p q ⊎ ¬ (IsEnd v p q)
+    end_or_not : (v p q : Point) → IsEndpoint v p q ⊎ ¬ (IsEndpoint v p q)
     end_or_not v p q = ⊎_elim (λ e. inl (inl e))
         (λ n. ⊎_elim (λ e. inl (inr e)) (λ n'. inr (λ e. ⊎_elim n n' e)) (same_or_not v q)) (same_or_not v p)
 
@@ -133,9 +134,9 @@ edges_meet_at_ends Hot s s' c d c' d' k x y crossing_is_hot e e' other scale on 
     let clear' = clear_edge Hot s' c' d' spans.k spans.u' spans.w' (ends_differ s' c' d' e'.below) spans.second in
     let met = met_somewhere Hot c d c' d' k x y scale clear clear' on on' in
     ⊎_elim
-    (λ (some : IsEnd c c' d' ⊎ IsEnd d c' d').
+    (λ (some : IsEndpoint c c' d' ⊎ IsEndpoint d c' d').
     shared Hot c d c' d' k x y met.m met.l met.l' scale met.are_met other some)
-    (λ (none : (¬ (IsEnd c c' d')) × (¬ (IsEnd d c' d'))).
+    (λ (none : (¬ (IsEndpoint c c' d')) × (¬ (IsEndpoint d c' d'))).
     absurd (no_meeting_apart Hot s s' c c' d d' spans.k spans.u spans.u' spans.w spans.w' met.m met.l met.l'
     (record {
       first_span = spans.first;

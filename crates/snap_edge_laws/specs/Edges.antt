@@ -37,8 +37,8 @@ pub record IsOn (c d : Point) (k x y : ℤ) : Type 0 where
   pub row : IsBetween (k *ℤ c.y) y (k *ℤ d.y)
 
 -- v is an end of the edge from c to d
-abbrev pub IsEnd : Point → Point → Point → Type 0
-IsEnd v c d = (v ≡ c) ⊎ (v ≡ d)
+abbrev pub IsEndpoint : Point → Point → Point → Type 0
+IsEndpoint v c d = (v ≡ c) ⊎ (v ≡ d)
 
 -- the edges have the same ends, in one order or the other
 abbrev pub AreOneEdge : Point → Point → Point → Point → Type 0
@@ -49,8 +49,8 @@ pub record IsSharedEnd (c d c' d' : Point) (k x y : ℤ) : Type 0 where
   pub end : Point
   pub column : x ≡ k *ℤ end.x
   pub row : y ≡ k *ℤ end.y
-  pub of_first : IsEnd end c d
-  pub of_second : IsEnd end c' d'
+  pub of_first : IsEndpoint end c d
+  pub of_second : IsEndpoint end c' d'
 
 -- edges of the segments, taken as undirected, have no place in common but a shared end
 abbrev pub MeetOnlyAtEnds : List Segment → Type 0

@@ -7,7 +7,7 @@ use Rattle.std.proofs.lemmas.Bool.{false≢true}
 use Rattle.lay_point.specs.declared.point.Point.{Point}
 use Rattle.lay_point.specs.Points.{IsBefore}
 use Rattle.snap_pixels.specs.Segments.{AreParallel}
-use Rattle.snap_chain_laws.specs.Edges.{IsEnd, IsOn, IsSharedEnd}
+use Rattle.snap_chain_laws.specs.Edges.{IsEndpoint, IsOn, IsSharedEnd}
 use Rattle.lay_int_laws.proofs.Polynomials.{#, lit, ◌⊕◌, ◌⊖◌, ◌⊗◌, identity}
 use Rattle.lay_int_laws.proofs.Signs.{linear, below_or_same, times_lt, cancel_same, cancel_zero}
 use Rattle.snap_chain_laws.proofs.Order.{same_point}
@@ -134,18 +134,18 @@ pub off_one_line : (a b c d : Point) → IsBefore c d → AreParallel a b c d �
 off_one_line a b c d second parallel off k x y scale f g = absurd (off (one_line a b c d k x y scale second parallel f g))
 
 -- a point on both that isn't an end of both
-not_at_end : (a b c d v : Point) → IsOn a b (pos 1) v.x v.y → IsOn c d (pos 1) v.x v.y → ¬ (IsEnd v a b × IsEnd v c d)
+not_at_end : (a b c d v : Point) → IsOn a b (pos 1) v.x v.y → IsOn c d (pos 1) v.x v.y → ¬ (IsEndpoint v a b × IsEndpoint v c d)
     → MeetAtEnds (a, b) (c, d) → ⊥
 not_at_end a b c d v f g no_end h =
     let s = h (pos 1) v.x v.y (omega (arith, linear)) f g in
     let e : s.end ≡ v = sym (same_point v s.end (s.column ∙ one s.end.x) (s.row ∙ one s.end.y)) in
-    no_end (subst (λ (w : Point). IsEnd w a b) e s.of_first, subst (λ (w : Point). IsEnd w c d) e s.of_second)
+    no_end (subst (λ (w : Point). IsEndpoint w a b) e s.of_first, subst (λ (w : Point). IsEndpoint w c d) e s.of_second)
 
 pub not_itself : (p q : Point) → IsBefore p q → ¬ (p ≡ q)
 not_itself p q h e = before_is_strict.irreflexive q (subst (λ (v : Point). IsBefore v q) e h)
 
 -- strictly inside the first edge: no end of it
-not_end : (a v b : Point) → IsBefore a v → IsBefore v b → ¬ (IsEnd v a b)
+not_end : (a v b : Point) → IsBefore a v → IsBefore v b → ¬ (IsEndpoint v a b)
 not_end a v b early late (inl e) = not_itself a v early (sym e)
 not_end a v b early late (inr e) = not_itself v b late e
 

@@ -2,7 +2,7 @@
 use Rattle.std.proofs.Common.{◌≡◌, inl, inr, [], ◌∷◌, ℤ, pos, ◌+ℤ◌, ◌-ℤ◌, ◌*ℤ◌, ◌≤ℤ◌, ◌<ℤ◌, refl, sym, subst, ◌∙◌, arith, ⊎_elim}
 use Rattle.lay_point.specs.declared.point.Point.{Point}
 use Rattle.lay_point.specs.Points.{IsBefore}
-use Rattle.snap_chain_laws.specs.Edges.{IsBetween, IsEnd, IsOn}
+use Rattle.snap_chain_laws.specs.Edges.{IsBetween, IsEndpoint, IsOn}
 use Rattle.lay_int_laws.proofs.Polynomials.{#, lit, ◌⊕◌, ◌⊖◌, ◌⊗◌, identity}
 use Rattle.lay_int_laws.proofs.Signs.{linear, below_or_not, nonnegative_product, cancel_nonnegative, zero_product}
 use Rattle.snap_chain_laws.proofs.Places.{turned_on}
@@ -52,7 +52,7 @@ flip : (p q r : ℤ) → p *ℤ (q -ℤ r) ≡ pos 0 -ℤ p *ℤ (r -ℤ q)
 flip p q r = identity (p ∷ q ∷ r ∷ []) (# 0 ⊗ (# 1 ⊖ # 2)) (lit (pos 0) ⊖ # 0 ⊗ (# 2 ⊖ # 1)) refl
 
 -- a place on an edge is on the line from either end
-pub through : (a b v : Point) (k x y : ℤ) → IsEnd v a b → IsOn a b k x y
+pub through : (a b v : Point) (k x y : ℤ) → IsEndpoint v a b → IsOn a b k x y
     → (x -ℤ k *ℤ v.x) *ℤ (b.y -ℤ a.y) ≡ (y -ℤ k *ℤ v.y) *ℤ (b.x -ℤ a.x)
 through a b v k x y (inl e) h =
     subst (λ (p : Point). (x -ℤ k *ℤ p.x) *ℤ (b.y -ℤ a.y) ≡ (y -ℤ k *ℤ p.y) *ℤ (b.x -ℤ a.x)) (sym e) h.line

@@ -5,7 +5,7 @@ use Rattle.std.specs.Prelude.{is_some}
 use Rattle.std.proofs.lemmas.Bool.{false≢true}
 use Rattle.lay_point.specs.declared.point.Point.{Point}
 use Rattle.snap_pixels.specs.Segments.{along, AreParallel, Crosses, IsCommon, IsFraction}
-use Rattle.snap_chain_laws.specs.Edges.{IsBetween, IsEnd, IsOn, IsSharedEnd}
+use Rattle.snap_chain_laws.specs.Edges.{IsBetween, IsEndpoint, IsOn, IsSharedEnd}
 use Rattle.lay_int_laws.proofs.Division.{rounded}
 use Rattle.lay_int_laws.proofs.Polynomials.{#, ◌⊕◌, ◌⊖◌, ◌⊗◌, identity}
 use Rattle.lay_int_laws.proofs.Signs.{linear, below_or_not, nonnegative_product, cancel_same}
@@ -13,7 +13,8 @@ use Rattle.snap_chain_laws.proofs.Places.{IsAlong, along_at_multiple, somewhere}
 use Rattle.snap_edge_test.specs.Meeting.{HaveCommon, MeetAtEnds, ShareEnd}
 use Rattle.snap_edge_test.proofs.Lines.{only_zero, through}
 
-pub at_shared : (a b c d v : Point) (k x y : ℤ) → ¬ (AreParallel a b c d) → IsEnd v a b → IsEnd v c d → IsOn a b k x y → IsOn c d k x y
+pub at_shared : (a b c d v : Point) (k x y : ℤ) → ¬ (AreParallel a b c d) → IsEndpoint v a b → IsEndpoint v c d → IsOn a b k x y
+    → IsOn c d k x y
     → IsSharedEnd a b c d k x y
 at_shared a b c d v k x y slanted va vc on_first on_second =
     let z = only_zero (x -ℤ k *ℤ v.x) (y -ℤ k *ℤ v.y) (b.x -ℤ a.x) (b.y -ℤ a.y) (d.x -ℤ c.x) (d.y -ℤ c.y)
@@ -100,8 +101,8 @@ common_by_crossing a b c d (Some p) first second slanted exact =
 -- a common place that is a shared end makes one
 shared_by_place : (a b c d : Point) (k x y : ℤ) → IsSharedEnd a b c d k x y → ShareEnd a b c d
 shared_by_place a b c d k x y h = ⊎_elim
-    (λ (e : h.end ≡ a). inl (subst (λ (v : Point). IsEnd v c d) e h.of_second))
-    (λ (e : h.end ≡ b). inr (subst (λ (v : Point). IsEnd v c d) e h.of_second)) h.of_first
+    (λ (e : h.end ≡ a). inl (subst (λ (v : Point). IsEndpoint v c d) e h.of_second))
+    (λ (e : h.end ≡ b). inr (subst (λ (v : Point). IsEndpoint v c d) e h.of_second)) h.of_first
 
 pub slanted_Decides : (a b c d : Point) (r : Bool) → ¬ (ShareEnd a b c d) → Decides r (HaveCommon a b c d)
     → Decides (not r) (MeetAtEnds (a, b) (c, d))

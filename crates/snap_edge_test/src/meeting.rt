@@ -5,7 +5,7 @@ ghost use Rattle.lay_point.specs.Edges.{is_before};
 ghost use Rattle.lay_point.specs.declared.point.Point.{Point};
 ghost use Rattle.lay_point.specs.Points.{IsBefore};
 ghost use Rattle.snap_pixels.specs.Segments.{AreParallel, cross};
-ghost use Rattle.snap_chain_laws.specs.Edges.{IsEnd};
+ghost use Rattle.snap_chain_laws.specs.Edges.{IsEndpoint};
 ghost use Rattle.snap_edge_test.specs.Meeting.{HaveCommon, MeetAtEnds, ShareEnd};
 
 use lay_point::{Edge, Point};
@@ -65,7 +65,7 @@ fn share_end(a: Point, b: Point, c: Point, d: Point) -> bool
 
 /// Returns whether `v` is an end of the edge from `c` to `d`.
 fn is_end(v: Point, c: Point, d: Point) -> bool
-    ensures { IsTrue result ↔ IsEnd v c d }
+    ensures { IsTrue result ↔ IsEndpoint v c d }
 {
     v == c || v == d
 }

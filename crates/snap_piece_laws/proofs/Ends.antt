@@ -4,7 +4,7 @@ use Rattle.std.proofs.Common.{◌≡◌, [], ◌∷◌, ℤ, pos, ◌+ℤ◌, �
 use Rattle.lay_point.specs.declared.point.Point.{Point}
 use Rattle.snap_pixels.specs.Segments.{along}
 use Rattle.snap_piece_laws.specs.Areas.{area}
-use Rattle.snap_piece_laws.specs.Pieces.{IsPart, IsOnPiece, HasEnd, first, second, third, fourth}
+use Rattle.snap_piece_laws.specs.Pieces.{IsAtFraction, IsOnPiece, HasEnd, first, second, third, fourth}
 use Rattle.lay_int_laws.proofs.Polynomials.{#, lit, ◌⊕◌, ◌⊖◌, ◌⊗◌, identity}
 use Rattle.lay_int_laws.proofs.Signs.{linear, nonnegative_product, positive_product, below_or_not, below_or_same}
 use Rattle.snap_piece_laws.proofs.Areas.{areas_balance, areas_weigh_x, areas_weigh_y, area_off, area-turned, flipped}
@@ -13,7 +13,7 @@ pub along_back : (m l a b : ℤ) → along m l a b ≡ along m (m -ℤ l) b a
 along_back m l a b = identity (m ∷ l ∷ a ∷ b ∷ [])
     (# 2 ⊗ (# 0 ⊖ # 1) ⊕ # 3 ⊗ # 1) (# 3 ⊗ (# 0 ⊖ (# 0 ⊖ # 1)) ⊕ # 2 ⊗ (# 0 ⊖ # 1)) refl
 
-pub turned_part : (p q r : Point) (m l : ℤ) → IsPart p q r m l → IsPart p r q m (m -ℤ l)
+pub turned_part : (p q r : Point) (m l : ℤ) → IsAtFraction p q r m l → IsAtFraction p r q m (m -ℤ l)
 turned_part p q r m l h = record {
   part = record { scale = h.part.scale; low = omega (arith, linear, h.part.high); high = omega (arith, linear, h.part.low) };
   column = h.column ∙ along_back m l q.x r.x;

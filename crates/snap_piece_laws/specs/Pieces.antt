@@ -5,7 +5,7 @@ use Rattle.snap_pixels.specs.Segments.{IsFraction, along}
 use Rattle.snap_piece_laws.specs.Areas.{IsConvex}
 
 -- p is l / m of the way from q to r
-pub record IsPart (p q r : Point) (m l : ℤ) : Type 0 where
+pub record IsAtFraction (p q r : Point) (m l : ℤ) : Type 0 where
   pub part : IsFraction l m
   pub column : m *ℤ p.x ≡ along m l q.x r.x
   pub row : m *ℤ p.y ≡ along m l q.y r.y
@@ -14,7 +14,7 @@ pub record IsPart (p q r : Point) (m l : ℤ) : Type 0 where
 pub record IsOnPiece (p q r : Point) : Type 0 where
   pub m : ℤ
   pub l : ℤ
-  pub is_part : IsPart p q r m l
+  pub is_part : IsAtFraction p q r m l
 
 -- an end of a diagonal of the quadrilateral p q r t lies on the other diagonal
 pub data HasEnd (p q r t : Point) : Type 0 where

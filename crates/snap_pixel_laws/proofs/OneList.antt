@@ -3,7 +3,7 @@ use Rattle.std.proofs.Common.{◌≡◌, zero, suc, ◌⊎◌, inl, inr, ⊎_eli
 use Rattle.std.proofs.Common.{◌∙◌, subst, arith}
 use Rattle.std.proofs.lemmas.Int.{ints}
 use Rattle.lay_point.specs.declared.point.Point.{Point}
-use Rattle.snap_pixels.specs.Order.{IsRising}
+use Rattle.snap_pixels.specs.Order.{ArePointsRising}
 use Rattle.lay_point.specs.Points.{IsBefore}
 
 IsBefore-trans : (p q r : Point) → IsBefore p q → IsBefore q r → IsBefore p r
@@ -16,7 +16,7 @@ not_before_itself : (p q : Point) → p ≡ q → IsBefore p q → ⊥
 not_before_itself p q e (inl h) = let f = ap (λ (r : Point). r.x) e in omega (arith, ints)
 not_before_itself p q e (inr h) = let f = ap (λ (r : Point). r.y) e in omega (arith, ints, h.1)
 
-tail_rises : (p : Point) (ps : List Point) → IsRising (p ∷ ps) → IsRising ps
+tail_rises : (p : Point) (ps : List Point) → ArePointsRising (p ∷ ps) → ArePointsRising ps
 tail_rises p [] h = tt
 tail_rises p (q ∷ qs) h = h.1
 
@@ -28,7 +28,7 @@ Contains-cases p q ps (suc k, lt, e) = inr (k, omega arith, e)
 Contains-rest : (p q : Point) (ps : List Point) → Contains ps q → Contains (p ∷ ps) q
 Contains-rest p q ps w = (suc w.0, omega (arith, w.1), w.2)
 
-first_before : (p : Point) (ps : List Point) → IsRising (p ∷ ps) → (q : Point) → Contains ps q → IsBefore p q
+first_before : (p : Point) (ps : List Point) → ArePointsRising (p ∷ ps) → (q : Point) → Contains ps q → IsBefore p q
 first_before p [] up q w = absurd (omega (arith, w.1))
 first_before p (r ∷ rs) up q w =
     ⊎_elim
@@ -37,7 +37,7 @@ first_before p (r ∷ rs) up q w =
     (Contains-cases r q rs w)
 
 -- the first points are one
-same_first : (p q : Point) (ps qs : List Point) → IsRising (p ∷ ps) → IsRising (q ∷ qs)
+same_first : (p q : Point) (ps qs : List Point) → ArePointsRising (p ∷ ps) → ArePointsRising (q ∷ qs)
     → Contains (q ∷ qs) p → Contains (p ∷ ps) q → p ≡ q
 same_first p q ps qs up up' w w' =
     ⊎_elim
@@ -49,7 +49,7 @@ same_first p q ps qs up up' w w' =
     (Contains-cases p q ps w'))
     (Contains-cases q p qs w)
 
-rest_in : (p q : Point) (ps qs : List Point) → IsRising (p ∷ ps) → p ≡ q
+rest_in : (p q : Point) (ps qs : List Point) → ArePointsRising (p ∷ ps) → p ≡ q
     → ((c : Point) → Contains (p ∷ ps) c → Contains (q ∷ qs) c) → (c : Point) → Contains ps c → Contains qs c
 rest_in p q ps qs up e forth c w =
     ⊎_elim
@@ -57,7 +57,7 @@ rest_in p q ps qs up e forth c w =
     (λ later. later)
     (Contains-cases q c qs (forth c (Contains-rest p c ps w)))
 
-pub one_list : (ps qs : List Point) → IsRising ps → IsRising qs → ((c : Point) → Contains ps c ↔ Contains qs c) → ps ≡ qs
+pub one_list : (ps qs : List Point) → ArePointsRising ps → ArePointsRising qs → ((c : Point) → Contains ps c ↔ Contains qs c) → ps ≡ qs
 one_list [] [] up up' same = refl
 one_list [] (q ∷ qs) up up' same = absurd (let w = (same q).1 (0, omega arith, refl) in omega (arith, w.1))
 one_list (p ∷ ps) [] up up' same = absurd (let w = (same p).0 (0, omega arith, refl) in omega (arith, w.1))

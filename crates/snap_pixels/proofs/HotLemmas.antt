@@ -6,7 +6,7 @@ use Rattle.snap_pixels.specs.declared.segment.Segment.{Segment}
 use Rattle.snap_pixels.specs.Hot.{AreHotCentres, IsHot}
 use Rattle.snap_pixels.specs.Kinds.{AreParallelAll}
 use Rattle.snap_pixels.specs.Marks.{RunMarks}
-use Rattle.snap_pixels.specs.Order.{IsRising}
+use Rattle.snap_pixels.specs.Order.{ArePointsRising}
 use Rattle.snap_pixels.specs.Segments.{Crosses}
 use Rattle.snap_pixels.proofs.CrossingLemmas.{Crosses-swapped}
 
@@ -78,7 +78,7 @@ IsHot-marked segments rest marked none so_far c = (
 )
 
 -- a rising list of all hot centres
-pub AreHotCentres-marked : (segments : List Segment) (marked centres : List Point) → IsRising centres
+pub AreHotCentres-marked : (segments : List Segment) (marked centres : List Point) → ArePointsRising centres
     → ((c : Point) → Contains centres c ↔ Contains marked c) → ((c : Point) → Contains marked c ↔ IsHot segments c)
     → AreHotCentres segments centres
 AreHotCentres-marked segments marked centres rising members hot =

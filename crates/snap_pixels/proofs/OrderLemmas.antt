@@ -21,7 +21,7 @@ use Rattle.lay_point.specs.contracts.point.PointOrd.TheImpl.Laws.{matches_eq-law
 use Rattle.lay_point.specs.Points.{point_eq}
 use Rattle.lay_point.specs.Same.{point_eq-Decides}
 use Rattle.snap_pixels.specs.declared.segment.Segment.{Segment}
-use Rattle.snap_pixels.specs.Order.{AreTurned, IsRising, turned}
+use Rattle.snap_pixels.specs.Order.{ArePointsRising, AreTransposed, transposed}
 use Rattle.lay_point.proofs.Members.{Has, contains, has}
 use Rattle.lay_point.specs.Points.{IsBefore}
 
@@ -49,21 +49,21 @@ Less-from_IsBefore p q (inr both) =
 not_below : (p q : Point) → IsBefore p q → is_lt (point_cmp q p) ≡ false
 not_below p q h = ap is_lt (point_cmp_total.antisymm q p ∙ ap ordering_reverse (Less-from_IsBefore p q h))
 
-pub IsRising-from_strict : (ps : List Point) → IsStrictlySortedBy point_cmp ps → IsRising ps
+pub ArePointsRising-from_strict : (ps : List Point) → IsStrictlySortedBy point_cmp ps → ArePointsRising ps
 unfolding IsStrictlySortedBy
-IsRising-from_strict [] h = tt
-IsRising-from_strict (p ∷ []) h = tt
-IsRising-from_strict (p ∷ q ∷ ps) h = (IsBefore-from_Less p q h.0.0, IsRising-from_strict (q ∷ ps) h.1)
+ArePointsRising-from_strict [] h = tt
+ArePointsRising-from_strict (p ∷ []) h = tt
+ArePointsRising-from_strict (p ∷ q ∷ ps) h = (IsBefore-from_Less p q h.0.0, ArePointsRising-from_strict (q ∷ ps) h.1)
 
 -- neighbours in a list that rises
-pub IsRising-next : (ps : List Point) → IsRising ps → (k : ℕ) (d : Point) → k + 1 < length ps
+pub ArePointsRising-next : (ps : List Point) → ArePointsRising ps → (k : ℕ) (d : Point) → k + 1 < length ps
     → IsBefore (get_or ps k d) (get_or ps (k + 1) d)
-IsRising-next [] h k d lt = absurd (omega arith)
-IsRising-next (p ∷ []) h k d lt = absurd (omega arith)
-IsRising-next (p ∷ q ∷ ps) h zero d lt = h.0
-IsRising-next (p ∷ q ∷ ps) h (suc k) d lt =
+ArePointsRising-next [] h k d lt = absurd (omega arith)
+ArePointsRising-next (p ∷ []) h k d lt = absurd (omega arith)
+ArePointsRising-next (p ∷ q ∷ ps) h zero d lt = h.0
+ArePointsRising-next (p ∷ q ∷ ps) h (suc k) d lt =
     let e : suc k + 1 ≡ suc (k + 1) = omega arith in
-    rw e (IsRising-next (q ∷ ps) h.1 k d (omega arith))
+    rw e (ArePointsRising-next (q ∷ ps) h.1 k d (omega arith))
 
 same-by_x : (p q : Point) (o : Ordering) → o ≡ int_cmp p.x q.x → ordering_then o (int_cmp p.y q.y) ≡ Equal → p ≡ q
 same-by_x p q Less e h = cc
@@ -81,12 +81,12 @@ not_there : (p x : Point) (o : Ordering) → o ≢ Equal → point_cmp p x ≡ o
 not_there p x o apart h e = apart (sym h ∙ ap (λ (q : Point). point_cmp q x) e ∙ tied_itself point_cmp_total x)
 
 -- what a binary search answers in a list that rises
-pub found-Decides : (ps : List Point) (x : Point) (r : Result ℕ ℕ) → IsRising ps → IsSearchInRange r (length ps)
+pub found-Decides : (ps : List Point) (x : Point) (r : Result ℕ ℕ) → ArePointsRising ps → IsSearchInRange r (length ps)
     → IsBinarySearchResult (λ y. point_cmp y x) ps r → Decides (is_ok r) (Contains ps x)
 found-Decides ps x (Ok i) up lt at = (λ _. (i, lt, same-from_Equal (get_or ps i x) x (at x)), λ _. refl)
 found-Decides ps x (Err i) up lt at = (λ e. absurd (false≢true e), λ w. absurd (apart w)) where
   sorted : IsSortedBy (λ p q. is_lt (point_cmp p q)) ps
-  sorted k d low high = not_below (get_or ps k d) (get_or ps (k + 1) d) (IsRising-next ps up k d high)
+  sorted k d low high = not_below (get_or ps k d) (get_or ps (k + 1) d) (ArePointsRising-next ps up k d high)
 
   parts : IsPartitionPoint (λ y. point_cmp y x ≡ Less) (λ y. point_cmp y x ≡ Greater) ps i
   parts = at (searchable_from_sorted point_cmp_total (λ p. p) ps x sorted)
@@ -125,7 +125,7 @@ segment_eq-Decides s t =
 
 -- what a sort and then `dedup` make of points
 pub record IsSortedOnce (xs zs : List Point) : Type 0 where
-  pub rising : IsRising zs
+  pub rising : ArePointsRising zs
   pub members : (p : Point) → Contains zs p ↔ Contains xs p
 
 pub IsSortedOnce-from_dedup : (xs ys zs : List Point) → IsPermutation xs ys → IsSorted point_cmp ys
@@ -133,35 +133,36 @@ pub IsSortedOnce-from_dedup : (xs ys zs : List Point) → IsPermutation xs ys �
 IsSortedOnce-from_dedup xs ys zs moved sorted filtered =
     let kept = dedup_is point_eq ys zs filtered in
     record {
-      rising = subst IsRising (sym kept) (IsRising-from_strict _ (IsStrictlySortedBy-dedup point_cmp_total matches_eq-law ys sorted));
+      rising = subst ArePointsRising (sym kept)
+          (ArePointsRising-from_strict _ (IsStrictlySortedBy-dedup point_cmp_total matches_eq-law ys sorted));
       members = once_members point_eq point_eq-Decides xs ys zs moved filtered;
     }
 
 -- ---- on the other side of the diagonal
-has_turned : (ps : List Point) (p : Point) → Has ps p → Has (map turned ps) (turned p)
+has_turned : (ps : List Point) (p : Point) → Has ps p → Has (map transposed ps) (transposed p)
 has_turned [] p m = absurd m
-has_turned (q ∷ qs) p (inl same) = inl (ap turned same)
+has_turned (q ∷ qs) p (inl same) = inl (ap transposed same)
 has_turned (q ∷ qs) p (inr m) = inr (has_turned qs p m)
 
-turned_has : (ps : List Point) (p : Point) → Has (map turned ps) (turned p) → Has ps p
+turned_has : (ps : List Point) (p : Point) → Has (map transposed ps) (transposed p) → Has ps p
 turned_has [] p m = absurd m
-turned_has (q ∷ qs) p (inl same) = inl (ap turned same)
+turned_has (q ∷ qs) p (inl same) = inl (ap transposed same)
 turned_has (q ∷ qs) p (inr m) = inr (turned_has qs p m)
 
-pub turned_members : (ps : List Point) → AreTurned ps (map turned ps)
+pub turned_members : (ps : List Point) → AreTransposed ps (map transposed ps)
 turned_members ps p = (
-  (λ m. contains ps p (turned_has ps p (has (map turned ps) (turned p) m))),
-  (λ m. contains (map turned ps) (turned p) (has_turned ps p (has ps p m))),
+  (λ m. contains ps p (turned_has ps p (has (map transposed ps) (transposed p) m))),
+  (λ m. contains (map transposed ps) (transposed p) (has_turned ps p (has ps p m))),
 )
 
-pub turned_once : (ps all sorted once : List Point) → all ≡ map turned ps → IsPermutation all sorted → IsSorted point_cmp sorted
-    → IsFiltered (DiffersFromLast point_eq) [] sorted once → IsRising once × AreTurned ps once
+pub turned_once : (ps all sorted once : List Point) → all ≡ map transposed ps → IsPermutation all sorted → IsSorted point_cmp sorted
+    → IsFiltered (DiffersFromLast point_eq) [] sorted once → ArePointsRising once × AreTransposed ps once
 turned_once ps all sorted once is moved order filtered =
     let o = IsSortedOnce-from_dedup all sorted once moved order filtered in (
       o.rising,
       λ p.
           let m = turned_members ps p in (
-            (λ w. m.0 (subst (λ l. Contains l (turned p)) is ((o.members (turned p)).0 w))),
-            (λ w. (o.members (turned p)).1 (subst (λ l. Contains l (turned p)) (sym is) (m.1 w))),
+            (λ w. m.0 (subst (λ l. Contains l (transposed p)) is ((o.members (transposed p)).0 w))),
+            (λ w. (o.members (transposed p)).1 (subst (λ l. Contains l (transposed p)) (sym is) (m.1 w))),
           ),
     )

@@ -2,8 +2,8 @@
 use Rattle.std.specs.Prelude.{◌⊎◌, ℤ, ◌<ℤ◌}
 
 -- each of a and b is below each of c and d
-abbrev pub AreBelow : ℤ → ℤ → ℤ → ℤ → Type 0
-AreBelow a b c d = (a <ℤ c) × (a <ℤ d) × (b <ℤ c) × (b <ℤ d)
+abbrev pub IsPairBelow : ℤ → ℤ → ℤ → ℤ → Type 0
+IsPairBelow a b c d = (a <ℤ c) × (a <ℤ d) × (b <ℤ c) × (b <ℤ d)
 
-abbrev pub AreApart : ℤ → ℤ → ℤ → ℤ → Type 0
-AreApart a b c d = AreBelow a b c d ⊎ AreBelow c d a b
+abbrev pub ArePairsApart : ℤ → ℤ → ℤ → ℤ → Type 0
+ArePairsApart a b c d = IsPairBelow a b c d ⊎ IsPairBelow c d a b

@@ -3,7 +3,7 @@
 use Rattle.std.specs.Prelude.{◌⊎◌, pos, List, Contains, ◌↔◌}
 use Rattle.lay_point.specs.declared.point.Point.{Point}
 use Rattle.snap_pixels.specs.declared.segment.Segment.{Segment}
-use Rattle.snap_pixels.specs.Order.{IsRising}
+use Rattle.snap_pixels.specs.Order.{ArePointsRising}
 use Rattle.snap_pixels.specs.Pixels.{HoldsPlace}
 use Rattle.snap_pixels.specs.Segments.{Crosses}
 
@@ -19,5 +19,5 @@ IsHot segments c =
 
 -- the hot centres of the segments, each once, in the order of points
 pub record AreHotCentres (segments : List Segment) (centres : List Point) : Type 0 where
-  pub rising : IsRising centres
+  pub rising : ArePointsRising centres
   pub exact : (c : Point) → Contains centres c ↔ IsHot segments c

@@ -1,7 +1,7 @@
 //! Sets of hot centres.
 ghost use Rattle.std.specs.Prelude.{◌≡◌, ◌↔◌, IfOk, IsTrue, Contains, map};
 ghost use Rattle.lay_point.specs.declared.point.Point.{Point};
-ghost use Rattle.snap_pixels.specs.Order.{AreTurned, IsRising, turned};
+ghost use Rattle.snap_pixels.specs.Order.{ArePointsRising, AreTransposed, transposed};
 
 use lay_point::Point;
 use std::alloc::{AllocError, Global};
@@ -19,14 +19,14 @@ pub struct HotSet {
 impl Model for HotSet {
     ghost use Rattle.std.specs.Prelude.{List};
     ghost use Rattle.lay_point.specs.declared.point.Point.{Point};
-    ghost use Rattle.snap_pixels.specs.Order.{AreTurned, IsRising};
+    ghost use Rattle.snap_pixels.specs.Order.{ArePointsRising, AreTransposed};
 
     ghost Value = { List Point };
 
     ghost view = { λ h. h.centres.items };
 
-    ghost invariant = { λ h. IsRising h.centres.items × IsRising h.turned.items
-        × AreTurned h.centres.items h.turned.items };
+    ghost invariant = { λ h. ArePointsRising h.centres.items × ArePointsRising h.turned.items
+        × AreTransposed h.centres.items h.turned.items };
 }
 
 impl HotSet {
@@ -35,7 +35,7 @@ impl HotSet {
         alloc: Global,
         mut centres: Vec<Point>,
     ) -> Result<HotSet, AllocError>
-        ensures rising { IfOk result (λ hot. IsRising hot) }
+        ensures rising { IfOk result (λ hot. ArePointsRising hot) }
         ensures members { IfOk result (λ hot. (c : Point) → Contains hot c ↔ Contains centres.items c) }
     {
         centres.sort_unstable();
@@ -56,15 +56,15 @@ impl HotSet {
     /// Returns the hot centres, in order.
     pub fn centres(&self) -> &[Point]
         ensures value { result.now ≡ self.now }
-        ensures rising { IsRising self.now }
+        ensures rising { ArePointsRising self.now }
     {
         self.centres.as_slice()
     }
 
     /// Returns the hot centres with x and y exchanged, in order.
     pub fn turned(&self) -> &[Point]
-        ensures rising { IsRising result.now }
-        ensures members { AreTurned self.now result.now }
+        ensures rising { ArePointsRising result.now }
+        ensures members { AreTransposed self.now result.now }
     {
         self.turned.as_slice()
     }
@@ -72,7 +72,7 @@ impl HotSet {
 
 /// Returns the points with x and y exchanged.
 pub fn turned_all(alloc: Global, points: &[Point]) -> Result<Vec<Point>, AllocError>
-    ensures { IfOk result (λ others. others.items ≡ map turned points.now) }
+    ensures { IfOk result (λ others. others.items ≡ map transposed points.now) }
 {
     let mut others = Vec::with_capacity(alloc, points.len())?;
     for point in points {
@@ -83,7 +83,7 @@ pub fn turned_all(alloc: Global, points: &[Point]) -> Result<Vec<Point>, AllocEr
 
 /// Returns the point with x and y exchanged.
 pub fn turned(point: Point) -> Point
-    ensures { result ≡ turned point }
+    ensures { result ≡ transposed point }
 {
     Point {
         x: point.y,

@@ -1,6 +1,6 @@
 //! Segments with two different ends.
 ghost use Rattle.std.specs.Prelude.{◌≡◌, ◌≢◌, ◌↔◌, IsNone, IfSome};
-ghost use Rattle.snap_pixels.specs.Order.{turned};
+ghost use Rattle.snap_pixels.specs.Order.{transposed};
 
 use crate::hot_set::turned;
 use lay_point::Point;
@@ -41,8 +41,8 @@ impl Segment {
 
     /// Returns the segment with x and y exchanged.
     pub fn turned(&self) -> Segment
-        ensures a { result.a ≡ turned self.now.a }
-        ensures b { result.b ≡ turned self.now.b }
+        ensures a { result.a ≡ transposed self.now.a }
+        ensures b { result.b ≡ transposed self.now.b }
     {
         Segment {
             a: turned(self.a),

@@ -12,13 +12,13 @@ use Rattle.snap_pixels.specs.declared.segment.Segment.{Segment}
 use Rattle.snap_pixels.specs.Hot.{IsHot}
 use Rattle.snap_chains.specs.Chains.{IsChain}
 use Rattle.snap_chains.specs.Rising.{pairs}
-use Rattle.snap_chains.specs.Rounding.{IsRoundedPath, closed, further, point, tail}
-use Rattle.snap_chains.specs.Undirected.{AreEdgesOf, IsEdgeBefore, edges_of, is_owned}
+use Rattle.snap_chains.specs.Rounding.{IsRoundedPath, closed_walk, further, point, tail}
+use Rattle.snap_chains.specs.Undirected.{AreEdgesOf, IsEdgeBefore, is_owned, walked_edges}
 use Rattle.snap_chains.proofs.Members.{Has, has, contains, has-append_left, has-append_right}
 use Rattle.snap_chains.specs.declared.owner.Owner.{Owner}
 use Rattle.snap_chains.specs.Owners.{IsOwnerBefore, owner_eq}
-use Rattle.snap_chains.specs.Round.{AreOwnersOf, walks_of}
-use Rattle.snap_chains.specs.Sides.{ends_of}
+use Rattle.snap_chains.specs.Round.{AreOwnersOf, owner_walks}
+use Rattle.snap_chains.specs.Sides.{segment_ends}
 use Rattle.snap_chains.proofs.PathLemmas.{Has-map}
 use Rattle.snap_chains.proofs.VisitOrder.{owner_eq-Decides}
 use Rattle.snap_round_laws.specs.Crossings.{hot_centres}
@@ -35,7 +35,7 @@ use Rattle.snap_round_laws.proofs.Sorting.{filter_has, has_filter, has_sorted, s
 
 -- ---- segments with these sides
 abbrev HasSides : List (Point × Point) → Type 0
-HasSides sides = (segments : List Segment) × (map ends_of segments ≡ sides)
+HasSides sides = (segments : List Segment) × (map segment_ends segments ≡ sides)
 
 path_segments : (path : List Point) → NeighboursDiffer path → HasSides (pairs path)
 path_segments [] h = ([], refl)
@@ -44,7 +44,7 @@ path_segments (p ∷ q ∷ path) h =
     let rest = path_segments (q ∷ path) h.1 in
     (record { a = p; b = q; differ = h.0 } ∷ rest.0, ap (λ l. (p, q) ∷ l) rest.1)
 
-ring_segments : (ring : List Point) → NeighboursDiffer (closed_ring ring) → HasSides (pairs (closed ring))
+ring_segments : (ring : List Point) → NeighboursDiffer (closed_ring ring) → HasSides (pairs (closed_walk ring))
 ring_segments [] h = ([], refl)
 ring_segments (p ∷ ps) h = path_segments (p ∷ (ps ++ p ∷ [])) h
 
@@ -56,10 +56,10 @@ all_segments [] h = ([], refl)
 all_segments (r ∷ rings) h =
     let here = ring_segments r.1 h.0.apart in
     let rest = all_segments rings h.1 in
-    (here.0 ++ rest.0, map-append ends_of here.0 rest.0 ∙ ap₂ (λ a b. a ++ b) here.1 rest.1)
+    (here.0 ++ rest.0, map-append segment_ends here.0 rest.0 ∙ ap₂ (λ a b. a ++ b) here.1 rest.1)
 
 -- ---- chains and walks
-module _ (segments : List Segment) (sides : List (Point × Point)) (are_sides : map ends_of segments ≡ sides) where
+module _ (segments : List Segment) (sides : List (Point × Point)) (are_sides : map segment_ends segments ≡ sides) where
   abbrev hot : List Point
   hot = hot_centres sides
 
@@ -94,50 +94,50 @@ module _ (segments : List Segment) (sides : List (Point × Point)) (are_sides : 
 
   -- each of these is a side
   abbrev AreAmong : List (Point × Point) → Type 0
-  AreAmong some = (e : Point × Point) → Has some e → Has (map ends_of segments) e
+  AreAmong some = (e : Point × Point) → Has some e → Has (map segment_ends segments) e
 
   path_is : (p : Point) (path : List Point) → AreAmong (pairs (p ∷ path)) → IsRoundedPath segments (p ∷ path) (walk_of hot (p ∷ path))
   path_is p [] inside = point p
   path_is p (q ∷ path) inside =
-      let s = Has-map ends_of segments (p, q) (inside (p, q) (inl refl)) in
+      let s = Has-map segment_ends segments (p, q) (inside (p, q) (inl refl)) in
       one_side s.0 p q path (walk_of hot (q ∷ path)) (ap (λ (e : Point × Point). e.0) s.2) (ap (λ (e : Point × Point). e.1) s.2)
       (contains segments s.0 s.1) (path_is q path (λ e m. inside e (inr m)))
 
-  walk_is : (ring : List Point) → IsRing ring → AreAmong (pairs (closed ring))
-      → IsRoundedPath segments (closed ring) (walk_of hot (closed ring))
+  walk_is : (ring : List Point) → IsRing ring → AreAmong (pairs (closed_walk ring))
+      → IsRoundedPath segments (closed_walk ring) (walk_of hot (closed_walk ring))
   walk_is [] h inside = absurd (omega (arith, h.enough))
   walk_is (p ∷ ps) h inside = path_is p (ps ++ p ∷ []) inside
 
   walks_are : (rings : List (Owner × List Point)) → AreAllRings rings → AreAmong (sides_of rings)
-      → AllZip (λ r w. IsRoundedPath segments (closed r.1) w) rings (map (λ r. walk_of hot (closed r.1)) rings)
+      → AllZip (λ r w. IsRoundedPath segments (closed_walk r.1) w) rings (map (λ r. walk_of hot (closed_walk r.1)) rings)
   walks_are [] h inside = tt
   walks_are (r ∷ rings) h inside = (
-    walk_is r.1 h.0 (λ e m. inside e (has-append_left (pairs (closed r.1)) (sides_of rings) e m)),
-    walks_are rings h.1 (λ e m. inside e (has-append_right (pairs (closed r.1)) (sides_of rings) e m)),
+    walk_is r.1 h.0 (λ e m. inside e (has-append_left (pairs (closed_walk r.1)) (sides_of rings) e m)),
+    walks_are rings h.1 (λ e m. inside e (has-append_right (pairs (closed_walk r.1)) (sides_of rings) e m)),
   )
 
 -- ---- edges and owners
 edges_are : (walks : List (List Point)) → AreEdgesOf walks (edges_gone walks)
 unfolding edges_gone
 edges_are walks = record {
-  rising = sorted_rising edge_order IsEdgeBefore edges_ranked (edges_of undirected walks);
+  rising = sorted_rising edge_order IsEdgeBefore edges_ranked (walked_edges undirected walks);
   exact = λ e. (
-    (λ m. contains (edges_of undirected walks) e
-        (has_sorted edge_order IsEdgeBefore edges_ranked (edges_of undirected walks) e (has (edges_gone walks) e m))),
+    (λ m. contains (walked_edges undirected walks) e
+        (has_sorted edge_order IsEdgeBefore edges_ranked (walked_edges undirected walks) e (has (edges_gone walks) e m))),
     (λ m. contains (edges_gone walks) e
-        (sorted_has edge_order IsEdgeBefore edges_ranked (edges_of undirected walks) e (has (edges_of undirected walks) e m))),
+        (sorted_has edge_order IsEdgeBefore edges_ranked (walked_edges undirected walks) e (has (walked_edges undirected walks) e m))),
   );
 }
 
 -- who owns an edge is the owner of a ring
 owner_listed : (o : Owner) (e : Point × Point) (rings : List (Owner × List Point)) (walks : List (List Point))
-    → is_owned (walks_of o rings walks) e ≡ true → Has (map (λ r. r.0) rings) o
+    → is_owned (owner_walks o rings walks) e ≡ true → Has (map (λ r. r.0) rings) o
 owner_listed o e [] walks h = absurd (false≢true h)
 owner_listed o e (r ∷ rings) [] h = absurd (false≢true h)
 owner_listed o e (r ∷ rings) (w ∷ walks) h = by_test (owner_listed o e rings walks) (owner_eq r.0 o) refl h
   where
-    by_test : (is_owned (walks_of o rings walks) e ≡ true → Has (map (λ r. r.0) rings) o) → (b : Bool) → owner_eq r.0 o ≡ b
-        → is_owned (cond b (w ∷ walks_of o rings walks) (walks_of o rings walks)) e ≡ true → Has (map (λ r. r.0) (r ∷ rings)) o
+    by_test : (is_owned (owner_walks o rings walks) e ≡ true → Has (map (λ r. r.0) rings) o) → (b : Bool) → owner_eq r.0 o ≡ b
+        → is_owned (cond b (w ∷ owner_walks o rings walks) (owner_walks o rings walks)) e ≡ true → Has (map (λ r. r.0) (r ∷ rings)) o
     by_test rest true same t = inl ((owner_eq-Decides r.0 o).0 same)
     by_test rest false same t = inr (rest t)
 
@@ -155,7 +155,7 @@ module _ (rings : List (Owner × List Point)) (walks : List (List Point)) where
   }
     where
       owns : Owner → Bool
-      owns o = is_owned (walks_of o rings walks) e
+      owns o = is_owned (owner_walks o rings walks) e
 
       owning : List Owner
       owning = filter owns (map (λ r. r.0) rings)

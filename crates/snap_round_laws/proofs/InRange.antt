@@ -22,8 +22,8 @@ use Rattle.snap_pixels.proofs.RoundLemmas.{IsRoundedTo-low, IsRoundedTo-high}
 use Rattle.snap_chains.proofs.SharedEnds.{ends_differ}
 use Rattle.snap_chains.specs.Chains.{IsRoundedEdge}
 use Rattle.snap_chains.specs.Rising.{pairs}
-use Rattle.snap_chains.specs.Rounding.{IsRoundedPath, closed}
-use Rattle.snap_chains.specs.Undirected.{edges_of}
+use Rattle.snap_chains.specs.Rounding.{IsRoundedPath, closed_walk}
+use Rattle.snap_chains.specs.Undirected.{walked_edges}
 use Rattle.snap_chains.proofs.Chains.{edge_of_neighbours}
 use Rattle.snap_chains.proofs.Members.{Has, has, contains, has-append}
 use Rattle.snap_chains.proofs.Rising.{pair_first, pair_second}
@@ -34,7 +34,7 @@ use Rattle.snap_chains.specs.OwnedRings.{AreRounded}
 use Rattle.snap_chains.specs.Round.{IsRoundOf}
 use Rattle.snap_chains.specs.Rounded.{Owned}
 use Rattle.snap_chains.proofs.RoundLemmas.{round_is_clean, round_is_rounded}
-use Rattle.snap_round_laws.specs.Laws.{AreRings, IsEdgeInRange, RoundedIsInRange, RoundedIsRounded}
+use Rattle.snap_round_laws.specs.Laws.{AreOwnedRings, IsEdgeInRange, RoundedIsInRange, RoundedIsRounded}
 use Rattle.snap_round_laws.specs.Rounding.{sides_of}
 use Rattle.snap_round_laws.proofs.Sides.{IsMarked, hot_marked}
 
@@ -45,23 +45,23 @@ record ComesFrom (segments : List Segment) (e : Point × Point) : Type 0 where
   pub rounded : IsRoundedEdge segments pair.0 pair.1
 
 ring_of_walk : (segments : List Segment) (rings : List (Owner × List Point)) (walks : List (List Point))
-    → AllZip (λ r w. IsRoundedPath segments (closed r.1) w) rings walks → (w : List Point) → Has walks w
-    → (ring : List Point) × IsRoundedPath segments (closed ring) w
+    → AllZip (λ r w. IsRoundedPath segments (closed_walk r.1) w) rings walks → (w : List Point) → Has walks w
+    → (ring : List Point) × IsRoundedPath segments (closed_walk ring) w
 ring_of_walk segments [] [] h w m = absurd m
 ring_of_walk segments [] (v ∷ walks) h w m = absurd h
 ring_of_walk segments (r ∷ rings) [] h w m = absurd m
-ring_of_walk segments (r ∷ rings) (v ∷ walks) h w (inl e) = (r.1, subst (IsRoundedPath segments (closed r.1)) e h.0)
+ring_of_walk segments (r ∷ rings) (v ∷ walks) h w (inl e) = (r.1, subst (IsRoundedPath segments (closed_walk r.1)) e h.0)
 ring_of_walk segments (r ∷ rings) (v ∷ walks) h w (inr m) = ring_of_walk segments rings walks h.1 w m
 
 comes_from : (rings : List (Owner × List Point)) (r : Owned) (h : IsRoundOf rings r) (e : Point × Point) → Contains r.0 e
     → ComesFrom h.rounded.segments e
 comes_from rings r h e m =
-    let g = gone undirected h.walks e (has (edges_of undirected h.walks) e ((h.edges.exact e).0 m)) in
+    let g = gone undirected h.walks e (has (walked_edges undirected h.walks) e ((h.edges.exact e).0 m)) in
     let ring = ring_of_walk h.rounded.segments rings h.walks h.rounded.rounded g.walk g.given in
     record {
       pair = g.pair;
       goes = g.goes;
-      rounded = rounded_paths_have_edges h.rounded.segments (closed ring.0) g.walk ring.1 g.pair.0 g.pair.1
+      rounded = rounded_paths_have_edges h.rounded.segments (closed_walk ring.0) g.walk ring.1 g.pair.0 g.pair.1
           (contains (pairs g.walk) g.pair g.neighbours);
     }
 
@@ -164,7 +164,7 @@ point_inside (q ∷ ps) h p (inl e) =
     subst IsInside e (inside_by_test q (both_true (is_in_range q) (list_all is_in_range ps) h).0)
 point_inside (q ∷ ps) h p (inr m) = point_inside ps (both_true (is_in_range q) (list_all is_in_range ps) h).1 p m
 
-on_ring : (ring : List Point) (p : Point) → Has (closed ring) p → Has ring p
+on_ring : (ring : List Point) (p : Point) → Has (closed_walk ring) p → Has ring p
 on_ring [] p m = absurd m
 on_ring (q ∷ qs) p (inl e) = inl e
 on_ring (q ∷ qs) p (inr m) = ⊎_elim (λ here. inr here) (⊎_elim (λ (e : q ≡ p). inl e) (λ none. absurd none)) (has-append qs (q ∷ []) p m)
@@ -173,15 +173,16 @@ side_inside : (rings : List (Owner × List Point)) → AllByRecursion (λ r. IsR
     → IsInside e.0 × IsInside e.1
 side_inside [] h e m = absurd m
 side_inside (r ∷ rings) h e m = ⊎_elim
-    (λ (here : Has (pairs (closed r.1)) e). (
-      point_inside r.1 h.0.in_range e.0 (on_ring r.1 e.0 (pair_first (closed r.1) e.0 e.1 here)),
-      point_inside r.1 h.0.in_range e.1 (on_ring r.1 e.1 (pair_second (closed r.1) e.0 e.1 here)),
+    (λ (here : Has (pairs (closed_walk r.1)) e). (
+      point_inside r.1 h.0.in_range e.0 (on_ring r.1 e.0 (pair_first (closed_walk r.1) e.0 e.1 here)),
+      point_inside r.1 h.0.in_range e.1 (on_ring r.1 e.1 (pair_second (closed_walk r.1) e.0 e.1 here)),
     ))
     (λ (there : Has (sides_of rings) e). side_inside rings h.1 e there)
-    (has-append (pairs (closed r.1)) (sides_of rings) e m)
+    (has-append (pairs (closed_walk r.1)) (sides_of rings) e m)
 
 -- ---- hot centres, and the ends of edges
-hot_inside : (rings : List (Owner × List Point)) → AreRings rings → (walks : List (List Point)) (h : AreRounded rings walks) (c : Point)
+hot_inside : (rings : List (Owner × List Point)) → AreOwnedRings rings
+    → (walks : List (List Point)) (h : AreRounded rings walks) (c : Point)
     → IsHot h.segments c → IsInside c
 hot_inside rings are walks h c hot = by_mark (subst (λ sides. IsMarked sides c) h.sides (hot_marked h.segments c hot))
   where

@@ -19,7 +19,7 @@ use Rattle.snap_round_laws.specs.Meeting.{
   Bound,
   bound_order,
   earlier,
-  finish,
+  unit_finish,
   later,
   leaves_all,
   leaves_some,
@@ -27,7 +27,7 @@ use Rattle.snap_round_laws.specs.Meeting.{
   lower,
   meets_of,
 }
-use Rattle.snap_round_laws.specs.Meeting.{narrower, start, upper}
+use Rattle.snap_round_laws.specs.Meeting.{narrower, unit_start, upper}
 use Rattle.snap_round_laws.specs.Sorting.{by_order}
 use Rattle.snap_round_laws.proofs.Crossing.{lt_by_test, test_by_lt}
 use Rattle.snap_round_laws.proofs.InRange.{le_by_test, test_by_le}
@@ -225,12 +225,12 @@ met_is low high (s ∷ ss) rises falls =
         }) (fall down)
 
 -- ---- a segment and a pixel
-start_is : (k t : ℤ) → IsIn start k t ↔ (pos 0 ≤ℤ t)
+start_is : (k t : ℤ) → IsIn unit_start k t ↔ (pos 0 ≤ℤ t)
 start_is k t =
     let e = identity (k ∷ t ∷ []) (lit (pos 1) ⊗ # 1 ⊕ lit (pos 0) ⊗ # 0) (# 1) refl in
     ((λ h. subst (λ z. pos 0 ≤ℤ z) e h), (λ h. subst (λ z. pos 0 ≤ℤ z) (sym e) h))
 
-finish_is : (k t : ℤ) → IsIn finish k t ↔ (t ≤ℤ k)
+finish_is : (k t : ℤ) → IsIn unit_finish k t ↔ (t ≤ℤ k)
 finish_is k t =
     let e = identity (k ∷ t ∷ []) (lit (negsuc 0) ⊗ # 1 ⊕ lit (pos 1) ⊗ # 0) (# 0 ⊖ # 1) refl in
     ((λ h. omega (arith, linear, e, h)), (λ h. omega (arith, linear, e, h)))
@@ -244,13 +244,13 @@ upper_in a b c k t = upper_is a b c (pos 2 *ℤ (a -ℤ b)) (pos 2 *ℤ (c -ℤ 
 pub meets_is : (a b c : Point) → Decides (meets_of a b c) (Meets a b c)
 unfolding meets_of
 meets_is a b c =
-    Decides-like (leaves_some_in start finish bounds) forth back
-    (met_is start finish bounds (omega (arith, linear)) (omega (arith, linear)))
+    Decides-like (leaves_some_in unit_start unit_finish bounds) forth back
+    (met_is unit_start unit_finish bounds (omega (arith, linear)) (omega (arith, linear)))
   where
     bounds : List Bound
     bounds = lower a.x b.x c.x ∷ upper a.x b.x c.x ∷ lower a.y b.y c.y ∷ upper a.y b.y c.y ∷ []
 
-    forth : AreMet start finish bounds → Meets a b c
+    forth : AreMet unit_start unit_finish bounds → Meets a b c
     forth m = (
       m.k,
       m.t,
@@ -261,7 +261,7 @@ meets_is a b c =
       },
     )
 
-    back : Meets a b c → AreMet start finish bounds
+    back : Meets a b c → AreMet unit_start unit_finish bounds
     back (k, t, f, p) = record {
       k = k;
       t = t;

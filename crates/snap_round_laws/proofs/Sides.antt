@@ -7,7 +7,7 @@ use Rattle.snap_pixels.specs.Hot.{IsHot}
 use Rattle.snap_pixels.specs.Segments.{Crosses}
 use Rattle.snap_pixels.proofs.MarkLemmas.{HoldsPlace-whole}
 use Rattle.snap_chains.proofs.Members.{Has, has, contains}
-use Rattle.snap_chains.specs.Sides.{ends_of}
+use Rattle.snap_chains.specs.Sides.{segment_ends}
 use Rattle.snap_chains.proofs.PathLemmas.{Contains-map, Has-map}
 use Rattle.snap_round_laws.specs.Rounding.{way_along}
 
@@ -17,29 +17,31 @@ IsMarked sides c =
     ((e : Point × Point) × Has sides e × ((e.0 ≡ c) ⊎ (e.1 ≡ c)))
     ⊎ ((e : Point × Point) × (f : Point × Point) × Has sides e × Has sides f × Crosses e.0 e.1 f.0 f.1 c)
 
-pub hot_marked : (segments : List Segment) (c : Point) → IsHot segments c → IsMarked (map ends_of segments) c
+pub hot_marked : (segments : List Segment) (c : Point) → IsHot segments c → IsMarked (map segment_ends segments) c
 hot_marked segments c (inl (s, m, inl h)) =
-    inl (ends_of s, has (map ends_of segments) (ends_of s) (Contains-map ends_of segments s m), inl ((HoldsPlace-whole s.a c).0 h))
+    inl (segment_ends s, has (map segment_ends segments) (segment_ends s) (Contains-map segment_ends segments s m),
+        inl ((HoldsPlace-whole s.a c).0 h))
 hot_marked segments c (inl (s, m, inr h)) =
-    inl (ends_of s, has (map ends_of segments) (ends_of s) (Contains-map ends_of segments s m), inr ((HoldsPlace-whole s.b c).0 h))
+    inl (segment_ends s, has (map segment_ends segments) (segment_ends s) (Contains-map segment_ends segments s m),
+        inr ((HoldsPlace-whole s.b c).0 h))
 hot_marked segments c (inr (s, t, m, n, x)) = inr (
-  ends_of s,
-  ends_of t,
-  has (map ends_of segments) (ends_of s) (Contains-map ends_of segments s m),
-  has (map ends_of segments) (ends_of t) (Contains-map ends_of segments t n),
+  segment_ends s,
+  segment_ends t,
+  has (map segment_ends segments) (segment_ends s) (Contains-map segment_ends segments s m),
+  has (map segment_ends segments) (segment_ends t) (Contains-map segment_ends segments t n),
   x,
 )
 
-pub marked_hot : (segments : List Segment) (c : Point) → IsMarked (map ends_of segments) c → IsHot segments c
+pub marked_hot : (segments : List Segment) (c : Point) → IsMarked (map segment_ends segments) c → IsHot segments c
 marked_hot segments c (inl (e, m, inl same)) =
-    let s = Has-map ends_of segments e m in
+    let s = Has-map segment_ends segments e m in
     inl (s.0, contains segments s.0 s.1, inl ((HoldsPlace-whole s.0.a c).1 (ap (λ (p : Point × Point). p.0) s.2 ∙ same)))
 marked_hot segments c (inl (e, m, inr same)) =
-    let s = Has-map ends_of segments e m in
+    let s = Has-map segment_ends segments e m in
     inl (s.0, contains segments s.0 s.1, inr ((HoldsPlace-whole s.0.b c).1 (ap (λ (p : Point × Point). p.1) s.2 ∙ same)))
 marked_hot segments c (inr (e, f, m, n, x)) =
-    let s = Has-map ends_of segments e m in
-    let t = Has-map ends_of segments f n in
+    let s = Has-map segment_ends segments e m in
+    let t = Has-map segment_ends segments f n in
     inr (
       s.0,
       t.0,
@@ -48,7 +50,7 @@ marked_hot segments c (inr (e, f, m, n, x)) =
       coe 1 0 (i. Crosses (s.2 i).0 (s.2 i).1 (t.2 i).0 (t.2 i).1 c) x,
     )
 
-pub hot_same : (segments segments' : List Segment) → map ends_of segments ≡ map ends_of segments' → (c : Point)
+pub hot_same : (segments segments' : List Segment) → map segment_ends segments ≡ map segment_ends segments' → (c : Point)
     → IsHot segments c → IsHot segments' c
 hot_same segments segments' e c h = marked_hot segments' c (subst (λ sides. IsMarked sides c) e (hot_marked segments c h))
 

@@ -8,7 +8,7 @@ use Rattle.snap_pixels.specs.Segments.{Meets}
 use Rattle.snap_chains.specs.Edges.{IsBelow}
 use Rattle.snap_chains.specs.Chains.{IsChain}
 use Rattle.snap_chains.specs.Rising.{IsRising}
-use Rattle.snap_chains.specs.Rounding.{IsRoundedPath, closed, further, point, tail}
+use Rattle.snap_chains.specs.Rounding.{IsRoundedPath, closed_walk, further, point, tail}
 use Rattle.snap_chains.specs.Undirected.{AreEdgesOf, IsEdgeBefore}
 use Rattle.snap_chains.proofs.ChainOrder.{below_is_strict}
 use Rattle.snap_chains.proofs.Members.{has, contains}
@@ -17,13 +17,13 @@ use Rattle.snap_chains.proofs.Undirected.{edges_are_strict}
 use Rattle.snap_chains.specs.declared.owner.Owner.{Owner}
 use Rattle.snap_chains.specs.Owners.{IsOwnerBefore}
 use Rattle.snap_chains.specs.Round.{AreOwnersOf}
-use Rattle.snap_chains.specs.Sides.{ends_of}
+use Rattle.snap_chains.specs.Sides.{segment_ends}
 use Rattle.snap_chains.proofs.VisitOrder.{owners_are_strict}
 use Rattle.snap_round_laws.specs.Laws.{RoundingIsUnique}
 use Rattle.snap_round_laws.proofs.Sides.{IsBelowOn, hot_same}
 
 -- ---- chains and walks
-module _ (segments segments' : List Segment) (sides : map ends_of segments ≡ map ends_of segments') where
+module _ (segments segments' : List Segment) (sides : map segment_ends segments ≡ map segment_ends segments') where
   chains_agree : (s t : Segment) (chain chain' : List Point) → s.a ≡ t.a → s.b ≡ t.b
       → IsChain (IsHot segments) s chain → IsChain (IsHot segments') t chain' → chain ≡ chain'
   chains_agree s t chain chain' ea eb h g =
@@ -49,15 +49,15 @@ module _ (segments segments' : List Segment) (sides : map ends_of segments ≡ m
       λ i. one i ++ tail (others i)
 
   all_agree : (rings : List (Owner × List Point)) (walks walks' : List (List Point))
-      → AllZip (λ r w. IsRoundedPath segments (closed r.1) w) rings walks
-      → AllZip (λ r w. IsRoundedPath segments' (closed r.1) w) rings walks' → walks ≡ walks'
+      → AllZip (λ r w. IsRoundedPath segments (closed_walk r.1) w) rings walks
+      → AllZip (λ r w. IsRoundedPath segments' (closed_walk r.1) w) rings walks' → walks ≡ walks'
   all_agree [] [] [] h g = refl
   all_agree [] [] (w' ∷ ws') h g = absurd g
   all_agree [] (w ∷ ws) ws' h g = absurd h
   all_agree (r ∷ rings) [] ws' h g = absurd h
   all_agree (r ∷ rings) (w ∷ ws) [] h g = absurd g
   all_agree (r ∷ rings) (w ∷ ws) (w' ∷ ws') h g =
-      ap₂ (λ v vs. v ∷ vs) (walks_agree (closed r.1) (closed r.1) w w' refl h.0 g.0) (all_agree rings ws ws' h.1 g.1)
+      ap₂ (λ v vs. v ∷ vs) (walks_agree (closed_walk r.1) (closed_walk r.1) w w' refl h.0 g.0) (all_agree rings ws ws' h.1 g.1)
 
 -- ---- edges and owners
 edges_agree : (walks : List (List Point)) (edges edges' : List (Point × Point)) → AreEdgesOf walks edges → AreEdgesOf walks edges'

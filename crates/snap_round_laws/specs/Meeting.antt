@@ -47,11 +47,11 @@ leaves_some_in low high (s ∷ ss) =
     (leaves_some_in low (earlier high s) ss)
 
 -- the fractions that aren't below 0, and those that aren't above 1
-abbrev pub start : Bound
-start = record { slope = pos 1; offset = pos 0; is_strict = false }
+abbrev pub unit_start : Bound
+unit_start = record { slope = pos 1; offset = pos 0; is_strict = false }
 
-abbrev pub finish : Bound
-finish = record { slope = negsuc 0; offset = pos 1; is_strict = false }
+abbrev pub unit_finish : Bound
+unit_finish = record { slope = negsuc 0; offset = pos 1; is_strict = false }
 
 -- where the way from a to b is in the unit interval round c: its lower side counts, the upper doesn't
 abbrev pub lower : ℤ → ℤ → ℤ → Bound
@@ -63,4 +63,4 @@ upper a b c = record { slope = pos 2 *ℤ (a -ℤ b); offset = pos 2 *ℤ (c -�
 -- some point of the segment from a to b is in the pixel of c
 unfoldable pub meets_of : Point → Point → Point → Bool
 meets_of a b c =
-    leaves_some_in start finish (lower a.x b.x c.x ∷ upper a.x b.x c.x ∷ lower a.y b.y c.y ∷ upper a.y b.y c.y ∷ [])
+    leaves_some_in unit_start unit_finish (lower a.x b.x c.x ∷ upper a.x b.x c.x ∷ lower a.y b.y c.y ∷ upper a.y b.y c.y ∷ [])

@@ -8,10 +8,10 @@ use Rattle.std.specs.Ordering.{int_cmp, on, then_cmp}
 use Rattle.lay_point.specs.declared.point.Point.{Point}
 use Rattle.lay_point.specs.Edges.{undirected}
 use Rattle.snap_chains.specs.Rising.{pairs}
-use Rattle.snap_chains.specs.Rounding.{closed, tail}
-use Rattle.snap_chains.specs.Undirected.{edges_of, is_owned}
+use Rattle.snap_chains.specs.Rounding.{closed_walk, tail}
+use Rattle.snap_chains.specs.Undirected.{is_owned, walked_edges}
 use Rattle.snap_chains.specs.declared.owner.Owner.{Owner}
-use Rattle.snap_chains.specs.Round.{walks_of}
+use Rattle.snap_chains.specs.Round.{owner_walks}
 use Rattle.snap_chains.specs.Rounded.{Owned}
 use Rattle.snap_round_laws.specs.Crossings.{hot_centres}
 use Rattle.snap_round_laws.specs.Meeting.{meets_of}
@@ -19,7 +19,7 @@ use Rattle.snap_round_laws.specs.Sorting.{edge_order, owner_order, point_order, 
 
 -- the sides of all rings, ring by ring
 abbrev pub sides_of : List (Owner × List Point) → List (Point × Point)
-sides_of rings = flat_map (λ r. pairs (closed r.1)) rings
+sides_of rings = flat_map (λ r. pairs (closed_walk r.1)) rings
 
 -- how far a centre lies along the direction from a to b, of which only the signs count
 abbrev pub way_along : Point → Point → Point → ℤ
@@ -41,15 +41,15 @@ walk_of hot (p ∷ q ∷ path) = chain_of hot p q ++ tail (walk_of hot (q ∷ pa
 
 -- the walks round all rings, each closed
 unfoldable pub walks_round : List (Owner × List Point) → List (List Point)
-walks_round rings = map (λ r. walk_of (hot_centres (sides_of rings)) (closed r.1)) rings
+walks_round rings = map (λ r. walk_of (hot_centres (sides_of rings)) (closed_walk r.1)) rings
 
 -- the undirected edges that the walks go, each once, in order
 unfoldable pub edges_gone : List (List Point) → List (Point × Point)
-edges_gone walks = sorted_once edge_order (edges_of undirected walks)
+edges_gone walks = sorted_once edge_order (walked_edges undirected walks)
 
 -- the owners whose walks, all together, go the edge an odd number of times, each once, in order
 unfoldable pub owners_of : List (Owner × List Point) → List (List Point) → Point × Point → List Owner
-owners_of rings walks e = sorted_once owner_order (filter (λ o. is_owned (walks_of o rings walks) e) (map (λ r. r.0) rings))
+owners_of rings walks e = sorted_once owner_order (filter (λ o. is_owned (owner_walks o rings walks) e) (map (λ r. r.0) rings))
 
 -- the edges that the rounded rings go, and the owners of each
 unfoldable pub rounded_of : List (Owner × List Point) → Owned

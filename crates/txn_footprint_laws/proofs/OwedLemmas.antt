@@ -48,7 +48,7 @@ use Rattle.txn_rules.specs.Effects.{Run, after_each, begun, effect, next_id, per
 use Rattle.txn_rules.specs.Elements.{Touched, element_cmp, elements_exact, elements_total}
 use Rattle.txn_rules.specs.Figures.{box_ring, moved, shape_of}
 use Rattle.txn_rules.specs.Lies.{lies}
-use Rattle.txn_rules.specs.Plans.{drawn, is_used, move_to, plan, refused_if, relayer, shape_ids}
+use Rattle.txn_rules.specs.Plans.{is_used, move_to, plan, refused_if, relayer, ring_act, shape_ids}
 use Rattle.txn_rules.specs.Reach.{is_among, reached}
 use Rattle.txn_rules.proofs.Agreements.{same_item, same_slot}
 use Rattle.txn_rules.proofs.Booleans.{replaced_by}
@@ -168,7 +168,7 @@ owed_poly : (new : ItemId) (cell : CellId) (layer : List ℕ) (points : List Poi
     → plan new (Poly cell layer points) l ≡ Ok act → has e act.elements ≡ true → IsOfNew new cell e
 unfolding plan
 owed_poly new cell layer points l act e h there =
-    let first = passed (not (is_cell l cell)) NoCell (drawn new cell layer (ring_of points)) act h in
+    let first = passed (not (is_cell l cell)) NoCell (ring_act new cell layer (ring_of points)) act h in
     let ring = drawn_by new cell layer (ring_of points) act first.1 in
     of_new e new cell (as_known e (shape_act new cell (shape_of cell layer ring.0)) act ring.2 there)
 

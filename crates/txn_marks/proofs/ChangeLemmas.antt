@@ -17,11 +17,12 @@ use Rattle.lay_items.specs.Layout.{AreRising, put}
 use Rattle.lay_items.specs.Same.{option_item_eq}
 use Rattle.lay_items.proofs.MapLemmas.{entries_again, get_lookup}
 use Rattle.txn_rules.specs.Changes.{Change, change_map, change_of}
-use Rattle.txn_rules.specs.Records.{AreProper, Records, befores, cell_record_of, change_at, option_slot_eq, record_of, records_between}
+use Rattle.txn_rules.specs.Records.{AreProper, Records, befores, cell_record_of, option_slot_eq, record_of, recorded_change}
+use Rattle.txn_rules.specs.Records.{records_between}
 use Rattle.txn_rules.specs.Records.{slot_befores, slot_change_at}
 use Rattle.txn_rules.proofs.LawProofs.{changes_merge, slot_changes_merge}
 use Rattle.txn_rules.proofs.Maps.{get-put}
-use Rattle.txn_rules.proofs.Steps.{cell_entry_of, change_at-find, entry_of, rising_again, slot_change_at-find}
+use Rattle.txn_rules.proofs.Steps.{cell_entry_of, recorded_change-find, entry_of, rising_again, slot_change_at-find}
 use Rattle.txn_marks.specs.WritesOf.{Merges, MergesSymbol}
 
 -- the records of changes have all that these have
@@ -44,8 +45,8 @@ find_lookup R [] q = refl
 find_lookup R (e ∷ es) q = ap (cond (is_at (R q) e.0) (Some e.1)) (find_lookup R es q)
 
 -- what a tree has under an id is what its records tell
-pub change_there : (es : List (ItemId × Change Item)) (id : ItemId) → lookup (is_at (id_cmp id)) es ≡ change_at (map record_of es) id
-change_there es id = sym (change_at-find (map record_of es) id ∙ ap (find id_cmp id) (changes_again es) ∙ find_lookup id_cmp es id)
+pub change_there : (es : List (ItemId × Change Item)) (id : ItemId) → lookup (is_at (id_cmp id)) es ≡ recorded_change (map record_of es) id
+change_there es id = sym (recorded_change-find (map record_of es) id ∙ ap (find id_cmp id) (changes_again es) ∙ find_lookup id_cmp es id)
 
 pub cell_change_there : (es : List (ℕ × Change CellSlot)) (number : ℕ) →
     lookup (is_at (nat_cmp number)) es ≡ slot_change_at (map cell_record_of es) number

@@ -19,9 +19,9 @@ use Rattle.txn_rules.specs.declared.element.Element.TheVariants.{Calls, Cell, Co
 use Rattle.txn_rules.specs.Changes.{Change}
 use Rattle.txn_rules.specs.Elements.{Touched, element_eq}
 use Rattle.txn_rules.specs.Lies.{lies, lies_slot, passes}
-use Rattle.txn_rules.specs.Meets.{meets, meets_cell, touches}
+use Rattle.txn_rules.specs.Meets.{meets, meets_cell, meets_touched}
 use Rattle.txn_rules.specs.Records.{cell_record_of, record_of}
-use Rattle.txn_marks.specs.Homes.{content_of, homes}
+use Rattle.txn_marks.specs.Homes.{content_elements, homes}
 use Rattle.txn_marks.specs.Met.{are_met, is_item_met, is_symbol_met, symbols_are_met}
 use Rattle.txn_marks.proofs.AnyLemmas.{and_or, any_alike, any_map, any_none, any_or, any_swap, or_false}
 use Rattle.txn_marks.proofs.SetLemmas.{contains-back, element_eq-Decides}
@@ -60,27 +60,27 @@ same_uses m n = same_from_decides (element_eq (Uses m) (Uses n)) (m == n)
     (Decides-eqb m n)
 
 -- an item is in the content of its cell alone
-in_content : (n : ℕ) (cell : CellId) → cell_eq (Symbol n) cell ≡ list_any (element_eq (Content n)) (content_of cell)
+in_content : (n : ℕ) (cell : CellId) → cell_eq (Symbol n) cell ≡ list_any (element_eq (Content n)) (content_elements cell)
 in_content n Top = refl
 in_content n (Symbol m) = sym (or_false (element_eq (Content n) (Content m)) ∙ same_contents n m)
 
-no_item : (a : ItemId) (cell : CellId) → list_any (element_eq (Item a)) (content_of cell) ≡ false
+no_item : (a : ItemId) (cell : CellId) → list_any (element_eq (Item a)) (content_elements cell) ≡ false
 no_item a Top = refl
 no_item a (Symbol m) = refl
 
-no_layer : (c : CellId) (l : List ℕ) (cell : CellId) → list_any (element_eq (Layer c l)) (content_of cell) ≡ false
+no_layer : (c : CellId) (l : List ℕ) (cell : CellId) → list_any (element_eq (Layer c l)) (content_elements cell) ≡ false
 no_layer c l Top = refl
 no_layer c l (Symbol m) = refl
 
-no_calls : (c cell : CellId) → list_any (element_eq (Calls c)) (content_of cell) ≡ false
+no_calls : (c cell : CellId) → list_any (element_eq (Calls c)) (content_elements cell) ≡ false
 no_calls c Top = refl
 no_calls c (Symbol m) = refl
 
-no_cell : (n : ℕ) (cell : CellId) → list_any (element_eq (Cell n)) (content_of cell) ≡ false
+no_cell : (n : ℕ) (cell : CellId) → list_any (element_eq (Cell n)) (content_elements cell) ≡ false
 no_cell n Top = refl
 no_cell n (Symbol m) = refl
 
-no_uses : (n : ℕ) (cell : CellId) → list_any (element_eq (Uses n)) (content_of cell) ≡ false
+no_uses : (n : ℕ) (cell : CellId) → list_any (element_eq (Uses n)) (content_elements cell) ≡ false
 no_uses n Top = refl
 no_uses n (Symbol m) = refl
 
@@ -144,7 +144,7 @@ module _ (touched : Touched) where
 
   -- records that meet a footprint are found one by one
   pub touches_met : (changes : List (ItemId × Change item.Item)) (cells : List (ℕ × Change CellSlot)) →
-      touches (record { items = map record_of changes; symbols = map cell_record_of cells }) touched
+      meets_touched (record { items = map record_of changes; symbols = map cell_record_of cells }) touched
       ≡ (are_met touched changes || symbols_are_met touched cells)
   touches_met changes cells =
       any_or (λ e. list_any (meets e) (map record_of changes)) (λ e. list_any (meets_cell e) (map cell_record_of cells)) (items touched)

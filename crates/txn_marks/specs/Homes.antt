@@ -16,14 +16,14 @@ use Rattle.txn_rules.specs.Meets.{some_meets}
 use Rattle.txn_rules.specs.Records.{Records}
 
 -- the content of a symbol; the top cell is always there, and its content is no element
-abbrev pub content_of : CellId → List Element
-content_of Top = []
-content_of (Symbol number) = Content number ∷ []
+abbrev pub content_elements : CellId → List Element
+content_elements Top = []
+content_elements (Symbol number) = Content number ∷ []
 
 -- those of an item under its id
 abbrev pub homes : ItemId → items.Item → List Element
-homes id (Shape cell layer rings) = Item id ∷ Layer cell layer ∷ content_of cell
-homes id (Placed cell target turn) = Item id ∷ Calls cell ∷ Uses target ∷ content_of cell
+homes id (Shape cell layer rings) = Item id ∷ Layer cell layer ∷ content_elements cell
+homes id (Placed cell target turn) = Item id ∷ Calls cell ∷ Uses target ∷ content_elements cell
 
 -- those of an item, if there is one
 abbrev pub homes_of : ItemId → Option items.Item → List Element

@@ -9,11 +9,11 @@ use Rattle.lay_items.specs.declared.version.CellSlot.{CellSlot}
 use Rattle.txn_rules.specs.declared.element.Element.TheVariants.{Cell}
 use Rattle.txn_rules.specs.Changes.{Change}
 use Rattle.txn_rules.specs.Elements.{Touched}
-use Rattle.txn_marks.specs.Homes.{content_of, homes}
+use Rattle.txn_marks.specs.Homes.{content_elements, homes}
 
 -- the content of the cell is an element of the footprint
 abbrev pub has_content : Touched → CellId → Bool
-has_content touched cell = list_any (set.contains touched) (content_of cell)
+has_content touched cell = list_any (set.contains touched) (content_elements cell)
 
 -- there is an item, and it lies in an element of the footprint
 abbrev pub is_item_met : Touched → ItemId → Option items.Item → Bool

@@ -3,7 +3,7 @@ ghost use Rattle.std.specs.Prelude.{◌≡◌, OnOk, map, option_copied};
 ghost use Rattle.std.specs.List.{flat_map};
 ghost use Rattle.txn_rules.specs.Elements.{with_elements};
 ghost use Rattle.txn_rules.specs.Records.{cell_record_of, record_of};
-ghost use Rattle.txn_marks.specs.Homes.{cell_homes, content_of, homes_of, record_homes};
+ghost use Rattle.txn_marks.specs.Homes.{cell_homes, content_elements, homes_of, record_homes};
 
 use crate::change::{CellChange, ItemChange};
 use crate::footprint::Footprint;
@@ -66,7 +66,7 @@ fn add_item(met: &mut Footprint, id: ItemId, item: Option<&Item>) -> Result<(), 
 
 /// Adds the content of the cell. That of the top cell is no element.
 fn add_content(met: &mut Footprint, cell: CellId) -> Result<(), NoMemory>
-    ensures { OnOk result (met.new ≡ with_elements met.old (content_of cell)) }
+    ensures { OnOk result (met.new ≡ with_elements met.old (content_elements cell)) }
 {
     match cell {
         CellId::Top => Ok(()),

@@ -2,12 +2,12 @@
 ghost use Rattle.std.specs.Prelude.{◌≡◌, [], IfOk, OnErr, OnOk, map, option_copied};
 ghost use Rattle.std.specs.BTreeMap.{IsOrdered, IsUnchanged, Updates};
 ghost use Rattle.lay_items.specs.Sound.{IsSound};
-ghost use Rattle.txn_rules.specs.Meets.{touches};
+ghost use Rattle.txn_rules.specs.Meets.{meets_touched};
 ghost use Rattle.txn_rules.specs.Records.{
   AreProper,
   applied,
   cell_record_of,
-  change_at,
+  recorded_change,
   record_of,
   reverted,
   slot_change_at,
@@ -73,7 +73,7 @@ impl Writes {
 
     /// Returns what was written under the id, if anything was.
     pub fn item(&self, id: ItemId) -> Option<&ItemChange>
-        ensures { option_copied result ≡ change_at self.now.items id }
+        ensures { option_copied result ≡ recorded_change self.now.items id }
     {
         self.items.get(&id)
     }
@@ -160,7 +160,7 @@ impl Writes {
 
     /// Returns whether some record meets an element of the footprint.
     pub fn touch(&self, footprint: &Footprint) -> bool
-        ensures { result ≡ touches self.now footprint.now }
+        ensures { result ≡ meets_touched self.now footprint.now }
     {
         items_touch(&self.items, footprint) || symbols_touch(&self.symbols, footprint)
     }

@@ -18,7 +18,7 @@ use Rattle.lay_items.specs.Sound.{IsDrawn, IsSound}
 use Rattle.lay_flat.specs.declared.fault.FlatFault.{FlatFault}
 use Rattle.lay_flat.specs.declared.fault.FlatFault.TheVariants.{NoCell}
 use Rattle.lay_flat.specs.Flat.{FlatRing}
-use Rattle.lay_flat.specs.Flattening.{and_then, ends_of, flat_at, flat_of, rings_at, tested}
+use Rattle.lay_flat.specs.Flattening.{ends_of, flat_at, flat_of, on_success, rings_at, tested}
 use Rattle.bool_rules.specs.Op.{Op}
 use Rattle.bool_rules.specs.Shapes.{Rings}
 use Rattle.bool_rules.specs.Booleans.{bool_shapes, shapes_within}
@@ -51,7 +51,8 @@ flat_there : (l : Layout) (cell : CellId) (layer : List ℕ) (rings : List FlatR
 unfolding flat_of
 flat_there l cell layer rings h = by_test (is_cell l cell) h where
   by_test : (b : Bool) →
-      (if b then and_then (tested l cell) (λ _. flat_at (ends_of l cell) (rings_at l layer (ends_of l cell))) else Err NoCell) ≡ Ok rings →
+      (if b then on_success (tested l cell) (λ _. flat_at (ends_of l cell) (rings_at l layer (ends_of l cell))) else Err NoCell)
+          ≡ Ok rings →
       b ≡ true
   by_test true g = refl
   by_test false g = absurd (cc)
@@ -61,7 +62,7 @@ pub bool_there : (l : Layout) (op : Op) (cell : CellId) (a b : List ℕ) (shapes
 unfolding bool_shapes
 bool_there l op cell a b shapes h = by_first (flat_of l cell a) refl h where
   by_first : (r : Result (List FlatRing) FlatFault) → flat_of l cell a ≡ r →
-      and_then r (λ first. and_then (flat_of l cell b) (λ second. shapes_within op first second)) ≡ Ok shapes → is_cell l cell ≡ true
+      on_success r (λ first. on_success (flat_of l cell b) (λ second. shapes_within op first second)) ≡ Ok shapes → is_cell l cell ≡ true
   by_first (Ok first) is g = flat_there l cell a first is
   by_first (Err fault) is g = absurd (cc)
 

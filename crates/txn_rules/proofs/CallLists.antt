@@ -11,7 +11,7 @@ use Rattle.lay_cells.specs.Walks.{IsAcyclic, Walks}
 use Rattle.lay_cells.specs.Walks.Walks.{goes, stays}
 use Rattle.lay_items.specs.declared.id.ItemId.{ItemId}
 use Rattle.lay_items.specs.declared.item.Item as items
-use Rattle.lay_items.specs.Calls.{Call, call_of, calls_among, calls_of}
+use Rattle.lay_items.specs.Calls.{Call, as_call, calls_among, calls_of}
 use Rattle.lay_items.specs.IdOrder.{ids_total}
 use Rattle.lay_items.specs.Ids.{id_cmp}
 use Rattle.lay_items.specs.Layout.{Layout, item_at}
@@ -22,7 +22,7 @@ pub record IsCalled (l : Layout) (call : Call) : Type 0 where
   pub id : ItemId
   pub item : items.Item
   pub there : item_at l id ≡ Some item
-  pub is : call_of item ≡ Some call
+  pub is : as_call item ≡ Some call
 
 -- behind what may be there
 behind : {X : Type 0} (o : Option X) (xs : List X) (x : X) → Contains xs x → Contains (cons_option o xs) x
@@ -40,7 +40,7 @@ first_or_behind (Some y) xs x there = elim (Contains-append_cases (y ∷ []) xs 
 called_among : (l : Layout) (es : List (ItemId × items.Item)) → AllByRecursion (λ e. item_at l e.0 ≡ Some e.1) es → (call : Call) →
     Contains (calls_among es) call → IsCalled l call
 called_among l [] found call there = absurd (omega (arith, there.1))
-called_among l (e ∷ es) found call there = elim (first_or_behind (call_of e.1) (calls_among es) call there) [
+called_among l (e ∷ es) found call there = elim (first_or_behind (as_call e.1) (calls_among es) call there) [
   | inl is ↦ record { id = e.0; item = e.1; there = found.0; is = is }
   | inr later ↦ called_among l es found.1 call later
 ]
@@ -51,17 +51,17 @@ unfolding calls_of
 called_by_item l call there = called_among l (entries l.items) (entries_found ids_total l.items) call there
 
 among_calls : (es : List (ItemId × items.Item)) (id : ItemId) (item : items.Item) (call : Call) → find id_cmp id es ≡ Some item →
-    call_of item ≡ Some call → Contains (calls_among es) call
+    as_call item ≡ Some call → Contains (calls_among es) call
 among_calls [] id item call found is = absurd cc
 among_calls (e ∷ es) id item call found is =
     by_id (eq_by_cmp id_cmp id e.0) found (λ h. among_calls es id item call h is) where
       by_id : (b : Bool) → cond b (Some e.1) (find id_cmp id es) ≡ Some item →
-          (find id_cmp id es ≡ Some item → Contains (calls_among es) call) → Contains (cons_option (call_of e.1) (calls_among es)) call
+          (find id_cmp id es ≡ Some item → Contains (calls_among es) call) → Contains (cons_option (as_call e.1) (calls_among es)) call
       by_id true h rest =
           let same : e.1 ≡ item = cc in
-          let here : call_of e.1 ≡ Some call = ap call_of same ∙ is in
+          let here : as_call e.1 ≡ Some call = ap as_call same ∙ is in
           rw here (zero, omega arith, refl)
-      by_id false h rest = behind (call_of e.1) (calls_among es) call (rest h)
+      by_id false h rest = behind (as_call e.1) (calls_among es) call (rest h)
 
 -- each item that is a call is among them
 pub item_called : (l : Layout) (call : Call) → IsCalled l call → Contains (calls_of l) call

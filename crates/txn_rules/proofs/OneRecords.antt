@@ -17,12 +17,12 @@ use Rattle.lay_items.specs.Same.{option_item_eq, option_item_eq-Decides}
 use Rattle.txn_rules.specs.declared.record.CellRecord.{CellRecord}
 use Rattle.txn_rules.specs.declared.record.Record.{Record}
 use Rattle.txn_rules.specs.Changes.{Change, IsStep, change_map, change_of}
-use Rattle.txn_rules.specs.Records.{AreProper, Lead, Records, cell_record_of, change_at, option_slot_eq, record_of}
+use Rattle.txn_rules.specs.Records.{AreProper, Lead, Records, cell_record_of, option_slot_eq, record_of, recorded_change}
 use Rattle.txn_rules.specs.Records.{records_between, slot_change_at}
 use Rattle.lay_items.specs.Layout.{AreRising}
 use Rattle.txn_rules.proofs.Maps.{get-change_map}
 use Rattle.txn_rules.proofs.Overlay.{differ_at, slot_differ_at}
-use Rattle.txn_rules.proofs.Steps.{cell_entry_of, change_at-find, entry_of, option_slot_eq-Decides, rising_again}
+use Rattle.txn_rules.proofs.Steps.{cell_entry_of, recorded_change-find, entry_of, option_slot_eq-Decides, rising_again}
 use Rattle.txn_rules.proofs.Steps.{slot_change_at-find, sorted_again}
 
 -- a step by a change of two different values is that from the one value to the other
@@ -59,8 +59,8 @@ one_records records l m proper lead =
     let cells : FinMap nat_cmp (Change CellSlot) = change_map option_slot_eq l.symbols m.symbols in
     let of_items : map entry_of records.items ≡ entries changes = same_entries ids_total ids_exact changes (map entry_of records.items)
     (rising_again id_cmp (λ w. (w.id, w.after)) entry_of (λ w. refl) records.items proper.items)
-    (λ q. sym (change_at-find records.items q)
-    ∙ step_is option_item_eq option_item_eq-Decides (change_at records.items q) (item_at l q) (item_at m q)
+    (λ q. sym (recorded_change-find records.items q)
+    ∙ step_is option_item_eq option_item_eq-Decides (recorded_change records.items q) (item_at l q) (item_at m q)
     (λ d there. differ_at records.items q d proper.items_differ there) (lead.items q)
     ∙ sym (get-change_map ids_total ids_exact option_item_eq refl l.items m.items q)) in
     let of_symbols : map cell_entry_of records.symbols ≡ entries cells = same_entries nat_cmp_total nat_cmp-IsAntisymmetric cells

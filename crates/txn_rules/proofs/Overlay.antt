@@ -25,7 +25,7 @@ use Rattle.txn_rules.specs.Covers.{LeavesAlone}
 use Rattle.txn_rules.specs.Elements.{Touched}
 use Rattle.txn_rules.specs.Lies.{lies, lies_slot, passes}
 use Rattle.txn_rules.specs.Meets.{AreApart, meets, meets_cell, some_meets}
-use Rattle.txn_rules.specs.Records.{AreProper, Lead, Records, change_at, option_slot_eq, slot_change_at, records_between}
+use Rattle.txn_rules.specs.Records.{AreProper, Lead, Records, recorded_change, option_slot_eq, slot_change_at, records_between}
 use Rattle.txn_rules.specs.Records.{cell_record_of, record_of}
 use Rattle.txn_rules.proofs.Agreements.{equal-alike, same_item, same_slot}
 use Rattle.txn_rules.proofs.Maps.{change_map-alike}
@@ -37,7 +37,7 @@ passes_neither test c = (passes test c.before ≡ false) × (passes test c.after
 
 -- where no record meets an element, no change has a value in it
 unmet_at : (e : Element) (ws : List Record) (q : ItemId) (c : Change items.Item) → list_any (meets e) ws ≡ false →
-    change_at ws q ≡ Some c →
+    recorded_change ws q ≡ Some c →
     passes_neither (lies e q) c
 unmet_at e [] q c out there = absurd cc
 unmet_at e (w ∷ ws) q c out there =
@@ -45,8 +45,8 @@ unmet_at e (w ∷ ws) q c out there =
     let first = or_parts (passes (lies e w.id) w.before) (passes (lies e w.id) w.after) parts.0 in
     by_id (id_eq w.id q) refl first (unmet_at e ws q c parts.1) there where
       by_id : (b : Bool) → id_eq w.id q ≡ b → passes_neither (lies e w.id) (record { before = w.before; after = w.after }) →
-          (change_at ws q ≡ Some c → passes_neither (lies e q) c) →
-          cond b (Some (record { before = w.before; after = w.after })) (change_at ws q) ≡ Some c → passes_neither (lies e q) c
+          (recorded_change ws q ≡ Some c → passes_neither (lies e q) c) →
+          cond b (Some (record { before = w.before; after = w.after })) (recorded_change ws q) ≡ Some c → passes_neither (lies e q) c
       by_id true is first rest h =
           let change : record { before = w.before; after = w.after } ≡ c = cc in
           let id : w.id ≡ q = (id_eq-Decides w.id q).0 is in
@@ -89,7 +89,7 @@ pub unmet_agree : (ws : Records) (l m : Layout) (e : Element) → Lead ws l m �
 unmet_agree ws l m e lead out =
     let parts = or_parts (list_any (meets e) ws.items) (list_any (meets_cell e) ws.symbols) out in
     record {
-      items = λ q. step_alike (lies e q) (change_at ws.items q) (item_at l q) (item_at m q) (lead.items q)
+      items = λ q. step_alike (lies e q) (recorded_change ws.items q) (item_at l q) (item_at m q) (lead.items q)
           (λ c there. unmet_at e ws.items q c parts.0 there);
       symbols = λ n. step_alike (lies_slot e n) (slot_change_at ws.symbols n) (get l.symbols n) (get m.symbols n) (lead.symbols n)
           (λ c there. slot_unmet_at e ws.symbols n c parts.1 there);
@@ -110,7 +110,7 @@ step_alike_back test (Some c) x y x' y' forth back alike = equal-alike test x y 
 -- equal records keep agreement, applied and reverted
 pub agree_applied : (ws : Records) (l m l' m' : Layout) (e : Element) → Lead ws l l' → Lead ws m m' → Agree l m e → Agree l' m' e
 agree_applied ws l m l' m' e forth back agree = record {
-  items = λ q. step_alike_both (lies e q) (change_at ws.items q) (item_at l q) (item_at m q) (item_at l' q) (item_at m' q)
+  items = λ q. step_alike_both (lies e q) (recorded_change ws.items q) (item_at l q) (item_at m q) (item_at l' q) (item_at m' q)
       (forth.items q) (back.items q) (agree.items q);
   symbols = λ n. step_alike_both (lies_slot e n) (slot_change_at ws.symbols n) (get l.symbols n) (get m.symbols n) (get l'.symbols n)
       (get m'.symbols n) (forth.symbols n) (back.symbols n) (agree.symbols n);
@@ -118,7 +118,7 @@ agree_applied ws l m l' m' e forth back agree = record {
 
 pub agree_reverted : (ws : Records) (l m l' m' : Layout) (e : Element) → Lead ws l l' → Lead ws m m' → Agree l' m' e → Agree l m e
 agree_reverted ws l m l' m' e forth back agree = record {
-  items = λ q. step_alike_back (lies e q) (change_at ws.items q) (item_at l q) (item_at m q) (item_at l' q) (item_at m' q)
+  items = λ q. step_alike_back (lies e q) (recorded_change ws.items q) (item_at l q) (item_at m q) (item_at l' q) (item_at m' q)
       (forth.items q) (back.items q) (agree.items q);
   symbols = λ n. step_alike_back (lies_slot e n) (slot_change_at ws.symbols n) (get l.symbols n) (get m.symbols n) (get l'.symbols n)
       (get m'.symbols n) (forth.symbols n) (back.symbols n) (agree.symbols n);
@@ -126,12 +126,12 @@ agree_reverted ws l m l' m' e forth back agree = record {
 
 -- each change of proper records has two different values
 pub differ_at : (ws : List Record) (q : ItemId) (c : Change items.Item) → AllByRecursion (λ w. w.before ≢ w.after) ws →
-    change_at ws q ≡ Some c →
+    recorded_change ws q ≡ Some c →
     c.before ≢ c.after
 differ_at [] q c all there = absurd cc
 differ_at (w ∷ ws) q c all there = by_id (id_eq w.id q) (differ_at ws q c all.1) there where
-  by_id : (b : Bool) → (change_at ws q ≡ Some c → c.before ≢ c.after) →
-      cond b (Some (record { before = w.before; after = w.after })) (change_at ws q) ≡ Some c → c.before ≢ c.after
+  by_id : (b : Bool) → (recorded_change ws q ≡ Some c → c.before ≢ c.after) →
+      cond b (Some (record { before = w.before; after = w.after })) (recorded_change ws q) ≡ Some c → c.before ≢ c.after
   by_id true rest h e =
       let change : record { before = w.before; after = w.after } ≡ c = cc in
       all.0 (ap (λ (d : Change items.Item). d.before) change ∙ e ∙ sym (ap (λ (d : Change items.Item). d.after) change))
@@ -166,16 +166,16 @@ past_step test all (Some d) x y out differ same =
 pub past : (ws : Records) (l m n k : Layout) (touched : Touched) → AreProper ws → Lead ws l m → AreApart ws touched →
     LeavesAlone l n touched → LeavesAlone m k touched → AgreeOn n k touched → Lead ws n k
 past ws l m n k touched proper lead apart from_l from_m agree = record { items = items_past; symbols = symbols_past } where
-  items_past : (q : ItemId) → IsStep (change_at ws.items q) (item_at n q) (item_at k q)
+  items_past : (q : ItemId) → IsStep (recorded_change ws.items q) (item_at n q) (item_at k q)
   items_past q = by_touch (contains touched (Item q)) refl where
-    by_touch : (b : Bool) → contains touched (Item q) ≡ b → IsStep (change_at ws.items q) (item_at n q) (item_at k q)
+    by_touch : (b : Bool) → contains touched (Item q) ≡ b → IsStep (recorded_change ws.items q) (item_at n q) (item_at k q)
     by_touch true is =
         let out = or_parts (list_any (meets (Item q)) ws.items) (list_any (meets_cell (Item q)) ws.symbols) (apart (Item q) is) in
-        past_step (lies (Item q) q) (λ v. (id_eq-Decides q q).1 refl) (change_at ws.items q) (item_at n q) (item_at k q)
+        past_step (lies (Item q) q) (λ v. (id_eq-Decides q q).1 refl) (recorded_change ws.items q) (item_at n q) (item_at k q)
         (λ c there. unmet_at (Item q) ws.items q c out.0 there) (λ c there. differ_at ws.items q c proper.items_differ there)
         (same_item n k q (agree (Item q) is))
-    by_touch false is = subst (λ o. IsStep (change_at ws.items q) o (item_at k q)) (sym (from_l.items q is))
-        (subst (λ o. IsStep (change_at ws.items q) (item_at l q) o) (sym (from_m.items q is)) (lead.items q))
+    by_touch false is = subst (λ o. IsStep (recorded_change ws.items q) o (item_at k q)) (sym (from_l.items q is))
+        (subst (λ o. IsStep (recorded_change ws.items q) (item_at l q) o) (sym (from_m.items q is)) (lead.items q))
 
   symbols_past : (q : ℕ) → IsStep (slot_change_at ws.symbols q) (get n.symbols q) (get k.symbols q)
   symbols_past q = by_touch (contains touched (Cell q)) refl where

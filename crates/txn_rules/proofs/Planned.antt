@@ -32,7 +32,7 @@ use Rattle.txn_rules.specs.Acts.{look_act, make_act, make_cell_act, place_act, s
 use Rattle.txn_rules.specs.Covers.{IsCovered, has}
 use Rattle.txn_rules.specs.Elements.{element_cmp, elements_total}
 use Rattle.txn_rules.specs.Figures.{box_ring, is_item_in_range, moved, shape_of}
-use Rattle.txn_rules.specs.Plans.{drawn, is_used, move_to, plan, refused_if, relayer, shape_ids}
+use Rattle.txn_rules.specs.Plans.{is_used, move_to, plan, refused_if, relayer, ring_act, shape_ids}
 use Rattle.txn_rules.specs.Reach.{is_among, reached}
 use Rattle.txn_rules.proofs.Booleans.{replaced_by, replaced_covered}
 use Rattle.txn_rules.proofs.Rings.{box_ring-ring, ring_of-ring}
@@ -77,7 +77,7 @@ planned_poly : (new : ItemId) (cell : CellId) (layer : List ℕ) (points : List 
     plan new (Poly cell layer points) l ≡ Ok act → IsPlanned new l act
 unfolding plan
 planned_poly new cell layer points l act h =
-    let there = passed (not (is_cell l cell)) NoCell (drawn new cell layer (ring_of points)) act h in
+    let there = passed (not (is_cell l cell)) NoCell (ring_act new cell layer (ring_of points)) act h in
     let ring = drawn_by new cell layer (ring_of points) act there.1 in
     draws cell layer ring.0 (not-false (is_cell l cell) there.0) (ring_of-ring points ring.0 ring.1) ring.2
 

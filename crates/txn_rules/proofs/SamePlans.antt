@@ -29,7 +29,7 @@ use Rattle.txn_rules.specs.Acts.{Act, cell_elements, change_act, drop_cell_act, 
 use Rattle.txn_rules.specs.Agreement.{Agree, AgreeOnEach, AreAlike}
 use Rattle.txn_rules.specs.Figures.{box_ring, is_item_in_range, moved, shape_of}
 use Rattle.txn_rules.specs.Lies.{lies}
-use Rattle.txn_rules.specs.Plans.{drawn, is_used, move_to, plan, refused_if, relayer, with_value}
+use Rattle.txn_rules.specs.Plans.{is_used, move_to, plan, refused_if, relayer, ring_act, with_value}
 use Rattle.txn_rules.specs.Reach.{is_among, reached}
 use Rattle.txn_rules.proofs.Booleans.{same_bool}
 use Rattle.txn_rules.proofs.Agreements.{same_is_cell, same_item, same_slot}
@@ -51,7 +51,7 @@ given None fault rest x h = absurd cc
 given (Some v) fault rest x h = (v, refl, h)
 
 pub drawn_by : (new : ItemId) (cell : CellId) (layer : List ℕ) (ring : Result (List Point) RingFault) (act : Act) →
-    drawn new cell layer ring ≡ Ok act →
+    ring_act new cell layer ring ≡ Ok act →
     (points : List Point) × (ring ≡ Ok points) × (shape_act new cell (shape_of cell layer points) ≡ act)
 drawn_by new cell layer (Ok points) act h = (points, refl, cc)
 drawn_by new cell layer (Err fault) act h = absurd cc
@@ -128,9 +128,9 @@ same_poly : (new : ItemId) (cell : CellId) (layer : List ℕ) (points : List Poi
     plan new (Poly cell layer points) l ≡ Ok act → AgreeOnEach l m act.elements → plan new (Poly cell layer points) m ≡ Ok act
 unfolding plan
 same_poly new cell layer points l m act h agree =
-    let there = passed (not (is_cell l cell)) NoCell (drawn new cell layer (ring_of points)) act h in
+    let there = passed (not (is_cell l cell)) NoCell (ring_act new cell layer (ring_of points)) act h in
     let ring = drawn_by new cell layer (ring_of points) act there.1 in
-    in_cell l m cell (drawn new cell layer (ring_of points)) act
+    in_cell l m cell (ring_act new cell layer (ring_of points)) act
     (agree_on l m (shape_act new cell (shape_of cell layer ring.0)) act ring.2 agree).1 h
 
 same_place : (new : ItemId) (cell : CellId) (target : ℕ) (turn : Turn) (l m : Layout) (act : Act) →

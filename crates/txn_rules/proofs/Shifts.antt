@@ -6,7 +6,7 @@ use Rattle.std.proofs.lemmas.Int.{ints}
 use Rattle.std.proofs.lemmas.List.{length-map, map-append}
 use Rattle.std.specs.List.{AllByRecursion, list_all}
 use Rattle.lay_point.specs.declared.point.Point.{Point}
-use Rattle.lay_point.specs.Bridges.{bridged, further, joined}
+use Rattle.lay_point.specs.Bridges.{bridged, further, round_all}
 use Rattle.lay_point.specs.Points.{is_in_range, point_eq}
 use Rattle.lay_point.specs.Rings.{IsRing, NeighboursDiffer, closed, kept_behind, opened, opened_behind, without_repeats}
 use Rattle.lay_point.specs.Same.{point_eq-Decides}
@@ -79,7 +79,7 @@ module _ (s : Point) where
       ∙ ap (λ xs. moved (closed ring) ++ shifted s start ∷ xs) (further-shifted start (next ∷ rings))
       ∙ sym (map-append (shifted s) (closed ring) (start ∷ further start (next ∷ rings)))
 
-  joined-shifted : (rings : List (List Point)) → joined (all_moved rings) ≡ moved (joined rings)
+  joined-shifted : (rings : List (List Point)) → round_all (all_moved rings) ≡ moved (round_all rings)
   joined-shifted [] = refl
   joined-shifted ([] ∷ rings) = refl
   joined-shifted ((start ∷ points) ∷ []) = refl
@@ -90,7 +90,7 @@ module _ (s : Point) where
 
   bridged-shifted : (rings : List (List Point)) → bridged (all_moved rings) ≡ moved (bridged rings)
   unfolding bridged
-  bridged-shifted rings = ap without_repeats (joined-shifted rings) ∙ without_repeats-shifted (joined rings)
+  bridged-shifted rings = ap without_repeats (joined-shifted rings) ∙ without_repeats-shifted (round_all rings)
 
   differ_moved : (ps : List Point) → NeighboursDiffer ps → NeighboursDiffer (moved ps)
   differ_moved [] h = tt

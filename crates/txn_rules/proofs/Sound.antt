@@ -21,7 +21,7 @@ use Rattle.lay_items.specs.declared.item.Item as items
 use Rattle.lay_items.specs.declared.item.Item.TheVariants.{Placed, Shape}
 use Rattle.lay_items.specs.declared.version.CellSlot.{CellSlot}
 use Rattle.lay_items.specs.declared.version.CellSlot.TheVariants.{Base, Made}
-use Rattle.lay_items.specs.Calls.{Call, call_of, calls_of}
+use Rattle.lay_items.specs.Calls.{Call, as_call, calls_of}
 use Rattle.lay_items.specs.IdOrder.{ids_exact, ids_total}
 use Rattle.lay_items.specs.Items.{cell_of}
 use Rattle.lay_items.specs.Layout.{Layout, Write, is_cell, item_at}
@@ -63,7 +63,7 @@ with_slot l number slot = rewritten l [] ((number, slot) ∷ [])
 
 -- an item is sound where the cells that it names are there
 sound_there : (l m : Layout) (item : items.Item) → (is_cell l (cell_of item) ≡ true → is_cell m (cell_of item) ≡ true) →
-    ((cell : CellId) (target : ℕ) → call_of item ≡ Some (cell, target) → is_cell l (Symbol target) ≡ true →
+    ((cell : CellId) (target : ℕ) → as_call item ≡ Some (cell, target) → is_cell l (Symbol target) ≡ true →
     is_cell m (Symbol target) ≡ true) →
     IsSoundItem l item → IsSoundItem m item
 sound_there l m (Shape cell layer rings) cells targets sound = (cells sound.0, sound.1)
@@ -93,7 +93,7 @@ with_item-sound l id item sound new acyclic = record {
 
 -- calls that are there already: those of an item that takes the place of one with the same call, or that is no call
 no_new_call : (l : Layout) (id : ItemId) (item : Option items.Item) →
-    ((x : items.Item) (call : Call) → item ≡ Some x → call_of x ≡ Some call → IsCalled l call) →
+    ((x : items.Item) (call : Call) → item ≡ Some x → as_call x ≡ Some call → IsCalled l call) →
     AreAmong (calls_of (with_item l id item)) (calls_of l)
 no_new_call l id item known call there =
     let called = called_by_item (with_item l id item) call there in
@@ -103,7 +103,7 @@ no_new_call l id item known call there =
     ]
 
 written-sound : (l : Layout) (id : ItemId) (item : Option items.Item) → IsSound l → ((x : items.Item) → item ≡ Some x → IsSoundItem l x) →
-    ((x : items.Item) (call : Call) → item ≡ Some x → call_of x ≡ Some call → IsCalled l call) → IsSound (with_item l id item)
+    ((x : items.Item) (call : Call) → item ≡ Some x → as_call x ≡ Some call → IsCalled l call) → IsSound (with_item l id item)
 written-sound l id item sound new known = with_item-sound l id item sound new
     (IsAcyclic-fewer (calls_of (with_item l id item)) (calls_of l) (no_new_call l id item known) sound.acyclic)
 
@@ -113,7 +113,7 @@ moved-sound : (l : Layout) (shift : Point) (item : items.Item) → IsSoundItem l
 moved-sound l shift (Shape cell layer rings) sound near = (sound.0, drawn_shifted shift rings sound.1 near)
 moved-sound l shift (Placed cell target turn) sound near = (sound.0, sound.1, near)
 
-moved-call : (shift : Point) (item : items.Item) → call_of (moved shift item) ≡ call_of item
+moved-call : (shift : Point) (item : items.Item) → as_call (moved shift item) ≡ as_call item
 moved-call shift (Shape cell layer rings) = refl
 moved-call shift (Placed cell target turn) = refl
 
@@ -128,11 +128,11 @@ moves-sound : (l : Layout) (id : ItemId) (shift : Point) (item : items.Item) →
     is_item_in_range (moved shift item) ≡ true → IsSound (with_item l id (Some (moved shift item)))
 moves-sound l id shift item sound there near = written-sound l id (Some (moved shift item)) sound
     (the_item (IsSoundItem l) (moved shift item) (moved-sound l shift item (sound.items id item there) near))
-    (λ x call here. the_item (λ y. call_of y ≡ Some call → IsCalled l call) (moved shift item)
+    (λ x call here. the_item (λ y. as_call y ≡ Some call → IsCalled l call) (moved shift item)
     (λ is. record { id = id; item = item; there = there; is = sym (moved-call shift item) ∙ is }) x here)
 
 no_call : (cell : CellId) (layer : List ℕ) (rings : List (List Point)) (l : Layout) (call : Call) →
-    call_of (Shape cell layer rings) ≡ Some call →
+    as_call (Shape cell layer rings) ≡ Some call →
     IsCalled l call
 no_call cell layer rings l call is = absurd cc
 
@@ -140,7 +140,7 @@ shape-sound : (l : Layout) (id : ItemId) (cell : CellId) (layer : List ℕ) (rin
     IsSoundItem l (Shape cell layer rings) → IsSound (with_item l id (Some (Shape cell layer rings)))
 shape-sound l id cell layer rings sound new = written-sound l id (Some (Shape cell layer rings)) sound
     (the_item (IsSoundItem l) (Shape cell layer rings) new)
-    (λ x call here. the_item (λ y. call_of y ≡ Some call → IsCalled l call) (Shape cell layer rings) (no_call cell layer rings l call) x
+    (λ x call here. the_item (λ y. as_call y ≡ Some call → IsCalled l call) (Shape cell layer rings) (no_call cell layer rings l call) x
     here)
 
 deletes-sound : (l : Layout) (id : ItemId) → IsSound l → IsSound (with_item l id None)
@@ -158,7 +158,7 @@ places-sound l id cell target turn sound there found near apart = with_item-soun
       but call among =
           let called = called_by_item (with_item l id (Some (Placed cell target turn))) call among in
           elim (written_item l id (Some (Placed cell target turn)) called.id called.item called.there) [
-            | inl here ↦ inl (same_value (cell, target) call (ap call_of (same_value (Placed cell target turn) called.item here.1)
+            | inl here ↦ inl (same_value (cell, target) call (ap as_call (same_value (Placed cell target turn) called.item here.1)
                 ∙ called.is))
             | inr old ↦ inr (item_called l call (record { id = called.id; item = called.item; there = old; is = called.is }))
           ]
@@ -209,7 +209,7 @@ unused_by l number id item unused there = or_parts (lies (Content number) id ite
     (no_entry_passes ids_exact (λ e. lies (Content number) e.0 e.1 || lies (Uses number) e.0 e.1) l.items id item unused there)
 
 not_called : (number : ℕ) (id : ItemId) (item : items.Item) (cell : CellId) (target : ℕ) → lies (Uses number) id item ≡ false →
-    call_of item ≡ Some (cell, target) → Symbol target ≡ Symbol number → ⊥
+    as_call item ≡ Some (cell, target) → Symbol target ≡ Symbol number → ⊥
 not_called number id (Shape c layer rings) cell target unused is same = absurd cc
 not_called number id (Placed c t turn) cell target unused is same =
     let calls : ◌≡◌ {A = Call} (c, t) (cell, target) = cc in
@@ -243,8 +243,8 @@ shapes-sound cell (w ∷ writes) all l sound there =
       drawn : (x : items.Item) → IsDrawnIn cell w.0 x → IsSoundItem l x
       drawn x is = subst (IsSoundItem l) is.2 (there, is.3)
 
-      calls_none : (x : items.Item) (call : Call) → IsDrawnIn cell w.0 x → call_of x ≡ Some call → IsCalled l call
-      calls_none x call is h = let none : None ≡ Some call = ap call_of is.2 ∙ h in absurd cc
+      calls_none : (x : items.Item) (call : Call) → IsDrawnIn cell w.0 x → as_call x ≡ Some call → IsCalled l call
+      calls_none x call is h = let none : None ≡ Some call = ap as_call is.2 ∙ h in absurd cc
 
       first : IsSound (with_item l w.0 w.1)
       first = written-sound l w.0 w.1 sound (λ x h. drawn x (all.0 x h)) (λ x call h is. calls_none x call (all.0 x h) is)

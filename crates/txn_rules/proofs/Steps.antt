@@ -24,7 +24,7 @@ use Rattle.lay_items.specs.SameLayout.{id_eq, id_eq-Decides}
 use Rattle.txn_rules.specs.declared.record.CellRecord.{CellRecord}
 use Rattle.txn_rules.specs.declared.record.Record.{Record}
 use Rattle.txn_rules.specs.Changes.{Change, IsStep, change_map, change_of}
-use Rattle.txn_rules.specs.Records.{AreProper, afters, slot_afters, Lead, Records, applied, cell_record_of, change_at}
+use Rattle.txn_rules.specs.Records.{AreProper, afters, slot_afters, Lead, Records, applied, cell_record_of, recorded_change}
 use Rattle.txn_rules.specs.Records.{option_slot_eq, record_of, reverted, slot_change_at, records_between}
 use Rattle.lay_items.specs.Layout.{AreRising, SymbolWrite, put_all}
 use Rattle.txn_rules.proofs.Lists.{all_made}
@@ -158,11 +158,11 @@ same_numbers m n = same_from_decides (m == n) (eq_by_cmp nat_cmp n m) (Decides-e
 )
 
 -- the change under an id is found among the entries
-pub change_at-find : (ws : List Record) (q : ItemId) → change_at ws q ≡ find id_cmp q (map entry_of ws)
-change_at-find [] q = refl
-change_at-find (w ∷ ws) q =
-    ap (λ b. cond b (Some (entry_of w).1) (change_at ws q)) (same_ids w.id q)
-    ∙ ap (λ o. cond (eq_by_cmp id_cmp q w.id) (Some (entry_of w).1) o) (change_at-find ws q)
+pub recorded_change-find : (ws : List Record) (q : ItemId) → recorded_change ws q ≡ find id_cmp q (map entry_of ws)
+recorded_change-find [] q = refl
+recorded_change-find (w ∷ ws) q =
+    ap (λ b. cond b (Some (entry_of w).1) (recorded_change ws q)) (same_ids w.id q)
+    ∙ ap (λ o. cond (eq_by_cmp id_cmp q w.id) (Some (entry_of w).1) o) (recorded_change-find ws q)
 
 pub slot_change_at-find : (ws : List CellRecord) (q : ℕ) → slot_change_at ws q ≡ find nat_cmp q (map cell_entry_of ws)
 slot_change_at-find [] q = refl
@@ -179,12 +179,12 @@ cell_entries_back [] = refl
 cell_entries_back (e ∷ es) = ap (λ fs. e ∷ fs) (cell_entries_back es)
 
 -- the record of an id is the change of its item
-pub change_at-between : (l m : Layout) (q : ItemId) →
-    change_at (records_between l m).items q ≡ change_of option_item_eq (item_at l q) (item_at m q)
+pub recorded_change-between : (l m : Layout) (q : ItemId) →
+    recorded_change (records_between l m).items q ≡ change_of option_item_eq (item_at l q) (item_at m q)
 unfolding records_between
-change_at-between l m q =
+recorded_change-between l m q =
     let changes : FinMap id_cmp (Change items.Item) = change_map option_item_eq l.items m.items in
-    change_at-find (map record_of (entries changes)) q
+    recorded_change-find (map record_of (entries changes)) q
     ∙ ap (find id_cmp q) (entries_back (entries changes))
     ∙ sym (get-entries changes q)
     ∙ get-change_map ids_total ids_exact option_item_eq refl l.items m.items q
@@ -202,7 +202,7 @@ slot_change_at-between l m q =
 -- the records between two layouts lead from the one to the other
 pub lead_between : (l m : Layout) → Lead (records_between l m) l m
 lead_between l m = record {
-  items = λ q. subst (λ (c : Option (Change items.Item)). IsStep c (item_at l q) (item_at m q)) (sym (change_at-between l m q))
+  items = λ q. subst (λ (c : Option (Change items.Item)). IsStep c (item_at l q) (item_at m q)) (sym (recorded_change-between l m q))
       (change_of-step option_item_eq option_item_eq-Decides (item_at l q) (item_at m q));
   symbols = λ q. subst (λ (c : Option (Change CellSlot)). IsStep c (get l.symbols q) (get m.symbols q))
       (sym (slot_change_at-between l m q))
@@ -275,14 +275,14 @@ slot_writes_of value (w ∷ ws) = ap (λ fs. (w.number, value (cell_entry_of w).
 -- what records in order leave under an id
 item_after : (value : Change items.Item → Option items.Item) (l : Layout) (ws : List Record) → AreRising id_cmp (afters ws) →
     (q : ItemId) →
-    get (put_all l.items (writes_by value ws)) q ≡ unwrap_or (option_map value (change_at ws q)) (item_at l q)
+    get (put_all l.items (writes_by value ws)) q ≡ unwrap_or (option_map value (recorded_change ws q)) (item_at l q)
 item_after value l ws rises q =
     let sorted = sorted_again id_cmp ids_total (map entry_of ws)
     (rising_again id_cmp (λ w. (w.id, w.after)) entry_of (λ w. refl) ws rises) in
     get-put_all ids_total l.items (writes_by value ws) q
     ∙ ap (λ es. unwrap_or (write_at id_cmp q es) (item_at l q)) (writes_of value ws)
     ∙ ap (λ o. unwrap_or o (item_at l q)) (write_at-changes id_cmp ids_total ids_exact value (map entry_of ws) sorted q
-    ∙ ap (option_map value) (sym (change_at-find ws q)))
+    ∙ ap (option_map value) (sym (recorded_change-find ws q)))
 
 slot_after : (value : Change CellSlot → Option CellSlot) (l : Layout) (ws : List CellRecord) → AreRising nat_cmp (slot_afters ws) →
     (q : ℕ) →
@@ -301,7 +301,7 @@ slot_after value l ws rises q =
 pub applied_leads : (ws : Records) (l m : Layout) → AreProper ws → Lead ws l m → applied l ws ≡ m
 applied_leads ws l m proper lead = same_layouts (applied l ws) m
     (λ q. item_after (λ c. c.after) l ws.items proper.items q
-    ∙ applied_step (change_at ws.items q) (item_at l q) (item_at m q) (lead.items q))
+    ∙ applied_step (recorded_change ws.items q) (item_at l q) (item_at m q) (lead.items q))
     (λ n. slot_after (λ c. c.after) l ws.symbols proper.symbols n
     ∙ applied_step (slot_change_at ws.symbols n) (get l.symbols n) (get m.symbols n) (lead.symbols n))
 
@@ -309,6 +309,6 @@ applied_leads ws l m proper lead = same_layouts (applied l ws) m
 pub reverted_leads : (ws : Records) (l m : Layout) → AreProper ws → Lead ws l m → reverted m ws ≡ l
 reverted_leads ws l m proper lead = same_layouts (reverted m ws) l
     (λ q. item_after (λ c. c.before) m ws.items proper.items q
-    ∙ reverted_step (change_at ws.items q) (item_at l q) (item_at m q) (lead.items q))
+    ∙ reverted_step (recorded_change ws.items q) (item_at l q) (item_at m q) (lead.items q))
     (λ n. slot_after (λ c. c.before) m ws.symbols proper.symbols n
     ∙ reverted_step (slot_change_at ws.symbols n) (get l.symbols n) (get m.symbols n) (lead.symbols n))

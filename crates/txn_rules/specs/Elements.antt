@@ -37,17 +37,17 @@ numbers_of (Content number) = 4 ∷ number ∷ 0 ∷ 0 ∷ []
 numbers_of (Uses number) = 5 ∷ number ∷ 0 ∷ 0 ∷ []
 
 -- the name of its layer
-abbrev pub name_of : Element → List ℕ
-name_of (Item id) = []
-name_of (Layer cell layer) = layer
-name_of (Calls cell) = []
-name_of (Cell number) = []
-name_of (Content number) = []
-name_of (Uses number) = []
+abbrev pub element_layer : Element → List ℕ
+element_layer (Item id) = []
+element_layer (Layer cell layer) = layer
+element_layer (Calls cell) = []
+element_layer (Cell number) = []
+element_layer (Content number) = []
+element_layer (Uses number) = []
 
 -- by rank, then by the fields
 abbrev pub element_cmp : Element → Element → Ordering
-element_cmp e f = ordering_then (slice_cmp nat_cmp (numbers_of e) (numbers_of f)) (slice_cmp nat_cmp (name_of e) (name_of f))
+element_cmp e f = ordering_then (slice_cmp nat_cmp (numbers_of e) (numbers_of f)) (slice_cmp nat_cmp (element_layer e) (element_layer f))
 
 -- a finite set of elements
 abbrev pub Touched : Type 0
@@ -68,7 +68,7 @@ coded_touched = set.code element.the_row.coded
 
 -- their order is total
 pub elements_total : IsTotalOrder element_cmp
-elements_total = then_total (on_texts numbers_of) (on_texts name_of)
+elements_total = then_total (on_texts numbers_of) (on_texts element_layer)
 
 -- equal are those that it doesn't distinguish
 abbrev pub element_eq : Element → Element → Bool
@@ -87,7 +87,7 @@ same_cell (Symbol number) Top r n = absurd cc
 same_cell (Symbol m) (Symbol n) r e = ap Symbol e
 
 -- elements of the same numbers and the same name are equal
-same_code : (e f : Element) → numbers_of e ≡ numbers_of f → name_of e ≡ name_of f → e ≡ f
+same_code : (e f : Element) → numbers_of e ≡ numbers_of f → element_layer e ≡ element_layer f → e ≡ f
 same_code (Item a) (Item b) e n =
     let sessions : a.session ≡ b.session = cc in
     let txns : a.txn ≡ b.txn = cc in
@@ -111,6 +111,6 @@ tied_parts Greater s h = absurd cc
 -- and elements that it doesn't distinguish are equal
 pub elements_exact : IsAntisymmetric element_cmp
 elements_exact e f h =
-    let parts = tied_parts (slice_cmp nat_cmp (numbers_of e) (numbers_of f)) (slice_cmp nat_cmp (name_of e) (name_of f)) h in
+    let parts = tied_parts (slice_cmp nat_cmp (numbers_of e) (numbers_of f)) (slice_cmp nat_cmp (element_layer e) (element_layer f)) h in
     same_code e f (slice_cmp-IsAntisymmetric nat_cmp-IsAntisymmetric (numbers_of e) (numbers_of f) parts.0)
-    (slice_cmp-IsAntisymmetric nat_cmp-IsAntisymmetric (name_of e) (name_of f) parts.1)
+    (slice_cmp-IsAntisymmetric nat_cmp-IsAntisymmetric (element_layer e) (element_layer f) parts.1)

@@ -27,5 +27,5 @@ abbrev pub AreApart : Records → Touched → Type 0
 AreApart records touched = (e : Element) → set.contains touched e ≡ true → some_meets records e ≡ false
 
 -- some of the records meets an element of the set
-abbrev pub touches : Records → Touched → Bool
-touches writes touched = list_any (some_meets writes) (set.items touched)
+abbrev pub meets_touched : Records → Touched → Bool
+meets_touched writes touched = list_any (some_meets writes) (set.items touched)

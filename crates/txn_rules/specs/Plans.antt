@@ -51,9 +51,9 @@ fault_of_ring ring_fault.TooMany = TooMany
 fault_of_ring ring_fault.NoMemory = NoMemory
 
 -- a shape of this ring
-abbrev pub drawn : ItemId → CellId → List ℕ → Result (List Point) RingFault → Result Act CmdFault
-drawn new cell layer (Ok ring) = Ok (shape_act new cell (shape_of cell layer ring))
-drawn new cell layer (Err fault) = Err (fault_of_ring fault)
+abbrev pub ring_act : ItemId → CellId → List ℕ → Result (List Point) RingFault → Result Act CmdFault
+ring_act new cell layer (Ok ring) = Ok (shape_act new cell (shape_of cell layer ring))
+ring_act new cell layer (Err fault) = Err (fault_of_ring fault)
 
 -- the item, moved, where that is in range
 abbrev pub move_to : ItemId → items.Item → Result Act CmdFault
@@ -95,7 +95,7 @@ plan new (Box cell layer a b) layout =
     (refused_if (not (is_in_range a && is_in_range b)) OutOfRange
     (Ok (shape_act new cell (shape_of cell layer (box_ring a b))))))
 plan new (Poly cell layer points) layout =
-    refused_if (not (is_cell layout cell)) NoCell (drawn new cell layer (ring_of points))
+    refused_if (not (is_cell layout cell)) NoCell (ring_act new cell layer (ring_of points))
 plan new (Delete id) layout = with_value (item_at layout id) NoItem (λ item. Ok (change_act id None))
 plan new (Move id dx dy) layout = with_value (item_at layout id) NoItem (λ item. move_to id (moved (record { x = dx; y = dy }) item))
 plan new (SetLayer id layer) layout = with_value (item_at layout id) NoItem (relayer id layer)

@@ -42,9 +42,9 @@ records_between old new = record {
 }
 
 -- what the records change under this id
-abbrev pub change_at : List Record → ItemId → Option (Change items.Item)
-change_at [] id = None
-change_at (w ∷ ws) id = if id_eq w.id id then Some (record { before = w.before; after = w.after }) else change_at ws id
+abbrev pub recorded_change : List Record → ItemId → Option (Change items.Item)
+recorded_change [] id = None
+recorded_change (w ∷ ws) id = if id_eq w.id id then Some (record { before = w.before; after = w.after }) else recorded_change ws id
 
 -- what they change of this symbol
 abbrev pub slot_change_at : List CellRecord → ℕ → Option (Change CellSlot)
@@ -75,7 +75,7 @@ pub record AreProper (records : Records) : Type 0 where
 
 -- the records lead from one layout to the other: each tells the value in both, and what has none is the same
 pub record Lead (records : Records) (old new : Layout) : Type 0 where
-  pub items : (id : ItemId) → IsStep (change_at records.items id) (item_at old id) (item_at new id)
+  pub items : (id : ItemId) → IsStep (recorded_change records.items id) (item_at old id) (item_at new id)
   pub symbols : (number : ℕ)
       → IsStep (slot_change_at records.symbols number) (finite.get old.symbols number) (finite.get new.symbols number)
 

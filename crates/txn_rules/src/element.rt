@@ -2,7 +2,7 @@
 ghost use Rattle.std.specs.Prelude.{◌≡◌, refl};
 ghost use Rattle.std.specs.Cmp.Lexicographic.{slice_cmp};
 ghost use Rattle.std.specs.Ordering.{nat_cmp};
-ghost use Rattle.txn_rules.specs.Elements.{cell_number, cell_rank, name_of, numbers_of};
+ghost use Rattle.txn_rules.specs.Elements.{cell_number, cell_rank, element_layer, numbers_of};
 
 use lay_cells::CellId;
 use lay_items::ItemId;
@@ -45,7 +45,7 @@ impl Element {
 
     /// Returns the bytes of the layer's name, if it has one.
     fn name(&self) -> &[u8]
-        ensures { result.now ≡ name_of self.now }
+        ensures { result.now ≡ element_layer self.now }
     {
         match self {
             Element::Layer(_, layer) => layer.as_bytes(),

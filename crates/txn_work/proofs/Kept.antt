@@ -23,33 +23,34 @@ use Rattle.txn_rules.proofs.OneRecords.{one_records}
 use Rattle.txn_rules.proofs.Runs.{after_each-push}
 use Rattle.txn_work.specs.Answers.{after_command, answer_to, run_so_far, with_command}
 use Rattle.txn_work.specs.Seeing.{Overlays}
-use Rattle.txn_work.specs.Works.{IsKept}
+use Rattle.txn_work.specs.Works.{MatchesItsRun}
 
 -- its run is what its commands bring it to
-pub same_run : (txn : Transaction) (made : ℕ) (k : IsKept txn made) → run_so_far txn ≡ k.run
+pub same_run : (txn : Transaction) (made : ℕ) (k : MatchesItsRun txn made) → run_so_far txn ≡ k.run
 same_run txn made k = ap (λ o. unwrap_or o (begun txn.snapshot)) k.runs
 
-pub runs_so_far : (txn : Transaction) (made : ℕ) → IsKept txn made
+pub runs_so_far : (txn : Transaction) (made : ℕ) → MatchesItsRun txn made
     → after_each txn.id txn.commands (begun txn.snapshot) ≡ Some (run_so_far txn)
 runs_so_far txn made k = k.runs ∙ ap Some (sym (same_run txn made k))
 
-pub writes_so_far : (txn : Transaction) (made : ℕ) → IsKept txn made → txn.writes ≡ records_between txn.snapshot (run_so_far txn).layout
+pub writes_so_far : (txn : Transaction) (made : ℕ) → MatchesItsRun txn made
+    → txn.writes ≡ records_between txn.snapshot (run_so_far txn).layout
 writes_so_far txn made k = sym k.writes ∙ ap (λ (r : Run). records_between txn.snapshot r.layout) (sym (same_run txn made k))
 
-pub footprint_so_far : (txn : Transaction) (made : ℕ) → IsKept txn made → (run_so_far txn).footprint ≡ txn.footprint
+pub footprint_so_far : (txn : Transaction) (made : ℕ) → MatchesItsRun txn made → (run_so_far txn).footprint ≡ txn.footprint
 footprint_so_far txn made k = ap (λ (r : Run). r.footprint) (same_run txn made k) ∙ k.footprint
 
-pub made_so_far : (txn : Transaction) (made : ℕ) → IsKept txn made → (run_so_far txn).made ≡ made
+pub made_so_far : (txn : Transaction) (made : ℕ) → MatchesItsRun txn made → (run_so_far txn).made ≡ made
 made_so_far txn made k = ap (λ (r : Run). r.made) (same_run txn made k) ∙ k.count
 
-pub answered_so_far : (txn : Transaction) (made : ℕ) → IsKept txn made → length (run_so_far txn).dones ≡ length txn.commands
+pub answered_so_far : (txn : Transaction) (made : ℕ) → MatchesItsRun txn made → length (run_so_far txn).dones ≡ length txn.commands
 answered_so_far txn made k = ap (λ (r : Run). length r.dones) (same_run txn made k) ∙ k.answered
 
-pub is_transaction : (txn : Transaction) (made : ℕ) → IsKept txn made → IsTransaction txn
+pub is_transaction : (txn : Transaction) (made : ℕ) → MatchesItsRun txn made → IsTransaction txn
 is_transaction txn made k = record { run = k.run; runs = k.runs; writes = k.writes; footprint = k.footprint }
 
 -- its writes over its snapshot are the layout that it sees
-pub seen_so_far : (txn : Transaction) (made : ℕ) → IsKept txn made → applied txn.snapshot txn.writes ≡ (run_so_far txn).layout
+pub seen_so_far : (txn : Transaction) (made : ℕ) → MatchesItsRun txn made → applied txn.snapshot txn.writes ≡ (run_so_far txn).layout
 seen_so_far txn made k =
     ap (applied txn.snapshot) (writes_so_far txn made k) ∙ (records_lead txn.snapshot (run_so_far txn).layout).2
 
@@ -58,7 +59,7 @@ pub same_whole : {l m : Layout} (o : Option Layout) → l ≡ m → IfSome o (λ
 same_whole None same is = tt
 same_whole (Some n) same is = is ∙ sym same
 
-pub overlays : (txn : Transaction) (made : ℕ) → IsKept txn made → Overlays txn.snapshot txn.writes
+pub overlays : (txn : Transaction) (made : ℕ) → MatchesItsRun txn made → Overlays txn.snapshot txn.writes
 overlays txn made k =
     let now = (run_so_far txn).layout in
     let leads = records_lead txn.snapshot now in
@@ -78,7 +79,7 @@ no_records l = sym (one_records (record { items = []; symbols = [] }) l l
 
 -- a transaction without commands
 pub new_kept : (txn : Transaction) → IsSound txn.snapshot → txn.commands ≡ [] → txn.writes ≡ record { items = []; symbols = [] } →
-    (begun txn.snapshot).footprint ≡ txn.footprint → IsKept txn 0
+    (begun txn.snapshot).footprint ≡ txn.footprint → MatchesItsRun txn 0
 new_kept txn sound none nothing untouched = record {
   sound = sound;
   run = begun txn.snapshot;
@@ -97,9 +98,9 @@ unfolding effect
 effect_is t c r act planned room = rw (planned, room) refl
 
 -- the transaction after the act
-pub next_kept : (txn : Transaction) (made more : ℕ) (c : Command) (act : Act) → IsKept txn made →
+pub next_kept : (txn : Transaction) (made more : ℕ) (c : Command) (act : Act) → MatchesItsRun txn made →
     plan (next_id txn.id (run_so_far txn)) c (run_so_far txn).layout ≡ Ok act → is_too_much (run_so_far txn) act ≡ false →
-    more ≡ made + act.made → more ≤ MAX_COMMANDS → IsKept (with_command txn c (perform (run_so_far txn) act)) more
+    more ≡ made + act.made → more ≤ MAX_COMMANDS → MatchesItsRun (with_command txn c (perform (run_so_far txn) act)) more
 next_kept txn made more c act k planned room m few = record {
   sound = k.sound;
   run = perform (run_so_far txn) act;
@@ -114,7 +115,7 @@ next_kept txn made more c act k planned room m few = record {
 }
 
 -- the layout after the act is sound
-pub next_sound : (txn : Transaction) (made : ℕ) (c : Command) (act : Act) → IsKept txn made →
+pub next_sound : (txn : Transaction) (made : ℕ) (c : Command) (act : Act) → MatchesItsRun txn made →
     plan (next_id txn.id (run_so_far txn)) c (run_so_far txn).layout ≡ Ok act → is_too_much (run_so_far txn) act ≡ false →
     IsSound (rewritten (run_so_far txn).layout act.items act.symbols)
 next_sound txn made c act k planned room =
@@ -123,7 +124,7 @@ next_sound txn made c act k planned room =
     (runs_so_far txn made k) (effect_is txn.id c (run_so_far txn) act planned room)) k.sound
 
 -- and it is the one that the transaction then sees
-pub next_layout : (txn : Transaction) (made more : ℕ) (c : Command) (act : Act) → IsKept txn made →
+pub next_layout : (txn : Transaction) (made more : ℕ) (c : Command) (act : Act) → MatchesItsRun txn made →
     plan (next_id txn.id (run_so_far txn)) c (run_so_far txn).layout ≡ Ok act → is_too_much (run_so_far txn) act ≡ false →
     more ≡ made + act.made → more ≤ MAX_COMMANDS → (run_so_far (with_command txn c (perform (run_so_far txn) act))).layout
     ≡ rewritten (run_so_far txn).layout act.items act.symbols
@@ -142,7 +143,7 @@ pub after_is : (txn : Transaction) (c : Command) (act : Act) → plan (next_id t
 after_is txn c act planned room = rw (effect_is txn.id c (run_so_far txn) act planned room) refl
 
 -- the transaction with what the act leaves in each part
-pub performed : (txn next : Transaction) (made : ℕ) (c : Command) (act : Act) → IsKept txn made → next.id ≡ txn.id
+pub performed : (txn next : Transaction) (made : ℕ) (c : Command) (act : Act) → MatchesItsRun txn made → next.id ≡ txn.id
     → next.opened ≡ txn.opened →
     next.snapshot ≡ txn.snapshot → next.commands ≡ txn.commands ++ c ∷ [] →
     next.writes ≡ records_between txn.snapshot (rewritten (run_so_far txn).layout act.items act.symbols) →
@@ -153,7 +154,7 @@ performed txn next made c act k id opened snapshot commands writes footprint =
     λ i. record { id = id i; opened = opened i; snapshot = snapshot i; commands = commands i; writes = writes i; footprint = touched i }
 
 -- there is room for one more
-pub room_left : (txn : Transaction) (made more : ℕ) (act : Act) → IsKept txn made → is_too_much (run_so_far txn) act ≡ false →
+pub room_left : (txn : Transaction) (made more : ℕ) (act : Act) → MatchesItsRun txn made → is_too_much (run_so_far txn) act ≡ false →
     more ≡ made + act.made → more ≤ MAX_COMMANDS
 room_left txn made more act k room m =
     let parts = or_parts (nat_lt MAX_COMMANDS (length (run_so_far txn).dones + 1))

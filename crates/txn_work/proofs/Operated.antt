@@ -7,7 +7,7 @@ use Rattle.lay_items.specs.Layout.{Layout}
 use Rattle.lay_flat.specs.declared.fault.FlatFault.{FlatFault}
 use Rattle.lay_flat.specs.declared.fault.FlatFault.TheVariants as flat
 use Rattle.lay_flat.specs.Flat.{FlatRing}
-use Rattle.lay_flat.specs.Flattening.{and_then, flat_of}
+use Rattle.lay_flat.specs.Flattening.{flat_of, on_success}
 use Rattle.txn_rules.specs.Op.{Op}
 use Rattle.layer_ops.specs.Shapes.{Rings, fits, shapes_of}
 use Rattle.txn_rules.specs.Booleans.{bool_shapes, shapes_within}
@@ -32,7 +32,7 @@ pub first_refused : (l : Layout) (o : Op) (cell : CellId) (a b : List ℕ) (faul
 unfolding bool_shapes
 first_refused l o cell a b fault (inl none) = inl (refused_alike fault none)
 first_refused l o cell a b fault (inr is) =
-    inr (ap (λ r. and_then r (λ first. and_then (flat_of l cell b) (λ second. shapes_within o first second))) is)
+    inr (ap (λ r. on_success r (λ first. on_success (flat_of l cell b) (λ second. shapes_within o first second))) is)
 
 flattened : (l : Layout) (cell : CellId) (layer : List ℕ) (rings : List FlatRing) → Flattens (Ok rings) l cell layer →
     Ok rings ≡ flat_of l cell layer
@@ -44,16 +44,16 @@ pub second_refused : (l : Layout) (o : Op) (cell : CellId) (a b : List ℕ) (fir
 unfolding bool_shapes
 second_refused l o cell a b first fault one (inl none) = inl (refused_alike fault none)
 second_refused l o cell a b first fault one (inr is) =
-    inr (ap (λ r. and_then r (λ second. shapes_within o first second)) is
-    ∙ ap (λ r. and_then r (λ f. and_then (flat_of l cell b) (λ second. shapes_within o f second))) (flattened l cell a first one))
+    inr (ap (λ r. on_success r (λ second. shapes_within o first second)) is
+    ∙ ap (λ r. on_success r (λ f. on_success (flat_of l cell b) (λ second. shapes_within o f second))) (flattened l cell a first one))
 
 -- behind both flattenings the shapes within the limits are left
 within : (l : Layout) (o : Op) (cell : CellId) (a b : List ℕ) (first second : List FlatRing) → Flattens (Ok first) l cell a →
     Flattens (Ok second) l cell b → shapes_within o first second ≡ bool_shapes l o cell a b
 unfolding bool_shapes
 within l o cell a b first second one other =
-    ap (λ r. and_then r (λ s. shapes_within o first s)) (flattened l cell b second other)
-    ∙ ap (λ r. and_then r (λ f. and_then (flat_of l cell b) (λ s. shapes_within o f s))) (flattened l cell a first one)
+    ap (λ r. on_success r (λ s. shapes_within o first s)) (flattened l cell b second other)
+    ∙ ap (λ r. on_success r (λ f. on_success (flat_of l cell b) (λ s. shapes_within o f s))) (flattened l cell a first one)
 
 pub combined_shapes : (l : Layout) (o : Op) (cell : CellId) (a b : List ℕ) (first second : List FlatRing) (shapes : List Rings) →
     Flattens (Ok first) l cell a → Flattens (Ok second) l cell b → IsAnswer op.NoMemory (Ok shapes) (combined o first second) →

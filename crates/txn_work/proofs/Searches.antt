@@ -19,7 +19,7 @@ use Rattle.txn_rules.specs.Reach.{explored, is_among, reached, targets}
 use Rattle.txn_rules.proofs.Reach.{Goes, calls_left, calls_left-entered, calls_left-none}
 use Rattle.txn_rules.proofs.Reach.{cell_eq-refl, ends, goes_on, one_answer, reached-found, same_cell}
 use Rattle.txn_rules.proofs.Reach.Goes.{entered, passed}
-use Rattle.txn_work.specs.Searching.{called_by, called_in, cells_from, first_in, searched, symbols_from, target_of}
+use Rattle.txn_work.specs.Searching.{called_by, called_in, cells_from, first_in, search_target, searched, symbols_from}
 
 same_either_way : (c d : CellId) → cell_eq c d ≡ cell_eq d c
 same_either_way c d = by_test (cell_eq c d) (cell_eq d c) refl refl where
@@ -31,19 +31,19 @@ same_either_way c d = by_test (cell_eq c d) (cell_eq d c) refl refl where
 
 -- the symbols called in a cell are the targets of the calls that are lent
 targets-lent : (c : CellId) (es : List (ItemId × Item))
-    → targets (calls_among es) c ≡ map Symbol (map target_of (calls_lent (standing_in c es)))
+    → targets (calls_among es) c ≡ map Symbol (map search_target (calls_lent (standing_in c es)))
 targets-lent c [] = refl
 targets-lent c ((id, Shape cell layer rings) ∷ es) = targets-lent c es ∙ by_cell (cell_eq cell c) where
-  by_cell : (b : Bool) → map Symbol (map target_of (calls_lent (standing_in c es)))
-      ≡ map Symbol (map target_of (calls_lent (cond b ((id, Shape cell layer rings) ∷ standing_in c es) (standing_in c es))))
+  by_cell : (b : Bool) → map Symbol (map search_target (calls_lent (standing_in c es)))
+      ≡ map Symbol (map search_target (calls_lent (cond b ((id, Shape cell layer rings) ∷ standing_in c es) (standing_in c es))))
   by_cell true = refl
   by_cell false = refl
 targets-lent c ((id, Placed cell target turn) ∷ es) =
     ap (λ b. cons_option (cond b (Some (Symbol target)) None) (targets (calls_among es) c)) (same_either_way c cell)
     ∙ by_cell (cell_eq cell c) (targets-lent c es) where
-      by_cell : (b : Bool) → targets (calls_among es) c ≡ map Symbol (map target_of (calls_lent (standing_in c es))) →
+      by_cell : (b : Bool) → targets (calls_among es) c ≡ map Symbol (map search_target (calls_lent (standing_in c es))) →
           cons_option (cond b (Some (Symbol target)) None) (targets (calls_among es) c)
-          ≡ map Symbol (map target_of (calls_lent (cond b ((id, Placed cell target turn) ∷ standing_in c es) (standing_in c es))))
+          ≡ map Symbol (map search_target (calls_lent (cond b ((id, Placed cell target turn) ∷ standing_in c es) (standing_in c es))))
       by_cell true rest = ap (λ xs. Symbol target ∷ xs) rest
       by_cell false rest = rest
 

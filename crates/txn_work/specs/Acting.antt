@@ -15,11 +15,11 @@ use Rattle.txn_work.specs.declared.act.Written.{Written}
 use Rattle.txn_work.specs.declared.act.Written.TheVariants.{Item, Items, Nothing, Symbol}
 
 -- what is written of items
-abbrev pub items_in : Written → List Write
-items_in Nothing = []
-items_in (Item id item) = (id, item) ∷ []
-items_in (Items writes) = writes.items
-items_in (Symbol number slot) = []
+abbrev pub item_writes : Written → List Write
+item_writes Nothing = []
+item_writes (Item id item) = (id, item) ∷ []
+item_writes (Items writes) = writes.items
+item_writes (Symbol number slot) = []
 
 -- and of symbols
 abbrev pub symbols_in : Written → List SymbolWrite
@@ -32,7 +32,7 @@ abbrev pub act_in : Inside → Act
 act_in a = record {
   done = a.done;
   elements = a.elements.items;
-  items = items_in a.written;
+  items = item_writes a.written;
   symbols = symbols_in a.written;
   made = a.made;
 }

@@ -19,13 +19,13 @@ abbrev pub run_so_far : Transaction → Run
 run_so_far txn = unwrap_or (after_each txn.id txn.commands (begun txn.snapshot)) (begun txn.snapshot)
 
 -- the answer alone
-abbrev pub answer_of : Result (Done × Run) CmdFault → Result Done CmdFault
-answer_of (Ok next) = Ok next.0
-answer_of (Err fault) = Err fault
+abbrev pub done_of_effect : Result (Done × Run) CmdFault → Result Done CmdFault
+done_of_effect (Ok next) = Ok next.0
+done_of_effect (Err fault) = Err fault
 
 -- what the next command is answered
 abbrev pub answer_to : Transaction → Command → Result Done CmdFault
-answer_to txn command = answer_of (effect txn.id command (run_so_far txn))
+answer_to txn command = done_of_effect (effect txn.id command (run_so_far txn))
 
 -- the transaction with one more command, which leads it there
 abbrev pub with_command : Transaction → Command → Run → Transaction

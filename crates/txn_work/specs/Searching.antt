@@ -7,12 +7,12 @@ use Rattle.lay_items.specs.Calls.{calls_of}
 use Rattle.lay_items.specs.Layout.{Layout}
 use Rattle.lay_items.specs.Lent.{LentCall, calls_in}
 
-abbrev pub target_of : LentCall → ℕ
-target_of call = call.1
+abbrev pub search_target : LentCall → ℕ
+search_target call = call.1
 
 -- the symbols that are called in a cell, in order of the calls
 abbrev pub called_in : Layout → CellId → List ℕ
-called_in layout cell = map target_of (calls_in layout cell)
+called_in layout cell = map search_target (calls_in layout cell)
 
 -- in a symbol
 abbrev pub called_by : Layout → ℕ → List ℕ

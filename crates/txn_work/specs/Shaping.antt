@@ -20,9 +20,9 @@ lists_in (Ok shapes) = Ok (points_of shapes.items)
 lists_in (Err fault) = Err fault
 
 -- what a command answers where the operation answers so
-abbrev pub answered : Result (List Rings) FlatFault → Result (List Rings) CmdFault
-answered (Ok shapes) = Ok shapes
-answered (Err fault) = Err (fault_of_flat fault)
+abbrev pub command_result : Result (List Rings) FlatFault → Result (List Rings) CmdFault
+command_result (Ok shapes) = Ok shapes
+command_result (Err fault) = Err (fault_of_flat fault)
 
 -- why flattenings have no shapes of an operation
 abbrev pub fault_of_op : OpFault → FlatFault

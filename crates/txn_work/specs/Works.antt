@@ -20,7 +20,7 @@ transaction_of w = record {
 }
 
 -- its commands, run on its sound snapshot, write and touch what it says, make so many items, and are answered each
-pub record IsKept (txn : Transaction) (made : ℕ) : Type 0 where
+pub record MatchesItsRun (txn : Transaction) (made : ℕ) : Type 0 where
   pub sound : IsSound txn.snapshot
   pub run : Run
   pub runs : after_each txn.id txn.commands (begun txn.snapshot) ≡ Some run
@@ -32,5 +32,5 @@ pub record IsKept (txn : Transaction) (made : ℕ) : Type 0 where
 
 -- and the layout that it keeps, if it does, is what they make of its snapshot
 pub record IsWork (w : Inside) : Type 0 where
-  pub kept : IsKept (transaction_of w) w.made
+  pub kept : MatchesItsRun (transaction_of w) w.made
   pub whole : IfSome w.whole (λ l. l ≡ (run_so_far (transaction_of w)).layout)

@@ -10,7 +10,7 @@ ghost use Rattle.txn_rules.specs.Plans.{fault_of_flat, plan, shape_ids};
 ghost use Rattle.txn_rules.specs.Reach.{reached};
 ghost use Rattle.lay_flat.specs.declared.fault.FlatFault.TheVariants as flat_fault;
 ghost use Rattle.txn_rules.specs.Booleans.{bool_shapes};
-ghost use Rattle.txn_work.specs.Shaping.{answered, fault_of_op, lists_in, points_of};
+ghost use Rattle.txn_work.specs.Shaping.{command_result, fault_of_op, lists_in, points_of};
 
 use crate::act::{Act, Written};
 use crate::calls::cells_from;
@@ -77,7 +77,7 @@ fn shapes(
     asked: Asked,
 ) -> Result<Vec<Vec<Ring>>, CmdFault>
     ensures { IsAnswer CmdFault.NoMemory (lists_in result)
-        (answered (bool_shapes layout.now asked.op asked.cell asked.a asked.b)) }
+        (command_result (bool_shapes layout.now asked.op asked.cell asked.a asked.b)) }
 {
     match operation(rt, alloc, bands, layout, asked) {
         Ok(shapes) => Ok(shapes),

@@ -4,7 +4,7 @@ ghost use Rattle.lay_items.specs.Layout.{Layout};
 ghost use Rattle.txn_rules.specs.Elements.{with_elements};
 ghost use Rattle.txn_rules.specs.Records.{records_between};
 ghost use Rattle.txn_rules.specs.Writing.{rewritten};
-ghost use Rattle.txn_work.specs.Acting.{items_in, symbols_in};
+ghost use Rattle.txn_work.specs.Acting.{item_writes, symbols_in};
 ghost use Rattle.txn_work.specs.Marking.{HasNone, missing_in, without_elements};
 
 use crate::act::Written;
@@ -26,7 +26,7 @@ pub(crate) fn mark(
 ) -> Result<(), NoMemory>
     ensures footprint { OnOk result (footprint.new ≡ with_elements footprint.old elements.now) }
     ensures writes { OnOk result ((m : Layout) → writes.old ≡ records_between snapshot.now m
-        → writes.new ≡ records_between snapshot.now (rewritten m (items_in written) (symbols_in written))) }
+        → writes.new ≡ records_between snapshot.now (rewritten m (item_writes written) (symbols_in written))) }
     ensures err { OnErr result ((footprint.new ≡ footprint.old) × (writes.new ≡ writes.old)) }
 {
     let fresh = missing(alloc, footprint, elements)?;
@@ -89,7 +89,7 @@ fn write(
     written: Written,
 ) -> Result<(), NoMemory>
     ensures ok { OnOk result ((m : Layout) → writes.old ≡ records_between snapshot.now m
-        → writes.new ≡ records_between snapshot.now (rewritten m (items_in written) (symbols_in written))) }
+        → writes.new ≡ records_between snapshot.now (rewritten m (item_writes written) (symbols_in written))) }
     ensures err { OnErr result (writes.new ≡ writes.old) }
 {
     match written {

@@ -11,7 +11,8 @@ use Rattle.undo_rules.specs.Links.{Entry, marked, txn_eq}
 use Rattle.undo_rules.specs.Steps.{remarked}
 use Rattle.undo_rules.proofs.EqualLinks.{txn_eq-same}
 use Rattle.undo_rules.proofs.OpenLaws.{set_length}
-use Rattle.undo_book.specs.Changes.{AreChanges, changed_at, changed_of, earlier_at, earlier_of, earliers, first_change, is_before, is_of}
+use Rattle.undo_book.specs.Changes.{AreChanges, changed_at, changed_of, earlier_at, earlier_of, earliers, first_change, is_of}
+use Rattle.undo_book.specs.Changes.{is_unchanged_since}
 use Rattle.undo_book.specs.Changes.{kept_at, last_change, or_first}
 use Rattle.undo_book.specs.Places.{place_of}
 use Rattle.undo_book.proofs.FoundLemmas.{get_within}
@@ -71,12 +72,12 @@ kept_read earlier last log entries are i d less = by (slice_get log i) refl wher
 -- what is kept of a call says whether its change is the first since a place
 pub first_kept : (earlier : List (Option ℕ)) (last : List ℕ) (b now : History) → b ≡ now → AreChanges earlier last b.log b.entries →
     (place since : ℕ) (kept : Option ℕ) (first : Bool) → place < length now.log → kept ≡ get_or earlier place kept →
-    first ≡ is_before kept since → cond first (changed_at now.log place) None ≡ first_change now.log since place
+    first ≡ is_unchanged_since kept since → cond first (changed_at now.log place) None ≡ first_change now.log since place
 first_kept earlier last b now view are place since kept first less read is =
     let within : place < length b.log = subst (λ (h : History). place < length h.log) (sym view) less in
     let same : kept ≡ earlier_at b.log place = read ∙ kept_read earlier last b.log b.entries are place kept within in
     subst (λ (h : History). cond first (changed_at h.log place) None ≡ first_change h.log since place) view
-    (ap (λ t. cond t (changed_at b.log place) None) is ∙ ap (λ o. cond (is_before o since) (changed_at b.log place) None) same)
+    (ap (λ t. cond t (changed_at b.log place) None) is ∙ ap (λ o. cond (is_unchanged_since o since) (changed_at b.log place) None) same)
 
 -- the call that is read is the one at its place
 pub changed_read : (b now : History) → b ≡ now → (place : ℕ) (call : Logged) → place < length now.log → call ≡ get_or b.log place call →

@@ -8,7 +8,7 @@ use Rattle.txn_rules.specs.Elements.{Touched}
 use Rattle.undo_rules.specs.declared.log.BookFault.{BookFault}
 use Rattle.undo_rules.specs.declared.log.BookFault.TheVariants.{NoTxn}
 use Rattle.undo_rules.specs.Books.{History, writes_of}
-use Rattle.undo_rules.specs.Links.{Entry, marked, touches}
+use Rattle.undo_rules.specs.Links.{Entry, marked, meets_touched}
 use Rattle.undo_rules.specs.Steps.{Found, found, redo_refusal, redo_refusal_at, remarked, touching}
 use Rattle.undo_rules.specs.Steps.{undo_refusal, undo_refusal_at}
 use Rattle.undo_rules.proofs.Finding.{found_is}
@@ -63,7 +63,7 @@ redo_refusal_placed h txn i placed = ap redo_refusal_at (found_placed h txn i pl
 
 -- what the transaction of a name wrote
 pub wrote_placed : (es : List Entry) (txn : TxnId) (i : ℕ) (entry : Entry) (touched : Touched) → place_of txn es ≡ Some i →
-    entry ≡ get_or es i entry → touches entry.writes touched ≡ touching (writes_of es txn) touched
+    entry ≡ get_or es i entry → meets_touched entry.writes touched ≡ touching (writes_of es txn) touched
 wrote_placed es txn i entry touched placed read =
     let there = slice_get_read es (length es) i entry refl (place_within es txn i placed) read in
     sym (ap (λ o. touching (option_map (λ (e : Entry). e.writes) o) touched) (entry_there es txn i entry placed there))

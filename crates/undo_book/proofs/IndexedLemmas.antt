@@ -14,9 +14,9 @@ use Rattle.txn_rules.specs.Records.{Records}
 use Rattle.txn_marks.specs.Homes.{AreMetBy}
 use Rattle.txn_marks.proofs.AnyLemmas.{any_alike, any_none, any_swap}
 use Rattle.txn_marks.proofs.SetLemmas.{contains-back}
-use Rattle.undo_rules.specs.Links.{Entry, first_reader, marked, touches}
-use Rattle.undo_index.specs.First.{IsFirst, first_some, found_at, look, or_some}
-use Rattle.undo_index.specs.Listed.{AreAdded, AreRemoved, IsNew, Listed, is_listed, nowhere, pair_cmp}
+use Rattle.undo_rules.specs.Links.{Entry, first_reader, marked, meets_touched}
+use Rattle.undo_index.specs.First.{IsFirst, first_some, look, looked_up_at, or_some}
+use Rattle.undo_index.specs.Listed.{AreAdded, AreRemoved, IsNew, Listed, is_listed, nothing_listed, pair_cmp}
 use Rattle.undo_index.proofs.FirstLemmas.{first_alike, first_found}
 use Rattle.undo_book.specs.Indexed.{AreIndexed, Lists, touched, wrote}
 
@@ -66,7 +66,7 @@ set_at test (y ∷ ys) (suc i) x less (suc j) =
 -- ---- listed transactions
 
 module _ (test : Element → Entry → Bool) where
-  begun : Lists test nowhere []
+  begun : Lists test nothing_listed []
   begun e i = contains-empty pair_cmp (e, i)
 
   new_at_end : (listed : Listed) (es : List Entry) → Lists test listed es → IsNew listed (length es)
@@ -121,10 +121,10 @@ module _ (test : Element → Entry → Bool) where
 
 -- ---- the index of a book
 
-pub none_indexed : (w r : Listed) (es : List Entry) → w ≡ nowhere → r ≡ nowhere → es ≡ [] → AreIndexed w r es
+pub none_indexed : (w r : Listed) (es : List Entry) → w ≡ nothing_listed → r ≡ nothing_listed → es ≡ [] → AreIndexed w r es
 none_indexed w r es writers readers none =
     subst (λ (xs : List Entry). AreIndexed w r xs) (sym none)
-    (subst (λ (l : Listed). AreIndexed w l []) (sym readers) (subst (λ (l : Listed). AreIndexed l nowhere []) (sym writers)
+    (subst (λ (l : Listed). AreIndexed w l []) (sym readers) (subst (λ (l : Listed). AreIndexed l nothing_listed []) (sym writers)
     (record { writers = begun wrote; readers = begun touched })))
 
 live_so : (a b : Bool) → a ≡ true → b ≡ (a && b)
@@ -184,7 +184,7 @@ undone_new w r es i entry is at undone = (
 
 module _ (writes : Records) where
   abbrev pub reads : Entry → Bool
-  reads entry = entry.live && touches writes entry.footprint
+  reads entry = entry.live && meets_touched writes entry.footprint
 
   abbrev pub named : Entry → Option TxnId
   named entry = cond (reads entry) (Some entry.txn) None
@@ -206,7 +206,7 @@ module _ (writes : Records) where
 
   -- it is looked up by the elements that the records meet
   meets_either : (met footprint : Touched) → AreMetBy writes met →
-      list_any (λ e. contains footprint e) (items met) ≡ touches writes footprint
+      list_any (λ e. contains footprint e) (items met) ≡ meets_touched writes footprint
   meets_either met footprint are =
       any_alike (contains footprint) (λ e. list_any (λ f. element_eq f e) (items footprint)) (items met)
       (λ e. sym (contains-back footprint e))
@@ -225,7 +225,7 @@ module _ (writes : Records) where
 
   pub reader_found : (r : Listed) (es : List Entry) (met : Touched) (from : ℕ) (o : Option ℕ) → Lists touched r es →
       AreMetBy writes met → IsFirst (λ p. list_any (λ e. is_listed r e p) (items met)) from o →
-      first_reader writes (drop from es) ≡ found_at named es o
+      first_reader writes (drop from es) ≡ looked_up_at named es o
   reader_found r es met from o lists are first =
       reader_some (drop from es)
       ∙ first_found named es from o (first_alike (λ p. list_any (λ e. is_listed r e p) (items met))

@@ -32,10 +32,11 @@ use Rattle.txn_rules.specs.Elements.{Touched}
 use Rattle.txn_rules.specs.Lies.{passes}
 use Rattle.txn_rules.specs.Meets.{some_meets}
 use Rattle.txn_marks.proofs.AnyLemmas.{any_alike, any_none}
-use Rattle.undo_rules.specs.Links.{AreNamed, Entry, Trace, first_moved, is_among, linked, links_to, live_of, touches, trace_of, txn_eq}
+use Rattle.undo_rules.specs.Links.{AreNamed, Entry, Trace, first_moved, is_named_in, linked, links_to, live_of, meets_touched, trace_of}
+use Rattle.undo_rules.specs.Links.{txn_eq}
 use Rattle.undo_rules.proofs.EqualLinks.{linked-all, txn_eq-same}
 use Rattle.undo_rules.proofs.Moved.{not_among, txn_eq-sym}
-use Rattle.undo_index.specs.First.{IsFirst, first_some, found_at, has, is_apart, look, or_some}
+use Rattle.undo_index.specs.First.{IsFirst, first_some, has, is_apart, look, looked_up_at, or_some}
 use Rattle.undo_index.specs.Listed.{Listed, is_listed}
 use Rattle.undo_index.proofs.FirstLemmas.{first_alike, first_found}
 use Rattle.undo_book.specs.Indexed.{Lists, wrote}
@@ -57,12 +58,12 @@ use Rattle.undo_book.proofs.IndexedLemmas.{any_live, suc_suc, suc_zero, zero_suc
 
 -- the name of a transaction that is in one of the two lists and not in the other
 abbrev pub apart_in : List TxnId → List TxnId → Entry → Option TxnId
-apart_in one other entry = cond (is_among entry.txn one) (cond (is_among entry.txn other) None (Some entry.txn))
-    (cond (is_among entry.txn other) (Some entry.txn) None)
+apart_in one other entry = cond (is_named_in entry.txn one) (cond (is_named_in entry.txn other) None (Some entry.txn))
+    (cond (is_named_in entry.txn other) (Some entry.txn) None)
 
 moved_some : (es : List Entry) (one other : List TxnId) → first_moved es one other ≡ first_some (apart_in one other) es
 moved_some [] one other = refl
-moved_some (e ∷ es) one other = by (is_among e.txn one) (is_among e.txn other) (moved_some es one other) where
+moved_some (e ∷ es) one other = by (is_named_in e.txn one) (is_named_in e.txn other) (moved_some es one other) where
   by : (a b : Bool) → first_moved es one other ≡ first_some (apart_in one other) es →
       cond a (cond b (first_moved es one other) (Some e.txn)) (cond b (Some e.txn) (first_moved es one other))
       ≡ or_some (cond a (cond b None (Some e.txn)) (cond b (Some e.txn) None)) (first_some (apart_in one other) es)
@@ -91,25 +92,25 @@ either a b none = ap (λ x. x || b) none
 
 -- the transaction at a place is among the links where it is live and wrote what is touched
 among_links : (touched : Touched) (es : List Entry) (p : ℕ) (entry : Entry) → AreNamed (map trace_of es) → slice_get es p ≡ Some entry →
-    is_among entry.txn (links_to es touched) ≡ (entry.live && touches entry.writes touched)
+    is_named_in entry.txn (links_to es touched) ≡ (entry.live && meets_touched entry.writes touched)
 among_links touched [] p entry named at = absurd cc
 among_links touched (e ∷ es) zero entry named at = let same : e ≡ entry = cc in
-    ap (λ (x : Entry). is_among x.txn (links_to (e ∷ es) touched)) (sym same) ∙ by (e.live && touches e.writes touched)
-    ∙ ap (λ (x : Entry). x.live && touches x.writes touched) same where
+    ap (λ (x : Entry). is_named_in x.txn (links_to (e ∷ es) touched)) (sym same) ∙ by (e.live && meets_touched e.writes touched)
+    ∙ ap (λ (x : Entry). x.live && meets_touched x.writes touched) same where
       ls : List TxnId
       ls = links_to es touched
 
-      by : (b : Bool) → is_among e.txn (cond b (e.txn ∷ ls) ls) ≡ b
-      by true = ap (λ b. b || is_among e.txn ls) (txn_eq-same e.txn)
+      by : (b : Bool) → is_named_in e.txn (cond b (e.txn ∷ ls) ls) ≡ b
+      by true = ap (λ b. b || is_named_in e.txn ls) (txn_eq-same e.txn)
       by false = not_among e.txn ls (linked-all (λ u. txn_eq e.txn u ≡ false) touched (map trace_of es) (map live_of es) named.0)
 among_links touched (e ∷ es) (suc p) entry named at =
-    by (e.live && touches e.writes touched) ∙ among_links touched es p entry named.1 at where
+    by (e.live && meets_touched e.writes touched) ∙ among_links touched es p entry named.1 at where
       ls : List TxnId
       ls = links_to es touched
 
-      by : (b : Bool) → is_among entry.txn (cond b (e.txn ∷ ls) ls) ≡ is_among entry.txn ls
+      by : (b : Bool) → is_named_in entry.txn (cond b (e.txn ∷ ls) ls) ≡ is_named_in entry.txn ls
       by true =
-          either (txn_eq entry.txn e.txn) (is_among entry.txn ls)
+          either (txn_eq entry.txn e.txn) (is_named_in entry.txn ls)
           (txn_eq-sym e.txn entry.txn (others e entry es p named.0 at))
       by false = refl
 
@@ -207,12 +208,12 @@ module _ (touched : Touched) (names : List TxnId) (w : Listed) (es : List Entry)
   seen_so are p = any_alike (stands_at places p) (λ name. is_place p (place_of name es)) names (λ name. ap (is_place p) (are name))
 
   linked_so : Lists wrote w es → (p : ℕ) → (o : Option Entry) → slice_get es p ≡ o →
-      list_any (λ e. is_listed w e p) (items touched) ≡ passes (λ (entry : Entry). entry.live && touches entry.writes touched) o
+      list_any (λ e. is_listed w e p) (items touched) ≡ passes (λ (entry : Entry). entry.live && meets_touched entry.writes touched) o
   linked_so lists p o at =
       any_alike (λ e. is_listed w e p) (λ e. passes (wrote e) o) (items touched)
       (λ e. lists e p ∙ ap (passes (wrote e)) at) ∙ by o where
         by : (o : Option Entry) → list_any (λ e. passes (wrote e) o) (items touched)
-            ≡ passes (λ (entry : Entry). entry.live && touches entry.writes touched) o
+            ≡ passes (λ (entry : Entry). entry.live && meets_touched entry.writes touched) o
         by None = any_none (items touched)
         by (Some entry) = any_live entry.writes entry.live (some_meets entry.writes) (items touched)
 
@@ -238,14 +239,14 @@ module _ (touched : Touched) (names : List TxnId) (w : Listed) (es : List Entry)
         ∙ sym (among_links touched before p entry (named_taken es place named) there)) i)
         ((seen_so are p ∙ any_alike (λ name. is_place p (place_of name es)) (txn_eq entry.txn) names
         (λ name. place_so es p entry name named at)) i))
-        ∙ sym (some_apart entry.txn (is_among entry.txn (links_to before touched)) (is_among entry.txn names))
+        ∙ sym (some_apart entry.txn (is_named_in entry.txn (links_to before touched)) (is_named_in entry.txn names))
         ∙ sym (ap (λ (x : Option Entry). is_some (look f x)) there)
 
-  named_so : (o : Option ℕ) → IsFirst (λ p. is_some (look f (slice_get before p))) 0 o → found_at f before o ≡ named_at es o
+  named_so : (o : Option ℕ) → IsFirst (λ p. is_some (look f (slice_get before p))) 0 o → looked_up_at f before o ≡ named_at es o
   named_so None first = refl
   named_so (Some p) first = by (slice_get before p) refl first.1 where
     name : (entry : Entry) → is_some (f entry) ≡ true → f entry ≡ Some entry.txn
-    name entry = cases (is_among entry.txn (links_to before touched)) (is_among entry.txn names) where
+    name entry = cases (is_named_in entry.txn (links_to before touched)) (is_named_in entry.txn names) where
       cases : (a b : Bool) → is_some (cond a (cond b None (Some entry.txn)) (cond b (Some entry.txn) None)) ≡ true →
           cond a (cond b None (Some entry.txn)) (cond b (Some entry.txn) None) ≡ Some entry.txn
       cases true true some = absurd cc
@@ -290,7 +291,7 @@ moved_here w es places place entry touched names linked seen o at same sames lis
 -- equal links have not moved
 pub unmoved_same : (es : List Entry) (names : List TxnId) → first_moved es names names ≡ None
 unmoved_same [] names = refl
-unmoved_same (e ∷ es) names = by (is_among e.txn names) (unmoved_same es names) where
+unmoved_same (e ∷ es) names = by (is_named_in e.txn names) (unmoved_same es names) where
   by : (b : Bool) → first_moved es names names ≡ None
       → cond b (cond b (first_moved es names names) (Some e.txn)) (cond b (Some e.txn) (first_moved es names names)) ≡ None
   by true rest = rest

@@ -9,7 +9,8 @@ use Rattle.undo_rules.specs.declared.log.Logged.{Logged}
 use Rattle.undo_rules.specs.Books.{changed_in, writes_of}
 use Rattle.undo_rules.specs.Links.{Entry}
 use Rattle.undo_rules.specs.Steps.{stale_by, stale_first, touching}
-use Rattle.undo_book.specs.Changes.{changed_at, changed_of, earlier_at, earlier_of, first_change, is_before, is_of, last_change, or_first}
+use Rattle.undo_book.specs.Changes.{changed_at, changed_of, earlier_at, earlier_of, first_change, is_of, is_unchanged_since, last_change}
+use Rattle.undo_book.specs.Changes.{or_first}
 use Rattle.undo_book.proofs.FoundLemmas.{get_within}
 use Rattle.undo_book.proofs.IndexLemmas.{names_equal}
 
@@ -54,7 +55,7 @@ last_is txn (x ∷ log) (suc n) j h =
 
 pub first_is : (log : List Logged) (since place : ℕ) (txn : TxnId) → first_change log since place ≡ Some txn →
     changed_at log place ≡ Some txn
-first_is log since place txn h = by (is_before (earlier_at log place) since) h where
+first_is log since place txn h = by (is_unchanged_since (earlier_at log place) since) h where
   by : (b : Bool) → cond b (changed_at log place) None ≡ Some txn → changed_at log place ≡ Some txn
   by true h = h
   by false h = absurd cc
@@ -63,11 +64,11 @@ first_is log since place txn h = by (is_before (earlier_at log place) since) h w
 pub none_again : (entries : List Entry) (touched : Touched) (log : List Logged) (since place : ℕ) →
     first_change log since place ≡ None → NoneWrote entries touched log since place → wrote entries touched (changed_at log place) ≡ false
 none_again entries touched log since place h looked = by (changed_at log place) refl h where
-  by : (o : Option TxnId) → changed_at log place ≡ o → cond (is_before (earlier_of (take place log) o) since) o None ≡ None →
+  by : (o : Option TxnId) → changed_at log place ≡ o → cond (is_unchanged_since (earlier_of (take place log) o) since) o None ≡ None →
       wrote entries touched o ≡ false
   by None at h = refl
   by (Some txn) at h = before (last_change txn (take place log)) refl h where
-    before : (e : Option ℕ) → last_change txn (take place log) ≡ e → cond (is_before e since) (Some txn) None ≡ None
+    before : (e : Option ℕ) → last_change txn (take place log) ≡ e → cond (is_unchanged_since e since) (Some txn) None ≡ None
         → wrote entries touched (Some txn) ≡ false
     before None none h = absurd cc
     before (Some j) last h = test (nat_lt j since) refl h where

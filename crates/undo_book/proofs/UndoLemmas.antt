@@ -15,7 +15,7 @@ use Rattle.undo_rules.specs.Books.{History, IsHistory}
 use Rattle.undo_rules.specs.Histories.{AreKept}
 use Rattle.undo_rules.specs.Links.{Entry, first_moved, first_reader, links_to, marked}
 use Rattle.undo_rules.specs.Steps.{Found, after_redo, after_undo, depends, found, logged}
-use Rattle.undo_rules.specs.Steps.{moved, or_else, redo_refusal, redo_refusal_at, remarked}
+use Rattle.undo_rules.specs.Steps.{moved_refusal, or_else, redo_refusal, redo_refusal_at, remarked}
 use Rattle.undo_rules.specs.Steps.{undo_refusal, undo_refusal_at, with_mark}
 use Rattle.undo_rules.proofs.HistoryLaws.{puts_back, replays, takes_out}
 use Rattle.undo_rules.proofs.Logs.{kept_longer}
@@ -33,7 +33,7 @@ no_depends : (reader : Option TxnId) → depends reader ≡ None → reader ≡ 
 no_depends None h = refl
 no_depends (Some txn) h = absurd cc
 
-no_moved : (other : Option TxnId) → moved other ≡ None → other ≡ None
+no_moved : (other : Option TxnId) → moved_refusal other ≡ None → other ≡ None
 no_moved None h = refl
 no_moved (Some txn) h = absurd cc
 
@@ -62,10 +62,10 @@ can_redo at free = by at.entry.live refl free where
   names = first_moved at.before (links_to at.before at.entry.footprint) at.entry.seen
 
   by : (live : Bool) → at.entry.live ≡ live →
-      cond live (Some StillLive) (or_else (depends (first_reader at.entry.writes at.later)) (moved names)) ≡ None → CanRedo at
+      cond live (Some StillLive) (or_else (depends (first_reader at.entry.writes at.later)) (moved_refusal names)) ≡ None → CanRedo at
   by true is h = absurd cc
   by false is h =
-      let parts = neither_of (depends (first_reader at.entry.writes at.later)) (moved names) h in
+      let parts = neither_of (depends (first_reader at.entry.writes at.later)) (moved_refusal names) h in
       record { undone = is; unread = no_depends (first_reader at.entry.writes at.later) parts.0; unmoved = no_moved names parts.1 }
 
 -- ---- redo
@@ -133,7 +133,7 @@ undoes h is session txn at there free =
     let in_place : first_moved at.before (links_to at.before at.entry.footprint) at.entry.seen ≡ None =
     ap (λ links. first_moved at.before links at.entry.seen) took.links ∙ unmoved_same at.before at.entry.seen in
     let open_again : redo_refusal next txn ≡ None =
-    ap redo_refusal_at found_again ∙ (λ i. or_else (depends (can.unread i)) (moved (in_place i))) in
+    ap redo_refusal_at found_again ∙ (λ i. or_else (depends (can.unread i)) (moved_refusal (in_place i))) in
     let back = redoes next history session txn undone found_again open_again in
     let lay : next.layout ≡ end = ap (λ (x : History). x.layout) after in
     record {

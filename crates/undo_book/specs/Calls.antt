@@ -21,14 +21,14 @@ abbrev pub refused : BookFault → Transaction → CommitRefusal
 refused fault work = record { fault = fault; work = handed_back fault work }
 
 -- the answer of a commit, with the work where it is handed back
-abbrev pub with_work : Result TxnId BookFault → Transaction → Result TxnId CommitRefusal
-with_work (Ok txn) work = Ok txn
-with_work (Err fault) work = Err (refused fault work)
+abbrev pub with_refused_work : Result TxnId BookFault → Transaction → Result TxnId CommitRefusal
+with_refused_work (Ok txn) work = Ok txn
+with_refused_work (Err fault) work = Err (refused fault work)
 
 -- `Takes`, for a call that is handed a work
 abbrev pub TakesWork : History → Transaction → Result TxnId BookFault × History → Result TxnId CommitRefusal → History → Type 0
 TakesWork old work wanted result new =
-    ((result ≡ with_work wanted.0 work) × (new ≡ wanted.1)) ⊎ ((result ≡ Err (refused NoMemory work)) × (new ≡ old))
+    ((result ≡ with_refused_work wanted.0 work) × (new ≡ wanted.1)) ⊎ ((result ≡ Err (refused NoMemory work)) × (new ≡ old))
 
 -- the same of a work that is stale because of the other transaction
 abbrev pub EndsStale : History → Transaction → TxnId → Result TxnId CommitRefusal → History → Type 0

@@ -57,10 +57,10 @@ abbrev pub earlier_at : List Logged → ℕ → Option ℕ
 earlier_at log place = earlier_of (take place log) (changed_at log place)
 
 -- there is no such call, or it lies before this place
-abbrev pub is_before : Option ℕ → ℕ → Bool
-is_before None since = true
-is_before (Some earlier) since = nat_lt earlier since
+abbrev pub is_unchanged_since : Option ℕ → ℕ → Bool
+is_unchanged_since None since = true
+is_unchanged_since (Some earlier) since = nat_lt earlier since
 
 -- the transaction that the call at a place changed, where no call since another place did so before it
 abbrev pub first_change : List Logged → ℕ → ℕ → Option TxnId
-first_change log since place = if is_before (earlier_at log place) since then changed_at log place else None
+first_change log since place = if is_unchanged_since (earlier_at log place) since then changed_at log place else None

@@ -25,8 +25,8 @@ coded_pending =
     code_by (ℕ × Layout) (coded× coded_ℕ coded_layout) (λ p. (p.place, p.snapshot)) (λ p. record { place = p.0; snapshot = p.1 })
     (λ _. refl)
 
-abbrev pub coded_state : Coded SessionState
-coded_state =
+abbrev pub coded_session_state : Coded SessionState
+coded_session_state =
     code_by (ℕ × Option Pending) (coded× coded_ℕ (coded_option coded_pending)) (λ s. (s.opens, s.pending))
     (λ p. record { opens = p.0; pending = p.1 }) (λ _. refl)
 
@@ -34,7 +34,7 @@ abbrev pub coded_history : Coded History
 coded_history =
     code_by (Layout × (Layout × (List Logged × (ℕ × (List Entry × List SessionState)))))
     (coded× coded_layout (coded× coded_layout (coded× (coded_list logged_call.the_row.coded)
-    (coded× coded_ℕ (coded× (coded_list coded_entry) (coded_list coded_state))))))
+    (coded× coded_ℕ (coded× (coded_list coded_entry) (coded_list coded_session_state))))))
     (λ h. (h.base, (h.layout, (h.log, (h.limit, (h.entries, h.sessions))))))
     (λ p. record { base = p.0; layout = p.1.0; log = p.1.1.0; limit = p.1.1.1.0; entries = p.1.1.1.1.0; sessions = p.1.1.1.1.1 })
     (λ _. refl)

@@ -6,7 +6,7 @@ use Rattle.txn_rules.specs.declared.element.Element.{Element}
 use Rattle.txn_rules.specs.Lies.{passes}
 use Rattle.txn_rules.specs.Meets.{some_meets}
 use Rattle.txn_rules.specs.Elements.{Touched}
-use Rattle.undo_rules.specs.Links.{Entry, touches}
+use Rattle.undo_rules.specs.Links.{Entry, meets_touched}
 use Rattle.undo_index.specs.Listed.{Listed, is_listed}
 
 -- the transaction is live, and its records meet the element
@@ -28,7 +28,7 @@ pub record AreIndexed (wrote_by read_by : Listed) (entries : List Entry) : Type 
 
 -- the transaction is live and wrote what is touched
 abbrev pub is_linked : Entry → Touched → Bool
-is_linked entry touched = entry.live && touches entry.writes touched
+is_linked entry touched = entry.live && meets_touched entry.writes touched
 
 -- the name of the transaction at a place
 abbrev pub name_at : List Entry → ℕ → Option TxnId

@@ -1,7 +1,7 @@
 //! What a book keeps of the changes in its log.
 ghost use Rattle.std.specs.Prelude.{◌≡◌, ◌<◌, ◌++◌, [], ◌∷◌, OnOk, None, slice_get, slice_set};
 ghost use Rattle.std.specs.Prelude.{vec_capacity, vec_len};
-ghost use Rattle.undo_book.specs.Changes.{is_before};
+ghost use Rattle.undo_book.specs.Changes.{is_unchanged_since};
 
 use lay_point::NoMemory;
 use std::alloc::Global;
@@ -84,7 +84,7 @@ impl Changes {
 
 /// Returns whether there is no such call, or it lies before this place of the log.
 pub(crate) fn is_before(earlier: Option<u32>, since: usize) -> bool
-    ensures { result ≡ is_before earlier since }
+    ensures { result ≡ is_unchanged_since earlier since }
 {
     match earlier {
         Some(earlier) => (earlier as usize) < since,

@@ -42,11 +42,11 @@ pub(crate) struct SessionState {
 
 impl Model for SessionState {
     ghost use Rattle.undo_rules.specs.Books.{SessionState};
-    ghost use Rattle.undo_book.specs.Coded.{coded_state};
+    ghost use Rattle.undo_book.specs.Coded.{coded_session_state};
 
     ghost Value = { SessionState };
 
-    ghost coded = { coded_state };
+    ghost coded = { coded_session_state };
 
     ghost view = { λ s. record { opens = s.opens; pending = s.pending } };
 }

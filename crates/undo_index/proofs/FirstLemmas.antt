@@ -4,7 +4,7 @@ use Rattle.std.proofs.Common.{refl, sym, ap, subst, ◌∙◌, arith, slice_get}
 use Rattle.std.specs.List.{list_any}
 use Rattle.std.specs.Prelude.{is_some, nat_lt}
 use Rattle.std.proofs.lemmas.Bool.Decides.{nat_tests}
-use Rattle.undo_index.specs.First.{IsFirst, first_some, found_at, lesser, look, or_some}
+use Rattle.undo_index.specs.First.{IsFirst, first_some, lesser, look, looked_up_at, or_some}
 
 -- ---- the lesser one of two
 
@@ -83,7 +83,7 @@ module _ {X Y : Type 0} (f : X → Option Y) where
 
   -- the first place that passes tells what is found first
   pub first_found : (xs : List X) (n : ℕ) (o : Option ℕ) → IsFirst (λ p. is_some (look f (slice_get xs p))) n o →
-      first_some f (drop n xs) ≡ found_at f xs o
+      first_some f (drop n xs) ≡ looked_up_at f xs o
   first_found xs n None first = none_first xs n first
   first_found xs n (Some a) first = some_first xs n a first.0 first.1 first.2
 

@@ -63,6 +63,6 @@ first_some f [] = None
 first_some f (x ∷ xs) = or_some (f x) (first_some f xs)
 
 -- what is found of the item at a place
-abbrev pub found_at : {X Y : Type 0} → (X → Option Y) → List X → Option ℕ → Option Y
-found_at f xs None = None
-found_at f xs (Some p) = look f (slice_get xs p)
+abbrev pub looked_up_at : {X Y : Type 0} → (X → Option Y) → List X → Option ℕ → Option Y
+looked_up_at f xs None = None
+looked_up_at f xs (Some p) = look f (slice_get xs p)

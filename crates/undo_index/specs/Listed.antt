@@ -23,8 +23,8 @@ abbrev pub coded_listed : Coded Listed
 coded_listed = set.code (coded× element.the_row.coded coded_ℕ)
 
 -- nothing is listed
-abbrev pub nowhere : Listed
-nowhere = set.empty
+abbrev pub nothing_listed : Listed
+nothing_listed = set.empty
 
 -- the place is listed under the element
 abbrev pub is_listed : Listed → Element → ℕ → Bool

@@ -1,6 +1,6 @@
 //! Who wrote and who read what.
 ghost use Rattle.std.specs.Prelude.{◌≡◌, OnErr, OnOk};
-ghost use Rattle.undo_index.specs.Listed.{AreAdded, AreRemoved, IsNew, nowhere};
+ghost use Rattle.undo_index.specs.Listed.{AreAdded, AreRemoved, IsNew, nothing_listed};
 
 use crate::listing::Listing;
 use lay_point::NoMemory;
@@ -19,8 +19,8 @@ pub struct Index {
 impl Index {
     /// Returns the index of no history.
     pub fn new(alloc: Global) -> Index
-        ensures writers { result.writers ≡ nowhere }
-        ensures readers { result.readers ≡ nowhere }
+        ensures writers { result.writers ≡ nothing_listed }
+        ensures readers { result.readers ≡ nothing_listed }
     {
         Index {
             writers: Listing::new(alloc),

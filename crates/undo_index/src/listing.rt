@@ -5,7 +5,7 @@ ghost use Rattle.std.specs.List.{list_any};
 ghost use Rattle.std.specs.List.Sorted.{IsStrictlySortedBy};
 ghost use Rattle.std.specs.Ordering.{nat_cmp};
 ghost use Rattle.undo_index.specs.First.{IsFirst, has, lesser};
-ghost use Rattle.undo_index.specs.Listed.{AreAdded, AreRemoved, IsNew, is_listed, nowhere, pairs_below};
+ghost use Rattle.undo_index.specs.Listed.{AreAdded, AreRemoved, IsNew, is_listed, nothing_listed, pairs_below};
 
 use lay_point::NoMemory;
 use std::alloc::Global;
@@ -34,7 +34,7 @@ impl Model for Listing {
 impl Listing {
     /// Returns a listing of nothing.
     pub fn new(alloc: Global) -> Listing
-        ensures { result ≡ nowhere }
+        ensures { result ≡ nothing_listed }
     {
         Listing {
             pairs: BTreeSet::new(alloc),

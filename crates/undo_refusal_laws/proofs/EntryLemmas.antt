@@ -7,7 +7,7 @@ use Rattle.lay_point.proofs.Members.{Has, has-append_right}
 use Rattle.txn_rules.specs.declared.command.TxnId.{TxnId}
 use Rattle.txn_rules.specs.Elements.{Touched}
 use Rattle.undo_rules.specs.Books.{entry_of}
-use Rattle.undo_rules.specs.Links.{AreNamed, Entry, Trace, is_among, links_to, live_of, touches, trace_of, txn_eq}
+use Rattle.undo_rules.specs.Links.{AreNamed, Entry, Trace, is_named_in, links_to, live_of, meets_touched, trace_of, txn_eq}
 use Rattle.undo_rules.specs.Steps.{found_behind}
 use Rattle.undo_rules.proofs.EqualLinks.{linked-all, txn_eq-same}
 use Rattle.undo_rules.proofs.Moved.{not_among, txn_eq-sym}
@@ -25,17 +25,17 @@ txn_eq-named s t e = ap (txn_eq s) (sym e) ∙ txn_eq-same s
 
 -- ---- names in lists
 
-pub among_has : (name : TxnId) (names : List TxnId) → is_among name names ≡ true → Has names name
+pub among_has : (name : TxnId) (names : List TxnId) → is_named_in name names ≡ true → Has names name
 among_has name [] h = absurd cc
 among_has name (u ∷ us) h = by (txn_eq name u) refl h (among_has name us) where
-  by : (b : Bool) → txn_eq name u ≡ b → (b || is_among name us) ≡ true → (is_among name us ≡ true → Has us name) → Has (u ∷ us) name
+  by : (b : Bool) → txn_eq name u ≡ b → (b || is_named_in name us) ≡ true → (is_named_in name us ≡ true → Has us name) → Has (u ∷ us) name
   by true is h more = inl (sym (txn_eq-true name u is))
   by false is h more = inr (more h)
 
-pub has_among : (name : TxnId) (names : List TxnId) → Has names name → is_among name names ≡ true
+pub has_among : (name : TxnId) (names : List TxnId) → Has names name → is_named_in name names ≡ true
 has_among name [] m = absurd m
-has_among name (u ∷ us) (inl same) = or_left (txn_eq name u) (is_among name us) (txn_eq-named name u (sym same))
-has_among name (u ∷ us) (inr m) = or_right (txn_eq name u) (is_among name us) (has_among name us m)
+has_among name (u ∷ us) (inl same) = or_left (txn_eq name u) (is_named_in name us) (txn_eq-named name u (sym same))
+has_among name (u ∷ us) (inr m) = or_right (txn_eq name u) (is_named_in name us) (has_among name us m)
 
 -- ---- names that differ
 
@@ -100,22 +100,22 @@ held_entry (x ∷ xs) txn entry named (inr m) is =
 
 -- a transaction is among the links where it is live and wrote what is touched
 pub links_has : (touched : Touched) (es : List Entry) (e : Entry) → AreNamed (map trace_of es) → Has es e
-    → is_among e.txn (links_to es touched) ≡ (e.live && touches e.writes touched)
+    → is_named_in e.txn (links_to es touched) ≡ (e.live && meets_touched e.writes touched)
 links_has touched [] e named m = absurd m
 links_has touched (x ∷ es) e named (inl same) =
-    subst (λ (y : Entry). is_among y.txn (links_to (x ∷ es) touched) ≡ (y.live && touches y.writes touched)) same
-    (by (x.live && touches x.writes touched)) where
+    subst (λ (y : Entry). is_named_in y.txn (links_to (x ∷ es) touched) ≡ (y.live && meets_touched y.writes touched)) same
+    (by (x.live && meets_touched x.writes touched)) where
       ls : List TxnId
       ls = links_to es touched
 
-      by : (b : Bool) → is_among x.txn (cond b (x.txn ∷ ls) ls) ≡ b
-      by true = ap (λ b. b || is_among x.txn ls) (txn_eq-same x.txn)
+      by : (b : Bool) → is_named_in x.txn (cond b (x.txn ∷ ls) ls) ≡ b
+      by true = ap (λ b. b || is_named_in x.txn ls) (txn_eq-same x.txn)
       by false = not_among x.txn ls (linked-all (λ u. txn_eq x.txn u ≡ false) touched (map trace_of es) (map live_of es) named.0)
 links_has touched (x ∷ es) e named (inr m) =
-    by (x.live && touches x.writes touched) ∙ links_has touched es e named.1 m where
+    by (x.live && meets_touched x.writes touched) ∙ links_has touched es e named.1 m where
       ls : List TxnId
       ls = links_to es touched
 
-      by : (b : Bool) → is_among e.txn (cond b (x.txn ∷ ls) ls) ≡ is_among e.txn ls
-      by true = ap (λ b. b || is_among e.txn ls) (txn_eq-sym x.txn e.txn (others_differ x.txn es e named.0 m))
+      by : (b : Bool) → is_named_in e.txn (cond b (x.txn ∷ ls) ls) ≡ is_named_in e.txn ls
+      by true = ap (λ b. b || is_named_in e.txn ls) (txn_eq-sym x.txn e.txn (others_differ x.txn es e named.0 m))
       by false = refl

@@ -9,7 +9,7 @@ use Rattle.txn_rules.specs.declared.element.Element.{Element}
 use Rattle.txn_rules.specs.Elements.{Touched, element_cmp, elements_total}
 use Rattle.txn_rules.specs.Meets.{some_meets}
 use Rattle.txn_rules.specs.Records.{Records}
-use Rattle.undo_rules.specs.Links.{Entry, touches}
+use Rattle.undo_rules.specs.Links.{Entry, meets_touched}
 use Rattle.undo_rules.proofs.Grounds.{apart}
 use Rattle.undo_refusal_laws.specs.Refusing.{IsReader, IsTouched}
 
@@ -45,14 +45,14 @@ has_among (x ∷ es) e (inl same) =
 has_among (x ∷ es) e (inr m) =
     or_right (eq_by_cmp element_cmp e x) (list_any (eq_by_cmp element_cmp e) es) (has_among es e m)
 
-pub touched_is : (writes : Records) (touched : Touched) → touches writes touched ≡ true → IsTouched writes touched
+pub touched_is : (writes : Records) (touched : Touched) → meets_touched writes touched ≡ true → IsTouched writes touched
 touched_is writes touched h =
     let r = any_some (some_meets writes) (items touched) h in
     record { element = r.0; there = contains-items touched r.0 ∙ has_among (items touched) r.0 r.1; met = r.2 }
 
-pub touched_so : (writes : Records) (touched : Touched) → IsTouched writes touched → touches writes touched ≡ true
-touched_so writes touched is = by (touches writes touched) refl where
-  by : (b : Bool) → touches writes touched ≡ b → b ≡ true
+pub touched_so : (writes : Records) (touched : Touched) → IsTouched writes touched → meets_touched writes touched ≡ true
+touched_so writes touched is = by (meets_touched writes touched) refl where
+  by : (b : Bool) → meets_touched writes touched ≡ b → b ≡ true
   by true h = refl
   by false h =
       let none : some_meets writes is.element ≡ false = apart writes touched h is.element is.there in
@@ -62,12 +62,12 @@ touched_so writes touched is = by (touches writes touched) refl where
 -- ---- readers
 
 abbrev pub reads : Records → Entry → Bool
-reads writes entry = entry.live && touches writes entry.footprint
+reads writes entry = entry.live && meets_touched writes entry.footprint
 
 pub reads_is : (writes : Records) (entry : Entry) → reads writes entry ≡ true → IsReader writes entry
 reads_is writes entry h =
-    let both = and_both entry.live (touches writes entry.footprint) h in (both.0, touched_is writes entry.footprint both.1)
+    let both = and_both entry.live (meets_touched writes entry.footprint) h in (both.0, touched_is writes entry.footprint both.1)
 
 pub reads_so : (writes : Records) (entry : Entry) → IsReader writes entry → reads writes entry ≡ true
 reads_so writes entry is =
-    and_true entry.live (touches writes entry.footprint) is.0 (touched_so writes entry.footprint is.1)
+    and_true entry.live (meets_touched writes entry.footprint) is.0 (touched_so writes entry.footprint is.1)

@@ -12,8 +12,8 @@ use Rattle.undo_rules.specs.declared.log.BookFault.TheVariants.{Stale, StillLive
 use Rattle.undo_rules.specs.declared.log.Call.{Call}
 use Rattle.undo_rules.specs.declared.log.Call.TheVariants.{Redo, Undo}
 use Rattle.undo_rules.specs.Books.{History}
-use Rattle.undo_rules.specs.Links.{AreNamed, Entry, first_moved, first_reader, is_among, links_to, touches, trace_of}
-use Rattle.undo_rules.specs.Steps.{Found, after_redo, after_undo, depends, found, found_behind, is_log_full, moved, or_else}
+use Rattle.undo_rules.specs.Links.{AreNamed, Entry, first_moved, first_reader, is_named_in, links_to, meets_touched, trace_of}
+use Rattle.undo_rules.specs.Steps.{Found, after_redo, after_undo, depends, found, found_behind, is_log_full, moved_refusal, or_else}
 use Rattle.undo_rules.specs.Steps.{redo_refusal, redo_refusal_at, undo_refusal, undo_refusal_at, unless}
 use Rattle.undo_rules.proofs.Finding.{found_is}
 use Rattle.undo_refusal_laws.specs.Refusing.{HasMoved, HasRoom, IsAmong, IsFirstMoved, IsFirstReader, IsLinked, IsMovedBy, IsReadBy}
@@ -55,7 +55,7 @@ told h full refusal session call after fault is e =
 reader_first : (writes : Records) (es : List Entry) → first_reader writes es ≡ first_by (reads writes) name_of es
 reader_first writes [] = refl
 reader_first writes (e ∷ es) =
-    ap (λ r. cond (e.live && touches writes e.footprint) (Some e.txn) r) (reader_first writes es)
+    ap (λ r. cond (e.live && meets_touched writes e.footprint) (Some e.txn) r) (reader_first writes es)
 
 reader_is : (writes : Records) (es : List Entry) (name : TxnId) → first_reader writes es ≡ Some name → IsFirstReader writes es name
 reader_is writes es name e =
@@ -98,11 +98,11 @@ abbrev differ : Bool → Bool → Bool
 differ a b = cond a (not b) b
 
 abbrev moves : List TxnId → List TxnId → Entry → Bool
-moves one other e = differ (is_among e.txn one) (is_among e.txn other)
+moves one other e = differ (is_named_in e.txn one) (is_named_in e.txn other)
 
 moved_first : (es : List Entry) (one other : List TxnId) → first_moved es one other ≡ first_by (moves one other) name_of es
 moved_first [] one other = refl
-moved_first (e ∷ es) one other = by (is_among e.txn one) (is_among e.txn other) (moved_first es one other) where
+moved_first (e ∷ es) one other = by (is_named_in e.txn one) (is_named_in e.txn other) (moved_first es one other) where
   by : (a b : Bool) → first_moved es one other ≡ first_by (moves one other) name_of es
       → cond a (cond b (first_moved es one other) (Some e.txn)) (cond b (Some e.txn) (first_moved es one other))
       ≡ cond (differ a b) (Some e.txn) (first_by (moves one other) name_of es)
@@ -122,13 +122,13 @@ record AreTests (entry e : Entry) (linked was : Bool) : Type 0 where
   was_so : WasLinked entry e → was ≡ true
 
 are_tests : (earlier : List Entry) (entry e : Entry) → AreNamed (map trace_of earlier) → Has earlier e
-    → AreTests entry e (is_among e.txn (links_to earlier entry.footprint)) (is_among e.txn entry.seen)
+    → AreTests entry e (is_named_in e.txn (links_to earlier entry.footprint)) (is_named_in e.txn entry.seen)
 are_tests earlier entry e named m =
     let is = links_has entry.footprint earlier e named m in
     record {
-      linked_is = λ t. let both = and_both e.live (touches e.writes entry.footprint) (sym is ∙ t) in
+      linked_is = λ t. let both = and_both e.live (meets_touched e.writes entry.footprint) (sym is ∙ t) in
           (both.0, touched_is e.writes entry.footprint both.1);
-      linked_so = λ l. is ∙ and_true e.live (touches e.writes entry.footprint) l.0 (touched_so e.writes entry.footprint l.1);
+      linked_so = λ l. is ∙ and_true e.live (meets_touched e.writes entry.footprint) l.0 (touched_so e.writes entry.footprint l.1);
       was_is = λ t. contains entry.seen e.txn (among_has e.txn entry.seen t);
       was_so = λ w. has_among e.txn entry.seen (has entry.seen e.txn w);
     }
@@ -293,7 +293,7 @@ redo_reads h txn other (Some at) is e =
     by at.entry.live refl (first_reader at.entry.writes at.later) refl
     (first_moved at.before (links_to at.before at.entry.footprint) at.entry.seen) e where
       by : (live : Bool) → at.entry.live ≡ live → (o : Option TxnId) → first_reader at.entry.writes at.later ≡ o → (m : Option TxnId)
-          → cond live (Some StillLive) (or_else (depends o) (moved m)) ≡ Some (Depends other) → IsReadBy h txn false other
+          → cond live (Some StillLive) (or_else (depends o) (moved_refusal m)) ≡ Some (Depends other) → IsReadBy h txn false other
       by true mark o is_o m e = absurd cc
       by false mark None is_o None e = absurd cc
       by false mark None is_o (Some n) e = absurd cc
@@ -315,7 +315,7 @@ redo_moves h txn other (Some at) named is e =
     (first_moved at.before (links_to at.before at.entry.footprint) at.entry.seen) refl e where
       by : (live : Bool) → at.entry.live ≡ live → (o : Option TxnId) → first_reader at.entry.writes at.later ≡ o → (m : Option TxnId)
           → first_moved at.before (links_to at.before at.entry.footprint) at.entry.seen ≡ m
-          → cond live (Some StillLive) (or_else (depends o) (moved m)) ≡ Some (Moved other) → IsMovedBy h txn other
+          → cond live (Some StillLive) (or_else (depends o) (moved_refusal m)) ≡ Some (Moved other) → IsMovedBy h txn other
       by true mark o is_o m is_m e = absurd cc
       by false mark (Some n) is_o m is_m e = absurd cc
       by false mark None is_o None is_m e = absurd cc
@@ -335,12 +335,12 @@ redo_moves h txn other (Some at) named is e =
 -- a redo's refusal, by the tests in order
 redo_at : (h : History) (txn : TxnId) (earlier : List Entry) (entry : Entry) (later : List Entry) (o : Option TxnId) → NamesDiffer h
     → IsAmong h txn false earlier entry later → first_reader entry.writes later ≡ o
-    → redo_refusal h txn ≡ or_else (depends o) (moved (first_moved earlier (links_to earlier entry.footprint) entry.seen))
+    → redo_refusal h txn ≡ or_else (depends o) (moved_refusal (first_moved earlier (links_to earlier entry.footprint) entry.seen))
 redo_at h txn earlier entry later o named among is_o =
     ap redo_refusal_at (found_among h txn false earlier entry later named among)
     ∙ ap (λ b. cond b (Some StillLive) (or_else (depends (first_reader entry.writes later))
-    (moved (first_moved earlier (links_to earlier entry.footprint) entry.seen)))) among.mark
-    ∙ ap (λ r. or_else (depends r) (moved (first_moved earlier (links_to earlier entry.footprint) entry.seen))) is_o
+    (moved_refusal (first_moved earlier (links_to earlier entry.footprint) entry.seen)))) among.mark
+    ∙ ap (λ r. or_else (depends r) (moved_refusal (first_moved earlier (links_to earlier entry.footprint) entry.seen))) is_o
 
 redo_read_so : (h : History) (txn other : TxnId) → NamesDiffer h → IsReadBy h txn false other → redo_refusal h txn ≡ Some (Depends other)
 redo_read_so h txn other named is =
@@ -349,7 +349,8 @@ redo_read_so h txn other named is =
 redo_moved_so : (h : History) (txn other : TxnId) → NamesDiffer h → IsMovedBy h txn other → redo_refusal h txn ≡ Some (Moved other)
 redo_moved_so h txn other named is =
     redo_at h txn is.earlier is.entry is.later None named is.among (unread_so is.entry.writes is.later is.unread)
-    ∙ ap moved (first_moved_so is.earlier is.entry other (earlier_named h txn false is.earlier is.entry is.later named is.among) is.moved)
+    ∙ ap moved_refusal (first_moved_so is.earlier is.entry other
+        (earlier_named h txn false is.earlier is.entry is.later named is.among) is.moved)
 
 abbrev MayRedo : BookFault → Type 0
 MayRedo NoTxn = Unit {0}
@@ -368,7 +369,8 @@ redo_may None fault e = let same : NoTxn ≡ fault = cc in subst MayRedo same tt
 redo_may (Some at) fault e =
     by at.entry.live (first_reader at.entry.writes at.later)
     (first_moved at.before (links_to at.before at.entry.footprint) at.entry.seen) e where
-      by : (live : Bool) (o m : Option TxnId) → cond live (Some StillLive) (or_else (depends o) (moved m)) ≡ Some fault → MayRedo fault
+      by : (live : Bool) (o m : Option TxnId) → cond live (Some StillLive) (or_else (depends o) (moved_refusal m)) ≡ Some fault
+          → MayRedo fault
       by true o m e = let same : StillLive ≡ fault = cc in subst MayRedo same tt
       by false (Some n) m e = let same : Depends n ≡ fault = cc in subst MayRedo same tt
       by false None (Some n) e = let same : Moved n ≡ fault = cc in subst MayRedo same tt

@@ -16,10 +16,10 @@ use Rattle.txn_rules.proofs.Overlay.{unmet_agree}
 use Rattle.txn_rules.proofs.Own.{new_own}
 use Rattle.txn_rules.proofs.Runs.{goes_on}
 use Rattle.undo_rules.specs.declared.log.Logged.{Logged}
-use Rattle.undo_rules.specs.Histories.{Chain, Ran, commands_at, if_run, replay_from, run_on}
+use Rattle.undo_rules.specs.Histories.{Chain, RunsBetween, commands_at, if_run, replay_from, run_on}
 use Rattle.undo_rules.specs.Links.{AreNamed, Entry, Trace, trace_of, txn_eq}
 use Rattle.undo_rules.proofs.Grounds.{ran_leads}
-use Rattle.undo_region_laws.specs.Staying.{AreAside, HasNone}
+use Rattle.undo_region_laws.specs.Staying.{AreAside, HasNoItemOf}
 
 -- ---- commands
 
@@ -36,7 +36,7 @@ run_cut t (c ∷ cs) ds start end h =
 
 -- what a transaction keeps wherever it runs
 abbrev pub Keeps : List Logged → (Layout → Type 0) → Entry → Type 0
-Keeps log P entry = (l m : Layout) → Ran log entry l m → P l → P m
+Keeps log P entry = (l m : Layout) → RunsBetween log entry l m → P l → P m
 
 -- what each of the first transactions keeps is so of the layout behind them, which is their replay
 pub chain_through : (log : List Logged) (P : Layout → Type 0) (before later : List Entry) (first last : Layout) →
@@ -45,7 +45,7 @@ pub chain_through : (log : List Logged) (P : Layout → Type 0) (before later : 
 chain_through log P [] later first last each chain holds = (first, refl, holds, chain)
 chain_through log P (entry ∷ before) later first last each chain holds =
     by entry.live chain (λ l. chain_through log P before later l last each.1) where
-      by : (live : Bool) → MatchBool live ((next : Layout) × Ran log entry first next × Chain log next (before ++ later) last)
+      by : (live : Bool) → MatchBool live ((next : Layout) × RunsBetween log entry first next × Chain log next (before ++ later) last)
           (Chain log first (before ++ later) last)
           → ((l : Layout) → Chain log l (before ++ later) last → P l
           → (ground : Layout) × (replay_from log l before ≡ Some ground) × P ground × Chain log ground later last)
@@ -71,7 +71,7 @@ apart_names s t other session number =
     absurd (cc (sym other ∙ (λ i. sessions i && numbers i)))
 
 -- a transaction makes no item with an id of another
-pub none_made : (log : List Logged) (txn : TxnId) (entry : Entry) → txn_eq entry.txn txn ≡ false → Keeps log (HasNone txn) entry
+pub none_made : (log : List Logged) (txn : TxnId) (entry : Entry) → txn_eq entry.txn txn ≡ false → Keeps log (HasNoItemOf txn) entry
 none_made log txn entry other l m ran none id session number = by_item (item_at m id) refl where
   by_item : (o : Option items.Item) → item_at m id ≡ o → o ≡ None
   by_item None is = refl
@@ -99,7 +99,7 @@ aside_agree log e [] first last aside chain = agree-equal first last e chain
 aside_agree log e (entry ∷ entries) first last aside chain =
     by entry.live refl chain (λ l. aside_agree log e entries l last aside.1) where
       by : (live : Bool) → entry.live ≡ live
-          → MatchBool live ((next : Layout) × Ran log entry first next × Chain log next entries last) (Chain log first entries last)
+          → MatchBool live ((next : Layout) × RunsBetween log entry first next × Chain log next entries last) (Chain log first entries last)
           → ((l : Layout) → Chain log l entries last → Agree l last e) → Agree first last e
       by true is (next, ran, rest) more =
           agree-trans first next last e (unmet_agree entry.writes first next e (ran_leads log entry first next ran) (aside.0 is))

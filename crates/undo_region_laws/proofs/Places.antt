@@ -11,7 +11,7 @@ use Rattle.face_rings.proofs.BridgeParity.{odd-bridged}
 use Rattle.bool_shape_laws.specs.Shapes.{Rings}
 use Rattle.bool_rules.proofs.BooleanLaws.{booleans_are_drawn, booleans_tell}
 use Rattle.txn_rules.specs.Effects.{next_id}
-use Rattle.undo_region_laws.specs.Laws.{BooleansHoldWhereAsked, is_inside, is_inside_path}
+use Rattle.undo_region_laws.specs.Laws.{BooleansHoldWhereAsked, is_inside_path, is_inside_some}
 use Rattle.undo_region_laws.proofs.Numbered.{any-numbered}
 use Rattle.undo_region_laws.proofs.Replacing.{shapes_replaced}
 
@@ -40,7 +40,7 @@ places_told txn run op cell a b out next sound h =
       second = tell.second;
       first_flat = tell.first_flat;
       second_flat = tell.second_flat;
-      places = λ k x y scale. ap (λ (ss : List LentShape). is_inside ss k x y) is.2
+      places = λ k x y scale. ap (λ (ss : List LentShape). is_inside_some ss k x y) is.2
           ∙ any-numbered (λ rings. odd (edges_of rings) k x y) new shapes ∙ tell.places k x y scale;
       paths = λ k x y scale. ap (λ (ss : List LentShape). is_inside_path ss k x y) is.2
           ∙ any-numbered (λ rings. odd (edges_of (bridged rings ∷ [])) k x y) new shapes ∙ paths_alike shapes drawn k x y

@@ -16,11 +16,11 @@ use Rattle.txn_rules.proofs.Below.{shapes_agree}
 use Rattle.txn_rules.proofs.Runs.{goes_on}
 use Rattle.txn_rules.proofs.Sound.{run_sound}
 use Rattle.undo_rules.specs.declared.log.Logged.{Logged}
-use Rattle.undo_rules.specs.Histories.{Chain, Ran}
+use Rattle.undo_rules.specs.Histories.{Chain, RunsBetween}
 use Rattle.undo_rules.specs.Links.{Entry, txn_eq}
 use Rattle.undo_rules.proofs.Grounds.{ran_sound}
 use Rattle.undo_region_laws.specs.Laws.{HoldWhereAsked}
-use Rattle.undo_region_laws.specs.Staying.{HasNone, OperationsStay}
+use Rattle.undo_region_laws.specs.Staying.{HasNoItemOf, OperationsStay}
 use Rattle.undo_region_laws.proofs.Others.{ids_stay_free, others_stay}
 use Rattle.undo_region_laws.proofs.Passages.{Keeps, aside_agree, chain_through, none_made, others_named, run_cut}
 use Rattle.undo_region_laws.proofs.Places.{places_told}
@@ -28,7 +28,7 @@ use Rattle.undo_region_laws.proofs.Places.{places_told}
 -- what is so of the layout before the transaction: it is sound, and has no item with an id of it where the base has none
 record IsGround (base : Layout) (txn : TxnId) (layout : Layout) : Type 0 where
   sound : IsSound layout
-  none : HasNone txn base → HasNone txn layout
+  none : HasNoItemOf txn base → HasNoItemOf txn layout
 
 each_keeps : (log : List Logged) (base : Layout) (txn : TxnId) (entries : List Entry) →
     AllByRecursion (λ other. txn_eq other.txn txn ≡ false) entries → AllByRecursion (Keeps log (IsGround base txn)) entries
@@ -53,8 +53,8 @@ stay log base layout before entry later earlier op cell a b out rest sound kept 
     let (ground, replays, is, chain) = chain_through log (IsGround base entry.txn) before (entry ∷ later) base layout
     (each_keeps log base entry.txn before (others_named before entry later kept.named)) kept.chain
     (record { sound = sound; none = λ free. free }) in
-    let (after, ran, behind) : (next : Layout) × Ran log entry ground next × Chain log next later layout =
-    subst (λ (b : Bool). MatchBool b ((next : Layout) × Ran log entry ground next × Chain log next later layout)
+    let (after, ran, behind) : (next : Layout) × RunsBetween log entry ground next × Chain log next later layout =
+    subst (λ (b : Bool). MatchBool b ((next : Layout) × RunsBetween log entry ground next × Chain log next later layout)
     (Chain log ground later layout)) live chain in
     let same : ran.commands ≡ earlier ++ command ∷ rest = cc (ran.told, told) in
     let runs : after_each entry.txn (earlier ++ command ∷ rest) (begun ground) ≡ Some ran.run =

@@ -37,8 +37,8 @@ BooleansReplaceShapes = (txn : TxnId) (run : Run) (op : Op) (cell : CellId) (a b
     × (shapes_in next.1.layout cell out ≡ numbered (next_id txn run) shapes)
 
 -- the place is inside some shape
-abbrev pub is_inside : List LentShape → ℤ → ℤ → ℤ → Bool
-is_inside shapes k x y = list_any (λ shape. odd (edges_of shape.1) k x y) shapes
+abbrev pub is_inside_some : List LentShape → ℤ → ℤ → ℤ → Bool
+is_inside_some shapes k x y = list_any (λ shape. odd (edges_of shape.1) k x y) shapes
 
 -- the place is inside the one path that is written for some shape
 abbrev pub is_inside_path : List LentShape → ℤ → ℤ → ℤ → Bool
@@ -51,7 +51,7 @@ pub record HoldWhereAsked (layout : Layout) (op : Op) (cell : CellId) (a b : Lis
   pub second : List FlatRing
   pub first_flat : flat_of layout cell a ≡ Ok first
   pub second_flat : flat_of layout cell b ≡ Ok second
-  pub places : (k x y : ℤ) → pos 1 ≤ℤ k → is_inside shapes k x y ≡ op_at op (rounded_inputs first second) k x y
+  pub places : (k x y : ℤ) → pos 1 ≤ℤ k → is_inside_some shapes k x y ≡ op_at op (rounded_inputs first second) k x y
   pub paths : (k x y : ℤ) → pos 1 ≤ℤ k → is_inside_path shapes k x y ≡ op_at op (rounded_inputs first second) k x y
 
 -- behind an operation that is accepted on a sound layout, the shapes of its cell on its layer hold where the operation does of the

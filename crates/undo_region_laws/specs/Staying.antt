@@ -25,8 +25,8 @@ abbrev pub AreAside : Element → List Entry → Type 0
 AreAside e entries = AllByRecursion (λ entry. entry.live ≡ true → some_meets entry.writes e ≡ false) entries
 
 -- the layout has no item with an id of the transaction
-abbrev pub HasNone : TxnId → Layout → Type 0
-HasNone txn layout = (id : ItemId) → id.session ≡ txn.session → id.txn ≡ txn.txn → item_at layout id ≡ None
+abbrev pub HasNoItemOf : TxnId → Layout → Type 0
+HasNoItemOf txn layout = (id : ItemId) → id.session ≡ txn.session → id.txn ≡ txn.txn → item_at layout id ≡ None
 
 -- a command among those of a live transaction: the layout of the live ones before it, the transaction up to the command, behind
 -- it, and at its end
@@ -49,7 +49,7 @@ pub record Stays (log : List Logged) (base layout : Layout) (before : List Entry
   pub way : Passage log base before entry.txn earlier (Combine op cell a b out) rest
   pub holds : shapes_in way.last.layout cell out ≡ shapes_in way.next.1.layout cell out → AreAside (Layer cell out) later
       → HoldWhereAsked way.reached.layout op cell a b (shapes_in layout cell out)
-  pub others : HasNone entry.txn base → LeavesOthers cell out way.reached.layout way.next.1.layout
+  pub others : HasNoItemOf entry.txn base → LeavesOthers cell out way.reached.layout way.next.1.layout
 
 -- so it is of each operation of a live transaction, in a history that began on a sound layout
 abbrev pub OperationsStay : Type 0

@@ -8,28 +8,28 @@ use Rattle.txn_rules.specs.Elements.{Touched}
 use Rattle.txn_rules.specs.Records.{AreProper, Lead, Records}
 use Rattle.txn_rules.proofs.Agreements.{agree-sym}
 use Rattle.undo_rules.specs.declared.log.Logged.{Logged}
-use Rattle.undo_rules.specs.Histories.{Chain, Ran}
-use Rattle.undo_rules.specs.Links.{Entry, first_reader, touches}
+use Rattle.undo_rules.specs.Histories.{Chain, RunsBetween}
+use Rattle.undo_rules.specs.Links.{Entry, first_reader, meets_touched}
 use Rattle.undo_rules.proofs.Grounds.{apart, ran_again, ran_past, ran_sound}
 use Rattle.txn_rules.proofs.Overlay.{unmet_agree}
 
 -- no live one of these transactions has touched what was written
 abbrev pub AreUnread : Records → List Entry → Type 0
 AreUnread ws [] = Unit {0}
-AreUnread ws (entry ∷ entries) = (entry.live ≡ true → touches ws entry.footprint ≡ false) × AreUnread ws entries
+AreUnread ws (entry ∷ entries) = (entry.live ≡ true → meets_touched ws entry.footprint ≡ false) × AreUnread ws entries
 
 pub no_reader : (ws : Records) (entries : List Entry) → first_reader ws entries ≡ None → AreUnread ws entries
 no_reader ws [] h = tt
-no_reader ws (entry ∷ entries) h = by entry.live refl (touches ws entry.footprint) refl h (no_reader ws entries) where
-  by : (live : Bool) → entry.live ≡ live → (met : Bool) → touches ws entry.footprint ≡ met
+no_reader ws (entry ∷ entries) h = by entry.live refl (meets_touched ws entry.footprint) refl h (no_reader ws entries) where
+  by : (live : Bool) → entry.live ≡ live → (met : Bool) → meets_touched ws entry.footprint ≡ met
       → cond (live && met) (Some entry.txn) (first_reader ws entries) ≡ None → (first_reader ws entries ≡ None → AreUnread ws entries)
-      → (entry.live ≡ true → touches ws entry.footprint ≡ false) × AreUnread ws entries
+      → (entry.live ≡ true → meets_touched ws entry.footprint ≡ false) × AreUnread ws entries
   by true is true told h rest = absurd cc
   by true is false told h rest = ((λ live. told), rest h)
   by false is met told h rest = ((λ live. absurd cc), rest h)
 
 module _ (log : List Logged) where
-  agreed : (ws : Records) (touched : Touched) (l m : Layout) → Lead ws l m → touches ws touched ≡ false → AgreeOn l m touched
+  agreed : (ws : Records) (touched : Touched) (l m : Layout) → Lead ws l m → meets_touched ws touched ≡ false → AgreeOn l m touched
   agreed ws touched l m lead free e has = unmet_agree ws l m e lead (apart ws touched free e has)
 
   -- the chain without the records, which lead to the layout with them
@@ -40,11 +40,11 @@ module _ (log : List Logged) where
   without_them ws (entry ∷ entries) l m last proper lead l_sound m_sound unread chain =
       by entry.live refl chain (λ k n. without_them ws entries k n last proper) where
         by : (live : Bool) → entry.live ≡ live
-            → MatchBool live ((next : Layout) × Ran log entry m next × Chain log next entries last) (Chain log m entries last)
+            → MatchBool live ((next : Layout) × RunsBetween log entry m next × Chain log next entries last) (Chain log m entries last)
             → ((k n : Layout) → Lead ws k n → IsSound k → IsSound n → AreUnread ws entries → Chain log n entries last
             → (end : Layout) × Chain log k entries end × Lead ws end last)
             → (end : Layout)
-            × MatchBool live ((next : Layout) × Ran log entry l next × Chain log next entries end) (Chain log l entries end)
+            × MatchBool live ((next : Layout) × RunsBetween log entry l next × Chain log next entries end) (Chain log l entries end)
             × Lead ws end last
         by true is (n, ran, chain) rest =
             let free = unread.0 is in
@@ -64,11 +64,11 @@ module _ (log : List Logged) where
   with_them ws (entry ∷ entries) l m last proper lead l_sound m_sound unread chain =
       by entry.live refl chain (λ k n. with_them ws entries k n last proper) where
         by : (live : Bool) → entry.live ≡ live
-            → MatchBool live ((next : Layout) × Ran log entry l next × Chain log next entries last) (Chain log l entries last)
+            → MatchBool live ((next : Layout) × RunsBetween log entry l next × Chain log next entries last) (Chain log l entries last)
             → ((k n : Layout) → Lead ws k n → IsSound k → IsSound n → AreUnread ws entries → Chain log k entries last
             → (end : Layout) × Chain log n entries end × Lead ws last end)
             → (end : Layout)
-            × MatchBool live ((next : Layout) × Ran log entry m next × Chain log next entries end) (Chain log m entries end)
+            × MatchBool live ((next : Layout) × RunsBetween log entry m next × Chain log next entries end) (Chain log m entries end)
             × Lead ws last end
         by true is (k, ran, chain) rest =
             let free = unread.0 is in

@@ -20,7 +20,7 @@ use Rattle.undo_rules.specs.declared.log.Logged.{Logged}
 use Rattle.undo_rules.specs.Books.{History, IsHistory, IsNamed, SessionState, changed_among, changed_in, changes_since, entry_of, writes_of}
 use Rattle.undo_rules.specs.Histories.{IsSince, commands_at, commands_in}
 use Rattle.undo_rules.specs.Laws.{ACommitKeepsTheBook, Commits, IsOwnWork}
-use Rattle.undo_rules.specs.Links.{Entry, touches, txn_eq}
+use Rattle.undo_rules.specs.Links.{Entry, meets_touched, txn_eq}
 use Rattle.undo_rules.specs.Steps.{ended, ended_state, entered, logged, stale_by, stale_first, state_of, touching, with_entry}
 use Rattle.undo_rules.proofs.Committing.{commits, since_more}
 use Rattle.undo_rules.proofs.Finding.{there_more, writes_more}
@@ -32,24 +32,24 @@ use Rattle.undo_rules.proofs.StepLaws.{all_push, settled_is}
 
 -- where no call is stale, none of their changes touches
 unstale : (entries : List Entry) (touched : Touched) (calls : List Logged) → stale_by entries touched calls ≡ None →
-    AllByRecursion (λ ws. touches ws touched ≡ false) (filter_map (writes_of entries) (changed_among calls))
+    AllByRecursion (λ ws. meets_touched ws touched ≡ false) (filter_map (writes_of entries) (changed_among calls))
 unstale entries touched [] h = tt
 unstale entries touched (call ∷ calls) h = by (changed_in call) h (unstale entries touched calls) where
   by : (changed : Option TxnId) → stale_first entries touched changed (stale_by entries touched calls) ≡ None
-      → (stale_by entries touched calls ≡ None → AllByRecursion (λ ws. touches ws touched ≡ false)
+      → (stale_by entries touched calls ≡ None → AllByRecursion (λ ws. meets_touched ws touched ≡ false)
       (filter_map (writes_of entries) (changed_among calls)))
-      → AllByRecursion (λ ws. touches ws touched ≡ false) (filter_map (writes_of entries) (cons_option changed (changed_among calls)))
+      → AllByRecursion (λ ws. meets_touched ws touched ≡ false) (filter_map (writes_of entries) (cons_option changed (changed_among calls)))
   by None h rest = rest h
   by (Some txn) h rest = written (writes_of entries txn) h rest where
     written : (ws : Option Records) → cond (touching ws touched) (Some txn) (stale_by entries touched calls) ≡ None
-        → (stale_by entries touched calls ≡ None → AllByRecursion (λ w. touches w touched ≡ false)
+        → (stale_by entries touched calls ≡ None → AllByRecursion (λ w. meets_touched w touched ≡ false)
         (filter_map (writes_of entries) (changed_among calls)))
-        → AllByRecursion (λ w. touches w touched ≡ false) (cons_option ws (filter_map (writes_of entries) (changed_among calls)))
+        → AllByRecursion (λ w. meets_touched w touched ≡ false) (cons_option ws (filter_map (writes_of entries) (changed_among calls)))
     written None h rest = rest h
-    written (Some w) h rest = met (touches w touched) refl h where
-      met : (b : Bool) → touches w touched ≡ b → cond b (Some txn) (stale_by entries touched calls) ≡ None
-          → (touches w touched ≡ false)
-          × AllByRecursion (λ v. touches v touched ≡ false) (filter_map (writes_of entries) (changed_among calls))
+    written (Some w) h rest = met (meets_touched w touched) refl h where
+      met : (b : Bool) → meets_touched w touched ≡ b → cond b (Some txn) (stale_by entries touched calls) ≡ None
+          → (meets_touched w touched ≡ false)
+          × AllByRecursion (λ v. meets_touched v touched ≡ false) (filter_map (writes_of entries) (changed_among calls))
       met true is h = absurd cc
       met false is h = (is, rest h)
 

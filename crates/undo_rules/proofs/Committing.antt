@@ -19,9 +19,9 @@ use Rattle.txn_rules.specs.Covers.{LeavesAlone}
 use Rattle.txn_rules.proofs.Runs.{local}
 use Rattle.txn_rules.proofs.Steps.{applied_leads}
 use Rattle.undo_rules.specs.declared.log.Logged.{Logged}
-use Rattle.undo_rules.specs.Histories.{AreKept, AreRooted, Chain, IsRooted, IsSince, Ran, commands_at, if_run, replay_from, run_on}
+use Rattle.undo_rules.specs.Histories.{AreKept, AreRooted, Chain, IsRooted, IsSince, RunsBetween, commands_at, if_run, replay_from, run_on}
 use Rattle.undo_rules.specs.Laws.{ACommitAppends}
-use Rattle.undo_rules.specs.Links.{AreNamed, Entry, Trace, linked, links_to, live_of, touches, trace_of, txn_eq}
+use Rattle.undo_rules.specs.Links.{AreNamed, Entry, Trace, linked, links_to, live_of, meets_touched, trace_of, txn_eq}
 use Rattle.undo_rules.proofs.Grounds.{apart, ran_leads, ran_proper}
 use Rattle.undo_rules.proofs.Undoing.{chain_join, chain_laid, chain_sound}
 
@@ -31,7 +31,7 @@ pub chain_replays : (log : List Logged) (first : Layout) (entries : List Entry) 
     replay_from log first entries ≡ Some last
 chain_replays log first [] last chain = ap Some chain
 chain_replays log first (entry ∷ entries) last chain = by entry.live chain (λ l. chain_replays log l entries last) where
-  by : (live : Bool) → MatchBool live ((next : Layout) × Ran log entry first next × Chain log next entries last)
+  by : (live : Bool) → MatchBool live ((next : Layout) × RunsBetween log entry first next × Chain log next entries last)
       (Chain log first entries last)
       → ((l : Layout) → Chain log l entries last → replay_from log l entries ≡ Some last)
       → cond live (run_on entry (commands_at log entry.place) first (λ next. replay_from log next entries)) (replay_from log first entries)
@@ -58,9 +58,10 @@ since_more old now next changes ws since change e all =
 
 -- layouts agree on what none of the changes touches
 agreed_since : (old now : Layout) (touched : Touched) (changes : List Records) → IsSince old changes now →
-    AllByRecursion (λ ws. touches ws touched ≡ false) changes → AgreeOn old now touched
+    AllByRecursion (λ ws. meets_touched ws touched ≡ false) changes → AgreeOn old now touched
 agreed_since old now touched changes since free e has = since e (unmet changes free) where
-  unmet : (xs : List Records) → AllByRecursion (λ ws. touches ws touched ≡ false) xs → AllByRecursion (λ ws. some_meets ws e ≡ false) xs
+  unmet : (xs : List Records) → AllByRecursion (λ ws. meets_touched ws touched ≡ false) xs
+      → AllByRecursion (λ ws. some_meets ws e ≡ false) xs
   unmet [] h = tt
   unmet (x ∷ xs) h = (apart x touched h.0 e has, unmet xs h.1)
 
@@ -96,12 +97,12 @@ named_more (e ∷ entries) entry apart named = (all_more entries named.0, named_
 
 -- a live transaction that runs on the sound layout is entered behind the others
 pub entered_kept : (log : List Logged) (base layout next : Layout) (entries : List Entry) (entry : Entry) → IsSound layout →
-    entry.live ≡ true → Ran log entry layout next → links_to entries entry.footprint ≡ entry.seen →
+    entry.live ≡ true → RunsBetween log entry layout next → links_to entries entry.footprint ≡ entry.seen →
     AllByRecursion (λ (other : Entry). txn_eq other.txn entry.txn ≡ false) entries → AreKept log base layout entries →
     AreKept log base next (entries ++ entry ∷ [])
 entered_kept log base layout next entries entry sound is ran links named kept = record {
   chain = chain_join log entries (entry ∷ []) base layout next kept.chain
-      (subst (λ (live : Bool). MatchBool live ((m : Layout) × Ran log entry layout m × (m ≡ next)) (layout ≡ next)) (sym is)
+      (subst (λ (live : Bool). MatchBool live ((m : Layout) × RunsBetween log entry layout m × (m ≡ next)) (layout ≡ next)) (sym is)
       (next, ran, refl));
   rooted = rooted_more log base [] [] entries entry
       (record {
@@ -141,7 +142,7 @@ commits log base snapshot opened layout entries changes entry commands run sound
     let from_layout : LeavesAlone layout now.layout touched =
     subst (LeavesAlone layout now.layout) same (local entry.txn commands (begun layout) now found.1) in
     let after : AgreeOn run.layout now.layout touched = subst (AgreeOn run.layout now.layout) footprint alike.agree in
-    let ran : Ran log entry layout now.layout = record {
+    let ran : RunsBetween log entry layout now.layout = record {
       commands = commands;
       run = now;
       told = told;

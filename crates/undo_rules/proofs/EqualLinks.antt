@@ -7,7 +7,7 @@ use Rattle.txn_rules.specs.declared.element.Element.{Element}
 use Rattle.txn_rules.specs.Elements.{Touched}
 use Rattle.txn_rules.specs.Meets.{some_meets}
 use Rattle.txn_rules.specs.Records.{Records}
-use Rattle.undo_rules.specs.Links.{AreNamed, Trace, linked, touches, txn_eq}
+use Rattle.undo_rules.specs.Links.{AreNamed, Trace, linked, meets_touched, txn_eq}
 use Rattle.undo_rules.proofs.Laying.{SameMarks}
 
 pub txn_eq-same : (t : TxnId) → txn_eq t t ≡ true
@@ -18,7 +18,7 @@ pub linked-all : (P : TxnId → Type 0) (touched : Touched) (ts : List Trace) (m
     AllByRecursion P (linked touched ts ms)
 linked-all P touched [] ms all = tt
 linked-all P touched (t ∷ ts) [] all = tt
-linked-all P touched (t ∷ ts) (m ∷ ms) all = by (m && touches t.writes touched) (linked-all P touched ts ms all.1) where
+linked-all P touched (t ∷ ts) (m ∷ ms) all = by (m && meets_touched t.writes touched) (linked-all P touched ts ms all.1) where
   by : (b : Bool) → AllByRecursion P (linked touched ts ms) →
       AllByRecursion P (cond b (t.txn ∷ linked touched ts ms) (linked touched ts ms))
   by true rest = (all.0, rest)
@@ -33,7 +33,7 @@ head_not t names (u ∷ us) e all =
     absurd (cc (itself, not_itself))
 
 -- where links are equal, marks are the same of each transaction that wrote what the element tells
-pub equal_links : (touched : Touched) (e : Element) → ((ws : Records) → touches ws touched ≡ false → some_meets ws e ≡ false) →
+pub equal_links : (touched : Touched) (e : Element) → ((ws : Records) → meets_touched ws touched ≡ false → some_meets ws e ≡ false) →
     (ts : List Trace) (ms ns : List Bool) → AreNamed ts → length ms ≡ length ts → length ns ≡ length ts →
     linked touched ts ms ≡ linked touched ts ns → SameMarks e ts ms ns
 equal_links touched e unmet [] ms ns named long lasting same = tt
@@ -42,8 +42,8 @@ equal_links touched e unmet (t ∷ ts) (m ∷ ms) [] named long lasting same = a
 equal_links touched e unmet (t ∷ ts) (m ∷ ms) (n ∷ ns) named long lasting same =
     let shorter : length ms ≡ length ts = omega (arith, long) in
     let briefer : length ns ≡ length ts = omega (arith, lasting) in
-    by (touches t.writes touched) refl (equal_links touched e unmet ts ms ns named.1 shorter briefer) m n same where
-      by : (b : Bool) → touches t.writes touched ≡ b
+    by (meets_touched t.writes touched) refl (equal_links touched e unmet ts ms ns named.1 shorter briefer) m n same where
+      by : (b : Bool) → meets_touched t.writes touched ≡ b
           → (linked touched ts ms ≡ linked touched ts ns → SameMarks e ts ms ns) → (m n : Bool)
           → cond (m && b) (t.txn ∷ linked touched ts ms) (linked touched ts ms)
           ≡ cond (n && b) (t.txn ∷ linked touched ts ns) (linked touched ts ns)
@@ -69,7 +69,7 @@ SameBut ws (t ∷ ts) (m ∷ ms) [] = ⊥
 SameBut ws (t ∷ ts) (m ∷ ms) (n ∷ ns) = ((m ≡ n) ⊎ (t.writes ≡ ws)) × SameBut ws ts ms ns
 
 -- then links are the same of what the records don't touch
-pub links_but : (ws : Records) (touched : Touched) (ts : List Trace) (ms ns : List Bool) → touches ws touched ≡ false →
+pub links_but : (ws : Records) (touched : Touched) (ts : List Trace) (ms ns : List Bool) → meets_touched ws touched ≡ false →
     SameBut ws ts ms ns → linked touched ts ms ≡ linked touched ts ns
 links_but ws touched [] ms ns free same = refl
 links_but ws touched (t ∷ ts) [] ns free same = absurd same
@@ -77,10 +77,10 @@ links_but ws touched (t ∷ ts) (m ∷ ms) [] free same = absurd same
 links_but ws touched (t ∷ ts) (m ∷ ms) (n ∷ ns) free same =
     let rest = links_but ws touched ts ms ns free same.1 in
     elim same.0 [
-      | inl equal ↦ (λ i. cond (equal i && touches t.writes touched) (t.txn ∷ rest i) (rest i))
+      | inl equal ↦ (λ i. cond (equal i && meets_touched t.writes touched) (t.txn ∷ rest i) (rest i))
       | inr its ↦ (
-          let free_of : touches t.writes touched ≡ false = ap (λ w. touches w touched) its ∙ free in
-          by (touches t.writes touched) free_of m n rest
+          let free_of : meets_touched t.writes touched ≡ false = ap (λ w. meets_touched w touched) its ∙ free in
+          by (meets_touched t.writes touched) free_of m n rest
           )
     ] where
       by : (b : Bool) → b ≡ false → (m n : Bool) → linked touched ts ms ≡ linked touched ts ns

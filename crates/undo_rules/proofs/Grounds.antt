@@ -19,8 +19,8 @@ use Rattle.txn_rules.proofs.Runs.{local}
 use Rattle.txn_rules.proofs.Sound.{run_sound}
 use Rattle.txn_rules.proofs.Steps.{lead_between, proper_between}
 use Rattle.undo_rules.specs.declared.log.Logged.{Logged}
-use Rattle.undo_rules.specs.Histories.{Ran}
-use Rattle.undo_rules.specs.Links.{Entry, touches}
+use Rattle.undo_rules.specs.Histories.{RunsBetween}
+use Rattle.undo_rules.specs.Links.{Entry, meets_touched}
 
 -- records that touch nothing of a set meet no element of it
 apart_from : (ws : Records) (es : List Element) (e : Element) → list_any (some_meets ws) es ≡ false →
@@ -36,35 +36,36 @@ apart_from ws (x ∷ es) e free has = by (some_meets ws x) refl (eq_by_cmp eleme
   by false told true is free has rest = ap (some_meets ws) (same_key elements_exact e x is) ∙ told
   by false told false is free has rest = rest free has
 
-pub apart : (ws : Records) (touched : Touched) → touches ws touched ≡ false → AreApart ws touched
+pub apart : (ws : Records) (touched : Touched) → meets_touched ws touched ≡ false → AreApart ws touched
 apart ws touched free e has = apart_from ws (items touched) e free (sym (contains-items touched e) ∙ has)
 
 -- a transaction's records lead from the layout before it to the one after it
-pub ran_leads : (log : List Logged) (entry : Entry) (l m : Layout) → Ran log entry l m → Lead entry.writes l m
+pub ran_leads : (log : List Logged) (entry : Entry) (l m : Layout) → RunsBetween log entry l m → Lead entry.writes l m
 ran_leads log entry l m ran = subst (λ (ws : Records). Lead ws l m) ran.writes (lead_between l m)
 
-pub ran_proper : (log : List Logged) (entry : Entry) (l m : Layout) → Ran log entry l m → AreProper entry.writes
+pub ran_proper : (log : List Logged) (entry : Entry) (l m : Layout) → RunsBetween log entry l m → AreProper entry.writes
 ran_proper log entry l m ran = subst AreProper ran.writes (proper_between l m)
 
 -- and leave alone what it doesn't touch
-ran_alone : (log : List Logged) (entry : Entry) (l m : Layout) → Ran log entry l m → LeavesAlone l m entry.footprint
+ran_alone : (log : List Logged) (entry : Entry) (l m : Layout) → RunsBetween log entry l m → LeavesAlone l m entry.footprint
 ran_alone log entry l m ran =
     let alone : LeavesAlone l ran.run.layout ran.run.footprint = local entry.txn ran.commands (begun l) ran.run ran.runs in
     subst (λ (t : Touched). LeavesAlone l m t) ran.footprint
     (subst (λ (n : Layout). LeavesAlone l n ran.run.footprint) ran.after_is alone)
 
 -- it keeps a layout sound
-pub ran_sound : (log : List Logged) (entry : Entry) (l m : Layout) → Ran log entry l m → IsSound l → IsSound m
+pub ran_sound : (log : List Logged) (entry : Entry) (l m : Layout) → RunsBetween log entry l m → IsSound l → IsSound m
 ran_sound log entry l m ran sound =
     subst IsSound ran.after_is (run_sound entry.txn ran.commands (begun l) ran.run ran.runs sound)
 
 -- on a sound layout that agrees on what it touches, a transaction runs alike, to a layout that agrees too
 record RunsThere (log : List Logged) (entry : Entry) (m n : Layout) : Type 0 where
   after : Layout
-  ran : Ran log entry m after
+  ran : RunsBetween log entry m after
   agree : AgreeOn n after entry.footprint
 
-there : (log : List Logged) (entry : Entry) (l m n : Layout) → IsSound l → IsSound m → AgreeOn l m entry.footprint → Ran log entry l n →
+there : (log : List Logged) (entry : Entry) (l m n : Layout) → IsSound l → IsSound m → AgreeOn l m entry.footprint
+    → RunsBetween log entry l n →
     RunsThere log entry m n
 there log entry l m n l_sound m_sound agree ran =
     let agreed : AgreeOn l m ran.run.footprint = subst (AgreeOn l m) (sym ran.footprint) agree in
@@ -94,13 +95,14 @@ there log entry l m n l_sound m_sound agree ran =
     }
 
 pub ran_again : (log : List Logged) (entry : Entry) (l m n : Layout) → IsSound l → IsSound m → AgreeOn l m entry.footprint →
-    Ran log entry l n → (k : Layout) × Ran log entry m k × AgreeOn n k entry.footprint
+    RunsBetween log entry l n → (k : Layout) × RunsBetween log entry m k × AgreeOn n k entry.footprint
 ran_again log entry l m n l_sound m_sound agree ran =
     let found = there log entry l m n l_sound m_sound agree ran in (found.after, found.ran, found.agree)
 
 -- records that the transaction doesn't touch lead from its one result to the other
-pub ran_past : (log : List Logged) (ws : Records) (entry : Entry) (l m n k : Layout) → AreProper ws → touches ws entry.footprint ≡ false →
-    Lead ws l m → Ran log entry l n → Ran log entry m k → AgreeOn n k entry.footprint → Lead ws n k
+pub ran_past : (log : List Logged) (ws : Records) (entry : Entry) (l m n k : Layout) → AreProper ws
+    → meets_touched ws entry.footprint ≡ false →
+    Lead ws l m → RunsBetween log entry l n → RunsBetween log entry m k → AgreeOn n k entry.footprint → Lead ws n k
 ran_past log ws entry l m n k proper free lead from_l from_m agree =
     past ws l m n k entry.footprint proper lead (apart ws entry.footprint free) (ran_alone log entry l n from_l)
     (ran_alone log entry m k from_m) agree

@@ -7,7 +7,7 @@ use Rattle.lay_items.specs.Layout.{Layout}
 use Rattle.txn_rules.specs.declared.command.Command.{Command}
 use Rattle.undo_rules.specs.declared.log.Logged.{Logged}
 use Rattle.undo_rules.specs.Books.{changed_among, changed_in}
-use Rattle.undo_rules.specs.Histories.{AreKept, AreRooted, Chain, Ran, commands_at, commands_in}
+use Rattle.undo_rules.specs.Histories.{AreKept, AreRooted, Chain, RunsBetween, commands_at, commands_in}
 use Rattle.undo_rules.specs.Links.{Entry, Trace, trace_of}
 
 get-push : {X : Type 0} (xs : List X) (x : X) (i : ℕ) (y : X) → slice_get xs i ≡ Some y → slice_get (xs ++ x ∷ []) i ≡ Some y
@@ -23,7 +23,8 @@ told_longer log call place commands h = by (slice_get log place) refl h where
   by None is h = absurd cc
   by (Some there) is h = ap commands_in (get-push log call place there is) ∙ h
 
-pub ran_longer : (log : List Logged) (call : Logged) (entry : Entry) (l m : Layout) → Ran log entry l m → Ran (log ++ call ∷ []) entry l m
+pub ran_longer : (log : List Logged) (call : Logged) (entry : Entry) (l m : Layout) → RunsBetween log entry l m
+    → RunsBetween (log ++ call ∷ []) entry l m
 ran_longer log call entry l m ran = record {
   commands = ran.commands;
   run = ran.run;
@@ -38,10 +39,10 @@ chain_longer : (log : List Logged) (call : Logged) (entries : List Entry) (first
     Chain (log ++ call ∷ []) first entries last
 chain_longer log call [] first last chain = chain
 chain_longer log call (entry ∷ entries) first last chain = by entry.live chain (λ l. chain_longer log call entries l last) where
-  by : (live : Bool) → MatchBool live ((next : Layout) × Ran log entry first next × Chain log next entries last)
+  by : (live : Bool) → MatchBool live ((next : Layout) × RunsBetween log entry first next × Chain log next entries last)
       (Chain log first entries last)
       → ((l : Layout) → Chain log l entries last → Chain (log ++ call ∷ []) l entries last)
-      → MatchBool live ((next : Layout) × Ran (log ++ call ∷ []) entry first next × Chain (log ++ call ∷ []) next entries last)
+      → MatchBool live ((next : Layout) × RunsBetween (log ++ call ∷ []) entry first next × Chain (log ++ call ∷ []) next entries last)
       (Chain (log ++ call ∷ []) first entries last)
   by true (next, ran, rest) longer = (next, ran_longer log call entry first next ran, longer next rest)
   by false rest longer = longer first rest

@@ -5,22 +5,22 @@ use Rattle.std.specs.List.{AllByRecursion}
 use Rattle.std.proofs.lemmas.Bool.Decides.{Decides-eqb}
 use Rattle.txn_rules.specs.declared.command.TxnId.{TxnId}
 use Rattle.txn_rules.specs.Elements.{Touched}
-use Rattle.undo_rules.specs.Links.{AreNamed, Entry, Trace, first_moved, is_among, linked, touches, trace_of, txn_eq}
+use Rattle.undo_rules.specs.Links.{AreNamed, Entry, Trace, first_moved, is_named_in, linked, meets_touched, trace_of, txn_eq}
 use Rattle.undo_rules.proofs.EqualLinks.{linked-all, txn_eq-same}
 
 -- in both lists or in neither
 abbrev AreIn : List TxnId → List TxnId → List Trace → Type 0
-AreIn one other ts = AllByRecursion (λ (t : Trace). is_among t.txn one ≡ is_among t.txn other) ts
+AreIn one other ts = AllByRecursion (λ (t : Trace). is_named_in t.txn one ≡ is_named_in t.txn other) ts
 
 none_moved : (entries : List Entry) (one other : List TxnId) → first_moved entries one other ≡ None → AreIn one other (map trace_of entries)
 none_moved [] one other h = tt
 none_moved (entry ∷ entries) one other h =
-    by (is_among entry.txn one) refl (is_among entry.txn other) refl h (none_moved entries one other) where
-      by : (a : Bool) → is_among entry.txn one ≡ a → (b : Bool) → is_among entry.txn other ≡ b
+    by (is_named_in entry.txn one) refl (is_named_in entry.txn other) refl h (none_moved entries one other) where
+      by : (a : Bool) → is_named_in entry.txn one ≡ a → (b : Bool) → is_named_in entry.txn other ≡ b
           → cond a (cond b (first_moved entries one other) (Some entry.txn))
           (cond b (Some entry.txn) (first_moved entries one other)) ≡ None
           → (first_moved entries one other ≡ None → AreIn one other (map trace_of entries))
-          → (is_among entry.txn one ≡ is_among entry.txn other) × AreIn one other (map trace_of entries)
+          → (is_named_in entry.txn one ≡ is_named_in entry.txn other) × AreIn one other (map trace_of entries)
       by true is true are h rest = (is ∙ sym are, rest h)
       by true is false are h rest = absurd cc
       by false is true are h rest = absurd cc
@@ -46,9 +46,9 @@ txn_eq-sym s t h = by (txn_eq t s) refl where
       both false b e = absurd cc
 
 -- a name is not among names that differ from it
-pub not_among : (name : TxnId) (names : List TxnId) → AllByRecursion (λ u. txn_eq name u ≡ false) names → is_among name names ≡ false
+pub not_among : (name : TxnId) (names : List TxnId) → AllByRecursion (λ u. txn_eq name u ≡ false) names → is_named_in name names ≡ false
 not_among name [] all = refl
-not_among name (u ∷ us) all = ap (λ b. b || is_among name us) all.0 ∙ not_among name us all.1
+not_among name (u ∷ us) all = ap (λ b. b || is_named_in name us) all.0 ∙ not_among name us all.1
 
 -- with a further name in front, the others are among the rest as before
 behind : (t : Trace) (ts : List Trace) (one other : List TxnId) → AllByRecursion (λ (u : Trace). txn_eq t.txn u.txn ≡ false) ts →
@@ -56,7 +56,7 @@ behind : (t : Trace) (ts : List Trace) (one other : List TxnId) → AllByRecursi
 behind t [] one other apart are = tt
 behind t (u ∷ ts) one other apart are =
     let no_name = txn_eq-sym t.txn u.txn apart.0 in (
-      sym (ap (λ b. b || is_among u.txn one) no_name) ∙ are.0 ∙ ap (λ b. b || is_among u.txn other) no_name,
+      sym (ap (λ b. b || is_named_in u.txn one) no_name) ∙ are.0 ∙ ap (λ b. b || is_named_in u.txn other) no_name,
       behind t ts one other apart.1 are.1,
     )
 
@@ -69,14 +69,14 @@ equal_where_in touched (t ∷ ts) (m ∷ ms) [] named long lasting are = absurd 
 equal_where_in touched (t ∷ ts) (m ∷ ms) (n ∷ ns) named long lasting are =
     let shorter : length ms ≡ length ts = omega (arith, long) in
     let briefer : length ns ≡ length ts = omega (arith, lasting) in
-    by (m && touches t.writes touched) (n && touches t.writes touched) are
+    by (m && meets_touched t.writes touched) (n && meets_touched t.writes touched) are
     (equal_where_in touched ts ms ns named.1 shorter briefer)
   where
-    apart_in : (marks : List Bool) → is_among t.txn (linked touched ts marks) ≡ false
+    apart_in : (marks : List Bool) → is_named_in t.txn (linked touched ts marks) ≡ false
     apart_in marks = not_among t.txn (linked touched ts marks) (linked-all (λ u. txn_eq t.txn u ≡ false) touched ts marks named.0)
 
-    here : (names : List TxnId) → is_among t.txn (t.txn ∷ names) ≡ true
-    here names = ap (λ b. b || is_among t.txn names) (txn_eq-same t.txn)
+    here : (names : List TxnId) → is_named_in t.txn (t.txn ∷ names) ≡ true
+    here names = ap (λ b. b || is_named_in t.txn names) (txn_eq-same t.txn)
 
     by : (p q : Bool) → AreIn (cond p (t.txn ∷ linked touched ts ms) (linked touched ts ms))
         (cond q (t.txn ∷ linked touched ts ns) (linked touched ts ns)) (t ∷ ts)
@@ -86,12 +86,12 @@ equal_where_in touched (t ∷ ts) (m ∷ ms) (n ∷ ns) named long lasting are =
     by true false are rest =
         let yes = here (linked touched ts ms) in
         let no_name = apart_in ns in
-        let same : is_among t.txn (t.txn ∷ linked touched ts ms) ≡ is_among t.txn (linked touched ts ns) = are.0 in
+        let same : is_named_in t.txn (t.txn ∷ linked touched ts ms) ≡ is_named_in t.txn (linked touched ts ns) = are.0 in
         absurd (cc (yes, no_name, same))
     by false true are rest =
         let yes = here (linked touched ts ns) in
         let no_name = apart_in ms in
-        let same : is_among t.txn (linked touched ts ms) ≡ is_among t.txn (t.txn ∷ linked touched ts ns) = are.0 in
+        let same : is_named_in t.txn (linked touched ts ms) ≡ is_named_in t.txn (t.txn ∷ linked touched ts ns) = are.0 in
         absurd (cc (yes, no_name, same))
     by false false are rest = rest are.1
 

@@ -5,13 +5,14 @@ use Rattle.std.proofs.lemmas.List.{length-append}
 use Rattle.lay_items.specs.Layout.{Layout}
 use Rattle.txn_rules.specs.Records.{Records}
 use Rattle.undo_rules.specs.declared.log.Logged.{Logged}
-use Rattle.undo_rules.specs.Histories.{AreRooted, IsRooted, Ran}
+use Rattle.undo_rules.specs.Histories.{AreRooted, IsRooted, RunsBetween}
 use Rattle.undo_rules.specs.Links.{Entry, Trace, linked, live_of, marked, trace_of}
 use Rattle.undo_rules.proofs.Chains.{AreUnread}
 use Rattle.undo_rules.proofs.EqualLinks.{SameBut, links_but}
 
 -- a transaction runs as it did, whatever its mark
-pub ran_marked : (log : List Logged) (entry : Entry) (live : Bool) (l m : Layout) → Ran log entry l m → Ran log (marked live entry) l m
+pub ran_marked : (log : List Logged) (entry : Entry) (live : Bool) (l m : Layout) → RunsBetween log entry l m
+    → RunsBetween log (marked live entry) l m
 ran_marked log entry live l m ran = record {
   commands = ran.commands;
   run = ran.run;

@@ -25,7 +25,7 @@ use Rattle.undo_rules.specs.Books.{writes_of}
 use Rattle.undo_rules.specs.Histories.{AreKept, IsSince}
 use Rattle.undo_rules.specs.Links.{Entry, first_moved, first_reader, links_to}
 use Rattle.undo_rules.specs.Steps.{Found, after_redo, after_undo, depends, found, logged}
-use Rattle.undo_rules.specs.Steps.{moved, or_else, redo_refusal, redo_refusal_at, remarked}
+use Rattle.undo_rules.specs.Steps.{moved_refusal, or_else, redo_refusal, redo_refusal_at, remarked}
 use Rattle.undo_rules.specs.Steps.{settled, undo_refusal, undo_refusal_at, with_mark}
 use Rattle.undo_rules.proofs.Chains.{no_reader}
 use Rattle.undo_rules.proofs.Committing.{chain_replays, since_more}
@@ -114,7 +114,7 @@ no_depends : (reader : Option TxnId) → depends reader ≡ None → reader ≡ 
 no_depends None h = refl
 no_depends (Some txn) h = absurd cc
 
-no_moved : (other : Option TxnId) → moved other ≡ None → other ≡ None
+no_moved : (other : Option TxnId) → moved_refusal other ≡ None → other ≡ None
 no_moved None h = refl
 no_moved (Some txn) h = absurd cc
 
@@ -173,11 +173,11 @@ redo_keeps h is session txn = by (found h txn) refl where
   by (Some at) there none = live_or at.entry.live refl none where
     live_or : (live : Bool) → at.entry.live ≡ live
         → cond live (Some StillLive) (or_else (depends (first_reader at.entry.writes at.later))
-        (moved (first_moved at.before (links_to at.before at.entry.footprint) at.entry.seen))) ≡ None
+        (moved_refusal (first_moved at.before (links_to at.before at.entry.footprint) at.entry.seen))) ≡ None
         → IsHistory (after_redo h session txn)
     live_or true live none = absurd cc
     live_or false live none =
         let parts = neither_of (depends (first_reader at.entry.writes at.later))
-        (moved (first_moved at.before (links_to at.before at.entry.footprint) at.entry.seen)) none in
+        (moved_refusal (first_moved at.before (links_to at.before at.entry.footprint) at.entry.seen)) none in
         redo_at h is session txn at (found_is [] h.entries txn at there) live (no_depends (first_reader at.entry.writes at.later) parts.0)
         (no_moved (first_moved at.before (links_to at.before at.entry.footprint) at.entry.seen) parts.1)

@@ -10,7 +10,7 @@ use Rattle.txn_rules.specs.Records.{Lead, applied, reverted}
 use Rattle.txn_rules.proofs.Agreements.{agree-equal}
 use Rattle.txn_rules.proofs.Steps.{applied_leads, reverted_leads}
 use Rattle.undo_rules.specs.declared.log.Logged.{Logged}
-use Rattle.undo_rules.specs.Histories.{AreKept, Chain, IsRooted, Laid, Ran}
+use Rattle.undo_rules.specs.Histories.{AreKept, Chain, IsRooted, Laid, RunsBetween}
 use Rattle.undo_rules.specs.Links.{AreNamed, Entry, Trace, links_to, live_of, marked, trace_of, txn_eq}
 use Rattle.undo_rules.proofs.Chains.{AreUnread, with_them, without_them}
 use Rattle.undo_rules.proofs.EqualLinks.{equal_links}
@@ -25,7 +25,7 @@ pub chain_laid : (log : List Logged) (entries : List Entry) (first last : Layout
     Laid (map trace_of entries) (map live_of entries) first last
 chain_laid log [] first last chain = chain
 chain_laid log (entry ∷ entries) first last chain = by entry.live chain (λ l. chain_laid log entries l last) where
-  by : (live : Bool) → MatchBool live ((next : Layout) × Ran log entry first next × Chain log next entries last)
+  by : (live : Bool) → MatchBool live ((next : Layout) × RunsBetween log entry first next × Chain log next entries last)
       (Chain log first entries last)
       → ((l : Layout) → Chain log l entries last → Laid (map trace_of entries) (map live_of entries) l last)
       → MatchBool live ((next : Layout) × Lead entry.writes first next × Laid (map trace_of entries) (map live_of entries) next last)
@@ -39,7 +39,7 @@ pub chain_sound : (log : List Logged) (entries : List Entry) (first last : Layou
 chain_sound log [] first last chain sound = subst IsSound chain sound
 chain_sound log (entry ∷ entries) first last chain sound = by entry.live chain (λ l. chain_sound log entries l last) where
   by : (live : Bool)
-      → MatchBool live ((next : Layout) × Ran log entry first next × Chain log next entries last) (Chain log first entries last)
+      → MatchBool live ((next : Layout) × RunsBetween log entry first next × Chain log next entries last) (Chain log first entries last)
       → ((l : Layout) → Chain log l entries last → IsSound l → IsSound last) → IsSound last
   by true (next, ran, rest) more = more next rest (ran_sound log entry first next ran sound)
   by false rest more = more first rest sound
@@ -49,11 +49,11 @@ chain_cut : (log : List Logged) (before later : List Entry) (first last : Layout
     (mid : Layout) × Chain log first before mid × Chain log mid later last
 chain_cut log [] later first last chain = (first, refl, chain)
 chain_cut log (entry ∷ before) later first last chain = by entry.live chain (λ l. chain_cut log before later l last) where
-  by : (live : Bool) → MatchBool live ((next : Layout) × Ran log entry first next × Chain log next (before ++ later) last)
+  by : (live : Bool) → MatchBool live ((next : Layout) × RunsBetween log entry first next × Chain log next (before ++ later) last)
       (Chain log first (before ++ later) last)
       → ((l : Layout) → Chain log l (before ++ later) last → (mid : Layout) × Chain log l before mid × Chain log mid later last)
       → (mid : Layout)
-      × MatchBool live ((next : Layout) × Ran log entry first next × Chain log next before mid) (Chain log first before mid)
+      × MatchBool live ((next : Layout) × RunsBetween log entry first next × Chain log next before mid) (Chain log first before mid)
       × Chain log mid later last
   by true (next, ran, rest) cut = let (mid, front, back) = cut next rest in (mid, (next, ran, front), back)
   by false rest cut = cut first rest
@@ -63,10 +63,10 @@ pub chain_join : (log : List Logged) (before later : List Entry) (first mid last
 chain_join log [] later first mid last front back = subst (λ (l : Layout). Chain log l later last) (sym front) back
 chain_join log (entry ∷ before) later first mid last front back =
     by entry.live front (λ l rest. chain_join log before later l mid last rest back) where
-      by : (live : Bool) → MatchBool live ((next : Layout) × Ran log entry first next × Chain log next before mid)
+      by : (live : Bool) → MatchBool live ((next : Layout) × RunsBetween log entry first next × Chain log next before mid)
           (Chain log first before mid)
           → ((l : Layout) → Chain log l before mid → Chain log l (before ++ later) last)
-          → MatchBool live ((next : Layout) × Ran log entry first next × Chain log next (before ++ later) last)
+          → MatchBool live ((next : Layout) × RunsBetween log entry first next × Chain log next (before ++ later) last)
           (Chain log first (before ++ later) last)
       by true (next, ran, rest) join = (next, ran, join next rest)
       by false rest join = join first rest
@@ -102,7 +102,7 @@ undone_kept log base layout before entry later sound is unread kept =
     let (first, front, back) = chain_cut log before (entry ∷ later) base layout kept.chain in
     by entry.live is first back front where
       by : (live : Bool) → live ≡ true → (first : Layout)
-          → MatchBool live ((next : Layout) × Ran log entry first next × Chain log next later layout) (Chain log first later layout)
+          → MatchBool live ((next : Layout) × RunsBetween log entry first next × Chain log next later layout) (Chain log first later layout)
           → Chain log base before first
           → (end : Layout) × AreKept log base end (before ++ marked false entry ∷ later)
           × (reverted layout entry.writes ≡ end) × (applied end entry.writes ≡ layout) × Lead entry.writes end layout
@@ -136,7 +136,7 @@ redone_kept log base layout before entry later sound is unread links kept =
     let (root, _) = root_of log base [] [] before entry later kept.rooted in
     by entry.live is first back front root where
       by : (live : Bool) → live ≡ false → (first : Layout)
-          → MatchBool live ((next : Layout) × Ran log entry first next × Chain log next later layout) (Chain log first later layout)
+          → MatchBool live ((next : Layout) × RunsBetween log entry first next × Chain log next later layout) (Chain log first later layout)
           → Chain log base before first → IsRooted log base (map trace_of before) entry
           → (end : Layout) × AreKept log base end (before ++ marked true entry ∷ later) × (applied layout entry.writes ≡ end)
           × Lead entry.writes layout end

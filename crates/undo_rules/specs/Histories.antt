@@ -49,7 +49,7 @@ replay_from log layout (entry ∷ entries) =
     else replay_from log layout entries
 
 -- run on the layout before it, the transaction gives the layout after it, with its records and its footprint
-pub record Ran (log : List Logged) (entry : Entry) (before after : Layout) : Type 0 where
+pub record RunsBetween (log : List Logged) (entry : Entry) (before after : Layout) : Type 0 where
   pub commands : List Command
   pub run : Run
   pub told : commands_at log entry.place ≡ Some commands
@@ -62,7 +62,7 @@ pub record Ran (log : List Logged) (entry : Entry) (before after : Layout) : Typ
 abbrev pub Chain : List Logged → Layout → List Entry → Layout → Type 0
 Chain log first [] last = first ≡ last
 Chain log first (entry ∷ entries) last =
-    MatchBool entry.live ((next : Layout) × Ran log entry first next × Chain log next entries last) (Chain log first entries last)
+    MatchBool entry.live ((next : Layout) × RunsBetween log entry first next × Chain log next entries last) (Chain log first entries last)
 
 -- records of the marked transactions lead from the first layout to the last
 abbrev pub Laid : List Trace → List Bool → Layout → Layout → Type 0
@@ -80,7 +80,7 @@ pub record IsRooted (log : List Logged) (base : Layout) (earlier : List Trace) (
   pub after : Layout
   pub sound : IsSound before
   pub laid : Laid earlier marks base before
-  pub ran : Ran log entry before after
+  pub ran : RunsBetween log entry before after
   pub seen : linked entry.footprint earlier marks ≡ entry.seen
 
 -- each of these transactions is so rooted, and a live one is linked to what it has seen; before them these were committed

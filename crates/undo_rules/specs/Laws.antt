@@ -16,7 +16,7 @@ use Rattle.undo_rules.specs.Books.{History, IsHistory, Pending}
 use Rattle.undo_rules.specs.Steps.{after_commit, after_open, after_redo, after_undo, logged, redo_refusal, stale_by, state_of, undo_refusal}
 use Rattle.txn_rules.specs.Transactions.{IsTransaction, Transaction}
 use Rattle.undo_rules.specs.Histories.{AreKept, IsSince, commands_at, replay_from}
-use Rattle.undo_rules.specs.Links.{Entry, first_moved, first_reader, links_to, marked, touches, txn_eq}
+use Rattle.undo_rules.specs.Links.{Entry, first_moved, first_reader, links_to, marked, meets_touched, txn_eq}
 
 -- the layout is that of running the live transactions' commands from the base
 abbrev pub TheLayoutIsTheReplay : Type 0
@@ -66,7 +66,7 @@ ACommitAppends = (log : List Logged) (base snapshot opened layout : Layout) (ent
     → records_between snapshot run.layout ≡ entry.writes
     -- it is of this history, and nothing that it touched was changed
     → AgreeOn opened snapshot entry.footprint → IsSince opened changes layout
-    → AllByRecursion (λ ws. touches ws entry.footprint ≡ false) changes
+    → AllByRecursion (λ ws. meets_touched ws entry.footprint ≡ false) changes
     -- it is entered
     → commands_at log entry.place ≡ Some commands → entry.live ≡ true → links_to entries entry.footprint ≡ entry.seen
     → AllByRecursion (λ other. txn_eq other.txn entry.txn ≡ false) entries

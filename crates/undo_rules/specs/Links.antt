@@ -3,7 +3,7 @@ use Rattle.std.specs.Prelude.{◌≡◌, ℕ, ◌==◌, List, [], ◌∷◌, map
 use Rattle.std.specs.List.{AllByRecursion, list_any}
 use Rattle.txn_rules.specs.declared.command.TxnId.{TxnId}
 use Rattle.txn_rules.specs.Elements.{Touched}
-pub use Rattle.txn_rules.specs.Meets.{touches}
+pub use Rattle.txn_rules.specs.Meets.{meets_touched}
 use Rattle.txn_rules.specs.Records.{Records}
 
 -- what is kept of a committed transaction: its name, the place of its commit in the log, what it wrote and touched, what it
@@ -33,7 +33,7 @@ abbrev pub linked : Touched → List Trace → List Bool → List TxnId
 linked touched [] marks = []
 linked touched (t ∷ ts) [] = []
 linked touched (t ∷ ts) (mark ∷ marks) =
-    if mark && touches t.writes touched then t.txn ∷ linked touched ts marks else linked touched ts marks
+    if mark && meets_touched t.writes touched then t.txn ∷ linked touched ts marks else linked touched ts marks
 
 abbrev pub live_of : Entry → Bool
 live_of entry = entry.live
@@ -48,22 +48,22 @@ AreNamed [] = Unit {0}
 AreNamed (t ∷ ts) = AllByRecursion (λ u. txn_eq t.txn u.txn ≡ false) ts × AreNamed ts
 
 -- the name is among these
-abbrev pub is_among : TxnId → List TxnId → Bool
-is_among txn names = list_any (txn_eq txn) names
+abbrev pub is_named_in : TxnId → List TxnId → Bool
+is_named_in txn names = list_any (txn_eq txn) names
 
 -- the first of these transactions that is in one of the two lists and not in the other
 abbrev pub first_moved : List Entry → List TxnId → List TxnId → Option TxnId
 first_moved [] one other = None
 first_moved (entry ∷ entries) one other =
-    if is_among entry.txn one
-    then (if is_among entry.txn other then first_moved entries one other else Some entry.txn)
-    else (if is_among entry.txn other then Some entry.txn else first_moved entries one other)
+    if is_named_in entry.txn one
+    then (if is_named_in entry.txn other then first_moved entries one other else Some entry.txn)
+    else (if is_named_in entry.txn other then Some entry.txn else first_moved entries one other)
 
 -- the first live one of these that touched what was written
 abbrev pub first_reader : Records → List Entry → Option TxnId
 first_reader writes [] = None
 first_reader writes (entry ∷ entries) =
-    if entry.live && touches writes entry.footprint then Some entry.txn else first_reader writes entries
+    if entry.live && meets_touched writes entry.footprint then Some entry.txn else first_reader writes entries
 
 -- the transaction with this mark
 abbrev pub marked : Bool → Entry → Entry

@@ -16,7 +16,7 @@ use Rattle.undo_rules.specs.declared.log.Call.TheVariants.{Commit, Open, Redo, U
 use Rattle.undo_rules.specs.declared.log.Logged.{Logged}
 use Rattle.undo_rules.specs.Books.{History, Pending, SessionState, changed_in, writes_of}
 use Rattle.undo_rules.specs.Histories.{replay_from}
-use Rattle.undo_rules.specs.Links.{Entry, first_moved, first_reader, links_to, marked, touches, txn_eq}
+use Rattle.undo_rules.specs.Links.{Entry, first_moved, first_reader, links_to, marked, meets_touched, txn_eq}
 use Rattle.txn_rules.specs.Transactions.{Transaction}
 
 -- the log has as many calls as it may have
@@ -97,9 +97,9 @@ depends None = None
 depends (Some txn) = Some (Depends txn)
 
 -- an earlier one is linked now and wasn't seen, or the other way round
-abbrev pub moved : Option TxnId → Option BookFault
-moved None = None
-moved (Some txn) = Some (Moved txn)
+abbrev pub moved_refusal : Option TxnId → Option BookFault
+moved_refusal None = None
+moved_refusal (Some txn) = Some (Moved txn)
 
 -- the second refusal where there is not the first
 abbrev pub or_else : Option BookFault → Option BookFault → Option BookFault
@@ -115,7 +115,7 @@ redo_refusal_at None = Some NoTxn
 redo_refusal_at (Some at) =
     if at.entry.live then Some StillLive
     else or_else (depends (first_reader at.entry.writes at.later))
-    (moved (first_moved at.before (links_to at.before at.entry.footprint) at.entry.seen))
+    (moved_refusal (first_moved at.before (links_to at.before at.entry.footprint) at.entry.seen))
 
 abbrev pub undo_refusal : History → TxnId → Option BookFault
 undo_refusal h txn = undo_refusal_at (found h txn)
@@ -157,7 +157,7 @@ redo_step h session txn =
 -- the first transaction that one of these calls changed, and that wrote what is touched
 abbrev pub touching : Option Records → Touched → Bool
 touching None touched = false
-touching (Some writes) touched = touches writes touched
+touching (Some writes) touched = meets_touched writes touched
 
 -- the transaction that was changed, where it wrote what is touched, else what is behind it
 abbrev pub stale_first : List Entry → Touched → Option TxnId → Option TxnId → Option TxnId

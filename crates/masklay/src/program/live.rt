@@ -2,8 +2,8 @@
 ghost use Rattle.std.specs.Prelude.{◌≡◌, ◌+◌, ◌≤◌};
 ghost use Rattle.live_run.specs.Ending.{IsLiveRun};
 ghost use Rattle.live_run.specs.declared.run.TheConstants.{MAX_READS};
-ghost use Rattle.masklay.specs.Live.{IsClosed, IsLive};
-ghost use Rattle.masklay.specs.Telling.{Tells};
+ghost use Rattle.masklay.specs.Live.{IsLive, WritesLiveEnd};
+ghost use Rattle.masklay.specs.Telling.{MayReport};
 
 use crate::program::options::MAX_WORKERS;
 use crate::program::outcome::Stop;
@@ -29,7 +29,7 @@ pub fn live<I: In, O: Out, E: Out>(
     errors: &mut E,
 ) -> Status
     ensures run { IsLive I.remaining I.counts O.written O.failures input.old input.new out.old out.new result }
-    ensures told { Tells E.written E.failures errors.old errors.new result }
+    ensures told { MayReport E.written E.failures errors.old errors.new result }
 {
     let end = answer_lines(rt, alloc, workers, input, out);
     let status = close(alloc, &end, out);
@@ -57,7 +57,7 @@ fn answer_lines<I: In, O: Out>(
 
 /// Writes what comes behind the answers of a run that ended so.
 fn close<O: Out>(alloc: Global, end: &LiveEnd, out: &mut O) -> Status
-    ensures { IsClosed O.written O.failures out.old out.new end.now result }
+    ensures { WritesLiveEnd O.written O.failures out.old out.new end.now result }
 {
     match end {
         LiveEnd::Done => Status::Done,
@@ -70,7 +70,7 @@ fn close<O: Out>(alloc: Global, end: &LiveEnd, out: &mut O) -> Status
 
 /// Tells of a fault of the text, where the program ends with the status of one.
 fn tell_of_end<E: Out>(alloc: Global, end: &LiveEnd, status: Status, errors: &mut E)
-    ensures { Tells E.written E.failures errors.old errors.new status }
+    ensures { MayReport E.written E.failures errors.old errors.new status }
 {
     match end {
         LiveEnd::Job { line, text } => {

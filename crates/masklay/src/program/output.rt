@@ -3,7 +3,7 @@ ghost use Rattle.std.specs.Prelude.{◌≡◌, ◌++◌, IfOk, None, Some};
 ghost use Rattle.cif_write.specs.Text.{text};
 ghost use Rattle.job_text.specs.Order.{order_text};
 ghost use Rattle.job_text.specs.Replies.{replies_text};
-ghost use Rattle.masklay.specs.Output.{Writes, WritesOrMemory, cif_fault_text, desk_fault_text, written_output};
+ghost use Rattle.masklay.specs.Output.{WritesOrMemory, WritesOutput, cif_fault_text, desk_fault_text, written_output};
 ghost use Rattle.masklay.specs.Output.{job_fault_text, stop_output};
 ghost use Rattle.masklay.specs.declared.program.status.Status.TheVariants.{Done};
 
@@ -78,7 +78,7 @@ fn text_of(alloc: Global, layout: &Prepared<'_>) -> Result<MemoryOut, NoMemory>
 
 /// Writes the replies, the order and then this layout.
 fn put_finished<O: Out>(finished: &Finished, layout: &Prepared<'_>, out: &mut O) -> Status
-    ensures { Writes O.written O.failures out.old out.new
+    ensures { WritesOutput O.written O.failures out.old out.new
         (record {
           text = (replies_text finished.now.replies ++ order_text finished.now.order) ++ text layout.now;
           status = Done;

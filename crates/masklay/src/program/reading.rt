@@ -2,7 +2,7 @@
 ghost use Rattle.std.specs.Prelude.{◌≡◌, ◌++◌, ◌+◌, ◌≤◌, ℕ, List, IfOk, OnOk, Some, length};
 ghost use Rattle.live_run.specs.declared.run.TheConstants.{MAX_READS};
 ghost use Rattle.masklay.specs.declared.program.reading.ReadFault.TheVariants.{Device as Stopped, NoMemory as OutOfMemory};
-ghost use Rattle.masklay.specs.Reading.{HowRead, kept_of};
+ghost use Rattle.masklay.specs.Reading.{HowRead, input_kept};
 
 use byte_io::{In, InFault};
 use job_text::MAX_JOB;
@@ -41,7 +41,7 @@ impl From<NoMemory> for ReadFault {
 /// Reads the input to its end, and keeps one byte more of it than a job may have.
 pub(super) fn read_all<I: In>(alloc: Global, input: &mut I) -> Result<Vec<u8>, ReadFault>
     ensures kept { IfOk result (λ kept. (bytes : List ℕ) → I.remaining input.old ≡ Some bytes
-        → kept.items ≡ kept_of bytes) }
+        → kept.items ≡ input_kept bytes) }
     ensures how { HowRead (I.counts input.old) (I.counts input.new) result }
     ensures reads { (I.counts input.new).reads ≤ (I.counts input.old).reads + MAX_READS }
 {
@@ -58,10 +58,10 @@ pub(super) fn read_all<I: In>(alloc: Global, input: &mut I) -> Result<Vec<u8>, R
 }
 
 /// Appends the piece, as far as one byte more is kept than a job may have.
-#[tactic(auto, unfolding(crate::specs::Reading::kept_of))]
+#[tactic(auto, unfolding(crate::specs::Reading::input_kept))]
 fn keep(kept: &mut Vec<u8>, piece: &[u8]) -> Result<(), NoMemory>
     requires { length kept.old.items ≤ MAX_JOB + 1 }
-    ensures kept { OnOk result (kept.new.items ≡ kept_of (kept.old.items ++ piece.now)) }
+    ensures kept { OnOk result (kept.new.items ≡ input_kept (kept.old.items ++ piece.now)) }
     ensures few { OnOk result (length kept.new.items ≤ MAX_JOB + 1) }
 {
     let room = MAX_JOB + 1 - kept.len();

@@ -1,6 +1,6 @@
 //! What a person is told on standard error.
 ghost use Rattle.std.specs.Prelude.{◌≡◌};
-ghost use Rattle.masklay.specs.Telling.{IsTold, Tells, may_tell};
+ghost use Rattle.masklay.specs.Telling.{IsReported, MayReport, may_tell};
 
 use crate::program::empty_top::advice_on_top;
 use crate::program::named::put_left_out;
@@ -21,7 +21,7 @@ pub(super) fn tell_of_stop<E: Out>(
     status: Status,
     errors: &mut E,
 )
-    ensures { Tells E.written E.failures errors.old errors.new status }
+    ensures { MayReport E.written E.failures errors.old errors.new status }
 {
     let advice = match stop {
         Stop::JobFault(line) => of_job_fault(alloc, job, line),
@@ -37,7 +37,7 @@ pub(super) fn tell_of_stop<E: Out>(
 /// Tells that the top cell is empty, where all was written and the layout has symbols, how many shapes stay
 /// as they were though all were to be directed, and how many names and labels are left out.
 pub(super) fn tell_of_layout<E: Out>(alloc: Global, given: &Given, status: Status, errors: &mut E)
-    ensures { Tells E.written E.failures errors.old errors.new status }
+    ensures { MayReport E.written E.failures errors.old errors.new status }
 {
     if let Ok(lines) = advice_on_layout(alloc, given) {
         tell(&lines, status, errors);
@@ -54,7 +54,7 @@ fn advice_on_layout(alloc: Global, given: &Given) -> Result<Vec<u8>, NoMemory> {
 
 /// Writes the lines where the program ends with a status of which there may be something to tell.
 fn tell<E: Out>(lines: &[u8], status: Status, errors: &mut E)
-    ensures { Tells E.written E.failures errors.old errors.new status }
+    ensures { MayReport E.written E.failures errors.old errors.new status }
 {
     if may_tell(status) && !lines.is_empty() {
         put_words(lines, errors);
@@ -73,7 +73,7 @@ fn may_tell(status: Status) -> bool
 
 /// Writes the lines, as far as the device takes them.
 fn put_words<E: Out>(lines: &[u8], errors: &mut E)
-    ensures { IsTold E.written E.failures errors.old errors.new lines.now }
+    ensures { IsReported E.written E.failures errors.old errors.new lines.now }
 {
     match put_all(errors, lines) {
         Ok(()) => {}

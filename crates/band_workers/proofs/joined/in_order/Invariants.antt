@@ -1,13 +1,13 @@
 use Rattle.std.proofs.Common.{◌≡◌, false, replicate, length}
-use Rattle.band_workers.specs.Joined.{AreWithin, put_all}
+use Rattle.band_workers.specs.Joined.{AreNumbersBelow, with_labels}
 use Rattle.band_workers.proofs.joined.in_order.Given as goal
 
 -- what is left, put at its numbers, gives what all of it gives
 abbrev pub invariant-loop-number : goal.invariant-loop-number
 invariant-loop-number l = record {
   count : length l.labels.items ≡ l.fn.count;
-  within : AreWithin l.fn.count l.rest;
-  same : put_all l.labels.items l.rest ≡ put_all (replicate l.fn.count false) l.fn.numbered;
+  within : AreNumbersBelow l.fn.count l.rest;
+  same : with_labels l.labels.items l.rest ≡ with_labels (replicate l.fn.count false) l.fn.numbered;
 }
 
 abbrev pub decreases-loop-number : goal.decreases-loop-number

@@ -4,7 +4,7 @@ use Rattle.std.proofs.lemmas.Result.{err_from_is_err_and}
 use Rattle.cif_scan.specs.Bytes.{is_gap, skip}
 use Rattle.cif_commands.specs.Cutting.{Breaks, CommandOf, EndOf, behind_command, command_len, offset_of}
 use Rattle.cif_commands.proofs.CutLemmas.{length-behind_command, length-skip, some_bytes}
-use Rattle.cif_read.specs.Content.{start}
+use Rattle.cif_read.specs.Content.{empty_content}
 use Rattle.cif_read.specs.Kept.{IsKept}
 use Rattle.cif_read.specs.Meaning.{after_bytes, begins_with_end, content_in, no_memory}
 use Rattle.cif_read.proofs.MeaningLemmas.{at_end_keeps, end_parts, fault_wanted, front_breaks}
@@ -15,7 +15,7 @@ use Rattle.cif_read.proofs.reader.content_in.Goals as goal
 
 pub loop-alloc-init : goal.loop-alloc-init
 loop-alloc-init c =
-    let begun : c.new-content.result ≡ start = c.new-content.ensures in
+    let begun : c.new-content.result ≡ empty_content = c.new-content.ensures in
     rw (c.skip-rest.ensures, begun) (record {
       means = start_means c.args.text.now;
       few = omega (arith, length-skip is_gap c.args.text.now);

@@ -1,5 +1,5 @@
 use Rattle.std.proofs.Common.{◌≡◌, ◌+◌, ◌≤◌, length}
-use Rattle.cif_read.specs.Content.{counted}
+use Rattle.cif_read.specs.Content.{content_size}
 use Rattle.cif_read.specs.Kept.{IsKept}
 use Rattle.cif_read.specs.Meaning.{content_in}
 use Rattle.cif_read.proofs.MeaningLemmas.{rest_means}
@@ -8,7 +8,7 @@ use Rattle.cif_read.proofs.reader.content_in.Given as goal
 abbrev pub invariant-loop-alloc : goal.invariant-loop-alloc
 invariant-loop-alloc l = record {
   means : rest_means l.content (length l.text) l.rest ≡ content_in l.text;
-  few : counted l.content + length l.rest ≤ length l.text;
+  few : content_size l.content + length l.rest ≤ length l.text;
   kept : IsKept l.content;
 }
 

@@ -2,13 +2,13 @@ use Rattle.std.proofs.Common.{◌≡◌, ◌≤◌, length}
 use Rattle.std.specs.List.{take_while}
 use Rattle.lay_point.specs.Names.{is_digit}
 use Rattle.cif_scan.specs.Bytes.{skip}
-use Rattle.cif_scan.specs.Grammar.{written}
+use Rattle.cif_scan.specs.Grammar.{capped_magnitude}
 use Rattle.cif_scan.proofs.Digits.{capped_from}
 use Rattle.cif_scan.proofs.number.written.Given as goal
 
 abbrev pub invariant-loop-byte : goal.invariant-loop-byte
 invariant-loop-byte l = record {
-  value : capped_from 2147483648 l.value (take_while is_digit l.rest) ≡ written (take_while is_digit l.bytes);
+  value : capped_from 2147483648 l.value (take_while is_digit l.rest) ≡ capped_magnitude (take_while is_digit l.bytes);
   behind : skip is_digit l.rest ≡ skip is_digit l.bytes;
   small : l.value ≤ 2147483648;
 }

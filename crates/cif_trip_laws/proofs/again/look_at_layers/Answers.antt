@@ -6,26 +6,28 @@ use Rattle.std.specs.Ordering.{eq_by_cmp}
 use Rattle.lay_items.specs.declared.id.ItemId.{ItemId}
 use Rattle.lay_items.specs.declared.item.Item.{Item}
 use Rattle.lay_items.specs.Ids.{id_cmp}
-use Rattle.cif_trip_laws.specs.Laws.{IsNamed}
+use Rattle.cif_trip_laws.specs.Laws.{IsOnNamedLayer}
 use Rattle.cif_trip_laws.proofs.again.look_at_layers.Goals as goal
 
-found_named : (es : List (ItemId × Item)) (id : ItemId) (item : Item) → AllByRecursion (λ e. IsNamed e.1) es → find id_cmp id es ≡ Some item
-    → IsNamed item
+found_named : (es : List (ItemId × Item)) (id : ItemId) (item : Item) → AllByRecursion (λ e. IsOnNamedLayer e.1) es
+    → find id_cmp id es ≡ Some item
+    → IsOnNamedLayer item
 found_named [] id item all at = absurd cc
 found_named (e ∷ es) id item all at = by (eq_by_cmp id_cmp id e.0) at (found_named es id item all.1) where
-  by : (b : Bool) → cond b (Some e.1) (find id_cmp id es) ≡ Some item → (find id_cmp id es ≡ Some item → IsNamed item) → IsNamed item
+  by : (b : Bool) → cond b (Some e.1) (find id_cmp id es) ≡ Some item → (find id_cmp id es ≡ Some item → IsOnNamedLayer item)
+      → IsOnNamedLayer item
   by true at rest =
       let same : e.1 ≡ item = cc in
-      subst IsNamed same all.0
+      subst IsOnNamedLayer same all.0
   by false at rest = rest at
 
 pub returns-clause-named : goal.returns-clause-named
 returns-clause-named c id item at =
     let left : c.loop-item.item-iterator ≡ [] = search rules in
-    let all : AllByRecursion (λ e. IsNamed e.1) c.into_iter-item-iterator.result =
-    c.loop-item.invariant (subst (AllByRecursion (λ e. IsNamed e.1)) (sym left) tt) in
+    let all : AllByRecursion (λ e. IsOnNamedLayer e.1) c.into_iter-item-iterator.result =
+    c.loop-item.invariant (subst (AllByRecursion (λ e. IsOnNamedLayer e.1)) (sym left) tt) in
     let whole : c.into_iter-item-iterator.result ≡ entries c.args.snapshot.now.items = search rules in
-    found_named (entries c.args.snapshot.now.items) id item (subst (AllByRecursion (λ e. IsNamed e.1)) whole all)
+    found_named (entries c.args.snapshot.now.items) id item (subst (AllByRecursion (λ e. IsOnNamedLayer e.1)) whole all)
     (sym (get-entries c.args.snapshot.now.items id) ∙ at)
 
 pub returns-clause-sound : goal.returns-clause-sound

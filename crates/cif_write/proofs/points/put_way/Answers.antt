@@ -2,7 +2,7 @@ use Rattle.std.proofs.Common.{◌≡◌, ◌++◌, get_or, pos, ap, ◌∙◌}
 use Rattle.lay_point.specs.declared.point.Point.{Point}
 use Rattle.byte_io.proofs.BufferedLemmas.{Buffered-then}
 use Rattle.cif_write.specs.Lines.{path_text}
-use Rattle.cif_write.specs.Ways.{last_of, kept_of, kept_by}
+use Rattle.cif_write.specs.Ways.{last_point, kept_of, kept_by}
 use Rattle.cif_write.proofs.BegunLemmas.{Buffered-is}
 use Rattle.cif_write.proofs.WayLemmas.{way_last, way_text}
 use Rattle.cif_write.proofs.points.put_way.Goals as goal
@@ -18,7 +18,7 @@ returns-clause-put g c =
     (ap (λ ps. (path_text (kept_by c.args.held c.args.start) ++ path_text (kept_of c.args.start ps))
     ++ path_text (kept_by c.put_behind-round.result (get_or c.points-points.result.now 0 zero))) points
     ∙ way_text c.args.held c.args.start _ c.put_behind-round.result c.args.ring.now zero ring (ap (λ ps. get_or ps 0 zero) points)
-    (c.put_behind-round.ensures.last ∙ ap (last_of c.args.start) points))
+    (c.put_behind-round.ensures.last ∙ ap (last_point c.args.start) points))
 
 pub returns-clause-last : goal.returns-clause-last
 returns-clause-last g c =

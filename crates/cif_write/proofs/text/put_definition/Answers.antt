@@ -1,7 +1,7 @@
 use Rattle.std.proofs.Common.{None, map}
 use Rattle.byte_io.proofs.BufferedLemmas.{Buffered-then}
 use Rattle.cif_write.specs.Text.{items_lines}
-use Rattle.cif_write.specs.Wrap.{item_of}
+use Rattle.cif_write.specs.Wrap.{entry_item}
 use Rattle.cif_write.proofs.BegunLemmas.{Buffered-is}
 use Rattle.cif_write.proofs.LineLemmas.{definition_text}
 use Rattle.cif_write.proofs.text.put_definition.Goals as goal
@@ -9,4 +9,4 @@ use Rattle.cif_write.proofs.text.put_definition.Goals as goal
 pub returns : goal.returns
 returns g c =
     Buffered-is (Buffered-then (Buffered-then c.put_start.ensures c.put_items.ensures) c.put.ensures)
-    (definition_text c.args.number (items_lines None (map item_of c.args.items)))
+    (definition_text c.args.number (items_lines None (map entry_item c.args.items)))

@@ -2,12 +2,12 @@
 use Rattle.std.proofs.Common.{drop, map}
 use Rattle.cif_write.specs.Lines.{lines_text}
 use Rattle.cif_write.specs.Text.{definitions_lines}
-use Rattle.cif_write.specs.Wrap.{definition_of, own_definitions}
+use Rattle.cif_write.specs.Wrap.{own_definitions, written_definition}
 use Rattle.cif_write.proofs.BegunLemmas.{Begun}
 use Rattle.cif_write.proofs.text.put_definitions.Given as goal
 
 abbrev pub invariant-loop-position : goal.invariant-loop-position
 invariant-loop-position g l =
     Begun g.O.Out.written g.O.Out.failures l.fn.out l.fn.buffer l.out l.buffer
-    (lines_text (definitions_lines (map (definition_of l.snapshot) (drop l.position l.cells))))
+    (lines_text (definitions_lines (map (written_definition l.snapshot) (drop l.position l.cells))))
     (lines_text (definitions_lines (own_definitions l.snapshot)))

@@ -1,6 +1,6 @@
 use Rattle.std.proofs.Common.{◌<◌, sym, subst, ◌∙◌, arith, length}
 use Rattle.std.specs.Prelude.{All}
-use Rattle.face_joins.specs.Joining.{IsPartOf, IsUseful, Joins, reaches_high, reaches_low}
+use Rattle.face_joins.specs.Joining.{IsPartOf, IsUseful, Joins, box_reaches_high, box_reaches_low}
 use Rattle.face_joins.proofs.JoinLemmas.{all_inside, inside_part, joined_by_sides, joins_later, on_ok}
 use Rattle.face_joins.proofs.joining.+join_all.Goals as goal
 
@@ -21,7 +21,7 @@ join_all-requires t c =
         (
           c.join_to_widest.ensures.grows.each ∙ c.requires.each,
           all_inside c.in_ok-low.low.items (length c.args.boxes.now)
-              (inside_part (reaches_low c.in-Some.cut) c.args.boxes.now c.as_slice-3.result.now c.in_ok-low.low.items all
+              (inside_part (box_reaches_low c.in-Some.cut) c.args.boxes.now c.as_slice-3.result.now c.in_ok-low.low.items all
               c.in_ok-low.ensures),
         ),
       ),
@@ -37,7 +37,7 @@ join_all-requires-2 t c =
         (
           c.in_ok-join_all.ensures.grows.each ∙ c.join_to_widest.ensures.grows.each ∙ c.requires.each,
           all_inside c.in_ok-high.high.items (length c.args.boxes.now)
-              (inside_part (reaches_high c.in-Some.cut) c.args.boxes.now c.as_slice-4.result.now c.in_ok-high.high.items all
+              (inside_part (box_reaches_high c.in-Some.cut) c.args.boxes.now c.as_slice-4.result.now c.in_ok-high.high.items all
               c.in_ok-high.ensures),
         ),
       ),
@@ -53,8 +53,8 @@ returns t c =
     let new = c.join_all-2.new.parents in
     let low = c.in_ok-low.low.items in
     let high = c.in_ok-high.high.items in
-    let is_low = subst (λ l. IsPartOf (reaches_low c.in-Some.cut) boxes l low) c.as_slice-3.ensures.value c.in_ok-low.ensures in
-    let is_high = subst (λ l. IsPartOf (reaches_high c.in-Some.cut) boxes l high) c.as_slice-4.ensures.value c.in_ok-high.ensures in
+    let is_low = subst (λ l. IsPartOf (box_reaches_low c.in-Some.cut) boxes l low) c.as_slice-3.ensures.value c.in_ok-low.ensures in
+    let is_high = subst (λ l. IsPartOf (box_reaches_high c.in-Some.cut) boxes l high) c.as_slice-4.ensures.value c.in_ok-high.ensures in
     on_ok c.join_all-2.result (Joins boxes high mid new) (Joins boxes numbers old new)
     (λ h. joins_later boxes numbers old first new c.join_to_widest.ensures.grows
     (joined_by_sides boxes c.in-Some.cut numbers low high first mid new (c.join_to_widest.ensures.grows.each ∙ c.requires.each)

@@ -1,7 +1,7 @@
 use Rattle.std.proofs.Common.{◌≡◌, ◌+◌, ◌++◌, [], ◌∷◌, true, false, take, to_z, of_z, w32, sym, ap, ◌∙◌, rules}
 use Rattle.std.specs.Prelude.{int_lt}
 use Rattle.lay_point.specs.declared.point.Point.{Point}
-use Rattle.face_labels.specs.Ends.{end_of, ends_of}
+use Rattle.face_labels.specs.Ends.{edge_end, ends_beyond}
 use Rattle.face_labels.specs.Rows.{upward}
 use Rattle.face_labels.proofs.EndLemmas.{by_height}
 use Rattle.face_labels.proofs.PickedLemmas.{picked_more, picked_passed}
@@ -17,16 +17,16 @@ loop-number-preserved c =
     let old = c.loop-number.ends.items in
     let less = c.loop-number-test.true in
     let test = λ (f : Point × Point). int_lt row (upward f).1.y in
-    let next : c.if-is_above.ends.items ≡ ends_of row (take (n + 1) edges) = elim c.if-is_above.branch [
+    let next : c.if-is_above.ends.items ≡ ends_beyond row (take (n + 1) edges) = elim c.if-is_above.branch [
       | then-is_above+in_ok-push w ↦
-          let pushed : c.if-is_above.ends.items ≡ old ++ end_of n e ∷ [] = search rules in
+          let pushed : c.if-is_above.ends.items ≡ old ++ edge_end n e ∷ [] = search rules in
           let above : int_lt row (upward e).1.y ≡ true = search rules in
-          pushed ∙ ap (λ es. es ++ end_of n e ∷ []) c.loop-number.invariant
-          ∙ sym (picked_more test end_of edges n e less c.index-edges-number.is above)
+          pushed ∙ ap (λ es. es ++ edge_end n e ∷ []) c.loop-number.invariant
+          ∙ sym (picked_more test edge_end edges n e less c.index-edges-number.is above)
       | else-is_above w ↦
           let not_above : int_lt row (upward e).1.y ≡ false = search rules in
           ap (λ v. v.items) w.ends-is ∙ c.loop-number.invariant
-          ∙ sym (picked_passed test end_of edges n e less c.index-edges-number.is not_above)
+          ∙ sym (picked_passed test edge_end edges n e less c.index-edges-number.is not_above)
     ] in
     next
 

@@ -2,7 +2,7 @@ use Rattle.std.proofs.Common.{◌≡◌, ◌<◌, true, false, [], None, Some, l
 use Rattle.std.specs.Option.{option_copied}
 use Rattle.std.proofs.lemmas.List.{get_or_default, get_or-map, length-map}
 use Rattle.std.proofs.lemmas.Option.{get_or_from_slice_get}
-use Rattle.snap_chains.specs.Rounded.{is_listed}
+use Rattle.snap_chains.specs.Rounded.{is_owner_listed}
 use Rattle.face_labels.specs.Lines.{owners_at}
 use Rattle.face_labels.specs.Sides.{holds_beside, sides_at}
 use Rattle.face_labels.proofs.OwnerLemmas.{listed_at}
@@ -32,7 +32,7 @@ returns-in-None c =
     let o = c.args.owner in
     let given : n < length known = subst (λ k. n < k) (sym c.requires.known.count) c.requires.given in
     let owners : owners_at r n ≡ c.owners.result.now = get_or_from_slice_get r.1 n c.owners.result.now [] c.owners.ensures.value in (
-      ap (is_listed o) owners ∙ listed_at c.owners.result.now c.in-Some.index o c.in-Some.ensures.0 c.in-Some.ensures.1,
+      ap (is_owner_listed o) owners ∙ listed_at c.owners.result.now c.in-Some.index o c.in-Some.ensures.0 c.in-Some.ensures.1,
       sym (c.index-known-number.is ∙ get_or_default known n c.index-known-number.result None given) ∙ sym c.as_ref.ensures.value
           ∙ ap option_copied c.in-None.is,
     )
@@ -51,7 +51,7 @@ returns-in-Some-as_ref c =
     sym (c.index-known-number.is ∙ get_or_default known n c.index-known-number.result None given) ∙ sym c.as_ref.ensures.value
     ∙ ap option_copied c.in-Some-as_ref.is in
     let owners : owners_at r n ≡ c.owners.result.now = get_or_from_slice_get r.1 n c.owners.result.now [] c.owners.ensures.value in (
-      ap (is_listed o) owners ∙ listed_at c.owners.result.now j o found.0 found.1,
+      ap (is_owner_listed o) owners ∙ listed_at c.owners.result.now j o found.0 found.1,
       ap (λ l. get_or l j false) (c.as_slice.ensures ∙ (c.requires.known.sides n sides is).inside ∙ ap (map (holds_beside r n))
           owners)
           ∙ get_or-map (holds_beside r n) c.owners.result.now j o false found.0 ∙ ap (holds_beside r n) found.1,

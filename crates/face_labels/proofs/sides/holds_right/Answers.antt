@@ -2,7 +2,7 @@ use Rattle.std.proofs.Common.{◌≡◌, ⊎_elim, ◌+◌, ◌-◌, ◌<◌, �
 use Rattle.std.specs.Prelude.{nat_lt}
 use Rattle.std.proofs.lemmas.List.{get_or-drop, get_or_default, length-drop}
 use Rattle.lay_point.specs.Parity.{xor}
-use Rattle.snap_chains.specs.Rounded.{is_listed}
+use Rattle.snap_chains.specs.Rounded.{is_owner_listed}
 use Rattle.face_labels.specs.Lines.{edge_at, nowhere}
 use Rattle.face_labels.specs.Reaches.{is_beyond}
 use Rattle.face_labels.specs.Sides.{IsKnown, holds_beside, is_odd_in}

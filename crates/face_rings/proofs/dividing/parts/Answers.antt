@@ -1,6 +1,6 @@
 use Rattle.std.proofs.Common.{length, map, Vec, Global, ap, subst, ◌∙◌}
 use Rattle.lay_point.specs.declared.ring.Ring.{Ring}
-use Rattle.face_part_laws.specs.Parts.{AreJoined, box_of}
+use Rattle.face_part_laws.specs.Parts.{AreJoined, bounding_box}
 use Rattle.face_part_laws.proofs.PartLaws.{odd_by_parts}
 use Rattle.face_part_laws.specs.Heads.{AreDivided, IsFinest, IsNumbered}
 use Rattle.face_part_laws.proofs.PartLemmas.{are_parts}
@@ -15,7 +15,7 @@ returns-clause-parts c =
     let labels = c.in_ok-labels.labels.items in
     let count = c.in_ok-labels.count in (
       labels,
-      are_parts rings boxes heads labels count parts (c.in_ok-boxes.ensures ∙ ap (map box_of) c.deref.ensures.value)
+      are_parts rings boxes heads labels count parts (c.in_ok-boxes.ensures ∙ ap (map bounding_box) c.deref.ensures.value)
           (subst (λ b. IsFinest (AreJoined b) (length b) heads) c.deref-2.ensures.value c.in_ok-heads.ensures)
           (subst (λ h. IsNumbered h (length h) labels count) c.deref-3.ensures.value c.in_ok-labels.ensures)
           (subst (λ l. AreDivided count l rings parts) c.deref-4.ensures.value c.in_ok-divided.ensures),

@@ -2,7 +2,7 @@ use Rattle.std.proofs.Common.{◌≡◌, ◌+◌, ◌<◌, ◌≤◌, ℕ, Bool,
 use Rattle.std.specs.List.{AllByRecursion}
 use Rattle.std.proofs.lemmas.List.{get_or_default}
 use Rattle.lay_point.specs.declared.ring.TheConstants.{MAX_RING_POINTS}
-use Rattle.face_link_laws.specs.Linking.{rings_of}
+use Rattle.face_link_laws.specs.Linking.{linked_rings}
 use Rattle.lay_point.specs.Edges.{undirected}
 use Rattle.lay_point.specs.Parity.{odd}
 use Rattle.lay_point.specs.RingEdges.{edges_of}
@@ -25,8 +25,8 @@ loop-number-init c =
     record {
       sound = c.in_ok-unused.ensures.sound;
       before = λ k lt. absurd (omega arith);
-      whole = λ i. c.new-rings.ensures.items i ++ rings_of (c.in_ok-unused.ensures.all i);
-      rest = subst (λ l. AreSound (rings_of l)) (sym c.in_ok-unused.ensures.all)
+      whole = λ i. c.new-rings.ensures.items i ++ linked_rings (c.in_ok-unused.ensures.all i);
+      rest = subst (λ l. AreSound (linked_rings l)) (sym c.in_ok-unused.ensures.all)
           (all_sound edges lesser c.requires.even c.requires.rising c.requires.in_range);
       short = subst (AllByRecursion (λ ring. length ring ≤ MAX_RING_POINTS)) (sym c.new-rings.ensures.items) tt;
     }
@@ -104,7 +104,7 @@ returns-clause-once c =
     let value = linking_ends edges c.loop-number.unused c.loop-number.number c.loop-number.rings.items c.loop-number.invariant
     c.loop-number-test.false in
     λ test. ap (λ rs. count_by test (map undirected (edges_of rs))) value
-    ∙ rings_count test edges (rings_of edges) (all_rings edges lesser c.requires.even) lesser
+    ∙ rings_count test edges (linked_rings edges) (all_rings edges lesser c.requires.even) lesser
 
 pub returns-clause-parity : goal.returns-clause-parity
 returns-clause-parity c =
@@ -112,7 +112,7 @@ returns-clause-parity c =
     let lesser = undirected_edges edges c.in_ok-unused.ensures.lesser in
     let value = linking_ends edges c.loop-number.unused c.loop-number.number c.loop-number.rings.items c.loop-number.invariant
     c.loop-number-test.false in
-    λ k x y. ap (λ rs. odd (edges_of rs) k x y) value ∙ rings_odd edges (rings_of edges) (all_rings edges lesser c.requires.even)
+    λ k x y. ap (λ rs. odd (edges_of rs) k x y) value ∙ rings_odd edges (linked_rings edges) (all_rings edges lesser c.requires.even)
     lesser k x y
 
 pub returns-clause-short : goal.returns-clause-short

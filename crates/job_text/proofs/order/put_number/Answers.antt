@@ -1,11 +1,11 @@
 use Rattle.std.proofs.Common.{rules}
 use Rattle.byte_io.proofs.BufferedLemmas.{Buffered-then}
-use Rattle.job_text.specs.Order.{number_text}
+use Rattle.job_text.specs.Order.{order_number_text}
 use Rattle.cif_write.proofs.BegunLemmas.{Buffered-is}
 use Rattle.job_text.proofs.order.put_number.Goals as goal
 
 pub returns : goal.returns
-unfolding number_text
+unfolding order_number_text
 returns g c =
     Buffered-is
     (Buffered-then (Buffered-then (Buffered-then c.put_head.ensures c.put_byte.ensures) c.put_unsigned.ensures) c.put_tail.ensures)

@@ -1,14 +1,14 @@
 use Rattle.std.proofs.Common.{◌≡◌, ℕ, ◌+◌, ◌==◌, List, [], ◌∷◌, ◌++◌, Bool, length, ap, sym, ◌∙◌, refl, arith, rules}
-use Rattle.job_text.specs.Order.{number_text, order_from}
+use Rattle.job_text.specs.Order.{order_from, order_number_text}
 use Rattle.cif_write.proofs.BegunLemmas.{Begun-all, Begun-nothing, Begun-then}
 use Rattle.job_text.proofs.order.put_order.Goals as goal
 
 -- a number, then those behind it
 order_from-step : (place number : ℕ) (last : Bool) (rest behind : List ℕ) → rest ≡ number ∷ behind → last ≡ (length behind == 0)
-    → order_from place rest ≡ number_text place last number ++ order_from (place + 1) behind
+    → order_from place rest ≡ order_number_text place last number ++ order_from (place + 1) behind
 order_from-step place number last rest behind first is =
     ap (order_from place) first
-    ∙ ap (λ (b : Bool). number_text place b number ++ order_from (place + 1) behind) (sym is)
+    ∙ ap (λ (b : Bool). order_number_text place b number ++ order_from (place + 1) behind) (sym is)
 
 -- no numbers have no text
 no_numbers : (place : ℕ) (rest : List ℕ) → length rest ≡ 0 → order_from place rest ≡ []

@@ -4,7 +4,7 @@ use Rattle.std.specs.Prelude.{slice_get}
 use Rattle.lay_cells.specs.declared.cell_id.CellId.TheVariants.{Symbol}
 use Rattle.lay_items.specs.Lent.{calls_in}
 use Rattle.lay_items.specs.SlotOrder.{in_slot_order}
-use Rattle.lay_flat.specs.Graphs.{AreAmong, BeginsIn}
+use Rattle.lay_flat.specs.Graphs.{AreCallsTo, BeginsIn}
 use Rattle.lay_flat.proofs.Reaching.{IsKnown}
 use Rattle.lay_flat.proofs.graph.symbols_from.Given as goal
 
@@ -13,7 +13,7 @@ abbrev pub invariant-loop-number : goal.invariant-loop-number
 invariant-loop-number l = record {
   within : l.index ≤ length l.symbols;
   begins : BeginsIn l.snapshot l.fn.cell l.symbols;
-  closed : (i n : ℕ) → i < l.index → slice_get l.symbols i ≡ Some n → AreAmong l.symbols (calls_in l.snapshot (Symbol n));
+  closed : (i n : ℕ) → i < l.index → slice_get l.symbols i ≡ Some n → AreCallsTo l.symbols (calls_in l.snapshot (Symbol n));
   known : IsKnown l.snapshot l.symbols;
   distinct : IsDistinct nat_eq l.symbols;
 }

@@ -3,7 +3,7 @@ use Rattle.std.proofs.lemmas.List.Sorted.{IsNonDecreasingBy-from_sort_by_key, an
 use Rattle.std.specs.List.Sorted.{IsStrictlySortedBy}
 use Rattle.std.specs.Map.{keys_of}
 use Rattle.lay_items.specs.declared.cell_index.Home.{Home}
-use Rattle.lay_items.specs.ByCell.{AreIndexed, Homed, home_cmp}
+use Rattle.lay_items.specs.ByCell.{AreIndexedByCell, Homed, home_cmp}
 use Rattle.lay_items.proofs.HomeLemmas.{homes_by_cell, keys_units}
 use Rattle.lay_items.proofs.cell_index.homes_of.Goals as goal
 
@@ -26,7 +26,7 @@ returns-clause-indexed c =
     let stable = facts.stable (λ (h : Home). h.cell) (answers_always _ _ _ (λ f a r g called. search rules)) in
     let all = homes_by_cell c.args.items.now c.in_ok-homes.homes.items c.sort_by_key.new.self.items c.requires c.in_ok-homes.ensures
     rising stable in
-    subst (λ (hs : List Homed). AreIndexed c.args.items.now hs) (sym c.in_ok-homes-2.ensures) all.indexed
+    subst (λ (hs : List Homed). AreIndexedByCell c.args.items.now hs) (sym c.in_ok-homes-2.ensures) all.indexed
 
 pub returns-clause-sorted : goal.returns-clause-sorted
 returns-clause-sorted c =

@@ -1,6 +1,6 @@
 use Rattle.std.proofs.Common.{◌∙◌, sym}
 use Rattle.std.specs.Cmp.Lexicographic.{pointwise}
-use Rattle.lay_items.specs.SameMap.{entry_eq}
+use Rattle.lay_items.specs.SameMap.{keyed_value_eq}
 use Rattle.lay_items.proofs.SameLemmas.{map_eq-of}
 use Rattle.lay_items.proofs.trees.are_same_pages.Goals as goal
 
@@ -8,5 +8,5 @@ pub returns : goal.returns
 returns g c =
     c.is_same.ensures
     ∙ (λ i. pointwise (λ (e : g.row.K.Denot × g.row.V.Denot). λ (f : g.row.K.Denot × g.row.V.Denot).
-    entry_eq g.K.PartialEq.eq g.V.PartialEq.eq e f) c.args.pages.now c.args.others.now)
+    keyed_value_eq g.K.PartialEq.eq g.V.PartialEq.eq e f) c.args.pages.now c.args.others.now)
     ∙ sym (map_eq-of _ g.met.K.Ord.total _ _ c.args.pages.now c.args.others.now c.requires.one c.requires.other)

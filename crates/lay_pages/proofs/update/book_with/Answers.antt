@@ -2,7 +2,7 @@ use Rattle.std.proofs.Common.{◌∙◌, ◌<◌, ◌≤◌, List, [], arith, ap
 use Rattle.std.specs.List.Sorted.{IsStrictlySortedBy}
 use Rattle.std.specs.Map.{keys_of}
 use Rattle.lay_pages.specs.Shared.{AreSized, items_of, joined}
-use Rattle.lay_pages.specs.Written.{written}
+use Rattle.lay_pages.specs.Written.{after_write}
 use Rattle.lay_pages.proofs.OrderLemmas.{write-level}
 use Rattle.lay_pages.proofs.PlaceLemmas.{sized-at, sorted-at}
 use Rattle.lay_pages.proofs.ShareLemmas.{all_spliced, count_items, items_at, spliced_items}
@@ -41,5 +41,5 @@ returns-clause-entries g c =
     ∙ write-level g.met.K.Ord.total g.met.K.PageKey.exact c.args.key c.args.value (items_of c.args.book.now)
     (items_of c.deref-3.result.now) (items_of c.in_ok-pages.pages.items) c.page_of-at.result [] c.page_of-at.ensures
     (ap (λ (s : List _). joined (items_of s)) c.deref-3.ensures.value ∙ c.in_ok-new.ensures.entries
-    ∙ ap (written g.K.Ord.cmp c.args.key c.args.value) (sym is))
+    ∙ ap (after_write g.K.Ord.cmp c.args.key c.args.value) (sym is))
     (spliced_items c.page_of-at.result c.in_ok-pages.pages.items c.args.book.now c.deref-3.result.now c.in_ok-pages.ensures)

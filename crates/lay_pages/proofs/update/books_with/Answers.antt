@@ -3,7 +3,7 @@ use Rattle.std.specs.List.{AllByRecursion}
 use Rattle.std.specs.List.Sorted.{IsStrictlySortedBy}
 use Rattle.std.specs.Map.{keys_of}
 use Rattle.lay_pages.specs.Shared.{AreSized, entries_in, joined, pages_in}
-use Rattle.lay_pages.specs.Written.{written}
+use Rattle.lay_pages.specs.Written.{after_write}
 use Rattle.lay_pages.proofs.BookLemmas.{book_at, books_after}
 use Rattle.lay_pages.proofs.ShareLemmas.{count_books, count_items, length_map, pages_at, spliced_pages}
 use Rattle.lay_pages.proofs.update.books_with.Goals as goal
@@ -62,7 +62,7 @@ returns-clause-entries g c =
     (books_after g.met.K.Ord.total g.met.K.PageKey.exact c.args.key c.args.value (pages_in c.args.books.now) (pages_in others)
     (pages_in c.in_ok-books.books.items) c.book_of-at.result c.requires lt c.book_of-at.ensures
     (ap (λ (s : List _). entries_in (pages_in s)) c.deref-3.ensures.value ∙ c.in_ok-new.ensures.entries
-    ∙ ap (λ (ps : List (List (g.row.K.Denot × g.row.V.Denot))). written g.K.Ord.cmp c.args.key c.args.value (joined ps)) (sym is))
+    ∙ ap (λ (ps : List (List (g.row.K.Denot × g.row.V.Denot))). after_write g.K.Ord.cmp c.args.key c.args.value (joined ps)) (sym is))
     (subst (λ (s : List _). AreSized (pages_in s)) (sym c.deref-3.ensures.value) c.in_ok-new.ensures.books)
     (subst (λ (s : List _). AllByRecursion (λ (ps : List (List (g.row.K.Denot × g.row.V.Denot))). AreSized ps) (pages_in s))
     (sym c.deref-3.ensures.value) c.in_ok-new.ensures.pages)
@@ -78,7 +78,7 @@ returns-clause-books g c =
     (books_after g.met.K.Ord.total g.met.K.PageKey.exact c.args.key c.args.value (pages_in c.args.books.now) (pages_in others)
     (pages_in c.in_ok-books.books.items) c.book_of-at.result c.requires lt c.book_of-at.ensures
     (ap (λ (s : List _). entries_in (pages_in s)) c.deref-3.ensures.value ∙ c.in_ok-new.ensures.entries
-    ∙ ap (λ (ps : List (List (g.row.K.Denot × g.row.V.Denot))). written g.K.Ord.cmp c.args.key c.args.value (joined ps)) (sym is))
+    ∙ ap (λ (ps : List (List (g.row.K.Denot × g.row.V.Denot))). after_write g.K.Ord.cmp c.args.key c.args.value (joined ps)) (sym is))
     (subst (λ (s : List _). AreSized (pages_in s)) (sym c.deref-3.ensures.value) c.in_ok-new.ensures.books)
     (subst (λ (s : List _). AllByRecursion (λ (ps : List (List (g.row.K.Denot × g.row.V.Denot))). AreSized ps) (pages_in s))
     (sym c.deref-3.ensures.value) c.in_ok-new.ensures.pages)

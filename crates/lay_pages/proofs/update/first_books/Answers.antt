@@ -1,7 +1,7 @@
 use Rattle.std.proofs.Common.{◌∙◌, [], List, ap, subst, sym}
 use Rattle.std.specs.List.Sorted.{IsStrictlySortedBy}
 use Rattle.std.specs.Map.{keys_of}
-use Rattle.lay_pages.specs.Written.{written}
+use Rattle.lay_pages.specs.Written.{after_write}
 use Rattle.lay_pages.proofs.OrderLemmas.{sorted-written}
 use Rattle.lay_pages.proofs.update.first_books.Goals as goal
 
@@ -18,6 +18,6 @@ returns-clause-books g c = record {
   pages = c.in_ok-books.ensures.pages;
   sorted = subst (λ (es : List (g.row.K.Denot × g.row.V.Denot)). IsStrictlySortedBy g.K.Ord.cmp (keys_of es))
       (sym (c.in_ok-books.ensures.entries ∙ c.in_ok-pages.ensures.entries
-      ∙ ap (written g.K.Ord.cmp c.args.key c.args.value) (c.deref.ensures.value ∙ c.new-none.ensures.items)))
+      ∙ ap (after_write g.K.Ord.cmp c.args.key c.args.value) (c.deref.ensures.value ∙ c.new-none.ensures.items)))
       (sorted-written g.met.K.Ord.total g.met.K.PageKey.exact c.args.key c.args.value [] tt);
 }

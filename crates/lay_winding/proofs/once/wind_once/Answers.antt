@@ -1,7 +1,7 @@
 use Rattle.std.proofs.Common.{◌≡◌, ◌∙◌, ap, subst}
 use Rattle.lay_point.specs.RingEdges.{edges_of}
 use Rattle.lay_winding.specs.Once.{IsZeroOrOne}
-use Rattle.lay_winding.specs.Slants.{count_of, counts, slants_of}
+use Rattle.lay_winding.specs.Slants.{counts, slant_count, slants_of}
 use Rattle.lay_winding.proofs.SlantLemmas.{counts_of_slants}
 use Rattle.lay_winding.proofs.WindingLemmas.{sum_of-permutation}
 use Rattle.lay_winding.proofs.once.wind_once.Goals as goal
@@ -9,7 +9,7 @@ use Rattle.lay_winding.proofs.once.wind_once.Goals as goal
 pub returns : goal.returns
 returns c = λ found k x y scale. subst IsZeroOrOne
     (ap (counts k x y) c.as_slice-2.ensures.value
-    ∙ sum_of-permutation (count_of k x y) c.in_ok-slants.slants.items c.sort_unstable_by_key.new.self.items
+    ∙ sum_of-permutation (slant_count k x y) c.in_ok-slants.slants.items c.sort_unstable_by_key.new.self.items
     c.sort_unstable_by_key.ensures.permutation
     ∙ ap (counts k x y) (c.in_ok-slants.ensures ∙ ap slants_of (c.as_slice.ensures.value ∙ c.in_ok-edges.ensures))
     ∙ counts_of_slants k x y (edges_of c.args.rings.now) scale)

@@ -2,7 +2,7 @@
 use Rattle.std.proofs.Common.{inr, sym, ap, subst, ◌∙◌}
 use Rattle.lay_point.specs.Memory.{IsAnswer}
 use Rattle.layer_ops.specs.declared.fault.OpFault.TheVariants.{NoMemory}
-use Rattle.layer_ops.specs.Combining.{lists_of, shaped}
+use Rattle.layer_ops.specs.Combining.{shape_lists, shaped}
 use Rattle.layer_ops.proofs.Combined.{are_linkable, edges_are, few_sides, places_are, too_many_sides}
 use Rattle.layer_ops.proofs.combining.combine.Goals as goal
 
@@ -22,7 +22,7 @@ pub returns-clause-answer : goal.returns-clause-answer
 returns-clause-answer g c =
     let same = edges_are c.args.op c.args.a.now c.args.b.now c.in_ok-inputs.inputs c.in_ok-edges.edges.items c.deref.result.now
     c.in_ok-inputs.ensures.value c.in_ok-edges.ensures c.deref.ensures.value in
-    subst (IsAnswer NoMemory (lists_of c.shapes.result))
+    subst (IsAnswer NoMemory (shape_lists c.shapes.result))
     (ap shaped same ∙ sym (few_sides c.args.op c.args.a.now c.args.b.now (sym c.are_few.ensures ∙ c.if-not-are_few.false)))
     c.shapes.ensures
 

@@ -1,6 +1,6 @@
 -- Turned rings are rings, and rounding them has one answer.
 use Rattle.std.proofs.Common.{◌≡◌, sym, subst, ◌∙◌}
-use Rattle.bool_shape_laws.specs.RoundLaws.{AreRings}
+use Rattle.bool_shape_laws.specs.RoundLaws.{AreOwnedRings}
 use Rattle.bool_shape_laws.specs.Shapes.{owned_of}
 use Rattle.bool_shape_laws.proofs.TurningLemmas.{owned_are_rings}
 use Rattle.layer_ops.proofs.Both.{both_turned, rounded_is}
@@ -13,7 +13,7 @@ round-requires-after_bounds g c κs within =
     let same : c.deref-2.result.now ≡ owned_of a b = c.deref-2.ensures.value ∙ c.in_ok-lent.ensures ∙ c.deref.ensures.value
     ∙ both_turned a b c.new-rings.result.items c.add_turned.new.rings.items c.add_turned-2.new.rings.items c.new-rings.ensures.items
     c.in_ok-add_turned.ensures.ok c.in_ok-add_turned-2.ensures.ok in
-    subst AreRings (sym same) (owned_are_rings a b c.in_ok-add_turned.ensures.flat c.in_ok-add_turned-2.ensures.flat)
+    subst AreOwnedRings (sym same) (owned_are_rings a b c.in_ok-add_turned.ensures.flat c.in_ok-add_turned-2.ensures.flat)
 
 pub returns-clause-value : goal.returns-clause-value
 returns-clause-value g c =

@@ -1,6 +1,6 @@
 use Rattle.std.proofs.Common.{rules, ◌≡◌, ◌≤◌, ◌∙◌, List, None, Some, length, refl, subst}
 use Rattle.locked_desk.specs.Closing.{IsDiffering}
-use Rattle.desk_rules.specs.Close.{AreRising, HasAll, missing_call, own_total}
+use Rattle.desk_rules.specs.Close.{AreSeatsRising, HasAll, missing_call, own_total}
 use Rattle.desk_rules.specs.Guards.{Desk}
 use Rattle.desk_rules.specs.Seats.{Seat}
 use Rattle.desk_rules.proofs.CloseLemmas.{closes, seats_many, some_seats}
@@ -24,7 +24,7 @@ returns-clause-closed g c =
     let many : length seats ≡ n = seats_many n seats few all in
     let total : own_total seats ≡ length book.log =
     c.audited-seats.ensures.whole (many ∙ c.desk.inside.sessions.all) ∙ c.book.invariant.0.total in
-    let rising : AreRising seats = c.audited-seats.ensures.rising in
+    let rising : AreSeatsRising seats = c.audited-seats.ensures.rising in
     let none : missing_call book.log seats ≡ None = search rules in
     let is : desk ≡ c.args.desk = search rules in
     subst (λ (d : Desk). ClosesSo d seats c.by_base.result) is

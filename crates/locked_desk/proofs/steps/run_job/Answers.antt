@@ -1,5 +1,5 @@
 use Rattle.std.proofs.Common.{rules, ◌≡◌, ◌++◌, ◌∷◌, [], None, sym, subst}
-use Rattle.locked_desk.specs.Runs.{AreAnswers, Ran}
+use Rattle.locked_desk.specs.Runs.{AreAnswers, RanSteps}
 use Rattle.locked_desk.proofs.RunLemmas.{answers_push, ran_push}
 use Rattle.locked_desk.proofs.steps.run_job.Goals as goal
 
@@ -11,7 +11,7 @@ loop-step-preserved g c =
     let reply = c.in_ok-reply.reply in
     let items : c.push.new.self.items ≡ loop.replies.items ++ reply ∷ [] = search rules in
     record {
-      ran = subst (λ rs. Ran desk None c.args.job.seat (loop.yielded ++ c.in-Some.step ∷ []) rs c.take_step.new.seat
+      ran = subst (λ rs. RanSteps desk None c.args.job.seat (loop.yielded ++ c.in-Some.step ∷ []) rs c.take_step.new.seat
           c.in_ok-reply.next) (sym items)
           (ran_push desk None c.args.job.seat loop.yielded loop.replies.items loop.seat loop.held c.in-Some.step reply
           c.take_step.new.seat

@@ -1,13 +1,13 @@
 use Rattle.std.proofs.Common.{ℕ, List, arith, subst}
 use Rattle.masklay.specs.Asked.{asked_of}
-use Rattle.masklay.specs.Output.{Ends}
+use Rattle.masklay.specs.Output.{EndsAsAsked}
 use Rattle.masklay.proofs.OutputLemmas.{kept_ends, one_output}
 use Rattle.masklay.proofs.program.run.Goals as goal
 
 -- what was kept of the input has the input's output
 pub returns-in-Ok-clause-run : goal.returns-in-Ok-clause-run
 returns-in-Ok-clause-run g c =
-    let P : List ℕ → Type 0 = λ kept. Ends g.O.Out.written g.O.Out.failures c.args.out.now c.write_output.new.out
+    let P : List ℕ → Type 0 = λ kept. EndsAsAsked g.O.Out.written g.O.Out.failures c.args.out.now c.write_output.new.out
     (asked_of c.args.options) kept c.write_output.result in
     record {
       answered = λ bytes told ended. kept_ends g.O.Out.written g.O.Out.failures c.args.out.now c.write_output.new.out

@@ -1,7 +1,7 @@
 use Rattle.std.proofs.Common.{rules}
 use Rattle.std.specs.Prelude.{not}
 use Rattle.std.proofs.lemmas.List.Sorted.{IsPartitionPoint-from_clause}
-use Rattle.snap_chains.specs.Columns.{is_before}
+use Rattle.snap_chains.specs.Columns.{is_lesser_point}
 use Rattle.snap_chains.proofs.ColumnLemmas.{left_part, right_part, AreCorners, ArePlaces, places_in_order, hold_met}
 use Rattle.snap_chains.proofs.columns_of.places.Goals as goal
 
@@ -10,9 +10,9 @@ returns-clause-ordered c =
     let s = c.args.segment.now in
     let low = c.low_corner-low.result in
     let high = c.high_corner-high.result in
-    let early = IsPartitionPoint-from_clause (λ v. is_before v low) _ _ c.partition_point-from.ensures.partitioned
+    let early = IsPartitionPoint-from_clause (λ v. is_lesser_point v low) _ _ c.partition_point-from.ensures.partitioned
     (left_part low c.args.centres.now c.requires) (λ a r q k. search rules) in
-    let late = IsPartitionPoint-from_clause (λ v. not (is_before high v)) _ _ c.partition_point-to.ensures.partitioned
+    let late = IsPartitionPoint-from_clause (λ v. not (is_lesser_point high v)) _ _ c.partition_point-to.ensures.partitioned
     (right_part high c.args.centres.now c.requires) (λ a r q k. search rules) in
     let places : ArePlaces c.args.centres.now low high c.partition_point-from.result c.partition_point-to.result =
     record { early = early; late = late; inside = c.partition_point-from.ensures.bound } in
@@ -34,9 +34,9 @@ returns-clause-all c =
     let s = c.args.segment.now in
     let low = c.low_corner-low.result in
     let high = c.high_corner-high.result in
-    let early = IsPartitionPoint-from_clause (λ v. is_before v low) _ _ c.partition_point-from.ensures.partitioned
+    let early = IsPartitionPoint-from_clause (λ v. is_lesser_point v low) _ _ c.partition_point-from.ensures.partitioned
     (left_part low c.args.centres.now c.requires) (λ a r q k. search rules) in
-    let late = IsPartitionPoint-from_clause (λ v. not (is_before high v)) _ _ c.partition_point-to.ensures.partitioned
+    let late = IsPartitionPoint-from_clause (λ v. not (is_lesser_point high v)) _ _ c.partition_point-to.ensures.partitioned
     (right_part high c.args.centres.now c.requires) (λ a r q k. search rules) in
     let places : ArePlaces c.args.centres.now low high c.partition_point-from.result c.partition_point-to.result =
     record { early = early; late = late; inside = c.partition_point-from.ensures.bound } in

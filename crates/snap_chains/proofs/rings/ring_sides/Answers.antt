@@ -3,8 +3,8 @@ use Rattle.std.proofs.lemmas.List.{take_all, take_more}
 use Rattle.lay_point.specs.declared.point.Point.{Point}
 use Rattle.lay_point.specs.Rings.{NeighboursDiffer}
 use Rattle.snap_edge_test.specs.Rising.{last, pairs}
-use Rattle.snap_edge_test.specs.Rounding.{closed}
-use Rattle.snap_chains.specs.Sides.{ends_of}
+use Rattle.snap_edge_test.specs.Rounding.{closed_walk}
+use Rattle.snap_chains.specs.Sides.{segment_ends}
 use Rattle.snap_chains.proofs.OwnerLemmas.{map-push}
 use Rattle.snap_chains.proofs.PathLemmas.{differ_at, differ_last, last-push, pairs-push}
 use Rattle.snap_chains.proofs.rings.ring_sides.Goals as goal
@@ -14,7 +14,8 @@ side_between-requires c =
     let first = c.in-Some.first.now in
     let later = c.in-Some.later.now in
     let whole : c.args.ring.now ≡ first ∷ later = search rules in
-    λ e. differ_at first first later (subst (λ r. NeighboursDiffer (closed r)) whole c.requires) c.loop-to.to-index _ c.loop-to-test.true
+    λ e. differ_at first first later (subst (λ r. NeighboursDiffer (closed_walk r)) whole c.requires)
+        c.loop-to.to-index _ c.loop-to-test.true
     (sym c.loop-to.invariant.at ∙ e)
 
 pub loop-to-preserved : goal.loop-to-preserved
@@ -26,7 +27,7 @@ loop-to-preserved c =
     let next = get_or later c.loop-to.to-index origin in
     let more = take_more later c.loop-to.to-index origin c.loop-to-test.true in
     record {
-      sides = ap (map ends_of) c.in_ok-push.ensures.items ∙ map-push ends_of _ _
+      sides = ap (map segment_ends) c.in_ok-push.ensures.items ∙ map-push segment_ends _ _
           ∙ (λ i. c.loop-to.invariant.sides i ++ c.side_between.ensures i ∷ [])
           ∙ ap (λ v. pairs (first ∷ so_far) ++ (v, next) ∷ []) c.loop-to.invariant.at ∙ sym (pairs-push first so_far next)
           ∙ ap (λ l. pairs (first ∷ l)) (sym more);
@@ -39,7 +40,7 @@ side_between-requires-2 c =
     let later = c.in-Some.later.now in
     let whole : c.args.ring.now ≡ first ∷ later = search rules in
     let all = take_all c.loop-to.to-index later (search rules) in
-    λ e. differ_last first first later (subst (λ r. NeighboursDiffer (closed r)) whole c.requires)
+    λ e. differ_last first first later (subst (λ r. NeighboursDiffer (closed_walk r)) whole c.requires)
     (sym (c.loop-to.invariant.at ∙ ap (last first) all) ∙ e)
 
 pub returns : goal.returns
@@ -48,7 +49,7 @@ returns c =
     let later = c.in-Some.later.now in
     let whole : c.args.ring.now ≡ first ∷ later = search rules in
     let all = take_all c.loop-to.to-index later (search rules) in
-    ap (map ends_of) c.in_ok-push-2.ensures.items ∙ map-push ends_of _ _
+    ap (map segment_ends) c.in_ok-push-2.ensures.items ∙ map-push segment_ends _ _
     ∙ (λ i. c.loop-to.invariant.sides i ++ c.side_between-2.ensures i ∷ [])
     ∙ (λ i. pairs (first ∷ all i) ++ ((c.loop-to.invariant.at ∙ ap (last first) all) i, first) ∷ [])
-    ∙ sym (pairs-push first later first) ∙ ap (λ r. pairs (closed r)) (sym whole)
+    ∙ sym (pairs-push first later first) ∙ ap (λ r. pairs (closed_walk r)) (sym whole)

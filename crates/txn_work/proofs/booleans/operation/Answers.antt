@@ -2,7 +2,7 @@ use Rattle.std.proofs.Common.{◌≡◌, Result, Err, Ok, List, rules, subst, sy
 use Rattle.lay_point.specs.Memory.{IsAnswer}
 use Rattle.lay_flat.specs.declared.fault.FlatFault.TheVariants as flat_fault
 use Rattle.layer_ops.specs.declared.fault.OpFault.TheVariants as op_fault
-use Rattle.layer_ops.specs.Combining.{combined, lists_of}
+use Rattle.layer_ops.specs.Combining.{combined, shape_lists}
 use Rattle.txn_rules.specs.Booleans.{bool_shapes}
 use Rattle.txn_work.specs.Shaping.{fault_of_op, lists_in, points_of}
 use Rattle.txn_work.proofs.Operated.{combined_refused, combined_shapes, first_refused, second_refused}

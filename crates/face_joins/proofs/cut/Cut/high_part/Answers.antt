@@ -1,6 +1,6 @@
 use Rattle.std.proofs.Common.{◌≡◌, ◌+◌, ◌++◌, [], ◌∷◌, sym, subst, ◌∙◌, ap, take, rules, get_or, List, ℕ, Vec, Global}
 use Rattle.std.proofs.lemmas.List.{take_all}
-use Rattle.face_joins.specs.Joining.{IsPartOf, reaches_high}
+use Rattle.face_joins.specs.Joining.{IsPartOf, box_reaches_high}
 use Rattle.face_joins.proofs.JoinLemmas.{part_skips, part_takes}
 use Rattle.face_joins.proofs.cut.Cut.high_part.Goals as goal
 use Rattle.face_joins.proofs.cut.Cut.high_part.Goals.{then-reaches_high+in_ok-push, else-reaches_high}
@@ -9,7 +9,7 @@ pub loop-number-preserved : goal.loop-number-preserved
 loop-number-preserved c =
     let numbers = c.args.numbers.now in
     let i = c.loop-number.number-index in
-    let test = reaches_high c.args.self in
+    let test = box_reaches_high c.args.self in
     let b = c.index-boxes-number.result in
     let inside = c.requires i 0 c.loop-number-test.true in
     let after : List ℕ → Type 0 = λ part. IsPartOf test c.args.boxes.now (take (i + 1) numbers) part in
@@ -26,5 +26,5 @@ loop-number-preserved c =
     ]
 
 pub returns : goal.returns
-returns c = subst (λ l. IsPartOf (reaches_high c.args.self) c.args.boxes.now l c.loop-number.part.items)
+returns c = subst (λ l. IsPartOf (box_reaches_high c.args.self) c.args.boxes.now l c.loop-number.part.items)
     (take_all c.loop-number.number-index c.args.numbers.now c.loop-number-test.false) c.loop-number.invariant

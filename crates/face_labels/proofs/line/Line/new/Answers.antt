@@ -2,7 +2,7 @@ use Rattle.std.proofs.Common.{None, length, to_z, of_z, w32, sym, ap, subst, ◌
 use Rattle.std.specs.Prelude.{All}
 use Rattle.std.specs.List.Sorted.{IsPermutation}
 use Rattle.std.proofs.lemmas.List.{length-replicate}
-use Rattle.face_labels.specs.Ends.{ends_of}
+use Rattle.face_labels.specs.Ends.{ends_beyond}
 use Rattle.face_labels.specs.Reaches.{EndAtReach}
 use Rattle.face_labels.specs.Sides.{AreBehind, AreSound, IsKnown}
 use Rattle.face_labels.proofs.EndLemmas.{ends_in_order}
@@ -52,7 +52,7 @@ returns-clause-line c =
       all = subst (All (IsKnown c.find_sides.new.known.items)) c.as_slice.ensures.value c.in_ok-find_sides.ensures.all;
       reach = c.in_ok-reach.ensures;
       ends = ends_in_order r (to_z w32 (of_z w32 c.args.row)) c.in_ok-ends.ends.items
-          (subst (λ es. IsPermutation (ends_of (to_z w32 (of_z w32 c.args.row)) es) c.in_ok-ends.ends.items) c.edges-2.ensures.value
+          (subst (λ es. IsPermutation (ends_beyond (to_z w32 (of_z w32 c.args.row)) es) c.in_ok-ends.ends.items) c.edges-2.ensures.value
           c.in_ok-ends.ensures.ends)
           c.in_ok-ends.ensures.order;
     }

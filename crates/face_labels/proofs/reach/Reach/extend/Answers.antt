@@ -4,8 +4,8 @@ use Rattle.std.proofs.lemmas.Int.{to_z-of_z}
 use Rattle.std.proofs.lemmas.List.{take_all}
 use Rattle.snap_chains.specs.declared.owner.Input.TheVariants.{First}
 use Rattle.snap_chains.specs.declared.owner.Owner.{Owner}
-use Rattle.snap_chains.specs.Rounded.{is_listed}
-use Rattle.face_labels.specs.Reaches.{list_of, reach_of}
+use Rattle.snap_chains.specs.Rounded.{is_owner_listed}
+use Rattle.face_labels.specs.Reaches.{reach_list, reach_of}
 use Rattle.face_labels.proofs.ReachLemmas.{HasGrown, grown_more, grown_none, reach_more}
 use Rattle.face_labels.proofs.reach.Reach.extend.Goals as goal
 
@@ -37,4 +37,4 @@ pub returns-clause-reached : goal.returns-clause-reached
 returns-clause-reached c = λ o limit listed e.
     let at : to_z w32 (of_z w32 c.args.x) ≡ c.args.x = to_z-of_z w32 c.args.x c.ranges.x in
     subst (λ z. z ≤ℤ limit) at (c.loop-owner.invariant.reached o limit
-    (ap (is_listed o) (take_all c.loop-owner.owner-index c.args.owners.now c.loop-owner-test.false) ∙ listed) e)
+    (ap (is_owner_listed o) (take_all c.loop-owner.owner-index c.args.owners.now c.loop-owner-test.false) ∙ listed) e)

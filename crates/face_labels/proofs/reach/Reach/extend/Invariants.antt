@@ -1,6 +1,6 @@
 use Rattle.std.proofs.Common.{◌≡◌, ◌≤ℤ◌, ℤ, Some, true, take}
 use Rattle.snap_chains.specs.declared.owner.Owner.{Owner}
-use Rattle.snap_chains.specs.Rounded.{is_listed}
+use Rattle.snap_chains.specs.Rounded.{is_owner_listed}
 use Rattle.face_labels.specs.Reaches.{HaveGrown, reach_of}
 use Rattle.face_labels.proofs.reach.Reach.extend.Given as goal
 
@@ -9,5 +9,6 @@ abbrev pub invariant-loop-owner : goal.invariant-loop-owner
 invariant-loop-owner l = record {
   first : HaveGrown l.initial.self.first.items l.self.first.items;
   second : HaveGrown l.initial.self.second.items l.self.second.items;
-  reached : (o : Owner) (limit : ℤ) → is_listed o (take l.owner-index l.owners) ≡ true → reach_of l.self o ≡ Some limit → l.fn.x ≤ℤ limit;
+  reached : (o : Owner) (limit : ℤ) → is_owner_listed o (take l.owner-index l.owners) ≡ true → reach_of l.self o ≡ Some limit
+      → l.fn.x ≤ℤ limit;
 }

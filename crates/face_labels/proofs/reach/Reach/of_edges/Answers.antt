@@ -25,7 +25,7 @@ use Rattle.std.proofs.lemmas.Int.{ints, to_z-of_z}
 use Rattle.std.proofs.lemmas.List.{get_or_default}
 use Rattle.std.proofs.lemmas.Option.{get_or_from_slice_get}
 use Rattle.lay_point.specs.declared.point.Point.{Point}
-use Rattle.snap_chains.specs.Rounded.{is_listed}
+use Rattle.snap_chains.specs.Rounded.{is_owner_listed}
 use Rattle.face_labels.specs.Lines.{edge_at, nowhere, owners_at}
 use Rattle.face_labels.specs.Reaches.{IsInReach}
 use Rattle.face_labels.proofs.ReachLemmas.{still_in_reach}
@@ -51,7 +51,7 @@ loop-number-preserved c = λ n before. ⊎_elim
     ∙ ap (λ (p : Point). p.x) (c.high.ensures.value ∙ ap (λ (e : Point × Point). e.1) edge) in
     let top : to_z w32 (of_z w32 c.max.result) ≡ c.max.result = to_z-of_z w32 c.max.result (search rules) in
     let here : IsInReach r c.extend.new.self m = λ o limit listed e.
-    let far = c.extend.ensures.reached o limit (sym (ap (is_listed o) own) ∙ listed) e in (
+    let far = c.extend.ensures.reached o limit (sym (ap (is_owner_listed o) own) ∙ listed) e in (
       omega (arith, ints, low, top, far, c.max.ensures.self_bound),
       omega (arith, ints, high, top, far, c.max.ensures.other_bound),
     ) in

@@ -6,7 +6,7 @@ use Rattle.lay_point.specs.Parity.{parity, xor}
 use Rattle.snap_chains.specs.declared.owner.Input.TheVariants.{First}
 use Rattle.snap_chains.specs.declared.owner.Owner.{Owner}
 use Rattle.snap_chains.specs.Owners.{owner_eq}
-use Rattle.snap_chains.specs.Rounded.{is_listed}
+use Rattle.snap_chains.specs.Rounded.{is_owner_listed}
 use Rattle.face_labels.specs.Counts.{AreCounts}
 use Rattle.face_labels.specs.Lines.{owners_at}
 use Rattle.face_labels.specs.Sides.{is_odd_in}
@@ -64,9 +64,9 @@ returns c =
     record {
       right = subst (λ l. AreCounts c.right_counts-right_of.result (is_odd_in r l)) (rest c.args.numbers.now c.args.right)
           c.right_counts-right_of.ensures;
-      left = counts_agree c.loop-owner.left_of _ (λ o. xor (is_listed o (owners_at r c.args.number)) (is_odd_in r behind o))
+      left = counts_agree c.loop-owner.left_of _ (λ o. xor (is_owner_listed o (owners_at r c.args.number)) (is_odd_in r behind o))
           (λ o. ap (λ b. xor b (is_odd_in r behind o)) (ap (parity (λ q. owner_eq q o)) all
-          ∙ listed_of owners o c.owners-owner-items.ensures.rising ∙ sym (ap (is_listed o) own)))
+          ∙ listed_of owners o c.owners-owner-items.ensures.rising ∙ sym (ap (is_owner_listed o) own)))
           c.loop-owner.invariant.left;
       inside = c.loop-owner.invariant.inside ∙ ap (map (is_odd_in r behind)) (all ∙ sym own);
     }
@@ -91,6 +91,6 @@ holds_right-holds-requires-clause-between c =
     let i = c.loop-owner.owner-index in
     let o = get_or owners i first in
     let own : owners_at r n ≡ owners = get_or_from_slice_get r.1 n owners [] c.owners-owner-items.ensures.value in
-    let listed : is_listed o (owners_at r n) ≡ true = ap (is_listed o) own
+    let listed : is_owner_listed o (owners_at r n) ≡ true = ap (is_owner_listed o) own
     ∙ listed_at owners i o c.loop-owner-test.true (sym (get_or_default owners i first o c.loop-owner-test.true)) in
     odd_between r c.args.numbers.now n c.args.left c.args.right o c.requires.place listed

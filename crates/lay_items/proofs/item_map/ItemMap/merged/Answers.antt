@@ -6,7 +6,7 @@ use Rattle.lay_items.specs.declared.id.ItemId.{ItemId}
 use Rattle.lay_items.specs.declared.item.Item.{Item}
 use Rattle.lay_items.specs.Entries.{merged}
 use Rattle.lay_items.specs.Ids.{id_cmp}
-use Rattle.lay_items.specs.Layout.{items_of, put_all}
+use Rattle.lay_items.specs.Layout.{map_of_items, put_all}
 use Rattle.lay_items.proofs.MergeLemmas.{merged-is, sorted-merged}
 use Rattle.lay_items.proofs.item_map.ItemMap.merged.Goals as goal
 
@@ -39,5 +39,5 @@ returns c =
     let new : c.in_ok-paged.field-0 ≡ merged own c.args.writes.now =
     c.in_ok-paged.ensures ∙ c.in_ok-entries-2.ensures
     ∙ ap (λ (es : List (ItemId × Item)). merged es c.args.writes.now) (c.deref.ensures.value ∙ c.in_ok-entries.ensures) in
-    c.in_ok-new.ensures ∙ ap items_of new ∙ merged-is own c.args.writes.now c.requires
+    c.in_ok-new.ensures ∙ ap map_of_items new ∙ merged-is own c.args.writes.now c.requires
     ∙ ap (λ (m : FinMap id_cmp Item). put_all m c.args.writes.now) c.self.view_is

@@ -1,15 +1,15 @@
 use Rattle.std.proofs.Common.{◌≡◌, ◌∙◌, List, Option, ap, subst, sym}
 use Rattle.std.specs.FinMap.{FinMap, find}
-use Rattle.lay_pages.specs.Written.{written}
+use Rattle.lay_pages.specs.Written.{after_write}
 use Rattle.lay_items.specs.declared.id.ItemId.{ItemId}
 use Rattle.lay_items.specs.declared.item.Item.{Item}
-use Rattle.lay_items.specs.ByCell.{AreIndexed, Homed, home_cmp, with_home, without_home}
+use Rattle.lay_items.specs.ByCell.{AreIndexedByCell, Homed, home_cmp, with_home, without_home}
 use Rattle.lay_items.specs.Ids.{id_cmp}
-use Rattle.lay_items.specs.Layout.{items_of, put}
+use Rattle.lay_items.specs.Layout.{map_of_items, put}
 use Rattle.std.specs.List.Sorted.{IsStrictlySortedBy}
 use Rattle.std.specs.Map.{keys_of}
 use Rattle.lay_items.proofs.HomeLemmas.{indexed_written}
-use Rattle.lay_items.proofs.PutLemmas.{put-written}
+use Rattle.lay_items.proofs.PutLemmas.{put-after_write}
 use Rattle.lay_items.proofs.item_map.ItemMap.written.Goals as goal
 
 pub invariant_of-result : goal.invariant_of-result
@@ -18,8 +18,8 @@ invariant_of-result c =
     let hs = c.self.inside.homes in
     let id = c.args.id in
     let item = c.args.item.now in
-    let items : c.in_ok-items.items ≡ written id_cmp id item es =
-    c.in_ok-items.ensures.entries ∙ ap (λ (o : Option Item). written id_cmp id o es) c.in_ok-copied.ensures in
+    let items : c.in_ok-items.items ≡ after_write id_cmp id item es =
+    c.in_ok-items.ensures.entries ∙ ap (λ (o : Option Item). after_write id_cmp id o es) c.in_ok-copied.ensures in
     let out : c.in_ok-homes.homes ≡ without_home id (find id_cmp id es) hs =
     c.in_ok-homes.ensures.homes ∙ ap (λ (o : Option Item). without_home id o hs) c.get.ensures in
     let homes : c.in_ok-homes-2.homes ≡ with_home id item (without_home id (find id_cmp id es) hs) =
@@ -28,8 +28,8 @@ invariant_of-result c =
     record {
       ids = c.in_ok-items.ensures.sorted;
       homes = c.in_ok-homes-2.ensures.sorted;
-      indexed = subst (λ (fs : List (ItemId × Item)). AreIndexed fs c.in_ok-homes-2.homes) (sym items)
-          (subst (λ (gs : List Homed). AreIndexed (written id_cmp id item es) gs) (sym homes)
+      indexed = subst (λ (fs : List (ItemId × Item)). AreIndexedByCell fs c.in_ok-homes-2.homes) (sym items)
+          (subst (λ (gs : List Homed). AreIndexedByCell (after_write id_cmp id item es) gs) (sym homes)
           (indexed_written id item es hs c.self.invariant.ids c.self.invariant.homes rest c.self.invariant.indexed));
     }
 
@@ -38,5 +38,5 @@ returns c =
     let es = c.self.inside.items in
     let id = c.args.id in
     let item = c.args.item.now in
-    ap items_of (c.in_ok-items.ensures.entries ∙ ap (λ (o : Option Item). written id_cmp id o es) c.in_ok-copied.ensures)
-    ∙ put-written id item es ∙ ap (λ (m : FinMap id_cmp Item). put m id item) c.self.view_is
+    ap map_of_items (c.in_ok-items.ensures.entries ∙ ap (λ (o : Option Item). after_write id_cmp id o es) c.in_ok-copied.ensures)
+    ∙ put-after_write id item es ∙ ap (λ (m : FinMap id_cmp Item). put m id item) c.self.view_is

@@ -1,7 +1,7 @@
 use Rattle.std.proofs.Common.{rules, ◌≡◌, ◌∙◌, arith, length, nat_lt, sym}
 use Rattle.undo_rules.specs.declared.log.Call.TheVariants.{Commit}
 use Rattle.desk_rules.specs.Guards.{Guard, ones}
-use Rattle.desk_rules.specs.Seats.{added}
+use Rattle.desk_rules.specs.Seats.{calls_added}
 use Rattle.locked_desk.specs.Desks.{commit_answer}
 use Rattle.desk_rules.proofs.GuardLemmas.{added_is, guard_called, looked, made_logged}
 use Rattle.locked_desk.proofs.CallLemmas.{committed_back, committed_named, stepped_commit}
@@ -54,13 +54,14 @@ pub returns-clause-amount : goal.returns-clause-amount
 returns-clause-amount g c =
     let first : c.log-place.result.now ≡ c.self.inside.book.log = search rules in
     let second : c.log.result.now ≡ c.commit-result.new.self.log = search rules in
-    let counted : ones (nat_lt (length c.self.inside.book.log) (length c.commit-result.new.self.log)) ≡ added
+    let counted : ones (nat_lt (length c.self.inside.book.log) (length c.commit-result.new.self.log)) ≡ calls_added
     (commit_answer c.commit-result.result) =
     added_is c.self.inside.book c.commit-result.new.self c.args.session (Commit c.args.work.id c.args.work.commands)
     (commit_answer c.commit-result.result)
     (stepped_commit c.self.inside.book c.commit-result.new.self c.args.session c.args.work c.commit-result.result (search rules)
     (search rules) (search rules) c.self.invariant.0.pending c.commit-result.ensures.step) in
-    let more : ones (nat_lt (length c.log-place.result.now) (length c.log.result.now)) ≡ added (commit_answer c.commit-result.result) =
+    let more : ones (nat_lt (length c.log-place.result.now) (length c.log.result.now))
+        ≡ calls_added (commit_answer c.commit-result.result) =
     (λ i. ones (nat_lt (length (first i)) (length (second i)))) ∙ counted in
     let amount = c.count_call.ensures.amount in
     omega (arith, amount, more)

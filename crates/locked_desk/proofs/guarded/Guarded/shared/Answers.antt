@@ -1,7 +1,7 @@
 use Rattle.std.proofs.Common.{rules, ◌≡◌, ◌+◌, ◌-◌, ◌<◌, None, arith, length, sym, subst, ◌∙◌}
 use Rattle.desk_rules.specs.Close.{missing_place}
 use Rattle.desk_rules.specs.Guards.{Guard}
-use Rattle.desk_rules.specs.Seats.{IsRising, own_calls}
+use Rattle.desk_rules.specs.Seats.{AreCallsRising, own_calls}
 use Rattle.desk_rules.proofs.CloseLemmas.{own_shown}
 use Rattle.desk_rules.proofs.GuardLemmas.{looked}
 use Rattle.locked_desk.proofs.guarded.Guarded.shared.Goals as goal
@@ -19,7 +19,7 @@ returns-clause-own g c =
     let look = looked was session own (search rules) in
     let low = look.low in
     let high = look.high in
-    let rising : IsRising session 0 own = c.requires.rising in
+    let rising : AreCallsRising session 0 own = c.requires.rising in
     let none : missing_place was.book.log own ≡ None = search rules in
     let below : session - 1 < was.sessions = omega (arith, low, high) in
     let is : session - 1 + 1 ≡ session = omega (arith, low) in

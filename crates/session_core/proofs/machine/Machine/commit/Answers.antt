@@ -8,7 +8,7 @@ use Rattle.session_steps.specs.declared.Reply.TheVariants.{Fault}
 use Rattle.session_steps.specs.declared.Step.TheVariants.{Commit}
 use Rattle.session_steps.specs.declared.StepFault.TheVariants.{Book}
 use Rattle.session_core.specs.Commits.{reply_of, work_of}
-use Rattle.session_core.specs.Machine.{State, Takes, TakesOr, after_commit, with_work}
+use Rattle.session_core.specs.Machine.{State, TakesOr, TakesStep, commit_outcome, with_work}
 use Rattle.session_core.specs.Machines.{IsState, machine_state}
 use Rattle.session_core.proofs.MachineLemmas.{Commits, Taken, commits_so, left_state, taken_out}
 use Rattle.session_core.proofs.machine.Machine.commit.Goals as goal
@@ -43,11 +43,11 @@ returns-clause-step c =
     ap (λ w. record { history = c.commit.new.self; works = w }) (set-set works place c.take.new.self c.outcome-reply.result.1
     ∙ ap (slice_set works place) c.outcome-reply.ensures.work
     ∙ ap (λ n. slice_set works (n - 1) (work_of c.commit.result)) c.from-place.ensures) in
-    let step : Takes s session Commit (reply_of c.commit.result) (with_work s c.commit.new.self session (work_of c.commit.result)) =
+    let step : TakesStep s session Commit (reply_of c.commit.result) (with_work s c.commit.new.self session (work_of c.commit.result)) =
     rw (t.there, t.is_open) made.step in
-    subst (λ n. Takes n session Commit c.outcome-reply.result.0 end) c.self.view_is
-    (subst (λ r. Takes s session Commit r end) (sym c.outcome-reply.ensures.reply)
-    (subst (λ e. Takes s session Commit (reply_of c.commit.result) e) (sym is_end) step))
+    subst (λ n. TakesStep n session Commit c.outcome-reply.result.0 end) c.self.view_is
+    (subst (λ r. TakesStep s session Commit r end) (sym c.outcome-reply.ensures.reply)
+    (subst (λ e. TakesStep s session Commit (reply_of c.commit.result) e) (sym is_end) step))
 
 pub returns-clause-own : goal.returns-clause-own
 returns-clause-own c =

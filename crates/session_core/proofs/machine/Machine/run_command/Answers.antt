@@ -1,7 +1,7 @@
 use Rattle.std.proofs.Common.{◌≡◌, ◌-◌, ◌∙◌, Some, ap, slice_set, subst, sym}
 use Rattle.std.proofs.lemmas.List.{set-set}
 use Rattle.session_steps.specs.declared.Step.TheVariants.{Do}
-use Rattle.session_core.specs.Machine.{State, Takes, command_reply, with_work}
+use Rattle.session_core.specs.Machine.{State, TakesStep, command_reply, with_work}
 use Rattle.session_core.specs.Machines.{IsState, machine_state}
 use Rattle.session_core.proofs.MachineLemmas.{commanded, ran_command, same_parts, taken_out}
 use Rattle.session_core.proofs.machine.Machine.run_command.Goals as goal
@@ -37,5 +37,5 @@ returns-clause-step g c =
     ] in
     let step = ran_command s end session c.args.command c.in-Some.work new c.run-answer.result t.there t.is_open
     c.run-answer.ensures.answer c.run-answer.ensures.ok c.run-answer.ensures.err is_end in
-    subst (λ n. Takes n session (Do c.args.command) c.match-answer.result end) c.self.view_is
-    (subst (λ r. Takes s session (Do c.args.command) r end) (sym reply) step)
+    subst (λ n. TakesStep n session (Do c.args.command) c.match-answer.result end) c.self.view_is
+    (subst (λ r. TakesStep s session (Do c.args.command) r end) (sym reply) step)

@@ -1,7 +1,7 @@
 use Rattle.std.proofs.Common.{Contains, List, ◌↔◌, ◌∙◌, ◌-◌, ap, map, subst}
 use Rattle.std.specs.Prelude.{slice_range}
 use Rattle.lay_point.specs.declared.point.Point.{Point}
-use Rattle.snap_pixels.specs.Order.{AreTurned, turned}
+use Rattle.snap_pixels.specs.Order.{AreTransposed, transposed}
 use Rattle.snap_pixels.specs.Segments.{Meets}
 use Rattle.snap_chains.specs.Columns.{HoldMet}
 use Rattle.snap_chains.specs.Slabs.{points_in}
@@ -19,20 +19,20 @@ returns-in-Some c =
     let are_met = coe 0 1 (i. (p : Point) → Contains found p
     ↔ (Contains (points_in slabs) p × Meets (c.turned-across.ensures.a i) (c.turned-across.ensures.b i) p)) c.in_ok-in_slabs.ensures in
     met_in_slabs c.args.self.now found c.in_ok-points.points.items slabs s.a s.b c.places-from.result.0 c.places-from.result.1 held
-    c.in-Some.ensures.inside c.in-Some.ensures.all are_met (c.in_ok-points.ensures ∙ ap (map turned) c.as_slice.ensures.value)
+    c.in-Some.ensures.inside c.in-Some.ensures.all are_met (c.in_ok-points.ensures ∙ ap (map transposed) c.as_slice.ensures.value)
 
 pub returns-then-fewer : goal.returns-then-fewer
 returns-then-fewer c =
     let s = c.args.segment.now in
     let rows = c.rows-in_rows.result.now in
     let found = c.in_ok-found.found.items in
-    let other = subst (λ (l : List Point). AreTurned l c.turned.result.now) c.self.view_is c.turned.ensures.members in
+    let other = subst (λ (l : List Point). AreTransposed l c.turned.result.now) c.self.view_is c.turned.ensures.members in
     let all = coe 0 1 (i. (p : Point) → Contains c.turned.result.now p → Meets (c.turned-across.ensures.a i) (c.turned-across.ensures.b i) p
     → Contains rows p) c.rows-in_rows.ensures.all in
     let are_met = coe 0 1 (i. (p : Point) → Contains found p
     ↔ (Contains rows p × Meets (c.turned-across.ensures.a i) (c.turned-across.ensures.b i) p)) c.in_ok-found.ensures in
     met_in_rows c.args.self.now c.turned.result.now rows found c.in_ok-points-2.points.items s.a s.b other
-    c.rows-in_rows.ensures.inside all are_met (c.in_ok-points-2.ensures ∙ ap (map turned) c.as_slice-then-fewer.ensures.value)
+    c.rows-in_rows.ensures.inside all are_met (c.in_ok-points-2.ensures ∙ ap (map transposed) c.as_slice-then-fewer.ensures.value)
 
 pub returns : goal.returns
 returns c =

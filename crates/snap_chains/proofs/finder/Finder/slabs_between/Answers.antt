@@ -1,7 +1,7 @@
 use Rattle.std.proofs.Common.{rules, ◌≤◌, ◌+◌, ◌/◌, List, length, refl, sym, subst, Contains}
 use Rattle.std.specs.Prelude.{slice_range}
 use Rattle.lay_point.specs.declared.point.Point.{Point}
-use Rattle.snap_pixels.specs.Order.{turned}
+use Rattle.snap_pixels.specs.Order.{transposed}
 use Rattle.snap_chains.specs.Slabs.{AreSlabs, HoldPlaces}
 use Rattle.snap_chains.proofs.SlabLemmas.{range_holds, range_inside}
 use Rattle.snap_chains.proofs.finder.Finder.slabs_between.Goals as goal
@@ -14,7 +14,7 @@ returns-clause-inside c = λ p m.
     let slabs = c.deref.result.now in
     let are = subst (AreSlabs size c.self.inside.hot.now) (sym c.deref.ensures.value) c.self.invariant.1 in
     let inside : end ≤ length slabs = search rules in
-    subst (λ (l : List Point). Contains l (turned p)) c.self.view_is
+    subst (λ (l : List Point). Contains l (transposed p)) c.self.view_is
     (range_inside size c.self.inside.hot.now slabs are first end inside p m)
 
 pub returns-clause-all : goal.returns-clause-all

@@ -1,5 +1,5 @@
 use Rattle.std.proofs.Common.{◌||◌, ◌∙◌, ap, sym}
-use Rattle.txn_rules.specs.Meets.{touches}
+use Rattle.txn_rules.specs.Meets.{meets_touched}
 use Rattle.txn_rules.specs.Records.{Records}
 use Rattle.txn_marks.specs.Met.{symbols_are_met}
 use Rattle.txn_marks.proofs.TouchLemmas.{touches_met}
@@ -11,7 +11,7 @@ returns-then-items_touch c =
     let w = c.self.inside in
     c.if-items_touch.true
     ∙ sym (ap (λ b. b || symbols_are_met touched w.symbols.entries) (sym c.items_touch.ensures ∙ c.if-items_touch.true))
-    ∙ sym (touches_met touched w.items.entries w.symbols.entries) ∙ ap (λ (r : Records). touches r touched) c.self.view_is
+    ∙ sym (touches_met touched w.items.entries w.symbols.entries) ∙ ap (λ (r : Records). meets_touched r touched) c.self.view_is
 
 pub returns-else-items_touch : goal.returns-else-items_touch
 returns-else-items_touch c =
@@ -19,4 +19,4 @@ returns-else-items_touch c =
     let w = c.self.inside in
     c.symbols_touch.ensures
     ∙ sym (ap (λ b. b || symbols_are_met touched w.symbols.entries) (sym c.items_touch.ensures ∙ c.if-items_touch.false))
-    ∙ sym (touches_met touched w.items.entries w.symbols.entries) ∙ ap (λ (r : Records). touches r touched) c.self.view_is
+    ∙ sym (touches_met touched w.items.entries w.symbols.entries) ∙ ap (λ (r : Records). meets_touched r touched) c.self.view_is

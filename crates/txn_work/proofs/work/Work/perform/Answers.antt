@@ -10,7 +10,7 @@ use Rattle.txn_rules.specs.Records.{records_between}
 use Rattle.txn_rules.specs.Transactions.{Transaction}
 use Rattle.txn_rules.specs.Writing.{rewritten}
 use Rattle.txn_work.specs.Answers.{after_command, run_so_far, with_command}
-use Rattle.txn_work.specs.Works.{IsKept, transaction_of}
+use Rattle.txn_work.specs.Works.{MatchesItsRun, transaction_of}
 use Rattle.txn_work.proofs.Kept.{after_is, answer_is, next_kept, next_layout, performed, room_left, same_whole, writes_so_far}
 use Rattle.txn_work.proofs.work.Work.perform.Goals as goal
 
@@ -53,7 +53,7 @@ invariant_of-self-2 c =
     ap (λ (t : Transaction). (run_so_far t).layout) is
     ∙ next_layout old c.self.inside.made c.made_after-more.result c.args.command act c.self.invariant.kept planned room more few in
     record {
-      kept = subst (λ (t : Transaction). IsKept t c.made_after-more.result) (sym is)
+      kept = subst (λ (t : Transaction). MatchesItsRun t c.made_after-more.result) (sym is)
           (next_kept old c.self.inside.made c.made_after-more.result c.args.command act c.self.invariant.kept planned room more few);
       whole = same_whole c.whole_after-whole.result layout
           (subst (λ (t : Transaction). IfSome c.whole_after-whole.result
