@@ -20,7 +20,7 @@ pub trait Bands {
         edges: &CleanEdges,
         op: Op,
     ) -> Result<Vec<bool>, NoMemory>
-        // What the bound says already: a method of a trait is told it apart.
+        // What the bound says already: a method of a trait needs it said again.
         requires { IsSync R.row }
         ensures { IfOk result (λ labels. labels.items ≡ labels_of op edges.now) };
 }

@@ -49,7 +49,7 @@ plus_zero a = omega (arith, linear)
 
 -- ---- lengths
 
--- a positive number is told by its square
+-- a positive number follows from its square
 one_root : (a b : ℤ) → pos 0 <ℤ a → pos 0 <ℤ b → a *ℤ a ≡ b *ℤ b → a ≡ b
 one_root a b some_a some_b e =
     let parts : (a -ℤ b) *ℤ (a +ℤ b) ≡ a *ℤ a -ℤ b *ℤ b =
@@ -74,7 +74,7 @@ pub no_value : (b : Bool) → value_of (record { negative = b; magnitude = 0 }) 
 no_value true = refl
 no_value false = refl
 
--- where a turn by a direction takes a point, that is told by the direction's numbers and its length
+-- where a turn by a direction takes a point follows from the direction's numbers and its length
 turned_one : (v : Vertex) (k u w : ℤ) → x_of v ≡ u → y_of v ≡ w → pos 0 <ℤ k → k *ℤ k ≡ u *ℤ u +ℤ w *ℤ w → (p t q : Point)
     → t.x *ℤ k ≡ p.x *ℤ u -ℤ p.y *ℤ w → t.y *ℤ k ≡ p.x *ℤ w +ℤ p.y *ℤ u → IsRotated v p q ↔ (t ≡ q)
 turned_one v k u w is_u is_w some square p t q is_x is_y = (forth, back)

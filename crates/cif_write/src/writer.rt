@@ -85,7 +85,7 @@ impl<'s> Prepared<'s> {
     }
 }
 
-/// Writes the layout's text to the device. The allocator has no use as yet.
+/// Writes the layout's text to the device. The allocator is not used.
 pub fn write<O: Out>(_alloc: Global, snapshot: &Snapshot, out: &mut O) -> Result<(), WriteFault>
     ensures ok { OnOk result (WroteAll O.written O.failures out.old out.new (text snapshot.now)) }
     ensures device { IsErrOf result WriteFault.Device

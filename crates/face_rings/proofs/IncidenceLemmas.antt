@@ -346,7 +346,7 @@ mark_set used i less = ⊎_elim
     (λ (apart : (i ≢ i) × (get_or (set used i true) i true ≡ get_or used i true)). absurd (apart.0 refl))
     (get_or-set used i i true true less)
 
--- ---- no mark yet
+-- ---- before the first mark
 pub all_unused : (edges : List Ends) → left_of edges (replicate (length edges) false) ≡ edges
 all_unused [] = refl
 all_unused (e ∷ es) = ap (λ l. e ∷ l) (all_unused es)

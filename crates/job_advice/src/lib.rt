@@ -1,4 +1,4 @@
-//! What a person is told of a fault: where it is, what is wrong there, and what to do.
+//! What is reported to a person of a fault: where it is, what is wrong there, and what to do.
 //!
 //! A program answers a fault of a job or of its CIF text by one line with a number, for other programs. For a
 //! person [`of_cif_fault`] and [`of_job_fault`] make some lines of text of it: line and column, the line

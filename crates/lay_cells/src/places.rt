@@ -29,7 +29,7 @@ impl Mark {
         }
     }
 
-    /// Returns the low of a cell that has no place yet, or the greatest.
+    /// Returns the low of a cell without a place, or the greatest.
     fn low(self) -> usize {
         match self {
             Mark::Open(low) | Mark::Closed(low) => low,

@@ -136,8 +136,8 @@ impl Item {
         }
     }
 
-    /// Returns an equal item. Rings are shared, but for a few points in place, so the allocator has no
-    /// use as yet.
+    /// Returns an equal item. Rings are shared, but for a few points in place, so the allocator is not
+    /// used.
     pub fn copy(&self, _alloc: Global) -> Result<Item, NoMemory>
         ensures { IsAnswer (record {}) result (Ok self.now) }
     {

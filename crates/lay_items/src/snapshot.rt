@@ -60,7 +60,7 @@ impl Snapshot {
         Ok(Snapshot { version })
     }
 
-    /// Returns one more owner of the same layout. The allocator has no use as yet.
+    /// Returns one more owner of the same layout. The allocator is not used.
     pub fn share(&self, _alloc: Global) -> Result<Snapshot, NoMemory>
         ensures { IsAnswer (record {}) result (Ok self.now) }
     {

@@ -116,7 +116,7 @@ IsLookedAt None fault session own = IsLooked fault session own
 abbrev pub IsLookedThrough : DeskFault → ℕ → List Kept → List Logged → Type 0
 IsLookedThrough fault session own log = IsLookedAt (missing_place log own) fault session own
 
--- a snapshot is refused for want of memory, or the refusal names the seat's session, or 0 where the lock doesn't have what the
+-- no memory is left for a snapshot, or the refusal names the seat's session, or 0 where the lock doesn't have what the
 -- desk was made with
 abbrev pub IsShownFault : DeskFault → Seat → Type 0
 IsShownFault (Book fault) seat = fault ≡ NoMemory

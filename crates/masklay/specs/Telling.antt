@@ -1,4 +1,4 @@
--- What a person is told, beside the output.
+-- What is reported to a person, beside the output.
 use Rattle.std.specs.Prelude.{◌≡◌, ℕ, ◌⊎◌, Bool, true, false, List, Option}
 use Rattle.byte_io.specs.Device.{WroteAll, WrotePrefix}
 use Rattle.masklay.specs.declared.program.status.Status.{Status}

@@ -33,11 +33,11 @@ use telling::{tell_of_layout, tell_of_stop};
 
 /// Reads a job from the input, runs it and writes its replies, their order and the CIF text of the
 /// layout, all after the last step; or the line that says why there is none. Booleans are rounded in as
-/// many threads as there are processors. A fault is told to `errors` too, in words for a person, and so is a
+/// many threads as there are processors. A fault is reported to `errors` too, in words for a person, and so is a
 /// top cell that is empty while the layout has symbols. With `threaded` the sessions run in threads over one
 /// desk, the job's own order plays no part, and the order that is written is that of the desk's log. With
-/// `oriented` the layout's shapes are directed before it is written, and where some stay as they were that is told
-/// to `errors` too. Without both, the input alone decides the output. With `named` each symbol is written with the names
+/// `oriented` the layout's shapes are directed before it is written, and where some stay as they were that is
+/// reported to `errors` too. Without both, the input alone decides the output. With `named` each symbol is written with the names
 /// and labels that it had in the job's text.
 pub fn run<I: In, O: Out, E: Out>(
     rt: &(impl Threads + Wait + Sync),

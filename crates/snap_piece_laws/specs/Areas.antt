@@ -1,6 +1,6 @@
 -- Areas of triangles, and of the four that the corners of a quadrilateral p q r t make with their neighbours. Its diagonals are from
 -- p to r and from q to t.
--- Source: de Berg, Cheong, van Kreveld, Overmars, Computational Geometry, 2008, section 1.1, on orientation.
+-- Source: de Berg, Cheong, van Kreveld, Overmars, Computational Geometry, 2008, on orientation.
 use Rattle.std.specs.Prelude.{◌≡◌, ℤ, pos, ◌+ℤ◌, ◌-ℤ◌, ◌*ℤ◌, ◌<ℤ◌}
 use Rattle.lay_point.specs.declared.point.Point.{Point}
 

@@ -19,7 +19,7 @@ use std::thread::Threads;
 
 /// Reads a CIF text, then steps of sessions on its layout in lines, and answers each before more is read; at the
 /// end of the input it writes the order of the steps and the CIF text of the layout that they led to. A fault of
-/// the text is told to `errors` too. So many `workers` find the edges of an operation, as in `Options`.
+/// the text is reported to `errors` too. So many `workers` find the edges of an operation, as in `Options`.
 pub fn live<I: In, O: Out, E: Out>(
     rt: &(impl Threads + Sync),
     alloc: Global,

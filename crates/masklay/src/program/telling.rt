@@ -1,4 +1,4 @@
-//! What a person is told on standard error.
+//! What is reported to a person on standard error.
 ghost use Rattle.std.specs.Prelude.{◌≡◌};
 ghost use Rattle.masklay.specs.Telling.{IsReported, MayReport, may_tell};
 

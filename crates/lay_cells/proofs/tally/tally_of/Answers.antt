@@ -6,7 +6,7 @@ use Rattle.lay_cells.proofs.GraphLemmas.{row_read}
 use Rattle.lay_cells.proofs.TallyLemmas.{sum-few, sum-next, sum-none, tally-few, tally-shallow}
 use Rattle.lay_cells.proofs.tally.tally_of.Goals as goal
 
--- no target yet
+-- before the first target
 pub loop-target-init : goal.loop-target-init
 loop-target-init c =
     subst (λ t. IsSum (rows_of c.args.rows.now.items) [] t) (sym c.uncalled-sum.ensures) (sum-none (rows_of c.args.rows.now.items))

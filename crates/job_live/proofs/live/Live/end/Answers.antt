@@ -13,7 +13,8 @@ order_of-requires c =
 pub returns-clause-order : goal.returns-clause-order
 returns-clause-order c =
     let log = c.args.self.machine.history.log in
-    let told : c.in_ok-replies.replies ≡ dealt c.as_slice.result.now c.args.self.replies.items (replicate 64 []) = c.in_ok-replies.ensures in
+    let told : c.in_ok-replies.replies ≡ dealt c.as_slice.result.now c.args.self.replies.items (replicate 64 [])
+    = c.in_ok-replies.ensures in
     let order : c.in_ok-order.order.items ≡ order_of log c.in_ok-replies.replies = search rules in
     let printed : c.in_ok-comments.field-0.items ≡ order_text c.in_ok-order.order.items = search rules in
     printed ∙ ap order_text (order ∙ ap (order_of log)
