@@ -273,7 +273,7 @@ module _ (r : Owned) (rising : IsRising IsEdgeBefore r.0) (paired : length r.1 �
         → parity (λ n. is_owner_listed o (owners_at r n)) (drop gap numbers) ≡ odd_of (owned_items r) o k x y
     odd_behind bound o =
         sym (parity_of_occurrences (λ m n. m < n) below_strict nat_eq nat_equality
-            (λ n. is_owner_listed o (owners_at r n)) (numbers_from 0 r.0)
+        (λ n. is_owner_listed o (owners_at r n)) (numbers_from 0 r.0)
         (drop gap numbers) (below_rising 0 r.0) given)
         ∙ by_number (λ p. is_owner_listed o p.1 && is_crossed k x y p.0)
         (λ n. parity (nat_eq n) (drop gap numbers) && is_owner_listed o (owners_at r n)) 0 r.0 r.1 paired (λ i less.

@@ -114,7 +114,7 @@ pub reach_more : (old new : Reach) (owners : List Owner) (i : ℕ) (d : Owner) (
 reach_more old new owners i d x less grown here so_far o limit listed e =
     by_tests (is_owner_listed o (take i owners)) (owner_eq (get_or owners i d) o) refl refl
     (sym (ap (is_owner_listed o) (take_more owners i d less)
-        ∙ list_any-append (λ p. owner_eq p o) (take i owners) (get_or owners i d ∷ [])) ∙
+    ∙ list_any-append (λ p. owner_eq p o) (take i owners) (get_or owners i d ∷ [])) ∙
     listed)
   where
     by_tests : (a b : Bool) → is_owner_listed o (take i owners) ≡ a → owner_eq (get_or owners i d) o ≡ b → (a || (b || false)) ≡ true

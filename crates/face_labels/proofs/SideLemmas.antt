@@ -101,7 +101,7 @@ module _ (r : Owned) (even : AreEven r) (clean : AreClean r.0) (lesser : AreLess
   odd_upward o k x y =
       parity-map (λ p. is_owner_listed o p.1 && is_crossed k x y p.0) (λ (p : Item). (upward p.0, p.1)) items
       ∙ parity_agree (λ p. is_owner_listed o p.1 && is_crossed k x y (upward p.0))
-          (λ p. is_owner_listed o p.1 && is_crossed k x y p.0) items
+      (λ p. is_owner_listed o p.1 && is_crossed k x y p.0) items
       (λ p m. ap (λ b. is_owner_listed o p.1 && b) (upward_crossed k x y p.0))
 
   one_times : (a b : ℤ) → a +ℤ b ≡ near (pos 1) a b
@@ -127,7 +127,7 @@ module _ (r : Owned) (even : AreEven r) (clean : AreClean r.0) (lesser : AreLess
       let b = (upward p.0).1 in
       sym (odd_upward o k x y)
       ∙ slide risen are_upward (is_owner_listed o) (even_upward o) (upward p.0, p.1)
-          (has_map (λ (q : Item). (upward q.0, q.1)) items p m) rises
+      (has_map (λ (q : Item). (upward q.0, q.1)) items p m) rises
       k x y (near_k (pos 1)) (near (pos 1) a.x b.x) (near (pos 1) a.y b.y) q (near_inside (pos 1) a b rises (omega (arith, linear)))
       ∙ odd_upward o (near_k (pos 1)) (near (pos 1) a.x b.x) (near (pos 1) a.y b.y)
       ∙ sym (at_midpoint o p.0)

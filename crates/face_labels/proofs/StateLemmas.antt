@@ -37,7 +37,7 @@ split_at numbers gap less = drop-cons numbers gap 0 less ∙ ap (λ m. get_or nu
 -- one edge more
 pub odd_split : (r : Owned) (numbers : List ℕ) (gap : ℕ) (o : Owner) → gap < length numbers
     → is_odd_in r (drop gap numbers) o
-        ≡ xor (is_owner_listed o (owners_at r (get_or numbers gap 0))) (is_odd_in r (drop (gap + 1) numbers) o)
+    ≡ xor (is_owner_listed o (owners_at r (get_or numbers gap 0))) (is_odd_in r (drop (gap + 1) numbers) o)
 odd_split r numbers gap o less = ap (λ l. is_odd_in r l o) (split_at numbers gap less)
 
 -- what holds left of an edge, by what holds beside it
@@ -137,7 +137,7 @@ all_before P numbers i more bound first rest =
     (all_cons P (get_or numbers (i - 1) 0) (drop i numbers) first rest)
 
 -- ---- what edges tell
--- of an edge right of the place, whose sides are known, nothing is told only where it doesn't list the owner
+-- of an edge right of the place, whose sides are known, nothing is known only where it doesn't list the owner
 pub not_told_right : (r : Owned) (known : List (Option Sides)) (n : ℕ) (o : Owner) (told : Told) → IsKnown known n
     → IsTold r known n o told → ((b : Bool) → told ≡ Inside b → ⊥) → is_owner_listed o (owners_at r n) ≡ false
 not_told_right r known n o Nothing own is other = is

@@ -81,7 +81,7 @@ pub record AreKnown (r : Owned) (known : List (Option Sides)) : Type 0 where
 abbrev pub IsKnown : List (Option Sides) → ℕ → Type 0
 IsKnown known n = (sides : Sides) × (sides_at known n ≡ Some sides)
 
--- what is told is whether the owner lists the edge of this number and, if so and if its sides are known, whether it holds beside it
+-- what is reported is whether the owner lists the edge of this number and, if so and if its sides are known, whether it holds beside it
 abbrev pub IsTold : Owned → List (Option Sides) → ℕ → Owner → Told → Type 0
 IsTold r known n o Nothing = is_owner_listed o (owners_at r n) ≡ false
 IsTold r known n o Unknown = (is_owner_listed o (owners_at r n) ≡ true) × (sides_at known n ≡ None)

@@ -97,7 +97,16 @@ impl Line {
         let reach = self.reach;
         let ends = self.ends;
         let from = self.row;
-        let passed = move_on(alloc, edges, &mut numbers, from, row, &ends, self.passed, starts)?;
+        let passed = move_on(
+            alloc,
+            edges,
+            &mut numbers,
+            from,
+            row,
+            &ends,
+            self.passed,
+            starts,
+        )?;
         find_begun(alloc, edges, &numbers, starts, row, &mut known, &reach)?;
         Ok(Line {
             row,

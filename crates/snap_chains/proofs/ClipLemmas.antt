@@ -1,5 +1,6 @@
 -- Slabs: a centre that is off a segment in all columns of its slab isn't met.
-use Rattle.std.proofs.Common.{◌≡◌, ◌⊎◌, ⊎_elim, ℕ, ◌+◌, ◌<◌, ◌≤◌, inl, inr, List, [], ◌∷◌, ◌++◌, length, get_or, take, ℤ, pos, ◌+ℤ◌, ◌-ℤ◌, ◌*ℤ◌, ◌≤ℤ◌, ◌<ℤ◌}
+use Rattle.std.proofs.Common.{◌≡◌, ◌⊎◌, ⊎_elim, ℕ, ◌+◌, ◌<◌, ◌≤◌, inl, inr, List, [], ◌∷◌, ◌++◌}
+use Rattle.std.proofs.Common.{length, get_or, take, ℤ, pos, ◌+ℤ◌, ◌-ℤ◌, ◌*ℤ◌, ◌≤ℤ◌, ◌<ℤ◌}
 use Rattle.std.proofs.Common.{refl, sym, ap, ◌∙◌, subst, arith, Bool, true, false, Contains, Decides}
 use Rattle.std.specs.Prelude.{not}
 use Rattle.std.specs.List.Sorted.{IsPartitionedBy, IsPartitionPoint}
@@ -150,7 +151,8 @@ row_at_most p q (inl e) = let f : p.x ≡ q.x = ap (λ v. v.x) e in omega (arith
 row_at_most p q (inr (inl h)) = omega (arith, linear)
 row_at_most p q (inr (inr h)) = omega (arith, linear, h.0)
 
-pub off_first : (a b : Point) (s low high : ℤ) (cs : List Point) → a.y ≤ℤ b.y → ArePointsRising cs → IsPartitionedBy (λ c. is_off a b s low high c) cs
+pub off_first : (a b : Point) (s low high : ℤ) (cs : List Point) → a.y ≤ℤ b.y → ArePointsRising cs
+    → IsPartitionedBy (λ c. is_off a b s low high c) cs
 off_first a b s low high cs h up i j d le lt t =
     let p = get_or cs i d in
     let q = get_or cs j d in

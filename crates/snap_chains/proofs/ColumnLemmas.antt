@@ -33,7 +33,8 @@ before_trans p q r (inl h) (inr g) = inl (omega (arith, linear, g.0))
 before_trans p q r (inr h) (inl g) = inl (omega (arith, linear, h.0))
 before_trans p q r (inr h) (inr g) = inr (h.0 ∙ g.0, omega (arith, linear, h.1, g.1))
 
-pub centres_rise : (cs : List Point) → ArePointsRising cs → (i j : ℕ) (d : Point) → i ≤ j → j < length cs → IsAtMost (get_or cs i d) (get_or cs j d)
+pub centres_rise : (cs : List Point) → ArePointsRising cs → (i j : ℕ) (d : Point) → i ≤ j → j < length cs
+    → IsAtMost (get_or cs i d) (get_or cs j d)
 centres_rise cs h i zero d le lt =
     let e : i ≡ zero = omega arith in
     inl (ap (λ k. get_or cs k d) e)
@@ -142,7 +143,7 @@ module _ (low high a b : Point) (h : AreCorners low high a b) where
       ⊎_elim
           (λ (early : k < from).
           let less = (Decides-is_lesser_point c low).0
-              (subst (λ (v : Point). is_lesser_point v low ≡ true) at (p.early.0 k c (omega arith) early)) in
+          (subst (λ (v : Point). is_lesser_point v low ≡ true) at (p.early.0 k c (omega arith) early)) in
           absurd (early_apart c less met))
           (λ (right : from ≤ k). right)
           (cases_lt k from),

@@ -145,7 +145,7 @@ side_of_some segments s chain path walk among h so_far link =
 pub next_side : (segments : List Segment) (hot ring walk chain : List Point) (sides : List Segment) (i : ℕ) (s : Segment) →
     AreHotCentres segments hot
     → ((e : Point × Point) → Contains (pairs (closed_walk ring)) e → Contains (map segment_ends segments) e)
-        → map segment_ends sides ≡ pairs (closed_walk ring)
+    → map segment_ends sides ≡ pairs (closed_walk ring)
     → i < length sides → s ≡ get_or sides i s → IsChain (Contains hot) s chain
     → (p : Point) (ps : List Point) → ring ≡ p ∷ ps → IsRoundedPath segments (p ∷ map (λ t. t.b) (take i sides)) walk
     → IsRoundedPath segments (p ∷ map (λ t. t.b) (take (i + 1) sides)) (walk ++ tail chain)

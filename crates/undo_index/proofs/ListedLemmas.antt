@@ -79,7 +79,7 @@ pub all_removed : (old : Listed) (elements : Touched) (place : ℕ) (new : Liste
     AreRemoved old elements place new
 all_removed old elements place new removes e p = sym (none_kept (is_listed new e p) (p == place)) ∙ removes e p
 
--- ---- taken back
+-- ---- removed again
 
 pub same_listed : (one other : Listed) → ((e : Element) (p : ℕ) → is_listed one e p ≡ is_listed other e p) → one ≡ other
 same_listed one other same = same_set pairs_total pairs_exact one other (λ q. same q.0 q.1)
@@ -99,7 +99,7 @@ back false false false r a fresh adds = refl
 same_place : (p q : ℕ) → (p == q) ≡ true → p ≡ q
 same_place p q h = (Decides-eqb p q).0 h
 
--- what was added of a new place, all or in part, is taken back
+-- what was added of a new place, all or in part, is removed again
 pub taken_back : (old : Listed) (elements : Touched) (place : ℕ) (now new : Listed) (rest : List Element) →
     Adds old elements place now rest → AreRemoved now elements place new → IsNew old place → new ≡ old
 taken_back old elements place now new rest adds removed fresh = same_listed new old (λ e p.

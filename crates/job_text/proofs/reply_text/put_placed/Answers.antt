@@ -8,5 +8,7 @@ pub returns : goal.returns
 unfolding found_text
 returns g c =
     Buffered-is
-    (Buffered-then (Buffered-then (Buffered-then (Buffered-then (Buffered-then (Buffered-then c.put.ensures c.put_cell.ensures) c.put_byte.ensures) c.put_unsigned.ensures) c.put_byte-2.ensures) c.put_turning.ensures) c.put_point.ensures)
+    (Buffered-then (Buffered-then (Buffered-then (Buffered-then (Buffered-then (Buffered-then c.put.ensures c.put_cell.ensures)
+    c.put_byte.ensures)
+    c.put_unsigned.ensures) c.put_byte-2.ensures) c.put_turning.ensures) c.put_point.ensures)
     (search rules)

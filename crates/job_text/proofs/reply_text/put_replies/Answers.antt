@@ -16,7 +16,8 @@ loop-replies-preserved g c =
     let replies = c.replies-item.result in
     record {
       lines = Begun-then (sessions_text (session + 1) (drop (i + 1) sessions)) c.loop-replies.invariant.lines
-          (Buffered-is {xs = session_text session 1 c.as_slice.result.now} c.put_session.ensures (ap (session_text session 1) (c.as_slice.ensures ∙ c.replies-item.is)))
+          (Buffered-is {xs = session_text session 1 c.as_slice.result.now} c.put_session.ensures
+          (ap (session_text session 1) (c.as_slice.ensures ∙ c.replies-item.is)))
           (at_drop_more (sessions_text session) sessions i replies c.loop-replies-test.true);
       count = omega (arith, c.loop-replies.invariant.count);
     }

@@ -8,5 +8,7 @@ pub returns : goal.returns
 unfolding reply_text
 returns g c =
     Buffered-is
-    (Buffered-then (Buffered-then (Buffered-then (Buffered-then (Buffered-then (Buffered-then c.put_byte.ensures c.put_unsigned.ensures) c.put_byte-2.ensures) c.put_unsigned-2.ensures) c.put_byte-3.ensures) c.put_answer.ensures) c.put.ensures)
+    (Buffered-then (Buffered-then (Buffered-then (Buffered-then (Buffered-then (Buffered-then c.put_byte.ensures
+    c.put_unsigned.ensures) c.put_byte-2.ensures)
+    c.put_unsigned-2.ensures) c.put_byte-3.ensures) c.put_answer.ensures) c.put.ensures)
     (search rules)

@@ -8,5 +8,6 @@ pub returns : goal.returns
 unfolding found_text
 returns g c =
     Buffered-is
-    (Buffered-then (Buffered-then (Buffered-then (Buffered-then c.put.ensures c.put_cell.ensures) c.put_byte.ensures) c.put-2.ensures) c.put_rings.ensures)
+    (Buffered-then (Buffered-then (Buffered-then (Buffered-then c.put.ensures c.put_cell.ensures)
+    c.put_byte.ensures) c.put-2.ensures) c.put_rings.ensures)
     (search rules)

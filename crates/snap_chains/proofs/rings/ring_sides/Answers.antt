@@ -15,7 +15,7 @@ side_between-requires c =
     let later = c.in-Some.later.now in
     let whole : c.args.ring.now ≡ first ∷ later = search rules in
     λ e. differ_at first first later (subst (λ r. NeighboursDiffer (closed_walk r)) whole c.requires)
-        c.loop-to.to-index _ c.loop-to-test.true
+    c.loop-to.to-index _ c.loop-to-test.true
     (sym c.loop-to.invariant.at ∙ e)
 
 pub loop-to-preserved : goal.loop-to-preserved

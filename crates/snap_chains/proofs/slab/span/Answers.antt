@@ -13,7 +13,8 @@ loop-centre-preserved c =
     let origin : Point = record { x = pos 0; y = pos 0 } in
     let x = get_or cs i origin in
     between_more cs i x (to_z w32 c.loop-centre.low-bits) (to_z w32 c.loop-centre.high-bits) _ _ c.loop-centre-test.true
-    (get_or_default cs i _ origin c.loop-centre-test.true) c.loop-centre.invariant (search rules) (search rules) (search rules) (search rules)
+    (get_or_default cs i _ origin c.loop-centre-test.true) c.loop-centre.invariant (search rules) (search rules) (search rules)
+    (search rules)
 
 pub returns : goal.returns
 returns c =

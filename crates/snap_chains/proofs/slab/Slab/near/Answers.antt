@@ -15,6 +15,7 @@ returns-clause-all c = λ p m met.
     let cs = c.as_slice-centres.result.now in
     let start = c.min-start.result in
     let end = c.min-end.result in
-    let held = both_met cs s.a s.b c.places-from.result c.reached-first.result start end c.places-from.ensures.all c.reached-first.ensures.all
+    let held = both_met cs s.a s.b c.places-from.result c.reached-first.result start end c.places-from.ensures.all
+    c.reached-first.ensures.all
     (search rules) (search rules) in
     columns_have_all cs s.a s.b (start, end) held p (search rules) met
