@@ -147,7 +147,7 @@ pass (within inner more) depth bs free =
     pass_open depth ((matched_text inner ++ (41 ∷ matched_text more)) ++ bs)
     ∙ ap (behind_closing (suc depth)) (append_assoc (matched_text inner) (41 ∷ matched_text more) bs)
     ∙ pass inner (suc depth) (41 ∷ (matched_text more ++ bs)) parts.0 ∙ pass_close depth (matched_text more ++ bs)
-        ∙ pass more depth bs parts.1
+    ∙ pass more depth bs parts.1
 
 last_close : (bs : List ℕ) → behind_closing 0 (41 ∷ bs) ≡ Some bs
 unfolding behind_closing

@@ -270,7 +270,7 @@ call_points scale cs turn ratio e p q =
     taken (list_any is_askew_change cs) OffAxis _ turn e (λ straight e.
     taken (not (list_all (is_whole_change scale) cs)) OffGrid _ turn e (λ whole e.
     in_turn_from scale cs (turn_changed_by scale unturned cs) turn ratio straight
-        (not_false (list_all (is_whole_change scale) cs) whole) refl e
+    (not_false (list_all (is_whole_change scale) cs) whole) refl e
     p q))
 
 call_by : (content next : Content) (offset symbol : ℕ) (cs : List Change) → IsRatio (current_scale content.definition)

@@ -208,10 +208,10 @@ next_scale content next offset Extension ratio e =
     let made : Content = record content { extensions = content.extensions + 1 } in
     let is : made ≡ next = cc in
     let same : current_scale next.definition ≡ current_scale content.definition =
-        ap (λ (n : Content). current_scale n.definition) (sym is) in
+    ap (λ (n : Content). current_scale n.definition) (sym is) in
     record { scale = same; ratio = kept_scale content next Extension ratio same }
 next_scale content next offset Comment ratio e =
     let is : content ≡ next = cc in
     let same : current_scale next.definition ≡ current_scale content.definition =
-        ap (λ (n : Content). current_scale n.definition) (sym is) in
+    ap (λ (n : Content). current_scale n.definition) (sym is) in
     record { scale = same; ratio = kept_scale content next Comment ratio same }

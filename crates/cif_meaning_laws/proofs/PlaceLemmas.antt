@@ -250,7 +250,7 @@ polygon_shape scale vs ring ratio e =
 polygon_law : (content next : Content) (vertices : List Vertex) → IsRatio (current_scale content.definition)
     → after_polygon content vertices ≡ Ok next
     → DrawsRing content next (AreAtTwo (current_scale content.definition) vertices)
-        (IsPolygonOf (current_scale content.definition) vertices)
+    (IsPolygonOf (current_scale content.definition) vertices)
 polygon_law content next vertices ratio e =
     let d = polygon_drew content next vertices e in
     record {

@@ -76,4 +76,4 @@ pub record DistancesAreScaled : Type 0 where
   pub polygons : (content next : Content) (offset : ℕ) (vertices : List Vertex) → IsRatio (current_scale content.definition)
       → effect_of content offset (command.Polygon vertices) ≡ Ok next
       → DrawsRing content next (AreAtTwo (current_scale content.definition) vertices)
-          (IsPolygonOf (current_scale content.definition) vertices)
+      (IsPolygonOf (current_scale content.definition) vertices)

@@ -27,7 +27,7 @@ unfoldable pub scaled_to_units : Scale → Number → Option Number
 scaled_to_units scale n =
     if scale.denominator == 0 then None
     else if product_in_units scale n.magnitude % scale.denominator == 0
-        then in_bits n.negative (product_in_units scale n.magnitude / scale.denominator)
+    then in_bits n.negative (product_in_units scale n.magnitude / scale.denominator)
     else None
 
 -- the coordinate that a word spells at this scale

@@ -73,7 +73,7 @@ module _ (layout : Layout) (sound : IsSound layout) (named : AreOnNamedLayers la
       unmapped (λ c. has_symbol all c.1 ≡ true) edge_of calls
       (subst (All (λ c. has_symbol all c.1 ≡ true)) (sym e)
       (All-weaker (λ c. IsGood layout all c.0 c.1) (λ c. has_symbol all c.1 ≡ true) (λ c g. g.1)
-          (element_calls (elements_written file)) good))
+      (element_calls (elements_written file)) good))
 
   acyclic : (file : Written) (calls : List Pending) → WrittenCalls layout file → map edge_of calls ≡ element_calls (elements_written file)
       → IsAcyclic (map edge_of calls)

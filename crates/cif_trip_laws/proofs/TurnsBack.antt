@@ -103,7 +103,7 @@ sum_is mirror quarter shift = λ i. record { x = zero_first shift.x i; y = zero_
 shift_turned : (mirror : Bool) (quarter : Quarter) (shift : Point) → is_in_range shift ≡ true → (none : Bool)
     → point_eq shift origin ≡ none
     → turn_changed_by half (unshifted mirror quarter) (shifts none shift)
-        ≡ Some (record { mirror = mirror; quarter = quarter; shift = shift })
+    ≡ Some (record { mirror = mirror; quarter = quarter; shift = shift })
 unfolding turn_changed_by
 shift_turned mirror quarter shift h true e =
     ap (λ s. Some (record { mirror = mirror; quarter = quarter; shift = s })) (sym (point_eq-true shift origin e))

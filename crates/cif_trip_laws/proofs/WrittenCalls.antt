@@ -150,7 +150,7 @@ module _ (layout : Layout) (sound : IsSound layout) (named : AreOnNamedLayers la
     own_calls [] h = All-nil (λ c. IsGood layout all c.0 c.1)
     own_calls (n ∷ ns) h =
         both_calls (IsGood layout all) (elements_of (written_definition layout n))
-            (flat_map elements_of (map (written_definition layout) ns))
+        (flat_map elements_of (map (written_definition layout) ns))
         (held_calls (IsGood layout all) layout (Symbol n) n (held_in layout (Symbol n)) (held layout sound named (Symbol n))
         (λ t there. (in_symbol (All-head (λ m. has_symbol (own_numbers layout) m ≡ true) n ns h) there, target_within (Symbol n) t there)))
         (own_calls ns (All-tail (λ m. has_symbol (own_numbers layout) m ≡ true) n ns h))

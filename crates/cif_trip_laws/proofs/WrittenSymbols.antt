@@ -119,8 +119,12 @@ module _ (layout : Layout) (sound : IsSound layout) (named : AreOnNamedLayers la
       let wrapping : Definition = record { number = unused; items = held_in layout Top } in
       let is = least_unused_is (own_numbers layout) in
       let less : length (own_numbers layout) < MAX_SYMBOLS =
-      omega (arith, room, length-map (own_numbers layout) (written_definition layout),
-          length-append (own_definitions layout) (wrapping ∷ [])) in
+      omega (
+        arith,
+        room,
+        length-map (own_numbers layout) (written_definition layout),
+        length-append (own_definitions layout) (wrapping ∷ []),
+      ) in
       let small : unused ≤ MAX_SYMBOL = omega (arith, less, unused_within (length (own_numbers layout)) 1 (own_numbers layout)) in
       record {
         definitions = own (wrapping ∷ []) (omega (arith, less))

@@ -120,6 +120,6 @@ pub turn_spelled : (turn : Turn) → is_in_range turn.shift ≡ true → AreCall
 turn_spelled turn within =
     let shift = shift_text turn.shift in
     subst (λ (t : List ℕ). AreCallChanges t (changes_of turn))
-        (sym (append_assoc (mirror_text turn.mirror) (quarter_text turn.quarter) shift))
+    (sym (append_assoc (mirror_text turn.mirror) (quarter_text turn.quarter) shift))
     (mirror_spelled turn.mirror (quarter_text turn.quarter ++ shift) (quarter_changes turn.quarter ++ shift_changes turn.shift)
     (quarter_spelled turn.quarter shift (shift_changes turn.shift) (shift_spelled turn.shift within)))

@@ -191,8 +191,12 @@ made_logged g next session place call (Some answer) own kept sound look (inl mad
 pub guard_after : (g : Guard) (next : History) (session : ℕ) (call : Call) (answer : Option Answer) (more : Bool) → IsGuard g
     → IsSound g.book.layout → 1 ≤ session
     → session ≤ g.sessions → Stepped g.book session call answer next → more ≡ nat_lt (length g.book.log) (length next.log)
-    → IsGuard (record { sessions = g.sessions; book = next; counts = with_one_counted more g.counts (session - 1);
-        total = g.total + ones more })
+    → IsGuard (record {
+      sessions = g.sessions;
+      book = next;
+      counts = with_one_counted more g.counts (session - 1);
+      total = g.total + ones more;
+    })
 guard_after g next session call answer true kept sound low high stepped is =
     let less : length g.book.log < length next.log = grind (arith, nat_tests) in
     guard_more g next session call answer kept sound low high stepped less

@@ -156,7 +156,7 @@ module _ (b c : Box) (h : touch b c ≡ true) where
 
   both_reach : (cut : Cut)
       → ((box_reaches_low cut b ≡ true) × (box_reaches_low cut c ≡ true))
-          ⊎ ((box_reaches_high cut b ≡ true) × (box_reaches_high cut c ≡ true))
+      ⊎ ((box_reaches_high cut b ≡ true) × (box_reaches_high cut c ≡ true))
   both_reach (Column at) = one_side at b.0.x b.1.x c.0.x c.1.x first.0 second.0
   both_reach (Row at) = one_side at b.0.y b.1.y c.0.y c.1.y first.1 second.1
 

@@ -31,7 +31,7 @@ pub is_taken : (v : Point) (es : List Ends) (t : Ends × List Ends) → take_at 
 is_taken v [] t h = absurd cc
 is_taken v (e ∷ es) t h =
     elim (touches v e) as (λ b. touches v e ≡ b → cond b (Some (e, es)) (keeping_first e (take_at v es)) ≡ Some t
-        → IsTaken v (e ∷ es) t.0 t.1) [
+    → IsTaken v (e ∷ es) t.0 t.1) [
       | true ↦ λ at g. let same : (e, es) ≡ t = cc in subst (λ (z : Ends × List Ends). IsTaken v (e ∷ es) z.0 z.1) same (here e es at)
       | false ↦ λ off g. taken_behind v e es (take_at v es) t off (λ u k. is_taken v es u k) g
     ] refl h

@@ -106,7 +106,7 @@ joined_by_place k x y rings i j scale li lj hi hj =
           let bi = get_or-map bounding_box rings i [] d li in
           let bj = get_or-map bounding_box rings j [] d lj in
           ap₂ touch bi bj ∙ touch_by_place k x y (bounding_box (get_or rings i []))
-              (bounding_box (get_or rings j [])) scale (hi []) (hj [])),
+          (bounding_box (get_or rings j [])) scale (hi []) (hj [])),
     )
 
 not_true : (b : Bool) → (b ≡ true → ⊥) → b ≡ false

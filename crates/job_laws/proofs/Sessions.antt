@@ -113,7 +113,7 @@ scripts_sound done steps n (line ∷ more) res h =
     let goes_on = λ (next : List Step). scripts_of done next (n + 1) more in
     choose (is_only (codes "%order") ws) (Ok (done ++ (steps ∷ []), (n, line ∷ more)))
     (if is_session_line (length done + 2) ws then scripts_of (done ++ (steps ∷ [])) [] (n + 1) more
-        else (steps_with steps n ws >>= goes_on))
+    else (steps_with steps n ws >>= goes_on))
     (Ok res) h
     (λ e same.
     last_script done steps n (line ∷ more) res (only_is (codes "%order") ws e)
@@ -253,7 +253,7 @@ order_at_once n [] ends = refl
 order_at_once n (line ∷ more) ends =
     ap (λ t. if t then Ok ([], (n, line ∷ more))
     else if is_session_line 1 (words_of line) then scripts_of [] [] (n + 1) more else Err (FaultLine n))
-        (ap (is_only (codes "%order")) ends)
+    (ap (is_only (codes "%order")) ends)
 
 first_session : (n : ℕ) (line : JobLine) (more : List JobLine) → AreSession 1 (words_of line) →
     sections_at (n, line ∷ more) ≡ scripts_of [] [] (n + 1) more

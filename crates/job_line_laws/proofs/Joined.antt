@@ -122,5 +122,5 @@ words-line ws all =
     let high = high_joined ws all in
     ap (λ l. words (without_last 13 l)) (without-newline (spaced_words ws))
     ∙ ap (λ t. words (if t then take (length (spaced_words ws) - 1) (spaced_words ws) else spaced_words ws))
-        (without-return (spaced_words ws) high)
+    (without-return (spaced_words ws) high)
     ∙ words-spaced_words ws all

@@ -97,7 +97,7 @@ box_sound ws command h =
     leading_point a.1 >>= λ b. if_ended b.1 (Box cell.0 layer.0 a.0 b.0))
     command h (λ cell r1 c e1 is1 h1.
     next layer_name_of r1 (λ layer. leading_point layer.1 >>= λ a. leading_point a.1 >>= λ b. if_ended b.1 (Box c layer.0 a.0 b.0))
-        command h1
+    command h1
     (λ layer r2 l e2 is2 h2.
     next_point r2 (λ a. leading_point a.1 >>= λ b. if_ended b.1 (Box c l a.0 b.0)) command h2 (λ x y r3 a e3 is3 h3.
     next_point r3 (λ b. if_ended b.1 (Box c l a b.0)) command h3 (λ u v r4 b e4 is4 h4.
@@ -137,7 +137,7 @@ poly_sound : (ws : List Word) (command : Command) → poly_command ws ≡ Some c
 unfolding poly_command
 poly_sound ws command h =
     next parsed_cell ws (λ cell. leading_layer cell.1 >>= λ layer. parsed_points [] layer.1 >>= λ points. Some (Poly cell.0 layer.0 points))
-        command h
+    command h
     (λ cell r1 c e1 is1 h1.
     next layer_name_of r1 (λ layer. parsed_points [] layer.1 >>= λ points. Some (Poly c layer.0 points)) command h1
     (λ layer r2 l e2 is2 h2.
@@ -169,7 +169,7 @@ place_sound : (ws : List Word) (command : Command) → place_command ws ≡ Some
 unfolding place_command
 place_sound ws command h =
     next parsed_cell ws (λ cell. leading_symbol cell.1 >>= λ target. leading_turning target.1 >>= λ turning.
-        leading_point turning.1 >>= λ shift.
+    leading_point turning.1 >>= λ shift.
     if_ended shift.1 (Place cell.0 target.0 (record { mirror = turning.0.0; quarter = turning.0.1; shift = shift.0 }))) command h
     (λ cell r1 c e1 is1 h1.
     next (parsed_number MAX_SYMBOL) r1 (λ target. leading_turning target.1 >>= λ turning. leading_point turning.1 >>= λ shift.
@@ -191,7 +191,7 @@ bool_sound op ws command h =
     leading_layer b.1 >>= λ out. if_ended out.1 (Combine op cell.0 a.0 b.0 out.0))
     command h (λ cell r1 c e1 is1 h1.
     next layer_name_of r1 (λ a. leading_layer a.1 >>= λ b. leading_layer b.1 >>= λ out. if_ended out.1 (Combine op c a.0 b.0 out.0))
-        command h1
+    command h1
     (λ first r2 a e2 is2 h2.
     next layer_name_of r2 (λ b. leading_layer b.1 >>= λ out. if_ended out.1 (Combine op c a b.0 out.0)) command h2
     (λ second r3 b e3 is3 h3.
@@ -304,7 +304,7 @@ txn_sound : {P : Type 0} (meaning : TxnId → Step) (ws : List Word) (step : Ste
 unfolding txn_alone
 txn_sound meaning ws step h says =
     mapped meaning (txn_alone ws) step h
-        (λ txn is same. one_word parsed_txn ws txn is (λ word first read. says word txn first read (sym same)))
+    (λ txn is same. one_word parsed_txn ws txn is (λ word first read. says word txn first read (sym same)))
 
 named_sound : (name : Word) (ws : List Word) (step : Step) → step_named name ws ≡ Some step → Says (name ∷ ws) step
 unfolding step_named

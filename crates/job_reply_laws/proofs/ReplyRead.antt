@@ -404,7 +404,7 @@ lines_tell session step a other turn b c1 c2 is c3 c4 too same =
     let texts = no_front (spaced_words (line_words session step a) ++ codes ");\n") (spaced_words (line_words other turn b) ++ codes ");\n")
     (sym (line_joined session step a) ∙ same ∙ line_joined other turn b) in
     let joint = append_cancel_right (spaced_words (line_words session step a)) (spaced_words (line_words other turn b)) (codes ");\n")
-        texts in
+    texts in
     let equal : line_words session step a ≡ line_words other turn b =
     sym (line_read session step a c1 c2 is) ∙ ap words joint ∙ line_read other turn b c3 c4 too in
     let parts = words_same (decimal session) (decimal step) (answer_words a) (decimal other) (decimal turn) (answer_words b) equal in

@@ -52,7 +52,7 @@ own_all : (c : CellId) (cs : List LentCall) → calls_standing_in (map (in_graph
 own_all c [] = refl
 own_all c (x ∷ xs) =
     ap (λ b. cond b ((c, x.1) ∷ calls_standing_in (map (in_graph c) xs) c) (calls_standing_in (map (in_graph c) xs) c))
-        ((cell_eq-Decides c c).1 refl)
+    ((cell_eq-Decides c c).1 refl)
     ∙ ap (λ (cs : List (CellId × ℕ)). (c, x.1) ∷ cs) (own_all c xs)
 
 none_of : (d c : CellId) (cs : List LentCall) → cell_eq d c ≡ false → calls_standing_in (map (in_graph d) cs) c ≡ []

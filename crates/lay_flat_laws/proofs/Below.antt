@@ -90,7 +90,7 @@ same_rings l m sound cell layer same walks =
 same_answer : (b : Bool) (t u : Result (Unit {0}) FlatFault) (ends others : List End) (rings drawn : List FlatRing) →
     t ≡ u → ends ≡ others → rings ≡ drawn →
     (if b then on_success t (λ _. flat_at ends rings) else Err NoCell)
-        ≡ (if b then on_success u (λ _. flat_at others drawn) else Err NoCell)
+    ≡ (if b then on_success u (λ _. flat_at others drawn) else Err NoCell)
 same_answer b t u ends others rings drawn tests same_end same_ring =
     ap (λ r. if b then on_success r (λ _. flat_at ends rings) else Err NoCell) tests
     ∙ ap (λ es. if b then on_success u (λ _. flat_at es rings) else Err NoCell) same_end

@@ -38,7 +38,7 @@ quarter_eq q r = quarter_turns q == quarter_turns r
 pub quarter_eq-Decides : (q r : Quarter) → Decides (quarter_eq q r) (q ≡ r)
 quarter_eq-Decides q r =
     Decides-like (quarter_eq q r) (λ e. sym (quarter_of-quarter_turns q) ∙ ap quarter_of e ∙ quarter_of-quarter_turns r)
-        (λ e. ap quarter_turns e)
+    (λ e. ap quarter_turns e)
     (Decides-eqb (quarter_turns q) (quarter_turns r))
 
 pub quarter_eq_equiv : IsEquivalence quarter_eq

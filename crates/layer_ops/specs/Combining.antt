@@ -28,4 +28,4 @@ tested_shapes shapes = if are_short shapes then Ok tt else Err TooMany
 unfoldable pub shaped : List Ends → Result (List Rings) OpFault
 shaped edges =
     if list_all is_short (linked_rings edges) && are_short (parts_of (linked_rings edges)) then Ok (parts_of (linked_rings edges))
-        else Err TooMany
+    else Err TooMany

@@ -33,7 +33,7 @@ module _ {O : Type 0} (written : O → Option (List ℕ)) (failures : O → ℕ)
   IsAt seen (InSteps run) =
       (heard : List (List ℕ)) × (file : Contents) × (behind seen ≡ Some heard) × IsBase seen file
       × (run ≡ after_lines (before_first_line (layout_of file)) heard)
-          × WroteAll written failures base out (answers (before_first_line (layout_of file)) heard)
+      × WroteAll written failures base out (answers (before_first_line (layout_of file)) heard)
 
   -- the same, by the bytes that were given
   abbrev pub Hears : List ℕ → Phase → List ℕ → Type 0

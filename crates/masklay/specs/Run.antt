@@ -18,7 +18,7 @@ pub record IsRun {I O : Type 0} (asked : Asked) (remaining : I → Option (List 
   -- they are read to their end, but where the device fails or is endless, and where memory is refused
   pub unended : (counts input').ends ≡ (counts input).ends → (counts input').failures ≡ (counts input).failures →
       (IsEndless (counts input) (counts input') × (status ≡ Device) × (out' ≡ out))
-          ⊎ WritesOutput written failures out out' memory_output status
+      ⊎ WritesOutput written failures out out' memory_output status
   -- where the input's device fails nothing is written
   pub failed : (counts input').failures ≢ (counts input).failures → (status ≡ Device) × (out' ≡ out)
   -- the input is read so often at most

@@ -75,7 +75,7 @@ module _ (base : Layout) (s : State) (good : IsGood base s) (session : ℕ) (low
         by : (b c : Bool) (stale : Option TxnId) → is_own h txn ≡ c →
             stale_by h.entries txn.footprint (drop (txn.opened + 1) h.log) ≡ stale →
             IsGood base (commit_outcome s session txn
-                (cond b (Err LogFull, h) (cond (not c) (Err Foreign, h) (commit_unless stale h txn)))).1
+            (cond b (Err LogFull, h) (cond (not c) (Err Foreign, h) (commit_unless stale h txn)))).1
         by true c stale own fresh = left base s good session h is refl (Some txn) held
         by false false stale own fresh = left base s good session h is refl (Some txn) held
         by false true None own fresh = left base s good session (book.after_commit h txn)

@@ -62,7 +62,7 @@ abbrev Alike : ℕ → List (ℕ × Step) → State → List Reply × State → 
 Alike sessions steps old end =
     IsPermutation (rearranged.names steps) (order_of end.1.history.log (hands_of sessions (rearranged.names steps) end.0))
     × LeadsTo sessions (dealt_scripts sessions steps) (order_of end.1.history.log (hands_of sessions (rearranged.names steps) end.0))
-        old end.1
+    old end.1
     (hands_of sessions (rearranged.names steps) end.0)
 
 alike : (base : Layout) (sessions limit : ℕ) (steps : List (ℕ × Step)) → sessions ≤ 64 →

@@ -65,7 +65,7 @@ AreClosed {A} (w ∷ ws) = ((a : A) × IsFromTo a a w) × AreClosed ws
 
 pub even_walks : {A E : Type 0} (u : A × A → E) (test : E → Bool) (f : A → Bool)
     → ((e : A × A) → test (u e) ≡ xor (f e.0) (f e.1)) → (walks : List (List A)) → AreClosed walks
-        → parity test (walked_edges u walks) ≡ false
+    → parity test (walked_edges u walks) ≡ false
 even_walks u test f e [] h = refl
 even_walks {A} u test f e (w ∷ ws) h =
     parity-append test (map u (pairs w)) (walked_edges u ws)

@@ -19,11 +19,17 @@ IsMarked sides c =
 
 pub hot_marked : (segments : List Segment) (c : Point) → IsHot segments c → IsMarked (map segment_ends segments) c
 hot_marked segments c (inl (s, m, inl h)) =
-    inl (segment_ends s, has (map segment_ends segments) (segment_ends s) (Contains-map segment_ends segments s m),
-        inl ((HoldsPlace-whole s.a c).0 h))
+    inl (
+      segment_ends s,
+      has (map segment_ends segments) (segment_ends s) (Contains-map segment_ends segments s m),
+      inl ((HoldsPlace-whole s.a c).0 h),
+    )
 hot_marked segments c (inl (s, m, inr h)) =
-    inl (segment_ends s, has (map segment_ends segments) (segment_ends s) (Contains-map segment_ends segments s m),
-        inr ((HoldsPlace-whole s.b c).0 h))
+    inl (
+      segment_ends s,
+      has (map segment_ends segments) (segment_ends s) (Contains-map segment_ends segments s m),
+      inr ((HoldsPlace-whole s.b c).0 h),
+    )
 hot_marked segments c (inr (s, t, m, n, x)) = inr (
   segment_ends s,
   segment_ends t,

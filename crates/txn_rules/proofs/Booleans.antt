@@ -52,7 +52,7 @@ unfolding flat_of
 flat_there l cell layer rings h = by_test (is_cell l cell) h where
   by_test : (b : Bool) →
       (if b then on_success (tested l cell) (λ _. flat_at (ends_of l cell) (rings_at l layer (ends_of l cell))) else Err NoCell)
-          ≡ Ok rings →
+      ≡ Ok rings →
       b ≡ true
   by_test true g = refl
   by_test false g = absurd (cc)

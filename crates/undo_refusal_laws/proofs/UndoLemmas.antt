@@ -350,7 +350,7 @@ redo_moved_so : (h : History) (txn other : TxnId) → NamesDiffer h → IsMovedB
 redo_moved_so h txn other named is =
     redo_at h txn is.earlier is.entry is.later None named is.among (unread_so is.entry.writes is.later is.unread)
     ∙ ap moved_refusal (first_moved_so is.earlier is.entry other
-        (earlier_named h txn false is.earlier is.entry is.later named is.among) is.moved)
+    (earlier_named h txn false is.earlier is.entry is.later named is.among) is.moved)
 
 abbrev MayRedo : BookFault → Type 0
 MayRedo NoTxn = Unit {0}

@@ -10,4 +10,4 @@ abbrev pub invariant-loop-item : goal.invariant-loop-item
 invariant-loop-item g l =
     Begun g.O.Out.written g.O.Out.failures l.initial.out l.initial.buffer l.out l.buffer
     (lines_text (items_lines l.set (map entry_item l.item-iterator)))
-        (lines_text (items_lines None (map entry_item l.initial.item-iterator)))
+    (lines_text (items_lines None (map entry_item l.initial.item-iterator)))

@@ -61,7 +61,7 @@ returns-clause-amount g c =
     (stepped_commit c.self.inside.book c.commit-result.new.self c.args.session c.args.work c.commit-result.result (search rules)
     (search rules) (search rules) c.self.invariant.0.pending c.commit-result.ensures.step) in
     let more : ones (nat_lt (length c.log-place.result.now) (length c.log.result.now))
-        ≡ calls_added (commit_answer c.commit-result.result) =
+    ≡ calls_added (commit_answer c.commit-result.result) =
     (λ i. ones (nat_lt (length (first i)) (length (second i)))) ∙ counted in
     let amount = c.count_call.ensures.amount in
     omega (arith, amount, more)
