@@ -16,10 +16,9 @@ use lay_items::Snapshot;
 use lay_point::NoMemory;
 use std::alloc::Global;
 use std::collections::BTreeMap;
-use txn_marks::Footprint;
 use txn_rules::TxnId;
 use txn_work::Work;
-use undo_index::Index;
+use undo_index::{Elements, Index};
 use undo_rules::{Answer, BookFault, Call, Logged};
 
 /// A refused commit.
@@ -39,7 +38,9 @@ struct Prepared {
     /// The transactions that it is linked to.
     seen: Vec<TxnId>,
     /// The elements in which what it wrote lies.
-    met: Footprint,
+    met: Elements,
+    /// Those that it read or wrote.
+    touched: Elements,
 }
 
 /// Returns a refused commit with its work.
@@ -143,7 +144,12 @@ impl Book {
         let Ok(prepared) = self.prepare(alloc, &work) else {
             return Err(refused(BookFault::NoMemory, work));
         };
-        let Prepared { layout, seen, met } = prepared;
+        let Prepared {
+            layout,
+            seen,
+            met,
+            touched,
+        } = prepared;
         if self.entries.reserve(1).is_err()
             || self.log.reserve(1).is_err()
             || self.changes.reserve_commit().is_err()
@@ -151,14 +157,20 @@ impl Book {
             return Err(refused(BookFault::NoMemory, work));
         }
         let index = self.entries.len();
-        let touched = work.footprint();
-        let listed = list_at(&mut self.index, &mut self.places, txn, index, &met, touched);
+        let listed = list_at(
+            &mut self.index,
+            &mut self.places,
+            txn,
+            index,
+            &met,
+            &touched,
+        );
         if listed.is_err() {
             return Err(refused(BookFault::NoMemory, work));
         }
         let place = self.log.len() as u32;
-        let (commands, writes, footprint) = work.into_parts();
-        let entry = Entry::new(txn, place, writes, footprint, seen);
+        let (commands, writes, _) = work.into_parts();
+        let entry = Entry::new(txn, place, writes, touched, seen);
         self.entries.push(entry).unwrap();
         let logged = Logged {
             session: txn.session,
@@ -180,14 +192,21 @@ impl Book {
         ensures layout { IfOk result (λ made. made.layout ≡ applied self.now.layout work.now.writes) }
         ensures seen { IfOk result (λ made. made.seen.items ≡ links_to self.now.entries work.now.footprint) }
         ensures met { IfOk result (λ made. AreMetBy work.now.writes made.met) }
+        ensures touched { IfOk result (λ made. made.touched ≡ work.now.footprint) }
     {
         work.id();
         // Its snapshot is sound.
         work.snapshot().version();
         let layout = work.writes().applied(alloc, &self.layout)?;
-        let seen = self.links_to(alloc, work.footprint())?;
-        let met = work.writes().elements(alloc)?;
-        Ok(Prepared { layout, seen, met })
+        let touched = Elements::of(alloc, work.footprint())?;
+        let seen = self.links_to(alloc, &touched)?;
+        let met = Elements::met_by(alloc, work.writes())?;
+        Ok(Prepared {
+            layout,
+            seen,
+            met,
+            touched,
+        })
     }
 }
 
@@ -198,8 +217,8 @@ fn list_at(
     places: &mut BTreeMap<(u8, u16), usize>,
     txn: TxnId,
     place: usize,
-    met: &Footprint,
-    footprint: &Footprint,
+    met: &Elements,
+    footprint: &Elements,
 ) -> Result<(), NoMemory>
     ensures writers { OnOk result (AreAdded index.old.writers met.now place index.new.writers) }
     ensures readers { OnOk result (AreAdded index.old.readers footprint.now place index.new.readers) }

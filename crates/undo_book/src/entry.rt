@@ -4,8 +4,9 @@ ghost use Rattle.undo_rules.specs.Links.{Entry as Kept, marked};
 
 use lay_point::Sequence;
 use std::marker::Model;
-use txn_marks::{Footprint, Writes};
+use txn_marks::Writes;
 use txn_rules::TxnId;
+use undo_index::Elements;
 
 /// A committed transaction. Contracts see the record of its parts.
 #[derive(Debug, Drop)]
@@ -13,7 +14,7 @@ pub struct Entry {
     pub(crate) txn: TxnId,
     pub(crate) place: u32,
     pub(crate) writes: Writes,
-    pub(crate) footprint: Footprint,
+    pub(crate) footprint: Elements,
     pub(crate) seen: Sequence<TxnId>,
     pub(crate) live: bool,
 }
@@ -42,7 +43,7 @@ impl Entry {
         txn: TxnId,
         place: u32,
         writes: Writes,
-        footprint: Footprint,
+        footprint: Elements,
         seen: Vec<TxnId>,
     ) -> Entry
         ensures { result ≡ record {
@@ -86,7 +87,7 @@ impl Entry {
     }
 
     /// Lends what it read or wrote.
-    pub fn footprint(&self) -> &Footprint
+    pub fn footprint(&self) -> &Elements
         ensures { result.now ≡ self.now.footprint }
     {
         &self.footprint

@@ -17,7 +17,7 @@ use std::alloc::Global;
 use std::collections::BTreeMap;
 use txn_marks::Footprint;
 use txn_rules::TxnId;
-use undo_index::Index;
+use undo_index::{Elements, Index};
 use undo_rules::BookFault;
 
 impl Book {
@@ -126,7 +126,7 @@ fn undo_refusal_at(
     if !entry.live {
         return Ok(Some(BookFault::NotLive));
     }
-    let met = entry.writes.elements(alloc)?;
+    let met = Elements::met_by(alloc, &entry.writes)?;
     Ok(first_reader(index, entries, entry, &met, place + 1).map(BookFault::Depends))
 }
 
@@ -148,7 +148,7 @@ fn redo_refusal_at(
     if entry.live {
         return Ok(Some(BookFault::StillLive));
     }
-    let met = entry.writes.elements(alloc)?;
+    let met = Elements::met_by(alloc, &entry.writes)?;
     if let Some(reader) = first_reader(index, entries, entry, &met, place + 1) {
         return Ok(Some(BookFault::Depends(reader)));
     }

@@ -15,9 +15,8 @@ use crate::entry::Entry;
 use lay_point::NoMemory;
 use std::alloc::Global;
 use std::collections::BTreeMap;
-use txn_marks::Footprint;
 use txn_rules::TxnId;
-use undo_index::{Index, first_apart, put_in_order};
+use undo_index::{Elements, Index, first_apart, put_in_order};
 use undo_rules::{Answer, Call, Logged};
 
 /// Returns the first live transaction from this place on that touched what another one wrote, of which the
@@ -26,7 +25,7 @@ pub(crate) fn first_reader(
     index: &Index,
     entries: &[Entry],
     entry: &Entry,
-    met: &Footprint,
+    met: &Elements,
     from: usize,
 ) -> Option<TxnId>
     requires index { AreIndexed index.now.writers index.now.readers entries.now }
@@ -119,7 +118,7 @@ impl Book {
     pub(crate) fn links_to(
         &self,
         alloc: Global,
-        footprint: &Footprint,
+        footprint: &Elements,
     ) -> Result<Vec<TxnId>, NoMemory>
         ensures { IfOk result (λ links. links.items ≡ links_to self.now.entries footprint.now) }
     {

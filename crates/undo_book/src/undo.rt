@@ -10,6 +10,7 @@ use crate::entry::mark_at;
 use lay_point::NoMemory;
 use std::alloc::Global;
 use txn_rules::TxnId;
+use undo_index::Elements;
 use undo_rules::{Answer, BookFault, Call, Logged};
 
 impl Book {
@@ -56,7 +57,7 @@ impl Book {
     {
         let entry = &self.entries[place];
         let layout = entry.writes.reverted(alloc, &self.layout)?;
-        let met = entry.writes.elements(alloc)?;
+        let met = Elements::met_by(alloc, &entry.writes)?;
         self.log.reserve(1)?;
         self.changes.reserve_call()?;
         self.index.leave(&met, &entry.footprint, place);

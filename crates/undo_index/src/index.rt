@@ -2,10 +2,10 @@
 ghost use Rattle.std.specs.Prelude.{◌≡◌, OnErr, OnOk};
 ghost use Rattle.undo_index.specs.Listed.{AreAdded, AreRemoved, IsNew, nothing_listed};
 
+use crate::elements::Elements;
 use crate::listing::Listing;
 use lay_point::NoMemory;
 use std::alloc::Global;
-use txn_marks::Footprint;
 
 /// The live transactions of a history, by what they wrote and by what they touched.
 #[derive(Drop)]
@@ -32,8 +32,8 @@ impl Index {
     /// all stays as it was where it isn't listed.
     pub fn enter(
         &mut self,
-        met: &Footprint,
-        footprint: &Footprint,
+        met: &Elements,
+        footprint: &Elements,
         place: usize,
     ) -> Result<(), NoMemory>
         ensures writers { OnOk result (AreAdded self.old.writers met.now place self.new.writers) }
@@ -50,7 +50,7 @@ impl Index {
     }
 
     /// Lists a transaction as live no longer.
-    pub fn leave(&mut self, met: &Footprint, footprint: &Footprint, place: usize)
+    pub fn leave(&mut self, met: &Elements, footprint: &Elements, place: usize)
         ensures writers { AreRemoved self.old.writers met.now place self.new.writers }
         ensures readers { AreRemoved self.old.readers footprint.now place self.new.readers }
     {

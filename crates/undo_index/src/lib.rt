@@ -5,13 +5,17 @@
 //! touched what was written, is looked up by elements, and not asked of each transaction. [`first_apart`]
 //! compares the places that are linked with those that were, both brought in order by [`put_in_order`].
 //!
-//! Contracts see a listing as the finite set of its pairs.
+//! [`Elements`] are those of a footprint that doesn't grow any more, in a list.
+//!
+//! Contracts see a listing as the finite set of its pairs, and elements as the finite set of them.
 #![tactic(auto)]
 
 mod apart;
+mod elements;
 mod index;
 mod listing;
 
 pub use apart::first_apart;
+pub use elements::Elements;
 pub use index::Index;
 pub use listing::{Listing, put_in_order};

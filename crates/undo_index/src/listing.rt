@@ -7,11 +7,11 @@ ghost use Rattle.std.specs.Ordering.{nat_cmp};
 ghost use Rattle.undo_index.specs.First.{IsFirst, has, lesser};
 ghost use Rattle.undo_index.specs.Listed.{AreAdded, AreRemoved, IsNew, is_listed, nothing_listed, pairs_below};
 
+use crate::elements::Elements;
 use lay_point::NoMemory;
 use std::alloc::Global;
 use std::collections::BTreeSet;
 use std::marker::Model;
-use txn_marks::Footprint;
 use txn_rules::Element;
 
 /// Places listed under elements. Contracts see the finite set of the pairs.
@@ -47,11 +47,11 @@ impl Listing {
     /// # Cost
     ///
     /// As many steps as there are elements, each by the logarithm of the number of pairs.
-    pub fn add(&mut self, elements: &Footprint, place: usize) -> Result<(), NoMemory>
+    pub fn add(&mut self, elements: &Elements, place: usize) -> Result<(), NoMemory>
         ensures ok { OnOk result (AreAdded self.old elements.now place self.new) }
         ensures err { OnErr result (IsNew self.old place → self.new ≡ self.old) }
     {
-        for element in elements.elements() {
+        for element in elements.as_slice() {
             if self.insert(*element, place).is_err() {
                 self.remove(elements, place);
                 return Err(NoMemory {});
@@ -65,10 +65,10 @@ impl Listing {
     /// # Cost
     ///
     /// As that of `add`.
-    pub fn remove(&mut self, elements: &Footprint, place: usize)
+    pub fn remove(&mut self, elements: &Elements, place: usize)
         ensures { AreRemoved self.old elements.now place self.new }
     {
-        for element in elements.elements() {
+        for element in elements.as_slice() {
             self.remove_one(*element, place);
         }
     }
@@ -78,11 +78,11 @@ impl Listing {
     /// # Cost
     ///
     /// As that of `add`.
-    pub fn first_among(&self, elements: &Footprint, from: usize) -> Option<usize>
+    pub fn first_among(&self, elements: &Elements, from: usize) -> Option<usize>
         ensures { IsFirst (λ p. list_any (λ e. is_listed self.now e p) (set.items elements.now)) from result }
     {
         let mut least = None;
-        for element in elements.elements() {
+        for element in elements.as_slice() {
             least = lesser(least, self.first(*element, from));
         }
         least
@@ -97,7 +97,7 @@ impl Listing {
     pub fn all_among(
         &self,
         alloc: Global,
-        elements: &Footprint,
+        elements: &Elements,
         below: usize,
     ) -> Result<Vec<usize>, NoMemory>
         ensures rising { IfOk result (λ places. IsStrictlySortedBy nat_cmp places.items) }
@@ -105,7 +105,7 @@ impl Listing {
             ≡ (nat_lt p below && list_any (λ e. is_listed self.now e p) (set.items elements.now))) }
     {
         let mut places = Vec::new(alloc);
-        for element in elements.elements() {
+        for element in elements.as_slice() {
             self.gather(*element, below, &mut places)?;
         }
         put_in_order(&mut places);

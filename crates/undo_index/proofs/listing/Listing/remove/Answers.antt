@@ -1,28 +1,30 @@
-use Rattle.std.proofs.Common.{◌≡◌, ◌∙◌, List, ap, rules, subst, sym}
-use Rattle.std.specs.FinSet.{from_list}
+use Rattle.std.proofs.Common.{◌≡◌, ◌∙◌, ◌+◌, [], ◌∷◌, List, ap, drop, subst, sym}
+use Rattle.std.proofs.lemmas.List.{drop_all, drop_more}
 use Rattle.txn_rules.specs.declared.element.Element.{Element}
-use Rattle.txn_rules.specs.Elements.{element_cmp}
 use Rattle.undo_index.specs.Listed.{Listed}
-use Rattle.undo_index.proofs.ListedLemmas.{Removes, removes_begin, removes_one, all_removed}
+use Rattle.undo_index.proofs.ListedLemmas.{Removes, all_removed, removes_begin, removes_one}
 use Rattle.undo_index.proofs.listing.Listing.remove.Goals as goal
 
 pub loop-element-init : goal.loop-element-init
 loop-element-init c =
-    let keys : c.into_iter-element-iterator.result ≡ c.elements-element-items.result.now.keys = search rules in
-    removes_begin c.args.self.now c.args.elements.now c.args.place c.into_iter-element-iterator.result
-    (ap (λ (xs : List Element). from_list {R = element_cmp} xs) keys ∙ c.elements-element-items.ensures)
+    removes_begin c.args.self.now c.args.elements.now c.args.place c.as_slice-element-items.result.now c.as_slice-element-items.ensures
 
 pub loop-element-preserved : goal.loop-element-preserved
 loop-element-preserved c =
     let old = c.args.self.now in
-    subst (λ (s : Listed). Removes old c.args.elements.now c.args.place s c.next.new.self) (sym c.remove_one.ensures)
-    (removes_one old c.args.elements.now c.args.place c.loop-element.self c.in-Some.element.now c.next.new.self
-    (subst (λ (rest : List Element). Removes old c.args.elements.now c.args.place c.loop-element.self rest) c.in-Some.ensures.steps
-    c.loop-element.invariant))
+    let list = c.as_slice-element-items.result.now in
+    let i = c.loop-element.element-index in
+    let x = c.element-item.result in
+    let rest : drop i list ≡ x ∷ drop (i + 1) list =
+    drop_more list i x c.loop-element-test.true ∙ ap (λ (y : Element). y ∷ drop (i + 1) list) (sym c.element-item.is) in
+    subst (λ (s : Listed). Removes old c.args.elements.now c.args.place s (drop (i + 1) list)) (sym c.remove_one.ensures)
+    (removes_one old c.args.elements.now c.args.place c.loop-element.self x (drop (i + 1) list)
+    (subst (λ (xs : List Element). Removes old c.args.elements.now c.args.place c.loop-element.self xs) rest c.loop-element.invariant))
 
 pub returns : goal.returns
 returns c =
     let old = c.args.self.now in
+    let list = c.as_slice-element-items.result.now in
+    let none : drop c.loop-element.element-index list ≡ [] = drop_all c.loop-element.element-index list c.loop-element-test.false in
     all_removed old c.args.elements.now c.args.place c.loop-element.self
-    (subst (λ (rest : List Element). Removes old c.args.elements.now c.args.place c.loop-element.self rest) c.in-None.ensures.steps.0
-    c.loop-element.invariant)
+    (subst (λ (xs : List Element). Removes old c.args.elements.now c.args.place c.loop-element.self xs) none c.loop-element.invariant)

@@ -1,0 +1,20 @@
+use Rattle.std.proofs.Common.{◌≡◌, ◌∙◌, ◌++◌, [], List, ap, rules, sym}
+use Rattle.std.specs.FinSet.{from_list}
+use Rattle.std.proofs.lemmas.List.{append-nil}
+use Rattle.txn_rules.specs.declared.element.Element.{Element}
+use Rattle.txn_rules.specs.Elements.{Touched, element_cmp}
+use Rattle.undo_index.proofs.elements.Elements.of.Goals as goal
+
+abbrev set_of : List Element → Touched
+set_of xs = from_list {R = element_cmp} xs
+
+pub loop-element-init : goal.loop-element-init
+loop-element-init c =
+    let none : c.in_ok-list.list.items ≡ [] = search rules in
+    let keys : c.into_iter-element-iterator.result ≡ c.elements-tree.result.now.keys = search rules in
+    ap (λ xs. set_of (xs ++ c.into_iter-element-iterator.result)) none ∙ ap set_of keys ∙ c.elements-tree.ensures
+
+pub returns : goal.returns
+returns c =
+    let list = c.loop-element.list.items in
+    ap set_of (sym (append-nil list)) ∙ ap (λ xs. set_of (list ++ xs)) (sym c.in-None.ensures.steps.0) ∙ c.loop-element.invariant

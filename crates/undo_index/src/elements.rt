@@ -1,0 +1,56 @@
+//! Elements in lists.
+ghost use Rattle.std.specs.Prelude.{◌≡◌, IfOk};
+ghost use Rattle.std.specs.FinSet as set;
+ghost use Rattle.txn_marks.specs.Homes.{AreMetBy};
+
+use lay_point::NoMemory;
+use std::alloc::Global;
+use std::marker::Model;
+use txn_marks::{Footprint, Writes};
+use txn_rules::Element;
+
+/// The elements of a footprint that doesn't grow any more, in a list without room for others: most transactions
+/// touch a few, for which a node of a tree is ten times as large. Contracts see the finite set of them.
+#[derive(Debug, Drop)]
+pub struct Elements {
+    list: Vec<Element>,
+}
+
+impl Model for Elements {
+    ghost use Rattle.std.specs.FinSet as set;
+    ghost use Rattle.txn_rules.specs.Elements.{Touched, coded_touched};
+
+    ghost Value = { Touched };
+
+    ghost coded = { coded_touched };
+
+    ghost view = { λ e. set.from_list e.list.items };
+}
+
+impl Elements {
+    /// Returns those of the footprint.
+    pub fn of(alloc: Global, footprint: &Footprint) -> Result<Elements, NoMemory>
+        ensures { IfOk result (λ elements. elements ≡ footprint.now) }
+    {
+        let tree = footprint.elements();
+        let mut list = Vec::with_capacity(alloc, tree.len())?;
+        for element in tree {
+            list.push(*element)?;
+        }
+        Ok(Elements { list })
+    }
+
+    /// Returns those that some record of the writes meets.
+    pub fn met_by(alloc: Global, writes: &Writes) -> Result<Elements, NoMemory>
+        ensures { IfOk result (λ met. AreMetBy writes.now met) }
+    {
+        Elements::of(alloc, &writes.elements(alloc)?)
+    }
+
+    /// Lends the elements, in order.
+    pub fn as_slice(&self) -> &[Element]
+        ensures { set.from_list result.now ≡ self.now }
+    {
+        self.list.as_slice()
+    }
+}
