@@ -36,7 +36,7 @@ use Rattle.undo_rules.specs.Links.{AreNamed, Entry, Trace, first_moved, is_named
 use Rattle.undo_rules.specs.Links.{txn_eq}
 use Rattle.undo_rules.proofs.EqualLinks.{linked-all, txn_eq-same}
 use Rattle.undo_rules.proofs.Moved.{not_among, txn_eq-sym}
-use Rattle.undo_index.specs.First.{IsFirst, first_some, has, is_apart, look, looked_up_at, or_some}
+use Rattle.undo_index.specs.First.{IsFirst, first_some, has_place, is_apart, look, looked_up_at, or_some}
 use Rattle.undo_index.specs.Listed.{Listed, is_listed}
 use Rattle.undo_index.proofs.FirstLemmas.{first_alike, first_found}
 use Rattle.undo_book.specs.Indexed.{Lists, wrote}
@@ -276,12 +276,12 @@ module _ (touched : Touched) (names : List TxnId) (w : Listed) (es : List Entry)
 pub moved_here : (w : Listed) (es : List Entry) (places : List ((ℕ × ℕ) × ℕ)) (place : ℕ) (entry : Entry) (touched : Touched)
     (names : List TxnId) (linked seen : List ℕ) (o : Option ℕ) → slice_get es place ≡ Some entry → touched ≡ entry.footprint →
     names ≡ entry.seen → Lists wrote w es → AreTheirPlaces places es → AreNamed (map trace_of es) →
-    ((p : ℕ) → has linked p ≡ (nat_lt p place && list_any (λ e. is_listed w e p) (items touched))) →
-    ((p : ℕ) → has seen p ≡ (nat_lt p place && list_any (stands_at places p) names)) →
-    IsFirst (λ p. is_apart (has linked p) (has seen p)) 0 o → named_at es o ≡ moved_at (place_found es place)
+    ((p : ℕ) → has_place linked p ≡ (nat_lt p place && list_any (λ e. is_listed w e p) (items touched))) →
+    ((p : ℕ) → has_place seen p ≡ (nat_lt p place && list_any (stands_at places p) names)) →
+    IsFirst (λ p. is_apart (has_place linked p) (has_place seen p)) 0 o → named_at es o ≡ moved_at (place_found es place)
 moved_here w es places place entry touched names linked seen o at same sames lists are named links sees first =
     moved_found touched names w es places place lists are named o
-    (first_alike (λ p. is_apart (has linked p) (has seen p))
+    (first_alike (λ p. is_apart (has_place linked p) (has_place seen p))
     (λ p. is_apart (nat_lt p place && list_any (λ e. is_listed w e p) (items touched))
     (nat_lt p place && list_any (stands_at places p) names))
     0 o (λ p i. is_apart (links p i) (sees p i)) first)

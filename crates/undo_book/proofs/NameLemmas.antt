@@ -13,7 +13,7 @@ use Rattle.txn_rules.specs.Lies.{passes}
 use Rattle.txn_rules.specs.Meets.{some_meets}
 use Rattle.txn_marks.proofs.AnyLemmas.{any_alike, any_none}
 use Rattle.undo_rules.specs.Links.{Entry, links_to}
-use Rattle.undo_index.specs.First.{has}
+use Rattle.undo_index.specs.First.{has_place}
 use Rattle.undo_index.specs.Listed.{Listed, is_listed}
 use Rattle.undo_index.proofs.ApartLemmas.{above, below_all, drop_next, further}
 use Rattle.undo_book.specs.Indexed.{Lists, is_linked, name_at, wrote}
@@ -45,7 +45,7 @@ module _ (fp : Touched) where
 
   -- the places from n on at which linked transactions stand, and the names there
   pub record Tell (n : ℕ) (es : List Entry) (ks : List ℕ) (name : ℕ → Option TxnId) : Type 0 where
-    pub there : (i : ℕ) → has ks (n + i) ≡ passes test (slice_get es i)
+    pub there : (i : ℕ) → has_place ks (n + i) ≡ passes test (slice_get es i)
     pub named : (i : ℕ) (entry : Entry) → slice_get es i ≡ Some entry → name (n + i) ≡ Some entry.txn
 
   next : (n i : ℕ) → n + suc i ≡ suc n + i
@@ -55,7 +55,7 @@ module _ (fp : Touched) where
   skipped : (n : ℕ) (e : Entry) (es : List Entry) (ks : List ℕ) (name : ℕ → Option TxnId) → Tell n (e ∷ es) ks name → Tell (suc n) es ks
       name
   skipped n e es ks name tell = record {
-    there = λ i. ap (λ p. has ks p) (sym (next n i)) ∙ tell.there (suc i);
+    there = λ i. ap (λ p. has_place ks p) (sym (next n i)) ∙ tell.there (suc i);
     named = λ i entry at. ap name (sym (next n i)) ∙ tell.named (suc i) entry at;
   }
 
@@ -63,8 +63,8 @@ module _ (fp : Touched) where
   taken : (n : ℕ) (e : Entry) (es : List Entry) (k : ℕ) (ks : List ℕ) (name : ℕ → Option TxnId) → k ≡ n →
       Tell n (e ∷ es) (k ∷ ks) name → Tell (suc n) es ks name
   taken n e es k ks name same tell = record {
-    there = λ i. sym (ap (λ b. b || has ks (suc n + i)) (apart i))
-        ∙ ap (λ p. has (k ∷ ks) p) (sym (next n i)) ∙ tell.there (suc i);
+    there = λ i. sym (ap (λ b. b || has_place ks (suc n + i)) (apart i))
+        ∙ ap (λ p. has_place (k ∷ ks) p) (sym (next n i)) ∙ tell.there (suc i);
     named = λ i entry at. ap name (sym (next n i)) ∙ tell.named (suc i) entry at;
   } where
     apart : (i : ℕ) → (suc n + i == k) ≡ false
@@ -82,11 +82,11 @@ module _ (fp : Touched) where
   nothing : (ks : List ℕ) (n : ℕ) (name : ℕ → Option TxnId) → Rise n ks → Tell n [] ks name → Named [] ks name
   nothing [] n name rises tell = refl
   nothing (k ∷ ks) n name rises tell = absurd (no (tell.there (k - n))) where
-    no : has (k ∷ ks) (n + (k - n)) ≡ false → ⊥
+    no : has_place (k ∷ ks) (n + (k - n)) ≡ false → ⊥
     no h =
         let same : n + (k - n) ≡ k = omega (arith, rises.0) in
         let here : (n + (k - n) == k) ≡ true = (Decides-eqb (n + (k - n)) k).1 same in
-        let yes : true ≡ false = sym (ap (λ b. b || has ks (n + (k - n))) here) ∙ h in
+        let yes : true ≡ false = sym (ap (λ b. b || has_place ks (n + (k - n))) here) ∙ h in
         absurd cc
 
   pub names_so : (es : List Entry) (n : ℕ) (ks : List ℕ) (name : ℕ → Option TxnId) → Rise n ks → Tell n es ks name → Named es ks name
@@ -106,7 +106,7 @@ module _ (fp : Touched) where
             let zero_on : k ≡ n + 0 = same ∙ sym (from_zero n) in
             let here : (n + 0 == k) ≡ true = (Decides-eqb (n + 0) k).1 (sym zero_on) in
             let yes : test e ≡ true =
-            sym (tell.there 0) ∙ ap (λ b. b || has ks (n + 0)) here in
+            sym (tell.there 0) ∙ ap (λ b. b || has_place ks (n + 0)) here in
             let name_is : name k ≡ Some e.txn = ap name zero_on ∙ tell.named 0 e refl in
             ap (λ o. cons_option o (filter_map name ks)) name_is ∙ ap (λ xs. e.txn ∷ xs) (rest same)
             ∙ sym (ap (λ b. cond b (e.txn ∷ links_to es fp) (links_to es fp)) yes)
@@ -114,7 +114,7 @@ module _ (fp : Touched) where
             let more : suc n ≤ k = grind (arith, nat_tests, is, rises.0) in
             let far : AllByRecursion (λ j. n < j) (k ∷ ks) = (omega (arith, more), further ks n k (omega (arith, more)) rises.1) in
             let no : test e ≡ false =
-            sym (tell.there 0) ∙ ap (λ p. has (k ∷ ks) p) (from_zero n) ∙ below_all n (k ∷ ks) far in
+            sym (tell.there 0) ∙ ap (λ p. has_place (k ∷ ks) p) (from_zero n) ∙ below_all n (k ∷ ks) far in
             other more ∙ sym (ap (λ b. cond b (e.txn ∷ links_to es fp) (links_to es fp)) no)
 
 -- ---- the links of a footprint
@@ -138,10 +138,10 @@ within (e ∷ es) t (suc i) = ap (λ b. b && passes t (slice_get es i)) (less i 
 
 pub links_so : (fp : Touched) (w : Listed) (es : List Entry) (ks : List ℕ) (end : ℕ) → Lists wrote w es → end ≡ length es →
     IsStrictlySortedBy nat_cmp ks →
-    ((p : ℕ) → has ks p ≡ (nat_lt p end && list_any (λ e. is_listed w e p) (items fp))) →
+    ((p : ℕ) → has_place ks p ≡ (nat_lt p end && list_any (λ e. is_listed w e p) (items fp))) →
     filter_map (name_at es) ks ≡ links_to es fp
 links_so fp w es ks end lists last sorted are = names_so fp es 0 ks (name_at es) (rise ks sorted) (record {
-  there = λ i. ap (λ p. has ks p) (zero_on i)
+  there = λ i. ap (λ p. has_place ks p) (zero_on i)
       ∙ are i ∙ (λ k. nat_lt i (last k) && linked i k) ∙ within es (λ entry. is_linked entry fp) i;
   named = λ i entry at. ap (name_at es) (zero_on i) ∙ ap (λ o. option_map (λ (e : Entry). e.txn) o) at;
 }) where

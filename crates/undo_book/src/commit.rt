@@ -13,10 +13,10 @@ use crate::book::Book;
 use crate::entry::Entry;
 use crate::session::end_pending;
 use lay_items::Snapshot;
-use lay_point::NoMemory;
+use lay_point::{NoMemory, Sequence};
 use std::alloc::Global;
 use std::collections::BTreeMap;
-use txn_rules::TxnId;
+use txn_rules::{Command, TxnId};
 use txn_work::Work;
 use undo_index::{Elements, Index};
 use undo_rules::{Answer, BookFault, Call, Logged};
@@ -40,7 +40,7 @@ struct Prepared {
     /// The elements in which what it wrote lies.
     met: Elements,
     /// Those that it read or wrote.
-    touched: Elements,
+    read: Elements,
 }
 
 /// Returns a refused commit with its work.
@@ -148,7 +148,7 @@ impl Book {
             layout,
             seen,
             met,
-            touched,
+            read,
         } = prepared;
         if self.entries.reserve(1).is_err()
             || self.log.reserve(1).is_err()
@@ -157,27 +157,15 @@ impl Book {
             return Err(refused(BookFault::NoMemory, work));
         }
         let index = self.entries.len();
-        let listed = list_at(
-            &mut self.index,
-            &mut self.places,
-            txn,
-            index,
-            &met,
-            &touched,
-        );
+        let listed = list_at(&mut self.index, &mut self.places, txn, index, &met, &read);
         if listed.is_err() {
             return Err(refused(BookFault::NoMemory, work));
         }
         let place = self.log.len() as u32;
         let (commands, writes, _) = work.into_parts();
-        let entry = Entry::new(txn, place, writes, touched, seen);
+        let entry = Entry::new(txn, place, writes, read, seen);
         self.entries.push(entry).unwrap();
-        let logged = Logged {
-            session: txn.session,
-            call: Call::Commit { txn, commands },
-            answer: Answer::Committed,
-        };
-        self.log.push(logged).unwrap();
+        self.log.push(committed(txn, commands)).unwrap();
         self.changes.add_commit(place);
         end_pending(&mut self.sessions, txn.session);
         self.layout = layout;
@@ -192,21 +180,36 @@ impl Book {
         ensures layout { IfOk result (λ made. made.layout ≡ applied self.now.layout work.now.writes) }
         ensures seen { IfOk result (λ made. made.seen.items ≡ links_to self.now.entries work.now.footprint) }
         ensures met { IfOk result (λ made. AreMetBy work.now.writes made.met) }
-        ensures touched { IfOk result (λ made. made.touched ≡ work.now.footprint) }
+        ensures read { IfOk result (λ made. made.read ≡ work.now.footprint) }
     {
         work.id();
         // Its snapshot is sound.
         work.snapshot().version();
         let layout = work.writes().applied(alloc, &self.layout)?;
-        let touched = Elements::of(alloc, work.footprint())?;
-        let seen = self.links_to(alloc, &touched)?;
+        let read = Elements::of(alloc, work.footprint())?;
+        let seen = self.links_to(alloc, &read)?;
         let met = Elements::met_by(alloc, work.writes())?;
         Ok(Prepared {
             layout,
             seen,
             met,
-            touched,
+            read,
         })
+    }
+}
+
+/// Returns the logged call that committed the transaction of these commands.
+fn committed(txn: TxnId, commands: Sequence<Command>) -> Logged
+    ensures { result ≡ record {
+      session = txn.session;
+      call = Call.Commit txn commands;
+      answer = Answer.Committed;
+    } }
+{
+    Logged {
+        session: txn.session,
+        call: Call::Commit { txn, commands },
+        answer: Answer::Committed,
     }
 }
 

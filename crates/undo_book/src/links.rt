@@ -6,7 +6,7 @@ ghost use Rattle.std.specs.Ordering.{nat_cmp};
 ghost use Rattle.txn_marks.specs.Homes.{AreMetBy};
 ghost use Rattle.undo_rules.specs.Books.{changed_by, changed_in};
 ghost use Rattle.undo_rules.specs.Links.{AreNamed, first_reader, links_to, trace_of};
-ghost use Rattle.undo_index.specs.First.{has};
+ghost use Rattle.undo_index.specs.First.{has_place};
 ghost use Rattle.undo_book.specs.Indexed.{AreIndexed, name_at};
 ghost use Rattle.undo_book.specs.Places.{AreTheirPlaces, found_at, moved_at, named_at, stands_at};
 
@@ -70,7 +70,7 @@ fn places_of(
     below: usize,
 ) -> Result<Vec<usize>, NoMemory>
     ensures rising { IfOk result (λ found. IsStrictlySortedBy nat_cmp found.items) }
-    ensures places { IfOk result (λ found. (p : ℕ) → has found.items p
+    ensures places { IfOk result (λ found. (p : ℕ) → has_place found.items p
         ≡ (nat_lt p below && list_any (stands_at places.now.entries p) names.now)) }
 {
     let mut found = Vec::new(alloc);
@@ -88,8 +88,8 @@ fn place_of(
     below: usize,
     found: &mut Vec<usize>,
 ) -> Result<(), NoMemory>
-    ensures { OnOk result ((p : ℕ) → has found.new.items p
-        ≡ (has found.old.items p || (nat_lt p below && stands_at places.now.entries p name))) }
+    ensures { OnOk result ((p : ℕ) → has_place found.new.items p
+        ≡ (has_place found.old.items p || (nat_lt p below && stands_at places.now.entries p name))) }
 {
     if let Some(place) = places.get(&(name.session, name.txn)) {
         if *place < below {

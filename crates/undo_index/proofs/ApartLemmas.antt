@@ -14,20 +14,20 @@ use Rattle.std.specs.List.{AllByRecursion, dedup, dedup_from, list_any}
 use Rattle.std.specs.List.Retain.{DiffersFromLast, IsFiltered}
 use Rattle.std.specs.List.Sorted.{IsPermutation, IsSorted, IsStrictlySortedBy}
 use Rattle.std.specs.Ordering.{nat_cmp}
-use Rattle.undo_index.specs.First.{IsFirst, first_of, has, is_apart, lesser}
+use Rattle.undo_index.specs.First.{IsFirst, first_of, has_place, is_apart, lesser}
 use Rattle.undo_index.proofs.FirstLemmas.{first_alike}
 
 -- ---- places gathered
 
-has_pairs : {X : Type 0} (ks : List (X × ℕ)) (p : ℕ) → has (map (λ k. k.1) ks) p ≡ list_any (λ k. p == k.1) ks
+has_pairs : {X : Type 0} (ks : List (X × ℕ)) (p : ℕ) → has_place (map (λ k. k.1) ks) p ≡ list_any (λ k. p == k.1) ks
 has_pairs [] p = refl
 has_pairs (k ∷ ks) p = ap (λ b. (p == k.1) || b) (has_pairs ks p)
 
 -- the places of pairs behind others
 pub has_more : {X : Type 0} (ps : List ℕ) (ks : List (X × ℕ)) (p : ℕ) →
-    has (ps ++ map (λ k. k.1) ks) p ≡ (has ps p || list_any (λ k. p == k.1) ks)
+    has_place (ps ++ map (λ k. k.1) ks) p ≡ (has_place ps p || list_any (λ k. p == k.1) ks)
 has_more ps ks p =
-    list_any-append (λ place. p == place) ps (map (λ k. k.1) ks) ∙ ap (λ b. has ps p || b) (has_pairs ks p)
+    list_any-append (λ place. p == place) ps (map (λ k. k.1) ks) ∙ ap (λ b. has_place ps p || b) (has_pairs ks p)
 
 -- ---- brought in order
 
@@ -35,25 +35,26 @@ twice : (a b : Bool) → (a || b) ≡ (a || (a || b))
 twice true b = refl
 twice false b = refl
 
-once_from : (xs : List ℕ) (k p : ℕ) → has (dedup_from (λ x y. x == y) k xs) p ≡ ((p == k) || has xs p)
+once_from : (xs : List ℕ) (k p : ℕ) → has_place (dedup_from (λ x y. x == y) k xs) p ≡ ((p == k) || has_place xs p)
 once_from [] k p = refl
 once_from (x ∷ xs) k p = by (x == k) refl (once_from xs k p) (once_from xs x p) where
-  by : (b : Bool) → (x == k) ≡ b → has (dedup_from (λ x y. x == y) k xs) p ≡ ((p == k) || has xs p) →
-      has (dedup_from (λ x y. x == y) x xs) p ≡ ((p == x) || has xs p) →
-      has (cond b (dedup_from (λ x y. x == y) k xs) (k ∷ dedup_from (λ x y. x == y) x xs)) p ≡ ((p == k) || ((p == x) || has xs p))
+  by : (b : Bool) → (x == k) ≡ b → has_place (dedup_from (λ x y. x == y) k xs) p ≡ ((p == k) || has_place xs p) →
+      has_place (dedup_from (λ x y. x == y) x xs) p ≡ ((p == x) || has_place xs p) →
+      has_place (cond b (dedup_from (λ x y. x == y) k xs) (k ∷ dedup_from (λ x y. x == y) x xs)) p
+      ≡ ((p == k) || ((p == x) || has_place xs p))
   by true is kept rest =
       let same : x ≡ k = (Decides-eqb x k).0 is in
-      kept ∙ twice (p == k) (has xs p) ∙ ap (λ y. (p == k) || ((p == y) || has xs p)) (sym same)
+      kept ∙ twice (p == k) (has_place xs p) ∙ ap (λ y. (p == k) || ((p == y) || has_place xs p)) (sym same)
   by false is kept rest = ap (λ b. (p == k) || b) rest
 
-once_has : (xs : List ℕ) (p : ℕ) → has (dedup (λ x y. x == y) xs) p ≡ has xs p
+once_has : (xs : List ℕ) (p : ℕ) → has_place (dedup (λ x y. x == y) xs) p ≡ has_place xs p
 once_has [] p = refl
 once_has (x ∷ xs) p = once_from xs x p
 
 pub order_has : (all sorted once : List ℕ) → IsPermutation all sorted → IsFiltered (DiffersFromLast (λ x y. x == y)) [] sorted once →
-    (p : ℕ) → has once p ≡ has all p
+    (p : ℕ) → has_place once p ≡ has_place all p
 order_has all sorted once moved filtered p =
-    ap (λ xs. has xs p) (dedup_is (λ x y. x == y) sorted once filtered) ∙ once_has sorted p
+    ap (λ xs. has_place xs p) (dedup_is (λ x y. x == y) sorted once filtered) ∙ once_has sorted p
     ∙ sym (list_any-IsPermutation (λ place. p == place) all sorted moved)
 
 pub order_rises : (sorted once : List ℕ) → IsSorted nat_cmp sorted → IsFiltered (DiffersFromLast (λ x y. x == y)) [] sorted once →
@@ -87,15 +88,15 @@ other_place p k less = by (p == k) refl where
   by false is = refl
 
 -- no place below them all is one of them
-pub below_all : (n : ℕ) (ks : List ℕ) → AllByRecursion (λ k. n < k) ks → has ks n ≡ false
+pub below_all : (n : ℕ) (ks : List ℕ) → AllByRecursion (λ k. n < k) ks → has_place ks n ≡ false
 below_all n [] all = refl
 below_all n (k ∷ ks) all = λ i. other_place n k all.0 i || below_all n ks all.1 i
 
-before_all : (p k : ℕ) (ks : List ℕ) → p < k → AllByRecursion (λ j. k < j) ks → has (k ∷ ks) p ≡ false
+before_all : (p k : ℕ) (ks : List ℕ) → p < k → AllByRecursion (λ j. k < j) ks → has_place (k ∷ ks) p ≡ false
 before_all p k ks less all = below_all p (k ∷ ks) (less, further ks p k less all)
 
-own_place : (k : ℕ) (ks : List ℕ) → has (k ∷ ks) k ≡ true
-own_place k ks = ap (λ b. b || has ks k) ((Decides-eqb k k).1 refl)
+own_place : (k : ℕ) (ks : List ℕ) → has_place (k ∷ ks) k ≡ true
+own_place k ks = ap (λ b. b || has_place ks k) ((Decides-eqb k k).1 refl)
 
 -- ---- compared
 
@@ -125,27 +126,27 @@ other_first one other a alone = (
 
 -- a front that both have tells them not apart
 both_have : (k : ℕ) (xs ys : List ℕ) → AllByRecursion (λ j. k < j) xs → AllByRecursion (λ j. k < j) ys → (p : ℕ) →
-    is_apart (has xs p) (has ys p) ≡ is_apart (has (k ∷ xs) p) (has (k ∷ ys) p)
+    is_apart (has_place xs p) (has_place ys p) ≡ is_apart (has_place (k ∷ xs) p) (has_place (k ∷ ys) p)
 both_have k xs ys one other p = by (p == k) refl where
-  by : (b : Bool) → (p == k) ≡ b → is_apart (has xs p) (has ys p) ≡ is_apart (b || has xs p) (b || has ys p)
+  by : (b : Bool) → (p == k) ≡ b → is_apart (has_place xs p) (has_place ys p) ≡ is_apart (b || has_place xs p) (b || has_place ys p)
   by true is =
       let same : p ≡ k = (Decides-eqb p k).0 is in
-      ap (λ q. is_apart (has xs q) (has ys q)) same ∙ (λ i. is_apart (below_all k xs one i) (below_all k ys other i))
+      ap (λ q. is_apart (has_place xs q) (has_place ys q)) same ∙ (λ i. is_apart (below_all k xs one i) (below_all k ys other i))
   by false is = refl
 
 pub apart_first : (xs ys : List ℕ) → IsStrictlySortedBy nat_cmp xs → IsStrictlySortedBy nat_cmp ys →
-    IsFirst (λ p. is_apart (has xs p) (has ys p)) 0 (apart_of xs ys)
+    IsFirst (λ p. is_apart (has_place xs p) (has_place ys p)) 0 (apart_of xs ys)
 unfolding IsStrictlySortedBy
 apart_first [] [] one other = λ p low. refl
 apart_first [] (y ∷ ys) one other =
-    other_first (has []) (has (y ∷ ys)) y
+    other_first (has_place []) (has_place (y ∷ ys)) y
     (own_place y ys, refl, (λ p less. before_all p y ys less (above y ys other.0)), λ p less. refl)
 apart_first (x ∷ xs) [] one other =
-    one_first (has (x ∷ xs)) (has []) x
+    one_first (has_place (x ∷ xs)) (has_place []) x
     (own_place x xs, refl, (λ p less. before_all p x xs less (above x xs one.0)), λ p less. refl)
 apart_first (x ∷ xs) (y ∷ ys) one other = by (y == x) refl (nat_lt y x) refl (apart_first xs ys one.1 other.1) where
   Goal : Option ℕ → Type 0
-  Goal = IsFirst (λ p. is_apart (has (x ∷ xs) p) (has (y ∷ ys) p)) 0
+  Goal = IsFirst (λ p. is_apart (has_place (x ∷ xs) p) (has_place (y ∷ ys) p)) 0
 
   far_x : AllByRecursion (λ j. x < j) xs
   far_x = above x xs one.0
@@ -154,16 +155,18 @@ apart_first (x ∷ xs) (y ∷ ys) one other = by (y == x) refl (nat_lt y x) refl
   far_y = above y ys other.0
 
   by : (b : Bool) → (y == x) ≡ b → (c : Bool) → nat_lt y x ≡ c →
-      IsFirst (λ p. is_apart (has xs p) (has ys p)) 0 (apart_of xs ys) → Goal (cond b (apart_of xs ys) (cond c (Some y) (Some x)))
+      IsFirst (λ p. is_apart (has_place xs p) (has_place ys p)) 0 (apart_of xs ys)
+      → Goal (cond b (apart_of xs ys) (cond c (Some y) (Some x)))
   by true is c less rest =
       let same : y ≡ x = (Decides-eqb y x).0 is in
-      subst (λ k. IsFirst (λ p. is_apart (has (x ∷ xs) p) (has (k ∷ ys) p)) 0 (apart_of xs ys)) (sym same)
-      (first_alike (λ p. is_apart (has xs p) (has ys p)) (λ p. is_apart (has (x ∷ xs) p) (has (x ∷ ys) p)) 0 (apart_of xs ys)
+      subst (λ k. IsFirst (λ p. is_apart (has_place (x ∷ xs) p) (has_place (k ∷ ys) p)) 0 (apart_of xs ys)) (sym same)
+      (first_alike (λ p. is_apart (has_place xs p) (has_place ys p))
+      (λ p. is_apart (has_place (x ∷ xs) p) (has_place (x ∷ ys) p)) 0 (apart_of xs ys)
       (both_have x xs ys far_x (subst (λ k. AllByRecursion (λ j. k < j) ys) same far_y))
       rest)
   by false is true less rest =
       let below : y < x = grind (arith, nat_tests, less) in
-      other_first (has (x ∷ xs)) (has (y ∷ ys)) y (
+      other_first (has_place (x ∷ xs)) (has_place (y ∷ ys)) y (
         own_place y ys,
         before_all y x xs below far_x,
         (λ p low. before_all p y ys low far_y),
@@ -171,7 +174,7 @@ apart_first (x ∷ xs) (y ∷ ys) one other = by (y == x) refl (nat_lt y x) refl
       )
   by false is false less rest =
       let below : x < y = grind (arith, nat_tests, less, is) in
-      one_first (has (x ∷ xs)) (has (y ∷ ys)) x (
+      one_first (has_place (x ∷ xs)) (has_place (y ∷ ys)) x (
         own_place x xs,
         before_all x y ys below far_y,
         (λ p low. before_all p x xs low far_x),
@@ -197,7 +200,7 @@ unequal a b apart = by (a == b) refl where
 
 module _ (one other : List ℕ) (sorted : IsStrictlySortedBy nat_cmp one) (ordered : IsStrictlySortedBy nat_cmp other) where
   abbrev pub IsTheirs : Option ℕ → Type 0
-  IsTheirs = IsFirst (λ p. is_apart (has one p) (has other p)) 0
+  IsTheirs = IsFirst (λ p. is_apart (has_place one p) (has_place other p)) 0
 
   pub all_left : (rest left : List ℕ) (result : Option ℕ) → apart_of rest left ≡ apart_of one other → apart_of rest left ≡ result →
       IsTheirs result

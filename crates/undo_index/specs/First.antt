@@ -35,8 +35,8 @@ lesser (Some a) None = Some a
 lesser (Some a) (Some b) = if nat_lt b a then Some b else Some a
 
 -- a place is one of these
-abbrev pub has : List ℕ → ℕ → Bool
-has places p = list_any (λ place. p == place) places
+abbrev pub has_place : List ℕ → ℕ → Bool
+has_place places p = list_any (λ place. p == place) places
 
 -- the first one of these places, if there is one
 abbrev pub first_of : List ℕ → Option ℕ

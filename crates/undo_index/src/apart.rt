@@ -2,7 +2,7 @@
 ghost use Rattle.std.specs.Prelude.{◌≡◌};
 ghost use Rattle.std.specs.List.Sorted.{IsStrictlySortedBy};
 ghost use Rattle.std.specs.Ordering.{nat_cmp};
-ghost use Rattle.undo_index.specs.First.{IsFirst, first_of, has, is_apart};
+ghost use Rattle.undo_index.specs.First.{IsFirst, first_of, has_place, is_apart};
 
 use crate::listing::lesser;
 
@@ -14,7 +14,7 @@ use crate::listing::lesser;
 pub fn first_apart(one: &[usize], other: &[usize]) -> Option<usize>
     requires one { IsStrictlySortedBy nat_cmp one.now }
     requires other { IsStrictlySortedBy nat_cmp other.now }
-    ensures { IsFirst (λ p. is_apart (has one.now p) (has other.now p)) 0 result }
+    ensures { IsFirst (λ p. is_apart (has_place one.now p) (has_place other.now p)) 0 result }
 {
     let mut left = other;
     for place in one {

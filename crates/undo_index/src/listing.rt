@@ -4,7 +4,7 @@ ghost use Rattle.std.specs.FinSet as set;
 ghost use Rattle.std.specs.List.{list_any};
 ghost use Rattle.std.specs.List.Sorted.{IsStrictlySortedBy};
 ghost use Rattle.std.specs.Ordering.{nat_cmp};
-ghost use Rattle.undo_index.specs.First.{IsFirst, has, lesser};
+ghost use Rattle.undo_index.specs.First.{IsFirst, has_place, lesser};
 ghost use Rattle.undo_index.specs.Listed.{AreAdded, AreRemoved, IsNew, is_listed, nothing_listed, pairs_below};
 
 use crate::elements::Elements;
@@ -101,7 +101,7 @@ impl Listing {
         below: usize,
     ) -> Result<Vec<usize>, NoMemory>
         ensures rising { IfOk result (λ places. IsStrictlySortedBy nat_cmp places.items) }
-        ensures places { IfOk result (λ places. (p : ℕ) → has places.items p
+        ensures places { IfOk result (λ places. (p : ℕ) → has_place places.items p
             ≡ (nat_lt p below && list_any (λ e. is_listed self.now e p) (set.items elements.now))) }
     {
         let mut places = Vec::new(alloc);
@@ -145,8 +145,8 @@ impl Listing {
         below: usize,
         places: &mut Vec<usize>,
     ) -> Result<(), NoMemory>
-        ensures { OnOk result ((p : ℕ) → has places.new.items p
-            ≡ (has places.old.items p || (nat_lt p below && is_listed self.now element p))) }
+        ensures { OnOk result ((p : ℕ) → has_place places.new.items p
+            ≡ (has_place places.old.items p || (nat_lt p below && is_listed self.now element p))) }
     {
         gather_under(&self.pairs, &element, below, places)?;
         Ok(())
@@ -176,7 +176,7 @@ fn gather_under(
 /// One step for each where they are in order, else by the logarithm of their number.
 pub fn put_in_order(places: &mut Vec<usize>)
     ensures rising { IsStrictlySortedBy nat_cmp places.new.items }
-    ensures same { (p : ℕ) → has places.new.items p ≡ has places.old.items p }
+    ensures same { (p : ℕ) → has_place places.new.items p ≡ has_place places.old.items p }
 {
     places.sort_unstable();
     places.dedup();

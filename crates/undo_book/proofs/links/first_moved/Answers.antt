@@ -4,7 +4,7 @@ use Rattle.std.specs.Prelude.{nat_lt}
 use Rattle.std.specs.FinSet.{items}
 use Rattle.std.specs.List.{list_any}
 use Rattle.undo_rules.specs.Links.{Entry}
-use Rattle.undo_index.specs.First.{IsFirst, has, is_apart}
+use Rattle.undo_index.specs.First.{IsFirst, has_place, is_apart}
 use Rattle.undo_index.specs.Listed.{is_listed}
 use Rattle.undo_book.specs.Places.{named_at, stands_at}
 use Rattle.undo_book.proofs.MovedLemmas.{moved_here}
@@ -20,16 +20,16 @@ returns c =
     let given : c.as_slice.result.now ≡ c.entry.inside.seen = search rules in
     let one : c.as_slice-2.result.now ≡ c.in_ok-linked.linked.items = search rules in
     let other : c.as_slice-3.result.now ≡ c.in_ok-seen.seen.items = search rules in
-    let linked : (p : ℕ) → has c.in_ok-linked.linked.items p
+    let linked : (p : ℕ) → has_place c.in_ok-linked.linked.items p
     ≡ (nat_lt p place && list_any (λ e. is_listed c.args.index.now.writers e p) (items c.entry.inside.footprint)) =
     c.in_ok-linked.ensures.places in
-    let seen : (p : ℕ) → has c.in_ok-seen.seen.items p
+    let seen : (p : ℕ) → has_place c.in_ok-seen.seen.items p
     ≡ (nat_lt p place && list_any (stands_at c.args.places.now.entries p) c.entry.inside.seen) =
     λ p. c.in_ok-seen.ensures.places p ∙ ap (λ names. nat_lt p place && list_any (stands_at c.args.places.now.entries p) names) given in
     let named : c.named_at.result ≡ named_at es c.first_apart.result = search rules in
     named ∙ moved_here c.args.index.now.writers es c.args.places.now.entries place entry c.entry.inside.footprint c.entry.inside.seen
     c.in_ok-linked.linked.items c.in_ok-seen.seen.items c.first_apart.result at (ap (λ (e : Entry). e.footprint) c.entry.view_is)
     (ap (λ (e : Entry). e.seen) c.entry.view_is) c.requires.index.writers c.requires.places c.requires.named linked seen
-    (subst (λ (xs : List ℕ). IsFirst (λ p. is_apart (has xs p) (has c.in_ok-seen.seen.items p)) 0 c.first_apart.result) one
-    (subst (λ (ys : List ℕ). IsFirst (λ p. is_apart (has c.as_slice-2.result.now p) (has ys p)) 0 c.first_apart.result) other
+    (subst (λ (xs : List ℕ). IsFirst (λ p. is_apart (has_place xs p) (has_place c.in_ok-seen.seen.items p)) 0 c.first_apart.result) one
+    (subst (λ (ys : List ℕ). IsFirst (λ p. is_apart (has_place c.as_slice-2.result.now p) (has_place ys p)) 0 c.first_apart.result) other
     c.first_apart.ensures))

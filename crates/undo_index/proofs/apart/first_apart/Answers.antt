@@ -1,7 +1,7 @@
 use Rattle.std.proofs.Common.{◌≡◌, suc, [], ◌∷◌, drop, get_or, ap, subst, sym, ◌∙◌, arith, Some}
 use Rattle.std.proofs.lemmas.List.{drop_all}
 use Rattle.undo_index.proofs.ApartLemmas.{drop_next, fronts_differ, no_places, one_ends, other_ends, unequal}
-use Rattle.undo_index.specs.First.{IsFirst, has, is_apart, lesser}
+use Rattle.undo_index.specs.First.{IsFirst, has_place, is_apart, lesser}
 use Rattle.undo_index.proofs.apart.first_apart.Goals as goal
 use Rattle.undo_index.proofs.apart.first_apart.Goals.{in_default-via-in-Some+else-next-place, in_default-via-in_default}
 
@@ -14,7 +14,7 @@ returns-in_default c =
     let left = c.loop-place.left.now in
     let rest : drop i one ≡ get_or one i 0 ∷ drop (suc i) one = drop_next one i 0 c.loop-place-test.true in
     let is = c.lesser.ensures ∙ ap (lesser (Some (get_or one i 0))) c.first_of.ensures in
-    subst (IsFirst (λ p. is_apart (has one p) (has other p)) 0) (sym is) (
+    subst (IsFirst (λ p. is_apart (has_place one p) (has_place other p)) 0) (sym is) (
     elim c.in_default.branch [
       | in_default-via-in-Some+else-next-place w ↦
           fronts_differ one other c.requires.one c.requires.other (drop i one) left (get_or one i 0) (drop (suc i) one)
@@ -29,6 +29,6 @@ pub returns : goal.returns
 returns c =
     let none : drop c.loop-place.place-index c.args.one.now ≡ [] =
     drop_all c.loop-place.place-index c.args.one.now (omega (arith, c.loop-place-test.false)) in
-    subst (IsFirst (λ p. is_apart (has c.args.one.now p) (has c.args.other.now p)) 0) (sym c.first_of-2.ensures)
+    subst (IsFirst (λ p. is_apart (has_place c.args.one.now p) (has_place c.args.other.now p)) 0) (sym c.first_of-2.ensures)
     (one_ends c.args.one.now c.args.other.now c.requires.one c.requires.other (drop c.loop-place.place-index c.args.one.now)
     c.loop-place.left.now c.loop-place.invariant none)
