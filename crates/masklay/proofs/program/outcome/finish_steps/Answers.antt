@@ -31,8 +31,8 @@ returns g c =
     let all = ran_all steps replies (start base n MAX_CALLS) machine ran plain in
     let told : c.in_ok-replies.replies ≡ dealt order replies (replicate n []) = search rules in
     let printed : c.from_vec.result ≡ order_of machine.history.log c.in_ok-replies.replies = search rules in
-    let layout : c.end.result.0 ≡ machine.history.layout = search rules in
-    let finished : Finished = record { replies = c.in_ok-replies.replies; order = c.from_vec.result; layout = c.end.result.0 } in
+    let layout : c.end-layout.result.0 ≡ machine.history.layout = search rules in
+    let finished : Finished = record { replies = c.in_ok-replies.replies; order = c.from_vec.result; layout = c.end-layout.result.0 } in
     let parts : finished ≡ finished_by n order (replies, machine) = λ i. record {
       replies = told i;
       order = (printed ∙ ap (order_of machine.history.log) told) i;
