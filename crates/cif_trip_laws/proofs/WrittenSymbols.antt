@@ -12,7 +12,7 @@ use Rattle.lay_cells.specs.declared.cell_id.CellId.{CellId}
 use Rattle.lay_cells.specs.declared.cell_id.CellId.TheVariants.{Symbol, Top}
 use Rattle.lay_cells.specs.declared.cells.TheConstants.{MAX_SYMBOL}
 use Rattle.lay_cells.specs.Symbols.{has_symbol}
-use Rattle.lay_items.specs.declared.version.CellSlot.{CellSlot}
+use Rattle.lay_items.specs.declared.slot.CellSlot.{CellSlot}
 use Rattle.lay_items.specs.Layout.{Layout, is_cell}
 use Rattle.lay_items.specs.SlotOrder.{in_slot_order}
 use Rattle.lay_items.specs.Sound.{IsSound}

@@ -23,7 +23,7 @@ use Rattle.face_labels.specs.declared.ends.End.{End}
 use Rattle.face_labels.specs.Ends.{AreByHeight, AreEnds, EndsFrom, IsEdgeEnd, edge_end, ends_beyond}
 use Rattle.face_labels.specs.Lines.{edge_at, nowhere}
 use Rattle.face_labels.specs.Rows.{AreSomeRowEdges, CrossesRow, IsLeftOf, crosses_row, crossing, is_left_in_row, rise, upward}
-use Rattle.face_labels.specs.Sides.{AreSound}
+use Rattle.face_labels.specs.Sound.{AreSound}
 use Rattle.face_labels.proofs.KeptLemmas.{crosses}
 use Rattle.face_labels.proofs.JudgeLemmas.{IsBeforeIn, before_rising, before_strict}
 use Rattle.face_labels.proofs.OrderLemmas.{rising_from, rising_map, still_in_order}

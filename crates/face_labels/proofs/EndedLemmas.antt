@@ -11,7 +11,7 @@ use Rattle.face_labels.specs.declared.ends.End.{End}
 use Rattle.face_labels.specs.Ends.{AreEnds}
 use Rattle.face_labels.specs.Lines.{edge_at, nowhere}
 use Rattle.face_labels.specs.Rows.{AreSomeRowEdges, CrossesRow, IsLeftOf, crosses_row}
-use Rattle.face_labels.specs.Sides.{AreSound}
+use Rattle.face_labels.specs.Sound.{AreSound}
 use Rattle.face_labels.proofs.EndLemmas.{ends_later}
 use Rattle.face_labels.proofs.JudgeLemmas.{IsBeforeIn, before_rising, before_strict}
 use Rattle.face_labels.proofs.OrderLemmas.{rising_from, rising_map, still_in_order}

@@ -23,7 +23,8 @@ use Rattle.face_labels.specs.Beside.{weight}
 use Rattle.face_labels.specs.Lines.{BeginsAt, EndsBefore, edge_at, nowhere, owned_item_at, owners_at}
 use Rattle.face_labels.specs.Operations.{answer}
 use Rattle.face_labels.specs.Rows.{AreRowEdges, upward}
-use Rattle.face_labels.specs.Sides.{AreBehind, AreSidesOf, AreSound, IsDifference, holds_beside, is_odd_in}
+use Rattle.face_labels.specs.Sides.{AreBehind, AreSidesOf, IsDifference, holds_beside, is_odd_in}
+use Rattle.face_labels.specs.Sound.{AreSound}
 use Rattle.face_labels.proofs.OwnerLemmas.{same_owner}
 use Rattle.face_labels.proofs.JudgeLemmas.{IsBeforeIn, before_rising, before_strict, is_right, odd_behind}
 use Rattle.face_labels.proofs.NearLemmas.{at_k, at_x, at_y, near_in_row, right_there, upward_rises, weight_of}

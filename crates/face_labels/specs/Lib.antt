@@ -7,7 +7,9 @@ pub mod Lines
 pub mod Operations
 pub mod Picked
 pub mod Reaches
+pub mod RowSides
 pub mod Rows
 pub mod Sides
+pub mod Sound
 pub mod Starts
 pub use Rattle.face_label_laws.specs.Labels

@@ -6,7 +6,6 @@ use Rattle.std.specs.Prelude.{
   ◌+◌,
   ◌<◌,
   ◌≤◌,
-  All,
   true,
   false,
   pos,
@@ -24,24 +23,17 @@ use Rattle.std.specs.Prelude.{
   slice_index,
   slice_index_or,
 }
-use Rattle.lay_point.specs.Edges.{IsEdgeBefore}
 use Rattle.lay_point.specs.Parity.{xor, parity}
-use Rattle.lay_point.specs.Rising.{IsRising}
 use Rattle.snap_chains.specs.declared.owner.Owner.{Owner}
-use Rattle.snap_chains.specs.Rounded.{AreClean, AreEven, Owned, is_owner_listed}
+use Rattle.snap_chains.specs.Rounded.{Owned, is_owner_listed}
 use Rattle.face_label_laws.specs.Labels.{answer_on, odd_of, owned_items}
-use Rattle.face_label_laws.specs.Laws.{AreLesserFirst}
-use Rattle.face_labels.specs.declared.line.Line.{Line}
 use Rattle.face_labels.specs.declared.op.Op.{Op}
 use Rattle.face_labels.specs.declared.sides.Sides.{Sides}
 use Rattle.face_labels.specs.declared.sides.Told.{Told}
 use Rattle.face_labels.specs.declared.sides.Told.TheVariants.{Inside, Nothing, Unknown}
 use Rattle.face_labels.specs.Counts.{AreCounts}
-use Rattle.face_labels.specs.Ends.{AreEnds}
 use Rattle.face_labels.specs.Lines.{edge_at, owners_at}
 use Rattle.face_labels.specs.Operations.{answer}
-use Rattle.face_labels.specs.Reaches.{IsReach}
-use Rattle.face_labels.specs.Rows.{AreRowEdges}
 
 -- an odd number of these edges lists the owner
 abbrev pub is_odd_in : Owned → List ℕ → Owner → Bool
@@ -91,20 +83,3 @@ IsTold r known n o (Inside inside) = (is_owner_listed o (owners_at r n) ≡ true
 pub record StandsAt (numbers : List ℕ) (n left right : ℕ) : Type 0 where
   pub bound : right ≤ length numbers
   pub place : (left ≡ right) ⊎ ((left + 1 ≡ right) × (slice_index numbers left ≡ n))
-
--- clean rounded edges, each from its lesser end to the other
-pub record AreSound (r : Owned) : Type 0 where
-  pub rising : IsRising IsEdgeBefore r.0
-  pub paired : length r.1 ≡ length r.0
-  pub even : AreEven r
-  pub clean : AreClean r.0
-  pub lesser : AreLesserFirst r.0
-
--- the edges of the row, with the sides of all of them
-pub record IsLine (r : Owned) (line : Line) : Type 0 where
-  pub sound : AreSound r
-  pub edges : AreRowEdges r.0 line.row line.numbers.items
-  pub known : AreKnown r line.known.items
-  pub all : All (IsKnown line.known.items) line.numbers.items
-  pub reach : IsReach r line.reach
-  pub ends : AreEnds r line.row line.ends.items line.passed

@@ -17,7 +17,7 @@ ghost use Rattle.face_labels.specs.declared.ends.End.{End as AnyEnd};
 ghost use Rattle.face_labels.specs.Ends.{AreEnds};
 ghost use Rattle.face_labels.specs.Lines.{edge_at};
 ghost use Rattle.face_labels.specs.Rows.{AreSomeRowEdges, CrossesRow, crosses_row};
-ghost use Rattle.face_labels.specs.Sides.{AreSound};
+ghost use Rattle.face_labels.specs.Sound.{AreSound};
 
 use crate::ends::{End, take_out_ended};
 use crate::upward::crosses_row;

@@ -17,7 +17,7 @@ ghost use Rattle.std.specs.List.Sorted.{IsPermutation};
 ghost use Rattle.face_labels.specs.Ends.{AreByHeight, AreEnds, edge_end, ends_beyond};
 ghost use Rattle.face_labels.specs.Lines.{edge_at};
 ghost use Rattle.face_labels.specs.Rows.{AreSomeRowEdges, CrossesRow, crossing, is_left_in_row, rise};
-ghost use Rattle.face_labels.specs.Sides.{AreSound};
+ghost use Rattle.face_labels.specs.Sound.{AreSound};
 
 use crate::crossing::Crossing;
 use crate::upward::{crosses_row, upward};

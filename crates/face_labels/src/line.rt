@@ -19,7 +19,8 @@ ghost use Rattle.face_labels.specs.Ends.{AreEnds};
 ghost use Rattle.face_labels.specs.Lines.{edge_at, owned_item_at};
 ghost use Rattle.face_labels.specs.Operations.{answer};
 ghost use Rattle.face_labels.specs.Rows.{AreRowEdges, upward};
-ghost use Rattle.face_labels.specs.Sides.{AreSound, IsLine};
+ghost use Rattle.face_labels.specs.Sound.{AreSound};
+ghost use Rattle.face_labels.specs.RowSides.{IsLine};
 ghost use Rattle.face_labels.specs.declared.start.Start.{Start};
 ghost use Rattle.face_labels.specs.Starts.{AreByRow, BeginsBy, IsStartOf};
 

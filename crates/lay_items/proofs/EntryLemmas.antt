@@ -11,7 +11,7 @@ use Rattle.std.proofs.lemmas.Bool.Decides.{Decides-eqb}
 use Rattle.std.proofs.lemmas.List.Elements.{All-cons, All-map, All-nil, All-tail, All-head, All-weaker, recursion_from_All}
 use Rattle.std.proofs.lemmas.Map.Lookups.{exact_pairs, exact_unsigned}
 use Rattle.lay_cells.specs.Symbols.{has_symbol}
-use Rattle.lay_items.specs.declared.version.CellSlot.{CellSlot}
+use Rattle.lay_items.specs.declared.slot.CellSlot.{CellSlot}
 use Rattle.lay_items.specs.SlotOrder.{Standing, by_standing, in_slot_order, rank, standing_cmp, standing_of}
 use Rattle.lay_items.proofs.DistinctLemmas.{AreDistinct}
 use Rattle.lay_items.proofs.SlotLemmas.{find-standings, is_eq-then, of_rank, sorted-distinct, standings_exact, standings_total, tested}

@@ -23,8 +23,8 @@ use Rattle.cif_read.specs.declared.element.Element.{Element}
 use Rattle.cif_read.specs.declared.element.Figure.{Figure}
 use Rattle.cif_read.specs.declared.element.Figure.TheVariants.{Call, Polygon}
 use Rattle.cif_read.specs.Contents.{Contents, IsSoundElement, IsSoundFigure, IsSoundFile, element_calls, with_call}
-use Rattle.lay_items.specs.declared.version.CellSlot.{CellSlot}
-use Rattle.lay_items.specs.declared.version.CellSlot.TheVariants.{Base}
+use Rattle.lay_items.specs.declared.slot.CellSlot.{CellSlot}
+use Rattle.lay_items.specs.declared.slot.CellSlot.TheVariants.{Base}
 use Rattle.lay_items.specs.Calls.{as_call, calls_among, calls_of}
 use Rattle.lay_items.specs.Calls as calls
 use Rattle.lay_items.specs.FromCif.{item_in, item_of, items_of_elements, layout_of}

@@ -12,9 +12,9 @@ use Rattle.lay_cells.specs.declared.cell_id.CellId.{CellId}
 use Rattle.lay_cells.specs.declared.cell_id.CellId.TheVariants.{Top, Symbol}
 use Rattle.lay_items.specs.declared.id.ItemId.{ItemId}
 use Rattle.lay_items.specs.declared.item.Item.{Item}
-use Rattle.lay_items.specs.declared.version.CellSlot.{CellSlot}
+use Rattle.lay_items.specs.declared.slot.CellSlot.{CellSlot}
 use Rattle.lay_items.specs.contracts.item.Item as item
-use Rattle.lay_items.specs.contracts.version.CellSlot as slot
+use Rattle.lay_items.specs.contracts.slot.CellSlot as slot
 use Rattle.lay_items.specs.Ids.{coded_id, id_cmp}
 
 -- the symbols by their numbers, and the items by their ids

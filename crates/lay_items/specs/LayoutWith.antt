@@ -2,8 +2,8 @@
 use Rattle.std.specs.Prelude.{ℕ, ◌+◌, List, [], ◌∷◌}
 use Rattle.lay_items.specs.declared.id.ItemId.{ItemId}
 use Rattle.lay_items.specs.declared.item.Item.{Item}
-use Rattle.lay_items.specs.declared.version.CellSlot.{CellSlot}
-use Rattle.lay_items.specs.declared.version.CellSlot.TheVariants.{Base}
+use Rattle.lay_items.specs.declared.slot.CellSlot.{CellSlot}
+use Rattle.lay_items.specs.declared.slot.CellSlot.TheVariants.{Base}
 use Rattle.lay_items.specs.Layout.{Layout, map_of_items, symbols_of}
 
 -- the symbols of these numbers with slots of a text, from this place on

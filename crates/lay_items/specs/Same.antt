@@ -14,8 +14,8 @@ use Rattle.lay_point.specs.Same.{names_eq, points_eq, points_eq-Decides}
 use Rattle.lay_point.specs.SameTurn.{turn_eq, turn_eq-Decides}
 use Rattle.lay_items.specs.declared.item.Item.{Item}
 use Rattle.lay_items.specs.declared.item.Item.TheVariants.{Placed, Shape}
-use Rattle.lay_items.specs.declared.version.CellSlot.{CellSlot}
-use Rattle.lay_items.specs.declared.version.CellSlot.TheVariants.{Base, Made}
+use Rattle.lay_items.specs.declared.slot.CellSlot.{CellSlot}
+use Rattle.lay_items.specs.declared.slot.CellSlot.TheVariants.{Base, Made}
 use Rattle.lay_items.specs.SameMap.{map_eq, map_eq-Decides}
 
 -- the same rings in the same order

@@ -15,8 +15,8 @@ use Rattle.lay_cells.specs.Walks.{IsAcyclic}
 use Rattle.lay_items.specs.declared.id.ItemId.{ItemId}
 use Rattle.lay_items.specs.declared.item.Item.{Item}
 use Rattle.lay_items.specs.declared.item.Item.TheVariants.{Placed, Shape}
-use Rattle.lay_items.specs.declared.version.CellSlot.{CellSlot}
-use Rattle.lay_items.specs.declared.version.CellSlot.TheVariants.{Base}
+use Rattle.lay_items.specs.declared.slot.CellSlot.{CellSlot}
+use Rattle.lay_items.specs.declared.slot.CellSlot.TheVariants.{Base}
 use Rattle.lay_items.specs.Calls.{calls_of}
 use Rattle.lay_items.specs.Layout.{Layout, is_cell, item_at}
 

@@ -24,6 +24,7 @@ mod item_map;
 mod iter;
 mod numbered;
 mod parts;
+mod slot;
 mod snapshot;
 mod symbol_map;
 #[cfg(test)]
@@ -35,4 +36,5 @@ pub use id::ItemId;
 pub use item::{Item, Rings};
 pub use iter::{Calls, Entries, Items, Shapes};
 pub use snapshot::Snapshot;
-pub use version::{CellSlot, Version};
+pub use slot::CellSlot;
+pub use version::Version;

@@ -2,11 +2,11 @@
 ghost use Rattle.std.specs.Prelude.{◌≡◌, ◌+◌, IfOk, OnOk, nat_eq};
 ghost use Rattle.std.specs.List.{IsDistinct};
 ghost use Rattle.std.specs.FinMap as map;
-ghost use Rattle.lay_items.specs.declared.version.CellSlot.TheVariants.{Base};
+ghost use Rattle.lay_items.specs.declared.slot.CellSlot.TheVariants.{Base};
 ghost use Rattle.lay_items.specs.Layout.{symbols_of};
 ghost use Rattle.lay_items.specs.LayoutWith.{placed_from};
 
-use crate::version::CellSlot;
+use crate::slot::CellSlot;
 use lay_cells::Cells;
 use lay_point::NoMemory;
 use std::alloc::Global;

@@ -8,7 +8,7 @@ ghost use Rattle.lay_items.specs.SlotOrder.{by_standing, in_slot_order, rank, st
 
 use crate::parts::base_symbols;
 use crate::trees::are_same;
-use crate::version::CellSlot;
+use crate::slot::CellSlot;
 use lay_cells::Cells;
 use lay_point::NoMemory;
 use std::alloc::Global;
@@ -29,8 +29,8 @@ impl Model for SymbolMap {
     ghost use Rattle.std.specs.FinMap as finite;
     ghost use Rattle.std.specs.FinMap.{FinMap};
     ghost use Rattle.std.specs.Ordering.{nat_cmp};
-    ghost use Rattle.lay_items.specs.contracts.version.CellSlot as slot;
-    ghost use Rattle.lay_items.specs.declared.version.CellSlot.{CellSlot};
+    ghost use Rattle.lay_items.specs.contracts.slot.CellSlot as slot;
+    ghost use Rattle.lay_items.specs.declared.slot.CellSlot.{CellSlot};
     ghost use Rattle.lay_items.specs.Layout.{symbols_of};
     ghost use Rattle.lay_items.specs.SlotOrder.{in_slot_order};
 

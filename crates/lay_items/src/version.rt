@@ -16,6 +16,7 @@ use crate::id::ItemId;
 use crate::item::Item;
 use crate::item_map::ItemMap;
 use crate::iter::{Entries, Items};
+use crate::slot::CellSlot;
 use crate::symbol_map::SymbolMap;
 use cif_read::Element;
 use lay_cells::{CellId, Cells};
@@ -23,15 +24,6 @@ use lay_point::NoMemory;
 use std::alloc::Global;
 use std::marker::Model;
 use std::sync::Arc;
-
-/// Where a symbol stands among the symbols of a layout.
-#[derive(Clone, Copy, Debug, PartialEq, Eq)]
-pub enum CellSlot {
-    /// It comes from a text, as its symbol with this index, from 1.
-    Base(u32),
-    /// A transaction made it.
-    Made,
-}
 
 /// A layout as it is at one time. Contracts see the finite maps of its symbols and of its items. Versions
 /// that differ in items alone share their symbols, and the other way round.

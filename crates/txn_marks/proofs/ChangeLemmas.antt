@@ -10,7 +10,7 @@ use Rattle.std.specs.Map.{keys_of, lookup}
 use Rattle.std.specs.Ordering.{eq_by_cmp, nat_cmp}
 use Rattle.lay_items.specs.declared.id.ItemId.{ItemId}
 use Rattle.lay_items.specs.declared.item.Item.{Item}
-use Rattle.lay_items.specs.declared.version.CellSlot.{CellSlot}
+use Rattle.lay_items.specs.declared.slot.CellSlot.{CellSlot}
 use Rattle.lay_items.specs.IdOrder.{ids_exact, ids_total}
 use Rattle.lay_items.specs.Ids.{id_cmp}
 use Rattle.lay_items.specs.Layout.{AreRising, put}

@@ -5,7 +5,7 @@ use Rattle.std.specs.FinSet.{contains, contains-empty, contains-insert, insert}
 use Rattle.std.specs.List.{flat_map, list_any}
 use Rattle.lay_items.specs.declared.id.ItemId.{ItemId}
 use Rattle.lay_items.specs.declared.item.Item as item
-use Rattle.lay_items.specs.declared.version.CellSlot.{CellSlot}
+use Rattle.lay_items.specs.declared.slot.CellSlot.{CellSlot}
 use Rattle.txn_rules.specs.declared.element.Element.{Element}
 use Rattle.txn_rules.specs.declared.element.Element.TheVariants.{Cell}
 use Rattle.txn_rules.specs.declared.record.CellRecord.{CellRecord}

@@ -2,9 +2,9 @@
 use Rattle.std.specs.Prelude.{List, Option, refl}
 use Rattle.std.specs.Coded.{Coded, code_by, coded×, coded_list, coded_option}
 use Rattle.lay_items.specs.declared.item.Item.{Item}
-use Rattle.lay_items.specs.declared.version.CellSlot.{CellSlot}
+use Rattle.lay_items.specs.declared.slot.CellSlot.{CellSlot}
 use Rattle.lay_items.specs.contracts.item.Item as item
-use Rattle.lay_items.specs.contracts.version.CellSlot as slot
+use Rattle.lay_items.specs.contracts.slot.CellSlot as slot
 use Rattle.txn_rules.specs.Changes.{Change}
 use Rattle.txn_rules.specs.Records.{Records}
 use Rattle.txn_rules.specs.declared.record.CellRecord.{CellRecord}

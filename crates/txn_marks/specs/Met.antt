@@ -5,7 +5,7 @@ use Rattle.std.specs.List.{list_any}
 use Rattle.lay_cells.specs.declared.cell_id.CellId.{CellId}
 use Rattle.lay_items.specs.declared.id.ItemId.{ItemId}
 use Rattle.lay_items.specs.declared.item.Item as items
-use Rattle.lay_items.specs.declared.version.CellSlot.{CellSlot}
+use Rattle.lay_items.specs.declared.slot.CellSlot.{CellSlot}
 use Rattle.txn_rules.specs.declared.element.Element.TheVariants.{Cell}
 use Rattle.txn_rules.specs.Changes.{Change}
 use Rattle.txn_rules.specs.Elements.{Touched}

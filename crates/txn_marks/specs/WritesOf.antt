@@ -3,7 +3,7 @@ use Rattle.std.specs.Prelude.{◌≡◌, ℕ, [], ◌∷◌, map, Option}
 use Rattle.std.specs.FinMap as finite
 use Rattle.lay_items.specs.declared.id.ItemId.{ItemId}
 use Rattle.lay_items.specs.declared.item.Item.{Item}
-use Rattle.lay_items.specs.declared.version.CellSlot.{CellSlot}
+use Rattle.lay_items.specs.declared.slot.CellSlot.{CellSlot}
 use Rattle.lay_items.specs.Layout.{Layout, item_at}
 use Rattle.txn_rules.specs.Records.{Records, cell_record_of, record_of, records_between}
 use Rattle.txn_rules.specs.Writing.{rewritten}

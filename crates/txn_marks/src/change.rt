@@ -82,7 +82,7 @@ pub struct CellChange {
 
 impl Model for CellChange {
     ghost use Rattle.txn_rules.specs.Changes.{Change};
-    ghost use Rattle.lay_items.specs.declared.version.CellSlot.{CellSlot};
+    ghost use Rattle.lay_items.specs.declared.slot.CellSlot.{CellSlot};
     ghost use Rattle.txn_marks.specs.Coded.{coded_cell_change};
 
     ghost Value = { Change CellSlot };

@@ -10,7 +10,7 @@ use Rattle.std.specs.Cmp.{nat_cmp_total}
 use Rattle.std.specs.List.{AllByRecursion, list_any}
 use Rattle.lay_items.specs.declared.id.ItemId.{ItemId}
 use Rattle.lay_items.specs.declared.item.Item as items
-use Rattle.lay_items.specs.declared.version.CellSlot.{CellSlot}
+use Rattle.lay_items.specs.declared.slot.CellSlot.{CellSlot}
 use Rattle.lay_items.specs.IdOrder.{ids_exact, ids_total}
 use Rattle.lay_items.specs.Layout.{Layout, item_at}
 use Rattle.lay_items.specs.Same.{option_item_eq, option_item_eq-Decides}

@@ -19,8 +19,8 @@ use Rattle.lay_point.specs.Points.{is_in_range}
 use Rattle.lay_items.specs.declared.id.ItemId.{ItemId}
 use Rattle.lay_items.specs.declared.item.Item as items
 use Rattle.lay_items.specs.declared.item.Item.TheVariants.{Placed, Shape}
-use Rattle.lay_items.specs.declared.version.CellSlot.{CellSlot}
-use Rattle.lay_items.specs.declared.version.CellSlot.TheVariants.{Base, Made}
+use Rattle.lay_items.specs.declared.slot.CellSlot.{CellSlot}
+use Rattle.lay_items.specs.declared.slot.CellSlot.TheVariants.{Base, Made}
 use Rattle.lay_items.specs.Calls.{Call, as_call, calls_of}
 use Rattle.lay_items.specs.IdOrder.{ids_exact, ids_total}
 use Rattle.lay_items.specs.Items.{cell_of}

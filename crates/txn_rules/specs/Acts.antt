@@ -6,7 +6,7 @@ use Rattle.lay_point.specs.declared.turn.Turn.{Turn}
 use Rattle.lay_items.specs.declared.id.ItemId.{ItemId}
 use Rattle.lay_items.specs.declared.item.Item as items
 use Rattle.lay_items.specs.declared.item.Item.TheVariants.{Placed, Shape}
-use Rattle.lay_items.specs.declared.version.CellSlot.TheVariants.{Made as MadeSlot}
+use Rattle.lay_items.specs.declared.slot.CellSlot.TheVariants.{Made as MadeSlot}
 use Rattle.lay_items.specs.Layout.{Write}
 use Rattle.txn_rules.specs.declared.command.Done.{Done}
 use Rattle.txn_rules.specs.declared.command.Done.TheVariants.{Empty, Found, Made, Plain, Several}

@@ -5,7 +5,7 @@ use Rattle.lay_cells.specs.declared.cell_id.CellId.{CellId}
 use Rattle.lay_cells.specs.Walks.{Walks}
 use Rattle.lay_items.specs.declared.id.ItemId.{ItemId}
 use Rattle.lay_items.specs.declared.item.Item as items
-use Rattle.lay_items.specs.declared.version.CellSlot.{CellSlot}
+use Rattle.lay_items.specs.declared.slot.CellSlot.{CellSlot}
 use Rattle.lay_items.specs.Calls.{calls_of}
 use Rattle.lay_items.specs.Layout.{Layout, item_at}
 use Rattle.lay_items.specs.Same.{option_item_eq}

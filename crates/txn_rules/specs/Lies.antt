@@ -6,7 +6,7 @@ use Rattle.lay_point.specs.Same.{names_eq}
 use Rattle.lay_items.specs.declared.id.ItemId.{ItemId}
 use Rattle.lay_items.specs.declared.item.Item as items
 use Rattle.lay_items.specs.declared.item.Item.TheVariants.{Placed, Shape}
-use Rattle.lay_items.specs.declared.version.CellSlot.{CellSlot}
+use Rattle.lay_items.specs.declared.slot.CellSlot.{CellSlot}
 use Rattle.lay_items.specs.Items.{cell_of}
 use Rattle.lay_items.specs.SameLayout.{id_eq}
 use Rattle.txn_rules.specs.declared.element.Element.{Element}

@@ -2,7 +2,7 @@
 use Rattle.std.specs.Prelude.{List, [], ◌∷◌, refl, ℕ}
 use Rattle.std.specs.Coded.{Coded, code_by, coded×, coded_list, coded_option, coded_ℕ}
 use Rattle.lay_items.specs.contracts.item.Item as item
-use Rattle.lay_items.specs.contracts.version.CellSlot as slot
+use Rattle.lay_items.specs.contracts.slot.CellSlot as slot
 use Rattle.lay_items.specs.Ids.{coded_id}
 use Rattle.lay_items.specs.Layout.{SymbolWrite, Write}
 use Rattle.txn_rules.specs.contracts.command.Done as done

@@ -28,7 +28,7 @@ use Rattle.std.proofs.lemmas.List.Elements.{All-drop}
 use Rattle.face_labels.specs.declared.start.Start.{Start}
 use Rattle.face_labels.specs.Lines.{edge_at}
 use Rattle.face_labels.specs.Rows.{upward}
-use Rattle.face_labels.specs.Sides.{IsLine}
+use Rattle.face_labels.specs.RowSides.{IsLine}
 use Rattle.face_labels.specs.Starts.{AreByRow, BeginsBy, HasLabel, IsStartOf}
 use Rattle.face_labels.proofs.KeptLemmas.{begun_behind, by_row-drop, none_earlier, not_later, rest}
 use Rattle.face_labels.proofs.StartLemmas.{labels_more}

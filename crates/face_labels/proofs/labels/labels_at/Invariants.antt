@@ -1,7 +1,7 @@
 use Rattle.std.proofs.Common.{◌≡◌, ◌-◌, get_or, length, take}
 use Rattle.std.specs.Prelude.{All}
 use Rattle.face_labels.specs.declared.start.Start.{Start}
-use Rattle.face_labels.specs.Sides.{IsLine}
+use Rattle.face_labels.specs.RowSides.{IsLine}
 use Rattle.face_labels.specs.Starts.{HasLabel}
 use Rattle.face_labels.proofs.labels.labels_at.Given as goal
 

@@ -1,6 +1,6 @@
 use Rattle.std.specs.Cmp.{nat_cmp_total}
 use Rattle.std.specs.FinMap.{nat_cmp-IsAntisymmetric}
-use Rattle.lay_items.specs.declared.version.CellSlot.TheVariants.{Base}
+use Rattle.lay_items.specs.declared.slot.CellSlot.TheVariants.{Base}
 use Rattle.lay_items.proofs.MapLemmas.{one_inserted}
 use Rattle.lay_items.proofs.parts.insert_symbol.Goals as goal
 

@@ -2,7 +2,7 @@ use Rattle.std.proofs.Common.{◌≡◌, ◌∙◌, ℕ, List, [], ap, map, rule
 use Rattle.std.specs.Cmp.{nat_cmp_total}
 use Rattle.std.specs.FinMap.{entries, entries_sorted, from_entries}
 use Rattle.std.specs.Ordering.{nat_cmp}
-use Rattle.lay_items.specs.declared.version.CellSlot.{CellSlot}
+use Rattle.lay_items.specs.declared.slot.CellSlot.{CellSlot}
 use Rattle.lay_items.specs.Layout.{symbols_of}
 use Rattle.lay_items.specs.SlotOrder.{Standing, standing_cmp, standing_of}
 use Rattle.lay_items.proofs.DistinctLemmas.{AreDistinct, inserted, inserted-empty}

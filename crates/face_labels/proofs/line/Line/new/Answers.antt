@@ -4,7 +4,8 @@ use Rattle.std.specs.List.Sorted.{IsPermutation}
 use Rattle.std.proofs.lemmas.List.{length-replicate}
 use Rattle.face_labels.specs.Ends.{ends_beyond}
 use Rattle.face_labels.specs.Reaches.{EndAtReach}
-use Rattle.face_labels.specs.Sides.{AreBehind, AreSound, IsKnown}
+use Rattle.face_labels.specs.Sides.{AreBehind, IsKnown}
+use Rattle.face_labels.specs.Sound.{AreSound}
 use Rattle.face_labels.proofs.EndLemmas.{ends_in_order}
 use Rattle.face_labels.proofs.LabelLemmas.{row_behind, row_given}
 use Rattle.face_labels.proofs.StateLemmas.{none_known}
