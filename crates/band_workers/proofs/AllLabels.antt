@@ -2,14 +2,14 @@
 use Rattle.std.proofs.Common.{◌≡◌, inl, inr, ℕ, ◌+◌, Bool, true, false, cond, List, [], ◌∷◌, map, Contains, refl, ap}
 use Rattle.lay_point.specs.declared.point.Point.{Point}
 use Rattle.lay_point.proofs.Members.{Has, contains}
-use Rattle.snap_chains.specs.Rounded.{Owned}
+use Rattle.snap_visits.specs.Rounded.{Owned}
 use Rattle.face_labels.specs.Labels.{Item, differs, owned_items}
-use Rattle.face_labels.specs.declared.band.Band.{Band}
-use Rattle.face_labels.specs.declared.op.Op.{Op}
-use Rattle.face_labels.specs.Bands.{begins_in, labelled}
-use Rattle.face_labels.specs.Operations.{answer}
-use Rattle.face_labels.specs.Picked.{picked}
-use Rattle.face_labels.proofs.SideLemmas.{zip_first}
+use Rattle.face_rows.specs.declared.band.Band.{Band}
+use Rattle.face_rows.specs.declared.op.Op.{Op}
+use Rattle.face_rows.specs.Bands.{begins_in, labelled}
+use Rattle.face_rows.specs.Operations.{answer}
+use Rattle.face_rows.specs.Picked.{picked}
+use Rattle.face_rows.proofs.SideLemmas.{zip_first}
 use Rattle.band_workers.specs.Labels.{labels_of}
 
 abbrev numbered : Band → (Item → Bool) → ℕ → List Item → List (ℕ × Bool)

@@ -9,15 +9,15 @@ use Rattle.std.proofs.lemmas.List.{ext_get_or, get_or-map, get_or-set_other, get
 use Rattle.std.proofs.lemmas.Slice.Zip.{length-zip}
 use Rattle.lay_point.specs.declared.point.Point.{Point}
 use Rattle.lay_point.proofs.Members.{Has, contains, has-append, has-append_left, has-append_right}
-use Rattle.snap_chains.specs.Rounded.{Owned}
+use Rattle.snap_visits.specs.Rounded.{Owned}
 use Rattle.face_labels.specs.Labels.{Item, differs, owned_items}
-use Rattle.face_labels.specs.declared.op.Op.{Op}
-use Rattle.face_labels.specs.declared.band.Band.{Band}
-use Rattle.face_labels.specs.Bands.{begins_in, labelled}
-use Rattle.face_labels.specs.Rows.{upward}
-use Rattle.face_labels.specs.Operations.{answer}
-use Rattle.face_labels.proofs.PickedLemmas.{picked_has, picked_of}
-use Rattle.face_labels.proofs.SideLemmas.{zip_first}
+use Rattle.face_rows.specs.declared.op.Op.{Op}
+use Rattle.face_rows.specs.declared.band.Band.{Band}
+use Rattle.face_rows.specs.Bands.{begins_in, labelled}
+use Rattle.face_rows.specs.Rows.{upward}
+use Rattle.face_rows.specs.Operations.{answer}
+use Rattle.face_rows.proofs.PickedLemmas.{picked_has, picked_of}
+use Rattle.face_rows.proofs.SideLemmas.{zip_first}
 use Rattle.band_workers.specs.Cuts.{IsLabelled, band_at, whole_band}
 use Rattle.band_workers.specs.Joined.{AreNumbersBelow, Part, joined_onto, with_labels}
 use Rattle.band_workers.specs.Labels.{labels_of}

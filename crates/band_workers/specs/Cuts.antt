@@ -1,9 +1,9 @@
 -- Bands that rows are cut into, and what a worker gives back of one.
 use Rattle.std.specs.Prelude.{◌≡◌, ℕ, ◌+◌, ◌-◌, ℤ, pos, List, length, slice_index_or, IfOk}
-use Rattle.snap_chains.specs.Rounded.{Owned}
-use Rattle.face_labels.specs.declared.band.Band.{Band}
-use Rattle.face_labels.specs.declared.op.Op.{Op}
-use Rattle.face_labels.specs.Bands.{labelled}
+use Rattle.snap_visits.specs.Rounded.{Owned}
+use Rattle.face_rows.specs.declared.band.Band.{Band}
+use Rattle.face_rows.specs.declared.op.Op.{Op}
+use Rattle.face_rows.specs.Bands.{labelled}
 use Rattle.band_workers.specs.Joined.{Part}
 
 -- the i-th band: from the i-th cut up to the next

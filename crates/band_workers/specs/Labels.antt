@@ -1,9 +1,9 @@
 -- The labels of all edges.
 use Rattle.std.specs.Prelude.{Bool, List, map}
-use Rattle.snap_chains.specs.Rounded.{Owned}
+use Rattle.snap_visits.specs.Rounded.{Owned}
 use Rattle.face_labels.specs.Labels.{differs, owned_items}
-use Rattle.face_labels.specs.declared.op.Op.{Op}
-use Rattle.face_labels.specs.Operations.{answer}
+use Rattle.face_rows.specs.declared.op.Op.{Op}
+use Rattle.face_rows.specs.Operations.{answer}
 
 -- for each edge, in order, whether the operation's answers differ on its two sides
 abbrev pub labels_of : Op → Owned → List Bool

@@ -3,7 +3,7 @@ ghost use Rattle.std.specs.Prelude.{◌≡◌, IfOk};
 ghost use Rattle.band_workers.specs.Labels.{labels_of};
 ghost use denote.Param.Send.{IsSync};
 
-use face_labels::Op;
+use face_rows::Op;
 use lay_point::NoMemory;
 use snap_chains::CleanEdges;
 use std::alloc::Global;

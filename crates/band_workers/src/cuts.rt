@@ -1,10 +1,10 @@
 //! Where the rows are cut into bands.
 ghost use Rattle.std.specs.Prelude.{◌≡◌, ◌+◌, ◌-◌, ◌≤◌, Contains, IfOk, IsTrue, OnOk, length, take};
 ghost use Rattle.lay_point.specs.declared.point.Point.{Point};
-ghost use Rattle.face_labels.specs.Bands.{begins_in};
+ghost use Rattle.face_rows.specs.Bands.{begins_in};
 ghost use Rattle.band_workers.specs.Cuts.{whole_band};
 
-use face_labels::Band;
+use face_rows::Band;
 use lay_point::{Edge, NoMemory};
 use std::alloc::{AllocError, Global};
 

@@ -2,7 +2,8 @@
 ghost use Rattle.std.specs.Prelude.{◌≡◌, ℕ, Bool, IfOk, map};
 
 use crate::bands::Bands;
-use face_labels::{Band, Op, label};
+use face_labels::label;
+use face_rows::{Band, Op};
 use lay_point::NoMemory;
 use snap_chains::CleanEdges;
 use std::alloc::{AllocError, Global};

@@ -2,9 +2,10 @@
 ghost use Rattle.std.specs.Prelude.{◌≡◌};
 
 use super::*;
-use face_labels::Op;
+use face_rows::Op;
 use lay_point::{Point, Ring};
-use snap_chains::{Input, OwnedRing, Owner, round};
+use snap_chains::round;
+use snap_visits::{Input, OwnedRing, Owner};
 use std::alloc::AllocError;
 use std::sync::atomic::{AtomicBool, Ordering};
 use std::test::*;

@@ -9,8 +9,8 @@
 use anyhow::Context;
 use band_workers::OneBand;
 use cif_read::read;
-use face_labels::Op;
-use lay_cells::CellId;
+use face_rows::Op;
+use lay_calls::CellId;
 use lay_flat::flatten;
 use lay_items::Snapshot;
 use lay_point::{LayerName, Ring};

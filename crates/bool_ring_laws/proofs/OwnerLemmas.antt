@@ -13,18 +13,18 @@ use Rattle.snap_chains.specs.Rising.{IsRising}
 use Rattle.snap_chains.specs.Undirected.{is_owned, walked_edges}
 use Rattle.snap_chains.proofs.Rising.{before_rest, rising_rest}
 use Rattle.snap_chains.proofs.Undirected.{edges_are_strict}
-use Rattle.snap_chains.specs.declared.owner.Input.{Input}
-use Rattle.snap_chains.specs.declared.owner.Input.TheVariants.{First, Second}
-use Rattle.snap_chains.specs.declared.owner.Owner.{Owner}
-use Rattle.snap_chains.specs.Owners.{input_eq, owner_eq}
+use Rattle.snap_visits.specs.declared.owner.Input.{Input}
+use Rattle.snap_visits.specs.declared.owner.Input.TheVariants.{First, Second}
+use Rattle.snap_visits.specs.declared.owner.Owner.{Owner}
+use Rattle.snap_visits.specs.Owners.{input_eq, owner_eq}
 use Rattle.snap_chains.specs.Round.{AreOwnersOf, IsRoundOf, owner_walks}
-use Rattle.snap_chains.specs.Rounded.{Owned, is_owner_listed}
-use Rattle.snap_chains.proofs.VisitOrder.{owner_eq-Decides}
+use Rattle.snap_visits.specs.Rounded.{Owned, is_owner_listed}
+use Rattle.snap_visits.proofs.VisitOrder.{owner_eq-Decides}
 use Rattle.face_label_laws.specs.Labels.{Item, answer_at, listed_shapes, odd_of, owned_items, some_of}
 use Rattle.face_label_laws.proofs.Cuts.{AreDistinct, and_false_right, parity_of_one}
 use Rattle.face_label_laws.proofs.Shapes.{inputs_are_their_shapes}
 use Rattle.face_link_laws.proofs.ParityLemmas.{is_crossed-IsEdgeTest}
-use Rattle.face_labels.specs.Operations.{answer}
+use Rattle.face_rows.specs.Operations.{answer}
 use Rattle.bool_shape_laws.specs.Shapes.{owned_of, rounded_inputs}
 use Rattle.bool_shape_laws.proofs.ShapeLemmas.{inputs_round, shapes_tell_places}
 use Rattle.bool_ring_laws.specs.Inside.{AnswersAreThoseOfRings, OwnersAreThoseOfRings, ShapesAreThoseOfRings, holds, is_inside_rounded}

@@ -5,16 +5,16 @@ use Rattle.lay_point.specs.declared.point.Point.{Point}
 use Rattle.lay_point.specs.Parity.{odd}
 use Rattle.lay_point.specs.RingEdges.{edges_of, pairs}
 use Rattle.lay_flat.specs.Flat.{FlatRing, IsFlat}
-use Rattle.snap_chains.specs.declared.owner.Input.{Input}
-use Rattle.snap_chains.specs.declared.owner.Input.TheVariants.{First, Second}
-use Rattle.snap_chains.specs.declared.owner.Owner.{Owner}
-use Rattle.snap_chains.specs.OwnedRings.{AreRounded}
-use Rattle.snap_chains.specs.Owners.{input_eq}
+use Rattle.snap_visits.specs.declared.owner.Input.{Input}
+use Rattle.snap_visits.specs.declared.owner.Input.TheVariants.{First, Second}
+use Rattle.snap_visits.specs.declared.owner.Owner.{Owner}
+use Rattle.snap_visits.specs.OwnedRings.{AreRounded}
+use Rattle.snap_visits.specs.Owners.{input_eq}
 use Rattle.snap_chains.specs.Round.{IsRoundOf, owner_walks}
-use Rattle.snap_chains.specs.Rounded.{Owned}
+use Rattle.snap_visits.specs.Rounded.{Owned}
 use Rattle.face_label_laws.specs.Labels.{odd_of, owned_items}
-use Rattle.face_labels.specs.declared.op.Op.{Op}
-use Rattle.face_labels.specs.Operations.{answer, op_at}
+use Rattle.face_rows.specs.declared.op.Op.{Op}
+use Rattle.face_rows.specs.Operations.{answer, op_at}
 use Rattle.bool_shape_laws.specs.Shapes.{owned_of, shapes_of}
 
 -- the half line from the place to the right crosses an odd number of the edges that the shape's rounded rings go, each as

@@ -4,13 +4,13 @@ use Rattle.std.specs.Prelude.{Result, Ok, Err, if◌then◌else◌}
 use Rattle.std.specs.List.{AllByRecursion, list_any}
 use Rattle.lay_point.specs.Parity.{odd}
 use Rattle.lay_point.specs.RingEdges.{edges_of}
-use Rattle.lay_cells.specs.declared.cell_id.CellId.{CellId}
-use Rattle.lay_items.specs.Layout.{Layout}
-use Rattle.lay_items.specs.Sound.{IsDrawn}
-use Rattle.lay_flat.specs.declared.fault.FlatFault.{FlatFault}
-use Rattle.lay_flat.specs.declared.fault.FlatFault.TheVariants.{TooMany}
-use Rattle.lay_flat.specs.Flat.{FlatRing}
-use Rattle.lay_flat.specs.Flattening.{flat_of, on_success}
+use Rattle.lay_calls.specs.declared.cell_id.CellId.{CellId}
+use Rattle.lay_layouts.specs.Layout.{Layout}
+use Rattle.lay_layouts.specs.Sound.{IsDrawn}
+use Rattle.lay_flat_laws.specs.FlatFault.{FlatFault}
+use Rattle.lay_flat_laws.specs.FlatFault.TheVariants.{TooMany}
+use Rattle.lay_flat_laws.specs.Flat.{FlatRing}
+use Rattle.lay_flat_laws.specs.Flattening.{flat_of, on_success}
 use Rattle.lay_flat_laws.proofs.Below.{same_flattening}
 use Rattle.bool_shape_laws.specs.Op.{Op}
 use Rattle.bool_shape_laws.specs.Shapes.{Rings, fits, shapes_of}

@@ -10,15 +10,15 @@ use Rattle.lay_point.specs.Bridges.{bridged}
 use Rattle.lay_point.specs.Points.{is_in_range}
 use Rattle.lay_point.specs.Rings.{IsRing}
 use Rattle.lay_point.proofs.Members.{Has, contains}
-use Rattle.lay_items.specs.Sound.{IsDrawn}
-use Rattle.lay_flat.specs.Flat.{FlatRing, IsFlat}
+use Rattle.lay_layouts.specs.Sound.{IsDrawn}
+use Rattle.lay_flat_laws.specs.Flat.{FlatRing, IsFlat}
 use Rattle.bool_shape_laws.proofs.Upward.{operation_among}
 use Rattle.bool_shape_laws.specs.Op.{Op}
 use Rattle.bool_shape_laws.specs.Operations.{answer, edges_of_op}
 use Rattle.face_link_laws.proofs.CountLemmas.{AreUndirected}
 use Rattle.face_link_laws.proofs.RingLaws.{AreSound, ring_from_sound}
 use Rattle.face_link_laws.proofs.StepLemmas.{all_sound}
-use Rattle.face_part_laws.specs.Parts.{AreParts, with_label}
+use Rattle.bool_shape_laws.specs.Parts.{AreParts, with_label}
 use Rattle.bool_shape_laws.proofs.InRange.{rounded_is_in_range}
 use Rattle.bool_shape_laws.specs.declared.limits.TheConstants.{MAX_SEGMENTS}
 use Rattle.bool_shape_laws.specs.Shapes.{Rings, fits, is_short, op_rings, owned_of, rounded_inputs, segments_of, shapes_of}

@@ -3,3 +3,5 @@ pub mod DrawnShapes
 pub mod Everywhere
 pub mod Flats
 pub use Rattle.bool_shape_laws.proofs.PathLemmas
+pub use Rattle.lay_flat_laws.proofs.LayoutWalks
+pub use Rattle.lay_flat_laws.proofs.SoundLemmas

@@ -3,11 +3,11 @@ use Rattle.std.specs.Prelude.{◌≡◌, ℕ, ℤ, pos, ◌≤ℤ◌, All, List,
 use Rattle.std.specs.List.{AllByRecursion, list_any}
 use Rattle.lay_point.specs.Parity.{odd}
 use Rattle.lay_point.specs.RingEdges.{edges_of}
-use Rattle.lay_cells.specs.declared.cell_id.CellId.{CellId}
-use Rattle.lay_items.specs.Layout.{Layout}
-use Rattle.lay_items.specs.Sound.{IsDrawn, IsSound}
-use Rattle.lay_flat.specs.Flat.{FlatRing, IsFlat}
-use Rattle.lay_flat.specs.Flattening.{flat_of}
+use Rattle.lay_calls.specs.declared.cell_id.CellId.{CellId}
+use Rattle.lay_layouts.specs.Layout.{Layout}
+use Rattle.lay_layouts.specs.Sound.{IsDrawn, IsSound}
+use Rattle.lay_flat_laws.specs.Flat.{FlatRing, IsFlat}
+use Rattle.lay_flat_laws.specs.Flattening.{flat_of}
 use Rattle.lay_flat_laws.specs.Laws.{HaveSameBelow}
 use Rattle.bool_shape_laws.specs.Op.{Op}
 use Rattle.bool_shape_laws.specs.Operations.{op_at}

@@ -10,3 +10,4 @@ mod laws;
 
 pub use bool_shape_laws::Op;
 pub use laws::booleans_have_laws;
+pub use lay_flat_laws::Snapshot;

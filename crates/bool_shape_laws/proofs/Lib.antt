@@ -7,4 +7,4 @@ pub mod ShapeLemmas
 pub use Rattle.face_labels.proofs.Upward
 pub use Rattle.snap_round_laws.proofs.InRange
 pub use Rattle.snap_round_laws.proofs.Exists
-pub use Rattle.snap_chains.proofs.PathLemmas
+pub use Rattle.snap_round_laws.proofs.PathLemmas

@@ -7,13 +7,13 @@ use Rattle.lay_point.specs.Points.{is_in_range}
 use Rattle.lay_point.specs.declared.point.Point.{Point}
 use Rattle.lay_point.proofs.Members.{contains}
 use Rattle.lay_flat.specs.Flat.{FlatRing, IsFlat}
-use Rattle.snap_chains.specs.Round.{IsRoundOf}
+use Rattle.snap_round_laws.specs.Round.{IsRoundOf}
 use Rattle.snap_round_laws.specs.Laws.{AreCleanEdges}
 use Rattle.snap_round_laws.proofs.Exists.{rounding_exists, rounding_is_computed}
 use Rattle.snap_round_laws.proofs.InRange.{and_true, rounded_is_in_range, rounded_is_rounded}
 use Rattle.face_labels.proofs.Upward.{even_operation, operation_among, operation_law, operation_rises}
-use Rattle.face_labels.specs.declared.op.Op.{Op}
-use Rattle.face_labels.specs.declared.op.Op.TheVariants.{And, Or, Not, Xor}
+use Rattle.face_labels.specs.Op.{Op}
+use Rattle.face_labels.specs.Op.TheVariants.{And, Or, Not, Xor}
 use Rattle.face_labels.specs.Operations.{TellAnswer, answer, edges_of_op}
 use Rattle.face_link_laws.specs.Linked.{AreLinked}
 use Rattle.face_link_laws.proofs.CountLemmas.{AreUndirected, rings_count, rings_odd}

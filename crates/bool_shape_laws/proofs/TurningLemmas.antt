@@ -14,9 +14,9 @@ use Rattle.lay_point.specs.Rings.{IsRing, NeighboursDiffer, closed}
 use Rattle.lay_point.specs.Turns.{mirrored, shifted, turned, turned_by}
 use Rattle.lay_point.proofs.EdgeOrder.{same_point}
 use Rattle.lay_flat.specs.Flat.{FlatRing, IsFlat}
-use Rattle.snap_chains.specs.declared.owner.Input.{Input}
-use Rattle.snap_chains.specs.declared.owner.Input.TheVariants.{First, Second}
-use Rattle.snap_chains.specs.declared.owner.Owner.{Owner}
+use Rattle.snap_round_laws.specs.Input.{Input}
+use Rattle.snap_round_laws.specs.Input.TheVariants.{First, Second}
+use Rattle.snap_round_laws.specs.Owner.{Owner}
 use Rattle.snap_round_laws.specs.Laws.{AreOwnedRings}
 use Rattle.bool_shape_laws.specs.Shapes.{owned_by, owned_of}
 

@@ -6,9 +6,9 @@ use Rattle.lay_point.specs.Edges.{undirected}
 use Rattle.lay_point.specs.Parity.{odd}
 use Rattle.lay_point.specs.RingEdges.{edges_of}
 use Rattle.lay_flat.specs.Flat.{FlatRing, IsFlat}
-use Rattle.snap_chains.specs.Round.{IsRoundOf}
-use Rattle.snap_chains.specs.Rounded.{Owned}
-use Rattle.face_labels.specs.declared.op.Op.{Op}
+use Rattle.snap_round_laws.specs.Round.{IsRoundOf}
+use Rattle.snap_round_laws.specs.Rounded.{Owned}
+use Rattle.face_labels.specs.Op.{Op}
 use Rattle.face_labels.specs.Operations.{edges_of_op, op_at}
 use Rattle.face_link_laws.specs.Linked.{AreLinked}
 use Rattle.face_part_laws.specs.Parts.{AreParts}

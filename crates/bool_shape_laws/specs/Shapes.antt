@@ -8,12 +8,12 @@ use Rattle.lay_point.specs.declared.ring.TheConstants.{MAX_RING_POINTS}
 use Rattle.lay_point.specs.Bridges.{bridged}
 use Rattle.lay_point.specs.Turns.{turned}
 use Rattle.lay_flat.specs.Flat.{FlatRing}
-use Rattle.snap_chains.specs.declared.owner.Input.{Input}
-use Rattle.snap_chains.specs.declared.owner.Input.TheVariants.{First, Second}
-use Rattle.snap_chains.specs.declared.owner.Owner.{Owner}
-use Rattle.snap_chains.specs.Rounded.{Owned}
+use Rattle.snap_round_laws.specs.Input.{Input}
+use Rattle.snap_round_laws.specs.Input.TheVariants.{First, Second}
+use Rattle.snap_round_laws.specs.Owner.{Owner}
+use Rattle.snap_round_laws.specs.Rounded.{Owned}
 use Rattle.snap_round_laws.specs.Rounding.{rounded_of}
-use Rattle.face_labels.specs.declared.op.Op.{Op}
+use Rattle.face_labels.specs.Op.{Op}
 use Rattle.face_labels.specs.Operations.{edges_of_op}
 use Rattle.face_link_laws.specs.Linking.{linked_rings}
 use Rattle.bool_shape_laws.specs.declared.limits.TheConstants.{MAX_SEGMENTS}

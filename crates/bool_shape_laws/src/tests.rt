@@ -4,7 +4,7 @@ ghost use Rattle.lay_point.specs.declared.point.Point.{Point};
 ghost use Rattle.lay_point.specs.Rings.{rectangle};
 ghost use Rattle.lay_point.specs.Turns.{unturned};
 ghost use Rattle.lay_flat.specs.Flat.{FlatRing};
-ghost use Rattle.face_labels.specs.declared.op.Op.TheVariants.{Not, Or};
+ghost use Rattle.face_labels.specs.Op.TheVariants.{Not, Or};
 ghost use Rattle.bool_shape_laws.specs.Shapes.{shapes_of};
 
 // Could catch a definition by which a hole is a shape of its own, boxes that are apart are one

@@ -6,7 +6,7 @@ use Rattle.std.specs.List.{list_all, take_while}
 use Rattle.std.proofs.lemmas.Bool.{eqb-true}
 use Rattle.std.proofs.lemmas.List.{append-nil, length-append}
 use Rattle.std.proofs.lemmas.Option.{some_pair_parts, same_Some}
-use Rattle.lay_point.specs.Names.{is_digit}
+use Rattle.cif_scan.specs.Names.{is_digit}
 use Rattle.cif_scan.specs.Bytes.{is_blank, skip}
 use Rattle.cif_scan.specs.Numbers.{◌>>=◌, integer_at}
 use Rattle.cif_scan.proofs.ByteClasses.{blank_no_digit}

@@ -6,7 +6,7 @@ use Rattle.std.specs.List.{list_all, take_while}
 use Rattle.std.proofs.lemmas.Bool.{eqb-true}
 use Rattle.std.proofs.lemmas.Bool.Decides.{nat_tests}
 use Rattle.std.proofs.lemmas.Option.{cond_some, same_Some}
-use Rattle.lay_point.specs.Names.{is_digit}
+use Rattle.cif_scan.specs.Names.{is_digit}
 use Rattle.cif_scan.specs.Bytes.{is_blank, skip}
 use Rattle.cif_scan.proofs.ByteClasses.{is_plain}
 use Rattle.cif_scan.proofs.Runs.{list_all-take_while, skip-front, taken_and_left}

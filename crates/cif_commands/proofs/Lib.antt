@@ -6,7 +6,5 @@ pub mod CallSteps
 pub mod CommentGrammar
 pub mod OtherGrammar
 pub mod CommandGrammar
-pub mod CutGrammar
-pub mod CutLemmas
 pub mod Openings
 pub mod Pieces

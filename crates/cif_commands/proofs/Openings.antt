@@ -7,7 +7,7 @@ use Rattle.std.proofs.lemmas.Bool.{and_from, and_parts}
 use Rattle.std.proofs.lemmas.Bool.Decides.{nat_tests}
 use Rattle.std.proofs.lemmas.List.{length-append}
 use Rattle.std.proofs.lemmas.List.Folds.{list_all-append}
-use Rattle.lay_point.specs.Names.{is_digit, is_name_byte}
+use Rattle.cif_scan.specs.Names.{is_digit, is_name_byte}
 use Rattle.cif_scan.specs.declared.number.Number.{Number}
 use Rattle.cif_scan.specs.Bytes.{is_blank, is_gap, is_mark, is_separator}
 use Rattle.cif_scan.specs.Grammar.{IsInteger, IsSigned, sign}
@@ -17,11 +17,11 @@ use Rattle.cif_commands.specs.declared.calls.Change.TheVariants.{Direction, Mirr
 use Rattle.cif_commands.specs.declared.definitions.Scale.{Scale}
 use Rattle.cif_commands.specs.declared.paths.Vertex.{Vertex}
 use Rattle.cif_commands.specs.Commands.{Box, Call, Command, Comment, Extension, Finish, Layer, Polygon, Start}
-use Rattle.cif_commands.specs.Cutting.{command_len, next_depth, semicolon_from}
+use Rattle.cif_scan.specs.Cutting.{command_len, next_depth, semicolon_from}
 use Rattle.cif_commands.specs.Grammar.{AreBlanks, AreCallChanges, AreVertices, IsChange}
 use Rattle.cif_commands.specs.Grammar.{IsComment, IsDirection, IsScale, IsVertex, IsWrittenScale}
 use Rattle.cif_commands.specs.Grammar.{Matched, NextVertex, Spells, byte, is_free, matched_text, nothing, within}
-use Rattle.cif_commands.proofs.CutGrammar.{plain_found}
+use Rattle.cif_scan.proofs.CutGrammar.{plain_found}
 
 pub record Opening (text : List ℕ) : Type 0 where
   pub first : ℕ

@@ -3,7 +3,7 @@ use Rattle.std.proofs.Common.{◌≡◌, ℕ, ◌≤◌, true, false, List, [], 
 use Rattle.std.proofs.Common.{inl, inr}
 use Rattle.std.specs.List.{list_all, take_while}
 use Rattle.std.proofs.lemmas.Option.{cond_some, same_Some}
-use Rattle.lay_point.specs.Names.{is_digit, is_name_byte}
+use Rattle.cif_scan.specs.Names.{is_digit, is_name_byte}
 use Rattle.cif_scan.specs.Bytes.{is_blank, skip}
 use Rattle.cif_scan.specs.Grammar.{IsInteger}
 use Rattle.cif_scan.specs.Numbers.{behind_separator, integer_at}

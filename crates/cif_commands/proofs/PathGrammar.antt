@@ -4,7 +4,7 @@ use Rattle.std.proofs.Common.{◌∙◌, subst, arith, inl, inr, append_assoc}
 use Rattle.std.specs.List.{list_all}
 use Rattle.std.proofs.lemmas.List.{append-nil, length-append}
 use Rattle.std.proofs.lemmas.Option.{some_pair_parts, same_Some}
-use Rattle.lay_point.specs.Names.{is_digit}
+use Rattle.cif_scan.specs.Names.{is_digit}
 use Rattle.cif_scan.specs.Bytes.{is_blank}
 use Rattle.cif_scan.specs.Numbers.{behind_separator, signed_at}
 use Rattle.cif_scan.proofs.ByteClasses.{blank_no_digit, separator_no_digit}

@@ -4,11 +4,11 @@ use Rattle.std.specs.Prelude.{◌==◌}
 use Rattle.std.specs.List.{list_all}
 use Rattle.cif_scan.proofs.ByteClasses.{is_plain}
 use Rattle.cif_commands.specs.Commands.{Command}
-use Rattle.cif_commands.specs.Cutting.{command_len}
+use Rattle.cif_scan.specs.Cutting.{command_len}
 use Rattle.cif_commands.specs.Grammar.{Spells}
 use Rattle.cif_commands.specs.Reading.{command_of}
 use Rattle.cif_commands.proofs.CommandGrammar.{command_takes}
-use Rattle.cif_commands.proofs.CutGrammar.{plain_piece}
+use Rattle.cif_scan.proofs.CutGrammar.{plain_piece}
 
 no_length : (n : ℕ) → command_len [] ≡ Some n → ⊥
 unfolding command_len

@@ -7,7 +7,7 @@ use Rattle.std.proofs.lemmas.List.{length-append}
 use Rattle.std.proofs.lemmas.List.Folds.{list_all-append}
 use Rattle.std.proofs.lemmas.Option.{none-some, same_Some}
 use Rattle.cif_scan.specs.declared.number.Number.{Number}
-use Rattle.lay_point.specs.Names.{is_digit}
+use Rattle.cif_scan.specs.Names.{is_digit}
 use Rattle.cif_scan.specs.Bytes.{is_blank, is_separator}
 use Rattle.cif_scan.specs.Grammar.{IsDigits, IsSigned, sign}
 use Rattle.cif_scan.specs.Numbers.{behind_separator, signed_at}

@@ -5,7 +5,7 @@
 use Rattle.std.specs.Prelude.{◌≡◌, ◌⊎◌, ℕ, ◌+◌, ◌≤◌, ◌==◌, List, [], ◌∷◌, ◌++◌, length, Bool, true, false, not, Option, None, Some, IsTrue}
 use Rattle.std.specs.Prelude.{◌||◌, ◌&&◌}
 use Rattle.std.specs.List.{list_all}
-use Rattle.lay_point.specs.Names.{is_digit, is_name_byte}
+use Rattle.cif_scan.specs.Names.{is_digit, is_name_byte}
 use Rattle.cif_scan.specs.Bytes.{is_blank, is_gap, is_separator}
 use Rattle.cif_scan.specs.Grammar.{IsInteger, IsSigned}
 use Rattle.cif_commands.specs.declared.boxes.BoxNumbers.{BoxNumbers}

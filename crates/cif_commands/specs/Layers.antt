@@ -2,7 +2,7 @@
 -- Source: Caltech Intermediate Form 2.0, the grammar's layer. That its name may have any length here is this project's own.
 use Rattle.std.specs.Prelude.{ℕ, List, [], ◌∷◌, Option, Some, None, if◌then◌else◌}
 use Rattle.std.specs.List.{take_while, list_all}
-use Rattle.lay_point.specs.Names.{is_name_byte}
+use Rattle.cif_scan.specs.Names.{is_name_byte}
 use Rattle.cif_scan.specs.Bytes.{is_blank, skip}
 
 -- the bytes, where there are some and blanks alone stand behind them

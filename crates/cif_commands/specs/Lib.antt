@@ -2,7 +2,6 @@ pub mod Boxes
 pub mod Calls
 pub mod Commands
 pub mod Comments
-pub mod Cutting
 pub mod Definitions
 pub mod Grammar
 pub mod Layers

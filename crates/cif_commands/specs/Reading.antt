@@ -1,7 +1,7 @@
 -- The command that bytes without their semicolon write.
 use Rattle.std.specs.Prelude.{ℕ, ◌==◌, List, [], ◌∷◌, Option, Some, None, option_map, if◌then◌else◌}
 use Rattle.std.specs.List.{list_all}
-use Rattle.lay_point.specs.Names.{is_digit}
+use Rattle.cif_scan.specs.Names.{is_digit}
 use Rattle.cif_scan.specs.Bytes.{is_blank, skip}
 use Rattle.cif_scan.specs.Numbers.{◌>>=◌, integer_at}
 use Rattle.cif_commands.specs.Boxes.{box_of}

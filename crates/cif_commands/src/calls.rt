@@ -6,8 +6,7 @@ ghost use Rattle.cif_commands.specs.Commands as commands;
 ghost use Rattle.cif_scan.specs.Views.{Gives};
 
 use crate::paths::{Vertex, read_vertex};
-use cif_scan::{Class, integer, skip};
-use lay_point::{NoMemory, Sequence};
+use cif_scan::{Class, NoMemory, Sequence, integer, skip};
 use std::alloc::Global;
 
 /// A change of what a call draws.

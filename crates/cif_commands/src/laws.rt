@@ -1,7 +1,7 @@
 //! What is read of a command's bytes, and what the grammar spells, as a call that does nothing.
 ghost use Rattle.std.specs.Prelude.{◌≡◌, ℕ, Some, take};
 ghost use Rattle.cif_commands.specs.Commands.{Command};
-ghost use Rattle.cif_commands.specs.Cutting.{command_len};
+ghost use Rattle.cif_scan.specs.Cutting.{command_len};
 ghost use Rattle.cif_commands.specs.Grammar.{Spells};
 ghost use Rattle.cif_commands.specs.Reading.{command_of};
 

@@ -4,8 +4,7 @@ ghost use Rattle.cif_commands.specs.Paths.{next_vertex_at, path_of, vertex_at};
 ghost use Rattle.cif_scan.specs.Views.{Gives};
 
 use crate::blanks::are_blanks;
-use cif_scan::{Number, behind_separator, signed};
-use lay_point::{NoMemory, Sequence};
+use cif_scan::{NoMemory, Number, Sequence, behind_separator, signed};
 use std::alloc::Global;
 
 /// A point as a text writes it: two numbers.

@@ -11,22 +11,22 @@ use Rattle.cif_scan.specs.Bytes.{is_blank, is_gap, is_mark, skip}
 use Rattle.cif_scan.proofs.ByteClasses.{is_plain}
 use Rattle.cif_scan.proofs.Runs.{Stops, Stops-skip, list_all-take_while, skip-front, taken_and_left}
 use Rattle.cif_commands.specs.Commands.{Command}
-use Rattle.cif_commands.specs.Cutting.{Breaks, EndOf, behind_command, command_len, first_depth, first_offset, offset_of, semicolon_from}
+use Rattle.cif_scan.specs.Cutting.{Breaks, EndOf, behind_command, command_len, first_depth, first_offset, offset_of, semicolon_from}
 use Rattle.cif_commands.specs.Grammar.{BeginsWith}
 use Rattle.cif_commands.specs.Reading.{command_of}
 use Rattle.cif_commands.proofs.CommandGrammar.{command_again}
-use Rattle.cif_commands.proofs.CutGrammar.{command_ends}
+use Rattle.cif_scan.proofs.CutGrammar.{command_ends}
 use Rattle.cif_commands.proofs.Openings.{opening}
 use Rattle.cif_commands.proofs.Pieces.{piece_takes}
-use Rattle.cif_read.specs.declared.content.Content.{Content}
-use Rattle.cif_read.specs.declared.fault.CifFault.{CifFault}
-use Rattle.cif_read.specs.declared.fault.FaultKind.{FaultKind}
-use Rattle.cif_read.specs.declared.fault.FaultKind.TheVariants.{AfterEnd, NoEnd, Syntax}
-use Rattle.cif_read.specs.Binding.{IsBoundAs}
-use Rattle.cif_read.specs.Content.{after_command_at, after_commands, content_of, effect_of, empty_content, is_inside}
-use Rattle.cif_read.specs.Meaning.{IsEndOf, after_bytes, after_end, begins_with_end, content_in}
-use Rattle.cif_read.specs.Meaning.{definition_kind, fault_at, no_memory, read_as, unread_kind}
-use Rattle.cif_read.specs.Steps.{and_then, at_offset}
+use Rattle.cif_content.specs.declared.content.Content.{Content}
+use Rattle.cif_content.specs.declared.fault.CifFault.{CifFault}
+use Rattle.cif_content.specs.declared.fault.FaultKind.{FaultKind}
+use Rattle.cif_content.specs.declared.fault.FaultKind.TheVariants.{AfterEnd, NoEnd, Syntax}
+use Rattle.cif_content.specs.Binding.{IsBoundAs}
+use Rattle.cif_content.specs.Content.{after_command_at, after_commands, content_of, effect_of, empty_content, is_inside}
+use Rattle.cif_content.specs.Meaning.{IsEndOf, after_bytes, after_end, begins_with_end, content_in}
+use Rattle.cif_content.specs.Meaning.{definition_kind, fault_at, no_memory, read_as, unread_kind}
+use Rattle.cif_content.specs.Steps.{and_then, at_offset}
 use Rattle.cif_read.proofs.MeaningLemmas.{front_breaks, front_command, front_end, rest_means, rest_means-step, start_means}
 use Rattle.cif_read.proofs.PieceFacts.{read_from}
 use Rattle.cif_read.proofs.OneMeaning.{short_text}

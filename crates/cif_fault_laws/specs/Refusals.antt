@@ -5,13 +5,13 @@ use Rattle.std.specs.List.{list_all}
 use Rattle.cif_scan.specs.Bytes.{is_blank, is_gap}
 use Rattle.cif_commands.specs.Commands.{Command}
 use Rattle.cif_commands.specs.Grammar.{AreBlanks, BeginsWith, Reads}
-use Rattle.cif_read.specs.declared.content.Content.{Content}
-use Rattle.cif_read.specs.declared.fault.CifFault.{CifFault}
-use Rattle.cif_read.specs.declared.fault.FaultKind.TheVariants.{AfterEnd, NoEnd, Syntax}
-use Rattle.cif_read.specs.declared.file.TheConstants.{MAX_TEXT}
-use Rattle.cif_read.specs.Binding.{IsBoundAs}
-use Rattle.cif_read.specs.Content.{content_of, effect_of, is_inside}
-use Rattle.cif_read.specs.Meaning.{AnswersMeaning, begins_with_end, no_memory, unread_kind}
+use Rattle.cif_content.specs.declared.content.Content.{Content}
+use Rattle.cif_content.specs.declared.fault.CifFault.{CifFault}
+use Rattle.cif_content.specs.declared.fault.FaultKind.TheVariants.{AfterEnd, NoEnd, Syntax}
+use Rattle.cif_content.specs.declared.file.TheConstants.{MAX_TEXT}
+use Rattle.cif_content.specs.Binding.{IsBoundAs}
+use Rattle.cif_content.specs.Content.{content_of, effect_of, is_inside}
+use Rattle.cif_content.specs.Meaning.{AnswersMeaning, begins_with_end, no_memory, unread_kind}
 
 abbrev pub BeginsWithNoGap : List ℕ → Type 0
 BeginsWithNoGap [] = Unit {0}

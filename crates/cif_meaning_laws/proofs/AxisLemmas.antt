@@ -14,15 +14,15 @@ use Rattle.cif_scan.specs.declared.number.Number.{Number}
 use Rattle.cif_commands.specs.declared.boxes.BoxNumbers.{BoxNumbers}
 use Rattle.cif_commands.specs.declared.definitions.Scale.{Scale}
 use Rattle.cif_commands.specs.declared.paths.Vertex.{Vertex}
-use Rattle.cif_read.specs.declared.content.Content.{Content}
-use Rattle.cif_read.specs.declared.fault.FaultKind.{FaultKind}
-use Rattle.cif_read.specs.declared.fault.FaultKind.TheVariants.{OffGrid, TooBig}
-use Rattle.cif_read.specs.Boxes.{box_at, box_between, greater_place, high_corner, is_askew, is_flat, is_on_axis, is_whole_box}
-use Rattle.cif_read.specs.Boxes.{is_whole_side, is_zero, lesser_place, low_corner, ring_between, side_x, side_y, some_vertex}
-use Rattle.cif_read.specs.Content.{after_box, current_scale}
-use Rattle.cif_read.specs.Scales.{IsRatio, doubled, is_whole, scaled}
+use Rattle.cif_content.specs.declared.content.Content.{Content}
+use Rattle.cif_content.specs.declared.fault.FaultKind.{FaultKind}
+use Rattle.cif_content.specs.declared.fault.FaultKind.TheVariants.{OffGrid, TooBig}
+use Rattle.cif_content.specs.Boxes.{box_at, box_between, greater_place, high_corner, is_askew, is_flat, is_on_axis, is_whole_box}
+use Rattle.cif_content.specs.Boxes.{is_whole_side, is_zero, lesser_place, low_corner, ring_between, side_x, side_y, some_vertex}
+use Rattle.cif_content.specs.Content.{after_box, current_scale}
+use Rattle.cif_content.specs.Scales.{IsRatio, doubled, is_whole, scaled}
 use Rattle.cif_read.proofs.RingFacts.{taken}
-use Rattle.cif_read.proofs.ScaleLemmas.{scaled_exact}
+use Rattle.cif_content.proofs.ScaleLemmas.{scaled_exact}
 use Rattle.cif_meaning_laws.specs.Boxes.{BoxesHoldTheirPoints, HasZeroSide, IsBoxOf, IsInBox, IsInRectangle, IsWithinHalf, away}
 use Rattle.cif_meaning_laws.specs.Boxes.{box_direction}
 use Rattle.cif_meaning_laws.specs.Boxes.{x_axis}

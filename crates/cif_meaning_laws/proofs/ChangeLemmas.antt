@@ -21,15 +21,15 @@ use Rattle.cif_commands.specs.declared.calls.Change.{Change}
 use Rattle.cif_commands.specs.declared.calls.Change.TheVariants.{Direction, MirrorX, MirrorY, Shift}
 use Rattle.cif_commands.specs.declared.definitions.Scale.{Scale}
 use Rattle.cif_commands.specs.declared.paths.Vertex.{Vertex}
-use Rattle.cif_read.specs.declared.content.Content.{Content}
-use Rattle.cif_read.specs.declared.fault.FaultKind.TheVariants.{OffAxis, OffGrid}
-use Rattle.cif_read.specs.Boxes.{is_on_axis}
-use Rattle.cif_read.specs.Calls.{call_turn, origin, is_askew_change, is_whole_change, turn_in_range, turn_of, turn_or_fault}
-use Rattle.cif_read.specs.Calls.{turn_changed_by}
-use Rattle.cif_read.specs.Content.{after_call, current_scale}
-use Rattle.cif_read.specs.Scales.{IsRatio, doubled, is_whole, scaled, value_of}
+use Rattle.cif_content.specs.declared.content.Content.{Content}
+use Rattle.cif_content.specs.declared.fault.FaultKind.TheVariants.{OffAxis, OffGrid}
+use Rattle.cif_content.specs.Boxes.{is_on_axis}
+use Rattle.cif_content.specs.Calls.{call_turn, origin, is_askew_change, is_whole_change, turn_in_range, turn_of, turn_or_fault}
+use Rattle.cif_content.specs.Calls.{turn_changed_by}
+use Rattle.cif_content.specs.Content.{after_call, current_scale}
+use Rattle.cif_content.specs.Scales.{IsRatio, doubled, is_whole, scaled, value_of}
 use Rattle.cif_read.proofs.RingFacts.{taken}
-use Rattle.cif_read.proofs.ScaleLemmas.{scaled_exact}
+use Rattle.cif_content.proofs.ScaleLemmas.{scaled_exact}
 use Rattle.cif_meaning_laws.specs.Changes.{CallsMovePoints, IsCallBy, IsRotated, MapsPoint, TakeInTurn}
 use Rattle.cif_meaning_laws.specs.Directions.{IsLength, x_of, y_of}
 use Rattle.cif_meaning_laws.specs.Distances.{IsDistance}

@@ -15,24 +15,24 @@ use Rattle.cif_commands.specs.declared.paths.Vertex.{Vertex}
 use Rattle.cif_commands.specs.declared.boxes.BoxNumbers.{BoxNumbers}
 use Rattle.cif_commands.specs.declared.calls.Change.{Change}
 use Rattle.cif_commands.specs.Commands.{Box, Call, Command, Comment, Extension, Finish, Layer, Polygon, Start}
-use Rattle.cif_read.specs.declared.content.Content.{Content}
-use Rattle.cif_read.specs.declared.content.OpenDefinition.{OpenDefinition}
-use Rattle.cif_read.specs.declared.fault.FaultKind.{FaultKind}
-use Rattle.cif_read.specs.declared.fault.FaultKind.TheVariants.{LongName, OffAxis, Syntax, TooBig}
+use Rattle.cif_content.specs.declared.content.Content.{Content}
+use Rattle.cif_content.specs.declared.content.OpenDefinition.{OpenDefinition}
+use Rattle.cif_content.specs.declared.fault.FaultKind.{FaultKind}
+use Rattle.cif_content.specs.declared.fault.FaultKind.TheVariants.{LongName, OffAxis, Syntax, TooBig}
 use Rattle.lay_point.specs.declared.turn.Turn.{Turn}
-use Rattle.cif_read.specs.Boxes.{box_at, is_askew, is_big_box}
-use Rattle.cif_read.specs.Calls.{call_turn}
-use Rattle.cif_read.specs.Content.{after_box, after_call, after_layer, after_polygon, after_start, called, definition_begun, drawn}
-use Rattle.cif_read.specs.Content.{effect_of}
-use Rattle.cif_read.specs.Content.{finished}
-use Rattle.cif_read.specs.Content.{current_scale, is_big_call, is_inside, on_layer}
-use Rattle.cif_read.specs.Polygons.{is_too_big, polygon_at}
-use Rattle.cif_read.specs.Scales.{IsRatio, doubled, is_whole, scaled}
-use Rattle.cif_read.specs.Steps.{and_then}
-use Rattle.cif_read.specs.Symbols.{definition_fault}
+use Rattle.cif_content.specs.Boxes.{box_at, is_askew, is_big_box}
+use Rattle.cif_content.specs.Calls.{call_turn}
+use Rattle.cif_content.specs.Content.{after_box, after_call, after_layer, after_polygon, after_start, called, definition_begun, drawn}
+use Rattle.cif_content.specs.Content.{effect_of}
+use Rattle.cif_content.specs.Content.{finished}
+use Rattle.cif_content.specs.Content.{current_scale, is_big_call, is_inside, on_layer}
+use Rattle.cif_content.specs.Polygons.{is_too_big, polygon_at}
+use Rattle.cif_content.specs.Scales.{IsRatio, doubled, is_whole, scaled}
+use Rattle.cif_content.specs.Steps.{and_then}
+use Rattle.cif_content.specs.Symbols.{definition_fault}
 use Rattle.cif_read.proofs.RingFacts.{taken}
-use Rattle.cif_read.proofs.ScaleLemmas.{scaled_exact}
-use Rattle.cif_read.proofs.SymbolLemmas.{new_symbol}
+use Rattle.cif_content.proofs.ScaleLemmas.{scaled_exact}
+use Rattle.cif_content.proofs.SymbolLemmas.{new_symbol}
 use Rattle.std.specs.List.{list_any}
 use Rattle.cif_meaning_laws.specs.Distances.{IsDistance, IsNextScale, IsScaled}
 

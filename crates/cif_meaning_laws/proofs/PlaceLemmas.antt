@@ -18,14 +18,14 @@ use Rattle.lay_point.proofs.RingLemmas.{point_eq-true}
 use Rattle.cif_scan.proofs.Steps.{after_some}
 use Rattle.cif_commands.specs.declared.definitions.Scale.{Scale}
 use Rattle.cif_commands.specs.declared.paths.Vertex.{Vertex}
-use Rattle.cif_read.specs.declared.content.Content.{Content}
-use Rattle.cif_read.specs.declared.fault.FaultKind.TheVariants.{OffGrid}
-use Rattle.cif_read.specs.Calls.{origin}
-use Rattle.cif_read.specs.Content.{after_polygon, current_scale}
-use Rattle.cif_read.specs.Polygons.{point_in_range, points_from, polygon_at, ring_of_points, ring_or_none}
-use Rattle.cif_read.specs.Scales.{IsRatio, doubled, is_whole, is_whole_vertex, scaled_vertex}
+use Rattle.cif_content.specs.declared.content.Content.{Content}
+use Rattle.cif_content.specs.declared.fault.FaultKind.TheVariants.{OffGrid}
+use Rattle.cif_content.specs.Calls.{origin}
+use Rattle.cif_content.specs.Content.{after_polygon, current_scale}
+use Rattle.cif_content.specs.Polygons.{point_in_range, points_from, polygon_at, ring_of_points, ring_or_none}
+use Rattle.cif_content.specs.Scales.{IsRatio, doubled, is_whole, is_whole_vertex, scaled_vertex}
 use Rattle.cif_read.proofs.RingFacts.{taken}
-use Rattle.cif_read.proofs.ScaleLemmas.{scaled_exact}
+use Rattle.cif_content.proofs.ScaleLemmas.{scaled_exact}
 use Rattle.cif_meaning_laws.specs.Distances.{ArePlaces, AreAtTwo, DistancesAreScaled, DrawsRing, IsPlace, IsPolygonOf}
 use Rattle.cif_meaning_laws.proofs.DistanceLemmas.{is_scaled, next_scale, only_units, polygon_drew}
 

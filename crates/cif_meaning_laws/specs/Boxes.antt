@@ -9,9 +9,9 @@ use Rattle.cif_commands.specs.declared.boxes.BoxNumbers.{BoxNumbers}
 use Rattle.cif_commands.specs.declared.definitions.Scale.{Scale}
 use Rattle.cif_commands.specs.declared.paths.Vertex.{Vertex}
 use Rattle.cif_commands.specs.Commands as command
-use Rattle.cif_read.specs.declared.content.Content.{Content}
-use Rattle.cif_read.specs.Content.{current_scale, effect_of}
-use Rattle.cif_read.specs.Scales.{IsRatio, value_of}
+use Rattle.cif_content.specs.declared.content.Content.{Content}
+use Rattle.cif_content.specs.Content.{current_scale, effect_of}
+use Rattle.cif_content.specs.Scales.{IsRatio, value_of}
 use Rattle.cif_meaning_laws.specs.Directions.{IsLength, x_of, y_of}
 use Rattle.cif_meaning_laws.specs.Distances.{DrawsRing}
 

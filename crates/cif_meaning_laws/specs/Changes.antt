@@ -10,9 +10,9 @@ use Rattle.cif_commands.specs.declared.calls.Change.TheVariants.{Direction, Mirr
 use Rattle.cif_commands.specs.declared.definitions.Scale.{Scale}
 use Rattle.cif_commands.specs.declared.paths.Vertex.{Vertex}
 use Rattle.cif_commands.specs.Commands as command
-use Rattle.cif_read.specs.declared.content.Content.{Content}
-use Rattle.cif_read.specs.Content.{called, current_scale, effect_of}
-use Rattle.cif_read.specs.Scales.{IsRatio}
+use Rattle.cif_content.specs.declared.content.Content.{Content}
+use Rattle.cif_content.specs.Content.{called, current_scale, effect_of}
+use Rattle.cif_content.specs.Scales.{IsRatio}
 use Rattle.cif_meaning_laws.specs.Directions.{IsLength, x_of, y_of}
 use Rattle.cif_meaning_laws.specs.Distances.{IsDistance}
 

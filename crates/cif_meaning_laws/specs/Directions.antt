@@ -2,7 +2,7 @@
 -- Source: Caltech Intermediate Form 2.0, directions.
 use Rattle.std.specs.Prelude.{◌≡◌, ℤ, pos, ◌+ℤ◌, ◌*ℤ◌, ◌<ℤ◌}
 use Rattle.cif_commands.specs.declared.paths.Vertex.{Vertex}
-use Rattle.cif_read.specs.Scales.{value_of}
+use Rattle.cif_content.specs.Scales.{value_of}
 
 abbrev pub x_of : Vertex → ℤ
 x_of v = value_of v.x

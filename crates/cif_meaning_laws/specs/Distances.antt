@@ -9,9 +9,9 @@ use Rattle.cif_commands.specs.declared.paths.Vertex.{Vertex}
 use Rattle.cif_commands.specs.Commands.{Command}
 use Rattle.cif_commands.specs.Commands as command
 use Rattle.cif_commands.specs.Definitions.{plain_scale}
-use Rattle.cif_read.specs.declared.content.Content.{Content}
-use Rattle.cif_read.specs.Content.{current_scale, drawn, effect_of, empty_content}
-use Rattle.cif_read.specs.Scales.{IsRatio, doubled, is_whole, scaled, value_of}
+use Rattle.cif_content.specs.declared.content.Content.{Content}
+use Rattle.cif_content.specs.Content.{current_scale, drawn, effect_of, empty_content}
+use Rattle.cif_content.specs.Scales.{IsRatio, doubled, is_whole, scaled, value_of}
 
 -- these database units are the written distance at this scale
 abbrev pub IsDistance : Scale → Number → ℤ → Type 0

@@ -15,7 +15,7 @@ use Rattle.cif_scan.specs.Numbers.{◌>>=◌}
 use Rattle.cif_scan.proofs.Runs.{list_all-take_while}
 use Rattle.cif_commands.specs.declared.definitions.Definition.{Definition}
 use Rattle.cif_commands.specs.declared.definitions.Scale.{Scale}
-use Rattle.cif_commands.specs.Cutting.{cut}
+use Rattle.cif_scan.specs.Cutting.{cut}
 use Rattle.cif_commands.specs.Definitions.{definition_of}
 use Rattle.cif_commands.specs.Layers.{layer_of}
 use Rattle.cif_names.specs.declared.names.Names.{Names}

@@ -7,7 +7,7 @@ use crate::pieces::split_piece;
 use crate::place::Place;
 use crate::words::split_word;
 use cif_scan::{Class, skip};
-use lay_cells::Cells;
+use lay_calls::Cells;
 use lay_point::{NoMemory, Sequence};
 use std::alloc::Global;
 use std::mem;

@@ -1,9 +1,3 @@
-pub mod BoxLemmas
-pub mod ScaleLemmas
-pub mod TurnLemmas
-pub mod LayerLemmas
-pub mod SymbolLemmas
-pub mod Dispatch
 pub mod RingFacts
 pub mod StepFacts
 pub mod MeaningLemmas
@@ -12,3 +6,5 @@ pub mod TextGrammar
 pub mod BindingLemmas
 pub mod ReadAnswers
 pub mod OneMeaning
+pub use Rattle.lay_cells.proofs.AcyclicLemmas
+pub use Rattle.lay_cells.proofs.WalkListLemmas

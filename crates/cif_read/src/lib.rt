@@ -9,11 +9,11 @@
 //! defined.
 //!
 //! A `CifFile` keeps in its type that it is the contents of a sound layout (`IsSoundFile` of
-//! `specs/Contents.antt`): each element stands in a cell that is there, each ring is one, each called symbol is
+//! `cif_content/specs/Contents.antt`): each element stands in a cell that is there, each ring is one, each called symbol is
 //! defined, and none contains itself. Contracts see the record of its contents.
 //!
 //! Four clauses say what `read` returns: its result is the meaning of the text, or its first fault, in the
-//! order of the checks (`specs/Meaning.antt`, `specs/Content.antt`); what is read is a text of the grammar,
+//! order of the checks (`cif_content/specs/Meaning.antt`, `cif_content/specs/Content.antt`); what is read is a text of the grammar,
 //! which `cif_commands` states apart from any way of reading it, and means what its commands mean; a text of the
 //! grammar means what its commands mean; and a text that is too long is refused before anything else. Any
 //! other result can give way to `NoMemory` at offset 0.
@@ -25,19 +25,10 @@
 #![tactic(auto)]
 
 mod binding;
-mod boxes;
-mod content;
-mod element;
-mod fault;
-mod file;
 mod laws;
-mod polygon;
-mod ratio;
 mod reader;
-mod turns;
 
-pub use element::{Element, Figure};
-pub use fault::{CifFault, FaultKind};
-pub use file::{CifFile, MAX_SYMBOLS, MAX_TEXT};
+pub use cif_content::{CifFault, CifFile, Element, FaultKind, Figure, MAX_SYMBOLS, MAX_TEXT};
 pub use laws::a_text_has_one_meaning;
+pub use lay_cells::CallGraph;
 pub use reader::read;

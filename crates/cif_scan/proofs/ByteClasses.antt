@@ -2,7 +2,7 @@
 use Rattle.std.proofs.Common.{◌≡◌, ℕ, Bool, true, false, refl, arith}
 use Rattle.std.specs.Prelude.{not, ◌==◌}
 use Rattle.std.proofs.lemmas.Bool.Decides.{nat_tests}
-use Rattle.lay_point.specs.Names.{is_digit, is_name_byte, is_upper}
+use Rattle.byte_io.specs.Names.{is_digit, is_name_byte, is_upper}
 use Rattle.cif_scan.specs.Bytes.{is_blank, is_gap, is_mark, is_separator}
 
 pub digit_no_separator : (b : ℕ) → is_digit b ≡ true → is_separator b ≡ false

@@ -2,7 +2,7 @@
 use Rattle.std.proofs.Common.{◌≡◌, ℕ, ◌+◌, ◌-◌, ◌*◌, ◌≤◌, min, List, [], ◌∷◌, true, false, refl, ap, ◌∙◌, arith, sym}
 use Rattle.std.specs.Prelude.{fold}
 use Rattle.std.specs.List.{take_while}
-use Rattle.lay_point.specs.Names.{is_digit}
+use Rattle.byte_io.specs.Names.{is_digit}
 use Rattle.cif_scan.specs.Bytes.{skip}
 use Rattle.cif_scan.proofs.Runs.{skip-cons, take_while-cons}
 

@@ -1,5 +1,7 @@
 pub mod ByteClasses
+pub mod CutGrammar
+pub mod CutLemmas
+pub mod Digits
 pub mod NumberGrammar
 pub mod Runs
-pub mod Digits
 pub mod Steps

@@ -5,7 +5,7 @@ use Rattle.std.specs.Prelude.{◌==◌}
 use Rattle.std.specs.List.{take_while, list_all}
 use Rattle.std.proofs.lemmas.Bool.{and_parts, eqb-true}
 use Rattle.std.proofs.lemmas.Option.{some_pair_parts}
-use Rattle.lay_point.specs.Names.{is_digit}
+use Rattle.byte_io.specs.Names.{is_digit}
 use Rattle.cif_scan.specs.declared.number.Number.{Number}
 use Rattle.cif_scan.specs.Bytes.{is_separator, skip}
 use Rattle.cif_scan.specs.Grammar.{IsDigits, IsInteger, IsSigned, capped_magnitude, sign}

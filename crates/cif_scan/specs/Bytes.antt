@@ -3,7 +3,7 @@
 -- That bytes from 128 on are no blanks is this project's own.
 use Rattle.std.specs.Prelude.{ℕ, ◌==◌, nat_lt, Bool, ◌&&◌, ◌||◌, not, List, drop}
 use Rattle.std.specs.List.{prefix_len}
-use Rattle.lay_point.specs.Names.{is_digit, is_name_byte, is_upper}
+use Rattle.byte_io.specs.Names.{is_digit, is_name_byte, is_upper}
 use Rattle.cif_scan.specs.declared.bytes.Class.{Class}
 use Rattle.cif_scan.specs.declared.bytes.Class.TheVariants.{Blank, Digit, Gap, Name, Separator}
 

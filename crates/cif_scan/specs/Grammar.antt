@@ -4,7 +4,7 @@
 use Rattle.std.specs.Prelude.{◌≡◌, ℕ, ◌+◌, ◌≤◌, List, [], ◌∷◌, ◌++◌, length, Bool, true, false, IsTrue}
 use Rattle.std.specs.List.{list_all}
 use Rattle.byte_io.specs.Decimal.{capped_decimal}
-use Rattle.lay_point.specs.Names.{is_digit}
+use Rattle.byte_io.specs.Names.{is_digit}
 use Rattle.cif_scan.specs.declared.number.Number.{Number}
 use Rattle.cif_scan.specs.declared.number.TheConstants.{MAX_MAGNITUDE}
 use Rattle.cif_scan.specs.Bytes.{is_separator}

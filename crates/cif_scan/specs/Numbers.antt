@@ -2,7 +2,7 @@
 -- Source: Caltech Intermediate Form 2.0, the grammar's integer, signed integer and separator.
 use Rattle.std.specs.Prelude.{ℕ, ◌==◌, List, [], ◌∷◌, Bool, true, false, Option, Some, None, option_and_then, if◌then◌else◌}
 use Rattle.std.specs.List.{take_while}
-use Rattle.lay_point.specs.Names.{is_digit}
+use Rattle.byte_io.specs.Names.{is_digit}
 use Rattle.cif_scan.specs.declared.number.Number.{Number}
 use Rattle.cif_scan.specs.Bytes.{is_separator, skip}
 use Rattle.cif_scan.specs.Grammar.{capped_magnitude}

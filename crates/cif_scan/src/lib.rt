@@ -1,4 +1,4 @@
-//! Bytes and numbers of texts in Caltech Intermediate Form 2.0.
+//! Bytes, numbers and cuts of texts in Caltech Intermediate Form 2.0.
 //!
 //! Bytes are of classes: blanks, separators, gaps, digits and bytes of names. A reader takes something
 //! from the start of bytes, and returns what it is and what stands behind it. `integer` and `signed` read
@@ -12,7 +12,10 @@
 #![tactic(auto)]
 
 mod bytes;
+mod cutting;
 mod number;
 
+pub use byte_io::{NoMemory, Sequence};
 pub use bytes::{Class, run_len, skip};
+pub use cutting::command_len;
 pub use number::{MAX_MAGNITUDE, Number, behind_separator, integer, signed};

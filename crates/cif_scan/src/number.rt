@@ -3,7 +3,7 @@
 //! What is read of a number is at most `MAX_MAGNITUDE + 1`, so that a greater one is known to be too big.
 ghost use Rattle.std.specs.Prelude.{◌≡◌};
 ghost use Rattle.std.specs.List.{take_while};
-ghost use Rattle.lay_point.specs.Names.{is_digit};
+ghost use Rattle.byte_io.specs.Names.{is_digit};
 ghost use Rattle.cif_scan.specs.Bytes.{skip};
 ghost use Rattle.cif_scan.specs.Grammar.{capped_magnitude};
 ghost use Rattle.cif_scan.specs.Numbers.{behind_separator, digits_at, integer_at, magnitude_at, signed_at};

@@ -10,19 +10,19 @@ use Rattle.lay_point.specs.declared.turn.Turn.{Turn}
 use Rattle.lay_point.specs.Points.{is_in_range}
 use Rattle.lay_point.specs.Rings.{IsRing}
 use Rattle.lay_point.specs.Turns.{unturned}
-use Rattle.lay_cells.specs.declared.cell_id.CellId.TheVariants.{Symbol, Top}
-use Rattle.lay_cells.specs.declared.cells.TheConstants.{MAX_SYMBOL}
-use Rattle.lay_cells.specs.Symbols.{has_symbol}
+use Rattle.lay_calls.specs.declared.cell_id.CellId.TheVariants.{Symbol, Top}
+use Rattle.lay_calls.specs.declared.cells.TheConstants.{MAX_SYMBOL}
+use Rattle.lay_calls.specs.Symbols.{has_symbol}
 use Rattle.cif_commands.specs.Commands as command
-use Rattle.cif_read.specs.declared.content.Content.{Content}
-use Rattle.cif_read.specs.declared.element.Element.{Element}
-use Rattle.cif_read.specs.declared.element.Figure.TheVariants.{Call, Polygon}
-use Rattle.cif_read.specs.declared.fault.FaultKind.TheVariants.{TooBig}
-use Rattle.cif_read.specs.declared.file.TheConstants.{MAX_SYMBOLS}
-use Rattle.cif_read.specs.Content.{after_call, after_layer, after_polygon, after_start, called, definition_begun, on_layer}
-use Rattle.cif_read.specs.Polygons.{polygon_at}
-use Rattle.cif_read.specs.Steps.{and_then}
-use Rattle.cif_read.specs.Symbols.{definition_fault}
+use Rattle.cif_content.specs.declared.content.Content.{Content}
+use Rattle.cif_content.specs.declared.element.Element.{Element}
+use Rattle.cif_content.specs.declared.element.Figure.TheVariants.{Call, Polygon}
+use Rattle.cif_content.specs.declared.fault.FaultKind.TheVariants.{TooBig}
+use Rattle.cif_content.specs.declared.file.TheConstants.{MAX_SYMBOLS}
+use Rattle.cif_content.specs.Content.{after_call, after_layer, after_polygon, after_start, called, definition_begun, on_layer}
+use Rattle.cif_content.specs.Polygons.{polygon_at}
+use Rattle.cif_content.specs.Steps.{and_then}
+use Rattle.cif_content.specs.Symbols.{definition_fault}
 use Rattle.cif_trip_laws.proofs.Reaching.{Does, with_calls}
 use Rattle.cif_trip_laws.proofs.ScaledBack.{polygon_back, small_path}
 use Rattle.cif_trip_laws.proofs.TurnsBack.{turn_back, turn_small, unturned_back}

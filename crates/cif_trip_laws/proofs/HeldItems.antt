@@ -9,20 +9,20 @@ use Rattle.std.proofs.lemmas.List.Elements.{All-weaker, Contains-append_left, Co
 use Rattle.lay_point.proofs.BridgeLemmas.{bridged_is_ring}
 use Rattle.lay_point.specs.SameTurn.{turn_eq}
 use Rattle.lay_point.specs.Turns.{unturned}
-use Rattle.lay_cells.specs.declared.cell_id.CellId.{CellId}
-use Rattle.lay_cells.specs.declared.cell_id.CellId.TheVariants.{Symbol, Top}
-use Rattle.lay_cells.specs.declared.cells.TheConstants.{MAX_SYMBOL}
-use Rattle.lay_cells.specs.SameCell.{cell_eq, cell_eq-Decides}
-use Rattle.lay_items.specs.declared.id.ItemId.{ItemId}
-use Rattle.lay_items.specs.declared.item.Item.{Item}
-use Rattle.lay_items.specs.declared.item.Item.TheVariants.{Placed, Shape}
-use Rattle.lay_items.specs.declared.slot.CellSlot.{CellSlot}
-use Rattle.lay_items.specs.Calls.{Call, as_call, calls_among, calls_of}
-use Rattle.lay_items.specs.IdOrder.{ids_exact, ids_total}
-use Rattle.lay_items.specs.Items.{cell_of, items_in}
-use Rattle.lay_items.specs.Layout.{Layout, is_cell}
-use Rattle.lay_items.specs.Sound.{IsSound, IsSoundItem}
-use Rattle.lay_items.proofs.EntryLemmas.{entries-found}
+use Rattle.lay_calls.specs.declared.cell_id.CellId.{CellId}
+use Rattle.lay_calls.specs.declared.cell_id.CellId.TheVariants.{Symbol, Top}
+use Rattle.lay_calls.specs.declared.cells.TheConstants.{MAX_SYMBOL}
+use Rattle.lay_calls.specs.SameCell.{cell_eq, cell_eq-Decides}
+use Rattle.lay_layouts.specs.declared.id.ItemId.{ItemId}
+use Rattle.lay_layouts.specs.declared.item.Item.{Item}
+use Rattle.lay_layouts.specs.declared.item.Item.TheVariants.{Placed, Shape}
+use Rattle.lay_layouts.specs.declared.slot.CellSlot.{CellSlot}
+use Rattle.lay_layouts.specs.Calls.{Call, as_call, calls_among, calls_of}
+use Rattle.lay_layouts.specs.IdOrder.{ids_exact, ids_total}
+use Rattle.lay_layouts.specs.Items.{cell_of, items_in}
+use Rattle.lay_layouts.specs.Layout.{Layout, is_cell}
+use Rattle.lay_layouts.specs.Sound.{IsSound, IsSoundItem}
+use Rattle.lay_layouts.proofs.EntryLemmas.{entries-found}
 use Rattle.cif_write.specs.Wrap.{held_in, plain_target}
 use Rattle.cif_trip_laws.specs.Laws.{AreOnNamedLayers, IsOnNamedLayer}
 use Rattle.cif_trip_laws.proofs.LinesLead.{IsWritable}

@@ -12,14 +12,14 @@ use Rattle.lay_point.specs.Names.{is_layer_name, is_name_byte}
 use Rattle.lay_point.specs.Points.{is_in_range}
 use Rattle.lay_point.specs.Rings.{IsRing}
 use Rattle.lay_point.specs.Turns.{unturned}
-use Rattle.lay_cells.specs.declared.cell_id.CellId.TheVariants.{Symbol, Top}
-use Rattle.lay_cells.specs.declared.cells.TheConstants.{MAX_SYMBOL}
-use Rattle.lay_items.specs.declared.item.Item.{Item}
-use Rattle.lay_items.specs.declared.item.Item.TheVariants.{Placed, Shape}
+use Rattle.lay_calls.specs.declared.cell_id.CellId.TheVariants.{Symbol, Top}
+use Rattle.lay_calls.specs.declared.cells.TheConstants.{MAX_SYMBOL}
+use Rattle.lay_layouts.specs.declared.item.Item.{Item}
+use Rattle.lay_layouts.specs.declared.item.Item.TheVariants.{Placed, Shape}
 use Rattle.cif_commands.specs.Commands as command
-use Rattle.cif_read.specs.declared.content.Content.{Content}
-use Rattle.cif_read.specs.declared.element.Element.{Element}
-use Rattle.cif_read.specs.declared.element.Figure.TheVariants.{Call, Polygon}
+use Rattle.cif_content.specs.declared.content.Content.{Content}
+use Rattle.cif_content.specs.declared.element.Element.{Element}
+use Rattle.cif_content.specs.declared.element.Figure.TheVariants.{Call, Polygon}
 use Rattle.cif_write.specs.Lines.{End, Finish, Line, OnLayer, Path, Start, lines_text}
 use Rattle.cif_write.specs.Lines as line
 use Rattle.cif_write.specs.Text.{definition_lines, definitions_lines, file_lines, is_set, item_lines, items_lines, layer_after}

@@ -4,9 +4,9 @@ use Rattle.std.specs.List.{list_all}
 use Rattle.cif_scan.specs.Bytes.{is_blank, is_gap, is_mark}
 use Rattle.cif_commands.specs.Commands.{Command}
 use Rattle.cif_commands.specs.Grammar.{ReadsFrom}
-use Rattle.cif_read.specs.declared.content.Content.{Content}
-use Rattle.cif_read.specs.declared.content.Pending.{Pending}
-use Rattle.cif_read.specs.Content.{after_command_at, after_commands, effect_of, is_inside}
+use Rattle.cif_content.specs.declared.content.Content.{Content}
+use Rattle.cif_content.specs.declared.content.Pending.{Pending}
+use Rattle.cif_content.specs.Content.{after_command_at, after_commands, effect_of, is_inside}
 use Rattle.cif_read.specs.Kept.{IsKept}
 use Rattle.cif_read.proofs.StepFacts.{step_of}
 use Rattle.cif_write.specs.Lines.{End, Line, line_text, lines_text}

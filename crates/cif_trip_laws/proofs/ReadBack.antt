@@ -5,27 +5,27 @@ use Rattle.std.specs.List.{flat_map}
 use Rattle.std.proofs.lemmas.List.{map-append}
 use Rattle.std.proofs.lemmas.List.Elements.{All-weaker}
 use Rattle.lay_point.specs.Turns.{unturned}
-use Rattle.lay_cells.specs.declared.cell_id.CellId.TheVariants.{Top}
-use Rattle.lay_cells.specs.Symbols.{has_symbol}
-use Rattle.lay_cells.specs.Walks.{IsAcyclic}
-use Rattle.lay_items.specs.declared.item.Item.{Item}
-use Rattle.lay_items.specs.declared.item.Item.TheVariants.{Placed, Shape}
-use Rattle.lay_items.specs.Calls.{calls_of}
-use Rattle.lay_items.specs.Layout.{Layout}
-use Rattle.lay_items.specs.LayoutWith.{layout_with}
-use Rattle.lay_items.specs.Sound.{IsSound}
+use Rattle.lay_calls.specs.declared.cell_id.CellId.TheVariants.{Top}
+use Rattle.lay_calls.specs.Symbols.{has_symbol}
+use Rattle.lay_calls.specs.Walks.{IsAcyclic}
+use Rattle.lay_layouts.specs.declared.item.Item.{Item}
+use Rattle.lay_layouts.specs.declared.item.Item.TheVariants.{Placed, Shape}
+use Rattle.lay_layouts.specs.Calls.{calls_of}
+use Rattle.lay_layouts.specs.Layout.{Layout}
+use Rattle.lay_layouts.specs.LayoutWith.{layout_with}
+use Rattle.lay_layouts.specs.Sound.{IsSound}
 use Rattle.cif_commands.specs.Commands.{Command}
 use Rattle.cif_commands.specs.Grammar.{Reads}
-use Rattle.cif_read.specs.declared.content.Content.{Content}
-use Rattle.cif_read.specs.declared.content.Pending.{Pending}
-use Rattle.cif_read.specs.declared.element.Figure.TheVariants.{Call}
-use Rattle.cif_read.specs.declared.fault.CifFault.{CifFault}
-use Rattle.cif_read.specs.Binding.{IsBound, contents_of, edge_of}
-use Rattle.cif_read.specs.Content.{content_of}
-use Rattle.cif_read.specs.Contents.{Contents, element_calls}
+use Rattle.cif_content.specs.declared.content.Content.{Content}
+use Rattle.cif_content.specs.declared.content.Pending.{Pending}
+use Rattle.cif_content.specs.declared.element.Figure.TheVariants.{Call}
+use Rattle.cif_content.specs.declared.fault.CifFault.{CifFault}
+use Rattle.cif_content.specs.Binding.{IsBound, contents_of, edge_of}
+use Rattle.cif_content.specs.Content.{content_of}
+use Rattle.cif_content.specs.Contents.{Contents, element_calls}
 use Rattle.cif_read.specs.Kept.{IsKept}
-use Rattle.cif_read.specs.declared.file.TheConstants.{MAX_TEXT}
-use Rattle.cif_read.specs.Meaning.{AnswersMeaning, IsEndOf, content_within, no_memory}
+use Rattle.cif_content.specs.declared.file.TheConstants.{MAX_TEXT}
+use Rattle.cif_content.specs.Meaning.{AnswersMeaning, IsEndOf, content_within, no_memory}
 use Rattle.cif_read.proofs.OneMeaning.{one_end, short_text}
 use Rattle.cif_read.proofs.BindingLemmas.{sound_file, unmapped}
 use Rattle.cif_read.proofs.StepFacts.{start_kept}

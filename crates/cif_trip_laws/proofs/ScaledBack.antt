@@ -12,9 +12,9 @@ use Rattle.lay_point.specs.declared.point.Point.{Point}
 use Rattle.lay_point.specs.Points.{is_coordinate, is_in_range}
 use Rattle.lay_point.specs.Rings.{IsRing}
 use Rattle.lay_point.proofs.BridgeLemmas.{ring_of_ring}
-use Rattle.cif_read.specs.Polygons.{is_above_written, is_too_big, point_in_range, points_from, polygon_at, ring_of_points, ring_or_none}
-use Rattle.cif_read.specs.Scales.{doubled, is_whole, is_whole_vertex, scaled, scaled_vertex}
-use Rattle.cif_read.proofs.ScaleLemmas.{not_negative}
+use Rattle.cif_content.specs.Polygons.{is_above_written, is_too_big, point_in_range, points_from, polygon_at, ring_of_points, ring_or_none}
+use Rattle.cif_content.specs.Scales.{doubled, is_whole, is_whole_vertex, scaled, scaled_vertex}
+use Rattle.cif_content.proofs.ScaleLemmas.{not_negative}
 use Rattle.cif_trip_laws.proofs.WrittenLines.{half}
 use Rattle.cif_trip_laws.proofs.WrittenNumbers.{coordinate_within, number_of, vertex_of}
 

@@ -13,10 +13,10 @@ use Rattle.lay_point.proofs.RingLemmas.{point_eq-true}
 use Rattle.cif_commands.specs.declared.calls.Change.{Change}
 use Rattle.cif_commands.specs.declared.calls.Change.TheVariants.{Shift}
 use Rattle.cif_commands.specs.Definitions.{plain_scale}
-use Rattle.cif_read.specs.Calls.{call_turn, is_askew_change, is_big_change}
-use Rattle.cif_read.specs.Calls.{is_whole_change, origin, turn_changed_by, turn_in_range, turn_or_fault}
-use Rattle.cif_read.specs.Polygons.{point_in_range}
-use Rattle.cif_read.proofs.TurnLemmas.{shift_found, sum_of}
+use Rattle.cif_content.specs.Calls.{call_turn, is_askew_change, is_big_change}
+use Rattle.cif_content.specs.Calls.{is_whole_change, origin, turn_changed_by, turn_in_range, turn_or_fault}
+use Rattle.cif_content.specs.Polygons.{point_in_range}
+use Rattle.cif_content.proofs.TurnLemmas.{shift_found, sum_of}
 use Rattle.cif_trip_laws.proofs.ScaledBack.{point_back, small_point, whole_point}
 use Rattle.cif_trip_laws.proofs.WrittenLines.{half}
 use Rattle.cif_trip_laws.proofs.WrittenNumbers.{vertex_of}

@@ -8,19 +8,19 @@ use Rattle.std.proofs.lemmas.List.Folds.{list_any-append}
 use Rattle.lay_point.specs.Bridges.{bridged}
 use Rattle.lay_point.specs.Turns.{unturned}
 use Rattle.lay_point.proofs.BridgeLemmas.{bridged_one}
-use Rattle.lay_cells.specs.declared.cell_id.CellId.{CellId}
-use Rattle.lay_cells.specs.declared.cell_id.CellId.TheVariants.{Symbol, Top}
-use Rattle.lay_cells.specs.SameCell.{cell_eq}
-use Rattle.lay_cells.specs.Symbols.{has_symbol}
-use Rattle.lay_items.specs.declared.id.ItemId.{ItemId}
-use Rattle.lay_items.specs.declared.item.Item.{Item}
-use Rattle.lay_items.specs.declared.item.Item.TheVariants.{Placed, Shape}
-use Rattle.lay_items.specs.Items.{cell_of, items_in}
-use Rattle.lay_items.specs.Layout.{Layout}
-use Rattle.lay_items.specs.LayoutWith.{numbered_from, text_id}
-use Rattle.lay_items.specs.SlotOrder.{in_slot_order}
+use Rattle.lay_calls.specs.declared.cell_id.CellId.{CellId}
+use Rattle.lay_calls.specs.declared.cell_id.CellId.TheVariants.{Symbol, Top}
+use Rattle.lay_calls.specs.SameCell.{cell_eq}
+use Rattle.lay_calls.specs.Symbols.{has_symbol}
+use Rattle.lay_layouts.specs.declared.id.ItemId.{ItemId}
+use Rattle.lay_layouts.specs.declared.item.Item.{Item}
+use Rattle.lay_layouts.specs.declared.item.Item.TheVariants.{Placed, Shape}
+use Rattle.lay_layouts.specs.Items.{cell_of, items_in}
+use Rattle.lay_layouts.specs.Layout.{Layout}
+use Rattle.lay_layouts.specs.LayoutWith.{numbered_from, text_id}
+use Rattle.lay_layouts.specs.SlotOrder.{in_slot_order}
 use Rattle.lay_items.proofs.NumberedLemmas.{entries-numbered}
-use Rattle.lay_items.proofs.SlotLemmas.{in_slot_order-placed}
+use Rattle.lay_layouts.proofs.SlotLemmas.{in_slot_order-placed}
 use Rattle.cif_write.specs.Lines.{Call, End, Finish, Start, lines_text}
 use Rattle.cif_write.specs.Text.{definitions_lines, file_lines, item_lines, items_lines, layer_after, path_lines, text}
 use Rattle.cif_write.specs.Wrap.{Definition, Written, as_written, held_in, items_written, written_definition}

@@ -8,21 +8,21 @@ use Rattle.std.proofs.lemmas.List.Concat.{flat_map-append}
 use Rattle.std.proofs.lemmas.List.Folds.{list_any-append}
 use Rattle.std.proofs.lemmas.List.Elements.{All-append, All-cons, All-contains, All-head, All-nil, All-tail, All-weaker}
 use Rattle.lay_point.specs.Turns.{unturned}
-use Rattle.lay_cells.specs.declared.cell_id.CellId.{CellId}
-use Rattle.lay_cells.specs.declared.cell_id.CellId.TheVariants.{Symbol, Top}
-use Rattle.lay_cells.specs.Symbols.{has_symbol}
-use Rattle.lay_cells.specs.Walks.{IsAcyclic, Walks}
-use Rattle.lay_cells.specs.Walks.Walks.{goes, stays}
-use Rattle.lay_items.specs.declared.item.Item.{Item}
-use Rattle.lay_items.specs.declared.item.Item.TheVariants.{Placed, Shape}
-use Rattle.lay_items.specs.Calls.{calls_of}
-use Rattle.lay_items.specs.Layout.{Layout}
-use Rattle.lay_items.specs.Sound.{IsSound}
-use Rattle.lay_items.proofs.EntryLemmas.{or_true}
-use Rattle.cif_read.specs.declared.element.Element.{Element}
-use Rattle.cif_read.specs.declared.element.Figure.{Figure}
-use Rattle.cif_read.specs.declared.element.Figure.TheVariants as figure
-use Rattle.cif_read.specs.Contents.{element_calls, with_call}
+use Rattle.lay_calls.specs.declared.cell_id.CellId.{CellId}
+use Rattle.lay_calls.specs.declared.cell_id.CellId.TheVariants.{Symbol, Top}
+use Rattle.lay_calls.specs.Symbols.{has_symbol}
+use Rattle.lay_calls.specs.Walks.{IsAcyclic, Walks}
+use Rattle.lay_calls.specs.Walks.Walks.{goes, stays}
+use Rattle.lay_layouts.specs.declared.item.Item.{Item}
+use Rattle.lay_layouts.specs.declared.item.Item.TheVariants.{Placed, Shape}
+use Rattle.lay_layouts.specs.Calls.{calls_of}
+use Rattle.lay_layouts.specs.Layout.{Layout}
+use Rattle.lay_layouts.specs.Sound.{IsSound}
+use Rattle.lay_layouts.proofs.EntryLemmas.{or_true}
+use Rattle.cif_content.specs.declared.element.Element.{Element}
+use Rattle.cif_content.specs.declared.element.Figure.{Figure}
+use Rattle.cif_content.specs.declared.element.Figure.TheVariants as figure
+use Rattle.cif_content.specs.Contents.{element_calls, with_call}
 use Rattle.cif_write.specs.Wrap.{Definition, Written, held_in, written_definition}
 use Rattle.cif_write.specs.Wrap.{least_unused, own_definitions, plain_target, written, written_with}
 use Rattle.cif_write.proofs.UnusedLemmas.{least_unused_is}

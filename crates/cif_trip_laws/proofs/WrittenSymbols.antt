@@ -8,16 +8,16 @@ use Rattle.std.proofs.lemmas.Bool.Decides.{nat_tests}
 use Rattle.std.proofs.lemmas.List.{length-append, length-map, map-append}
 use Rattle.std.proofs.lemmas.List.Elements.{All-head, All-tail, All-weaker, All-from_recursion, recursion_from_All}
 use Rattle.std.proofs.lemmas.List.Folds.{list_any-append}
-use Rattle.lay_cells.specs.declared.cell_id.CellId.{CellId}
-use Rattle.lay_cells.specs.declared.cell_id.CellId.TheVariants.{Symbol, Top}
-use Rattle.lay_cells.specs.declared.cells.TheConstants.{MAX_SYMBOL}
-use Rattle.lay_cells.specs.Symbols.{has_symbol}
-use Rattle.lay_items.specs.declared.slot.CellSlot.{CellSlot}
-use Rattle.lay_items.specs.Layout.{Layout, is_cell}
-use Rattle.lay_items.specs.SlotOrder.{in_slot_order}
-use Rattle.lay_items.specs.Sound.{IsSound}
-use Rattle.lay_items.proofs.EntryLemmas.{order-distinct, order-symbols, symbols-ordered}
-use Rattle.cif_read.specs.declared.file.TheConstants.{MAX_SYMBOLS}
+use Rattle.lay_calls.specs.declared.cell_id.CellId.{CellId}
+use Rattle.lay_calls.specs.declared.cell_id.CellId.TheVariants.{Symbol, Top}
+use Rattle.lay_calls.specs.declared.cells.TheConstants.{MAX_SYMBOL}
+use Rattle.lay_calls.specs.Symbols.{has_symbol}
+use Rattle.lay_layouts.specs.declared.slot.CellSlot.{CellSlot}
+use Rattle.lay_layouts.specs.Layout.{Layout, is_cell}
+use Rattle.lay_layouts.specs.SlotOrder.{in_slot_order}
+use Rattle.lay_layouts.specs.Sound.{IsSound}
+use Rattle.lay_layouts.proofs.EntryLemmas.{order-distinct, order-symbols, symbols-ordered}
+use Rattle.cif_content.specs.declared.file.TheConstants.{MAX_SYMBOLS}
 use Rattle.cif_read.proofs.StepFacts.{new_cell}
 use Rattle.cif_write.specs.Wrap.{Definition, Written, held_in, least_unused, written_definition}
 use Rattle.cif_write.specs.Wrap.{own_definitions, plain_target, unused_from, written, written_with}

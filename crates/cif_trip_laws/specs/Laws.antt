@@ -2,20 +2,20 @@
 -- Source: Caltech Intermediate Form 2.0, its formal grammar, symbol definitions and calls.
 use Rattle.std.specs.Prelude.{◌≡◌, ◌⊎◌, ℕ, ◌≤◌, List, length, Some, Result, Ok, Err, IsTrue}
 use Rattle.lay_point.specs.Names.{is_layer_name}
-use Rattle.lay_items.specs.declared.id.ItemId.{ItemId}
-use Rattle.lay_items.specs.declared.item.Item.{Item}
-use Rattle.lay_items.specs.declared.item.Item.TheVariants.{Placed, Shape}
-use Rattle.lay_items.specs.Layout.{Layout, item_at}
-use Rattle.lay_items.specs.Sound.{IsSound}
+use Rattle.lay_layouts.specs.declared.id.ItemId.{ItemId}
+use Rattle.lay_layouts.specs.declared.item.Item.{Item}
+use Rattle.lay_layouts.specs.declared.item.Item.TheVariants.{Placed, Shape}
+use Rattle.lay_layouts.specs.Layout.{Layout, item_at}
+use Rattle.lay_layouts.specs.Sound.{IsSound}
 use Rattle.cif_commands.specs.Commands.{Command}
 use Rattle.cif_commands.specs.Grammar.{Reads}
-use Rattle.cif_read.specs.declared.content.Content.{Content}
-use Rattle.cif_read.specs.declared.fault.CifFault.{CifFault}
-use Rattle.cif_read.specs.declared.file.TheConstants.{MAX_SYMBOLS, MAX_TEXT}
-use Rattle.cif_read.specs.Binding.{IsBoundAs}
-use Rattle.cif_read.specs.Content.{content_of}
-use Rattle.cif_read.specs.Contents.{Contents}
-use Rattle.cif_read.specs.Meaning.{AnswersMeaning, no_memory}
+use Rattle.cif_content.specs.declared.content.Content.{Content}
+use Rattle.cif_content.specs.declared.fault.CifFault.{CifFault}
+use Rattle.cif_content.specs.declared.file.TheConstants.{MAX_SYMBOLS, MAX_TEXT}
+use Rattle.cif_content.specs.Binding.{IsBoundAs}
+use Rattle.cif_content.specs.Content.{content_of}
+use Rattle.cif_content.specs.Contents.{Contents}
+use Rattle.cif_content.specs.Meaning.{AnswersMeaning, no_memory}
 use Rattle.lay_items.specs.FromCif.{layout_of}
 use Rattle.cif_write.specs.Text.{text}
 use Rattle.cif_write.specs.Wrap.{wrap, written}

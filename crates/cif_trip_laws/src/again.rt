@@ -1,17 +1,19 @@
 //! A layout, written and read again.
 ghost use Rattle.std.specs.Prelude.{◌≡◌, ◌≤◌, length, Ok};
 ghost use Rattle.lay_point.specs.Memory.{IsAnswer};
-ghost use Rattle.lay_items.specs.Sound.{IsSound};
-ghost use Rattle.cif_read.specs.declared.file.TheConstants.{MAX_SYMBOLS, MAX_TEXT};
-ghost use Rattle.cif_read.specs.Meaning.{no_memory};
+ghost use Rattle.lay_layouts.specs.Sound.{IsSound};
+ghost use Rattle.cif_content.specs.declared.file.TheConstants.{MAX_SYMBOLS, MAX_TEXT};
+ghost use Rattle.cif_content.specs.Meaning.{no_memory};
 ghost use Rattle.cif_write.specs.Text.{text};
 ghost use Rattle.cif_write.specs.Wrap.{wrap, written};
 ghost use Rattle.cif_trip_laws.specs.Laws.{AreOnNamedLayers, IsOnNamedLayer};
 
 use byte_io::{Failing, MemoryOut};
-use cif_read::{CifFault, read};
+use cif_content::CifFault;
+use cif_read::read;
 use cif_write::write;
-use lay_items::{Item, Snapshot};
+use lay_items::Snapshot;
+use lay_layouts::Item;
 use lay_point::NoMemory;
 use std::alloc::Global;
 

@@ -2,7 +2,7 @@
 -- Source: Caltech Intermediate Form 2.0: a primitive is on the layer that was set last, and a symbol's
 -- definition begins with none.
 use Rattle.std.specs.Prelude.{◌≡◌, ◌≢◌, ℕ, List, [], ◌∷◌, ◌++◌, Option, None, Some, codes}
-use Rattle.lay_items.specs.Layout.{Layout}
+use Rattle.lay_layouts.specs.Layout.{Layout}
 use Rattle.cif_write.specs.Lines.{Line, Start, OnLayer, Path, Finish, Call, End, lines_text}
 use Rattle.cif_write.specs.Text.{file_lines, text}
 use Rattle.cif_write.specs.Wrap.{written}

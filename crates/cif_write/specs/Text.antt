@@ -6,9 +6,9 @@ use Rattle.lay_point.specs.declared.point.Point.{Point}
 use Rattle.lay_point.specs.Bridges.{bridged}
 use Rattle.lay_point.specs.Same.{names_eq}
 use Rattle.lay_point.specs.Turns.{unturned}
-use Rattle.lay_items.specs.declared.item.Item.{Item}
-use Rattle.lay_items.specs.declared.item.Item.TheVariants.{Placed, Shape}
-use Rattle.lay_items.specs.Layout.{Layout}
+use Rattle.lay_layouts.specs.declared.item.Item.{Item}
+use Rattle.lay_layouts.specs.declared.item.Item.TheVariants.{Placed, Shape}
+use Rattle.lay_layouts.specs.Layout.{Layout}
 use Rattle.cif_write.specs.Lines.{Line, Start, OnLayer, Path, Finish, Call, End, lines_text}
 use Rattle.cif_write.specs.Wrap.{Definition, Written, written}
 

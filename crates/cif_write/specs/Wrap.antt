@@ -5,16 +5,16 @@ use Rattle.std.specs.List.{flat_map}
 use Rattle.lay_point.specs.Bridges.{bridged}
 use Rattle.lay_point.specs.SameTurn.{turn_eq}
 use Rattle.lay_point.specs.Turns.{unturned}
-use Rattle.lay_cells.specs.declared.cell_id.CellId.{CellId}
-use Rattle.lay_cells.specs.declared.cell_id.CellId.TheVariants.{Symbol, Top}
-use Rattle.lay_cells.specs.Symbols.{has_symbol}
-use Rattle.lay_items.specs.declared.id.ItemId.{ItemId}
-use Rattle.lay_items.specs.declared.item.Item.{Item}
-use Rattle.lay_items.specs.declared.item.Item.TheVariants.{Placed, Shape}
-use Rattle.lay_items.specs.Items.{items_in}
-use Rattle.lay_items.specs.Layout.{Layout}
-use Rattle.lay_items.specs.LayoutWith.{layout_with}
-use Rattle.lay_items.specs.SlotOrder.{in_slot_order}
+use Rattle.lay_calls.specs.declared.cell_id.CellId.{CellId}
+use Rattle.lay_calls.specs.declared.cell_id.CellId.TheVariants.{Symbol, Top}
+use Rattle.lay_calls.specs.Symbols.{has_symbol}
+use Rattle.lay_layouts.specs.declared.id.ItemId.{ItemId}
+use Rattle.lay_layouts.specs.declared.item.Item.{Item}
+use Rattle.lay_layouts.specs.declared.item.Item.TheVariants.{Placed, Shape}
+use Rattle.lay_layouts.specs.Items.{items_in}
+use Rattle.lay_layouts.specs.Layout.{Layout}
+use Rattle.lay_layouts.specs.LayoutWith.{layout_with}
+use Rattle.lay_layouts.specs.SlotOrder.{in_slot_order}
 
 -- a symbol as it is written: its number, and its items in order of their ids
 pub record Definition : Type 0 where

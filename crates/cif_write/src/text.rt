@@ -6,15 +6,17 @@ ghost use Rattle.cif_write.specs.Lines.{Call, OnLayer, Path, Start, line_text, l
 ghost use Rattle.cif_write.specs.Text.{definition_lines, definitions_lines, item_lines, items_lines};
 ghost use Rattle.cif_write.specs.Text.{layer_after, path_lines, text};
 ghost use Rattle.cif_write.specs.Wrap.{entry_item, least_unused, own_definitions, wrapping};
-ghost use Rattle.lay_items.specs.SlotOrder.{in_slot_order};
+ghost use Rattle.lay_layouts.specs.SlotOrder.{in_slot_order};
 ghost use Rattle.lay_point.specs.Bridges.{bridged};
 
 use crate::points::put_bridged;
 use crate::turns::{put_turn, unturned};
 use crate::wrap::plain_target;
 use byte_io::{Out, OutBuffer};
-use lay_cells::CellId;
-use lay_items::{Item, Items, Rings, Snapshot};
+use lay_calls::CellId;
+use lay_cell_items::Items;
+use lay_items::Snapshot;
+use lay_layouts::{Item, Rings};
 use lay_point::{LayerName, Turn};
 
 /// Puts the text of the layout, of whose symbols none has the number `unused`.

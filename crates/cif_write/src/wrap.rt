@@ -3,8 +3,9 @@ ghost use Rattle.std.specs.Prelude.{◌≡◌, IfOk, map};
 ghost use Rattle.cif_write.specs.Wrap.{entry_item, least_unused, plain_target};
 
 use crate::turns::unturned;
-use lay_cells::Cells;
-use lay_items::{Item, Items};
+use lay_calls::Cells;
+use lay_cell_items::Items;
+use lay_layouts::Item;
 use lay_point::NoMemory;
 
 /// Returns the symbol that the items call, where they are one call with no mirror, turn or shift.

@@ -51,8 +51,8 @@ pub struct Prepared<'s> {
 
 impl<'s> Model for Prepared<'s> {
     ghost use Rattle.std.specs.Prelude.{◌≡◌};
-    ghost use Rattle.lay_items.specs.Layout.{Layout, coded_layout};
-    ghost use Rattle.lay_items.specs.SlotOrder.{in_slot_order};
+    ghost use Rattle.lay_layouts.specs.Layout.{Layout, coded_layout};
+    ghost use Rattle.lay_layouts.specs.SlotOrder.{in_slot_order};
     ghost use Rattle.cif_write.specs.Wrap.{least_unused};
 
     ghost Value = { Layout };

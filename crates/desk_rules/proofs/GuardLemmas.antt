@@ -14,7 +14,7 @@ use Rattle.desk_rules.proofs.SameLemmas.{logged_exact}
 use Rattle.undo_rules.specs.Books.{History}
 use Rattle.undo_rules.specs.Steps.{fresh}
 use Rattle.desk_rules.specs.declared.kept.Kept.{Kept}
-use Rattle.lay_items.specs.Sound.{IsSound}
+use Rattle.lay_layouts.specs.Sound.{IsSound}
 use Rattle.desk_rules.specs.Guards.{AreCallCounts, Guard, IsGuard, has_last, ones, with_one_counted}
 use Rattle.desk_rules.specs.Legal.{Grew, IsLegal, Leads, Stepped, outcome}
 use Rattle.desk_rules.specs.Seats.{IsIn, IsLastIn, IsPastCall, MadeLogged, calls_added, is_in, is_last_in, last_of, own_calls, same_at}

@@ -2,12 +2,12 @@
 use Rattle.std.proofs.Common.{◌≡◌, ℕ, ◌+◌, ◌-◌, Bool, true, false, cond, not, ◌==◌, List, [], ◌∷◌, ◌++◌, length, drop, Option, None, Some}
 use Rattle.std.proofs.Common.{Result, Ok, Err, refl, ap, sym, ◌∙◌, subst, inl, inr, ◌⊎◌, nat_le, slice_set}
 use Rattle.std.proofs.lemmas.Bool.Decides.{Decides-eqb}
-use Rattle.lay_items.specs.Sound.{IsSound}
-use Rattle.txn_rules.specs.declared.command.Command.{Command}
-use Rattle.txn_rules.specs.declared.command.TxnId.{TxnId}
-use Rattle.txn_rules.specs.Effects.{Run, after_each, begun}
-use Rattle.txn_rules.specs.Records.{records_between}
-use Rattle.txn_rules.specs.Transactions.{Transaction}
+use Rattle.lay_layouts.specs.Sound.{IsSound}
+use Rattle.txn_commands.specs.declared.command.Command.{Command}
+use Rattle.txn_commands.specs.declared.command.TxnId.{TxnId}
+use Rattle.txn_commands.specs.Effects.{Run, after_each, begun}
+use Rattle.txn_commands.specs.Records.{records_between}
+use Rattle.txn_commands.specs.Transactions.{Transaction}
 use Rattle.undo_rules.specs.declared.log.Answer.{Answer}
 use Rattle.undo_rules.specs.declared.log.Answer.TheVariants.{Opened, Committed, Undone, Redone, Refused}
 use Rattle.undo_rules.specs.declared.log.BookFault.{BookFault}

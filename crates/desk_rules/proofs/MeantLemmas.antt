@@ -7,22 +7,22 @@ use Rattle.std.specs.Cmp.Lexicographic.{pointwise}
 use Rattle.std.specs.FinMap.{entries, get}
 use Rattle.std.specs.FinSet as set
 use Rattle.std.specs.List.{list_all}
-use Rattle.lay_items.specs.declared.id.ItemId.{ItemId}
-use Rattle.lay_items.specs.declared.item.Item as item
-use Rattle.lay_items.specs.Layout.{Layout, item_at}
-use Rattle.lay_items.specs.Same.{item_eq-Decides, option_item_eq-Decides}
-use Rattle.lay_items.specs.SameLayout.{id_eq-Decides}
-use Rattle.lay_items.specs.Sound.{IsSound}
-use Rattle.txn_rules.specs.declared.command.TxnId.{TxnId}
-use Rattle.txn_rules.specs.declared.element.Element.{Element}
-use Rattle.txn_rules.specs.declared.element.Element.TheVariants.{Calls, Cell, Content, Item, Layer, Uses}
-use Rattle.txn_rules.specs.Agreement.{AgreeOn}
-use Rattle.txn_rules.specs.Compared.{agrees, entry_eq, lying, same_in}
-use Rattle.txn_rules.specs.Elements.{Touched}
-use Rattle.txn_rules.proofs.Steps.{option_slot_eq-Decides}
-use Rattle.txn_rules.specs.Transactions.{IsTransaction, Transaction}
-use Rattle.txn_rules.proofs.Agreements.{agree-sym}
-use Rattle.txn_rules.proofs.LawProofs.{framed}
+use Rattle.lay_layouts.specs.declared.id.ItemId.{ItemId}
+use Rattle.lay_layouts.specs.declared.item.Item as item
+use Rattle.lay_layouts.specs.Layout.{Layout, item_at}
+use Rattle.lay_layouts.specs.Same.{item_eq-Decides, option_item_eq-Decides}
+use Rattle.lay_layouts.specs.SameLayout.{id_eq-Decides}
+use Rattle.lay_layouts.specs.Sound.{IsSound}
+use Rattle.txn_commands.specs.declared.command.TxnId.{TxnId}
+use Rattle.txn_commands.specs.declared.element.Element.{Element}
+use Rattle.txn_commands.specs.declared.element.Element.TheVariants.{Calls, Cell, Content, Item, Layer, Uses}
+use Rattle.txn_commands.specs.Agreement.{AgreeOn}
+use Rattle.txn_commands.specs.Compared.{agrees, entry_eq, lying, same_in}
+use Rattle.txn_commands.specs.Elements.{Touched}
+use Rattle.txn_commands.proofs.Steps.{option_slot_eq-Decides}
+use Rattle.txn_commands.specs.Transactions.{IsTransaction, Transaction}
+use Rattle.txn_commands.proofs.Agreements.{agree-sym}
+use Rattle.undo_rules.proofs.LawProofs.{framed}
 use Rattle.undo_rules.specs.declared.log.Answer.TheVariants.{Committed}
 use Rattle.undo_rules.specs.declared.log.BookFault.TheVariants.{Foreign, LogFull}
 use Rattle.undo_rules.specs.declared.log.Call.TheVariants.{Commit}

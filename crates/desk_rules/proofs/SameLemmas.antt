@@ -8,16 +8,27 @@ use Rattle.undo_rules.specs.declared.log.Call.{Call}
 use Rattle.undo_rules.specs.contracts.log.CallPartialEq.TheImpl as call
 use Rattle.undo_rules.specs.contracts.log.AnswerPartialEq.TheImpl as answer
 use Rattle.undo_rules.specs.contracts.log.BookFaultPartialEq.TheImpl as fault
-use Rattle.txn_rules.specs.contracts.command.CommandPartialEq.TheImpl as command
-use Rattle.txn_rules.specs.contracts.command.TxnIdPartialEq.TheImpl as txn_id
-use Rattle.face_labels.specs.contracts.op.OpPartialEq.TheImpl as op
-use Rattle.face_labels.specs.declared.op.Op.{Op}
-use Rattle.lay_cells.specs.contracts.cell_id.CellIdPartialEq.TheImpl as cell
-use Rattle.lay_items.specs.contracts.id.ItemIdPartialEq.TheImpl as item_id
+use Rattle.txn_commands.specs.contracts.command.CommandPartialEq.TheImpl as command
+use Rattle.txn_commands.specs.contracts.command.TxnIdPartialEq.TheImpl as txn_id
+use Rattle.face_rows.specs.contracts.op.OpPartialEq.TheImpl as op
+use Rattle.face_rows.specs.declared.op.Op.{Op}
+use Rattle.lay_calls.specs.contracts.cell_id.CellIdPartialEq.TheImpl as cell
+use Rattle.lay_layouts.specs.contracts.id.ItemIdPartialEq.TheImpl as item_id
 use Rattle.lay_point.specs.contracts.point.PointPartialEq.TheImpl as point
 use Rattle.lay_point.specs.contracts.turn.TurnPartialEq.TheImpl as turn
-use Rattle.txn_rules.specs.declared.command.Command.{Command}
-use Rattle.txn_rules.specs.declared.command.Command.TheVariants.{Bool, Box, Delete, DropCell, Look, MakeCell, Move, Place, Poly, SetLayer}
+use Rattle.txn_commands.specs.declared.command.Command.{Command}
+use Rattle.txn_commands.specs.declared.command.Command.TheVariants.{
+  Bool,
+  Box,
+  Delete,
+  DropCell,
+  Look,
+  MakeCell,
+  Move,
+  Place,
+  Poly,
+  SetLayer,
+}
 use Rattle.undo_rules.specs.declared.log.Answer.TheVariants.{Committed, Opened, Redone, Refused, Undone}
 use Rattle.undo_rules.specs.declared.log.BookFault.{BookFault}
 use Rattle.undo_rules.specs.declared.log.BookFault.TheVariants.{Depends, Foreign, LogFull, Moved, NoMemory, NoTxn}
@@ -25,15 +36,15 @@ use Rattle.undo_rules.specs.declared.log.BookFault.TheVariants.{NotLive, Session
 use Rattle.undo_rules.specs.declared.log.Call.TheVariants.{Commit, Open, Redo, Undo}
 use Rattle.std.specs.Cmp.Lexicographic.{pointwise}
 use Rattle.std.proofs.lemmas.Slice.Eq.{bytes_eq-Decides}
-use Rattle.txn_rules.specs.declared.command.TxnId.{TxnId}
-use Rattle.lay_cells.specs.declared.cell_id.CellId.{CellId}
-use Rattle.lay_cells.specs.declared.cell_id.CellId.TheVariants.{Symbol, Top}
-use Rattle.lay_items.specs.declared.id.ItemId.{ItemId}
+use Rattle.txn_commands.specs.declared.command.TxnId.{TxnId}
+use Rattle.lay_calls.specs.declared.cell_id.CellId.{CellId}
+use Rattle.lay_calls.specs.declared.cell_id.CellId.TheVariants.{Symbol, Top}
+use Rattle.lay_layouts.specs.declared.id.ItemId.{ItemId}
 use Rattle.lay_point.specs.declared.point.Point.{Point}
 use Rattle.lay_point.specs.declared.turn.Turn.{Turn}
 use Rattle.lay_point.specs.SameTurn.{turn_eq-Decides}
 use Rattle.lay_point.specs.Same.{names_eq, point_eq-Decides, points_eq-Decides}
-use Rattle.lay_items.specs.SameLayout.{id_eq-Decides}
+use Rattle.lay_layouts.specs.SameLayout.{id_eq-Decides}
 use Rattle.desk_rules.specs.Same.{logged_eq}
 
 both_so : (a b : Test) → (a && b) ≡ true → (a ≡ true) × (b ≡ true)

@@ -1,7 +1,7 @@
 -- A seat gains the calls that are logged.
 use Rattle.std.proofs.Common.{◌≡◌, ℕ, ◌+◌, ◌≤◌, List, [], ◌∷◌, length, Option, None, Some, refl, ap, sym, ◌∙◌, subst, arith}
 use Rattle.std.proofs.lemmas.List.{length-append}
-use Rattle.lay_items.specs.Layout.{Layout}
+use Rattle.lay_layouts.specs.Layout.{Layout}
 use Rattle.undo_rules.specs.declared.log.Answer.{Answer}
 use Rattle.undo_rules.specs.declared.log.Call.{Call}
 use Rattle.undo_rules.specs.Books.{History}

@@ -3,7 +3,7 @@ use Rattle.std.specs.Prelude.{◌≡◌, ℕ, ◌+◌, ◌≤◌, ◌==◌, ◌|
 use Rattle.std.specs.Prelude.{if◌then◌else◌, ◌++◌}
 use Rattle.std.specs.Prelude.{zero, suc, map}
 use Rattle.std.specs.List.{AllByRecursion}
-use Rattle.lay_items.specs.Layout.{Layout}
+use Rattle.lay_layouts.specs.Layout.{Layout}
 use Rattle.undo_rules.specs.declared.log.Logged.{Logged}
 use Rattle.undo_rules.specs.Books.{History}
 use Rattle.undo_rules.specs.Steps.{fresh}

@@ -1,9 +1,9 @@
 -- What holds of legal logs and of the calls in them.
 use Rattle.std.specs.Prelude.{◌≡◌, ℕ, ◌≤◌, List, length, None, true}
 use Rattle.std.specs.List.{AllByRecursion}
-use Rattle.lay_items.specs.Layout.{Layout}
-use Rattle.lay_items.specs.Sound.{IsSound}
-use Rattle.txn_rules.specs.Transactions.{IsTransaction, Transaction}
+use Rattle.lay_layouts.specs.Layout.{Layout}
+use Rattle.lay_layouts.specs.Sound.{IsSound}
+use Rattle.txn_commands.specs.Transactions.{IsTransaction, Transaction}
 use Rattle.undo_rules.specs.declared.log.Answer.TheVariants.{Committed}
 use Rattle.undo_rules.specs.declared.log.Call.TheVariants.{Commit}
 use Rattle.undo_rules.specs.declared.log.Logged.{Logged}

@@ -1,11 +1,11 @@
 -- Legal logs: each call is of a session that is there, and has the answer of the book's step at its place.
 use Rattle.std.specs.Prelude.{◌≡◌, ℕ, ◌≤◌, ◌==◌, List, [], ◌∷◌, ◌++◌, Option, None, Some, Result, Ok, Err, ◌⊎◌, if◌then◌else◌, slice_get}
-use Rattle.lay_items.specs.Sound.{IsSound}
-use Rattle.txn_rules.specs.declared.command.Command.{Command}
-use Rattle.txn_rules.specs.declared.command.TxnId.{TxnId}
-use Rattle.txn_rules.specs.Effects.{Run, after_each, begun}
-use Rattle.txn_rules.specs.Records.{records_between}
-use Rattle.txn_rules.specs.Transactions.{Transaction}
+use Rattle.lay_layouts.specs.Sound.{IsSound}
+use Rattle.txn_commands.specs.declared.command.Command.{Command}
+use Rattle.txn_commands.specs.declared.command.TxnId.{TxnId}
+use Rattle.txn_commands.specs.Effects.{Run, after_each, begun}
+use Rattle.txn_commands.specs.Records.{records_between}
+use Rattle.txn_commands.specs.Transactions.{Transaction}
 use Rattle.undo_rules.specs.declared.log.Answer.{Answer}
 use Rattle.undo_rules.specs.declared.log.Answer.TheVariants.{Opened, Committed, Undone, Redone, Refused}
 use Rattle.undo_rules.specs.declared.log.BookFault.{BookFault}

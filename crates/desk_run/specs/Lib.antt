@@ -1,1 +1,2 @@
 pub mod Scripts
+pub use Rattle.locked_desk.specs.RunFault

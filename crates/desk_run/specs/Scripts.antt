@@ -1,6 +1,6 @@
 -- Scripts that sessions run in threads of their own.
 use Rattle.std.specs.Prelude.{List, [], ◌∷◌, length, take}
-use Rattle.lay_items.specs.Layout.{Layout}
+use Rattle.lay_layouts.specs.Layout.{Layout}
 use Rattle.undo_rules.specs.Books.{History}
 use Rattle.session_steps.specs.declared.Reply.{Reply}
 use Rattle.session_steps.specs.declared.Step.{Step}

@@ -15,9 +15,9 @@ use Rattle.lay_point.specs.Parity.{xor, parity, distance_right, is_crossed}
 use Rattle.lay_point.proofs.Members.{Has}
 use Rattle.lay_point.proofs.Parity.{parity_agree, parity_none, parity-xor}
 use Rattle.snap_chains.specs.Meeting.{MeetAtEnds}
-use Rattle.snap_chains.specs.declared.owner.Input.{Input}
-use Rattle.snap_chains.specs.declared.owner.Input.TheVariants.{First, Second}
-use Rattle.snap_chains.specs.declared.owner.Owner.{Owner}
+use Rattle.snap_chains.specs.Input.{Input}
+use Rattle.snap_chains.specs.Input.TheVariants.{First, Second}
+use Rattle.snap_chains.specs.Owner.{Owner}
 use Rattle.snap_chains.specs.Owners.{input_eq}
 use Rattle.snap_chains.specs.Rounded.{is_owner_listed}
 use Rattle.face_label_laws.specs.Labels.{Item, answer_on, differs, differs_at, listed_shapes, odd_of, some_of}

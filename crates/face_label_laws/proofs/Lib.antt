@@ -7,3 +7,4 @@ pub mod Vertex
 pub use Rattle.face_side_laws.proofs.Rows
 pub use Rattle.face_side_laws.proofs.Sides
 pub use Rattle.face_side_laws.proofs.Slide
+pub use Rattle.snap_chains.proofs.VisitOrder

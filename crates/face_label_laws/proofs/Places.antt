@@ -7,7 +7,7 @@ use Rattle.lay_point.specs.declared.point.Point.{Point}
 use Rattle.lay_point.specs.Edges.{touches}
 use Rattle.lay_point.specs.Parity.{parity, is_crossed}
 use Rattle.snap_chains.specs.Meeting.{MeetAtEnds}
-use Rattle.snap_chains.specs.declared.owner.Owner.{Owner}
+use Rattle.snap_chains.specs.Owner.{Owner}
 use Rattle.snap_chains.specs.Rounded.{is_owner_listed}
 use Rattle.face_label_laws.specs.Labels.{Item, answer_at, differs}
 use Rattle.face_label_laws.proofs.CutLaw.{IsCut, cut_law}

@@ -14,7 +14,7 @@ use Rattle.lay_point.proofs.Members.{Has, has, contains}
 use Rattle.lay_point.proofs.Parity.{parity-map, parity_agree}
 use Rattle.lay_point.proofs.Rising.{before_rest, rising_rest}
 use Rattle.snap_chains.specs.Meeting.{MeetAtEnds}
-use Rattle.snap_chains.specs.declared.owner.Owner.{Owner}
+use Rattle.snap_chains.specs.Owner.{Owner}
 use Rattle.snap_chains.specs.Rounded.{AreClean, IsRounded, Owned, is_owner_listed}
 use Rattle.face_label_laws.specs.Labels.{Item, answer_at, answer_on, differs, differs_at, edges_of_operation, listed_shapes, odd_of}
 use Rattle.face_label_laws.specs.Labels.{owned_items}

@@ -16,7 +16,7 @@ use Rattle.lay_point.proofs.Parity.{parity_agree, parity_none, parity-xor, xor_s
 use Rattle.snap_chains.specs.Edges.{IsBetween, IsEndpoint}
 use Rattle.snap_chains.specs.Meeting.{MeetAtEnds}
 use Rattle.snap_chains.proofs.Level.{other_way_round}
-use Rattle.snap_chains.specs.declared.owner.Owner.{Owner}
+use Rattle.snap_chains.specs.Owner.{Owner}
 use Rattle.snap_chains.specs.Rounded.{is_owner_listed}
 use Rattle.face_label_laws.specs.Labels.{Item, answer_on, differs, listed_shapes, odd_of}
 use Rattle.face_side_laws.proofs.Arms.{and_both, both_true, both_ways, le_zero, level_end, lt_zero}

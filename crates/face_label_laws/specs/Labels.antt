@@ -6,9 +6,9 @@ use Rattle.std.specs.Prelude.{ℤ, pos, ◌+ℤ◌, Bool, ◌&&◌, List, filter
 use Rattle.std.specs.List.{list_any, zip}
 use Rattle.lay_point.specs.declared.point.Point.{Point}
 use Rattle.lay_point.specs.Parity.{xor, parity, is_crossed}
-use Rattle.snap_chains.specs.declared.owner.Input.{Input}
-use Rattle.snap_chains.specs.declared.owner.Input.TheVariants.{First, Second}
-use Rattle.snap_chains.specs.declared.owner.Owner.{Owner}
+use Rattle.snap_chains.specs.Input.{Input}
+use Rattle.snap_chains.specs.Input.TheVariants.{First, Second}
+use Rattle.snap_chains.specs.Owner.{Owner}
 use Rattle.snap_chains.specs.Owners.{input_eq}
 use Rattle.snap_chains.specs.Rounded.{Owned, is_owner_listed}
 

@@ -4,7 +4,7 @@ use Rattle.lay_point.specs.declared.point.Point.{Point}
 use Rattle.lay_point.specs.Edges.{is_before, touches, IsEdgeBefore}
 use Rattle.lay_point.specs.Parity.{odd, parity}
 use Rattle.lay_point.specs.Rising.{IsRising}
-use Rattle.snap_chains.specs.declared.owner.Input.{Input}
+use Rattle.snap_chains.specs.Input.{Input}
 use Rattle.snap_chains.specs.Rounded.{AreClean, IsRounded, Owned}
 use Rattle.face_label_laws.specs.Labels.{answer_at, edges_of_operation, listed_shapes, odd_of, owned_items, some_of}
 

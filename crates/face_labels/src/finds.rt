@@ -13,17 +13,12 @@ ghost use Rattle.std.specs.Prelude.{
   slice_index,
 };
 ghost use Rattle.std.specs.List.Sorted.{IsNonDecreasing};
-ghost use Rattle.face_labels.specs.Reaches.{EndAtReach};
-ghost use Rattle.face_labels.specs.Rows.{AreRowEdges};
-ghost use Rattle.face_labels.specs.Sides.{AreBehind, AreKnown, IsKnown};
-ghost use Rattle.face_labels.specs.Starts.{AreByRow, BeginsBy, IsStartOf};
+ghost use Rattle.face_sides.specs.Reaches.{EndAtReach};
+ghost use Rattle.face_sides.specs.Rows.{AreRowEdges};
+ghost use Rattle.face_sides.specs.Sides.{AreBehind, AreKnown, IsKnown};
+ghost use Rattle.face_sides.specs.Starts.{AreByRow, BeginsBy, IsStartOf};
 
-use crate::ends::place_of;
-use crate::reach::Reach;
-use crate::sides::Sides;
-use crate::start::{Start, begins_after};
-use crate::upward::crosses_row;
-use snap_chains::CleanEdges;
+use face_sides::{CleanEdges, Reach, Sides, Start, begins_after, crosses_row, place_of};
 use std::alloc::{AllocError, Global};
 
 /// Finds the sides of those of a row's edges of which they aren't known.

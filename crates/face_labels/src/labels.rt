@@ -1,17 +1,14 @@
 //! Labels: whether an operation's answers differ on the two sides of an edge.
 ghost use Rattle.std.specs.Prelude.{◌≡◌, ◌<◌, ◌≤◌, All, IfOk, length};
 ghost use Rattle.std.specs.List.{zip};
-ghost use Rattle.face_label_laws.specs.Laws.{AreLesserFirst};
-ghost use Rattle.face_labels.specs.Bands.{begins_in, labelled};
-ghost use Rattle.face_labels.specs.Picked.{picked};
-ghost use Rattle.face_labels.specs.Starts.{AreAllStarts, AreByRow, HasLabel, IsStartOf};
+ghost use Rattle.face_sides.specs.Laws.{AreLesserFirst};
+ghost use Rattle.face_sides.specs.Bands.{begins_in, labelled};
+ghost use Rattle.face_sides.specs.Picked.{picked};
+ghost use Rattle.face_sides.specs.Starts.{AreAllStarts, AreByRow, HasLabel, IsStartOf};
 
-use crate::band::Band;
 use crate::line::Line;
-use crate::op::Op;
-use crate::start::{Start, starts};
+use face_sides::{Band, CleanEdges, Op, Start, starts};
 use lay_point::{Edge, NoMemory};
-use snap_chains::CleanEdges;
 use std::alloc::{AllocError, Global};
 
 /// Returns the numbers of the edges whose lower ends are in the band, in order, each with whether

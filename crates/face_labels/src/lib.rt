@@ -5,14 +5,14 @@
 //! of them exactly where the operation holds there.
 //!
 //! The row r is the height r + 1/2. `row_edges` lists the edges that cross a row, from left to
-//! right (`specs/Rows.antt`). `label` tells for each edge that begins in a band of rows whether it
-//! is one of the operation's (`specs/Bands.antt`). Each edge is judged close to its lower end
-//! (`specs/Beside.antt`): at its crossing of the row there, and at its midpoint if it is level. What
+//! right (`face_rows/specs/Rows.antt`). `label` tells for each edge that begins in a band of rows whether it
+//! is one of the operation's (`face_rows/specs/Bands.antt`). Each edge is judged close to its lower end
+//! (`face_rows/specs/Beside.antt`): at its crossing of the row there, and at its midpoint if it is level. What
 //! holds right of an edge is the same all along it, so it is found once, where the edge begins, and kept
-//! (`specs/Sides.antt`): how many shapes of each input hold on its two sides (`specs/Counts.antt`), and
+//! (`face_sides/specs/Sides.antt`): how many shapes of each input hold on its two sides (`face_sides/specs/Counts.antt`), and
 //! which of its owners are among those on its right. Right of an edge holds what holds left of the next
 //! edge of its row. From row to row the edges that end are taken out and those that begin are put in
-//! (`specs/Ends.antt`, `specs/Starts.antt`); the others aren't gone through.
+//! (`face_sweep/specs/Ends.antt`, `face_sweep/specs/Starts.antt`); the others aren't gone through.
 //!
 //! ```
 //! let clean = round(rt, alloc, &rings)?;
@@ -20,29 +20,11 @@
 //! ```
 #![tactic(auto)]
 
-mod band;
-mod beside;
-mod counts;
-mod crossing;
-mod ended;
-mod ends;
-mod exact;
 mod finds;
 mod labels;
-mod laws;
 mod line;
-mod moves;
-mod op;
-mod reach;
-mod rows;
-mod sides;
-mod start;
 #[cfg(test)]
 mod tests;
-mod upward;
 
-pub use band::Band;
+pub use face_sides::{Band, Op, operations_have_laws, row_edges};
 pub use labels::label;
-pub use laws::operations_have_laws;
-pub use op::Op;
-pub use rows::row_edges;

@@ -3,8 +3,8 @@
 ghost use Rattle.std.specs.Prelude.{◌≡◌};
 
 use super::*;
+use face_sides::{CleanEdges, Input, OwnedRing, Owner, round};
 use lay_point::{NoMemory, Point, Ring};
-use snap_chains::{CleanEdges, Input, OwnedRing, Owner, round};
 use std::alloc::Global;
 use std::test::*;
 use std::thread::Threads;

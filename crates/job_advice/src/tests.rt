@@ -1,7 +1,8 @@
 //! Tests of the words, which no clause pins.
 
 use super::*;
-use cif_read::{CifFault, read};
+use cif_content::CifFault;
+use cif_read::read;
 use std::alloc::Global;
 use std::str::from_utf8;
 use std::test::*;

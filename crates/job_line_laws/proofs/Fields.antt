@@ -10,17 +10,26 @@ use Rattle.std.proofs.Math.Seq.{drop-append-add, take-append_seam}
 use Rattle.std.proofs.lemmas.Bool.{and_parts}
 use Rattle.std.proofs.lemmas.Bool.Decides.{nat_tests}
 use Rattle.std.proofs.lemmas.List.{length-append}
-use Rattle.lay_cells.specs.declared.cell_id.CellId.{CellId}
-use Rattle.lay_cells.specs.declared.cell_id.CellId.TheVariants.{Symbol, Top}
-use Rattle.lay_cells.specs.declared.cells.TheConstants.{MAX_SYMBOL}
-use Rattle.lay_items.specs.declared.id.ItemId.{ItemId}
+use Rattle.lay_calls.specs.declared.cell_id.CellId.{CellId}
+use Rattle.lay_calls.specs.declared.cell_id.CellId.TheVariants.{Symbol, Top}
+use Rattle.lay_calls.specs.declared.cells.TheConstants.{MAX_SYMBOL}
+use Rattle.lay_layouts.specs.declared.id.ItemId.{ItemId}
 use Rattle.lay_point.specs.declared.turn.Quarter.{Quarter}
 use Rattle.lay_point.specs.declared.turn.Quarter.TheVariants.{R0, R90, R180, R270}
 use Rattle.lay_point.specs.declared.turn.Turn.{Turn}
 use Rattle.lay_point.specs.Names.{is_digit}
-use Rattle.txn_rules.specs.declared.command.TxnId.{TxnId}
-use Rattle.job_text.specs.Words.{◌>>=◌, before_dot, parsed_cell, parsed_coordinate, is_negative, parsed_item, parsed_number, parsed_quarter}
-use Rattle.job_text.specs.Words.{parsed_turning, parsed_txn}
+use Rattle.txn_commands.specs.declared.command.TxnId.{TxnId}
+use Rattle.job_lines.specs.Words.{
+  ◌>>=◌,
+  before_dot,
+  parsed_cell,
+  parsed_coordinate,
+  is_negative,
+  parsed_item,
+  parsed_number,
+  parsed_quarter,
+}
+use Rattle.job_lines.specs.Words.{parsed_turning, parsed_txn}
 use Rattle.job_line_laws.specs.Written.{IsCell, IsCoordinate, IsItem, IsTxn, cell_word, degrees, item_word, turning_word, txn_word}
 use Rattle.job_line_laws.proofs.Digits.{decimal_is, digits_read, number_read}
 

@@ -10,18 +10,28 @@ use Rattle.std.proofs.lemmas.List.{length-append}
 use Rattle.std.proofs.lemmas.List.Folds.{list_all-append}
 use Rattle.txn_rules.specs.Op.{Op}
 use Rattle.txn_rules.specs.Op.TheVariants.{And, Not, Or, Xor}
-use Rattle.lay_cells.specs.declared.cell_id.CellId.{CellId}
-use Rattle.lay_cells.specs.declared.cell_id.CellId.TheVariants.{Symbol, Top}
-use Rattle.lay_items.specs.declared.id.ItemId.{ItemId}
+use Rattle.lay_calls.specs.declared.cell_id.CellId.{CellId}
+use Rattle.lay_calls.specs.declared.cell_id.CellId.TheVariants.{Symbol, Top}
+use Rattle.lay_layouts.specs.declared.id.ItemId.{ItemId}
 use Rattle.lay_point.specs.declared.layer_name.TheConstants.{MAX_LAYER_NAME}
 use Rattle.lay_point.specs.declared.point.Point.{Point}
 use Rattle.lay_point.specs.declared.turn.Quarter.{Quarter}
 use Rattle.lay_point.specs.declared.turn.Quarter.TheVariants.{R0, R90, R180, R270}
 use Rattle.lay_point.specs.Names.{is_digit, is_layer_name, is_name_byte}
-use Rattle.txn_rules.specs.declared.command.Command.{Command}
-use Rattle.txn_rules.specs.declared.command.Command.TheVariants.{Bool as Combine, Box, Delete, DropCell, Look, MakeCell, Move, Place, Poly}
-use Rattle.txn_rules.specs.declared.command.Command.TheVariants.{SetLayer}
-use Rattle.txn_rules.specs.declared.command.TxnId.{TxnId}
+use Rattle.txn_commands.specs.declared.command.Command.{Command}
+use Rattle.txn_commands.specs.declared.command.Command.TheVariants.{
+  Bool as Combine,
+  Box,
+  Delete,
+  DropCell,
+  Look,
+  MakeCell,
+  Move,
+  Place,
+  Poly,
+}
+use Rattle.txn_commands.specs.declared.command.Command.TheVariants.{SetLayer}
+use Rattle.txn_commands.specs.declared.command.TxnId.{TxnId}
 use Rattle.session_steps.specs.declared.Step.{Step}
 use Rattle.session_steps.specs.declared.Step.TheVariants.{Cancel, Commit, Do, Open, Redo, Undo}
 use Rattle.job_text.specs.Steps.{Word}

@@ -5,21 +5,31 @@ use Rattle.std.specs.Fmt.{decimal, signed_decimal}
 use Rattle.std.specs.List.{AllByRecursion}
 use Rattle.txn_rules.specs.Op.{Op}
 use Rattle.txn_rules.specs.Op.TheVariants.{And, Not, Or, Xor}
-use Rattle.lay_cells.specs.declared.cell_id.CellId.{CellId}
-use Rattle.lay_cells.specs.declared.cells.TheConstants.{MAX_SYMBOL}
-use Rattle.lay_items.specs.declared.id.ItemId.{ItemId}
+use Rattle.lay_calls.specs.declared.cell_id.CellId.{CellId}
+use Rattle.lay_calls.specs.declared.cells.TheConstants.{MAX_SYMBOL}
+use Rattle.lay_layouts.specs.declared.id.ItemId.{ItemId}
 use Rattle.lay_point.specs.declared.point.Point.{Point}
 use Rattle.lay_point.specs.declared.turn.Turn.{Turn}
-use Rattle.txn_rules.specs.declared.command.Command.{Command}
-use Rattle.txn_rules.specs.declared.command.Command.TheVariants.{Bool as Combine, Box, Delete, DropCell, Look, MakeCell, Move, Place, Poly}
-use Rattle.txn_rules.specs.declared.command.Command.TheVariants.{SetLayer}
-use Rattle.txn_rules.specs.declared.command.TxnId.{TxnId}
+use Rattle.txn_commands.specs.declared.command.Command.{Command}
+use Rattle.txn_commands.specs.declared.command.Command.TheVariants.{
+  Bool as Combine,
+  Box,
+  Delete,
+  DropCell,
+  Look,
+  MakeCell,
+  Move,
+  Place,
+  Poly,
+}
+use Rattle.txn_commands.specs.declared.command.Command.TheVariants.{SetLayer}
+use Rattle.txn_commands.specs.declared.command.TxnId.{TxnId}
 use Rattle.session_steps.specs.declared.Step.{Step}
 use Rattle.session_steps.specs.declared.Step.TheVariants.{Cancel, Commit, Do, Open, Redo, Undo}
 use Rattle.job_text.specs.Steps.{Word, bool_command, box_command, command_named, item_alone, layer_command}
 use Rattle.job_text.specs.Steps.{leading_point, move_command, op_of, parsed_points, place_command, point_of, poly_command}
 use Rattle.job_text.specs.Steps.{short_command, step_named, step_of, symbol_alone, txn_alone}
-use Rattle.job_text.specs.Words.{◌>>=◌}
+use Rattle.job_lines.specs.Words.{◌>>=◌}
 use Rattle.job_line_laws.specs.Written.{CanBeSaid, CanSay, IsItem, IsPoint, IsTxn, cell_word}
 use Rattle.job_line_laws.specs.Written.{command_words, item_word, point_words, step_words, turning_word, txn_word}
 use Rattle.job_line_laws.proofs.Digits.{number_read}

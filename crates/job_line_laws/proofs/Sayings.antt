@@ -5,16 +5,26 @@ use Rattle.std.specs.Str.{bytes_eq}
 use Rattle.std.proofs.lemmas.Slice.Eq.{bytes_eq-Decides}
 use Rattle.txn_rules.specs.Op.{Op}
 use Rattle.txn_rules.specs.Op.TheVariants.{And, Not, Or, Xor}
-use Rattle.lay_cells.specs.declared.cell_id.CellId.{CellId}
-use Rattle.lay_cells.specs.declared.cells.TheConstants.{MAX_SYMBOL}
-use Rattle.lay_items.specs.declared.id.ItemId.{ItemId}
+use Rattle.lay_calls.specs.declared.cell_id.CellId.{CellId}
+use Rattle.lay_calls.specs.declared.cells.TheConstants.{MAX_SYMBOL}
+use Rattle.lay_layouts.specs.declared.id.ItemId.{ItemId}
 use Rattle.lay_point.specs.declared.point.Point.{Point}
 use Rattle.lay_point.specs.declared.turn.Turn.{Turn}
 use Rattle.lay_point.specs.Names.{layer_name_of}
-use Rattle.txn_rules.specs.declared.command.Command.{Command}
-use Rattle.txn_rules.specs.declared.command.Command.TheVariants.{Bool as Combine, Box, Delete, DropCell, Look, MakeCell, Move, Place, Poly}
-use Rattle.txn_rules.specs.declared.command.Command.TheVariants.{SetLayer}
-use Rattle.txn_rules.specs.declared.command.TxnId.{TxnId}
+use Rattle.txn_commands.specs.declared.command.Command.{Command}
+use Rattle.txn_commands.specs.declared.command.Command.TheVariants.{
+  Bool as Combine,
+  Box,
+  Delete,
+  DropCell,
+  Look,
+  MakeCell,
+  Move,
+  Place,
+  Poly,
+}
+use Rattle.txn_commands.specs.declared.command.Command.TheVariants.{SetLayer}
+use Rattle.txn_commands.specs.declared.command.TxnId.{TxnId}
 use Rattle.session_steps.specs.declared.Step.{Step}
 use Rattle.session_steps.specs.declared.Step.TheVariants.{Cancel, Commit, Do, Open, Redo, Undo}
 use Rattle.job_text.specs.Steps.{Word, bool_command, box_command, command_named, first_as, if_ended, item_alone, leading_coordinate}
@@ -22,7 +32,7 @@ use Rattle.job_text.specs.Steps.{leading_layer}
 use Rattle.job_text.specs.Steps.{layer_command, leading_point, move_command, op_of, parsed_points, place_command, point_of, poly_command}
 use Rattle.job_text.specs.Steps.{short_command, step_named}
 use Rattle.job_text.specs.Steps.{leading_symbol, leading_turning, step_of, symbol_alone, txn_alone}
-use Rattle.job_text.specs.Words.{◌>>=◌, parsed_cell, parsed_coordinate, parsed_item, parsed_number, parsed_turning, parsed_txn}
+use Rattle.job_lines.specs.Words.{◌>>=◌, parsed_cell, parsed_coordinate, parsed_item, parsed_number, parsed_turning, parsed_txn}
 use Rattle.job_line_laws.specs.Steps.{ArePoints, IsPointOf, Says, SaysCommand, boxes, cancels, combines, commits, deletes}
 use Rattle.job_line_laws.specs.Steps.{does, drops, layers, looks, makes, moves, opens, places, polygons, redoes, undoes}
 use Rattle.job_line_laws.specs.Written.{op_word}

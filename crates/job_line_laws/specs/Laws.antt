@@ -2,7 +2,7 @@
 use Rattle.std.specs.Prelude.{◌≡◌, Some}
 use Rattle.session_steps.specs.declared.Step.{Step}
 use Rattle.job_text.specs.Steps.{step_of}
-use Rattle.job_text.specs.Words.{words_of}
+use Rattle.job_lines.specs.Words.{words_of}
 use Rattle.job_line_laws.specs.Written.{CanBeSaid, line_of, step_words}
 
 -- the line of a step says that step

@@ -1,20 +1,30 @@
 -- Which step the words of a line say, a line of the table at a time.
 use Rattle.std.specs.Prelude.{◌≡◌, ℕ, List, [], ◌∷◌, codes, Some}
 use Rattle.txn_rules.specs.Op.{Op}
-use Rattle.lay_cells.specs.declared.cell_id.CellId.{CellId}
-use Rattle.lay_cells.specs.declared.cells.TheConstants.{MAX_SYMBOL}
-use Rattle.lay_items.specs.declared.id.ItemId.{ItemId}
+use Rattle.lay_calls.specs.declared.cell_id.CellId.{CellId}
+use Rattle.lay_calls.specs.declared.cells.TheConstants.{MAX_SYMBOL}
+use Rattle.lay_layouts.specs.declared.id.ItemId.{ItemId}
 use Rattle.lay_point.specs.declared.point.Point.{Point}
 use Rattle.lay_point.specs.declared.turn.Turn.{Turn}
 use Rattle.lay_point.specs.Names.{layer_name_of}
-use Rattle.txn_rules.specs.declared.command.Command.{Command}
-use Rattle.txn_rules.specs.declared.command.Command.TheVariants.{Bool as Combine, Box, Delete, DropCell, Look, MakeCell, Move, Place, Poly}
-use Rattle.txn_rules.specs.declared.command.Command.TheVariants.{SetLayer}
-use Rattle.txn_rules.specs.declared.command.TxnId.{TxnId}
+use Rattle.txn_commands.specs.declared.command.Command.{Command}
+use Rattle.txn_commands.specs.declared.command.Command.TheVariants.{
+  Bool as Combine,
+  Box,
+  Delete,
+  DropCell,
+  Look,
+  MakeCell,
+  Move,
+  Place,
+  Poly,
+}
+use Rattle.txn_commands.specs.declared.command.Command.TheVariants.{SetLayer}
+use Rattle.txn_commands.specs.declared.command.TxnId.{TxnId}
 use Rattle.session_steps.specs.declared.Step.{Step}
 use Rattle.session_steps.specs.declared.Step.TheVariants.{Cancel, Commit, Do, Open, Redo, Undo}
 use Rattle.job_text.specs.Steps.{Word, step_of}
-use Rattle.job_text.specs.Words.{parsed_cell, parsed_coordinate, parsed_item, parsed_number, parsed_turning, parsed_txn}
+use Rattle.job_lines.specs.Words.{parsed_cell, parsed_coordinate, parsed_item, parsed_number, parsed_turning, parsed_txn}
 use Rattle.job_line_laws.specs.Written.{op_word}
 
 -- the two words spell the point's coordinates

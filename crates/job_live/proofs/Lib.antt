@@ -1,2 +1,3 @@
 pub mod DealtLemmas
 pub mod LineLemmas
+pub use Rattle.session_core.proofs.MachineLemmas

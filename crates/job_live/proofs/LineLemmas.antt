@@ -1,14 +1,14 @@
 -- Where the lines of a live run lead.
 use Rattle.std.proofs.Common.{◌≡◌, ℕ, List, [], ◌∷◌, ◌++◌, map, refl, sym, ◌∙◌, append-nil}
 use Rattle.std.proofs.lemmas.List.{append_assoc}
-use Rattle.lay_items.specs.Layout.{Layout}
+use Rattle.lay_layouts.specs.Layout.{Layout}
 use Rattle.session_steps.specs.declared.Reply.{Reply}
 use Rattle.session_steps.specs.declared.Step.{Step as StepOf}
 use Rattle.session_core.specs.Machine.{after_steps, step_outcome}
 use Rattle.job_text.specs.declared.live.LiveLine.{LiveLine}
 use Rattle.job_text.specs.declared.live.LiveLine.TheVariants.{Blank, Step, Write, Odd}
 use Rattle.job_text.specs.Live.{live_line}
-use Rattle.job_text.specs.Words.{words_of}
+use Rattle.job_lines.specs.Words.{words_of}
 use Rattle.job_live.specs.Live.{LiveRun, after_line, after_lines, after_step, answered, before_first_line, one_more}
 use Rattle.job_live.specs.Laws.{LedBy, LinesAreSteps, steps_in, steps_of}
 

@@ -1,13 +1,13 @@
 -- The lines of a live run lead where their steps lead as a job.
 use Rattle.std.specs.Prelude.{◌≡◌, ℕ, List, [], ◌∷◌, ◌++◌, map}
-use Rattle.lay_items.specs.Layout.{Layout}
-use Rattle.undo_book.specs.declared.book.TheConstants.{MAX_CALLS}
+use Rattle.lay_layouts.specs.Layout.{Layout}
+use Rattle.session_core.specs.TheConstants.{MAX_CALLS}
 use Rattle.session_steps.specs.declared.Step.{Step as StepOf}
 use Rattle.session_core.specs.Machine.{after_steps, start}
 use Rattle.job_text.specs.declared.live.LiveLine.{LiveLine}
 use Rattle.job_text.specs.declared.live.LiveLine.TheVariants.{Blank, Step, Write, Odd}
 use Rattle.job_text.specs.Live.{live_line}
-use Rattle.job_text.specs.Words.{words_of}
+use Rattle.job_lines.specs.Words.{words_of}
 use Rattle.job_live.specs.Live.{LiveRun, after_lines, before_first_line}
 
 -- the step that a line says, if it says one

@@ -1,15 +1,15 @@
 -- A live run: what each line is answered, and what it leaves.
 use Rattle.std.specs.Prelude.{ℕ, ◌+◌, List, [], ◌∷◌, ◌++◌, Bool, true, false, replicate, slice_index, slice_set}
-use Rattle.lay_items.specs.Layout.{Layout}
-use Rattle.undo_book.specs.declared.book.TheConstants.{MAX_CALLS}
+use Rattle.lay_layouts.specs.Layout.{Layout}
+use Rattle.session_core.specs.TheConstants.{MAX_CALLS}
 use Rattle.session_steps.specs.declared.Reply.{Reply}
 use Rattle.session_steps.specs.declared.Step.{Step as StepOf}
 use Rattle.session_core.specs.Machine.{State, start, step_outcome}
 use Rattle.job_text.specs.declared.live.LiveLine.{LiveLine}
 use Rattle.job_text.specs.declared.live.LiveLine.TheVariants.{Blank, Step, Write, Odd}
 use Rattle.job_text.specs.Live.{live_line, odd_text}
-use Rattle.job_text.specs.Replies.{reply_text}
-use Rattle.job_text.specs.Words.{words_of}
+use Rattle.job_lines.specs.Replies.{reply_text}
+use Rattle.job_lines.specs.Words.{words_of}
 use Rattle.job_live.specs.declared.live.Answer.{Answer}
 use Rattle.job_live.specs.declared.live.Live.{Live}
 

@@ -15,3 +15,4 @@ mod live;
 
 pub use laws::lines_are_steps;
 pub use live::{Answer, Live};
+pub use session_core::{Machine, Step};

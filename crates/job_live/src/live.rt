@@ -13,7 +13,7 @@ use session_core::Machine;
 use session_steps::{Reply, Step, StepFault, dealt};
 use std::alloc::Global;
 use std::thread::Threads;
-use txn_rules::CmdFault;
+use txn_commands::CmdFault;
 use undo_rules::BookFault;
 
 /// How many sessions a live run has.

@@ -4,24 +4,33 @@ use Rattle.std.proofs.Common.{append_assoc, append-nil}
 use Rattle.std.specs.Prelude.{codes, flat_map, if◌then◌else◌}
 use Rattle.std.specs.Fmt.{decimal, signed_decimal}
 use Rattle.std.specs.List.{AllByRecursion}
-use Rattle.lay_cells.specs.declared.cell_id.CellId.{CellId}
-use Rattle.lay_cells.specs.declared.cell_id.CellId.TheVariants.{Symbol, Top}
-use Rattle.lay_cells.specs.declared.cells.TheConstants.{MAX_SYMBOL}
-use Rattle.lay_items.specs.declared.id.ItemId.{ItemId}
-use Rattle.lay_items.specs.IdText.{item_text}
-use Rattle.lay_items.specs.declared.item.Item.{Item}
-use Rattle.lay_items.specs.declared.item.Item.TheVariants.{Placed, Shape}
+use Rattle.lay_calls.specs.declared.cell_id.CellId.{CellId}
+use Rattle.lay_calls.specs.declared.cell_id.CellId.TheVariants.{Symbol, Top}
+use Rattle.lay_calls.specs.declared.cells.TheConstants.{MAX_SYMBOL}
+use Rattle.lay_layouts.specs.declared.id.ItemId.{ItemId}
+use Rattle.lay_layouts.specs.IdText.{item_text}
+use Rattle.lay_layouts.specs.declared.item.Item.{Item}
+use Rattle.lay_layouts.specs.declared.item.Item.TheVariants.{Placed, Shape}
 use Rattle.lay_point.specs.declared.point.Point.{Point}
 use Rattle.lay_point.specs.declared.turn.Quarter.{Quarter}
 use Rattle.lay_point.specs.declared.turn.Quarter.TheVariants.{R0, R90, R180, R270}
 use Rattle.lay_point.specs.declared.turn.Turn.{Turn}
-use Rattle.txn_rules.specs.declared.command.Done.{Done}
-use Rattle.txn_rules.specs.declared.command.Done.TheVariants.{Made, Several, Empty, Plain, Found}
-use Rattle.txn_rules.specs.declared.command.TxnId.{TxnId}
-use Rattle.txn_rules.specs.declared.fault.CmdFault.TheVariants.{CellThere, CellUsed, Cycle, FewPoints, NoCell, NoItem, NoMemory, NotShape}
-use Rattle.txn_rules.specs.declared.fault.CmdFault.TheVariants.{OutOfRange, TooDeep, TooMany, TxnFull}
-use Rattle.txn_rules.specs.Own.{id_from}
-use Rattle.txn_rules.specs.Refusals.{txn_text}
+use Rattle.txn_commands.specs.declared.command.Done.{Done}
+use Rattle.txn_commands.specs.declared.command.Done.TheVariants.{Made, Several, Empty, Plain, Found}
+use Rattle.txn_commands.specs.declared.command.TxnId.{TxnId}
+use Rattle.txn_commands.specs.declared.fault.CmdFault.TheVariants.{
+  CellThere,
+  CellUsed,
+  Cycle,
+  FewPoints,
+  NoCell,
+  NoItem,
+  NoMemory,
+  NotShape,
+}
+use Rattle.txn_commands.specs.declared.fault.CmdFault.TheVariants.{OutOfRange, TooDeep, TooMany, TxnFull}
+use Rattle.txn_commands.specs.Own.{id_from}
+use Rattle.txn_commands.specs.Refusals.{txn_text}
 use Rattle.undo_rules.specs.declared.log.BookFault.TheVariants.{Depends, Foreign, LogFull, Moved, NoMemory as BookMemory, NoTxn, NotLive}
 use Rattle.undo_rules.specs.declared.log.BookFault.TheVariants.{SessionFull, Stale, StillLive}
 use Rattle.session_steps.specs.declared.Reply.{Reply}
@@ -29,8 +38,8 @@ use Rattle.session_steps.specs.declared.Reply.TheVariants.{Opened, Done as Comma
 use Rattle.session_steps.specs.declared.StepFault.{StepFault}
 use Rattle.session_steps.specs.declared.StepFault.TheVariants.{AlreadyOpen, Book, Command, NoSession, NotOpen}
 use Rattle.session_steps.specs.Refusals.{step_code}
-use Rattle.job_text.specs.Replies.{answer_text, bar_text, cell_text, done_text, fault_text, found_text, named_text, spaced_point}
-use Rattle.job_text.specs.Replies.{degrees_text, points_text, rings_text, several_text, turning_text}
+use Rattle.job_lines.specs.Replies.{answer_text, bar_text, cell_text, done_text, fault_text, found_text, named_text, spaced_point}
+use Rattle.job_lines.specs.Replies.{degrees_text, points_text, rings_text, several_text, turning_text}
 use Rattle.job_text.specs.Steps.{Word}
 use Rattle.job_line_laws.specs.Written.{IsItem, cell_word, degrees, item_word, point_words, spaced_words, turning_word, txn_word}
 use Rattle.job_line_laws.proofs.Joined.{IsWord}

@@ -10,17 +10,26 @@ use Rattle.std.proofs.lemmas.Bool.Decides.{nat_tests}
 use Rattle.std.proofs.lemmas.Fmt.{decimal_injective}
 use Rattle.std.proofs.lemmas.Int.{ints}
 use Rattle.std.proofs.lemmas.List.{append_cancel_right}
-use Rattle.lay_cells.specs.declared.cells.TheConstants.{MAX_SYMBOL}
-use Rattle.lay_items.specs.declared.id.ItemId.{ItemId}
-use Rattle.lay_items.specs.declared.item.Item.{Item}
-use Rattle.lay_items.specs.declared.item.Item.TheVariants.{Placed, Shape}
+use Rattle.lay_calls.specs.declared.cells.TheConstants.{MAX_SYMBOL}
+use Rattle.lay_layouts.specs.declared.id.ItemId.{ItemId}
+use Rattle.lay_layouts.specs.declared.item.Item.{Item}
+use Rattle.lay_layouts.specs.declared.item.Item.TheVariants.{Placed, Shape}
 use Rattle.lay_point.specs.declared.point.Point.{Point}
 use Rattle.lay_point.specs.Names.{is_digit, layer_name_of}
-use Rattle.txn_rules.specs.declared.command.Done.{Done}
-use Rattle.txn_rules.specs.declared.command.Done.TheVariants.{Made, Several, Empty, Plain, Found}
-use Rattle.txn_rules.specs.declared.command.TxnId.{TxnId}
-use Rattle.txn_rules.specs.declared.fault.CmdFault.TheVariants.{CellThere, CellUsed, Cycle, FewPoints, NoCell, NoItem, NoMemory, NotShape}
-use Rattle.txn_rules.specs.declared.fault.CmdFault.TheVariants.{OutOfRange, TooDeep, TooMany, TxnFull}
+use Rattle.txn_commands.specs.declared.command.Done.{Done}
+use Rattle.txn_commands.specs.declared.command.Done.TheVariants.{Made, Several, Empty, Plain, Found}
+use Rattle.txn_commands.specs.declared.command.TxnId.{TxnId}
+use Rattle.txn_commands.specs.declared.fault.CmdFault.TheVariants.{
+  CellThere,
+  CellUsed,
+  Cycle,
+  FewPoints,
+  NoCell,
+  NoItem,
+  NoMemory,
+  NotShape,
+}
+use Rattle.txn_commands.specs.declared.fault.CmdFault.TheVariants.{OutOfRange, TooDeep, TooMany, TxnFull}
 use Rattle.undo_rules.specs.declared.log.BookFault.{BookFault}
 use Rattle.undo_rules.specs.declared.log.BookFault.TheVariants.{Depends, Foreign, LogFull, Moved, NoMemory as BookMemory, NoTxn, NotLive}
 use Rattle.undo_rules.specs.declared.log.BookFault.TheVariants.{SessionFull, Stale, StillLive}
@@ -28,9 +37,9 @@ use Rattle.session_steps.specs.declared.Reply.{Reply}
 use Rattle.session_steps.specs.declared.Reply.TheVariants.{Opened, Done as CommandDone, Committed, Cancelled, Undone, Redone, Fault}
 use Rattle.session_steps.specs.declared.StepFault.{StepFault}
 use Rattle.session_steps.specs.declared.StepFault.TheVariants.{AlreadyOpen, Book, Command, NoSession, NotOpen}
-use Rattle.job_text.specs.Replies.{answer_text, reply_text}
+use Rattle.job_lines.specs.Replies.{answer_text, reply_text}
 use Rattle.job_text.specs.Steps.{Word, leading_point, point_of}
-use Rattle.job_text.specs.Words.{◌>>=◌, before_dot, parsed_cell, parsed_item, parsed_number, parsed_turning, parsed_txn, words}
+use Rattle.job_lines.specs.Words.{◌>>=◌, before_dot, parsed_cell, parsed_item, parsed_number, parsed_turning, parsed_txn, words}
 use Rattle.job_line_laws.specs.Written.{IsCoordinate, IsItem, IsPoint, IsTxn, item_word, point_words, spaced_words, txn_word}
 use Rattle.job_line_laws.proofs.Digits.{decimal_is, number_read}
 use Rattle.job_line_laws.proofs.Fields.{cell_read, coordinate_read, dot_read, item_read, turning_read, txn_read}

@@ -3,7 +3,7 @@ use Rattle.std.specs.Prelude.{◌≡◌, ◌⊎◌, ℕ, ◌<◌, ◌^◌, List}
 use Rattle.std.specs.List.{AllByRecursion}
 use Rattle.session_steps.specs.declared.Reply.{Reply}
 use Rattle.job_text.specs.Order.{order_text}
-use Rattle.job_text.specs.Replies.{reply_text}
+use Rattle.job_lines.specs.Replies.{reply_text}
 use Rattle.job_reply_laws.specs.Numbers.{numbers_in}
 use Rattle.job_reply_laws.specs.Told.{CanTell, IsCommitted}
 

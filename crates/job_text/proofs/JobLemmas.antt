@@ -6,7 +6,7 @@ use Rattle.std.specs.Prelude.{Some}
 use Rattle.lay_point.specs.declared.point.Point.{Point}
 use Rattle.job_text.specs.Job.{is_section, sections_of, text_of}
 use Rattle.job_text.specs.Steps.{parsed_points, point_of}
-use Rattle.job_text.specs.Words.{◌>>=◌}
+use Rattle.job_lines.specs.Words.{◌>>=◌}
 
 no_parts : (line behind : List ℕ) → line ++ behind ≡ [] → (line ≡ []) × (behind ≡ [])
 no_parts [] behind is = (refl, is)

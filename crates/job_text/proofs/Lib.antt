@@ -1,3 +1,1 @@
 pub mod JobLemmas
-pub mod LineLemmas
-pub mod WordLemmas

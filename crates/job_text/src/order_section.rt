@@ -4,13 +4,13 @@ ghost use Rattle.std.specs.List.{list_all};
 ghost use Rattle.lay_point.specs.Memory.{IsAnswer};
 ghost use Rattle.job_text.specs.declared.job.JobFault.TheVariants.{NoMemory as OutOfMemory};
 ghost use Rattle.job_text.specs.Job.{are_counted, named_by, named_in, named_order, odd_line, one_by_one, order_at, order_fits, session_of, total_len};
-ghost use Rattle.job_text.specs.Lines.{lines};
-ghost use Rattle.job_text.specs.Words.{is_number, words};
+ghost use Rattle.job_lines.specs.Lines.{lines};
+ghost use Rattle.job_lines.specs.Words.{is_number, words};
 
 use crate::job::{JobFault, MAX_JOB};
-use crate::lines::{content, split_line};
 use crate::order::push_times;
 use crate::words::{MAX_SESSION, is_number, number_of, split_word};
+use job_lines::{content, split_line};
 use lay_point::{NoMemory, Sequence};
 use session_steps::Step;
 use std::alloc::Global;

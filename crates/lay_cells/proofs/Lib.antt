@@ -1,9 +1,3 @@
 pub mod AcyclicLemmas
-pub mod FewerCalls
-pub mod GraphLemmas
-pub mod MarkLemmas
-pub mod MemberLemmas
-pub mod PlaceLemmas
 pub mod TallyLemmas
-pub mod WalkLemmas
 pub mod WalkListLemmas

@@ -21,15 +21,10 @@
 #![tactic(auto)]
 
 mod call_graph;
-mod cell_id;
-mod cells;
-mod places;
-mod search;
 mod tally;
 #[cfg(test)]
 mod tests;
 
 pub use call_graph::CallGraph;
-pub use cell_id::CellId;
-pub use cells::{Cells, MAX_SYMBOL};
+pub use lay_calls::{CellId, Cells, MAX_SYMBOL};
 pub use tally::MAX_COUNTED_WALKS;

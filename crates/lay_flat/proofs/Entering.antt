@@ -11,18 +11,18 @@ use Rattle.std.proofs.lemmas.Map.Made.{length-le_from_is_member}
 use Rattle.std.proofs.lemmas.Option.{get_or_from_slice_get, slice_get_within}
 use Rattle.std.proofs.lemmas.List.{take_more}
 use Rattle.std.proofs.lemmas.Grind.{flat_map-append}
-use Rattle.lay_cells.specs.declared.cell_id.CellId.{CellId}
-use Rattle.lay_cells.specs.declared.cell_id.CellId.TheVariants.{Symbol, Top}
-use Rattle.lay_cells.specs.SameCell.{cell_eq}
-use Rattle.lay_cells.specs.Symbols.{has_symbol, with_symbol}
-use Rattle.lay_items.specs.declared.id.ItemId.{ItemId}
-use Rattle.lay_items.specs.declared.item.Item.{Item}
-use Rattle.lay_items.specs.declared.item.Item.TheVariants.{Placed, Shape}
-use Rattle.lay_items.specs.Items.{cell_of, items_in, standing_in}
-use Rattle.lay_items.specs.Layout.{Layout, is_cell}
-use Rattle.lay_items.specs.Lent.{LentCall, calls_in, calls_lent}
-use Rattle.lay_items.specs.SlotOrder.{in_slot_order}
-use Rattle.lay_items.specs.Sound.{IsSound}
+use Rattle.lay_calls.specs.declared.cell_id.CellId.{CellId}
+use Rattle.lay_calls.specs.declared.cell_id.CellId.TheVariants.{Symbol, Top}
+use Rattle.lay_calls.specs.SameCell.{cell_eq}
+use Rattle.lay_calls.specs.Symbols.{has_symbol, with_symbol}
+use Rattle.lay_layouts.specs.declared.id.ItemId.{ItemId}
+use Rattle.lay_layouts.specs.declared.item.Item.{Item}
+use Rattle.lay_layouts.specs.declared.item.Item.TheVariants.{Placed, Shape}
+use Rattle.lay_layouts.specs.Items.{cell_of, items_in, standing_in}
+use Rattle.lay_layouts.specs.Layout.{Layout, is_cell}
+use Rattle.lay_layouts.specs.Lent.{LentCall, calls_in, calls_lent}
+use Rattle.lay_layouts.specs.SlotOrder.{in_slot_order}
+use Rattle.lay_layouts.specs.Sound.{IsSound}
 use Rattle.lay_flat.specs.Graphs.{AreCallsTo, BeginsIn, CoverReached, first_symbols, graph_calls, symbol_calls, with_called}
 use Rattle.lay_flat.proofs.Addable.{IsPlaceable, all_placeable, cell_there}
 use Rattle.lay_flat.proofs.Reaching.{IsKnown, same_itself, same_number}

@@ -8,23 +8,23 @@ use Rattle.std.proofs.lemmas.List.{map-append}
 use Rattle.std.proofs.lemmas.List.Sums.{sum_by-cons}
 use Rattle.lay_point.specs.declared.turn.Turn.{Turn}
 use Rattle.lay_point.specs.Turns.{unturned}
-use Rattle.lay_cells.specs.declared.cell_id.CellId.{CellId}
-use Rattle.lay_cells.specs.declared.cell_id.CellId.TheVariants.{Symbol}
-use Rattle.lay_cells.specs.SameCell.{cell_eq, cell_eq-Decides}
-use Rattle.lay_cells.specs.Tallies.{greatest}
-use Rattle.lay_cells.specs.WalkLists.{IsWalk, called_symbol, calls_standing_in, longest, walks_from, walks_within}
-use Rattle.lay_cells.specs.Walks.{Calls, IsAcyclic}
-use Rattle.lay_cells.proofs.AcyclicLemmas.{few_in_all, stands}
-use Rattle.lay_cells.proofs.FewerCalls.{AreAmong, IsAcyclic-fewer}
-use Rattle.lay_cells.proofs.WalkListLemmas.{le-longest, length-more, listed, longest-le, longest-more, no_more, only_walks}
-use Rattle.lay_items.specs.declared.id.ItemId.{ItemId}
-use Rattle.lay_items.specs.declared.item.Item.{Item}
-use Rattle.lay_items.specs.declared.item.Item.TheVariants.{Placed, Shape}
-use Rattle.lay_items.specs.Calls.{calls_among, calls_of}
-use Rattle.lay_items.specs.Items.{items_in}
-use Rattle.lay_items.specs.Items.{standing_in as items_standing_in}
-use Rattle.lay_items.specs.Layout.{Layout}
-use Rattle.lay_items.specs.Lent.{LentCall, calls_in, calls_lent}
+use Rattle.lay_calls.specs.declared.cell_id.CellId.{CellId}
+use Rattle.lay_calls.specs.declared.cell_id.CellId.TheVariants.{Symbol}
+use Rattle.lay_calls.specs.SameCell.{cell_eq, cell_eq-Decides}
+use Rattle.lay_items.specs.Tallies.{greatest}
+use Rattle.lay_calls.specs.WalkLists.{IsWalk, called_symbol, calls_standing_in, longest, walks_from, walks_within}
+use Rattle.lay_calls.specs.Walks.{Calls, IsAcyclic}
+use Rattle.lay_items.proofs.AcyclicLemmas.{few_in_all, stands}
+use Rattle.lay_calls.proofs.FewerCalls.{AreAmong, IsAcyclic-fewer}
+use Rattle.lay_items.proofs.WalkListLemmas.{le-longest, length-more, listed, longest-le, longest-more, no_more, only_walks}
+use Rattle.lay_layouts.specs.declared.id.ItemId.{ItemId}
+use Rattle.lay_layouts.specs.declared.item.Item.{Item}
+use Rattle.lay_layouts.specs.declared.item.Item.TheVariants.{Placed, Shape}
+use Rattle.lay_layouts.specs.Calls.{calls_among, calls_of}
+use Rattle.lay_layouts.specs.Items.{items_in}
+use Rattle.lay_layouts.specs.Items.{standing_in as items_standing_in}
+use Rattle.lay_layouts.specs.Layout.{Layout}
+use Rattle.lay_layouts.specs.Lent.{LentCall, calls_in, calls_lent}
 use Rattle.lay_flat.specs.declared.ends.End.{End}
 use Rattle.lay_flat.specs.Ends.{end_along, ends_within, target_of, turn_after, walks_of}
 use Rattle.lay_flat.specs.Flattening.{AreWalks, ends_of}

@@ -4,7 +4,7 @@ use Rattle.std.proofs.Common.{length, refl, ap, sym, subst, arith, append_assoc,
 use Rattle.std.proofs.lemmas.List.{length-append, length-map, length-take-le, map-append, take_more}
 use Rattle.lay_point.specs.declared.point.Point.{Point}
 use Rattle.lay_point.specs.declared.turn.Turn.{Turn}
-use Rattle.lay_cells.specs.declared.cell_id.CellId.TheVariants.{Top}
+use Rattle.lay_calls.specs.declared.cell_id.CellId.TheVariants.{Top}
 use Rattle.lay_flat.specs.declared.ends.End.{End}
 use Rattle.lay_flat.specs.declared.fault.FlatFault.{FlatFault}
 use Rattle.lay_flat.specs.declared.fault.FlatFault.TheVariants.{TooMany}

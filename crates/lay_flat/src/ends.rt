@@ -2,7 +2,7 @@
 ghost use Rattle.std.specs.Prelude.{◌≡◌, ◌++◌, OnOk};
 ghost use Rattle.lay_flat.specs.Ends.{ends_within, turn_after};
 
-use lay_cells::CellId;
+use lay_calls::CellId;
 use lay_items::Snapshot;
 use lay_point::{NoMemory, Turn};
 

@@ -5,7 +5,7 @@ ghost use Rattle.std.specs.Prelude.{is_none};
 ghost use Rattle.lay_point.specs.Memory.{IsAnswer};
 ghost use Rattle.lay_point.specs.Points.{is_in_range};
 ghost use Rattle.lay_point.specs.Turns.{turned};
-ghost use Rattle.lay_items.specs.Layout.{is_cell};
+ghost use Rattle.lay_layouts.specs.Layout.{is_cell};
 ghost use Rattle.lay_flat.specs.Flat.{is_within};
 ghost use Rattle.lay_flat.specs.Flattening.{AreWalks, flat_of, tested};
 
@@ -14,7 +14,7 @@ use crate::fault::FlatFault;
 use crate::flat::{Flat, FlatRing, MAX_DEPTH, MAX_RINGS};
 use crate::graph::depth_and_walks;
 use crate::lending::{lend_rings, unturned};
-use lay_cells::CellId;
+use lay_calls::CellId;
 use lay_items::Snapshot;
 use lay_point::{LayerName, Point, Turn};
 use std::alloc::Global;

@@ -1,18 +1,18 @@
 //! The calls of the cells that a cell leads to, as a graph. What stands in other cells isn't looked at.
 ghost use Rattle.std.specs.Prelude.{◌≡◌, [], ◌++◌, IfOk, IsTrue, OnOk, length};
-ghost use Rattle.lay_cells.specs.Symbols.{has_cell};
-ghost use Rattle.lay_cells.specs.Tallies.{counted};
-ghost use Rattle.lay_cells.specs.WalkLists.{longest};
-ghost use Rattle.lay_items.specs.Layout.{is_cell};
-ghost use Rattle.lay_items.specs.Lent.{calls_in};
-ghost use Rattle.lay_items.specs.SlotOrder.{in_slot_order};
-ghost use Rattle.lay_items.specs.Sound.{IsSound};
+ghost use Rattle.lay_calls.specs.Symbols.{has_cell};
+ghost use Rattle.lay_items.specs.Tallies.{counted};
+ghost use Rattle.lay_calls.specs.WalkLists.{longest};
+ghost use Rattle.lay_layouts.specs.Layout.{is_cell};
+ghost use Rattle.lay_layouts.specs.Lent.{calls_in};
+ghost use Rattle.lay_layouts.specs.SlotOrder.{in_slot_order};
+ghost use Rattle.lay_layouts.specs.Sound.{IsSound};
 ghost use Rattle.lay_flat.specs.Ends.{walks_of};
 ghost use Rattle.lay_flat.specs.Graphs.{AreCallsTo, BeginsIn, CoverReached, IsGraphFrom, graph_calls};
 ghost use Rattle.lay_flat.specs.Graphs.{AreClosed, first_symbols, symbol_calls, top_calls, with_called};
 
-use lay_cells::{CallGraph, CellId, Cells};
-use lay_items::Snapshot;
+use lay_calls::{CellId, Cells};
+use lay_items::{CallGraph, Snapshot};
 use lay_point::NoMemory;
 use std::alloc::Global;
 

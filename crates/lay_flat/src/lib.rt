@@ -26,3 +26,4 @@ mod tests;
 pub use fault::FlatFault;
 pub use flat::{Flat, FlatRing, MAX_DEPTH, MAX_RINGS};
 pub use flattening::flatten;
+pub use lay_items::Snapshot;

@@ -1,9 +1,8 @@
 //! Tests of what no clause says: that calls succeed, and that definitions mean what they should.
 
 use super::*;
-use cif_read::read;
-use lay_cells::CellId;
-use lay_items::Snapshot;
+use lay_calls::CellId;
+use lay_items::{Snapshot, read};
 use lay_point::{LayerName, Point};
 use std::test::*;
 

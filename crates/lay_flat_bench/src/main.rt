@@ -6,7 +6,7 @@
 
 use anyhow::Context;
 use cif_read::read;
-use lay_cells::CellId;
+use lay_calls::CellId;
 use lay_flat::flatten;
 use lay_items::Snapshot;
 use lay_point::LayerName;

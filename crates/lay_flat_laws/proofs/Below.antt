@@ -2,12 +2,12 @@
 use Rattle.std.proofs.Common.{◌≡◌, inl, inr, ℕ, zero, suc, ◌+◌, ◌≤◌, Bool, List, [], ◌∷◌, ◌++◌, length, map, refl, sym, ap, ◌∙◌, arith}
 use Rattle.std.specs.Prelude.{Some, Result, Ok, Err, if◌then◌else◌, flat_map, nat_lt, unwrap_or}
 use Rattle.lay_point.proofs.Members.{Has, contains}
-use Rattle.lay_cells.specs.declared.cell_id.CellId.{CellId}
-use Rattle.lay_cells.specs.declared.cell_id.CellId.TheVariants.{Symbol}
-use Rattle.lay_cells.specs.WalkLists.{IsWalk, longest, walks_within}
-use Rattle.lay_items.specs.Layout.{Layout, is_cell}
-use Rattle.lay_items.specs.Lent.{LentCall, calls_in}
-use Rattle.lay_items.specs.Sound.{IsSound}
+use Rattle.lay_calls.specs.declared.cell_id.CellId.{CellId}
+use Rattle.lay_calls.specs.declared.cell_id.CellId.TheVariants.{Symbol}
+use Rattle.lay_calls.specs.WalkLists.{IsWalk, longest, walks_within}
+use Rattle.lay_flat.specs.Layout.{Layout, is_cell}
+use Rattle.lay_flat.specs.Lent.{LentCall, calls_in}
+use Rattle.lay_flat.specs.Sound.{IsSound}
 use Rattle.lay_flat.specs.declared.ends.End.{End}
 use Rattle.lay_point.specs.Turns.{unturned}
 use Rattle.lay_flat.specs.declared.fault.FlatFault.{FlatFault}

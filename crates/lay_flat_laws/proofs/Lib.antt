@@ -1,1 +1,3 @@
 pub mod Below
+pub use Rattle.lay_flat.proofs.LayoutWalks
+pub use Rattle.lay_flat.proofs.SoundLemmas

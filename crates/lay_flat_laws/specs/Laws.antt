@@ -1,11 +1,11 @@
 -- What a flattening reads of a layout: the calls, and the shapes on its layer, of the cells that walks from its cell lead to.
 -- Source: Caltech Intermediate Form 2.0, symbol definitions and calls.
 use Rattle.std.specs.Prelude.{◌≡◌, ℕ, List}
-use Rattle.lay_cells.specs.declared.cell_id.CellId.{CellId}
-use Rattle.lay_cells.specs.WalkLists.{IsWalk}
-use Rattle.lay_items.specs.Layout.{Layout, is_cell}
-use Rattle.lay_items.specs.Lent.{LentCall, calls_in, shapes_in}
-use Rattle.lay_items.specs.Sound.{IsSound}
+use Rattle.lay_calls.specs.declared.cell_id.CellId.{CellId}
+use Rattle.lay_calls.specs.WalkLists.{IsWalk}
+use Rattle.lay_flat.specs.Layout.{Layout, is_cell}
+use Rattle.lay_flat.specs.Lent.{LentCall, calls_in, shapes_in}
+use Rattle.lay_flat.specs.Sound.{IsSound}
 use Rattle.lay_flat.specs.Ends.{end_of, target_of}
 use Rattle.lay_flat.specs.Flattening.{flat_of}
 

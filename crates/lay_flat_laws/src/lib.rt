@@ -9,3 +9,4 @@
 mod laws;
 
 pub use laws::flattening_reads_what_is_below;
+pub use lay_flat::Snapshot;

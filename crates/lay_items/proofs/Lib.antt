@@ -1,12 +1,4 @@
-pub mod CallLemmas
-pub mod EntryLemmas
-pub mod DistinctLemmas
-pub mod MapLemmas
 pub mod NumberedLemmas
-pub mod SameLemmas
-pub mod SlotLemmas
 pub mod SoundLemmas
-pub mod SymbolLemmas
-pub mod HomeLemmas
-pub mod PutLemmas
-pub mod MergeLemmas
+pub use Rattle.cif_read.proofs.AcyclicLemmas
+pub use Rattle.cif_read.proofs.WalkListLemmas

@@ -7,17 +7,17 @@ use Rattle.std.specs.List.{AllByRecursion}
 use Rattle.std.specs.List.Sorted.{IsStrictlySortedBy}
 use Rattle.std.specs.Map.{keys_of}
 use Rattle.std.specs.Ordering.{eq_by_cmp, is_eq}
-use Rattle.cif_read.specs.declared.element.Element.{Element}
+use Rattle.cif_read.specs.Element.{Element}
 use Rattle.lay_items.specs.FromCif.{item_of, items_of_elements}
-use Rattle.lay_items.specs.declared.id.ItemId.{ItemId}
-use Rattle.lay_items.specs.declared.item.Item.{Item}
-use Rattle.lay_items.specs.IdOrder.{ids_total}
-use Rattle.lay_items.specs.Ids.{id_cmp}
-use Rattle.lay_items.specs.Layout.{map_of_items}
-use Rattle.lay_items.specs.LayoutWith.{numbered_from, text_id}
-use Rattle.lay_items.proofs.DistinctLemmas.{AreDistinct}
-use Rattle.lay_items.proofs.MapLemmas.{entries_again}
-use Rattle.lay_items.proofs.SlotLemmas.{lesser}
+use Rattle.lay_layouts.specs.declared.id.ItemId.{ItemId}
+use Rattle.lay_layouts.specs.declared.item.Item.{Item}
+use Rattle.lay_layouts.specs.IdOrder.{ids_total}
+use Rattle.lay_layouts.specs.Ids.{id_cmp}
+use Rattle.lay_layouts.specs.Layout.{map_of_items}
+use Rattle.lay_layouts.specs.LayoutWith.{numbered_from, text_id}
+use Rattle.lay_layouts.proofs.DistinctLemmas.{AreDistinct}
+use Rattle.lay_layouts.proofs.MapLemmas.{entries_again}
+use Rattle.lay_layouts.proofs.SlotLemmas.{lesser}
 
 -- ids of a text are ordered by their numbers
 text_ids : (p q : ℕ) → p < q → id_cmp (text_id p) (text_id q) ≡ Less

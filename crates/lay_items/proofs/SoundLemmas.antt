@@ -14,24 +14,24 @@ use Rattle.lay_point.specs.declared.point.Point.{Point}
 use Rattle.lay_point.specs.declared.ring.TheConstants.{MAX_RING_POINTS}
 use Rattle.lay_point.specs.Rings.{IsRing}
 use Rattle.lay_point.proofs.BridgeLemmas.{bridged_one}
-use Rattle.lay_cells.specs.declared.cell_id.CellId.{CellId}
-use Rattle.lay_cells.specs.declared.cell_id.CellId.TheVariants.{Symbol, Top}
-use Rattle.lay_cells.specs.declared.cells.TheConstants.{MAX_SYMBOL}
-use Rattle.lay_cells.specs.Symbols.{has_cell, has_symbol}
-use Rattle.lay_cells.specs.Walks.{IsAcyclic}
-use Rattle.cif_read.specs.declared.element.Element.{Element}
-use Rattle.cif_read.specs.declared.element.Figure.{Figure}
-use Rattle.cif_read.specs.declared.element.Figure.TheVariants.{Call, Polygon}
+use Rattle.lay_calls.specs.declared.cell_id.CellId.{CellId}
+use Rattle.lay_calls.specs.declared.cell_id.CellId.TheVariants.{Symbol, Top}
+use Rattle.lay_calls.specs.declared.cells.TheConstants.{MAX_SYMBOL}
+use Rattle.lay_calls.specs.Symbols.{has_cell, has_symbol}
+use Rattle.lay_calls.specs.Walks.{IsAcyclic}
+use Rattle.cif_read.specs.Element.{Element}
+use Rattle.cif_read.specs.Figure.{Figure}
+use Rattle.cif_read.specs.Figure.TheVariants.{Call, Polygon}
 use Rattle.cif_read.specs.Contents.{Contents, IsSoundElement, IsSoundFigure, IsSoundFile, element_calls, with_call}
-use Rattle.lay_items.specs.declared.slot.CellSlot.{CellSlot}
-use Rattle.lay_items.specs.declared.slot.CellSlot.TheVariants.{Base}
-use Rattle.lay_items.specs.Calls.{as_call, calls_among, calls_of}
-use Rattle.lay_items.specs.Calls as calls
+use Rattle.lay_layouts.specs.declared.slot.CellSlot.{CellSlot}
+use Rattle.lay_layouts.specs.declared.slot.CellSlot.TheVariants.{Base}
+use Rattle.lay_layouts.specs.Calls.{as_call, calls_among, calls_of}
+use Rattle.lay_layouts.specs.Calls as calls
 use Rattle.lay_items.specs.FromCif.{item_in, item_of, items_of_elements, layout_of}
-use Rattle.lay_items.specs.IdOrder.{ids_total}
-use Rattle.lay_items.specs.Layout.{is_cell}
-use Rattle.lay_items.specs.LayoutWith.{numbered_from, placed_from}
-use Rattle.lay_items.specs.Sound.{IsDrawn, IsSound, IsSoundItem}
+use Rattle.lay_layouts.specs.IdOrder.{ids_total}
+use Rattle.lay_layouts.specs.Layout.{is_cell}
+use Rattle.lay_layouts.specs.LayoutWith.{numbered_from, placed_from}
+use Rattle.lay_layouts.specs.Sound.{IsDrawn, IsSound, IsSoundItem}
 use Rattle.lay_items.proofs.NumberedLemmas.{entries-numbered, found-all}
 
 -- one ring draws a shape

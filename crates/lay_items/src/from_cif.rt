@@ -1,14 +1,11 @@
 //! The elements of a text as items.
 ghost use Rattle.std.specs.Prelude.{◌≡◌, IfOk};
 ghost use Rattle.lay_items.specs.FromCif.{item_of, items_of_elements};
-ghost use Rattle.lay_items.specs.LayoutWith.{numbered_from};
+ghost use Rattle.lay_layouts.specs.LayoutWith.{numbered_from};
 
-use crate::id::ItemId;
-use crate::item::{Item, Rings};
 use crate::numbered::text_id;
-use crate::parts::one_more;
 use cif_read::{Element, Figure};
-use lay_pages::{Pages, PagesBuilder};
+use lay_layouts::{Item, ItemId, Pages, PagesBuilder, Rings, one_more};
 use lay_point::NoMemory;
 use std::alloc::Global;
 

@@ -4,24 +4,18 @@ ghost use Rattle.std.specs.FinMap as map;
 ghost use Rattle.std.specs.List.Sorted.{IsStrictlySortedBy};
 ghost use Rattle.std.specs.Map.{keys_of};
 ghost use Rattle.lay_items.specs.FromCif.{items_of_elements};
-ghost use Rattle.lay_items.specs.Ids.{id_cmp};
-ghost use Rattle.lay_items.specs.Items.{standing_in};
-ghost use Rattle.lay_items.specs.Layout.{AreRising, map_of_items, put, put_all};
-ghost use Rattle.lay_items.specs.LayoutWith.{numbered_from};
-ghost use Rattle.lay_items.specs.SameLayout.{items_eq};
+ghost use Rattle.lay_layouts.specs.Ids.{id_cmp};
+ghost use Rattle.lay_layouts.specs.Items.{standing_in};
+ghost use Rattle.lay_layouts.specs.Layout.{AreRising, map_of_items, put, put_all};
+ghost use Rattle.lay_layouts.specs.LayoutWith.{numbered_from};
+ghost use Rattle.lay_layouts.specs.SameLayout.{items_eq};
 
-use crate::cell_index;
-use crate::cell_index::{Homes, homes_of};
-use crate::entries::{listed, merged, paged};
 use crate::from_cif::pages_of;
-use crate::id::ItemId;
-use crate::item::Item;
-use crate::iter::{Entries, Items};
 use crate::numbered::numbered;
-use crate::trees::are_same_pages;
 use cif_read::Element;
-use lay_cells::CellId;
-use lay_pages::Pages;
+use lay_calls::CellId;
+use lay_cell_items::{Entries, Homes, Items, cell_index, homes_of, listed, merged, paged};
+use lay_layouts::{Item, ItemId, Pages, are_same_pages};
 use lay_point::NoMemory;
 use std::alloc::Global;
 use std::marker::Model;
@@ -37,11 +31,11 @@ pub(crate) struct ItemMap {
 impl Model for ItemMap {
     ghost use Rattle.std.specs.FinMap as map;
     ghost use Rattle.std.specs.FinMap.{FinMap};
-    ghost use Rattle.lay_items.specs.contracts.item.Item as item;
-    ghost use Rattle.lay_items.specs.declared.item.Item.{Item};
-    ghost use Rattle.lay_items.specs.ByCell.{AreHeld};
-    ghost use Rattle.lay_items.specs.Ids.{coded_id, id_cmp};
-    ghost use Rattle.lay_items.specs.Layout.{map_of_items};
+    ghost use Rattle.lay_layouts.specs.contracts.item.Item as item;
+    ghost use Rattle.lay_layouts.specs.declared.item.Item.{Item};
+    ghost use Rattle.lay_cell_items.specs.ByCell.{AreHeld};
+    ghost use Rattle.lay_layouts.specs.Ids.{coded_id, id_cmp};
+    ghost use Rattle.lay_layouts.specs.Layout.{map_of_items};
 
     ghost Value = { FinMap id_cmp Item };
 

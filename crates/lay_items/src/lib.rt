@@ -1,7 +1,7 @@
 //! Items of a layout, versions of a layout, and snapshots that lend what they hold.
 //!
 //! A `Version` is a layout: a finite map from item ids to items, and one from symbol numbers to
-//! slots. Contracts see it as the record `Layout` of `specs/Layout.antt`, however it is kept. It also
+//! slots. Contracts see it as the record `Layout` of `lay_layouts/specs/Layout.antt`, however it is kept. It also
 //! keeps in its type the symbols' numbers in the order of their slots. A `Snapshot` owns a shared version
 //! and keeps in its type that the layout is sound: symbols have numbers within the limit and places of
 //! their own; each item stands in a cell that is there; each shape is drawn by rings, with a bridged path
@@ -15,26 +15,16 @@
 //! ```
 #![tactic(auto)]
 
-mod cell_index;
-mod entries;
 mod from_cif;
-mod id;
-mod item;
 mod item_map;
-mod iter;
 mod numbered;
-mod parts;
-mod slot;
 mod snapshot;
-mod symbol_map;
 #[cfg(test)]
 mod tests;
-mod trees;
 mod version;
 
-pub use id::ItemId;
-pub use item::{Item, Rings};
-pub use iter::{Calls, Entries, Items, Shapes};
+pub use cif_read::{CallGraph, read};
+pub use lay_cell_items::{Calls, Entries, Items, Shapes};
+pub use lay_layouts::{CellSlot, Item, ItemId, Rings};
 pub use snapshot::Snapshot;
-pub use slot::CellSlot;
 pub use version::Version;

@@ -1,11 +1,8 @@
 //! Items under the ids of a text.
 ghost use Rattle.std.specs.Prelude.{◌≡◌, IfOk};
-ghost use Rattle.lay_items.specs.LayoutWith.{numbered_from, text_id};
+ghost use Rattle.lay_layouts.specs.LayoutWith.{numbered_from, text_id};
 
-use crate::id::ItemId;
-use crate::item::Item;
-use crate::parts::one_more;
-use lay_pages::{Pages, PagesBuilder};
+use lay_layouts::{Item, ItemId, Pages, PagesBuilder, one_more};
 use lay_point::NoMemory;
 use std::alloc::Global;
 

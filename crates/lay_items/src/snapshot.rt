@@ -3,19 +3,17 @@ ghost use Rattle.std.specs.Prelude.{◌≡◌, Ok, option_copied};
 ghost use Rattle.std.specs.FinMap as map;
 ghost use Rattle.lay_point.specs.Memory.{IsAnswer};
 ghost use Rattle.lay_items.specs.FromCif.{layout_of};
-ghost use Rattle.lay_items.specs.Items.{items_in};
-ghost use Rattle.lay_items.specs.Layout.{item_at};
-ghost use Rattle.lay_items.specs.Lent.{calls_in, points_at, shapes_in};
-ghost use Rattle.lay_items.specs.SlotOrder.{in_slot_order};
-ghost use Rattle.lay_items.specs.Sound.{IsSound};
+ghost use Rattle.lay_layouts.specs.Items.{items_in};
+ghost use Rattle.lay_layouts.specs.Layout.{item_at};
+ghost use Rattle.lay_layouts.specs.Lent.{calls_in, points_at, shapes_in};
+ghost use Rattle.lay_layouts.specs.SlotOrder.{in_slot_order};
+ghost use Rattle.lay_layouts.specs.Sound.{IsSound};
 
-use crate::id::ItemId;
-use crate::item::Item;
-use crate::iter::{Calls, Items, Shapes};
-use crate::slot::CellSlot;
 use crate::version::Version;
 use cif_read::CifFile;
-use lay_cells::{CellId, Cells};
+use lay_calls::{CellId, Cells};
+use lay_cell_items::{Calls, Items, Shapes};
+use lay_layouts::{CellSlot, Item, ItemId};
 use lay_point::{LayerName, NoMemory, Point};
 use std::alloc::Global;
 use std::marker::Model;
@@ -29,8 +27,8 @@ pub struct Snapshot {
 
 impl Model for Snapshot {
     ghost use Rattle.std.specs.Arc.{arc_value};
-    ghost use Rattle.lay_items.specs.Layout.{Layout, coded_layout};
-    ghost use Rattle.lay_items.specs.Sound.{IsSound};
+    ghost use Rattle.lay_layouts.specs.Layout.{Layout, coded_layout};
+    ghost use Rattle.lay_layouts.specs.Sound.{IsSound};
 
     ghost Value = { Layout };
 
@@ -124,7 +122,7 @@ impl Snapshot {
     }
 
     /// Lends the shapes of a cell on a layer, each its id and its rings, in order of their ids.
-    #[tactic(auto, unfolding(crate::specs::Lent::shapes_in))]
+    #[tactic(auto, unfolding(lay_layouts::specs::Lent::shapes_in))]
     pub fn shapes(&self, cell: CellId, layer: &LayerName) -> Shapes<'_>
         ensures { result ≡ shapes_in self.now cell layer.now }
     {
@@ -133,7 +131,7 @@ impl Snapshot {
 
     /// Lends the calls that stand in a cell, each its id, the number of the symbol that it calls and what is
     /// done to that, in order of their ids.
-    #[tactic(auto, unfolding(crate::specs::Lent::calls_in))]
+    #[tactic(auto, unfolding(lay_layouts::specs::Lent::calls_in))]
     pub fn calls(&self, cell: CellId) -> Calls<'_>
         ensures { result ≡ calls_in self.now cell }
     {
@@ -142,7 +140,7 @@ impl Snapshot {
 }
 
 impl PartialEq for Snapshot {
-    ghost use Rattle.lay_items.specs.SameLayout.{layout_eq, layout_eq_partial};
+    ghost use Rattle.lay_layouts.specs.SameLayout.{layout_eq, layout_eq_partial};
 
     ghost eq = { layout_eq };
 
@@ -154,7 +152,7 @@ impl PartialEq for Snapshot {
 }
 
 impl Eq for Snapshot {
-    ghost use Rattle.lay_items.specs.SameLayout.{layout_eq_equiv};
+    ghost use Rattle.lay_layouts.specs.SameLayout.{layout_eq_equiv};
 
     ghost laws = { layout_eq_equiv };
 }

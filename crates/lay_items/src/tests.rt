@@ -2,7 +2,7 @@
 ghost use Rattle.std.specs.Prelude.{◌≡◌};
 
 use super::*;
-use lay_cells::{CellId, Cells};
+use lay_calls::{CellId, Cells};
 use lay_point::{LayerName, Point, Quarter, Ring, Turn};
 use std::alloc::Global;
 use std::collections::BTreeMap;

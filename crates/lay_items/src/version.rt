@@ -5,21 +5,18 @@ ghost use Rattle.std.specs.FinMap as map;
 ghost use Rattle.std.specs.Ordering.{nat_cmp};
 ghost use Rattle.lay_point.specs.Memory.{IsAnswer};
 ghost use Rattle.lay_items.specs.FromCif.{items_of_elements};
-ghost use Rattle.lay_items.specs.Ids.{id_cmp};
-ghost use Rattle.lay_items.specs.Items.{items_in};
-ghost use Rattle.lay_items.specs.Layout.{AreRising, changed, is_cell, item_at, no_items, put_all};
-ghost use Rattle.lay_items.specs.LayoutWith.{layout_with};
-ghost use Rattle.lay_items.specs.Same.{symbols_eq};
-ghost use Rattle.lay_items.specs.SlotOrder.{in_slot_order};
+ghost use Rattle.lay_layouts.specs.Ids.{id_cmp};
+ghost use Rattle.lay_layouts.specs.Items.{items_in};
+ghost use Rattle.lay_layouts.specs.Layout.{AreRising, changed, is_cell, item_at, no_items, put_all};
+ghost use Rattle.lay_layouts.specs.LayoutWith.{layout_with};
+ghost use Rattle.lay_layouts.specs.Same.{symbols_eq};
+ghost use Rattle.lay_layouts.specs.SlotOrder.{in_slot_order};
 
-use crate::id::ItemId;
-use crate::item::Item;
 use crate::item_map::ItemMap;
-use crate::iter::{Entries, Items};
-use crate::slot::CellSlot;
-use crate::symbol_map::SymbolMap;
 use cif_read::Element;
-use lay_cells::{CellId, Cells};
+use lay_calls::{CellId, Cells};
+use lay_cell_items::{Entries, Items};
+use lay_layouts::{CellSlot, Item, ItemId, SymbolMap};
 use lay_point::NoMemory;
 use std::alloc::Global;
 use std::marker::Model;
@@ -35,7 +32,7 @@ pub struct Version {
 
 impl Model for Version {
     ghost use Rattle.std.specs.Arc.{arc_value};
-    ghost use Rattle.lay_items.specs.Layout.{Layout, coded_layout};
+    ghost use Rattle.lay_layouts.specs.Layout.{Layout, coded_layout};
 
     ghost Value = { Layout };
 
@@ -142,7 +139,7 @@ impl Version {
     }
 
     /// Lends the items of a cell, in order of their ids. It doesn't go over those of other cells.
-    #[tactic(auto, unfolding(crate::specs::Items::items_in))]
+    #[tactic(auto, unfolding(lay_layouts::specs::Items::items_in))]
     pub fn items(&self, cell: CellId) -> Items<'_>
         ensures { result ≡ items_in self.now cell }
     {
@@ -212,7 +209,7 @@ impl Version {
 }
 
 impl PartialEq for Version {
-    ghost use Rattle.lay_items.specs.SameLayout.{layout_eq, layout_eq_partial};
+    ghost use Rattle.lay_layouts.specs.SameLayout.{layout_eq, layout_eq_partial};
 
     ghost eq = { layout_eq };
 
@@ -224,7 +221,7 @@ impl PartialEq for Version {
 }
 
 impl Eq for Version {
-    ghost use Rattle.lay_items.specs.SameLayout.{layout_eq_equiv};
+    ghost use Rattle.lay_layouts.specs.SameLayout.{layout_eq_equiv};
 
     ghost laws = { layout_eq_equiv };
 }

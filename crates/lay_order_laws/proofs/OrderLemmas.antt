@@ -12,18 +12,18 @@ use Rattle.std.proofs.lemmas.Bool.{and_parts, false≢true}
 use Rattle.lay_point.specs.Same.{names_eq}
 use Rattle.lay_point.specs.Turns.{unturned}
 use Rattle.lay_point.proofs.Members.{Has, has, has-append}
-use Rattle.lay_cells.specs.declared.cell_id.CellId.{CellId}
-use Rattle.lay_cells.specs.declared.cell_id.CellId.TheVariants.{Symbol}
-use Rattle.lay_cells.specs.SameCell.{cell_eq}
-use Rattle.lay_cells.specs.WalkLists.{walks_within}
-use Rattle.lay_items.specs.declared.id.ItemId.{ItemId}
-use Rattle.lay_items.specs.declared.item.Item.{Item}
-use Rattle.lay_items.specs.declared.item.Item.TheVariants.{Placed, Shape}
-use Rattle.lay_items.specs.Calls.{calls_of}
-use Rattle.lay_items.specs.Ids.{id_cmp}
-use Rattle.lay_items.specs.Items.{cell_of, items_in}
-use Rattle.lay_items.specs.Layout.{Layout}
-use Rattle.lay_items.specs.Lent.{LentCall, LentShape, call_lent, calls_in, shape_on, shapes_in}
+use Rattle.lay_calls.specs.declared.cell_id.CellId.{CellId}
+use Rattle.lay_calls.specs.declared.cell_id.CellId.TheVariants.{Symbol}
+use Rattle.lay_calls.specs.SameCell.{cell_eq}
+use Rattle.lay_calls.specs.WalkLists.{walks_within}
+use Rattle.lay_layouts.specs.declared.id.ItemId.{ItemId}
+use Rattle.lay_layouts.specs.declared.item.Item.{Item}
+use Rattle.lay_layouts.specs.declared.item.Item.TheVariants.{Placed, Shape}
+use Rattle.lay_layouts.specs.Calls.{calls_of}
+use Rattle.lay_layouts.specs.Ids.{id_cmp}
+use Rattle.lay_layouts.specs.Items.{cell_of, items_in}
+use Rattle.lay_layouts.specs.Layout.{Layout}
+use Rattle.lay_layouts.specs.Lent.{LentCall, LentShape, call_lent, calls_in, shape_on, shapes_in}
 use Rattle.lay_flat.specs.Ends.{end_along, end_of, target_of, walks_of}
 use Rattle.lay_flat.specs.Flattening.{drawn_at, ends_of}
 use Rattle.lay_order_laws.specs.Order.{AreInOrder, IsIdBefore, IsPlaceBefore, IsWalkBefore, ShapesAreNumberedInOrder, WalkedShape}

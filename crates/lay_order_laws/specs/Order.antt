@@ -3,11 +3,11 @@
 use Rattle.std.specs.Prelude.{◌≡◌, ◌⊎◌, ℕ, List, [], ◌∷◌, Some, Contains, flat_map, map, unwrap_or, ⊤}
 use Rattle.std.specs.declared.cmp.Ordering.TheVariants.{Less}
 use Rattle.lay_point.specs.Turns.{unturned}
-use Rattle.lay_cells.specs.declared.cell_id.CellId.{CellId}
-use Rattle.lay_items.specs.declared.id.ItemId.{ItemId}
-use Rattle.lay_items.specs.Ids.{id_cmp}
-use Rattle.lay_items.specs.Layout.{Layout}
-use Rattle.lay_items.specs.Lent.{LentCall, LentShape, shapes_in}
+use Rattle.lay_calls.specs.declared.cell_id.CellId.{CellId}
+use Rattle.lay_layouts.specs.declared.id.ItemId.{ItemId}
+use Rattle.lay_layouts.specs.Ids.{id_cmp}
+use Rattle.lay_layouts.specs.Layout.{Layout}
+use Rattle.lay_layouts.specs.Lent.{LentCall, LentShape, shapes_in}
 use Rattle.lay_flat.specs.Ends.{end_of, turn_along, walks_of}
 use Rattle.lay_flat.specs.Flattening.{Drawn, drawn_at, ends_of}
 

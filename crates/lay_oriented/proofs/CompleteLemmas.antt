@@ -1,8 +1,8 @@
 -- Writes that are found item by item.
 use Rattle.std.proofs.Common.{◌≡◌, ◌∙◌, ◌+◌, ◌++◌, ℕ, suc, List, [], ◌∷◌, Some, inl, inr, refl, ap, sym, subst, append_assoc, arith}
-use Rattle.lay_items.specs.declared.id.ItemId.{ItemId}
-use Rattle.lay_items.specs.declared.item.Item.{Item}
-use Rattle.lay_items.specs.Layout.{Write}
+use Rattle.lay_layouts.specs.declared.id.ItemId.{ItemId}
+use Rattle.lay_layouts.specs.declared.item.Item.{Item}
+use Rattle.lay_layouts.specs.Layout.{Write}
 use Rattle.lay_oriented.specs.Directed.{IsSeenAlike, IsShape, IsTurned}
 use Rattle.lay_oriented.specs.Steps.{AreWrites}
 

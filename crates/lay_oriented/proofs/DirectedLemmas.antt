@@ -8,17 +8,17 @@ use Rattle.std.specs.List.{AllByRecursion}
 use Rattle.std.specs.List.Sorted.{IsStrictlySortedBy}
 use Rattle.std.specs.Map.{keys_of}
 use Rattle.std.specs.Ordering.{eq_by_cmp, is_eq}
-use Rattle.lay_cells.specs.Walks.{IsAcyclic}
-use Rattle.lay_items.specs.declared.id.ItemId.{ItemId}
-use Rattle.lay_items.specs.declared.item.Item.{Item}
-use Rattle.lay_items.specs.declared.item.Item.TheVariants.{Placed, Shape}
-use Rattle.lay_items.specs.Calls.{calls_among, calls_of}
-use Rattle.lay_items.specs.IdOrder.{ids_exact, ids_total}
-use Rattle.lay_items.specs.Ids.{id_cmp}
-use Rattle.lay_items.specs.Layout.{AreRising, Layout, Write, changed, is_cell, map_of_items, put, put_all}
-use Rattle.lay_items.specs.Sound.{IsSound, IsSoundItem}
-use Rattle.lay_items.proofs.MapLemmas.{entries_again, sorted_keys}
-use Rattle.lay_items.proofs.SlotLemmas.{tested}
+use Rattle.lay_calls.specs.Walks.{IsAcyclic}
+use Rattle.lay_layouts.specs.declared.id.ItemId.{ItemId}
+use Rattle.lay_layouts.specs.declared.item.Item.{Item}
+use Rattle.lay_layouts.specs.declared.item.Item.TheVariants.{Placed, Shape}
+use Rattle.lay_layouts.specs.Calls.{calls_among, calls_of}
+use Rattle.lay_layouts.specs.IdOrder.{ids_exact, ids_total}
+use Rattle.lay_layouts.specs.Ids.{id_cmp}
+use Rattle.lay_layouts.specs.Layout.{AreRising, Layout, Write, changed, is_cell, map_of_items, put, put_all}
+use Rattle.lay_layouts.specs.Sound.{IsSound, IsSoundItem}
+use Rattle.lay_layouts.proofs.MapLemmas.{entries_again, sorted_keys}
+use Rattle.lay_layouts.proofs.SlotLemmas.{tested}
 use Rattle.lay_oriented.specs.Directed.{AreDirected, IsDirected, IsTurned}
 use Rattle.lay_oriented.specs.Steps.{AreWrites}
 

@@ -6,11 +6,11 @@ use Rattle.std.specs.FinMap as map
 use Rattle.lay_point.specs.declared.point.Point.{Point}
 use Rattle.lay_point.specs.Bridges.{bridged}
 use Rattle.lay_point.specs.RingEdges.{edges_of, edges_of_ring}
-use Rattle.lay_items.specs.declared.id.ItemId.{ItemId}
-use Rattle.lay_items.specs.declared.item.Item.{Item}
-use Rattle.lay_items.specs.declared.item.Item.TheVariants.{Placed, Shape}
-use Rattle.lay_items.specs.Layout.{Layout}
-use Rattle.lay_items.specs.Sound.{IsDrawn}
+use Rattle.lay_layouts.specs.declared.id.ItemId.{ItemId}
+use Rattle.lay_layouts.specs.declared.item.Item.{Item}
+use Rattle.lay_layouts.specs.declared.item.Item.TheVariants.{Placed, Shape}
+use Rattle.lay_layouts.specs.Layout.{Layout}
+use Rattle.lay_layouts.specs.Sound.{IsDrawn}
 use Rattle.lay_winding.specs.Oriented.{AreOriented, GoRound}
 
 -- the one path round these rings goes once round each place inside by their parity, and not round any other

@@ -1,8 +1,8 @@
 -- What is found for each item, and what is written then. No public clause cites this module.
 use Rattle.std.specs.Prelude.{◌≡◌, ◌⊎◌, ℕ, suc, List, [], ◌∷◌, Some}
-use Rattle.lay_items.specs.declared.id.ItemId.{ItemId}
-use Rattle.lay_items.specs.declared.item.Item.{Item}
-use Rattle.lay_items.specs.Layout.{Write}
+use Rattle.lay_layouts.specs.declared.id.ItemId.{ItemId}
+use Rattle.lay_layouts.specs.declared.item.Item.{Item}
+use Rattle.lay_layouts.specs.Layout.{Write}
 use Rattle.lay_oriented.specs.declared.directing.Step.{Step}
 use Rattle.lay_oriented.specs.declared.directing.Step.TheVariants.{Alike, Otherwise, Turned}
 use Rattle.lay_oriented.specs.Directed.{IsSeenAlike, IsShape, IsTurned}

@@ -3,12 +3,13 @@ ghost use Rattle.std.specs.Prelude.{◌≡◌, ◌≤◌, IfOk, length, true};
 ghost use Rattle.std.specs.FinMap as map;
 ghost use Rattle.std.specs.List.{AllByRecursion};
 ghost use Rattle.lay_point.specs.Rings.{IsRing};
-ghost use Rattle.lay_items.specs.Sound.{IsDrawn};
+ghost use Rattle.lay_layouts.specs.Sound.{IsDrawn};
 ghost use Rattle.lay_oriented.specs.Directed.{IsDirected};
 ghost use Rattle.lay_oriented.specs.Steps.{AreWrites, IsFoundFor};
 
 use face_rings::bridge;
-use lay_items::{Item, ItemId, Rings, Snapshot, Version};
+use lay_items::{Snapshot, Version};
+use lay_layouts::{Item, ItemId, Rings};
 use lay_point::{MAX_RING_POINTS, NoMemory, Ring};
 use lay_winding::{Oriented, orient};
 use std::alloc::Global;

@@ -2,7 +2,8 @@
 
 use crate::oriented_layout;
 use cif_read::read;
-use lay_items::{ItemId, Snapshot};
+use lay_items::Snapshot;
+use lay_layouts::ItemId;
 use std::test::*;
 
 const FIRST: ItemId = ItemId {

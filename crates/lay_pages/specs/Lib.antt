@@ -1,2 +1,1 @@
-pub mod Shared
-pub mod Written
+pub use Rattle.lay_page.specs.Written

@@ -3,12 +3,10 @@ ghost use Rattle.std.specs.Prelude.{◌≡◌, ◌<◌, length, option_copied};
 ghost use Rattle.std.specs.FinMap.{find};
 ghost use Rattle.std.specs.List.Sorted.{IsStrictlySortedBy};
 ghost use Rattle.std.specs.Map.{keys_of};
-ghost use Rattle.lay_pages.specs.Shared.{AreBooks, AreSized, entries_in, items_of, joined, pages_in};
-ghost use Rattle.lay_pages.specs.Written.{IsPart};
+ghost use Rattle.lay_page.specs.Shared.{AreBooks, AreSized, entries_in, items_of, joined, pages_in};
+ghost use Rattle.lay_page.specs.Written.{IsPart};
 
-use crate::keys::{Kept, PageKey};
-use crate::page::{Book, Page, find_on};
-use crate::place::{book_of, page_of};
+use lay_page::{Book, Kept, Page, PageKey, book_of, find_on, page_of};
 use std::marker::Model;
 
 /// Finds the values of a map, with few comparisons where a key is near the last. Contracts see the
@@ -22,8 +20,8 @@ pub struct Finder<'a, K: PageKey, V: Kept> {
 
 impl<'a, K: PageKey, V: Kept> Model for Finder<'a, K, V> {
     ghost use Rattle.std.specs.Prelude.{List};
-    ghost use Rattle.lay_pages.specs.Shared.{entries_in, pages_in};
-    ghost use Rattle.lay_pages.specs.Written.{AreNear};
+    ghost use Rattle.lay_page.specs.Shared.{entries_in, pages_in};
+    ghost use Rattle.lay_page.specs.Written.{AreNear};
 
     ghost Value = { List (K × V) };
 

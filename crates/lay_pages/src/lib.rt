@@ -9,13 +9,8 @@
 mod builder;
 mod entries;
 mod finder;
-mod keys;
-mod lists;
 mod look;
-mod page;
 mod pages;
-mod place;
-mod share;
 #[cfg(test)]
 mod tests;
 mod update;
@@ -23,6 +18,5 @@ mod update;
 pub use builder::PagesBuilder;
 pub use entries::Entries;
 pub use finder::Finder;
-pub use keys::{Kept, PageKey};
-pub use page::around;
+pub use lay_page::{Kept, PageKey, around};
 pub use pages::Pages;

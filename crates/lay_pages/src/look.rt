@@ -3,12 +3,9 @@ ghost use Rattle.std.specs.Prelude.{◌≡◌, ◌<◌, ◌≤◌, ◌*◌, leng
 ghost use Rattle.std.specs.FinMap.{find};
 ghost use Rattle.std.specs.List.Sorted.{IsStrictlySortedBy};
 ghost use Rattle.std.specs.Map.{keys_of};
-ghost use Rattle.lay_pages.specs.Shared.{AreBooks, AreSized, entries_in, items_of, joined, pages_in};
+ghost use Rattle.lay_page.specs.Shared.{AreBooks, AreSized, entries_in, items_of, joined, pages_in};
 
-use crate::keys::{Kept, PageKey};
-use crate::page;
-use crate::page::{Book, Page};
-use crate::place::{book_of, page_of};
+use lay_page::{Book, Kept, Page, PageKey, book_of, page, page_of};
 
 /// Returns the value under the key.
 pub(crate) fn find<K: PageKey, V: Kept>(books: &[Book<K, V>], key: K) -> Option<&V>

@@ -4,16 +4,14 @@ ghost use Rattle.std.specs.Cmp.Lexicographic.{pointwise};
 ghost use Rattle.std.specs.FinMap.{find};
 ghost use Rattle.std.specs.List.Sorted.{IsStrictlySortedBy};
 ghost use Rattle.std.specs.Map.{keys_of};
-ghost use Rattle.lay_pages.specs.Shared.{AreCountedBooks, entries_in, pages_in};
-ghost use Rattle.lay_pages.specs.Written.{after_write, are_equal, count_of, from_key, written_all};
+ghost use Rattle.lay_page.specs.Shared.{AreCountedBooks, entries_in, pages_in};
+ghost use Rattle.lay_page.specs.Written.{after_write, are_equal, count_of, from_key, written_all};
 
 use crate::entries::{Entries, are_same};
 use crate::finder::Finder;
-use crate::keys::{Kept, PageKey};
 use crate::look::{count_pages, find};
-use crate::page::Book;
-use crate::share::append;
 use crate::update::books_with;
+use lay_page::{Book, Kept, PageKey, append};
 use std::alloc::{AllocError, Global};
 use std::marker::Model;
 
@@ -27,7 +25,7 @@ pub struct Pages<K: PageKey, V: Kept> {
 
 impl<K: PageKey, V: Kept> Model for Pages<K, V> {
     ghost use Rattle.std.specs.Prelude.{List};
-    ghost use Rattle.lay_pages.specs.Shared.{AreCountedBooks, entries_in, pages_in};
+    ghost use Rattle.lay_page.specs.Shared.{AreCountedBooks, entries_in, pages_in};
 
     ghost Value = { List (K × V) };
 

@@ -3,14 +3,10 @@ ghost use Rattle.std.specs.Prelude.{◌≡◌, ◌<◌, ◌≤◌, [], IfOk, len
 ghost use Rattle.std.specs.List.{AllByRecursion};
 ghost use Rattle.std.specs.List.Sorted.{IsStrictlySortedBy};
 ghost use Rattle.std.specs.Map.{keys_of};
-ghost use Rattle.lay_pages.specs.Shared.{AreBooks, AreSized, entries_in, items_of, joined, pages_in};
-ghost use Rattle.lay_pages.specs.Written.{after_write};
+ghost use Rattle.lay_page.specs.Shared.{AreBooks, AreSized, entries_in, items_of, joined, pages_in};
+ghost use Rattle.lay_page.specs.Written.{after_write};
 
-use crate::keys::{Kept, PageKey};
-use crate::page;
-use crate::page::{Book, Page};
-use crate::place::{book_of, page_of};
-use crate::share::{cut, spliced};
+use lay_page::{Book, Kept, Page, PageKey, book_of, cut, page, page_of, spliced};
 use std::alloc::{AllocError, Global};
 use std::cmp::Ordering;
 

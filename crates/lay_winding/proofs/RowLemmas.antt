@@ -17,7 +17,7 @@ use Rattle.lay_int_laws.proofs.Signs.{
 }
 use Rattle.lay_point.specs.declared.point.Point.{Point}
 use Rattle.lay_point.specs.Parity.{is_crossed_rising, rises_past, distance_right}
-use Rattle.snap_pixels.specs.Segments.{cross}
+use Rattle.snap_segments.specs.Segments.{cross}
 use Rattle.lay_winding.specs.declared.slant.Slant.{Slant}
 use Rattle.lay_winding.specs.Slants.{counts, gap_at_bottom, gap_at_top, is_not_left, leads, signed, slant_count, spans, take_turns}
 use Rattle.lay_winding.specs.Once.{IsZeroOrOne}

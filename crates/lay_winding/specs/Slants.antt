@@ -23,7 +23,7 @@ use Rattle.std.specs.Prelude.{
 use Rattle.std.specs.Bool.{beq}
 use Rattle.lay_point.specs.declared.point.Point.{Point}
 use Rattle.lay_point.specs.Parity.{is_crossed_rising}
-use Rattle.snap_pixels.specs.Segments.{cross}
+use Rattle.snap_segments.specs.Segments.{cross}
 use Rattle.lay_winding.specs.declared.slant.Slant.{Slant}
 use Rattle.lay_winding.specs.Winding.{sum_of}
 

@@ -3,7 +3,7 @@
 use crate::slant::{Slant, slants_of};
 use crate::sweep::{add_begun, ending_above, heights_of};
 use lay_point::Point;
-use snap_pixels::area;
+use snap_segments::area;
 use std::alloc::{AllocError, Global};
 
 /// Returns the edges, each in the direction in which what is inside by parity lies on its left. Of the

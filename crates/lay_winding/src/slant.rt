@@ -3,7 +3,7 @@ ghost use Rattle.std.specs.Prelude.{◌≡◌, IfOk, int_le, ◌&&◌};
 ghost use Rattle.lay_winding.specs.Slants.{gap_at_bottom, gap_at_top, is_not_left, slant_of, slants_of, spans};
 
 use lay_point::Point;
-use snap_pixels::area;
+use snap_segments::area;
 use std::alloc::{AllocError, Global};
 
 /// An edge that isn't level.

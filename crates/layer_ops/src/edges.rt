@@ -2,15 +2,16 @@
 ghost use Rattle.std.specs.Prelude.{◌≡◌, All, IfOk, OnOk, filter, length, map};
 ghost use Rattle.std.specs.List.{zip};
 ghost use Rattle.lay_flat.specs.Flat.{IsFlat};
-ghost use Rattle.face_labels.specs.Operations.{edges_of_op};
+ghost use Rattle.face_rows.specs.Operations.{edges_of_op};
 ghost use Rattle.bool_shape_laws.specs.Shapes.{rounded_inputs};
 
 use crate::turning::{add_turned, lend_all};
 use band_workers::Bands;
-use face_labels::Op;
+use face_rows::Op;
 use lay_flat::Flat;
 use lay_point::{Edge, NoMemory};
-use snap_chains::{CleanEdges, Input, round};
+use snap_chains::{CleanEdges, round};
+use snap_visits::Input;
 use std::alloc::{AllocError, Global};
 use std::thread::Threads;
 

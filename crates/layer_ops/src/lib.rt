@@ -21,6 +21,7 @@ mod shapes;
 mod tests;
 mod turning;
 
+pub use band_workers::Bands;
 pub use bool_shape_laws::MAX_SEGMENTS;
 pub use combining::combine;
 pub use fault::OpFault;

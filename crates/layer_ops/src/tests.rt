@@ -4,10 +4,9 @@ ghost use Rattle.std.specs.Prelude.{◌≡◌};
 
 use super::*;
 use band_workers::OneBand;
-use face_labels::Op;
-use lay_cells::CellId;
-use lay_flat::flatten;
-use lay_items::Snapshot;
+use face_rows::Op;
+use lay_calls::CellId;
+use lay_flat::{Snapshot, flatten};
 use lay_point::{LayerName, Point, Ring};
 use std::alloc::Global;
 use std::test::*;

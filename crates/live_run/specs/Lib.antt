@@ -3,3 +3,5 @@ pub mod Said
 pub mod Ending
 pub mod Course
 pub mod Ear
+pub use Rattle.job_live.specs.Machine
+pub use Rattle.job_live.specs.TheConstants

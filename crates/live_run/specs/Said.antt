@@ -1,10 +1,10 @@
 -- What is said in a live run, once these lines came.
 use Rattle.std.specs.Prelude.{◌≡◌, ℕ, List, [], ◌∷◌, ◌++◌, replicate, if◌then◌else◌, Option, None, Some, Ok}
-use Rattle.cif_read.specs.Contents.{Contents}
-use Rattle.cif_read.specs.Meaning.{IsMeaning}
+use Rattle.cif_content.specs.Contents.{Contents}
+use Rattle.cif_content.specs.Meaning.{IsMeaning}
 use Rattle.cif_write.specs.Text.{text}
 use Rattle.lay_items.specs.FromCif.{layout_of}
-use Rattle.lay_items.specs.Layout.{Layout}
+use Rattle.lay_layouts.specs.Layout.{Layout}
 use Rattle.session_steps.specs.Turns.{dealt}
 use Rattle.job_text.specs.Order.{order_of, order_text}
 use Rattle.job_live.specs.Live.{LiveRun, Said, after_line, after_lines, before_first_line}

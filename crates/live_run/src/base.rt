@@ -9,7 +9,8 @@ ghost use Rattle.live_run.specs.Cif.{cif_from, has_no_script};
 ghost use Rattle.live_run.specs.Course.{IsBaseOf, OpensTo, Refuses, end_of_head, head_cif, head_job};
 
 use crate::ending::LiveEnd;
-use cif_read::{CifFault, FaultKind, read};
+use cif_content::{CifFault, FaultKind};
+use cif_read::read;
 use job_live::Live;
 use job_text::{Job, JobFault};
 use lay_items::Snapshot;

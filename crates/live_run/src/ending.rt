@@ -4,7 +4,7 @@ ghost use Rattle.live_run.specs.declared.ending.LiveEnd.TheVariants.{Device as D
 ghost use Rattle.live_run.specs.Course.{end_of_write};
 
 use byte_io::InFault;
-use cif_read::CifFault;
+use cif_content::CifFault;
 use cif_write::WriteFault;
 use lay_point::NoMemory;
 

@@ -30,4 +30,5 @@ mod run;
 mod tests;
 
 pub use ending::LiveEnd;
+pub use job_live::{Machine, Step};
 pub use run::{MAX_READS, run_live};

@@ -1,6 +1,6 @@
 -- What a close answers, by what it found.
 use Rattle.std.proofs.Common.{◌≡◌, ◌∙◌, ℕ, List, None, Some, Result, Ok, Err, IfErr, IfOk, length, subst, sym, inl, inr}
-use Rattle.lay_items.specs.Layout.{Layout}
+use Rattle.lay_layouts.specs.Layout.{Layout}
 use Rattle.undo_rules.specs.Books.{History}
 use Rattle.desk_rules.specs.Close.{HasAll, IsClosed, missing_call, own_total}
 use Rattle.desk_rules.specs.Guards.{Desk}

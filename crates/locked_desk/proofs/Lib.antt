@@ -1,5 +1,3 @@
-pub mod CallLemmas
-pub mod GuardedLemmas
 pub mod CloseAnswers
 pub mod RunLemmas
 pub mod AllLemmas

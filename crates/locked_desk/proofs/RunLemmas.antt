@@ -4,8 +4,8 @@ use Rattle.std.proofs.Common.{inl, inr}
 use Rattle.std.specs.List.{cons_option, filter_map}
 use Rattle.std.proofs.lemmas.List.{append_assoc, append-nil, map-append}
 use Rattle.std.proofs.lemmas.List.Elements.{filter_map-append}
-use Rattle.txn_rules.specs.declared.command.Command.{Command}
-use Rattle.txn_rules.specs.Transactions.{Transaction}
+use Rattle.txn_commands.specs.declared.command.Command.{Command}
+use Rattle.txn_commands.specs.Transactions.{Transaction}
 use Rattle.undo_rules.specs.declared.log.Answer.{Answer}
 use Rattle.undo_rules.specs.declared.log.Answer.TheVariants as answers
 use Rattle.undo_rules.specs.declared.log.Call.{Call}
@@ -18,7 +18,7 @@ use Rattle.session_steps.specs.declared.Step.TheVariants.{Cancel, Commit, Do, Op
 use Rattle.session_steps.specs.declared.StepFault.TheVariants as faults
 use Rattle.desk_rules.specs.Guards.{Desk}
 use Rattle.desk_rules.specs.Seats.{Gains, GainsLogged, Seat}
-use Rattle.locked_desk.specs.Desks.{OpensAt, open_call}
+use Rattle.desk_lock.specs.Desks.{OpensAt, open_call}
 use Rattle.locked_desk.specs.Runs.{AreAnswers, BookRefuses, CallsNothing, Changes, RanSteps, RunsCommand, StepsTo}
 use Rattle.locked_desk.specs.Runs.{logged_reply, reply_to_command}
 

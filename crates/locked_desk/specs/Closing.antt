@@ -1,6 +1,6 @@
 -- What a refused close names.
 use Rattle.std.specs.Prelude.{◌≡◌, ◌≢◌, ℕ, ◌-◌, ◌≤◌, List, length, false, None, Some, ◌⊎◌}
-use Rattle.lay_items.specs.Layout.{Layout}
+use Rattle.lay_layouts.specs.Layout.{Layout}
 use Rattle.undo_rules.specs.Books.{History}
 use Rattle.desk_rules.specs.Close.{HasAll, has_seat, missing_call, own_total}
 use Rattle.desk_rules.specs.Guards.{Desk}

@@ -1,5 +1,4 @@
-pub mod Stored
-pub mod Desks
 pub mod Closing
 pub mod Runs
 pub mod Jobs
+pub use Rattle.desk_lock.specs.declared.fault.RunFault

@@ -2,21 +2,18 @@
 ghost use Rattle.std.specs.Prelude.{◌≡◌, ◌≢◌, ◌<◌, IfErr, IfOk, vec_capacity, vec_len};
 ghost use Rattle.desk_rules.specs.Legal.{answer_of, opened_answer, refusal};
 ghost use Rattle.desk_rules.specs.Seats.{GainsLogged, with_kept};
-ghost use Rattle.locked_desk.specs.Desks.{IsOther, NamesSeat, Opens, by_book, commit_answer, commit_by_book, desk_answer};
-ghost use Rattle.locked_desk.specs.Desks.{desk_commit_answer, desk_refused};
+ghost use Rattle.desk_lock.specs.Desks.{IsOther, NamesSeat, Opens, by_book, commit_answer, commit_by_book, desk_answer};
+ghost use Rattle.desk_lock.specs.Desks.{desk_commit_answer, desk_refused};
 
 use crate::desk::Desk;
-use crate::fault::{DeskFault, DeskRefusal};
-use crate::guarded::differs;
 use crate::seat::Seat;
+use desk_lock::{CommitRefusal, DeskFault, DeskRefusal, Work, differs};
 use desk_rules::Kept;
 use lay_point::{NoMemory, Sequence};
 use std::alloc::Global;
 use std::sync::Wait;
 use std::sync::ledger::Ledger;
-use txn_rules::{Command, TxnId};
-use txn_work::Work;
-use undo_book::CommitRefusal;
+use txn_commands::{Command, TxnId};
 use undo_rules::{Answer, BookFault, Call, Logged};
 
 impl<L: Ledger> Desk<L> {

@@ -13,8 +13,6 @@
 mod calls;
 mod close;
 mod desk;
-mod fault;
-mod guarded;
 mod seat;
 mod sessions;
 mod shown;
@@ -22,8 +20,8 @@ mod steps;
 
 pub use close::{CloseRefusal, Closed};
 pub use desk::Desk;
+pub use desk_lock::{Command, DeskFault, DeskRefusal, RunFault, TxnId, Work};
 pub use desk_rules::Kept;
-pub use fault::{DeskFault, DeskRefusal, RunFault};
 pub use seat::Seat;
 pub use session_steps::{Reply, Step, StepFault};
 pub use sessions::{Run, run_sessions};

@@ -3,18 +3,18 @@
 ghost use Rattle.std.specs.Prelude.{◌≡◌};
 
 use band_workers::OneBand;
-use lay_cells::CellId;
-use lay_items::{ItemId, Snapshot};
+use lay_calls::CellId;
+use lay_items::Snapshot;
+use lay_layouts::ItemId;
 use lay_point::{LayerName, Point};
-use locked_desk::{CloseRefusal, Desk, DeskFault, Seat};
+use locked_desk::{CloseRefusal, Desk, DeskFault, Seat, Work};
 use std::alloc::Global;
 use std::marker::Brand;
 use std::sync::Wait;
 use std::sync::ledger::{Blank, Ledger};
 use std::test::*;
 use std::thread::Threads;
-use txn_rules::Command;
-use txn_work::Work;
+use txn_commands::Command;
 use undo_rules::BookFault;
 
 /// Returns a layout of one box.

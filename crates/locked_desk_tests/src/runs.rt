@@ -3,8 +3,8 @@
 ghost use Rattle.std.specs.Prelude.{◌≡◌, IfOk, length};
 
 use band_workers::{Bands, OneBand};
-use face_labels::Op;
-use lay_cells::CellId;
+use face_rows::Op;
+use lay_calls::CellId;
 use lay_items::Snapshot;
 use lay_point::{LayerName, NoMemory, Sequence};
 use locked_desk::{Desk, SessionGate, Step, run_sessions};
@@ -16,7 +16,7 @@ use std::sync::atomic::{AtomicU64, Ordering};
 use std::sync::ledger::{Blank, Ledger};
 use std::test::*;
 use std::thread::Threads;
-use txn_rules::Command;
+use txn_commands::Command;
 
 /// Where two sessions wait for each other, for so many turns at most.
 #[derive(Drop)]

@@ -3,8 +3,8 @@ use Rattle.std.specs.Prelude.{ℕ, List, [], Bool, true, false, Option, None, So
 use Rattle.cif_names.specs.declared.names.Names.{Names}
 use Rattle.cif_names.specs.Names.{names_of, within}
 use Rattle.cif_names.specs.Woven.{with_names}
-use Rattle.lay_items.specs.Layout.{Layout}
-use Rattle.lay_items.specs.SlotOrder.{in_slot_order}
+use Rattle.lay_layouts.specs.Layout.{Layout}
+use Rattle.lay_layouts.specs.SlotOrder.{in_slot_order}
 use Rattle.job_text.specs.Job.{job_of}
 use Rattle.job_text.specs.Jobs.{Job}
 use Rattle.job_text.specs.declared.job.JobFault.{JobFault}

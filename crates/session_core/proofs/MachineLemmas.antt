@@ -11,33 +11,33 @@ use Rattle.std.proofs.lemmas.Option.{slice_get-get_or}
 use Rattle.std.specs.FinSet as set
 use Rattle.std.specs.List.{list_all, list_any}
 use Rattle.lay_point.specs.Memory.{IsAnswer}
-use Rattle.lay_items.specs.Layout.{Layout}
+use Rattle.lay_layouts.specs.Layout.{Layout}
 use Rattle.undo_book.specs.declared.commit.CommitRefusal.{CommitRefusal}
 use Rattle.undo_rules.specs.declared.log.BookFault.{BookFault}
 use Rattle.undo_rules.specs.declared.log.BookFault.TheVariants.{Foreign, LogFull, NoMemory, SessionFull, Stale}
 use Rattle.undo_rules.specs.declared.log.Answer.TheVariants.{Refused}
 use Rattle.undo_rules.specs.declared.log.Call.TheVariants as calls
-use Rattle.txn_rules.specs.declared.fault.CmdFault.{CmdFault}
-use Rattle.txn_rules.specs.declared.fault.CmdFault.TheVariants.{NoMemory as CommandMemory}
-use Rattle.txn_rules.specs.declared.command.Command.{Command}
-use Rattle.txn_rules.specs.declared.command.Done.{Done}
-use Rattle.txn_rules.specs.declared.command.TxnId.{TxnId}
-use Rattle.txn_rules.specs.Compared.{agrees}
-use Rattle.txn_rules.specs.Effects.{Run, effect}
-use Rattle.txn_rules.specs.Elements.{Touched}
-use Rattle.txn_rules.specs.Transactions.{Transaction}
+use Rattle.txn_commands.specs.declared.fault.CmdFault.{CmdFault}
+use Rattle.txn_commands.specs.declared.fault.CmdFault.TheVariants.{NoMemory as CommandMemory}
+use Rattle.txn_commands.specs.declared.command.Command.{Command}
+use Rattle.txn_commands.specs.declared.command.Done.{Done}
+use Rattle.txn_commands.specs.declared.command.TxnId.{TxnId}
+use Rattle.txn_commands.specs.Compared.{agrees}
+use Rattle.txn_commands.specs.Effects.{Run, effect}
+use Rattle.txn_commands.specs.Elements.{Touched}
+use Rattle.txn_commands.specs.Transactions.{Transaction}
 use Rattle.std.specs.FinMap.{entries, get}
 use Rattle.std.specs.Cmp.Lexicographic.{pointwise}
-use Rattle.lay_items.specs.declared.id.ItemId.{ItemId}
-use Rattle.lay_items.specs.declared.item.Item as item
-use Rattle.lay_items.specs.Layout.{item_at}
-use Rattle.lay_items.specs.Same.{item_eq-Decides, option_item_eq-Decides}
-use Rattle.lay_items.specs.SameLayout.{id_eq-Decides}
-use Rattle.txn_rules.specs.declared.element.Element.{Element}
-use Rattle.txn_rules.specs.declared.element.Element.TheVariants.{Calls, Cell, Content, Item, Layer, Uses}
-use Rattle.txn_rules.specs.Compared.{entry_eq, lying, same_in}
-use Rattle.txn_rules.proofs.Steps.{option_slot_eq-Decides}
-use Rattle.txn_work.specs.Answers.{after_command, after_effect, answer_to, done_of_effect, run_so_far}
+use Rattle.lay_layouts.specs.declared.id.ItemId.{ItemId}
+use Rattle.lay_layouts.specs.declared.item.Item as item
+use Rattle.lay_layouts.specs.Layout.{item_at}
+use Rattle.lay_layouts.specs.Same.{item_eq-Decides, option_item_eq-Decides}
+use Rattle.lay_layouts.specs.SameLayout.{id_eq-Decides}
+use Rattle.txn_commands.specs.declared.element.Element.{Element}
+use Rattle.txn_commands.specs.declared.element.Element.TheVariants.{Calls, Cell, Content, Item, Layer, Uses}
+use Rattle.txn_commands.specs.Compared.{entry_eq, lying, same_in}
+use Rattle.txn_commands.proofs.Steps.{option_slot_eq-Decides}
+use Rattle.undo_book.specs.Answers.{after_command, after_effect, answer_to, done_of_effect, run_so_far}
 use Rattle.undo_rules.specs.Books.{History, SessionState}
 use Rattle.undo_rules.specs.Steps as book
 use Rattle.undo_rules.specs.declared.log.Call.{Call}

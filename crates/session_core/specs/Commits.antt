@@ -1,7 +1,7 @@
 -- What a session is answered to a commit, and what it then has open.
 use Rattle.std.specs.Prelude.{Option, None, Result, Ok, Err}
-use Rattle.txn_rules.specs.declared.command.TxnId.{TxnId}
-use Rattle.txn_rules.specs.Transactions.{Transaction}
+use Rattle.txn_commands.specs.declared.command.TxnId.{TxnId}
+use Rattle.txn_commands.specs.Transactions.{Transaction}
 use Rattle.undo_book.specs.declared.commit.CommitRefusal.{CommitRefusal}
 use Rattle.session_steps.specs.declared.Reply.{Reply}
 use Rattle.session_steps.specs.declared.Reply.TheVariants.{Committed, Fault}

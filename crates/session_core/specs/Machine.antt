@@ -3,18 +3,18 @@
 use Rattle.std.specs.Prelude.{◌≡◌, ◌≢◌, ℕ, ◌-◌, List, [], ◌∷◌, length, Bool, true, false, ◌&&◌, nat_le, Option, None, Some, Result, Ok}
 use Rattle.std.specs.Prelude.{Err, if◌then◌else◌, slice_index_or, slice_set, replicate, ◌⊎◌, refl}
 use Rattle.std.specs.Coded.{Coded, code_by, coded×, coded_list, coded_option}
-use Rattle.lay_items.specs.Layout.{Layout}
+use Rattle.lay_layouts.specs.Layout.{Layout}
 use Rattle.undo_rules.specs.declared.log.BookFault.{BookFault}
 use Rattle.undo_rules.specs.declared.log.BookFault.TheVariants.{LogFull, Foreign, NoMemory as BookMemory}
-use Rattle.txn_rules.specs.declared.fault.CmdFault.{CmdFault}
-use Rattle.txn_rules.specs.declared.fault.CmdFault.TheVariants.{NoMemory as CommandMemory}
-use Rattle.txn_rules.specs.declared.command.Command as commands
-use Rattle.txn_rules.specs.declared.command.Done as dones
-use Rattle.txn_rules.specs.declared.command.TxnId.{TxnId}
-use Rattle.txn_rules.specs.Transactions.{Transaction}
+use Rattle.txn_commands.specs.declared.fault.CmdFault.{CmdFault}
+use Rattle.txn_commands.specs.declared.fault.CmdFault.TheVariants.{NoMemory as CommandMemory}
+use Rattle.txn_commands.specs.declared.command.Command as commands
+use Rattle.txn_commands.specs.declared.command.Done as dones
+use Rattle.txn_commands.specs.declared.command.TxnId.{TxnId}
+use Rattle.txn_commands.specs.Transactions.{Transaction}
 use Rattle.undo_rules.specs.Books.{History}
 use Rattle.undo_rules.specs.Steps.{commit_step, fresh, open_step, redo_step, undo_step}
-use Rattle.txn_work.specs.Answers.{after_command, answer_to, coded_transaction}
+use Rattle.undo_book.specs.Answers.{after_command, answer_to, coded_transaction}
 use Rattle.undo_book.specs.Calls.{handed_back}
 use Rattle.undo_book.specs.Coded.{coded_history}
 use Rattle.session_steps.specs.declared.Reply.{Reply}

@@ -1,6 +1,6 @@
 -- What contracts see of a machine, and what it keeps.
 use Rattle.std.specs.Prelude.{◌≡◌, ℕ, ◌+◌, ◌≤◌, length, None, Some, slice_index_or}
-use Rattle.txn_rules.specs.Transactions.{Transaction}
+use Rattle.txn_commands.specs.Transactions.{Transaction}
 use Rattle.undo_rules.specs.Books.{History, SessionState}
 use Rattle.undo_rules.specs.Steps.{unused}
 use Rattle.session_core.specs.declared.machine.Machine.TheInside.{Inside}

@@ -18,3 +18,4 @@ mod machine;
 
 pub use machine::Machine;
 pub use session_steps::{Reply, Step, StepFault};
+pub use undo_book::BookFault;

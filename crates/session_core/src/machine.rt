@@ -2,21 +2,19 @@
 ghost use Rattle.std.specs.Prelude.{◌≡◌, ◌≤◌, false, true, IfOk, Ok, None, Some, replicate};
 ghost use Rattle.std.specs.List.{All};
 ghost use Rattle.lay_point.specs.Memory.{IsAnswer};
-ghost use Rattle.txn_rules.specs.declared.command.TxnId.{TxnId as TxnName};
+ghost use Rattle.txn_commands.specs.declared.command.TxnId.{TxnId as TxnName};
 ghost use Rattle.undo_rules.specs.Steps.{with_mark};
 ghost use Rattle.undo_book.specs.Replays.{CanBeRedone, replay};
 ghost use Rattle.session_core.specs.Commits.{reply_of, work_of};
 ghost use Rattle.session_core.specs.Machine.{IsNotForeign, Ran, TakesStep, is_session, start};
 
-use band_workers::Bands;
 use lay_items::Snapshot;
 use lay_point::NoMemory;
 use session_steps::{Reply, Step, StepFault};
 use std::alloc::Global;
 use std::marker::Model;
 use std::thread::Threads;
-use txn_work::{Command, TxnId, Work};
-use undo_book::{Book, CommitRefusal, MAX_CALLS};
+use undo_book::{Bands, Book, Command, CommitRefusal, MAX_CALLS, TxnId, Work};
 
 /// Sessions on one book, each with at most one transaction open.
 #[derive(Drop)]

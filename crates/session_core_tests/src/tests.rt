@@ -2,15 +2,14 @@
 //! should.
 
 use band_workers::OneBand;
-use lay_cells::CellId;
+use lay_calls::CellId;
 use lay_items::Snapshot;
 use lay_point::{LayerName, Point};
-use session_core::{Machine, Reply, Step, StepFault};
+use session_core::{BookFault, Machine, Reply, Step, StepFault};
 use std::alloc::Global;
 use std::test::*;
 use std::thread::Threads;
-use txn_rules::{Command, Done, TxnId};
-use undo_book::BookFault;
+use txn_commands::{Command, Done, TxnId};
 
 /// Returns the layout without items.
 fn empty(alloc: Global) -> Result<Snapshot, Fail> {

@@ -1,13 +1,13 @@
 -- Steps lead from a sound base to a history, in which operations stay.
 use Rattle.std.proofs.Common.{◌≡◌, ℕ, ◌≤◌, List, [], ◌∷◌, ◌++◌, None, refl, inl, inr, sym, subst}
 use Rattle.std.proofs.lemmas.List.{length-replicate}
-use Rattle.lay_items.specs.Layout.{Layout}
-use Rattle.lay_items.specs.Sound.{IsSound}
+use Rattle.lay_layouts.specs.Layout.{Layout}
+use Rattle.lay_layouts.specs.Sound.{IsSound}
 use Rattle.undo_rules.specs.Books.{History, IsHistory}
 use Rattle.undo_rules.specs.Histories.{AreKept}
 use Rattle.undo_rules.specs.Links.{Entry}
 use Rattle.undo_rules.specs.Steps.{fresh}
-use Rattle.undo_book.proofs.SoundLemmas.{begins_history}
+use Rattle.undo_entries.proofs.SoundLemmas.{begins_history}
 use Rattle.undo_region_laws.proofs.Staying.{stay}
 use Rattle.session_steps.specs.declared.Reply.{Reply}
 use Rattle.session_steps.specs.declared.Step.{Step}

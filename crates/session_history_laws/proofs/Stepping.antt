@@ -4,10 +4,10 @@ use Rattle.std.proofs.Common.{◌∙◌, arith, drop, nat_le, subst}
 use Rattle.std.proofs.lemmas.Bool.{and_parts}
 use Rattle.std.proofs.lemmas.Bool.Decides.{nat_tests}
 use Rattle.std.proofs.lemmas.List.{length-set}
-use Rattle.lay_items.specs.Layout.{Layout}
-use Rattle.txn_rules.specs.declared.command.TxnId.{TxnId}
-use Rattle.txn_rules.specs.Transactions.{Transaction}
-use Rattle.txn_work.specs.Answers.{after_command}
+use Rattle.lay_layouts.specs.Layout.{Layout}
+use Rattle.txn_commands.specs.declared.command.TxnId.{TxnId}
+use Rattle.txn_commands.specs.Transactions.{Transaction}
+use Rattle.undo_entries.specs.Answers.{after_command}
 use Rattle.undo_rules.specs.declared.log.Answer.TheVariants.{Refused}
 use Rattle.undo_rules.specs.declared.log.BookFault.{BookFault}
 use Rattle.undo_rules.specs.declared.log.BookFault.TheVariants.{Foreign, LogFull, SessionFull, Stale}
@@ -20,8 +20,8 @@ use Rattle.undo_rules.specs.Steps.{redo_refusal, redo_step, stale_by, state_of, 
 use Rattle.undo_rules.proofs.CommitLaws.{commit_keeps}
 use Rattle.undo_rules.proofs.OpenLaws.{ended_keeps, open_keeps, refused_keeps}
 use Rattle.undo_rules.proofs.StepLaws.{redo_keeps, undo_keeps}
-use Rattle.undo_book.proofs.CommitLemmas.{own_work}
-use Rattle.undo_book.proofs.SoundLemmas.{kept_sound}
+use Rattle.undo_entries.proofs.CommitLemmas.{own_work}
+use Rattle.undo_entries.proofs.SoundLemmas.{kept_sound}
 use Rattle.session_steps.specs.declared.Step.{Step}
 use Rattle.session_steps.specs.declared.Step.TheVariants.{Cancel, Commit, Do, Open, Redo, Undo}
 use Rattle.session_core.specs.Machine.{State, commit_in, commit_outcome, is_session, open_in, open_of, open_outcome, redo_in}

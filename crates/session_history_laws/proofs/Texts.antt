@@ -5,27 +5,27 @@ use Rattle.std.specs.declared.cmp.Ordering.TheVariants.{Greater}
 use Rattle.std.specs.FinMap.{find, get-from_entries}
 use Rattle.std.specs.Ordering.{eq_by_cmp, is_eq, nat_cmp, ordering_then}
 use Rattle.std.specs.Cmp.{nat_cmp_is}
-use Rattle.cif_commands.specs.Cutting.{Ending, Breaks, Ends, cut}
-use Rattle.cif_read.specs.declared.content.Content.{Content}
-use Rattle.cif_read.specs.declared.fault.CifFault.{CifFault}
-use Rattle.cif_read.specs.declared.file.TheConstants.{MAX_TEXT}
-use Rattle.cif_read.specs.Content.{empty_content}
-use Rattle.cif_read.specs.Contents.{Contents, IsSoundFile}
+use Rattle.cif_scan.specs.Cutting.{Ending, Breaks, Ends, cut}
+use Rattle.cif_content.specs.declared.content.Content.{Content}
+use Rattle.cif_content.specs.declared.fault.CifFault.{CifFault}
+use Rattle.cif_content.specs.declared.file.TheConstants.{MAX_TEXT}
+use Rattle.cif_content.specs.Content.{empty_content}
+use Rattle.cif_content.specs.Contents.{Contents, IsSoundFile}
 use Rattle.cif_read.specs.Kept.{IsKept}
-use Rattle.cif_read.specs.Meaning.{IsEndOf, after_bytes, after_pieces, content_in, content_within, too_long}
+use Rattle.cif_content.specs.Meaning.{IsEndOf, after_bytes, after_pieces, content_in, content_within, too_long}
 use Rattle.cif_read.proofs.BindingLemmas.{sound_file}
 use Rattle.cif_read.proofs.MeaningLemmas.{at_end_keeps}
 use Rattle.cif_read.proofs.PieceFacts.{kept_step}
 use Rattle.cif_read.proofs.StepFacts.{start_kept, then_ok}
-use Rattle.lay_items.specs.declared.id.ItemId.{ItemId}
-use Rattle.lay_items.specs.declared.item.Item.{Item}
+use Rattle.lay_layouts.specs.declared.id.ItemId.{ItemId}
+use Rattle.lay_layouts.specs.declared.item.Item.{Item}
 use Rattle.lay_items.specs.FromCif.{items_of_elements, layout_of}
-use Rattle.lay_items.specs.IdOrder.{ids_total}
-use Rattle.lay_items.specs.Ids.{id_cmp}
-use Rattle.lay_items.specs.LayoutWith.{numbered_from, text_id}
-use Rattle.lay_items.specs.Sound.{IsSound}
+use Rattle.lay_layouts.specs.IdOrder.{ids_total}
+use Rattle.lay_layouts.specs.Ids.{id_cmp}
+use Rattle.lay_layouts.specs.LayoutWith.{numbered_from, text_id}
+use Rattle.lay_layouts.specs.Sound.{IsSound}
 use Rattle.lay_items.proofs.SoundLemmas.{layout_of-sound}
-use Rattle.txn_rules.specs.declared.command.TxnId.{TxnId}
+use Rattle.txn_commands.specs.declared.command.TxnId.{TxnId}
 use Rattle.undo_region_laws.specs.Staying.{HasNoItemOf}
 use Rattle.session_history_laws.specs.Histories.{TextsMeanBases}
 

@@ -3,11 +3,11 @@ use Rattle.std.proofs.Common.{◌≡◌, ℕ, Bool, true, false, cond, List, [],
 use Rattle.std.proofs.Common.{sym, ap, subst, ◌∙◌, ◌&&◌, ◌+◌, nat_le}
 use Rattle.std.specs.List.{AllByRecursion}
 use Rattle.std.specs.Prelude.{Ok, drop, not}
-use Rattle.lay_items.specs.Layout.{Layout}
-use Rattle.txn_rules.specs.declared.command.Command.{Command}
-use Rattle.txn_rules.specs.declared.command.TxnId.{TxnId}
-use Rattle.txn_rules.specs.Records.{Records, applied}
-use Rattle.txn_rules.specs.Transactions.{Transaction}
+use Rattle.lay_layouts.specs.Layout.{Layout}
+use Rattle.txn_commands.specs.declared.command.Command.{Command}
+use Rattle.txn_commands.specs.declared.command.TxnId.{TxnId}
+use Rattle.txn_commands.specs.Records.{Records, applied}
+use Rattle.txn_commands.specs.Transactions.{Transaction}
 use Rattle.undo_rules.specs.declared.log.Answer.TheVariants.{Refused}
 use Rattle.undo_rules.specs.declared.log.BookFault.{BookFault}
 use Rattle.undo_rules.specs.declared.log.BookFault.TheVariants.{Foreign, LogFull, NoMemory as BookMemory, NoTxn, NotLive, SessionFull}
@@ -18,8 +18,8 @@ use Rattle.undo_rules.specs.Steps as book
 use Rattle.undo_rules.specs.Steps.{Found, after_redo, after_undo, commit_unless, depends, found, found_behind, is_log_full, is_own}
 use Rattle.undo_rules.specs.Steps.{logged, opening, redo_refusal, redo_refusal_at, stale_by, state_of, undo_refusal, undo_refusal_at}
 use Rattle.undo_rules.specs.Steps.{unless, with_mark}
-use Rattle.undo_book.specs.Replays.{replay}
-use Rattle.undo_book.proofs.UndoLemmas.{Undoes, redoes, undoes}
+use Rattle.undo_entries.specs.Replays.{replay}
+use Rattle.undo_entries.proofs.UndoLemmas.{Undoes, redoes, undoes}
 use Rattle.session_steps.specs.declared.Reply.{Reply}
 use Rattle.session_steps.specs.declared.Reply.TheVariants.{Fault, Undone}
 use Rattle.session_steps.specs.declared.Step.{Step}

@@ -3,15 +3,15 @@ use Rattle.std.proofs.Common.{◌≡◌, ℕ, zero, suc, List, [], ◌∷◌, Op
 use Rattle.std.proofs.Common.{ap, sym, ◌∙◌, replicate, slice_index_or, slice_set}
 use Rattle.std.specs.Prelude.{unwrap_or}
 use Rattle.std.specs.List.{AllByRecursion}
-use Rattle.lay_items.specs.Sound.{IsSound}
-use Rattle.txn_rules.specs.declared.command.Command.{Command}
-use Rattle.txn_rules.specs.declared.command.Done.{Done}
-use Rattle.txn_rules.specs.declared.fault.CmdFault.{CmdFault}
-use Rattle.txn_rules.specs.Effects.{Run, after_each, begun, effect}
-use Rattle.txn_rules.specs.Transactions.{IsTransaction, Transaction}
+use Rattle.lay_layouts.specs.Sound.{IsSound}
+use Rattle.txn_commands.specs.declared.command.Command.{Command}
+use Rattle.txn_commands.specs.declared.command.Done.{Done}
+use Rattle.txn_commands.specs.declared.fault.CmdFault.{CmdFault}
+use Rattle.txn_commands.specs.Effects.{Run, after_each, begun, effect}
+use Rattle.txn_commands.specs.Transactions.{IsTransaction, Transaction}
 use Rattle.txn_rules.proofs.Runs.{after_each-push}
-use Rattle.txn_work.specs.Answers.{after_command, after_effect, run_so_far}
-use Rattle.txn_work.proofs.Kept.{no_records}
+use Rattle.undo_entries.specs.Answers.{after_command, after_effect, run_so_far}
+use Rattle.undo_entries.proofs.Kept.{no_records}
 use Rattle.undo_rules.specs.Books.{History}
 use Rattle.undo_rules.specs.Steps.{opening}
 

@@ -1,15 +1,15 @@
 -- Where the steps of sessions lead.
 use Rattle.std.specs.Prelude.{◌≡◌, ℕ, ◌≤◌, true, List, ◌∷◌, ◌++◌, Some, Ok}
-use Rattle.lay_cells.specs.declared.cell_id.CellId.{CellId}
-use Rattle.cif_read.specs.Contents.{Contents}
-use Rattle.cif_read.specs.Meaning.{IsMeaning}
+use Rattle.lay_calls.specs.declared.cell_id.CellId.{CellId}
+use Rattle.cif_content.specs.Contents.{Contents}
+use Rattle.cif_content.specs.Meaning.{IsMeaning}
 use Rattle.lay_items.specs.FromCif.{layout_of}
-use Rattle.lay_items.specs.Layout.{Layout}
-use Rattle.lay_items.specs.Sound.{IsSound}
-use Rattle.face_labels.specs.declared.op.Op.{Op}
-use Rattle.txn_rules.specs.declared.command.Command.{Command}
-use Rattle.txn_rules.specs.declared.command.Command.TheVariants.{Bool as Combine}
-use Rattle.txn_rules.specs.declared.command.TxnId.{TxnId}
+use Rattle.lay_layouts.specs.Layout.{Layout}
+use Rattle.lay_layouts.specs.Sound.{IsSound}
+use Rattle.face_rows.specs.declared.op.Op.{Op}
+use Rattle.txn_commands.specs.declared.command.Command.{Command}
+use Rattle.txn_commands.specs.declared.command.Command.TheVariants.{Bool as Combine}
+use Rattle.txn_commands.specs.declared.command.TxnId.{TxnId}
 use Rattle.undo_rules.specs.Books.{History, IsHistory}
 use Rattle.undo_rules.specs.Histories.{commands_at}
 use Rattle.undo_rules.specs.Links.{Entry}

@@ -1,14 +1,14 @@
 -- Undo and redo among the steps of all sessions.
 use Rattle.std.specs.Prelude.{◌≡◌, ℕ, ◌≤◌, ◌⊎◌, Bool, true, false, List, Some}
 use Rattle.std.specs.List.{AllByRecursion}
-use Rattle.lay_items.specs.Layout.{Layout}
-use Rattle.lay_items.specs.Sound.{IsSound}
-use Rattle.txn_rules.specs.declared.command.TxnId.{TxnId}
+use Rattle.lay_layouts.specs.Layout.{Layout}
+use Rattle.lay_layouts.specs.Sound.{IsSound}
+use Rattle.txn_commands.specs.declared.command.TxnId.{TxnId}
 use Rattle.undo_rules.specs.declared.log.BookFault.TheVariants.{LogFull, NoMemory as BookMemory}
 use Rattle.undo_rules.specs.Books.{History}
 use Rattle.undo_rules.specs.Links.{Entry, meets_touched}
 use Rattle.undo_rules.specs.Steps.{Found, found, is_log_full, with_mark}
-use Rattle.undo_book.specs.Replays.{replay}
+use Rattle.undo_entries.specs.Replays.{replay}
 use Rattle.session_steps.specs.declared.Reply.{Reply}
 use Rattle.session_steps.specs.declared.Reply.TheVariants.{Committed, Fault, Redone, Undone}
 use Rattle.session_steps.specs.declared.Step.{Step}

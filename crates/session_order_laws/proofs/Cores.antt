@@ -2,14 +2,14 @@
 use Rattle.std.proofs.Common.{◌≡◌, ◌≢◌, ℕ, ◌-◌, Bool, true, false, cond, List, Option, None, Some, Result, Ok, Err, slice_set, refl, ap}
 use Rattle.std.proofs.Common.{sym, ◌∙◌}
 use Rattle.std.proofs.lemmas.List.{set-get_or}
-use Rattle.txn_rules.specs.declared.command.Command.{Command}
-use Rattle.txn_rules.specs.declared.command.TxnId.{TxnId}
-use Rattle.txn_rules.specs.Transactions.{Transaction}
-use Rattle.txn_work.specs.Answers.{after_command, answer_to}
+use Rattle.txn_commands.specs.declared.command.Command.{Command}
+use Rattle.txn_commands.specs.declared.command.TxnId.{TxnId}
+use Rattle.txn_commands.specs.Transactions.{Transaction}
+use Rattle.session_core.specs.Answers.{after_command, answer_to}
 use Rattle.undo_rules.specs.declared.log.BookFault.{BookFault}
 use Rattle.undo_rules.specs.Books.{History}
 use Rattle.undo_rules.specs.Steps.{commit_step, found, open_step, redo_step, undo_step}
-use Rattle.undo_book.specs.Calls.{handed_back}
+use Rattle.session_core.specs.Calls.{handed_back}
 use Rattle.session_steps.specs.declared.Reply.{Reply}
 use Rattle.session_steps.specs.declared.Reply.TheVariants.{Cancelled, Committed, Fault, Opened, Redone, Undone}
 use Rattle.session_steps.specs.declared.Step.{Step}

@@ -2,19 +2,19 @@
 use Rattle.std.proofs.Common.{◌≡◌, ℕ, ◌+◌, ◌-◌, ◌<◌, ◌≤◌, true, cond, [], ◌++◌, Option, None, Some, Result, Ok, Err, length, refl, ap}
 use Rattle.std.proofs.Common.{sym, subst, ◌∙◌, append-nil, arith, inl, not}
 use Rattle.std.proofs.lemmas.List.{length-set}
-use Rattle.txn_rules.specs.declared.command.Command.{Command}
-use Rattle.txn_rules.specs.declared.command.Done.{Done}
-use Rattle.txn_rules.specs.declared.command.TxnId.{TxnId}
-use Rattle.txn_rules.specs.declared.fault.CmdFault.{CmdFault}
-use Rattle.txn_rules.specs.Effects as effects
-use Rattle.txn_rules.specs.Effects.{effect}
-use Rattle.txn_rules.specs.Transactions.{Transaction}
-use Rattle.txn_work.specs.Answers.{after_command, after_effect, run_so_far}
+use Rattle.txn_commands.specs.declared.command.Command.{Command}
+use Rattle.txn_commands.specs.declared.command.Done.{Done}
+use Rattle.txn_commands.specs.declared.command.TxnId.{TxnId}
+use Rattle.txn_commands.specs.declared.fault.CmdFault.{CmdFault}
+use Rattle.txn_commands.specs.Effects as effects
+use Rattle.txn_commands.specs.Effects.{effect}
+use Rattle.txn_commands.specs.Transactions.{Transaction}
+use Rattle.session_core.specs.Answers.{after_command, after_effect, run_so_far}
 use Rattle.undo_rules.specs.declared.log.BookFault.{BookFault}
 use Rattle.undo_rules.specs.declared.log.BookFault.TheVariants.{Foreign, LogFull}
 use Rattle.undo_rules.specs.Books.{History}
 use Rattle.undo_rules.specs.Steps.{commit_own, commit_step, is_log_full, is_own, open_step, redo_step, undo_step}
-use Rattle.undo_book.specs.Calls as held
+use Rattle.session_core.specs.Calls as held
 use Rattle.session_steps.specs.declared.Reply.{Reply}
 use Rattle.session_steps.specs.declared.Reply.TheVariants.{Redone, Undone}
 use Rattle.session_steps.specs.declared.Step.{Step}

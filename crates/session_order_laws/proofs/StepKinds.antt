@@ -3,12 +3,12 @@
 use Rattle.std.proofs.Common.{◌≡◌, ◌≢◌, ℕ, ◌+◌, Bool, true, false, cond, List, [], ◌∷◌, ◌++◌, Option, None, Some, Result, Ok, Err, map}
 use Rattle.std.proofs.Common.{not, drop, nat_le, refl, ap, ◌∙◌}
 use Rattle.std.proofs.lemmas.List.{map_push}
-use Rattle.txn_rules.specs.declared.command.Command.{Command}
-use Rattle.txn_rules.specs.declared.command.Done.{Done}
-use Rattle.txn_rules.specs.declared.fault.CmdFault.{CmdFault}
-use Rattle.txn_rules.specs.declared.command.TxnId.{TxnId}
-use Rattle.txn_rules.specs.Transactions.{Transaction}
-use Rattle.txn_work.specs.Answers.{answer_to}
+use Rattle.txn_commands.specs.declared.command.Command.{Command}
+use Rattle.txn_commands.specs.declared.command.Done.{Done}
+use Rattle.txn_commands.specs.declared.fault.CmdFault.{CmdFault}
+use Rattle.txn_commands.specs.declared.command.TxnId.{TxnId}
+use Rattle.txn_commands.specs.Transactions.{Transaction}
+use Rattle.session_core.specs.Answers.{answer_to}
 use Rattle.undo_rules.specs.declared.log.Answer.{Answer}
 use Rattle.undo_rules.specs.declared.log.Answer.TheVariants.{Refused}
 use Rattle.undo_rules.specs.declared.log.BookFault.{BookFault}

@@ -1,7 +1,7 @@
 -- Steps that sessions took, taken in the order that is printed behind them.
 use Rattle.std.specs.Prelude.{◌≡◌, ◌≢◌, ℕ, ◌-◌, ◌≤◌, List, [], ◌∷◌, ◌++◌, All, IsPermutation, false, length, map, replicate, true}
 use Rattle.std.specs.Prelude.{slice_index_or, slice_set}
-use Rattle.lay_items.specs.Layout.{Layout}
+use Rattle.lay_layouts.specs.Layout.{Layout}
 use Rattle.session_steps.specs.declared.Reply.{Reply}
 use Rattle.session_steps.specs.declared.Reply.TheVariants.{Fault}
 use Rattle.session_steps.specs.declared.Step.{Step}

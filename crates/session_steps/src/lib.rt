@@ -17,8 +17,8 @@ mod turns;
 
 use thiserror::Error;
 pub use turns::{dealt, in_turn};
-use txn_rules::{CmdFault, Command, Done, TxnId};
-use undo_rules::BookFault;
+pub use undo_rules::{BookFault, Done, TxnId};
+use undo_rules::{CmdFault, Command};
 
 /// What a session does.
 #[derive(Debug, Drop, PartialEq, Eq)]

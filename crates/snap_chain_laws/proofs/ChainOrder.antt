@@ -1,10 +1,10 @@
 -- The order along a segment is strict and total on all points; on centres that the segment meets it is the order in which it meets them.
 use Rattle.std.proofs.Common.{◌≡◌, ◌⊎◌, inl, inr, ℤ, ◌≤ℤ◌, ◌<ℤ◌, sym, ◌∙◌, arith, ⊎_elim}
 use Rattle.lay_point.specs.declared.point.Point.{Point}
-use Rattle.snap_pixels.specs.declared.segment.Segment.{Segment}
+use Rattle.snap_edge_laws.specs.Segment.{Segment}
 use Rattle.lay_point.specs.Points.{IsBefore}
 use Rattle.snap_edge_laws.specs.Edges.{key, IsBelow}
-use Rattle.lay_int_laws.proofs.Signs.{linear, below_or_same}
+use Rattle.snap_edge_laws.proofs.Signs.{linear, below_or_same}
 use Rattle.snap_edge_laws.proofs.Order.{IsSpot, key_le, key_same}
 use Rattle.snap_edge_laws.proofs.Places.{apart_or_same}
 use Rattle.snap_chain_laws.proofs.Rising.{IsStrictOrder}

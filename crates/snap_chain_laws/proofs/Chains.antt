@@ -2,13 +2,13 @@
 -- end to the other, since an end is the centre of its own pixel, and is met first or last.
 use Rattle.std.proofs.Common.{◌≡◌, inl, inr, List, [], ◌∷◌, ℤ, pos, ◌*ℤ◌, ◌≤ℤ◌, refl, sym, subst, arith}
 use Rattle.lay_point.specs.declared.point.Point.{Point}
-use Rattle.snap_pixels.specs.declared.segment.Segment.{Segment}
-use Rattle.snap_pixels.specs.Pixels.{HoldsPlace, IsRoundedTo}
-use Rattle.snap_pixels.specs.Segments.{Meets, along}
-use Rattle.snap_pixels.specs.Hot.{IsHot}
+use Rattle.snap_edge_laws.specs.Segment.{Segment}
+use Rattle.snap_edge_laws.specs.Pixels.{HoldsPlace, IsRoundedTo}
+use Rattle.snap_edge_laws.specs.Segments.{Meets, along}
+use Rattle.snap_edge_laws.specs.Hot.{IsHot}
 use Rattle.snap_edge_laws.specs.Edges.{IsBelow, IsEdgeOf}
-use Rattle.lay_int_laws.proofs.Polynomials.{#, lit, ◌⊕◌, ◌⊖◌, ◌⊗◌, identity}
-use Rattle.lay_int_laws.proofs.Signs.{linear}
+use Rattle.snap_edge_laws.proofs.Polynomials.{#, lit, ◌⊕◌, ◌⊖◌, ◌⊗◌, identity}
+use Rattle.snap_edge_laws.proofs.Signs.{linear}
 use Rattle.snap_edge_laws.proofs.Rounding.{rounded_centre}
 use Rattle.snap_edge_laws.proofs.Order.{IsSpot}
 use Rattle.snap_edge_laws.proofs.Spans.{spot_of}

@@ -3,8 +3,8 @@
 use Rattle.std.proofs.Common.{◌≡◌, inl, inr, ℤ, ◌&&◌, List, [], ◌∷◌, refl, sym, ap, subst, ◌∙◌, Contains}
 use Rattle.lay_point.specs.declared.point.Point.{Point}
 use Rattle.lay_point.specs.Points.{point_eq}
-use Rattle.snap_pixels.specs.declared.segment.Segment.{Segment}
-use Rattle.snap_pixels.specs.Hot.{IsHot}
+use Rattle.snap_edge_laws.specs.Segment.{Segment}
+use Rattle.snap_edge_laws.specs.Hot.{IsHot}
 use Rattle.snap_edge_laws.specs.Edges.{IsOn, IsEndpoint}
 use Rattle.snap_edge_laws.proofs.Places.{turned_on}
 use Rattle.snap_edge_laws.proofs.SharedEnds.{ends_differ}

@@ -10,3 +10,5 @@ pub mod Edges
 pub use Rattle.snap_edge_laws.proofs.Order
 pub use Rattle.snap_edge_laws.proofs.Places
 pub use Rattle.snap_edge_laws.proofs.SharedEnds
+pub use Rattle.snap_edge_laws.proofs.CrossingLemmas
+pub use Rattle.snap_edge_laws.proofs.MarkLemmas

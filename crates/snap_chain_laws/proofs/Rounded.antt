@@ -1,7 +1,7 @@
 -- Rounded paths are walks of their segments' edges, from the path's first point to its last; rounded rings are closed.
 use Rattle.std.proofs.Common.{◌≡◌, List, [], ◌∷◌, refl, ap, subst, ◌∙◌, ⊎_elim}
 use Rattle.lay_point.specs.declared.point.Point.{Point}
-use Rattle.snap_pixels.specs.declared.segment.Segment.{Segment}
+use Rattle.snap_edge_laws.specs.Segment.{Segment}
 use Rattle.snap_chain_laws.specs.Rising.{pairs, last, IsFromTo}
 use Rattle.snap_chain_laws.specs.Chains.{IsRoundedEdge}
 use Rattle.snap_chain_laws.specs.Rounding.{closed_walk, IsRoundedPath, point, further, RoundedPathsJoinEnds, RoundedPathsHaveEdges}

@@ -2,9 +2,9 @@
 -- Source: Hobby, Practical segment intersection with finite precision output, 1999.
 use Rattle.std.specs.Prelude.{◌≡◌, ◌↔◌, ℤ, pos, ◌≤ℤ◌, List, Contains}
 use Rattle.lay_point.specs.declared.point.Point.{Point}
-use Rattle.snap_pixels.specs.declared.segment.Segment.{Segment}
-use Rattle.snap_pixels.specs.Segments.{Meets}
-use Rattle.snap_pixels.specs.Hot.{IsHot}
+use Rattle.snap_edge_laws.specs.Segment.{Segment}
+use Rattle.snap_edge_laws.specs.Segments.{Meets}
+use Rattle.snap_edge_laws.specs.Hot.{IsHot}
 use Rattle.snap_edge_laws.specs.Edges.{IsBelow, IsEdgeOf, IsOn, AreOneEdge, IsSharedEnd}
 use Rattle.snap_chain_laws.specs.Rising.{IsRising, pairs, IsFromTo}
 

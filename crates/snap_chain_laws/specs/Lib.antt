@@ -4,3 +4,6 @@ pub mod Rising
 pub mod Rounding
 pub mod Undirected
 pub use Rattle.snap_edge_laws.specs.Edges
+pub use Rattle.snap_edge_laws.specs.Hot
+pub use Rattle.snap_edge_laws.specs.Segments
+pub use Rattle.snap_edge_laws.specs.Segment

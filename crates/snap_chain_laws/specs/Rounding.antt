@@ -2,8 +2,8 @@
 -- Source: Hobby, Practical segment intersection with finite precision output, 1999.
 use Rattle.std.specs.Prelude.{◌≡◌, Bool, false, List, [], ◌∷◌, ◌++◌, Contains}
 use Rattle.lay_point.specs.declared.point.Point.{Point}
-use Rattle.snap_pixels.specs.declared.segment.Segment.{Segment}
-use Rattle.snap_pixels.specs.Hot.{IsHot}
+use Rattle.snap_edge_laws.specs.Segment.{Segment}
+use Rattle.snap_edge_laws.specs.Hot.{IsHot}
 use Rattle.snap_chain_laws.specs.Chains.{IsChain, IsRoundedEdge}
 use Rattle.snap_chain_laws.specs.Parity.{xor, parity}
 use Rattle.snap_chain_laws.specs.Rising.{pairs, IsFromTo}

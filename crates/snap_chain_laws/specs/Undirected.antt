@@ -2,7 +2,7 @@
 use Rattle.std.specs.Prelude.{◌≡◌, ◌↔◌, ℤ, pos, ◌≤ℤ◌, Bool, false, ◌&&◌, List, [], ◌∷◌, ◌++◌, map, Contains}
 use Rattle.lay_point.specs.declared.point.Point.{Point}
 pub use Rattle.lay_point.specs.Edges.{is_before, undirected, IsEdgeBefore, same_edge, touches}
-use Rattle.snap_pixels.specs.declared.segment.Segment.{Segment}
+use Rattle.snap_edge_laws.specs.Segment.{Segment}
 use Rattle.snap_edge_laws.specs.Edges.{IsOn, IsSharedEnd}
 use Rattle.snap_chain_laws.specs.Parity.{parity}
 use Rattle.snap_chain_laws.specs.Rising.{IsRising, pairs}

@@ -13,7 +13,7 @@ ghost use Rattle.snap_chain_laws.specs.Rounding.{
 };
 ghost use Rattle.snap_chain_laws.specs.Undirected.{EdgesAreClean, OwnedEdgesAreEven};
 
-use snap_pixels::Segment;
+use snap_edge_laws::Segment;
 
 /// A segment has one chain. Its neighbours are the segment's edges, and it joins the segment's ends.
 pub fn chains_have_laws(_segments: &[Segment])

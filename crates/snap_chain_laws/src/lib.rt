@@ -14,3 +14,4 @@ pub use laws::{
     chains_have_laws, edges_of_rounded_rings_have_laws, rounded_edges_are_clean,
     rounded_paths_have_laws,
 };
+pub use snap_edge_laws::{Segment, area, crossing_centre, hot, hot_plain};

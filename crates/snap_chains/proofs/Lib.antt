@@ -1,26 +1,16 @@
-pub mod Sorted
-pub mod ChainLemmas
-pub mod ColumnLemmas
-pub mod ClipLemmas
-pub mod SlabLemmas
-pub mod EdgeOrder
-pub mod OwnerLemmas
 pub mod CleanLemmas
-pub mod PathLemmas
-pub mod OwnedLemmas
-pub mod VisitOrder
-pub mod OddLemmas
-pub mod VisitLemmas
-pub mod KeyLemmas
 pub mod VisitorLemmas
 pub mod ScanLemmas
 pub mod ListLemmas
 pub mod RoundLemmas
-pub use Rattle.snap_edge_test.proofs.Members
-pub use Rattle.snap_edge_test.proofs.SharedEnds
-pub use Rattle.snap_edge_test.proofs.Chains
-pub use Rattle.snap_edge_test.proofs.Rising
-pub use Rattle.snap_edge_test.proofs.Rounded as RoundedChains
-pub use Rattle.snap_edge_test.proofs.Undirected
-pub use Rattle.snap_edge_test.proofs.ChainOrder
-pub use Rattle.snap_edge_test.proofs.Level
+pub use Rattle.snap_visits.proofs.Members
+pub use Rattle.snap_visits.proofs.SharedEnds
+pub use Rattle.snap_visits.proofs.Chains
+pub use Rattle.snap_visits.proofs.Rising
+pub use Rattle.snap_visits.proofs.Rounded as RoundedChains
+pub use Rattle.snap_visits.proofs.Undirected
+pub use Rattle.snap_visits.proofs.ChainOrder
+pub use Rattle.snap_visits.proofs.Level
+pub use Rattle.snap_visits.proofs.VisitOrder
+pub use Rattle.snap_visits.proofs.PathLemmas
+pub use Rattle.snap_visits.proofs.MarkLemmas

@@ -7,13 +7,13 @@
 //!
 //! A rounded ring joins the chains of its sides (`ring_sides`, `round_ring`). `round_rings` rounds the
 //! rings of all shapes over the hot pixels of all their sides together (`AreRounded` of
-//! `specs/OwnedRings.antt`). `round` answers the edges that the rounded rings go, each once, with the
+//! `snap_visits/specs/OwnedRings.antt`). `round` answers the edges that the rounded rings go, each once, with the
 //! shapes that own it: those whose rings go it an odd number of times (`IsRoundOf` of
 //! `specs/Round.antt`).
 //!
 //! A `Rounded` keeps in its type that its edges rise, so that each is there once, that the owners of
 //! each edge rise, and that an even number of the edges that list an owner stand at each point. A
-//! `CleanEdges` keeps too that a place on two different edges is an end of both (`specs/Rounded.antt`).
+//! `CleanEdges` keeps too that a place on two different edges is an end of both (`snap_visits/specs/Rounded.antt`).
 //! `check_clean` tests that exactly for edges from elsewhere, or names the first two that fail
 //! (`specs/Clean.antt`).
 //!
@@ -27,31 +27,16 @@
 //! ```
 #![tactic(auto)]
 
-mod candidates;
-mod chains;
 mod checking;
 mod clean_edges;
-mod clip;
-mod columns_of;
-mod finder;
-mod keys;
-mod owned;
-mod owner;
 mod owner_lists;
-mod rings;
 mod rounded;
 mod rounding;
-mod slab;
-mod slabs;
 #[cfg(test)]
 mod tests;
-mod visits;
 
-pub use chains::chain;
 pub use checking::check_clean;
 pub use clean_edges::{CleanEdges, CleanFault};
-pub use owned::{OwnedRing, round_rings};
-pub use owner::{Input, Owner};
-pub use rings::{ring_sides, round_ring};
 pub use rounded::Rounded;
 pub use rounding::round;
+pub use snap_visits::{Input, OwnedRing, Owner, area, chain, ring_sides, round_ring, round_rings};

@@ -4,7 +4,7 @@ ghost use Rattle.std.specs.Prelude.{◌≡◌};
 
 use super::*;
 use lay_point::{Edge, Point, Ring};
-use snap_pixels::{Segment, hot_plain};
+use snap_visits::{Segment, hot_plain};
 use std::alloc::{AllocError, Global};
 use std::test::*;
 

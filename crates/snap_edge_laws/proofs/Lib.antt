@@ -7,3 +7,7 @@ pub mod Places
 pub mod SharedEnds
 pub mod Meeting
 pub mod Theorem
+pub use Rattle.snap_pixels.proofs.CrossingLemmas
+pub use Rattle.lay_int_laws.proofs.Polynomials
+pub use Rattle.lay_int_laws.proofs.Signs
+pub use Rattle.snap_pixels.proofs.MarkLemmas

@@ -1,8 +1,8 @@
 -- All cases. Two edges with a place in common share an end, and meet there or are one; or an end of one is on the other, and so an end
 -- of it; or they cross properly, and then the segments' pieces crossed properly at rest, which they don't.
 use Rattle.std.proofs.Common.{◌≡◌, ◌⊎◌, [], ◌∷◌, ℤ, pos, ◌+ℤ◌, ◌-ℤ◌, ◌*ℤ◌, ◌<ℤ◌, refl, sym, ap, ◌∙◌, arith, ⊎_elim}
-use Rattle.lay_point.specs.declared.point.Point.{Point}
-use Rattle.snap_pixels.specs.declared.segment.Segment.{Segment}
+use Rattle.snap_pixels.specs.Point.{Point}
+use Rattle.snap_pixels.specs.Segment.{Segment}
 use Rattle.snap_pixels.specs.Segments.{along, IsFraction, Crosses}
 use Rattle.snap_piece_laws.specs.Areas.{area, IsConvex}
 use Rattle.snap_piece_laws.specs.Pieces.{IsOnPiece, HasEnd, first, second, third, fourth}

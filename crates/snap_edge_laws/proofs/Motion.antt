@@ -2,8 +2,8 @@
 -- along x and then along y. Were an end to come to the other piece, then the same mixture of that piece's first ends would lie in
 -- its pixel, so its centre would be an end of the other edge. So pieces that cross properly at last crossed properly at first.
 use Rattle.std.proofs.Common.{◌≡◌, inl, inr, [], ◌∷◌, ℤ, pos, ◌-ℤ◌, ◌*ℤ◌, ◌≤ℤ◌, ◌<ℤ◌, refl, subst, arith, ⊎_elim}
-use Rattle.lay_point.specs.declared.point.Point.{Point}
-use Rattle.snap_pixels.specs.declared.segment.Segment.{Segment}
+use Rattle.snap_pixels.specs.Point.{Point}
+use Rattle.snap_pixels.specs.Segment.{Segment}
 use Rattle.snap_pixels.specs.Pixels.{IsRoundedTo, HoldsPlace}
 use Rattle.snap_pixels.specs.Segments.{along, IsFraction}
 use Rattle.snap_piece_laws.specs.Areas.{IsConvex}

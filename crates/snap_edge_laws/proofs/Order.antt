@@ -2,8 +2,8 @@
 -- centre with no greater key, and centres with equal keys are one.
 use Rattle.std.proofs.Common.{◌≡◌, zero, suc, [], ◌∷◌, ℤ, pos, negsuc, ◌-ℤ◌, ◌*ℤ◌, ◌≤ℤ◌, refl, ap, subst, arith}
 use Rattle.std.specs.Int.{int_signum}
-use Rattle.lay_point.specs.declared.point.Point.{Point}
-use Rattle.snap_pixels.specs.declared.segment.Segment.{Segment}
+use Rattle.snap_pixels.specs.Point.{Point}
+use Rattle.snap_pixels.specs.Segment.{Segment}
 use Rattle.snap_pixels.specs.Pixels.{IsRoundedTo, HoldsPlace}
 use Rattle.snap_pixels.specs.Segments.{along}
 use Rattle.snap_edge_laws.specs.Edges.{key}

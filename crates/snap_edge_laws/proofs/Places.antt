@@ -1,6 +1,6 @@
 -- Places on edges. A place that is on an edge's line and in its bounding box is a fraction of the way from one end to the other.
 use Rattle.std.proofs.Common.{◌≡◌, ◌⊎◌, inl, inr, [], ◌∷◌, ℤ, pos, ◌-ℤ◌, ◌*ℤ◌, ◌≤ℤ◌, ◌<ℤ◌, refl, sym, ap, ◌∙◌, arith, ⊎_elim}
-use Rattle.lay_point.specs.declared.point.Point.{Point}
+use Rattle.snap_pixels.specs.Point.{Point}
 use Rattle.snap_pixels.specs.Segments.{along, IsFraction}
 use Rattle.snap_edge_laws.specs.Edges.{IsOn}
 use Rattle.lay_int_laws.proofs.Polynomials.{#, ◌⊕◌, ◌⊖◌, ◌⊗◌, identity}

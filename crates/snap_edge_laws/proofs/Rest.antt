@@ -1,8 +1,8 @@
 -- At rest the pieces don't cross. The pixel of a point that is common to two segments which aren't parallel is hot, and both segments
 -- meet it. Between their ends' pixels, its centre is an end of both edges; so edges without a common end have no such point.
 use Rattle.std.proofs.Common.{◌≡◌, inl, inr, [], ◌∷◌, ℤ, pos, ◌+ℤ◌, ◌-ℤ◌, ◌*ℤ◌, ◌≤ℤ◌, refl, sym, ap, subst, ◌∙◌, arith}
-use Rattle.lay_point.specs.declared.point.Point.{Point}
-use Rattle.snap_pixels.specs.declared.segment.Segment.{Segment}
+use Rattle.snap_pixels.specs.Point.{Point}
+use Rattle.snap_pixels.specs.Segment.{Segment}
 use Rattle.snap_pixels.specs.Pixels.{IsRoundedTo, HoldsPlace}
 use Rattle.snap_pixels.specs.Segments.{along, AreParallel, IsCommon, IsFraction, Crosses}
 use Rattle.snap_piece_laws.specs.Areas.{area, IsConvex}

@@ -1,7 +1,7 @@
 -- Edges of snap-rounded segments have no place in common but a shared end.
 use Rattle.std.proofs.Common.{◌≡◌, ◌⊎◌, inl, inr, List, ℤ, pos, ◌-ℤ◌, ◌*ℤ◌, ◌≤ℤ◌, ◌<ℤ◌, refl, sym, ap, subst, ◌∙◌, arith, ⊎_elim}
-use Rattle.lay_point.specs.declared.point.Point.{Point}
-use Rattle.snap_pixels.specs.declared.segment.Segment.{Segment}
+use Rattle.snap_pixels.specs.Point.{Point}
+use Rattle.snap_pixels.specs.Segment.{Segment}
 use Rattle.snap_pixels.specs.Segments.{along, Crosses}
 use Rattle.snap_pixels.specs.Hot.{IsHot}
 use Rattle.snap_edge_laws.specs.Edges.{IsEndpoint, IsEdgeOf, IsOn, AreOneEdge, IsSharedEnd, MeetOnlyAtEnds}

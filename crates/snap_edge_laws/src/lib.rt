@@ -12,3 +12,4 @@
 mod laws;
 
 pub use laws::edges_meet_only_at_ends;
+pub use snap_pixels::{Segment, area, crossing_centre, hot, hot_plain};

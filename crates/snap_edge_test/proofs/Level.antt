@@ -6,7 +6,7 @@ use Rattle.std.proofs.Common.{refl, sym, ap, subst, ◌∙◌, arith, ⊎_elim, 
 use Rattle.std.proofs.lemmas.Bool.{false≢true}
 use Rattle.lay_point.specs.declared.point.Point.{Point}
 use Rattle.lay_point.specs.Points.{IsBefore}
-use Rattle.snap_pixels.specs.Segments.{AreParallel}
+use Rattle.snap_chain_laws.specs.Segments.{AreParallel}
 use Rattle.snap_chain_laws.specs.Edges.{IsEndpoint, IsOn, IsSharedEnd}
 use Rattle.lay_int_laws.proofs.Polynomials.{#, lit, ◌⊕◌, ◌⊖◌, ◌⊗◌, identity}
 use Rattle.lay_int_laws.proofs.Signs.{linear, below_or_same, times_lt, cancel_same, cancel_zero}

@@ -12,3 +12,4 @@ pub use Rattle.snap_chain_laws.proofs.SharedEnds
 pub use Rattle.snap_chain_laws.proofs.Edges
 pub use Rattle.snap_chain_laws.proofs.ChainOrder
 pub use Rattle.snap_chain_laws.proofs.Places
+pub use Rattle.snap_chain_laws.proofs.MarkLemmas

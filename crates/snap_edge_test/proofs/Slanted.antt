@@ -4,7 +4,7 @@ use Rattle.std.proofs.Common.{refl, sym, subst, ◌∙◌, arith, ⊎_elim, Deci
 use Rattle.std.specs.Prelude.{is_some}
 use Rattle.std.proofs.lemmas.Bool.{false≢true}
 use Rattle.lay_point.specs.declared.point.Point.{Point}
-use Rattle.snap_pixels.specs.Segments.{along, AreParallel, Crosses, IsCommon, IsFraction}
+use Rattle.snap_chain_laws.specs.Segments.{along, AreParallel, Crosses, IsCommon, IsFraction}
 use Rattle.snap_chain_laws.specs.Edges.{IsBetween, IsEndpoint, IsOn, IsSharedEnd}
 use Rattle.lay_int_laws.proofs.Division.{rounded}
 use Rattle.lay_int_laws.proofs.Polynomials.{#, ◌⊕◌, ◌⊖◌, ◌⊗◌, identity}

@@ -5,3 +5,4 @@ pub use Rattle.snap_chain_laws.specs.Rising
 pub use Rattle.snap_chain_laws.specs.Undirected
 pub use Rattle.snap_chain_laws.specs.Rounding
 pub use Rattle.snap_chain_laws.specs.Parity
+pub use Rattle.snap_chain_laws.specs.Hot

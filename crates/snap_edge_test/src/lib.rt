@@ -14,3 +14,4 @@
 mod meeting;
 
 pub use meeting::meet_at_ends;
+pub use snap_chain_laws::{hot, hot_plain};

@@ -4,12 +4,12 @@ ghost use Rattle.std.specs.Prelude.{◌≡◌, ◌≢◌, ◌↔◌, pos, IsTrue
 ghost use Rattle.lay_point.specs.Edges.{is_before};
 ghost use Rattle.lay_point.specs.declared.point.Point.{Point};
 ghost use Rattle.lay_point.specs.Points.{IsBefore};
-ghost use Rattle.snap_pixels.specs.Segments.{AreParallel, cross};
+ghost use Rattle.snap_chain_laws.specs.Segments.{AreParallel, cross};
 ghost use Rattle.snap_chain_laws.specs.Edges.{IsEndpoint};
 ghost use Rattle.snap_edge_test.specs.Meeting.{HaveCommon, MeetAtEnds, ShareEnd};
 
 use lay_point::{Edge, Point};
-use snap_pixels::{Segment, area, crossing_centre};
+use snap_chain_laws::{Segment, area, crossing_centre};
 
 /// Returns whether two different edges have no place in common but a point that is an end of both.
 pub fn meet_at_ends(e: Edge, f: Edge) -> bool

@@ -1,12 +1,12 @@
 -- Areas of triangles, and the identities that hold of the four of a quadrilateral p q r t: its diagonals are from p to r and from
 -- q to t. Two opposite areas add up to as much as the other two; the areas weigh the point where the diagonals meet.
 use Rattle.std.proofs.Common.{◌≡◌, List, [], ◌∷◌, ℤ, pos, ◌+ℤ◌, ◌-ℤ◌, ◌*ℤ◌, refl, ap, arith}
-use Rattle.lay_point.specs.declared.point.Point.{Point}
-use Rattle.snap_pixels.specs.Segments.{along, cross}
+use Rattle.snap_segments.specs.Point.{Point}
+use Rattle.snap_segments.specs.Segments.{along, cross}
 use Rattle.snap_piece_laws.specs.Areas.{area}
 use Rattle.snap_piece_laws.specs.Pieces.{sideways, with_x}
-use Rattle.lay_int_laws.proofs.Polynomials.{Expr, #, lit, ◌⊕◌, ◌⊖◌, ◌⊗◌, identity}
-use Rattle.lay_int_laws.proofs.Signs.{linear}
+use Rattle.snap_segments.proofs.Polynomials.{Expr, #, lit, ◌⊕◌, ◌⊖◌, ◌⊗◌, identity}
+use Rattle.snap_segments.proofs.Signs.{linear}
 
 -- the area, of expressions for the coordinates
 abbrev turn : Expr → Expr → Expr → Expr → Expr → Expr → Expr

@@ -1,12 +1,12 @@
 -- Ends of a quadrilateral's diagonals that lie on the other diagonal: where one of its areas is 0, and the rest aren't, or where all
 -- four are 0, and some point weighed by all four ends is common to the diagonals.
 use Rattle.std.proofs.Common.{◌≡◌, [], ◌∷◌, ℤ, pos, ◌+ℤ◌, ◌-ℤ◌, ◌*ℤ◌, ◌≤ℤ◌, ◌<ℤ◌, refl, sym, ap, ◌∙◌, arith, ⊎_elim}
-use Rattle.lay_point.specs.declared.point.Point.{Point}
-use Rattle.snap_pixels.specs.Segments.{along}
+use Rattle.snap_segments.specs.Point.{Point}
+use Rattle.snap_segments.specs.Segments.{along}
 use Rattle.snap_piece_laws.specs.Areas.{area}
 use Rattle.snap_piece_laws.specs.Pieces.{IsAtFraction, IsOnPiece, HasEnd, first, second, third, fourth}
-use Rattle.lay_int_laws.proofs.Polynomials.{#, lit, ◌⊕◌, ◌⊖◌, ◌⊗◌, identity}
-use Rattle.lay_int_laws.proofs.Signs.{linear, nonnegative_product, positive_product, below_or_not, below_or_same}
+use Rattle.snap_segments.proofs.Polynomials.{#, lit, ◌⊕◌, ◌⊖◌, ◌⊗◌, identity}
+use Rattle.snap_segments.proofs.Signs.{linear, nonnegative_product, positive_product, below_or_not, below_or_same}
 use Rattle.snap_piece_laws.proofs.Areas.{areas_balance, areas_weigh_x, areas_weigh_y, area_off, area-turned, flipped}
 
 pub along_back : (m l a b : ℤ) → along m l a b ≡ along m (m -ℤ l) b a

@@ -1,11 +1,11 @@
 -- Sideways motion. The ends of two pieces move, each at its own even pace along x alone. Where the pieces cross properly at the end of
 -- the motion, they did so at the start, or at some time an end of one is on the other.
 use Rattle.std.proofs.Common.{◌≡◌, ◌⊎◌, inl, inr, List, [], ◌∷◌, ℤ, pos, ◌+ℤ◌, ◌-ℤ◌, ◌*ℤ◌, ◌≤ℤ◌, ◌<ℤ◌, refl, ap, ◌∙◌, arith, ⊎_elim}
-use Rattle.lay_point.specs.declared.point.Point.{Point}
+use Rattle.snap_segments.specs.Point.{Point}
 use Rattle.snap_piece_laws.specs.Areas.{area, IsConvex}
 use Rattle.snap_piece_laws.specs.Pieces.{HasEnd, first, second, third, fourth, with_x, sideways, HasEndMeanwhile}
-use Rattle.lay_int_laws.proofs.Polynomials.{#, lit, ◌⊗◌, identity}
-use Rattle.lay_int_laws.proofs.Signs.{linear, below_or_same}
+use Rattle.snap_segments.proofs.Polynomials.{#, lit, ◌⊗◌, identity}
+use Rattle.snap_segments.proofs.Signs.{linear, below_or_same}
 use Rattle.snap_piece_laws.proofs.Areas.{areas_balance, areas_weigh_y, area-sideways}
 use Rattle.snap_piece_laws.proofs.Ends.{end_at_zero, AreWeights, AreUneven, flat_end}
 use Rattle.snap_piece_laws.proofs.Stops.{Change, AllStartPositive, IsStop, stop}

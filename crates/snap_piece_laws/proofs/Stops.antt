@@ -1,9 +1,9 @@
 -- When the first of some evenly changing numbers gets to 0. Each goes from its `from` to its `to` while a time goes from 0 to 1, and
 -- ends positive. Then all were positive at the start, or at some time all are at least 0 and one of them is 0.
 use Rattle.std.proofs.Common.{◌≡◌, ◌⊎◌, inl, inr, List, [], ◌∷◌, ℤ, pos, ◌+ℤ◌, ◌-ℤ◌, ◌*ℤ◌, ◌≤ℤ◌, ◌<ℤ◌, refl, arith, ⊎_elim}
-use Rattle.snap_pixels.specs.Segments.{along, IsFraction}
-use Rattle.lay_int_laws.proofs.Polynomials.{#, lit, ◌⊕◌, ◌⊖◌, ◌⊗◌, identity}
-use Rattle.lay_int_laws.proofs.Signs.{linear, nonnegative_product, positive_product, below_or_not}
+use Rattle.snap_segments.specs.Segments.{along, IsFraction}
+use Rattle.snap_segments.proofs.Polynomials.{#, lit, ◌⊕◌, ◌⊖◌, ◌⊗◌, identity}
+use Rattle.snap_segments.proofs.Signs.{linear, nonnegative_product, positive_product, below_or_not}
 
 pub record Change : Type 0 where
   pub from : ℤ

@@ -2,7 +2,7 @@
 -- p to r and from q to t.
 -- Source: de Berg, Cheong, van Kreveld, Overmars, Computational Geometry, 2008, on orientation.
 use Rattle.std.specs.Prelude.{◌≡◌, ℤ, pos, ◌+ℤ◌, ◌-ℤ◌, ◌*ℤ◌, ◌<ℤ◌}
-use Rattle.lay_point.specs.declared.point.Point.{Point}
+use Rattle.snap_segments.specs.Point.{Point}
 
 -- twice the area of the triangle, positive where p, q and r turn to the left
 unfoldable pub area : Point → Point → Point → ℤ

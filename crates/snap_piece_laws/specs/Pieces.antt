@@ -1,7 +1,7 @@
 -- Pieces of lines, and what becomes of two that move sideways. Coordinates may be at any scales, one for x and one for y.
 use Rattle.std.specs.Prelude.{◌≡◌, ◌⊎◌, ℤ, ◌*ℤ◌}
-use Rattle.lay_point.specs.declared.point.Point.{Point}
-use Rattle.snap_pixels.specs.Segments.{IsFraction, along}
+use Rattle.snap_segments.specs.Point.{Point}
+use Rattle.snap_segments.specs.Segments.{IsFraction, along}
 use Rattle.snap_piece_laws.specs.Areas.{IsConvex}
 
 -- p is l / m of the way from q to r

@@ -3,7 +3,7 @@ use Rattle.std.proofs.Common.{◌≡◌, zero, suc, ◌⊎◌, inl, inr, ⊎_eli
 use Rattle.std.proofs.Common.{◌∙◌, subst, arith}
 use Rattle.std.proofs.lemmas.Int.{ints}
 use Rattle.lay_point.specs.declared.point.Point.{Point}
-use Rattle.snap_pixels.specs.Order.{ArePointsRising}
+use Rattle.snap_segments.specs.Order.{ArePointsRising}
 use Rattle.lay_point.specs.Points.{IsBefore}
 
 IsBefore-trans : (p q r : Point) → IsBefore p q → IsBefore q r → IsBefore p r

@@ -3,9 +3,9 @@ use Rattle.std.proofs.Common.{◌≡◌, [], ◌∷◌, ℤ, pos, ◌-ℤ◌, �
 use Rattle.lay_int_laws.proofs.Division.{rounded}
 use Rattle.lay_int_laws.proofs.Polynomials.{#, lit, ◌⊕◌, ◌⊖◌, ◌⊗◌, identity}
 use Rattle.lay_int_laws.proofs.Signs.{linear, positive_product}
-use Rattle.snap_pixels.specs.Pixels.{IsRoundedTo}
-use Rattle.snap_pixels.specs.Segments.{along}
-use Rattle.snap_pixels.proofs.RoundLemmas.{IsRoundedTo-one, IsRoundedTo-same}
+use Rattle.snap_segments.specs.Pixels.{IsRoundedTo}
+use Rattle.snap_segments.specs.Segments.{along}
+use Rattle.snap_segments.proofs.RoundLemmas.{IsRoundedTo-one, IsRoundedTo-same}
 use Rattle.snap_pixel_laws.specs.Laws.{CrossingsAreMet, EitherWayMeets, EndsAreMet, PlacesHaveOnePixel, ScalesAreFree}
 
 pub one_pixel : PlacesHaveOnePixel

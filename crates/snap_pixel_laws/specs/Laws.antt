@@ -2,10 +2,10 @@
 -- Source: Hobby, Practical segment intersection with finite precision output, 1999.
 use Rattle.std.specs.Prelude.{◌≡◌, ◌↔◌, ℤ, pos, ◌*ℤ◌, ◌≤ℤ◌, List}
 use Rattle.lay_point.specs.declared.point.Point.{Point}
-use Rattle.snap_pixels.specs.declared.segment.Segment.{Segment}
+use Rattle.snap_segments.specs.declared.segment.Segment.{Segment}
 use Rattle.snap_pixels.specs.Hot.{AreHotCentres}
-use Rattle.snap_pixels.specs.Pixels.{HoldsPlace}
-use Rattle.snap_pixels.specs.Segments.{Crosses, Meets}
+use Rattle.snap_segments.specs.Pixels.{HoldsPlace}
+use Rattle.snap_segments.specs.Segments.{Crosses, Meets}
 
 -- the place (x / k, y / k) is in a pixel, and in no other
 abbrev pub PlacesHaveOnePixel : Type 0

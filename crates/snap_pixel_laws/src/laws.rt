@@ -2,7 +2,7 @@
 ghost use Rattle.snap_pixel_laws.specs.Laws.{AreOneList, CrossingsAreMet, EndsAreMet, EitherWayMeets};
 ghost use Rattle.snap_pixel_laws.specs.Laws.{PlacesHaveOnePixel, ScalesAreFree};
 
-use snap_pixels::Segment;
+use snap_segments::Segment;
 
 /// Each place is in one pixel, and what a segment meets follows from its ends alone.
 pub fn pixels_have_laws()

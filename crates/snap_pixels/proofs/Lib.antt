@@ -1,11 +1,6 @@
-pub mod BoundLemmas
-pub mod BoxLemmas
-pub mod CrossingLemmas
 pub mod CutLemmas
 pub mod HotLemmas
 pub mod KindLemmas
 pub mod MarkLemmas
-pub mod OrderLemmas
 pub mod PartLemmas
-pub mod RoundLemmas
-pub mod SideLemmas
+pub use Rattle.snap_segments.proofs.CrossingLemmas

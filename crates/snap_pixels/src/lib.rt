@@ -4,7 +4,7 @@
 //! Lengths are in database units of 5 nanometres, and a coordinate may be any `i32`. The pixel of a
 //! point is the unit square round it, with its left and lower sides and without the other two, so that
 //! each place is in one pixel. A place between points is a fraction, as two whole numbers and a scale
-//! (`specs/Pixels.antt`, `specs/Segments.antt`). All arithmetic is exact, in 64 and 128 bits.
+//! (`snap_segments/specs/Pixels.antt`, `snap_segments/specs/Segments.antt`). All arithmetic is exact, in 64 and 128 bits.
 //!
 //! A `Segment` keeps in its type that its ends differ. A `HotSet` is seen as the list of its centres,
 //! and keeps that they rise in the order of points. `hot` and `hot_plain` return exactly the hot
@@ -26,29 +26,17 @@
 //! ```
 #![tactic(auto)]
 
-mod boxes;
 mod cell;
 mod counts;
-mod crossing;
 mod cut;
 mod direction;
-mod distinct;
-mod exact;
-mod hot_set;
 mod kind;
-mod meeting;
 mod parts;
-mod rounding;
 mod search;
-mod segment;
-mod side;
-mod span;
 #[cfg(test)]
 mod tests;
 
-pub use crossing::crossing as crossing_centre;
-pub use exact::{MAX_AREA, area};
-pub use hot_set::{HotSet, turned, turned_all};
-pub use meeting::meets;
 pub use search::{hot, hot_plain};
-pub use segment::Segment;
+pub use snap_segments::{
+    HotSet, MAX_AREA, Segment, area, crossing as crossing_centre, meets, turned, turned_all,
+};

@@ -10,7 +10,8 @@ ghost use Rattle.lay_point.specs.Rings.{IsRing};
 
 use anyhow::Context;
 use lay_point::{Point, Ring};
-use snap_chains::{Input, OwnedRing, Owner, round};
+use snap_chains::round;
+use snap_visits::{Input, OwnedRing, Owner};
 use std::alloc::{AllocError, Global};
 use std::io;
 use std::io::Read;

@@ -6,9 +6,9 @@ use Rattle.std.proofs.lemmas.Int.{ints}
 use Rattle.lay_int_laws.proofs.Signs.{linear}
 use Rattle.lay_point.specs.declared.point.Point.{Point}
 use Rattle.lay_point.specs.Points.{IsBefore}
-use Rattle.snap_pixels.specs.Segments.{Crosses, IsFraction, along, cross}
-use Rattle.snap_pixels.proofs.CrossingLemmas.{IsFound, Crosses-some, Crosses-none, Crosses-parallel, Crosses-same_turned, turned_left}
-use Rattle.snap_pixels.proofs.RoundLemmas.{IsRoundedTo-quotient}
+use Rattle.snap_segments.specs.Segments.{Crosses, IsFraction, along, cross}
+use Rattle.snap_segments.proofs.CrossingLemmas.{IsFound, Crosses-some, Crosses-none, Crosses-parallel, Crosses-same_turned, turned_left}
+use Rattle.snap_segments.proofs.RoundLemmas.{IsRoundedTo-quotient}
 use Rattle.snap_chains.proofs.Members.{Has}
 use Rattle.snap_round_laws.specs.Crossings.{crossing_of, hot_centres, is_fraction, left_crossing, marks_of, nearest}
 use Rattle.snap_round_laws.specs.Sorting.{point_order}

@@ -8,14 +8,14 @@ use Rattle.std.proofs.lemmas.List.Elements.{recursion_from_All}
 use Rattle.lay_point.specs.declared.point.Point.{Point}
 use Rattle.lay_point.specs.Edges.{undirected}
 use Rattle.lay_point.specs.Rings.{IsRing, NeighboursDiffer, closed as closed_ring}
-use Rattle.snap_pixels.specs.declared.segment.Segment.{Segment}
-use Rattle.snap_pixels.specs.Hot.{IsHot}
+use Rattle.snap_segments.specs.declared.segment.Segment.{Segment}
+use Rattle.snap_chains.specs.Hot.{IsHot}
 use Rattle.snap_chains.specs.Chains.{IsChain}
 use Rattle.snap_chains.specs.Rising.{pairs}
 use Rattle.snap_chains.specs.Rounding.{IsRoundedPath, closed_walk, further, point, tail}
 use Rattle.snap_chains.specs.Undirected.{AreEdgesOf, IsEdgeBefore, is_owned, walked_edges}
 use Rattle.snap_chains.proofs.Members.{Has, has, contains, has-append_left, has-append_right}
-use Rattle.snap_chains.specs.declared.owner.Owner.{Owner}
+use Rattle.snap_chains.specs.Owner.{Owner}
 use Rattle.snap_chains.specs.Owners.{IsOwnerBefore, owner_eq}
 use Rattle.snap_chains.specs.Round.{AreOwnersOf, owner_walks}
 use Rattle.snap_chains.specs.Sides.{segment_ends}

@@ -14,11 +14,11 @@ use Rattle.lay_point.specs.Edges.{is_before, undirected}
 use Rattle.lay_point.specs.Points.{is_coordinate, is_in_range}
 use Rattle.lay_point.specs.Rings.{IsRing}
 use Rattle.lay_point.proofs.EdgeOrder.{before_total, test_by_before}
-use Rattle.snap_pixels.specs.declared.segment.Segment.{Segment}
-use Rattle.snap_pixels.specs.Hot.{IsHot}
-use Rattle.snap_pixels.specs.Pixels.{HoldsPlace}
-use Rattle.snap_pixels.specs.Segments.{IsFraction, along}
-use Rattle.snap_pixels.proofs.RoundLemmas.{IsRoundedTo-low, IsRoundedTo-high}
+use Rattle.snap_segments.specs.declared.segment.Segment.{Segment}
+use Rattle.snap_chains.specs.Hot.{IsHot}
+use Rattle.snap_segments.specs.Pixels.{HoldsPlace}
+use Rattle.snap_segments.specs.Segments.{IsFraction, along}
+use Rattle.snap_segments.proofs.RoundLemmas.{IsRoundedTo-low, IsRoundedTo-high}
 use Rattle.snap_chains.proofs.SharedEnds.{ends_differ}
 use Rattle.snap_chains.specs.Chains.{IsRoundedEdge}
 use Rattle.snap_chains.specs.Rising.{pairs}
@@ -29,7 +29,7 @@ use Rattle.snap_chains.proofs.Members.{Has, has, contains, has-append}
 use Rattle.snap_chains.proofs.Rising.{pair_first, pair_second}
 use Rattle.snap_chains.proofs.RoundedChains.{rounded_paths_have_edges}
 use Rattle.snap_chains.proofs.Undirected.{gone}
-use Rattle.snap_chains.specs.declared.owner.Owner.{Owner}
+use Rattle.snap_chains.specs.Owner.{Owner}
 use Rattle.snap_chains.specs.OwnedRings.{AreRounded}
 use Rattle.snap_chains.specs.Round.{IsRoundOf}
 use Rattle.snap_chains.specs.Rounded.{Owned}

@@ -5,3 +5,4 @@ pub mod Sorting
 pub mod Crossing
 pub mod Meeting
 pub mod Exists
+pub use Rattle.snap_chains.proofs.PathLemmas

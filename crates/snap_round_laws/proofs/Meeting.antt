@@ -11,10 +11,10 @@ use Rattle.std.proofs.lemmas.Cmp.{int_ranked}
 use Rattle.lay_int_laws.proofs.Polynomials.{#, lit, ◌⊕◌, ◌⊖◌, ◌⊗◌, identity}
 use Rattle.lay_int_laws.proofs.Signs.{linear, nonnegative_product, positive_product, cancel_nonnegative, cancel_positive}
 use Rattle.lay_point.specs.declared.point.Point.{Point}
-use Rattle.snap_pixels.specs.Segments.{Meets, along}
-use Rattle.snap_pixels.specs.Sides.{depth}
-use Rattle.snap_pixels.proofs.SideLemmas.{lower_is, upper_is, later_passes, open_passes, closed_passes, earlier_passes, open_leaves}
-use Rattle.snap_pixels.proofs.SideLemmas.{closed_leaves, holds_between, holds_none, holds_touching, touching_none}
+use Rattle.snap_segments.specs.Segments.{Meets, along}
+use Rattle.snap_segments.specs.Sides.{depth}
+use Rattle.snap_segments.proofs.SideLemmas.{lower_is, upper_is, later_passes, open_passes, closed_passes, earlier_passes, open_leaves}
+use Rattle.snap_segments.proofs.SideLemmas.{closed_leaves, holds_between, holds_none, holds_touching, touching_none}
 use Rattle.snap_round_laws.specs.Meeting.{
   Bound,
   bound_order,

@@ -2,10 +2,10 @@
 use Rattle.std.proofs.Common.{◌≡◌, ◌⊎◌, inl, inr, List, map, ◌<ℤ◌, ap, subst, ◌∙◌}
 use Rattle.lay_point.specs.declared.point.Point.{Point}
 use Rattle.lay_point.specs.Points.{IsBefore}
-use Rattle.snap_pixels.specs.declared.segment.Segment.{Segment}
-use Rattle.snap_pixels.specs.Hot.{IsHot}
-use Rattle.snap_pixels.specs.Segments.{Crosses}
-use Rattle.snap_pixels.proofs.MarkLemmas.{HoldsPlace-whole}
+use Rattle.snap_segments.specs.declared.segment.Segment.{Segment}
+use Rattle.snap_chains.specs.Hot.{IsHot}
+use Rattle.snap_segments.specs.Segments.{Crosses}
+use Rattle.snap_chains.proofs.MarkLemmas.{HoldsPlace-whole}
 use Rattle.snap_chains.proofs.Members.{Has, has, contains}
 use Rattle.snap_chains.specs.Sides.{segment_ends}
 use Rattle.snap_chains.proofs.PathLemmas.{Contains-map, Has-map}

@@ -13,8 +13,8 @@ use Rattle.lay_point.proofs.EdgeOrder.{same_point}
 use Rattle.snap_chains.specs.Rising.{IsRising}
 use Rattle.snap_chains.specs.Undirected.{IsEdgeBefore}
 use Rattle.snap_chains.proofs.Members.{Has, has-append, has-append_left, has-append_right}
-use Rattle.snap_chains.specs.declared.owner.Input.TheVariants.{First, Second}
-use Rattle.snap_chains.specs.declared.owner.Owner.{Owner}
+use Rattle.snap_chains.specs.Input.TheVariants.{First, Second}
+use Rattle.snap_chains.specs.Owner.{Owner}
 use Rattle.snap_chains.specs.Owners.{IsInputBefore, IsOwnerBefore}
 use Rattle.snap_round_laws.specs.Rounding.{way_along, way_order}
 use Rattle.snap_round_laws.specs.Sorting.{by_order, edge_order, input_order, inserted, owner_order, point_order, sorted_once}

@@ -2,9 +2,9 @@
 use Rattle.std.proofs.Common.{◌≡◌, List, [], ◌∷◌, ◌++◌, map, refl, sym, ap₂, subst, ◌∙◌}
 use Rattle.std.specs.List.{AllZip}
 use Rattle.lay_point.specs.declared.point.Point.{Point}
-use Rattle.snap_pixels.specs.declared.segment.Segment.{Segment}
-use Rattle.snap_pixels.specs.Hot.{IsHot}
-use Rattle.snap_pixels.specs.Segments.{Meets}
+use Rattle.snap_segments.specs.declared.segment.Segment.{Segment}
+use Rattle.snap_chains.specs.Hot.{IsHot}
+use Rattle.snap_segments.specs.Segments.{Meets}
 use Rattle.snap_chains.specs.Edges.{IsBelow}
 use Rattle.snap_chains.specs.Chains.{IsChain}
 use Rattle.snap_chains.specs.Rising.{IsRising}
@@ -14,7 +14,7 @@ use Rattle.snap_chains.proofs.ChainOrder.{below_is_strict}
 use Rattle.snap_chains.proofs.Members.{has, contains}
 use Rattle.snap_chains.proofs.Rising.{same_members}
 use Rattle.snap_chains.proofs.Undirected.{edges_are_strict}
-use Rattle.snap_chains.specs.declared.owner.Owner.{Owner}
+use Rattle.snap_chains.specs.Owner.{Owner}
 use Rattle.snap_chains.specs.Owners.{IsOwnerBefore}
 use Rattle.snap_chains.specs.Round.{AreOwnersOf}
 use Rattle.snap_chains.specs.Sides.{segment_ends}

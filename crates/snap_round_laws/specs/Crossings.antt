@@ -4,7 +4,7 @@ use Rattle.std.specs.Prelude.{ℤ, pos, ◌+ℤ◌, ◌*ℤ◌, int_le, int_lt, 
 use Rattle.std.specs.Int.{int_div_euclid}
 use Rattle.std.specs.List.{filter_map}
 use Rattle.lay_point.specs.declared.point.Point.{Point}
-use Rattle.snap_pixels.specs.Segments.{along, cross}
+use Rattle.snap_segments.specs.Segments.{along, cross}
 use Rattle.snap_round_laws.specs.Sorting.{point_order, sorted_once}
 
 -- the whole number that a / k is rounded to, for a positive k

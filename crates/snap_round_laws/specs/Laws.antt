@@ -5,7 +5,7 @@ use Rattle.lay_point.specs.declared.point.Point.{Point}
 use Rattle.lay_point.specs.Edges.{is_before}
 use Rattle.lay_point.specs.Points.{is_in_range}
 use Rattle.lay_point.specs.Rings.{IsRing}
-use Rattle.snap_chains.specs.declared.owner.Owner.{Owner}
+use Rattle.snap_chains.specs.Owner.{Owner}
 use Rattle.snap_chains.specs.Round.{IsRoundOf}
 use Rattle.snap_chains.specs.Rounded.{AreClean, IsRounded, Owned}
 use Rattle.snap_round_laws.specs.Rounding.{rounded_of}

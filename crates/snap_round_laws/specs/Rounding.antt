@@ -10,7 +10,7 @@ use Rattle.lay_point.specs.Edges.{undirected}
 use Rattle.snap_chains.specs.Rising.{pairs}
 use Rattle.snap_chains.specs.Rounding.{closed_walk, tail}
 use Rattle.snap_chains.specs.Undirected.{is_owned, walked_edges}
-use Rattle.snap_chains.specs.declared.owner.Owner.{Owner}
+use Rattle.snap_chains.specs.Owner.{Owner}
 use Rattle.snap_chains.specs.Round.{owner_walks}
 use Rattle.snap_chains.specs.Rounded.{Owned}
 use Rattle.snap_round_laws.specs.Crossings.{hot_centres}

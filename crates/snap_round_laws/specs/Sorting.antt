@@ -4,9 +4,9 @@ use Rattle.std.specs.declared.cmp.Ordering.{Ordering}
 use Rattle.std.specs.declared.cmp.Ordering.TheVariants.{Less, Equal, Greater}
 use Rattle.std.specs.Ordering.{int_cmp, nat_cmp, on, then_cmp}
 use Rattle.lay_point.specs.declared.point.Point.{Point}
-use Rattle.snap_chains.specs.declared.owner.Input.{Input}
-use Rattle.snap_chains.specs.declared.owner.Input.TheVariants.{First, Second}
-use Rattle.snap_chains.specs.declared.owner.Owner.{Owner}
+use Rattle.snap_chains.specs.Input.{Input}
+use Rattle.snap_chains.specs.Input.TheVariants.{First, Second}
+use Rattle.snap_chains.specs.Owner.{Owner}
 
 -- one of three, by what an order answers
 abbrev pub by_order : {A : Type 0} → Ordering → A → A → A → A

@@ -16,48 +16,48 @@ use Rattle.lay_point.specs.declared.turn.Turn.{Turn}
 use Rattle.lay_point.specs.Points.{is_in_range}
 use Rattle.lay_point.specs.Rings.{ring_of}
 use Rattle.lay_point.proofs.Members.{Has, contains as contains_has}
-use Rattle.lay_cells.specs.declared.cell_id.CellId.{CellId}
-use Rattle.lay_cells.specs.declared.cell_id.CellId.TheVariants.{Symbol, Top}
-use Rattle.lay_cells.specs.declared.cells.TheConstants.{MAX_SYMBOL}
-use Rattle.lay_cells.specs.SameCell.{cell_eq}
-use Rattle.lay_items.specs.declared.id.ItemId.{ItemId}
-use Rattle.lay_items.specs.declared.item.Item as items_of
-use Rattle.lay_items.specs.declared.item.Item.TheVariants.{Shape}
-use Rattle.lay_items.specs.Calls.{calls_of}
-use Rattle.lay_items.specs.IdOrder.{ids_exact, ids_total}
-use Rattle.lay_items.specs.Layout.{Layout, Write, is_cell, item_at}
-use Rattle.lay_items.specs.Same.{item_eq-Decides, option_item_eq-Decides}
-use Rattle.lay_items.specs.SameLayout.{id_eq-Decides}
-use Rattle.txn_rules.specs.declared.command.Command.{Command}
-use Rattle.txn_rules.specs.declared.command.Command.TheVariants.{Bool as Combine, Box, Delete, DropCell, Look, MakeCell, Move, Place}
-use Rattle.txn_rules.specs.declared.command.Command.TheVariants.{Poly}
-use Rattle.txn_rules.specs.declared.command.Command.TheVariants.{SetLayer}
-use Rattle.txn_rules.specs.declared.command.Done.{Done}
-use Rattle.txn_rules.specs.declared.command.TxnId.{TxnId}
-use Rattle.txn_rules.specs.declared.element.Element.{Element}
-use Rattle.txn_rules.specs.declared.element.Element.TheVariants.{Calls, Cell, Content, Item, Layer, Uses}
-use Rattle.txn_rules.specs.declared.fault.CmdFault.{CmdFault}
-use Rattle.txn_rules.specs.declared.fault.CmdFault.TheVariants.{CellThere, CellUsed, Cycle, FewPoints, NoCell, NoItem, OutOfRange}
+use Rattle.lay_calls.specs.declared.cell_id.CellId.{CellId}
+use Rattle.lay_calls.specs.declared.cell_id.CellId.TheVariants.{Symbol, Top}
+use Rattle.lay_calls.specs.declared.cells.TheConstants.{MAX_SYMBOL}
+use Rattle.lay_calls.specs.SameCell.{cell_eq}
+use Rattle.lay_layouts.specs.declared.id.ItemId.{ItemId}
+use Rattle.lay_layouts.specs.declared.item.Item as items_of
+use Rattle.lay_layouts.specs.declared.item.Item.TheVariants.{Shape}
+use Rattle.lay_layouts.specs.Calls.{calls_of}
+use Rattle.lay_layouts.specs.IdOrder.{ids_exact, ids_total}
+use Rattle.lay_layouts.specs.Layout.{Layout, Write, is_cell, item_at}
+use Rattle.lay_layouts.specs.Same.{item_eq-Decides, option_item_eq-Decides}
+use Rattle.lay_layouts.specs.SameLayout.{id_eq-Decides}
+use Rattle.txn_commands.specs.declared.command.Command.{Command}
+use Rattle.txn_commands.specs.declared.command.Command.TheVariants.{Bool as Combine, Box, Delete, DropCell, Look, MakeCell, Move, Place}
+use Rattle.txn_commands.specs.declared.command.Command.TheVariants.{Poly}
+use Rattle.txn_commands.specs.declared.command.Command.TheVariants.{SetLayer}
+use Rattle.txn_commands.specs.declared.command.Done.{Done}
+use Rattle.txn_commands.specs.declared.command.TxnId.{TxnId}
+use Rattle.txn_commands.specs.declared.element.Element.{Element}
+use Rattle.txn_commands.specs.declared.element.Element.TheVariants.{Calls, Cell, Content, Item, Layer, Uses}
+use Rattle.txn_commands.specs.declared.fault.CmdFault.{CmdFault}
+use Rattle.txn_commands.specs.declared.fault.CmdFault.TheVariants.{CellThere, CellUsed, Cycle, FewPoints, NoCell, NoItem, OutOfRange}
 use Rattle.bool_rules.specs.Booleans.{bool_shapes}
-use Rattle.txn_rules.specs.Acts.{Act, bool_act, cell_elements, change_act, drop_cell_act, item_elements, look_act, make_cell_act}
-use Rattle.txn_rules.specs.Acts.{operands, place_act, shape_act}
-use Rattle.txn_rules.specs.Agreement.{Agree, AgreeOn}
-use Rattle.txn_rules.specs.Compared.{agrees, entry_eq, lying, same_in, same_lying}
-use Rattle.txn_rules.specs.Covers.{has}
-use Rattle.txn_rules.specs.Effects.{Run, after_each, begun, effect, next_id, perform}
-use Rattle.txn_rules.specs.Elements.{Touched, element_cmp, elements_exact, elements_total}
-use Rattle.txn_rules.specs.Figures.{box_ring, moved, shape_of}
-use Rattle.txn_rules.specs.Lies.{lies}
-use Rattle.txn_rules.specs.Plans.{is_used, move_to, plan, refused_if, relayer, ring_act, shape_ids}
-use Rattle.txn_rules.specs.Reach.{is_among, reached}
-use Rattle.txn_rules.proofs.Agreements.{same_item, same_slot}
+use Rattle.txn_commands.specs.Acts.{Act, bool_act, cell_elements, change_act, drop_cell_act, item_elements, look_act, make_cell_act}
+use Rattle.txn_commands.specs.Acts.{operands, place_act, shape_act}
+use Rattle.txn_commands.specs.Agreement.{Agree, AgreeOn}
+use Rattle.txn_commands.specs.Compared.{agrees, entry_eq, lying, same_in, same_lying}
+use Rattle.txn_commands.specs.Covers.{has}
+use Rattle.txn_commands.specs.Effects.{Run, after_each, begun, effect, next_id, perform}
+use Rattle.txn_commands.specs.Elements.{Touched, element_cmp, elements_exact, elements_total}
+use Rattle.txn_commands.specs.Figures.{box_ring, moved, shape_of}
+use Rattle.txn_commands.specs.Lies.{lies}
+use Rattle.txn_commands.specs.Plans.{is_used, move_to, plan, refused_if, relayer, ring_act, shape_ids}
+use Rattle.txn_commands.specs.Reach.{is_among, reached}
+use Rattle.txn_commands.proofs.Agreements.{same_item, same_slot}
 use Rattle.txn_rules.proofs.Booleans.{replaced_by}
-use Rattle.txn_rules.proofs.Lying.{filter-alike_maps}
-use Rattle.txn_rules.proofs.Maps.{same_key}
+use Rattle.txn_commands.proofs.Lying.{filter-alike_maps}
+use Rattle.txn_commands.proofs.Maps.{same_key}
 use Rattle.txn_rules.proofs.Reach.{cell_eq-refl, reached-walks}
 use Rattle.txn_rules.proofs.Runs.{IsAct, act_of, contains-with, goes_on}
 use Rattle.txn_rules.proofs.SamePlans.{drawn_by, given, moved_to, passed, relayered}
-use Rattle.txn_rules.proofs.Steps.{option_slot_eq-Decides}
+use Rattle.txn_commands.proofs.Steps.{option_slot_eq-Decides}
 use Rattle.txn_footprint_laws.specs.Owed.{FootprintsAreOwed, IsOfCell, IsOfNew, IsOperand, IsOwed, IsOwedByOne, IsReached, IsWritten}
 
 -- ---- lists of elements

@@ -2,26 +2,26 @@
 -- Source: this project's own rule.
 use Rattle.std.specs.Prelude.{◌≡◌, ◌⊎◌, ℕ, List, ◌∷◌, ◌++◌, true, Some, Ok, Contains}
 use Rattle.std.specs.FinSet as set
-use Rattle.lay_cells.specs.declared.cell_id.CellId.{CellId}
-use Rattle.lay_cells.specs.declared.cell_id.CellId.TheVariants.{Symbol, Top}
-use Rattle.lay_cells.specs.Walks.{Walks}
-use Rattle.lay_items.specs.declared.id.ItemId.{ItemId}
-use Rattle.lay_items.specs.Calls.{calls_of}
-use Rattle.lay_items.specs.Layout.{Layout, Write}
-use Rattle.txn_rules.specs.declared.command.Command.{Command}
-use Rattle.txn_rules.specs.declared.command.Command.TheVariants.{Bool as Combine, Box, Delete, DropCell, Look, MakeCell, Move, Place}
-use Rattle.txn_rules.specs.declared.command.Command.TheVariants.{Poly}
-use Rattle.txn_rules.specs.declared.command.Command.TheVariants.{SetLayer}
-use Rattle.txn_rules.specs.declared.command.TxnId.{TxnId}
-use Rattle.txn_rules.specs.declared.element.Element.{Element}
-use Rattle.txn_rules.specs.declared.element.Element.TheVariants.{Calls, Cell, Content, Item, Layer, Uses}
-use Rattle.txn_rules.specs.Acts.{Act}
-use Rattle.txn_rules.specs.Agreement.{AgreeOn}
-use Rattle.txn_rules.specs.Compared.{agrees}
-use Rattle.txn_rules.specs.Covers.{has}
-use Rattle.txn_rules.specs.Effects.{Run, after_each, begun, next_id}
-use Rattle.txn_rules.specs.Elements.{Touched}
-use Rattle.txn_rules.specs.Plans.{plan}
+use Rattle.lay_calls.specs.declared.cell_id.CellId.{CellId}
+use Rattle.lay_calls.specs.declared.cell_id.CellId.TheVariants.{Symbol, Top}
+use Rattle.lay_calls.specs.Walks.{Walks}
+use Rattle.lay_layouts.specs.declared.id.ItemId.{ItemId}
+use Rattle.lay_layouts.specs.Calls.{calls_of}
+use Rattle.lay_layouts.specs.Layout.{Layout, Write}
+use Rattle.txn_commands.specs.declared.command.Command.{Command}
+use Rattle.txn_commands.specs.declared.command.Command.TheVariants.{Bool as Combine, Box, Delete, DropCell, Look, MakeCell, Move, Place}
+use Rattle.txn_commands.specs.declared.command.Command.TheVariants.{Poly}
+use Rattle.txn_commands.specs.declared.command.Command.TheVariants.{SetLayer}
+use Rattle.txn_commands.specs.declared.command.TxnId.{TxnId}
+use Rattle.txn_commands.specs.declared.element.Element.{Element}
+use Rattle.txn_commands.specs.declared.element.Element.TheVariants.{Calls, Cell, Content, Item, Layer, Uses}
+use Rattle.txn_commands.specs.Acts.{Act}
+use Rattle.txn_commands.specs.Agreement.{AgreeOn}
+use Rattle.txn_commands.specs.Compared.{agrees}
+use Rattle.txn_commands.specs.Covers.{has}
+use Rattle.txn_commands.specs.Effects.{Run, after_each, begun, next_id}
+use Rattle.txn_commands.specs.Elements.{Touched}
+use Rattle.txn_commands.specs.Plans.{plan}
 
 -- that the cell is there was looked at; the top cell always is
 abbrev pub IsOfCell : CellId → Element → Type 0

@@ -8,21 +8,21 @@ use Rattle.std.specs.FinMap.{same_map}
 use Rattle.std.specs.List.Sorted.{IsStrictlySortedBy}
 use Rattle.std.specs.Map.{keys_of, lookup}
 use Rattle.std.specs.Ordering.{eq_by_cmp, nat_cmp}
-use Rattle.lay_items.specs.declared.id.ItemId.{ItemId}
-use Rattle.lay_items.specs.declared.item.Item.{Item}
-use Rattle.lay_items.specs.declared.slot.CellSlot.{CellSlot}
-use Rattle.lay_items.specs.IdOrder.{ids_exact, ids_total}
-use Rattle.lay_items.specs.Ids.{id_cmp}
-use Rattle.lay_items.specs.Layout.{AreRising, put}
-use Rattle.lay_items.specs.Same.{option_item_eq}
-use Rattle.lay_items.proofs.MapLemmas.{entries_again, get_lookup}
-use Rattle.txn_rules.specs.Changes.{Change, change_map, change_of}
-use Rattle.txn_rules.specs.Records.{AreProper, Records, befores, cell_record_of, option_slot_eq, record_of, recorded_change}
-use Rattle.txn_rules.specs.Records.{records_between}
-use Rattle.txn_rules.specs.Records.{slot_befores, slot_change_at}
+use Rattle.lay_layouts.specs.declared.id.ItemId.{ItemId}
+use Rattle.lay_layouts.specs.declared.item.Item.{Item}
+use Rattle.lay_layouts.specs.declared.slot.CellSlot.{CellSlot}
+use Rattle.lay_layouts.specs.IdOrder.{ids_exact, ids_total}
+use Rattle.lay_layouts.specs.Ids.{id_cmp}
+use Rattle.lay_layouts.specs.Layout.{AreRising, put}
+use Rattle.lay_layouts.specs.Same.{option_item_eq}
+use Rattle.lay_layouts.proofs.MapLemmas.{entries_again, get_lookup}
+use Rattle.txn_commands.specs.Changes.{Change, change_map, change_of}
+use Rattle.txn_commands.specs.Records.{AreProper, Records, befores, cell_record_of, option_slot_eq, record_of, recorded_change}
+use Rattle.txn_commands.specs.Records.{records_between}
+use Rattle.txn_commands.specs.Records.{slot_befores, slot_change_at}
 use Rattle.txn_rules.proofs.LawProofs.{changes_merge, slot_changes_merge}
-use Rattle.txn_rules.proofs.Maps.{get-put}
-use Rattle.txn_rules.proofs.Steps.{cell_entry_of, recorded_change-find, entry_of, rising_again, slot_change_at-find}
+use Rattle.txn_commands.proofs.Maps.{get-put}
+use Rattle.txn_commands.proofs.Steps.{cell_entry_of, recorded_change-find, entry_of, rising_again, slot_change_at-find}
 use Rattle.txn_marks.specs.WritesOf.{Merges, MergesSymbol}
 
 -- the records of changes have all that these have

@@ -11,29 +11,29 @@ use Rattle.std.specs.FinMap.{IsAntisymmetric, entries, find, get, get-entries}
 use Rattle.std.specs.FinSet.{contains-items, from_list, items}
 use Rattle.std.specs.List.{AllByRecursion, list_all}
 use Rattle.std.specs.Ordering.{eq_by_cmp}
-use Rattle.lay_cells.specs.declared.cell_id.CellId.{CellId}
-use Rattle.lay_cells.specs.declared.cell_id.CellId.TheVariants.{Symbol}
-use Rattle.lay_cells.specs.SameCell.{cell_eq, cell_eq-Decides}
-use Rattle.lay_items.specs.declared.id.ItemId.{ItemId}
-use Rattle.lay_items.specs.declared.item.Item as item
-use Rattle.lay_items.specs.declared.item.Item.TheVariants.{Placed, Shape}
-use Rattle.lay_items.specs.declared.slot.CellSlot.{CellSlot}
-use Rattle.lay_items.specs.IdOrder.{ids_exact, ids_total}
-use Rattle.lay_items.specs.Ids.{id_cmp}
-use Rattle.lay_items.specs.Items.{cell_of, items_in}
-use Rattle.lay_items.specs.Layout.{Layout, item_at}
-use Rattle.lay_items.specs.Same.{item_eq-Decides, option_item_eq, option_item_eq-Decides}
-use Rattle.lay_items.specs.SameLayout.{id_eq, id_eq-Decides}
-use Rattle.txn_rules.specs.declared.element.Element.{Element}
-use Rattle.txn_rules.specs.declared.element.Element.TheVariants.{Calls, Cell, Content, Item, Layer, Uses}
-use Rattle.txn_rules.specs.Agreement.{Agree, AgreeOn, AreAlike}
-use Rattle.txn_rules.specs.Compared.{agrees, entry_eq, lying, same_in, same_lying}
-use Rattle.txn_rules.specs.Elements.{Touched, element_cmp}
-use Rattle.txn_rules.specs.Lies.{lies, lies_slot}
-use Rattle.txn_rules.proofs.Agreements.{equal-alike}
-use Rattle.txn_rules.proofs.Lying.{entries_found}
-use Rattle.txn_rules.proofs.Maps.{same_key}
-use Rattle.txn_rules.proofs.Steps.{option_slot_eq-Decides}
+use Rattle.lay_calls.specs.declared.cell_id.CellId.{CellId}
+use Rattle.lay_calls.specs.declared.cell_id.CellId.TheVariants.{Symbol}
+use Rattle.lay_calls.specs.SameCell.{cell_eq, cell_eq-Decides}
+use Rattle.lay_layouts.specs.declared.id.ItemId.{ItemId}
+use Rattle.lay_layouts.specs.declared.item.Item as item
+use Rattle.lay_layouts.specs.declared.item.Item.TheVariants.{Placed, Shape}
+use Rattle.lay_layouts.specs.declared.slot.CellSlot.{CellSlot}
+use Rattle.lay_layouts.specs.IdOrder.{ids_exact, ids_total}
+use Rattle.lay_layouts.specs.Ids.{id_cmp}
+use Rattle.lay_layouts.specs.Items.{cell_of, items_in}
+use Rattle.lay_layouts.specs.Layout.{Layout, item_at}
+use Rattle.lay_layouts.specs.Same.{item_eq-Decides, option_item_eq, option_item_eq-Decides}
+use Rattle.lay_layouts.specs.SameLayout.{id_eq, id_eq-Decides}
+use Rattle.txn_commands.specs.declared.element.Element.{Element}
+use Rattle.txn_commands.specs.declared.element.Element.TheVariants.{Calls, Cell, Content, Item, Layer, Uses}
+use Rattle.txn_commands.specs.Agreement.{Agree, AgreeOn, AreAlike}
+use Rattle.txn_commands.specs.Compared.{agrees, entry_eq, lying, same_in, same_lying}
+use Rattle.txn_commands.specs.Elements.{Touched, element_cmp}
+use Rattle.txn_commands.specs.Lies.{lies, lies_slot}
+use Rattle.txn_commands.proofs.Agreements.{equal-alike}
+use Rattle.txn_commands.proofs.Lying.{entries_found}
+use Rattle.txn_commands.proofs.Maps.{same_key}
+use Rattle.txn_commands.proofs.Steps.{option_slot_eq-Decides}
 use Rattle.txn_marks.proofs.SetLemmas.{all_items, each_passes}
 
 -- ---- entries that pass a test

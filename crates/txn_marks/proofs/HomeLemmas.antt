@@ -3,17 +3,17 @@ use Rattle.std.proofs.Common.{◌≡◌, ℕ, Bool, true, false, ◌||◌, List,
 use Rattle.std.proofs.Common.{refl, ap, sym, ◌∙◌}
 use Rattle.std.specs.FinSet.{contains, contains-empty, contains-insert, insert}
 use Rattle.std.specs.List.{flat_map, list_any}
-use Rattle.lay_items.specs.declared.id.ItemId.{ItemId}
-use Rattle.lay_items.specs.declared.item.Item as item
-use Rattle.lay_items.specs.declared.slot.CellSlot.{CellSlot}
-use Rattle.txn_rules.specs.declared.element.Element.{Element}
-use Rattle.txn_rules.specs.declared.element.Element.TheVariants.{Cell}
-use Rattle.txn_rules.specs.declared.record.CellRecord.{CellRecord}
-use Rattle.txn_rules.specs.declared.record.Record.{Record}
-use Rattle.txn_rules.specs.Elements.{Touched, element_cmp, element_eq, elements_total, untouched, with_elements}
-use Rattle.txn_rules.specs.Lies.{lies, lies_slot, passes}
-use Rattle.txn_rules.specs.Meets.{meets, meets_cell, some_meets}
-use Rattle.txn_rules.specs.Records.{Records}
+use Rattle.lay_layouts.specs.declared.id.ItemId.{ItemId}
+use Rattle.lay_layouts.specs.declared.item.Item as item
+use Rattle.lay_layouts.specs.declared.slot.CellSlot.{CellSlot}
+use Rattle.txn_commands.specs.declared.element.Element.{Element}
+use Rattle.txn_commands.specs.declared.element.Element.TheVariants.{Cell}
+use Rattle.txn_commands.specs.declared.record.CellRecord.{CellRecord}
+use Rattle.txn_commands.specs.declared.record.Record.{Record}
+use Rattle.txn_commands.specs.Elements.{Touched, element_cmp, element_eq, elements_total, untouched, with_elements}
+use Rattle.txn_commands.specs.Lies.{lies, lies_slot, passes}
+use Rattle.txn_commands.specs.Meets.{meets, meets_cell, some_meets}
+use Rattle.txn_commands.specs.Records.{Records}
 use Rattle.txn_marks.specs.Homes.{cell_homes, homes_of, met_by, record_homes}
 use Rattle.txn_marks.proofs.AnyLemmas.{any_alike, any_append, any_flat, or_false}
 use Rattle.txn_marks.proofs.TouchLemmas.{lies-homes, lies_slot-home}

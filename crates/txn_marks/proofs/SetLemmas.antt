@@ -9,8 +9,8 @@ use Rattle.std.specs.FinSet.{contains, contains-from_list, contains-insert, cont
 use Rattle.std.specs.FinSet.{remove, same_set}
 use Rattle.std.specs.List.{list_all, list_any}
 use Rattle.std.specs.Ordering.{eq_by_cmp}
-use Rattle.txn_rules.specs.declared.element.Element.{Element}
-use Rattle.txn_rules.specs.Elements.{Touched, element_cmp, element_eq, elements_exact, elements_total}
+use Rattle.txn_commands.specs.declared.element.Element.{Element}
+use Rattle.txn_commands.specs.Elements.{Touched, element_cmp, element_eq, elements_exact, elements_total}
 
 or_cond : (b x : Bool) → cond b true x ≡ (b || x)
 or_cond true x = refl

@@ -6,21 +6,21 @@ use Rattle.std.proofs.lemmas.Slice.Eq.{bytes_eq-Decides}
 use Rattle.std.specs.FinSet.{contains, items}
 use Rattle.std.specs.List.{list_any}
 use Rattle.lay_point.specs.Same.{names_eq}
-use Rattle.lay_cells.specs.declared.cell_id.CellId.{CellId}
-use Rattle.lay_cells.specs.declared.cell_id.CellId.TheVariants.{Symbol, Top}
-use Rattle.lay_cells.specs.SameCell.{cell_eq, cell_eq-Decides}
-use Rattle.lay_items.specs.declared.id.ItemId.{ItemId}
-use Rattle.lay_items.specs.declared.item.Item as item
-use Rattle.lay_items.specs.declared.item.Item.TheVariants.{Placed, Shape}
-use Rattle.lay_items.specs.declared.slot.CellSlot.{CellSlot}
-use Rattle.lay_items.specs.SameLayout.{id_eq, id_eq-Decides}
-use Rattle.txn_rules.specs.declared.element.Element.{Element}
-use Rattle.txn_rules.specs.declared.element.Element.TheVariants.{Calls, Cell, Content, Item, Layer, Uses}
-use Rattle.txn_rules.specs.Changes.{Change}
-use Rattle.txn_rules.specs.Elements.{Touched, element_eq}
-use Rattle.txn_rules.specs.Lies.{lies, lies_slot, passes}
-use Rattle.txn_rules.specs.Meets.{meets, meets_cell, meets_touched}
-use Rattle.txn_rules.specs.Records.{cell_record_of, record_of}
+use Rattle.lay_calls.specs.declared.cell_id.CellId.{CellId}
+use Rattle.lay_calls.specs.declared.cell_id.CellId.TheVariants.{Symbol, Top}
+use Rattle.lay_calls.specs.SameCell.{cell_eq, cell_eq-Decides}
+use Rattle.lay_layouts.specs.declared.id.ItemId.{ItemId}
+use Rattle.lay_layouts.specs.declared.item.Item as item
+use Rattle.lay_layouts.specs.declared.item.Item.TheVariants.{Placed, Shape}
+use Rattle.lay_layouts.specs.declared.slot.CellSlot.{CellSlot}
+use Rattle.lay_layouts.specs.SameLayout.{id_eq, id_eq-Decides}
+use Rattle.txn_commands.specs.declared.element.Element.{Element}
+use Rattle.txn_commands.specs.declared.element.Element.TheVariants.{Calls, Cell, Content, Item, Layer, Uses}
+use Rattle.txn_commands.specs.Changes.{Change}
+use Rattle.txn_commands.specs.Elements.{Touched, element_eq}
+use Rattle.txn_commands.specs.Lies.{lies, lies_slot, passes}
+use Rattle.txn_commands.specs.Meets.{meets, meets_cell, meets_touched}
+use Rattle.txn_commands.specs.Records.{cell_record_of, record_of}
 use Rattle.txn_marks.specs.Homes.{content_elements, homes}
 use Rattle.txn_marks.specs.Met.{are_met, is_item_met, is_symbol_met, symbols_are_met}
 use Rattle.txn_marks.proofs.AnyLemmas.{and_or, any_alike, any_map, any_none, any_or, any_swap, or_false}

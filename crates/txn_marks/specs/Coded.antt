@@ -1,16 +1,16 @@
 -- How changes and records are stored: as their parts.
 use Rattle.std.specs.Prelude.{List, Option, refl}
 use Rattle.std.specs.Coded.{Coded, code_by, coded×, coded_list, coded_option}
-use Rattle.lay_items.specs.declared.item.Item.{Item}
-use Rattle.lay_items.specs.declared.slot.CellSlot.{CellSlot}
-use Rattle.lay_items.specs.contracts.item.Item as item
-use Rattle.lay_items.specs.contracts.slot.CellSlot as slot
-use Rattle.txn_rules.specs.Changes.{Change}
-use Rattle.txn_rules.specs.Records.{Records}
-use Rattle.txn_rules.specs.declared.record.CellRecord.{CellRecord}
-use Rattle.txn_rules.specs.declared.record.Record.{Record}
-use Rattle.txn_rules.specs.contracts.record.CellRecord as cell_record
-use Rattle.txn_rules.specs.contracts.record.Record as record_row
+use Rattle.lay_layouts.specs.declared.item.Item.{Item}
+use Rattle.lay_layouts.specs.declared.slot.CellSlot.{CellSlot}
+use Rattle.lay_layouts.specs.contracts.item.Item as item
+use Rattle.lay_layouts.specs.contracts.slot.CellSlot as slot
+use Rattle.txn_commands.specs.Changes.{Change}
+use Rattle.txn_commands.specs.Records.{Records}
+use Rattle.txn_commands.specs.declared.record.CellRecord.{CellRecord}
+use Rattle.txn_commands.specs.declared.record.Record.{Record}
+use Rattle.txn_commands.specs.contracts.record.CellRecord as cell_record
+use Rattle.txn_commands.specs.contracts.record.Record as record_row
 
 -- a change is its two values
 abbrev pub coded_change : {V : Type 0} → Coded V → Coded (Change V)

@@ -2,18 +2,18 @@
 use Rattle.std.specs.Prelude.{◌≡◌, List, [], ◌∷◌, ◌++◌, ◌||◌, Option, None, Some, if◌then◌else◌, is_some}
 use Rattle.std.specs.FinSet as set
 use Rattle.std.specs.List.{flat_map}
-use Rattle.lay_cells.specs.declared.cell_id.CellId.{CellId}
-use Rattle.lay_cells.specs.declared.cell_id.CellId.TheVariants.{Symbol, Top}
-use Rattle.lay_items.specs.declared.id.ItemId.{ItemId}
-use Rattle.lay_items.specs.declared.item.Item as items
-use Rattle.lay_items.specs.declared.item.Item.TheVariants.{Placed, Shape}
-use Rattle.txn_rules.specs.declared.element.Element.{Element}
-use Rattle.txn_rules.specs.declared.element.Element.TheVariants.{Calls, Cell, Content, Item, Layer, Uses}
-use Rattle.txn_rules.specs.declared.record.CellRecord.{CellRecord}
-use Rattle.txn_rules.specs.declared.record.Record.{Record}
-use Rattle.txn_rules.specs.Elements.{Touched}
-use Rattle.txn_rules.specs.Meets.{some_meets}
-use Rattle.txn_rules.specs.Records.{Records}
+use Rattle.lay_calls.specs.declared.cell_id.CellId.{CellId}
+use Rattle.lay_calls.specs.declared.cell_id.CellId.TheVariants.{Symbol, Top}
+use Rattle.lay_layouts.specs.declared.id.ItemId.{ItemId}
+use Rattle.lay_layouts.specs.declared.item.Item as items
+use Rattle.lay_layouts.specs.declared.item.Item.TheVariants.{Placed, Shape}
+use Rattle.txn_commands.specs.declared.element.Element.{Element}
+use Rattle.txn_commands.specs.declared.element.Element.TheVariants.{Calls, Cell, Content, Item, Layer, Uses}
+use Rattle.txn_commands.specs.declared.record.CellRecord.{CellRecord}
+use Rattle.txn_commands.specs.declared.record.Record.{Record}
+use Rattle.txn_commands.specs.Elements.{Touched}
+use Rattle.txn_commands.specs.Meets.{some_meets}
+use Rattle.txn_commands.specs.Records.{Records}
 
 -- the content of a symbol; the top cell is always there, and its content is no element
 abbrev pub content_elements : CellId → List Element

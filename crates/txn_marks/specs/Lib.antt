@@ -2,3 +2,5 @@ pub mod Coded
 pub mod Homes
 pub mod Met
 pub mod WritesOf
+pub use Rattle.txn_rules.specs.Booleans
+pub use Rattle.txn_rules.specs.Op

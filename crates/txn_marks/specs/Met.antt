@@ -2,13 +2,13 @@
 use Rattle.std.specs.Prelude.{ℕ, List, Bool, false, ◌&&◌, ◌||◌, Option, None, Some, is_some}
 use Rattle.std.specs.FinSet as set
 use Rattle.std.specs.List.{list_any}
-use Rattle.lay_cells.specs.declared.cell_id.CellId.{CellId}
-use Rattle.lay_items.specs.declared.id.ItemId.{ItemId}
-use Rattle.lay_items.specs.declared.item.Item as items
-use Rattle.lay_items.specs.declared.slot.CellSlot.{CellSlot}
-use Rattle.txn_rules.specs.declared.element.Element.TheVariants.{Cell}
-use Rattle.txn_rules.specs.Changes.{Change}
-use Rattle.txn_rules.specs.Elements.{Touched}
+use Rattle.lay_calls.specs.declared.cell_id.CellId.{CellId}
+use Rattle.lay_layouts.specs.declared.id.ItemId.{ItemId}
+use Rattle.lay_layouts.specs.declared.item.Item as items
+use Rattle.lay_layouts.specs.declared.slot.CellSlot.{CellSlot}
+use Rattle.txn_commands.specs.declared.element.Element.TheVariants.{Cell}
+use Rattle.txn_commands.specs.Changes.{Change}
+use Rattle.txn_commands.specs.Elements.{Touched}
 use Rattle.txn_marks.specs.Homes.{content_elements, homes}
 
 -- the content of the cell is an element of the footprint

@@ -1,12 +1,12 @@
 -- What contracts see of writes, and how they merge.
 use Rattle.std.specs.Prelude.{◌≡◌, ℕ, [], ◌∷◌, map, Option}
 use Rattle.std.specs.FinMap as finite
-use Rattle.lay_items.specs.declared.id.ItemId.{ItemId}
-use Rattle.lay_items.specs.declared.item.Item.{Item}
-use Rattle.lay_items.specs.declared.slot.CellSlot.{CellSlot}
-use Rattle.lay_items.specs.Layout.{Layout, item_at}
-use Rattle.txn_rules.specs.Records.{Records, cell_record_of, record_of, records_between}
-use Rattle.txn_rules.specs.Writing.{rewritten}
+use Rattle.lay_layouts.specs.declared.id.ItemId.{ItemId}
+use Rattle.lay_layouts.specs.declared.item.Item.{Item}
+use Rattle.lay_layouts.specs.declared.slot.CellSlot.{CellSlot}
+use Rattle.lay_layouts.specs.Layout.{Layout, item_at}
+use Rattle.txn_commands.specs.Records.{Records, cell_record_of, record_of, records_between}
+use Rattle.txn_commands.specs.Writing.{rewritten}
 use Rattle.txn_marks.specs.declared.writes.Writes.TheInside.{Inside}
 
 -- the records of the two trees, in order

@@ -1,10 +1,10 @@
 //! Values before and after.
 ghost use Rattle.std.specs.Prelude.{◌≡◌, IfOk, option_copied};
-ghost use Rattle.lay_items.specs.Same.{option_item_eq};
-ghost use Rattle.txn_rules.specs.Changes.{change_of};
-ghost use Rattle.txn_rules.specs.Records.{option_slot_eq};
+ghost use Rattle.lay_layouts.specs.Same.{option_item_eq};
+ghost use Rattle.txn_commands.specs.Changes.{change_of};
+ghost use Rattle.txn_commands.specs.Records.{option_slot_eq};
 
-use lay_items::{CellSlot, Item};
+use lay_layouts::{CellSlot, Item};
 use lay_point::NoMemory;
 use std::alloc::{AllocError, Global};
 use std::marker::Model;
@@ -25,8 +25,8 @@ pub struct ItemChange {
 }
 
 impl Model for ItemChange {
-    ghost use Rattle.txn_rules.specs.Changes.{Change};
-    ghost use Rattle.lay_items.specs.declared.item.Item.{Item};
+    ghost use Rattle.txn_commands.specs.Changes.{Change};
+    ghost use Rattle.lay_layouts.specs.declared.item.Item.{Item};
     ghost use Rattle.txn_marks.specs.Coded.{coded_item_change};
     ghost use Rattle.std.specs.Arc.{arc_value};
 
@@ -81,8 +81,8 @@ pub struct CellChange {
 }
 
 impl Model for CellChange {
-    ghost use Rattle.txn_rules.specs.Changes.{Change};
-    ghost use Rattle.lay_items.specs.declared.slot.CellSlot.{CellSlot};
+    ghost use Rattle.txn_commands.specs.Changes.{Change};
+    ghost use Rattle.lay_layouts.specs.declared.slot.CellSlot.{CellSlot};
     ghost use Rattle.txn_marks.specs.Coded.{coded_cell_change};
 
     ghost Value = { Change CellSlot };

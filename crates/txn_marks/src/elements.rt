@@ -1,17 +1,17 @@
 //! The elements in which written values lie.
 ghost use Rattle.std.specs.Prelude.{◌≡◌, OnOk, map, option_copied};
 ghost use Rattle.std.specs.List.{flat_map};
-ghost use Rattle.txn_rules.specs.Elements.{with_elements};
-ghost use Rattle.txn_rules.specs.Records.{cell_record_of, record_of};
+ghost use Rattle.txn_commands.specs.Elements.{with_elements};
+ghost use Rattle.txn_commands.specs.Records.{cell_record_of, record_of};
 ghost use Rattle.txn_marks.specs.Homes.{cell_homes, content_elements, homes_of, record_homes};
 
 use crate::change::{CellChange, ItemChange};
 use crate::footprint::Footprint;
-use lay_cells::CellId;
-use lay_items::{Item, ItemId};
+use lay_calls::CellId;
+use lay_layouts::{Item, ItemId};
 use lay_point::NoMemory;
 use std::collections::BTreeMap;
-use txn_rules::Element;
+use txn_commands::Element;
 
 /// Adds the elements in which the values of these items lie, before and after.
 pub(crate) fn add_items(

@@ -1,13 +1,13 @@
 //! What a transaction touched.
 ghost use Rattle.std.specs.Prelude.{◌≡◌, OnErr, OnOk};
 ghost use Rattle.std.specs.FinSet as set;
-ghost use Rattle.txn_rules.specs.Elements.{untouched};
+ghost use Rattle.txn_commands.specs.Elements.{untouched};
 
 use lay_point::NoMemory;
 use std::alloc::Global;
 use std::collections::BTreeSet;
 use std::marker::Model;
-use txn_rules::Element;
+use txn_commands::Element;
 
 /// The parts of a layout that a transaction read or wrote. Contracts see the finite set of them.
 #[derive(Debug, Drop)]
@@ -17,7 +17,7 @@ pub struct Footprint {
 
 impl Model for Footprint {
     ghost use Rattle.std.specs.FinSet as set;
-    ghost use Rattle.txn_rules.specs.Elements.{Touched, coded_touched};
+    ghost use Rattle.txn_commands.specs.Elements.{Touched, coded_touched};
 
     ghost Value = { Touched };
 

@@ -24,4 +24,5 @@ mod writes;
 pub use change::{CellChange, ItemChange};
 pub use footprint::Footprint;
 pub use same::agrees;
+pub use txn_rules::Op;
 pub use writes::Writes;

@@ -2,12 +2,13 @@
 ghost use Rattle.std.specs.Prelude.{◌≡◌};
 ghost use Rattle.std.specs.Cmp.Lexicographic.{pointwise};
 ghost use Rattle.std.specs.Iterator.{YieldsFirstBy};
-ghost use Rattle.txn_rules.specs.Compared.{entry_eq, lying};
-ghost use Rattle.txn_rules.specs.Lies.{lies};
+ghost use Rattle.txn_commands.specs.Compared.{entry_eq, lying};
+ghost use Rattle.txn_commands.specs.Lies.{lies};
 
-use lay_cells::CellId;
-use lay_items::{Entries, Item, ItemId, Items};
-use txn_rules::Element;
+use lay_calls::CellId;
+use lay_cell_items::{Entries, Items};
+use lay_layouts::{Item, ItemId};
+use txn_commands::Element;
 
 /// Returns whether the same of two cells' items lie in the element.
 pub(crate) fn same_in_cell(element: &Element, mut l: Items<'_>, mut m: Items<'_>) -> bool

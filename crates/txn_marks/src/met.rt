@@ -4,10 +4,10 @@ ghost use Rattle.txn_marks.specs.Met.{are_met, has_content, is_item_met, is_symb
 
 use crate::change::{CellChange, ItemChange};
 use crate::footprint::Footprint;
-use lay_cells::CellId;
-use lay_items::{Item, ItemId};
+use lay_calls::CellId;
+use lay_layouts::{Item, ItemId};
 use std::collections::BTreeMap;
-use txn_rules::Element;
+use txn_commands::Element;
 
 /// Returns whether a value of one of these items, before or after, lies in an element of the footprint.
 pub(crate) fn items_touch(items: &BTreeMap<ItemId, ItemChange>, footprint: &Footprint) -> bool

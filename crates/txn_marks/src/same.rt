@@ -1,16 +1,16 @@
 //! Whether two layouts have the same in each element of a footprint.
 ghost use Rattle.std.specs.Prelude.{◌≡◌, true, option_copied};
 ghost use Rattle.std.specs.List.{list_all};
-ghost use Rattle.lay_items.specs.Same.{option_item_eq};
-ghost use Rattle.txn_rules.specs.Agreement.{AgreeOn};
-ghost use Rattle.txn_rules.specs.Compared.{agrees, same_in};
+ghost use Rattle.lay_layouts.specs.Same.{option_item_eq};
+ghost use Rattle.txn_commands.specs.Agreement.{AgreeOn};
+ghost use Rattle.txn_commands.specs.Compared.{agrees, same_in};
 
 use crate::footprint::Footprint;
 use crate::lying::{same_among_all, same_in_cell};
-use lay_cells::CellId;
-use lay_items::{Item, Snapshot};
+use lay_calls::CellId;
+use lay_layouts::Item;
 use std::collections::BTreeSet;
-use txn_rules::Element;
+use txn_commands::{Element, Snapshot};
 
 /// Returns whether two layouts have the same in each element of the footprint: then they agree on it.
 pub fn agrees(l: &Snapshot, m: &Snapshot, footprint: &Footprint) -> bool

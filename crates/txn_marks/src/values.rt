@@ -1,10 +1,10 @@
 //! The writes that apply changes, and those that revert them.
 ghost use Rattle.std.specs.Prelude.{◌≡◌, IfOk, map};
-ghost use Rattle.txn_rules.specs.Records.{afters, befores, cell_record_of, record_of};
-ghost use Rattle.txn_rules.specs.Records.{slot_afters, slot_befores};
+ghost use Rattle.txn_commands.specs.Records.{afters, befores, cell_record_of, record_of};
+ghost use Rattle.txn_commands.specs.Records.{slot_afters, slot_befores};
 
 use crate::change::{CellChange, ItemChange, cloned};
-use lay_items::{CellSlot, Item, ItemId};
+use lay_layouts::{CellSlot, Item, ItemId};
 use lay_point::NoMemory;
 use std::alloc::Global;
 use std::collections::BTreeMap;

@@ -1,9 +1,9 @@
 //! What a transaction wrote.
 ghost use Rattle.std.specs.Prelude.{◌≡◌, [], IfOk, OnErr, OnOk, map, option_copied};
 ghost use Rattle.std.specs.BTreeMap.{IsOrdered, IsUnchanged, Updates};
-ghost use Rattle.lay_items.specs.Sound.{IsSound};
-ghost use Rattle.txn_rules.specs.Meets.{meets_touched};
-ghost use Rattle.txn_rules.specs.Records.{
+ghost use Rattle.lay_layouts.specs.Sound.{IsSound};
+ghost use Rattle.txn_commands.specs.Meets.{meets_touched};
+ghost use Rattle.txn_commands.specs.Records.{
   AreProper,
   applied,
   cell_record_of,
@@ -20,11 +20,12 @@ use crate::elements::{add_items, add_symbols};
 use crate::footprint::Footprint;
 use crate::met::{items_touch, symbols_touch};
 use crate::values::{item_afters, item_befores, symbol_afters, symbol_befores};
-use lay_items::{CellSlot, Item, ItemId, Snapshot};
+use lay_layouts::{CellSlot, Item, ItemId};
 use lay_point::NoMemory;
 use std::alloc::Global;
 use std::collections::BTreeMap;
 use std::marker::Model;
+use txn_commands::Snapshot;
 
 /// The items and the symbols that differ between two layouts, with both values. Contracts see the records,
 /// in order of ids and of numbers.
@@ -36,7 +37,7 @@ pub struct Writes {
 }
 
 impl Model for Writes {
-    ghost use Rattle.txn_rules.specs.Records.{Records};
+    ghost use Rattle.txn_commands.specs.Records.{Records};
     ghost use Rattle.txn_marks.specs.Coded.{coded_records};
     ghost use Rattle.txn_marks.specs.Homes.{AreMetBy};
     ghost use Rattle.txn_marks.specs.WritesOf.{records_in};

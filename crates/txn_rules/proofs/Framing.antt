@@ -3,21 +3,21 @@ use Rattle.std.proofs.Common.{◌≡◌, ◌+◌, true, false, ◌||◌, List, [
 use Rattle.std.proofs.lemmas.Bool.{or_right}
 use Rattle.std.specs.FinSet.{contains}
 use Rattle.std.specs.Ordering.{eq_by_cmp}
-use Rattle.lay_items.specs.Layout.{Layout}
-use Rattle.lay_items.specs.Sound.{IsSound}
-use Rattle.txn_rules.specs.declared.command.Command.{Command}
-use Rattle.txn_rules.specs.declared.command.Done.{Done}
-use Rattle.txn_rules.specs.declared.command.TheConstants.{MAX_COMMANDS}
-use Rattle.txn_rules.specs.declared.command.TxnId.{TxnId}
-use Rattle.txn_rules.specs.declared.element.Element.{Element}
-use Rattle.txn_rules.specs.declared.fault.CmdFault.TheVariants.{TxnFull}
-use Rattle.txn_rules.specs.Acts.{Act}
-use Rattle.txn_rules.specs.Agreement.{AgreeOn, AgreeOnEach}
-use Rattle.txn_rules.specs.Covers.{has}
-use Rattle.txn_rules.specs.Effects.{Run, acted, after_each, effect, is_too_much, next_id, perform}
-use Rattle.txn_rules.specs.Elements.{Touched, element_cmp, with_elements}
-use Rattle.txn_rules.specs.Plans.{plan, refused_if}
-use Rattle.txn_rules.proofs.Agreements.{agree-rewritten}
+use Rattle.lay_layouts.specs.Layout.{Layout}
+use Rattle.lay_layouts.specs.Sound.{IsSound}
+use Rattle.txn_commands.specs.declared.command.Command.{Command}
+use Rattle.txn_commands.specs.declared.command.Done.{Done}
+use Rattle.txn_commands.specs.declared.command.TheConstants.{MAX_COMMANDS}
+use Rattle.txn_commands.specs.declared.command.TxnId.{TxnId}
+use Rattle.txn_commands.specs.declared.element.Element.{Element}
+use Rattle.txn_commands.specs.declared.fault.CmdFault.TheVariants.{TxnFull}
+use Rattle.txn_commands.specs.Acts.{Act}
+use Rattle.txn_commands.specs.Agreement.{AgreeOn, AgreeOnEach}
+use Rattle.txn_commands.specs.Covers.{has}
+use Rattle.txn_commands.specs.Effects.{Run, acted, after_each, effect, is_too_much, next_id, perform}
+use Rattle.txn_commands.specs.Elements.{Touched, element_cmp, with_elements}
+use Rattle.txn_commands.specs.Plans.{plan, refused_if}
+use Rattle.txn_commands.proofs.Agreements.{agree-rewritten}
 use Rattle.txn_rules.proofs.Planned.{has_first}
 use Rattle.txn_rules.proofs.Runs.{IsAct, act_of, goes_on, grows, touched_by}
 use Rattle.txn_rules.proofs.SamePlans.{same_plan}

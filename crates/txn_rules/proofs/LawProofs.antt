@@ -2,20 +2,20 @@
 use Rattle.std.proofs.Common.{refl, subst}
 use Rattle.std.specs.Cmp.{nat_cmp_total}
 use Rattle.std.specs.FinMap.{nat_cmp-IsAntisymmetric}
-use Rattle.lay_items.specs.Calls.{calls_of}
-use Rattle.lay_items.specs.IdOrder.{ids_exact, ids_total}
-use Rattle.lay_items.specs.Same.{option_item_eq}
-use Rattle.txn_rules.specs.Covers.{LeavesAlone}
-use Rattle.txn_rules.specs.Effects.{begun}
-use Rattle.txn_rules.specs.Elements.{Touched}
-use Rattle.txn_rules.specs.Laws.{ChangesMerge, Frame, LeadersApply, PlansAreCovered, PlansAreLocal, ReachedAreWalks}
-use Rattle.txn_rules.specs.Laws.{RecordsAreOne, RecordsComeOut, RecordsGoPast, RecordsKeepAgreement, RecordsLead}
-use Rattle.txn_rules.specs.Laws.{RunsKeepSound, RunsLeaveAlone}
-use Rattle.txn_rules.specs.Laws.{RunsMakeTheirOwn, SlotChangesMerge, UnmetIsKept}
-use Rattle.txn_rules.specs.Records.{option_slot_eq, records_between}
-use Rattle.txn_rules.proofs.Agreements.{agree-sym}
+use Rattle.lay_layouts.specs.Calls.{calls_of}
+use Rattle.lay_layouts.specs.IdOrder.{ids_exact, ids_total}
+use Rattle.lay_layouts.specs.Same.{option_item_eq}
+use Rattle.txn_commands.specs.Covers.{LeavesAlone}
+use Rattle.txn_commands.specs.Effects.{begun}
+use Rattle.txn_commands.specs.Elements.{Touched}
+use Rattle.txn_commands.specs.Laws.{ChangesMerge, Frame, LeadersApply, PlansAreCovered, PlansAreLocal, ReachedAreWalks}
+use Rattle.txn_commands.specs.Laws.{RecordsAreOne, RecordsComeOut, RecordsGoPast, RecordsKeepAgreement, RecordsLead}
+use Rattle.txn_commands.specs.Laws.{RunsKeepSound, RunsLeaveAlone}
+use Rattle.txn_commands.specs.Laws.{RunsMakeTheirOwn, SlotChangesMerge, UnmetIsKept}
+use Rattle.txn_commands.specs.Records.{option_slot_eq, records_between}
+use Rattle.txn_commands.proofs.Agreements.{agree-sym}
 use Rattle.txn_rules.proofs.Framing.{frame}
-use Rattle.txn_rules.proofs.Maps.{change_map-put}
+use Rattle.txn_commands.proofs.Maps.{change_map-put}
 use Rattle.txn_rules.proofs.OneRecords.{one_records}
 use Rattle.txn_rules.proofs.Overlay.{agree_applied, agree_reverted, past, same_records, unmet_agree}
 use Rattle.txn_rules.proofs.Own.{answers_own, new_own}
@@ -24,7 +24,7 @@ use Rattle.txn_rules.proofs.Reach.{reached-walks}
 use Rattle.txn_rules.proofs.Runs.{local}
 use Rattle.txn_rules.proofs.SamePlans.{same_plan}
 use Rattle.txn_rules.proofs.Sound.{run_sound}
-use Rattle.txn_rules.proofs.Steps.{applied_leads, lead_between, proper_between, reverted_leads}
+use Rattle.txn_commands.proofs.Steps.{applied_leads, lead_between, proper_between, reverted_leads}
 
 pub plans_local : PlansAreLocal
 plans_local = same_plan

@@ -1,8 +1,4 @@
-pub mod Lists
-pub mod Maps
-pub mod Lying
 pub mod Reach
-pub mod Agreements
 pub mod Below
 pub mod Booleans
 pub mod SamePlans
@@ -10,11 +6,12 @@ pub mod Rings
 pub mod Shifts
 pub mod Planned
 pub mod Runs
-pub mod Steps
 pub mod Overlay
 pub mod OneRecords
-pub mod CallLists
 pub mod Sound
 pub mod Framing
 pub mod Own
 pub mod LawProofs
+pub use Rattle.txn_commands.proofs.Agreements
+pub use Rattle.txn_commands.proofs.Maps
+pub use Rattle.txn_commands.proofs.Steps

@@ -8,22 +8,22 @@ use Rattle.std.specs.FinMap.{FinMap, IsAntisymmetric, entries, entries-from_sort
 use Rattle.std.specs.FinMap.{nat_cmp-IsAntisymmetric}
 use Rattle.std.specs.FinMap.{same_map}
 use Rattle.std.specs.Ordering.{nat_cmp}
-use Rattle.lay_items.specs.declared.item.Item as items
-use Rattle.lay_items.specs.declared.slot.CellSlot.{CellSlot}
-use Rattle.lay_items.specs.IdOrder.{ids_exact, ids_total}
-use Rattle.lay_items.specs.Ids.{id_cmp}
-use Rattle.lay_items.specs.Layout.{Layout, item_at}
-use Rattle.lay_items.specs.Same.{option_item_eq, option_item_eq-Decides}
-use Rattle.txn_rules.specs.declared.record.CellRecord.{CellRecord}
-use Rattle.txn_rules.specs.declared.record.Record.{Record}
-use Rattle.txn_rules.specs.Changes.{Change, IsStep, change_map, change_of}
-use Rattle.txn_rules.specs.Records.{AreProper, Lead, Records, cell_record_of, option_slot_eq, record_of, recorded_change}
-use Rattle.txn_rules.specs.Records.{records_between, slot_change_at}
-use Rattle.lay_items.specs.Layout.{AreRising}
-use Rattle.txn_rules.proofs.Maps.{get-change_map}
+use Rattle.lay_layouts.specs.declared.item.Item as items
+use Rattle.lay_layouts.specs.declared.slot.CellSlot.{CellSlot}
+use Rattle.lay_layouts.specs.IdOrder.{ids_exact, ids_total}
+use Rattle.lay_layouts.specs.Ids.{id_cmp}
+use Rattle.lay_layouts.specs.Layout.{Layout, item_at}
+use Rattle.lay_layouts.specs.Same.{option_item_eq, option_item_eq-Decides}
+use Rattle.txn_commands.specs.declared.record.CellRecord.{CellRecord}
+use Rattle.txn_commands.specs.declared.record.Record.{Record}
+use Rattle.txn_commands.specs.Changes.{Change, IsStep, change_map, change_of}
+use Rattle.txn_commands.specs.Records.{AreProper, Lead, Records, cell_record_of, option_slot_eq, record_of, recorded_change}
+use Rattle.txn_commands.specs.Records.{records_between, slot_change_at}
+use Rattle.lay_layouts.specs.Layout.{AreRising}
+use Rattle.txn_commands.proofs.Maps.{get-change_map}
 use Rattle.txn_rules.proofs.Overlay.{differ_at, slot_differ_at}
-use Rattle.txn_rules.proofs.Steps.{cell_entry_of, recorded_change-find, entry_of, option_slot_eq-Decides, rising_again}
-use Rattle.txn_rules.proofs.Steps.{slot_change_at-find, sorted_again}
+use Rattle.txn_commands.proofs.Steps.{cell_entry_of, recorded_change-find, entry_of, option_slot_eq-Decides, rising_again}
+use Rattle.txn_commands.proofs.Steps.{slot_change_at-find, sorted_again}
 
 -- a step by a change of two different values is that from the one value to the other
 step_is : {V : Type 0} (same : Option V → Option V → Bool) → ((x y : Option V) → Decides (same x y) (x ≡ y)) →

@@ -8,28 +8,28 @@ use Rattle.std.specs.FinMap.{entries, get, nat_cmp-IsAntisymmetric}
 use Rattle.std.specs.FinSet.{contains}
 use Rattle.std.specs.Cmp.{nat_cmp_total}
 use Rattle.std.specs.List.{AllByRecursion, list_any}
-use Rattle.lay_items.specs.declared.id.ItemId.{ItemId}
-use Rattle.lay_items.specs.declared.item.Item as items
-use Rattle.lay_items.specs.declared.slot.CellSlot.{CellSlot}
-use Rattle.lay_items.specs.IdOrder.{ids_exact, ids_total}
-use Rattle.lay_items.specs.Layout.{Layout, item_at}
-use Rattle.lay_items.specs.Same.{option_item_eq, option_item_eq-Decides}
-use Rattle.lay_items.specs.SameLayout.{id_eq, id_eq-Decides}
-use Rattle.txn_rules.specs.declared.element.Element.{Element}
-use Rattle.txn_rules.specs.declared.element.Element.TheVariants.{Cell, Item}
-use Rattle.txn_rules.specs.declared.record.CellRecord.{CellRecord}
-use Rattle.txn_rules.specs.declared.record.Record.{Record}
-use Rattle.txn_rules.specs.Agreement.{Agree, AgreeOn, AreAlike}
-use Rattle.txn_rules.specs.Changes.{Change, IsStep, change_of}
-use Rattle.txn_rules.specs.Covers.{LeavesAlone}
-use Rattle.txn_rules.specs.Elements.{Touched}
-use Rattle.txn_rules.specs.Lies.{lies, lies_slot, passes}
-use Rattle.txn_rules.specs.Meets.{AreApart, meets, meets_cell, some_meets}
-use Rattle.txn_rules.specs.Records.{AreProper, Lead, Records, recorded_change, option_slot_eq, slot_change_at, records_between}
-use Rattle.txn_rules.specs.Records.{cell_record_of, record_of}
-use Rattle.txn_rules.proofs.Agreements.{equal-alike, same_item, same_slot}
-use Rattle.txn_rules.proofs.Maps.{change_map-alike}
-use Rattle.txn_rules.proofs.Steps.{option_slot_eq-Decides}
+use Rattle.lay_layouts.specs.declared.id.ItemId.{ItemId}
+use Rattle.lay_layouts.specs.declared.item.Item as items
+use Rattle.lay_layouts.specs.declared.slot.CellSlot.{CellSlot}
+use Rattle.lay_layouts.specs.IdOrder.{ids_exact, ids_total}
+use Rattle.lay_layouts.specs.Layout.{Layout, item_at}
+use Rattle.lay_layouts.specs.Same.{option_item_eq, option_item_eq-Decides}
+use Rattle.lay_layouts.specs.SameLayout.{id_eq, id_eq-Decides}
+use Rattle.txn_commands.specs.declared.element.Element.{Element}
+use Rattle.txn_commands.specs.declared.element.Element.TheVariants.{Cell, Item}
+use Rattle.txn_commands.specs.declared.record.CellRecord.{CellRecord}
+use Rattle.txn_commands.specs.declared.record.Record.{Record}
+use Rattle.txn_commands.specs.Agreement.{Agree, AgreeOn, AreAlike}
+use Rattle.txn_commands.specs.Changes.{Change, IsStep, change_of}
+use Rattle.txn_commands.specs.Covers.{LeavesAlone}
+use Rattle.txn_commands.specs.Elements.{Touched}
+use Rattle.txn_commands.specs.Lies.{lies, lies_slot, passes}
+use Rattle.txn_commands.specs.Meets.{AreApart, meets, meets_cell, some_meets}
+use Rattle.txn_commands.specs.Records.{AreProper, Lead, Records, recorded_change, option_slot_eq, slot_change_at, records_between}
+use Rattle.txn_commands.specs.Records.{cell_record_of, record_of}
+use Rattle.txn_commands.proofs.Agreements.{equal-alike, same_item, same_slot}
+use Rattle.txn_commands.proofs.Maps.{change_map-alike}
+use Rattle.txn_commands.proofs.Steps.{option_slot_eq-Decides}
 
 -- neither value of a change passes
 abbrev passes_neither : {V : Type 0} → (V → Bool) → Change V → Type 0

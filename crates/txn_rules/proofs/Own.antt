@@ -2,28 +2,28 @@
 use Rattle.std.proofs.Common.{◌≡◌, inl, inr, ℕ, zero, suc, ◌+◌, ◌≤◌, List, [], ◌∷◌}
 use Rattle.std.proofs.Common.{◌++◌, length, None, Some, refl, ap, sym, subst, ◌∙◌, arith}
 use Rattle.std.specs.List.{AllByRecursion}
-use Rattle.lay_cells.specs.declared.cell_id.CellId.{CellId}
-use Rattle.lay_items.specs.declared.id.ItemId.{ItemId}
-use Rattle.lay_items.specs.declared.item.Item as items
-use Rattle.lay_items.specs.declared.item.Item.TheVariants.{Placed, Shape}
-use Rattle.lay_items.specs.IdOrder.{ids_exact, ids_total}
-use Rattle.lay_items.specs.Layout.{Layout, item_at}
-use Rattle.bool_rules.specs.Shapes.{Rings}
-use Rattle.txn_rules.specs.declared.command.Command.{Command}
-use Rattle.txn_rules.specs.declared.command.Done.{Done}
-use Rattle.txn_rules.specs.declared.command.TxnId.{TxnId}
-use Rattle.txn_rules.specs.Acts.{Act, made_from, new_shapes, removals}
-use Rattle.txn_rules.specs.Effects.{Run, after_each, begun, next_id, perform}
-use Rattle.txn_rules.specs.Figures.{moved, shape_of}
-use Rattle.txn_rules.specs.Own.{AnswersOwn, IsOwn, Names, NewAreOwn, id_from}
-use Rattle.txn_rules.specs.Plans.{shape_ids}
-use Rattle.txn_rules.specs.Writing.{rewritten}
+use Rattle.lay_calls.specs.declared.cell_id.CellId.{CellId}
+use Rattle.lay_layouts.specs.declared.id.ItemId.{ItemId}
+use Rattle.lay_layouts.specs.declared.item.Item as items
+use Rattle.lay_layouts.specs.declared.item.Item.TheVariants.{Placed, Shape}
+use Rattle.lay_layouts.specs.IdOrder.{ids_exact, ids_total}
+use Rattle.lay_layouts.specs.Layout.{Layout, item_at}
+use Rattle.txn_commands.specs.Shapes.{Rings}
+use Rattle.txn_commands.specs.declared.command.Command.{Command}
+use Rattle.txn_commands.specs.declared.command.Done.{Done}
+use Rattle.txn_commands.specs.declared.command.TxnId.{TxnId}
+use Rattle.txn_commands.specs.Acts.{Act, made_from, new_shapes, removals}
+use Rattle.txn_commands.specs.Effects.{Run, after_each, begun, next_id, perform}
+use Rattle.txn_commands.specs.Figures.{moved, shape_of}
+use Rattle.txn_commands.specs.Own.{AnswersOwn, IsOwn, Names, NewAreOwn, id_from}
+use Rattle.txn_commands.specs.Plans.{shape_ids}
+use Rattle.txn_commands.specs.Writing.{rewritten}
 use Rattle.txn_rules.proofs.Booleans.{IsNew, WritesAs, behind_writes, first_new, removed_as, written_new}
 use Rattle.txn_rules.proofs.Planned.{IsPlanned, planned}
 use Rattle.txn_rules.proofs.Planned.IsPlanned.{deletes, draws, drops_cell, looks, makes_cell, moves, places, relayers, replaces}
 use Rattle.txn_rules.proofs.Runs.{run_keeps}
-use Rattle.txn_rules.proofs.Lists.{all_joined, all_weaker}
-use Rattle.txn_rules.proofs.Maps.{written_value}
+use Rattle.txn_commands.proofs.Lists.{all_joined, all_weaker}
+use Rattle.txn_commands.proofs.Maps.{written_value}
 
 own_more : (t : TxnId) (m n : ℕ) (id : ItemId) → m ≤ n → IsOwn t m id → IsOwn t n id
 own_more t m n id more own = record { session = own.session; txn_of = own.txn_of; first = own.first; last = omega (arith, own.last) }

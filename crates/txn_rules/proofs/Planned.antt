@@ -6,34 +6,44 @@ use Rattle.std.proofs.lemmas.Bool.Decides.{Decides-int_eq, not_from_Decides}
 use Rattle.std.specs.Cmp.{eq_by_cmp_equiv}
 use Rattle.std.specs.FinMap.{get}
 use Rattle.std.specs.Ordering.{eq_by_cmp, int_eq}
-use Rattle.lay_cells.specs.declared.cell_id.CellId.{CellId}
-use Rattle.lay_cells.specs.declared.cell_id.CellId.TheVariants.{Symbol}
-use Rattle.lay_cells.specs.declared.cells.TheConstants.{MAX_SYMBOL}
+use Rattle.lay_calls.specs.declared.cell_id.CellId.{CellId}
+use Rattle.lay_calls.specs.declared.cell_id.CellId.TheVariants.{Symbol}
+use Rattle.lay_calls.specs.declared.cells.TheConstants.{MAX_SYMBOL}
 use Rattle.lay_point.specs.declared.point.Point.{Point}
 use Rattle.lay_point.specs.declared.turn.Turn.{Turn}
 use Rattle.lay_point.specs.Points.{is_in_range}
 use Rattle.lay_point.specs.Rings.{IsRing, ring_of}
-use Rattle.lay_items.specs.declared.id.ItemId.{ItemId}
-use Rattle.lay_items.specs.declared.item.Item as items
-use Rattle.lay_items.specs.declared.item.Item.TheVariants.{Placed, Shape}
-use Rattle.lay_items.specs.Layout.{Layout, is_cell, item_at}
-use Rattle.txn_rules.specs.declared.command.Command.{Command}
-use Rattle.txn_rules.specs.declared.command.Command.TheVariants.{Bool as Combine, Box, Delete, DropCell, Look, MakeCell, Move, Place, Poly}
-use Rattle.txn_rules.specs.declared.command.Command.TheVariants.{SetLayer}
-use Rattle.txn_rules.specs.declared.element.Element.{Element}
-use Rattle.txn_rules.specs.declared.element.Element.TheVariants.{Calls, Cell, Content, Item, Uses}
-use Rattle.txn_rules.specs.declared.fault.CmdFault.{CmdFault}
-use Rattle.txn_rules.specs.declared.fault.CmdFault.TheVariants.{CellThere, CellUsed, Cycle, FewPoints, NoCell, NoItem, OutOfRange}
-use Rattle.bool_rules.specs.Op.{Op}
-use Rattle.bool_rules.specs.Shapes.{Rings}
-use Rattle.bool_rules.specs.Booleans.{bool_shapes}
-use Rattle.txn_rules.specs.Acts.{Act, bool_act, cell_elements, change_act, drop_cell_act}
-use Rattle.txn_rules.specs.Acts.{look_act, make_act, make_cell_act, place_act, shape_act}
-use Rattle.txn_rules.specs.Covers.{IsCovered, has}
-use Rattle.txn_rules.specs.Elements.{element_cmp, elements_total}
-use Rattle.txn_rules.specs.Figures.{box_ring, is_item_in_range, moved, shape_of}
-use Rattle.txn_rules.specs.Plans.{is_used, move_to, plan, refused_if, relayer, ring_act, shape_ids}
-use Rattle.txn_rules.specs.Reach.{is_among, reached}
+use Rattle.lay_layouts.specs.declared.id.ItemId.{ItemId}
+use Rattle.lay_layouts.specs.declared.item.Item as items
+use Rattle.lay_layouts.specs.declared.item.Item.TheVariants.{Placed, Shape}
+use Rattle.lay_layouts.specs.Layout.{Layout, is_cell, item_at}
+use Rattle.txn_commands.specs.declared.command.Command.{Command}
+use Rattle.txn_commands.specs.declared.command.Command.TheVariants.{
+  Bool as Combine,
+  Box,
+  Delete,
+  DropCell,
+  Look,
+  MakeCell,
+  Move,
+  Place,
+  Poly,
+}
+use Rattle.txn_commands.specs.declared.command.Command.TheVariants.{SetLayer}
+use Rattle.txn_commands.specs.declared.element.Element.{Element}
+use Rattle.txn_commands.specs.declared.element.Element.TheVariants.{Calls, Cell, Content, Item, Uses}
+use Rattle.txn_commands.specs.declared.fault.CmdFault.{CmdFault}
+use Rattle.txn_commands.specs.declared.fault.CmdFault.TheVariants.{CellThere, CellUsed, Cycle, FewPoints, NoCell, NoItem, OutOfRange}
+use Rattle.txn_commands.specs.Op.{Op}
+use Rattle.txn_commands.specs.Shapes.{Rings}
+use Rattle.txn_commands.specs.Booleans.{bool_shapes}
+use Rattle.txn_commands.specs.Acts.{Act, bool_act, cell_elements, change_act, drop_cell_act}
+use Rattle.txn_commands.specs.Acts.{look_act, make_act, make_cell_act, place_act, shape_act}
+use Rattle.txn_commands.specs.Covers.{IsCovered, has}
+use Rattle.txn_commands.specs.Elements.{element_cmp, elements_total}
+use Rattle.txn_commands.specs.Figures.{box_ring, is_item_in_range, moved, shape_of}
+use Rattle.txn_commands.specs.Plans.{is_used, move_to, plan, refused_if, relayer, ring_act, shape_ids}
+use Rattle.txn_commands.specs.Reach.{is_among, reached}
 use Rattle.txn_rules.proofs.Booleans.{replaced_by, replaced_covered}
 use Rattle.txn_rules.proofs.Rings.{box_ring-ring, ring_of-ring}
 use Rattle.txn_rules.proofs.SamePlans.{drawn_by, given, moved_to, passed, relayered}

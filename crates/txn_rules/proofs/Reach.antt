@@ -6,23 +6,23 @@ use Rattle.std.proofs.lemmas.Bool.{false_from_ne_true, or_cases, or_left, or_rig
 use Rattle.std.proofs.lemmas.List.Elements.{Contains-append_cases, Contains-append_right}
 use Rattle.std.specs.FinMap.{entries}
 use Rattle.std.specs.List.{AllByRecursion, cons_option, filter, filter_map}
-use Rattle.lay_cells.specs.declared.cell_id.CellId.{CellId}
-use Rattle.lay_cells.specs.declared.cell_id.CellId.TheVariants.{Symbol}
-use Rattle.lay_cells.specs.SameCell.{cell_eq, cell_eq-Decides}
-use Rattle.lay_cells.specs.Walks.{Walks}
-use Rattle.lay_cells.specs.Walks.Walks.{goes, stays}
-use Rattle.lay_items.specs.declared.id.ItemId.{ItemId}
-use Rattle.lay_items.specs.declared.item.Item as items
-use Rattle.lay_items.specs.declared.item.Item.TheVariants.{Placed, Shape}
-use Rattle.lay_items.specs.Calls.{Call, calls_among, calls_of}
-use Rattle.lay_items.specs.IdOrder.{ids_exact, ids_total}
-use Rattle.lay_items.specs.Layout.{Layout}
-use Rattle.txn_rules.specs.declared.element.Element.TheVariants.{Calls}
-use Rattle.txn_rules.specs.Agreement.{Agree}
-use Rattle.txn_rules.specs.Lies.{lies}
-use Rattle.txn_rules.specs.Reach.{explored, is_among, reached, reached_by, targets}
-use Rattle.txn_rules.proofs.Lists.{all_joined, all_weaker}
-use Rattle.txn_rules.proofs.Lying.{filter-alike_maps}
+use Rattle.lay_calls.specs.declared.cell_id.CellId.{CellId}
+use Rattle.lay_calls.specs.declared.cell_id.CellId.TheVariants.{Symbol}
+use Rattle.lay_calls.specs.SameCell.{cell_eq, cell_eq-Decides}
+use Rattle.lay_calls.specs.Walks.{Walks}
+use Rattle.lay_calls.specs.Walks.Walks.{goes, stays}
+use Rattle.lay_layouts.specs.declared.id.ItemId.{ItemId}
+use Rattle.lay_layouts.specs.declared.item.Item as items
+use Rattle.lay_layouts.specs.declared.item.Item.TheVariants.{Placed, Shape}
+use Rattle.lay_layouts.specs.Calls.{Call, calls_among, calls_of}
+use Rattle.lay_layouts.specs.IdOrder.{ids_exact, ids_total}
+use Rattle.lay_layouts.specs.Layout.{Layout}
+use Rattle.txn_commands.specs.declared.element.Element.TheVariants.{Calls}
+use Rattle.txn_commands.specs.Agreement.{Agree}
+use Rattle.txn_commands.specs.Lies.{lies}
+use Rattle.txn_commands.specs.Reach.{explored, is_among, reached, reached_by, targets}
+use Rattle.txn_commands.proofs.Lists.{all_joined, all_weaker}
+use Rattle.txn_commands.proofs.Lying.{filter-alike_maps}
 
 -- what a mapped option is made of
 pub mapped : {A B : Type 0} (f : A → B) (o : Option A) (y : B) → option_map f o ≡ Some y → (x : A) × (o ≡ Some x) × (f x ≡ y)

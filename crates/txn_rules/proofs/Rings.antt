@@ -14,7 +14,7 @@ use Rattle.lay_point.specs.Points.{is_coordinate, is_in_range}
 use Rattle.lay_point.specs.Rings.{IsRing, NeighboursDiffer, checked_ring, closed, opened, rectangle, ring_of}
 use Rattle.lay_point.specs.Rings.{without_neighbours, without_repeats}
 use Rattle.lay_point.proofs.RingLemmas.{opened-apart}
-use Rattle.txn_rules.specs.Figures.{box_ring, lower_left, upper_right}
+use Rattle.txn_commands.specs.Figures.{box_ring, lower_left, upper_right}
 
 taken : (test : Bool) (fault : RingFault) (rest : Result (List Point) RingFault) (ring : List Point) →
     cond test (Err fault) rest ≡ Ok ring → (test ≡ false) × (rest ≡ Ok ring)

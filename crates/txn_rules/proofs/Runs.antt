@@ -8,22 +8,22 @@ use Rattle.std.specs.FinMap.{IsAntisymmetric, nat_cmp-IsAntisymmetric}
 use Rattle.std.specs.declared.cmp.Ordering.{Ordering}
 use Rattle.std.specs.List.{AllByRecursion}
 use Rattle.std.specs.Ordering.{eq_by_cmp, nat_cmp}
-use Rattle.lay_items.specs.IdOrder.{ids_exact, ids_total}
-use Rattle.lay_items.specs.Ids.{id_cmp}
-use Rattle.txn_rules.specs.declared.command.Command.{Command}
-use Rattle.txn_rules.specs.declared.command.Done.{Done}
-use Rattle.txn_rules.specs.declared.command.TxnId.{TxnId}
-use Rattle.txn_rules.specs.declared.element.Element.{Element}
-use Rattle.txn_rules.specs.declared.element.Element.TheVariants.{Cell, Item}
-use Rattle.txn_rules.specs.declared.fault.CmdFault.{CmdFault}
-use Rattle.txn_rules.specs.declared.fault.CmdFault.TheVariants.{TxnFull}
-use Rattle.txn_rules.specs.Acts.{Act}
-use Rattle.txn_rules.specs.Covers.{IsCovered, LeavesAlone, has}
-use Rattle.txn_rules.specs.Effects.{Run, acted, after_each, effect, if_accepted, is_too_much, next_id, perform}
-use Rattle.txn_rules.specs.Elements.{Touched, element_cmp, elements_total, with_elements}
-use Rattle.txn_rules.specs.Plans.{plan}
-use Rattle.txn_rules.proofs.Lists.{all_weaker}
-use Rattle.txn_rules.proofs.Maps.{get-unwritten, other_key, writes_key}
+use Rattle.lay_layouts.specs.IdOrder.{ids_exact, ids_total}
+use Rattle.lay_layouts.specs.Ids.{id_cmp}
+use Rattle.txn_commands.specs.declared.command.Command.{Command}
+use Rattle.txn_commands.specs.declared.command.Done.{Done}
+use Rattle.txn_commands.specs.declared.command.TxnId.{TxnId}
+use Rattle.txn_commands.specs.declared.element.Element.{Element}
+use Rattle.txn_commands.specs.declared.element.Element.TheVariants.{Cell, Item}
+use Rattle.txn_commands.specs.declared.fault.CmdFault.{CmdFault}
+use Rattle.txn_commands.specs.declared.fault.CmdFault.TheVariants.{TxnFull}
+use Rattle.txn_commands.specs.Acts.{Act}
+use Rattle.txn_commands.specs.Covers.{IsCovered, LeavesAlone, has}
+use Rattle.txn_commands.specs.Effects.{Run, acted, after_each, effect, if_accepted, is_too_much, next_id, perform}
+use Rattle.txn_commands.specs.Elements.{Touched, element_cmp, elements_total, with_elements}
+use Rattle.txn_commands.specs.Plans.{plan}
+use Rattle.txn_commands.proofs.Lists.{all_weaker}
+use Rattle.txn_commands.proofs.Maps.{get-unwritten, other_key, writes_key}
 use Rattle.txn_rules.proofs.Planned.{covered, planned}
 use Rattle.txn_rules.proofs.SamePlans.{passed}
 

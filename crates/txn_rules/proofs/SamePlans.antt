@@ -4,37 +4,47 @@ use Rattle.std.proofs.Common.{Result, Ok, Err, nat_lt, refl, ap, sym, subst, ◌
 use Rattle.std.proofs.lemmas.Bool.{or_cases}
 use Rattle.std.specs.FinMap.{entries, get}
 use Rattle.std.specs.Ordering.{int_eq}
-use Rattle.lay_cells.specs.declared.cell_id.CellId.{CellId}
-use Rattle.lay_cells.specs.declared.cell_id.CellId.TheVariants.{Symbol}
-use Rattle.lay_cells.specs.declared.cells.TheConstants.{MAX_SYMBOL}
+use Rattle.lay_calls.specs.declared.cell_id.CellId.{CellId}
+use Rattle.lay_calls.specs.declared.cell_id.CellId.TheVariants.{Symbol}
+use Rattle.lay_calls.specs.declared.cells.TheConstants.{MAX_SYMBOL}
 use Rattle.lay_point.specs.declared.point.Point.{Point}
 use Rattle.lay_point.specs.declared.ring.RingFault.{RingFault}
 use Rattle.lay_point.specs.declared.turn.Turn.{Turn}
 use Rattle.lay_point.specs.Points.{is_in_range}
 use Rattle.lay_point.specs.Rings.{ring_of}
-use Rattle.lay_items.specs.declared.id.ItemId.{ItemId}
-use Rattle.lay_items.specs.declared.item.Item as items
-use Rattle.lay_items.specs.declared.item.Item.TheVariants.{Placed, Shape}
-use Rattle.lay_items.specs.IdOrder.{ids_exact, ids_total}
-use Rattle.lay_items.specs.Layout.{Layout, is_cell, item_at}
-use Rattle.lay_items.specs.Sound.{IsSound}
-use Rattle.txn_rules.specs.declared.command.Command.{Command}
-use Rattle.txn_rules.specs.declared.command.Command.TheVariants.{Bool as Combine, Box, Delete, DropCell, Look, MakeCell, Move, Place, Poly}
-use Rattle.txn_rules.specs.declared.command.Command.TheVariants.{SetLayer}
-use Rattle.txn_rules.specs.declared.element.Element.{Element}
-use Rattle.txn_rules.specs.declared.element.Element.TheVariants.{Calls, Cell, Content, Item, Uses}
-use Rattle.txn_rules.specs.declared.fault.CmdFault.{CmdFault}
-use Rattle.txn_rules.specs.declared.fault.CmdFault.TheVariants.{CellThere, CellUsed, Cycle, FewPoints, NoCell, NoItem, OutOfRange}
-use Rattle.txn_rules.specs.Acts.{Act, cell_elements, change_act, drop_cell_act, look_act, make_cell_act, place_act, shape_act}
-use Rattle.txn_rules.specs.Agreement.{Agree, AgreeOnEach, AreAlike}
-use Rattle.txn_rules.specs.Figures.{box_ring, is_item_in_range, moved, shape_of}
-use Rattle.txn_rules.specs.Lies.{lies}
-use Rattle.txn_rules.specs.Plans.{is_used, move_to, plan, refused_if, relayer, ring_act, with_value}
-use Rattle.txn_rules.specs.Reach.{is_among, reached}
+use Rattle.lay_layouts.specs.declared.id.ItemId.{ItemId}
+use Rattle.lay_layouts.specs.declared.item.Item as items
+use Rattle.lay_layouts.specs.declared.item.Item.TheVariants.{Placed, Shape}
+use Rattle.lay_layouts.specs.IdOrder.{ids_exact, ids_total}
+use Rattle.lay_layouts.specs.Layout.{Layout, is_cell, item_at}
+use Rattle.lay_layouts.specs.Sound.{IsSound}
+use Rattle.txn_commands.specs.declared.command.Command.{Command}
+use Rattle.txn_commands.specs.declared.command.Command.TheVariants.{
+  Bool as Combine,
+  Box,
+  Delete,
+  DropCell,
+  Look,
+  MakeCell,
+  Move,
+  Place,
+  Poly,
+}
+use Rattle.txn_commands.specs.declared.command.Command.TheVariants.{SetLayer}
+use Rattle.txn_commands.specs.declared.element.Element.{Element}
+use Rattle.txn_commands.specs.declared.element.Element.TheVariants.{Calls, Cell, Content, Item, Uses}
+use Rattle.txn_commands.specs.declared.fault.CmdFault.{CmdFault}
+use Rattle.txn_commands.specs.declared.fault.CmdFault.TheVariants.{CellThere, CellUsed, Cycle, FewPoints, NoCell, NoItem, OutOfRange}
+use Rattle.txn_commands.specs.Acts.{Act, cell_elements, change_act, drop_cell_act, look_act, make_cell_act, place_act, shape_act}
+use Rattle.txn_commands.specs.Agreement.{Agree, AgreeOnEach, AreAlike}
+use Rattle.txn_commands.specs.Figures.{box_ring, is_item_in_range, moved, shape_of}
+use Rattle.txn_commands.specs.Lies.{lies}
+use Rattle.txn_commands.specs.Plans.{is_used, move_to, plan, refused_if, relayer, ring_act, with_value}
+use Rattle.txn_commands.specs.Reach.{is_among, reached}
 use Rattle.txn_rules.proofs.Booleans.{same_bool}
-use Rattle.txn_rules.proofs.Agreements.{same_is_cell, same_item, same_slot}
-use Rattle.txn_rules.proofs.Lists.{all_mapped, all_parts}
-use Rattle.txn_rules.proofs.Lying.{filter-alike_maps, is_some_entry, list_any-filter}
+use Rattle.txn_commands.proofs.Agreements.{same_is_cell, same_item, same_slot}
+use Rattle.txn_commands.proofs.Lists.{all_mapped, all_parts}
+use Rattle.txn_commands.proofs.Lying.{filter-alike_maps, is_some_entry, list_any-filter}
 use Rattle.txn_rules.proofs.Reach.{same_reach}
 
 -- a test that isn't met, and what comes behind it

@@ -11,8 +11,8 @@ use Rattle.lay_point.specs.Points.{is_in_range, point_eq}
 use Rattle.lay_point.specs.Rings.{IsRing, NeighboursDiffer, closed, kept_behind, opened, opened_behind, without_repeats}
 use Rattle.lay_point.specs.Same.{point_eq-Decides}
 use Rattle.lay_point.specs.Turns.{shifted}
-use Rattle.lay_items.specs.Sound.{IsDrawn}
-use Rattle.txn_rules.specs.Figures.{are_in_range, shifted_rings}
+use Rattle.lay_layouts.specs.Sound.{IsDrawn}
+use Rattle.txn_commands.specs.Figures.{are_in_range, shifted_rings}
 
 same_number : (a b s : ℤ) → a +ℤ s ≡ b +ℤ s → a ≡ b
 same_number a b s h = omega (arith, ints)

@@ -7,46 +7,46 @@ use Rattle.std.specs.List.{AllByRecursion}
 use Rattle.std.specs.Cmp.{nat_cmp_total}
 use Rattle.std.specs.FinMap.{get, nat_cmp-IsAntisymmetric}
 use Rattle.std.specs.Ordering.{eq_by_cmp, nat_cmp}
-use Rattle.lay_cells.specs.declared.cell_id.CellId.{CellId}
-use Rattle.lay_cells.specs.declared.cell_id.CellId.TheVariants.{Symbol, Top}
-use Rattle.lay_cells.specs.declared.cells.TheConstants.{MAX_SYMBOL}
-use Rattle.lay_cells.specs.SameCell.{cell_eq}
-use Rattle.lay_cells.specs.Walks.{IsAcyclic}
-use Rattle.lay_cells.proofs.FewerCalls.{AreAmong, IsAcyclic-fewer}
+use Rattle.lay_calls.specs.declared.cell_id.CellId.{CellId}
+use Rattle.lay_calls.specs.declared.cell_id.CellId.TheVariants.{Symbol, Top}
+use Rattle.lay_calls.specs.declared.cells.TheConstants.{MAX_SYMBOL}
+use Rattle.lay_calls.specs.SameCell.{cell_eq}
+use Rattle.lay_calls.specs.Walks.{IsAcyclic}
+use Rattle.lay_calls.proofs.FewerCalls.{AreAmong, IsAcyclic-fewer}
 use Rattle.lay_point.specs.declared.point.Point.{Point}
 use Rattle.lay_point.specs.declared.turn.Turn.{Turn}
 use Rattle.lay_point.specs.Points.{is_in_range}
-use Rattle.lay_items.specs.declared.id.ItemId.{ItemId}
-use Rattle.lay_items.specs.declared.item.Item as items
-use Rattle.lay_items.specs.declared.item.Item.TheVariants.{Placed, Shape}
-use Rattle.lay_items.specs.declared.slot.CellSlot.{CellSlot}
-use Rattle.lay_items.specs.declared.slot.CellSlot.TheVariants.{Base, Made}
-use Rattle.lay_items.specs.Calls.{Call, as_call, calls_of}
-use Rattle.lay_items.specs.IdOrder.{ids_exact, ids_total}
-use Rattle.lay_items.specs.Items.{cell_of}
-use Rattle.lay_items.specs.Layout.{Layout, Write, is_cell, item_at}
-use Rattle.lay_items.specs.Sound.{IsSound, IsSoundItem}
-use Rattle.lay_items.proofs.SoundLemmas.{one_ring}
-use Rattle.txn_rules.specs.declared.command.Command.{Command}
-use Rattle.txn_rules.specs.declared.command.Done.{Done}
-use Rattle.txn_rules.specs.declared.command.TxnId.{TxnId}
-use Rattle.txn_rules.specs.declared.element.Element.TheVariants.{Content, Uses}
-use Rattle.bool_rules.specs.Op.{Op}
-use Rattle.bool_rules.specs.Shapes.{Rings}
-use Rattle.bool_rules.specs.Booleans.{bool_shapes}
-use Rattle.bool_rules.proofs.BooleanLaws.{booleans_are_drawn}
-use Rattle.txn_rules.specs.Acts.{Act, new_shapes, removals}
-use Rattle.txn_rules.specs.Effects.{Run, after_each, next_id}
-use Rattle.txn_rules.specs.Figures.{is_item_in_range, moved}
-use Rattle.txn_rules.specs.Lies.{lies}
-use Rattle.txn_rules.specs.Plans.{is_used, shape_ids}
-use Rattle.txn_rules.specs.Reach.{is_among, reached}
-use Rattle.txn_rules.specs.Writing.{rewritten}
+use Rattle.lay_layouts.specs.declared.id.ItemId.{ItemId}
+use Rattle.lay_layouts.specs.declared.item.Item as items
+use Rattle.lay_layouts.specs.declared.item.Item.TheVariants.{Placed, Shape}
+use Rattle.lay_layouts.specs.declared.slot.CellSlot.{CellSlot}
+use Rattle.lay_layouts.specs.declared.slot.CellSlot.TheVariants.{Base, Made}
+use Rattle.lay_layouts.specs.Calls.{Call, as_call, calls_of}
+use Rattle.lay_layouts.specs.IdOrder.{ids_exact, ids_total}
+use Rattle.lay_layouts.specs.Items.{cell_of}
+use Rattle.lay_layouts.specs.Layout.{Layout, Write, is_cell, item_at}
+use Rattle.lay_layouts.specs.Sound.{IsSound, IsSoundItem}
+use Rattle.txn_commands.proofs.SoundLemmas.{one_ring}
+use Rattle.txn_commands.specs.declared.command.Command.{Command}
+use Rattle.txn_commands.specs.declared.command.Done.{Done}
+use Rattle.txn_commands.specs.declared.command.TxnId.{TxnId}
+use Rattle.txn_commands.specs.declared.element.Element.TheVariants.{Content, Uses}
+use Rattle.txn_commands.specs.Op.{Op}
+use Rattle.txn_commands.specs.Shapes.{Rings}
+use Rattle.txn_commands.specs.Booleans.{bool_shapes}
+use Rattle.txn_commands.proofs.BooleanLaws.{booleans_are_drawn}
+use Rattle.txn_commands.specs.Acts.{Act, new_shapes, removals}
+use Rattle.txn_commands.specs.Effects.{Run, after_each, next_id}
+use Rattle.txn_commands.specs.Figures.{is_item_in_range, moved}
+use Rattle.txn_commands.specs.Lies.{lies}
+use Rattle.txn_commands.specs.Plans.{is_used, shape_ids}
+use Rattle.txn_commands.specs.Reach.{is_among, reached}
+use Rattle.txn_commands.specs.Writing.{rewritten}
 use Rattle.txn_rules.proofs.Booleans.{IsDrawnIn, WritesAs, bool_there, removed_as, written_drawn}
-use Rattle.txn_rules.proofs.Lists.{all_joined}
-use Rattle.txn_rules.proofs.CallLists.{AreButFor, IsCalled, acyclic_with, called_by_item, item_called}
-use Rattle.txn_rules.proofs.Lying.{no_entry_passes}
-use Rattle.txn_rules.proofs.Maps.{get-put, other_key, written_value}
+use Rattle.txn_commands.proofs.Lists.{all_joined}
+use Rattle.txn_commands.proofs.CallLists.{AreButFor, IsCalled, acyclic_with, called_by_item, item_called}
+use Rattle.txn_commands.proofs.Lying.{no_entry_passes}
+use Rattle.txn_commands.proofs.Maps.{get-put, other_key, written_value}
 use Rattle.txn_rules.proofs.Planned.{IsPlanned, planned}
 use Rattle.txn_rules.proofs.Planned.IsPlanned.{deletes, draws, drops_cell, looks, makes_cell, moves, places, relayers, replaces}
 use Rattle.txn_rules.proofs.Reach.{cell_eq-refl, reached-walks}

@@ -2,7 +2,7 @@
 //!
 //! A [`Command`] is refused, and then changes nothing, or it is accepted: it has an answer, leads to a
 //! layout, and has touched parts of the layout, its [`Element`]s. What it does is `effect` of
-//! `specs/Effects.antt`. What a transaction wrote is read off the layouts before and after it, as
+//! `txn_commands/specs/Effects.antt`. What a transaction wrote is read off the layouts before and after it, as
 //! [`Record`]s and [`CellRecord`]s.
 //!
 //! The calls of `laws` do nothing. Their clauses say what holds of all commands: commands that are accepted
@@ -10,17 +10,11 @@
 //! didn't touch, and their records can be applied and reverted beside those of other transactions.
 #![tactic(auto)]
 
-mod command;
-mod element;
-mod fault;
 mod laws;
-mod record;
 #[cfg(test)]
 mod tests;
 
-pub use bool_rules::Op;
-pub use command::{Command, Done, MAX_COMMANDS, TxnId};
-pub use element::Element;
-pub use fault::CmdFault;
 pub use laws::{commands_have_laws, records_have_laws, runs_have_laws};
-pub use record::{CellRecord, Record};
+pub use txn_commands::{
+    CellRecord, CmdFault, Command, Done, Element, MAX_COMMANDS, Op, Record, TxnId,
+};

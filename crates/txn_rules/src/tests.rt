@@ -1,8 +1,8 @@
 //! Tests of what no clause says: that a copy succeeds, and that the order and the numbers are as they should be.
 
 use super::*;
-use lay_cells::CellId;
-use lay_items::ItemId;
+use lay_calls::CellId;
+use lay_layouts::ItemId;
 use lay_point::{LayerName, Point, Sequence};
 use std::test::*;
 

@@ -3,26 +3,26 @@ use Rattle.std.proofs.Common.{◌≡◌, ◌≤◌, ◌+◌, ℕ, true, false, [
 use Rattle.std.proofs.Common.{Err, Ok, refl, ap, sym, subst, ◌∙◌, arith, length-append}
 use Rattle.std.specs.Prelude.{IfSome, Option, None, nat_lt, unwrap_or}
 use Rattle.std.proofs.lemmas.Bool.Decides.{nat_tests}
-use Rattle.lay_items.specs.Layout.{Layout}
-use Rattle.lay_items.specs.Sound.{IsSound}
-use Rattle.txn_rules.specs.declared.command.Command.{Command}
-use Rattle.txn_rules.specs.declared.command.TheConstants.{MAX_COMMANDS}
-use Rattle.txn_rules.specs.declared.command.TxnId.{TxnId}
-use Rattle.txn_rules.specs.Acts.{Act}
-use Rattle.txn_rules.specs.Effects.{Run, after_each, begun, effect, is_too_much, next_id, perform}
-use Rattle.txn_rules.specs.declared.fault.CmdFault.{CmdFault}
-use Rattle.txn_rules.specs.declared.fault.CmdFault.TheVariants.{TxnFull}
-use Rattle.txn_rules.specs.Elements.{with_elements}
-use Rattle.txn_rules.specs.Writing.{rewritten}
+use Rattle.lay_layouts.specs.Layout.{Layout}
+use Rattle.lay_layouts.specs.Sound.{IsSound}
+use Rattle.txn_commands.specs.declared.command.Command.{Command}
+use Rattle.txn_commands.specs.declared.command.TheConstants.{MAX_COMMANDS}
+use Rattle.txn_commands.specs.declared.command.TxnId.{TxnId}
+use Rattle.txn_commands.specs.Acts.{Act}
+use Rattle.txn_commands.specs.Effects.{Run, after_each, begun, effect, is_too_much, next_id, perform}
+use Rattle.txn_commands.specs.declared.fault.CmdFault.{CmdFault}
+use Rattle.txn_commands.specs.declared.fault.CmdFault.TheVariants.{TxnFull}
+use Rattle.txn_commands.specs.Elements.{with_elements}
+use Rattle.txn_commands.specs.Writing.{rewritten}
 use Rattle.std.proofs.lemmas.Bool.{or_parts}
-use Rattle.txn_rules.specs.Plans.{plan}
-use Rattle.txn_rules.specs.Records.{applied, records_between}
-use Rattle.txn_rules.specs.Transactions.{IsTransaction, Transaction}
+use Rattle.txn_commands.specs.Plans.{plan}
+use Rattle.txn_commands.specs.Records.{applied, records_between}
+use Rattle.txn_commands.specs.Transactions.{IsTransaction, Transaction}
 use Rattle.txn_rules.proofs.LawProofs.{records_lead, runs_keep_sound}
 use Rattle.txn_rules.proofs.OneRecords.{one_records}
 use Rattle.txn_rules.proofs.Runs.{after_each-push}
 use Rattle.txn_work.specs.Answers.{after_command, answer_to, run_so_far, with_command}
-use Rattle.txn_work.specs.Seeing.{Overlays}
+use Rattle.txn_plans.specs.Seeing.{Overlays}
 use Rattle.txn_work.specs.Works.{MatchesItsRun}
 
 -- its run is what its commands bring it to

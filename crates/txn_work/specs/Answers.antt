@@ -1,18 +1,18 @@
 -- What a command in a transaction answers, and the transaction after it.
 use Rattle.std.specs.Prelude.{[], ◌∷◌, ◌++◌, Result, Ok, Err, unwrap_or, refl, List, ℕ}
 use Rattle.std.specs.Coded.{Coded, code_by, coded×, coded_list, coded_ℕ}
-use Rattle.lay_items.specs.Layout.{Layout, coded_layout}
-use Rattle.txn_marks.specs.Coded.{coded_records}
-use Rattle.txn_rules.specs.contracts.command.Command as command
-use Rattle.txn_rules.specs.contracts.command.TxnId as txn_id
-use Rattle.txn_rules.specs.declared.command.Command.{Command}
-use Rattle.txn_rules.specs.declared.command.Done.{Done}
-use Rattle.txn_rules.specs.declared.command.TxnId.{TxnId}
-use Rattle.txn_rules.specs.declared.fault.CmdFault.{CmdFault}
-use Rattle.txn_rules.specs.Effects.{Run, after_each, begun, effect}
-use Rattle.txn_rules.specs.Elements.{Touched, coded_touched}
-use Rattle.txn_rules.specs.Records.{Records, records_between}
-use Rattle.txn_rules.specs.Transactions.{Transaction}
+use Rattle.lay_layouts.specs.Layout.{Layout, coded_layout}
+use Rattle.txn_plans.specs.Coded.{coded_records}
+use Rattle.txn_commands.specs.contracts.command.Command as command
+use Rattle.txn_commands.specs.contracts.command.TxnId as txn_id
+use Rattle.txn_commands.specs.declared.command.Command.{Command}
+use Rattle.txn_commands.specs.declared.command.Done.{Done}
+use Rattle.txn_commands.specs.declared.command.TxnId.{TxnId}
+use Rattle.txn_commands.specs.declared.fault.CmdFault.{CmdFault}
+use Rattle.txn_commands.specs.Effects.{Run, after_each, begun, effect}
+use Rattle.txn_commands.specs.Elements.{Touched, coded_touched}
+use Rattle.txn_commands.specs.Records.{Records, records_between}
+use Rattle.txn_commands.specs.Transactions.{Transaction}
 
 -- how far its commands have brought a transaction
 abbrev pub run_so_far : Transaction → Run

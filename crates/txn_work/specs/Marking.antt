@@ -2,8 +2,8 @@
 use Rattle.std.specs.Prelude.{◌≡◌, false, List, [], ◌∷◌, filter, not}
 use Rattle.std.specs.FinSet as set
 use Rattle.std.specs.List.{AllByRecursion}
-use Rattle.txn_rules.specs.declared.element.Element.{Element}
-use Rattle.txn_rules.specs.Elements.{Touched}
+use Rattle.txn_commands.specs.declared.element.Element.{Element}
+use Rattle.txn_commands.specs.Elements.{Touched}
 
 -- those of these elements that the footprint hasn't
 abbrev pub missing_in : Touched → List Element → List Element

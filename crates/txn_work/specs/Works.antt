@@ -1,10 +1,10 @@
 -- What contracts see of a work, and what it keeps.
 use Rattle.std.specs.Prelude.{◌≡◌, ◌≤◌, ℕ, length, IfSome, Some}
-use Rattle.lay_items.specs.Sound.{IsSound}
-use Rattle.txn_rules.specs.declared.command.TheConstants.{MAX_COMMANDS}
-use Rattle.txn_rules.specs.Effects.{Run, after_each, begun}
-use Rattle.txn_rules.specs.Records.{records_between}
-use Rattle.txn_rules.specs.Transactions.{Transaction}
+use Rattle.lay_layouts.specs.Sound.{IsSound}
+use Rattle.txn_commands.specs.declared.command.TheConstants.{MAX_COMMANDS}
+use Rattle.txn_commands.specs.Effects.{Run, after_each, begun}
+use Rattle.txn_commands.specs.Records.{records_between}
+use Rattle.txn_commands.specs.Transactions.{Transaction}
 use Rattle.txn_work.specs.declared.work.Work.TheInside.{Inside}
 use Rattle.txn_work.specs.Answers.{run_so_far}
 

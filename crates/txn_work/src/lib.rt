@@ -6,9 +6,9 @@
 //!
 //! A command is first planned on the layout as the transaction sees it (`plan`, an `Act` or the refusal),
 //! which changes nothing; then the act is performed. What commands do is `effect` of
-//! `txn_rules/specs/Effects.antt`.
+//! `txn_commands/specs/Effects.antt`.
 //!
-//! Contracts see a work as the record `Transaction` of `txn_rules/specs/Transactions.antt`. It keeps in its
+//! Contracts see a work as the record `Transaction` of `txn_commands/specs/Transactions.antt`. It keeps in its
 //! type that its writes and its footprint are those of its commands, run on its snapshot.
 //!
 //! ```text
@@ -18,17 +18,9 @@
 //! ```
 #![tactic(auto)]
 
-mod act;
-mod booleans;
-mod calls;
-mod cells;
-mod changes;
 mod marking;
-mod plan;
-mod seen;
-mod shapes;
 mod work;
 
-pub use txn_marks::{Footprint, Writes, agrees};
+pub use txn_plans::{Bands, Footprint, Writes, agrees};
 pub use txn_rules::{CellRecord, CmdFault, Command, Done, Element, MAX_COMMANDS, Record, TxnId};
 pub use work::Work;

@@ -1,18 +1,18 @@
 //! What an act leaves in the footprint and in the writes, or nothing where an allocation fails.
 ghost use Rattle.std.specs.Prelude.{◌≡◌, ◌∷◌, [], IfOk, OnErr, OnOk};
-ghost use Rattle.lay_items.specs.Layout.{Layout};
-ghost use Rattle.txn_rules.specs.Elements.{with_elements};
-ghost use Rattle.txn_rules.specs.Records.{records_between};
-ghost use Rattle.txn_rules.specs.Writing.{rewritten};
-ghost use Rattle.txn_work.specs.Acting.{item_writes, symbols_in};
+ghost use Rattle.lay_layouts.specs.Layout.{Layout};
+ghost use Rattle.txn_commands.specs.Elements.{with_elements};
+ghost use Rattle.txn_commands.specs.Records.{records_between};
+ghost use Rattle.txn_commands.specs.Writing.{rewritten};
+ghost use Rattle.txn_plans.specs.Acting.{item_writes, symbols_in};
 ghost use Rattle.txn_work.specs.Marking.{HasNone, missing_in, without_elements};
 
-use crate::act::Written;
-use lay_items::{Item, ItemId, Snapshot};
+use lay_items::Snapshot;
+use lay_layouts::{Item, ItemId};
 use lay_point::NoMemory;
 use std::alloc::Global;
-use txn_marks::{Footprint, Writes};
-use txn_rules::Element;
+use txn_commands::Element;
+use txn_plans::{Footprint, Writes, Written};
 
 /// Adds the elements to the footprint, and writes what is written over the snapshot. Where an allocation
 /// fails both stay as they were.

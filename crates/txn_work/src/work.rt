@@ -1,27 +1,24 @@
 //! Transactions at work on a snapshot.
 ghost use Rattle.std.specs.Prelude.{◌≡◌, ◌+◌, ◌≤◌, [], IfOk, IfSome, OnErr, OnOk, Ok, false, option_copied};
 ghost use Rattle.lay_point.specs.Memory.{IsAnswer};
-ghost use Rattle.lay_items.specs.Layout.{item_at};
-ghost use Rattle.lay_items.specs.Sound.{IsSound};
-ghost use Rattle.txn_rules.specs.Effects.{is_too_much, next_id};
-ghost use Rattle.txn_rules.specs.Elements.{untouched};
-ghost use Rattle.txn_rules.specs.Plans.{plan};
-ghost use Rattle.txn_rules.specs.Transactions.{IsTransaction};
-ghost use Rattle.txn_rules.specs.Writing.{rewritten};
+ghost use Rattle.lay_layouts.specs.Layout.{item_at};
+ghost use Rattle.lay_layouts.specs.Sound.{IsSound};
+ghost use Rattle.txn_commands.specs.Effects.{is_too_much, next_id};
+ghost use Rattle.txn_commands.specs.Elements.{untouched};
+ghost use Rattle.txn_commands.specs.Plans.{plan};
+ghost use Rattle.txn_commands.specs.Transactions.{IsTransaction};
+ghost use Rattle.txn_commands.specs.Writing.{rewritten};
 ghost use Rattle.txn_work.specs.Answers.{after_command, answer_to, run_so_far};
 
-use crate::act::Act;
 use crate::marking::mark;
-use crate::plan::plan;
-use crate::seen::Seen;
-use band_workers::Bands;
-use lay_items::{Item, ItemId, Snapshot};
+use lay_items::Snapshot;
+use lay_layouts::{Item, ItemId};
 use lay_point::{NoMemory, Sequence};
 use std::alloc::Global;
 use std::marker::Model;
 use std::thread::Threads;
-use txn_marks::{Footprint, Writes};
-use txn_rules::{CmdFault, Command, Done, MAX_COMMANDS, TxnId};
+use txn_commands::{CmdFault, Command, Done, MAX_COMMANDS, TxnId};
+use txn_plans::{Act, Bands, Footprint, Seen, Writes, plan};
 
 /// A transaction on a snapshot: its accepted commands, what they wrote and what they touched. It keeps in
 /// its type that its writes and its footprint are those of its commands, run on its snapshot.
@@ -40,7 +37,7 @@ pub struct Work {
 }
 
 impl Model for Work {
-    ghost use Rattle.txn_rules.specs.Transactions.{Transaction};
+    ghost use Rattle.txn_commands.specs.Transactions.{Transaction};
     ghost use Rattle.txn_work.specs.Answers.{coded_transaction};
     ghost use Rattle.txn_work.specs.Works.{IsWork, transaction_of};
 

@@ -1,12 +1,3 @@
-pub mod ChangeLemmas
-pub mod CommitLemmas
-pub mod FoundLemmas
-pub mod IndexLemmas
-pub mod IndexedLemmas
 pub mod NameLemmas
-pub mod PlaceLemmas
 pub mod SameLemmas
-pub mod SoundLemmas
-pub mod StaleLemmas
-pub mod UndoLemmas
-pub mod MovedLemmas
+pub use Rattle.undo_entries.proofs.CommitLemmas

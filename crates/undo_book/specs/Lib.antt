@@ -1,7 +1,5 @@
-pub mod Coded
-pub mod Places
-pub mod Replays
 pub mod Calls
-pub mod Changes
-pub mod Indexed
 pub mod Books
+pub use Rattle.undo_entries.specs.Coded
+pub use Rattle.undo_entries.specs.Replays
+pub use Rattle.undo_entries.specs.Answers

@@ -24,18 +24,15 @@
 #![tactic(auto)]
 
 mod book;
-mod changes;
 mod commit;
-mod entry;
 mod find;
 mod links;
 mod open;
 mod redo;
-mod session;
 mod undo;
 
 pub use book::{Book, MAX_CALLS};
 pub use commit::CommitRefusal;
-pub use entry::Entry;
 pub use open::MAX_TRANSACTIONS;
+pub use undo_entries::{Bands, Command, Entry, TxnId, Work};
 pub use undo_rules::{Answer, BookFault, Call, Logged};

@@ -3,20 +3,19 @@ ghost use Rattle.std.specs.Prelude.{◌≡◌, ◌<◌, ℕ, ◌||◌, ◌&&◌,
 ghost use Rattle.std.specs.List.{cons_option, filter_map, list_any};
 ghost use Rattle.std.specs.List.Sorted.{IsStrictlySortedBy};
 ghost use Rattle.std.specs.Ordering.{nat_cmp};
-ghost use Rattle.txn_marks.specs.Homes.{AreMetBy};
+ghost use Rattle.undo_entries.specs.Homes.{AreMetBy};
 ghost use Rattle.undo_rules.specs.Books.{changed_by, changed_in};
 ghost use Rattle.undo_rules.specs.Links.{AreNamed, first_reader, links_to, trace_of};
-ghost use Rattle.undo_index.specs.First.{has_place};
-ghost use Rattle.undo_book.specs.Indexed.{AreIndexed, name_at};
-ghost use Rattle.undo_book.specs.Places.{AreTheirPlaces, found_at, moved_at, named_at, stands_at};
+ghost use Rattle.undo_entries.specs.First.{has_place};
+ghost use Rattle.undo_entries.specs.Indexed.{AreIndexed, name_at};
+ghost use Rattle.undo_entries.specs.Places.{AreTheirPlaces, found_at, moved_at, named_at, stands_at};
 
 use crate::book::Book;
-use crate::entry::Entry;
 use lay_point::NoMemory;
 use std::alloc::Global;
 use std::collections::BTreeMap;
-use txn_rules::TxnId;
-use undo_index::{Elements, Index, first_apart, put_in_order};
+use txn_commands::TxnId;
+use undo_entries::{Elements, Entry, Index, first_apart, put_in_order};
 use undo_rules::{Answer, Call, Logged};
 
 /// Returns the first live transaction from this place on that touched what another one wrote, of which the

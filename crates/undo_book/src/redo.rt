@@ -2,15 +2,14 @@
 ghost use Rattle.std.specs.Prelude.{◌≡◌, ◌≤◌, OnErr, OnOk, Err, None, Some, false, true};
 ghost use Rattle.undo_rules.specs.Steps.{after_redo, is_log_full, redo_refusal, redo_step, with_mark};
 ghost use Rattle.undo_book.specs.Calls.{Takes};
-ghost use Rattle.undo_book.specs.Places.{place_of};
-ghost use Rattle.undo_book.specs.Replays.{replay};
+ghost use Rattle.undo_entries.specs.Places.{place_of};
+ghost use Rattle.undo_entries.specs.Replays.{replay};
 
 use crate::book::Book;
-use crate::entry::mark_at;
 use lay_point::NoMemory;
 use std::alloc::Global;
-use txn_rules::TxnId;
-use undo_index::Elements;
+use txn_commands::TxnId;
+use undo_entries::{Elements, mark_at};
 use undo_rules::{Answer, BookFault, Call, Logged};
 
 impl Book {

@@ -2,14 +2,13 @@
 //! should.
 
 use band_workers::OneBand;
-use lay_cells::CellId;
+use lay_calls::CellId;
 use lay_items::Snapshot;
 use lay_point::{LayerName, Point};
 use std::alloc::Global;
 use std::test::*;
 use std::thread::Threads;
-use txn_work::{Command, TxnId, Work};
-use undo_book::{Book, BookFault, MAX_CALLS};
+use undo_book::{Book, BookFault, Command, MAX_CALLS, TxnId, Work};
 
 /// Returns a book on the layout without items, of which this many calls are logged at most.
 fn book_of(alloc: Global, limit: u32) -> Result<Book, Fail> {

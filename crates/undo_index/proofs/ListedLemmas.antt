@@ -3,8 +3,8 @@ use Rattle.std.proofs.Common.{◌≡◌, ℕ, ◌==◌, Bool, true, false, not, 
 use Rattle.std.proofs.lemmas.Bool.Decides.{Decides-eqb}
 use Rattle.std.specs.FinSet.{contains, contains-from_list, from_list, insert, remove, same_set}
 use Rattle.std.specs.List.{list_any}
-use Rattle.txn_rules.specs.declared.element.Element.{Element}
-use Rattle.txn_rules.specs.Elements.{Touched, element_cmp, element_eq, elements_total}
+use Rattle.txn_commands.specs.declared.element.Element.{Element}
+use Rattle.txn_commands.specs.Elements.{Touched, element_cmp, element_eq, elements_total}
 use Rattle.undo_index.specs.Listed.{AreAdded, AreRemoved, IsNew, Listed, is_listed}
 use Rattle.undo_index.proofs.PairLemmas.{listed_less, listed_more, pairs_exact, pairs_total}
 

@@ -19,8 +19,8 @@ use Rattle.std.specs.FinSet.{
 }
 use Rattle.std.specs.List.{list_any}
 use Rattle.std.specs.Ordering.{eq_by_cmp, is_eq, nat_cmp, ordering_then}
-use Rattle.txn_rules.specs.declared.element.Element.{Element}
-use Rattle.txn_rules.specs.Elements.{element_cmp, element_eq, elements_exact, elements_total}
+use Rattle.txn_commands.specs.declared.element.Element.{Element}
+use Rattle.txn_commands.specs.Elements.{element_cmp, element_eq, elements_exact, elements_total}
 use Rattle.undo_index.specs.Listed.{Listed, is_listed, pair_cmp}
 
 -- ---- their order

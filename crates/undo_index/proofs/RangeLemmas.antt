@@ -13,8 +13,8 @@ use Rattle.std.specs.Cmp.{Equal-is, eq_by_cmp_equiv}
 use Rattle.std.specs.FinSet.{from_list, items}
 use Rattle.std.specs.List.{filter, list_all, list_any}
 use Rattle.std.specs.Ordering.{is_eq, is_gt, is_le, nat_cmp, ordering_reverse, ordering_then}
-use Rattle.txn_rules.specs.declared.element.Element.{Element}
-use Rattle.txn_rules.specs.Elements.{Touched, element_cmp, element_eq, elements_exact, elements_total}
+use Rattle.txn_commands.specs.declared.element.Element.{Element}
+use Rattle.txn_commands.specs.Elements.{Touched, element_cmp, element_eq, elements_exact, elements_total}
 use Rattle.txn_marks.proofs.AnyLemmas.{any_alike}
 use Rattle.txn_marks.proofs.SetLemmas.{all_items}
 use Rattle.undo_index.specs.First.{IsFirst}

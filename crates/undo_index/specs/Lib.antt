@@ -1,2 +1,4 @@
 pub mod First
 pub mod Listed
+pub use Rattle.txn_marks.specs.Homes
+pub use Rattle.txn_marks.specs.Coded

@@ -7,9 +7,9 @@ use Rattle.std.specs.Coded.{Coded, coded×, coded_ℕ}
 use Rattle.std.specs.FinSet as set
 use Rattle.std.specs.FinSet.{FinSet}
 use Rattle.std.specs.Ordering.{nat_cmp, ordering_then}
-use Rattle.txn_rules.specs.contracts.element.Element as element
-use Rattle.txn_rules.specs.declared.element.Element.{Element}
-use Rattle.txn_rules.specs.Elements.{Touched, element_cmp}
+use Rattle.txn_commands.specs.contracts.element.Element as element
+use Rattle.txn_commands.specs.declared.element.Element.{Element}
+use Rattle.txn_commands.specs.Elements.{Touched, element_cmp}
 
 -- pairs go by their elements, then by their places
 abbrev pub pair_cmp : Element × ℕ → Element × ℕ → Ordering

@@ -6,8 +6,8 @@ ghost use Rattle.txn_marks.specs.Homes.{AreMetBy};
 use lay_point::NoMemory;
 use std::alloc::Global;
 use std::marker::Model;
+use txn_commands::Element;
 use txn_marks::{Footprint, Writes};
-use txn_rules::Element;
 
 /// The elements of a footprint that doesn't grow any more, in a list without room for others: most transactions
 /// touch a few, for which a node of a tree is ten times as large. Contracts see the finite set of them.
@@ -18,7 +18,7 @@ pub struct Elements {
 
 impl Model for Elements {
     ghost use Rattle.std.specs.FinSet as set;
-    ghost use Rattle.txn_rules.specs.Elements.{Touched, coded_touched};
+    ghost use Rattle.txn_commands.specs.Elements.{Touched, coded_touched};
 
     ghost Value = { Touched };
 

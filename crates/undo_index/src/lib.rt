@@ -19,3 +19,4 @@ pub use apart::first_apart;
 pub use elements::Elements;
 pub use index::Index;
 pub use listing::{Listing, put_in_order};
+pub use txn_marks::{Footprint, Writes, agrees};

@@ -12,7 +12,7 @@ use lay_point::NoMemory;
 use std::alloc::Global;
 use std::collections::BTreeSet;
 use std::marker::Model;
-use txn_rules::Element;
+use txn_commands::Element;
 
 /// Places listed under elements. Contracts see the finite set of the pairs.
 #[derive(Drop)]

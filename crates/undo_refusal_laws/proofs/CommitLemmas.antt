@@ -4,10 +4,10 @@ use Rattle.std.proofs.Common.{Result, Err, option_map, drop, refl, sym, ap, subs
 use Rattle.std.specs.Prelude.{nat_le, not, unwrap_or}
 use Rattle.std.proofs.lemmas.Bool.Decides.{Decides-eqb, nat_tests}
 use Rattle.lay_point.proofs.Members.{contains, has}
-use Rattle.txn_rules.specs.declared.command.TxnId.{TxnId}
-use Rattle.txn_rules.specs.Compared.{agrees}
-use Rattle.txn_rules.specs.Elements.{Touched}
-use Rattle.txn_rules.specs.Transactions.{Transaction}
+use Rattle.txn_commands.specs.declared.command.TxnId.{TxnId}
+use Rattle.txn_commands.specs.Compared.{agrees}
+use Rattle.txn_commands.specs.Elements.{Touched}
+use Rattle.txn_commands.specs.Transactions.{Transaction}
 use Rattle.undo_rules.specs.declared.log.Answer.{Answer}
 use Rattle.undo_rules.specs.declared.log.Answer.TheVariants.{Committed, Opened, Redone, Refused, Undone}
 use Rattle.undo_rules.specs.declared.log.BookFault.{BookFault}

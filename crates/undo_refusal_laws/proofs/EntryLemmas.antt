@@ -4,8 +4,8 @@ use Rattle.std.proofs.Common.{refl, sym, ap, subst, ◌∙◌, append_assoc, app
 use Rattle.std.specs.List.{AllByRecursion}
 use Rattle.std.proofs.lemmas.Bool.Decides.{Decides-eqb}
 use Rattle.lay_point.proofs.Members.{Has, has-append_right}
-use Rattle.txn_rules.specs.declared.command.TxnId.{TxnId}
-use Rattle.txn_rules.specs.Elements.{Touched}
+use Rattle.txn_commands.specs.declared.command.TxnId.{TxnId}
+use Rattle.txn_commands.specs.Elements.{Touched}
 use Rattle.undo_rules.specs.Books.{entry_of}
 use Rattle.undo_rules.specs.Links.{AreNamed, Entry, Trace, is_named_in, links_to, live_of, meets_touched, trace_of, txn_eq}
 use Rattle.undo_rules.specs.Steps.{found_behind}

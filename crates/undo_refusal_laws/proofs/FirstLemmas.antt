@@ -1,7 +1,7 @@
 -- The first of a list that passes a test, by its name.
 use Rattle.std.proofs.Common.{◌≡◌, inl, inr, Bool, true, false, cond, List, [], ◌∷◌, ◌++◌, Option, None, Some, refl, sym, ap, ◌∙◌}
 use Rattle.lay_point.proofs.Members.{Has}
-use Rattle.txn_rules.specs.declared.command.TxnId.{TxnId}
+use Rattle.txn_commands.specs.declared.command.TxnId.{TxnId}
 
 abbrev pub first_by : {A : Type 0} → (A → Bool) → (A → TxnId) → List A → Option TxnId
 first_by passes name [] = None

@@ -5,10 +5,10 @@ use Rattle.std.specs.FinSet.{contains-items, items}
 use Rattle.std.specs.List.{list_any}
 use Rattle.std.specs.Ordering.{eq_by_cmp}
 use Rattle.lay_point.proofs.Members.{Has}
-use Rattle.txn_rules.specs.declared.element.Element.{Element}
-use Rattle.txn_rules.specs.Elements.{Touched, element_cmp, elements_total}
-use Rattle.txn_rules.specs.Meets.{some_meets}
-use Rattle.txn_rules.specs.Records.{Records}
+use Rattle.txn_commands.specs.declared.element.Element.{Element}
+use Rattle.txn_commands.specs.Elements.{Touched, element_cmp, elements_total}
+use Rattle.txn_commands.specs.Meets.{some_meets}
+use Rattle.txn_commands.specs.Records.{Records}
 use Rattle.undo_rules.specs.Links.{Entry, meets_touched}
 use Rattle.undo_rules.proofs.Grounds.{apart}
 use Rattle.undo_refusal_laws.specs.Refusing.{IsReader, IsTouched}

@@ -4,8 +4,8 @@ use Rattle.std.proofs.Common.{Result, Err, refl, sym, ap, subst, ◌∙◌, arit
 use Rattle.std.specs.Prelude.{not, Contains}
 use Rattle.std.proofs.lemmas.Bool.Decides.{nat_tests}
 use Rattle.lay_point.proofs.Members.{Has, contains, has, has-append_left, has-append_right}
-use Rattle.txn_rules.specs.declared.command.TxnId.{TxnId}
-use Rattle.txn_rules.specs.Records.{Records}
+use Rattle.txn_commands.specs.declared.command.TxnId.{TxnId}
+use Rattle.txn_commands.specs.Records.{Records}
 use Rattle.undo_rules.specs.declared.log.BookFault.{BookFault}
 use Rattle.undo_rules.specs.declared.log.BookFault.TheVariants.{Depends, Foreign, LogFull, Moved, NoMemory, NoTxn, NotLive, SessionFull}
 use Rattle.undo_rules.specs.declared.log.BookFault.TheVariants.{Stale, StillLive}

@@ -3,13 +3,13 @@
 use Rattle.std.specs.Prelude.{◌≡◌, ◌≢◌, ◌⊎◌, ◌↔◌, ℕ, ◌+◌, ◌<◌, ◌≤◌, List, ◌∷◌, ◌++◌, length, drop, map, Bool, true, false, Some, Err}
 use Rattle.std.specs.Prelude.{Contains, ⊤}
 use Rattle.std.specs.FinSet as set
-use Rattle.txn_rules.specs.declared.command.TxnId.{TxnId}
-use Rattle.txn_rules.specs.declared.element.Element.{Element}
-use Rattle.txn_rules.specs.Compared.{agrees}
-use Rattle.txn_rules.specs.Elements.{Touched}
-use Rattle.txn_rules.specs.Meets.{some_meets}
-use Rattle.txn_rules.specs.Records.{Records}
-use Rattle.txn_rules.specs.Transactions.{Transaction}
+use Rattle.txn_commands.specs.declared.command.TxnId.{TxnId}
+use Rattle.txn_commands.specs.declared.element.Element.{Element}
+use Rattle.txn_commands.specs.Compared.{agrees}
+use Rattle.txn_commands.specs.Elements.{Touched}
+use Rattle.txn_commands.specs.Meets.{some_meets}
+use Rattle.txn_commands.specs.Records.{Records}
+use Rattle.txn_commands.specs.Transactions.{Transaction}
 use Rattle.undo_rules.specs.declared.log.Answer.{Answer}
 use Rattle.undo_rules.specs.declared.log.Answer.TheVariants.{Committed, Opened, Redone, Refused, Undone}
 use Rattle.undo_rules.specs.declared.log.BookFault.TheVariants.{Depends, Foreign, Moved, Stale}

@@ -9,23 +9,23 @@ use Rattle.std.specs.List.{AllByRecursion, list_any}
 use Rattle.std.specs.Ordering.{eq_by_cmp, is_eq, nat_cmp, ordering_then}
 use Rattle.lay_point.specs.declared.point.Point.{Point}
 use Rattle.lay_point.specs.Same.{names_eq}
-use Rattle.lay_cells.specs.declared.cell_id.CellId.{CellId}
-use Rattle.lay_cells.specs.SameCell.{cell_eq, cell_eq-Decides}
-use Rattle.lay_items.specs.declared.id.ItemId.{ItemId}
-use Rattle.lay_items.specs.declared.item.Item as items
-use Rattle.lay_items.specs.declared.item.Item.TheVariants.{Shape}
-use Rattle.lay_items.specs.IdOrder.{ids_exact, ids_total}
-use Rattle.lay_items.specs.Ids.{id_cmp}
-use Rattle.lay_items.specs.Items.{standing_in}
-use Rattle.lay_items.specs.Layout.{AreRising, Write}
-use Rattle.lay_items.specs.Lent.{LentShape, shapes_among}
-use Rattle.lay_items.proofs.SlotLemmas.{lesser}
+use Rattle.lay_calls.specs.declared.cell_id.CellId.{CellId}
+use Rattle.lay_calls.specs.SameCell.{cell_eq, cell_eq-Decides}
+use Rattle.lay_layouts.specs.declared.id.ItemId.{ItemId}
+use Rattle.lay_layouts.specs.declared.item.Item as items
+use Rattle.lay_layouts.specs.declared.item.Item.TheVariants.{Shape}
+use Rattle.lay_layouts.specs.IdOrder.{ids_exact, ids_total}
+use Rattle.lay_layouts.specs.Ids.{id_cmp}
+use Rattle.lay_layouts.specs.Items.{standing_in}
+use Rattle.lay_layouts.specs.Layout.{AreRising, Write}
+use Rattle.lay_layouts.specs.Lent.{LentShape, shapes_among}
+use Rattle.lay_layouts.proofs.SlotLemmas.{lesser}
 use Rattle.std.proofs.lemmas.Slice.Eq.{bytes_eq-Decides}
 use Rattle.bool_shape_laws.specs.Shapes.{Rings}
-use Rattle.txn_rules.specs.Acts.{id_after, new_shapes}
-use Rattle.txn_rules.proofs.Lying.{all_below, first_of_two, second_of_two}
-use Rattle.txn_rules.proofs.Maps.{later, same_key, write_at}
-use Rattle.txn_rules.proofs.Steps.{sorted_again}
+use Rattle.txn_commands.specs.Acts.{id_after, new_shapes}
+use Rattle.txn_commands.proofs.Lying.{all_below, first_of_two, second_of_two}
+use Rattle.txn_commands.proofs.Maps.{later, same_key, write_at}
+use Rattle.txn_commands.proofs.Steps.{sorted_again}
 use Rattle.undo_region_laws.specs.Laws.{numbered}
 
 -- the items of a layout that are these shapes of a cell on a layer

@@ -6,27 +6,27 @@ use Rattle.std.proofs.lemmas.Slice.Eq.{bytes_eq-Decides}
 use Rattle.std.specs.FinMap.{find, get}
 use Rattle.std.specs.List.{AllByRecursion}
 use Rattle.lay_point.specs.Same.{names_eq}
-use Rattle.lay_cells.specs.declared.cell_id.CellId.{CellId}
-use Rattle.lay_cells.specs.SameCell.{cell_eq, cell_eq-Decides}
-use Rattle.lay_items.specs.declared.id.ItemId.{ItemId}
-use Rattle.lay_items.specs.declared.item.Item as items
-use Rattle.lay_items.specs.declared.item.Item.TheVariants.{Placed, Shape}
-use Rattle.lay_items.specs.IdOrder.{ids_exact}
-use Rattle.lay_items.specs.Ids.{id_cmp}
-use Rattle.lay_items.specs.Layout.{Layout, item_at}
+use Rattle.lay_calls.specs.declared.cell_id.CellId.{CellId}
+use Rattle.lay_calls.specs.SameCell.{cell_eq, cell_eq-Decides}
+use Rattle.lay_layouts.specs.declared.id.ItemId.{ItemId}
+use Rattle.lay_layouts.specs.declared.item.Item as items
+use Rattle.lay_layouts.specs.declared.item.Item.TheVariants.{Placed, Shape}
+use Rattle.lay_layouts.specs.IdOrder.{ids_exact}
+use Rattle.lay_layouts.specs.Ids.{id_cmp}
+use Rattle.lay_layouts.specs.Layout.{Layout, item_at}
 use Rattle.bool_shape_laws.specs.Shapes.{Rings}
-use Rattle.txn_rules.specs.declared.element.Element.{Element}
-use Rattle.txn_rules.specs.declared.element.Element.TheVariants.{Calls, Layer}
-use Rattle.txn_rules.specs.Acts.{id_after, new_shapes, removals}
-use Rattle.txn_rules.specs.Agreement.{Agree, AreAlike}
-use Rattle.txn_rules.specs.Effects.{next_id}
-use Rattle.txn_rules.specs.Lies.{lies}
-use Rattle.txn_rules.specs.Own.{id_from}
-use Rattle.txn_rules.specs.Plans.{shape_ids}
+use Rattle.txn_commands.specs.declared.element.Element.{Element}
+use Rattle.txn_commands.specs.declared.element.Element.TheVariants.{Calls, Layer}
+use Rattle.txn_commands.specs.Acts.{id_after, new_shapes, removals}
+use Rattle.txn_commands.specs.Agreement.{Agree, AreAlike}
+use Rattle.txn_commands.specs.Effects.{next_id}
+use Rattle.txn_commands.specs.Lies.{lies}
+use Rattle.txn_commands.specs.Own.{id_from}
+use Rattle.txn_commands.specs.Plans.{shape_ids}
 use Rattle.txn_rules.proofs.Below.{calls_agree, shapes_agree}
 use Rattle.txn_rules.proofs.Booleans.{WritesAs, behind_writes, first_new, later_new, removed_as}
-use Rattle.txn_rules.proofs.Lists.{all_joined}
-use Rattle.txn_rules.proofs.Maps.{other_key}
+use Rattle.txn_commands.proofs.Lists.{all_joined}
+use Rattle.txn_commands.proofs.Maps.{other_key}
 use Rattle.txn_rules.proofs.Own.{new_own}
 use Rattle.undo_region_laws.specs.Laws.{BooleansLeaveOthers, LeavesOthers, RunsKeepIdsFree}
 use Rattle.undo_region_laws.proofs.Numbered.{drawn_from}

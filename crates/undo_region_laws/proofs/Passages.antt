@@ -4,14 +4,14 @@ use Rattle.std.proofs.Common.{◌∙◌}
 use Rattle.std.specs.Prelude.{MatchBool}
 use Rattle.std.specs.List.{AllByRecursion}
 use Rattle.std.proofs.lemmas.Bool.Decides.{Decides-eqb}
-use Rattle.lay_items.specs.declared.item.Item as items
-use Rattle.lay_items.specs.Layout.{Layout, item_at}
-use Rattle.txn_rules.specs.declared.command.Command.{Command}
-use Rattle.txn_rules.specs.declared.command.TxnId.{TxnId}
-use Rattle.txn_rules.specs.declared.element.Element.{Element}
-use Rattle.txn_rules.specs.Agreement.{Agree}
-use Rattle.txn_rules.specs.Effects.{Run, after_each, effect, if_accepted}
-use Rattle.txn_rules.proofs.Agreements.{agree-equal, agree-trans}
+use Rattle.lay_layouts.specs.declared.item.Item as items
+use Rattle.lay_layouts.specs.Layout.{Layout, item_at}
+use Rattle.txn_commands.specs.declared.command.Command.{Command}
+use Rattle.txn_commands.specs.declared.command.TxnId.{TxnId}
+use Rattle.txn_commands.specs.declared.element.Element.{Element}
+use Rattle.txn_commands.specs.Agreement.{Agree}
+use Rattle.txn_commands.specs.Effects.{Run, after_each, effect, if_accepted}
+use Rattle.txn_commands.proofs.Agreements.{agree-equal, agree-trans}
 use Rattle.txn_rules.proofs.Overlay.{unmet_agree}
 use Rattle.txn_rules.proofs.Own.{new_own}
 use Rattle.txn_rules.proofs.Runs.{goes_on}

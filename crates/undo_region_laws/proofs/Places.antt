@@ -5,12 +5,12 @@ use Rattle.lay_point.specs.declared.point.Point.{Point}
 use Rattle.lay_point.specs.Bridges.{bridged}
 use Rattle.lay_point.specs.Parity.{odd}
 use Rattle.lay_point.specs.RingEdges.{edges_of, edges_of_ring}
-use Rattle.lay_items.specs.Lent.{LentShape}
-use Rattle.lay_items.specs.Sound.{IsDrawn}
+use Rattle.lay_layouts.specs.Lent.{LentShape}
+use Rattle.lay_layouts.specs.Sound.{IsDrawn}
 use Rattle.face_rings.proofs.BridgeParity.{odd-bridged}
 use Rattle.bool_shape_laws.specs.Shapes.{Rings}
 use Rattle.bool_rules.proofs.BooleanLaws.{booleans_are_drawn, booleans_tell}
-use Rattle.txn_rules.specs.Effects.{next_id}
+use Rattle.txn_commands.specs.Effects.{next_id}
 use Rattle.undo_region_laws.specs.Laws.{BooleansHoldWhereAsked, is_inside_path, is_inside_some}
 use Rattle.undo_region_laws.proofs.Numbered.{any-numbered}
 use Rattle.undo_region_laws.proofs.Replacing.{shapes_replaced}

@@ -11,34 +11,34 @@ use Rattle.std.specs.FinMap as finite
 use Rattle.std.specs.List.{AllByRecursion, cons_option, list_any}
 use Rattle.std.specs.Ordering.{eq_by_cmp}
 use Rattle.lay_point.specs.Same.{names_eq}
-use Rattle.lay_cells.specs.declared.cell_id.CellId.{CellId}
-use Rattle.lay_cells.specs.SameCell.{cell_eq, cell_eq-Decides}
-use Rattle.lay_items.specs.declared.id.ItemId.{ItemId}
-use Rattle.lay_items.specs.declared.item.Item as items
-use Rattle.lay_items.specs.declared.item.Item.TheVariants.{Placed, Shape}
-use Rattle.lay_items.specs.IdOrder.{ids_exact, ids_total}
-use Rattle.lay_items.specs.Ids.{id_cmp}
-use Rattle.lay_items.specs.Items.{items_in, standing_in}
-use Rattle.lay_items.specs.Layout.{Layout, Write, item_at, put, put_all}
-use Rattle.lay_items.specs.Lent.{shapes_among, shapes_in}
-use Rattle.face_labels.specs.declared.op.Op.{Op}
+use Rattle.lay_calls.specs.declared.cell_id.CellId.{CellId}
+use Rattle.lay_calls.specs.SameCell.{cell_eq, cell_eq-Decides}
+use Rattle.lay_layouts.specs.declared.id.ItemId.{ItemId}
+use Rattle.lay_layouts.specs.declared.item.Item as items
+use Rattle.lay_layouts.specs.declared.item.Item.TheVariants.{Placed, Shape}
+use Rattle.lay_layouts.specs.IdOrder.{ids_exact, ids_total}
+use Rattle.lay_layouts.specs.Ids.{id_cmp}
+use Rattle.lay_layouts.specs.Items.{items_in, standing_in}
+use Rattle.lay_layouts.specs.Layout.{Layout, Write, item_at, put, put_all}
+use Rattle.lay_layouts.specs.Lent.{shapes_among, shapes_in}
+use Rattle.face_rows.specs.declared.op.Op.{Op}
 use Rattle.bool_shape_laws.specs.Shapes.{Rings}
 use Rattle.bool_rules.specs.Booleans.{bool_shapes}
-use Rattle.txn_rules.specs.declared.command.Command.TheVariants.{Bool as Combine}
-use Rattle.txn_rules.specs.declared.command.Done.{Done}
-use Rattle.txn_rules.specs.declared.command.TxnId.{TxnId}
-use Rattle.txn_rules.specs.declared.element.Element.TheVariants.{Layer}
-use Rattle.txn_rules.specs.Acts.{Act, new_shapes, removals}
-use Rattle.txn_rules.specs.Agreement.{Agree, AreAlike}
-use Rattle.txn_rules.specs.Effects.{Run, effect, next_id}
-use Rattle.txn_rules.specs.Lies.{lies}
-use Rattle.txn_rules.specs.Plans.{plan, shape_ids}
-use Rattle.txn_rules.specs.Reach.{reached}
-use Rattle.txn_rules.specs.Writing.{rewritten}
+use Rattle.txn_commands.specs.declared.command.Command.TheVariants.{Bool as Combine}
+use Rattle.txn_commands.specs.declared.command.Done.{Done}
+use Rattle.txn_commands.specs.declared.command.TxnId.{TxnId}
+use Rattle.txn_commands.specs.declared.element.Element.TheVariants.{Layer}
+use Rattle.txn_commands.specs.Acts.{Act, new_shapes, removals}
+use Rattle.txn_commands.specs.Agreement.{Agree, AreAlike}
+use Rattle.txn_commands.specs.Effects.{Run, effect, next_id}
+use Rattle.txn_commands.specs.Lies.{lies}
+use Rattle.txn_commands.specs.Plans.{plan, shape_ids}
+use Rattle.txn_commands.specs.Reach.{reached}
+use Rattle.txn_commands.specs.Writing.{rewritten}
 use Rattle.txn_rules.proofs.Below.{shapes_agree}
 use Rattle.txn_rules.proofs.Booleans.{replaced_by}
-use Rattle.txn_rules.proofs.Lying.{entries_found, no_entry_passes}
-use Rattle.txn_rules.proofs.Maps.{get-put_all, later, same_key, write_at}
+use Rattle.txn_commands.proofs.Lying.{entries_found, no_entry_passes}
+use Rattle.txn_commands.proofs.Maps.{get-put_all, later, same_key, write_at}
 use Rattle.txn_rules.proofs.Runs.{act_of}
 use Rattle.undo_region_laws.specs.Laws.{BooleansReplaceShapes, numbered}
 use Rattle.undo_region_laws.proofs.Numbered.{drawn_from, drawn_sorted, shapes-drawn, write_at-entries, writes_of}

@@ -5,23 +5,23 @@ use Rattle.std.specs.List.{list_any}
 use Rattle.lay_point.specs.Bridges.{bridged}
 use Rattle.lay_point.specs.Parity.{odd}
 use Rattle.lay_point.specs.RingEdges.{edges_of}
-use Rattle.lay_cells.specs.declared.cell_id.CellId.{CellId}
-use Rattle.lay_items.specs.declared.id.ItemId.{ItemId}
-use Rattle.lay_items.specs.Layout.{Layout, item_at}
-use Rattle.lay_items.specs.Lent.{LentShape, calls_in, shapes_in}
-use Rattle.lay_items.specs.Sound.{IsSound}
+use Rattle.lay_calls.specs.declared.cell_id.CellId.{CellId}
+use Rattle.lay_layouts.specs.declared.id.ItemId.{ItemId}
+use Rattle.lay_layouts.specs.Layout.{Layout, item_at}
+use Rattle.lay_layouts.specs.Lent.{LentShape, calls_in, shapes_in}
+use Rattle.lay_layouts.specs.Sound.{IsSound}
 use Rattle.lay_flat.specs.Flat.{FlatRing}
 use Rattle.lay_flat.specs.Flattening.{flat_of}
-use Rattle.face_labels.specs.declared.op.Op.{Op}
-use Rattle.face_labels.specs.Operations.{op_at}
+use Rattle.face_rows.specs.declared.op.Op.{Op}
+use Rattle.face_rows.specs.Operations.{op_at}
 use Rattle.bool_shape_laws.specs.Shapes.{Rings, rounded_inputs}
 use Rattle.bool_rules.specs.Booleans.{bool_shapes}
-use Rattle.txn_rules.specs.declared.command.Command.{Command}
-use Rattle.txn_rules.specs.declared.command.Command.TheVariants.{Bool as Combine}
-use Rattle.txn_rules.specs.declared.command.Done.{Done}
-use Rattle.txn_rules.specs.declared.command.TxnId.{TxnId}
-use Rattle.txn_rules.specs.Acts.{id_after}
-use Rattle.txn_rules.specs.Effects.{Run, after_each, begun, effect, next_id}
+use Rattle.txn_commands.specs.declared.command.Command.{Command}
+use Rattle.txn_commands.specs.declared.command.Command.TheVariants.{Bool as Combine}
+use Rattle.txn_commands.specs.declared.command.Done.{Done}
+use Rattle.txn_commands.specs.declared.command.TxnId.{TxnId}
+use Rattle.txn_commands.specs.Acts.{id_after}
+use Rattle.txn_commands.specs.Effects.{Run, after_each, begun, effect, next_id}
 
 -- shapes under the ids from this one on
 abbrev pub numbered : ItemId → List Rings → List LentShape

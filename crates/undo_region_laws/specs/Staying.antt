@@ -1,20 +1,20 @@
 -- What stays of an operation in a history: its shapes are as the operation drew them, until another transaction draws there.
 use Rattle.std.specs.Prelude.{◌≡◌, ℕ, true, false, List, ◌∷◌, ◌++◌, None, Some, Ok}
 use Rattle.std.specs.List.{AllByRecursion}
-use Rattle.lay_cells.specs.declared.cell_id.CellId.{CellId}
-use Rattle.lay_items.specs.declared.id.ItemId.{ItemId}
-use Rattle.lay_items.specs.Layout.{Layout, item_at}
-use Rattle.lay_items.specs.Lent.{shapes_in}
-use Rattle.lay_items.specs.Sound.{IsSound}
-use Rattle.face_labels.specs.declared.op.Op.{Op}
-use Rattle.txn_rules.specs.declared.command.Command.{Command}
-use Rattle.txn_rules.specs.declared.command.Command.TheVariants.{Bool as Combine}
-use Rattle.txn_rules.specs.declared.command.Done.{Done}
-use Rattle.txn_rules.specs.declared.command.TxnId.{TxnId}
-use Rattle.txn_rules.specs.declared.element.Element.{Element}
-use Rattle.txn_rules.specs.declared.element.Element.TheVariants.{Layer}
-use Rattle.txn_rules.specs.Effects.{Run, after_each, begun, effect}
-use Rattle.txn_rules.specs.Meets.{some_meets}
+use Rattle.lay_calls.specs.declared.cell_id.CellId.{CellId}
+use Rattle.lay_layouts.specs.declared.id.ItemId.{ItemId}
+use Rattle.lay_layouts.specs.Layout.{Layout, item_at}
+use Rattle.lay_layouts.specs.Lent.{shapes_in}
+use Rattle.lay_layouts.specs.Sound.{IsSound}
+use Rattle.face_rows.specs.declared.op.Op.{Op}
+use Rattle.txn_commands.specs.declared.command.Command.{Command}
+use Rattle.txn_commands.specs.declared.command.Command.TheVariants.{Bool as Combine}
+use Rattle.txn_commands.specs.declared.command.Done.{Done}
+use Rattle.txn_commands.specs.declared.command.TxnId.{TxnId}
+use Rattle.txn_commands.specs.declared.element.Element.{Element}
+use Rattle.txn_commands.specs.declared.element.Element.TheVariants.{Layer}
+use Rattle.txn_commands.specs.Effects.{Run, after_each, begun, effect}
+use Rattle.txn_commands.specs.Meets.{some_meets}
 use Rattle.undo_rules.specs.declared.log.Logged.{Logged}
 use Rattle.undo_rules.specs.Histories.{AreKept, commands_at, replay_from}
 use Rattle.undo_rules.specs.Links.{Entry}

@@ -1,8 +1,8 @@
 -- A transaction that no later live one has touched can be taken out of a chain, and put in again.
 use Rattle.std.proofs.Common.{◌≡◌, Bool, true, false, cond, ◌&&◌, List, [], ◌∷◌, None, Some, refl, subst}
 use Rattle.std.specs.Prelude.{MatchBool}
-use Rattle.lay_items.specs.Layout.{Layout}
-use Rattle.lay_items.specs.Sound.{IsSound}
+use Rattle.lay_layouts.specs.Layout.{Layout}
+use Rattle.lay_layouts.specs.Sound.{IsSound}
 use Rattle.txn_rules.specs.Agreement.{AgreeOn}
 use Rattle.txn_rules.specs.Elements.{Touched}
 use Rattle.txn_rules.specs.Records.{AreProper, Lead, Records}

@@ -7,9 +7,9 @@ use Rattle.std.specs.List.{AllByRecursion, cons_option, filter_map}
 use Rattle.std.proofs.lemmas.Bool.Decides.{Decides-eqb}
 use Rattle.std.proofs.lemmas.List.{length-append}
 use Rattle.std.proofs.lemmas.List.Elements.{filter_map-append}
-use Rattle.lay_items.specs.Layout.{Layout}
-use Rattle.lay_items.specs.Sound.{IsSound}
-use Rattle.txn_rules.specs.declared.command.TxnId.{TxnId}
+use Rattle.lay_layouts.specs.Layout.{Layout}
+use Rattle.lay_layouts.specs.Sound.{IsSound}
+use Rattle.txn_rules.specs.TxnId.{TxnId}
 use Rattle.txn_rules.specs.Elements.{Touched}
 use Rattle.txn_rules.specs.Records.{Records, applied}
 use Rattle.txn_rules.specs.Transactions.{IsTransaction, Transaction}

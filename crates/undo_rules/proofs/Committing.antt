@@ -4,9 +4,9 @@ use Rattle.std.proofs.Common.{append-nil, append_assoc}
 use Rattle.std.specs.Prelude.{MatchBool}
 use Rattle.std.specs.List.{AllByRecursion}
 use Rattle.std.proofs.lemmas.List.{length-map}
-use Rattle.lay_items.specs.Layout.{Layout}
-use Rattle.lay_items.specs.Sound.{IsSound}
-use Rattle.txn_rules.specs.declared.element.Element.{Element}
+use Rattle.lay_layouts.specs.Layout.{Layout}
+use Rattle.lay_layouts.specs.Sound.{IsSound}
+use Rattle.txn_rules.specs.Element.{Element}
 use Rattle.txn_rules.specs.Agreement.{Agree, AgreeOn}
 use Rattle.txn_rules.specs.Effects.{Run, begun}
 use Rattle.txn_rules.specs.Elements.{Touched}

@@ -2,8 +2,8 @@
 use Rattle.std.proofs.Common.{◌≡◌, ◌⊎◌, inl, inr, Bool, true, false, cond, ◌&&◌, List, [], ◌∷◌, length, refl, sym, ap, ◌∙◌, arith}
 use Rattle.std.specs.List.{AllByRecursion}
 use Rattle.std.proofs.lemmas.Bool.Decides.{Decides-eqb}
-use Rattle.txn_rules.specs.declared.command.TxnId.{TxnId}
-use Rattle.txn_rules.specs.declared.element.Element.{Element}
+use Rattle.txn_rules.specs.TxnId.{TxnId}
+use Rattle.txn_rules.specs.Element.{Element}
 use Rattle.txn_rules.specs.Elements.{Touched}
 use Rattle.txn_rules.specs.Meets.{some_meets}
 use Rattle.txn_rules.specs.Records.{Records}

@@ -3,9 +3,9 @@ use Rattle.std.proofs.Common.{◌≡◌, Bool, true, false, ◌||◌, List, [], 
 use Rattle.std.specs.FinSet.{contains-items, items}
 use Rattle.std.specs.List.{list_any}
 use Rattle.std.specs.Ordering.{eq_by_cmp}
-use Rattle.lay_items.specs.Layout.{Layout}
-use Rattle.lay_items.specs.Sound.{IsSound}
-use Rattle.txn_rules.specs.declared.element.Element.{Element}
+use Rattle.lay_layouts.specs.Layout.{Layout}
+use Rattle.lay_layouts.specs.Sound.{IsSound}
+use Rattle.txn_rules.specs.Element.{Element}
 use Rattle.txn_rules.specs.Agreement.{AgreeOn}
 use Rattle.txn_rules.specs.Effects.{Run, begun}
 use Rattle.txn_rules.specs.Elements.{Touched, element_cmp, elements_exact}

@@ -1,7 +1,7 @@
 -- The laws of histories.
 use Rattle.std.proofs.Common.{◌≡◌, List, None, true, false, [], ◌∷◌, ◌++◌, map, sym, ap, subst, ◌∙◌}
 use Rattle.std.proofs.lemmas.List.{length-map}
-use Rattle.lay_items.specs.Layout.{Layout}
+use Rattle.lay_layouts.specs.Layout.{Layout}
 use Rattle.txn_rules.specs.Records.{applied}
 use Rattle.undo_rules.specs.declared.log.Logged.{Logged}
 use Rattle.undo_rules.specs.Histories.{AreKept}

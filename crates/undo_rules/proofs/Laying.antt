@@ -1,7 +1,7 @@
 -- Transactions applied to a base in two ways: what they agree on.
 use Rattle.std.proofs.Common.{◌≡◌, Bool, true, false, List, [], ◌∷◌, refl, sym}
-use Rattle.lay_items.specs.Layout.{Layout}
-use Rattle.txn_rules.specs.declared.element.Element.{Element}
+use Rattle.lay_layouts.specs.Layout.{Layout}
+use Rattle.txn_rules.specs.Element.{Element}
 use Rattle.txn_rules.specs.Agreement.{Agree}
 use Rattle.txn_rules.specs.Meets.{some_meets}
 use Rattle.txn_rules.proofs.Agreements.{agree-equal, agree-sym, agree-trans}

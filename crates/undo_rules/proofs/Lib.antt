@@ -12,3 +12,4 @@ pub mod Finding
 pub mod StepLaws
 pub mod OpenLaws
 pub mod CommitLaws
+pub use Rattle.txn_rules.proofs.LawProofs

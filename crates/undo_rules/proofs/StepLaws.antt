@@ -5,9 +5,9 @@ use Rattle.std.specs.Prelude.{is_some}
 use Rattle.std.specs.List.{AllByRecursion, cons_option, filter_map}
 use Rattle.std.proofs.lemmas.List.{length-append}
 use Rattle.std.proofs.lemmas.List.Elements.{filter_map-append}
-use Rattle.lay_items.specs.Layout.{Layout}
-use Rattle.txn_rules.specs.declared.command.TxnId.{TxnId}
-use Rattle.txn_rules.specs.declared.element.Element.{Element}
+use Rattle.lay_layouts.specs.Layout.{Layout}
+use Rattle.txn_rules.specs.TxnId.{TxnId}
+use Rattle.txn_rules.specs.Element.{Element}
 use Rattle.txn_rules.specs.Agreement.{Agree}
 use Rattle.txn_rules.specs.Meets.{some_meets}
 use Rattle.txn_rules.specs.Records.{Records, reverted}

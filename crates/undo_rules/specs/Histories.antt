@@ -2,10 +2,10 @@
 use Rattle.std.specs.Prelude.{◌≡◌, ℕ, List, [], ◌∷◌, ◌++◌, length, map, Bool, true}
 use Rattle.std.specs.Prelude.{false, Option, None, Some, if◌then◌else◌, slice_get, MatchBool}
 use Rattle.std.specs.List.{AllByRecursion}
-use Rattle.lay_items.specs.Layout.{Layout}
-use Rattle.lay_items.specs.Sound.{IsSound}
-use Rattle.txn_rules.specs.declared.command.Command.{Command}
-use Rattle.txn_rules.specs.declared.element.Element.{Element}
+use Rattle.lay_layouts.specs.Layout.{Layout}
+use Rattle.lay_layouts.specs.Sound.{IsSound}
+use Rattle.txn_rules.specs.Command.{Command}
+use Rattle.txn_rules.specs.Element.{Element}
 use Rattle.txn_rules.specs.Agreement.{Agree}
 use Rattle.txn_rules.specs.Effects.{Run, after_each, begun}
 use Rattle.txn_rules.specs.Meets.{some_meets}

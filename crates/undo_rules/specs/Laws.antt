@@ -1,14 +1,14 @@
 -- What holds of histories.
 use Rattle.std.specs.Prelude.{◌≡◌, ℕ, List, [], ◌∷◌, ◌++◌, true, false, None, Some, ◌+◌, ◌≤◌, drop}
 use Rattle.std.specs.List.{AllByRecursion}
-use Rattle.lay_items.specs.Layout.{Layout}
-use Rattle.lay_items.specs.Sound.{IsSound}
-use Rattle.txn_rules.specs.declared.command.Command.{Command}
+use Rattle.lay_layouts.specs.Layout.{Layout}
+use Rattle.lay_layouts.specs.Sound.{IsSound}
+use Rattle.txn_rules.specs.Command.{Command}
 use Rattle.txn_rules.specs.Agreement.{AgreeOn}
 use Rattle.txn_rules.specs.Effects.{Run, after_each, begun}
 use Rattle.txn_rules.specs.Records.{Lead, Records, applied, reverted, records_between}
 use Rattle.undo_rules.specs.declared.log.Logged.{Logged}
-use Rattle.txn_rules.specs.declared.command.TxnId.{TxnId}
+use Rattle.txn_rules.specs.TxnId.{TxnId}
 use Rattle.undo_rules.specs.declared.log.Answer.TheVariants.{Refused}
 use Rattle.undo_rules.specs.declared.log.BookFault.{BookFault}
 use Rattle.undo_rules.specs.declared.log.Call.{Call}

@@ -1,7 +1,7 @@
 -- Which transactions a transaction is linked to: the live earlier ones that wrote what it touched.
 use Rattle.std.specs.Prelude.{◌≡◌, ℕ, ◌==◌, List, [], ◌∷◌, map, Bool, false, ◌&&◌, Option, None, Some, if◌then◌else◌}
 use Rattle.std.specs.List.{AllByRecursion, list_any}
-use Rattle.txn_rules.specs.declared.command.TxnId.{TxnId}
+use Rattle.txn_rules.specs.TxnId.{TxnId}
 use Rattle.txn_rules.specs.Elements.{Touched}
 pub use Rattle.txn_rules.specs.Meets.{meets_touched}
 use Rattle.txn_rules.specs.Records.{Records}

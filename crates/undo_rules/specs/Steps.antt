@@ -1,8 +1,8 @@
 -- The calls of a book: what each answers, in the order in which refusals are tested, and what it leaves.
 use Rattle.std.specs.Prelude.{ℕ, ◌+◌, ◌-◌, ◌==◌, ◌&&◌, not, List, [], ◌∷◌, ◌++◌, length, drop, Bool, true, false, nat_le, Option}
 use Rattle.std.specs.Prelude.{None, Some, Result, Ok, Err, if◌then◌else◌, slice_index_or, slice_set, replicate, unwrap_or}
-use Rattle.lay_items.specs.Layout.{Layout}
-use Rattle.txn_rules.specs.declared.command.TxnId.{TxnId}
+use Rattle.lay_layouts.specs.Layout.{Layout}
+use Rattle.txn_rules.specs.TxnId.{TxnId}
 use Rattle.txn_rules.specs.Compared.{agrees}
 use Rattle.txn_rules.specs.Elements.{Touched, untouched}
 use Rattle.txn_rules.specs.Records.{Records}

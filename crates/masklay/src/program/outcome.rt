@@ -3,25 +3,26 @@ ghost use Rattle.std.specs.Prelude.{◌≡◌, ◌≤◌, IfOk, Ok};
 ghost use Rattle.std.specs.List.{list_any};
 ghost use Rattle.lay_point.specs.Memory.{IsAnswer};
 ghost use Rattle.masklay.specs.declared.program.outcome.Stop.TheVariants.{NoMemory as OutOfMemory};
-ghost use Rattle.session_core.specs.Machine.{Ran, is_memory, start};
-ghost use Rattle.undo_book.specs.declared.book.TheConstants.{MAX_CALLS};
+ghost use Rattle.live_run.specs.Machine.{Ran, is_memory, start};
+ghost use Rattle.live_run.specs.TheConstants.{MAX_CALLS};
 ghost use Rattle.masklay.specs.Outcome.{finished_from, sessions_for, stop_of_cif, stop_of_job};
 ghost use Rattle.masklay.specs.Threads.{AnswersOutcome, stop_of_run};
 
 use crate::program::options::{MAX_WORKERS, Options};
 use crate::program::threads::finish_threads;
 use band_workers::{OneBand, ScopedBands};
-use cif_read::{CifFault, FaultKind, read};
+use cif_content::{CifFault, FaultKind};
+use cif_read::read;
+use desk_run::RunFault;
 use job_text::{Job, JobFault, order_of};
 use lay_items::Snapshot;
 use lay_point::{NoMemory, Sequence};
-use locked_desk::RunFault;
-use session_core::Machine;
+use live_run::Machine;
 use session_steps::{Reply, Step, StepFault, dealt, in_turn};
 use std::alloc::Global;
 use std::sync::Wait;
 use std::thread::Threads;
-use txn_rules::CmdFault;
+use txn_commands::CmdFault;
 use undo_rules::BookFault;
 
 /// Why no layout is written.

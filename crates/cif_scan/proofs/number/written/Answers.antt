@@ -1,6 +1,6 @@
 use Rattle.std.proofs.Common.{rules, ◌≡◌, ◌+◌, ◌-◌, ◌*◌, ◌∙◌, ◌∷◌, min, true, ap, arith, sym}
 use Rattle.std.specs.List.{take_while}
-use Rattle.lay_point.specs.Names.{is_digit}
+use Rattle.byte_io.specs.Names.{is_digit}
 use Rattle.cif_scan.specs.Bytes.{skip}
 use Rattle.cif_scan.proofs.Digits.{capped_from, one_digit, one_passed}
 use Rattle.cif_scan.proofs.number.written.Goals as goal

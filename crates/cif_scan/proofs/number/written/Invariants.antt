@@ -1,6 +1,6 @@
 use Rattle.std.proofs.Common.{◌≡◌, ◌≤◌, length}
 use Rattle.std.specs.List.{take_while}
-use Rattle.lay_point.specs.Names.{is_digit}
+use Rattle.byte_io.specs.Names.{is_digit}
 use Rattle.cif_scan.specs.Bytes.{skip}
 use Rattle.cif_scan.specs.Grammar.{capped_magnitude}
 use Rattle.cif_scan.proofs.Digits.{capped_from}

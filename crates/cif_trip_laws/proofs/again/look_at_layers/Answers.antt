@@ -3,9 +3,9 @@ use Rattle.std.proofs.Common.{◌≡◌, List, [], ◌∷◌, Bool, true, false,
 use Rattle.std.specs.FinMap.{entries, find, get-entries}
 use Rattle.std.specs.List.{AllByRecursion}
 use Rattle.std.specs.Ordering.{eq_by_cmp}
-use Rattle.lay_items.specs.declared.id.ItemId.{ItemId}
-use Rattle.lay_items.specs.declared.item.Item.{Item}
-use Rattle.lay_items.specs.Ids.{id_cmp}
+use Rattle.lay_layouts.specs.declared.id.ItemId.{ItemId}
+use Rattle.lay_layouts.specs.declared.item.Item.{Item}
+use Rattle.lay_layouts.specs.Ids.{id_cmp}
 use Rattle.cif_trip_laws.specs.Laws.{IsOnNamedLayer}
 use Rattle.cif_trip_laws.proofs.again.look_at_layers.Goals as goal
 

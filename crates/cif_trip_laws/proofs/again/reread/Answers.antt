@@ -1,8 +1,8 @@
 -- What the reader answers for the text is the wrapped layout, or out of memory.
 use Rattle.std.proofs.Common.{◌≡◌, ◌⊎◌, ◌∙◌, Result, Ok, Err, inl, inr, ap, subst, rules}
 use Rattle.lay_point.specs.declared.memory.NoMemory.{NoMemory}
-use Rattle.lay_items.specs.Layout.{Layout}
-use Rattle.cif_read.specs.Meaning.{AnswersMeaning, no_memory}
+use Rattle.lay_layouts.specs.Layout.{Layout}
+use Rattle.cif_content.specs.Meaning.{AnswersMeaning, no_memory}
 use Rattle.lay_items.specs.FromCif.{layout_of}
 use Rattle.cif_write.specs.Text.{text}
 use Rattle.cif_write.specs.Wrap.{wrap}

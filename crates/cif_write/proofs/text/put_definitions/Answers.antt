@@ -1,7 +1,7 @@
 use Rattle.std.proofs.Common.{◌≡◌, ◌<◌, ◌+◌, ℕ, List, Some, ap, arith, drop, length, map, rules, slice_get}
 use Rattle.std.proofs.lemmas.Option.{get_or_from_slice_get}
-use Rattle.lay_items.specs.declared.id.ItemId.{ItemId}
-use Rattle.lay_items.specs.declared.item.Item.{Item}
+use Rattle.lay_layouts.specs.declared.id.ItemId.{ItemId}
+use Rattle.lay_layouts.specs.declared.item.Item.{Item}
 use Rattle.cif_write.specs.Lines.{lines_text}
 use Rattle.cif_write.specs.Text.{definition_lines, definitions_lines}
 use Rattle.cif_write.specs.Wrap.{entry_item, written_definition}

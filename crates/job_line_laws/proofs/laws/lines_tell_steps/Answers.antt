@@ -3,7 +3,7 @@ use Rattle.std.proofs.Common.{◌≡◌, sym, ap, ◌∙◌}
 use Rattle.std.specs.Prelude.{Some}
 use Rattle.session_steps.specs.declared.Step.{Step}
 use Rattle.job_text.specs.Steps.{step_of}
-use Rattle.job_text.specs.Words.{words_of}
+use Rattle.job_lines.specs.Words.{words_of}
 use Rattle.job_line_laws.specs.Laws.{LinesSayTheirSteps}
 use Rattle.job_line_laws.specs.Written.{step_words}
 use Rattle.job_line_laws.proofs.Joined.{words-line}

@@ -1,7 +1,7 @@
 use Rattle.std.proofs.Common.{◌≡◌, ◌∙◌, ◌++◌, ◌-◌, ◌∷◌, [], List, ap, append_assoc, append-nil, rules, sym}
 use Rattle.std.specs.Prelude.{flat_map}
-use Rattle.lay_cells.specs.declared.cell_id.CellId.TheVariants.{Symbol}
-use Rattle.lay_items.specs.Lent.{LentCall, calls_in}
+use Rattle.lay_calls.specs.declared.cell_id.CellId.TheVariants.{Symbol}
+use Rattle.lay_layouts.specs.Lent.{LentCall, calls_in}
 use Rattle.lay_flat.specs.declared.ends.End.{End}
 use Rattle.lay_flat.specs.Ends.{ends_within, turn_after}
 use Rattle.lay_flat.proofs.LayoutWalks.{ends-more, ends-none}

@@ -2,7 +2,7 @@ use Rattle.std.proofs.Common.{◌≡◌, ◌∙◌, ◌++◌, ◌||◌, true, fa
 use Rattle.std.specs.List.{list_all, list_any}
 use Rattle.lay_point.specs.declared.turn.Turn.{Turn}
 use Rattle.lay_point.specs.Memory.{IsAnswer}
-use Rattle.lay_items.specs.Layout.{Layout, is_cell}
+use Rattle.lay_layouts.specs.Layout.{Layout, is_cell}
 use Rattle.lay_flat.specs.declared.ends.End.{End}
 use Rattle.lay_flat.specs.declared.fault.FlatFault.TheVariants.{NoMemory}
 use Rattle.lay_flat.specs.Ends.{ends_within}

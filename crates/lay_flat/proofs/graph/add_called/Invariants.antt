@@ -1,5 +1,5 @@
 use Rattle.std.proofs.Common.{◌≡◌}
-use Rattle.lay_items.specs.Lent.{calls_in}
+use Rattle.lay_layouts.specs.Lent.{calls_in}
 use Rattle.lay_flat.specs.Graphs.{with_called}
 use Rattle.lay_flat.proofs.graph.add_called.Given as goal
 

@@ -1,9 +1,9 @@
 use Rattle.std.proofs.Common.{◌≡◌, ◌++◌, ◌<◌, Some, None, ap, arith, rules, subst, sym, ◌∙◌, List, ℕ, true}
 use Rattle.std.specs.Prelude.{slice_get}
 use Rattle.std.proofs.lemmas.Option.{slice_get_within}
-use Rattle.lay_cells.specs.declared.cell_id.CellId.TheVariants.{Symbol}
-use Rattle.lay_cells.specs.Symbols.{has_symbol}
-use Rattle.lay_cells.specs.Walks.{Calls}
+use Rattle.lay_calls.specs.declared.cell_id.CellId.TheVariants.{Symbol}
+use Rattle.lay_calls.specs.Symbols.{has_symbol}
+use Rattle.lay_calls.specs.Walks.{Calls}
 use Rattle.lay_flat.specs.Graphs.{graph_calls, symbol_calls}
 use Rattle.lay_flat.proofs.Entering.{calls_one, has_at, take_whole}
 use Rattle.lay_flat.proofs.graph.add_symbols.Goals as goal

@@ -1,8 +1,8 @@
 use Rattle.std.proofs.Common.{◌≡◌, ◌<◌, Some, None, ap, arith, length, rules, ◌∙◌}
 use Rattle.std.specs.Prelude.{slice_get}
-use Rattle.lay_cells.specs.declared.cell_id.CellId.TheVariants.{Symbol}
-use Rattle.lay_items.specs.Lent.{calls_in}
-use Rattle.lay_items.specs.SlotOrder.{in_slot_order}
+use Rattle.lay_calls.specs.declared.cell_id.CellId.TheVariants.{Symbol}
+use Rattle.lay_layouts.specs.Lent.{calls_in}
+use Rattle.lay_layouts.specs.SlotOrder.{in_slot_order}
 use Rattle.lay_flat.specs.Graphs.{with_called}
 use Rattle.lay_flat.proofs.Entering.{first_found, found_all, found_few, found_more}
 use Rattle.lay_flat.proofs.graph.symbols_from.Goals as goal

@@ -1,9 +1,9 @@
 use Rattle.std.proofs.Common.{◌≡◌, ◌≤◌, ◌<◌, ◌-◌, ℕ, Some, length, nat_eq}
 use Rattle.std.specs.List.{IsDistinct}
 use Rattle.std.specs.Prelude.{slice_get}
-use Rattle.lay_cells.specs.declared.cell_id.CellId.TheVariants.{Symbol}
-use Rattle.lay_items.specs.Lent.{calls_in}
-use Rattle.lay_items.specs.SlotOrder.{in_slot_order}
+use Rattle.lay_calls.specs.declared.cell_id.CellId.TheVariants.{Symbol}
+use Rattle.lay_layouts.specs.Lent.{calls_in}
+use Rattle.lay_layouts.specs.SlotOrder.{in_slot_order}
 use Rattle.lay_flat.specs.Graphs.{AreCallsTo, BeginsIn}
 use Rattle.lay_flat.proofs.Reaching.{IsKnown}
 use Rattle.lay_flat.proofs.graph.symbols_from.Given as goal

@@ -1,7 +1,7 @@
 use Rattle.std.proofs.Common.{◌≡◌, ◌∙◌, ◌++◌, ◌+◌, ◌∷◌, List, ap, append_assoc, length, map, rules, sym, unwrap_or}
 use Rattle.std.proofs.lemmas.List.{length-map}
 use Rattle.lay_point.specs.Turns.{unturned}
-use Rattle.lay_items.specs.Lent.{LentShape, shapes_in}
+use Rattle.lay_layouts.specs.Lent.{LentShape, shapes_in}
 use Rattle.lay_flat.specs.Flattening.{Drawn, drawn_at, rings_from, rings_of}
 use Rattle.lay_flat.specs.Lending.{IsTooMany}
 use Rattle.lay_flat.proofs.LendingLemmas.{too_many-more, too_many-same}

@@ -2,12 +2,12 @@ use Rattle.std.proofs.Common.{◌≡◌, ◌∙◌, ◌+◌, ◌++◌, List, [],
 use Rattle.std.proofs.lemmas.List.{append-nil}
 use Rattle.std.specs.List.Sorted.{IsStrictlySortedBy}
 use Rattle.std.specs.Map.{keys_of}
-use Rattle.cif_read.specs.declared.element.Element.{Element}
-use Rattle.lay_items.specs.declared.id.ItemId.{ItemId}
-use Rattle.lay_items.specs.declared.item.Item.{Item}
+use Rattle.cif_read.specs.Element.{Element}
+use Rattle.lay_layouts.specs.declared.id.ItemId.{ItemId}
+use Rattle.lay_layouts.specs.declared.item.Item.{Item}
 use Rattle.lay_items.specs.FromCif.{items_of_elements}
-use Rattle.lay_items.specs.Ids.{id_cmp}
-use Rattle.lay_items.specs.LayoutWith.{numbered_from}
+use Rattle.lay_layouts.specs.Ids.{id_cmp}
+use Rattle.lay_layouts.specs.LayoutWith.{numbered_from}
 use Rattle.lay_items.proofs.NumberedLemmas.{numbered_sorted}
 use Rattle.lay_items.proofs.from_cif.pages_of.Goals as goal
 

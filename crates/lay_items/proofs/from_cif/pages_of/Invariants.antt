@@ -1,6 +1,6 @@
 use Rattle.std.proofs.Common.{◌≡◌, ◌+◌, ◌++◌, length, reverse}
 use Rattle.lay_items.specs.FromCif.{items_of_elements}
-use Rattle.lay_items.specs.LayoutWith.{numbered_from}
+use Rattle.lay_layouts.specs.LayoutWith.{numbered_from}
 use Rattle.lay_items.proofs.from_cif.pages_of.Given as goal
 
 -- what is numbered, and the elements that are left, turned round again, are all

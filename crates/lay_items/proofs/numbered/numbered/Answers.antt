@@ -3,10 +3,10 @@ use Rattle.std.proofs.lemmas.List.{append-nil, nil_from_length}
 use Rattle.std.specs.List.Sorted.{IsStrictlySortedBy}
 use Rattle.std.specs.Map.{keys_of}
 use Rattle.std.specs.Vec.Iter.{into_iter_items}
-use Rattle.lay_items.specs.declared.id.ItemId.{ItemId}
-use Rattle.lay_items.specs.declared.item.Item.{Item}
-use Rattle.lay_items.specs.Ids.{id_cmp}
-use Rattle.lay_items.specs.LayoutWith.{numbered_from}
+use Rattle.lay_layouts.specs.declared.id.ItemId.{ItemId}
+use Rattle.lay_layouts.specs.declared.item.Item.{Item}
+use Rattle.lay_layouts.specs.Ids.{id_cmp}
+use Rattle.lay_layouts.specs.LayoutWith.{numbered_from}
 use Rattle.lay_items.proofs.NumberedLemmas.{numbered_sorted}
 use Rattle.lay_items.proofs.numbered.numbered.Goals as goal
 

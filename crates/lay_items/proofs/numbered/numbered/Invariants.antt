@@ -1,6 +1,6 @@
 use Rattle.std.proofs.Common.{◌≡◌, ◌+◌, ◌++◌}
 use Rattle.std.specs.Vec.Iter.{into_iter_items}
-use Rattle.lay_items.specs.LayoutWith.{numbered_from}
+use Rattle.lay_layouts.specs.LayoutWith.{numbered_from}
 use Rattle.lay_items.proofs.numbered.numbered.Given as goal
 
 -- what is numbered, and the items that are left under the ids behind, are all

@@ -1,8 +1,8 @@
 -- The writes that were found lead to the directed layout, which is sound.
 use Rattle.std.proofs.Common.{◌≡◌, ◌∙◌, [], List, arith, rules, subst, sym}
 use Rattle.std.specs.FinMap.{entries, len, len-entries}
-use Rattle.lay_items.specs.Layout.{Layout, Write, changed}
-use Rattle.lay_items.specs.Sound.{IsSound}
+use Rattle.lay_layouts.specs.Layout.{Layout, Write, changed}
+use Rattle.lay_layouts.specs.Sound.{IsSound}
 use Rattle.lay_oriented.specs.Directed.{IsDirected}
 use Rattle.lay_oriented.specs.Steps.{AreWrites}
 use Rattle.lay_oriented.proofs.DirectedLemmas.{writes_direct, writes_rise, writes_sound}

@@ -1,8 +1,8 @@
 -- The writes that are found stay complete.
 use Rattle.std.proofs.Common.{◌≡◌, ◌++◌, ◌+◌, suc, List, [], ◌∷◌, Some, length, ap, refl, subst, rules, arith}
 use Rattle.std.specs.FinMap.{entries}
-use Rattle.lay_items.specs.declared.id.ItemId.{ItemId}
-use Rattle.lay_items.specs.declared.item.Item.{Item}
+use Rattle.lay_layouts.specs.declared.id.ItemId.{ItemId}
+use Rattle.lay_layouts.specs.declared.item.Item.{Item}
 use Rattle.lay_oriented.specs.Directed.{IsShape, IsTurned}
 use Rattle.lay_oriented.proofs.CompleteLemmas.{Completes, complete_all, complete_otherwise, complete_turned}
 use Rattle.lay_oriented.proofs.directing.writes_of.Goals as goal

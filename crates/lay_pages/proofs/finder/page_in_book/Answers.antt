@@ -1,10 +1,10 @@
 use Rattle.std.proofs.Common.{◌≡◌, ◌∙◌, ◌<◌, List, [], arith, ap, length, rules, subst, sym}
 use Rattle.std.specs.FinMap.{find}
-use Rattle.lay_pages.specs.Shared.{items_of, joined}
-use Rattle.lay_pages.specs.Written.{IsPart}
-use Rattle.lay_pages.proofs.NearLemmas.{part_at}
-use Rattle.lay_pages.proofs.OrderLemmas.{find-level}
-use Rattle.lay_pages.proofs.ShareLemmas.{count_items, items_at}
+use Rattle.lay_page.specs.Shared.{items_of, joined}
+use Rattle.lay_page.specs.Written.{IsPart}
+use Rattle.lay_page.proofs.NearLemmas.{part_at}
+use Rattle.lay_page.proofs.OrderLemmas.{find-level}
+use Rattle.lay_page.proofs.ShareLemmas.{count_items, items_at}
 use Rattle.lay_pages.proofs.finder.page_in_book.Goals as goal
 
 pub returns-clause-part : goal.returns-clause-part

@@ -3,10 +3,10 @@ use Rattle.std.proofs.lemmas.List.{get_or-map}
 use Rattle.std.specs.FinMap.{find}
 use Rattle.std.specs.List.Sorted.{IsStrictlySortedBy}
 use Rattle.std.specs.Map.{keys_of}
-use Rattle.lay_pages.specs.Shared.{AreSized, joined, pages_in}
-use Rattle.lay_pages.proofs.BookLemmas.{book_at}
-use Rattle.lay_pages.proofs.OrderLemmas.{find-level}
-use Rattle.lay_pages.proofs.ShareLemmas.{count_books, count_items, length_map, pages_at}
+use Rattle.lay_page.specs.Shared.{AreSized, joined, pages_in}
+use Rattle.lay_page.proofs.BookLemmas.{book_at}
+use Rattle.lay_page.proofs.OrderLemmas.{find-level}
+use Rattle.lay_page.proofs.ShareLemmas.{count_books, count_items, length_map, pages_at}
 use Rattle.lay_pages.proofs.look.find.Goals as goal
 
 pub find_in_book-requires-clause-some : goal.find_in_book-requires-clause-some

@@ -2,10 +2,10 @@ use Rattle.std.proofs.Common.{◌∙◌, ◌<◌, List, [], arith, ap, length, r
 use Rattle.std.specs.FinMap.{find}
 use Rattle.std.specs.List.Sorted.{IsStrictlySortedBy}
 use Rattle.std.specs.Map.{keys_of}
-use Rattle.lay_pages.specs.Shared.{items_of}
-use Rattle.lay_pages.proofs.OrderLemmas.{find-level}
-use Rattle.lay_pages.proofs.PlaceLemmas.{sorted-at}
-use Rattle.lay_pages.proofs.ShareLemmas.{count_items, items_at}
+use Rattle.lay_page.specs.Shared.{items_of}
+use Rattle.lay_page.proofs.OrderLemmas.{find-level}
+use Rattle.lay_page.proofs.PlaceLemmas.{sorted-at}
+use Rattle.lay_page.proofs.ShareLemmas.{count_items, items_at}
 use Rattle.lay_pages.proofs.look.find_in_book.Goals as goal
 
 pub find-requires : goal.find-requires

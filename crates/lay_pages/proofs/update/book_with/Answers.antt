@@ -1,11 +1,11 @@
 use Rattle.std.proofs.Common.{◌∙◌, ◌<◌, ◌≤◌, List, [], arith, ap, length, rules, subst, sym}
 use Rattle.std.specs.List.Sorted.{IsStrictlySortedBy}
 use Rattle.std.specs.Map.{keys_of}
-use Rattle.lay_pages.specs.Shared.{AreSized, items_of, joined}
-use Rattle.lay_pages.specs.Written.{after_write}
-use Rattle.lay_pages.proofs.OrderLemmas.{write-level}
-use Rattle.lay_pages.proofs.PlaceLemmas.{sized-at, sorted-at}
-use Rattle.lay_pages.proofs.ShareLemmas.{all_spliced, count_items, items_at, spliced_items}
+use Rattle.lay_page.specs.Shared.{AreSized, items_of, joined}
+use Rattle.lay_page.specs.Written.{after_write}
+use Rattle.lay_page.proofs.OrderLemmas.{write-level}
+use Rattle.lay_page.proofs.PlaceLemmas.{sized-at, sorted-at}
+use Rattle.lay_page.proofs.ShareLemmas.{all_spliced, count_items, items_at, spliced_items}
 use Rattle.lay_pages.proofs.update.book_with.Goals as goal
 
 pub page_with-requires-clause-full : goal.page_with-requires-clause-full

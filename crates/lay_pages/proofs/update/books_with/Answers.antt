@@ -2,10 +2,10 @@ use Rattle.std.proofs.Common.{◌∙◌, ◌<◌, List, [], arith, ap, length, r
 use Rattle.std.specs.List.{AllByRecursion}
 use Rattle.std.specs.List.Sorted.{IsStrictlySortedBy}
 use Rattle.std.specs.Map.{keys_of}
-use Rattle.lay_pages.specs.Shared.{AreSized, entries_in, joined, pages_in}
-use Rattle.lay_pages.specs.Written.{after_write}
-use Rattle.lay_pages.proofs.BookLemmas.{book_at, books_after}
-use Rattle.lay_pages.proofs.ShareLemmas.{count_books, count_items, length_map, pages_at, spliced_pages}
+use Rattle.lay_page.specs.Shared.{AreSized, entries_in, joined, pages_in}
+use Rattle.lay_page.specs.Written.{after_write}
+use Rattle.lay_page.proofs.BookLemmas.{book_at, books_after}
+use Rattle.lay_page.proofs.ShareLemmas.{count_books, count_items, length_map, pages_at, spliced_pages}
 use Rattle.lay_pages.proofs.update.books_with.Goals as goal
 
 pub book_with-requires-clause-some : goal.book_with-requires-clause-some

@@ -1,4 +1,4 @@
-use Rattle.lay_pages.proofs.ShareLemmas.{are_cut}
+use Rattle.lay_page.proofs.ShareLemmas.{are_cut}
 use Rattle.lay_pages.proofs.update.cut_book.Goals as goal
 
 pub returns-clause-entries : goal.returns-clause-entries

@@ -1,8 +1,8 @@
 use Rattle.std.proofs.Common.{◌∙◌, [], List, ap, subst, sym}
 use Rattle.std.specs.List.Sorted.{IsStrictlySortedBy}
 use Rattle.std.specs.Map.{keys_of}
-use Rattle.lay_pages.specs.Written.{after_write}
-use Rattle.lay_pages.proofs.OrderLemmas.{sorted-written}
+use Rattle.lay_page.specs.Written.{after_write}
+use Rattle.lay_page.proofs.OrderLemmas.{sorted-written}
 use Rattle.lay_pages.proofs.update.first_books.Goals as goal
 
 pub page_with-requires-clause-sorted : goal.page_with-requires-clause-sorted

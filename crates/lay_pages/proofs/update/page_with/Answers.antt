@@ -1,7 +1,7 @@
 use Rattle.std.proofs.Common.{List, arith, ap, length, subst, sym}
-use Rattle.lay_pages.specs.Shared.{AreSized}
-use Rattle.lay_pages.proofs.OrderLemmas.{written-full}
-use Rattle.lay_pages.proofs.ShareLemmas.{sized_parts}
+use Rattle.lay_page.specs.Shared.{AreSized}
+use Rattle.lay_page.proofs.OrderLemmas.{written-full}
+use Rattle.lay_page.proofs.ShareLemmas.{sized_parts}
 use Rattle.lay_pages.proofs.update.page_with.Goals as goal
 
 -- one entry more at most

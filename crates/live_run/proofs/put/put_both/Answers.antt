@@ -3,7 +3,7 @@ use Rattle.std.proofs.Common.{rules, ◌≡◌, ◌++◌, Err, subst}
 use Rattle.byte_io.specs.Device.{WrotePrefix}
 use Rattle.cif_write.specs.declared.writer.WriteFault.TheVariants.{Device}
 use Rattle.cif_write.specs.Text.{text}
-use Rattle.lay_items.specs.Layout.{Layout}
+use Rattle.lay_layouts.specs.Layout.{Layout}
 use Rattle.byte_io.proofs.BufferedLemmas.{WrotePrefix-behind, WrotePrefix-more}
 use Rattle.live_run.proofs.put.put_both.Goals as goal
 

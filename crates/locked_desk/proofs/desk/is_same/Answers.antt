@@ -1,5 +1,5 @@
 use Rattle.std.proofs.Common.{◌≡◌, ◌∙◌, sym, true, false}
-use Rattle.lay_items.specs.SameLayout.{layout_eq-Decides}
+use Rattle.lay_layouts.specs.SameLayout.{layout_eq-Decides}
 use Rattle.locked_desk.proofs.desk.is_same.Goals as goal
 
 pub returns-clause-same : goal.returns-clause-same

@@ -1,5 +1,5 @@
 use Rattle.std.proofs.Common.{ap, inl, refl}
-use Rattle.txn_rules.specs.declared.command.TxnId.{TxnId}
+use Rattle.txn_commands.specs.declared.command.TxnId.{TxnId}
 use Rattle.session_steps.specs.declared.Reply.TheVariants.{Opened}
 use Rattle.locked_desk.proofs.steps.open.Goals as goal
 

@@ -1,7 +1,7 @@
 use Rattle.std.proofs.Common.{◌≡◌, subst}
 use Rattle.std.specs.Prelude.{IfSome}
-use Rattle.snap_pixels.specs.declared.segment.Segment.{Segment}
-use Rattle.snap_pixels.proofs.CrossingLemmas.{Crosses-same}
+use Rattle.snap_chain_laws.specs.Segment.{Segment}
+use Rattle.snap_chain_laws.proofs.CrossingLemmas.{Crosses-same}
 use Rattle.snap_edge_test.proofs.Slanted.{common_by_crossing}
 use Rattle.snap_edge_test.proofs.meeting.cross_somewhere.Goals as goal
 

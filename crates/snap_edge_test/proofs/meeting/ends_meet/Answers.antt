@@ -1,6 +1,6 @@
 use Rattle.std.proofs.Common.{◌≡◌, true, false, rules, refl, sym, ◌∙◌}
 use Rattle.std.proofs.lemmas.Bool.{false≢true}
-use Rattle.snap_pixels.specs.Segments.{AreParallel}
+use Rattle.snap_chain_laws.specs.Segments.{AreParallel}
 use Rattle.lay_point.specs.Edges.{is_before}
 use Rattle.snap_edge_test.proofs.Tests.{before_by_test, not_before_by_test}
 use Rattle.snap_edge_test.proofs.Slanted.{shared_end_only, slanted_Decides}

@@ -1,7 +1,7 @@
 use Rattle.std.proofs.Common.{◌≡◌, map}
 use Rattle.std.specs.List.{flat_map}
-use Rattle.txn_rules.specs.Elements.{with_elements}
-use Rattle.txn_rules.specs.Records.{record_of}
+use Rattle.txn_commands.specs.Elements.{with_elements}
+use Rattle.txn_commands.specs.Records.{record_of}
 use Rattle.txn_marks.specs.Homes.{record_homes}
 use Rattle.txn_marks.proofs.elements.add_items.Given as goal
 

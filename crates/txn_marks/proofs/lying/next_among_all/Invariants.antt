@@ -1,5 +1,5 @@
 use Rattle.std.proofs.Common.{◌≡◌, length}
-use Rattle.txn_rules.specs.Compared.{lying}
+use Rattle.txn_commands.specs.Compared.{lying}
 use Rattle.txn_marks.proofs.lying.next_among_all.Given as goal
 
 -- what was passed over doesn't lie in the element

@@ -1,6 +1,6 @@
 use Rattle.std.proofs.Common.{◌≡◌, length}
 use Rattle.std.specs.Cmp.Lexicographic.{pointwise}
-use Rattle.txn_rules.specs.Compared.{entry_eq, lying}
+use Rattle.txn_commands.specs.Compared.{entry_eq, lying}
 use Rattle.txn_marks.proofs.lying.same_among_all.Given as goal
 
 -- what is left decides

@@ -1,5 +1,5 @@
 use Rattle.std.proofs.Common.{◌≡◌, ◌∙◌, ap, sym}
-use Rattle.txn_rules.specs.Compared.{agrees}
+use Rattle.txn_commands.specs.Compared.{agrees}
 use Rattle.txn_marks.proofs.CompareLemmas.{agrees_keys, agrees_on}
 use Rattle.txn_marks.proofs.same.agrees.Goals as goal
 

@@ -1,6 +1,6 @@
 use Rattle.std.proofs.Common.{◌≡◌}
 use Rattle.std.specs.List.{list_all}
-use Rattle.txn_rules.specs.Compared.{same_in}
+use Rattle.txn_commands.specs.Compared.{same_in}
 use Rattle.txn_marks.proofs.same.all_same.Given as goal
 
 -- the elements that are left decide

@@ -1,5 +1,5 @@
 use Rattle.std.proofs.Common.{◌≡◌, ◌++◌, map}
-use Rattle.txn_rules.specs.Records.{afters, record_of}
+use Rattle.txn_commands.specs.Records.{afters, record_of}
 use Rattle.txn_marks.proofs.values.item_afters.Given as goal
 
 -- with those of the changes that are left they are the writes of all

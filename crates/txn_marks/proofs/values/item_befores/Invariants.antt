@@ -1,5 +1,5 @@
 use Rattle.std.proofs.Common.{◌≡◌, ◌++◌, map}
-use Rattle.txn_rules.specs.Records.{befores, record_of}
+use Rattle.txn_commands.specs.Records.{befores, record_of}
 use Rattle.txn_marks.proofs.values.item_befores.Given as goal
 
 -- with those of the changes that are left they are the writes of all

@@ -1,5 +1,5 @@
 use Rattle.std.proofs.Common.{◌≡◌, ◌++◌, map}
-use Rattle.txn_rules.specs.Records.{cell_record_of, slot_befores}
+use Rattle.txn_commands.specs.Records.{cell_record_of, slot_befores}
 use Rattle.txn_marks.proofs.values.symbol_befores.Given as goal
 
 -- with those of the changes that are left they are the writes of all

@@ -1,8 +1,8 @@
 use Rattle.std.proofs.Common.{◌≡◌, ◌++◌, ◌∷◌, [], ◌+◌, ap, drop, rules, sym, take, ◌∙◌}
 use Rattle.std.proofs.lemmas.List.{at_drop_more, take_more}
 use Rattle.std.specs.FinSet.{insert}
-use Rattle.txn_rules.specs.declared.element.Element.{Element}
-use Rattle.txn_rules.specs.Elements.{with_elements}
+use Rattle.txn_commands.specs.declared.element.Element.{Element}
+use Rattle.txn_commands.specs.Elements.{with_elements}
 use Rattle.txn_work.specs.Marking.{without_elements}
 use Rattle.txn_work.proofs.Marks.{undone, with_more}
 use Rattle.txn_work.proofs.marking.add_all.Goals as goal

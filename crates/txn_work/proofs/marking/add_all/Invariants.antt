@@ -1,5 +1,5 @@
 use Rattle.std.proofs.Common.{◌≡◌, drop, take}
-use Rattle.txn_rules.specs.Elements.{with_elements}
+use Rattle.txn_commands.specs.Elements.{with_elements}
 use Rattle.txn_work.proofs.marking.add_all.Given as goal
 
 -- those so far were added, those that are left are to be

@@ -1,5 +1,5 @@
 use Rattle.std.proofs.Common.{◌≡◌, ap, rules, ◌∙◌}
-use Rattle.txn_rules.specs.Elements.{with_elements}
+use Rattle.txn_commands.specs.Elements.{with_elements}
 use Rattle.txn_work.specs.Marking.{HasNone, missing_in, without_elements}
 use Rattle.txn_work.proofs.Marks.{all_undone, missing_added, missing_none}
 use Rattle.txn_work.proofs.marking.mark.Goals as goal

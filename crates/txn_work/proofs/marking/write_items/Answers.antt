@@ -1,8 +1,8 @@
 use Rattle.std.proofs.Common.{◌≡◌, ◌∷◌, [], ap, rules, sym, ◌∙◌}
 use Rattle.std.specs.Vec.Iter.{into_iter_items}
-use Rattle.lay_items.specs.Layout.{Write}
+use Rattle.lay_layouts.specs.Layout.{Write}
 use Rattle.std.specs.Prelude.{List}
-use Rattle.txn_rules.specs.Writing.{rewritten}
+use Rattle.txn_commands.specs.Writing.{rewritten}
 use Rattle.txn_work.proofs.marking.write_items.Goals as goal
 
 pub loop-id-init : goal.loop-id-init

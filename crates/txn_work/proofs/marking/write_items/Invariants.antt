@@ -1,8 +1,8 @@
 use Rattle.std.proofs.Common.{◌≡◌, []}
 use Rattle.std.specs.Vec.Iter.{into_iter_items}
-use Rattle.lay_items.specs.Layout.{Layout}
-use Rattle.txn_rules.specs.Records.{records_between}
-use Rattle.txn_rules.specs.Writing.{rewritten}
+use Rattle.lay_layouts.specs.Layout.{Layout}
+use Rattle.txn_commands.specs.Records.{records_between}
+use Rattle.txn_commands.specs.Writing.{rewritten}
 use Rattle.txn_work.proofs.marking.write_items.Given as goal
 
 -- what is left to write leads from the writes so far to those of all

@@ -1,6 +1,6 @@
 use Rattle.std.proofs.Common.{◌≡◌, true, ℕ, Bool, List, map, Contains, ap, ◌∙◌}
 use Rattle.lay_point.specs.declared.point.Point.{Point}
-use Rattle.face_labels.specs.Bands.{begins_in}
+use Rattle.face_rows.specs.Bands.{begins_in}
 use Rattle.band_workers.proofs.AllLabels.{all_labels}
 use Rattle.band_workers.proofs.one_band.OneBandBands.label_all.Goals as goal
 

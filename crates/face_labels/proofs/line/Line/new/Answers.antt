@@ -2,14 +2,14 @@ use Rattle.std.proofs.Common.{None, length, to_z, of_z, w32, sym, ap, subst, ◌
 use Rattle.std.specs.Prelude.{All}
 use Rattle.std.specs.List.Sorted.{IsPermutation}
 use Rattle.std.proofs.lemmas.List.{length-replicate}
-use Rattle.face_labels.specs.Ends.{ends_beyond}
-use Rattle.face_labels.specs.Reaches.{EndAtReach}
-use Rattle.face_labels.specs.Sides.{AreBehind, IsKnown}
-use Rattle.face_labels.specs.Sound.{AreSound}
-use Rattle.face_labels.proofs.EndLemmas.{ends_in_order}
-use Rattle.face_labels.proofs.LabelLemmas.{row_behind, row_given}
-use Rattle.face_labels.proofs.StateLemmas.{none_known}
-use Rattle.face_labels.proofs.ReachLemmas.{row_ends}
+use Rattle.face_sides.specs.Ends.{ends_beyond}
+use Rattle.face_sides.specs.Reaches.{EndAtReach}
+use Rattle.face_sides.specs.Sides.{AreBehind, IsKnown}
+use Rattle.face_sides.specs.Sound.{AreSound}
+use Rattle.face_sides.proofs.EndLemmas.{ends_in_order}
+use Rattle.face_sides.proofs.LabelLemmas.{row_behind, row_given}
+use Rattle.face_sides.proofs.StateLemmas.{none_known}
+use Rattle.face_sides.proofs.ReachLemmas.{row_ends}
 use Rattle.face_labels.proofs.line.Line.new.Goals as goal
 
 pub find_sides-requires-clause-given : goal.find_sides-requires-clause-given

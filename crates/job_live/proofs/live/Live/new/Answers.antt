@@ -1,6 +1,6 @@
 use Rattle.std.proofs.Common.{◌≡◌, ◌∙◌, ◌+◌, ℕ, [], ap, replicate, rules}
 use Rattle.session_core.specs.Machine.{start}
-use Rattle.undo_book.specs.declared.book.TheConstants.{MAX_CALLS}
+use Rattle.session_core.specs.TheConstants.{MAX_CALLS}
 use Rattle.job_live.proofs.live.Live.new.Goals as goal
 
 -- part by part

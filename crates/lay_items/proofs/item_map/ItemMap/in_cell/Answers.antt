@@ -1,10 +1,10 @@
 use Rattle.std.proofs.Common.{◌∙◌, ap, sym}
 use Rattle.std.specs.FinMap.{FinMap, entries}
-use Rattle.lay_items.specs.declared.item.Item.{Item}
-use Rattle.lay_items.specs.IdOrder.{ids_total}
-use Rattle.lay_items.specs.Ids.{id_cmp}
-use Rattle.lay_items.specs.Items.{standing_in}
-use Rattle.lay_items.proofs.MapLemmas.{entries_again}
+use Rattle.lay_layouts.specs.declared.item.Item.{Item}
+use Rattle.lay_layouts.specs.IdOrder.{ids_total}
+use Rattle.lay_layouts.specs.Ids.{id_cmp}
+use Rattle.lay_layouts.specs.Items.{standing_in}
+use Rattle.lay_layouts.proofs.MapLemmas.{entries_again}
 use Rattle.lay_items.proofs.item_map.ItemMap.in_cell.Goals as goal
 
 pub returns : goal.returns

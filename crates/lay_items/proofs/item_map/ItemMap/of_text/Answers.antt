@@ -1,10 +1,10 @@
 use Rattle.std.proofs.Common.{List, subst, sym}
 use Rattle.std.specs.List.Sorted.{IsStrictlySortedBy}
 use Rattle.std.specs.Map.{keys_of}
-use Rattle.lay_items.specs.declared.id.ItemId.{ItemId}
-use Rattle.lay_items.specs.declared.item.Item.{Item}
+use Rattle.lay_layouts.specs.declared.id.ItemId.{ItemId}
+use Rattle.lay_layouts.specs.declared.item.Item.{Item}
 use Rattle.lay_items.specs.FromCif.{items_of_elements}
-use Rattle.lay_items.specs.Ids.{id_cmp}
+use Rattle.lay_layouts.specs.Ids.{id_cmp}
 use Rattle.lay_items.proofs.NumberedLemmas.{numbered_sorted}
 use Rattle.lay_items.proofs.item_map.ItemMap.of_text.Goals as goal
 

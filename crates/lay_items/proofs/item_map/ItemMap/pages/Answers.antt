@@ -1,8 +1,8 @@
 use Rattle.std.proofs.Common.{◌≡◌, ◌∙◌, ap, arith, sym, length}
 use Rattle.std.specs.FinMap.{from_entries, len, len-entries}
-use Rattle.lay_items.specs.IdOrder.{ids_total}
-use Rattle.lay_items.specs.Ids.{id_cmp}
-use Rattle.lay_items.proofs.MapLemmas.{entries_again}
+use Rattle.lay_layouts.specs.IdOrder.{ids_total}
+use Rattle.lay_layouts.specs.Ids.{id_cmp}
+use Rattle.lay_layouts.proofs.MapLemmas.{entries_again}
 use Rattle.lay_items.proofs.item_map.ItemMap.pages.Goals as goal
 
 pub returns-clause-few : goal.returns-clause-few

@@ -1,15 +1,15 @@
 use Rattle.std.proofs.Common.{◌≡◌, ◌∙◌, List, Option, ap, subst, sym}
 use Rattle.std.specs.FinMap.{FinMap, find}
-use Rattle.lay_pages.specs.Written.{after_write}
-use Rattle.lay_items.specs.declared.id.ItemId.{ItemId}
-use Rattle.lay_items.specs.declared.item.Item.{Item}
-use Rattle.lay_items.specs.ByCell.{AreIndexedByCell, Homed, home_cmp, with_home, without_home}
-use Rattle.lay_items.specs.Ids.{id_cmp}
-use Rattle.lay_items.specs.Layout.{map_of_items, put}
+use Rattle.lay_cell_items.specs.Written.{after_write}
+use Rattle.lay_layouts.specs.declared.id.ItemId.{ItemId}
+use Rattle.lay_layouts.specs.declared.item.Item.{Item}
+use Rattle.lay_cell_items.specs.ByCell.{AreIndexedByCell, Homed, home_cmp, with_home, without_home}
+use Rattle.lay_layouts.specs.Ids.{id_cmp}
+use Rattle.lay_layouts.specs.Layout.{map_of_items, put}
 use Rattle.std.specs.List.Sorted.{IsStrictlySortedBy}
 use Rattle.std.specs.Map.{keys_of}
-use Rattle.lay_items.proofs.HomeLemmas.{indexed_written}
-use Rattle.lay_items.proofs.PutLemmas.{put-after_write}
+use Rattle.lay_cell_items.proofs.HomeLemmas.{indexed_written}
+use Rattle.lay_layouts.proofs.PutLemmas.{put-after_write}
 use Rattle.lay_items.proofs.item_map.ItemMap.written.Goals as goal
 
 pub invariant_of-result : goal.invariant_of-result

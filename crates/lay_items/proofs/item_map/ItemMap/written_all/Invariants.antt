@@ -1,5 +1,5 @@
 use Rattle.std.proofs.Common.{◌≡◌, drop}
-use Rattle.lay_items.specs.Layout.{put_all}
+use Rattle.lay_layouts.specs.Layout.{put_all}
 use Rattle.lay_items.proofs.item_map.ItemMap.written_all.Given as goal
 
 -- the writes that are left make of what is new what all of them make

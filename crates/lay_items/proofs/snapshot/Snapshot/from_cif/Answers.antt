@@ -1,6 +1,6 @@
 use Rattle.std.proofs.Common.{◌≡◌, rules, sym, subst}
-use Rattle.lay_items.specs.Layout.{Layout}
-use Rattle.lay_items.specs.Sound.{IsSound}
+use Rattle.lay_layouts.specs.Layout.{Layout}
+use Rattle.lay_layouts.specs.Sound.{IsSound}
 use Rattle.lay_items.specs.FromCif.{layout_of}
 use Rattle.lay_items.proofs.SoundLemmas.{layout_of-sound}
 use Rattle.lay_items.proofs.snapshot.Snapshot.from_cif.Goals as goal

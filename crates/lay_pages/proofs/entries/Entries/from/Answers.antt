@@ -21,11 +21,11 @@ use Rattle.std.proofs.Common.{
 use Rattle.std.proofs.lemmas.List.{get_or-map, take_rest}
 use Rattle.std.specs.List.Sorted.{IsStrictlySortedBy}
 use Rattle.std.specs.Map.{keys_of}
-use Rattle.lay_pages.specs.Shared.{AreSized, entries_in, items_of, joined, pages_in}
-use Rattle.lay_pages.specs.Written.{from_key}
-use Rattle.lay_pages.proofs.BookLemmas.{book_at}
-use Rattle.lay_pages.proofs.FillLemmas.{drop_pages, from-level}
-use Rattle.lay_pages.proofs.ShareLemmas.{count_books, count_items, drop_map, length_map, pages_at}
+use Rattle.lay_page.specs.Shared.{AreSized, entries_in, items_of, joined, pages_in}
+use Rattle.lay_page.specs.Written.{from_key}
+use Rattle.lay_page.proofs.BookLemmas.{book_at}
+use Rattle.lay_page.proofs.FillLemmas.{drop_pages, from-level}
+use Rattle.lay_page.proofs.ShareLemmas.{count_books, count_items, drop_map, length_map, pages_at}
 use Rattle.lay_pages.proofs.entries.Entries.from.Goals as goal
 
 pub from_in_book-requires-clause-some : goal.from_in_book-requires-clause-some

@@ -1,7 +1,7 @@
 use Rattle.std.proofs.Common.{◌∙◌, ap, sym}
 use Rattle.std.specs.FinMap.{find}
-use Rattle.lay_pages.specs.Shared.{entries_in, pages_in}
-use Rattle.lay_pages.proofs.NearLemmas.{near_found, near_within}
+use Rattle.lay_page.specs.Shared.{entries_in, pages_in}
+use Rattle.lay_page.proofs.NearLemmas.{near_found, near_within}
 use Rattle.lay_pages.proofs.finder.Finder.get.Goals as goal
 
 pub invariant_of-self : goal.invariant_of-self

@@ -1,5 +1,5 @@
-use Rattle.lay_pages.specs.Shared.{pages_in}
-use Rattle.lay_pages.proofs.NearLemmas.{near_part, near_within}
+use Rattle.lay_page.specs.Shared.{pages_in}
+use Rattle.lay_page.proofs.NearLemmas.{near_part, near_within}
 use Rattle.lay_pages.proofs.finder.Finder.get_far.Goals as goal
 
 pub find_on-requires : goal.find_on-requires

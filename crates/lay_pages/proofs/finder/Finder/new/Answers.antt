@@ -1,5 +1,5 @@
-use Rattle.lay_pages.specs.Shared.{pages_in}
-use Rattle.lay_pages.proofs.NearLemmas.{near_none}
+use Rattle.lay_page.specs.Shared.{pages_in}
+use Rattle.lay_page.proofs.NearLemmas.{near_none}
 use Rattle.lay_pages.proofs.finder.Finder.new.Goals as goal
 
 pub invariant_of-result : goal.invariant_of-result

@@ -1,6 +1,6 @@
 use Rattle.std.proofs.Common.{List, refl, subst, sym}
 use Rattle.std.specs.List.Sorted.{IsStrictlySortedBy}
-use Rattle.lay_pages.specs.Shared.{AreCountedBooks, pages_in}
+use Rattle.lay_page.specs.Shared.{AreCountedBooks, pages_in}
 use Rattle.lay_pages.proofs.pages.Pages.new.Goals as goal
 
 pub invariant_of-result : goal.invariant_of-result

@@ -1,5 +1,5 @@
 use Rattle.std.proofs.Common.{◌∙◌, List, ap, length, sym}
-use Rattle.lay_pages.specs.Shared.{entries_in, pages_in}
+use Rattle.lay_page.specs.Shared.{entries_in, pages_in}
 use Rattle.lay_pages.proofs.pages.Pages.pages.Goals as goal
 
 pub count_pages-requires-clause-count : goal.count_pages-requires-clause-count

@@ -1,8 +1,8 @@
 use Rattle.std.proofs.Common.{◌∙◌, ◌++◌, List, ap, subst, sym}
 use Rattle.std.specs.List.Sorted.{IsStrictlySortedBy}
 use Rattle.std.specs.Map.{keys_of}
-use Rattle.lay_pages.specs.Shared.{AreCountedBooks, entries_in, values_of}
-use Rattle.lay_pages.proofs.ShareLemmas.{same_pages}
+use Rattle.lay_page.specs.Shared.{AreCountedBooks, entries_in, values_of}
+use Rattle.lay_page.proofs.ShareLemmas.{same_pages}
 use Rattle.lay_pages.proofs.pages.Pages.share.Goals as goal
 
 pub invariant_of-result : goal.invariant_of-result

@@ -1,9 +1,9 @@
 use Rattle.std.proofs.Common.{◌≡◌, ◌∙◌, List, arith, ap, length, subst}
 use Rattle.std.specs.List.Sorted.{IsStrictlySortedBy}
 use Rattle.std.specs.Map.{keys_of}
-use Rattle.lay_pages.specs.Shared.{entries_in, pages_in}
-use Rattle.lay_pages.specs.Written.{after_write}
-use Rattle.lay_pages.proofs.OrderLemmas.{count-written}
+use Rattle.lay_page.specs.Shared.{entries_in, pages_in}
+use Rattle.lay_page.specs.Written.{after_write}
+use Rattle.lay_page.proofs.OrderLemmas.{count-written}
 use Rattle.lay_pages.proofs.pages.Pages.with.Goals as goal
 
 pub invariant_of-result : goal.invariant_of-result

@@ -3,8 +3,8 @@ use Rattle.undo_rules.specs.declared.log.Answer.TheVariants.{Undone}
 use Rattle.undo_rules.specs.declared.log.Call.TheVariants.{Undo}
 use Rattle.desk_rules.specs.Legal.{answer_of}
 use Rattle.desk_rules.proofs.SeatLemmas.{seat_kept}
-use Rattle.locked_desk.specs.Desks.{desk_answer}
-use Rattle.locked_desk.proofs.CallLemmas.{answer_by_book, gains_kept}
+use Rattle.desk_lock.specs.Desks.{desk_answer}
+use Rattle.desk_lock.proofs.CallLemmas.{answer_by_book, gains_kept}
 use Rattle.locked_desk.proofs.desk.Desk.undo.Goals as goal
 
 pub invariant_of-seat-2 : goal.invariant_of-seat-2

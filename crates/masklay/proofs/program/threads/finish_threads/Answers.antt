@@ -1,7 +1,7 @@
 use Rattle.std.proofs.Common.{◌≡◌, false, inr, rules}
 use Rattle.std.specs.List.{list_any}
 use Rattle.undo_rules.specs.Books.{History}
-use Rattle.session_core.specs.Machine.{is_memory}
+use Rattle.live_run.specs.Machine.{is_memory}
 use Rattle.job_text.specs.Order.{order_of}
 use Rattle.desk_run.proofs.ScriptLemmas.{few_replies}
 use Rattle.masklay.proofs.program.threads.finish_threads.Goals as goal

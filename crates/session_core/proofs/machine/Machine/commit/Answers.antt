@@ -1,6 +1,6 @@
 use Rattle.std.proofs.Common.{◌≡◌, ◌-◌, ◌∙◌, List, Option, Some, ap, rules, slice_set, subst, sym}
 use Rattle.std.proofs.lemmas.List.{set-set}
-use Rattle.txn_rules.specs.Transactions.{Transaction}
+use Rattle.txn_commands.specs.Transactions.{Transaction}
 use Rattle.undo_rules.specs.declared.log.BookFault.TheVariants.{Foreign, NoMemory}
 use Rattle.undo_rules.specs.Steps.{commit_step}
 use Rattle.session_steps.specs.declared.Reply.{Reply}

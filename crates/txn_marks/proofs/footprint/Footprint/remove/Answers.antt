@@ -1,6 +1,6 @@
 use Rattle.std.proofs.Common.{◌∙◌, ap}
 use Rattle.std.specs.FinSet.{remove}
-use Rattle.txn_rules.specs.Elements.{Touched}
+use Rattle.txn_commands.specs.Elements.{Touched}
 use Rattle.txn_marks.proofs.SetLemmas.{element_removed}
 use Rattle.txn_marks.proofs.footprint.Footprint.remove.Goals as goal
 

@@ -1,9 +1,9 @@
 use Rattle.std.proofs.Common.{◌≡◌, ◌∙◌, ap, map, rules}
 use Rattle.std.specs.FinSet.{contains}
 use Rattle.std.specs.List.{flat_map}
-use Rattle.txn_rules.specs.Elements.{Touched, untouched, with_elements}
-use Rattle.txn_rules.specs.Meets.{some_meets}
-use Rattle.txn_rules.specs.Records.{Records, cell_record_of, record_of}
+use Rattle.txn_commands.specs.Elements.{Touched, untouched, with_elements}
+use Rattle.txn_commands.specs.Meets.{some_meets}
+use Rattle.txn_commands.specs.Records.{Records, cell_record_of, record_of}
 use Rattle.txn_marks.specs.Homes.{cell_homes, record_homes}
 use Rattle.txn_marks.specs.WritesOf.{records_in}
 use Rattle.txn_marks.proofs.HomeLemmas.{gathered}

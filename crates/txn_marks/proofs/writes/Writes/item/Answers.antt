@@ -1,5 +1,5 @@
 use Rattle.std.proofs.Common.{◌∙◌, ap}
-use Rattle.txn_rules.specs.Records.{Records, recorded_change}
+use Rattle.txn_commands.specs.Records.{Records, recorded_change}
 use Rattle.txn_marks.proofs.ChangeLemmas.{change_there}
 use Rattle.txn_marks.proofs.writes.Writes.item.Goals as goal
 

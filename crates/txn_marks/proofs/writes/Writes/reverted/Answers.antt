@@ -1,7 +1,7 @@
 use Rattle.std.proofs.Common.{◌∙◌, List, ap, nat_cmp, subst, sym}
-use Rattle.lay_items.specs.Ids.{id_cmp}
-use Rattle.lay_items.specs.Layout.{AreRising, SymbolWrite, Write}
-use Rattle.txn_rules.specs.Records.{Records, befores, slot_befores}
+use Rattle.lay_layouts.specs.Ids.{id_cmp}
+use Rattle.lay_layouts.specs.Layout.{AreRising, SymbolWrite, Write}
+use Rattle.txn_commands.specs.Records.{Records, befores, slot_befores}
 use Rattle.txn_marks.proofs.ChangeLemmas.{befores_rise, slot_befores_rise}
 use Rattle.txn_marks.proofs.writes.Writes.reverted.Goals as goal
 

@@ -1,7 +1,7 @@
 use Rattle.std.proofs.Common.{◌≡◌, rules}
 use Rattle.std.proofs.lemmas.Result.{on_ok_weaker}
-use Rattle.lay_items.specs.Same.{option_item_eq}
-use Rattle.txn_rules.specs.Changes.{change_of}
+use Rattle.lay_layouts.specs.Same.{option_item_eq}
+use Rattle.txn_commands.specs.Changes.{change_of}
 use Rattle.txn_marks.proofs.ChangeLemmas.{item_kept}
 use Rattle.txn_marks.proofs.writes.Writes.set_item.Goals as goal
 

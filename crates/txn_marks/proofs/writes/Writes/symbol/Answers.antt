@@ -1,5 +1,5 @@
 use Rattle.std.proofs.Common.{◌∙◌, ap}
-use Rattle.txn_rules.specs.Records.{Records, slot_change_at}
+use Rattle.txn_commands.specs.Records.{Records, slot_change_at}
 use Rattle.txn_marks.proofs.ChangeLemmas.{cell_change_there}
 use Rattle.txn_marks.proofs.writes.Writes.symbol.Goals as goal
 

@@ -1,6 +1,6 @@
 use Rattle.std.proofs.Common.{◌||◌, ◌∙◌, ap, sym}
-use Rattle.txn_rules.specs.Meets.{meets_touched}
-use Rattle.txn_rules.specs.Records.{Records}
+use Rattle.txn_commands.specs.Meets.{meets_touched}
+use Rattle.txn_commands.specs.Records.{Records}
 use Rattle.txn_marks.specs.Met.{symbols_are_met}
 use Rattle.txn_marks.proofs.TouchLemmas.{touches_met}
 use Rattle.txn_marks.proofs.writes.Writes.touch.Goals as goal

@@ -1,14 +1,14 @@
 use Rattle.std.proofs.Common.{◌≡◌, ◌+◌, ◌++◌, ◌∷◌, [], Ok, false, Result, ap, rules, refl, subst, sym, ◌∙◌}
 use Rattle.std.specs.Prelude.{IfSome}
-use Rattle.txn_rules.specs.declared.command.Done.{Done}
-use Rattle.txn_rules.specs.declared.fault.CmdFault.{CmdFault}
-use Rattle.txn_rules.specs.Acts.{Act}
-use Rattle.txn_rules.specs.Effects.{is_too_much, next_id, perform}
-use Rattle.txn_rules.specs.Elements.{with_elements}
-use Rattle.txn_rules.specs.Plans.{plan}
-use Rattle.txn_rules.specs.Records.{records_between}
-use Rattle.txn_rules.specs.Transactions.{Transaction}
-use Rattle.txn_rules.specs.Writing.{rewritten}
+use Rattle.txn_commands.specs.declared.command.Done.{Done}
+use Rattle.txn_commands.specs.declared.fault.CmdFault.{CmdFault}
+use Rattle.txn_commands.specs.Acts.{Act}
+use Rattle.txn_commands.specs.Effects.{is_too_much, next_id, perform}
+use Rattle.txn_commands.specs.Elements.{with_elements}
+use Rattle.txn_commands.specs.Plans.{plan}
+use Rattle.txn_commands.specs.Records.{records_between}
+use Rattle.txn_commands.specs.Transactions.{Transaction}
+use Rattle.txn_commands.specs.Writing.{rewritten}
 use Rattle.txn_work.specs.Answers.{after_command, run_so_far, with_command}
 use Rattle.txn_work.specs.Works.{MatchesItsRun, transaction_of}
 use Rattle.txn_work.proofs.Kept.{after_is, answer_is, next_kept, next_layout, performed, room_left, same_whole, writes_so_far}

@@ -1,11 +1,11 @@
 use Rattle.std.proofs.Common.{◌≡◌, rules, subst, true}
-use Rattle.lay_items.specs.declared.id.ItemId.{ItemId}
-use Rattle.lay_items.specs.Layout.{Layout}
+use Rattle.lay_layouts.specs.declared.id.ItemId.{ItemId}
+use Rattle.lay_layouts.specs.Layout.{Layout}
 use Rattle.lay_point.specs.Memory.{IsAnswer}
-use Rattle.txn_rules.specs.declared.fault.CmdFault.TheVariants.{NoMemory}
-use Rattle.txn_rules.specs.Effects.{is_too_much, next_id}
-use Rattle.txn_rules.specs.Plans.{plan}
-use Rattle.txn_rules.specs.Transactions.{Transaction}
+use Rattle.txn_commands.specs.declared.fault.CmdFault.TheVariants.{NoMemory}
+use Rattle.txn_commands.specs.Effects.{is_too_much, next_id}
+use Rattle.txn_commands.specs.Plans.{plan}
+use Rattle.txn_commands.specs.Transactions.{Transaction}
 use Rattle.txn_work.specs.Answers.{run_so_far}
 use Rattle.txn_work.proofs.Kept.{refused_so, too_much_so}
 use Rattle.txn_work.proofs.work.Work.run.Goals as goal

@@ -1,8 +1,8 @@
 use Rattle.std.proofs.Common.{◌≡◌, ◌∙◌, Option, ap, rules, subst, sym}
 use Rattle.std.specs.Prelude.{IfSome, option_copied}
-use Rattle.lay_items.specs.Layout.{Layout}
-use Rattle.txn_rules.specs.Records.{applied}
-use Rattle.txn_rules.specs.Transactions.{Transaction}
+use Rattle.lay_layouts.specs.Layout.{Layout}
+use Rattle.txn_commands.specs.Records.{applied}
+use Rattle.txn_commands.specs.Transactions.{Transaction}
 use Rattle.txn_work.specs.Answers.{run_so_far}
 use Rattle.txn_work.specs.Works.{transaction_of}
 use Rattle.txn_work.proofs.Kept.{overlays, same_whole, seen_so_far}

@@ -1,11 +1,11 @@
 use Rattle.std.proofs.Common.{◌≡◌, ◌∙◌, Ok, Option, Some, ap, false, rules, subst, sym}
 use Rattle.std.specs.Prelude.{IfSome}
-use Rattle.lay_items.specs.Layout.{Layout}
-use Rattle.lay_items.specs.Sound.{IsSound}
-use Rattle.txn_rules.specs.Effects.{is_too_much, next_id}
-use Rattle.txn_rules.specs.Plans.{plan}
-use Rattle.txn_rules.specs.Transactions.{Transaction}
-use Rattle.txn_rules.specs.Writing.{rewritten}
+use Rattle.lay_layouts.specs.Layout.{Layout}
+use Rattle.lay_layouts.specs.Sound.{IsSound}
+use Rattle.txn_commands.specs.Effects.{is_too_much, next_id}
+use Rattle.txn_commands.specs.Plans.{plan}
+use Rattle.txn_commands.specs.Transactions.{Transaction}
+use Rattle.txn_commands.specs.Writing.{rewritten}
 use Rattle.txn_work.specs.Answers.{run_so_far}
 use Rattle.txn_work.specs.Works.{transaction_of}
 use Rattle.txn_work.proofs.Kept.{next_sound}

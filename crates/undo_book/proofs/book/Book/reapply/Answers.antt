@@ -6,19 +6,19 @@ use Rattle.undo_rules.specs.declared.log.Logged.{Logged}
 use Rattle.undo_rules.specs.Books.{History}
 use Rattle.undo_rules.specs.Links.{Entry}
 use Rattle.undo_rules.specs.Steps.{remarked}
-use Rattle.txn_rules.specs.Records.{AreProper, applied}
-use Rattle.lay_items.specs.Sound.{IsSound}
-use Rattle.txn_marks.specs.Homes.{AreMetBy}
-use Rattle.undo_index.specs.Listed.{AreAdded, IsNew}
+use Rattle.txn_commands.specs.Records.{AreProper, applied}
+use Rattle.lay_layouts.specs.Sound.{IsSound}
+use Rattle.undo_entries.specs.Homes.{AreMetBy}
+use Rattle.undo_entries.specs.Listed.{AreAdded, IsNew}
 use Rattle.undo_book.specs.Books.{history_of}
-use Rattle.undo_book.specs.Places.{AreTheirPlaces, place_of}
-use Rattle.undo_book.specs.Indexed.{AreIndexed}
-use Rattle.undo_book.proofs.IndexedLemmas.{redo_indexed, undone_new}
+use Rattle.undo_entries.specs.Places.{AreTheirPlaces, place_of}
+use Rattle.undo_entries.specs.Indexed.{AreIndexed}
+use Rattle.undo_entries.proofs.IndexedLemmas.{redo_indexed, undone_new}
 use Rattle.undo_book.proofs.SameLemmas.{same_book}
-use Rattle.undo_book.proofs.ChangeLemmas.{again_so}
-use Rattle.undo_book.proofs.IndexLemmas.{places_marked}
-use Rattle.undo_book.proofs.PlaceLemmas.{place_within}
-use Rattle.undo_book.proofs.UndoLemmas.{LeavesRedone, redone_at}
+use Rattle.undo_entries.proofs.ChangeLemmas.{again_so}
+use Rattle.undo_entries.proofs.IndexLemmas.{places_marked}
+use Rattle.undo_entries.proofs.PlaceLemmas.{place_within}
+use Rattle.undo_entries.proofs.UndoLemmas.{LeavesRedone, redone_at}
 use Rattle.undo_book.proofs.book.Book.reapply.Goals as goal
 
 pub index-entry-requires : goal.index-entry-requires

@@ -1,7 +1,7 @@
 use Rattle.std.proofs.Common.{◌≡◌, ◌∙◌, ◌+◌, [], ◌∷◌, List, ap, drop, rules, subst, sym}
 use Rattle.std.specs.FinSet.{insert}
 use Rattle.std.proofs.lemmas.List.{drop_all, drop_more}
-use Rattle.txn_rules.specs.declared.element.Element.{Element}
+use Rattle.txn_commands.specs.declared.element.Element.{Element}
 use Rattle.undo_index.specs.Listed.{Listed}
 use Rattle.undo_index.proofs.ListedLemmas.{Adds, adds_begin, adds_one, all_added, taken_back}
 use Rattle.undo_index.proofs.listing.Listing.add.Goals as goal

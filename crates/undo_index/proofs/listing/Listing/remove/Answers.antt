@@ -1,6 +1,6 @@
 use Rattle.std.proofs.Common.{◌≡◌, ◌∙◌, ◌+◌, [], ◌∷◌, List, ap, drop, subst, sym}
 use Rattle.std.proofs.lemmas.List.{drop_all, drop_more}
-use Rattle.txn_rules.specs.declared.element.Element.{Element}
+use Rattle.txn_commands.specs.declared.element.Element.{Element}
 use Rattle.undo_index.specs.Listed.{Listed}
 use Rattle.undo_index.proofs.ListedLemmas.{Removes, all_removed, removes_begin, removes_one}
 use Rattle.undo_index.proofs.listing.Listing.remove.Goals as goal

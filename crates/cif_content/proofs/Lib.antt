@@ -1,0 +1,6 @@
+pub mod BoxLemmas
+pub mod Dispatch
+pub mod LayerLemmas
+pub mod ScaleLemmas
+pub mod SymbolLemmas
+pub mod TurnLemmas

@@ -1,0 +1,11 @@
+pub mod Binding
+pub mod Boxes
+pub mod Calls
+pub mod Content
+pub mod Contents
+pub mod Faults
+pub mod Meaning
+pub mod Polygons
+pub mod Scales
+pub mod Steps
+pub mod Symbols

@@ -1,0 +1,11 @@
+pub mod BandLemmas
+pub mod JudgeLemmas
+pub mod NearLemmas
+pub mod OwnerLemmas
+pub mod PickedLemmas
+pub mod ProductLemmas
+pub mod RowLemmas
+pub mod SideLemmas
+pub use Rattle.face_label_laws.proofs.Rows
+pub use Rattle.face_label_laws.proofs.Slide
+pub use Rattle.face_label_laws.proofs.Upward

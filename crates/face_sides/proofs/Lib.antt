@@ -1,0 +1,11 @@
+pub mod CountLemmas
+pub mod LabelLemmas
+pub mod ReachLemmas
+pub mod StateLemmas
+pub use Rattle.face_sweep.proofs.EndLemmas
+pub use Rattle.face_sweep.proofs.KeptLemmas
+pub use Rattle.face_sweep.proofs.OrderLemmas
+pub use Rattle.face_sweep.proofs.StartLemmas
+pub use Rattle.face_sweep.proofs.PickedLemmas
+pub use Rattle.face_sweep.proofs.RowLemmas
+pub use Rattle.face_sweep.proofs.Upward

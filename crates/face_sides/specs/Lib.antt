@@ -1,0 +1,16 @@
+pub mod Counts
+pub mod Reaches
+pub mod Sides
+pub use Rattle.face_sweep.specs.Rounded
+pub use Rattle.face_sweep.specs.Ends
+pub use Rattle.face_sweep.specs.Starts
+pub use Rattle.face_sweep.specs.declared.start.Start
+pub use Rattle.face_sweep.specs.Bands
+pub use Rattle.face_sweep.specs.Labels
+pub use Rattle.face_sweep.specs.Laws
+pub use Rattle.face_sweep.specs.Lines
+pub use Rattle.face_sweep.specs.Operations
+pub use Rattle.face_sweep.specs.Picked
+pub use Rattle.face_sweep.specs.Rows
+pub use Rattle.face_sweep.specs.Sound
+pub use Rattle.face_sweep.specs.Op

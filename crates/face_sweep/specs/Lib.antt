@@ -1,0 +1,16 @@
+pub mod Ends
+pub mod Starts
+pub use Rattle.face_rows.specs.Beside
+pub use Rattle.face_rows.specs.Labels
+pub use Rattle.face_rows.specs.Laws
+pub use Rattle.face_rows.specs.Lines
+pub use Rattle.face_rows.specs.Operations
+pub use Rattle.face_rows.specs.Rows
+pub use Rattle.face_rows.specs.Sound
+pub use Rattle.face_rows.specs.declared.op.Op
+pub use Rattle.face_rows.specs.Bands
+pub use Rattle.face_rows.specs.Picked
+pub use Rattle.face_rows.specs.Owners
+pub use Rattle.face_rows.specs.Rounded
+pub use Rattle.face_rows.specs.Input
+pub use Rattle.face_rows.specs.Owner

@@ -1,0 +1,51 @@
+-- Where the first line ends.
+use Rattle.std.proofs.Common.{◌≡◌, ℕ, suc, ◌+◌, ◌<◌, ltb, eqb, cond, true, false, Some, None, unwrap_or, option_map, List, [], ◌∷◌, drop}
+use Rattle.std.proofs.Common.{take, length, arith, sym, ap, ◌∙◌, refl}
+use Rattle.std.specs.List.{position_or_len}
+use Rattle.std.proofs.lemmas.Bool.Decides.{nat_tests}
+use Rattle.job_lines.specs.Lines.{first_len, in_front, lines}
+
+-- a byte before the place and the end shifts both
+shifted : (p n : ℕ) → unwrap_or (option_map (λ k. k + 1) (cond (ltb (1 + p) (suc n)) (Some (1 + p)) None)) (suc n)
+    ≡ suc (unwrap_or (option_map (λ k. k + 1) (cond (ltb p n) (Some p) None)) n)
+shifted p n = grind (arith, nat_tests)
+
+first_len-newline : (b : ℕ) (bytes : List ℕ) → eqb b 10 ≡ true → first_len (b ∷ bytes) ≡ 1
+first_len-newline b bytes is = rw is (grind (arith, nat_tests))
+
+first_len-other : (b : ℕ) (bytes : List ℕ) → eqb b 10 ≡ false → first_len (b ∷ bytes) ≡ suc (first_len bytes)
+first_len-other b bytes is = rw is (shifted (position_or_len (λ b. eqb b 10) bytes) (length bytes))
+
+-- the bytes begin with a line of so many
+abbrev Splits : List ℕ → ℕ → Type 0
+Splits bytes n = lines bytes ≡ take n bytes ∷ lines (drop n bytes)
+
+splits-more : (b : ℕ) (bytes : List ℕ) → eqb b 10 ≡ false → in_front b (lines bytes) ≡ take (suc (first_len bytes))
+    (b ∷ bytes) ∷ lines (drop (suc (first_len bytes)) (b ∷ bytes)) → Splits (b ∷ bytes) (first_len (b ∷ bytes))
+splits-more b bytes is front =
+    let other : lines (b ∷ bytes) ≡ in_front b (lines bytes) = rw is refl in
+    other ∙ front ∙ ap (λ n. take n (b ∷ bytes) ∷ lines (drop n (b ∷ bytes))) (sym (first_len-other b bytes is))
+
+splits-newline : (b : ℕ) (bytes : List ℕ) → eqb b 10 ≡ true → Splits (b ∷ bytes) (first_len (b ∷ bytes))
+splits-newline b bytes is =
+    let ends : lines (b ∷ bytes) ≡ (b ∷ []) ∷ lines bytes = rw is refl in
+    ends ∙ ap (λ n. take n (b ∷ bytes) ∷ lines (drop n (b ∷ bytes))) (sym (first_len-newline b bytes is))
+
+-- the first line of the bytes, and those behind it
+pub first_line : (bytes : List ℕ) → 0 < length bytes → Splits bytes (first_len bytes)
+first_line [] some = absurd (omega arith)
+first_line (b ∷ []) some =
+    elim (eqb b 10) as (λ t. eqb b 10 ≡ t → Splits (b ∷ []) (first_len (b ∷ []))) [
+      | true ↦ λ e. splits-newline b [] e
+      | false ↦ λ e. splits-more b [] e refl
+    ] refl
+first_line (b ∷ c ∷ bytes) some =
+    let behind = first_line (c ∷ bytes) (omega arith) in
+    elim (eqb b 10) as (λ t. eqb b 10 ≡ t → Splits (b ∷ c ∷ bytes) (first_len (b ∷ c ∷ bytes))) [
+      | true ↦ λ e. splits-newline b (c ∷ bytes) e
+      | false ↦ λ e. splits-more b (c ∷ bytes) e (ap (in_front b) behind)
+    ] refl
+
+-- a line has a byte or more
+pub first_len-some : (bytes : List ℕ) → 0 < length bytes → 0 < first_len bytes
+first_len-some bytes some = grind (arith, nat_tests)

@@ -1,0 +1,7 @@
+use Rattle.std.proofs.Common.{◌≡◌, ◌++◌}
+use Rattle.std.specs.Vec.Iter.{into_iter_items}
+use Rattle.lay_cell_items.proofs.entries.paged.Given as goal
+
+-- those so far, and those that are left, are all
+abbrev pub invariant-loop-id : goal.invariant-loop-id
+invariant-loop-id l = l.pages ++ into_iter_items l.id-iterator ≡ l.fn.entries.items

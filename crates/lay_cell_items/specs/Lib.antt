@@ -1,0 +1,3 @@
+pub mod ByCell
+pub mod Entries
+pub use Rattle.lay_page.specs.Written

@@ -1,0 +1,118 @@
+//! Which items stand in each cell.
+ghost use Rattle.std.specs.Prelude.{◌≡◌, IfOk, map, option_copied};
+ghost use Rattle.std.specs.List.Sorted.{IsStrictlySortedBy};
+ghost use Rattle.std.specs.Map.{keys_of};
+ghost use Rattle.lay_cell_items.specs.ByCell.{AreIndexedByCell, cell_key, home_cmp, home_of, homes_in, unit_entry, with_home, without_home};
+ghost use Rattle.lay_layouts.specs.Ids.{id_cmp};
+
+use lay_layouts::{CellId, Item, ItemId};
+use lay_page::PageKey;
+use lay_pages::{Pages, PagesBuilder};
+use lay_point::NoMemory;
+use std::alloc::Global;
+
+/// Where an item stands: the number of its cell, and its id. They are ordered by cell, then by id.
+#[derive(Clone, Copy, Debug, PartialEq, Eq, PartialOrd, Ord)]
+pub struct Home {
+    /// The number of the cell, 0 for the top cell and one more for symbols.
+    pub cell: u64,
+    /// The item's id.
+    pub id: ItemId,
+}
+
+impl PageKey for Home {
+    ghost use Rattle.lay_cell_items.specs.ByCell.{homes_exact};
+
+    ghost exact = { homes_exact };
+}
+
+/// Where all items stand, so that those of a cell are found together.
+pub type Homes = Pages<Home, ()>;
+
+/// Returns where these items stand.
+pub fn homes_of(alloc: Global, items: &Pages<ItemId, Item>) -> Result<Homes, NoMemory>
+    requires { IsStrictlySortedBy id_cmp (keys_of items.now) }
+    ensures indexed { IfOk result (λ homes. AreIndexedByCell items.now homes) }
+    ensures sorted { IfOk result (λ homes. IsStrictlySortedBy home_cmp (keys_of homes)) }
+{
+    let mut homes = list_of(alloc, items)?;
+    homes.sort_by_key(|home| home.cell)?;
+    let homes = built(alloc, homes)?;
+    Ok(homes)
+}
+
+/// Returns where these items stand, in order of the ids.
+fn list_of(alloc: Global, items: &Pages<ItemId, Item>) -> Result<Vec<Home>, NoMemory>
+    ensures { IfOk result (λ homes. homes.items ≡ homes_in items.now) }
+{
+    let mut homes = Vec::with_capacity(alloc, items.len())?;
+    for (id, item) in items.iter() {
+        homes.push(home_of(id, item))?;
+    }
+    Ok(homes)
+}
+
+/// Returns the pages of a list in order.
+fn built(alloc: Global, homes: Vec<Home>) -> Result<Homes, NoMemory>
+    requires { IsStrictlySortedBy home_cmp homes.items }
+    ensures { IfOk result (λ pages. pages ≡ map unit_entry homes.items) }
+{
+    let mut pages = PagesBuilder::new(alloc);
+    for home in homes {
+        pages = pages.push(alloc, home, ())?;
+    }
+    let pages = pages.build(alloc)?;
+    Ok(pages)
+}
+
+/// Returns the homes without that of an item, where there is one of this id.
+pub fn without(
+    alloc: Global,
+    homes: &Homes,
+    id: ItemId,
+    item: Option<&Item>,
+) -> Result<Homes, NoMemory>
+    ensures homes { IfOk result (λ new. new ≡ without_home id (option_copied item.entry) homes.now) }
+    ensures sorted { IfOk result (λ new. IsStrictlySortedBy home_cmp (keys_of new)) }
+{
+    let new = match item {
+        Some(item) => homes.with(alloc, home_of(id, item), None)?,
+        None => homes.share(alloc)?,
+    };
+    Ok(new)
+}
+
+/// Returns the homes with that of an item, where there is one.
+pub fn with(alloc: Global, homes: Homes, id: ItemId, item: &Option<Item>) -> Result<Homes, NoMemory>
+    requires { IsStrictlySortedBy home_cmp (keys_of homes) }
+    ensures homes { IfOk result (λ new. new ≡ with_home id item.now homes) }
+    ensures sorted { IfOk result (λ new. IsStrictlySortedBy home_cmp (keys_of new)) }
+{
+    match item {
+        Some(item) => {
+            let new = homes.with(alloc, home_of(id, item), Some(()))?;
+            Ok(new)
+        }
+        None => Ok(homes),
+    }
+}
+
+/// Returns where an item stands.
+fn home_of(id: ItemId, item: &Item) -> Home
+    ensures { result ≡ home_of id item.now }
+{
+    Home {
+        cell: cell_key(item.cell()),
+        id,
+    }
+}
+
+/// Returns the cell's number, which no other cell has.
+pub fn cell_key(cell: CellId) -> u64
+    ensures { result ≡ cell_key cell }
+{
+    match cell {
+        CellId::Top => 0,
+        CellId::Symbol(number) => u64::from(number) + 1,
+    }
+}

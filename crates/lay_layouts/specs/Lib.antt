@@ -1,0 +1,16 @@
+pub mod Calls
+pub mod IdOrder
+pub mod IdText
+pub mod Ids
+pub mod Items
+pub mod Kept
+pub mod Layout
+pub mod LayoutWith
+pub mod Lent
+pub mod Same
+pub mod SameLayout
+pub mod SameMap
+pub mod SlotOrder
+pub mod Sound
+pub use Rattle.lay_calls.specs.SameCell
+pub use Rattle.lay_calls.specs.declared.cell_id.CellId

@@ -1,0 +1,32 @@
+-- The order of a layout's symbols: those of a text in the order in which it has them, then those that
+-- transactions made, by number.
+use Rattle.std.specs.Prelude.{ℕ, List, map}
+use Rattle.std.specs.declared.cmp.Ordering.{Ordering}
+use Rattle.std.specs.Ordering.{nat_cmp, ordering_then}
+use Rattle.std.specs.FinMap as finite
+use Rattle.std.specs.FinMap.{FinMap}
+use Rattle.lay_layouts.specs.declared.slot.CellSlot.{CellSlot}
+use Rattle.lay_layouts.specs.declared.slot.CellSlot.TheVariants.{Base, Made}
+
+-- whether a slot comes from a text, 0, or was made, 1; then its place in the text
+abbrev pub rank : CellSlot → ℕ × ℕ
+rank (Base place) = (0, place)
+rank Made = (1, 0)
+
+-- what a symbol is ordered by: its slot's rank, then its number
+abbrev pub Standing : Type 0
+Standing = (ℕ × ℕ) × ℕ
+
+abbrev pub standing_cmp : Standing → Standing → Ordering
+standing_cmp a b = ordering_then (ordering_then (nat_cmp a.0.0 b.0.0) (nat_cmp a.0.1 b.0.1)) (nat_cmp a.1 b.1)
+
+-- a symbol's number under what it is ordered by
+abbrev pub standing_of : ℕ × CellSlot → Standing × ℕ
+standing_of symbol = ((rank symbol.1, symbol.0), symbol.0)
+
+abbrev pub by_standing : List (ℕ × CellSlot) → FinMap standing_cmp ℕ
+by_standing symbols = finite.from_entries (map standing_of symbols)
+
+-- the symbols' numbers in this order
+unfoldable pub in_slot_order : FinMap nat_cmp CellSlot → List ℕ
+in_slot_order symbols = finite.values (by_standing (finite.entries symbols))

@@ -1,0 +1,185 @@
+//! The symbols of a layout, by number and in the order of their slots.
+ghost use Rattle.std.specs.Prelude.{◌≡◌, IfOk, OnOk, is_some};
+ghost use Rattle.std.specs.FinMap as finite;
+ghost use Rattle.lay_layouts.specs.Layout.{put, put_all, symbols_of};
+ghost use Rattle.lay_layouts.specs.LayoutWith.{placed_from};
+ghost use Rattle.lay_layouts.specs.Same.{symbols_eq};
+ghost use Rattle.lay_layouts.specs.SlotOrder.{by_standing, in_slot_order, rank, standing_cmp};
+
+use crate::parts::base_symbols;
+use crate::slot::CellSlot;
+use crate::trees::are_same;
+use lay_calls::Cells;
+use lay_point::NoMemory;
+use std::alloc::Global;
+use std::collections::BTreeMap;
+use std::marker::Model;
+
+/// The symbols of a layout. Contracts see the finite map from numbers to slots.
+#[derive(Drop)]
+pub struct SymbolMap {
+    slots: BTreeMap<u32, CellSlot>,
+    /// Their numbers in the order of their slots.
+    cells: Cells,
+}
+
+impl Model for SymbolMap {
+    ghost use Rattle.std.specs.Prelude.{◌≡◌};
+    ghost use Rattle.std.specs.Coded.{coded_ℕ};
+    ghost use Rattle.std.specs.FinMap as finite;
+    ghost use Rattle.std.specs.FinMap.{FinMap};
+    ghost use Rattle.std.specs.Ordering.{nat_cmp};
+    ghost use Rattle.lay_layouts.specs.contracts.slot.CellSlot as slot;
+    ghost use Rattle.lay_layouts.specs.declared.slot.CellSlot.{CellSlot};
+    ghost use Rattle.lay_layouts.specs.Layout.{symbols_of};
+    ghost use Rattle.lay_layouts.specs.SlotOrder.{in_slot_order};
+
+    ghost Value = { FinMap nat_cmp CellSlot };
+
+    ghost coded = { finite.code coded_ℕ slot.the_row.coded };
+
+    ghost view = { λ s. symbols_of s.slots.entries };
+
+    ghost invariant = { λ s. s.cells ≡ in_slot_order (symbols_of s.slots.entries) };
+}
+
+impl SymbolMap {
+    /// Returns no symbols.
+    pub fn new(alloc: Global) -> SymbolMap
+        ensures { result ≡ finite.empty }
+    {
+        SymbolMap {
+            slots: BTreeMap::new(alloc),
+            cells: Cells::new(alloc),
+        }
+    }
+
+    /// Returns the symbols of a text, in this order.
+    pub fn of_text(alloc: Global, symbols: &Cells) -> Result<SymbolMap, NoMemory>
+        ensures { IfOk result (λ base. base ≡ symbols_of (placed_from 1 symbols.now)) }
+    {
+        let slots = base_symbols(alloc, symbols)?;
+        let cells = symbols.clone()?;
+        Ok(SymbolMap { slots, cells })
+    }
+
+    /// Returns the slot of the symbol of this number.
+    pub fn get(&self, number: u32) -> Option<CellSlot>
+        ensures { result ≡ finite.get self.now number }
+    {
+        self.slots.get(&number).copied()
+    }
+
+    /// Returns whether there is a symbol of this number.
+    pub fn has(&self, number: u32) -> bool
+        ensures { result ≡ is_some (finite.get self.now number) }
+    {
+        self.slots.contains_key(&number)
+    }
+
+    /// Returns the symbols' numbers in the order of their slots.
+    pub fn cells(&self) -> &Cells
+        ensures { result.now ≡ in_slot_order self.now }
+    {
+        &self.cells
+    }
+
+    /// Returns whether others are the same symbols in the same slots.
+    pub fn is_same(&self, other: &SymbolMap) -> bool
+        ensures { result ≡ symbols_eq self.now other.now }
+    {
+        are_same(&self.slots, &other.slots)
+    }
+
+    /// Returns the symbols after these writes.
+    pub fn with(
+        &self,
+        alloc: Global,
+        writes: &[(u32, Option<CellSlot>)],
+    ) -> Result<SymbolMap, NoMemory>
+        ensures { IfOk result (λ new. new ≡ put_all self.now writes.now) }
+    {
+        let mut slots = self.slots.clone()?;
+        for (number, slot) in writes {
+            put(&mut slots, *number, *slot)?;
+        }
+        let cells = in_slot_order(alloc, &slots)?;
+        Ok(SymbolMap { slots, cells })
+    }
+}
+
+/// Puts the symbol of this number into the slot, or removes it.
+fn put(
+    slots: &mut BTreeMap<u32, CellSlot>,
+    number: u32,
+    slot: Option<CellSlot>,
+) -> Result<(), NoMemory>
+    ensures { OnOk result (symbols_of slots.new.entries ≡ put (symbols_of slots.old.entries) number slot) }
+{
+    match slot {
+        Some(slot) => insert(slots, number, slot),
+        None => {
+            slots.remove(&number);
+            Ok(())
+        }
+    }
+}
+
+/// Inserts the symbol of this number.
+fn insert(slots: &mut BTreeMap<u32, CellSlot>, number: u32, slot: CellSlot) -> Result<(), NoMemory>
+    ensures { OnOk result (symbols_of slots.new.entries
+        ≡ finite.insert (symbols_of slots.old.entries) number slot) }
+{
+    slots.insert(number, slot)?;
+    Ok(())
+}
+
+/// Returns the numbers of the symbols in the order of their slots.
+fn in_slot_order(alloc: Global, slots: &BTreeMap<u32, CellSlot>) -> Result<Cells, NoMemory>
+    ensures { IfOk result (λ cells. cells ≡ in_slot_order (symbols_of slots.now.entries)) }
+{
+    let standings = by_standing(alloc, slots)?;
+    let mut cells = Cells::new(alloc);
+    for (_, number) in standings.iter() {
+        cells.add(*number)?;
+    }
+    Ok(cells)
+}
+
+/// Returns the numbers of the symbols under what they are ordered by.
+fn by_standing(
+    alloc: Global,
+    slots: &BTreeMap<u32, CellSlot>,
+) -> Result<BTreeMap<((u8, u32), u32), u32>, NoMemory>
+    ensures { IfOk result (λ standings. finite.from_entries {R = standing_cmp} standings.entries
+        ≡ by_standing (finite.entries (symbols_of slots.now.entries))) }
+{
+    let mut standings = BTreeMap::new(alloc);
+    for (number, slot) in slots.iter() {
+        stand(&mut standings, *number, *slot)?;
+    }
+    Ok(standings)
+}
+
+/// Inserts the number of a symbol under what it is ordered by.
+fn stand(
+    standings: &mut BTreeMap<((u8, u32), u32), u32>,
+    number: u32,
+    slot: CellSlot,
+) -> Result<(), NoMemory>
+    ensures { OnOk result (finite.from_entries {R = standing_cmp} standings.new.entries
+        ≡ finite.insert (finite.from_entries standings.old.entries) (rank slot, number) number) }
+{
+    standings.insert((rank(slot), number), number)?;
+    Ok(())
+}
+
+/// Returns whether a slot comes from a text, 0, or was made, 1; then its place in the text.
+fn rank(slot: CellSlot) -> (u8, u32)
+    ensures { result ≡ rank slot }
+{
+    match slot {
+        CellSlot::Base(place) => (0, place),
+        CellSlot::Made => (1, 0),
+    }
+}

@@ -1,0 +1,8 @@
+pub mod BookLemmas
+pub mod FillLemmas
+pub mod NearLemmas
+pub mod OrderLemmas
+pub mod PlaceLemmas
+pub mod SearchLemmas
+pub mod ShareLemmas
+pub mod WrittenLemmas

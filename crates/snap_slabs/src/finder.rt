@@ -1,0 +1,122 @@
+//! The search of the hot centres that a segment meets.
+ghost use Rattle.std.specs.Prelude.{◌≡◌, ◌↔◌, ◌<◌, ◌≤◌, Contains, IfOk, IfSome, length};
+ghost use Rattle.lay_point.specs.declared.point.Point.{Point};
+ghost use Rattle.snap_segments.specs.Order.{ArePointsRising, transposed};
+ghost use Rattle.snap_segments.specs.Segments.{Meets};
+ghost use Rattle.snap_slabs.specs.Slabs.{HoldPlaces, points_in};
+
+use crate::candidates::met;
+use crate::columns_of::{columns, places};
+use crate::slab::Slab;
+use crate::slabs::{met_in_each, slabs_of};
+use lay_point::Point;
+use snap_segments::{HotSet, Segment, turned_all};
+use std::alloc::{AllocError, Global};
+use std::marker::Model;
+
+/// The fewest centres in a slab.
+const LEAST_SIZE: usize = 8;
+
+/// As many centres are asked in the time in which one slab is searched, about.
+const SLAB_STEPS: usize = 16;
+
+/// Hot centres, in which a segment finds those that it meets. Contracts see the list of the centres.
+#[derive(Debug, Drop)]
+pub struct Finder<'h> {
+    hot: &'h HotSet,
+    /// How many centres are in a slab.
+    size: usize,
+    slabs: Vec<Slab>,
+}
+
+impl<'h> Model for Finder<'h> {
+    ghost use Rattle.std.specs.Prelude.{◌<◌, List};
+    ghost use Rattle.lay_point.specs.declared.point.Point.{Point};
+    ghost use Rattle.snap_slabs.specs.Slabs.{AreSlabs};
+
+    ghost Value = { List Point };
+
+    ghost view = { λ f. f.hot.now };
+
+    ghost invariant = { λ f. (0 < f.size) × AreSlabs f.size f.hot.now f.slabs.items };
+}
+
+impl<'h> Finder<'h> {
+    /// Returns a finder without slabs, for a few segments.
+    pub fn plain(alloc: Global, hot: &'h HotSet) -> Finder<'h>
+        ensures { result ≡ hot.now }
+    {
+        Finder {
+            hot,
+            size: 1,
+            slabs: Vec::new(alloc),
+        }
+    }
+
+    /// Returns a finder for many segments. Where centres lie evenly, a slab is four times as wide as one
+    /// centre is from the next, so that a short segment goes through one slab mostly.
+    pub fn with_slabs(alloc: Global, hot: &'h HotSet) -> Result<Finder<'h>, AllocError>
+        ensures { IfOk result (λ finder. finder ≡ hot.now) }
+    {
+        let centres = hot.centres();
+        let size = (centres.len().isqrt() * 4).max(LEAST_SIZE);
+        let slabs = slabs_of(alloc, centres, size)?;
+        Ok(Finder { hot, size, slabs })
+    }
+
+    /// Returns the hot centres whose pixels the segment meets. Asked are those in its columns where they are
+    /// few, else those in its rows of the slabs that it goes through, or in its rows if it is level.
+    pub fn met(&self, alloc: Global, segment: &Segment) -> Result<Vec<Point>, AllocError>
+        ensures { IfOk result (λ points. (c : Point) → Contains points.items c
+            ↔ (Contains self.now c × Meets segment.now.a segment.now.b c)) }
+    {
+        let (from, to) = places(segment, self.hot.centres());
+        let across = segment.turned();
+        let is_level = segment.a().y == segment.b().y;
+        if let Some(slabs) = self.slabs_between(from, to, is_level) {
+            let in_slabs = met_in_each(alloc, &across, slabs)?;
+            let points = turned_all(alloc, in_slabs.as_slice())?;
+            return Ok(points);
+        }
+        let in_rows = rows(&across, self.hot.turned(), to - from);
+        let fewer = in_rows.len() < to - from;
+        if fewer {
+            let found = met(alloc, &across, in_rows)?;
+            let points = turned_all(alloc, found.as_slice())?;
+            return Ok(points);
+        }
+        let points = met(alloc, segment, &self.hot.centres()[from..to])?;
+        Ok(points)
+    }
+
+    /// Returns the slabs of the centres from the index `from` on, before `to`, where it takes less time to
+    /// search them than to ask all these centres. A level segment is left to its rows.
+    fn slabs_between(&self, from: usize, to: usize, is_level: bool) -> Option<&[Slab]>
+        requires ordered { from ≤ to }
+        requires inside { to ≤ length self.now }
+        ensures inside { IfSome result (λ slabs. (c : Point) → Contains (points_in slabs.now) c
+            → Contains self.now (transposed c)) }
+        ensures all { IfSome result (λ slabs. HoldPlaces self.now from to slabs.now) }
+    {
+        let first = from / self.size;
+        let last = to / self.size;
+        if is_level || last >= self.slabs.len() || (to - from) / SLAB_STEPS <= last - first {
+            return None;
+        }
+        Some(&self.slabs[first..last + 1])
+    }
+}
+
+/// Returns the centres in the rows of a segment. Both are turned. Where only so few are in its columns that
+/// a search takes longer than to ask these, all centres are returned.
+fn rows<'a>(across: &Segment, turned: &'a [Point], in_columns: usize) -> &'a [Point]
+    requires { ArePointsRising turned.now }
+    ensures inside { (c : Point) → Contains result.now c → Contains turned.now c }
+    ensures all { (c : Point) → Contains turned.now c → Meets across.now.a across.now.b c
+        → Contains result.now c }
+{
+    if in_columns <= SLAB_STEPS {
+        return turned;
+    }
+    columns(across, turned)
+}

@@ -1,0 +1,49 @@
+//! Slabs: hot centres in parts that are neighbours in the order of points, each in the order of its rows.
+ghost use Rattle.std.specs.Prelude.{◌↔◌, ◌<◌, Contains, IfOk};
+ghost use Rattle.lay_point.specs.declared.point.Point.{Point};
+ghost use Rattle.snap_segments.specs.Segments.{Meets};
+ghost use Rattle.snap_slabs.specs.Slabs.{AreSlabs, points_in};
+
+use crate::candidates::met;
+use crate::slab::Slab;
+use lay_point::Point;
+use snap_segments::Segment;
+use std::alloc::{AllocError, Global};
+
+/// Returns the slabs of the centres: so many in each, from the first on, with x and y exchanged. The last
+/// slab has the rest, which may be none.
+pub(crate) fn slabs_of(
+    alloc: Global,
+    centres: &[Point],
+    size: usize,
+) -> Result<Vec<Slab>, AllocError>
+    requires { 0 < size }
+    ensures { IfOk result (λ slabs. AreSlabs size centres.now slabs.items) }
+{
+    let mut slabs = Vec::new(alloc);
+    let mut rest = centres;
+    for _ in 0..centres.len() / size + 1 {
+        let (part, later) = rest.split_at(size.min(rest.len()));
+        let slab = Slab::of(alloc, part)?;
+        slabs.push(slab)?;
+        rest = later;
+    }
+    Ok(slabs)
+}
+
+/// Returns the points of the slabs whose pixels the segment meets.
+pub(crate) fn met_in_each(
+    alloc: Global,
+    segment: &Segment,
+    slabs: &[Slab],
+) -> Result<Vec<Point>, AllocError>
+    ensures { IfOk result (λ points. (c : Point) → Contains points.items c
+        ↔ (Contains (points_in slabs.now) c × Meets segment.now.a segment.now.b c)) }
+{
+    let mut points = Vec::new(alloc);
+    for slab in slabs {
+        let found = met(alloc, segment, slab.near(segment))?;
+        points.extend_from_slice(found.as_slice())?;
+    }
+    Ok(points)
+}

@@ -1,0 +1,16 @@
+pub mod Keys
+pub mod OwnedRings
+pub mod Owners
+pub mod Rounded
+pub mod Sides
+pub mod Visits
+pub use Rattle.snap_slabs.specs.Segment
+pub use Rattle.snap_slabs.specs.Chains
+pub use Rattle.snap_slabs.specs.Edges
+pub use Rattle.snap_slabs.specs.Hot
+pub use Rattle.snap_slabs.specs.Meeting
+pub use Rattle.snap_slabs.specs.Parity
+pub use Rattle.snap_slabs.specs.Rising
+pub use Rattle.snap_slabs.specs.Rounding
+pub use Rattle.snap_slabs.specs.Undirected
+pub use Rattle.snap_slabs.specs.Segments

@@ -1,0 +1,5 @@
+pub mod Moving
+pub mod Operated
+pub mod Searches
+pub mod Shifting
+pub use Rattle.txn_marks.proofs.SetLemmas

@@ -1,0 +1,7 @@
+pub mod Acting
+pub mod Moving
+pub mod Searching
+pub mod Seeing
+pub mod Shaping
+pub mod Using
+pub use Rattle.txn_marks.specs.Coded

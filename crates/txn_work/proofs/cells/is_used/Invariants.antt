@@ -1,9 +1,0 @@
-use Rattle.std.proofs.Common.{◌≡◌}
-use Rattle.std.specs.List.{list_any}
-use Rattle.txn_rules.specs.Plans.{is_used}
-use Rattle.txn_work.specs.Using.{is_use}
-use Rattle.txn_work.proofs.cells.is_used.Given as goal
-
--- the items that are left decide
-abbrev pub invariant-loop-id : goal.invariant-loop-id
-invariant-loop-id l = list_any (is_use l.number) l.id-iterator ≡ is_used l.layout l.number

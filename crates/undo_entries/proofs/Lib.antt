@@ -1,0 +1,14 @@
+pub mod ChangeLemmas
+pub mod CommitLemmas
+pub mod FoundLemmas
+pub mod IndexLemmas
+pub mod IndexedLemmas
+pub mod MovedLemmas
+pub mod PlaceLemmas
+pub mod SoundLemmas
+pub mod StaleLemmas
+pub mod UndoLemmas
+pub use Rattle.undo_index.proofs.AnyLemmas
+pub use Rattle.undo_index.proofs.ApartLemmas
+pub use Rattle.undo_index.proofs.ListedLemmas
+pub use Rattle.txn_work.proofs.Kept

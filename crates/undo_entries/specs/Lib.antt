@@ -1,0 +1,9 @@
+pub mod Changes
+pub mod Coded
+pub mod Indexed
+pub mod Places
+pub mod Replays
+pub use Rattle.txn_work.specs.Answers
+pub use Rattle.undo_index.specs.First
+pub use Rattle.undo_index.specs.Homes
+pub use Rattle.undo_index.specs.Listed
