@@ -73,7 +73,7 @@ impl Machine {
         &self.book
     }
 
-    /// Ends the sessions. Returns their book; open transactions go.
+    /// Ends the sessions. Returns their book; what is open is given up.
     pub fn into_book(self) -> Book
         ensures { result ≡ self.history }
     {

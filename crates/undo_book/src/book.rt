@@ -106,7 +106,7 @@ impl Book {
         self.entries.as_slice()
     }
 
-    /// Ends the history. Returns its layout and its log; all else goes.
+    /// Ends the history. Returns its layout and its log; all else is dropped.
     pub fn end(self) -> (Snapshot, Vec<Logged>)
         ensures layout { result.0 ≡ self.layout }
         ensures log { result.1.items ≡ self.log }

@@ -30,7 +30,7 @@ pub struct CommitRefusal {
 /// What a commit leaves and keeps, made before it changes anything.
 #[derive(Drop)]
 struct Prepared {
-    /// The layout behind it.
+    /// The layout after it.
     layout: Snapshot,
     /// The transactions that it is linked to.
     seen: Vec<TxnId>,

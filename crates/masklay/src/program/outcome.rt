@@ -131,7 +131,7 @@ fn finish_steps(
     if is_out_of_memory(&replies) {
         return Err(Stop::NoMemory);
     }
-    // The rest of the history takes the most memory, and goes before the replies are dealt.
+    // The rest of the history takes the most memory, and is dropped before the replies are dealt.
     let (layout, log) = machine.into_book().end();
     let replies = dealt(alloc, sessions, order.as_slice(), replies)?;
     let order = order_of(alloc, &log, replies.as_slice())?;
