@@ -55,6 +55,10 @@ impl Bands for ScopedBands {
 /// cut into as many bands of consecutive rows as there are workers, and each is labelled in a thread of its
 /// own where one can be started, and else on the caller's. All threads look at the same edges, and each
 /// passes the gate first and gives its list back as it ends.
+///
+/// # Cost
+///
+/// That of `label` for each band, in as many threads as there are workers.
 pub fn label_in_bands<R: Threads + Sync, G: Gate + Sync>(
     rt: &R,
     alloc: Global,

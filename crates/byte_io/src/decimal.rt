@@ -30,6 +30,10 @@ pub fn push_signed(bytes: &mut Vec<u8>, integer: i32) -> Result<(), NoMemory>
 
 /// Returns the value of the digits, or one more than `limit` where that is less. There may be any
 /// number of digits, or none.
+///
+/// # Cost
+///
+/// A pass over the digits.
 pub fn capped_decimal(limit: u32, digits: &[u8]) -> u64
     requires { AllPass is_digit digits.now }
     ensures { result ≡ capped_decimal (limit + 1) digits.now }

@@ -28,6 +28,10 @@ pub trait Out {
 }
 
 /// Writes all the bytes, up to the first failure of the device.
+///
+/// # Cost
+///
+/// A call of the device for each run of bytes that it takes.
 pub fn put_all<O: Out>(out: &mut O, bytes: &[u8]) -> Result<(), OutFault>
     ensures ok { OnOk result (WroteAll O.written O.failures out.old out.new bytes.now) }
     ensures fault { OnErr result (WrotePrefix O.written O.failures out.old out.new bytes.now) }

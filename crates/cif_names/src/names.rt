@@ -71,6 +71,10 @@ impl Names {
     }
 
     /// Returns those of these symbols, and those of no symbol.
+    ///
+    /// # Cost
+    ///
+    /// A look-up in a hash table for each entry.
     pub fn within(self, alloc: Global, symbols: &Cells) -> Result<Names, NoMemory>
         ensures { IfOk result (λ names. names ≡ within symbols.now self) }
     {

@@ -19,6 +19,11 @@ use cif_scan::{Class, command_len, skip};
 use std::alloc::Global;
 
 /// Returns the meaning of the text, or its first fault.
+///
+/// # Cost
+///
+/// A pass over the text, with a look-up in a hash table for each definition and each call, and a search
+/// that looks at each symbol and each call a few times.
 pub fn read(alloc: Global, text: &[u8]) -> Result<CifFile, CifFault>
     // A text that is too long is refused before anything else, without allocating.
     ensures too_long { MAX_TEXT < length text.now → result ≡ Err too_long }

@@ -5,6 +5,10 @@ ghost use Rattle.cif_scan.specs.Cutting.{command_len, next_depth, semicolon_from
 
 /// Returns how many bytes stand before the semicolon of the command at the start: the first one, or
 /// behind a parenthesis at the start, the first one behind that which closes it.
+///
+/// # Cost
+///
+/// A pass over the bytes of the command.
 #[tactic(auto, unfolding(crate::specs::Cutting::command_len))]
 pub fn command_len(bytes: &[u8]) -> Option<usize>
     ensures value { result ≡ command_len bytes.now }

@@ -65,6 +65,10 @@ impl<'s> Model for Prepared<'s> {
 }
 
 /// Returns the layout, ready to be written.
+///
+/// # Cost
+///
+/// A pass over the symbols.
 pub fn prepare(snapshot: &Snapshot) -> Result<Prepared<'_>, NoMemory>
     ensures { IsAnswer (record {}) result (Ok snapshot.now) }
 {
@@ -74,6 +78,10 @@ pub fn prepare(snapshot: &Snapshot) -> Result<Prepared<'_>, NoMemory>
 
 impl<'s> Prepared<'s> {
     /// Writes the layout's text to the device. It takes no memory.
+    ///
+    /// # Cost
+    ///
+    /// A pass over the items, with a few comparisons for each.
     pub fn put<O: Out>(&self, out: &mut O) -> Result<(), OutFault>
         ensures ok { OnOk result (WroteAll O.written O.failures out.old out.new (text self.now)) }
         ensures fault { OnErr result
@@ -86,6 +94,10 @@ impl<'s> Prepared<'s> {
 }
 
 /// Writes the layout's text to the device. The allocator is not used.
+///
+/// # Cost
+///
+/// That of `prepare` and `put`.
 pub fn write<O: Out>(_alloc: Global, snapshot: &Snapshot, out: &mut O) -> Result<(), WriteFault>
     ensures ok { OnOk result (WroteAll O.written O.failures out.old out.new (text snapshot.now)) }
     ensures device { IsErrOf result WriteFault.Device

@@ -35,6 +35,10 @@ pub fn is_last_in(log: &[Logged], own: &[Kept]) -> bool
 }
 
 /// Returns the place of the first of the calls that the log doesn't have at its place.
+///
+/// # Cost
+///
+/// A pass over the calls.
 pub fn missing_place(log: &[Logged], own: &[Kept]) -> Option<usize>
     ensures { result ≡ missing_place log.now own.now }
 {

@@ -14,6 +14,11 @@ use std::alloc::{AllocError, Global};
 /// Returns the numbers of the edges whose lower ends are in the band, in order, each with whether
 /// the operation's answers differ on its two sides. All edges are regarded, those of other bands
 /// too.
+///
+/// # Cost
+///
+/// A sort of the edges that begin in the band, and a search in its row for each of them. From row to row
+/// only the edges that begin or end are looked at, and those right of one that begins are moved.
 pub fn label(
     alloc: Global,
     edges: &CleanEdges,

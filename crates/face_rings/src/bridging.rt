@@ -13,6 +13,10 @@ use std::alloc::Global;
 /// is dropped, then the last one where it equals the first. Of the path's edges the half line from any
 /// place to the right crosses an odd number exactly where it crosses an odd number of the rings' edges.
 /// The path of no rings is empty.
+///
+/// # Cost
+///
+/// A pass over the points.
 pub fn bridge(alloc: Global, rings: &[Ring]) -> Result<Vec<Point>, NoMemory>
     ensures value { IfOk result (λ path. path.items ≡ bridged rings.now) }
 

@@ -18,6 +18,10 @@ pub struct Band {
 
 impl Band {
     /// Returns a band in which all of the edges begin.
+    ///
+    /// # Cost
+    ///
+    /// A pass over the edges.
     pub fn of(edges: &[Edge]) -> Band
         ensures { (e : Point × Point) → Contains edges.now e → IsTrue (begins_in result e) }
     {

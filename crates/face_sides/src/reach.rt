@@ -18,6 +18,10 @@ pub struct Reach {
 
 impl Reach {
     /// Returns how far the shapes of these edges reach.
+    ///
+    /// # Cost
+    ///
+    /// A pass over the edges and their owners.
     pub fn of_edges(alloc: Global, edges: &CleanEdges) -> Result<Reach, AllocError>
         ensures { IfOk result (IsReach edges.now) }
     {

@@ -54,6 +54,11 @@ pub(crate) enum Told {
 impl Sides {
     /// Returns the sides of the edge of this number. Of the edges of its row those before `left` are left of
     /// it, and those from `right` on, whose sides are all known, are right of it.
+    ///
+    /// # Cost
+    ///
+    /// Of each owner the next edge to the right that lists it is sought, edge by edge, as far as its shape
+    /// reaches.
     pub fn of(
         alloc: Global,
         edges: &CleanEdges,

@@ -50,6 +50,10 @@ impl End {
 }
 
 /// Returns where the edges end that do so above the row, in order.
+///
+/// # Cost
+///
+/// A sort of the edges that end above.
 pub fn ends_above(alloc: Global, edges: &[Edge], row: i32) -> Result<Vec<End>, AllocError>
     ensures ends { IfOk result (λ ends. IsPermutation (ends_beyond row edges.now) ends.items) }
     ensures order { IfOk result (λ ends. AreByHeight ends.items) }
@@ -124,6 +128,10 @@ fn stands_at(numbers: &[usize], index: usize, number: usize) -> bool
 }
 
 /// Returns where among edges of a row that of this number is, which crosses it too, if it is one of them.
+///
+/// # Cost
+///
+/// Comparisons in proportion to the logarithm of the number of edges in the row.
 pub fn place_of(edges: &CleanEdges, numbers: &[usize], number: usize, row: i32) -> usize
     requires crosses { CrossesRow edges.now.0 row number }
     requires some { AreSomeRowEdges edges.now.0 row numbers.now }

@@ -28,6 +28,10 @@ use std::alloc::AllocError;
 
 /// Puts the edges that begin in the row to their places among its edges. None of the starts, which are in
 /// order, is before the row.
+///
+/// # Cost
+///
+/// A search by halving for each edge that begins, and a move of the edges right of the first of them.
 pub fn insert_begun(
     edges: &CleanEdges,
     numbers: &mut Vec<usize>,
@@ -89,6 +93,10 @@ fn stands_before(numbers: &[usize], gap: usize, number: usize) -> bool
 }
 
 /// Returns where in the row the edges begin that are right of the edge.
+///
+/// # Cost
+///
+/// Comparisons in proportion to the logarithm of the number of edges in the row.
 pub fn gap_beside(edges: &CleanEdges, numbers: &[usize], edge: Edge) -> usize
     requires given { All (λ n. n < length edges.now.0) numbers.now }
     ensures bound { result ≤ length numbers.now }

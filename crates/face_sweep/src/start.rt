@@ -36,6 +36,10 @@ impl Start {
 }
 
 /// Returns where the edges begin that do so in the band, in order.
+///
+/// # Cost
+///
+/// A pass over the edges, and a sort of those that begin in the band.
 pub fn starts(alloc: Global, edges: &[Edge], band: Band) -> Result<Vec<Start>, AllocError>
     ensures starts { IfOk result (λ starts. IsPermutation (starts_of band edges.now) starts.items) }
     ensures rows { IfOk result (λ starts. AreByRow starts.items) }

@@ -17,6 +17,10 @@ const TOO_LONG: &[u8] =
     b"masklay: the job has more than 16,777,216 bytes\n  Cut it into jobs, each of which begins with the text that the one before wrote.\n";
 
 /// What is reported to a person of a fault of the CIF text of this job.
+///
+/// # Cost
+///
+/// A pass over the text before the fault.
 pub fn of_cif_fault(alloc: Global, job: &[u8], fault: CifFault) -> Result<Vec<u8>, NoMemory> {
     let offset = text_start(job)
         .saturating_add(fault.offset as usize)
@@ -27,6 +31,10 @@ pub fn of_cif_fault(alloc: Global, job: &[u8], fault: CifFault) -> Result<Vec<u8
 
 /// What is reported to a person of a fault of this job on the line of this number, counted from 1. A job
 /// that is too long has it on line 0.
+///
+/// # Cost
+///
+/// A pass over the job before the fault.
 pub fn of_job_fault(alloc: Global, job: &[u8], line: u32) -> Result<Vec<u8>, NoMemory> {
     if line == 0 {
         let mut lines = Vec::new(alloc);

@@ -16,6 +16,10 @@ use lay_point::{LayerName, Point, Quarter, Ring, Sequence, Turn};
 use session_steps::{BookFault, Done, Reply, StepFault, TxnId};
 
 /// Puts the lines of the replies to the steps of all sessions, of which the first is session 1.
+///
+/// # Cost
+///
+/// A pass over the replies, and over the points of the shapes that they show.
 pub fn put_replies<O: Out>(out: &mut O, buffer: &mut OutBuffer, sessions: &[Sequence<Reply>])
     ensures { Buffered O.written O.failures out.old buffer.old out.new buffer.new
         (replies_text sessions.now) }
@@ -40,6 +44,10 @@ fn put_session<O: Out>(out: &mut O, buffer: &mut OutBuffer, session: u64, replie
 }
 
 /// Puts the line of a reply to a step of a session.
+///
+/// # Cost
+///
+/// Of a look a pass over the shape's points.
 pub fn put_reply<O: Out>(
     out: &mut O,
     buffer: &mut OutBuffer,

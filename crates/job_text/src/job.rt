@@ -66,6 +66,10 @@ pub(crate) type Place<'a> = (u32, &'a [u8]);
 impl<'a> Job<'a> {
     /// The job that the bytes spell, or its first fault. Any answer but that of a job that is too long
     /// can give way to `NoMemory`.
+    ///
+    /// # Cost
+    ///
+    /// A pass over the bytes.
     #[tactic(auto, unfolding(crate::specs::Job::job_of))]
     pub fn read(alloc: Global, bytes: &'a [u8]) -> Result<Job<'a>, JobFault>
         // A job that is too long is refused before anything else, and needs no memory.

@@ -21,6 +21,10 @@ const SESSIONS: usize = 256;
 /// Returns the order in which the steps of the sessions with these replies ran, by the log: for each
 /// logged call its session's number, once for each step up to and with the call's; then the steps that
 /// are left, session by session. The first of the sessions is session 1.
+///
+/// # Cost
+///
+/// A pass over the log and the replies.
 pub fn order_of(
     alloc: Global,
     log: &[Logged],

@@ -14,6 +14,10 @@ use std::alloc::Global;
 
 /// Writes the replies to the steps of the sessions, session by session, and the order, as comments. At `Device` a
 /// prefix of the comments was written. The allocator has no use.
+///
+/// # Cost
+///
+/// A pass over the replies and the order.
 pub fn print<O: Out>(
     _alloc: Global,
     out: &mut O,
@@ -35,6 +39,10 @@ pub fn print<O: Out>(
 
 /// Writes the lines of the replies to the steps of the sessions, session by session, and those of the order, piece by
 /// piece. It takes no memory.
+///
+/// # Cost
+///
+/// A pass over the replies and the order.
 pub fn put_comments<O: Out>(
     out: &mut O,
     replies: &[Sequence<Reply>],
@@ -54,6 +62,10 @@ pub fn put_comments<O: Out>(
 }
 
 /// Returns the lines of the replies to the steps of the sessions, session by session, and those of the order.
+///
+/// # Cost
+///
+/// A pass over the replies and the order.
 pub fn comments(
     alloc: Global,
     replies: &[Sequence<Reply>],

@@ -43,6 +43,10 @@ impl Cells {
     }
 
     /// Adds the symbol of this number behind the others, and returns whether it was new.
+    ///
+    /// # Cost
+    ///
+    /// That of an insertion in a hash table.
     pub fn add(&mut self, number: u32) -> Result<bool, NoMemory>
         ensures answer { IfOk result (λ added. added ≡ not (has_symbol self.old number)) }
         ensures ok { OnOk result (self.new ≡ with_symbol self.old number) }
@@ -52,6 +56,10 @@ impl Cells {
     }
 
     /// Returns the position of the symbol of this number.
+    ///
+    /// # Cost
+    ///
+    /// That of a look-up in a hash table.
     pub fn position(&self, number: u32) -> Option<usize>
         ensures value { result ≡ position (nat_eq number) self.now }
         ensures found { is_some result ≡ has_symbol self.now number }

@@ -70,6 +70,10 @@ pub fn callers_first(
 }
 
 /// Returns each position under a key, those of cells before those of their callers where that can be.
+///
+/// # Cost
+///
+/// That of `callers_first`, and a sort of the positions.
 pub fn callees_first(
     alloc: Global,
     rows: &Vec<Vec<usize>>,

@@ -30,6 +30,10 @@ impl PageKey for Home {
 pub type Homes = Pages<Home, ()>;
 
 /// Returns where these items stand.
+///
+/// # Cost
+///
+/// A sort of the items by cell.
 pub fn homes_of(alloc: Global, items: &Pages<ItemId, Item>) -> Result<Homes, NoMemory>
     requires { IsStrictlySortedBy id_cmp (keys_of items.now) }
     ensures indexed { IfOk result (λ homes. AreIndexedByCell items.now homes) }
@@ -66,6 +70,10 @@ fn built(alloc: Global, homes: Vec<Home>) -> Result<Homes, NoMemory>
 }
 
 /// Returns the homes without that of an item, where there is one of this id.
+///
+/// # Cost
+///
+/// That of `Pages::with`.
 pub fn without(
     alloc: Global,
     homes: &Homes,
@@ -83,6 +91,10 @@ pub fn without(
 }
 
 /// Returns the homes with that of an item, where there is one.
+///
+/// # Cost
+///
+/// That of `Pages::with`.
 pub fn with(alloc: Global, homes: Homes, id: ItemId, item: &Option<Item>) -> Result<Homes, NoMemory>
     requires { IsStrictlySortedBy home_cmp (keys_of homes) }
     ensures homes { IfOk result (λ new. new ≡ with_home id item.now homes) }

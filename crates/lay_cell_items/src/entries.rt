@@ -15,6 +15,10 @@ use std::alloc::Global;
 type Entry = (ItemId, Item);
 
 /// Returns copies of the items, in order of their ids.
+///
+/// # Cost
+///
+/// A pass over the items.
 pub fn listed(alloc: Global, items: &Pages<ItemId, Item>) -> Result<Vec<Entry>, NoMemory>
     ensures { IfOk result (λ entries. entries.items ≡ items.now) }
 {
@@ -26,6 +30,10 @@ pub fn listed(alloc: Global, items: &Pages<ItemId, Item>) -> Result<Vec<Entry>, 
 }
 
 /// Returns the pages of entries in order.
+///
+/// # Cost
+///
+/// A pass over the entries.
 pub fn paged(alloc: Global, entries: Vec<Entry>) -> Result<Pages<ItemId, Item>, NoMemory>
     requires { IsStrictlySortedBy id_cmp (keys_of entries.items) }
     ensures { IfOk result (λ pages. pages ≡ entries.items) }
@@ -39,6 +47,10 @@ pub fn paged(alloc: Global, entries: Vec<Entry>) -> Result<Pages<ItemId, Item>, 
 }
 
 /// Returns the entries after these writes, which are in order of their ids.
+///
+/// # Cost
+///
+/// A pass over the entries and the writes.
 pub fn merged(
     alloc: Global,
     entries: &[Entry],

@@ -38,6 +38,10 @@ impl Model for CallGraph {
 
 impl CallGraph {
     /// Returns the graph of these symbols and the top cell, without a call.
+    ///
+    /// # Cost
+    ///
+    /// A pass over the symbols.
     pub fn new(alloc: Global, symbols: &Cells) -> Result<CallGraph, NoMemory>
         ensures { IfOk result (λ graph. graph ≡ record { symbols = symbols.now; calls = [] }) }
     {
@@ -49,6 +53,10 @@ impl CallGraph {
     }
 
     /// Adds a call of the symbol of this number that stands in `caller`.
+    ///
+    /// # Cost
+    ///
+    /// That of two look-ups in a hash table.
     pub fn add(&mut self, caller: CellId, target: u32) -> Result<(), NoMemory>
         requires caller { IsTrue (has_cell self.old.symbols caller) }
         requires target { IsTrue (has_cell self.old.symbols (CellId.Symbol target)) }
@@ -65,6 +73,10 @@ impl CallGraph {
 
     /// Returns whether both are cells and a walk of calls leads from the first to the second. A cell leads to
     /// itself by no call.
+    ///
+    /// # Cost
+    ///
+    /// Each cell and each call is looked at once at most.
     pub fn reaches(&self, alloc: Global, from: CellId, to: CellId) -> Result<bool, NoMemory>
         ensures from { IfOk result (λ found. IsTrue found → IsTrue (has_cell self.now.symbols from)) }
         ensures to { IfOk result (λ found. IsTrue found → IsTrue (has_cell self.now.symbols to)) }
@@ -93,6 +105,10 @@ impl CallGraph {
 
     /// Returns the index of the first call, in the order in which they were added, whose target leads back
     /// to its caller. It looks at each cell and each call a few times.
+    ///
+    /// # Cost
+    ///
+    /// Each cell and each call is looked at a few times.
     pub fn first_cycle(&self, alloc: Global) -> Result<Option<usize>, NoMemory>
         ensures acyclic { IfOk result (λ first. IsNone first ↔ IsAcyclic self.now.calls) }
         ensures first { IfOk result (λ first. IfSome first (IsFirstCycle self.now.calls)) }
@@ -118,6 +134,10 @@ impl CallGraph {
 
     /// Returns how many walks there are from a cell, the empty one among them, or `MAX_COUNTED_WALKS` where
     /// there are more. No walk is made: it looks at each cell and each call a few times.
+    ///
+    /// # Cost
+    ///
+    /// Each cell and each call is looked at a few times.
     pub fn walks(&self, alloc: Global, cell: CellId) -> Result<usize, NoMemory>
         requires cell { IsTrue (has_cell self.now.symbols cell) }
         requires acyclic { IsAcyclic self.now.calls }

@@ -21,6 +21,11 @@ use std::alloc::Global;
 
 /// Returns all rings on a layer below a cell, through every walk of calls. A cell's own shapes come first, in
 /// order of their ids, then what its calls lead to, in order of theirs.
+///
+/// # Cost
+///
+/// The items of each cell that the cell leads to are gone over, for its calls; and again for each walk that
+/// ends there, for its calls and its shapes. Each point that is lent is tested once.
 pub fn flatten<'s>(
     alloc: Global,
     snapshot: &'s Snapshot,

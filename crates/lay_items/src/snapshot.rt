@@ -42,6 +42,10 @@ impl Model for Snapshot {
 impl Snapshot {
     /// Returns the layout of a text's meaning: its symbols in the order of their definitions, and its
     /// element q as item 0.0.q.
+    ///
+    /// # Cost
+    ///
+    /// A pass over the elements, and a sort of them by cell.
     pub fn from_cif(alloc: Global, file: CifFile) -> Result<Snapshot, NoMemory>
         ensures { IsAnswer (record {}) result (Ok (layout_of file)) }
     {
@@ -76,6 +80,10 @@ impl Snapshot {
     }
 
     /// Returns the item of this id.
+    ///
+    /// # Cost
+    ///
+    /// Comparisons in proportion to the logarithm of the number of items.
     pub fn item(&self, id: ItemId) -> Option<&Item>
         ensures { option_copied result ≡ item_at self.now id }
     {
@@ -91,6 +99,10 @@ impl Snapshot {
     }
 
     /// Returns the slot of the symbol of this number, where there is one.
+    ///
+    /// # Cost
+    ///
+    /// Comparisons in proportion to the logarithm of the number of symbols.
     pub fn slot(&self, number: u32) -> Option<CellSlot>
         ensures { result ≡ map.get self.now.symbols number }
     {
@@ -105,6 +117,10 @@ impl Snapshot {
     }
 
     /// Lends the points of an item's ring, where it is a shape that has one of this index.
+    ///
+    /// # Cost
+    ///
+    /// As that of `item`.
     pub fn points(&self, id: ItemId, ring: usize) -> Option<&[Point]>
         ensures { option_copied result ≡ points_at self.now id ring }
     {
@@ -115,6 +131,10 @@ impl Snapshot {
     }
 
     /// Lends the items of a cell, in order of their ids. It doesn't go over those of other cells.
+    ///
+    /// # Cost
+    ///
+    /// A search by halving for the first; a few comparisons for each item.
     pub fn items(&self, cell: CellId) -> Items<'_>
         ensures { result ≡ items_in self.now cell }
     {
@@ -122,6 +142,10 @@ impl Snapshot {
     }
 
     /// Lends the shapes of a cell on a layer, each its id and its rings, in order of their ids.
+    ///
+    /// # Cost
+    ///
+    /// It goes over all items of the cell, whatever their layer.
     #[tactic(auto, unfolding(lay_layouts::specs::Lent::shapes_in))]
     pub fn shapes(&self, cell: CellId, layer: &LayerName) -> Shapes<'_>
         ensures { result ≡ shapes_in self.now cell layer.now }
@@ -131,6 +155,10 @@ impl Snapshot {
 
     /// Lends the calls that stand in a cell, each its id, the number of the symbol that it calls and what is
     /// done to that, in order of their ids.
+    ///
+    /// # Cost
+    ///
+    /// It goes over all items of the cell.
     #[tactic(auto, unfolding(lay_layouts::specs::Lent::calls_in))]
     pub fn calls(&self, cell: CellId) -> Calls<'_>
         ensures { result ≡ calls_in self.now cell }

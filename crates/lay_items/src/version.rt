@@ -53,6 +53,10 @@ impl Version {
 
     /// Returns the layout of these symbols, in this order, and of these items, of which the q-th has the id
     /// 0.0.q. Where there are more symbols or items than a `u32` counts, that is out of memory.
+    ///
+    /// # Cost
+    ///
+    /// A pass over the items, and a sort of them by cell.
     pub fn of_parts(alloc: Global, symbols: &Cells, items: Vec<Item>) -> Result<Version, NoMemory>
         ensures { IsAnswer (record {}) result (Ok (layout_with symbols.now items.items)) }
     {
@@ -77,6 +81,10 @@ impl Version {
     }
 
     /// Returns the item of this id.
+    ///
+    /// # Cost
+    ///
+    /// Comparisons in proportion to the logarithm of the number of items.
     pub fn item(&self, id: ItemId) -> Option<&Item>
         ensures { option_copied result ≡ item_at self.now id }
     {
@@ -92,6 +100,10 @@ impl Version {
 
     /// Returns the number of pages of items. A page has 64 at most, and versions share those that no write
     /// between them falls in.
+    ///
+    /// # Cost
+    ///
+    /// That of `Pages::pages`.
     pub fn pages(&self) -> usize
         ensures few { result ≤ map.len self.now.items }
         ensures full { map.len self.now.items ≤ 64 * result }
@@ -100,6 +112,10 @@ impl Version {
     }
 
     /// Returns whether the cell is there: the top cell, and each symbol.
+    ///
+    /// # Cost
+    ///
+    /// Comparisons in proportion to the logarithm of the number of symbols.
     pub fn is_cell(&self, cell: CellId) -> bool
         ensures { result ≡ is_cell self.now cell }
     {
@@ -118,6 +134,10 @@ impl Version {
     }
 
     /// Returns the slot of the symbol of this number, where there is one.
+    ///
+    /// # Cost
+    ///
+    /// As that of `is_cell`.
     pub fn slot(&self, number: u32) -> Option<CellSlot>
         ensures { result ≡ map.get self.now.symbols number }
     {
@@ -125,6 +145,10 @@ impl Version {
     }
 
     /// Returns whether another layout has the same symbols in the same slots.
+    ///
+    /// # Cost
+    ///
+    /// A pass over the symbols.
     pub fn has_symbols_of(&self, other: &Version) -> bool
         ensures { result ≡ symbols_eq self.now.symbols other.now.symbols }
     {
@@ -139,6 +163,10 @@ impl Version {
     }
 
     /// Lends the items of a cell, in order of their ids. It doesn't go over those of other cells.
+    ///
+    /// # Cost
+    ///
+    /// A search by halving for the first; a few comparisons for each item.
     #[tactic(auto, unfolding(lay_layouts::specs::Items::items_in))]
     pub fn items(&self, cell: CellId) -> Items<'_>
         ensures { result ≡ items_in self.now cell }
@@ -148,6 +176,12 @@ impl Version {
 
     /// Returns the layout after these writes: under an id or a number stands this item or slot from then on,
     /// or none. What isn't written is shared.
+    ///
+    /// # Cost
+    ///
+    /// Where few items are written each makes a page, its book and the list of the books anew, of the items
+    /// and of where they stand; where many are, all pages are made anew in one pass. Where a symbol is
+    /// written all of them are copied.
     pub fn with(
         &self,
         alloc: Global,

@@ -55,6 +55,10 @@ impl SymbolMap {
     }
 
     /// Returns the symbols of a text, in this order.
+    ///
+    /// # Cost
+    ///
+    /// A sort of the symbols.
     pub fn of_text(alloc: Global, symbols: &Cells) -> Result<SymbolMap, NoMemory>
         ensures { IfOk result (λ base. base ≡ symbols_of (placed_from 1 symbols.now)) }
     {
@@ -64,6 +68,10 @@ impl SymbolMap {
     }
 
     /// Returns the slot of the symbol of this number.
+    ///
+    /// # Cost
+    ///
+    /// Comparisons in proportion to the logarithm of the number of symbols.
     pub fn get(&self, number: u32) -> Option<CellSlot>
         ensures { result ≡ finite.get self.now number }
     {
@@ -71,6 +79,10 @@ impl SymbolMap {
     }
 
     /// Returns whether there is a symbol of this number.
+    ///
+    /// # Cost
+    ///
+    /// As that of `get`.
     pub fn has(&self, number: u32) -> bool
         ensures { result ≡ is_some (finite.get self.now number) }
     {
@@ -85,6 +97,10 @@ impl SymbolMap {
     }
 
     /// Returns whether others are the same symbols in the same slots.
+    ///
+    /// # Cost
+    ///
+    /// A pass over the symbols.
     pub fn is_same(&self, other: &SymbolMap) -> bool
         ensures { result ≡ symbols_eq self.now other.now }
     {
@@ -92,6 +108,10 @@ impl SymbolMap {
     }
 
     /// Returns the symbols after these writes.
+    ///
+    /// # Cost
+    ///
+    /// A copy of all symbols, and a comparison by logarithm for each write.
     pub fn with(
         &self,
         alloc: Global,

@@ -20,6 +20,10 @@ pub(crate) fn are_same<K: Ord, V: PartialEq>(
 }
 
 /// Returns whether two lists in order, in pages, have the same values under the same keys.
+///
+/// # Cost
+///
+/// That of `Pages::is_same`.
 pub fn are_same_pages<K: PageKey, V: Kept + PartialEq>(
     pages: &Pages<K, V>,
     others: &Pages<K, V>,

@@ -38,6 +38,10 @@ enum Step {
 /// that is inside by parity, and not round any other. A shape stays as it was where its path does so already.
 /// It stays too, and is counted, where no such path was found, as where its edges cross, and where that path
 /// would be longer than a ring may be. Calls, symbols and ids stay.
+///
+/// # Cost
+///
+/// That of `orient` for each shape, and a version made anew.
 pub fn oriented_layout(alloc: Global, layout: &Snapshot) -> Result<Directed, NoMemory>
     ensures { IfOk result (λ directed. IsDirected layout.now directed.layout directed.staying) }
 {

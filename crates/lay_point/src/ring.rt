@@ -66,6 +66,10 @@ impl Model for Ring {
 impl Ring {
     /// Returns the ring of these points. A point that equals the one before it is dropped, then the last
     /// one where it equals the first.
+    ///
+    /// # Cost
+    ///
+    /// A pass over the points.
     pub fn new(alloc: Global, points: &[Point]) -> Result<Ring, RingFault>
         ensures { IsAnswer RingFault.NoMemory result (ring_of points.now) }
     {
@@ -158,6 +162,10 @@ impl Eq for Ring {
 
 /// Returns the points as a ring keeps them: a point that equals the one before it is dropped, then the
 /// last one where it equals the first.
+///
+/// # Cost
+///
+/// A pass over the points.
 #[tactic(auto, unfolding(crate::specs::Rings::without_repeats))]
 pub fn without_repeats(alloc: Global, points: &[Point]) -> Result<Vec<Point>, NoMemory>
     ensures { IfOk result (λ kept. kept.items ≡ without_repeats points.now) }

@@ -23,6 +23,10 @@ use std::thread::Threads;
 /// Returns the shapes of the operation, each the list of its rings. Shapes are in the order of
 /// their first rings. The inputs are rounded together, in as many threads as there are processors;
 /// `bands` finds the operation's edges.
+///
+/// # Cost
+///
+/// That of `round`, of `Bands::label_all`, and of `link` and `parts` of the edges that are left.
 pub fn combine(
     rt: &(impl Threads + Sync),
     alloc: Global,

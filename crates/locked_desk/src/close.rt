@@ -48,6 +48,10 @@ pub enum CloseRefusal<L: Ledger> {
 impl<L: Ledger> Desk<L> {
     /// Ends the desk with all its seats. Refused as `MissingSeat` where a session has none, and as `Differs`
     /// where the log doesn't have a call of a seat, or the book not the desk's base. All is handed back.
+    ///
+    /// # Cost
+    ///
+    /// A pass over the calls of all seats.
     pub fn close(self, seats: Vec<Seat<L>>) -> Result<Closed, CloseRefusal<L>>
         ensures closed { IfOk result (λ closed. IsClosed self seats.items closed.book) }
         ensures refused { IfErr result (λ refusal. IsRefusedClose self seats.items refusal) }

@@ -16,6 +16,10 @@ impl<L: Ledger> Desk<L> {
     /// as `Differs` where the log doesn't have one of the seat's calls at its place, of which the first is
     /// named, or has others of the session; or as `Differs` of session 0 where the base or the number of
     /// sessions isn't the desk's own. `NoMemory` can stand in place of any answer.
+    ///
+    /// # Cost
+    ///
+    /// A pass over the seat's calls.
     pub fn snapshot<R: Wait>(
         &self,
         rt: &R,

@@ -84,6 +84,10 @@ impl Machine {
     /// Takes a step of a session. `NoSession` comes first, then `AlreadyOpen` and `NotOpen`; these are
     /// not logged. A refused commit leaves the transaction open, unless it is stale and has ended. `bands`
     /// finds the edges of Booleans.
+    ///
+    /// # Cost
+    ///
+    /// That of the command, or of the call of the book.
     pub fn step(
         &mut self,
         rt: &(impl Threads + Sync),
@@ -225,6 +229,10 @@ impl Machine {
 
     /// The machine after these steps, each with the number of its session, and its answers to them. `bands`
     /// finds the edges of Booleans.
+    ///
+    /// # Cost
+    ///
+    /// That of its steps.
     pub fn run(
         rt: &(impl Threads + Sync),
         alloc: Global,

@@ -60,6 +60,10 @@ impl Hand {
 
 /// Returns the steps of these scripts, each with the number of its session, as the sessions come in this
 /// order. A session that has no step left is passed over.
+///
+/// # Cost
+///
+/// A pass over the steps.
 pub fn in_turn(
     alloc: Global,
     scripts: Sequence<Sequence<Step>>,
@@ -103,6 +107,10 @@ fn take_step(left: &mut Vec<Left>, session: u8) -> Option<Step>
 }
 
 /// Returns the replies of so many sessions, dealt to them as they come in this order.
+///
+/// # Cost
+///
+/// A pass over the replies.
 pub fn dealt(
     alloc: Global,
     sessions: u8,

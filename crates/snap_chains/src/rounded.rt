@@ -33,6 +33,10 @@ impl Model for Rounded {
 
 impl Rounded {
     /// Returns the distinct edges of these, in order, without owners.
+    ///
+    /// # Cost
+    ///
+    /// A sort of the edges.
     pub fn from_edges(alloc: Global, edges: &[Edge]) -> Result<Rounded, NoMemory>
         ensures edges { IfOk result (λ r. (e : Point × Point) → Contains r.0 e ↔ Contains edges.now e) }
         ensures owners { IfOk result (λ r. r.1 ≡ replicate (length r.0) []) }

@@ -16,6 +16,10 @@ use std::thread::Threads;
 /// without owners. Hot pixels are found in as many threads as there are processors.
 ///
 /// Source: Hobby, Practical segment intersection with finite precision output, 1999.
+///
+/// # Cost
+///
+/// That of `hot` of all sides, of their chains, and of sorts of the edges that the rings go.
 pub fn round(
     rt: &(impl Threads + Sync),
     alloc: Global,

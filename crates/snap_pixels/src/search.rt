@@ -58,6 +58,10 @@ pub fn hot(
 
 /// Returns the hot pixels of the segments, found in this thread, undivided: of neighbours along the same axis none
 /// is asked about another, and all other pairs are asked.
+///
+/// # Cost
+///
+/// Each pair of distinct segments is asked, but for those along the same axis.
 pub fn hot_plain(alloc: Global, segments: &[Segment]) -> Result<HotSet, NoMemory>
     ensures { IfOk result (AreHotCentres segments.now) }
 {

@@ -31,6 +31,10 @@ impl Model for HotSet {
 
 impl HotSet {
     /// Returns the set of these centres, which may be in any order and more than once.
+    ///
+    /// # Cost
+    ///
+    /// Two sorts of the centres.
     pub fn from_unsorted(alloc: Global, mut centres: Vec<Point>) -> Result<HotSet, AllocError>
         ensures rising { IfOk result (λ hot. ArePointsRising hot) }
         ensures members { IfOk result (λ hot. (c : Point) → Contains hot c ↔ Contains centres.items c) }
@@ -44,6 +48,10 @@ impl HotSet {
     }
 
     /// Returns whether the pixel of `centre` is hot.
+    ///
+    /// # Cost
+    ///
+    /// Comparisons in proportion to the logarithm of the number of centres.
     pub fn contains(&self, centre: Point) -> bool
         ensures { IsTrue result ↔ Contains self.now centre }
     {
@@ -68,6 +76,10 @@ impl HotSet {
 }
 
 /// Returns the points with x and y exchanged.
+///
+/// # Cost
+///
+/// A pass over the points.
 pub fn turned_all(alloc: Global, points: &[Point]) -> Result<Vec<Point>, AllocError>
     ensures { IfOk result (λ others. others.items ≡ map transposed points.now) }
 {

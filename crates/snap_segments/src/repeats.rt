@@ -8,6 +8,10 @@ use lay_point::Point;
 use std::alloc::{AllocError, Global};
 
 /// Returns the segments, each once.
+///
+/// # Cost
+///
+/// A sort of the segments.
 pub fn distinct(alloc: Global, segments: &[Segment]) -> Result<Vec<Segment>, AllocError>
     ensures { IfOk result (λ once. (s : Segment)
         → Contains once.items s ↔ Contains segments.now s) }
@@ -20,6 +24,10 @@ pub fn distinct(alloc: Global, segments: &[Segment]) -> Result<Vec<Segment>, All
 
 /// Removes repeats from the marks where there are more than `limit`. Returns the limit from then on: it
 /// is doubled as the marks are, so that their number stays within twice that of the distinct ones.
+///
+/// # Cost
+///
+/// A sort of the marks, where there are more than `limit`.
 pub fn thin(marked: &mut Vec<Point>, limit: usize) -> usize
     ensures { (c : Point) → Contains marked.new.items c ↔ Contains marked.old.items c }
 {

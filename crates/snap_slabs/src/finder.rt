@@ -55,6 +55,10 @@ impl<'h> Finder<'h> {
 
     /// Returns a finder for many segments. Where centres lie evenly, a slab is four times as wide as one
     /// centre is from the next, so that a short segment goes through one slab mostly.
+    ///
+    /// # Cost
+    ///
+    /// A sort of the centres in each slab.
     pub fn with_slabs(alloc: Global, hot: &'h HotSet) -> Result<Finder<'h>, AllocError>
         ensures { IfOk result (λ finder. finder ≡ hot.now) }
     {
@@ -66,6 +70,11 @@ impl<'h> Finder<'h> {
 
     /// Returns the hot centres whose pixels the segment meets. Asked are those in its columns where they are
     /// few, else those in its rows of the slabs that it goes through, or in its rows if it is level.
+    ///
+    /// # Cost
+    ///
+    /// Each centre is asked that is in the rows which the segment reaches in a slab, or in the segment's
+    /// columns where these are few.
     pub fn met(&self, alloc: Global, segment: &Segment) -> Result<Vec<Point>, AllocError>
         ensures { IfOk result (λ points. (c : Point) → Contains points.items c
             ↔ (Contains self.now c × Meets segment.now.a segment.now.b c)) }

@@ -13,6 +13,10 @@ use std::cmp::Ordering;
 /// Returns the hot centres whose pixels the segment meets, in the order in which it goes.
 ///
 /// Source: Hobby, Practical segment intersection with finite precision output, 1999.
+///
+/// # Cost
+///
+/// Each hot centre between the segment's columns, or between its rows, is asked: whichever are fewer.
 pub fn chain(alloc: Global, segment: &Segment, hot: &HotSet) -> Result<Vec<Point>, NoMemory>
     ensures { IfOk result (λ points. IsChain (Contains hot.now) segment.now points.items) }
 {

@@ -21,6 +21,10 @@ pub(crate) struct Key {
 
 /// Returns the visits in the order of their edges, those of one edge in the order in which they came. They
 /// are sorted in as many threads as there are processors.
+///
+/// # Cost
+///
+/// A sort of the visits.
 pub fn in_order(
     rt: &(impl Threads + Sync),
     alloc: Global,

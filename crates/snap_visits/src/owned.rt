@@ -34,6 +34,10 @@ impl<'s> Model for OwnedRing<'s> {
 /// sides of all rings together; they are found in as many threads as there are processors.
 ///
 /// Source: Hobby, Practical segment intersection with finite precision output, 1999.
+///
+/// # Cost
+///
+/// That of `hot`, and of the chains of all sides.
 pub fn round_rings(
     rt: &(impl Threads + Sync),
     alloc: Global,

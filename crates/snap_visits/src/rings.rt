@@ -16,6 +16,10 @@ use std::alloc::{AllocError, Global};
 /// are the hot pixels of all the segments, of which the sides are some.
 ///
 /// Source: Hobby, Practical segment intersection with finite precision output, 1999.
+///
+/// # Cost
+///
+/// That of `chain` for each side.
 pub fn round_ring(
     alloc: Global,
     _segments: &[Segment],
@@ -59,6 +63,10 @@ pub(crate) fn round_ring_in(
 }
 
 /// Returns the sides of the ring: from each point to the next, and from the last to the first.
+///
+/// # Cost
+///
+/// A pass over the points.
 pub fn ring_sides(alloc: Global, ring: &[Point]) -> Result<Vec<Segment>, NoMemory>
     requires { NeighboursDiffer (closed_walk ring.now) }
     ensures { IfOk result (λ sides. map segment_ends sides.items ≡ pairs (closed_walk ring.now)) }

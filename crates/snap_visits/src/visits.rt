@@ -36,6 +36,10 @@ pub struct Visit {
 }
 
 /// Returns the visits of the walks, each round the ring at its place.
+///
+/// # Cost
+///
+/// A pass over the walks.
 pub fn all_visits(
     alloc: Global,
     rings: &[OwnedRing],
@@ -80,6 +84,10 @@ fn edge_between(a: Point, b: Point) -> Edge
 }
 
 /// Returns the edges of the visits, each once, in order. Visits in order take the least time.
+///
+/// # Cost
+///
+/// A sort of the visits.
 pub fn visited_edges(alloc: Global, visits: &[Visit]) -> Result<Vec<Edge>, AllocError>
     ensures rising { IfOk result (λ edges. IsRising IsEdgeBefore edges.items) }
     ensures exact { IfOk result (λ edges. (e : Point × Point) → Contains edges.items e
@@ -95,6 +103,10 @@ pub fn visited_edges(alloc: Global, visits: &[Visit]) -> Result<Vec<Edge>, Alloc
 }
 
 /// Returns the visits that are there an odd number of times, each once, in order.
+///
+/// # Cost
+///
+/// A sort of the visits.
 pub fn odd_visits(alloc: Global, mut visits: Vec<Visit>) -> Result<Vec<Visit>, AllocError>
     ensures rising { IfOk result (λ odd. IsRising IsVisitBefore odd.items) }
     ensures exact { IfOk result (λ odd. (v : Visit) → Contains odd.items v

@@ -37,6 +37,10 @@ impl Footprint {
     }
 
     /// Adds an element.
+    ///
+    /// # Cost
+    ///
+    /// Comparisons in proportion to the logarithm of the number of elements.
     pub fn insert(&mut self, element: Element) -> Result<(), NoMemory>
         ensures ok { OnOk result (self.new ≡ set.insert self.old element) }
         ensures err { OnErr result (self.new ≡ self.old) }
@@ -46,6 +50,10 @@ impl Footprint {
     }
 
     /// Removes an element, where it is there.
+    ///
+    /// # Cost
+    ///
+    /// As that of `insert`.
     pub fn remove(&mut self, element: Element)
         ensures { self.new ≡ set.remove self.old element }
     {
@@ -60,6 +68,10 @@ impl Footprint {
     }
 
     /// Returns whether the element is in it.
+    ///
+    /// # Cost
+    ///
+    /// As that of `insert`.
     pub fn contains(&self, element: Element) -> bool
         ensures { result ≡ set.contains self.now element }
     {

@@ -13,6 +13,11 @@ use std::collections::BTreeSet;
 use txn_commands::{Element, Snapshot};
 
 /// Returns whether two layouts have the same in each element of the footprint: then they agree on it.
+///
+/// # Cost
+///
+/// A look-up in both layouts for an item or a symbol. For an element that is about a cell its items are
+/// gone over in both, and for one that is about who calls a symbol all items are.
 pub fn agrees(l: &Snapshot, m: &Snapshot, footprint: &Footprint) -> bool
     ensures value { result ≡ agrees l.now m.now footprint.now }
     ensures agree { result ≡ true → AgreeOn l.now m.now footprint.now }

@@ -62,6 +62,10 @@ impl Writes {
     }
 
     /// Returns equal writes. The rings of items are shared.
+    ///
+    /// # Cost
+    ///
+    /// A pass over the records.
     pub fn copy(&self) -> Result<Writes, NoMemory>
         ensures { IfOk result (λ copy. copy ≡ self.now) }
     {
@@ -73,6 +77,10 @@ impl Writes {
     }
 
     /// Returns what was written under the id, if anything was.
+    ///
+    /// # Cost
+    ///
+    /// Comparisons in proportion to the logarithm of the number of records.
     pub fn item(&self, id: ItemId) -> Option<&ItemChange>
         ensures { option_copied result ≡ recorded_change self.now.items id }
     {
@@ -80,6 +88,10 @@ impl Writes {
     }
 
     /// Returns what was written of the symbol of this number, if anything was.
+    ///
+    /// # Cost
+    ///
+    /// As that of `item`.
     pub fn symbol(&self, number: u32) -> Option<&CellChange>
         ensures { option_copied result ≡ slot_change_at self.now.symbols number }
     {
@@ -101,6 +113,10 @@ impl Writes {
     }
 
     /// Writes an item, which had the value `before` in the first of the two layouts.
+    ///
+    /// # Cost
+    ///
+    /// As that of `item`.
     pub fn set_item(
         &mut self,
         id: ItemId,
@@ -115,6 +131,10 @@ impl Writes {
     }
 
     /// Writes a symbol, which had the slot `before` in the first of the two layouts.
+    ///
+    /// # Cost
+    ///
+    /// As that of `item`.
     pub fn set_symbol(
         &mut self,
         number: u32,
@@ -128,6 +148,10 @@ impl Writes {
     }
 
     /// Returns the layout with the values after. Where nothing was written it is the same layout, shared.
+    ///
+    /// # Cost
+    ///
+    /// That of `Version::with`.
     pub fn applied(&self, alloc: Global, layout: &Snapshot) -> Result<Snapshot, NoMemory>
         requires proper { AreProper self.now }
         requires sound { IsSound (applied layout.now self.now) }
@@ -139,6 +163,10 @@ impl Writes {
     }
 
     /// Returns the layout with the values before. Where nothing was written it is the same layout, shared.
+    ///
+    /// # Cost
+    ///
+    /// That of `Version::with`.
     pub fn reverted(&self, alloc: Global, layout: &Snapshot) -> Result<Snapshot, NoMemory>
         requires proper { AreProper self.now }
         requires sound { IsSound (reverted layout.now self.now) }
@@ -150,6 +178,10 @@ impl Writes {
     }
 
     /// Returns the elements that some record meets: those in which a value lies, before or after.
+    ///
+    /// # Cost
+    ///
+    /// A few insertions for each record.
     pub fn elements(&self, alloc: Global) -> Result<Footprint, NoMemory>
         ensures { IfOk result (λ met. AreMetBy self.now met) }
     {
@@ -160,6 +192,10 @@ impl Writes {
     }
 
     /// Returns whether some record meets an element of the footprint.
+    ///
+    /// # Cost
+    ///
+    /// A few look-ups for each record.
     pub fn touch(&self, footprint: &Footprint) -> bool
         ensures { result ≡ meets_touched self.now footprint.now }
     {

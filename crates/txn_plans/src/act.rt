@@ -52,6 +52,10 @@ impl Model for Act {
 
 impl Act {
     /// Returns the layout after what the act writes. What isn't written is shared.
+    ///
+    /// # Cost
+    ///
+    /// That of `Version::with`.
     pub fn over(&self, alloc: Global, layout: &Version) -> Result<Version, NoMemory>
         ensures { IfOk result (λ new. new ≡ rewritten layout.now self.now.items self.now.symbols) }
     {

@@ -19,6 +19,11 @@ use txn_commands::{CmdFault, Command};
 /// Plans a command on the layout as its transaction sees it, whose next new item has this id. The refusals
 /// come in the order of each command's tests. Any answer can give way to `NoMemory`. `bands` finds the
 /// edges of a Boolean.
+///
+/// # Cost
+///
+/// Of a call that of a search of the calls, of a symbol that is dropped that of a pass over the items, of
+/// an operation that of two flattenings and of `combine`. Of all others a few look-ups.
 pub fn plan(
     rt: &(impl Threads + Sync),
     alloc: Global,

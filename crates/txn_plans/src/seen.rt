@@ -51,6 +51,10 @@ impl<'a> Seen<'a> {
     }
 
     /// Returns the item of this id.
+    ///
+    /// # Cost
+    ///
+    /// Comparisons in proportion to the logarithm of the number of items.
     pub fn item(&self, id: ItemId) -> Option<&'a Item>
         ensures { option_copied result ≡ item_at self.now id }
     {
@@ -61,6 +65,10 @@ impl<'a> Seen<'a> {
     }
 
     /// Returns the slot of the symbol of this number.
+    ///
+    /// # Cost
+    ///
+    /// Comparisons in proportion to the logarithm of the number of symbols.
     pub fn slot(&self, number: u32) -> Option<CellSlot>
         ensures { result ≡ map.get self.now.symbols number }
     {
@@ -81,6 +89,10 @@ impl<'a> Seen<'a> {
     }
 
     /// Returns the layout as a snapshot of its own.
+    ///
+    /// # Cost
+    ///
+    /// That of `Version::with`, where the layout isn't kept.
     pub fn whole(&self, alloc: Global) -> Result<Snapshot, NoMemory>
         ensures value { IfOk result (λ whole. whole ≡ self.now) }
     {

@@ -121,6 +121,10 @@ impl Work {
     }
 
     /// Lends the item of this id as the transaction sees it.
+    ///
+    /// # Cost
+    ///
+    /// Comparisons in proportion to the logarithm of the number of items.
     pub fn item(&self, id: ItemId) -> Option<&Item>
         ensures { option_copied result ≡ item_at (run_so_far self.now).layout id }
     {
@@ -141,6 +145,10 @@ impl Work {
     /// Runs a command in the transaction. The refusals come in the order of the command's tests, and
     /// `TxnFull` after them; any answer can give way to `NoMemory`. A refused command changes nothing.
     /// `bands` finds the edges of a Boolean, which is rounded in as many threads as there are processors.
+    ///
+    /// # Cost
+    ///
+    /// That of its plan, and of `Version::with` once a command needed the whole layout.
     pub fn run(
         &mut self,
         rt: &(impl Threads + Sync),

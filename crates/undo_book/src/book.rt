@@ -107,6 +107,10 @@ impl Book {
     }
 
     /// Ends the history. Returns its layout and its log; all else is dropped.
+    ///
+    /// # Cost
+    ///
+    /// All that is dropped is gone over.
     pub fn end(self) -> (Snapshot, Vec<Logged>)
         ensures layout { result.0 ≡ self.layout }
         ensures log { result.1.items ≡ self.log }

@@ -56,6 +56,13 @@ impl Book {
     /// and that has not ended, or where the layout at its open isn't as its snapshot has it on what it
     /// touched. Refused as `Stale` with the first transaction that a call since its open committed, undid or
     /// redid and that wrote what the work touched; the work has then ended. Only this is logged.
+    ///
+    /// # Cost
+    ///
+    /// That of `agrees` on what the work touched; a look-up by the elements of the footprint in what each
+    /// transaction wrote that was changed since the open; look-ups of the footprint and of the records in
+    /// the index; and that of `Version::with`. A name is kept of each transaction that the work is linked
+    /// to.
     pub fn commit(&mut self, alloc: Global, work: Work) -> Result<TxnId, CommitRefusal>
         ensures step { TakesWork self.old work (commit_step self.old work) result self.new }
         ensures full { is_log_full self.old ≡ true → result ≡ Err (refused BookFault.LogFull work) }

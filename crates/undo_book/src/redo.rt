@@ -17,6 +17,11 @@ impl Book {
     /// `StillLive`, as `Depends` with the first later live transaction that touched what this one wrote,
     /// and as `Moved` with the first earlier one that is linked to it now and wasn't at its commit, or the
     /// other way round. All but `LogFull` and `NoMemory` are logged.
+    ///
+    /// # Cost
+    ///
+    /// Look-ups of the records and of the footprint in the index, a look-up for each transaction that it
+    /// has seen, and that of `Version::with`.
     pub fn redo(&mut self, alloc: Global, session: u8, txn: TxnId) -> Result<(), BookFault>
         requires low { 1 ≤ session }
         requires high { session ≤ 64 }

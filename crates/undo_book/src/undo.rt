@@ -16,6 +16,10 @@ impl Book {
     /// Undoes a committed transaction, of any session. Refused as `LogFull`, then as `NoTxn`, as `NotLive`,
     /// and as `Depends` with the first later live transaction that touched what this one wrote. All but
     /// `LogFull` and `NoMemory` are logged.
+    ///
+    /// # Cost
+    ///
+    /// Look-ups of the records in the index, and that of `Version::with`.
     pub fn undo(&mut self, alloc: Global, session: u8, txn: TxnId) -> Result<(), BookFault>
         requires low { 1 ≤ session }
         requires high { session ≤ 64 }

@@ -29,6 +29,10 @@ impl Model for Elements {
 
 impl Elements {
     /// Returns those of the footprint.
+    ///
+    /// # Cost
+    ///
+    /// A pass over the elements.
     pub fn of(alloc: Global, footprint: &Footprint) -> Result<Elements, NoMemory>
         ensures { IfOk result (λ elements. elements ≡ footprint.now) }
     {
@@ -41,6 +45,10 @@ impl Elements {
     }
 
     /// Returns those that some record of the writes meets.
+    ///
+    /// # Cost
+    ///
+    /// A few insertions for each record.
     pub fn met_by(alloc: Global, writes: &Writes) -> Result<Elements, NoMemory>
         ensures { IfOk result (λ met. AreMetBy writes.now met) }
     {

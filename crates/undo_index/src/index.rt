@@ -30,6 +30,10 @@ impl Index {
 
     /// Lists a transaction as live, with the elements that it wrote and those that it touched. Out of memory
     /// all stays as it was where it isn't listed.
+    ///
+    /// # Cost
+    ///
+    /// That of `Listing::add`.
     pub fn enter(
         &mut self,
         met: &Elements,
@@ -50,6 +54,10 @@ impl Index {
     }
 
     /// Lists a transaction as live no longer.
+    ///
+    /// # Cost
+    ///
+    /// That of `Listing::remove`.
     pub fn leave(&mut self, met: &Elements, footprint: &Elements, place: usize)
         ensures writers { AreRemoved self.old.writers met.now place self.new.writers }
         ensures readers { AreRemoved self.old.readers footprint.now place self.new.readers }
