@@ -5,16 +5,6 @@ use std::alloc::Global;
 use std::collections::BTreeMap;
 use std::test::*;
 
-impl PageKey for u32 {
-    ghost use Rattle.std.specs.FinMap.{nat_cmp-IsAntisymmetric};
-
-    ghost exact = { nat_cmp-IsAntisymmetric };
-}
-
-impl Kept for u32 {
-    ghost same = { λ value copy is. is };
-}
-
 // Could catch a page that is cut before it is full, or in the middle where it grows at its end, and empty
 // pages that are kept.
 #[test]

@@ -1,6 +1,6 @@
 -- The names of the transactions at the places that are listed.
 use Rattle.std.proofs.Common.{◌≡◌, ℕ, ◌+◌, ◌-◌, ◌<◌, ◌≤◌, ◌==◌, zero, suc, Bool, true, false, cond, ◌||◌, ◌&&◌, List, [], ◌∷◌, length}
-use Rattle.std.proofs.Common.{◌++◌, Option, None, Some, option_map, drop, get_or, refl, sym, ap, subst, ◌∙◌, arith, slice_get}
+use Rattle.std.proofs.Common.{◌++◌, Option, None, Some, option_map, drop, drop-cons, get_or, refl, sym, ap, subst, ◌∙◌, arith, slice_get}
 use Rattle.std.specs.Prelude.{nat_lt}
 use Rattle.std.proofs.lemmas.Bool.Decides.{Decides-eqb, nat_tests}
 use Rattle.std.specs.FinSet.{items}
@@ -15,7 +15,7 @@ use Rattle.undo_entries.proofs.AnyLemmas.{any_alike, any_none}
 use Rattle.undo_rules.specs.Links.{Entry, links_to}
 use Rattle.undo_entries.specs.First.{has_place}
 use Rattle.undo_entries.specs.Listed.{Listed, is_listed}
-use Rattle.undo_entries.proofs.ApartLemmas.{above, below_all, drop_next, further}
+use Rattle.undo_entries.proofs.ApartLemmas.{above, below_all, further}
 use Rattle.undo_entries.specs.Indexed.{Lists, is_linked, name_at, wrote}
 use Rattle.undo_entries.proofs.IndexedLemmas.{any_live}
 
@@ -168,4 +168,4 @@ named_next name places i d names more o less is pushed so_far =
     ap (λ j. more ++ filter_map name (drop j places)) next
     ∙ pushed (filter_map name (drop (suc i) places))
     ∙ ap (λ p. names ++ cons_option p (filter_map name (drop (suc i) places))) is
-    ∙ sym (ap (λ ks. names ++ filter_map name ks) (drop_next places i d less)) ∙ so_far
+    ∙ sym (ap (λ ks. names ++ filter_map name ks) (drop-cons places i d less)) ∙ so_far

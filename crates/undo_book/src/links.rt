@@ -1,8 +1,6 @@
 //! Which transactions touched what others wrote.
 ghost use Rattle.std.specs.Prelude.{◌≡◌, ◌<◌, ℕ, ◌||◌, ◌&&◌, ◌++◌, List, IfOk, OnOk, drop, length, map, nat_lt};
 ghost use Rattle.std.specs.List.{cons_option, filter_map, list_any};
-ghost use Rattle.std.specs.List.Sorted.{IsStrictlySortedBy};
-ghost use Rattle.std.specs.Ordering.{nat_cmp};
 ghost use Rattle.undo_entries.specs.Homes.{AreMetBy};
 ghost use Rattle.undo_rules.specs.Books.{changed_by, changed_in};
 ghost use Rattle.undo_rules.specs.Links.{AreNamed, first_reader, links_to, trace_of};
@@ -15,7 +13,7 @@ use lay_point::NoMemory;
 use std::alloc::Global;
 use std::collections::BTreeMap;
 use txn_commands::TxnId;
-use undo_entries::{Elements, Entry, Index, first_apart, put_in_order};
+use undo_entries::{Elements, Entry, Index, Places, first_apart};
 use undo_rules::{Answer, Call, Logged};
 
 /// Returns the first live transaction from this place on that touched what another one wrote, of which the
@@ -58,7 +56,7 @@ pub(crate) fn first_moved(
     let entry = &entries[place];
     let linked = index.writers.all_among(alloc, &entry.footprint, place)?;
     let seen = places_of(alloc, places, entry.seen.as_slice(), place)?;
-    Ok(named_at(entries, first_apart(linked.as_slice(), seen.as_slice())))
+    Ok(named_at(entries, first_apart(&linked, &seen)))
 }
 
 /// Returns the places below this one at which transactions of these names stand, in rising order.
@@ -67,17 +65,15 @@ fn places_of(
     places: &BTreeMap<(u8, u16), usize>,
     names: &[TxnId],
     below: usize,
-) -> Result<Vec<usize>, NoMemory>
-    ensures rising { IfOk result (λ found. IsStrictlySortedBy nat_cmp found.items) }
-    ensures places { IfOk result (λ found. (p : ℕ) → has_place found.items p
+) -> Result<Places, NoMemory>
+    ensures { IfOk result (λ found. (p : ℕ) → has_place found p
         ≡ (nat_lt p below && list_any (stands_at places.now.entries p) names.now)) }
 {
     let mut found = Vec::new(alloc);
     for name in names {
         place_of(places, *name, below, &mut found)?;
     }
-    put_in_order(&mut found);
-    Ok(found)
+    Ok(Places::of(found))
 }
 
 /// Adds the place at which the transaction of this name stands, where that is below the other one.

@@ -18,4 +18,4 @@ pub use changes::{Changes, is_before};
 pub use entry::{Entry, mark_at};
 pub use session::{Pending, SessionState, end_pending, unused_sessions};
 pub use txn_work::{Bands, Command, TxnId, Work};
-pub use undo_index::{Elements, Footprint, Index, first_apart, put_in_order};
+pub use undo_index::{Elements, Footprint, Index, Places, first_apart};

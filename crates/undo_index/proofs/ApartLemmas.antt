@@ -183,11 +183,6 @@ apart_first (x ∷ xs) (y ∷ ys) one other = by (y == x) refl (nat_lt y x) refl
 
 -- ---- as they are compared
 
-pub drop_next : (xs : List ℕ) (i d : ℕ) → i < length xs → drop i xs ≡ get_or xs i d ∷ drop (suc i) xs
-drop_next [] i d less = absurd (omega (arith, less))
-drop_next (x ∷ xs) zero d less = refl
-drop_next (x ∷ xs) (suc i) d less = drop_next xs i d (omega (arith, less))
-
 pub no_places : (xs : List ℕ) → length xs ≡ 0 → xs ≡ []
 no_places [] none = refl
 no_places (x ∷ xs) none = absurd (omega (arith, none))

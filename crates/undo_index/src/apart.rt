@@ -1,23 +1,20 @@
 //! Places that one of two lists has alone.
 ghost use Rattle.std.specs.Prelude.{◌≡◌};
-ghost use Rattle.std.specs.List.Sorted.{IsStrictlySortedBy};
-ghost use Rattle.std.specs.Ordering.{nat_cmp};
 ghost use Rattle.undo_index.specs.First.{IsFirst, first_of, has_place, is_apart};
 
 use crate::listing::lesser;
+use crate::places::Places;
 
-/// Returns the least place that one of the two lists has and the other hasn't. In each the places rise.
+/// Returns the least place that one of the two has and the other hasn't.
 ///
 /// # Cost
 ///
 /// As many steps as the two have places in common before that one.
-pub fn first_apart(one: &[usize], other: &[usize]) -> Option<usize>
-    requires one { IsStrictlySortedBy nat_cmp one.now }
-    requires other { IsStrictlySortedBy nat_cmp other.now }
+pub fn first_apart(one: &Places, other: &Places) -> Option<usize>
     ensures { IsFirst (λ p. is_apart (has_place one.now p) (has_place other.now p)) 0 result }
 {
-    let mut left = other;
-    for place in one {
+    let mut left = other.as_slice();
+    for place in one.as_slice() {
         match left.split_first() {
             Some((next, behind)) if *next == *place => left = behind,
             _ => return lesser(Some(*place), first_of(left)),

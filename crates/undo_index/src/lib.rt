@@ -3,7 +3,7 @@
 //! A [`Listing`] has places listed under elements, in order. An [`Index`] has two of them: the live
 //! transactions that wrote an element, and those that touched it. So who wrote what a footprint has, and who
 //! touched what was written, is looked up by elements, and not asked of each transaction. [`first_apart`]
-//! compares the places that are linked with those that were, both brought in order by [`put_in_order`].
+//! compares the places that are linked with those that were, both as [`Places`], which rise.
 //!
 //! [`Elements`] are those of a footprint that doesn't grow any more, in a list.
 //!
@@ -14,9 +14,11 @@ mod apart;
 mod elements;
 mod index;
 mod listing;
+mod places;
 
 pub use apart::first_apart;
 pub use elements::Elements;
 pub use index::Index;
-pub use listing::{Listing, put_in_order};
+pub use listing::Listing;
+pub use places::Places;
 pub use txn_marks::{Footprint, Writes, agrees};

@@ -2,12 +2,11 @@
 ghost use Rattle.std.specs.Prelude.{◌≡◌, ℕ, ◌++◌, ◌||◌, ◌&&◌, IfOk, OnErr, OnOk, map, nat_lt};
 ghost use Rattle.std.specs.FinSet as set;
 ghost use Rattle.std.specs.List.{list_any};
-ghost use Rattle.std.specs.List.Sorted.{IsStrictlySortedBy};
-ghost use Rattle.std.specs.Ordering.{nat_cmp};
 ghost use Rattle.undo_index.specs.First.{IsFirst, has_place, lesser};
 ghost use Rattle.undo_index.specs.Listed.{AreAdded, AreRemoved, IsNew, is_listed, nothing_listed, pairs_below};
 
 use crate::elements::Elements;
+use crate::places::Places;
 use lay_point::NoMemory;
 use std::alloc::Global;
 use std::collections::BTreeSet;
@@ -99,17 +98,15 @@ impl Listing {
         alloc: Global,
         elements: &Elements,
         below: usize,
-    ) -> Result<Vec<usize>, NoMemory>
-        ensures rising { IfOk result (λ places. IsStrictlySortedBy nat_cmp places.items) }
-        ensures places { IfOk result (λ places. (p : ℕ) → has_place places.items p
+    ) -> Result<Places, NoMemory>
+        ensures { IfOk result (λ places. (p : ℕ) → has_place places p
             ≡ (nat_lt p below && list_any (λ e. is_listed self.now e p) (set.items elements.now))) }
     {
         let mut places = Vec::new(alloc);
         for element in elements.as_slice() {
             self.gather(*element, below, &mut places)?;
         }
-        put_in_order(&mut places);
-        Ok(places)
+        Ok(Places::of(places))
     }
 
     /// Lists the place under the element.
@@ -167,19 +164,6 @@ fn gather_under(
         places.push(pair.1)?;
     }
     Ok(())
-}
-
-/// Brings places in rising order, each once.
-///
-/// # Cost
-///
-/// One step for each where they are in order, else by the logarithm of their number.
-pub fn put_in_order(places: &mut Vec<usize>)
-    ensures rising { IsStrictlySortedBy nat_cmp places.new.items }
-    ensures same { (p : ℕ) → has_place places.new.items p ≡ has_place places.old.items p }
-{
-    places.sort_unstable();
-    places.dedup();
 }
 
 /// Returns the lesser one of two places, of which either may be missing.

@@ -9,10 +9,10 @@ use Rattle.undo_book.proofs.book.Book.links_to.Goals as goal
 pub returns : goal.returns
 returns c =
     let es = c.self.inside.entries.items in
-    let keys = c.in_ok-places.places.items in
+    let keys = c.in_ok-places.places in
     let names : c.in_ok-names.names.items ≡ filter_map (name_at es) keys = search rules in
     let end : c.len-end.result ≡ length es = search rules in
     names
     ∙ links_so c.args.footprint.now c.self.inside.index.writers es keys c.len-end.result c.self.invariant.index.writers end
-    c.in_ok-places.ensures.rising c.in_ok-places.ensures.places
+    c.as_slice.ensures.rising c.in_ok-places.ensures
     ∙ ap (λ (h : History). links_to h.entries c.args.footprint.now) c.self.view_is
