@@ -6,38 +6,26 @@ ghost use Rattle.lay_layouts.specs.LayoutWith.{numbered_from};
 use crate::numbered::text_id;
 use cif_read::{Element, Figure};
 use lay_layouts::{Item, ItemId, Pages, PagesBuilder, Rings, one_more};
-use lay_point::NoMemory;
+use lay_point::{Given, NoMemory};
 use std::alloc::Global;
 
-/// Returns the elements as items under the ids 0.0.1 and on. They are taken from the end of the
-/// list turned round, and its memory is given back on the way, so it doesn't stand whole beside the items.
+/// Returns the elements as items under the ids 0.0.1 and on. What they take is given back on the way, so they don't
+/// stand whole beside the items.
 pub(crate) fn pages_of(
     alloc: Global,
-    mut elements: Vec<Element>,
+    elements: Vec<Element>,
 ) -> Result<Pages<ItemId, Item>, NoMemory>
     ensures { IfOk result
         (λ pages. pages ≡ numbered_from 1 (items_of_elements elements.items)) }
 {
     let mut pages = PagesBuilder::new(alloc);
     let mut seq: u32 = 0;
-    elements.reverse();
-    while let Some(element) = elements.pop() {
+    for element in Given::of(elements) {
         seq = one_more(seq)?;
         pages = pages.push(alloc, text_id(seq), item_of(alloc, element)?)?;
-        give_back(&mut elements);
     }
     let pages = pages.build(alloc)?;
     Ok(pages)
-}
-
-/// Gives back the memory behind the elements once it is a quarter of their list. That is a share
-/// and not a number, so the time is in proportion to theirs even where all that are left are moved.
-fn give_back(elements: &mut Vec<Element>)
-    ensures { elements.new.items ≡ elements.old.items }
-{
-    if elements.len() <= elements.capacity() / 4 * 3 {
-        elements.shrink_to_fit();
-    }
 }
 
 /// Returns an element as an item.

@@ -6,7 +6,8 @@
 //! among them, are equal. A `LayerName` keeps that it is 1 to `MAX_LAYER_NAME` digits and upper-case
 //! letters.
 //! Contracts see a ring as the list of its points, a name as the list of its bytes, and a `Sequence`
-//! as the list of its elements. Parity says whether a place is inside closed paths: `odd` of
+//! as the list of its elements. A `Given` lends a list's elements by value and gives their memory back.
+//! Parity says whether a place is inside closed paths: `odd` of
 //! `specs/Parity.antt`, over the edges of `specs/RingEdges.antt`.
 //!
 //! What may allocate takes the allocator and returns `NoMemory`, or that variant of its fault, where an
@@ -20,6 +21,7 @@
 #![tactic(auto)]
 
 mod edge;
+mod given;
 mod layer_name;
 mod memory;
 mod point;
@@ -30,6 +32,7 @@ mod tests;
 mod turn;
 
 pub use edge::Edge;
+pub use given::Given;
 pub use layer_name::{LayerName, MAX_LAYER_NAME};
 pub use memory::NoMemory;
 pub use point::{LIMIT, Point};

@@ -1,4 +1,4 @@
-use Rattle.std.proofs.Common.{◌≡◌, ◌∙◌, ◌+◌, ◌++◌, List, [], ap, reverse, rules, subst, sym}
+use Rattle.std.proofs.Common.{◌≡◌, ◌∙◌, ◌+◌, ◌++◌, List, [], ap, rules, subst, sym}
 use Rattle.std.proofs.lemmas.List.{append-nil}
 use Rattle.std.specs.List.Sorted.{IsStrictlySortedBy}
 use Rattle.std.specs.Map.{keys_of}
@@ -14,10 +14,10 @@ use Rattle.lay_items.proofs.from_cif.pages_of.Goals as goal
 -- numbers rise
 pub build-requires : goal.build-requires
 build-requires c =
-    let none : c.loop-element.elements.items ≡ [] = search rules in
+    let none : c.loop-element.element-iterator ≡ [] = search rules in
     let all : c.loop-element.pages ≡ numbered_from 1 (items_of_elements c.args.elements.items) =
     sym (append-nil c.loop-element.pages)
-    ∙ ap (λ (es : List Element). c.loop-element.pages ++ numbered_from (c.loop-element.seq + 1) (items_of_elements (reverse es))) (sym none)
+    ∙ ap (λ (es : List Element). c.loop-element.pages ++ numbered_from (c.loop-element.seq + 1) (items_of_elements es)) (sym none)
     ∙ c.loop-element.invariant in
     subst (λ (es : List (ItemId × Item)). IsStrictlySortedBy id_cmp (keys_of es)) (sym all)
     (numbered_sorted 1 (items_of_elements c.args.elements.items))

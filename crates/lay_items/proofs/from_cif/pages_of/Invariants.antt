@@ -1,13 +1,10 @@
-use Rattle.std.proofs.Common.{◌≡◌, ◌+◌, ◌++◌, length, reverse}
+use Rattle.std.proofs.Common.{◌≡◌, ◌+◌, ◌++◌}
 use Rattle.lay_items.specs.FromCif.{items_of_elements}
 use Rattle.lay_layouts.specs.LayoutWith.{numbered_from}
 use Rattle.lay_items.proofs.from_cif.pages_of.Given as goal
 
--- what is numbered, and the elements that are left, turned round again, are all
+-- what is numbered, and the elements that are left, are all
 abbrev pub invariant-loop-element : goal.invariant-loop-element
 invariant-loop-element l =
-    l.pages ++ numbered_from (l.seq + 1) (items_of_elements (reverse l.elements.items))
+    l.pages ++ numbered_from (l.seq + 1) (items_of_elements l.element-iterator)
     ≡ numbered_from 1 (items_of_elements l.fn.elements.items)
-
-abbrev pub decreases-loop-element : goal.decreases-loop-element
-decreases-loop-element l = length l.elements.items
