@@ -1,1 +1,2 @@
 pub use Rattle.lay_page.specs.Written
+pub mod Tops

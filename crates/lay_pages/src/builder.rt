@@ -56,7 +56,7 @@ impl<K: PageKey, V: Kept> PagesBuilder<K, V> {
     {
         let PagesBuilder { entries, len } = self;
         let books = books_of(alloc, entries.end(alloc)?)?;
-        Ok(Pages::of(books, len))
+        Pages::of(alloc, books, len)
     }
 }
 

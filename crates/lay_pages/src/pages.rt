@@ -4,53 +4,72 @@ ghost use Rattle.std.specs.Cmp.Lexicographic.{pointwise};
 ghost use Rattle.std.specs.FinMap.{find};
 ghost use Rattle.std.specs.List.Sorted.{IsStrictlySortedBy};
 ghost use Rattle.std.specs.Map.{keys_of};
-ghost use Rattle.lay_page.specs.Shared.{AreCountedBooks, entries_in, pages_in};
+ghost use Rattle.lay_page.specs.Shared.{AreBooks, AreCountedBooks, entries_in, pages_in};
 ghost use Rattle.lay_page.specs.Written.{after_write, are_equal, count_of, from_key, written_all};
 
 use crate::entries::{Entries, are_same};
 use crate::finder::Finder;
 use crate::look::{count_pages, find};
 use crate::update::books_with;
-use lay_page::{Book, Kept, PageKey, append};
+use lay_page::{Book, Kept, PageKey};
 use std::alloc::{AllocError, Global};
 use std::marker::Model;
+use std::sync::Arc;
 
 /// Entries in order of their keys, in pages of 1 to 64 entries and books of 1 to 64 pages, which maps
 /// share. Contracts see the list of the entries.
 #[derive(Drop)]
 pub struct Pages<K: PageKey, V: Kept> {
-    books: Vec<Book<K, V>>,
+    /// The books. Maps share the list of them too, so the same entries once more take none.
+    books: Option<Arc<Vec<Book<K, V>>>>,
     len: usize,
 }
 
 impl<K: PageKey, V: Kept> Model for Pages<K, V> {
     ghost use Rattle.std.specs.Prelude.{List};
-    ghost use Rattle.lay_page.specs.Shared.{AreCountedBooks, entries_in, pages_in};
+    ghost use Rattle.lay_page.specs.Shared.{AreCountedBooks, entries_in};
+    ghost use Rattle.lay_pages.specs.Tops.{books_in};
 
     ghost Value = { List (K × V) };
 
-    ghost view = { λ p. entries_in (pages_in p.books.items) };
+    ghost view = { λ p. entries_in (books_in p.books) };
 
-    ghost invariant = { λ p. AreCountedBooks K.cmp (pages_in p.books.items) p.len };
+    ghost invariant = { λ p. AreCountedBooks K.cmp (books_in p.books) p.len };
 }
 
 impl<K: PageKey, V: Kept> Pages<K, V> {
     /// Returns no entries.
-    pub fn new(alloc: Global) -> Pages<K, V>
+    pub fn new(_alloc: Global) -> Pages<K, V>
         ensures { result ≡ [] }
     {
         Pages {
-            books: Vec::new(alloc),
+            books: None,
             len: 0,
         }
     }
 
     /// Returns the map of the entries of the books.
-    pub(crate) fn of(books: Vec<Book<K, V>>, len: usize) -> Pages<K, V>
+    pub(crate) fn of(
+        alloc: Global,
+        books: Vec<Book<K, V>>,
+        len: usize,
+    ) -> Result<Pages<K, V>, AllocError>
         requires { AreCountedBooks K.cmp (pages_in books.items) len }
-        ensures { result ≡ entries_in (pages_in books.items) }
+        ensures { IfOk result (λ pages. pages ≡ entries_in (pages_in books.items)) }
     {
-        Pages { books, len }
+        let books = Some(Arc::new(alloc, books)?);
+        Ok(Pages { books, len })
+    }
+
+    /// Lends the books.
+    fn books(&self) -> &[Book<K, V>]
+        ensures entries { entries_in (pages_in result.now) ≡ self.now }
+        ensures books { AreBooks K.cmp (pages_in result.now) }
+    {
+        match &self.books {
+            Some(books) => books,
+            None => &[],
+        }
     }
 
     /// Lends the entries, in order of their keys.
@@ -58,7 +77,7 @@ impl<K: PageKey, V: Kept> Pages<K, V> {
         ensures entries { result ≡ self.now }
         ensures sorted { IsStrictlySortedBy K.cmp (keys_of self.now) }
     {
-        Entries::all(&self.books)
+        Entries::all(self.books())
     }
 
     /// Lends the entries from a key on, in order of their keys.
@@ -70,7 +89,7 @@ impl<K: PageKey, V: Kept> Pages<K, V> {
         ensures entries { result ≡ from_key K.cmp key self.now }
         ensures sorted { IsStrictlySortedBy K.cmp (keys_of result) }
     {
-        Entries::from(&self.books, key)
+        Entries::from(self.books(), key)
     }
 
     /// Returns whether others are the same values under the same keys.
@@ -94,14 +113,14 @@ impl<K: PageKey, V: Kept> Pages<K, V> {
     pub fn get(&self, key: K) -> Option<&V>
         ensures { option_copied result ≡ find K.cmp key self.now }
     {
-        find(&self.books, key)
+        find(self.books(), key)
     }
 
     /// Returns what finds values, with few comparisons where a key is near the last.
     pub fn finder(&self) -> Finder<'_, K, V>
         ensures { result ≡ self.now }
     {
-        Finder::new(&self.books)
+        Finder::new(self.books())
     }
 
     /// Returns the number of entries.
@@ -121,7 +140,7 @@ impl<K: PageKey, V: Kept> Pages<K, V> {
         ensures few { result ≤ length self.now }
         ensures full { length self.now ≤ 64 * result }
     {
-        count_pages(&self.books, self.len)
+        count_pages(self.books(), self.len)
     }
 
     /// Returns the entries after a write: under the key is this value from then on, or none.
@@ -135,8 +154,8 @@ impl<K: PageKey, V: Kept> Pages<K, V> {
         ensures sorted { IfOk result (λ new. IsStrictlySortedBy K.cmp (keys_of new)) }
     {
         let len = self.len_with(key, &value)?;
-        let books = books_with(alloc, &self.books, key, value)?;
-        Ok(Pages { books, len })
+        let books = books_with(alloc, self.books(), key, value)?;
+        Pages::of(alloc, books, len)
     }
 
     /// Returns the number of entries after a write, where a `usize` has it.
@@ -175,17 +194,15 @@ impl<K: PageKey, V: Kept> Pages<K, V> {
         Ok(new)
     }
 
-    /// Returns the same entries once more.
-    ///
-    /// # Cost
-    ///
-    /// Copies the list of the books.
-    pub fn share(&self, alloc: Global) -> Result<Pages<K, V>, AllocError>
+    /// Returns the same entries once more. The allocator is not used.
+    pub fn share(&self, _alloc: Global) -> Result<Pages<K, V>, AllocError>
         ensures entries { IfOk result (λ new. new ≡ self.now) }
         ensures sorted { IfOk result (λ new. IsStrictlySortedBy K.cmp (keys_of new)) }
     {
-        let mut books = Vec::new(alloc);
-        append(&mut books, &self.books)?;
+        let books = match &self.books {
+            Some(books) => Some(Arc::try_clone(books)?),
+            None => None,
+        };
         Ok(Pages {
             books,
             len: self.len,

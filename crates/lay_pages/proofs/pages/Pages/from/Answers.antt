@@ -1,17 +1,14 @@
-use Rattle.std.proofs.Common.{◌≡◌, ◌∙◌, List, ap, subst, sym}
+use Rattle.std.proofs.Common.{List, subst, sym}
 use Rattle.std.specs.Prelude.{not}
 use Rattle.std.specs.List.Sorted.{IsStrictlySortedBy}
 use Rattle.std.specs.Map.{keys_of}
 use Rattle.std.specs.Ordering.{is_lt}
 use Rattle.lay_page.specs.Shared.{entries_in, pages_in}
-use Rattle.lay_page.specs.Written.{from_key}
 use Rattle.lay_page.proofs.OrderLemmas.{sorted-kept}
 use Rattle.lay_pages.proofs.pages.Pages.from.Goals as goal
 
 pub returns-clause-sorted : goal.returns-clause-sorted
 returns-clause-sorted g c =
-    let all = entries_in (pages_in c.self.inside.books.items) in
-    let is : c.from.result ≡ from_key g.K.Ord.cmp c.args.key all =
-    c.from.ensures ∙ ap (λ (s : List _). from_key g.K.Ord.cmp c.args.key (entries_in (pages_in s))) c.deref.ensures.value in
-    subst (λ (es : List (g.row.K.Denot × g.row.V.Denot)). IsStrictlySortedBy g.K.Ord.cmp (keys_of es)) (sym is)
-    (sorted-kept g.met.K.Ord.total g.met.K.PageKey.exact (λ k. not (is_lt (g.K.Ord.cmp k c.args.key))) all c.self.invariant.kept.sorted)
+    subst (λ (es : List (g.row.K.Denot × g.row.V.Denot)). IsStrictlySortedBy g.K.Ord.cmp (keys_of es)) (sym c.from.ensures)
+    (sorted-kept g.met.K.Ord.total g.met.K.PageKey.exact (λ k. not (is_lt (g.K.Ord.cmp k c.args.key)))
+    (entries_in (pages_in c.books.result.now)) c.books.ensures.books.sorted)
