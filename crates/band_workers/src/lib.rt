@@ -17,8 +17,6 @@ mod gate;
 mod joined;
 mod one_band;
 mod scoped_bands;
-#[cfg(test)]
-mod tests;
 
 pub use bands::Bands;
 pub use gate::{Gate, OpenGate};

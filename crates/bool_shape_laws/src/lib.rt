@@ -8,8 +8,6 @@
 
 mod laws;
 mod limits;
-#[cfg(test)]
-mod tests;
 
 pub use face_labels::Op;
 pub use laws::{parts_are_unique, shapes_tell_places};

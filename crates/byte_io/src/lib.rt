@@ -26,8 +26,6 @@ mod decimal;
 mod device;
 mod input;
 mod memory;
-#[cfg(test)]
-mod tests;
 
 pub use buffer::OutBuffer;
 pub use count::GhostCount;

@@ -26,8 +26,6 @@ mod names;
 mod numbers;
 mod pieces;
 mod place;
-#[cfg(test)]
-mod tests;
 mod words;
 mod woven;
 

@@ -18,8 +18,6 @@ mod bounds;
 mod cut;
 mod forest;
 mod joining;
-#[cfg(test)]
-mod tests;
 
 pub use bounds::{Bounds, bounds_of};
 pub use joining::joined_heads;

@@ -23,8 +23,6 @@
 mod finds;
 mod labels;
 mod line;
-#[cfg(test)]
-mod tests;
 
 pub use face_sides::{Band, Op, operations_have_laws, row_edges};
 pub use labels::label;

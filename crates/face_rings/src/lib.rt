@@ -23,8 +23,6 @@ mod dividing;
 mod fault;
 mod incidence;
 mod linking;
-#[cfg(test)]
-mod tests;
 
 pub use bridging::bridge;
 pub use dividing::parts;

@@ -19,8 +19,6 @@ mod cif_words;
 mod job_words;
 mod line;
 mod place;
-#[cfg(test)]
-mod tests;
 mod window;
 
 pub use advice::{of_cif_fault, of_job_fault};

@@ -22,8 +22,6 @@
 
 mod call_graph;
 mod tally;
-#[cfg(test)]
-mod tests;
 
 pub use call_graph::CallGraph;
 pub use lay_calls::{CellId, Cells, MAX_SYMBOL};

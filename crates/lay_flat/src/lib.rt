@@ -20,8 +20,6 @@ mod flat;
 mod flattening;
 mod graph;
 mod lending;
-#[cfg(test)]
-mod tests;
 
 pub use fault::FlatFault;
 pub use flat::{Flat, FlatRing, MAX_DEPTH, MAX_RINGS};

@@ -19,8 +19,6 @@ mod from_cif;
 mod item_map;
 mod numbered;
 mod snapshot;
-#[cfg(test)]
-mod tests;
 mod version;
 
 pub use cif_read::{CallGraph, read};

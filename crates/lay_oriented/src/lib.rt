@@ -12,7 +12,5 @@
 #![tactic(auto)]
 
 mod directing;
-#[cfg(test)]
-mod tests;
 
 pub use directing::{Directed, oriented_layout};

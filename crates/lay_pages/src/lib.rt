@@ -11,8 +11,6 @@ mod entries;
 mod finder;
 mod look;
 mod pages;
-#[cfg(test)]
-mod tests;
 mod update;
 
 pub use builder::PagesBuilder;

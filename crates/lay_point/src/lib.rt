@@ -27,8 +27,6 @@ mod memory;
 mod point;
 mod ring;
 mod sequence;
-#[cfg(test)]
-mod tests;
 mod turn;
 
 pub use edge::Edge;

@@ -19,8 +19,6 @@ mod once;
 mod orienting;
 mod slant;
 mod sweep;
-#[cfg(test)]
-mod tests;
 
 pub use laws::winding_has_laws;
 pub use orienting::{Oriented, orient};

@@ -17,8 +17,6 @@ mod counting;
 mod edges;
 mod fault;
 mod shapes;
-#[cfg(test)]
-mod tests;
 mod turning;
 
 pub use band_workers::Bands;

@@ -26,8 +26,6 @@ mod ear;
 mod ending;
 mod put;
 mod run;
-#[cfg(test)]
-mod tests;
 
 pub use ending::LiveEnd;
 pub use job_live::{Machine, Step};

@@ -32,8 +32,6 @@ mod clean_edges;
 mod owner_lists;
 mod rounded;
 mod rounding;
-#[cfg(test)]
-mod tests;
 
 pub use checking::check_clean;
 pub use clean_edges::{CleanEdges, CleanFault};

@@ -11,8 +11,6 @@
 #![tactic(auto)]
 
 mod laws;
-#[cfg(test)]
-mod tests;
 
 pub use laws::{commands_have_laws, records_have_laws, runs_have_laws};
 pub use txn_commands::{

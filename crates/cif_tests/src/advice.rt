@@ -1,0 +1,167 @@
+//! Tests of the words, which no clause pins.
+
+use cif_content::CifFault;
+use cif_read::read;
+use job_advice::*;
+use std::alloc::Global;
+use std::str::from_utf8;
+use std::test::*;
+
+/// The fault of a CIF text, which has one.
+fn fault_of(alloc: Global, text: &[u8]) -> Result<CifFault, Fail> {
+    match read(alloc, text) {
+        Ok(_) => Err("the text is read".into()),
+        Err(fault) => Ok(fault),
+    }
+}
+
+/// Whether the lines begin so and have these words.
+fn tells(lines: &[u8], begins: &str, words: &str) -> bool {
+    match from_utf8(lines) {
+        Ok(lines) => lines.starts_with(begins) && lines.contains(words),
+        Err(_) => false,
+    }
+}
+
+// Could catch a place that counts from the CIF text in place of the job, a caret under another byte, and a line that is cut.
+#[test]
+fn a_wire_is_shown_where_it_is(rt: HostRuntime) -> Result<(), Fail> {
+    let job = b"\n%cif\nL NM;\n  B 40 20 0 0; W 10 0 0 40 0; E\n";
+    let fault = fault_of(rt.alloc(), &job[6..])?;
+    let want =
+        "masklay: line 4, column 16: a wire, which isn't read\n    B 40 20 0 0; W 10 0 0 40 0; E\n                 ^\n  Write the polygon";
+    let lines = of_cif_fault(rt.alloc(), job, fault)?;
+    assert!(rt; tells(&lines, want, "In KLayout turn paths into polygons"));
+    Ok(())
+}
+
+/// Whether a job of this text is answered by lines that begin so and have these words.
+fn has_words(alloc: Global, text: &[u8], begins: &str, words: &str) -> Result<bool, Fail> {
+    let fault = fault_of(alloc, text)?;
+    let mut job: Vec<u8> = Vec::new(alloc);
+    job.extend_from_slice(b"%cif\n")?;
+    job.extend_from_slice(text)?;
+    let lines = of_cif_fault(alloc, &job, fault)?;
+    Ok(tells(&lines, begins, words))
+}
+
+// Could catch words that go with another kind of fault. The places are those that the profile of CIF gives.
+#[test]
+fn a_command_that_is_not_read_has_its_words(rt: HostRuntime) -> Result<(), Fail> {
+    let rows: [(&[u8], &str, &str); 5] = [
+        (
+            b"L A; B 2 2 0 0;",
+            "masklay: line 2, column 16: the text ends",
+            "with `E`",
+        ),
+        (
+            b"B 2 2 0; E",
+            "masklay: line 2, column 1: this isn't a command",
+            "`B length width x y;`",
+        ),
+        (
+            b"R 4 0 0; E",
+            "masklay: line 2, column 1: a round flash",
+            "Write a box or a polygon",
+        ),
+        (
+            b"DD 1; E",
+            "masklay: line 2, column 1: a deletion",
+            "number of its own",
+        ),
+        (
+            b"X 1; E",
+            "masklay: line 2, column 1: this isn't a command",
+            "Lower-case letters are blanks",
+        ),
+    ];
+    for (text, begins, words) in rows {
+        assert!(rt; has_words(rt.alloc(), text, begins, words)?, "{begins}");
+    }
+    Ok(())
+}
+
+// Could catch words that go with another kind of fault. The places are those that the profile of CIF gives.
+#[test]
+fn a_fault_of_a_symbol_has_its_words(rt: HostRuntime) -> Result<(), Fail> {
+    let rows: [(&[u8], &str, &str); 5] = [
+        (
+            b"DS 1; DF; C 1 R 1 1; E",
+            "masklay: line 2, column 11: a direction",
+            "just one is 0",
+        ),
+        (
+            b"DS 1; DF; DS 1; DF; E",
+            "masklay: line 2, column 11: a second definition",
+            "number of its own",
+        ),
+        (
+            b"C 3; E",
+            "masklay: line 2, column 1: a call of a symbol",
+            "Define the symbol",
+        ),
+        (
+            b"DS 1; C 1; DF; E",
+            "masklay: line 2, column 7: a call by which",
+            "circle",
+        ),
+        (
+            b"DS 1 0 2; DF; E",
+            "masklay: line 2, column 1: a scale with a 0",
+            "at least 1",
+        ),
+    ];
+    for (text, begins, words) in rows {
+        assert!(rt; has_words(rt.alloc(), text, begins, words)?, "{begins}");
+    }
+    Ok(())
+}
+
+// Could catch words that go with another kind of fault. The places are those that the profile of CIF gives.
+#[test]
+fn a_fault_of_a_shape_or_of_the_end_has_its_words(rt: HostRuntime) -> Result<(), Fail> {
+    let rows: [(&[u8], &str, &str); 5] = [
+        (
+            b"B 2 2 0 0; E",
+            "masklay: line 2, column 1: a shape where no layer",
+            "Write `L NAME;`",
+        ),
+        (
+            b"DS 1 1 3;\nL A; B 2 2 0 0; DF; C 1; E",
+            "masklay: line 3, column 6: a distance",
+            "5 nanometres",
+        ),
+        (
+            b"L A; P 0 0 9999999999 1 1 1; E",
+            "masklay: line 2, column 6: a number or",
+            "2,147,483,647",
+        ),
+        (
+            b"E X",
+            "masklay: line 2, column 3: something comes after `E`",
+            "Take it away",
+        ),
+        (
+            b"L ABCDEFGHIJKLMNOPQ; E",
+            "masklay: line 2, column 1: a layer's name",
+            "shorter name",
+        ),
+    ];
+    for (text, begins, words) in rows {
+        assert!(rt; has_words(rt.alloc(), text, begins, words)?, "{begins}");
+    }
+    Ok(())
+}
+
+// Could catch the form of another step, and a line that is counted from 0.
+#[test]
+fn a_line_of_a_job_is_shown_with_its_form(rt: HostRuntime) -> Result<(), Fail> {
+    let job = b"%cif\nE\n%session 1\nopen\n  box top M 0 0 1\n";
+    let lines = of_job_fault(rt.alloc(), job, 5)?;
+    let want =
+        "masklay: line 5, column 3: this line isn't as it has to be\n    box top M 0 0 1\n    ^\n  `box CELL LAYER X1 Y1 X2 Y2`";
+    assert!(rt; tells(&lines, want, ""));
+    let too_long = of_job_fault(rt.alloc(), job, 0)?;
+    assert!(rt; tells(&too_long, "masklay: the job has more", "16,777,216"));
+    Ok(())
+}

@@ -1,0 +1,12 @@
+//! Tests of the crates of the text and its words, by their public calls alone.
+//!
+//! A crate with tests is proved twice, with them and without, so they stand in a crate of their own. Nothing
+//! stands on it.
+#![tactic(auto)]
+
+#[cfg(test)]
+mod advice;
+#[cfg(test)]
+mod names;
+#[cfg(test)]
+mod streams;

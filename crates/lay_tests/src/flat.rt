@@ -1,0 +1,59 @@
+//! Tests of what no clause says: that calls succeed, and that definitions mean what they should.
+
+use lay_calls::CellId;
+use lay_flat::*;
+use lay_items::{Snapshot, read};
+use lay_point::{LayerName, Point};
+use std::test::*;
+
+// Could catch calls that fail though there is memory.
+#[test]
+fn a_box_is_lent_as_it_is(rt: HostRuntime) -> Result<(), Fail> {
+    let alloc = rt.alloc();
+    let snapshot = Snapshot::from_cif(alloc, read(alloc, b"L A; B 5 3 0 0; E")?)?;
+    let layer = LayerName::new(b"A").ok_or("no layer name")?;
+    let flat = flatten(alloc, &snapshot, CellId::Top, &layer)?;
+    assert_eq!(rt; flat.rings().len(), 1);
+    for ring in flat.rings() {
+        assert_eq!(rt; ring.points.len(), 4);
+        assert_eq!(rt; ring.shape_no, 0);
+    }
+    let none = flatten(alloc, &snapshot, CellId::Symbol(1), &layer);
+    assert!(rt; none.is_err());
+    Ok(())
+}
+
+/// Returns whether the ring's points are these, and where its turn takes each.
+fn is_turned(ring: &FlatRing<'_>, points: &[Point], turned: &[Point]) -> bool {
+    for (point, wanted) in points.iter().zip(turned.iter()) {
+        if ring.turn.apply(*point) != Some(*wanted) {
+            return false;
+        }
+    }
+    ring.points == points
+}
+
+fn point(x: i32, y: i32) -> Point {
+    Point { x, y }
+}
+
+// Could catch turns composed in the other order, in the definition and the code alike. The values were
+// found by hand: mirrored, shifted by 20, then turned by a quarter; and the rings of the calls in order.
+#[test]
+fn a_triangle_is_mirrored_and_turned(rt: HostRuntime) -> Result<(), Fail> {
+    let alloc = rt.alloc();
+    let text = b"DS 1; L A; P 0 0 2 0 0 1; DF; DS 2; C 1 M X T 10 0; DF; C 2 R 0 1; C 1; E";
+    let snapshot = Snapshot::from_cif(alloc, read(alloc, text)?)?;
+    let layer = LayerName::new(b"A").ok_or("no layer name")?;
+    let flat = flatten(alloc, &snapshot, CellId::Top, &layer)?;
+    let drawn = [point(0, 0), point(4, 0), point(0, 2)];
+    let turned = [point(0, 20), point(0, 16), point(-2, 20)];
+    match flat.rings() {
+        [first, second] => {
+            assert!(rt; is_turned(first, &drawn, &turned));
+            assert!(rt; is_turned(second, &drawn, &drawn));
+        }
+        _ => return Err("there aren't two rings".into()),
+    }
+    Ok(())
+}

@@ -1,0 +1,20 @@
+//! Tests of the layout's crates, by their public calls alone.
+//!
+//! A crate with tests is proved twice, with them and without, so they stand in a crate of their own. Nothing
+//! stands on it.
+#![tactic(auto)]
+
+#[cfg(test)]
+mod cells;
+#[cfg(test)]
+mod flat;
+#[cfg(test)]
+mod items;
+#[cfg(test)]
+mod oriented;
+#[cfg(test)]
+mod pages;
+#[cfg(test)]
+mod points;
+#[cfg(test)]
+mod winding;

@@ -1,0 +1,88 @@
+//! Tests of what no clause says: that a run succeeds, what it writes byte for byte, and devices that fail.
+
+use band_workers::OneBand;
+use byte_io::{Failing, MemoryIn, MemoryOut};
+use live_run::*;
+use std::alloc::Global;
+use std::test::*;
+use std::thread::Threads;
+
+const RUN: &[u8] =
+    b"%cif\nL NM; B 40 20 0 0; E\n%live\n1 open\n1 box top NP 0 0 10 10\n\n2 what\n1 commit\n%write\n2 undo 1.1";
+
+const ANSWERS: &[u8] =
+    b"(1 1 opened 1);\n(1 2 made 1.1.1);\n(fault line 4);\n(1 3 committed);\nDS 1 1 2;\nL NM;\nP -40 -20 40 -20 40 20 -40 20;\nL NP;\nP 0 0 10 0 10 10 0 10;\nDF;\nC 1;\nE\n";
+
+const CLOSING: &[u8] =
+    b"(2 1 undone);\n(order 1 1 1 2);\nDS 1 1 2;\nL NM;\nP -40 -20 40 -20 40 20 -40 20;\nDF;\nC 1;\nE\n";
+
+/// How the run of these lines ends and what it writes, where the input gives so many bytes a read and answers so many reads, and
+/// the output takes so many bytes.
+fn ended(
+    rt: &(impl Threads + Sync),
+    alloc: Global,
+    lines: &[u8],
+    bite: usize,
+    reads: usize,
+    room: usize,
+) -> (LiveEnd, MemoryOut) {
+    let mut input = MemoryIn::new(lines, bite, reads);
+    let mut out = MemoryOut::new(alloc, 7, room, Failing::ByErr);
+    let end = run_live(rt, alloc, &OneBand, &mut input, &mut out);
+    (end, out)
+}
+
+// Could catch a run that gives up, answers that aren't those of the formats, and an answer that depends on the pieces in which
+// the input comes.
+#[test]
+fn each_line_is_answered(rt: HostRuntime) -> Result<(), Fail> {
+    let mut want = Vec::new(rt.alloc());
+    want.extend_from_slice(ANSWERS)?;
+    want.extend_from_slice(CLOSING)?;
+    for bite in [1, 7, 16_384] {
+        let (end, out) = ended(&rt, rt.alloc(), RUN, bite, 1000, 1000);
+        assert!(rt; matches!(end, LiveEnd::Done), "{bite}");
+        assert_eq!(rt; out.written(), want.as_slice(), "{bite}");
+    }
+    Ok(())
+}
+
+// Could catch a contract that no device meets, and a failure that is taken for something else: of the input behind the last
+// whole line, and of the output in an answer.
+#[test]
+fn a_device_that_fails_ends_the_run(rt: HostRuntime) {
+    let (end, out) = ended(&rt, rt.alloc(), RUN, 1, RUN.len() - 3, 1000);
+    assert!(rt; matches!(end, LiveEnd::Device));
+    assert_eq!(rt; out.written(), ANSWERS);
+    let (end, out) = ended(&rt, rt.alloc(), RUN, 16_384, 1000, 20);
+    assert!(rt; matches!(end, LiveEnd::Device));
+    assert_eq!(rt; out.written(), &ANSWERS[..20]);
+}
+
+// Could catch a fault at another place than a person counts it.
+#[test]
+fn a_head_with_a_fault_is_told(rt: HostRuntime) {
+    let rows: [(&[u8], u32, &[u8]); 4] = [
+        (b"", 1, b""),
+        (b"%cif\nE\n", 3, b"%cif\nE\n"),
+        (b"\nE\n%live\n", 2, b"\nE\n"),
+        (
+            b"%cif\nE\n%session 1\nopen\n%live\n1 open\n",
+            5,
+            b"%cif\nE\n%session 1\nopen\n",
+        ),
+    ];
+    for (lines, want, head) in rows {
+        let (end, out) = ended(&rt, rt.alloc(), lines, 3, 1000, 1000);
+        assert!(rt;
+            matches!(&end, LiveEnd::Job { line, text } if *line == want && text.as_slice() == head),
+            "{end:?}"
+        );
+        assert!(rt; out.written().is_empty(), "{want}");
+    }
+    let (end, _) = ended(&rt, rt.alloc(), b"%cif\nW 1;\n%live\n", 3, 1000, 1000);
+    assert!(rt;
+        matches!(&end, LiveEnd::Cif { fault, .. } if fault.offset == 0),
+        "{end:?}"
+    );
+}
