@@ -1,4 +1,4 @@
--- What contracts see of writes, and how they merge.
+-- What contracts see of writes and of records, and how writes merge.
 use Rattle.std.specs.Prelude.{◌≡◌, ℕ, [], ◌∷◌, map, Option}
 use Rattle.std.specs.FinMap as finite
 use Rattle.lay_layouts.specs.declared.id.ItemId.{ItemId}
@@ -7,11 +7,16 @@ use Rattle.lay_layouts.specs.declared.slot.CellSlot.{CellSlot}
 use Rattle.lay_layouts.specs.Layout.{Layout, item_at}
 use Rattle.txn_commands.specs.Records.{Records, cell_record_of, record_of, records_between}
 use Rattle.txn_commands.specs.Writing.{rewritten}
+use Rattle.txn_marks.specs.declared.records.Records.TheInside as records
 use Rattle.txn_marks.specs.declared.writes.Writes.TheInside.{Inside}
 
 -- the records of the two trees, in order
 abbrev pub records_in : Inside → Records
 records_in w = record { items = map record_of w.items.entries; symbols = map cell_record_of w.symbols.entries }
+
+-- those of the two lists
+abbrev pub records_listed : records.Inside → Records
+records_listed r = record { items = map record_of r.items.items; symbols = map cell_record_of r.symbols.items }
 
 -- where the old records are those between two layouts, and the item had this value in the first, the new ones are those
 -- between the first and the second with the item written

@@ -10,16 +10,12 @@ use crate::footprint::Footprint;
 use lay_calls::CellId;
 use lay_layouts::{Item, ItemId};
 use lay_point::NoMemory;
-use std::collections::BTreeMap;
 use txn_commands::Element;
 
 /// Adds the elements in which the values of these items lie, before and after.
-pub(crate) fn add_items(
-    met: &mut Footprint,
-    items: &BTreeMap<ItemId, ItemChange>,
-) -> Result<(), NoMemory>
+pub(crate) fn add_items(met: &mut Footprint, items: &[(ItemId, ItemChange)]) -> Result<(), NoMemory>
     ensures { OnOk result (met.new ≡ with_elements met.old
-        (flat_map record_homes (map record_of items.now.entries))) }
+        (flat_map record_homes (map record_of items.now))) }
 {
     for (id, change) in items {
         add_item(met, *id, change.before())?;
@@ -31,10 +27,10 @@ pub(crate) fn add_items(
 /// Adds the elements of these symbols, where they are there before or after.
 pub(crate) fn add_symbols(
     met: &mut Footprint,
-    symbols: &BTreeMap<u32, CellChange>,
+    symbols: &[(u32, CellChange)],
 ) -> Result<(), NoMemory>
     ensures { OnOk result (met.new ≡ with_elements met.old
-        (flat_map cell_homes (map cell_record_of symbols.now.entries))) }
+        (flat_map cell_homes (map cell_record_of symbols.now))) }
 {
     for (number, change) in symbols {
         if change.before().is_some() || change.after().is_some() {

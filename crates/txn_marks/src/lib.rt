@@ -2,8 +2,9 @@
 //!
 //! [`Writes`] has a record of each item and of each symbol that differ between two layouts, with both
 //! values, in order. It grows write by write: `set_item` and `set_symbol` merge a write with those before
-//! it, so that what is written back to its first value has no record. `applied` and `reverted` lead from
-//! the one layout to the other and back; no command is run again.
+//! it, so that what is written back to its first value has no record. A committed transaction keeps them as
+//! [`Records`], in lists. `applied` and `reverted` lead from the one layout to the other and back; no command
+//! is run again.
 //!
 //! A [`Footprint`] is a set of [`Element`](txn_rules::Element)s. Whether two layouts have the same in each
 //! of them is `agrees`, and whether some record meets one of them is `touches`: each record is looked up by
@@ -17,12 +18,14 @@ mod elements;
 mod footprint;
 mod lying;
 mod met;
+mod records;
 mod same;
 mod values;
 mod writes;
 
 pub use change::{CellChange, ItemChange};
 pub use footprint::Footprint;
+pub use records::Records;
 pub use same::agrees;
 pub use txn_rules::Op;
 pub use writes::Writes;

@@ -6,12 +6,11 @@ use crate::change::{CellChange, ItemChange};
 use crate::footprint::Footprint;
 use lay_calls::CellId;
 use lay_layouts::{Item, ItemId};
-use std::collections::BTreeMap;
 use txn_commands::Element;
 
 /// Returns whether a value of one of these items, before or after, lies in an element of the footprint.
-pub(crate) fn items_touch(items: &BTreeMap<ItemId, ItemChange>, footprint: &Footprint) -> bool
-    ensures { result ≡ are_met footprint.now items.now.entries }
+pub(crate) fn items_touch(items: &[(ItemId, ItemChange)], footprint: &Footprint) -> bool
+    ensures { result ≡ are_met footprint.now items.now }
 {
     for (id, change) in items {
         if is_met(footprint, *id, change.before()) || is_met(footprint, *id, change.after()) {
@@ -22,8 +21,8 @@ pub(crate) fn items_touch(items: &BTreeMap<ItemId, ItemChange>, footprint: &Foot
 }
 
 /// Returns whether one of these symbols, there before or after, is an element of the footprint.
-pub(crate) fn symbols_touch(symbols: &BTreeMap<u32, CellChange>, footprint: &Footprint) -> bool
-    ensures { result ≡ symbols_are_met footprint.now symbols.now.entries }
+pub(crate) fn symbols_touch(symbols: &[(u32, CellChange)], footprint: &Footprint) -> bool
+    ensures { result ≡ symbols_are_met footprint.now symbols.now }
 {
     for (number, change) in symbols {
         if is_symbol_met(footprint, *number, change) {

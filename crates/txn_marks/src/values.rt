@@ -7,14 +7,13 @@ use crate::change::{CellChange, ItemChange, cloned};
 use lay_layouts::{CellSlot, Item, ItemId};
 use lay_point::NoMemory;
 use std::alloc::Global;
-use std::collections::BTreeMap;
 
 /// Returns the writes of items that apply the changes.
 pub(crate) fn item_afters(
     alloc: Global,
-    items: &BTreeMap<ItemId, ItemChange>,
+    items: &[(ItemId, ItemChange)],
 ) -> Result<Vec<(ItemId, Option<Item>)>, NoMemory>
-    ensures { IfOk result (λ writes. writes.items ≡ afters (map record_of items.now.entries)) }
+    ensures { IfOk result (λ writes. writes.items ≡ afters (map record_of items.now)) }
 {
     let mut writes = Vec::with_capacity(alloc, items.len())?;
     for (id, change) in items {
@@ -26,9 +25,9 @@ pub(crate) fn item_afters(
 /// Returns the writes of items that revert the changes.
 pub(crate) fn item_befores(
     alloc: Global,
-    items: &BTreeMap<ItemId, ItemChange>,
+    items: &[(ItemId, ItemChange)],
 ) -> Result<Vec<(ItemId, Option<Item>)>, NoMemory>
-    ensures { IfOk result (λ writes. writes.items ≡ befores (map record_of items.now.entries)) }
+    ensures { IfOk result (λ writes. writes.items ≡ befores (map record_of items.now)) }
 {
     let mut writes = Vec::with_capacity(alloc, items.len())?;
     for (id, change) in items {
@@ -40,10 +39,10 @@ pub(crate) fn item_befores(
 /// Returns the writes of symbols that apply the changes.
 pub(crate) fn symbol_afters(
     alloc: Global,
-    symbols: &BTreeMap<u32, CellChange>,
+    symbols: &[(u32, CellChange)],
 ) -> Result<Vec<(u32, Option<CellSlot>)>, NoMemory>
     ensures { IfOk result (λ writes.
-        writes.items ≡ slot_afters (map cell_record_of symbols.now.entries)) }
+        writes.items ≡ slot_afters (map cell_record_of symbols.now)) }
 {
     let mut writes = Vec::with_capacity(alloc, symbols.len())?;
     for (number, change) in symbols {
@@ -55,10 +54,10 @@ pub(crate) fn symbol_afters(
 /// Returns the writes of symbols that revert the changes.
 pub(crate) fn symbol_befores(
     alloc: Global,
-    symbols: &BTreeMap<u32, CellChange>,
+    symbols: &[(u32, CellChange)],
 ) -> Result<Vec<(u32, Option<CellSlot>)>, NoMemory>
     ensures { IfOk result (λ writes.
-        writes.items ≡ slot_befores (map cell_record_of symbols.now.entries)) }
+        writes.items ≡ slot_befores (map cell_record_of symbols.now)) }
 {
     let mut writes = Vec::with_capacity(alloc, symbols.len())?;
     for (number, change) in symbols {

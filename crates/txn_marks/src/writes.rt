@@ -2,24 +2,18 @@
 ghost use Rattle.std.specs.Prelude.{◌≡◌, [], IfOk, OnErr, OnOk, map, option_copied};
 ghost use Rattle.std.specs.BTreeMap.{IsOrdered, IsUnchanged, Updates};
 ghost use Rattle.lay_layouts.specs.Sound.{IsSound};
-ghost use Rattle.txn_commands.specs.Meets.{meets_touched};
 ghost use Rattle.txn_commands.specs.Records.{
   AreProper,
   applied,
   cell_record_of,
   recorded_change,
   record_of,
-  reverted,
   slot_change_at,
 };
-ghost use Rattle.txn_marks.specs.Homes.{AreMetBy};
 ghost use Rattle.txn_marks.specs.WritesOf.{Merges, MergesSymbol};
 
 use crate::change::{CellChange, ItemChange, cell_change, item_change};
-use crate::elements::{add_items, add_symbols};
-use crate::footprint::Footprint;
-use crate::met::{items_touch, symbols_touch};
-use crate::values::{item_afters, item_befores, symbol_afters, symbol_befores};
+use crate::records::Records;
 use lay_layouts::{CellSlot, Item, ItemId};
 use lay_point::NoMemory;
 use std::alloc::Global;
@@ -39,7 +33,6 @@ pub struct Writes {
 impl Model for Writes {
     ghost use Rattle.txn_commands.specs.Records.{Records};
     ghost use Rattle.txn_marks.specs.Coded.{coded_records};
-    ghost use Rattle.txn_marks.specs.Homes.{AreMetBy};
     ghost use Rattle.txn_marks.specs.WritesOf.{records_in};
 
     ghost Value = { Records };
@@ -157,49 +150,7 @@ impl Writes {
         requires sound { IsSound (applied layout.now self.now) }
         ensures { IfOk result (λ new. new ≡ applied layout.now self.now) }
     {
-        let items = item_afters(alloc, &self.items)?;
-        let symbols = symbol_afters(alloc, &self.symbols)?;
-        Snapshot::of(alloc, layout.version().with(alloc, &items, &symbols)?)
-    }
-
-    /// Returns the layout with the values before. Where nothing was written it is the same layout, shared.
-    ///
-    /// # Cost
-    ///
-    /// That of `Version::with`.
-    pub fn reverted(&self, alloc: Global, layout: &Snapshot) -> Result<Snapshot, NoMemory>
-        requires proper { AreProper self.now }
-        requires sound { IsSound (reverted layout.now self.now) }
-        ensures { IfOk result (λ new. new ≡ reverted layout.now self.now) }
-    {
-        let items = item_befores(alloc, &self.items)?;
-        let symbols = symbol_befores(alloc, &self.symbols)?;
-        Snapshot::of(alloc, layout.version().with(alloc, &items, &symbols)?)
-    }
-
-    /// Returns the elements that some record meets: those in which a value lies, before or after.
-    ///
-    /// # Cost
-    ///
-    /// A few insertions for each record.
-    pub fn elements(&self, alloc: Global) -> Result<Footprint, NoMemory>
-        ensures { IfOk result (λ met. AreMetBy self.now met) }
-    {
-        let mut met = Footprint::new(alloc);
-        add_items(&mut met, &self.items)?;
-        add_symbols(&mut met, &self.symbols)?;
-        Ok(met)
-    }
-
-    /// Returns whether some record meets an element of the footprint.
-    ///
-    /// # Cost
-    ///
-    /// A few look-ups for each record.
-    pub fn touch(&self, footprint: &Footprint) -> bool
-        ensures { result ≡ meets_touched self.now footprint.now }
-    {
-        items_touch(&self.items, footprint) || symbols_touch(&self.symbols, footprint)
+        Records::of(alloc, self)?.applied(alloc, layout)
     }
 }
 

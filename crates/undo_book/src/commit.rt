@@ -15,7 +15,7 @@ use lay_point::{NoMemory, Sequence};
 use std::alloc::Global;
 use std::collections::BTreeMap;
 use txn_commands::{Command, TxnId};
-use undo_entries::{Elements, Entry, Index, Work, end_pending};
+use undo_entries::{Elements, Entry, Index, Records, Work, end_pending};
 use undo_rules::{Answer, BookFault, Call, Logged};
 
 /// A refused commit.
@@ -30,6 +30,8 @@ pub struct CommitRefusal {
 /// What a commit leaves and keeps, made before it changes anything.
 #[derive(Drop)]
 struct Prepared {
+    /// What it wrote.
+    writes: Records,
     /// The layout after it.
     layout: Snapshot,
     /// The transactions that it is linked to.
@@ -149,6 +151,7 @@ impl Book {
             return Err(refused(BookFault::NoMemory, work));
         };
         let Prepared {
+            writes,
             layout,
             seen,
             met,
@@ -166,7 +169,7 @@ impl Book {
             return Err(refused(BookFault::NoMemory, work));
         }
         let place = self.log.len() as u32;
-        let (commands, writes, _) = work.into_parts();
+        let (commands, _, _) = work.into_parts();
         let entry = Entry::new(txn, place, writes, read, seen);
         self.entries.push(entry).unwrap();
         self.log.push(committed(txn, commands)).unwrap();
@@ -181,6 +184,7 @@ impl Book {
         requires own { is_own self.now work.now ≡ true }
         requires fresh { stale_by self.now.entries work.now.footprint
             (drop (work.now.opened + 1) self.now.log) ≡ None }
+        ensures writes { IfOk result (λ made. made.writes ≡ work.now.writes) }
         ensures layout { IfOk result (λ made. made.layout ≡ applied self.now.layout work.now.writes) }
         ensures seen { IfOk result (λ made. made.seen.items ≡ links_to self.now.entries work.now.footprint) }
         ensures met { IfOk result (λ made. AreMetBy work.now.writes made.met) }
@@ -189,11 +193,13 @@ impl Book {
         work.id();
         // Its snapshot is sound.
         work.snapshot().version();
-        let layout = work.writes().applied(alloc, &self.layout)?;
+        let writes = Records::of(alloc, work.writes())?;
+        let layout = writes.applied(alloc, &self.layout)?;
         let read = Elements::of(alloc, work.footprint())?;
         let seen = self.links_to(alloc, &read)?;
-        let met = Elements::met_by(alloc, work.writes())?;
+        let met = Elements::met_by(alloc, &writes)?;
         Ok(Prepared {
+            writes,
             layout,
             seen,
             met,

@@ -5,7 +5,7 @@ ghost use Rattle.undo_rules.specs.Links.{Entry as Kept, marked};
 use lay_point::Sequence;
 use std::marker::Model;
 use txn_commands::TxnId;
-use undo_index::{Elements, Writes};
+use undo_index::{Elements, Records};
 
 /// A committed transaction. Contracts see the record of its parts.
 #[derive(Debug, Drop)]
@@ -14,8 +14,8 @@ pub struct Entry {
     pub txn: TxnId,
     /// The place of its commit in the log.
     pub place: u32,
-    /// What it wrote: the values before and after.
-    pub writes: Writes,
+    /// What it wrote: the values before and after, in lists.
+    pub writes: Records,
     /// What it read or wrote.
     pub footprint: Elements,
     /// The live transactions that had written what it touched, when it committed.
@@ -47,7 +47,7 @@ impl Entry {
     pub fn new(
         txn: TxnId,
         place: u32,
-        writes: Writes,
+        writes: Records,
         footprint: Elements,
         seen: Vec<TxnId>,
     ) -> Entry
@@ -84,8 +84,8 @@ impl Entry {
         self.place
     }
 
-    /// Lends what it wrote.
-    pub fn writes(&self) -> &Writes
+    /// Lends what it wrote: a record of each item and of each symbol, in order.
+    pub fn writes(&self) -> &Records
         ensures { result.now ≡ self.now.writes }
     {
         &self.writes

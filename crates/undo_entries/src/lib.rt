@@ -1,6 +1,6 @@
 //! What a history keeps of its transactions, sessions and places.
 //!
-//! An [`Entry`] is a committed transaction: its writes, its footprint, whom it saw, and whether it is live. A
+//! An [`Entry`] is a committed transaction: its records, its footprint, whom it saw, and whether it is live. A
 //! [`SessionState`] has a session's opens and the one that is pending. [`Changes`] has the calls of the log
 //! that changed an element, by place (`specs/Changes.antt`). An index lists an entry's place under an element
 //! exactly where the entry is live and its records meet it, or its footprint has it (`specs/Places.antt`,
@@ -18,4 +18,4 @@ pub use changes::{Changes, is_before};
 pub use entry::{Entry, mark_at};
 pub use session::{Pending, SessionState, end_pending, unused_sessions};
 pub use txn_work::{Bands, Command, TxnId, Work};
-pub use undo_index::{Elements, Footprint, Index, Places, first_apart};
+pub use undo_index::{Elements, Footprint, Index, Places, Records, first_apart};

@@ -7,7 +7,7 @@ use lay_point::NoMemory;
 use std::alloc::Global;
 use std::marker::Model;
 use txn_commands::Element;
-use txn_marks::{Footprint, Writes};
+use txn_marks::{Footprint, Records};
 
 /// The elements of a footprint that doesn't grow any more, in a list without room for others: most transactions
 /// touch a few, for which a node of a tree is ten times as large. Contracts see the finite set of them.
@@ -44,15 +44,15 @@ impl Elements {
         Ok(Elements { list })
     }
 
-    /// Returns those that some record of the writes meets.
+    /// Returns those that some record meets.
     ///
     /// # Cost
     ///
     /// A few insertions for each record.
-    pub fn met_by(alloc: Global, writes: &Writes) -> Result<Elements, NoMemory>
-        ensures { IfOk result (λ met. AreMetBy writes.now met) }
+    pub fn met_by(alloc: Global, records: &Records) -> Result<Elements, NoMemory>
+        ensures { IfOk result (λ met. AreMetBy records.now met) }
     {
-        Elements::of(alloc, &writes.elements(alloc)?)
+        Elements::of(alloc, &records.elements(alloc)?)
     }
 
     /// Lends the elements, in order.

@@ -21,4 +21,4 @@ pub use elements::Elements;
 pub use index::Index;
 pub use listing::Listing;
 pub use places::Places;
-pub use txn_marks::{Footprint, Writes, agrees};
+pub use txn_marks::{Footprint, Records, agrees};

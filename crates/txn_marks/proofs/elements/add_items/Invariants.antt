@@ -1,4 +1,4 @@
-use Rattle.std.proofs.Common.{◌≡◌, map}
+use Rattle.std.proofs.Common.{◌≡◌, drop, map}
 use Rattle.std.specs.List.{flat_map}
 use Rattle.txn_commands.specs.Elements.{with_elements}
 use Rattle.txn_commands.specs.Records.{record_of}
@@ -7,5 +7,5 @@ use Rattle.txn_marks.proofs.elements.add_items.Given as goal
 
 -- with those of the changes that are left they are all
 abbrev pub invariant-loop-id : goal.invariant-loop-id
-invariant-loop-id l = with_elements l.met (flat_map record_homes (map record_of l.id-iterator))
-    ≡ with_elements l.fn.met (flat_map record_homes (map record_of l.items.entries))
+invariant-loop-id l = with_elements l.met (flat_map record_homes (map record_of (drop l.id-index l.items)))
+    ≡ with_elements l.fn.met (flat_map record_homes (map record_of l.items))
