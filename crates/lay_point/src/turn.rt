@@ -3,7 +3,7 @@ ghost use Rattle.std.specs.Prelude.{◌≡◌, neg_ℤ, ◌+ℤ◌, Some, None, 
 ghost use Rattle.lay_point.specs.Points.{is_coordinate, is_in_range};
 ghost use Rattle.lay_point.specs.SameTurn.{quarter_turns};
 ghost use Rattle.lay_point.specs.Turns.{composed, composed_quarter, mirrored_x, next_quarter, opposite};
-ghost use Rattle.lay_point.specs.Turns.{quarters, turned, turned_by, within_range};
+ghost use Rattle.lay_point.specs.Turns.{quarters, turned, turned_by, unturned, within_range};
 ghost use Rattle.lay_point.specs.TurnMaps.{ComposedMap, IsNearby};
 
 use crate::point::{LIMIT, Point};
@@ -131,6 +131,17 @@ impl Eq for Quarter {
 }
 
 impl Turn {
+    /// Returns the turn that changes nothing.
+    pub fn unturned() -> Turn
+        ensures { result ≡ unturned }
+    {
+        Turn {
+            mirror: false,
+            quarter: Quarter::R0,
+            shift: Point { x: 0, y: 0 },
+        }
+    }
+
     /// Returns the turn that does this one first and then `next`, or `None` where its shift is out of
     /// range.
     #[tactic(auto, unfolding(crate::specs::Turns::composed))]
