@@ -1,4 +1,4 @@
--- What a flattening answers, from its tests.
+-- What walks and a flattening answer, from their tests.
 use Rattle.std.proofs.Common.{◌≡◌, ◌∙◌, ◌≤◌, ◌<◌, ◌||◌, ℕ, inl, inr, Bool, true, false, not}
 use Rattle.std.proofs.Common.{Result, Ok, Err, List, cond, length, ap, is_none, subst, sym}
 use Rattle.lay_point.specs.Memory.{IsAnswer}
@@ -12,22 +12,10 @@ use Rattle.lay_flat.specs.declared.flat.TheConstants.{MAX_RINGS}
 use Rattle.lay_flat.specs.Flat.{FlatRing, is_within}
 use Rattle.lay_flat.specs.Flattening.{ends_of, flat_at, flat_of, on_success, rings_at, tested}
 use Rattle.lay_flat.specs.Lending.{IsTooMany}
+use Rattle.lay_flat.specs.Walked.{Start, walked}
 use Rattle.lay_flat.proofs.Tested.{is_above, is_not_above}
 
 module _ (layout : Layout) (cell : CellId) (layer : List ℕ) where
-  pub no_cell : is_cell layout cell ≡ false → flat_of layout cell layer ≡ Err NoCell
-  unfolding flat_of
-  no_cell is =
-      ap (λ b. cond b (on_success (tested layout cell) (λ _. flat_at (ends_of layout cell)
-      (rings_at layout layer (ends_of layout cell)))) (Err NoCell)) is
-
-  pub refused : (fault : FlatFault) → is_cell layout cell ≡ true → tested layout cell ≡ Err fault → flat_of layout cell layer ≡ Err fault
-  unfolding flat_of
-  refused fault is test =
-      ap (λ b. cond b (on_success (tested layout cell) (λ _. flat_at (ends_of layout cell)
-      (rings_at layout layer (ends_of layout cell)))) (Err NoCell)) is
-      ∙ ap (λ r. on_success r (λ _. flat_at (ends_of layout cell) (rings_at layout layer (ends_of layout cell)))) test
-
   pub reached : is_cell layout cell ≡ true → tested layout cell ≡ Ok (tt {0})
       → flat_of layout cell layer ≡ flat_at (ends_of layout cell) (rings_at layout layer (ends_of layout cell))
   unfolding flat_of
@@ -62,11 +50,57 @@ pub passed_from : (done : Unit {0}) (test : Result (Unit {0}) FlatFault) → IsA
 passed_from done test (inl e) = absurd cc
 passed_from done test (inr e) = sym e
 
-pub refused_from : (layout : Layout) (cell : CellId) (layer : List ℕ) (fault : FlatFault) → is_cell layout cell ≡ true
-    → IsAnswer {T = Unit {0}} NoMemory (Err fault) (tested layout cell)
-    → IsAnswer {T = List FlatRing} NoMemory (Err fault) (flat_of layout cell layer)
-refused_from layout cell layer fault is (inl e) = let same : fault ≡ NoMemory = cc in inl (ap Err same)
-refused_from layout cell layer fault is (inr e) = inr (sym (refused layout cell layer fault is (sym e)))
+-- walks that are refused, and those that pass
+module _ (layout : Layout) (cell : CellId) where
+  abbrev start : Start
+  start = record { layout = layout; cell = cell }
+
+  pub not_walked : is_cell layout cell ≡ false → walked layout cell ≡ Err NoCell
+  unfolding walked
+  not_walked is = ap (λ b. cond b (on_success (tested layout cell) (λ _. Ok start)) (Err NoCell)) is
+
+  pub walks_pass : is_cell layout cell ≡ true → tested layout cell ≡ Ok (tt {0}) → walked layout cell ≡ Ok start
+  unfolding walked
+  walks_pass is test =
+      ap (λ b. cond b (on_success (tested layout cell) (λ _. Ok start)) (Err NoCell)) is ∙ ap (λ r. on_success r (λ _. Ok start)) test
+
+  pub walks_refused : (fault : FlatFault) → is_cell layout cell ≡ true → IsAnswer {T = Unit {0}} NoMemory (Err fault) (tested layout cell)
+      → IsAnswer {T = Start} NoMemory (Err fault) (walked layout cell)
+  unfolding walked
+  walks_refused fault is (inl e) = let same : fault ≡ NoMemory = cc in inl (ap Err same)
+  walks_refused fault is (inr e) =
+      inr (sym (ap (λ b. cond b (on_success (tested layout cell) (λ _. Ok start)) (Err NoCell)) is
+      ∙ ap (λ r. on_success r (λ _. Ok start)) (sym e)))
+
+  walks_start : (from : Start) → IsAnswer NoMemory (Ok from) (walked layout cell) → from ≡ start
+  unfolding walked
+  walks_start from (inl e) = absurd cc
+  walks_start from (inr e) = by_tests (is_cell layout cell) (tested layout cell) e where
+    by_tests : (b : Bool) (test : Result (Unit {0}) FlatFault) → Ok from ≡ cond b (on_success test (λ _. Ok start)) (Err NoCell)
+        → from ≡ start
+    by_tests true (Ok done) h = cc
+    by_tests true (Err fault) h = absurd cc
+    by_tests false test h = absurd cc
+
+  -- what is flattened from walks is flattened from their cell
+  pub flattened_from : (from : Start) (layer : List ℕ) (answer : Result (List FlatRing) FlatFault)
+      → IsAnswer NoMemory (Ok from) (walked layout cell) → IsAnswer NoMemory answer (flat_of from.layout from.cell layer)
+      → IsAnswer NoMemory answer (flat_of layout cell layer)
+  flattened_from from layer answer passed is =
+      subst (λ (s : Start). IsAnswer NoMemory answer (flat_of s.layout s.cell layer)) (walks_start from passed) is
+
+  -- walks that are refused are the flattening's refusal
+  pub refused_from : (layer : List ℕ) (fault : FlatFault) → IsAnswer {T = Start} NoMemory (Err fault) (walked layout cell)
+      → IsAnswer {T = List FlatRing} NoMemory (Err fault) (flat_of layout cell layer)
+  unfolding walked flat_of
+  refused_from layer fault (inl e) = let same : fault ≡ NoMemory = cc in inl (ap Err same)
+  refused_from layer fault (inr e) = inr (by_tests (is_cell layout cell) (tested layout cell) e) where
+    by_tests : (b : Bool) (test : Result (Unit {0}) FlatFault) → Err fault ≡ cond b (on_success test (λ _. Ok start)) (Err NoCell)
+        → Err fault ≡ cond b (on_success test (λ _. flat_at (ends_of layout cell)
+        (rings_at layout layer (ends_of layout cell)))) (Err NoCell)
+    by_tests true (Ok done) h = absurd cc
+    by_tests true (Err other) h = let same : fault ≡ other = cc in ap Err same
+    by_tests false test h = let same : fault ≡ NoCell = cc in ap Err same
 
 -- rings that are too many, at the ends of all walks
 pub many_from : (layout : Layout) (cell : CellId) (layer : List ℕ) (ends : List End) (fault : FlatFault) → is_cell layout cell ≡ true

@@ -1,6 +1,5 @@
 //! The rings at the ends of walks, lent from the snapshot.
 ghost use Rattle.std.specs.Prelude.{◌≡◌, ◌+◌, ◌++◌, ◌∷◌, [], ◌≤◌, IfErr, IfOk, OnOk, length};
-ghost use Rattle.lay_point.specs.Turns.{unturned};
 ghost use Rattle.lay_flat.specs.declared.flat.TheConstants.{MAX_RINGS};
 ghost use Rattle.lay_flat.specs.Flattening.{drawn_at, rings_at, rings_from, rings_of};
 ghost use Rattle.lay_flat.specs.Lending.{AreRings, IsTooMany};
@@ -9,7 +8,7 @@ use crate::ends::End;
 use crate::fault::FlatFault;
 use crate::flat::{FlatRing, MAX_RINGS};
 use lay_items::Snapshot;
-use lay_point::{LayerName, NoMemory, Point, Quarter, Ring, Turn};
+use lay_point::{LayerName, NoMemory, Ring, Turn};
 use std::alloc::Global;
 
 /// Returns the rings of the shapes on a layer at these ends, in order.
@@ -51,7 +50,7 @@ fn lend_end<'s>(
     ensures err { IfErr result (IsTooMany
         (rings.old.items ++ rings_from number (drawn_at snapshot.now layer.now end.now))) }
 {
-    let turn = end.turn.unwrap_or(unturned());
+    let turn = end.turn.unwrap_or(Turn::unturned());
     let mut next = number;
     for (_, shape) in snapshot.shapes(end.cell, layer) {
         lend_shape(shape, turn, next, rings)?;
@@ -104,15 +103,4 @@ fn one_more(number: u32) -> Result<u32, NoMemory>
     ensures { IfOk result (λ next. next ≡ number + 1) }
 {
     number.checked_add(1).ok_or(NoMemory)
-}
-
-/// Returns the turn that changes nothing.
-pub(crate) fn unturned() -> Turn
-    ensures { result ≡ unturned }
-{
-    Turn {
-        mirror: false,
-        quarter: Quarter::R0,
-        shift: Point { x: 0, y: 0 },
-    }
 }

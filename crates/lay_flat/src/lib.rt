@@ -6,11 +6,15 @@
 //! copied. A `Flat` keeps in its type that they are rings and that their turned points are in range.
 //!
 //! The depth and the number of walks are tested before a walk is made. Then the ends of the walks are listed,
-//! each its cell and its turn, and the rings of the shapes there are lent.
+//! each its cell and its turn: that is a `Walks`, from which any number of layers is flattened. For each layer
+//! the rings of the shapes at the ends are lent.
 //!
 //! ```text
 //! let flat = flatten(alloc, &snapshot, CellId::Top, &layer)?;
 //! for ring in flat.rings() { .. }
+//!
+//! let walks = Walks::from(alloc, &snapshot, CellId::Top)?;
+//! let (first, second) = (walks.layer(alloc, &a)?, walks.layer(alloc, &b)?);
 //! ```
 #![tactic(auto)]
 
@@ -20,8 +24,15 @@ mod flat;
 mod flattening;
 mod graph;
 mod lending;
+<<<<<<< HEAD
+=======
+#[cfg(test)]
+mod tests;
+mod walks;
+>>>>>>> c98215d (lay_flat: the walks from a cell are a value, made once for both layers of an operation)
 
 pub use fault::FlatFault;
 pub use flat::{Flat, FlatRing, MAX_DEPTH, MAX_RINGS};
 pub use flattening::flatten;
 pub use lay_items::Snapshot;
+pub use walks::Walks;

@@ -1,4 +1,4 @@
--- The steps of an operation are those of its definition: both layers flattened, and then combined.
+-- The steps of an operation are those of its definition: both layers flattened from the same walks, and then combined.
 use Rattle.std.proofs.Common.{◌≡◌, ◌⊎◌, inl, inr, Bool, true, false, ℕ, List, Result, Ok, Err, refl, sym, ap, ◌∙◌}
 use Rattle.std.specs.Prelude.{if◌then◌else◌}
 use Rattle.lay_point.specs.Memory.{IsAnswer}
@@ -8,6 +8,8 @@ use Rattle.lay_flat.specs.declared.fault.FlatFault.{FlatFault}
 use Rattle.lay_flat.specs.declared.fault.FlatFault.TheVariants as flat
 use Rattle.lay_flat.specs.Flat.{FlatRing}
 use Rattle.lay_flat.specs.Flattening.{flat_of, on_success}
+use Rattle.lay_flat.specs.Walked.{Start, walked}
+use Rattle.lay_flat.proofs.Answered.{refused_from}
 use Rattle.txn_marks.specs.Op.{Op}
 use Rattle.layer_ops.specs.Shapes.{Rings, fits, shapes_of}
 use Rattle.txn_marks.specs.Booleans.{bool_shapes, shapes_within}
@@ -33,6 +35,10 @@ unfolding bool_shapes
 first_refused l o cell a b fault (inl none) = inl (refused_alike fault none)
 first_refused l o cell a b fault (inr is) =
     inr (ap (λ r. on_success r (λ first. on_success (flat_of l cell b) (λ second. shapes_within o first second))) is)
+
+pub walks_refused : (l : Layout) (o : Op) (cell : CellId) (a b : List ℕ) (fault : FlatFault)
+    → IsAnswer {T = Start} flat.NoMemory (Err fault) (walked l cell) → Operates (Err fault) l o cell a b
+walks_refused l o cell a b fault is = first_refused l o cell a b fault (refused_from l cell a fault is)
 
 flattened : (l : Layout) (cell : CellId) (layer : List ℕ) (rings : List FlatRing) → Flattens (Ok rings) l cell layer →
     Ok rings ≡ flat_of l cell layer

@@ -16,7 +16,7 @@ use crate::act::{Act, Written};
 use crate::calls::cells_from;
 use crate::seen::Seen;
 use lay_calls::CellId;
-use lay_flat::{FlatFault, flatten};
+use lay_flat::{FlatFault, Walks};
 use lay_items::Snapshot;
 use lay_layouts::{Item, ItemId, Rings};
 use lay_point::{LayerName, NoMemory, Ring};
@@ -97,8 +97,9 @@ fn operation(
     ensures { IsAnswer flat_fault.NoMemory (lists_in result)
         (bool_shapes layout.now asked.op asked.cell asked.a asked.b) }
 {
-    let first = flatten(alloc, layout, asked.cell, &asked.a)?;
-    let second = flatten(alloc, layout, asked.cell, &asked.b)?;
+    let walks = Walks::from(alloc, layout, asked.cell)?;
+    let first = walks.layer(alloc, &asked.a)?;
+    let second = walks.layer(alloc, &asked.b)?;
     match combine(rt, alloc, asked.op, &first, &second, bands) {
         Ok(shapes) => Ok(shapes),
         Err(fault) => Err(fault_of_op(fault)),

@@ -1,6 +1,6 @@
 use Rattle.std.proofs.Common.{inr, sym}
 use Rattle.lay_flat.proofs.Tested.{passes, too_deep, too_many}
-use Rattle.lay_flat.proofs.flattening.test_walks.Goals as goal
+use Rattle.lay_flat.proofs.walks.test_walks.Goals as goal
 
 pub returns-then-depth-gt-MAX_DEPTH : goal.returns-then-depth-gt-MAX_DEPTH
 returns-then-depth-gt-MAX_DEPTH c = inr (sym (too_deep c.args.snapshot.now c.args.cell c.in_ok-depth.depth c.in_ok-depth.walks
