@@ -10,7 +10,7 @@ ghost use Rattle.lay_layouts.specs.SlotOrder.{in_slot_order};
 ghost use Rattle.lay_point.specs.Bridges.{bridged};
 
 use crate::points::put_bridged;
-use crate::turns::{put_turn, unturned};
+use crate::turns::put_turn;
 use crate::wrap::plain_target;
 use byte_io::{Out, OutBuffer};
 use lay_calls::CellId;
@@ -32,7 +32,7 @@ pub(crate) fn put_text<O: Out>(
 {
     put_definitions(out, buffer, snapshot);
     let called = put_wrapping(out, buffer, snapshot, unused);
-    put_call(out, buffer, called, unturned());
+    put_call(out, buffer, called, Turn::unturned());
     buffer.put(out, b"E\n");
 }
 

@@ -1,23 +1,11 @@
 //! Turns as the changes of a call.
 ghost use Rattle.std.specs.Prelude.{◌≡◌};
 ghost use Rattle.byte_io.specs.Buffered.{Buffered};
-ghost use Rattle.lay_point.specs.Turns.{unturned};
 ghost use Rattle.cif_write.specs.Lines.{mirror_text, quarter_text, shift_text, turn_text};
 
 use crate::points::put_point;
 use byte_io::{Out, OutBuffer};
 use lay_point::{Point, Quarter, Turn};
-
-/// Returns the turn that changes nothing.
-pub(crate) fn unturned() -> Turn
-    ensures { result ≡ unturned }
-{
-    Turn {
-        mirror: false,
-        quarter: Quarter::R0,
-        shift: Point { x: 0, y: 0 },
-    }
-}
 
 /// Puts what a call says of its turn: the mirror, the quarter turns and the shift that there are.
 pub(crate) fn put_turn<O: Out>(out: &mut O, buffer: &mut OutBuffer, turn: Turn)

@@ -2,11 +2,10 @@
 ghost use Rattle.std.specs.Prelude.{◌≡◌, IfOk, map};
 ghost use Rattle.cif_write.specs.Wrap.{entry_item, least_unused, plain_target};
 
-use crate::turns::unturned;
 use lay_calls::Cells;
 use lay_cell_items::Items;
 use lay_layouts::Item;
-use lay_point::NoMemory;
+use lay_point::{NoMemory, Turn};
 
 /// Returns the symbol that the items call, where they are one call with no mirror, turn or shift.
 pub(crate) fn plain_target(items: Items<'_>) -> Option<u32>
@@ -18,7 +17,7 @@ pub(crate) fn plain_target(items: Items<'_>) -> Option<u32>
         return None;
     }
     match first {
-        Item::Placed { target, turn, .. } if *turn == unturned() => Some(*target),
+        Item::Placed { target, turn, .. } if *turn == Turn::unturned() => Some(*target),
         _ => None,
     }
 }
