@@ -9,7 +9,7 @@ ghost use Rattle.lay_flat.specs.Flat.{IsFlat};
 ghost use Rattle.bool_shape_laws.specs.Shapes.{owned_by};
 
 use lay_flat::{Flat, FlatRing};
-use lay_point::{NoMemory, Point, Quarter, Turn};
+use lay_point::{NoMemory, Point, Turn};
 use snap_visits::{Input, OwnedRing, Owner};
 use std::alloc::{AllocError, Global};
 use std::marker::Model;
@@ -131,16 +131,5 @@ fn turned_point(turn: Turn, point: Point) -> Point
 fn is_unturned(turn: Turn) -> bool
     ensures { result ≡ turn_eq turn unturned }
 {
-    turn == unturned()
-}
-
-/// Returns the turn that changes nothing.
-fn unturned() -> Turn
-    ensures { result ≡ unturned }
-{
-    Turn {
-        mirror: false,
-        quarter: Quarter::R0,
-        shift: Point { x: 0, y: 0 },
-    }
+    turn == Turn::unturned()
 }
