@@ -1,52 +1,28 @@
-use Rattle.std.proofs.Common.{◌∙◌, ◌<◌, List, [], arith, ap, length, rules, subst, sym}
-use Rattle.std.proofs.lemmas.List.{get_or-map}
+use Rattle.std.proofs.Common.{◌∙◌, [], ap, rules, sym}
 use Rattle.std.specs.FinMap.{find}
-use Rattle.std.specs.List.Sorted.{IsStrictlySortedBy}
-use Rattle.std.specs.Map.{keys_of}
-use Rattle.lay_page.specs.Shared.{AreSized, joined, pages_in}
-use Rattle.lay_page.proofs.BookLemmas.{book_at}
 use Rattle.lay_page.proofs.OrderLemmas.{find-level}
-use Rattle.lay_page.proofs.ShareLemmas.{count_books, count_items, length_map, pages_at}
+use Rattle.lay_pages.proofs.LentLemmas.{lent_book}
 use Rattle.lay_pages.proofs.look.find.Goals as goal
 
 pub find_in_book-requires-clause-some : goal.find_in_book-requires-clause-some
 find_in_book-requires-clause-some g c =
-    let lt : c.book_of-at.result < length (pages_in c.args.books.now) =
-    omega (arith, length_map joined (pages_in c.args.books.now), c.book_of-at.ensures.in_range) in
-    let is = pages_at c.args.books.now c.book_of-at.result c.index-books-at.result c.deref-2.result.now []
-    (omega (arith, count_books c.args.books.now, lt)) c.index-books-at.is (search rules) in
-    omega (
-      arith,
-      (book_at g.K.Ord.cmp (pages_in c.args.books.now) c.book_of-at.result c.requires lt).some,
-      ap length is,
-      count_items c.deref-2.result.now,
-    )
+    (lent_book g.K.Ord.cmp c.args.books.now c.book_of-at.result c.index-books-at.result c.deref-2.result.now c.requires
+    c.book_of-at.ensures.in_range c.index-books-at.is (search rules)).some
 
 pub find_in_book-requires-clause-sized : goal.find_in_book-requires-clause-sized
 find_in_book-requires-clause-sized g c =
-    let lt : c.book_of-at.result < length (pages_in c.args.books.now) =
-    omega (arith, length_map joined (pages_in c.args.books.now), c.book_of-at.ensures.in_range) in
-    let is = pages_at c.args.books.now c.book_of-at.result c.index-books-at.result c.deref-2.result.now []
-    (omega (arith, count_books c.args.books.now, lt)) c.index-books-at.is (search rules) in
-    subst (λ (ps : List (List (g.row.K.Denot × g.row.V.Denot))). AreSized ps) is
-    (book_at g.K.Ord.cmp (pages_in c.args.books.now) c.book_of-at.result c.requires lt).sized
+    (lent_book g.K.Ord.cmp c.args.books.now c.book_of-at.result c.index-books-at.result c.deref-2.result.now c.requires
+    c.book_of-at.ensures.in_range c.index-books-at.is (search rules)).sized
 
 pub find_in_book-requires-clause-sorted : goal.find_in_book-requires-clause-sorted
 find_in_book-requires-clause-sorted g c =
-    let lt : c.book_of-at.result < length (pages_in c.args.books.now) =
-    omega (arith, length_map joined (pages_in c.args.books.now), c.book_of-at.ensures.in_range) in
-    let is = pages_at c.args.books.now c.book_of-at.result c.index-books-at.result c.deref-2.result.now []
-    (omega (arith, count_books c.args.books.now, lt)) c.index-books-at.is (search rules) in
-    subst (λ (ps : List (List (g.row.K.Denot × g.row.V.Denot))). IsStrictlySortedBy g.K.Ord.cmp (keys_of (joined ps))) is
-    (book_at g.K.Ord.cmp (pages_in c.args.books.now) c.book_of-at.result c.requires lt).sorted
+    (lent_book g.K.Ord.cmp c.args.books.now c.book_of-at.result c.index-books-at.result c.deref-2.result.now c.requires
+    c.book_of-at.ensures.in_range c.index-books-at.is (search rules)).sorted
 
 pub returns : goal.returns
 returns g c =
-    let lt : c.book_of-at.result < length (pages_in c.args.books.now) =
-    omega (arith, length_map joined (pages_in c.args.books.now), c.book_of-at.ensures.in_range) in
-    let is = pages_at c.args.books.now c.book_of-at.result c.index-books-at.result c.deref-2.result.now []
-    (omega (arith, count_books c.args.books.now, lt)) c.index-books-at.is (search rules) in
+    let lent = lent_book g.K.Ord.cmp c.args.books.now c.book_of-at.result c.index-books-at.result c.deref-2.result.now c.requires
+    c.book_of-at.ensures.in_range c.index-books-at.is (search rules) in
     c.find_in_book.ensures
-    ∙ ap (λ (ps : List (List (g.row.K.Denot × g.row.V.Denot))). find g.K.Ord.cmp c.args.key (joined ps)) (sym is)
-    ∙ ap (find g.K.Ord.cmp c.args.key) (sym (get_or-map joined (pages_in c.args.books.now) c.book_of-at.result [] [] lt))
+    ∙ ap (find g.K.Ord.cmp c.args.key) (sym lent.entries)
     ∙ sym (find-level g.met.K.Ord.total g.met.K.PageKey.exact c.args.key _ c.book_of-at.result [] c.book_of-at.ensures)

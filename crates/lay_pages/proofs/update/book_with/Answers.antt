@@ -1,25 +1,24 @@
-use Rattle.std.proofs.Common.{◌∙◌, ◌<◌, ◌≤◌, List, [], arith, ap, length, rules, subst, sym}
+use Rattle.std.proofs.Common.{◌∙◌, ◌≤◌, List, [], arith, ap, length, rules, subst, sym}
 use Rattle.std.specs.List.Sorted.{IsStrictlySortedBy}
 use Rattle.std.specs.Map.{keys_of}
 use Rattle.lay_page.specs.Shared.{AreSized, items_of, joined}
 use Rattle.lay_page.specs.Written.{after_write}
 use Rattle.lay_page.proofs.OrderLemmas.{write-level}
 use Rattle.lay_page.proofs.PlaceLemmas.{sized-at, sorted-at}
-use Rattle.lay_page.proofs.ShareLemmas.{all_spliced, count_items, items_at, spliced_items}
+use Rattle.lay_page.proofs.ShareLemmas.{all_spliced, spliced_items}
+use Rattle.lay_pages.proofs.LentLemmas.{lent_page}
 use Rattle.lay_pages.proofs.update.book_with.Goals as goal
 
 pub page_with-requires-clause-full : goal.page_with-requires-clause-full
 page_with-requires-clause-full g c =
-    let lt : c.page_of-at.result < length c.args.book.now = omega (arith, count_items c.args.book.now, c.page_of-at.ensures.in_range) in
-    let is = items_at c.args.book.now c.page_of-at.result c.index-book-at.result c.deref-2.result.now [] lt c.index-book-at.is
-    (search rules) in
+    let is = lent_page c.args.book.now c.page_of-at.result c.index-book-at.result c.deref-2.result.now c.page_of-at.ensures.in_range
+    c.index-book-at.is (search rules) in
     omega (arith, sized-at (items_of c.args.book.now) c.page_of-at.result [] c.page_of-at.ensures.in_range c.requires.sized, ap length is)
 
 pub page_with-requires-clause-sorted : goal.page_with-requires-clause-sorted
 page_with-requires-clause-sorted g c =
-    let lt : c.page_of-at.result < length c.args.book.now = omega (arith, count_items c.args.book.now, c.page_of-at.ensures.in_range) in
-    let is = items_at c.args.book.now c.page_of-at.result c.index-book-at.result c.deref-2.result.now [] lt c.index-book-at.is
-    (search rules) in
+    let is = lent_page c.args.book.now c.page_of-at.result c.index-book-at.result c.deref-2.result.now c.page_of-at.ensures.in_range
+    c.index-book-at.is (search rules) in
     subst (λ (es : List (g.row.K.Denot × g.row.V.Denot)). IsStrictlySortedBy g.K.Ord.cmp (keys_of es)) is
     (sorted-at g.K.Ord.cmp (items_of c.args.book.now) c.page_of-at.result [] c.page_of-at.ensures.in_range c.requires.sorted)
 
@@ -34,9 +33,8 @@ cut_book-requires-clause-sized g c =
 
 pub returns-clause-entries : goal.returns-clause-entries
 returns-clause-entries g c =
-    let lt : c.page_of-at.result < length c.args.book.now = omega (arith, count_items c.args.book.now, c.page_of-at.ensures.in_range) in
-    let is = items_at c.args.book.now c.page_of-at.result c.index-book-at.result c.deref-2.result.now [] lt c.index-book-at.is
-    (search rules) in
+    let is = lent_page c.args.book.now c.page_of-at.result c.index-book-at.result c.deref-2.result.now c.page_of-at.ensures.in_range
+    c.index-book-at.is (search rules) in
     c.in_ok-books.ensures.entries
     ∙ write-level g.met.K.Ord.total g.met.K.PageKey.exact c.args.key c.args.value (items_of c.args.book.now)
     (items_of c.deref-3.result.now) (items_of c.in_ok-pages.pages.items) c.page_of-at.result [] c.page_of-at.ensures
