@@ -477,15 +477,6 @@ redo_keeps h new session txn result takes =
 -- ---- many steps
 
 -- one more step
-pub ran_push : (steps : List (ℕ × Step)) (replies : List Reply) (old mid new : State) (session : ℕ) (step : Step) (reply : Reply) →
-    Ran old steps replies mid → TakesStep mid session step reply new →
-    Ran old (steps ++ (session, step) ∷ []) (replies ++ reply ∷ []) new
-ran_push [] [] old mid new session step reply ran takes = (new, subst (λ s. TakesStep s session step reply new) ran takes, refl)
-ran_push [] (r ∷ replies) old mid new session step reply ran takes = absurd ran
-ran_push (s ∷ steps) [] old mid new session step reply ran takes = absurd ran
-ran_push (s ∷ steps) (r ∷ replies) old mid new session step reply ran takes =
-    (ran.0, ran.1, ran_push steps replies ran.0 mid new session step reply ran.2 takes)
-
 memory_told : (step : Step) → is_memory (memory_reply step) ≡ true
 memory_told Open = refl
 memory_told (Do command) = refl

@@ -9,7 +9,7 @@ ghost use Rattle.session_core.specs.Commits.{reply_of, work_of};
 ghost use Rattle.session_core.specs.Machine.{IsNotForeign, Ran, TakesStep, is_session, start};
 
 use lay_items::Snapshot;
-use lay_point::NoMemory;
+use lay_point::{Given, NoMemory};
 use session_steps::{Reply, Step, StepFault};
 use std::alloc::Global;
 use std::marker::Model;
@@ -228,7 +228,7 @@ impl Machine {
     }
 
     /// The machine after these steps, each with the number of its session, and its answers to them. `bands`
-    /// finds the edges of Booleans.
+    /// finds the edges of Booleans. What the steps took is given back on the way.
     ///
     /// # Cost
     ///
@@ -249,7 +249,7 @@ impl Machine {
     {
         let mut machine = Machine::new(alloc, base, sessions)?;
         let mut replies = Vec::with_capacity(alloc, steps.len())?;
-        for (session, step) in steps {
+        for (session, step) in Given::of(steps) {
             let reply = machine.step(rt, alloc, session, step, bands);
             replies.push(reply)?;
         }
