@@ -8,8 +8,7 @@ use Rattle.std.proofs.lemmas.Bool.Decides.{nat_tests}
 use Rattle.std.proofs.lemmas.Grind.{get_or-set_at}
 use Rattle.std.proofs.lemmas.List.{get_or-set_other, length-replicate, length-set, set-get_or, set-set}
 use Rattle.std.proofs.lemmas.Option.{slice_get-get_or}
-use Rattle.std.specs.FinSet as set
-use Rattle.std.specs.List.{list_all, list_any}
+use Rattle.std.specs.List.{list_any}
 use Rattle.lay_point.specs.Memory.{IsAnswer}
 use Rattle.lay_layouts.specs.Layout.{Layout}
 use Rattle.undo_book.specs.declared.commit.CommitRefusal.{CommitRefusal}
@@ -22,21 +21,9 @@ use Rattle.txn_commands.specs.declared.fault.CmdFault.TheVariants.{NoMemory as C
 use Rattle.txn_commands.specs.declared.command.Command.{Command}
 use Rattle.txn_commands.specs.declared.command.Done.{Done}
 use Rattle.txn_commands.specs.declared.command.TxnId.{TxnId}
-use Rattle.txn_commands.specs.Compared.{agrees}
 use Rattle.txn_commands.specs.Effects.{Run, effect}
-use Rattle.txn_commands.specs.Elements.{Touched}
 use Rattle.txn_commands.specs.Transactions.{Transaction}
-use Rattle.std.specs.FinMap.{entries, get}
-use Rattle.std.specs.Cmp.Lexicographic.{pointwise}
-use Rattle.lay_layouts.specs.declared.id.ItemId.{ItemId}
-use Rattle.lay_layouts.specs.declared.item.Item as item
-use Rattle.lay_layouts.specs.Layout.{item_at}
-use Rattle.lay_layouts.specs.Same.{item_eq-Decides, option_item_eq-Decides}
-use Rattle.lay_layouts.specs.SameLayout.{id_eq-Decides}
-use Rattle.txn_commands.specs.declared.element.Element.{Element}
-use Rattle.txn_commands.specs.declared.element.Element.TheVariants.{Calls, Cell, Content, Item, Layer, Uses}
-use Rattle.txn_commands.specs.Compared.{entry_eq, lying, same_in}
-use Rattle.txn_commands.proofs.Steps.{option_slot_eq-Decides}
+use Rattle.txn_commands.proofs.Compared.{agrees-itself}
 use Rattle.undo_book.specs.Answers.{after_command, after_effect, answer_to, done_of_effect, run_so_far}
 use Rattle.undo_rules.specs.Books.{History, SessionState}
 use Rattle.undo_rules.specs.Steps as book
@@ -210,26 +197,6 @@ commanded h works place txn new kept inside found same =
     (λ t e. let is : new ≡ t = cc in subst (IsOpen h place) is (open_like h place txn new same (kept.works place txn found)))
 
 -- ---- the transaction that a session has open
-
--- a layout agrees with itself
-same_entries : (xs : List (ItemId × item.Item)) → pointwise entry_eq xs xs ≡ true
-same_entries [] = refl
-same_entries (x ∷ xs) = rw ((id_eq-Decides x.0 x.0).1 refl, (item_eq-Decides x.1 x.1).1 refl) (same_entries xs)
-
-same-itself : (l : Layout) (e : Element) → same_in l l e ≡ true
-same-itself l (Item id) = (option_item_eq-Decides (item_at l id) (item_at l id)).1 refl
-same-itself l (Layer c x) = same_entries (lying (Layer c x) (entries l.items))
-same-itself l (Calls c) = same_entries (lying (Calls c) (entries l.items))
-same-itself l (Cell n) = (option_slot_eq-Decides (get l.symbols n) (get l.symbols n)).1 refl
-same-itself l (Content n) = same_entries (lying (Content n) (entries l.items))
-same-itself l (Uses n) = same_entries (lying (Uses n) (entries l.items))
-
-agrees-itself : (l : Layout) (touched : Touched) → agrees l l touched ≡ true
-unfolding agrees
-agrees-itself l touched = all (set.items touched) where
-  all : (es : List Element) → list_all (same_in l l) es ≡ true
-  all [] = refl
-  all (e ∷ es) = rw (same-itself l e) (all es)
 
 pending_own : (state : SessionState) (txn : Transaction) → state.opens ≡ txn.id.txn →
     state.pending ≡ Some (record { place = txn.opened; snapshot = txn.snapshot }) →

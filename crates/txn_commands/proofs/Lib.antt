@@ -1,5 +1,6 @@
 pub mod Agreements
 pub mod CallLists
+pub mod Compared
 pub mod Lists
 pub mod Lying
 pub mod Maps
