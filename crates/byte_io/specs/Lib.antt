@@ -2,4 +2,6 @@ pub mod Buffered
 pub mod Decimal
 pub mod Device
 pub mod Input
+pub mod Lines
+pub mod Numbers
 pub use Rattle.lay_point.specs.Names

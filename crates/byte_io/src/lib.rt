@@ -1,4 +1,4 @@
-//! Bytes in and out: devices, and decimal numbers as text.
+//! Bytes in and out: devices, decimal numbers as text, and lines.
 //!
 //! An `Out` takes bytes and an `In` gives them. Each has ghost members, which contracts read: what
 //! was written or remains to be read, `None` where the device can't know it, and counts of its calls.
@@ -9,7 +9,11 @@
 //! to; tests use them in place of files.
 //!
 //! `push_unsigned` and `push_signed` append a number's decimal digits to a text, and `capped_decimal` is
-//! the way back: the value of digits of any length, up to a limit and one more.
+//! the way back: the value of digits of any length, up to a limit and one more. `number_of` is the number
+//! that a word spells, where it is a number.
+//!
+//! `split_line` cuts the first line off a text, and `content` is what a line says without its end
+//! (`specs/Lines.antt`).
 //!
 //! ```text
 //! let mut text = Vec::new(alloc);
@@ -25,7 +29,9 @@ mod count;
 mod decimal;
 mod device;
 mod input;
+mod lines;
 mod memory;
+mod numbers;
 
 pub use buffer::OutBuffer;
 pub use count::GhostCount;
@@ -33,4 +39,6 @@ pub use decimal::{capped_decimal, push_signed, push_unsigned};
 pub use device::{Out, OutFault, put_all};
 pub use input::{In, InFault, ReadCounts};
 pub use lay_point::{NoMemory, Sequence};
+pub use lines::{content, place_of, split_line};
 pub use memory::{Failing, MemoryIn, MemoryOut};
+pub use numbers::{is_number, number_of};

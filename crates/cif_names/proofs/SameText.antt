@@ -8,7 +8,7 @@ use Rattle.std.proofs.lemmas.List.{append-nil}
 use Rattle.cif_names.specs.declared.names.Entry.{Entry}
 use Rattle.cif_names.specs.declared.names.Names.{Names}
 use Rattle.cif_names.specs.Laws.{HasNoNames, IsKeptLine, is_empty, is_kept_line, is_line, unless_kept, without_names}
-use Rattle.cif_names.specs.Lines.{onto_first_line, text_lines}
+use Rattle.byte_io.specs.Lines.{in_front, lines}
 use Rattle.cif_names.specs.Woven.{has_newline, heading_of, is_symbol, is_top, last_call, lines_at_top, lines_in, started, with_names, woven}
 use Rattle.cif_names.specs.Woven.{woven_line}
 
@@ -18,11 +18,11 @@ none_left : (bs : List ℕ) → is_empty bs ≡ true → bs ≡ []
 none_left [] e = refl
 none_left (b ∷ bs) e = absurd cc
 
-lines-other : (b : ℕ) (bs : List ℕ) → (b == 10) ≡ false → text_lines (b ∷ bs) ≡ onto_first_line b (text_lines bs)
-lines-other b bs e = ap (λ t. cond t ((b ∷ []) ∷ text_lines bs) (onto_first_line b (text_lines bs))) e
+lines-other : (b : ℕ) (bs : List ℕ) → (b == 10) ≡ false → lines (b ∷ bs) ≡ in_front b (lines bs)
+lines-other b bs e = ap (λ t. cond t ((b ∷ []) ∷ lines bs) (in_front b (lines bs))) e
 
-text_lines-newline : (b : ℕ) (bs : List ℕ) → (b == 10) ≡ true → text_lines (b ∷ bs) ≡ (b ∷ []) ∷ text_lines bs
-text_lines-newline b bs e = ap (λ t. cond t ((b ∷ []) ∷ text_lines bs) (onto_first_line b (text_lines bs))) e
+lines-newline : (b : ℕ) (bs : List ℕ) → (b == 10) ≡ true → lines (b ∷ bs) ≡ (b ∷ []) ∷ lines bs
+lines-newline b bs e = ap (λ t. cond t ((b ∷ []) ∷ lines bs) (in_front b (lines bs))) e
 
 pub is_line-other : (b : ℕ) (bs : List ℕ) → (b == 10) ≡ false → is_line (b ∷ bs) ≡ is_line bs
 is_line-other b bs e = ap (λ t. cond t (is_empty bs) (is_line bs)) e
@@ -31,58 +31,58 @@ is_line-newline : (b : ℕ) (bs : List ℕ) → (b == 10) ≡ true → is_line (
 is_line-newline b bs e = ap (λ t. cond t (is_empty bs) (is_line bs)) e
 
 -- a line at the front is the first one
-first_line : (line rest : List ℕ) → is_line line ≡ true → text_lines (line ++ rest) ≡ line ∷ text_lines rest
+first_line : (line rest : List ℕ) → is_line line ≡ true → lines (line ++ rest) ≡ line ∷ lines rest
 first_line [] rest one = absurd cc
 first_line (b ∷ bs) rest one = by (first_line bs rest) (b == 10) refl where
-  last : (ds : List ℕ) → ds ≡ [] → (b == 10) ≡ true → text_lines (b ∷ (ds ++ rest)) ≡ (b ∷ ds) ∷ text_lines rest
-  last ds none e = rw none (text_lines-newline b rest e)
+  last : (ds : List ℕ) → ds ≡ [] → (b == 10) ≡ true → lines (b ∷ (ds ++ rest)) ≡ (b ∷ ds) ∷ lines rest
+  last ds none e = rw none (lines-newline b rest e)
 
-  by : (is_line bs ≡ true → text_lines (bs ++ rest) ≡ bs ∷ text_lines rest) → (t : Bool) → (b == 10) ≡ t
-      → text_lines (b ∷ (bs ++ rest)) ≡ (b ∷ bs) ∷ text_lines rest
+  by : (is_line bs ≡ true → lines (bs ++ rest) ≡ bs ∷ lines rest) → (t : Bool) → (b == 10) ≡ t
+      → lines (b ∷ (bs ++ rest)) ≡ (b ∷ bs) ∷ lines rest
   by further true e = last bs (none_left bs (sym (is_line-newline b bs e) ∙ one)) e
-  by further false e = lines-other b (bs ++ rest) e ∙ ap (onto_first_line b) (further (sym (is_line-other b bs e) ∙ one))
+  by further false e = lines-other b (bs ++ rest) e ∙ ap (in_front b) (further (sym (is_line-other b bs e) ∙ one))
 
 -- the last line lacks its newline
 record IsOpen (line : List ℕ) (behind : List (List ℕ)) : Type 0 where
   last : behind ≡ []
   open_line : has_newline line ≡ false
-  alone : text_lines line ≡ line ∷ []
+  alone : lines line ≡ line ∷ []
 
 -- lines as a text has them
 abbrev AreLines : List (List ℕ) → Type 0
 AreLines [] = ⊤
 AreLines (line ∷ behind) = ((is_line line ≡ true) × AreLines behind) ⊎ IsOpen line behind
 
-with_front : (b : ℕ) (ls : List (List ℕ)) → (b == 10) ≡ false → AreLines ls → AreLines (onto_first_line b ls)
+with_front : (b : ℕ) (ls : List (List ℕ)) → (b == 10) ≡ false → AreLines ls → AreLines (in_front b ls)
 with_front b [] e are =
     inr (record { last = refl; open_line = ap (λ t. t || false) e; alone = lines-other b [] e })
 with_front b (line ∷ behind) e (inl are) = inl (is_line-other b line e ∙ are.0, are.1)
 with_front b (line ∷ behind) e (inr is) = inr (record {
   last = is.last;
   open_line = ap (λ t. t || has_newline line) e ∙ is.open_line;
-  alone = lines-other b line e ∙ ap (onto_first_line b) is.alone;
+  alone = lines-other b line e ∙ ap (in_front b) is.alone;
 })
 
-lines_are : (bytes : List ℕ) → AreLines (text_lines bytes)
+lines_are : (bytes : List ℕ) → AreLines (lines bytes)
 lines_are [] = tt
 lines_are (b ∷ bs) = by (lines_are bs) (b == 10) refl where
-  by : AreLines (text_lines bs) → (t : Bool) → (b == 10) ≡ t → AreLines (text_lines (b ∷ bs))
-  by are true e = subst AreLines (sym (text_lines-newline b bs e)) (inl (is_line-newline b [] e, are))
-  by are false e = subst AreLines (sym (lines-other b bs e)) (with_front b (text_lines bs) e are)
+  by : AreLines (lines bs) → (t : Bool) → (b == 10) ≡ t → AreLines (lines (b ∷ bs))
+  by are true e = subst AreLines (sym (lines-newline b bs e)) (inl (is_line-newline b [] e, are))
+  by are false e = subst AreLines (sym (lines-other b bs e)) (with_front b (lines bs) e are)
 
 abbrev joined : List (List ℕ) → List ℕ
 joined ls = flat_map (λ l. l) ls
 
-joined-front : (b : ℕ) (ls : List (List ℕ)) → joined (onto_first_line b ls) ≡ b ∷ joined ls
+joined-front : (b : ℕ) (ls : List (List ℕ)) → joined (in_front b ls) ≡ b ∷ joined ls
 joined-front b [] = refl
 joined-front b (line ∷ behind) = refl
 
-joined-text_lines : (bytes : List ℕ) → joined (text_lines bytes) ≡ bytes
-joined-text_lines [] = refl
-joined-text_lines (b ∷ bs) = by (joined-text_lines bs) (b == 10) refl where
-  by : joined (text_lines bs) ≡ bs → (t : Bool) → (b == 10) ≡ t → joined (text_lines (b ∷ bs)) ≡ b ∷ bs
-  by further true e = ap joined (text_lines-newline b bs e) ∙ ap (λ l. b ∷ l) further
-  by further false e = ap joined (lines-other b bs e) ∙ joined-front b (text_lines bs) ∙ ap (λ l. b ∷ l) further
+joined-lines : (bytes : List ℕ) → joined (lines bytes) ≡ bytes
+joined-lines [] = refl
+joined-lines (b ∷ bs) = by (joined-lines bs) (b == 10) refl where
+  by : joined (lines bs) ≡ bs → (t : Bool) → (b == 10) ≡ t → joined (lines (b ∷ bs)) ≡ b ∷ bs
+  by further true e = ap joined (lines-newline b bs e) ∙ ap (λ l. b ∷ l) further
+  by further false e = ap joined (lines-other b bs e) ∙ joined-front b (lines bs) ∙ ap (λ l. b ∷ l) further
 
 -- ---- what vanishes
 
@@ -162,7 +162,7 @@ pub same_text : (kept : Names) (written : List ℕ) → AllByRecursion IsKeptLin
     → without_names (with_names kept written) ≡ written
 unfolding with_names
 same_text kept written are plain =
-    same_lines (λ n. lines_in n kept.entries) (lines_at_top kept.entries) (last_call None (text_lines written)) (text_lines written)
+    same_lines (λ n. lines_in n kept.entries) (lines_at_top kept.entries) (last_call None (lines written)) (lines written)
     ((λ n. all_vanish (λ e. is_symbol n e.symbol) kept.entries are), all_vanish (λ e. is_top e.symbol) kept.entries are)
     (lines_are written) plain
-    ∙ joined-text_lines written
+    ∙ joined-lines written

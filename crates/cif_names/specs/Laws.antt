@@ -6,7 +6,7 @@ use Rattle.cif_scan.specs.declared.number.Number.{Number}
 use Rattle.cif_commands.specs.declared.definitions.Scale.{Scale}
 use Rattle.cif_names.specs.declared.names.Entry.{Entry}
 use Rattle.cif_names.specs.Entries.{limit_of, scaled_to_units}
-use Rattle.cif_names.specs.Lines.{text_lines}
+use Rattle.byte_io.specs.Lines.{lines}
 use Rattle.cif_names.specs.Names.{names_of}
 use Rattle.cif_names.specs.Woven.{with_names}
 
@@ -39,11 +39,11 @@ unless_kept line = if is_kept_line line then [] else line
 
 -- the text without its lines of names and labels
 abbrev pub without_names : List ℕ → List ℕ
-without_names text = flat_map unless_kept (text_lines text)
+without_names text = flat_map unless_kept (lines text)
 
 -- no line of the text is one of a name or a label
 abbrev pub HasNoNames : List ℕ → Type 0
-HasNoNames text = IsTrue (list_all (λ line. not (is_kept_line line)) (text_lines text))
+HasNoNames text = IsTrue (list_all (λ line. not (is_kept_line line)) (lines text))
 
 -- without these lines a text is what it was, whichever text they were taken from
 abbrev pub TextIsTheSame : Type 0

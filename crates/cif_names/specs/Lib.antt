@@ -1,6 +1,5 @@
 pub mod Entries
 pub mod Laws
-pub mod Lines
 pub mod Maps
 pub mod Names
 pub mod Pieces

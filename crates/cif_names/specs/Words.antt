@@ -1,9 +1,8 @@
 -- Words of a command, and the numbers that they spell.
-use Rattle.std.specs.Prelude.{ℕ, ◌==◌, nat_le, nat_lt, List, [], ◌∷◌, length, Bool, true, false, ◌&&◌, ◌||◌, not}
+use Rattle.std.specs.Prelude.{ℕ, ◌==◌, nat_le, nat_lt, List, [], ◌∷◌, Bool, true, false, ◌&&◌, ◌||◌, not}
 use Rattle.std.specs.Prelude.{Option, None, Some, option_map, if◌then◌else◌}
 use Rattle.std.specs.List.{list_all, take_while}
-use Rattle.lay_point.specs.Names.{is_digit}
-use Rattle.byte_io.specs.Decimal.{decimal_value}
+use Rattle.byte_io.specs.Numbers.{parsed_number}
 use Rattle.cif_scan.specs.declared.number.Number.{Number}
 use Rattle.cif_scan.specs.Bytes.{skip}
 use Rattle.cif_scan.specs.Numbers.{◌>>=◌}
@@ -43,23 +42,11 @@ only_word bytes = do
   word ← word_at bytes
   if list_all is_space word.1 then Some word.0 else None
 
--- a digit or more and nothing else
-abbrev pub is_all_digits : List ℕ → Bool
-is_all_digits word = nat_lt 0 (length word) && list_all is_digit word
-
--- the value of decimal digits, unless it is above the limit
-abbrev pub value_within : ℕ → List ℕ → Option ℕ
-value_within limit digits = if nat_le (decimal_value digits) limit then Some (decimal_value digits) else None
-
--- the number that the word spells, up to 2^31
-unfoldable pub magnitude_of : List ℕ → Option ℕ
-magnitude_of word = if is_all_digits word then value_within 2147483648 word else None
-
 -- a number with this sign
 abbrev pub with_sign : Bool → Option ℕ → Option Number
 with_sign negative magnitude = option_map (λ n. record { negative = negative; magnitude = n }) magnitude
 
--- the integer that the word spells, with a `-` before it or without
+-- the integer that the word spells, with a `-` before it or without, up to 2^31
 unfoldable pub integer_of : List ℕ → Option Number
-integer_of [] = with_sign false (magnitude_of [])
-integer_of (b ∷ bs) = if b == 45 then with_sign true (magnitude_of bs) else with_sign false (magnitude_of (b ∷ bs))
+integer_of [] = with_sign false (parsed_number 2147483648 [])
+integer_of (b ∷ bs) = if b == 45 then with_sign true (parsed_number 2147483648 bs) else with_sign false (parsed_number 2147483648 (b ∷ bs))

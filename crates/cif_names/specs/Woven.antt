@@ -7,7 +7,7 @@ use Rattle.std.specs.List.{list_any, starts_with}
 use Rattle.cif_scan.specs.Numbers.{integer_at}
 use Rattle.cif_names.specs.declared.names.Entry.{Entry}
 use Rattle.cif_names.specs.declared.names.Names.{Names}
-use Rattle.cif_names.specs.Lines.{text_lines}
+use Rattle.byte_io.specs.Lines.{lines}
 
 abbrev pub first_number : Option (ℕ × List ℕ) → Option ℕ
 first_number None = None
@@ -71,9 +71,9 @@ abbrev pub woven_line : (ℕ → List ℕ) → List ℕ → Option ℕ → List 
 woven_line of_symbol top called line = line ++ heading_of of_symbol top called (started line)
 
 abbrev pub woven : (ℕ → List ℕ) → List ℕ → Option ℕ → List (List ℕ) → List ℕ
-woven of_symbol top called lines = flat_map (woven_line of_symbol top called) lines
+woven of_symbol top called ls = flat_map (woven_line of_symbol top called) ls
 
 -- the text with the lines of what is kept in it
 unfoldable pub with_names : Names → List ℕ → List ℕ
 with_names kept written =
-    woven (λ n. lines_in n kept.entries) (lines_at_top kept.entries) (last_call None (text_lines written)) (text_lines written)
+    woven (λ n. lines_in n kept.entries) (lines_at_top kept.entries) (last_call None (lines written)) (lines written)

@@ -20,7 +20,6 @@
 
 mod labels;
 mod laws;
-mod lines;
 mod maps;
 mod names;
 mod numbers;

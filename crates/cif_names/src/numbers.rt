@@ -1,11 +1,9 @@
 //! Integers that words spell, and distances in database units, half-hundredths of a micrometre.
 ghost use Rattle.std.specs.Prelude.{◌≡◌, ◌≤◌, ◌<◌, ◌^◌, IfSome};
-ghost use Rattle.std.specs.List.{AllPass, list_all};
-ghost use Rattle.lay_point.specs.Names.{is_digit};
 ghost use Rattle.cif_names.specs.Entries.{coordinate_of, in_bits, limit_of, product_in_units, scaled_to_units};
-ghost use Rattle.cif_names.specs.Words.{integer_of, is_all_digits, magnitude_of, value_within, with_sign};
+ghost use Rattle.cif_names.specs.Words.{integer_of, with_sign};
 
-use byte_io::capped_decimal;
+use byte_io::number_of;
 use cif_commands::Scale;
 use cif_scan::Number;
 
@@ -80,8 +78,8 @@ fn integer_of(word: &[u8]) -> Option<Number>
     ensures small { IfSome result (λ n. n.magnitude ≤ 2147483648) }
 {
     match word {
-        [b'-', digits @ ..] => with_sign(true, magnitude_of(digits)),
-        digits => with_sign(false, magnitude_of(digits)),
+        [b'-', digits @ ..] => with_sign(true, number_of(MAX_COORDINATE, digits)),
+        digits => with_sign(false, number_of(MAX_COORDINATE, digits)),
     }
 }
 
@@ -96,44 +94,4 @@ fn with_sign(negative: bool, magnitude: Option<u32>) -> Option<Number>
         negative,
         magnitude,
     })
-}
-
-/// Returns the number that the word spells, up to 2^31.
-#[tactic(auto, unfolding(crate::specs::Words::magnitude_of))]
-fn magnitude_of(word: &[u8]) -> Option<u32>
-    ensures value { result ≡ magnitude_of word.now }
-    ensures small { IfSome result (λ n. n ≤ 2147483648) }
-{
-    if !is_number(word) {
-        return None;
-    }
-    value_up_to(MAX_COORDINATE, word)
-}
-
-/// Returns whether the word is a digit or more and nothing else.
-fn is_number(word: &[u8]) -> bool
-    ensures { result ≡ is_all_digits word.now }
-{
-    !word.is_empty() && are_digits(word)
-}
-
-/// Returns whether all bytes are digits.
-fn are_digits(bytes: &[u8]) -> bool
-    ensures { result ≡ list_all is_digit bytes.now }
-{
-    bytes.iter().all(|b| b.is_ascii_digit())
-}
-
-/// Returns the value of the digits, `None` where it is above the limit.
-fn value_up_to(limit: u32, digits: &[u8]) -> Option<u32>
-    requires { AllPass is_digit digits.now }
-    ensures value { result ≡ value_within limit digits.now }
-    ensures small { IfSome result (λ n. n ≤ limit) }
-{
-    let value = capped_decimal(limit, digits);
-    if u64::from(limit) < value {
-        None
-    } else {
-        Some(value as u32)
-    }
 }

@@ -1,13 +1,13 @@
 //! A text with the lines of what is kept in it.
 ghost use Rattle.std.specs.Prelude.{◌≡◌, ◌++◌, None, IfOk, OnOk};
-ghost use Rattle.cif_names.specs.Lines.{text_lines};
+ghost use Rattle.byte_io.specs.Lines.{lines};
 ghost use Rattle.cif_names.specs.Maps.{bytes_at};
 ghost use Rattle.cif_names.specs.Woven.{has_newline, heading, is_symbol, last_call, last_called, number_behind, started, with_names, woven};
 ghost use Rattle.cif_names.specs.Woven.{woven_line};
 
-use crate::lines::split_line;
 use crate::maps::{at_top, by_symbol, bytes_at};
 use crate::names::Names;
+use byte_io::split_line;
 use cif_scan::integer;
 use lay_point::{NoMemory, Sequence};
 use std::alloc::Global;
@@ -37,7 +37,7 @@ fn woven(
     called: Option<u32>,
     written: &[u8],
 ) -> Result<Vec<u8>, NoMemory>
-    ensures { IfOk result (λ bytes. bytes.items ≡ woven (bytes_at symbols.now.entries) top.now called (text_lines written.now)) }
+    ensures { IfOk result (λ bytes. bytes.items ≡ woven (bytes_at symbols.now.entries) top.now called (lines written.now)) }
 {
     let mut bytes = Vec::new(alloc);
     let mut rest = written;
@@ -114,7 +114,7 @@ fn is_ended(line: &[u8]) -> bool
 
 /// Returns the symbol that the text's last call names.
 fn last_call(written: &[u8]) -> Option<u32>
-    ensures { result ≡ last_call None (text_lines written.now) }
+    ensures { result ≡ last_call None (lines written.now) }
 {
     let mut called = None;
     let mut rest = written;

@@ -1,18 +1,13 @@
 -- A number that is written is spelled so.
 use Rattle.std.proofs.Common.{◌≡◌, ℕ, ◌+◌, ◌-◌, ◌*◌, ◌/◌, ◌%◌, ◌≤◌, ◌<◌, suc, true, false}
-use Rattle.std.proofs.Common.{List, [], ◌∷◌, ◌++◌, length, refl, sym, ap, ◌∙◌, subst, arith}
+use Rattle.std.proofs.Common.{List, [], ◌∷◌, ◌++◌, refl, sym, ap, ◌∙◌, subst, arith}
 use Rattle.std.proofs.Common.{append_assoc, ℤ, pos, negsuc}
 use Rattle.std.specs.Fmt.{decimal, signed_decimal}
 use Rattle.std.specs.List.{list_all}
 use Rattle.std.proofs.lemmas.Bool.{and_parts}
 use Rattle.std.proofs.lemmas.Bool.Decides.{nat_tests}
-use Rattle.std.proofs.lemmas.Fmt.{decimal_by_steps}
-use Rattle.std.proofs.lemmas.List.{length-append}
-use Rattle.std.proofs.lemmas.List.Folds.{list_all-append}
-use Rattle.std.proofs.lemmas.List.Sums.{fold_push}
-use Rattle.byte_io.specs.Decimal.{decimal_value}
+use Rattle.byte_io.proofs.DigitLemmas.{decimal_is}
 use Rattle.lay_point.specs.declared.point.Point.{Point}
-use Rattle.lay_point.specs.Names.{is_digit}
 use Rattle.lay_point.specs.Points.{is_coordinate, is_in_range}
 use Rattle.cif_scan.specs.declared.number.Number.{Number}
 use Rattle.cif_scan.specs.declared.number.TheConstants.{MAX_MAGNITUDE}
@@ -22,30 +17,9 @@ use Rattle.cif_commands.specs.declared.paths.Vertex.{Vertex}
 use Rattle.cif_commands.specs.Grammar.{IsVertex}
 use Rattle.cif_write.specs.Lines.{point_text}
 
--- digits spell a number, however great
-record IsDecimal (n : ℕ) (text : List ℕ) : Type 0 where
-  some : 1 ≤ length text
-  digits : list_all is_digit text ≡ true
-  value : decimal_value text ≡ n
-
-one_digit : (n : ℕ) → n < 10 → IsDecimal n ((48 + n) ∷ [])
-one_digit n h = record { some = omega arith; digits = grind (arith, nat_tests); value = omega arith }
-
-more_digits : (n : ℕ) (ds : List ℕ) → 10 ≤ n → IsDecimal (n / 10) ds → IsDecimal n (ds ++ ((48 + n % 10) ∷ []))
-more_digits n ds h is =
-    let low : n % 10 < 10 = omega arith in
-    let last : list_all is_digit ((48 + n % 10) ∷ []) ≡ true = (one_digit (n % 10) low).digits in
-    record {
-      some = omega (arith, length-append ds ((48 + n % 10) ∷ []));
-      digits = list_all-append is_digit ds ((48 + n % 10) ∷ []) ∙ rw (is.digits, last) refl;
-      value = fold_push (λ m d. 10 * m + (d - 48)) 0 ds (48 + n % 10) ∙ last_digit n (decimal_value ds) is.value;
-    } where
-      last_digit : (n front : ℕ) → front ≡ n / 10 → 10 * front + (48 + n % 10 - 48) ≡ n
-      last_digit n front e = omega (arith, e)
-
 pub decimal_spelled : (n : ℕ) → n ≤ MAX_MAGNITUDE → IsDigits (decimal n) n
 decimal_spelled n h =
-    let is = decimal_by_steps IsDecimal one_digit more_digits n (omega arith) in
+    let is = decimal_is n (omega arith) in
     record { some = is.some; digits = is.digits; value = omega (arith, is.value) }
 
 -- behind a space

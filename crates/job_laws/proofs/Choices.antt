@@ -11,7 +11,7 @@ use Rattle.job_text.specs.declared.job.JobFault.{JobFault}
 use Rattle.job_text.specs.declared.job.JobFault.TheVariants.{Line}
 use Rattle.job_text.specs.Job.{◌>>=◌, is_none_of, is_only, is_only_number, is_session_line, is_session_number, steps_with}
 use Rattle.job_text.specs.Steps.{Word, command_named, op_of, short_command, step_named, step_of}
-use Rattle.job_lines.specs.Words.{parsed_number}
+use Rattle.byte_io.specs.Numbers.{parsed_number}
 
 -- the result of an `if`, by what it comes from
 pub choose : {A P : Type 0} (b : Bool) (x y r : A) → (if b then x else y) ≡ r → (b ≡ true → x ≡ r → P) → (b ≡ false → y ≡ r → P) → P

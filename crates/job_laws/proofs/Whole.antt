@@ -5,7 +5,7 @@ use Rattle.std.proofs.lemmas.Bool.Decides.{nat_tests}
 use Rattle.job_text.specs.declared.job.JobFault.TheVariants.{Line as FaultLine}
 use Rattle.job_text.specs.Job.{◌>>=◌, Place, Sections, head_of, job_of, order_at, sections_at, sections_job, sections_of, text_of}
 use Rattle.job_text.specs.Jobs.{Job}
-use Rattle.job_lines.specs.Lines.{lines}
+use Rattle.byte_io.specs.Lines.{lines}
 use Rattle.job_laws.specs.JobLines.{IsJob}
 use Rattle.job_laws.proofs.Choices.{bind_ok, choose, not_err, ok_same}
 use Rattle.job_laws.proofs.Heads.{head_complete, head_sound, text_complete, text_sound}

@@ -4,9 +4,10 @@ use Rattle.std.specs.List.{AllByRecursion, list_all}
 use Rattle.session_steps.specs.declared.Step.{Step}
 use Rattle.job_text.specs.Job.{is_section, named_in, one_by_one, total_len}
 use Rattle.job_text.specs.Jobs.{Job}
-use Rattle.job_lines.specs.Lines.{lines}
+use Rattle.byte_io.specs.Lines.{lines}
 use Rattle.job_text.specs.Steps.{Word, step_of}
-use Rattle.job_lines.specs.Words.{is_number, parsed_number, words_of}
+use Rattle.byte_io.specs.Numbers.{is_number, parsed_number}
+use Rattle.job_lines.specs.Words.{words_of}
 
 abbrev pub JobLine : Type 0
 JobLine = List ℕ

@@ -5,7 +5,7 @@ use Rattle.std.specs.Prelude.{◌⊎◌, ◌&&◌, ◌==◌, not, if◌then◌el
 use Rattle.std.specs.List.{list_all}
 use Rattle.std.proofs.lemmas.Bool.{and_parts}
 use Rattle.std.proofs.lemmas.Bool.Decides.{nat_tests}
-use Rattle.job_lines.specs.Lines.{in_front, lines}
+use Rattle.byte_io.specs.Lines.{in_front, lines}
 use Rattle.job_text.specs.Steps.{Word}
 use Rattle.job_lines.specs.Words.{is_word_end, is_word_separator, words}
 use Rattle.job_line_laws.specs.Cuts.{AreLines, AreWords, is_line_byte, is_of_word}

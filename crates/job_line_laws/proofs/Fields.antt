@@ -19,19 +19,11 @@ use Rattle.lay_point.specs.declared.turn.Quarter.TheVariants.{R0, R90, R180, R27
 use Rattle.lay_point.specs.declared.turn.Turn.{Turn}
 use Rattle.lay_point.specs.Names.{is_digit}
 use Rattle.txn_commands.specs.declared.command.TxnId.{TxnId}
-use Rattle.job_lines.specs.Words.{
-  ◌>>=◌,
-  before_dot,
-  parsed_cell,
-  parsed_coordinate,
-  is_negative,
-  parsed_item,
-  parsed_number,
-  parsed_quarter,
-}
+use Rattle.byte_io.specs.Numbers.{parsed_number}
+use Rattle.job_lines.specs.Words.{◌>>=◌, before_dot, parsed_cell, parsed_coordinate, is_negative, parsed_item, parsed_quarter}
 use Rattle.job_lines.specs.Words.{parsed_turning, parsed_txn}
 use Rattle.job_line_laws.specs.Written.{IsCell, IsCoordinate, IsItem, IsTxn, cell_word, degrees, item_word, turning_word, txn_word}
-use Rattle.job_line_laws.proofs.Digits.{decimal_is, digits_read, number_read}
+use Rattle.byte_io.proofs.DigitLemmas.{decimal_is, digits_read, number_read}
 
 -- ---- coordinates
 

@@ -7,7 +7,7 @@ use Rattle.std.proofs.lemmas.Bool.{and_parts}
 use Rattle.std.proofs.lemmas.Bool.Decides.{nat_tests}
 use Rattle.std.proofs.lemmas.List.{length-append}
 use Rattle.std.proofs.lemmas.List.Folds.{list_all-append}
-use Rattle.job_lines.specs.Lines.{content, ends_with, in_front, without_last}
+use Rattle.byte_io.specs.Lines.{content, ends_with, in_front, without_last}
 use Rattle.job_text.specs.Steps.{Word}
 use Rattle.job_lines.specs.Words.{is_word_end, is_word_separator, words, words_of}
 use Rattle.job_line_laws.specs.Written.{line_of, spaced_words}

@@ -1,5 +1,4 @@
 pub mod Cut
-pub mod Digits
 pub mod Fields
 pub mod Joined
 pub mod Plain

@@ -38,7 +38,7 @@ use Rattle.job_text.specs.Steps.{Word}
 use Rattle.job_line_laws.specs.Written.{CanBeSaid, CanSay, IsCell, IsCoordinate, IsItem, IsLayerName}
 use Rattle.job_line_laws.specs.Written.{IsPoint, IsTxn, cell_word, command_words, degrees, item_word}
 use Rattle.job_line_laws.specs.Written.{op_word, point_words, step_words, txn_word}
-use Rattle.job_line_laws.proofs.Digits.{decimal_is}
+use Rattle.byte_io.proofs.DigitLemmas.{decimal_is}
 use Rattle.job_line_laws.proofs.Joined.{IsWord, is_plain}
 
 digit_plain : (b : ℕ) → is_digit b ≡ true → is_plain b ≡ true

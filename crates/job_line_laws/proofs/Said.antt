@@ -32,7 +32,7 @@ use Rattle.job_text.specs.Steps.{short_command, step_named, step_of, symbol_alon
 use Rattle.job_lines.specs.Words.{◌>>=◌}
 use Rattle.job_line_laws.specs.Written.{CanBeSaid, CanSay, IsItem, IsPoint, IsTxn, cell_word}
 use Rattle.job_line_laws.specs.Written.{command_words, item_word, point_words, step_words, turning_word, txn_word}
-use Rattle.job_line_laws.proofs.Digits.{number_read}
+use Rattle.byte_io.proofs.DigitLemmas.{number_read}
 use Rattle.job_line_laws.proofs.Fields.{cell_read, coordinate_read, item_read, turning_read, txn_read}
 
 item_only : (id : ItemId) → IsItem id → item_alone (item_word id ∷ []) ≡ Some id

@@ -32,7 +32,8 @@ use Rattle.job_text.specs.Steps.{leading_layer}
 use Rattle.job_text.specs.Steps.{layer_command, leading_point, move_command, op_of, parsed_points, place_command, point_of, poly_command}
 use Rattle.job_text.specs.Steps.{short_command, step_named}
 use Rattle.job_text.specs.Steps.{leading_symbol, leading_turning, step_of, symbol_alone, txn_alone}
-use Rattle.job_lines.specs.Words.{◌>>=◌, parsed_cell, parsed_coordinate, parsed_item, parsed_number, parsed_turning, parsed_txn}
+use Rattle.byte_io.specs.Numbers.{parsed_number}
+use Rattle.job_lines.specs.Words.{◌>>=◌, parsed_cell, parsed_coordinate, parsed_item, parsed_turning, parsed_txn}
 use Rattle.job_line_laws.specs.Steps.{ArePoints, IsPointOf, Says, SaysCommand, boxes, cancels, combines, commits, deletes}
 use Rattle.job_line_laws.specs.Steps.{does, drops, layers, looks, makes, moves, opens, places, polygons, redoes, undoes}
 use Rattle.job_line_laws.specs.Written.{op_word}

@@ -1,7 +1,7 @@
 -- How bytes are cut into lines, and a line into words.
 use Rattle.std.specs.Prelude.{◌≡◌, ◌⊎◌, ℕ, ◌≤◌, List, [], ◌∷◌, ◌++◌, length, Bool, true, not, ◌==◌}
 use Rattle.std.specs.List.{list_all}
-use Rattle.job_lines.specs.Lines.{lines}
+use Rattle.byte_io.specs.Lines.{lines}
 use Rattle.job_text.specs.Steps.{Word}
 use Rattle.job_lines.specs.Words.{is_word_end, is_word_separator, words}
 

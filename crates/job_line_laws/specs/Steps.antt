@@ -24,7 +24,8 @@ use Rattle.txn_commands.specs.declared.command.TxnId.{TxnId}
 use Rattle.session_steps.specs.declared.Step.{Step}
 use Rattle.session_steps.specs.declared.Step.TheVariants.{Cancel, Commit, Do, Open, Redo, Undo}
 use Rattle.job_text.specs.Steps.{Word, step_of}
-use Rattle.job_lines.specs.Words.{parsed_cell, parsed_coordinate, parsed_item, parsed_number, parsed_turning, parsed_txn}
+use Rattle.byte_io.specs.Numbers.{parsed_number}
+use Rattle.job_lines.specs.Words.{parsed_cell, parsed_coordinate, parsed_item, parsed_turning, parsed_txn}
 use Rattle.job_line_laws.specs.Written.{op_word}
 
 -- the two words spell the point's coordinates

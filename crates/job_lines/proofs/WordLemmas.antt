@@ -5,7 +5,7 @@ use Rattle.std.specs.Prelude.{not, if◌then◌else◌}
 use Rattle.std.specs.List.{position, position_or_len}
 use Rattle.std.proofs.lemmas.List.{length-drop}
 use Rattle.lay_calls.proofs.GraphLemmas.{found_or_len}
-use Rattle.job_lines.specs.Lines.{in_front}
+use Rattle.byte_io.specs.Lines.{in_front}
 use Rattle.job_lines.specs.Words.{IsFirstWord, from_word, is_word_end, is_word_separator, words}
 
 -- how many bytes stand before the first word, or all

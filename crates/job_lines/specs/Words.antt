@@ -1,7 +1,7 @@
 -- Words of a line, and what they spell.
 use Rattle.std.specs.Prelude.{◌≡◌, ℕ, ◌+◌, ◌<◌, List, [], ◌∷◌, codes, drop, length, take, slice_index, Bool, true, false, ◌&&◌, ◌||◌, ◌==◌}
-use Rattle.std.specs.Prelude.{nat_le, nat_lt, if◌then◌else◌, Option, None, Some, not, option_and_then, option_map, unwrap_or, ℤ, pos, neg_ℤ}
-use Rattle.std.specs.List.{list_all, position}
+use Rattle.std.specs.Prelude.{nat_lt, if◌then◌else◌, Option, None, Some, not, option_and_then, option_map, unwrap_or, ℤ, pos, neg_ℤ}
+use Rattle.std.specs.List.{position}
 use Rattle.std.specs.Str.{bytes_eq}
 use Rattle.lay_calls.specs.declared.cell_id.CellId.{CellId}
 use Rattle.lay_calls.specs.declared.cell_id.CellId.TheVariants.{Top, Symbol}
@@ -9,10 +9,9 @@ use Rattle.lay_calls.specs.declared.cells.TheConstants.{MAX_SYMBOL}
 use Rattle.lay_layouts.specs.declared.id.ItemId.{ItemId}
 use Rattle.lay_point.specs.declared.turn.Quarter.{Quarter}
 use Rattle.lay_point.specs.declared.turn.Quarter.TheVariants.{R0, R90, R180, R270}
-use Rattle.lay_point.specs.Names.{is_digit}
-use Rattle.byte_io.specs.Decimal.{decimal_value}
+use Rattle.byte_io.specs.Lines.{content, in_front}
+use Rattle.byte_io.specs.Numbers.{parsed_number}
 use Rattle.session_steps.specs.TxnId.{TxnId}
-use Rattle.job_lines.specs.Lines.{content, in_front}
 
 -- the step that follows takes what this one gives, and nothing follows `None`
 infixl 10 ◌>>=◌
@@ -48,18 +47,6 @@ from_word line = drop (unwrap_or (position (λ b. not (is_word_separator b)) lin
 pub record IsFirstWord (bytes word behind : List ℕ) : Type 0 where
   pub first : words bytes ≡ word ∷ words behind
   pub shorter : length behind < length bytes
-
--- a digit or more and nothing else
-abbrev pub is_number : List ℕ → Bool
-is_number bytes = nat_lt 0 (length bytes) && list_all is_digit bytes
-
--- the value of decimal digits, unless it is above the limit
-abbrev pub value_up_to : ℕ → List ℕ → Option ℕ
-value_up_to limit digits = if nat_le (decimal_value digits) limit then Some (decimal_value digits) else None
-
--- the number that the word spells, up to the limit; leading zeros are allowed, a sign isn't
-unfoldable pub parsed_number : ℕ → List ℕ → Option ℕ
-parsed_number limit bytes = if is_number bytes then value_up_to limit bytes else None
 
 -- whether the word begins with a minus sign
 abbrev pub is_negative : List ℕ → Bool

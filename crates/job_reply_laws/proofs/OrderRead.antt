@@ -7,9 +7,9 @@ use Rattle.std.specs.List.{AllByRecursion, list_all}
 use Rattle.std.proofs.lemmas.Bool.{and_parts}
 use Rattle.lay_point.specs.Names.{is_digit}
 use Rattle.byte_io.specs.Decimal.{decimal_value}
-use Rattle.job_lines.specs.Lines.{in_front}
+use Rattle.byte_io.specs.Lines.{in_front}
 use Rattle.job_text.specs.Order.{order_from, order_number_text, order_text}
-use Rattle.job_line_laws.proofs.Digits.{decimal_is}
+use Rattle.byte_io.proofs.DigitLemmas.{decimal_is}
 use Rattle.job_reply_laws.specs.Laws.{IsCount}
 use Rattle.job_reply_laws.specs.Numbers.{is_digit_first, numbers_in, runs}
 

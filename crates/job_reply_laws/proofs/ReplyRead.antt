@@ -39,9 +39,10 @@ use Rattle.session_steps.specs.declared.StepFault.{StepFault}
 use Rattle.session_steps.specs.declared.StepFault.TheVariants.{AlreadyOpen, Book, Command, NoSession, NotOpen}
 use Rattle.job_lines.specs.Replies.{answer_text, reply_text}
 use Rattle.job_text.specs.Steps.{Word, leading_point, point_of}
-use Rattle.job_lines.specs.Words.{◌>>=◌, before_dot, parsed_cell, parsed_item, parsed_number, parsed_turning, parsed_txn, words}
+use Rattle.byte_io.specs.Numbers.{parsed_number}
+use Rattle.job_lines.specs.Words.{◌>>=◌, before_dot, parsed_cell, parsed_item, parsed_turning, parsed_txn, words}
 use Rattle.job_line_laws.specs.Written.{IsCoordinate, IsItem, IsPoint, IsTxn, item_word, point_words, spaced_words, txn_word}
-use Rattle.job_line_laws.proofs.Digits.{decimal_is, number_read}
+use Rattle.byte_io.proofs.DigitLemmas.{decimal_is, number_read}
 use Rattle.job_line_laws.proofs.Fields.{cell_read, coordinate_read, dot_read, item_read, turning_read, txn_read}
 use Rattle.job_line_laws.proofs.Joined.{words-spaced_words}
 use Rattle.job_line_laws.proofs.Plain.{decimal_word}

@@ -2,7 +2,7 @@
 use Rattle.std.specs.Prelude.{ℕ, List, [], ◌∷◌, Bool, false, if◌then◌else◌, map}
 use Rattle.lay_point.specs.Names.{is_digit}
 use Rattle.byte_io.specs.Decimal.{decimal_value}
-use Rattle.job_lines.specs.Lines.{in_front}
+use Rattle.byte_io.specs.Lines.{in_front}
 
 -- whether the first of the bytes is a digit
 abbrev pub is_digit_first : List ℕ → Bool

@@ -8,9 +8,10 @@ use Rattle.job_text.specs.declared.job.JobFault.{JobFault}
 use Rattle.job_text.specs.declared.job.JobFault.TheVariants.{Line}
 use Rattle.session_steps.specs.declared.Step.{Step}
 use Rattle.job_text.specs.Jobs.{Job}
-use Rattle.job_lines.specs.Lines.{lines}
+use Rattle.byte_io.specs.Lines.{lines}
 use Rattle.job_text.specs.Steps.{step_of}
-use Rattle.job_lines.specs.Words.{is_number, parsed_number, words_of}
+use Rattle.byte_io.specs.Numbers.{is_number, parsed_number}
+use Rattle.job_lines.specs.Words.{words_of}
 
 -- the step that follows takes what this one gives, and nothing follows a fault
 infixl 10 ◌>>=◌

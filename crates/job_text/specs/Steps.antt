@@ -15,7 +15,8 @@ use Rattle.undo_rules.specs.Command.TheVariants.{DropCell}
 use Rattle.undo_rules.specs.TxnId.{TxnId}
 use Rattle.session_steps.specs.declared.Step.{Step}
 use Rattle.session_steps.specs.declared.Step.TheVariants.{Open, Do, Commit, Cancel, Undo, Redo}
-use Rattle.job_lines.specs.Words.{◌>>=◌, parsed_cell, parsed_coordinate, parsed_item, parsed_number, parsed_turning, parsed_txn}
+use Rattle.byte_io.specs.Numbers.{parsed_number}
+use Rattle.job_lines.specs.Words.{◌>>=◌, parsed_cell, parsed_coordinate, parsed_item, parsed_turning, parsed_txn}
 
 abbrev pub Word : Type 0
 Word = List ℕ

@@ -4,9 +4,8 @@ ghost use Rattle.job_text.specs.Job.{is_none_of};
 ghost use Rattle.job_text.specs.Steps.{if_ended, item_alone, leading_cell, leading_coordinate, leading_item, leading_point, leading_symbol, leading_turning, leading_txn, point_of, symbol_alone, txn_alone};
 ghost use Rattle.job_lines.specs.Words.{words};
 
-use crate::words::{
-    cell_of, coordinate_of, is_blank, item_of, number_of, split_word, turning_of, txn_of,
-};
+use crate::words::{cell_of, coordinate_of, is_blank, item_of, split_word, turning_of, txn_of};
+use byte_io::number_of;
 use lay_calls::{CellId, MAX_SYMBOL};
 use lay_layouts::ItemId;
 use lay_point::{Point, Quarter};

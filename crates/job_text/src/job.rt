@@ -4,13 +4,13 @@ ghost use Rattle.std.specs.Result.{result_map_both};
 ghost use Rattle.lay_point.specs.Memory.{IsAnswer};
 ghost use Rattle.job_text.specs.declared.job.JobFault.TheVariants.{Line, NoMemory as OutOfMemory};
 ghost use Rattle.job_text.specs.Job.{head_of, is_none_of, is_only, is_section, job_of, sections_job, sections_of, text_of};
-ghost use Rattle.job_lines.specs.Lines.{lines};
+ghost use Rattle.byte_io.specs.Lines.{lines};
 ghost use Rattle.job_lines.specs.Words.{words};
 
 use crate::order_section::order_at;
 use crate::scripts::sections_at;
 use crate::words::{is_blank, split_word};
-use job_lines::{content, split_line};
+use byte_io::{content, split_line};
 use lay_point::{NoMemory, Sequence};
 use session_steps::Step;
 use std::alloc::Global;

@@ -10,7 +10,7 @@
 //! A live run has its steps in lines `SESSION STEP`, which come one at a time: [`live_line`] says what a line
 //! asks for, and [`reply_line`] and [`odd_line`] give the comments that answer it.
 //!
-//! Which job the bytes are is `specs/Job.antt`, on the lines of `job_lines/specs/Lines.antt`, their words of
+//! Which job the bytes are is `specs/Job.antt`, on the lines of `byte_io/specs/Lines.antt`, their words of
 //! `job_lines/specs/Words.antt` and the steps of `specs/Steps.antt`; the comments are `job_lines/specs/Replies.antt` and
 //! `specs/Order.antt`. Contracts see a job as the record of its text's bytes, its
 //! scripts and its order.

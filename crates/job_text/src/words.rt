@@ -1,12 +1,10 @@
 //! Words of a line, and what they spell.
 ghost use Rattle.std.specs.Prelude.{◌+◌, ◌≡◌, ◌≤◌, [], neg_ℤ, length, not, option_map, pos, ◌<◌, ◌-◌, ◌^◌, IfSome, MatchOption, Some, None};
-ghost use Rattle.std.specs.List.{AllPass, list_all, position};
-ghost use Rattle.lay_point.specs.Names.{is_digit};
+ghost use Rattle.std.specs.List.{position};
 ghost use Rattle.job_text.specs.Job.{is_none_of};
-ghost use Rattle.job_lines.specs.Words.{IsFirstWord, before_dot, from_word, is_negative, is_number, is_word_separator, parsed_cell, parsed_coordinate, parsed_item, parsed_mirror, parsed_number, parsed_quarter, parsed_turning, parsed_txn, value_up_to, words};
+ghost use Rattle.job_lines.specs.Words.{IsFirstWord, before_dot, from_word, is_negative, is_word_separator, parsed_cell, parsed_coordinate, parsed_item, parsed_mirror, parsed_quarter, parsed_turning, parsed_txn, words};
 
-use byte_io::capped_decimal;
-use job_lines::place_of;
+use byte_io::{number_of, place_of};
 use lay_calls::{CellId, MAX_SYMBOL};
 use lay_layouts::ItemId;
 use lay_point::Quarter;
@@ -193,44 +191,4 @@ fn is_negative(word: &[u8]) -> bool
     ensures { result ≡ is_negative word.now }
 {
     word.first() == Some(&b'-')
-}
-
-/// The number that the word spells, `None` where it spells none up to the limit.
-#[tactic(auto, unfolding(job_lines::specs::Words::parsed_number))]
-pub(crate) fn number_of(limit: u32, word: &[u8]) -> Option<u32>
-    ensures value { result ≡ parsed_number limit word.now }
-    ensures small { IfSome result (λ n. n ≤ limit) }
-{
-    if !is_number(word) {
-        return None;
-    }
-    value_up_to(limit, word)
-}
-
-/// Returns whether the word is a digit or more and nothing else.
-pub(crate) fn is_number(word: &[u8]) -> bool
-    ensures { result ≡ is_number word.now }
-{
-    !word.is_empty() && are_digits(word)
-}
-
-/// Returns whether all bytes are digits.
-fn are_digits(bytes: &[u8]) -> bool
-    ensures { result ≡ list_all is_digit bytes.now }
-{
-    bytes.iter().all(|b| b.is_ascii_digit())
-}
-
-/// The value of the digits, `None` where it is above the limit.
-fn value_up_to(limit: u32, digits: &[u8]) -> Option<u32>
-    requires { AllPass is_digit digits.now }
-    ensures value { result ≡ value_up_to limit digits.now }
-    ensures small { IfSome result (λ n. n ≤ limit) }
-{
-    let value = capped_decimal(limit, digits);
-    if u64::from(limit) < value {
-        None
-    } else {
-        Some(value as u32)
-    }
 }

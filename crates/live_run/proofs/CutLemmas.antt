@@ -6,7 +6,7 @@ use Rattle.std.proofs.Common.{append_assoc, append-nil}
 use Rattle.std.specs.Prelude.{filter}
 use Rattle.std.specs.List.{list_all}
 use Rattle.std.proofs.lemmas.List.Elements.{filter-append}
-use Rattle.job_lines.specs.Lines.{in_front, lines}
+use Rattle.byte_io.specs.Lines.{in_front, lines}
 use Rattle.live_run.specs.Cif.{is_ended, whole}
 use Rattle.live_run.specs.Ear.{IsCut, is_not_newline}
 

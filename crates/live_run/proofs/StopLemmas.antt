@@ -8,7 +8,7 @@ use Rattle.byte_io.specs.Device.{WroteAll, WrotePrefix}
 use Rattle.byte_io.proofs.BufferedLemmas.{WroteAll-then, WrotePrefix-behind}
 use Rattle.cif_content.specs.Contents.{Contents}
 use Rattle.lay_items.specs.FromCif.{layout_of}
-use Rattle.job_lines.specs.Lines.{lines}
+use Rattle.byte_io.specs.Lines.{lines}
 use Rattle.job_text.specs.Job.{job_of}
 use Rattle.job_live.specs.Live.{LiveRun, after_line, after_lines, before_first_line}
 use Rattle.live_run.specs.declared.course.Course.{Course}

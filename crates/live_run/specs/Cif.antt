@@ -7,7 +7,7 @@ use Rattle.job_text.specs.declared.job.JobFault.{JobFault}
 use Rattle.job_text.specs.declared.job.JobFault.TheVariants.{Line}
 use Rattle.job_text.specs.Job.{job_of}
 use Rattle.job_text.specs.Jobs.{Job}
-use Rattle.job_lines.specs.Lines.{lines}
+use Rattle.byte_io.specs.Lines.{lines}
 
 -- whether the line ends with a newline
 abbrev pub is_ended : List ℕ → Bool

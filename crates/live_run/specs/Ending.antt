@@ -7,7 +7,7 @@ use Rattle.byte_io.specs.Input.{Counts}
 use Rattle.cif_content.specs.declared.fault.CifFault.{CifFault}
 use Rattle.cif_content.specs.Meaning.{IsMeaning}
 use Rattle.job_text.specs.declared.job.JobFault.TheVariants.{Line}
-use Rattle.job_lines.specs.Lines.{lines}
+use Rattle.byte_io.specs.Lines.{lines}
 use Rattle.live_run.specs.declared.ending.LiveEnd.{LiveEnd}
 use Rattle.live_run.specs.declared.ending.LiveEnd.TheVariants.{Cif, Device, Done, Job, Memory}
 use Rattle.live_run.specs.Cif.{before, behind, cif_of, whole}

@@ -1,5 +1,5 @@
 use Rattle.std.proofs.Common.{◌≡◌, ◌++◌, length}
-use Rattle.cif_names.specs.Lines.{text_lines}
+use Rattle.byte_io.specs.Lines.{lines}
 use Rattle.cif_names.specs.Maps.{bytes_at}
 use Rattle.cif_names.specs.Woven.{woven}
 use Rattle.cif_names.proofs.woven.woven.Given as goal
@@ -7,8 +7,8 @@ use Rattle.cif_names.proofs.woven.woven.Given as goal
 -- what was made of the lines so far, and what is made of those that are left
 abbrev pub invariant-loop-line : goal.invariant-loop-line
 invariant-loop-line l =
-    l.bytes.items ++ woven (bytes_at l.symbols.entries) l.top l.called (text_lines l.rest)
-    ≡ woven (bytes_at l.symbols.entries) l.top l.called (text_lines l.written)
+    l.bytes.items ++ woven (bytes_at l.symbols.entries) l.top l.called (lines l.rest)
+    ≡ woven (bytes_at l.symbols.entries) l.top l.called (lines l.written)
 
 abbrev pub decreases-loop-line : goal.decreases-loop-line
 decreases-loop-line l = length l.rest

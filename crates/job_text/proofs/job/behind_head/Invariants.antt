@@ -1,7 +1,7 @@
 -- What the lines that are left say is what all lines say.
 use Rattle.std.proofs.Common.{◌≡◌, ◌+◌, ◌≤◌, length}
 use Rattle.job_text.specs.Job.{head_of}
-use Rattle.job_lines.specs.Lines.{lines}
+use Rattle.byte_io.specs.Lines.{lines}
 use Rattle.job_text.proofs.job.behind_head.Given as goal
 
 abbrev pub invariant-loop-line : goal.invariant-loop-line

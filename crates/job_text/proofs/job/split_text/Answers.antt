@@ -1,7 +1,7 @@
 use Rattle.std.proofs.Common.{◌≡◌, ◌+◌, ◌<◌, ◌++◌, ◌∷◌, drop, false, length, rules, arith, sym, take, ap, ◌∙◌}
 use Rattle.std.proofs.lemmas.List.{length-append}
 use Rattle.job_text.specs.Job.{is_section, text_of}
-use Rattle.job_lines.specs.Lines.{lines}
+use Rattle.byte_io.specs.Lines.{lines}
 use Rattle.job_text.proofs.JobLemmas.{dropped_more, sections_of-line, taken_more, text_more, text_of-line}
 use Rattle.job_text.proofs.job.split_text.Goals as goal
 

@@ -1,7 +1,7 @@
 -- The text so far, and that of the lines that are left, is the text of all lines.
 use Rattle.std.proofs.Common.{◌≡◌, ◌+◌, ◌++◌, ◌≤◌, drop, length, take}
 use Rattle.job_text.specs.Job.{sections_of, text_of}
-use Rattle.job_lines.specs.Lines.{lines}
+use Rattle.byte_io.specs.Lines.{lines}
 use Rattle.job_text.proofs.job.split_text.Given as goal
 
 abbrev pub invariant-loop-line : goal.invariant-loop-line

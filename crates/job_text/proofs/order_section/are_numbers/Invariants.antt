@@ -1,7 +1,8 @@
 -- Whether the words that are left are numbers decides of all words.
 use Rattle.std.proofs.Common.{◌≡◌, length}
 use Rattle.std.specs.List.{list_all}
-use Rattle.job_lines.specs.Words.{is_number, words}
+use Rattle.byte_io.specs.Numbers.{is_number}
+use Rattle.job_lines.specs.Words.{words}
 use Rattle.job_text.proofs.order_section.are_numbers.Given as goal
 
 abbrev pub invariant-loop-word : goal.invariant-loop-word

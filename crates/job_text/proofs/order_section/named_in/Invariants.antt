@@ -1,7 +1,7 @@
 -- The sessions so far, and those of the lines that are left, are the sessions of all lines.
 use Rattle.std.proofs.Common.{◌≡◌, ◌++◌, length}
 use Rattle.job_text.specs.Job.{named_in}
-use Rattle.job_lines.specs.Lines.{lines}
+use Rattle.byte_io.specs.Lines.{lines}
 use Rattle.job_text.proofs.order_section.named_in.Given as goal
 
 abbrev pub invariant-loop-line : goal.invariant-loop-line

@@ -1,7 +1,7 @@
 -- The first odd line of those that are left is that of all.
 use Rattle.std.proofs.Common.{◌≡◌, ◌+◌, ◌≤◌, length}
 use Rattle.job_text.specs.Job.{odd_line}
-use Rattle.job_lines.specs.Lines.{lines}
+use Rattle.byte_io.specs.Lines.{lines}
 use Rattle.job_text.proofs.order_section.odd_line.Given as goal
 
 abbrev pub invariant-loop-line : goal.invariant-loop-line

@@ -1,7 +1,7 @@
 -- The scripts so far, and those of the lines that are left, are the scripts of all lines.
 use Rattle.std.proofs.Common.{◌≡◌, ◌+◌, ◌<◌, ◌≤◌, [], length}
 use Rattle.job_text.specs.Job.{scripts_of}
-use Rattle.job_lines.specs.Lines.{lines}
+use Rattle.byte_io.specs.Lines.{lines}
 use Rattle.job_text.proofs.scripts.scripts_of.Given as goal
 
 abbrev pub invariant-loop-line : goal.invariant-loop-line

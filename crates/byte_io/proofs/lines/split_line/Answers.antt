@@ -1,7 +1,7 @@
 use Rattle.std.proofs.Common.{◌<◌, length, rules, arith}
 use Rattle.std.proofs.lemmas.Grind.{common_steps}
-use Rattle.job_lines.proofs.LineLemmas.{first_len-some, first_line}
-use Rattle.job_lines.proofs.lines.split_line.Goals as goal
+use Rattle.byte_io.proofs.LineLemmas.{first_len-some, first_line}
+use Rattle.byte_io.proofs.lines.split_line.Goals as goal
 
 pub returns : goal.returns
 returns c =

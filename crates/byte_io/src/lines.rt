@@ -1,9 +1,13 @@
-//! The lines of a job.
+//! Lines of a text.
 ghost use Rattle.std.specs.Prelude.{◌≡◌, ◌<◌, ◌==◌, ◌≤◌, [], IfSome, MatchOption, length};
 ghost use Rattle.std.specs.List.{position};
-ghost use Rattle.job_lines.specs.Lines.{IsFirstLine, content, first_len, without_last};
+ghost use Rattle.byte_io.specs.Lines.{IsFirstLine, content, first_len, without_last};
 
-/// The first line of the bytes, with its newline, and what stands behind it. `None` where there is none.
+/// Returns the first line of the bytes, with its newline, and what stands behind it. `None` where there is none.
+///
+/// # Cost
+///
+/// A pass over the first line.
 pub fn split_line(bytes: &[u8]) -> Option<(&[u8], &[u8])>
     ensures { MatchOption result (bytes.now ≡ []) (λ p. IsFirstLine bytes.now p.0.now p.1.now) }
 {
@@ -13,7 +17,7 @@ pub fn split_line(bytes: &[u8]) -> Option<(&[u8], &[u8])>
     Some(bytes.split_at(first_len(bytes)))
 }
 
-/// How many bytes the first line has, its newline included.
+/// Returns how many bytes the first line has, its newline included.
 fn first_len(bytes: &[u8]) -> usize
     ensures value { result ≡ first_len bytes.now }
     ensures inside { result ≤ length bytes.now }
@@ -24,7 +28,11 @@ fn first_len(bytes: &[u8]) -> usize
     }
 }
 
-/// How many bytes stand before the first of this value.
+/// Returns how many bytes stand before the first of this value. `None` where there is no such byte.
+///
+/// # Cost
+///
+/// A pass over the bytes before it.
 pub fn place_of(bytes: &[u8], byte: u8) -> Option<usize>
     ensures value { result ≡ position (λ b. b == byte) bytes.now }
     ensures inside { IfSome result (λ n. n < length bytes.now) }
@@ -32,7 +40,7 @@ pub fn place_of(bytes: &[u8], byte: u8) -> Option<usize>
     bytes.iter().position(|b| *b == byte)
 }
 
-/// The line without its newline, and without a carriage return before that.
+/// Returns the line without its newline, and without a carriage return before that.
 #[tactic(auto, unfolding(crate::specs::Lines::content))]
 pub fn content(line: &[u8]) -> &[u8]
     ensures { result.now ≡ content line.now }
@@ -40,7 +48,7 @@ pub fn content(line: &[u8]) -> &[u8]
     without_last(without_last(line, b'\n'), b'\r')
 }
 
-/// The line without this byte at its end.
+/// Returns the line without this byte at its end.
 fn without_last(line: &[u8], last: u8) -> &[u8]
     ensures { result.now ≡ without_last last line.now }
 {

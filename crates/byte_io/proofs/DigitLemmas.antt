@@ -1,4 +1,4 @@
--- Numbers, as they are written, are read as themselves.
+-- Numbers, as they are written, are digits that spell them, and are read as themselves.
 use Rattle.std.proofs.Common.{◌≡◌, ℕ, ◌+◌, ◌-◌, ◌*◌, ◌/◌, ◌%◌, ◌^◌, ◌≤◌, ◌<◌, true, List, [], ◌∷◌, ◌++◌, length, refl, ◌∙◌, arith}
 use Rattle.std.specs.Prelude.{Some}
 use Rattle.std.specs.Fmt.{decimal}
@@ -10,7 +10,7 @@ use Rattle.std.proofs.lemmas.List.Folds.{list_all-append}
 use Rattle.std.proofs.lemmas.List.Sums.{fold_push}
 use Rattle.byte_io.specs.Decimal.{decimal_value}
 use Rattle.lay_point.specs.Names.{is_digit}
-use Rattle.job_lines.specs.Words.{parsed_number}
+use Rattle.byte_io.specs.Numbers.{parsed_number}
 
 -- digits that spell a number
 pub record IsDecimal (n : ℕ) (text : List ℕ) : Type 0 where

@@ -3,7 +3,7 @@ use Rattle.std.proofs.Common.{◌≡◌, ℕ, suc, ◌+◌, ◌<◌, ltb, eqb, c
 use Rattle.std.proofs.Common.{take, length, arith, sym, ap, ◌∙◌, refl}
 use Rattle.std.specs.List.{position_or_len}
 use Rattle.std.proofs.lemmas.Bool.Decides.{nat_tests}
-use Rattle.job_lines.specs.Lines.{first_len, in_front, lines}
+use Rattle.byte_io.specs.Lines.{first_len, in_front, lines}
 
 -- a byte before the place and the end shifts both
 shifted : (p n : ℕ) → unwrap_or (option_map (λ k. k + 1) (cond (ltb (1 + p) (suc n)) (Some (1 + p)) None)) (suc n)
