@@ -4,18 +4,19 @@ use Rattle.std.proofs.Common.{ap, arith, cond, get_or, length, map, refl, subst,
 use Rattle.std.specs.Prelude.{◌==◌, ◌&&◌, filter, is_some, nat_lt, not}
 use Rattle.std.specs.declared.cmp.Ordering.{Ordering}
 use Rattle.std.specs.declared.cmp.Ordering.TheVariants.{Equal, Greater, Less}
-use Rattle.std.specs.Cmp.{eq_by_cmp_equiv, nat_cmp_is}
+use Rattle.std.specs.Cmp.{nat_cmp_is}
 use Rattle.std.specs.FinMap.{find}
 use Rattle.std.specs.List.{AllByRecursion}
 use Rattle.std.specs.List.Sorted.{IsNonDecreasingBy, IsStableByKey, IsStrictlySortedBy, ties}
 use Rattle.std.specs.Map.{keys_of}
-use Rattle.std.specs.Ordering.{is_eq, is_lt, nat_cmp, ordering_reverse, ordering_then}
+use Rattle.std.specs.Ordering.{is_lt, nat_cmp, ordering_reverse, ordering_then}
 use Rattle.std.proofs.lemmas.Bool.Decides.{Decides-eqb, nat_tests, same_from_decides}
 use Rattle.std.proofs.lemmas.List.{map-append}
 use Rattle.lay_layouts.specs.CellId.{CellId}
 use Rattle.lay_layouts.specs.CellId.TheVariants.{Symbol, Top}
 use Rattle.lay_layouts.specs.SameCell.{cell_eq, cell_eq-Decides}
 use Rattle.lay_page.specs.Written.{after_write, from_key, higher, lower, written_entries}
+use Rattle.lay_page.proofs.NearLemmas.{found_sorted}
 use Rattle.lay_page.proofs.OrderLemmas.{written-same}
 use Rattle.lay_cell_items.specs.declared.cell_index.Home.{Home}
 use Rattle.lay_layouts.specs.declared.id.ItemId.{ItemId}
@@ -37,6 +38,7 @@ use Rattle.lay_cell_items.specs.ByCell.{ids_in, key_of, listed, looked_up, unit_
 use Rattle.lay_layouts.specs.IdOrder.{ids_exact, ids_total}
 use Rattle.lay_layouts.specs.Ids.{id_cmp}
 use Rattle.lay_layouts.specs.Items.{cell_of, standing_in}
+use Rattle.lay_cell_items.proofs.MergeLemmas.{all_weaker}
 
 -- ---- lists
 
@@ -68,10 +70,6 @@ passes_all {A} p (x ∷ xs) = by (p x) refl (passes_all p xs) where
       → AllByRecursion (λ x. p x ≡ true) (cond b (x ∷ filter p xs) (filter p xs))
   by true is rest = (is, rest)
   by false is rest = rest
-
-all_weaker : {A : Type 0} (P Q : A → Type 0) → ((a : A) → P a → Q a) → (xs : List A) → AllByRecursion P xs → AllByRecursion Q xs
-all_weaker P Q h [] all = tt
-all_weaker P Q h (x ∷ xs) all = (h x all.0, all_weaker P Q h xs all.1)
 
 -- what is taken of those that pass a test
 abbrev pub picked : {A B : Type 0} → (A → B) → (A → Bool) → List A → List B
@@ -286,24 +284,6 @@ same_cell item cell =
       same_key (Symbol m) Top e = absurd (omega (arith, e))
       same_key (Symbol m) (Symbol n) e = let same : m ≡ n = omega (arith, e) in ap Symbol same
 
--- entries in order are found under their ids
-found_sorted : (es : List (ItemId × Item)) → IsStrictlySortedBy id_cmp (keys_of es)
-    → AllByRecursion (λ e. find id_cmp e.0 es ≡ Some e.1) es
-unfolding IsStrictlySortedBy
-found_sorted [] sorted = tt
-found_sorted (e ∷ es) sorted = (
-  ap (λ b. cond b (Some e.1) (find id_cmp e.0 es)) ((eq_by_cmp_equiv ids_total).refl e.0),
-  more es sorted.0 (found_sorted es sorted.1),
-) where
-  more : (fs : List (ItemId × Item)) → AllByRecursion (λ y. id_cmp e.0 y ≡ Less) (keys_of fs)
-      → AllByRecursion (λ (f : ItemId × Item). find id_cmp f.0 es ≡ Some f.1) fs
-      → AllByRecursion (λ (f : ItemId × Item). find id_cmp f.0 (e ∷ es) ≡ Some f.1) fs
-  more [] all found = tt
-  more (f ∷ fs) all found = (
-    ap (λ o. cond (is_eq o) (Some e.1) (find id_cmp f.0 es)) (ids_total.antisymm f.0 e.0 ∙ ap ordering_reverse all.0) ∙ found.0,
-    more fs all.1 found.1,
-  )
-
 looked_all : (whole es : List (ItemId × Item)) (p : ItemId × Item → Bool) → AllByRecursion (λ e. find id_cmp e.0 whole ≡ Some e.1) es
     → looked_up whole (map (λ e. e.0) (filter p es)) ≡ filter p es
 looked_all whole [] p all = refl
@@ -318,7 +298,7 @@ looked_all whole (e ∷ es) p all = by (p e) (looked_all whole es p all.1) where
 pub looked_standing : (cell : CellId) (es : List (ItemId × Item)) → IsStrictlySortedBy id_cmp (keys_of es)
     → looked_up es (ids_in (cell_key cell) es) ≡ standing_in cell es
 looked_standing cell es sorted =
-    looked_all es es (λ e. key_of e == cell_key cell) (found_sorted es sorted)
+    looked_all es es (λ e. key_of e == cell_key cell) (found_sorted ids_total ids_exact es sorted)
     ∙ filter_same (λ (e : ItemId × Item). key_of e == cell_key cell) (λ (e : ItemId × Item). cell_eq (cell_of e.1) cell)
     (λ e. sym (same_cell e.1 cell)) es
 
@@ -363,7 +343,7 @@ lent_from key hs es sorted up indexed = record {
       (cell_from key) (from_key home_cmp (first_home key) hs)
       (passes_all (λ (h : Homed). not (is_lt (home_cmp h.0 (first_home key)))) hs);
   found = subst (λ (ids : List ItemId). AllByRecursion (λ (id : ItemId). is_some (find id_cmp id es) ≡ true) ids)
-      (sym (listed_from key hs ∙ indexed key)) (all es (found_sorted es sorted));
+      (sym (listed_from key hs ∙ indexed key)) (all es (found_sorted ids_total ids_exact es sorted));
 } where
   all : (fs : List (ItemId × Item)) → AllByRecursion (λ (e : ItemId × Item). find id_cmp e.0 es ≡ Some e.1) fs
       → AllByRecursion (λ (id : ItemId). is_some (find id_cmp id es) ≡ true) (ids_in key fs)

@@ -4,36 +4,26 @@ use Rattle.std.proofs.Common.{true, false, List, [], ◌∷◌, Option, Some, No
 use Rattle.std.specs.Prelude.{filter}
 use Rattle.std.specs.declared.cmp.Ordering.{Ordering}
 use Rattle.std.specs.declared.cmp.Ordering.TheVariants.{Equal, Greater, Less}
-use Rattle.std.specs.FinMap.{FinMap, find, get, get-from_entries, get-insert, get-remove, same_map}
-use Rattle.std.specs.FinMap.Entries.{find-where_key}
+use Rattle.std.specs.FinMap.{find, get-from_entries, same_map}
 use Rattle.std.specs.List.{AllByRecursion}
 use Rattle.std.specs.List.Sorted.{IsStrictlySortedBy}
 use Rattle.std.specs.Map.{keys_of}
 use Rattle.std.specs.Ordering.{eq_by_cmp, is_eq, is_lt, ordering_reverse}
 use Rattle.std.proofs.lemmas.List.{at_drop_more}
+use Rattle.lay_page.specs.Written.{higher, lower, written_entries}
 use Rattle.lay_layouts.specs.declared.id.ItemId.{ItemId}
 use Rattle.lay_layouts.specs.declared.item.Item.{Item}
-use Rattle.lay_cell_items.specs.Entries.{entries_after, entries_before, item_entries, merged}
+use Rattle.lay_cell_items.specs.Entries.{merged}
 use Rattle.lay_layouts.specs.IdOrder.{ids_exact, ids_total}
 use Rattle.lay_layouts.specs.Ids.{id_cmp}
-use Rattle.lay_layouts.specs.Layout.{AreRising, Write, map_of_items, put, put_all}
+use Rattle.lay_layouts.specs.Layout.{AreRising, Write, map_of_items, put_all}
 use Rattle.lay_layouts.proofs.DistinctLemmas.{or_else, or_none}
+use Rattle.lay_layouts.proofs.LatestLemmas.{get-put_all, latest, unwritten}
+use Rattle.lay_layouts.proofs.PutLemmas.{find-both, find-entry, find-higher, find-lower}
 
 -- ---- what is found
 
--- what an id has after the writes, from what it had
-abbrev latest : List Write → ItemId → Option Item → Option Item
-latest [] q old = old
-latest (w ∷ ws) q old = latest ws q (cond (eq_by_cmp id_cmp q w.0) w.1 old)
-
-get-put_all : (items : FinMap id_cmp Item) (ws : List Write) (q : ItemId) → get (put_all items ws) q ≡ latest ws q (get items q)
-get-put_all items [] q = refl
-get-put_all items (w ∷ ws) q = get-put_all (put items w.0 w.1) ws q ∙ ap (latest ws q) (one w.1) where
-  one : (o : Option Item) → get (put items w.0 o) q ≡ cond (eq_by_cmp id_cmp q w.0) o (get items q)
-  one None = get-remove ids_total items w.0 q
-  one (Some item) = get-insert ids_total items w.0 item q
-
-all_weaker : {A : Type 0} (P Q : A → Type 0) → ((a : A) → P a → Q a) → (xs : List A) → AllByRecursion P xs → AllByRecursion Q xs
+pub all_weaker : {A : Type 0} (P Q : A → Type 0) → ((a : A) → P a → Q a) → (xs : List A) → AllByRecursion P xs → AllByRecursion Q xs
 all_weaker P Q h [] all = tt
 all_weaker P Q h (x ∷ xs) all = (h x all.0, all_weaker P Q h xs all.1)
 
@@ -50,37 +40,6 @@ rising_tail : (w : Write) (ws : List Write) → AreRising id_cmp (w ∷ ws) → 
 rising_tail w [] rising = tt
 rising_tail w (v ∷ ws) rising = rising.1
 
--- an id before all of them isn't written
-unwritten : (ws : List Write) (q : ItemId) (old : Option Item) → AllByRecursion (λ y. id_cmp q y ≡ Less) (keys_of ws)
-    → latest ws q old ≡ old
-unwritten [] q old all = refl
-unwritten (w ∷ ws) q old all = ap (λ o. latest ws q (cond (is_eq o) w.1 old)) all.0 ∙ unwritten ws q old all.1
-
-find-both : (q : ItemId) (es fs : List (ItemId × Item)) → find id_cmp q (es ++ fs) ≡ or_else (find id_cmp q es) (find id_cmp q fs)
-find-both q [] fs = refl
-find-both q (e ∷ es) fs = by (eq_by_cmp id_cmp q e.0) (find-both q es fs) where
-  by : (b : Bool) → find id_cmp q (es ++ fs) ≡ or_else (find id_cmp q es) (find id_cmp q fs)
-      → cond b (Some e.1) (find id_cmp q (es ++ fs)) ≡ or_else (cond b (Some e.1) (find id_cmp q es)) (find id_cmp q fs)
-  by true rest = refl
-  by false rest = rest
-
-find-entries_before : (q id : ItemId) (es : List (ItemId × Item))
-    → find id_cmp q (entries_before id es) ≡ cond (is_lt (id_cmp q id)) (find id_cmp q es) None
-find-entries_before q id es =
-    find-where_key id_cmp (λ x. is_lt (id_cmp x id)) q (λ x e. ap (λ y. is_lt (id_cmp y id)) (sym (ids_exact q x e))) es
-
-find-entries_after : (q id : ItemId) (es : List (ItemId × Item))
-    → find id_cmp q (entries_after id es) ≡ cond (is_lt (id_cmp id q)) (find id_cmp q es) None
-find-entries_after q id es =
-    find-where_key id_cmp (λ x. is_lt (id_cmp id x)) q (λ x e. ap (λ y. is_lt (id_cmp id y)) (sym (ids_exact q x e))) es
-
-find-entry : (q id : ItemId) (o : Option Item) → find id_cmp q (item_entries id o) ≡ cond (eq_by_cmp id_cmp q id) o None
-find-entry q id None = by (eq_by_cmp id_cmp q id) where
-  by : (b : Bool) → ◌≡◌ {A = Option Item} None (cond b None None)
-  by true = refl
-  by false = refl
-find-entry q id (Some item) = refl
-
 -- what is found before an id, under it and behind it
 abbrev parts : ItemId → ItemId → Option Item → Option Item → (Option Item → Option Item) → Option Item
 parts q id old new rest =
@@ -91,13 +50,13 @@ find-merged : (es : List (ItemId × Item)) (ws : List Write) (q : ItemId) → Ar
     → find id_cmp q (merged es ws) ≡ latest ws q (find id_cmp q es)
 find-merged es [] q rising = refl
 find-merged es (w ∷ ws) q rising =
-    find-both q (entries_before w.0 es) (item_entries w.0 w.1 ++ merged (entries_after w.0 es) ws)
-    ∙ (λ i. or_else (find-entries_before q w.0 es i) (find-both q (item_entries w.0 w.1) (merged (entries_after w.0 es) ws) i))
+    find-both q (lower id_cmp w.0 es) (written_entries w.0 w.1 ++ merged (higher id_cmp w.0 es) ws)
+    ∙ (λ i. or_else (find-lower q w.0 es i) (find-both q (written_entries w.0 w.1) (merged (higher id_cmp w.0 es) ws) i))
     ∙ (λ i. or_else (cond (is_lt (id_cmp q w.0)) (find id_cmp q es) None) (or_else (find-entry q w.0 w.1 i)
-    (find-merged (entries_after w.0 es) ws q (rising_tail w ws rising) i)))
+    (find-merged (higher id_cmp w.0 es) ws q (rising_tail w ws rising) i)))
     ∙ ap (λ o. or_else (cond (is_lt (id_cmp q w.0)) (find id_cmp q es) None)
     (or_else (cond (eq_by_cmp id_cmp q w.0) w.1 None) (latest ws q o)))
-    (find-entries_after q w.0 es)
+    (find-higher q w.0 es)
     ∙ by (id_cmp q w.0) refl (find id_cmp q es) where
       turned : (o : Ordering) → id_cmp q w.0 ≡ o → id_cmp w.0 q ≡ ordering_reverse o
       turned o is = ids_total.antisymm w.0 q ∙ ap ordering_reverse is
@@ -174,7 +133,7 @@ module _ (p : ItemId → Bool) where
     by false is rest = rest
 
 all-joined : (P : ItemId → Type 0) (es : List (ItemId × Item)) (id : ItemId) (o : Option Item) (fs : List (ItemId × Item))
-    → AllByRecursion P (keys_of es) → P id → AllByRecursion P (keys_of fs) → AllByRecursion P (keys_of (es ++ (item_entries id o ++ fs)))
+    → AllByRecursion P (keys_of es) → P id → AllByRecursion P (keys_of fs) → AllByRecursion P (keys_of (es ++ (written_entries id o ++ fs)))
 all-joined P [] id None fs es_all one fs_all = fs_all
 all-joined P [] id (Some item) fs es_all one fs_all = (one, fs_all)
 all-joined P (e ∷ es) id o fs es_all one fs_all = (es_all.0, all-joined P es id o fs es_all.1 one fs_all)
@@ -182,7 +141,7 @@ all-joined P (e ∷ es) id o fs es_all one fs_all = (es_all.0, all-joined P es i
 sorted-joined : (es : List (ItemId × Item)) (id : ItemId) (o : Option Item) (fs : List (ItemId × Item))
     → IsStrictlySortedBy id_cmp (keys_of es)
     → AllByRecursion (λ k. id_cmp k id ≡ Less) (keys_of es) → AllByRecursion (λ k. id_cmp id k ≡ Less) (keys_of fs)
-    → IsStrictlySortedBy id_cmp (keys_of fs) → IsStrictlySortedBy id_cmp (keys_of (es ++ (item_entries id o ++ fs)))
+    → IsStrictlySortedBy id_cmp (keys_of fs) → IsStrictlySortedBy id_cmp (keys_of (es ++ (written_entries id o ++ fs)))
 unfolding IsStrictlySortedBy
 sorted-joined [] id None fs es_sorted low high sorted = sorted
 sorted-joined [] id (Some item) fs es_sorted low high sorted = (high, sorted)
@@ -197,46 +156,46 @@ all-merged : (P : ItemId → Type 0) (es : List (ItemId × Item)) (ws : List Wri
     → AllByRecursion P (keys_of (merged es ws))
 all-merged P es [] all more = all
 all-merged P es (w ∷ ws) all more =
-    all-joined P (entries_before w.0 es) w.0 w.1 (merged (entries_after w.0 es) ws) (all-kept (λ x. is_lt (id_cmp x w.0)) P es all) more.0
-    (all-merged P (entries_after w.0 es) ws (all-kept (λ x. is_lt (id_cmp w.0 x)) P es all) more.1)
+    all-joined P (lower id_cmp w.0 es) w.0 w.1 (merged (higher id_cmp w.0 es) ws) (all-kept (λ x. is_lt (id_cmp x w.0)) P es all) more.0
+    (all-merged P (higher id_cmp w.0 es) ws (all-kept (λ x. is_lt (id_cmp w.0 x)) P es all) more.1)
 
 pub sorted-merged : (es : List (ItemId × Item)) (ws : List Write) → IsStrictlySortedBy id_cmp (keys_of es) → AreRising id_cmp ws
     → IsStrictlySortedBy id_cmp (keys_of (merged es ws))
 sorted-merged es [] sorted rising = sorted
 sorted-merged es (w ∷ ws) sorted rising =
-    sorted-joined (entries_before w.0 es) w.0 w.1 (merged (entries_after w.0 es) ws) (sorted-kept (λ x. is_lt (id_cmp x w.0)) es sorted)
-    (all_weaker (λ k. is_lt (id_cmp k w.0) ≡ true) (λ k. id_cmp k w.0 ≡ Less) (λ k. less (id_cmp k w.0)) (keys_of (entries_before w.0 es))
+    sorted-joined (lower id_cmp w.0 es) w.0 w.1 (merged (higher id_cmp w.0 es) ws) (sorted-kept (λ x. is_lt (id_cmp x w.0)) es sorted)
+    (all_weaker (λ k. is_lt (id_cmp k w.0) ≡ true) (λ k. id_cmp k w.0 ≡ Less) (λ k. less (id_cmp k w.0)) (keys_of (lower id_cmp w.0 es))
     (all-passes (λ x. is_lt (id_cmp x w.0)) es))
-    (all-merged (λ k. id_cmp w.0 k ≡ Less) (entries_after w.0 es) ws
-    (all_weaker (λ k. is_lt (id_cmp w.0 k) ≡ true) (λ k. id_cmp w.0 k ≡ Less) (λ k. less (id_cmp w.0 k)) (keys_of (entries_after w.0 es))
+    (all-merged (λ k. id_cmp w.0 k ≡ Less) (higher id_cmp w.0 es) ws
+    (all_weaker (λ k. is_lt (id_cmp w.0 k) ≡ true) (λ k. id_cmp w.0 k ≡ Less) (λ k. less (id_cmp w.0 k)) (keys_of (higher id_cmp w.0 es))
     (all-passes (λ x. is_lt (id_cmp w.0 x)) es)) (rising_all w ws rising))
-    (sorted-merged (entries_after w.0 es) ws (sorted-kept (λ x. is_lt (id_cmp w.0 x)) es sorted) (rising_tail w ws rising))
+    (sorted-merged (higher id_cmp w.0 es) ws (sorted-kept (λ x. is_lt (id_cmp w.0 x)) es sorted) (rising_tail w ws rising))
 
 -- ---- step by step
 
 merged-step : (es : List (ItemId × Item)) (w : Write) (ws : List Write)
-    → entries_before w.0 es ++ (item_entries w.0 w.1 ++ merged (entries_after w.0 es) ws) ≡ merged es (w ∷ ws)
+    → lower id_cmp w.0 es ++ (written_entries w.0 w.1 ++ merged (higher id_cmp w.0 es) ws) ≡ merged es (w ∷ ws)
 merged-step es w ws = refl
 
 -- one write more
 pub write_more : (new new1 new2 rest low high : List (ItemId × Item)) (ws : List Write) (i : ℕ) (w d : Write) (whole : List (ItemId × Item))
-    → i < length ws → w ≡ get_or ws i d → low ≡ entries_before w.0 rest → high ≡ entries_after w.0 rest → new1 ≡ new ++ low
-    → new2 ≡ new1 ++ item_entries w.0 w.1 → new ++ merged rest (drop i ws) ≡ whole → new2 ++ merged high (drop (i + 1) ws) ≡ whole
+    → i < length ws → w ≡ get_or ws i d → low ≡ lower id_cmp w.0 rest → high ≡ higher id_cmp w.0 rest → new1 ≡ new ++ low
+    → new2 ≡ new1 ++ written_entries w.0 w.1 → new ++ merged rest (drop i ws) ≡ whole → new2 ++ merged high (drop (i + 1) ws) ≡ whole
 write_more new new1 new2 rest low high ws i w d whole lt is lows highs one two so_far =
-    let parted : (new ++ entries_before w.0 rest) ++ (item_entries w.0 w.1 ++ merged (entries_after w.0 rest) (drop (i + 1) ws))
-    ≡ new ++ (entries_before w.0 rest ++ (item_entries w.0 w.1 ++ merged (entries_after w.0 rest) (drop (i + 1) ws))) =
-    append_assoc new (entries_before w.0 rest) (item_entries w.0 w.1 ++ merged (entries_after w.0 rest) (drop (i + 1) ws)) in
+    let parted : (new ++ lower id_cmp w.0 rest) ++ (written_entries w.0 w.1 ++ merged (higher id_cmp w.0 rest) (drop (i + 1) ws))
+    ≡ new ++ (lower id_cmp w.0 rest ++ (written_entries w.0 w.1 ++ merged (higher id_cmp w.0 rest) (drop (i + 1) ws))) =
+    append_assoc new (lower id_cmp w.0 rest) (written_entries w.0 w.1 ++ merged (higher id_cmp w.0 rest) (drop (i + 1) ws)) in
     let read : new ++ merged rest (w ∷ drop (i + 1) ws) ≡ new ++ merged rest (get_or ws i d ∷ drop (i + 1) ws) =
     ap (λ (v : Write). new ++ merged rest (v ∷ drop (i + 1) ws)) is in
-    ap (λ es. es ++ merged high (drop (i + 1) ws)) (two ∙ ap (λ es. es ++ item_entries w.0 w.1) one)
-    ∙ (λ k. ((new ++ lows k) ++ item_entries w.0 w.1) ++ merged (highs k) (drop (i + 1) ws))
-    ∙ append_assoc (new ++ entries_before w.0 rest) (item_entries w.0 w.1) (merged (entries_after w.0 rest) (drop (i + 1) ws)) ∙ parted
+    ap (λ es. es ++ merged high (drop (i + 1) ws)) (two ∙ ap (λ es. es ++ written_entries w.0 w.1) one)
+    ∙ (λ k. ((new ++ lows k) ++ written_entries w.0 w.1) ++ merged (highs k) (drop (i + 1) ws))
+    ∙ append_assoc (new ++ lower id_cmp w.0 rest) (written_entries w.0 w.1) (merged (higher id_cmp w.0 rest) (drop (i + 1) ws)) ∙ parted
     ∙ ap (λ es. new ++ es) (merged-step rest w (drop (i + 1) ws)) ∙ read
     ∙ sym (at_drop_more (λ (vs : List Write). new ++ merged rest vs) ws i d lt) ∙ so_far
 
-pub sorted-entries_after : (id : ItemId) (es high : List (ItemId × Item)) → high ≡ entries_after id es
+pub sorted-higher : (id : ItemId) (es high : List (ItemId × Item)) → high ≡ higher id_cmp id es
     → IsStrictlySortedBy id_cmp (keys_of es)
     → IsStrictlySortedBy id_cmp (keys_of high)
-sorted-entries_after id es high is sorted =
+sorted-higher id es high is sorted =
     subst (λ (fs : List (ItemId × Item)). IsStrictlySortedBy id_cmp (keys_of fs)) (sym is)
     (sorted-kept (λ x. is_lt (id_cmp id x)) es sorted)

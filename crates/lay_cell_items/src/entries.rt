@@ -2,7 +2,8 @@
 ghost use Rattle.std.specs.Prelude.{◌≡◌, ◌++◌, IfOk, OnOk};
 ghost use Rattle.std.specs.List.Sorted.{IsStrictlySortedBy};
 ghost use Rattle.std.specs.Map.{keys_of};
-ghost use Rattle.lay_cell_items.specs.Entries.{item_entries, merged};
+ghost use Rattle.lay_page.specs.Written.{written_entries};
+ghost use Rattle.lay_cell_items.specs.Entries.{merged};
 ghost use Rattle.lay_layouts.specs.Ids.{id_cmp};
 
 use lay_layouts::{Item, ItemId};
@@ -81,7 +82,7 @@ fn append(new: &mut Vec<Entry>, entries: &[Entry]) -> Result<(), NoMemory>
 
 /// Appends what a write leaves under its id.
 fn push_written(new: &mut Vec<Entry>, id: ItemId, item: &Option<Item>) -> Result<(), NoMemory>
-    ensures { OnOk result (new.new.items ≡ new.old.items ++ item_entries id item.now) }
+    ensures { OnOk result (new.new.items ≡ new.old.items ++ written_entries id item.now) }
 {
     if let Some(item) = item {
         new.push((id, item.clone()?))?;

@@ -1,6 +1,7 @@
 pub mod CallLemmas
 pub mod DistinctLemmas
 pub mod EntryLemmas
+pub mod LatestLemmas
 pub mod MapLemmas
 pub mod PutLemmas
 pub mod SameLemmas

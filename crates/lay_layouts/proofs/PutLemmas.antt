@@ -13,7 +13,7 @@ use Rattle.lay_layouts.specs.Ids.{id_cmp}
 use Rattle.lay_layouts.specs.Layout.{map_of_items, put}
 use Rattle.lay_layouts.proofs.DistinctLemmas.{or_else, or_none}
 
-find-both : (q : ItemId) (es fs : List (ItemId × Item)) → find id_cmp q (es ++ fs) ≡ or_else (find id_cmp q es) (find id_cmp q fs)
+pub find-both : (q : ItemId) (es fs : List (ItemId × Item)) → find id_cmp q (es ++ fs) ≡ or_else (find id_cmp q es) (find id_cmp q fs)
 find-both q [] fs = refl
 find-both q (e ∷ es) fs = by (eq_by_cmp id_cmp q e.0) (find-both q es fs) where
   by : (b : Bool) → find id_cmp q (es ++ fs) ≡ or_else (find id_cmp q es) (find id_cmp q fs)
@@ -21,15 +21,15 @@ find-both q (e ∷ es) fs = by (eq_by_cmp id_cmp q e.0) (find-both q es fs) wher
   by true rest = refl
   by false rest = rest
 
-find-lower : (q id : ItemId) (es : List (ItemId × Item))
+pub find-lower : (q id : ItemId) (es : List (ItemId × Item))
     → find id_cmp q (lower id_cmp id es) ≡ cond (is_lt (id_cmp q id)) (find id_cmp q es) None
 find-lower q id es = find-where_key id_cmp (λ x. is_lt (id_cmp x id)) q (λ x e. ap (λ y. is_lt (id_cmp y id)) (sym (ids_exact q x e))) es
 
-find-higher : (q id : ItemId) (es : List (ItemId × Item))
+pub find-higher : (q id : ItemId) (es : List (ItemId × Item))
     → find id_cmp q (higher id_cmp id es) ≡ cond (is_lt (id_cmp id q)) (find id_cmp q es) None
 find-higher q id es = find-where_key id_cmp (λ x. is_lt (id_cmp id x)) q (λ x e. ap (λ y. is_lt (id_cmp id y)) (sym (ids_exact q x e))) es
 
-find-entry : (q id : ItemId) (o : Option Item) → find id_cmp q (written_entries id o) ≡ cond (eq_by_cmp id_cmp q id) o None
+pub find-entry : (q id : ItemId) (o : Option Item) → find id_cmp q (written_entries id o) ≡ cond (eq_by_cmp id_cmp q id) o None
 find-entry q id None = by (eq_by_cmp id_cmp q id) where
   by : (b : Bool) → ◌≡◌ {A = Option Item} None (cond b None None)
   by true = refl

@@ -1,4 +1,4 @@
-use Rattle.lay_cell_items.proofs.MergeLemmas.{sorted-entries_after, write_more}
+use Rattle.lay_cell_items.proofs.MergeLemmas.{sorted-higher, write_more}
 use Rattle.lay_cell_items.specs.Entries.{merged}
 use Rattle.lay_cell_items.proofs.entries.merged.Goals as goal
 
@@ -9,5 +9,5 @@ loop-id-preserved c = record {
       c.around.result.1.now c.args.writes.now c.loop-id.id-index _ c.loop-id-item.result (merged c.args.entries.now c.args.writes.now)
       c.loop-id-test.true c.loop-id-item.is c.around.ensures.before c.around.ensures.after c.in_ok-append.ensures
       c.in_ok-push_written.ensures c.loop-id.invariant.so_far;
-  sorted = sorted-entries_after _ c.loop-id.rest.now c.around.result.1.now c.around.ensures.after c.loop-id.invariant.sorted;
+  sorted = sorted-higher _ c.loop-id.rest.now c.around.result.1.now c.around.ensures.after c.loop-id.invariant.sorted;
 }
