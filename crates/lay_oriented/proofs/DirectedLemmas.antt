@@ -3,7 +3,7 @@ use Rattle.std.proofs.Common.{◌≡◌, ◌∙◌, ℕ, suc, List, [], ◌∷�
 use Rattle.std.proofs.Common.{arith, IsTrue}
 use Rattle.std.specs.declared.cmp.Ordering.{Ordering}
 use Rattle.std.specs.declared.cmp.Ordering.TheVariants.{Equal, Greater, Less}
-use Rattle.std.specs.FinMap.{FinMap, entries, entries_sorted, find, get, get-entries, get-from_entries, get-insert, get-remove, same_map}
+use Rattle.std.specs.FinMap.{FinMap, entries, entries_sorted, find, get, get-entries, get-from_entries, same_map}
 use Rattle.std.specs.List.{AllByRecursion}
 use Rattle.std.specs.List.Sorted.{IsStrictlySortedBy}
 use Rattle.std.specs.Map.{keys_of}
@@ -15,32 +15,15 @@ use Rattle.lay_layouts.specs.declared.item.Item.TheVariants.{Placed, Shape}
 use Rattle.lay_layouts.specs.Calls.{calls_among, calls_of}
 use Rattle.lay_layouts.specs.IdOrder.{ids_exact, ids_total}
 use Rattle.lay_layouts.specs.Ids.{id_cmp}
-use Rattle.lay_layouts.specs.Layout.{AreRising, Layout, Write, changed, is_cell, map_of_items, put, put_all}
+use Rattle.lay_layouts.specs.Layout.{AreRising, Layout, Write, changed, is_cell, map_of_items, put_all}
 use Rattle.lay_layouts.specs.Sound.{IsSound, IsSoundItem}
+use Rattle.lay_layouts.proofs.LatestLemmas.{get-put_all, latest, unwritten}
 use Rattle.lay_layouts.proofs.MapLemmas.{entries_again, sorted_keys}
 use Rattle.lay_layouts.proofs.SlotLemmas.{tested}
 use Rattle.lay_oriented.specs.Directed.{AreDirected, IsDirected, IsTurned}
 use Rattle.lay_oriented.specs.Steps.{AreWrites}
 
 -- ---- what an id has after writes
-
--- what an id has after the writes, from what it had
-abbrev latest : List Write → ItemId → Option Item → Option Item
-latest [] q old = old
-latest (w ∷ ws) q old = latest ws q (cond (eq_by_cmp id_cmp q w.0) w.1 old)
-
-get-put_all : (items : FinMap id_cmp Item) (ws : List Write) (q : ItemId) → get (put_all items ws) q ≡ latest ws q (get items q)
-get-put_all items [] q = refl
-get-put_all items (w ∷ ws) q = get-put_all (put items w.0 w.1) ws q ∙ ap (latest ws q) (one w.1) where
-  one : (o : Option Item) → get (put items w.0 o) q ≡ cond (eq_by_cmp id_cmp q w.0) o (get items q)
-  one None = get-remove ids_total items w.0 q
-  one (Some item) = get-insert ids_total items w.0 item q
-
--- an id before all of them isn't written
-unwritten : (ws : List Write) (q : ItemId) (old : Option Item) → AllByRecursion (λ y. id_cmp q y ≡ Less) (keys_of ws)
-    → latest ws q old ≡ old
-unwritten [] q old all = refl
-unwritten (w ∷ ws) q old all = ap (λ o. latest ws q (cond (is_eq o) w.1 old)) all.0 ∙ unwritten ws q old all.1
 
 -- the first id has what it is to have, and another what it has behind it
 first_after : (id : ItemId) (x : Item) (other found old : Option Item) (ws : List Write) (q : ItemId)
