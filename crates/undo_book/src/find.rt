@@ -71,15 +71,19 @@ impl Book {
     }
 
     /// Returns the first transaction that a call from this place of the log on changed and that wrote what is
-    /// touched. What a transaction wrote is looked at where it was first changed, and not again.
+    /// touched. What a transaction wrote is looked at where it was first changed, and not again. Most calls
+    /// are commits, so the next one's place is guessed to be behind the last one's.
     pub(crate) fn stale_by(&self, footprint: &Footprint, since: usize) -> Option<TxnId>
         ensures { result ≡ stale_by self.now.entries footprint.now (drop since self.now.log) }
     {
+        let mut near = self.entries.partition_point(|entry| (entry.place as usize) < since);
         for place in since..self.log.len() {
             if let Some(txn) = self.first_change(place, since) {
-                if self.wrote_in(txn, footprint) {
+                let found = self.place_near(txn, near);
+                if self.wrote_at(txn, found, footprint) {
                     return Some(txn);
                 }
+                near = next_place(found);
             }
         }
         None
@@ -97,14 +101,35 @@ impl Book {
         None
     }
 
-    /// Returns whether the transaction of this name is there and wrote what is touched.
-    fn wrote_in(&self, txn: TxnId, footprint: &Footprint) -> bool
+    /// Returns the place of the transaction of this name, which is looked at first where it is likely to be.
+    fn place_near(&self, txn: TxnId, near: usize) -> Option<usize>
+        ensures value { result ≡ place_of txn self.now.entries }
+        ensures there { IfSome result (λ place. place < length self.now.entries) }
+    {
+        match self.entries.get(near) {
+            Some(entry) if entry.txn == txn => Some(near),
+            _ => self.place_of(txn),
+        }
+    }
+
+    /// Returns whether the transaction of this name, which is at this place, if anywhere, wrote what is touched.
+    fn wrote_at(&self, txn: TxnId, found: Option<usize>, footprint: &Footprint) -> bool
+        requires at { found ≡ place_of txn self.now.entries }
+        requires there { IfSome found (λ place. place < length self.now.entries) }
         ensures { result ≡ touching (writes_of self.now.entries txn) footprint.now }
     {
-        match self.place_of(txn) {
+        match found {
             Some(place) => self.entries[place].writes.touch(footprint),
             None => false,
         }
+    }
+}
+
+/// Returns the place behind this one, or the first where there is none.
+fn next_place(place: Option<usize>) -> usize {
+    match place {
+        Some(place) => place.saturating_add(1),
+        None => 0,
     }
 }
 

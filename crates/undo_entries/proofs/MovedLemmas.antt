@@ -24,6 +24,7 @@ use Rattle.std.proofs.Common.{
 }
 use Rattle.std.proofs.Common.{Option, None, Some, option_map, refl, sym, ap, ◌∙◌, arith, slice_get}
 use Rattle.std.specs.Prelude.{is_some, nat_lt}
+use Rattle.std.proofs.lemmas.Bool.{eqb-true}
 use Rattle.std.proofs.lemmas.Bool.Decides.{nat_tests}
 use Rattle.std.specs.FinSet.{items}
 use Rattle.std.specs.List.{AllByRecursion, list_any}
@@ -134,6 +135,15 @@ place_so (e ∷ es) (suc p) entry name named at =
           ∙ txn_eq-sym e.txn entry.txn (others e entry es p named.0 at))
       by false is None its rest = sym (ap (is_place p) its) ∙ rest
       by false is (Some q) its rest = suc_suc p q ∙ sym (ap (is_place p) its) ∙ rest
+
+-- the place of a name is that of the transaction that has it
+pub place_at : (es : List Entry) (p : ℕ) (entry : Entry) (name : TxnId) → AreNamed (map trace_of es) → slice_get es p ≡ Some entry →
+    entry.txn ≡ name → Some p ≡ place_of name es
+place_at es p entry name named at is =
+    by (place_of name es) (place_so es p entry name named at ∙ ap (txn_eq entry.txn) (sym is) ∙ txn_eq-same entry.txn) where
+      by : (o : Option ℕ) → is_place p o ≡ true → Some p ≡ o
+      by None never = absurd cc
+      by (Some q) same = ap Some (eqb-true p q same)
 
 -- behind the last there is none
 no_place : (es : List Entry) (p : ℕ) (name : TxnId) → slice_get es p ≡ None → is_place p (place_of name es) ≡ false

@@ -2,15 +2,15 @@ use Rattle.std.proofs.Common.{◌≡◌, ◌<◌, ◌∙◌, ap, false, length, 
 use Rattle.undo_entries.specs.Changes.{changed_at}
 use Rattle.undo_entries.proofs.StaleLemmas.{decided, first_is, looked_more, none_again, passed, wrote}
 use Rattle.undo_book.proofs.book.Book.stale_by.Goals as goal
-use Rattle.undo_book.proofs.book.Book.stale_by.Goals.{in-Some+else-wrote_in, in_default}
+use Rattle.undo_book.proofs.book.Book.stale_by.Goals.{in-Some+else-wrote_at, in_default}
 
-pub returns-then-wrote_in : goal.returns-then-wrote_in
-returns-then-wrote_in c =
+pub returns-then-wrote_at : goal.returns-then-wrote_at
+returns-then-wrote_at c =
     let now = c.args.self.now in
     let place = c.loop-place.place in
     let less : place < length now.log = search rules in
     let changed = first_is now.log c.args.since place c.in-Some.txn (sym c.in-Some.ensures) in
-    sym (decided now.entries c.args.footprint.now now.log place c.in-Some.txn less changed (sym c.wrote_in.ensures ∙ c.if-wrote_in.true))
+    sym (decided now.entries c.args.footprint.now now.log place c.in-Some.txn less changed (sym c.wrote_at.ensures ∙ c.if-wrote_at.true))
     ∙ c.loop-place.invariant.left
 
 -- the call's transaction, if any, didn't write what is touched: it says so, or an earlier change was looked at
@@ -21,9 +21,9 @@ loop-place-preserved c =
     let place = c.loop-place.place in
     let less : place < length now.log = search rules in
     let none : wrote now.entries touched (changed_at now.log place) ≡ false = elim c.match-first_change.branch [
-      | in-Some+else-wrote_in w ↦
+      | in-Some+else-wrote_at w ↦
           ap (wrote now.entries touched) (first_is now.log c.args.since place w.in-Some.txn (sym w.in-Some.ensures))
-          ∙ sym w.wrote_in.ensures ∙ w.if-wrote_in.false
+          ∙ sym w.wrote_at.ensures ∙ w.if-wrote_at.false
       | in_default w ↦
           none_again now.entries touched now.log c.args.since place (sym c.first_change.ensures ∙ w.in_default.is)
           c.loop-place.invariant.looked
