@@ -443,7 +443,6 @@ redo_keeps h new session txn result takes =
 
 -- ---- many steps
 
--- one more step
 memory_told : (step : Step) → is_memory (memory_reply step) ≡ true
 memory_told Open = refl
 memory_told (Do command) = refl
