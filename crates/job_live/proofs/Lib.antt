@@ -1,3 +1,2 @@
-pub mod DealtLemmas
 pub mod LineLemmas
 pub use Rattle.session_core.proofs.MachineLemmas

@@ -1,4 +1,3 @@
 pub mod ReadingLemmas
-pub mod DealtLemmas
 pub mod OutputLemmas
 pub mod GivenLemmas

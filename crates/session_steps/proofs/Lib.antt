@@ -1,1 +1,2 @@
+pub mod DealtLemmas
 pub mod TurnLemmas

@@ -1,7 +1,7 @@
 use Rattle.std.proofs.Common.{◌≡◌, ◌∙◌, ℕ, List, [], ap, replicate, rules, arith}
 use Rattle.session_steps.specs.Turns.{dealt}
 use Rattle.job_text.specs.Order.{order_of, order_text}
-use Rattle.job_live.proofs.DealtLemmas.{few_hands}
+use Rattle.session_steps.proofs.DealtLemmas.{few_hands}
 use Rattle.job_live.proofs.live.Live.end.Goals as goal
 
 -- as many hands as sessions

@@ -7,7 +7,7 @@ use Rattle.job_text.specs.Order.{order_of}
 use Rattle.masklay.specs.Outcome.{finished_by, finished_from, sessions_for}
 use Rattle.masklay.specs.declared.program.outcome.Finished.{Finished}
 use Rattle.live_run.proofs.MachineLemmas.{ran_all}
-use Rattle.masklay.proofs.DealtLemmas.{few_hands}
+use Rattle.session_steps.proofs.DealtLemmas.{few_hands}
 use Rattle.masklay.proofs.program.outcome.finish_steps.Goals as goal
 
 -- as many hands as sessions, so no more than 64
