@@ -24,12 +24,7 @@ mod flat;
 mod flattening;
 mod graph;
 mod lending;
-<<<<<<< HEAD
-=======
-#[cfg(test)]
-mod tests;
 mod walks;
->>>>>>> c98215d (lay_flat: the walks from a cell are a value, made once for both layers of an operation)
 
 pub use fault::FlatFault;
 pub use flat::{Flat, FlatRing, MAX_DEPTH, MAX_RINGS};

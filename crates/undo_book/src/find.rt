@@ -76,7 +76,9 @@ impl Book {
     pub(crate) fn stale_by(&self, footprint: &Footprint, since: usize) -> Option<TxnId>
         ensures { result ≡ stale_by self.now.entries footprint.now (drop since self.now.log) }
     {
-        let mut near = self.entries.partition_point(|entry| (entry.place as usize) < since);
+        let mut near = self
+            .entries
+            .partition_point(|entry| (entry.place as usize) < since);
         for place in since..self.log.len() {
             if let Some(txn) = self.first_change(place, since) {
                 let found = self.place_near(txn, near);

@@ -12,6 +12,6 @@ returns-in-Some-clause-value c =
     let is : entry.txn ≡ c.args.txn = search rules in
     let within : c.args.near < length es = search rules in
     let read : entry ≡ get_or es c.args.near entry = c.in-Some.ensures.lookup.1
-      ∙ ap (λ (l : List Entry). get_or l c.args.near entry) c.deref.ensures.value
-      ∙ ap (λ (h : History). get_or h.entries c.args.near entry) c.self.view_is in
+    ∙ ap (λ (l : List Entry). get_or l c.args.near entry) c.deref.ensures.value
+    ∙ ap (λ (h : History). get_or h.entries c.args.near entry) c.self.view_is in
     place_at es c.args.near entry c.args.txn (search rules) (slice_get_read es (length es) c.args.near entry refl within read) is
