@@ -34,7 +34,7 @@ abbrev pub up_item : Item → Item
 up_item p = (up p.0, p.1)
 
 -- what doesn't depend on the order of the ends
-either : {A : Type 0} (f : Point × Point → A) → ((a b : Point) → f (a, b) ≡ f (b, a)) → (e : Point × Point) → f (up e) ≡ f e
+pub either : {A : Type 0} (f : Point × Point → A) → ((a b : Point) → f (a, b) ≡ f (b, a)) → (e : Point × Point) → f (up e) ≡ f e
 either f same e = by_test (int_le e.0.y e.1.y)
   where
     by_test : (b : Bool) → f (cond b e (e.1, e.0)) ≡ f e
@@ -47,10 +47,10 @@ or_turned true false = refl
 or_turned false true = refl
 or_turned false false = refl
 
-up_crossed : (k x y : ℤ) (e : Point × Point) → is_crossed k x y (up e) ≡ is_crossed k x y e
+pub up_crossed : (k x y : ℤ) (e : Point × Point) → is_crossed k x y (up e) ≡ is_crossed k x y e
 up_crossed k x y = either (is_crossed k x y) (λ a b. or_turned (is_crossed_rising k x y a b) (is_crossed_rising k x y b a))
 
-up_touches : (v : Point) (e : Point × Point) → touches v (up e) ≡ touches v e
+pub up_touches : (v : Point) (e : Point × Point) → touches v (up e) ≡ touches v e
 up_touches v = either (touches v) (λ a b. or_turned (point_eq a v) (point_eq b v))
 
 -- ---- the same shapes, parities and labels

@@ -1,11 +1,13 @@
 -- A ring is even about a place outside its box, and boxes with a place in common touch.
 use Rattle.std.proofs.Common.{◌≡◌, ◌⊎◌, inl, inr, Bool, true, false, not, ◌&&◌, ◌||◌}
 use Rattle.std.proofs.Common.{List, [], ◌∷◌, ◌++◌, ℤ, pos, ◌+ℤ◌, ◌-ℤ◌, ◌*ℤ◌, ◌≤ℤ◌, ◌<ℤ◌}
-use Rattle.std.proofs.Common.{refl, sym, ap, ap₂, subst, ◌∙◌, ⊎_elim, arith}
+use Rattle.std.proofs.Common.{refl, ap, ap₂, subst, ◌∙◌, ⊎_elim, arith}
 use Rattle.std.specs.Prelude.{int_le, int_lt}
+use Rattle.std.proofs.lemmas.Bool.{and_parts}
 use Rattle.std.proofs.lemmas.Int.{ints, clamps}
 use Rattle.lay_int_laws.proofs.Polynomials.{#, lit, ◌⊕◌, ◌⊖◌, ◌⊗◌, identity}
-use Rattle.lay_int_laws.proofs.Signs.{below_or_not, cancel_le, cancel_positive, linear, nonnegative_product, positive_product, times_le}
+use Rattle.lay_int_laws.proofs.Signs.{cancel_le, cancel_positive, linear, nonnegative_product, positive_product, times_le}
+use Rattle.lay_int_laws.proofs.Tests.{le_false, le_true, lt_is_not_le, lt_true, true_le, true_lt}
 use Rattle.lay_point.specs.declared.point.Point.{Point}
 use Rattle.lay_point.specs.Parity.{xor, parity, distance_right, is_crossed, is_crossed_rising, rises_past}
 use Rattle.lay_point.specs.RingEdges.{edges_of_ring}
@@ -86,35 +88,6 @@ on_right k x y p q scale low high left right =
     cancel_positive k (distance_right k x y p q) (omega (arith, linear)) (omega (arith, linear, times_distance k x y p q))
 
 -- ---- as tests
-le_true : (a b : ℤ) → int_le a b ≡ true → a ≤ℤ b
-le_true a b h = grind (arith, ints)
-
-lt_true : (a b : ℤ) → int_lt a b ≡ true → a <ℤ b
-lt_true a b h = grind (arith, ints)
-
-true_lt : (a b : ℤ) → a <ℤ b → int_lt a b ≡ true
-true_lt a b h = grind (arith, ints)
-
-true_le : (a b : ℤ) → a ≤ℤ b → int_le a b ≡ true
-true_le a b h = grind (arith, ints)
-
-le_false : (a b : ℤ) → b <ℤ a → int_le a b ≡ false
-le_false a b h = grind (arith, ints)
-
-lt_false : (a b : ℤ) → b ≤ℤ a → int_lt a b ≡ false
-lt_false a b h = grind (arith, ints)
-
-le_or_lt : (a b : ℤ) → int_le a b ≡ false → b <ℤ a
-le_or_lt a b h = grind (arith, ints)
-
-lt_is_not_le : (a b : ℤ) → int_lt a b ≡ not (int_le b a)
-lt_is_not_le a b = ⊎_elim (λ (less : a <ℤ b). true_lt a b less ∙ ap not (sym (le_false b a less)))
-    (λ (le : b ≤ℤ a). lt_false a b le ∙ ap not (sym (true_le b a le))) (below_or_not a b)
-
-both_true : (a b : Bool) → (a && b) ≡ true → (a ≡ true) × (b ≡ true)
-both_true true b e = (refl, e)
-both_true false b e = absurd cc
-
 and_false : (a b : Bool) → (a ≡ true → b ≡ true → ⊥) → (a && b) ≡ false
 and_false true true h = absurd (h refl refl)
 and_false true false h = refl
@@ -128,7 +101,7 @@ and_here false b h = refl
 rising_missed : (k x y : ℤ) (p q : Point) → pos 1 ≤ℤ k → (k *ℤ p.x) ≤ℤ x → (k *ℤ q.x) ≤ℤ x → is_crossed_rising k x y p q ≡ false
 rising_missed k x y p q scale left right =
     and_false (rises_past k y p q) (int_lt (pos 0) (distance_right k x y p q)) (λ rises positive.
-    let both = both_true (int_le (k *ℤ p.y) y) (int_lt y (k *ℤ q.y)) rises in
+    let both = and_parts (int_le (k *ℤ p.y) y) (int_lt y (k *ℤ q.y)) rises in
     not_right k x y p q scale (le_true (k *ℤ p.y) y both.0) (lt_true y (k *ℤ q.y) both.1) left right
     (lt_true (pos 0) (distance_right k x y p q) positive))
 
@@ -137,7 +110,7 @@ rising_met : (k x y : ℤ) (p q : Point) → pos 1 ≤ℤ k → x <ℤ (k *ℤ p
     → is_crossed_rising k x y p q ≡ (int_le (k *ℤ p.y) y && not (int_le (k *ℤ q.y) y))
 rising_met k x y p q scale left right =
     and_here (rises_past k y p q) (int_lt (pos 0) (distance_right k x y p q)) (λ rises.
-    let both = both_true (int_le (k *ℤ p.y) y) (int_lt y (k *ℤ q.y)) rises in
+    let both = and_parts (int_le (k *ℤ p.y) y) (int_lt y (k *ℤ q.y)) rises in
     true_lt (pos 0) (distance_right k x y p q)
     (on_right k x y p q scale (le_true (k *ℤ p.y) y both.0) (lt_true y (k *ℤ q.y) both.1) left right))
     ∙ ap (λ b. int_le (k *ℤ p.y) y && b) (lt_is_not_le y (k *ℤ q.y))
@@ -198,7 +171,7 @@ even_left k x y (p ∷ ps) scale out =
 -- neither end of an edge is below the place, or neither is above
 level_missed : (k x y : ℤ) (p q : Point) → (y <ℤ (k *ℤ p.y)) ⊎ ((k *ℤ q.y) ≤ℤ y) → is_crossed_rising k x y p q ≡ false
 level_missed k x y p q out = and_false (rises_past k y p q) (int_lt (pos 0) (distance_right k x y p q)) (λ rises positive.
-    let both = both_true (int_le (k *ℤ p.y) y) (int_lt y (k *ℤ q.y)) rises in
+    let both = and_parts (int_le (k *ℤ p.y) y) (int_lt y (k *ℤ q.y)) rises in
     let low = le_true (k *ℤ p.y) y both.0 in
     let high = lt_true y (k *ℤ q.y) both.1 in
     ⊎_elim (λ (above : y <ℤ (k *ℤ p.y)). omega (arith, linear)) (λ (below : (k *ℤ q.y) ≤ℤ y). omega (arith, linear)) out)
@@ -230,10 +203,10 @@ even_outside k x y ring scale out = by_tests (int_le (k *ℤ b.0.x) x) (int_le x
 
     by_tests : (l r d u : Bool) → int_le (k *ℤ b.0.x) x ≡ l → int_le x (k *ℤ b.1.x) ≡ r → int_le (k *ℤ b.0.y) y ≡ d
         → int_le y (k *ℤ b.1.y) ≡ u → (l && r && d && u) ≡ false → parity (is_crossed k x y) (edges_of_ring ring) ≡ false
-    by_tests false r d u hl hr hd hu o = even_left k x y ring scale (le_or_lt (k *ℤ b.0.x) x hl)
-    by_tests true false d u hl hr hd hu o = even_right k x y ring scale (le_or_lt x (k *ℤ b.1.x) hr)
-    by_tests true true false u hl hr hd hu o = even_level k x y ring scale (inl (le_or_lt (k *ℤ b.0.y) y hd))
-    by_tests true true true false hl hr hd hu o = even_level k x y ring scale (inr (le_or_lt y (k *ℤ b.1.y) hu))
+    by_tests false r d u hl hr hd hu o = even_left k x y ring scale (le_false (k *ℤ b.0.x) x hl)
+    by_tests true false d u hl hr hd hu o = even_right k x y ring scale (le_false x (k *ℤ b.1.x) hr)
+    by_tests true true false u hl hr hd hu o = even_level k x y ring scale (inl (le_false (k *ℤ b.0.y) y hd))
+    by_tests true true true false hl hr hd hu o = even_level k x y ring scale (inr (le_false y (k *ℤ b.1.y) hu))
     by_tests true true true true hl hr hd hu o = absurd cc
 
 -- ---- boxes that have a place in common touch

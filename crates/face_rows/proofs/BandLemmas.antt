@@ -1,31 +1,15 @@
 -- Bands in which edges begin.
-use Rattle.std.proofs.Common.{◌≡◌, ℕ, ◌+◌, ◌<◌, ◌≤◌, Bool, true, false, ◌&&◌, List, length, get_or, ℤ, ◌≤ℤ◌, ◌<ℤ◌, refl, subst}
+use Rattle.std.proofs.Common.{◌≡◌, ℕ, ◌+◌, ◌<◌, ◌≤◌, Bool, true, ◌&&◌, List, length, get_or, ℤ, ◌≤ℤ◌, ◌<ℤ◌, refl, subst}
 use Rattle.std.proofs.Common.{ap, ◌∙◌, ⊎_elim, arith}
 use Rattle.std.specs.Prelude.{int_le, int_lt}
-use Rattle.std.proofs.lemmas.Bool.{cases_lt}
-use Rattle.std.proofs.lemmas.Int.{ints}
+use Rattle.std.proofs.lemmas.Bool.{and_parts, cases_lt}
 use Rattle.std.proofs.lemmas.List.{get_or_default}
 use Rattle.lay_int_laws.proofs.Signs.{linear}
+use Rattle.lay_int_laws.proofs.Tests.{le_true, lt_true, true_le, true_lt}
 use Rattle.lay_point.specs.declared.point.Point.{Point}
 use Rattle.face_rows.specs.declared.band.Band.{Band}
 use Rattle.face_rows.specs.Bands.{begins_in}
 use Rattle.face_rows.specs.Rows.{upward}
-
-le_true : (a b : ℤ) → int_le a b ≡ true → a ≤ℤ b
-le_true a b h = grind (arith, ints)
-
-lt_true : (a b : ℤ) → int_lt a b ≡ true → a <ℤ b
-lt_true a b h = grind (arith, ints)
-
-true_le : (a b : ℤ) → a ≤ℤ b → int_le a b ≡ true
-true_le a b h = grind (arith, ints)
-
-true_lt : (a b : ℤ) → a <ℤ b → int_lt a b ≡ true
-true_lt a b h = grind (arith, ints)
-
-both_true : (a b : Bool) → (a && b) ≡ true → (a ≡ true) × (b ≡ true)
-both_true true b e = (refl, e)
-both_true false b e = absurd cc
 
 all_true : (a b : Bool) → a ≡ true → b ≡ true → (a && b) ≡ true
 all_true a b f g = rw (f, g) refl
@@ -37,7 +21,7 @@ begins band e low high =
 
 pub bounds : (band : Band) (e : Point × Point) → begins_in band e ≡ true → (band.low ≤ℤ (upward e).0.y) × ((upward e).0.y <ℤ band.high)
 bounds band e h =
-    let both = both_true (int_le band.low (upward e).0.y) (int_lt (upward e).0.y band.high) h in
+    let both = and_parts (int_le band.low (upward e).0.y) (int_lt (upward e).0.y band.high) h in
     (le_true band.low (upward e).0.y both.0, lt_true (upward e).0.y band.high both.1)
 
 -- in a band that is no narrower begins what begins in the old one, and one edge more
@@ -48,7 +32,7 @@ pub begin_more : (old new : Band) (edges : List (Point × Point)) (i : ℕ) (e :
 begin_more old new edges i e less is low high from to so_far k d lt = ⊎_elim
     (λ (before : k < i).
     let f = get_or edges k d in
-    let was = both_true (int_le old.low (upward f).0.y) (int_lt (upward f).0.y old.high) (so_far k d before) in
+    let was = and_parts (int_le old.low (upward f).0.y) (int_lt (upward f).0.y old.high) (so_far k d before) in
     let above = le_true old.low (upward f).0.y was.0 in
     let below = lt_true (upward f).0.y old.high was.1 in
     begins new f (omega (arith, linear, above, low)) (omega (arith, linear, below, high)))

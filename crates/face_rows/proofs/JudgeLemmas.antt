@@ -17,13 +17,14 @@ use Rattle.lay_point.proofs.Members.{Has, contains, has}
 use Rattle.lay_point.proofs.Parity.{IsEquality, parity_of_occurrences}
 use Rattle.lay_point.proofs.Rising.{IsStrictOrder, rising_rest}
 use Rattle.face_label_laws.proofs.Rows.{IsInRow, Spans, beside, crossed_spans, fraction_lt, right_in_row, spans_crossed}
+use Rattle.face_label_laws.proofs.Upward.{up_crossed}
 use Rattle.face_label_laws.specs.Owner.{Owner}
 use Rattle.face_label_laws.specs.Rounded.{AreClean, Owned, is_owner_listed}
 use Rattle.face_label_laws.specs.Labels.{Item, odd_of, owned_items}
 use Rattle.face_rows.specs.Lines.{edge_at, nowhere, owners_at}
 use Rattle.face_rows.specs.Rows.{AreRowEdges, CrossesRow, IsLeftOf, crosses_row, crossing, rise, upward}
 use Rattle.face_rows.proofs.OwnerLemmas.{parity_any}
-use Rattle.face_rows.proofs.NearLemmas.{upward_crossed, upward_rises}
+use Rattle.face_rows.proofs.NearLemmas.{upward_rises}
 use Rattle.face_rows.proofs.RowLemmas.{before_by_number, has_get, other_edge, spans_of, upward_meet}
 
 -- ---- lists by number
@@ -242,12 +243,12 @@ module _ (r : Owned) (rising : IsRising IsEdgeBefore r.0) (paired : length r.1 �
         let there : right n ≡ true = subst (λ k. right k ≡ true) i.is (behind found.0 i.behind i.inside) in
         let member : Contains numbers n =
         subst (Contains numbers) i.is (contains numbers (get_or numbers found.0 0) (has_get numbers found.0 0 i.inside)) in
-        sym (upward_crossed k x y f)
+        sym (up_crossed k x y f)
         ∙ spans_crossed row k x y (upward f) place (spans_of row f (((edges.exact n).0 member).1 nowhere)) (far n there))
         (λ t.
         let f = edge_at r n in
         let c = crossed_spans row k x y (upward f) place (upward_rises f)
-        (upward_crossed k x y f ∙ t) in
+        (up_crossed k x y f ∙ t) in
         let there : right n ≡ true = true_lt (pos 0) (distance_right k x y (upward f).0 (upward f).1) c.1 in
         let member = has_at_zero numbers n (has numbers n ((edges.exact n).1 (
           inside,

@@ -6,7 +6,7 @@ use Rattle.std.proofs.lemmas.Int.{ints}
 use Rattle.lay_int_laws.proofs.Polynomials.{#, lit, ◌⊕◌, ◌⊖◌, ◌⊗◌, identity}
 use Rattle.lay_int_laws.proofs.Signs.{linear, times_lt}
 use Rattle.lay_point.specs.declared.point.Point.{Point}
-use Rattle.lay_point.specs.Parity.{distance_right, is_crossed, is_crossed_rising}
+use Rattle.lay_point.specs.Parity.{distance_right}
 use Rattle.face_label_laws.specs.Segments.{cross}
 use Rattle.face_label_laws.specs.Slides.{IsPlaceInside}
 use Rattle.face_label_laws.proofs.Rows.{IsInRow}
@@ -73,23 +73,6 @@ upward_rises e = by_test (int_le e.0.y e.1.y) refl
     by_test : (b : Bool) → int_le e.0.y e.1.y ≡ b → (cond b e (e.1, e.0)).0.y ≤ℤ (cond b e (e.1, e.0)).1.y
     by_test true t = grind (arith, ints)
     by_test false t = grind (arith, ints)
-
--- what doesn't depend on the order of the ends
-pub either : {A : Type 0} (f : Point × Point → A) → ((a b : Point) → f (a, b) ≡ f (b, a)) → (e : Point × Point) → f (upward e) ≡ f e
-either f same e = by_test (int_le e.0.y e.1.y)
-  where
-    by_test : (b : Bool) → f (cond b e (e.1, e.0)) ≡ f e
-    by_test true = refl
-    by_test false = same e.1 e.0
-
-or_turned : (a b : Bool) → (a || b) ≡ (b || a)
-or_turned true true = refl
-or_turned true false = refl
-or_turned false true = refl
-or_turned false false = refl
-
-pub upward_crossed : (k x y : ℤ) (e : Point × Point) → is_crossed k x y (upward e) ≡ is_crossed k x y e
-upward_crossed k x y = either (is_crossed k x y) (λ a b. or_turned (is_crossed_rising k x y a b) (is_crossed_rising k x y b a))
 
 -- ---- where the place is
 next_times : (w a : ℤ) → (w +ℤ pos 1) *ℤ a ≡ w *ℤ a +ℤ a

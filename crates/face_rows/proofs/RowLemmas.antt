@@ -9,13 +9,14 @@ use Rattle.std.specs.List.Sorted.{IsPermutation, IsSortedBy}
 use Rattle.std.specs.Ordering.{int_cmp, is_lt}
 use Rattle.std.specs.declared.cmp.Ordering.TheVariants.{Equal, Greater, Less}
 use Rattle.std.proofs.lemmas.Int.{ints}
-use Rattle.std.proofs.lemmas.Bool.{cases_lt}
+use Rattle.std.proofs.lemmas.Bool.{and_parts, cases_lt}
 use Rattle.std.proofs.lemmas.Bool.Decides.{nat_tests}
 use Rattle.std.proofs.lemmas.List.{get_or_default, map-append}
 use Rattle.std.proofs.lemmas.List.Elements.{All-push, recursion_from_All}
 use Rattle.std.proofs.lemmas.List.Sorted.{All-permutation, Contains-permutation, IsPermutation-map}
 use Rattle.std.proofs.lemmas.Map.Keys.{IsDistinct-IsPermutation}
 use Rattle.lay_int_laws.proofs.Signs.{below_or_same}
+use Rattle.lay_int_laws.proofs.Tests.{false_lt, le_true, lt_false, lt_true}
 use Rattle.lay_point.specs.declared.point.Point.{Point}
 use Rattle.lay_point.specs.Edges.{IsEdgeBefore}
 use Rattle.lay_point.specs.Rising.{IsRising}
@@ -32,28 +33,12 @@ use Rattle.face_rows.proofs.PickedLemmas.{picked_more, picked_passed}
 use Rattle.face_rows.specs.Rows.{AreRowEdges, CrossesRow, IsLeftOf, crosses_row, crossing, rise, upward}
 
 -- ---- tests
-le_true : (a b : ℤ) → int_le a b ≡ true → a ≤ℤ b
-le_true a b h = grind (arith, ints)
-
-lt_true : (a b : ℤ) → int_lt a b ≡ true → a <ℤ b
-lt_true a b h = grind (arith, ints)
-
-lt_false : (a b : ℤ) → int_lt a b ≡ false → b ≤ℤ a
-lt_false a b h = grind (arith, ints)
-
-false_lt : (a b : ℤ) → b ≤ℤ a → int_lt a b ≡ false
-false_lt a b h = grind (arith, ints)
-
 one_way_lt : (a b : ℤ) → int_lt a b ≡ true → int_lt b a ≡ false
 one_way_lt a b h = grind (arith, ints)
 
-both_true : (a b : Bool) → (a && b) ≡ true → (a ≡ true) × (b ≡ true)
-both_true true b e = (refl, e)
-both_true false b e = absurd cc
-
 pub spans_of : (row : ℤ) (e : Point × Point) → crosses_row row e ≡ true → Spans row (upward e)
 spans_of row e h =
-    let both = both_true (int_le (upward e).0.y row) (int_lt row (upward e).1.y) h in
+    let both = and_parts (int_le (upward e).0.y row) (int_lt row (upward e).1.y) h in
     record { low = le_true (upward e).0.y row both.0; high = lt_true row (upward e).1.y both.1 }
 
 -- clean edges are so from their lower ends on

@@ -9,7 +9,6 @@ use Rattle.lay_int_laws.proofs.Signs.{below_or_not, linear}
 use Rattle.lay_point.specs.declared.point.Point.{Point}
 use Rattle.lay_point.specs.Edges.{is_before, same_edge, touches}
 use Rattle.lay_point.specs.Parity.{xor, parity, is_crossed}
-use Rattle.lay_point.specs.Points.{point_eq}
 use Rattle.lay_point.proofs.EdgeOrder.{before_by_test, before_is_strict}
 use Rattle.lay_point.proofs.Members.{Has, contains}
 use Rattle.lay_point.proofs.Parity.{parity-map, parity_agree}
@@ -22,19 +21,11 @@ use Rattle.face_label_laws.specs.Rounded.{AreClean, AreEven, Owned, is_owner_lis
 use Rattle.face_label_laws.specs.Labels.{Item, odd_of, owned_items}
 use Rattle.face_label_laws.specs.Laws.{AreLesserFirst}
 use Rattle.face_label_laws.proofs.CutLaw.{same_edge-Decides}
+use Rattle.face_label_laws.proofs.Upward.{either, up_crossed, up_touches}
 use Rattle.face_rows.specs.Beside.{weight}
 use Rattle.face_rows.specs.Rows.{upward}
-use Rattle.face_rows.proofs.NearLemmas.{at_k, at_x, at_y, either, near, near_inside, near_k, upward_crossed, upward_rises, weight_of}
+use Rattle.face_rows.proofs.NearLemmas.{at_k, at_x, at_y, near, near_inside, near_k, upward_rises, weight_of}
 use Rattle.face_rows.proofs.RowLemmas.{upward_meet}
-
-or_turned : (v : Point) (a b : Point) → touches v (a, b) ≡ touches v (b, a)
-or_turned v a b = by_tests (point_eq a v) (point_eq b v)
-  where
-    by_tests : (s t : Bool) → (s || t) ≡ (t || s)
-    by_tests true true = refl
-    by_tests true false = refl
-    by_tests false true = refl
-    by_tests false false = refl
 
 has_upward : (items : List Item) (q : Item) → Has (map (λ (p : Item). (upward p.0, p.1)) items) q → (p : Item) × Has items p
     × ((upward p.0, p.1) ≡ q)
@@ -94,7 +85,7 @@ module _ (r : Owned) (even : AreEven r) (clean : AreClean r.0) (lesser : AreLess
   even_upward o v =
       parity-map (λ p. is_owner_listed o p.1 && touches v p.0) (λ (p : Item). (upward p.0, p.1)) items
       ∙ parity_agree (λ p. is_owner_listed o p.1 && touches v (upward p.0)) (λ p. is_owner_listed o p.1 && touches v p.0) items
-      (λ p m. ap (λ b. is_owner_listed o p.1 && b) (either (touches v) (or_turned v) p.0))
+      (λ p m. ap (λ b. is_owner_listed o p.1 && b) (up_touches v p.0))
       ∙ even o v
 
   odd_upward : (o : Owner) (k x y : ℤ) → parity (λ p. is_owner_listed o p.1 && is_crossed k x y p.0) risen ≡ odd_of items o k x y
@@ -102,7 +93,7 @@ module _ (r : Owned) (even : AreEven r) (clean : AreClean r.0) (lesser : AreLess
       parity-map (λ p. is_owner_listed o p.1 && is_crossed k x y p.0) (λ (p : Item). (upward p.0, p.1)) items
       ∙ parity_agree (λ p. is_owner_listed o p.1 && is_crossed k x y (upward p.0))
       (λ p. is_owner_listed o p.1 && is_crossed k x y p.0) items
-      (λ p m. ap (λ b. is_owner_listed o p.1 && b) (upward_crossed k x y p.0))
+      (λ p m. ap (λ b. is_owner_listed o p.1 && b) (up_crossed k x y p.0))
 
   one_times : (a b : ℤ) → a +ℤ b ≡ near (pos 1) a b
   one_times a b = identity (a ∷ b ∷ []) (# 0 ⊕ # 1) (lit (pos 1) ⊗ # 0 ⊕ # 1) refl

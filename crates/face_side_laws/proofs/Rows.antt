@@ -1,10 +1,10 @@
 -- The edges of a row: those that pass the height r + 1/2. There they have one order, and it is their order all over the row.
 use Rattle.std.proofs.Common.{◌≡◌, Bool, true, false, not, ◌&&◌, [], ◌∷◌, ℤ, pos, ◌+ℤ◌, ◌-ℤ◌, ◌*ℤ◌, ◌≤ℤ◌, ◌<ℤ◌}
 use Rattle.std.proofs.Common.{refl, sym, ◌∙◌, ⊎_elim, arith}
-use Rattle.std.specs.Prelude.{int_le, int_lt}
-use Rattle.std.proofs.lemmas.Int.{ints}
+use Rattle.std.specs.Prelude.{int_lt}
 use Rattle.lay_int_laws.proofs.Polynomials.{#, lit, ◌⊕◌, ◌⊖◌, ◌⊗◌, identity}
 use Rattle.lay_int_laws.proofs.Signs.{below_or_not, linear, nonnegative_product, positive_product, times_le, times_lt, cancel_le, cancel_lt}
+use Rattle.lay_int_laws.proofs.Tests.{false_le, le_false, le_true, lt_true, true_le, true_lt}
 use Rattle.lay_point.specs.declared.point.Point.{Point}
 use Rattle.lay_point.specs.Parity.{distance_right, is_crossed}
 use Rattle.snap_edge_test.specs.Meeting.{MeetAtEnds}
@@ -72,24 +72,6 @@ row_distance r e f =
     (ke ⊗ xf ⊖ kf ⊗ xe) refl
 
 -- ---- crossed from a place of the row
-le_true : (a b : ℤ) → int_le a b ≡ true → a ≤ℤ b
-le_true a b h = grind (arith, ints)
-
-le_false : (a b : ℤ) → int_le a b ≡ false → b <ℤ a
-le_false a b h = grind (arith, ints)
-
-true_le : (a b : ℤ) → a ≤ℤ b → int_le a b ≡ true
-true_le a b h = grind (arith, ints)
-
-false_le : (a b : ℤ) → b <ℤ a → int_le a b ≡ false
-false_le a b h = grind (arith, ints)
-
-lt_true : (a b : ℤ) → int_lt a b ≡ true → a <ℤ b
-lt_true a b h = grind (arith, ints)
-
-true_lt : (a b : ℤ) → a <ℤ b → int_lt a b ≡ true
-true_lt a b h = grind (arith, ints)
-
 three_true : (a b c : Bool) → (a && not b && c) ≡ true → (a ≡ true) × (b ≡ false) × (c ≡ true)
 three_true true false true e = (refl, refl, refl)
 three_true true false false e = absurd cc

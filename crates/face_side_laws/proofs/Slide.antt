@@ -5,6 +5,7 @@ use Rattle.std.specs.Prelude.{int_le, int_lt}
 use Rattle.std.proofs.lemmas.Int.{ints}
 use Rattle.lay_int_laws.proofs.Polynomials.{#, lit, ◌⊕◌, ◌⊖◌, ◌⊗◌, identity}
 use Rattle.lay_int_laws.proofs.Signs.{below_or_not, linear, positive_product, times_le, times_lt, cancel_le, cancel_lt}
+use Rattle.lay_int_laws.proofs.Tests.{false_le, le_false, le_true, lt_is_not_le, true_le}
 use Rattle.lay_point.specs.declared.point.Point.{Point}
 use Rattle.lay_point.specs.Edges.{touches}
 use Rattle.lay_point.specs.Parity.{xor, parity, distance_right, is_crossed, is_crossed_rising}
@@ -14,29 +15,6 @@ use Rattle.snap_edge_test.specs.Meeting.{MeetAtEnds}
 pub use Rattle.face_side_laws.specs.Slides.{AreUpward, IsPlaceInside}
 use Rattle.face_side_laws.proofs.EvenEnds.{even_ends}
 use Rattle.face_side_laws.proofs.Sides.{IsInside, at_height, height_there, mixed, right_of, same_side, scale_there}
-
--- ---- tests
-le_true : (a b : ℤ) → int_le a b ≡ true → a ≤ℤ b
-le_true a b h = grind (arith, ints)
-
-le_false : (a b : ℤ) → int_le a b ≡ false → b <ℤ a
-le_false a b h = grind (arith, ints)
-
-true_le : (a b : ℤ) → a ≤ℤ b → int_le a b ≡ true
-true_le a b h = grind (arith, ints)
-
-false_le : (a b : ℤ) → b <ℤ a → int_le a b ≡ false
-false_le a b h = grind (arith, ints)
-
-lt_is_not_le : (a b : ℤ) → int_lt a b ≡ not (int_le b a)
-lt_is_not_le a b = ⊎_elim (λ (less : a <ℤ b). true_lt less ∙ ap not (sym (false_le b a less)))
-    (λ (le : b ≤ℤ a). false_lt le ∙ ap not (sym (true_le b a le))) (below_or_not a b)
-  where
-    true_lt : a <ℤ b → int_lt a b ≡ true
-    true_lt h = grind (arith, ints)
-
-    false_lt : b ≤ℤ a → int_lt a b ≡ false
-    false_lt h = grind (arith, ints)
 
 -- ---- one place
 -- how an edge that doesn't fall passes a height

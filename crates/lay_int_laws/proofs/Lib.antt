@@ -1,4 +1,5 @@
 pub mod Products
 pub mod Polynomials
 pub mod Signs
+pub mod Tests
 pub mod Division

@@ -26,6 +26,7 @@ use Rattle.std.proofs.Common.{
 }
 use Rattle.std.specs.Cmp.Lexicographic.{pointwise}
 use Rattle.std.specs.List.Sorted.{IsPermutation}
+use Rattle.std.proofs.lemmas.Bool.{and_parts}
 use Rattle.lay_int_laws.proofs.Signs.{linear}
 use Rattle.lay_point.specs.declared.point.Point.{Point}
 use Rattle.lay_point.specs.Edges.{same_edge}
@@ -35,7 +36,6 @@ use Rattle.lay_point.proofs.Parity.{parity-append, xor-false, xor_assoc, xor_sel
 use Rattle.lay_point.proofs.EdgeOrder.{same_by_test}
 use Rattle.face_link_laws.proofs.ParityLemmas.{is_crossed-IsEdgeTest}
 use Rattle.lay_winding.specs.Winding.{one_if, sum_of}
-use Rattle.lay_winding.proofs.SlantLemmas.{both_true}
 use Rattle.lay_winding.proofs.WindingLemmas.{sum_of-permutation}
 
 -- ---- in another order
@@ -105,7 +105,7 @@ odd_none k x y kept [] all none so_far = sym (xor-false (parity (is_crossed k x 
 odd_none k x y kept (e ∷ es) all none so_far = absurd (omega arith)
 
 pub edge_same : (e f : Point × Point) → same_edge e f ≡ true → e ≡ f
-edge_same e f h = let parts = both_true (point_eq e.0 f.0) (point_eq e.1 f.1) h in
+edge_same e f h = let parts = and_parts (point_eq e.0 f.0) (point_eq e.1 f.1) h in
     λ i. (same_by_test e.0 f.0 parts.0 i, same_by_test e.1 f.1 parts.1 i)
 
 pub edges_same : (es fs : List (Point × Point)) → pointwise same_edge es fs ≡ true → es ≡ fs
@@ -113,7 +113,7 @@ edges_same [] [] h = refl
 edges_same [] (f ∷ fs) h = absurd cc
 edges_same (e ∷ es) [] h = absurd cc
 edges_same (e ∷ es) (f ∷ fs) h =
-    let parts = both_true (same_edge e f) (pointwise same_edge es fs) h in
+    let parts = and_parts (same_edge e f) (pointwise same_edge es fs) h in
     let first = edge_same e f parts.0 in
     let rest = edges_same es fs parts.1 in
     λ i. first i ∷ rest i

@@ -4,6 +4,7 @@ use Rattle.std.proofs.Common.{◌≡◌, ◌⊎◌, inl, inr, Bool, true, false,
 use Rattle.std.proofs.Common.{ℤ, pos, ◌+ℤ◌, ◌-ℤ◌, ◌*ℤ◌, ◌≤ℤ◌, ◌<ℤ◌, neg_ℤ, refl, sym, ap, ◌∙◌, subst, arith, ⊎_elim}
 use Rattle.std.specs.Bool.{beq}
 use Rattle.std.specs.Prelude.{int_le, int_lt}
+use Rattle.std.proofs.lemmas.Bool.{and_parts}
 use Rattle.lay_int_laws.proofs.Polynomials.{Expr, #, ◌⊕◌, ◌⊖◌, ◌⊗◌, identity}
 use Rattle.lay_int_laws.proofs.Signs.{
   linear,
@@ -15,13 +16,13 @@ use Rattle.lay_int_laws.proofs.Signs.{
   cancel_nonnegative,
   cancel_positive,
 }
+use Rattle.lay_int_laws.proofs.Tests.{le_true, lt_false, lt_true, true_le, true_lt}
 use Rattle.lay_point.specs.declared.point.Point.{Point}
 use Rattle.lay_point.specs.Parity.{is_crossed_rising, rises_past, distance_right}
 use Rattle.snap_segments.specs.Segments.{cross}
 use Rattle.lay_winding.specs.declared.slant.Slant.{Slant}
 use Rattle.lay_winding.specs.Slants.{counts, gap_at_bottom, gap_at_top, is_not_left, leads, signed, slant_count, spans, take_turns}
 use Rattle.lay_winding.specs.Once.{IsZeroOrOne}
-use Rattle.lay_winding.proofs.SlantLemmas.{both_true, le_true, le_false, lt_true, lt_false, true_le, true_lt, no_count}
 
 -- the two parts of how far e is to the right of f, times both rises: at height y and scale k it is level e f * k + lean e f * y
 abbrev rise : Slant → ℤ
@@ -76,7 +77,7 @@ record Reaches (low high : ℤ) (s : Slant) : Type 0 where
 
 reaches : (low high : ℤ) (s : Slant) → spans low high s ≡ true → Reaches low high s
 reaches low high s h =
-    let parts = both_true (int_le s.low.y low) (int_le high s.high.y) h in
+    let parts = and_parts (int_le s.low.y low) (int_le high s.high.y) h in
     record { from = le_true s.low.y low parts.0; to = le_true high s.high.y parts.1 }
 
 module _ (low high : ℤ) (order : low <ℤ high) (e f : Slant) (here : Reaches low high e) (there : Reaches low high f) where
@@ -124,7 +125,7 @@ module _ (low high : ℤ) (order : low <ℤ high) (e f : Slant) (here : Reaches 
   between : (k y : ℤ) → pos 1 ≤ℤ k → (k *ℤ low) ≤ℤ y → y <ℤ (k *ℤ high) → is_not_left e f ≡ true
       → pos 0 ≤ℤ (k *ℤ level e f +ℤ y *ℤ lean e f)
   between k y scale from to apart =
-      let parts = both_true (int_le (pos 0) (gap_at_bottom e f)) (int_le (pos 0) (gap_at_top e f)) apart in
+      let parts = and_parts (int_le (pos 0) (gap_at_bottom e f)) (int_le (pos 0) (gap_at_top e f)) apart in
       let b = bottom (le_true (pos 0) (gap_at_bottom e f) parts.0) in
       let t = top (le_true (pos 0) (gap_at_top e f) parts.1) in
       mixed b.0 t.0 b.1 t.1 b.2 t.2
@@ -183,9 +184,9 @@ module _ (low high k x y : ℤ) (scale : pos 1 ≤ℤ k) (from : (k *ℤ low) �
 
   first_is : (up : Bool) (e : Slant) (es : List Slant) → take_turns low high up (e ∷ es) ≡ true → IsFirst up e es
   first_is up e es h =
-      let c = both_true (spans low high e && beq e.up up && leads e es) (take_turns low high (not up) es) h in
-      let b = both_true (spans low high e && beq e.up up) (leads e es) c.0 in
-      let a = both_true (spans low high e) (beq e.up up) b.0 in
+      let c = and_parts (spans low high e && beq e.up up && leads e es) (take_turns low high (not up) es) h in
+      let b = and_parts (spans low high e && beq e.up up) (leads e es) c.0 in
+      let a = and_parts (spans low high e) (beq e.up up) b.0 in
       record { reach = reaches low high e a.0; same = same_bool e.up up a.1; lead = b.1; rest = c.1 }
     where
       same_bool : (p q : Bool) → beq p q ≡ true → p ≡ q

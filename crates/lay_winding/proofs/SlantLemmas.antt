@@ -2,37 +2,15 @@
 use Rattle.std.proofs.Common.{◌≡◌, ◌⊎◌, inl, inr, Bool, true, false, cond, ◌&&◌, List, [], ◌∷◌, ◌++◌}
 use Rattle.std.proofs.Common.{ℤ, pos, ◌+ℤ◌, ◌-ℤ◌, ◌*ℤ◌, ◌≤ℤ◌, ◌<ℤ◌, neg_ℤ, refl, sym, ap, ◌∙◌, subst, arith}
 use Rattle.std.specs.Prelude.{int_le, int_lt, Some, None}
-use Rattle.std.proofs.lemmas.Int.{ints}
+use Rattle.std.proofs.lemmas.Bool.{and_parts}
 use Rattle.lay_int_laws.proofs.Signs.{below_or_not, linear, times_le, times_lt}
+use Rattle.lay_int_laws.proofs.Tests.{le_true, lt_false, lt_true, true_le}
 use Rattle.lay_point.specs.declared.point.Point.{Point}
 use Rattle.lay_point.specs.Parity.{is_crossed_rising, rises_past, distance_right}
 use Rattle.lay_winding.specs.declared.slant.Slant.{Slant}
 use Rattle.lay_winding.specs.Slants.{added, are_by_height, begin_from, counts, ending_above, signed, slant_count, slant_of, slants_of}
 use Rattle.lay_winding.specs.Winding.{sum_of, turn, winding}
 use Rattle.lay_winding.proofs.WindingLemmas.{sum_of-append}
-
--- ---- tests
-pub lt_true : (a b : ℤ) → int_lt a b ≡ true → a <ℤ b
-lt_true a b h = grind (arith, ints)
-
-pub lt_false : (a b : ℤ) → int_lt a b ≡ false → b ≤ℤ a
-lt_false a b h = grind (arith, ints)
-
-pub le_true : (a b : ℤ) → int_le a b ≡ true → a ≤ℤ b
-le_true a b h = grind (arith, ints)
-
-pub le_false : (a b : ℤ) → int_le a b ≡ false → b <ℤ a
-le_false a b h = grind (arith, ints)
-
-pub true_le : (a b : ℤ) → a ≤ℤ b → int_le a b ≡ true
-true_le a b h = grind (arith, ints)
-
-pub true_lt : (a b : ℤ) → a <ℤ b → int_lt a b ≡ true
-true_lt a b h = grind (arith, ints)
-
-pub both_true : (a b : Bool) → (a && b) ≡ true → (a ≡ true) × (b ≡ true)
-both_true true b e = (refl, e)
-both_true false b e = absurd cc
 
 -- ---- slants that aren't reached
 not_past : (a b y : ℤ) → ((a ≤ℤ y) → (y <ℤ b) → ⊥) → (int_le a y && int_lt y b) ≡ false
@@ -113,6 +91,6 @@ counts_below k x y height (s ∷ ss) scale h order begin =
     let far = le_true height s.low.y begin in
     let less = times_le k height s.low.y (omega (arith, linear)) far in
     let none = no_count k x y s (not_crossed k x y s.low s.high (λ past not_yet. omega (arith, linear))) in
-    let parts = both_true (begin_from s.low.y ss) (are_by_height ss) order in
+    let parts = and_parts (begin_from s.low.y ss) (are_by_height ss) order in
     let rest = counts_below k x y height ss scale h parts.1 (begin_later height s.low.y ss far parts.0) in
     omega (arith, linear)

@@ -3,14 +3,16 @@ use Rattle.std.proofs.Common.{◌≡◌, ◌⊎◌, inl, inr, ℕ, Bool, true, f
 use Rattle.std.proofs.Common.{ℤ, pos, ◌+ℤ◌, ◌*ℤ◌, ◌≤ℤ◌, ◌<ℤ◌, refl, sym, ap, ◌∙◌, subst, arith, ⊎_elim}
 use Rattle.std.specs.Prelude.{int_le}
 use Rattle.std.specs.List.{insert}
+use Rattle.std.proofs.lemmas.Bool.{and_parts}
 use Rattle.std.proofs.lemmas.List.Sorted.{IsPermutation-insert}
 use Rattle.lay_int_laws.proofs.Signs.{below_or_not, linear, times_le}
+use Rattle.lay_int_laws.proofs.Tests.{le_true}
 use Rattle.lay_winding.specs.declared.slant.Slant.{Slant}
 use Rattle.lay_winding.specs.Once.{AreOnce, IsZeroOrOne}
 use Rattle.lay_winding.specs.Slants.{are_begun_from, are_by_height, begin_from, counts, ending_above, is_sound_band, slant_count}
 use Rattle.lay_winding.specs.Slants.{take_turns}
 use Rattle.lay_winding.proofs.RowLemmas.{once_in_band}
-use Rattle.lay_winding.proofs.SlantLemmas.{both_true, counts_above, counts_below, le_true, true_le}
+use Rattle.lay_winding.proofs.SlantLemmas.{counts_above, counts_below}
 use Rattle.lay_winding.proofs.WindingLemmas.{sum_of-permutation}
 
 pub counts-insert : (k x y : ℤ) (slants : List Slant) (place : ℕ) (s : Slant)
@@ -27,7 +29,7 @@ pub record IsSwept (slants : List Slant) (row : ℤ) (active left : List Slant) 
 pub swept_first : (slants : List Slant) (row : ℤ) (active : List Slant) → are_begun_from row slants ≡ true → active ≡ []
     → IsSwept slants row active slants
 swept_first slants row active begun none =
-    let parts = both_true (are_by_height slants) (begin_from row slants) begun in
+    let parts = and_parts (are_by_height slants) (begin_from row slants) begun in
     record {
       below = λ k x y scale h. inl (counts_below k x y row slants scale h parts.0 parts.1);
       above = λ k x y scale h. let zero : counts k x y active ≡ pos 0 = ap (counts k x y) none in omega (arith, linear);
@@ -40,8 +42,8 @@ pub swept_more : (slants : List Slant) (row : ℤ) (active left : List Slant) (h
     → ((k x y : ℤ) → counts k x y new +ℤ counts k x y rest ≡ counts k x y (ending_above height active) +ℤ counts k x y left)
     → are_by_height rest ≡ true → IsSwept slants height new rest
 swept_more slants row active left height new rest swept sound sums order =
-    let b = both_true (int_le row height && take_turns row height true active) (begin_from height left) sound in
-    let a = both_true (int_le row height) (take_turns row height true active) b.0 in
+    let b = and_parts (int_le row height && take_turns row height true active) (begin_from height left) sound in
+    let a = and_parts (int_le row height) (take_turns row height true active) b.0 in
     let later : row ≤ℤ height = le_true row height a.0 in
     record {
       below = λ k x y scale h. ⊎_elim (λ (less : y <ℤ (k *ℤ row)). swept.below k x y scale less)
@@ -79,4 +81,4 @@ one_added k x y s old new left behind first all more left_is so_far =
 
 pub order_behind : (s : Slant) (left behind : List Slant) → left ≡ s ∷ behind → are_by_height left ≡ true → are_by_height behind ≡ true
 order_behind s left behind left_is order =
-    (both_true (begin_from s.low.y behind) (are_by_height behind) (subst (λ l. are_by_height l ≡ true) left_is order)).1
+    (and_parts (begin_from s.low.y behind) (are_by_height behind) (subst (λ l. are_by_height l ≡ true) left_is order)).1
