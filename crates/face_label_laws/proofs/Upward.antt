@@ -82,7 +82,7 @@ label_same op items p =
     differs_at op items (p.0, p.1) (pos 2) (sum_turned a.x b.x i) (sum_turned a.y b.y i)) p.0
 
 -- ---- clean edges stay clean
-up_meet : (e f : Point × Point) → MeetAtEnds e f → MeetAtEnds (up e) (up f)
+pub up_meet : (e f : Point × Point) → MeetAtEnds e f → MeetAtEnds (up e) (up f)
 up_meet e f h = by_tests (int_le e.0.y e.1.y) (int_le f.0.y f.1.y)
   where
     by_tests : (b c : Bool) → MeetAtEnds (cond b e (e.1, e.0)) (cond c f (f.1, f.0))
@@ -91,7 +91,7 @@ up_meet e f h = by_tests (int_le e.0.y e.1.y) (int_le f.0.y f.1.y)
     by_tests false true = meet_first e.0 e.1 f h
     by_tests false false = meet_first e.0 e.1 (f.1, f.0) (meet_second e f.0 f.1 h)
 
-up_rises : (e : Point × Point) → (up e).0.y ≤ℤ (up e).1.y
+pub up_rises : (e : Point × Point) → (up e).0.y ≤ℤ (up e).1.y
 up_rises e = by_test (int_le e.0.y e.1.y) refl
   where
     by_test : (b : Bool) → int_le e.0.y e.1.y ≡ b → (cond b e (e.1, e.0)).0.y ≤ℤ (cond b e (e.1, e.0)).1.y

@@ -17,15 +17,14 @@ use Rattle.lay_point.proofs.Members.{Has, contains, has}
 use Rattle.lay_point.proofs.Parity.{IsEquality, parity_of_occurrences}
 use Rattle.lay_point.proofs.Rising.{IsStrictOrder, rising_rest}
 use Rattle.face_label_laws.proofs.Rows.{IsInRow, Spans, beside, crossed_spans, fraction_lt, right_in_row, spans_crossed}
-use Rattle.face_label_laws.proofs.Upward.{up_crossed}
+use Rattle.face_label_laws.proofs.Upward.{up_crossed, up_meet, up_rises}
 use Rattle.face_label_laws.specs.Owner.{Owner}
 use Rattle.face_label_laws.specs.Rounded.{AreClean, Owned, is_owner_listed}
 use Rattle.face_label_laws.specs.Labels.{Item, odd_of, owned_items}
 use Rattle.face_rows.specs.Lines.{edge_at, nowhere, owners_at}
 use Rattle.face_rows.specs.Rows.{AreRowEdges, CrossesRow, IsLeftOf, crosses_row, crossing, rise, upward}
 use Rattle.face_rows.proofs.OwnerLemmas.{parity_any}
-use Rattle.face_rows.proofs.NearLemmas.{upward_rises}
-use Rattle.face_rows.proofs.RowLemmas.{before_by_number, has_get, other_edge, spans_of, upward_meet}
+use Rattle.face_rows.proofs.RowLemmas.{before_by_number, has_get, other_edge, spans_of}
 
 -- ---- lists by number
 drop_has : (xs : List ℕ) (gap i : ℕ) → gap ≤ i → i < length xs → Has (drop gap xs) (get_or xs i 0)
@@ -198,7 +197,7 @@ module _ (r : Owned) (rising : IsRising IsEdgeBefore r.0) (paired : length r.1 �
       subst (λ l. (rise g *ℤ crossing row (edge_at r l)) <ℤ (rise (edge_at r l) *ℤ crossing row g)) same less in
       omega (arith, linear, here) in
       let other : ¬ (f ≡ g) = other_edge r.0 m n nowhere rising differ h.first.0 h.second.0 in
-      let meet = upward_meet f g
+      let meet = up_meet f g
       (clean f g (contains r.0 f (has_get r.0 m nowhere h.first.0)) (contains r.0 g (has_get r.0 n nowhere h.second.0)) other) in
       true_lt (pos 0) (distance_right k x y (upward g).0 (upward g).1)
       (right_in_row row (upward f) (upward g) k x y (beside row k y place) (spans_of row f (h.first.1 nowhere))
@@ -247,7 +246,7 @@ module _ (r : Owned) (rising : IsRising IsEdgeBefore r.0) (paired : length r.1 �
         ∙ spans_crossed row k x y (upward f) place (spans_of row f (((edges.exact n).0 member).1 nowhere)) (far n there))
         (λ t.
         let f = edge_at r n in
-        let c = crossed_spans row k x y (upward f) place (upward_rises f)
+        let c = crossed_spans row k x y (upward f) place (up_rises f)
         (up_crossed k x y f ∙ t) in
         let there : right n ≡ true = true_lt (pos 0) (distance_right k x y (upward f).0 (upward f).1) c.1 in
         let member = has_at_zero numbers n (has numbers n ((edges.exact n).1 (

@@ -1,7 +1,7 @@
 -- The place on an edge at which it is judged. It divides the way from the lower end to the upper one as 1 to a weight.
 use Rattle.std.proofs.Common.{◌≡◌, Bool, true, false, ◌||◌, cond, [], ◌∷◌}
 use Rattle.std.proofs.Common.{ℤ, pos, ◌+ℤ◌, ◌-ℤ◌, ◌*ℤ◌, ◌≤ℤ◌, ◌<ℤ◌, refl, sym, ap, ◌∙◌, arith}
-use Rattle.std.specs.Prelude.{int_le, int_lt}
+use Rattle.std.specs.Prelude.{int_lt}
 use Rattle.std.proofs.lemmas.Int.{ints}
 use Rattle.lay_int_laws.proofs.Polynomials.{#, lit, ◌⊕◌, ◌⊖◌, ◌⊗◌, identity}
 use Rattle.lay_int_laws.proofs.Signs.{linear, times_lt}
@@ -65,14 +65,6 @@ weight_of e = by_test (int_lt (pos 0) (rise e)) refl
     by_test : (b : Bool) → int_lt (pos 0) (rise e) ≡ b → IsWeight (upward e).0 (upward e).1 (cond b (rise e -ℤ pos 1) (pos 1))
     by_test true t = let h = rising ((upward e).1.y -ℤ (upward e).0.y) t in record { whole = h.0; enough = h.1 }
     by_test false t = record { whole = omega (arith, linear); enough = level ((upward e).1.y -ℤ (upward e).0.y) t }
-
--- ---- the edges, from their lower ends
-pub upward_rises : (e : Point × Point) → (upward e).0.y ≤ℤ (upward e).1.y
-upward_rises e = by_test (int_le e.0.y e.1.y) refl
-  where
-    by_test : (b : Bool) → int_le e.0.y e.1.y ≡ b → (cond b e (e.1, e.0)).0.y ≤ℤ (cond b e (e.1, e.0)).1.y
-    by_test true t = grind (arith, ints)
-    by_test false t = grind (arith, ints)
 
 -- ---- where the place is
 next_times : (w a : ℤ) → (w +ℤ pos 1) *ℤ a ≡ w *ℤ a +ℤ a

@@ -23,9 +23,8 @@ use Rattle.lay_point.specs.Rising.{IsRising}
 use Rattle.lay_point.proofs.EdgeOrder.{edges_are_strict}
 use Rattle.lay_point.proofs.Members.{Has, contains, has}
 use Rattle.lay_point.proofs.Rising.{IsStrictOrder, before_rest, rising_rest}
-use Rattle.face_label_laws.specs.Meeting.{MeetAtEnds}
 use Rattle.face_label_laws.proofs.Rows.{Spans, apart_in_row, fraction_le}
-use Rattle.face_label_laws.proofs.Sides.{meet_first, meet_second}
+use Rattle.face_label_laws.proofs.Upward.{up_meet}
 use Rattle.face_label_laws.specs.Rounded.{AreClean}
 use Rattle.face_rows.specs.declared.crossing.Crossing.{Crossing}
 use Rattle.face_rows.specs.Crossings.{IsCrossingOf, crossing_numbers}
@@ -40,16 +39,6 @@ pub spans_of : (row : ℤ) (e : Point × Point) → crosses_row row e ≡ true �
 spans_of row e h =
     let both = and_parts (int_le (upward e).0.y row) (int_lt row (upward e).1.y) h in
     record { low = le_true (upward e).0.y row both.0; high = lt_true row (upward e).1.y both.1 }
-
--- clean edges are so from their lower ends on
-pub upward_meet : (e f : Point × Point) → MeetAtEnds e f → MeetAtEnds (upward e) (upward f)
-upward_meet e f h = by_tests (int_le e.0.y e.1.y) (int_le f.0.y f.1.y)
-  where
-    by_tests : (b c : Bool) → MeetAtEnds (cond b e (e.1, e.0)) (cond c f (f.1, f.0))
-    by_tests true true = h
-    by_tests true false = meet_second e f.0 f.1 h
-    by_tests false true = meet_first e.0 e.1 f h
-    by_tests false false = meet_first e.0 e.1 (f.1, f.0) (meet_second e f.0 f.1 h)
 
 -- ---- elements by number
 pub has_get : {A : Type 0} (xs : List A) (n : ℕ) (d : A) → n < length xs → Has xs (get_or xs n d)
@@ -182,7 +171,7 @@ module _ (edges : List (Point × Point)) (row : ℤ) (rising : IsRising IsEdgeBe
       let e = get_or edges a.number d in
       let f = get_or edges b.number d in
       let other : ¬ (e ≡ f) = other_edge edges a.number b.number d rising (grind (arith, nat_tests)) ha.given hb.given in
-      let meet = upward_meet e f (clean e f (contains edges e (has_get edges a.number d ha.given))
+      let meet = up_meet e f (clean e f (contains edges e (has_get edges a.number d ha.given))
       (contains edges f (has_get edges b.number d hb.given)) other) in
       let le : (b.rise *ℤ a.x) ≤ℤ (a.rise *ℤ b.x) = lt_false (a.rise *ℤ b.x) (b.rise *ℤ a.x) sorted in
       let here : (rise f *ℤ crossing row e) ≤ℤ (rise e *ℤ crossing row f) =

@@ -21,11 +21,10 @@ use Rattle.face_label_laws.specs.Rounded.{AreClean, AreEven, Owned, is_owner_lis
 use Rattle.face_label_laws.specs.Labels.{Item, odd_of, owned_items}
 use Rattle.face_label_laws.specs.Laws.{AreLesserFirst}
 use Rattle.face_label_laws.proofs.CutLaw.{same_edge-Decides}
-use Rattle.face_label_laws.proofs.Upward.{either, up_crossed, up_touches}
+use Rattle.face_label_laws.proofs.Upward.{either, up_crossed, up_meet, up_rises, up_touches}
 use Rattle.face_rows.specs.Beside.{weight}
 use Rattle.face_rows.specs.Rows.{upward}
-use Rattle.face_rows.proofs.NearLemmas.{at_k, at_x, at_y, near, near_inside, near_k, upward_rises, weight_of}
-use Rattle.face_rows.proofs.RowLemmas.{upward_meet}
+use Rattle.face_rows.proofs.NearLemmas.{at_k, at_x, at_y, near, near_inside, near_k, weight_of}
 
 has_upward : (items : List Item) (q : Item) → Has (map (λ (p : Item). (upward p.0, p.1)) items) q → (p : Item) × Has items p
     × ((upward p.0, p.1) ≡ q)
@@ -64,7 +63,7 @@ module _ (r : Owned) (even : AreEven r) (clean : AreClean r.0) (lesser : AreLess
 
   are_upward : AreUpward risen
   are_upward = record {
-    rises = λ q m. let p = has_upward items q m in subst (λ (z : Item). z.0.0.y ≤ℤ z.0.1.y) p.2 (upward_rises p.0.0);
+    rises = λ q m. let p = has_upward items q m in subst (λ (z : Item). z.0.0.y ≤ℤ z.0.1.y) p.2 (up_rises p.0.0);
     proper = λ q m.
         let p = has_upward items q m in
         subst (λ (z : Item). ¬ (z.0.0 ≡ z.0.1)) p.2 (upward_proper p.0.0 (proper p.0.0 (zip_first r.0 r.1 p.0 p.1)));
@@ -78,7 +77,7 @@ module _ (r : Owned) (even : AreEven r) (clean : AreClean r.0) (lesser : AreLess
       both : (e f : Point × Point) → Has r.0 e → Has r.0 f → (b : Bool) → same_edge e f ≡ b
           → (upward e ≡ upward f) ⊎ MeetAtEnds (upward e) (upward f)
       both e f m n true t = inl (ap upward ((same_edge-Decides e f).0 t))
-      both e f m n false t = inr (upward_meet e f (clean e f (contains r.0 e m) (contains r.0 f n) (λ same.
+      both e f m n false t = inr (up_meet e f (clean e f (contains r.0 e m) (contains r.0 f n) (λ same.
           let t' = (same_edge-Decides e f).1 same in absurd cc)))
 
   even_upward : (o : Owner) (v : Point) → parity (λ p. is_owner_listed o p.1 && touches v p.0) risen ≡ false

@@ -27,9 +27,10 @@ use Rattle.face_sides.specs.Sides.{AreBehind, AreSidesOf, IsDifference, holds_be
 use Rattle.face_sweep.specs.Sound.{AreSound}
 use Rattle.face_sweep.proofs.OwnerLemmas.{same_owner}
 use Rattle.face_sweep.proofs.JudgeLemmas.{IsBeforeIn, before_rising, before_strict, is_right, odd_behind}
-use Rattle.face_sweep.proofs.NearLemmas.{at_k, at_x, at_y, near_in_row, right_there, upward_rises, weight_of}
+use Rattle.face_sweep.proofs.NearLemmas.{at_k, at_x, at_y, near_in_row, right_there, weight_of}
 use Rattle.face_sweep.proofs.RowLemmas.{before_by_number, has_get, spans_of}
 use Rattle.face_sweep.proofs.SideLemmas.{crossed_beside, judged_beside}
+use Rattle.face_sweep.proofs.Upward.{up_rises}
 use Rattle.face_sides.proofs.StateLemmas.{sides_agree}
 
 or_cases : (a b : Bool) → (a || b) ≡ true → (a ≡ true) ⊎ (b ≡ true)
@@ -80,7 +81,7 @@ gap_beside r n numbers gap h o =
     let e = edge_at r n in
     let there = zip_at r.0 r.1 n h.sound.paired h.given in
     odd_behind r h.sound.rising h.sound.paired h.sound.clean (upward e).0.y (at_k e) (at_x e) (at_y e)
-    (near_in_row (weight e) (upward e).0 (upward e).1 (upward_rises e) (weight_of e)) numbers h.row gap
+    (near_in_row (weight e) (upward e).0 (upward e).1 (up_rises e) (weight_of e)) numbers h.row gap
     (λ j next. sym (right_there e (edge_at r (get_or numbers j 0))) ∙ h.ends j next)
     (λ less. sym (right_there e (edge_at r (get_or numbers gap 0))) ∙ h.begins less) h.bound o
     ∙ judged_beside r h.sound.even h.sound.clean h.sound.lesser o (owned_item_at r n) there

@@ -38,7 +38,8 @@ use Rattle.face_sweep.specs.Starts.{BeginsBy}
 use Rattle.face_sweep.proofs.KeptLemmas.{crosses}
 use Rattle.face_rows.proofs.JudgeLemmas.{IsBeforeIn, before_rising, before_strict}
 use Rattle.face_rows.proofs.NearLemmas.{near_k, near, right_there}
-use Rattle.face_rows.proofs.RowLemmas.{has_get, other_edge, spans_of, upward_meet}
+use Rattle.face_rows.proofs.RowLemmas.{has_get, other_edge, spans_of}
+use Rattle.face_rows.proofs.Upward.{up_meet}
 
 true_le : (a b : ℤ) → a ≤ℤ b → int_le a b ≡ true
 true_le a b h = grind (arith, ints)
@@ -187,7 +188,7 @@ module _ (r : Owned) (rising : IsRising IsEdgeBefore r.0) (clean : AreClean r.0)
   meets m n apart inside_m inside_n =
       let e = edge_at r m in
       let f = edge_at r n in
-      upward_meet e f (clean e f (contains r.0 e (has_get r.0 m nowhere inside_m)) (contains r.0 f (has_get r.0 n nowhere inside_n))
+      up_meet e f (clean e f (contains r.0 e (has_get r.0 m nowhere inside_m)) (contains r.0 f (has_get r.0 n nowhere inside_n))
       (other_edge r.0 m n nowhere rising apart inside_m inside_n))
 
   module _ (n m : ℕ) (given : CrossesRow r.0 (upward (edge_at r n)).0.y n) (other : CrossesRow r.0 (upward (edge_at r n)).0.y m) where
