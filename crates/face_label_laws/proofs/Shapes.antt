@@ -1,6 +1,8 @@
--- A shape with an odd parity is listed; so an input holds where some shape of it does.
+-- Owners that are the same, and those that are listed. A shape with an odd parity is listed; so an input holds where some shape of
+-- it does.
 use Rattle.std.proofs.Common.{◌≡◌, ◌⊎◌, inl, inr, Bool, true, false, ◌&&◌, ◌||◌, List, [], ◌∷◌, ◌==◌, refl, sym, ap, subst, ◌∙◌, ⊎_elim}
 use Rattle.std.specs.List.{list_any}
+use Rattle.std.proofs.lemmas.Bool.{and_parts, or_cases}
 use Rattle.std.proofs.lemmas.Bool.Decides.{Decides-eqb}
 use Rattle.lay_point.specs.Parity.{xor, parity, is_crossed}
 use Rattle.lay_point.proofs.Members.{Has, has-append_left, has-append_right}
@@ -12,34 +14,26 @@ use Rattle.snap_chains.specs.Rounded.{is_owner_listed}
 use Rattle.face_label_laws.specs.Labels.{Item, listed_shapes, odd_of, owned_items}
 use Rattle.face_label_laws.specs.Laws.{InputsAreTheirShapes}
 
-input_by_test : (i j : Input) → input_eq i j ≡ true → i ≡ j
-input_by_test First First e = refl
-input_by_test First Second e = absurd cc
-input_by_test Second First e = absurd cc
-input_by_test Second Second e = refl
+pub same_input : (i j : Input) → input_eq i j ≡ true → i ≡ j
+same_input First First e = refl
+same_input First Second e = absurd cc
+same_input Second First e = absurd cc
+same_input Second Second e = refl
 
-input_itself : (i : Input) → input_eq i i ≡ true
+pub input_itself : (i : Input) → input_eq i i ≡ true
 input_itself First = refl
 input_itself Second = refl
 
-both_true : (a b : Bool) → (a && b) ≡ true → (a ≡ true) × (b ≡ true)
-both_true true b e = (refl, e)
-both_true false b e = absurd cc
-
-owner_by_test : (o p : Owner) → owner_eq o p ≡ true → o ≡ p
-owner_by_test o p e =
-    let both = both_true (input_eq o.input p.input) (o.shape == p.shape) e in
-    let first = input_by_test o.input p.input both.0 in
+pub same_owner : (o p : Owner) → owner_eq o p ≡ true → o ≡ p
+same_owner o p e =
+    let both = and_parts (input_eq o.input p.input) (o.shape == p.shape) e in
+    let first = same_input o.input p.input both.0 in
     let second = (Decides-eqb o.shape p.shape).0 both.1 in
     λ i. record { input = first i; shape = second i }
 
-or_cases : (a b : Bool) → (a || b) ≡ true → (a ≡ true) ⊎ (b ≡ true)
-or_cases true b e = inl refl
-or_cases false b e = inr e
-
-listed_has : (o : Owner) (os : List Owner) → is_owner_listed o os ≡ true → Has os o
+pub listed_has : (o : Owner) (os : List Owner) → is_owner_listed o os ≡ true → Has os o
 listed_has o [] e = absurd cc
-listed_has o (p ∷ os) e = ⊎_elim (λ (here : owner_eq p o ≡ true). inl (owner_by_test p o here))
+listed_has o (p ∷ os) e = ⊎_elim (λ (here : owner_eq p o ≡ true). inl (same_owner p o here))
     (λ (there : is_owner_listed o os ≡ true). inr (listed_has o os there)) (or_cases (owner_eq p o) (is_owner_listed o os) e)
 
 -- an odd number is one at least
@@ -57,10 +51,10 @@ shapes_have [] p o m n = absurd m
 shapes_have (q ∷ qs) p o (inl same) n = has-append_left q.1 (listed_shapes qs) o (subst (λ (z : Item). Has z.1 o) (sym same) n)
 shapes_have (q ∷ qs) p o (inr m) n = has-append_right q.1 (listed_shapes qs) o (shapes_have qs p o m n)
 
-any_true : (test : Owner → Bool) (os : List Owner) (o : Owner) → Has os o → test o ≡ true → list_any test os ≡ true
-any_true test [] o m t = absurd m
-any_true test (p ∷ os) o (inl same) t = ap (λ b. b || list_any test os) (ap test same ∙ t)
-any_true test (p ∷ os) o (inr m) t = later (test p) (any_true test os o m t)
+pub any_true : {A : Type 0} (test : A → Bool) (xs : List A) (x : A) → Has xs x → test x ≡ true → list_any test xs ≡ true
+any_true test [] x m t = absurd m
+any_true test (y ∷ ys) x (inl same) t = ap (λ b. b || list_any test ys) (ap test same ∙ t)
+any_true test (y ∷ ys) x (inr m) t = later (test y) (any_true test ys x m t)
   where
     later : (a : Bool) {b : Bool} → b ≡ true → (a || b) ≡ true
     later true h = refl
@@ -75,13 +69,13 @@ pub inputs_are_their_shapes : InputsAreTheirShapes
 inputs_are_their_shapes r input k x y = (
   (λ e.
       let found = true_any (λ o. input_eq o.input input && odd_of (owned_items r) o k x y) (listed_shapes (owned_items r)) e in
-      let both = both_true (input_eq found.0.input input) (odd_of (owned_items r) found.0 k x y) found.1 in
-      let same = input_by_test found.0.input input both.0 in
+      let both = and_parts (input_eq found.0.input input) (odd_of (owned_items r) found.0 k x y) found.1 in
+      let same = same_input found.0.input input both.0 in
       (found.0.shape, ap (λ i. odd_of (owned_items r) (record { input = i; shape = found.0.shape }) k x y) (sym same) ∙ both.1)),
   (λ found.
       let o : Owner = record { input = input; shape = found.0 } in
       let one = odd_has (λ p. is_owner_listed o p.1 && is_crossed k x y p.0) (owned_items r) found.1 in
-      let listed = both_true (is_owner_listed o one.0.1) (is_crossed k x y one.0.0) one.2 in
+      let listed = and_parts (is_owner_listed o one.0.1) (is_crossed k x y one.0.0) one.2 in
       any_true (λ p. input_eq p.input input && odd_of (owned_items r) p k x y) (listed_shapes (owned_items r)) o
       (shapes_have (owned_items r) one.0 o one.1 (listed_has o one.0.1 listed.0))
       (ap (λ b. b && odd_of (owned_items r) o k x y) (input_itself input) ∙ found.1)),

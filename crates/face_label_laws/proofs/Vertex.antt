@@ -3,6 +3,7 @@
 use Rattle.std.proofs.Common.{◌≡◌, ◌⊎◌, inl, inr, suc, Bool, true, false, ◌&&◌, ◌||◌, List, [], ◌∷◌}
 use Rattle.std.proofs.Common.{ℤ, pos, ◌+ℤ◌, ◌-ℤ◌, ◌≤ℤ◌, ◌<ℤ◌, refl, sym, ap, ap₂, subst, ◌∙◌, ⊎_elim, arith, int_eq}
 use Rattle.std.specs.Prelude.{int_le, int_lt}
+use Rattle.std.proofs.lemmas.Bool.{and_parts}
 use Rattle.std.proofs.lemmas.Int.{ints}
 use Rattle.std.proofs.lemmas.Bool.Decides.{Decides-int_eq}
 use Rattle.lay_int_laws.proofs.Signs.{below_or_not, below_or_same, linear}
@@ -19,7 +20,7 @@ use Rattle.snap_chains.proofs.Level.{other_way_round}
 use Rattle.snap_chains.specs.Owner.{Owner}
 use Rattle.snap_chains.specs.Rounded.{is_owner_listed}
 use Rattle.face_label_laws.specs.Labels.{Item, answer_on, differs, listed_shapes, odd_of}
-use Rattle.face_side_laws.proofs.Arms.{and_both, both_true, both_ways, le_zero, level_end, lt_zero}
+use Rattle.face_side_laws.proofs.Arms.{and_both, both_ways, le_zero, level_end, lt_zero}
 use Rattle.face_side_laws.proofs.Arms.{middle_left, middle_level, middle_right, not_nested, one_times}
 use Rattle.face_side_laws.proofs.Arms.{row_spans, spans_row, zero_le, zero_lt}
 use Rattle.face_label_laws.proofs.CutLaw.{IsCut, cut_law, same_edge-Decides}
@@ -104,11 +105,11 @@ pub record IsRightArm (v : Point) (g : Edge) : Type 0 where
 
 left_arm_is : (v a b : Point) → left_arm v (a, b) ≡ true → EndsIt (a, b) v → IsLeftArm v (a, b)
 left_arm_is v a b h ends =
-    let both = both_true (int_eq a.y b.y) (xor (from_here v a) (from_here v b)) h in
+    let both = and_parts (int_eq a.y b.y) (xor (from_here v a) (from_here v b)) h in
     let level = eq_true a.y b.y both.0 in
     ⊎_elim
     (λ (one : (from_here v a ≡ true) × (from_here v b ≡ false)).
-    let here = both_true (int_eq a.y v.y) (int_le v.x a.x) one.0 in
+    let here = and_parts (int_eq a.y v.y) (int_le v.x a.x) one.0 in
     let at_a = eq_true a.y v.y here.0 in
     let less = le_no v.x b.x (second_false (int_eq b.y v.y) (int_le v.x b.x) (true_eq b.y v.y (sym level ∙ at_a)) one.1) in
     let more = le_yes v.x a.x here.1 in
@@ -117,7 +118,7 @@ left_arm_is v a b h ends =
     (λ (same : v ≡ b). absurd (omega (arith, linear, less, x_differs v b same)))
     (ends level (sym at_a ∙ level) (inr (omega (arith, linear, less), more))))
     (λ (one : (from_here v a ≡ false) × (from_here v b ≡ true)).
-    let here = both_true (int_eq b.y v.y) (int_le v.x b.x) one.1 in
+    let here = and_parts (int_eq b.y v.y) (int_le v.x b.x) one.1 in
     let at_b = eq_true b.y v.y here.0 in
     let less = le_no v.x a.x (second_false (int_eq a.y v.y) (int_le v.x a.x) (true_eq a.y v.y (level ∙ at_b)) one.0) in
     let more = le_yes v.x b.x here.1 in
@@ -129,11 +130,11 @@ left_arm_is v a b h ends =
 
 right_arm_is : (v a b : Point) → right_arm v (a, b) ≡ true → EndsIt (a, b) v → IsRightArm v (a, b)
 right_arm_is v a b h ends =
-    let both = both_true (int_eq a.y b.y) (xor (behind_here v a) (behind_here v b)) h in
+    let both = and_parts (int_eq a.y b.y) (xor (behind_here v a) (behind_here v b)) h in
     let level = eq_true a.y b.y both.0 in
     ⊎_elim
     (λ (one : (behind_here v a ≡ true) × (behind_here v b ≡ false)).
-    let here = both_true (int_eq a.y v.y) (int_lt v.x a.x) one.0 in
+    let here = and_parts (int_eq a.y v.y) (int_lt v.x a.x) one.0 in
     let at_a = eq_true a.y v.y here.0 in
     let less = lt_no v.x b.x (second_false (int_eq b.y v.y) (int_lt v.x b.x) (true_eq b.y v.y (sym level ∙ at_a)) one.1) in
     let more = lt_yes v.x a.x here.1 in
@@ -142,7 +143,7 @@ right_arm_is v a b h ends =
     (λ (same : v ≡ b). record { other = a; joins = inl (λ i. (a, sym same i)); level = at_a; right = more })
     (ends level (sym at_a ∙ level) (inr (less, omega (arith, linear, more)))))
     (λ (one : (behind_here v a ≡ false) × (behind_here v b ≡ true)).
-    let here = both_true (int_eq b.y v.y) (int_lt v.x b.x) one.1 in
+    let here = and_parts (int_eq b.y v.y) (int_lt v.x b.x) one.1 in
     let at_b = eq_true b.y v.y here.0 in
     let less = lt_no v.x a.x (second_false (int_eq a.y v.y) (int_lt v.x a.x) (true_eq a.y v.y (level ∙ at_b)) one.0) in
     let more = lt_yes v.x b.x here.1 in
@@ -251,9 +252,9 @@ module _ (op : Bool → Bool → Bool) (none : op false false ≡ false) (items 
 
     beyond_cut : (r : ℤ) → IsBesideRow r (pos 1) v.y → IsCut r items (λ p. beyond r v p.0)
     beyond_cut r q = record {
-      spans = λ p m t. row_spans r p.0 (both_true (in_row r p.0) (int_lt (pos 0) (right_of_point v p.0)) t).0;
+      spans = λ p m t. row_spans r p.0 (and_parts (in_row r p.0) (int_lt (pos 0) (right_of_point v p.0)) t).0;
       closed = λ p s m n t span left.
-          let both = both_true (in_row r p.0) (int_lt (pos 0) (right_of_point v p.0)) t in
+          let both = and_parts (in_row r p.0) (int_lt (pos 0) (right_of_point v p.0)) t in
           ⊎_elim (λ (same : p.0 ≡ s.0). ap (beyond r v) (sym same) ∙ t)
           (λ (meet : MeetAtEnds p.0 s.0). and_both (in_row r s.0) (int_lt (pos 0) (right_of_point v s.0)) (spans_row r s.0 span)
           (lt_zero (right_of_point v s.0) (right_in_row r p.0 s.0 (pos 1) v.x v.y q (row_spans r p.0 both.0) span meet left
@@ -263,9 +264,9 @@ module _ (op : Bool → Bool → Bool) (none : op false false ≡ false) (items 
 
     on_cut : (r : ℤ) → IsBesideRow r (pos 1) v.y → IsCut r items (λ p. from_on r v p.0)
     on_cut r q = record {
-      spans = λ p m t. row_spans r p.0 (both_true (in_row r p.0) (int_le (pos 0) (right_of_point v p.0)) t).0;
+      spans = λ p m t. row_spans r p.0 (and_parts (in_row r p.0) (int_le (pos 0) (right_of_point v p.0)) t).0;
       closed = λ p s m n t span left.
-          let both = both_true (in_row r p.0) (int_le (pos 0) (right_of_point v p.0)) t in
+          let both = and_parts (in_row r p.0) (int_le (pos 0) (right_of_point v p.0)) t in
           ⊎_elim (λ (same : p.0 ≡ s.0). ap (from_on r v) (sym same) ∙ t)
           (λ (meet : MeetAtEnds p.0 s.0). and_both (in_row r s.0) (int_le (pos 0) (right_of_point v s.0)) (spans_row r s.0 span)
           (le_zero (right_of_point v s.0) (not_left_in_row r p.0 s.0 (pos 1) v.x v.y q (row_spans r p.0 both.0) span meet left

@@ -1,5 +1,5 @@
 -- Owners that are the same, and lists of them in order.
-use Rattle.std.proofs.Common.{◌≡◌, ◌==◌, ◌⊎◌, inl, inr, ℕ, zero, suc, ◌+◌, ◌<◌, Bool, true, false, not, ◌&&◌, ◌||◌, List, [], ◌∷◌}
+use Rattle.std.proofs.Common.{◌≡◌, ◌==◌, ◌⊎◌, ℕ, zero, suc, ◌+◌, ◌<◌, Bool, true, false, not, ◌&&◌, ◌||◌, List, [], ◌∷◌}
 use Rattle.std.proofs.Common.{length, get_or, take, refl, sym, ap, subst, ◌∙◌, arith}
 use Rattle.std.specs.List.{list_any}
 use Rattle.std.proofs.lemmas.Bool.Decides.{Decides-eqb}
@@ -9,34 +9,12 @@ use Rattle.lay_point.specs.Parity.{xor, parity}
 use Rattle.lay_point.proofs.Members.{Has}
 use Rattle.lay_point.proofs.Parity.{parity-append, parity_none, xor-false, xor_assoc, xor_comm}
 use Rattle.lay_point.proofs.Rising.{IsStrictOrder, before_rest, rising_rest}
-use Rattle.face_label_laws.specs.Input.{Input}
-use Rattle.face_label_laws.specs.Input.TheVariants.{First, Second}
 use Rattle.face_label_laws.specs.Owner.{Owner}
 use Rattle.face_label_laws.specs.Owners.{IsOwnerBefore, input_eq, owner_eq}
 use Rattle.face_label_laws.specs.Rounded.{is_owner_listed}
+pub use Rattle.face_label_laws.proofs.Shapes.{any_true, input_itself, listed_has, same_input, same_owner}
 use Rattle.face_label_laws.proofs.VisitOrder.{owners_are_strict}
 use Rattle.face_rows.proofs.RowLemmas.{has_get}
-
-pub input_itself : (i : Input) → input_eq i i ≡ true
-input_itself First = refl
-input_itself Second = refl
-
-pub same_input : (i j : Input) → input_eq i j ≡ true → i ≡ j
-same_input First First e = refl
-same_input First Second e = absurd cc
-same_input Second First e = absurd cc
-same_input Second Second e = refl
-
-both_true : (a b : Bool) → (a && b) ≡ true → (a ≡ true) × (b ≡ true)
-both_true true b e = (refl, e)
-both_true false b e = absurd cc
-
-pub same_owner : (o p : Owner) → owner_eq o p ≡ true → o ≡ p
-same_owner o p e =
-    let both = both_true (input_eq o.input p.input) (o.shape == p.shape) e in
-    let first = same_input o.input p.input both.0 in
-    let second = (Decides-eqb o.shape p.shape).0 both.1 in
-    λ i. record { input = first i; shape = second i }
 
 pub owner_itself : (o : Owner) → owner_eq o o ≡ true
 owner_itself o = both (input_eq o.input o.input) (input_itself o.input) ((Decides-eqb o.shape o.shape).1 refl)
@@ -44,15 +22,6 @@ owner_itself o = both (input_eq o.input o.input) (input_itself o.input) ((Decide
     both : (a : Bool) → a ≡ true → {b : Bool} → b ≡ true → (a && b) ≡ true
     both true e f = f
     both false e f = absurd cc
-
-pub any_true : {A : Type 0} (test : A → Bool) (xs : List A) (x : A) → Has xs x → test x ≡ true → list_any test xs ≡ true
-any_true test [] x m t = absurd m
-any_true test (y ∷ ys) x (inl same) t = ap (λ b. b || list_any test ys) (ap test same ∙ t)
-any_true test (y ∷ ys) x (inr m) t = later (test y) (any_true test ys x m t)
-  where
-    later : (a : Bool) {b : Bool} → b ≡ true → (a || b) ≡ true
-    later true h = refl
-    later false h = h
 
 -- ---- each owner once
 -- where one passes, none behind it does

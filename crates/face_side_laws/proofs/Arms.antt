@@ -3,6 +3,7 @@
 use Rattle.std.proofs.Common.{◌≡◌, ◌⊎◌, inl, inr, Bool, true, false, not, ◌&&◌, ◌||◌, [], ◌∷◌, ℤ, pos, ◌+ℤ◌, ◌-ℤ◌, ◌*ℤ◌, ◌≤ℤ◌, ◌<ℤ◌}
 use Rattle.std.proofs.Common.{refl, sym, ap, subst, ◌∙◌, ⊎_elim, arith}
 use Rattle.std.specs.Prelude.{int_le, int_lt}
+use Rattle.std.proofs.lemmas.Bool.{and_parts}
 use Rattle.std.proofs.lemmas.Int.{ints}
 use Rattle.lay_int_laws.proofs.Polynomials.{#, lit, ◌⊕◌, ◌⊖◌, ◌⊗◌, identity}
 use Rattle.lay_int_laws.proofs.Signs.{below_or_not, linear, positive_product}
@@ -131,16 +132,12 @@ both_ways true false f g = sym (f refl)
 both_ways false true f g = g refl
 both_ways false false f g = refl
 
-pub both_true : (a b : Bool) → (a && b) ≡ true → (a ≡ true) × (b ≡ true)
-both_true true b e = (refl, e)
-both_true false b e = absurd cc
-
 pub and_both : (a b : Bool) → a ≡ true → b ≡ true → (a && b) ≡ true
 and_both a b f g = rw (f, g) refl
 
 pub row_spans : (r : ℤ) (f : Edge) → in_row r f ≡ true → Spans r f
 row_spans r f h =
-    let both = both_true (int_le f.0.y r) (int_lt r f.1.y) h in
+    let both = and_parts (int_le f.0.y r) (int_lt r f.1.y) h in
     record { low = le_yes f.0.y r both.0; high = lt_yes r f.1.y both.1 }
   where
     le_yes : (a b : ℤ) → int_le a b ≡ true → a ≤ℤ b
@@ -193,7 +190,7 @@ middle_left u v f level less up meet =
     (λ (on : pos 0 ≤ℤ right_of_point v f). on)
     (below_or_not (right_of_point v f) (pos 0)))))
     (λ t.
-    let both = both_true (in_row v.y f) (int_le (pos 0) (right_of_point v f)) t in
+    let both = and_parts (in_row v.y f) (int_le (pos 0) (right_of_point v f)) t in
     let s = row_spans v.y f both.0 in
     let gap = positive_product (v.x -ℤ u.x) w (omega (arith, linear)) (omega (arith, linear, s.low, s.high)) in
     spans_crossed v.y (pos 2) (u.x +ℤ v.x) (u.y +ℤ v.y) f q s (omega (
@@ -220,7 +217,7 @@ middle_right u v f level less up meet =
     and_both (in_row v.y f) (int_lt (pos 0) (right_of_point v f)) (spans_row v.y f c.0)
     (lt_zero (right_of_point v f) (omega (arith, linear, middle, flat, c.1, gap, spread v.x u.x w, spread u.x v.x w))))
     (λ t.
-    let both = both_true (in_row v.y f) (int_lt (pos 0) (right_of_point v f)) t in
+    let both = and_parts (in_row v.y f) (int_lt (pos 0) (right_of_point v f)) t in
     let s = row_spans v.y f both.0 in
     let gap = positive_product (u.x -ℤ v.x) w (omega (arith, linear)) (omega (arith, linear, s.low, s.high)) in
     let right = zero_lt (right_of_point v f) both.1 in

@@ -25,22 +25,13 @@ use Rattle.face_sweep.specs.Operations.{answer}
 use Rattle.face_sweep.specs.Rows.{AreRowEdges, upward}
 use Rattle.face_sides.specs.Sides.{AreBehind, AreSidesOf, IsDifference, holds_beside, is_odd_in}
 use Rattle.face_sweep.specs.Sound.{AreSound}
-use Rattle.face_sweep.proofs.OwnerLemmas.{same_owner}
+use Rattle.face_sweep.proofs.OwnerLemmas.{listed_has}
 use Rattle.face_sweep.proofs.JudgeLemmas.{IsBeforeIn, before_rising, before_strict, is_right, odd_behind}
 use Rattle.face_sweep.proofs.NearLemmas.{at_k, at_x, at_y, near_in_row, right_there, weight_of}
 use Rattle.face_sweep.proofs.RowLemmas.{before_by_number, has_get, spans_of}
 use Rattle.face_sweep.proofs.SideLemmas.{crossed_beside, judged_beside}
 use Rattle.face_sweep.proofs.Upward.{up_rises}
 use Rattle.face_sides.proofs.StateLemmas.{sides_agree}
-
-or_cases : (a b : Bool) → (a || b) ≡ true → (a ≡ true) ⊎ (b ≡ true)
-or_cases true b e = inl refl
-or_cases false b e = inr e
-
-listed_has : (o : Owner) (os : List Owner) → is_owner_listed o os ≡ true → Has os o
-listed_has o [] e = absurd cc
-listed_has o (p ∷ os) e = ⊎_elim (λ (here : owner_eq p o ≡ true). inl (same_owner p o here))
-    (λ (there : is_owner_listed o os ≡ true). inr (listed_has o os there)) (or_cases (owner_eq p o) (is_owner_listed o os) e)
 
 -- a shape of which there is an odd number of edges is listed
 odd_shape : (f : Item → Bool) (o : Owner) (items : List Item) → parity (λ p. is_owner_listed o p.1 && f p) items ≡ true
