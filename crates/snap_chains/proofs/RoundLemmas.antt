@@ -37,7 +37,8 @@ use Rattle.snap_visits.proofs.Sorted.{same_tests}
 use Rattle.snap_visits.proofs.VisitOrder.{owner_eq-Decides}
 
 -- ---- rounded rings
-rounded_ring : (segments : List Segment) (rings : List (Owner × List Point)) (walks : List (List Point))
+-- the ring of which a walk is the rounded one
+pub rounded_ring : (segments : List Segment) (rings : List (Owner × List Point)) (walks : List (List Point))
     → AllZip (λ r w. IsRoundedPath segments (closed_walk r.1) w) rings walks → (w : List Point) → Has walks w
     → (ring : List Point) × IsRoundedPath segments (closed_walk ring) w
 rounded_ring segments [] [] h w m = absurd m

@@ -3,7 +3,7 @@
 use Rattle.std.proofs.Common.{◌≡◌, inl, inr, Bool, true, false, cond, ◌&&◌, List, [], ◌∷◌, ℤ, neg_ℤ, ◌-ℤ◌, ◌*ℤ◌}
 use Rattle.std.proofs.Common.{◌≤ℤ◌, refl, subst, arith, ⊎_elim, Contains}
 use Rattle.std.specs.Prelude.{int_le}
-use Rattle.std.specs.List.{AllByRecursion, AllZip, list_all}
+use Rattle.std.specs.List.{AllByRecursion, list_all}
 use Rattle.std.proofs.lemmas.Int.{ints}
 use Rattle.std.proofs.lemmas.List.Elements.{recursion_from_All}
 use Rattle.lay_int_laws.proofs.Polynomials.{#, ◌⊕◌, ◌⊖◌, ◌⊗◌, identity}
@@ -22,7 +22,7 @@ use Rattle.snap_segments.proofs.RoundLemmas.{IsRoundedTo-low, IsRoundedTo-high}
 use Rattle.snap_chains.proofs.SharedEnds.{ends_differ}
 use Rattle.snap_chains.specs.Chains.{IsRoundedEdge}
 use Rattle.snap_chains.specs.Rising.{pairs}
-use Rattle.snap_chains.specs.Rounding.{IsRoundedPath, closed_walk}
+use Rattle.snap_chains.specs.Rounding.{closed_walk}
 use Rattle.snap_chains.specs.Undirected.{walked_edges}
 use Rattle.snap_chains.proofs.Chains.{edge_of_neighbours}
 use Rattle.snap_chains.proofs.Members.{Has, has, contains, has-append}
@@ -33,7 +33,7 @@ use Rattle.snap_chains.specs.Owner.{Owner}
 use Rattle.snap_chains.specs.OwnedRings.{AreRounded}
 use Rattle.snap_chains.specs.Round.{IsRoundOf}
 use Rattle.snap_chains.specs.Rounded.{Owned}
-use Rattle.snap_chains.proofs.RoundLemmas.{round_is_clean, round_is_rounded}
+use Rattle.snap_chains.proofs.RoundLemmas.{round_is_clean, round_is_rounded, rounded_ring}
 use Rattle.snap_round_laws.specs.Laws.{AreOwnedRings, IsEdgeInRange, RoundedIsInRange, RoundedIsRounded}
 use Rattle.snap_round_laws.specs.Rounding.{sides_of}
 use Rattle.snap_round_laws.proofs.Sides.{IsMarked, hot_marked}
@@ -44,20 +44,11 @@ record ComesFrom (segments : List Segment) (e : Point × Point) : Type 0 where
   pub goes : undirected pair ≡ e
   pub rounded : IsRoundedEdge segments pair.0 pair.1
 
-ring_of_walk : (segments : List Segment) (rings : List (Owner × List Point)) (walks : List (List Point))
-    → AllZip (λ r w. IsRoundedPath segments (closed_walk r.1) w) rings walks → (w : List Point) → Has walks w
-    → (ring : List Point) × IsRoundedPath segments (closed_walk ring) w
-ring_of_walk segments [] [] h w m = absurd m
-ring_of_walk segments [] (v ∷ walks) h w m = absurd h
-ring_of_walk segments (r ∷ rings) [] h w m = absurd m
-ring_of_walk segments (r ∷ rings) (v ∷ walks) h w (inl e) = (r.1, subst (IsRoundedPath segments (closed_walk r.1)) e h.0)
-ring_of_walk segments (r ∷ rings) (v ∷ walks) h w (inr m) = ring_of_walk segments rings walks h.1 w m
-
 comes_from : (rings : List (Owner × List Point)) (r : Owned) (h : IsRoundOf rings r) (e : Point × Point) → Contains r.0 e
     → ComesFrom h.rounded.segments e
 comes_from rings r h e m =
     let g = gone undirected h.walks e (has (walked_edges undirected h.walks) e ((h.edges.exact e).0 m)) in
-    let ring = ring_of_walk h.rounded.segments rings h.walks h.rounded.rounded g.walk g.given in
+    let ring = rounded_ring h.rounded.segments rings h.walks h.rounded.rounded g.walk g.given in
     record {
       pair = g.pair;
       goes = g.goes;
