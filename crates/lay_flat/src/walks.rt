@@ -46,7 +46,7 @@ impl<'s> Model for Walks<'s> {
 
 impl<'s> Walks<'s> {
     /// Returns the walks from a cell, or the first of `NoCell`, `TooDeep` and `TooMany` of walks that holds.
-    /// A turn that is out of range is told by `layer`, after too many rings.
+    /// A turn that is out of range is refused by `layer`, after too many rings.
     ///
     /// # Cost
     ///
