@@ -1,9 +1,10 @@
 -- The bridged path of rings is a ring, where it isn't too long, and one ring is its own bridged path.
-use Rattle.std.proofs.Common.{◌≡◌, ◌≢◌, ◌≤◌, suc, List, [], ◌∷◌, ◌++◌, length, Bool, true, false, cond, ◌&&◌}
+use Rattle.std.proofs.Common.{◌≡◌, ◌≢◌, ◌≤◌, suc, List, [], ◌∷◌, ◌++◌, length, Bool, true, false, cond}
 use Rattle.std.proofs.Common.{Ok, refl, ap, sym, ◌∙◌, subst, arith, length-append, append_assoc}
 use Rattle.std.specs.List.{list_all, AllByRecursion}
 use Rattle.std.proofs.lemmas.Bool.Decides.{nat_tests}
 use Rattle.std.proofs.lemmas.List.Folds.{list_all-append}
+use Rattle.std.proofs.lemmas.Bool.{and_parts}
 use Rattle.lay_point.specs.declared.point.Point.{Point}
 use Rattle.lay_point.specs.declared.ring.TheConstants.{MAX_RING_POINTS}
 use Rattle.lay_point.specs.Bridges.{bridged, further}
@@ -57,15 +58,10 @@ bridged_one [] h = absurd (omega (arith, h.enough))
 bridged_one (p ∷ ps) h = without_repeats_of_ring (p ∷ ps) h
 
 -- ---- points in range
-both : (a b : Bool) → (a && b) ≡ true → (a ≡ true) × (b ≡ true)
-both true true e = (refl, refl)
-both true false e = cc
-both false b e = cc
-
 all_kept : (test : Point → Bool) (last : Point) (ps : List Point) → list_all test ps ≡ true → list_all test (kept_behind last ps) ≡ true
 all_kept test last [] h = refl
 all_kept test last (p ∷ ps) h =
-    let parts = both (test p) (list_all test ps) h in
+    let parts = and_parts (test p) (list_all test ps) h in
     elim (point_eq last p) as (λ b. list_all test (cond b (kept_behind last ps) (p ∷ kept_behind p ps)) ≡ true) [
       | true ↦ all_kept test last ps parts.1
       | false ↦ rw parts.0 (all_kept test p ps parts.1)
@@ -79,13 +75,13 @@ all_opened test first (p ∷ []) h = elim (point_eq first p) as (λ b. list_all 
   | false ↦ h
 ]
 all_opened test first (p ∷ q ∷ ps) h =
-    let parts = both (test p) (list_all test (q ∷ ps)) h in rw parts.0 (all_opened test first (q ∷ ps) parts.1)
+    let parts = and_parts (test p) (list_all test (q ∷ ps)) h in rw parts.0 (all_opened test first (q ∷ ps) parts.1)
 
 all_without_repeats : (test : Point → Bool) (ps : List Point) → list_all test ps ≡ true
     → list_all test (opened (without_neighbours ps)) ≡ true
 all_without_repeats test [] h = refl
 all_without_repeats test (p ∷ ps) h =
-    let parts = both (test p) (list_all test ps) h in
+    let parts = and_parts (test p) (list_all test ps) h in
     rw parts.0 (all_opened test p (kept_behind p ps) (all_kept test p ps parts.1))
 
 all_joined : (test : Point → Bool) (ps qs : List Point) → list_all test ps ≡ true → list_all test qs ≡ true
@@ -95,7 +91,7 @@ all_joined test ps qs h g = list_all-append test ps qs ∙ rw (h, g) refl
 all_closed : (test : Point → Bool) (ps : List Point) → list_all test ps ≡ true → list_all test (closed ps) ≡ true
 all_closed test [] h = refl
 all_closed test (p ∷ ps) h =
-    let parts = both (test p) (list_all test ps) h in
+    let parts = and_parts (test p) (list_all test ps) h in
     rw parts.0 (all_joined test ps (p ∷ []) parts.1 (rw parts.0 refl))
 
 further_in_range : (start : Point) (rings : List (List Point)) → is_in_range start ≡ true → AllByRecursion IsRing rings
@@ -137,7 +133,7 @@ several p ps next rings h few =
       few = few;
       in_range = all_without_repeats is_in_range (closed (p ∷ ps) ++ further p (next ∷ rings))
           (all_joined is_in_range (closed (p ∷ ps)) (further p (next ∷ rings)) (all_closed is_in_range (p ∷ ps) h.0.in_range)
-          (further_in_range p (next ∷ rings) (both (is_in_range p) (list_all is_in_range ps) h.0.in_range).0 h.1));
+          (further_in_range p (next ∷ rings) (and_parts (is_in_range p) (list_all is_in_range ps) h.0.in_range).0 h.1));
       apart = opened-apart (closed (p ∷ ps) ++ further p (next ∷ rings)) (omega arith);
     }
 

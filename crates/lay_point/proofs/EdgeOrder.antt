@@ -1,8 +1,10 @@
 -- The orders of points and of undirected edges are strict, that of points is total, and tests of points and edges decide.
 use Rattle.std.proofs.Common.{◌≡◌, ◌⊎◌, inl, inr, Bool, true, false, cond, ◌&&◌, ℤ, ◌<ℤ◌, refl, sym, ap₂, subst, ◌∙◌}
-use Rattle.std.proofs.Common.{arith, ⊎_elim, int_eq}
+use Rattle.std.proofs.Common.{arith, ⊎_elim, int_eq, ℕ, ◌+◌, ◌<◌, ◌≤◌, List, length, get_or, ap}
 use Rattle.std.proofs.lemmas.Int.{ints, by_lt_z}
 use Rattle.std.proofs.lemmas.Bool.Decides.{Decides-int_eq}
+use Rattle.std.proofs.lemmas.Bool.{and_parts, cases_lt, false_from_ne_true}
+use Rattle.std.proofs.lemmas.List.{get_or_default}
 use Rattle.lay_point.specs.declared.point.Point.{Point}
 use Rattle.lay_point.specs.Edges.{is_before, undirected, IsEdgeBefore, same_edge}
 use Rattle.lay_point.specs.Points.{IsBefore, point_eq}
@@ -13,30 +15,22 @@ pub same_point : (p q : Point) → p.x ≡ q.x → p.y ≡ q.y → p ≡ q
 same_point p q ex ey = λ i. record { x = ex i; y = ey i }
 
 -- ---- tests
-both_true : (a b : Bool) → (a && b) ≡ true → (a ≡ true) × (b ≡ true)
-both_true true b e = (refl, e)
-both_true false b e = absurd cc
-
-not_true : (b : Bool) → ¬ (b ≡ true) → b ≡ false
-not_true true h = absurd (h refl)
-not_true false h = refl
-
 pub same_by_test : (p q : Point) → point_eq p q ≡ true → p ≡ q
 same_by_test p q e =
-    let both = both_true (int_eq p.x q.x) (int_eq p.y q.y) e in
+    let both = and_parts (int_eq p.x q.x) (int_eq p.y q.y) e in
     same_point p q ((Decides-int_eq p.x q.x).0 both.0) ((Decides-int_eq p.y q.y).0 both.1)
 
 pub points_decide : IsEquality point_eq
 points_decide = record {
   itself = λ p. ap₂ (λ a b. a && b) ((Decides-int_eq p.x p.x).1 refl) ((Decides-int_eq p.y p.y).1 refl);
-  apart = λ p q differ. not_true (point_eq p q) (λ e. differ (same_by_test p q e));
+  apart = λ p q differ. false_from_ne_true (point_eq p q) (λ e. differ (same_by_test p q e));
 }
 
 pub edges_decide : IsEquality same_edge
 edges_decide = record {
   itself = λ e. ap₂ (λ a b. a && b) (points_decide.itself e.0) (points_decide.itself e.1);
-  apart = λ e f differ. not_true (same_edge e f) (λ g.
-      let both = both_true (point_eq e.0 f.0) (point_eq e.1 f.1) g in
+  apart = λ e f differ. false_from_ne_true (same_edge e f) (λ g.
+      let both = and_parts (point_eq e.0 f.0) (point_eq e.1 f.1) g in
       differ (λ i. (same_by_test e.0 f.0 both.0 i, same_by_test e.1 f.1 both.1 i)));
 }
 
@@ -96,3 +90,17 @@ undirected_back e h = by_test (is_before e.1 e.0) (λ g.
     by_test : (b : Bool) → (b ≡ true → ⊥) → cond b (e.1, e.0) (e.0, e.1) ≡ e
     by_test true no_ = absurd (no_ refl)
     by_test false no_ = refl
+
+-- ---- the lesser end first
+-- so it is at each of the first n edges
+abbrev pub AreLesserTo : List (Point × Point) → ℕ → Type 0
+AreLesserTo edges n = (k : ℕ) (d : Point × Point) → k < n → is_before (get_or edges k d).0 (get_or edges k d).1 ≡ true
+
+pub one_more_lesser : (edges : List (Point × Point)) (n : ℕ) (e : Point × Point) → n < length edges → e ≡ get_or edges n e
+    → is_before e.0 e.1 ≡ true → AreLesserTo edges n → AreLesserTo edges (n + 1)
+one_more_lesser edges n e less is_e lesser so_far k d lt = ⊎_elim
+    (λ (before : k < n). so_far k d before)
+    (λ (ge : n ≤ k).
+    let same : n ≡ k = omega arith in
+    subst (λ z. is_before z.0 z.1 ≡ true) (is_e ∙ get_or_default edges n e d less ∙ ap (λ i. get_or edges i d) same) lesser)
+    (cases_lt k n)
