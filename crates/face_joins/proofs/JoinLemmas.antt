@@ -1,9 +1,9 @@
 -- How joining goes on: by pairs, by lists, and by the two sides of a line.
 use Rattle.std.proofs.Common.{◌≡◌, ◌≢◌, ◌⊎◌, inl, inr, ℕ, ◌+◌, ◌<◌, ◌≤◌, Bool, true, false, ◌||◌, List, [], ◌∷◌, ◌++◌, length, take}
-use Rattle.std.proofs.Common.{get_or, ℤ, ◌≤ℤ◌, ◌<ℤ◌, Result, Ok, Err}
+use Rattle.std.proofs.Common.{get_or, ℤ, ◌<ℤ◌, Result, Ok, Err}
 use Rattle.std.proofs.Common.{pos, refl, sym, ap, subst, ◌∙◌, ⊎_elim, arith}
 use Rattle.std.specs.Prelude.{Contains, All, OnOk, int_le, int_lt, max, min}
-use Rattle.std.proofs.lemmas.Bool.{and_parts, cases_lt, false≢true}
+use Rattle.std.proofs.lemmas.Bool.{and_parts, cases_lt, false≢true, or_left, or_right}
 use Rattle.std.proofs.lemmas.List.{get_or_default, take_more}
 use Rattle.lay_point.proofs.Members.{Has, contains, has, has-append, has-append_left, has-append_right}
 use Rattle.std.proofs.lemmas.Int.{ints}
@@ -12,6 +12,7 @@ use Rattle.face_part_laws.specs.Heads.{IsFinest}
 use Rattle.face_joins.specs.declared.cut.Cut.{Cut}
 use Rattle.face_joins.specs.declared.cut.Cut.TheVariants.{Column, Row}
 use Rattle.face_part_laws.proofs.PartLemmas.{joined_by_boxes}
+use Rattle.face_part_laws.proofs.Tests.{le_true, true_lt}
 use Rattle.face_joins.specs.Forest.{IsForest, root_of, united}
 use Rattle.face_joins.specs.Joining.{AreOnlyJoined, Grows, IsPartOf, Joins, box_reaches_high, box_reaches_low}
 use Rattle.face_joins.proofs.ForestLemmas.{root_ends, root_le, root_of_own, united_cases}
@@ -100,26 +101,12 @@ module _ (boxes : List Box) (old new : List ℕ) (i j : ℕ) (joined : AreJoined
       right = ⊎_elim (λ (g : goes q). g.1) (λ (s : stays q). s.1 ∙ omega (arith, s.0)) (united_cases p q q)
 
 -- ---- two that touch both reach one side of a line
-or_left : (a b : Bool) → a ≡ true → (a || b) ≡ true
-or_left true b h = refl
-or_left false b h = absurd cc
-
-or_right : (a b : Bool) → b ≡ true → (a || b) ≡ true
-or_right true b h = refl
-or_right false b h = h
-
-lt_true : (a b : ℤ) → a <ℤ b → int_lt a b ≡ true
-lt_true a b h = grind (arith, ints)
-
 -- along one axis, of boxes from a to b and from c to d
 one_side : (at a b c d : ℤ) → int_le a d ≡ true → int_le c b ≡ true
     → (((int_le a at || int_le b at) ≡ true) × ((int_le c at || int_le d at) ≡ true))
     ⊎ (((int_lt at a || int_lt at b) ≡ true) × ((int_lt at c || int_lt at d) ≡ true))
 one_side at a b c d h g = by_tests (int_le a at || int_le b at) (int_le c at || int_le d at) refl refl
   where
-    le_true : (a b : ℤ) → int_le a b ≡ true → a ≤ℤ b
-    le_true a b h = grind (arith, ints)
-
     above : (a b : ℤ) → (int_le a at || int_le b at) ≡ false → (at <ℤ a) × (at <ℤ b)
     above a b h = (grind (arith, ints), grind (arith, ints))
 
@@ -131,17 +118,17 @@ one_side at a b c d h g = by_tests (int_le a at || int_le b at) (int_le c at || 
         let over = above a b e in
         let reach = le_true a d h in
         inr (
-          or_left (int_lt at a) (int_lt at b) (lt_true at a over.0),
+          or_left (int_lt at a) (int_lt at b) (true_lt at a over.0),
           or_right (int_lt at c) (int_lt at d)
-              (lt_true at d (omega (arith, ints, over.0, reach))),
+              (true_lt at d (omega (arith, ints, over.0, reach))),
         )
     by_tests true false e f =
         let over = above c d f in
         let reach = le_true c b g in
         inr (
-          or_right (int_lt at a) (int_lt at b) (lt_true at b (omega (arith, ints, over.0, reach))),
+          or_right (int_lt at a) (int_lt at b) (true_lt at b (omega (arith, ints, over.0, reach))),
           or_left (int_lt at c) (int_lt at d)
-              (lt_true at c over.0),
+              (true_lt at c over.0),
         )
 
 module _ (b c : Box) (h : touch b c ≡ true) where

@@ -1,5 +1,6 @@
 -- The rings of rising edges are those that the subject names: at each step along the least edge that is left. And it names one list.
-use Rattle.std.proofs.Common.{◌≡◌, ◌⊎◌, inl, inr, Bool, true, false, ◌&&◌, ◌||◌, List, [], ◌∷◌, Contains, refl, sym, ap, subst, ⊎_elim}
+use Rattle.std.proofs.Common.{◌≡◌, ◌⊎◌, inl, inr, Bool, true, false, ◌||◌, List, [], ◌∷◌, Contains, refl, sym, ap, subst, ⊎_elim}
+use Rattle.std.proofs.lemmas.Bool.{and_parts}
 use Rattle.lay_point.specs.declared.point.Point.{Point}
 use Rattle.lay_point.specs.Edges.{IsEdgeBefore, same_edge, touches}
 use Rattle.lay_point.specs.Points.{point_eq}
@@ -63,17 +64,13 @@ way_back edges start gone at es points rest (onward at₁ e es₁ es₂ rest₁ 
     (further.0, on gone further.0 at₁ e points₁ apart (least_left edges gone es₁ es₂ at₁ e h taken) further.1, further.2)
 
 -- ---- all rings
-both_true : (a b : Bool) → (a && b) ≡ true → (a ≡ true) × (b ≡ true)
-both_true true b e = (refl, e)
-both_true false b e = absurd cc
-
 has_or_not : (xs : List Ends) (e : Ends) → Has xs e ⊎ (¬ (Has xs e))
 has_or_not [] e = inr (λ m. m)
 has_or_not (x ∷ xs) e = by_test (same_edge x e) refl (has_or_not xs e)
   where
     by_test : (b : Bool) → same_edge x e ≡ b → Has xs e ⊎ (¬ (Has xs e)) → Has (x ∷ xs) e ⊎ (¬ (Has (x ∷ xs) e))
     by_test true h further =
-        let both = both_true (point_eq x.0 e.0) (point_eq x.1 e.1) h in
+        let both = and_parts (point_eq x.0 e.0) (point_eq x.1 e.1) h in
         inl (inl (λ i. (same_by_test x.0 e.0 both.0 i, same_by_test x.1 e.1 both.1 i)))
     by_test false h (inl m) = inl (inr m)
     by_test false h (inr n) = inr (λ m. ⊎_elim (λ (same : x ≡ e).

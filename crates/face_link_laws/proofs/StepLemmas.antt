@@ -1,7 +1,8 @@
 -- The steps of linking: along a way, from ring to ring, and what is so of all rings.
-use Rattle.std.proofs.Common.{◌≡◌, ◌≢◌, ℕ, zero, suc, ◌<◌, ◌≤◌, Bool, true, false, ◌&&◌, cond, List, [], ◌∷◌, ◌++◌}
+use Rattle.std.proofs.Common.{◌≡◌, ◌≢◌, ℕ, zero, suc, ◌<◌, ◌≤◌, true, false, ◌&&◌, cond, List, [], ◌∷◌, ◌++◌}
 use Rattle.std.proofs.Common.{Contains, length, Option, None, Some, refl, sym, ap, subst, ◌∙◌, arith, append_assoc, append-nil}
 use Rattle.std.specs.Prelude.{All, IsTrue}
+use Rattle.std.proofs.lemmas.Bool.{and_parts}
 use Rattle.lay_point.specs.declared.point.Point.{Point}
 use Rattle.lay_point.specs.Edges.{IsEdgeBefore, is_before}
 use Rattle.lay_point.specs.Points.{is_in_range, point_eq}
@@ -139,10 +140,6 @@ undirected_edges edges h e m = h e (contains edges e m)
 all_has : (P : Ends → Type 0) (edges : List Ends) → All P edges → (e : Ends) → Has edges e → P e
 all_has P edges h e m = let c = contains edges e m in subst P c.2 (h c.0 e c.1)
 
-both_true : (a b : Bool) → (a && b) ≡ true → (a ≡ true) × (b ≡ true)
-both_true true b e = (refl, e)
-both_true false b e = absurd cc
-
 pub all_rings : (edges : List Ends) → AreUndirected edges → AreEven edges → AreRings edges (linked_rings edges)
 unfolding linked_rings
 all_rings edges lesser even = are_rings (length edges) edges (omega arith) (proper_from_undirected edges lesser) even
@@ -151,7 +148,7 @@ pub all_sound : (edges : List Ends) → AreUndirected edges → AreEven edges �
     → All (λ e. IsTrue (is_in_range e.0 && is_in_range e.1)) edges → AreSound (linked_rings edges)
 all_sound edges lesser even up fits =
     rings_sound edges (linked_rings edges) (all_rings edges lesser even) up lesser
-    (λ e m. both_true (is_in_range e.0) (is_in_range e.1) (all_has (λ f. IsTrue (is_in_range f.0 && is_in_range f.1)) edges fits e m))
+    (λ e m. and_parts (is_in_range e.0) (is_in_range e.1) (all_has (λ f. IsTrue (is_in_range f.0 && is_in_range f.1)) edges fits e m))
 
 pub all_linked : (edges : List Ends) → AreUndirected edges → AreEven edges → IsRising IsEdgeBefore edges
     → AreLinked edges [] (linked_rings edges)
