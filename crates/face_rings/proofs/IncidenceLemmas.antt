@@ -8,14 +8,14 @@ use Rattle.std.specs.List.Sorted.{IsPartitionedBy, IsPartitionPoint, IsPermutati
 use Rattle.std.specs.Prelude.{max, replicate}
 use Rattle.std.specs.Vec.{with_item}
 use Rattle.std.specs.Ordering.{is_eq, is_lt, nat_cmp, ordering_index, ordering_reverse, ordering_then}
-use Rattle.std.proofs.lemmas.Bool.{cases_lt, false≢true}
+use Rattle.std.proofs.lemmas.Bool.{cases_lt, false_from_ne_true, false≢true, or_cases, or_right}
 use Rattle.std.proofs.lemmas.Cmp.{by_ranked, int_cmp_total, nat_cmp_total, on_total, ranked, then_total, tied_itself}
 use Rattle.std.proofs.lemmas.List.{get_or_default, length-take-le, take_more}
 use Rattle.std.proofs.Math.ListN.{length-set}
 use Rattle.std.proofs.lemmas.List.Sorted.{ranks_by, searchable_from_sorted, sorted_far, Contains-permutation, IsPermutation-sym}
 use Rattle.lay_point.specs.declared.point.Point.{Point}
 use Rattle.lay_point.specs.contracts.point.PointOrd.TheImpl.Laws.{matches_eq-law as point_ties}
-use Rattle.lay_point.specs.Edges.{is_before, touches}
+use Rattle.lay_point.specs.Edges.{touches}
 use Rattle.lay_point.specs.Points.{point_eq}
 use Rattle.lay_point.proofs.EdgeOrder.{points_decide, same_by_test}
 use Rattle.lay_point.proofs.Members.{Has, has, contains}
@@ -84,14 +84,6 @@ ends_from-append n (x ∷ xs) ys =
 -- an end among them is the end of the edge of its number
 abbrev IsFrom : ℕ → List Ends → End → Type 0
 IsFrom n es end = (i : ℕ) × (end.edge ≡ n + i) × (i < length es) × ((d : Ends) → touches end.at (get_or es i d) ≡ true)
-
-or_right : (a b : Bool) → b ≡ true → (a || b) ≡ true
-or_right true b h = refl
-or_right false b h = h
-
-or_cases : (a b : Bool) → (a || b) ≡ true → (a ≡ true) ⊎ (b ≡ true)
-or_cases true b h = inl refl
-or_cases false b h = inr h
 
 end_has : (n : ℕ) (es : List Ends) (end : End) → Has (ends_from n es) end → IsFrom n es end
 end_has n [] end m = absurd m
@@ -170,10 +162,6 @@ none_unused at (e ∷ es) (false ∷ marks) d before =
     let further = none_unused at es marks d (λ j lt. before (suc j) (omega arith)) in
     rw off (ap (keeping_first e) further)
 
-not_true : (b : Bool) → (b ≡ true → ⊥) → b ≡ false
-not_true true h = absurd (h refl)
-not_true false h = refl
-
 not_less_itself : (at : Point) → is_lt (point_cmp at at) ≡ true → ⊥
 not_less_itself at h = let tied = tied_itself point_cmp_total at in false≢true (sym (ap is_lt tied) ∙ h)
 
@@ -227,7 +215,7 @@ pub search_found : (edges : List Ends) (ends : List End) (used : List Bool) (at 
 search_found edges ends used at first index s marks end d less is_end here left =
     let own = (s.whole.exact end).0 (index, less, sym is_end) in
     take_unused at edges used end.edge d own.0 marks left (subst (λ v. touches v (get_or edges end.edge d) ≡ true) here (own.1 d))
-    (λ j lt j_left. not_true (touches at (get_or edges j d)) (λ on.
+    (λ j lt j_left. false_from_ne_true (touches at (get_or edges j d)) (λ on.
     let later = open_end edges ends used at first index s j d (omega (arith, own.0)) on j_left in
     let order : is_lt (end_cmp (record { at = at; edge = j }) end) ≡ false =
     subst (λ z. is_lt (end_cmp z end) ≡ false) (later.3 end)
@@ -242,7 +230,7 @@ search_found edges ends used at first index s marks end d less is_end here left 
 pub search_over : (edges : List Ends) (ends : List End) (used : List Bool) (at : Point) (first index : ℕ)
     → IsSearch edges ends used at first index → length ends ≤ index → take_at at (left_of edges used) ≡ None
 search_over edges ends used at first index s over =
-    none_unused at edges used (at, at) (λ j lt j_left. not_true (touches at (get_or edges j (at, at))) (λ on.
+    none_unused at edges used (at, at) (λ j lt j_left. false_from_ne_true (touches at (get_or edges j (at, at))) (λ on.
     let later = open_end edges ends used at first index s j (at, at) lt on j_left in
     absurd (omega (arith, later.1, later.2))))
 
@@ -250,7 +238,7 @@ pub search_passed : (edges : List Ends) (ends : List End) (used : List Bool) (at
     → IsSearch edges ends used at first index → (end : End) → index < length ends → end ≡ get_or ends index end → end.at ≢ at
     → take_at at (left_of edges used) ≡ None
 search_passed edges ends used at first index s end less is_end other =
-    none_unused at edges used (at, at) (λ j lt j_left. not_true (touches at (get_or edges j (at, at))) (λ on.
+    none_unused at edges used (at, at) (λ j lt j_left. false_from_ne_true (touches at (get_or edges j (at, at))) (λ on.
     let later = open_end edges ends used at first index s j (at, at) lt on j_left in
     let order : is_lt (end_cmp (record { at = at; edge = j }) end) ≡ false =
     subst (λ z. is_lt (end_cmp z end) ≡ false) (later.3 end)
@@ -364,15 +352,3 @@ ends_more edges n e low high some more all less is_e is_low is_high so_far first
     ∙ (λ k. so_far k ++ (record { at = is_low k; edge = sym count k }) ∷ (record { at = is_high k; edge = sym count k }) ∷ [])
     ∙ sym (ends_from-append 0 (take n edges) (e ∷ []))
     ∙ ap (ends_from 0) (sym one_more)
-
-abbrev pub AreLesserFirst : List Ends → ℕ → Type 0
-AreLesserFirst edges n = (k : ℕ) (d : Ends) → k < n → is_before (get_or edges k d).0 (get_or edges k d).1 ≡ true
-
-pub one_more_lesser : (edges : List Ends) (n : ℕ) (e : Ends) → n < length edges → e ≡ get_or edges n e → is_before e.0 e.1 ≡ true
-    → AreLesserFirst edges n → AreLesserFirst edges (n + 1)
-one_more_lesser edges n e less is_e lesser so_far k d lt = ⊎_elim
-    (λ (before : k < n). so_far k d before)
-    (λ (ge : n ≤ k).
-    let same : n ≡ k = omega arith in
-    subst (λ z. is_before z.0 z.1 ≡ true) (is_e ∙ get_or_default edges n e d less ∙ ap (λ i. get_or edges i d) same) lesser)
-    (cases_lt k n)

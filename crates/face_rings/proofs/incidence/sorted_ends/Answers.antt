@@ -1,6 +1,7 @@
 use Rattle.std.proofs.Common.{ap, ◌∙◌}
 use Rattle.std.proofs.lemmas.List.{take_all}
-use Rattle.face_rings.proofs.IncidenceLemmas.{are_ends, ends_from, ends_more, one_more_lesser}
+use Rattle.lay_point.proofs.EdgeOrder.{one_more_lesser}
+use Rattle.face_rings.proofs.IncidenceLemmas.{are_ends, ends_from, ends_more}
 use Rattle.face_rings.proofs.incidence.sorted_ends.Goals as goal
 
 pub loop-number-preserved : goal.loop-number-preserved
