@@ -5,7 +5,7 @@ use Rattle.std.proofs.Common.{subst, arith, nat_eq, nat_lt, IsTrue, Some, None, 
 use Rattle.std.proofs.Common.{Contains, unwrap_or, position}
 use Rattle.std.specs.Global.{Vec}
 use Rattle.std.specs.List.{position_or_len}
-use Rattle.std.proofs.lemmas.Bool.{cases_eq}
+use Rattle.std.proofs.lemmas.Bool.{cases_eq, false_from_ne_true}
 use Rattle.std.proofs.lemmas.Bool.Decides.{nat_tests}
 use Rattle.std.proofs.lemmas.List.{map-append, length-set, length-map, get_or-map, get_or-set_same, get_or-set_other}
 use Rattle.std.proofs.lemmas.List.Elements.{filter-append, Contains-append_left, Contains-push, Contains-push_cases}
@@ -43,6 +43,16 @@ found_here_or_behind x n xs false e g rest = IsFound-behind x xs n (position_or_
 found : (xs : List ℕ) (n : ℕ) → has_symbol xs n ≡ true → IsFound xs n (position_or_len (nat_eq n) xs)
 found [] n h = absurd (true≢false (sym h))
 found (x ∷ xs) n h = found_here_or_behind x n xs (nat_eq n x) refl h (found xs n)
+
+-- a symbol more
+pub has_more : (found : List ℕ) (n m : ℕ) → has_symbol (found ++ n ∷ []) m ≡ (nat_eq m n || has_symbol found m)
+has_more [] n m = refl
+has_more (k ∷ found) n m = ap (λ b. nat_eq m k || b) (has_more found n m) ∙ swap (nat_eq m k) (nat_eq m n) (has_symbol found m) where
+  swap : (a b e : Bool) → (a || (b || e)) ≡ (b || (a || e))
+  swap true true e = refl
+  swap true false e = refl
+  swap false true e = refl
+  swap false false e = refl
 
 -- cells at one position are the same
 pub position_of-injective : (symbols : List ℕ) (a b : CellId) → IsTrue (has_cell symbols a) → IsTrue (has_cell symbols b)
@@ -93,10 +103,6 @@ no_calls symbols rows len empty = record {
   sound = λ p q h. let g : Contains [] q = subst (λ (xs : List ℕ). Contains xs q) (empty p) h in absurd (omega (arith, g.1));
   listed = λ cell there. empty (position_of symbols cell);
 }
-
-is_false : (b : Bool) → (b ≡ true → ⊥) → b ≡ false
-is_false true ne = absurd (ne refl)
-is_false false ne = refl
 
 module _ (symbols : List ℕ) (calls : List (CellId × ℕ)) (rows : List (List ℕ)) (r : AreRowsOf symbols calls rows) (caller : CellId)
     (target p q : ℕ) (at : p ≡ position_of symbols caller) (to : q ≡ position_of symbols (Symbol target)) where
@@ -170,7 +176,7 @@ module _ (symbols : List ℕ) (calls : List (CellId × ℕ)) (rows : List (List 
       → row more (position_of symbols cell) ≡ targets_of (calls ++ (caller, target) ∷ []) cell
   unfolding targets_of
   listed-other cell ne elsewhere there =
-      let fails : cell_eq caller cell ≡ false = is_false (cell_eq caller cell) (λ e. ne (sym ((cell_eq-Decides caller cell).0 e))) in
+      let fails : cell_eq caller cell ≡ false = false_from_ne_true (cell_eq caller cell) (λ e. ne (sym ((cell_eq-Decides caller cell).0 e))) in
       let none : calls_standing_in ((caller, target) ∷ []) cell ≡ [] = ap (λ b. cond b ((caller, target) ∷ []) []) fails in
       row-other (position_of symbols cell) elsewhere ∙ r.listed cell there
       ∙ sym (ap (map place) (filter-append (λ (c : CellId × ℕ). cell_eq c.0 cell) calls ((caller, target) ∷ [])

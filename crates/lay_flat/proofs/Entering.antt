@@ -11,10 +11,12 @@ use Rattle.std.proofs.lemmas.Map.Made.{length-le_from_is_member}
 use Rattle.std.proofs.lemmas.Option.{get_or_from_slice_get, slice_get_within}
 use Rattle.std.proofs.lemmas.List.{take_more}
 use Rattle.std.proofs.lemmas.Grind.{flat_map-append}
+use Rattle.std.proofs.lemmas.Bool.{or_right}
 use Rattle.lay_calls.specs.declared.cell_id.CellId.{CellId}
 use Rattle.lay_calls.specs.declared.cell_id.CellId.TheVariants.{Symbol, Top}
 use Rattle.lay_calls.specs.SameCell.{cell_eq}
 use Rattle.lay_calls.specs.Symbols.{has_symbol, with_symbol}
+use Rattle.lay_calls.proofs.GraphLemmas.{has_more}
 use Rattle.lay_layouts.specs.declared.id.ItemId.{ItemId}
 use Rattle.lay_layouts.specs.declared.item.Item.{Item}
 use Rattle.lay_layouts.specs.declared.item.Item.TheVariants.{Placed, Shape}
@@ -34,19 +36,6 @@ pub record IsBefore (old new : List ℕ) : Type 0 where
   pub kept : (n : ℕ) → has_symbol old n ≡ true → has_symbol new n ≡ true
   pub distinct : IsDistinct nat_eq old → IsDistinct nat_eq new
 
-has_more : (found : List ℕ) (n m : ℕ) → has_symbol (found ++ n ∷ []) m ≡ (nat_eq m n || has_symbol found m)
-has_more [] n m = refl
-has_more (k ∷ found) n m = ap (λ b. nat_eq m k || b) (has_more found n m) ∙ swap (nat_eq m k) (nat_eq m n) (has_symbol found m) where
-  swap : (a b e : Bool) → (a || (b || e)) ≡ (b || (a || e))
-  swap true true e = refl
-  swap true false e = refl
-  swap false true e = refl
-  swap false false e = refl
-
-or_true : (b : Bool) → (b || true) ≡ true
-or_true true = refl
-or_true false = refl
-
 front_more : (s : List ℕ) (m i : ℕ) → i < length s → slice_get (s ++ m ∷ []) i ≡ slice_get s i
 front_more [] m i le = absurd (omega (arith, le))
 front_more (n ∷ s) m zero le = refl
@@ -59,7 +48,7 @@ before_one s m = by_test (has_symbol s m) refl where
   by_test false is = record {
     longer = omega (arith, length-append s (m ∷ []));
     front = front_more s m;
-    kept = λ n h. has_more s m n ∙ ap (λ b. nat_eq n m || b) h ∙ or_true (nat_eq n m);
+    kept = λ n h. has_more s m n ∙ or_right (nat_eq n m) (has_symbol s n) h;
     distinct = λ d. IsDistinct-push nat_eq_equiv s m d is;
   }
 
@@ -261,4 +250,4 @@ pub has_at : (s : List ℕ) (index n : ℕ) → slice_get s index ≡ Some n →
 has_at [] index n at = absurd cc
 has_at (m ∷ s) zero n at =
     let same : m ≡ n = cc in subst (λ (k : ℕ). has_symbol (k ∷ s) n ≡ true) (sym same) (ap (λ b. b || has_symbol s n) (same_itself n))
-has_at (m ∷ s) (suc index) n at = ap (λ b. nat_eq n m || b) (has_at s index n at) ∙ or_true (nat_eq n m)
+has_at (m ∷ s) (suc index) n at = or_right (nat_eq n m) (has_symbol s n) (has_at s index n at)
