@@ -8,6 +8,7 @@ use Rattle.lay_calls.specs.declared.cell_id.CellId.{CellId}
 use Rattle.lay_calls.specs.declared.cell_id.CellId.TheVariants.{Symbol, Top}
 use Rattle.lay_calls.specs.SameCell.{cell_eq}
 use Rattle.lay_calls.specs.Symbols.{has_symbol}
+use Rattle.lay_calls.proofs.GraphLemmas.{has_more}
 use Rattle.lay_layouts.specs.declared.id.ItemId.{ItemId}
 use Rattle.lay_layouts.specs.declared.item.Item.{Item}
 use Rattle.lay_layouts.specs.declared.item.Item.TheVariants.{Placed, Shape}
@@ -55,16 +56,6 @@ targets-called l c = targets-lent c (entries l.items)
 pub among-symbols : (n : ℕ) (ns : List ℕ) → is_among (Symbol n) (map Symbol ns) ≡ has_symbol ns n
 among-symbols n [] = refl
 among-symbols n (m ∷ ns) = ap (λ b. nat_eq n m || b) (among-symbols n ns)
-
--- a symbol more
-has_more : (found : List ℕ) (n m : ℕ) → has_symbol (found ++ n ∷ []) m ≡ (nat_eq m n || has_symbol found m)
-has_more [] n m = refl
-has_more (k ∷ found) n m = ap (λ b. nat_eq m k || b) (has_more found n m) ∙ swap (nat_eq m k) (nat_eq m n) (has_symbol found m) where
-  swap : (a b e : Bool) → (a || (b || e)) ≡ (b || (a || e))
-  swap true true e = refl
-  swap true false e = refl
-  swap false true e = refl
-  swap false false e = refl
 
 -- what the search by cells finds, the search by numbers finds
 record FindsSame (l : Layout) (k : ℕ) (pending found : List ℕ) (rest : List CellId) : Type 0 where
