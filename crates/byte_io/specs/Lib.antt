@@ -4,4 +4,5 @@ pub mod Device
 pub mod Input
 pub mod Lines
 pub mod Numbers
+pub mod Steps
 pub use Rattle.lay_point.specs.Names

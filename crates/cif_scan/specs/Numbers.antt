@@ -1,17 +1,14 @@
 -- Numbers as a text writes them.
 -- Source: Caltech Intermediate Form 2.0, the grammar's integer, signed integer and separator.
-use Rattle.std.specs.Prelude.{ℕ, ◌==◌, List, [], ◌∷◌, Bool, true, false, Option, Some, None, option_and_then, if◌then◌else◌}
+use Rattle.std.specs.Prelude.{ℕ, ◌==◌, List, [], ◌∷◌, Bool, true, false, Option, Some, None, if◌then◌else◌}
 use Rattle.std.specs.List.{take_while}
 use Rattle.byte_io.specs.Names.{is_digit}
+pub use Rattle.byte_io.specs.Steps.{◌>>=◌}
 use Rattle.cif_scan.specs.declared.number.Number.{Number}
 use Rattle.cif_scan.specs.Bytes.{is_separator, skip}
 use Rattle.cif_scan.specs.Grammar.{capped_magnitude}
 
 -- a reader takes something from the start of the bytes, and gives what it is and what stands behind it
-infixl 10 ◌>>=◌
-abbrev pub ◌>>=◌ : {A B : Type 0} → Option A → (A → Option B) → Option B
-o >>= f = option_and_then f o
-
 -- digits and what stands behind them, where there are digits
 abbrev pub spelled_by : List ℕ → List ℕ → Option (ℕ × List ℕ)
 spelled_by [] behind = None
