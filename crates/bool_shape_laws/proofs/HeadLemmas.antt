@@ -1,8 +1,8 @@
 -- The heads that are computed: joined boxes have one head, and those that have one are together wherever all joined ones are.
 use Rattle.std.proofs.Common.{◌≡◌, ◌⊎◌, inl, inr, ℕ, zero, suc, ◌<◌, ◌≤◌, ◌==◌, Bool, true, false, ◌&&◌}
-use Rattle.std.proofs.Common.{◌||◌, cond, List, [], ◌∷◌, length, get_or}
+use Rattle.std.proofs.Common.{cond, List, [], ◌∷◌, length, get_or}
 use Rattle.std.proofs.Common.{refl, sym, ap, ◌∙◌, ⊎_elim, arith}
-use Rattle.std.proofs.lemmas.Bool.{false≢true}
+use Rattle.std.proofs.lemmas.Bool.{and_parts, false≢true, or_cases, or_left, or_right}
 use Rattle.std.proofs.lemmas.Bool.Decides.{Decides-eqb}
 use Rattle.std.proofs.lemmas.List.{get_or-map, length-map}
 use Rattle.face_part_laws.specs.Heads.{AreFirst, IsFinest}
@@ -10,22 +10,6 @@ use Rattle.face_part_laws.specs.Parts.{AreJoined, Box, is_up_to, touch}
 use Rattle.bool_shape_laws.specs.Dividing.{heads_of, heads_with, touches_head}
 
 -- ---- tests
-and_true : (a b : Bool) → (a && b) ≡ true → (a ≡ true) × (b ≡ true)
-and_true true b e = (refl, e)
-and_true false b e = absurd cc
-
-or_true : (a b : Bool) → (a || b) ≡ true → (a ≡ true) ⊎ (b ≡ true)
-or_true true b e = inl refl
-or_true false b e = inr e
-
-or_left : (a b : Bool) → a ≡ true → (a || b) ≡ true
-or_left true b e = refl
-or_left false b e = absurd cc
-
-or_right : (a b : Bool) → b ≡ true → (a || b) ≡ true
-or_right true b e = refl
-or_right false b e = e
-
 and_turned : (a b : Bool) → (a && b) ≡ (b && a)
 and_turned true true = refl
 and_turned true false = refl
@@ -48,11 +32,11 @@ some_touched b head [] heads e = absurd cc
 some_touched b head (c ∷ cs) [] e = absurd cc
 some_touched b head (c ∷ cs) (h ∷ hs) e =
     ⊎_elim
-    (λ (here : (h == head && touch b c) ≡ true). let both = and_true (h == head) (touch b c) here in
+    (λ (here : (h == head && touch b c) ≡ true). let both = and_parts (h == head) (touch b c) here in
     (zero, record { inside = omega arith; head_is = (Decides-eqb h head).0 both.0; touching = λ d. both.1 }))
     (λ (behind : touches_head b head cs hs ≡ true). let r = some_touched b head cs hs behind in
     (suc r.0, record { inside = omega (arith, r.1.inside); head_is = r.1.head_is; touching = r.1.touching }))
-    (or_true (h == head && touch b c) (touches_head b head cs hs) e)
+    (or_cases (h == head && touch b c) (touches_head b head cs hs) e)
 
 touched : (b : Box) (bs : List Box) (heads : List ℕ) (j : ℕ) → j < length bs → j < length heads
     → ((d : Box) → touch b (get_or bs j d) ≡ true) → touches_head b (get_or heads j 0) bs heads ≡ true

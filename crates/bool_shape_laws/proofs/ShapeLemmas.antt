@@ -3,6 +3,7 @@ use Rattle.std.proofs.Common.{◌≡◌, false, List, [], refl, subst, ◌∙◌
 use Rattle.std.specs.Prelude.{All, IsTrue, ◌&&◌}
 use Rattle.std.proofs.Common.{get_or}
 use Rattle.std.proofs.lemmas.List.Elements.{Contains-get_or}
+use Rattle.std.proofs.lemmas.Bool.{and_from}
 use Rattle.lay_point.specs.Points.{is_in_range}
 use Rattle.lay_point.specs.declared.point.Point.{Point}
 use Rattle.lay_point.proofs.Members.{contains}
@@ -10,7 +11,7 @@ use Rattle.lay_flat.specs.Flat.{FlatRing, IsFlat}
 use Rattle.snap_round_laws.specs.Round.{IsRoundOf}
 use Rattle.snap_round_laws.specs.Laws.{AreCleanEdges}
 use Rattle.snap_round_laws.proofs.Exists.{rounding_exists, rounding_is_computed}
-use Rattle.snap_round_laws.proofs.InRange.{and_true, rounded_is_in_range, rounded_is_rounded}
+use Rattle.snap_round_laws.proofs.InRange.{rounded_is_in_range, rounded_is_rounded}
 use Rattle.face_labels.proofs.Upward.{even_operation, operation_among, operation_law, operation_rises}
 use Rattle.face_labels.specs.Op.{Op}
 use Rattle.face_labels.specs.Op.TheVariants.{And, Or, Not, Xor}
@@ -61,7 +62,7 @@ module _ (op : Op) (a b : List FlatRing) (flat_a : All IsFlat a) (flat_b : All I
       let e = get_or edges k d in
       let h = rounded_is_in_range (owned_of a b) (owned_are_rings a b flat_a flat_b) (rounded_inputs a b) inputs_round e
       (operation_among (rounded_inputs a b) (answer op) e (Contains-get_or edges k d lt)) in
-      and_true (is_in_range e.0) (is_in_range e.1) h.0 h.1
+      and_from (is_in_range e.0) (is_in_range e.1) h.0 h.1
 
   shapes_are_parts : AreParts (op_rings op a b) (shapes_of op a b)
   unfolding shapes_of

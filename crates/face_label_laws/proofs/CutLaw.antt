@@ -6,6 +6,7 @@ use Rattle.std.specs.Prelude.{int_lt}
 use Rattle.std.proofs.Common.{Decides}
 use Rattle.std.proofs.lemmas.Bool.Decides.{Decides-and, Decides-like}
 use Rattle.std.proofs.lemmas.Int.{ints}
+use Rattle.std.specs.Cmp.{both_ways}
 use Rattle.lay_point.specs.Same.{point_eq-Decides}
 use Rattle.lay_int_laws.proofs.Polynomials.{#, lit, ◌⊕◌, ◌⊖◌, ◌⊗◌, identity}
 use Rattle.lay_int_laws.proofs.Signs.{below_or_same, linear}
@@ -48,12 +49,6 @@ no_shape op none shapes = ap₂ op (none_of First shapes) (none_of Second shapes
 
 pub true_false : (b : Bool) → b ≡ true → b ≡ false → ⊥
 true_false b e f = absurd cc
-
-both_ways : (a b : Bool) → (a ≡ true → b ≡ true) → (b ≡ true → a ≡ true) → a ≡ b
-both_ways true true f g = refl
-both_ways true false f g = sym (f refl)
-both_ways false true f g = g refl
-both_ways false false f g = refl
 
 and_split : (s a b : Bool) → (s && xor a b) ≡ xor (s && a) (s && b)
 and_split true a b = refl

@@ -1,17 +1,18 @@
 -- An even number of an operation's edges stands at each point: those that begin or end there are counted by the answers
 -- beside them in the row above and in the row below, and a level one by the answers above it and below it.
-use Rattle.std.proofs.Common.{◌≡◌, ◌⊎◌, inl, inr, suc, Bool, true, false, ◌&&◌, ◌||◌, List, [], ◌∷◌}
+use Rattle.std.proofs.Common.{◌≡◌, ◌⊎◌, inl, inr, suc, Bool, true, false, ◌&&◌, List, [], ◌∷◌}
 use Rattle.std.proofs.Common.{ℤ, pos, ◌+ℤ◌, ◌-ℤ◌, ◌≤ℤ◌, ◌<ℤ◌, refl, sym, ap, ap₂, subst, ◌∙◌, ⊎_elim, arith, int_eq}
 use Rattle.std.specs.Prelude.{int_le, int_lt}
-use Rattle.std.proofs.lemmas.Bool.{and_parts}
+use Rattle.std.proofs.lemmas.Bool.{and_from, and_parts}
 use Rattle.std.proofs.lemmas.Int.{ints}
 use Rattle.std.proofs.lemmas.Bool.Decides.{Decides-int_eq}
+use Rattle.std.specs.Cmp.{both_ways}
 use Rattle.lay_int_laws.proofs.Signs.{below_or_not, below_or_same, linear}
+use Rattle.lay_int_laws.proofs.Tests.{le_false, le_true, lt_false, lt_true}
 use Rattle.lay_point.specs.declared.point.Point.{Point}
 use Rattle.lay_point.specs.Edges.{same_edge, touches}
 use Rattle.lay_point.specs.Parity.{xor, parity, is_crossed}
-use Rattle.lay_point.specs.Points.{point_eq}
-use Rattle.lay_point.proofs.EdgeOrder.{same_by_test}
+use Rattle.lay_point.proofs.EdgeOrder.{one_end}
 use Rattle.lay_point.proofs.Members.{Has}
 use Rattle.lay_point.proofs.Parity.{parity_agree, parity_none, parity-xor, xor_self}
 use Rattle.snap_chains.specs.Edges.{IsBetween, IsEndpoint}
@@ -20,7 +21,7 @@ use Rattle.snap_chains.proofs.Level.{other_way_round}
 use Rattle.snap_chains.specs.Owner.{Owner}
 use Rattle.snap_chains.specs.Rounded.{is_owner_listed}
 use Rattle.face_label_laws.specs.Labels.{Item, answer_on, differs, listed_shapes, odd_of}
-use Rattle.face_side_laws.proofs.Arms.{and_both, both_ways, le_zero, level_end, lt_zero}
+use Rattle.face_side_laws.proofs.Arms.{le_zero, level_end, lt_zero}
 use Rattle.face_side_laws.proofs.Arms.{middle_left, middle_level, middle_right, not_nested, one_times}
 use Rattle.face_side_laws.proofs.Arms.{row_spans, spans_row, zero_le, zero_lt}
 use Rattle.face_label_laws.proofs.CutLaw.{IsCut, cut_law, same_edge-Decides}
@@ -72,18 +73,6 @@ eq_true a b e = (Decides-int_eq a b).0 e
 true_eq : (a b : ℤ) → a ≡ b → int_eq a b ≡ true
 true_eq a b e = (Decides-int_eq a b).1 e
 
-le_yes : (a b : ℤ) → int_le a b ≡ true → a ≤ℤ b
-le_yes a b e = grind (arith, ints)
-
-le_no : (a b : ℤ) → int_le a b ≡ false → b <ℤ a
-le_no a b e = grind (arith, ints)
-
-lt_yes : (a b : ℤ) → int_lt a b ≡ true → a <ℤ b
-lt_yes a b e = grind (arith, ints)
-
-lt_no : (a b : ℤ) → int_lt a b ≡ false → b ≤ℤ a
-lt_no a b e = grind (arith, ints)
-
 second_false : (a b : Bool) → a ≡ true → (a && b) ≡ false → b ≡ false
 second_false true b h e = e
 second_false false b h e = absurd cc
@@ -111,8 +100,8 @@ left_arm_is v a b h ends =
     (λ (one : (from_here v a ≡ true) × (from_here v b ≡ false)).
     let here = and_parts (int_eq a.y v.y) (int_le v.x a.x) one.0 in
     let at_a = eq_true a.y v.y here.0 in
-    let less = le_no v.x b.x (second_false (int_eq b.y v.y) (int_le v.x b.x) (true_eq b.y v.y (sym level ∙ at_a)) one.1) in
-    let more = le_yes v.x a.x here.1 in
+    let less = le_false v.x b.x (second_false (int_eq b.y v.y) (int_le v.x b.x) (true_eq b.y v.y (sym level ∙ at_a)) one.1) in
+    let more = le_true v.x a.x here.1 in
     ⊎_elim
     (λ (same : v ≡ a). record { other = b; joins = inr (λ i. (sym same i, b)); level = sym level ∙ at_a; left = less })
     (λ (same : v ≡ b). absurd (omega (arith, linear, less, x_differs v b same)))
@@ -120,8 +109,8 @@ left_arm_is v a b h ends =
     (λ (one : (from_here v a ≡ false) × (from_here v b ≡ true)).
     let here = and_parts (int_eq b.y v.y) (int_le v.x b.x) one.1 in
     let at_b = eq_true b.y v.y here.0 in
-    let less = le_no v.x a.x (second_false (int_eq a.y v.y) (int_le v.x a.x) (true_eq a.y v.y (level ∙ at_b)) one.0) in
-    let more = le_yes v.x b.x here.1 in
+    let less = le_false v.x a.x (second_false (int_eq a.y v.y) (int_le v.x a.x) (true_eq a.y v.y (level ∙ at_b)) one.0) in
+    let more = le_true v.x b.x here.1 in
     ⊎_elim
     (λ (same : v ≡ a). absurd (omega (arith, linear, less, x_differs v a same)))
     (λ (same : v ≡ b). record { other = a; joins = inl (λ i. (a, sym same i)); level = level ∙ at_b; left = less })
@@ -136,8 +125,8 @@ right_arm_is v a b h ends =
     (λ (one : (behind_here v a ≡ true) × (behind_here v b ≡ false)).
     let here = and_parts (int_eq a.y v.y) (int_lt v.x a.x) one.0 in
     let at_a = eq_true a.y v.y here.0 in
-    let less = lt_no v.x b.x (second_false (int_eq b.y v.y) (int_lt v.x b.x) (true_eq b.y v.y (sym level ∙ at_a)) one.1) in
-    let more = lt_yes v.x a.x here.1 in
+    let less = lt_false v.x b.x (second_false (int_eq b.y v.y) (int_lt v.x b.x) (true_eq b.y v.y (sym level ∙ at_a)) one.1) in
+    let more = lt_true v.x a.x here.1 in
     ⊎_elim
     (λ (same : v ≡ a). absurd (omega (arith, linear, more, x_differs v a same)))
     (λ (same : v ≡ b). record { other = a; joins = inl (λ i. (a, sym same i)); level = at_a; right = more })
@@ -145,8 +134,8 @@ right_arm_is v a b h ends =
     (λ (one : (behind_here v a ≡ false) × (behind_here v b ≡ true)).
     let here = and_parts (int_eq b.y v.y) (int_lt v.x b.x) one.1 in
     let at_b = eq_true b.y v.y here.0 in
-    let less = lt_no v.x a.x (second_false (int_eq a.y v.y) (int_lt v.x a.x) (true_eq a.y v.y (level ∙ at_b)) one.0) in
-    let more = lt_yes v.x b.x here.1 in
+    let less = lt_false v.x a.x (second_false (int_eq a.y v.y) (int_lt v.x a.x) (true_eq a.y v.y (level ∙ at_b)) one.0) in
+    let more = lt_true v.x b.x here.1 in
     ⊎_elim
     (λ (same : v ≡ a). record { other = b; joins = inr (λ i. (sym same i, b)); level = at_b; right = more })
     (λ (same : v ≡ b). absurd (omega (arith, linear, more, x_differs v b same)))
@@ -256,7 +245,7 @@ module _ (op : Bool → Bool → Bool) (none : op false false ≡ false) (items 
       closed = λ p s m n t span left.
           let both = and_parts (in_row r p.0) (int_lt (pos 0) (right_of_point v p.0)) t in
           ⊎_elim (λ (same : p.0 ≡ s.0). ap (beyond r v) (sym same) ∙ t)
-          (λ (meet : MeetAtEnds p.0 s.0). and_both (in_row r s.0) (int_lt (pos 0) (right_of_point v s.0)) (spans_row r s.0 span)
+          (λ (meet : MeetAtEnds p.0 s.0). and_from (in_row r s.0) (int_lt (pos 0) (right_of_point v s.0)) (spans_row r s.0 span)
           (lt_zero (right_of_point v s.0) (right_in_row r p.0 s.0 (pos 1) v.x v.y q (row_spans r p.0 both.0) span meet left
           (zero_lt (right_of_point v p.0) both.1))))
           (h.meets p s m n);
@@ -268,7 +257,7 @@ module _ (op : Bool → Bool → Bool) (none : op false false ≡ false) (items 
       closed = λ p s m n t span left.
           let both = and_parts (in_row r p.0) (int_le (pos 0) (right_of_point v p.0)) t in
           ⊎_elim (λ (same : p.0 ≡ s.0). ap (from_on r v) (sym same) ∙ t)
-          (λ (meet : MeetAtEnds p.0 s.0). and_both (in_row r s.0) (int_le (pos 0) (right_of_point v s.0)) (spans_row r s.0 span)
+          (λ (meet : MeetAtEnds p.0 s.0). and_from (in_row r s.0) (int_le (pos 0) (right_of_point v s.0)) (spans_row r s.0 span)
           (le_zero (right_of_point v s.0) (not_left_in_row r p.0 s.0 (pos 1) v.x v.y q (row_spans r p.0 both.0) span meet left
           (zero_le (right_of_point v p.0) both.1))))
           (h.meets p s m n);
@@ -423,14 +412,6 @@ module _ (op : Bool → Bool → Bool) (none : op false false ≡ false) (items 
           three_parts f g k =
               parity-xor (λ p. xor (differs op items p && f p) (differs op items p && g p)) (λ p. differs op items p && k p) items
               ∙ ap (λ b. xor b (labels k)) (parity-xor (λ p. differs op items p && f p) (λ p. differs op items p && g p) items)
-
-          one_end : (u : Point) (e : Edge) → ¬ (e.0 ≡ e.1) → xor (point_eq e.0 u) (point_eq e.1 u) ≡ touches u e
-          one_end u e apart = by_tests (point_eq e.0 u) (point_eq e.1 u) (λ f g. apart (same_by_test e.0 u f ∙ sym (same_by_test e.1 u g)))
-            where
-              by_tests : (a b : Bool) → (a ≡ true → b ≡ true → ⊥) → xor a b ≡ (a || b)
-              by_tests false b k = refl
-              by_tests true false k = refl
-              by_tests true true k = absurd (k refl refl)
 
     touched : (ps : List Item) → ((w : Item) × Has ps w × (touches v w.0 ≡ true)) ⊎ ((p : Item) → Has ps p → touches v p.0 ≡ false)
     touched [] = inr (λ p m. absurd m)

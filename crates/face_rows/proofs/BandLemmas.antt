@@ -1,8 +1,8 @@
 -- Bands in which edges begin.
-use Rattle.std.proofs.Common.{◌≡◌, ℕ, ◌+◌, ◌<◌, ◌≤◌, Bool, true, ◌&&◌, List, length, get_or, ℤ, ◌≤ℤ◌, ◌<ℤ◌, refl, subst}
+use Rattle.std.proofs.Common.{◌≡◌, ℕ, ◌+◌, ◌<◌, ◌≤◌, true, List, length, get_or, ℤ, ◌≤ℤ◌, ◌<ℤ◌, subst}
 use Rattle.std.proofs.Common.{ap, ◌∙◌, ⊎_elim, arith}
 use Rattle.std.specs.Prelude.{int_le, int_lt}
-use Rattle.std.proofs.lemmas.Bool.{and_parts, cases_lt}
+use Rattle.std.proofs.lemmas.Bool.{and_from, and_parts, cases_lt}
 use Rattle.std.proofs.lemmas.List.{get_or_default}
 use Rattle.lay_int_laws.proofs.Signs.{linear}
 use Rattle.lay_int_laws.proofs.Tests.{le_true, lt_true, true_le, true_lt}
@@ -11,12 +11,9 @@ use Rattle.face_rows.specs.declared.band.Band.{Band}
 use Rattle.face_rows.specs.Bands.{begins_in}
 use Rattle.face_rows.specs.Rows.{upward}
 
-all_true : (a b : Bool) → a ≡ true → b ≡ true → (a && b) ≡ true
-all_true a b f g = rw (f, g) refl
-
 pub begins : (band : Band) (e : Point × Point) → band.low ≤ℤ (upward e).0.y → (upward e).0.y <ℤ band.high → begins_in band e ≡ true
 begins band e low high =
-    all_true (int_le band.low (upward e).0.y) (int_lt (upward e).0.y band.high) (true_le band.low (upward e).0.y low)
+    and_from (int_le band.low (upward e).0.y) (int_lt (upward e).0.y band.high) (true_le band.low (upward e).0.y low)
     (true_lt (upward e).0.y band.high high)
 
 pub bounds : (band : Band) (e : Point × Point) → begins_in band e ≡ true → (band.low ≤ℤ (upward e).0.y) × ((upward e).0.y <ℤ band.high)

@@ -1,14 +1,15 @@
 -- Behind a gap of a row are the edges that are right of a place; so the shapes that an odd number of them lists are those
 -- that hold at the place.
 use Rattle.std.proofs.Common.{◌≡◌, ◌≢◌, ◌⊎◌, inl, inr, ℕ, zero, suc, ◌+◌, ◌<◌, ◌≤◌, Bool, true, false, ◌&&◌, ◌||◌, List, [], ◌∷◌}
-use Rattle.std.proofs.Common.{length, get_or, drop, Contains, ℤ, pos, ◌*ℤ◌, ◌≤ℤ◌, ◌<ℤ◌, refl, sym, ap, ap₂, subst, ◌∙◌, ⊎_elim, arith}
+use Rattle.std.proofs.Common.{length, get_or, drop, Contains, ℤ, pos, ◌*ℤ◌, ◌<ℤ◌, refl, sym, ap, ap₂, subst, ◌∙◌, ⊎_elim, arith}
 use Rattle.std.specs.Prelude.{int_le, int_lt, nat_eq}
 use Rattle.std.specs.List.{list_any, zip}
-use Rattle.std.proofs.lemmas.Bool.{cases_lt, or_cases}
+use Rattle.std.proofs.lemmas.Bool.{and_from, cases_lt, or_cases, or_right}
 use Rattle.std.proofs.lemmas.Bool.Decides.{Decides-eqb}
-use Rattle.std.proofs.lemmas.Int.{ints}
 use Rattle.std.proofs.lemmas.List.{get_or_default}
+use Rattle.std.specs.Cmp.{both_ways}
 use Rattle.lay_int_laws.proofs.Signs.{linear}
+use Rattle.lay_int_laws.proofs.Tests.{lt_true, true_le, true_lt}
 use Rattle.lay_point.specs.declared.point.Point.{Point}
 use Rattle.lay_point.specs.Edges.{IsEdgeBefore}
 use Rattle.lay_point.specs.Parity.{xor, parity, distance_right, is_crossed}
@@ -107,12 +108,6 @@ nat_equality = record {
     by_test true other same = absurd (other (same refl))
     by_test false other same = refl
 
-both_ways : (a b : Bool) → (a ≡ true → b ≡ true) → (b ≡ true → a ≡ true) → a ≡ b
-both_ways true true f g = refl
-both_ways true false f g = sym (f refl)
-both_ways false true f g = g refl
-both_ways false false f g = refl
-
 any_has : (xs : List ℕ) (n : ℕ) → list_any (nat_eq n) xs ≡ true → Has xs n
 any_has [] n e = absurd cc
 any_has (x ∷ xs) n e = ⊎_elim (λ (here : nat_eq n x ≡ true). inl (sym ((Decides-eqb n x).0 here)))
@@ -121,17 +116,7 @@ any_has (x ∷ xs) n e = ⊎_elim (λ (here : nat_eq n x ≡ true). inl (sym ((D
 has_any : (xs : List ℕ) (n : ℕ) → Has xs n → list_any (nat_eq n) xs ≡ true
 has_any [] n m = absurd m
 has_any (x ∷ xs) n (inl same) = ap (λ b. b || list_any (nat_eq n) xs) ((Decides-eqb n x).1 (sym same))
-has_any (x ∷ xs) n (inr m) = later (nat_eq n x) (has_any xs n m)
-  where
-    later : (a : Bool) {b : Bool} → b ≡ true → (a || b) ≡ true
-    later true h = refl
-    later false h = h
-
-lt_true : (a b : ℤ) → int_lt a b ≡ true → a <ℤ b
-lt_true a b h = grind (arith, ints)
-
-true_lt : (a b : ℤ) → a <ℤ b → int_lt a b ≡ true
-true_lt a b h = grind (arith, ints)
+has_any (x ∷ xs) n (inr m) = or_right (nat_eq n x) (list_any (nat_eq n) xs) (has_any xs n m)
 
 -- ---- the order of a row
 -- both cross the row, and the first does so left of the second
@@ -257,13 +242,8 @@ module _ (r : Owned) (rising : IsRising IsEdgeBefore r.0) (paired : length r.1 �
         (cases_lt member.0 gap)))
       where
         spans_test : (y : ℤ) (f : Point × Point) → Spans y (upward f) → crosses_row y f ≡ true
-        spans_test y f s = both (true_le (upward f).0.y y s.low) (true_lt y (upward f).1.y s.high)
-          where
-            true_le : (a b : ℤ) → a ≤ℤ b → int_le a b ≡ true
-            true_le a b h = grind (arith, ints)
-
-            both : {a b : Bool} → a ≡ true → b ≡ true → (a && b) ≡ true
-            both {a} {b} s t = rw (s, t) refl
+        spans_test y f s =
+            and_from (int_le (upward f).0.y y) (int_lt y (upward f).1.y) (true_le (upward f).0.y y s.low) (true_lt y (upward f).1.y s.high)
 
     pub odd_behind : gap ≤ length numbers → (o : Owner)
         → parity (λ n. is_owner_listed o (owners_at r n)) (drop gap numbers) ≡ odd_of (owned_items r) o k x y

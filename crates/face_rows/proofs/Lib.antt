@@ -9,3 +9,4 @@ pub mod SideLemmas
 pub use Rattle.face_label_laws.proofs.Rows
 pub use Rattle.face_label_laws.proofs.Slide
 pub use Rattle.face_label_laws.proofs.Upward
+pub use Rattle.lay_int_laws.proofs.Tests

@@ -3,10 +3,12 @@
 use Rattle.std.proofs.Common.{◌≡◌, ◌⊎◌, inl, inr, Bool, true, false, not, ◌&&◌, ◌||◌, [], ◌∷◌, ℤ, pos, ◌+ℤ◌, ◌-ℤ◌, ◌*ℤ◌, ◌≤ℤ◌, ◌<ℤ◌}
 use Rattle.std.proofs.Common.{refl, sym, ap, subst, ◌∙◌, ⊎_elim, arith}
 use Rattle.std.specs.Prelude.{int_le, int_lt}
-use Rattle.std.proofs.lemmas.Bool.{and_parts}
+use Rattle.std.proofs.lemmas.Bool.{and_from, and_parts}
 use Rattle.std.proofs.lemmas.Int.{ints}
+use Rattle.std.specs.Cmp.{both_ways}
 use Rattle.lay_int_laws.proofs.Polynomials.{#, lit, ◌⊕◌, ◌⊖◌, ◌⊗◌, identity}
 use Rattle.lay_int_laws.proofs.Signs.{below_or_not, linear, positive_product}
+use Rattle.lay_int_laws.proofs.Tests.{le_true, lt_true, true_le, true_lt}
 use Rattle.lay_point.specs.declared.point.Point.{Point}
 use Rattle.lay_point.specs.Edges.{touches}
 use Rattle.lay_point.specs.Parity.{distance_right, is_crossed}
@@ -126,34 +128,13 @@ middle_row u v level = record {
   high = omega (arith, linear, level);
 }
 
-pub both_ways : (a b : Bool) → (a ≡ true → b ≡ true) → (b ≡ true → a ≡ true) → a ≡ b
-both_ways true true f g = refl
-both_ways true false f g = sym (f refl)
-both_ways false true f g = g refl
-both_ways false false f g = refl
-
-pub and_both : (a b : Bool) → a ≡ true → b ≡ true → (a && b) ≡ true
-and_both a b f g = rw (f, g) refl
-
 pub row_spans : (r : ℤ) (f : Edge) → in_row r f ≡ true → Spans r f
 row_spans r f h =
     let both = and_parts (int_le f.0.y r) (int_lt r f.1.y) h in
-    record { low = le_yes f.0.y r both.0; high = lt_yes r f.1.y both.1 }
-  where
-    le_yes : (a b : ℤ) → int_le a b ≡ true → a ≤ℤ b
-    le_yes a b e = grind (arith, ints)
-
-    lt_yes : (a b : ℤ) → int_lt a b ≡ true → a <ℤ b
-    lt_yes a b e = grind (arith, ints)
+    record { low = le_true f.0.y r both.0; high = lt_true r f.1.y both.1 }
 
 pub spans_row : (r : ℤ) (f : Edge) → Spans r f → in_row r f ≡ true
-spans_row r f h = and_both (int_le f.0.y r) (int_lt r f.1.y) (yes_le f.0.y r h.low) (yes_lt r f.1.y h.high)
-  where
-    yes_le : (a b : ℤ) → a ≤ℤ b → int_le a b ≡ true
-    yes_le a b e = grind (arith, ints)
-
-    yes_lt : (a b : ℤ) → a <ℤ b → int_lt a b ≡ true
-    yes_lt a b e = grind (arith, ints)
+spans_row r f h = and_from (int_le f.0.y r) (int_lt r f.1.y) (true_le f.0.y r h.low) (true_lt r f.1.y h.high)
 
 pub le_zero : (z : ℤ) → pos 0 ≤ℤ z → int_le (pos 0) z ≡ true
 le_zero z e = grind (arith, ints)
@@ -178,7 +159,7 @@ middle_left u v f level less up meet =
     both_ways (is_crossed (pos 2) (u.x +ℤ v.x) (u.y +ℤ v.y) f) (from_on v.y v f)
     (λ t.
     let c = crossed_spans v.y (pos 2) (u.x +ℤ v.x) (u.y +ℤ v.y) f q up t in
-    and_both (in_row v.y f) (int_le (pos 0) (right_of_point v f)) (spans_row v.y f c.0)
+    and_from (in_row v.y f) (int_le (pos 0) (right_of_point v f)) (spans_row v.y f c.0)
     (le_zero (right_of_point v f) (⊎_elim
     (λ (outside : right_of_point v f <ℤ pos 0).
     let gap = positive_product (v.x -ℤ u.x) w (omega (arith, linear)) (omega (arith, linear, c.0.low, c.0.high)) in
@@ -214,7 +195,7 @@ middle_right u v f level less up meet =
     (λ t.
     let c = crossed_spans v.y (pos 2) (u.x +ℤ v.x) (u.y +ℤ v.y) f q up t in
     let gap = positive_product (u.x -ℤ v.x) w (omega (arith, linear)) (omega (arith, linear, c.0.low, c.0.high)) in
-    and_both (in_row v.y f) (int_lt (pos 0) (right_of_point v f)) (spans_row v.y f c.0)
+    and_from (in_row v.y f) (int_lt (pos 0) (right_of_point v f)) (spans_row v.y f c.0)
     (lt_zero (right_of_point v f) (omega (arith, linear, middle, flat, c.1, gap, spread v.x u.x w, spread u.x v.x w))))
     (λ t.
     let both = and_parts (in_row v.y f) (int_lt (pos 0) (right_of_point v f)) t in

@@ -4,7 +4,7 @@ use Rattle.lay_point.specs.declared.point.Point.{Point}
 use Rattle.lay_point.specs.Edges.{touches}
 use Rattle.lay_point.specs.Parity.{xor, parity}
 use Rattle.lay_point.specs.Points.{point_eq}
-use Rattle.lay_point.proofs.EdgeOrder.{points_decide, same_by_test}
+use Rattle.lay_point.proofs.EdgeOrder.{one_end, points_decide, same_by_test}
 use Rattle.lay_point.proofs.Members.{Has}
 use Rattle.lay_point.proofs.Parity.{parity_agree, parity_none, parity-xor}
 
@@ -58,14 +58,6 @@ module _ {W : Type 0} (counts : (Point × Point) × W → Bool) (items : List ((
   four_ways true true true true false true = refl
   four_ways true true true true true false = refl
   four_ways true true true true true true = refl
-
-  one_end : (v : Point) (e : Point × Point) → ¬ (e.0 ≡ e.1) → xor (point_eq e.0 v) (point_eq e.1 v) ≡ touches v e
-  one_end v e apart = by_tests (point_eq e.0 v) (point_eq e.1 v) (λ f g. apart (same_by_test e.0 v f ∙ sym (same_by_test e.1 v g)))
-    where
-      by_tests : (a b : Bool) → (a ≡ true → b ≡ true → ⊥) → xor a b ≡ (a || b)
-      by_tests false b h = refl
-      by_tests true false h = refl
-      by_tests true true h = absurd (h refl refl)
 
   at_point : (v : Point) (b : Bool) → parity (λ p. b && (counts p && touches v p.0)) items ≡ false
   at_point v true = even v

@@ -7,6 +7,7 @@ use Rattle.std.proofs.lemmas.Int.{ints}
 use Rattle.std.proofs.lemmas.Bool.Decides.{Decides-int_eq}
 use Rattle.lay_int_laws.proofs.Polynomials.{#, lit, ◌⊕◌, ◌⊖◌, ◌⊗◌, identity}
 use Rattle.lay_int_laws.proofs.Signs.{below_or_not, below_or_same, linear, nonnegative_product, positive_product}
+use Rattle.lay_int_laws.proofs.Tests.{false_le, false_lt, true_le, true_lt}
 use Rattle.lay_point.specs.declared.point.Point.{Point}
 use Rattle.lay_point.specs.Parity.{xor, distance_right}
 use Rattle.lay_point.specs.Points.{point_eq}
@@ -61,51 +62,27 @@ le_by_times : (z x h : ℤ) → pos 0 <ℤ h → int_le (pos 0) ((z -ℤ x) *ℤ
 le_by_times z x h positive = ⊎_elim
     (λ (less : z <ℤ x).
     let whole = positive_product (x -ℤ z) h (omega (arith, linear)) positive in
-    out ((z -ℤ x) *ℤ h) (omega (arith, linear, whole, turned)) ∙ sym (far x z less))
+    false_le (pos 0) ((z -ℤ x) *ℤ h) (omega (arith, linear, whole, turned)) ∙ sym (false_le x z less))
     (λ (le : x ≤ℤ z).
     let whole = nonnegative_product (z -ℤ x) h (omega (arith, linear)) (omega (arith, linear)) in
-    within ((z -ℤ x) *ℤ h) whole ∙ sym (near x z le))
+    true_le (pos 0) ((z -ℤ x) *ℤ h) whole ∙ sym (true_le x z le))
     (below_or_not z x)
   where
     turned : (z -ℤ x) *ℤ h ≡ pos 0 -ℤ (x -ℤ z) *ℤ h
     turned = identity (z ∷ x ∷ h ∷ []) ((# 0 ⊖ # 1) ⊗ # 2) (lit (pos 0) ⊖ (# 1 ⊖ # 0) ⊗ # 2) refl
 
-    out : (w : ℤ) → w <ℤ pos 0 → int_le (pos 0) w ≡ false
-    out w e = grind (arith, ints)
-
-    within : (w : ℤ) → pos 0 ≤ℤ w → int_le (pos 0) w ≡ true
-    within w e = grind (arith, ints)
-
-    far : (x z : ℤ) → z <ℤ x → int_le x z ≡ false
-    far x z e = grind (arith, ints)
-
-    near : (x z : ℤ) → x ≤ℤ z → int_le x z ≡ true
-    near x z e = grind (arith, ints)
-
 lt_by_times : (z x h : ℤ) → pos 0 <ℤ h → int_lt (pos 0) ((z -ℤ x) *ℤ h) ≡ int_lt x z
 lt_by_times z x h positive = ⊎_elim
     (λ (less : x <ℤ z).
     let whole = positive_product (z -ℤ x) h (omega (arith, linear)) positive in
-    within ((z -ℤ x) *ℤ h) whole ∙ sym (near x z less))
+    true_lt (pos 0) ((z -ℤ x) *ℤ h) whole ∙ sym (true_lt x z less))
     (λ (le : z ≤ℤ x).
     let whole = nonnegative_product (x -ℤ z) h (omega (arith, linear)) (omega (arith, linear)) in
-    out ((z -ℤ x) *ℤ h) (omega (arith, linear, whole, turned)) ∙ sym (far x z le))
+    false_lt (pos 0) ((z -ℤ x) *ℤ h) (omega (arith, linear, whole, turned)) ∙ sym (false_lt x z le))
     (below_or_not x z)
   where
     turned : (z -ℤ x) *ℤ h ≡ pos 0 -ℤ (x -ℤ z) *ℤ h
     turned = identity (z ∷ x ∷ h ∷ []) ((# 0 ⊖ # 1) ⊗ # 2) (lit (pos 0) ⊖ (# 1 ⊖ # 0) ⊗ # 2) refl
-
-    out : (w : ℤ) → w ≤ℤ pos 0 → int_lt (pos 0) w ≡ false
-    out w e = grind (arith, ints)
-
-    within : (w : ℤ) → pos 0 <ℤ w → int_lt (pos 0) w ≡ true
-    within w e = grind (arith, ints)
-
-    far : (x z : ℤ) → z ≤ℤ x → int_lt x z ≡ false
-    far x z e = grind (arith, ints)
-
-    near : (x z : ℤ) → x <ℤ z → int_lt x z ≡ true
-    near x z e = grind (arith, ints)
 
 -- ---- through the height
 same_true : (a b : ℤ) → a ≡ b → int_eq a b ≡ true

@@ -9,3 +9,4 @@ pub use Rattle.face_sweep.proofs.StartLemmas
 pub use Rattle.face_sweep.proofs.PickedLemmas
 pub use Rattle.face_sweep.proofs.RowLemmas
 pub use Rattle.face_sweep.proofs.Upward
+pub use Rattle.lay_int_laws.proofs.Tests

@@ -14,6 +14,7 @@ use Rattle.std.proofs.lemmas.Int.{ints}
 use Rattle.std.proofs.lemmas.List.{get_or_default}
 use Rattle.std.proofs.lemmas.List.Sorted.{All-permutation, Contains-permutation, ranks_by, sorted_far}
 use Rattle.lay_int_laws.proofs.Signs.{below_or_not, linear}
+use Rattle.lay_int_laws.proofs.Tests.{false_lt, true_lt}
 use Rattle.lay_point.specs.declared.point.Point.{Point}
 use Rattle.lay_point.specs.Rising.{IsRising}
 use Rattle.lay_point.proofs.Members.{Has, contains, has}
@@ -43,26 +44,20 @@ module _ (r : Owned) (row : ℤ) (numbers : List ℕ) (h : AreSomeRowEdges r.0 r
       subst (λ j. is_left_in_row row (edge_at r (get_or numbers m 0)) (edge_at r j) ≡ true) at
       (true_lt (rise (edge_at r (get_or numbers k 0)) *ℤ crossing row (edge_at r (get_or numbers m 0)))
       (rise (edge_at r (get_or numbers m 0)) *ℤ crossing row (edge_at r (get_or numbers k 0))) (b.left nowhere))
-    where
-      true_lt : (a b : ℤ) → a <ℤ b → int_lt a b ≡ true
-      true_lt a b h = grind (arith, ints)
 
   back : k ≤ m → is_left_in_row row (edge_at r (get_or numbers m 0)) (edge_at r n) ≡ false
   back le = subst (λ j. is_left_in_row row (edge_at r (get_or numbers m 0)) (edge_at r j) ≡ false) at
       (⊎_elim
       (λ (less : k < m).
       let b = before_by_number (IsBeforeIn r.0 row) (before_strict r.0 row) numbers k m 0 in_order less middle in
-      false_lt (rise (edge_at r (get_or numbers m 0)) *ℤ crossing row (edge_at r (get_or numbers k 0)))
-      (rise (edge_at r (get_or numbers k 0)) *ℤ crossing row (edge_at r (get_or numbers m 0))) (b.left nowhere))
+      false_lt (rise (edge_at r (get_or numbers k 0)) *ℤ crossing row (edge_at r (get_or numbers m 0)))
+      (rise (edge_at r (get_or numbers m 0)) *ℤ crossing row (edge_at r (get_or numbers k 0))) (omega (arith, linear, b.left nowhere)))
       (λ (ge : m ≤ k).
       let same : k ≡ m = omega arith in
       subst (λ j. is_left_in_row row (edge_at r (get_or numbers j 0)) (edge_at r (get_or numbers k 0)) ≡ false) same
       (not_itself (rise (edge_at r (get_or numbers k 0)) *ℤ crossing row (edge_at r (get_or numbers k 0)))))
       (cases_lt k m))
     where
-      false_lt : (a b : ℤ) → a <ℤ b → int_lt b a ≡ false
-      false_lt a b h = grind (arith, ints)
-
       not_itself : (a : ℤ) → int_lt a a ≡ false
       not_itself a = grind (arith, ints)
 
@@ -292,6 +287,3 @@ ends_in_order r row ends moved order = record {
   where
     test : Point × Point → Bool
     test = λ e. int_lt row (upward e).1.y
-
-    true_lt : (a b : ℤ) → a <ℤ b → int_lt a b ≡ true
-    true_lt a b h = grind (arith, ints)

@@ -1,80 +1,31 @@
 -- Starts in order, and the edges that begin at them.
-use Rattle.std.proofs.Common.{
-  ◌≡◌,
-  ◌⊎◌,
-  inl,
-  inr,
-  ⊎_elim,
-  ℕ,
-  zero,
-  suc,
-  ◌+◌,
-  ◌-◌,
-  ◌<◌,
-  ◌≤◌,
-  Bool,
-  true,
-  false,
-  ◌&&◌,
-  cond,
-  List,
-  [],
-  ◌∷◌,
-  ◌++◌,
-}
-use Rattle.std.proofs.Common.{length, get_or, drop, map, take, Contains, ℤ, ◌≤ℤ◌, ◌<ℤ◌, refl, sym, ap, subst, ◌∙◌, arith, add-one}
-use Rattle.std.specs.Prelude.{All, nat_eq, int_le, int_lt}
-use Rattle.std.specs.List.{AllByRecursion, dedup, dedup_from}
-use Rattle.std.specs.List.Sorted.{IsPermutation, IsSorted, IsSortedBy}
+use Rattle.std.proofs.Common.{◌≡◌, ◌⊎◌, ⊎_elim, ℕ, ◌+◌, ◌-◌, ◌<◌, ◌≤◌, true, List}
+use Rattle.std.proofs.Common.{length, get_or, drop, take, Contains, ℤ, ◌≤ℤ◌, ◌<ℤ◌, refl, sym, ap, subst, ◌∙◌, arith}
+use Rattle.std.specs.Prelude.{int_le, int_lt}
+use Rattle.std.specs.List.Sorted.{IsPermutation, IsSorted}
 use Rattle.std.specs.Cmp.{IsTotalOrder}
 use Rattle.std.specs.Ordering.{int_cmp, is_lt, nat_cmp, on, ordering_then, then_cmp}
 use Rattle.std.specs.declared.cmp.Ordering.{Ordering}
 use Rattle.std.specs.declared.cmp.Ordering.TheVariants.{Less}
-use Rattle.std.proofs.lemmas.Bool.{cases_lt}
-use Rattle.std.proofs.lemmas.Bool.Decides.{Decides-eqb, nat_tests}
+use Rattle.std.proofs.lemmas.Bool.{and_from, cases_lt}
 use Rattle.std.specs.Cmp.{int_cmp_is}
 use Rattle.std.proofs.lemmas.Cmp.{int_cmp_total, nat_cmp_total, on_total, then_total}
-use Rattle.std.proofs.lemmas.Int.{ints}
-use Rattle.std.proofs.lemmas.List.{
-  get_or_default,
-  append_assoc,
-  get_or-drop,
-  get_or-take,
-  length-drop,
-  length-take,
-  map-append,
-  take_all,
-  take_more,
-}
-use Rattle.std.proofs.lemmas.List.Elements.{
-  All-push,
-  Contains-append_cases,
-  Contains-append_left,
-  Contains-append_right,
-  Contains-get_or,
-  Contains-push,
-  Contains-push_cases,
-  recursion_from_All,
-}
-use Rattle.std.proofs.lemmas.List.Kept.{Contains-dedup_nat, Contains-from_dedup}
-use Rattle.std.proofs.lemmas.List.Sorted.{All-permutation, Contains-permutation, IsPermutation-map, IsPermutation-sym, ranks_by, sorted_far}
+use Rattle.std.proofs.lemmas.List.{get_or_default, get_or-drop, length-drop, take_all}
+use Rattle.std.proofs.lemmas.List.Elements.{Contains-get_or}
+use Rattle.std.proofs.lemmas.List.Sorted.{Contains-permutation, IsPermutation-sym, ranks_by, sorted_far}
 use Rattle.lay_int_laws.proofs.Signs.{linear, below_or_not}
+use Rattle.lay_int_laws.proofs.Tests.{true_le, true_lt}
 use Rattle.lay_point.specs.declared.point.Point.{Point}
-use Rattle.lay_point.specs.Edges.{IsEdgeBefore}
-use Rattle.lay_point.specs.Rising.{IsRising}
 use Rattle.lay_point.proofs.Members.{Has, contains, has}
-use Rattle.face_rows.specs.Rounded.{AreClean, Owned}
+use Rattle.face_rows.specs.Rounded.{Owned}
 use Rattle.face_rows.specs.declared.band.Band.{Band}
-use Rattle.face_rows.specs.declared.crossing.Crossing.{Crossing}
 use Rattle.face_sweep.specs.declared.start.Start.{Start}
 use Rattle.face_rows.specs.Bands.{begins_in}
-use Rattle.face_rows.specs.Crossings.{IsCrossingOf}
 use Rattle.face_rows.specs.Lines.{edge_at, nowhere}
-use Rattle.face_rows.specs.Rows.{AreRowEdges, CrossesRow, IsLeftOf, crosses_row, crossing, rise, upward}
+use Rattle.face_rows.specs.Rows.{crosses_row, upward}
 use Rattle.face_sweep.specs.Starts.{AreAllStarts, AreByRow, BeginsBy, IsStartOf, start_of, starts_of}
 use Rattle.face_rows.proofs.BandLemmas.{begins, bounds}
 use Rattle.face_rows.proofs.PickedLemmas.{picked_all, picked_has}
-use Rattle.face_rows.proofs.RowLemmas.{crosses_of, is_left, left_of, spans_of}
 
 -- ---- starts in order
 abbrev start_cmp : Start → Start → Ordering
@@ -106,12 +57,6 @@ late_from starts row i e h late less k d le lt =
     let at : row <ℤ (get_or starts i d).y = subst (λ z. row <ℤ z.y) (get_or_default starts i e d less) late in
     omega (arith, linear)
 
-pub lt_true : (a b : ℤ) → int_lt a b ≡ true → a <ℤ b
-lt_true a b h = grind (arith, ints)
-
-pub lt_false : (a b : ℤ) → int_lt a b ≡ false → b ≤ℤ a
-lt_false a b h = grind (arith, ints)
-
 -- a start in the row or before it stands in front of one that is after the row
 pub begins_in_front : (starts : List Start) (row : ℤ) (i : ℕ) (P : ℕ → Type 0)
     → ((k : ℕ) (d : Start) → i ≤ k → k < length starts → row <ℤ (get_or starts k d).y)
@@ -125,18 +70,9 @@ begins_in_front starts row i P late front n (s, (k, lt, at), same, early) = ⊎_
     (cases_lt k i)
 
 -- ---- rows
-true_both : (a b : Bool) → a ≡ true → b ≡ true → (a && b) ≡ true
-true_both a b f g = rw (f, g) refl
-
-true_le : (a b : ℤ) → a ≤ℤ b → int_le a b ≡ true
-true_le a b h = grind (arith, ints)
-
-true_lt : (a b : ℤ) → a <ℤ b → int_lt a b ≡ true
-true_lt a b h = grind (arith, ints)
-
 pub crosses : (row : ℤ) (e : Point × Point) → (upward e).0.y ≤ℤ row → row <ℤ (upward e).1.y → crosses_row row e ≡ true
 crosses row e low high =
-    true_both (int_le (upward e).0.y row) (int_lt row (upward e).1.y) (true_le (upward e).0.y row low) (true_lt row (upward e).1.y high)
+    and_from (int_le (upward e).0.y row) (int_lt row (upward e).1.y) (true_le (upward e).0.y row low) (true_lt row (upward e).1.y high)
 
 -- of starts none of which is before the row, one that isn't after it is of an edge that begins in the row
 pub begins_there : (r : Owned) (s : Start) (row : ℤ) → IsStartOf r s → row ≤ℤ s.y → s.y ≤ℤ row → (upward (edge_at r s.number)).0.y ≡ row

@@ -1,13 +1,14 @@
 -- The order of a row's edges: it is kept from row to row, and an edge that begins has its place in it.
 use Rattle.std.proofs.Common.{◌≡◌, ◌≢◌, ◌⊎◌, inl, inr, ⊎_elim, ℕ, zero, suc, ◌<◌, ◌≤◌, Bool, true, false, not, ◌&&◌, cond, List, [], ◌∷◌}
 use Rattle.std.proofs.Common.{length, get_or, Contains, ℤ, pos, ◌+ℤ◌, ◌-ℤ◌, ◌*ℤ◌, ◌≤ℤ◌, ◌<ℤ◌, refl, sym, ap, subst, ◌∙◌, arith}
-use Rattle.std.specs.Prelude.{int_le, int_lt}
+use Rattle.std.specs.Prelude.{int_lt}
 use Rattle.std.specs.List.{insert}
 use Rattle.std.proofs.lemmas.Int.{ints}
 use Rattle.std.proofs.lemmas.List.{get_or_default}
 use Rattle.std.proofs.lemmas.List.Sorted.{Contains-permutation, IsPermutation-insert, IsPermutation-sym}
 use Rattle.lay_int_laws.proofs.Polynomials.{#, lit, ◌⊕◌, ◌⊖◌, ◌⊗◌, identity}
 use Rattle.lay_int_laws.proofs.Signs.{below_or_not, below_or_same, linear, times_le}
+use Rattle.lay_int_laws.proofs.Tests.{false_le, lt_false, lt_true, true_le}
 use Rattle.lay_point.specs.declared.point.Point.{Point}
 use Rattle.lay_point.specs.Edges.{IsEdgeBefore}
 use Rattle.lay_point.specs.Parity.{xor, distance_right, is_crossed}
@@ -40,12 +41,6 @@ use Rattle.face_rows.proofs.JudgeLemmas.{IsBeforeIn, before_rising, before_stric
 use Rattle.face_rows.proofs.NearLemmas.{near_k, near, right_there}
 use Rattle.face_rows.proofs.RowLemmas.{has_get, other_edge, spans_of}
 use Rattle.face_rows.proofs.Upward.{up_meet}
-
-true_le : (a b : ℤ) → a ≤ℤ b → int_le a b ≡ true
-true_le a b h = grind (arith, ints)
-
-false_le : (a b : ℤ) → b <ℤ a → int_le a b ≡ false
-false_le a b h = grind (arith, ints)
 
 -- ---- from row to row
 abbrev passes : Point → Point → ℤ → ℤ → ℤ → ℤ → Point → Bool
@@ -164,12 +159,6 @@ right_in_begin e f rises =
     right_there e f
     ∙ (λ i. int_lt (pos 0) (distance_right (near_k (w i)) (near (w i) u.0.x u.1.x) (near (w i) u.0.y u.1.y) (upward f).0 (upward f).1))
     ∙ (λ i. int_lt (pos 0) (distance_right (begin_k u.0 u.1 i) (begin_x u.0 u.1 i) (begin_y u.0 u.1 i) (upward f).0 (upward f).1))
-
-lt_true : (a b : ℤ) → int_lt a b ≡ true → a <ℤ b
-lt_true a b h = grind (arith, ints)
-
-lt_false : (a b : ℤ) → int_lt a b ≡ false → b ≤ℤ a
-lt_false a b h = grind (arith, ints)
 
 -- the order of two edges by their numbers, whatever is taken for those that aren't there
 before_any_in : (r : Owned) (row : ℤ) (m n : ℕ) → CrossesRow r.0 row m → CrossesRow r.0 row n

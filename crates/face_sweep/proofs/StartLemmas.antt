@@ -1,16 +1,14 @@
 -- Where a band's edges begin, and the labels that are written for them.
-use Rattle.std.proofs.Common.{◌≡◌, ℕ, zero, suc, ◌+◌, ◌<◌, ◌≤◌, Bool, true, false, cond, List, [], ◌∷◌}
-use Rattle.std.proofs.Common.{length, get_or, set, take, Contains, refl, sym, ap, subst, ◌∙◌, ⊎_elim, arith}
+use Rattle.std.proofs.Common.{◌≡◌, ℕ, zero, suc, ◌+◌, ◌<◌, Bool, true, false, cond, List, [], ◌∷◌}
+use Rattle.std.proofs.Common.{length, get_or, set, take, Contains, refl, sym, ap, subst, ◌∙◌, arith}
 use Rattle.std.specs.Prelude.{All, nat_eq}
 use Rattle.std.specs.List.{zip}
 use Rattle.std.specs.List.Sorted.{IsPermutation}
-use Rattle.std.proofs.lemmas.Bool.{cases_lt}
 use Rattle.std.proofs.lemmas.Bool.Decides.{Decides-eqb}
-use Rattle.std.proofs.lemmas.List.{get_or-set_other, get_or-set_same, get_or_default, take_more}
+use Rattle.std.proofs.lemmas.List.{get_or-set_other, get_or-set_same, take_more}
 use Rattle.std.proofs.lemmas.List.Elements.{All-push}
 use Rattle.std.proofs.lemmas.List.Sorted.{All-permutation, Contains-permutation}
 use Rattle.lay_point.specs.declared.point.Point.{Point}
-use Rattle.lay_point.specs.Edges.{is_before}
 use Rattle.lay_point.proofs.Members.{Has, contains}
 use Rattle.face_rows.specs.Owner.{Owner}
 use Rattle.face_rows.specs.Rounded.{Owned}
@@ -26,18 +24,6 @@ use Rattle.face_rows.specs.Rows.{upward}
 use Rattle.face_sweep.specs.Starts.{HasLabel, IsStartOf, start_of, starts_of}
 use Rattle.face_rows.proofs.PickedLemmas.{picked_has, picked_of}
 use Rattle.face_rows.proofs.RowLemmas.{has_get}
-
--- ---- the lesser end first
-pub one_more_lesser : (edges : List (Point × Point)) (n : ℕ) (e : Point × Point) → n < length edges → e ≡ get_or edges n e
-    → is_before e.0 e.1 ≡ true
-    → ((k : ℕ) (d : Point × Point) → k < n → is_before (get_or edges k d).0 (get_or edges k d).1 ≡ true)
-    → (k : ℕ) (d : Point × Point) → k < n + 1 → is_before (get_or edges k d).0 (get_or edges k d).1 ≡ true
-one_more_lesser edges n e less is_e lesser so_far k d lt = ⊎_elim
-    (λ (before : k < n). so_far k d before)
-    (λ (ge : n ≤ k).
-    let same : n ≡ k = omega arith in
-    subst (λ z. is_before z.0 z.1 ≡ true) (is_e ∙ get_or_default edges n e d less ∙ ap (λ i. get_or edges i d) same) lesser)
-    (cases_lt k n)
 
 -- ---- labels that are written
 label_kept : (op : Op) (r : Owned) (labels : List Bool) (n : ℕ) (label : Bool) (s : Start) → n < length labels

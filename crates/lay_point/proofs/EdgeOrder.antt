@@ -1,12 +1,13 @@
 -- The orders of points and of undirected edges are strict, that of points is total, and tests of points and edges decide.
-use Rattle.std.proofs.Common.{◌≡◌, ◌⊎◌, inl, inr, Bool, true, false, cond, ◌&&◌, ℤ, ◌<ℤ◌, refl, sym, ap₂, subst, ◌∙◌}
+use Rattle.std.proofs.Common.{◌≡◌, ◌⊎◌, inl, inr, Bool, true, false, cond, ◌&&◌, ℤ, ◌<ℤ◌, refl, sym, ap₂, subst, ◌∙◌, ◌||◌}
 use Rattle.std.proofs.Common.{arith, ⊎_elim, int_eq, ℕ, ◌+◌, ◌<◌, ◌≤◌, List, length, get_or, ap}
 use Rattle.std.proofs.lemmas.Int.{ints, by_lt_z}
 use Rattle.std.proofs.lemmas.Bool.Decides.{Decides-int_eq}
 use Rattle.std.proofs.lemmas.Bool.{and_parts, cases_lt, false_from_ne_true}
 use Rattle.std.proofs.lemmas.List.{get_or_default}
 use Rattle.lay_point.specs.declared.point.Point.{Point}
-use Rattle.lay_point.specs.Edges.{is_before, undirected, IsEdgeBefore, same_edge}
+use Rattle.lay_point.specs.Edges.{IsEdgeBefore, is_before, same_edge, touches, undirected}
+use Rattle.lay_point.specs.Parity.{xor}
 use Rattle.lay_point.specs.Points.{IsBefore, point_eq}
 use Rattle.lay_point.proofs.Parity.{IsEquality}
 use Rattle.lay_point.proofs.Rising.{IsStrictOrder}
@@ -33,6 +34,15 @@ edges_decide = record {
       let both = and_parts (point_eq e.0 f.0) (point_eq e.1 f.1) g in
       differ (λ i. (same_by_test e.0 f.0 both.0 i, same_by_test e.1 f.1 both.1 i)));
 }
+
+-- one end of a proper edge is a point where the edge touches it
+pub one_end : (v : Point) (e : Point × Point) → ¬ (e.0 ≡ e.1) → xor (point_eq e.0 v) (point_eq e.1 v) ≡ touches v e
+one_end v e apart = by_tests (point_eq e.0 v) (point_eq e.1 v) (λ f g. apart (same_by_test e.0 v f ∙ sym (same_by_test e.1 v g)))
+  where
+    by_tests : (a b : Bool) → (a ≡ true → b ≡ true → ⊥) → xor a b ≡ (a || b)
+    by_tests false b h = refl
+    by_tests true false h = refl
+    by_tests true true h = absurd (h refl refl)
 
 pub before_by_test : (p q : Point) → is_before p q ≡ true → IsBefore p q
 before_by_test p q e = grind (arith, ints)

@@ -2,9 +2,10 @@
 use Rattle.std.proofs.Common.{◌≡◌, ◌⊎◌, inl, inr, ⊎_elim, ◌↔◌, Bool, true, false, cond, List, [], ◌∷◌, Contains, ℤ, pos, ◌+ℤ◌, ◌*ℤ◌}
 use Rattle.std.proofs.Common.{◌≤ℤ◌, ◌<ℤ◌, neg_ℤ, refl, sym, subst, arith, ◌∙◌}
 use Rattle.std.specs.Prelude.{filter, int_le, ◌||◌}
-use Rattle.std.proofs.lemmas.Int.{ints}
+use Rattle.std.proofs.lemmas.Bool.{or_left, or_right}
 use Rattle.snap_segments.proofs.Polynomials.{#, lit, ◌⊕◌, ◌⊖◌, ◌⊗◌, identity}
 use Rattle.snap_segments.proofs.Signs.{linear, below_or_not}
+use Rattle.snap_segments.proofs.Tests.{true_le}
 use Rattle.lay_point.specs.declared.point.Point.{Point}
 use Rattle.lay_point.proofs.Members.{Has, contains, has}
 use Rattle.snap_pixels.specs.declared.cut.Cut.{Cut}
@@ -15,17 +16,6 @@ use Rattle.snap_pixels.specs.Cuts.{reach, reaches_high, reaches_low}
 use Rattle.snap_pixels.specs.Hot.{IsHot}
 use Rattle.snap_segments.specs.Segments.{Crosses, IsFraction, along}
 use Rattle.snap_segments.proofs.BoxLemmas.{along_at_least, along_at_most}
-
-true_le : (a b : ℤ) → a ≤ℤ b → int_le a b ≡ true
-true_le a b h = grind (arith, ints)
-
-or_left : (a b : Bool) → a ≡ true → (a || b) ≡ true
-or_left true b h = refl
-or_left false b h = absurd cc
-
-or_right : (a b : Bool) → b ≡ true → (a || b) ≡ true
-or_right true b h = refl
-or_right false b h = h
 
 -- ---- along one axis
 low_from : (k t a b m : ℤ) → IsFraction t k → along k t a b ≤ℤ (m *ℤ k) → (int_le a m || int_le b m) ≡ true

@@ -3,7 +3,9 @@ use Rattle.std.proofs.Common.{◌≡◌, inl, inr, ◌↔◌, Bool, true, false,
 use Rattle.std.proofs.Common.{refl, arith}
 use Rattle.std.specs.Prelude.{flat_map, int_le, int_lt}
 use Rattle.std.proofs.lemmas.Int.{ints}
+use Rattle.std.proofs.lemmas.Bool.{and_from, and_parts, both_ways}
 use Rattle.lay_int_laws.proofs.Signs.{linear}
+use Rattle.lay_int_laws.proofs.Tests.{le_true, lt_true, true_le}
 use Rattle.lay_point.specs.declared.point.Point.{Point}
 use Rattle.lay_point.specs.Points.{IsBefore}
 use Rattle.snap_segments.specs.Segments.{Crosses, IsFraction, along, cross}
@@ -12,7 +14,6 @@ use Rattle.snap_segments.proofs.RoundLemmas.{IsRoundedTo-quotient}
 use Rattle.snap_chains.proofs.Members.{Has}
 use Rattle.snap_round_laws.specs.Crossings.{crossing_of, hot_centres, is_fraction, left_crossing, marks_of, nearest}
 use Rattle.snap_round_laws.specs.Sorting.{point_order}
-use Rattle.snap_round_laws.proofs.InRange.{and_true, both_true, le_by_test, test_by_le}
 use Rattle.snap_round_laws.proofs.Sides.{IsMarked}
 use Rattle.snap_round_laws.proofs.Sorting.{
   filter_map_has,
@@ -25,25 +26,16 @@ use Rattle.snap_round_laws.proofs.Sorting.{
 }
 
 -- ---- tests
-pub lt_by_test : (a b : ℤ) → int_lt a b ≡ true → a <ℤ b
-lt_by_test a b e = grind (arith, ints)
-
-pub test_by_lt : (a b : ℤ) → a <ℤ b → int_lt a b ≡ true
-test_by_lt a b h = grind (arith, ints)
-
 neither_lt : (a b : ℤ) → int_lt a b ≡ false → int_lt b a ≡ false → b ≡ a
 neither_lt a b e f = grind (arith, ints)
 
 fraction_by_test : (t k : ℤ) → pos 0 <ℤ k → is_fraction t k ≡ true → IsFraction t k
 fraction_by_test t k positive e =
-    let both = both_true (int_le (pos 0) t) (int_le t k) e in
-    record { scale = omega (arith, linear); low = le_by_test (pos 0) t both.0; high = le_by_test t k both.1 }
+    let both = and_parts (int_le (pos 0) t) (int_le t k) e in
+    record { scale = omega (arith, linear); low = le_true (pos 0) t both.0; high = le_true t k both.1 }
 
 test_by_fraction : (t k : ℤ) → IsFraction t k → is_fraction t k ≡ true
-test_by_fraction t k f = and_true (int_le (pos 0) t) (int_le t k) (test_by_le (pos 0) t f.low) (test_by_le t k f.high)
-
-true_and_false : (b : Bool) → b ≡ true → b ≡ false → ⊥
-true_and_false b e f = absurd cc
+test_by_fraction t k f = and_from (int_le (pos 0) t) (int_le t k) (true_le (pos 0) t f.low) (true_le t k f.high)
 
 -- ---- crossings
 module _ (a b c d : Point) (left : pos 0 <ℤ cross a b c d) where
@@ -71,9 +63,9 @@ module _ (a b c d : Point) (left : pos 0 <ℤ cross a b c d) where
     row = IsRoundedTo-quotient (along k t a.y b.y) k one;
   })
   left_by_tests true false ef eg = Crosses-none a b c d left
-      (λ p (f : IsFound a b c d left p). true_and_false (is_fraction u k) (test_by_fraction u k f.second) eg)
+      (λ p (f : IsFound a b c d left p). both_ways (is_fraction u k) eg (test_by_fraction u k f.second))
   left_by_tests false g ef eg = Crosses-none a b c d left
-      (λ p (f : IsFound a b c d left p). true_and_false (is_fraction t k) (test_by_fraction t k f.first) ef)
+      (λ p (f : IsFound a b c d left p). both_ways (is_fraction t k) ef (test_by_fraction t k f.first))
 
   left_is : (p : Point) → Crosses a b c d p ↔ (left_crossing a b c d ≡ Some p)
   left_is = left_by_tests (is_fraction t k) (is_fraction u k) refl refl
@@ -84,10 +76,10 @@ crossing_is a b c d = by_signs (int_lt (pos 0) (cross a b c d)) (int_lt (cross a
   where
     by_signs : (l r : Bool) → int_lt (pos 0) (cross a b c d) ≡ l → int_lt (cross a b c d) (pos 0) ≡ r
         → (p : Point) → Crosses a b c d p ↔ (cond l (left_crossing a b c d) (cond r (left_crossing a b d c) None) ≡ Some p)
-    by_signs true r el er = left_is a b c d (lt_by_test (pos 0) (cross a b c d) el)
+    by_signs true r el er = left_is a b c d (lt_true (pos 0) (cross a b c d) el)
     by_signs false true el er =
         Crosses-same_turned a b c d a b c d (left_crossing a b d c) refl refl refl refl
-        (left_is a b d c (turned_left a b c d (lt_by_test (cross a b c d) (pos 0) er)))
+        (left_is a b d c (turned_left a b c d (lt_true (cross a b c d) (pos 0) er)))
     by_signs false false el er = Crosses-parallel a b c d (neither_lt (pos 0) (cross a b c d) el er)
 
 -- ---- hot centres

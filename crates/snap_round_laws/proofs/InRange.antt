@@ -1,13 +1,14 @@
 -- What rounding makes is in order, clean and in range. A place between two coordinates is rounded to one between them, so a hot centre
 -- is no further out than the ends of the sides.
-use Rattle.std.proofs.Common.{◌≡◌, inl, inr, Bool, true, false, cond, ◌&&◌, List, [], ◌∷◌, ℤ, neg_ℤ, ◌-ℤ◌, ◌*ℤ◌}
+use Rattle.std.proofs.Common.{◌≡◌, inl, inr, Bool, true, false, cond, List, [], ◌∷◌, ℤ, neg_ℤ, ◌-ℤ◌, ◌*ℤ◌}
 use Rattle.std.proofs.Common.{◌≤ℤ◌, refl, subst, arith, ⊎_elim, Contains}
 use Rattle.std.specs.Prelude.{int_le}
 use Rattle.std.specs.List.{AllByRecursion, list_all}
-use Rattle.std.proofs.lemmas.Int.{ints}
 use Rattle.std.proofs.lemmas.List.Elements.{recursion_from_All}
+use Rattle.std.proofs.lemmas.Bool.{and_from, and_parts, both_ways}
 use Rattle.lay_int_laws.proofs.Polynomials.{#, ◌⊕◌, ◌⊖◌, ◌⊗◌, identity}
 use Rattle.lay_int_laws.proofs.Signs.{linear, times_le}
+use Rattle.lay_int_laws.proofs.Tests.{le_true, true_le}
 use Rattle.lay_point.specs.declared.point.Point.{Point}
 use Rattle.lay_point.specs.declared.point.TheConstants.{LIMIT}
 use Rattle.lay_point.specs.Edges.{is_before, undirected}
@@ -63,11 +64,8 @@ lesser_first p differ = by_test (is_before p.0 p.1) refl
     by_test : (b : Bool) → is_before p.0 p.1 ≡ b → is_before (cond b p (p.1, p.0)).0 (cond b p (p.1, p.0)).1 ≡ true
     by_test true e = e
     by_test false e = ⊎_elim (λ same. absurd (differ same))
-        (⊎_elim (λ less. absurd (true_and_false (is_before p.0 p.1) (test_by_before p.0 p.1 less) e)) (λ more. test_by_before p.1 p.0 more))
+        (⊎_elim (λ less. absurd (both_ways (is_before p.0 p.1) e (test_by_before p.0 p.1 less))) (λ more. test_by_before p.1 p.0 more))
         (before_total p.0 p.1)
-      where
-        true_and_false : (c : Bool) → c ≡ true → c ≡ false → ⊥
-        true_and_false c e g = absurd cc
 
 pub rounded_is_rounded : RoundedIsRounded
 rounded_is_rounded rings are r h = record {
@@ -90,37 +88,23 @@ pub record IsInside (p : Point) : Type 0 where
   pub low : neg_ℤ LIMIT ≤ℤ p.y
   pub high : p.y ≤ℤ LIMIT
 
-pub both_true : (a b : Bool) → (a && b) ≡ true → (a ≡ true) × (b ≡ true)
-both_true true b e = (refl, e)
-both_true false b e = absurd cc
-
-pub and_true : (a b : Bool) → a ≡ true → b ≡ true → (a && b) ≡ true
-and_true true b e f = f
-and_true false b e f = absurd cc
-
-pub le_by_test : (a b : ℤ) → int_le a b ≡ true → a ≤ℤ b
-le_by_test a b e = grind (arith, ints)
-
-pub test_by_le : (a b : ℤ) → a ≤ℤ b → int_le a b ≡ true
-test_by_le a b h = grind (arith, ints)
-
 inside_by_test : (p : Point) → is_in_range p ≡ true → IsInside p
 inside_by_test p e =
-    let both = both_true (is_coordinate p.x) (is_coordinate p.y) e in
-    let x = both_true (int_le (neg_ℤ LIMIT) p.x) (int_le p.x LIMIT) both.0 in
-    let y = both_true (int_le (neg_ℤ LIMIT) p.y) (int_le p.y LIMIT) both.1 in
+    let both = and_parts (is_coordinate p.x) (is_coordinate p.y) e in
+    let x = and_parts (int_le (neg_ℤ LIMIT) p.x) (int_le p.x LIMIT) both.0 in
+    let y = and_parts (int_le (neg_ℤ LIMIT) p.y) (int_le p.y LIMIT) both.1 in
     record {
-      left = le_by_test (neg_ℤ LIMIT) p.x x.0;
-      right = le_by_test p.x LIMIT x.1;
-      low = le_by_test (neg_ℤ LIMIT) p.y y.0;
-      high = le_by_test p.y LIMIT y.1;
+      left = le_true (neg_ℤ LIMIT) p.x x.0;
+      right = le_true p.x LIMIT x.1;
+      low = le_true (neg_ℤ LIMIT) p.y y.0;
+      high = le_true p.y LIMIT y.1;
     }
 
 test_by_inside : (p : Point) → IsInside p → is_in_range p ≡ true
 test_by_inside p h =
-    and_true (is_coordinate p.x) (is_coordinate p.y)
-    (and_true (int_le (neg_ℤ LIMIT) p.x) (int_le p.x LIMIT) (test_by_le (neg_ℤ LIMIT) p.x h.left) (test_by_le p.x LIMIT h.right))
-    (and_true (int_le (neg_ℤ LIMIT) p.y) (int_le p.y LIMIT) (test_by_le (neg_ℤ LIMIT) p.y h.low) (test_by_le p.y LIMIT h.high))
+    and_from (is_coordinate p.x) (is_coordinate p.y)
+    (and_from (int_le (neg_ℤ LIMIT) p.x) (int_le p.x LIMIT) (true_le (neg_ℤ LIMIT) p.x h.left) (true_le p.x LIMIT h.right))
+    (and_from (int_le (neg_ℤ LIMIT) p.y) (int_le p.y LIMIT) (true_le (neg_ℤ LIMIT) p.y h.low) (true_le p.y LIMIT h.high))
 
 -- a mixture of two numbers isn't beyond what neither is beyond
 along_low : (m k t a b : ℤ) → IsFraction t k → m ≤ℤ a → m ≤ℤ b → (m *ℤ k) ≤ℤ along k t a b
@@ -152,8 +136,8 @@ inside_along a b c k t ha hb f place = record {
 point_inside : (ps : List Point) → list_all is_in_range ps ≡ true → (p : Point) → Has ps p → IsInside p
 point_inside [] h p m = absurd m
 point_inside (q ∷ ps) h p (inl e) =
-    subst IsInside e (inside_by_test q (both_true (is_in_range q) (list_all is_in_range ps) h).0)
-point_inside (q ∷ ps) h p (inr m) = point_inside ps (both_true (is_in_range q) (list_all is_in_range ps) h).1 p m
+    subst IsInside e (inside_by_test q (and_parts (is_in_range q) (list_all is_in_range ps) h).0)
+point_inside (q ∷ ps) h p (inr m) = point_inside ps (and_parts (is_in_range q) (list_all is_in_range ps) h).1 p m
 
 on_ring : (ring : List Point) (p : Point) → Has (closed_walk ring) p → Has ring p
 on_ring [] p m = absurd m

@@ -10,6 +10,7 @@ use Rattle.std.proofs.lemmas.Bool.Decides.{Decides-like}
 use Rattle.std.proofs.lemmas.Cmp.{int_ranked}
 use Rattle.lay_int_laws.proofs.Polynomials.{#, lit, ◌⊕◌, ◌⊖◌, ◌⊗◌, identity}
 use Rattle.lay_int_laws.proofs.Signs.{linear, nonnegative_product, positive_product, cancel_nonnegative, cancel_positive}
+use Rattle.lay_int_laws.proofs.Tests.{le_true, lt_true, true_le, true_lt}
 use Rattle.lay_point.specs.declared.point.Point.{Point}
 use Rattle.snap_segments.specs.Segments.{Meets, along}
 use Rattle.snap_segments.specs.Sides.{depth}
@@ -29,8 +30,6 @@ use Rattle.snap_round_laws.specs.Meeting.{
 }
 use Rattle.snap_round_laws.specs.Meeting.{narrower, unit_start, upper}
 use Rattle.snap_round_laws.specs.Sorting.{by_order}
-use Rattle.snap_round_laws.proofs.Crossing.{lt_by_test, test_by_lt}
-use Rattle.snap_round_laws.proofs.InRange.{le_by_test, test_by_le}
 
 -- the fraction t / k is within the bound
 abbrev IsIn : Bound → ℤ → ℤ → Type 0
@@ -145,12 +144,12 @@ level_is s k t level one = by_strict s.is_strict
     by_strict : (b : Bool) → Decides (cond b (int_lt (pos 0) s.offset) (int_le (pos 0) s.offset))
         (MatchBool b (pos 0 <ℤ (s.slope *ℤ t +ℤ s.offset *ℤ k)) (pos 0 ≤ℤ (s.slope *ℤ t +ℤ s.offset *ℤ k)))
     by_strict true = (
-      (λ e. subst (λ z. pos 0 <ℤ z) (sym height) (positive_product k s.offset (omega (arith, linear)) (lt_by_test (pos 0) s.offset e))),
-      (λ h. test_by_lt (pos 0) s.offset (cancel_positive k s.offset (omega (arith, linear)) (subst (λ z. pos 0 <ℤ z) height h))),
+      (λ e. subst (λ z. pos 0 <ℤ z) (sym height) (positive_product k s.offset (omega (arith, linear)) (lt_true (pos 0) s.offset e))),
+      (λ h. true_lt (pos 0) s.offset (cancel_positive k s.offset (omega (arith, linear)) (subst (λ z. pos 0 <ℤ z) height h))),
     )
     by_strict false = (
-      (λ e. subst (λ z. pos 0 ≤ℤ z) (sym height) (nonnegative_product k s.offset (omega (arith, linear)) (le_by_test (pos 0) s.offset e))),
-      (λ h. test_by_le (pos 0) s.offset (cancel_nonnegative k s.offset (omega (arith, linear)) (subst (λ z. pos 0 ≤ℤ z) height h))),
+      (λ e. subst (λ z. pos 0 ≤ℤ z) (sym height) (nonnegative_product k s.offset (omega (arith, linear)) (le_true (pos 0) s.offset e))),
+      (λ h. true_le (pos 0) s.offset (cancel_nonnegative k s.offset (omega (arith, linear)) (subst (λ z. pos 0 ≤ℤ z) height h))),
     )
 
 -- ---- all bounds

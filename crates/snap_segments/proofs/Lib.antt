@@ -6,3 +6,4 @@ pub mod RoundLemmas
 pub mod SideLemmas
 pub use Rattle.lay_int_laws.proofs.Polynomials
 pub use Rattle.lay_int_laws.proofs.Signs
+pub use Rattle.lay_int_laws.proofs.Tests

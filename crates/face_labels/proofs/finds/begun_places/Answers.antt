@@ -9,7 +9,8 @@ use Rattle.std.proofs.lemmas.List.Elements.{All-push, Contains-append_left, Cont
 use Rattle.face_sides.specs.Start.{Start}
 use Rattle.face_sides.specs.Lines.{edge_at, nowhere}
 use Rattle.face_sides.specs.Rows.{AreSomeRowEdges, crosses_row}
-use Rattle.face_sides.proofs.KeptLemmas.{begins_in_front, late_from, lt_true}
+use Rattle.face_sides.proofs.KeptLemmas.{begins_in_front, late_from}
+use Rattle.face_sides.proofs.Tests.{lt_true}
 use Rattle.face_labels.proofs.finds.begun_places.Goals as goal
 use Rattle.face_labels.proofs.finds.begun_places.Goals.{then-crosses_row+in_ok-push, else-crosses_row}
 

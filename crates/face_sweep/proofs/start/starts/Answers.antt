@@ -1,9 +1,9 @@
 use Rattle.std.proofs.Common.{◌≡◌, ◌+◌, ◌++◌, [], ◌∷◌, true, false, take, sym, ap, ◌∙◌, rules}
+use Rattle.lay_point.proofs.EdgeOrder.{one_more_lesser}
 use Rattle.face_rows.specs.Bands.{begins_in}
 use Rattle.face_sweep.specs.Starts.{start_of, starts_of}
 use Rattle.face_sweep.proofs.KeptLemmas.{by_row}
 use Rattle.face_rows.proofs.PickedLemmas.{picked_more, picked_passed}
-use Rattle.face_sweep.proofs.StartLemmas.{one_more_lesser}
 use Rattle.face_sweep.proofs.start.starts.Goals as goal
 use Rattle.face_sweep.proofs.start.starts.Goals.{then-has+in_ok-push, else-has}
 
