@@ -36,11 +36,11 @@ use Rattle.txn_commands.proofs.Lists.{all_parts}
 use Rattle.txn_commands.proofs.Lying.{filter-alike_maps}
 use Rattle.txn_rules.proofs.Reach.{all_among, reached-walks}
 
-cells_swapped : (c d : CellId) → cell_eq c d ≡ cell_eq d c
+pub cells_swapped : (c d : CellId) → cell_eq c d ≡ cell_eq d c
 cells_swapped c d = same_from_decides (cell_eq c d) (cell_eq d c) (cell_eq-Decides c d)
     ((λ h. sym ((cell_eq-Decides d c).0 h)), (λ e. (cell_eq-Decides d c).1 (sym e)))
 
-names_swapped : (a b : List ℕ) → names_eq a b ≡ names_eq b a
+pub names_swapped : (a b : List ℕ) → names_eq a b ≡ names_eq b a
 names_swapped a b = same_from_decides (names_eq a b) (names_eq b a) (bytes_eq-Decides a b)
     ((λ h. sym ((bytes_eq-Decides b a).0 h)), (λ e. (bytes_eq-Decides b a).1 (sym e)))
 

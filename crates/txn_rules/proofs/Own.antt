@@ -48,7 +48,7 @@ NamesNew new id act = Names act.done id → IsNew new act.made id
 
 named_new : (new : ItemId) (l : Layout) (act : Act) (id : ItemId) → IsPlanned new l act → NamesNew new id act
 named_new new l act id (draws cell layer ring there is same) = subst (NamesNew new id) same (only_new new id)
-named_new new l act id (places cell target turn there found near apart same) = subst (NamesNew new id) same (only_new new id)
+named_new new l act id (places cell target turn is) = subst (NamesNew new id) is.acts (only_new new id)
 named_new new l act id (deletes q same) = subst (NamesNew new id) same (λ h. absurd h)
 named_new new l act id (moves q shift item there near same) = subst (NamesNew new id) same (λ h. absurd h)
 named_new new l act id (relayers q layer old cell rings there same) = subst (NamesNew new id) same (λ h. absurd h)
@@ -112,8 +112,8 @@ stood : (new : ItemId) (l : Layout) (act : Act) (q : ItemId) (x : items.Item) �
 stood new l act q x (draws cell layer ring there is same) h = made_stood new l (shape_of cell layer ring) act q x
     (ap (λ (a : Act). a.made) same)
     (ap (λ (a : Act). item_at (rewritten l a.items a.symbols) q) same ∙ h)
-stood new l act q x (places cell target turn there found near apart same) h = made_stood new l (Placed cell target turn) act q x
-    (ap (λ (a : Act). a.made) same) (ap (λ (a : Act). item_at (rewritten l a.items a.symbols) q) same ∙ h)
+stood new l act q x (places cell target turn is) h = made_stood new l (Placed cell target turn) act q x
+    (ap (λ (a : Act). a.made) is.acts) (ap (λ (a : Act). item_at (rewritten l a.items a.symbols) q) is.acts ∙ h)
 stood new l act q x (deletes id same) h = elim (written_value ids_total ids_exact l.items id None q x
     (ap (λ (a : Act). item_at (rewritten l a.items a.symbols) q) same ∙ h)) [
       | inl here ↦ absurd (cc (here.1))

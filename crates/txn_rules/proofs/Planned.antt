@@ -33,20 +33,20 @@ use Rattle.txn_commands.specs.declared.command.Command.TheVariants.{SetLayer}
 use Rattle.txn_commands.specs.declared.element.Element.{Element}
 use Rattle.txn_commands.specs.declared.element.Element.TheVariants.{Calls, Cell, Content, Item, Uses}
 use Rattle.txn_commands.specs.declared.fault.CmdFault.{CmdFault}
-use Rattle.txn_commands.specs.declared.fault.CmdFault.TheVariants.{CellThere, CellUsed, Cycle, FewPoints, NoCell, NoItem, OutOfRange}
+use Rattle.txn_commands.specs.declared.fault.CmdFault.TheVariants.{CellThere, CellUsed, FewPoints, NoCell, NoItem, OutOfRange}
 use Rattle.txn_commands.specs.Op.{Op}
 use Rattle.txn_commands.specs.Shapes.{Rings}
 use Rattle.txn_commands.specs.Booleans.{bool_shapes}
 use Rattle.txn_commands.specs.Acts.{Act, bool_act, cell_elements, change_act, drop_cell_act}
-use Rattle.txn_commands.specs.Acts.{look_act, make_act, make_cell_act, place_act, shape_act}
+use Rattle.txn_commands.specs.Acts.{look_act, make_act, make_cell_act, shape_act}
 use Rattle.txn_commands.specs.Covers.{IsCovered, has}
 use Rattle.txn_commands.specs.Elements.{element_cmp, elements_total}
 use Rattle.txn_commands.specs.Figures.{box_ring, is_item_in_range, moved, shape_of}
 use Rattle.txn_commands.specs.Plans.{is_used, move_to, plan, refused_if, relayer, ring_act, shape_ids}
-use Rattle.txn_commands.specs.Reach.{is_among, reached}
+use Rattle.txn_commands.specs.Reach.{reached}
 use Rattle.txn_rules.proofs.Booleans.{replaced_by, replaced_covered}
 use Rattle.txn_rules.proofs.Rings.{box_ring-ring, ring_of-ring}
-use Rattle.txn_rules.proofs.SamePlans.{drawn_by, given, moved_to, passed, relayered}
+use Rattle.txn_rules.proofs.SamePlans.{HasPlaced, drawn_by, given, has_placed, moved_to, passed, relayered}
 
 pub data IsPlanned (new : ItemId) (l : Layout) (act : Act) : Type 0 where
   draws : (cell : CellId) (layer : List ℕ) (ring : List Point) → is_cell l cell ≡ true → IsRing ring
@@ -56,9 +56,7 @@ pub data IsPlanned (new : ItemId) (l : Layout) (act : Act) : Type 0 where
       → change_act id (Some (moved shift item)) ≡ act → IsPlanned new l act
   relayers : (id : ItemId) (layer old : List ℕ) (cell : CellId) (rings : List (List Point)) → item_at l id ≡ Some (Shape cell old rings)
       → change_act id (Some (Shape cell layer rings)) ≡ act → IsPlanned new l act
-  places : (cell : CellId) (target : ℕ) (turn : Turn) → is_cell l cell ≡ true → is_cell l (Symbol target) ≡ true
-      → is_in_range turn.shift ≡ true → is_among cell (reached l (Symbol target)) ≡ false
-      → place_act new cell target turn (reached l (Symbol target)) ≡ act → IsPlanned new l act
+  places : (cell : CellId) (target : ℕ) (turn : Turn) → HasPlaced new cell target turn l act → IsPlanned new l act
   looks : (id : ItemId) (item : items.Item) → item_at l id ≡ Some item → look_act id item ≡ act → IsPlanned new l act
   replaces : (op : Op) (cell : CellId) (a b out : List ℕ) (shapes : List Rings) → bool_shapes l op cell a b ≡ Ok shapes
       → bool_act new cell a b out (reached l cell) (shape_ids l cell out) shapes ≡ act → IsPlanned new l act
@@ -91,22 +89,6 @@ planned_poly new cell layer points l act h =
     let ring = drawn_by new cell layer (ring_of points) act there.1 in
     draws cell layer ring.0 (not-false (is_cell l cell) there.0) (ring_of-ring points ring.0 ring.1) ring.2
 
-planned_place : (new : ItemId) (cell : CellId) (target : ℕ) (turn : Turn) (l : Layout) (act : Act) →
-    plan new (Place cell target turn) l ≡ Ok act → IsPlanned new l act
-unfolding plan
-planned_place new cell target turn l act h =
-    let cells = reached l (Symbol target) in
-    let known = place_act new cell target turn cells in
-    let fourth : Result Act CmdFault = refused_if (is_among cell cells) Cycle (Ok known) in
-    let third : Result Act CmdFault = refused_if (not (is_in_range turn.shift)) OutOfRange fourth in
-    let second : Result Act CmdFault = refused_if (not (is_cell l (Symbol target))) NoCell third in
-    let there = passed (not (is_cell l cell)) NoCell second act h in
-    let found = passed (not (is_cell l (Symbol target))) NoCell third act there.1 in
-    let near = passed (not (is_in_range turn.shift)) OutOfRange fourth act found.1 in
-    let acyclic = passed (is_among cell cells) Cycle (Ok known) act near.1 in
-    places cell target turn (not-false (is_cell l cell) there.0) (not-false (is_cell l (Symbol target)) found.0)
-    (not-false (is_in_range turn.shift) near.0) acyclic.0 (cc (acyclic.1))
-
 pub planned : (new : ItemId) (command : Command) (l : Layout) (act : Act) → plan new command l ≡ Ok act → IsPlanned new l act
 unfolding plan
 planned new (Box cell layer a b) l act h = planned_box new cell layer a b l act h
@@ -122,7 +104,7 @@ planned new (SetLayer id layer) l act h =
     let item = given (item_at l id) NoItem (relayer id layer) act h in
     let shape = relayered id layer item.0 act item.2 in
     relayers id layer shape.1 shape.0 shape.2 (item.1 ∙ ap Some shape.3) shape.4
-planned new (Place cell target turn) l act h = planned_place new cell target turn l act h
+planned new (Place cell target turn) l act h = places cell target turn (has_placed new cell target turn l act h)
 planned new (Look id) l act h =
     let item = given (item_at l id) NoItem (λ x. Ok (look_act id x)) act h in looks id item.0 item.1 (cc (item.2))
 planned new (Combine op cell a b out) l act h =
@@ -155,7 +137,7 @@ covered new l act (deletes id same) = subst IsCovered same (changed_covered id N
 covered new l act (moves id shift item there near same) = subst IsCovered same (changed_covered id (Some (moved shift item)))
 covered new l act (relayers id layer old cell rings there same) =
     subst IsCovered same (changed_covered id (Some (Shape cell layer rings)))
-covered new l act (places cell target turn there found near acyclic same) = subst IsCovered same
+covered new l act (places cell target turn is) = subst IsCovered is.acts
     (made_covered new (Placed cell target turn) (cell_elements cell ++ Cell target ∷ map Calls (reached l (Symbol target))))
 covered new l act (looks id item there same) = subst IsCovered same (record { items = tt; symbols = tt })
 covered new l act (replaces op cell a b out shapes some same) =

@@ -1,7 +1,7 @@
 -- A command that is accepted does the same on each sound layout that agrees with the first on the elements that it touches.
 use Rattle.std.proofs.Common.{◌≡◌, ℕ, Bool, true, false, not, ◌||◌, ◌&&◌, List, [], ◌∷◌, map, Option, None, Some, is_some}
 use Rattle.std.proofs.Common.{Result, Ok, Err, nat_lt, refl, ap, sym, subst, ◌∙◌, inl, inr}
-use Rattle.std.proofs.lemmas.Bool.{or_cases}
+use Rattle.std.proofs.lemmas.Bool.{not-false, or_cases}
 use Rattle.std.specs.FinMap.{entries, get}
 use Rattle.std.specs.Ordering.{int_eq}
 use Rattle.lay_calls.specs.declared.cell_id.CellId.{CellId}
@@ -143,10 +143,18 @@ same_poly new cell layer points l m act h agree =
     in_cell l m cell (ring_act new cell layer (ring_of points)) act
     (agree_on l m (shape_act new cell (shape_of cell layer ring.0)) act ring.2 agree).1 h
 
-same_place : (new : ItemId) (cell : CellId) (target : ℕ) (turn : Turn) (l m : Layout) (act : Act) →
-    plan new (Place cell target turn) l ≡ Ok act → AgreeOnEach l m act.elements → plan new (Place cell target turn) m ≡ Ok act
+-- what a call that is placed has passed, and what it does
+pub record HasPlaced (new : ItemId) (cell : CellId) (target : ℕ) (turn : Turn) (l : Layout) (act : Act) : Type 0 where
+  pub there : is_cell l cell ≡ true
+  pub found : is_cell l (Symbol target) ≡ true
+  pub near : is_in_range turn.shift ≡ true
+  pub acyclic : is_among cell (reached l (Symbol target)) ≡ false
+  pub acts : place_act new cell target turn (reached l (Symbol target)) ≡ act
+
+pub has_placed : (new : ItemId) (cell : CellId) (target : ℕ) (turn : Turn) (l : Layout) (act : Act) →
+    plan new (Place cell target turn) l ≡ Ok act → HasPlaced new cell target turn l act
 unfolding plan
-same_place new cell target turn l m act h agree =
+has_placed new cell target turn l act h =
     let cells = reached l (Symbol target) in
     let known = place_act new cell target turn cells in
     let fourth : Result Act CmdFault = refused_if (is_among cell cells) Cycle (Ok known) in
@@ -156,8 +164,21 @@ same_place new cell target turn l m act h agree =
     let found = passed (not (is_cell l (Symbol target))) NoCell third act there.1 in
     let near = passed (not (is_in_range turn.shift)) OutOfRange fourth act found.1 in
     let acyclic = passed (is_among cell cells) Cycle (Ok known) act near.1 in
-    let same : known ≡ act = cc (acyclic.1) in
-    let parts = all_parts (Agree l m) (cell_elements cell) (Cell target ∷ map Calls cells) (agree_on l m known act same agree).1 in
+    record {
+      there = not-false (is_cell l cell) there.0;
+      found = not-false (is_cell l (Symbol target)) found.0;
+      near = not-false (is_in_range turn.shift) near.0;
+      acyclic = acyclic.0;
+      acts = cc (acyclic.1);
+    }
+
+same_place : (new : ItemId) (cell : CellId) (target : ℕ) (turn : Turn) (l m : Layout) (act : Act) →
+    plan new (Place cell target turn) l ≡ Ok act → AgreeOnEach l m act.elements → plan new (Place cell target turn) m ≡ Ok act
+unfolding plan
+same_place new cell target turn l m act h agree =
+    let cells = reached l (Symbol target) in
+    let same = (has_placed new cell target turn l act h).acts in
+    let parts = all_parts (Agree l m) (cell_elements cell) (Cell target ∷ map Calls cells) (agree_on l m (place_act new cell target turn cells) act same agree).1 in
     let at_cell : is_cell m cell ≡ is_cell l cell = sym (same_is_cell l m cell parts.0) in
     let at_target : is_cell m (Symbol target) ≡ is_cell l (Symbol target) = sym (ap is_some (same_slot l m target parts.1.0)) in
     let at_calls : reached m (Symbol target) ≡ cells = same_reach l m (Symbol target) (all_mapped (Agree l m) Calls cells parts.1.1) in

@@ -271,8 +271,8 @@ act-sound new l act (moves id shift item there near same) sound = subst (λ (a :
     (moves-sound l id shift item sound there near)
 act-sound new l act (relayers id layer old cell rings there same) sound = subst (λ (a : Act). IsSound (acted_on l a)) same
     (shape-sound l id cell layer rings sound (sound.items id (Shape cell old rings) there))
-act-sound new l act (places cell target turn there found near apart same) sound = subst (λ (a : Act). IsSound (acted_on l a)) same
-    (places-sound l new cell target turn sound there found near apart)
+act-sound new l act (places cell target turn is) sound = subst (λ (a : Act). IsSound (acted_on l a)) is.acts
+    (places-sound l new cell target turn sound is.there is.found is.near is.acyclic)
 act-sound new l act (looks id item there same) sound = subst (λ (a : Act). IsSound (acted_on l a)) same sound
 act-sound new l act (replaces op cell a b out shapes some same) sound = subst (λ (a : Act). IsSound (acted_on l a)) same
     (replaces-sound new l op cell a b out shapes sound some)

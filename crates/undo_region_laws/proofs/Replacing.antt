@@ -3,8 +3,6 @@ use Rattle.std.proofs.Common.{◌≡◌, ℕ, Bool, true, false, ◌&&◌, ◌||
 use Rattle.std.proofs.Common.{option_map, unwrap_or, refl, ap, sym, ◌∙◌}
 use Rattle.std.specs.Prelude.{Ok, if◌then◌else◌}
 use Rattle.std.proofs.lemmas.Bool.{and_parts}
-use Rattle.std.proofs.lemmas.Bool.Decides.{same_from_decides}
-use Rattle.std.proofs.lemmas.Slice.Eq.{bytes_eq-Decides}
 use Rattle.std.specs.Cmp.{eq_by_cmp_equiv}
 use Rattle.std.specs.FinMap.{FinMap, entries, entries-from_sorted, find, from_sorted, get, get-from_sorted}
 use Rattle.std.specs.FinMap as finite
@@ -12,7 +10,7 @@ use Rattle.std.specs.List.{AllByRecursion, cons_option, list_any}
 use Rattle.std.specs.Ordering.{eq_by_cmp}
 use Rattle.lay_point.specs.Same.{names_eq}
 use Rattle.lay_calls.specs.declared.cell_id.CellId.{CellId}
-use Rattle.lay_calls.specs.SameCell.{cell_eq, cell_eq-Decides}
+use Rattle.lay_calls.specs.SameCell.{cell_eq}
 use Rattle.lay_layouts.specs.declared.id.ItemId.{ItemId}
 use Rattle.lay_layouts.specs.declared.item.Item as items
 use Rattle.lay_layouts.specs.declared.item.Item.TheVariants.{Placed, Shape}
@@ -35,7 +33,7 @@ use Rattle.txn_commands.specs.Lies.{lies}
 use Rattle.txn_commands.specs.Plans.{plan, shape_ids}
 use Rattle.txn_commands.specs.Reach.{reached}
 use Rattle.txn_commands.specs.Writing.{rewritten}
-use Rattle.txn_rules.proofs.Below.{shapes_agree}
+use Rattle.txn_rules.proofs.Below.{cells_swapped, names_swapped, shapes_agree}
 use Rattle.txn_rules.proofs.Booleans.{replaced_by}
 use Rattle.txn_commands.proofs.Lying.{entries_found, no_entry_passes}
 use Rattle.txn_commands.proofs.Maps.{get-put_all, later, same_key, write_at}
@@ -74,14 +72,6 @@ get-removed m ids q =
       by_test : (b : Bool) → unwrap_or (cond b (Some None) None) (get m q) ≡ cond b None (get m q)
       by_test true = refl
       by_test false = refl
-
-cells_swapped : (c d : CellId) → cell_eq c d ≡ cell_eq d c
-cells_swapped c d = same_from_decides (cell_eq c d) (cell_eq d c) (cell_eq-Decides c d)
-    ((λ h. sym ((cell_eq-Decides d c).0 h)), (λ e. (cell_eq-Decides d c).1 (sym e)))
-
-names_swapped : (a b : List ℕ) → names_eq a b ≡ names_eq b a
-names_swapped a b = same_from_decides (names_eq a b) (names_eq b a) (bytes_eq-Decides a b)
-    ((λ h. sym ((bytes_eq-Decides b a).0 h)), (λ e. (bytes_eq-Decides b a).1 (sym e)))
 
 -- the entry has this id, and is a shape of the cell on the layer
 abbrev is_here : ItemId → CellId → List ℕ → ItemId × items.Item → Bool
