@@ -1,11 +1,12 @@
--- A tree's keys as a finite set of elements.
+-- A tree's keys as a finite set, and sets of elements.
 use Rattle.std.proofs.Common.{◌≡◌, Bool, true, false, not, ◌&&◌, ◌||◌, inl, inr, cond, List, [], ◌∷◌, refl, ap, sym, subst, ◌∙◌}
 use Rattle.std.proofs.lemmas.Bool.{and_from, and_parts, or_cases, or_left, or_right}
 use Rattle.std.proofs.lemmas.Bool.Decides.{same_from_decides}
 use Rattle.std.specs.Bool.{Decides}
 use Rattle.std.specs.BTreeMap.{is_at}
-use Rattle.std.specs.Cmp.{Equal-is, eq_by_cmp_equiv}
-use Rattle.std.specs.FinSet.{contains, contains-from_list, contains-insert, contains-items, contains-remove, from_list, insert, items}
+use Rattle.std.specs.declared.cmp.Ordering.{Ordering}
+use Rattle.std.specs.Cmp.{Equal-is, IsTotalOrder, eq_by_cmp_equiv}
+use Rattle.std.specs.FinSet.{IsAntisymmetric, contains, contains-from_list, contains-insert, contains-items, contains-remove, from_list, insert, items}
 use Rattle.std.specs.FinSet.{remove, same_set}
 use Rattle.std.specs.List.{list_all, list_any}
 use Rattle.std.specs.Ordering.{eq_by_cmp}
@@ -20,36 +21,38 @@ not_cond : (b x : Bool) → cond b false x ≡ (not b && x)
 not_cond true x = refl
 not_cond false x = refl
 
+-- of any kind, in an order that tells them apart
+module _ {K : Type 0} {R : K → K → Ordering} (total : IsTotalOrder R) (exact : IsAntisymmetric R) where
+  -- a key added to a tree's keys is added to their set
+  pub key_added : (ks ls : List K) (k : K)
+      → ((q : K) → list_any (is_at (R q)) ls ≡ cond (is_at (R k) q) true (list_any (is_at (R q)) ks))
+      → from_list {R = R} ls ≡ insert (from_list ks) k
+  key_added ks ls k h = same_set total exact _ _ (λ q. contains-from_list total ls q ∙ h q
+      ∙ or_cond (is_at (R k) q) (list_any (is_at (R q)) ks)
+      ∙ ap (λ b. b || list_any (is_at (R q)) ks) ((eq_by_cmp_equiv total).symm k q)
+      ∙ sym (contains-insert total (from_list ks) k q
+      ∙ ap (λ b. eq_by_cmp R q k || b) (contains-from_list total ks q)))
+
+  -- and one that is removed from them is removed from it
+  pub key_removed : (ks ls : List K) (k : K)
+      → ((q : K) → list_any (is_at (R q)) ls ≡ cond (is_at (R k) q) false (list_any (is_at (R q)) ks))
+      → from_list {R = R} ls ≡ remove (from_list ks) k
+  key_removed ks ls k h = same_set total exact _ _ (λ q. contains-from_list total ls q ∙ h q
+      ∙ not_cond (is_at (R k) q) (list_any (is_at (R q)) ks)
+      ∙ ap (λ b. not b && list_any (is_at (R q)) ks) ((eq_by_cmp_equiv total).symm k q)
+      ∙ sym (contains-remove total (from_list ks) k q
+      ∙ ap (λ b. not (eq_by_cmp R q k) && b) (contains-from_list total ks q)))
+
+  -- what a tree answers of a key is what the set of its keys does
+  pub key_there : (ks : List K) (k : K) → list_any (is_at (R k)) ks ≡ contains (from_list {R = R} ks) k
+  key_there ks k = sym (contains-from_list total ks k)
+
 -- the equality of elements decides
 pub element_eq-Decides : (e f : Element) → Decides (element_eq e f) (e ≡ f)
 element_eq-Decides e f = (
   λ h. elements_exact e f ((Equal-is (element_cmp e f)).0 h),
   λ same. subst (λ (g : Element). element_eq e g ≡ true) same ((eq_by_cmp_equiv elements_total).refl e),
 )
-
--- an element added to a tree's keys is added to their set
-pub element_added : (ks ls : List Element) (k : Element) →
-    ((q : Element) → list_any (is_at (element_cmp q)) ls ≡ cond (is_at (element_cmp k) q) true (list_any (is_at (element_cmp q)) ks)) →
-    from_list {R = element_cmp} ls ≡ insert (from_list ks) k
-element_added ks ls k h = same_set elements_total elements_exact _ _ (λ q. contains-from_list elements_total ls q ∙ h q
-    ∙ or_cond (is_at (element_cmp k) q) (list_any (is_at (element_cmp q)) ks)
-    ∙ ap (λ b. b || list_any (is_at (element_cmp q)) ks) ((eq_by_cmp_equiv elements_total).symm k q)
-    ∙ sym (contains-insert elements_total (from_list ks) k q
-    ∙ ap (λ b. eq_by_cmp element_cmp q k || b) (contains-from_list elements_total ks q)))
-
--- and one that is removed from them is removed from it
-pub element_removed : (ks ls : List Element) (k : Element) →
-    ((q : Element) → list_any (is_at (element_cmp q)) ls ≡ cond (is_at (element_cmp k) q) false (list_any (is_at (element_cmp q)) ks)) →
-    from_list {R = element_cmp} ls ≡ remove (from_list ks) k
-element_removed ks ls k h = same_set elements_total elements_exact _ _ (λ q. contains-from_list elements_total ls q ∙ h q
-    ∙ not_cond (is_at (element_cmp k) q) (list_any (is_at (element_cmp q)) ks)
-    ∙ ap (λ b. not b && list_any (is_at (element_cmp q)) ks) ((eq_by_cmp_equiv elements_total).symm k q)
-    ∙ sym (contains-remove elements_total (from_list ks) k q
-    ∙ ap (λ b. not (eq_by_cmp element_cmp q k) && b) (contains-from_list elements_total ks q)))
-
--- what a tree answers of an element is what the set of its keys does
-pub element_there : (ks : List Element) (k : Element) → list_any (is_at (element_cmp k)) ks ≡ contains (from_list {R = element_cmp} ks) k
-element_there ks k = sym (contains-from_list elements_total ks k)
 
 -- an element of the set, looked for among its items from their side
 pub contains-back : (s : Touched) (e : Element) → list_any (λ f. element_eq f e) (items s) ≡ contains s e

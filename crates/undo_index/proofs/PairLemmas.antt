@@ -1,23 +1,11 @@
 -- Pairs of elements and places, in their order.
-use Rattle.std.proofs.Common.{◌≡◌, ℕ, ◌==◌, Bool, true, false, not, cond, ◌||◌, ◌&&◌, List, refl, ap, sym, ◌∙◌}
+use Rattle.std.proofs.Common.{◌≡◌, ℕ, ◌==◌, not, ◌||◌, ◌&&◌, refl, ap, ◌∙◌}
 use Rattle.std.proofs.lemmas.Cmp.{nat_cmp_total, on_total, then_total}
 use Rattle.std.specs.declared.cmp.Ordering.{Ordering}
 use Rattle.std.specs.declared.cmp.Ordering.TheVariants.{Equal, Greater, Less}
-use Rattle.std.specs.BTreeMap.{is_at}
-use Rattle.std.specs.Cmp.{IsTotalOrder, eq_by_cmp_equiv, unsigned_tied}
+use Rattle.std.specs.Cmp.{IsTotalOrder, unsigned_tied}
 use Rattle.std.specs.FinMap.{nat_cmp-IsAntisymmetric}
-use Rattle.std.specs.FinSet.{
-  IsAntisymmetric,
-  contains,
-  contains-from_list,
-  contains-insert,
-  contains-remove,
-  from_list,
-  insert,
-  remove,
-  same_set,
-}
-use Rattle.std.specs.List.{list_any}
+use Rattle.std.specs.FinSet.{IsAntisymmetric, contains-insert, contains-remove, insert, remove}
 use Rattle.std.specs.Ordering.{eq_by_cmp, is_eq, nat_cmp, ordering_then}
 use Rattle.txn_commands.specs.declared.element.Element.{Element}
 use Rattle.txn_commands.specs.Elements.{element_cmp, element_eq, elements_exact, elements_total}
@@ -48,39 +36,6 @@ is_eq-then Greater b = refl
 -- pairs are equal where both parts are
 pub pair_eq : (e f : Element) (p q : ℕ) → eq_by_cmp pair_cmp (e, p) (f, q) ≡ (element_eq e f && (p == q))
 pair_eq e f p q = is_eq-then (element_cmp e f) (nat_cmp p q) ∙ ap (λ b. element_eq e f && b) (unsigned_tied p q)
-
--- ---- a tree's keys as their set
-
-or_cond : (b x : Bool) → cond b true x ≡ (b || x)
-or_cond true x = refl
-or_cond false x = refl
-
-not_cond : (b x : Bool) → cond b false x ≡ (not b && x)
-not_cond true x = refl
-not_cond false x = refl
-
-pub pair_added : (ks ls : List (Element × ℕ)) (k : Element × ℕ) →
-    ((q : Element × ℕ) → list_any (is_at (pair_cmp q)) ls ≡ cond (is_at (pair_cmp k) q) true (list_any (is_at (pair_cmp q)) ks)) →
-    from_list {R = pair_cmp} ls ≡ insert (from_list ks) k
-pair_added ks ls k h = same_set pairs_total pairs_exact _ _ (λ q. contains-from_list pairs_total ls q ∙ h q
-    ∙ or_cond (is_at (pair_cmp k) q) (list_any (is_at (pair_cmp q)) ks)
-    ∙ ap (λ b. b || list_any (is_at (pair_cmp q)) ks) ((eq_by_cmp_equiv pairs_total).symm k q)
-    ∙ sym (contains-insert pairs_total (from_list ks) k q
-    ∙ ap (λ b. eq_by_cmp pair_cmp q k || b) (contains-from_list pairs_total ks q)))
-
-pub pair_removed : (ks ls : List (Element × ℕ)) (k : Element × ℕ) →
-    ((q : Element × ℕ) → list_any (is_at (pair_cmp q)) ls ≡ cond (is_at (pair_cmp k) q) false (list_any (is_at (pair_cmp q)) ks)) →
-    from_list {R = pair_cmp} ls ≡ remove (from_list ks) k
-pair_removed ks ls k h = same_set pairs_total pairs_exact _ _ (λ q. contains-from_list pairs_total ls q ∙ h q
-    ∙ not_cond (is_at (pair_cmp k) q) (list_any (is_at (pair_cmp q)) ks)
-    ∙ ap (λ b. not b && list_any (is_at (pair_cmp q)) ks) ((eq_by_cmp_equiv pairs_total).symm k q)
-    ∙ sym (contains-remove pairs_total (from_list ks) k q
-    ∙ ap (λ b. not (eq_by_cmp pair_cmp q k) && b) (contains-from_list pairs_total ks q)))
-
--- what a tree answers of a pair is what the set of its keys does
-pub pair_there : (ks : List (Element × ℕ)) (k : Element × ℕ) →
-    list_any (is_at (pair_cmp k)) ks ≡ contains (from_list {R = pair_cmp} ks) k
-pair_there ks k = sym (contains-from_list pairs_total ks k)
 
 -- ---- listed places
 

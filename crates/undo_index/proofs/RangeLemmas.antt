@@ -16,10 +16,10 @@ use Rattle.std.specs.Ordering.{is_eq, is_gt, is_le, nat_cmp, ordering_reverse, o
 use Rattle.txn_commands.specs.declared.element.Element.{Element}
 use Rattle.txn_commands.specs.Elements.{Touched, element_cmp, element_eq, elements_exact, elements_total}
 use Rattle.txn_marks.proofs.AnyLemmas.{any_alike}
-use Rattle.txn_marks.proofs.SetLemmas.{all_items}
+use Rattle.txn_marks.proofs.SetLemmas.{all_items, key_there}
 use Rattle.undo_index.specs.First.{IsFirst}
 use Rattle.undo_index.specs.Listed.{Listed, is_listed, pair_cmp, pairs_below}
-use Rattle.undo_index.proofs.PairLemmas.{pair_eq, pair_there}
+use Rattle.undo_index.proofs.PairLemmas.{pair_eq, pairs_exact, pairs_total}
 
 -- ---- the order of pairs
 
@@ -80,19 +80,19 @@ in_range e from p less = (ap is_gt (own_pair e from p) ∙ not_more from p less,
 
 pub first_under : (pairs : BTreeSet (Element × ℕ)) (e : Element) (from : ℕ) (r : List (Element × ℕ)) → IsFrom pairs e from r →
     IsFirst (is_listed (from_list pairs.keys) e) from (place_of_first e r)
-first_under pairs e from [] is = λ p less. sym (pair_there pairs.keys (e, p)) ∙ is.none refl (e, p) (in_range e from p less)
+first_under pairs e from [] is = λ p less. sym (key_there pairs_total pairs_exact pairs.keys (e, p)) ∙ is.none refl (e, p) (in_range e from p less)
 first_under pairs e from ((f, a) ∷ r) is = by (element_eq f e) refl where
   listed : ℕ → Bool
   listed = is_listed (from_list pairs.keys) e
 
   here : (p : ℕ) → from ≤ p → listed p ≡ true → is_gt (pair_cmp (f, a) (e, p)) ≡ false
-  here p less there = is.least (e, p) (in_range e from p less) (pair_there pairs.keys (e, p) ∙ there)
+  here p less there = is.least (e, p) (in_range e from p less) (key_there pairs_total pairs_exact pairs.keys (e, p) ∙ there)
 
   by : (b : Bool) → element_eq f e ≡ b → IsFirst listed from (cond b (Some a) None)
   by true same =
       let equal : f ≡ e = elements_exact f e ((Equal-is (element_cmp f e)).0 same) in (
         at_least from a (sym (ap is_gt (own_pair e from a)) ∙ ap (λ g. is_gt (pair_cmp (e, from) (g, a))) (sym equal) ∙ is.within.0.0),
-        sym (pair_there pairs.keys (e, a)) ∙ ap (λ g. contains pair_cmp pairs (g, a)) (sym equal) ∙ is.within.1,
+        sym (key_there pairs_total pairs_exact pairs.keys (e, a)) ∙ ap (λ g. contains pair_cmp pairs (g, a)) (sym equal) ∙ is.within.1,
         λ p less more. no (listed p) p refl less more equal,
       ) where
         no : (b : Bool) → (p : ℕ) → listed p ≡ b → from ≤ p → p < a → f ≡ e → b ≡ false
@@ -181,7 +181,7 @@ below_so pairs e b p =
     ∙ any_alike (λ x. range_contains pair_cmp (Included (e, 0)) (Excluded (e, b)) x && (p == x.1))
     (λ x. nat_lt p b && is_at (pair_cmp (e, p)) x) pairs.keys (pair_within e b p)
     ∙ any_and (nat_lt p b) (is_at (pair_cmp (e, p))) pairs.keys
-    ∙ ap (λ c. nat_lt p b && c) (pair_there pairs.keys (e, p))
+    ∙ ap (λ c. nat_lt p b && c) (key_there pairs_total pairs_exact pairs.keys (e, p))
 
 -- ---- all elements of a footprint
 
