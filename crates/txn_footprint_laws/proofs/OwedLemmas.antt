@@ -1,7 +1,7 @@
 -- Elements of acts by the kinds of commands, and the test of agreement.
 use Rattle.std.proofs.Common.{◌≡◌, ◌⊎◌, inl, inr, ℕ, Bool, true, false, not, ◌||◌, ◌&&◌, List, [], ◌∷◌, ◌++◌, map, None, Some}
 use Rattle.std.proofs.Common.{Result, Ok, nat_lt, is_some, refl, sym, ap, subst, ◌∙◌}
-use Rattle.std.proofs.lemmas.Bool.{false≢true, or_left, or_right}
+use Rattle.std.proofs.lemmas.Bool.{false≢true, or_cases, or_left, or_right}
 use Rattle.std.proofs.lemmas.Bool.Decides.{Decides-and, Decides-like}
 use Rattle.std.proofs.lemmas.Slice.Eq.{slice_eq-Decides}
 use Rattle.std.specs.Bool.{Decides}
@@ -37,7 +37,7 @@ use Rattle.txn_commands.specs.declared.command.TxnId.{TxnId}
 use Rattle.txn_commands.specs.declared.element.Element.{Element}
 use Rattle.txn_commands.specs.declared.element.Element.TheVariants.{Calls, Cell, Content, Item, Layer, Uses}
 use Rattle.txn_commands.specs.declared.fault.CmdFault.{CmdFault}
-use Rattle.txn_commands.specs.declared.fault.CmdFault.TheVariants.{CellThere, CellUsed, Cycle, FewPoints, NoCell, NoItem, OutOfRange}
+use Rattle.txn_commands.specs.declared.fault.CmdFault.TheVariants.{CellThere, CellUsed, FewPoints, NoCell, NoItem, OutOfRange}
 use Rattle.bool_rules.specs.Booleans.{bool_shapes}
 use Rattle.txn_commands.specs.Acts.{Act, bool_act, cell_elements, change_act, drop_cell_act, item_elements, look_act, make_cell_act}
 use Rattle.txn_commands.specs.Acts.{operands, place_act, shape_act}
@@ -56,7 +56,7 @@ use Rattle.txn_commands.proofs.Lying.{filter-alike_maps}
 use Rattle.txn_commands.proofs.Maps.{same_key}
 use Rattle.txn_rules.proofs.Reach.{cell_eq-refl, reached-walks}
 use Rattle.txn_rules.proofs.Runs.{IsAct, act_of, contains-with, goes_on}
-use Rattle.txn_rules.proofs.SamePlans.{drawn_by, given, moved_to, passed, relayered}
+use Rattle.txn_rules.proofs.SamePlans.{drawn_by, given, has_placed, moved_to, passed, relayered}
 use Rattle.txn_commands.proofs.Steps.{option_slot_eq-Decides}
 use Rattle.txn_footprint_laws.specs.Owed.{FootprintsAreOwed, IsOfCell, IsOfNew, IsOperand, IsOwed, IsOwedByOne, IsReached, IsWritten}
 
@@ -195,18 +195,9 @@ of_place e new cell target l h =
 
 owed_place : (new : ItemId) (cell : CellId) (target : ℕ) (turn : Turn) (l : Layout) (act : Act) (e : Element)
     → plan new (Place cell target turn) l ≡ Ok act → has e act.elements ≡ true → IsOwed new (Place cell target turn) l act e
-unfolding plan
 owed_place new cell target turn l act e h there =
-    let cells = reached l (Symbol target) in
-    let known = place_act new cell target turn cells in
-    let fourth : Result Act CmdFault = refused_if (is_among cell cells) Cycle (Ok known) in
-    let third : Result Act CmdFault = refused_if (not (is_in_range turn.shift)) OutOfRange fourth in
-    let second : Result Act CmdFault = refused_if (not (is_cell l (Symbol target))) NoCell third in
-    let first = passed (not (is_cell l cell)) NoCell second act h in
-    let found = passed (not (is_cell l (Symbol target))) NoCell third act first.1 in
-    let near = passed (not (is_in_range turn.shift)) OutOfRange fourth act found.1 in
-    let acyclic = passed (is_among cell cells) Cycle (Ok known) act near.1 in
-    of_place e new cell target l (as_known e known act (cc (acyclic.1)) there)
+    of_place e new cell target l
+    (as_known e (place_act new cell target turn (reached l (Symbol target))) act (has_placed new cell target turn l act h).acts there)
 
 of_bool : (e : Element) (cell : CellId) (a b out : List ℕ) (l : Layout) (act : Act)
     → has e (item_elements act.items ++ (cell_elements cell ++ Layer cell out ∷ flat_map (operands a b) (reached l cell))) ≡ true
@@ -281,10 +272,6 @@ owed new (DropCell number) l act e h there =
 
 -- ---- runs
 
-either_of : (a b : Bool) → (a || b) ≡ true → (a ≡ true) ⊎ (b ≡ true)
-either_of true b h = inl refl
-either_of false b h = inr h
-
 owed_from : (txn : TxnId) (commands : List Command) (start end : Run) (e : Element) → after_each txn commands start ≡ Some end
     → contains end.footprint e ≡ true → (contains start.footprint e ≡ true) ⊎ IsOwedByOne txn commands start e
 owed_from txn [] start end e h there =
@@ -315,7 +302,7 @@ owed_from txn (c ∷ cs) start end e h there =
       by next accepted is (inl touched) =
           let performed : contains (perform start is.act).footprint e ≡ true =
           subst (λ (p : Done × Run). contains p.1.footprint e ≡ true) (sym is.next_is) touched in
-          first next accepted is (either_of (has e is.act.elements) (contains start.footprint e)
+          first next accepted is (or_cases (has e is.act.elements) (contains start.footprint e)
           (sym (contains-with start.footprint is.act.elements e) ∙ performed))
       by next accepted is (inr one) = inr (record {
         before = c ∷ one.before;
