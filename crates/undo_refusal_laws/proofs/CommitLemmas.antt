@@ -3,6 +3,7 @@ use Rattle.std.proofs.Common.{◌≡◌, ◌≤◌, ◌==◌, ◌+◌, ℕ, Bool
 use Rattle.std.proofs.Common.{Result, Err, option_map, drop, refl, sym, ap, subst, ◌∙◌, arith}
 use Rattle.std.specs.Prelude.{nat_le, not, unwrap_or}
 use Rattle.std.proofs.lemmas.Bool.Decides.{Decides-eqb, nat_tests}
+use Rattle.std.proofs.lemmas.Bool.{and_from, and_parts}
 use Rattle.lay_point.proofs.Members.{contains, has}
 use Rattle.txn_commands.specs.declared.command.TxnId.{TxnId}
 use Rattle.txn_commands.specs.Compared.{agrees}
@@ -22,7 +23,7 @@ use Rattle.undo_rules.specs.Steps.{commit_unless, is_log_full, is_own, is_pendin
 use Rattle.undo_refusal_laws.specs.Refusing.{CommitIsRefused, CommitsAreRefusedForCause, HasWritten, IsAccepted, IsAwaited}
 use Rattle.undo_refusal_laws.specs.Refusing.{IsCause, IsOf, IsStaleBy, NamesDiffer}
 use Rattle.undo_refusal_laws.proofs.FirstLemmas.{first_by, first_found, first_is, told_false, told_not}
-use Rattle.undo_refusal_laws.proofs.TouchLemmas.{and_both, and_true, touched_is, touched_so}
+use Rattle.undo_refusal_laws.proofs.TouchLemmas.{touched_is, touched_so}
 use Rattle.undo_refusal_laws.proofs.EntryLemmas.{entry_held, held_entry}
 use Rattle.undo_refusal_laws.proofs.UndoLemmas.{not_full, room}
 
@@ -160,7 +161,7 @@ pending_is : (h : History) (txn : Transaction) (o : Option Pending) → (1 ≤ t
     → (state_of h txn.id.session).opens ≡ txn.id.txn → (state_of h txn.id.session).pending ≡ o → is_pending o txn ≡ true → IsAwaited h txn
 pending_is h txn None low high last is e = absurd cc
 pending_is h txn (Some waiting) low high last is e =
-    let both = and_both (waiting.place == txn.opened) (agrees waiting.snapshot txn.snapshot txn.footprint) e in
+    let both = and_parts (waiting.place == txn.opened) (agrees waiting.snapshot txn.snapshot txn.footprint) e in
     record {
       low = low;
       high = high;
@@ -186,10 +187,10 @@ high_so n h = grind (arith, nat_tests)
 awaited_is : (h : History) (txn : Transaction) → is_own h txn ≡ true → IsAwaited h txn
 awaited_is h txn e =
     let state = state_of h txn.id.session in
-    let both = and_both (nat_le 1 txn.id.session && nat_le txn.id.session 64)
+    let both = and_parts (nat_le 1 txn.id.session && nat_le txn.id.session 64)
     ((state.opens == txn.id.txn) && is_pending state.pending txn) e in
-    let sessions = and_both (nat_le 1 txn.id.session) (nat_le txn.id.session 64) both.0 in
-    let work = and_both (state.opens == txn.id.txn) (is_pending state.pending txn) both.1 in
+    let sessions = and_parts (nat_le 1 txn.id.session) (nat_le txn.id.session 64) both.0 in
+    let work = and_parts (state.opens == txn.id.txn) (is_pending state.pending txn) both.1 in
     pending_is h txn state.pending (low_is txn.id.session sessions.0) (high_is txn.id.session sessions.1)
     ((Decides-eqb state.opens txn.id.txn).0 work.0) refl work.1
 
@@ -197,14 +198,14 @@ awaited_so : (h : History) (txn : Transaction) → IsAwaited h txn → is_own h 
 awaited_so h txn is =
     let state = state_of h txn.id.session in
     let session : (nat_le 1 txn.id.session && nat_le txn.id.session 64) ≡ true =
-    and_true (nat_le 1 txn.id.session) (nat_le txn.id.session 64) (low_so txn.id.session is.low) (high_so txn.id.session is.high) in
+    and_from (nat_le 1 txn.id.session) (nat_le txn.id.session 64) (low_so txn.id.session is.low) (high_so txn.id.session is.high) in
     let place : (is.waiting.place == txn.opened) ≡ true = (Decides-eqb is.waiting.place txn.opened).1 is.place in
     let pending : is_pending state.pending txn ≡ true =
     ap (λ o. is_pending o txn) is.waits
-    ∙ and_true (is.waiting.place == txn.opened) (agrees is.waiting.snapshot txn.snapshot txn.footprint) place is.agree in
+    ∙ and_from (is.waiting.place == txn.opened) (agrees is.waiting.snapshot txn.snapshot txn.footprint) place is.agree in
     let number : (state.opens == txn.id.txn) ≡ true = (Decides-eqb state.opens txn.id.txn).1 is.last in
-    and_true (nat_le 1 txn.id.session && nat_le txn.id.session 64) ((state.opens == txn.id.txn) && is_pending state.pending txn) session
-    (and_true (state.opens == txn.id.txn) (is_pending state.pending txn) number pending)
+    and_from (nat_le 1 txn.id.session && nat_le txn.id.session 64) ((state.opens == txn.id.txn) && is_pending state.pending txn) session
+    (and_from (state.opens == txn.id.txn) (is_pending state.pending txn) number pending)
 
 -- ---- commit
 

@@ -3,6 +3,7 @@ use Rattle.std.proofs.Common.{◌≡◌, ◌==◌, inl, inr, Bool, true, false, 
 use Rattle.std.proofs.Common.{refl, sym, ap, subst, ◌∙◌, append_assoc, append-nil}
 use Rattle.std.specs.List.{AllByRecursion}
 use Rattle.std.proofs.lemmas.Bool.Decides.{Decides-eqb}
+use Rattle.std.proofs.lemmas.Bool.{and_parts, or_left, or_right}
 use Rattle.lay_point.proofs.Members.{Has, has-append_right}
 use Rattle.txn_commands.specs.declared.command.TxnId.{TxnId}
 use Rattle.txn_commands.specs.Elements.{Touched}
@@ -11,11 +12,10 @@ use Rattle.undo_rules.specs.Links.{AreNamed, Entry, Trace, is_named_in, links_to
 use Rattle.undo_rules.specs.Steps.{found_behind}
 use Rattle.undo_rules.proofs.EqualLinks.{linked-all, txn_eq-same}
 use Rattle.undo_rules.proofs.Moved.{not_among, txn_eq-sym}
-use Rattle.undo_refusal_laws.proofs.TouchLemmas.{and_both, or_left, or_right}
 
 pub txn_eq-true : (s t : TxnId) → txn_eq s t ≡ true → s ≡ t
 txn_eq-true s t h =
-    let parts = and_both (s.session == t.session) (s.txn == t.txn) h in
+    let parts = and_parts (s.session == t.session) (s.txn == t.txn) h in
     let session : s.session ≡ t.session = (Decides-eqb s.session t.session).0 parts.0 in
     let number : s.txn ≡ t.txn = (Decides-eqb s.txn t.txn).0 parts.1 in
     λ i. record { session = session i; txn = number i }

@@ -4,6 +4,7 @@ use Rattle.std.specs.Cmp.{eq_by_cmp_equiv}
 use Rattle.std.specs.FinSet.{contains-items, items}
 use Rattle.std.specs.List.{list_any}
 use Rattle.std.specs.Ordering.{eq_by_cmp}
+use Rattle.std.proofs.lemmas.Bool.{and_from, and_parts, or_left, or_right}
 use Rattle.lay_point.proofs.Members.{Has}
 use Rattle.txn_commands.specs.declared.element.Element.{Element}
 use Rattle.txn_commands.specs.Elements.{Touched, element_cmp, elements_total}
@@ -12,22 +13,6 @@ use Rattle.txn_commands.specs.Records.{Records}
 use Rattle.undo_rules.specs.Links.{Entry, meets_touched}
 use Rattle.undo_rules.proofs.Grounds.{apart}
 use Rattle.undo_refusal_laws.specs.Refusing.{IsReader, IsTouched}
-
-pub or_left : (a b : Bool) → a ≡ true → (a || b) ≡ true
-or_left true b h = refl
-or_left false b h = absurd cc
-
-pub or_right : (a b : Bool) → b ≡ true → (a || b) ≡ true
-or_right true b h = refl
-or_right false b h = h
-
-pub and_true : (a b : Bool) → a ≡ true → b ≡ true → (a && b) ≡ true
-and_true true b h g = g
-and_true false b h g = absurd cc
-
-pub and_both : (a b : Bool) → (a && b) ≡ true → (a ≡ true) × (b ≡ true)
-and_both true b h = (refl, h)
-and_both false b h = absurd cc
 
 any_some : (test : Element → Bool) (es : List Element) → list_any test es ≡ true → (e : Element) × Has es e × (test e ≡ true)
 any_some test [] h = absurd cc
@@ -66,8 +51,8 @@ reads writes entry = entry.live && meets_touched writes entry.footprint
 
 pub reads_is : (writes : Records) (entry : Entry) → reads writes entry ≡ true → IsReader writes entry
 reads_is writes entry h =
-    let both = and_both entry.live (meets_touched writes entry.footprint) h in (both.0, touched_is writes entry.footprint both.1)
+    let both = and_parts entry.live (meets_touched writes entry.footprint) h in (both.0, touched_is writes entry.footprint both.1)
 
 pub reads_so : (writes : Records) (entry : Entry) → IsReader writes entry → reads writes entry ≡ true
 reads_so writes entry is =
-    and_true entry.live (meets_touched writes entry.footprint) is.0 (touched_so writes entry.footprint is.1)
+    and_from entry.live (meets_touched writes entry.footprint) is.0 (touched_so writes entry.footprint is.1)

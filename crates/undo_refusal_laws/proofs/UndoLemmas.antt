@@ -3,6 +3,7 @@ use Rattle.std.proofs.Common.{◌≡◌, ◌≢◌, inl, inr, ℕ, Bool, true, f
 use Rattle.std.proofs.Common.{Result, Err, refl, sym, ap, subst, ◌∙◌, arith}
 use Rattle.std.specs.Prelude.{not, Contains}
 use Rattle.std.proofs.lemmas.Bool.Decides.{nat_tests}
+use Rattle.std.proofs.lemmas.Bool.{and_from, and_parts}
 use Rattle.lay_point.proofs.Members.{Has, contains, has, has-append_left, has-append_right}
 use Rattle.txn_commands.specs.declared.command.TxnId.{TxnId}
 use Rattle.txn_commands.specs.Records.{Records}
@@ -21,7 +22,7 @@ use Rattle.undo_refusal_laws.specs.Refusing.{IsReader}
 use Rattle.undo_refusal_laws.specs.Refusing.{NamesDiffer, RedoIsRefused, RedosAreRefusedForCause, UndoIsRefused, UndosAreRefusedForCause}
 use Rattle.undo_refusal_laws.specs.Refusing.{WasLinked}
 use Rattle.undo_refusal_laws.proofs.FirstLemmas.{first_by, first_found, first_is, none_passes, pass_none, told_false, told_not}
-use Rattle.undo_refusal_laws.proofs.TouchLemmas.{and_both, and_true, reads, reads_is, reads_so, touched_is, touched_so}
+use Rattle.undo_refusal_laws.proofs.TouchLemmas.{reads, reads_is, reads_so, touched_is, touched_so}
 use Rattle.undo_refusal_laws.proofs.EntryLemmas.{among_has, found_in, has_among, links_has, named_front, txn_eq-true}
 
 abbrev pub name_of : Entry → TxnId
@@ -126,9 +127,9 @@ are_tests : (earlier : List Entry) (entry e : Entry) → AreNamed (map trace_of 
 are_tests earlier entry e named m =
     let is = links_has entry.footprint earlier e named m in
     record {
-      linked_is = λ t. let both = and_both e.live (meets_touched e.writes entry.footprint) (sym is ∙ t) in
+      linked_is = λ t. let both = and_parts e.live (meets_touched e.writes entry.footprint) (sym is ∙ t) in
           (both.0, touched_is e.writes entry.footprint both.1);
-      linked_so = λ l. is ∙ and_true e.live (meets_touched e.writes entry.footprint) l.0 (touched_so e.writes entry.footprint l.1);
+      linked_so = λ l. is ∙ and_from e.live (meets_touched e.writes entry.footprint) l.0 (touched_so e.writes entry.footprint l.1);
       was_is = λ t. contains entry.seen e.txn (among_has e.txn entry.seen t);
       was_so = λ w. has_among e.txn entry.seen (has entry.seen e.txn w);
     }
