@@ -1,6 +1,6 @@
 -- Words of a line, and what they spell.
 use Rattle.std.specs.Prelude.{◌≡◌, ℕ, ◌+◌, ◌<◌, List, [], ◌∷◌, codes, drop, length, take, slice_index, Bool, true, false, ◌&&◌, ◌||◌, ◌==◌}
-use Rattle.std.specs.Prelude.{nat_lt, if◌then◌else◌, Option, None, Some, not, option_and_then, option_map, unwrap_or, ℤ, pos, neg_ℤ}
+use Rattle.std.specs.Prelude.{nat_lt, if◌then◌else◌, Option, None, Some, not, option_map, unwrap_or, ℤ, pos, neg_ℤ}
 use Rattle.std.specs.List.{position}
 use Rattle.std.specs.Str.{bytes_eq}
 use Rattle.lay_calls.specs.declared.cell_id.CellId.{CellId}
@@ -11,12 +11,8 @@ use Rattle.lay_point.specs.declared.turn.Quarter.{Quarter}
 use Rattle.lay_point.specs.declared.turn.Quarter.TheVariants.{R0, R90, R180, R270}
 use Rattle.byte_io.specs.Lines.{content, in_front}
 use Rattle.byte_io.specs.Numbers.{parsed_number}
+pub use Rattle.byte_io.specs.Steps.{◌>>=◌}
 use Rattle.session_steps.specs.TxnId.{TxnId}
-
--- the step that follows takes what this one gives, and nothing follows `None`
-infixl 10 ◌>>=◌
-abbrev pub ◌>>=◌ : {A B : Type 0} → Option A → (A → Option B) → Option B
-o >>= f = option_and_then f o
 
 -- spaces and tabs separate words
 abbrev pub is_word_separator : ℕ → Bool
