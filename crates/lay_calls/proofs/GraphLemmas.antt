@@ -176,7 +176,8 @@ module _ (symbols : List ℕ) (calls : List (CellId × ℕ)) (rows : List (List 
       → row more (position_of symbols cell) ≡ targets_of (calls ++ (caller, target) ∷ []) cell
   unfolding targets_of
   listed-other cell ne elsewhere there =
-      let fails : cell_eq caller cell ≡ false = false_from_ne_true (cell_eq caller cell) (λ e. ne (sym ((cell_eq-Decides caller cell).0 e))) in
+      let fails : cell_eq caller cell ≡ false =
+      false_from_ne_true (cell_eq caller cell) (λ e. ne (sym ((cell_eq-Decides caller cell).0 e))) in
       let none : calls_standing_in ((caller, target) ∷ []) cell ≡ [] = ap (λ b. cond b ((caller, target) ∷ []) []) fails in
       row-other (position_of symbols cell) elsewhere ∙ r.listed cell there
       ∙ sym (ap (map place) (filter-append (λ (c : CellId × ℕ). cell_eq c.0 cell) calls ((caller, target) ∷ [])

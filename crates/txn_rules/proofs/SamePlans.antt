@@ -178,7 +178,8 @@ unfolding plan
 same_place new cell target turn l m act h agree =
     let cells = reached l (Symbol target) in
     let same = (has_placed new cell target turn l act h).acts in
-    let parts = all_parts (Agree l m) (cell_elements cell) (Cell target ∷ map Calls cells) (agree_on l m (place_act new cell target turn cells) act same agree).1 in
+    let parts = all_parts (Agree l m) (cell_elements cell) (Cell target ∷ map Calls cells)
+    (agree_on l m (place_act new cell target turn cells) act same agree).1 in
     let at_cell : is_cell m cell ≡ is_cell l cell = sym (same_is_cell l m cell parts.0) in
     let at_target : is_cell m (Symbol target) ≡ is_cell l (Symbol target) = sym (ap is_some (same_slot l m target parts.1.0)) in
     let at_calls : reached m (Symbol target) ≡ cells = same_reach l m (Symbol target) (all_mapped (Agree l m) Calls cells parts.1.1) in

@@ -80,7 +80,8 @@ in_range e from p less = (ap is_gt (own_pair e from p) ∙ not_more from p less,
 
 pub first_under : (pairs : BTreeSet (Element × ℕ)) (e : Element) (from : ℕ) (r : List (Element × ℕ)) → IsFrom pairs e from r →
     IsFirst (is_listed (from_list pairs.keys) e) from (place_of_first e r)
-first_under pairs e from [] is = λ p less. sym (key_there pairs_total pairs_exact pairs.keys (e, p)) ∙ is.none refl (e, p) (in_range e from p less)
+first_under pairs e from [] is = λ p less. sym (key_there pairs_total pairs_exact pairs.keys (e, p))
+    ∙ is.none refl (e, p) (in_range e from p less)
 first_under pairs e from ((f, a) ∷ r) is = by (element_eq f e) refl where
   listed : ℕ → Bool
   listed = is_listed (from_list pairs.keys) e

@@ -6,5 +6,6 @@ use Rattle.txn_marks.proofs.footprint.Footprint.insert.Goals as goal
 
 pub returns-clause-ok : goal.returns-clause-ok
 returns-clause-ok c =
-    key_added elements_total elements_exact c.self.inside.elements.keys c.insert.new.self.keys c.args.element c.in_ok-insert.ensures.updates.0
+    key_added elements_total elements_exact c.self.inside.elements.keys c.insert.new.self.keys c.args.element
+    c.in_ok-insert.ensures.updates.0
     ∙ ap (λ (s : Touched). insert s c.args.element) c.self.view_is

@@ -7,5 +7,6 @@ use Rattle.undo_index.proofs.listing.Listing.insert.Goals as goal
 
 pub returns-clause-ok : goal.returns-clause-ok
 returns-clause-ok c =
-    key_added pairs_total pairs_exact c.self.inside.pairs.keys c.insert.new.self.keys (c.args.element, c.args.place) c.in_ok-insert.ensures.updates.0
+    key_added pairs_total pairs_exact c.self.inside.pairs.keys c.insert.new.self.keys (c.args.element, c.args.place)
+    c.in_ok-insert.ensures.updates.0
     ∙ ap (λ (s : Listed). insert s (c.args.element, c.args.place)) c.self.view_is

@@ -7,5 +7,6 @@ use Rattle.undo_index.proofs.listing.Listing.remove_one.Goals as goal
 
 pub returns : goal.returns
 returns c =
-    key_removed pairs_total pairs_exact c.self.inside.pairs.keys c.remove.new.self.keys (c.args.element, c.args.place) c.remove.ensures.updates.0
+    key_removed pairs_total pairs_exact c.self.inside.pairs.keys c.remove.new.self.keys (c.args.element, c.args.place)
+    c.remove.ensures.updates.0
     ∙ ap (λ (s : Listed). remove s (c.args.element, c.args.place)) c.self.view_is
