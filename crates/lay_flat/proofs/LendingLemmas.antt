@@ -1,17 +1,22 @@
 -- The rings that are lent stand one behind the other.
 use Rattle.std.proofs.Common.{◌≡◌, ◌∙◌, ◌≤◌, ◌<◌, ◌+◌, ◌++◌, inl, inr, ℕ, List, [], ◌∷◌}
-use Rattle.std.proofs.Common.{length, refl, ap, sym, subst, arith, append_assoc, take, get_or, None}
+use Rattle.std.proofs.Common.{length, refl, ap, sym, subst, arith, append_assoc, take, get_or, None, unwrap_or}
 use Rattle.std.proofs.lemmas.List.{length-append, length-map, length-take-le, map-append, take_more}
+use Rattle.std.proofs.lemmas.Simd.{map-map}
 use Rattle.lay_point.specs.declared.point.Point.{Point}
 use Rattle.lay_point.specs.declared.turn.Turn.{Turn}
+use Rattle.lay_point.specs.Turns.{unturned}
 use Rattle.lay_calls.specs.declared.cell_id.CellId.TheVariants.{Top}
+use Rattle.lay_layouts.specs.Layout.{Layout}
+use Rattle.lay_layouts.specs.Lent.{LentShape, shapes_in}
 use Rattle.lay_flat.specs.declared.ends.End.{End}
 use Rattle.lay_flat.specs.declared.fault.FlatFault.{FlatFault}
 use Rattle.lay_flat.specs.declared.fault.FlatFault.TheVariants.{TooMany}
 use Rattle.lay_flat.specs.declared.flat.TheConstants.{MAX_RINGS}
 use Rattle.lay_flat.specs.Flat.{FlatRing}
-use Rattle.lay_flat.specs.Flattening.{Drawn, rings_from, rings_of}
-use Rattle.lay_flat.specs.Lending.{IsTooMany}
+use Rattle.lay_flat.specs.Flattening.{Drawn, drawn_at, rings_from, rings_of}
+use Rattle.lay_flat.specs.Lending.{IsTooMany, turned_by}
+use Rattle.lay_flat.specs.Lists.{shape_rings}
 
 pub rings_from-append : (n : ℕ) (xs ys : List Drawn) → rings_from n (xs ++ ys) ≡ rings_from n xs ++ rings_from (n + length xs) ys
 rings_from-append n [] ys = let same : n ≡ n + 0 = omega arith in ap (λ (k : ℕ). rings_from k ys) same
@@ -66,3 +71,12 @@ ends-whole rings n here behind =
 -- what stands for an end behind the last
 abbrev pub end_default : End
 end_default = record { cell = Top; turn = None }
+
+-- the shapes that are listed for an end's cell, with its turn, are those at the end
+pub listed-drawn : (layout : Layout) (layer : List ℕ) (end : End) (turn : Turn) (shapes : List (List (List Point)))
+    → turn ≡ unwrap_or end.turn unturned → shapes ≡ shape_rings (record { layout = layout; layer = layer }) end.cell
+    → turned_by turn shapes ≡ drawn_at layout layer end
+listed-drawn layout layer end turn shapes turned listed =
+    (λ i. turned_by (turned i) (listed i))
+    ∙ map-map (λ (rings : List (List Point)). (unwrap_or end.turn unturned, rings)) (λ (shape : LentShape). shape.1)
+    (shapes_in layout end.cell layer)

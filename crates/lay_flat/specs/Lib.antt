@@ -3,6 +3,7 @@ pub mod Flat
 pub mod Flattening
 pub mod Graphs
 pub mod Lending
+pub mod Lists
 pub mod Walked
 pub use Rattle.lay_layouts.specs.Layout
 pub use Rattle.lay_layouts.specs.Lent

@@ -2,9 +2,10 @@
 ghost use Rattle.std.specs.Prelude.{◌≡◌, ◌++◌, OnOk};
 ghost use Rattle.lay_flat.specs.Ends.{ends_within, turn_after};
 
+use crate::call_lists::CallLists;
 use lay_calls::CellId;
-use lay_items::Snapshot;
 use lay_point::{NoMemory, Turn};
+use std::alloc::Global;
 
 /// Where a walk ends.
 #[derive(Clone, Copy, Debug)]
@@ -17,21 +18,25 @@ pub struct End {
 
 /// Appends the ends of the walks from a cell of at most so many calls, behind calls with this turn.
 pub(crate) fn list_ends(
-    snapshot: &Snapshot,
+    alloc: Global,
+    lists: &mut CallLists<'_>,
     cell: CellId,
     turn: Option<Turn>,
     calls: usize,
     ends: &mut Vec<End>,
 ) -> Result<(), NoMemory>
-    ensures { OnOk result (ends.new.items ≡ ends.old.items ++ ends_within snapshot.now calls cell turn) }
+    ensures ends { OnOk result (ends.new.items ≡ ends.old.items ++ ends_within lists.old calls cell turn) }
+    ensures same { OnOk result (lists.new ≡ lists.old) }
 {
     ends.push(End { cell, turn })?;
     if calls == 0 {
         return Ok(());
     }
-    for (_, target, next) in snapshot.calls(cell) {
-        let symbol = CellId::Symbol(target);
-        list_ends(snapshot, symbol, turn_after(turn, next), calls - 1, ends)?;
+    let list = lists.of(alloc, cell)?;
+    let here = list.as_slice();
+    for call in here {
+        let next = turn_after(turn, call.2);
+        list_ends(alloc, lists, CellId::Symbol(call.1), next, calls - 1, ends)?;
     }
     Ok(())
 }

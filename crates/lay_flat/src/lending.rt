@@ -2,11 +2,12 @@
 ghost use Rattle.std.specs.Prelude.{◌≡◌, ◌+◌, ◌++◌, ◌∷◌, [], ◌≤◌, IfErr, IfOk, OnOk, length};
 ghost use Rattle.lay_flat.specs.declared.flat.TheConstants.{MAX_RINGS};
 ghost use Rattle.lay_flat.specs.Flattening.{drawn_at, rings_at, rings_from, rings_of};
-ghost use Rattle.lay_flat.specs.Lending.{AreRings, IsTooMany};
+ghost use Rattle.lay_flat.specs.Lending.{AreRings, IsTooMany, turned_by};
 
 use crate::ends::End;
 use crate::fault::FlatFault;
 use crate::flat::{FlatRing, MAX_RINGS};
+use crate::shape_lists::{Shape, ShapeLists};
 use lay_items::Snapshot;
 use lay_point::{LayerName, NoMemory, Ring, Turn};
 use std::alloc::Global;
@@ -24,36 +25,60 @@ pub(crate) fn lend_rings<'s>(
     ensures err { IfErr result (IsTooMany (rings_at snapshot.now layer.now ends.now)) }
 {
     let mut rings = Vec::new(alloc);
+    let mut lists = ShapeLists::new(alloc, snapshot, layer);
     let mut number = 0;
     for end in ends {
-        number = lend_end(snapshot, end, layer, number, &mut rings)?;
+        number = lend_end(alloc, &mut lists, end, number, &mut rings)?;
     }
     Ok(rings)
 }
 
-/// Appends the rings of the shapes on a layer at an end, numbered from this number on. Returns the number
+/// Appends the rings of the listed layer's shapes at an end, numbered from this number on. Returns the number
 /// behind them.
 fn lend_end<'s>(
-    snapshot: &'s Snapshot,
+    alloc: Global,
+    lists: &mut ShapeLists<'s>,
     end: &End,
-    layer: &LayerName,
+    number: u32,
+    rings: &mut Vec<FlatRing<'s>>,
+) -> Result<u32, FlatFault>
+    requires few { length rings.old.items ≤ MAX_RINGS }
+    requires rings { AreRings rings.old.items }
+    ensures same { OnOk result (lists.new ≡ lists.old) }
+    ensures ok { OnOk result (rings.new.items
+        ≡ rings.old.items ++ rings_from number (drawn_at lists.old.layout lists.old.layer end.now)) }
+    ensures number { IfOk result
+        (λ next. next ≡ number + length (drawn_at lists.old.layout lists.old.layer end.now)) }
+    ensures few { OnOk result (length rings.new.items ≤ MAX_RINGS) }
+    ensures rings { OnOk result (AreRings rings.new.items) }
+    ensures err { IfErr result (IsTooMany
+        (rings.old.items ++ rings_from number (drawn_at lists.old.layout lists.old.layer end.now))) }
+{
+    let turn = end.turn.unwrap_or(Turn::unturned());
+    let shapes = lists.of(alloc, end.cell)?;
+    lend_shapes(shapes.as_slice(), turn, number, rings)
+}
+
+/// Appends the rings of these shapes, numbered from this number on. Returns the number behind them.
+fn lend_shapes<'s>(
+    shapes: &[Shape<'s>],
+    turn: Turn,
     number: u32,
     rings: &mut Vec<FlatRing<'s>>,
 ) -> Result<u32, FlatFault>
     requires few { length rings.old.items ≤ MAX_RINGS }
     requires rings { AreRings rings.old.items }
     ensures ok { OnOk result (rings.new.items
-        ≡ rings.old.items ++ rings_from number (drawn_at snapshot.now layer.now end.now)) }
-    ensures number { IfOk result (λ next. next ≡ number + length (drawn_at snapshot.now layer.now end.now)) }
+        ≡ rings.old.items ++ rings_from number (turned_by turn shapes.now)) }
+    ensures number { IfOk result (λ next. next ≡ number + length shapes.now) }
     ensures few { OnOk result (length rings.new.items ≤ MAX_RINGS) }
     ensures rings { OnOk result (AreRings rings.new.items) }
     ensures err { IfErr result (IsTooMany
-        (rings.old.items ++ rings_from number (drawn_at snapshot.now layer.now end.now))) }
+        (rings.old.items ++ rings_from number (turned_by turn shapes.now))) }
 {
-    let turn = end.turn.unwrap_or(Turn::unturned());
     let mut next = number;
-    for (_, shape) in snapshot.shapes(end.cell, layer) {
-        lend_shape(shape, turn, next, rings)?;
+    for shape in shapes {
+        lend_shape(shape.rings, turn, next, rings)?;
         next = one_more(next)?;
     }
     Ok(next)

@@ -7,7 +7,8 @@
 //!
 //! The depth and the number of walks are tested before a walk is made. Then the ends of the walks are listed,
 //! each its cell and its turn: that is a `Walks`, from which any number of layers is flattened. For each layer
-//! the rings of the shapes at the ends are lent.
+//! the rings of the shapes at the ends are lent. The calls in a symbol are listed once for all walks that end
+//! there, and so are its shapes on a layer.
 //!
 //! ```text
 //! let flat = flatten(alloc, &snapshot, CellId::Top, &layer)?;
@@ -18,12 +19,15 @@
 //! ```
 #![tactic(auto)]
 
+mod call_lists;
 mod ends;
 mod fault;
 mod flat;
 mod flattening;
 mod graph;
 mod lending;
+mod shape_lists;
+mod shared;
 mod walks;
 
 pub use fault::FlatFault;

@@ -10,6 +10,7 @@ ghost use Rattle.lay_flat.specs.Flat.{is_within};
 ghost use Rattle.lay_flat.specs.Flattening.{AreWalks, flat_of, tested};
 ghost use Rattle.lay_flat.specs.Walked.{walked};
 
+use crate::call_lists::CallLists;
 use crate::ends::{End, list_ends};
 use crate::fault::FlatFault;
 use crate::flat::{Flat, FlatRing, MAX_DEPTH, MAX_RINGS};
@@ -50,8 +51,9 @@ impl<'s> Walks<'s> {
     ///
     /// # Cost
     ///
-    /// The items of each cell that the cell leads to are gone over, for its calls; and again for each walk that
-    /// ends there.
+    /// The items of each cell that the cell leads to are gone over three times, for its calls, however many
+    /// walks end there. Then each walk takes a step, and comparisons in proportion to the logarithm of the
+    /// number of these cells.
     pub fn from(alloc: Global, snapshot: &'s Snapshot, cell: CellId) -> Result<Walks<'s>, FlatFault>
         ensures answer { IsAnswer FlatFault.NoMemory result (walked snapshot.now cell) }
         ensures no_cell { is_cell snapshot.now cell ≡ false → result ≡ Err FlatFault.NoCell }
@@ -62,7 +64,9 @@ impl<'s> Walks<'s> {
         }
         test_walks(alloc, snapshot, cell)?;
         let mut ends = Vec::new(alloc);
-        list_ends(snapshot, cell, Some(Turn::unturned()), MAX_DEPTH, &mut ends)?;
+        let mut lists = CallLists::new(alloc, snapshot);
+        let turn = Some(Turn::unturned());
+        list_ends(alloc, &mut lists, cell, turn, MAX_DEPTH, &mut ends)?;
         let outside = is_any_outside(&ends);
         Ok(Walks {
             snapshot,
@@ -77,8 +81,9 @@ impl<'s> Walks<'s> {
     ///
     /// # Cost
     ///
-    /// For each walk the items of the cell in which it ends are gone over, for its shapes. Each point that is
-    /// lent is tested once.
+    /// The items of each cell in which walks end are gone over once, for its shapes, and a reference to each
+    /// shape is held until the end. Then each walk takes comparisons in proportion to the logarithm of the
+    /// number of these cells, and a step for each ring that is lent. Each point that is lent is tested once.
     pub fn layer(&self, alloc: Global, layer: &LayerName) -> Result<Flat<'s>, FlatFault>
         ensures { IsAnswer FlatFault.NoMemory result (flat_of self.now.layout self.now.cell layer.now) }
     {

@@ -10,6 +10,7 @@ abbrev pub invariant-loop-end : goal.invariant-loop-end
 invariant-loop-end l = record {
   rest : l.rings.items ++ rings_from l.number (flat_map (drawn_at l.snapshot l.layer) (drop l.end-index l.ends))
       ≡ rings_at l.snapshot l.layer l.ends;
+  lists : l.lists ≡ record { layout = l.snapshot; layer = l.layer };
   few : length l.rings.items ≤ MAX_RINGS;
   rings : AreRings l.rings.items;
 }

@@ -57,7 +57,8 @@ invariant_of-result c =
     record {
       there = is;
       passed = passed;
-      all = c.in_ok-list_ends.ensures
+      all = c.in_ok-list_ends.ensures.ends
+          ∙ ap (λ (l : Layout). c.new-ends.result.items ++ ends_within l 64 c.args.cell (Some c.unturned.result)) c.new-lists.ensures
           ∙ ap (λ (es : List End). es ++ ends_within layout 64 c.args.cell (Some c.unturned.result)) c.new-ends.ensures.items
           ∙ ap (λ (t : Turn). ends_within layout 64 c.args.cell (Some t)) c.unturned.ensures
           ∙ ends_are layout c.args.cell 64 c.version.ensures.sound.acyclic (shallow layout c.args.cell passed);
