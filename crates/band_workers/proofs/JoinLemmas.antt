@@ -1,12 +1,13 @@
 -- The workers' labels, joined and put in order, are those of all edges.
 use Rattle.std.proofs.Common.{◌≡◌, ◌≢◌, ◌⊎◌, inl, inr, ℕ, zero, suc, ◌+◌, ◌-◌, ◌<◌, Bool, true, false, List, [], ◌∷◌, ◌++◌}
 use Rattle.std.proofs.Common.{rules, length, get_or, replicate, Ok, Err, Contains, refl, sym, ap, subst, ◌∙◌, arith}
-use Rattle.std.specs.Prelude.{ℤ, pos, int_le, int_lt, ◌≤ℤ◌, ◌<ℤ◌, ◌&&◌, slice_set}
+use Rattle.std.specs.Prelude.{ℤ, pos, int_le, int_lt, slice_set}
 use Rattle.std.specs.Global.{Vec}
 use Rattle.std.specs.List.{AllByRecursion}
 use Rattle.std.proofs.lemmas.Int.{ints}
 use Rattle.std.proofs.lemmas.List.{ext_get_or, get_or-map, get_or-set_other, get_or-set_same, length-map, length-replicate, length-set}
 use Rattle.std.proofs.lemmas.Slice.Zip.{length-zip}
+use Rattle.std.proofs.lemmas.Bool.{and_parts}
 use Rattle.lay_point.specs.declared.point.Point.{Point}
 use Rattle.lay_point.proofs.Members.{Has, contains, has-append, has-append_left, has-append_right}
 use Rattle.snap_visits.specs.Rounded.{Owned}
@@ -18,6 +19,7 @@ use Rattle.face_rows.specs.Rows.{upward}
 use Rattle.face_rows.specs.Operations.{answer}
 use Rattle.face_rows.proofs.PickedLemmas.{picked_has, picked_of}
 use Rattle.face_rows.proofs.SideLemmas.{zip_first}
+use Rattle.face_rows.proofs.Tests.{le_true, lt_false, lt_true, true_le}
 use Rattle.band_workers.specs.Cuts.{IsLabelled, band_at, whole_band}
 use Rattle.band_workers.specs.Joined.{AreNumbersBelow, Part, joined_onto, with_labels}
 use Rattle.band_workers.specs.Labels.{labels_of}
@@ -107,18 +109,6 @@ put_right wanted labels (p ∷ ps) len right some =
 
 -- ---- cuts
 
-lt_true : (a b : ℤ) → int_lt a b ≡ true → a <ℤ b
-lt_true a b h = grind (arith, ints)
-
-lt_false : (a b : ℤ) → int_lt a b ≡ false → b ≤ℤ a
-lt_false a b h = grind (arith, ints)
-
-le_true : (a b : ℤ) → int_le a b ≡ true → a ≤ℤ b
-le_true a b h = grind (arith, ints)
-
-true_le : (a b : ℤ) → a ≤ℤ b → int_le a b ≡ true
-true_le a b h = grind (arith, ints)
-
 -- what is from the first cut on and before the cut k is in a band before that
 abbrev IsBetween : List ℤ → ℕ → ℤ → Type 0
 IsBetween cuts k y = (i : ℕ) × (i < k) × (int_le (get_or cuts i (pos 0)) y ≡ true) × (int_lt y (get_or cuts (i + 1) (pos 0)) ≡ true)
@@ -150,11 +140,6 @@ has_get_or : {A : Type 0} (xs : List A) (i : ℕ) (d : A) → i < length xs → 
 has_get_or [] i d less = absurd (omega arith)
 has_get_or (x ∷ xs) zero d less = inl refl
 has_get_or (x ∷ xs) (suc i) d less = inr (has_get_or xs i d (omega arith))
-
-both_true : (a b : Bool) → (a && b) ≡ true → (a ≡ true) × (b ≡ true)
-both_true true true h = (refl, refl)
-both_true true false h = absurd cc
-both_true false b h = absurd cc
 
 of_ok : (op : Op) (r : Owned) (band : Band) (part : Part) (labels : Vec (ℕ × Bool)) → part ≡ Ok labels → IsLabelled op r band part
     → labels.items ≡ labelled op r band
@@ -227,7 +212,7 @@ module _ (op : Op) (r : Owned) (cuts : List ℤ) (parts : List Part) (all : List
 
   in_band : (e : Point × Point) → begins_in (whole_band cuts) e ≡ true → IsInBand e
   in_band e whole =
-      let both = both_true (int_le (whole_band cuts).low (upward e).0.y) (int_lt (upward e).0.y (whole_band cuts).high) whole in
+      let both = and_parts (int_le (whole_band cuts).low (upward e).0.y) (int_lt (upward e).0.y (whole_band cuts).high) whole in
       let b = between cuts (upward e).0.y (length cuts - 1) both.0 both.1 in
       (b.0, omega (arith, b.1, h.count), rw (b.2, b.3) refl)
 

@@ -19,6 +19,7 @@ use Rattle.snap_visits.specs.declared.owner.Owner.{Owner}
 use Rattle.snap_visits.specs.Owners.{input_eq, owner_eq}
 use Rattle.snap_chains.specs.Round.{AreOwnersOf, IsRoundOf, owner_walks}
 use Rattle.snap_visits.specs.Rounded.{Owned, is_owner_listed}
+use Rattle.snap_visits.proofs.Sorted.{same_tests}
 use Rattle.snap_visits.proofs.VisitOrder.{owner_eq-Decides}
 use Rattle.face_label_laws.specs.Labels.{Item, answer_at, listed_shapes, odd_of, owned_items, some_of}
 use Rattle.face_label_laws.proofs.Cuts.{AreDistinct, and_false_right, parity_of_one}
@@ -30,11 +31,6 @@ use Rattle.bool_shape_laws.proofs.ShapeLemmas.{inputs_round, shapes_tell_places}
 use Rattle.bool_ring_laws.specs.Inside.{AnswersAreThoseOfRings, OwnersAreThoseOfRings, ShapesAreThoseOfRings, holds, is_inside_rounded}
 
 -- ---- tests that agree
-same_if : (a b : Bool) → (a ≡ true → b ≡ true) → (b ≡ true → a ≡ true) → a ≡ b
-same_if true b f g = sym (f refl)
-same_if false true f g = g refl
-same_if false false f g = refl
-
 and_comm : (a b : Bool) → (a && b) ≡ (b && a)
 and_comm true true = refl
 and_comm true false = refl
@@ -162,7 +158,7 @@ owners_of_rings rings r h o k x y =
         → is_owner_listed o p.1 ≡ parity (same_edge p.0) (walked_edges undirected (owner_walks o rings h.walks))
     listed p m =
         let owners = item_owners (AreOwnersOf rings h.walks) r.0 r.1 h.owners p m in
-        same_if (is_owner_listed o p.1) (is_owned (owner_walks o rings h.walks) p.0)
+        same_tests (is_owner_listed o p.1) (is_owned (owner_walks o rings h.walks) p.0)
         (λ t. (owners.exact o).0 (contains p.1 o (listed_has o p.1 t)))
         (λ t. has_listed o p.1 (has p.1 o ((owners.exact o).1 t)))
 
@@ -195,7 +191,7 @@ inside_has k x y o (r ∷ rings) (w ∷ walks) e = by_test (owner_eq r.0 o) refl
 
 input_holds : (rings : List (Owner × List Point)) (r : Owned) (h : IsRoundOf rings r) (input : Input) (k x y : ℤ)
     → some_of input (listed_shapes (owned_items r)) (λ o. odd_of (owned_items r) o k x y) ≡ holds input rings h.walks k x y
-input_holds rings r h input k x y = same_if _ _
+input_holds rings r h input k x y = same_tests _ _
     (λ t.
     let shape = (inputs_are_their_shapes r input k x y).0 t in
     let o : Owner = record { input = input; shape = shape.0 } in

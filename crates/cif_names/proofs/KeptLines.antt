@@ -4,7 +4,7 @@ use Rattle.std.proofs.Common.{refl, ◌∙◌, arith}
 use Rattle.std.specs.Prelude.{⊤, ◌==◌, ◌&&◌, ◌^◌, option_map, codes, decimal, nat_le, not}
 use Rattle.std.specs.List.{AllByRecursion, list_all}
 use Rattle.std.specs.Str.{bytes_eq}
-use Rattle.std.proofs.lemmas.Bool.{and_parts}
+use Rattle.std.proofs.lemmas.Bool.{and_parts, not-true}
 use Rattle.std.proofs.lemmas.Bool.Decides.{nat_tests}
 use Rattle.std.proofs.lemmas.Fmt.{decimal_by_steps}
 use Rattle.std.proofs.lemmas.List.Folds.{list_all-append}
@@ -39,16 +39,12 @@ IsPlain bytes = list_all is_plain bytes ≡ true
 plain-append : (xs ys : List ℕ) → IsPlain xs → IsPlain ys → IsPlain (xs ++ ys)
 plain-append xs ys p q = list_all-append is_plain xs ys ∙ rw (p, q) refl
 
-not_newline : (t : Bool) → not t ≡ true → t ≡ false
-not_newline true e = absurd cc
-not_newline false e = refl
-
 -- in front of a line they are one with it
 line-append : (xs ys : List ℕ) → IsPlain xs → is_line ys ≡ true → is_line (xs ++ ys) ≡ true
 line-append [] ys p one = one
 line-append (b ∷ bs) ys p one =
     let both = and_parts (is_plain b) (list_all is_plain bs) p in
-    is_line-other b (bs ++ ys) (not_newline (b == 10) both.0) ∙ line-append bs ys both.1 one
+    is_line-other b (bs ++ ys) (not-true (b == 10) both.0) ∙ line-append bs ys both.1 one
 
 all_weaker : (p q : ℕ → Bool) → ((b : ℕ) → p b ≡ true → q b ≡ true) → (bs : List ℕ) → list_all p bs ≡ true → list_all q bs ≡ true
 all_weaker p q f [] h = refl

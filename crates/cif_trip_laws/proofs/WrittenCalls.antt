@@ -2,6 +2,7 @@
 use Rattle.std.proofs.Common.{◌≡◌, ℕ, true, false, ◌||◌, List, [], ◌∷◌, ◌++◌, map, Option, Some}
 use Rattle.std.proofs.Common.{None, refl, sym, ap, ◌∙◌, subst, All, Contains, append-nil, nat_eq}
 use Rattle.std.specs.List.{flat_map}
+use Rattle.std.proofs.lemmas.Bool.{or_right}
 use Rattle.std.proofs.lemmas.Bool.Decides.{Decides-eqb}
 use Rattle.std.proofs.lemmas.List.{map-append}
 use Rattle.std.proofs.lemmas.List.Concat.{flat_map-append}
@@ -18,7 +19,6 @@ use Rattle.lay_layouts.specs.declared.item.Item.TheVariants.{Placed, Shape}
 use Rattle.lay_layouts.specs.Calls.{calls_of}
 use Rattle.lay_layouts.specs.Layout.{Layout}
 use Rattle.lay_layouts.specs.Sound.{IsSound}
-use Rattle.lay_layouts.proofs.EntryLemmas.{or_true}
 use Rattle.cif_content.specs.declared.element.Element.{Element}
 use Rattle.cif_content.specs.declared.element.Figure.{Figure}
 use Rattle.cif_content.specs.declared.element.Figure.TheVariants as figure
@@ -125,7 +125,7 @@ each_there : (ns : List ℕ) → All (λ n. has_symbol ns n ≡ true) ns
 each_there [] = All-nil (λ n. has_symbol [] n ≡ true)
 each_there (n ∷ ns) =
     All-cons (λ m. has_symbol (n ∷ ns) m ≡ true) n ns (ap (λ b. b || has_symbol ns n) ((Decides-eqb n n).1 refl))
-    (All-weaker (λ m. has_symbol ns m ≡ true) (λ m. has_symbol (n ∷ ns) m ≡ true) (λ m h. or_true (nat_eq m n) (has_symbol ns m) h)
+    (All-weaker (λ m. has_symbol ns m ≡ true) (λ m. has_symbol (n ∷ ns) m ≡ true) (λ m h. or_right (nat_eq m n) (has_symbol ns m) h)
     ns (each_there ns))
 
 -- where a call comes from, and that its symbol is among these

@@ -26,9 +26,9 @@ use Rattle.std.proofs.Common.{
 use Rattle.std.proofs.Common.{ℤ, pos, ◌+ℤ◌, ◌-ℤ◌, ◌*ℤ◌, ◌≤ℤ◌, ◌<ℤ◌, refl, sym, ap, subst, ◌∙◌, arith}
 use Rattle.std.specs.Prelude.{int_le, int_lt, nat_eq, slice_get}
 use Rattle.std.proofs.Math.ListN.{length-set}
-use Rattle.std.proofs.lemmas.Bool.{cases_lt}
+use Rattle.std.proofs.lemmas.Bool.{and_parts, cases_lt}
 use Rattle.std.proofs.lemmas.Bool.Decides.{Decides-eqb}
-use Rattle.std.proofs.lemmas.Int.{ints}
+use Rattle.lay_int_laws.proofs.Tests.{lt_true}
 use Rattle.std.proofs.lemmas.List.{get_or-set_other, get_or-set_same, take_more}
 use Rattle.std.proofs.lemmas.List.Folds.{list_any-append}
 use Rattle.std.proofs.lemmas.Option.{get_or_from_slice_get, slice_get-get_or, slice_get_within}
@@ -173,15 +173,8 @@ ends_upward P e first second = by_test (int_le e.0.y e.1.y)
     by_test false = (second, first)
 
 both_less : (limit a b : ℤ) → (int_lt limit a && int_lt limit b) ≡ true → (limit <ℤ a) × (limit <ℤ b)
-both_less limit a b e = by_tests (int_lt limit a) (int_lt limit b) refl refl e
-  where
-    less : (x y : ℤ) → int_lt x y ≡ true → x <ℤ y
-    less x y h = grind (arith, ints)
-
-    by_tests : (s t : Bool) → int_lt limit a ≡ s → int_lt limit b ≡ t → (s && t) ≡ true → (limit <ℤ a) × (limit <ℤ b)
-    by_tests true true f g h = (less limit a f, less limit b g)
-    by_tests true false f g h = absurd cc
-    by_tests false t f g h = absurd cc
+both_less limit a b e =
+    let both = and_parts (int_lt limit a) (int_lt limit b) e in (lt_true limit a both.0, lt_true limit b both.1)
 
 pub row_ends : (r : Owned) (reach : Reach) (row : ℤ) (numbers : List ℕ) → IsReach r reach → AreRowEdges r.0 row numbers
     → EndAtReach r reach numbers

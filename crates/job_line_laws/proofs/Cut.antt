@@ -3,19 +3,12 @@ use Rattle.std.proofs.Common.{◌≡◌, ℕ, ◌≤◌, Bool, true, false, List
 use Rattle.std.proofs.Common.{inl, inr}
 use Rattle.std.specs.Prelude.{◌⊎◌, ◌&&◌, ◌==◌, not, if◌then◌else◌}
 use Rattle.std.specs.List.{list_all}
-use Rattle.std.proofs.lemmas.Bool.{and_parts}
+use Rattle.std.proofs.lemmas.Bool.{and_from, and_parts, not-true}
 use Rattle.std.proofs.lemmas.Bool.Decides.{nat_tests}
 use Rattle.byte_io.specs.Lines.{in_front, lines}
 use Rattle.job_text.specs.Steps.{Word}
 use Rattle.job_lines.specs.Words.{is_word_end, is_word_separator, words}
 use Rattle.job_line_laws.specs.Cuts.{AreLines, AreWords, is_line_byte, is_of_word}
-
-not_true : (t : Bool) → not t ≡ true → t ≡ false
-not_true true h = absurd (cc)
-not_true false h = refl
-
-both : (a b : Bool) → a ≡ true → b ≡ true → (a && b) ≡ true
-both a b first second = ap (λ t. t && b) first ∙ second
 
 -- ---- lines
 
@@ -26,14 +19,14 @@ line_first : (said rest : List ℕ) → list_all is_line_byte said ≡ true → 
 line_first [] rest all = refl
 line_first (b ∷ said) rest all =
     let parts = and_parts (is_line_byte b) (list_all is_line_byte said) all in
-    lines-other b ((said ++ 10 ∷ []) ++ rest) (not_true (b == 10) parts.0) ∙ ap (in_front b) (line_first said rest parts.1)
+    lines-other b ((said ++ 10 ∷ []) ++ rest) (not-true (b == 10) parts.0) ∙ ap (in_front b) (line_first said rest parts.1)
 
 line_last : (said : List ℕ) → list_all is_line_byte said ≡ true → 1 ≤ length said → lines said ≡ said ∷ []
 line_last [] all some = absurd (omega (arith, some))
-line_last (b ∷ []) all some = lines-other b [] (not_true (b == 10) (and_parts (is_line_byte b) true all).0)
+line_last (b ∷ []) all some = lines-other b [] (not-true (b == 10) (and_parts (is_line_byte b) true all).0)
 line_last (b ∷ c ∷ said) all some =
     let parts = and_parts (is_line_byte b) (list_all is_line_byte (c ∷ said)) all in
-    lines-other b (c ∷ said) (not_true (b == 10) parts.0) ∙ ap (in_front b) (line_last (c ∷ said) parts.1 (omega arith))
+    lines-other b (c ∷ said) (not-true (b == 10) parts.0) ∙ ap (in_front b) (line_last (c ∷ said) parts.1 (omega arith))
 
 cut_first : (bytes line said rest : List ℕ) → bytes ≡ line ++ rest → list_all is_line_byte said ≡ true →
     (line ≡ said ++ 10 ∷ []) ⊎ ((line ≡ said) × (1 ≤ length said) × (rest ≡ [])) → lines bytes ≡ line ∷ lines rest
@@ -63,7 +56,7 @@ in_front_of b bytes [] inside are = (
     said = b ∷ [];
     rest = [];
     parts = ap (λ l. b ∷ l) are;
-    whole = both (is_line_byte b) true inside refl;
+    whole = and_from (is_line_byte b) true inside refl;
     ended = inr (refl, omega arith, refl);
   },
   refl,
@@ -74,7 +67,7 @@ in_front_of b bytes (line ∷ more) inside are =
         said = b ∷ first.said;
         rest = first.rest;
         parts = ap (λ l. b ∷ l) first.parts;
-        whole = both (is_line_byte b) (list_all is_line_byte first.said) inside first.whole;
+        whole = and_from (is_line_byte b) (list_all is_line_byte first.said) inside first.whole;
         ended = longer_line b line first.said first.rest first.ended;
       },
       are.1,
@@ -114,12 +107,12 @@ gap_first (b ∷ gap) rest all =
 word_first : (b : ℕ) (word rest : List ℕ) → list_all is_of_word (b ∷ word) ≡ true → is_word_end rest ≡ true →
     words ((b ∷ word) ++ rest) ≡ (b ∷ word) ∷ words rest
 word_first b [] rest all ends =
-    words-byte b rest (not_true (is_word_separator b) (and_parts (is_of_word b) true all).0)
+    words-byte b rest (not-true (is_word_separator b) (and_parts (is_of_word b) true all).0)
     ∙ ap (λ t. if t then (b ∷ []) ∷ words rest else in_front b (words rest)) ends
 word_first b (c ∷ word) rest all ends =
     let parts = and_parts (is_of_word b) (list_all is_of_word (c ∷ word)) all in
-    let next = not_true (is_word_separator c) (and_parts (is_of_word c) (list_all is_of_word word) parts.1).0 in
-    words-byte b ((c ∷ word) ++ rest) (not_true (is_word_separator b) parts.0)
+    let next = not-true (is_word_separator c) (and_parts (is_of_word c) (list_all is_of_word word) parts.1).0 in
+    words-byte b ((c ∷ word) ++ rest) (not-true (is_word_separator b) parts.0)
     ∙ ap (λ t. if t then (b ∷ []) ∷ words ((c ∷ word) ++ rest) else in_front b (words ((c ∷ word) ++ rest))) next
     ∙ ap (in_front b) (word_first c word rest parts.1 ends)
 
@@ -143,14 +136,14 @@ words_same (word ∷ more) bytes are =
 
 -- a space or a tab before the words
 gap_more : (b : ℕ) (bytes : List ℕ) (all : List Word) → is_word_separator b ≡ true → AreWords bytes all → AreWords (b ∷ bytes) all
-gap_more b bytes [] e are = both (is_word_separator b) (list_all is_word_separator bytes) e are
+gap_more b bytes [] e are = and_from (is_word_separator b) (list_all is_word_separator bytes) e are
 gap_more b bytes (word ∷ more) e are =
     let first = are.0 in (
       record {
         gap = b ∷ first.gap;
         rest = first.rest;
         parts = ap (λ l. b ∷ l) first.parts;
-        blank = both (is_word_separator b) (list_all is_word_separator first.gap) e first.blank;
+        blank = and_from (is_word_separator b) (list_all is_word_separator first.gap) e first.blank;
         some = first.some;
         whole = first.whole;
         ends = first.ends;
@@ -168,7 +161,7 @@ new_word b bytes all e ends are = (
     parts = refl;
     blank = refl;
     some = omega arith;
-    whole = both (is_of_word b) true e refl;
+    whole = and_from (is_of_word b) true e refl;
     ends = ends;
   },
   are,
@@ -200,7 +193,7 @@ word_more b bytes (word ∷ more) e between are =
         parts = ap (λ l. b ∷ l) (first.parts ∙ ap (λ g. g ++ (word ++ first.rest)) none);
         blank = refl;
         some = omega arith;
-        whole = both (is_of_word b) (list_all is_of_word word) e first.whole;
+        whole = and_from (is_of_word b) (list_all is_of_word word) e first.whole;
         ends = first.ends;
       },
       are.1,

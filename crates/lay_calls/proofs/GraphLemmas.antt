@@ -6,7 +6,7 @@ use Rattle.std.proofs.Common.{Contains, unwrap_or, position}
 use Rattle.std.specs.Global.{Vec}
 use Rattle.std.specs.List.{position_or_len}
 use Rattle.std.proofs.lemmas.Bool.{cases_eq, false_from_ne_true}
-use Rattle.std.proofs.lemmas.Bool.Decides.{nat_tests}
+use Rattle.std.proofs.lemmas.Bool.Decides.{nat_tests, same_from_decides}
 use Rattle.std.proofs.lemmas.List.{map-append, length-set, length-map, get_or-map, get_or-set_same, get_or-set_other}
 use Rattle.std.proofs.lemmas.List.Elements.{filter-append, Contains-append_left, Contains-push, Contains-push_cases}
 use Rattle.std.proofs.lemmas.List.Sums.{prefix_len-le-length}
@@ -16,6 +16,11 @@ use Rattle.lay_calls.specs.Graph.{AreRowsOf, HasCall, position_of, row, rows_of,
 use Rattle.lay_calls.specs.SameCell.{cell_eq, cell_eq-Decides}
 use Rattle.lay_calls.specs.Symbols.{has_cell, has_symbol}
 use Rattle.lay_calls.specs.WalkLists.{calls_standing_in}
+
+-- whether two cells are the same doesn't depend on which is named first
+pub cells_swapped : (c d : CellId) → cell_eq c d ≡ cell_eq d c
+cells_swapped c d = same_from_decides (cell_eq c d) (cell_eq d c) (cell_eq-Decides c d)
+    ((λ h. sym ((cell_eq-Decides d c).0 h)), (λ e. (cell_eq-Decides d c).1 (sym e)))
 
 -- a position is among the cells
 pub position_of-within : (symbols : List ℕ) (cell : CellId) → position_of symbols cell < length symbols + 1

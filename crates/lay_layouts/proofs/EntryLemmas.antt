@@ -6,7 +6,7 @@ use Rattle.std.specs.Cmp.{Equal-is, IsTotalOrder, eq_by_cmp_equiv, nat_cmp_total
 use Rattle.std.specs.FinMap.{FinMap, IsAntisymmetric, entries, entries_sorted, find, get, get-entries, get-from_entries}
 use Rattle.std.specs.List.{IsDistinct, list_any}
 use Rattle.std.specs.Ordering.{eq_by_cmp, is_eq, nat_cmp, ordering_then}
-use Rattle.std.proofs.lemmas.Bool.{eqb-true}
+use Rattle.std.proofs.lemmas.Bool.{eqb-true, or_right}
 use Rattle.std.proofs.lemmas.Bool.Decides.{Decides-eqb}
 use Rattle.std.proofs.lemmas.List.Elements.{All-cons, All-map, All-nil, All-tail, All-head, All-weaker, recursion_from_All}
 use Rattle.std.proofs.lemmas.Map.Lookups.{exact_pairs, exact_unsigned}
@@ -43,10 +43,6 @@ module _ {K X : Type 0} {R : K → K → Ordering} (total : IsTotalOrder R) (exa
       (found-distinct (entries m) (entries-distinct m))
 
 -- ---- symbols
-
-pub or_true : (a b : Bool) → b ≡ true → (a || b) ≡ true
-or_true true b e = refl
-or_true false b e = e
 
 -- the number of a symbol under the standing of its slot
 record IsStanding (symbols : FinMap nat_cmp CellSlot) (k : Standing × ℕ) : Type 0 where
@@ -112,7 +108,7 @@ module _ (symbols : FinMap nat_cmp CellSlot) where
     by true at rest =
         let same : n ≡ e.1 = cc in
         ap (λ b. b || list_any (nat_eq n) (map (λ e. e.1) es)) ((Decides-eqb n e.1).1 same)
-    by false at rest = or_true (nat_eq n e.1) (list_any (nat_eq n) (map (λ e. e.1) es)) (rest at)
+    by false at rest = or_right (nat_eq n e.1) (list_any (nat_eq n) (map (λ e. e.1) es)) (rest at)
 
   -- each symbol's number is in slot order
   pub symbols-ordered : (n : ℕ) (slot : CellSlot) → get symbols n ≡ Some slot → has_symbol (in_slot_order symbols) n ≡ true

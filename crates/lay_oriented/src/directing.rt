@@ -1,8 +1,6 @@
 //! The items of a layout, their shapes directed.
 ghost use Rattle.std.specs.Prelude.{◌≡◌, ◌≤◌, IfOk, length, true};
 ghost use Rattle.std.specs.FinMap as map;
-ghost use Rattle.std.specs.List.{AllByRecursion};
-ghost use Rattle.lay_point.specs.Rings.{IsRing};
 ghost use Rattle.lay_layouts.specs.Sound.{IsDrawn};
 ghost use Rattle.lay_oriented.specs.Directed.{IsDirected};
 ghost use Rattle.lay_oriented.specs.Steps.{AreWrites, IsFoundFor};
@@ -11,7 +9,7 @@ use face_rings::bridge;
 use lay_items::{Snapshot, Version};
 use lay_layouts::{Item, ItemId, Rings};
 use lay_point::{MAX_RING_POINTS, NoMemory, Ring};
-use lay_winding::{Oriented, orient};
+use lay_winding::{Oriented, are_rings, orient};
 use std::alloc::Global;
 
 /// A layout with its shapes directed.
@@ -107,15 +105,4 @@ fn are_drawn(alloc: Global, rings: &[Ring]) -> Result<bool, NoMemory>
         return Ok(false);
     }
     Ok(bridge(alloc, rings)?.len() <= MAX_RING_POINTS)
-}
-
-/// Shows that these are rings, as their type keeps.
-fn are_rings(rings: &[Ring])
-    ensures { AllByRecursion IsRing rings.now }
-{
-    let mut rest = rings;
-    while let Some((ring, behind)) = rest.split_first() {
-        let _ = ring.points();
-        rest = behind;
-    }
 }

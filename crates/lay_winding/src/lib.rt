@@ -21,4 +21,4 @@ mod slant;
 mod sweep;
 
 pub use laws::winding_has_laws;
-pub use orienting::{Oriented, orient};
+pub use orienting::{Oriented, are_rings, orient};

@@ -73,7 +73,11 @@ fn have_edges(alloc: Global, rings: &[Ring], edges: &[(Point, Point)]) -> Result
 }
 
 /// Shows that these are rings, as their type keeps.
-fn are_rings(rings: &[Ring])
+///
+/// # Cost
+///
+/// A pass over the rings.
+pub fn are_rings(rings: &[Ring])
     ensures { AllByRecursion IsRing rings.now }
 {
     let mut rest = rings;

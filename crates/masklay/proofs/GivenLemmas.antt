@@ -1,15 +1,11 @@
 -- What is given out of a job, by what became of it.
-use Rattle.std.proofs.Common.{◌≡◌, ℕ, Bool, true, false, not, List, Result, Ok, Err, inl, inr, refl, subst, sym}
+use Rattle.std.proofs.Common.{◌≡◌, ℕ, Bool, true, false, List, Result, Ok, Err, inl, inr, subst, sym}
 use Rattle.lay_layouts.specs.Layout.{Layout}
 use Rattle.lay_oriented.specs.Directed.{IsDirected}
 use Rattle.masklay.specs.declared.program.outcome.Finished.{Finished}
 use Rattle.masklay.specs.declared.program.outcome.Stop.{Stop}
 use Rattle.masklay.specs.Oriented.{AnswersGiven}
 use Rattle.masklay.specs.Threads.{AnswersOutcome}
-
-pub asked : (b : Bool) → not b ≡ false → b ≡ true
-asked true h = refl
-asked false h = absurd cc
 
 -- where shapes stay, what became of it
 pub given_plain : (threaded oriented : Bool) (bytes : List ℕ) (outcome : Result Finished Stop) → oriented ≡ false

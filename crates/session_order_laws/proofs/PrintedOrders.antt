@@ -1,6 +1,7 @@
 -- The printed order leads to the same, of steps and of jobs.
 use Rattle.std.proofs.Common.{◌≡◌, ℕ, ◌≤◌, suc, Bool, true, false, ◌||◌, List, [], ◌∷◌, ◌++◌, length, get_or, map, refl, ap, sym, subst}
 use Rattle.std.proofs.Common.{◌∙◌, arith, replicate, None, nat_eq}
+use Rattle.std.proofs.lemmas.Bool.{or_from}
 use Rattle.std.specs.Prelude.{IsPermutation}
 use Rattle.std.specs.List.{AllByRecursion, list_any, range_with_len}
 use Rattle.std.proofs.lemmas.List.{length-replicate}
@@ -99,12 +100,9 @@ alike base sessions limit steps few known = (
   scripts_are index inside = ap (λ ss. get_or (dealt_scripts sessions ss) index []) (sym p.run.steps_are)
       ∙ own_dealt (λ e. e.step) sessions events are index
 
-both_false : (a b : Bool) → a ≡ false → b ≡ false → (a || b) ≡ false
-both_false a b first second = ap (λ x. x || b) first ∙ second
-
 no_memory : (replies : List Reply) → AllByRecursion HasMemory replies → list_any is_memory replies ≡ false
 no_memory [] all = refl
-no_memory (reply ∷ replies) all = both_false (is_memory reply) (list_any is_memory replies) all.0 (no_memory replies all.1)
+no_memory (reply ∷ replies) all = or_from (is_memory reply) (list_any is_memory replies) all.0 (no_memory replies all.1)
 
 pub steps_alike : StepsAnswerAlike
 steps_alike base sessions limit steps replies final few ran memory known =

@@ -3,7 +3,7 @@ use Rattle.std.proofs.Common.{◌≡◌, ◌≢◌, ◌↔◌, inl, inr, Bool, t
 use Rattle.std.proofs.Common.{length, map, get_or, refl, sym, ap, ap₂, ◌∙◌, subst, arith, Contains}
 use Rattle.std.specs.Prelude.{All, IsTrue}
 use Rattle.std.specs.List.{AllZip, AllByRecursion, zip}
-use Rattle.std.proofs.lemmas.Bool.{false≢true}
+use Rattle.std.proofs.lemmas.Bool.{false≢true, or_right}
 use Rattle.std.specs.List.Sorted.{IsPermutation}
 use Rattle.std.proofs.lemmas.List.{map-append}
 use Rattle.std.proofs.lemmas.List.Sorted.{Contains-permutation, IsPermutation-sym}
@@ -202,14 +202,10 @@ listed o (p ∷ owners) h = by_test (listed o owners) (owner_eq p o) refl h
     by_test later true e t = inl ((owner_eq-Decides p o).0 (sym e))
     by_test later false e t = inr (later (rw (← e) at t))
 
-or-true : (b c : Bool) → c ≡ true → (b || c) ≡ true
-or-true true c h = refl
-or-true false c h = h
-
 list_has : (o : Owner) (owners : List Owner) → Has owners o → is_owner_listed o owners ≡ true
 list_has o [] m = absurd m
 list_has o (p ∷ owners) (inl e) = rw ((owner_eq-Decides p o).1 e) refl
-list_has o (p ∷ owners) (inr m) = or-true (owner_eq p o) (is_owner_listed o owners) (list_has o owners m)
+list_has o (p ∷ owners) (inr m) = or_right (owner_eq p o) (is_owner_listed o owners) (list_has o owners m)
 
 module _ (rings : List (Owner × List Point)) (walks : List (List Point)) where
   parity_listed : (o : Owner) (v : Point) (edges : List (Point × Point)) (owners : List (List Owner))

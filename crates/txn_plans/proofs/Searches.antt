@@ -8,7 +8,7 @@ use Rattle.lay_calls.specs.declared.cell_id.CellId.{CellId}
 use Rattle.lay_calls.specs.declared.cell_id.CellId.TheVariants.{Symbol, Top}
 use Rattle.lay_calls.specs.SameCell.{cell_eq}
 use Rattle.lay_calls.specs.Symbols.{has_symbol}
-use Rattle.lay_calls.proofs.GraphLemmas.{has_more}
+use Rattle.lay_calls.proofs.GraphLemmas.{cells_swapped, has_more}
 use Rattle.lay_layouts.specs.declared.id.ItemId.{ItemId}
 use Rattle.lay_layouts.specs.declared.item.Item.{Item}
 use Rattle.lay_layouts.specs.declared.item.Item.TheVariants.{Placed, Shape}
@@ -18,17 +18,9 @@ use Rattle.lay_layouts.specs.Layout.{Layout}
 use Rattle.lay_layouts.specs.Lent.{calls_in, calls_lent}
 use Rattle.txn_commands.specs.Reach.{explored, is_among, reached, targets}
 use Rattle.txn_marks.proofs.Reach.{Goes, calls_left, calls_left-entered, calls_left-none}
-use Rattle.txn_marks.proofs.Reach.{cell_eq-refl, ends, goes_on, one_answer, reached-found, same_cell}
+use Rattle.txn_marks.proofs.Reach.{ends, goes_on, one_answer, reached-found}
 use Rattle.txn_marks.proofs.Reach.Goes.{entered, passed}
 use Rattle.txn_plans.specs.Searching.{called_by, called_in, cells_from, first_in, search_target, searched, symbols_from}
-
-same_either_way : (c d : CellId) → cell_eq c d ≡ cell_eq d c
-same_either_way c d = by_test (cell_eq c d) (cell_eq d c) refl refl where
-  by_test : (a b : Bool) → cell_eq c d ≡ a → cell_eq d c ≡ b → a ≡ b
-  by_test true true e f = refl
-  by_test false false e f = refl
-  by_test true false e f = sym (ap (λ x. cell_eq x c) (sym (same_cell c d e)) ∙ cell_eq-refl c) ∙ f
-  by_test false true e f = sym (sym (ap (λ x. cell_eq x d) (sym (same_cell d c f)) ∙ cell_eq-refl d) ∙ e)
 
 -- the symbols called in a cell are the targets of the calls that are lent
 targets-lent : (c : CellId) (es : List (ItemId × Item))
@@ -40,7 +32,7 @@ targets-lent c ((id, Shape cell layer rings) ∷ es) = targets-lent c es ∙ by_
   by_cell true = refl
   by_cell false = refl
 targets-lent c ((id, Placed cell target turn) ∷ es) =
-    ap (λ b. cons_option (cond b (Some (Symbol target)) None) (targets (calls_among es) c)) (same_either_way c cell)
+    ap (λ b. cons_option (cond b (Some (Symbol target)) None) (targets (calls_among es) c)) (cells_swapped c cell)
     ∙ by_cell (cell_eq cell c) (targets-lent c es) where
       by_cell : (b : Bool) → targets (calls_among es) c ≡ map Symbol (map search_target (calls_lent (standing_in c es))) →
           cons_option (cond b (Some (Symbol target)) None) (targets (calls_among es) c)

@@ -8,10 +8,11 @@ use Rattle.std.proofs.lemmas.Slice.Eq.{bytes_eq-Decides}
 use Rattle.lay_point.specs.Same.{names_eq}
 use Rattle.lay_calls.specs.declared.cell_id.CellId.{CellId}
 use Rattle.lay_calls.specs.declared.cell_id.CellId.TheVariants.{Symbol}
-use Rattle.lay_calls.specs.SameCell.{cell_eq, cell_eq-Decides}
+use Rattle.lay_calls.specs.SameCell.{cell_eq}
 use Rattle.lay_calls.specs.WalkLists.{IsWalk}
 use Rattle.lay_calls.specs.Walks.{Walks}
 use Rattle.lay_calls.specs.Walks.Walks.{goes, stays}
+use Rattle.lay_calls.proofs.GraphLemmas.{cells_swapped}
 use Rattle.lay_cells.proofs.AcyclicLemmas.{stands}
 use Rattle.lay_layouts.specs.declared.id.ItemId.{ItemId}
 use Rattle.lay_layouts.specs.declared.item.Item as items
@@ -35,10 +36,6 @@ use Rattle.txn_commands.proofs.Agreements.{same_is_cell}
 use Rattle.txn_commands.proofs.Lists.{all_parts}
 use Rattle.txn_commands.proofs.Lying.{filter-alike_maps}
 use Rattle.txn_rules.proofs.Reach.{all_among, reached-walks}
-
-pub cells_swapped : (c d : CellId) → cell_eq c d ≡ cell_eq d c
-cells_swapped c d = same_from_decides (cell_eq c d) (cell_eq d c) (cell_eq-Decides c d)
-    ((λ h. sym ((cell_eq-Decides d c).0 h)), (λ e. (cell_eq-Decides d c).1 (sym e)))
 
 pub names_swapped : (a b : List ℕ) → names_eq a b ≡ names_eq b a
 names_swapped a b = same_from_decides (names_eq a b) (names_eq b a) (bytes_eq-Decides a b)

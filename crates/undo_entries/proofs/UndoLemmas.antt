@@ -7,7 +7,6 @@ use Rattle.lay_layouts.specs.Sound.{IsSound}
 use Rattle.txn_commands.specs.declared.command.TxnId.{TxnId}
 use Rattle.txn_commands.specs.Records.{AreProper, applied, reverted}
 use Rattle.undo_rules.specs.declared.log.Answer.TheVariants.{Redone, Undone}
-use Rattle.undo_rules.specs.declared.log.BookFault.{BookFault}
 use Rattle.undo_rules.specs.declared.log.BookFault.TheVariants.{NotLive, StillLive}
 use Rattle.undo_rules.specs.declared.log.Call.TheVariants.{Redo, Undo}
 use Rattle.undo_rules.specs.declared.log.Logged.{Logged}
@@ -19,7 +18,7 @@ use Rattle.undo_rules.specs.Steps.{moved_refusal, or_else, redo_refusal, redo_re
 use Rattle.undo_rules.specs.Steps.{undo_refusal, undo_refusal_at, with_mark}
 use Rattle.undo_rules.proofs.HistoryLaws.{puts_back, replays, takes_out}
 use Rattle.undo_rules.proofs.Logs.{kept_longer}
-use Rattle.undo_rules.proofs.StepLaws.{redo_keeps, settled_is, undo_keeps}
+use Rattle.undo_rules.proofs.StepLaws.{neither_of, no_depends, no_moved, redo_keeps, settled_is, undo_keeps}
 use Rattle.undo_entries.specs.Places.{place_of}
 use Rattle.undo_entries.specs.Replays.{CanBeRedone, replay}
 use Rattle.undo_entries.proofs.FoundLemmas.{split_at}
@@ -28,18 +27,6 @@ use Rattle.undo_entries.proofs.SoundLemmas.{entry_proper, kept_sound}
 use Rattle.undo_entries.proofs.MovedLemmas.{unmoved_same}
 
 -- ---- what nothing is against
-
-no_depends : (reader : Option TxnId) → depends reader ≡ None → reader ≡ None
-no_depends None h = refl
-no_depends (Some txn) h = absurd cc
-
-no_moved : (other : Option TxnId) → moved_refusal other ≡ None → other ≡ None
-no_moved None h = refl
-no_moved (Some txn) h = absurd cc
-
-neither_of : (first next : Option BookFault) → or_else first next ≡ None → (first ≡ None) × (next ≡ None)
-neither_of None next h = (refl, h)
-neither_of (Some fault) next h = absurd cc
 
 record CanUndo (at : Found) : Type 0 where
   live : at.entry.live ≡ true

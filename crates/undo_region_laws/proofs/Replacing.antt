@@ -11,6 +11,7 @@ use Rattle.std.specs.Ordering.{eq_by_cmp}
 use Rattle.lay_point.specs.Same.{names_eq}
 use Rattle.lay_calls.specs.declared.cell_id.CellId.{CellId}
 use Rattle.lay_calls.specs.SameCell.{cell_eq}
+use Rattle.lay_calls.proofs.GraphLemmas.{cells_swapped}
 use Rattle.lay_layouts.specs.declared.id.ItemId.{ItemId}
 use Rattle.lay_layouts.specs.declared.item.Item as items
 use Rattle.lay_layouts.specs.declared.item.Item.TheVariants.{Placed, Shape}
@@ -33,7 +34,7 @@ use Rattle.txn_commands.specs.Lies.{lies}
 use Rattle.txn_commands.specs.Plans.{plan, shape_ids}
 use Rattle.txn_commands.specs.Reach.{reached}
 use Rattle.txn_commands.specs.Writing.{rewritten}
-use Rattle.txn_rules.proofs.Below.{cells_swapped, names_swapped, shapes_agree}
+use Rattle.txn_rules.proofs.Below.{names_swapped, shapes_agree}
 use Rattle.txn_rules.proofs.Booleans.{replaced_by}
 use Rattle.txn_commands.proofs.Lying.{entries_found, no_entry_passes}
 use Rattle.txn_commands.proofs.Maps.{get-put_all, later, same_key, write_at}

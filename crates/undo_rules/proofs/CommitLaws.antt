@@ -4,6 +4,7 @@ use Rattle.std.proofs.Common.{true, false, cond, ◌&&◌, List, [], ◌∷◌, 
 use Rattle.std.proofs.Common.{Option, None, Some, option_map, refl, sym, ap, subst, ◌∙◌, arith, slice_get}
 use Rattle.std.specs.Prelude.{is_some}
 use Rattle.std.specs.List.{AllByRecursion, cons_option, filter_map}
+use Rattle.std.proofs.lemmas.Bool.{and_parts}
 use Rattle.std.proofs.lemmas.Bool.Decides.{Decides-eqb}
 use Rattle.std.proofs.lemmas.List.{length-append}
 use Rattle.std.proofs.lemmas.List.Elements.{filter_map-append}
@@ -55,11 +56,6 @@ unstale entries touched (call ∷ calls) h = by (changed_in call) h (unstale ent
 
 -- ---- names
 
-both_so : (a b : Bool) → (a && b) ≡ true → (a ≡ true) × (b ≡ true)
-both_so true true e = (refl, refl)
-both_so true false e = absurd cc
-both_so false b e = absurd cc
-
 -- no committed transaction has the name of the one that waits
 unnamed : (session number : ℕ) (state : SessionState) (txn : TxnId) (entries : List Entry) → number ≡ session → txn.session ≡ session →
     state.opens ≡ txn.txn → is_some state.pending ≡ true → AllByRecursion (IsNamed number state) entries →
@@ -70,7 +66,7 @@ unnamed session number state txn (e ∷ entries) at of last waits all =
       by : (b : Bool) → txn_eq e.txn txn ≡ b → b ≡ false
       by false is = refl
       by true is =
-          let parts = both_so (e.txn.session == txn.session) (e.txn.txn == txn.txn) is in
+          let parts = and_parts (e.txn.session == txn.session) (e.txn.txn == txn.txn) is in
           let its : e.txn.session ≡ txn.session = (Decides-eqb e.txn.session txn.session).0 parts.0 in
           let same : e.txn.txn ≡ txn.txn = (Decides-eqb e.txn.txn txn.txn).0 parts.1 in
           let less = (all.0 (its ∙ of ∙ sym at)).1 waits in

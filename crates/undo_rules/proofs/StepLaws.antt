@@ -106,15 +106,15 @@ settled_is h end kept =
 -- ---- undo and redo
 
 -- neither of two refusals
-neither_of : (first next : Option BookFault) → or_else first next ≡ None → (first ≡ None) × (next ≡ None)
+pub neither_of : (first next : Option BookFault) → or_else first next ≡ None → (first ≡ None) × (next ≡ None)
 neither_of None next h = (refl, h)
 neither_of (Some fault) next h = absurd cc
 
-no_depends : (reader : Option TxnId) → depends reader ≡ None → reader ≡ None
+pub no_depends : (reader : Option TxnId) → depends reader ≡ None → reader ≡ None
 no_depends None h = refl
 no_depends (Some txn) h = absurd cc
 
-no_moved : (other : Option TxnId) → moved_refusal other ≡ None → other ≡ None
+pub no_moved : (other : Option TxnId) → moved_refusal other ≡ None → other ≡ None
 no_moved None h = refl
 no_moved (Some txn) h = absurd cc
 

@@ -1,9 +1,10 @@
-use Rattle.masklay.proofs.GivenLemmas.{asked, given_directed}
+use Rattle.std.proofs.lemmas.Bool.{not-false}
+use Rattle.masklay.proofs.GivenLemmas.{given_directed}
 use Rattle.masklay.proofs.program.oriented.finish_directed.Goals as goal
 
 -- the layout of the outcome was directed
 pub returns : goal.returns
 returns g c =
     given_directed c.args.options.threaded c.args.options.oriented c.args.bytes.now.items c.in_ok-finished.finished
-    c.in_ok-layout.field-0.layout c.in_ok-layout.field-0.staying (asked c.args.options.oriented c.if-not-options.false)
+    c.in_ok-layout.field-0.layout c.in_ok-layout.field-0.staying (not-false c.args.options.oriented c.if-not-options.false)
     c.in_ok-finished.ensures c.in_ok-layout.ensures
