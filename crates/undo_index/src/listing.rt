@@ -12,6 +12,7 @@ use std::alloc::Global;
 use std::collections::BTreeSet;
 use std::marker::Model;
 use txn_commands::Element;
+use txn_marks::Footprint;
 
 /// Places listed under elements. Contracts see the finite set of the pairs.
 #[derive(Drop)]
@@ -85,6 +86,21 @@ impl Listing {
             least = lesser(least, self.first(*element, from));
         }
         least
+    }
+
+    /// Returns the least place from this one on that is listed under one of the elements of the footprint.
+    ///
+    /// # Cost
+    ///
+    /// As that of `add`.
+    pub fn first_touched(&self, footprint: &Footprint, from: usize) -> Option<usize>
+        ensures { IsFirst (λ p. list_any (λ e. is_listed self.now e p) (set.items footprint.now)) from result }
+    {
+        let mut first = None;
+        for element in footprint.elements() {
+            first = lesser(first, self.first(*element, from));
+        }
+        first
     }
 
     /// Returns all places below this one that are listed under one of the elements, in rising order.
