@@ -1,5 +1,5 @@
 -- What is listed under elements, as transactions are committed, undone and redone.
-use Rattle.std.proofs.Common.{◌≡◌, ℕ, ◌<◌, ◌==◌, zero, suc, Bool, true, false, not, cond, ◌||◌, ◌&&◌, List, [], ◌∷◌, ◌++◌, length, drop}
+use Rattle.std.proofs.Common.{◌≡◌, ℕ, ◌<◌, ◌≤◌, ◌==◌, zero, suc, Bool, true, false, not, cond, ◌||◌, ◌&&◌, List, [], ◌∷◌, ◌++◌, length, drop}
 use Rattle.std.proofs.Common.{Option, None, Some, refl, sym, ap, subst, ◌∙◌, arith, slice_get, slice_set}
 use Rattle.std.specs.Prelude.{is_some}
 use Rattle.std.proofs.lemmas.Bool.Decides.{Decides-eqb, Decides-like, same_from_decides}
@@ -18,7 +18,7 @@ use Rattle.undo_rules.specs.Links.{Entry, first_reader, marked, meets_touched}
 use Rattle.undo_index.specs.First.{IsFirst, first_some, look, looked_up_at, or_some}
 use Rattle.undo_index.specs.Listed.{AreAdded, AreRemoved, IsNew, Listed, is_listed, nothing_listed, pair_cmp}
 use Rattle.undo_index.proofs.FirstLemmas.{first_alike, first_found}
-use Rattle.undo_entries.specs.Indexed.{AreIndexed, Lists, touched, wrote}
+use Rattle.undo_entries.specs.Indexed.{AreIndexed, Lists, is_linked, touched, wrote}
 
 -- ---- places of a list
 
@@ -248,3 +248,47 @@ module _ (writes : Records) where
       AreMetBy writes met → IsFirst (λ q. list_any (λ e. is_listed r e q) (items met)) from (Some p) → slice_get es p ≡ None →
       first_reader writes (drop from es) ≡ None
   reader_gone r es met from p lists are first at = reader_found r es met from (Some p) lists are first ∙ ap (look named) at
+
+-- ---- a writer from a place on
+
+module _ {X : Type 0} (test : X → Bool) where
+  none_past : (xs : List X) (from : ℕ) → ((p : ℕ) → from ≤ p → passes test (slice_get xs p) ≡ false) → list_any test (drop from xs) ≡ false
+  none_past [] zero none = refl
+  none_past [] (suc from) none = refl
+  none_past (x ∷ xs) (suc from) none = none_past xs from (λ p less. none (suc p) (omega (arith, less)))
+  none_past (x ∷ xs) zero none =
+      let rest = none_past xs 0 (λ p less. none (suc p) (omega arith)) in
+      let first : test x ≡ false = none 0 (omega arith) in
+      λ i. first i || rest i
+
+  one_past : (xs : List X) (from p : ℕ) → from ≤ p → passes test (slice_get xs p) ≡ true → list_any test (drop from xs) ≡ true
+  one_past [] zero p less there = absurd cc
+  one_past [] (suc from) p less there = absurd cc
+  one_past (x ∷ xs) (suc from) zero less there = absurd (omega (arith, less))
+  one_past (x ∷ xs) (suc from) (suc p) less there = one_past xs from p (omega (arith, less)) there
+  one_past (x ∷ xs) zero zero less there = ap (λ b. b || list_any test xs) there
+  one_past (x ∷ xs) zero (suc p) less there = or_so (test x) (one_past xs 0 p (omega arith) there) where
+    or_so : (b : Bool) → list_any test xs ≡ true → (b || list_any test xs) ≡ true
+    or_so true h = refl
+    or_so false h = h
+
+  first_past : (xs : List X) (from : ℕ) (o : Option ℕ) → IsFirst (λ p. passes test (slice_get xs p)) from o →
+      is_some o ≡ list_any test (drop from xs)
+  first_past xs from None first = sym (none_past xs from first)
+  first_past xs from (Some p) first = sym (one_past xs from p first.0 first.1)
+
+linked_so : (footprint : Touched) (o : Option Entry) →
+    list_any (λ e. passes (wrote e) o) (items footprint) ≡ passes (λ entry. is_linked entry footprint) o
+linked_so footprint None = any_none (items footprint)
+linked_so footprint (Some entry) = any_live entry.writes entry.live (some_meets entry.writes) (items footprint)
+
+-- it is looked up by the elements that are touched
+pub linked_past : (w : Listed) (es : List Entry) (footprint : Touched) (from : ℕ) (o : Option ℕ) → Lists wrote w es →
+    IsFirst (λ p. list_any (λ e. is_listed w e p) (items footprint)) from o →
+    is_some o ≡ list_any (λ entry. is_linked entry footprint) (drop from es)
+linked_past w es footprint from o lists first =
+    first_past (λ (entry : Entry). is_linked entry footprint) es from o
+    (first_alike (λ p. list_any (λ e. is_listed w e p) (items footprint))
+    (λ p. passes (λ (entry : Entry). is_linked entry footprint) (slice_get es p)) from o
+    (λ p. any_alike (λ e. is_listed w e p) (λ e. passes (wrote e) (slice_get es p)) (items footprint) (λ e. lists e p)
+    ∙ linked_so footprint (slice_get es p)) first)

@@ -1,5 +1,5 @@
 -- Which calls of a log change a transaction that no call before them changed.
-use Rattle.std.specs.Prelude.{◌≡◌, ℕ, suc, List, [], ◌∷◌, ◌++◌, length, take, Bool, true, false, nat_lt, Option, None, Some}
+use Rattle.std.specs.Prelude.{◌≡◌, ℕ, ◌<◌, ◌≤◌, suc, List, [], ◌∷◌, ◌++◌, length, take, Bool, true, false, nat_lt, Option, None, Some}
 use Rattle.std.specs.Prelude.{if◌then◌else◌, slice_get}
 use Rattle.txn_commands.specs.declared.command.TxnId.{TxnId}
 use Rattle.undo_rules.specs.declared.log.Logged.{Logged}
@@ -43,6 +43,16 @@ pub record AreChanges (earlier : List (Option ℕ)) (last : List ℕ) (log : Lis
   pub calls : earlier ≡ earliers [] log
   pub named : (txn : TxnId) → last_change txn log ≡ kept_at last (place_of txn entries)
   pub long : length last ≡ length entries
+
+-- the transactions stand in the order of their commits, which are calls of the log, as their last changes are; and one whose last
+-- change isn't before `again` was changed by its commit alone, and is live
+pub record AreCommits (again : ℕ) (last : List ℕ) (log : List Logged) (entries : List Entry) : Type 0 where
+  pub rising : (i j : ℕ) (one next : Entry) → slice_get entries i ≡ Some one → slice_get entries j ≡ Some next → i ≤ j →
+      one.place ≤ next.place
+  pub within : (i : ℕ) (entry : Entry) → slice_get entries i ≡ Some entry → entry.place < length log
+  pub ended : (i place : ℕ) → slice_get last i ≡ Some place → place < length log
+  pub first : (i place : ℕ) (entry : Entry) → slice_get last i ≡ Some place → slice_get entries i ≡ Some entry → again ≤ place →
+      (entry.place ≡ place) × (entry.live ≡ true)
 
 -- the transaction that the call at a place of the log changed
 abbrev pub changed_of : Option Logged → Option TxnId

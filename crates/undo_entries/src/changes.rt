@@ -1,5 +1,5 @@
 //! What a book keeps of the changes in its log.
-ghost use Rattle.std.specs.Prelude.{◌≡◌, ◌<◌, ◌++◌, [], ◌∷◌, OnOk, None, slice_get, slice_set};
+ghost use Rattle.std.specs.Prelude.{◌≡◌, ◌+◌, ◌<◌, ◌++◌, [], ◌∷◌, OnOk, None, slice_get, slice_set};
 ghost use Rattle.std.specs.Prelude.{vec_capacity, vec_len};
 ghost use Rattle.undo_entries.specs.Changes.{is_unchanged_since};
 
@@ -14,6 +14,8 @@ pub struct Changes {
     pub earlier: Vec<Option<u32>>,
     /// Of each committed transaction the place of the last call that changed it.
     pub(crate) last: Vec<u32>,
+    /// The place behind the last call that changed a transaction again: that undid or redid it. 0 at first.
+    pub again: usize,
 }
 
 impl Changes {
@@ -21,10 +23,12 @@ impl Changes {
     pub fn new(alloc: Global) -> Changes
         ensures earlier { result.earlier.items ≡ [] }
         ensures last { result.last.items ≡ [] }
+        ensures again { result.again ≡ 0 }
     {
         Changes {
             earlier: Vec::new(alloc),
             last: Vec::new(alloc),
+            again: 0,
         }
     }
 
@@ -32,6 +36,7 @@ impl Changes {
     pub fn reserve_call(&mut self) -> Result<(), NoMemory>
         ensures earlier { self.new.earlier.items ≡ self.old.earlier.items }
         ensures last { self.new.last.items ≡ self.old.last.items }
+        ensures again { self.new.again ≡ self.old.again }
         ensures room { OnOk result (vec_len self.new.earlier < vec_capacity self.new.earlier) }
     {
         self.earlier.reserve(1)?;
@@ -42,6 +47,7 @@ impl Changes {
     pub fn reserve_commit(&mut self) -> Result<(), NoMemory>
         ensures earlier { self.new.earlier.items ≡ self.old.earlier.items }
         ensures last { self.new.last.items ≡ self.old.last.items }
+        ensures again { self.new.again ≡ self.old.again }
         ensures room { OnOk result (vec_len self.new.earlier < vec_capacity self.new.earlier) }
         ensures room_of_last { OnOk result (vec_len self.new.last < vec_capacity self.new.last) }
     {
@@ -55,6 +61,7 @@ impl Changes {
         requires room { vec_len self.old.earlier < vec_capacity self.old.earlier }
         ensures earlier { self.new.earlier.items ≡ self.old.earlier.items ++ None ∷ [] }
         ensures last { self.new.last.items ≡ self.old.last.items }
+        ensures again { self.new.again ≡ self.old.again }
     {
         self.earlier.push(None).unwrap();
     }
@@ -65,6 +72,7 @@ impl Changes {
         requires room_of_last { vec_len self.old.last < vec_capacity self.old.last }
         ensures earlier { self.new.earlier.items ≡ self.old.earlier.items ++ None ∷ [] }
         ensures last { self.new.last.items ≡ self.old.last.items ++ place ∷ [] }
+        ensures again { self.new.again ≡ self.old.again }
     {
         self.earlier.push(None).unwrap();
         self.last.push(place).unwrap();
@@ -76,9 +84,11 @@ impl Changes {
         requires room { vec_len self.old.earlier < vec_capacity self.old.earlier }
         ensures earlier { self.new.earlier.items ≡ self.old.earlier.items ++ slice_get self.old.last.items index ∷ [] }
         ensures last { self.new.last.items ≡ slice_set self.old.last.items index place }
+        ensures again { self.new.again ≡ place + 1 }
     {
         self.earlier.push(Some(self.last[index])).unwrap();
         self.last[index] = place;
+        self.again = place as usize + 1;
     }
 }
 
