@@ -8,6 +8,7 @@ use Rattle.undo_book.specs.Books.{IsBook, history_of}
 use Rattle.undo_entries.specs.Indexed.{AreIndexed}
 use Rattle.undo_entries.specs.Places.{AreTheirPlaces}
 use Rattle.undo_entries.proofs.ChangeLemmas.{same_lists}
+use Rattle.undo_entries.proofs.SinceLemmas.{same_commits}
 
 same_index : {v w r s : Listed} {es fs : List Entry} → v ≡ w → s ≡ r → fs ≡ es → AreIndexed w r es → AreIndexed v s fs
 same_index {v} {w} {r} {s} {es} {fs} writers readers entries is =
@@ -16,11 +17,12 @@ same_index {v} {w} {r} {s} {es} {fs} writers readers entries is =
 
 pub same_book : (b n : Inside) → history_of n ≡ history_of b → n.places.entries ≡ b.places.entries →
     n.changes.earlier.items ≡ b.changes.earlier.items → n.changes.last.items ≡ b.changes.last.items →
-    n.index.writers ≡ b.index.writers → n.index.readers ≡ b.index.readers → IsBook b → IsBook n
-same_book b n history places earlier last writers readers is = record {
+    n.changes.again ≡ b.changes.again → n.index.writers ≡ b.index.writers → n.index.readers ≡ b.index.readers → IsBook b → IsBook n
+same_book b n history places earlier last again writers readers is = record {
   history = subst (λ (h : History). IsHistory h) (sym history) is.history;
   places = subst (λ ps. AreTheirPlaces ps n.entries.items) (sym places)
       (subst (λ (h : History). AreTheirPlaces b.places.entries h.entries) (sym history) is.places);
   changes = same_lists earlier last (ap (λ (h : History). h.log) history) (ap (λ (h : History). h.entries) history) is.changes;
+  commits = same_commits again last (ap (λ (h : History). h.log) history) (ap (λ (h : History). h.entries) history) is.commits;
   index = same_index writers readers (ap (λ (h : History). h.entries) history) is.index;
 }

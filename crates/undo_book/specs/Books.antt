@@ -1,7 +1,7 @@
 -- What contracts see of a book, and what it keeps.
 use Rattle.undo_rules.specs.Books.{History, IsHistory}
 use Rattle.undo_book.specs.declared.book.Book.TheInside.{Inside}
-use Rattle.undo_entries.specs.Changes.{AreChanges}
+use Rattle.undo_entries.specs.Changes.{AreChanges, AreCommits}
 use Rattle.undo_entries.specs.Indexed.{AreIndexed}
 use Rattle.undo_entries.specs.Places.{AreTheirPlaces}
 
@@ -16,10 +16,11 @@ history_of b = record {
   sessions = b.sessions.items;
 }
 
--- a book keeps what a history keeps true, the places of its transactions, those of their changes in its log, and who of the live
--- ones wrote and touched what
+-- a book keeps what a history keeps true, the places of its transactions, those of their changes in its log, behind which of them
+-- there are only commits, and who of the live ones wrote and touched what
 pub record IsBook (b : Inside) : Type 0 where
   pub history : IsHistory (history_of b)
   pub places : AreTheirPlaces b.places.entries b.entries.items
   pub changes : AreChanges b.changes.earlier.items b.changes.last.items b.log.items b.entries.items
+  pub commits : AreCommits b.changes.again b.changes.last.items b.log.items b.entries.items
   pub index : AreIndexed b.index.writers b.index.readers b.entries.items

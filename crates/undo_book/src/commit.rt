@@ -61,10 +61,10 @@ impl Book {
     ///
     /// # Cost
     ///
-    /// That of `agrees` on what the work touched; a look-up by the elements of the footprint in what each
-    /// transaction wrote that was changed since the open; look-ups of the footprint and of the records in
-    /// the index; and that of `Version::with`. A name is kept of each transaction that the work is linked
-    /// to.
+    /// That of `agrees` on what the work touched; look-ups of the footprint and of the records in the index;
+    /// and that of `Version::with`. Where a call since the open undid or redid a transaction, and where the
+    /// work is stale, also a look-up by the elements of the footprint in what each transaction wrote that was
+    /// changed since. A name is kept of each transaction that the work is linked to.
     pub fn commit(&mut self, alloc: Global, work: Work) -> Result<TxnId, CommitRefusal>
         ensures step { TakesWork self.old work (commit_step self.old work) result self.new }
         ensures full { is_log_full self.old ≡ true → result ≡ Err (refused BookFault.LogFull work) }

@@ -1,11 +1,13 @@
 //! Transactions by their names, and what is against undoing or redoing them.
-ghost use Rattle.std.specs.Prelude.{◌≡◌, ◌<◌, IfOk, IfSome, MatchResult, None, Some, drop, length, map};
+ghost use Rattle.std.specs.Prelude.{◌≡◌, ◌<◌, ◌≤◌, IfOk, IfSome, MatchResult, None, Some, drop, length, map, nat_lt};
+ghost use Rattle.std.specs.List.{list_any};
+ghost use Rattle.std.specs.List.Sorted.{IsPartitionPoint};
 ghost use Rattle.undo_rules.specs.Books.{writes_of};
 ghost use Rattle.undo_rules.specs.Links.{AreNamed, trace_of};
 ghost use Rattle.undo_rules.specs.Steps.{redo_refusal, redo_refusal_at, stale_by, touching};
 ghost use Rattle.undo_rules.specs.Steps.{undo_refusal, undo_refusal_at};
 ghost use Rattle.undo_entries.specs.Changes.{first_change};
-ghost use Rattle.undo_entries.specs.Indexed.{AreIndexed};
+ghost use Rattle.undo_entries.specs.Indexed.{AreIndexed, is_linked};
 ghost use Rattle.undo_entries.specs.Places.{AreTheirPlaces, found_at, place_of};
 
 use crate::book::Book;
@@ -71,14 +73,48 @@ impl Book {
     }
 
     /// Returns the first transaction that a call from this place of the log on changed and that wrote what is
-    /// touched. What a transaction wrote is looked at where it was first changed, and not again. Most calls
-    /// are commits, so the next one's place is guessed to be behind the last one's.
+    /// touched. Where those calls undid and redid nothing, they changed what they committed, so there is one
+    /// only if the index lists what was committed since under an element of the footprint.
     pub(crate) fn stale_by(&self, footprint: &Footprint, since: usize) -> Option<TxnId>
         ensures { result ≡ stale_by self.now.entries footprint.now (drop since self.now.log) }
     {
-        let mut near = self
-            .entries
-            .partition_point(|entry| (entry.place as usize) < since);
+        let near = self.committed_before(since);
+        if self.changes.again <= since && !self.is_written_from(footprint, near) {
+            return None;
+        }
+        self.first_stale(footprint, since, near)
+    }
+
+    /// Returns how many of the transactions were committed before this place of the log.
+    fn committed_before(&self, since: usize) -> usize
+        ensures { IsPartitionPoint (λ entry. entry.place < since) (λ entry. since ≤ entry.place)
+            self.now.entries result }
+    {
+        self.entries.partition_point(
+            |entry: &Entry| -> bool
+                ensures { result ≡ nat_lt entry.now.place since }
+            { (entry.place as usize) < since },
+        )
+    }
+
+    /// Returns whether a live transaction from this place on wrote an element of the footprint.
+    fn is_written_from(&self, footprint: &Footprint, from: usize) -> bool
+        ensures { result ≡ list_any (λ entry. is_linked entry footprint.now) (drop from self.now.entries) }
+    {
+        if from >= self.entries.len() {
+            return false;
+        }
+        self.index.writers.first_touched(footprint, from).is_some()
+    }
+
+    /// Returns the first transaction that a call from this place of the log on changed and that wrote what is
+    /// touched. What a transaction wrote is looked at where it was first changed, and not again. Most calls
+    /// are commits, so the next one's place is guessed to be behind the last one's, and the first one's to be
+    /// this one.
+    fn first_stale(&self, footprint: &Footprint, since: usize, first: usize) -> Option<TxnId>
+        ensures { result ≡ stale_by self.now.entries footprint.now (drop since self.now.log) }
+    {
+        let mut near = first;
         for place in since..self.log.len() {
             if let Some(txn) = self.first_change(place, since) {
                 let found = self.place_near(txn, near);

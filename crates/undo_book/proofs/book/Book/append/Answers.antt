@@ -15,6 +15,7 @@ use Rattle.undo_entries.specs.Indexed.{AreIndexed}
 use Rattle.undo_entries.proofs.IndexedLemmas.{commit_indexed, new_here}
 use Rattle.undo_book.proofs.SameLemmas.{same_book}
 use Rattle.undo_entries.proofs.IndexLemmas.{places_pushed}
+use Rattle.undo_entries.proofs.SinceLemmas.{commit_commits_so}
 use Rattle.undo_book.proofs.book.Book.append.Goals as goal
 
 -- the transaction as it is entered
@@ -69,6 +70,7 @@ invariant_of-self-2 c =
     let earlier : c.add_commit.new.self.earlier.items ≡ c.self.inside.changes.earlier.items ++ None ∷ [] = search rules in
     let changed : c.add_commit.new.self.last.items ≡ c.self.inside.changes.last.items ++ length c.self.inside.log.items ∷ [] =
     search rules in
+    let again : c.add_commit.new.self.again ≡ c.self.inside.changes.again = search rules in
     let last : c.len-index.result ≡ length c.self.inside.entries.items = search rules in
     let put : IsPutUnder c.id-txn.result c.len-index.result c.self.inside.places.entries c.list_at-listed.new.places.entries =
     search rules in
@@ -79,6 +81,8 @@ invariant_of-self-2 c =
           c.id-txn.result c.len-index.result (sym c.id-txn.ensures.value) last can.apart c.self.invariant.places put);
       index = indexed c;
       changes = commit_so call (entered b work) c.self.invariant.changes refl can.apart earlier changed log (entry c);
+      commits = commit_commits_so call (entered b work) c.self.invariant.commits c.self.invariant.changes.long refl refl again changed log
+          (entry c);
     }
 
 pub returns-clause-ok : goal.returns-clause-ok
@@ -95,4 +99,4 @@ invariant_of-self-then-is_err-4 c =
     let writers : IsNew was.writers c.len-index.result → c.list_at-listed.new.index.writers ≡ was.writers = search rules in
     let readers : IsNew was.readers c.len-index.result → c.list_at-listed.new.index.readers ≡ was.readers = search rules in
     let places : c.list_at-listed.new.places.entries ≡ c.self.inside.places.entries = search rules in
-    same_book c.self.inside _ (search rules) places (search rules) (search rules) (writers fresh.0) (readers fresh.1) c.self.invariant
+    same_book c.self.inside _ (search rules) places (search rules) (search rules) (search rules) (writers fresh.0) (readers fresh.1) c.self.invariant

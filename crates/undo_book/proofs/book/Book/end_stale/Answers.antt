@@ -7,6 +7,7 @@ use Rattle.undo_rules.specs.Steps.{ended_state, state_of}
 use Rattle.undo_book.specs.Books.{history_of}
 use Rattle.undo_entries.proofs.ChangeLemmas.{unchanged_so}
 use Rattle.undo_entries.proofs.CommitLemmas.{LeavesStale, stale_so}
+use Rattle.undo_entries.proofs.SinceLemmas.{unchanged_commits_so}
 use Rattle.undo_book.proofs.book.Book.end_stale.Goals as goal
 
 -- what is left at the end
@@ -33,9 +34,11 @@ invariant_of-self-2 c =
     let log : c.push.new.self.items ≡ c.self.inside.log.items ++ call ∷ [] = search rules in
     let earlier : c.add_unchanged.new.self.earlier.items ≡ c.self.inside.changes.earlier.items ++ None ∷ [] = search rules in
     let last : c.add_unchanged.new.self.last.items ≡ c.self.inside.changes.last.items = search rules in
+    let again : c.add_unchanged.new.self.again ≡ c.self.inside.changes.again = search rules in
     record {
       history = (left c).history;
       places = c.self.invariant.places;
       index = c.self.invariant.index;
       changes = unchanged_so call c.self.invariant.changes refl earlier last log;
+      commits = unchanged_commits_so call c.self.invariant.commits again last log;
     }

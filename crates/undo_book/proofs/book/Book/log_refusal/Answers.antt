@@ -5,6 +5,7 @@ use Rattle.undo_rules.specs.Books.{IsHistory}
 use Rattle.undo_rules.proofs.OpenLaws.{refused_keeps}
 use Rattle.undo_book.specs.Books.{history_of}
 use Rattle.undo_entries.proofs.ChangeLemmas.{unchanged_so}
+use Rattle.undo_entries.proofs.SinceLemmas.{unchanged_commits_so}
 use Rattle.undo_book.proofs.book.Book.log_refusal.Goals as goal
 
 pub invariant_of-self-2 : goal.invariant_of-self-2
@@ -13,6 +14,7 @@ invariant_of-self-2 c =
     let log : c.push.new.self.items ≡ c.self.inside.log.items ++ call ∷ [] = search rules in
     let earlier : c.add_unchanged.new.self.earlier.items ≡ c.self.inside.changes.earlier.items ++ None ∷ [] = search rules in
     let last : c.add_unchanged.new.self.last.items ≡ c.self.inside.changes.last.items = search rules in
+    let again : c.add_unchanged.new.self.again ≡ c.self.inside.changes.again = search rules in
     let WithLog : List Logged → Type 0 = λ xs. IsHistory (record (history_of c.self.inside) { log = xs }) in
     record {
       history = subst WithLog (sym log)
@@ -20,4 +22,5 @@ invariant_of-self-2 c =
       places = c.self.invariant.places;
       index = c.self.invariant.index;
       changes = unchanged_so call c.self.invariant.changes refl earlier last log;
+      commits = unchanged_commits_so call c.self.invariant.commits again last log;
     }

@@ -8,6 +8,7 @@ use Rattle.undo_rules.specs.Steps.{after_open, state_of}
 use Rattle.undo_rules.proofs.OpenLaws.{open_keeps}
 use Rattle.undo_book.specs.Books.{history_of}
 use Rattle.undo_entries.proofs.ChangeLemmas.{unchanged_so}
+use Rattle.undo_entries.proofs.SinceLemmas.{unchanged_commits_so}
 use Rattle.undo_book.proofs.book.Book.open_next.Goals as goal
 
 pub invariant_of-self-2 : goal.invariant_of-self-2
@@ -26,6 +27,7 @@ invariant_of-self-2 c =
     let logged : c.push.new.self.items ≡ c.self.inside.log.items ++ call ∷ [] = search rules in
     let earlier : c.add_unchanged.new.self.earlier.items ≡ c.self.inside.changes.earlier.items ++ None ∷ [] = search rules in
     let last : c.add_unchanged.new.self.last.items ≡ c.self.inside.changes.last.items = search rules in
+    let again : c.add_unchanged.new.self.again ≡ c.self.inside.changes.again = search rules in
     let kept = with_item c.self.inside.sessions (c.from.result - 1) made in
     let sessions : kept.items ≡ slice_set now.sessions (s - 1) new = search rules in
     let same : record (history_of c.self.inside) { log = c.push.new.self.items; sessions = kept.items } ≡ after_open now s =
@@ -35,4 +37,5 @@ invariant_of-self-2 c =
       places = c.self.invariant.places;
       index = c.self.invariant.index;
       changes = unchanged_so call c.self.invariant.changes refl earlier last logged;
+      commits = unchanged_commits_so call c.self.invariant.commits again last logged;
     }

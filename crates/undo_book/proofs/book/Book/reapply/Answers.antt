@@ -1,4 +1,4 @@
-use Rattle.std.proofs.Common.{◌≡◌, ◌<◌, [], ◌∷◌, ◌++◌, ◌∙◌, ap, arith, true, length, refl, rules, slice_get, slice_set, subst, sym}
+use Rattle.std.proofs.Common.{◌≡◌, ◌+◌, ◌<◌, [], ◌∷◌, ◌++◌, ◌∙◌, ap, arith, true, length, refl, rules, slice_get, slice_set, subst, sym}
 use Rattle.std.specs.Vec.{vec_len}
 use Rattle.undo_rules.specs.declared.log.Answer.TheVariants.{Redone}
 use Rattle.undo_rules.specs.declared.log.Call.TheVariants.{Redo}
@@ -18,6 +18,7 @@ use Rattle.undo_book.proofs.SameLemmas.{same_book}
 use Rattle.undo_entries.proofs.ChangeLemmas.{again_so}
 use Rattle.undo_entries.proofs.IndexLemmas.{places_marked}
 use Rattle.undo_entries.proofs.PlaceLemmas.{place_within}
+use Rattle.undo_entries.proofs.SinceLemmas.{again_commits_so}
 use Rattle.undo_entries.proofs.UndoLemmas.{LeavesRedone, redone_at}
 use Rattle.undo_book.proofs.book.Book.reapply.Goals as goal
 
@@ -106,6 +107,7 @@ invariant_of-self-2 c =
     let kept = c.self.inside.changes in
     let earlier : c.add_again.new.self.earlier.items ≡ kept.earlier.items ++ slice_get kept.last.items c.args.place ∷ [] = search rules in
     let last : c.add_again.new.self.last.items ≡ slice_set kept.last.items c.args.place (length c.self.inside.log.items) = search rules in
+    let again : c.add_again.new.self.again ≡ length c.self.inside.log.items + 1 = search rules in
     record {
       history = is.history;
       places = subst (AreTheirPlaces c.self.inside.places.entries) (sym marks)
@@ -113,6 +115,7 @@ invariant_of-self-2 c =
       index = indexed c;
       changes = again_so call c.args.txn c.args.place true c.self.invariant.changes refl
           (ap (λ (x : History). place_of c.args.txn x.entries) c.self.view_is ∙ c.requires.place) earlier last log marks;
+      commits = again_commits_so call c.args.txn c.args.place true c.self.invariant.commits again last log marks;
     }
 
 pub returns-clause-ok : goal.returns-clause-ok
@@ -132,4 +135,4 @@ invariant_of-self-in_err-enter c =
     can.undone in
     let writers : IsNew was.writers c.args.place → c.enter.new.self.writers ≡ was.writers = search rules in
     let readers : IsNew was.readers c.args.place → c.enter.new.self.readers ≡ was.readers = search rules in
-    same_book c.self.inside _ (search rules) refl (search rules) (search rules) (writers fresh.0) (readers fresh.1) c.self.invariant
+    same_book c.self.inside _ (search rules) refl (search rules) (search rules) (search rules) (writers fresh.0) (readers fresh.1) c.self.invariant

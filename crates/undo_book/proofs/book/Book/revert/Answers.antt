@@ -1,4 +1,4 @@
-use Rattle.std.proofs.Common.{◌≡◌, ◌<◌, [], ◌∷◌, ◌++◌, ◌∙◌, ap, arith, false, length, refl, rules, slice_get, slice_set, subst, sym}
+use Rattle.std.proofs.Common.{◌≡◌, ◌+◌, ◌<◌, [], ◌∷◌, ◌++◌, ◌∙◌, ap, arith, false, length, refl, rules, slice_get, slice_set, subst, sym}
 use Rattle.std.specs.Vec.{vec_len}
 use Rattle.undo_rules.specs.declared.log.Answer.TheVariants.{Undone}
 use Rattle.undo_rules.specs.declared.log.Call.TheVariants.{Undo}
@@ -17,6 +17,7 @@ use Rattle.undo_entries.proofs.IndexedLemmas.{undo_indexed}
 use Rattle.undo_entries.proofs.ChangeLemmas.{again_so}
 use Rattle.undo_entries.proofs.IndexLemmas.{places_marked}
 use Rattle.undo_entries.proofs.PlaceLemmas.{place_within}
+use Rattle.undo_entries.proofs.SinceLemmas.{again_commits_so}
 use Rattle.undo_entries.proofs.UndoLemmas.{LeavesUndone, undone_at}
 use Rattle.undo_book.proofs.book.Book.revert.Goals as goal
 
@@ -105,6 +106,7 @@ invariant_of-self-2 c =
     let kept = c.self.inside.changes in
     let earlier : c.add_again.new.self.earlier.items ≡ kept.earlier.items ++ slice_get kept.last.items c.args.place ∷ [] = search rules in
     let last : c.add_again.new.self.last.items ≡ slice_set kept.last.items c.args.place (length c.self.inside.log.items) = search rules in
+    let again : c.add_again.new.self.again ≡ length c.self.inside.log.items + 1 = search rules in
     record {
       history = is.history;
       places = subst (AreTheirPlaces c.self.inside.places.entries) (sym marks)
@@ -112,6 +114,7 @@ invariant_of-self-2 c =
       index = indexed c;
       changes = again_so call c.args.txn c.args.place false c.self.invariant.changes refl
           (ap (λ (x : History). place_of c.args.txn x.entries) c.self.view_is ∙ c.requires.place) earlier last log marks;
+      commits = again_commits_so call c.args.txn c.args.place false c.self.invariant.commits again last log marks;
     }
 
 pub returns-clause-ok : goal.returns-clause-ok
