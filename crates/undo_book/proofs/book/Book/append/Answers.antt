@@ -99,4 +99,5 @@ invariant_of-self-then-is_err-4 c =
     let writers : IsNew was.writers c.len-index.result → c.list_at-listed.new.index.writers ≡ was.writers = search rules in
     let readers : IsNew was.readers c.len-index.result → c.list_at-listed.new.index.readers ≡ was.readers = search rules in
     let places : c.list_at-listed.new.places.entries ≡ c.self.inside.places.entries = search rules in
-    same_book c.self.inside _ (search rules) places (search rules) (search rules) (search rules) (writers fresh.0) (readers fresh.1) c.self.invariant
+    same_book c.self.inside _ (search rules) places (search rules) (search rules) (search rules) (writers fresh.0) (readers fresh.1)
+    c.self.invariant

@@ -15,6 +15,7 @@ returns c =
     let parted = IsPartitionedBy-ltb (λ (e : Entry). e.place) c.deref.result.now since rising in
     let point = IsPartitionPoint-from_clause (λ (e : Entry). ltb e.place since) _ _ c.partition_point.ensures.partitioned parted
     (λ a r q k. search rules) in
-    subst (λ (es : List Entry). IsPartitionPoint (λ (e : Entry). e.place < since) (λ (e : Entry). since ≤ e.place) es c.partition_point.result)
+    subst
+    (λ (es : List Entry). IsPartitionPoint (λ (e : Entry). e.place < since) (λ (e : Entry). since ≤ e.place) es c.partition_point.result)
     (c.deref.ensures.value ∙ ap (λ (h : History). h.entries) c.self.view_is)
     (λ k d low high. ltb-true _ _ (point.0 k d low high), λ k d low high. ltb-false _ _ (point.1 k d low high))

@@ -135,4 +135,5 @@ invariant_of-self-in_err-enter c =
     can.undone in
     let writers : IsNew was.writers c.args.place → c.enter.new.self.writers ≡ was.writers = search rules in
     let readers : IsNew was.readers c.args.place → c.enter.new.self.readers ≡ was.readers = search rules in
-    same_book c.self.inside _ (search rules) refl (search rules) (search rules) (search rules) (writers fresh.0) (readers fresh.1) c.self.invariant
+    same_book c.self.inside _ (search rules) refl (search rules) (search rules) (search rules) (writers fresh.0) (readers fresh.1)
+    c.self.invariant
