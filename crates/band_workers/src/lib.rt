@@ -7,7 +7,7 @@
 //!
 //! ```
 //! let clean = round(rt, alloc, &rings)?;
-//! let labels = OneBand.label_all(alloc, &clean, Op::And)?;
+//! let labels = OneBand.label_all(rt, alloc, &clean, Op::And)?;
 //! ```
 #![tactic(auto)]
 

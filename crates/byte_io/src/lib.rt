@@ -6,7 +6,7 @@
 //! writes a whole text, or a prefix of it up to the first failure. An `OutBuffer` stands before a
 //! device that is to take many small pieces: it takes no memory, and keeps the first failure until
 //! `flush` reports it. `MemoryOut` and `MemoryIn` are devices in memory that fail where they are told
-//! to; tests use them in place of files.
+//! to: texts are put into them to be read again, and tests use them in place of files.
 //!
 //! `push_unsigned` and `push_signed` append a number's decimal digits to a text, and `capped_decimal` is
 //! the way back: the value of digits of any length, up to a limit and one more. `number_of` is the number

@@ -15,7 +15,7 @@ pub fn calls_move_points()
 {}
 
 /// A box holds the points whose distances from its centre, along its direction and across it, are at most half its
-/// length and half its width. It is dropped where one of these is zero.
+/// length and half its width. One that is dropped has a side of zero.
 pub fn boxes_hold_their_points()
     ensures { BoxesHoldTheirPoints }
 {}

@@ -1,6 +1,6 @@
 //! Laws of what CIF commands mean, in the words of the standard.
 //!
-//! `cif_read` computes what a command draws or calls. Here the same is said of points: a distance in a symbol
+//! `cif_content` computes what a command draws or calls. Here the same is said of points: a distance in a symbol
 //! is the written one, times the scale's first number and divided by the second; a call takes a point where its
 //! changes take it, one after the other; and a box holds the points that are at most half a side from its
 //! centre, along its direction and across it. Nothing of this runs.

@@ -2,10 +2,10 @@
 //! polygons, boxes with directions, layers, comments and extensions.
 //!
 //! `read` returns the meaning of a text, a `CifFile`, or its first fault with its offset, a `CifFault`. A
-//! text is cut into commands and read in order (`reader.rt`), each by its first letter (`content.rt`), by the
-//! functions of `cif_commands`. What a command draws is put into database units, half-hundredths of a
-//! micrometre, at the scale of the definition that it stands in (`ratio.rt`, `polygon.rt`, `boxes.rt`,
-//! `turns.rt`). Calls are bound at the end of the text (`binding.rt`), so a symbol may be called before it is
+//! text is cut into commands and read in order (`reader.rt`), each by its first letter, by the functions
+//! of `cif_commands`. What a command draws is put into database units, half-hundredths of a micrometre, at the
+//! scale of the definition that it stands in (`content.rt`, `ratio.rt`, `polygon.rt`, `boxes.rt` and `turns.rt` of
+//! `cif_content`). Calls are bound at the end of the text (`binding.rt`), so a symbol may be called before it is
 //! defined.
 //!
 //! A `CifFile` keeps in its type that it is the contents of a sound layout (`IsSoundFile` of

@@ -3,8 +3,8 @@
 //! A program answers a fault of a job or of its CIF text by one line with a number, for other programs. For a
 //! person [`of_cif_fault`] and [`of_job_fault`] make some lines of text of it: line and column, the line
 //! with a caret under the place, what was expected, and what to change, in the editor that wrote the text
-//! where that is the cure. The place is proved to be that of the fault (`specs/Places.antt`); what the sentences
-//! say is tested.
+//! where that is the cure. The line and the column are proved to be those of the fault's offset
+//! (`specs/Places.antt`); what the sentences say is tested.
 //!
 //! ```text
 //! masklay: line 2, column 7: a wire, which isn't read

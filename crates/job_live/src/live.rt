@@ -89,7 +89,7 @@ impl Live {
         }
     }
 
-    /// Returns the comments of the order in which the steps ran, and the layout at the end.
+    /// Returns the comments of the order of the steps, as the log tells it, and the layout at the end.
     pub fn end(self, alloc: Global) -> Result<(Vec<u8>, Snapshot), NoMemory>
         ensures order { IfOk result (λ r. r.0.items ≡ order_text (order_of self.machine.history.log
             (dealt self.sessions.items self.replies.items (replicate 64 [])))) }

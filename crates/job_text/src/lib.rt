@@ -3,9 +3,9 @@
 //! A job is lines: `%cif` and a CIF text, then `%session 1`, `%session 2` and so on, each with a step a
 //! line, and at last `%order` and the sessions in the order of their steps. [`Job::read`] gives the text,
 //! the steps of each session and their order, or the number of the first line with a fault. [`print`] puts
-//! a comment for each reply and the order in which the steps ran, which [`order_of`] makes from the log of
-//! a book. They go to the device piece by piece and take no memory: [`put_comments`] is the same without a
-//! fault for it. [`comments`] gives their text instead.
+//! a comment for each reply, and an order of the steps in which they are answered alike, which [`order_of`]
+//! makes from the log of a book. They go to the device piece by piece and take no memory: [`put_comments`] is
+//! the same without a fault for it. [`comments`] gives their text instead.
 //!
 //! A live run has its steps in lines `SESSION STEP`, which come one at a time: [`live_line`] says what a line
 //! asks for, and [`reply_line`] and [`odd_line`] give the comments that answer it.

@@ -1,4 +1,4 @@
-//! The order in which the steps ran, made from the log, and its lines.
+//! An order of the steps, made from the log, and its lines.
 ghost use Rattle.std.specs.Prelude.{◌≡◌, ◌<◌, ◌≤◌, ◌++◌, ◌+◌, ◌-◌, ◌^◌, ◌%◌, ◌==◌, ◌||◌, [], IfOk, IfSome, OnOk, codes, if◌then◌else◌};
 ghost use Rattle.std.specs.Prelude.{length, replicate, slice_index};
 ghost use Rattle.std.specs.List.{position};
@@ -18,7 +18,7 @@ const LINE: usize = 16;
 /// How many numbers of a session there are, as a byte.
 const SESSIONS: usize = 256;
 
-/// Returns the order in which the steps of the sessions with these replies ran, by the log: for each
+/// Returns an order of the steps of the sessions with these replies, by the log: for each
 /// logged call its session's number, once for each step up to and with the call's; then the steps that
 /// are left, session by session. The first of the sessions is session 1.
 ///

@@ -37,8 +37,8 @@ use telling::{tell_of_layout, tell_of_stop};
 /// top cell that is empty while the layout has symbols. With `threaded` the sessions run in threads over one
 /// desk, the job's own order plays no part, and the order that is written is that of the desk's log. With
 /// `oriented` the layout's shapes are directed before it is written, and where some stay as they were that is
-/// reported to `errors` too. Without both, the input alone decides the output. With `named` each symbol is written with the names
-/// and labels that it had in the job's text.
+/// reported to `errors` too. With neither, the input and `named` alone decide the output. With `named` each
+/// symbol is written with the names and labels that it had in the job's text.
 pub fn run<I: In, O: Out, E: Out>(
     rt: &(impl Threads + Wait + Sync),
     alloc: Global,

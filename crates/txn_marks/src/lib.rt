@@ -7,7 +7,7 @@
 //! is run again.
 //!
 //! A [`Footprint`] is a set of [`Element`](txn_rules::Element)s. Whether two layouts have the same in each
-//! of them is `agrees`, and whether some record meets one of them is `touches`: each record is looked up by
+//! of them is `agrees`, and whether some record meets one of them is `touch`: each record is looked up by
 //! the few elements in which its values lie, so the footprint isn't gone over.
 //!
 //! Contracts see writes as `Records`, and a footprint as a finite set (`txn_rules/specs`).

@@ -1,7 +1,8 @@
 //! The history of a layout: transactions that commit, and are undone and redone by their names.
 //!
 //! A session opens a transaction and gets a [`Work`](txn_work::Work) on a snapshot of the layout. A commit
-//! hands the work to the [`Book`], unless a call since the open wrote what the work touched. Any committed
+//! hands the work to the [`Book`], unless a transaction that a call since the open committed, undid or redid wrote what the
+//! work touched. Any committed
 //! transaction can be undone, unless a later live one touched what it wrote; and redone, unless a later live
 //! one did, or the live earlier ones that wrote what it touched are no longer those of its commit. What is
 //! written is applied and reverted: no command is run again. And yet the layout is always that of running
@@ -10,8 +11,8 @@
 //! log.
 //!
 //! Contracts see a `Book` as the record `History` of `undo_rules/specs/Books.antt`. What each call answers
-//! and leaves is in `undo_rules/specs/Steps.antt`; any answer but `LogFull` can give way to `NoMemory`, and
-//! then nothing changes (`specs/Calls.antt`).
+//! and leaves is in `undo_rules/specs/Steps.antt`; any answer but `LogFull`, and `Foreign` of a commit, can give way
+//! to `NoMemory`, and then nothing changes (`specs/Calls.antt`).
 //!
 //! ```text
 //! let mut book = Book::new(alloc, base)?;

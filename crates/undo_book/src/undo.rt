@@ -27,7 +27,7 @@ impl Book {
         ensures full { is_log_full self.old ≡ true → result ≡ Err BookFault.LogFull }
         // The layout is that of the same history without the transaction.
         ensures without { OnOk result (replay (with_mark self.old false txn) ≡ Some self.new.layout) }
-        // A redo at once is accepted, and leads back to the former layout.
+        // Nothing but a full log and memory is against a redo at once, and it leads back to the former layout.
         ensures again { OnOk result (CanBeRedone self.new session txn self.old.layout) }
     {
         if self.is_full() {

@@ -1,8 +1,9 @@
 //! What a history keeps of its transactions, sessions and places.
 //!
 //! An [`Entry`] is a committed transaction: its records, its footprint, whom it saw, and whether it is live. A
-//! [`SessionState`] has a session's opens and the one that is pending. [`Changes`] has the calls of the log
-//! that changed an element, by place (`specs/Changes.antt`). An index lists an entry's place under an element
+//! [`SessionState`] has a session's opens and the one that is pending. [`Changes`] has of each call of the
+//! log the last one before it that changed the same transaction, of each transaction its last change, and the
+//! place behind the last undo or redo (`specs/Changes.antt`). An index lists an entry's place under an element
 //! exactly where the entry is live and its records meet it, or its footprint has it (`specs/Places.antt`,
 //! `specs/Indexed.antt`).
 //!

@@ -25,7 +25,7 @@ pub enum BookFault {
     /// This transaction is linked now and wasn't at the commit, or the other way round.
     #[error("the ground has moved: transaction {0}")]
     Moved(TxnId),
-    /// This transaction wrote, since the open, what the work touched.
+    /// This transaction wrote what the work touched, and was committed, undone or redone since the open.
     #[error("transaction {0} changed what this work touched")]
     Stale(TxnId),
     /// The log has as many calls as it may have.

@@ -12,7 +12,8 @@ It starts `masklay --live` and speaks with it over pipes: a line a step, each an
         text = layout.write()
 
 Coordinates are whole numbers of database units, 5 nanometres each; `um` makes them of micrometres. A number of a CIF text that is
-read is two of them. Ids (`1.1.2`: session, transaction, item) and names of transactions (`1.1`) are strings, as the program says them.
+read is two of them, times the scale of its definition. Ids (`1.1.2`: session, transaction, item) and names of transactions
+(`1.1`) are strings, as the program says them.
 """
 
 from .errors import Error, Late, MasklayError, OutOfMemory, ProcessError, StepError, TextFault

@@ -43,7 +43,7 @@ pub(super) enum Stop {
 pub(super) struct Finished {
     /// The replies to the steps of each session.
     pub(super) replies: Sequence<Sequence<Reply>>,
-    /// The session of each step, in the order in which they ran.
+    /// The session of each step, in an order in which they are answered so.
     pub(super) order: Sequence<u8>,
     /// The layout that the steps led to.
     pub(super) layout: Snapshot,
