@@ -8,7 +8,7 @@ use Rattle.undo_book.specs.Books.{IsBook, history_of}
 use Rattle.undo_entries.specs.Indexed.{AreIndexed}
 use Rattle.undo_entries.specs.Places.{AreTheirPlaces}
 use Rattle.undo_entries.proofs.ChangeLemmas.{same_lists}
-use Rattle.undo_entries.proofs.SinceLemmas.{same_commits}
+use Rattle.undo_book.proofs.SinceLemmas.{same_commits}
 
 same_index : {v w r s : Listed} {es fs : List Entry} → v ≡ w → s ≡ r → fs ≡ es → AreIndexed w r es → AreIndexed v s fs
 same_index {v} {w} {r} {s} {es} {fs} writers readers entries is =

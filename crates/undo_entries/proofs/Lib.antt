@@ -5,7 +5,6 @@ pub mod IndexLemmas
 pub mod IndexedLemmas
 pub mod MovedLemmas
 pub mod PlaceLemmas
-pub mod SinceLemmas
 pub mod SoundLemmas
 pub mod StaleLemmas
 pub mod UndoLemmas

@@ -15,7 +15,7 @@ use Rattle.undo_entries.specs.Indexed.{AreIndexed}
 use Rattle.undo_entries.proofs.IndexedLemmas.{commit_indexed, new_here}
 use Rattle.undo_book.proofs.SameLemmas.{same_book}
 use Rattle.undo_entries.proofs.IndexLemmas.{places_pushed}
-use Rattle.undo_entries.proofs.SinceLemmas.{commit_commits_so}
+use Rattle.undo_book.proofs.SinceLemmas.{commit_commits_so}
 use Rattle.undo_book.proofs.book.Book.append.Goals as goal
 
 -- the transaction as it is entered

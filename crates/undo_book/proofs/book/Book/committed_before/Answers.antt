@@ -3,7 +3,7 @@ use Rattle.std.specs.List.Sorted.{IsNonDecreasingBy, IsPartitionPoint}
 use Rattle.std.proofs.lemmas.List.Sorted.{IsPartitionPoint-from_clause, IsPartitionedBy-ltb}
 use Rattle.undo_rules.specs.Books.{History}
 use Rattle.undo_rules.specs.Links.{Entry}
-use Rattle.undo_entries.proofs.SinceLemmas.{rising_so}
+use Rattle.undo_book.proofs.SinceLemmas.{rising_so}
 use Rattle.undo_book.proofs.book.Book.committed_before.Goals as goal
 
 pub returns : goal.returns

@@ -7,7 +7,7 @@ use Rattle.undo_rules.specs.Steps.{ended_state, state_of}
 use Rattle.undo_book.specs.Books.{history_of}
 use Rattle.undo_entries.proofs.ChangeLemmas.{unchanged_so}
 use Rattle.undo_entries.proofs.CommitLemmas.{LeavesStale, stale_so}
-use Rattle.undo_entries.proofs.SinceLemmas.{unchanged_commits_so}
+use Rattle.undo_book.proofs.SinceLemmas.{unchanged_commits_so}
 use Rattle.undo_book.proofs.book.Book.end_stale.Goals as goal
 
 -- what is left at the end

@@ -18,7 +18,7 @@ use Rattle.undo_book.proofs.SameLemmas.{same_book}
 use Rattle.undo_entries.proofs.ChangeLemmas.{again_so}
 use Rattle.undo_entries.proofs.IndexLemmas.{places_marked}
 use Rattle.undo_entries.proofs.PlaceLemmas.{place_within}
-use Rattle.undo_entries.proofs.SinceLemmas.{again_commits_so}
+use Rattle.undo_book.proofs.SinceLemmas.{again_commits_so}
 use Rattle.undo_entries.proofs.UndoLemmas.{LeavesRedone, redone_at}
 use Rattle.undo_book.proofs.book.Book.reapply.Goals as goal
 

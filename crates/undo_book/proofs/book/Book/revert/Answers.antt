@@ -17,7 +17,7 @@ use Rattle.undo_entries.proofs.IndexedLemmas.{undo_indexed}
 use Rattle.undo_entries.proofs.ChangeLemmas.{again_so}
 use Rattle.undo_entries.proofs.IndexLemmas.{places_marked}
 use Rattle.undo_entries.proofs.PlaceLemmas.{place_within}
-use Rattle.undo_entries.proofs.SinceLemmas.{again_commits_so}
+use Rattle.undo_book.proofs.SinceLemmas.{again_commits_so}
 use Rattle.undo_entries.proofs.UndoLemmas.{LeavesUndone, undone_at}
 use Rattle.undo_book.proofs.book.Book.revert.Goals as goal
 

@@ -1,7 +1,7 @@
 use Rattle.std.proofs.Common.{◌≡◌, ◌≤◌, ◌∙◌, false, rules, subst, sym}
 use Rattle.undo_rules.specs.Books.{History}
 use Rattle.undo_entries.specs.Changes.{AreChanges, AreCommits}
-use Rattle.undo_entries.proofs.SinceLemmas.{none_since}
+use Rattle.undo_book.proofs.SinceLemmas.{none_since}
 use Rattle.undo_book.proofs.book.Book.stale_by.Goals as goal
 
 pub returns-then-not-is_written_from : goal.returns-then-not-is_written_from
