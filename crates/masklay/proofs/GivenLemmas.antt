@@ -1,5 +1,5 @@
 -- What is given out of a job, by what became of it.
-use Rattle.std.proofs.Common.{◌≡◌, ℕ, Bool, true, false, List, Result, Ok, Err, inl, inr, subst, sym}
+use Rattle.std.proofs.Common.{◌≡◌, ℕ, Bool, true, false, List, Result, Ok, Err, inl, inr, refl, subst, sym}
 use Rattle.lay_layouts.specs.Layout.{Layout}
 use Rattle.lay_oriented.specs.Directed.{IsDirected}
 use Rattle.masklay.specs.declared.program.outcome.Finished.{Finished}
