@@ -27,7 +27,7 @@ pub position_of-within : (symbols : List ℕ) (cell : CellId) → position_of sy
 position_of-within symbols Top = omega arith
 position_of-within symbols (Symbol n) = omega (arith, prefix_len-le-length (λ x. not (nat_eq n x)) symbols)
 
-same_number : (a b : ℕ) → nat_eq a b ≡ true → b ≡ a
+pub same_number : (a b : ℕ) → nat_eq a b ≡ true → b ≡ a
 same_number a b h = grind (arith, nat_tests)
 
 IsFound : List ℕ → ℕ → ℕ → Type 0

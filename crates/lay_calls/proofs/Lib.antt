@@ -1,3 +1,4 @@
+pub mod BeforeLemmas
 pub mod FewerCalls
 pub mod GraphLemmas
 pub mod MarkLemmas

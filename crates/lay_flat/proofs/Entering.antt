@@ -1,12 +1,11 @@
 -- Symbols that are entered behind others, each once.
 use Rattle.std.proofs.Common.{◌≡◌, ◌∙◌, ◌≤◌, ◌<◌, ◌+◌, ◌++◌, ◌⊎◌, ◌||◌, ℕ, zero, suc, inl, inr, Bool}
 use Rattle.std.proofs.Common.{true, false, true≢false, List, [], ◌∷◌, Some, None, cond, length, nat_eq}
-use Rattle.std.proofs.Common.{refl, ap, sym, subst, arith, length-append, take, append_assoc, append-nil}
+use Rattle.std.proofs.Common.{refl, ap, sym, subst, arith, take, append_assoc, append-nil}
 use Rattle.std.specs.Prelude.{slice_get}
 use Rattle.std.specs.Cmp.{nat_eq_equiv}
 use Rattle.std.specs.FinMap.{entries}
 use Rattle.std.specs.List.{AllByRecursion, IsDistinct}
-use Rattle.std.proofs.lemmas.Map.Keys.{IsDistinct-push}
 use Rattle.std.proofs.lemmas.Map.Made.{length-le_from_is_member}
 use Rattle.std.proofs.lemmas.Option.{get_or_from_slice_get, slice_get_within}
 use Rattle.std.proofs.lemmas.List.{take_more}
@@ -16,7 +15,8 @@ use Rattle.lay_calls.specs.declared.cell_id.CellId.{CellId}
 use Rattle.lay_calls.specs.declared.cell_id.CellId.TheVariants.{Symbol, Top}
 use Rattle.lay_calls.specs.SameCell.{cell_eq}
 use Rattle.lay_calls.specs.Symbols.{has_symbol, with_symbol}
-use Rattle.lay_calls.proofs.GraphLemmas.{has_more}
+use Rattle.lay_calls.proofs.BeforeLemmas.{IsBefore, before_one, same_itself, there_one}
+use Rattle.lay_calls.proofs.GraphLemmas.{has_more, same_number}
 use Rattle.lay_layouts.specs.declared.id.ItemId.{ItemId}
 use Rattle.lay_layouts.specs.declared.item.Item.{Item}
 use Rattle.lay_layouts.specs.declared.item.Item.TheVariants.{Placed, Shape}
@@ -26,37 +26,8 @@ use Rattle.lay_layouts.specs.Lent.{LentCall, calls_in, calls_lent}
 use Rattle.lay_layouts.specs.SlotOrder.{in_slot_order}
 use Rattle.lay_layouts.specs.Sound.{IsSound}
 use Rattle.lay_flat.specs.Graphs.{AreCallsTo, BeginsIn, CoverReached, first_symbols, graph_calls, symbol_calls, with_called}
-use Rattle.lay_flat.proofs.Addable.{IsPlaceable, all_placeable, cell_there}
-use Rattle.lay_flat.proofs.Reaching.{IsKnown, same_itself, same_number}
-
--- symbols that stand before some others
-pub record IsBefore (old new : List ℕ) : Type 0 where
-  pub longer : length old ≤ length new
-  pub front : (i : ℕ) → i < length old → slice_get new i ≡ slice_get old i
-  pub kept : (n : ℕ) → has_symbol old n ≡ true → has_symbol new n ≡ true
-  pub distinct : IsDistinct nat_eq old → IsDistinct nat_eq new
-
-front_more : (s : List ℕ) (m i : ℕ) → i < length s → slice_get (s ++ m ∷ []) i ≡ slice_get s i
-front_more [] m i le = absurd (omega (arith, le))
-front_more (n ∷ s) m zero le = refl
-front_more (n ∷ s) m (suc i) le = front_more s m i (omega (arith, le))
-
-before_one : (s : List ℕ) (m : ℕ) → IsBefore s (with_symbol s m)
-before_one s m = by_test (has_symbol s m) refl where
-  by_test : (b : Bool) → has_symbol s m ≡ b → IsBefore s (cond b s (s ++ m ∷ []))
-  by_test true is = record { longer = omega arith; front = λ i le. refl; kept = λ n h. h; distinct = λ d. d }
-  by_test false is = record {
-    longer = omega (arith, length-append s (m ∷ []));
-    front = front_more s m;
-    kept = λ n h. has_more s m n ∙ or_right (nat_eq n m) (has_symbol s n) h;
-    distinct = λ d. IsDistinct-push nat_eq_equiv s m d is;
-  }
-
-there_one : (s : List ℕ) (m : ℕ) → has_symbol (with_symbol s m) m ≡ true
-there_one s m = by_test (has_symbol s m) refl where
-  by_test : (b : Bool) → has_symbol s m ≡ b → has_symbol (cond b s (s ++ m ∷ [])) m ≡ true
-  by_test true is = is
-  by_test false is = has_more s m m ∙ ap (λ b. b || has_symbol s m) (same_itself m)
+use Rattle.lay_layouts.proofs.Addable.{IsPlaceable, all_placeable, cell_there}
+use Rattle.lay_flat.proofs.Reaching.{IsKnown}
 
 known_one : (layout : Layout) (s : List ℕ) (m : ℕ) → IsKnown layout s → has_symbol (in_slot_order layout.symbols) m ≡ true
     → IsKnown layout (with_symbol s m)

@@ -15,7 +15,7 @@ use Rattle.lay_flat.specs.declared.fault.FlatFault.TheVariants.{TooMany}
 use Rattle.lay_flat.specs.declared.flat.TheConstants.{MAX_RINGS}
 use Rattle.lay_flat.specs.Flat.{FlatRing}
 use Rattle.lay_flat.specs.Flattening.{Drawn, drawn_at, rings_from, rings_of}
-use Rattle.lay_flat.specs.Lending.{IsTooMany, turned_by}
+use Rattle.lay_flat.specs.Lending.{IsTooMany, drawn_with}
 use Rattle.lay_flat.specs.Lists.{shape_rings}
 
 pub rings_from-append : (n : ℕ) (xs ys : List Drawn) → rings_from n (xs ++ ys) ≡ rings_from n xs ++ rings_from (n + length xs) ys
@@ -75,8 +75,8 @@ end_default = record { cell = Top; turn = None }
 -- the shapes that are listed for an end's cell, with its turn, are those at the end
 pub listed-drawn : (layout : Layout) (layer : List ℕ) (end : End) (turn : Turn) (shapes : List (List (List Point)))
     → turn ≡ unwrap_or end.turn unturned → shapes ≡ shape_rings (record { layout = layout; layer = layer }) end.cell
-    → turned_by turn shapes ≡ drawn_at layout layer end
+    → drawn_with turn shapes ≡ drawn_at layout layer end
 listed-drawn layout layer end turn shapes turned listed =
-    (λ i. turned_by (turned i) (listed i))
+    (λ i. drawn_with (turned i) (listed i))
     ∙ map-map (λ (rings : List (List Point)). (unwrap_or end.turn unturned, rings)) (λ (shape : LentShape). shape.1)
     (shapes_in layout end.cell layer)

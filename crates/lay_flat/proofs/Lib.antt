@@ -1,4 +1,3 @@
-pub mod Addable
 pub mod Reaching
 pub mod Entering
 pub mod LayoutWalks

@@ -10,6 +10,7 @@ use Rattle.lay_calls.specs.declared.cell_id.CellId.TheVariants.{Symbol, Top}
 use Rattle.lay_calls.specs.SameCell.{cell_eq, cell_eq-Decides}
 use Rattle.lay_calls.specs.Symbols.{has_cell, has_symbol}
 use Rattle.lay_calls.specs.WalkLists.{calls_standing_in}
+use Rattle.lay_calls.proofs.GraphLemmas.{same_number}
 use Rattle.lay_calls.proofs.MemberLemmas.{contains_none, joined_contains}
 use Rattle.lay_layouts.specs.Layout.{Layout}
 use Rattle.lay_layouts.specs.Lent.{LentCall, calls_in}
@@ -29,14 +30,8 @@ abbrev pub IsIn : CellId → List ℕ → CellId → Type 0
 IsIn start symbols Top = IsTop start
 IsIn start symbols (Symbol n) = has_symbol symbols n ≡ true
 
-pub same_number : (a b : ℕ) → nat_eq a b ≡ true → b ≡ a
-same_number a b h = grind (arith, nat_tests)
-
 other_way : (a b : ℕ) → nat_eq a b ≡ false → nat_eq b a ≡ false
 other_way a b h = grind (arith, nat_tests)
-
-pub same_itself : (a : ℕ) → nat_eq a a ≡ true
-same_itself a = grind (arith, nat_tests)
 
 -- a symbol stands at some index
 find_at : (ns : List ℕ) (n : ℕ) → has_symbol ns n ≡ true → (i : ℕ) × (slice_get ns i ≡ Some n)

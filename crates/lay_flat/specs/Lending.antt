@@ -18,5 +18,5 @@ abbrev pub IsTooMany : List FlatRing → FlatFault → Type 0
 IsTooMany rings fault = (fault ≡ NoMemory) ⊎ ((fault ≡ TooMany) × (MAX_RINGS < length rings))
 
 -- shapes, each with the same turn
-abbrev pub turned_by : Turn → List (List (List Point)) → List Drawn
-turned_by turn shapes = map (λ rings. (turn, rings)) shapes
+abbrev pub drawn_with : Turn → List (List (List Point)) → List Drawn
+drawn_with turn shapes = map (λ rings. (turn, rings)) shapes

@@ -11,12 +11,12 @@ use Rattle.lay_layouts.specs.Layout.{Layout, coded_layout}
 use Rattle.lay_layouts.specs.Lent.{shapes_in}
 
 -- the list that is kept under a number
-abbrev pub kept_at : {X : Type 0} → List (ℕ × List X) → ℕ → Option (List X)
-kept_at entries n = lookup (is_at (nat_cmp n)) entries
+abbrev pub list_under : {X : Type 0} → List (ℕ × List X) → ℕ → Option (List X)
+list_under entries n = lookup (is_at (nat_cmp n)) entries
 
 -- what is kept under a number is the list that belongs there
 abbrev pub AreListsOf : {X : Type 0} → (ℕ → List X) → List (ℕ × List X) → Type 0
-AreListsOf list_of entries = (n : ℕ) → unwrap_or (kept_at entries n) (list_of n) ≡ list_of n
+AreListsOf list_of entries = (n : ℕ) → unwrap_or (list_under entries n) (list_of n) ≡ list_of n
 
 -- a layer of a layout
 pub record LayerOf : Type 0 where

@@ -2,7 +2,7 @@
 ghost use Rattle.std.specs.Prelude.{◌≡◌, ◌+◌, ◌++◌, ◌∷◌, [], ◌≤◌, IfErr, IfOk, OnOk, length};
 ghost use Rattle.lay_flat.specs.declared.flat.TheConstants.{MAX_RINGS};
 ghost use Rattle.lay_flat.specs.Flattening.{drawn_at, rings_at, rings_from, rings_of};
-ghost use Rattle.lay_flat.specs.Lending.{AreRings, IsTooMany, turned_by};
+ghost use Rattle.lay_flat.specs.Lending.{AreRings, IsTooMany, drawn_with};
 
 use crate::ends::End;
 use crate::fault::FlatFault;
@@ -69,12 +69,12 @@ fn lend_shapes<'s>(
     requires few { length rings.old.items ≤ MAX_RINGS }
     requires rings { AreRings rings.old.items }
     ensures ok { OnOk result (rings.new.items
-        ≡ rings.old.items ++ rings_from number (turned_by turn shapes.now)) }
+        ≡ rings.old.items ++ rings_from number (drawn_with turn shapes.now)) }
     ensures number { IfOk result (λ next. next ≡ number + length shapes.now) }
     ensures few { OnOk result (length rings.new.items ≤ MAX_RINGS) }
     ensures rings { OnOk result (AreRings rings.new.items) }
     ensures err { IfErr result (IsTooMany
-        (rings.old.items ++ rings_from number (turned_by turn shapes.now))) }
+        (rings.old.items ++ rings_from number (drawn_with turn shapes.now))) }
 {
     let mut next = number;
     for shape in shapes {

@@ -1,3 +1,4 @@
+pub mod Addable
 pub mod CallLemmas
 pub mod DistinctLemmas
 pub mod EntryLemmas
