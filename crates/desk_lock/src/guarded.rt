@@ -8,8 +8,10 @@ ghost use Rattle.desk_rules.specs.Guards.{has_last, ones, with_one_counted};
 ghost use Rattle.desk_rules.specs.Legal.{IsLegal, answer_of, opened_answer};
 ghost use Rattle.desk_rules.specs.Seats.{AreCallsRising, MadeLogged, calls_added, own_calls};
 ghost use Rattle.desk_lock.specs.Desks.{IsLooked, IsLookedThrough, commit_answer, differs_refusal, full_or_foreign, other_fault};
+ghost use Rattle.desk_lock.specs.Ways.{answer_for, call_for};
 
 use crate::fault::DeskFault;
+use crate::way::Way;
 use desk_rules::{Kept, is_last_in, missing_place};
 use lay_items::Snapshot;
 use std::alloc::Global;
@@ -18,7 +20,7 @@ use std::sync::ledger;
 use std::sync::ledger::{Ledger, Share};
 use txn_commands::TxnId;
 use undo_book::{Book, CommitRefusal, Work};
-use undo_rules::{Answer, BookFault, Call};
+use undo_rules::{BookFault, Call};
 
 /// A book with the numbers of calls of the sessions in its log.
 #[derive(Drop)]
@@ -102,20 +104,21 @@ impl<L: Ledger> Guarded<L> {
         Ok((result, place, base, *sessions))
     }
 
-    /// Undoes a transaction, where the log has the session's calls so far. Returns with the answer the place
-    /// of the call.
-    pub fn undo(
+    /// Undoes or redoes a transaction, where the log has the session's calls so far. Returns with the answer
+    /// the place of the call.
+    pub fn change(
         &mut self,
         alloc: Global,
         session: u8,
         own: &[Kept],
         share: &mut Share<L>,
+        way: Way,
         txn: TxnId,
     ) -> Result<(Result<(), BookFault>, usize), DeskFault>
         requires { share.old.parts ≡ 1 }
-        ensures made { IfOk result (λ r. MadeLogged (answer_of Answer.Undone r.0) self.new.book.base self.new.sessions self.new.book
-            session own.now (Call.Undo txn) r.1) }
-        ensures amount { IfOk result (λ r. share.new.amount ≡ share.old.amount + calls_added (answer_of Answer.Undone r.0)) }
+        ensures made { IfOk result (λ r. MadeLogged (answer_of (answer_for way) r.0) self.new.book.base self.new.sessions
+            self.new.book session own.now (call_for way txn) r.1) }
+        ensures amount { IfOk result (λ r. share.new.amount ≡ share.old.amount + calls_added (answer_of (answer_for way) r.0)) }
         ensures refused { IfErr result (λ fault. (fault ≡ differs_refusal session own.now) × (share.new.amount ≡ share.old.amount)) }
         ensures parts { share.new.parts ≡ 1 }
     {
@@ -132,43 +135,7 @@ impl<L: Ledger> Guarded<L> {
         // The layout is sound.
         book.snapshot().version();
         let place = book.log().len();
-        let result = book.undo(alloc, session, txn);
-        let more = place < book.log().len();
-        count_call(counts, calls, share, session, more);
-        Ok((result, place))
-    }
-
-    /// Redoes a transaction, where the log has the session's calls so far. Returns with the answer the place
-    /// of the call.
-    pub fn redo(
-        &mut self,
-        alloc: Global,
-        session: u8,
-        own: &[Kept],
-        share: &mut Share<L>,
-        txn: TxnId,
-    ) -> Result<(Result<(), BookFault>, usize), DeskFault>
-        requires { share.old.parts ≡ 1 }
-        ensures made { IfOk result (λ r. MadeLogged (answer_of Answer.Redone r.0) self.new.book.base self.new.sessions self.new.book
-            session own.now (Call.Redo txn) r.1) }
-        ensures amount { IfOk result (λ r. share.new.amount ≡ share.old.amount + calls_added (answer_of Answer.Redone r.0)) }
-        ensures refused { IfErr result (λ fault. (fault ≡ differs_refusal session own.now) × (share.new.amount ≡ share.old.amount)) }
-        ensures parts { share.new.parts ≡ 1 }
-    {
-        if !self.has_last(session, own) {
-            return Err(differs(session, own));
-        }
-        let Guarded {
-            sessions: _,
-            book,
-            limit: _,
-            counts,
-            calls,
-        } = self;
-        // The layout is sound.
-        book.snapshot().version();
-        let place = book.log().len();
-        let result = book.redo(alloc, session, txn);
+        let result = way.take(book, alloc, session, txn);
         let more = place < book.log().len();
         count_call(counts, calls, share, session, more);
         Ok((result, place))

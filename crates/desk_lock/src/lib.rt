@@ -10,7 +10,9 @@
 
 mod fault;
 mod guarded;
+mod way;
 
 pub use fault::{DeskFault, DeskRefusal, RunFault};
 pub use guarded::{Guarded, differs, fresh_guard};
 pub use undo_book::{Book, Command, CommitRefusal, MAX_CALLS, TxnId, Work};
+pub use way::Way;

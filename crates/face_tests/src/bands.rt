@@ -1,31 +1,14 @@
 //! Tests of what no clause says: that calls succeed, and that the labels are those of an operation.
-ghost use Rattle.std.specs.Prelude.{◌≡◌};
 
+use crate::drawn::{at, owned};
 use band_workers::*;
 use face_rows::Op;
-use lay_point::{Point, Ring};
+use lay_point::Ring;
 use snap_chains::round;
-use snap_visits::{Input, OwnedRing, Owner};
+use snap_visits::Input;
 use std::alloc::AllocError;
 use std::sync::atomic::{AtomicBool, Ordering};
 use std::test::*;
-
-/// Returns the point of these coordinates.
-fn at(x: i32, y: i32) -> Point
-    ensures { result ≡ record { x = x; y = y } }
-{
-    Point { x, y }
-}
-
-/// Returns the ring of the first shape of an input.
-fn owned(input: Input, points: &[Point]) -> OwnedRing<'_>
-    ensures { result.1 ≡ points.now }
-{
-    OwnedRing {
-        owner: Owner { input, shape: 0 },
-        points,
-    }
-}
 
 // Could catch labels that are all false, or of a wrong operation, and a worker that always runs out
 // of memory: of the AND of two squares that overlap the edges are the four round what they share.

@@ -1,30 +1,13 @@
 //! Tests of what no clause says: that calls succeed, and that the definitions are those of rows and
 //! of an operation's edges.
-ghost use Rattle.std.specs.Prelude.{◌≡◌};
 
+use crate::drawn::{at, owned};
 use face_labels::*;
-use face_sides::{CleanEdges, Input, OwnedRing, Owner, round};
-use lay_point::{NoMemory, Point, Ring};
+use face_sides::{CleanEdges, Input, round};
+use lay_point::{NoMemory, Ring};
 use std::alloc::Global;
 use std::test::*;
 use std::thread::Threads;
-
-/// Returns the point of these coordinates.
-fn at(x: i32, y: i32) -> Point
-    ensures { result ≡ record { x = x; y = y } }
-{
-    Point { x, y }
-}
-
-/// Returns the ring of the first shape of an input.
-fn owned(input: Input, points: &[Point]) -> OwnedRing<'_>
-    ensures { result.1 ≡ points.now }
-{
-    OwnedRing {
-        owner: Owner { input, shape: 0 },
-        points,
-    }
-}
 
 /// Returns the edges of two rounded rings, one of each input.
 fn rounded(

@@ -7,6 +7,8 @@
 #[cfg(test)]
 mod bands;
 #[cfg(test)]
+mod drawn;
+#[cfg(test)]
 mod joins;
 #[cfg(test)]
 mod labels;

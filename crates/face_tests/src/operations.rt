@@ -1,12 +1,12 @@
 //! Tests of what no clause says: that calls succeed with ample memory, and that the shapes are those of the
 //! operations.
-ghost use Rattle.std.specs.Prelude.{◌≡◌};
 
+use crate::drawn::at;
 use band_workers::OneBand;
 use face_rows::Op;
 use lay_calls::CellId;
 use lay_flat::{Snapshot, flatten};
-use lay_point::{LayerName, Point, Ring};
+use lay_point::{LayerName, Ring};
 use layer_ops::*;
 use std::alloc::Global;
 use std::test::*;
@@ -25,12 +25,6 @@ fn shapes_of(
     let first = flatten(alloc, &snapshot, CellId::Top, &a)?;
     let second = flatten(alloc, &snapshot, CellId::Top, &b)?;
     Ok(combine(rt, alloc, op, &first, &second, &OneBand)?)
-}
-
-fn at(x: i32, y: i32) -> Point
-    ensures { result ≡ record { x = x; y = y } }
-{
-    Point { x, y }
 }
 
 // Could catch an operation that is another one, or is the other way round, rings that begin or go elsewhere, and a

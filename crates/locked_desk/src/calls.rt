@@ -4,10 +4,11 @@ ghost use Rattle.desk_rules.specs.Legal.{answer_of, opened_answer, refusal};
 ghost use Rattle.desk_rules.specs.Seats.{GainsLogged, with_kept};
 ghost use Rattle.desk_lock.specs.Desks.{IsOther, NamesSeat, Opens, by_book, commit_answer, commit_by_book, desk_answer};
 ghost use Rattle.desk_lock.specs.Desks.{desk_commit_answer, desk_refused};
+ghost use Rattle.desk_lock.specs.Ways.{answer_for, call_for};
 
 use crate::desk::Desk;
 use crate::seat::Seat;
-use desk_lock::{CommitRefusal, DeskFault, DeskRefusal, Work, differs};
+use desk_lock::{CommitRefusal, DeskFault, DeskRefusal, Way, Work, differs};
 use desk_rules::Kept;
 use lay_point::{NoMemory, Sequence};
 use std::alloc::Global;
@@ -117,25 +118,7 @@ impl<L: Ledger> Desk<L> {
         ensures gains { GainsLogged (desk_answer Answer.Undone result) seat.old (Call.Undo txn) seat.new }
         ensures named { IfErr result (λ fault. NamesSeat fault seat.old) }
     {
-        let Seat {
-            session,
-            own,
-            share,
-        } = seat;
-        if own.reserve(1).is_err() {
-            return Err(DeskFault::Book(BookFault::NoMemory));
-        }
-        let undone = self
-            .lock
-            .lock(rt)
-            .undo(alloc, *session, own.as_slice(), share, txn);
-        let (result, place) = match undone {
-            Ok(done) => done,
-            Err(fault) => return Err(fault),
-        };
-        let answer = logged_answer(Answer::Undone, &result);
-        keep(own, *session, Call::Undo(txn), place, answer);
-        by_book(result)
+        self.change(rt, alloc, seat, Way::Back, txn)
     }
 
     /// Redoes an undone transaction, of any session. Refused as the book refuses it, or as `Differs` with
@@ -150,6 +133,21 @@ impl<L: Ledger> Desk<L> {
         ensures gains { GainsLogged (desk_answer Answer.Redone result) seat.old (Call.Redo txn) seat.new }
         ensures named { IfErr result (λ fault. NamesSeat fault seat.old) }
     {
+        self.change(rt, alloc, seat, Way::Forth, txn)
+    }
+
+    /// Undoes or redoes a transaction.
+    fn change<R: Wait>(
+        &self,
+        rt: &R,
+        alloc: Global,
+        seat: &mut Seat<L>,
+        way: Way,
+        txn: TxnId,
+    ) -> Result<(), DeskFault>
+        ensures gains { GainsLogged (desk_answer (answer_for way) result) seat.old (call_for way txn) seat.new }
+        ensures named { IfErr result (λ fault. NamesSeat fault seat.old) }
+    {
         let Seat {
             session,
             own,
@@ -158,16 +156,16 @@ impl<L: Ledger> Desk<L> {
         if own.reserve(1).is_err() {
             return Err(DeskFault::Book(BookFault::NoMemory));
         }
-        let redone = self
+        let changed = self
             .lock
             .lock(rt)
-            .redo(alloc, *session, own.as_slice(), share, txn);
-        let (result, place) = match redone {
+            .change(alloc, *session, own.as_slice(), share, way, txn);
+        let (result, place) = match changed {
             Ok(done) => done,
             Err(fault) => return Err(fault),
         };
-        let answer = logged_answer(Answer::Redone, &result);
-        keep(own, *session, Call::Redo(txn), place, answer);
+        let answer = logged_answer(way.answer(), &result);
+        keep(own, *session, way.call(txn), place, answer);
         by_book(result)
     }
 }
