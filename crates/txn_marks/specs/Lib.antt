@@ -1,5 +1,6 @@
 pub mod Coded
 pub mod Homes
+pub mod Kept
 pub mod Met
 pub mod WritesOf
 pub use Rattle.txn_rules.specs.Booleans

@@ -3,6 +3,7 @@ ghost use Rattle.std.specs.Prelude.{◌≡◌, IfOk, option_copied};
 ghost use Rattle.lay_layouts.specs.Same.{option_item_eq};
 ghost use Rattle.txn_commands.specs.Changes.{change_of};
 ghost use Rattle.txn_commands.specs.Records.{option_slot_eq};
+ghost use Rattle.txn_marks.specs.Kept.{kept_item};
 
 use lay_layouts::{CellSlot, Item};
 use lay_point::NoMemory;
@@ -10,31 +11,25 @@ use std::alloc::{AllocError, Global};
 use std::marker::Model;
 use std::sync::Arc;
 
-/// The values of an item before and after.
-#[derive(Debug, Drop)]
-pub(crate) struct Values {
-    before: Option<Item>,
-    after: Option<Item>,
-}
-
-/// What stands under an id before and after, which differ, shared by all who hold it. Contracts see the
-/// change.
+/// What stands under an id before and after, which differ, each shared by all who hold it: most items are
+/// made, and have nothing before. Contracts see the change.
 #[derive(Debug, Drop)]
 pub struct ItemChange {
-    values: Arc<Values>,
+    before: Option<Arc<Item>>,
+    after: Option<Arc<Item>>,
 }
 
 impl Model for ItemChange {
     ghost use Rattle.txn_commands.specs.Changes.{Change};
     ghost use Rattle.lay_layouts.specs.declared.item.Item.{Item};
     ghost use Rattle.txn_marks.specs.Coded.{coded_item_change};
-    ghost use Rattle.std.specs.Arc.{arc_value};
+    ghost use Rattle.txn_marks.specs.Kept.{kept_item};
 
     ghost Value = { Change Item };
 
     ghost coded = { coded_item_change };
 
-    ghost view = { λ c. record { before = (arc_value c.values).before; after = (arc_value c.values).after } };
+    ghost view = { λ c. record { before = kept_item c.before; after = kept_item c.after } };
 }
 
 impl ItemChange {
@@ -42,14 +37,14 @@ impl ItemChange {
     pub fn before(&self) -> Option<&Item>
         ensures { option_copied result ≡ self.now.before }
     {
-        self.values.before.as_ref()
+        lent(&self.before)
     }
 
     /// What stands there after, if anything does.
     pub fn after(&self) -> Option<&Item>
         ensures { option_copied result ≡ self.now.after }
     {
-        self.values.after.as_ref()
+        lent(&self.after)
     }
 }
 
@@ -58,7 +53,8 @@ impl Clone for ItemChange {
 
     fn clone(&self) -> Result<ItemChange, AllocError> {
         Ok(ItemChange {
-            values: Arc::try_clone(&self.values)?,
+            before: shared(&self.before)?,
+            after: shared(&self.after)?,
         })
     }
 }
@@ -121,8 +117,40 @@ pub(crate) fn item_change(
     if before == after {
         return Ok(None);
     }
-    let values = Arc::new(alloc, Values { before, after })?;
-    Ok(Some(ItemChange { values }))
+    Ok(Some(ItemChange {
+        before: kept(alloc, before)?,
+        after: kept(alloc, after)?,
+    }))
+}
+
+/// Returns the item to be shared, where there is one.
+fn kept(alloc: Global, item: Option<Item>) -> Result<Option<Arc<Item>>, NoMemory>
+    ensures { IfOk result (λ kept. kept_item kept ≡ item) }
+{
+    match item {
+        Some(item) => Ok(Some(Arc::new(alloc, item)?)),
+        None => Ok(None),
+    }
+}
+
+/// Lends the item, where there is one.
+fn lent(kept: &Option<Arc<Item>>) -> Option<&Item>
+    ensures { option_copied result ≡ kept_item kept.now }
+{
+    match kept {
+        Some(item) => Some(item),
+        None => None,
+    }
+}
+
+/// Returns the same item, shared once more, where there is one.
+fn shared(kept: &Option<Arc<Item>>) -> Result<Option<Arc<Item>>, AllocError>
+    ensures { IfOk result (λ share. kept_item share ≡ kept_item kept.now) }
+{
+    match kept {
+        Some(item) => Ok(Some(Arc::try_clone(item)?)),
+        None => Ok(None),
+    }
 }
 
 /// Returns the change from one slot to the other, where they differ.
