@@ -1,7 +1,9 @@
 pub mod FirstLemmas
+pub mod UnderLemmas
 pub mod PairLemmas
 pub mod ListedLemmas
-pub mod RangeLemmas
+pub mod KeptLemmas
+pub mod FootprintLemmas
 pub mod ApartLemmas
 pub use Rattle.txn_marks.proofs.AnyLemmas
 pub use Rattle.txn_marks.proofs.CompareLemmas

@@ -1,20 +1,20 @@
 -- Pairs of elements and places, in their order.
 use Rattle.std.proofs.Common.{◌≡◌, ℕ, ◌==◌, not, ◌||◌, ◌&&◌, refl, ap, ◌∙◌}
-use Rattle.std.proofs.lemmas.Cmp.{nat_cmp_total, on_total, then_total}
 use Rattle.std.specs.declared.cmp.Ordering.{Ordering}
 use Rattle.std.specs.declared.cmp.Ordering.TheVariants.{Equal, Greater, Less}
-use Rattle.std.specs.Cmp.{IsTotalOrder, unsigned_tied}
+use Rattle.std.specs.Cmp.{IsTotalOrder}
 use Rattle.std.specs.FinMap.{nat_cmp-IsAntisymmetric}
 use Rattle.std.specs.FinSet.{IsAntisymmetric, contains-insert, contains-remove, insert, remove}
-use Rattle.std.specs.Ordering.{eq_by_cmp, is_eq, nat_cmp, ordering_then}
+use Rattle.std.specs.Ordering.{eq_by_cmp, nat_cmp, ordering_then}
 use Rattle.txn_commands.specs.declared.element.Element.{Element}
 use Rattle.txn_commands.specs.Elements.{element_cmp, element_eq, elements_exact, elements_total}
 use Rattle.undo_index.specs.Listed.{Listed, is_listed, pair_cmp}
+use Rattle.undo_index.proofs.UnderLemmas.{keyed_eq, keyed_total}
 
 -- ---- their order
 
 pub pairs_total : IsTotalOrder pair_cmp
-pairs_total = then_total (on_total (λ (a : Element × ℕ). a.0) elements_total) (on_total (λ (a : Element × ℕ). a.1) nat_cmp_total)
+pairs_total = keyed_total elements_total
 
 tied_parts : (r s : Ordering) → ordering_then r s ≡ Equal → (r ≡ Equal) × (s ≡ Equal)
 tied_parts Less s h = absurd cc
@@ -28,14 +28,9 @@ pairs_exact a b h =
     let second : a.1 ≡ b.1 = nat_cmp-IsAntisymmetric a.1 b.1 parts.1 in
     λ i. (first i, second i)
 
-is_eq-then : (a b : Ordering) → is_eq (ordering_then a b) ≡ (is_eq a && is_eq b)
-is_eq-then Less b = refl
-is_eq-then Equal b = refl
-is_eq-then Greater b = refl
-
 -- pairs are equal where both parts are
 pub pair_eq : (e f : Element) (p q : ℕ) → eq_by_cmp pair_cmp (e, p) (f, q) ≡ (element_eq e f && (p == q))
-pair_eq e f p q = is_eq-then (element_cmp e f) (nat_cmp p q) ∙ ap (λ b. element_eq e f && b) (unsigned_tied p q)
+pair_eq e f p q = keyed_eq element_cmp e f p q
 
 -- ---- listed places
 

@@ -1,4 +1,5 @@
 pub mod First
+pub mod Under
 pub mod Listed
 pub use Rattle.txn_marks.specs.Homes
 pub use Rattle.txn_marks.specs.Coded

@@ -1,19 +1,21 @@
 -- Places listed under elements.
-use Rattle.std.specs.Prelude.{◌≡◌, ℕ, ◌==◌, List, Bool, false, not, ◌&&◌, ◌||◌}
+use Rattle.std.specs.Prelude.{◌≡◌, ℕ, ◌==◌, List, ◌++◌, Bool, false, not, ◌&&◌, ◌||◌, map}
+use Rattle.std.specs.Prelude.{Option, None, Some, is_none}
+use Rattle.std.specs.List.{filter}
 use Rattle.std.specs.declared.cmp.Ordering.{Ordering}
-use Rattle.std.specs.BTreeSet.{BTreeSet, keys_between}
-use Rattle.std.specs.declared.ops.Bound.TheVariants.{Excluded, Included}
 use Rattle.std.specs.Coded.{Coded, coded×, coded_ℕ}
 use Rattle.std.specs.FinSet as set
 use Rattle.std.specs.FinSet.{FinSet}
-use Rattle.std.specs.Ordering.{nat_cmp, ordering_then}
+use Rattle.lay_layouts.specs.declared.id.ItemId.{ItemId}
 use Rattle.txn_commands.specs.contracts.element.Element as element
 use Rattle.txn_commands.specs.declared.element.Element.{Element}
+use Rattle.txn_commands.specs.declared.element.Element.TheVariants.{Calls, Cell, Content, Item, Layer, Uses}
 use Rattle.txn_commands.specs.Elements.{Touched, element_cmp}
+use Rattle.undo_index.specs.Under.{pair_order}
 
 -- pairs go by their elements, then by their places
 abbrev pub pair_cmp : Element × ℕ → Element × ℕ → Ordering
-pair_cmp a b = ordering_then (element_cmp a.0 b.0) (nat_cmp a.1 b.1)
+pair_cmp = pair_order element_cmp
 
 -- a finite set of them
 abbrev pub Listed : Type 0
@@ -44,6 +46,25 @@ abbrev pub AreRemoved : Listed → Touched → ℕ → Listed → Type 0
 AreRemoved old elements place new =
     (e : Element) (p : ℕ) → is_listed new e p ≡ (is_listed old e p && not ((p == place) && set.contains elements e))
 
--- the pairs of a tree that are of this element, with places below this one
-abbrev pub pairs_below : Element → ℕ → BTreeSet (Element × ℕ) → List (Element × ℕ)
-pairs_below e below pairs = keys_between pair_cmp (Included (e, 0)) (Excluded (e, below)) pairs
+-- ---- how they are kept
+
+-- the id, where the element is an item
+abbrev pub item_of : Element → Option ItemId
+item_of (Item id) = Some id
+item_of (Layer cell layer) = None
+item_of (Calls cell) = None
+item_of (Cell number) = None
+item_of (Content number) = None
+item_of (Uses number) = None
+
+-- the element is no item
+abbrev pub is_part : Element × ℕ → Bool
+is_part k = is_none (item_of k.0)
+
+-- a pair of an item
+abbrev pub item_pair : ItemId × ℕ → Element × ℕ
+item_pair k = (Item k.0, k.1)
+
+-- what is listed, by the pairs of items and those of other elements
+abbrev pub listed_of : List (ItemId × ℕ) → List (Element × ℕ) → Listed
+listed_of items others = set.from_list (map item_pair items ++ filter is_part others)

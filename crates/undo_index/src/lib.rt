@@ -15,6 +15,7 @@ mod elements;
 mod index;
 mod listing;
 mod places;
+mod under;
 
 pub use apart::first_apart;
 pub use elements::Elements;

@@ -1,12 +1,14 @@
 //! Places under elements.
-ghost use Rattle.std.specs.Prelude.{◌≡◌, ℕ, ◌++◌, ◌||◌, ◌&&◌, IfOk, OnErr, OnOk, map, nat_lt};
+ghost use Rattle.std.specs.Prelude.{◌≡◌, ℕ, ◌||◌, ◌&&◌, IfOk, OnErr, OnOk, nat_lt};
 ghost use Rattle.std.specs.FinSet as set;
 ghost use Rattle.std.specs.List.{list_any};
 ghost use Rattle.undo_index.specs.First.{IsFirst, has_place, lesser};
-ghost use Rattle.undo_index.specs.Listed.{AreAdded, AreRemoved, IsNew, is_listed, nothing_listed, pairs_below};
+ghost use Rattle.undo_index.specs.Listed.{AreAdded, AreRemoved, IsNew, is_listed, item_of, nothing_listed};
 
 use crate::elements::Elements;
 use crate::places::Places;
+use crate::under::{first_under, gather_under};
+use lay_layouts::ItemId;
 use lay_point::NoMemory;
 use std::alloc::Global;
 use std::collections::BTreeSet;
@@ -15,20 +17,23 @@ use txn_commands::Element;
 use txn_marks::Footprint;
 
 /// Places listed under elements. Contracts see the finite set of the pairs.
+///
+/// Of most transactions half of the pairs or more are of items, and an id takes a quarter of what an element
+/// does. So those of items have a tree of their own.
 #[derive(Drop)]
 pub struct Listing {
-    pairs: BTreeSet<(Element, usize)>,
+    items: BTreeSet<(ItemId, usize)>,
+    others: BTreeSet<(Element, usize)>,
 }
 
 impl Model for Listing {
-    ghost use Rattle.std.specs.FinSet as set;
-    ghost use Rattle.undo_index.specs.Listed.{Listed, coded_listed};
+    ghost use Rattle.undo_index.specs.Listed.{Listed, coded_listed, listed_of};
 
     ghost Value = { Listed };
 
     ghost coded = { coded_listed };
 
-    ghost view = { λ l. set.from_list l.pairs.keys };
+    ghost view = { λ l. listed_of l.items.keys l.others.keys };
 }
 
 impl Listing {
@@ -37,7 +42,8 @@ impl Listing {
         ensures { result ≡ nothing_listed }
     {
         Listing {
-            pairs: BTreeSet::new(alloc),
+            items: BTreeSet::new(alloc),
+            others: BTreeSet::new(alloc),
         }
     }
 
@@ -130,7 +136,10 @@ impl Listing {
         ensures ok { OnOk result (self.new ≡ set.insert self.old (element, place)) }
         ensures err { OnErr result (self.new ≡ self.old) }
     {
-        self.pairs.insert((element, place))?;
+        match item_of(&element) {
+            Some(id) => self.items.insert((id, place))?,
+            None => self.others.insert((element, place))?,
+        };
         Ok(())
     }
 
@@ -138,16 +147,19 @@ impl Listing {
     fn remove_one(&mut self, element: Element, place: usize)
         ensures { self.new ≡ set.remove self.old (element, place) }
     {
-        self.pairs.remove(&(element, place));
+        match item_of(&element) {
+            Some(id) => self.items.remove(&(id, place)),
+            None => self.others.remove(&(element, place)),
+        };
     }
 
     /// Returns the least place from this one on that is listed under the element.
     fn first(&self, element: Element, from: usize) -> Option<usize>
         ensures { IsFirst (is_listed self.now element) from result }
     {
-        match self.pairs.range((element, from)..).next() {
-            Some((found, place)) if *found == element => Some(*place),
-            _ => None,
+        match item_of(&element) {
+            Some(id) => first_under(&self.items, id, from),
+            None => first_under(&self.others, element, from),
         }
     }
 
@@ -161,25 +173,21 @@ impl Listing {
         ensures { OnOk result ((p : ℕ) → has_place places.new.items p
             ≡ (has_place places.old.items p || (nat_lt p below && is_listed self.now element p))) }
     {
-        gather_under(&self.pairs, &element, below, places)?;
-        Ok(())
+        match item_of(&element) {
+            Some(id) => gather_under(&self.items, id, below, places),
+            None => gather_under(&self.others, element, below, places),
+        }
     }
 }
 
-/// Adds the places below this one of the pairs of the element, in their order.
-fn gather_under(
-    pairs: &BTreeSet<(Element, usize)>,
-    element: &Element,
-    below: usize,
-    places: &mut Vec<usize>,
-) -> Result<(), NoMemory>
-    ensures { OnOk result (places.new.items
-        ≡ places.old.items ++ map (λ k. k.1) (pairs_below element.now below pairs.now)) }
+/// Returns the id, where the element is an item.
+fn item_of(element: &Element) -> Option<ItemId>
+    ensures { result ≡ item_of element.now }
 {
-    for pair in pairs.range((*element, 0)..(*element, below)) {
-        places.push(pair.1)?;
+    match element {
+        Element::Item(id) => Some(*id),
+        _ => None,
     }
-    Ok(())
 }
 
 /// Returns the lesser one of two places, of which either may be missing.

@@ -5,7 +5,7 @@ use Rattle.txn_commands.specs.declared.element.Element.{Element}
 use Rattle.undo_index.specs.First.{IsFirst}
 use Rattle.undo_index.specs.Listed.{is_listed}
 use Rattle.undo_index.proofs.FirstLemmas.{Leaves, first_alike, leaves_less, leaves_none}
-use Rattle.undo_index.proofs.RangeLemmas.{any_so}
+use Rattle.undo_index.proofs.FootprintLemmas.{any_so}
 use Rattle.undo_index.proofs.listing.Listing.first_touched.Goals as goal
 
 pub loop-element-init : goal.loop-element-init

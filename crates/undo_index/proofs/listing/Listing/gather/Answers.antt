@@ -1,16 +1,17 @@
-use Rattle.std.proofs.Common.{◌∙◌, ◌||◌, ◌&&◌, ap}
-use Rattle.std.specs.Prelude.{nat_lt}
-use Rattle.undo_index.specs.First.{has_place}
-use Rattle.undo_index.specs.Listed.{Listed, is_listed, pairs_below}
-use Rattle.undo_index.proofs.ApartLemmas.{has_more}
-use Rattle.undo_index.proofs.RangeLemmas.{below_so}
+use Rattle.std.proofs.Common.{◌∙◌, sym}
+use Rattle.undo_index.proofs.KeptLemmas.{gathered_item, gathered_other, on_ok}
 use Rattle.undo_index.proofs.listing.Listing.gather.Goals as goal
 
-pub returns : goal.returns
-returns c p =
-    let old = c.args.places.now.items in
-    ap (λ ps. has_place ps p) c.in_ok-gather_under.ensures
-    ∙ has_more old (pairs_below c.args.element c.args.below c.self.inside.pairs) p
-    ∙ ap (λ b. has_place old p || b)
-    (below_so c.self.inside.pairs c.args.element c.args.below p
-    ∙ ap (λ (s : Listed). nat_lt p c.args.below && is_listed s c.args.element p) c.self.view_is)
+pub returns-in-Some : goal.returns-in-Some
+returns-in-Some c =
+    on_ok c.gather_under.result
+    (gathered_item c.self.inside.items c.self.inside.others c.args.self.now c.self.view_is c.args.element c.in-Some.id
+    (sym c.item_of.ensures ∙ c.in-Some.is) c.args.below c.args.places.now.items c.gather_under.new.places.items)
+    c.gather_under.ensures
+
+pub returns-in-None : goal.returns-in-None
+returns-in-None c =
+    on_ok c.gather_under-in-None.result
+    (gathered_other c.self.inside.items c.self.inside.others c.args.self.now c.self.view_is c.args.element
+    (sym c.item_of.ensures ∙ c.in-None.is) c.args.below c.args.places.now.items c.gather_under-in-None.new.places.items)
+    c.gather_under-in-None.ensures

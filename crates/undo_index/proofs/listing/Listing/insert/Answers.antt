@@ -1,12 +1,13 @@
-use Rattle.std.proofs.Common.{◌∙◌, ap}
-use Rattle.std.specs.FinSet.{insert}
-use Rattle.txn_marks.proofs.SetLemmas.{key_added}
-use Rattle.undo_index.specs.Listed.{Listed}
-use Rattle.undo_index.proofs.PairLemmas.{pairs_exact, pairs_total}
+use Rattle.std.proofs.Common.{◌∙◌, sym}
+use Rattle.undo_index.proofs.KeptLemmas.{added_item, added_other}
 use Rattle.undo_index.proofs.listing.Listing.insert.Goals as goal
 
-pub returns-clause-ok : goal.returns-clause-ok
-returns-clause-ok c =
-    key_added pairs_total pairs_exact c.self.inside.pairs.keys c.insert.new.self.keys (c.args.element, c.args.place)
-    c.in_ok-insert.ensures.updates.0
-    ∙ ap (λ (s : Listed). insert s (c.args.element, c.args.place)) c.self.view_is
+pub returns-in_ok-insert-in-Some-clause-ok : goal.returns-in_ok-insert-in-Some-clause-ok
+returns-in_ok-insert-in-Some-clause-ok c =
+    added_item c.self.inside.items c.self.inside.others c.args.self.now c.self.view_is c.args.element c.in-Some.id
+    (sym c.item_of.ensures ∙ c.in-Some.is) c.args.place c.insert.new.self.keys c.in_ok-insert-in-Some.ensures.updates.0
+
+pub returns-in_ok-insert-in-None-clause-ok : goal.returns-in_ok-insert-in-None-clause-ok
+returns-in_ok-insert-in-None-clause-ok c =
+    added_other c.self.inside.items c.self.inside.others c.args.self.now c.self.view_is c.args.element
+    (sym c.item_of.ensures ∙ c.in-None.is) c.args.place c.insert-in-None.new.self.keys c.in_ok-insert-in-None.ensures.updates.0

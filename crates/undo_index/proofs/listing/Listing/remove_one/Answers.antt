@@ -1,12 +1,13 @@
-use Rattle.std.proofs.Common.{◌∙◌, ap}
-use Rattle.std.specs.FinSet.{remove}
-use Rattle.txn_marks.proofs.SetLemmas.{key_removed}
-use Rattle.undo_index.specs.Listed.{Listed}
-use Rattle.undo_index.proofs.PairLemmas.{pairs_exact, pairs_total}
+use Rattle.std.proofs.Common.{◌∙◌, sym}
+use Rattle.undo_index.proofs.KeptLemmas.{removed_item, removed_other}
 use Rattle.undo_index.proofs.listing.Listing.remove_one.Goals as goal
 
-pub returns : goal.returns
-returns c =
-    key_removed pairs_total pairs_exact c.self.inside.pairs.keys c.remove.new.self.keys (c.args.element, c.args.place)
-    c.remove.ensures.updates.0
-    ∙ ap (λ (s : Listed). remove s (c.args.element, c.args.place)) c.self.view_is
+pub returns-in-Some : goal.returns-in-Some
+returns-in-Some c =
+    removed_item c.self.inside.items c.self.inside.others c.args.self.now c.self.view_is c.args.element c.in-Some.id
+    (sym c.item_of.ensures ∙ c.in-Some.is) c.args.place c.remove.new.self.keys c.remove.ensures.updates.0
+
+pub returns-in-None : goal.returns-in-None
+returns-in-None c =
+    removed_other c.self.inside.items c.self.inside.others c.args.self.now c.self.view_is c.args.element
+    (sym c.item_of.ensures ∙ c.in-None.is) c.args.place c.remove-in-None.new.self.keys c.remove-in-None.ensures.updates.0

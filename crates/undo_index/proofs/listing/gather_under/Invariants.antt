@@ -1,8 +1,0 @@
-use Rattle.std.proofs.Common.{◌≡◌, ◌++◌, map}
-use Rattle.undo_index.specs.Listed.{pairs_below}
-use Rattle.undo_index.proofs.listing.gather_under.Given as goal
-
--- with those that are left they are all
-abbrev pub invariant-loop-pair : goal.invariant-loop-pair
-invariant-loop-pair l =
-    l.places.items ++ map (λ k. k.1) l.pair-iterator ≡ l.fn.places.items ++ map (λ k. k.1) (pairs_below l.element l.below l.pairs)
