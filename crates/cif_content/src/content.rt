@@ -1,18 +1,15 @@
 //! What the commands so far mean.
 ghost use Rattle.std.specs.Prelude.{◌≡◌, ◌+◌, ◌<◌, ◌^◌, MatchOption, OnOk, Ok, Err, ⊤, if◌then◌else◌};
 ghost use Rattle.lay_point.specs.Memory.{IsAnswer};
-ghost use Rattle.std.specs.List.{list_any};
 ghost use Rattle.cif_commands.specs.Boxes.{box_of};
 ghost use Rattle.cif_commands.specs.Comments.{is_comment};
 ghost use Rattle.cif_commands.specs.Layers.{layer_of};
 ghost use Rattle.cif_commands.specs.Paths.{path_of};
 ghost use Rattle.cif_commands.specs.Reading.{bracket_of, call_of};
-ghost use Rattle.cif_content.specs.Calls.{is_big_change};
 ghost use Rattle.cif_content.specs.Content.{after_box, after_call, after_layer, after_polygon, after_start, called, current_cell};
 ghost use Rattle.cif_content.specs.Content.{content_size, current_scale, drawn, effect_of, empty_content, finished, is_big_call, is_inside};
 ghost use Rattle.cif_content.specs.Content.{with_figure};
 ghost use Rattle.cif_content.specs.Meaning.{after_piece, definition_kind, read_as};
-ghost use Rattle.cif_content.specs.Polygons.{is_too_big};
 ghost use Rattle.cif_content.specs.Scales.{IsRatio};
 ghost use Rattle.cif_content.specs.Steps.{leaves};
 ghost use Rattle.cif_content.specs.Symbols.{definition_fault, has_zero_scale, is_big_definition};
@@ -22,12 +19,12 @@ use crate::boxes::{box_ring, is_askew, is_big_box};
 use crate::element::{Element, Figure};
 use crate::fault::FaultKind;
 use crate::file::MAX_SYMBOLS;
-use crate::polygon::{is_above_written, is_too_big, polygon_ring};
+use crate::polygon::{is_above_written, is_big_path, polygon_ring};
 use crate::ratio::Ratio;
-use crate::turns::{call_turn, is_big_change};
+use crate::turns::{are_big, call_turn};
 use cif_commands::{
-    Change, Definition, Scale, Vertex, are_blanks, is_comment, read_box, read_call,
-    read_definition, read_layer, read_path,
+    Definition, Scale, are_blanks, is_comment, read_box, read_call, read_definition, read_layer,
+    read_path,
 };
 use cif_scan::{Class, skip};
 use lay_calls::{CellId, Cells, MAX_SYMBOL};
@@ -308,20 +305,6 @@ fn checked_comment(bytes: &[u8]) -> Result<(), FaultKind>
     } else {
         Err(FaultKind::Syntax)
     }
-}
-
-/// Returns whether some number of the vertices is above all that a text may write.
-fn is_big_path(vertices: &[Vertex]) -> bool
-    ensures { result ≡ list_any is_too_big vertices.now }
-{
-    vertices.iter().any(|vertex| is_too_big(*vertex))
-}
-
-/// Returns whether some number of the changes is above all that a text may write.
-fn are_big(changes: &[Change]) -> bool
-    ensures { result ≡ list_any is_big_change changes.now }
-{
-    changes.iter().any(|change| is_big_change(*change))
 }
 
 /// Returns what is wrong with a definition where these symbols are defined.

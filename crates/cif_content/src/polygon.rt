@@ -13,6 +13,13 @@ use cif_scan::MAX_MAGNITUDE;
 use lay_point::{NoMemory, Point, Ring, RingFault};
 use std::alloc::Global;
 
+/// Returns whether some number of the vertices is above all that a text may write.
+pub(crate) fn is_big_path(vertices: &[Vertex]) -> bool
+    ensures { result ≡ list_any is_too_big vertices.now }
+{
+    vertices.iter().any(|vertex| is_too_big(*vertex))
+}
+
 /// Returns whether a number of the vertex is above all that a text may write.
 pub(crate) fn is_too_big(vertex: Vertex) -> bool
     ensures { result ≡ is_too_big vertex }

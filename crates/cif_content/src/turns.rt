@@ -13,8 +13,15 @@ use crate::ratio::{Ratio, doubled, point};
 use cif_commands::{Change, Vertex};
 use lay_point::{Point, Quarter, Turn};
 
+/// Returns whether some number of the changes is above all that a text may write.
+pub(crate) fn are_big(changes: &[Change]) -> bool
+    ensures { result ≡ list_any is_big_change changes.now }
+{
+    changes.iter().any(|change| is_big_change(*change))
+}
+
 /// Returns whether a number of the change is above all that a text may write.
-pub(crate) fn is_big_change(change: Change) -> bool
+fn is_big_change(change: Change) -> bool
     ensures { result ≡ is_big_change change }
 {
     match change {
