@@ -1,12 +1,12 @@
 -- The index by cell: what writes leave of it, and what is lent by it.
 use Rattle.std.proofs.Common.{◌≡◌, ◌∙◌, ◌<◌, ◌≤◌, ◌++◌, ℕ, zero, suc, Bool, true, false, List, [], ◌∷◌, Option, Some, None}
 use Rattle.std.proofs.Common.{ap, arith, cond, get_or, length, map, refl, subst, sym}
-use Rattle.std.specs.Prelude.{◌==◌, ◌&&◌, filter, is_some, nat_lt, not}
+use Rattle.std.specs.Prelude.{◌==◌, ◌&&◌, filter, nat_lt, not, option_map}
 use Rattle.std.specs.declared.cmp.Ordering.{Ordering}
 use Rattle.std.specs.declared.cmp.Ordering.TheVariants.{Equal, Greater, Less}
 use Rattle.std.specs.Cmp.{nat_cmp_is}
 use Rattle.std.specs.FinMap.{find}
-use Rattle.std.specs.List.{AllByRecursion}
+use Rattle.std.specs.List.{AllByRecursion, cons_option, filter_map}
 use Rattle.std.specs.List.Sorted.{IsNonDecreasingBy, IsStableByKey, IsStrictlySortedBy, ties}
 use Rattle.std.specs.Map.{keys_of}
 use Rattle.std.specs.Ordering.{is_lt, nat_cmp, ordering_reverse, ordering_then}
@@ -34,7 +34,8 @@ use Rattle.lay_cell_items.specs.ByCell.{
   homes_in,
   homes_total,
 }
-use Rattle.lay_cell_items.specs.ByCell.{ids_in, key_of, listed, looked_up, unit_entry, with_home, without_home}
+use Rattle.lay_cell_items.specs.ByCell.{IsFound, Tagged, homed_of, key_of, listed, looked_up}
+use Rattle.lay_cell_items.specs.ByCell.{tag_of, tagged_in, with_home, without_home}
 use Rattle.lay_layouts.specs.IdOrder.{ids_exact, ids_total}
 use Rattle.lay_layouts.specs.Ids.{id_cmp}
 use Rattle.lay_layouts.specs.Items.{cell_of, standing_in}
@@ -94,20 +95,21 @@ picked_filter {A} {B} f p q r agree (a ∷ xs) = by (q a) (p a) refl refl (picke
       rest ∙ ap (λ u. cond u (f a ∷ filter r (picked f p xs)) (filter r (picked f p xs))) (sym (sym (agree a here) ∙ test))
   by false false test here rest = rest
 
--- ---- ids before and behind one
+-- ---- ids before and behind one, with their tags
 
-abbrev ids_before : ItemId → List ItemId → List ItemId
-ids_before id ids = filter (λ k. is_lt (id_cmp k id)) ids
+abbrev ids_before : ItemId → List Tagged → List Tagged
+ids_before id ids = filter (λ p. is_lt (id_cmp p.0 id)) ids
 
-abbrev ids_behind : ItemId → List ItemId → List ItemId
-ids_behind id ids = filter (λ k. is_lt (id_cmp id k)) ids
+abbrev ids_behind : ItemId → List Tagged → List Tagged
+ids_behind id ids = filter (λ p. is_lt (id_cmp id p.0)) ids
 
-abbrev one_if : ItemId → Bool → List ItemId
-one_if id here = cond here (id ∷ []) []
+abbrev one_if : ItemId → Option ℕ → List Tagged
+one_if id None = []
+one_if id (Some tag) = (id, tag) ∷ []
 
--- ids after a write: with this one or without
-abbrev rewritten : ItemId → Bool → List ItemId → List ItemId
-rewritten id here ids = ids_before id ids ++ (one_if id here ++ ids_behind id ids)
+-- ids after a write: with this one and this tag, or without
+abbrev rewritten : ItemId → Option ℕ → List Tagged → List Tagged
+rewritten id tag ids = ids_before id ids ++ (one_if id tag ++ ids_behind id ids)
 
 filter_again : {A : Type 0} (p : A → Bool) (xs : List A) → filter p (filter p xs) ≡ filter p xs
 filter_again {A} p xs = by (filter p xs) (passes_all p xs) where
@@ -122,56 +124,61 @@ turned_lt j k h = ap is_lt (ids_total.antisymm k j) ∙ by (id_cmp j k) h where
   by Equal h = absurd cc
   by Greater h = absurd cc
 
-none_before : (id : ItemId) (ids : List ItemId) → ids_before id (ids_behind id ids) ≡ []
+none_before : (id : ItemId) (ids : List Tagged) → ids_before id (ids_behind id ids) ≡ []
 none_before id ids =
-    filter_none (λ k. is_lt (id_cmp k id)) (ids_behind id ids)
-    (all_weaker (λ k. is_lt (id_cmp id k) ≡ true) (λ k. is_lt (id_cmp k id) ≡ false) (λ k. turned_lt id k) (ids_behind id ids)
-    (passes_all (λ k. is_lt (id_cmp id k)) ids))
+    filter_none (λ (p : Tagged). is_lt (id_cmp p.0 id)) (ids_behind id ids)
+    (all_weaker (λ (p : Tagged). is_lt (id_cmp id p.0) ≡ true) (λ (p : Tagged). is_lt (id_cmp p.0 id) ≡ false) (λ p. turned_lt id p.0)
+    (ids_behind id ids)
+    (passes_all (λ (p : Tagged). is_lt (id_cmp id p.0)) ids))
 
-none_behind : (id : ItemId) (ids : List ItemId) → ids_behind id (ids_before id ids) ≡ []
+none_behind : (id : ItemId) (ids : List Tagged) → ids_behind id (ids_before id ids) ≡ []
 none_behind id ids =
-    filter_none (λ k. is_lt (id_cmp id k)) (ids_before id ids)
-    (all_weaker (λ k. is_lt (id_cmp k id) ≡ true) (λ k. is_lt (id_cmp id k) ≡ false) (λ k. turned_lt k id) (ids_before id ids)
-    (passes_all (λ k. is_lt (id_cmp k id)) ids))
+    filter_none (λ (p : Tagged). is_lt (id_cmp id p.0)) (ids_before id ids)
+    (all_weaker (λ (p : Tagged). is_lt (id_cmp p.0 id) ≡ true) (λ (p : Tagged). is_lt (id_cmp id p.0) ≡ false) (λ p. turned_lt p.0 id)
+    (ids_before id ids)
+    (passes_all (λ (p : Tagged). is_lt (id_cmp p.0 id)) ids))
 
 append_none : {A : Type 0} (xs : List A) → xs ++ [] ≡ xs
 append_none [] = refl
 append_none (x ∷ xs) = ap (λ ys. x ∷ ys) (append_none xs)
 
 -- an id that was taken out comes in
-rewritten_again : (id : ItemId) (ids : List ItemId) → rewritten id true (rewritten id false ids) ≡ rewritten id true ids
-rewritten_again id ids =
+rewritten_again : (id : ItemId) (tag : ℕ) (ids : List Tagged)
+    → rewritten id (Some tag) (rewritten id None ids) ≡ rewritten id (Some tag) ids
+rewritten_again id tag ids =
     let low : ids_before id (ids_before id ids ++ ids_behind id ids) ≡ ids_before id ids =
-    filter_append (λ k. is_lt (id_cmp k id)) (ids_before id ids) (ids_behind id ids)
-    ∙ (λ i. filter_again (λ k. is_lt (id_cmp k id)) ids i ++ none_before id ids i) ∙ append_none (ids_before id ids) in
+    filter_append (λ (p : Tagged). is_lt (id_cmp p.0 id)) (ids_before id ids) (ids_behind id ids)
+    ∙ (λ i. filter_again (λ (p : Tagged). is_lt (id_cmp p.0 id)) ids i ++ none_before id ids i) ∙ append_none (ids_before id ids) in
     let high : ids_behind id (ids_before id ids ++ ids_behind id ids) ≡ ids_behind id ids =
-    filter_append (λ k. is_lt (id_cmp id k)) (ids_before id ids) (ids_behind id ids)
-    ∙ (λ i. none_behind id ids i ++ filter_again (λ k. is_lt (id_cmp id k)) ids i) in
-    λ i. low i ++ (id ∷ high i)
+    filter_append (λ (p : Tagged). is_lt (id_cmp id p.0)) (ids_before id ids) (ids_behind id ids)
+    ∙ (λ i. none_behind id ids i ++ filter_again (λ (p : Tagged). is_lt (id_cmp id p.0)) ids i) in
+    λ i. low i ++ ((id, tag) ∷ high i)
 
 -- ---- a write of an item
 
--- whether an item stands in the cell of this number
-abbrev is_in : ℕ → Option Item → Bool
-is_in key None = false
-is_in key (Some item) = cell_key (cell_of item) == key
+-- the item's tag, where it stands in the cell of this number
+abbrev tag_in : ℕ → Option Item → Option ℕ
+tag_in key None = None
+tag_in key (Some item) = cond (cell_key (cell_of item) == key) (Some (tag_of item)) None
 
-ids_written : (key : ℕ) (id : ItemId) (x : Option Item) (es : List (ItemId × Item))
-    → ids_in key (after_write id_cmp id x es) ≡ rewritten id (is_in key x) (ids_in key es)
-ids_written key id x es =
-    picked_append (λ (e : ItemId × Item). e.0) (λ (e : ItemId × Item). key_of e == key) (lower id_cmp id es)
-    (written_entries id x ++ higher id_cmp id es)
-    ∙ (λ i. picked_filter (λ (e : ItemId × Item). e.0) (λ (e : ItemId × Item). key_of e == key)
-    (λ (e : ItemId × Item). is_lt (id_cmp e.0 id)) (λ k. is_lt (id_cmp k id)) (λ a here. refl) es i
-    ++ picked_append (λ (e : ItemId × Item). e.0) (λ (e : ItemId × Item). key_of e == key) (written_entries id x) (higher id_cmp id es) i)
-    ∙ (λ i. ids_before id (ids_in key es) ++ (one x i
-    ++ picked_filter (λ (e : ItemId × Item). e.0) (λ (e : ItemId × Item). key_of e == key)
-    (λ (e : ItemId × Item). is_lt (id_cmp id e.0)) (λ k. is_lt (id_cmp id k)) (λ a here. refl) es i))
+abbrev tagged : ItemId × Item → Tagged
+tagged e = (e.0, tag_of e.1)
+
+tagged_written : (key : ℕ) (id : ItemId) (x : Option Item) (es : List (ItemId × Item))
+    → tagged_in key (after_write id_cmp id x es) ≡ rewritten id (tag_in key x) (tagged_in key es)
+tagged_written key id x es =
+    picked_append tagged (λ (e : ItemId × Item). key_of e == key) (lower id_cmp id es) (written_entries id x ++ higher id_cmp id es)
+    ∙ (λ i. picked_filter tagged (λ (e : ItemId × Item). key_of e == key)
+    (λ (e : ItemId × Item). is_lt (id_cmp e.0 id)) (λ (p : Tagged). is_lt (id_cmp p.0 id)) (λ a here. refl) es i
+    ++ picked_append tagged (λ (e : ItemId × Item). key_of e == key) (written_entries id x) (higher id_cmp id es) i)
+    ∙ (λ i. ids_before id (tagged_in key es) ++ (one x i
+    ++ picked_filter tagged (λ (e : ItemId × Item). key_of e == key)
+    (λ (e : ItemId × Item). is_lt (id_cmp id e.0)) (λ (p : Tagged). is_lt (id_cmp id p.0)) (λ a here. refl) es i))
   where
-    one : (x : Option Item) → ids_in key (written_entries id x) ≡ one_if id (is_in key x)
+    one : (x : Option Item) → tagged_in key (written_entries id x) ≡ one_if id (tag_in key x)
     one None = refl
     one (Some item) = by (cell_key (cell_of item) == key) where
-      by : (b : Bool) → map (λ (e : ItemId × Item). e.0) (cond b ((id, item) ∷ []) []) ≡ one_if id b
+      by : (b : Bool) → map tagged (cond b ((id, item) ∷ []) []) ≡ one_if id (cond b (Some (tag_of item)) None)
       by true = refl
       by false = refl
 
@@ -186,43 +193,47 @@ in_cell key homed = homed.0.cell == key
 abbrev home_at : ℕ → ItemId → Home
 home_at cell id = record { cell = cell; id = id }
 
+abbrev homed_tag : Homed → Tagged
+homed_tag h = (h.0.id, h.1)
+
 -- the home's cell
-listed_here : (key cell : ℕ) (id : ItemId) (u : Option (Unit {0})) (hs : List Homed) → (cell == key) ≡ true
-    → listed key (after_write home_cmp (home_at cell id) u hs) ≡ rewritten id (is_some u) (listed key hs)
+listed_here : (key cell : ℕ) (id : ItemId) (u : Option ℕ) (hs : List Homed) → (cell == key) ≡ true
+    → listed key (after_write home_cmp (home_at cell id) u hs) ≡ rewritten id u (listed key hs)
 listed_here key cell id u hs here =
-    picked_append (λ (h : Homed). h.0.id) (in_cell key) (lower home_cmp (home_at cell id) hs)
+    picked_append homed_tag (in_cell key) (lower home_cmp (home_at cell id) hs)
     (written_entries (home_at cell id) u ++ higher home_cmp (home_at cell id) hs)
-    ∙ (λ i. picked_filter (λ (h : Homed). h.0.id) (in_cell key) (λ (h : Homed). is_lt (home_cmp h.0 (home_at cell id)))
-    (λ k. is_lt (id_cmp k id)) (λ h at. ap (λ o. is_lt (ordering_then o (id_cmp h.0.id id))) (same_cmp h.0.cell cell (same h at))) hs i
-    ++ picked_append (λ (h : Homed). h.0.id) (in_cell key) (written_entries (home_at cell id) u) (higher home_cmp (home_at cell id) hs) i)
+    ∙ (λ i. picked_filter homed_tag (in_cell key) (λ (h : Homed). is_lt (home_cmp h.0 (home_at cell id)))
+    (λ (p : Tagged). is_lt (id_cmp p.0 id))
+    (λ h at. ap (λ o. is_lt (ordering_then o (id_cmp h.0.id id))) (same_cmp h.0.cell cell (same h at))) hs i
+    ++ picked_append homed_tag (in_cell key) (written_entries (home_at cell id) u) (higher home_cmp (home_at cell id) hs) i)
     ∙ (λ i. ids_before id (listed key hs) ++ (one u i
-    ++ picked_filter (λ (h : Homed). h.0.id) (in_cell key) (λ (h : Homed). is_lt (home_cmp (home_at cell id) h.0))
-    (λ k. is_lt (id_cmp id k))
+    ++ picked_filter homed_tag (in_cell key) (λ (h : Homed). is_lt (home_cmp (home_at cell id) h.0))
+    (λ (p : Tagged). is_lt (id_cmp id p.0))
     (λ h at. ap (λ o. is_lt (ordering_then o (id_cmp id h.0.id))) (same_cmp cell h.0.cell (sym (same h at)))) hs i))
   where
     same : (h : Homed) → in_cell key h ≡ true → h.0.cell ≡ cell
     same h at = (Decides-eqb h.0.cell key).0 at ∙ sym ((Decides-eqb cell key).0 here)
 
-    one : (u : Option (Unit {0})) → listed key (written_entries (home_at cell id) u) ≡ one_if id (is_some u)
+    one : (u : Option ℕ) → listed key (written_entries (home_at cell id) u) ≡ one_if id u
     one None = refl
-    one (Some v) = ap (λ b. map (λ (h : Homed). h.0.id) (cond b ((home_at cell id, v) ∷ []) [])) here
+    one (Some v) = ap (λ b. map homed_tag (cond b ((home_at cell id, v) ∷ []) [])) here
 
 -- another cell
-listed_parts : (key cell : ℕ) (id : ItemId) (u : Option (Unit {0})) (hs : List Homed) → (cell == key) ≡ false
+listed_parts : (key cell : ℕ) (id : ItemId) (u : Option ℕ) (hs : List Homed) → (cell == key) ≡ false
     → listed key (after_write home_cmp (home_at cell id) u hs)
     ≡ listed key (lower home_cmp (home_at cell id) hs) ++ listed key (higher home_cmp (home_at cell id) hs)
 listed_parts key cell id u hs there =
-    picked_append (λ (h : Homed). h.0.id) (in_cell key) (lower home_cmp (home_at cell id) hs)
+    picked_append homed_tag (in_cell key) (lower home_cmp (home_at cell id) hs)
     (written_entries (home_at cell id) u ++ higher home_cmp (home_at cell id) hs)
     ∙ ap (λ ids. listed key (lower home_cmp (home_at cell id) hs) ++ ids)
-    (picked_append (λ (h : Homed). h.0.id) (in_cell key) (written_entries (home_at cell id) u) (higher home_cmp (home_at cell id) hs)
+    (picked_append homed_tag (in_cell key) (written_entries (home_at cell id) u) (higher home_cmp (home_at cell id) hs)
     ∙ ap (λ ids. ids ++ listed key (higher home_cmp (home_at cell id) hs)) (one u))
   where
-    one : (u : Option (Unit {0})) → listed key (written_entries (home_at cell id) u) ≡ []
+    one : (u : Option ℕ) → listed key (written_entries (home_at cell id) u) ≡ []
     one None = refl
-    one (Some v) = ap (λ b. map (λ (h : Homed). h.0.id) (cond b ((home_at cell id, v) ∷ []) [])) there
+    one (Some v) = ap (λ b. map homed_tag (cond b ((home_at cell id, v) ∷ []) [])) there
 
-listed_there : (key cell : ℕ) (id : ItemId) (u : Option (Unit {0})) (hs : List Homed) → IsStrictlySortedBy home_cmp (keys_of hs)
+listed_there : (key cell : ℕ) (id : ItemId) (u : Option ℕ) (hs : List Homed) → IsStrictlySortedBy home_cmp (keys_of hs)
     → (cell == key) ≡ false → listed key (after_write home_cmp (home_at cell id) u hs) ≡ listed key hs
 listed_there key cell id u hs sorted there =
     listed_parts key cell id u hs there ∙ sym (listed_parts key cell id (find home_cmp (home_at cell id) hs) hs there)
@@ -234,40 +245,40 @@ pub indexed_written : (id : ItemId) (x : Option Item) (es : List (ItemId × Item
     → IsStrictlySortedBy home_cmp (keys_of (without_home id (find id_cmp id es) hs)) → AreIndexedByCell es hs
     → AreIndexedByCell (after_write id_cmp id x es) (with_home id x (without_home id (find id_cmp id es) hs))
 indexed_written id x es hs sorted homes rest indexed key =
-    inn x (without_home id (find id_cmp id es) hs) rest (out (find id_cmp id es) still) ∙ ap (rewritten id (is_in key x)) (indexed key)
-    ∙ sym (ids_written key id x es)
+    inn x (without_home id (find id_cmp id es) hs) rest (out (find id_cmp id es) still) ∙ ap (rewritten id (tag_in key x)) (indexed key)
+    ∙ sym (tagged_written key id x es)
   where
-    ids : List ItemId
-    ids = listed key hs
-
-    still : rewritten id (is_in key (find id_cmp id es)) (listed key hs) ≡ listed key hs
+    still : rewritten id (tag_in key (find id_cmp id es)) (listed key hs) ≡ listed key hs
     still =
-        ap (rewritten id (is_in key (find id_cmp id es))) (indexed key) ∙ sym (ids_written key id (find id_cmp id es) es)
-        ∙ ap (ids_in key) (written-same ids_total ids_exact id es sorted) ∙ sym (indexed key)
+        ap (rewritten id (tag_in key (find id_cmp id es))) (indexed key) ∙ sym (tagged_written key id (find id_cmp id es) es)
+        ∙ ap (tagged_in key) (written-same ids_total ids_exact id es sorted) ∙ sym (indexed key)
 
-    out : (b : Option Item) → rewritten id (is_in key b) (listed key hs) ≡ listed key hs
-        → listed key (without_home id b hs) ≡ rewritten id false (listed key hs)
+    out : (b : Option Item) → rewritten id (tag_in key b) (listed key hs) ≡ listed key hs
+        → listed key (without_home id b hs) ≡ rewritten id None (listed key hs)
     out None same = sym same
     out (Some item) same = by (cell_key (cell_of item) == key) refl where
       by : (t : Bool) → (cell_key (cell_of item) == key) ≡ t
-          → listed key (after_write home_cmp (home_of id item) None hs) ≡ rewritten id false (listed key hs)
+          → listed key (after_write home_cmp (home_of id item) None hs) ≡ rewritten id None (listed key hs)
       by true is = listed_here key (cell_key (cell_of item)) id None hs is
       by false is =
-          listed_there key (cell_key (cell_of item)) id None hs homes is ∙ sym same ∙ ap (λ t. rewritten id t (listed key hs)) is
+          listed_there key (cell_key (cell_of item)) id None hs homes is ∙ sym same
+          ∙ ap (λ t. rewritten id (cond t (Some (tag_of item)) None) (listed key hs)) is
 
-    inn : (x : Option Item) (fs : List Homed) → IsStrictlySortedBy home_cmp (keys_of fs) → listed key fs ≡ rewritten id false
+    inn : (x : Option Item) (fs : List Homed) → IsStrictlySortedBy home_cmp (keys_of fs) → listed key fs ≡ rewritten id None
         (listed key hs)
-        → listed key (with_home id x fs) ≡ rewritten id (is_in key x) (listed key hs)
+        → listed key (with_home id x fs) ≡ rewritten id (tag_in key x) (listed key hs)
     inn None fs up same = same
     inn (Some item) fs up same = by (cell_key (cell_of item) == key) refl where
       by : (t : Bool) → (cell_key (cell_of item) == key) ≡ t
-          → listed key (after_write home_cmp (home_of id item) (Some tt) fs)
-          ≡ rewritten id (cell_key (cell_of item) == key) (listed key hs)
+          → listed key (after_write home_cmp (home_of id item) (Some (tag_of item)) fs)
+          ≡ rewritten id (tag_in key (Some item)) (listed key hs)
       by true is =
-          listed_here key (cell_key (cell_of item)) id (Some tt) fs is ∙ ap (rewritten id true) same ∙ rewritten_again id (listed key hs)
-          ∙ ap (λ t. rewritten id t (listed key hs)) (sym is)
+          listed_here key (cell_key (cell_of item)) id (Some (tag_of item)) fs is ∙ ap (rewritten id (Some (tag_of item))) same
+          ∙ rewritten_again id (tag_of item) (listed key hs)
+          ∙ ap (λ t. rewritten id (cond t (Some (tag_of item)) None) (listed key hs)) (sym is)
       by false is =
-          listed_there key (cell_key (cell_of item)) id (Some tt) fs up is ∙ same ∙ ap (λ t. rewritten id t (listed key hs)) (sym is)
+          listed_there key (cell_key (cell_of item)) id (Some (tag_of item)) fs up is ∙ same
+          ∙ ap (λ t. rewritten id (cond t (Some (tag_of item)) None) (listed key hs)) (sym is)
 
 -- ---- what is lent of a cell
 
@@ -285,18 +296,17 @@ same_cell item cell =
       same_key (Symbol m) (Symbol n) e = let same : m ≡ n = omega (arith, e) in ap Symbol same
 
 looked_all : (whole es : List (ItemId × Item)) (p : ItemId × Item → Bool) → AllByRecursion (λ e. find id_cmp e.0 whole ≡ Some e.1) es
-    → looked_up whole (map (λ e. e.0) (filter p es)) ≡ filter p es
+    → looked_up whole (map tagged (filter p es)) ≡ filter p es
 looked_all whole [] p all = refl
 looked_all whole (e ∷ es) p all = by (p e) (looked_all whole es p all.1) where
-  by : (b : Bool) → looked_up whole (map (λ (e : ItemId × Item). e.0) (filter p es)) ≡ filter p es
-      → looked_up whole (map (λ (e : ItemId × Item). e.0) (cond b (e ∷ filter p es) (filter p es))) ≡ cond b (e ∷ filter p es) (filter p es)
-  by true rest =
-      (λ i. found_first e.0 (all.0 i) (rest i))
+  by : (b : Bool) → looked_up whole (map tagged (filter p es)) ≡ filter p es
+      → looked_up whole (map tagged (cond b (e ∷ filter p es) (filter p es))) ≡ cond b (e ∷ filter p es) (filter p es)
+  by true rest = (λ i. found_first e.0 (all.0 i) (rest i))
   by false rest = rest
 
 -- the ids of a cell, looked up
 pub looked_standing : (cell : CellId) (es : List (ItemId × Item)) → IsStrictlySortedBy id_cmp (keys_of es)
-    → looked_up es (ids_in (cell_key cell) es) ≡ standing_in cell es
+    → looked_up es (tagged_in (cell_key cell) es) ≡ standing_in cell es
 looked_standing cell es sorted =
     looked_all es es (λ e. key_of e == cell_key cell) (found_sorted ids_total ids_exact es sorted)
     ∙ filter_same (λ (e : ItemId × Item). key_of e == cell_key cell) (λ (e : ItemId × Item). cell_eq (cell_of e.1) cell)
@@ -318,7 +328,7 @@ first_first key h at =
 
 pub listed_from : (key : ℕ) (hs : List Homed) → listed key (from_key home_cmp (first_home key) hs) ≡ listed key hs
 listed_from key hs =
-    picked_filter (λ (h : Homed). h.0.id) (in_cell key) (λ (h : Homed). not (is_lt (home_cmp h.0 (first_home key)))) (λ _. true)
+    picked_filter homed_tag (in_cell key) (λ (h : Homed). not (is_lt (home_cmp h.0 (first_home key)))) (λ _. true)
     (first_first key) hs
     ∙ filter_whole (listed key hs)
 
@@ -342,17 +352,17 @@ lent_from key hs es sorted up indexed = record {
   from = all_weaker (λ (h : Homed). not (is_lt (home_cmp h.0 (first_home key))) ≡ true) (λ (h : Homed). key ≤ h.0.cell)
       (cell_from key) (from_key home_cmp (first_home key) hs)
       (passes_all (λ (h : Homed). not (is_lt (home_cmp h.0 (first_home key)))) hs);
-  found = subst (λ (ids : List ItemId). AllByRecursion (λ (id : ItemId). is_some (find id_cmp id es) ≡ true) ids)
+  found = subst (λ (ps : List Tagged). AllByRecursion (IsFound es) ps)
       (sym (listed_from key hs ∙ indexed key)) (all es (found_sorted ids_total ids_exact es sorted));
 } where
   all : (fs : List (ItemId × Item)) → AllByRecursion (λ (e : ItemId × Item). find id_cmp e.0 es ≡ Some e.1) fs
-      → AllByRecursion (λ (id : ItemId). is_some (find id_cmp id es) ≡ true) (ids_in key fs)
+      → AllByRecursion (IsFound es) (tagged_in key fs)
   all [] h = tt
   all (f ∷ fs) h = by (key_of f == key) (all fs h.1) where
-    by : (b : Bool) → AllByRecursion (λ (id : ItemId). is_some (find id_cmp id es) ≡ true) (ids_in key fs)
-        → AllByRecursion (λ (id : ItemId). is_some (find id_cmp id es) ≡ true)
-        (map (λ (e : ItemId × Item). e.0) (cond b (f ∷ filter (λ e. key_of e == key) fs) (filter (λ e. key_of e == key) fs)))
-    by true rest = (ap is_some h.0, rest)
+    by : (b : Bool) → AllByRecursion (IsFound es) (tagged_in key fs)
+        → AllByRecursion (IsFound es)
+        (map tagged (cond b (f ∷ filter (λ e. key_of e == key) fs) (filter (λ e. key_of e == key) fs)))
+    by true rest = (ap (option_map tag_of) h.0, rest)
     by false rest = rest
 
 -- ---- one home more is read
@@ -369,8 +379,8 @@ le_cells a b less = by (nat_lt b.cell a.cell) refl where
 
 -- it is of the cell
 pub record IsOne (key : ℕ) (h : Homed) (hs : List Homed) (es : List (ItemId × Item)) : Type 0 where
-  pub first : listed key (h ∷ hs) ≡ h.0.id ∷ listed key hs
-  pub found : is_some (find id_cmp h.0.id es) ≡ true
+  pub first : listed key (h ∷ hs) ≡ homed_tag h ∷ listed key hs
+  pub found : IsFound es (homed_tag h)
   pub rest : AreLent key hs es
 
 pub lent_one : (key : ℕ) (h : Homed) (hs : List Homed) (es : List (ItemId × Item)) → AreLent key (h ∷ hs) es → h.0.cell ≡ key
@@ -378,9 +388,9 @@ pub lent_one : (key : ℕ) (h : Homed) (hs : List Homed) (es : List (ItemId × I
 unfolding IsStrictlySortedBy
 lent_one key h hs es lent is =
     let here : (h.0.cell == key) ≡ true = (Decides-eqb h.0.cell key).1 is in
-    let first : listed key (h ∷ hs) ≡ h.0.id ∷ listed key hs =
-    ap (λ b. map (λ (g : Homed). g.0.id) (cond b (h ∷ filter (in_cell key) hs) (filter (in_cell key) hs))) here in
-    let found = subst (λ (ids : List ItemId). AllByRecursion (λ (id : ItemId). is_some (find id_cmp id es) ≡ true) ids) first lent.found in
+    let first : listed key (h ∷ hs) ≡ homed_tag h ∷ listed key hs =
+    ap (λ b. map homed_tag (cond b (h ∷ filter (in_cell key) hs) (filter (in_cell key) hs))) here in
+    let found = subst (λ (ps : List Tagged). AllByRecursion (IsFound es) ps) first lent.found in
     record {
       first = first;
       found = found.0;
@@ -397,14 +407,14 @@ pub lent_end : (key : ℕ) (h : Homed) (hs : List Homed) (es : List (ItemId × I
     → IsEnd key h hs es
 unfolding IsStrictlySortedBy
 lent_end key h hs es lent not_is =
-    let none = ap (map (λ (g : Homed). g.0.id)) (filter_none (in_cell key) hs (all hs lent.sorted.0)) in record {
-      none = ap (λ b. map (λ (g : Homed). g.0.id) (cond b (h ∷ filter (in_cell key) hs) (filter (in_cell key) hs)))
+    let none = ap (map homed_tag) (filter_none (in_cell key) hs (all hs lent.sorted.0)) in record {
+      none = ap (λ b. map homed_tag (cond b (h ∷ filter (in_cell key) hs) (filter (in_cell key) hs)))
           (other h.0.cell (behind_all (h.0.cell == key) refl)) ∙ none;
       behind = none;
       rest = record {
         sorted = lent.sorted.1;
         from = lent.from.1;
-        found = subst (λ (ids : List ItemId). AllByRecursion (λ (id : ItemId). is_some (find id_cmp id es) ≡ true) ids) (sym none) tt;
+        found = subst (λ (ps : List Tagged). AllByRecursion (IsFound es) ps) (sym none) tt;
       };
     } where
       behind_all : (t : Bool) → (h.0.cell == key) ≡ t → key < h.0.cell
@@ -429,142 +439,127 @@ lent_end key h hs es lent not_is =
 
 -- ---- the index of a list
 
-pub keys_units : (hs : List Home) → keys_of (map unit_entry hs) ≡ hs
-keys_units [] = refl
-keys_units (h ∷ hs) = ap (λ xs. h ∷ xs) (keys_units hs)
-
-listed_units : (key : ℕ) (hs : List Home) → listed key (map unit_entry hs) ≡ map (λ h. h.id) (filter (λ h. h.cell == key) hs)
-listed_units key [] = refl
-listed_units key (h ∷ hs) = by (h.cell == key) (listed_units key hs) where
-  by : (b : Bool) → listed key (map unit_entry hs) ≡ map (λ (g : Home). g.id) (filter (λ (g : Home). g.cell == key) hs)
-      → map (λ (g : Homed). g.0.id) (cond b (unit_entry h ∷ filter (in_cell key) (map unit_entry hs))
-      (filter (in_cell key) (map unit_entry hs)))
-      ≡ map (λ (g : Home). g.id) (cond b (h ∷ filter (λ (g : Home). g.cell == key) hs) (filter (λ (g : Home). g.cell == key) hs))
-  by true rest = ap (λ ids. h.id ∷ ids) rest
-  by false rest = rest
-
-ids_homes : (key : ℕ) (es : List (ItemId × Item)) → map (λ h. h.id) (filter (λ h. h.cell == key) (homes_in es)) ≡ ids_in key es
-ids_homes key [] = refl
-ids_homes key (e ∷ es) = by (key_of e == key) (ids_homes key es) where
-  by : (b : Bool) → map (λ (g : Home). g.id) (filter (λ (g : Home). g.cell == key) (homes_in es)) ≡ ids_in key es
-      → map (λ (g : Home). g.id) (cond b (home_of e.0 e.1 ∷ filter (λ (g : Home). g.cell == key) (homes_in es))
-      (filter (λ (g : Home). g.cell == key) (homes_in es)))
-      ≡ map (λ (f : ItemId × Item). f.0) (cond b (e ∷ filter (λ f. key_of f == key) es) (filter (λ f. key_of f == key) es))
-  by true rest = ap (λ ids. e.0 ∷ ids) rest
+homes_tagged : (key : ℕ) (es : List (ItemId × Item)) → listed key (homes_in es) ≡ tagged_in key es
+homes_tagged key [] = refl
+homes_tagged key (e ∷ es) = by (key_of e == key) (homes_tagged key es) where
+  by : (b : Bool) → listed key (homes_in es) ≡ tagged_in key es
+      → map homed_tag (cond b (homed_of e ∷ filter (in_cell key) (homes_in es)) (filter (in_cell key) (homes_in es)))
+      ≡ map tagged (cond b (e ∷ filter (λ f. key_of f == key) es) (filter (λ f. key_of f == key) es))
+  by true rest = ap (λ ps. tagged e ∷ ps) rest
   by false rest = rest
 
 -- homes that tie by cell are of one cell
-tied : (x y : Home) → ties (λ (a b : Home). is_lt (nat_cmp a.cell b.cell)) x y ≡ (y.cell == x.cell)
-tied x y = by (nat_lt x.cell y.cell) (nat_lt y.cell x.cell) refl refl where
-  by : (s t : Bool) → nat_lt x.cell y.cell ≡ s → nat_lt y.cell x.cell ≡ t
-      → ties (λ (a b : Home). is_lt (nat_cmp a.cell b.cell)) x y ≡ (y.cell == x.cell)
+tied : (x y : Homed) → ties (λ (a b : Homed). is_lt (nat_cmp a.0.cell b.0.cell)) x y ≡ (y.0.cell == x.0.cell)
+tied x y = by (nat_lt x.0.cell y.0.cell) (nat_lt y.0.cell x.0.cell) refl refl where
+  by : (s t : Bool) → nat_lt x.0.cell y.0.cell ≡ s → nat_lt y.0.cell x.0.cell ≡ t
+      → ties (λ (a b : Homed). is_lt (nat_cmp a.0.cell b.0.cell)) x y ≡ (y.0.cell == x.0.cell)
   by true t is not_is =
-      let lt : x.cell < y.cell = grind (arith, nat_tests) in
-      let other : (y.cell == x.cell) ≡ false = grind (arith, nat_tests) in
-      ap (λ o. not (is_lt o) && not (is_lt (nat_cmp y.cell x.cell))) (sym (nat_cmp_is x.cell y.cell Less lt)) ∙ sym other
+      let lt : x.0.cell < y.0.cell = grind (arith, nat_tests) in
+      let other : (y.0.cell == x.0.cell) ≡ false = grind (arith, nat_tests) in
+      ap (λ o. not (is_lt o) && not (is_lt (nat_cmp y.0.cell x.0.cell))) (sym (nat_cmp_is x.0.cell y.0.cell Less lt)) ∙ sym other
   by false true not_is is =
-      let lt : y.cell < x.cell = grind (arith, nat_tests) in
-      let other : (y.cell == x.cell) ≡ false = grind (arith, nat_tests) in
-      let greater : nat_cmp x.cell y.cell ≡ Greater = sym (nat_cmp_is x.cell y.cell Greater lt) in
-      let less : nat_cmp y.cell x.cell ≡ Less = sym (nat_cmp_is y.cell x.cell Less lt) in
+      let lt : y.0.cell < x.0.cell = grind (arith, nat_tests) in
+      let other : (y.0.cell == x.0.cell) ≡ false = grind (arith, nat_tests) in
+      let greater : nat_cmp x.0.cell y.0.cell ≡ Greater = sym (nat_cmp_is x.0.cell y.0.cell Greater lt) in
+      let less : nat_cmp y.0.cell x.0.cell ≡ Less = sym (nat_cmp_is y.0.cell x.0.cell Less lt) in
       (λ i. not (is_lt (greater i)) && not (is_lt (less i))) ∙ sym other
   by false false not_lt not_gt =
-      let le : x.cell ≤ y.cell = grind (arith, nat_tests) in
-      let ge : y.cell ≤ x.cell = grind (arith, nat_tests) in
-      let same : y.cell ≡ x.cell = omega (arith, le, ge) in
-      (λ i. not (is_lt (same_cmp x.cell y.cell (sym same) i)) && not (is_lt (same_cmp y.cell x.cell same i)))
-      ∙ sym ((Decides-eqb y.cell x.cell).1 same)
+      let le : x.0.cell ≤ y.0.cell = grind (arith, nat_tests) in
+      let ge : y.0.cell ≤ x.0.cell = grind (arith, nat_tests) in
+      let same : y.0.cell ≡ x.0.cell = omega (arith, le, ge) in
+      (λ i. not (is_lt (same_cmp x.0.cell y.0.cell (sym same) i)) && not (is_lt (same_cmp y.0.cell x.0.cell same i)))
+      ∙ sym ((Decides-eqb y.0.cell x.0.cell).1 same)
 
 -- so a stable sort by cell keeps the order of each cell's
-pub cell_stable : (key : ℕ) (xs ys : List Home) → IsStableByKey (λ (h : Home). h.cell) nat_cmp xs ys
-    → filter (λ (h : Home). h.cell == key) ys ≡ filter (λ (h : Home). h.cell == key) xs
+pub cell_stable : (key : ℕ) (xs ys : List Homed) → IsStableByKey (λ (h : Homed). h.0.cell) nat_cmp xs ys
+    → filter (in_cell key) ys ≡ filter (in_cell key) xs
 cell_stable key xs ys stable =
-    let one : Home = home_at key (record { session = 0; txn = 0; seq = 0 }) in
-    filter_same (λ (h : Home). h.cell == key) (ties (λ (a b : Home). is_lt (nat_cmp a.cell b.cell)) one) (λ h. sym (tied one h)) ys
+    let one : Homed = (home_at key (record { session = 0; txn = 0; seq = 0 }), 0) in
+    filter_same (in_cell key) (ties (λ (a b : Homed). is_lt (nat_cmp a.0.cell b.0.cell)) one) (λ h. sym (tied one h)) ys
     ∙ stable one
-    ∙ filter_same (ties (λ (a b : Home). is_lt (nat_cmp a.cell b.cell)) one) (λ (h : Home). h.cell == key) (tied one) xs
+    ∙ filter_same (ties (λ (a b : Homed). is_lt (nat_cmp a.0.cell b.0.cell)) one) (in_cell key) (tied one) xs
 
 -- entries in order that are kept are in order
 sorted_kept : (p : ItemId × Item → Bool) (es : List (ItemId × Item)) → IsStrictlySortedBy id_cmp (keys_of es)
-    → IsStrictlySortedBy id_cmp (map (λ e. e.0) (filter p es))
+    → IsStrictlySortedBy id_cmp (keys_of (map tagged (filter p es)))
 unfolding IsStrictlySortedBy
 sorted_kept p [] sorted = tt
 sorted_kept p (e ∷ es) sorted = by (p e) (sorted_kept p es sorted.1) where
   all : (fs : List (ItemId × Item)) → AllByRecursion (λ y. id_cmp e.0 y ≡ Less) (keys_of fs)
-      → AllByRecursion (λ y. id_cmp e.0 y ≡ Less) (map (λ (f : ItemId × Item). f.0) (filter p fs))
+      → AllByRecursion (λ y. id_cmp e.0 y ≡ Less) (keys_of (map tagged (filter p fs)))
   all [] h = tt
   all (f ∷ fs) h = one (p f) (all fs h.1) where
-    one : (b : Bool) → AllByRecursion (λ y. id_cmp e.0 y ≡ Less) (map (λ (g : ItemId × Item). g.0) (filter p fs))
-        → AllByRecursion (λ y. id_cmp e.0 y ≡ Less) (map (λ (g : ItemId × Item). g.0) (cond b (f ∷ filter p fs) (filter p fs)))
+    one : (b : Bool) → AllByRecursion (λ y. id_cmp e.0 y ≡ Less) (keys_of (map tagged (filter p fs)))
+        → AllByRecursion (λ y. id_cmp e.0 y ≡ Less) (keys_of (map tagged (cond b (f ∷ filter p fs) (filter p fs))))
     one true rest = (h.0, rest)
     one false rest = rest
 
-  by : (b : Bool) → IsStrictlySortedBy id_cmp (map (λ (f : ItemId × Item). f.0) (filter p es))
-      → IsStrictlySortedBy id_cmp (map (λ (f : ItemId × Item). f.0) (cond b (e ∷ filter p es) (filter p es)))
+  by : (b : Bool) → IsStrictlySortedBy id_cmp (keys_of (map tagged (filter p es)))
+      → IsStrictlySortedBy id_cmp (keys_of (map tagged (cond b (e ∷ filter p es) (filter p es))))
   by true rest = (all es sorted.0, rest)
   by false rest = rest
 
 -- homes whose cells rise, and of which the ids in each cell are in order, are in order
-abbrev pub ids_at : ℕ → List Home → List ItemId
-ids_at key hs = map (λ h. h.id) (filter (λ h. h.cell == key) hs)
+abbrev pub ids_at : ℕ → List Homed → List ItemId
+ids_at key hs = keys_of (listed key hs)
 
-cells_behind : (h : Home) (gs : List Home) → ((j : ℕ) (d : Home) → j < length gs → h.cell ≤ (get_or gs j d).cell)
-    → AllByRecursion (λ y. id_cmp h.id y ≡ Less) (ids_at h.cell gs) → AllByRecursion (λ y. home_cmp h y ≡ Less) gs
+cells_behind : (h : Homed) (gs : List Homed) → ((j : ℕ) (d : Homed) → j < length gs → h.0.cell ≤ (get_or gs j d).0.cell)
+    → AllByRecursion (λ y. id_cmp h.0.id y ≡ Less) (ids_at h.0.cell gs) → AllByRecursion (λ y. home_cmp h.0 y ≡ Less) (keys_of gs)
 cells_behind h [] above less = tt
 cells_behind h (g ∷ gs) above less =
-    by (nat_lt h.cell g.cell) refl (cells_behind h gs (λ j d lt. above (suc j) d (omega arith))) where
-      by : (t : Bool) → nat_lt h.cell g.cell ≡ t
-          → (AllByRecursion (λ y. id_cmp h.id y ≡ Less) (ids_at h.cell gs) → AllByRecursion (λ y. home_cmp h y ≡ Less) gs)
-          → (home_cmp h g ≡ Less) × AllByRecursion (λ y. home_cmp h y ≡ Less) gs
+    by (nat_lt h.0.cell g.0.cell) refl (cells_behind h gs (λ j d lt. above (suc j) d (omega arith))) where
+      kept : Bool → List ItemId
+      kept b = keys_of (map homed_tag (cond b (g ∷ filter (in_cell h.0.cell) gs) (filter (in_cell h.0.cell) gs)))
+
+      by : (t : Bool) → nat_lt h.0.cell g.0.cell ≡ t
+          → (AllByRecursion (λ y. id_cmp h.0.id y ≡ Less) (ids_at h.0.cell gs) → AllByRecursion (λ y. home_cmp h.0 y ≡ Less) (keys_of gs))
+          → (home_cmp h.0 g.0 ≡ Less) × AllByRecursion (λ y. home_cmp h.0 y ≡ Less) (keys_of gs)
       by true is rest =
-          let lt : h.cell < g.cell = grind (arith, nat_tests) in
-          let other : (g.cell == h.cell) ≡ false = grind (arith, nat_tests) in (
-            ap (λ o. ordering_then o (id_cmp h.id g.id)) (sym (nat_cmp_is h.cell g.cell Less lt)),
-            rest (subst (λ b. AllByRecursion (λ y. id_cmp h.id y ≡ Less) (map (λ (k : Home). k.id)
-                (cond b (g ∷ filter (λ (k : Home). k.cell == h.cell) gs) (filter (λ (k : Home). k.cell == h.cell) gs)))) other less),
+          let lt : h.0.cell < g.0.cell = grind (arith, nat_tests) in
+          let other : (g.0.cell == h.0.cell) ≡ false = grind (arith, nat_tests) in (
+            ap (λ o. ordering_then o (id_cmp h.0.id g.0.id)) (sym (nat_cmp_is h.0.cell g.0.cell Less lt)),
+            rest (subst (λ b. AllByRecursion (λ y. id_cmp h.0.id y ≡ Less) (kept b)) other less),
           )
       by false is rest =
-          let ge : g.cell ≤ h.cell = grind (arith, nat_tests) in
-          let le : h.cell ≤ g.cell = above 0 h (omega arith) in
-          let same : g.cell ≡ h.cell = omega (arith, le, ge) in
-          let both : AllByRecursion (λ y. id_cmp h.id y ≡ Less) (g.id ∷ ids_at h.cell gs) =
-          subst (λ b. AllByRecursion (λ y. id_cmp h.id y ≡ Less) (map (λ (k : Home). k.id)
-          (cond b (g ∷ filter (λ (k : Home). k.cell == h.cell) gs) (filter (λ (k : Home). k.cell == h.cell) gs))))
-          ((Decides-eqb g.cell h.cell).1 same) less in
-          (ap (λ o. ordering_then o (id_cmp h.id g.id)) (same_cmp h.cell g.cell (sym same)) ∙ both.0, rest both.1)
+          let ge : g.0.cell ≤ h.0.cell = grind (arith, nat_tests) in
+          let le : h.0.cell ≤ g.0.cell = above 0 h (omega arith) in
+          let same : g.0.cell ≡ h.0.cell = omega (arith, le, ge) in
+          let both : AllByRecursion (λ y. id_cmp h.0.id y ≡ Less) (g.0.id ∷ ids_at h.0.cell gs) =
+          subst (λ b. AllByRecursion (λ y. id_cmp h.0.id y ≡ Less) (kept b)) ((Decides-eqb g.0.cell h.0.cell).1 same) less in
+          (ap (λ o. ordering_then o (id_cmp h.0.id g.0.id)) (same_cmp h.0.cell g.0.cell (sym same)) ∙ both.0, rest both.1)
 
-pub homes_sorted : (hs : List Home) → IsNonDecreasingBy (λ (h : Home). h.cell) hs
-    → ((key : ℕ) → IsStrictlySortedBy id_cmp (ids_at key hs)) → IsStrictlySortedBy home_cmp hs
+pub homes_sorted : (hs : List Homed) → IsNonDecreasingBy (λ (h : Homed). h.0.cell) hs
+    → ((key : ℕ) → IsStrictlySortedBy id_cmp (ids_at key hs)) → IsStrictlySortedBy home_cmp (keys_of hs)
 unfolding IsStrictlySortedBy
 homes_sorted [] rising each = tt
 homes_sorted (h ∷ hs) rising each = (
   cells_behind h hs (λ j d lt. rising 0 (suc j) d (omega arith) (omega arith)) first.0,
   homes_sorted hs (λ i j d le lt. rising (suc i) (suc j) d (omega arith) (omega arith)) rest,
 ) where
-  first : IsStrictlySortedBy id_cmp (h.id ∷ ids_at h.cell hs)
-  first =
-      subst (λ b. IsStrictlySortedBy id_cmp (map (λ (g : Home). g.id) (cond b (h ∷ filter (λ (g : Home). g.cell == h.cell) hs)
-      (filter (λ (g : Home). g.cell == h.cell) hs)))) ((Decides-eqb h.cell h.cell).1 refl) (each h.cell)
+  kept : ℕ → Bool → List ItemId
+  kept key b = keys_of (map homed_tag (cond b (h ∷ filter (in_cell key) hs) (filter (in_cell key) hs)))
+
+  first : IsStrictlySortedBy id_cmp (h.0.id ∷ ids_at h.0.cell hs)
+  first = subst (λ b. IsStrictlySortedBy id_cmp (kept h.0.cell b)) ((Decides-eqb h.0.cell h.0.cell).1 refl) (each h.0.cell)
 
   rest : (key : ℕ) → IsStrictlySortedBy id_cmp (ids_at key hs)
-  rest key = by (h.cell == key) (each key) where
-    by : (b : Bool) → IsStrictlySortedBy id_cmp (map (λ (g : Home). g.id) (cond b (h ∷ filter (λ (g : Home). g.cell == key) hs)
-        (filter (λ (g : Home). g.cell == key) hs)))
-        → IsStrictlySortedBy id_cmp (ids_at key hs)
+  rest key = by (h.0.cell == key) (each key) where
+    by : (b : Bool) → IsStrictlySortedBy id_cmp (kept key b) → IsStrictlySortedBy id_cmp (ids_at key hs)
     by true sorted = sorted.1
     by false sorted = sorted
 
 -- the homes of entries in order, sorted by cell
-pub record AreSorted (es : List (ItemId × Item)) (hs : List Home) : Type 0 where
-  pub sorted : IsStrictlySortedBy home_cmp hs
-  pub indexed : AreIndexedByCell es (map unit_entry hs)
+pub record AreSorted (es : List (ItemId × Item)) (hs : List Homed) : Type 0 where
+  pub sorted : IsStrictlySortedBy home_cmp (keys_of hs)
+  pub indexed : AreIndexedByCell es hs
 
-pub homes_by_cell : (es : List (ItemId × Item)) (xs hs : List Home) → IsStrictlySortedBy id_cmp (keys_of es) → xs ≡ homes_in es
-    → IsNonDecreasingBy (λ (h : Home). h.cell) hs → IsStableByKey (λ (h : Home). h.cell) nat_cmp xs hs → AreSorted es hs
+pub homes_by_cell : (es : List (ItemId × Item)) (xs hs : List Homed) → IsStrictlySortedBy id_cmp (keys_of es) → xs ≡ homes_in es
+    → IsNonDecreasingBy (λ (h : Homed). h.0.cell) hs → IsStableByKey (λ (h : Homed). h.0.cell) nat_cmp xs hs → AreSorted es hs
 homes_by_cell es xs hs sorted is rising stable = record {
   sorted = homes_sorted hs rising
-      (λ key. subst (λ (ids : List ItemId). IsStrictlySortedBy id_cmp ids) (sym (same key)) (sorted_kept (λ e. key_of e == key) es sorted));
-  indexed = λ key. listed_units key hs ∙ same key;
+      (λ key. subst (λ (ps : List Tagged). IsStrictlySortedBy id_cmp (keys_of ps)) (sym (same key))
+      (sorted_kept (λ e. key_of e == key) es sorted));
+  indexed = same;
 } where
-  same : (key : ℕ) → ids_at key hs ≡ ids_in key es
-  same key = ap (map (λ (h : Home). h.id)) (cell_stable key xs hs stable) ∙ ap (ids_at key) is ∙ ids_homes key es
+  same : (key : ℕ) → listed key hs ≡ tagged_in key es
+  same key = ap (map homed_tag) (cell_stable key xs hs stable) ∙ ap (listed key) is ∙ homes_tagged key es

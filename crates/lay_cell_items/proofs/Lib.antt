@@ -1,2 +1,3 @@
 pub mod HomeLemmas
 pub mod MergeLemmas
+pub mod TagLemmas

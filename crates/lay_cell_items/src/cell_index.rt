@@ -1,14 +1,15 @@
 //! Which items stand in each cell.
-ghost use Rattle.std.specs.Prelude.{◌≡◌, IfOk, map, option_copied};
+ghost use Rattle.std.specs.Prelude.{◌≡◌, ◌≤◌, IfOk, get_or, option_copied};
 ghost use Rattle.std.specs.List.Sorted.{IsStrictlySortedBy};
 ghost use Rattle.std.specs.Map.{keys_of};
-ghost use Rattle.lay_cell_items.specs.ByCell.{AreIndexedByCell, cell_key, home_cmp, home_of, homes_in, unit_entry, with_home, without_home};
+ghost use Rattle.lay_cell_items.specs.ByCell.{AreIndexedByCell, cell_key, home_cmp, home_of, homes_in, layer_tag, tag_of};
+ghost use Rattle.lay_cell_items.specs.ByCell.{with_home, without_home};
 ghost use Rattle.lay_layouts.specs.Ids.{id_cmp};
 
 use lay_layouts::{CellId, Item, ItemId};
 use lay_page::PageKey;
 use lay_pages::{Pages, PagesBuilder};
-use lay_point::NoMemory;
+use lay_point::{LayerName, NoMemory};
 use std::alloc::Global;
 
 /// Where an item stands: the number of its cell, and its id. They are ordered by cell, then by id.
@@ -26,8 +27,12 @@ impl PageKey for Home {
     ghost exact = { homes_exact };
 }
 
-/// Where all items stand, so that those of a cell are found together.
-pub type Homes = Pages<Home, ()>;
+/// The tag of a call.
+pub(crate) const CALL_TAG: u32 = 0;
+
+/// Where all items stand, so that those of a cell are found together, each with the tag of its layer or of
+/// calls. Most items of other layers are told by it, and needn't be looked up.
+pub type Homes = Pages<Home, u32>;
 
 /// Returns where these items stand.
 ///
@@ -40,30 +45,30 @@ pub fn homes_of(alloc: Global, items: &Pages<ItemId, Item>) -> Result<Homes, NoM
     ensures sorted { IfOk result (λ homes. IsStrictlySortedBy home_cmp (keys_of homes)) }
 {
     let mut homes = list_of(alloc, items)?;
-    homes.sort_by_key(|home| home.cell)?;
+    homes.sort_by_key(|homed| homed.0.cell)?;
     let homes = built(alloc, homes)?;
     Ok(homes)
 }
 
-/// Returns where these items stand, in order of the ids.
-fn list_of(alloc: Global, items: &Pages<ItemId, Item>) -> Result<Vec<Home>, NoMemory>
+/// Returns where these items stand, with their tags, in order of the ids.
+fn list_of(alloc: Global, items: &Pages<ItemId, Item>) -> Result<Vec<(Home, u32)>, NoMemory>
     ensures { IfOk result (λ homes. homes.items ≡ homes_in items.now) }
 {
     let mut homes = Vec::with_capacity(alloc, items.len())?;
     for (id, item) in items.iter() {
-        homes.push(home_of(id, item))?;
+        homes.push((home_of(id, item), tag_of(item)))?;
     }
     Ok(homes)
 }
 
 /// Returns the pages of a list in order.
-fn built(alloc: Global, homes: Vec<Home>) -> Result<Homes, NoMemory>
-    requires { IsStrictlySortedBy home_cmp homes.items }
-    ensures { IfOk result (λ pages. pages ≡ map unit_entry homes.items) }
+fn built(alloc: Global, homes: Vec<(Home, u32)>) -> Result<Homes, NoMemory>
+    requires { IsStrictlySortedBy home_cmp (keys_of homes.items) }
+    ensures { IfOk result (λ pages. pages ≡ homes.items) }
 {
     let mut pages = PagesBuilder::new(alloc);
-    for home in homes {
-        pages = pages.push(alloc, home, ())?;
+    for (home, tag) in homes {
+        pages = pages.push(alloc, home, tag)?;
     }
     let pages = pages.build(alloc)?;
     Ok(pages)
@@ -102,7 +107,7 @@ pub fn with(alloc: Global, homes: Homes, id: ItemId, item: &Option<Item>) -> Res
 {
     match item {
         Some(item) => {
-            let new = homes.with(alloc, home_of(id, item), Some(()))?;
+            let new = homes.with(alloc, home_of(id, item), Some(tag_of(item)))?;
             Ok(new)
         }
         None => Ok(homes),
@@ -116,6 +121,37 @@ fn home_of(id: ItemId, item: &Item) -> Home
     Home {
         cell: cell_key(item.cell()),
         id,
+    }
+}
+
+/// Returns the tag of an item.
+fn tag_of(item: &Item) -> u32
+    ensures { result ≡ tag_of item.now }
+{
+    match item {
+        Item::Shape { layer, .. } => layer_tag(layer),
+        Item::Placed { .. } => CALL_TAG,
+    }
+}
+
+/// Returns the tag of a layer, a number of three bytes of its name and the last one.
+#[tactic(auto, unfolding(crate::specs::ByCell::layer_tag))]
+pub(crate) fn layer_tag(layer: &LayerName) -> u32
+    ensures { result ≡ layer_tag layer.now }
+{
+    let name = layer.as_bytes();
+    let last = byte_at(name, name.len().saturating_sub(1));
+    byte_at(name, 0) + 256 * byte_at(name, 1) + 65_536 * byte_at(name, 2) + 16_777_216 * last
+}
+
+/// Returns the byte at an index, or 0 behind the last one.
+fn byte_at(name: &[u8], index: usize) -> u32
+    ensures byte { result ≡ get_or name.now index 0 }
+    ensures few { result ≤ 255 }
+{
+    match name.get(index) {
+        Some(byte) => u32::from(*byte),
+        None => 0,
     }
 }
 

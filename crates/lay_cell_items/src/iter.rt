@@ -2,7 +2,7 @@
 ghost use Rattle.std.specs.Prelude.{◌≡◌};
 ghost use Rattle.lay_cell_items.specs.ByCell.{first_home};
 
-use crate::cell_index::{Home, Homes, cell_key};
+use crate::cell_index::{CALL_TAG, Home, Homes, cell_key, layer_tag};
 use lay_layouts::{CellId, Item, ItemId};
 use lay_pages::{Finder, Pages};
 use lay_point::{LayerName, Ring, Turn};
@@ -52,7 +52,7 @@ impl<'a> Iterator for Entries<'a> {
 #[derive(Drop)]
 pub struct Items<'a> {
     /// Those of the cell, and of the cells behind it.
-    homes: lay_pages::Entries<'a, Home, ()>,
+    homes: lay_pages::Entries<'a, Home, u32>,
     items: Finder<'a, ItemId, Item>,
     /// The number of the cell.
     cell: u64,
@@ -114,7 +114,7 @@ impl<'a> Iterator for Items<'a> {
     ghost remaining = { item_count (λ left. left) };
 
     fn next(&mut self) -> Option<(ItemId, &'a Item)> {
-        let (home, _) = self.homes.next()?;
+        let (home, _tag) = self.homes.next()?;
         if home.cell != self.cell {
             return None;
         }
@@ -122,11 +122,76 @@ impl<'a> Iterator for Items<'a> {
     }
 }
 
+/// Lends those of the items of a cell that have a tag, with their ids, in order of the ids. It doesn't look
+/// the others up. Contracts see the list of those that are left.
+#[derive(Drop)]
+struct OfTag<'a> {
+    /// Those of the cell, and of the cells behind it.
+    homes: lay_pages::Entries<'a, Home, u32>,
+    items: Finder<'a, ItemId, Item>,
+    /// The number of the cell.
+    cell: u64,
+    tag: u32,
+}
+
+impl<'a> Model for OfTag<'a> {
+    ghost use Rattle.std.specs.Prelude.{List};
+    ghost use Rattle.lay_layouts.specs.declared.id.ItemId.{ItemId};
+    ghost use Rattle.lay_layouts.specs.declared.item.Item.{Item};
+    ghost use Rattle.lay_cell_items.specs.ByCell.{AreLent, listed, looked_up, of_tag};
+
+    ghost Value = { List (ItemId × Item) };
+
+    ghost view = { λ i. looked_up i.items (of_tag i.tag (listed i.cell i.homes)) };
+
+    ghost invariant = { λ i. AreLent i.cell i.homes i.items };
+}
+
+impl<'a> OfTag<'a> {
+    ghost use Rattle.std.specs.Prelude.{◌==◌, ◌≡◌, filter};
+    ghost use Rattle.lay_cell_items.specs.ByCell.{tag_of};
+
+    /// Returns those of the items that have the tag.
+    fn new(items: Items<'a>, tag: u32) -> OfTag<'a>
+        ensures { result ≡ filter (λ entry. tag_of entry.1 == tag) items.entry }
+    {
+        let Items { homes, items, cell } = items;
+        OfTag {
+            homes,
+            items,
+            cell,
+            tag,
+        }
+    }
+}
+
+impl<'a> Iterator for OfTag<'a> {
+    ghost use Rattle.std.specs.Iterator.{YieldsFirstBy, item_count};
+
+    type Item = (ItemId, &'a Item);
+
+    ghost next_gives = { YieldsFirstBy (λ lent. (lent.0, lent.1.now)) (λ left. left) };
+
+    ghost remaining = { item_count (λ left. left) };
+
+    fn next(&mut self) -> Option<(ItemId, &'a Item)> {
+        while let Some((home, tag)) = self.homes.next() {
+            if home.cell != self.cell {
+                return None;
+            }
+            if *tag == self.tag {
+                return Some((home.id, self.items.get(home.id).unwrap()));
+            }
+        }
+        None
+    }
+}
+
 /// Lends the shapes of a cell on a layer, each its id and its rings, in order of the ids. Contracts see the
 /// list of those that are left.
 #[derive(Drop)]
 pub struct Shapes<'a> {
-    items: Items<'a>,
+    items: OfTag<'a>,
     layer: LayerName,
 }
 
@@ -146,6 +211,7 @@ impl<'a> Shapes<'a> {
     pub fn new(items: Items<'a>, layer: LayerName) -> Shapes<'a>
         ensures { result ≡ shapes_among layer items.entry }
     {
+        let items = OfTag::new(items, layer_tag(&layer));
         Shapes { items, layer }
     }
 }
@@ -178,7 +244,7 @@ impl<'a> Iterator for Shapes<'a> {
 /// done to that, in order of the ids. Contracts see the list of those that are left.
 #[derive(Drop)]
 pub struct Calls<'a> {
-    items: Items<'a>,
+    items: OfTag<'a>,
 }
 
 impl<'a> Model for Calls<'a> {
@@ -197,6 +263,7 @@ impl<'a> Calls<'a> {
     pub fn new(items: Items<'a>) -> Calls<'a>
         ensures { result ≡ calls_lent items.entry }
     {
+        let items = OfTag::new(items, CALL_TAG);
         Calls { items }
     }
 }

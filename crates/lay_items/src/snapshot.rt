@@ -145,7 +145,8 @@ impl Snapshot {
     ///
     /// # Cost
     ///
-    /// It goes over all items of the cell, whatever their layer.
+    /// It goes over the ids of all items of the cell, and looks up those of the layer, and of others whose names
+    /// have the same tag.
     #[tactic(auto, unfolding(lay_layouts::specs::Lent::shapes_in))]
     pub fn shapes(&self, cell: CellId, layer: &LayerName) -> Shapes<'_>
         ensures { result ≡ shapes_in self.now cell layer.now }
@@ -158,7 +159,7 @@ impl Snapshot {
     ///
     /// # Cost
     ///
-    /// It goes over all items of the cell.
+    /// It goes over the ids of all items of the cell, and looks up the calls.
     #[tactic(auto, unfolding(lay_layouts::specs::Lent::calls_in))]
     pub fn calls(&self, cell: CellId) -> Calls<'_>
         ensures { result ≡ calls_in self.now cell }

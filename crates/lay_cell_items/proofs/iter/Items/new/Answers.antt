@@ -5,7 +5,7 @@ use Rattle.lay_page.specs.Written.{from_key}
 use Rattle.lay_cell_items.specs.declared.cell_index.Home.{Home}
 use Rattle.lay_layouts.specs.declared.id.ItemId.{ItemId}
 use Rattle.lay_layouts.specs.declared.item.Item.{Item}
-use Rattle.lay_cell_items.specs.ByCell.{AreLent, Homed, first_home, home_cmp, ids_in, listed, looked_up}
+use Rattle.lay_cell_items.specs.ByCell.{AreLent, Homed, first_home, home_cmp, listed, looked_up, tagged_in}
 use Rattle.lay_cell_items.proofs.HomeLemmas.{lent_from, listed_from, looked_standing}
 use Rattle.lay_cell_items.proofs.iter.Items.new.Goals as goal
 
@@ -29,4 +29,4 @@ returns c =
     c.from-homes.ensures.entries ∙ ap (λ (h : Home). from_key home_cmp h homes) c.first_home.ensures in
     ap (λ (es : List (ItemId × Item)). looked_up es (listed key c.from-homes.result)) c.finder-items.ensures
     ∙ ap (λ (hs : List Homed). looked_up items (listed key hs)) is ∙ ap (looked_up items) (listed_from key homes ∙ c.requires.indexed key)
-    ∙ ap (λ k. looked_up items (ids_in k items)) c.cell_key-cell.ensures ∙ looked_standing c.args.cell items c.requires.sorted
+    ∙ ap (λ k. looked_up items (tagged_in k items)) c.cell_key-cell.ensures ∙ looked_standing c.args.cell items c.requires.sorted

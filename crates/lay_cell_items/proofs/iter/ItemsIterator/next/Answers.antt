@@ -10,7 +10,7 @@ pub invariant_of-self-then-home-self : goal.invariant_of-self-then-home-self
 invariant_of-self-then-home-self c =
     let cell = c.self.inside.cell in
     let items = c.self.inside.items in
-    let homed : Homed = (c.in_ok-home.home, tt) in
+    let homed : Homed = (c.in_ok-home.home, c.in_ok-home._tag.now) in
     let steps : c.self.inside.homes ≡ homed ∷ c.next.new.self = c.in_ok-home.ensures.steps in
     let lent : AreLent cell (homed ∷ c.next.new.self) items =
     subst (λ (hs : List Homed). AreLent cell hs items) steps
@@ -21,7 +21,7 @@ pub returns-then-home-self-clause-steps : goal.returns-then-home-self-clause-ste
 returns-then-home-self-clause-steps c =
     let cell = c.self.inside.cell in
     let items = c.self.inside.items in
-    let homed : Homed = (c.in_ok-home.home, tt) in
+    let homed : Homed = (c.in_ok-home.home, c.in_ok-home._tag.now) in
     let steps : c.self.inside.homes ≡ homed ∷ c.next.new.self = c.in_ok-home.ensures.steps in
     let lent : AreLent cell (homed ∷ c.next.new.self) items =
     subst (λ (hs : List Homed). AreLent cell hs items) steps
@@ -36,7 +36,7 @@ pub invariant_of-self-2 : goal.invariant_of-self-2
 invariant_of-self-2 c =
     let cell = c.self.inside.cell in
     let items = c.self.inside.items in
-    let homed : Homed = (c.in_ok-home.home, tt) in
+    let homed : Homed = (c.in_ok-home.home, c.in_ok-home._tag.now) in
     let steps : c.self.inside.homes ≡ homed ∷ c.next.new.self = c.in_ok-home.ensures.steps in
     let lent : AreLent cell (homed ∷ c.next.new.self) items =
     subst (λ (hs : List Homed). AreLent cell hs items) steps
