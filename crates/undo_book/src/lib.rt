@@ -30,6 +30,7 @@ mod find;
 mod links;
 mod open;
 mod redo;
+mod remark;
 mod undo;
 
 pub use book::{Book, MAX_CALLS};

@@ -19,6 +19,7 @@ use Rattle.undo_index.specs.First.{IsFirst, first_some, look, looked_up_at, or_s
 use Rattle.undo_index.specs.Listed.{AreAdded, AreRemoved, IsNew, Listed, is_listed, nothing_listed, pair_cmp}
 use Rattle.undo_index.proofs.FirstLemmas.{first_alike, first_found}
 use Rattle.undo_entries.specs.Indexed.{AreIndexed, Lists, is_linked, touched, wrote}
+use Rattle.undo_entries.specs.Marks.{AreRelisted}
 
 -- ---- places of a list
 
@@ -144,21 +145,17 @@ commit_indexed w r v s es fs entry met place is wrote_it read_it are live last m
           (λ e. live_so entry.live (contains entry.footprint e) live);
     })
 
-pub undo_indexed : (w r v s : Listed) (es fs : List Entry) (i : ℕ) (entry : Entry) (met : Touched) → AreIndexed w r es →
-    AreRemoved w met i v → AreRemoved r entry.footprint i s → AreMetBy entry.writes met → entry.live ≡ true →
-    slice_get es i ≡ Some entry → i < length es → fs ≡ slice_set es i (marked false entry) → AreIndexed v s fs
-undo_indexed w r v s es fs i entry met is wrote_it read_it are live at less marks =
+pub mark_indexed : (live : Bool) (w r v s : Listed) (es fs : List Entry) (i : ℕ) (entry : Entry) (met : Touched) → AreIndexed w r es →
+    AreRelisted live w met i v → AreRelisted live r entry.footprint i s → AreMetBy entry.writes met → entry.live ≡ not live →
+    slice_get es i ≡ Some entry → i < length es → fs ≡ slice_set es i (marked live entry) → AreIndexed v s fs
+mark_indexed false w r v s es fs i entry met is wrote_it read_it are live at less marks =
     subst (λ (xs : List Entry). AreIndexed v s xs) (sym marks) (record {
       writers = left wrote w v es i entry (marked false entry) met is.writers at less wrote_it
           (λ e. are e ∙ live_so entry.live (some_meets entry.writes e) live) (λ e. refl);
       readers = left touched r s es i entry (marked false entry) entry.footprint is.readers at less read_it
           (λ e. live_so entry.live (contains entry.footprint e) live) (λ e. refl);
     })
-
-pub redo_indexed : (w r v s : Listed) (es fs : List Entry) (i : ℕ) (entry : Entry) (met : Touched) → AreIndexed w r es →
-    AreAdded w met i v → AreAdded r entry.footprint i s → AreMetBy entry.writes met → entry.live ≡ false →
-    slice_get es i ≡ Some entry → i < length es → fs ≡ slice_set es i (marked true entry) → AreIndexed v s fs
-redo_indexed w r v s es fs i entry met is wrote_it read_it are undone at less marks =
+mark_indexed true w r v s es fs i entry met is wrote_it read_it are undone at less marks =
     subst (λ (xs : List Entry). AreIndexed v s xs) (sym marks) (record {
       writers = entered wrote w v es i entry (marked true entry) met is.writers at less wrote_it
           (λ e. undone_so entry.live (some_meets entry.writes e) undone) are;

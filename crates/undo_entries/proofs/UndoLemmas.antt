@@ -1,5 +1,5 @@
 -- What an undo and a redo leave.
-use Rattle.std.proofs.Common.{◌≡◌, ℕ, suc, Bool, true, false, cond, List, [], ◌∷◌, ◌++◌, take, drop, Option, None, Some}
+use Rattle.std.proofs.Common.{◌≡◌, ℕ, suc, Bool, true, false, not, cond, List, [], ◌∷◌, ◌++◌, take, drop, Option, None, Some}
 use Rattle.std.proofs.Common.{refl, sym, ap, subst, ◌∙◌, get_or, length, slice_get, slice_set}
 use Rattle.std.proofs.lemmas.Option.{slice_get_read}
 use Rattle.lay_layouts.specs.Layout.{Layout}
@@ -19,6 +19,7 @@ use Rattle.undo_rules.specs.Steps.{undo_refusal, undo_refusal_at, with_mark}
 use Rattle.undo_rules.proofs.HistoryLaws.{puts_back, replays, takes_out}
 use Rattle.undo_rules.proofs.Logs.{kept_longer}
 use Rattle.undo_rules.proofs.StepLaws.{neither_of, no_depends, no_moved, redo_keeps, settled_is, undo_keeps}
+use Rattle.undo_entries.specs.Marks.{after_mark, mark_answer, mark_call, mark_refusal, relaid}
 use Rattle.undo_entries.specs.Places.{place_of}
 use Rattle.undo_entries.specs.Replays.{CanBeRedone, replay}
 use Rattle.undo_entries.proofs.FoundLemmas.{split_at}
@@ -135,106 +136,97 @@ undoes h is session txn at there free =
       };
     }
 
+-- ---- either
+
+-- the history behind a call that gives the other mark
+record Remarks (live : Bool) (h : History) (session : ℕ) (txn : TxnId) (at : Found) : Type 0 where
+  other : at.entry.live ≡ not live
+  proper : AreProper at.entry.writes
+  sound : IsSound (relaid live h.layout at.entry.writes)
+  history : IsHistory (after_mark live h session txn)
+  after : after_mark live h session txn
+      ≡ record (logged (with_mark h live txn) session (mark_call live txn) (mark_answer live)) {
+        layout = relaid live h.layout
+            at.entry.writes;
+      }
+  replayed : replay (with_mark h live txn) ≡ Some (relaid live h.layout at.entry.writes)
+  back : live ≡ false → CanBeRedone (after_mark live h session txn) session txn h.layout
+
+remarks : (live : Bool) (h : History) → IsHistory h → (session : ℕ) (txn : TxnId) (at : Found) → found h txn ≡ Some at →
+    mark_refusal live h txn ≡ None → Remarks live h session txn at
+remarks false h is session txn at there free =
+    let does = undoes h is session txn at there free in
+    record {
+      other = (can_undo at (sym (ap undo_refusal_at there) ∙ free)).live;
+      proper = does.proper;
+      sound = does.sound;
+      history = does.history;
+      after = does.after;
+      replayed = does.without;
+      back = λ same. does.again;
+    }
+remarks true h is session txn at there free =
+    let does = redoes h is session txn at there free in
+    record {
+      other = (can_redo at (sym (ap redo_refusal_at there) ∙ free)).undone;
+      proper = does.proper;
+      sound = does.sound;
+      history = does.history;
+      after = does.after;
+      replayed = does.again;
+      back = λ (same : true ≡ false). absurd cc;
+    }
+
 -- ---- at a place
 
 -- the history that is left by what the code does
-pub record LeavesUndone (now new : History) (session : ℕ) (txn : TxnId) : Type 0 where
+pub record LeavesMarked (live : Bool) (now new : History) (session : ℕ) (txn : TxnId) : Type 0 where
   pub history : IsHistory new
-  pub is : new ≡ after_undo now session txn
-  pub without : replay (with_mark now false txn) ≡ Some new.layout
-  pub again : CanBeRedone new session txn now.layout
-  pub marks : new.entries ≡ remarked false txn now.entries
+  pub is : new ≡ after_mark live now session txn
+  pub replayed : replay (with_mark now live txn) ≡ Some new.layout
+  pub back : live ≡ false → CanBeRedone new session txn now.layout
+  pub marks : new.entries ≡ remarked live txn now.entries
 
-pub record IsUndone (b now : History) (session : ℕ) (txn : TxnId) (place : ℕ) (entry : Entry) : Type 0 where
+pub record IsMarked (live : Bool) (b now : History) (session : ℕ) (txn : TxnId) (place : ℕ) (entry : Entry) : Type 0 where
   pub there : slice_get b.entries place ≡ Some entry
-  pub live : entry.live ≡ true
+  pub other : entry.live ≡ not live
   pub proper : AreProper entry.writes
-  pub sound : IsSound (reverted b.layout entry.writes)
-  pub left : (end : Layout) (log : List Logged) (entries : List Entry) → end ≡ reverted b.layout entry.writes →
-      log ≡ b.log ++ record { session = session; call = Undo txn; answer = Undone } ∷ [] →
-      entries ≡ slice_set b.entries place (marked false entry) →
-      LeavesUndone now (record b { layout = end; log = log; entries = entries }) session txn
+  pub sound : IsSound (relaid live b.layout entry.writes)
+  pub left : (end : Layout) (log : List Logged) (entries : List Entry) → end ≡ relaid live b.layout entry.writes →
+      log ≡ b.log ++ record { session = session; call = mark_call live txn; answer = mark_answer live } ∷ [] →
+      entries ≡ slice_set b.entries place (marked live entry) →
+      LeavesMarked live now (record b { layout = end; log = log; entries = entries }) session txn
 
-undone_here : (b : History) → IsHistory b → (session : ℕ) (txn : TxnId) (place : ℕ) (entry : Entry) → place_of txn b.entries ≡ Some place →
-    slice_get b.entries place ≡ Some entry → undo_refusal b txn ≡ None → IsUndone b b session txn place entry
-undone_here b is session txn place entry placed there free =
+marked_here : (live : Bool) (b : History) → IsHistory b → (session : ℕ) (txn : TxnId) (place : ℕ) (entry : Entry) →
+    place_of txn b.entries ≡ Some place → slice_get b.entries place ≡ Some entry → mark_refusal live b txn ≡ None →
+    IsMarked live b b session txn place entry
+marked_here live b is session txn place entry placed there free =
     let at : Found = record { before = take place b.entries; entry = entry; later = drop (suc place) b.entries } in
-    let found_so : found b txn ≡ Some at = found_there [] b.entries txn place entry placed there in
-    let does = undoes b is session txn at found_so free in
+    let does = remarks live b is session txn at (found_there [] b.entries txn place entry placed there) free in
     record {
       there = there;
-      live = (can_undo at (sym (ap undo_refusal_at found_so) ∙ free)).live;
+      other = does.other;
       proper = does.proper;
       sound = does.sound;
       left = λ end log entries lay logs marks.
           let new : History = record b { layout = end; log = log; entries = entries } in
-          let marked_so : entries ≡ remarked false txn b.entries =
-          marks ∙ sym (marked_there false b.entries txn place entry placed there) in
-          let same : after_undo b session txn ≡ new =
+          let marked_so : entries ≡ remarked live txn b.entries = marks ∙ sym (marked_there live b.entries txn place entry placed there) in
+          let same : after_mark live b session txn ≡ new =
           does.after ∙ (λ i. record b { layout = sym lay i; log = sym logs i; entries = sym marked_so i }) in
           record {
             history = subst IsHistory same does.history;
             is = sym same;
-            without = does.without ∙ ap Some (sym lay);
-            again = subst (λ (x : History). CanBeRedone x session txn b.layout) same does.again;
+            replayed = does.replayed ∙ ap Some (sym lay);
+            back = λ undone. subst (λ (x : History). CanBeRedone x session txn b.layout) same (does.back undone);
             marks = marked_so;
           };
     }
 
-pub undone_at : (b now : History) → b ≡ now → IsHistory b → (session : ℕ) (txn : TxnId) (place : ℕ) (entry : Entry) →
-    place_of txn now.entries ≡ Some place → entry ≡ get_or b.entries place entry → undo_refusal now txn ≡ None →
-    IsUndone b now session txn place entry
-undone_at b now view is session txn place entry placed read free =
+pub marked_at : (live : Bool) (b now : History) → b ≡ now → IsHistory b → (session : ℕ) (txn : TxnId) (place : ℕ) (entry : Entry) →
+    place_of txn now.entries ≡ Some place → entry ≡ get_or b.entries place entry → mark_refusal live now txn ≡ None →
+    IsMarked live b now session txn place entry
+marked_at live b now view is session txn place entry placed read free =
     let placed_so : place_of txn b.entries ≡ Some place = ap (λ (x : History). place_of txn x.entries) view ∙ placed in
     let there = slice_get_read b.entries (length b.entries) place entry refl (place_within b.entries txn place placed_so) read in
-    subst (λ (x : History). IsUndone b x session txn place entry) view
-    (undone_here b is session txn place entry placed_so there (ap (λ (x : History). undo_refusal x txn) view ∙ free))
-
-pub record LeavesRedone (now new : History) (session : ℕ) (txn : TxnId) : Type 0 where
-  pub history : IsHistory new
-  pub is : new ≡ after_redo now session txn
-  pub again : replay (with_mark now true txn) ≡ Some new.layout
-  pub marks : new.entries ≡ remarked true txn now.entries
-
-pub record IsRedone (b now : History) (session : ℕ) (txn : TxnId) (place : ℕ) (entry : Entry) : Type 0 where
-  pub there : slice_get b.entries place ≡ Some entry
-  pub undone : entry.live ≡ false
-  pub proper : AreProper entry.writes
-  pub sound : IsSound (applied b.layout entry.writes)
-  pub left : (end : Layout) (log : List Logged) (entries : List Entry) → end ≡ applied b.layout entry.writes →
-      log ≡ b.log ++ record { session = session; call = Redo txn; answer = Redone } ∷ [] →
-      entries ≡ slice_set b.entries place (marked true entry) →
-      LeavesRedone now (record b { layout = end; log = log; entries = entries }) session txn
-
-redone_here : (b : History) → IsHistory b → (session : ℕ) (txn : TxnId) (place : ℕ) (entry : Entry) → place_of txn b.entries ≡ Some place →
-    slice_get b.entries place ≡ Some entry → redo_refusal b txn ≡ None → IsRedone b b session txn place entry
-redone_here b is session txn place entry placed there free =
-    let at : Found = record { before = take place b.entries; entry = entry; later = drop (suc place) b.entries } in
-    let found_so : found b txn ≡ Some at = found_there [] b.entries txn place entry placed there in
-    let does = redoes b is session txn at found_so free in
-    record {
-      there = there;
-      undone = (can_redo at (sym (ap redo_refusal_at found_so) ∙ free)).undone;
-      proper = does.proper;
-      sound = does.sound;
-      left = λ end log entries lay logs marks.
-          let new : History = record b { layout = end; log = log; entries = entries } in
-          let marked_so : entries ≡ remarked true txn b.entries = marks ∙ sym (marked_there true b.entries txn place entry placed there) in
-          let same : after_redo b session txn ≡ new =
-          does.after ∙ (λ i. record b { layout = sym lay i; log = sym logs i; entries = sym marked_so i }) in
-          record {
-            history = subst IsHistory same does.history;
-            is = sym same;
-            again = does.again ∙ ap Some (sym lay);
-            marks = marked_so;
-          };
-    }
-
-pub redone_at : (b now : History) → b ≡ now → IsHistory b → (session : ℕ) (txn : TxnId) (place : ℕ) (entry : Entry) →
-    place_of txn now.entries ≡ Some place → entry ≡ get_or b.entries place entry → redo_refusal now txn ≡ None →
-    IsRedone b now session txn place entry
-redone_at b now view is session txn place entry placed read free =
-    let placed_so : place_of txn b.entries ≡ Some place = ap (λ (x : History). place_of txn x.entries) view ∙ placed in
-    let there = slice_get_read b.entries (length b.entries) place entry refl (place_within b.entries txn place placed_so) read in
-    subst (λ (x : History). IsRedone b x session txn place entry) view
-    (redone_here b is session txn place entry placed_so there (ap (λ (x : History). redo_refusal x txn) view ∙ free))
+    subst (λ (x : History). IsMarked live b x session txn place entry) view
+    (marked_here live b is session txn place entry placed_so there (ap (λ (x : History). mark_refusal live x txn) view ∙ free))

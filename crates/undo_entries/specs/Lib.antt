@@ -1,6 +1,7 @@
 pub mod Changes
 pub mod Coded
 pub mod Indexed
+pub mod Marks
 pub mod Places
 pub mod Replays
 pub use Rattle.txn_work.specs.Answers

@@ -1,0 +1,148 @@
+use Rattle.std.proofs.Common.{◌≡◌, ℕ, ◌+◌, ◌<◌, Bool, true, false, not, [], ◌∷◌, ◌++◌, Some, ◌∙◌, ap, arith, length, refl, rules, slice_get, slice_set}
+use Rattle.std.proofs.Common.{subst, sym}
+use Rattle.std.specs.Vec.{vec_len}
+use Rattle.undo_rules.specs.declared.log.Logged.{Logged}
+use Rattle.undo_rules.specs.Books.{History, changed_in}
+use Rattle.undo_rules.specs.Links.{Entry}
+use Rattle.undo_rules.specs.Steps.{remarked}
+use Rattle.txn_commands.specs.declared.command.TxnId.{TxnId}
+use Rattle.txn_commands.specs.Records.{AreProper}
+use Rattle.lay_layouts.specs.Sound.{IsSound}
+use Rattle.undo_entries.specs.Homes.{AreMetBy}
+use Rattle.undo_entries.specs.Listed.{IsNew}
+use Rattle.undo_entries.specs.Marks.{AreRelisted, mark_answer, mark_call, relaid}
+use Rattle.undo_book.specs.Books.{history_of}
+use Rattle.undo_entries.specs.Places.{AreTheirPlaces, place_of}
+use Rattle.undo_entries.specs.Indexed.{AreIndexed}
+use Rattle.undo_entries.proofs.IndexedLemmas.{mark_indexed, undone_new}
+use Rattle.undo_book.proofs.SameLemmas.{same_book}
+use Rattle.undo_entries.proofs.ChangeLemmas.{again_so}
+use Rattle.undo_entries.proofs.IndexLemmas.{places_marked}
+use Rattle.undo_entries.proofs.PlaceLemmas.{place_within}
+use Rattle.undo_book.proofs.SinceLemmas.{again_commits_so}
+use Rattle.undo_entries.proofs.UndoLemmas.{IsMarked, LeavesMarked, marked_at}
+use Rattle.undo_book.proofs.book.Book.remark.Goals as goal
+
+-- the place is that of a transaction
+within : (b now : History) → b ≡ now → (txn : TxnId) (place : ℕ) → place_of txn now.entries ≡ Some place → place < length b.entries
+within b now view txn place placed =
+    subst (λ (h : History). place < length h.entries) (sym view) (place_within now.entries txn place placed)
+
+-- the logged call
+abbrev call_of : ℕ → TxnId → Bool → Logged
+call_of session txn live = record { session = session; call = mark_call live txn; answer = mark_answer live }
+
+changed_so : (session : ℕ) (txn : TxnId) (live : Bool) → changed_in (call_of session txn live) ≡ Some txn
+changed_so session txn false = refl
+changed_so session txn true = refl
+
+pub index-entry-requires : goal.index-entry-requires
+index-entry-requires c =
+    let less = within (history_of c.self.inside) c.args.self.now c.self.view_is c.args.txn c.args.place c.requires.place in
+    let len : vec_len c.self.inside.entries ≡ length c.self.inside.entries.items = search rules in
+    omega (arith, less, len)
+
+pub relaid-requires-clause-proper : goal.relaid-requires-clause-proper
+relaid-requires-clause-proper c =
+    subst (λ (e : Entry). AreProper e.writes) (sym c.entry.view_is)
+    (marked_at c.args.live (history_of c.self.inside) c.args.self.now c.self.view_is c.self.invariant.history c.args.session c.args.txn
+    c.args.place c.index-entry.result.now c.requires.place c.index-entry.ensures c.requires.free).proper
+
+pub relaid-requires-clause-sound : goal.relaid-requires-clause-sound
+relaid-requires-clause-sound c =
+    subst (λ (e : Entry). IsSound (relaid c.args.live c.self.inside.layout e.writes)) (sym c.entry.view_is)
+    (marked_at c.args.live (history_of c.self.inside) c.args.self.now c.self.view_is c.self.invariant.history c.args.session c.args.txn
+    c.args.place c.index-entry.result.now c.requires.place c.index-entry.ensures c.requires.free).sound
+
+-- the last change of the transaction is kept
+pub add_again-requires-clause-index : goal.add_again-requires-clause-index
+add_again-requires-clause-index c =
+    let less = within (history_of c.self.inside) c.args.self.now c.self.view_is c.args.txn c.args.place c.requires.place in
+    let len : vec_len c.reserve_call.new.self.last ≡ length c.self.inside.changes.last.items = search rules in
+    omega (arith, less, c.self.invariant.changes.long, len)
+
+pub mark_at-requires : goal.mark_at-requires
+mark_at-requires c =
+    let less = within (history_of c.self.inside) c.args.self.now c.self.view_is c.args.txn c.args.place c.requires.place in
+    let len : vec_len c.self.inside.entries ≡ length c.self.inside.entries.items = search rules in
+    omega (arith, less, len)
+
+-- what nothing is against
+can : (c : goal.After-drop-met-inside-2) → IsMarked c.args.live (history_of c.self.inside) c.args.self.now c.args.session c.args.txn
+    c.args.place c.index-entry.result.now
+can c = marked_at c.args.live (history_of c.self.inside) c.args.self.now c.self.view_is c.self.invariant.history c.args.session c.args.txn
+    c.args.place c.index-entry.result.now c.requires.place c.index-entry.ensures c.requires.free
+
+-- what is left at the end
+left : (c : goal.After-drop-met-inside-2) → LeavesMarked c.args.live c.args.self.now (history_of (record c.self.inside {
+  layout = c.in_ok-layout.layout;
+  log = c.push.new.self;
+  entries = c.mark_at.new.entries;
+})) c.args.session c.args.txn
+left c =
+    let written : c.in_ok-layout.layout ≡ relaid c.args.live c.self.inside.layout c.entry.inside.writes = search rules in
+    let layout : c.in_ok-layout.layout ≡ relaid c.args.live c.self.inside.layout c.index-entry.result.now.writes =
+    written ∙ ap (λ (e : Entry). relaid c.args.live c.self.inside.layout e.writes) c.entry.view_is in
+    let log : c.push.new.self.items ≡ c.self.inside.log.items ++ call_of c.args.session c.args.txn c.args.live ∷ [] = search rules in
+    (can c).left c.in_ok-layout.layout c.push.new.self.items c.mark_at.new.entries.items layout log
+    (c.mark_at.ensures c.index-entry.result.now (can c).there)
+
+-- who wrote and touched what
+indexed : (c : goal.After-drop-met-inside-2) → AreIndexed c.relist.new.index.writers c.relist.new.index.readers c.mark_at.new.entries.items
+indexed c =
+    let was = c.self.inside.index in
+    let entry = c.index-entry.result.now in
+    let less = within (history_of c.self.inside) c.args.self.now c.self.view_is c.args.txn c.args.place c.requires.place in
+    let met : AreMetBy c.entry.inside.writes c.in_ok-met.met = search rules in
+    let are : AreMetBy entry.writes c.in_ok-met.met = subst (λ (e : Entry). AreMetBy e.writes c.in_ok-met.met) c.entry.view_is met in
+    let wrote_it : AreRelisted c.args.live was.writers c.in_ok-met.met c.args.place c.relist.new.index.writers = search rules in
+    let read_it : AreRelisted c.args.live was.readers entry.footprint c.args.place c.relist.new.index.readers = search rules in
+    mark_indexed c.args.live was.writers was.readers c.relist.new.index.writers c.relist.new.index.readers c.self.inside.entries.items
+    c.mark_at.new.entries.items c.args.place entry c.in_ok-met.met c.self.invariant.index wrote_it read_it are (can c).other (can c).there
+    less (c.mark_at.ensures entry (can c).there)
+
+pub invariant_of-self-2 : goal.invariant_of-self-2
+invariant_of-self-2 c =
+    let is = left c in
+    let h : History = history_of c.self.inside in
+    let marks : c.mark_at.new.entries.items ≡ remarked c.args.live c.args.txn h.entries =
+    is.marks ∙ ap (λ (x : History). remarked c.args.live c.args.txn x.entries) (sym c.self.view_is) in
+    let call : Logged = call_of c.args.session c.args.txn c.args.live in
+    let log : c.push.new.self.items ≡ c.self.inside.log.items ++ call_of c.args.session c.args.txn c.args.live ∷ [] = search rules in
+    let kept = c.self.inside.changes in
+    let earlier : c.add_again.new.self.earlier.items ≡ kept.earlier.items ++ slice_get kept.last.items c.args.place ∷ [] = search rules in
+    let last : c.add_again.new.self.last.items ≡ slice_set kept.last.items c.args.place (length c.self.inside.log.items) = search rules in
+    let again : c.add_again.new.self.again ≡ length c.self.inside.log.items + 1 = search rules in
+    record {
+      history = is.history;
+      places = subst (AreTheirPlaces c.self.inside.places.entries) (sym marks)
+          (places_marked c.self.inside.places.entries c.args.live c.args.txn h.entries c.self.invariant.places);
+      index = indexed c;
+      changes = again_so call c.args.txn c.args.place c.args.live c.self.invariant.changes
+          (changed_so c.args.session c.args.txn c.args.live)
+          (ap (λ (x : History). place_of c.args.txn x.entries) c.self.view_is ∙ c.requires.place) earlier last log marks;
+      commits = again_commits_so call c.args.txn c.args.place c.args.live c.self.invariant.commits again last log marks;
+    }
+
+pub returns-clause-ok : goal.returns-clause-ok
+returns-clause-ok c = (left c).is
+
+pub returns-clause-replayed : goal.returns-clause-replayed
+returns-clause-replayed c = (left c).replayed
+
+pub returns-clause-back : goal.returns-clause-back
+returns-clause-back c = (left c).back
+
+pub invariant_of-self-in_err-relist : goal.invariant_of-self-in_err-relist
+invariant_of-self-in_err-relist c =
+    let was = c.self.inside.index in
+    let entry = c.index-entry.result.now in
+    let is = marked_at c.args.live (history_of c.self.inside) c.args.self.now c.self.view_is c.self.invariant.history c.args.session
+    c.args.txn c.args.place entry c.requires.place c.index-entry.ensures c.requires.free in
+    let live : c.args.live ≡ true = search rules in
+    let fresh = undone_new was.writers was.readers c.self.inside.entries.items c.args.place entry c.self.invariant.index is.there
+    (is.other ∙ ap not live) in
+    let writers : IsNew was.writers c.args.place → c.relist.new.index.writers ≡ was.writers = search rules in
+    let readers : IsNew was.readers c.args.place → c.relist.new.index.readers ≡ was.readers = search rules in
+    same_book c.self.inside _ (search rules) refl (search rules) (search rules) (search rules) (writers fresh.0) (readers fresh.1)
+    c.self.invariant

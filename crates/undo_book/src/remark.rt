@@ -1,0 +1,109 @@
+//! What undo and redo share: a transaction gets the other mark.
+ghost use Rattle.std.specs.Prelude.{◌≡◌, IfOk, OnErr, OnOk, None, Some, false, true};
+ghost use Rattle.lay_layouts.specs.Sound.{IsSound};
+ghost use Rattle.txn_commands.specs.Records.{AreProper};
+ghost use Rattle.undo_rules.specs.Steps.{is_log_full, with_mark};
+ghost use Rattle.undo_entries.specs.Listed.{IsNew};
+ghost use Rattle.undo_entries.specs.Marks.{AreRelisted, after_mark, mark_answer, mark_call, mark_refusal, relaid};
+ghost use Rattle.undo_entries.specs.Places.{place_of};
+ghost use Rattle.undo_entries.specs.Replays.{CanBeRedone, replay};
+
+use crate::book::Book;
+use lay_items::Snapshot;
+use lay_point::NoMemory;
+use std::alloc::Global;
+use txn_commands::TxnId;
+use undo_entries::{Elements, Index, Records, mark_at};
+use undo_rules::{Answer, Call, Logged};
+
+impl Book {
+    /// Marks the transaction at this place as live, or as undone, which nothing is against: applies what it
+    /// wrote, or reverts it.
+    pub(crate) fn remark(
+        &mut self,
+        alloc: Global,
+        session: u8,
+        txn: TxnId,
+        place: usize,
+        live: bool,
+    ) -> Result<(), NoMemory>
+        requires log { is_log_full self.old ≡ false }
+        requires place { place_of txn self.old.entries ≡ Some place }
+        requires free { mark_refusal live self.old txn ≡ None }
+        ensures ok { OnOk result (self.new ≡ after_mark live self.old session txn) }
+        ensures replayed { OnOk result (replay (with_mark self.old live txn) ≡ Some self.new.layout) }
+        ensures back { OnOk result (live ≡ false → CanBeRedone self.new session txn self.old.layout) }
+        ensures err { OnErr result (self.new ≡ self.old) }
+    {
+        let entry = &self.entries[place];
+        let layout = relaid(alloc, &self.layout, &entry.writes, live)?;
+        let met = Elements::met_by(alloc, &entry.writes)?;
+        self.log.reserve(1)?;
+        self.changes.reserve_call()?;
+        relist(&mut self.index, &met, &entry.footprint, place, live)?;
+        self.changes.add_again(place, self.log.len() as u32);
+        mark_at(&mut self.entries, place, live);
+        self.log.push(marking(session, txn, live)).unwrap();
+        self.layout = layout;
+        Ok(())
+    }
+}
+
+/// Returns the layout with the values after, or with those before.
+fn relaid(
+    alloc: Global,
+    layout: &Snapshot,
+    writes: &Records,
+    live: bool,
+) -> Result<Snapshot, NoMemory>
+    requires proper { AreProper writes.now }
+    requires sound { IsSound (relaid live layout.now writes.now) }
+    ensures { IfOk result (λ new. new ≡ relaid live layout.now writes.now) }
+{
+    if live {
+        writes.applied(alloc, layout)
+    } else {
+        writes.reverted(alloc, layout)
+    }
+}
+
+/// Lists a transaction at its place, as live or no longer. Only the first can be out of memory, and then all
+/// stays as it was where it isn't listed.
+fn relist(
+    index: &mut Index,
+    met: &Elements,
+    footprint: &Elements,
+    place: usize,
+    live: bool,
+) -> Result<(), NoMemory>
+    ensures writers { OnOk result (AreRelisted live index.old.writers met.now place index.new.writers) }
+    ensures readers { OnOk result (AreRelisted live index.old.readers footprint.now place index.new.readers) }
+    ensures live { OnErr result (live ≡ true) }
+    ensures same_writers { OnErr result (IsNew index.old.writers place
+        → index.new.writers ≡ index.old.writers) }
+    ensures same_readers { OnErr result (IsNew index.old.readers place
+        → index.new.readers ≡ index.old.readers) }
+{
+    if live {
+        index.enter(met, footprint, place)?;
+    } else {
+        index.leave(met, footprint, place);
+    }
+    Ok(())
+}
+
+/// Returns the logged call that marked the transaction.
+fn marking(session: u8, txn: TxnId, live: bool) -> Logged
+    ensures { result ≡ record { session = session; call = mark_call live txn; answer = mark_answer live } }
+{
+    let (call, answer) = if live {
+        (Call::Redo(txn), Answer::Redone)
+    } else {
+        (Call::Undo(txn), Answer::Undone)
+    };
+    Logged {
+        session,
+        call,
+        answer,
+    }
+}
