@@ -1,27 +1,5 @@
 -- The first transaction whose link has moved is the one at the first place that is linked now and wasn't seen, or the other way round.
-use Rattle.std.proofs.Common.{
-  ◌≡◌,
-  ℕ,
-  ◌<◌,
-  ◌≤◌,
-  ◌==◌,
-  zero,
-  suc,
-  Bool,
-  true,
-  false,
-  not,
-  cond,
-  ◌||◌,
-  ◌&&◌,
-  List,
-  [],
-  ◌∷◌,
-  length,
-  map,
-  take,
-  drop,
-}
+use Rattle.std.proofs.Common.{◌≡◌, ℕ, ◌<◌, ◌≤◌, zero, suc, Bool, true, false, cond, ◌||◌, ◌&&◌, List, [], ◌∷◌, map, take, drop}
 use Rattle.std.proofs.Common.{Option, None, Some, option_map, refl, sym, ap, ◌∙◌, arith, slice_get}
 use Rattle.std.specs.Prelude.{is_some, nat_lt}
 use Rattle.std.proofs.lemmas.Bool.{eqb-true}
@@ -41,17 +19,7 @@ use Rattle.undo_index.specs.First.{IsFirst, first_some, has_place, is_apart, loo
 use Rattle.undo_index.specs.Listed.{Listed, is_listed}
 use Rattle.undo_index.proofs.FirstLemmas.{first_alike, first_found}
 use Rattle.undo_entries.specs.Indexed.{Lists, wrote}
-use Rattle.undo_entries.specs.Places.{
-  AreTheirPlaces,
-  found_at as place_found,
-  is_place,
-  moved_at,
-  name_cmp,
-  name_of,
-  named_at,
-  place_of,
-  stands_at,
-}
+use Rattle.undo_entries.specs.Places.{AreTheirPlaces, found_at as place_found, is_place, moved_at, named_at, place_of, stands_at}
 use Rattle.undo_entries.proofs.IndexLemmas.{names_equal}
 use Rattle.undo_entries.proofs.IndexedLemmas.{any_live, suc_suc, suc_zero, zero_suc}
 
