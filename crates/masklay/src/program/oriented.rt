@@ -79,12 +79,12 @@ fn finish_directed(
 pub(super) fn put_staying(lines: &mut Vec<u8>, staying: usize) -> Result<(), NoMemory> {
     let text = match staying {
         0 => return Ok(()),
-        1 => "shape crosses itself and stays as it was",
-        _ => "shapes cross themselves and stay as they were",
+        1 => "shape stays as it was",
+        _ => "shapes stay as they were",
     };
     write!(
         lines,
-        "masklay: {staying} {text}: readers by winding number may see otherwise\n"
+        "masklay: {staying} {text}: no path that all readers see alike was found, as where edges cross or it would be too long\n"
     )
     .map_err(|_| NoMemory)
 }
