@@ -28,8 +28,8 @@ use Rattle.lay_layouts.specs.Lent.{LentCall, calls_in, calls_lent}
 use Rattle.lay_flat.specs.declared.ends.End.{End}
 use Rattle.lay_flat.specs.Ends.{end_along, ends_within, target_of, turn_after, walks_of}
 use Rattle.lay_flat.specs.Flattening.{AreWalks, ends_of}
-use Rattle.lay_flat.specs.Graphs.{IsGraphFrom, in_graph}
-use Rattle.lay_flat.proofs.Reaching.{IsIn, begins_in, calls_stand, closed_in, standing_from}
+use Rattle.lay_items.specs.Graphs.{IsGraphFrom, in_graph}
+use Rattle.lay_items.proofs.Reaching.{IsIn, begins_in, calls_stand, closed_in, standing_from}
 
 standing-entries : (cell : CellId) (es : List (ItemId × Item)) → calls_standing_in (calls_among es) cell
     ≡ map (in_graph cell) (calls_lent (items_standing_in cell es))

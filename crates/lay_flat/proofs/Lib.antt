@@ -1,5 +1,3 @@
-pub mod Reaching
-pub mod Entering
 pub mod LayoutWalks
 pub mod LendingLemmas
 pub mod Tested

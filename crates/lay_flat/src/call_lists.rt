@@ -1,11 +1,12 @@
-//! The calls that stand in cells, listed once for each symbol.
+//! The calls that stand in cells, listed once for each cell.
 ghost use Rattle.std.specs.Prelude.{◌≡◌, IfOk, OnOk};
-ghost use Rattle.lay_calls.specs.declared.cell_id.CellId.TheVariants.{Symbol};
+ghost use Rattle.lay_calls.specs.declared.cell_id.CellId.TheVariants.{Symbol, Top};
 ghost use Rattle.lay_layouts.specs.Lent.{calls_in};
+ghost use Rattle.lay_layouts.specs.Sound.{IsSound};
 
 use crate::shared::Shared;
 use lay_calls::CellId;
-use lay_items::Snapshot;
+use lay_items::{Snapshot, Version};
 use lay_layouts::ItemId;
 use lay_point::{NoMemory, Turn};
 use std::alloc::Global;
@@ -15,15 +16,17 @@ use std::marker::Model;
 /// A call: its id, the number of the symbol that it calls, and what is done to all points of that.
 pub(crate) type Call = (ItemId, u32, Turn);
 
-/// The calls in each symbol that was asked for, listed once. Contracts see the layout.
+/// The calls in each cell that was asked for, listed once. Contracts see the layout.
 #[derive(Drop)]
 pub(crate) struct CallLists<'s> {
     snapshot: &'s Snapshot,
+    top: Option<Shared<Call>>,
     symbols: BTreeMap<u32, Shared<Call>>,
 }
 
 impl<'s> Model for CallLists<'s> {
-    ghost use Rattle.lay_calls.specs.declared.cell_id.CellId.TheVariants.{Symbol};
+    ghost use Rattle.std.specs.Prelude.{◌≡◌, IfSome};
+    ghost use Rattle.lay_calls.specs.declared.cell_id.CellId.TheVariants.{Symbol, Top};
     ghost use Rattle.lay_layouts.specs.Layout.{Layout, coded_layout};
     ghost use Rattle.lay_layouts.specs.Lent.{calls_in};
     ghost use Rattle.lay_flat.specs.Lists.{AreListsOf};
@@ -34,7 +37,8 @@ impl<'s> Model for CallLists<'s> {
 
     ghost view = { λ l. l.snapshot.now };
 
-    ghost invariant = { λ l. AreListsOf (λ n. calls_in l.snapshot.now (Symbol n)) l.symbols.entries };
+    ghost invariant = { λ l. IfSome l.top (λ list. list ≡ calls_in l.snapshot.now Top)
+        × AreListsOf (λ n. calls_in l.snapshot.now (Symbol n)) l.symbols.entries };
 }
 
 impl<'s> CallLists<'s> {
@@ -42,20 +46,44 @@ impl<'s> CallLists<'s> {
     pub(crate) fn new(alloc: Global, snapshot: &'s Snapshot) -> CallLists<'s>
         ensures { result ≡ snapshot.now }
     {
-        let symbols = BTreeMap::new(alloc);
-        CallLists { snapshot, symbols }
+        CallLists {
+            snapshot,
+            top: None,
+            symbols: BTreeMap::new(alloc),
+        }
     }
 
-    /// Returns the calls that stand in a cell, in order of their ids. The list of a symbol is kept. No call
-    /// calls the top cell, so its list isn't.
+    /// Lends the layout, which is sound.
+    pub(crate) fn version(&self) -> &Version
+        ensures value { result.now ≡ self.now }
+        ensures sound { IsSound self.now }
+    {
+        self.snapshot.version()
+    }
+
+    /// Returns the calls that stand in a cell, in order of their ids, and keeps the list.
     pub(crate) fn of(&mut self, alloc: Global, cell: CellId) -> Result<Shared<Call>, NoMemory>
         ensures list { IfOk result (λ list. list ≡ calls_in self.old cell) }
         ensures same { OnOk result (self.new ≡ self.old) }
     {
         match cell {
-            CellId::Top => listed(alloc, self.snapshot, CellId::Top),
+            CellId::Top => self.of_top(alloc),
             CellId::Symbol(number) => self.of_symbol(alloc, number),
         }
+    }
+
+    /// Returns the calls that stand in the top cell, in order of their ids, and keeps the list.
+    fn of_top(&mut self, alloc: Global) -> Result<Shared<Call>, NoMemory>
+        ensures list { IfOk result (λ list. list ≡ calls_in self.old Top) }
+        ensures same { OnOk result (self.new ≡ self.old) }
+    {
+        if let Some(list) = &self.top {
+            return list.share();
+        }
+        let list = listed(alloc, self.snapshot, CellId::Top)?;
+        let kept = list.share()?;
+        self.top = Some(kept);
+        Ok(list)
     }
 
     /// Returns the calls that stand in a symbol, in order of their ids, and keeps the list.

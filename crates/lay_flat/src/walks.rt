@@ -1,5 +1,5 @@
 //! The walks from a cell, from which any of its layers is flattened.
-ghost use Rattle.std.specs.Prelude.{◌≡◌, Err, IsTrue, false};
+ghost use Rattle.std.specs.Prelude.{◌≡◌, Err, IsTrue, OnOk, false};
 ghost use Rattle.std.specs.List.{list_all, list_any};
 ghost use Rattle.std.specs.Prelude.{is_none};
 ghost use Rattle.lay_point.specs.Memory.{IsAnswer};
@@ -51,9 +51,9 @@ impl<'s> Walks<'s> {
     ///
     /// # Cost
     ///
-    /// The items of each cell that the cell leads to are gone over three times, for its calls, however many
-    /// walks end there. Then each walk takes a step, and comparisons in proportion to the logarithm of the
-    /// number of these cells.
+    /// The items of each cell that the cell leads to are gone over once, for its calls, however many walks end
+    /// there. Then each call takes a few steps, and each walk one, and comparisons in proportion to the logarithm
+    /// of the number of these cells.
     pub fn from(alloc: Global, snapshot: &'s Snapshot, cell: CellId) -> Result<Walks<'s>, FlatFault>
         ensures answer { IsAnswer FlatFault.NoMemory result (walked snapshot.now cell) }
         ensures no_cell { is_cell snapshot.now cell ≡ false → result ≡ Err FlatFault.NoCell }
@@ -62,9 +62,9 @@ impl<'s> Walks<'s> {
         if !snapshot.version().is_cell(cell) {
             return Err(FlatFault::NoCell);
         }
-        test_walks(alloc, snapshot, cell)?;
-        let mut ends = Vec::new(alloc);
         let mut lists = CallLists::new(alloc, snapshot);
+        test_walks(alloc, &mut lists, cell)?;
+        let mut ends = Vec::new(alloc);
         let turn = Some(Turn::unturned());
         list_ends(alloc, &mut lists, cell, turn, MAX_DEPTH, &mut ends)?;
         let outside = is_any_outside(&ends);
@@ -96,11 +96,12 @@ impl<'s> Walks<'s> {
 }
 
 /// Tests the depth and the number of the walks from a cell.
-fn test_walks(alloc: Global, snapshot: &Snapshot, cell: CellId) -> Result<(), FlatFault>
-    requires { IsTrue (is_cell snapshot.now cell) }
-    ensures { IsAnswer FlatFault.NoMemory result (tested snapshot.now cell) }
+fn test_walks(alloc: Global, lists: &mut CallLists<'_>, cell: CellId) -> Result<(), FlatFault>
+    requires { IsTrue (is_cell lists.old cell) }
+    ensures tested { IsAnswer FlatFault.NoMemory result (tested lists.old cell) }
+    ensures same { OnOk result (lists.new ≡ lists.old) }
 {
-    let (depth, walks) = depth_and_walks(alloc, snapshot, cell)?;
+    let (depth, walks) = depth_and_walks(alloc, lists, cell)?;
     if depth > MAX_DEPTH {
         return Err(FlatFault::TooDeep);
     }

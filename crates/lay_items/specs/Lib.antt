@@ -1,2 +1,3 @@
 pub mod FromCif
+pub mod Graphs
 pub use Rattle.cif_read.specs.Tallies

@@ -1,5 +1,5 @@
 use Rattle.std.proofs.Common.{◌≡◌, ◌≤◌, ◌-◌, ◌++◌, length, take}
-use Rattle.lay_flat.specs.Graphs.{symbol_calls}
+use Rattle.lay_items.specs.Graphs.{symbol_calls}
 use Rattle.lay_flat.proofs.graph.add_symbols.Given as goal
 
 -- the calls of the symbols before the index were added
@@ -7,7 +7,8 @@ abbrev pub invariant-loop-number : goal.invariant-loop-number
 invariant-loop-number l = record {
   within : l.index ≤ length l.symbols;
   same : l.graph.symbols ≡ l.symbols;
-  calls : l.graph.calls ≡ l.fn.graph.calls ++ symbol_calls l.snapshot (take l.index l.symbols);
+  layout : l.lists ≡ l.fn.lists;
+  calls : l.graph.calls ≡ l.fn.graph.calls ++ symbol_calls l.fn.lists (take l.index l.symbols);
 }
 
 abbrev pub decreases-loop-number : goal.decreases-loop-number

@@ -1,4 +1,4 @@
-use Rattle.std.proofs.Common.{◌≡◌, ◌∙◌, ◌++◌, true, false, is_none, List, Some, Ok, Err, inr, ap, rules, sym}
+use Rattle.std.proofs.Common.{◌≡◌, ◌∙◌, ◌++◌, true, false, is_none, List, Some, Ok, Err, inr, ap, rules, subst, sym}
 use Rattle.std.specs.List.{list_any}
 use Rattle.lay_point.specs.declared.turn.Turn.{Turn}
 use Rattle.lay_point.specs.Memory.{IsAnswer}
@@ -36,7 +36,9 @@ returns-in_err-test_walks-clause-answer c =
     let is : is_cell c.args.snapshot.now c.args.cell ≡ true =
     ap (λ (l : Layout). is_cell l c.args.cell) (sym c.version.ensures.value) ∙ sym c.if-not-is_cell.ensures in
     let fact : IsAnswer {T = Start} NoMemory (Err c.in_err-test_walks.field-0.0) (walked c.args.snapshot.now c.args.cell) =
-    walks_refused c.args.snapshot.now c.args.cell c.in_err-test_walks.field-0.0 is c.in_err-test_walks.ensures in
+    walks_refused c.args.snapshot.now c.args.cell c.in_err-test_walks.field-0.0 is
+    (subst (λ (l : Layout). IsAnswer {T = Unit {0}} NoMemory (Err c.in_err-test_walks.field-0.0) (tested l c.args.cell))
+    c.new-lists.ensures c.in_err-test_walks.ensures.tested) in
     search (rules, fact)
 
 pub returns-clause-answer : goal.returns-clause-answer
@@ -44,7 +46,9 @@ returns-clause-answer c =
     let is : is_cell c.args.snapshot.now c.args.cell ≡ true =
     ap (λ (l : Layout). is_cell l c.args.cell) (sym c.version.ensures.value) ∙ sym c.if-not-is_cell.ensures in
     let passed : tested c.args.snapshot.now c.args.cell ≡ Ok (tt {0}) =
-    passed_from c.in_ok-test_walks.field-0 (tested c.args.snapshot.now c.args.cell) c.in_ok-test_walks.ensures in
+    passed_from c.in_ok-test_walks.field-0 (tested c.args.snapshot.now c.args.cell)
+    (subst (λ (l : Layout). IsAnswer NoMemory (Ok c.in_ok-test_walks.field-0) (tested l c.args.cell)) c.new-lists.ensures
+    c.in_ok-test_walks.ensures.tested) in
     inr (sym (walks_pass c.args.snapshot.now c.args.cell is passed))
 
 pub invariant_of-result : goal.invariant_of-result
@@ -53,12 +57,15 @@ invariant_of-result c =
     let is : is_cell layout c.args.cell ≡ true =
     ap (λ (l : Layout). is_cell l c.args.cell) (sym c.version.ensures.value) ∙ sym c.if-not-is_cell.ensures in
     let passed : tested layout c.args.cell ≡ Ok (tt {0}) =
-    passed_from c.in_ok-test_walks.field-0 (tested layout c.args.cell) c.in_ok-test_walks.ensures in
+    passed_from c.in_ok-test_walks.field-0 (tested layout c.args.cell)
+    (subst (λ (l : Layout). IsAnswer NoMemory (Ok c.in_ok-test_walks.field-0) (tested l c.args.cell)) c.new-lists.ensures
+    c.in_ok-test_walks.ensures.tested) in
     record {
       there = is;
       passed = passed;
       all = c.in_ok-list_ends.ensures.ends
-          ∙ ap (λ (l : Layout). c.new-ends.result.items ++ ends_within l 64 c.args.cell (Some c.unturned.result)) c.new-lists.ensures
+          ∙ ap (λ (l : Layout). c.new-ends.result.items ++ ends_within l 64 c.args.cell (Some c.unturned.result))
+          (c.in_ok-test_walks.ensures.same ∙ c.new-lists.ensures)
           ∙ ap (λ (es : List End). es ++ ends_within layout 64 c.args.cell (Some c.unturned.result)) c.new-ends.ensures.items
           ∙ ap (λ (t : Turn). ends_within layout 64 c.args.cell (Some t)) c.unturned.ensures
           ∙ ends_are layout c.args.cell 64 c.version.ensures.sound.acyclic (shallow layout c.args.cell passed);

@@ -15,7 +15,7 @@ use Rattle.lay_calls.proofs.MemberLemmas.{contains_none, joined_contains}
 use Rattle.lay_layouts.specs.Layout.{Layout}
 use Rattle.lay_layouts.specs.Lent.{LentCall, calls_in}
 use Rattle.lay_layouts.specs.SlotOrder.{in_slot_order}
-use Rattle.lay_flat.specs.Graphs.{CoverReached, graph_calls, in_graph, symbol_calls, top_calls}
+use Rattle.lay_items.specs.Graphs.{CoverReached, graph_calls, in_graph, symbol_calls, top_calls}
 
 -- each of the symbols is one of the layout
 abbrev pub IsKnown : Layout → List ℕ → Type 0

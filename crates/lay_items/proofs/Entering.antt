@@ -25,9 +25,9 @@ use Rattle.lay_layouts.specs.Layout.{Layout, is_cell}
 use Rattle.lay_layouts.specs.Lent.{LentCall, calls_in, calls_lent}
 use Rattle.lay_layouts.specs.SlotOrder.{in_slot_order}
 use Rattle.lay_layouts.specs.Sound.{IsSound}
-use Rattle.lay_flat.specs.Graphs.{AreCallsTo, BeginsIn, CoverReached, first_symbols, graph_calls, symbol_calls, with_called}
+use Rattle.lay_items.specs.Graphs.{AreCallsTo, BeginsIn, CoverReached, first_symbols, graph_calls, symbol_calls, with_called}
 use Rattle.lay_layouts.proofs.Addable.{IsPlaceable, all_placeable, cell_there}
-use Rattle.lay_flat.proofs.Reaching.{IsKnown}
+use Rattle.lay_items.proofs.Reaching.{IsKnown}
 
 known_one : (layout : Layout) (s : List ℕ) (m : ℕ) → IsKnown layout s → has_symbol (in_slot_order layout.symbols) m ≡ true
     → IsKnown layout (with_symbol s m)
