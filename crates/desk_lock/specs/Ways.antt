@@ -1,19 +1,22 @@
 -- Undo and redo as one call, with the way that it goes.
 -- Source: this project's own.
+use Rattle.std.specs.Prelude.{Bool, true, false}
 use Rattle.txn_commands.specs.declared.command.TxnId.{TxnId}
 use Rattle.undo_rules.specs.declared.log.Answer.{Answer}
-use Rattle.undo_rules.specs.declared.log.Answer.TheVariants.{Redone, Undone}
 use Rattle.undo_rules.specs.declared.log.Call.{Call}
-use Rattle.undo_rules.specs.declared.log.Call.TheVariants.{Redo, Undo}
+use Rattle.undo_book.specs.Marks.{mark_answer, mark_call}
 use Rattle.desk_lock.specs.declared.way.Way.{Way}
 use Rattle.desk_lock.specs.declared.way.Way.TheVariants.{Back, Forth}
 
+-- whether the transaction is live after it
+abbrev pub is_live : Way → Bool
+is_live Back = false
+is_live Forth = true
+
 -- the call that takes a transaction this way
 abbrev pub call_for : Way → TxnId → Call
-call_for Back txn = Undo txn
-call_for Forth txn = Redo txn
+call_for way txn = mark_call (is_live way) txn
 
 -- the answer to such a call that is accepted
 abbrev pub answer_for : Way → Answer
-answer_for Back = Undone
-answer_for Forth = Redone
+answer_for way = mark_answer (is_live way)
