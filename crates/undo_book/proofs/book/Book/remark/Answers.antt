@@ -1,4 +1,5 @@
-use Rattle.std.proofs.Common.{◌≡◌, ℕ, ◌+◌, ◌<◌, Bool, true, false, not, [], ◌∷◌, ◌++◌, Some, ◌∙◌, ap, arith, length, refl, rules, slice_get, slice_set}
+use Rattle.std.proofs.Common.{◌≡◌, ℕ, ◌+◌, ◌<◌, Bool, true, false, not, [], ◌∷◌}
+use Rattle.std.proofs.Common.{◌++◌, Some, ◌∙◌, ap, arith, length, refl, rules, slice_get, slice_set}
 use Rattle.std.proofs.Common.{subst, sym}
 use Rattle.std.specs.Vec.{vec_len}
 use Rattle.undo_rules.specs.declared.log.Logged.{Logged}
