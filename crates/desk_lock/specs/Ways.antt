@@ -9,14 +9,14 @@ use Rattle.desk_lock.specs.declared.way.Way.{Way}
 use Rattle.desk_lock.specs.declared.way.Way.TheVariants.{Back, Forth}
 
 -- whether the transaction is live after it
-abbrev pub is_live : Way → Bool
-is_live Back = false
-is_live Forth = true
+abbrev pub leaves_live : Way → Bool
+leaves_live Back = false
+leaves_live Forth = true
 
 -- the call that takes a transaction this way
 abbrev pub call_for : Way → TxnId → Call
-call_for way txn = mark_call (is_live way) txn
+call_for way txn = mark_call (leaves_live way) txn
 
 -- the answer to such a call that is accepted
 abbrev pub answer_for : Way → Answer
-answer_for way = mark_answer (is_live way)
+answer_for way = mark_answer (leaves_live way)

@@ -49,17 +49,17 @@ AreRemoved old elements place new =
 -- ---- how they are kept
 
 -- the id, where the element is an item
-abbrev pub item_of : Element → Option ItemId
-item_of (Item id) = Some id
-item_of (Layer cell layer) = None
-item_of (Calls cell) = None
-item_of (Cell number) = None
-item_of (Content number) = None
-item_of (Uses number) = None
+abbrev pub element_id : Element → Option ItemId
+element_id (Item id) = Some id
+element_id (Layer cell layer) = None
+element_id (Calls cell) = None
+element_id (Cell number) = None
+element_id (Content number) = None
+element_id (Uses number) = None
 
 -- the element is no item
 abbrev pub is_part : Element × ℕ → Bool
-is_part k = is_none (item_of k.0)
+is_part k = is_none (element_id k.0)
 
 -- a pair of an item
 abbrev pub item_pair : ItemId × ℕ → Element × ℕ

@@ -3,7 +3,7 @@ ghost use Rattle.std.specs.Prelude.{◌≡◌, ℕ, ◌||◌, ◌&&◌, IfOk, On
 ghost use Rattle.std.specs.FinSet as set;
 ghost use Rattle.std.specs.List.{list_any};
 ghost use Rattle.undo_index.specs.First.{IsFirst, has_place, lesser};
-ghost use Rattle.undo_index.specs.Listed.{AreAdded, AreRemoved, IsNew, is_listed, item_of, nothing_listed};
+ghost use Rattle.undo_index.specs.Listed.{AreAdded, AreRemoved, IsNew, is_listed, element_id, nothing_listed};
 
 use crate::elements::Elements;
 use crate::places::Places;
@@ -136,7 +136,7 @@ impl Listing {
         ensures ok { OnOk result (self.new ≡ set.insert self.old (element, place)) }
         ensures err { OnErr result (self.new ≡ self.old) }
     {
-        match item_of(&element) {
+        match element_id(&element) {
             Some(id) => self.items.insert((id, place))?,
             None => self.others.insert((element, place))?,
         };
@@ -147,7 +147,7 @@ impl Listing {
     fn remove_one(&mut self, element: Element, place: usize)
         ensures { self.new ≡ set.remove self.old (element, place) }
     {
-        match item_of(&element) {
+        match element_id(&element) {
             Some(id) => self.items.remove(&(id, place)),
             None => self.others.remove(&(element, place)),
         };
@@ -157,7 +157,7 @@ impl Listing {
     fn first(&self, element: Element, from: usize) -> Option<usize>
         ensures { IsFirst (is_listed self.now element) from result }
     {
-        match item_of(&element) {
+        match element_id(&element) {
             Some(id) => first_under(&self.items, id, from),
             None => first_under(&self.others, element, from),
         }
@@ -173,7 +173,7 @@ impl Listing {
         ensures { OnOk result ((p : ℕ) → has_place places.new.items p
             ≡ (has_place places.old.items p || (nat_lt p below && is_listed self.now element p))) }
     {
-        match item_of(&element) {
+        match element_id(&element) {
             Some(id) => gather_under(&self.items, id, below, places),
             None => gather_under(&self.others, element, below, places),
         }
@@ -181,8 +181,8 @@ impl Listing {
 }
 
 /// Returns the id, where the element is an item.
-fn item_of(element: &Element) -> Option<ItemId>
-    ensures { result ≡ item_of element.now }
+fn element_id(element: &Element) -> Option<ItemId>
+    ensures { result ≡ element_id element.now }
 {
     match element {
         Element::Item(id) => Some(*id),

@@ -5,9 +5,9 @@ use Rattle.undo_index.proofs.listing.Listing.first.Goals as goal
 pub returns-in-Some : goal.returns-in-Some
 returns-in-Some c =
     first_item c.self.inside.items c.self.inside.others c.args.self.now c.self.view_is c.args.element c.in-Some.id
-    (sym c.item_of.ensures ∙ c.in-Some.is) c.args.from c.first_under.result c.first_under.ensures
+    (sym c.element_id.ensures ∙ c.in-Some.is) c.args.from c.first_under.result c.first_under.ensures
 
 pub returns-in-None : goal.returns-in-None
 returns-in-None c =
     first_other c.self.inside.items c.self.inside.others c.args.self.now c.self.view_is c.args.element
-    (sym c.item_of.ensures ∙ c.in-None.is) c.args.from c.first_under-in-None.result c.first_under-in-None.ensures
+    (sym c.element_id.ensures ∙ c.in-None.is) c.args.from c.first_under-in-None.result c.first_under-in-None.ensures

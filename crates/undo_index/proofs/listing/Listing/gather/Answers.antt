@@ -6,12 +6,12 @@ pub returns-in-Some : goal.returns-in-Some
 returns-in-Some c =
     on_ok c.gather_under.result
     (gathered_item c.self.inside.items c.self.inside.others c.args.self.now c.self.view_is c.args.element c.in-Some.id
-    (sym c.item_of.ensures ∙ c.in-Some.is) c.args.below c.args.places.now.items c.gather_under.new.places.items)
+    (sym c.element_id.ensures ∙ c.in-Some.is) c.args.below c.args.places.now.items c.gather_under.new.places.items)
     c.gather_under.ensures
 
 pub returns-in-None : goal.returns-in-None
 returns-in-None c =
     on_ok c.gather_under-in-None.result
     (gathered_other c.self.inside.items c.self.inside.others c.args.self.now c.self.view_is c.args.element
-    (sym c.item_of.ensures ∙ c.in-None.is) c.args.below c.args.places.now.items c.gather_under-in-None.new.places.items)
+    (sym c.element_id.ensures ∙ c.in-None.is) c.args.below c.args.places.now.items c.gather_under-in-None.new.places.items)
     c.gather_under-in-None.ensures
