@@ -6,9 +6,10 @@ ghost use Rattle.lay_cell_items.specs.ByCell.{AreIndexedByCell, cell_key, home_c
 ghost use Rattle.lay_cell_items.specs.ByCell.{with_home, without_home};
 ghost use Rattle.lay_layouts.specs.Ids.{id_cmp};
 
+use crate::entries::paged;
 use lay_layouts::{CellId, Item, ItemId};
 use lay_page::PageKey;
-use lay_pages::{Pages, PagesBuilder};
+use lay_pages::Pages;
 use lay_point::{LayerName, NoMemory};
 use std::alloc::Global;
 
@@ -46,7 +47,7 @@ pub fn homes_of(alloc: Global, items: &Pages<ItemId, Item>) -> Result<Homes, NoM
 {
     let mut homes = list_of(alloc, items)?;
     homes.sort_by_key(|homed| homed.0.cell)?;
-    let homes = built(alloc, homes)?;
+    let homes = paged(alloc, homes)?;
     Ok(homes)
 }
 
@@ -59,19 +60,6 @@ fn list_of(alloc: Global, items: &Pages<ItemId, Item>) -> Result<Vec<(Home, u32)
         homes.push((home_of(id, item), tag_of(item)))?;
     }
     Ok(homes)
-}
-
-/// Returns the pages of a list in order.
-fn built(alloc: Global, homes: Vec<(Home, u32)>) -> Result<Homes, NoMemory>
-    requires { IsStrictlySortedBy home_cmp (keys_of homes.items) }
-    ensures { IfOk result (λ pages. pages ≡ homes.items) }
-{
-    let mut pages = PagesBuilder::new(alloc);
-    for (home, tag) in homes {
-        pages = pages.push(alloc, home, tag)?;
-    }
-    let pages = pages.build(alloc)?;
-    Ok(pages)
 }
 
 /// Returns the homes without that of an item, where there is one of this id.

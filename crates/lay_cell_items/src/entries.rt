@@ -8,7 +8,7 @@ ghost use Rattle.lay_layouts.specs.Ids.{id_cmp};
 
 use lay_layouts::{Item, ItemId};
 use lay_page::around;
-use lay_pages::{Pages, PagesBuilder};
+use lay_pages::{Kept, PageKey, Pages, PagesBuilder};
 use lay_point::NoMemory;
 use std::alloc::Global;
 
@@ -35,13 +35,16 @@ pub fn listed(alloc: Global, items: &Pages<ItemId, Item>) -> Result<Vec<Entry>, 
 /// # Cost
 ///
 /// A pass over the entries.
-pub fn paged(alloc: Global, entries: Vec<Entry>) -> Result<Pages<ItemId, Item>, NoMemory>
-    requires { IsStrictlySortedBy id_cmp (keys_of entries.items) }
+pub fn paged<K: PageKey, V: Kept>(
+    alloc: Global,
+    entries: Vec<(K, V)>,
+) -> Result<Pages<K, V>, NoMemory>
+    requires { IsStrictlySortedBy K.cmp (keys_of entries.items) }
     ensures { IfOk result (λ pages. pages ≡ entries.items) }
 {
     let mut pages = PagesBuilder::new(alloc);
-    for (id, item) in entries {
-        pages = pages.push(alloc, id, item)?;
+    for (key, value) in entries {
+        pages = pages.push(alloc, key, value)?;
     }
     let pages = pages.build(alloc)?;
     Ok(pages)

@@ -7,8 +7,8 @@ use Rattle.lay_cell_items.proofs.HomeLemmas.{homes_by_cell}
 use Rattle.lay_cell_items.proofs.cell_index.homes_of.Goals as goal
 
 -- the closure gives a home's cell
-pub built-requires : goal.built-requires
-built-requires c =
+pub paged-requires : goal.paged-requires
+paged-requires c =
     let facts = c.in_ok-sort_by_key.ensures in
     let rising = IsNonDecreasingBy-from_sort_by_key (λ (h : Homed). h.0.cell) c.sort_by_key.new.self.items facts.sorted
     (λ a r q k. search rules) in
