@@ -1,19 +1,23 @@
 -- Layouts that have the same in an element agree on it.
-use Rattle.std.proofs.Common.{◌≡◌, ℕ, ◌==◌, Bool, true, false, cond, List, [], ◌∷◌, Option, Some, filter}
-use Rattle.std.proofs.Common.{refl, ap, sym, subst, ◌∙◌}
-use Rattle.std.proofs.lemmas.Bool.{and_parts}
+use Rattle.std.proofs.Common.{◌≡◌, ℕ, ◌==◌, Bool, true, false, ◌&&◌, cond, List, [], ◌∷◌, Option, None, Some, filter, map, option_map}
+use Rattle.std.proofs.Common.{refl, ap, ap₂, sym, subst, ◌∙◌}
 use Rattle.std.proofs.lemmas.Bool.Decides.{Decides-and, Decides-eqb, Decides-like}
-use Rattle.std.proofs.lemmas.Slice.Eq.{slice_eq-Decides}
+use Rattle.std.proofs.lemmas.Slice.Eq.{bytes_eq-Decides, slice_eq-Decides}
 use Rattle.std.specs.Bool.{Decides}
+use Rattle.std.specs.Cmp.{decided}
 use Rattle.std.specs.declared.cmp.Ordering.{Ordering}
 use Rattle.std.specs.Cmp.Lexicographic.{pointwise}
 use Rattle.std.specs.FinMap.{IsAntisymmetric, entries, find, get, get-entries}
 use Rattle.std.specs.FinSet.{contains-items, from_list, items}
-use Rattle.std.specs.List.{AllByRecursion, list_all}
+use Rattle.std.specs.List.{AllByRecursion, cons_option, filter_map, list_all}
 use Rattle.std.specs.Ordering.{eq_by_cmp}
+use Rattle.lay_point.specs.Same.{names_eq, names_eq_equiv}
+use Rattle.lay_point.specs.SameTurn.{turn_eq}
+use Rattle.lay_calls.specs.contracts.cell_id.CellIdPartialEq.TheImpl as cell_impl
 use Rattle.lay_calls.specs.declared.cell_id.CellId.{CellId}
-use Rattle.lay_calls.specs.declared.cell_id.CellId.TheVariants.{Symbol}
+use Rattle.lay_calls.specs.declared.cell_id.CellId.TheVariants.{Symbol, Top}
 use Rattle.lay_calls.specs.SameCell.{cell_eq, cell_eq-Decides}
+use Rattle.lay_layouts.specs.contracts.item.ItemPartialEq.TheImpl as item_impl
 use Rattle.lay_layouts.specs.declared.id.ItemId.{ItemId}
 use Rattle.lay_layouts.specs.declared.item.Item as item
 use Rattle.lay_layouts.specs.declared.item.Item.TheVariants.{Placed, Shape}
@@ -22,7 +26,8 @@ use Rattle.lay_layouts.specs.IdOrder.{ids_exact, ids_total}
 use Rattle.lay_layouts.specs.Ids.{id_cmp}
 use Rattle.lay_layouts.specs.Items.{cell_of, items_in}
 use Rattle.lay_layouts.specs.Layout.{Layout, item_at}
-use Rattle.lay_layouts.specs.Same.{item_eq-Decides, option_item_eq, option_item_eq-Decides}
+use Rattle.lay_layouts.specs.Lent.{LentCall, LentShape, call_lent, calls_in, shape_on, shapes_in}
+use Rattle.lay_layouts.specs.Same.{item_eq, item_eq-Decides, option_item_eq, option_item_eq-Decides, rings_eq}
 use Rattle.lay_layouts.specs.SameLayout.{id_eq, id_eq-Decides}
 use Rattle.txn_commands.specs.declared.element.Element.{Element}
 use Rattle.txn_commands.specs.declared.element.Element.TheVariants.{Calls, Cell, Content, Item, Layer, Uses}
@@ -166,61 +171,135 @@ pub agrees_keys : (l m : Layout) (ks : List Element) → list_all (same_in l m) 
 unfolding agrees
 agrees_keys l m ks = all_items (same_in l m) ks
 
--- ---- the items of one cell
+-- ---- what is lent of a cell
 
--- what is left by the one test is left by both
-filter_twice : {X : Type 0} (p q : X → Bool) → ((x : X) → p x ≡ true → q x ≡ true) → (xs : List X) → filter p (filter q xs) ≡ filter p xs
-filter_twice p q more [] = refl
-filter_twice p q more (x ∷ xs) = by_test (q x) refl (p x) refl (filter_twice p q more xs) where
-  by_test : (b : Bool) → q x ≡ b → (a : Bool) → p x ≡ a → filter p (filter q xs) ≡ filter p xs →
-      filter p (cond b (x ∷ filter q xs) (filter q xs)) ≡ cond (p x) (x ∷ filter p xs) (filter p xs)
-  by_test true kept a passes rest = ap (λ fs. cond (p x) (x ∷ fs) fs) rest
-  by_test false kept true passes rest = let no : false ≡ true = sym kept ∙ more x passes in absurd cc
-  by_test false kept false passes rest = rest ∙ sym (ap (λ b. cond b (x ∷ filter p xs) (filter p xs)) passes)
+cell_tested : (c d : CellId) → (cell_impl.ghosts).eq c d ≡ cell_eq c d
+cell_tested Top Top = refl
+cell_tested Top (Symbol n) = refl
+cell_tested (Symbol m) Top = refl
+cell_tested (Symbol m) (Symbol n) = refl
 
-pub in_cell : (e : Element) (cell : CellId) (l : Layout) →
-    ((id : ItemId) (v : item.Item) → lies e id v ≡ true → cell_eq (cell_of v) cell ≡ true) →
-    lying e (items_in l cell) ≡ lying e (entries l.items)
+-- what `==` of items tests
+pub item_tested : (x y : item.Item) → (item_impl.ghosts).eq x y ≡ item_eq x y
+item_tested (Shape c l r) (Shape d m s) = λ i. cell_tested c d i && (names_eq l m && rings_eq r s)
+item_tested (Shape c l r) (Placed d t v) = refl
+item_tested (Placed c t v) (Shape d m s) = refl
+item_tested (Placed c t v) (Placed d u w) = λ i. cell_tested c d i && (t == u && turn_eq v w)
+
+-- what is picked from those that pass one test, and of which those that pass another are made again
+module _ {X Y : Type 0} (p q : X → Bool) (pick : X → Option Y) (again : Y → X)
+    (fit : (x : X) → cond (p x) (Some x) None ≡ option_map again (cond (q x) (pick x) None)) where
+  remade : (xs : List X) → filter p xs ≡ map again (filter_map pick (filter q xs))
+  remade [] = refl
+  remade (x ∷ xs) = by_test (p x) (q x) (pick x) refl (fit x) (remade xs) where
+    by_test : (a b : Bool) (o : Option Y) → pick x ≡ o → cond a (Some x) None ≡ option_map again (cond b o None) →
+        filter p xs ≡ map again (filter_map pick (filter q xs)) →
+        cond a (x ∷ filter p xs) (filter p xs) ≡ map again (filter_map pick (cond b (x ∷ filter q xs) (filter q xs)))
+    by_test true true (Some y) is same rest =
+        let here : x ≡ again y = cc in
+        (λ i. here i ∷ rest i) ∙ sym (ap (λ o. map again (cons_option o (filter_map pick (filter q xs)))) is)
+    by_test true true None is same rest = absurd cc
+    by_test true false o is same rest = absurd cc
+    by_test false true (Some y) is same rest = absurd cc
+    by_test false true None is same rest = rest ∙ sym (ap (λ o. map again (cons_option o (filter_map pick (filter q xs)))) is)
+    by_test false false o is same rest = rest
+
+  module _ (E : X → X → Bool) (F : Y → Y → Bool) (same : (y z : Y) → E (again y) (again z) ≡ F y z) where
+    same_again : (ys zs : List Y) → pointwise F ys zs ≡ pointwise E (map again ys) (map again zs)
+    same_again [] [] = refl
+    same_again [] (z ∷ zs) = refl
+    same_again (y ∷ ys) [] = refl
+    same_again (y ∷ ys) (z ∷ zs) = λ i. sym (same y z) i && same_again ys zs i
+
+    -- decides as these do
+    picked_decide : (xs ys : List X) →
+        pointwise F (filter_map pick (filter q xs)) (filter_map pick (filter q ys)) ≡ pointwise E (filter p xs) (filter p ys)
+    picked_decide xs ys =
+        same_again (filter_map pick (filter q xs)) (filter_map pick (filter q ys))
+        ∙ (λ i. pointwise E (sym (remade xs) i) (sym (remade ys) i))
+
+-- nothing is made of nothing
+nothing_again : {X Y : Type 0} (again : Y → X) (b : Bool) → None ≡ option_map again (cond b None None)
+nothing_again again true = refl
+nothing_again again false = refl
+
+cell_turned : (c d : CellId) → cell_eq c d ≡ cell_eq d c
+cell_turned = (decided cell_eq cell_eq-Decides).symm
+
+and_regroup : (a b c : Bool) → (a && (b && c)) ≡ ((a && b) && c)
+and_regroup true b c = refl
+and_regroup false b c = refl
+
+-- the same rings under the same id
+abbrev pub shape_eq : LentShape → LentShape → Bool
+shape_eq a b = id_eq a.0 b.0 && rings_eq a.1 b.1
+
+module _ (c : CellId) (x : List ℕ) where
+  abbrev shape_again : LentShape → ItemId × item.Item
+  shape_again s = (s.0, Shape c x s.1)
+
+  shape_fits : (id : ItemId) (v : item.Item) → cond (lies (Layer c x) id v) (Some (id, v)) None
+      ≡ option_map shape_again (cond (cell_eq (cell_of v) c) (shape_on x id v) None)
+  shape_fits id (Placed cell target turn) = nothing_again shape_again (cell_eq cell c)
+  shape_fits id (Shape cell name rings) =
+      by_tests (cell_eq c cell) (names_eq x name) refl refl
+      ∙ ap₂ (λ a b. option_map shape_again (cond a (cond b (Some (id, rings)) None) None)) (cell_turned c cell)
+      (names_eq_equiv.symm x name) where
+        by_tests : (a b : Bool) → cell_eq c cell ≡ a → names_eq x name ≡ b →
+            cond (a && b) (Some (id, Shape cell name rings)) None ≡ option_map shape_again (cond a (cond b (Some (id, rings)) None) None)
+        by_tests true true here on =
+            let own : cell ≡ c = sym ((cell_eq-Decides c cell).0 here) in
+            let layer : name ≡ x = sym ((bytes_eq-Decides x name).0 on) in
+            λ i. Some (id, Shape (own i) (layer i) rings)
+        by_tests true false here on = refl
+        by_tests false b here on = refl
+
+  same_shape : (s t : LentShape) → entry_eq (shape_again s) (shape_again t) ≡ shape_eq s t
+  same_shape s t =
+      λ i. id_eq s.0 t.0 && ((cell_eq-Decides c c).1 refl i && ((bytes_eq-Decides x x).1 refl i && rings_eq s.1 t.1))
+
+  -- the shapes that are lent decide
+  pub same_layer : (l m : Layout) → pointwise shape_eq (shapes_in l c x) (shapes_in m c x) ≡ same_lying (Layer c x) l m
+  unfolding items_in shapes_in
+  same_layer l m =
+      picked_decide (λ e. lies (Layer c x) e.0 e.1) (λ e. cell_eq (cell_of e.1) c) (λ e. shape_on x e.0 e.1) shape_again
+      (λ e. shape_fits e.0 e.1) entry_eq shape_eq same_shape (entries l.items) (entries m.items)
+
+-- the same target and turn under the same id
+abbrev pub call_eq : LentCall → LentCall → Bool
+call_eq a b = (id_eq a.0 b.0 && a.1 == b.1) && turn_eq a.2 b.2
+
+module _ (c : CellId) where
+  abbrev call_again : LentCall → ItemId × item.Item
+  call_again k = (k.0, Placed c k.1 k.2)
+
+  call_fits : (id : ItemId) (v : item.Item) → cond (lies (Calls c) id v) (Some (id, v)) None
+      ≡ option_map call_again (cond (cell_eq (cell_of v) c) (call_lent id v) None)
+  call_fits id (Shape cell name rings) = nothing_again call_again (cell_eq cell c)
+  call_fits id (Placed cell target turn) =
+      by_cell (cell_eq c cell) refl ∙ ap (λ b. option_map call_again (cond b (Some (id, target, turn)) None)) (cell_turned c cell) where
+        by_cell : (b : Bool) → cell_eq c cell ≡ b →
+            cond b (Some (id, Placed cell target turn)) None ≡ option_map call_again (cond b (Some (id, target, turn)) None)
+        by_cell true here = λ i. Some (id, Placed (sym ((cell_eq-Decides c cell).0 here) i) target turn)
+        by_cell false here = refl
+
+  same_call : (k n : LentCall) → entry_eq (call_again k) (call_again n) ≡ call_eq k n
+  same_call k n =
+      (λ i. id_eq k.0 n.0 && ((cell_eq-Decides c c).1 refl i && (k.1 == n.1 && turn_eq k.2 n.2)))
+      ∙ and_regroup (id_eq k.0 n.0) (k.1 == n.1) (turn_eq k.2 n.2)
+
+  -- the calls that are lent decide
+  pub same_calls : (l m : Layout) → pointwise call_eq (calls_in l c) (calls_in m c) ≡ same_lying (Calls c) l m
+  unfolding items_in calls_in
+  same_calls l m =
+      picked_decide (λ e. lies (Calls c) e.0 e.1) (λ e. cell_eq (cell_of e.1) c) (λ e. call_lent e.0 e.1) call_again
+      (λ e. call_fits e.0 e.1) entry_eq call_eq same_call (entries l.items) (entries m.items)
+
+-- the items of the symbol are its content
+content : (n : ℕ) (l : Layout) → items_in l (Symbol n) ≡ lying (Content n) (entries l.items)
 unfolding items_in
-in_cell e cell l inside =
-    filter_twice (λ entry. lies e entry.0 entry.1) (λ entry. cell_eq (cell_of entry.1) cell) (λ entry h. inside entry.0 entry.1 h)
-    (entries l.items)
+content n l = λ i. filter (λ e. cell_turned (cell_of e.1) (Symbol n) i) (entries l.items)
 
-turned : (c d : CellId) → cell_eq c d ≡ true → cell_eq d c ≡ true
-turned c d h = (cell_eq-Decides d c).1 (sym ((cell_eq-Decides c d).0 h))
-
-pub layer_inside : (c : CellId) (x : List ℕ) (id : ItemId) (v : item.Item) → lies (Layer c x) id v ≡ true → cell_eq (cell_of v) c ≡ true
-layer_inside c x id (Shape cell layer rings) h = turned c cell (and_parts (cell_eq c cell) _ h).0
-layer_inside c x id (Placed cell target turn) h = absurd cc
-
-pub calls_inside : (c : CellId) (id : ItemId) (v : item.Item) → lies (Calls c) id v ≡ true → cell_eq (cell_of v) c ≡ true
-calls_inside c id (Shape cell layer rings) h = absurd cc
-calls_inside c id (Placed cell target turn) h = turned c cell h
-
-pub content_inside : (n : ℕ) (id : ItemId) (v : item.Item) → lies (Content n) id v ≡ true → cell_eq (cell_of v) (Symbol n) ≡ true
-content_inside n id v h = turned (Symbol n) (cell_of v) h
-
--- the items of a cell decide, where all that lies in the element stands there
-same_standing : (e : Element) (cell : CellId) (l m : Layout) (ls ms : List (ItemId × item.Item)) →
-    ((id : ItemId) (v : item.Item) → lies e id v ≡ true → cell_eq (cell_of v) cell ≡ true) →
-    ls ≡ items_in l cell → ms ≡ items_in m cell → pointwise entry_eq (lying e ls) (lying e ms) ≡ same_lying e l m
-same_standing e cell l m ls ms inside here there = λ i.
-    pointwise entry_eq ((ap (lying e) here ∙ in_cell e cell l inside) i) ((ap (lying e) there ∙ in_cell e cell m inside) i)
-
-pub same_layer : (e : Element) (c : CellId) (x : List ℕ) (l m : Layout) (ls ms : List (ItemId × item.Item)) → e ≡ Layer c x →
-    ls ≡ items_in l c → ms ≡ items_in m c → pointwise entry_eq (lying e ls) (lying e ms) ≡ same_in l m e
-same_layer e c x l m ls ms kind here there =
-    subst (λ (f : Element). pointwise entry_eq (lying f ls) (lying f ms) ≡ same_in l m f) (sym kind)
-    (same_standing (Layer c x) c l m ls ms (layer_inside c x) here there)
-
-pub same_calls : (e : Element) (c : CellId) (l m : Layout) (ls ms : List (ItemId × item.Item)) → e ≡ Calls c → ls ≡ items_in l c →
-    ms ≡ items_in m c → pointwise entry_eq (lying e ls) (lying e ms) ≡ same_in l m e
-same_calls e c l m ls ms kind here there =
-    subst (λ (f : Element). pointwise entry_eq (lying f ls) (lying f ms) ≡ same_in l m f) (sym kind)
-    (same_standing (Calls c) c l m ls ms (calls_inside c) here there)
-
-pub same_content : (e : Element) (n : ℕ) (l m : Layout) (ls ms : List (ItemId × item.Item)) → e ≡ Content n →
-    ls ≡ items_in l (Symbol n) → ms ≡ items_in m (Symbol n) → pointwise entry_eq (lying e ls) (lying e ms) ≡ same_in l m e
-same_content e n l m ls ms kind here there =
-    subst (λ (f : Element). pointwise entry_eq (lying f ls) (lying f ms) ≡ same_in l m f) (sym kind)
-    (same_standing (Content n) (Symbol n) l m ls ms (content_inside n) here there)
+pub same_content : (n : ℕ) (l m : Layout) →
+    pointwise entry_eq (items_in l (Symbol n)) (items_in m (Symbol n)) ≡ same_lying (Content n) l m
+same_content n l m = λ i. pointwise entry_eq (content n l i) (content n m i)

@@ -1,6 +1,7 @@
 pub mod AnyLemmas
 pub mod ChangeLemmas
 pub mod CompareLemmas
+pub mod EqLemmas
 pub mod HomeLemmas
 pub mod SetLemmas
 pub mod TouchLemmas

@@ -16,7 +16,6 @@
 mod change;
 mod elements;
 mod footprint;
-mod lying;
 mod met;
 mod records;
 mod same;
