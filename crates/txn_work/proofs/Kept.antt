@@ -1,6 +1,6 @@
 -- What a work keeps, and what follows.
 use Rattle.std.proofs.Common.{◌≡◌, ◌≤◌, ◌+◌, ℕ, true, false, [], ◌∷◌, ◌++◌, length, Some}
-use Rattle.std.proofs.Common.{Err, Ok, refl, ap, sym, subst, ◌∙◌, arith, length-append}
+use Rattle.std.proofs.Common.{Err, Ok, Result, inl, inr, refl, ap, sym, subst, ◌∙◌, arith, length-append}
 use Rattle.std.specs.Prelude.{IfSome, Option, None, nat_lt, unwrap_or}
 use Rattle.std.proofs.lemmas.Bool.Decides.{nat_tests}
 use Rattle.lay_layouts.specs.Layout.{Layout}
@@ -11,9 +11,11 @@ use Rattle.txn_commands.specs.declared.command.TxnId.{TxnId}
 use Rattle.txn_commands.specs.Acts.{Act}
 use Rattle.txn_commands.specs.Effects.{Run, after_each, begun, effect, is_too_much, next_id, perform}
 use Rattle.txn_commands.specs.declared.fault.CmdFault.{CmdFault}
-use Rattle.txn_commands.specs.declared.fault.CmdFault.TheVariants.{TxnFull}
+use Rattle.txn_commands.specs.declared.command.Done.{Done}
+use Rattle.txn_commands.specs.declared.fault.CmdFault.TheVariants.{NoMemory, TxnFull}
 use Rattle.txn_commands.specs.Elements.{with_elements}
 use Rattle.txn_commands.specs.Writing.{rewritten}
+use Rattle.lay_point.specs.Memory.{IsAnswer}
 use Rattle.std.proofs.lemmas.Bool.{or_parts}
 use Rattle.txn_commands.specs.Plans.{plan}
 use Rattle.txn_commands.specs.Records.{applied, records_between}
@@ -175,3 +177,17 @@ pub too_much_so : (txn : Transaction) (c : Command) (act : Act)
     is_too_much (run_so_far txn) act ≡ true → answer_to txn c ≡ Err TxnFull
 unfolding effect
 too_much_so txn c act planned full = rw (planned, full) refl
+
+-- a refusal is that of the command, or memory was short
+pub refusal_is : (txn : Transaction) (c : Command) (fault : CmdFault) (result : Result Act CmdFault) → result ≡ Err fault →
+    IsAnswer NoMemory result (plan (next_id txn.id (run_so_far txn)) c (run_so_far txn).layout) →
+    IsAnswer {T = Done} NoMemory (Err fault) (answer_to txn c)
+refusal_is txn c fault result is (inl short) = let same : fault ≡ NoMemory = cc in inl (ap Err same)
+refusal_is txn c fault result is (inr planned) = inr (sym (refused_so txn c fault (sym planned ∙ is)))
+
+-- and so is one for want of room
+pub full_is : (txn : Transaction) (c : Command) (act : Act) (result : Result Act CmdFault) → result ≡ Ok act →
+    IsAnswer NoMemory result (plan (next_id txn.id (run_so_far txn)) c (run_so_far txn).layout) → is_too_much (run_so_far txn) act ≡ true →
+    IsAnswer {T = Done} NoMemory (Err TxnFull) (answer_to txn c)
+full_is txn c act result is (inl short) full = let no : Ok act ≡ Err NoMemory = sym is ∙ short in absurd cc
+full_is txn c act result is (inr planned) full = inr (sym (too_much_so txn c act (sym planned ∙ is) full))

@@ -1,12 +1,12 @@
 -- What contracts see of a work, and what it keeps.
-use Rattle.std.specs.Prelude.{◌≡◌, ◌≤◌, ℕ, length, IfSome, Some}
+use Rattle.std.specs.Prelude.{◌≡◌, ◌≤◌, ℕ, length, Err, IfSome, Some}
 use Rattle.lay_layouts.specs.Sound.{IsSound}
 use Rattle.txn_commands.specs.declared.command.TheConstants.{MAX_COMMANDS}
 use Rattle.txn_commands.specs.Effects.{Run, after_each, begun}
 use Rattle.txn_commands.specs.Records.{records_between}
 use Rattle.txn_commands.specs.Transactions.{Transaction}
 use Rattle.txn_work.specs.declared.work.Work.TheInside.{Inside}
-use Rattle.txn_work.specs.Answers.{run_so_far}
+use Rattle.txn_work.specs.Answers.{answer_to, run_so_far}
 
 -- a work as its transaction
 abbrev pub transaction_of : Inside → Transaction
@@ -30,7 +30,8 @@ pub record MatchesItsRun (txn : Transaction) (made : ℕ) : Type 0 where
   pub few : made ≤ MAX_COMMANDS
   pub answered : length run.dones ≡ length txn.commands
 
--- and the layout that it keeps, if it does, is what they make of its snapshot
+-- and the layout that it keeps, if it does, is what they make of its snapshot; and the command that was refused is so still
 pub record IsWork (w : Inside) : Type 0 where
   pub kept : MatchesItsRun (transaction_of w) w.made
   pub whole : IfSome w.whole (λ l. l ≡ (run_so_far (transaction_of w)).layout)
+  pub refused : IfSome w.refused (λ r. answer_to (transaction_of w) r.0 ≡ Err r.1)

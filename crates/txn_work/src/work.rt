@@ -1,5 +1,5 @@
 //! Transactions at work on a snapshot.
-ghost use Rattle.std.specs.Prelude.{◌≡◌, ◌+◌, ◌≤◌, [], IfOk, IfSome, OnErr, OnOk, Ok, false, option_copied};
+ghost use Rattle.std.specs.Prelude.{◌≡◌, ◌+◌, ◌≤◌, [], Err, IfErr, IfOk, IfSome, OnErr, OnOk, Ok, false, option_copied};
 ghost use Rattle.lay_point.specs.Memory.{IsAnswer};
 ghost use Rattle.lay_layouts.specs.Layout.{item_at};
 ghost use Rattle.lay_layouts.specs.Sound.{IsSound};
@@ -34,6 +34,9 @@ pub struct Work {
     made: u32,
     writes: Writes,
     footprint: Footprint,
+    /// The last command that was refused after much of the layout was gone over, and the refusal. It would be
+    /// refused so again, until another is accepted.
+    refused: Option<(Command, CmdFault)>,
 }
 
 impl Model for Work {
@@ -74,6 +77,7 @@ impl Work {
             made: 0,
             writes: Writes::new(alloc),
             footprint: Footprint::new(alloc),
+            refused: None,
         }
     }
 
@@ -148,7 +152,9 @@ impl Work {
     ///
     /// # Cost
     ///
-    /// That of its plan, and of `Version::with` once a command needed the whole layout.
+    /// That of its plan, and of `Version::with` once a command needed the whole layout. A call, an operation or
+    /// the removal of a symbol that is refused, and asked again before another command is accepted, is refused
+    /// at once.
     pub fn run(
         &mut self,
         rt: &(impl Threads + Sync),
@@ -160,12 +166,58 @@ impl Work {
         ensures ok { OnOk result (self.new ≡ after_command self.old command) }
         ensures err { OnErr result (self.new ≡ self.old) }
     {
-        self.keep_whole(alloc, &command)?;
-        let act = plan(rt, alloc, bands, &self.seen(), self.next_id(), &command)?;
+        if let Some(fault) = self.known_refusal(&command) {
+            return Err(fault);
+        }
+        match self.planned(rt, alloc, &command, bands) {
+            Ok(act) => Ok(self.perform(alloc, act, command)?),
+            Err(fault) => {
+                self.keep_refusal(command, fault);
+                Err(fault)
+            }
+        }
+    }
+
+    /// Returns how the command is refused, where that is known.
+    fn known_refusal(&self, command: &Command) -> Option<CmdFault>
+        ensures { IfSome result (λ fault. answer_to self.now command.now ≡ Err fault) }
+    {
+        match &self.refused {
+            Some((refused, fault)) if refused == command => Some(*fault),
+            _ => None,
+        }
+    }
+
+    /// Keeps how a command was refused, where much of the layout was gone over.
+    fn keep_refusal(&mut self, command: Command, fault: CmdFault)
+        requires { IsAnswer CmdFault.NoMemory (Err fault) (answer_to self.old command) }
+        ensures { self.new ≡ self.old }
+    {
+        if needs_whole(&command) && fault != CmdFault::NoMemory {
+            self.refused = Some((command, fault));
+        }
+    }
+
+    /// Plans a command, or returns its refusal. `TxnFull` comes after those of the plan.
+    fn planned(
+        &mut self,
+        rt: &(impl Threads + Sync),
+        alloc: Global,
+        command: &Command,
+        bands: &impl Bands,
+    ) -> Result<Act, CmdFault>
+        ensures same { self.new ≡ self.old }
+        ensures planned { IfOk result (λ act. plan (next_id self.old.id (run_so_far self.old)) command.now
+            (run_so_far self.old).layout ≡ Ok act) }
+        ensures room { IfOk result (λ act. is_too_much (run_so_far self.old) act ≡ false) }
+        ensures err { IfErr result (λ fault. IsAnswer CmdFault.NoMemory (Err fault) (answer_to self.old command.now)) }
+    {
+        self.keep_whole(alloc, command)?;
+        let act = plan(rt, alloc, bands, &self.seen(), self.next_id(), command)?;
         if self.has_no_room_for(&act) {
             return Err(CmdFault::TxnFull);
         }
-        Ok(self.perform(alloc, act, command)?)
+        Ok(act)
     }
 
     /// Returns the layout as the transaction sees it.
@@ -247,6 +299,7 @@ impl Work {
         )?;
         self.made = more;
         self.whole = whole;
+        self.refused = None;
         self.commands.push(command).unwrap();
         Ok(done)
     }

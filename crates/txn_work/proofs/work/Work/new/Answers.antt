@@ -6,6 +6,7 @@ pub invariant_of-result : goal.invariant_of-result
 invariant_of-result c = record {
   kept = new_kept _ (search rules) (search rules) (search rules) (search rules);
   whole = tt;
+  refused = tt;
 }
 
 pub returns-clause-transaction : goal.returns-clause-transaction

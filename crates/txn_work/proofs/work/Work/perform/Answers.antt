@@ -58,6 +58,7 @@ invariant_of-self-2 c =
       whole = same_whole c.whole_after-whole.result layout
           (subst (λ (t : Transaction). IfSome c.whole_after-whole.result
           (λ l. l ≡ rewritten (run_so_far t).layout act.items act.symbols)) (sym same) c.whole_after-whole.ensures);
+      refused = tt;
     }
 
 pub returns-clause-ok : goal.returns-clause-ok
