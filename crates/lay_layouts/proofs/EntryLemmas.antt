@@ -45,10 +45,10 @@ module _ {K X : Type 0} {R : K → K → Ordering} (total : IsTotalOrder R) (exa
 -- ---- symbols
 
 -- the number of a symbol under the standing of its slot
-record IsStanding (symbols : FinMap nat_cmp CellSlot) (k : Standing × ℕ) : Type 0 where
-  slot : CellSlot
-  at : get symbols k.1 ≡ Some slot
-  under : k.0 ≡ (rank slot, k.1)
+pub record IsStanding (symbols : FinMap nat_cmp CellSlot) (k : Standing × ℕ) : Type 0 where
+  pub slot : CellSlot
+  pub at : get symbols k.1 ≡ Some slot
+  pub under : k.0 ≡ (rank slot, k.1)
 
 ranked : (symbols : FinMap nat_cmp CellSlot) (k : Standing × ℕ) (o : Option CellSlot) → get symbols k.0.1 ≡ o
     → of_rank k.0.0 k.0.1 o ≡ Some k.1
@@ -75,17 +75,17 @@ standing_at symbols r n =
     ∙ ap (of_rank r n) (sym (get-entries symbols n))
 
 module _ (symbols : FinMap nat_cmp CellSlot) where
-  standings : List (Standing × ℕ)
+  unfoldable pub standings : List (Standing × ℕ)
   standings = entries (by_standing (entries symbols))
 
-  all_standing : All (IsStanding symbols) standings
+  pub all_standing : All (IsStanding symbols) standings
   unfolding standings
   all_standing =
       All-weaker (λ k. get (by_standing (entries symbols)) k.0 ≡ Some k.1) (IsStanding symbols)
       (λ k at. ranked symbols k (get symbols k.0.1) refl (sym (standing_at symbols k.0.0 k.0.1) ∙ at)) standings
       (entries-found standings_total standings_exact (by_standing (entries symbols)))
 
-  order_is : in_slot_order symbols ≡ map (λ e. e.1) standings
+  pub order_is : in_slot_order symbols ≡ map (λ e. e.1) standings
   unfolding in_slot_order standings
   order_is = refl
 
@@ -110,17 +110,20 @@ module _ (symbols : FinMap nat_cmp CellSlot) where
         ap (λ b. b || list_any (nat_eq n) (map (λ e. e.1) es)) ((Decides-eqb n e.1).1 same)
     by false at rest = or_right (nat_eq n e.1) (list_any (nat_eq n) (map (λ e. e.1) es)) (rest at)
 
-  -- each symbol's number is in slot order
-  pub symbols-ordered : (n : ℕ) (slot : CellSlot) → get symbols n ≡ Some slot → has_symbol (in_slot_order symbols) n ≡ true
+  -- each symbol is found under its standing
+  pub found_standing : (n : ℕ) (slot : CellSlot) → get symbols n ≡ Some slot → find standing_cmp (rank slot, n) standings ≡ Some n
   unfolding standings
-  symbols-ordered n slot at =
+  found_standing n slot at =
       let same : is_eq (ordering_then (nat_cmp (rank slot).0 (rank slot).0) (nat_cmp (rank slot).1 (rank slot).1)) ≡ true =
       is_eq-then (nat_cmp (rank slot).0 (rank slot).0) (nat_cmp (rank slot).1 (rank slot).1)
       ∙ rw ((eq_by_cmp_equiv nat_cmp_total).refl (rank slot).0, (eq_by_cmp_equiv nat_cmp_total).refl (rank slot).1) refl in
-      let there : get (by_standing (entries symbols)) (rank slot, n) ≡ Some n =
-      standing_at symbols (rank slot) n ∙ ap (of_rank (rank slot) n) at ∙ ap (λ b. cond b (Some n) None) same in
-      subst (λ (ns : List ℕ). has_symbol ns n ≡ true) (sym order_is)
-      (found_value (rank slot, n) n standings (sym (get-entries (by_standing (entries symbols)) (rank slot, n)) ∙ there))
+      sym (get-entries (by_standing (entries symbols)) (rank slot, n))
+      ∙ standing_at symbols (rank slot) n ∙ ap (of_rank (rank slot) n) at ∙ ap (λ b. cond b (Some n) None) same
+
+  -- each symbol's number is in slot order
+  pub symbols-ordered : (n : ℕ) (slot : CellSlot) → get symbols n ≡ Some slot → has_symbol (in_slot_order symbols) n ≡ true
+  symbols-ordered n slot at =
+      subst (λ (ns : List ℕ). has_symbol ns n ≡ true) (sym order_is) (found_value (rank slot, n) n standings (found_standing n slot at))
 
   -- numbers under different standings differ
   apart : (k : Standing × ℕ) (es : List (Standing × ℕ)) → find standing_cmp k.0 es ≡ None → IsStanding symbols k

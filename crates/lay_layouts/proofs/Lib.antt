@@ -3,6 +3,7 @@ pub mod CallLemmas
 pub mod DistinctLemmas
 pub mod EntryLemmas
 pub mod LatestLemmas
+pub mod MadeLemmas
 pub mod MapLemmas
 pub mod PutLemmas
 pub mod SameLemmas

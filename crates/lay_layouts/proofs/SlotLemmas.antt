@@ -94,7 +94,7 @@ sorted-distinct R (e ∷ es) h =
     (find-below R e.0 es both.0, sorted-distinct R es both.1)
 
 -- symbols by their standings, from their list or from the map of it
-by_standing-entries : (es : List (ℕ × CellSlot)) → AreDistinct nat_cmp es → by_standing (entries (symbols_of es)) ≡ by_standing es
+pub by_standing-entries : (es : List (ℕ × CellSlot)) → AreDistinct nat_cmp es → by_standing (entries (symbols_of es)) ≡ by_standing es
 by_standing-entries es h =
     let m : FinMap nat_cmp CellSlot = symbols_of es in
     same_map standings_total standings_exact _ _ (λ q.

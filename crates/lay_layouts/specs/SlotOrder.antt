@@ -1,6 +1,6 @@
 -- The order of a layout's symbols: those of a text in the order in which it has them, then those that
 -- transactions made, by number.
-use Rattle.std.specs.Prelude.{ℕ, List, map}
+use Rattle.std.specs.Prelude.{◌≡◌, ℕ, Bool, true, false, List, map, nat_lt, Option, None, Some}
 use Rattle.std.specs.declared.cmp.Ordering.{Ordering}
 use Rattle.std.specs.Ordering.{nat_cmp, ordering_then}
 use Rattle.std.specs.FinMap as finite
@@ -30,3 +30,18 @@ by_standing symbols = finite.from_entries (map standing_of symbols)
 -- the symbols' numbers in this order
 unfoldable pub in_slot_order : FinMap nat_cmp CellSlot → List ℕ
 in_slot_order symbols = finite.values (by_standing (finite.entries symbols))
+
+-- a symbol that was made
+abbrev pub is_made : Option CellSlot → Bool
+is_made None = false
+is_made (Some (Base place)) = false
+is_made (Some Made) = true
+
+-- the number is greater than the last, if there is one
+abbrev pub is_behind : Option ℕ → ℕ → Bool
+is_behind None number = true
+is_behind (Some last) number = nat_lt last number
+
+-- no symbol that was made is behind the last
+abbrev pub AreMadeUpTo : FinMap nat_cmp CellSlot → Option ℕ → Type 0
+AreMadeUpTo symbols last = (number : ℕ) → is_made (finite.get symbols number) ≡ true → is_behind last number ≡ false

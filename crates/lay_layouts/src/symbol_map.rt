@@ -1,10 +1,11 @@
 //! The symbols of a layout, by number and in the order of their slots.
-ghost use Rattle.std.specs.Prelude.{◌≡◌, IfOk, OnOk, is_some};
+ghost use Rattle.std.specs.Prelude.{◌≡◌, ◌&&◌, IfOk, IfSome, OnOk, is_none, is_some};
 ghost use Rattle.std.specs.FinMap as finite;
 ghost use Rattle.lay_layouts.specs.Layout.{put, put_all, symbols_of};
 ghost use Rattle.lay_layouts.specs.LayoutWith.{placed_from};
 ghost use Rattle.lay_layouts.specs.Same.{symbols_eq};
-ghost use Rattle.lay_layouts.specs.SlotOrder.{by_standing, in_slot_order, rank, standing_cmp};
+ghost use Rattle.lay_layouts.specs.SlotOrder.{AreMadeUpTo, by_standing, in_slot_order, is_behind, is_made};
+ghost use Rattle.lay_layouts.specs.SlotOrder.{rank, standing_cmp};
 
 use crate::parts::base_symbols;
 use crate::slot::CellSlot;
@@ -111,7 +112,8 @@ impl SymbolMap {
     ///
     /// # Cost
     ///
-    /// A copy of all symbols, and a comparison by logarithm for each write.
+    /// A copy of all symbols, and comparisons in proportion to the logarithm of their number for each write. Where a
+    /// write is of another kind than a made symbol behind all others, also a sort of the symbols.
     pub fn with(
         &self,
         alloc: Global,
@@ -123,8 +125,57 @@ impl SymbolMap {
         for (number, slot) in writes {
             put(&mut slots, *number, *slot)?;
         }
-        let cells = in_slot_order(alloc, &slots)?;
+        let cells = match self.with_made(writes)? {
+            Some(cells) => cells,
+            None => in_slot_order(alloc, &slots)?,
+        };
         Ok(SymbolMap { slots, cells })
+    }
+
+    /// Returns the numbers in slot order after these writes, where each write puts a made symbol behind all others.
+    fn with_made(&self, writes: &[(u32, Option<CellSlot>)]) -> Result<Option<Cells>, NoMemory>
+        ensures { IfOk result (λ made. IfSome made (λ cells. cells ≡ in_slot_order (put_all self.now writes.now))) }
+    {
+        let mut cells = self.cells.clone()?;
+        let mut last = self.last_made();
+        for (number, slot) in writes {
+            if !self.is_next(last, *number, *slot) {
+                return Ok(None);
+            }
+            cells.add(*number)?;
+            last = Some(*number);
+        }
+        Ok(Some(cells))
+    }
+
+    /// Returns the number of the last symbol in slot order, where it was made: no symbol that was made has a
+    /// greater one.
+    fn last_made(&self) -> Option<u32>
+        ensures { AreMadeUpTo self.now result }
+    {
+        let position = self.cells.len().checked_sub(1)?;
+        let last = self.cells.at(position)?;
+        match self.get(last)? {
+            CellSlot::Made => Some(last),
+            CellSlot::Base(_) => None,
+        }
+    }
+
+    /// Returns whether a write puts a made symbol that is new, and greater than the last that was made.
+    fn is_next(&self, last: Option<u32>, number: u32, slot: Option<CellSlot>) -> bool
+        ensures { result ≡ (is_made slot && (is_behind last number && is_none (finite.get self.now number))) }
+    {
+        matches!(slot, Some(CellSlot::Made)) && is_behind(last, number) && !self.has(number)
+    }
+}
+
+/// Returns whether a number is greater than the last, if there is one.
+fn is_behind(last: Option<u32>, number: u32) -> bool
+    ensures { result ≡ is_behind last number }
+{
+    match last {
+        Some(last) => last < number,
+        None => true,
     }
 }
 
