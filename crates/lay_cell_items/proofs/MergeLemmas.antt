@@ -50,13 +50,14 @@ find-merged : (es : List (ItemId × Item)) (ws : List Write) (q : ItemId) → Ar
     → find id_cmp q (merged es ws) ≡ latest ws q (find id_cmp q es)
 find-merged es [] q rising = refl
 find-merged es (w ∷ ws) q rising =
-    find-both q (lower id_cmp w.0 es) (written_entries w.0 w.1 ++ merged (higher id_cmp w.0 es) ws)
-    ∙ (λ i. or_else (find-lower q w.0 es i) (find-both q (written_entries w.0 w.1) (merged (higher id_cmp w.0 es) ws) i))
-    ∙ (λ i. or_else (cond (is_lt (id_cmp q w.0)) (find id_cmp q es) None) (or_else (find-entry q w.0 w.1 i)
+    find-both id_cmp q (lower id_cmp w.0 es) (written_entries w.0 w.1 ++ merged (higher id_cmp w.0 es) ws)
+    ∙ (λ i. or_else (find-lower id_cmp ids_exact q w.0 es i)
+    (find-both id_cmp q (written_entries w.0 w.1) (merged (higher id_cmp w.0 es) ws) i))
+    ∙ (λ i. or_else (cond (is_lt (id_cmp q w.0)) (find id_cmp q es) None) (or_else (find-entry id_cmp q w.0 w.1 i)
     (find-merged (higher id_cmp w.0 es) ws q (rising_tail w ws rising) i)))
     ∙ ap (λ o. or_else (cond (is_lt (id_cmp q w.0)) (find id_cmp q es) None)
     (or_else (cond (eq_by_cmp id_cmp q w.0) w.1 None) (latest ws q o)))
-    (find-higher q w.0 es)
+    (find-higher id_cmp ids_exact q w.0 es)
     ∙ by (id_cmp q w.0) refl (find id_cmp q es) where
       turned : (o : Ordering) → id_cmp q w.0 ≡ o → id_cmp w.0 q ≡ ordering_reverse o
       turned o is = ids_total.antisymm w.0 q ∙ ap ordering_reverse is

@@ -180,8 +180,8 @@ impl Version {
     /// # Cost
     ///
     /// Where few items are written each makes a page, its book and the list of the books anew, of the items
-    /// and of where they stand; where many are, all pages are made anew in one pass. Where a symbol is
-    /// written all of them are copied.
+    /// and of where they stand; where many are, all pages are made anew in one pass. Where symbols are
+    /// written, each makes a page of theirs anew, and the list of their numbers is copied.
     pub fn with(
         &self,
         alloc: Global,

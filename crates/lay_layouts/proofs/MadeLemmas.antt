@@ -99,14 +99,15 @@ further : (last : Option ℕ) (m n : ℕ) → is_behind last n ≡ true → n < 
 further None m n h k = refl
 further (Some last) m n h k = grind (arith, ltb-true last n h)
 
-pub grown : (old : Symbols) (left : List SymbolWrite) (whole : Symbols) (cells : List ℕ) (last : Option ℕ) (n : ℕ) (slot : Option CellSlot)
-    → IsGrown old ((n, slot) ∷ left) whole cells last → (is_made slot && (is_behind last n && is_none (get old n))) ≡ true
+pub grown : (old : Symbols) (left : List SymbolWrite) (whole : Symbols) (cells : List ℕ) (last : Option ℕ) (n : ℕ)
+    (slot : Option CellSlot) → IsGrown old ((n, slot) ∷ left) whole cells last
+    → (is_made slot && (is_behind last n && is_none (get old n))) ≡ true
     → IsGrown old left whole (with_symbol cells n) (Some n)
 grown old left whole cells last n None g test = absurd cc
 grown old left whole cells last n (Some (Base place)) g test = absurd cc
 grown old left whole cells last n (Some Made) g test = record {
   now = insert g.now n Made;
-  ordered = with_symbol-new cells n [] (subst (λ (ns : List ℕ). IsDistinct nat_eq ns) (sym order) (in_slot_order-distinct (insert g.now n Made))) ∙ order;
+  ordered = with_symbol-new cells n [] distinct ∙ order;
   made = λ m is. made m is (eq_by_cmp nat_cmp m n) refl;
   new = λ m behind none. get-insert nat_cmp_total g.now n Made m ∙ other m (ltb-true n m behind) none (eq_by_cmp nat_cmp m n) refl;
   rest = g.rest;
@@ -121,6 +122,9 @@ grown old left whole cells last n (Some Made) g test = record {
   order =
       ap (λ (ns : List ℕ). ns ++ n ∷ []) g.ordered
       ∙ sym (made_behind g.now n below (g.new n parts.0 (nothing (get old n) parts.1)))
+
+  distinct : IsDistinct nat_eq (cells ++ n ∷ [])
+  distinct = subst (λ (ns : List ℕ). IsDistinct nat_eq ns) (sym order) (in_slot_order-distinct (insert g.now n Made))
 
   same : (m : ℕ) → eq_by_cmp nat_cmp m n ≡ true → m ≡ n
   same m is = exact_unsigned m n ((Equal-is (nat_cmp m n)).0 is)

@@ -8,15 +8,22 @@ ghost use Rattle.lay_layouts.specs.LayoutWith.{placed_from};
 
 use crate::slot::CellSlot;
 use lay_calls::Cells;
+use lay_pages::{Pages, PagesBuilder};
 use lay_point::NoMemory;
 use std::alloc::Global;
 use std::collections::BTreeMap;
 
 /// Returns the symbols in slots of a text, in this order.
-pub(crate) fn base_symbols(
-    alloc: Global,
-    symbols: &Cells,
-) -> Result<BTreeMap<u32, CellSlot>, NoMemory>
+pub(crate) fn base_symbols(alloc: Global, symbols: &Cells) -> Result<Pages<u32, CellSlot>, NoMemory>
+    ensures map { IfOk result (λ base. symbols_of base ≡ symbols_of (placed_from 1 symbols.now)) }
+    ensures distinct { IsDistinct nat_eq symbols.now }
+{
+    let base = by_number(alloc, symbols)?;
+    paged(alloc, &base)
+}
+
+/// Returns the symbols in slots of a text as a tree.
+fn by_number(alloc: Global, symbols: &Cells) -> Result<BTreeMap<u32, CellSlot>, NoMemory>
     ensures map { IfOk result (λ base. symbols_of base.entries ≡ symbols_of (placed_from 1 symbols.now)) }
     ensures distinct { IsDistinct nat_eq symbols.now }
 {
@@ -27,6 +34,18 @@ pub(crate) fn base_symbols(
         insert_symbol(&mut base, symbols.at(position).unwrap(), place)?;
     }
     Ok(base)
+}
+
+/// Returns the pages of a tree's symbols.
+fn paged(alloc: Global, slots: &BTreeMap<u32, CellSlot>) -> Result<Pages<u32, CellSlot>, NoMemory>
+    ensures { IfOk result (λ pages. pages ≡ slots.now.entries) }
+{
+    let mut pages = PagesBuilder::new(alloc);
+    for (number, slot) in slots.iter() {
+        pages = pages.push(alloc, *number, *slot)?;
+    }
+    let pages = pages.build(alloc)?;
+    Ok(pages)
 }
 
 /// Inserts the symbol of this number with its place.

@@ -1,4 +1,6 @@
 //! A symbol's slot.
+use lay_pages::Kept;
+
 /// Where a symbol stands among the symbols of a layout.
 #[derive(Clone, Copy, Debug, PartialEq, Eq)]
 pub enum CellSlot {
@@ -6,4 +8,8 @@ pub enum CellSlot {
     Base(u32),
     /// A transaction made it.
     Made,
+}
+
+impl Kept for CellSlot {
+    ghost same = { λ value copy is. is };
 }

@@ -1,7 +1,7 @@
 //! The symbols of a layout, by number and in the order of their slots.
 ghost use Rattle.std.specs.Prelude.{◌≡◌, ◌&&◌, IfOk, IfSome, OnOk, is_none, is_some};
 ghost use Rattle.std.specs.FinMap as finite;
-ghost use Rattle.lay_layouts.specs.Layout.{put, put_all, symbols_of};
+ghost use Rattle.lay_layouts.specs.Layout.{put_all, symbols_of};
 ghost use Rattle.lay_layouts.specs.LayoutWith.{placed_from};
 ghost use Rattle.lay_layouts.specs.Same.{symbols_eq};
 ghost use Rattle.lay_layouts.specs.SlotOrder.{AreMadeUpTo, by_standing, in_slot_order, is_behind, is_made};
@@ -9,8 +9,9 @@ ghost use Rattle.lay_layouts.specs.SlotOrder.{rank, standing_cmp};
 
 use crate::parts::base_symbols;
 use crate::slot::CellSlot;
-use crate::trees::are_same;
+use crate::trees::are_same_pages;
 use lay_calls::Cells;
+use lay_pages::Pages;
 use lay_point::NoMemory;
 use std::alloc::Global;
 use std::collections::BTreeMap;
@@ -19,7 +20,7 @@ use std::marker::Model;
 /// The symbols of a layout. Contracts see the finite map from numbers to slots.
 #[derive(Drop)]
 pub struct SymbolMap {
-    slots: BTreeMap<u32, CellSlot>,
+    slots: Pages<u32, CellSlot>,
     /// Their numbers in the order of their slots.
     cells: Cells,
 }
@@ -39,9 +40,9 @@ impl Model for SymbolMap {
 
     ghost coded = { finite.code coded_ℕ slot.the_row.coded };
 
-    ghost view = { λ s. symbols_of s.slots.entries };
+    ghost view = { λ s. symbols_of s.slots };
 
-    ghost invariant = { λ s. s.cells ≡ in_slot_order (symbols_of s.slots.entries) };
+    ghost invariant = { λ s. s.cells ≡ in_slot_order (symbols_of s.slots) };
 }
 
 impl SymbolMap {
@@ -50,7 +51,7 @@ impl SymbolMap {
         ensures { result ≡ finite.empty }
     {
         SymbolMap {
-            slots: BTreeMap::new(alloc),
+            slots: Pages::new(alloc),
             cells: Cells::new(alloc),
         }
     }
@@ -76,7 +77,7 @@ impl SymbolMap {
     pub fn get(&self, number: u32) -> Option<CellSlot>
         ensures { result ≡ finite.get self.now number }
     {
-        self.slots.get(&number).copied()
+        self.slots.get(number).copied()
     }
 
     /// Returns whether there is a symbol of this number.
@@ -87,7 +88,7 @@ impl SymbolMap {
     pub fn has(&self, number: u32) -> bool
         ensures { result ≡ is_some (finite.get self.now number) }
     {
-        self.slots.contains_key(&number)
+        self.get(number).is_some()
     }
 
     /// Returns the symbols' numbers in the order of their slots.
@@ -105,15 +106,15 @@ impl SymbolMap {
     pub fn is_same(&self, other: &SymbolMap) -> bool
         ensures { result ≡ symbols_eq self.now other.now }
     {
-        are_same(&self.slots, &other.slots)
+        self.slots.len() == other.slots.len() && are_same_pages(&self.slots, &other.slots)
     }
 
     /// Returns the symbols after these writes.
     ///
     /// # Cost
     ///
-    /// A copy of all symbols, and comparisons in proportion to the logarithm of their number for each write. Where a
-    /// write is of another kind than a made symbol behind all others, also a sort of the symbols.
+    /// For each write that of `Pages::with`, and a copy of the list of numbers. Where a write is of another kind
+    /// than a made symbol behind all others, that list is made anew by a sort of the symbols.
     pub fn with(
         &self,
         alloc: Global,
@@ -121,10 +122,7 @@ impl SymbolMap {
     ) -> Result<SymbolMap, NoMemory>
         ensures { IfOk result (λ new. new ≡ put_all self.now writes.now) }
     {
-        let mut slots = self.slots.clone()?;
-        for (number, slot) in writes {
-            put(&mut slots, *number, *slot)?;
-        }
+        let slots = self.slots.with_all(alloc, writes)?;
         let cells = match self.with_made(writes)? {
             Some(cells) => cells,
             None => in_slot_order(alloc, &slots)?,
@@ -179,35 +177,9 @@ fn is_behind(last: Option<u32>, number: u32) -> bool
     }
 }
 
-/// Puts the symbol of this number into the slot, or removes it.
-fn put(
-    slots: &mut BTreeMap<u32, CellSlot>,
-    number: u32,
-    slot: Option<CellSlot>,
-) -> Result<(), NoMemory>
-    ensures { OnOk result (symbols_of slots.new.entries ≡ put (symbols_of slots.old.entries) number slot) }
-{
-    match slot {
-        Some(slot) => insert(slots, number, slot),
-        None => {
-            slots.remove(&number);
-            Ok(())
-        }
-    }
-}
-
-/// Inserts the symbol of this number.
-fn insert(slots: &mut BTreeMap<u32, CellSlot>, number: u32, slot: CellSlot) -> Result<(), NoMemory>
-    ensures { OnOk result (symbols_of slots.new.entries
-        ≡ finite.insert (symbols_of slots.old.entries) number slot) }
-{
-    slots.insert(number, slot)?;
-    Ok(())
-}
-
 /// Returns the numbers of the symbols in the order of their slots.
-fn in_slot_order(alloc: Global, slots: &BTreeMap<u32, CellSlot>) -> Result<Cells, NoMemory>
-    ensures { IfOk result (λ cells. cells ≡ in_slot_order (symbols_of slots.now.entries)) }
+fn in_slot_order(alloc: Global, slots: &Pages<u32, CellSlot>) -> Result<Cells, NoMemory>
+    ensures { IfOk result (λ cells. cells ≡ in_slot_order (symbols_of slots.now)) }
 {
     let standings = by_standing(alloc, slots)?;
     let mut cells = Cells::new(alloc);
@@ -220,14 +192,14 @@ fn in_slot_order(alloc: Global, slots: &BTreeMap<u32, CellSlot>) -> Result<Cells
 /// Returns the numbers of the symbols under what they are ordered by.
 fn by_standing(
     alloc: Global,
-    slots: &BTreeMap<u32, CellSlot>,
+    slots: &Pages<u32, CellSlot>,
 ) -> Result<BTreeMap<((u8, u32), u32), u32>, NoMemory>
     ensures { IfOk result (λ standings. finite.from_entries {R = standing_cmp} standings.entries
-        ≡ by_standing (finite.entries (symbols_of slots.now.entries))) }
+        ≡ by_standing (finite.entries (symbols_of slots.now))) }
 {
     let mut standings = BTreeMap::new(alloc);
     for (number, slot) in slots.iter() {
-        stand(&mut standings, *number, *slot)?;
+        stand(&mut standings, number, *slot)?;
     }
     Ok(standings)
 }

@@ -14,11 +14,11 @@ use Rattle.lay_layouts.proofs.symbol_map.by_standing.Goals as goal
 -- none is left
 pub returns : goal.returns
 returns c =
-    let symbols = symbols_of c.args.slots.now.entries in
+    let symbols = symbols_of c.args.slots.now in
     let es = entries symbols in
-    let read : c.into_iter-number-iterator.result ≡ c.args.slots.now.entries = search rules in
+    let read : c.into_iter-number-iterator.result ≡ c.args.slots.now = search rules in
     let all : c.into_iter-number-iterator.result ≡ es =
-    read ∙ sym (entries_again nat_cmp nat_cmp_total c.args.slots.now.entries c.iter-number-items.ensures.ordered) in
+    read ∙ sym (entries_again nat_cmp nat_cmp_total c.args.slots.now c.iter-number-items.ensures.sorted) in
     let distinct : AreDistinct nat_cmp es = sorted-distinct nat_cmp es (tested _ (entries_sorted symbols)) in
     let none : c.new-standings.result.entries ≡ [] = search rules in
     sym (ap (λ (xs : List (ℕ × CellSlot)). inserted (from_entries {R = standing_cmp} c.loop-number.standings.entries) (map standing_of xs))

@@ -26,9 +26,9 @@ loop-number-preserved c =
     let cells : List ℕ = c.loop-number.cells in
     let rest : List ℕ = map (λ (e : Standing × ℕ). e.1) c.next.new.self in
     let left : c.loop-number.number-iterator ≡ (c.in-Some.field-0-0.now, c.in-Some.number.now) ∷ c.next.new.self = search rules in
-    let whole : cells ++ n ∷ rest ≡ in_slot_order (symbols_of c.args.slots.now.entries) =
+    let whole : cells ++ n ∷ rest ≡ in_slot_order (symbols_of c.args.slots.now) =
     sym (ap (λ (es : List (Standing × ℕ)). cells ++ map (λ (e : Standing × ℕ). e.1) es) left) ∙ c.loop-number.invariant in
     let distinct : IsDistinct nat_eq (cells ++ n ∷ rest) =
-    subst (λ (ns : List ℕ). IsDistinct nat_eq ns) (sym whole) (in_slot_order-distinct (symbols_of c.args.slots.now.entries)) in
+    subst (λ (ns : List ℕ). IsDistinct nat_eq ns) (sym whole) (in_slot_order-distinct (symbols_of c.args.slots.now)) in
     let added : c.add.new.self ≡ with_symbol cells n = c.in_ok-add.ensures.ok in
     ap (λ (ns : List ℕ). ns ++ rest) (added ∙ with_symbol-new cells n rest distinct) ∙ append_assoc cells (n ∷ []) rest ∙ whole

@@ -4,6 +4,7 @@ use Rattle.lay_cell_items.specs.Written.{after_write}
 use Rattle.lay_layouts.specs.declared.id.ItemId.{ItemId}
 use Rattle.lay_layouts.specs.declared.item.Item.{Item}
 use Rattle.lay_cell_items.specs.ByCell.{AreIndexedByCell, Homed, home_cmp, with_home, without_home}
+use Rattle.lay_layouts.specs.IdOrder.{ids_exact, ids_total}
 use Rattle.lay_layouts.specs.Ids.{id_cmp}
 use Rattle.lay_layouts.specs.Layout.{map_of_items, put}
 use Rattle.std.specs.List.Sorted.{IsStrictlySortedBy}
@@ -39,4 +40,4 @@ returns c =
     let id = c.args.id in
     let item = c.args.item.now in
     ap map_of_items (c.in_ok-items.ensures.entries ∙ ap (λ (o : Option Item). after_write id_cmp id o es) c.in_ok-copied.ensures)
-    ∙ put-after_write id item es ∙ ap (λ (m : FinMap id_cmp Item). put m id item) c.self.view_is
+    ∙ put-after_write ids_total ids_exact id item es ∙ ap (λ (m : FinMap id_cmp Item). put m id item) c.self.view_is

@@ -7,7 +7,7 @@ use Rattle.lay_layouts.specs.Layout.{symbols_of}
 use Rattle.lay_layouts.specs.LayoutWith.{placed_from}
 use Rattle.lay_layouts.proofs.DistinctLemmas.{inserted, inserted-empty}
 use Rattle.lay_layouts.proofs.SlotLemmas.{placed-distinct, placed_more}
-use Rattle.lay_layouts.proofs.parts.base_symbols.Goals as goal
+use Rattle.lay_layouts.proofs.parts.by_number.Goals as goal
 
 -- the symbol at this position is inserted
 pub loop-position-preserved : goal.loop-position-preserved

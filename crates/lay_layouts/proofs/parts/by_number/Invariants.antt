@@ -4,7 +4,7 @@ use Rattle.std.specs.Ordering.{nat_cmp}
 use Rattle.lay_layouts.specs.Layout.{symbols_of}
 use Rattle.lay_layouts.specs.LayoutWith.{placed_from}
 use Rattle.lay_layouts.proofs.DistinctLemmas.{inserted}
-use Rattle.lay_layouts.proofs.parts.base_symbols.Given as goal
+use Rattle.lay_layouts.proofs.parts.by_number.Given as goal
 
 -- the symbols that are left lead to the same map
 abbrev pub invariant-loop-position : goal.invariant-loop-position
