@@ -1,5 +1,5 @@
--- A tree's entries as a finite map: what it has at a key, and what an insert and a removal leave.
-use Rattle.std.proofs.Common.{◌≡◌, true, List, [], ◌∷◌, Some, None, cond, refl, ap, sym, ◌∙◌, length, arith}
+-- A tree's entries as a finite map: what it has at a key, and what an insert leaves.
+use Rattle.std.proofs.Common.{◌≡◌, true, List, [], ◌∷◌, Some, cond, refl, ap, sym, ◌∙◌, length, arith}
 use Rattle.std.specs.declared.cmp.Ordering.{Ordering}
 use Rattle.std.specs.Ordering.{eq_by_cmp, is_lt}
 use Rattle.std.specs.BTreeMap.{is_at}
@@ -12,7 +12,7 @@ use Rattle.std.specs.Map.{keys_of}
 use Rattle.std.specs.FinMap.{IsAntisymmetric, empty, entries, entries-insert, find, from_entries, get, get-from_entries, get-insert}
 use Rattle.std.specs.FinMap.Entries.{below_all}
 use Rattle.std.proofs.lemmas.Bool.{and_parts}
-use Rattle.std.specs.FinMap.{is_sorted, get-remove, insert, len-empty, len-entries, put, remove, same_map}
+use Rattle.std.specs.FinMap.{is_sorted, insert, len-empty, len-entries, put, same_map}
 
 find_lookup : {K X : Type 0} (R : K → K → Ordering) (es : List (K × X)) (q : K) → find R q es ≡ lookup (is_at (R q)) es
 find_lookup R [] q = refl
@@ -30,13 +30,6 @@ module _ {K X : Type 0} {R : K → K → Ordering} where
   one_inserted total exact es fs k v h = same_map total exact _ _ (λ q.
       get_lookup total fs q ∙ h q ∙ ap (λ b. cond b (Some v) (lookup (is_at (R q)) es)) ((eq_by_cmp_equiv total).symm k q)
       ∙ sym (get-insert total (from_entries es) k v q ∙ ap (cond (eq_by_cmp R q k) (Some v)) (get_lookup total es q)))
-
-  pub one_removed : IsTotalOrder R → IsAntisymmetric R → (es fs : List (K × X)) (k : K) →
-      ((q : K) → lookup (is_at (R q)) fs ≡ cond (is_at (R k) q) None (lookup (is_at (R q)) es))
-      → from_entries {R = R} fs ≡ remove (from_entries es) k
-  one_removed total exact es fs k h = same_map total exact _ _ (λ q.
-      get_lookup total fs q ∙ h q ∙ ap (λ b. cond b None (lookup (is_at (R q)) es)) ((eq_by_cmp_equiv total).symm k q)
-      ∙ sym (get-remove total (from_entries es) k q ∙ ap (cond (eq_by_cmp R q k) None) (get_lookup total es q)))
 
 pub no_length : {A : Type 0} (xs : List A) → length xs ≡ 0 → xs ≡ []
 no_length [] e = refl
