@@ -1,4 +1,5 @@
 pub mod Coded
+pub mod Few
 pub mod Homes
 pub mod Kept
 pub mod Met

@@ -16,7 +16,7 @@ records_in w = record { items = map record_of w.items.entries; symbols = map cel
 
 -- those of the two lists
 abbrev pub records_listed : records.Inside → Records
-records_listed r = record { items = map record_of r.items.items; symbols = map cell_record_of r.symbols.items }
+records_listed r = record { items = map record_of r.items; symbols = map cell_record_of r.symbols.items }
 
 -- where the old records are those between two layouts, and the item had this value in the first, the new ones are those
 -- between the first and the second with the item written

@@ -7,6 +7,7 @@ ghost use Rattle.txn_marks.specs.Homes.{AreMetBy};
 
 use crate::change::{CellChange, ItemChange};
 use crate::elements::{add_items, add_symbols};
+use crate::few::Few;
 use crate::footprint::Footprint;
 use crate::met::{items_touch, symbols_touch};
 use crate::values::{item_afters, item_befores, symbol_afters, symbol_befores};
@@ -19,11 +20,11 @@ use std::marker::Model;
 use txn_commands::Snapshot;
 
 /// The records of [`Writes`] that don't grow any more, in lists without room for others: most transactions
-/// write a few items, for which a node of a tree is ten times as large. Contracts see the records, in order of
-/// ids and of numbers.
+/// write a few items, for which a node of a tree is ten times as large. A sole item stands in place. Contracts
+/// see the records, in order of ids and of numbers.
 #[derive(Debug, Drop)]
 pub struct Records {
-    items: Vec<(ItemId, ItemChange)>,
+    items: Few<(ItemId, ItemChange)>,
     symbols: Vec<(u32, CellChange)>,
 }
 
@@ -48,7 +49,7 @@ impl Records {
     pub fn of(alloc: Global, writes: &Writes) -> Result<Records, NoMemory>
         ensures { IfOk result (λ records. records ≡ writes.now) }
     {
-        let items = listed_items(alloc, writes.items())?;
+        let items = Few::of(listed_items(alloc, writes.items())?);
         let symbols = listed_symbols(alloc, writes.symbols())?;
         Ok(Records { items, symbols })
     }
@@ -77,7 +78,7 @@ impl Records {
         requires sound { IsSound (applied layout.now self.now) }
         ensures { IfOk result (λ new. new ≡ applied layout.now self.now) }
     {
-        let items = item_afters(alloc, &self.items)?;
+        let items = item_afters(alloc, self.items.as_slice())?;
         let symbols = symbol_afters(alloc, &self.symbols)?;
         Snapshot::of(alloc, layout.version().with(alloc, &items, &symbols)?)
     }
@@ -92,7 +93,7 @@ impl Records {
         requires sound { IsSound (reverted layout.now self.now) }
         ensures { IfOk result (λ new. new ≡ reverted layout.now self.now) }
     {
-        let items = item_befores(alloc, &self.items)?;
+        let items = item_befores(alloc, self.items.as_slice())?;
         let symbols = symbol_befores(alloc, &self.symbols)?;
         Snapshot::of(alloc, layout.version().with(alloc, &items, &symbols)?)
     }
@@ -106,7 +107,7 @@ impl Records {
         ensures { IfOk result (λ met. AreMetBy self.now met) }
     {
         let mut met = Footprint::new(alloc);
-        add_items(&mut met, &self.items)?;
+        add_items(&mut met, self.items.as_slice())?;
         add_symbols(&mut met, &self.symbols)?;
         Ok(met)
     }
@@ -119,7 +120,7 @@ impl Records {
     pub fn touch(&self, footprint: &Footprint) -> bool
         ensures { result ≡ meets_touched self.now footprint.now }
     {
-        items_touch(&self.items, footprint) || symbols_touch(&self.symbols, footprint)
+        items_touch(self.items.as_slice(), footprint) || symbols_touch(&self.symbols, footprint)
     }
 }
 

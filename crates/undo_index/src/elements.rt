@@ -7,13 +7,14 @@ use lay_point::NoMemory;
 use std::alloc::Global;
 use std::marker::Model;
 use txn_commands::Element;
-use txn_marks::{Footprint, Records};
+use txn_marks::{Few, Footprint, Records};
 
 /// The elements of a footprint that doesn't grow any more, in a list without room for others: most transactions
-/// touch a few, for which a node of a tree is ten times as large. Contracts see the finite set of them.
+/// touch a few, for which a node of a tree is ten times as large. A sole one stands in place. Contracts see the
+/// finite set of them.
 #[derive(Debug, Drop)]
 pub struct Elements {
-    list: Vec<Element>,
+    list: Few<Element>,
 }
 
 impl Model for Elements {
@@ -24,7 +25,7 @@ impl Model for Elements {
 
     ghost coded = { coded_touched };
 
-    ghost view = { λ e. set.from_list e.list.items };
+    ghost view = { λ e. set.from_list e.list };
 }
 
 impl Elements {
@@ -41,6 +42,7 @@ impl Elements {
         for element in tree {
             list.push(*element)?;
         }
+        let list = Few::of(list);
         Ok(Elements { list })
     }
 

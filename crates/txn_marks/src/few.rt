@@ -1,0 +1,55 @@
+//! Lists that mostly have one element.
+ghost use Rattle.std.specs.Prelude.{◌≡◌};
+
+use std::marker::Model;
+
+/// A list that doesn't grow. A sole element stands in place, and takes no allocation. Contracts see the list.
+#[derive(Debug, Drop)]
+pub struct Few<T> {
+    kept: Kept<T>,
+}
+
+/// How the elements are kept.
+#[derive(Debug, Drop)]
+enum Kept<T> {
+    InPlace([T; 1]),
+    Listed(Vec<T>),
+}
+
+impl<T> Model for Few<T> {
+    ghost use Rattle.std.specs.Prelude.{List};
+    ghost use Rattle.std.specs.Coded.{coded_list};
+    ghost use Rattle.txn_marks.specs.Few.{kept_list};
+
+    ghost Value = { List T };
+
+    ghost coded = { coded_list T.code };
+
+    ghost view = { λ f. kept_list f.kept };
+}
+
+impl<T: Drop> Few<T> {
+    /// Returns the list of these elements. It doesn't allocate.
+    pub fn of(mut items: Vec<T>) -> Few<T>
+        ensures { result ≡ items.items }
+    {
+        if items.len() == 1
+            && let Some(item) = items.pop()
+        {
+            let kept = Kept::InPlace([item]);
+            return Few { kept };
+        }
+        let kept = Kept::Listed(items);
+        Few { kept }
+    }
+
+    /// Lends the elements, in order.
+    pub fn as_slice(&self) -> &[T]
+        ensures { result.now ≡ self.now }
+    {
+        match &self.kept {
+            Kept::InPlace(sole) => sole.as_slice(),
+            Kept::Listed(items) => items.as_slice(),
+        }
+    }
+}
