@@ -19,12 +19,12 @@ use Rattle.undo_book.proofs.SinceLemmas.{commit_commits_so}
 use Rattle.undo_book.proofs.book.Book.append.Goals as goal
 
 -- the transaction as it is entered
-entry : (c : goal.After-drop-met-inside-2) → c.push.new.self.items
+entry : (c : goal.Joined-met-3) → c.push.new.self.items
     ≡ c.self.inside.entries.items ++ entered (history_of c.self.inside) c.args.work ∷ []
 entry c = search rules
 
 -- what is left at the end
-left : (c : goal.After-drop-met-inside-2) → LeavesCommitted c.args.self.now (history_of (record c.self.inside {
+left : (c : goal.Joined-met-3) → LeavesCommitted c.args.self.now (history_of (record c.self.inside {
   layout = c.in-Ok.prepared.layout;
   log = c.push-2.new.self;
   entries = c.push.new.self;
@@ -45,7 +45,7 @@ left c =
     sessions
 
 -- who wrote and touched what
-indexed : (c : goal.After-drop-met-inside-2) →
+indexed : (c : goal.Joined-met-3) →
     AreIndexed c.list_at-listed.new.index.writers c.list_at-listed.new.index.readers c.push.new.self.items
 indexed c =
     let was = c.self.inside.index in

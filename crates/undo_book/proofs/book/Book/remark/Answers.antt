@@ -69,13 +69,13 @@ mark_at-requires c =
     omega (arith, less, len)
 
 -- what nothing is against
-can : (c : goal.After-drop-met-inside-2) → IsMarked c.args.live (history_of c.self.inside) c.args.self.now c.args.session c.args.txn
+can : (c : goal.Joined-met-4) → IsMarked c.args.live (history_of c.self.inside) c.args.self.now c.args.session c.args.txn
     c.args.place c.index-entry.result.now
 can c = marked_at c.args.live (history_of c.self.inside) c.args.self.now c.self.view_is c.self.invariant.history c.args.session c.args.txn
     c.args.place c.index-entry.result.now c.requires.place c.index-entry.ensures c.requires.free
 
 -- what is left at the end
-left : (c : goal.After-drop-met-inside-2) → LeavesMarked c.args.live c.args.self.now (history_of (record c.self.inside {
+left : (c : goal.Joined-met-4) → LeavesMarked c.args.live c.args.self.now (history_of (record c.self.inside {
   layout = c.in_ok-layout.layout;
   log = c.push.new.self;
   entries = c.mark_at.new.entries;
@@ -89,7 +89,7 @@ left c =
     (c.mark_at.ensures c.index-entry.result.now (can c).there)
 
 -- who wrote and touched what
-indexed : (c : goal.After-drop-met-inside-2) → AreIndexed c.relist.new.index.writers c.relist.new.index.readers c.mark_at.new.entries.items
+indexed : (c : goal.Joined-met-4) → AreIndexed c.relist.new.index.writers c.relist.new.index.readers c.mark_at.new.entries.items
 indexed c =
     let was = c.self.inside.index in
     let entry = c.index-entry.result.now in
