@@ -17,4 +17,5 @@ loop-element-init c =
 pub returns : goal.returns
 returns c =
     let list = c.loop-element.list.items in
-    ap set_of (c.of-list.ensures ∙ sym (append-nil list)) ∙ ap (λ xs. set_of (list ++ xs)) (sym c.in-None.ensures.steps.0) ∙ c.loop-element.invariant
+    ap set_of (c.of-list.ensures ∙ sym (append-nil list)) ∙ ap (λ xs. set_of (list ++ xs)) (sym c.in-None.ensures.steps.0)
+    ∙ c.loop-element.invariant
