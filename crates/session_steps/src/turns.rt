@@ -1,10 +1,10 @@
 //! Steps in turns, and replies dealt to their sessions.
-ghost use Rattle.std.specs.Prelude.{◌≡◌, ◌++◌, ◌∷◌, ◌-◌, ℕ, List, [], IfOk, MatchOption, OnOk, replicate, slice_index_or, slice_set};
+ghost use Rattle.std.specs.Prelude.{◌≡◌, ◌++◌, ◌∷◌, ◌-◌, ℕ, List, [], IfOk, MatchOption, OnOk, length, replicate, slice_index_or, slice_set, vec_len};
 ghost use Rattle.session_steps.specs.declared.Step.{Step as AnyStep};
 ghost use Rattle.session_steps.specs.Turns.{dealt, in_turn, taken, with_step};
 
 use crate::{Reply, Step};
-use lay_point::{NoMemory, Sequence};
+use lay_point::{Given, NoMemory, Sequence};
 use std::alloc::Global;
 use std::collections::VecDeque;
 use std::marker::Model;
@@ -106,11 +106,12 @@ fn take_step(left: &mut Vec<Left>, session: u8) -> Option<Step>
     left[place].next()
 }
 
-/// Returns the replies of so many sessions, dealt to them as they come in this order.
+/// Returns the replies of so many sessions, dealt to them as they come in this order. What the replies took is
+/// given back on the way.
 ///
 /// # Cost
 ///
-/// A pass over the replies.
+/// A pass over the order, and one over the replies.
 pub fn dealt(
     alloc: Global,
     sessions: u8,
@@ -119,10 +120,10 @@ pub fn dealt(
 ) -> Result<Sequence<Sequence<Reply>>, NoMemory>
     ensures { IfOk result (λ hands. hands ≡ dealt order.now replies.items (replicate sessions [])) }
 {
-    let mut hands = empty_hands(alloc, sessions)?;
-    let mut left = VecDeque::from(replies);
+    let mut hands = empty_hands(alloc, &shares(alloc, sessions, order)?)?;
+    let mut left = Given::of(replies);
     for session in order {
-        match left.pop_front() {
+        match left.next() {
             Some(reply) => deal(&mut hands, *session, reply)?,
             None => return shown(alloc, hands),
         }
@@ -130,15 +131,27 @@ pub fn dealt(
     shown(alloc, hands)
 }
 
-/// Returns empty hands of so many sessions.
-fn empty_hands(alloc: Global, sessions: u8) -> Result<Vec<Hand>, NoMemory>
-    ensures { IfOk result (λ hands. hands.items ≡ replicate sessions []) }
+/// Returns how often each of so many sessions comes in this order.
+fn shares(alloc: Global, sessions: u8, order: &[u8]) -> Result<Vec<usize>, NoMemory>
+    ensures { IfOk result (λ shares. vec_len shares ≡ sessions) }
 {
-    let mut hands = Vec::with_capacity(alloc, usize::from(sessions))?;
-    for _ in 0..sessions {
-        hands.push(Hand {
-            replies: Vec::new(alloc),
-        })?;
+    let mut shares: Vec<usize> = vec![in alloc; 0; usize::from(sessions)]?;
+    for session in order {
+        if let Some(share) = shares.get_mut(usize::from(*session).saturating_sub(1)) {
+            *share = share.saturating_add(1);
+        }
+    }
+    Ok(shares)
+}
+
+/// Returns an empty hand for each session, with room for so many replies.
+fn empty_hands(alloc: Global, shares: &[usize]) -> Result<Vec<Hand>, NoMemory>
+    ensures { IfOk result (λ hands. hands.items ≡ replicate (length shares.now) []) }
+{
+    let mut hands = Vec::with_capacity(alloc, shares.len())?;
+    for share in shares {
+        let replies = Vec::with_capacity(alloc, *share)?;
+        hands.push(Hand { replies })?;
     }
     Ok(hands)
 }

@@ -8,7 +8,7 @@ use Rattle.session_steps.proofs.turns.dealt.Goals as goal
 -- no reply is left
 pub returns-in-None : goal.returns-in-None
 returns-in-None c =
-    let ended : c.loop-session.left.items ≡ [] = search rules in
+    let ended : c.loop-session.left ≡ [] = search rules in
     let hands = c.loop-session.hands.items in
     let order = drop c.loop-session.session-index c.args.order.now in
     let same : hands ≡ dealt c.args.order.now c.args.replies.items (replicate c.args.sessions []) =
