@@ -9,7 +9,7 @@ ghost use Rattle.lay_layouts.specs.Ids.{id_cmp};
 use lay_layouts::{Item, ItemId};
 use lay_page::around;
 use lay_pages::{Kept, PageKey, Pages, PagesBuilder};
-use lay_point::NoMemory;
+use lay_point::{Given, NoMemory};
 use std::alloc::Global;
 
 /// An item under its id.
@@ -43,7 +43,7 @@ pub fn paged<K: PageKey, V: Kept>(
     ensures { IfOk result (λ pages. pages ≡ entries.items) }
 {
     let mut pages = PagesBuilder::new(alloc);
-    for (key, value) in entries {
+    for (key, value) in Given::of(entries) {
         pages = pages.push(alloc, key, value)?;
     }
     let pages = pages.build(alloc)?;
