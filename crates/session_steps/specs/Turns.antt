@@ -1,5 +1,6 @@
 -- Sessions that take their steps in turns, and replies that are dealt to them.
-use Rattle.std.specs.Prelude.{ℕ, ◌-◌, List, [], ◌∷◌, ◌++◌, Option, None, Some, slice_index_or, slice_set}
+use Rattle.std.specs.Prelude.{ℕ, ◌-◌, ◌==◌, Bool, List, [], ◌∷◌, ◌++◌, Option, None, Some, slice_index_or, slice_set}
+use Rattle.std.specs.List.{list_all}
 use Rattle.session_steps.specs.declared.Reply.{Reply}
 use Rattle.session_steps.specs.declared.Step.{Step}
 
@@ -25,3 +26,7 @@ dealt (session ∷ order) (reply ∷ replies) hands =
 abbrev pub with_step : ℕ → Option Step → List (ℕ × Step) → List (ℕ × Step)
 with_step session None steps = steps
 with_step session (Some step) steps = (session, step) ∷ steps
+
+-- no session but the first comes
+abbrev pub is_first_alone : List ℕ → Bool
+is_first_alone order = list_all (λ session. session == 1) order

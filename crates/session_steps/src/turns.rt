@@ -1,7 +1,7 @@
 //! Steps in turns, and replies dealt to their sessions.
 ghost use Rattle.std.specs.Prelude.{◌≡◌, ◌++◌, ◌∷◌, ◌-◌, ℕ, List, [], IfOk, MatchOption, OnOk, length, replicate, slice_index_or, slice_set, vec_len};
 ghost use Rattle.session_steps.specs.declared.Step.{Step as AnyStep};
-ghost use Rattle.session_steps.specs.Turns.{dealt, in_turn, taken, with_step};
+ghost use Rattle.session_steps.specs.Turns.{dealt, in_turn, is_first_alone, taken, with_step};
 
 use crate::{Reply, Step};
 use lay_point::{Given, NoMemory, Sequence};
@@ -106,8 +106,8 @@ fn take_step(left: &mut Vec<Left>, session: u8) -> Option<Step>
     left[place].next()
 }
 
-/// Returns the replies of so many sessions, dealt to them as they come in this order. What the replies took is
-/// given back on the way.
+/// Returns the replies of so many sessions, dealt to them as they come in this order. Those of a session alone stay
+/// where they are; else what they took is given back on the way.
 ///
 /// # Cost
 ///
@@ -120,6 +120,9 @@ pub fn dealt(
 ) -> Result<Sequence<Sequence<Reply>>, NoMemory>
     ensures { IfOk result (λ hands. hands ≡ dealt order.now replies.items (replicate sessions [])) }
 {
+    if sessions == 1 && replies.len() <= order.len() && is_first_alone(order) {
+        return shown(alloc, vec![in alloc; Hand { replies }]?);
+    }
     let mut hands = empty_hands(alloc, &shares(alloc, sessions, order)?)?;
     let mut left = Given::of(replies);
     for session in order {
@@ -129,6 +132,13 @@ pub fn dealt(
         }
     }
     shown(alloc, hands)
+}
+
+/// Returns whether no session but the first comes in this order.
+fn is_first_alone(order: &[u8]) -> bool
+    ensures { result ≡ is_first_alone order.now }
+{
+    order.iter().all(|session| *session == 1)
 }
 
 /// Returns how often each of so many sessions comes in this order.
