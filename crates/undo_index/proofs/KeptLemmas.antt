@@ -1,5 +1,5 @@
 -- What is listed, by the pairs of items and those of other elements.
-use Rattle.std.proofs.Common.{◌≡◌, ℕ, ◌==◌, Bool, true, false, not, cond, ◌||◌, ◌&&◌, List, ◌++◌, map, Some, None, refl, ap, sym, ◌∙◌}
+use Rattle.std.proofs.Common.{◌≡◌, ℕ, ◌==◌, Bool, true, false, cond, ◌||◌, ◌&&◌, List, [], ◌++◌, map, Some, None, refl, ap, sym, ◌∙◌}
 use Rattle.std.proofs.Common.{Option}
 use Rattle.std.proofs.lemmas.List.Folds.{list_any-append}
 use Rattle.std.specs.Prelude.{Err, Ok, OnOk, Result, nat_lt}
@@ -8,7 +8,8 @@ use Rattle.std.specs.BTreeSet.{BTreeSet}
 use Rattle.std.specs.declared.cmp.Ordering.{Ordering}
 use Rattle.std.specs.declared.cmp.Ordering.TheVariants.{Equal, Greater, Less}
 use Rattle.std.specs.Cmp.{eq_by_cmp_equiv}
-use Rattle.std.specs.FinSet.{contains-from_list, insert, remove}
+use Rattle.std.specs.FinSet as set
+use Rattle.std.specs.FinSet.{contains-empty, contains-from_list, contains-items, insert, remove}
 use Rattle.std.specs.List.{filter, list_any}
 use Rattle.std.specs.Ordering.{eq_by_cmp, is_eq, nat_cmp, ordering_then}
 use Rattle.lay_layouts.specs.declared.id.ItemId.{ItemId}
@@ -18,13 +19,13 @@ use Rattle.txn_commands.specs.declared.element.Element.{Element}
 use Rattle.txn_commands.specs.declared.element.Element.TheVariants.{Calls, Cell, Content, Item, Layer, Uses}
 use Rattle.txn_commands.specs.Elements.{element_cmp, element_eq, elements_total}
 use Rattle.txn_marks.proofs.AnyLemmas.{any_alike, any_map, any_none, or_false}
-use Rattle.undo_index.specs.Listed.{Listed, is_listed, is_part, element_id, item_pair, listed_of, pair_cmp}
+use Rattle.undo_index.specs.Listed.{Listed, is_listed, is_part, element_id, item_pair, listed_of, nothing_listed, pair_cmp}
 use Rattle.undo_index.specs.First.{IsFirst, has_place}
 use Rattle.undo_index.specs.Under.{is_under, pair_order, pairs_below}
 use Rattle.undo_index.proofs.ApartLemmas.{has_more}
 use Rattle.undo_index.proofs.FirstLemmas.{first_alike}
 use Rattle.undo_index.proofs.ListedLemmas.{same_listed}
-use Rattle.undo_index.proofs.PairLemmas.{listed_less, listed_more, pairs_total}
+use Rattle.undo_index.proofs.PairLemmas.{less_so, more_so, pairs_total}
 use Rattle.undo_index.proofs.UnderLemmas.{any_filter, below_so, keyed_eq, keyed_total}
 
 -- ---- items and other elements in one order
@@ -77,31 +78,46 @@ own_part e none p (Cell number) q = refl
 own_part e none p (Content number) q = refl
 own_part e none p (Uses number) q = refl
 
-module _ (items : List (ItemId × ℕ)) (others : List (Element × ℕ)) where
+module _ (items : List (ItemId × ℕ)) (others : Listed) where
   parted : (e : Element) (p : ℕ) → is_listed (listed_of items others) e p
-      ≡ (list_any (λ k. is_at (pair_cmp (e, p)) (item_pair k)) items || list_any (λ k. is_part k && is_at (pair_cmp (e, p)) k) others)
+      ≡ (list_any (λ k. is_at (pair_cmp (e, p)) (item_pair k)) items
+      || list_any (λ k. is_part k && is_at (pair_cmp (e, p)) k) (set.items others))
   parted e p =
-      contains-from_list pairs_total (map item_pair items ++ filter is_part others) (e, p)
-      ∙ list_any-append (is_at (pair_cmp (e, p))) (map item_pair items) (filter is_part others)
-      ∙ (λ i. any_map (is_at (pair_cmp (e, p))) item_pair items i || any_filter (is_at (pair_cmp (e, p))) is_part others i)
+      contains-from_list pairs_total (map item_pair items ++ filter is_part (set.items others)) (e, p)
+      ∙ list_any-append (is_at (pair_cmp (e, p))) (map item_pair items) (filter is_part (set.items others))
+      ∙ (λ i. any_map (is_at (pair_cmp (e, p))) item_pair items i || any_filter (is_at (pair_cmp (e, p))) is_part (set.items others) i)
 
   -- under an item stand the places of its id
   item_there : (id : ItemId) (p : ℕ) → is_listed (listed_of items others) (Item id) p ≡ list_any (is_at (pair_order id_cmp (id, p))) items
   item_there id p =
       parted (Item id) p
       ∙ (λ i. any_alike (λ k. is_at (pair_cmp (Item id, p)) (item_pair k)) (is_at (pair_order id_cmp (id, p))) items (own_pair id p) i
-      || any_alike (λ k. is_part k && is_at (pair_cmp (Item id, p)) k) (λ k. false) others (λ k. no_part id p k.0 k.1) i)
-      ∙ ap (λ b. list_any (is_at (pair_order id_cmp (id, p))) items || b) (any_none others)
+      || any_alike (λ k. is_part k && is_at (pair_cmp (Item id, p)) k) (λ k. false) (set.items others) (λ k. no_part id p k.0 k.1) i)
+      ∙ ap (λ b. list_any (is_at (pair_order id_cmp (id, p))) items || b) (any_none (set.items others))
       ∙ or_false (list_any (is_at (pair_order id_cmp (id, p))) items)
 
   -- under another element stand its own
-  other_there : (e : Element) → element_id e ≡ None → (p : ℕ) →
-      is_listed (listed_of items others) e p ≡ list_any (is_at (pair_cmp (e, p))) others
+  other_there : (e : Element) → element_id e ≡ None → (p : ℕ) → is_listed (listed_of items others) e p ≡ is_listed others e p
   other_there e none p =
       parted e p
       ∙ (λ i. any_alike (λ k. is_at (pair_cmp (e, p)) (item_pair k)) (λ k. false) items (no_pair e none p) i
-      || any_alike (λ k. is_part k && is_at (pair_cmp (e, p)) k) (is_at (pair_cmp (e, p))) others (λ k. own_part e none p k.0 k.1) i)
-      ∙ ap (λ b. b || list_any (is_at (pair_cmp (e, p))) others) (any_none items)
+      || any_alike (λ k. is_part k && is_at (pair_cmp (e, p)) k) (is_at (pair_cmp (e, p))) (set.items others)
+      (λ k. own_part e none p k.0 k.1) i)
+      ∙ ap (λ b. b || list_any (is_at (pair_cmp (e, p))) (set.items others)) (any_none items)
+      ∙ sym (contains-items others (e, p))
+
+-- trees of nothing list nothing
+pub none_there : (items : List (ItemId × ℕ)) (others : Listed) → items ≡ [] → others ≡ nothing_listed →
+    listed_of items others ≡ nothing_listed
+none_there items others none no_others =
+    (λ i. listed_of (none i) (no_others i)) ∙ same_listed (listed_of [] nothing_listed) nothing_listed each where
+      each : (e : Element) (p : ℕ) → is_listed (listed_of [] nothing_listed) e p ≡ is_listed nothing_listed e p
+      each (Item j) p = item_there [] nothing_listed j p ∙ sym (contains-empty pair_cmp (Item j, p))
+      each (Layer cell layer) p = other_there [] nothing_listed (Layer cell layer) refl p
+      each (Calls cell) p = other_there [] nothing_listed (Calls cell) refl p
+      each (Cell number) p = other_there [] nothing_listed (Cell number) refl p
+      each (Content number) p = other_there [] nothing_listed (Content number) refl p
+      each (Uses number) p = other_there [] nothing_listed (Uses number) refl p
 
 -- ---- one pair more, and one less
 
@@ -111,12 +127,9 @@ id_pair j id p place =
     (eq_by_cmp_equiv (keyed_total ids_total)).symm (id, place) (j, p) ∙ keyed_eq id_cmp j id p place
     ∙ ap (λ b. b && (p == place)) (sym (same_ids j id))
 
-other_pair : (e x : Element) (p place : ℕ) → is_at (pair_cmp (x, place)) (e, p) ≡ (element_eq e x && (p == place))
-other_pair e x p place = (eq_by_cmp_equiv pairs_total).symm (x, place) (e, p) ∙ keyed_eq element_cmp e x p place
-
 -- F tells what is listed, by whether a pair is the one that changes and whether it was listed
 module _ (F : Bool → Bool → Bool) (idle : (o : Bool) → F false o ≡ o) where
-  item_changed : (ks ls : List (ItemId × ℕ)) (others : List (Element × ℕ)) (id : ItemId) (place : ℕ) (new : Listed)
+  item_changed : (ks ls : List (ItemId × ℕ)) (others : Listed) (id : ItemId) (place : ℕ) (new : Listed)
       → ((e : Element) (p : ℕ) → is_listed new e p ≡ F (element_eq e (Item id) && (p == place)) (is_listed (listed_of ks others) e p))
       → ((q : ItemId × ℕ) → list_any (is_at (pair_order id_cmp q)) ls
       ≡ F (is_at (pair_order id_cmp (id, place)) q) (list_any (is_at (pair_order id_cmp q)) ks))
@@ -136,14 +149,14 @@ module _ (F : Bool → Bool → Bool) (idle : (o : Bool) → F false o ≡ o) wh
     each (Content number) p = same (Content number) refl p
     each (Uses number) p = same (Uses number) refl p
 
-  other_changed : (items : List (ItemId × ℕ)) (ks ls : List (Element × ℕ)) (x : Element) → element_id x ≡ None → (place : ℕ) (new : Listed)
+  other_changed : (items : List (ItemId × ℕ)) (ks ls : Listed) (x : Element) → element_id x ≡ None → (place : ℕ) (new : Listed)
       → ((e : Element) (p : ℕ) → is_listed new e p ≡ F (element_eq e x && (p == place)) (is_listed (listed_of items ks) e p))
-      → ((q : Element × ℕ) → list_any (is_at (pair_cmp q)) ls ≡ F (is_at (pair_cmp (x, place)) q) (list_any (is_at (pair_cmp q)) ks))
+      → ((e : Element) (p : ℕ) → is_listed ls e p ≡ F (element_eq e x && (p == place)) (is_listed ks e p))
       → listed_of items ls ≡ new
   other_changed items ks ls x none place new is h = same_listed (listed_of items ls) new each where
     moved : (e : Element) → element_id e ≡ None → (p : ℕ) → is_listed (listed_of items ls) e p ≡ is_listed new e p
     moved e own p =
-        other_there items ls e own p ∙ h (e, p) ∙ (λ i. F (other_pair e x p place i) (sym (other_there items ks e own p) i)) ∙ sym (is e p)
+        other_there items ls e own p ∙ h e p ∙ ap (F (element_eq e x && (p == place))) (sym (other_there items ks e own p)) ∙ sym (is e p)
 
     each : (e : Element) (p : ℕ) → is_listed (listed_of items ls) e p ≡ is_listed new e p
     each (Item j) p =
@@ -156,45 +169,33 @@ module _ (F : Bool → Bool → Bool) (idle : (o : Bool) → F false o ≡ o) wh
     each (Content number) p = moved (Content number) refl p
     each (Uses number) p = moved (Uses number) refl p
 
-or_cond : (b x : Bool) → cond b true x ≡ (b || x)
-or_cond true x = refl
-or_cond false x = refl
-
-not_cond : (b x : Bool) → cond b false x ≡ (not b && x)
-not_cond true x = refl
-not_cond false x = refl
-
-item_added : (ks ls : List (ItemId × ℕ)) (others : List (Element × ℕ)) (id : ItemId) (place : ℕ)
+item_added : (ks ls : List (ItemId × ℕ)) (others : Listed) (id : ItemId) (place : ℕ)
     → ((q : ItemId × ℕ) → list_any (is_at (pair_order id_cmp q)) ls
     ≡ cond (is_at (pair_order id_cmp (id, place)) q) true (list_any (is_at (pair_order id_cmp q)) ks))
     → listed_of ls others ≡ insert (listed_of ks others) (Item id, place)
 item_added ks ls others id place =
     item_changed (λ b x. cond b true x) (λ o. refl) ks ls others id place (insert (listed_of ks others) (Item id, place))
-    (λ e p. listed_more (listed_of ks others) (Item id) e place p ∙ sym (or_cond (element_eq e (Item id) && (p == place)) _))
+    (more_so (listed_of ks others) (Item id) place)
 
-item_removed : (ks ls : List (ItemId × ℕ)) (others : List (Element × ℕ)) (id : ItemId) (place : ℕ)
+item_removed : (ks ls : List (ItemId × ℕ)) (others : Listed) (id : ItemId) (place : ℕ)
     → ((q : ItemId × ℕ) → list_any (is_at (pair_order id_cmp q)) ls
     ≡ cond (is_at (pair_order id_cmp (id, place)) q) false (list_any (is_at (pair_order id_cmp q)) ks))
     → listed_of ls others ≡ remove (listed_of ks others) (Item id, place)
 item_removed ks ls others id place =
     item_changed (λ b x. cond b false x) (λ o. refl) ks ls others id place (remove (listed_of ks others) (Item id, place))
-    (λ e p. listed_less (listed_of ks others) (Item id) e place p ∙ sym (not_cond (element_eq e (Item id) && (p == place)) _))
+    (less_so (listed_of ks others) (Item id) place)
 
-other_added : (items : List (ItemId × ℕ)) (ks ls : List (Element × ℕ)) (x : Element) → element_id x ≡ None → (place : ℕ)
-    → ((q : Element × ℕ) → list_any (is_at (pair_cmp q)) ls
-    ≡ cond (is_at (pair_cmp (x, place)) q) true (list_any (is_at (pair_cmp q)) ks))
-    → listed_of items ls ≡ insert (listed_of items ks) (x, place)
-other_added items ks ls x none place =
-    other_changed (λ b x. cond b true x) (λ o. refl) items ks ls x none place (insert (listed_of items ks) (x, place))
-    (λ e p. listed_more (listed_of items ks) x e place p ∙ sym (or_cond (element_eq e x && (p == place)) _))
+other_added : (items : List (ItemId × ℕ)) (ks : Listed) (x : Element) → element_id x ≡ None → (place : ℕ) →
+    listed_of items (insert ks (x, place)) ≡ insert (listed_of items ks) (x, place)
+other_added items ks x none place =
+    other_changed (λ b x. cond b true x) (λ o. refl) items ks (insert ks (x, place)) x none place (insert (listed_of items ks) (x, place))
+    (more_so (listed_of items ks) x place) (more_so ks x place)
 
-other_removed : (items : List (ItemId × ℕ)) (ks ls : List (Element × ℕ)) (x : Element) → element_id x ≡ None → (place : ℕ)
-    → ((q : Element × ℕ) → list_any (is_at (pair_cmp q)) ls
-    ≡ cond (is_at (pair_cmp (x, place)) q) false (list_any (is_at (pair_cmp q)) ks))
-    → listed_of items ls ≡ remove (listed_of items ks) (x, place)
-other_removed items ks ls x none place =
-    other_changed (λ b x. cond b false x) (λ o. refl) items ks ls x none place (remove (listed_of items ks) (x, place))
-    (λ e p. listed_less (listed_of items ks) x e place p ∙ sym (not_cond (element_eq e x && (p == place)) _))
+other_removed : (items : List (ItemId × ℕ)) (ks : Listed) (x : Element) → element_id x ≡ None → (place : ℕ) →
+    listed_of items (remove ks (x, place)) ≡ remove (listed_of items ks) (x, place)
+other_removed items ks x none place =
+    other_changed (λ b x. cond b false x) (λ o. refl) items ks (remove ks (x, place)) x none place (remove (listed_of items ks) (x, place))
+    (less_so (listed_of items ks) x place) (less_so ks x place)
 
 -- the only element of an id
 made_of : (e : Element) (id : ItemId) → element_id e ≡ Some id → e ≡ Item id
@@ -212,14 +213,14 @@ pub on_ok : {X Y : Type 0} {P Q : Type 0} (r : Result X Y) → (P → Q) → OnO
 on_ok (Ok x) f h = f h
 on_ok (Err y) f h = tt
 
-module _ (items : BTreeSet (ItemId × ℕ)) (others : BTreeSet (Element × ℕ)) (s : Listed) (view : listed_of items.keys others.keys ≡ s) where
+module _ (items : BTreeSet (ItemId × ℕ)) (others s : Listed) (view : listed_of items.keys others ≡ s) where
   under_item : (e : Element) (id : ItemId) → element_id e ≡ Some id → (p : ℕ) → is_listed s e p ≡ is_under id_cmp items id p
   under_item e id is p =
-      ap (λ (x : Listed). is_listed x e p) (sym view) ∙ ap (λ f. is_listed (listed_of items.keys others.keys) f p) (made_of e id is)
-      ∙ item_there items.keys others.keys id p
+      ap (λ (x : Listed). is_listed x e p) (sym view) ∙ ap (λ f. is_listed (listed_of items.keys others) f p) (made_of e id is)
+      ∙ item_there items.keys others id p
 
-  under_other : (e : Element) → element_id e ≡ None → (p : ℕ) → is_listed s e p ≡ is_under element_cmp others e p
-  under_other e none p = ap (λ (x : Listed). is_listed x e p) (sym view) ∙ other_there items.keys others.keys e none p
+  under_other : (e : Element) → element_id e ≡ None → (p : ℕ) → is_listed s e p ≡ is_listed others e p
+  under_other e none p = ap (λ (x : Listed). is_listed x e p) (sym view) ∙ other_there items.keys others e none p
 
   pub first_item : (e : Element) (id : ItemId) → element_id e ≡ Some id → (from : ℕ) (o : Option ℕ) →
       IsFirst (is_under id_cmp items id) from o → IsFirst (is_listed s e) from o
@@ -227,9 +228,9 @@ module _ (items : BTreeSet (ItemId × ℕ)) (others : BTreeSet (Element × ℕ))
       first_alike (is_under id_cmp items id) (is_listed s e) from o (λ p. sym (under_item e id is p))
 
   pub first_other : (e : Element) → element_id e ≡ None → (from : ℕ) (o : Option ℕ) →
-      IsFirst (is_under element_cmp others e) from o → IsFirst (is_listed s e) from o
+      IsFirst (is_listed others e) from o → IsFirst (is_listed s e) from o
   first_other e none from o =
-      first_alike (is_under element_cmp others e) (is_listed s e) from o (λ p. sym (under_other e none p))
+      first_alike (is_listed others e) (is_listed s e) from o (λ p. sym (under_other e none p))
 
   pub gathered_item : (e : Element) (id : ItemId) → element_id e ≡ Some id → (below : ℕ) (old new : List ℕ) →
       new ≡ old ++ map (λ k. k.1) (pairs_below id_cmp id below items) → (p : ℕ) →
@@ -238,37 +239,32 @@ module _ (items : BTreeSet (ItemId × ℕ)) (others : BTreeSet (Element × ℕ))
       ap (λ ps. has_place ps p) more ∙ has_more old (pairs_below id_cmp id below items) p
       ∙ ap (λ b. has_place old p || b) (below_so id_cmp items id below p ∙ ap (λ b. nat_lt p below && b) (sym (under_item e id is p)))
 
-  pub gathered_other : (e : Element) → element_id e ≡ None → (below : ℕ) (old new : List ℕ) →
-      new ≡ old ++ map (λ k. k.1) (pairs_below element_cmp e below others) → (p : ℕ) →
-      has_place new p ≡ (has_place old p || (nat_lt p below && is_listed s e p))
+  pub gathered_other : (e : Element) → element_id e ≡ None → (below : ℕ) (old new : List ℕ)
+      → ((p : ℕ) → has_place new p ≡ (has_place old p || (nat_lt p below && is_listed others e p)))
+      → (p : ℕ) → has_place new p ≡ (has_place old p || (nat_lt p below && is_listed s e p))
   gathered_other e none below old new more p =
-      ap (λ ps. has_place ps p) more ∙ has_more old (pairs_below element_cmp e below others) p
-      ∙ ap (λ b. has_place old p || b) (below_so element_cmp others e below p ∙ ap (λ b. nat_lt p below && b) (sym (under_other e none p)))
+      more p ∙ ap (λ b. has_place old p || (nat_lt p below && b)) (sym (under_other e none p))
 
   pub added_item : (e : Element) (id : ItemId) → element_id e ≡ Some id → (place : ℕ) (ls : List (ItemId × ℕ))
       → ((q : ItemId × ℕ) → list_any (is_at (pair_order id_cmp q)) ls
       ≡ cond (is_at (pair_order id_cmp (id, place)) q) true (list_any (is_at (pair_order id_cmp q)) items.keys))
-      → listed_of ls others.keys ≡ insert s (e, place)
+      → listed_of ls others ≡ insert s (e, place)
   added_item e id is place ls h =
-      item_added items.keys ls others.keys id place h ∙ (λ i. insert (view i) (sym (made_of e id is) i, place))
+      item_added items.keys ls others id place h ∙ (λ i. insert (view i) (sym (made_of e id is) i, place))
 
   pub removed_item : (e : Element) (id : ItemId) → element_id e ≡ Some id → (place : ℕ) (ls : List (ItemId × ℕ))
       → ((q : ItemId × ℕ) → list_any (is_at (pair_order id_cmp q)) ls
       ≡ cond (is_at (pair_order id_cmp (id, place)) q) false (list_any (is_at (pair_order id_cmp q)) items.keys))
-      → listed_of ls others.keys ≡ remove s (e, place)
+      → listed_of ls others ≡ remove s (e, place)
   removed_item e id is place ls h =
-      item_removed items.keys ls others.keys id place h ∙ (λ i. remove (view i) (sym (made_of e id is) i, place))
+      item_removed items.keys ls others id place h ∙ (λ i. remove (view i) (sym (made_of e id is) i, place))
 
-  pub added_other : (e : Element) → element_id e ≡ None → (place : ℕ) (ls : List (Element × ℕ))
-      → ((q : Element × ℕ) → list_any (is_at (pair_cmp q)) ls
-      ≡ cond (is_at (pair_cmp (e, place)) q) true (list_any (is_at (pair_cmp q)) others.keys))
-      → listed_of items.keys ls ≡ insert s (e, place)
-  added_other e none place ls h =
-      other_added items.keys others.keys ls e none place h ∙ ap (λ (x : Listed). insert x (e, place)) view
+  pub added_other : (e : Element) → element_id e ≡ None → (place : ℕ) (new : Listed) → new ≡ insert others (e, place) →
+      listed_of items.keys new ≡ insert s (e, place)
+  added_other e none place new more =
+      ap (listed_of items.keys) more ∙ other_added items.keys others e none place ∙ ap (λ (x : Listed). insert x (e, place)) view
 
-  pub removed_other : (e : Element) → element_id e ≡ None → (place : ℕ) (ls : List (Element × ℕ))
-      → ((q : Element × ℕ) → list_any (is_at (pair_cmp q)) ls
-      ≡ cond (is_at (pair_cmp (e, place)) q) false (list_any (is_at (pair_cmp q)) others.keys))
-      → listed_of items.keys ls ≡ remove s (e, place)
-  removed_other e none place ls h =
-      other_removed items.keys others.keys ls e none place h ∙ ap (λ (x : Listed). remove x (e, place)) view
+  pub removed_other : (e : Element) → element_id e ≡ None → (place : ℕ) (new : Listed) → new ≡ remove others (e, place) →
+      listed_of items.keys new ≡ remove s (e, place)
+  removed_other e none place new less =
+      ap (listed_of items.keys) less ∙ other_removed items.keys others e none place ∙ ap (λ (x : Listed). remove x (e, place)) view

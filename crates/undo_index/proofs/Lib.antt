@@ -2,6 +2,7 @@ pub mod FirstLemmas
 pub mod UnderLemmas
 pub mod PairLemmas
 pub mod ListedLemmas
+pub mod PartsLemmas
 pub mod KeptLemmas
 pub mod FootprintLemmas
 pub mod ApartLemmas

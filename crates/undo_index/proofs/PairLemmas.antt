@@ -1,5 +1,5 @@
 -- Pairs of elements and places, in their order.
-use Rattle.std.proofs.Common.{◌≡◌, ℕ, ◌==◌, not, ◌||◌, ◌&&◌, refl, ap, ◌∙◌}
+use Rattle.std.proofs.Common.{◌≡◌, ℕ, ◌==◌, Bool, true, false, not, cond, ◌||◌, ◌&&◌, refl, ap, sym, ◌∙◌}
 use Rattle.std.specs.declared.cmp.Ordering.{Ordering}
 use Rattle.std.specs.declared.cmp.Ordering.TheVariants.{Equal, Greater, Less}
 use Rattle.std.specs.Cmp.{IsTotalOrder}
@@ -43,3 +43,20 @@ pub listed_less : (s : Listed) (x e : Element) (place p : ℕ) →
     is_listed (remove s (x, place)) e p ≡ (not (element_eq e x && (p == place)) && is_listed s e p)
 listed_less s x e place p =
     contains-remove pairs_total s (x, place) (e, p) ∙ ap (λ b. not b && is_listed s e p) (pair_eq e x p place)
+
+or_cond : (b x : Bool) → cond b true x ≡ (b || x)
+or_cond true x = refl
+or_cond false x = refl
+
+not_cond : (b x : Bool) → cond b false x ≡ (not b && x)
+not_cond true x = refl
+not_cond false x = refl
+
+-- the same as a choice
+pub more_so : (s : Listed) (x : Element) (place : ℕ) (e : Element) (p : ℕ) →
+    is_listed (insert s (x, place)) e p ≡ cond (element_eq e x && (p == place)) true (is_listed s e p)
+more_so s x place e p = listed_more s x e place p ∙ sym (or_cond (element_eq e x && (p == place)) (is_listed s e p))
+
+pub less_so : (s : Listed) (x : Element) (place : ℕ) (e : Element) (p : ℕ) →
+    is_listed (remove s (x, place)) e p ≡ cond (element_eq e x && (p == place)) false (is_listed s e p)
+less_so s x place e p = listed_less s x e place p ∙ sym (not_cond (element_eq e x && (p == place)) (is_listed s e p))

@@ -20,7 +20,7 @@ use Rattle.txn_marks.proofs.AnyLemmas.{any_alike}
 
 -- ---- the order of pairs
 
-is_eq-then : (a b : Ordering) → is_eq (ordering_then a b) ≡ (is_eq a && is_eq b)
+pub is_eq-then : (a b : Ordering) → is_eq (ordering_then a b) ≡ (is_eq a && is_eq b)
 is_eq-then Less b = refl
 is_eq-then Equal b = refl
 is_eq-then Greater b = refl
@@ -33,14 +33,14 @@ keyed_eq R e f p q = is_eq-then (R e f) (nat_cmp p q) ∙ ap (λ b. eq_by_cmp R 
 pub keyed_total : {K : Type 0} {R : K → K → Ordering} → IsTotalOrder R → IsTotalOrder (pair_order R)
 keyed_total {K = K} total = then_total (on_total (λ (a : K × ℕ). a.0) total) (on_total (λ (a : K × ℕ). a.1) nat_cmp_total)
 
-at_least : (a p : ℕ) → is_gt (nat_cmp a p) ≡ false → a ≤ p
+pub at_least : (a p : ℕ) → is_gt (nat_cmp a p) ≡ false → a ≤ p
 at_least a p h = by (nat_lt a p) refl (a == p) refl h where
   by : (x : Bool) → nat_lt a p ≡ x → (y : Bool) → (a == p) ≡ y → is_gt (cond x Less (cond y Equal Greater)) ≡ false → a ≤ p
   by true less y same h = grind (arith, nat_tests, less)
   by false less true same h = let e : a ≡ p = (Decides-eqb a p).0 same in omega (arith, e)
   by false less false same h = absurd cc
 
-not_more : (a p : ℕ) → a ≤ p → is_gt (nat_cmp a p) ≡ false
+pub not_more : (a p : ℕ) → a ≤ p → is_gt (nat_cmp a p) ≡ false
 not_more a p h = by (nat_lt a p) refl (a == p) refl where
   by : (x : Bool) → nat_lt a p ≡ x → (y : Bool) → (a == p) ≡ y → is_gt (cond x Less (cond y Equal Greater)) ≡ false
   by true less y same = refl
@@ -57,12 +57,12 @@ any_filter p t (x ∷ xs) = by (t x) (any_filter p t xs) where
   by true rest = ap (λ b. p x || b) rest
   by false rest = rest
 
-any_and : {X : Type 0} (c : Bool) (p : X → Bool) (xs : List X) → list_any (λ x. c && p x) xs ≡ (c && list_any p xs)
+pub any_and : {X : Type 0} (c : Bool) (p : X → Bool) (xs : List X) → list_any (λ x. c && p x) xs ≡ (c && list_any p xs)
 any_and true p xs = refl
 any_and false p [] = refl
 any_and false p (x ∷ xs) = any_and false p xs
 
-within_so : (b p y : ℕ) → ((is_le (nat_cmp 0 y) && not (is_le (nat_cmp b y))) && (p == y)) ≡ (nat_lt p b && (p == y))
+pub within_so : (b p y : ℕ) → ((is_le (nat_cmp 0 y) && not (is_le (nat_cmp b y))) && (p == y)) ≡ (nat_lt p b && (p == y))
 within_so b p y = by (p == y) refl where
   by : (s : Bool) → (p == y) ≡ s → ((is_le (nat_cmp 0 y) && not (is_le (nat_cmp b y))) && s) ≡ (nat_lt p b && s)
   by false is = last (is_le (nat_cmp 0 y) && not (is_le (nat_cmp b y))) (nat_lt p b) where

@@ -66,5 +66,5 @@ abbrev pub item_pair : ItemId × ℕ → Element × ℕ
 item_pair k = (Item k.0, k.1)
 
 -- what is listed, by the pairs of items and those of other elements
-abbrev pub listed_of : List (ItemId × ℕ) → List (Element × ℕ) → Listed
-listed_of items others = set.from_list (map item_pair items ++ filter is_part others)
+abbrev pub listed_of : List (ItemId × ℕ) → Listed → Listed
+listed_of items others = set.from_list (map item_pair items ++ filter is_part (set.items others))

@@ -14,6 +14,7 @@ mod apart;
 mod elements;
 mod index;
 mod listing;
+mod parts;
 mod places;
 mod under;
 

@@ -6,6 +6,7 @@ ghost use Rattle.undo_index.specs.First.{IsFirst, has_place, lesser};
 ghost use Rattle.undo_index.specs.Listed.{AreAdded, AreRemoved, IsNew, is_listed, element_id, nothing_listed};
 
 use crate::elements::Elements;
+use crate::parts::Parts;
 use crate::places::Places;
 use crate::under::{first_under, gather_under};
 use lay_layouts::ItemId;
@@ -19,11 +20,11 @@ use txn_marks::Footprint;
 /// Places listed under elements. Contracts see the finite set of the pairs.
 ///
 /// Of most transactions half of the pairs or more are of items, and an id takes a quarter of what an element
-/// does. So those of items have a tree of their own.
+/// does. So those of items have a tree of their own. The other elements are few, with many places each.
 #[derive(Drop)]
 pub struct Listing {
     items: BTreeSet<(ItemId, usize)>,
-    others: BTreeSet<(Element, usize)>,
+    others: Parts,
 }
 
 impl Model for Listing {
@@ -33,7 +34,7 @@ impl Model for Listing {
 
     ghost coded = { coded_listed };
 
-    ghost view = { λ l. listed_of l.items.keys l.others.keys };
+    ghost view = { λ l. listed_of l.items.keys l.others };
 }
 
 impl Listing {
@@ -43,7 +44,7 @@ impl Listing {
     {
         Listing {
             items: BTreeSet::new(alloc),
-            others: BTreeSet::new(alloc),
+            others: Parts::new(alloc),
         }
     }
 
@@ -137,10 +138,12 @@ impl Listing {
         ensures err { OnErr result (self.new ≡ self.old) }
     {
         match element_id(&element) {
-            Some(id) => self.items.insert((id, place))?,
-            None => self.others.insert((element, place))?,
-        };
-        Ok(())
+            Some(id) => {
+                self.items.insert((id, place))?;
+                Ok(())
+            }
+            None => self.others.insert(element, place),
+        }
     }
 
     /// Lists the place no longer under the element.
@@ -148,9 +151,11 @@ impl Listing {
         ensures { self.new ≡ set.remove self.old (element, place) }
     {
         match element_id(&element) {
-            Some(id) => self.items.remove(&(id, place)),
-            None => self.others.remove(&(element, place)),
-        };
+            Some(id) => {
+                self.items.remove(&(id, place));
+            }
+            None => self.others.remove(element, place),
+        }
     }
 
     /// Returns the least place from this one on that is listed under the element.
@@ -159,7 +164,7 @@ impl Listing {
     {
         match element_id(&element) {
             Some(id) => first_under(&self.items, id, from),
-            None => first_under(&self.others, element, from),
+            None => self.others.first(element, from),
         }
     }
 
@@ -175,7 +180,7 @@ impl Listing {
     {
         match element_id(&element) {
             Some(id) => gather_under(&self.items, id, below, places),
-            None => gather_under(&self.others, element, below, places),
+            None => self.others.gather(element, below, places),
         }
     }
 }

@@ -10,4 +10,4 @@ returns-in-Some c =
 pub returns-in-None : goal.returns-in-None
 returns-in-None c =
     first_other c.self.inside.items c.self.inside.others c.args.self.now c.self.view_is c.args.element
-    (sym c.element_id.ensures ∙ c.in-None.is) c.args.from c.first_under-in-None.result c.first_under-in-None.ensures
+    (sym c.element_id.ensures ∙ c.in-None.is) c.args.from c.first.result c.first.ensures

@@ -11,7 +11,7 @@ returns-in-Some c =
 
 pub returns-in-None : goal.returns-in-None
 returns-in-None c =
-    on_ok c.gather_under-in-None.result
+    on_ok c.gather.result
     (gathered_other c.self.inside.items c.self.inside.others c.args.self.now c.self.view_is c.args.element
-    (sym c.element_id.ensures ∙ c.in-None.is) c.args.below c.args.places.now.items c.gather_under-in-None.new.places.items)
-    c.gather_under-in-None.ensures
+    (sym c.element_id.ensures ∙ c.in-None.is) c.args.below c.args.places.now.items c.gather.new.found.items)
+    c.gather.ensures

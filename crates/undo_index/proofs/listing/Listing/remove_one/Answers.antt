@@ -10,4 +10,4 @@ returns-in-Some c =
 pub returns-in-None : goal.returns-in-None
 returns-in-None c =
     removed_other c.self.inside.items c.self.inside.others c.args.self.now c.self.view_is c.args.element
-    (sym c.element_id.ensures ∙ c.in-None.is) c.args.place c.remove-in-None.new.self.keys c.remove-in-None.ensures.updates.0
+    (sym c.element_id.ensures ∙ c.in-None.is) c.args.place c.remove-in-None.new.self c.remove-in-None.ensures

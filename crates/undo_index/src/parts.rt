@@ -1,0 +1,101 @@
+//! Places under the elements that are no items.
+ghost use Rattle.std.specs.Prelude.{◌≡◌, ℕ, ◌||◌, ◌&&◌, OnErr, OnOk, nat_lt};
+ghost use Rattle.std.specs.FinSet as set;
+ghost use Rattle.undo_index.specs.First.{IsFirst, has_place};
+ghost use Rattle.undo_index.specs.Listed.{is_listed, nothing_listed};
+
+use lay_point::NoMemory;
+use std::alloc::Global;
+use std::collections::{BTreeMap, BTreeSet};
+use std::marker::Model;
+use txn_commands::Element;
+
+/// Places listed under elements, of which there are few. Contracts see the finite set of the pairs.
+///
+/// A layer of the top cell may have a place for each transaction. So each element has a tree of its own, where
+/// plain numbers stand and are compared. An element with no place left keeps an empty tree.
+#[derive(Drop)]
+pub(crate) struct Parts {
+    places: BTreeMap<Element, BTreeSet<usize>>,
+    alloc: Global,
+}
+
+impl Model for Parts {
+    ghost use Rattle.undo_index.specs.Listed.{Listed, coded_listed};
+    ghost use Rattle.undo_index.specs.Parts.{parts_of};
+
+    ghost Value = { Listed };
+
+    ghost coded = { coded_listed };
+
+    ghost view = { λ p. parts_of p.places };
+}
+
+impl Parts {
+    /// Returns those of no place.
+    pub(crate) fn new(alloc: Global) -> Parts
+        ensures { result ≡ nothing_listed }
+    {
+        Parts {
+            places: BTreeMap::new(alloc),
+            alloc,
+        }
+    }
+
+    /// Lists the place under the element.
+    ///
+    /// # Cost
+    ///
+    /// As many comparisons of elements as the logarithm of their number, and of places as that of those under
+    /// this one. So in the functions below.
+    pub(crate) fn insert(&mut self, element: Element, place: usize) -> Result<(), NoMemory>
+        ensures ok { OnOk result (self.new ≡ set.insert self.old (element, place)) }
+        ensures err { OnErr result (self.new ≡ self.old) }
+    {
+        if let Some(places) = self.places.get_mut(&element) {
+            places.insert(place)?;
+            return Ok(());
+        }
+        let mut places = BTreeSet::new(self.alloc);
+        places.insert(place)?;
+        self.places.insert(element, places)?;
+        Ok(())
+    }
+
+    /// Lists the place no longer under the element.
+    pub(crate) fn remove(&mut self, element: Element, place: usize)
+        ensures { self.new ≡ set.remove self.old (element, place) }
+    {
+        let Some(places) = self.places.get_mut(&element) else {
+            return;
+        };
+        places.remove(&place);
+    }
+
+    /// Returns the least place from this one on that is listed under the element.
+    pub(crate) fn first(&self, element: Element, from: usize) -> Option<usize>
+        ensures { IsFirst (is_listed self.now element) from result }
+    {
+        let places = self.places.get(&element)?;
+        Some(*places.range(from..).next()?)
+    }
+
+    /// Adds the places below this one that are listed under the element.
+    pub(crate) fn gather(
+        &self,
+        element: Element,
+        below: usize,
+        found: &mut Vec<usize>,
+    ) -> Result<(), NoMemory>
+        ensures { OnOk result ((p : ℕ) → has_place found.new.items p
+            ≡ (has_place found.old.items p || (nat_lt p below && is_listed self.now element p))) }
+    {
+        let Some(places) = self.places.get(&element) else {
+            return Ok(());
+        };
+        for place in places.range(0..below) {
+            found.push(*place)?;
+        }
+        Ok(())
+    }
+}
