@@ -1,9 +1,11 @@
 -- What the words of a command line ask for, and how the program ends early. The first word names the program.
-use Rattle.std.specs.Prelude.{◌≡◌, ℕ, ◌⊎◌, Bool, true, false, List, [], ◌∷◌, Option, String, codes, string_bytes}
+use Rattle.std.specs.Prelude.{◌≡◌, ℕ, ◌⊎◌, ◌&&◌, ◌||◌, Bool, true, false, List, [], ◌∷◌, Option, String, codes, string_bytes}
 use Rattle.std.specs.Global.{Global}
 use Rattle.std.specs.List.{list_any}
 use Rattle.std.specs.Str.{bytes_eq}
 use Rattle.byte_io.specs.Input.{Counts}
+use Rattle.masklay.specs.declared.command_line.OptionsFault.{OptionsFault}
+use Rattle.masklay.specs.declared.command_line.OptionsFault.TheVariants.{Clap, LiveAlone, Workers}
 use Rattle.masklay.specs.declared.command_line.Wish.{Wish}
 use Rattle.masklay.specs.declared.command_line.Wish.TheVariants.{Job, Live}
 use Rattle.masklay.specs.declared.program.status.Status.{Status}
@@ -34,6 +36,17 @@ asked_in words = record {
   named = asks (codes "--names") words;
 }
 
+-- whether another option stands beside that of a live run
+abbrev pub asks_beside_live : List (String Global) → Bool
+asks_beside_live words =
+    asks_to_live words && (asks (codes "--threaded") words || (asks (codes "--oriented") words || asks (codes "--names") words))
+
+-- whether that is what is wrong
+abbrev pub is_live_alone : OptionsFault → Bool
+is_live_alone (Clap error) = false
+is_live_alone Workers = false
+is_live_alone LiveAlone = true
+
 -- nothing beside the run of a job
 abbrev pub nothing_asked : Asked
 nothing_asked = record { threaded = false; oriented = false; named = false }
@@ -41,7 +54,7 @@ nothing_asked = record { threaded = false; oriented = false; named = false }
 -- what is to be run for these words
 abbrev pub IsWishOf : Wish → List (String Global) → Type 0
 IsWishOf (Job options) words = (asks_to_live words ≡ false) × (asked_of options ≡ asked_in words)
-IsWishOf (Live workers) words = asks_to_live words ≡ true
+IsWishOf (Live workers) words = (asks_to_live words ≡ true) × (asks_beside_live words ≡ false)
 
 -- from the old devices to the new: the run of a job that was asked so, or a live run
 abbrev pub Runs : {I O : Type 0} → Bool → Asked → (I → Option (List ℕ)) → (I → Counts) → (O → Option (List ℕ)) → (O → ℕ)

@@ -1,8 +1,8 @@
 //! The command line.
-ghost use Rattle.std.specs.Prelude.{◌≡◌, ◌≤◌, ◌<◌, ◌⊎◌, IfErr, IfOk, vec_len};
+ghost use Rattle.std.specs.Prelude.{◌≡◌, ◌≤◌, ◌<◌, ◌⊎◌, IfErr, IfOk, false, true, vec_len};
 ghost use Rattle.std.specs.List.{list_any};
 ghost use Rattle.masklay.specs.declared.command_line.OptionsFault.TheVariants.{Clap};
-ghost use Rattle.masklay.specs.Launch.{EndsEarly, IsWishOf, Runs, asked_in, asks, asks_to_live, is_option, nothing_asked};
+ghost use Rattle.masklay.specs.Launch.{EndsEarly, IsWishOf, Runs, asked_in, asks, asks_beside_live, asks_to_live, is_live_alone, is_option, nothing_asked};
 ghost use Rattle.masklay.specs.Run.{IsRun};
 ghost use Rattle.masklay.specs.Telling.{MayReport};
 
@@ -119,7 +119,8 @@ impl From<Error> for OptionsFault {
 
 /// Returns what the words ask for.
 fn wish_of(alloc: Global, words: &[String]) -> Result<Wish, OptionsFault>
-    ensures { IfOk result (λ wish. IsWishOf wish words.now) }
+    ensures wish { IfOk result (λ wish. IsWishOf wish words.now) }
+    ensures alone { IfErr result (λ fault. is_live_alone fault ≡ true → asks_beside_live words.now ≡ true) }
 {
     let workers = workers_of(alloc, words)?;
     let options = Options {
@@ -138,7 +139,9 @@ fn wish_of(alloc: Global, words: &[String]) -> Result<Wish, OptionsFault>
 }
 
 /// Returns the number of workers that the words say, if clap takes them.
-fn workers_of(alloc: Global, words: &[String]) -> Result<u8, OptionsFault> {
+fn workers_of(alloc: Global, words: &[String]) -> Result<u8, OptionsFault>
+    ensures { IfErr result (λ fault. is_live_alone fault ≡ false) }
+{
     let matches = command(alloc)?.try_get_matches_from(words)?;
     let Some(word) = matches.get_str("workers") else {
         return Ok(1);
