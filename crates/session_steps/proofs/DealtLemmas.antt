@@ -1,5 +1,6 @@
 -- Dealt replies are as many lists as there are sessions.
-use Rattle.std.proofs.Common.{◌≡◌, ◌-◌, ◌++◌, ◌≤◌, ℕ, ◌==◌, true, List, [], ◌∷◌, length, replicate, slice_index_or, slice_set, refl, ap, sym, ◌∙◌, append_assoc, arith}
+use Rattle.std.proofs.Common.{◌≡◌, ◌-◌, ◌++◌, ◌≤◌, ◌==◌, ◌∙◌, ℕ, true, List, [], ◌∷◌, append_assoc, ap, arith, length, refl, replicate}
+use Rattle.std.proofs.Common.{slice_index_or, slice_set, sym}
 use Rattle.std.proofs.lemmas.Bool.{and_parts}
 use Rattle.std.proofs.lemmas.Bool.Decides.{nat_tests}
 use Rattle.std.proofs.lemmas.List.{append-nil, length-replicate, length-set}

@@ -18,7 +18,7 @@ use Rattle.txn_commands.specs.Elements.{element_cmp, element_eq, elements_exact,
 use Rattle.txn_marks.proofs.AnyLemmas.{any_alike, any_map, or_false}
 use Rattle.undo_index.specs.First.{IsFirst, first_of, has_place}
 use Rattle.undo_index.specs.Listed.{Listed, is_listed, pair_cmp}
-use Rattle.undo_index.specs.Parts.{is_in, is_kept, pairs_of, parts_of}
+use Rattle.undo_index.specs.Parts.{is_in_tree, is_kept, listed_in_trees, pairs_of}
 use Rattle.undo_index.proofs.FirstLemmas.{first_alike}
 use Rattle.undo_index.proofs.ListedLemmas.{same_listed}
 use Rattle.undo_index.proofs.PairLemmas.{less_so, listed_less, more_so, pairs_total}
@@ -60,12 +60,12 @@ in_others e k p ks =
     ∙ any_and (not (element_eq e k)) (is_at (pair_cmp (e, p))) ks
 
 chosen : (b : Bool) (s : BTreeSet ℕ) (o : Option (BTreeSet ℕ)) (p : ℕ) →
-    ((b && contains nat_cmp s p) || (not b && is_in o p)) ≡ is_in (cond b (Some s) o) p
+    ((b && contains nat_cmp s p) || (not b && is_in_tree o p)) ≡ is_in_tree (cond b (Some s) o) p
 chosen true s o p = or_false (contains nat_cmp s p)
 chosen false s o p = refl
 
 pairs_have : (es : List (Element × BTreeSet ℕ)) (e : Element) (p : ℕ) →
-    list_any (is_at (pair_cmp (e, p))) (pairs_of es) ≡ is_in (lookup (is_at (element_cmp e)) es) p
+    list_any (is_at (pair_cmp (e, p))) (pairs_of es) ≡ is_in_tree (lookup (is_at (element_cmp e)) es) p
 pairs_have [] e p = refl
 pairs_have ((k, s) ∷ es) e p =
     list_any-append (is_at (pair_cmp (e, p))) (map (λ q. (k, q)) s.keys) (filter (λ q. not (element_eq k q.0)) (pairs_of es))
@@ -74,7 +74,7 @@ pairs_have ((k, s) ∷ es) e p =
     ∙ chosen (element_eq e k) s (lookup (is_at (element_cmp e)) es) p
 
 -- under an element stands what its tree has
-pub listed_kept : (m : BTreeMap Element (BTreeSet ℕ)) (e : Element) (p : ℕ) → is_listed (parts_of m) e p ≡ is_kept m e p
+pub listed_kept : (m : BTreeMap Element (BTreeSet ℕ)) (e : Element) (p : ℕ) → is_listed (listed_in_trees m) e p ≡ is_kept m e p
 listed_kept m e p = contains-from_list pairs_total (pairs_of m.entries) (e, p) ∙ pairs_have m.entries e p
 
 -- ---- one tree changed
@@ -84,10 +84,10 @@ abbrev pub IsTree : BTreeMap Element (BTreeSet ℕ) → Element → BTreeSet ℕ
 IsTree m x s = (p : ℕ) → contains nat_cmp s p ≡ is_kept m x p
 
 pub tree_found : (m : BTreeMap Element (BTreeSet ℕ)) (x : Element) (s : BTreeSet ℕ) → Some s ≡ get element_cmp m x → IsTree m x s
-tree_found m x s is p = ap (λ o. is_in o p) is
+tree_found m x s is p = ap (λ o. is_in_tree o p) is
 
 pub tree_new : (m : BTreeMap Element (BTreeSet ℕ)) (x : Element) (s : BTreeSet ℕ) → None ≡ get element_cmp m x → s.keys ≡ [] → IsTree m x s
-tree_new m x s is none p = ap (list_any (is_at (nat_cmp p))) none ∙ ap (λ o. is_in o p) is
+tree_new m x s is none p = ap (list_any (is_at (nat_cmp p))) none ∙ ap (λ o. is_in_tree o p) is
 
 -- the element has this tree now, and the others have theirs
 abbrev pub IsTurned : BTreeMap Element (BTreeSet ℕ) → BTreeMap Element (BTreeSet ℕ) → Element → BTreeSet ℕ → Type 0
@@ -102,11 +102,11 @@ other_way e x = (eq_by_cmp_equiv elements_total).symm e x
 -- F tells what is listed, by whether a pair is the one that changes and whether it was listed
 module _ (F : Bool → Bool → Bool) (idle : (o : Bool) → F false o ≡ o) where
   turned : (m n : BTreeMap Element (BTreeSet ℕ)) (x : Element) (place : ℕ) (w : BTreeSet ℕ) (new : Listed)
-      → ((e : Element) (p : ℕ) → is_listed new e p ≡ F (element_eq e x && (p == place)) (is_listed (parts_of m) e p))
-      → IsTurned m n x w → ((p : ℕ) → contains nat_cmp w p ≡ F (is_at (nat_cmp place) p) (is_kept m x p)) → parts_of n ≡ new
-  turned m n x place w new is turns has = same_listed (parts_of n) new each where
+      → ((e : Element) (p : ℕ) → is_listed new e p ≡ F (element_eq e x && (p == place)) (is_listed (listed_in_trees m) e p))
+      → IsTurned m n x w → ((p : ℕ) → contains nat_cmp w p ≡ F (is_at (nat_cmp place) p) (is_kept m x p)) → listed_in_trees n ≡ new
+  turned m n x place w new is turns has = same_listed (listed_in_trees n) new each where
     own : (e : Element) (p : ℕ) (b : Bool) → element_eq x e ≡ b →
-        is_in (cond b (Some w) (get element_cmp m e)) p ≡ F (element_eq e x && (p == place)) (is_kept m e p)
+        is_in_tree (cond b (Some w) (get element_cmp m e)) p ≡ F (element_eq e x && (p == place)) (is_kept m e p)
     own e p true same =
         let equal : x ≡ e = elements_exact x e ((Equal-is (element_cmp x e)).0 same) in
         has p ∙ (λ i. F (own_place place p i) (is_kept m (equal i) p))
@@ -114,44 +114,44 @@ module _ (F : Bool → Bool → Bool) (idle : (o : Bool) → F false o ≡ o) wh
     own e p false apart =
         sym (ap (λ b. F (b && (p == place)) (is_kept m e p)) (other_way e x ∙ apart) ∙ idle (is_kept m e p))
 
-    each : (e : Element) (p : ℕ) → is_listed (parts_of n) e p ≡ is_listed new e p
+    each : (e : Element) (p : ℕ) → is_listed (listed_in_trees n) e p ≡ is_listed new e p
     each e p =
-        listed_kept n e p ∙ ap (λ o. is_in o p) (turns e) ∙ own e p (element_eq x e) refl
+        listed_kept n e p ∙ ap (λ o. is_in_tree o p) (turns e) ∙ own e p (element_eq x e) refl
         ∙ ap (F (element_eq e x && (p == place))) (sym (listed_kept m e p)) ∙ sym (is e p)
 
 module _ (m n : BTreeMap Element (BTreeSet ℕ)) (x : Element) (s w : BTreeSet ℕ) (tree : IsTree m x s) (turns : IsTurned m n x w) where
   pub kept_more : (place : ℕ) → ((p : ℕ) → contains nat_cmp w p ≡ cond (is_at (nat_cmp place) p) true (contains nat_cmp s p)) →
-      parts_of n ≡ insert (parts_of m) (x, place)
+      listed_in_trees n ≡ insert (listed_in_trees m) (x, place)
   kept_more place more =
-      turned (λ b o. cond b true o) (λ o. refl) m n x place w (insert (parts_of m) (x, place))
-      (more_so (parts_of m) x place) turns (λ p. more p ∙ ap (cond (is_at (nat_cmp place) p) true) (tree p))
+      turned (λ b o. cond b true o) (λ o. refl) m n x place w (insert (listed_in_trees m) (x, place))
+      (more_so (listed_in_trees m) x place) turns (λ p. more p ∙ ap (cond (is_at (nat_cmp place) p) true) (tree p))
 
   pub kept_less : (place : ℕ) → ((p : ℕ) → contains nat_cmp w p ≡ cond (is_at (nat_cmp place) p) false (contains nat_cmp s p)) →
-      parts_of n ≡ remove (parts_of m) (x, place)
+      listed_in_trees n ≡ remove (listed_in_trees m) (x, place)
   kept_less place less =
-      turned (λ b o. cond b false o) (λ o. refl) m n x place w (remove (parts_of m) (x, place))
-      (less_so (parts_of m) x place) turns (λ p. less p ∙ ap (cond (is_at (nat_cmp place) p) false) (tree p))
+      turned (λ b o. cond b false o) (λ o. refl) m n x place w (remove (listed_in_trees m) (x, place))
+      (less_so (listed_in_trees m) x place) turns (λ p. less p ∙ ap (cond (is_at (nat_cmp place) p) false) (tree p))
 
-  pub kept_same : w.keys ≡ s.keys → parts_of n ≡ parts_of m
+  pub kept_same : w.keys ≡ s.keys → listed_in_trees n ≡ listed_in_trees m
   kept_same same =
-      turned (λ b o. o) (λ o. refl) m n x 0 w (parts_of m) (λ e p. refl) turns
+      turned (λ b o. o) (λ o. refl) m n x 0 w (listed_in_trees m) (λ e p. refl) turns
       (λ p. ap (list_any (is_at (nat_cmp p))) same ∙ tree p)
 
 -- what is under no tree is gone
 pub none_less : (m : BTreeMap Element (BTreeSet ℕ)) (x : Element) (place : ℕ) → None ≡ get element_cmp m x →
-    parts_of m ≡ remove (parts_of m) (x, place)
-none_less m x place none = same_listed (parts_of m) (remove (parts_of m) (x, place)) each where
+    listed_in_trees m ≡ remove (listed_in_trees m) (x, place)
+none_less m x place none = same_listed (listed_in_trees m) (remove (listed_in_trees m) (x, place)) each where
   own : (e : Element) (p : ℕ) (b : Bool) → element_eq e x ≡ b → is_kept m e p ≡ (not (b && (p == place)) && is_kept m e p)
   own e p true same =
       let equal : e ≡ x = elements_exact e x ((Equal-is (element_cmp e x)).0 same) in
-      let empty : is_kept m e p ≡ false = ap (λ y. is_kept m y p) equal ∙ sym (ap (λ o. is_in o p) none) in
+      let empty : is_kept m e p ≡ false = ap (λ y. is_kept m y p) equal ∙ sym (ap (λ o. is_in_tree o p) none) in
       empty ∙ sym (ap (λ b. not (p == place) && b) empty ∙ none_of (not (p == place)))
   own e p false apart = refl
 
-  each : (e : Element) (p : ℕ) → is_listed (parts_of m) e p ≡ is_listed (remove (parts_of m) (x, place)) e p
+  each : (e : Element) (p : ℕ) → is_listed (listed_in_trees m) e p ≡ is_listed (remove (listed_in_trees m) (x, place)) e p
   each e p =
       listed_kept m e p ∙ own e p (element_eq e x) refl ∙ ap (λ b. not (element_eq e x && (p == place)) && b) (sym (listed_kept m e p))
-      ∙ sym (listed_less (parts_of m) x e place p)
+      ∙ sym (listed_less (listed_in_trees m) x e place p)
 
 -- what holds anyway holds of a failure
 pub on_err : {X Y : Type 0} {P : Type 0} (r : Result X Y) → P → OnErr r P
@@ -171,7 +171,7 @@ first_in s from (a ∷ r) is = (at_least from a is.1.0.0, is.1.1, λ p low less.
       let above : a ≤ p = at_least a p (is.2 p (not_more from p low, tt) there) in
       absurd (omega (arith, above, less))
 
-module _ (m : BTreeMap Element (BTreeSet ℕ)) (l : Listed) (view : parts_of m ≡ l) (x : Element) where
+module _ (m : BTreeMap Element (BTreeSet ℕ)) (l : Listed) (view : listed_in_trees m ≡ l) (x : Element) where
   listed_so : (p : ℕ) → is_listed l x p ≡ is_kept m x p
   listed_so p = ap (λ (y : Listed). is_listed y x p) (sym view) ∙ listed_kept m x p
 
@@ -179,7 +179,7 @@ module _ (m : BTreeMap Element (BTreeSet ℕ)) (l : Listed) (view : parts_of m �
   listed_in s is p = tree_found m x s is p ∙ sym (listed_so p)
 
   listed_none : None ≡ get element_cmp m x → (p : ℕ) → is_listed l x p ≡ false
-  listed_none none p = listed_so p ∙ sym (ap (λ o. is_in o p) none)
+  listed_none none p = listed_so p ∙ sym (ap (λ o. is_in_tree o p) none)
 
   pub first_none : None ≡ get element_cmp m x → (from : ℕ) → IsFirst (is_listed l x) from None
   first_none none from p low = listed_none none p

@@ -15,14 +15,14 @@ pairs_of [] = []
 pairs_of (e ∷ es) = map (λ p. (e.0, p)) e.1.keys ++ filter (λ k. not (element_eq e.0 k.0)) (pairs_of es)
 
 -- the finite set of them
-abbrev pub parts_of : BTreeMap Element (BTreeSet ℕ) → Listed
-parts_of m = set.from_list (pairs_of m.entries)
+abbrev pub listed_in_trees : BTreeMap Element (BTreeSet ℕ) → Listed
+listed_in_trees m = set.from_list (pairs_of m.entries)
 
 -- the place is in the tree, where there is one
-abbrev pub is_in : Option (BTreeSet ℕ) → ℕ → Bool
-is_in None p = false
-is_in (Some s) p = contains nat_cmp s p
+abbrev pub is_in_tree : Option (BTreeSet ℕ) → ℕ → Bool
+is_in_tree None p = false
+is_in_tree (Some s) p = contains nat_cmp s p
 
 -- the place is in the tree of the element
 abbrev pub is_kept : BTreeMap Element (BTreeSet ℕ) → Element → ℕ → Bool
-is_kept m e p = is_in (get element_cmp m e) p
+is_kept m e p = is_in_tree (get element_cmp m e) p

@@ -22,13 +22,13 @@ pub(crate) struct Parts {
 
 impl Model for Parts {
     ghost use Rattle.undo_index.specs.Listed.{Listed, coded_listed};
-    ghost use Rattle.undo_index.specs.Parts.{parts_of};
+    ghost use Rattle.undo_index.specs.Parts.{listed_in_trees};
 
     ghost Value = { Listed };
 
     ghost coded = { coded_listed };
 
-    ghost view = { λ p. parts_of p.places };
+    ghost view = { λ p. listed_in_trees p.places };
 }
 
 impl Parts {
