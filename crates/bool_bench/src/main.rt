@@ -8,7 +8,7 @@
 
 use anyhow::Context;
 use band_workers::OneBand;
-use cif_read::read;
+use cif_layout::{FromCif, read};
 use face_rows::Op;
 use lay_calls::CellId;
 use lay_flat::flatten;

@@ -20,8 +20,7 @@ use Rattle.face_link_laws.proofs.RingLaws.{AreSound, ring_from_sound}
 use Rattle.face_link_laws.proofs.StepLemmas.{all_sound}
 use Rattle.bool_shape_laws.specs.Parts.{AreParts, with_label}
 use Rattle.bool_shape_laws.proofs.InRange.{rounded_is_in_range}
-use Rattle.bool_shape_laws.specs.declared.limits.TheConstants.{MAX_SEGMENTS}
-use Rattle.bool_shape_laws.specs.Shapes.{Rings, fits, is_short, op_rings, owned_of, rounded_inputs, segments_of, shapes_of}
+use Rattle.bool_shape_laws.specs.Shapes.{Rings, fits, is_short, max_segments, op_rings, owned_of, rounded_inputs, segments_of, shapes_of}
 use Rattle.bool_shape_laws.proofs.LabelLemmas.{parts_exist}
 use Rattle.bool_shape_laws.proofs.ShapeLemmas.{edges_tell, inputs_in_order, inputs_round}
 use Rattle.bool_shape_laws.proofs.TurningLemmas.{owned_are_rings}
@@ -103,15 +102,15 @@ module _ (op : Op) (a b : List FlatRing) (flat_a : All IsFlat a) (flat_b : All I
 
   short_rings : fits op a b ≡ true → AllByRecursion (λ r. is_short r ≡ true) (op_rings op a b)
   unfolding fits
-  short_rings h = tested_each is_short (op_rings op a b) (and_parts (nat_le (segments_of a b) MAX_SEGMENTS)
+  short_rings h = tested_each is_short (op_rings op a b) (and_parts (nat_le (segments_of a b) max_segments)
       (list_all is_short (op_rings op a b))
-      (and_parts (nat_le (segments_of a b) MAX_SEGMENTS && list_all is_short (op_rings op a b))
+      (and_parts (nat_le (segments_of a b) max_segments && list_all is_short (op_rings op a b))
       (list_all (λ shape. is_short (bridged shape)) (shapes_of op a b)) h).0).1
 
   short_paths : fits op a b ≡ true → AllByRecursion (λ shape. is_short (bridged shape) ≡ true) (shapes_of op a b)
   unfolding fits
   short_paths h = tested_each (λ shape. is_short (bridged shape)) (shapes_of op a b)
-      (and_parts (nat_le (segments_of a b) MAX_SEGMENTS && list_all is_short (op_rings op a b))
+      (and_parts (nat_le (segments_of a b) max_segments && list_all is_short (op_rings op a b))
       (list_all (λ shape. is_short (bridged shape)) (shapes_of op a b)) h).1
 
   shapes_are_parts : AreParts (op_rings op a b) (shapes_of op a b)

@@ -16,7 +16,6 @@ use Rattle.snap_round_laws.specs.Rounding.{rounded_of}
 use Rattle.face_labels.specs.Op.{Op}
 use Rattle.face_labels.specs.Operations.{edges_of_op}
 use Rattle.face_link_laws.specs.Linking.{linked_rings}
-use Rattle.bool_shape_laws.specs.declared.limits.TheConstants.{MAX_SEGMENTS}
 use Rattle.bool_shape_laws.specs.Dividing.{parts_of}
 
 -- a shape: its rings, each the list of its points
@@ -54,6 +53,10 @@ is_short path = nat_le (length path) MAX_RING_POINTS
 abbrev pub are_short : List Rings → Bool
 are_short shapes = list_all (λ shape. is_short (bridged shape)) shapes
 
+-- the most sides of all rings of both inputs
+abbrev pub max_segments : ℕ
+max_segments = 65536
+
 -- there are few enough sides, and each ring and the path round each shape is short
 unfoldable pub fits : Op → List FlatRing → List FlatRing → Bool
-fits op a b = nat_le (segments_of a b) MAX_SEGMENTS && list_all is_short (op_rings op a b) && are_short (shapes_of op a b)
+fits op a b = nat_le (segments_of a b) max_segments && list_all is_short (op_rings op a b) && are_short (shapes_of op a b)

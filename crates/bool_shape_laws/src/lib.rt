@@ -7,8 +7,6 @@
 #![tactic(auto)]
 
 mod laws;
-mod limits;
 
 pub use face_labels::Op;
 pub use laws::{parts_are_unique, shapes_tell_places};
-pub use limits::MAX_SEGMENTS;

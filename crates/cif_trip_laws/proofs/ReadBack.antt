@@ -30,8 +30,8 @@ use Rattle.cif_read.proofs.OneMeaning.{one_end, short_text}
 use Rattle.cif_read.proofs.BindingLemmas.{sound_file, unmapped}
 use Rattle.cif_read.proofs.StepFacts.{start_kept}
 use Rattle.cif_read.proofs.TextGrammar.{complete}
-use Rattle.lay_items.specs.FromCif.{item_of, layout_of}
-use Rattle.lay_items.proofs.SoundLemmas.{layout_of-sound}
+use Rattle.cif_layout.specs.FromCif.{item_of, layout_of}
+use Rattle.cif_layout.proofs.SoundLemmas.{layout_of-sound}
 use Rattle.cif_write.specs.Text.{text}
 use Rattle.cif_write.specs.Wrap.{Definition, Written, as_written, items_written, wrap, written}
 use Rattle.cif_trip_laws.specs.Laws.{AreOnNamedLayers, FitsText, IsReread, WhatIsWrappedIsSound, WhatIsWrittenIsReadBack}

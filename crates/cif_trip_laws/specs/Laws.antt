@@ -16,7 +16,7 @@ use Rattle.cif_content.specs.Binding.{IsBoundAs}
 use Rattle.cif_content.specs.Content.{content_of}
 use Rattle.cif_content.specs.Contents.{Contents}
 use Rattle.cif_content.specs.Meaning.{AnswersMeaning, no_memory}
-use Rattle.lay_items.specs.FromCif.{layout_of}
+use Rattle.cif_layout.specs.FromCif.{layout_of}
 use Rattle.cif_write.specs.Text.{text}
 use Rattle.cif_write.specs.Wrap.{wrap, written}
 

@@ -10,6 +10,7 @@ ghost use Rattle.cif_trip_laws.specs.Laws.{AreOnNamedLayers, IsOnNamedLayer};
 
 use byte_io::{Failing, MemoryOut};
 use cif_content::CifFault;
+use cif_layout::FromCif;
 use cif_read::read;
 use cif_write::write;
 use lay_items::Snapshot;

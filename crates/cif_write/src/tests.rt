@@ -5,6 +5,7 @@ use crate::points::put_bridged;
 use crate::text::put_call;
 use crate::wrap::least_unused;
 use byte_io::{Failing, MemoryOut, OutBuffer};
+use cif_layout::FromCif;
 use lay_calls::Cells;
 use lay_items::Snapshot;
 use lay_point::{Point, Quarter, Ring, Turn};
@@ -13,7 +14,7 @@ use std::test::*;
 
 /// Writes what the text means to the device.
 fn rewrite(alloc: Global, text: &[u8], out: &mut MemoryOut) -> Result<(), WriteFault> {
-    let Ok(file) = lay_items::read(alloc, text) else {
+    let Ok(file) = cif_layout::read(alloc, text) else {
         return Err(WriteFault::NoMemory);
     };
     write(alloc, &Snapshot::from_cif(alloc, file)?, out)

@@ -3,6 +3,7 @@
 
 use crate::drawn::at;
 use band_workers::OneBand;
+use cif_layout::FromCif;
 use face_rows::Op;
 use lay_calls::CellId;
 use lay_flat::{Snapshot, flatten};
@@ -19,7 +20,7 @@ fn shapes_of(
     text: &[u8],
     op: Op,
 ) -> Result<Vec<Vec<Ring>>, Fail> {
-    let snapshot = Snapshot::from_cif(alloc, cif_read::read(alloc, text)?)?;
+    let snapshot = Snapshot::from_cif(alloc, cif_layout::read(alloc, text)?)?;
     let a = LayerName::new(b"A").ok_or("no layer name")?;
     let b = LayerName::new(b"B").ok_or("no layer name")?;
     let first = flatten(alloc, &snapshot, CellId::Top, &a)?;

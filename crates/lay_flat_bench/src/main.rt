@@ -5,7 +5,7 @@
 #![tactic(auto)]
 
 use anyhow::Context;
-use cif_read::read;
+use cif_layout::{FromCif, read};
 use lay_calls::CellId;
 use lay_flat::flatten;
 use lay_items::Snapshot;

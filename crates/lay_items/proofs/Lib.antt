@@ -2,5 +2,5 @@ pub mod Entering
 pub mod NumberedLemmas
 pub mod Reaching
 pub mod SoundLemmas
-pub use Rattle.cif_read.proofs.AcyclicLemmas
-pub use Rattle.cif_read.proofs.WalkListLemmas
+pub use Rattle.lay_cells.proofs.AcyclicLemmas
+pub use Rattle.lay_cells.proofs.WalkListLemmas

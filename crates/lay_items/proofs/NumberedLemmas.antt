@@ -1,20 +1,20 @@
 -- The items of a list under the ids of a text.
 use Rattle.std.proofs.Common.{◌≡◌, ◌<◌, ℕ, ◌+◌, Bool, true, false, List, [], ◌∷◌}
-use Rattle.std.proofs.Common.{◌++◌, length, Some, None, cond, refl, ap, ◌∙◌, arith, subst}
+use Rattle.std.proofs.Common.{◌++◌, length, Some, None, cond, refl, ap, ◌∙◌, arith, subst, sym}
+use Rattle.std.proofs.lemmas.List.{length-append, length-map, map-append}
 use Rattle.std.specs.declared.cmp.Ordering.TheVariants.{Less}
 use Rattle.std.specs.FinMap.{entries, find}
 use Rattle.std.specs.List.{AllByRecursion}
 use Rattle.std.specs.List.Sorted.{IsStrictlySortedBy}
 use Rattle.std.specs.Map.{keys_of}
 use Rattle.std.specs.Ordering.{eq_by_cmp, is_eq}
-use Rattle.cif_read.specs.Element.{Element}
-use Rattle.lay_items.specs.FromCif.{item_of, items_of_elements}
 use Rattle.lay_layouts.specs.declared.id.ItemId.{ItemId}
 use Rattle.lay_layouts.specs.declared.item.Item.{Item}
 use Rattle.lay_layouts.specs.IdOrder.{ids_total}
 use Rattle.lay_layouts.specs.Ids.{id_cmp}
 use Rattle.lay_layouts.specs.Layout.{map_of_items}
 use Rattle.lay_layouts.specs.LayoutWith.{numbered_from, text_id}
+use Rattle.lay_items.specs.Numbered.{AreNumbered, items_under}
 use Rattle.lay_layouts.proofs.DistinctLemmas.{AreDistinct}
 use Rattle.lay_layouts.proofs.MapLemmas.{entries_again}
 use Rattle.lay_layouts.proofs.SlotLemmas.{lesser}
@@ -60,13 +60,29 @@ found-all P k (item ∷ items) id found all at =
       by_id true rest e = let same : item ≡ found = cc in subst P same all.0
       by_id false rest e = rest e
 
--- the last element of a text is numbered behind those before it
-pub numbered-last : (k : ℕ) (es : List Element) (e : Element) (behind : List (ItemId × Item))
-    → numbered_from k (items_of_elements (es ++ e ∷ [])) ++ behind
-    ≡ numbered_from k (items_of_elements es) ++ (text_id (length es + k), item_of e) ∷ behind
-numbered-last k [] e behind = let same : k ≡ 0 + k = omega arith in ap (λ n. (text_id n, item_of e) ∷ behind) same
-numbered-last k (f ∷ es) e behind =
-    let same : length es + (k + 1) ≡ length (f ∷ es) + k = omega arith in
-    ap (λ (rest : List (ItemId × Item)). (text_id k, item_of f) ∷ rest)
-    (numbered-last (k + 1) es e behind
-    ∙ ap (λ n. numbered_from (k + 1) (items_of_elements es) ++ (text_id n, item_of e) ∷ behind) same)
+-- the last item is numbered behind those before it
+pub numbered-last : (k : ℕ) (items : List Item) (item : Item)
+    → numbered_from k (items ++ item ∷ []) ≡ numbered_from k items ++ (text_id (length items + k), item) ∷ []
+numbered-last k [] item = let same : k ≡ 0 + k = omega arith in ap (λ n. (text_id n, item) ∷ []) same
+numbered-last k (first ∷ items) item =
+    let same : length items + (k + 1) ≡ length (first ∷ items) + k = omega arith in
+    ap (λ (rest : List (ItemId × Item)). (text_id k, first) ∷ rest)
+    (numbered-last (k + 1) items item
+    ∙ ap (λ n. numbered_from (k + 1) items ++ (text_id n, item) ∷ []) same)
+
+-- with one item more they are still numbered
+pub numbered-more : (entries new : List (ItemId × Item)) (count next : ℕ) (id : ItemId) (item : Item) → AreNumbered entries count
+    → next ≡ count + 1 → id ≡ text_id next → new ≡ entries ++ (id, item) ∷ [] → AreNumbered new next
+numbered-more entries new count next id item are n i e =
+    let items : items_under new ≡ items_under entries ++ item ∷ [] =
+    ap items_under e ∙ map-append (λ (entry : ItemId × Item). entry.1) entries ((id, item) ∷ []) in
+    let len : length (items_under entries) ≡ length entries = length-map entries (λ (entry : ItemId × Item). entry.1) in
+    let place : next ≡ length (items_under entries) + 1 = omega (arith, n, len, are.all) in
+    let last : id ≡ text_id (length (items_under entries) + 1) = i ∙ ap text_id place in
+    let grown : length (entries ++ (id, item) ∷ []) ≡ length entries + 1 = length-append entries ((id, item) ∷ []) in
+    record {
+      ids = e ∙ ap (λ es. es ++ (id, item) ∷ []) are.ids
+          ∙ ap (λ (k : ItemId). numbered_from 1 (items_under entries) ++ (k, item) ∷ []) last
+          ∙ sym (numbered-last 1 (items_under entries) item) ∙ ap (numbered_from 1) (sym items);
+      all = ap length e ∙ omega (arith, grown, are.all, n);
+    }

@@ -1,3 +1,3 @@
-pub mod FromCif
 pub mod Graphs
-pub use Rattle.cif_read.specs.Tallies
+pub mod Numbered
+pub use Rattle.lay_cells.specs.Tallies

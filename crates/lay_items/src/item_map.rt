@@ -3,16 +3,13 @@ ghost use Rattle.std.specs.Prelude.{◌≡◌, ◌≤◌, ◌*◌, IfOk, option_
 ghost use Rattle.std.specs.FinMap as map;
 ghost use Rattle.std.specs.List.Sorted.{IsStrictlySortedBy};
 ghost use Rattle.std.specs.Map.{keys_of};
-ghost use Rattle.lay_items.specs.FromCif.{items_of_elements};
 ghost use Rattle.lay_layouts.specs.Ids.{id_cmp};
 ghost use Rattle.lay_layouts.specs.Items.{standing_in};
 ghost use Rattle.lay_layouts.specs.Layout.{AreRising, map_of_items, put, put_all};
 ghost use Rattle.lay_layouts.specs.LayoutWith.{numbered_from};
 ghost use Rattle.lay_layouts.specs.SameLayout.{items_eq};
 
-use crate::from_cif::pages_of;
-use crate::numbered::numbered;
-use cif_read::Element;
+use crate::numbered::NumberedItems;
 use lay_calls::CellId;
 use lay_cell_items::{Entries, Homes, Items, cell_index, homes_of, listed, merged, paged};
 use lay_layouts::{Item, ItemId, Pages, are_same_pages};
@@ -58,18 +55,10 @@ impl ItemMap {
     }
 
     /// Returns the items under the ids 0.0.1 and on.
-    pub(crate) fn of_items(alloc: Global, items: Vec<Item>) -> Result<ItemMap, NoMemory>
-        ensures { IfOk result (λ numbered. numbered ≡ map_of_items (numbered_from 1 items.items)) }
+    pub(crate) fn of_numbered(alloc: Global, items: NumberedItems) -> Result<ItemMap, NoMemory>
+        ensures { IfOk result (λ numbered. numbered ≡ map_of_items (numbered_from 1 items)) }
     {
-        ItemMap::of(alloc, numbered(alloc, items)?)
-    }
-
-    /// Returns the elements of a text as items under the ids 0.0.1 and on.
-    pub(crate) fn of_text(alloc: Global, elements: Vec<Element>) -> Result<ItemMap, NoMemory>
-        ensures { IfOk result (λ numbered. numbered
-            ≡ map_of_items (numbered_from 1 (items_of_elements elements.items))) }
-    {
-        ItemMap::of(alloc, pages_of(alloc, elements)?)
+        ItemMap::of(alloc, items.build(alloc)?)
     }
 
     /// Returns the map of these items.

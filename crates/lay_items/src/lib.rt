@@ -10,19 +10,23 @@
 //! after.
 //!
 //! ```text
-//! let snapshot = Snapshot::from_cif(alloc, cif_read::read(alloc, text)?)?;
+//! let items = NumberedItems::new(alloc).push(alloc, item)?;
+//! let snapshot = Snapshot::of(alloc, Version::of_numbered(alloc, &symbols, items)?)?;
 //! for (id, item) in snapshot.items(CellId::Top) { .. }
 //! ```
+//!
+//! Nothing here knows of a file format: a reader's crate gives the items of a text one after another
+//! ([`NumberedItems`]), as `cif_layout` does.
 #![tactic(auto)]
 
-mod from_cif;
 mod item_map;
 mod numbered;
 mod snapshot;
 mod version;
 
-pub use cif_read::{CallGraph, read};
 pub use lay_cell_items::{Calls, Entries, Items, Shapes};
+pub use lay_cells::CallGraph;
 pub use lay_layouts::{CellSlot, Item, ItemId, Rings};
+pub use numbered::NumberedItems;
 pub use snapshot::Snapshot;
 pub use version::Version;

@@ -1,27 +1,76 @@
 //! Items under the ids of a text.
-ghost use Rattle.std.specs.Prelude.{◌≡◌, IfOk};
+ghost use Rattle.std.specs.Prelude.{◌≡◌, ◌++◌, [], ◌∷◌, IfOk};
 ghost use Rattle.lay_layouts.specs.LayoutWith.{numbered_from, text_id};
 
 use lay_layouts::{Item, ItemId, Pages, PagesBuilder, one_more};
 use lay_point::NoMemory;
 use std::alloc::Global;
+use std::marker::Model;
 
-/// Returns the items under the ids 0.0.1 and on.
-pub(crate) fn numbered(alloc: Global, items: Vec<Item>) -> Result<Pages<ItemId, Item>, NoMemory>
-    ensures { IfOk result (λ pages. pages ≡ numbered_from 1 items.items) }
-{
-    let mut pages = PagesBuilder::new(alloc);
-    let mut seq: u32 = 0;
-    for item in items {
-        seq = one_more(seq)?;
-        pages = pages.push(alloc, text_id(seq), item)?;
+/// Takes the items of a text one after another, the q-th under the id 0.0.q, so that they needn't be in a list
+/// first. Contracts see the list of the items.
+#[derive(Drop)]
+pub struct NumberedItems {
+    pages: PagesBuilder<ItemId, Item>,
+    /// How many there are.
+    count: u32,
+}
+
+impl Model for NumberedItems {
+    ghost use Rattle.std.specs.Prelude.{List};
+    ghost use Rattle.lay_layouts.specs.declared.item.Item.{Item};
+    ghost use Rattle.lay_items.specs.Numbered.{AreNumbered, items_under};
+
+    ghost Value = { List Item };
+
+    ghost view = { λ n. items_under n.pages };
+
+    ghost invariant = { λ n. AreNumbered n.pages n.count };
+}
+
+impl NumberedItems {
+    /// Returns no items.
+    pub fn new(alloc: Global) -> NumberedItems
+        ensures { result ≡ [] }
+    {
+        NumberedItems {
+            pages: PagesBuilder::new(alloc),
+            count: 0,
+        }
     }
-    let pages = pages.build(alloc)?;
-    Ok(pages)
+
+    /// Returns the items and one after them. More than a `u32` counts are out of memory.
+    pub fn push(self, alloc: Global, item: Item) -> Result<NumberedItems, NoMemory>
+        ensures { IfOk result (λ new. new ≡ self ++ (item ∷ [])) }
+    {
+        let NumberedItems { pages, count } = self;
+        let count = one_more(count)?;
+        let pages = pages.push(alloc, text_id(count), item)?;
+        Ok(NumberedItems { pages, count })
+    }
+
+    /// Returns the items under their ids.
+    pub(crate) fn build(self, alloc: Global) -> Result<Pages<ItemId, Item>, NoMemory>
+        ensures { IfOk result (λ pages. pages ≡ numbered_from 1 self) }
+    {
+        let pages = self.pages.build(alloc)?;
+        Ok(pages)
+    }
+}
+
+/// Returns the items of a list, numbered.
+pub(crate) fn numbered(alloc: Global, items: Vec<Item>) -> Result<NumberedItems, NoMemory>
+    ensures { IfOk result (λ numbered. numbered ≡ items.items) }
+{
+    let mut numbered = NumberedItems::new(alloc);
+    for item in items {
+        numbered = numbered.push(alloc, item)?;
+    }
+    Ok(numbered)
 }
 
 /// Returns the id of an item of a text.
-pub(crate) fn text_id(seq: u32) -> ItemId
+fn text_id(seq: u32) -> ItemId
     ensures { result ≡ text_id seq }
 {
     ItemId {

@@ -2,7 +2,6 @@
 ghost use Rattle.std.specs.Prelude.{◌≡◌, Ok, option_copied};
 ghost use Rattle.std.specs.FinMap as map;
 ghost use Rattle.lay_point.specs.Memory.{IsAnswer};
-ghost use Rattle.lay_items.specs.FromCif.{layout_of};
 ghost use Rattle.lay_layouts.specs.Items.{items_in};
 ghost use Rattle.lay_layouts.specs.Layout.{item_at};
 ghost use Rattle.lay_layouts.specs.Lent.{calls_in, points_at, shapes_in};
@@ -10,7 +9,6 @@ ghost use Rattle.lay_layouts.specs.SlotOrder.{in_slot_order};
 ghost use Rattle.lay_layouts.specs.Sound.{IsSound};
 
 use crate::version::Version;
-use cif_read::CifFile;
 use lay_calls::{CellId, Cells};
 use lay_cell_items::{Calls, Items, Shapes};
 use lay_layouts::{CellSlot, Item, ItemId};
@@ -40,20 +38,6 @@ impl Model for Snapshot {
 }
 
 impl Snapshot {
-    /// Returns the layout of a text's meaning: its symbols in the order of their definitions, and its
-    /// element q as item 0.0.q.
-    ///
-    /// # Cost
-    ///
-    /// A pass over the elements, and a sort of them by cell.
-    pub fn from_cif(alloc: Global, file: CifFile) -> Result<Snapshot, NoMemory>
-        ensures { IsAnswer (record {}) result (Ok (layout_of file)) }
-    {
-        let (symbols, elements) = file.into_parts();
-        let version = Version::of_text(alloc, &symbols, elements)?;
-        Snapshot::of(alloc, version)
-    }
-
     /// Returns the snapshot of a sound version.
     pub fn of(alloc: Global, version: Version) -> Result<Snapshot, NoMemory>
         requires { IsSound version }

@@ -4,7 +4,6 @@ ghost use Rattle.std.specs.Arc.{arc_value};
 ghost use Rattle.std.specs.FinMap as map;
 ghost use Rattle.std.specs.Ordering.{nat_cmp};
 ghost use Rattle.lay_point.specs.Memory.{IsAnswer};
-ghost use Rattle.lay_items.specs.FromCif.{items_of_elements};
 ghost use Rattle.lay_layouts.specs.Ids.{id_cmp};
 ghost use Rattle.lay_layouts.specs.Items.{items_in};
 ghost use Rattle.lay_layouts.specs.Layout.{AreRising, changed, is_cell, item_at, no_items, put_all};
@@ -13,7 +12,7 @@ ghost use Rattle.lay_layouts.specs.Same.{symbols_eq};
 ghost use Rattle.lay_layouts.specs.SlotOrder.{in_slot_order};
 
 use crate::item_map::ItemMap;
-use cif_read::Element;
+use crate::numbered::{NumberedItems, numbered};
 use lay_calls::{CellId, Cells};
 use lay_cell_items::{Entries, Items};
 use lay_layouts::{CellSlot, Item, ItemId, SymbolMap};
@@ -60,23 +59,23 @@ impl Version {
     pub fn of_parts(alloc: Global, symbols: &Cells, items: Vec<Item>) -> Result<Version, NoMemory>
         ensures { IsAnswer (record {}) result (Ok (layout_with symbols.now items.items)) }
     {
-        let symbols = Arc::new(alloc, SymbolMap::of_text(alloc, symbols)?)?;
-        let items = Arc::new(alloc, ItemMap::of_items(alloc, items)?)?;
-        Ok(Version { symbols, items })
+        Version::of_numbered(alloc, symbols, numbered(alloc, items)?)
     }
 
-    /// Returns the layout of these symbols, in this order, and of the elements of a text, of which
-    /// the q-th has the id 0.0.q.
-    pub(crate) fn of_text(
+    /// Returns the same of items that have their ids.
+    ///
+    /// # Cost
+    ///
+    /// As that of `of_parts`.
+    pub fn of_numbered(
         alloc: Global,
         symbols: &Cells,
-        elements: Vec<Element>,
+        items: NumberedItems,
     ) -> Result<Version, NoMemory>
-        ensures { IsAnswer (record {}) result
-            (Ok (layout_with symbols.now (items_of_elements elements.items))) }
+        ensures { IsAnswer (record {}) result (Ok (layout_with symbols.now items)) }
     {
         let symbols = Arc::new(alloc, SymbolMap::of_text(alloc, symbols)?)?;
-        let items = Arc::new(alloc, ItemMap::of_text(alloc, elements)?)?;
+        let items = Arc::new(alloc, ItemMap::of_numbered(alloc, items)?)?;
         Ok(Version { symbols, items })
     }
 

@@ -1,8 +1,9 @@
 //! Tests of what no clause says: that calls succeed, and that definitions mean what they should.
 
+use cif_layout::{FromCif, read};
 use lay_calls::CellId;
 use lay_flat::*;
-use lay_items::{Snapshot, read};
+use lay_items::Snapshot;
 use lay_point::{LayerName, Point};
 use std::test::*;
 

@@ -1,6 +1,7 @@
 //! Tests of what no clause says: that calls succeed, and that definitions mean what they should.
 ghost use Rattle.std.specs.Prelude.{◌≡◌};
 
+use cif_layout::FromCif;
 use lay_calls::{CellId, Cells};
 use lay_items::*;
 use lay_point::{LayerName, Point, Quarter, Ring, Turn};
@@ -48,7 +49,7 @@ fn square(alloc: Global, cell: CellId, layer: &[u8], half: i32) -> Result<Item, 
 
 /// Returns the snapshot of what the text means.
 fn snapshot(alloc: Global, text: &[u8]) -> Result<Snapshot, Fail> {
-    Ok(Snapshot::from_cif(alloc, cif_read::read(alloc, text)?)?)
+    Ok(Snapshot::from_cif(alloc, cif_layout::read(alloc, text)?)?)
 }
 
 // Could catch items that are numbered, layered or placed otherwise than the text says, in the

@@ -1,6 +1,6 @@
 //! Tests of what no contract says: that shapes are turned where they can be.
 
-use cif_read::read;
+use cif_layout::{FromCif, read};
 use lay_items::Snapshot;
 use lay_layouts::ItemId;
 use lay_oriented::oriented_layout;

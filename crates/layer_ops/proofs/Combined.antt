@@ -16,8 +16,7 @@ use Rattle.snap_visits.specs.Rounded.{Owned}
 use Rattle.lay_flat.specs.Flat.{FlatRing, IsFlat}
 use Rattle.face_rows.specs.declared.op.Op.{Op}
 use Rattle.face_rows.specs.Operations.{edges_of_op, op_at}
-use Rattle.bool_shape_laws.specs.declared.limits.TheConstants.{MAX_SEGMENTS}
-use Rattle.bool_shape_laws.specs.Shapes.{Rings, are_short, fits, is_short, op_rings, rounded_inputs, segments_of, shapes_of}
+use Rattle.bool_shape_laws.specs.Shapes.{Rings, are_short, fits, is_short, max_segments, op_rings, rounded_inputs, segments_of, shapes_of}
 use Rattle.bool_shape_laws.proofs.ShapeLemmas.{edges_in_range, edges_tell, tell_places}
 use Rattle.layer_ops.specs.declared.fault.OpFault.{OpFault}
 use Rattle.layer_ops.specs.declared.fault.OpFault.TheVariants.{NoMemory, TooMany}
@@ -40,13 +39,13 @@ are_linkable op a b edges flat_a flat_b same =
     let h = edges_tell op a b flat_a flat_b in
     subst AreLinkable (sym same) (record { rising = h.rising; in_range = edges_in_range op a b flat_a flat_b; even = h.even })
 
-pub too_many_sides : (op : Op) (a b : List FlatRing) → nat_le (segments_of a b) MAX_SEGMENTS ≡ false → combined op a b ≡ Err TooMany
+pub too_many_sides : (op : Op) (a b : List FlatRing) → nat_le (segments_of a b) max_segments ≡ false → combined op a b ≡ Err TooMany
 unfolding fits
 too_many_sides op a b h =
     ap (λ t. cond {A = Result (List Rings) OpFault} ((t && list_all is_short (op_rings op a b)) && are_short (shapes_of op a b))
     (Ok (shapes_of op a b)) (Err TooMany)) h
 
-pub few_sides : (op : Op) (a b : List FlatRing) → nat_le (segments_of a b) MAX_SEGMENTS ≡ true
+pub few_sides : (op : Op) (a b : List FlatRing) → nat_le (segments_of a b) max_segments ≡ true
     → combined op a b ≡ shaped (edges_of_op op (rounded_inputs a b))
 unfolding fits shaped shapes_of
 few_sides op a b h =

@@ -1,15 +1,15 @@
 //! How many sides the rings of flattenings have.
 ghost use Rattle.std.specs.Prelude.{◌≡◌, ◌+◌, All, length, min, nat_le, sum_by};
 ghost use Rattle.lay_flat.specs.Flat.{IsFlat};
-ghost use Rattle.bool_shape_laws.specs.declared.limits.TheConstants.{MAX_SEGMENTS};
-ghost use Rattle.bool_shape_laws.specs.Shapes.{segments_of};
+ghost use Rattle.bool_shape_laws.specs.Shapes.{max_segments, segments_of};
+ghost use Rattle.layer_ops.specs.declared.limits.TheConstants.{MAX_SEGMENTS};
 
-use bool_shape_laws::MAX_SEGMENTS;
+use crate::limits::MAX_SEGMENTS;
 use lay_flat::{Flat, FlatRing};
 
 /// Returns whether the rings of both have few enough sides for an operation.
 pub(crate) fn are_few(a: &Flat, b: &Flat) -> bool
-    ensures { result ≡ nat_le (segments_of a.now b.now) MAX_SEGMENTS }
+    ensures { result ≡ nat_le (segments_of a.now b.now) max_segments }
 {
     sides(a.rings()) + sides(b.rings()) <= MAX_SEGMENTS
 }

@@ -16,10 +16,11 @@ mod combining;
 mod counting;
 mod edges;
 mod fault;
+mod limits;
 mod shapes;
 mod turning;
 
 pub use band_workers::Bands;
-pub use bool_shape_laws::MAX_SEGMENTS;
 pub use combining::combine;
 pub use fault::OpFault;
+pub use limits::MAX_SEGMENTS;

@@ -7,7 +7,7 @@ use Rattle.cif_content.specs.declared.fault.FaultKind.{FaultKind}
 use Rattle.cif_content.specs.declared.fault.FaultKind.TheVariants.{NoMemory as CifMemory}
 use Rattle.cif_content.specs.Contents.{Contents}
 use Rattle.cif_content.specs.Meaning.{IsMeaning}
-use Rattle.lay_items.specs.FromCif.{layout_of}
+use Rattle.cif_layout.specs.FromCif.{layout_of}
 use Rattle.lay_layouts.specs.Layout.{Layout}
 use Rattle.job_text.specs.declared.job.JobFault.{JobFault}
 use Rattle.job_text.specs.declared.job.JobFault.TheVariants.{Line, NoMemory as JobMemory}

@@ -7,7 +7,7 @@ use Rattle.std.proofs.KnownBytes.{Appends-nil}
 use Rattle.byte_io.specs.Device.{WroteAll, WrotePrefix}
 use Rattle.byte_io.proofs.BufferedLemmas.{WroteAll-then, WrotePrefix-behind}
 use Rattle.cif_content.specs.Contents.{Contents}
-use Rattle.lay_items.specs.FromCif.{layout_of}
+use Rattle.cif_layout.specs.FromCif.{layout_of}
 use Rattle.byte_io.specs.Lines.{lines}
 use Rattle.job_text.specs.Job.{job_of}
 use Rattle.job_live.specs.Live.{LiveRun, after_line, after_lines, before_first_line}

@@ -9,7 +9,7 @@ use Rattle.cif_content.specs.Contents.{Contents}
 use Rattle.cif_content.specs.Meaning.{IsMeaning}
 use Rattle.cif_write.specs.declared.writer.WriteFault.{WriteFault}
 use Rattle.cif_write.specs.declared.writer.WriteFault.TheVariants.{Device as DeviceFault, NoMemory}
-use Rattle.lay_items.specs.FromCif.{layout_of}
+use Rattle.cif_layout.specs.FromCif.{layout_of}
 use Rattle.lay_layouts.specs.Layout.{Layout}
 use Rattle.job_text.specs.declared.job.JobFault.{JobFault}
 use Rattle.job_text.specs.declared.job.JobFault.TheVariants.{Line, NoMemory as JobMemory}

@@ -10,7 +10,7 @@ ghost use Rattle.live_run.specs.Course.{IsBaseOf, OpensTo, Refuses, end_of_head,
 
 use crate::ending::LiveEnd;
 use cif_content::{CifFault, FaultKind};
-use cif_read::read;
+use cif_layout::{FromCif, read};
 use job_live::Live;
 use job_text::{Job, JobFault};
 use lay_items::Snapshot;

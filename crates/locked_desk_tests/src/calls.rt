@@ -3,6 +3,7 @@
 ghost use Rattle.std.specs.Prelude.{◌≡◌};
 
 use band_workers::OneBand;
+use cif_layout::FromCif;
 use lay_calls::CellId;
 use lay_items::Snapshot;
 use lay_layouts::ItemId;
@@ -19,7 +20,7 @@ use undo_rules::BookFault;
 
 /// Returns a layout of one box.
 fn one_box(alloc: Global) -> Result<Snapshot, Fail> {
-    let file = cif_read::read(alloc, b"L M; B 4 2 0 0; E")?;
+    let file = cif_layout::read(alloc, b"L M; B 4 2 0 0; E")?;
     Ok(Snapshot::from_cif(alloc, file)?)
 }
 

@@ -3,6 +3,7 @@
 ghost use Rattle.std.specs.Prelude.{◌≡◌, IfOk, length};
 
 use band_workers::{Bands, OneBand};
+use cif_layout::FromCif;
 use face_rows::Op;
 use lay_calls::CellId;
 use lay_items::Snapshot;
@@ -68,7 +69,7 @@ impl SessionGate for OpenGate {
 
 /// Returns a layout of two boxes that overlap, on two layers.
 fn two_boxes(alloc: Global) -> Result<Snapshot, Fail> {
-    let file = cif_read::read(alloc, b"L A; B 8 8 0 0; L B; B 8 8 4 4; E")?;
+    let file = cif_layout::read(alloc, b"L A; B 8 8 0 0; L B; B 8 8 4 4; E")?;
     Ok(Snapshot::from_cif(alloc, file)?)
 }
 

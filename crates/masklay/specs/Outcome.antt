@@ -5,7 +5,7 @@ use Rattle.cif_content.specs.declared.fault.FaultKind.TheVariants.{NoMemory as C
 use Rattle.cif_content.specs.declared.fault.FaultKind.{FaultKind}
 use Rattle.cif_content.specs.Contents.{Contents}
 use Rattle.cif_content.specs.Meaning.{IsMeaning}
-use Rattle.lay_items.specs.FromCif.{layout_of}
+use Rattle.cif_layout.specs.FromCif.{layout_of}
 use Rattle.lay_layouts.specs.Layout.{Layout}
 use Rattle.job_text.specs.Jobs.{Job}
 use Rattle.job_text.specs.declared.job.JobFault.{JobFault}

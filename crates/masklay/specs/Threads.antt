@@ -4,7 +4,7 @@ use Rattle.std.specs.List.{list_any}
 use Rattle.cif_content.specs.declared.fault.CifFault.{CifFault}
 use Rattle.cif_content.specs.Contents.{Contents}
 use Rattle.cif_content.specs.Meaning.{IsMeaning}
-use Rattle.lay_items.specs.FromCif.{layout_of}
+use Rattle.cif_layout.specs.FromCif.{layout_of}
 use Rattle.lay_layouts.specs.Layout.{Layout}
 use Rattle.job_text.specs.Job.{job_of}
 use Rattle.job_text.specs.Jobs.{Job}

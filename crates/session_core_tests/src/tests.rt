@@ -2,6 +2,7 @@
 //! should.
 
 use band_workers::OneBand;
+use cif_layout::FromCif;
 use lay_calls::CellId;
 use lay_items::Snapshot;
 use lay_point::{LayerName, Point};
@@ -13,7 +14,7 @@ use txn_commands::{Command, Done, TxnId};
 
 /// Returns the layout without items.
 fn empty(alloc: Global) -> Result<Snapshot, Fail> {
-    Ok(Snapshot::from_cif(alloc, cif_read::read(alloc, b"E")?)?)
+    Ok(Snapshot::from_cif(alloc, cif_layout::read(alloc, b"E")?)?)
 }
 
 /// Returns the step that draws a box of this side.

@@ -19,12 +19,12 @@ use Rattle.cif_read.proofs.PieceFacts.{kept_step}
 use Rattle.cif_read.proofs.StepFacts.{start_kept, then_ok}
 use Rattle.lay_layouts.specs.declared.id.ItemId.{ItemId}
 use Rattle.lay_layouts.specs.declared.item.Item.{Item}
-use Rattle.lay_items.specs.FromCif.{items_of_elements, layout_of}
+use Rattle.cif_layout.specs.FromCif.{items_of_elements, layout_of}
 use Rattle.lay_layouts.specs.IdOrder.{ids_total}
 use Rattle.lay_layouts.specs.Ids.{id_cmp}
 use Rattle.lay_layouts.specs.LayoutWith.{numbered_from, text_id}
 use Rattle.lay_layouts.specs.Sound.{IsSound}
-use Rattle.lay_items.proofs.SoundLemmas.{layout_of-sound}
+use Rattle.cif_layout.proofs.SoundLemmas.{layout_of-sound}
 use Rattle.txn_commands.specs.declared.command.TxnId.{TxnId}
 use Rattle.undo_region_laws.specs.Staying.{HasNoItemOf}
 use Rattle.session_history_laws.specs.Histories.{TextsMeanBases}

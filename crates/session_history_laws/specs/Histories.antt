@@ -3,7 +3,7 @@ use Rattle.std.specs.Prelude.{◌≡◌, ℕ, ◌≤◌, true, List, ◌∷◌, 
 use Rattle.lay_calls.specs.declared.cell_id.CellId.{CellId}
 use Rattle.cif_content.specs.Contents.{Contents}
 use Rattle.cif_content.specs.Meaning.{IsMeaning}
-use Rattle.lay_items.specs.FromCif.{layout_of}
+use Rattle.cif_layout.specs.FromCif.{layout_of}
 use Rattle.lay_layouts.specs.Layout.{Layout}
 use Rattle.lay_layouts.specs.Sound.{IsSound}
 use Rattle.face_rows.specs.declared.op.Op.{Op}

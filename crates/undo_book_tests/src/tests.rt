@@ -2,6 +2,7 @@
 //! should.
 
 use band_workers::OneBand;
+use cif_layout::FromCif;
 use lay_calls::CellId;
 use lay_items::Snapshot;
 use lay_point::{LayerName, Point};
@@ -12,7 +13,7 @@ use undo_book::{Book, BookFault, Command, MAX_CALLS, TxnId, Work};
 
 /// Returns a book on the layout without items, of which this many calls are logged at most.
 fn book_of(alloc: Global, limit: u32) -> Result<Book, Fail> {
-    let base = Snapshot::from_cif(alloc, cif_read::read(alloc, b"E")?)?;
+    let base = Snapshot::from_cif(alloc, cif_layout::read(alloc, b"E")?)?;
     if limit == 0 || limit > MAX_CALLS {
         return Ok(Book::new(alloc, base)?);
     }

@@ -12,7 +12,7 @@ use crate::program::options::{MAX_WORKERS, Options};
 use crate::program::threads::finish_threads;
 use band_workers::{OneBand, ScopedBands};
 use cif_content::{CifFault, FaultKind};
-use cif_read::read;
+use cif_layout::{FromCif, read};
 use desk_run::RunFault;
 use job_text::{Job, JobFault, order_of};
 use lay_items::Snapshot;

@@ -3,7 +3,7 @@
 use super::*;
 use band_workers::OneBand;
 use byte_io::{Failing, MemoryIn, MemoryOut};
-use cif_read::read;
+use cif_layout::{FromCif, read};
 use cif_write::write;
 use desk_run::{Command, TxnId};
 use lay_calls::CellId;

@@ -3,7 +3,7 @@ use Rattle.std.proofs.Common.{◌≡◌, ◌⊎◌, ◌∙◌, Result, Ok, Err, 
 use Rattle.lay_point.specs.declared.memory.NoMemory.{NoMemory}
 use Rattle.lay_layouts.specs.Layout.{Layout}
 use Rattle.cif_content.specs.Meaning.{AnswersMeaning, no_memory}
-use Rattle.lay_items.specs.FromCif.{layout_of}
+use Rattle.cif_layout.specs.FromCif.{layout_of}
 use Rattle.cif_write.specs.Text.{text}
 use Rattle.cif_write.specs.Wrap.{wrap}
 use Rattle.cif_trip_laws.specs.Laws.{FitsText}

@@ -1,5 +1,5 @@
 use Rattle.std.proofs.Common.{◌≡◌, ◌+◌, length, min, sum_by, take}
-use Rattle.bool_shape_laws.specs.declared.limits.TheConstants.{MAX_SEGMENTS}
+use Rattle.layer_ops.specs.declared.limits.TheConstants.{MAX_SEGMENTS}
 use Rattle.layer_ops.proofs.counting.sides.Given as goal
 
 -- the sides of the rings so far, as far as they are counted

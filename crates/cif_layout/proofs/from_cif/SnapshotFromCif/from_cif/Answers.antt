@@ -1,9 +1,9 @@
 use Rattle.std.proofs.Common.{◌≡◌, rules, sym, subst}
 use Rattle.lay_layouts.specs.Layout.{Layout}
 use Rattle.lay_layouts.specs.Sound.{IsSound}
-use Rattle.lay_items.specs.FromCif.{layout_of}
-use Rattle.lay_items.proofs.SoundLemmas.{layout_of-sound}
-use Rattle.lay_items.proofs.snapshot.Snapshot.from_cif.Goals as goal
+use Rattle.cif_layout.specs.FromCif.{layout_of}
+use Rattle.cif_layout.proofs.SoundLemmas.{layout_of-sound}
+use Rattle.cif_layout.proofs.from_cif.SnapshotFromCif.from_cif.Goals as goal
 
 pub of-requires : goal.of-requires
 of-requires c =

@@ -1,0 +1,59 @@
+//! The elements of a text as items.
+ghost use Rattle.std.specs.Prelude.{◌≡◌, IfOk, Ok};
+ghost use Rattle.lay_point.specs.Memory.{IsAnswer};
+ghost use Rattle.cif_layout.specs.FromCif.{item_of, items_of_elements, layout_of};
+
+use cif_read::{CifFile, Element, Figure};
+use lay_items::{NumberedItems, Snapshot, Version};
+use lay_layouts::{Item, Rings};
+use lay_point::{Given, NoMemory};
+use std::alloc::Global;
+
+/// Layouts that are made of a text.
+pub trait FromCif: Sized {
+    /// Returns the layout of a text's meaning: its symbols in the order of their definitions, and its
+    /// element q as item 0.0.q.
+    ///
+    /// # Cost
+    ///
+    /// A pass over the elements, and a sort of them by cell.
+    fn from_cif(alloc: Global, file: CifFile) -> Result<Self, NoMemory>;
+}
+
+impl FromCif for Snapshot {
+    fn from_cif(alloc: Global, file: CifFile) -> Result<Snapshot, NoMemory>
+        ensures { IsAnswer (record {}) result (Ok (layout_of file)) }
+    {
+        let (symbols, elements) = file.into_parts();
+        let items = numbered(alloc, elements)?;
+        let version = Version::of_numbered(alloc, &symbols, items)?;
+        Snapshot::of(alloc, version)
+    }
+}
+
+/// Returns the elements as items, numbered. What they take is given back on the way, so they don't stand whole
+/// beside the items.
+fn numbered(alloc: Global, elements: Vec<Element>) -> Result<NumberedItems, NoMemory>
+    ensures { IfOk result (λ items. items ≡ items_of_elements elements.items) }
+{
+    let mut items = NumberedItems::new(alloc);
+    for element in Given::of(elements) {
+        items = items.push(alloc, item_of(alloc, element)?)?;
+    }
+    Ok(items)
+}
+
+/// Returns an element as an item.
+fn item_of(alloc: Global, element: Element) -> Result<Item, NoMemory>
+    ensures { IfOk result (λ item. item ≡ item_of element) }
+{
+    let Element { cell, figure } = element;
+    match figure {
+        Figure::Polygon { layer, ring } => Ok(Item::Shape {
+            cell,
+            layer,
+            rings: Rings::one(alloc, ring)?,
+        }),
+        Figure::Call { target, turn } => Ok(Item::Placed { cell, target, turn }),
+    }
+}
