@@ -1,14 +1,13 @@
--- Lists of shared lists: what is at an index, others in place of one, and lists that are cut.
+-- Lists of shared lists: what is at an index, others in place of one, and lists in parts.
 use Rattle.std.proofs.Common.{◌≡◌, ◌∙◌, ◌+◌, ◌<◌, ◌≤◌, ◌++◌, ℕ, zero, suc, Bool, true, false, List, [], ◌∷◌, append_assoc, refl, ap}
 use Rattle.std.proofs.Common.{cond, sym, take, drop, get_or, length, map, arith, subst}
 use Rattle.std.specs.Prelude.{nat_le}
 use Rattle.std.proofs.lemmas.List.{append-nil, get_or-map, length-append, length-drop, length-take, take-append-drop}
 use Rattle.std.proofs.lemmas.Bool.Decides.{nat_tests}
-use Rattle.std.specs.Arc.{arc_value}
 use Rattle.std.specs.declared.sync.Arc.{Arc}
 use Rattle.std.specs.declared.vec.Vec.{Vec}
 use Rattle.std.specs.List.{AllByRecursion}
-use Rattle.lay_page.specs.Shared.{AreSized, entries_in, items_of, joined, page_parts, pages_in, values_of}
+use Rattle.lay_page.specs.Shared.{AreSized, entries_in, items_of, joined, page_parts, pages_in}
 
 -- ---- what maps keep
 
@@ -40,14 +39,13 @@ mapped_twice f g (x ∷ xs) = ap (λ ys. f (g x) ∷ ys) (mapped_twice f g xs)
 abbrev pub spliced_at : {A : Type 0} → ℕ → List A → List A → List A
 spliced_at at xs others = take at xs ++ (others ++ drop (at + 1) xs)
 
--- as it is appended part by part
-pub spliced_is : {A B : Type 0} (f : A → B) (xs ys : List A) (at : ℕ) (new1 new2 new3 : List B)
-    → new1 ≡ map f (take at xs) → new2 ≡ new1 ++ map f ys → new3 ≡ new2 ++ map f (drop (at + 1) xs)
-    → new3 ≡ take at (map f xs) ++ (map f ys ++ drop (at + 1) (map f xs))
+-- as it is put together part by part
+pub spliced_is : {A B : Type 0} (f : A → B) (xs : List A) (ys : List B) (at : ℕ) (new1 new2 new3 : List B)
+    → new1 ≡ map f (take at xs) → new2 ≡ new1 ++ ys → new3 ≡ new2 ++ map f (drop (at + 1) xs) → new3 ≡ spliced_at at (map f xs) ys
 spliced_is f xs ys at new1 new2 new3 one two three =
-    three ∙ ap (λ zs. zs ++ map f (drop (at + 1) xs)) (two ∙ ap (λ zs. zs ++ map f ys) one)
-    ∙ append_assoc (map f (take at xs)) (map f ys) (map f (drop (at + 1) xs))
-    ∙ (λ i. sym (take_map f at xs) i ++ (map f ys ++ sym (drop_map f (at + 1) xs) i))
+    three ∙ ap (λ zs. zs ++ map f (drop (at + 1) xs)) (two ∙ ap (λ zs. zs ++ ys) one)
+    ∙ append_assoc (map f (take at xs)) ys (map f (drop (at + 1) xs))
+    ∙ (λ i. sym (take_map f at xs) i ++ (ys ++ sym (drop_map f (at + 1) xs) i))
 
 pub spliced_map : {A B : Type 0} (f : A → B) (at : ℕ) (new xs others : List A) → new ≡ spliced_at at xs others
     → map f new ≡ spliced_at at (map f xs) (map f others)
@@ -55,15 +53,6 @@ spliced_map f at new xs others is =
     ap (map f) is ∙ append_map f (take at xs) (others ++ drop (at + 1) xs)
     ∙ ap (λ zs. map f (take at xs) ++ zs) (append_map f others (drop (at + 1) xs))
     ∙ (λ i. sym (take_map f at xs) i ++ (map f others ++ sym (drop_map f (at + 1) xs) i))
-
--- the same of what the shared values are
-pub spliced_values : {X Z B : Type 0} (f : X → B) (at : ℕ) (new xs others : List (Arc X Z))
-    → values_of new ≡ spliced_at at (values_of xs) (values_of others)
-    → map (λ (s : Arc X Z). f (arc_value s)) new
-    ≡ spliced_at at (map (λ (s : Arc X Z). f (arc_value s)) xs) (map (λ (s : Arc X Z). f (arc_value s)) others)
-spliced_values {X} {Z} f at new xs others is =
-    sym (mapped_twice f (λ (s : Arc X Z). arc_value s) new) ∙ spliced_map f at (values_of new) (values_of xs) (values_of others) is
-    ∙ (λ i. spliced_at at (mapped_twice f (λ (s : Arc X Z). arc_value s) xs i) (mapped_twice f (λ (s : Arc X Z). arc_value s) others i))
 
 pub all_append : {A : Type 0} (P : A → Type 0) (xs ys : List A) → AllByRecursion P xs → AllByRecursion P ys
     → AllByRecursion P (xs ++ ys)
@@ -107,7 +96,7 @@ pub joined_twice : {A : Type 0} (lists : List (List (List A))) → joined (map j
 joined_twice [] = refl
 joined_twice (x ∷ xs) = ap (λ zs. joined x ++ zs) (joined_twice xs) ∙ sym (joined_append x (joined xs))
 
--- ---- lists that are cut
+-- ---- lists in parts
 
 pub joined_parts : {A : Type 0} (grows : Bool) (xs : List A) → joined (page_parts grows xs) ≡ xs
 joined_parts grows [] = refl
@@ -198,35 +187,35 @@ pub record AreCut {X : Type 0} (pages : List (List X)) (lists : List (List (List
   pub books : AreSized lists
   pub sized : AllByRecursion AreSized lists
 
+pub parts_cut : {X : Type 0} (grows : Bool) (pages : List (List X)) → length pages ≤ 65 → AreSized pages
+    → AreCut pages (page_parts grows pages)
+parts_cut {X} grows pages le sized = record {
+  entries = joined_twice (page_parts grows pages) ∙ ap joined (joined_parts grows pages);
+  books = sized_parts grows pages le;
+  sized = all_parts (λ (xs : List X). (1 ≤ length xs) × (length xs ≤ 64)) grows pages sized;
+}
+
+-- the pages of books, as they are of lists
+books_twice : {X Y Z V W : Type 0} (books : List (Arc (Vec (Arc (Vec X Y) Z) V) W))
+    → map (λ (ps : List (Arc (Vec X Y) Z)). items_of ps) (items_of books) ≡ pages_in books
+books_twice {X} {Y} {Z} {V} {W} books =
+    mapped_twice (λ (ps : List (Arc (Vec X Y) Z)). items_of ps) (λ (s : Arc (Vec (Arc (Vec X Y) Z) V) W). s.value.items) books
+
 pub are_cut : {X Y Z V W : Type 0} (grows : Bool) (list : List (Arc (Vec X Y) Z)) (new : List (Arc (Vec (Arc (Vec X Y) Z) V) W))
     → length list ≤ 65 → AreSized (items_of list) → items_of new ≡ page_parts grows list → AreCut (items_of list) (pages_in new)
 are_cut {X} {Y} {Z} {V} {W} grows list new le sized is =
-    subst (λ (books : List (List (List X))). AreCut (items_of list) books) (sym shape) (record {
-      entries = joined_twice (page_parts grows (items_of list)) ∙ ap joined (joined_parts grows (items_of list));
-      books = sized_parts grows (items_of list) (omega (arith, count_items list, le));
-      sized = all_parts (λ (xs : List X). (1 ≤ length xs) × (length xs ≤ 64)) grows (items_of list) sized;
-    }) where
+    subst (λ (books : List (List (List X))). AreCut (items_of list) books) (sym shape)
+    (parts_cut grows (items_of list) (omega (arith, count_items list, le)) sized) where
       shape : pages_in new ≡ page_parts grows (items_of list)
       shape =
-          sym (mapped_twice (λ (ps : List (Arc (Vec X Y) Z)). items_of ps) (λ (s : Arc (Vec (Arc (Vec X Y) Z) V) W). s.value.items) new)
-          ∙ ap (map (λ (ps : List (Arc (Vec X Y) Z)). items_of ps)) is
+          sym (books_twice new) ∙ ap (map (λ (ps : List (Arc (Vec X Y) Z)). items_of ps)) is
           ∙ parts_map (λ (s : Arc (Vec X Y) Z). s.value.items) grows list
 
--- ---- others in place of one of the shared lists
-
-pub spliced_items : {X Y Z : Type 0} (at : ℕ) (new xs others : List (Arc (Vec X Y) Z))
-    → values_of new ≡ spliced_at at (values_of xs) (values_of others) → items_of new ≡ spliced_at at (items_of xs) (items_of others)
-spliced_items {X} {Y} {Z} at new xs others is = spliced_values (λ (v : Vec X Y). v.items) at new xs others is
-
-pub spliced_pages : {X Y Z V W : Type 0} (at : ℕ) (new xs others : List (Arc (Vec (Arc (Vec X Y) Z) V) W))
-    → values_of new ≡ spliced_at at (values_of xs) (values_of others) → pages_in new ≡ spliced_at at (pages_in xs) (pages_in others)
-spliced_pages {X} {Y} {Z} {V} {W} at new xs others is =
-    spliced_values (λ (v : Vec (Arc (Vec X Y) Z) V). items_of v.items) at new xs others is
-
--- shares are of the same pages
-pub same_pages : {X Y Z V W : Type 0} (new xs : List (Arc (Vec (Arc (Vec X Y) Z) V) W)) → values_of new ≡ values_of xs
-    → pages_in new ≡ pages_in xs
-same_pages {X} {Y} {Z} {V} {W} new xs is =
-    let f : Vec (Arc (Vec X Y) Z) V → List (List X) = λ v. items_of v.items in
-    sym (mapped_twice f (λ (s : Arc (Vec (Arc (Vec X Y) Z) V) W). arc_value s) new) ∙ ap (map f) is
-    ∙ mapped_twice f (λ (s : Arc (Vec (Arc (Vec X Y) Z) V) W). arc_value s) xs
+-- pages in place of those of one book
+pub spliced_pages : {X Y Z V W : Type 0} (grows : Bool) (at : ℕ) (new xs : List (Arc (Vec (Arc (Vec X Y) Z) V) W))
+    (pages : List (Arc (Vec X Y) Z)) → items_of new ≡ spliced_at at (items_of xs) (page_parts grows pages)
+    → pages_in new ≡ spliced_at at (pages_in xs) (page_parts grows (items_of pages))
+spliced_pages {X} {Y} {Z} grows at new xs pages is =
+    sym (books_twice new)
+    ∙ spliced_map (λ (ps : List (Arc (Vec X Y) Z)). items_of ps) at (items_of new) (items_of xs) (page_parts grows pages) is
+    ∙ (λ i. spliced_at at (books_twice xs i) (parts_map (λ (s : Arc (Vec X Y) Z). s.value.items) grows pages i))

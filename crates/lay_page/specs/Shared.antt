@@ -1,15 +1,11 @@
--- Lists of shared lists: what they hold, their sizes, and the places where a list is cut.
+-- Lists of shared lists: what they hold, their sizes, and the parts that a list is put into.
 use Rattle.std.specs.Prelude.{◌≡◌, ℕ, ◌≤◌, List, [], ◌∷◌, ◌++◌, Bool, cond, drop, length, map, nat_le, take}
 use Rattle.std.specs.declared.cmp.Ordering.{Ordering}
-use Rattle.std.specs.Arc.{arc_value}
 use Rattle.std.specs.declared.sync.Arc.{Arc}
 use Rattle.std.specs.declared.vec.Vec.{Vec}
 use Rattle.std.specs.List.{AllByRecursion}
 use Rattle.std.specs.List.Sorted.{IsStrictlySortedBy}
 use Rattle.std.specs.Map.{keys_of}
-
-abbrev pub values_of : {X Z : Type 0} → List (Arc X Z) → List X
-values_of {X = X} {Z = Z} shared = map (λ (s : Arc X Z). arc_value s) shared
 
 abbrev pub items_of : {X Y Z : Type 0} → List (Arc (Vec X Y) Z) → List (List X)
 items_of {X = X} {Y = Y} {Z = Z} shared = map (λ (s : Arc (Vec X Y) Z). s.value.items) shared

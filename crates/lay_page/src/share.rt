@@ -1,60 +1,75 @@
-//! Lists of shared values: what is put in place of one of them, and a list cut in two.
-ghost use Rattle.std.specs.Prelude.{◌≡◌, ◌++◌, ◌<◌, ◌≤◌, ◌+◌, IfOk, OnOk, length, take, drop, [], ◌∷◌};
-ghost use Rattle.lay_page.specs.Shared.{items_of, page_parts, values_of};
+//! Lists of shared lists: what is put behind them in parts, and in place of one of them.
+ghost use Rattle.std.specs.Prelude.{◌≡◌, ◌++◌, ◌<◌, ◌≤◌, ◌+◌, [], ◌∷◌, IfOk, OnOk, length, take, drop};
+ghost use Rattle.lay_page.specs.Shared.{items_of, page_parts};
 
 use std::alloc::{AllocError, Global};
 use std::sync::Arc;
 
-/// Returns the list with others in place of one.
+/// Returns the lists with elements in place of one of them, in parts as `push_parts` puts them. All others are
+/// shared.
 pub fn spliced<T: Drop>(
     alloc: Global,
-    list: &[Arc<T>],
+    lists: &[Arc<Vec<T>>],
     at: usize,
-    others: &[Arc<T>],
-) -> Result<Vec<Arc<T>>, AllocError>
-    requires { at < length list.now }
-    ensures { IfOk result (λ new. values_of new.items
-        ≡ take at (values_of list.now) ++ (values_of others.now ++ drop (at + 1) (values_of list.now))) }
+    elements: Vec<T>,
+    grows: bool,
+) -> Result<Vec<Arc<Vec<T>>>, AllocError>
+    requires in_range { at < length lists.now }
+    requires few { length elements.items ≤ 65 }
+    ensures { IfOk result (λ new. items_of new.items
+        ≡ take at (items_of lists.now) ++ (page_parts grows elements.items ++ drop (at + 1) (items_of lists.now))) }
 {
-    let mut new = Vec::with_capacity(alloc, list.len().saturating_add(others.len()))?;
-    append(&mut new, &list[..at])?;
-    append(&mut new, others)?;
-    append(&mut new, &list[at + 1..])?;
+    let mut new = Vec::with_capacity(alloc, lists.len().saturating_add(1))?;
+    append(&mut new, &lists[..at])?;
+    push_parts(alloc, &mut new, elements, grows)?;
+    append(&mut new, &lists[at + 1..])?;
     Ok(new)
 }
 
-/// Appends shares of the values.
-pub fn append<T: Drop>(new: &mut Vec<Arc<T>>, list: &[Arc<T>]) -> Result<(), AllocError>
-    ensures { OnOk result (values_of new.new.items ≡ values_of new.old.items ++ values_of list.now) }
+/// Appends shares of the lists.
+fn append<T: Drop>(new: &mut Vec<Arc<Vec<T>>>, lists: &[Arc<Vec<T>>]) -> Result<(), AllocError>
+    ensures { OnOk result (items_of new.new.items ≡ items_of new.old.items ++ items_of lists.now) }
 {
-    for shared in list {
-        new.push(Arc::try_clone(shared)?)?;
+    for list in lists {
+        new.push(Arc::try_clone(list)?)?;
     }
     Ok(())
 }
 
-/// Returns the elements in lists of up to 64: none, one, or two where there are more. The first of two
-/// has 64 where the list grows at its end, and else 32.
-pub fn cut<T: Drop>(
+/// Puts the elements behind the lists, in parts of up to 64: none, one, or two where there are more. The first of
+/// two has 64 where the lists grow at their end, and else 32.
+pub fn push_parts<T: Drop>(
     alloc: Global,
-    mut list: Vec<T>,
+    lists: &mut Vec<Arc<Vec<T>>>,
+    mut elements: Vec<T>,
     grows: bool,
-) -> Result<Vec<Arc<Vec<T>>>, AllocError>
-    requires { length list.items ≤ 65 }
-    ensures { IfOk result (λ new. items_of new.items ≡ page_parts grows list.items) }
+) -> Result<(), AllocError>
+    requires { length elements.items ≤ 65 }
+    ensures { OnOk result (items_of lists.new.items ≡ items_of lists.old.items ++ page_parts grows elements.items) }
 {
-    let mut new = Vec::new(alloc);
-    if list.is_empty() {
-        return Ok(new);
+    if elements.is_empty() {
+        return Ok(());
     }
-    if list.len() > 64 {
-        let rest = list.split_off(if grows { 64 } else { 32 })?;
-        new.push(shared(alloc, list)?)?;
-        new.push(shared(alloc, rest)?)?;
+    if elements.len() > 64 {
+        let rest = elements.split_off(if grows { 64 } else { 32 })?;
+        push_list(alloc, lists, elements)?;
+        push_list(alloc, lists, rest)?;
     } else {
-        new.push(shared(alloc, list)?)?;
+        push_list(alloc, lists, elements)?;
     }
-    Ok(new)
+    Ok(())
+}
+
+/// Puts a list behind the lists.
+fn push_list<T: Drop>(
+    alloc: Global,
+    lists: &mut Vec<Arc<Vec<T>>>,
+    list: Vec<T>,
+) -> Result<(), AllocError>
+    ensures { OnOk result (items_of lists.new.items ≡ items_of lists.old.items ++ (list.items ∷ [])) }
+{
+    lists.push(shared(alloc, list)?)?;
+    Ok(())
 }
 
 /// Returns the list, shared.

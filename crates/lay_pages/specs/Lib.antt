@@ -1,2 +1,3 @@
 pub use Rattle.lay_page.specs.Written
+pub mod Places
 pub mod Tops

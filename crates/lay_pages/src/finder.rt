@@ -1,12 +1,11 @@
 //! Values found near those that were found before.
-ghost use Rattle.std.specs.Prelude.{◌≡◌, ◌<◌, length, option_copied};
+ghost use Rattle.std.specs.Prelude.{◌≡◌, option_copied};
 ghost use Rattle.std.specs.FinMap.{find};
-ghost use Rattle.std.specs.List.Sorted.{IsStrictlySortedBy};
-ghost use Rattle.std.specs.Map.{keys_of};
-ghost use Rattle.lay_page.specs.Shared.{AreBooks, AreSized, entries_in, items_of, joined, pages_in};
+ghost use Rattle.lay_page.specs.Shared.{AreBooks, entries_in, pages_in};
 ghost use Rattle.lay_page.specs.Written.{IsPart};
 
-use lay_page::{Book, Kept, Page, PageKey, book_of, find_on, page_of};
+use crate::place::{entries_at, place_of};
+use lay_page::{Book, Kept, PageKey, find_on};
 use std::marker::Model;
 
 /// Finds the values of a map, with few comparisons where a key is near the last. Contracts see the
@@ -80,18 +79,5 @@ fn page_at<K: PageKey, V: Kept>(books: &[Book<K, V>], key: K) -> &[(K, V)]
     if books.is_empty() {
         return &[];
     }
-    let at = book_of(books, key);
-    page_in_book(&books[at], key)
-}
-
-/// Returns the page of a book into which the key falls.
-fn page_in_book<K: PageKey, V: Kept>(book: &[Page<K, V>], key: K) -> &[(K, V)]
-    requires some { 0 < length book.now }
-    requires sized { AreSized (items_of book.now) }
-    requires sorted { IsStrictlySortedBy K.cmp (keys_of (joined (items_of book.now))) }
-    ensures part { IsPart result.now (joined (items_of book.now)) }
-    ensures found { find K.cmp key result.now ≡ find K.cmp key (joined (items_of book.now)) }
-{
-    let at = page_of(book, key);
-    &book[at]
+    entries_at(books, place_of(books, key))
 }

@@ -11,6 +11,7 @@ mod entries;
 mod finder;
 mod look;
 mod pages;
+mod place;
 mod update;
 
 pub use builder::PagesBuilder;

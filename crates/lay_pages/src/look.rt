@@ -1,11 +1,11 @@
 //! What is found under a key, and how many pages there are.
-ghost use Rattle.std.specs.Prelude.{◌≡◌, ◌<◌, ◌≤◌, ◌*◌, length, option_copied};
+ghost use Rattle.std.specs.Prelude.{◌≡◌, ◌≤◌, ◌*◌, is_some, length, option_copied};
 ghost use Rattle.std.specs.FinMap.{find};
-ghost use Rattle.std.specs.List.Sorted.{IsStrictlySortedBy};
-ghost use Rattle.std.specs.Map.{keys_of};
-ghost use Rattle.lay_page.specs.Shared.{AreBooks, AreSized, entries_in, items_of, joined, pages_in};
+ghost use Rattle.lay_page.specs.Shared.{AreBooks, entries_in, pages_in};
+ghost use Rattle.lay_pages.specs.Places.{IsPageOf};
 
-use lay_page::{Book, Kept, Page, PageKey, book_of, page, page_of};
+use crate::place::{Place, entries_at, place_of};
+use lay_page::{Book, Kept, PageKey, page};
 
 /// Returns the value under the key.
 pub(crate) fn find<K: PageKey, V: Kept>(books: &[Book<K, V>], key: K) -> Option<&V>
@@ -15,19 +15,16 @@ pub(crate) fn find<K: PageKey, V: Kept>(books: &[Book<K, V>], key: K) -> Option<
     if books.is_empty() {
         return None;
     }
-    let at = book_of(books, key);
-    find_in_book(&books[at], key)
+    page::find(entries_at(books, place_of(books, key)), key)
 }
 
-/// Returns the value under the key in a book.
-fn find_in_book<K: PageKey, V: Kept>(book: &[Page<K, V>], key: K) -> Option<&V>
-    requires some { 0 < length book.now }
-    requires sized { AreSized (items_of book.now) }
-    requires sorted { IsStrictlySortedBy K.cmp (keys_of (joined (items_of book.now))) }
-    ensures { option_copied result ≡ find K.cmp key (joined (items_of book.now)) }
+/// Returns whether the key, which falls into this page, has a value.
+pub(crate) fn has_value<K: PageKey, V: Kept>(books: &[Book<K, V>], place: Place, key: K) -> bool
+    requires books { AreBooks K.cmp (pages_in books.now) }
+    requires place { IsPageOf K.cmp key (pages_in books.now) place.book place.page }
+    ensures { result ≡ is_some (find K.cmp key (entries_in (pages_in books.now))) }
 {
-    let at = page_of(book, key);
-    page::find(&book[at], key)
+    page::find(entries_at(books, place), key).is_some()
 }
 
 /// Returns the number of pages of books with this many entries.

@@ -1,16 +1,17 @@
 //! The map as a list of books of pages.
-ghost use Rattle.std.specs.Prelude.{◌≡◌, ◌+◌, ◌*◌, ◌≤◌, [], IfOk, length, option_copied};
+ghost use Rattle.std.specs.Prelude.{◌≡◌, ◌*◌, ◌≤◌, [], IfOk, length, option_copied};
 ghost use Rattle.std.specs.Cmp.Lexicographic.{pointwise};
 ghost use Rattle.std.specs.FinMap.{find};
 ghost use Rattle.std.specs.List.Sorted.{IsStrictlySortedBy};
 ghost use Rattle.std.specs.Map.{keys_of};
 ghost use Rattle.lay_page.specs.Shared.{AreBooks, AreCountedBooks, entries_in, pages_in};
-ghost use Rattle.lay_page.specs.Written.{after_write, are_equal, count_of, from_key, written_all};
+ghost use Rattle.lay_page.specs.Written.{after_write, are_equal, from_key, written_all};
 
 use crate::entries::{Entries, are_same};
 use crate::finder::Finder;
-use crate::look::{count_pages, find};
-use crate::update::books_with;
+use crate::look::{count_pages, find, has_value};
+use crate::place::place_of;
+use crate::update::{books_with, first_books, len_with};
 use lay_page::{Book, Kept, PageKey};
 use std::alloc::{AllocError, Global};
 use std::marker::Model;
@@ -153,24 +154,23 @@ impl<K: PageKey, V: Kept> Pages<K, V> {
         ensures entries { IfOk result (λ new. new ≡ after_write K.cmp key value self.now) }
         ensures sorted { IfOk result (λ new. IsStrictlySortedBy K.cmp (keys_of new)) }
     {
-        let len = self.len_with(key, &value)?;
-        let books = books_with(alloc, self.books(), key, value)?;
+        let books = self.books();
+        if books.is_empty() {
+            return Pages::first(alloc, key, value);
+        }
+        let place = place_of(books, key);
+        let len = len_with(self.len, has_value(books, place, key), &value)?;
+        let books = books_with(alloc, books, place, key, value)?;
         Pages::of(alloc, books, len)
     }
 
-    /// Returns the number of entries after a write, where a `usize` has it.
-    fn len_with(&self, key: K, value: &Option<V>) -> Result<usize, AllocError>
-        ensures { IfOk result (λ len. len + count_of (find K.cmp key self.now)
-            ≡ length self.now + count_of value.now) }
+    /// Returns the entries that a write leaves of none.
+    fn first(alloc: Global, key: K, value: Option<V>) -> Result<Pages<K, V>, AllocError>
+        ensures { IfOk result (λ new. new ≡ after_write K.cmp key value []) }
     {
-        let more = match value {
-            Some(_) => self.len.checked_add(1).ok_or(AllocError)?,
-            None => self.len,
-        };
-        match self.get(key) {
-            Some(_) => Ok(more - 1),
-            None => Ok(more),
-        }
+        let len = len_with(0, false, &value)?;
+        let books = first_books(alloc, key, value)?;
+        Pages::of(alloc, books, len)
     }
 
     /// Returns the entries after these writes, the first of them first.

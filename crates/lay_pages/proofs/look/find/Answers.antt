@@ -1,28 +1,18 @@
-use Rattle.std.proofs.Common.{◌∙◌, [], ap, rules, sym}
+use Rattle.std.proofs.Common.{◌∙◌, List, ap, subst, sym}
 use Rattle.std.specs.FinMap.{find}
-use Rattle.lay_page.proofs.OrderLemmas.{find-level}
-use Rattle.lay_pages.proofs.LentLemmas.{lent_book}
+use Rattle.std.specs.List.Sorted.{IsStrictlySortedBy}
+use Rattle.std.specs.Map.{keys_of}
+use Rattle.lay_page.specs.Shared.{pages_in}
+use Rattle.lay_pages.proofs.PageOfLemmas.{found_in, sorted_in}
 use Rattle.lay_pages.proofs.look.find.Goals as goal
 
-pub find_in_book-requires-clause-some : goal.find_in_book-requires-clause-some
-find_in_book-requires-clause-some g c =
-    (lent_book g.K.Ord.cmp c.args.books.now c.book_of-at.result c.index-books-at.result c.deref-2.result.now c.requires
-    c.book_of-at.ensures.in_range c.index-books-at.is (search rules)).some
-
-pub find_in_book-requires-clause-sized : goal.find_in_book-requires-clause-sized
-find_in_book-requires-clause-sized g c =
-    (lent_book g.K.Ord.cmp c.args.books.now c.book_of-at.result c.index-books-at.result c.deref-2.result.now c.requires
-    c.book_of-at.ensures.in_range c.index-books-at.is (search rules)).sized
-
-pub find_in_book-requires-clause-sorted : goal.find_in_book-requires-clause-sorted
-find_in_book-requires-clause-sorted g c =
-    (lent_book g.K.Ord.cmp c.args.books.now c.book_of-at.result c.index-books-at.result c.deref-2.result.now c.requires
-    c.book_of-at.ensures.in_range c.index-books-at.is (search rules)).sorted
+pub find-requires : goal.find-requires
+find-requires g c =
+    subst (λ (es : List (g.row.K.Denot × g.row.V.Denot)). IsStrictlySortedBy g.K.Ord.cmp (keys_of es)) (sym c.entries_at.ensures)
+    (sorted_in c.args.key (pages_in c.args.books.now) c.place_of.result.book c.place_of.result.page c.requires c.place_of.ensures)
 
 pub returns : goal.returns
 returns g c =
-    let lent = lent_book g.K.Ord.cmp c.args.books.now c.book_of-at.result c.index-books-at.result c.deref-2.result.now c.requires
-    c.book_of-at.ensures.in_range c.index-books-at.is (search rules) in
-    c.find_in_book.ensures
-    ∙ ap (find g.K.Ord.cmp c.args.key) (sym lent.entries)
-    ∙ sym (find-level g.met.K.Ord.total g.met.K.PageKey.exact c.args.key _ c.book_of-at.result [] c.book_of-at.ensures)
+    c.find.ensures ∙ ap (find g.K.Ord.cmp c.args.key) c.entries_at.ensures
+    ∙ found_in c.args.key (pages_in c.args.books.now) c.place_of.result.book c.place_of.result.page g.met.K.Ord.total
+    g.met.K.PageKey.exact c.place_of.ensures
