@@ -22,11 +22,6 @@ use Rattle.lay_page.proofs.WrittenLemmas.{filter-append}
 pub filled_end : {A : Type 0} (lists : List (List A)) (last : List A) → joined (lists ++ (last ∷ [])) ≡ filled lists last
 filled_end lists last = joined_append lists (last ∷ []) ∙ ap (λ xs. joined lists ++ xs) (append-nil last)
 
-pub sized_end : {A : Type 0} (lists : List (List A)) (last : List A) → AreSized lists → 1 ≤ length last → length last ≤ 64
-    → AreSized (lists ++ (last ∷ []))
-sized_end {A} lists last sized some full =
-    all_append (λ (xs : List A). (1 ≤ length xs) × (length xs ≤ 64)) lists (last ∷ []) sized ((some, full), tt)
-
 -- and another is begun
 pub filled_more : {A : Type 0} (lists new : List (List A)) (last fresh : List A) → new ≡ lists ++ (last ∷ []) → fresh ≡ []
     → filled new fresh ≡ filled lists last

@@ -1,28 +1,6 @@
 -- Entries that stand together among others: they are found there too.
-use Rattle.std.proofs.Common.{
-  ◌≡◌,
-  ◌∙◌,
-  ◌<◌,
-  ◌≤◌,
-  ◌-◌,
-  ◌++◌,
-  ℕ,
-  suc,
-  Bool,
-  true,
-  false,
-  List,
-  [],
-  ◌∷◌,
-  Option,
-  Some,
-  None,
-  append_assoc,
-  ap,
-  arith,
-  cond,
-}
-use Rattle.std.proofs.Common.{drop, get_or, length, map, refl, subst, sym, take}
+use Rattle.std.proofs.Common.{◌≡◌, ◌∙◌, ◌<◌, ◌≤◌, ◌-◌, ◌++◌, ℕ, suc, Bool, true, false, List, [], ◌∷◌, Some, append_assoc, ap, arith, cond}
+use Rattle.std.proofs.Common.{drop, get_or, length, refl, subst, sym, take}
 use Rattle.std.proofs.lemmas.List.{append-nil, length-drop, take-append-drop, take_all}
 use Rattle.std.specs.declared.cmp.Ordering.{Ordering}
 use Rattle.std.specs.declared.cmp.Ordering.TheVariants.{Less}

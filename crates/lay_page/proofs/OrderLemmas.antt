@@ -105,10 +105,6 @@ module _ {K X : Type 0} {R : K → K → Ordering} (total : IsTotalOrder R) (exa
         λ i. lower-above total k (e ∷ es) all i
         ++ (written_entries k (find-above k (e ∷ es) all i) ++ higher-above total k (e ∷ es) all i)
 
-  -- what is found is there
-  pub some-found : (k : K) (es : List (K × X)) → IsStrictlySortedBy R (keys_of es) → count_of (find R k es) ≤ length es
-  some-found k es sorted = omega (arith, sides k es sorted)
-
   -- ---- order
 
   all-kept : (p : K → Bool) (P : K → Type 0) (es : List (K × X)) → AllByRecursion P (keys_of es)

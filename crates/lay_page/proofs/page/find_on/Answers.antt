@@ -1,5 +1,4 @@
-use Rattle.std.proofs.Common.{◌≡◌, ◌∙◌, ◌+◌, ◌≤◌, Some, arith, ap, length, slice_index_or, sym}
-use Rattle.std.specs.FinMap.{find}
+use Rattle.std.proofs.Common.{◌+◌, arith}
 use Rattle.lay_page.proofs.NearLemmas.{part_from}
 use Rattle.lay_page.proofs.page.find_on.Goals as goal
 

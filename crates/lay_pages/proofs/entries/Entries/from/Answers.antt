@@ -1,23 +1,4 @@
-use Rattle.std.proofs.Common.{
-  ◌∙◌,
-  ◌<◌,
-  ◌+◌,
-  ◌++◌,
-  ◌-◌,
-  List,
-  [],
-  append_assoc,
-  arith,
-  ap,
-  drop,
-  get_or,
-  length,
-  map,
-  rules,
-  subst,
-  sym,
-  take,
-}
+use Rattle.std.proofs.Common.{◌∙◌, ◌+◌, ◌++◌, ◌-◌, [], append_assoc, drop, get_or, length, map, rules, sym, take}
 use Rattle.std.proofs.lemmas.List.{take_rest}
 use Rattle.lay_page.specs.Shared.{entries_in, items_of, joined, pages_in}
 use Rattle.lay_page.specs.Written.{from_key}
