@@ -1,5 +1,5 @@
 -- A tree's keys as a finite set, and sets of elements.
-use Rattle.std.proofs.Common.{◌≡◌, Bool, true, false, not, ◌&&◌, ◌||◌, inl, inr, cond, List, [], ◌∷◌, refl, ap, sym, subst, ◌∙◌}
+use Rattle.std.proofs.Common.{◌≡◌, ℕ, zero, suc, drop, take, Bool, true, false, not, ◌&&◌, ◌||◌, inl, inr, cond, List, [], ◌∷◌, refl, ap, sym, subst, ◌∙◌}
 use Rattle.std.proofs.lemmas.Bool.{and_from, and_parts, or_cases, or_left, or_right}
 use Rattle.std.proofs.lemmas.Bool.Decides.{same_from_decides}
 use Rattle.std.specs.Bool.{Decides}
@@ -14,13 +14,26 @@ use Rattle.std.specs.Ordering.{eq_by_cmp}
 use Rattle.txn_commands.specs.declared.element.Element.{Element}
 use Rattle.txn_commands.specs.Elements.{Touched, element_cmp, element_eq, elements_exact, elements_total}
 
-or_cond : (b x : Bool) → cond b true x ≡ (b || x)
+pub or_cond : (b x : Bool) → cond b true x ≡ (b || x)
 or_cond true x = refl
 or_cond false x = refl
 
-not_cond : (b x : Bool) → cond b false x ≡ (not b && x)
+pub not_cond : (b x : Bool) → cond b false x ≡ (not b && x)
 not_cond true x = refl
 not_cond false x = refl
+
+any_behind : {X : Type 0} (p : X → Bool) (n : ℕ) (xs : List X) → list_any p (drop n xs) ≡ true → list_any p xs ≡ true
+any_behind p zero xs there = there
+any_behind p (suc n) [] there = there
+any_behind p (suc n) (x ∷ xs) there = or_right (p x) (list_any p xs) (any_behind p n xs there)
+
+any_before : {X : Type 0} (p : X → Bool) (n : ℕ) (xs : List X) → list_any p (take n xs) ≡ true → list_any p xs ≡ true
+any_before p zero xs there = absurd cc
+any_before p (suc n) [] there = there
+any_before p (suc n) (x ∷ xs) there = elim (or_cases (p x) (list_any p (take n xs)) there) [
+  | inl this ↦ or_left (p x) (list_any p xs) this
+  | inr other ↦ or_right (p x) (list_any p xs) (any_before p n xs other)
+]
 
 -- of any kind, in an order that tells them apart
 module _ {K : Type 0} {R : K → K → Ordering} (total : IsTotalOrder R) (exact : IsAntisymmetric R) where
@@ -43,6 +56,20 @@ module _ {K : Type 0} {R : K → K → Ordering} (total : IsTotalOrder R) (exact
       ∙ ap (λ b. not b && list_any (is_at (R q)) ks) ((eq_by_cmp_equiv total).symm k q)
       ∙ sym (contains-remove total (from_list ks) k q
       ∙ ap (λ b. not (eq_by_cmp R q k) && b) (contains-from_list total ks q)))
+
+  -- a key that is there isn't added
+  there_already : (ks : List K) (k : K) → contains (from_list {R = R} ks) k ≡ true → from_list {R = R} ks ≡ insert (from_list ks) k
+  there_already ks k there = same_set total exact _ _ (λ q. by q (eq_by_cmp R q k) refl ∙ sym (contains-insert total (from_list ks) k q)) where
+    by : (q : K) (b : Bool) → eq_by_cmp R q k ≡ b → contains (from_list {R = R} ks) q ≡ (b || contains (from_list {R = R} ks) q)
+    by q true is = ap (contains (from_list {R = R} ks)) (exact q k ((Equal-is (R q k)).0 is)) ∙ there
+    by q false is = refl
+
+  -- also where it is looked for in a part of a list, from the side of the others
+  pub part_already : (ks : List K) (m n : ℕ) (k : K) → list_any (λ y. eq_by_cmp R y k) (take m (drop n ks)) ≡ true →
+      from_list {R = R} ks ≡ insert (from_list ks) k
+  part_already ks m n k there =
+      there_already ks k (contains-from_list total ks k ∙ (λ i. list_any (λ y. (eq_by_cmp_equiv total).symm k y i) ks)
+      ∙ any_behind (λ y. eq_by_cmp R y k) n ks (any_before (λ y. eq_by_cmp R y k) m (drop n ks) there))
 
   -- what a tree answers of a key is what the set of its keys does
   pub key_there : (ks : List K) (k : K) → list_any (is_at (R k)) ks ≡ contains (from_list {R = R} ks) k

@@ -11,7 +11,7 @@ use Rattle.txn_commands.specs.declared.element.Element.{Element}
 use Rattle.txn_commands.specs.declared.element.Element.TheVariants.{Calls, Cell, Content, Item, Layer, Uses}
 use Rattle.txn_commands.specs.declared.record.CellRecord.{CellRecord}
 use Rattle.txn_commands.specs.declared.record.Record.{Record}
-use Rattle.txn_commands.specs.Elements.{Touched}
+use Rattle.txn_commands.specs.Elements.{Touched, with_elements}
 use Rattle.txn_commands.specs.Meets.{some_meets}
 use Rattle.txn_commands.specs.Records.{Records}
 
@@ -41,6 +41,10 @@ cell_homes w = if is_some w.before || is_some w.after then Cell w.number ∷ [] 
 -- the elements that records meet
 abbrev pub met_by : Records → List Element
 met_by records = flat_map record_homes records.items ++ flat_map cell_homes records.symbols
+
+-- a list has these elements too, in some order, each at least once
+abbrev pub Gathers : List Element → List Element → List Element → Type 0
+Gathers old elements new = set.from_list new ≡ with_elements (set.from_list old) elements
 
 -- these are the elements that some record meets, and no others
 abbrev pub AreMetBy : Records → Touched → Type 0

@@ -1,5 +1,5 @@
 //! Lists that mostly have one element.
-ghost use Rattle.std.specs.Prelude.{◌≡◌};
+ghost use Rattle.std.specs.Prelude.{◌≡◌, [], ◌∷◌};
 
 use std::marker::Model;
 
@@ -29,6 +29,14 @@ impl<T> Model for Few<T> {
 }
 
 impl<T: Drop> Few<T> {
+    /// Returns the list of this element alone.
+    pub fn one(item: T) -> Few<T>
+        ensures { result ≡ item ∷ [] }
+    {
+        let kept = Kept::InPlace([item]);
+        Few { kept }
+    }
+
     /// Returns the list of these elements. It doesn't allocate.
     pub fn of(mut items: Vec<T>) -> Few<T>
         ensures { result ≡ items.items }
@@ -36,8 +44,7 @@ impl<T: Drop> Few<T> {
         if items.len() == 1
             && let Some(item) = items.pop()
         {
-            let kept = Kept::InPlace([item]);
-            return Few { kept };
+            return Few::one(item);
         }
         let kept = Kept::Listed(items);
         Few { kept }

@@ -1,5 +1,6 @@
 //! What a transaction wrote, once it writes no more.
 ghost use Rattle.std.specs.Prelude.{◌≡◌, IfOk, map};
+ghost use Rattle.std.specs.FinSet as set;
 ghost use Rattle.lay_layouts.specs.Sound.{IsSound};
 ghost use Rattle.txn_commands.specs.Meets.{meets_touched};
 ghost use Rattle.txn_commands.specs.Records.{AreProper, applied, cell_record_of, record_of, reverted};
@@ -17,7 +18,7 @@ use lay_point::NoMemory;
 use std::alloc::Global;
 use std::collections::BTreeMap;
 use std::marker::Model;
-use txn_commands::Snapshot;
+use txn_commands::{Element, Snapshot};
 
 /// The records of [`Writes`] that don't grow any more, in lists without room for others: most transactions
 /// write a few items, for which a node of a tree is ten times as large. A sole item stands in place. Contracts
@@ -49,7 +50,7 @@ impl Records {
     pub fn of(alloc: Global, writes: &Writes) -> Result<Records, NoMemory>
         ensures { IfOk result (λ records. records ≡ writes.now) }
     {
-        let items = Few::of(listed_items(alloc, writes.items())?);
+        let items = few_items(alloc, writes.items())?;
         let symbols = listed_symbols(alloc, writes.symbols())?;
         Ok(Records { items, symbols })
     }
@@ -98,15 +99,16 @@ impl Records {
         Snapshot::of(alloc, layout.version().with(alloc, &items, &symbols)?)
     }
 
-    /// Returns the elements that some record meets: those in which a value lies, before or after.
+    /// Returns the elements that some record meets: those in which a value lies, before or after. They are in no
+    /// order, and one may stand there several times.
     ///
     /// # Cost
     ///
-    /// A few insertions for each record.
-    pub fn elements(&self, alloc: Global) -> Result<Footprint, NoMemory>
-        ensures { IfOk result (λ met. AreMetBy self.now met) }
+    /// A few elements for each record, each compared with a few.
+    pub fn elements(&self, alloc: Global) -> Result<Vec<Element>, NoMemory>
+        ensures { IfOk result (λ met. AreMetBy self.now (set.from_list met.items)) }
     {
-        let mut met = Footprint::new(alloc);
+        let mut met = Vec::new(alloc);
         add_items(&mut met, self.items.as_slice())?;
         add_symbols(&mut met, &self.symbols)?;
         Ok(met)
@@ -122,6 +124,21 @@ impl Records {
     {
         items_touch(self.items.as_slice(), footprint) || symbols_touch(&self.symbols, footprint)
     }
+}
+
+/// Returns the changes of items. A sole one takes no allocation.
+fn few_items(
+    alloc: Global,
+    items: &BTreeMap<ItemId, ItemChange>,
+) -> Result<Few<(ItemId, ItemChange)>, NoMemory>
+    ensures { IfOk result (λ list. list ≡ items.now.entries) }
+{
+    if items.len() == 1
+        && let Some((id, change)) = items.first_key_value()
+    {
+        return Ok(Few::one((*id, change.clone()?)));
+    }
+    Ok(Few::of(listed_items(alloc, items)?))
 }
 
 /// Returns the changes of items in a list.

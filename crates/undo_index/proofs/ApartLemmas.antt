@@ -7,15 +7,15 @@ use Rattle.std.proofs.lemmas.Cmp.{nat_cmp_total}
 use Rattle.std.proofs.lemmas.List.Filters.{dedup_is}
 use Rattle.std.proofs.lemmas.List.Folds.{list_any-append}
 use Rattle.std.proofs.lemmas.List.Kept.{IsStrictlySortedBy-dedup}
-use Rattle.std.proofs.lemmas.List.Sorted.{list_any-IsPermutation}
 use Rattle.std.specs.declared.cmp.Ordering.TheVariants.{Equal, Greater, Less}
 use Rattle.std.specs.Cmp.{unsigned_ties}
-use Rattle.std.specs.List.{AllByRecursion, dedup, dedup_from, list_any}
+use Rattle.std.specs.List.{AllByRecursion, list_any}
 use Rattle.std.specs.List.Retain.{DiffersFromLast, IsFiltered}
 use Rattle.std.specs.List.Sorted.{IsPermutation, IsSorted, IsStrictlySortedBy}
 use Rattle.std.specs.Ordering.{nat_cmp}
 use Rattle.undo_index.specs.First.{IsFirst, first_of, has_place, is_apart, lesser}
 use Rattle.undo_index.proofs.FirstLemmas.{first_alike}
+use Rattle.undo_index.proofs.OnceLemmas.{once_each}
 
 -- ---- places gathered
 
@@ -31,31 +31,9 @@ has_more ps ks p =
 
 -- ---- brought in order
 
-twice : (a b : Bool) → (a || b) ≡ (a || (a || b))
-twice true b = refl
-twice false b = refl
-
-once_from : (xs : List ℕ) (k p : ℕ) → has_place (dedup_from (λ x y. x == y) k xs) p ≡ ((p == k) || has_place xs p)
-once_from [] k p = refl
-once_from (x ∷ xs) k p = by (x == k) refl (once_from xs k p) (once_from xs x p) where
-  by : (b : Bool) → (x == k) ≡ b → has_place (dedup_from (λ x y. x == y) k xs) p ≡ ((p == k) || has_place xs p) →
-      has_place (dedup_from (λ x y. x == y) x xs) p ≡ ((p == x) || has_place xs p) →
-      has_place (cond b (dedup_from (λ x y. x == y) k xs) (k ∷ dedup_from (λ x y. x == y) x xs)) p
-      ≡ ((p == k) || ((p == x) || has_place xs p))
-  by true is kept rest =
-      let same : x ≡ k = (Decides-eqb x k).0 is in
-      kept ∙ twice (p == k) (has_place xs p) ∙ ap (λ y. (p == k) || ((p == y) || has_place xs p)) (sym same)
-  by false is kept rest = ap (λ b. (p == k) || b) rest
-
-once_has : (xs : List ℕ) (p : ℕ) → has_place (dedup (λ x y. x == y) xs) p ≡ has_place xs p
-once_has [] p = refl
-once_has (x ∷ xs) p = once_from xs x p
-
 pub order_has : (all sorted once : List ℕ) → IsPermutation all sorted → IsFiltered (DiffersFromLast (λ x y. x == y)) [] sorted once →
     (p : ℕ) → has_place once p ≡ has_place all p
-order_has all sorted once moved filtered p =
-    ap (λ xs. has_place xs p) (dedup_is (λ x y. x == y) sorted once filtered) ∙ once_has sorted p
-    ∙ sym (list_any-IsPermutation (λ place. p == place) all sorted moved)
+order_has = once_each (λ x y. x == y) (λ x y. (Decides-eqb x y).0)
 
 pub order_rises : (sorted once : List ℕ) → IsSorted nat_cmp sorted → IsFiltered (DiffersFromLast (λ x y. x == y)) [] sorted once →
     IsStrictlySortedBy nat_cmp once
@@ -95,7 +73,7 @@ below_all n (k ∷ ks) all = λ i. other_place n k all.0 i || below_all n ks all
 before_all : (p k : ℕ) (ks : List ℕ) → p < k → AllByRecursion (λ j. k < j) ks → has_place (k ∷ ks) p ≡ false
 before_all p k ks less all = below_all p (k ∷ ks) (less, further ks p k less all)
 
-own_place : (k : ℕ) (ks : List ℕ) → has_place (k ∷ ks) k ≡ true
+pub own_place : (k : ℕ) (ks : List ℕ) → has_place (k ∷ ks) k ≡ true
 own_place k ks = ap (λ b. b || has_place ks k) ((Decides-eqb k k).1 refl)
 
 -- ---- compared

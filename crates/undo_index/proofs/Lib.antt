@@ -2,10 +2,12 @@ pub mod FirstLemmas
 pub mod UnderLemmas
 pub mod PairLemmas
 pub mod ListedLemmas
+pub mod OnceLemmas
+pub mod ApartLemmas
 pub mod PartsLemmas
 pub mod KeptLemmas
 pub mod FootprintLemmas
-pub mod ApartLemmas
 pub use Rattle.txn_marks.proofs.AnyLemmas
 pub use Rattle.txn_marks.proofs.CompareLemmas
+pub use Rattle.txn_marks.proofs.FewLemmas
 pub use Rattle.txn_marks.proofs.SetLemmas

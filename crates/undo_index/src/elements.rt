@@ -9,9 +9,8 @@ use std::marker::Model;
 use txn_commands::Element;
 use txn_marks::{Few, Footprint, Records};
 
-/// The elements of a footprint that doesn't grow any more, in a list without room for others: most transactions
-/// touch a few, for which a node of a tree is ten times as large. A sole one stands in place. Contracts see the
-/// finite set of them.
+/// The elements of a footprint that doesn't grow any more, in a list: most transactions touch a few, for which a
+/// node of a tree is ten times as large. A sole one stands in place. Contracts see the finite set of them.
 #[derive(Debug, Drop)]
 pub struct Elements {
     list: Few<Element>,
@@ -29,7 +28,7 @@ impl Model for Elements {
 }
 
 impl Elements {
-    /// Returns those of the footprint.
+    /// Returns those of the footprint. The list has no room for others, and a sole one takes no allocation.
     ///
     /// # Cost
     ///
@@ -38,6 +37,12 @@ impl Elements {
         ensures { IfOk result (λ elements. elements ≡ footprint.now) }
     {
         let tree = footprint.elements();
+        if tree.len() == 1
+            && let Some(element) = tree.first()
+        {
+            let list = Few::one(*element);
+            return Ok(Elements { list });
+        }
         let mut list = Vec::with_capacity(alloc, tree.len())?;
         for element in tree {
             list.push(*element)?;
@@ -50,11 +55,15 @@ impl Elements {
     ///
     /// # Cost
     ///
-    /// A few insertions for each record.
+    /// That of `Records::elements`, and that of bringing them in order: by the logarithm of their number for each.
     pub fn met_by(alloc: Global, records: &Records) -> Result<Elements, NoMemory>
         ensures { IfOk result (λ met. AreMetBy records.now met) }
     {
-        Elements::of(alloc, &records.elements(alloc)?)
+        let mut list = records.elements(alloc)?;
+        list.sort_unstable();
+        list.dedup();
+        let list = Few::of(list);
+        Ok(Elements { list })
     }
 
     /// Lends the elements, in order.

@@ -1,8 +1,9 @@
-use Rattle.std.proofs.Common.{◌≡◌, ◌∙◌, ◌++◌, [], List, ap, rules, sym}
+use Rattle.std.proofs.Common.{◌≡◌, ◌∙◌, ◌++◌, [], List, Some, ap, length, rules, slice_get, sym}
 use Rattle.std.specs.FinSet.{from_list}
 use Rattle.std.proofs.lemmas.List.{append-nil}
 use Rattle.txn_commands.specs.declared.element.Element.{Element}
 use Rattle.txn_commands.specs.Elements.{Touched, element_cmp}
+use Rattle.txn_marks.proofs.FewLemmas.{sole}
 use Rattle.undo_index.proofs.elements.Elements.of.Goals as goal
 
 abbrev set_of : List Element → Touched
@@ -16,6 +17,13 @@ loop-element-init c =
 
 pub returns : goal.returns
 returns c =
+    let keys = c.elements-tree.result.now.keys in
+    let first : slice_get keys 0 ≡ Some c.in-Some.element.now = search rules in
+    let one : length keys ≡ 1 = search rules in
+    ap set_of (c.one-list.ensures ∙ sym (sole keys c.in-Some.element.now one first)) ∙ c.elements-tree.ensures
+
+pub returns-2 : goal.returns-2
+returns-2 c =
     let list = c.loop-element.list.items in
     ap set_of (c.of-list.ensures ∙ sym (append-nil list)) ∙ ap (λ xs. set_of (list ++ xs)) (sym c.in-None.ensures.steps.0)
     ∙ c.loop-element.invariant
