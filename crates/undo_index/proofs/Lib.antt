@@ -4,6 +4,7 @@ pub mod PairLemmas
 pub mod ListedLemmas
 pub mod OnceLemmas
 pub mod ApartLemmas
+pub mod TreeLemmas
 pub mod PartsLemmas
 pub mod KeptLemmas
 pub mod FootprintLemmas

@@ -1,5 +1,5 @@
 -- Pairs of elements and places, in their order.
-use Rattle.std.proofs.Common.{◌≡◌, ℕ, ◌==◌, Bool, true, false, not, cond, ◌||◌, ◌&&◌, refl, ap, sym, ◌∙◌}
+use Rattle.std.proofs.Common.{◌≡◌, ℕ, ◌==◌, true, false, not, cond, ◌||◌, ◌&&◌, refl, ap, sym, ◌∙◌}
 use Rattle.std.specs.declared.cmp.Ordering.{Ordering}
 use Rattle.std.specs.declared.cmp.Ordering.TheVariants.{Equal, Greater, Less}
 use Rattle.std.specs.Cmp.{IsTotalOrder}
@@ -8,6 +8,7 @@ use Rattle.std.specs.FinSet.{IsAntisymmetric, contains-insert, contains-remove, 
 use Rattle.std.specs.Ordering.{eq_by_cmp, nat_cmp, ordering_then}
 use Rattle.txn_commands.specs.declared.element.Element.{Element}
 use Rattle.txn_commands.specs.Elements.{element_cmp, element_eq, elements_exact, elements_total}
+use Rattle.txn_marks.proofs.SetLemmas.{not_cond, or_cond}
 use Rattle.undo_index.specs.Listed.{Listed, is_listed, pair_cmp}
 use Rattle.undo_index.proofs.UnderLemmas.{keyed_eq, keyed_total}
 
@@ -43,14 +44,6 @@ pub listed_less : (s : Listed) (x e : Element) (place p : ℕ) →
     is_listed (remove s (x, place)) e p ≡ (not (element_eq e x && (p == place)) && is_listed s e p)
 listed_less s x e place p =
     contains-remove pairs_total s (x, place) (e, p) ∙ ap (λ b. not b && is_listed s e p) (pair_eq e x p place)
-
-or_cond : (b x : Bool) → cond b true x ≡ (b || x)
-or_cond true x = refl
-or_cond false x = refl
-
-not_cond : (b x : Bool) → cond b false x ≡ (not b && x)
-not_cond true x = refl
-not_cond false x = refl
 
 -- the same as a choice
 pub more_so : (s : Listed) (x : Element) (place : ℕ) (e : Element) (p : ℕ) →

@@ -1,28 +1,29 @@
--- Places under elements that each have a tree of their own.
+-- Places under elements that are no items.
 use Rattle.std.specs.Prelude.{ℕ, List, [], ◌∷◌, ◌++◌, Bool, false, not, map, Option, None, Some}
 use Rattle.std.specs.BTreeMap.{BTreeMap, get}
-use Rattle.std.specs.BTreeSet.{BTreeSet, contains}
 use Rattle.std.specs.FinSet as set
 use Rattle.std.specs.List.{filter}
-use Rattle.std.specs.Ordering.{nat_cmp}
 use Rattle.txn_commands.specs.declared.element.Element.{Element}
 use Rattle.txn_commands.specs.Elements.{element_cmp, element_eq}
+use Rattle.undo_index.specs.declared.kept.Kept.{Kept}
+use Rattle.undo_index.specs.First.{has_place}
+use Rattle.undo_index.specs.Kept.{places_of}
 use Rattle.undo_index.specs.Listed.{Listed}
 
--- each place with its element; of the trees of one element the first counts
-abbrev pub pairs_of : List (Element × BTreeSet ℕ) → List (Element × ℕ)
+-- each place with its element; of the places of one element the first ones count
+abbrev pub pairs_of : List (Element × Kept) → List (Element × ℕ)
 pairs_of [] = []
-pairs_of (e ∷ es) = map (λ p. (e.0, p)) e.1.keys ++ filter (λ k. not (element_eq e.0 k.0)) (pairs_of es)
+pairs_of (e ∷ es) = map (λ p. (e.0, p)) (places_of e.1) ++ filter (λ k. not (element_eq e.0 k.0)) (pairs_of es)
 
 -- the finite set of them
-abbrev pub listed_in_trees : BTreeMap Element (BTreeSet ℕ) → Listed
-listed_in_trees m = set.from_list (pairs_of m.entries)
+abbrev pub listed_in_parts : BTreeMap Element Kept → Listed
+listed_in_parts m = set.from_list (pairs_of m.entries)
 
--- the place is in the tree, where there is one
-abbrev pub is_in_tree : Option (BTreeSet ℕ) → ℕ → Bool
-is_in_tree None p = false
-is_in_tree (Some s) p = contains nat_cmp s p
+-- the place is one of these, where there are any
+abbrev pub is_one_of : Option Kept → ℕ → Bool
+is_one_of None p = false
+is_one_of (Some kept) p = has_place (places_of kept) p
 
--- the place is in the tree of the element
-abbrev pub is_kept : BTreeMap Element (BTreeSet ℕ) → Element → ℕ → Bool
-is_kept m e p = is_in_tree (get element_cmp m e) p
+-- the place is one of those of the element
+abbrev pub is_kept : BTreeMap Element Kept → Element → ℕ → Bool
+is_kept m e p = is_one_of (get element_cmp m e) p

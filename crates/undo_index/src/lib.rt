@@ -13,6 +13,7 @@
 mod apart;
 mod elements;
 mod index;
+mod kept;
 mod listing;
 mod parts;
 mod places;

@@ -4,31 +4,32 @@ ghost use Rattle.std.specs.FinSet as set;
 ghost use Rattle.undo_index.specs.First.{IsFirst, has_place};
 ghost use Rattle.undo_index.specs.Listed.{is_listed, nothing_listed};
 
+use crate::kept::Kept;
 use lay_point::NoMemory;
 use std::alloc::Global;
-use std::collections::{BTreeMap, BTreeSet};
+use std::collections::BTreeMap;
 use std::marker::Model;
 use txn_commands::Element;
 
 /// Places listed under elements, of which there are few. Contracts see the finite set of the pairs.
 ///
-/// A layer of the top cell may have a place for each transaction. So each element has a tree of its own, where
-/// plain numbers stand and are compared. An element with no place left keeps an empty tree.
+/// A layer of the top cell may have a place for each transaction. So each element has its own places, where plain
+/// numbers stand and are compared: a sole one in place, several in a tree. An element with no place left is gone.
 #[derive(Drop)]
 pub(crate) struct Parts {
-    places: BTreeMap<Element, BTreeSet<usize>>,
+    places: BTreeMap<Element, Kept>,
     alloc: Global,
 }
 
 impl Model for Parts {
     ghost use Rattle.undo_index.specs.Listed.{Listed, coded_listed};
-    ghost use Rattle.undo_index.specs.Parts.{listed_in_trees};
+    ghost use Rattle.undo_index.specs.Parts.{listed_in_parts};
 
     ghost Value = { Listed };
 
     ghost coded = { coded_listed };
 
-    ghost view = { λ p. listed_in_trees p.places };
+    ghost view = { λ p. listed_in_parts p.places };
 }
 
 impl Parts {
@@ -52,13 +53,11 @@ impl Parts {
         ensures ok { OnOk result (self.new ≡ set.insert self.old (element, place)) }
         ensures err { OnErr result (self.new ≡ self.old) }
     {
-        if let Some(places) = self.places.get_mut(&element) {
-            places.insert(place)?;
+        if let Some(kept) = self.places.get_mut(&element) {
+            kept.insert(self.alloc, place)?;
             return Ok(());
         }
-        let mut places = BTreeSet::new(self.alloc);
-        places.insert(place)?;
-        self.places.insert(element, places)?;
+        self.places.insert(element, Kept::Sole(place))?;
         Ok(())
     }
 
@@ -66,18 +65,20 @@ impl Parts {
     pub(crate) fn remove(&mut self, element: Element, place: usize)
         ensures { self.new ≡ set.remove self.old (element, place) }
     {
-        let Some(places) = self.places.get_mut(&element) else {
+        let Some(kept) = self.places.get_mut(&element) else {
             return;
         };
-        places.remove(&place);
+        if kept.remove(place) {
+            return;
+        }
+        self.places.remove(&element);
     }
 
     /// Returns the least place from this one on that is listed under the element.
     pub(crate) fn first(&self, element: Element, from: usize) -> Option<usize>
         ensures { IsFirst (is_listed self.now element) from result }
     {
-        let places = self.places.get(&element)?;
-        Some(*places.range(from..).next()?)
+        self.places.get(&element)?.first(from)
     }
 
     /// Adds the places below this one that are listed under the element.
@@ -90,12 +91,9 @@ impl Parts {
         ensures { OnOk result ((p : ℕ) → has_place found.new.items p
             ≡ (has_place found.old.items p || (nat_lt p below && is_listed self.now element p))) }
     {
-        let Some(places) = self.places.get(&element) else {
-            return Ok(());
-        };
-        for place in places.range(0..below) {
-            found.push(*place)?;
+        match self.places.get(&element) {
+            Some(kept) => kept.gather(below, found),
+            None => Ok(()),
         }
-        Ok(())
     }
 }

@@ -1,24 +1,24 @@
-use Rattle.std.proofs.Common.{◌≡◌, ◌∙◌, ◌++◌, [], None, ap, rules, sym}
-use Rattle.std.proofs.lemmas.List.{append-nil}
+use Rattle.std.proofs.Common.{◌≡◌, ◌∙◌, ◌||◌, None, Some, ap, rules, sym}
+use Rattle.std.specs.Prelude.{nat_lt}
 use Rattle.std.specs.BTreeMap.{get}
-use Rattle.std.specs.BTreeSet.{keys_between}
-use Rattle.std.specs.Ordering.{nat_cmp}
-use Rattle.std.specs.declared.ops.Bound.TheVariants.{Excluded, Included}
+use Rattle.std.proofs.lemmas.Result.{on_ok_weaker}
 use Rattle.txn_commands.specs.Elements.{element_cmp}
-use Rattle.undo_index.proofs.PartsLemmas.{gathered_found, gathered_none}
+use Rattle.txn_marks.proofs.AnyLemmas.{or_false}
+use Rattle.undo_index.specs.First.{has_place}
+use Rattle.undo_index.proofs.PartsLemmas.{gathered_found}
+use Rattle.undo_index.proofs.TreeLemmas.{none_of}
 use Rattle.undo_index.proofs.parts.Parts.gather.Goals as goal
 
-pub returns-in_default : goal.returns-in_default
-returns-in_default c =
-    let none : None ≡ get element_cmp c.self.inside.places c.args.element = search rules in
-    gathered_none c.self.inside.places c.args.self.now c.self.view_is c.args.element none c.args.below c.args.found.now.items
+pub returns-in-Some : goal.returns-in-Some
+returns-in-Some c =
+    on_ok_weaker c.gather.result
+    (gathered_found c.self.inside.places c.args.self.now c.self.view_is c.args.element (Some c.in-Some.kept.now) c.in-Some.ensures.value
+    c.args.below c.args.found.now.items c.gather.new.found.items)
+    c.gather.ensures
 
-pub returns : goal.returns
-returns c =
-    let new = c.loop-place.found.items in
+pub returns-in-None : goal.returns-in-None
+returns-in-None c =
     let old = c.args.found.now.items in
-    let range = keys_between nat_cmp (Included 0) (Excluded c.args.below) c.in-Some.places.now in
-    let left : c.loop-place.place-iterator ≡ [] = search rules in
-    let all : c.into_iter-place-iterator.result ≡ range = search rules in
-    gathered_found c.self.inside.places c.args.self.now c.self.view_is c.args.element c.in-Some.places.now c.in-Some.ensures.value
-    c.args.below old new (sym (append-nil new) ∙ ap (λ ps. new ++ ps) (sym left) ∙ c.loop-place.invariant ∙ ap (λ ps. old ++ ps) all)
+    let none : None ≡ get element_cmp c.self.inside.places c.args.element = search rules in
+    gathered_found c.self.inside.places c.args.self.now c.self.view_is c.args.element None none c.args.below old old
+    (λ p. sym (ap (λ b. has_place old p || b) (none_of (nat_lt p c.args.below)) ∙ or_false (has_place old p)))

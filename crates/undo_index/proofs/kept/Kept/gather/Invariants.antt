@@ -1,5 +1,5 @@
 use Rattle.std.proofs.Common.{◌≡◌, ◌++◌}
-use Rattle.undo_index.proofs.parts.Parts.gather.Given as goal
+use Rattle.undo_index.proofs.kept.Kept.gather.Given as goal
 
 -- with those that are left they are all
 abbrev pub invariant-loop-place : goal.invariant-loop-place
