@@ -1,5 +1,6 @@
 -- A tree's keys as a finite set, and sets of elements.
-use Rattle.std.proofs.Common.{◌≡◌, ℕ, zero, suc, drop, take, Bool, true, false, not, ◌&&◌, ◌||◌, inl, inr, cond, List, [], ◌∷◌, refl, ap, sym, subst, ◌∙◌}
+use Rattle.std.proofs.Common.{◌≡◌, ℕ, zero, suc, Bool, true, false, not, ◌&&◌, ◌||◌, inl, inr, cond, List, [], ◌∷◌, drop, take}
+use Rattle.std.proofs.Common.{refl, ap, sym, subst, ◌∙◌}
 use Rattle.std.proofs.lemmas.Bool.{and_from, and_parts, or_cases, or_left, or_right}
 use Rattle.std.proofs.lemmas.Bool.Decides.{same_from_decides}
 use Rattle.std.specs.Bool.{Decides}
@@ -59,10 +60,13 @@ module _ {K : Type 0} {R : K → K → Ordering} (total : IsTotalOrder R) (exact
 
   -- a key that is there isn't added
   there_already : (ks : List K) (k : K) → contains (from_list {R = R} ks) k ≡ true → from_list {R = R} ks ≡ insert (from_list ks) k
-  there_already ks k there = same_set total exact _ _ (λ q. by q (eq_by_cmp R q k) refl ∙ sym (contains-insert total (from_list ks) k q)) where
+  there_already ks k there = same_set total exact _ _ each where
     by : (q : K) (b : Bool) → eq_by_cmp R q k ≡ b → contains (from_list {R = R} ks) q ≡ (b || contains (from_list {R = R} ks) q)
     by q true is = ap (contains (from_list {R = R} ks)) (exact q k ((Equal-is (R q k)).0 is)) ∙ there
     by q false is = refl
+
+    each : (q : K) → contains (from_list {R = R} ks) q ≡ contains (insert (from_list {R = R} ks) k) q
+    each q = by q (eq_by_cmp R q k) refl ∙ sym (contains-insert total (from_list ks) k q)
 
   -- also where it is looked for in a part of a list, from the side of the others
   pub part_already : (ks : List K) (m n : ℕ) (k : K) → list_any (λ y. eq_by_cmp R y k) (take m (drop n ks)) ≡ true →

@@ -79,7 +79,8 @@ abbrev pub IsTurned : BTreeMap Element Kept → BTreeMap Element Kept → Elemen
 IsTurned m n x o = (q : Element) → get element_cmp n q ≡ cond (is_at (element_cmp x) q) o (get element_cmp m q)
 
 -- turned once more, the last turn counts
-pub turned_twice : (m n k : BTreeMap Element Kept) (x : Element) (o u : Option Kept) → IsTurned m n x o → IsTurned n k x u → IsTurned m k x u
+pub turned_twice : (m n k : BTreeMap Element Kept) (x : Element) (o u : Option Kept) → IsTurned m n x o → IsTurned n k x u →
+    IsTurned m k x u
 turned_twice m n k x o u first second q =
     second q ∙ ap (cond (is_at (element_cmp x) q) u) (first q) ∙ by (is_at (element_cmp x) q) where
       by : (b : Bool) → cond b u (cond b o (get element_cmp m q)) ≡ cond b u (get element_cmp m q)
@@ -134,7 +135,10 @@ places_found m x o is p = ap (λ o. is_one_of o p) is
 -- an element with no place has none to remove
 pub none_less : (m : BTreeMap Element Kept) (x : Element) (place : ℕ) → None ≡ get element_cmp m x →
     listed_in_parts m ≡ remove (listed_in_parts m) (x, place)
-none_less m x place none = kept_less m m x place None turns (λ p. sym (none_of (not (p == place))) ∙ ap (λ b. not (p == place) && b) (ap (λ o. is_one_of o p) none)) where
+none_less m x place none = kept_less m m x place None turns less where
+  less : (p : ℕ) → false ≡ (not (p == place) && is_kept m x p)
+  less p = sym (none_of (not (p == place))) ∙ ap (λ o. not (p == place) && is_one_of o p) none
+
   turns : IsTurned m m x None
   turns q = by (element_eq x q) refl where
     by : (b : Bool) → element_eq x q ≡ b → get element_cmp m q ≡ cond b None (get element_cmp m q)

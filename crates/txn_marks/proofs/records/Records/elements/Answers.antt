@@ -12,6 +12,7 @@ use Rattle.txn_marks.proofs.records.Records.elements.Goals as goal
 pub returns : goal.returns
 returns c e =
     let w = c.self.inside in
-    let both : from_list c.add_symbols.new.met.items ≡ with_elements (with_elements untouched (flat_map record_homes (map record_of w.items)))
+    let both : from_list c.add_symbols.new.met.items
+    ≡ with_elements (with_elements untouched (flat_map record_homes (map record_of w.items)))
     (flat_map cell_homes (map cell_record_of w.symbols.items)) = search rules in
     ap (λ (s : Touched). contains s e) both ∙ gathered (records_listed w) e ∙ ap (λ (r : Records). some_meets r e) c.self.view_is
