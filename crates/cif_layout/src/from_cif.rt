@@ -38,7 +38,7 @@ fn numbered(alloc: Global, elements: Vec<Element>) -> Result<NumberedItems, NoMe
 {
     let mut items = NumberedItems::new(alloc);
     for element in Given::of(elements) {
-        items = items.push(alloc, item_of(alloc, element)?)?;
+        items.push(alloc, item_of(alloc, element)?)?;
     }
     Ok(items)
 }

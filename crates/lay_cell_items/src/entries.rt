@@ -44,7 +44,7 @@ pub fn paged<K: PageKey, V: Kept>(
 {
     let mut pages = PagesBuilder::new(alloc);
     for (key, value) in Given::of(entries) {
-        pages = pages.push(alloc, key, value)?;
+        pages.push(alloc, key, value)?;
     }
     let pages = pages.build(alloc)?;
     Ok(pages)

@@ -10,7 +10,8 @@
 //! after.
 //!
 //! ```text
-//! let items = NumberedItems::new(alloc).push(alloc, item)?;
+//! let mut items = NumberedItems::new(alloc);
+//! items.push(alloc, item)?;
 //! let snapshot = Snapshot::of(alloc, Version::of_numbered(alloc, &symbols, items)?)?;
 //! for (id, item) in snapshot.items(CellId::Top) { .. }
 //! ```

@@ -1,5 +1,5 @@
 //! Items under the ids of a text.
-ghost use Rattle.std.specs.Prelude.{◌≡◌, ◌++◌, [], ◌∷◌, IfOk};
+ghost use Rattle.std.specs.Prelude.{◌≡◌, ◌++◌, [], ◌∷◌, IfOk, OnOk};
 ghost use Rattle.lay_layouts.specs.LayoutWith.{numbered_from, text_id};
 
 use lay_layouts::{Item, ItemId, Pages, PagesBuilder, one_more};
@@ -39,14 +39,22 @@ impl NumberedItems {
         }
     }
 
-    /// Returns the items and one after them. More than a `u32` counts are out of memory.
-    pub fn push(self, alloc: Global, item: Item) -> Result<NumberedItems, NoMemory>
-        ensures { IfOk result (λ new. new ≡ self ++ (item ∷ [])) }
+    /// Puts an item after them. More than a `u32` counts are out of memory. Where memory runs out, items may be
+    /// lost.
+    pub fn push(&mut self, alloc: Global, item: Item) -> Result<(), NoMemory>
+        ensures { OnOk result (self.new ≡ self.old ++ (item ∷ [])) }
     {
-        let NumberedItems { pages, count } = self;
-        let count = one_more(count)?;
-        let pages = pages.push(alloc, text_id(count), item)?;
-        Ok(NumberedItems { pages, count })
+        let count = one_more(self.count)?;
+        match self.pages.push(alloc, text_id(count), item) {
+            Ok(()) => {
+                self.count = count;
+                Ok(())
+            }
+            Err(error) => {
+                *self = NumberedItems::new(alloc);
+                Err(error.into())
+            }
+        }
     }
 
     /// Returns the items under their ids.
@@ -64,7 +72,7 @@ pub(crate) fn numbered(alloc: Global, items: Vec<Item>) -> Result<NumberedItems,
 {
     let mut numbered = NumberedItems::new(alloc);
     for item in items {
-        numbered = numbered.push(alloc, item)?;
+        numbered.push(alloc, item)?;
     }
     Ok(numbered)
 }

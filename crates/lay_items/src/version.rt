@@ -62,7 +62,8 @@ impl Version {
         Version::of_numbered(alloc, symbols, numbered(alloc, items)?)
     }
 
-    /// Returns the same of items that have their ids.
+    /// Returns the layout of these symbols and of items that have their ids, as `of_parts` does: so who makes items one
+    /// after another needn't list them first.
     ///
     /// # Cost
     ///

@@ -42,7 +42,7 @@ fn paged(alloc: Global, slots: &BTreeMap<u32, CellSlot>) -> Result<Pages<u32, Ce
 {
     let mut pages = PagesBuilder::new(alloc);
     for (number, slot) in slots.iter() {
-        pages = pages.push(alloc, *number, *slot)?;
+        pages.push(alloc, *number, *slot)?;
     }
     let pages = pages.build(alloc)?;
     Ok(pages)

@@ -14,7 +14,7 @@ use Rattle.lay_page.specs.Shared.{AreSized, filled, items_of, joined, pages_in}
 use Rattle.lay_page.specs.Written.{AllAbove, AllBelow, IsPlace, from_key}
 use Rattle.lay_page.proofs.PlaceLemmas.{joined-at}
 use Rattle.lay_page.proofs.SearchLemmas.{turned}
-use Rattle.lay_page.proofs.ShareLemmas.{AreCut, all_append, drop_map, joined_append, joined_twice, length_map, mapped_twice}
+use Rattle.lay_page.proofs.ShareLemmas.{AreCut, drop_map, joined_append, joined_twice, length_map, mapped_twice}
 use Rattle.lay_page.proofs.WrittenLemmas.{filter-append}
 
 -- ---- a list is ended

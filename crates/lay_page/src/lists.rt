@@ -1,9 +1,10 @@
 //! Lists of up to 64, filled one after another.
-ghost use Rattle.std.specs.Prelude.{◌≡◌, ◌<◌, ◌++◌, [], ◌∷◌, IfOk, length};
+ghost use Rattle.std.specs.Prelude.{◌≡◌, ◌<◌, ◌++◌, [], ◌∷◌, IfOk, OnOk, length};
 ghost use Rattle.lay_page.specs.Shared.{AreFilled, AreSized, filled, items_of, joined};
 
-use crate::share::shared;
+use crate::share::push_list;
 use std::alloc::{AllocError, Global};
+use std::mem;
 use std::sync::Arc;
 
 /// Lists of 1 to 64 elements, shared, and the list that grows.
@@ -25,34 +26,32 @@ impl<T: Drop> Lists<T> {
         }
     }
 
-    /// Returns the elements and one behind them.
-    pub fn push(self, alloc: Global, element: T) -> Result<Lists<T>, AllocError>
-        requires { AreFilled (items_of self.lists.items) self.last.items }
-        ensures elements { IfOk result (λ new. filled (items_of new.lists.items) new.last.items
-            ≡ filled (items_of self.lists.items) self.last.items ++ (element ∷ [])) }
-        ensures sizes { IfOk result (λ new. AreFilled (items_of new.lists.items) new.last.items) }
+    /// Puts an element after them. Where that runs out of memory, elements may be lost.
+    pub fn push(&mut self, alloc: Global, element: T) -> Result<(), AllocError>
+        requires { AreFilled (items_of self.old.lists.items) self.old.last.items }
+        ensures elements { OnOk result (filled (items_of self.new.lists.items) self.new.last.items
+            ≡ filled (items_of self.old.lists.items) self.old.last.items ++ (element ∷ [])) }
+        ensures sizes { OnOk result (AreFilled (items_of self.new.lists.items) self.new.last.items) }
     {
-        let Lists { lists, last } = self;
-        if last.len() < 64 {
-            return Lists { lists, last }.grown(element);
-        }
-        let lists = ended(alloc, lists, last)?;
-        let last = Vec::with_capacity(alloc, 64)?;
-        let new = Lists { lists, last }.grown(element)?;
-        Ok(new)
+        self.make_room(alloc)?;
+        self.last.push(element)?;
+        Ok(())
     }
 
-    /// Returns the elements and one behind them, for which there is room in the list that grows.
-    fn grown(self, element: T) -> Result<Lists<T>, AllocError>
-        requires sizes { AreFilled (items_of self.lists.items) self.last.items }
-        requires room { length self.last.items < 64 }
-        ensures elements { IfOk result (λ new. filled (items_of new.lists.items) new.last.items
-            ≡ filled (items_of self.lists.items) self.last.items ++ (element ∷ [])) }
-        ensures sizes { IfOk result (λ new. AreFilled (items_of new.lists.items) new.last.items) }
+    /// Makes room for one more element: a list of 64 is ended, and another begun.
+    fn make_room(&mut self, alloc: Global) -> Result<(), AllocError>
+        requires { AreFilled (items_of self.old.lists.items) self.old.last.items }
+        ensures elements { OnOk result (filled (items_of self.new.lists.items) self.new.last.items
+            ≡ filled (items_of self.old.lists.items) self.old.last.items) }
+        ensures sizes { OnOk result (AreFilled (items_of self.new.lists.items) self.new.last.items) }
+        ensures room { OnOk result (length self.new.last.items < 64) }
     {
-        let Lists { lists, mut last } = self;
-        last.push(element)?;
-        Ok(Lists { lists, last })
+        if self.last.len() < 64 {
+            return Ok(());
+        }
+        let full = mem::replace(&mut self.last, Vec::with_capacity(alloc, 64)?);
+        push_list(alloc, &mut self.lists, full)?;
+        Ok(())
     }
 
     /// Returns the lists.
@@ -62,23 +61,11 @@ impl<T: Drop> Lists<T> {
             ≡ filled (items_of self.lists.items) self.last.items) }
         ensures sizes { IfOk result (λ new. AreSized (items_of new.items)) }
     {
-        let Lists { lists, last } = self;
+        let Lists { mut lists, last } = self;
         if last.is_empty() {
             return Ok(lists);
         }
-        let lists = ended(alloc, lists, last)?;
+        push_list(alloc, &mut lists, last)?;
         Ok(lists)
     }
-}
-
-/// Returns the lists and one behind them.
-fn ended<T: Drop>(
-    alloc: Global,
-    mut lists: Vec<Arc<Vec<T>>>,
-    last: Vec<T>,
-) -> Result<Vec<Arc<Vec<T>>>, AllocError>
-    ensures { IfOk result (λ new. items_of new.items ≡ items_of lists.items ++ (last.items ∷ [])) }
-{
-    lists.push(shared(alloc, last)?)?;
-    Ok(lists)
 }

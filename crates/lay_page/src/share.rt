@@ -7,6 +7,10 @@ use std::sync::Arc;
 
 /// Returns the lists with elements in place of one of them, in parts as `push_parts` puts them. All others are
 /// shared.
+///
+/// # Cost
+///
+/// A pass over the lists.
 pub fn spliced<T: Drop>(
     alloc: Global,
     lists: &[Arc<Vec<T>>],
@@ -37,7 +41,7 @@ fn append<T: Drop>(new: &mut Vec<Arc<Vec<T>>>, lists: &[Arc<Vec<T>>]) -> Result<
 }
 
 /// Puts the elements behind the lists, in parts of up to 64: none, one, or two where there are more. The first of
-/// two has 64 where the lists grow at their end, and else 32.
+/// two has 64 where the lists grow at their end, and else 32. Where that runs out of memory, some may be there.
 pub fn push_parts<T: Drop>(
     alloc: Global,
     lists: &mut Vec<Arc<Vec<T>>>,
@@ -61,7 +65,7 @@ pub fn push_parts<T: Drop>(
 }
 
 /// Puts a list behind the lists.
-fn push_list<T: Drop>(
+pub(crate) fn push_list<T: Drop>(
     alloc: Global,
     lists: &mut Vec<Arc<Vec<T>>>,
     list: Vec<T>,
@@ -73,7 +77,7 @@ fn push_list<T: Drop>(
 }
 
 /// Returns the list, shared.
-pub(crate) fn shared<T: Drop>(alloc: Global, list: Vec<T>) -> Result<Arc<Vec<T>>, AllocError>
+fn shared<T: Drop>(alloc: Global, list: Vec<T>) -> Result<Arc<Vec<T>>, AllocError>
     ensures { IfOk result (λ new. new.value.items ≡ list.items) }
 {
     Ok(Arc::new(alloc, list)?)

@@ -18,7 +18,6 @@ lent_page book at one es lt is items = items_at book at one es [] (omega (arith,
 -- these are the pages of the book of this index
 pub record IsLent {K X Y Z V W : Type 0} (R : K → K → Ordering) (books : List (Arc (Vec (Arc (Vec (K × X) Y) Z) V) W)) (at : ℕ)
     (pages : List (Arc (Vec (K × X) Y) Z)) : Type 0 where
-  pub inside : at < length (pages_in books)
   pub is : get_or (pages_in books) at [] ≡ items_of pages
   pub entries : get_or (map joined (pages_in books)) at [] ≡ joined (items_of pages)
   pub some : 0 < length pages
@@ -34,7 +33,6 @@ lent_book {K} {X} R books at one pages kept in_range this items =
     let same = pages_at books at one pages [] (omega (arith, count_books books, lt)) this items in
     let book = book_at R (pages_in books) at kept lt in
     record {
-      inside = lt;
       is = same;
       entries = get_or-map joined (pages_in books) at [] [] lt ∙ ap joined same;
       some = omega (arith, book.some, ap length same, count_items pages);

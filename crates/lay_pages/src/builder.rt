@@ -1,5 +1,5 @@
 //! Pages made of entries that come in order of their keys.
-ghost use Rattle.std.specs.Prelude.{◌≡◌, ◌++◌, [], ◌∷◌, IfOk};
+ghost use Rattle.std.specs.Prelude.{◌≡◌, ◌++◌, [], ◌∷◌, IfOk, OnOk};
 ghost use Rattle.std.specs.List.{AllByRecursion};
 ghost use Rattle.std.specs.List.Sorted.{IsStrictlySortedBy};
 ghost use Rattle.std.specs.Map.{keys_of};
@@ -39,14 +39,21 @@ impl<K: PageKey, V: Kept> PagesBuilder<K, V> {
         }
     }
 
-    /// Returns the entries and one behind them.
-    pub fn push(self, alloc: Global, key: K, value: V) -> Result<PagesBuilder<K, V>, AllocError>
-        ensures { IfOk result (λ new. new ≡ self ++ ((key, value) ∷ [])) }
+    /// Puts an entry after them. Where that runs out of memory, entries may be lost.
+    pub fn push(&mut self, alloc: Global, key: K, value: V) -> Result<(), AllocError>
+        ensures { OnOk result (self.new ≡ self.old ++ ((key, value) ∷ [])) }
     {
-        let PagesBuilder { entries, len } = self;
-        let len = len.checked_add(1).ok_or(AllocError)?;
-        let entries = entries.push(alloc, (key, value))?;
-        Ok(PagesBuilder { entries, len })
+        let len = self.len.checked_add(1).ok_or(AllocError)?;
+        match self.entries.push(alloc, (key, value)) {
+            Ok(()) => {
+                self.len = len;
+                Ok(())
+            }
+            Err(error) => {
+                *self = PagesBuilder::new(alloc);
+                Err(error)
+            }
+        }
     }
 
     /// Returns the map of the entries, in full pages and books but for the last.
@@ -72,7 +79,7 @@ fn books_of<K: PageKey, V: Kept>(
 {
     let mut lists = Lists::new(alloc);
     for page in pages {
-        lists = lists.push(alloc, page)?;
+        lists.push(alloc, page)?;
     }
     let books = lists.end(alloc)?;
     Ok(books)

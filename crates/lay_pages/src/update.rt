@@ -81,7 +81,8 @@ pub(crate) fn first_books<K: PageKey, V: Kept>(
     Ok(books)
 }
 
-/// Returns the number of entries after a write, where a `usize` has it. Before it the key had a value, or none.
+/// Returns the number of entries after a write of this value, or of none, under a key that had a value before, or
+/// none. Where a `usize` hasn't the number, that is out of memory.
 pub(crate) fn len_with<V: Kept>(
     len: usize,
     had_value: bool,

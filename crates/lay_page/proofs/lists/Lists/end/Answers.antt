@@ -5,4 +5,4 @@ use Rattle.lay_page.proofs.lists.Lists.end.Goals as goal
 
 pub returns-clause-elements : goal.returns-clause-elements
 returns-clause-elements g c =
-    ap joined c.in_ok-lists.ensures ∙ filled_end (items_of c.args.self.lists.items) c.args.self.last.items
+    ap joined c.in_ok-push_list.ensures ∙ filled_end (items_of c.args.self.lists.items) c.args.self.last.items
