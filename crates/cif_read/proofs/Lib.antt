@@ -6,5 +6,3 @@ pub mod TextGrammar
 pub mod BindingLemmas
 pub mod ReadAnswers
 pub mod OneMeaning
-pub use Rattle.lay_cells.proofs.AcyclicLemmas
-pub use Rattle.lay_cells.proofs.WalkListLemmas

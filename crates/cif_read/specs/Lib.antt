@@ -2,4 +2,3 @@ pub mod Kept
 pub use Rattle.cif_content.specs.Contents
 pub use Rattle.cif_content.specs.declared.element.Element
 pub use Rattle.cif_content.specs.declared.element.Figure
-pub use Rattle.lay_cells.specs.Tallies

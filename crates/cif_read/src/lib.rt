@@ -30,5 +30,4 @@ mod reader;
 
 pub use cif_content::{CifFault, CifFile, Element, FaultKind, Figure, MAX_SYMBOLS, MAX_TEXT};
 pub use laws::a_text_has_one_meaning;
-pub use lay_cells::CallGraph;
 pub use reader::read;
