@@ -1,10 +1,6 @@
-pub mod FirstLemmas
 pub mod UnderLemmas
 pub mod PairLemmas
 pub mod ListedLemmas
-pub mod OnceLemmas
-pub mod ApartLemmas
-pub mod TreeLemmas
 pub mod PartsLemmas
 pub mod KeptLemmas
 pub mod FootprintLemmas
@@ -12,3 +8,5 @@ pub use Rattle.txn_marks.proofs.AnyLemmas
 pub use Rattle.txn_marks.proofs.CompareLemmas
 pub use Rattle.txn_marks.proofs.FewLemmas
 pub use Rattle.txn_marks.proofs.SetLemmas
+pub use Rattle.undo_places.proofs.ApartLemmas
+pub use Rattle.undo_places.proofs.FirstLemmas

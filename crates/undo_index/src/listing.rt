@@ -2,12 +2,11 @@
 ghost use Rattle.std.specs.Prelude.{◌≡◌, ℕ, ◌||◌, ◌&&◌, IfOk, OnErr, OnOk, nat_lt};
 ghost use Rattle.std.specs.FinSet as set;
 ghost use Rattle.std.specs.List.{list_any};
-ghost use Rattle.undo_index.specs.First.{IsFirst, has_place, lesser};
+ghost use Rattle.undo_places.specs.First.{IsFirst, has_place};
 ghost use Rattle.undo_index.specs.Listed.{AreAdded, AreRemoved, IsNew, is_listed, element_id, nothing_listed};
 
 use crate::elements::Elements;
 use crate::parts::Parts;
-use crate::places::Places;
 use crate::under::{first_under, gather_under};
 use lay_layouts::ItemId;
 use lay_point::NoMemory;
@@ -16,6 +15,7 @@ use std::collections::BTreeSet;
 use std::marker::Model;
 use txn_commands::Element;
 use txn_marks::Footprint;
+use undo_places::{Places, lesser};
 
 /// Places listed under elements. Contracts see the finite set of the pairs.
 ///
@@ -192,16 +192,5 @@ fn element_id(element: &Element) -> Option<ItemId>
     match element {
         Element::Item(id) => Some(*id),
         _ => None,
-    }
-}
-
-/// Returns the lesser one of two places, of which either may be missing.
-pub(crate) fn lesser(one: Option<usize>, other: Option<usize>) -> Option<usize>
-    ensures { result ≡ lesser one other }
-{
-    match (one, other) {
-        (None, _) => other,
-        (_, None) => one,
-        (Some(a), Some(b)) => { if b < a { Some(b) } else { Some(a) } }
     }
 }

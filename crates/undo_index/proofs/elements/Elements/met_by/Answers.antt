@@ -1,7 +1,7 @@
 use Rattle.std.proofs.Common.{◌∙◌, ap}
 use Rattle.std.specs.FinSet.{contains, from_list}
 use Rattle.txn_commands.specs.Elements.{Touched, element_cmp}
-use Rattle.undo_index.proofs.OnceLemmas.{same_elements}
+use Rattle.undo_index.proofs.FootprintLemmas.{same_elements}
 use Rattle.undo_index.proofs.elements.Elements.met_by.Goals as goal
 
 pub returns : goal.returns

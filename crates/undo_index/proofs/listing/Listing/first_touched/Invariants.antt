@@ -1,6 +1,6 @@
 use Rattle.std.specs.FinSet.{items}
+use Rattle.undo_places.proofs.FirstLemmas.{Leaves}
 use Rattle.undo_index.specs.Listed.{is_listed}
-use Rattle.undo_index.proofs.FirstLemmas.{Leaves}
 use Rattle.undo_index.proofs.listing.Listing.first_touched.Given as goal
 
 -- with the first place under the elements that are left it is the first of all
