@@ -10,15 +10,15 @@ use Rattle.txn_commands.specs.Transactions.{Transaction}
 use Rattle.undo_entries.specs.Answers.{after_command}
 use Rattle.undo_rules.specs.declared.log.Answer.TheVariants.{Refused}
 use Rattle.undo_rules.specs.declared.log.BookFault.{BookFault}
-use Rattle.undo_rules.specs.declared.log.BookFault.TheVariants.{Foreign, LogFull, SessionFull, Stale}
+use Rattle.undo_rules.specs.declared.log.BookFault.TheVariants.{Foreign, LogFull, SessionFull}
 use Rattle.undo_rules.specs.declared.log.Call.TheVariants as call
 use Rattle.undo_rules.specs.Books.{History, IsHistory}
 use Rattle.undo_rules.specs.Steps as book
-use Rattle.undo_rules.specs.Steps.{after_redo, after_undo, commit_step, commit_unless, ended, is_log_full, is_own, logged}
+use Rattle.undo_rules.specs.Steps.{after_redo, after_undo, commit_step, commit_unless, is_log_full, is_own, logged}
 use Rattle.undo_rules.specs.Steps.{open_step, opening}
 use Rattle.undo_rules.specs.Steps.{redo_refusal, redo_step, stale_by, state_of, undo_refusal, undo_step, unless}
 use Rattle.undo_rules.proofs.CommitLaws.{commit_keeps}
-use Rattle.undo_rules.proofs.OpenLaws.{ended_keeps, open_keeps, refused_keeps}
+use Rattle.undo_rules.proofs.OpenLaws.{open_keeps, refused_keeps, stale_keeps}
 use Rattle.undo_rules.proofs.StepLaws.{redo_keeps, undo_keeps}
 use Rattle.undo_entries.proofs.CommitLemmas.{own_work}
 use Rattle.undo_entries.proofs.SoundLemmas.{kept_sound}
@@ -81,10 +81,7 @@ module _ (base : Layout) (s : State) (good : IsGood base s) (session : ℕ) (low
         by false true None own fresh = left base s good session (book.after_commit h txn)
             (commit_keeps h is txn held.transaction held.sound (own_work h txn own) fresh) refl None tt
         by false true (Some other) own fresh =
-            let its = own_work h txn own in
-            left base s good session (book.after_stale h txn other)
-            (refused_keeps (ended h txn.id.session) (ended_keeps h is txn.id.session its.low its.high) txn.id.session
-            (call.Commit txn.id txn.commands) (Stale other)) refl None tt
+            left base s good session (book.after_stale h txn other) (stale_keeps h is txn (own_work h txn own) other) refl None tt
 
   undoes : (txn : TxnId) → IsGood base (undo_in s (undo_step h session txn)).1
   undoes txn = by (is_log_full h) (undo_refusal h txn) refl where

@@ -21,7 +21,7 @@ use Rattle.undo_rules.specs.Links.{Entry, txn_eq}
 use Rattle.undo_rules.specs.Steps.{after_commit, after_stale, ended, ended_state, entered, is_own, is_pending, logged, stale_by, state_of}
 use Rattle.undo_rules.specs.Steps.{with_entry}
 use Rattle.undo_rules.proofs.CommitLaws.{commit_keeps, commit_made, its_name_is_new}
-use Rattle.undo_rules.proofs.OpenLaws.{ended_keeps, refused_keeps}
+use Rattle.undo_rules.proofs.OpenLaws.{stale_keeps}
 use Rattle.undo_rules.proofs.StepLaws.{settled_is}
 use Rattle.undo_entries.specs.Replays.{RunsAgain}
 use Rattle.undo_entries.proofs.SoundLemmas.{kept_sound}
@@ -136,12 +136,10 @@ stale_here : (b : History) → IsHistory b → (txn : Transaction) (other : TxnI
     sessions ≡ slice_set b.sessions (txn.id.session - 1) (ended_state (state_of b txn.id.session)) →
     LeavesStale b (record b { log = log; sessions = sessions }) txn other
 stale_here b is txn other own log sessions logs state =
-    let its = own_work b txn own in
     let new : History = record b { log = log; sessions = sessions } in
     let same : after_stale b txn other ≡ new = λ i. record b { log = sym logs i; sessions = sym state i } in
     record {
-      history = subst IsHistory same (refused_keeps (ended b txn.id.session) (ended_keeps b is txn.id.session its.low its.high)
-          txn.id.session (Commit txn.id txn.commands) (Stale other));
+      history = subst IsHistory same (stale_keeps b is txn (own_work b txn own) other);
       is = sym same;
     }
 

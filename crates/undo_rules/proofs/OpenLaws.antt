@@ -6,17 +6,21 @@ use Rattle.std.specs.Prelude.{is_some}
 use Rattle.std.specs.List.{AllByRecursion, cons_option, filter_map}
 use Rattle.std.proofs.lemmas.List.{length-append}
 use Rattle.txn_rules.specs.Records.{Records}
+use Rattle.txn_rules.specs.Transactions.{Transaction}
+use Rattle.txn_rules.specs.TxnId.{TxnId}
 use Rattle.txn_rules.proofs.Agreements.{agree-equal}
 use Rattle.undo_rules.specs.declared.log.Answer.TheVariants.{Opened, Refused}
 use Rattle.undo_rules.specs.declared.log.BookFault.{BookFault}
+use Rattle.undo_rules.specs.declared.log.BookFault.TheVariants.{Stale}
 use Rattle.undo_rules.specs.declared.log.Call.{Call}
-use Rattle.undo_rules.specs.declared.log.Call.TheVariants.{Open}
+use Rattle.undo_rules.specs.declared.log.Call.TheVariants.{Commit, Open}
 use Rattle.undo_rules.specs.declared.log.Logged.{Logged}
 use Rattle.undo_rules.specs.Books.{History, IsHistory, IsNamed, Pending, SessionState}
 use Rattle.undo_rules.specs.Books.{changed_among, changed_in, changes_since, entry_of, writes_of}
 use Rattle.undo_rules.specs.Histories.{IsSince}
+use Rattle.undo_rules.specs.Laws.{IsOwnWork}
 use Rattle.undo_rules.specs.Links.{Entry}
-use Rattle.undo_rules.specs.Steps.{after_open, ended, ended_state, logged, state_of, unused}
+use Rattle.undo_rules.specs.Steps.{after_open, after_stale, ended, ended_state, logged, state_of, unused}
 use Rattle.undo_rules.proofs.Logs.{changed_longer, drop_longer, kept_longer}
 
 -- ---- lists
@@ -149,3 +153,9 @@ ended_keeps h is session low high =
         | inr (other, there) ↦ is.since i st pending there waits
       ];
     }
+
+-- a stale work ends, and its refusal is logged
+pub stale_keeps : (h : History) → IsHistory h → (txn : Transaction) → IsOwnWork h txn → (other : TxnId) → IsHistory (after_stale h txn other)
+stale_keeps h is txn its other =
+    refused_keeps (ended h txn.id.session) (ended_keeps h is txn.id.session its.low its.high) txn.id.session (Commit txn.id txn.commands)
+    (Stale other)

@@ -14,7 +14,7 @@ use Rattle.undo_rules.specs.declared.log.Logged.{Logged}
 use Rattle.undo_rules.specs.Histories.{AreKept, IsSince}
 use Rattle.undo_rules.specs.Links.{Entry, txn_eq}
 
--- an open whose transaction isn't committed yet: its place in the log, and the layout then
+-- an open whose transaction hasn't ended: its place in the log, and the layout then
 pub record Pending : Type 0 where
   pub place : ℕ
   pub snapshot : Layout

@@ -13,7 +13,8 @@ use Rattle.undo_rules.specs.declared.log.Answer.TheVariants.{Refused}
 use Rattle.undo_rules.specs.declared.log.BookFault.{BookFault}
 use Rattle.undo_rules.specs.declared.log.Call.{Call}
 use Rattle.undo_rules.specs.Books.{History, IsHistory, Pending}
-use Rattle.undo_rules.specs.Steps.{after_commit, after_open, after_redo, after_undo, logged, redo_refusal, stale_by, state_of, undo_refusal}
+use Rattle.undo_rules.specs.Steps.{after_commit, after_open, after_redo, after_stale, after_undo, logged}
+use Rattle.undo_rules.specs.Steps.{redo_refusal, stale_by, state_of, undo_refusal}
 use Rattle.txn_rules.specs.Transactions.{IsTransaction, Transaction}
 use Rattle.undo_rules.specs.Histories.{AreKept, IsSince, commands_at, replay_from}
 use Rattle.undo_rules.specs.Links.{Entry, first_moved, first_reader, links_to, marked, meets_touched, txn_eq}
@@ -90,7 +91,7 @@ abbrev pub ARefusalKeepsTheBook : Type 0
 ARefusalKeepsTheBook =
     (h : History) → IsHistory h → (session : ℕ) (call : Call) (fault : BookFault) → IsHistory (logged h session call (Refused fault))
 
--- the work is the one that its session opened last and that is not committed yet; and on what it touched the layout at its open
+-- the work is the one that its session opened last and that hasn't ended; and on what it touched the layout at its open
 -- is as its snapshot has it
 pub record IsOwnWork (h : History) (txn : Transaction) : Type 0 where
   pub low : 1 ≤ txn.id.session
@@ -104,3 +105,8 @@ pub record IsOwnWork (h : History) (txn : Transaction) : Type 0 where
 abbrev pub ACommitKeepsTheBook : Type 0
 ACommitKeepsTheBook = (h : History) → IsHistory h → (txn : Transaction) → IsTransaction txn → IsSound txn.snapshot → IsOwnWork h txn
     → stale_by h.entries txn.footprint (drop (txn.opened + 1) h.log) ≡ None → IsHistory (after_commit h txn)
+
+-- a commit of its own work that is stale ends the work, and keeps it too
+abbrev pub AStaleCommitKeepsTheBook : Type 0
+AStaleCommitKeepsTheBook =
+    (h : History) → IsHistory h → (txn : Transaction) → IsOwnWork h txn → (other : TxnId) → IsHistory (after_stale h txn other)
