@@ -5,11 +5,11 @@ use Rattle.std.proofs.lemmas.List.{length-replicate}
 use Rattle.lay_layouts.specs.Layout.{Layout}
 use Rattle.undo_rules.specs.declared.log.Answer.{Answer}
 use Rattle.undo_rules.specs.declared.log.Call.{Call}
-use Rattle.undo_rules.specs.Books.{History, SessionState}
-use Rattle.undo_rules.specs.Steps.{fresh, unused}
+use Rattle.undo_rules.specs.Books.{History}
+use Rattle.undo_rules.specs.Steps.{fresh}
 use Rattle.desk_rules.specs.Guards.{IsGuard}
-use Rattle.desk_rules.specs.Legal.{ArePendingSound, Grew, Stepped}
-use Rattle.desk_rules.proofs.LegalLemmas.{grown}
+use Rattle.desk_rules.specs.Legal.{Grew, Stepped}
+use Rattle.desk_rules.proofs.LegalLemmas.{grown, none_pending}
 
 pub limit_kept : (h next : History) (session : ℕ) (call : Call) (answer : Option Answer) → Stepped h session call answer next
     → next.limit ≡ h.limit
@@ -17,13 +17,6 @@ limit_kept h next session call None stepped =
     let same : next ≡ h = grown h next session call None stepped in ap (λ (g : History). g.limit) same
 limit_kept h next session call (Some answer) stepped =
     let grew : Grew h session call answer next = grown h next session call (Some answer) stepped in grew.limit
-
-none_pending : (n : ℕ) → ArePendingSound (replicate n unused)
-none_pending zero i state pending at waits = absurd cc
-none_pending (suc n) zero state pending at waits =
-    let same : unused ≡ state = cc in
-    let none : None ≡ Some pending = ap (λ (s : SessionState). s.pending) same ∙ waits in absurd cc
-none_pending (suc n) (suc i) state pending at waits = none_pending n i state pending at waits
 
 zero_at : (n i : ℕ) → slice_index (replicate n 0) i ≡ 0
 zero_at zero i = refl

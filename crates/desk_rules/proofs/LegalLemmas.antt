@@ -1,6 +1,7 @@
 -- Legal logs grow call by call.
 use Rattle.std.proofs.Common.{◌≡◌, ℕ, ◌+◌, ◌-◌, Bool, true, false, cond, not, ◌==◌, List, [], ◌∷◌, ◌++◌, length, drop, Option, None, Some}
-use Rattle.std.proofs.Common.{Result, Ok, Err, refl, ap, sym, ◌∙◌, subst, inl, inr, ◌⊎◌, nat_le, slice_set}
+use Rattle.std.proofs.Common.{Result, Ok, Err, refl, ap, sym, ◌∙◌, subst, inl, inr, ◌⊎◌, nat_le, replicate, slice_set}
+use Rattle.std.proofs.Common.{suc, zero}
 use Rattle.std.proofs.lemmas.Bool.Decides.{Decides-eqb}
 use Rattle.lay_layouts.specs.Sound.{IsSound}
 use Rattle.txn_commands.specs.declared.command.Command.{Command}
@@ -23,7 +24,7 @@ use Rattle.undo_rules.specs.Steps.{depends}
 use Rattle.undo_rules.specs.Steps.{ended_state, found, is_log_full, is_own, logged, moved_refusal, open_step, opening, or_else}
 use Rattle.undo_rules.specs.Steps.{redo_refusal}
 use Rattle.undo_rules.specs.Steps.{redo_refusal_at}
-use Rattle.undo_rules.specs.Steps.{redo_step, stale_by, state_of, undo_refusal, undo_refusal_at, undo_step, unless}
+use Rattle.undo_rules.specs.Steps.{redo_step, stale_by, state_of, undo_refusal, undo_refusal_at, undo_step, unless, unused}
 use Rattle.undo_rules.proofs.OpenLaws.{set_cases}
 use Rattle.desk_rules.specs.Legal.{ArePendingSound, Grew, Grown, IsLegal, Leads, Stepped, TakesCall, answer_of, commit_meant, meant}
 use Rattle.desk_rules.specs.Legal.{meant_by, meant_of}
@@ -44,6 +45,14 @@ set_pending states i state its all j other pending at waits = elim (set_cases st
   | inl here ↦ its pending (ap (λ (s : SessionState). s.pending) here.1 ∙ waits)
   | inr there ↦ all j other pending there.1 waits
 ]
+
+-- sessions that never opened a transaction have none
+pub none_pending : (n : ℕ) → ArePendingSound (replicate n unused)
+none_pending zero i state pending at waits = absurd cc
+none_pending (suc n) zero state pending at waits =
+    let same : unused ≡ state = cc in
+    let none : None ≡ Some pending = ap (λ (s : SessionState). s.pending) same ∙ waits in absurd cc
+none_pending (suc n) (suc i) state pending at waits = none_pending n i state pending at waits
 
 -- a call that is logged and leaves the sessions
 grew_logged : (h : History) (session : ℕ) (call : Call) (answer : Answer) → Grew h session call answer (logged h session call answer)
