@@ -9,18 +9,20 @@ use lay_layouts::{Item, Rings};
 use lay_point::{Given, NoMemory};
 use std::alloc::Global;
 
-/// Layouts that are made of a text.
+/// Layouts that are made of a text. What they are made into is said by each type that has it: the method itself promises
+/// nothing.
 pub trait FromCif: Sized {
+    /// Returns the layout of a text's meaning, as the type says.
+    fn from_cif(alloc: Global, file: CifFile) -> Result<Self, NoMemory>;
+}
+
+impl FromCif for Snapshot {
     /// Returns the layout of a text's meaning: its symbols in the order of their definitions, and its
     /// element q as item 0.0.q.
     ///
     /// # Cost
     ///
     /// A pass over the elements, and a sort of them by cell.
-    fn from_cif(alloc: Global, file: CifFile) -> Result<Self, NoMemory>;
-}
-
-impl FromCif for Snapshot {
     fn from_cif(alloc: Global, file: CifFile) -> Result<Snapshot, NoMemory>
         ensures { IsAnswer (record {}) result (Ok (layout_of file)) }
     {

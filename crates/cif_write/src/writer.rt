@@ -64,7 +64,12 @@ impl<'s> Model for Prepared<'s> {
     ghost invariant = { λ p. p.unused ≡ least_unused (in_slot_order p.snapshot.now.symbols) };
 }
 
-/// Returns the layout, ready to be written.
+/// Returns the layout, ready to be written: it finds the least number that no symbol has, for the symbol that wraps the top
+/// cell's items.
+///
+/// # Errors
+///
+/// `NoMemory` where a `u32` has no such number. It takes no memory itself, but may answer that.
 ///
 /// # Cost
 ///

@@ -24,6 +24,11 @@ use std::thread::Threads;
 /// their first rings. The inputs are rounded together, in as many threads as there are processors;
 /// `bands` finds the operation's edges.
 ///
+/// # Errors
+///
+/// `TooMany` where the inputs have more than `MAX_SEGMENTS` sides together, before anything is rounded, and where a rounding
+/// or the path round a shape has more than its limit; `NoMemory` in place of what comes after the first.
+///
 /// # Cost
 ///
 /// That of `round`, of `Bands::label_all`, and of `link` and `parts` of the edges that are left.

@@ -14,8 +14,8 @@ machine_state m = record { history = m.book; works = m.works.items }
 abbrev pub kept_session : History → ℕ → SessionState
 kept_session history place = slice_index_or history.sessions place unused
 
--- the transaction is the one that the session at this place opened last, on the layout at its open, and that is
--- not committed yet
+-- the transaction is the one that the session at this place opened last, on the layout at its open, and that
+-- hasn't ended
 pub record IsOpen (history : History) (place : ℕ) (txn : Transaction) : Type 0 where
   pub session : txn.id.session ≡ place + 1
   pub opens : (kept_session history place).opens ≡ txn.id.txn

@@ -82,8 +82,9 @@ impl Machine {
     }
 
     /// Takes a step of a session. `NoSession` comes first, then `AlreadyOpen` and `NotOpen`; these are
-    /// not logged. A refused commit leaves the transaction open, unless it is stale and has ended. `bands`
-    /// finds the edges of Booleans.
+    /// not logged. A refused commit leaves the transaction open, unless it is stale and has ended. Where an answer
+    /// out of memory comes in place of another, nothing changes; it never comes in place of these three, of `LogFull`
+    /// or of a cancel's answer. `bands` finds the edges of Booleans.
     ///
     /// # Cost
     ///

@@ -11,8 +11,8 @@ use std::alloc::{AllocError, Global};
 use std::marker::Model;
 use std::sync::Arc;
 
-/// What stands under an id before and after, which differ, each shared by all who hold it: most items are
-/// made, and have nothing before. Contracts see the change.
+/// What stands under an id before and after, each shared by all who hold it: most items are made, and have nothing
+/// before. `Writes` makes one only where the two differ. Contracts see the change.
 #[derive(Debug, Drop)]
 pub struct ItemChange {
     before: Option<Arc<Item>>,

@@ -57,7 +57,8 @@ impl Book {
     /// `LogFull`, then as `Foreign` where the work isn't the one that its session opened last in this book
     /// and that has not ended, or where the layout at its open isn't as its snapshot has it on what it
     /// touched. Refused as `Stale` with the first transaction that a call since its open committed, undid or
-    /// redid and that wrote what the work touched; the work has then ended. Only this is logged.
+    /// redid and that wrote what the work touched; the work has then ended. Only this is logged. `NoMemory` in
+    /// place of the other answers but the first two hands the work back, and nothing changes.
     ///
     /// # Cost
     ///

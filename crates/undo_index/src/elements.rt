@@ -9,8 +9,8 @@ use std::marker::Model;
 use txn_commands::Element;
 use txn_marks::{Few, Footprint, Records};
 
-/// The elements of a footprint that doesn't grow any more, in a list: most transactions touch a few, for which a
-/// node of a tree is ten times as large. A sole one stands in place. Contracts see the finite set of them.
+/// Elements in a list that doesn't grow: those of a footprint, or those that records meet. Most transactions touch a few,
+/// for which a node of a tree is ten times as large. A sole one stands in place. Contracts see the finite set of them.
 #[derive(Debug, Drop)]
 pub struct Elements {
     list: Few<Element>,

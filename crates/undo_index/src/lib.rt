@@ -6,7 +6,7 @@
 //! element that is no item are an `undo_places::Kept`; [`first_apart`], passed on from there too, compares the
 //! places that are linked with those that were, both as [`Places`], which rise.
 //!
-//! [`Elements`] are those of a footprint that doesn't grow any more, in a list.
+//! [`Elements`] are those of a footprint, or those that records meet, in a list that doesn't grow.
 //!
 //! Contracts see a listing as the finite set of its pairs, and elements as the finite set of them.
 #![tactic(auto)]
