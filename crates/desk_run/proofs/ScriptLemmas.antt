@@ -10,7 +10,7 @@ use Rattle.desk_rules.specs.Seats.{Seat}
 use Rattle.locked_desk.specs.Runs.{AllRan}
 use Rattle.desk_run.specs.Scripts.{RunsScripts, desk_scripts, or_one}
 
-few_scripts : (scripts : List (List Step)) → length (desk_scripts scripts) ≤ 64
+pub few_scripts : (scripts : List (List Step)) → length (desk_scripts scripts) ≤ 64
 few_scripts scripts = let taken = length-take 64 (or_one scripts) in omega (arith, taken)
 
 as_many : (desk : Desk) (n : ℕ) (seats : List Seat) (scripts : List (List Step)) (replies : List (List Reply)) (ends : List Seat)

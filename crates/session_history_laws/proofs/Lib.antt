@@ -3,3 +3,4 @@ pub mod Stepping
 pub mod Runs
 pub mod Texts
 pub mod Undoing
+pub mod Logs

@@ -47,7 +47,7 @@ lead base sessions limit steps replies final sound few ran =
     (good.history, good.base_is)
 
 -- in a history from a base
-stays : (base : Layout) (h : History) → IsHistory h → h.base ≡ base → KeepsOperations base h
+pub stays : (base : Layout) (h : History) → IsHistory h → h.base ≡ base → KeepsOperations base h
 stays base h is same before entry later earlier op cell a b out rest parts live told =
     stay h.log base h.layout before entry later earlier op cell a b out rest (subst IsSound same is.sound)
     (subst (λ (l : Layout). AreKept h.log l h.layout (before ++ entry ∷ later)) same

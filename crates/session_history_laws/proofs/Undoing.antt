@@ -34,14 +34,14 @@ use Rattle.session_history_laws.proofs.Runs.{all_steps, begins, goes_on}
 -- ---- what an idle step leaves
 
 -- the layout and the transactions are the same
-record IsSame (old new : History) : Type 0 where
-  layout : new.layout ≡ old.layout
-  entries : new.entries ≡ old.entries
+pub record IsSame (old new : History) : Type 0 where
+  pub layout : new.layout ≡ old.layout
+  pub entries : new.entries ≡ old.entries
 
-same : (h : History) → IsSame h h
+pub same : (h : History) → IsSame h h
 same h = record { layout = refl; entries = refl }
 
-and_so : (a b c : History) → IsSame a b → IsSame b c → IsSame a c
+pub and_so : (a b c : History) → IsSame a b → IsSame b c → IsSame a c
 and_so a b c first next = record { layout = next.layout ∙ first.layout; entries = next.entries ∙ first.entries }
 
 module _ (s : State) (session : ℕ) where
@@ -136,7 +136,7 @@ none_reads writes (e ∷ es) (one, all) = by e.live (meets_touched writes e.foot
   by true false one rest = rest
   by false met one rest = rest
 
-free_of : (h : History) (txn : TxnId) → IsUnread h txn → undo_refusal h txn ≡ None
+pub free_of : (h : History) (txn : TxnId) → IsUnread h txn → undo_refusal h txn ≡ None
 free_of h txn is =
     ap undo_refusal_at is.there
     ∙ ap (λ b. cond b (depends (first_reader is.at.entry.writes is.at.later)) (Some NotLive)) is.live
@@ -210,11 +210,11 @@ accepted s session txn new takes = elim takes [
   by true false None told said left = record { free = told; after = ap (λ (x : State). x.history) left }
 
 -- the redo is free, and leads to this layout
-record IsFree (h : History) (other : ℕ) (txn : TxnId) (layout : Layout) : Type 0 where
-  free : redo_refusal h txn ≡ None
-  to : (after_redo h other txn).layout ≡ layout
+pub record IsFree (h : History) (other : ℕ) (txn : TxnId) (layout : Layout) : Type 0 where
+  pub free : redo_refusal h txn ≡ None
+  pub to : (after_redo h other txn).layout ≡ layout
 
-put_back : (h : History) → IsHistory h → (session other : ℕ) (txn : TxnId) → undo_refusal h txn ≡ None → (then : History) → IsHistory then
+pub put_back : (h : History) → IsHistory h → (session other : ℕ) (txn : TxnId) → undo_refusal h txn ≡ None → (then : History) → IsHistory then
     → IsSame (after_undo h session txn) then → IsFree then other txn h.layout
 put_back h is session other txn free then still idle = by (found h txn) refl where
   by : (at : Option Found) → found h txn ≡ at → IsFree then other txn h.layout

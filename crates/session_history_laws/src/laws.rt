@@ -5,6 +5,13 @@ ghost use Rattle.session_history_laws.specs.Histories.{
   StepsLeadToHistories,
   TextsMeanBases,
 };
+ghost use Rattle.session_history_laws.specs.Logs.{
+  LogsKeepOperations,
+  LogsLeadToHistories,
+  LogsTakeOut,
+  RedosInLogsPutBack,
+  ThreadsLeadToBooks,
+};
 ghost use Rattle.session_history_laws.specs.Undoing.{MachinesTakeOut, ProgramsTakeOut, RedosAtOncePutBack};
 
 /// Whatever steps sessions take from a sound layout, also where memory is refused to some, they lead
@@ -27,4 +34,16 @@ pub fn undos_take_out()
     ensures machine { MachinesTakeOut }
     ensures program { ProgramsTakeOut }
     ensures at_once { RedosAtOncePutBack }
+{}
+
+/// So it is of sessions that share a log of their calls, as those do that run in threads: a legal log leads
+/// from a sound layout to a history from it, in which what operations draw stays. An undo that is logged of a
+/// live transaction whose writes no later live one touched takes it out, and a redo at once that is logged puts
+/// it back.
+pub fn logs_lead_to_histories()
+    ensures threads { ThreadsLeadToBooks }
+    ensures histories { LogsLeadToHistories }
+    ensures operations { LogsKeepOperations }
+    ensures undo { LogsTakeOut }
+    ensures at_once { RedosInLogsPutBack }
 {}

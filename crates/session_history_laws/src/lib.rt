@@ -6,10 +6,12 @@
 //! layout. So at its end, which is what is written, the shapes of each operation of a live
 //! transaction still hold where the operation did, until another live one writes on the layer.
 //! At each step of these an undo takes a transaction out of the history exactly, and a redo at once puts
-//! it back.
-//! `steps_lead_to_histories` and `undos_take_out` do nothing: they carry the laws.
+//! it back. The same holds of sessions in threads, whose steps are in no order but that of the calls in
+//! the log which they share: where that is legal, as a closed desk's is (`desk_rules`), it leads to such a
+//! history.
+//! `steps_lead_to_histories`, `undos_take_out` and `logs_lead_to_histories` do nothing: they carry the laws.
 #![tactic(auto)]
 
 mod laws;
 
-pub use laws::{steps_lead_to_histories, undos_take_out};
+pub use laws::{logs_lead_to_histories, steps_lead_to_histories, undos_take_out};
