@@ -7,7 +7,6 @@ use Rattle.lay_layouts.specs.Sound.{IsSound}
 use Rattle.txn_commands.specs.declared.command.Command.{Command}
 use Rattle.txn_commands.specs.declared.command.TxnId.{TxnId}
 use Rattle.txn_commands.specs.Effects.{Run, after_each, begun}
-use Rattle.txn_commands.specs.Records.{records_between}
 use Rattle.txn_commands.specs.Transactions.{Transaction}
 use Rattle.undo_rules.specs.declared.log.Answer.{Answer}
 use Rattle.undo_rules.specs.declared.log.Answer.TheVariants.{Opened, Committed, Undone, Redone, Refused}
@@ -28,7 +27,7 @@ use Rattle.undo_rules.specs.Steps.{redo_step, stale_by, state_of, undo_refusal, 
 use Rattle.undo_rules.proofs.OpenLaws.{set_cases}
 use Rattle.desk_rules.specs.Legal.{ArePendingSound, Grew, Grown, IsLegal, Leads, Stepped, TakesCall, answer_of, commit_meant, meant}
 use Rattle.desk_rules.specs.Legal.{meant_by, meant_of}
-use Rattle.desk_rules.specs.Legal.{opened_answer, outcome, refusal, told, told_open}
+use Rattle.desk_rules.specs.Legal.{opened_answer, outcome, refusal, told, told_open, work_on}
 
 pub legal_push : (n : ℕ) (h mid end : History) (log : List Logged) (c : Logged) → IsLegal n h log mid → Leads n mid c end
     → IsLegal n h (log ++ c ∷ []) end
@@ -176,14 +175,7 @@ grown_meant h txn commands None = refl
 grown_meant h txn commands (Some pending) = by (after_each txn commands (begun pending.snapshot)) where
   by : (run : Option Run) → Grown h txn.session (Commit txn commands) (commit_meant h (meant_by txn commands pending run))
   by None = refl
-  by (Some run) = grown_step h (record {
-    id = txn;
-    opened = pending.place;
-    snapshot = pending.snapshot;
-    commands = commands;
-    writes = records_between pending.snapshot run.layout;
-    footprint = run.footprint;
-  })
+  by (Some run) = grown_step h (work_on txn commands pending run)
 
 pub grown_commit : (h : History) (session : ℕ) (txn : TxnId) (commands : List Command)
     → Grown h session (Commit txn commands) (outcome h session (Commit txn commands))

@@ -1,5 +1,5 @@
 -- The test of two logged calls tells exactly.
-use Rattle.std.proofs.Common.{◌≡◌, ◌&&◌, ◌==◌, Bool as Test, true, false, ℕ, List, [], ◌∷◌, ap, refl, rules}
+use Rattle.std.proofs.Common.{◌≡◌, ◌&&◌, ◌==◌, true, false, ap, refl}
 use Rattle.std.proofs.lemmas.Bool.{and_parts}
 use Rattle.std.proofs.lemmas.Bool.Decides.{Decides-eqb}
 use Rattle.undo_rules.specs.declared.log.Logged.{Logged}
@@ -17,7 +17,6 @@ use Rattle.undo_rules.specs.declared.log.BookFault.TheVariants.{Depends, Foreign
 use Rattle.undo_rules.specs.declared.log.BookFault.TheVariants.{NotLive, SessionFull, Stale, StillLive}
 use Rattle.undo_rules.specs.declared.log.Call.TheVariants.{Commit, Open, Redo, Undo}
 use Rattle.std.specs.Cmp.Lexicographic.{pointwise}
-use Rattle.txn_commands.specs.declared.command.TxnId.{TxnId}
 use Rattle.desk_rules.specs.Same.{logged_eq}
 
 -- no two values of different variants pass the test

@@ -44,17 +44,21 @@ told_open step = (opened_answer step.0, step.1)
 
 -- ---- the transaction of a logged commit
 
--- the commands, run on the layout at the pending open, are the transaction that the session has open
-abbrev pub meant_by : TxnId → List Command → Pending → Option Run → Option Transaction
-meant_by txn commands pending None = None
-meant_by txn commands pending (Some run) = Some (record {
+-- the transaction of commands that ran so on the layout at the pending open
+abbrev pub work_on : TxnId → List Command → Pending → Run → Transaction
+work_on txn commands pending run = record {
   id = txn;
   opened = pending.place;
   snapshot = pending.snapshot;
   commands = commands;
   writes = records_between pending.snapshot run.layout;
   footprint = run.footprint;
-})
+}
+
+-- the commands, run on the layout at the pending open, are the transaction that the session has open
+abbrev pub meant_by : TxnId → List Command → Pending → Option Run → Option Transaction
+meant_by txn commands pending None = None
+meant_by txn commands pending (Some run) = Some (work_on txn commands pending run)
 
 abbrev pub meant_of : TxnId → List Command → Option Pending → Option Transaction
 meant_of txn commands None = None

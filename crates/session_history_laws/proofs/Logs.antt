@@ -7,7 +7,6 @@ use Rattle.lay_layouts.specs.Sound.{IsSound}
 use Rattle.txn_commands.specs.declared.command.Command.{Command}
 use Rattle.txn_commands.specs.declared.command.TxnId.{TxnId}
 use Rattle.txn_commands.specs.Effects.{Run, after_each, begun}
-use Rattle.txn_commands.specs.Records.{records_between}
 use Rattle.txn_commands.specs.Transactions.{IsTransaction, Transaction}
 use Rattle.undo_rules.specs.declared.log.Answer.{Answer}
 use Rattle.undo_rules.specs.declared.log.Answer.TheVariants.{Committed, Redone, Refused, Undone}
@@ -28,11 +27,11 @@ use Rattle.undo_entries.proofs.CommitLemmas.{own_work}
 use Rattle.undo_entries.proofs.SoundLemmas.{begins_history, kept_sound}
 use Rattle.undo_entries.proofs.UndoLemmas.{undoes}
 use Rattle.desk_rules.specs.Legal.{ArePendingSound, Grew, Grown, IsLegal, Leads, commit_meant, meant, meant_by, meant_of}
-use Rattle.desk_rules.specs.Legal.{outcome, refusal, told, told_open}
+use Rattle.desk_rules.specs.Legal.{outcome, refusal, told, told_open, work_on}
 use Rattle.desk_rules.proofs.LegalLemmas.{grown_call, none_pending}
 use Rattle.desk_run.proofs.ScriptLemmas.{few_scripts}
-use Rattle.session_history_laws.specs.Logs.{AreIdleCalls, IsBookFrom, LogsKeepOperations, LogsLeadToHistories, LogsTakeOut, RedosInLogsPutBack}
-use Rattle.session_history_laws.specs.Logs.{ThreadsLeadToBooks, is_changing}
+use Rattle.session_history_laws.specs.Logs.{AreIdleCalls, IsBookFrom, LogsKeepOperations, LogsLeadToHistories, LogsTakeOut}
+use Rattle.session_history_laws.specs.Logs.{RedosInLogsPutBack, ThreadsLeadToBooks, is_changing}
 use Rattle.session_history_laws.proofs.Runs.{stays}
 use Rattle.session_history_laws.proofs.Undoing.{IsFree, IsSame, and_so, free_of, put_back, same}
 
@@ -47,21 +46,12 @@ module _ (h : History) (is : IsHistory h) (session : ℕ) (low : 1 ≤ session) 
     by false true = refused_keeps h is session Open SessionFull
     by false false = open_keeps h is session low high
 
-  undone : (txn : TxnId) → IsHistory (outcome h session (Undo txn)).1
-  undone txn = by (is_log_full h) (undo_refusal h txn) refl where
-    by : (full : Bool) (fault : Option BookFault) → undo_refusal h txn ≡ fault → IsHistory (told Undone (cond full (Err LogFull, h)
-        (unless fault h session (Undo txn) (after_undo h session txn)))).1
-    by true fault free = is
-    by false None free = undo_keeps h is session txn free
-    by false (Some fault) free = refused_keeps h is session (Undo txn) fault
-
-  redone : (txn : TxnId) → IsHistory (outcome h session (Redo txn)).1
-  redone txn = by (is_log_full h) (redo_refusal h txn) refl where
-    by : (full : Bool) (fault : Option BookFault) → redo_refusal h txn ≡ fault → IsHistory (told Redone (cond full (Err LogFull, h)
-        (unless fault h session (Redo txn) (after_redo h session txn)))).1
-    by true fault free = is
-    by false None free = redo_keeps h is session txn free
-    by false (Some fault) free = refused_keeps h is session (Redo txn) fault
+  -- an undo or a redo, which leads to this history where nothing is in its way
+  turned : (call : Call) (done : Answer) (after : History) (full : Bool) (fault : Option BookFault) → (fault ≡ None → IsHistory after)
+      → IsHistory (told done (cond full (Err LogFull, h) (unless fault h session call after))).1
+  turned call done after true fault free = is
+  turned call done after false None free = free refl
+  turned call done after false (Some fault) free = refused_keeps h is session call fault
 
   committed_as : (txn : Transaction) → IsTransaction txn → IsSound txn.snapshot → IsHistory (told Committed (commit_step h txn)).1
   committed_as txn its sound =
@@ -82,14 +72,12 @@ module _ (h : History) (is : IsHistory h) (session : ℕ) (low : 1 ≤ session) 
     by : (run : Option Run) → after_each txn commands (begun pending.snapshot) ≡ run
         → IsHistory (commit_meant h (meant_by txn commands pending run)).1
     by None ran = is
-    by (Some run) ran = committed_as (record {
-      id = txn;
-      opened = pending.place;
-      snapshot = pending.snapshot;
-      commands = commands;
-      writes = records_between pending.snapshot run.layout;
-      footprint = run.footprint;
-    }) (record { run = run; runs = ran; writes = refl; footprint = refl }) (sound pending refl)
+    by (Some run) ran = committed_as (work_on txn commands pending run) (record {
+      run = run;
+      runs = ran;
+      writes = refl;
+      footprint = refl;
+    }) (sound pending refl)
 
   committed : ArePendingSound h.sessions → (txn : TxnId) (commands : List Command) → IsHistory (outcome h session (Commit txn commands)).1
   committed all txn commands = by (txn.session == session) refl where
@@ -105,8 +93,10 @@ module _ (h : History) (is : IsHistory h) (session : ℕ) (low : 1 ≤ session) 
   called : ArePendingSound h.sessions → (call : Call) → IsHistory (outcome h session call).1
   called all Open = opened
   called all (Commit txn commands) = committed all txn commands
-  called all (Undo txn) = undone txn
-  called all (Redo txn) = redone txn
+  called all (Undo txn) =
+      turned (Undo txn) Undone (after_undo h session txn) (is_log_full h) (undo_refusal h txn) (undo_keeps h is session txn)
+  called all (Redo txn) =
+      turned (Redo txn) Redone (after_redo h session txn) (is_log_full h) (redo_refusal h txn) (redo_keeps h is session txn)
 
 -- ---- so logs lead to histories
 
@@ -172,7 +162,8 @@ logs_take_out base sessions log book is session txn answer next unread leads =
           does.without ∙ ap Some (sym (ap (λ (x : History). x.layout) does.after))
 
       by : (full : Bool) (fault : Option BookFault) → fault ≡ None
-          → told Undone (cond full (Err LogFull, book) (unless fault book session (Undo txn) (after_undo book session txn))) ≡ (Some answer, next)
+          → told Undone (cond full (Err LogFull, book) (unless fault book session (Undo txn) (after_undo book session txn)))
+          ≡ (Some answer, next)
           → (answer ≡ Undone) × (replay (with_mark book false txn) ≡ Some next.layout)
       by true fault none is = let e : None ≡ Some answer = ap (λ (p : Option Answer × History). p.0) is in absurd cc
       by false (Some fault) none is = absurd cc
@@ -220,25 +211,14 @@ module _ (h : History) (session : ℕ) where
     by false true = record { layout = refl; entries = refl }
     by false false = record { layout = refl; entries = refl }
 
-  idle_undo : (txn : TxnId) (answer : Answer) → is_changing answer ≡ false → (outcome h session (Undo txn)).0 ≡ Some answer
-      → IsSame h (outcome h session (Undo txn)).1
-  idle_undo txn answer idle = by (is_log_full h) (undo_refusal h txn) where
-    by : (full : Bool) (fault : Option BookFault) →
-        let to = told Undone (cond full (Err LogFull, h) (unless fault h session (Undo txn) (after_undo h session txn))) in
-        to.0 ≡ Some answer → IsSame h to.1
-    by true fault is = same h
-    by false None is = let e : Undone ≡ answer = cc in let changed : true ≡ false = ap is_changing e ∙ idle in absurd cc
-    by false (Some fault) is = record { layout = refl; entries = refl }
-
-  idle_redo : (txn : TxnId) (answer : Answer) → is_changing answer ≡ false → (outcome h session (Redo txn)).0 ≡ Some answer
-      → IsSame h (outcome h session (Redo txn)).1
-  idle_redo txn answer idle = by (is_log_full h) (redo_refusal h txn) where
-    by : (full : Bool) (fault : Option BookFault) →
-        let to = told Redone (cond full (Err LogFull, h) (unless fault h session (Redo txn) (after_redo h session txn))) in
-        to.0 ≡ Some answer → IsSame h to.1
-    by true fault is = same h
-    by false None is = let e : Redone ≡ answer = cc in let changed : true ≡ false = ap is_changing e ∙ idle in absurd cc
-    by false (Some fault) is = record { layout = refl; entries = refl }
+  -- an undo or a redo that isn't answered as done
+  idle_turn : (call : Call) (done : Answer) (after : History) → is_changing done ≡ true → (full : Bool) (fault : Option BookFault)
+      → (answer : Answer) → is_changing answer ≡ false →
+      let to = told done (cond full (Err LogFull, h) (unless fault h session call after)) in to.0 ≡ Some answer → IsSame h to.1
+  idle_turn call done after changes true fault answer idle is = same h
+  idle_turn call done after changes false None answer idle is =
+      let e : done ≡ answer = cc in let changed : true ≡ false = sym changes ∙ ap is_changing e ∙ idle in absurd cc
+  idle_turn call done after changes false (Some fault) answer idle is = record { layout = refl; entries = refl }
 
   idle_work : (txn : Transaction) (answer : Answer) → is_changing answer ≡ false → (told Committed (commit_step h txn)).0 ≡ Some answer
       → IsSame h (told Committed (commit_step h txn)).1
@@ -268,8 +248,10 @@ module _ (h : History) (session : ℕ) where
       → IsSame h (outcome h session call).1
   idle_call Open answer idle is = idle_open
   idle_call (Commit txn commands) answer idle is = idle_commit txn commands answer idle is
-  idle_call (Undo txn) answer idle is = idle_undo txn answer idle is
-  idle_call (Redo txn) answer idle is = idle_redo txn answer idle is
+  idle_call (Undo txn) answer idle is =
+      idle_turn (Undo txn) Undone (after_undo h session txn) refl (is_log_full h) (undo_refusal h txn) answer idle is
+  idle_call (Redo txn) answer idle is =
+      idle_turn (Redo txn) Redone (after_redo h session txn) refl (is_log_full h) (redo_refusal h txn) answer idle is
 
 goes_idle : (n : ℕ) (log : List Logged) (h book : History) → IsLegal n h log book → AreIdleCalls log → IsSame h book
 goes_idle n [] h book legal idle = subst (IsSame h) (sym legal) (same h)

@@ -214,7 +214,8 @@ pub record IsFree (h : History) (other : ℕ) (txn : TxnId) (layout : Layout) : 
   pub free : redo_refusal h txn ≡ None
   pub to : (after_redo h other txn).layout ≡ layout
 
-pub put_back : (h : History) → IsHistory h → (session other : ℕ) (txn : TxnId) → undo_refusal h txn ≡ None → (then : History) → IsHistory then
+pub put_back : (h : History) → IsHistory h → (session other : ℕ) (txn : TxnId) → undo_refusal h txn ≡ None
+    → (then : History) → IsHistory then
     → IsSame (after_undo h session txn) then → IsFree then other txn h.layout
 put_back h is session other txn free then still idle = by (found h txn) refl where
   by : (at : Option Found) → found h txn ≡ at → IsFree then other txn h.layout

@@ -155,7 +155,8 @@ ended_keeps h is session low high =
     }
 
 -- a stale work ends, and its refusal is logged
-pub stale_keeps : (h : History) → IsHistory h → (txn : Transaction) → IsOwnWork h txn → (other : TxnId) → IsHistory (after_stale h txn other)
+pub stale_keeps : (h : History) → IsHistory h → (txn : Transaction) → IsOwnWork h txn → (other : TxnId)
+    → IsHistory (after_stale h txn other)
 stale_keeps h is txn its other =
     refused_keeps (ended h txn.id.session) (ended_keeps h is txn.id.session its.low its.high) txn.id.session (Commit txn.id txn.commands)
     (Stale other)
