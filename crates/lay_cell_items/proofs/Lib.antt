@@ -1,3 +1,4 @@
-pub mod HomeLemmas
-pub mod MergeLemmas
-pub mod TagLemmas
+pub mod BeginLemmas
+pub mod GroupLemmas
+pub mod MarkLemmas
+pub mod RunLemmas

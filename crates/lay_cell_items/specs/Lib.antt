@@ -1,3 +1,2 @@
-pub mod ByCell
-pub mod Entries
+pub mod Runs
 pub use Rattle.lay_page.specs.Written

@@ -1,10 +1,12 @@
 //! All items, the items of a cell, its shapes on a layer and its calls, lent in order of their ids.
 ghost use Rattle.std.specs.Prelude.{◌≡◌};
-ghost use Rattle.lay_cell_items.specs.ByCell.{first_home};
+ghost use Rattle.lay_cell_items.specs.Runs.{from_mark, least_id, next_mark};
 
-use crate::cell_index::{CALL_TAG, Home, Homes, cell_key, layer_tag};
+use crate::group::{By, Group, call_group, cell_group, layer_group};
+use crate::marks::{Mark, Marks};
+use crate::runs::Runs;
 use lay_layouts::{CellId, Item, ItemId};
-use lay_pages::{Finder, Pages};
+use lay_pages::Pages;
 use lay_point::{LayerName, Ring, Turn};
 use std::marker::Model;
 
@@ -47,61 +49,142 @@ impl<'a> Iterator for Entries<'a> {
     }
 }
 
+/// Lends the items of a group with their ids, in order of the ids. Of other items it reads one for each run. Contracts
+/// see the list of those that are left.
+#[derive(Drop)]
+struct OfGroup<'a> {
+    items: &'a Pages<ItemId, Item>,
+    marks: &'a Marks,
+    by: By,
+    group: Group,
+    /// What is left of all items, up to the end of which the group's next run is looked for.
+    rest: lay_pages::Entries<'a, ItemId, Item>,
+}
+
+impl<'a> Model for OfGroup<'a> {
+    ghost use Rattle.std.specs.Prelude.{List};
+    ghost use Rattle.lay_layouts.specs.declared.id.ItemId.{ItemId};
+    ghost use Rattle.lay_layouts.specs.declared.item.Item.{Item};
+    ghost use Rattle.lay_cell_items.specs.Runs.{AreLent, of_group};
+
+    ghost Value = { List (ItemId × Item) };
+
+    ghost view = { λ i. of_group i.by i.group i.rest };
+
+    ghost invariant = { λ i. AreLent i.by i.marks.now i.items.now i.rest };
+}
+
+impl<'a> OfGroup<'a> {
+    ghost use Rattle.std.specs.Prelude.{◌≡◌};
+    ghost use Rattle.std.specs.List.Sorted.{IsStrictlySortedBy};
+    ghost use Rattle.std.specs.Map.{keys_of};
+    ghost use Rattle.lay_cell_items.specs.Runs.{AreRuns, from_mark, next_mark, of_group};
+    ghost use Rattle.lay_layouts.specs.Ids.{id_cmp};
+
+    /// Returns those of the items that are of the group.
+    fn new(items: &'a Pages<ItemId, Item>, marks: &'a Marks, by: By, group: Group) -> OfGroup<'a>
+        requires sorted { IsStrictlySortedBy id_cmp (keys_of items.now) }
+        requires runs { AreRuns by items.now marks.now }
+        ensures { result ≡ of_group by group items.now }
+    {
+        let rest = from_next(items, marks, group, least_id());
+        OfGroup {
+            items,
+            marks,
+            by,
+            group,
+            rest,
+        }
+    }
+}
+
+/// Returns the items from the group's next mark on, of this id or a later one. Where there is none, no items.
+fn from_next<'a>(
+    items: &'a Pages<ItemId, Item>,
+    marks: &'a Marks,
+    group: Group,
+    id: ItemId,
+) -> lay_pages::Entries<'a, ItemId, Item>
+    ensures { result ≡ from_mark (next_mark group id marks.now) items.now }
+{
+    let Some(first) = next_mark(marks, group, id) else {
+        return lay_pages::Entries::none();
+    };
+    items.from(first)
+}
+
+/// Returns the id of the group's next mark, of this id or a later one.
+fn next_mark(marks: &Marks, group: Group, id: ItemId) -> Option<ItemId>
+    ensures { result ≡ next_mark group id marks.now }
+{
+    let (mark, _) = marks.from(Mark { group, id }).next()?;
+    if mark.group == group {
+        return Some(mark.id);
+    }
+    None
+}
+
+/// Returns the least id.
+fn least_id() -> ItemId
+    ensures { result ≡ least_id }
+{
+    ItemId {
+        session: 0,
+        txn: 0,
+        seq: 0,
+    }
+}
+
+impl<'a> Iterator for OfGroup<'a> {
+    ghost use Rattle.std.specs.Iterator.{YieldsFirstBy, item_count};
+
+    type Item = (ItemId, &'a Item);
+
+    ghost next_gives = { YieldsFirstBy (λ lent. (lent.0, lent.1.now)) (λ left. left) };
+
+    ghost remaining = { item_count (λ left. left) };
+
+    fn next(&mut self) -> Option<(ItemId, &'a Item)> {
+        let (id, item) = self.rest.next()?;
+        if self.by.group(item) == self.group {
+            return Some((id, item));
+        }
+        self.rest = from_next(self.items, self.marks, self.group, id);
+        self.rest.next()
+    }
+}
+
 /// Lends the items of a cell with their ids, in order of the ids. Contracts see the list of those that
 /// are left.
 #[derive(Drop)]
 pub struct Items<'a> {
-    /// Those of the cell, and of the cells behind it.
-    homes: lay_pages::Entries<'a, Home, u32>,
-    items: Finder<'a, ItemId, Item>,
-    /// The number of the cell.
-    cell: u64,
+    items: OfGroup<'a>,
 }
 
 impl<'a> Model for Items<'a> {
     ghost use Rattle.std.specs.Prelude.{List};
     ghost use Rattle.lay_layouts.specs.declared.id.ItemId.{ItemId};
     ghost use Rattle.lay_layouts.specs.declared.item.Item.{Item};
-    ghost use Rattle.lay_cell_items.specs.ByCell.{AreLent, listed, looked_up};
 
     ghost Value = { List (ItemId × Item) };
 
-    ghost view = { λ i. looked_up i.items (listed i.cell i.homes) };
-
-    ghost invariant = { λ i. AreLent i.cell i.homes i.items };
+    ghost view = { λ i. i.items };
 }
 
 impl<'a> Items<'a> {
     ghost use Rattle.std.specs.Prelude.{◌≡◌};
-    ghost use Rattle.std.specs.List.Sorted.{IsStrictlySortedBy};
-    ghost use Rattle.std.specs.Map.{keys_of};
-    ghost use Rattle.lay_cell_items.specs.ByCell.{AreIndexedByCell};
-    ghost use Rattle.lay_layouts.specs.Ids.{id_cmp};
+    ghost use Rattle.lay_cell_items.specs.Runs.{AreHeld};
     ghost use Rattle.lay_layouts.specs.Items.{standing_in};
 
     /// Returns those of the items that stand in the cell.
-    pub fn new(items: &'a Pages<ItemId, Item>, homes: &'a Homes, cell: CellId) -> Items<'a>
-        requires sorted { IsStrictlySortedBy id_cmp (keys_of items.now) }
-        requires indexed { AreIndexedByCell items.now homes.now }
+    pub fn new(items: &'a Pages<ItemId, Item>, runs: &'a Runs, cell: CellId) -> Items<'a>
+        requires { AreHeld items.now runs.now.cells runs.now.layers }
         ensures { result ≡ standing_in cell items.now }
     {
-        let cell = cell_key(cell);
-        let homes = homes.from(first_home(cell));
-        let items = items.finder();
-        Items { homes, items, cell }
+        Items {
+            items: OfGroup::new(items, &runs.cells, By::Cell, cell_group(cell)),
+        }
     }
-}
-
-/// Returns the first home that a cell may have.
-fn first_home(cell: u64) -> Home
-    ensures { result ≡ first_home cell }
-{
-    let id = ItemId {
-        session: 0,
-        txn: 0,
-        seq: 0,
-    };
-    Home { cell, id }
 }
 
 impl<'a> Iterator for Items<'a> {
@@ -114,76 +197,7 @@ impl<'a> Iterator for Items<'a> {
     ghost remaining = { item_count (λ left. left) };
 
     fn next(&mut self) -> Option<(ItemId, &'a Item)> {
-        let (home, _tag) = self.homes.next()?;
-        if home.cell != self.cell {
-            return None;
-        }
-        Some((home.id, self.items.get(home.id).unwrap()))
-    }
-}
-
-/// Lends those of the items of a cell that have a tag, with their ids, in order of the ids. It doesn't look
-/// the others up. Contracts see the list of those that are left.
-#[derive(Drop)]
-struct OfTag<'a> {
-    /// Those of the cell, and of the cells behind it.
-    homes: lay_pages::Entries<'a, Home, u32>,
-    items: Finder<'a, ItemId, Item>,
-    /// The number of the cell.
-    cell: u64,
-    tag: u32,
-}
-
-impl<'a> Model for OfTag<'a> {
-    ghost use Rattle.std.specs.Prelude.{List};
-    ghost use Rattle.lay_layouts.specs.declared.id.ItemId.{ItemId};
-    ghost use Rattle.lay_layouts.specs.declared.item.Item.{Item};
-    ghost use Rattle.lay_cell_items.specs.ByCell.{AreLent, listed, looked_up, of_tag};
-
-    ghost Value = { List (ItemId × Item) };
-
-    ghost view = { λ i. looked_up i.items (of_tag i.tag (listed i.cell i.homes)) };
-
-    ghost invariant = { λ i. AreLent i.cell i.homes i.items };
-}
-
-impl<'a> OfTag<'a> {
-    ghost use Rattle.std.specs.Prelude.{◌==◌, ◌≡◌, filter};
-    ghost use Rattle.lay_cell_items.specs.ByCell.{tag_of};
-
-    /// Returns those of the items that have the tag.
-    fn new(items: Items<'a>, tag: u32) -> OfTag<'a>
-        ensures { result ≡ filter (λ entry. tag_of entry.1 == tag) items.entry }
-    {
-        let Items { homes, items, cell } = items;
-        OfTag {
-            homes,
-            items,
-            cell,
-            tag,
-        }
-    }
-}
-
-impl<'a> Iterator for OfTag<'a> {
-    ghost use Rattle.std.specs.Iterator.{YieldsFirstBy, item_count};
-
-    type Item = (ItemId, &'a Item);
-
-    ghost next_gives = { YieldsFirstBy (λ lent. (lent.0, lent.1.now)) (λ left. left) };
-
-    ghost remaining = { item_count (λ left. left) };
-
-    fn next(&mut self) -> Option<(ItemId, &'a Item)> {
-        while let Some((home, tag)) = self.homes.next() {
-            if home.cell != self.cell {
-                return None;
-            }
-            if *tag == self.tag {
-                return Some((home.id, self.items.get(home.id).unwrap()));
-            }
-        }
-        None
+        self.items.next()
     }
 }
 
@@ -191,7 +205,7 @@ impl<'a> Iterator for OfTag<'a> {
 /// list of those that are left.
 #[derive(Drop)]
 pub struct Shapes<'a> {
-    items: OfTag<'a>,
+    items: OfGroup<'a>,
     layer: LayerName,
 }
 
@@ -205,13 +219,22 @@ impl<'a> Model for Shapes<'a> {
 }
 
 impl<'a> Shapes<'a> {
+    ghost use Rattle.lay_cell_items.specs.Runs.{AreHeld};
+    ghost use Rattle.lay_layouts.specs.Items.{standing_in};
     ghost use Rattle.lay_layouts.specs.Lent.{shapes_among};
 
-    /// Returns those of the items that are shapes on the layer.
-    pub fn new(items: Items<'a>, layer: LayerName) -> Shapes<'a>
-        ensures { result ≡ shapes_among layer items.entry }
+    /// Returns those of the items that are shapes on the layer of the cell.
+    pub fn new(
+        items: &'a Pages<ItemId, Item>,
+        runs: &'a Runs,
+        cell: CellId,
+        layer: LayerName,
+    ) -> Shapes<'a>
+        requires { AreHeld items.now runs.now.cells runs.now.layers }
+        ensures { result ≡ shapes_among layer (standing_in cell items.now) }
     {
-        let items = OfTag::new(items, layer_tag(&layer));
+        let group = layer_group(cell, &layer);
+        let items = OfGroup::new(items, &runs.layers, By::Layer, group);
         Shapes { items, layer }
     }
 }
@@ -244,7 +267,7 @@ impl<'a> Iterator for Shapes<'a> {
 /// done to that, in order of the ids. Contracts see the list of those that are left.
 #[derive(Drop)]
 pub struct Calls<'a> {
-    items: OfTag<'a>,
+    items: OfGroup<'a>,
 }
 
 impl<'a> Model for Calls<'a> {
@@ -257,13 +280,16 @@ impl<'a> Model for Calls<'a> {
 }
 
 impl<'a> Calls<'a> {
+    ghost use Rattle.lay_cell_items.specs.Runs.{AreHeld};
+    ghost use Rattle.lay_layouts.specs.Items.{standing_in};
     ghost use Rattle.lay_layouts.specs.Lent.{calls_lent};
 
-    /// Returns those of the items that are calls.
-    pub fn new(items: Items<'a>) -> Calls<'a>
-        ensures { result ≡ calls_lent items.entry }
+    /// Returns those of the items that are calls in the cell.
+    pub fn new(items: &'a Pages<ItemId, Item>, runs: &'a Runs, cell: CellId) -> Calls<'a>
+        requires { AreHeld items.now runs.now.cells runs.now.layers }
+        ensures { result ≡ calls_lent (standing_in cell items.now) }
     {
-        let items = OfTag::new(items, CALL_TAG);
+        let items = OfGroup::new(items, &runs.layers, By::Layer, call_group(cell));
         Calls { items }
     }
 }

@@ -1,17 +1,23 @@
-//! The items of a cell, in order of their ids.
+//! The items of a cell, of a layer in it, and its calls, in order of their ids.
 //!
-//! Where an item stands is its `Home`, the cell's number and the item's id, and the homes of all items are
-//! in order of cell and id (`specs/ByCell.antt`). So a cell's items are a run of homes, each looked up by its
-//! id from where the one before was found. A home has a tag of its item's layer, by which those of other layers
-//! are passed over. [`Items`] goes over them, [`Shapes`] over those of a layer, and
-//! [`Calls`] over the calls (`lay_layouts/specs/Lent.antt`). [`merged`] makes the entries of a map of items
-//! after many writes, in one pass (`specs/Entries.antt`).
+//! Items stand in order of their ids. Those that follow each other and are of one group are a run: a group is a
+//! cell's items, its shapes on layers of a tag, or its calls. A [`Mark`] says where a run begins, and marks are in
+//! order of group and id (`specs/Runs.antt`). So a group's items are read run by run: from a mark on, up to the first
+//! item of another group, then from the group's next mark on. Of other items, one is read for each run. [`Items`]
+//! goes over those of a cell, [`Shapes`] over those of a layer, and [`Calls`] over the calls
+//! (`lay_layouts/specs/Lent.antt`).
+//!
+//! Each item that begins a run has a mark, and each mark is that of an item, with its group. One that no longer
+//! begins a run may keep its mark: where the item before it has gone, nothing else is read or written for it.
 #![tactic(auto)]
 
-pub mod cell_index;
-mod entries;
+mod beginnings;
+mod group;
 mod iter;
+mod marks;
+mod runs;
 
-pub use cell_index::{Homes, homes_of};
-pub use entries::{listed, merged, paged};
+pub use group::{By, Group};
 pub use iter::{Calls, Entries, Items, Shapes};
+pub use marks::{Mark, Marks};
+pub use runs::Runs;

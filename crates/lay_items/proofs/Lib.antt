@@ -1,4 +1,5 @@
 pub mod Entering
+pub mod MergeLemmas
 pub mod NumberedLemmas
 pub mod Reaching
 pub mod SoundLemmas

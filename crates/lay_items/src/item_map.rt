@@ -7,13 +7,15 @@ ghost use Rattle.lay_layouts.specs.Ids.{id_cmp};
 ghost use Rattle.lay_layouts.specs.Items.{standing_in};
 ghost use Rattle.lay_layouts.specs.Layout.{AreRising, map_of_items, put, put_all};
 ghost use Rattle.lay_layouts.specs.LayoutWith.{numbered_from};
+ghost use Rattle.lay_layouts.specs.Lent.{calls_lent, shapes_among};
 ghost use Rattle.lay_layouts.specs.SameLayout.{items_eq};
 
+use crate::entries::{listed, merged, paged};
 use crate::numbered::NumberedItems;
 use lay_calls::CellId;
-use lay_cell_items::{Entries, Homes, Items, cell_index, homes_of, listed, merged, paged};
+use lay_cell_items::{Calls, Entries, Items, Runs, Shapes};
 use lay_layouts::{Item, ItemId, Pages, are_same_pages};
-use lay_point::NoMemory;
+use lay_point::{LayerName, NoMemory};
 use std::alloc::Global;
 use std::marker::Model;
 
@@ -21,8 +23,8 @@ use std::marker::Model;
 #[derive(Drop)]
 pub(crate) struct ItemMap {
     items: Pages<ItemId, Item>,
-    /// Where they stand.
-    homes: Homes,
+    /// The runs of those that stand in a cell, and there on a layer.
+    runs: Runs,
 }
 
 impl Model for ItemMap {
@@ -30,7 +32,7 @@ impl Model for ItemMap {
     ghost use Rattle.std.specs.FinMap.{FinMap};
     ghost use Rattle.lay_layouts.specs.contracts.item.Item as item;
     ghost use Rattle.lay_layouts.specs.declared.item.Item.{Item};
-    ghost use Rattle.lay_cell_items.specs.ByCell.{AreHeld};
+    ghost use Rattle.lay_cell_items.specs.Runs.{AreHeld};
     ghost use Rattle.lay_layouts.specs.Ids.{coded_id, id_cmp};
     ghost use Rattle.lay_layouts.specs.Layout.{map_of_items};
 
@@ -40,7 +42,7 @@ impl Model for ItemMap {
 
     ghost view = { λ m. map_of_items m.items };
 
-    ghost invariant = { λ m. AreHeld m.items m.homes };
+    ghost invariant = { λ m. AreHeld m.items m.runs.cells m.runs.layers };
 }
 
 impl ItemMap {
@@ -50,7 +52,7 @@ impl ItemMap {
     {
         ItemMap {
             items: Pages::new(alloc),
-            homes: Pages::new(alloc),
+            runs: Runs::new(alloc),
         }
     }
 
@@ -66,8 +68,8 @@ impl ItemMap {
         requires { IsStrictlySortedBy id_cmp (keys_of items) }
         ensures { IfOk result (λ map. map ≡ map_of_items items) }
     {
-        let homes = homes_of(alloc, &items)?;
-        Ok(ItemMap { items, homes })
+        let runs = Runs::of(alloc, &items)?;
+        Ok(ItemMap { items, runs })
     }
 
     /// Returns the item of this id.
@@ -103,7 +105,21 @@ impl ItemMap {
     pub(crate) fn in_cell(&self, cell: CellId) -> Items<'_>
         ensures { result ≡ standing_in cell (map.entries self.now) }
     {
-        Items::new(&self.items, &self.homes, cell)
+        Items::new(&self.items, &self.runs, cell)
+    }
+
+    /// Lends the shapes of a cell on a layer, in order of their ids.
+    pub(crate) fn shapes(&self, cell: CellId, layer: LayerName) -> Shapes<'_>
+        ensures { result ≡ shapes_among layer (standing_in cell (map.entries self.now)) }
+    {
+        Shapes::new(&self.items, &self.runs, cell, layer)
+    }
+
+    /// Lends the calls that stand in a cell, in order of their ids.
+    pub(crate) fn calls(&self, cell: CellId) -> Calls<'_>
+        ensures { result ≡ calls_lent (standing_in cell (map.entries self.now)) }
+    {
+        Calls::new(&self.items, &self.runs, cell)
     }
 
     /// Returns whether others are the same items under the same ids.
@@ -161,19 +177,18 @@ impl ItemMap {
         ensures { IfOk result (λ new. new ≡ self.now) }
     {
         let items = self.items.share(alloc)?;
-        let homes = self.homes.share(alloc)?;
-        Ok(ItemMap { items, homes })
+        let runs = self.runs.share(alloc)?;
+        Ok(ItemMap { items, runs })
     }
 
-    /// Returns the items after a write. One page or two of the items are made anew, and of the homes one or
-    /// two where an item comes or goes.
+    /// Returns the items after a write. One page or two of the items are made anew, and of the marks of runs a few
+    /// where runs begin or end.
     fn written(&self, alloc: Global, id: ItemId, item: &Option<Item>) -> Result<ItemMap, NoMemory>
         ensures { IfOk result (λ new. new ≡ put self.now id item.now) }
     {
-        let homes = cell_index::without(alloc, &self.homes, id, self.items.get(id))?;
-        let homes = cell_index::with(alloc, homes, id, item)?;
+        let runs = self.runs.with(alloc, &self.items, id, item)?;
         let items = self.items.with(alloc, id, copied(item)?)?;
-        Ok(ItemMap { items, homes })
+        Ok(ItemMap { items, runs })
     }
 }
 

@@ -17,9 +17,11 @@
 //! ```
 //!
 //! Nothing here knows of a file format: a reader's crate gives the items of a text one after another
-//! ([`NumberedItems`]), as `cif_layout` does.
+//! ([`NumberedItems`]), as `cif_layout` does. Many writes at once go into the items in one pass
+//! (`specs/Entries.antt`).
 #![tactic(auto)]
 
+mod entries;
 mod item_map;
 mod numbered;
 mod snapshot;

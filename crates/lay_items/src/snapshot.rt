@@ -114,11 +114,12 @@ impl Snapshot {
         }
     }
 
-    /// Lends the items of a cell, in order of their ids. It doesn't go over those of other cells.
+    /// Lends the items of a cell, in order of their ids.
     ///
     /// # Cost
     ///
-    /// A search by halving for the first; a few comparisons for each item.
+    /// It goes over the runs of the cell's items, those that follow each other in order of all ids. For each run it
+    /// takes two searches by halving, and reads one item of another cell.
     pub fn items(&self, cell: CellId) -> Items<'_>
         ensures { result ≡ items_in self.now cell }
     {
@@ -129,13 +130,13 @@ impl Snapshot {
     ///
     /// # Cost
     ///
-    /// It goes over the ids of all items of the cell, and looks up those of the layer, and of others whose names
-    /// have the same tag.
-    #[tactic(auto, unfolding(lay_layouts::specs::Lent::shapes_in))]
+    /// It goes over the runs of the cell's shapes on the layer, as `items` does over those of the cell's items. Shapes
+    /// on another layer of the cell are passed over one by one only where the two names have the same tag, which few
+    /// of 2³² have.
     pub fn shapes(&self, cell: CellId, layer: &LayerName) -> Shapes<'_>
         ensures { result ≡ shapes_in self.now cell layer.now }
     {
-        Shapes::new(self.items(cell), *layer)
+        self.version().shapes(cell, *layer)
     }
 
     /// Lends the calls that stand in a cell, each its id, the number of the symbol that it calls and what is
@@ -143,12 +144,11 @@ impl Snapshot {
     ///
     /// # Cost
     ///
-    /// It goes over the ids of all items of the cell, and looks up the calls.
-    #[tactic(auto, unfolding(lay_layouts::specs::Lent::calls_in))]
+    /// It goes over the runs of the cell's calls, as `items` does over those of its items.
     pub fn calls(&self, cell: CellId) -> Calls<'_>
         ensures { result ≡ calls_in self.now cell }
     {
-        Calls::new(self.items(cell))
+        self.version().calls(cell)
     }
 }
 

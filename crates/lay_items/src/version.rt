@@ -8,15 +8,16 @@ ghost use Rattle.lay_layouts.specs.Ids.{id_cmp};
 ghost use Rattle.lay_layouts.specs.Items.{items_in};
 ghost use Rattle.lay_layouts.specs.Layout.{AreRising, changed, is_cell, item_at, no_items, put_all};
 ghost use Rattle.lay_layouts.specs.LayoutWith.{layout_with};
+ghost use Rattle.lay_layouts.specs.Lent.{calls_in, shapes_in};
 ghost use Rattle.lay_layouts.specs.Same.{symbols_eq};
 ghost use Rattle.lay_layouts.specs.SlotOrder.{in_slot_order};
 
 use crate::item_map::ItemMap;
 use crate::numbered::{NumberedItems, numbered};
 use lay_calls::{CellId, Cells};
-use lay_cell_items::{Entries, Items};
+use lay_cell_items::{Calls, Entries, Items, Shapes};
 use lay_layouts::{CellSlot, Item, ItemId, SymbolMap};
-use lay_point::NoMemory;
+use lay_point::{LayerName, NoMemory};
 use std::alloc::Global;
 use std::marker::Model;
 use std::sync::Arc;
@@ -162,16 +163,28 @@ impl Version {
         self.item_map().iter()
     }
 
-    /// Lends the items of a cell, in order of their ids. It doesn't go over those of other cells.
-    ///
-    /// # Cost
-    ///
-    /// A search by halving for the first; a few comparisons for each item.
+    /// Lends the items of a cell, in order of their ids, as `Snapshot::items` does.
     #[tactic(auto, unfolding(lay_layouts::specs::Items::items_in))]
     pub fn items(&self, cell: CellId) -> Items<'_>
         ensures { result ≡ items_in self.now cell }
     {
         self.item_map().in_cell(cell)
+    }
+
+    /// Lends the shapes of a cell on a layer, as `Snapshot::shapes` does.
+    #[tactic(auto, unfolding(lay_layouts::specs::Items::items_in, lay_layouts::specs::Lent::shapes_in))]
+    pub(crate) fn shapes(&self, cell: CellId, layer: LayerName) -> Shapes<'_>
+        ensures { result ≡ shapes_in self.now cell layer }
+    {
+        self.item_map().shapes(cell, layer)
+    }
+
+    /// Lends the calls that stand in a cell, as `Snapshot::calls` does.
+    #[tactic(auto, unfolding(lay_layouts::specs::Items::items_in, lay_layouts::specs::Lent::calls_in))]
+    pub(crate) fn calls(&self, cell: CellId) -> Calls<'_>
+        ensures { result ≡ calls_in self.now cell }
+    {
+        self.item_map().calls(cell)
     }
 
     /// Returns the layout after these writes: under an id or a number stands this item or slot from then on,
@@ -180,7 +193,7 @@ impl Version {
     /// # Cost
     ///
     /// Where few items are written each makes a page, its book and the list of the books anew, of the items
-    /// and of where they stand; where many are, all pages are made anew in one pass. Where symbols are
+    /// and of the marks of runs where runs begin or end; where many are, all pages are made anew in one pass. Where symbols are
     /// written, each makes a page of theirs anew, and the list of their numbers is copied.
     pub fn with(
         &self,

@@ -33,7 +33,8 @@ module _ {K X : Type 0} (R : K → K → Ordering) where
   find-entry q k (Some item) = refl
 
 module _ {K X : Type 0} {R : K → K → Ordering} (total : IsTotalOrder R) (exact : IsAntisymmetric R) where
-  find-after_write : (k : K) (x : Option X) (es : List (K × X)) (q : K)
+  -- what is found under a key after a write
+  pub find-after_write : (k : K) (x : Option X) (es : List (K × X)) (q : K)
       → find R q (after_write R k x es) ≡ cond (eq_by_cmp R q k) x (find R q es)
   find-after_write k x es q =
       find-both R q (lower R k es) (written_entries k x ++ higher R k es)

@@ -35,7 +35,7 @@ impl Model for Rings {
 }
 
 impl Rings {
-    /// Returns the rings, to be shared.
+    /// Returns the rings, to be shared but for a sole one of four points.
     pub fn new(alloc: Global, mut rings: Vec<Ring>) -> Result<Rings, NoMemory>
         ensures { IsAnswer (record {}) result (Ok rings.items) }
     {
@@ -48,7 +48,7 @@ impl Rings {
         Ok(Rings { kept })
     }
 
-    /// Returns the ring, to be shared. It needs no list.
+    /// Returns the ring, to be shared but where it has four points. It needs no list.
     pub fn one(alloc: Global, ring: Ring) -> Result<Rings, NoMemory>
         ensures { IsAnswer (record {}) result (Ok (ring ∷ [])) }
     {

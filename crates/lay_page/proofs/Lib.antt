@@ -1,6 +1,5 @@
 pub mod BookLemmas
 pub mod FillLemmas
-pub mod NearLemmas
 pub mod OrderLemmas
 pub mod PlaceLemmas
 pub mod SearchLemmas

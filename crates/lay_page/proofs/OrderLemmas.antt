@@ -5,7 +5,7 @@ use Rattle.std.proofs.lemmas.List.{length-append}
 use Rattle.std.specs.Prelude.{filter}
 use Rattle.std.specs.declared.cmp.Ordering.{Ordering}
 use Rattle.std.specs.declared.cmp.Ordering.TheVariants.{Equal, Greater, Less}
-use Rattle.std.specs.Cmp.{IsTotalOrder}
+use Rattle.std.specs.Cmp.{IsTotalOrder, eq_by_cmp_equiv}
 use Rattle.std.specs.FinMap.{IsAntisymmetric, find}
 use Rattle.std.specs.List.{AllByRecursion}
 use Rattle.std.specs.List.Sorted.{IsStrictlySortedBy}
@@ -197,3 +197,19 @@ module _ {K X : Type 0} {R : K → K → Ordering} (total : IsTotalOrder R) (exa
       ∙ find-below k (joined (take at lists)) (get_or lists at d ++ joined (drop (suc at) lists)) place.below
       ∙ find-first k (get_or lists at d) (joined (drop (suc at) lists))
       (subst (λ n. AllAbove R k (joined (drop n lists))) up place.above)
+
+  -- entries in order are found under their keys
+  pub found_sorted : (es : List (K × X)) → IsStrictlySortedBy R (keys_of es) → AllByRecursion (λ (e : K × X). find R e.0 es ≡ Some e.1) es
+  unfolding IsStrictlySortedBy
+  found_sorted [] sorted = tt
+  found_sorted (e ∷ es) sorted = (
+    ap (λ b. cond b (Some e.1) (find R e.0 es)) ((eq_by_cmp_equiv total).refl e.0),
+    more es sorted.0 (found_sorted es sorted.1),
+  ) where
+    more : (fs : List (K × X)) → AllByRecursion (λ y. R e.0 y ≡ Less) (keys_of fs)
+        → AllByRecursion (λ (f : K × X). find R f.0 es ≡ Some f.1) fs → AllByRecursion (λ (f : K × X). find R f.0 (e ∷ es) ≡ Some f.1) fs
+    more [] all found = tt
+    more (f ∷ fs) all found = (
+      ap (λ o. cond (is_eq o) (Some e.1) (find R f.0 es)) (turned total e.0 f.0 Less all.0) ∙ found.0,
+      more fs all.1 found.1,
+    )

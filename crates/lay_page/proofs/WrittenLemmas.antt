@@ -19,7 +19,7 @@ module _ {K X : Type 0} {R : K → K → Ordering} (total : IsTotalOrder R) wher
     by true rest = ap (λ xs. e ∷ xs) rest
     by false rest = rest
 
-  lower-below : (k : K) (es : List (K × X)) → AllBelow R k es → lower R k es ≡ es
+  pub lower-below : (k : K) (es : List (K × X)) → AllBelow R k es → lower R k es ≡ es
   lower-below k [] all = refl
   lower-below k (e ∷ es) all =
       ap (λ o. cond (is_lt o) (e ∷ lower R k es) (lower R k es)) all.0 ∙ ap (λ xs. e ∷ xs) (lower-below k es all.1)

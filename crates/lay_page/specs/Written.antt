@@ -4,10 +4,9 @@ use Rattle.std.specs.declared.cmp.Ordering.{Ordering}
 use Rattle.std.specs.declared.cmp.Ordering.TheVariants.{Less}
 use Rattle.std.specs.FinMap.{find}
 use Rattle.std.specs.List.{AllByRecursion, HoldsAt}
-use Rattle.std.specs.List.Sorted.{IsStrictlySortedBy}
-use Rattle.std.specs.Map.{keys_of}
 use Rattle.std.specs.Ordering.{is_lt}
-use Rattle.lay_page.specs.Shared.{AreBooks, entries_in, joined}
+use denote.Ref.{Bor}
+use Rattle.lay_page.specs.Shared.{joined}
 
 module _ {K X : Type 0} (R : K → K → Ordering) where
   abbrev pub lower : K → List (K × X) → List (K × X)
@@ -26,11 +25,6 @@ module _ {K X : Type 0} (R : K → K → Ordering) where
     pub before : lower k es ≡ take at es
     pub after : higher k es ≡ drop (at + 1) es
     pub from : from_key k es ≡ drop at es
-    pub item : HoldsAt (λ e. find R k es ≡ Some e.1) es at
-
-  -- this index is the key's
-  pub record IsHere (es : List (K × X)) (k : K) (at : ℕ) : Type 0 where
-    pub in_range : at < length es
     pub item : HoldsAt (λ e. find R k es ≡ Some e.1) es at
 
   -- it has none, which would have this index
@@ -52,6 +46,20 @@ module _ {K X : Type 0} (R : K → K → Ordering) where
     pub in_range : at < length lists
     pub below : AllBelow k (joined (take at lists))
     pub above : AllAbove k (joined (drop (at + 1) lists))
+
+abbrev pub first_entry : {A : Type 0} → List A → Option A
+first_entry [] = None
+first_entry (x ∷ xs) = Some x
+
+abbrev pub last_entry : {A : Type 0} → List A → Option A
+last_entry [] = None
+last_entry (x ∷ []) = Some x
+last_entry (x ∷ (y ∷ ys)) = last_entry (y ∷ ys)
+
+-- an entry whose value is lent
+abbrev pub lent_entry : {K V : Type 0} → Option (K × Bor V) → Option (K × V)
+lent_entry None = None
+lent_entry (Some entry) = Some (entry.0, entry.1.now)
 
 -- what a write leaves under its key
 abbrev pub written_entries : {K X : Type 0} → K → Option X → List (K × X)
@@ -79,15 +87,3 @@ count_of (Some x) = 1
 -- the same value under the same key
 abbrev pub are_equal : {K X : Type 0} → (K → K → Bool) → (X → X → Bool) → K × X → K × X → Bool
 are_equal key_eq value_eq e f = key_eq e.0 f.0 && value_eq e.1 f.1
-
--- entries that stand together among others
-pub record IsPart {A : Type 0} (part all : List A) : Type 0 where
-  pub before : List A
-  pub behind : List A
-  pub is : all ≡ before ++ (part ++ behind)
-
--- entries of books, in order
-pub record AreNear {K X : Type 0} (R : K → K → Ordering) (near : List (K × X)) (lists : List (List (List (K × X)))) : Type 0 where
-  pub books : AreBooks R lists
-  pub sorted : IsStrictlySortedBy R (keys_of near)
-  pub kept : AllByRecursion (λ (e : K × X). find R e.0 (entries_in lists) ≡ Some e.1) near

@@ -17,6 +17,6 @@ mod share;
 
 pub use keys::{Kept, PageKey};
 pub use lists::Lists;
-pub use page::{Book, Page, around, find_on};
+pub use page::{Book, Page, around};
 pub use place::{book_of, page_of};
 pub use share::{push_parts, spliced};

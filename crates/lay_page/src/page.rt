@@ -1,9 +1,9 @@
 //! A page: entries in order of their keys.
-ghost use Rattle.std.specs.Prelude.{◌≡◌, ◌++◌, ◌<◌, IfOk, OnOk, IfErr, MatchOption, None, Some, length, option_copied, true};
+ghost use Rattle.std.specs.Prelude.{◌≡◌, ◌++◌, ◌<◌, IfOk, OnOk, IfErr, length, option_copied};
 ghost use Rattle.std.specs.FinMap.{find};
 ghost use Rattle.std.specs.List.Sorted.{IsStrictlySortedBy};
 ghost use Rattle.std.specs.Map.{keys_of};
-ghost use Rattle.lay_page.specs.Written.{IsFirstKey, IsFoundAt, IsGapAt, IsHere, IsPart, after_write, from_key, higher, lower, written_entries};
+ghost use Rattle.lay_page.specs.Written.{IsFirstKey, IsFoundAt, IsGapAt, after_write, from_key, higher, lower, written_entries};
 
 use crate::keys::{Kept, PageKey};
 use std::alloc::{AllocError, Global};
@@ -31,38 +31,6 @@ pub fn find<K: PageKey, V>(page: &[(K, V)], key: K) -> Option<&V>
     match search(page, key) {
         Ok(at) => Some(&page[at].1),
         Err(_) => None,
-    }
-}
-
-/// Returns the value under the key, with the entries after it. Where the key is the first one, that takes one
-/// comparison.
-pub fn find_on<K: PageKey, V>(entries: &[(K, V)], key: K) -> Option<(&V, &[(K, V)])>
-    requires { IsStrictlySortedBy K.cmp (keys_of entries.now) }
-    ensures { MatchOption result (find K.cmp key entries.now ≡ None)
-        (λ found. (find K.cmp key entries.now ≡ Some found.0.now) × IsPart found.1.now entries.now) }
-{
-    let at = index_on(entries, key)?;
-    Some((&entries[at].1, &entries[at + 1..]))
-}
-
-/// Returns the index of the key, where it is there.
-fn index_on<K: PageKey, V>(entries: &[(K, V)], key: K) -> Option<usize>
-    requires { IsStrictlySortedBy K.cmp (keys_of entries.now) }
-    ensures { MatchOption result (find K.cmp key entries.now ≡ None) (λ at. IsHere K.cmp entries.now key at) }
-{
-    if is_first(entries, key) {
-        return Some(0);
-    }
-    search(entries, key).ok()
-}
-
-/// Returns whether the key is that of the first entry.
-fn is_first<K: PageKey, V>(entries: &[(K, V)], key: K) -> bool
-    ensures { result ≡ true → IsHere K.cmp entries.now key 0 }
-{
-    match entries.first() {
-        Some(entry) => entry.0.cmp(&key).is_eq(),
-        None => false,
     }
 }
 

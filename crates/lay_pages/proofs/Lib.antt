@@ -1,2 +1,4 @@
+pub mod BesideLemmas
+pub mod LastLemmas
 pub mod LentLemmas
 pub mod PageOfLemmas

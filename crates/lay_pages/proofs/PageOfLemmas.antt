@@ -1,5 +1,5 @@
 -- The page into which a key falls, among all entries of the books.
-use Rattle.std.proofs.Common.{◌≡◌, ◌∙◌, ◌<◌, ℕ, List, [], arith, ap, get_or, length, map, subst, sym}
+use Rattle.std.proofs.Common.{◌≡◌, ◌∙◌, ◌<◌, ℕ, List, [], arith, ap, get_or, length, map, sym}
 use Rattle.std.proofs.lemmas.List.{get_or-map}
 use Rattle.std.specs.declared.cmp.Ordering.{Ordering}
 use Rattle.std.specs.Cmp.{IsTotalOrder}
@@ -7,9 +7,7 @@ use Rattle.std.specs.FinMap.{IsAntisymmetric, find}
 use Rattle.std.specs.List.Sorted.{IsStrictlySortedBy}
 use Rattle.std.specs.Map.{keys_of}
 use Rattle.lay_page.specs.Shared.{AreBooks, entries_in, joined}
-use Rattle.lay_page.specs.Written.{IsPart}
 use Rattle.lay_page.proofs.BookLemmas.{book_at}
-use Rattle.lay_page.proofs.NearLemmas.{part_at, part_within}
 use Rattle.lay_page.proofs.OrderLemmas.{find-level}
 use Rattle.lay_page.proofs.PlaceLemmas.{sorted-at}
 use Rattle.lay_page.proofs.ShareLemmas.{length_map}
@@ -18,14 +16,6 @@ use Rattle.lay_pages.specs.Places.{IsPageOf, page_in}
 module _ {K X : Type 0} {R : K → K → Ordering} (k : K) (books : List (List (List (K × X)))) (book page : ℕ) where
   pub book_inside : IsPageOf R k books book page → book < length books
   book_inside falls = omega (arith, length_map joined books, falls.of_books.in_range)
-
-  -- its entries are among all
-  pub part_in : IsPageOf R k books book page → IsPart (page_in books book page) (entries_in books)
-  part_in falls =
-      part_within (page_in books book page) (joined (get_or books book [])) (entries_in books)
-      (part_at (get_or books book []) page [] falls.of_pages.in_range)
-      (subst (λ (es : List (K × X)). IsPart es (entries_in books)) (get_or-map joined books book [] [] (book_inside falls))
-      (part_at (map joined books) book [] falls.of_books.in_range))
 
   pub sorted_in : AreBooks R books → IsPageOf R k books book page → IsStrictlySortedBy R (keys_of (page_in books book page))
   sorted_in kept falls =

@@ -1,5 +1,5 @@
 //! Entries that are lent, in order of their keys.
-ghost use Rattle.std.specs.Prelude.{◌≡◌, ◌<◌, ◌++◌, length};
+ghost use Rattle.std.specs.Prelude.{◌≡◌, ◌<◌, ◌++◌, [], length};
 ghost use Rattle.std.specs.Cmp.Lexicographic.{pointwise};
 ghost use Rattle.std.specs.List.Sorted.{IsStrictlySortedBy};
 ghost use Rattle.std.specs.Map.{keys_of};
@@ -27,6 +27,17 @@ impl<'a, K: PageKey, V: Kept> Model for Entries<'a, K, V> {
 }
 
 impl<'a, K: PageKey, V: Kept> Entries<'a, K, V> {
+    /// Returns no entries.
+    pub fn none() -> Entries<'a, K, V>
+        ensures { result ≡ [] }
+    {
+        Entries {
+            entries: &[],
+            pages: &[],
+            books: &[],
+        }
+    }
+
     /// Returns all entries of the books.
     pub(crate) fn all(books: &'a [Book<K, V>]) -> Entries<'a, K, V>
         ensures { result ≡ entries_in (pages_in books.now) }

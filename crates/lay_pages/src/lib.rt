@@ -6,9 +6,9 @@
 //! order of the keys.
 #![tactic(auto)]
 
+mod beside;
 mod builder;
 mod entries;
-mod finder;
 mod look;
 mod pages;
 mod place;
@@ -16,6 +16,5 @@ mod update;
 
 pub use builder::PagesBuilder;
 pub use entries::Entries;
-pub use finder::Finder;
 pub use lay_page::{Kept, PageKey, around};
 pub use pages::Pages;

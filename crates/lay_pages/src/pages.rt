@@ -5,10 +5,10 @@ ghost use Rattle.std.specs.FinMap.{find};
 ghost use Rattle.std.specs.List.Sorted.{IsStrictlySortedBy};
 ghost use Rattle.std.specs.Map.{keys_of};
 ghost use Rattle.lay_page.specs.Shared.{AreBooks, AreCountedBooks, entries_in, pages_in};
-ghost use Rattle.lay_page.specs.Written.{after_write, are_equal, from_key, written_all};
+ghost use Rattle.lay_page.specs.Written.{after_write, are_equal, first_entry, from_key, higher, last_entry, lent_entry, lower, written_all};
 
+use crate::beside::below;
 use crate::entries::{Entries, are_same};
-use crate::finder::Finder;
 use crate::look::{count_pages, find, has_value};
 use crate::place::place_of;
 use crate::update::{books_with, first_books, len_with};
@@ -117,11 +117,31 @@ impl<K: PageKey, V: Kept> Pages<K, V> {
         find(self.books(), key)
     }
 
-    /// Returns what finds values, with few comparisons where a key is near the last.
-    pub fn finder(&self) -> Finder<'_, K, V>
-        ensures { result ≡ self.now }
+    /// Lends the entry before a key, with its key.
+    ///
+    /// # Cost
+    ///
+    /// That of `get`.
+    pub fn below(&self, key: K) -> Option<(K, &V)>
+        ensures { lent_entry result ≡ last_entry (lower K.cmp key self.now) }
     {
-        Finder::new(self.books())
+        below(self.books(), key)
+    }
+
+    /// Lends the entry after a key, with its key.
+    ///
+    /// # Cost
+    ///
+    /// That of `get`.
+    pub fn above(&self, key: K) -> Option<(K, &V)>
+        ensures { lent_entry result ≡ first_entry (higher K.cmp key self.now) }
+    {
+        let mut entries = self.from(key);
+        let (first, value) = entries.next()?;
+        if first == key {
+            return entries.next();
+        }
+        Some((first, value))
     }
 
     /// Returns the number of entries.

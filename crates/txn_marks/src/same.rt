@@ -20,9 +20,9 @@ use txn_commands::{Element, Snapshot};
 /// # Cost
 ///
 /// A look-up in both layouts for an item or a symbol. For the shapes of a cell on a layer and for the calls in
-/// a cell as `Snapshot::shapes` and `Snapshot::calls`: the ids of the cell's items are gone over in both, and
-/// items of other layers aren't looked up, but for those whose names have the same tag. For the content of a symbol its items are gone over, and for its
-/// calls all items are. An element that differs is gone over up to the first difference, and is the last.
+/// a cell as `Snapshot::shapes` and `Snapshot::calls`, which go over those alone. For the content of a symbol its
+/// items are gone over, and for its calls all items are. An element that differs is gone over up to the first
+/// difference, and is the last.
 pub fn agrees(l: &Snapshot, m: &Snapshot, footprint: &Footprint) -> bool
     ensures value { result ≡ agrees l.now m.now footprint.now }
     ensures agree { result ≡ true → AgreeOn l.now m.now footprint.now }

@@ -4,10 +4,10 @@ use Rattle.std.specs.List.Sorted.{IsStrictlySortedBy}
 use Rattle.std.specs.Map.{keys_of}
 use Rattle.lay_layouts.specs.declared.id.ItemId.{ItemId}
 use Rattle.lay_layouts.specs.declared.item.Item.{Item}
-use Rattle.lay_cell_items.specs.Entries.{merged}
+use Rattle.lay_items.specs.Entries.{merged}
 use Rattle.lay_layouts.specs.Ids.{id_cmp}
 use Rattle.lay_layouts.specs.Layout.{map_of_items, put_all}
-use Rattle.lay_cell_items.proofs.MergeLemmas.{merged-is, sorted-merged}
+use Rattle.lay_items.proofs.MergeLemmas.{merged-is, sorted-merged}
 use Rattle.lay_items.proofs.item_map.ItemMap.merged.Goals as goal
 
 pub merged-requires : goal.merged-requires

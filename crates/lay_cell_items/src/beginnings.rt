@@ -1,0 +1,81 @@
+//! The marks of items that come one after another.
+ghost use Rattle.std.specs.Prelude.{◌≡◌, ◌++◌, [], ◌∷◌, IfOk, List, None, OnOk, map};
+ghost use Rattle.std.specs.List.Sorted.{IsStrictlySortedBy};
+ghost use Rattle.std.specs.Map.{keys_of};
+ghost use Rattle.lay_cell_items.specs.declared.group.By.{By};
+ghost use Rattle.lay_cell_items.specs.Runs.{AreRuns, HeldItem, beginnings, mark_cmp, with_none};
+ghost use Rattle.lay_layouts.specs.Ids.{id_cmp};
+
+use crate::group::{By, Group, begins};
+use crate::marks::{Mark, Marks};
+use lay_layouts::{Item, ItemId};
+use lay_pages::PagesBuilder;
+use lay_point::{Given, NoMemory};
+use std::alloc::Global;
+
+/// Takes items in order of their ids, and keeps the marks of those that begin runs.
+#[derive(Drop)]
+pub(crate) struct Beginnings {
+    by: By,
+    /// The group of the last item.
+    before: Option<Group>,
+    marks: Vec<Mark>,
+}
+
+impl Beginnings {
+    /// Returns no marks.
+    pub(crate) fn new(alloc: Global, by: By) -> Beginnings
+        ensures by { result.by ≡ by }
+        ensures before { result.before ≡ None }
+        ensures marks { result.marks.items ≡ [] }
+    {
+        Beginnings {
+            by,
+            before: None,
+            marks: Vec::new(alloc),
+        }
+    }
+
+    /// Takes an item behind those before. With the marks of any that are left they are the same marks.
+    pub(crate) fn take(&mut self, id: ItemId, item: &Item) -> Result<(), NoMemory>
+        ensures by { self.new.by ≡ self.old.by }
+        ensures marks { OnOk result ((rest : List HeldItem) → self.new.marks.items ++ beginnings self.new.by self.new.before rest
+            ≡ self.old.marks.items ++ beginnings self.old.by self.old.before ((id, item.now) ∷ rest)) }
+    {
+        let group = self.by.group(item);
+        if begins(self.before, group) {
+            self.marks.push(Mark { group, id })?;
+        }
+        self.before = Some(group);
+        Ok(())
+    }
+
+    /// Returns the marks in order: those of the runs of the items.
+    ///
+    /// # Cost
+    ///
+    /// A sort of the marks.
+    pub(crate) fn end(self, alloc: Global) -> Result<Marks, NoMemory>
+        ensures { IfOk result (λ new. (es : List HeldItem) → IsStrictlySortedBy id_cmp (keys_of es)
+            → self.marks.items ≡ beginnings self.by None es → AreRuns self.by es new) }
+    {
+        let Beginnings { mut marks, .. } = self;
+        marks.sort_unstable();
+        marks.dedup();
+        let marks = paged(alloc, marks)?;
+        Ok(marks)
+    }
+}
+
+/// Returns the pages of marks in order.
+fn paged(alloc: Global, marks: Vec<Mark>) -> Result<Marks, NoMemory>
+    requires { IsStrictlySortedBy mark_cmp marks.items }
+    ensures { IfOk result (λ pages. pages ≡ map with_none marks.items) }
+{
+    let mut pages = PagesBuilder::new(alloc);
+    for mark in Given::of(marks) {
+        pages.push(alloc, mark, ())?;
+    }
+    let pages = pages.build(alloc)?;
+    Ok(pages)
+}

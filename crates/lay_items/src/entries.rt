@@ -1,0 +1,93 @@
+//! Items under their ids, in order of the ids, written to by one pass.
+ghost use Rattle.std.specs.Prelude.{◌≡◌, ◌++◌, IfOk, OnOk};
+ghost use Rattle.std.specs.List.Sorted.{IsStrictlySortedBy};
+ghost use Rattle.std.specs.Map.{keys_of};
+ghost use Rattle.lay_cell_items.specs.Written.{written_entries};
+ghost use Rattle.lay_items.specs.Entries.{merged};
+ghost use Rattle.lay_layouts.specs.Ids.{id_cmp};
+
+use lay_layouts::{Item, ItemId};
+use lay_pages::{Kept, PageKey, Pages, PagesBuilder, around};
+use lay_point::{Given, NoMemory};
+use std::alloc::Global;
+
+/// An item under its id.
+type Entry = (ItemId, Item);
+
+/// Returns copies of the items, in order of their ids.
+///
+/// # Cost
+///
+/// A pass over the items.
+pub(crate) fn listed(alloc: Global, items: &Pages<ItemId, Item>) -> Result<Vec<Entry>, NoMemory>
+    ensures { IfOk result (λ entries. entries.items ≡ items.now) }
+{
+    let mut entries = Vec::with_capacity(alloc, items.len())?;
+    for (id, item) in items.iter() {
+        entries.push((id, item.clone()?))?;
+    }
+    Ok(entries)
+}
+
+/// Returns the pages of entries in order.
+///
+/// # Cost
+///
+/// A pass over the entries.
+pub(crate) fn paged<K: PageKey, V: Kept>(
+    alloc: Global,
+    entries: Vec<(K, V)>,
+) -> Result<Pages<K, V>, NoMemory>
+    requires { IsStrictlySortedBy K.cmp (keys_of entries.items) }
+    ensures { IfOk result (λ pages. pages ≡ entries.items) }
+{
+    let mut pages = PagesBuilder::new(alloc);
+    for (key, value) in Given::of(entries) {
+        pages.push(alloc, key, value)?;
+    }
+    let pages = pages.build(alloc)?;
+    Ok(pages)
+}
+
+/// Returns the entries after these writes, which are in order of their ids.
+///
+/// # Cost
+///
+/// A pass over the entries and the writes.
+pub(crate) fn merged(
+    alloc: Global,
+    entries: &[Entry],
+    writes: &[(ItemId, Option<Item>)],
+) -> Result<Vec<Entry>, NoMemory>
+    requires { IsStrictlySortedBy id_cmp (keys_of entries.now) }
+    ensures { IfOk result (λ new. new.items ≡ merged entries.now writes.now) }
+{
+    let mut new = Vec::with_capacity(alloc, entries.len().saturating_add(writes.len()))?;
+    let mut rest = entries;
+    for (id, item) in writes {
+        let (before, behind) = around(rest, *id);
+        append(&mut new, before)?;
+        push_written(&mut new, *id, item)?;
+        rest = behind;
+    }
+    append(&mut new, rest)?;
+    Ok(new)
+}
+
+/// Appends copies of the entries.
+fn append(new: &mut Vec<Entry>, entries: &[Entry]) -> Result<(), NoMemory>
+    ensures { OnOk result (new.new.items ≡ new.old.items ++ entries.now) }
+{
+    new.extend_from_slice(entries)?;
+    Ok(())
+}
+
+/// Appends what a write leaves under its id.
+fn push_written(new: &mut Vec<Entry>, id: ItemId, item: &Option<Item>) -> Result<(), NoMemory>
+    ensures { OnOk result (new.new.items ≡ new.old.items ++ written_entries id item.now) }
+{
+    if let Some(item) = item {
+        new.push((id, item.clone()?))?;
+    }
+    Ok(())
+}
