@@ -17,4 +17,6 @@ mod pages;
 #[cfg(test)]
 mod points;
 #[cfg(test)]
+mod runs;
+#[cfg(test)]
 mod winding;
