@@ -56,7 +56,7 @@ impl Version {
     ///
     /// # Cost
     ///
-    /// A pass over the items, and a sort of them by cell.
+    /// Two passes over the items, and a sort of where runs of a cell or a layer begin.
     pub fn of_parts(alloc: Global, symbols: &Cells, items: Vec<Item>) -> Result<Version, NoMemory>
         ensures { IsAnswer (record {}) result (Ok (layout_with symbols.now items.items)) }
     {
