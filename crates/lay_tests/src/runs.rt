@@ -11,6 +11,7 @@ use std::alloc::Global;
 use std::test::*;
 
 /// Items and their runs.
+#[derive(Drop)]
 struct Held {
     items: Pages<ItemId, Item>,
     runs: Runs,
