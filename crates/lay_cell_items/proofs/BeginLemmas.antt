@@ -1,5 +1,5 @@
 -- The marks of items that begin runs, put in order.
-use Rattle.std.proofs.Common.{◌≡◌, ◌∙◌, ◌⊎◌, inl, inr, Bool, true, false, List, [], ◌∷◌, Option, Some, None, Contains, Decides}
+use Rattle.std.proofs.Common.{◌≡◌, ◌∙◌, ◌⊎◌, ◌++◌, inl, inr, Bool, true, false, List, [], ◌∷◌, Option, Some, None, Contains, Decides}
 use Rattle.std.proofs.Common.{ap, cond, map, refl, subst, sym}
 use Rattle.std.specs.Prelude.{option_map}
 use Rattle.std.specs.Cmp.{Equal-is, decided, eq_by_cmp_equiv}
@@ -9,6 +9,7 @@ use Rattle.std.specs.List.Retain.{DiffersFromLast, IsFiltered}
 use Rattle.std.specs.List.Sorted.{IsPermutation, IsSorted, IsStrictlySortedBy}
 use Rattle.std.specs.Map.{keys_of}
 use Rattle.std.specs.Ordering.{eq_by_cmp}
+use Rattle.std.proofs.lemmas.List.{append-nil}
 use Rattle.std.proofs.lemmas.List.Filters.{dedup_is}
 use Rattle.std.proofs.lemmas.List.Kept.{Contains-dedup, Contains-from_dedup, IsStrictlySortedBy-dedup}
 use Rattle.std.proofs.lemmas.List.Sorted.{Contains-permutation, IsPermutation-sym}
@@ -16,9 +17,11 @@ use Rattle.lay_point.proofs.Members.{Has, contains, has}
 use Rattle.lay_page.proofs.OrderLemmas.{found_sorted}
 use Rattle.lay_layouts.specs.IdOrder.{ids_exact, ids_total}
 use Rattle.lay_layouts.specs.Ids.{id_cmp}
+use Rattle.lay_cell_items.specs.declared.beginnings.Beginnings.{Beginnings}
 use Rattle.lay_cell_items.specs.declared.group.By.{By}
 use Rattle.lay_cell_items.specs.declared.group.Group.{Group}
 use Rattle.lay_cell_items.specs.declared.marks.Mark.{Mark}
+use Rattle.lay_cell_items.specs.Begun.{HaveBegun}
 use Rattle.lay_cell_items.specs.Runs.{AreBegun, AreRuns, HeldItem, HasMark, MarkList, beginnings}
 use Rattle.lay_cell_items.specs.Runs.{begins, group_in, mark_cmp, mark_of, marks_exact, marks_total, with_none}
 
@@ -121,3 +124,8 @@ module _ {E : Mark → Mark → Bool} (ties : (a b : Mark) → E a b ≡ eq_by_c
     out m w =
         Contains-permutation ys xs m (IsPermutation-sym xs ys moved)
         (Contains-from_dedup E ys m (subst (λ (ms : List Mark). Contains ms m) kept w))
+
+-- marks of items that came one after another are those of all of them
+pub marks_taken : (by : By) (es : List HeldItem) (taken : Beginnings) → HaveBegun by es taken
+    → taken.marks.items ≡ beginnings by None es
+marks_taken by es taken begun = sym (append-nil taken.marks.items) ∙ begun [] ∙ ap (beginnings by None) (append-nil es)

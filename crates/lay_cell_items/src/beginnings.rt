@@ -16,7 +16,6 @@ use std::alloc::Global;
 /// Takes items in order of their ids, and keeps the marks of those that begin runs.
 #[derive(Drop)]
 pub(crate) struct Beginnings {
-    by: By,
     /// The group of the last item.
     before: Option<Group>,
     marks: Vec<Mark>,
@@ -24,25 +23,23 @@ pub(crate) struct Beginnings {
 
 impl Beginnings {
     /// Returns no marks.
-    pub(crate) fn new(alloc: Global, by: By) -> Beginnings
-        ensures by { result.by ≡ by }
+    pub(crate) fn new(alloc: Global) -> Beginnings
         ensures before { result.before ≡ None }
         ensures marks { result.marks.items ≡ [] }
     {
         Beginnings {
-            by,
             before: None,
             marks: Vec::new(alloc),
         }
     }
 
     /// Takes an item behind those before. With the marks of any that are left they are the same marks.
-    pub(crate) fn take(&mut self, id: ItemId, item: &Item) -> Result<(), NoMemory>
-        ensures by { self.new.by ≡ self.old.by }
-        ensures marks { OnOk result ((rest : List HeldItem) → self.new.marks.items ++ beginnings self.new.by self.new.before rest
-            ≡ self.old.marks.items ++ beginnings self.old.by self.old.before ((id, item.now) ∷ rest)) }
+    #[inline(always)]
+    pub(crate) fn take(&mut self, by: By, id: ItemId, item: &Item) -> Result<(), NoMemory>
+        ensures { OnOk result ((rest : List HeldItem) → self.new.marks.items ++ beginnings by self.new.before rest
+            ≡ self.old.marks.items ++ beginnings by self.old.before ((id, item.now) ∷ rest)) }
     {
-        let group = self.by.group(item);
+        let group = by.group(item);
         if begins(self.before, group) {
             self.marks.push(Mark { group, id })?;
         }
@@ -56,8 +53,8 @@ impl Beginnings {
     ///
     /// A sort of the marks.
     pub(crate) fn end(self, alloc: Global) -> Result<Marks, NoMemory>
-        ensures { IfOk result (λ new. (es : List HeldItem) → IsStrictlySortedBy id_cmp (keys_of es)
-            → self.marks.items ≡ beginnings self.by None es → AreRuns self.by es new) }
+        ensures { IfOk result (λ new. (by : By) (es : List HeldItem) → IsStrictlySortedBy id_cmp (keys_of es)
+            → self.marks.items ≡ beginnings by None es → AreRuns by es new) }
     {
         let Beginnings { mut marks, .. } = self;
         marks.sort_unstable();

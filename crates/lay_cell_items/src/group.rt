@@ -79,8 +79,8 @@ pub(crate) fn begins(before: Option<Group>, group: Group) -> bool
     ensures { result ≡ begins before group }
 {
     match before {
-        Some(before) => before != group,
-        None => true,
+        Some(before) if before == group => false,
+        _ => true,
     }
 }
 

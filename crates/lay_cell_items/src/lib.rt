@@ -7,16 +7,20 @@
 //! goes over those of a cell, [`Shapes`] over those of a layer, and [`Calls`] over the calls
 //! (`lay_layouts/specs/Lent.antt`).
 //!
+//! [`ItemsBuilder`] takes items one after another, and makes their pages and the marks of their runs.
+//!
 //! Each item that begins a run has a mark, and each mark is that of an item, with its group. One that no longer
 //! begins a run may keep its mark: where the item before it has gone, nothing else is read or written for it.
 #![tactic(auto)]
 
 mod beginnings;
+mod builder;
 mod group;
 mod iter;
 mod marks;
 mod runs;
 
+pub use builder::ItemsBuilder;
 pub use group::{By, Group};
 pub use iter::{Calls, Entries, Items, Shapes};
 pub use marks::{Mark, Marks};

@@ -6,7 +6,6 @@ ghost use Rattle.lay_page.specs.Written.{after_write};
 ghost use Rattle.lay_cell_items.specs.Runs.{AreHeld};
 ghost use Rattle.lay_layouts.specs.Ids.{id_cmp};
 
-use crate::beginnings::Beginnings;
 use crate::group::By;
 use crate::marks::{Marks, site_of, written};
 use lay_layouts::{Item, ItemId};
@@ -32,26 +31,6 @@ impl Runs {
             cells: Pages::new(alloc),
             layers: Pages::new(alloc),
         }
-    }
-
-    /// Returns the runs of these items.
-    ///
-    /// # Cost
-    ///
-    /// A pass over the items, and a sort of the marks.
-    pub fn of(alloc: Global, items: &Pages<ItemId, Item>) -> Result<Runs, NoMemory>
-        requires { IsStrictlySortedBy id_cmp (keys_of items.now) }
-        ensures { IfOk result (λ runs. AreHeld items.now runs.cells runs.layers) }
-    {
-        let mut cells = Beginnings::new(alloc, By::Cell);
-        let mut layers = Beginnings::new(alloc, By::Layer);
-        for (id, item) in items.iter() {
-            cells.take(id, item)?;
-            layers.take(id, item)?;
-        }
-        let cells = cells.end(alloc)?;
-        let layers = layers.end(alloc)?;
-        Ok(Runs { cells, layers })
     }
 
     /// Returns the runs after a write: under the id is this item from then on, or none.

@@ -6,8 +6,9 @@ ghost use Rattle.lay_cell_items.specs.Written.{written_entries};
 ghost use Rattle.lay_items.specs.Entries.{merged};
 ghost use Rattle.lay_layouts.specs.Ids.{id_cmp};
 
+use lay_cell_items::ItemsBuilder;
 use lay_layouts::{Item, ItemId};
-use lay_pages::{Kept, PageKey, Pages, PagesBuilder, around};
+use lay_pages::{Pages, around};
 use lay_point::{Given, NoMemory};
 use std::alloc::Global;
 
@@ -29,24 +30,19 @@ pub(crate) fn listed(alloc: Global, items: &Pages<ItemId, Item>) -> Result<Vec<E
     Ok(entries)
 }
 
-/// Returns the pages of entries in order.
+/// Takes the entries one after another.
 ///
 /// # Cost
 ///
 /// A pass over the entries.
-pub(crate) fn paged<K: PageKey, V: Kept>(
-    alloc: Global,
-    entries: Vec<(K, V)>,
-) -> Result<Pages<K, V>, NoMemory>
-    requires { IsStrictlySortedBy K.cmp (keys_of entries.items) }
-    ensures { IfOk result (λ pages. pages ≡ entries.items) }
+pub(crate) fn taken(alloc: Global, entries: Vec<Entry>) -> Result<ItemsBuilder, NoMemory>
+    ensures { IfOk result (λ items. items ≡ entries.items) }
 {
-    let mut pages = PagesBuilder::new(alloc);
-    for (key, value) in Given::of(entries) {
-        pages.push(alloc, key, value)?;
+    let mut items = ItemsBuilder::new(alloc);
+    for (id, item) in Given::of(entries) {
+        items.push(alloc, id, item)?;
     }
-    let pages = pages.build(alloc)?;
-    Ok(pages)
+    Ok(items)
 }
 
 /// Returns the entries after these writes, which are in order of their ids.

@@ -10,10 +10,10 @@ ghost use Rattle.lay_layouts.specs.LayoutWith.{numbered_from};
 ghost use Rattle.lay_layouts.specs.Lent.{calls_lent, shapes_among};
 ghost use Rattle.lay_layouts.specs.SameLayout.{items_eq};
 
-use crate::entries::{listed, merged, paged};
+use crate::entries::{listed, merged, taken};
 use crate::numbered::NumberedItems;
 use lay_calls::CellId;
-use lay_cell_items::{Calls, Entries, Items, Runs, Shapes};
+use lay_cell_items::{Calls, Entries, Items, ItemsBuilder, Runs, Shapes};
 use lay_layouts::{Item, ItemId, Pages, are_same_pages};
 use lay_point::{LayerName, NoMemory};
 use std::alloc::Global;
@@ -60,15 +60,15 @@ impl ItemMap {
     pub(crate) fn of_numbered(alloc: Global, items: NumberedItems) -> Result<ItemMap, NoMemory>
         ensures { IfOk result (λ numbered. numbered ≡ map_of_items (numbered_from 1 items)) }
     {
-        ItemMap::of(alloc, items.build(alloc)?)
+        ItemMap::of(alloc, items.entries())
     }
 
     /// Returns the map of these items.
-    fn of(alloc: Global, items: Pages<ItemId, Item>) -> Result<ItemMap, NoMemory>
+    fn of(alloc: Global, items: ItemsBuilder) -> Result<ItemMap, NoMemory>
         requires { IsStrictlySortedBy id_cmp (keys_of items) }
         ensures { IfOk result (λ map. map ≡ map_of_items items) }
     {
-        let runs = Runs::of(alloc, &items)?;
+        let (items, runs) = items.build(alloc)?;
         Ok(ItemMap { items, runs })
     }
 
@@ -153,7 +153,7 @@ impl ItemMap {
     {
         let entries = listed(alloc, &self.items)?;
         let entries = merged(alloc, &entries, writes)?;
-        let new = ItemMap::of(alloc, paged(alloc, entries)?)?;
+        let new = ItemMap::of(alloc, taken(alloc, entries)?)?;
         Ok(new)
     }
 

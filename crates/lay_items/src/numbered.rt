@@ -2,7 +2,8 @@
 ghost use Rattle.std.specs.Prelude.{◌≡◌, ◌++◌, [], ◌∷◌, IfOk, OnOk};
 ghost use Rattle.lay_layouts.specs.LayoutWith.{numbered_from, text_id};
 
-use lay_layouts::{Item, ItemId, Pages, PagesBuilder, one_more};
+use lay_cell_items::ItemsBuilder;
+use lay_layouts::{Item, ItemId, one_more};
 use lay_point::NoMemory;
 use std::alloc::Global;
 use std::marker::Model;
@@ -11,7 +12,7 @@ use std::marker::Model;
 /// first. Contracts see the list of the items.
 #[derive(Drop)]
 pub struct NumberedItems {
-    pages: PagesBuilder<ItemId, Item>,
+    items: ItemsBuilder,
     /// How many there are.
     count: u32,
 }
@@ -23,9 +24,9 @@ impl Model for NumberedItems {
 
     ghost Value = { List Item };
 
-    ghost view = { λ n. items_under n.pages };
+    ghost view = { λ n. items_under n.items };
 
-    ghost invariant = { λ n. AreNumbered n.pages n.count };
+    ghost invariant = { λ n. AreNumbered n.items n.count };
 }
 
 impl NumberedItems {
@@ -34,7 +35,7 @@ impl NumberedItems {
         ensures { result ≡ [] }
     {
         NumberedItems {
-            pages: PagesBuilder::new(alloc),
+            items: ItemsBuilder::new(alloc),
             count: 0,
         }
     }
@@ -45,24 +46,23 @@ impl NumberedItems {
         ensures { OnOk result (self.new ≡ self.old ++ (item ∷ [])) }
     {
         let count = one_more(self.count)?;
-        match self.pages.push(alloc, text_id(count), item) {
+        match self.items.push(alloc, text_id(count), item) {
             Ok(()) => {
                 self.count = count;
                 Ok(())
             }
             Err(error) => {
                 *self = NumberedItems::new(alloc);
-                Err(error.into())
+                Err(error)
             }
         }
     }
 
     /// Returns the items under their ids.
-    pub(crate) fn build(self, alloc: Global) -> Result<Pages<ItemId, Item>, NoMemory>
-        ensures { IfOk result (λ pages. pages ≡ numbered_from 1 self) }
+    pub(crate) fn entries(self) -> ItemsBuilder
+        ensures { result ≡ numbered_from 1 self }
     {
-        let pages = self.pages.build(alloc)?;
-        Ok(pages)
+        self.items
     }
 }
 

@@ -1,9 +1,12 @@
 //! Tests of what no clause says: that an item behind one of its own group has no mark.
 ghost use Rattle.std.specs.Prelude.{IfOk};
+ghost use Rattle.std.specs.List.Sorted.{IsStrictlySortedBy};
+ghost use Rattle.std.specs.Map.{keys_of};
 ghost use Rattle.lay_cell_items.specs.Runs.{AreHeld};
+ghost use Rattle.lay_layouts.specs.Ids.{id_cmp};
 
 use lay_calls::CellId;
-use lay_cell_items::Runs;
+use lay_cell_items::{ItemsBuilder, Runs};
 use lay_items::{Item, ItemId, Rings};
 use lay_pages::Pages;
 use lay_point::{LayerName, Point, Ring};
@@ -62,6 +65,18 @@ fn boxes(alloc: Global, mut held: Held, first: u32, layer: &[u8]) -> Result<Held
     Ok(held)
 }
 
+/// Returns the runs of the items as they are taken one after another.
+fn runs_of(alloc: Global, items: &Pages<ItemId, Item>) -> Result<Runs, Fail>
+    requires { IsStrictlySortedBy id_cmp (keys_of items.now) }
+{
+    let mut taken = ItemsBuilder::new(alloc);
+    for (id, item) in items.iter() {
+        taken.push(alloc, id, item.clone()?)?;
+    }
+    let (_, runs) = taken.build(alloc)?;
+    Ok(runs)
+}
+
 /// Returns how many runs are marked by cell, and by layer.
 fn counts(held: &Held) -> (usize, usize) {
     (held.runs.cells.len(), held.runs.layers.len())
@@ -91,7 +106,7 @@ fn items_of_one_group_that_follow_each_other_have_one_mark(rt: HostRuntime) -> R
 fn the_runs_of_a_text_are_marked_once_each(rt: HostRuntime) -> Result<(), Fail> {
     let alloc = rt.alloc();
     let held = boxes(alloc, boxes(alloc, none(alloc), 0, b"A")?, 100, b"B")?;
-    let runs = Runs::of(alloc, &held.items)?;
+    let runs = runs_of(alloc, &held.items)?;
     assert!(rt; runs.cells.len() == 1 && runs.layers.len() == 2);
     Ok(())
 }

@@ -10,7 +10,7 @@ paged-requires c =
     c.dedup.ensures.filtered
 
 pub returns : goal.returns
-returns c = λ es sorted are.
-    subst (λ (ms : MarkList). AreRuns c.args.self.by es ms) (sym c.in_ok-marks.ensures)
-    (runs_made matches_eq-law c.args.self.marks.items c.sort_unstable.new.self.items c.dedup.new.self.items c.args.self.by es sorted are
+returns c = λ by es sorted are.
+    subst (λ (ms : MarkList). AreRuns by es ms) (sym c.in_ok-marks.ensures)
+    (runs_made matches_eq-law c.args.self.marks.items c.sort_unstable.new.self.items c.dedup.new.self.items by es sorted are
     c.sort_unstable.ensures.permutation c.sort_unstable.ensures.sorted c.dedup.ensures.filtered)

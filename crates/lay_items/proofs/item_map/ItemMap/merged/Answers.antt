@@ -15,20 +15,11 @@ merged-requires c =
     subst (λ (es : List (ItemId × Item)). IsStrictlySortedBy id_cmp (keys_of es)) (sym (c.deref.ensures.value ∙ c.in_ok-entries.ensures))
     c.self.invariant.ids
 
-pub paged-requires : goal.paged-requires
-paged-requires c =
-    let own = c.self.inside.items in
-    let new : c.in_ok-entries-2.entries.items ≡ merged own c.args.writes.now =
-    c.in_ok-entries-2.ensures
-    ∙ ap (λ (es : List (ItemId × Item)). merged es c.args.writes.now) (c.deref.ensures.value ∙ c.in_ok-entries.ensures) in
-    subst (λ (es : List (ItemId × Item)). IsStrictlySortedBy id_cmp (keys_of es)) (sym new)
-    (sorted-merged own c.args.writes.now c.self.invariant.ids c.requires)
-
 pub of-requires : goal.of-requires
 of-requires c =
     let own = c.self.inside.items in
-    let new : c.in_ok-paged.field-0 ≡ merged own c.args.writes.now =
-    c.in_ok-paged.ensures ∙ c.in_ok-entries-2.ensures
+    let new : c.in_ok-taken.field-0 ≡ merged own c.args.writes.now =
+    c.in_ok-taken.ensures ∙ c.in_ok-entries-2.ensures
     ∙ ap (λ (es : List (ItemId × Item)). merged es c.args.writes.now) (c.deref.ensures.value ∙ c.in_ok-entries.ensures) in
     subst (λ (es : List (ItemId × Item)). IsStrictlySortedBy id_cmp (keys_of es)) (sym new)
     (sorted-merged own c.args.writes.now c.self.invariant.ids c.requires)
@@ -36,8 +27,8 @@ of-requires c =
 pub returns : goal.returns
 returns c =
     let own = c.self.inside.items in
-    let new : c.in_ok-paged.field-0 ≡ merged own c.args.writes.now =
-    c.in_ok-paged.ensures ∙ c.in_ok-entries-2.ensures
+    let new : c.in_ok-taken.field-0 ≡ merged own c.args.writes.now =
+    c.in_ok-taken.ensures ∙ c.in_ok-entries-2.ensures
     ∙ ap (λ (es : List (ItemId × Item)). merged es c.args.writes.now) (c.deref.ensures.value ∙ c.in_ok-entries.ensures) in
     c.in_ok-new.ensures ∙ ap map_of_items new ∙ merged-is own c.args.writes.now c.requires
     ∙ ap (λ (m : FinMap id_cmp Item). put_all m c.args.writes.now) c.self.view_is
