@@ -22,7 +22,7 @@ impl FromCif for Snapshot {
     ///
     /// # Cost
     ///
-    /// A pass over the elements, one over the items, and a sort of where runs of a cell or a layer begin.
+    /// A pass over the elements, and a sort of where runs of a cell or a layer begin.
     fn from_cif(alloc: Global, file: CifFile) -> Result<Snapshot, NoMemory>
         ensures { IsAnswer (record {}) result (Ok (layout_of file)) }
     {

@@ -15,6 +15,7 @@ use Rattle.std.specs.Option.{MatchOption}
 use Rattle.std.specs.Ordering.{is_eq, is_lt, nat_cmp, ordering_then}
 use Rattle.std.proofs.lemmas.Bool.Decides.{Decides-eqb}
 use Rattle.std.proofs.lemmas.Cmp.{tied_itself}
+use Rattle.std.proofs.lemmas.List.Elements.{filter-append}
 use Rattle.lay_page.specs.Written.{from_key}
 use Rattle.lay_page.proofs.OrderLemmas.{sorted-kept}
 use Rattle.lay_page.proofs.PlaceLemmas.{sorted-right}
@@ -36,14 +37,6 @@ use Rattle.lay_cell_items.specs.Runs.{marks_exact, marks_total, next_mark, of_gr
 pub all_weaker : {A : Type 0} (P Q : A → Type 0) → ((a : A) → P a → Q a) → (xs : List A) → AllByRecursion P xs → AllByRecursion Q xs
 all_weaker P Q h [] all = tt
 all_weaker P Q h (x ∷ xs) all = (h x all.0, all_weaker P Q h xs all.1)
-
-filter_append : {A : Type 0} (p : A → Bool) (xs ys : List A) → filter p (xs ++ ys) ≡ filter p xs ++ filter p ys
-filter_append p [] ys = refl
-filter_append {A} p (x ∷ xs) ys = cases (p x) (filter_append p xs ys) where
-  cases : (b : Bool) → filter p (xs ++ ys) ≡ filter p xs ++ filter p ys
-      → cond b (x ∷ filter p (xs ++ ys)) (filter p (xs ++ ys)) ≡ cond b (x ∷ filter p xs) (filter p xs) ++ filter p ys
-  cases true rest = ap (λ zs. x ∷ zs) rest
-  cases false rest = rest
 
 filter_none : {A : Type 0} (p : A → Bool) (xs : List A) → AllByRecursion (λ x. p x ≡ false) xs → filter p xs ≡ []
 filter_none p [] all = refl
@@ -77,7 +70,7 @@ not_true : (b : Bool) → not b ≡ true → b ≡ false
 not_true true h = absurd cc
 not_true false h = refl
 
-less : (o : Ordering) → is_lt o ≡ true → o ≡ Less
+pub less : (o : Ordering) → is_lt o ≡ true → o ≡ Less
 less Less h = refl
 less Equal h = absurd cc
 less Greater h = absurd cc
@@ -328,7 +321,7 @@ jump : (kind : By) (group : Group) (id : ItemId) (marks : MarkList) (front rest 
     → AllByRecursion (λ e. same_group (group_in kind e.1) group ≡ true → passes (next_mark group id marks) e.0 ≡ true) rest
     → IsJump kind group (front ++ rest) rest (from_mark (next_mark group id marks) (front ++ rest))
 jump kind group id marks front rest sorted runs before all = record {
-  same = sym (ap (filter of) (is ∙ filter_append p front rest
+  same = sym (ap (filter of) (is ∙ filter-append p front rest
       ∙ ap (λ es. es ++ filter p rest) (filter_none p front (all_weaker (λ e. is_lt (id_cmp e.0 id) ≡ true) (λ e. p e ≡ false)
       (λ e. below_next group id marks next are e.0) front before)))
       ∙ filter_both of p rest all);

@@ -34,6 +34,7 @@ impl Beginnings {
     }
 
     /// Takes an item behind those before. With the marks of any that are left they are the same marks.
+    // Inlined, so that what the items are grouped by is known there.
     #[inline(always)]
     pub(crate) fn take(&mut self, by: By, id: ItemId, item: &Item) -> Result<(), NoMemory>
         ensures { OnOk result ((rest : List HeldItem) → self.new.marks.items ++ beginnings by self.new.before rest

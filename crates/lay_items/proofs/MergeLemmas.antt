@@ -11,7 +11,7 @@ use Rattle.std.specs.Map.{keys_of}
 use Rattle.std.specs.Ordering.{eq_by_cmp, is_eq, is_lt, ordering_reverse}
 use Rattle.std.proofs.lemmas.List.{at_drop_more}
 use Rattle.lay_cell_items.specs.Written.{higher, lower, written_entries}
-use Rattle.lay_cell_items.proofs.RunLemmas.{all_weaker}
+use Rattle.lay_cell_items.proofs.RunLemmas.{all_weaker, less}
 use Rattle.lay_layouts.specs.declared.id.ItemId.{ItemId}
 use Rattle.lay_layouts.specs.declared.item.Item.{Item}
 use Rattle.lay_items.specs.Entries.{merged}
@@ -90,11 +90,6 @@ merged-is es ws rising = same_map ids_total ids_exact _ _ (λ q.
     ∙ ap (latest ws q) (sym (get-from_entries ids_total es q)) ∙ sym (get-put_all (map_of_items es) ws q))
 
 -- ---- their order
-
-less : (o : Ordering) → is_lt o ≡ true → o ≡ Less
-less Less h = refl
-less Equal h = absurd cc
-less Greater h = absurd cc
 
 module _ (p : ItemId → Bool) where
   abbrev kept : List (ItemId × Item) → List (ItemId × Item)

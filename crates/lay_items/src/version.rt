@@ -56,7 +56,7 @@ impl Version {
     ///
     /// # Cost
     ///
-    /// Two passes over the items, and a sort of where runs of a cell or a layer begin.
+    /// A pass over the items, and a sort of where runs of a cell or a layer begin.
     pub fn of_parts(alloc: Global, symbols: &Cells, items: Vec<Item>) -> Result<Version, NoMemory>
         ensures { IsAnswer (record {}) result (Ok (layout_with symbols.now items.items)) }
     {
@@ -193,8 +193,8 @@ impl Version {
     /// # Cost
     ///
     /// Where few items are written each makes a page, its book and the list of the books anew, of the items
-    /// and of the marks of runs where runs begin or end; where many are, all pages are made anew in one pass. Where symbols are
-    /// written, each makes a page of theirs anew, and the list of their numbers is copied.
+    /// and of the marks of runs where runs begin or end; where many are, all pages are made anew in one pass. Where
+    /// symbols are written, each makes a page of theirs anew, and the list of their numbers is copied.
     pub fn with(
         &self,
         alloc: Global,
