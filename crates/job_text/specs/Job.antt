@@ -1,7 +1,7 @@
 -- Jobs: a CIF text between the line `%cif` and the first section, the steps of the sessions, and the order of the steps.
-use Rattle.std.specs.Prelude.{ℕ, ◌+◌, List, [], ◌∷◌, ◌++◌, codes, length, count_by, replicate, Bool, true, false, ◌&&◌, ◌||◌, ◌==◌}
+use Rattle.std.specs.Prelude.{ℕ, ◌+◌, List, [], ◌∷◌, ◌++◌, codes, length, count_by, replicate, Bool, true, false, ◌&&◌, ◌==◌}
 use Rattle.std.specs.Prelude.{nat_eq, nat_lt, if◌then◌else◌, unwrap_or, Option, None, Some, Result, Ok, Err}
-use Rattle.std.specs.List.{list_all, starts_with}
+use Rattle.std.specs.List.{list_all}
 use Rattle.std.specs.Option.{ok_or, option_eq}
 use Rattle.std.specs.Str.{bytes_eq}
 use Rattle.job_text.specs.declared.job.JobFault.{JobFault}
@@ -11,6 +11,7 @@ use Rattle.job_text.specs.Jobs.{Job}
 use Rattle.byte_io.specs.Lines.{lines}
 use Rattle.job_text.specs.Steps.{step_of}
 use Rattle.byte_io.specs.Numbers.{is_number, parsed_number}
+use Rattle.job_lines.specs.Text.{Place, sections_of, text_of}
 use Rattle.job_lines.specs.Words.{words_of}
 
 -- the step that follows takes what this one gives, and nothing follows a fault
@@ -18,10 +19,6 @@ infixl 10 ◌>>=◌
 abbrev pub ◌>>=◌ : {A B : Type 0} → Result A JobFault → (A → Result B JobFault) → Result B JobFault
 (Ok x) >>= f = f x
 (Err e) >>= f = Err e
-
--- lines of a job, and the number of the first of them, counted from 1
-abbrev pub Place : Type 0
-Place = ℕ × List (List ℕ)
 
 -- whether there is no word
 abbrev pub is_none_of : List (List ℕ) → Bool
@@ -39,20 +36,6 @@ head_of number [] = Err (Line 1)
 head_of number (line ∷ behind) =
     if is_none_of (words_of line) then head_of (number + 1) behind
     else if is_only (codes "%cif") (words_of line) then Ok (number + 1, behind) else Err (Line number)
-
--- whether the line ends the CIF text
-abbrev pub is_section : List ℕ → Bool
-is_section line = starts_with nat_eq line (codes "%session") || starts_with nat_eq line (codes "%order")
-
--- the lines before the first section, joined
-abbrev pub text_of : List (List ℕ) → List ℕ
-text_of [] = []
-text_of (line ∷ behind) = if is_section line then [] else line ++ text_of behind
-
--- what stands from the first section on
-abbrev pub sections_of : ℕ → List (List ℕ) → Place
-sections_of number [] = (number, [])
-sections_of number (line ∷ behind) = if is_section line then (number, line ∷ behind) else sections_of (number + 1) behind
 
 -- whether the word spells this number of a session
 abbrev pub is_session_number : ℕ → List ℕ → Bool

@@ -1,9 +1,9 @@
 //! Jobs, and the reading of them.
-ghost use Rattle.std.specs.Prelude.{◌≡◌, ◌<◌, ◌+◌, ◌++◌, ◌≤◌, [], IfOk, OnOk, length, option_to_list};
+ghost use Rattle.std.specs.Prelude.{◌≡◌, ◌<◌, ◌+◌, ◌≤◌, IfOk, length};
 ghost use Rattle.std.specs.Result.{result_map_both};
 ghost use Rattle.lay_point.specs.Memory.{IsAnswer};
 ghost use Rattle.job_text.specs.declared.job.JobFault.TheVariants.{Line, NoMemory as OutOfMemory};
-ghost use Rattle.job_text.specs.Job.{head_of, is_none_of, is_only, is_section, job_of, sections_job, sections_of, text_of};
+ghost use Rattle.job_text.specs.Job.{head_of, is_only, job_of, sections_job};
 ghost use Rattle.byte_io.specs.Lines.{lines};
 ghost use Rattle.job_lines.specs.Words.{words};
 
@@ -11,6 +11,7 @@ use crate::order_section::order_at;
 use crate::scripts::sections_at;
 use crate::words::{is_blank, split_word};
 use byte_io::{content, split_line};
+use job_lines::{Place, split_text};
 use lay_point::{NoMemory, Sequence};
 use session_steps::Step;
 use std::alloc::Global;
@@ -59,9 +60,6 @@ impl<'a> Model for Job<'a> {
 
     ghost view = { λ job. record { cif = job.cif.now; scripts = job.scripts; order = job.order } };
 }
-
-/// Lines of a job, and the number of the first of them, counted from 1.
-pub(crate) type Place<'a> = (u32, &'a [u8]);
 
 impl<'a> Job<'a> {
     /// The job that the bytes spell, or its first fault. Any answer but that of a job that is too long
@@ -132,32 +130,4 @@ pub(crate) fn is_only(name: &[u8], line: &[u8]) -> bool
         Some((word, behind)) => word == name && is_blank(behind),
         None => false,
     }
-}
-
-/// The bytes before the first section, then the bytes from there on and the number of their first line.
-fn split_text(number: u32, bytes: &[u8]) -> (&[u8], Place<'_>)
-    requires { number + length bytes.now ≤ MAX_JOB + 1 }
-    ensures text { result.0.now ≡ text_of (lines bytes.now) }
-    ensures sections { (result.1.0, lines result.1.1.now) ≡ sections_of number (lines bytes.now) }
-    ensures count { result.1.0 + length result.1.1.now ≤ MAX_JOB + 1 }
-{
-    let mut number = number;
-    let mut len = 0;
-    let mut rest = bytes;
-    while let Some((line, behind)) = split_line(rest) {
-        if is_section(line) {
-            return (&bytes[..len], (number, rest));
-        }
-        len += line.len();
-        number += 1;
-        rest = behind;
-    }
-    (bytes, (number, rest))
-}
-
-/// Returns whether the line ends the CIF text.
-fn is_section(line: &[u8]) -> bool
-    ensures { result ≡ is_section line.now }
-{
-    line.starts_with("%session".as_bytes()) || line.starts_with("%order".as_bytes())
 }

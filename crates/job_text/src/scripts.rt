@@ -7,10 +7,11 @@ ghost use Rattle.job_text.specs.Job.{Sections, is_only_number, is_session_line, 
 ghost use Rattle.byte_io.specs.Lines.{lines};
 ghost use Rattle.job_lines.specs.Words.{words};
 
-use crate::job::{JobFault, MAX_JOB, Place, is_only};
+use crate::job::{JobFault, MAX_JOB, is_only};
 use crate::step_line::step_of;
 use crate::words::{MAX_SESSION, is_blank, split_word};
 use byte_io::{content, number_of, split_line};
+use job_lines::Place;
 use lay_point::{NoMemory, Sequence};
 use session_steps::Step;
 use std::alloc::Global;
