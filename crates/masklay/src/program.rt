@@ -27,6 +27,7 @@ use output::{write_given, write_stop};
 use reading::{ReadFault, read_all};
 pub use status::Status;
 use std::alloc::Global;
+use std::mem;
 use std::sync::Wait;
 use std::thread::Threads;
 use telling::{tell_of_layout, tell_of_stop};
@@ -76,6 +77,8 @@ fn write_output<O: Out, E: Out>(
         Ok(given) => {
             let status = write_given(alloc, &given, out);
             tell_of_layout(alloc, &given, status, errors);
+            // The program ends now, and the system takes all its memory at once.
+            mem::forget(given);
             status
         }
         Err(stop) => {
