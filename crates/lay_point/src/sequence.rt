@@ -1,6 +1,7 @@
 //! Owned sequences that contracts see as lists.
-ghost use Rattle.std.specs.Prelude.{◌≡◌};
+ghost use Rattle.std.specs.Prelude.{◌≡◌, ◌++◌, ◌∷◌, [], OnErr, OnOk};
 
+use crate::memory::NoMemory;
 use std::marker::Model;
 
 /// An owned sequence. Contracts see the list of its elements.
@@ -41,6 +42,17 @@ impl<T> Sequence<T> {
     {
         let Sequence { items } = self;
         items
+    }
+}
+
+impl<T: Drop> Sequence<T> {
+    /// Puts an element behind the others.
+    pub fn push(&mut self, element: T) -> Result<(), NoMemory>
+        ensures ok { OnOk result (self.new ≡ self.old ++ (element ∷ [])) }
+        ensures err { OnErr result (self.new ≡ self.old) }
+    {
+        self.items.push(element)?;
+        Ok(())
     }
 }
 
