@@ -43,9 +43,8 @@ impl<T: Drop> Iterator for Given<T> {
     ghost remaining = { item_count (λ left. left) };
 
     fn next(&mut self) -> Option<T> {
-        let item = self.turned.pop()?;
         give_back(&mut self.turned);
-        Some(item)
+        self.turned.pop()
     }
 }
 
