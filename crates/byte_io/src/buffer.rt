@@ -49,6 +49,8 @@ impl OutBuffer {
     }
 
     /// Puts the bytes behind those that are held back.
+    // Inlined, so that a few bytes whose number is known there are put without a call.
+    #[inline(always)]
     pub fn put<O: Out>(&mut self, out: &mut O, bytes: &[u8])
         ensures { Buffered O.written O.failures out.old self.old out.new self.new bytes.now }
     {
@@ -110,6 +112,7 @@ impl OutBuffer {
     }
 
     /// Holds the bytes back where there is room for them, and returns whether there was.
+    #[inline(always)]
     fn hold(&mut self, bytes: &[u8]) -> bool
         ensures { self.new ≡ (if result then held_with self.old bytes.now else self.old) }
     {
