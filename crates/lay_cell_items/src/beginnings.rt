@@ -43,8 +43,8 @@ impl Beginnings {
         let group = by.group(item);
         if begins(self.before, group) {
             self.marks.push(Mark { group, id })?;
+            self.before = Some(group);
         }
-        self.before = Some(group);
         Ok(())
     }
 

@@ -1,7 +1,7 @@
 //! The groups that items are of.
 ghost use Rattle.std.specs.Prelude.{◌≡◌};
 ghost use Rattle.lay_cell_items.specs.Runs.{begins, call_group, cell_group, cell_key, group_in, layer_group};
-ghost use Rattle.lay_cell_items.specs.Runs.{layer_tag, tag_of};
+ghost use Rattle.lay_cell_items.specs.Runs.{layer_tag, same_group, tag_of};
 
 use lay_layouts::{CellId, Item};
 use lay_point::LayerName;
@@ -30,13 +30,26 @@ impl By {
     pub(crate) fn group(self, item: &Item) -> Group
         ensures { result ≡ group_in self item.now }
     {
-        let cell = cell_key(item.cell());
+        Group {
+            cell: cell_key(item.cell()),
+            tag: self.tag(item),
+        }
+    }
+
+    /// Returns whether an item is of the group. By cell it doesn't look at the layer.
+    pub(crate) fn is_in(self, item: &Item, group: Group) -> bool
+        ensures { result ≡ same_group (group_in self item.now) group }
+    {
+        cell_key(item.cell()) == group.cell && self.tag(item) == group.tag
+    }
+
+    /// Returns the tag of an item's group.
+    fn tag(self, item: &Item) -> u32
+        ensures { result ≡ (group_in self item.now).tag }
+    {
         match self {
-            By::Cell => Group { cell, tag: 0 },
-            By::Layer => Group {
-                cell,
-                tag: tag_of(item),
-            },
+            By::Cell => 0,
+            By::Layer => tag_of(item),
         }
     }
 }

@@ -146,7 +146,7 @@ impl<'a> Iterator for OfGroup<'a> {
 
     fn next(&mut self) -> Option<(ItemId, &'a Item)> {
         let (id, item) = self.rest.next()?;
-        if self.by.group(item) == self.group {
+        if self.by.is_in(item, self.group) {
             return Some((id, item));
         }
         self.rest = from_next(self.items, self.marks, self.group, id);

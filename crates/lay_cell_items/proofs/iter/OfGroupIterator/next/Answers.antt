@@ -1,12 +1,11 @@
 use Rattle.std.proofs.Common.{◌≡◌, ◌∙◌, false, List, ◌∷◌, ap, subst, sym}
-use Rattle.lay_cell_items.specs.declared.group.Group.{Group}
 use Rattle.lay_cell_items.specs.Runs.{AreLent, HeldItem, group_in, of_group, same_group}
 use Rattle.lay_cell_items.proofs.RunLemmas.{IsJump, goes_on, jump_gives, lent_after, lent_jump, lent_tail, next_jump}
 use Rattle.lay_cell_items.proofs.iter.OfGroupIterator.next.Goals as goal
 
 -- the next item is of the group
-pub invariant_of-self-then-eq : goal.invariant_of-self-then-eq
-invariant_of-self-then-eq c =
+pub invariant_of-self-then-is_in : goal.invariant_of-self-then-is_in
+invariant_of-self-then-is_in c =
     let i = c.self.inside in
     lent_tail i.by i.marks.now i.items.now (c.in_ok-id.id, c.in_ok-id.item.now) c.next.new.self
     (subst (λ (es : List HeldItem). AreLent i.by i.marks.now i.items.now es) c.in_ok-id.ensures.steps c.self.invariant)
@@ -24,8 +23,7 @@ jump : (c : goal.After-next-2)
 jump c =
     let i = c.self.inside in
     let x : HeldItem = (c.in_ok-id.id, c.in_ok-id.item.now) in
-    let other : same_group (group_in i.by x.1) i.group ≡ false =
-    sym (c.eq.ensures ∙ ap (λ (g : Group). same_group g i.group) c.group.ensures) ∙ c.if-eq.false in
+    let other : same_group (group_in i.by x.1) i.group ≡ false = sym c.is_in.ensures ∙ c.if-is_in.false in
     subst (λ (es : List HeldItem). IsJump i.by i.group i.items.now (x ∷ c.next.new.self) es) (sym c.from_next-self-inside.ensures)
     (next_jump i.by i.group i.marks.now i.items.now x c.next.new.self (lent c) other)
 
