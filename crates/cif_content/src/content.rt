@@ -30,7 +30,6 @@ use cif_scan::{Class, skip};
 use lay_calls::{CellId, Cells, MAX_SYMBOL};
 use lay_point::{LayerName, NoMemory, Ring, Sequence, Turn};
 use std::alloc::Global;
-use std::mem;
 
 /// A definition that the text is in.
 #[derive(Clone, Copy, Debug)]
@@ -139,24 +138,20 @@ impl Content {
     }
 
     /// Adds an element.
-    fn add_figure(&mut self, alloc: Global, figure: Figure) -> Result<(), NoMemory>
+    fn add_figure(&mut self, figure: Figure) -> Result<(), NoMemory>
         ensures { OnOk result (self.new ≡ with_figure self.old figure) }
     {
         let cell = self.cell();
-        let kept = mem::replace(&mut self.elements, Sequence::from_vec(Vec::new(alloc)));
-        let mut elements = kept.into_vec();
-        elements.push(Element { cell, figure })?;
-        self.elements = Sequence::from_vec(elements);
-        Ok(())
+        self.elements.push(Element { cell, figure })
     }
 
     /// Draws a polygon on the layer, or counts one that is dropped.
-    fn draw(&mut self, alloc: Global, layer: LayerName, ring: Option<Ring>) -> Result<(), NoMemory>
+    fn draw(&mut self, layer: LayerName, ring: Option<Ring>) -> Result<(), NoMemory>
         requires { content_size self.old + 1 < 2 ^ 32 }
         ensures { OnOk result (self.new ≡ drawn self.old layer ring) }
     {
         match ring {
-            Some(ring) => self.add_figure(alloc, Figure::Polygon { layer, ring })?,
+            Some(ring) => self.add_figure(Figure::Polygon { layer, ring })?,
             None => self.dropped += 1,
         }
         Ok(())
@@ -175,7 +170,7 @@ impl Content {
         }
         let layer = self.layer.ok_or(FaultKind::NoLayer)?;
         let ring = polygon_ring(alloc, self.scale(), vertices.as_slice())?;
-        Ok(self.draw(alloc, layer, ring)?)
+        Ok(self.draw(layer, ring)?)
     }
 
     /// Adds the box behind a `B`.
@@ -194,7 +189,7 @@ impl Content {
         }
         let layer = self.layer.ok_or(FaultKind::NoLayer)?;
         let ring = box_ring(alloc, self.scale(), numbers)?;
-        Ok(self.draw(alloc, layer, ring)?)
+        Ok(self.draw(layer, ring)?)
     }
 
     /// Sets the layer behind an `L`.
@@ -269,30 +264,20 @@ impl Content {
             return Err(FaultKind::TooBig);
         }
         let turn = call_turn(self.scale(), changes)?;
-        Ok(self.call(alloc, offset, call.symbol, turn)?)
+        Ok(self.call(offset, call.symbol, turn)?)
     }
 
     /// Calls the symbol of this number, turned.
-    fn call(
-        &mut self,
-        alloc: Global,
-        offset: usize,
-        target: u32,
-        turn: Turn,
-    ) -> Result<(), NoMemory>
+    fn call(&mut self, offset: usize, target: u32, turn: Turn) -> Result<(), NoMemory>
         ensures { OnOk result (self.new ≡ called self.old offset target turn) }
     {
         let caller = self.cell();
-        self.add_figure(alloc, Figure::Call { target, turn })?;
-        let kept = mem::replace(&mut self.calls, Sequence::from_vec(Vec::new(alloc)));
-        let mut calls = kept.into_vec();
-        calls.push(Pending {
+        self.add_figure(Figure::Call { target, turn })?;
+        self.calls.push(Pending {
             offset,
             caller,
             target,
-        })?;
-        self.calls = Sequence::from_vec(calls);
-        Ok(())
+        })
     }
 }
 

@@ -10,7 +10,6 @@ use cif_scan::{Class, skip};
 use lay_calls::Cells;
 use lay_point::{NoMemory, Sequence};
 use std::alloc::Global;
-use std::mem;
 
 /// A line that is kept.
 #[derive(Debug, Drop)]
@@ -118,33 +117,23 @@ impl Names {
         match word {
             b"9" => {
                 let line = name_line(alloc, place.symbol, behind)?;
-                self.add(alloc, place.symbol, line)
+                self.add(place.symbol, line)
             }
             b"94" => {
                 let line = label_line(alloc, place, behind)?;
-                self.add(alloc, place.symbol, line)
+                self.add(place.symbol, line)
             }
             _ => Ok(()),
         }
     }
 
     /// Adds the line to those of the symbol, or counts one that is left out.
-    fn add(
-        &mut self,
-        alloc: Global,
-        symbol: Option<u32>,
-        line: Option<Sequence<u8>>,
-    ) -> Result<(), NoMemory>
+    fn add(&mut self, symbol: Option<u32>, line: Option<Sequence<u8>>) -> Result<(), NoMemory>
         ensures { OnOk result (self.new ≡ with_line self.old symbol line) }
     {
         match line {
             None => self.left_out = self.left_out.checked_add(1).ok_or(NoMemory)?,
-            Some(line) => {
-                let kept = mem::replace(&mut self.entries, Sequence::from_vec(Vec::new(alloc)));
-                let mut entries = kept.into_vec();
-                entries.push(Entry { symbol, line })?;
-                self.entries = Sequence::from_vec(entries);
-            }
+            Some(line) => self.entries.push(Entry { symbol, line })?,
         }
         Ok(())
     }
