@@ -1,11 +1,11 @@
 //! The elements of a text as items.
 ghost use Rattle.std.specs.Prelude.{◌≡◌, IfOk, Ok};
 ghost use Rattle.lay_point.specs.Memory.{IsAnswer};
-ghost use Rattle.cif_layout.specs.FromCif.{item_of, items_of_elements, layout_of};
+ghost use Rattle.cif_layout.specs.FromCif.{item_in, items_of_elements, layout_of};
 
 use cif_read::{CifFile, Element, Figure};
 use lay_items::{NumberedItems, Snapshot, Version};
-use lay_layouts::{Item, Rings};
+use lay_layouts::{CellId, Item, Rings};
 use lay_point::{Given, NoMemory};
 use std::alloc::Global;
 
@@ -39,17 +39,16 @@ fn numbered(alloc: Global, elements: Vec<Element>) -> Result<NumberedItems, NoMe
     ensures { IfOk result (λ items. items ≡ items_of_elements elements.items) }
 {
     let mut items = NumberedItems::new(alloc);
-    for element in Given::of(elements) {
-        items.push(alloc, item_of(alloc, element)?)?;
+    for Element { cell, figure } in Given::of(elements) {
+        items.push(alloc, item_in(alloc, cell, figure)?)?;
     }
     Ok(items)
 }
 
-/// Returns an element as an item.
-fn item_of(alloc: Global, element: Element) -> Result<Item, NoMemory>
-    ensures { IfOk result (λ item. item ≡ item_of element) }
+/// Returns a figure of a cell as an item.
+fn item_in(alloc: Global, cell: CellId, figure: Figure) -> Result<Item, NoMemory>
+    ensures { IfOk result (λ item. item ≡ item_in cell figure) }
 {
-    let Element { cell, figure } = element;
     match figure {
         Figure::Polygon { layer, ring } => Ok(Item::Shape {
             cell,
