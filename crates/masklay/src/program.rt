@@ -39,7 +39,8 @@ use telling::{tell_of_layout, tell_of_stop};
 /// desk, the job's own order plays no part, and the order that is written is that of the desk's log. With
 /// `oriented` the layout's shapes are directed before it is written, and where some stay as they were that is
 /// reported to `errors` too. With neither, the input and `named` alone decide the output. With `named` each
-/// symbol is written with the names and labels that it had in the job's text.
+/// symbol is written with the names and labels that it had in the job's text. The memory of a layout that was written
+/// isn't given back, since the program ends there.
 pub fn run<I: In, O: Out, E: Out>(
     rt: &(impl Threads + Wait + Sync),
     alloc: Global,
