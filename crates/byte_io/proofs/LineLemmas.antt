@@ -1,8 +1,11 @@
 -- Where the first line ends.
-use Rattle.std.proofs.Common.{◌≡◌, ℕ, suc, ◌+◌, ◌<◌, ltb, eqb, cond, true, false, Some, None, unwrap_or, option_map, List, [], ◌∷◌, drop}
+use Rattle.std.proofs.Common.{◌≡◌, ℕ, suc, ◌+◌, ◌<◌, ltb, eqb, cond, true, false, Option, Some, None, unwrap_or, option_map, List, [], ◌∷◌, drop}
 use Rattle.std.proofs.Common.{take, length, arith, sym, ap, ◌∙◌, refl}
-use Rattle.std.specs.List.{position_or_len}
+use Rattle.std.specs.List.{position, position_or_len}
+use Rattle.std.proofs.lemmas.Bool.{false_from_ne_true}
 use Rattle.std.proofs.lemmas.Bool.Decides.{nat_tests}
+use Rattle.std.proofs.lemmas.List.Sums.{position_or_len_is}
+use Rattle.memchr.specs.Find.{IsFirstByte, is_byte}
 use Rattle.byte_io.specs.Lines.{first_len, in_front, lines}
 
 -- a byte before the place and the end shifts both
@@ -49,3 +52,18 @@ first_line (b ∷ c ∷ bytes) some =
 -- a line has a byte or more
 pub first_len-some : (bytes : List ℕ) → 0 < length bytes → 0 < first_len bytes
 first_len-some bytes some = grind (arith, nat_tests)
+
+-- what a search for a byte finds is its place
+pub found_place : (byte : ℕ) (bytes : List ℕ) (found : Option ℕ) → IsFirstByte (is_byte byte) bytes found →
+    found ≡ position (is_byte byte) bytes
+found_place byte bytes None none =
+    let end : position_or_len (is_byte byte) bytes ≡ length bytes =
+    position_or_len_is (is_byte byte) bytes (length bytes) 0 (omega arith)
+    (λ k below. false_from_ne_true _ (none k (omega arith) below)) (λ within. absurd (omega (arith, within))) in
+    rw end (grind (arith, nat_tests))
+found_place byte bytes (Some place) first =
+    let within : place < length bytes = first.0.high in
+    let at : position_or_len (is_byte byte) bytes ≡ place =
+    position_or_len_is (is_byte byte) bytes place 0 (omega (arith, within))
+    (λ k below. false_from_ne_true _ (first.0.before k (omega arith) below)) (λ _. first.1) in
+    rw at (grind (arith, nat_tests))

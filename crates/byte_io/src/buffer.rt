@@ -48,8 +48,8 @@ impl OutBuffer {
         self.failed
     }
 
-    /// Puts the bytes behind those that are held back.
     // Inlined, so that a few bytes whose number is known there are put without a call.
+    /// Puts the bytes behind those that are held back.
     #[inline(always)]
     pub fn put<O: Out>(&mut self, out: &mut O, bytes: &[u8])
         ensures { Buffered O.written O.failures out.old self.old out.new self.new bytes.now }

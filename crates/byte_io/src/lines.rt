@@ -3,6 +3,8 @@ ghost use Rattle.std.specs.Prelude.{◌≡◌, ◌<◌, ◌==◌, ◌≤◌, [],
 ghost use Rattle.std.specs.List.{position};
 ghost use Rattle.byte_io.specs.Lines.{IsFirstLine, content, first_len, without_last};
 
+use memchr::memchr;
+
 /// Returns the first line of the bytes, with its newline, and what stands behind it. `None` where there is none.
 ///
 /// # Cost
@@ -37,7 +39,7 @@ pub fn place_of(bytes: &[u8], byte: u8) -> Option<usize>
     ensures value { result ≡ position (λ b. b == byte) bytes.now }
     ensures inside { IfSome result (λ n. n < length bytes.now) }
 {
-    bytes.iter().position(|b| *b == byte)
+    memchr(byte, bytes)
 }
 
 /// Returns the line without its newline, and without a carriage return before that.

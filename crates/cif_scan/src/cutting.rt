@@ -1,7 +1,8 @@
 //! Where a command ends.
-ghost use Rattle.std.specs.Prelude.{◌≡◌, ◌+◌, ◌<◌, ◌≤◌, ◌^◌, ◌==◌, IfSome, length};
-ghost use Rattle.std.specs.List.{position};
+ghost use Rattle.std.specs.Prelude.{◌≡◌, ◌+◌, ◌<◌, ◌≤◌, ◌^◌, IfSome, length};
 ghost use Rattle.cif_scan.specs.Cutting.{command_len, next_depth, semicolon_from};
+
+use byte_io::place_of;
 
 /// Returns how many bytes stand before the semicolon of the command at the start: the first one, or
 /// behind a parenthesis at the start, the first one behind that which closes it.
@@ -30,16 +31,8 @@ fn plain_len(behind: &[u8]) -> Option<usize>
     ensures value { result ≡ semicolon_from 1 0 behind.now }
     ensures within { IfSome result (λ len. len ≤ length behind.now) }
 {
-    let index = first_semicolon(behind)?;
+    let index = place_of(behind, b';')?;
     Some(index + 1)
-}
-
-/// Returns the index of the first semicolon.
-fn first_semicolon(bytes: &[u8]) -> Option<usize>
-    ensures value { result ≡ position (λ b. b == 59) bytes.now }
-    ensures within { IfSome result (λ index. index < length bytes.now) }
-{
-    bytes.iter().position(|byte| *byte == b';')
 }
 
 /// Returns how many bytes stand before the semicolon of the command that begins with a parenthesis, before

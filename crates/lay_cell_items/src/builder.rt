@@ -47,8 +47,8 @@ impl ItemsBuilder {
         }
     }
 
-    /// Puts an item after them, under its id. Where memory runs out, items may be lost.
     // Inlined, so that an item is made where it stays.
+    /// Puts an item after them, under its id. Where memory runs out, items may be lost.
     #[inline(always)]
     pub fn push(&mut self, alloc: Global, id: ItemId, item: Item) -> Result<(), NoMemory>
         ensures { OnOk result (self.new ≡ self.old ++ ((id, item) ∷ [])) }
