@@ -92,3 +92,8 @@ Buffered-written {written = written} {failures = failures} p = HasPut-written wr
 pub Buffered-failed : {S : Type 0} {written : S → Option (List ℕ)} {failures : S → ℕ} {a b : S} {xs : List ℕ}
     → Buffered written failures a (Some []) b None xs → WrotePrefix written failures a b xs
 Buffered-failed p = p.put
+
+-- a text that is put, written otherwise
+pub Buffered-is : {S : Type 0} {written : S → Option (List ℕ)} {failures : S → ℕ} {a b : S} {h k : Option (List ℕ)} {xs ys : List ℕ}
+    → Buffered written failures a h b k xs → xs ≡ ys → Buffered written failures a h b k ys
+Buffered-is {written = written} {failures = failures} {a = a} {b = b} {h = h} {k = k} p e = subst (Buffered written failures a h b k) e p

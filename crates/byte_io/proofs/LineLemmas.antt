@@ -1,6 +1,6 @@
 -- Where the first line ends.
-use Rattle.std.proofs.Common.{◌≡◌, ℕ, suc, ◌+◌, ◌<◌, ltb, eqb, cond, true, false, Option, Some, None, unwrap_or, option_map, List, [], ◌∷◌, drop}
-use Rattle.std.proofs.Common.{take, length, arith, sym, ap, ◌∙◌, refl}
+use Rattle.std.proofs.Common.{◌≡◌, ℕ, suc, ◌+◌, ◌<◌, ltb, eqb, cond, true, false, Option, Some, None, unwrap_or, option_map}
+use Rattle.std.proofs.Common.{List, [], ◌∷◌, drop, take, length, arith, sym, ap, ◌∙◌, refl}
 use Rattle.std.specs.List.{position, position_or_len}
 use Rattle.std.proofs.lemmas.Bool.{false_from_ne_true}
 use Rattle.std.proofs.lemmas.Bool.Decides.{nat_tests}

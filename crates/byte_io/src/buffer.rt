@@ -2,7 +2,9 @@
 ghost use Rattle.std.specs.Prelude.{◌≡◌, ◌∷◌, [], OnErr, OnOk, decimal, if◌then◌else◌, is_none};
 ghost use Rattle.std.specs.Fmt.{signed_decimal};
 ghost use Rattle.byte_io.specs.Buffered.{Buffered, held_with};
+ghost use Rattle.byte_io.specs.Decimal.{spaced_pair};
 
+use crate::decimal::{PAIR_LEN, write_spaced};
 use crate::device::{Out, OutFault, put_all};
 use arrayvec::ArrayVec;
 use itoa::Buffer;
@@ -83,6 +85,18 @@ impl OutBuffer {
     {
         let mut digits = Buffer::new();
         self.put(out, digits.format(integer).as_bytes());
+    }
+
+    /// Puts two integers' digits, a space before each, and after it a minus sign where one is negative. They are put as
+    /// one piece: most of the time of a few bytes goes with the number of pieces.
+    pub fn put_pair<O: Out>(&mut self, out: &mut O, first: i32, second: i32)
+        ensures { Buffered O.written O.failures out.old self.old out.new self.new
+            (spaced_pair first second) }
+    {
+        let mut text = [0; PAIR_LEN];
+        let behind = write_spaced(&mut text, PAIR_LEN, second);
+        let start = write_spaced(&mut text, behind, first);
+        self.put(out, &text[start..]);
     }
 
     /// Writes to the device what is held back.

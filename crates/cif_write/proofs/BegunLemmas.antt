@@ -34,8 +34,3 @@ module _ {S : Type 0} {written : S → Option (List ℕ)} {failures : S → ℕ}
   Begun-failed {a = a} {b = b} {h = h} {k = k} {rest = rest} p failed =
       let (done, put, all) = p.begun in
       subst (Buffered written failures a h b k) all (Buffered-dropped rest failed put)
-
--- a text that is put, written otherwise
-pub Buffered-is : {S : Type 0} {written : S → Option (List ℕ)} {failures : S → ℕ} {a b : S} {h k : Option (List ℕ)} {xs ys : List ℕ}
-    → Buffered written failures a h b k xs → xs ≡ ys → Buffered written failures a h b k ys
-Buffered-is {written = written} {failures = failures} {a = a} {b = b} {h = h} {k = k} p e = subst (Buffered written failures a h b k) e p

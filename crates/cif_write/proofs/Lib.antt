@@ -1,7 +1,6 @@
 pub mod BegunLemmas
 pub mod IdleLemmas
 pub mod LineLemmas
-pub mod PointLemmas
 pub mod UnusedLemmas
 pub mod WayLemmas
 pub mod WrapLemmas

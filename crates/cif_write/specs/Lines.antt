@@ -2,8 +2,8 @@
 -- Source: Caltech Intermediate Form 2.0 (Mead and Conway, Introduction to VLSI Systems, 1980): `DS`,
 -- `DF`, `L`, `P`, `C` with `M X`, `R` and `T`, `E`. That a command has a line and which blanks it has is this project's own.
 use Rattle.std.specs.Prelude.{ℕ, List, [], ◌++◌, Bool, codes, decimal, if◌then◌else◌, pos}
-use Rattle.std.specs.Fmt.{signed_decimal}
 use Rattle.std.specs.List.{flat_map}
+use Rattle.byte_io.specs.Decimal.{spaced_pair}
 use Rattle.lay_point.specs.declared.point.Point.{Point}
 use Rattle.lay_point.specs.declared.turn.Quarter.{Quarter}
 use Rattle.lay_point.specs.declared.turn.Quarter.TheVariants.{R0, R90, R180, R270}
@@ -26,7 +26,7 @@ pub data Line : Type 0 where
 
 -- the coordinates, a space before each
 abbrev pub point_text : Point → List ℕ
-point_text p = codes " " ++ signed_decimal p.x ++ codes " " ++ signed_decimal p.y
+point_text p = spaced_pair p.x p.y
 
 abbrev pub path_text : List Point → List ℕ
 path_text points = flat_map point_text points

@@ -1,7 +1,6 @@
 //! Points in decimal digits, and the one path round all rings of a shape, which is put without being
 //! made.
-ghost use Rattle.std.specs.Prelude.{◌≡◌, ◌+◌, ◌<◌, ◌≤◌, ◌∷◌, ◌++◌, drop};
-ghost use Rattle.std.specs.Fmt.{signed_decimal};
+ghost use Rattle.std.specs.Prelude.{◌≡◌, ◌∷◌};
 ghost use Rattle.byte_io.specs.Buffered.{Buffered};
 ghost use Rattle.lay_point.specs.Bridges.{bridged};
 ghost use Rattle.lay_point.specs.Rings.{closed};
@@ -9,7 +8,6 @@ ghost use Rattle.cif_write.specs.Lines.{path_text, point_text};
 ghost use Rattle.cif_write.specs.Ways.{kept_by, kept_of, last_point, ways};
 
 use byte_io::{Out, OutBuffer};
-use itoa::write_digits;
 use lay_point::{Point, Ring};
 
 /// Puts the points of the one path round the rings. The last point that came is held back: it isn't
@@ -93,45 +91,10 @@ fn put_unless_next<O: Out>(out: &mut O, buffer: &mut OutBuffer, held: Point, nex
     }
 }
 
-/// How many bytes a point takes at most: for each coordinate a space, a minus sign and ten digits.
-const POINT_LEN: usize = 24;
-
-/// Puts a point's coordinates, each after a space. They are put as one piece, since most of the time goes with the
-/// number of pieces.
+/// Puts a point's coordinates, each after a space.
 pub(crate) fn put_point<O: Out>(out: &mut O, buffer: &mut OutBuffer, point: Point)
     ensures { Buffered O.written O.failures out.old buffer.old out.new buffer.new
         (point_text point) }
 {
-    let mut text = [0; POINT_LEN];
-    let y = write_spaced(&mut text, POINT_LEN, point.y);
-    let x = write_spaced(&mut text, y, point.x);
-    buffer.put(out, &text[x..]);
-}
-
-/// Writes a space and a coordinate so that they end at `end`, and returns where they begin.
-fn write_spaced(text: &mut [u8; POINT_LEN], end: usize, coordinate: i32) -> usize
-    requires { (12 ≤ end) × (end ≤ 24) }
-    ensures room { end ≤ result + 12 }
-    ensures within { result < end }
-    ensures written { drop result text.new ≡ 32 ∷ (signed_decimal coordinate ++ drop end text.old) }
-{
-    let start = write_signed(text, end, coordinate) - 1;
-    text[start] = b' ';
-    start
-}
-
-/// Writes a coordinate's digits, after a minus sign where it is negative, so that they end at `end`. Returns where
-/// they begin.
-fn write_signed(text: &mut [u8; POINT_LEN], end: usize, coordinate: i32) -> usize
-    requires { (12 ≤ end) × (end ≤ 24) }
-    ensures room { end ≤ result + 11 }
-    ensures within { result ≤ end }
-    ensures written { drop result text.new ≡ signed_decimal coordinate ++ drop end text.old }
-{
-    let start = write_digits(u64::from(coordinate.unsigned_abs()), text, end);
-    if coordinate >= 0 {
-        return start;
-    }
-    text[start - 1] = b'-';
-    start - 1
+    buffer.put_pair(out, point.x, point.y);
 }

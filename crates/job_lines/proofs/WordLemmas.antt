@@ -1,5 +1,5 @@
 -- Where the first word stands.
-use Rattle.std.proofs.Common.{◌≡◌, ℕ, suc, ◌+◌, ◌-◌, ◌<◌, ◌≤◌, Bool, true, false, cond, List, []}
+use Rattle.std.proofs.Common.{◌≡◌, ℕ, suc, ◌+◌, ◌-◌, ◌<◌, ◌≤◌, true, false, cond, List, []}
 use Rattle.std.proofs.Common.{◌∷◌, drop, take, length, arith, sym, ap, subst, ◌∙◌, refl, unwrap_or}
 use Rattle.std.specs.Prelude.{not, if◌then◌else◌}
 use Rattle.std.specs.List.{position, position_or_len}

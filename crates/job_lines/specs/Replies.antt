@@ -1,6 +1,6 @@
 -- Replies as CIF comments, one a line: the session, the number of the step, and the answer in words.
-use Rattle.std.specs.Prelude.{ℕ, ◌+◌, ◌-◌, List, [], ◌∷◌, ◌++◌, codes, decimal, Bool, if◌then◌else◌}
-use Rattle.std.specs.Fmt.{signed_decimal}
+use Rattle.std.specs.Prelude.{ℕ, ◌+◌, ◌-◌, List, [], ◌∷◌, ◌++◌, codes, decimal, if◌then◌else◌}
+use Rattle.byte_io.specs.Decimal.{spaced_pair}
 use Rattle.lay_calls.specs.declared.cell_id.CellId.{CellId}
 use Rattle.lay_calls.specs.declared.cell_id.CellId.TheVariants.{Top, Symbol}
 use Rattle.lay_layouts.specs.declared.id.ItemId.{ItemId}
@@ -29,7 +29,7 @@ cell_text (Symbol number) = decimal number
 
 -- a point: a space before each coordinate
 unfoldable pub spaced_point : Point → List ℕ
-spaced_point p = codes " " ++ signed_decimal p.x ++ codes " " ++ signed_decimal p.y
+spaced_point p = spaced_pair p.x p.y
 
 abbrev pub points_text : List Point → List ℕ
 points_text [] = []

@@ -214,15 +214,13 @@ fn put_points<O: Out>(out: &mut O, buffer: &mut OutBuffer, points: &[Point])
     }
 }
 
-/// Puts a point, behind a space.
+/// Puts a point's coordinates, each after a space.
+#[tactic(auto, unfolding(crate::specs::Replies::spaced_point))]
 fn put_point<O: Out>(out: &mut O, buffer: &mut OutBuffer, point: Point)
     ensures { Buffered O.written O.failures out.old buffer.old out.new buffer.new
         (spaced_point point) }
 {
-    buffer.put_byte(out, b' ');
-    buffer.put_signed(out, point.x);
-    buffer.put_byte(out, b' ');
-    buffer.put_signed(out, point.y);
+    buffer.put_pair(out, point.x, point.y);
 }
 
 /// Puts a cell, as jobs name it.

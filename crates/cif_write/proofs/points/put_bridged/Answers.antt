@@ -1,8 +1,7 @@
 use Rattle.std.proofs.Common.{◌≡◌, ◌∷◌, length, pos, refl, rules}
 use Rattle.std.proofs.lemmas.List.{take_rest}
 use Rattle.lay_point.specs.declared.point.Point.{Point}
-use Rattle.byte_io.proofs.BufferedLemmas.{Buffered-nothing, Buffered-then}
-use Rattle.cif_write.proofs.BegunLemmas.{Buffered-is}
+use Rattle.byte_io.proofs.BufferedLemmas.{Buffered-is, Buffered-nothing, Buffered-then}
 use Rattle.cif_write.proofs.WayLemmas.{bridged_text, no_path}
 use Rattle.cif_write.proofs.points.put_bridged.Goals as goal
 

@@ -1,9 +1,8 @@
 use Rattle.std.proofs.Common.{◌≡◌, ◌++◌, get_or, pos, ap, ◌∙◌}
 use Rattle.lay_point.specs.declared.point.Point.{Point}
-use Rattle.byte_io.proofs.BufferedLemmas.{Buffered-then}
+use Rattle.byte_io.proofs.BufferedLemmas.{Buffered-is, Buffered-then}
 use Rattle.cif_write.specs.Lines.{path_text}
 use Rattle.cif_write.specs.Ways.{last_point, kept_of, kept_by}
-use Rattle.cif_write.proofs.BegunLemmas.{Buffered-is}
 use Rattle.cif_write.proofs.WayLemmas.{way_last, way_text}
 use Rattle.cif_write.proofs.points.put_way.Goals as goal
 

@@ -1,9 +1,10 @@
 use Rattle.std.proofs.Common.{◌≡◌, [], ◌∷◌, drop, get_or, refl, ap, sym, ◌∙◌}
 use Rattle.lay_point.specs.Rings.{closed}
 use Rattle.std.proofs.Math.ListN.{drop_of_length-le}
+use Rattle.byte_io.proofs.BufferedLemmas.{Buffered-is}
 use Rattle.cif_write.specs.Lines.{path_text}
 use Rattle.cif_write.specs.Ways.{last_point, kept_of, ways}
-use Rattle.cif_write.proofs.BegunLemmas.{Begun-all, Begun-nothing, Begun-then, Buffered-is}
+use Rattle.cif_write.proofs.BegunLemmas.{Begun-all, Begun-nothing, Begun-then}
 use Rattle.cif_write.proofs.WayLemmas.{ways_last-step, ways_text-step}
 use Rattle.cif_write.proofs.points.put_ways.Goals as goal
 

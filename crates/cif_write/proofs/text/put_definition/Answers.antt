@@ -1,8 +1,7 @@
 use Rattle.std.proofs.Common.{None, map}
-use Rattle.byte_io.proofs.BufferedLemmas.{Buffered-then}
+use Rattle.byte_io.proofs.BufferedLemmas.{Buffered-is, Buffered-then}
 use Rattle.cif_write.specs.Text.{items_lines}
 use Rattle.cif_write.specs.Wrap.{entry_item}
-use Rattle.cif_write.proofs.BegunLemmas.{Buffered-is}
 use Rattle.cif_write.proofs.LineLemmas.{definition_text}
 use Rattle.cif_write.proofs.text.put_definition.Goals as goal
 

@@ -2,10 +2,11 @@ use Rattle.std.proofs.Common.{◌≡◌, ◌<◌, ◌+◌, ℕ, List, Some, ap, 
 use Rattle.std.proofs.lemmas.Option.{get_or_from_slice_get}
 use Rattle.lay_layouts.specs.declared.id.ItemId.{ItemId}
 use Rattle.lay_layouts.specs.declared.item.Item.{Item}
+use Rattle.byte_io.proofs.BufferedLemmas.{Buffered-is}
 use Rattle.cif_write.specs.Lines.{lines_text}
 use Rattle.cif_write.specs.Text.{definition_lines, definitions_lines}
 use Rattle.cif_write.specs.Wrap.{entry_item, written_definition}
-use Rattle.cif_write.proofs.BegunLemmas.{Begun-then, Buffered-is}
+use Rattle.cif_write.proofs.BegunLemmas.{Begun-then}
 use Rattle.cif_write.proofs.LineLemmas.{definitions_text-step}
 use Rattle.cif_write.proofs.text.put_definitions.Goals as goal
 

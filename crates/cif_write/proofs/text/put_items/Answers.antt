@@ -1,6 +1,7 @@
 use Rattle.std.proofs.Common.{◌≡◌, ◌∷◌, true, rules}
 use Rattle.std.specs.Prelude.{is_none}
-use Rattle.cif_write.proofs.BegunLemmas.{Begun-failed, Begun-nothing, Begun-then, Buffered-is}
+use Rattle.byte_io.proofs.BufferedLemmas.{Buffered-is}
+use Rattle.cif_write.proofs.BegunLemmas.{Begun-failed, Begun-nothing, Begun-then}
 use Rattle.cif_write.proofs.LineLemmas.{items_text-step}
 use Rattle.cif_write.proofs.text.put_items.Goals as goal
 

@@ -2,8 +2,7 @@ use Rattle.std.proofs.Common.{◌≡◌, Some, true, false, not, rules}
 use Rattle.std.specs.Option.{option_eq}
 use Rattle.lay_point.specs.Bridges.{bridged}
 use Rattle.lay_point.specs.Same.{names_eq}
-use Rattle.byte_io.proofs.BufferedLemmas.{Buffered-then}
-use Rattle.cif_write.proofs.BegunLemmas.{Buffered-is}
+use Rattle.byte_io.proofs.BufferedLemmas.{Buffered-is, Buffered-then}
 use Rattle.cif_write.proofs.LineLemmas.{path_text-set, path_text-unset}
 use Rattle.cif_write.proofs.text.put_shape.Goals.{then-ne, else-ne}
 use Rattle.cif_write.proofs.text.put_shape.Goals as goal

@@ -1,6 +1,5 @@
 use Rattle.std.proofs.Common.{rules}
-use Rattle.byte_io.proofs.BufferedLemmas.{Buffered-then}
-use Rattle.cif_write.proofs.BegunLemmas.{Buffered-is}
+use Rattle.byte_io.proofs.BufferedLemmas.{Buffered-is, Buffered-then}
 use Rattle.cif_write.proofs.turns.put_shift.Goals as goal
 
 pub returns-then-ne : goal.returns-then-ne

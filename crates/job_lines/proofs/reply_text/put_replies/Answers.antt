@@ -1,8 +1,9 @@
 use Rattle.std.proofs.Common.{◌≡◌, ◌+◌, [], drop, ap, refl, arith, ◌∙◌}
 use Rattle.std.proofs.Math.ListN.{drop_of_length-le}
 use Rattle.std.proofs.lemmas.List.{at_drop_more}
+use Rattle.byte_io.proofs.BufferedLemmas.{Buffered-is}
 use Rattle.job_lines.specs.Replies.{session_text, sessions_text}
-use Rattle.cif_write.proofs.BegunLemmas.{Begun-all, Begun-nothing, Begun-then, Buffered-is}
+use Rattle.cif_write.proofs.BegunLemmas.{Begun-all, Begun-nothing, Begun-then}
 use Rattle.job_lines.proofs.reply_text.put_replies.Goals as goal
 
 pub loop-replies-init : goal.loop-replies-init

@@ -1,7 +1,6 @@
 use Rattle.std.proofs.Common.{rules}
-use Rattle.byte_io.proofs.BufferedLemmas.{Buffered-then}
+use Rattle.byte_io.proofs.BufferedLemmas.{Buffered-is, Buffered-then}
 use Rattle.job_lines.specs.Replies.{turning_text}
-use Rattle.cif_write.proofs.BegunLemmas.{Buffered-is}
 use Rattle.job_lines.proofs.reply_text.put_turning.Goals as goal
 
 pub returns : goal.returns

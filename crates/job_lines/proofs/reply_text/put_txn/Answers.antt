@@ -1,6 +1,5 @@
 use Rattle.std.proofs.Common.{rules}
-use Rattle.byte_io.proofs.BufferedLemmas.{Buffered-then}
-use Rattle.cif_write.proofs.BegunLemmas.{Buffered-is}
+use Rattle.byte_io.proofs.BufferedLemmas.{Buffered-is, Buffered-then}
 use Rattle.job_lines.proofs.reply_text.put_txn.Goals as goal
 
 pub returns : goal.returns

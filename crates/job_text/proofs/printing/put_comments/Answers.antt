@@ -1,8 +1,7 @@
 use Rattle.std.proofs.Common.{◌≡◌, ℕ, List, [], Option, None, Some, Result, Ok, Err, OnErr, OnOk, append-nil}
 use Rattle.byte_io.specs.Buffered.{Buffered}
 use Rattle.byte_io.specs.Device.{WroteAll, WrotePrefix}
-use Rattle.byte_io.proofs.BufferedLemmas.{Buffered-failed, Buffered-then, Buffered-written}
-use Rattle.cif_write.proofs.BegunLemmas.{Buffered-is}
+use Rattle.byte_io.proofs.BufferedLemmas.{Buffered-failed, Buffered-is, Buffered-then, Buffered-written}
 use Rattle.job_text.proofs.printing.put_comments.Goals as goal
 
 module _ {S E : Type 0} {written : S → Option (List ℕ)} {failures : S → ℕ} {a b : S} {h k : Option (List ℕ)} {xs : List ℕ} where

@@ -1,9 +1,8 @@
 use Rattle.std.proofs.Common.{◌≡◌, ℕ, List, [], Option, None, Some, Result, Ok, Err, OnErr, ap, append-nil, ◌∙◌}
 use Rattle.byte_io.specs.Buffered.{Buffered}
 use Rattle.byte_io.specs.Device.{WrotePrefix}
-use Rattle.byte_io.proofs.BufferedLemmas.{Buffered-failed, Buffered-then}
+use Rattle.byte_io.proofs.BufferedLemmas.{Buffered-failed, Buffered-is, Buffered-then}
 use Rattle.cif_write.specs.Text.{text}
-use Rattle.cif_write.proofs.BegunLemmas.{Buffered-is}
 use Rattle.cif_write.proofs.writer.Prepared.put.Goals as goal
 
 -- where the flush failed, so did the device, and what was held back is lost

@@ -1,9 +1,9 @@
--- What stands behind the place where a point's text begins.
+-- What stands behind the place where the text of two integers begins.
 use Rattle.std.proofs.Common.{◌≡◌, ℕ, ℤ, ◌-◌, List, [], ◌∷◌, ◌++◌, take, drop, length, ap, sym, ◌∙◌, append_assoc, append-nil}
 use Rattle.std.specs.Fmt.{signed_decimal}
 use Rattle.std.proofs.lemmas.List.{take_rest}
 
--- two coordinates, a space before each, the second written first
+-- two integers, a space before each, the second written first
 pub behind_both : (text before : List ℕ) (x y len : ℕ) (first second fst snd : ℤ) → length text ≡ len →
     drop x text ≡ 32 ∷ (signed_decimal fst ++ drop y before) → fst ≡ first →
     drop y before ≡ 32 ∷ (signed_decimal snd ++ []) → snd ≡ second →

@@ -2,13 +2,13 @@ use Rattle.std.proofs.Common.{◌≡◌, ◌+◌, ◌-◌, ◌++◌, ap, arith, 
 use Rattle.std.proofs.lemmas.Fmt.{length-decimal-le}
 use Rattle.std.proofs.lemmas.List.{drop-set}
 use Rattle.itoa.proofs.Decimal.{minus_first}
-use Rattle.cif_write.proofs.points.write_signed.Goals as goal
+use Rattle.byte_io.proofs.decimal.write_signed.Goals as goal
 
 pub write_digits-start-requires : goal.write_digits-start-requires
 write_digits-start-requires c = (omega (arith, length-decimal-le 10 c.from.result (omega arith) (omega arith) (omega arith)), search rules)
 
-pub returns-then-coordinate-ge0-clause-room : goal.returns-then-coordinate-ge0-clause-room
-returns-then-coordinate-ge0-clause-room c = omega (arith, length-decimal-le 10 c.from.result (omega arith) (omega arith) (omega arith))
+pub returns-then-integer-ge0-clause-room : goal.returns-then-integer-ge0-clause-room
+returns-then-integer-ge0-clause-room c = omega (arith, length-decimal-le 10 c.from.result (omega arith) (omega arith) (omega arith))
 
 pub overflow_sub-text : goal.overflow_sub-text
 overflow_sub-text c = omega (arith, length-decimal-le 10 c.from.result (omega arith) (omega arith) (omega arith))
@@ -24,6 +24,6 @@ returns-clause-written c =
     let w = c.write_digits-start in
     let long = length-decimal-le 10 c.from.result (omega arith) (omega arith) (omega arith) in
     let e : w.result - 1 + 1 ≡ w.result = omega arith in
-    let back = to_z-of_z c.ranges.coordinate in
+    let back = to_z-of_z c.ranges.integer in
     rw (drop-set w.new.buf (w.result - 1) 45 (omega arith), e, w.ensures.written, c.from.ensures, c.unsigned_abs.ensures.value, back)
-    (ap (λ l. l ++ drop c.args.end c.args.text.now) (minus_first c.args.coordinate (rw back at c.if-coordinate-ge0.false)))
+    (ap (λ l. l ++ drop c.args.end c.args.text.now) (minus_first c.args.integer (rw back at c.if-integer-ge0.false)))
