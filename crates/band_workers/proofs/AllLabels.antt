@@ -2,8 +2,8 @@
 use Rattle.std.proofs.Common.{◌≡◌, inl, inr, ℕ, ◌+◌, Bool, true, false, cond, List, [], ◌∷◌, map, Contains, refl, ap}
 use Rattle.lay_point.specs.declared.point.Point.{Point}
 use Rattle.lay_point.proofs.Members.{Has, contains}
-use Rattle.snap_visits.specs.Rounded.{Owned}
-use Rattle.face_labels.specs.Labels.{Item, differs, owned_items}
+use Rattle.snap_chains.specs.Rounded.{Owned}
+use Rattle.face_rows.specs.Labels.{Item, differs, owned_items}
 use Rattle.face_rows.specs.declared.band.Band.{Band}
 use Rattle.face_rows.specs.declared.op.Op.{Op}
 use Rattle.face_rows.specs.Bands.{begins_in, labelled}

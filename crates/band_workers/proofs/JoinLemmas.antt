@@ -10,8 +10,8 @@ use Rattle.std.proofs.lemmas.Slice.Zip.{length-zip}
 use Rattle.std.proofs.lemmas.Bool.{and_parts}
 use Rattle.lay_point.specs.declared.point.Point.{Point}
 use Rattle.lay_point.proofs.Members.{Has, contains, has-append, has-append_left, has-append_right}
-use Rattle.snap_visits.specs.Rounded.{Owned}
-use Rattle.face_labels.specs.Labels.{Item, differs, owned_items}
+use Rattle.snap_chains.specs.Rounded.{Owned}
+use Rattle.face_rows.specs.Labels.{Item, differs, owned_items}
 use Rattle.face_rows.specs.declared.op.Op.{Op}
 use Rattle.face_rows.specs.declared.band.Band.{Band}
 use Rattle.face_rows.specs.Bands.{begins_in, labelled}
@@ -19,7 +19,7 @@ use Rattle.face_rows.specs.Rows.{upward}
 use Rattle.face_rows.specs.Operations.{answer}
 use Rattle.face_rows.proofs.PickedLemmas.{picked_has, picked_of}
 use Rattle.face_rows.proofs.SideLemmas.{zip_first}
-use Rattle.face_rows.proofs.Tests.{le_true, lt_false, lt_true, true_le}
+use Rattle.lay_point.proofs.Tests.{le_true, lt_false, lt_true, true_le}
 use Rattle.band_workers.specs.Cuts.{IsLabelled, band_at, whole_band}
 use Rattle.band_workers.specs.Joined.{AreNumbersBelow, Part, joined_onto, with_labels}
 use Rattle.band_workers.specs.Labels.{labels_of}

@@ -1,6 +1,6 @@
 -- Bands that rows are cut into, and what a worker gives back of one.
 use Rattle.std.specs.Prelude.{◌≡◌, ℕ, ◌+◌, ◌-◌, ℤ, pos, List, length, slice_index_or, IfOk}
-use Rattle.snap_visits.specs.Rounded.{Owned}
+use Rattle.snap_chains.specs.Rounded.{Owned}
 use Rattle.face_rows.specs.declared.band.Band.{Band}
 use Rattle.face_rows.specs.declared.op.Op.{Op}
 use Rattle.face_rows.specs.Bands.{labelled}

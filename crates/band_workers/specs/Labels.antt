@@ -1,7 +1,7 @@
 -- The labels of all edges.
 use Rattle.std.specs.Prelude.{Bool, List, map}
-use Rattle.snap_visits.specs.Rounded.{Owned}
-use Rattle.face_labels.specs.Labels.{differs, owned_items}
+use Rattle.snap_chains.specs.Rounded.{Owned}
+use Rattle.face_rows.specs.Labels.{differs, owned_items}
 use Rattle.face_rows.specs.declared.op.Op.{Op}
 use Rattle.face_rows.specs.Operations.{answer}
 

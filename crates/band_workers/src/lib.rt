@@ -1,7 +1,7 @@
 //! Labels of all edges, band by band.
 //!
 //! `Bands::label_all` says for each edge of the rounded inputs whether it is one of an operation's
-//! edges: whether the operation's answers differ on its two sides (`face_label_laws/specs/Labels.antt`).
+//! edges: whether the operation's answers differ on its two sides (`face_rows/specs/Labels.antt`).
 //! Its law determines the answer, however the edges are shared out. `OneBand` labels them all on
 //! the caller's thread.
 //!

@@ -8,9 +8,10 @@
 
 use anyhow::Context;
 use band_workers::OneBand;
-use cif_layout::{FromCif, read};
+use cif_layout::FromCif;
+use cif_read::read;
 use face_rows::Op;
-use lay_calls::CellId;
+use lay_cells::CellId;
 use lay_flat::flatten;
 use lay_items::Snapshot;
 use lay_point::{LayerName, Ring};

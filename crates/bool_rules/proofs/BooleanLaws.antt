@@ -4,17 +4,17 @@ use Rattle.std.specs.Prelude.{Result, Ok, Err, if◌then◌else◌}
 use Rattle.std.specs.List.{AllByRecursion, list_any}
 use Rattle.lay_point.specs.Parity.{odd}
 use Rattle.lay_point.specs.RingEdges.{edges_of}
-use Rattle.lay_calls.specs.declared.cell_id.CellId.{CellId}
+use Rattle.lay_cells.specs.declared.cell_id.CellId.{CellId}
 use Rattle.lay_layouts.specs.Layout.{Layout}
 use Rattle.lay_layouts.specs.Sound.{IsDrawn}
-use Rattle.lay_flat_laws.specs.FlatFault.{FlatFault}
-use Rattle.lay_flat_laws.specs.FlatFault.TheVariants.{TooMany}
-use Rattle.lay_flat_laws.specs.Flat.{FlatRing}
-use Rattle.lay_flat_laws.specs.Flattening.{flat_of, on_success}
-use Rattle.lay_flat_laws.proofs.Below.{same_flattening}
-use Rattle.bool_shape_laws.specs.Op.{Op}
-use Rattle.bool_shape_laws.specs.Shapes.{Rings, fits, shapes_of}
-use Rattle.bool_shape_laws.proofs.ShapeLemmas.{shapes_tell_places}
+use Rattle.lay_flat.specs.declared.fault.FlatFault.{FlatFault}
+use Rattle.lay_flat.specs.declared.fault.FlatFault.TheVariants.{TooMany}
+use Rattle.lay_flat.specs.Flat.{FlatRing}
+use Rattle.lay_flat.specs.Flattening.{flat_of, on_success}
+use Rattle.lay_flat.proofs.Below.{same_flattening}
+use Rattle.face_rows.specs.declared.op.Op.{Op}
+use Rattle.bool_rules.specs.Shapes.{Rings, fits, shapes_of}
+use Rattle.bool_rules.proofs.ShapeLemmas.{shapes_tell_places}
 use Rattle.bool_rules.specs.Booleans.{bool_shapes, shapes_within}
 use Rattle.bool_rules.specs.Laws.{BooleansAreDrawn, BooleansReadWhatIsBelow, BooleansTellPlaces}
 use Rattle.bool_rules.proofs.DrawnShapes.{shapes_drawn}

@@ -11,19 +11,19 @@ use Rattle.lay_point.specs.Points.{is_in_range}
 use Rattle.lay_point.specs.Rings.{IsRing}
 use Rattle.lay_point.proofs.Members.{Has, contains}
 use Rattle.lay_layouts.specs.Sound.{IsDrawn}
-use Rattle.lay_flat_laws.specs.Flat.{FlatRing, IsFlat}
-use Rattle.bool_shape_laws.proofs.Upward.{operation_among}
-use Rattle.bool_shape_laws.specs.Op.{Op}
-use Rattle.bool_shape_laws.specs.Operations.{answer, edges_of_op}
-use Rattle.face_link_laws.proofs.CountLemmas.{AreUndirected}
-use Rattle.face_link_laws.proofs.RingLaws.{AreSound, ring_from_sound}
-use Rattle.face_link_laws.proofs.StepLemmas.{all_sound}
-use Rattle.bool_shape_laws.specs.Parts.{AreParts, with_label}
-use Rattle.bool_shape_laws.proofs.InRange.{rounded_is_in_range}
-use Rattle.bool_shape_laws.specs.Shapes.{Rings, fits, is_short, max_segments, op_rings, owned_of, rounded_inputs, segments_of, shapes_of}
-use Rattle.bool_shape_laws.proofs.LabelLemmas.{parts_exist}
-use Rattle.bool_shape_laws.proofs.ShapeLemmas.{edges_tell, inputs_in_order, inputs_round}
-use Rattle.bool_shape_laws.proofs.TurningLemmas.{owned_are_rings}
+use Rattle.lay_flat.specs.Flat.{FlatRing, IsFlat}
+use Rattle.face_rows.proofs.UpwardLemmas.{operation_among}
+use Rattle.face_rows.specs.declared.op.Op.{Op}
+use Rattle.face_rows.specs.Operations.{answer, edges_of_op}
+use Rattle.face_ring_laws.proofs.CountLemmas.{AreUndirected}
+use Rattle.face_ring_laws.proofs.RingLaws.{AreSound, ring_from_sound}
+use Rattle.face_ring_laws.proofs.StepLemmas.{all_sound}
+use Rattle.face_ring_laws.specs.Parts.{AreParts, with_label}
+use Rattle.snap_laws.proofs.InRange.{rounded_is_in_range}
+use Rattle.bool_rules.specs.Shapes.{Rings, fits, is_short, max_segments, op_rings, owned_of, rounded_inputs, segments_of, shapes_of}
+use Rattle.bool_rules.proofs.LabelLemmas.{parts_exist}
+use Rattle.bool_rules.proofs.ShapeLemmas.{edges_tell, inputs_in_order, inputs_round}
+use Rattle.bool_rules.proofs.TurningLemmas.{owned_are_rings}
 use Rattle.bool_rules.proofs.Everywhere.{by_place, by_recursion, tested_each}
 
 each_has : {A : Type 0} (P : A → Type 0) (xs : List A) → ((x : A) → Has xs x → P x) → AllByRecursion P xs

@@ -6,7 +6,7 @@ use Rattle.std.specs.List.{AllByRecursion, list_all, list_any}
 use Rattle.lay_point.specs.Rings.{IsRing}
 use Rattle.lay_point.specs.Same.{names_eq}
 use Rattle.lay_point.specs.Turns.{unturned}
-use Rattle.lay_calls.specs.declared.cell_id.CellId.{CellId}
+use Rattle.lay_cells.specs.declared.cell_id.CellId.{CellId}
 use Rattle.lay_layouts.specs.declared.id.ItemId.{ItemId}
 use Rattle.lay_layouts.specs.declared.item.Item.{Item}
 use Rattle.lay_layouts.specs.declared.item.Item.TheVariants.{Placed, Shape}
@@ -16,12 +16,12 @@ use Rattle.lay_layouts.specs.Layout.{Layout, is_cell}
 use Rattle.lay_layouts.specs.Lent.{LentShape, shape_on, shapes_in}
 use Rattle.lay_layouts.specs.Sound.{IsSound, IsSoundItem}
 use Rattle.lay_layouts.proofs.EntryLemmas.{entries-found}
-use Rattle.lay_flat_laws.specs.End.{End}
-use Rattle.lay_flat_laws.specs.FlatFault.{FlatFault}
-use Rattle.lay_flat_laws.specs.FlatFault.TheVariants.{NoCell, OutOfRange, TooMany}
-use Rattle.lay_flat_laws.specs.TheConstants.{MAX_RINGS}
-use Rattle.lay_flat_laws.specs.Flat.{FlatRing, IsFlat, is_within}
-use Rattle.lay_flat_laws.specs.Flattening.{Drawn, drawn_at, ends_of, flat_at, flat_of, on_success, rings_at, rings_from, rings_of, tested}
+use Rattle.lay_flat.specs.declared.ends.End.{End}
+use Rattle.lay_flat.specs.declared.fault.FlatFault.{FlatFault}
+use Rattle.lay_flat.specs.declared.fault.FlatFault.TheVariants.{NoCell, OutOfRange, TooMany}
+use Rattle.lay_flat.specs.declared.flat.TheConstants.{MAX_RINGS}
+use Rattle.lay_flat.specs.Flat.{FlatRing, IsFlat, is_within}
+use Rattle.lay_flat.specs.Flattening.{Drawn, drawn_at, ends_of, flat_at, flat_of, on_success, rings_at, rings_from, rings_of, tested}
 use Rattle.bool_rules.specs.Laws.{FlatteningsAreFlat}
 use Rattle.bool_rules.proofs.Everywhere.{IfKept, all-append, all-filter, all-filter_map, all-flat_map}
 use Rattle.bool_rules.proofs.Everywhere.{all-map, by_place, by_recursion, tested_each, weaker}

@@ -2,6 +2,10 @@ pub mod BooleanLaws
 pub mod DrawnShapes
 pub mod Everywhere
 pub mod Flats
-pub use Rattle.bool_shape_laws.proofs.PathLemmas
-pub use Rattle.lay_flat_laws.proofs.LayoutWalks
-pub use Rattle.lay_flat_laws.proofs.SoundLemmas
+pub mod HeadLemmas
+pub mod LabelLemmas
+pub mod OneDivision
+pub mod OwnerLemmas
+pub mod SameEdges
+pub mod ShapeLemmas
+pub mod TurningLemmas

@@ -2,14 +2,14 @@
 -- Source: this project's own rule. First the one layer is flattened wholly, then the other; then the sides are counted, and the
 -- rings that the operation's edges make.
 use Rattle.std.specs.Prelude.{ℕ, List, Result, Ok, Err, if◌then◌else◌}
-use Rattle.lay_calls.specs.declared.cell_id.CellId.{CellId}
+use Rattle.lay_cells.specs.declared.cell_id.CellId.{CellId}
 use Rattle.lay_layouts.specs.Layout.{Layout}
-use Rattle.lay_flat_laws.specs.FlatFault.{FlatFault}
-use Rattle.lay_flat_laws.specs.FlatFault.TheVariants.{TooMany}
-use Rattle.lay_flat_laws.specs.Flat.{FlatRing}
-use Rattle.lay_flat_laws.specs.Flattening.{flat_of, on_success}
-use Rattle.bool_shape_laws.specs.Op.{Op}
-use Rattle.bool_shape_laws.specs.Shapes.{Rings, fits, shapes_of}
+use Rattle.lay_flat.specs.declared.fault.FlatFault.{FlatFault}
+use Rattle.lay_flat.specs.declared.fault.FlatFault.TheVariants.{TooMany}
+use Rattle.lay_flat.specs.Flat.{FlatRing}
+use Rattle.lay_flat.specs.Flattening.{flat_of, on_success}
+use Rattle.face_rows.specs.declared.op.Op.{Op}
+use Rattle.bool_rules.specs.Shapes.{Rings, fits, shapes_of}
 
 -- the shapes of an operation on two flattenings, where they keep the limits
 abbrev pub shapes_within : Op → List FlatRing → List FlatRing → Result (List Rings) FlatFault

@@ -3,15 +3,15 @@ use Rattle.std.specs.Prelude.{◌≡◌, ℕ, ℤ, pos, ◌≤ℤ◌, All, List,
 use Rattle.std.specs.List.{AllByRecursion, list_any}
 use Rattle.lay_point.specs.Parity.{odd}
 use Rattle.lay_point.specs.RingEdges.{edges_of}
-use Rattle.lay_calls.specs.declared.cell_id.CellId.{CellId}
+use Rattle.lay_cells.specs.declared.cell_id.CellId.{CellId}
 use Rattle.lay_layouts.specs.Layout.{Layout}
 use Rattle.lay_layouts.specs.Sound.{IsDrawn, IsSound}
-use Rattle.lay_flat_laws.specs.Flat.{FlatRing, IsFlat}
-use Rattle.lay_flat_laws.specs.Flattening.{flat_of}
-use Rattle.lay_flat_laws.specs.Laws.{HaveSameBelow}
-use Rattle.bool_shape_laws.specs.Op.{Op}
-use Rattle.bool_shape_laws.specs.Operations.{op_at}
-use Rattle.bool_shape_laws.specs.Shapes.{Rings, rounded_inputs}
+use Rattle.lay_flat.specs.Flat.{FlatRing, IsFlat}
+use Rattle.lay_flat.specs.Flattening.{flat_of}
+use Rattle.lay_flat.specs.Laws.{HaveSameBelow}
+use Rattle.face_rows.specs.declared.op.Op.{Op}
+use Rattle.face_rows.specs.Operations.{op_at}
+use Rattle.bool_rules.specs.Shapes.{Rings, rounded_inputs}
 use Rattle.bool_rules.specs.Booleans.{bool_shapes}
 
 -- a flattening of a sound layout has rings whose turned points are in range

@@ -5,4 +5,3 @@ pub mod Input
 pub mod Lines
 pub mod Numbers
 pub mod Steps
-pub use Rattle.lay_point.specs.Names

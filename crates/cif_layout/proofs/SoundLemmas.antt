@@ -10,14 +10,14 @@ use Rattle.std.specs.List.{AllByRecursion, cons_option}
 use Rattle.std.specs.Ordering.{eq_by_cmp, nat_cmp}
 use Rattle.std.proofs.lemmas.Bool.{eqb-true}
 use Rattle.std.proofs.lemmas.List.Elements.{All-head, All-tail}
-use Rattle.lay_calls.specs.declared.cell_id.CellId.{CellId}
-use Rattle.lay_calls.specs.declared.cell_id.CellId.TheVariants.{Symbol, Top}
-use Rattle.lay_calls.specs.declared.cells.TheConstants.{MAX_SYMBOL}
-use Rattle.lay_calls.specs.Symbols.{has_cell, has_symbol}
-use Rattle.lay_calls.specs.Walks.{IsAcyclic}
-use Rattle.cif_read.specs.Element.{Element}
-use Rattle.cif_read.specs.Figure.{Figure}
-use Rattle.cif_read.specs.Figure.TheVariants.{Call, Polygon}
+use Rattle.lay_cells.specs.declared.cell_id.CellId.{CellId}
+use Rattle.lay_cells.specs.declared.cell_id.CellId.TheVariants.{Symbol, Top}
+use Rattle.lay_cells.specs.declared.cells.TheConstants.{MAX_SYMBOL}
+use Rattle.lay_cells.specs.Symbols.{has_cell, has_symbol}
+use Rattle.lay_cells.specs.Walks.{IsAcyclic}
+use Rattle.cif_read.specs.declared.element.Element.{Element}
+use Rattle.cif_read.specs.declared.element.Figure.{Figure}
+use Rattle.cif_read.specs.declared.element.Figure.TheVariants.{Call, Polygon}
 use Rattle.cif_read.specs.Contents.{Contents, IsSoundElement, IsSoundFigure, IsSoundFile, element_calls, with_call}
 use Rattle.lay_layouts.specs.declared.slot.CellSlot.{CellSlot}
 use Rattle.lay_layouts.specs.declared.slot.CellSlot.TheVariants.{Base}

@@ -1,10 +1,10 @@
 -- The layout of a text's meaning: its symbols in their order, and element q as item 0.0.q.
 use Rattle.std.specs.Prelude.{List, [], ◌∷◌, map}
-use Rattle.cif_read.specs.Element.{Element}
-use Rattle.cif_read.specs.Figure.{Figure}
-use Rattle.cif_read.specs.Figure.TheVariants.{Call, Polygon}
+use Rattle.cif_read.specs.declared.element.Element.{Element}
+use Rattle.cif_read.specs.declared.element.Figure.{Figure}
+use Rattle.cif_read.specs.declared.element.Figure.TheVariants.{Call, Polygon}
 use Rattle.cif_read.specs.Contents.{Contents}
-use Rattle.lay_calls.specs.declared.cell_id.CellId.{CellId}
+use Rattle.lay_cells.specs.declared.cell_id.CellId.{CellId}
 use Rattle.lay_layouts.specs.declared.item.Item.{Item}
 use Rattle.lay_layouts.specs.declared.item.Item.TheVariants.{Placed, Shape}
 use Rattle.lay_layouts.specs.Layout.{Layout}

@@ -4,8 +4,9 @@ ghost use Rattle.lay_point.specs.Memory.{IsAnswer};
 ghost use Rattle.cif_layout.specs.FromCif.{item_in, items_of_elements, layout_of};
 
 use cif_read::{CifFile, Element, Figure};
+use lay_cells::CellId;
 use lay_items::{NumberedItems, Snapshot, Version};
-use lay_layouts::{CellId, Item, Rings};
+use lay_layouts::{Item, Rings};
 use lay_point::{Given, NoMemory};
 use std::alloc::Global;
 

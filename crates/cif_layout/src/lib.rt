@@ -11,5 +11,4 @@
 
 mod from_cif;
 
-pub use cif_read::read;
 pub use from_cif::FromCif;

@@ -9,15 +9,15 @@ use Rattle.std.proofs.lemmas.Bool.Decides.{nat_tests}
 use Rattle.std.proofs.lemmas.Fmt.{decimal_by_steps}
 use Rattle.std.proofs.lemmas.List.Folds.{list_all-append}
 use Rattle.lay_point.specs.Names.{is_layer_name, is_name_byte, layer_name_of}
-use Rattle.cif_scan.specs.declared.number.Number.{Number}
-use Rattle.cif_scan.specs.Bytes.{is_blank, skip}
-use Rattle.cif_scan.specs.Numbers.{◌>>=◌}
-use Rattle.cif_scan.proofs.Runs.{list_all-take_while}
-use Rattle.cif_commands.specs.declared.definitions.Definition.{Definition}
-use Rattle.cif_commands.specs.declared.definitions.Scale.{Scale}
-use Rattle.cif_scan.specs.Cutting.{cut}
-use Rattle.cif_commands.specs.Definitions.{definition_of}
-use Rattle.cif_commands.specs.Layers.{layer_of}
+use Rattle.cif_grammar.specs.declared.number.Number.{Number}
+use Rattle.cif_grammar.specs.Bytes.{is_blank, skip}
+use Rattle.byte_io.specs.Steps.{◌>>=◌}
+use Rattle.cif_grammar.proofs.Runs.{list_all-take_while}
+use Rattle.cif_grammar.specs.declared.definitions.Definition.{Definition}
+use Rattle.cif_grammar.specs.declared.definitions.Scale.{Scale}
+use Rattle.cif_grammar.specs.Cutting.{cut}
+use Rattle.cif_grammar.specs.Definitions.{definition_of}
+use Rattle.cif_grammar.specs.Layers.{layer_of}
 use Rattle.cif_names.specs.declared.names.Names.{Names}
 use Rattle.cif_names.specs.declared.place.Place.{Place}
 use Rattle.cif_names.specs.Entries.{Label, coordinate_of, in_bits, label_command, label_of, label_text, layer_bytes, layer_text}

@@ -5,8 +5,8 @@ use Rattle.std.proofs.Math.Nat.{mul-div_left, mul-mod_left}
 use Rattle.std.proofs.lemmas.Bool.{eqb-true}
 use Rattle.std.proofs.lemmas.Bool.Decides.{nat_tests}
 use Rattle.std.proofs.lemmas.Nat.{div-add-mod'}
-use Rattle.cif_scan.specs.declared.number.Number.{Number}
-use Rattle.cif_commands.specs.declared.definitions.Scale.{Scale}
+use Rattle.cif_grammar.specs.declared.number.Number.{Number}
+use Rattle.cif_grammar.specs.declared.definitions.Scale.{Scale}
 use Rattle.cif_names.specs.Entries.{in_bits, limit_of, product_in_units, scaled_to_units}
 use Rattle.cif_names.specs.Laws.{IsDistanceInUnits, LabelsAreScaled}
 

@@ -1,9 +1,9 @@
 -- A rest's commands go on one at a time.
 use Rattle.std.proofs.Common.{◌≡◌, ℕ, true, false, List, length, take, Some, None, ap, ◌∙◌, arith, refl}
-use Rattle.cif_scan.specs.Bytes.{is_gap, skip}
-use Rattle.cif_scan.specs.Cutting.{Cut, Front, behind_command, command_len, cut, cut_by, cut_rest, front_of}
-use Rattle.cif_scan.proofs.CutLemmas.{cut_rest-step, length-behind_command, some_bytes}
-use Rattle.cif_content.specs.Meaning.{begins_with_end}
+use Rattle.cif_grammar.specs.Bytes.{is_gap, skip}
+use Rattle.cif_grammar.specs.Cutting.{Cut, Front, behind_command, command_len, cut, cut_by, cut_rest, front_of}
+use Rattle.cif_grammar.proofs.CutLemmas.{cut_rest-step, length-behind_command, some_bytes}
+use Rattle.cif_read.specs.Meaning.{begins_with_end}
 use Rattle.cif_read.proofs.MeaningLemmas.{end_parts, front_breaks, front_command, front_end}
 use Rattle.cif_names.specs.Names.{names_from, names_of, nothing}
 use Rattle.cif_names.specs.Pieces.{HasNoCommand, IsFirstPiece}

@@ -4,9 +4,9 @@
 use Rattle.std.specs.Prelude.{ℕ, ◌==◌, ◌*◌, ◌/◌, ◌%◌, nat_le, List, [], ◌∷◌, ◌++◌, codes, decimal, Bool, ◌&&◌, not, Option, None, Some}
 use Rattle.std.specs.Prelude.{if◌then◌else◌}
 use Rattle.std.specs.List.{list_all}
-use Rattle.cif_scan.specs.declared.number.Number.{Number}
-use Rattle.cif_scan.specs.Numbers.{◌>>=◌}
-use Rattle.cif_commands.specs.declared.definitions.Scale.{Scale}
+use Rattle.cif_grammar.specs.declared.number.Number.{Number}
+use Rattle.byte_io.specs.Steps.{◌>>=◌}
+use Rattle.cif_grammar.specs.declared.definitions.Scale.{Scale}
 use Rattle.cif_names.specs.declared.place.Place.{Place}
 use Rattle.cif_names.specs.Words.{field_at, integer_of, is_space, only_word, word_at}
 

@@ -2,8 +2,8 @@
 use Rattle.std.specs.Prelude.{◌≡◌, ℕ, ◌*◌, ◌≤◌, ◌==◌, Some, List, [], ◌∷◌, codes, flat_map, nat_eq, Bool, true, false, ◌||◌, not, IsTrue}
 use Rattle.std.specs.Prelude.{if◌then◌else◌}
 use Rattle.std.specs.List.{AllByRecursion, list_all, starts_with}
-use Rattle.cif_scan.specs.declared.number.Number.{Number}
-use Rattle.cif_commands.specs.declared.definitions.Scale.{Scale}
+use Rattle.cif_grammar.specs.declared.number.Number.{Number}
+use Rattle.cif_grammar.specs.declared.definitions.Scale.{Scale}
 use Rattle.cif_names.specs.declared.names.Entry.{Entry}
 use Rattle.cif_names.specs.Entries.{limit_of, scaled_to_units}
 use Rattle.byte_io.specs.Lines.{lines}

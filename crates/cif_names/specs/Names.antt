@@ -1,8 +1,8 @@
 -- What is kept of a text's names and labels.
 use Rattle.std.specs.Prelude.{ℕ, ◌+◌, List, [], ◌∷◌, ◌++◌, codes, filter, Bool, true, Option, None, Some, option_map, if◌then◌else◌}
 use Rattle.std.specs.Str.{bytes_eq}
-use Rattle.lay_calls.specs.Symbols.{has_symbol}
-use Rattle.cif_scan.specs.Cutting.{cut}
+use Rattle.lay_cells.specs.Symbols.{has_symbol}
+use Rattle.cif_grammar.specs.Cutting.{cut}
 use Rattle.cif_names.specs.declared.names.Entry.{Entry}
 use Rattle.cif_names.specs.declared.names.Names.{Names}
 use Rattle.cif_names.specs.declared.place.Place.{Place}

@@ -1,6 +1,6 @@
 -- The commands of a text, one at a time.
 use Rattle.std.specs.Prelude.{◌≡◌, ℕ, ◌<◌, List, [], ◌∷◌, length}
-use Rattle.cif_scan.specs.Cutting.{cut_rest, offset_of}
+use Rattle.cif_grammar.specs.Cutting.{cut_rest, offset_of}
 
 -- a rest has no command: the text ends there, or breaks off
 abbrev pub HasNoCommand : List ℕ → Type 0

@@ -2,11 +2,11 @@
 use Rattle.std.specs.Prelude.{ℕ, ◌==◌, List, [], ◌∷◌, ◌&&◌, Option, None, Some, if◌then◌else◌}
 use Rattle.std.specs.List.{list_all}
 use Rattle.lay_point.specs.Names.{layer_name_of}
-use Rattle.cif_scan.specs.Bytes.{is_blank, skip}
-use Rattle.cif_scan.specs.Numbers.{◌>>=◌}
-use Rattle.cif_commands.specs.declared.definitions.Definition.{Definition}
-use Rattle.cif_commands.specs.Definitions.{definition_of, plain_scale}
-use Rattle.cif_commands.specs.Layers.{layer_of}
+use Rattle.cif_grammar.specs.Bytes.{is_blank, skip}
+use Rattle.byte_io.specs.Steps.{◌>>=◌}
+use Rattle.cif_grammar.specs.declared.definitions.Definition.{Definition}
+use Rattle.cif_grammar.specs.Definitions.{definition_of, plain_scale}
+use Rattle.cif_grammar.specs.Layers.{layer_of}
 use Rattle.cif_names.specs.declared.place.Place.{Place}
 
 -- in no definition, with no layer set

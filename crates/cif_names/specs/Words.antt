@@ -3,9 +3,9 @@ use Rattle.std.specs.Prelude.{ℕ, ◌==◌, nat_le, nat_lt, List, [], ◌∷◌
 use Rattle.std.specs.Prelude.{Option, None, Some, option_map, if◌then◌else◌}
 use Rattle.std.specs.List.{list_all, take_while}
 use Rattle.byte_io.specs.Numbers.{parsed_number}
-use Rattle.cif_scan.specs.declared.number.Number.{Number}
-use Rattle.cif_scan.specs.Bytes.{skip}
-use Rattle.cif_scan.specs.Numbers.{◌>>=◌}
+use Rattle.cif_grammar.specs.declared.number.Number.{Number}
+use Rattle.cif_grammar.specs.Bytes.{skip}
+use Rattle.byte_io.specs.Steps.{◌>>=◌}
 
 -- a byte of a word
 abbrev pub is_dark : ℕ → Bool

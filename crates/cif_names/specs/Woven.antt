@@ -4,7 +4,7 @@
 use Rattle.std.specs.Prelude.{ℕ, ◌==◌, List, [], ◌∷◌, ◌++◌, codes, drop, flat_map, length, nat_eq, Bool, true, false, Option, None}
 use Rattle.std.specs.Prelude.{Some, if◌then◌else◌}
 use Rattle.std.specs.List.{list_any, starts_with}
-use Rattle.cif_scan.specs.Numbers.{integer_at}
+use Rattle.cif_grammar.specs.Numbers.{integer_at}
 use Rattle.cif_names.specs.declared.names.Entry.{Entry}
 use Rattle.cif_names.specs.declared.names.Names.{Names}
 use Rattle.byte_io.specs.Lines.{lines}

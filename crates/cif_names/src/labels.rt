@@ -1,7 +1,14 @@
 //! Lines of names and labels.
 ghost use Rattle.std.specs.Prelude.{◌≡◌, ◌++◌, IfOk, OnOk};
-ghost use Rattle.cif_scan.specs.Views.{Gives};
-ghost use Rattle.cif_names.specs.Entries.{label_command, label_of, label_text, layer_bytes, layer_text, name_text};
+ghost use Rattle.cif_grammar.specs.Views.{Gives};
+ghost use Rattle.cif_names.specs.Entries.{
+  label_command,
+  label_of,
+  label_text,
+  layer_bytes,
+  layer_text,
+  name_text,
+};
 ghost use Rattle.cif_names.specs.Entries.{number_text, sign_text, word_behind, word_text};
 ghost use Rattle.cif_names.specs.Names.{label_line, name_line};
 ghost use Rattle.cif_names.specs.Seen.{seen};
@@ -10,7 +17,7 @@ use crate::numbers::coordinate_of;
 use crate::place::Place;
 use crate::words::{are_spaces, only_word, split_field, split_word};
 use byte_io::push_unsigned;
-use cif_scan::Number;
+use cif_grammar::Number;
 use lay_point::{LayerName, NoMemory, Sequence};
 use std::alloc::Global;
 

@@ -1,13 +1,20 @@
 //! What is kept of a text's names and labels.
 ghost use Rattle.std.specs.Prelude.{◌≡◌, IfOk, OnOk};
-ghost use Rattle.cif_names.specs.Names.{is_of_symbols, kept_after, names_of, nothing, with_line, within};
+ghost use Rattle.cif_names.specs.Names.{
+  is_of_symbols,
+  kept_after,
+  names_of,
+  nothing,
+  with_line,
+  within,
+};
 
 use crate::labels::{label_line, name_line};
 use crate::pieces::split_piece;
 use crate::place::Place;
 use crate::words::split_word;
-use cif_scan::{Class, skip};
-use lay_calls::Cells;
+use cif_grammar::{Class, skip};
+use lay_cells::Cells;
 use lay_point::{NoMemory, Sequence};
 use std::alloc::Global;
 

@@ -1,11 +1,16 @@
 //! Integers that words spell, and distances in database units, half-hundredths of a micrometre.
 ghost use Rattle.std.specs.Prelude.{◌≡◌, ◌≤◌, ◌<◌, ◌^◌, IfSome};
-ghost use Rattle.cif_names.specs.Entries.{coordinate_of, in_bits, limit_of, product_in_units, scaled_to_units};
+ghost use Rattle.cif_names.specs.Entries.{
+  coordinate_of,
+  in_bits,
+  limit_of,
+  product_in_units,
+  scaled_to_units,
+};
 ghost use Rattle.cif_names.specs.Words.{integer_of, with_sign};
 
 use byte_io::number_of;
-use cif_commands::Scale;
-use cif_scan::Number;
+use cif_grammar::{Number, Scale};
 
 /// The greatest magnitude of a coordinate.
 const MAX_COORDINATE: u32 = 2_147_483_648;

@@ -1,9 +1,9 @@
 //! The commands of a text, one at a time.
 ghost use Rattle.std.specs.Prelude.{◌≡◌, MatchOption};
-ghost use Rattle.cif_content.specs.Meaning.{begins_with_end};
+ghost use Rattle.cif_read.specs.Meaning.{begins_with_end};
 ghost use Rattle.cif_names.specs.Pieces.{HasNoCommand, IsFirstPiece};
 
-use cif_scan::{Class, command_len, skip};
+use cif_grammar::{Class, command_len, skip};
 
 /// Returns the command at the start of a rest of a text, without its semicolon, and what stands behind that and gaps.
 /// `None` where the text ends or breaks off.

@@ -1,9 +1,15 @@
 //! Where a command of a text stands.
 ghost use Rattle.std.specs.Prelude.{◌≡◌};
-ghost use Rattle.cif_names.specs.Places.{after_bracket, layer_at, layered, outside, place_after, place_opened};
+ghost use Rattle.cif_names.specs.Places.{
+  after_bracket,
+  layer_at,
+  layered,
+  outside,
+  place_after,
+  place_opened,
+};
 
-use cif_commands::{Definition, Scale, are_blanks, read_definition, read_layer};
-use cif_scan::{Class, skip};
+use cif_grammar::{Class, Definition, Scale, are_blanks, read_definition, read_layer, skip};
 use lay_point::LayerName;
 
 /// Where a command stands.

@@ -1,8 +1,16 @@
 //! Words of a command.
 ghost use Rattle.std.specs.Prelude.{◌≡◌, ◌≤◌, length};
 ghost use Rattle.std.specs.List.{list_all, prefix_len};
-ghost use Rattle.cif_scan.specs.Views.{Gives};
-ghost use Rattle.cif_names.specs.Words.{field_at, is_between, is_coordinate_byte, is_dark, is_space, only_word, word_at};
+ghost use Rattle.cif_grammar.specs.Views.{Gives};
+ghost use Rattle.cif_names.specs.Words.{
+  field_at,
+  is_between,
+  is_coordinate_byte,
+  is_dark,
+  is_space,
+  only_word,
+  word_at,
+};
 
 /// Returns the first word of the bytes, and what stands behind it. `None` where there is no word.
 #[tactic(auto, unfolding(crate::specs::Words::word_at))]

@@ -2,13 +2,23 @@
 ghost use Rattle.std.specs.Prelude.{◌≡◌, ◌++◌, None, IfOk, OnOk};
 ghost use Rattle.byte_io.specs.Lines.{lines};
 ghost use Rattle.cif_names.specs.Maps.{bytes_at};
-ghost use Rattle.cif_names.specs.Woven.{has_newline, heading, is_symbol, last_call, last_called, number_behind, started, with_names, woven};
+ghost use Rattle.cif_names.specs.Woven.{
+  has_newline,
+  heading,
+  is_symbol,
+  last_call,
+  last_called,
+  number_behind,
+  started,
+  with_names,
+  woven,
+};
 ghost use Rattle.cif_names.specs.Woven.{woven_line};
 
 use crate::maps::{at_top, by_symbol, bytes_at};
 use crate::names::Names;
 use byte_io::split_line;
-use cif_scan::integer;
+use cif_grammar::integer;
 use lay_point::{NoMemory, Sequence};
 use std::alloc::Global;
 use std::collections::BTreeMap;

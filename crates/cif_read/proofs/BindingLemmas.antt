@@ -2,15 +2,15 @@
 use Rattle.std.proofs.Common.{ℕ, List, [], ◌∷◌, map, sym, subst, All}
 use Rattle.std.specs.Prelude.{IsTrue}
 use Rattle.std.proofs.lemmas.List.Elements.{All-cons, All-head, All-map, All-nil, All-tail}
-use Rattle.lay_calls.specs.declared.cell_id.CellId.{CellId}
-use Rattle.lay_calls.specs.Symbols.{has_cell, has_symbol}
-use Rattle.lay_calls.specs.Walks.{IsAcyclic}
-use Rattle.cif_content.specs.declared.content.Content.{Content}
-use Rattle.cif_content.specs.declared.element.Element.{Element}
-use Rattle.cif_content.specs.declared.element.Figure.{Figure}
-use Rattle.cif_content.specs.declared.element.Figure.TheVariants.{Call, Polygon}
-use Rattle.cif_content.specs.Binding.{IsBound, contents_of, edge_of}
-use Rattle.cif_content.specs.Contents.{IsSoundElement, IsSoundFigure, IsSoundFile, element_calls, with_call}
+use Rattle.lay_cells.specs.declared.cell_id.CellId.{CellId}
+use Rattle.lay_cells.specs.Symbols.{has_cell, has_symbol}
+use Rattle.lay_cells.specs.Walks.{IsAcyclic}
+use Rattle.cif_read.specs.declared.content.Content.{Content}
+use Rattle.cif_read.specs.declared.element.Element.{Element}
+use Rattle.cif_read.specs.declared.element.Figure.{Figure}
+use Rattle.cif_read.specs.declared.element.Figure.TheVariants.{Call, Polygon}
+use Rattle.cif_read.specs.Binding.{IsBound, contents_of, edge_of}
+use Rattle.cif_read.specs.Contents.{IsSoundElement, IsSoundFigure, IsSoundFile, element_calls, with_call}
 use Rattle.cif_read.specs.Kept.{IsKept, IsKeptElement, IsKeptFigure}
 
 pub unmapped : {X Y : Type 0} (P : X → Type 0) (f : Y → X) (ys : List Y) → All P (map f ys) → All (λ y. P (f y)) ys

@@ -3,17 +3,17 @@ use Rattle.std.proofs.Common.{◌≡◌, ℕ, true, false, List, [], ◌∷◌, 
 use Rattle.std.proofs.Common.{Result, Ok, Err, refl, sym, ap, ◌∙◌, inl, inr, cond, Bool, IfOk, subst}
 use Rattle.std.proofs.lemmas.Bool.{eqb-true}
 use Rattle.lay_point.specs.Memory.{IsAnswer}
-use Rattle.cif_scan.specs.Bytes.{is_blank, is_gap, skip}
-use Rattle.cif_scan.specs.Cutting.{Breaks, CommandOf, EndOf, Ends, Front}
-use Rattle.cif_scan.specs.Cutting.{behind_command, command_len, cut, cut_by, cut_rest, first_offset}
-use Rattle.cif_scan.specs.Cutting.{front_of, offset_of}
-use Rattle.cif_scan.proofs.CutLemmas.{cut_rest-step}
-use Rattle.cif_content.specs.declared.content.Content.{Content}
-use Rattle.cif_content.specs.declared.fault.CifFault.{CifFault}
-use Rattle.cif_content.specs.declared.fault.FaultKind.TheVariants.{Syntax}
-use Rattle.cif_content.specs.Content.{empty_content, is_inside}
-use Rattle.cif_content.specs.Meaning.{after_bytes, after_cut, after_end, after_pieces, at_ending, begins_with_end, content_in, fault_at}
-use Rattle.cif_content.specs.Steps.{and_then}
+use Rattle.cif_grammar.specs.Bytes.{is_blank, is_gap, skip}
+use Rattle.cif_grammar.specs.Cutting.{Breaks, CommandOf, EndOf, Ends, Front}
+use Rattle.cif_grammar.specs.Cutting.{behind_command, command_len, cut, cut_by, cut_rest, first_offset}
+use Rattle.cif_grammar.specs.Cutting.{front_of, offset_of}
+use Rattle.cif_grammar.proofs.CutLemmas.{cut_rest-step}
+use Rattle.cif_read.specs.declared.content.Content.{Content}
+use Rattle.cif_read.specs.declared.fault.CifFault.{CifFault}
+use Rattle.cif_read.specs.declared.fault.FaultKind.TheVariants.{Syntax}
+use Rattle.cif_read.specs.Content.{empty_content, is_inside}
+use Rattle.cif_read.specs.Meaning.{after_bytes, after_cut, after_end, after_pieces, at_ending, begins_with_end, content_in, fault_at}
+use Rattle.cif_read.specs.Steps.{and_then}
 
 -- what a rest means after what came before it
 abbrev pub rest_means : Content → ℕ → List ℕ → Result Content CifFault

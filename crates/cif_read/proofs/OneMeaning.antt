@@ -3,16 +3,16 @@ use Rattle.std.proofs.Common.{◌≡◌, ◌<◌, ◌≤◌, nat_lt, ℕ, List, 
 use Rattle.std.proofs.lemmas.Bool.{cases_lt}
 use Rattle.std.proofs.lemmas.Bool.Decides.{nat_tests}
 use Rattle.std.proofs.lemmas.List.Elements.{Contains-get_or}
-use Rattle.lay_calls.specs.declared.cell_id.CellId.{CellId}
-use Rattle.lay_calls.specs.declared.cell_id.CellId.TheVariants.{Top}
-use Rattle.lay_calls.specs.Walks.{IsAcyclic, IsFirstCycle, call_at}
-use Rattle.cif_content.specs.declared.content.Content.{Content}
-use Rattle.cif_content.specs.declared.content.Pending.{Pending}
-use Rattle.cif_content.specs.declared.fault.CifFault.{CifFault}
-use Rattle.cif_content.specs.Binding.{IsBindingFault, IsBound, IsBoundAs, IsFirstUnbound, edge_of, pending_at}
-use Rattle.cif_content.specs.Contents.{Contents}
-use Rattle.cif_content.specs.declared.file.TheConstants.{MAX_TEXT}
-use Rattle.cif_content.specs.Meaning.{IsEndOf, IsMeaning, content_in, content_within, too_long}
+use Rattle.lay_cells.specs.declared.cell_id.CellId.{CellId}
+use Rattle.lay_cells.specs.declared.cell_id.CellId.TheVariants.{Top}
+use Rattle.lay_cells.specs.Walks.{IsAcyclic, IsFirstCycle, call_at}
+use Rattle.cif_read.specs.declared.content.Content.{Content}
+use Rattle.cif_read.specs.declared.content.Pending.{Pending}
+use Rattle.cif_read.specs.declared.fault.CifFault.{CifFault}
+use Rattle.cif_read.specs.Binding.{IsBindingFault, IsBound, IsBoundAs, IsFirstUnbound, edge_of, pending_at}
+use Rattle.cif_read.specs.Contents.{Contents}
+use Rattle.cif_read.specs.declared.file.TheConstants.{MAX_TEXT}
+use Rattle.cif_read.specs.Meaning.{IsEndOf, IsMeaning, content_in, content_within, too_long}
 
 -- two places of which neither is before the other are one
 one_place : (i j : ℕ) → ¬ (i < j) → ¬ (j < i) → i ≡ j

@@ -1,13 +1,13 @@
 -- What the bytes of a command mean is what a command of the grammar means.
 use Rattle.std.proofs.Common.{◌≡◌, ℕ, List, Option, Some, None, Result, Ok, Err, refl, ap}
-use Rattle.cif_commands.specs.Commands.{Command}
-use Rattle.cif_commands.specs.Reading.{command_of}
-use Rattle.cif_content.specs.declared.content.Content.{Content}
-use Rattle.cif_content.specs.declared.fault.FaultKind.{FaultKind}
-use Rattle.cif_content.specs.Content.{effect_of}
+use Rattle.cif_grammar.specs.Commands.{Command}
+use Rattle.cif_grammar.specs.Reading.{command_of}
+use Rattle.cif_read.specs.declared.content.Content.{Content}
+use Rattle.cif_read.specs.declared.fault.FaultKind.{FaultKind}
+use Rattle.cif_read.specs.Content.{effect_of}
 use Rattle.cif_read.specs.Kept.{IsKept}
-use Rattle.cif_content.specs.Meaning.{after_bytes, after_piece, read_as, unread_kind}
-use Rattle.cif_content.specs.Steps.{at_offset}
+use Rattle.cif_read.specs.Meaning.{after_bytes, after_piece, read_as, unread_kind}
+use Rattle.cif_read.specs.Steps.{at_offset}
 use Rattle.cif_read.proofs.StepFacts.{IsStep, step_of}
 
 pub from_at_offset : {A : Type 0} (offset : ℕ) (r : Result A FaultKind) (x : A) → at_offset offset r ≡ Ok x → r ≡ Ok x

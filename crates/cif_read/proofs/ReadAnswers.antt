@@ -1,14 +1,14 @@
 -- The answers of a reader, as texts of the grammar have them.
 use Rattle.std.proofs.Common.{◌≡◌, ◌⊎◌, ℕ, List, Result, Ok, Err, refl, sym, subst, inl, inr, IfOk}
 use Rattle.lay_point.specs.Memory.{IsAnswer}
-use Rattle.cif_commands.specs.Commands.{Command}
-use Rattle.cif_commands.specs.Grammar.{Reads}
-use Rattle.cif_content.specs.declared.content.Content.{Content}
-use Rattle.cif_content.specs.declared.fault.CifFault.{CifFault}
-use Rattle.cif_content.specs.Binding.{IsBoundAs}
-use Rattle.cif_content.specs.Content.{content_of}
-use Rattle.cif_content.specs.Contents.{Contents}
-use Rattle.cif_content.specs.Meaning.{IsEndOf, content_in, no_memory}
+use Rattle.cif_grammar.specs.Commands.{Command}
+use Rattle.cif_grammar.specs.Grammar.{Reads}
+use Rattle.cif_read.specs.declared.content.Content.{Content}
+use Rattle.cif_read.specs.declared.fault.CifFault.{CifFault}
+use Rattle.cif_read.specs.Binding.{IsBoundAs}
+use Rattle.cif_read.specs.Content.{content_of}
+use Rattle.cif_read.specs.Contents.{Contents}
+use Rattle.cif_read.specs.Meaning.{IsEndOf, content_in, no_memory}
 use Rattle.cif_read.proofs.TextGrammar.{accepted, complete}
 
 -- the result, or out of memory in its place

@@ -14,16 +14,16 @@ use Rattle.lay_point.specs.Points.{is_in_range}
 use Rattle.lay_point.specs.Rings.{IsRing, NeighboursDiffer, checked_ring, closed, opened}
 use Rattle.lay_point.specs.Rings.{rectangle, ring_of, without_neighbours, without_repeats}
 use Rattle.lay_point.proofs.RingLemmas.{opened-apart}
-use Rattle.cif_scan.proofs.Steps.{chosen_of}
-use Rattle.cif_commands.specs.declared.boxes.BoxNumbers.{BoxNumbers}
-use Rattle.cif_commands.specs.declared.definitions.Scale.{Scale}
-use Rattle.cif_commands.specs.declared.paths.Vertex.{Vertex}
-use Rattle.cif_content.specs.declared.fault.FaultKind.{FaultKind}
-use Rattle.cif_content.specs.declared.fault.FaultKind.TheVariants.{OffGrid, TooBig}
-use Rattle.cif_content.specs.Boxes.{box_at, box_between, high_corner, is_flat, is_whole_box, low_corner, ring_between}
-use Rattle.cif_content.specs.Polygons.{points_from, polygon_at, ring_of_points, ring_or_none}
-use Rattle.cif_content.specs.Scales.{IsRatio}
-use Rattle.cif_content.proofs.BoxLemmas.{spans}
+use Rattle.cif_grammar.proofs.Steps.{chosen_of}
+use Rattle.cif_grammar.specs.declared.boxes.BoxNumbers.{BoxNumbers}
+use Rattle.cif_grammar.specs.declared.definitions.Scale.{Scale}
+use Rattle.cif_grammar.specs.declared.paths.Vertex.{Vertex}
+use Rattle.cif_read.specs.declared.fault.FaultKind.{FaultKind}
+use Rattle.cif_read.specs.declared.fault.FaultKind.TheVariants.{OffGrid, TooBig}
+use Rattle.cif_read.specs.Boxes.{box_at, box_between, high_corner, is_flat, is_whole_box, low_corner, ring_between}
+use Rattle.cif_read.specs.Polygons.{points_from, polygon_at, ring_of_points, ring_or_none}
+use Rattle.cif_read.specs.Scales.{IsRatio}
+use Rattle.cif_read.proofs.BoxLemmas.{spans}
 
 -- a refusal isn't a value
 pub taken : {A : Type 0} {E : Type 0} {P : Type 0} (t : Bool) (e : E) (r : Result A E) (x : A) → cond t (Err e) r ≡ Ok x

@@ -12,41 +12,41 @@ use Rattle.lay_point.specs.declared.point.Point.{Point}
 use Rattle.lay_point.specs.declared.turn.Turn.{Turn}
 use Rattle.lay_point.specs.Points.{is_in_range}
 use Rattle.lay_point.specs.Turns.{composed, unturned}
-use Rattle.lay_calls.specs.declared.cell_id.CellId.{CellId}
-use Rattle.lay_calls.specs.declared.cell_id.CellId.TheVariants.{Symbol, Top}
-use Rattle.lay_calls.specs.declared.cells.TheConstants.{MAX_SYMBOL}
-use Rattle.lay_calls.specs.Symbols.{has_cell, has_symbol}
-use Rattle.cif_scan.proofs.Steps.{bind_some, chosen_of}
-use Rattle.cif_commands.specs.declared.boxes.BoxNumbers.{BoxNumbers}
-use Rattle.cif_commands.specs.declared.paths.Vertex.{Vertex}
-use Rattle.cif_commands.specs.declared.calls.Change.{Change}
-use Rattle.cif_commands.specs.declared.definitions.Definition.{Definition}
-use Rattle.cif_commands.specs.declared.definitions.Scale.{Scale}
-use Rattle.cif_commands.specs.Commands.{Box, Call, Command, Comment, Extension, Finish, Layer, Polygon, Start}
-use Rattle.cif_commands.specs.Grammar.{inside_after, may_stand}
-use Rattle.cif_content.specs.declared.content.Content.{Content}
-use Rattle.cif_content.specs.declared.content.OpenDefinition.{OpenDefinition}
-use Rattle.cif_content.specs.declared.content.Pending.{Pending}
-use Rattle.cif_content.specs.declared.element.Element.{Element}
-use Rattle.cif_content.specs.declared.element.Figure.{Figure}
-use Rattle.cif_content.specs.declared.element.Figure.TheVariants as figure
-use Rattle.cif_content.specs.declared.fault.FaultKind.{FaultKind}
-use Rattle.cif_content.specs.declared.fault.FaultKind.TheVariants.{LongName, OffAxis, OffGrid, TooBig}
+use Rattle.lay_cells.specs.declared.cell_id.CellId.{CellId}
+use Rattle.lay_cells.specs.declared.cell_id.CellId.TheVariants.{Symbol, Top}
+use Rattle.lay_cells.specs.declared.cells.TheConstants.{MAX_SYMBOL}
+use Rattle.lay_cells.specs.Symbols.{has_cell, has_symbol}
+use Rattle.cif_grammar.proofs.Steps.{bind_some, chosen_of}
+use Rattle.cif_grammar.specs.declared.boxes.BoxNumbers.{BoxNumbers}
+use Rattle.cif_grammar.specs.declared.paths.Vertex.{Vertex}
+use Rattle.cif_grammar.specs.declared.calls.Change.{Change}
+use Rattle.cif_grammar.specs.declared.definitions.Definition.{Definition}
+use Rattle.cif_grammar.specs.declared.definitions.Scale.{Scale}
+use Rattle.cif_grammar.specs.Commands.{Box, Call, Command, Comment, Extension, Finish, Layer, Polygon, Start}
+use Rattle.cif_grammar.specs.Grammar.{inside_after, may_stand}
+use Rattle.cif_read.specs.declared.content.Content.{Content}
+use Rattle.cif_read.specs.declared.content.OpenDefinition.{OpenDefinition}
+use Rattle.cif_read.specs.declared.content.Pending.{Pending}
+use Rattle.cif_read.specs.declared.element.Element.{Element}
+use Rattle.cif_read.specs.declared.element.Figure.{Figure}
+use Rattle.cif_read.specs.declared.element.Figure.TheVariants as figure
+use Rattle.cif_read.specs.declared.fault.FaultKind.{FaultKind}
+use Rattle.cif_read.specs.declared.fault.FaultKind.TheVariants.{LongName, OffAxis, OffGrid, TooBig}
 use Rattle.lay_point.specs.declared.layer_name.TheConstants.{MAX_LAYER_NAME}
-use Rattle.cif_content.specs.Binding.{edge_of}
-use Rattle.cif_content.specs.Boxes.{box_at, is_askew, is_big_box}
-use Rattle.cif_content.specs.Calls.{call_turn, is_askew_change, is_whole_change, turn_changed_by, turn_in_range, turn_of, turn_or_fault}
-use Rattle.cif_content.specs.Content.{after_box, after_call, after_layer, after_polygon, after_start, called, content_size, current_cell}
-use Rattle.cif_content.specs.Content.{definition_begun, drawn}
-use Rattle.cif_content.specs.Content.{current_scale, effect_of, empty_content, finished, is_big_call, is_inside, on_layer}
-use Rattle.cif_content.specs.Contents.{element_calls, with_call}
+use Rattle.cif_read.specs.Binding.{edge_of}
+use Rattle.cif_read.specs.Boxes.{box_at, is_askew, is_big_box}
+use Rattle.cif_read.specs.Calls.{call_turn, is_askew_change, is_whole_change, turn_changed_by, turn_in_range, turn_of, turn_or_fault}
+use Rattle.cif_read.specs.Content.{after_box, after_call, after_layer, after_polygon, after_start, called, content_size, current_cell}
+use Rattle.cif_read.specs.Content.{definition_begun, drawn}
+use Rattle.cif_read.specs.Content.{current_scale, effect_of, empty_content, finished, is_big_call, is_inside, on_layer}
+use Rattle.cif_read.specs.Contents.{element_calls, with_call}
 use Rattle.cif_read.specs.Kept.{IsKept, IsKeptElement}
-use Rattle.cif_content.specs.Polygons.{is_too_big, polygon_at}
-use Rattle.cif_content.specs.Scales.{IsRatio}
-use Rattle.cif_content.specs.Steps.{and_then}
-use Rattle.cif_content.specs.Symbols.{definition_fault}
+use Rattle.cif_read.specs.Polygons.{is_too_big, polygon_at}
+use Rattle.cif_read.specs.Scales.{IsRatio}
+use Rattle.cif_read.specs.Steps.{and_then}
+use Rattle.cif_read.specs.Symbols.{definition_fault}
 use Rattle.cif_read.proofs.RingFacts.{IsDrawing, box_drawing, polygon_drawing, taken}
-use Rattle.cif_content.proofs.SymbolLemmas.{new_symbol}
+use Rattle.cif_read.proofs.SymbolLemmas.{new_symbol}
 
 -- ---- symbols
 

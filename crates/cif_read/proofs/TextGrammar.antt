@@ -4,22 +4,22 @@ use Rattle.std.proofs.Common.{[], ◌∷◌, ◌++◌, length, take, drop, Optio
 use Rattle.std.proofs.Common.{Ok, Err, refl, sym, ap, ◌∙◌, subst, arith}
 use Rattle.std.specs.List.{list_all, take_while}
 use Rattle.std.proofs.lemmas.List.{append-nil, drop-drop, drop_at, length-append, take_at}
-use Rattle.cif_scan.specs.Bytes.{is_blank, is_gap, skip}
-use Rattle.cif_scan.proofs.ByteClasses.{letter_no_gap}
-use Rattle.cif_scan.proofs.Runs.{Stops, list_all-take_while, skip-front, taken_and_left}
-use Rattle.cif_commands.specs.Commands.{Command}
-use Rattle.cif_scan.specs.Cutting.{Breaks, CommandOf, EndOf, Ends, behind_command, command_len, first_offset, offset_of}
-use Rattle.cif_commands.specs.Grammar.{BeginsWith, Reads, ReadsFrom, Spells, inside_after}
-use Rattle.cif_commands.proofs.CommandGrammar.{command_again}
-use Rattle.cif_scan.proofs.CutGrammar.{command_ends}
-use Rattle.cif_commands.proofs.Openings.{Opening, opening}
-use Rattle.cif_commands.proofs.Pieces.{piece_takes}
-use Rattle.cif_content.specs.declared.content.Content.{Content}
-use Rattle.cif_content.specs.declared.fault.CifFault.{CifFault}
-use Rattle.cif_content.specs.Content.{after_command_at, after_commands, content_of, effect_of, empty_content, is_inside}
+use Rattle.cif_grammar.specs.Bytes.{is_blank, is_gap, skip}
+use Rattle.cif_grammar.proofs.ByteClasses.{letter_no_gap}
+use Rattle.cif_grammar.proofs.Runs.{Stops, list_all-take_while, skip-front, taken_and_left}
+use Rattle.cif_grammar.specs.Commands.{Command}
+use Rattle.cif_grammar.specs.Cutting.{Breaks, CommandOf, EndOf, Ends, behind_command, command_len, first_offset, offset_of}
+use Rattle.cif_grammar.specs.Grammar.{BeginsWith, Reads, ReadsFrom, Spells, inside_after}
+use Rattle.cif_grammar.proofs.CommandGrammar.{command_again}
+use Rattle.cif_grammar.proofs.CutGrammar.{command_ends}
+use Rattle.cif_grammar.proofs.Openings.{Opening, opening}
+use Rattle.cif_grammar.proofs.Pieces.{piece_takes}
+use Rattle.cif_read.specs.declared.content.Content.{Content}
+use Rattle.cif_read.specs.declared.fault.CifFault.{CifFault}
+use Rattle.cif_read.specs.Content.{after_command_at, after_commands, content_of, effect_of, empty_content, is_inside}
 use Rattle.cif_read.specs.Kept.{IsKept}
-use Rattle.cif_content.specs.Meaning.{after_bytes, at_ending, begins_with_end, content_in, read_as, unread_kind}
-use Rattle.cif_content.specs.Steps.{and_then, at_offset}
+use Rattle.cif_read.specs.Meaning.{after_bytes, at_ending, begins_with_end, content_in, read_as, unread_kind}
+use Rattle.cif_read.specs.Steps.{and_then, at_offset}
 use Rattle.cif_read.proofs.MeaningLemmas.{at_end, end_parts, front_breaks, front_command}
 use Rattle.cif_read.proofs.MeaningLemmas.{front_end, rest_means, rest_means-step, start_means}
 use Rattle.cif_read.proofs.PieceFacts.{from_at_offset, kept_step}

@@ -2,17 +2,17 @@
 use Rattle.std.specs.Prelude.{◌≡◌, ℕ, ◌≤◌, List, length, map, All, IsTrue}
 use Rattle.lay_point.specs.Points.{is_in_range}
 use Rattle.lay_point.specs.Rings.{IsRing}
-use Rattle.lay_calls.specs.declared.cells.TheConstants.{MAX_SYMBOL}
-use Rattle.lay_calls.specs.Symbols.{has_cell}
-use Rattle.cif_content.specs.declared.content.Content.{Content}
-use Rattle.cif_content.specs.declared.element.Element.{Element}
-use Rattle.cif_content.specs.declared.element.Figure.{Figure}
-use Rattle.cif_content.specs.declared.element.Figure.TheVariants.{Call, Polygon}
-use Rattle.cif_content.specs.declared.file.TheConstants.{MAX_SYMBOLS}
-use Rattle.cif_content.specs.Binding.{edge_of}
-use Rattle.cif_content.specs.Content.{current_cell, current_scale}
-use Rattle.cif_content.specs.Scales.{IsRatio}
-use Rattle.cif_content.specs.Contents.{element_calls}
+use Rattle.lay_cells.specs.declared.cells.TheConstants.{MAX_SYMBOL}
+use Rattle.lay_cells.specs.Symbols.{has_cell}
+use Rattle.cif_read.specs.declared.content.Content.{Content}
+use Rattle.cif_read.specs.declared.element.Element.{Element}
+use Rattle.cif_read.specs.declared.element.Figure.{Figure}
+use Rattle.cif_read.specs.declared.element.Figure.TheVariants.{Call, Polygon}
+use Rattle.cif_read.specs.declared.file.TheConstants.{MAX_SYMBOLS}
+use Rattle.cif_read.specs.Binding.{edge_of}
+use Rattle.cif_read.specs.Content.{current_cell, current_scale}
+use Rattle.cif_read.specs.Scales.{IsRatio}
+use Rattle.cif_read.specs.Contents.{element_calls}
 
 -- what may be drawn before the calls are bound
 abbrev pub IsKeptFigure : Figure → Type 0

@@ -1,4 +1,12 @@
+pub mod Binding
+pub mod Boxes
+pub mod Calls
+pub mod Content
+pub mod Contents
+pub mod Faults
 pub mod Kept
-pub use Rattle.cif_content.specs.Contents
-pub use Rattle.cif_content.specs.declared.element.Element
-pub use Rattle.cif_content.specs.declared.element.Figure
+pub mod Meaning
+pub mod Polygons
+pub mod Scales
+pub mod Steps
+pub mod Symbols

@@ -1,14 +1,15 @@
 //! Binding of calls at the end of a text.
 ghost use Rattle.std.specs.Prelude.{◌≡◌, ◌⊎◌, ◌↔◌, All, Err, IfOk, IfSome, IsNone, IsTrue, MatchOption, map};
-ghost use Rattle.lay_calls.specs.Symbols.{has_cell};
-ghost use Rattle.lay_calls.specs.Walks.{IsAcyclic, IsFirstCycle};
-ghost use Rattle.cif_content.specs.Binding.{IsBound, IsBoundAs, IsFirstUnbound, edge_of};
+ghost use Rattle.lay_cells.specs.Symbols.{has_cell};
+ghost use Rattle.lay_cells.specs.Walks.{IsAcyclic, IsFirstCycle};
+ghost use Rattle.cif_read.specs.Binding.{IsBound, IsBoundAs, IsFirstUnbound, edge_of};
 ghost use Rattle.cif_read.specs.Kept.{IsKept};
-ghost use Rattle.cif_content.specs.Meaning.{no_memory};
+ghost use Rattle.cif_read.specs.Meaning.{no_memory};
 
-use cif_content::{CifFault, CifFile, Content, FaultKind, Pending};
-use lay_calls::Cells;
-use lay_cells::CallGraph;
+use crate::content::{Content, Pending};
+use crate::fault::{CifFault, FaultKind};
+use crate::file::CifFile;
+use lay_cells::{CallGraph, Cells};
 use lay_point::NoMemory;
 use std::alloc::Global;
 

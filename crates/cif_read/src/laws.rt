@@ -1,8 +1,8 @@
 //! What holds of the meaning of every text, as a call that does nothing.
 ghost use Rattle.std.specs.Prelude.{◌≡◌, Result};
-ghost use Rattle.cif_content.specs.declared.fault.CifFault.{CifFault};
-ghost use Rattle.cif_content.specs.Contents.{Contents};
-ghost use Rattle.cif_content.specs.Meaning.{IsMeaning};
+ghost use Rattle.cif_read.specs.declared.fault.CifFault.{CifFault};
+ghost use Rattle.cif_read.specs.Contents.{Contents};
+ghost use Rattle.cif_read.specs.Meaning.{IsMeaning};
 
 /// A text has one meaning, or one first fault.
 pub fn a_text_has_one_meaning(_text: &[u8])

@@ -1,21 +1,31 @@
 //! Reading of whole texts.
 ghost use Rattle.std.specs.Prelude.{◌≡◌, ◌⊎◌, ◌+◌, ◌<◌, ◌≤◌, ◌^◌, ◌∷◌, ℕ, List, length, Ok, Err, IfOk};
 ghost use Rattle.lay_point.specs.Memory.{IsAnswer};
-ghost use Rattle.cif_commands.specs.Commands.{Command};
-ghost use Rattle.cif_scan.specs.Cutting.{Ends, first_offset, offset_of};
-ghost use Rattle.cif_commands.specs.Grammar.{Reads};
-ghost use Rattle.cif_scan.specs.Bytes.{is_blank, skip};
-ghost use Rattle.cif_content.specs.declared.content.Content.{Content};
-ghost use Rattle.cif_content.specs.Binding.{IsBoundAs};
-ghost use Rattle.cif_content.specs.Content.{content_of, content_size};
+ghost use Rattle.cif_grammar.specs.Commands.{Command};
+ghost use Rattle.cif_grammar.specs.Cutting.{Ends, first_offset, offset_of};
+ghost use Rattle.cif_grammar.specs.Grammar.{Reads};
+ghost use Rattle.cif_grammar.specs.Bytes.{is_blank, skip};
+ghost use Rattle.cif_read.specs.declared.content.Content.{Content};
+ghost use Rattle.cif_read.specs.Binding.{IsBoundAs};
+ghost use Rattle.cif_read.specs.Content.{content_of, content_size};
 ghost use Rattle.cif_read.specs.Kept.{IsKept};
-ghost use Rattle.cif_content.specs.Meaning.{AnswersMeaning, IsEndOf, after_bytes, at_ending, begins_with_end, content_in, no_memory};
-ghost use Rattle.cif_content.specs.Meaning.{too_long};
-ghost use Rattle.cif_content.specs.Steps.{leaves};
+ghost use Rattle.cif_read.specs.Meaning.{
+  AnswersMeaning,
+  IsEndOf,
+  after_bytes,
+  at_ending,
+  begins_with_end,
+  content_in,
+  no_memory,
+};
+ghost use Rattle.cif_read.specs.Meaning.{too_long};
+ghost use Rattle.cif_read.specs.Steps.{leaves};
 
 use crate::binding::bound;
-use cif_content::{CifFault, CifFile, Content, FaultKind, MAX_TEXT};
-use cif_scan::{Class, command_len, skip};
+use crate::content::Content;
+use crate::fault::{CifFault, FaultKind};
+use crate::file::{CifFile, MAX_TEXT};
+use cif_grammar::{Class, command_len, skip};
 use std::alloc::Global;
 
 /// Returns the meaning of the text, or its first fault.
@@ -82,7 +92,7 @@ fn begins_with_end(bytes: &[u8]) -> bool
 }
 
 /// Applies the bytes of the command at this offset to the content before it.
-#[tactic(auto, unfolding(cif_content::specs::Meaning::after_bytes))]
+#[tactic(auto, unfolding(crate::specs::Meaning::after_bytes))]
 fn apply(alloc: Global, content: &mut Content, offset: usize, bytes: &[u8]) -> Result<(), CifFault>
     requires { content_size content.old + 1 < 2 ^ 32 }
     ensures { IsAnswer no_memory (leaves result content.new) (after_bytes content.old offset bytes.now) }

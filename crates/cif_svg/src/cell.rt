@@ -1,7 +1,7 @@
 //! Which cell is drawn.
 
 use anyhow::Context;
-use lay_calls::CellId;
+use lay_cells::CellId;
 use lay_items::Snapshot;
 use lay_point::NoMemory;
 use std::alloc::Global;

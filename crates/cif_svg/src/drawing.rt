@@ -6,7 +6,7 @@ use crate::layers::{Drawn, bounds_of, drawn_below};
 use crate::path::put_ring;
 use crate::style::style_of;
 use anyhow::Context;
-use lay_calls::CellId;
+use lay_cells::CellId;
 use lay_items::Snapshot;
 use lay_point::{LayerName, NoMemory, Point};
 use std::alloc::Global;

@@ -1,7 +1,7 @@
 //! The layers of a layout, and what is drawn on them below a cell.
 
 use crate::bounds::Bounds;
-use lay_calls::CellId;
+use lay_cells::CellId;
 use lay_flat::{Flat, FlatFault, flatten};
 use lay_items::Snapshot;
 use lay_layouts::Item;

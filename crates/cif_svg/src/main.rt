@@ -23,7 +23,8 @@ mod style;
 
 use anyhow::Context;
 use cell::cell_named;
-use cif_layout::{FromCif, read};
+use cif_layout::FromCif;
+use cif_read::read;
 use drawing::picture;
 use lay_items::Snapshot;
 use std::env;

@@ -1,7 +1,6 @@
 //! Tests of the words, which no clause pins.
 
-use cif_content::CifFault;
-use cif_read::read;
+use cif_read::{CifFault, read};
 use job_advice::*;
 use std::alloc::Global;
 use std::str::from_utf8;

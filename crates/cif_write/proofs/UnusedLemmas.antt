@@ -4,7 +4,7 @@ use Rattle.std.proofs.Common.{cond, ◌||◌, List, [], ◌∷◌, length, nat_e
 use Rattle.std.specs.Prelude.{filter}
 use Rattle.std.proofs.lemmas.Bool.{or_left, or_right}
 use Rattle.std.proofs.lemmas.Bool.Decides.{Decides-eqb, nat_tests}
-use Rattle.lay_calls.specs.Symbols.{has_symbol}
+use Rattle.lay_cells.specs.Symbols.{has_symbol}
 use Rattle.cif_write.specs.Unused.{IsLeastUnused}
 use Rattle.cif_write.specs.Wrap.{least_unused, unused_from}
 

@@ -1,6 +1,6 @@
 -- The scan for the least unused number, step by step.
 use Rattle.std.proofs.Common.{◌≡◌, ◌<◌, ℕ, zero, suc, ◌+◌, ◌-◌, true, false, List, cond, ap, arith}
-use Rattle.lay_calls.specs.Symbols.{has_symbol}
+use Rattle.lay_cells.specs.Symbols.{has_symbol}
 use Rattle.cif_write.specs.Wrap.{unused_from}
 
 pub unused_here : (count number : ℕ) (numbers : List ℕ) → 0 < count → has_symbol numbers number ≡ false

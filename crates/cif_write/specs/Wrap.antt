@@ -5,9 +5,9 @@ use Rattle.std.specs.List.{flat_map}
 use Rattle.lay_point.specs.Bridges.{bridged}
 use Rattle.lay_point.specs.SameTurn.{turn_eq}
 use Rattle.lay_point.specs.Turns.{unturned}
-use Rattle.lay_calls.specs.declared.cell_id.CellId.{CellId}
-use Rattle.lay_calls.specs.declared.cell_id.CellId.TheVariants.{Symbol, Top}
-use Rattle.lay_calls.specs.Symbols.{has_symbol}
+use Rattle.lay_cells.specs.declared.cell_id.CellId.{CellId}
+use Rattle.lay_cells.specs.declared.cell_id.CellId.TheVariants.{Symbol, Top}
+use Rattle.lay_cells.specs.Symbols.{has_symbol}
 use Rattle.lay_layouts.specs.declared.id.ItemId.{ItemId}
 use Rattle.lay_layouts.specs.declared.item.Item.{Item}
 use Rattle.lay_layouts.specs.declared.item.Item.TheVariants.{Placed, Shape}

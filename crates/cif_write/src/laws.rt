@@ -5,7 +5,7 @@ ghost use Rattle.cif_write.specs.Text.{file_lines};
 ghost use Rattle.cif_write.specs.Unused.{IsLeastUnused};
 ghost use Rattle.cif_write.specs.Wrap.{least_unused, written};
 
-use lay_calls::Cells;
+use lay_cells::Cells;
 use lay_items::Snapshot;
 
 /// No layer line of the text is idle: each sets another layer than is set, and a path comes next. The last

@@ -23,6 +23,5 @@ mod turns;
 mod wrap;
 mod writer;
 
-pub use byte_io::{Out, OutFault};
 pub use laws::{lines_are_not_idle, the_wrapping_symbol_is_the_least_unused};
 pub use writer::{Prepared, WriteFault, prepare, write};

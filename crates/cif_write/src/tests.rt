@@ -1,12 +1,12 @@
 //! Tests of what no clause says: that texts are written, and that definitions mean what they should.
 
-use super::*;
 use crate::points::put_bridged;
 use crate::text::put_call;
 use crate::wrap::least_unused;
+use crate::writer::{WriteFault, write};
 use byte_io::{Failing, MemoryOut, OutBuffer};
 use cif_layout::FromCif;
-use lay_calls::Cells;
+use lay_cells::Cells;
 use lay_items::Snapshot;
 use lay_point::{Point, Quarter, Ring, Turn};
 use std::alloc::Global;
@@ -14,7 +14,7 @@ use std::test::*;
 
 /// Writes what the text means to the device.
 fn rewrite(alloc: Global, text: &[u8], out: &mut MemoryOut) -> Result<(), WriteFault> {
-    let Ok(file) = cif_layout::read(alloc, text) else {
+    let Ok(file) = cif_read::read(alloc, text) else {
         return Err(WriteFault::NoMemory);
     };
     write(alloc, &Snapshot::from_cif(alloc, file)?, out)

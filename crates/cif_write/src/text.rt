@@ -3,7 +3,12 @@
 ghost use Rattle.std.specs.Prelude.{◌≡◌, None, map};
 ghost use Rattle.byte_io.specs.Buffered.{Buffered};
 ghost use Rattle.cif_write.specs.Lines.{Call, OnLayer, Path, Start, line_text, lines_text};
-ghost use Rattle.cif_write.specs.Text.{definition_lines, definitions_lines, item_lines, items_lines};
+ghost use Rattle.cif_write.specs.Text.{
+  definition_lines,
+  definitions_lines,
+  item_lines,
+  items_lines,
+};
 ghost use Rattle.cif_write.specs.Text.{layer_after, path_lines, text};
 ghost use Rattle.cif_write.specs.Wrap.{entry_item, least_unused, own_definitions, wrapping};
 ghost use Rattle.lay_layouts.specs.SlotOrder.{in_slot_order};
@@ -13,9 +18,8 @@ use crate::points::put_bridged;
 use crate::turns::put_turn;
 use crate::wrap::plain_target;
 use byte_io::{Out, OutBuffer};
-use lay_calls::CellId;
-use lay_cell_items::Items;
-use lay_items::Snapshot;
+use lay_cells::CellId;
+use lay_items::{Items, Snapshot};
 use lay_layouts::{Item, Rings};
 use lay_point::{LayerName, Turn};
 

@@ -2,8 +2,8 @@
 ghost use Rattle.std.specs.Prelude.{◌≡◌, IfOk, map};
 ghost use Rattle.cif_write.specs.Wrap.{entry_item, least_unused, plain_target};
 
-use lay_calls::Cells;
-use lay_cell_items::Items;
+use lay_cells::Cells;
+use lay_items::Items;
 use lay_layouts::Item;
 use lay_point::{NoMemory, Turn};
 

@@ -1,6 +1,9 @@
 //! Writing of a layout to a device. All that takes memory comes before the first byte.
 ghost use Rattle.std.specs.Prelude.{◌≡◌, ◌+◌, ◌↔◌, IsErrOf, Ok, OnErr, OnOk};
-ghost use Rattle.cif_write.specs.declared.writer.WriteFault.TheVariants.{Device, NoMemory as OutOfMemory};
+ghost use Rattle.cif_write.specs.declared.writer.WriteFault.TheVariants.{
+  Device,
+  NoMemory as OutOfMemory,
+};
 ghost use Rattle.byte_io.specs.Device.{WroteAll, WrotePrefix};
 ghost use Rattle.cif_write.specs.Text.{text};
 ghost use Rattle.lay_point.specs.Memory.{IsAnswer};

@@ -1,9 +1,9 @@
-pub mod SameLemmas
+pub mod CloseLemmas
+pub mod FitLemmas
+pub mod GuardLemmas
+pub mod LawLemmas
 pub mod LegalLemmas
 pub mod MeantLemmas
 pub mod OwnLemmas
-pub mod GuardLemmas
+pub mod SameLemmas
 pub mod SeatLemmas
-pub mod FitLemmas
-pub mod CloseLemmas
-pub mod LawLemmas

@@ -11,7 +11,7 @@ use Rattle.txn_commands.specs.Compared.{agrees}
 use Rattle.txn_commands.specs.Transactions.{IsTransaction, Transaction}
 use Rattle.txn_commands.proofs.Agreements.{agree-sym}
 use Rattle.txn_commands.proofs.Compared.{agrees-itself}
-use Rattle.undo_rules.proofs.LawProofs.{framed}
+use Rattle.txn_rules.proofs.LawProofs.{framed}
 use Rattle.undo_rules.specs.declared.log.Answer.TheVariants.{Committed}
 use Rattle.undo_rules.specs.declared.log.BookFault.TheVariants.{Foreign, LogFull}
 use Rattle.undo_rules.specs.declared.log.Call.TheVariants.{Commit}

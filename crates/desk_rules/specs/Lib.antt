@@ -1,6 +1,6 @@
-pub mod Same
-pub mod Legal
-pub mod Seats
-pub mod Guards
 pub mod Close
+pub mod Guards
 pub mod Laws
+pub mod Legal
+pub mod Same
+pub mod Seats

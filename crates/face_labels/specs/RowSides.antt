@@ -1,12 +1,12 @@
 -- A row with the sides of its edges.
 use Rattle.std.specs.Prelude.{All}
-use Rattle.face_sides.specs.Rounded.{Owned}
+use Rattle.snap_chains.specs.Rounded.{Owned}
 use Rattle.face_labels.specs.declared.line.Line.{Line}
-use Rattle.face_sides.specs.Ends.{AreEnds}
-use Rattle.face_sides.specs.Reaches.{IsReach}
-use Rattle.face_sides.specs.Rows.{AreRowEdges}
-use Rattle.face_sides.specs.Sides.{AreKnown, IsKnown}
-use Rattle.face_sides.specs.Sound.{AreSound}
+use Rattle.face_sweep.specs.Ends.{AreEnds}
+use Rattle.face_sweep.specs.Reaches.{IsReach}
+use Rattle.face_rows.specs.Rows.{AreRowEdges}
+use Rattle.face_sweep.specs.Sides.{AreKnown, IsKnown}
+use Rattle.face_rows.specs.Sound.{AreSound}
 
 -- the edges of the row, with the sides of all of them
 pub record IsLine (r : Owned) (line : Line) : Type 0 where

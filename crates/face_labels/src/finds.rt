@@ -13,12 +13,14 @@ ghost use Rattle.std.specs.Prelude.{
   slice_index,
 };
 ghost use Rattle.std.specs.List.Sorted.{IsNonDecreasing};
-ghost use Rattle.face_sides.specs.Reaches.{EndAtReach};
-ghost use Rattle.face_sides.specs.Rows.{AreRowEdges};
-ghost use Rattle.face_sides.specs.Sides.{AreBehind, AreKnown, IsKnown};
-ghost use Rattle.face_sides.specs.Starts.{AreByRow, BeginsBy, IsStartOf};
+ghost use Rattle.face_sweep.specs.Reaches.{EndAtReach};
+ghost use Rattle.face_rows.specs.Rows.{AreRowEdges};
+ghost use Rattle.face_sweep.specs.Sides.{AreBehind, AreKnown, IsKnown};
+ghost use Rattle.face_sweep.specs.Starts.{AreByRow, BeginsBy, IsStartOf};
 
-use face_sides::{CleanEdges, Reach, Sides, Start, begins_after, crosses_row, place_of};
+use face_rows::crosses_row;
+use face_sweep::{Reach, Sides, Start, begins_after, place_of};
+use snap_chains::CleanEdges;
 use std::alloc::{AllocError, Global};
 
 /// Finds the sides of those of a row's edges of which they aren't known.

@@ -1,14 +1,16 @@
 //! Labels: whether an operation's answers differ on the two sides of an edge.
 ghost use Rattle.std.specs.Prelude.{◌≡◌, ◌<◌, ◌≤◌, All, IfOk, length};
 ghost use Rattle.std.specs.List.{zip};
-ghost use Rattle.face_sides.specs.Laws.{AreLesserFirst};
-ghost use Rattle.face_sides.specs.Bands.{begins_in, labelled};
-ghost use Rattle.face_sides.specs.Picked.{picked};
-ghost use Rattle.face_sides.specs.Starts.{AreAllStarts, AreByRow, HasLabel, IsStartOf};
+ghost use Rattle.face_rows.specs.Laws.{AreLesserFirst};
+ghost use Rattle.face_rows.specs.Bands.{begins_in, labelled};
+ghost use Rattle.face_rows.specs.Picked.{picked};
+ghost use Rattle.face_sweep.specs.Starts.{AreAllStarts, AreByRow, HasLabel, IsStartOf};
 
 use crate::line::Line;
-use face_sides::{Band, CleanEdges, Op, Start, starts};
+use face_rows::{Band, Op};
+use face_sweep::{Start, starts};
 use lay_point::{Edge, NoMemory};
+use snap_chains::CleanEdges;
 use std::alloc::{AllocError, Global};
 
 /// Returns the numbers of the edges whose lower ends are in the band, in order, each with whether

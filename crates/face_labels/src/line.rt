@@ -13,23 +13,22 @@ ghost use Rattle.std.specs.Prelude.{
   length,
   replicate,
 };
-ghost use Rattle.face_sides.specs.Labels.{differs, owned_items};
-ghost use Rattle.face_sides.specs.Laws.{AreLesserFirst};
-ghost use Rattle.face_sides.specs.Ends.{AreEnds};
-ghost use Rattle.face_sides.specs.Lines.{edge_at, owned_item_at};
-ghost use Rattle.face_sides.specs.Operations.{answer};
-ghost use Rattle.face_sides.specs.Rows.{AreRowEdges, upward};
-ghost use Rattle.face_sides.specs.Sound.{AreSound};
+ghost use Rattle.face_rows.specs.Labels.{differs, owned_items};
+ghost use Rattle.face_rows.specs.Laws.{AreLesserFirst};
+ghost use Rattle.face_sweep.specs.Ends.{AreEnds};
+ghost use Rattle.face_rows.specs.Lines.{edge_at, owned_item_at};
+ghost use Rattle.face_rows.specs.Operations.{answer};
+ghost use Rattle.face_rows.specs.Rows.{AreRowEdges, upward};
+ghost use Rattle.face_rows.specs.Sound.{AreSound};
 ghost use Rattle.face_labels.specs.RowSides.{IsLine};
-ghost use Rattle.face_sides.specs.Start.{Start};
-ghost use Rattle.face_sides.specs.Starts.{AreByRow, BeginsBy, IsStartOf};
+ghost use Rattle.face_sweep.specs.declared.start.Start.{Start};
+ghost use Rattle.face_sweep.specs.Starts.{AreByRow, BeginsBy, IsStartOf};
 
 use crate::finds::{find_begun, find_sides};
-use face_sides::{
-    CleanEdges, End, Op, Reach, Sides, Start, ends_above, gap_beside, insert_begun, row_edges,
-    without_ended,
-};
+use face_rows::{Op, row_edges};
+use face_sweep::{End, Reach, Sides, Start, ends_above, gap_beside, insert_begun, without_ended};
 use lay_point::NoMemory;
+use snap_chains::CleanEdges;
 use std::alloc::{AllocError, Global};
 
 /// The edges of a row, from left to right. What holds on the sides of an edge is the same in all rows that

@@ -9,7 +9,7 @@ use Rattle.lay_point.specs.RingEdges.{pairs, edges_of_ring, edges_of}
 use Rattle.lay_point.specs.Rings.{IsRing, closed, kept_behind, opened_behind, without_repeats}
 use Rattle.lay_point.proofs.RingLemmas.{point_eq-true}
 use Rattle.lay_point.proofs.Parity.{parity-append, xor_assoc}
-use Rattle.face_link_laws.proofs.ParityLemmas.{IsEdgeTest, is_crossed-IsEdgeTest, xor_twice}
+use Rattle.face_ring_laws.proofs.ParityLemmas.{IsEdgeTest, is_crossed-IsEdgeTest, xor_twice}
 
 -- two walks joined at a point
 pub parity_of_walks : (test : Point × Point → Bool) (ps : List Point) (q : Point) (qs : List Point)

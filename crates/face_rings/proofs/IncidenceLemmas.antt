@@ -22,8 +22,8 @@ use Rattle.lay_point.proofs.Members.{Has, has, contains}
 use Rattle.face_rings.specs.declared.incidence.End.{End}
 use Rattle.face_rings.specs.declared.incidence.Incidence.{Incidence}
 use Rattle.face_rings.specs.Incidence.{AreEndsOf, IsIncidence, IsUsedAt, KeepsMarks, end_cmp, point_cmp, left_of}
-use Rattle.face_part_laws.proofs.PartLemmas.{get_or-set}
-use Rattle.face_link_laws.specs.Linking.{Ends, keeping_first, take_at}
+use Rattle.face_ring_laws.proofs.PartLemmas.{get_or-set}
+use Rattle.face_ring_laws.specs.Linking.{Ends, keeping_first, take_at}
 
 -- ---- what `!=` of points answers
 pub not_other : (p q : Point) → false ≡ not (point_eq p q) → p ≡ q

@@ -11,9 +11,9 @@ use Rattle.lay_point.specs.Rings.{IsRing}
 use Rattle.lay_point.proofs.Members.{Has, contains, has-append_right}
 use Rattle.face_rings.specs.declared.incidence.Incidence.{Incidence}
 use Rattle.face_rings.specs.Incidence.{IsIncidence, KeepsMarks, left_of}
-use Rattle.face_link_laws.specs.Linking.{Ends, behind_first, first_ring, linked_rings}
-use Rattle.face_link_laws.proofs.RingLaws.{AreSound, ring_from_sound}
-use Rattle.face_link_laws.proofs.StepLemmas.{next_ring_is, one_more_ring, sound_next}
+use Rattle.face_ring_laws.specs.Linking.{Ends, behind_first, first_ring, linked_rings}
+use Rattle.face_ring_laws.proofs.RingLaws.{AreSound, ring_from_sound}
+use Rattle.face_ring_laws.proofs.StepLemmas.{next_ring_is, one_more_ring, sound_next}
 
 -- ---- the first edge left
 pub first_left : (edges : List Ends) (used : List Bool) (i : ℕ) (d : Ends) → i < length edges → length used ≡ length edges

@@ -8,7 +8,7 @@ use Rattle.lay_point.specs.declared.point.Point.{Point}
 use Rattle.lay_point.specs.Edges.{touches}
 use Rattle.face_rings.specs.declared.incidence.End.{End}
 use Rattle.face_rings.specs.declared.incidence.Incidence.{Incidence}
-use Rattle.face_link_laws.specs.Linking.{Ends}
+use Rattle.face_ring_laws.specs.Linking.{Ends}
 
 -- the edges without a mark
 abbrev pub left_of : List Ends → List Bool → List Ends

@@ -1,1 +1,3 @@
+pub mod Forest
 pub mod Incidence
+pub mod Joining

@@ -19,16 +19,17 @@ ghost use Rattle.std.specs.List.{list_any};
 ghost use Rattle.lay_point.specs.declared.point.Point.{Point};
 ghost use Rattle.lay_point.specs.Parity.{odd};
 ghost use Rattle.lay_point.specs.RingEdges.{edges_of};
-ghost use Rattle.face_part_laws.specs.Parts.{AreParts, bounding_box};
-ghost use Rattle.face_part_laws.specs.Heads.{AreDivided, AreFirst, IsNumbered};
+ghost use Rattle.face_ring_laws.specs.Parts.{AreParts, bounding_box};
+ghost use Rattle.face_ring_laws.specs.Heads.{AreDivided, AreFirst, IsNumbered};
 
-use face_joins::{Bounds, bounds_of, joined_heads};
+use crate::bounds::{Bounds, bounds_of};
+use crate::joining::joined_heads;
 use lay_point::{NoMemory, Ring};
 use std::alloc::{AllocError, Global};
 
 /// Returns the parts of the rings: rings whose bounding boxes have a point in common, their sides
 /// included, are in one part, and no part could be divided. Parts are in the order of their first rings,
-/// and the rings of a part in theirs. The work is that of `face_joins`: no pair of rings is asked.
+/// and the rings of a part in theirs. The work is that of `face_rings`: no pair of rings is asked.
 ///
 /// A place is in the boxes of one part at most. So some part has an odd number of edges to the right of
 /// it exactly where all rings together have.

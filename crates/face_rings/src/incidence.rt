@@ -24,8 +24,16 @@ ghost use Rattle.std.specs.Ordering.{is_lt};
 ghost use Rattle.lay_point.specs.declared.point.Point.{Point};
 ghost use Rattle.lay_point.specs.Edges.{is_before};
 ghost use Rattle.face_rings.specs.declared.incidence.End.{End};
-ghost use Rattle.face_rings.specs.Incidence.{AreEndsOf, IsIncidence, IsUsedAt, KeepsMarks, end_cmp, left_of, point_cmp};
-ghost use Rattle.face_link_laws.specs.Linking.{Ends, take_at};
+ghost use Rattle.face_rings.specs.Incidence.{
+  AreEndsOf,
+  IsIncidence,
+  IsUsedAt,
+  KeepsMarks,
+  end_cmp,
+  left_of,
+  point_cmp,
+};
+ghost use Rattle.face_ring_laws.specs.Linking.{Ends, take_at};
 
 use lay_point::{Edge, NoMemory, Point};
 use std::alloc::{AllocError, Global};

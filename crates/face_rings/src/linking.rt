@@ -33,8 +33,15 @@ ghost use Rattle.lay_point.specs.RingEdges.{edges_of};
 ghost use Rattle.lay_point.specs.Rings.{IsRing};
 ghost use Rattle.lay_point.specs.Rising.{IsRising};
 ghost use Rattle.face_rings.specs.Incidence.{IsIncidence, KeepsMarks, left_of};
-ghost use Rattle.face_link_laws.specs.Linked.{AreLinked};
-ghost use Rattle.face_link_laws.specs.Linking.{Ends, behind_first, first_ring, linked_rings, other_end, way};
+ghost use Rattle.face_ring_laws.specs.Linked.{AreLinked};
+ghost use Rattle.face_ring_laws.specs.Linking.{
+  Ends,
+  behind_first,
+  first_ring,
+  linked_rings,
+  other_end,
+  way,
+};
 
 use crate::fault::LinkFault;
 use crate::incidence::Incidence;

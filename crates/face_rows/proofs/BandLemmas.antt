@@ -4,8 +4,8 @@ use Rattle.std.proofs.Common.{ap, ◌∙◌, ⊎_elim, arith}
 use Rattle.std.specs.Prelude.{int_le, int_lt}
 use Rattle.std.proofs.lemmas.Bool.{and_from, and_parts, cases_lt}
 use Rattle.std.proofs.lemmas.List.{get_or_default}
-use Rattle.lay_int_laws.proofs.Signs.{linear}
-use Rattle.lay_int_laws.proofs.Tests.{le_true, lt_true, true_le, true_lt}
+use Rattle.lay_point.proofs.Signs.{linear}
+use Rattle.lay_point.proofs.Tests.{le_true, lt_true, true_le, true_lt}
 use Rattle.lay_point.specs.declared.point.Point.{Point}
 use Rattle.face_rows.specs.declared.band.Band.{Band}
 use Rattle.face_rows.specs.Bands.{begins_in}

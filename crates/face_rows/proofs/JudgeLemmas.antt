@@ -8,8 +8,8 @@ use Rattle.std.proofs.lemmas.Bool.{and_from, cases_lt, or_cases, or_right}
 use Rattle.std.proofs.lemmas.Bool.Decides.{Decides-eqb}
 use Rattle.std.proofs.lemmas.List.{get_or_default}
 use Rattle.std.specs.Cmp.{both_ways}
-use Rattle.lay_int_laws.proofs.Signs.{linear}
-use Rattle.lay_int_laws.proofs.Tests.{lt_true, true_le, true_lt}
+use Rattle.lay_point.proofs.Signs.{linear}
+use Rattle.lay_point.proofs.Tests.{lt_true, true_le, true_lt}
 use Rattle.lay_point.specs.declared.point.Point.{Point}
 use Rattle.lay_point.specs.Edges.{IsEdgeBefore}
 use Rattle.lay_point.specs.Parity.{xor, parity, distance_right, is_crossed}
@@ -17,11 +17,11 @@ use Rattle.lay_point.specs.Rising.{IsRising}
 use Rattle.lay_point.proofs.Members.{Has, contains, has}
 use Rattle.lay_point.proofs.Parity.{IsEquality, parity_of_occurrences}
 use Rattle.lay_point.proofs.Rising.{IsStrictOrder, rising_rest}
-use Rattle.face_label_laws.proofs.Rows.{IsInRow, Spans, beside, crossed_spans, fraction_lt, right_in_row, spans_crossed}
-use Rattle.face_label_laws.proofs.Upward.{up_crossed, up_meet, up_rises}
-use Rattle.face_label_laws.specs.Owner.{Owner}
-use Rattle.face_label_laws.specs.Rounded.{AreClean, Owned, is_owner_listed}
-use Rattle.face_label_laws.specs.Labels.{Item, odd_of, owned_items}
+use Rattle.face_side_laws.proofs.Rows.{IsInRow, Spans, beside, crossed_spans, fraction_lt, right_in_row, spans_crossed}
+use Rattle.face_rows.proofs.UpwardLemmas.{up_crossed, up_meet, up_rises}
+use Rattle.snap_chains.specs.declared.owner.Owner.{Owner}
+use Rattle.snap_chains.specs.Rounded.{AreClean, Owned, is_owner_listed}
+use Rattle.face_rows.specs.Labels.{Item, odd_of, owned_items}
 use Rattle.face_rows.specs.Lines.{edge_at, nowhere, owners_at}
 use Rattle.face_rows.specs.Rows.{AreRowEdges, CrossesRow, IsLeftOf, crosses_row, crossing, rise, upward}
 use Rattle.face_rows.proofs.OwnerLemmas.{parity_any}

@@ -3,13 +3,13 @@ use Rattle.std.proofs.Common.{◌≡◌, Bool, true, false, ◌||◌, cond, [], 
 use Rattle.std.proofs.Common.{ℤ, pos, ◌+ℤ◌, ◌-ℤ◌, ◌*ℤ◌, ◌≤ℤ◌, ◌<ℤ◌, refl, sym, ap, ◌∙◌, arith}
 use Rattle.std.specs.Prelude.{int_lt}
 use Rattle.std.proofs.lemmas.Int.{ints}
-use Rattle.lay_int_laws.proofs.Polynomials.{#, lit, ◌⊕◌, ◌⊖◌, ◌⊗◌, identity}
-use Rattle.lay_int_laws.proofs.Signs.{linear, times_lt}
+use Rattle.lay_point.proofs.Polynomials.{#, lit, ◌⊕◌, ◌⊖◌, ◌⊗◌, identity}
+use Rattle.lay_point.proofs.Signs.{linear, times_lt}
 use Rattle.lay_point.specs.declared.point.Point.{Point}
 use Rattle.lay_point.specs.Parity.{distance_right}
-use Rattle.face_label_laws.specs.Segments.{cross}
-use Rattle.face_label_laws.specs.Slides.{IsPlaceInside}
-use Rattle.face_label_laws.proofs.Rows.{IsInRow}
+use Rattle.snap_pixels.specs.Segments.{cross}
+use Rattle.face_side_laws.specs.Slides.{IsPlaceInside}
+use Rattle.face_side_laws.proofs.Rows.{IsInRow}
 use Rattle.face_rows.specs.Beside.{is_right_of, weight}
 use Rattle.face_rows.specs.Rows.{rise, upward}
 

@@ -3,8 +3,8 @@ use Rattle.std.proofs.Common.{◌≡◌, ◌^◌, [], ◌∷◌, ℤ, pos, neg_�
 use Rattle.std.proofs.lemmas.Int.{ints, to_z-of_z}
 use mir.Syntax.{w32, w64, w128}
 use mir.Val.{to_z, of_z, SFits}
-use Rattle.lay_int_laws.proofs.Polynomials.{#, lit, ◌⊗◌, identity}
-use Rattle.lay_int_laws.proofs.Signs.{linear, times_le}
+use Rattle.lay_point.proofs.Polynomials.{#, lit, ◌⊗◌, identity}
+use Rattle.lay_point.proofs.Signs.{linear, times_le}
 
 -- a product, as code computes it
 pub product_is : (w x x' r : ℤ) → SFits w64 w → SFits w128 x' → x' ≡ x → r ≡ to_z w64 (of_z w64 w) *ℤ to_z w128 (of_z w128 x') → r ≡ w *ℤ x

@@ -15,17 +15,17 @@ use Rattle.std.proofs.lemmas.List.{get_or_default, map-append}
 use Rattle.std.proofs.lemmas.List.Elements.{All-push, recursion_from_All}
 use Rattle.std.proofs.lemmas.List.Sorted.{All-permutation, Contains-permutation, IsPermutation-map}
 use Rattle.std.proofs.lemmas.Map.Keys.{IsDistinct-IsPermutation}
-use Rattle.lay_int_laws.proofs.Signs.{below_or_same}
-use Rattle.lay_int_laws.proofs.Tests.{false_lt, le_true, lt_false, lt_true}
+use Rattle.lay_point.proofs.Signs.{below_or_same}
+use Rattle.lay_point.proofs.Tests.{false_lt, le_true, lt_false, lt_true}
 use Rattle.lay_point.specs.declared.point.Point.{Point}
 use Rattle.lay_point.specs.Edges.{IsEdgeBefore}
 use Rattle.lay_point.specs.Rising.{IsRising}
 use Rattle.lay_point.proofs.EdgeOrder.{edges_are_strict}
 use Rattle.lay_point.proofs.Members.{Has, contains, has}
 use Rattle.lay_point.proofs.Rising.{IsStrictOrder, before_rest, rising_rest}
-use Rattle.face_label_laws.proofs.Rows.{Spans, apart_in_row, fraction_le}
-use Rattle.face_label_laws.proofs.Upward.{up_meet}
-use Rattle.face_label_laws.specs.Rounded.{AreClean}
+use Rattle.face_side_laws.proofs.Rows.{Spans, apart_in_row, fraction_le}
+use Rattle.face_rows.proofs.UpwardLemmas.{up_meet}
+use Rattle.snap_chains.specs.Rounded.{AreClean}
 use Rattle.face_rows.specs.declared.crossing.Crossing.{Crossing}
 use Rattle.face_rows.specs.Crossings.{IsCrossingOf, crossing_numbers}
 use Rattle.face_rows.proofs.PickedLemmas.{picked_more, picked_passed}

@@ -4,24 +4,24 @@ use Rattle.std.proofs.Common.{ℤ, pos, ◌+ℤ◌, ◌-ℤ◌, ◌*ℤ◌, ◌�
 use Rattle.std.specs.Prelude.{int_le, int_lt}
 use Rattle.std.specs.List.{zip}
 use Rattle.std.proofs.lemmas.Int.{ints}
-use Rattle.lay_int_laws.proofs.Polynomials.{#, lit, ◌⊕◌, ◌⊗◌, identity}
-use Rattle.lay_int_laws.proofs.Signs.{below_or_not, linear}
+use Rattle.lay_point.proofs.Polynomials.{#, lit, ◌⊕◌, ◌⊗◌, identity}
+use Rattle.lay_point.proofs.Signs.{below_or_not, linear}
 use Rattle.lay_point.specs.declared.point.Point.{Point}
 use Rattle.lay_point.specs.Edges.{is_before, same_edge, touches}
 use Rattle.lay_point.specs.Parity.{xor, parity, is_crossed}
 use Rattle.lay_point.proofs.EdgeOrder.{before_by_test, before_is_strict}
 use Rattle.lay_point.proofs.Members.{Has, contains}
 use Rattle.lay_point.proofs.Parity.{parity-map, parity_agree}
-use Rattle.face_label_laws.specs.Meeting.{MeetAtEnds}
-use Rattle.face_label_laws.specs.Slides.{AreUpward, IsPlaceInside}
-use Rattle.face_label_laws.proofs.Rows.{Spans, rises_in, row_inside, row_k, row_x, row_y}
-use Rattle.face_label_laws.proofs.Slide.{slide}
-use Rattle.face_label_laws.specs.Owner.{Owner}
-use Rattle.face_label_laws.specs.Rounded.{AreClean, AreEven, Owned, is_owner_listed}
-use Rattle.face_label_laws.specs.Labels.{Item, odd_of, owned_items}
-use Rattle.face_label_laws.specs.Laws.{AreLesserFirst}
-use Rattle.face_label_laws.proofs.CutLaw.{same_edge-Decides}
-use Rattle.face_label_laws.proofs.Upward.{either, up_crossed, up_meet, up_rises, up_touches}
+use Rattle.snap_edge_laws.specs.Meeting.{MeetAtEnds}
+use Rattle.face_side_laws.specs.Slides.{AreUpward, IsPlaceInside}
+use Rattle.face_side_laws.proofs.Rows.{Spans, rises_in, row_inside, row_k, row_x, row_y}
+use Rattle.face_side_laws.proofs.Slide.{slide}
+use Rattle.snap_chains.specs.declared.owner.Owner.{Owner}
+use Rattle.snap_chains.specs.Rounded.{AreClean, AreEven, Owned, is_owner_listed}
+use Rattle.face_rows.specs.Labels.{Item, odd_of, owned_items}
+use Rattle.face_rows.specs.Laws.{AreLesserFirst}
+use Rattle.face_rows.proofs.CutLaw.{same_edge-Decides}
+use Rattle.face_rows.proofs.UpwardLemmas.{either, up_crossed, up_meet, up_rises, up_touches}
 use Rattle.face_rows.specs.Beside.{weight}
 use Rattle.face_rows.specs.Rows.{upward}
 use Rattle.face_rows.proofs.NearLemmas.{at_k, at_x, at_y, near, near_inside, near_k, weight_of}

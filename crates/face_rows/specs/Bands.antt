@@ -1,8 +1,8 @@
 -- Bands of rows, and the labels of the edges that begin in one.
 use Rattle.std.specs.Prelude.{ℕ, int_le, int_lt, Bool, ◌&&◌, List}
 use Rattle.lay_point.specs.declared.point.Point.{Point}
-use Rattle.face_label_laws.specs.Rounded.{Owned}
-use Rattle.face_label_laws.specs.Labels.{differs, owned_items}
+use Rattle.snap_chains.specs.Rounded.{Owned}
+use Rattle.face_rows.specs.Labels.{differs, owned_items}
 use Rattle.face_rows.specs.declared.band.Band.{Band}
 use Rattle.face_rows.specs.declared.op.Op.{Op}
 use Rattle.face_rows.specs.Operations.{answer}

@@ -3,7 +3,7 @@
 -- level edge it is the midpoint.
 use Rattle.std.specs.Prelude.{ℤ, pos, ◌+ℤ◌, ◌-ℤ◌, ◌*ℤ◌, int_lt, Bool, if◌then◌else◌}
 use Rattle.lay_point.specs.declared.point.Point.{Point}
-use Rattle.face_label_laws.specs.Segments.{cross}
+use Rattle.snap_pixels.specs.Segments.{cross}
 use Rattle.face_rows.specs.Rows.{rise, upward}
 
 abbrev pub weight : Point × Point → ℤ

@@ -1,15 +1,10 @@
 pub mod Bands
 pub mod Beside
 pub mod Crossings
+pub mod Labels
+pub mod Laws
 pub mod Lines
 pub mod Operations
 pub mod Picked
 pub mod Rows
 pub mod Sound
-pub use Rattle.face_label_laws.specs.Labels
-pub use Rattle.face_label_laws.specs.Laws
-pub use Rattle.face_label_laws.specs.Meeting
-pub use Rattle.face_label_laws.specs.Owner
-pub use Rattle.face_label_laws.specs.Rounded
-pub use Rattle.face_label_laws.specs.Owners
-pub use Rattle.face_label_laws.specs.Input

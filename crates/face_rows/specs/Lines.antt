@@ -1,9 +1,9 @@
 -- Edges by their numbers, and gaps between the edges of a row.
 use Rattle.std.specs.Prelude.{◌≡◌, ℕ, suc, ◌<◌, pos, true, false, List, [], length, slice_index, slice_index_or}
 use Rattle.lay_point.specs.declared.point.Point.{Point}
-use Rattle.face_label_laws.specs.Owner.{Owner}
-use Rattle.face_label_laws.specs.Rounded.{Owned}
-use Rattle.face_label_laws.specs.Labels.{Item}
+use Rattle.snap_chains.specs.declared.owner.Owner.{Owner}
+use Rattle.snap_chains.specs.Rounded.{Owned}
+use Rattle.face_rows.specs.Labels.{Item}
 use Rattle.face_rows.specs.Beside.{is_right_of}
 
 abbrev pub nowhere : Point × Point

@@ -4,9 +4,9 @@ use Rattle.lay_point.specs.declared.point.Point.{Point}
 use Rattle.lay_point.specs.Edges.{IsEdgeBefore, touches}
 use Rattle.lay_point.specs.Parity.{xor, odd, parity}
 use Rattle.lay_point.specs.Rising.{IsRising}
-use Rattle.face_label_laws.specs.Rounded.{AreClean, IsRounded, Owned}
-use Rattle.face_label_laws.specs.Labels.{answer_at, edges_of_operation, owned_items}
-use Rattle.face_label_laws.specs.Laws.{AreLesserFirst}
+use Rattle.snap_chains.specs.Rounded.{AreClean, IsRounded, Owned}
+use Rattle.face_rows.specs.Labels.{answer_at, edges_of_operation, owned_items}
+use Rattle.face_rows.specs.Laws.{AreLesserFirst}
 use Rattle.face_rows.specs.declared.op.Op.{Op}
 use Rattle.face_rows.specs.declared.op.Op.TheVariants.{And, Or, Not, Xor}
 

@@ -2,8 +2,8 @@
 use Rattle.std.specs.Prelude.{◌≡◌, length}
 use Rattle.lay_point.specs.Edges.{IsEdgeBefore}
 use Rattle.lay_point.specs.Rising.{IsRising}
-use Rattle.face_label_laws.specs.Rounded.{AreClean, AreEven, Owned}
-use Rattle.face_label_laws.specs.Laws.{AreLesserFirst}
+use Rattle.snap_chains.specs.Rounded.{AreClean, AreEven, Owned}
+use Rattle.face_rows.specs.Laws.{AreLesserFirst}
 
 -- clean rounded edges, each from its lesser end to the other
 pub record AreSound (r : Owned) : Type 0 where

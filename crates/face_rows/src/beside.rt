@@ -15,8 +15,8 @@ ghost use Rattle.face_rows.specs.Beside.{is_right_of};
 
 use crate::directed::upward;
 use crate::exact::{scaled, twice};
-use face_label_laws::area;
 use lay_point::{Edge, Point};
+use snap_pixels::area;
 
 /// Returns whether the other edge is right of the first, close to the first one's lower end.
 pub fn is_right_of(edge: Edge, other: Edge) -> bool

@@ -8,6 +8,13 @@
 //!
 //! Rounded edges are clean: they meet at their ends only, so the edges of a row are in the same order along
 //! all of it (`specs/Sound.antt`).
+//!
+//! # Laws of labels: which edges of the rounded inputs are an operation's, and what they tell
+//!
+//! `specs/Labels.antt` says it by midpoints: the answers on an edge's two sides differ. Inside an edge the
+//! parities to its right are everywhere the same (`face_side_laws/proofs/Slide.antt`). In a row, the edges have one order
+//! (`face_side_laws/proofs/Rows.antt`); going through it from the right, the number of the operation's edges is odd where the
+//! operation holds (`CutLaw.antt`), and so it is of the edges to the right of any place. Nothing of this runs.
 #![tactic(auto)]
 
 mod band;
@@ -15,6 +22,7 @@ mod beside;
 mod crossing;
 mod directed;
 mod exact;
+mod label_laws;
 mod laws;
 mod op;
 mod rows;
@@ -23,7 +31,7 @@ pub use band::Band;
 pub use beside::is_right_of;
 pub use crossing::Crossing;
 pub use directed::{crosses_row, upward};
-pub use face_label_laws::{CleanEdges, Input, OwnedRing, Owner, round};
+pub use label_laws::operations_tell_places;
 pub use laws::operations_have_laws;
 pub use op::Op;
 pub use rows::row_edges;

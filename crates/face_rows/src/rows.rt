@@ -5,8 +5,8 @@ ghost use Rattle.face_rows.specs.Rows.{AreRowEdges};
 
 use crate::crossing::Crossing;
 use crate::directed::crosses_row;
-use face_label_laws::CleanEdges;
 use lay_point::{Edge, NoMemory};
+use snap_chains::CleanEdges;
 use std::alloc::{AllocError, Global};
 
 /// Returns the numbers of the edges that cross the height `row + 1/2`, from left to right. Takes

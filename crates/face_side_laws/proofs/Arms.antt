@@ -6,17 +6,17 @@ use Rattle.std.specs.Prelude.{int_le, int_lt}
 use Rattle.std.proofs.lemmas.Bool.{and_from, and_parts}
 use Rattle.std.proofs.lemmas.Int.{ints}
 use Rattle.std.specs.Cmp.{both_ways}
-use Rattle.lay_int_laws.proofs.Polynomials.{#, lit, ◌⊕◌, ◌⊖◌, ◌⊗◌, identity}
-use Rattle.lay_int_laws.proofs.Signs.{below_or_not, linear, positive_product}
-use Rattle.lay_int_laws.proofs.Tests.{le_true, lt_true, true_le, true_lt}
+use Rattle.lay_point.proofs.Polynomials.{#, lit, ◌⊕◌, ◌⊖◌, ◌⊗◌, identity}
+use Rattle.lay_point.proofs.Signs.{below_or_not, linear, positive_product}
+use Rattle.lay_point.proofs.Tests.{le_true, lt_true, true_le, true_lt}
 use Rattle.lay_point.specs.declared.point.Point.{Point}
 use Rattle.lay_point.specs.Edges.{touches}
 use Rattle.lay_point.specs.Parity.{distance_right, is_crossed}
 use Rattle.lay_point.specs.Points.{point_eq}
 use Rattle.lay_point.proofs.EdgeOrder.{same_by_test, same_point}
-use Rattle.snap_edge_test.specs.Edges.{IsBetween, IsEndpoint, IsOn}
-use Rattle.snap_edge_test.specs.Meeting.{MeetAtEnds}
-use Rattle.snap_edge_test.proofs.Lines.{first_on, last_on}
+use Rattle.snap_edge_laws.specs.Edges.{IsBetween, IsEndpoint, IsOn}
+use Rattle.snap_edge_laws.specs.Meeting.{MeetAtEnds}
+use Rattle.snap_edge_laws.proofs.Lines.{first_on, last_on}
 use Rattle.face_side_laws.proofs.Level.{Edge, beyond, from_on, in_row, level_no_row, right_of_point}
 use Rattle.face_side_laws.proofs.Rows.{IsInRow, Spans, crossed_spans, spans_crossed}
 use Rattle.face_side_laws.proofs.Sides.{height_there, mixed, mixed_on}

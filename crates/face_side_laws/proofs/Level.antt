@@ -5,9 +5,9 @@ use Rattle.std.proofs.Common.{refl, sym, ap, ap₂, ◌∙◌, ⊎_elim, arith, 
 use Rattle.std.specs.Prelude.{int_le, int_lt}
 use Rattle.std.proofs.lemmas.Int.{ints}
 use Rattle.std.proofs.lemmas.Bool.Decides.{Decides-int_eq}
-use Rattle.lay_int_laws.proofs.Polynomials.{#, lit, ◌⊕◌, ◌⊖◌, ◌⊗◌, identity}
-use Rattle.lay_int_laws.proofs.Signs.{below_or_not, below_or_same, linear, nonnegative_product, positive_product}
-use Rattle.lay_int_laws.proofs.Tests.{false_le, false_lt, true_le, true_lt}
+use Rattle.lay_point.proofs.Polynomials.{#, lit, ◌⊕◌, ◌⊖◌, ◌⊗◌, identity}
+use Rattle.lay_point.proofs.Signs.{below_or_not, below_or_same, linear, nonnegative_product, positive_product}
+use Rattle.lay_point.proofs.Tests.{false_le, false_lt, true_le, true_lt}
 use Rattle.lay_point.specs.declared.point.Point.{Point}
 use Rattle.lay_point.specs.Parity.{xor, distance_right}
 use Rattle.lay_point.specs.Points.{point_eq}

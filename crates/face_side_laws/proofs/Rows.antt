@@ -2,12 +2,12 @@
 use Rattle.std.proofs.Common.{◌≡◌, Bool, true, false, not, ◌&&◌, [], ◌∷◌, ℤ, pos, ◌+ℤ◌, ◌-ℤ◌, ◌*ℤ◌, ◌≤ℤ◌, ◌<ℤ◌}
 use Rattle.std.proofs.Common.{refl, sym, ◌∙◌, ⊎_elim, arith}
 use Rattle.std.specs.Prelude.{int_lt}
-use Rattle.lay_int_laws.proofs.Polynomials.{#, lit, ◌⊕◌, ◌⊖◌, ◌⊗◌, identity}
-use Rattle.lay_int_laws.proofs.Signs.{below_or_not, linear, nonnegative_product, positive_product, times_le, times_lt, cancel_le, cancel_lt}
-use Rattle.lay_int_laws.proofs.Tests.{false_le, le_false, le_true, lt_true, true_le, true_lt}
+use Rattle.lay_point.proofs.Polynomials.{#, lit, ◌⊕◌, ◌⊖◌, ◌⊗◌, identity}
+use Rattle.lay_point.proofs.Signs.{below_or_not, linear, nonnegative_product, positive_product, times_le, times_lt, cancel_le, cancel_lt}
+use Rattle.lay_point.proofs.Tests.{false_le, le_false, le_true, lt_true, true_le, true_lt}
 use Rattle.lay_point.specs.declared.point.Point.{Point}
 use Rattle.lay_point.specs.Parity.{distance_right, is_crossed}
-use Rattle.snap_edge_test.specs.Meeting.{MeetAtEnds}
+use Rattle.snap_edge_laws.specs.Meeting.{MeetAtEnds}
 use Rattle.face_side_laws.proofs.Sides.{IsWithin, at_height, height_there, no_end_outside, not_on, right_of, scale_there}
 use Rattle.face_side_laws.proofs.Slide.{IsPlaceInside, rising_only, starts}
 

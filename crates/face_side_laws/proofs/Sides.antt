@@ -2,16 +2,16 @@
 -- scale m + l; how far an edge is to the right of it is linear in (m, l). So where it changes its sign the edges have a
 -- place in common.
 use Rattle.std.proofs.Common.{◌≡◌, inl, inr, true, false, [], ◌∷◌, ℤ, pos, ◌+ℤ◌, ◌-ℤ◌, ◌*ℤ◌, ◌≤ℤ◌, ◌<ℤ◌, refl, sym, ap, ◌∙◌, ⊎_elim, arith}
-use Rattle.lay_int_laws.proofs.Polynomials.{#, lit, ◌⊕◌, ◌⊖◌, ◌⊗◌, identity}
+use Rattle.lay_point.proofs.Polynomials.{#, lit, ◌⊕◌, ◌⊖◌, ◌⊗◌, identity}
 use Rattle.std.specs.Prelude.{int_lt}
 use Rattle.std.proofs.lemmas.Int.{ints}
-use Rattle.lay_int_laws.proofs.Signs.{below_or_not, below_or_same, cancel_lt, cancel_same}
-use Rattle.lay_int_laws.proofs.Signs.{linear, nonnegative_product, positive_product, times_le}
+use Rattle.lay_point.proofs.Signs.{below_or_not, below_or_same, cancel_lt, cancel_same}
+use Rattle.lay_point.proofs.Signs.{linear, nonnegative_product, positive_product, times_le}
 use Rattle.lay_point.specs.declared.point.Point.{Point}
 use Rattle.lay_point.specs.Parity.{distance_right}
-use Rattle.snap_edge_test.specs.Edges.{IsBetween, IsEndpoint, IsOn}
-use Rattle.snap_edge_test.proofs.Places.{turned_on}
-use Rattle.snap_edge_test.specs.Meeting.{MeetAtEnds}
+use Rattle.snap_edge_laws.specs.Edges.{IsBetween, IsEndpoint, IsOn}
+use Rattle.snap_edge_laws.proofs.Places.{turned_on}
+use Rattle.snap_edge_laws.specs.Meeting.{MeetAtEnds}
 
 -- the place of these weights on the edge
 abbrev pub mixed : ℤ → ℤ → ℤ → ℤ → ℤ

@@ -3,15 +3,15 @@ use Rattle.std.proofs.Common.{◌≡◌, Bool, true, false, not, ◌&&◌, ◌||
 use Rattle.std.proofs.Common.{refl, sym, ap, ap₂, subst, ◌∙◌, ⊎_elim, arith}
 use Rattle.std.specs.Prelude.{int_le, int_lt}
 use Rattle.std.proofs.lemmas.Int.{ints}
-use Rattle.lay_int_laws.proofs.Polynomials.{#, lit, ◌⊕◌, ◌⊖◌, ◌⊗◌, identity}
-use Rattle.lay_int_laws.proofs.Signs.{below_or_not, linear, positive_product, times_le, times_lt, cancel_le, cancel_lt}
-use Rattle.lay_int_laws.proofs.Tests.{false_le, le_false, le_true, lt_is_not_le, true_le}
+use Rattle.lay_point.proofs.Polynomials.{#, lit, ◌⊕◌, ◌⊖◌, ◌⊗◌, identity}
+use Rattle.lay_point.proofs.Signs.{below_or_not, linear, positive_product, times_le, times_lt, cancel_le, cancel_lt}
+use Rattle.lay_point.proofs.Tests.{false_le, le_false, le_true, lt_is_not_le, true_le}
 use Rattle.lay_point.specs.declared.point.Point.{Point}
 use Rattle.lay_point.specs.Edges.{touches}
 use Rattle.lay_point.specs.Parity.{xor, parity, distance_right, is_crossed, is_crossed_rising}
 use Rattle.lay_point.proofs.Members.{Has}
 use Rattle.lay_point.proofs.Parity.{parity_agree, parity-xor, xor_self}
-use Rattle.snap_edge_test.specs.Meeting.{MeetAtEnds}
+use Rattle.snap_edge_laws.specs.Meeting.{MeetAtEnds}
 pub use Rattle.face_side_laws.specs.Slides.{AreUpward, IsPlaceInside}
 use Rattle.face_side_laws.proofs.EvenEnds.{even_ends}
 use Rattle.face_side_laws.proofs.Sides.{IsInside, at_height, height_there, mixed, right_of, same_side, scale_there}

@@ -4,7 +4,7 @@ use Rattle.lay_point.specs.declared.point.Point.{Point}
 use Rattle.lay_point.specs.Edges.{touches}
 use Rattle.lay_point.specs.Parity.{parity, distance_right, is_crossed}
 use Rattle.lay_point.proofs.Members.{Has}
-use Rattle.snap_edge_test.specs.Meeting.{MeetAtEnds}
+use Rattle.snap_edge_laws.specs.Meeting.{MeetAtEnds}
 
 -- the place (x, y) at scale k is inside the edge that rises from a to b
 pub record IsPlaceInside (a b : Point) (k x y : ℤ) : Type 0 where

@@ -13,13 +13,13 @@ use Rattle.std.proofs.lemmas.Cmp.{int_cmp_total, nat_cmp_total, on_total, then_t
 use Rattle.std.proofs.lemmas.Int.{ints}
 use Rattle.std.proofs.lemmas.List.{get_or_default}
 use Rattle.std.proofs.lemmas.List.Sorted.{All-permutation, Contains-permutation, ranks_by, sorted_far}
-use Rattle.lay_int_laws.proofs.Signs.{below_or_not, linear}
-use Rattle.lay_int_laws.proofs.Tests.{false_lt, true_lt}
+use Rattle.lay_point.proofs.Signs.{below_or_not, linear}
+use Rattle.lay_point.proofs.Tests.{false_lt, true_lt}
 use Rattle.lay_point.specs.declared.point.Point.{Point}
 use Rattle.lay_point.specs.Rising.{IsRising}
 use Rattle.lay_point.proofs.Members.{Has, contains, has}
 use Rattle.lay_point.proofs.Rising.{IsStrictOrder, before_rest, rising_rest}
-use Rattle.face_rows.specs.Rounded.{Owned}
+use Rattle.snap_chains.specs.Rounded.{Owned}
 use Rattle.face_sweep.specs.declared.ends.End.{End}
 use Rattle.face_sweep.specs.Ends.{AreByHeight, AreEnds, EndsFrom, IsEdgeEnd, edge_end, ends_beyond}
 use Rattle.face_rows.specs.Lines.{edge_at, nowhere}

@@ -6,7 +6,7 @@ use Rattle.std.proofs.lemmas.List.{get_or_default}
 use Rattle.lay_point.specs.Rising.{IsRising}
 use Rattle.lay_point.proofs.Members.{Has, contains, has}
 use Rattle.lay_point.proofs.Rising.{IsStrictOrder, before_rest, rising_rest}
-use Rattle.face_rows.specs.Rounded.{Owned}
+use Rattle.snap_chains.specs.Rounded.{Owned}
 use Rattle.face_sweep.specs.declared.ends.End.{End}
 use Rattle.face_sweep.specs.Ends.{AreEnds}
 use Rattle.face_rows.specs.Lines.{edge_at, nowhere}

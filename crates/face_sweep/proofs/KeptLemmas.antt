@@ -13,11 +13,11 @@ use Rattle.std.proofs.lemmas.Cmp.{int_cmp_total, nat_cmp_total, on_total, then_t
 use Rattle.std.proofs.lemmas.List.{get_or_default, get_or-drop, length-drop, take_all}
 use Rattle.std.proofs.lemmas.List.Elements.{Contains-get_or}
 use Rattle.std.proofs.lemmas.List.Sorted.{Contains-permutation, IsPermutation-sym, ranks_by, sorted_far}
-use Rattle.lay_int_laws.proofs.Signs.{linear, below_or_not}
-use Rattle.lay_int_laws.proofs.Tests.{true_le, true_lt}
+use Rattle.lay_point.proofs.Signs.{linear, below_or_not}
+use Rattle.lay_point.proofs.Tests.{true_le, true_lt}
 use Rattle.lay_point.specs.declared.point.Point.{Point}
 use Rattle.lay_point.proofs.Members.{Has, contains, has}
-use Rattle.face_rows.specs.Rounded.{Owned}
+use Rattle.snap_chains.specs.Rounded.{Owned}
 use Rattle.face_rows.specs.declared.band.Band.{Band}
 use Rattle.face_sweep.specs.declared.start.Start.{Start}
 use Rattle.face_rows.specs.Bands.{begins_in}

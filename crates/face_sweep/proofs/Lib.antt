@@ -1,13 +1,9 @@
+pub mod CountLemmas
 pub mod EndLemmas
 pub mod EndedLemmas
 pub mod KeptLemmas
+pub mod LabelLemmas
 pub mod OrderLemmas
+pub mod ReachLemmas
 pub mod StartLemmas
-pub use Rattle.face_rows.proofs.JudgeLemmas
-pub use Rattle.face_rows.proofs.NearLemmas
-pub use Rattle.face_rows.proofs.OwnerLemmas
-pub use Rattle.face_rows.proofs.RowLemmas
-pub use Rattle.face_rows.proofs.Rows
-pub use Rattle.face_rows.proofs.SideLemmas
-pub use Rattle.face_rows.proofs.PickedLemmas
-pub use Rattle.face_rows.proofs.Upward
+pub mod StateLemmas

@@ -6,17 +6,17 @@ use Rattle.std.specs.List.{insert}
 use Rattle.std.proofs.lemmas.Int.{ints}
 use Rattle.std.proofs.lemmas.List.{get_or_default}
 use Rattle.std.proofs.lemmas.List.Sorted.{Contains-permutation, IsPermutation-insert, IsPermutation-sym}
-use Rattle.lay_int_laws.proofs.Polynomials.{#, lit, ◌⊕◌, ◌⊖◌, ◌⊗◌, identity}
-use Rattle.lay_int_laws.proofs.Signs.{below_or_not, below_or_same, linear, times_le}
-use Rattle.lay_int_laws.proofs.Tests.{false_le, lt_false, lt_true, true_le}
+use Rattle.lay_point.proofs.Polynomials.{#, lit, ◌⊕◌, ◌⊖◌, ◌⊗◌, identity}
+use Rattle.lay_point.proofs.Signs.{below_or_not, below_or_same, linear, times_le}
+use Rattle.lay_point.proofs.Tests.{false_le, lt_false, lt_true, true_le}
 use Rattle.lay_point.specs.declared.point.Point.{Point}
 use Rattle.lay_point.specs.Edges.{IsEdgeBefore}
 use Rattle.lay_point.specs.Parity.{xor, distance_right, is_crossed}
 use Rattle.lay_point.specs.Rising.{IsRising}
 use Rattle.lay_point.proofs.Members.{Has, contains, has}
-use Rattle.face_rows.specs.Meeting.{MeetAtEnds}
-use Rattle.face_rows.specs.Rounded.{AreClean, Owned}
-use Rattle.face_rows.proofs.Rows.{
+use Rattle.snap_edge_laws.specs.Meeting.{MeetAtEnds}
+use Rattle.snap_chains.specs.Rounded.{AreClean, Owned}
+use Rattle.face_side_laws.proofs.Rows.{
   IsLeft,
   Spans,
   apart_in_row,
@@ -30,7 +30,7 @@ use Rattle.face_rows.proofs.Rows.{
   row_y,
   spans_crossed,
 }
-use Rattle.face_rows.proofs.Slide.{slide_edge, starts}
+use Rattle.face_side_laws.proofs.Slide.{slide_edge, starts}
 use Rattle.face_sweep.specs.declared.start.Start.{Start}
 use Rattle.face_rows.specs.Beside.{is_right_of, weight}
 use Rattle.face_rows.specs.Lines.{BeginsAt, EndsBefore, edge_at, nowhere}
@@ -40,7 +40,7 @@ use Rattle.face_sweep.proofs.KeptLemmas.{crosses}
 use Rattle.face_rows.proofs.JudgeLemmas.{IsBeforeIn, before_rising, before_strict}
 use Rattle.face_rows.proofs.NearLemmas.{near_k, near, right_there}
 use Rattle.face_rows.proofs.RowLemmas.{has_get, other_edge, spans_of}
-use Rattle.face_rows.proofs.Upward.{up_meet}
+use Rattle.face_rows.proofs.UpwardLemmas.{up_meet}
 
 -- ---- from row to row
 abbrev passes : Point → Point → ℤ → ℤ → ℤ → ℤ → Point → Bool

@@ -10,8 +10,8 @@ use Rattle.std.proofs.lemmas.List.Elements.{All-push}
 use Rattle.std.proofs.lemmas.List.Sorted.{All-permutation, Contains-permutation}
 use Rattle.lay_point.specs.declared.point.Point.{Point}
 use Rattle.lay_point.proofs.Members.{Has, contains}
-use Rattle.face_rows.specs.Owner.{Owner}
-use Rattle.face_rows.specs.Rounded.{Owned}
+use Rattle.snap_chains.specs.declared.owner.Owner.{Owner}
+use Rattle.snap_chains.specs.Rounded.{Owned}
 use Rattle.face_rows.specs.Labels.{Item, differs, owned_items}
 use Rattle.face_rows.specs.declared.band.Band.{Band}
 use Rattle.face_rows.specs.declared.op.Op.{Op}

@@ -1,7 +1,7 @@
 -- Where edges end.
 use Rattle.std.specs.Prelude.{◌≡◌, ℕ, ◌<◌, ◌≤◌, ℤ, ◌≤ℤ◌, ◌<ℤ◌, int_lt, All, List, length, slice_index_or}
 use Rattle.lay_point.specs.declared.point.Point.{Point}
-use Rattle.face_rows.specs.Rounded.{Owned}
+use Rattle.snap_chains.specs.Rounded.{Owned}
 use Rattle.face_sweep.specs.declared.ends.End.{End}
 use Rattle.face_rows.specs.Lines.{edge_at}
 use Rattle.face_rows.specs.Picked.{picked}

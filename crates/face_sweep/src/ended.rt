@@ -20,7 +20,8 @@ ghost use Rattle.face_rows.specs.Rows.{AreSomeRowEdges, CrossesRow, crosses_row}
 ghost use Rattle.face_rows.specs.Sound.{AreSound};
 
 use crate::ends::{End, take_out_ended};
-use face_rows::{CleanEdges, crosses_row};
+use face_rows::crosses_row;
+use snap_chains::CleanEdges;
 use std::alloc::{AllocError, Global};
 
 /// Where one in so many of a row's edges ends, or more of them do, a pass over the row is faster than a search

@@ -19,8 +19,9 @@ ghost use Rattle.face_rows.specs.Lines.{edge_at};
 ghost use Rattle.face_rows.specs.Rows.{AreSomeRowEdges, CrossesRow, crossing, is_left_in_row, rise};
 ghost use Rattle.face_rows.specs.Sound.{AreSound};
 
-use face_rows::{CleanEdges, Crossing, crosses_row, upward};
+use face_rows::{Crossing, crosses_row, upward};
 use lay_point::Edge;
+use snap_chains::CleanEdges;
 use std::alloc::{AllocError, Global};
 
 /// Where the upper end of an edge is. Ends are in the order of their heights.

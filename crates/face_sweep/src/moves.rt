@@ -22,8 +22,9 @@ ghost use Rattle.face_rows.specs.Rows.{AreSomeRowEdges, CrossesRow, upward};
 ghost use Rattle.face_sweep.specs.Starts.{AreByRow, BeginsBy, IsStartOf};
 
 use crate::start::{Start, begins_after};
-use face_rows::{CleanEdges, crosses_row, is_right_of};
+use face_rows::{crosses_row, is_right_of};
 use lay_point::Edge;
+use snap_chains::CleanEdges;
 use std::alloc::AllocError;
 
 /// Puts the edges that begin in the row to their places among its edges. None of the starts, which are in

@@ -7,7 +7,7 @@ use crate::job_words::form_of;
 use crate::line::{first_word, line_of, text_start, word_end};
 use crate::place::place_of;
 use crate::window::window;
-use cif_content::CifFault;
+use cif_read::CifFault;
 use lay_point::NoMemory;
 use std::alloc::Global;
 use std::io::Write;

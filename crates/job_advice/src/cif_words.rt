@@ -1,6 +1,6 @@
 //! What is said of a fault of a CIF text.
 
-use cif_content::FaultKind;
+use cif_read::FaultKind;
 
 /// What is wrong, and what to do.
 #[derive(Clone, Copy, Debug, PartialEq, Eq)]

@@ -3,9 +3,9 @@ use Rattle.std.proofs.Common.{◌≡◌, ℕ, ◌+◌, Bool, true, false, List, 
 use Rattle.std.specs.Prelude.{codes, if◌then◌else◌, Ok, Err}
 use Rattle.std.specs.List.{AllByRecursion}
 use Rattle.job_text.specs.declared.job.JobFault.TheVariants.{Line as FaultLine}
-use Rattle.job_lines.specs.Text.{is_section, sections_of, text_of}
+use Rattle.job_text.specs.Text.{is_section, sections_of, text_of}
 use Rattle.job_text.specs.Job.{head_of, is_none_of, is_only}
-use Rattle.job_lines.specs.Words.{words_of}
+use Rattle.job_text.specs.Words.{words_of}
 use Rattle.job_laws.specs.JobLines.{BeginsSections, IsBlank, IsOfText, IsOnly, JobLine, all_of}
 use Rattle.job_laws.proofs.Choices.{choose, none_is, not_err, ok_same, only_is}
 

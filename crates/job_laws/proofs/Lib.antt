@@ -1,5 +1,14 @@
+pub mod AnswerWords
 pub mod Choices
+pub mod Cut
+pub mod Fields
 pub mod Heads
+pub mod Joined
+pub mod OrderRead
 pub mod Orders
+pub mod Plain
+pub mod ReplyRead
+pub mod Said
+pub mod Sayings
 pub mod Sessions
 pub mod Whole

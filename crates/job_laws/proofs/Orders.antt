@@ -8,7 +8,7 @@ use Rattle.session_steps.specs.declared.Step.{Step}
 use Rattle.job_text.specs.declared.job.JobFault.TheVariants.{Line as FaultLine}
 use Rattle.job_text.specs.Job.{are_counted, named_in, named_order, odd_line, one_by_one, order_at, order_fits, total_len, unless_odd}
 use Rattle.byte_io.specs.Numbers.{is_number}
-use Rattle.job_lines.specs.Words.{words_of}
+use Rattle.job_text.specs.Words.{words_of}
 use Rattle.job_laws.specs.JobLines.{AreCounted, AreNumbers, IsOnly, IsOrder, JobLine, NamesOrder}
 use Rattle.job_laws.proofs.Choices.{choose, not_err, ok_same}
 use Rattle.job_laws.proofs.Sessions.{BeginsOrder}

@@ -8,7 +8,7 @@ use Rattle.job_text.specs.declared.job.JobFault.{JobFault}
 use Rattle.job_text.specs.declared.job.JobFault.TheVariants.{Line as FaultLine}
 use Rattle.job_text.specs.Job.{◌>>=◌, Sections, is_only, is_session_line, scripts_of, sections_at, steps_with}
 use Rattle.job_text.specs.Steps.{Word, step_of}
-use Rattle.job_lines.specs.Words.{words_of}
+use Rattle.job_text.specs.Words.{words_of}
 use Rattle.job_laws.specs.JobLines.{AreSessions, AreSteps, IsBlank, IsOnly, JobLine, NamesSession}
 use Rattle.job_laws.proofs.Choices.{AreSession, choose, is_the_session, not_err, ok_same, only_is, session_is, step_no_order}
 use Rattle.job_laws.proofs.Choices.{step_no_session, stepped, with_some}

@@ -3,7 +3,7 @@ use Rattle.std.proofs.Common.{◌≡◌, ℕ, ◌≤◌, false, List, ◌∷◌,
 use Rattle.std.specs.Prelude.{if◌then◌else◌, nat_lt, Ok, Err}
 use Rattle.std.proofs.lemmas.Bool.Decides.{nat_tests}
 use Rattle.job_text.specs.declared.job.JobFault.TheVariants.{Line as FaultLine}
-use Rattle.job_lines.specs.Text.{Place, sections_of, text_of}
+use Rattle.job_text.specs.Text.{Place, sections_of, text_of}
 use Rattle.job_text.specs.Job.{◌>>=◌, Sections, head_of, job_of, order_at, sections_at, sections_job}
 use Rattle.job_text.specs.Jobs.{Job}
 use Rattle.byte_io.specs.Lines.{lines}

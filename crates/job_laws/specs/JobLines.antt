@@ -2,13 +2,13 @@
 use Rattle.std.specs.Prelude.{◌≡◌, ◌⊎◌, ℕ, ◌+◌, List, [], ◌∷◌, ◌++◌, codes, count_by, length, true, false, ◌==◌, Some}
 use Rattle.std.specs.List.{AllByRecursion, list_all}
 use Rattle.session_steps.specs.declared.Step.{Step}
-use Rattle.job_lines.specs.Text.{is_section}
+use Rattle.job_text.specs.Text.{is_section}
 use Rattle.job_text.specs.Job.{named_in, one_by_one, total_len}
 use Rattle.job_text.specs.Jobs.{Job}
 use Rattle.byte_io.specs.Lines.{lines}
 use Rattle.job_text.specs.Steps.{Word, step_of}
 use Rattle.byte_io.specs.Numbers.{is_number, parsed_number}
-use Rattle.job_lines.specs.Words.{words_of}
+use Rattle.job_text.specs.Words.{words_of}
 
 abbrev pub JobLine : Type 0
 JobLine = List ℕ

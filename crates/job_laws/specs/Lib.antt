@@ -1,2 +1,9 @@
+pub mod Cuts
 pub mod JobLines
 pub mod Laws
+pub mod LineLaws
+pub mod Numbers
+pub mod ReplyLaws
+pub mod Steps
+pub mod Told
+pub mod Written

@@ -3,7 +3,7 @@ use Rattle.std.proofs.Common.{◌≡◌, List, [], ◌∷◌, ◌++◌, ℕ, ap,
 use Rattle.std.specs.Prelude.{Some}
 use Rattle.lay_point.specs.declared.point.Point.{Point}
 use Rattle.job_text.specs.Steps.{parsed_points, point_of}
-use Rattle.job_lines.specs.Words.{◌>>=◌}
+use Rattle.byte_io.specs.Steps.{◌>>=◌}
 
 -- a point goes from the words that are left to the points so far
 pub parsed_points-point : (points : List Point) (x y : List ℕ) (point : Point) (all behind more : List (List ℕ)) →

@@ -1,1 +1,3 @@
 pub mod JobLemmas
+pub mod TextLemmas
+pub mod WordLemmas

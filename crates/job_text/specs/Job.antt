@@ -11,8 +11,8 @@ use Rattle.job_text.specs.Jobs.{Job}
 use Rattle.byte_io.specs.Lines.{lines}
 use Rattle.job_text.specs.Steps.{step_of}
 use Rattle.byte_io.specs.Numbers.{is_number, parsed_number}
-use Rattle.job_lines.specs.Text.{Place, sections_of, text_of}
-use Rattle.job_lines.specs.Words.{words_of}
+use Rattle.job_text.specs.Text.{Place, sections_of, text_of}
+use Rattle.job_text.specs.Words.{words_of}
 
 -- the step that follows takes what this one gives, and nothing follows a fault
 infixl 10 ◌>>=◌

@@ -1,5 +1,8 @@
-pub mod Steps
-pub mod Jobs
 pub mod Job
-pub mod Order
+pub mod Jobs
 pub mod Live
+pub mod Order
+pub mod Replies
+pub mod Steps
+pub mod Text
+pub mod Words

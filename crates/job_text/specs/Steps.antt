@@ -1,22 +1,23 @@
 -- Step lines: a word that names the step, and the words that it takes.
 use Rattle.std.specs.Prelude.{ℕ, List, [], ◌∷◌, ◌++◌, codes, Bool, if◌then◌else◌, Option, None, Some, option_map, ℤ}
 use Rattle.std.specs.Str.{bytes_eq}
-use Rattle.undo_rules.specs.Op.{Op}
-use Rattle.undo_rules.specs.Op.TheVariants.{And, Or, Not, Xor}
-use Rattle.lay_calls.specs.declared.cell_id.CellId.{CellId}
-use Rattle.lay_calls.specs.declared.cells.TheConstants.{MAX_SYMBOL}
+use Rattle.face_rows.specs.declared.op.Op.{Op}
+use Rattle.face_rows.specs.declared.op.Op.TheVariants.{And, Or, Not, Xor}
+use Rattle.lay_cells.specs.declared.cell_id.CellId.{CellId}
+use Rattle.lay_cells.specs.declared.cells.TheConstants.{MAX_SYMBOL}
 use Rattle.lay_layouts.specs.declared.id.ItemId.{ItemId}
 use Rattle.lay_point.specs.declared.point.Point.{Point}
 use Rattle.lay_point.specs.declared.turn.Quarter.{Quarter}
 use Rattle.lay_point.specs.Names.{layer_name_of}
-use Rattle.undo_rules.specs.Command.{Command}
-use Rattle.undo_rules.specs.Command.TheVariants.{Bool as Combine, Box, Poly, Delete, Move, SetLayer, Place, Look, MakeCell}
-use Rattle.undo_rules.specs.Command.TheVariants.{DropCell}
-use Rattle.undo_rules.specs.TxnId.{TxnId}
+use Rattle.txn_commands.specs.declared.command.Command.{Command}
+use Rattle.txn_commands.specs.declared.command.Command.TheVariants.{Bool as Combine, Box, Poly, Delete, Move, SetLayer, Place, Look, MakeCell}
+use Rattle.txn_commands.specs.declared.command.Command.TheVariants.{DropCell}
+use Rattle.txn_commands.specs.declared.command.TxnId.{TxnId}
 use Rattle.session_steps.specs.declared.Step.{Step}
 use Rattle.session_steps.specs.declared.Step.TheVariants.{Open, Do, Commit, Cancel, Undo, Redo}
 use Rattle.byte_io.specs.Numbers.{parsed_number}
-use Rattle.job_lines.specs.Words.{◌>>=◌, parsed_cell, parsed_coordinate, parsed_item, parsed_turning, parsed_txn}
+use Rattle.byte_io.specs.Steps.{◌>>=◌}
+use Rattle.job_text.specs.Words.{parsed_cell, parsed_coordinate, parsed_item, parsed_turning, parsed_txn}
 
 abbrev pub Word : Type 0
 Word = List ℕ

@@ -1,15 +1,28 @@
 //! What the first words of a line mean, and what stands behind them.
 ghost use Rattle.std.specs.Prelude.{◌≡◌, option_map};
 ghost use Rattle.job_text.specs.Job.{is_none_of};
-ghost use Rattle.job_text.specs.Steps.{if_ended, item_alone, leading_cell, leading_coordinate, leading_item, leading_point, leading_symbol, leading_turning, leading_txn, point_of, symbol_alone, txn_alone};
-ghost use Rattle.job_lines.specs.Words.{words};
+ghost use Rattle.job_text.specs.Steps.{
+  if_ended,
+  item_alone,
+  leading_cell,
+  leading_coordinate,
+  leading_item,
+  leading_point,
+  leading_symbol,
+  leading_turning,
+  leading_txn,
+  point_of,
+  symbol_alone,
+  txn_alone,
+};
+ghost use Rattle.job_text.specs.Words.{words};
 
 use crate::words::{cell_of, coordinate_of, is_blank, item_of, split_word, turning_of, txn_of};
 use byte_io::number_of;
-use lay_calls::{CellId, MAX_SYMBOL};
+use lay_cells::{CellId, MAX_SYMBOL};
 use lay_layouts::ItemId;
 use lay_point::{Point, Quarter};
-use undo_rules::TxnId;
+use txn_commands::TxnId;
 
 /// The cell that the first word names, and what stands behind the word.
 pub(crate) fn cell_at(line: &[u8]) -> Option<(CellId, &[u8])>

@@ -5,13 +5,13 @@ ghost use Rattle.lay_point.specs.Memory.{IsAnswer};
 ghost use Rattle.job_text.specs.declared.job.JobFault.TheVariants.{Line, NoMemory as OutOfMemory};
 ghost use Rattle.job_text.specs.Job.{head_of, is_only, job_of, sections_job};
 ghost use Rattle.byte_io.specs.Lines.{lines};
-ghost use Rattle.job_lines.specs.Words.{words};
+ghost use Rattle.job_text.specs.Words.{words};
 
 use crate::order_section::order_at;
 use crate::scripts::sections_at;
+use crate::text::{Place, split_text};
 use crate::words::{is_blank, split_word};
 use byte_io::{content, split_line};
-use job_lines::{Place, split_text};
 use lay_point::{NoMemory, Sequence};
 use session_steps::Step;
 use std::alloc::Global;

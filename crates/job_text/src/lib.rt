@@ -11,7 +11,7 @@
 //! asks for, and [`reply_line`] and [`odd_line`] give the comments that answer it.
 //!
 //! Which job the bytes are is `specs/Job.antt`, on the lines of `byte_io/specs/Lines.antt`, their words of
-//! `job_lines/specs/Words.antt` and the steps of `specs/Steps.antt`; the comments are `job_lines/specs/Replies.antt` and
+//! `specs/Words.antt` and the steps of `specs/Steps.antt`; the comments are `specs/Replies.antt` and
 //! `specs/Order.antt`. Contracts see a job as the record of its text's bytes, its
 //! scripts and its order.
 //!
@@ -19,6 +19,16 @@
 //! let job = Job::read(alloc, b"%cif\nE\n%session 1\nopen\n")?;
 //! assert_eq!(rt; job.order.as_slice(), [1].as_slice());
 //! ```
+//!
+//! # Lines of jobs: which words a line has and what they spell, and how replies are put into lines
+//!
+//! A line ends at a newline or at the end of the text (`byte_io/specs/Lines.antt`), and its words are parted by blanks
+//! (`specs/Words.antt`). Each reply is a comment of CIF, a line of its own
+//! (`specs/Replies.antt`): [`put_reply`] writes one to a device, piece by piece and without memory.
+//! [`TextOut`] is a device that keeps the text. [`split_text`] finds where the CIF text of a job ends
+//! (`specs/Text.antt`).
+//!
+//! `job_text` reads jobs and prints runs.
 #![tactic(auto)]
 
 mod fields;
@@ -27,12 +37,17 @@ mod live;
 mod order;
 mod order_section;
 mod printing;
+mod reply_text;
 mod scripts;
 mod step_line;
+mod text;
+mod text_out;
 mod words;
 
-pub use byte_io::{In, InFault};
 pub use job::{Job, JobFault, MAX_JOB};
 pub use live::{LiveLine, live_line, odd_line, reply_line};
 pub use order::order_of;
 pub use printing::{comments, print, put_comments};
+pub use reply_text::{put_replies, put_reply};
+pub use text::{Place, split_text};
+pub use text_out::TextOut;

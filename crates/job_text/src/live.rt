@@ -2,14 +2,15 @@
 ghost use Rattle.std.specs.Prelude.{◌≡◌, IfOk, Ok};
 ghost use Rattle.lay_point.specs.Memory.{IsAnswer};
 ghost use Rattle.job_text.specs.Live.{live_line, odd_text, step_line};
-ghost use Rattle.job_lines.specs.Replies.{reply_text};
-ghost use Rattle.job_lines.specs.Words.{words, words_of};
+ghost use Rattle.job_text.specs.Replies.{reply_text};
+ghost use Rattle.job_text.specs.Words.{words, words_of};
 
 use crate::order_section::session_of;
+use crate::reply_text::put_reply;
 use crate::step_line::step_of;
+use crate::text_out::TextOut;
 use crate::words::{is_blank, split_word};
 use byte_io::{OutBuffer, content};
-use job_lines::{TextOut, put_reply};
 use lay_point::NoMemory;
 use session_steps::{Reply, Step as SessionStep};
 use std::alloc::Global;

@@ -3,7 +3,17 @@ ghost use Rattle.std.specs.Prelude.{◌≡◌, ◌<◌, ◌≤◌, ◌++◌, ◌
 ghost use Rattle.std.specs.Prelude.{length, replicate, slice_index};
 ghost use Rattle.std.specs.List.{position};
 ghost use Rattle.byte_io.specs.Buffered.{Buffered};
-ghost use Rattle.job_text.specs.Order.{is_logged, is_logged_fault, order_number_text, order_of, order_text, replies_left, replies_of, rest_from, steps_to_logged};
+ghost use Rattle.job_text.specs.Order.{
+  is_logged,
+  is_logged_fault,
+  order_number_text,
+  order_of,
+  order_text,
+  replies_left,
+  replies_of,
+  rest_from,
+  steps_to_logged,
+};
 
 use crate::words::MAX_SESSION;
 use byte_io::{Out, OutBuffer};

@@ -3,10 +3,21 @@ ghost use Rattle.std.specs.Prelude.{◌≡◌, ◌+◌, ◌++◌, ◌<◌, ◌==
 ghost use Rattle.std.specs.List.{list_all};
 ghost use Rattle.lay_point.specs.Memory.{IsAnswer};
 ghost use Rattle.job_text.specs.declared.job.JobFault.TheVariants.{NoMemory as OutOfMemory};
-ghost use Rattle.job_text.specs.Job.{are_counted, named_by, named_in, named_order, odd_line, one_by_one, order_at, order_fits, session_of, total_len};
+ghost use Rattle.job_text.specs.Job.{
+  are_counted,
+  named_by,
+  named_in,
+  named_order,
+  odd_line,
+  one_by_one,
+  order_at,
+  order_fits,
+  session_of,
+  total_len,
+};
 ghost use Rattle.byte_io.specs.Lines.{lines};
 ghost use Rattle.byte_io.specs.Numbers.{is_number};
-ghost use Rattle.job_lines.specs.Words.{words};
+ghost use Rattle.job_text.specs.Words.{words};
 
 use crate::job::{JobFault, MAX_JOB};
 use crate::order::push_times;

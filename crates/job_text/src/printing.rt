@@ -2,12 +2,13 @@
 ghost use Rattle.std.specs.Prelude.{◌≡◌, ◌↔◌, ◌+◌, ◌++◌, IfOk, IsErrOf, OnErr, OnOk};
 ghost use Rattle.byte_io.specs.Device.{WroteAll, WrotePrefix};
 ghost use Rattle.job_text.specs.Order.{order_text};
-ghost use Rattle.job_lines.specs.Replies.{replies_text};
+ghost use Rattle.job_text.specs.Replies.{replies_text};
 
 use crate::order::put_order;
+use crate::reply_text::put_replies;
+use crate::text_out::TextOut;
 use byte_io::{Out, OutBuffer, OutFault};
 use cif_write::WriteFault;
-use job_lines::{TextOut, put_replies};
 use lay_point::{NoMemory, Sequence};
 use session_steps::Reply;
 use std::alloc::Global;

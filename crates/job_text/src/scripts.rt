@@ -3,15 +3,23 @@ ghost use Rattle.std.specs.Prelude.{◌≡◌, ◌+◌, ◌++◌, ◌∷◌, [],
 ghost use Rattle.std.specs.Result.{result_map_both};
 ghost use Rattle.lay_point.specs.Memory.{IsAnswer};
 ghost use Rattle.job_text.specs.declared.job.JobFault.TheVariants.{NoMemory as OutOfMemory};
-ghost use Rattle.job_text.specs.Job.{Sections, is_only_number, is_session_line, is_session_number, scripts_of, sections_at, steps_with};
+ghost use Rattle.job_text.specs.Job.{
+  Sections,
+  is_only_number,
+  is_session_line,
+  is_session_number,
+  scripts_of,
+  sections_at,
+  steps_with,
+};
 ghost use Rattle.byte_io.specs.Lines.{lines};
-ghost use Rattle.job_lines.specs.Words.{words};
+ghost use Rattle.job_text.specs.Words.{words};
 
 use crate::job::{JobFault, MAX_JOB, is_only};
 use crate::step_line::step_of;
+use crate::text::Place;
 use crate::words::{MAX_SESSION, is_blank, split_word};
 use byte_io::{content, number_of, split_line};
-use job_lines::Place;
 use lay_point::{NoMemory, Sequence};
 use session_steps::Step;
 use std::alloc::Global;

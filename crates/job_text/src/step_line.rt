@@ -1,18 +1,32 @@
 //! Step lines.
 ghost use Rattle.std.specs.Prelude.{◌≡◌, Ok, [], ◌++◌, OnOk};
 ghost use Rattle.lay_point.specs.Memory.{IsAnswer};
-ghost use Rattle.job_text.specs.Steps.{bool_command, box_command, command_named, layer_command, move_command, op_of, parsed_points, place_command, poly_command, short_command, step_named, step_of};
-ghost use Rattle.job_lines.specs.Words.{words};
+ghost use Rattle.job_text.specs.Steps.{
+  bool_command,
+  box_command,
+  command_named,
+  layer_command,
+  move_command,
+  op_of,
+  parsed_points,
+  place_command,
+  poly_command,
+  short_command,
+  step_named,
+  step_of,
+};
+ghost use Rattle.job_text.specs.Words.{words};
 
 use crate::fields::{
     cell_at, ended, item_alone, item_at, point_at, point_of, symbol_alone, symbol_at, turning_at,
     txn_alone,
 };
 use crate::words::split_word;
+use face_rows::Op;
 use lay_point::{LayerName, NoMemory, Point, Sequence, Turn};
 use session_steps::Step;
 use std::alloc::Global;
-use undo_rules::{Command, Op};
+use txn_commands::Command;
 
 /// The step that the words of a line say, `None` where they say none.
 #[tactic(auto, unfolding(crate::specs::Steps::step_of))]

@@ -2,13 +2,27 @@
 ghost use Rattle.std.specs.Prelude.{◌+◌, ◌≡◌, ◌≤◌, [], neg_ℤ, length, not, option_map, pos, ◌<◌, ◌-◌, ◌^◌, IfSome, MatchOption, Some, None};
 ghost use Rattle.std.specs.List.{position};
 ghost use Rattle.job_text.specs.Job.{is_none_of};
-ghost use Rattle.job_lines.specs.Words.{IsFirstWord, before_dot, from_word, is_negative, is_word_separator, parsed_cell, parsed_coordinate, parsed_item, parsed_mirror, parsed_quarter, parsed_turning, parsed_txn, words};
+ghost use Rattle.job_text.specs.Words.{
+  IsFirstWord,
+  before_dot,
+  from_word,
+  is_negative,
+  is_word_separator,
+  parsed_cell,
+  parsed_coordinate,
+  parsed_item,
+  parsed_mirror,
+  parsed_quarter,
+  parsed_turning,
+  parsed_txn,
+  words,
+};
 
 use byte_io::{number_of, place_of};
-use lay_calls::{CellId, MAX_SYMBOL};
+use lay_cells::{CellId, MAX_SYMBOL};
 use lay_layouts::ItemId;
 use lay_point::Quarter;
-use undo_rules::TxnId;
+use txn_commands::TxnId;
 
 /// The greatest number of a session.
 pub(crate) const MAX_SESSION: u32 = 64;
@@ -73,7 +87,7 @@ fn is_separator(byte: u8) -> bool
 }
 
 /// The cell that the word names.
-#[tactic(auto, unfolding(job_lines::specs::Words::parsed_cell))]
+#[tactic(auto, unfolding(crate::specs::Words::parsed_cell))]
 pub(crate) fn cell_of(word: &[u8]) -> Option<CellId>
     ensures { result ≡ parsed_cell word.now }
 {
@@ -84,7 +98,7 @@ pub(crate) fn cell_of(word: &[u8]) -> Option<CellId>
 }
 
 /// The transaction that the word names.
-#[tactic(auto, unfolding(job_lines::specs::Words::parsed_txn))]
+#[tactic(auto, unfolding(crate::specs::Words::parsed_txn))]
 pub(crate) fn txn_of(word: &[u8]) -> Option<TxnId>
     ensures { result ≡ parsed_txn word.now }
 {
@@ -97,7 +111,7 @@ pub(crate) fn txn_of(word: &[u8]) -> Option<TxnId>
 }
 
 /// The item that the word names.
-#[tactic(auto, unfolding(job_lines::specs::Words::parsed_item))]
+#[tactic(auto, unfolding(crate::specs::Words::parsed_item))]
 pub(crate) fn item_of(word: &[u8]) -> Option<ItemId>
     ensures { result ≡ parsed_item word.now }
 {
@@ -112,7 +126,7 @@ pub(crate) fn item_of(word: &[u8]) -> Option<ItemId>
 }
 
 /// The number before the first dot, up to the limit, and what stands behind the dot.
-#[tactic(auto, unfolding(job_lines::specs::Words::before_dot))]
+#[tactic(auto, unfolding(crate::specs::Words::before_dot))]
 fn before_dot(limit: u32, word: &[u8]) -> Option<(u32, &[u8])>
     ensures value { option_map (λ p. (p.0, p.1.now)) result ≡ before_dot limit word.now }
     ensures small { IfSome result (λ p. p.0 ≤ limit) }
@@ -123,7 +137,7 @@ fn before_dot(limit: u32, word: &[u8]) -> Option<(u32, &[u8])>
 }
 
 /// Whether a turn mirrors, and its quarter turns, as the word spells them.
-#[tactic(auto, unfolding(job_lines::specs::Words::parsed_turning))]
+#[tactic(auto, unfolding(crate::specs::Words::parsed_turning))]
 pub(crate) fn turning_of(word: &[u8]) -> Option<(bool, Quarter)>
     ensures { result ≡ parsed_turning word.now }
 {
@@ -144,7 +158,7 @@ fn mirror_of(letter: u8) -> Option<bool>
 }
 
 /// The quarter turns of so many degrees.
-#[tactic(auto, unfolding(job_lines::specs::Words::parsed_quarter))]
+#[tactic(auto, unfolding(crate::specs::Words::parsed_quarter))]
 fn quarter_of(degrees: &[u8]) -> Option<Quarter>
     ensures { result ≡ parsed_quarter degrees.now }
 {
@@ -158,7 +172,7 @@ fn quarter_of(degrees: &[u8]) -> Option<Quarter>
 }
 
 /// The coordinate that the word spells.
-#[tactic(auto, unfolding(job_lines::specs::Words::parsed_coordinate))]
+#[tactic(auto, unfolding(crate::specs::Words::parsed_coordinate))]
 pub(crate) fn coordinate_of(word: &[u8]) -> Option<i32>
     ensures { result ≡ parsed_coordinate word.now }
 {

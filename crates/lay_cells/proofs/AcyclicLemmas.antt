@@ -4,15 +4,15 @@ use Rattle.std.proofs.Common.{not, List, [], ◌∷◌, length, refl, ap, sym, s
 use Rattle.std.specs.Prelude.{filter}
 use Rattle.std.specs.Bool.{Decides}
 use Rattle.std.proofs.lemmas.Bool.Decides.{Decides-and, Decides-eqb}
-use Rattle.lay_calls.specs.declared.cell_id.CellId.{CellId}
-use Rattle.lay_calls.specs.declared.cell_id.CellId.TheVariants.{Symbol}
-use Rattle.lay_calls.specs.SameCell.{cell_eq, cell_eq-Decides}
-use Rattle.lay_calls.specs.WalkLists.{AreAllWalks, IsWalk, called_symbol, calls_standing_in, longest, walks_from, walks_within}
-use Rattle.lay_calls.specs.Walks.{IsAcyclic, Walks}
-use Rattle.lay_calls.specs.Walks.Walks.{goes, stays}
-use Rattle.lay_calls.proofs.FewerCalls.{AreAmong, IsAcyclic-fewer}
-use Rattle.lay_calls.proofs.MemberLemmas.{contains_behind, contains_cases, contains_filtered}
-use Rattle.lay_calls.proofs.MemberLemmas.{contains_first, contains_none, filtered_contains, length-filter_drops}
+use Rattle.lay_cells.specs.declared.cell_id.CellId.{CellId}
+use Rattle.lay_cells.specs.declared.cell_id.CellId.TheVariants.{Symbol}
+use Rattle.lay_cells.specs.SameCell.{cell_eq, cell_eq-Decides}
+use Rattle.lay_cells.specs.WalkLists.{AreAllWalks, IsWalk, called_symbol, calls_standing_in, longest, walks_from, walks_within}
+use Rattle.lay_cells.specs.Walks.{IsAcyclic, Walks}
+use Rattle.lay_cells.specs.Walks.Walks.{goes, stays}
+use Rattle.lay_cells.proofs.FewerCalls.{AreAmong, IsAcyclic-fewer}
+use Rattle.lay_cells.proofs.MemberLemmas.{contains_behind, contains_cases, contains_filtered}
+use Rattle.lay_cells.proofs.MemberLemmas.{contains_first, contains_none, filtered_contains, length-filter_drops}
 use Rattle.lay_cells.proofs.WalkListLemmas.{listed, longest-le, only_walks}
 
 abbrev Call : Type 0

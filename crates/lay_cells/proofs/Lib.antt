@@ -1,3 +1,10 @@
 pub mod AcyclicLemmas
+pub mod BeforeLemmas
+pub mod FewerCalls
+pub mod GraphLemmas
+pub mod MarkLemmas
+pub mod MemberLemmas
+pub mod PlaceLemmas
 pub mod TallyLemmas
+pub mod WalkLemmas
 pub mod WalkListLemmas

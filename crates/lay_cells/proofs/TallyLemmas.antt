@@ -7,19 +7,19 @@ use Rattle.std.proofs.lemmas.List.{get_or-set_other, get_or-set_same, length-set
 use Rattle.std.proofs.lemmas.List.Elements.{Contains-get_or, Contains-push_cases}
 use Rattle.std.specs.Prelude.{max, sum_by}
 use Rattle.std.proofs.lemmas.List.Sums.{sum_by-cons, sum_by_push}
-use Rattle.lay_calls.specs.declared.cell_id.CellId.{CellId}
-use Rattle.lay_calls.specs.declared.cell_id.CellId.TheVariants.{Symbol}
+use Rattle.lay_cells.specs.declared.cell_id.CellId.{CellId}
+use Rattle.lay_cells.specs.declared.cell_id.CellId.TheVariants.{Symbol}
 use Rattle.lay_cells.specs.declared.tally.TheConstants.{MAX_COUNTED_WALKS}
 use Rattle.lay_cells.specs.declared.tally.Tally.{Tally}
-use Rattle.lay_calls.specs.Graph.{AreRowsOf, AreWithin, position_of, row}
-use Rattle.lay_calls.specs.Places.{AreBelow, ArePositions}
-use Rattle.lay_calls.specs.Symbols.{has_cell}
+use Rattle.lay_cells.specs.Graph.{AreRowsOf, AreWithin, position_of, row}
+use Rattle.lay_cells.specs.Places.{AreBelow, ArePositions}
+use Rattle.lay_cells.specs.Symbols.{has_cell}
 use Rattle.lay_cells.specs.Tallies.{AreShallow, AreTallied, AreTallies, AreTargetsKnown, IsLow, IsTallied}
 use Rattle.lay_cells.specs.Tallies.{IsSum, IsTally, count_within, counted, greatest, height_within, tally_at}
-use Rattle.lay_calls.specs.WalkLists.{called_symbol, calls_standing_in, longest, walks_from, walks_within}
-use Rattle.lay_calls.specs.Walks.{IsAcyclic}
+use Rattle.lay_cells.specs.WalkLists.{called_symbol, calls_standing_in, longest, walks_from, walks_within}
+use Rattle.lay_cells.specs.Walks.{IsAcyclic}
 use Rattle.lay_cells.proofs.AcyclicLemmas.{few_in_all, stands}
-use Rattle.lay_calls.proofs.MemberLemmas.{contains_behind, contains_cases, contains_first, contains_mapped, contains_none}
+use Rattle.lay_cells.proofs.MemberLemmas.{contains_behind, contains_cases, contains_first, contains_mapped, contains_none}
 use Rattle.lay_cells.proofs.WalkListLemmas.{length-more, longest-more}
 
 module _ (symbols : List ℕ) (calls : List (CellId × ℕ)) (rows : List (List ℕ)) (r : AreRowsOf symbols calls rows) where

@@ -4,12 +4,12 @@ use Rattle.std.proofs.Common.{◌∷◌, ◌++◌, length, map, refl, ap, subst,
 use Rattle.std.specs.Prelude.{flat_map, max, sum_by}
 use Rattle.std.proofs.lemmas.List.{length-map}
 use Rattle.std.proofs.lemmas.List.Concat.{length-flat_map}
-use Rattle.lay_calls.specs.declared.cell_id.CellId.{CellId}
-use Rattle.lay_calls.specs.declared.cell_id.CellId.TheVariants.{Symbol}
+use Rattle.lay_cells.specs.declared.cell_id.CellId.{CellId}
+use Rattle.lay_cells.specs.declared.cell_id.CellId.TheVariants.{Symbol}
 use Rattle.lay_cells.specs.Tallies.{greatest}
-use Rattle.lay_calls.specs.WalkLists.{IsWalk, longest, walks_within}
-use Rattle.lay_calls.proofs.MemberLemmas.{contains_behind, contains_cases, contains_first, contains_joined}
-use Rattle.lay_calls.proofs.MemberLemmas.{contains_mapped, contains_none, joined_contains, mapped_contains}
+use Rattle.lay_cells.specs.WalkLists.{IsWalk, longest, walks_within}
+use Rattle.lay_cells.proofs.MemberLemmas.{contains_behind, contains_cases, contains_first, contains_joined}
+use Rattle.lay_cells.proofs.MemberLemmas.{contains_mapped, contains_none, joined_contains, mapped_contains}
 
 module _ {C : Type 0} where
   longest-append : (xs ys : List (List C)) → longest (xs ++ ys) ≡ max (longest xs) (longest ys)

@@ -3,7 +3,7 @@ use Rattle.std.specs.Prelude.{◌≡◌, ℕ, zero, suc, ◌+◌, ◌^◌, ◌<�
 use Rattle.std.specs.Prelude.{Some, Contains, IsSome, length, max, min, slice_index_or, sum_by}
 use Rattle.lay_cells.specs.declared.tally.TheConstants.{MAX_COUNTED_WALKS}
 use Rattle.lay_cells.specs.declared.tally.Tally.{Tally}
-use Rattle.lay_calls.specs.Graph.{row}
+use Rattle.lay_cells.specs.Graph.{row}
 
 -- the greatest of what a function gives for these, or 0
 abbrev pub greatest : {A : Type 0} → (A → ℕ) → List A → ℕ

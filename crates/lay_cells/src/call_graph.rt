@@ -2,15 +2,19 @@
 ghost use Rattle.std.specs.Prelude.{◌≡◌, ◌↔◌, ℕ, ◌+◌, ◌<◌, ◌++◌, ◌∷◌, [], Contains, IfOk, IfSome};
 ghost use Rattle.std.specs.Prelude.{IsNone, IsTrue, OnErr, OnOk, length};
 ghost use Rattle.std.specs.List.{list_all};
-ghost use Rattle.lay_calls.specs.Graph.{position_of, row, rows_of, with_target};
-ghost use Rattle.lay_calls.specs.Places.{AreOrdered, cell_place, goes_later, keeps_order};
-ghost use Rattle.lay_calls.specs.Symbols.{has_cell};
+ghost use Rattle.lay_cells.specs.Graph.{position_of, row, rows_of, with_target};
+ghost use Rattle.lay_cells.specs.Places.{AreOrdered, cell_place, goes_later, keeps_order};
+ghost use Rattle.lay_cells.specs.Symbols.{has_cell};
 ghost use Rattle.lay_cells.specs.Tallies.{counted};
-ghost use Rattle.lay_calls.specs.WalkLists.{AreAllWalks, longest, walks_from};
-ghost use Rattle.lay_calls.specs.Walks.{ClosesCycle, IsAcyclic, IsFirstCycle, Walks};
+ghost use Rattle.lay_cells.specs.WalkLists.{AreAllWalks, longest, walks_from};
+ghost use Rattle.lay_cells.specs.Walks.{ClosesCycle, IsAcyclic, IsFirstCycle, Walks};
 
+use crate::cell_id::CellId;
+use crate::cells::Cells;
+use crate::places::{callees_first, callers_first};
+use crate::search::reached;
 use crate::tally::{Tally, tallied};
-use lay_calls::{CellId, Cells, NoMemory, callees_first, callers_first, reached};
+use lay_point::NoMemory;
 use std::alloc::Global;
 use std::marker::Model;
 
@@ -25,11 +29,11 @@ pub struct CallGraph {
 }
 
 impl Model for CallGraph {
-    ghost use Rattle.lay_calls.specs.Walks.{Calls};
+    ghost use Rattle.lay_cells.specs.Walks.{Calls};
 
     ghost Value = { Calls };
 
-    ghost use Rattle.lay_calls.specs.Graph.{AreRowsOf, rows_of};
+    ghost use Rattle.lay_cells.specs.Graph.{AreRowsOf, rows_of};
 
     ghost view = { λ g. record { symbols = g.symbols; calls = g.calls.items } };
 

@@ -18,11 +18,29 @@
 //! graph.add(CellId::Top, 7)?;
 //! assert!(rt; graph.reaches(alloc, CellId::Top, CellId::Symbol(7))?);
 //! ```
+//!
+//! # Cells by their numbers, and what calls what
+//!
+//! A [`CellId`] is the top cell or a symbol. [`Cells`] has the numbers of the symbols in the order of their
+//! declarations, and keeps in its type that no number stands there twice (`specs/Symbols.antt`). A graph of
+//! calls is a list of calls, each a caller and its target (`specs/Graph.antt`), and a walk goes along calls
+//! (`specs/Walks.antt`). Rows of targets are searched from a cell on, each cell and each call once
+//! (`specs/Marks.antt`); and cells are put in an order in which each is behind those that it calls, as far as
+//! there is one (`specs/Places.antt`).
+//!
+//! `lay_cells` has the graph itself.
 #![tactic(auto)]
 
 mod call_graph;
+mod cell_id;
+mod cells;
+mod places;
+mod search;
 mod tally;
 
 pub use call_graph::CallGraph;
-pub use lay_calls::{CellId, Cells, MAX_SYMBOL};
+pub use cell_id::CellId;
+pub use cells::{Cells, MAX_SYMBOL};
+pub use places::{callees_first, callers_first};
+pub use search::reached;
 pub use tally::MAX_COUNTED_WALKS;

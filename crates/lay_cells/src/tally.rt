@@ -1,11 +1,18 @@
 //! How deep the walks from a cell go, and how many there are.
 ghost use Rattle.std.specs.Prelude.{◌≡◌, ℕ, [], ◌∷◌, ◌+◌, ◌^◌, ◌<◌, IfOk, IfSome, IsSome, None, length, map, max, replicate};
-ghost use Rattle.lay_calls.specs.Graph.{AreWithin, row, rows_of};
-ghost use Rattle.lay_calls.specs.Places.{AreBelow, ArePositions};
-ghost use Rattle.lay_cells.specs.Tallies.{AreShallow, AreTallied, AreTallies, AreTargetsKnown, IsSum, IsTally};
+ghost use Rattle.lay_cells.specs.Graph.{AreWithin, row, rows_of};
+ghost use Rattle.lay_cells.specs.Places.{AreBelow, ArePositions};
+ghost use Rattle.lay_cells.specs.Tallies.{
+  AreShallow,
+  AreTallied,
+  AreTallies,
+  AreTargetsKnown,
+  IsSum,
+  IsTally,
+};
 ghost use Rattle.lay_cells.specs.Tallies.{counted, height_within, tally_at};
 
-use lay_calls::NoMemory;
+use lay_point::NoMemory;
 use std::alloc::Global;
 
 /// How many walks are counted: one more than a flattening may have.

@@ -3,7 +3,7 @@ use Rattle.std.proofs.Common.{◌≡◌, ◌∙◌, ◌≤◌, ◌<◌, ◌||◌
 use Rattle.std.proofs.Common.{Result, Ok, Err, List, cond, length, ap, is_none, subst, sym}
 use Rattle.lay_point.specs.Memory.{IsAnswer}
 use Rattle.std.specs.List.{list_all, list_any}
-use Rattle.lay_calls.specs.declared.cell_id.CellId.{CellId}
+use Rattle.lay_cells.specs.declared.cell_id.CellId.{CellId}
 use Rattle.lay_layouts.specs.Layout.{Layout, is_cell}
 use Rattle.lay_flat.specs.declared.ends.End.{End}
 use Rattle.lay_flat.specs.declared.fault.FlatFault.{FlatFault}

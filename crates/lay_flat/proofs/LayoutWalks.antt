@@ -8,15 +8,15 @@ use Rattle.std.proofs.lemmas.List.{map-append}
 use Rattle.std.proofs.lemmas.List.Sums.{sum_by-cons}
 use Rattle.lay_point.specs.declared.turn.Turn.{Turn}
 use Rattle.lay_point.specs.Turns.{unturned}
-use Rattle.lay_calls.specs.declared.cell_id.CellId.{CellId}
-use Rattle.lay_calls.specs.declared.cell_id.CellId.TheVariants.{Symbol}
-use Rattle.lay_calls.specs.SameCell.{cell_eq, cell_eq-Decides}
-use Rattle.lay_items.specs.Tallies.{greatest}
-use Rattle.lay_calls.specs.WalkLists.{IsWalk, called_symbol, calls_standing_in, longest, walks_from, walks_within}
-use Rattle.lay_calls.specs.Walks.{Calls, IsAcyclic}
-use Rattle.lay_items.proofs.AcyclicLemmas.{few_in_all, stands}
-use Rattle.lay_calls.proofs.FewerCalls.{AreAmong, IsAcyclic-fewer}
-use Rattle.lay_items.proofs.WalkListLemmas.{le-longest, length-more, listed, longest-le, longest-more, no_more, only_walks}
+use Rattle.lay_cells.specs.declared.cell_id.CellId.{CellId}
+use Rattle.lay_cells.specs.declared.cell_id.CellId.TheVariants.{Symbol}
+use Rattle.lay_cells.specs.SameCell.{cell_eq, cell_eq-Decides}
+use Rattle.lay_cells.specs.Tallies.{greatest}
+use Rattle.lay_cells.specs.WalkLists.{IsWalk, called_symbol, calls_standing_in, longest, walks_from, walks_within}
+use Rattle.lay_cells.specs.Walks.{Calls, IsAcyclic}
+use Rattle.lay_cells.proofs.AcyclicLemmas.{few_in_all, stands}
+use Rattle.lay_cells.proofs.FewerCalls.{AreAmong, IsAcyclic-fewer}
+use Rattle.lay_cells.proofs.WalkListLemmas.{le-longest, length-more, listed, longest-le, longest-more, no_more, only_walks}
 use Rattle.lay_layouts.specs.declared.id.ItemId.{ItemId}
 use Rattle.lay_layouts.specs.declared.item.Item.{Item}
 use Rattle.lay_layouts.specs.declared.item.Item.TheVariants.{Placed, Shape}

@@ -6,7 +6,7 @@ use Rattle.std.proofs.lemmas.Simd.{map-map}
 use Rattle.lay_point.specs.declared.point.Point.{Point}
 use Rattle.lay_point.specs.declared.turn.Turn.{Turn}
 use Rattle.lay_point.specs.Turns.{unturned}
-use Rattle.lay_calls.specs.declared.cell_id.CellId.TheVariants.{Top}
+use Rattle.lay_cells.specs.declared.cell_id.CellId.TheVariants.{Top}
 use Rattle.lay_layouts.specs.Layout.{Layout}
 use Rattle.lay_layouts.specs.Lent.{LentShape, shapes_in}
 use Rattle.lay_flat.specs.declared.ends.End.{End}

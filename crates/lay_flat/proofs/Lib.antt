@@ -1,5 +1,6 @@
+pub mod Answered
+pub mod Below
 pub mod LayoutWalks
 pub mod LendingLemmas
+pub mod OrderLemmas
 pub mod Tested
-pub mod Answered
-pub use Rattle.lay_items.proofs.SoundLemmas

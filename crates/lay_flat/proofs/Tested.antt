@@ -1,9 +1,9 @@
 -- The test of the walks, from their depth and number.
 use Rattle.std.proofs.Common.{◌≡◌, ◌∙◌, ◌≤◌, ◌<◌, ℕ, Bool, true, false, Ok, Err, cond, length, ap, arith, nat_lt, refl}
 use Rattle.std.proofs.lemmas.Bool.Decides.{nat_tests}
-use Rattle.lay_calls.specs.declared.cell_id.CellId.{CellId}
-use Rattle.lay_items.specs.Tallies.{counted}
-use Rattle.lay_calls.specs.WalkLists.{longest}
+use Rattle.lay_cells.specs.declared.cell_id.CellId.{CellId}
+use Rattle.lay_cells.specs.Tallies.{counted}
+use Rattle.lay_cells.specs.WalkLists.{longest}
 use Rattle.lay_layouts.specs.Layout.{Layout}
 use Rattle.lay_flat.specs.declared.fault.FlatFault.TheVariants.{TooDeep, TooMany}
 use Rattle.lay_flat.specs.declared.flat.TheConstants.{MAX_DEPTH, MAX_RINGS}

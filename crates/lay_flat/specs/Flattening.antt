@@ -6,8 +6,8 @@ use Rattle.std.specs.List.{flat_map, list_all, list_any}
 use Rattle.lay_point.specs.declared.point.Point.{Point}
 use Rattle.lay_point.specs.declared.turn.Turn.{Turn}
 use Rattle.lay_point.specs.Turns.{unturned}
-use Rattle.lay_calls.specs.declared.cell_id.CellId.{CellId}
-use Rattle.lay_calls.specs.WalkLists.{IsWalk, longest}
+use Rattle.lay_cells.specs.declared.cell_id.CellId.{CellId}
+use Rattle.lay_cells.specs.WalkLists.{IsWalk, longest}
 use Rattle.lay_layouts.specs.Layout.{Layout, is_cell}
 use Rattle.lay_layouts.specs.Lent.{LentCall, calls_in, shapes_in}
 use Rattle.lay_flat.specs.declared.ends.End.{End}

@@ -1,10 +1,8 @@
 pub mod Ends
 pub mod Flat
 pub mod Flattening
+pub mod Laws
 pub mod Lending
 pub mod Lists
+pub mod Order
 pub mod Walked
-pub use Rattle.lay_items.specs.Graphs
-pub use Rattle.lay_layouts.specs.Layout
-pub use Rattle.lay_layouts.specs.Lent
-pub use Rattle.lay_layouts.specs.Sound

@@ -1,11 +1,11 @@
 //! The calls that stand in cells, listed once for each cell.
 ghost use Rattle.std.specs.Prelude.{◌≡◌, IfOk, OnOk};
-ghost use Rattle.lay_calls.specs.declared.cell_id.CellId.TheVariants.{Symbol, Top};
+ghost use Rattle.lay_cells.specs.declared.cell_id.CellId.TheVariants.{Symbol, Top};
 ghost use Rattle.lay_layouts.specs.Lent.{calls_in};
 ghost use Rattle.lay_layouts.specs.Sound.{IsSound};
 
 use crate::shared::Shared;
-use lay_calls::CellId;
+use lay_cells::CellId;
 use lay_items::{Snapshot, Version};
 use lay_layouts::ItemId;
 use lay_point::{NoMemory, Turn};
@@ -26,7 +26,7 @@ pub(crate) struct CallLists<'s> {
 
 impl<'s> Model for CallLists<'s> {
     ghost use Rattle.std.specs.Prelude.{◌≡◌, IfSome};
-    ghost use Rattle.lay_calls.specs.declared.cell_id.CellId.TheVariants.{Symbol, Top};
+    ghost use Rattle.lay_cells.specs.declared.cell_id.CellId.TheVariants.{Symbol, Top};
     ghost use Rattle.lay_layouts.specs.Layout.{Layout, coded_layout};
     ghost use Rattle.lay_layouts.specs.Lent.{calls_in};
     ghost use Rattle.lay_flat.specs.Lists.{AreListsOf};

@@ -3,7 +3,7 @@ ghost use Rattle.std.specs.Prelude.{◌≡◌, ◌++◌, OnOk};
 ghost use Rattle.lay_flat.specs.Ends.{ends_within, turn_after};
 
 use crate::call_lists::CallLists;
-use lay_calls::CellId;
+use lay_cells::CellId;
 use lay_point::{NoMemory, Turn};
 use std::alloc::Global;
 

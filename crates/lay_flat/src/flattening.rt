@@ -7,7 +7,7 @@ ghost use Rattle.lay_flat.specs.Flattening.{AreWalks, flat_of};
 use crate::fault::FlatFault;
 use crate::flat::Flat;
 use crate::walks::Walks;
-use lay_calls::CellId;
+use lay_cells::CellId;
 use lay_items::Snapshot;
 use lay_point::LayerName;
 use std::alloc::Global;

@@ -1,17 +1,22 @@
 //! The calls of the cells that a cell leads to, as a graph. What stands in other cells isn't looked at.
 ghost use Rattle.std.specs.Prelude.{◌≡◌, [], ◌++◌, IfOk, IsTrue, OnOk, length, map};
-ghost use Rattle.lay_calls.specs.Symbols.{has_cell};
-ghost use Rattle.lay_items.specs.Tallies.{counted};
-ghost use Rattle.lay_calls.specs.WalkLists.{longest};
+ghost use Rattle.lay_cells.specs.Symbols.{has_cell};
+ghost use Rattle.lay_cells.specs.Tallies.{counted};
+ghost use Rattle.lay_cells.specs.WalkLists.{longest};
 ghost use Rattle.lay_layouts.specs.Layout.{is_cell};
 ghost use Rattle.lay_layouts.specs.Sound.{IsSound};
 ghost use Rattle.lay_flat.specs.Ends.{walks_of};
 ghost use Rattle.lay_items.specs.Graphs.{AreCallsTo, BeginsIn, CoverReached, IsGraphFrom, in_graph};
-ghost use Rattle.lay_items.specs.Graphs.{AreClosed, first_symbols, symbol_calls, top_calls, with_called};
+ghost use Rattle.lay_items.specs.Graphs.{
+  AreClosed,
+  first_symbols,
+  symbol_calls,
+  top_calls,
+  with_called,
+};
 
 use crate::call_lists::{Call, CallLists};
-use lay_calls::{CellId, Cells};
-use lay_items::CallGraph;
+use lay_cells::{CallGraph, CellId, Cells};
 use lay_point::NoMemory;
 use std::alloc::Global;
 

@@ -1,10 +1,10 @@
 //! The shapes on a layer that stand in cells, listed once for each symbol.
 ghost use Rattle.std.specs.Prelude.{◌≡◌, ◌++◌, ◌∷◌, [], IfOk, OnOk};
-ghost use Rattle.lay_calls.specs.declared.cell_id.CellId.TheVariants.{Symbol};
+ghost use Rattle.lay_cells.specs.declared.cell_id.CellId.TheVariants.{Symbol};
 ghost use Rattle.lay_flat.specs.Lists.{shape_rings};
 
 use crate::shared::Shared;
-use lay_calls::CellId;
+use lay_cells::CellId;
 use lay_items::Snapshot;
 use lay_point::{LayerName, NoMemory, Ring};
 use std::alloc::Global;
@@ -37,7 +37,7 @@ pub(crate) struct ShapeLists<'s> {
 }
 
 impl<'s> Model for ShapeLists<'s> {
-    ghost use Rattle.lay_calls.specs.declared.cell_id.CellId.TheVariants.{Symbol};
+    ghost use Rattle.lay_cells.specs.declared.cell_id.CellId.TheVariants.{Symbol};
     ghost use Rattle.lay_flat.specs.Lists.{AreListsOf, LayerOf, coded_layer_of, shape_rings};
 
     ghost Value = { LayerOf };

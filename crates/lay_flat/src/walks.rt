@@ -16,7 +16,7 @@ use crate::fault::FlatFault;
 use crate::flat::{Flat, FlatRing, MAX_DEPTH, MAX_RINGS};
 use crate::graph::depth_and_walks;
 use crate::lending::lend_rings;
-use lay_calls::CellId;
+use lay_cells::CellId;
 use lay_items::Snapshot;
 use lay_point::{LayerName, Point, Turn};
 use std::alloc::Global;

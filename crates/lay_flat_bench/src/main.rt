@@ -5,8 +5,9 @@
 #![tactic(auto)]
 
 use anyhow::Context;
-use cif_layout::{FromCif, read};
-use lay_calls::CellId;
+use cif_layout::FromCif;
+use cif_read::read;
+use lay_cells::CellId;
 use lay_flat::flatten;
 use lay_items::Snapshot;
 use lay_point::LayerName;

@@ -11,12 +11,12 @@ use Rattle.std.proofs.lemmas.Option.{get_or_from_slice_get, slice_get_within}
 use Rattle.std.proofs.lemmas.List.{take_more}
 use Rattle.std.proofs.lemmas.Grind.{flat_map-append}
 use Rattle.std.proofs.lemmas.Bool.{or_right}
-use Rattle.lay_calls.specs.declared.cell_id.CellId.{CellId}
-use Rattle.lay_calls.specs.declared.cell_id.CellId.TheVariants.{Symbol, Top}
-use Rattle.lay_calls.specs.SameCell.{cell_eq}
-use Rattle.lay_calls.specs.Symbols.{has_symbol, with_symbol}
-use Rattle.lay_calls.proofs.BeforeLemmas.{IsBefore, before_one, same_itself, there_one}
-use Rattle.lay_calls.proofs.GraphLemmas.{has_more, same_number}
+use Rattle.lay_cells.specs.declared.cell_id.CellId.{CellId}
+use Rattle.lay_cells.specs.declared.cell_id.CellId.TheVariants.{Symbol, Top}
+use Rattle.lay_cells.specs.SameCell.{cell_eq}
+use Rattle.lay_cells.specs.Symbols.{has_symbol, with_symbol}
+use Rattle.lay_cells.proofs.BeforeLemmas.{IsBefore, before_one, same_itself, there_one}
+use Rattle.lay_cells.proofs.GraphLemmas.{has_more, same_number}
 use Rattle.lay_layouts.specs.declared.id.ItemId.{ItemId}
 use Rattle.lay_layouts.specs.declared.item.Item.{Item}
 use Rattle.lay_layouts.specs.declared.item.Item.TheVariants.{Placed, Shape}

@@ -1,7 +1,9 @@
+pub mod BeginLemmas
 pub mod Entering
+pub mod GroupLemmas
+pub mod MarkLemmas
 pub mod MergeLemmas
 pub mod NumberedLemmas
 pub mod Reaching
+pub mod RunLemmas
 pub mod SoundLemmas
-pub use Rattle.lay_cells.proofs.AcyclicLemmas
-pub use Rattle.lay_cells.proofs.WalkListLemmas

@@ -10,8 +10,8 @@ use Rattle.std.specs.List.Sorted.{IsStrictlySortedBy}
 use Rattle.std.specs.Map.{keys_of}
 use Rattle.std.specs.Ordering.{eq_by_cmp, is_eq, is_lt, ordering_reverse}
 use Rattle.std.proofs.lemmas.List.{at_drop_more}
-use Rattle.lay_cell_items.specs.Written.{higher, lower, written_entries}
-use Rattle.lay_cell_items.proofs.RunLemmas.{all_weaker, less}
+use Rattle.lay_pages.specs.Written.{higher, lower, written_entries}
+use Rattle.lay_items.proofs.RunLemmas.{all_weaker, less}
 use Rattle.lay_layouts.specs.declared.id.ItemId.{ItemId}
 use Rattle.lay_layouts.specs.declared.item.Item.{Item}
 use Rattle.lay_items.specs.Entries.{merged}

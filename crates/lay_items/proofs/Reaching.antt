@@ -5,13 +5,13 @@ use Rattle.std.specs.Prelude.{slice_get}
 use Rattle.std.specs.List.{AllByRecursion, IsDistinct}
 use Rattle.std.proofs.lemmas.Bool.Decides.{nat_tests}
 use Rattle.std.proofs.lemmas.List.Elements.{Contains-append_cases, filter-append}
-use Rattle.lay_calls.specs.declared.cell_id.CellId.{CellId}
-use Rattle.lay_calls.specs.declared.cell_id.CellId.TheVariants.{Symbol, Top}
-use Rattle.lay_calls.specs.SameCell.{cell_eq, cell_eq-Decides}
-use Rattle.lay_calls.specs.Symbols.{has_cell, has_symbol}
-use Rattle.lay_calls.specs.WalkLists.{calls_standing_in}
-use Rattle.lay_calls.proofs.GraphLemmas.{same_number}
-use Rattle.lay_calls.proofs.MemberLemmas.{contains_none, joined_contains}
+use Rattle.lay_cells.specs.declared.cell_id.CellId.{CellId}
+use Rattle.lay_cells.specs.declared.cell_id.CellId.TheVariants.{Symbol, Top}
+use Rattle.lay_cells.specs.SameCell.{cell_eq, cell_eq-Decides}
+use Rattle.lay_cells.specs.Symbols.{has_cell, has_symbol}
+use Rattle.lay_cells.specs.WalkLists.{calls_standing_in}
+use Rattle.lay_cells.proofs.GraphLemmas.{same_number}
+use Rattle.lay_cells.proofs.MemberLemmas.{contains_none, joined_contains}
 use Rattle.lay_layouts.specs.Layout.{Layout}
 use Rattle.lay_layouts.specs.Lent.{LentCall, calls_in}
 use Rattle.lay_layouts.specs.SlotOrder.{in_slot_order}

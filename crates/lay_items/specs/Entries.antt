@@ -1,6 +1,6 @@
 -- Items under their ids, in order of the ids, and what writes make of them.
 use Rattle.std.specs.Prelude.{List, [], ◌∷◌, ◌++◌}
-use Rattle.lay_cell_items.specs.Written.{higher, lower, written_entries}
+use Rattle.lay_pages.specs.Written.{higher, lower, written_entries}
 use Rattle.lay_layouts.specs.declared.id.ItemId.{ItemId}
 use Rattle.lay_layouts.specs.declared.item.Item.{Item}
 use Rattle.lay_layouts.specs.Ids.{id_cmp}

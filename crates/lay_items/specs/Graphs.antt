@@ -1,10 +1,10 @@
 -- The calls of the cells that a cell leads to, as a graph.
 use Rattle.std.specs.Prelude.{◌≡◌, ℕ, List, [], ◌∷◌, ◌++◌, Some, IsTrue, flat_map, map, nat_eq, slice_get}
 use Rattle.std.specs.List.{AllByRecursion, IsDistinct}
-use Rattle.lay_calls.specs.declared.cell_id.CellId.{CellId}
-use Rattle.lay_calls.specs.declared.cell_id.CellId.TheVariants.{Symbol, Top}
-use Rattle.lay_calls.specs.Symbols.{has_symbol, with_symbol}
-use Rattle.lay_calls.specs.Walks.{Calls}
+use Rattle.lay_cells.specs.declared.cell_id.CellId.{CellId}
+use Rattle.lay_cells.specs.declared.cell_id.CellId.TheVariants.{Symbol, Top}
+use Rattle.lay_cells.specs.Symbols.{has_symbol, with_symbol}
+use Rattle.lay_cells.specs.Walks.{Calls}
 use Rattle.lay_layouts.specs.Layout.{Layout}
 use Rattle.lay_layouts.specs.Lent.{LentCall, calls_in}
 

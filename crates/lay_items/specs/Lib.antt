@@ -1,4 +1,5 @@
+pub mod Begun
 pub mod Entries
 pub mod Graphs
 pub mod Numbered
-pub use Rattle.lay_cells.specs.Tallies
+pub mod Runs

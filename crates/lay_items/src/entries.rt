@@ -2,11 +2,11 @@
 ghost use Rattle.std.specs.Prelude.{◌≡◌, ◌++◌, IfOk, OnOk};
 ghost use Rattle.std.specs.List.Sorted.{IsStrictlySortedBy};
 ghost use Rattle.std.specs.Map.{keys_of};
-ghost use Rattle.lay_cell_items.specs.Written.{written_entries};
+ghost use Rattle.lay_pages.specs.Written.{written_entries};
 ghost use Rattle.lay_items.specs.Entries.{merged};
 ghost use Rattle.lay_layouts.specs.Ids.{id_cmp};
 
-use lay_cell_items::ItemsBuilder;
+use crate::builder::ItemsBuilder;
 use lay_layouts::{Item, ItemId};
 use lay_pages::{Pages, around};
 use lay_point::{Given, NoMemory};

@@ -10,11 +10,14 @@ ghost use Rattle.lay_layouts.specs.LayoutWith.{numbered_from};
 ghost use Rattle.lay_layouts.specs.Lent.{calls_lent, shapes_among};
 ghost use Rattle.lay_layouts.specs.SameLayout.{items_eq};
 
+use crate::builder::ItemsBuilder;
 use crate::entries::{listed, merged, taken};
+use crate::iter::{Calls, Entries, Items, Shapes};
 use crate::numbered::NumberedItems;
-use lay_calls::CellId;
-use lay_cell_items::{Calls, Entries, Items, ItemsBuilder, Runs, Shapes};
-use lay_layouts::{Item, ItemId, Pages, are_same_pages};
+use crate::runs::Runs;
+use lay_cells::CellId;
+use lay_layouts::{Item, ItemId, are_same_pages};
+use lay_pages::Pages;
 use lay_point::{LayerName, NoMemory};
 use std::alloc::Global;
 use std::marker::Model;
@@ -32,7 +35,7 @@ impl Model for ItemMap {
     ghost use Rattle.std.specs.FinMap.{FinMap};
     ghost use Rattle.lay_layouts.specs.contracts.item.Item as item;
     ghost use Rattle.lay_layouts.specs.declared.item.Item.{Item};
-    ghost use Rattle.lay_cell_items.specs.Runs.{AreHeld};
+    ghost use Rattle.lay_items.specs.Runs.{AreHeld};
     ghost use Rattle.lay_layouts.specs.Ids.{coded_id, id_cmp};
     ghost use Rattle.lay_layouts.specs.Layout.{map_of_items};
 

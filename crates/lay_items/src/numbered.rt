@@ -2,7 +2,7 @@
 ghost use Rattle.std.specs.Prelude.{◌≡◌, ◌++◌, [], ◌∷◌, IfOk, OnOk};
 ghost use Rattle.lay_layouts.specs.LayoutWith.{numbered_from, text_id};
 
-use lay_cell_items::ItemsBuilder;
+use crate::builder::ItemsBuilder;
 use lay_layouts::{Item, ItemId, one_more};
 use lay_point::NoMemory;
 use std::alloc::Global;

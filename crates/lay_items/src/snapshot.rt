@@ -8,9 +8,9 @@ ghost use Rattle.lay_layouts.specs.Lent.{calls_in, points_at, shapes_in};
 ghost use Rattle.lay_layouts.specs.SlotOrder.{in_slot_order};
 ghost use Rattle.lay_layouts.specs.Sound.{IsSound};
 
+use crate::iter::{Calls, Items, Shapes};
 use crate::version::Version;
-use lay_calls::{CellId, Cells};
-use lay_cell_items::{Calls, Items, Shapes};
+use lay_cells::{CellId, Cells};
 use lay_layouts::{CellSlot, Item, ItemId};
 use lay_point::{LayerName, NoMemory, Point};
 use std::alloc::Global;

@@ -13,9 +13,9 @@ ghost use Rattle.lay_layouts.specs.Same.{symbols_eq};
 ghost use Rattle.lay_layouts.specs.SlotOrder.{in_slot_order};
 
 use crate::item_map::ItemMap;
+use crate::iter::{Calls, Entries, Items, Shapes};
 use crate::numbered::{NumberedItems, numbered};
-use lay_calls::{CellId, Cells};
-use lay_cell_items::{Calls, Entries, Items, Shapes};
+use lay_cells::{CellId, Cells};
 use lay_layouts::{CellSlot, Item, ItemId, SymbolMap};
 use lay_point::{LayerName, NoMemory};
 use std::alloc::Global;

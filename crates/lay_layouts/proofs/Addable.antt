@@ -7,9 +7,9 @@ use Rattle.std.specs.FinMap.{FinMap, IsAntisymmetric, entries, entries_sorted, f
 use Rattle.std.specs.List.{AllByRecursion, list_any}
 use Rattle.std.specs.Ordering.{eq_by_cmp, is_eq, nat_cmp, ordering_then}
 use Rattle.std.proofs.lemmas.Bool.Decides.{nat_tests}
-use Rattle.lay_calls.specs.declared.cell_id.CellId.{CellId}
-use Rattle.lay_calls.specs.declared.cell_id.CellId.TheVariants.{Symbol, Top}
-use Rattle.lay_calls.specs.Symbols.{has_cell, has_symbol}
+use Rattle.lay_cells.specs.declared.cell_id.CellId.{CellId}
+use Rattle.lay_cells.specs.declared.cell_id.CellId.TheVariants.{Symbol, Top}
+use Rattle.lay_cells.specs.Symbols.{has_cell, has_symbol}
 use Rattle.lay_layouts.specs.declared.id.ItemId.{ItemId}
 use Rattle.lay_layouts.specs.declared.item.Item.{Item}
 use Rattle.lay_layouts.specs.declared.item.Item.TheVariants.{Placed, Shape}

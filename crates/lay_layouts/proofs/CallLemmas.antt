@@ -6,7 +6,7 @@ use Rattle.std.specs.FinMap.{entries, entries-insert, insert, put}
 use Rattle.std.specs.FinMap.Entries.{by_order}
 use Rattle.std.specs.List.{cons_option}
 use Rattle.std.proofs.lemmas.List.Elements.{Contains-append_cases, Contains-append_left, Contains-append_right}
-use Rattle.lay_calls.proofs.FewerCalls.{AreAmong}
+use Rattle.lay_cells.proofs.FewerCalls.{AreAmong}
 use Rattle.lay_layouts.specs.declared.id.ItemId.{ItemId}
 use Rattle.lay_layouts.specs.declared.item.Item.{Item}
 use Rattle.lay_layouts.specs.Calls.{Call, as_call, calls_among, calls_of}

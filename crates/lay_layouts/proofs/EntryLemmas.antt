@@ -10,7 +10,7 @@ use Rattle.std.proofs.lemmas.Bool.{eqb-true, or_right}
 use Rattle.std.proofs.lemmas.Bool.Decides.{Decides-eqb}
 use Rattle.std.proofs.lemmas.List.Elements.{All-cons, All-map, All-nil, All-tail, All-head, All-weaker, recursion_from_All}
 use Rattle.std.proofs.lemmas.Map.Lookups.{exact_pairs, exact_unsigned}
-use Rattle.lay_calls.specs.Symbols.{has_symbol}
+use Rattle.lay_cells.specs.Symbols.{has_symbol}
 use Rattle.lay_layouts.specs.declared.slot.CellSlot.{CellSlot}
 use Rattle.lay_layouts.specs.SlotOrder.{Standing, by_standing, in_slot_order, rank, standing_cmp, standing_of}
 use Rattle.lay_layouts.proofs.DistinctLemmas.{AreDistinct}

@@ -17,7 +17,7 @@ use Rattle.std.proofs.lemmas.List.{get_or-map, length-map, map-append, take_all,
 use Rattle.std.proofs.lemmas.List.Elements.{All-head, All-tail, All-weaker}
 use Rattle.std.proofs.lemmas.Map.Lookups.{exact_unsigned}
 use Rattle.std.proofs.lemmas.Option.{get_or_from_slice_get}
-use Rattle.lay_calls.specs.Symbols.{has_symbol, with_symbol}
+use Rattle.lay_cells.specs.Symbols.{has_symbol, with_symbol}
 use Rattle.lay_layouts.specs.declared.slot.CellSlot.{CellSlot}
 use Rattle.lay_layouts.specs.declared.slot.CellSlot.TheVariants.{Base, Made}
 use Rattle.lay_layouts.specs.Layout.{SymbolWrite, put_all, symbols_of}

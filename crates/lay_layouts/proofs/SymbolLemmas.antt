@@ -10,7 +10,7 @@ use Rattle.std.specs.Map.{keys_of}
 use Rattle.std.specs.Ordering.{eq_by_cmp, is_eq, nat_cmp, ordering_then}
 use Rattle.std.proofs.lemmas.Bool.Decides.{nat_tests}
 use Rattle.std.proofs.lemmas.Map.Lookups.{exact_pairs, exact_unsigned}
-use Rattle.lay_calls.specs.Symbols.{has_symbol, with_symbol}
+use Rattle.lay_cells.specs.Symbols.{has_symbol, with_symbol}
 use Rattle.lay_layouts.specs.declared.slot.CellSlot.{CellSlot}
 use Rattle.lay_layouts.specs.SlotOrder.{Standing, by_standing, in_slot_order, rank, standing_cmp, standing_of}
 use Rattle.lay_layouts.proofs.DistinctLemmas.{AreDistinct}

@@ -1,8 +1,8 @@
 -- Items, and the items of a cell.
 use Rattle.std.specs.Prelude.{List, filter}
 use Rattle.std.specs.FinMap as map
-use Rattle.lay_calls.specs.declared.cell_id.CellId.{CellId}
-use Rattle.lay_calls.specs.SameCell.{cell_eq}
+use Rattle.lay_cells.specs.declared.cell_id.CellId.{CellId}
+use Rattle.lay_cells.specs.SameCell.{cell_eq}
 use Rattle.lay_layouts.specs.declared.id.ItemId.{ItemId}
 use Rattle.lay_layouts.specs.declared.item.Item.{Item}
 use Rattle.lay_layouts.specs.declared.item.Item.TheVariants.{Placed, Shape}

@@ -12,5 +12,3 @@ pub mod SameLayout
 pub mod SameMap
 pub mod SlotOrder
 pub mod Sound
-pub use Rattle.lay_calls.specs.SameCell
-pub use Rattle.lay_calls.specs.declared.cell_id.CellId

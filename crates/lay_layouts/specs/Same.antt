@@ -9,7 +9,7 @@ use Rattle.std.proofs.Common.{ap}
 use Rattle.std.proofs.lemmas.Bool.Decides.{Decides-and, Decides-eqb, Decides-like}
 use Rattle.std.proofs.lemmas.Slice.Eq.{bytes_eq-Decides, slice_eq-Decides}
 use Rattle.lay_point.specs.declared.point.Point.{Point}
-use Rattle.lay_calls.specs.SameCell.{cell_eq, cell_eq-Decides}
+use Rattle.lay_cells.specs.SameCell.{cell_eq, cell_eq-Decides}
 use Rattle.lay_point.specs.Same.{names_eq, points_eq, points_eq-Decides}
 use Rattle.lay_point.specs.SameTurn.{turn_eq, turn_eq-Decides}
 use Rattle.lay_layouts.specs.declared.item.Item.{Item}

@@ -3,7 +3,7 @@ ghost use Rattle.std.specs.Prelude.{◌≡◌, ◌∷◌, [], IfOk, Ok};
 ghost use Rattle.lay_point.specs.Memory.{IsAnswer};
 ghost use Rattle.lay_layouts.specs.Items.{cell_of};
 
-use lay_calls::CellId;
+use lay_cells::CellId;
 use lay_point::{LayerName, NoMemory, Ring, Turn};
 use std::alloc::{AllocError, Global};
 use std::marker::Model;

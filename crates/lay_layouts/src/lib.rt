@@ -20,8 +20,6 @@ mod trees;
 
 pub use id::ItemId;
 pub use item::{Item, Rings};
-pub use lay_calls::CellId;
-pub use lay_pages::Pages;
 pub use parts::one_more;
 pub use slot::CellSlot;
 pub use symbol_map::SymbolMap;

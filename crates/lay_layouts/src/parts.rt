@@ -7,7 +7,7 @@ ghost use Rattle.lay_layouts.specs.Layout.{symbols_of};
 ghost use Rattle.lay_layouts.specs.LayoutWith.{placed_from};
 
 use crate::slot::CellSlot;
-use lay_calls::Cells;
+use lay_cells::Cells;
 use lay_pages::{Pages, PagesBuilder};
 use lay_point::NoMemory;
 use std::alloc::Global;

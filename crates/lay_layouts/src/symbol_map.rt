@@ -4,13 +4,19 @@ ghost use Rattle.std.specs.FinMap as finite;
 ghost use Rattle.lay_layouts.specs.Layout.{put_all, symbols_of};
 ghost use Rattle.lay_layouts.specs.LayoutWith.{placed_from};
 ghost use Rattle.lay_layouts.specs.Same.{symbols_eq};
-ghost use Rattle.lay_layouts.specs.SlotOrder.{AreMadeUpTo, by_standing, in_slot_order, is_behind, is_made};
+ghost use Rattle.lay_layouts.specs.SlotOrder.{
+  AreMadeUpTo,
+  by_standing,
+  in_slot_order,
+  is_behind,
+  is_made,
+};
 ghost use Rattle.lay_layouts.specs.SlotOrder.{rank, standing_cmp};
 
 use crate::parts::base_symbols;
 use crate::slot::CellSlot;
 use crate::trees::are_same_pages;
-use lay_calls::Cells;
+use lay_cells::Cells;
 use lay_pages::Pages;
 use lay_point::NoMemory;
 use std::alloc::Global;

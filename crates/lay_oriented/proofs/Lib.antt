@@ -1,2 +1,9 @@
-pub mod DirectedLemmas
+pub mod BridgeWinding
 pub mod CompleteLemmas
+pub mod DirectedLemmas
+pub mod NetLemmas
+pub mod OrientedLemmas
+pub mod RowLemmas
+pub mod SlantLemmas
+pub mod SweepLemmas
+pub mod WindingLemmas

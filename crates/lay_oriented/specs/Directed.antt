@@ -11,7 +11,7 @@ use Rattle.lay_layouts.specs.declared.item.Item.{Item}
 use Rattle.lay_layouts.specs.declared.item.Item.TheVariants.{Placed, Shape}
 use Rattle.lay_layouts.specs.Layout.{Layout}
 use Rattle.lay_layouts.specs.Sound.{IsDrawn}
-use Rattle.lay_winding.specs.Oriented.{AreOriented, GoRound}
+use Rattle.lay_oriented.specs.Oriented.{AreOriented, GoRound}
 
 -- the one path round these rings goes once round each place inside by their parity, and not round any other
 abbrev pub GoesOnce : List (List Point) → Type 0

@@ -1,2 +1,7 @@
 pub mod Directed
+pub mod Laws
+pub mod Once
+pub mod Oriented
+pub mod Slants
 pub mod Steps
+pub mod Winding

@@ -5,11 +5,11 @@ ghost use Rattle.lay_layouts.specs.Sound.{IsDrawn};
 ghost use Rattle.lay_oriented.specs.Directed.{IsDirected};
 ghost use Rattle.lay_oriented.specs.Steps.{AreWrites, IsFoundFor};
 
+use crate::orienting::{Oriented, are_rings, orient};
 use face_rings::bridge;
 use lay_items::{Snapshot, Version};
 use lay_layouts::{Item, ItemId, Rings};
 use lay_point::{MAX_RING_POINTS, NoMemory, Ring};
-use lay_winding::{Oriented, are_rings, orient};
 use std::alloc::Global;
 
 /// A layout with its shapes directed.

@@ -15,12 +15,12 @@ use Rattle.std.specs.Map.{keys_of}
 use Rattle.std.specs.Option.{MatchOption}
 use Rattle.std.specs.Ordering.{is_eq, is_lt}
 use denote.Ref.{Bor}
-use Rattle.lay_page.specs.Shared.{entries_in, joined}
-use Rattle.lay_page.specs.Written.{AllAbove, IsPlace, first_entry, from_key, higher, last_entry, lent_entry, lower}
-use Rattle.lay_page.proofs.PlaceLemmas.{joined-at}
-use Rattle.lay_page.proofs.SearchLemmas.{turned}
-use Rattle.lay_page.proofs.ShareLemmas.{take_map}
-use Rattle.lay_page.proofs.WrittenLemmas.{filter-append, higher-above, lower-above, lower-below}
+use Rattle.lay_pages.specs.Shared.{entries_in, joined}
+use Rattle.lay_pages.specs.Written.{AllAbove, IsPlace, first_entry, from_key, higher, last_entry, lent_entry, lower}
+use Rattle.lay_pages.proofs.PlaceLemmas.{joined-at}
+use Rattle.lay_pages.proofs.SearchLemmas.{turned}
+use Rattle.lay_pages.proofs.ShareLemmas.{take_map}
+use Rattle.lay_pages.proofs.WrittenLemmas.{filter-append, higher-above, lower-above, lower-below}
 use Rattle.lay_pages.proofs.LastLemmas.{last_append}
 use Rattle.lay_pages.proofs.PageOfLemmas.{book_inside}
 use Rattle.lay_pages.specs.Places.{IsPageOf, entries_before, page_in}

@@ -6,9 +6,9 @@ use Rattle.std.specs.List.{AllByRecursion, slice_get}
 use Rattle.std.specs.Option.{option_map}
 use Rattle.std.specs.declared.sync.Arc.{Arc}
 use Rattle.std.specs.declared.vec.Vec.{Vec}
-use Rattle.lay_page.specs.Shared.{AreSized, entries_in, items_of, joined, pages_in}
-use Rattle.lay_page.specs.Written.{last_entry}
-use Rattle.lay_page.proofs.ShareLemmas.{all_take, take_map}
+use Rattle.lay_pages.specs.Shared.{AreSized, entries_in, items_of, joined, pages_in}
+use Rattle.lay_pages.specs.Written.{last_entry}
+use Rattle.lay_pages.proofs.ShareLemmas.{all_take, take_map}
 
 -- it is the one of the last index
 pub last_get : {A : Type 0} (xs : List A) → slice_get xs (length xs - 1) ≡ last_entry xs

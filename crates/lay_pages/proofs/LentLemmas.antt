@@ -6,9 +6,9 @@ use Rattle.std.specs.declared.sync.Arc.{Arc}
 use Rattle.std.specs.declared.vec.Vec.{Vec}
 use Rattle.std.specs.List.Sorted.{IsStrictlySortedBy}
 use Rattle.std.specs.Map.{keys_of}
-use Rattle.lay_page.specs.Shared.{AreBooks, AreSized, items_of, joined, pages_in}
-use Rattle.lay_page.proofs.BookLemmas.{book_at}
-use Rattle.lay_page.proofs.ShareLemmas.{count_books, count_items, items_at, length_map, pages_at}
+use Rattle.lay_pages.specs.Shared.{AreBooks, AreSized, items_of, joined, pages_in}
+use Rattle.lay_pages.proofs.BookLemmas.{book_at}
+use Rattle.lay_pages.proofs.ShareLemmas.{count_books, count_items, items_at, length_map, pages_at}
 
 -- the page of this index
 pub lent_page : {X Y Z : Type 0} (book : List (Arc (Vec X Y) Z)) (at : ℕ) (one : Arc (Vec X Y) Z) (es : List X)

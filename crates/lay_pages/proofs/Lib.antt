@@ -1,4 +1,11 @@
 pub mod BesideLemmas
+pub mod BookLemmas
+pub mod FillLemmas
 pub mod LastLemmas
 pub mod LentLemmas
+pub mod OrderLemmas
 pub mod PageOfLemmas
+pub mod PlaceLemmas
+pub mod SearchLemmas
+pub mod ShareLemmas
+pub mod WrittenLemmas

@@ -6,11 +6,11 @@ use Rattle.std.specs.Cmp.{IsTotalOrder}
 use Rattle.std.specs.FinMap.{IsAntisymmetric, find}
 use Rattle.std.specs.List.Sorted.{IsStrictlySortedBy}
 use Rattle.std.specs.Map.{keys_of}
-use Rattle.lay_page.specs.Shared.{AreBooks, entries_in, joined}
-use Rattle.lay_page.proofs.BookLemmas.{book_at}
-use Rattle.lay_page.proofs.OrderLemmas.{find-level}
-use Rattle.lay_page.proofs.PlaceLemmas.{sorted-at}
-use Rattle.lay_page.proofs.ShareLemmas.{length_map}
+use Rattle.lay_pages.specs.Shared.{AreBooks, entries_in, joined}
+use Rattle.lay_pages.proofs.BookLemmas.{book_at}
+use Rattle.lay_pages.proofs.OrderLemmas.{find-level}
+use Rattle.lay_pages.proofs.PlaceLemmas.{sorted-at}
+use Rattle.lay_pages.proofs.ShareLemmas.{length_map}
 use Rattle.lay_pages.specs.Places.{IsPageOf, page_in}
 
 module _ {K X : Type 0} {R : K → K → Ordering} (k : K) (books : List (List (List (K × X)))) (book page : ℕ) where

@@ -1,3 +1,4 @@
-pub use Rattle.lay_page.specs.Written
 pub mod Places
+pub mod Shared
 pub mod Tops
+pub mod Written

@@ -1,8 +1,8 @@
 -- The page of a book into which a key falls.
 use Rattle.std.specs.Prelude.{ℕ, List, [], ◌++◌, map, slice_index_or, take}
 use Rattle.std.specs.declared.cmp.Ordering.{Ordering}
-use Rattle.lay_page.specs.Shared.{entries_in, joined}
-use Rattle.lay_page.specs.Written.{IsPlace}
+use Rattle.lay_pages.specs.Shared.{entries_in, joined}
+use Rattle.lay_pages.specs.Written.{IsPlace}
 
 -- the page of this index in the book of this index
 abbrev pub page_in : {X : Type 0} → List (List (List X)) → ℕ → ℕ → List X

@@ -1,12 +1,20 @@
 //! The entry before a key.
 ghost use Rattle.std.specs.Prelude.{◌≡◌, ◌<◌, [], length, slice_index_or};
 ghost use Rattle.std.specs.List.{AllByRecursion};
-ghost use Rattle.lay_page.specs.Shared.{AreBooks, AreSized, entries_in, items_of, joined, pages_in};
-ghost use Rattle.lay_page.specs.Written.{last_entry, lent_entry, lower};
+ghost use Rattle.lay_pages.specs.Shared.{
+  AreBooks,
+  AreSized,
+  entries_in,
+  items_of,
+  joined,
+  pages_in,
+};
+ghost use Rattle.lay_pages.specs.Written.{last_entry, lent_entry, lower};
 ghost use Rattle.lay_pages.specs.Places.{entries_before};
 
+use crate::keys::{Kept, PageKey};
+use crate::page::{Book, Page, around};
 use crate::place::{Place, entries_at, place_of};
-use lay_page::{Book, Kept, Page, PageKey, around};
 
 /// Lends the entry before a key.
 pub(crate) fn below<K: PageKey, V: Kept>(books: &[Book<K, V>], key: K) -> Option<(K, &V)>

@@ -3,10 +3,12 @@ ghost use Rattle.std.specs.Prelude.{◌≡◌, ◌++◌, [], ◌∷◌, IfOk, On
 ghost use Rattle.std.specs.List.{AllByRecursion};
 ghost use Rattle.std.specs.List.Sorted.{IsStrictlySortedBy};
 ghost use Rattle.std.specs.Map.{keys_of};
-ghost use Rattle.lay_page.specs.Shared.{AreSized, entries_in, items_of, joined, pages_in};
+ghost use Rattle.lay_pages.specs.Shared.{AreSized, entries_in, items_of, joined, pages_in};
 
+use crate::keys::{Kept, PageKey};
+use crate::lists::Lists;
+use crate::page::{Book, Page};
 use crate::pages::Pages;
-use lay_page::{Book, Kept, Lists, Page, PageKey};
 use std::alloc::{AllocError, Global};
 use std::marker::Model;
 
@@ -19,7 +21,7 @@ pub struct PagesBuilder<K: PageKey, V: Kept> {
 
 impl<K: PageKey, V: Kept> Model for PagesBuilder<K, V> {
     ghost use Rattle.std.specs.Prelude.{List};
-    ghost use Rattle.lay_page.specs.Shared.{AreTaken, filled, items_of};
+    ghost use Rattle.lay_pages.specs.Shared.{AreTaken, filled, items_of};
 
     ghost Value = { List (K × V) };
 

@@ -3,10 +3,20 @@ ghost use Rattle.std.specs.Prelude.{◌≡◌, ◌<◌, ◌++◌, [], length};
 ghost use Rattle.std.specs.Cmp.Lexicographic.{pointwise};
 ghost use Rattle.std.specs.List.Sorted.{IsStrictlySortedBy};
 ghost use Rattle.std.specs.Map.{keys_of};
-ghost use Rattle.lay_page.specs.Shared.{AreBooks, AreSized, entries_in, items_of, joined, pages_in};
-ghost use Rattle.lay_page.specs.Written.{are_equal, from_key};
+ghost use Rattle.lay_pages.specs.Shared.{
+  AreBooks,
+  AreSized,
+  entries_in,
+  items_of,
+  joined,
+  pages_in,
+};
+ghost use Rattle.lay_pages.specs.Written.{are_equal, from_key};
 
-use lay_page::{Book, Kept, Page, PageKey, book_of, page, page_of};
+use crate::keys::{Kept, PageKey};
+use crate::page;
+use crate::page::{Book, Page};
+use crate::page_place::{book_of, page_of};
 use std::marker::Model;
 
 /// Lends entries in order of their keys. Contracts see the list of those that are left.
@@ -19,7 +29,7 @@ pub struct Entries<'a, K: PageKey, V: Kept> {
 
 impl<'a, K: PageKey, V: Kept> Model for Entries<'a, K, V> {
     ghost use Rattle.std.specs.Prelude.{List};
-    ghost use Rattle.lay_page.specs.Shared.{entries_in, items_of, left, pages_in};
+    ghost use Rattle.lay_pages.specs.Shared.{entries_in, items_of, left, pages_in};
 
     ghost Value = { List (K × V) };
 

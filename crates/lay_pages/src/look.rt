@@ -1,11 +1,13 @@
 //! What is found under a key, and how many pages there are.
 ghost use Rattle.std.specs.Prelude.{◌≡◌, ◌≤◌, ◌*◌, is_some, length, option_copied};
 ghost use Rattle.std.specs.FinMap.{find};
-ghost use Rattle.lay_page.specs.Shared.{AreBooks, entries_in, pages_in};
+ghost use Rattle.lay_pages.specs.Shared.{AreBooks, entries_in, pages_in};
 ghost use Rattle.lay_pages.specs.Places.{IsPageOf};
 
+use crate::keys::{Kept, PageKey};
+use crate::page;
+use crate::page::Book;
 use crate::place::{Place, entries_at, place_of};
-use lay_page::{Book, Kept, PageKey, page};
 
 /// Returns the value under the key.
 pub(crate) fn find<K: PageKey, V: Kept>(books: &[Book<K, V>], key: K) -> Option<&V>

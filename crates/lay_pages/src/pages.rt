@@ -4,15 +4,26 @@ ghost use Rattle.std.specs.Cmp.Lexicographic.{pointwise};
 ghost use Rattle.std.specs.FinMap.{find};
 ghost use Rattle.std.specs.List.Sorted.{IsStrictlySortedBy};
 ghost use Rattle.std.specs.Map.{keys_of};
-ghost use Rattle.lay_page.specs.Shared.{AreBooks, AreCountedBooks, entries_in, pages_in};
-ghost use Rattle.lay_page.specs.Written.{after_write, are_equal, first_entry, from_key, higher, last_entry, lent_entry, lower, written_all};
+ghost use Rattle.lay_pages.specs.Shared.{AreBooks, AreCountedBooks, entries_in, pages_in};
+ghost use Rattle.lay_pages.specs.Written.{
+  after_write,
+  are_equal,
+  first_entry,
+  from_key,
+  higher,
+  last_entry,
+  lent_entry,
+  lower,
+  written_all,
+};
 
 use crate::beside::below;
 use crate::entries::{Entries, are_same};
+use crate::keys::{Kept, PageKey};
 use crate::look::{count_pages, find, has_value};
+use crate::page::Book;
 use crate::place::place_of;
 use crate::update::{books_with, first_books, len_with};
-use lay_page::{Book, Kept, PageKey};
 use std::alloc::{AllocError, Global};
 use std::marker::Model;
 use std::sync::Arc;
@@ -28,7 +39,7 @@ pub struct Pages<K: PageKey, V: Kept> {
 
 impl<K: PageKey, V: Kept> Model for Pages<K, V> {
     ghost use Rattle.std.specs.Prelude.{List};
-    ghost use Rattle.lay_page.specs.Shared.{AreCountedBooks, entries_in};
+    ghost use Rattle.lay_pages.specs.Shared.{AreCountedBooks, entries_in};
     ghost use Rattle.lay_pages.specs.Tops.{books_in};
 
     ghost Value = { List (K × V) };

@@ -1,9 +1,11 @@
 //! The page into which a key falls.
 ghost use Rattle.std.specs.Prelude.{◌≡◌, ◌<◌, [], length, slice_index_or};
-ghost use Rattle.lay_page.specs.Shared.{AreBooks, pages_in};
+ghost use Rattle.lay_pages.specs.Shared.{AreBooks, pages_in};
 ghost use Rattle.lay_pages.specs.Places.{IsPageOf, page_in};
 
-use lay_page::{Book, Kept, Page, PageKey, book_of, page_of};
+use crate::keys::{Kept, PageKey};
+use crate::page::{Book, Page};
+use crate::page_place::{book_of, page_of};
 
 /// A page of books: the index of its book, and its own in that book.
 #[derive(Clone, Copy)]

@@ -2,12 +2,22 @@
 ghost use Rattle.std.specs.Prelude.{◌≡◌, ◌<◌, ◌≤◌, ◌+◌, [], IfOk, cond, length, true};
 ghost use Rattle.std.specs.List.Sorted.{IsStrictlySortedBy};
 ghost use Rattle.std.specs.Map.{keys_of};
-ghost use Rattle.lay_page.specs.Shared.{AreBooks, AreSized, entries_in, items_of, joined, pages_in};
-ghost use Rattle.lay_page.specs.Written.{IsPlace, after_write, count_of};
+ghost use Rattle.lay_pages.specs.Shared.{
+  AreBooks,
+  AreSized,
+  entries_in,
+  items_of,
+  joined,
+  pages_in,
+};
+ghost use Rattle.lay_pages.specs.Written.{IsPlace, after_write, count_of};
 ghost use Rattle.lay_pages.specs.Places.{IsPageOf};
 
+use crate::keys::{Kept, PageKey};
+use crate::page;
+use crate::page::{Book, Page};
 use crate::place::Place;
-use lay_page::{Book, Kept, Page, PageKey, page, push_parts, spliced};
+use crate::share::{push_parts, spliced};
 use std::alloc::{AllocError, Global};
 use std::cmp::Ordering;
 

@@ -1,8 +1,13 @@
 pub mod BridgeLemmas
+pub mod Division
 pub mod EdgeOrder
 pub mod Members
 pub mod NameLemmas
 pub mod Parity
+pub mod Polynomials
+pub mod Products
 pub mod RingLemmas
 pub mod Rising
+pub mod Signs
+pub mod Tests
 pub mod TurnLemmas

@@ -1,6 +1,7 @@
 pub mod Bridges
 pub mod Edges
 mod Kept
+pub mod Laws
 pub mod Memory
 pub mod Names
 pub mod Padded

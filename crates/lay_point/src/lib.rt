@@ -18,10 +18,18 @@
 //! let ring = Ring::new(alloc, &square)?;
 //! assert_eq!(rt; ring.points(), square.as_slice());
 //! ```
+//!
+//! # Laws of the whole numbers, for the geometry of whole points
+//!
+//! `proofs/Polynomials.antt` proves an identity of polynomials by computing both normal forms, so that
+//! an identity is one term. `Products.antt` has the ring's laws, `Signs.antt` the signs of products and
+//! the cancelling of positive factors, `Division.antt` that each fraction is rounded to a whole number.
+//! Numbers have no bounds here, and nothing of this runs.
 #![tactic(auto)]
 
 mod edge;
 mod given;
+mod laws;
 mod layer_name;
 mod memory;
 mod point;
@@ -31,6 +39,7 @@ mod turn;
 
 pub use edge::Edge;
 pub use given::Given;
+pub use laws::whole_numbers_have_laws;
 pub use layer_name::{LayerName, MAX_LAYER_NAME};
 pub use memory::NoMemory;
 pub use point::{LIMIT, Point};

@@ -2,7 +2,13 @@
 ghost use Rattle.std.specs.Prelude.{◌≡◌, neg_ℤ, ◌+ℤ◌, Some, None, if◌then◌else◌};
 ghost use Rattle.lay_point.specs.Points.{is_coordinate, is_in_range};
 ghost use Rattle.lay_point.specs.SameTurn.{quarter_turns};
-ghost use Rattle.lay_point.specs.Turns.{composed, composed_quarter, mirrored_x, next_quarter, opposite};
+ghost use Rattle.lay_point.specs.Turns.{
+  composed,
+  composed_quarter,
+  mirrored_x,
+  next_quarter,
+  opposite,
+};
 ghost use Rattle.lay_point.specs.Turns.{quarters, turned, turned_by, unturned, within_range};
 ghost use Rattle.lay_point.specs.TurnMaps.{ComposedMap, IsNearby};
 

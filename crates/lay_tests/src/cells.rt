@@ -1,9 +1,9 @@
 //! Tests of what no clause says: that the definitions are the format's, and that calls succeed.
 ghost use Rattle.std.specs.Prelude.{◌≡◌, IfOk};
-ghost use Rattle.lay_calls.specs.Symbols.{has_cell};
+ghost use Rattle.lay_cells.specs.Symbols.{has_cell};
 
-use lay_calls::NoMemory;
 use lay_cells::*;
+use lay_point::NoMemory;
 use std::alloc::Global;
 use std::test::*;
 

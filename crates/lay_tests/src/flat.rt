@@ -1,7 +1,8 @@
 //! Tests of what no clause says: that calls succeed, and that definitions mean what they should.
 
-use cif_layout::{FromCif, read};
-use lay_calls::CellId;
+use cif_layout::FromCif;
+use cif_read::read;
+use lay_cells::CellId;
 use lay_flat::*;
 use lay_items::Snapshot;
 use lay_point::{LayerName, Point};

@@ -2,8 +2,9 @@
 ghost use Rattle.std.specs.Prelude.{◌≡◌};
 
 use cif_layout::FromCif;
-use lay_calls::{CellId, Cells};
+use lay_cells::{CellId, Cells};
 use lay_items::*;
+use lay_layouts::{CellSlot, Item, ItemId, Rings};
 use lay_point::{LayerName, Point, Quarter, Ring, Turn};
 use std::alloc::Global;
 use std::collections::BTreeMap;
@@ -49,7 +50,7 @@ fn square(alloc: Global, cell: CellId, layer: &[u8], half: i32) -> Result<Item, 
 
 /// Returns the snapshot of what the text means.
 fn snapshot(alloc: Global, text: &[u8]) -> Result<Snapshot, Fail> {
-    Ok(Snapshot::from_cif(alloc, cif_layout::read(alloc, text)?)?)
+    Ok(Snapshot::from_cif(alloc, cif_read::read(alloc, text)?)?)
 }
 
 // Could catch items that are numbered, layered or placed otherwise than the text says, in the

@@ -1,6 +1,7 @@
 //! Tests of what no contract says: that shapes are turned where they can be.
 
-use cif_layout::{FromCif, read};
+use cif_layout::FromCif;
+use cif_read::read;
 use lay_items::Snapshot;
 use lay_layouts::ItemId;
 use lay_oriented::oriented_layout;

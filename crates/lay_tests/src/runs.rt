@@ -2,12 +2,12 @@
 ghost use Rattle.std.specs.Prelude.{IfOk};
 ghost use Rattle.std.specs.List.Sorted.{IsStrictlySortedBy};
 ghost use Rattle.std.specs.Map.{keys_of};
-ghost use Rattle.lay_cell_items.specs.Runs.{AreHeld};
+ghost use Rattle.lay_items.specs.Runs.{AreHeld};
 ghost use Rattle.lay_layouts.specs.Ids.{id_cmp};
 
-use lay_calls::CellId;
-use lay_cell_items::{ItemsBuilder, Runs};
-use lay_items::{Item, ItemId, Rings};
+use lay_cells::CellId;
+use lay_items::{ItemsBuilder, Runs};
+use lay_layouts::{Item, ItemId, Rings};
 use lay_pages::Pages;
 use lay_point::{LayerName, Point, Ring};
 use std::alloc::Global;

@@ -1,7 +1,7 @@
 //! Tests of what no clause says: that rings whose edges meet at ends alone are answered.
 
+use lay_oriented::*;
 use lay_point::{Point, Ring};
-use lay_winding::*;
 use std::alloc::{AllocError, Global};
 use std::test::*;
 

@@ -3,13 +3,13 @@ use Rattle.std.proofs.Common.{◌≡◌, List, [], ◌++◌, map, ap, subst, ◌
 use Rattle.std.specs.Prelude.{All}
 use Rattle.lay_point.specs.declared.point.Point.{Point}
 use Rattle.lay_flat.specs.Flat.{FlatRing, IsFlat}
-use Rattle.snap_visits.specs.declared.owner.Input.TheVariants.{First, Second}
-use Rattle.snap_visits.specs.declared.owner.Owner.{Owner}
+use Rattle.snap_chains.specs.declared.owner.Input.TheVariants.{First, Second}
+use Rattle.snap_chains.specs.declared.owner.Owner.{Owner}
 use Rattle.snap_chains.specs.Round.{IsRoundOf}
-use Rattle.snap_visits.specs.Rounded.{Owned}
-use Rattle.bool_shape_laws.proofs.Exists.{rounding_is_computed}
-use Rattle.bool_shape_laws.specs.Shapes.{owned_by, owned_of, rounded_inputs}
-use Rattle.bool_shape_laws.proofs.TurningLemmas.{owned_are_rings}
+use Rattle.snap_chains.specs.Rounded.{Owned}
+use Rattle.snap_laws.proofs.Exists.{rounding_is_computed}
+use Rattle.bool_rules.specs.Shapes.{owned_by, owned_of, rounded_inputs}
+use Rattle.bool_rules.proofs.TurningLemmas.{owned_are_rings}
 
 -- first the rings of the one, then those of the other
 pub both_turned : (a b : List FlatRing) (none first both : List (Owner × List Point)) → none ≡ []

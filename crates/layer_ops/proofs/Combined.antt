@@ -11,13 +11,13 @@ use Rattle.lay_point.specs.Parity.{odd, parity}
 use Rattle.lay_point.specs.Points.{is_in_range}
 use Rattle.lay_point.specs.RingEdges.{edges_of}
 use Rattle.lay_point.specs.Rising.{IsRising}
-use Rattle.face_link_laws.specs.Linking.{Ends}
-use Rattle.snap_visits.specs.Rounded.{Owned}
+use Rattle.face_ring_laws.specs.Linking.{Ends}
+use Rattle.snap_chains.specs.Rounded.{Owned}
 use Rattle.lay_flat.specs.Flat.{FlatRing, IsFlat}
 use Rattle.face_rows.specs.declared.op.Op.{Op}
 use Rattle.face_rows.specs.Operations.{edges_of_op, op_at}
-use Rattle.bool_shape_laws.specs.Shapes.{Rings, are_short, fits, is_short, max_segments, op_rings, rounded_inputs, segments_of, shapes_of}
-use Rattle.bool_shape_laws.proofs.ShapeLemmas.{edges_in_range, edges_tell, tell_places}
+use Rattle.bool_rules.specs.Shapes.{Rings, are_short, fits, is_short, max_segments, op_rings, rounded_inputs, segments_of, shapes_of}
+use Rattle.bool_rules.proofs.ShapeLemmas.{edges_in_range, edges_tell, tell_places}
 use Rattle.layer_ops.specs.declared.fault.OpFault.{OpFault}
 use Rattle.layer_ops.specs.declared.fault.OpFault.TheVariants.{NoMemory, TooMany}
 use Rattle.layer_ops.specs.Combining.{combined, shape_lists, shaped}

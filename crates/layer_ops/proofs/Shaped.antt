@@ -4,14 +4,14 @@ use Rattle.std.specs.Global.{Vec}
 use Rattle.std.specs.List.{list_all}
 use Rattle.lay_point.specs.declared.ring.Ring.{Ring}
 use Rattle.lay_point.specs.Memory.{IsAnswer}
-use Rattle.face_link_laws.specs.Linking.{Ends, linked_rings}
+use Rattle.face_ring_laws.specs.Linking.{Ends, linked_rings}
 use Rattle.face_rings.specs.declared.fault.LinkFault.{LinkFault}
 use Rattle.face_rings.specs.declared.fault.LinkFault.TheVariants as link
-use Rattle.face_part_laws.specs.Parts.{AreParts}
-use Rattle.bool_shape_laws.specs.Dividing.{parts_of}
-use Rattle.bool_shape_laws.specs.Shapes.{Rings, are_short, is_short}
-use Rattle.bool_shape_laws.proofs.LabelLemmas.{parts_exist}
-use Rattle.bool_shape_laws.proofs.OneDivision.{parts_are_unique}
+use Rattle.face_ring_laws.specs.Parts.{AreParts}
+use Rattle.bool_rules.specs.Dividing.{parts_of}
+use Rattle.bool_rules.specs.Shapes.{Rings, are_short, is_short}
+use Rattle.bool_rules.proofs.LabelLemmas.{parts_exist}
+use Rattle.bool_rules.proofs.OneDivision.{parts_are_unique}
 use Rattle.layer_ops.specs.declared.fault.OpFault.{OpFault}
 use Rattle.layer_ops.specs.declared.fault.OpFault.TheVariants.{NoMemory, TooMany}
 use Rattle.layer_ops.specs.Combining.{shape_lists, shaped, tested_shapes}

@@ -8,7 +8,7 @@ use Rattle.std.proofs.lemmas.List.Folds.{list_all_at}
 use Rattle.std.proofs.lemmas.List.Sums.{list_all-from_AllPass}
 use Rattle.lay_point.specs.declared.point.Point.{Point}
 use Rattle.lay_point.specs.declared.ring.TheConstants.{MAX_RING_POINTS}
-use Rattle.bool_shape_laws.specs.Shapes.{is_short}
+use Rattle.bool_rules.specs.Shapes.{is_short}
 
 short_by_length : (path : List Point) → length path ≤ MAX_RING_POINTS → is_short path ≡ true
 short_by_length path h = grind (arith, nat_tests)

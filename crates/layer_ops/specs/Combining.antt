@@ -4,10 +4,10 @@ use Rattle.std.specs.Global.{Vec}
 use Rattle.std.specs.List.{list_all}
 use Rattle.lay_point.specs.declared.ring.Ring.{Ring}
 use Rattle.lay_flat.specs.Flat.{FlatRing}
-use Rattle.face_link_laws.specs.Linking.{Ends, linked_rings}
+use Rattle.face_ring_laws.specs.Linking.{Ends, linked_rings}
 use Rattle.face_rows.specs.declared.op.Op.{Op}
-use Rattle.bool_shape_laws.specs.Dividing.{parts_of}
-use Rattle.bool_shape_laws.specs.Shapes.{Rings, are_short, fits, is_short, shapes_of}
+use Rattle.bool_rules.specs.Dividing.{parts_of}
+use Rattle.bool_rules.specs.Shapes.{Rings, are_short, fits, is_short, shapes_of}
 use Rattle.layer_ops.specs.declared.fault.OpFault.{OpFault}
 use Rattle.layer_ops.specs.declared.fault.OpFault.TheVariants.{TooMany}
 

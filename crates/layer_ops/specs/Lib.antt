@@ -1,3 +1,2 @@
 pub mod Combining
 pub mod Faults
-pub use Rattle.bool_shape_laws.specs.Shapes

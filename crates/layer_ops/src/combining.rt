@@ -5,7 +5,7 @@ ghost use Rattle.lay_point.specs.Memory.{IsAnswer};
 ghost use Rattle.lay_point.specs.Parity.{odd};
 ghost use Rattle.lay_point.specs.RingEdges.{edges_of};
 ghost use Rattle.face_rows.specs.Operations.{op_at};
-ghost use Rattle.bool_shape_laws.specs.Shapes.{rounded_inputs, segments_of};
+ghost use Rattle.bool_rules.specs.Shapes.{rounded_inputs, segments_of};
 ghost use Rattle.layer_ops.specs.Combining.{combined, shape_lists};
 ghost use Rattle.layer_ops.specs.declared.limits.TheConstants.{MAX_SEGMENTS};
 

@@ -1,7 +1,7 @@
 //! How many sides the rings of flattenings have.
 ghost use Rattle.std.specs.Prelude.{◌≡◌, ◌+◌, All, length, min, nat_le, sum_by};
 ghost use Rattle.lay_flat.specs.Flat.{IsFlat};
-ghost use Rattle.bool_shape_laws.specs.Shapes.{max_segments, segments_of};
+ghost use Rattle.bool_rules.specs.Shapes.{max_segments, segments_of};
 ghost use Rattle.layer_ops.specs.declared.limits.TheConstants.{MAX_SEGMENTS};
 
 use crate::limits::MAX_SEGMENTS;

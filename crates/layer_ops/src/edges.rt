@@ -3,15 +3,14 @@ ghost use Rattle.std.specs.Prelude.{◌≡◌, All, IfOk, OnOk, filter, length, 
 ghost use Rattle.std.specs.List.{zip};
 ghost use Rattle.lay_flat.specs.Flat.{IsFlat};
 ghost use Rattle.face_rows.specs.Operations.{edges_of_op};
-ghost use Rattle.bool_shape_laws.specs.Shapes.{rounded_inputs};
+ghost use Rattle.bool_rules.specs.Shapes.{rounded_inputs};
 
 use crate::turning::{add_turned, lend_all};
 use band_workers::Bands;
 use face_rows::Op;
 use lay_flat::Flat;
 use lay_point::{Edge, NoMemory};
-use snap_chains::{CleanEdges, round};
-use snap_visits::Input;
+use snap_chains::{CleanEdges, Input, round};
 use std::alloc::{AllocError, Global};
 use std::thread::Threads;
 

@@ -20,7 +20,6 @@ mod limits;
 mod shapes;
 mod turning;
 
-pub use band_workers::Bands;
 pub use combining::combine;
 pub use fault::OpFault;
 pub use limits::MAX_SEGMENTS;

@@ -7,7 +7,7 @@ ghost use Rattle.lay_point.specs.Memory.{IsAnswer};
 ghost use Rattle.lay_point.specs.Parity.{parity};
 ghost use Rattle.lay_point.specs.Points.{is_in_range};
 ghost use Rattle.lay_point.specs.Rising.{IsRising};
-ghost use Rattle.bool_shape_laws.specs.Shapes.{is_short};
+ghost use Rattle.bool_rules.specs.Shapes.{is_short};
 ghost use Rattle.layer_ops.specs.Combining.{shape_lists, shaped, tested_shapes};
 
 use crate::fault::OpFault;

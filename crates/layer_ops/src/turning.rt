@@ -6,11 +6,11 @@ ghost use Rattle.lay_point.specs.Points.{is_in_range};
 ghost use Rattle.lay_point.specs.SameTurn.{turn_eq};
 ghost use Rattle.lay_point.specs.Turns.{turned, unturned};
 ghost use Rattle.lay_flat.specs.Flat.{IsFlat};
-ghost use Rattle.bool_shape_laws.specs.Shapes.{owned_by};
+ghost use Rattle.bool_rules.specs.Shapes.{owned_by};
 
 use lay_flat::{Flat, FlatRing};
 use lay_point::{NoMemory, Point, Turn};
-use snap_visits::{Input, OwnedRing, Owner};
+use snap_chains::{Input, OwnedRing, Owner};
 use std::alloc::{AllocError, Global};
 use std::marker::Model;
 
@@ -29,7 +29,7 @@ impl<'s> Model for TurnedRing<'s> {
     ghost use Rattle.std.specs.Prelude.{List};
     ghost use Rattle.std.specs.Option.{option_map_or};
     ghost use Rattle.lay_point.specs.declared.point.Point.{Point};
-    ghost use Rattle.snap_visits.specs.declared.owner.Owner.{Owner};
+    ghost use Rattle.snap_chains.specs.declared.owner.Owner.{Owner};
 
     ghost Value = { Owner × List Point };
 

@@ -6,7 +6,7 @@ use Rattle.std.proofs.Common.{length-append}
 use Rattle.std.specs.List.{concat}
 use Rattle.job_text.specs.declared.job.JobFault.{JobFault}
 use Rattle.job_text.specs.Job.{job_of}
-use Rattle.job_live.specs.Live.{LiveRun, after_line, after_lines}
+use Rattle.live_run.specs.Live.{LiveRun, after_line, after_lines}
 use Rattle.live_run.specs.Cif.{before, behind, cif_from, cif_of, is_live}
 use Rattle.live_run.specs.Said.{answers, said_text}
 

@@ -1,7 +1,7 @@
-pub mod CutLemmas
-pub mod CifLemmas
-pub mod StopLemmas
 pub mod BaseLemmas
+pub mod CifLemmas
+pub mod CutLemmas
 pub mod EarLemmas
+pub mod LineLemmas
 pub mod RunLemmas
-pub use Rattle.job_live.proofs.MachineLemmas
+pub mod StopLemmas

@@ -6,11 +6,11 @@ use Rattle.std.specs.List.{concat}
 use Rattle.std.proofs.KnownBytes.{Appends-nil}
 use Rattle.byte_io.specs.Device.{WroteAll, WrotePrefix}
 use Rattle.byte_io.proofs.BufferedLemmas.{WroteAll-then, WrotePrefix-behind}
-use Rattle.cif_content.specs.Contents.{Contents}
+use Rattle.cif_read.specs.Contents.{Contents}
 use Rattle.cif_layout.specs.FromCif.{layout_of}
 use Rattle.byte_io.specs.Lines.{lines}
 use Rattle.job_text.specs.Job.{job_of}
-use Rattle.job_live.specs.Live.{LiveRun, after_line, after_lines, before_first_line}
+use Rattle.live_run.specs.Live.{LiveRun, after_line, after_lines, before_first_line}
 use Rattle.live_run.specs.declared.course.Course.{Course}
 use Rattle.live_run.specs.declared.ending.LiveEnd.{LiveEnd}
 use Rattle.live_run.specs.declared.ending.LiveEnd.TheVariants.{Cif, Device, Done, Job, Memory}

@@ -2,11 +2,11 @@
 use Rattle.std.specs.Prelude.{◌≡◌, ℕ, ◌+◌, ◌⊎◌, ⊤, List, ◌++◌, Bool, true, false, Option, Result, Ok, Err, Vec}
 use Rattle.byte_io.specs.Device.{WroteAll, WrotePrefix}
 use Rattle.std.specs.declared.alloc.Global.{Global}
-use Rattle.cif_content.specs.declared.fault.CifFault.{CifFault}
-use Rattle.cif_content.specs.declared.fault.FaultKind.{FaultKind}
-use Rattle.cif_content.specs.declared.fault.FaultKind.TheVariants.{NoMemory as CifMemory}
-use Rattle.cif_content.specs.Contents.{Contents}
-use Rattle.cif_content.specs.Meaning.{IsMeaning}
+use Rattle.cif_read.specs.declared.fault.CifFault.{CifFault}
+use Rattle.cif_read.specs.declared.fault.FaultKind.{FaultKind}
+use Rattle.cif_read.specs.declared.fault.FaultKind.TheVariants.{NoMemory as CifMemory}
+use Rattle.cif_read.specs.Contents.{Contents}
+use Rattle.cif_read.specs.Meaning.{IsMeaning}
 use Rattle.cif_write.specs.declared.writer.WriteFault.{WriteFault}
 use Rattle.cif_write.specs.declared.writer.WriteFault.TheVariants.{Device as DeviceFault, NoMemory}
 use Rattle.cif_layout.specs.FromCif.{layout_of}
@@ -14,8 +14,8 @@ use Rattle.lay_layouts.specs.Layout.{Layout}
 use Rattle.job_text.specs.declared.job.JobFault.{JobFault}
 use Rattle.job_text.specs.declared.job.JobFault.TheVariants.{Line, NoMemory as JobMemory}
 use Rattle.job_text.specs.Job.{job_of}
-use Rattle.job_live.specs.declared.live.Live.{Live}
-use Rattle.job_live.specs.Live.{LiveRun, Said, after_line, before_first_line, run_of}
+use Rattle.live_run.specs.declared.live.Live.{Live}
+use Rattle.live_run.specs.Live.{LiveRun, Said, after_line, before_first_line, run_of}
 use Rattle.live_run.specs.declared.base.HeadFault.{HeadFault}
 use Rattle.live_run.specs.declared.base.HeadFault.TheVariants.{Cif as CifHead, Job as JobHead, Memory as MemoryHead}
 use Rattle.live_run.specs.declared.course.Course.{Course}

@@ -4,10 +4,10 @@ use Rattle.std.specs.List.{concat, list_all}
 use Rattle.std.specs.Io.KnownBytes.{Consumes}
 use Rattle.byte_io.specs.Device.{WroteAll}
 use Rattle.byte_io.specs.Input.{Counts}
-use Rattle.cif_content.specs.Contents.{Contents}
+use Rattle.cif_read.specs.Contents.{Contents}
 use Rattle.cif_layout.specs.FromCif.{layout_of}
 use Rattle.byte_io.specs.Lines.{lines}
-use Rattle.job_live.specs.Live.{after_lines, before_first_line}
+use Rattle.live_run.specs.Live.{after_lines, before_first_line}
 use Rattle.live_run.specs.declared.course.Course.{Course}
 use Rattle.live_run.specs.declared.ear.Ear.{Ear}
 use Rattle.live_run.specs.declared.ending.LiveEnd.{LiveEnd}

@@ -4,8 +4,8 @@ use Rattle.std.specs.List.{concat}
 use Rattle.std.specs.Io.KnownBytes.{Consumes}
 use Rattle.byte_io.specs.Device.{WroteAll, WrotePrefix}
 use Rattle.byte_io.specs.Input.{Counts}
-use Rattle.cif_content.specs.declared.fault.CifFault.{CifFault}
-use Rattle.cif_content.specs.Meaning.{IsMeaning}
+use Rattle.cif_read.specs.declared.fault.CifFault.{CifFault}
+use Rattle.cif_read.specs.Meaning.{IsMeaning}
 use Rattle.job_text.specs.declared.job.JobFault.TheVariants.{Line}
 use Rattle.byte_io.specs.Lines.{lines}
 use Rattle.live_run.specs.declared.ending.LiveEnd.{LiveEnd}

@@ -1,7 +1,7 @@
 pub mod Cif
-pub mod Said
-pub mod Ending
 pub mod Course
 pub mod Ear
-pub use Rattle.job_live.specs.Machine
-pub use Rattle.job_live.specs.TheConstants
+pub mod Ending
+pub mod Laws
+pub mod Live
+pub mod Said

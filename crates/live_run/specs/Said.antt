@@ -1,13 +1,13 @@
 -- What is said in a live run, once these lines came.
 use Rattle.std.specs.Prelude.{◌≡◌, ℕ, List, [], ◌∷◌, ◌++◌, replicate, if◌then◌else◌, Option, None, Some, Ok}
-use Rattle.cif_content.specs.Contents.{Contents}
-use Rattle.cif_content.specs.Meaning.{IsMeaning}
+use Rattle.cif_read.specs.Contents.{Contents}
+use Rattle.cif_read.specs.Meaning.{IsMeaning}
 use Rattle.cif_write.specs.Text.{text}
 use Rattle.cif_layout.specs.FromCif.{layout_of}
 use Rattle.lay_layouts.specs.Layout.{Layout}
 use Rattle.session_steps.specs.Turns.{dealt}
 use Rattle.job_text.specs.Order.{order_of, order_text}
-use Rattle.job_live.specs.Live.{LiveRun, Said, after_line, after_lines, before_first_line}
+use Rattle.live_run.specs.Live.{LiveRun, Said, after_line, after_lines, before_first_line}
 use Rattle.live_run.specs.Cif.{behind, cif_of}
 
 -- the text of an answer: its comment, and this layout where it is wanted

@@ -6,12 +6,19 @@ ghost use Rattle.job_text.specs.declared.job.JobFault.TheVariants.{Line};
 ghost use Rattle.job_text.specs.Job.{job_of};
 ghost use Rattle.live_run.specs.declared.base.HeadFault.TheVariants.{Memory as MemoryHead};
 ghost use Rattle.live_run.specs.Cif.{cif_from, has_no_script};
-ghost use Rattle.live_run.specs.Course.{IsBaseOf, OpensTo, Refuses, end_of_head, head_cif, head_job};
+ghost use Rattle.live_run.specs.Course.{
+  IsBaseOf,
+  OpensTo,
+  Refuses,
+  end_of_head,
+  head_cif,
+  head_job,
+};
 
 use crate::ending::LiveEnd;
-use cif_content::{CifFault, FaultKind};
-use cif_layout::{FromCif, read};
-use job_live::Live;
+use crate::live::Live;
+use cif_layout::FromCif;
+use cif_read::{CifFault, FaultKind, read};
 use job_text::{Job, JobFault};
 use lay_items::Snapshot;
 use lay_point::NoMemory;

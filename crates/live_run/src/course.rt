@@ -1,17 +1,25 @@
 //! The course of a live run, line by line.
 ghost use Rattle.std.specs.Prelude.{◌≡◌, ◌+◌};
-ghost use Rattle.job_live.specs.Live.{after_line, run_of};
+ghost use Rattle.live_run.specs.Live.{after_line, run_of};
 ghost use Rattle.live_run.specs.Cif.{is_live};
-ghost use Rattle.live_run.specs.Course.{AnswersTo, ClosesTo, HeadTo, HearsTo, Puts, RunCloses, phase_of};
+ghost use Rattle.live_run.specs.Course.{
+  AnswersTo,
+  ClosesTo,
+  HeadTo,
+  HearsTo,
+  Puts,
+  RunCloses,
+  phase_of,
+};
 ghost use Rattle.live_run.specs.Said.{closing};
 
 use crate::base::{open_run, unopened};
 use crate::ending::LiveEnd;
+use crate::live::Live;
 use crate::put::{put_answer, put_both};
 use band_workers::Bands;
 use byte_io::Out;
 use cif_write::WriteFault;
-use job_live::Live;
 use lay_point::NoMemory;
 use std::alloc::Global;
 use std::thread::Threads;

@@ -1,10 +1,13 @@
 //! How a live run ends.
 ghost use Rattle.std.specs.Prelude.{◌≡◌};
-ghost use Rattle.live_run.specs.declared.ending.LiveEnd.TheVariants.{Device as DeviceEnd, Memory as MemoryEnd};
+ghost use Rattle.live_run.specs.declared.ending.LiveEnd.TheVariants.{
+  Device as DeviceEnd,
+  Memory as MemoryEnd,
+};
 ghost use Rattle.live_run.specs.Course.{end_of_write};
 
 use byte_io::InFault;
-use cif_content::CifFault;
+use cif_read::CifFault;
 use cif_write::WriteFault;
 use lay_point::NoMemory;
 

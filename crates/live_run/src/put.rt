@@ -1,13 +1,13 @@
 //! The writing of a comment and a layout. All that takes memory comes before the first byte.
 ghost use Rattle.std.specs.Prelude.{◌≡◌, ◌++◌};
 ghost use Rattle.cif_write.specs.Text.{text};
-ghost use Rattle.job_live.specs.Live.{said_of};
+ghost use Rattle.live_run.specs.Live.{said_of};
 ghost use Rattle.live_run.specs.Course.{Puts};
 ghost use Rattle.live_run.specs.Said.{comment_and_layout};
 
+use crate::live::Answer;
 use byte_io::{Out, put_all};
 use cif_write::{WriteFault, prepare};
-use job_live::Answer;
 use lay_items::Snapshot;
 
 /// Writes an answer, where the layout is this.

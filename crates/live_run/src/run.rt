@@ -23,7 +23,7 @@ const BUFFER: usize = 16_384;
 ///
 /// # Cost
 ///
-/// Memory grows with the head of the input, with the longest line, and with the run itself (`job_live`).
+/// Memory grows with the head of the input, with the longest line, and with the run itself (`live_run`).
 pub fn run_live<I: In, O: Out>(
     rt: &(impl Threads + Sync),
     alloc: Global,

@@ -8,7 +8,7 @@ use Rattle.undo_rules.specs.Books.{History}
 use Rattle.desk_rules.specs.Close.{IsClosed}
 use Rattle.desk_rules.specs.Guards.{Desk}
 use Rattle.desk_rules.specs.Seats.{Seat}
-use Rattle.desk_lock.specs.declared.fault.RunFault.{RunFault}
+use Rattle.locked_desk.specs.declared.fault.RunFault.{RunFault}
 use Rattle.locked_desk.specs.declared.steps.Job.{Job}
 use Rattle.locked_desk.specs.declared.steps.Outcome.{Outcome}
 use Rattle.locked_desk.specs.Jobs.{AllSucceeded, AreJobs}

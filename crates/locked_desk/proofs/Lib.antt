@@ -1,3 +1,6 @@
-pub mod CloseAnswers
-pub mod RunLemmas
 pub mod AllLemmas
+pub mod CallLemmas
+pub mod CloseAnswers
+pub mod GuardedLemmas
+pub mod RunLemmas
+pub mod ScriptLemmas

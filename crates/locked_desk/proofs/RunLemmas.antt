@@ -18,7 +18,7 @@ use Rattle.session_steps.specs.declared.Step.TheVariants.{Cancel, Commit, Do, Op
 use Rattle.session_steps.specs.declared.StepFault.TheVariants as faults
 use Rattle.desk_rules.specs.Guards.{Desk}
 use Rattle.desk_rules.specs.Seats.{Gains, GainsLogged, Seat}
-use Rattle.desk_lock.specs.Desks.{OpensAt, open_call}
+use Rattle.locked_desk.specs.Desks.{OpensAt, open_call}
 use Rattle.locked_desk.specs.Runs.{AreAnswers, BookRefuses, CallsNothing, Changes, RanSteps, RunsCommand, StepsTo}
 use Rattle.locked_desk.specs.Runs.{logged_reply, reply_to_command}
 

@@ -4,7 +4,7 @@ use Rattle.std.specs.List.{Contains}
 use Rattle.session_steps.specs.declared.Reply.{Reply}
 use Rattle.session_steps.specs.declared.Step.{Step}
 use Rattle.desk_rules.specs.Seats.{Seat}
-use Rattle.desk_lock.specs.declared.fault.RunFault.{RunFault}
+use Rattle.locked_desk.specs.declared.fault.RunFault.{RunFault}
 use Rattle.locked_desk.specs.declared.steps.Job.{Job}
 use Rattle.locked_desk.specs.declared.steps.Outcome.{Outcome}
 

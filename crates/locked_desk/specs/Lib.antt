@@ -1,4 +1,7 @@
 pub mod Closing
-pub mod Runs
+pub mod Desks
 pub mod Jobs
-pub use Rattle.desk_lock.specs.declared.fault.RunFault
+pub mod Runs
+pub mod Scripts
+pub mod Stored
+pub mod Ways

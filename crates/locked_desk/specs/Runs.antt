@@ -6,14 +6,14 @@ use Rattle.txn_commands.specs.declared.command.Done as dones
 use Rattle.txn_commands.specs.declared.fault.CmdFault.{CmdFault}
 use Rattle.txn_commands.specs.declared.fault.CmdFault.TheVariants.{NoMemory}
 use Rattle.txn_commands.specs.Transactions.{Transaction}
-use Rattle.desk_lock.specs.Answers.{after_command, answer_to}
+use Rattle.txn_work.specs.Answers.{after_command, answer_to}
 use Rattle.undo_rules.specs.declared.log.Answer.{Answer}
 use Rattle.undo_rules.specs.declared.log.Answer.TheVariants as answers
 use Rattle.undo_rules.specs.declared.log.BookFault.{BookFault}
 use Rattle.undo_rules.specs.declared.log.Call.{Call}
 use Rattle.undo_rules.specs.declared.log.Call.TheVariants as calls
 use Rattle.undo_rules.specs.Books.{History}
-use Rattle.desk_lock.specs.Calls.{handed_back}
+use Rattle.undo_book.specs.Calls.{handed_back}
 use Rattle.session_steps.specs.declared.Reply.{Reply}
 use Rattle.session_steps.specs.declared.Reply.TheVariants.{Cancelled, Committed, Done, Fault, Opened, Redone, Undone}
 use Rattle.session_steps.specs.declared.Step.{Step}
@@ -24,9 +24,9 @@ use Rattle.desk_rules.specs.Close.{IsClosed}
 use Rattle.desk_rules.specs.Guards.{Desk}
 use Rattle.desk_rules.specs.Legal.{refusal}
 use Rattle.desk_rules.specs.Seats.{GainsLogged, Seat}
-use Rattle.desk_lock.specs.declared.fault.DeskFault.{DeskFault}
-use Rattle.desk_lock.specs.declared.fault.DeskFault.TheVariants.{Book as DeskBook, Differs}
-use Rattle.desk_lock.specs.Desks.{OpensAt}
+use Rattle.locked_desk.specs.declared.fault.DeskFault.{DeskFault}
+use Rattle.locked_desk.specs.declared.fault.DeskFault.TheVariants.{Book as DeskBook, Differs}
+use Rattle.locked_desk.specs.Desks.{OpensAt}
 
 -- the answer in the log of a step that was answered so, where it is logged
 abbrev pub logged_reply : Reply → Option Answer

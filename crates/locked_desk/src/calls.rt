@@ -2,19 +2,31 @@
 ghost use Rattle.std.specs.Prelude.{◌≡◌, ◌≢◌, ◌<◌, IfErr, IfOk, vec_capacity, vec_len};
 ghost use Rattle.desk_rules.specs.Legal.{answer_of, opened_answer, refusal};
 ghost use Rattle.desk_rules.specs.Seats.{GainsLogged, with_kept};
-ghost use Rattle.desk_lock.specs.Desks.{IsOther, NamesSeat, Opens, by_book, commit_answer, commit_by_book, desk_answer};
-ghost use Rattle.desk_lock.specs.Desks.{desk_commit_answer, desk_refused};
-ghost use Rattle.desk_lock.specs.Ways.{answer_for, call_for};
+ghost use Rattle.locked_desk.specs.Desks.{
+  IsOther,
+  NamesSeat,
+  Opens,
+  by_book,
+  commit_answer,
+  commit_by_book,
+  desk_answer,
+};
+ghost use Rattle.locked_desk.specs.Desks.{desk_commit_answer, desk_refused};
+ghost use Rattle.locked_desk.specs.Ways.{answer_for, call_for};
 
 use crate::desk::Desk;
+use crate::fault::{DeskFault, DeskRefusal};
+use crate::guarded::differs;
 use crate::seat::Seat;
-use desk_lock::{CommitRefusal, DeskFault, DeskRefusal, Way, Work, differs};
+use crate::way::Way;
 use desk_rules::Kept;
 use lay_point::{NoMemory, Sequence};
 use std::alloc::Global;
 use std::sync::Wait;
 use std::sync::ledger::Ledger;
 use txn_commands::{Command, TxnId};
+use txn_work::Work;
+use undo_book::CommitRefusal;
 use undo_rules::{Answer, BookFault, Call, Logged};
 
 impl<L: Ledger> Desk<L> {

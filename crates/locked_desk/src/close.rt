@@ -1,15 +1,23 @@
 //! Closing a desk with its seats.
 ghost use Rattle.std.specs.Prelude.{◌≡◌, ◌+◌, ◌-◌, ◌<◌, ◌≤◌, IfErr, IfOk, IsNone, IfSome, false, length};
-ghost use Rattle.desk_rules.specs.Close.{AreSeatsRising, HasAll, IsClosed, has_seat, missing_call, own_total};
+ghost use Rattle.desk_rules.specs.Close.{
+  AreSeatsRising,
+  HasAll,
+  IsClosed,
+  has_seat,
+  missing_call,
+  own_total,
+};
 ghost use Rattle.locked_desk.specs.Closing.{IsOtherBase, IsRefusedClose};
 
 use crate::desk::{Desk, is_same};
+use crate::guarded::Guarded;
 use crate::seat::Seat;
-use desk_lock::{Book, Guarded};
 use desk_rules::missing_place;
 use lay_items::Snapshot;
 use std::sync::ledger;
 use std::sync::ledger::{Ledger, Share};
+use undo_book::Book;
 use undo_rules::Logged;
 
 /// What is left of a closed desk.

@@ -2,14 +2,15 @@
 ghost use Rattle.std.specs.Prelude.{◌≡◌, ◌≢◌, ◌≤◌, IfOk, false, true, replicate};
 ghost use Rattle.desk_rules.specs.Close.{empty_seats};
 
+use crate::guarded::{Guarded, fresh_guard};
 use crate::seat::{Seat, empty_seat};
-use desk_lock::{Book, Guarded, MAX_CALLS, fresh_guard};
 use lay_items::Snapshot;
 use lay_point::NoMemory;
 use std::alloc::Global;
 use std::marker::{Model, PhantomData};
 use std::sync::Mutex;
 use std::sync::ledger::{Blank, Ledger, Share};
+use undo_book::{Book, MAX_CALLS};
 
 /// How many sessions a desk has, which is the number of its ledger's parts.
 #[derive(Drop)]
@@ -31,7 +32,7 @@ pub struct Desk<L: Ledger> {
 
 impl<L: Ledger> Model for Desk<L> {
     ghost use Rattle.desk_rules.specs.Guards.{Desk};
-    ghost use Rattle.desk_lock.specs.Stored.{coded_desk};
+    ghost use Rattle.locked_desk.specs.Stored.{coded_desk};
 
     ghost Value = { Desk };
 

@@ -8,21 +8,35 @@
 //!
 //! A transaction runs its commands on its own [`Work`](txn_work::Work), which has no desk: no command runs
 //! under the lock. [`run_sessions`] runs the steps of each session in a thread of its own.
+//!
+//! # What is done under a desk's lock: calls of a book, each counted and kept
+//!
+//! A [`Guarded`] is a book with the numbers of calls of the sessions in its log, and the ledger's count of
+//! them all. Each of its calls does what the book's does and, where it is logged, adds it to the session's
+//! kept calls, with its answer and its place (`specs/Desks.antt`, `specs/Stored.antt`). So the log is always
+//! legal, and has just the calls that the sessions keep. Nothing here waits.
+//!
+//! `locked_desk` has the lock.
 #![tactic(auto)]
 
 mod calls;
 mod close;
 mod desk;
+mod fault;
+mod guarded;
+mod run;
 mod seat;
 mod sessions;
 mod shown;
 mod steps;
+mod way;
 
 pub use close::{CloseRefusal, Closed};
 pub use desk::Desk;
-pub use desk_lock::{Command, DeskFault, DeskRefusal, RunFault, TxnId, Work};
-pub use desk_rules::Kept;
+pub use fault::{DeskFault, DeskRefusal, RunFault};
+pub use guarded::{Guarded, differs, fresh_guard};
+pub use run::run_scripts;
 pub use seat::Seat;
-pub use session_steps::{Reply, Step, StepFault};
 pub use sessions::{Run, run_sessions};
 pub use steps::SessionGate;
+pub use way::Way;

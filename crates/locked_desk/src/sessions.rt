@@ -6,10 +6,10 @@ ghost use Rattle.locked_desk.specs.Runs.{IsDeskRun, RunsSo};
 
 use crate::close::{CloseRefusal, Closed};
 use crate::desk::Desk;
+use crate::fault::RunFault;
 use crate::seat::Seat;
 use crate::steps::{Job, Outcome, SessionGate, run_job};
 use band_workers::Bands;
-use desk_lock::RunFault;
 use lay_point::Sequence;
 use session_steps::{Reply, Step};
 use std::alloc::{AllocError, Global};

@@ -1,11 +1,11 @@
 //! Snapshots of a desk.
 ghost use Rattle.std.specs.Prelude.{IfErr, IfOk};
 ghost use Rattle.desk_rules.specs.Close.{Shows};
-ghost use Rattle.desk_lock.specs.Desks.{IsShownFault};
+ghost use Rattle.locked_desk.specs.Desks.{IsShownFault};
 
 use crate::desk::Desk;
+use crate::fault::DeskFault;
 use crate::seat::Seat;
-use desk_lock::DeskFault;
 use lay_items::Snapshot;
 use std::alloc::Global;
 use std::sync::Wait;

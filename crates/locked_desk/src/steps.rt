@@ -3,9 +3,9 @@ ghost use Rattle.std.specs.Prelude.{◌≡◌, IfOk, None, Some};
 ghost use Rattle.locked_desk.specs.Runs.{RepliesTo, RunsCommand, RunsSo, StepsTo};
 
 use crate::desk::Desk;
+use crate::fault::{DeskFault, DeskRefusal, RunFault};
 use crate::seat::Seat;
 use band_workers::Bands;
-use desk_lock::{DeskFault, DeskRefusal, RunFault, Work};
 use lay_point::Sequence;
 use session_steps::{Reply, Step, StepFault};
 use std::alloc::Global;
@@ -13,6 +13,7 @@ use std::sync::Wait;
 use std::sync::ledger::Ledger;
 use std::thread::Threads;
 use txn_commands::Command;
+use txn_work::Work;
 
 /// Called before each step of a session, with its number from 0, outside the lock. It has no effect on
 /// answers.

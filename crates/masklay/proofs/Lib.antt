@@ -1,3 +1,3 @@
-pub mod ReadingLemmas
-pub mod OutputLemmas
 pub mod GivenLemmas
+pub mod OutputLemmas
+pub mod ReadingLemmas

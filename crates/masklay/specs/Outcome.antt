@@ -1,10 +1,10 @@
 -- What becomes of a job: the replies, the order and the layout, or why there are none.
 use Rattle.std.specs.Prelude.{◌≡◌, ℕ, List, [], length, max, min, replicate, Result, Ok, Err}
-use Rattle.cif_content.specs.declared.fault.CifFault.{CifFault}
-use Rattle.cif_content.specs.declared.fault.FaultKind.TheVariants.{NoMemory as CifMemory}
-use Rattle.cif_content.specs.declared.fault.FaultKind.{FaultKind}
-use Rattle.cif_content.specs.Contents.{Contents}
-use Rattle.cif_content.specs.Meaning.{IsMeaning}
+use Rattle.cif_read.specs.declared.fault.CifFault.{CifFault}
+use Rattle.cif_read.specs.declared.fault.FaultKind.TheVariants.{NoMemory as CifMemory}
+use Rattle.cif_read.specs.declared.fault.FaultKind.{FaultKind}
+use Rattle.cif_read.specs.Contents.{Contents}
+use Rattle.cif_read.specs.Meaning.{IsMeaning}
 use Rattle.cif_layout.specs.FromCif.{layout_of}
 use Rattle.lay_layouts.specs.Layout.{Layout}
 use Rattle.job_text.specs.Jobs.{Job}
@@ -16,9 +16,9 @@ use Rattle.masklay.specs.declared.program.outcome.Stop.TheVariants.{JobFault as 
 use Rattle.session_steps.specs.declared.Reply.{Reply}
 use Rattle.session_steps.specs.declared.Step.{Step}
 use Rattle.session_steps.specs.Turns.{dealt, in_turn}
-use Rattle.live_run.specs.TheConstants.{MAX_CALLS}
+use Rattle.undo_book.specs.declared.book.TheConstants.{MAX_CALLS}
 use Rattle.job_text.specs.Job.{job_of}
-use Rattle.live_run.specs.Machine.{State, after_steps, start}
+use Rattle.session_core.specs.Machine.{State, after_steps, start}
 use Rattle.job_text.specs.Order.{order_of}
 
 -- the stop at a fault of the job

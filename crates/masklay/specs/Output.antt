@@ -1,7 +1,7 @@
 -- The output of the program: a text and a status.
 use Rattle.std.specs.Prelude.{◌≡◌, ℕ, Bool, false, List, ◌++◌, codes, decimal, Option, Result, Ok, Err, ◌⊎◌}
-use Rattle.cif_content.specs.declared.fault.CifFault.{CifFault}
-use Rattle.cif_content.specs.Faults.{fault_name, fault_number}
+use Rattle.cif_read.specs.declared.fault.CifFault.{CifFault}
+use Rattle.cif_read.specs.Faults.{fault_name, fault_number}
 use Rattle.byte_io.specs.Device.{WroteAll, WrotePrefix}
 use Rattle.cif_write.specs.Text.{text}
 use Rattle.masklay.specs.declared.program.outcome.Finished.{Finished}
@@ -14,7 +14,7 @@ use Rattle.cif_names.specs.declared.names.Names.{Names}
 use Rattle.masklay.specs.Asked.{Asked}
 use Rattle.masklay.specs.Named.{names_for, names_in, text_with}
 use Rattle.masklay.specs.Oriented.{IsGiven}
-use Rattle.job_lines.specs.Replies.{replies_text}
+use Rattle.job_text.specs.Replies.{replies_text}
 
 -- the number with which the process ends
 abbrev pub code_of : Status → ℕ

@@ -1,9 +1,9 @@
 -- What becomes of a job whose sessions run in threads.
 use Rattle.std.specs.Prelude.{◌≡◌, ◌⊎◌, ℕ, Bool, true, false, List, Result, Ok, Err}
 use Rattle.std.specs.List.{list_any}
-use Rattle.cif_content.specs.declared.fault.CifFault.{CifFault}
-use Rattle.cif_content.specs.Contents.{Contents}
-use Rattle.cif_content.specs.Meaning.{IsMeaning}
+use Rattle.cif_read.specs.declared.fault.CifFault.{CifFault}
+use Rattle.cif_read.specs.Contents.{Contents}
+use Rattle.cif_read.specs.Meaning.{IsMeaning}
 use Rattle.cif_layout.specs.FromCif.{layout_of}
 use Rattle.lay_layouts.specs.Layout.{Layout}
 use Rattle.job_text.specs.Job.{job_of}
@@ -11,11 +11,11 @@ use Rattle.job_text.specs.Jobs.{Job}
 use Rattle.job_text.specs.Order.{order_of}
 use Rattle.job_text.specs.declared.job.JobFault.{JobFault}
 use Rattle.undo_rules.specs.Books.{History}
-use Rattle.live_run.specs.Machine.{is_memory}
+use Rattle.session_core.specs.Machine.{is_memory}
 use Rattle.session_steps.specs.declared.Step.{Step}
-use Rattle.desk_run.specs.RunFault.{RunFault}
-use Rattle.desk_run.specs.RunFault.TheVariants.{Differs, MissingSeat, NoMemory as RunMemory}
-use Rattle.desk_run.specs.Scripts.{RunsScripts}
+use Rattle.locked_desk.specs.declared.fault.RunFault.{RunFault}
+use Rattle.locked_desk.specs.declared.fault.RunFault.TheVariants.{Differs, MissingSeat, NoMemory as RunMemory}
+use Rattle.locked_desk.specs.Scripts.{RunsScripts}
 use Rattle.masklay.specs.declared.program.outcome.Finished.{Finished}
 use Rattle.masklay.specs.declared.program.outcome.Stop.{Stop}
 use Rattle.masklay.specs.declared.program.outcome.Stop.TheVariants.{DeskFault, NoMemory}

@@ -2,7 +2,18 @@
 ghost use Rattle.std.specs.Prelude.{◌≡◌, ◌≤◌, ◌<◌, ◌⊎◌, IfErr, IfOk, false, true, vec_len};
 ghost use Rattle.std.specs.List.{list_any};
 ghost use Rattle.masklay.specs.declared.command_line.OptionsFault.TheVariants.{Clap};
-ghost use Rattle.masklay.specs.Launch.{EndsEarly, IsWishOf, Runs, asked_in, asks, asks_beside_live, asks_to_live, is_live_alone, is_option, nothing_asked};
+ghost use Rattle.masklay.specs.Launch.{
+  EndsEarly,
+  IsWishOf,
+  Runs,
+  asked_in,
+  asks,
+  asks_beside_live,
+  asks_to_live,
+  is_live_alone,
+  is_option,
+  nothing_asked,
+};
 ghost use Rattle.masklay.specs.Run.{IsRun};
 ghost use Rattle.masklay.specs.Telling.{MayReport};
 

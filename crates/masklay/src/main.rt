@@ -6,7 +6,7 @@
 //! `job_text::Job` is read from the input, a `session_core::Machine` takes its steps, and then the output
 //! is written; what it takes of memory is taken before its first byte. What is written is a function of
 //! the bytes that were read (`IsOutput` of `specs/Output.antt`); with `--threaded` the sessions run in
-//! threads, by `desk_run`, and what is written is that of one of their runs (`specs/Threads.antt`); with `--oriented` the
+//! threads, by `locked_desk`, and what is written is that of one of their runs (`specs/Threads.antt`); with `--oriented` the
 //! layout's shapes are directed by `lay_oriented` before it is written (`specs/Oriented.antt`).
 //!
 //! ```text

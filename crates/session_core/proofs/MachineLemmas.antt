@@ -24,7 +24,7 @@ use Rattle.txn_commands.specs.declared.command.TxnId.{TxnId}
 use Rattle.txn_commands.specs.Effects.{Run, effect}
 use Rattle.txn_commands.specs.Transactions.{Transaction}
 use Rattle.txn_commands.proofs.Compared.{agrees-itself}
-use Rattle.undo_book.specs.Answers.{after_command, after_effect, answer_to, done_of_effect, run_so_far}
+use Rattle.txn_work.specs.Answers.{after_command, after_effect, answer_to, done_of_effect, run_so_far}
 use Rattle.undo_rules.specs.Books.{History, SessionState}
 use Rattle.undo_rules.specs.Steps as book
 use Rattle.undo_rules.specs.declared.log.Call.{Call}

@@ -14,7 +14,7 @@ use Rattle.txn_commands.specs.declared.command.TxnId.{TxnId}
 use Rattle.txn_commands.specs.Transactions.{Transaction}
 use Rattle.undo_rules.specs.Books.{History}
 use Rattle.undo_rules.specs.Steps.{commit_step, fresh, open_step, redo_step, undo_step}
-use Rattle.undo_book.specs.Answers.{after_command, answer_to, coded_transaction}
+use Rattle.txn_work.specs.Answers.{after_command, answer_to, coded_transaction}
 use Rattle.undo_book.specs.Calls.{handed_back}
 use Rattle.undo_book.specs.Coded.{coded_history}
 use Rattle.session_steps.specs.declared.Reply.{Reply}

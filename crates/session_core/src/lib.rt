@@ -17,5 +17,3 @@
 mod machine;
 
 pub use machine::Machine;
-pub use session_steps::{Reply, Step, StepFault};
-pub use undo_book::BookFault;

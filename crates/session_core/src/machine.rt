@@ -8,13 +8,16 @@ ghost use Rattle.undo_book.specs.Replays.{CanBeRedone, replay};
 ghost use Rattle.session_core.specs.Commits.{reply_of, work_of};
 ghost use Rattle.session_core.specs.Machine.{IsNotForeign, Ran, TakesStep, is_session, start};
 
+use band_workers::Bands;
 use lay_items::Snapshot;
 use lay_point::{Given, NoMemory};
 use session_steps::{Reply, Step, StepFault};
 use std::alloc::Global;
 use std::marker::Model;
 use std::thread::Threads;
-use undo_book::{Bands, Book, Command, CommitRefusal, MAX_CALLS, TxnId, Work};
+use txn_commands::{Command, TxnId};
+use txn_work::Work;
+use undo_book::{Book, CommitRefusal, MAX_CALLS};
 
 /// Sessions on one book, each with at most one transaction open.
 #[derive(Drop)]

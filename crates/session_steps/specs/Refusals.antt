@@ -1,6 +1,6 @@
 -- How refusals of steps are written.
 use Rattle.std.specs.Prelude.{codes}
-use Rattle.undo_rules.specs.CommandRefusals.{Code, command_code}
+use Rattle.txn_commands.specs.Refusals.{Code, command_code}
 use Rattle.undo_rules.specs.Refusals.{book_code}
 use Rattle.session_steps.specs.declared.StepFault.{StepFault}
 use Rattle.session_steps.specs.declared.StepFault.TheVariants.{AlreadyOpen, Book, Command, NoSession, NotOpen}

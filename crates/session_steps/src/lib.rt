@@ -17,8 +17,8 @@ mod turns;
 
 use thiserror::Error;
 pub use turns::{dealt, in_turn};
-pub use undo_rules::{BookFault, Done, TxnId};
-use undo_rules::{CmdFault, Command};
+use txn_commands::{CmdFault, Command, Done, TxnId};
+use undo_rules::BookFault;
 
 /// What a session does.
 #[derive(Debug, Drop, PartialEq, Eq)]

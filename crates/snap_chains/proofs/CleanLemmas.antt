@@ -4,15 +4,15 @@ use Rattle.std.proofs.lemmas.Bool.{cases_lt}
 use Rattle.std.proofs.lemmas.List.{get_or_default}
 use Rattle.std.proofs.lemmas.List.Elements.{Contains-get_or}
 use Rattle.lay_point.specs.declared.point.Point.{Point}
-use Rattle.snap_visits.specs.Rising.{IsRising}
-use Rattle.snap_visits.specs.Undirected.{IsEdgeBefore}
-use Rattle.snap_visits.proofs.Members.{has}
-use Rattle.snap_visits.proofs.Rising.{IsStrictOrder, before_rest, rising_rest}
-use Rattle.snap_visits.proofs.Undirected.{edges_are_strict}
-use Rattle.snap_visits.specs.Meeting.{MeetAtEnds}
-use Rattle.snap_visits.proofs.Level.{other_way_round}
+use Rattle.lay_point.specs.Rising.{IsRising}
+use Rattle.lay_point.specs.Edges.{IsEdgeBefore}
+use Rattle.lay_point.proofs.Members.{has}
+use Rattle.lay_point.proofs.Rising.{IsStrictOrder, before_rest, rising_rest}
+use Rattle.lay_point.proofs.EdgeOrder.{edges_are_strict}
+use Rattle.snap_edge_laws.specs.Meeting.{MeetAtEnds}
+use Rattle.snap_edge_laws.proofs.Level.{other_way_round}
 use Rattle.snap_chains.specs.Clean.{IsFirstPair, TwoMeetAtEnds}
-use Rattle.snap_visits.specs.Rounded.{AreClean}
+use Rattle.snap_chains.specs.Rounded.{AreClean}
 
 -- an element of a rising list is before each later one
 pub rising_apart : {A : Type 0} (Before : A → A → Type 0) → IsStrictOrder Before → (xs : List A) → IsRising Before xs

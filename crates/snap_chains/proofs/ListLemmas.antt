@@ -5,9 +5,9 @@ use Rattle.std.specs.List.{AllByRecursion, AllZip}
 use Rattle.std.proofs.lemmas.List.{drop-map, take-map}
 use Rattle.lay_point.specs.declared.point.Point.{Point}
 use Rattle.snap_chains.specs.declared.owner_lists.Part.{Part}
-use Rattle.snap_visits.specs.declared.visits.Visit.{Visit}
+use Rattle.snap_chains.specs.declared.visits.Visit.{Visit}
 use Rattle.snap_chains.specs.OwnerLists.{HasVisitors, IsInside, lists_of}
-use Rattle.snap_visits.specs.Visits.{AreVisitors}
+use Rattle.snap_chains.specs.Visits.{AreVisitors}
 
 pub got : {A : Type 0} (xs : List A) (i : ℕ) (x : A) → slice_get xs i ≡ Some x → get_or xs i x ≡ x
 got [] i x h = absurd cc

@@ -11,30 +11,31 @@ use Rattle.std.proofs.lemmas.List.Elements.{All-from_recursion, Contains-get_or}
 use Rattle.std.proofs.lemmas.Slice.Zip.{AllZip-long}
 use Rattle.lay_point.specs.declared.point.Point.{Point}
 use Rattle.lay_point.specs.Rings.{NeighboursDiffer}
-use Rattle.snap_visits.specs.Segment.{Segment}
-use Rattle.snap_visits.specs.Hot.{IsHot}
-use Rattle.snap_visits.proofs.SharedEnds.{ends_differ}
-use Rattle.snap_visits.specs.Parity.{parity, xor}
-use Rattle.snap_visits.specs.Rising.{IsRising, pairs}
-use Rattle.snap_visits.specs.Rounding.{IsRoundedPath, closed_walk}
-use Rattle.snap_visits.specs.Undirected.{AreEdgesOf, AreRoundedRings, IsEdgeBefore, is_owned, same_edge, touches, undirected}
-use Rattle.snap_visits.specs.Undirected.{walked_edges}
-use Rattle.snap_visits.proofs.Chains.{edge_of_neighbours}
-use Rattle.snap_visits.proofs.Edges.{edges_are_clean, owned_edges_are_even}
-use Rattle.snap_visits.proofs.Members.{Has, has, contains}
-use Rattle.snap_visits.proofs.Parity.{parity-append, parity-map, parity_agree, parity_none}
-use Rattle.snap_visits.proofs.Rounded.{rounded_paths_have_edges}
-use Rattle.snap_visits.specs.declared.owner.Owner.{Owner}
-use Rattle.snap_visits.specs.declared.visits.Visit.{Visit}
-use Rattle.snap_visits.specs.OwnedRings.{AreRounded}
-use Rattle.snap_visits.specs.Owners.{IsOwnerBefore, owner_eq}
+use Rattle.snap_pixels.specs.declared.segment.Segment.{Segment}
+use Rattle.snap_pixels.specs.Hot.{IsHot}
+use Rattle.snap_edge_laws.proofs.SharedEnds.{ends_differ}
+use Rattle.lay_point.specs.Parity.{parity, xor}
+use Rattle.lay_point.specs.Rising.{IsRising, pairs}
+use Rattle.snap_edge_laws.specs.Rounding.{IsRoundedPath, closed_walk}
+use Rattle.snap_edge_laws.specs.Undirected.{AreEdgesOf, AreRoundedRings, is_owned}
+use Rattle.lay_point.specs.Edges.{IsEdgeBefore, same_edge, touches, undirected}
+use Rattle.snap_edge_laws.specs.Undirected.{walked_edges}
+use Rattle.snap_edge_laws.proofs.Chains.{edge_of_neighbours}
+use Rattle.snap_edge_laws.proofs.Edges.{edges_are_clean, owned_edges_are_even}
+use Rattle.lay_point.proofs.Members.{Has, has, contains}
+use Rattle.lay_point.proofs.Parity.{parity-append, parity-map, parity_agree, parity_none}
+use Rattle.snap_edge_laws.proofs.Rounded.{rounded_paths_have_edges}
+use Rattle.snap_chains.specs.declared.owner.Owner.{Owner}
+use Rattle.snap_chains.specs.declared.visits.Visit.{Visit}
+use Rattle.snap_chains.specs.OwnedRings.{AreRounded}
+use Rattle.snap_chains.specs.Owners.{IsOwnerBefore, owner_eq}
 use Rattle.snap_chains.specs.Round.{AreOwnersOf, IsRoundOf, owner_walks}
-use Rattle.snap_visits.specs.Rounded.{AreClean, IsRounded, is_owner_listed}
-use Rattle.snap_visits.specs.Visits.{AreVisitors, visit_eq, visits_by, visits_of}
-use Rattle.snap_visits.proofs.PathLemmas.{Contains-map, Has-map}
-use Rattle.snap_visits.proofs.OddLemmas.{parity_permutation}
-use Rattle.snap_visits.proofs.Sorted.{same_tests}
-use Rattle.snap_visits.proofs.VisitOrder.{owner_eq-Decides}
+use Rattle.snap_chains.specs.Rounded.{AreClean, IsRounded, is_owner_listed}
+use Rattle.snap_chains.specs.Visits.{AreVisitors, visit_eq, visits_by, visits_of}
+use Rattle.snap_chains.proofs.PathLemmas.{Contains-map, Has-map}
+use Rattle.snap_chains.proofs.OddLemmas.{parity_permutation}
+use Rattle.snap_slabs.proofs.Sorted.{same_tests}
+use Rattle.snap_chains.proofs.VisitOrder.{owner_eq-Decides}
 
 -- ---- rounded rings
 -- the ring of which a walk is the rounded one

@@ -7,14 +7,14 @@ use Rattle.std.specs.Ordering.{is_le, is_lt, ordering_reverse}
 use Rattle.std.proofs.lemmas.Bool.{cases_lt}
 use Rattle.std.proofs.lemmas.List.{get_or_default}
 use Rattle.lay_point.specs.declared.point.Point.{Point}
-use Rattle.snap_visits.specs.Rising.{IsRising}
-use Rattle.snap_visits.specs.Undirected.{IsEdgeBefore}
-use Rattle.snap_visits.proofs.Undirected.{edges_are_strict}
-use Rattle.snap_visits.specs.declared.visits.Visit.{Visit}
+use Rattle.lay_point.specs.Rising.{IsRising}
+use Rattle.lay_point.specs.Edges.{IsEdgeBefore}
+use Rattle.lay_point.proofs.EdgeOrder.{edges_are_strict}
+use Rattle.snap_chains.specs.declared.visits.Visit.{Visit}
 use Rattle.snap_chains.specs.Scans.{AreEarlier, AreNoLater, EndsEarlier, EndsNoLater}
-use Rattle.snap_visits.specs.Visits.{IsVisitBefore}
+use Rattle.snap_chains.specs.Visits.{IsVisitBefore}
 use Rattle.snap_chains.proofs.CleanLemmas.{rising_apart}
-use Rattle.snap_visits.proofs.EdgeOrder.{edge_cmp, edge_cmp_total, edge_exact, edge_order}
+use Rattle.snap_chains.proofs.EdgeOrder.{edge_cmp, edge_cmp_total, edge_exact, edge_order}
 use Rattle.snap_chains.proofs.VisitorLemmas.{ArePlaces, early_part, earlier, is_earlier, is_no_later, late_part, less_by_before, no_later}
 
 -- ---- one visit

@@ -10,19 +10,19 @@ use Rattle.std.specs.List.Sorted.{IsPartitionedBy, IsPartitionPoint}
 use Rattle.std.proofs.lemmas.Bool.{cases_lt, false≢true}
 use Rattle.std.proofs.lemmas.List.{get_or-drop, get_or-take, length-drop, length-take}
 use Rattle.lay_point.specs.declared.point.Point.{Point}
-use Rattle.snap_visits.specs.Rising.{IsRising}
-use Rattle.snap_visits.specs.Undirected.{IsEdgeBefore}
-use Rattle.snap_visits.proofs.Members.{Has, has, contains}
-use Rattle.snap_visits.proofs.Rising.{rising_rest}
-use Rattle.snap_visits.proofs.Undirected.{edges_are_strict}
-use Rattle.snap_visits.specs.declared.owner.Input.TheVariants.{First}
-use Rattle.snap_visits.specs.declared.visits.Visit.{Visit}
-use Rattle.snap_visits.specs.Owners.{IsOwnerBefore}
-use Rattle.snap_visits.specs.Visits.{AreVisitors, IsVisitBefore}
+use Rattle.lay_point.specs.Rising.{IsRising}
+use Rattle.lay_point.specs.Edges.{IsEdgeBefore}
+use Rattle.lay_point.proofs.Members.{Has, has, contains}
+use Rattle.lay_point.proofs.Rising.{rising_rest}
+use Rattle.lay_point.proofs.EdgeOrder.{edges_are_strict}
+use Rattle.snap_chains.specs.declared.owner.Input.TheVariants.{First}
+use Rattle.snap_chains.specs.declared.visits.Visit.{Visit}
+use Rattle.snap_chains.specs.Owners.{IsOwnerBefore}
+use Rattle.snap_chains.specs.Visits.{AreVisitors, IsVisitBefore}
 use Rattle.snap_chains.proofs.CleanLemmas.{rising_apart}
-use Rattle.snap_visits.proofs.EdgeOrder.{edge_cmp, edge_cmp_total, edge_exact, edge_order}
-use Rattle.snap_visits.proofs.PathLemmas.{Contains-map, Has-map}
-use Rattle.snap_visits.proofs.VisitOrder.{visit_order}
+use Rattle.snap_chains.proofs.EdgeOrder.{edge_cmp, edge_cmp_total, edge_exact, edge_order}
+use Rattle.snap_chains.proofs.PathLemmas.{Contains-map, Has-map}
+use Rattle.snap_chains.proofs.VisitOrder.{visit_order}
 
 -- ---- what the tests of edges answer
 abbrev pub is_earlier : Point × Point → Visit → Bool

@@ -1,7 +1,7 @@
 -- The first two edges of a list that have more in common than an end.
 use Rattle.std.specs.Prelude.{◌≡◌, ◌⊎◌, ℕ, ◌<◌, List, length, slice_index_or}
 use Rattle.lay_point.specs.declared.point.Point.{Point}
-use Rattle.snap_visits.specs.Meeting.{MeetAtEnds}
+use Rattle.snap_edge_laws.specs.Meeting.{MeetAtEnds}
 use Rattle.snap_chains.specs.declared.clean_edges.CleanFault.{CleanFault}
 use Rattle.snap_chains.specs.declared.clean_edges.CleanFault.TheVariants.{NoMemory, NotClean}
 

@@ -1,10 +1,10 @@
 -- Lists of owners that are parts of one.
 use Rattle.std.specs.Prelude.{ℕ, ◌≤◌, List, length, map, slice_range}
 use Rattle.lay_point.specs.declared.point.Point.{Point}
-use Rattle.snap_visits.specs.declared.owner.Owner.{Owner}
+use Rattle.snap_chains.specs.declared.owner.Owner.{Owner}
 use Rattle.snap_chains.specs.declared.owner_lists.Part.{Part}
-use Rattle.snap_visits.specs.declared.visits.Visit.{Visit}
-use Rattle.snap_visits.specs.Visits.{AreVisitors}
+use Rattle.snap_chains.specs.declared.visits.Visit.{Visit}
+use Rattle.snap_chains.specs.Visits.{AreVisitors}
 
 abbrev pub list_of : List Owner → Part → List Owner
 list_of owners part = slice_range owners part.from part.to

@@ -3,12 +3,12 @@
 use Rattle.std.specs.Prelude.{◌↔◌, List, [], ◌∷◌, Contains, IsTrue, if◌then◌else◌}
 use Rattle.std.specs.List.{AllZip}
 use Rattle.lay_point.specs.declared.point.Point.{Point}
-use Rattle.snap_visits.specs.Rising.{IsRising}
-use Rattle.snap_visits.specs.Undirected.{AreEdgesOf, is_owned}
-use Rattle.snap_visits.specs.declared.owner.Owner.{Owner}
-use Rattle.snap_visits.specs.OwnedRings.{AreRounded}
-use Rattle.snap_visits.specs.Owners.{IsOwnerBefore, owner_eq}
-use Rattle.snap_visits.specs.Rounded.{Owned}
+use Rattle.lay_point.specs.Rising.{IsRising}
+use Rattle.snap_edge_laws.specs.Undirected.{AreEdgesOf, is_owned}
+use Rattle.snap_chains.specs.declared.owner.Owner.{Owner}
+use Rattle.snap_chains.specs.OwnedRings.{AreRounded}
+use Rattle.snap_chains.specs.Owners.{IsOwnerBefore, owner_eq}
+use Rattle.snap_chains.specs.Rounded.{Owned}
 
 -- the walks round the owner's rings, where each ring has its walk at the same place
 abbrev pub owner_walks : Owner → List (Owner × List Point) → List (List Point) → List (List Point)

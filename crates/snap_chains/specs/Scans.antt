@@ -1,8 +1,8 @@
 -- Visits in order that a scan for one edge after another passes.
 use Rattle.std.specs.Prelude.{ℕ, ◌<◌, List, length, slice_index_or}
 use Rattle.lay_point.specs.declared.point.Point.{Point}
-use Rattle.snap_visits.specs.Undirected.{IsEdgeBefore}
-use Rattle.snap_visits.specs.declared.visits.Visit.{Visit}
+use Rattle.lay_point.specs.Edges.{IsEdgeBefore}
+use Rattle.snap_chains.specs.declared.visits.Visit.{Visit}
 
 -- the visits before this index are of earlier edges than e
 abbrev pub AreEarlier : List Visit → ℕ → Point × Point → Type 0

@@ -1,14 +1,14 @@
 //! The check whether edges are clean.
 ghost use Rattle.std.specs.Prelude.{◌≡◌, ◌<◌, IfErr, IfOk, MatchOption, OnOk, length, ℕ};
-ghost use Rattle.snap_visits.specs.Rising.{IsRising};
-ghost use Rattle.snap_visits.specs.Undirected.{IsEdgeBefore};
+ghost use Rattle.lay_point.specs.Rising.{IsRising};
+ghost use Rattle.lay_point.specs.Edges.{IsEdgeBefore};
 ghost use Rattle.snap_chains.specs.Clean.{IsFirstPair, NamesFirst, TwoMeetAtEnds};
-ghost use Rattle.snap_visits.specs.Rounded.{AreClean};
+ghost use Rattle.snap_chains.specs.Rounded.{AreClean};
 
 use crate::clean_edges::{CleanEdges, CleanFault};
 use crate::rounded::Rounded;
 use lay_point::Edge;
-use snap_visits::meet_at_ends;
+use snap_edge_laws::meet_at_ends;
 use std::alloc::Global;
 
 /// Returns the edges where they are clean, else the first two that aren't. The number of steps is that

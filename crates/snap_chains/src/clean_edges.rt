@@ -1,13 +1,13 @@
 //! Clean edges: those that meet at their ends only.
 ghost use Rattle.std.specs.Prelude.{◌≡◌, ◌<◌, ◌≤◌, IfErr, IfOk, MatchOption, OnOk, Some, length, slice_get};
-ghost use Rattle.snap_visits.specs.Rising.{IsRising};
-ghost use Rattle.snap_visits.specs.Undirected.{IsEdgeBefore};
-ghost use Rattle.snap_visits.specs.Owners.{IsOwnerBefore};
-ghost use Rattle.snap_visits.specs.Rounded.{AreClean, AreEven};
+ghost use Rattle.lay_point.specs.Rising.{IsRising};
+ghost use Rattle.lay_point.specs.Edges.{IsEdgeBefore};
+ghost use Rattle.snap_chains.specs.Owners.{IsOwnerBefore};
+ghost use Rattle.snap_chains.specs.Rounded.{AreClean, AreEven};
 
+use crate::owner::Owner;
 use crate::rounded::Rounded;
 use lay_point::Edge;
-use snap_visits::Owner;
 use std::marker::Model;
 use thiserror::Error;
 
@@ -35,7 +35,7 @@ pub struct CleanEdges {
 }
 
 impl Model for CleanEdges {
-    ghost use Rattle.snap_visits.specs.Rounded.{AreClean, Owned};
+    ghost use Rattle.snap_chains.specs.Rounded.{AreClean, Owned};
 
     ghost Value = { Owned };
 

@@ -1,16 +1,17 @@
 //! The owners of edges, from the visits of these.
 ghost use Rattle.std.specs.Prelude.{◌≡◌, ◌↔◌, ◌<◌, ◌≤◌, [], IfOk, IsTrue, Some, length, map, replicate, slice_get};
 ghost use Rattle.std.specs.List.{AllZip};
-ghost use Rattle.snap_visits.specs.Rising.{IsRising};
-ghost use Rattle.snap_visits.specs.Undirected.{IsEdgeBefore};
-ghost use Rattle.snap_visits.specs.declared.visits.Visit.{Visit};
-ghost use Rattle.snap_visits.specs.Owners.{IsOwnerBefore};
+ghost use Rattle.lay_point.specs.Rising.{IsRising};
+ghost use Rattle.lay_point.specs.Edges.{IsEdgeBefore};
+ghost use Rattle.snap_chains.specs.declared.visits.Visit.{Visit};
+ghost use Rattle.snap_chains.specs.Owners.{IsOwnerBefore};
 ghost use Rattle.snap_chains.specs.OwnerLists.{HasVisitors, IsInside, lists_of};
 ghost use Rattle.snap_chains.specs.Scans.{AreEarlier, AreNoLater, EndsEarlier, EndsNoLater};
-ghost use Rattle.snap_visits.specs.Visits.{AreVisitors, IsVisitBefore};
+ghost use Rattle.snap_chains.specs.Visits.{AreVisitors, IsVisitBefore};
 
+use crate::owner::Owner;
+use crate::visits::Visit;
 use lay_point::Edge;
-use snap_visits::{Owner, Visit};
 use std::alloc::{AllocError, Global};
 use std::marker::Model;
 
@@ -30,7 +31,7 @@ pub(crate) struct OwnerLists {
 
 impl Model for OwnerLists {
     ghost use Rattle.std.specs.Prelude.{All, List, length};
-    ghost use Rattle.snap_visits.specs.declared.owner.Owner.{Owner};
+    ghost use Rattle.snap_chains.specs.declared.owner.Owner.{Owner};
     ghost use Rattle.snap_chains.specs.OwnerLists.{IsInside, lists_of};
 
     ghost Value = { List (List Owner) };

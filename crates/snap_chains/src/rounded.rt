@@ -1,14 +1,14 @@
 //! Edges of rounded rings, with the shapes that own them.
 ghost use Rattle.std.specs.Prelude.{◌≡◌, ◌↔◌, ◌<◌, [], All, Contains, IfOk, Some, length, replicate, slice_get};
 ghost use Rattle.lay_point.specs.declared.point.Point.{Point};
-ghost use Rattle.snap_visits.specs.Rising.{IsRising};
-ghost use Rattle.snap_visits.specs.Undirected.{IsEdgeBefore};
-ghost use Rattle.snap_visits.specs.Owners.{IsOwnerBefore};
-ghost use Rattle.snap_visits.specs.Rounded.{AreEven};
+ghost use Rattle.lay_point.specs.Rising.{IsRising};
+ghost use Rattle.lay_point.specs.Edges.{IsEdgeBefore};
+ghost use Rattle.snap_chains.specs.Owners.{IsOwnerBefore};
+ghost use Rattle.snap_chains.specs.Rounded.{AreEven};
 
+use crate::owner::Owner;
 use crate::owner_lists::OwnerLists;
 use lay_point::{Edge, NoMemory};
-use snap_visits::Owner;
 use std::alloc::Global;
 use std::marker::Model;
 
@@ -22,7 +22,7 @@ pub struct Rounded {
 }
 
 impl Model for Rounded {
-    ghost use Rattle.snap_visits.specs.Rounded.{IsRounded, Owned};
+    ghost use Rattle.snap_chains.specs.Rounded.{IsRounded, Owned};
 
     ghost Value = { Owned };
 

@@ -4,10 +4,12 @@ ghost use Rattle.lay_point.specs.Rings.{IsRing};
 ghost use Rattle.snap_chains.specs.Round.{IsRoundOf};
 
 use crate::clean_edges::CleanEdges;
+use crate::keys::in_order;
+use crate::owned::{OwnedRing, round_rings};
 use crate::owner_lists::OwnerLists;
 use crate::rounded::Rounded;
+use crate::visits::{all_visits, odd_visits, visited_edges};
 use lay_point::NoMemory;
-use snap_visits::{OwnedRing, all_visits, in_order, odd_visits, round_rings, visited_edges};
 use std::alloc::Global;
 use std::thread::Threads;
 

@@ -2,21 +2,21 @@
 -- along x and then along y. Were an end to come to the other piece, then the same mixture of that piece's first ends would lie in
 -- its pixel, so its centre would be an end of the other edge. So pieces that cross properly at last crossed properly at first.
 use Rattle.std.proofs.Common.{◌≡◌, inl, inr, [], ◌∷◌, ℤ, pos, ◌-ℤ◌, ◌*ℤ◌, ◌≤ℤ◌, ◌<ℤ◌, refl, subst, arith, ⊎_elim}
-use Rattle.snap_pixels.specs.Point.{Point}
-use Rattle.snap_pixels.specs.Segment.{Segment}
+use Rattle.lay_point.specs.declared.point.Point.{Point}
+use Rattle.snap_pixels.specs.declared.segment.Segment.{Segment}
 use Rattle.snap_pixels.specs.Pixels.{IsRoundedTo, HoldsPlace}
 use Rattle.snap_pixels.specs.Segments.{along, IsFraction}
-use Rattle.snap_piece_laws.specs.Areas.{IsConvex}
-use Rattle.snap_piece_laws.specs.Pieces.{sideways, IsOnPiece, HasEnd, first, second, third, fourth, HasEndMeanwhile}
+use Rattle.snap_edge_laws.specs.Areas.{IsConvex}
+use Rattle.snap_edge_laws.specs.Pieces.{sideways, IsOnPiece, HasEnd, first, second, third, fourth, HasEndMeanwhile}
 use Rattle.snap_edge_laws.specs.Edges.{IsBetween, IsEndpoint}
-use Rattle.lay_int_laws.proofs.Polynomials.{#, ◌⊕◌, ◌⊖◌, ◌⊗◌, identity}
-use Rattle.lay_int_laws.proofs.Signs.{linear, nonnegative_product, positive_product, below_or_not}
+use Rattle.lay_point.proofs.Polynomials.{#, ◌⊕◌, ◌⊖◌, ◌⊗◌, identity}
+use Rattle.lay_point.proofs.Signs.{linear, nonnegative_product, positive_product, below_or_not}
 use Rattle.snap_edge_laws.proofs.Rounding.{mixed, mixed_before, mixed_after}
 use Rattle.snap_edge_laws.proofs.Order.{IsSpot}
 use Rattle.snap_edge_laws.proofs.Spans.{IsSpan, turned_span}
-use Rattle.snap_piece_laws.proofs.Areas.{area-flipped, flipped, scaled}
-use Rattle.snap_piece_laws.proofs.Ends.{flipped_end}
-use Rattle.snap_piece_laws.proofs.Sideways.{convex_before}
+use Rattle.snap_edge_laws.proofs.Areas.{area-flipped, flipped, scaled}
+use Rattle.snap_edge_laws.proofs.Ends.{flipped_end}
+use Rattle.snap_edge_laws.proofs.Sideways.{convex_before}
 
 -- the point of the segment at the fraction u / k, at scale k
 abbrev pub place : Segment → ℤ → ℤ → Point

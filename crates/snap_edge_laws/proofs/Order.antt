@@ -2,13 +2,13 @@
 -- centre with no greater key, and centres with equal keys are one.
 use Rattle.std.proofs.Common.{◌≡◌, zero, suc, [], ◌∷◌, ℤ, pos, negsuc, ◌-ℤ◌, ◌*ℤ◌, ◌≤ℤ◌, refl, ap, subst, arith}
 use Rattle.std.specs.Int.{int_signum}
-use Rattle.snap_pixels.specs.Point.{Point}
-use Rattle.snap_pixels.specs.Segment.{Segment}
+use Rattle.lay_point.specs.declared.point.Point.{Point}
+use Rattle.snap_pixels.specs.declared.segment.Segment.{Segment}
 use Rattle.snap_pixels.specs.Pixels.{IsRoundedTo, HoldsPlace}
 use Rattle.snap_pixels.specs.Segments.{along}
 use Rattle.snap_edge_laws.specs.Edges.{key}
-use Rattle.lay_int_laws.proofs.Polynomials.{#, lit, ◌⊕◌, ◌⊖◌, ◌⊗◌, ⊝, identity}
-use Rattle.lay_int_laws.proofs.Signs.{linear, nonnegative_product}
+use Rattle.lay_point.proofs.Polynomials.{#, lit, ◌⊕◌, ◌⊖◌, ◌⊗◌, ⊝, identity}
+use Rattle.lay_point.proofs.Signs.{linear, nonnegative_product}
 use Rattle.snap_edge_laws.proofs.Rounding.{rounded_le}
 
 -- the coordinates c and c' in a direction of this sign: c is no further, and where it is as far they are equal

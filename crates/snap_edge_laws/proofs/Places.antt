@@ -1,13 +1,13 @@
 -- Places on edges. A place that is on an edge's line and in its bounding box is a fraction of the way from one end to the other.
 use Rattle.std.proofs.Common.{◌≡◌, ◌⊎◌, inl, inr, [], ◌∷◌, ℤ, pos, ◌-ℤ◌, ◌*ℤ◌, ◌≤ℤ◌, ◌<ℤ◌, refl, sym, ap, ◌∙◌, arith, ⊎_elim}
-use Rattle.snap_pixels.specs.Point.{Point}
+use Rattle.lay_point.specs.declared.point.Point.{Point}
 use Rattle.snap_pixels.specs.Segments.{along, IsFraction}
 use Rattle.snap_edge_laws.specs.Edges.{IsOn}
-use Rattle.lay_int_laws.proofs.Polynomials.{#, ◌⊕◌, ◌⊖◌, ◌⊗◌, identity}
-use Rattle.lay_int_laws.proofs.Signs.{linear, nonnegative_product, positive_product, times_lt, below_or_not, below_or_same}
+use Rattle.lay_point.proofs.Polynomials.{#, ◌⊕◌, ◌⊖◌, ◌⊗◌, identity}
+use Rattle.lay_point.proofs.Signs.{linear, nonnegative_product, positive_product, times_lt, below_or_not, below_or_same}
 use Rattle.snap_edge_laws.proofs.Order.{same_point}
-use Rattle.snap_piece_laws.proofs.Areas.{flipped}
-use Rattle.snap_piece_laws.proofs.Ends.{along_back}
+use Rattle.snap_edge_laws.proofs.Areas.{flipped}
+use Rattle.snap_edge_laws.proofs.Ends.{along_back}
 
 -- the place (x, y) at scale k is l / m of the way from c to d
 pub record IsAlong (c d : Point) (k x y m l : ℤ) : Type 0 where

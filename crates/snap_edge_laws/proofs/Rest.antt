@@ -1,16 +1,16 @@
 -- At rest the pieces don't cross. The pixel of a point that is common to two segments which aren't parallel is hot, and both segments
 -- meet it. Between their ends' pixels, its centre is an end of both edges; so edges without a common end have no such point.
 use Rattle.std.proofs.Common.{◌≡◌, inl, inr, [], ◌∷◌, ℤ, pos, ◌+ℤ◌, ◌-ℤ◌, ◌*ℤ◌, ◌≤ℤ◌, refl, sym, ap, subst, ◌∙◌, arith}
-use Rattle.snap_pixels.specs.Point.{Point}
-use Rattle.snap_pixels.specs.Segment.{Segment}
+use Rattle.lay_point.specs.declared.point.Point.{Point}
+use Rattle.snap_pixels.specs.declared.segment.Segment.{Segment}
 use Rattle.snap_pixels.specs.Pixels.{IsRoundedTo, HoldsPlace}
 use Rattle.snap_pixels.specs.Segments.{along, AreParallel, IsCommon, IsFraction, Crosses}
-use Rattle.snap_piece_laws.specs.Areas.{area, IsConvex}
+use Rattle.snap_edge_laws.specs.Areas.{area, IsConvex}
 use Rattle.snap_edge_laws.specs.Edges.{IsEndpoint}
-use Rattle.lay_int_laws.proofs.Polynomials.{#, lit, ◌⊕◌, ◌⊖◌, ◌⊗◌, identity}
-use Rattle.lay_int_laws.proofs.Signs.{linear, positive_product}
-use Rattle.lay_int_laws.proofs.Division.{rounded}
-use Rattle.snap_piece_laws.proofs.Areas.{areas_balance, areas_weigh_x, areas_weigh_y, area-of_cross}
+use Rattle.lay_point.proofs.Polynomials.{#, lit, ◌⊕◌, ◌⊖◌, ◌⊗◌, identity}
+use Rattle.lay_point.proofs.Signs.{linear, positive_product}
+use Rattle.lay_point.proofs.Division.{rounded}
+use Rattle.snap_edge_laws.proofs.Areas.{areas_balance, areas_weigh_x, areas_weigh_y, area-of_cross}
 use Rattle.snap_edge_laws.proofs.Motion.{place, along_mixture, mixture_low, mixture_high, end_by_mixture, AreApart}
 
 -- the place in common, by the weights of the four ends

@@ -3,8 +3,8 @@
 use Rattle.std.proofs.Common.{◌≡◌, [], ◌∷◌, ℤ, pos, ◌+ℤ◌, ◌-ℤ◌, ◌*ℤ◌, ◌≤ℤ◌, ◌<ℤ◌, refl, sym, ap, ap₂, ◌∙◌, arith}
 use Rattle.snap_pixels.specs.Pixels.{IsRoundedTo}
 use Rattle.snap_pixels.specs.Segments.{IsFraction, along}
-use Rattle.lay_int_laws.proofs.Polynomials.{Expr, #, lit, ◌⊕◌, ◌⊖◌, ◌⊗◌, identity}
-use Rattle.lay_int_laws.proofs.Signs.{linear, nonnegative_product, times_le, cancel_le, cancel_lt, cancel_nonnegative}
+use Rattle.lay_point.proofs.Polynomials.{Expr, #, lit, ◌⊕◌, ◌⊖◌, ◌⊗◌, identity}
+use Rattle.lay_point.proofs.Signs.{linear, nonnegative_product, times_le, cancel_le, cancel_lt, cancel_nonnegative}
 
 -- d / k is in the interval from -1/2 to 1/2, which has its lower end
 pub record IsNear (k d : ℤ) : Type 0 where

@@ -1,16 +1,16 @@
 -- No hot centre lies inside an edge: were it a mixture of the edge's ends, then the same mixture of points of the segment in their
 -- pixels would lie in its own pixel. So two edges that share an end have no other place in common, or they are one edge.
 use Rattle.std.proofs.Common.{◌≡◌, ◌⊎◌, inl, inr, [], ◌∷◌, ℤ, pos, ◌*ℤ◌, ◌≤ℤ◌, ◌<ℤ◌, refl, sym, ap, subst, ◌∙◌, arith, ⊎_elim}
-use Rattle.snap_pixels.specs.Point.{Point}
-use Rattle.snap_pixels.specs.Segment.{Segment}
+use Rattle.lay_point.specs.declared.point.Point.{Point}
+use Rattle.snap_pixels.specs.declared.segment.Segment.{Segment}
 use Rattle.snap_pixels.specs.Segments.{along}
-use Rattle.snap_piece_laws.specs.Pieces.{IsOnPiece}
+use Rattle.snap_edge_laws.specs.Pieces.{IsOnPiece}
 use Rattle.snap_edge_laws.specs.Edges.{IsBelow, IsEndpoint}
-use Rattle.lay_int_laws.proofs.Polynomials.{#, lit, ◌⊕◌, ◌⊖◌, ◌⊗◌, identity}
-use Rattle.lay_int_laws.proofs.Signs.{linear, cancel_same, below_or_not, below_or_same}
+use Rattle.lay_point.proofs.Polynomials.{#, lit, ◌⊕◌, ◌⊖◌, ◌⊗◌, identity}
+use Rattle.lay_point.proofs.Signs.{linear, cancel_same, below_or_not, below_or_same}
 use Rattle.snap_edge_laws.proofs.Rounding.{mixed_after, rounded_centre}
 use Rattle.snap_edge_laws.proofs.Spans.{IsSpan, not_before_itself}
-use Rattle.snap_piece_laws.proofs.Ends.{turned_piece}
+use Rattle.snap_edge_laws.proofs.Ends.{turned_piece}
 use Rattle.snap_edge_laws.proofs.Motion.{place, end_by_mixture}
 use Rattle.snap_edge_laws.proofs.Places.{IsAlong}
 

@@ -1,13 +1,13 @@
 -- Between: take a point of a segment in each end's pixel of one of its edges. Then each hot centre whose pixel has a point of
 -- the segment between the two is an end of the edge. This is all that is used of chains.
 use Rattle.std.proofs.Common.{◌≡◌, inl, inr, [], ◌∷◌, ℤ, pos, ◌-ℤ◌, ◌*ℤ◌, ◌≤ℤ◌, ◌<ℤ◌, refl, sym, ap, subst, arith, ⊎_elim}
-use Rattle.snap_pixels.specs.Point.{Point}
-use Rattle.snap_pixels.specs.Segment.{Segment}
-use Rattle.snap_pixels.specs.Points.{IsBefore}
+use Rattle.lay_point.specs.declared.point.Point.{Point}
+use Rattle.snap_pixels.specs.declared.segment.Segment.{Segment}
+use Rattle.lay_point.specs.Points.{IsBefore}
 use Rattle.snap_pixels.specs.Segments.{Meets}
 use Rattle.snap_edge_laws.specs.Edges.{key, IsBelow, IsEdgeOf, IsBetween, IsEndpoint}
-use Rattle.lay_int_laws.proofs.Polynomials.{#, ◌⊖◌, ◌⊗◌, identity}
-use Rattle.lay_int_laws.proofs.Signs.{linear, nonnegative_product, positive_product, times_le, below_or_not, below_or_same}
+use Rattle.lay_point.proofs.Polynomials.{#, ◌⊖◌, ◌⊗◌, identity}
+use Rattle.lay_point.proofs.Signs.{linear, nonnegative_product, positive_product, times_le, below_or_not, below_or_same}
 use Rattle.snap_edge_laws.proofs.Rounding.{rounded_at_multiple}
 use Rattle.snap_edge_laws.proofs.Order.{IsSpot, key_le, key_same}
 

@@ -1,17 +1,17 @@
 -- Edges of snap-rounded segments have no place in common but a shared end.
 use Rattle.std.proofs.Common.{◌≡◌, ◌⊎◌, inl, inr, List, ℤ, pos, ◌-ℤ◌, ◌*ℤ◌, ◌≤ℤ◌, ◌<ℤ◌, refl, sym, ap, subst, ◌∙◌, arith, ⊎_elim}
-use Rattle.snap_pixels.specs.Point.{Point}
-use Rattle.snap_pixels.specs.Segment.{Segment}
+use Rattle.lay_point.specs.declared.point.Point.{Point}
+use Rattle.snap_pixels.specs.declared.segment.Segment.{Segment}
 use Rattle.snap_pixels.specs.Segments.{along, Crosses}
 use Rattle.snap_pixels.specs.Hot.{IsHot}
 use Rattle.snap_edge_laws.specs.Edges.{IsEndpoint, IsEdgeOf, IsOn, AreOneEdge, IsSharedEnd, MeetOnlyAtEnds}
-use Rattle.lay_int_laws.proofs.Signs.{linear, cancel_same}
-use Rattle.lay_int_laws.proofs.Products.{*ℤ_comm}
+use Rattle.lay_point.proofs.Signs.{linear, cancel_same}
+use Rattle.lay_point.proofs.Products.{*ℤ_comm}
 use Rattle.snap_edge_laws.proofs.Order.{same_point}
 use Rattle.snap_edge_laws.proofs.Spans.{spans_of}
 use Rattle.snap_edge_laws.proofs.Places.{IsAlong, turned_along, somewhere, along_at_multiple, apart_or_same, not_same}
 use Rattle.snap_edge_laws.proofs.SharedEnds.{IsClear, IsPlaceOf, clear_edge, turned_clear, ends_differ, meet_at_shared_end}
-use Rattle.snap_edge_laws.proofs.Meeting.{AreMeeting, no_meeting_apart}
+use Rattle.snap_edge_laws.proofs.MeetingLemmas.{AreMeeting, no_meeting_apart}
 
 -- a point is another one, or it isn't
 same_or_not : (p q : Point) → (p ≡ q) ⊎ ¬ (p ≡ q)

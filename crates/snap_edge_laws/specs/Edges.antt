@@ -3,9 +3,9 @@
 -- Source: Hobby, Practical segment intersection with finite precision output, 1999.
 use Rattle.std.specs.Prelude.{◌≡◌, ◌⊎◌, ℤ, pos, ◌+ℤ◌, ◌-ℤ◌, ◌*ℤ◌, ◌≤ℤ◌, ◌<ℤ◌, List, Contains}
 use Rattle.std.specs.Int.{int_signum}
-use Rattle.snap_pixels.specs.Point.{Point}
-use Rattle.snap_pixels.specs.Segment.{Segment}
-use Rattle.snap_pixels.specs.Points.{IsBefore}
+use Rattle.lay_point.specs.declared.point.Point.{Point}
+use Rattle.snap_pixels.specs.declared.segment.Segment.{Segment}
+use Rattle.lay_point.specs.Points.{IsBefore}
 use Rattle.snap_pixels.specs.Segments.{Meets}
 use Rattle.snap_pixels.specs.Hot.{IsHot}
 

@@ -1,5 +1,7 @@
+pub mod Areas
+pub mod Chains
 pub mod Edges
-pub use Rattle.snap_pixels.specs.Hot
-pub use Rattle.snap_pixels.specs.Pixels
-pub use Rattle.snap_pixels.specs.Segments
-pub use Rattle.snap_pixels.specs.Segment
+pub mod Meeting
+pub mod Pieces
+pub mod Rounding
+pub mod Undirected

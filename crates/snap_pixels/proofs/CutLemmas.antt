@@ -3,19 +3,19 @@ use Rattle.std.proofs.Common.{◌≡◌, ◌⊎◌, inl, inr, ⊎_elim, ◌↔�
 use Rattle.std.proofs.Common.{◌≤ℤ◌, ◌<ℤ◌, neg_ℤ, refl, sym, subst, arith, ◌∙◌}
 use Rattle.std.specs.Prelude.{filter, int_le, ◌||◌}
 use Rattle.std.proofs.lemmas.Bool.{or_left, or_right}
-use Rattle.snap_segments.proofs.Polynomials.{#, lit, ◌⊕◌, ◌⊖◌, ◌⊗◌, identity}
-use Rattle.snap_segments.proofs.Signs.{linear, below_or_not}
-use Rattle.snap_segments.proofs.Tests.{true_le}
+use Rattle.lay_point.proofs.Polynomials.{#, lit, ◌⊕◌, ◌⊖◌, ◌⊗◌, identity}
+use Rattle.lay_point.proofs.Signs.{linear, below_or_not}
+use Rattle.lay_point.proofs.Tests.{true_le}
 use Rattle.lay_point.specs.declared.point.Point.{Point}
 use Rattle.lay_point.proofs.Members.{Has, contains, has}
 use Rattle.snap_pixels.specs.declared.cut.Cut.{Cut}
 use Rattle.snap_pixels.specs.declared.cut.Cut.TheVariants.{Column, Row, Slanted}
 use Rattle.snap_pixels.specs.declared.direction.Direction.{Direction}
-use Rattle.snap_segments.specs.declared.segment.Segment.{Segment}
+use Rattle.snap_pixels.specs.declared.segment.Segment.{Segment}
 use Rattle.snap_pixels.specs.Cuts.{reach, reaches_high, reaches_low}
 use Rattle.snap_pixels.specs.Hot.{IsHot}
-use Rattle.snap_segments.specs.Segments.{Crosses, IsFraction, along}
-use Rattle.snap_segments.proofs.BoxLemmas.{along_at_least, along_at_most}
+use Rattle.snap_pixels.specs.Segments.{Crosses, IsFraction, along}
+use Rattle.snap_pixels.proofs.BoxLemmas.{along_at_least, along_at_most}
 
 -- ---- along one axis
 low_from : (k t a b m : ℤ) → IsFraction t k → along k t a b ≤ℤ (m *ℤ k) → (int_le a m || int_le b m) ≡ true

@@ -2,13 +2,13 @@
 use Rattle.std.proofs.Common.{◌≡◌, ◌⊎◌, inl, inr, ⊎_elim, ◌↔◌, List, [], ◌++◌, length, Contains, subst, arith}
 use Rattle.std.proofs.lemmas.List.Elements.{Contains-append_cases, Contains-append_left, Contains-append_right}
 use Rattle.lay_point.specs.declared.point.Point.{Point}
-use Rattle.snap_segments.specs.declared.segment.Segment.{Segment}
+use Rattle.snap_pixels.specs.declared.segment.Segment.{Segment}
 use Rattle.snap_pixels.specs.Hot.{AreHotCentres, IsHot}
 use Rattle.snap_pixels.specs.Kinds.{AreParallelAll}
 use Rattle.snap_pixels.specs.Marks.{RunMarks}
-use Rattle.snap_segments.specs.Order.{ArePointsRising}
-use Rattle.snap_segments.specs.Segments.{Crosses}
-use Rattle.snap_segments.proofs.CrossingLemmas.{Crosses-swapped}
+use Rattle.snap_pixels.specs.Order.{ArePointsRising}
+use Rattle.snap_pixels.specs.Segments.{Crosses}
+use Rattle.snap_pixels.proofs.CrossingLemmas.{Crosses-swapped}
 
 -- the hot pixels are those that a run marks, in which no two segments cross, and those of the segments after it
 module _ (run later : List Segment) (parallel : AreParallelAll run) (c : Point) where

@@ -4,15 +4,15 @@ use Rattle.std.proofs.Common.{pos, ◌-ℤ◌, ◌*ℤ◌}
 use Rattle.std.specs.Prelude.{All}
 use Rattle.std.proofs.lemmas.List.{take_all}
 use Rattle.std.proofs.lemmas.List.Elements.{All-cons, All-contains}
-use Rattle.snap_segments.proofs.Polynomials.{#, lit, ◌⊖◌, ◌⊗◌, identity}
+use Rattle.lay_point.proofs.Polynomials.{#, lit, ◌⊖◌, ◌⊗◌, identity}
 use Rattle.lay_point.specs.declared.point.Point.{Point}
 use Rattle.lay_point.proofs.Members.{has}
 use Rattle.snap_pixels.specs.declared.kind.Kind.{Kind}
 use Rattle.snap_pixels.specs.declared.kind.Kind.TheVariants.{Level, Slanted, Upright}
-use Rattle.snap_segments.specs.declared.segment.Segment.{Segment}
+use Rattle.snap_pixels.specs.declared.segment.Segment.{Segment}
 use Rattle.snap_pixels.specs.Kinds.{AreParallelAll, IsOfKind}
-use Rattle.snap_segments.specs.Segments.{AreParallel}
-use Rattle.snap_segments.proofs.CrossingLemmas.{cross-itself}
+use Rattle.snap_pixels.specs.Segments.{AreParallel}
+use Rattle.snap_pixels.proofs.CrossingLemmas.{cross-itself}
 
 levels_parallel : (a b c d : Point) → a.y ≡ b.y → c.y ≡ d.y → AreParallel a b c d
 levels_parallel a b c d e f =

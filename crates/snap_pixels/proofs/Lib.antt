@@ -1,6 +1,11 @@
+pub mod BoundLemmas
+pub mod BoxLemmas
+pub mod CrossingLemmas
 pub mod CutLemmas
 pub mod HotLemmas
 pub mod KindLemmas
 pub mod MarkLemmas
+pub mod OrderLemmas
 pub mod PartLemmas
-pub use Rattle.snap_segments.proofs.CrossingLemmas
+pub mod RoundLemmas
+pub mod SideLemmas

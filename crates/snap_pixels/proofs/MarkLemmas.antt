@@ -6,10 +6,10 @@ use Rattle.std.proofs.lemmas.Int.{ints}
 use Rattle.std.proofs.lemmas.List.{take_more, take_all}
 use Rattle.std.proofs.lemmas.List.Elements.{Contains-append_left, Contains-push, Contains-push_cases}
 use Rattle.lay_point.specs.declared.point.Point.{Point}
-use Rattle.snap_segments.specs.declared.segment.Segment.{Segment}
+use Rattle.snap_pixels.specs.declared.segment.Segment.{Segment}
 use Rattle.snap_pixels.specs.Marks.{CrossesOne, Marks, RunMarks}
-use Rattle.snap_segments.specs.Pixels.{HoldsPlace, IsRoundedTo}
-use Rattle.snap_segments.specs.Segments.{Crosses}
+use Rattle.snap_pixels.specs.Pixels.{HoldsPlace, IsRoundedTo}
+use Rattle.snap_pixels.specs.Segments.{Crosses}
 
 IsRoundedTo-whole : (c a : ℤ) → IsRoundedTo c (pos 1) a → a ≡ c
 IsRoundedTo-whole c a h = omega (arith, ints)

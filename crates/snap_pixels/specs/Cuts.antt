@@ -4,7 +4,7 @@ use Rattle.lay_point.specs.declared.point.Point.{Point}
 use Rattle.snap_pixels.specs.declared.cut.Cut.{Cut}
 use Rattle.snap_pixels.specs.declared.cut.Cut.TheVariants.{Column, Row, Slanted}
 use Rattle.snap_pixels.specs.declared.direction.Direction.{Direction}
-use Rattle.snap_segments.specs.declared.segment.Segment.{Segment}
+use Rattle.snap_pixels.specs.declared.segment.Segment.{Segment}
 
 -- how far the point is in the direction, times the direction's length
 abbrev pub reach : Direction → Point → ℤ

@@ -2,10 +2,10 @@
 -- Source: Hobby, Practical segment intersection with finite precision output, 1999.
 use Rattle.std.specs.Prelude.{◌⊎◌, pos, List, Contains, ◌↔◌}
 use Rattle.lay_point.specs.declared.point.Point.{Point}
-use Rattle.snap_segments.specs.declared.segment.Segment.{Segment}
-use Rattle.snap_segments.specs.Order.{ArePointsRising}
-use Rattle.snap_segments.specs.Pixels.{HoldsPlace}
-use Rattle.snap_segments.specs.Segments.{Crosses}
+use Rattle.snap_pixels.specs.declared.segment.Segment.{Segment}
+use Rattle.snap_pixels.specs.Order.{ArePointsRising}
+use Rattle.snap_pixels.specs.Pixels.{HoldsPlace}
+use Rattle.snap_pixels.specs.Segments.{Crosses}
 
 -- the pixel of c holds an end of the segment
 abbrev pub HoldsEnd : Segment → Point → Type 0

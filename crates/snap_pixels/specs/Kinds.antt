@@ -2,8 +2,8 @@
 use Rattle.std.specs.Prelude.{◌≡◌, ◌≢◌, List, Contains}
 use Rattle.snap_pixels.specs.declared.kind.Kind.{Kind}
 use Rattle.snap_pixels.specs.declared.kind.Kind.TheVariants.{Level, Slanted, Upright}
-use Rattle.snap_segments.specs.declared.segment.Segment.{Segment}
-use Rattle.snap_segments.specs.Segments.{AreParallel}
+use Rattle.snap_pixels.specs.declared.segment.Segment.{Segment}
+use Rattle.snap_pixels.specs.Segments.{AreParallel}
 
 -- the segment is along x, along y, or along neither
 abbrev pub IsOfKind : Kind → Segment → Type 0

@@ -1,10 +1,10 @@
+pub mod Boxes
 pub mod Cuts
 pub mod Hot
 pub mod Kinds
 pub mod Marks
+pub mod Order
 pub mod Parts
-pub use Rattle.snap_segments.specs.Pixels
-pub use Rattle.snap_segments.specs.Segments
-pub use Rattle.snap_segments.specs.declared.segment.Segment
-pub use Rattle.lay_point.specs.Points
-pub use Rattle.lay_point.specs.declared.point.Point
+pub mod Pixels
+pub mod Segments
+pub mod Sides

@@ -2,9 +2,9 @@
 -- has in common with segments after the run that aren't parallel to it.
 use Rattle.std.specs.Prelude.{◌⊎◌, List, Contains}
 use Rattle.lay_point.specs.declared.point.Point.{Point}
-use Rattle.snap_segments.specs.declared.segment.Segment.{Segment}
+use Rattle.snap_pixels.specs.declared.segment.Segment.{Segment}
 use Rattle.snap_pixels.specs.Hot.{HoldsEnd}
-use Rattle.snap_segments.specs.Segments.{Crosses}
+use Rattle.snap_pixels.specs.Segments.{Crosses}
 
 -- the pixel of c holds a point that s has in common with one of the others
 abbrev pub CrossesOne : Segment → List Segment → Point → Type 0

@@ -1,7 +1,7 @@
 -- Lists of segments that are searched apart.
 use Rattle.std.specs.Prelude.{◌⊎◌, List, [], ◌∷◌}
 use Rattle.lay_point.specs.declared.point.Point.{Point}
-use Rattle.snap_segments.specs.declared.segment.Segment.{Segment}
+use Rattle.snap_pixels.specs.declared.segment.Segment.{Segment}
 use Rattle.snap_pixels.specs.Hot.{IsHot}
 
 -- the pixel of c is one of the hot pixels of one of the lists

@@ -4,8 +4,8 @@ use crate::counts::Counts;
 use crate::cut::Cut;
 use crate::direction::Direction;
 use crate::kind::Kind;
+use crate::segment::Segment;
 use lay_point::Point;
-use snap_segments::Segment;
 
 /// A division may have one pair in so many more than the undivided list. So the pairs of all parts, at
 /// most `DEPTH` divisions deep, are at most about twice those of the segments.

@@ -1,6 +1,6 @@
 //! Numbers of segments by kind, and of the pairs that a search asks. Nothing here is a matter of correctness.
 use crate::kind::Kind;
-use snap_segments::Segment;
+use crate::segment::Segment;
 
 /// How many segments there are of each kind.
 #[derive(Clone, Copy, Debug)]

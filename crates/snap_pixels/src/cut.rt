@@ -3,7 +3,7 @@ ghost use Rattle.std.specs.Prelude.{◌≡◌, ◌||◌, IfOk, filter, int_le};
 ghost use Rattle.snap_pixels.specs.Cuts.{reaches_high, reaches_low};
 
 use crate::direction::Direction;
-use snap_segments::Segment;
+use crate::segment::Segment;
 use std::alloc::{AllocError, Global};
 
 /// A line across which segments are divided: the places of this x, of this y, or so far in a direction.

@@ -2,8 +2,9 @@
 ghost use Rattle.std.specs.Prelude.{◌≡◌, ◌^◌, pos, neg_ℤ, ◌*ℤ◌, ◌≤ℤ◌};
 ghost use Rattle.snap_pixels.specs.Cuts.{reach};
 
+use crate::exact::{difference, product};
+use crate::segment::Segment;
 use lay_point::Point;
-use snap_segments::{Segment, difference, product};
 
 /// A direction in the plane.
 #[derive(Clone, Copy, Debug)]

@@ -1,10 +1,10 @@
 //! Segments along an axis and slanted ones. Two along the same axis are parallel, so they don't cross and needn't be
 //! asked about each other.
 ghost use Rattle.std.specs.Prelude.{◌↔◌, ◌<◌, ◌≤◌, Contains, length, take};
-ghost use Rattle.snap_segments.specs.declared.segment.Segment.{Segment};
+ghost use Rattle.snap_pixels.specs.declared.segment.Segment.{Segment};
 ghost use Rattle.snap_pixels.specs.Kinds.{AreParallelAll, IsOfKind};
 
-use snap_segments::Segment;
+use crate::segment::Segment;
 use std::alloc::AllocError;
 
 /// The axis that a segment is along, if any.

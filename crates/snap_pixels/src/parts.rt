@@ -6,7 +6,7 @@ ghost use Rattle.snap_pixels.specs.Parts.{IsHotInOne};
 
 use crate::cell::{Cell, Division};
 use crate::counts::Counts;
-use snap_segments::Segment;
+use crate::segment::Segment;
 use std::alloc::{AllocError, Global};
 
 /// Segments of which no more pairs are asked than of so many slanted ones aren't divided.

@@ -4,11 +4,14 @@ ghost use Rattle.lay_point.specs.declared.point.Point.{Point};
 ghost use Rattle.snap_pixels.specs.Hot.{AreHotCentres, IsHot};
 ghost use Rattle.snap_pixels.specs.Marks.{Marks, RunMarks};
 
+use crate::common_point::crossing;
+use crate::hot_set::HotSet;
 use crate::kind::{put_by_kind, run_length};
 use crate::parts::parts_of;
+use crate::repeats::{distinct, thin};
+use crate::segment::Segment;
 use lay_point::{NoMemory, Point};
 use rayon::prelude::*;
-use snap_segments::{HotSet, Segment, crossing, distinct, thin};
 use std::alloc::{AllocError, Global};
 use std::thread::Threads;
 

@@ -1,10 +1,12 @@
 //! Tests of what no clause says: that the definitions are those of snap rounding, and that calls
 //! succeed.
 
-use super::counts::Counts;
-use super::kind::put_by_kind;
-use super::parts::parts_of;
-use super::*;
+use crate::counts::Counts;
+use crate::kind::put_by_kind;
+use crate::meeting::meets;
+use crate::parts::parts_of;
+use crate::search::{hot, hot_plain};
+use crate::segment::Segment;
 use lay_point::Point;
 use std::alloc::{AllocError, Global};
 use std::test::*;

@@ -10,8 +10,7 @@ ghost use Rattle.lay_point.specs.Rings.{IsRing};
 
 use anyhow::Context;
 use lay_point::{Point, Ring};
-use snap_chains::round;
-use snap_visits::{Input, OwnedRing, Owner};
+use snap_chains::{Input, OwnedRing, Owner, round};
 use std::alloc::{AllocError, Global};
 use std::io;
 use std::io::Read;

@@ -8,12 +8,12 @@ use Rattle.std.proofs.lemmas.Bool.{cases_lt, false≢true}
 use Rattle.std.proofs.lemmas.Bool.Decides.{Decides-and, Decides-not}
 use Rattle.std.proofs.lemmas.List.{take_more}
 use Rattle.std.proofs.lemmas.List.Elements.{Contains-push_cases}
-use Rattle.lay_int_laws.proofs.Polynomials.{#, lit, ◌⊕◌, ◌⊖◌, ◌⊗◌, identity}
-use Rattle.lay_int_laws.proofs.Signs.{linear, below_or_not, cancel_le, nonnegative_product}
+use Rattle.lay_point.proofs.Polynomials.{#, lit, ◌⊕◌, ◌⊖◌, ◌⊗◌, identity}
+use Rattle.lay_point.proofs.Signs.{linear, below_or_not, cancel_le, nonnegative_product}
 use Rattle.lay_point.specs.declared.point.Point.{Point}
-use Rattle.snap_segments.specs.Order.{ArePointsRising}
-use Rattle.snap_segments.specs.Pixels.{IsRoundedTo}
-use Rattle.snap_segments.specs.Segments.{Meets, along, cross}
+use Rattle.snap_pixels.specs.Order.{ArePointsRising}
+use Rattle.snap_pixels.specs.Pixels.{IsRoundedTo}
+use Rattle.snap_pixels.specs.Segments.{Meets, along, cross}
 use Rattle.snap_slabs.specs.Clips.{IsSlack, is_off}
 use Rattle.snap_slabs.specs.Columns.{HoldMet}
 use Rattle.snap_slabs.proofs.ColumnLemmas.{Decides-int_lt, IsAtMost, centres_rise}

@@ -8,12 +8,12 @@ use Rattle.std.proofs.lemmas.Bool.Decides.{Decides-and, Decides-int_eq, Decides-
 use Rattle.std.proofs.lemmas.Int.{ints}
 use Rattle.std.proofs.lemmas.List.{get_or-drop, get_or-take, length-drop, length-take}
 use Rattle.lay_point.specs.declared.point.Point.{Point}
-use Rattle.snap_segments.specs.Order.{ArePointsRising, AreTransposed, transposed}
+use Rattle.snap_pixels.specs.Order.{ArePointsRising, AreTransposed, transposed}
 use Rattle.lay_point.specs.Points.{IsBefore}
-use Rattle.snap_segments.specs.Segments.{Meets}
-use Rattle.snap_segments.proofs.OrderLemmas.{ArePointsRising-next, turned_members}
-use Rattle.snap_segments.proofs.BoxLemmas.{Meets-apart}
-use Rattle.lay_int_laws.proofs.Signs.{linear}
+use Rattle.snap_pixels.specs.Segments.{Meets}
+use Rattle.snap_pixels.proofs.OrderLemmas.{ArePointsRising-next, turned_members}
+use Rattle.snap_pixels.proofs.BoxLemmas.{Meets-apart}
+use Rattle.lay_point.proofs.Signs.{linear}
 use Rattle.snap_slabs.specs.Columns.{HoldMet, is_lesser_point}
 
 pub Decides-int_lt : (a b : ℤ) → Decides (int_lt a b) (a <ℤ b)

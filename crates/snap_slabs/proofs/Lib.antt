@@ -3,15 +3,3 @@ pub mod ColumnLemmas
 pub mod OwnedLemmas
 pub mod SlabLemmas
 pub mod Sorted
-pub use Rattle.snap_edge_test.proofs.Chains
-pub use Rattle.snap_edge_test.proofs.Members
-pub use Rattle.snap_edge_test.proofs.Parity
-pub use Rattle.snap_edge_test.proofs.Rising
-pub use Rattle.snap_edge_test.proofs.Rounded
-pub use Rattle.snap_edge_test.proofs.Undirected
-pub use Rattle.snap_edge_test.proofs.ChainOrder
-pub use Rattle.snap_edge_test.proofs.Edges
-pub use Rattle.snap_edge_test.proofs.Level
-pub use Rattle.snap_edge_test.proofs.SharedEnds
-pub use Rattle.snap_edge_test.proofs.MarkLemmas
-pub use Rattle.snap_segments.proofs.OrderLemmas

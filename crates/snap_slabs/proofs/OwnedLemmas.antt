@@ -3,7 +3,7 @@ use Rattle.std.proofs.Common.{◌≡◌, ℕ, zero, suc, ◌+◌, ◌<◌, List,
 use Rattle.std.specs.Prelude.{flat_map}
 use Rattle.std.specs.List.{AllZip}
 use Rattle.std.proofs.lemmas.List.{take_more}
-use Rattle.snap_edge_test.proofs.Members.{Has, has, contains, has-append_left, has-append_right}
+use Rattle.lay_point.proofs.Members.{Has, has, contains, has-append_left, has-append_right}
 
 in_one : {A B : Type 0} (f : A → List B) (xs : List A) (i : ℕ) (d : A) (y : B) → i < length xs → Has (f (get_or xs i d)) y →
     Has (flat_map f xs) y

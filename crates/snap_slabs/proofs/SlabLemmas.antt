@@ -7,10 +7,10 @@ use Rattle.std.proofs.lemmas.List.{drop-drop, get_or-drop, get_or-take, length-d
 use Rattle.std.proofs.lemmas.List.Elements.{Contains-append_cases, Contains-append_left, Contains-append_right}
 use native.Mathlib.Nat.{suc-mul}
 use Rattle.lay_point.specs.declared.point.Point.{Point}
-use Rattle.snap_segments.specs.Order.{AreTransposed, transposed}
-use Rattle.snap_segments.specs.Segments.{Meets}
-use Rattle.snap_segments.proofs.OrderLemmas.{turned_members}
-use Rattle.snap_edge_test.proofs.Members.{Has, has, contains, has-append}
+use Rattle.snap_pixels.specs.Order.{AreTransposed, transposed}
+use Rattle.snap_pixels.specs.Segments.{Meets}
+use Rattle.snap_pixels.proofs.OrderLemmas.{turned_members}
+use Rattle.lay_point.proofs.Members.{Has, has, contains, has-append}
 use Rattle.snap_slabs.specs.Columns.{HoldMet}
 use Rattle.snap_slabs.specs.Slabs.{AreSlabs, HoldPlaces, points_in}
 use Rattle.snap_slabs.proofs.ColumnLemmas.{meets_turned}

@@ -13,7 +13,7 @@ use Rattle.std.proofs.lemmas.List.Filters.{dedup_is}
 use Rattle.std.proofs.lemmas.List.Kept.{IsStrictlySortedBy-dedup, Contains-dedup, Contains-from_dedup}
 use Rattle.std.proofs.lemmas.List.Sorted.{Contains-permutation, IsPermutation-sym}
 use Rattle.std.proofs.lemmas.List.Elements.{Contains-append_left, Contains-push, Contains-push_cases}
-use Rattle.snap_edge_test.specs.Rising.{IsRising}
+use Rattle.lay_point.specs.Rising.{IsRising}
 
 pub rising_from_strict : {A : Type 0} (cmp : A → A → Ordering) (Before : A → A → Type 0) → ((x y : A) → cmp x y ≡ Less → Before x y)
     → (xs : List A) → IsStrictlySortedBy cmp xs → IsRising Before xs

@@ -1,7 +1,7 @@
 -- The side of a segment on which a centre is, with all columns of its slab.
 use Rattle.std.specs.Prelude.{ℤ, ◌+ℤ◌, ◌-ℤ◌, ◌≤ℤ◌, Bool, ◌&&◌, int_lt}
 use Rattle.lay_point.specs.declared.point.Point.{Point}
-use Rattle.snap_segments.specs.Segments.{cross}
+use Rattle.snap_pixels.specs.Segments.{cross}
 
 -- in both columns, on the row of the centre, the area that the segment spans is greater than the slack
 abbrev pub is_off : Point → Point → ℤ → ℤ → ℤ → Point → Bool

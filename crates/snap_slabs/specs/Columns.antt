@@ -2,7 +2,7 @@
 use Rattle.std.specs.Prelude.{◌≡◌, ℕ, ◌<◌, ◌≤◌, List, length, slice_index_or, Bool, ◌&&◌, ◌||◌, int_lt}
 use Rattle.std.specs.Ordering.{int_eq}
 use Rattle.lay_point.specs.declared.point.Point.{Point}
-use Rattle.snap_segments.specs.Segments.{Meets}
+use Rattle.snap_pixels.specs.Segments.{Meets}
 
 -- by x, then by y
 abbrev pub is_lesser_point : Point → Point → Bool

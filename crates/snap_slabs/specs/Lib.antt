@@ -1,13 +1,3 @@
 pub mod Clips
 pub mod Columns
 pub mod Slabs
-pub use Rattle.snap_edge_test.specs.Chains
-pub use Rattle.snap_edge_test.specs.Edges
-pub use Rattle.snap_edge_test.specs.Meeting
-pub use Rattle.snap_edge_test.specs.Parity
-pub use Rattle.snap_edge_test.specs.Rising
-pub use Rattle.snap_edge_test.specs.Rounding
-pub use Rattle.snap_edge_test.specs.Undirected
-pub use Rattle.snap_edge_test.specs.Hot
-pub use Rattle.snap_segments.specs.Segments
-pub use Rattle.snap_segments.specs.declared.segment.Segment

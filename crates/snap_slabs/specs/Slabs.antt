@@ -1,7 +1,7 @@
 -- Slabs: the hot centres in parts that are neighbours in the order of points, each in the order of its rows.
 use Rattle.std.specs.Prelude.{ℕ, ◌<◌, ◌≤◌, ◌≡◌, ⊤, List, [], ◌∷◌, length, take, drop, flat_map, slice_index_or, Contains}
 use Rattle.lay_point.specs.declared.point.Point.{Point}
-use Rattle.snap_segments.specs.Order.{AreTransposed, transposed}
+use Rattle.snap_pixels.specs.Order.{AreTransposed, transposed}
 
 -- the slabs hold the centres from the first on, so many each, on the other side of the diagonal
 abbrev pub AreSlabs : ℕ → List Point → List (List Point) → Type 0

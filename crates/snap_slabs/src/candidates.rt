@@ -1,10 +1,10 @@
 //! The question which of some centres a segment meets.
 ghost use Rattle.std.specs.Prelude.{◌↔◌, Contains, IfOk};
 ghost use Rattle.lay_point.specs.declared.point.Point.{Point};
-ghost use Rattle.snap_segments.specs.Segments.{Meets};
+ghost use Rattle.snap_pixels.specs.Segments.{Meets};
 
 use lay_point::Point;
-use snap_segments::{Segment, meets};
+use snap_pixels::{Segment, meets};
 use std::alloc::{AllocError, Global};
 
 /// Returns those of the centres whose pixels the segment meets.

@@ -1,13 +1,13 @@
 //! The rows that a segment reaches within some columns.
 ghost use Rattle.std.specs.Prelude.{◌≤ℤ◌, ◌<ℤ◌, ◌-ℤ◌, ◌^◌, ◌≡◌, ◌≤◌, pos, int_lt, Contains, length};
 ghost use Rattle.lay_point.specs.declared.point.Point.{Point};
-ghost use Rattle.snap_segments.specs.Order.{ArePointsRising};
-ghost use Rattle.snap_segments.specs.Segments.{Meets, cross};
+ghost use Rattle.snap_pixels.specs.Order.{ArePointsRising};
+ghost use Rattle.snap_pixels.specs.Segments.{Meets, cross};
 ghost use Rattle.snap_slabs.specs.Clips.{IsSlack, is_off};
 ghost use Rattle.snap_slabs.specs.Columns.{HoldMet};
 
 use lay_point::Point;
-use snap_segments::{Segment, area};
+use snap_pixels::{Segment, area};
 
 /// Returns where the centres begin that the segment may meet, and where they end. Both are turned, and all
 /// centres are between two columns: left out are those in rows that it doesn't reach there.

@@ -1,12 +1,12 @@
 //! The columns that a segment goes through.
 ghost use Rattle.std.specs.Prelude.{◌≡◌, ◌≤◌, ◌≤ℤ◌, Contains, length};
 ghost use Rattle.lay_point.specs.declared.point.Point.{Point};
-ghost use Rattle.snap_segments.specs.Order.{ArePointsRising};
-ghost use Rattle.snap_segments.specs.Segments.{Meets};
+ghost use Rattle.snap_pixels.specs.Order.{ArePointsRising};
+ghost use Rattle.snap_pixels.specs.Segments.{Meets};
 ghost use Rattle.snap_slabs.specs.Columns.{HoldMet, is_lesser_point};
 
 use lay_point::Point;
-use snap_segments::Segment;
+use snap_pixels::Segment;
 
 /// Returns the centres from the least to the greatest column of the segment; in these two columns only
 /// those that aren't below its box, or above it. Of an upright segment these are the ones between its ends.

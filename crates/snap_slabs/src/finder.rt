@@ -1,8 +1,8 @@
 //! The search of the hot centres that a segment meets.
 ghost use Rattle.std.specs.Prelude.{◌≡◌, ◌↔◌, ◌<◌, ◌≤◌, Contains, IfOk, IfSome, length};
 ghost use Rattle.lay_point.specs.declared.point.Point.{Point};
-ghost use Rattle.snap_segments.specs.Order.{ArePointsRising, transposed};
-ghost use Rattle.snap_segments.specs.Segments.{Meets};
+ghost use Rattle.snap_pixels.specs.Order.{ArePointsRising, transposed};
+ghost use Rattle.snap_pixels.specs.Segments.{Meets};
 ghost use Rattle.snap_slabs.specs.Slabs.{HoldPlaces, points_in};
 
 use crate::candidates::met;
@@ -10,7 +10,7 @@ use crate::columns_of::{columns, places};
 use crate::slab::Slab;
 use crate::slabs::{met_in_each, slabs_of};
 use lay_point::Point;
-use snap_segments::{HotSet, Segment, turned_all};
+use snap_pixels::{HotSet, Segment, turned_all};
 use std::alloc::{AllocError, Global};
 use std::marker::Model;
 

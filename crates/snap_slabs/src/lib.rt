@@ -17,5 +17,3 @@ mod slab;
 mod slabs;
 
 pub use finder::Finder;
-pub use snap_edge_test::{hot, hot_plain, meet_at_ends};
-pub use snap_segments::{HotSet, Segment, area};

@@ -1,13 +1,13 @@
 //! A slab: neighbours among the hot centres, in the order of their rows.
 ghost use Rattle.std.specs.Prelude.{◌≤ℤ◌, Contains, IfOk};
 ghost use Rattle.lay_point.specs.declared.point.Point.{Point};
-ghost use Rattle.snap_segments.specs.Order.{AreTransposed};
-ghost use Rattle.snap_segments.specs.Segments.{Meets};
+ghost use Rattle.snap_pixels.specs.Order.{AreTransposed};
+ghost use Rattle.snap_pixels.specs.Segments.{Meets};
 
 use crate::clip::reached;
 use crate::columns_of::places;
 use lay_point::Point;
-use snap_segments::{Segment, turned_all};
+use snap_pixels::{Segment, turned_all};
 use std::alloc::{AllocError, Global};
 use std::marker::Model;
 
@@ -27,7 +27,7 @@ pub(crate) struct Slab {
 impl Model for Slab {
     ghost use Rattle.std.specs.Prelude.{◌≤ℤ◌, Contains, List};
     ghost use Rattle.lay_point.specs.declared.point.Point.{Point};
-    ghost use Rattle.snap_segments.specs.Order.{ArePointsRising};
+    ghost use Rattle.snap_pixels.specs.Order.{ArePointsRising};
 
     ghost Value = { List Point };
 

@@ -1,13 +1,13 @@
 //! Slabs: hot centres in parts that are neighbours in the order of points, each in the order of its rows.
 ghost use Rattle.std.specs.Prelude.{◌↔◌, ◌<◌, Contains, IfOk};
 ghost use Rattle.lay_point.specs.declared.point.Point.{Point};
-ghost use Rattle.snap_segments.specs.Segments.{Meets};
+ghost use Rattle.snap_pixels.specs.Segments.{Meets};
 ghost use Rattle.snap_slabs.specs.Slabs.{AreSlabs, points_in};
 
 use crate::candidates::met;
 use crate::slab::Slab;
 use lay_point::Point;
-use snap_segments::Segment;
+use snap_pixels::Segment;
 use std::alloc::{AllocError, Global};
 
 /// Returns the slabs of the centres: so many in each, from the first on, with x and y exchanged. The last

@@ -9,9 +9,9 @@ use Rattle.txn_commands.specs.contracts.command.CommandPartialEq.TheImpl as comm
 use Rattle.txn_commands.specs.contracts.command.TxnIdPartialEq.TheImpl as txn_id
 use Rattle.face_rows.specs.contracts.op.OpPartialEq.TheImpl as op
 use Rattle.face_rows.specs.declared.op.Op.{Op}
-use Rattle.lay_calls.specs.contracts.cell_id.CellIdPartialEq.TheImpl as cell
-use Rattle.lay_calls.specs.declared.cell_id.CellId.{CellId}
-use Rattle.lay_calls.specs.declared.cell_id.CellId.TheVariants.{Symbol, Top}
+use Rattle.lay_cells.specs.contracts.cell_id.CellIdPartialEq.TheImpl as cell
+use Rattle.lay_cells.specs.declared.cell_id.CellId.{CellId}
+use Rattle.lay_cells.specs.declared.cell_id.CellId.TheVariants.{Symbol, Top}
 use Rattle.lay_layouts.specs.contracts.id.ItemIdPartialEq.TheImpl as item_id
 use Rattle.lay_layouts.specs.declared.id.ItemId.{ItemId}
 use Rattle.lay_layouts.specs.SameLayout.{id_eq-Decides}

@@ -6,7 +6,3 @@ pub mod Lists
 pub mod Lying
 pub mod Maps
 pub mod Steps
-pub use Rattle.bool_rules.proofs.BooleanLaws
-pub use Rattle.bool_rules.proofs.PathLemmas
-pub use Rattle.bool_rules.proofs.LayoutWalks
-pub use Rattle.bool_rules.proofs.SoundLemmas

@@ -1,8 +1,8 @@
 -- What holds of all commands, of their runs, and of the records between layouts.
 use Rattle.std.specs.Prelude.{◌≡◌, ◌↔◌, ℕ, List, Option, Some, Ok, IsTrue, false}
 use Rattle.std.specs.List.{AllByRecursion}
-use Rattle.lay_calls.specs.declared.cell_id.CellId.{CellId}
-use Rattle.lay_calls.specs.Walks.{Walks}
+use Rattle.lay_cells.specs.declared.cell_id.CellId.{CellId}
+use Rattle.lay_cells.specs.Walks.{Walks}
 use Rattle.lay_layouts.specs.declared.id.ItemId.{ItemId}
 use Rattle.lay_layouts.specs.declared.item.Item as items
 use Rattle.lay_layouts.specs.declared.slot.CellSlot.{CellSlot}

@@ -16,12 +16,3 @@ pub mod Records
 pub mod Refusals
 pub mod Transactions
 pub mod Writing
-pub use Rattle.bool_rules.specs.Booleans
-pub use Rattle.bool_rules.specs.FlatLaws
-pub use Rattle.bool_rules.specs.Op
-pub use Rattle.bool_rules.specs.Shapes
-pub use Rattle.bool_rules.specs.Ends
-pub use Rattle.bool_rules.specs.Flat
-pub use Rattle.bool_rules.specs.Flattening
-pub use Rattle.bool_rules.specs.Graphs
-pub use Rattle.bool_rules.specs.FlatFault

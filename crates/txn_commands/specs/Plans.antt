@@ -5,9 +5,9 @@ use Rattle.std.specs.Prelude.{if◌then◌else◌}
 use Rattle.std.specs.FinMap as map
 use Rattle.std.specs.List.{list_any}
 use Rattle.std.specs.Ordering.{int_eq}
-use Rattle.lay_calls.specs.declared.cell_id.CellId.{CellId}
-use Rattle.lay_calls.specs.declared.cell_id.CellId.TheVariants.{Symbol}
-use Rattle.lay_calls.specs.declared.cells.TheConstants.{MAX_SYMBOL}
+use Rattle.lay_cells.specs.declared.cell_id.CellId.{CellId}
+use Rattle.lay_cells.specs.declared.cell_id.CellId.TheVariants.{Symbol}
+use Rattle.lay_cells.specs.declared.cells.TheConstants.{MAX_SYMBOL}
 use Rattle.lay_point.specs.declared.point.Point.{Point}
 use Rattle.lay_point.specs.declared.ring.RingFault.{RingFault}
 use Rattle.lay_point.specs.declared.ring.RingFault.TheVariants as ring_fault
@@ -18,8 +18,8 @@ use Rattle.lay_layouts.specs.declared.item.Item as items
 use Rattle.lay_layouts.specs.declared.item.Item.TheVariants as item
 use Rattle.lay_layouts.specs.Layout.{Layout, is_cell, item_at}
 use Rattle.lay_layouts.specs.Lent.{shapes_in}
-use Rattle.bool_rules.specs.FlatFault.{FlatFault}
-use Rattle.bool_rules.specs.FlatFault.TheVariants as flat_fault
+use Rattle.lay_flat.specs.declared.fault.FlatFault.{FlatFault}
+use Rattle.lay_flat.specs.declared.fault.FlatFault.TheVariants as flat_fault
 use Rattle.bool_rules.specs.Shapes.{Rings}
 use Rattle.bool_rules.specs.Booleans.{bool_shapes}
 use Rattle.txn_commands.specs.declared.command.Command.{Command}

@@ -3,9 +3,9 @@
 use Rattle.std.specs.Prelude.{ℕ, zero, suc, ◌+◌, List, [], ◌∷◌, ◌++◌, length, Option, None, Some, Bool, if◌then◌else◌}
 use Rattle.std.specs.Prelude.{option_map, unwrap_or}
 use Rattle.std.specs.List.{filter_map, list_any}
-use Rattle.lay_calls.specs.declared.cell_id.CellId.{CellId}
-use Rattle.lay_calls.specs.declared.cell_id.CellId.TheVariants.{Symbol}
-use Rattle.lay_calls.specs.SameCell.{cell_eq}
+use Rattle.lay_cells.specs.declared.cell_id.CellId.{CellId}
+use Rattle.lay_cells.specs.declared.cell_id.CellId.TheVariants.{Symbol}
+use Rattle.lay_cells.specs.SameCell.{cell_eq}
 use Rattle.lay_layouts.specs.Calls.{Call, calls_of}
 use Rattle.lay_layouts.specs.Layout.{Layout}
 

@@ -2,8 +2,8 @@
 ghost use Rattle.std.specs.Prelude.{◌≡◌, IfOk, Ok};
 ghost use Rattle.lay_point.specs.Memory.{IsAnswer};
 
-use bool_rules::Op;
-use lay_calls::CellId;
+use face_rows::Op;
+use lay_cells::CellId;
 use lay_layouts::{Item, ItemId};
 use lay_point::{LayerName, NoMemory, Point, Sequence, Turn};
 use std::alloc::Global;

@@ -4,7 +4,7 @@ ghost use Rattle.std.specs.Cmp.Lexicographic.{slice_cmp};
 ghost use Rattle.std.specs.Ordering.{nat_cmp};
 ghost use Rattle.txn_commands.specs.Elements.{cell_number, cell_rank, element_layer, numbers_of};
 
-use lay_calls::CellId;
+use lay_cells::CellId;
 use lay_layouts::ItemId;
 use lay_point::LayerName;
 use std::cmp::Ordering;

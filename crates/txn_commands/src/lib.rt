@@ -15,7 +15,6 @@ mod element;
 mod fault;
 mod record;
 
-pub use bool_rules::{Op, Snapshot};
 pub use command::{Command, Done, MAX_COMMANDS, TxnId};
 pub use element::Element;
 pub use fault::CmdFault;

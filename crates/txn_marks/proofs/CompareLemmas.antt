@@ -13,10 +13,10 @@ use Rattle.std.specs.List.{AllByRecursion, cons_option, filter_map, list_all}
 use Rattle.std.specs.Ordering.{eq_by_cmp}
 use Rattle.lay_point.specs.Same.{names_eq, names_eq_equiv}
 use Rattle.lay_point.specs.SameTurn.{turn_eq}
-use Rattle.lay_calls.specs.contracts.cell_id.CellIdPartialEq.TheImpl as cell_impl
-use Rattle.lay_calls.specs.declared.cell_id.CellId.{CellId}
-use Rattle.lay_calls.specs.declared.cell_id.CellId.TheVariants.{Symbol, Top}
-use Rattle.lay_calls.specs.SameCell.{cell_eq, cell_eq-Decides}
+use Rattle.lay_cells.specs.contracts.cell_id.CellIdPartialEq.TheImpl as cell_impl
+use Rattle.lay_cells.specs.declared.cell_id.CellId.{CellId}
+use Rattle.lay_cells.specs.declared.cell_id.CellId.TheVariants.{Symbol, Top}
+use Rattle.lay_cells.specs.SameCell.{cell_eq, cell_eq-Decides}
 use Rattle.lay_layouts.specs.contracts.item.ItemPartialEq.TheImpl as item_impl
 use Rattle.lay_layouts.specs.declared.id.ItemId.{ItemId}
 use Rattle.lay_layouts.specs.declared.item.Item as item

@@ -6,6 +6,3 @@ pub mod FewLemmas
 pub mod HomeLemmas
 pub mod SetLemmas
 pub mod TouchLemmas
-pub use Rattle.txn_rules.proofs.Reach
-pub use Rattle.txn_rules.proofs.Rings
-pub use Rattle.txn_rules.proofs.Shifts

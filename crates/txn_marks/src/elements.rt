@@ -2,10 +2,16 @@
 ghost use Rattle.std.specs.Prelude.{[], ◌∷◌, OnOk, map, option_copied};
 ghost use Rattle.std.specs.List.{flat_map};
 ghost use Rattle.txn_commands.specs.Records.{cell_record_of, record_of};
-ghost use Rattle.txn_marks.specs.Homes.{Gathers, cell_homes, content_elements, homes_of, record_homes};
+ghost use Rattle.txn_marks.specs.Homes.{
+  Gathers,
+  cell_homes,
+  content_elements,
+  homes_of,
+  record_homes,
+};
 
 use crate::change::{CellChange, ItemChange};
-use lay_calls::CellId;
+use lay_cells::CellId;
 use lay_layouts::{Item, ItemId};
 use lay_point::NoMemory;
 use txn_commands::Element;

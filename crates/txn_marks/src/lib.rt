@@ -28,5 +28,4 @@ pub use few::Few;
 pub use footprint::Footprint;
 pub use records::Records;
 pub use same::agrees;
-pub use txn_rules::Op;
 pub use writes::Writes;

@@ -1,10 +1,16 @@
 //! Whether what was written lies in an element of a footprint.
 ghost use Rattle.std.specs.Prelude.{◌≡◌, option_copied};
-ghost use Rattle.txn_marks.specs.Met.{are_met, has_content, is_item_met, is_symbol_met, symbols_are_met};
+ghost use Rattle.txn_marks.specs.Met.{
+  are_met,
+  has_content,
+  is_item_met,
+  is_symbol_met,
+  symbols_are_met,
+};
 
 use crate::change::{CellChange, ItemChange};
 use crate::footprint::Footprint;
-use lay_calls::CellId;
+use lay_cells::CellId;
 use lay_layouts::{Item, ItemId};
 use txn_commands::Element;
 

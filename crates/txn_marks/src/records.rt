@@ -3,7 +3,13 @@ ghost use Rattle.std.specs.Prelude.{◌≡◌, IfOk, map};
 ghost use Rattle.std.specs.FinSet as set;
 ghost use Rattle.lay_layouts.specs.Sound.{IsSound};
 ghost use Rattle.txn_commands.specs.Meets.{meets_touched};
-ghost use Rattle.txn_commands.specs.Records.{AreProper, applied, cell_record_of, record_of, reverted};
+ghost use Rattle.txn_commands.specs.Records.{
+  AreProper,
+  applied,
+  cell_record_of,
+  record_of,
+  reverted,
+};
 ghost use Rattle.txn_marks.specs.Homes.{AreMetBy};
 
 use crate::change::{CellChange, ItemChange};
@@ -13,12 +19,13 @@ use crate::footprint::Footprint;
 use crate::met::{items_touch, symbols_touch};
 use crate::values::{item_afters, item_befores, symbol_afters, symbol_befores};
 use crate::writes::Writes;
+use lay_items::Snapshot;
 use lay_layouts::ItemId;
 use lay_point::NoMemory;
 use std::alloc::Global;
 use std::collections::BTreeMap;
 use std::marker::Model;
-use txn_commands::{Element, Snapshot};
+use txn_commands::Element;
 
 /// The records of [`Writes`] that don't grow any more, in lists without room for others: most transactions
 /// write a few items, for which a node of a tree is ten times as large. A sole item stands in place. Contracts

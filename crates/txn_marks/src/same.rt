@@ -9,11 +9,11 @@ ghost use Rattle.txn_commands.specs.Compared.{agrees, entry_eq, lying, same_in};
 ghost use Rattle.txn_commands.specs.Lies.{lies};
 
 use crate::footprint::Footprint;
-use lay_calls::CellId;
-use lay_cell_items::Entries;
+use lay_cells::CellId;
+use lay_items::{Entries, Snapshot};
 use lay_layouts::{Item, ItemId};
 use std::collections::BTreeSet;
-use txn_commands::{Element, Snapshot};
+use txn_commands::Element;
 
 /// Returns whether two layouts have the same in each element of the footprint: then they agree on it.
 ///

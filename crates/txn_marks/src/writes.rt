@@ -14,12 +14,12 @@ ghost use Rattle.txn_marks.specs.WritesOf.{Merges, MergesSymbol};
 
 use crate::change::{CellChange, ItemChange, cell_change, item_change};
 use crate::records::Records;
+use lay_items::Snapshot;
 use lay_layouts::{CellSlot, Item, ItemId};
 use lay_point::NoMemory;
 use std::alloc::Global;
 use std::collections::BTreeMap;
 use std::marker::Model;
-use txn_commands::Snapshot;
 
 /// The items and the symbols that differ between two layouts, with both values. Contracts see the records,
 /// in order of ids and of numbers.

@@ -2,7 +2,7 @@
 use Rattle.std.proofs.Common.{◌≡◌, ◌⊎◌, inl, inr, Bool, true, false, ℕ, List, Result, Ok, Err, refl, sym, ap, ◌∙◌}
 use Rattle.std.specs.Prelude.{if◌then◌else◌}
 use Rattle.lay_point.specs.Memory.{IsAnswer}
-use Rattle.lay_calls.specs.declared.cell_id.CellId.{CellId}
+use Rattle.lay_cells.specs.declared.cell_id.CellId.{CellId}
 use Rattle.lay_layouts.specs.Layout.{Layout}
 use Rattle.lay_flat.specs.declared.fault.FlatFault.{FlatFault}
 use Rattle.lay_flat.specs.declared.fault.FlatFault.TheVariants as flat
@@ -10,9 +10,9 @@ use Rattle.lay_flat.specs.Flat.{FlatRing}
 use Rattle.lay_flat.specs.Flattening.{flat_of, on_success}
 use Rattle.lay_flat.specs.Walked.{Start, walked}
 use Rattle.lay_flat.proofs.Answered.{refused_from}
-use Rattle.txn_marks.specs.Op.{Op}
-use Rattle.layer_ops.specs.Shapes.{Rings, fits, shapes_of}
-use Rattle.txn_marks.specs.Booleans.{bool_shapes, shapes_within}
+use Rattle.face_rows.specs.declared.op.Op.{Op}
+use Rattle.bool_rules.specs.Shapes.{Rings, fits, shapes_of}
+use Rattle.bool_rules.specs.Booleans.{bool_shapes, shapes_within}
 use Rattle.layer_ops.specs.declared.fault.OpFault.{OpFault}
 use Rattle.layer_ops.specs.declared.fault.OpFault.TheVariants as op
 use Rattle.layer_ops.specs.Combining.{combined}

@@ -4,11 +4,11 @@ use Rattle.std.proofs.Common.{reverse, None, Some, unwrap_or, refl, ap, sym, sub
 use Rattle.std.proofs.lemmas.List.{append-nil, length-map, length-reverse, map-append, reverse-append, reverse-reverse}
 use Rattle.std.specs.List.{cons_option}
 use Rattle.std.specs.FinMap.{entries}
-use Rattle.lay_calls.specs.declared.cell_id.CellId.{CellId}
-use Rattle.lay_calls.specs.declared.cell_id.CellId.TheVariants.{Symbol, Top}
-use Rattle.lay_calls.specs.SameCell.{cell_eq}
-use Rattle.lay_calls.specs.Symbols.{has_symbol}
-use Rattle.lay_calls.proofs.GraphLemmas.{cells_swapped, has_more}
+use Rattle.lay_cells.specs.declared.cell_id.CellId.{CellId}
+use Rattle.lay_cells.specs.declared.cell_id.CellId.TheVariants.{Symbol, Top}
+use Rattle.lay_cells.specs.SameCell.{cell_eq}
+use Rattle.lay_cells.specs.Symbols.{has_symbol}
+use Rattle.lay_cells.proofs.GraphLemmas.{cells_swapped, has_more}
 use Rattle.lay_layouts.specs.declared.id.ItemId.{ItemId}
 use Rattle.lay_layouts.specs.declared.item.Item.{Item}
 use Rattle.lay_layouts.specs.declared.item.Item.TheVariants.{Placed, Shape}
@@ -17,9 +17,9 @@ use Rattle.lay_layouts.specs.Items.{items_in, standing_in}
 use Rattle.lay_layouts.specs.Layout.{Layout}
 use Rattle.lay_layouts.specs.Lent.{calls_in, calls_lent}
 use Rattle.txn_commands.specs.Reach.{explored, is_among, reached, targets}
-use Rattle.txn_marks.proofs.Reach.{Goes, calls_left, calls_left-entered, calls_left-none}
-use Rattle.txn_marks.proofs.Reach.{ends, goes_on, one_answer, reached-found}
-use Rattle.txn_marks.proofs.Reach.Goes.{entered, passed}
+use Rattle.txn_rules.proofs.Reach.{Goes, calls_left, calls_left-entered, calls_left-none}
+use Rattle.txn_rules.proofs.Reach.{ends, goes_on, one_answer, reached-found}
+use Rattle.txn_rules.proofs.Reach.Goes.{entered, passed}
 use Rattle.txn_plans.specs.Searching.{called_by, called_in, cells_from, first_in, search_target, searched, symbols_from}
 
 -- the symbols called in a cell are the targets of the calls that are lent

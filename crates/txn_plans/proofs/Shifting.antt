@@ -17,7 +17,7 @@ use Rattle.lay_point.specs.Rings.{kept_behind, opened, opened_behind, ring_of, w
 use Rattle.lay_point.specs.Same.{point_eq-Decides}
 use Rattle.lay_point.specs.Turns.{shifted, turned, within_range}
 use Rattle.txn_commands.specs.Figures.{are_in_range, shifted_rings}
-use Rattle.txn_marks.proofs.Shifts.{ring_moved}
+use Rattle.txn_rules.proofs.Shifts.{ring_moved}
 use Rattle.txn_plans.specs.Moving.{ring_fits, rings_fit}
 
 -- the lesser of two different numbers is below the greater

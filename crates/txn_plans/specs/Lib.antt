@@ -4,4 +4,3 @@ pub mod Searching
 pub mod Seeing
 pub mod Shaping
 pub mod Using
-pub use Rattle.txn_marks.specs.Coded

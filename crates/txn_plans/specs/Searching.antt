@@ -1,8 +1,8 @@
 -- The search for the symbols to which calls lead: each is entered once, the first that is pending first.
 use Rattle.std.specs.Prelude.{ℕ, zero, suc, ◌+◌, List, [], ◌∷◌, ◌++◌, length, map, Option, None, Some, if◌then◌else◌, unwrap_or}
-use Rattle.lay_calls.specs.declared.cell_id.CellId.{CellId}
-use Rattle.lay_calls.specs.declared.cell_id.CellId.TheVariants.{Symbol, Top}
-use Rattle.lay_calls.specs.Symbols.{has_symbol}
+use Rattle.lay_cells.specs.declared.cell_id.CellId.{CellId}
+use Rattle.lay_cells.specs.declared.cell_id.CellId.TheVariants.{Symbol, Top}
+use Rattle.lay_cells.specs.Symbols.{has_symbol}
 use Rattle.lay_layouts.specs.Calls.{calls_of}
 use Rattle.lay_layouts.specs.Layout.{Layout}
 use Rattle.lay_layouts.specs.Lent.{LentCall, calls_in}

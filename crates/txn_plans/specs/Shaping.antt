@@ -4,7 +4,7 @@ use Rattle.std.specs.Global.{Vec}
 use Rattle.lay_point.specs.declared.ring.Ring.{Ring}
 use Rattle.lay_flat.specs.declared.fault.FlatFault.{FlatFault}
 use Rattle.lay_flat.specs.declared.fault.FlatFault.TheVariants as flat
-use Rattle.layer_ops.specs.Shapes.{Rings}
+use Rattle.bool_rules.specs.Shapes.{Rings}
 use Rattle.layer_ops.specs.declared.fault.OpFault.{OpFault}
 use Rattle.layer_ops.specs.declared.fault.OpFault.TheVariants as op
 use Rattle.txn_commands.specs.declared.fault.CmdFault.{CmdFault}

@@ -2,7 +2,13 @@
 ghost use Rattle.std.specs.Prelude.{◌≡◌, [], ◌∷◌, IfOk, List, None};
 ghost use Rattle.txn_commands.specs.declared.element.Element as elements;
 ghost use Rattle.txn_commands.specs.declared.element.Element.TheVariants.{Item as ItemElement};
-ghost use Rattle.txn_commands.specs.Acts.{change_act, drop_cell_act, look_act, make_act, make_cell_act};
+ghost use Rattle.txn_commands.specs.Acts.{
+  change_act,
+  drop_cell_act,
+  look_act,
+  make_act,
+  make_cell_act,
+};
 ghost use Rattle.txn_commands.specs.Writing.{rewritten};
 
 use lay_items::Version;

@@ -9,22 +9,23 @@ ghost use Rattle.txn_commands.specs.declared.element.Element.TheVariants.{Layer}
 ghost use Rattle.txn_commands.specs.Plans.{fault_of_flat, plan, shape_ids};
 ghost use Rattle.txn_commands.specs.Reach.{reached};
 ghost use Rattle.lay_flat.specs.declared.fault.FlatFault.TheVariants as flat_fault;
-ghost use Rattle.txn_marks.specs.Booleans.{bool_shapes};
+ghost use Rattle.bool_rules.specs.Booleans.{bool_shapes};
 ghost use Rattle.txn_plans.specs.Shaping.{command_result, fault_of_op, lists_in, points_of};
 
 use crate::act::{Act, Written};
 use crate::calls::cells_from;
 use crate::seen::Seen;
-use lay_calls::CellId;
+use band_workers::Bands;
+use face_rows::Op;
+use lay_cells::CellId;
 use lay_flat::{FlatFault, Walks};
 use lay_items::Snapshot;
 use lay_layouts::{Item, ItemId, Rings};
 use lay_point::{LayerName, NoMemory, Ring};
-use layer_ops::{Bands, OpFault, combine};
+use layer_ops::{OpFault, combine};
 use std::alloc::Global;
 use std::thread::Threads;
 use txn_commands::{CmdFault, Done, Element};
-use txn_marks::Op;
 
 /// What a Boolean is asked: the operation, the cell, the layers of both inputs, and that of the shapes.
 #[derive(Clone, Copy)]

@@ -2,7 +2,7 @@
 ghost use Rattle.std.specs.Prelude.{◌≡◌, ◌++◌, IfOk, OnOk, map, reverse};
 ghost use Rattle.txn_commands.specs.declared.element.Element.TheVariants.{Calls};
 ghost use Rattle.lay_point.specs.Memory.{IsAnswer};
-ghost use Rattle.lay_calls.specs.declared.cell_id.CellId.TheVariants.{Symbol};
+ghost use Rattle.lay_cells.specs.declared.cell_id.CellId.TheVariants.{Symbol};
 ghost use Rattle.txn_commands.specs.declared.command.Command.TheVariants as command;
 ghost use Rattle.txn_commands.specs.Acts.{place_act};
 ghost use Rattle.txn_commands.specs.Plans.{plan};
@@ -11,7 +11,7 @@ ghost use Rattle.txn_plans.specs.Searching.{called_in, first_in, symbols_from, t
 
 use crate::act::{Act, make_act};
 use crate::seen::Seen;
-use lay_calls::{CellId, Cells};
+use lay_cells::{CellId, Cells};
 use lay_items::Snapshot;
 use lay_layouts::{Item, ItemId};
 use lay_point::{NoMemory, Turn};

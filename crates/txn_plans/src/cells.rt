@@ -7,7 +7,7 @@ ghost use Rattle.txn_plans.specs.Using.{is_use};
 
 use crate::act::{Act, drop_cell_act, make_cell_act};
 use crate::seen::Seen;
-use lay_calls::{CellId, MAX_SYMBOL};
+use lay_cells::{CellId, MAX_SYMBOL};
 use lay_items::Snapshot;
 use lay_layouts::{Item, ItemId};
 use std::alloc::Global;

@@ -11,7 +11,7 @@ ghost use Rattle.txn_plans.specs.Moving.{item_moved, ring_moved, rings_moved};
 
 use crate::act::{Act, change_act, look_act};
 use crate::seen::Seen;
-use lay_calls::CellId;
+use lay_cells::CellId;
 use lay_layouts::{Item, ItemId, Rings};
 use lay_point::{LayerName, NoMemory, Point, Quarter, Ring, RingFault, Turn};
 use std::alloc::Global;

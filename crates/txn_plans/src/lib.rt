@@ -18,7 +18,5 @@ mod seen;
 mod shapes;
 
 pub use act::{Act, Written};
-pub use layer_ops::Bands;
 pub use planning::plan;
 pub use seen::Seen;
-pub use txn_marks::{Footprint, Writes, agrees};

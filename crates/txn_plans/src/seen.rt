@@ -6,7 +6,7 @@ ghost use Rattle.lay_layouts.specs.Sound.{IsSound};
 ghost use Rattle.txn_commands.specs.Records.{applied};
 ghost use Rattle.txn_plans.specs.Seeing.{Overlays};
 
-use lay_calls::CellId;
+use lay_cells::CellId;
 use lay_items::Snapshot;
 use lay_layouts::{CellSlot, Item, ItemId};
 use lay_point::NoMemory;

@@ -10,7 +10,7 @@ ghost use Rattle.txn_commands.specs.Plans.{fault_of_ring, plan};
 
 use crate::act::{Act, make_act};
 use crate::seen::Seen;
-use lay_calls::CellId;
+use lay_cells::CellId;
 use lay_layouts::{Item, ItemId, Rings};
 use lay_point::{LayerName, NoMemory, Point, Ring, RingFault};
 use std::alloc::Global;

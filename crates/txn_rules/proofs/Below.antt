@@ -6,13 +6,13 @@ use Rattle.std.specs.List.{AllByRecursion, cons_option, filter_map, flat_map}
 use Rattle.std.proofs.lemmas.Bool.Decides.{same_from_decides}
 use Rattle.std.proofs.lemmas.Slice.Eq.{bytes_eq-Decides}
 use Rattle.lay_point.specs.Same.{names_eq}
-use Rattle.lay_calls.specs.declared.cell_id.CellId.{CellId}
-use Rattle.lay_calls.specs.declared.cell_id.CellId.TheVariants.{Symbol}
-use Rattle.lay_calls.specs.SameCell.{cell_eq}
-use Rattle.lay_calls.specs.WalkLists.{IsWalk}
-use Rattle.lay_calls.specs.Walks.{Walks}
-use Rattle.lay_calls.specs.Walks.Walks.{goes, stays}
-use Rattle.lay_calls.proofs.GraphLemmas.{cells_swapped}
+use Rattle.lay_cells.specs.declared.cell_id.CellId.{CellId}
+use Rattle.lay_cells.specs.declared.cell_id.CellId.TheVariants.{Symbol}
+use Rattle.lay_cells.specs.SameCell.{cell_eq}
+use Rattle.lay_cells.specs.WalkLists.{IsWalk}
+use Rattle.lay_cells.specs.Walks.{Walks}
+use Rattle.lay_cells.specs.Walks.Walks.{goes, stays}
+use Rattle.lay_cells.proofs.GraphLemmas.{cells_swapped}
 use Rattle.lay_cells.proofs.AcyclicLemmas.{stands}
 use Rattle.lay_layouts.specs.declared.id.ItemId.{ItemId}
 use Rattle.lay_layouts.specs.declared.item.Item as items
@@ -22,11 +22,11 @@ use Rattle.lay_layouts.specs.IdOrder.{ids_exact, ids_total}
 use Rattle.lay_layouts.specs.Items.{cell_of, items_in, standing_in}
 use Rattle.lay_layouts.specs.Layout.{Layout}
 use Rattle.lay_layouts.specs.Lent.{LentCall, calls_in, calls_lent, shape_on, shapes_among, shapes_in}
-use Rattle.txn_commands.specs.Ends.{end_of, target_of}
-use Rattle.txn_commands.specs.Graphs.{in_graph}
-use Rattle.txn_commands.proofs.LayoutWalks.{standing-lent}
-use Rattle.txn_commands.proofs.PathLemmas.{Contains-map}
-use Rattle.txn_commands.specs.FlatLaws.{HaveSameBelow}
+use Rattle.lay_flat.specs.Ends.{end_of, target_of}
+use Rattle.lay_items.specs.Graphs.{in_graph}
+use Rattle.lay_flat.proofs.LayoutWalks.{standing-lent}
+use Rattle.snap_chains.proofs.PathLemmas.{Contains-map}
+use Rattle.lay_flat.specs.Laws.{HaveSameBelow}
 use Rattle.txn_commands.specs.declared.element.Element.TheVariants.{Calls, Layer}
 use Rattle.txn_commands.specs.Acts.{cell_elements, operands}
 use Rattle.txn_commands.specs.Agreement.{Agree, AgreeOnEach}

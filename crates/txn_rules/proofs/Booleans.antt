@@ -7,7 +7,7 @@ use Rattle.std.specs.List.{AllByRecursion}
 use Rattle.std.proofs.lemmas.Bool.{or_left, or_right}
 use Rattle.std.specs.Cmp.{eq_by_cmp_equiv}
 use Rattle.std.specs.Ordering.{eq_by_cmp}
-use Rattle.lay_calls.specs.declared.cell_id.CellId.{CellId}
+use Rattle.lay_cells.specs.declared.cell_id.CellId.{CellId}
 use Rattle.lay_point.specs.declared.point.Point.{Point}
 use Rattle.lay_layouts.specs.declared.id.ItemId.{ItemId}
 use Rattle.lay_layouts.specs.declared.item.Item as items
@@ -15,14 +15,14 @@ use Rattle.lay_layouts.specs.declared.item.Item.TheVariants.{Shape}
 use Rattle.lay_layouts.specs.IdOrder.{ids_exact, ids_total}
 use Rattle.lay_layouts.specs.Layout.{Layout, Write, is_cell, item_at}
 use Rattle.lay_layouts.specs.Sound.{IsDrawn, IsSound}
-use Rattle.txn_commands.specs.FlatFault.{FlatFault}
-use Rattle.txn_commands.specs.FlatFault.TheVariants.{NoCell}
-use Rattle.txn_commands.specs.Flat.{FlatRing}
-use Rattle.txn_commands.specs.Flattening.{ends_of, flat_at, flat_of, on_success, rings_at, tested}
-use Rattle.txn_commands.specs.Op.{Op}
-use Rattle.txn_commands.specs.Shapes.{Rings}
-use Rattle.txn_commands.specs.Booleans.{bool_shapes, shapes_within}
-use Rattle.txn_commands.proofs.BooleanLaws.{booleans_read}
+use Rattle.lay_flat.specs.declared.fault.FlatFault.{FlatFault}
+use Rattle.lay_flat.specs.declared.fault.FlatFault.TheVariants.{NoCell}
+use Rattle.lay_flat.specs.Flat.{FlatRing}
+use Rattle.lay_flat.specs.Flattening.{ends_of, flat_at, flat_of, on_success, rings_at, tested}
+use Rattle.face_rows.specs.declared.op.Op.{Op}
+use Rattle.bool_rules.specs.Shapes.{Rings}
+use Rattle.bool_rules.specs.Booleans.{bool_shapes, shapes_within}
+use Rattle.bool_rules.proofs.BooleanLaws.{booleans_read}
 use Rattle.txn_commands.specs.declared.command.Command.TheVariants.{Bool as Combine}
 use Rattle.txn_commands.specs.declared.element.Element.{Element}
 use Rattle.txn_commands.specs.declared.element.Element.TheVariants.{Calls, Item, Layer}

@@ -2,13 +2,13 @@
 use Rattle.std.proofs.Common.{◌≡◌, inl, inr, ℕ, zero, suc, ◌+◌, ◌≤◌, List, [], ◌∷◌}
 use Rattle.std.proofs.Common.{◌++◌, length, None, Some, refl, ap, sym, subst, ◌∙◌, arith}
 use Rattle.std.specs.List.{AllByRecursion}
-use Rattle.lay_calls.specs.declared.cell_id.CellId.{CellId}
+use Rattle.lay_cells.specs.declared.cell_id.CellId.{CellId}
 use Rattle.lay_layouts.specs.declared.id.ItemId.{ItemId}
 use Rattle.lay_layouts.specs.declared.item.Item as items
 use Rattle.lay_layouts.specs.declared.item.Item.TheVariants.{Placed, Shape}
 use Rattle.lay_layouts.specs.IdOrder.{ids_exact, ids_total}
 use Rattle.lay_layouts.specs.Layout.{Layout, item_at}
-use Rattle.txn_commands.specs.Shapes.{Rings}
+use Rattle.bool_rules.specs.Shapes.{Rings}
 use Rattle.txn_commands.specs.declared.command.Command.{Command}
 use Rattle.txn_commands.specs.declared.command.Done.{Done}
 use Rattle.txn_commands.specs.declared.command.TxnId.{TxnId}

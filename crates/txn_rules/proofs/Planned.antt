@@ -6,9 +6,9 @@ use Rattle.std.proofs.lemmas.Bool.Decides.{Decides-int_eq, not_from_Decides}
 use Rattle.std.specs.Cmp.{eq_by_cmp_equiv}
 use Rattle.std.specs.FinMap.{get}
 use Rattle.std.specs.Ordering.{eq_by_cmp, int_eq}
-use Rattle.lay_calls.specs.declared.cell_id.CellId.{CellId}
-use Rattle.lay_calls.specs.declared.cell_id.CellId.TheVariants.{Symbol}
-use Rattle.lay_calls.specs.declared.cells.TheConstants.{MAX_SYMBOL}
+use Rattle.lay_cells.specs.declared.cell_id.CellId.{CellId}
+use Rattle.lay_cells.specs.declared.cell_id.CellId.TheVariants.{Symbol}
+use Rattle.lay_cells.specs.declared.cells.TheConstants.{MAX_SYMBOL}
 use Rattle.lay_point.specs.declared.point.Point.{Point}
 use Rattle.lay_point.specs.declared.turn.Turn.{Turn}
 use Rattle.lay_point.specs.Points.{is_in_range}
@@ -34,9 +34,9 @@ use Rattle.txn_commands.specs.declared.element.Element.{Element}
 use Rattle.txn_commands.specs.declared.element.Element.TheVariants.{Calls, Cell, Content, Item, Uses}
 use Rattle.txn_commands.specs.declared.fault.CmdFault.{CmdFault}
 use Rattle.txn_commands.specs.declared.fault.CmdFault.TheVariants.{CellThere, CellUsed, FewPoints, NoCell, NoItem, OutOfRange}
-use Rattle.txn_commands.specs.Op.{Op}
-use Rattle.txn_commands.specs.Shapes.{Rings}
-use Rattle.txn_commands.specs.Booleans.{bool_shapes}
+use Rattle.face_rows.specs.declared.op.Op.{Op}
+use Rattle.bool_rules.specs.Shapes.{Rings}
+use Rattle.bool_rules.specs.Booleans.{bool_shapes}
 use Rattle.txn_commands.specs.Acts.{Act, bool_act, cell_elements, change_act, drop_cell_act}
 use Rattle.txn_commands.specs.Acts.{look_act, make_act, make_cell_act, shape_act}
 use Rattle.txn_commands.specs.Covers.{IsCovered, has}

@@ -4,9 +4,9 @@ use Rattle.std.proofs.Common.{Result, Ok, Err, nat_lt, refl, ap, sym, subst, ◌
 use Rattle.std.proofs.lemmas.Bool.{not-false, or_cases}
 use Rattle.std.specs.FinMap.{entries, get}
 use Rattle.std.specs.Ordering.{int_eq}
-use Rattle.lay_calls.specs.declared.cell_id.CellId.{CellId}
-use Rattle.lay_calls.specs.declared.cell_id.CellId.TheVariants.{Symbol}
-use Rattle.lay_calls.specs.declared.cells.TheConstants.{MAX_SYMBOL}
+use Rattle.lay_cells.specs.declared.cell_id.CellId.{CellId}
+use Rattle.lay_cells.specs.declared.cell_id.CellId.TheVariants.{Symbol}
+use Rattle.lay_cells.specs.declared.cells.TheConstants.{MAX_SYMBOL}
 use Rattle.lay_point.specs.declared.point.Point.{Point}
 use Rattle.lay_point.specs.declared.ring.RingFault.{RingFault}
 use Rattle.lay_point.specs.declared.turn.Turn.{Turn}

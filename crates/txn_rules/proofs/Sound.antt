@@ -7,12 +7,12 @@ use Rattle.std.specs.List.{AllByRecursion}
 use Rattle.std.specs.Cmp.{nat_cmp_total}
 use Rattle.std.specs.FinMap.{get, nat_cmp-IsAntisymmetric}
 use Rattle.std.specs.Ordering.{eq_by_cmp, nat_cmp}
-use Rattle.lay_calls.specs.declared.cell_id.CellId.{CellId}
-use Rattle.lay_calls.specs.declared.cell_id.CellId.TheVariants.{Symbol, Top}
-use Rattle.lay_calls.specs.declared.cells.TheConstants.{MAX_SYMBOL}
-use Rattle.lay_calls.specs.SameCell.{cell_eq}
-use Rattle.lay_calls.specs.Walks.{IsAcyclic}
-use Rattle.lay_calls.proofs.FewerCalls.{AreAmong, IsAcyclic-fewer}
+use Rattle.lay_cells.specs.declared.cell_id.CellId.{CellId}
+use Rattle.lay_cells.specs.declared.cell_id.CellId.TheVariants.{Symbol, Top}
+use Rattle.lay_cells.specs.declared.cells.TheConstants.{MAX_SYMBOL}
+use Rattle.lay_cells.specs.SameCell.{cell_eq}
+use Rattle.lay_cells.specs.Walks.{IsAcyclic}
+use Rattle.lay_cells.proofs.FewerCalls.{AreAmong, IsAcyclic-fewer}
 use Rattle.lay_point.specs.declared.point.Point.{Point}
 use Rattle.lay_point.specs.declared.turn.Turn.{Turn}
 use Rattle.lay_point.specs.Points.{is_in_range}
@@ -26,15 +26,15 @@ use Rattle.lay_layouts.specs.IdOrder.{ids_exact, ids_total}
 use Rattle.lay_layouts.specs.Items.{cell_of}
 use Rattle.lay_layouts.specs.Layout.{Layout, Write, is_cell, item_at}
 use Rattle.lay_layouts.specs.Sound.{IsSound, IsSoundItem}
-use Rattle.txn_commands.proofs.SoundLemmas.{one_ring}
+use Rattle.lay_items.proofs.SoundLemmas.{one_ring}
 use Rattle.txn_commands.specs.declared.command.Command.{Command}
 use Rattle.txn_commands.specs.declared.command.Done.{Done}
 use Rattle.txn_commands.specs.declared.command.TxnId.{TxnId}
 use Rattle.txn_commands.specs.declared.element.Element.TheVariants.{Content, Uses}
-use Rattle.txn_commands.specs.Op.{Op}
-use Rattle.txn_commands.specs.Shapes.{Rings}
-use Rattle.txn_commands.specs.Booleans.{bool_shapes}
-use Rattle.txn_commands.proofs.BooleanLaws.{booleans_are_drawn}
+use Rattle.face_rows.specs.declared.op.Op.{Op}
+use Rattle.bool_rules.specs.Shapes.{Rings}
+use Rattle.bool_rules.specs.Booleans.{bool_shapes}
+use Rattle.bool_rules.proofs.BooleanLaws.{booleans_are_drawn}
 use Rattle.txn_commands.specs.Acts.{Act, new_shapes, removals}
 use Rattle.txn_commands.specs.Effects.{Run, after_each, next_id}
 use Rattle.txn_commands.specs.Figures.{is_item_in_range, moved}

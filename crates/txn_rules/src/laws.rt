@@ -1,7 +1,24 @@
 //! What holds of all commands, of their runs and of the records between layouts, as calls that do nothing.
-ghost use Rattle.txn_commands.specs.Laws.{ChangesMerge, Frame, LeadersApply, PlansAreCovered, PlansAreLocal};
-ghost use Rattle.txn_commands.specs.Laws.{ReachedAreWalks, RecordsAreOne, RecordsComeOut, RecordsGoPast, RecordsKeepAgreement};
-ghost use Rattle.txn_commands.specs.Laws.{RecordsLead, RunsKeepSound, RunsLeaveAlone, RunsMakeTheirOwn};
+ghost use Rattle.txn_commands.specs.Laws.{
+  ChangesMerge,
+  Frame,
+  LeadersApply,
+  PlansAreCovered,
+  PlansAreLocal,
+};
+ghost use Rattle.txn_commands.specs.Laws.{
+  ReachedAreWalks,
+  RecordsAreOne,
+  RecordsComeOut,
+  RecordsGoPast,
+  RecordsKeepAgreement,
+};
+ghost use Rattle.txn_commands.specs.Laws.{
+  RecordsLead,
+  RunsKeepSound,
+  RunsLeaveAlone,
+  RunsMakeTheirOwn,
+};
 ghost use Rattle.txn_commands.specs.Laws.{SlotChangesMerge, UnmetIsKept};
 
 /// A command does the same on all sound layouts in which what it touches is the same, and touches what it

@@ -13,6 +13,3 @@
 mod laws;
 
 pub use laws::{commands_have_laws, records_have_laws, runs_have_laws};
-pub use txn_commands::{
-    CellRecord, CmdFault, Command, Done, Element, MAX_COMMANDS, Op, Record, TxnId,
-};

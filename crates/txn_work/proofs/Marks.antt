@@ -8,7 +8,7 @@ use Rattle.txn_commands.specs.declared.element.Element.{Element}
 use Rattle.txn_commands.specs.Covers.{has}
 use Rattle.txn_commands.specs.Elements.{Touched, element_cmp, elements_exact, elements_total, with_elements}
 use Rattle.txn_rules.proofs.Runs.{contains-with}
-use Rattle.txn_plans.proofs.SetLemmas.{element_eq-Decides}
+use Rattle.txn_marks.proofs.SetLemmas.{element_eq-Decides}
 use Rattle.txn_work.specs.Marking.{HasNone, missing_in, without_elements}
 
 same_elements : (s t : Touched) → ((e : Element) → contains s e ≡ contains t e) → s ≡ t

@@ -2,7 +2,7 @@
 use Rattle.std.specs.Prelude.{[], ◌∷◌, ◌++◌, Result, Ok, Err, unwrap_or, refl, List, ℕ}
 use Rattle.std.specs.Coded.{Coded, code_by, coded×, coded_list, coded_ℕ}
 use Rattle.lay_layouts.specs.Layout.{Layout, coded_layout}
-use Rattle.txn_plans.specs.Coded.{coded_records}
+use Rattle.txn_marks.specs.Coded.{coded_records}
 use Rattle.txn_commands.specs.contracts.command.Command as command
 use Rattle.txn_commands.specs.contracts.command.TxnId as txn_id
 use Rattle.txn_commands.specs.declared.command.Command.{Command}

@@ -1,3 +1,3 @@
 pub mod Answers
-pub mod Works
 pub mod Marking
+pub mod Works

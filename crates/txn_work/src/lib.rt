@@ -21,6 +21,4 @@
 mod marking;
 mod work;
 
-pub use txn_plans::{Bands, Footprint, Writes, agrees};
-pub use txn_rules::{CellRecord, CmdFault, Command, Done, Element, MAX_COMMANDS, Record, TxnId};
 pub use work::Work;

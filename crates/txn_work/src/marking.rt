@@ -12,7 +12,8 @@ use lay_layouts::{Item, ItemId};
 use lay_point::NoMemory;
 use std::alloc::Global;
 use txn_commands::Element;
-use txn_plans::{Footprint, Writes, Written};
+use txn_marks::{Footprint, Writes};
+use txn_plans::Written;
 
 /// Adds the elements to the footprint, and writes what is written over the snapshot. Where an allocation
 /// fails both stay as they were.

@@ -11,6 +11,7 @@ ghost use Rattle.txn_commands.specs.Writing.{rewritten};
 ghost use Rattle.txn_work.specs.Answers.{after_command, answer_to, run_so_far};
 
 use crate::marking::mark;
+use band_workers::Bands;
 use lay_items::Snapshot;
 use lay_layouts::{Item, ItemId};
 use lay_point::{NoMemory, Sequence};
@@ -18,7 +19,8 @@ use std::alloc::Global;
 use std::marker::Model;
 use std::thread::Threads;
 use txn_commands::{CmdFault, Command, Done, MAX_COMMANDS, TxnId};
-use txn_plans::{Act, Bands, Footprint, Seen, Writes, plan};
+use txn_marks::{Footprint, Writes};
+use txn_plans::{Act, Seen, plan};
 
 /// A transaction on a snapshot: its accepted commands, what they wrote and what they touched. It keeps in
 /// its type that its writes and its footprint are those of its commands, run on its snapshot.

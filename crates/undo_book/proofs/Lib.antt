@@ -1,4 +1,13 @@
+pub mod ChangeLemmas
+pub mod CommitLemmas
+pub mod FoundLemmas
+pub mod IndexLemmas
+pub mod IndexedLemmas
+pub mod MovedLemmas
 pub mod NameLemmas
+pub mod PlaceLemmas
 pub mod SameLemmas
 pub mod SinceLemmas
-pub use Rattle.undo_entries.proofs.CommitLemmas
+pub mod SoundLemmas
+pub mod StaleLemmas
+pub mod UndoLemmas

@@ -11,13 +11,13 @@ use Rattle.txn_commands.specs.declared.command.TxnId.{TxnId}
 use Rattle.txn_commands.specs.Elements.{Touched}
 use Rattle.txn_commands.specs.Lies.{passes}
 use Rattle.txn_commands.specs.Meets.{some_meets}
-use Rattle.undo_entries.proofs.AnyLemmas.{any_alike, any_none}
+use Rattle.txn_marks.proofs.AnyLemmas.{any_alike, any_none}
 use Rattle.undo_rules.specs.Links.{Entry, links_to}
-use Rattle.undo_entries.specs.First.{has_place}
-use Rattle.undo_entries.specs.Listed.{Listed, is_listed}
-use Rattle.undo_entries.proofs.ApartLemmas.{above, below_all, further}
-use Rattle.undo_entries.specs.Indexed.{Lists, is_linked, name_at, wrote}
-use Rattle.undo_entries.proofs.IndexedLemmas.{any_live}
+use Rattle.undo_index.specs.First.{has_place}
+use Rattle.undo_index.specs.Listed.{Listed, is_listed}
+use Rattle.undo_index.proofs.ApartLemmas.{above, below_all, further}
+use Rattle.undo_book.specs.Indexed.{Lists, is_linked, name_at, wrote}
+use Rattle.undo_book.proofs.IndexedLemmas.{any_live}
 
 -- ---- rising places
 

@@ -2,12 +2,12 @@
 use Rattle.std.proofs.Common.{◌≡◌, List, sym, ap, subst}
 use Rattle.undo_rules.specs.Books.{History, IsHistory}
 use Rattle.undo_rules.specs.Links.{Entry}
-use Rattle.undo_entries.specs.Listed.{Listed}
+use Rattle.undo_index.specs.Listed.{Listed}
 use Rattle.undo_book.specs.declared.book.Book.TheInside.{Inside}
 use Rattle.undo_book.specs.Books.{IsBook, history_of}
-use Rattle.undo_entries.specs.Indexed.{AreIndexed}
-use Rattle.undo_entries.specs.Places.{AreTheirPlaces}
-use Rattle.undo_entries.proofs.ChangeLemmas.{same_lists}
+use Rattle.undo_book.specs.Indexed.{AreIndexed}
+use Rattle.undo_book.specs.Places.{AreTheirPlaces}
+use Rattle.undo_book.proofs.ChangeLemmas.{same_lists}
 use Rattle.undo_book.proofs.SinceLemmas.{same_commits}
 
 same_index : {v w r s : Listed} {es fs : List Entry} → v ≡ w → s ≡ r → fs ≡ es → AreIndexed w r es → AreIndexed v s fs

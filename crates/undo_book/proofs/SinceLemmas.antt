@@ -11,14 +11,15 @@ use Rattle.txn_commands.specs.declared.command.TxnId.{TxnId}
 use Rattle.txn_commands.specs.Elements.{Touched}
 use Rattle.undo_rules.specs.declared.log.Logged.{Logged}
 use Rattle.undo_rules.specs.Books.{changed_in, writes_of}
-use Rattle.undo_rules.specs.Links.{Entry, marked, meets_touched, txn_eq}
+use Rattle.undo_rules.specs.Links.{Entry, marked, txn_eq}
+use Rattle.txn_commands.specs.Meets.{meets_touched}
 use Rattle.undo_rules.specs.Steps.{remarked, stale_by, stale_first, touching}
 use Rattle.undo_rules.proofs.EqualLinks.{txn_eq-same}
-use Rattle.undo_entries.specs.Changes.{AreChanges, AreCommits, is_of, kept_at, last_change, or_first}
-use Rattle.undo_entries.specs.Indexed.{is_linked}
-use Rattle.undo_entries.specs.Places.{place_of}
-use Rattle.undo_entries.proofs.FoundLemmas.{get_within}
-use Rattle.undo_entries.proofs.PlaceLemmas.{entry_there, place_within}
+use Rattle.undo_book.specs.Changes.{AreChanges, AreCommits, is_of, kept_at, last_change, or_first}
+use Rattle.undo_book.specs.Indexed.{is_linked}
+use Rattle.undo_book.specs.Places.{place_of}
+use Rattle.undo_book.proofs.FoundLemmas.{get_within}
+use Rattle.undo_book.proofs.PlaceLemmas.{entry_there, place_within}
 
 -- ---- lists
 

@@ -1,9 +1,9 @@
 -- What contracts see of a book, and what it keeps.
 use Rattle.undo_rules.specs.Books.{History, IsHistory}
 use Rattle.undo_book.specs.declared.book.Book.TheInside.{Inside}
-use Rattle.undo_entries.specs.Changes.{AreChanges, AreCommits}
-use Rattle.undo_entries.specs.Indexed.{AreIndexed}
-use Rattle.undo_entries.specs.Places.{AreTheirPlaces}
+use Rattle.undo_book.specs.Changes.{AreChanges, AreCommits}
+use Rattle.undo_book.specs.Indexed.{AreIndexed}
+use Rattle.undo_book.specs.Places.{AreTheirPlaces}
 
 -- a book as its history
 abbrev pub history_of : Inside → History

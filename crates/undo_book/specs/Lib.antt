@@ -1,6 +1,8 @@
-pub mod Calls
 pub mod Books
-pub use Rattle.undo_entries.specs.Coded
-pub use Rattle.undo_entries.specs.Replays
-pub use Rattle.undo_entries.specs.Answers
-pub use Rattle.undo_entries.specs.Marks
+pub mod Calls
+pub mod Changes
+pub mod Coded
+pub mod Indexed
+pub mod Marks
+pub mod Places
+pub mod Replays

@@ -2,14 +2,17 @@
 ghost use Rattle.std.specs.Prelude.{◌≡◌, ◌≤◌, OnErr, OnOk, Ok, Some};
 ghost use Rattle.lay_point.specs.Memory.{IsAnswer};
 ghost use Rattle.undo_rules.specs.Steps.{fresh, is_log_full, logged};
-ghost use Rattle.undo_entries.specs.Replays.{replay};
+ghost use Rattle.undo_book.specs.Replays.{replay};
 
+use crate::changes::Changes;
+use crate::entry::Entry;
+use crate::session::{SessionState, unused_sessions};
 use lay_items::Snapshot;
 use lay_point::NoMemory;
 use std::alloc::Global;
 use std::collections::BTreeMap;
 use std::marker::Model;
-use undo_entries::{Changes, Entry, Index, SessionState, unused_sessions};
+use undo_index::Index;
 use undo_rules::{Answer, BookFault, Call, Logged};
 
 /// The most calls that a book logs.
@@ -38,7 +41,7 @@ pub struct Book {
 impl Model for Book {
     ghost use Rattle.undo_rules.specs.Books.{History};
     ghost use Rattle.undo_book.specs.Books.{IsBook, history_of};
-    ghost use Rattle.undo_entries.specs.Coded.{coded_history};
+    ghost use Rattle.undo_book.specs.Coded.{coded_history};
 
     ghost Value = { History };
 

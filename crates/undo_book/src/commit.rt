@@ -1,21 +1,25 @@
 //! Commits.
 ghost use Rattle.std.specs.Prelude.{◌≡◌, ◌+◌, IfErr, IfOk, OnErr, OnOk, Err, None, Some, false, true, drop};
-ghost use Rattle.undo_entries.specs.Homes.{AreMetBy};
+ghost use Rattle.txn_marks.specs.Homes.{AreMetBy};
 ghost use Rattle.txn_commands.specs.Records.{applied};
-ghost use Rattle.undo_entries.specs.Listed.{AreAdded, IsNew};
+ghost use Rattle.undo_index.specs.Listed.{AreAdded, IsNew};
 ghost use Rattle.undo_rules.specs.Links.{links_to};
 ghost use Rattle.undo_rules.specs.Steps.{after_commit, commit_step, is_log_full, is_own, stale_by};
 ghost use Rattle.undo_book.specs.Calls.{EndsStale, TakesWork, refused};
-ghost use Rattle.undo_entries.specs.Places.{IsPutUnder};
-ghost use Rattle.undo_entries.specs.Replays.{RunsAgain};
+ghost use Rattle.undo_book.specs.Places.{IsPutUnder};
+ghost use Rattle.undo_book.specs.Replays.{RunsAgain};
 
 use crate::book::Book;
+use crate::entry::Entry;
+use crate::session::end_pending;
 use lay_items::Snapshot;
 use lay_point::{NoMemory, Sequence};
 use std::alloc::Global;
 use std::collections::BTreeMap;
 use txn_commands::{Command, TxnId};
-use undo_entries::{Elements, Entry, Index, Records, Work, end_pending};
+use txn_marks::Records;
+use txn_work::Work;
+use undo_index::{Elements, Index};
 use undo_rules::{Answer, BookFault, Call, Logged};
 
 /// A refused commit.

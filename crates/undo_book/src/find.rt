@@ -6,17 +6,20 @@ ghost use Rattle.undo_rules.specs.Books.{writes_of};
 ghost use Rattle.undo_rules.specs.Links.{AreNamed, trace_of};
 ghost use Rattle.undo_rules.specs.Steps.{redo_refusal, redo_refusal_at, stale_by, touching};
 ghost use Rattle.undo_rules.specs.Steps.{undo_refusal, undo_refusal_at};
-ghost use Rattle.undo_entries.specs.Changes.{first_change};
-ghost use Rattle.undo_entries.specs.Indexed.{AreIndexed, is_linked};
-ghost use Rattle.undo_entries.specs.Places.{AreTheirPlaces, found_at, place_of};
+ghost use Rattle.undo_book.specs.Changes.{first_change};
+ghost use Rattle.undo_book.specs.Indexed.{AreIndexed, is_linked};
+ghost use Rattle.undo_book.specs.Places.{AreTheirPlaces, found_at, place_of};
 
 use crate::book::Book;
+use crate::changes::is_before;
+use crate::entry::Entry;
 use crate::links::{changed_in, first_moved, first_reader};
 use lay_point::NoMemory;
 use std::alloc::Global;
 use std::collections::BTreeMap;
 use txn_commands::TxnId;
-use undo_entries::{Elements, Entry, Footprint, Index, is_before};
+use txn_marks::Footprint;
+use undo_index::{Elements, Index};
 use undo_rules::BookFault;
 
 impl Book {

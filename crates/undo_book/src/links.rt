@@ -1,19 +1,20 @@
 //! Which transactions touched what others wrote.
 ghost use Rattle.std.specs.Prelude.{◌≡◌, ◌<◌, ℕ, ◌||◌, ◌&&◌, ◌++◌, List, IfOk, OnOk, drop, length, map, nat_lt};
 ghost use Rattle.std.specs.List.{cons_option, filter_map, list_any};
-ghost use Rattle.undo_entries.specs.Homes.{AreMetBy};
+ghost use Rattle.txn_marks.specs.Homes.{AreMetBy};
 ghost use Rattle.undo_rules.specs.Books.{changed_by, changed_in};
 ghost use Rattle.undo_rules.specs.Links.{AreNamed, first_reader, links_to, trace_of};
-ghost use Rattle.undo_entries.specs.First.{has_place};
-ghost use Rattle.undo_entries.specs.Indexed.{AreIndexed, name_at};
-ghost use Rattle.undo_entries.specs.Places.{AreTheirPlaces, found_at, moved_at, named_at, stands_at};
+ghost use Rattle.undo_index.specs.First.{has_place};
+ghost use Rattle.undo_book.specs.Indexed.{AreIndexed, name_at};
+ghost use Rattle.undo_book.specs.Places.{AreTheirPlaces, found_at, moved_at, named_at, stands_at};
 
 use crate::book::Book;
+use crate::entry::Entry;
 use lay_point::NoMemory;
 use std::alloc::Global;
 use std::collections::BTreeMap;
 use txn_commands::TxnId;
-use undo_entries::{Elements, Entry, Index, Places, first_apart};
+use undo_index::{Elements, Index, Places, first_apart};
 use undo_rules::{Answer, Call, Logged};
 
 /// Returns the first live transaction from this place on that touched what another one wrote, of which the

@@ -4,10 +4,11 @@ ghost use Rattle.undo_rules.specs.Steps.{after_open, is_log_full, open_step, ope
 ghost use Rattle.undo_book.specs.Calls.{Takes};
 
 use crate::book::Book;
+use crate::session::{Pending, SessionState};
 use lay_point::NoMemory;
 use std::alloc::Global;
 use txn_commands::TxnId;
-use undo_entries::{Pending, SessionState, Work};
+use txn_work::Work;
 use undo_rules::{Answer, BookFault, Call, Logged};
 
 /// The most transactions of a session.

@@ -2,7 +2,7 @@
 ghost use Rattle.std.specs.Prelude.{◌≡◌, ◌≤◌, OnOk, Err, Some, true};
 ghost use Rattle.undo_rules.specs.Steps.{is_log_full, redo_step, with_mark};
 ghost use Rattle.undo_book.specs.Calls.{Takes};
-ghost use Rattle.undo_entries.specs.Replays.{replay};
+ghost use Rattle.undo_book.specs.Replays.{replay};
 
 use crate::book::Book;
 use std::alloc::Global;

@@ -3,17 +3,26 @@ ghost use Rattle.std.specs.Prelude.{◌≡◌, IfOk, OnErr, OnOk, None, Some, fa
 ghost use Rattle.lay_layouts.specs.Sound.{IsSound};
 ghost use Rattle.txn_commands.specs.Records.{AreProper};
 ghost use Rattle.undo_rules.specs.Steps.{is_log_full, with_mark};
-ghost use Rattle.undo_entries.specs.Listed.{IsNew};
-ghost use Rattle.undo_entries.specs.Marks.{AreRelisted, after_mark, mark_answer, mark_call, mark_refusal, relaid};
-ghost use Rattle.undo_entries.specs.Places.{place_of};
-ghost use Rattle.undo_entries.specs.Replays.{CanBeRedone, replay};
+ghost use Rattle.undo_index.specs.Listed.{IsNew};
+ghost use Rattle.undo_book.specs.Marks.{
+  AreRelisted,
+  after_mark,
+  mark_answer,
+  mark_call,
+  mark_refusal,
+  relaid,
+};
+ghost use Rattle.undo_book.specs.Places.{place_of};
+ghost use Rattle.undo_book.specs.Replays.{CanBeRedone, replay};
 
 use crate::book::Book;
+use crate::entry::mark_at;
 use lay_items::Snapshot;
 use lay_point::NoMemory;
 use std::alloc::Global;
 use txn_commands::TxnId;
-use undo_entries::{Elements, Index, Records, mark_at};
+use txn_marks::Records;
+use undo_index::{Elements, Index};
 use undo_rules::{Answer, Call, Logged};
 
 impl Book {

@@ -2,7 +2,7 @@
 ghost use Rattle.std.specs.Prelude.{◌≡◌, ◌≤◌, OnOk, Err, Some, false, true};
 ghost use Rattle.undo_rules.specs.Steps.{is_log_full, undo_step, with_mark};
 ghost use Rattle.undo_book.specs.Calls.{Takes};
-ghost use Rattle.undo_entries.specs.Replays.{CanBeRedone, replay};
+ghost use Rattle.undo_book.specs.Replays.{CanBeRedone, replay};
 
 use crate::book::Book;
 use std::alloc::Global;

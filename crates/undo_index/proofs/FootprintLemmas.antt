@@ -8,7 +8,7 @@ use Rattle.std.specs.List.Sorted.{IsPermutation}
 use Rattle.txn_commands.specs.declared.element.Element.{Element}
 use Rattle.txn_commands.specs.Elements.{Touched, element_cmp, element_eq, elements_exact, elements_total}
 use Rattle.txn_marks.proofs.SetLemmas.{all_items}
-use Rattle.undo_places.proofs.OnceLemmas.{once_each}
+use Rattle.undo_index.proofs.OnceLemmas.{once_each}
 
 any_not : {X : Type 0} (p : X → Bool) (xs : List X) → list_any p xs ≡ not (list_all (λ x. not (p x)) xs)
 any_not p [] = refl

@@ -19,10 +19,10 @@ use Rattle.txn_commands.specs.declared.element.Element.{Element}
 use Rattle.txn_commands.specs.declared.element.Element.TheVariants.{Calls, Cell, Content, Item, Layer, Uses}
 use Rattle.txn_commands.specs.Elements.{element_cmp, element_eq, elements_total}
 use Rattle.txn_marks.proofs.AnyLemmas.{any_alike, any_map, any_none, or_false}
-use Rattle.undo_places.specs.First.{IsFirst, has_place}
-use Rattle.undo_places.proofs.ApartLemmas.{has_more}
-use Rattle.undo_places.proofs.FirstLemmas.{first_alike}
-use Rattle.undo_places.proofs.RangeLemmas.{any_filter}
+use Rattle.undo_index.specs.First.{IsFirst, has_place}
+use Rattle.undo_index.proofs.ApartLemmas.{has_more}
+use Rattle.undo_index.proofs.FirstLemmas.{first_alike}
+use Rattle.undo_index.proofs.RangeLemmas.{any_filter}
 use Rattle.undo_index.specs.Listed.{Listed, is_listed, is_part, element_id, item_pair, listed_of, nothing_listed, pair_cmp}
 use Rattle.undo_index.specs.Under.{is_under, pair_order, pairs_below}
 use Rattle.undo_index.proofs.ListedLemmas.{same_listed}

@@ -12,12 +12,12 @@ use Rattle.std.specs.Prelude.{Err, Ok, OnErr, Result, nat_lt}
 use Rattle.txn_commands.specs.declared.element.Element.{Element}
 use Rattle.txn_commands.specs.Elements.{element_cmp, element_eq, elements_exact, elements_total}
 use Rattle.txn_marks.proofs.AnyLemmas.{any_alike, any_map, or_false}
-use Rattle.undo_places.specs.declared.kept.Kept.{Kept}
-use Rattle.undo_places.specs.First.{IsFirst, has_place}
-use Rattle.undo_places.specs.Kept.{places_of}
-use Rattle.undo_places.proofs.FirstLemmas.{first_alike}
-use Rattle.undo_places.proofs.RangeLemmas.{any_and, any_filter}
-use Rattle.undo_places.proofs.TreeLemmas.{none_of}
+use Rattle.undo_index.specs.declared.kept.Kept.{Kept}
+use Rattle.undo_index.specs.First.{IsFirst, has_place}
+use Rattle.undo_index.specs.Kept.{places_of}
+use Rattle.undo_index.proofs.FirstLemmas.{first_alike}
+use Rattle.undo_index.proofs.RangeLemmas.{any_and, any_filter}
+use Rattle.undo_index.proofs.TreeLemmas.{none_of}
 use Rattle.undo_index.specs.Listed.{Listed, is_listed, pair_cmp}
 use Rattle.undo_index.specs.Parts.{is_kept, is_one_of, listed_in_parts, pairs_of}
 use Rattle.undo_index.proofs.ListedLemmas.{same_listed}

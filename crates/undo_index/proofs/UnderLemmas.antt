@@ -14,8 +14,8 @@ use Rattle.std.specs.FinMap.{IsAntisymmetric}
 use Rattle.std.specs.List.{list_any}
 use Rattle.std.specs.Ordering.{eq_by_cmp, is_eq, is_gt, is_le, nat_cmp, ordering_reverse, ordering_then}
 use Rattle.txn_marks.proofs.AnyLemmas.{any_alike}
-use Rattle.undo_places.specs.First.{IsFirst}
-use Rattle.undo_places.proofs.RangeLemmas.{any_and, any_filter, at_least, not_more, within_so}
+use Rattle.undo_index.specs.First.{IsFirst}
+use Rattle.undo_index.proofs.RangeLemmas.{any_and, any_filter, at_least, not_more, within_so}
 use Rattle.undo_index.specs.Under.{is_under, pair_order, pairs_below}
 
 -- ---- the order of pairs

@@ -5,9 +5,9 @@ use Rattle.std.specs.FinSet as set
 use Rattle.std.specs.List.{filter}
 use Rattle.txn_commands.specs.declared.element.Element.{Element}
 use Rattle.txn_commands.specs.Elements.{element_cmp, element_eq}
-use Rattle.undo_places.specs.declared.kept.Kept.{Kept}
-use Rattle.undo_places.specs.First.{has_place}
-use Rattle.undo_places.specs.Kept.{places_of}
+use Rattle.undo_index.specs.declared.kept.Kept.{Kept}
+use Rattle.undo_index.specs.First.{has_place}
+use Rattle.undo_index.specs.Kept.{places_of}
 use Rattle.undo_index.specs.Listed.{Listed}
 
 -- each place with its element; of the places of one element the first ones count

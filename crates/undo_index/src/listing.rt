@@ -2,11 +2,20 @@
 ghost use Rattle.std.specs.Prelude.{◌≡◌, ℕ, ◌||◌, ◌&&◌, IfOk, OnErr, OnOk, nat_lt};
 ghost use Rattle.std.specs.FinSet as set;
 ghost use Rattle.std.specs.List.{list_any};
-ghost use Rattle.undo_places.specs.First.{IsFirst, has_place};
-ghost use Rattle.undo_index.specs.Listed.{AreAdded, AreRemoved, IsNew, is_listed, element_id, nothing_listed};
+ghost use Rattle.undo_index.specs.First.{IsFirst, has_place};
+ghost use Rattle.undo_index.specs.Listed.{
+  AreAdded,
+  AreRemoved,
+  IsNew,
+  is_listed,
+  element_id,
+  nothing_listed,
+};
 
 use crate::elements::Elements;
+use crate::least::lesser;
 use crate::parts::Parts;
+use crate::places::Places;
 use crate::under::{first_under, gather_under};
 use lay_layouts::ItemId;
 use lay_point::NoMemory;
@@ -15,7 +24,6 @@ use std::collections::BTreeSet;
 use std::marker::Model;
 use txn_commands::Element;
 use txn_marks::Footprint;
-use undo_places::{Places, lesser};
 
 /// Places listed under elements. Contracts see the finite set of the pairs.
 ///

@@ -1,15 +1,15 @@
 //! Places under the elements that are no items.
 ghost use Rattle.std.specs.Prelude.{◌≡◌, ℕ, ◌||◌, ◌&&◌, OnErr, OnOk, nat_lt};
 ghost use Rattle.std.specs.FinSet as set;
-ghost use Rattle.undo_places.specs.First.{IsFirst, has_place};
+ghost use Rattle.undo_index.specs.First.{IsFirst, has_place};
 ghost use Rattle.undo_index.specs.Listed.{is_listed, nothing_listed};
 
+use crate::kept::Kept;
 use lay_point::NoMemory;
 use std::alloc::Global;
 use std::collections::BTreeMap;
 use std::marker::Model;
 use txn_commands::Element;
-use undo_places::Kept;
 
 /// Places listed under elements, of which there are few. Contracts see the finite set of the pairs.
 ///

@@ -1,7 +1,7 @@
 //! Places under items.
 ghost use Rattle.std.specs.Prelude.{◌≡◌, ◌++◌, OnOk, map};
 ghost use Rattle.lay_layouts.specs.Ids.{id_cmp};
-ghost use Rattle.undo_places.specs.First.{IsFirst};
+ghost use Rattle.undo_index.specs.First.{IsFirst};
 ghost use Rattle.undo_index.specs.Under.{is_under, pairs_below};
 
 use lay_layouts::ItemId;

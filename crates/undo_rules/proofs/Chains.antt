@@ -3,13 +3,14 @@ use Rattle.std.proofs.Common.{◌≡◌, Bool, true, false, cond, ◌&&◌, List
 use Rattle.std.specs.Prelude.{MatchBool}
 use Rattle.lay_layouts.specs.Layout.{Layout}
 use Rattle.lay_layouts.specs.Sound.{IsSound}
-use Rattle.txn_rules.specs.Agreement.{AgreeOn}
-use Rattle.txn_rules.specs.Elements.{Touched}
-use Rattle.txn_rules.specs.Records.{AreProper, Lead, Records}
-use Rattle.txn_rules.proofs.Agreements.{agree-sym}
+use Rattle.txn_commands.specs.Agreement.{AgreeOn}
+use Rattle.txn_commands.specs.Elements.{Touched}
+use Rattle.txn_commands.specs.Records.{AreProper, Lead, Records}
+use Rattle.txn_commands.proofs.Agreements.{agree-sym}
 use Rattle.undo_rules.specs.declared.log.Logged.{Logged}
 use Rattle.undo_rules.specs.Histories.{Chain, RunsBetween}
-use Rattle.undo_rules.specs.Links.{Entry, first_reader, meets_touched}
+use Rattle.undo_rules.specs.Links.{Entry, first_reader}
+use Rattle.txn_commands.specs.Meets.{meets_touched}
 use Rattle.undo_rules.proofs.Grounds.{apart, ran_again, ran_past, ran_sound}
 use Rattle.txn_rules.proofs.Overlay.{unmet_agree}
 

@@ -10,10 +10,10 @@ use Rattle.std.proofs.lemmas.List.{length-append}
 use Rattle.std.proofs.lemmas.List.Elements.{filter_map-append}
 use Rattle.lay_layouts.specs.Layout.{Layout}
 use Rattle.lay_layouts.specs.Sound.{IsSound}
-use Rattle.txn_rules.specs.TxnId.{TxnId}
-use Rattle.txn_rules.specs.Elements.{Touched}
-use Rattle.txn_rules.specs.Records.{Records, applied}
-use Rattle.txn_rules.specs.Transactions.{IsTransaction, Transaction}
+use Rattle.txn_commands.specs.declared.command.TxnId.{TxnId}
+use Rattle.txn_commands.specs.Elements.{Touched}
+use Rattle.txn_commands.specs.Records.{Records, applied}
+use Rattle.txn_commands.specs.Transactions.{IsTransaction, Transaction}
 use Rattle.txn_rules.proofs.Overlay.{unmet_agree}
 use Rattle.undo_rules.specs.declared.log.Answer.TheVariants.{Committed}
 use Rattle.undo_rules.specs.declared.log.Call.TheVariants.{Commit}
@@ -21,7 +21,8 @@ use Rattle.undo_rules.specs.declared.log.Logged.{Logged}
 use Rattle.undo_rules.specs.Books.{History, IsHistory, IsNamed, SessionState, changed_among, changed_in, changes_since, entry_of, writes_of}
 use Rattle.undo_rules.specs.Histories.{IsSince, commands_at, commands_in}
 use Rattle.undo_rules.specs.Laws.{ACommitKeepsTheBook, Commits, IsOwnWork}
-use Rattle.undo_rules.specs.Links.{Entry, meets_touched, txn_eq}
+use Rattle.undo_rules.specs.Links.{Entry, txn_eq}
+use Rattle.txn_commands.specs.Meets.{meets_touched}
 use Rattle.undo_rules.specs.Steps.{ended, ended_state, entered, logged, stale_by, stale_first, state_of, touching, with_entry}
 use Rattle.undo_rules.proofs.Committing.{commits, since_more}
 use Rattle.undo_rules.proofs.Finding.{there_more, writes_more}

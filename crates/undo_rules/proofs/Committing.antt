@@ -6,22 +6,23 @@ use Rattle.std.specs.List.{AllByRecursion}
 use Rattle.std.proofs.lemmas.List.{length-map}
 use Rattle.lay_layouts.specs.Layout.{Layout}
 use Rattle.lay_layouts.specs.Sound.{IsSound}
-use Rattle.txn_rules.specs.Element.{Element}
-use Rattle.txn_rules.specs.Agreement.{Agree, AgreeOn}
-use Rattle.txn_rules.specs.Effects.{Run, begun}
-use Rattle.txn_rules.specs.Elements.{Touched}
-use Rattle.txn_rules.specs.Meets.{some_meets}
-use Rattle.txn_rules.specs.Records.{Lead, Records, applied}
-use Rattle.txn_rules.proofs.Agreements.{agree-sym, agree-trans}
+use Rattle.txn_commands.specs.declared.element.Element.{Element}
+use Rattle.txn_commands.specs.Agreement.{Agree, AgreeOn}
+use Rattle.txn_commands.specs.Effects.{Run, begun}
+use Rattle.txn_commands.specs.Elements.{Touched}
+use Rattle.txn_commands.specs.Meets.{some_meets}
+use Rattle.txn_commands.specs.Records.{Lead, Records, applied}
+use Rattle.txn_commands.proofs.Agreements.{agree-sym, agree-trans}
 use Rattle.txn_rules.proofs.Framing.{frame}
 use Rattle.txn_rules.proofs.Overlay.{same_records}
-use Rattle.txn_rules.specs.Covers.{LeavesAlone}
+use Rattle.txn_commands.specs.Covers.{LeavesAlone}
 use Rattle.txn_rules.proofs.Runs.{local}
-use Rattle.txn_rules.proofs.Steps.{applied_leads}
+use Rattle.txn_commands.proofs.Steps.{applied_leads}
 use Rattle.undo_rules.specs.declared.log.Logged.{Logged}
 use Rattle.undo_rules.specs.Histories.{AreKept, AreRooted, Chain, IsRooted, IsSince, RunsBetween, commands_at, if_run, replay_from, run_on}
 use Rattle.undo_rules.specs.Laws.{ACommitAppends}
-use Rattle.undo_rules.specs.Links.{AreNamed, Entry, Trace, linked, links_to, live_of, meets_touched, trace_of, txn_eq}
+use Rattle.undo_rules.specs.Links.{AreNamed, Entry, Trace, linked, links_to, live_of, trace_of, txn_eq}
+use Rattle.txn_commands.specs.Meets.{meets_touched}
 use Rattle.undo_rules.proofs.Grounds.{apart, ran_leads, ran_proper}
 use Rattle.undo_rules.proofs.Undoing.{chain_join, chain_laid, chain_sound}
 

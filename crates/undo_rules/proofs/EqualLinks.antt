@@ -2,12 +2,13 @@
 use Rattle.std.proofs.Common.{◌≡◌, ◌⊎◌, inl, inr, Bool, true, false, cond, ◌&&◌, List, [], ◌∷◌, length, refl, sym, ap, ◌∙◌, arith}
 use Rattle.std.specs.List.{AllByRecursion}
 use Rattle.std.proofs.lemmas.Bool.Decides.{Decides-eqb}
-use Rattle.txn_rules.specs.TxnId.{TxnId}
-use Rattle.txn_rules.specs.Element.{Element}
-use Rattle.txn_rules.specs.Elements.{Touched}
-use Rattle.txn_rules.specs.Meets.{some_meets}
-use Rattle.txn_rules.specs.Records.{Records}
-use Rattle.undo_rules.specs.Links.{AreNamed, Trace, linked, meets_touched, txn_eq}
+use Rattle.txn_commands.specs.declared.command.TxnId.{TxnId}
+use Rattle.txn_commands.specs.declared.element.Element.{Element}
+use Rattle.txn_commands.specs.Elements.{Touched}
+use Rattle.txn_commands.specs.Meets.{some_meets}
+use Rattle.txn_commands.specs.Records.{Records}
+use Rattle.undo_rules.specs.Links.{AreNamed, Trace, linked, txn_eq}
+use Rattle.txn_commands.specs.Meets.{meets_touched}
 use Rattle.undo_rules.proofs.Laying.{SameMarks}
 
 pub txn_eq-same : (t : TxnId) → txn_eq t t ≡ true

@@ -3,7 +3,7 @@ use Rattle.std.proofs.Common.{◌≡◌, ℕ, Bool, true, false, cond, List, [],
 use Rattle.std.proofs.Common.{Some, option_map, refl, sym, ap, subst, ◌∙◌, append_assoc, append-nil}
 use Rattle.std.specs.Prelude.{is_some}
 use Rattle.std.specs.List.{AllByRecursion}
-use Rattle.txn_rules.specs.TxnId.{TxnId}
+use Rattle.txn_commands.specs.declared.command.TxnId.{TxnId}
 use Rattle.undo_rules.specs.Books.{IsNamed, SessionState, entry_of, writes_of}
 use Rattle.undo_rules.specs.Links.{Entry, marked, txn_eq}
 use Rattle.undo_rules.specs.Steps.{Found, found_behind, remarked}

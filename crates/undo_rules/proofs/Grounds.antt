@@ -5,22 +5,23 @@ use Rattle.std.specs.List.{list_any}
 use Rattle.std.specs.Ordering.{eq_by_cmp}
 use Rattle.lay_layouts.specs.Layout.{Layout}
 use Rattle.lay_layouts.specs.Sound.{IsSound}
-use Rattle.txn_rules.specs.Element.{Element}
-use Rattle.txn_rules.specs.Agreement.{AgreeOn}
-use Rattle.txn_rules.specs.Effects.{Run, begun}
-use Rattle.txn_rules.specs.Elements.{Touched, element_cmp, elements_exact}
-use Rattle.txn_rules.specs.Meets.{AreApart, some_meets}
-use Rattle.txn_rules.specs.Records.{AreProper, Lead, Records}
+use Rattle.txn_commands.specs.declared.element.Element.{Element}
+use Rattle.txn_commands.specs.Agreement.{AgreeOn}
+use Rattle.txn_commands.specs.Effects.{Run, begun}
+use Rattle.txn_commands.specs.Elements.{Touched, element_cmp, elements_exact}
+use Rattle.txn_commands.specs.Meets.{AreApart, some_meets}
+use Rattle.txn_commands.specs.Records.{AreProper, Lead, Records}
 use Rattle.txn_rules.proofs.Framing.{frame}
-use Rattle.txn_rules.proofs.Maps.{same_key}
+use Rattle.txn_commands.proofs.Maps.{same_key}
 use Rattle.txn_rules.proofs.Overlay.{past, same_records}
-use Rattle.txn_rules.specs.Covers.{LeavesAlone}
+use Rattle.txn_commands.specs.Covers.{LeavesAlone}
 use Rattle.txn_rules.proofs.Runs.{local}
 use Rattle.txn_rules.proofs.Sound.{run_sound}
-use Rattle.txn_rules.proofs.Steps.{lead_between, proper_between}
+use Rattle.txn_commands.proofs.Steps.{lead_between, proper_between}
 use Rattle.undo_rules.specs.declared.log.Logged.{Logged}
 use Rattle.undo_rules.specs.Histories.{RunsBetween}
-use Rattle.undo_rules.specs.Links.{Entry, meets_touched}
+use Rattle.undo_rules.specs.Links.{Entry}
+use Rattle.txn_commands.specs.Meets.{meets_touched}
 
 -- records that touch nothing of a set meet no element of it
 apart_from : (ws : Records) (es : List Element) (e : Element) → list_any (some_meets ws) es ≡ false →

@@ -2,7 +2,7 @@
 use Rattle.std.proofs.Common.{◌≡◌, List, None, true, false, [], ◌∷◌, ◌++◌, map, sym, ap, subst, ◌∙◌}
 use Rattle.std.proofs.lemmas.List.{length-map}
 use Rattle.lay_layouts.specs.Layout.{Layout}
-use Rattle.txn_rules.specs.Records.{applied}
+use Rattle.txn_commands.specs.Records.{applied}
 use Rattle.undo_rules.specs.declared.log.Logged.{Logged}
 use Rattle.undo_rules.specs.Histories.{AreKept}
 use Rattle.undo_rules.specs.Laws.{AnUndoTakesOut, ARedoPutsBack, TheLayoutIsTheReplay}

@@ -1,10 +1,10 @@
 -- Transactions applied to a base in two ways: what they agree on.
 use Rattle.std.proofs.Common.{◌≡◌, Bool, true, false, List, [], ◌∷◌, refl, sym}
 use Rattle.lay_layouts.specs.Layout.{Layout}
-use Rattle.txn_rules.specs.Element.{Element}
-use Rattle.txn_rules.specs.Agreement.{Agree}
-use Rattle.txn_rules.specs.Meets.{some_meets}
-use Rattle.txn_rules.proofs.Agreements.{agree-equal, agree-sym, agree-trans}
+use Rattle.txn_commands.specs.declared.element.Element.{Element}
+use Rattle.txn_commands.specs.Agreement.{Agree}
+use Rattle.txn_commands.specs.Meets.{some_meets}
+use Rattle.txn_commands.proofs.Agreements.{agree-equal, agree-sym, agree-trans}
 use Rattle.undo_rules.specs.Histories.{Laid}
 use Rattle.undo_rules.specs.Links.{Trace}
 use Rattle.txn_rules.proofs.Overlay.{agree_applied, unmet_agree}

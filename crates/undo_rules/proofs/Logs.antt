@@ -4,7 +4,7 @@ use Rattle.std.proofs.Common.{length, drop, Option, None, Some, refl, ap, ◌∙
 use Rattle.std.specs.Prelude.{MatchBool}
 use Rattle.std.proofs.lemmas.List.Elements.{filter_map-append}
 use Rattle.lay_layouts.specs.Layout.{Layout}
-use Rattle.txn_rules.specs.Command.{Command}
+use Rattle.txn_commands.specs.declared.command.Command.{Command}
 use Rattle.undo_rules.specs.declared.log.Logged.{Logged}
 use Rattle.undo_rules.specs.Books.{changed_among, changed_in}
 use Rattle.undo_rules.specs.Histories.{AreKept, AreRooted, Chain, RunsBetween, commands_at, commands_in}

@@ -3,9 +3,10 @@ use Rattle.std.proofs.Common.{◌≡◌, ◌==◌, Bool, true, false, cond, ◌&
 use Rattle.std.proofs.Common.{◌∷◌, length, map, None, Some, refl, sym, ap, ◌∙◌, arith}
 use Rattle.std.specs.List.{AllByRecursion}
 use Rattle.std.proofs.lemmas.Bool.Decides.{Decides-eqb}
-use Rattle.txn_rules.specs.TxnId.{TxnId}
-use Rattle.txn_rules.specs.Elements.{Touched}
-use Rattle.undo_rules.specs.Links.{AreNamed, Entry, Trace, first_moved, is_named_in, linked, meets_touched, trace_of, txn_eq}
+use Rattle.txn_commands.specs.declared.command.TxnId.{TxnId}
+use Rattle.txn_commands.specs.Elements.{Touched}
+use Rattle.undo_rules.specs.Links.{AreNamed, Entry, Trace, first_moved, is_named_in, linked, trace_of, txn_eq}
+use Rattle.txn_commands.specs.Meets.{meets_touched}
 use Rattle.undo_rules.proofs.EqualLinks.{linked-all, txn_eq-same}
 
 -- in both lists or in neither

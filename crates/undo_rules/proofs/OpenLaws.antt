@@ -5,10 +5,10 @@ use Rattle.std.proofs.Common.{refl, sym, ap, subst, ◌∙◌, arith, append-nil
 use Rattle.std.specs.Prelude.{is_some}
 use Rattle.std.specs.List.{AllByRecursion, cons_option, filter_map}
 use Rattle.std.proofs.lemmas.List.{length-append}
-use Rattle.txn_rules.specs.Records.{Records}
-use Rattle.txn_rules.specs.Transactions.{Transaction}
-use Rattle.txn_rules.specs.TxnId.{TxnId}
-use Rattle.txn_rules.proofs.Agreements.{agree-equal}
+use Rattle.txn_commands.specs.Records.{Records}
+use Rattle.txn_commands.specs.Transactions.{Transaction}
+use Rattle.txn_commands.specs.declared.command.TxnId.{TxnId}
+use Rattle.txn_commands.proofs.Agreements.{agree-equal}
 use Rattle.undo_rules.specs.declared.log.Answer.TheVariants.{Opened, Refused}
 use Rattle.undo_rules.specs.declared.log.BookFault.{BookFault}
 use Rattle.undo_rules.specs.declared.log.BookFault.TheVariants.{Stale}

@@ -3,7 +3,7 @@ use Rattle.std.proofs.Common.{◌≡◌, ◌⊎◌, inl, inr, Bool, true, List, 
 use Rattle.std.proofs.Common.{map, refl, sym, subst, ◌∙◌, append_assoc, append-nil, arith}
 use Rattle.std.proofs.lemmas.List.{length-append}
 use Rattle.lay_layouts.specs.Layout.{Layout}
-use Rattle.txn_rules.specs.Records.{Records}
+use Rattle.txn_commands.specs.Records.{Records}
 use Rattle.undo_rules.specs.declared.log.Logged.{Logged}
 use Rattle.undo_rules.specs.Histories.{AreRooted, IsRooted, RunsBetween}
 use Rattle.undo_rules.specs.Links.{Entry, Trace, linked, live_of, marked, trace_of}

@@ -6,12 +6,12 @@ use Rattle.std.specs.List.{AllByRecursion, cons_option, filter_map}
 use Rattle.std.proofs.lemmas.List.{length-append}
 use Rattle.std.proofs.lemmas.List.Elements.{filter_map-append}
 use Rattle.lay_layouts.specs.Layout.{Layout}
-use Rattle.txn_rules.specs.TxnId.{TxnId}
-use Rattle.txn_rules.specs.Element.{Element}
-use Rattle.txn_rules.specs.Agreement.{Agree}
-use Rattle.txn_rules.specs.Meets.{some_meets}
-use Rattle.txn_rules.specs.Records.{Records, reverted}
-use Rattle.txn_rules.proofs.Agreements.{agree-sym}
+use Rattle.txn_commands.specs.declared.command.TxnId.{TxnId}
+use Rattle.txn_commands.specs.declared.element.Element.{Element}
+use Rattle.txn_commands.specs.Agreement.{Agree}
+use Rattle.txn_commands.specs.Meets.{some_meets}
+use Rattle.txn_commands.specs.Records.{Records, reverted}
+use Rattle.txn_commands.proofs.Agreements.{agree-sym}
 use Rattle.txn_rules.proofs.Overlay.{unmet_agree}
 use Rattle.undo_rules.specs.declared.log.Answer.{Answer}
 use Rattle.undo_rules.specs.declared.log.Answer.TheVariants.{Redone, Undone}

@@ -5,10 +5,10 @@ use Rattle.std.specs.List.{AllByRecursion}
 use Rattle.std.proofs.lemmas.List.{length-map, map-append}
 use Rattle.lay_layouts.specs.Layout.{Layout}
 use Rattle.lay_layouts.specs.Sound.{IsSound}
-use Rattle.txn_rules.specs.Agreement.{AgreeOn}
-use Rattle.txn_rules.specs.Records.{Lead, applied, reverted}
-use Rattle.txn_rules.proofs.Agreements.{agree-equal}
-use Rattle.txn_rules.proofs.Steps.{applied_leads, reverted_leads}
+use Rattle.txn_commands.specs.Agreement.{AgreeOn}
+use Rattle.txn_commands.specs.Records.{Lead, applied, reverted}
+use Rattle.txn_commands.proofs.Agreements.{agree-equal}
+use Rattle.txn_commands.proofs.Steps.{applied_leads, reverted_leads}
 use Rattle.undo_rules.specs.declared.log.Logged.{Logged}
 use Rattle.undo_rules.specs.Histories.{AreKept, Chain, IsRooted, Laid, RunsBetween}
 use Rattle.undo_rules.specs.Links.{AreNamed, Entry, Trace, links_to, live_of, marked, trace_of, txn_eq}

@@ -4,8 +4,8 @@ use Rattle.std.specs.Prelude.{if◌then◌else◌}
 use Rattle.std.specs.List.{AllByRecursion, filter_map}
 use Rattle.lay_layouts.specs.Layout.{Layout}
 use Rattle.lay_layouts.specs.Sound.{IsSound}
-use Rattle.txn_rules.specs.TxnId.{TxnId}
-use Rattle.txn_rules.specs.Records.{Records}
+use Rattle.txn_commands.specs.declared.command.TxnId.{TxnId}
+use Rattle.txn_commands.specs.Records.{Records}
 use Rattle.undo_rules.specs.declared.log.Answer.{Answer}
 use Rattle.undo_rules.specs.declared.log.Answer.TheVariants.{Opened, Refused}
 use Rattle.undo_rules.specs.declared.log.Call.{Call}

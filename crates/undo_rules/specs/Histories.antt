@@ -4,12 +4,12 @@ use Rattle.std.specs.Prelude.{false, Option, None, Some, if◌then◌else◌, sl
 use Rattle.std.specs.List.{AllByRecursion}
 use Rattle.lay_layouts.specs.Layout.{Layout}
 use Rattle.lay_layouts.specs.Sound.{IsSound}
-use Rattle.txn_rules.specs.Command.{Command}
-use Rattle.txn_rules.specs.Element.{Element}
-use Rattle.txn_rules.specs.Agreement.{Agree}
-use Rattle.txn_rules.specs.Effects.{Run, after_each, begun}
-use Rattle.txn_rules.specs.Meets.{some_meets}
-use Rattle.txn_rules.specs.Records.{Lead, Records, records_between}
+use Rattle.txn_commands.specs.declared.command.Command.{Command}
+use Rattle.txn_commands.specs.declared.element.Element.{Element}
+use Rattle.txn_commands.specs.Agreement.{Agree}
+use Rattle.txn_commands.specs.Effects.{Run, after_each, begun}
+use Rattle.txn_commands.specs.Meets.{some_meets}
+use Rattle.txn_commands.specs.Records.{Lead, Records, records_between}
 use Rattle.undo_rules.specs.declared.log.Call.{Call}
 use Rattle.undo_rules.specs.declared.log.Call.TheVariants.{Commit, Open, Redo, Undo}
 use Rattle.undo_rules.specs.declared.log.Logged.{Logged}

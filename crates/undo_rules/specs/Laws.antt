@@ -3,21 +3,22 @@ use Rattle.std.specs.Prelude.{◌≡◌, ℕ, List, [], ◌∷◌, ◌++◌, tru
 use Rattle.std.specs.List.{AllByRecursion}
 use Rattle.lay_layouts.specs.Layout.{Layout}
 use Rattle.lay_layouts.specs.Sound.{IsSound}
-use Rattle.txn_rules.specs.Command.{Command}
-use Rattle.txn_rules.specs.Agreement.{AgreeOn}
-use Rattle.txn_rules.specs.Effects.{Run, after_each, begun}
-use Rattle.txn_rules.specs.Records.{Lead, Records, applied, reverted, records_between}
+use Rattle.txn_commands.specs.declared.command.Command.{Command}
+use Rattle.txn_commands.specs.Agreement.{AgreeOn}
+use Rattle.txn_commands.specs.Effects.{Run, after_each, begun}
+use Rattle.txn_commands.specs.Records.{Lead, Records, applied, reverted, records_between}
 use Rattle.undo_rules.specs.declared.log.Logged.{Logged}
-use Rattle.txn_rules.specs.TxnId.{TxnId}
+use Rattle.txn_commands.specs.declared.command.TxnId.{TxnId}
 use Rattle.undo_rules.specs.declared.log.Answer.TheVariants.{Refused}
 use Rattle.undo_rules.specs.declared.log.BookFault.{BookFault}
 use Rattle.undo_rules.specs.declared.log.Call.{Call}
 use Rattle.undo_rules.specs.Books.{History, IsHistory, Pending}
 use Rattle.undo_rules.specs.Steps.{after_commit, after_open, after_redo, after_stale, after_undo, logged}
 use Rattle.undo_rules.specs.Steps.{redo_refusal, stale_by, state_of, undo_refusal}
-use Rattle.txn_rules.specs.Transactions.{IsTransaction, Transaction}
+use Rattle.txn_commands.specs.Transactions.{IsTransaction, Transaction}
 use Rattle.undo_rules.specs.Histories.{AreKept, IsSince, commands_at, replay_from}
-use Rattle.undo_rules.specs.Links.{Entry, first_moved, first_reader, links_to, marked, meets_touched, txn_eq}
+use Rattle.undo_rules.specs.Links.{Entry, first_moved, first_reader, links_to, marked, txn_eq}
+use Rattle.txn_commands.specs.Meets.{meets_touched}
 
 -- the layout is that of running the live transactions' commands from the base
 abbrev pub TheLayoutIsTheReplay : Type 0

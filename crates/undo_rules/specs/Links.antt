@@ -1,10 +1,10 @@
 -- Which transactions a transaction is linked to: the live earlier ones that wrote what it touched.
 use Rattle.std.specs.Prelude.{◌≡◌, ℕ, ◌==◌, List, [], ◌∷◌, map, Bool, false, ◌&&◌, Option, None, Some, if◌then◌else◌}
 use Rattle.std.specs.List.{AllByRecursion, list_any}
-use Rattle.txn_rules.specs.TxnId.{TxnId}
-use Rattle.txn_rules.specs.Elements.{Touched}
-pub use Rattle.txn_rules.specs.Meets.{meets_touched}
-use Rattle.txn_rules.specs.Records.{Records}
+use Rattle.txn_commands.specs.declared.command.TxnId.{TxnId}
+use Rattle.txn_commands.specs.Elements.{Touched}
+use Rattle.txn_commands.specs.Meets.{meets_touched}
+use Rattle.txn_commands.specs.Records.{Records}
 
 -- what is kept of a committed transaction: its name, the place of its commit in the log, what it wrote and touched, what it
 -- was linked to as it was committed, and whether it is live

@@ -1,6 +1,6 @@
 -- How refusals of a book are written: by their numbers and names.
 use Rattle.std.specs.Prelude.{codes}
-use Rattle.txn_rules.specs.Refusals.{Code}
+use Rattle.txn_commands.specs.Refusals.{Code}
 use Rattle.undo_rules.specs.declared.log.BookFault.{BookFault}
 use Rattle.undo_rules.specs.declared.log.BookFault.TheVariants.{Depends, Foreign, LogFull, Moved, NoMemory, NoTxn, NotLive, SessionFull}
 use Rattle.undo_rules.specs.declared.log.BookFault.TheVariants.{Stale, StillLive}

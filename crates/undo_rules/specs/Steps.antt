@@ -2,10 +2,10 @@
 use Rattle.std.specs.Prelude.{ℕ, ◌+◌, ◌-◌, ◌==◌, ◌&&◌, not, List, [], ◌∷◌, ◌++◌, length, drop, Bool, true, false, nat_le, Option}
 use Rattle.std.specs.Prelude.{None, Some, Result, Ok, Err, if◌then◌else◌, slice_index_or, slice_set, replicate, unwrap_or}
 use Rattle.lay_layouts.specs.Layout.{Layout}
-use Rattle.txn_rules.specs.TxnId.{TxnId}
-use Rattle.txn_rules.specs.Compared.{agrees}
-use Rattle.txn_rules.specs.Elements.{Touched, untouched}
-use Rattle.txn_rules.specs.Records.{Records}
+use Rattle.txn_commands.specs.declared.command.TxnId.{TxnId}
+use Rattle.txn_commands.specs.Compared.{agrees}
+use Rattle.txn_commands.specs.Elements.{Touched, untouched}
+use Rattle.txn_commands.specs.Records.{Records}
 use Rattle.undo_rules.specs.declared.log.Answer.{Answer}
 use Rattle.undo_rules.specs.declared.log.Answer.TheVariants.{Committed, Opened, Redone, Refused, Undone}
 use Rattle.undo_rules.specs.declared.log.BookFault.{BookFault}
@@ -16,8 +16,9 @@ use Rattle.undo_rules.specs.declared.log.Call.TheVariants.{Commit, Open, Redo, U
 use Rattle.undo_rules.specs.declared.log.Logged.{Logged}
 use Rattle.undo_rules.specs.Books.{History, Pending, SessionState, changed_in, writes_of}
 use Rattle.undo_rules.specs.Histories.{replay_from}
-use Rattle.undo_rules.specs.Links.{Entry, first_moved, first_reader, links_to, marked, meets_touched, txn_eq}
-use Rattle.txn_rules.specs.Transactions.{Transaction}
+use Rattle.undo_rules.specs.Links.{Entry, first_moved, first_reader, links_to, marked, txn_eq}
+use Rattle.txn_commands.specs.Meets.{meets_touched}
+use Rattle.txn_commands.specs.Transactions.{Transaction}
 
 -- the log has as many calls as it may have
 abbrev pub is_log_full : History → Bool

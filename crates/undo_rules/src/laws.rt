@@ -1,6 +1,17 @@
 //! What holds of all histories, as a call that does nothing.
-ghost use Rattle.undo_rules.specs.Laws.{ACommitAppends, AnUndoKeepsTheBook, AnUndoTakesOut, ARedoKeepsTheBook, ARedoPutsBack};
-ghost use Rattle.undo_rules.specs.Laws.{ACommitKeepsTheBook, AnOpenKeepsTheBook, ARefusalKeepsTheBook, AStaleCommitKeepsTheBook};
+ghost use Rattle.undo_rules.specs.Laws.{
+  ACommitAppends,
+  AnUndoKeepsTheBook,
+  AnUndoTakesOut,
+  ARedoKeepsTheBook,
+  ARedoPutsBack,
+};
+ghost use Rattle.undo_rules.specs.Laws.{
+  ACommitKeepsTheBook,
+  AnOpenKeepsTheBook,
+  ARefusalKeepsTheBook,
+  AStaleCommitKeepsTheBook,
+};
 ghost use Rattle.undo_rules.specs.Laws.{TheLayoutIsTheReplay};
 
 /// The layout is the replay of the live transactions. An undo leads to the layout of the same history

@@ -16,4 +16,3 @@ mod log;
 
 pub use laws::{calls_keep_the_book, histories_have_laws};
 pub use log::{Answer, BookFault, Call, Logged};
-pub use txn_rules::{CmdFault, Command, Done, Op, TxnId};

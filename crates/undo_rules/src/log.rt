@@ -5,7 +5,7 @@ ghost use Rattle.undo_rules.specs.Refusals.{book_code};
 
 use lay_point::{NoMemory, Sequence};
 use thiserror::Error;
-use txn_rules::{Command, TxnId};
+use txn_commands::{Command, TxnId};
 
 /// Why a call of a book is refused.
 #[derive(Clone, Copy, Debug, PartialEq, Eq, Error)]

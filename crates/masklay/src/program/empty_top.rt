@@ -1,6 +1,6 @@
 //! A top cell that is empty while the layout has symbols, as editors write it.
 
-use lay_calls::CellId;
+use lay_cells::CellId;
 use lay_items::Snapshot;
 use lay_point::NoMemory;
 use std::alloc::Global;

@@ -2,8 +2,14 @@
 ghost use Rattle.std.specs.Prelude.{◌≡◌, ◌++◌, IfOk, None, Some};
 ghost use Rattle.cif_write.specs.Text.{text};
 ghost use Rattle.job_text.specs.Order.{order_text};
-ghost use Rattle.job_lines.specs.Replies.{replies_text};
-ghost use Rattle.masklay.specs.Output.{WritesOrMemory, WritesOutput, cif_fault_text, desk_fault_text, written_output};
+ghost use Rattle.job_text.specs.Replies.{replies_text};
+ghost use Rattle.masklay.specs.Output.{
+  WritesOrMemory,
+  WritesOutput,
+  cif_fault_text,
+  desk_fault_text,
+  written_output,
+};
 ghost use Rattle.masklay.specs.Output.{job_fault_text, stop_output};
 ghost use Rattle.masklay.specs.declared.program.status.Status.TheVariants.{Done};
 
@@ -12,8 +18,8 @@ use crate::program::outcome::{Finished, Stop};
 use crate::program::status::Status;
 use crate::program::{put, put_memory};
 use byte_io::{Failing, MemoryOut, Out};
-use cif_content::CifFault;
 use cif_names::{Names, with_names};
+use cif_read::CifFault;
 use cif_write::{Prepared, prepare};
 use job_text::{comments, put_comments};
 use lay_point::NoMemory;

@@ -1,7 +1,10 @@
 //! Reading of the whole input.
 ghost use Rattle.std.specs.Prelude.{◌≡◌, ◌++◌, ◌+◌, ◌≤◌, ℕ, List, IfOk, OnOk, Some, length};
 ghost use Rattle.live_run.specs.declared.run.TheConstants.{MAX_READS};
-ghost use Rattle.masklay.specs.declared.program.reading.ReadFault.TheVariants.{Device as Stopped, NoMemory as OutOfMemory};
+ghost use Rattle.masklay.specs.declared.program.reading.ReadFault.TheVariants.{
+  Device as Stopped,
+  NoMemory as OutOfMemory,
+};
 ghost use Rattle.masklay.specs.Reading.{HowRead, input_kept};
 
 use byte_io::{In, InFault};

@@ -3,14 +3,16 @@
 use super::*;
 use band_workers::OneBand;
 use byte_io::{Failing, MemoryIn, MemoryOut};
-use cif_layout::{FromCif, read};
+use cif_layout::FromCif;
+use cif_read::read;
 use cif_write::write;
-use desk_run::{Command, TxnId};
-use lay_calls::CellId;
+use lay_cells::CellId;
 use lay_items::Snapshot;
 use lay_point::{LayerName, Point};
-use live_run::{Machine, Step};
+use session_core::Machine;
+use session_steps::Step;
 use std::test::*;
+use txn_commands::{Command, TxnId};
 
 const UNDONE_BOX: &[u8] =
     b"%cif\nL NM; B 40 20 0 0; E\n%session 1\nopen\nbox top NP 0 0 10 10\ncommit\nundo 1.1\n";

@@ -1,14 +1,14 @@
 //! What the program does with a job whose sessions run in threads.
 ghost use Rattle.std.specs.Prelude.{◌≡◌};
 ghost use Rattle.std.specs.List.{list_any};
-ghost use Rattle.live_run.specs.Machine.{is_memory};
+ghost use Rattle.session_core.specs.Machine.{is_memory};
 ghost use Rattle.masklay.specs.Threads.{AnswersThreads};
 
 use crate::program::outcome::{Finished, Stop, is_out_of_memory};
-use desk_run::{Closed, Run, run_scripts};
 use job_text::order_of;
 use lay_items::Snapshot;
 use lay_point::Sequence;
+use locked_desk::{Closed, Run, run_scripts};
 use session_steps::{Reply, Step};
 use std::alloc::Global;
 use std::sync::Wait;

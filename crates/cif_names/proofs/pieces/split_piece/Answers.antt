@@ -1,8 +1,8 @@
 use Rattle.std.proofs.Common.{◌≡◌, ◌+◌, ◌∙◌, Some, None, true, false, ap, rules}
 use Rattle.std.proofs.lemmas.List.{take_rest}
-use Rattle.cif_scan.specs.Bytes.{is_gap, skip}
-use Rattle.cif_scan.specs.Cutting.{behind_command, command_len}
-use Rattle.cif_content.specs.Meaning.{begins_with_end}
+use Rattle.cif_grammar.specs.Bytes.{is_gap, skip}
+use Rattle.cif_grammar.specs.Cutting.{behind_command, command_len}
+use Rattle.cif_read.specs.Meaning.{begins_with_end}
 use Rattle.cif_names.proofs.PieceLemmas.{first_piece, none_at_end, none_broken}
 use Rattle.cif_names.proofs.pieces.split_piece.Goals as goal
 

@@ -1,6 +1,6 @@
 use Rattle.std.proofs.Common.{rules, ◌≡◌, All, map}
-use Rattle.lay_calls.specs.Walks.{IsAcyclic}
-use Rattle.cif_content.specs.Binding.{IsBound, edge_of}
+use Rattle.lay_cells.specs.Walks.{IsAcyclic}
+use Rattle.cif_read.specs.Binding.{IsBound, edge_of}
 use Rattle.cif_read.proofs.BindingLemmas.{placed, sound_file}
 use Rattle.cif_read.proofs.binding.bound.Goals as goal
 

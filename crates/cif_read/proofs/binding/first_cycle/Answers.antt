@@ -1,7 +1,7 @@
 use Rattle.std.proofs.Common.{◌≡◌, ◌∙◌, map, arith, ap}
 use Rattle.std.proofs.lemmas.List.{take_all}
-use Rattle.lay_calls.specs.Walks.{Calls}
-use Rattle.cif_content.specs.Binding.{edge_of}
+use Rattle.lay_cells.specs.Walks.{Calls}
+use Rattle.cif_read.specs.Binding.{edge_of}
 use Rattle.cif_read.proofs.binding.first_cycle.Goals as goal
 
 pub returns-clause-acyclic : goal.returns-clause-acyclic

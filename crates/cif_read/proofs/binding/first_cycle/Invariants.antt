@@ -1,5 +1,5 @@
 use Rattle.std.proofs.Common.{◌≡◌, map, take}
-use Rattle.cif_content.specs.Binding.{edge_of}
+use Rattle.cif_read.specs.Binding.{edge_of}
 use Rattle.cif_read.proofs.binding.first_cycle.Given as goal
 
 abbrev pub invariant-loop-call : goal.invariant-loop-call

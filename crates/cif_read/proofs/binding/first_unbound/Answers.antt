@@ -1,7 +1,7 @@
 use Rattle.std.proofs.Common.{arith}
 use Rattle.std.proofs.lemmas.List.Elements.{All-from_get_or}
-use Rattle.lay_calls.specs.declared.cell_id.CellId.TheVariants.{Top}
-use Rattle.cif_content.specs.Binding.{IsBound}
+use Rattle.lay_cells.specs.declared.cell_id.CellId.TheVariants.{Top}
+use Rattle.cif_read.specs.Binding.{IsBound}
 use Rattle.cif_read.proofs.binding.first_unbound.Goals as goal
 
 pub returns : goal.returns

@@ -1,5 +1,5 @@
 use Rattle.std.proofs.Common.{ℕ, ◌<◌}
-use Rattle.cif_content.specs.Binding.{IsBound, pending_at}
+use Rattle.cif_read.specs.Binding.{IsBound, pending_at}
 use Rattle.cif_read.proofs.binding.first_unbound.Given as goal
 
 -- the calls so far are bound

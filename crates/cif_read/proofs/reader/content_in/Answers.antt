@@ -1,12 +1,12 @@
 use Rattle.std.proofs.Common.{rules, refl, ◌≡◌, ◌+◌, ◌∙◌, length, Ok, Some, None, arith, sym, ap, inr, take, true, false}
 use Rattle.std.proofs.lemmas.List.{take_rest}
 use Rattle.std.proofs.lemmas.Result.{err_from_is_err_and}
-use Rattle.cif_scan.specs.Bytes.{is_gap, skip}
-use Rattle.cif_scan.specs.Cutting.{Breaks, CommandOf, EndOf, behind_command, command_len, offset_of}
-use Rattle.cif_scan.proofs.CutLemmas.{length-behind_command, length-skip, some_bytes}
-use Rattle.cif_content.specs.Content.{empty_content}
+use Rattle.cif_grammar.specs.Bytes.{is_gap, skip}
+use Rattle.cif_grammar.specs.Cutting.{Breaks, CommandOf, EndOf, behind_command, command_len, offset_of}
+use Rattle.cif_grammar.proofs.CutLemmas.{length-behind_command, length-skip, some_bytes}
+use Rattle.cif_read.specs.Content.{empty_content}
 use Rattle.cif_read.specs.Kept.{IsKept}
-use Rattle.cif_content.specs.Meaning.{after_bytes, begins_with_end, content_in, no_memory}
+use Rattle.cif_read.specs.Meaning.{after_bytes, begins_with_end, content_in, no_memory}
 use Rattle.cif_read.proofs.MeaningLemmas.{at_end_keeps, end_parts, fault_wanted, front_breaks}
 use Rattle.cif_read.proofs.MeaningLemmas.{front_command, front_end, rest_means, start_means, value_wanted, whole_means}
 use Rattle.cif_read.proofs.PieceFacts.{kept_step}

@@ -1,7 +1,7 @@
 use Rattle.std.proofs.Common.{◌≡◌, ◌+◌, ◌≤◌, length}
-use Rattle.cif_content.specs.Content.{content_size}
+use Rattle.cif_read.specs.Content.{content_size}
 use Rattle.cif_read.specs.Kept.{IsKept}
-use Rattle.cif_content.specs.Meaning.{content_in}
+use Rattle.cif_read.specs.Meaning.{content_in}
 use Rattle.cif_read.proofs.MeaningLemmas.{rest_means}
 use Rattle.cif_read.proofs.reader.content_in.Given as goal
 

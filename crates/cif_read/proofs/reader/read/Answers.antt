@@ -1,6 +1,6 @@
 use Rattle.std.proofs.Common.{◌≡◌, Ok}
 use Rattle.std.proofs.lemmas.Result.{err_from_is_err_and}
-use Rattle.cif_content.specs.Meaning.{content_in, no_memory}
+use Rattle.cif_read.specs.Meaning.{content_in, no_memory}
 use Rattle.cif_read.proofs.MeaningLemmas.{value_wanted}
 use Rattle.cif_read.proofs.ReadAnswers.{accepted_answer, bound_answer, complete_answer, faulty}
 use Rattle.cif_read.proofs.reader.read.Goals as goal

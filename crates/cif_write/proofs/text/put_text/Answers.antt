@@ -1,6 +1,6 @@
 -- The symbols, the symbol that wraps the top cell's items, the top cell's call and the end.
 use Rattle.byte_io.proofs.BufferedLemmas.{Buffered-is, Buffered-then}
-use Rattle.lay_calls.specs.declared.cell_id.CellId.TheVariants.{Top}
+use Rattle.lay_cells.specs.declared.cell_id.CellId.TheVariants.{Top}
 use Rattle.lay_layouts.specs.SlotOrder.{in_slot_order}
 use Rattle.cif_write.specs.Text.{text}
 use Rattle.cif_write.specs.Wrap.{held_in, least_unused, own_definitions, written}

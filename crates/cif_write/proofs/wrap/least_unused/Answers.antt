@@ -1,5 +1,5 @@
 use Rattle.std.proofs.Common.{◌≡◌, ◌<◌, ◌+◌, ◌-◌, true, length, arith, rules, ap, sym, ◌∙◌}
-use Rattle.lay_calls.specs.Symbols.{has_symbol}
+use Rattle.lay_cells.specs.Symbols.{has_symbol}
 use Rattle.cif_write.specs.Wrap.{unused_from}
 use Rattle.cif_write.proofs.WrapLemmas.{unused_behind}
 use Rattle.cif_write.proofs.wrap.least_unused.Goals as goal

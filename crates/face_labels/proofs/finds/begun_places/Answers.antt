@@ -6,11 +6,11 @@ use Rattle.std.proofs.lemmas.Bool.{cases_lt}
 use Rattle.std.proofs.lemmas.Int.{to_z-of_z}
 use Rattle.std.proofs.lemmas.List.{get_or_default}
 use Rattle.std.proofs.lemmas.List.Elements.{All-push, Contains-append_left, Contains-get_or, Contains-push}
-use Rattle.face_sides.specs.Start.{Start}
-use Rattle.face_sides.specs.Lines.{edge_at, nowhere}
-use Rattle.face_sides.specs.Rows.{AreSomeRowEdges, crosses_row}
-use Rattle.face_sides.proofs.KeptLemmas.{begins_in_front, late_from}
-use Rattle.face_sides.proofs.Tests.{lt_true}
+use Rattle.face_sweep.specs.declared.start.Start.{Start}
+use Rattle.face_rows.specs.Lines.{edge_at, nowhere}
+use Rattle.face_rows.specs.Rows.{AreSomeRowEdges, crosses_row}
+use Rattle.face_sweep.proofs.KeptLemmas.{begins_in_front, late_from}
+use Rattle.lay_point.proofs.Tests.{lt_true}
 use Rattle.face_labels.proofs.finds.begun_places.Goals as goal
 use Rattle.face_labels.proofs.finds.begun_places.Goals.{then-crosses_row+in_ok-push, else-crosses_row}
 

@@ -1,6 +1,6 @@
 use Rattle.std.proofs.Common.{◌≡◌, ◌<◌, ℕ, Contains, get_or, length}
 use Rattle.std.specs.Prelude.{All}
-use Rattle.face_sides.specs.Start.{Start}
+use Rattle.face_sweep.specs.declared.start.Start.{Start}
 use Rattle.face_labels.proofs.finds.begun_places.Given as goal
 
 -- the places of the edges of the starts so far

@@ -1,5 +1,5 @@
 use Rattle.std.proofs.Common.{◌≡◌, subst, arith}
-use Rattle.face_sides.proofs.StateLemmas.{AreOthersKnown, all_left, behind_places, none_left, one_fewer}
+use Rattle.face_sweep.proofs.StateLemmas.{AreOthersKnown, all_left, behind_places, none_left, one_fewer}
 use Rattle.face_labels.proofs.finds.find_at.Goals as goal
 
 pub loop-left-init : goal.loop-left-init

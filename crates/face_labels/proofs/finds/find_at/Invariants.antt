@@ -1,6 +1,6 @@
 use Rattle.std.proofs.Common.{◌≤◌, length}
-use Rattle.face_sides.specs.Sides.{AreKnown}
-use Rattle.face_sides.proofs.StateLemmas.{AreOthersKnown}
+use Rattle.face_sweep.specs.Sides.{AreKnown}
+use Rattle.face_sweep.proofs.StateLemmas.{AreOthersKnown}
 use Rattle.face_labels.proofs.finds.find_at.Given as goal
 
 -- the sides of those that don't stand at one of the places left are known

@@ -4,9 +4,9 @@ use Rattle.std.specs.List.Sorted.{IsNonDecreasing}
 use Rattle.std.proofs.lemmas.Int.{to_z-of_z}
 use Rattle.std.proofs.lemmas.List.Elements.{Contains-get_or}
 use Rattle.std.proofs.lemmas.List.Sorted.{All-permutation, Contains-permutation, IsNonDecreasingBy-from_sort}
-use Rattle.face_sides.specs.Sides.{IsKnown}
-use Rattle.face_sides.specs.Starts.{BeginsBy}
-use Rattle.face_sides.proofs.LabelLemmas.{row_given}
+use Rattle.face_sweep.specs.Sides.{IsKnown}
+use Rattle.face_sweep.specs.Starts.{BeginsBy}
+use Rattle.face_sweep.proofs.LabelLemmas.{row_given}
 use Rattle.face_labels.proofs.finds.find_begun.Goals as goal
 
 pub find_at-requires-clause-inside : goal.find_at-requires-clause-inside

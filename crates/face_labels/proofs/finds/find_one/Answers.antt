@@ -1,9 +1,9 @@
 use Rattle.std.proofs.Common.{◌+◌, ◌<◌, None, not, drop, get_or, length, ap, ◌∙◌, arith}
 use Rattle.std.specs.Prelude.{All}
 use Rattle.std.proofs.lemmas.List.{get_or_default}
-use Rattle.face_sides.specs.Lines.{owners_at}
-use Rattle.face_sides.specs.Sides.{IsKnown, holds_beside, is_odd_in}
-use Rattle.face_sides.proofs.StateLemmas.{known_by_test, known_more, now_known, sides_agree, still_known}
+use Rattle.face_rows.specs.Lines.{owners_at}
+use Rattle.face_sweep.specs.Sides.{IsKnown, holds_beside, is_odd_in}
+use Rattle.face_sweep.proofs.StateLemmas.{known_by_test, known_more, now_known, sides_agree, still_known}
 use Rattle.face_labels.proofs.finds.find_one.Goals as goal
 
 pub of-requires-clause-all : goal.of-requires-clause-all

@@ -1,7 +1,7 @@
 use Rattle.std.proofs.Common.{◌≡◌, ◌+◌, ◌-◌, drop, get_or, sym, subst, arith}
 use Rattle.std.specs.Prelude.{All}
-use Rattle.face_sides.specs.Sides.{IsKnown}
-use Rattle.face_sides.proofs.StateLemmas.{all_before}
+use Rattle.face_sweep.specs.Sides.{IsKnown}
+use Rattle.face_sweep.proofs.StateLemmas.{all_before}
 use Rattle.face_labels.proofs.finds.find_sides.Goals as goal
 
 pub find_one-requires-clause-all : goal.find_one-requires-clause-all

@@ -1,6 +1,6 @@
 use Rattle.std.proofs.Common.{◌≤◌, drop, length}
 use Rattle.std.specs.Prelude.{All}
-use Rattle.face_sides.specs.Sides.{AreKnown, IsKnown}
+use Rattle.face_sweep.specs.Sides.{AreKnown, IsKnown}
 use Rattle.face_labels.proofs.finds.find_sides.Given as goal
 
 -- the sides of those from the index on are known

@@ -2,9 +2,9 @@ use Rattle.std.proofs.Common.{sym, subst, ◌∙◌}
 use Rattle.std.specs.Prelude.{All}
 use Rattle.std.specs.List.{zip}
 use Rattle.std.specs.List.Sorted.{IsPermutation}
-use Rattle.face_sides.specs.Starts.{AreAllStarts, HasLabel, IsStartOf, starts_of}
-use Rattle.face_sides.proofs.KeptLemmas.{all_starts}
-use Rattle.face_sides.proofs.StartLemmas.{are_starts, labels_of_band, written_labels}
+use Rattle.face_sweep.specs.Starts.{AreAllStarts, HasLabel, IsStartOf, starts_of}
+use Rattle.face_sweep.proofs.KeptLemmas.{all_starts}
+use Rattle.face_sweep.proofs.StartLemmas.{are_starts, labels_of_band, written_labels}
 use Rattle.face_labels.proofs.labels.label.Goals as goal
 
 pub labels_at-requires-clause-starts : goal.labels_at-requires-clause-starts

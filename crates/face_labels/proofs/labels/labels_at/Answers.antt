@@ -25,13 +25,13 @@ use Rattle.std.proofs.Math.ListN.{length-set}
 use Rattle.std.proofs.lemmas.Int.{to_z-of_z}
 use Rattle.std.proofs.lemmas.List.{get_or_default, take_all}
 use Rattle.std.proofs.lemmas.List.Elements.{All-drop}
-use Rattle.face_sides.specs.Start.{Start}
-use Rattle.face_sides.specs.Lines.{edge_at}
-use Rattle.face_sides.specs.Rows.{upward}
+use Rattle.face_sweep.specs.declared.start.Start.{Start}
+use Rattle.face_rows.specs.Lines.{edge_at}
+use Rattle.face_rows.specs.Rows.{upward}
 use Rattle.face_labels.specs.RowSides.{IsLine}
-use Rattle.face_sides.specs.Starts.{AreByRow, BeginsBy, HasLabel, IsStartOf}
-use Rattle.face_sides.proofs.KeptLemmas.{begun_behind, by_row-drop, none_earlier, not_later, rest}
-use Rattle.face_sides.proofs.StartLemmas.{labels_more}
+use Rattle.face_sweep.specs.Starts.{AreByRow, BeginsBy, HasLabel, IsStartOf}
+use Rattle.face_sweep.proofs.KeptLemmas.{begun_behind, by_row-drop, none_earlier, not_later, rest}
+use Rattle.face_sweep.proofs.StartLemmas.{labels_more}
 use Rattle.face_labels.proofs.labels.labels_at.Goals as goal
 use Rattle.face_labels.proofs.labels.labels_at.Goals.{then-start-line+in_ok-line-2, else-start-line}
 

@@ -1,8 +1,8 @@
 use Rattle.std.proofs.Common.{◌≡◌, ◌-◌, get_or, length, take}
 use Rattle.std.specs.Prelude.{All}
-use Rattle.face_sides.specs.Start.{Start}
+use Rattle.face_sweep.specs.declared.start.Start.{Start}
 use Rattle.face_labels.specs.RowSides.{IsLine}
-use Rattle.face_sides.specs.Starts.{HasLabel}
+use Rattle.face_sweep.specs.Starts.{HasLabel}
 use Rattle.face_labels.proofs.labels.labels_at.Given as goal
 
 -- the edges that begin at the starts so far have their labels, and the line is that of the last of them, or of the first

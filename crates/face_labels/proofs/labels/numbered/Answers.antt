@@ -3,9 +3,9 @@ use Rattle.std.specs.List.{zip}
 use Rattle.std.proofs.lemmas.List.{get_or_default, take_all}
 use Rattle.std.proofs.lemmas.Slice.Zip.{get_or-zip, length-zip}
 use Rattle.lay_point.specs.declared.point.Point.{Point}
-use Rattle.face_sides.specs.Bands.{begins_in}
-use Rattle.face_sides.proofs.PickedLemmas.{picked_more, picked_passed}
-use Rattle.face_sides.proofs.StartLemmas.{written_labels}
+use Rattle.face_rows.specs.Bands.{begins_in}
+use Rattle.face_rows.proofs.PickedLemmas.{picked_more, picked_passed}
+use Rattle.face_sweep.proofs.StartLemmas.{written_labels}
 use Rattle.face_labels.proofs.labels.numbered.Goals as goal
 use Rattle.face_labels.proofs.labels.numbered.Goals.{then-has+in_ok-push, else-has}
 

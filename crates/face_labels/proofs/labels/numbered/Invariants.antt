@@ -1,7 +1,7 @@
 use Rattle.std.proofs.Common.{◌≡◌, take}
 use Rattle.std.specs.List.{zip}
-use Rattle.face_sides.specs.Bands.{begins_in}
-use Rattle.face_sides.specs.Picked.{picked}
+use Rattle.face_rows.specs.Bands.{begins_in}
+use Rattle.face_rows.specs.Picked.{picked}
 use Rattle.face_labels.proofs.labels.numbered.Given as goal
 
 -- those of the labels so far

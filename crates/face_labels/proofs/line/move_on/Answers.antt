@@ -1,10 +1,10 @@
 -- Of the edges of the later row those that begin behind this one are among the starts, and the others cross it.
 use Rattle.std.proofs.Common.{◌≡◌, ◌≤ℤ◌, to_z, of_z, w32, sym, subst}
 use Rattle.std.proofs.lemmas.Int.{to_z-of_z}
-use Rattle.face_sides.specs.Lines.{edge_at}
-use Rattle.face_sides.specs.Rows.{AreRowEdges, AreSomeRowEdges, upward}
-use Rattle.face_sides.specs.Starts.{BeginsBy}
-use Rattle.face_sides.proofs.OrderLemmas.{later_row}
+use Rattle.face_rows.specs.Lines.{edge_at}
+use Rattle.face_rows.specs.Rows.{AreRowEdges, AreSomeRowEdges, upward}
+use Rattle.face_sweep.specs.Starts.{BeginsBy}
+use Rattle.face_sweep.proofs.OrderLemmas.{later_row}
 use Rattle.face_labels.proofs.line.move_on.Goals as goal
 
 pub without_ended-requires-clause-some : goal.without_ended-requires-clause-some

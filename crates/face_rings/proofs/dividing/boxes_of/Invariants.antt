@@ -1,5 +1,5 @@
 use Rattle.std.proofs.Common.{◌≡◌, map, take}
-use Rattle.face_part_laws.specs.Parts.{bounding_box}
+use Rattle.face_ring_laws.specs.Parts.{bounding_box}
 use Rattle.face_rings.proofs.dividing.boxes_of.Given as goal
 
 -- the boxes of the rings so far

@@ -2,8 +2,8 @@ use Rattle.std.proofs.Common.{◌≡◌, ◌<◌, ◌+◌, ◌∷◌, [], ◌++�
 use Rattle.std.proofs.Common.{get_or, take, sym, ap, ◌∙◌, arith, append_assoc, length-append}
 use Rattle.std.proofs.lemmas.List.{get_or-map, length-map, length-take-le, take_more}
 use Rattle.lay_point.specs.declared.ring.Ring.{Ring}
-use Rattle.face_part_laws.specs.Heads.{AreDivided}
-use Rattle.face_part_laws.proofs.PartLemmas.{divided_more, empty_lists, map-set, none_divided}
+use Rattle.face_ring_laws.specs.Heads.{AreDivided}
+use Rattle.face_ring_laws.proofs.PartLemmas.{divided_more, empty_lists, map-set, none_divided}
 use Rattle.face_rings.proofs.dividing.divided.Goals as goal
 
 pub loop-ring-init : goal.loop-ring-init

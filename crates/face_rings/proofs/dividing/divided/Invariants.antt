@@ -1,5 +1,5 @@
 use Rattle.std.proofs.Common.{◌≡◌, ◌++◌, length, map, take}
-use Rattle.face_part_laws.specs.Heads.{AreDivided}
+use Rattle.face_ring_laws.specs.Heads.{AreDivided}
 use Rattle.face_rings.proofs.dividing.divided.Given as goal
 
 -- the rings so far and those left are all, and each part has its rings so far

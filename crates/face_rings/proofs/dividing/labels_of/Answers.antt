@@ -1,7 +1,7 @@
 use Rattle.std.proofs.Common.{◌≡◌, ◌≢◌, ◌<◌, ◌≤◌, ◌+◌, length, get_or, ◌∙◌, arith, rules}
 use Rattle.std.proofs.lemmas.List.{get_or_default}
-use Rattle.face_part_laws.specs.Heads.{IsNumbered}
-use Rattle.face_part_laws.proofs.PartLemmas.{numbered_fresh, numbered_old}
+use Rattle.face_ring_laws.specs.Heads.{IsNumbered}
+use Rattle.face_ring_laws.proofs.PartLemmas.{numbered_fresh, numbered_old}
 use Rattle.face_rings.proofs.dividing.labels_of.Goals as goal
 use Rattle.face_rings.proofs.dividing.labels_of.Goals.{then-heads-number+in_ok-push, else-heads-number+in_ok-push-2}
 

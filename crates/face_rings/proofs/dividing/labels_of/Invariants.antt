@@ -1,5 +1,5 @@
 use Rattle.std.proofs.Common.{◌≤◌}
-use Rattle.face_part_laws.specs.Heads.{IsNumbered}
+use Rattle.face_ring_laws.specs.Heads.{IsNumbered}
 use Rattle.face_rings.proofs.dividing.labels_of.Given as goal
 
 -- the labels so far

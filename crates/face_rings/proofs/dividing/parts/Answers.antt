@@ -1,9 +1,9 @@
 use Rattle.std.proofs.Common.{length, map, Vec, Global, ap, subst, ◌∙◌}
 use Rattle.lay_point.specs.declared.ring.Ring.{Ring}
-use Rattle.face_part_laws.specs.Parts.{AreJoined, bounding_box}
-use Rattle.face_part_laws.proofs.PartLaws.{odd_by_parts}
-use Rattle.face_part_laws.specs.Heads.{AreDivided, IsFinest, IsNumbered}
-use Rattle.face_part_laws.proofs.PartLemmas.{are_parts}
+use Rattle.face_ring_laws.specs.Parts.{AreJoined, bounding_box}
+use Rattle.face_ring_laws.proofs.PartLaws.{odd_by_parts}
+use Rattle.face_ring_laws.specs.Heads.{AreDivided, IsFinest, IsNumbered}
+use Rattle.face_ring_laws.proofs.PartLemmas.{are_parts}
 use Rattle.face_rings.proofs.dividing.parts.Goals as goal
 
 pub returns-clause-parts : goal.returns-clause-parts

@@ -1,6 +1,6 @@
 use Rattle.std.proofs.Common.{◌≡◌, ◌<◌, true, ℕ, get_or, take}
 use Rattle.lay_point.specs.Edges.{is_before}
-use Rattle.face_link_laws.specs.Linking.{Ends}
+use Rattle.face_ring_laws.specs.Linking.{Ends}
 use Rattle.face_rings.proofs.IncidenceLemmas.{ends_from}
 use Rattle.face_rings.proofs.incidence.sorted_ends.Given as goal
 

@@ -2,19 +2,19 @@ use Rattle.std.proofs.Common.{◌≡◌, ◌+◌, ◌<◌, ◌≤◌, ℕ, Bool,
 use Rattle.std.specs.List.{AllByRecursion}
 use Rattle.std.proofs.lemmas.List.{get_or_default}
 use Rattle.lay_point.specs.declared.ring.TheConstants.{MAX_RING_POINTS}
-use Rattle.face_link_laws.specs.Linking.{linked_rings}
+use Rattle.face_ring_laws.specs.Linking.{linked_rings}
 use Rattle.lay_point.specs.Edges.{undirected}
 use Rattle.lay_point.specs.Parity.{odd}
 use Rattle.lay_point.specs.RingEdges.{edges_of}
 use Rattle.std.specs.Prelude.{All, Err, count_by}
 use Rattle.std.proofs.lemmas.Result.{err_from_is_err_and}
 use Rattle.face_rings.specs.declared.fault.LinkFault.TheVariants.{TooMany}
-use Rattle.face_link_laws.specs.Linked.{AreLinked}
-use Rattle.face_link_laws.proofs.CountLemmas.{rings_count, rings_odd}
-use Rattle.face_link_laws.proofs.StepLemmas.{all_linked, all_rings, all_sound, undirected_edges}
+use Rattle.face_ring_laws.specs.Linked.{AreLinked}
+use Rattle.face_ring_laws.proofs.CountLemmas.{rings_count, rings_odd}
+use Rattle.face_ring_laws.proofs.StepLemmas.{all_linked, all_rings, all_sound, undirected_edges}
 use Rattle.face_rings.proofs.LinkLemmas.{IsLinking, all_short, linking_ends, linking_first}
 use Rattle.face_rings.proofs.LinkLemmas.{linking_goes_on, linking_skips, linking_sound, linking_too_long}
-use Rattle.face_link_laws.proofs.RingLaws.{AreSound}
+use Rattle.face_ring_laws.proofs.RingLaws.{AreSound}
 use Rattle.face_rings.proofs.linking.link.Goals as goal
 use Rattle.face_rings.proofs.linking.link.Goals.{then-not-index+in_ok-ring+in_ok-push, else-not-index}
 

@@ -3,7 +3,7 @@ use Rattle.lay_point.specs.declared.ring.TheConstants.{MAX_RING_POINTS}
 use Rattle.lay_point.specs.Rings.{ring_of}
 use Rattle.lay_point.proofs.BridgeLemmas.{ring_of_ring}
 use Rattle.face_rings.specs.Incidence.{left_of}
-use Rattle.face_link_laws.specs.Linking.{first_ring}
+use Rattle.face_ring_laws.specs.Linking.{first_ring}
 use Rattle.face_rings.proofs.LinkLemmas.{ring_answer}
 use Rattle.face_rings.proofs.linking.next_ring.Goals as goal
 

@@ -1,7 +1,7 @@
 use Rattle.face_rings.specs.Incidence.{left_of}
 use Rattle.face_rings.proofs.IncidenceLemmas.{other}
 use Rattle.std.proofs.Common.{subst, sym}
-use Rattle.face_link_laws.proofs.StepLemmas.{IsOnWay, on_way_further, taken_shorter}
+use Rattle.face_ring_laws.proofs.StepLemmas.{IsOnWay, on_way_further, taken_shorter}
 use Rattle.face_rings.proofs.linking.walk_back.Goals as goal
 
 pub loop-start-smaller : goal.loop-start-smaller

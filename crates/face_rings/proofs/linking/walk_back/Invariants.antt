@@ -1,6 +1,6 @@
 use Rattle.std.proofs.Common.{length}
 use Rattle.face_rings.specs.Incidence.{IsIncidence, KeepsMarks, left_of}
-use Rattle.face_link_laws.proofs.StepLemmas.{IsOnWay}
+use Rattle.face_ring_laws.proofs.StepLemmas.{IsOnWay}
 use Rattle.face_rings.proofs.linking.walk_back.Given as goal
 
 abbrev pub invariant-loop-start : goal.invariant-loop-start

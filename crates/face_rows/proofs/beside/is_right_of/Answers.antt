@@ -2,7 +2,7 @@ use Rattle.std.proofs.Common.{◌≡◌, pos, ◌+ℤ◌, ◌-ℤ◌, ◌*ℤ◌
 use Rattle.std.specs.Int.{w128}
 use Rattle.std.proofs.lemmas.Int.{ints, to_z-of_z}
 use Rattle.lay_point.specs.declared.point.Point.{Point}
-use Rattle.face_label_laws.specs.Segments.{cross}
+use Rattle.snap_pixels.specs.Segments.{cross}
 use Rattle.face_rows.specs.Beside.{weight}
 use Rattle.face_rows.specs.Rows.{upward}
 use Rattle.face_rows.proofs.beside.is_right_of.Goals as goal

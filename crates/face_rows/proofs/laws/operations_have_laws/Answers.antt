@@ -3,7 +3,7 @@ use Rattle.std.proofs.Common.{◌≡◌, false, refl}
 use Rattle.face_rows.specs.declared.op.Op.{Op}
 use Rattle.face_rows.specs.declared.op.Op.TheVariants.{And, Or, Not, Xor}
 use Rattle.face_rows.specs.Operations.{answer}
-use Rattle.face_label_laws.proofs.Upward.{even_operation, operation_law, operation_rises}
+use Rattle.face_rows.proofs.UpwardLemmas.{even_operation, operation_law, operation_rises}
 use Rattle.face_rows.proofs.laws.operations_have_laws.Goals as goal
 
 neither : (op : Op) → answer op false false ≡ false

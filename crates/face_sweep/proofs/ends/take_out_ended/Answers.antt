@@ -1,7 +1,7 @@
 -- The ends behind one that is above the row are above it too.
 use Rattle.std.proofs.Common.{◌≡◌, ◌≤ℤ◌, ◌<ℤ◌, pos, get_or, to_z, of_z, w32, sym, subst, ◌∙◌, arith}
 use Rattle.std.proofs.lemmas.Int.{to_z-of_z}
-use Rattle.lay_int_laws.proofs.Tests.{lt_false, lt_true}
+use Rattle.lay_point.proofs.Tests.{lt_false, lt_true}
 use Rattle.face_sweep.specs.declared.ends.End.{End}
 use Rattle.face_sweep.proofs.EndLemmas.{ArePassed, IsWithout, above_from, ends_later, ends_over, none_passed, passed_more, some_later}
 use Rattle.face_sweep.proofs.ends.take_out_ended.Goals as goal

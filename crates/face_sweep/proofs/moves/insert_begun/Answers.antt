@@ -27,7 +27,7 @@ use Rattle.std.proofs.lemmas.Bool.{cases_lt}
 use Rattle.std.proofs.lemmas.Int.{to_z-of_z}
 use Rattle.std.proofs.lemmas.List.{get_or_default}
 use Rattle.std.proofs.lemmas.List.Elements.{Contains-get_or}
-use Rattle.lay_int_laws.proofs.Tests.{lt_false, lt_true}
+use Rattle.lay_point.proofs.Tests.{lt_false, lt_true}
 use Rattle.face_sweep.specs.declared.start.Start.{Start}
 use Rattle.face_rows.specs.Lines.{edge_at, nowhere}
 use Rattle.face_rows.specs.Rows.{AreSomeRowEdges, CrossesRow, crosses_row, upward}

@@ -2,7 +2,7 @@
 use Rattle.std.proofs.Common.{◌≡◌, length}
 use Rattle.std.specs.List.{list_all}
 use Rattle.byte_io.specs.Numbers.{is_number}
-use Rattle.job_lines.specs.Words.{words}
+use Rattle.job_text.specs.Words.{words}
 use Rattle.job_text.proofs.order_section.are_numbers.Given as goal
 
 abbrev pub invariant-loop-word : goal.invariant-loop-word

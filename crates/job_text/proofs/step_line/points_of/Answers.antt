@@ -1,7 +1,7 @@
 use Rattle.std.proofs.Common.{◌≡◌, ◌++◌, ◌∷◌, [], rules, sym, ◌∙◌, ap}
 use Rattle.std.specs.Prelude.{Some}
 use Rattle.job_text.specs.Steps.{parsed_points, point_of}
-use Rattle.job_lines.specs.Words.{words}
+use Rattle.job_text.specs.Words.{words}
 use Rattle.job_text.proofs.JobLemmas.{parsed_points-point}
 use Rattle.job_text.proofs.step_line.points_of.Goals as goal
 

@@ -1,7 +1,7 @@
 -- The points so far, and those of the words that are left, are the points of all words.
 use Rattle.std.proofs.Common.{◌≡◌, [], length}
 use Rattle.job_text.specs.Steps.{parsed_points}
-use Rattle.job_lines.specs.Words.{words}
+use Rattle.job_text.specs.Words.{words}
 use Rattle.job_text.proofs.step_line.points_of.Given as goal
 
 abbrev pub invariant-loop-x : goal.invariant-loop-x

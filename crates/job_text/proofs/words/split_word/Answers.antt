@@ -1,7 +1,7 @@
 use Rattle.std.proofs.Common.{◌≡◌, ◌<◌, [], drop, length, rules, take, unwrap_or}
 use Rattle.std.specs.List.{position}
-use Rattle.job_lines.specs.Words.{from_word, is_word_separator, words}
-use Rattle.job_lines.proofs.WordLemmas.{no_words, first_word}
+use Rattle.job_text.specs.Words.{from_word, is_word_separator, words}
+use Rattle.job_text.proofs.WordLemmas.{no_words, first_word}
 use Rattle.job_text.proofs.words.split_word.Goals as goal
 
 pub returns-then-is_empty : goal.returns-then-is_empty

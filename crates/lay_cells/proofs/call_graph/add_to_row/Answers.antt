@@ -2,8 +2,8 @@ use Rattle.std.proofs.Common.{◌≡◌, ℕ, List, [], ◌∷◌, ◌++◌, sli
 use Rattle.std.proofs.Math.Seq.{map-set_same}
 use Rattle.std.proofs.lemmas.List.{map-set}
 use Rattle.std.specs.Global.{Vec}
-use Rattle.lay_calls.specs.Graph.{row, rows_of}
-use Rattle.lay_calls.proofs.GraphLemmas.{row_read}
+use Rattle.lay_cells.specs.Graph.{row, rows_of}
+use Rattle.lay_cells.proofs.GraphLemmas.{row_read}
 use Rattle.lay_cells.proofs.call_graph.add_to_row.Goals as goal
 
 on_err : {T E P : Type 0} (r : Result T E) → P → OnErr r P

@@ -1,5 +1,5 @@
 use Rattle.std.proofs.Common.{◌≡◌, ℕ, [], ◌+◌, length}
-use Rattle.lay_calls.specs.Graph.{row, rows_of}
+use Rattle.lay_cells.specs.Graph.{row, rows_of}
 use Rattle.lay_cells.proofs.call_graph.empty_rows.Given as goal
 
 -- so many rows, all without targets

@@ -1,5 +1,5 @@
 use Rattle.std.proofs.Common.{◌∙◌, nat_eq}
-use Rattle.lay_calls.proofs.GraphLemmas.{found_or_len}
+use Rattle.lay_cells.proofs.GraphLemmas.{found_or_len}
 use Rattle.lay_cells.proofs.call_graph.position_of.Goals as goal
 
 pub returns-in-Symbol : goal.returns-in-Symbol

@@ -2,8 +2,8 @@ use Rattle.std.proofs.Common.{◌≡◌, ◌∙◌, ℕ, List, None, Option, IsS
 use Rattle.std.proofs.lemmas.List.{length-map, length-replicate}
 use Rattle.std.specs.Global.{Vec}
 use Rattle.lay_cells.specs.declared.tally.Tally.{Tally}
-use Rattle.lay_calls.specs.Graph.{rows_of}
-use Rattle.lay_calls.specs.Places.{ArePositions}
+use Rattle.lay_cells.specs.Graph.{rows_of}
+use Rattle.lay_cells.specs.Places.{ArePositions}
 use Rattle.lay_cells.specs.Tallies.{AreTallies, IsLow}
 use Rattle.lay_cells.proofs.TallyLemmas.{low, none_at_first, round-more}
 use Rattle.lay_cells.proofs.tally.tallied.Goals as goal

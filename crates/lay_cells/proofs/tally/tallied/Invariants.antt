@@ -1,5 +1,5 @@
 use Rattle.std.proofs.Common.{◌≡◌, ℕ, ◌<◌, length}
-use Rattle.lay_calls.specs.Graph.{rows_of}
+use Rattle.lay_cells.specs.Graph.{rows_of}
 use Rattle.lay_cells.specs.Tallies.{AreTallies, IsLow, IsTallied}
 use Rattle.lay_cells.proofs.tally.tallied.Given as goal
 

@@ -1,7 +1,7 @@
 use Rattle.std.proofs.Common.{ℕ, List, arith, sym, subst}
 use Rattle.std.proofs.lemmas.List.{length-map}
 use Rattle.std.specs.Global.{Vec}
-use Rattle.lay_calls.specs.Graph.{rows_of}
+use Rattle.lay_cells.specs.Graph.{rows_of}
 use Rattle.lay_cells.specs.Tallies.{AreTallied}
 use Rattle.lay_cells.proofs.TallyLemmas.{at_more, at_start, entries-more, entry-below}
 use Rattle.lay_cells.proofs.tally.tally_all.Goals as goal

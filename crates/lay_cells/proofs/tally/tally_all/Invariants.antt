@@ -1,5 +1,5 @@
 use Rattle.std.proofs.Common.{map, take}
-use Rattle.lay_calls.specs.Graph.{rows_of}
+use Rattle.lay_cells.specs.Graph.{rows_of}
 use Rattle.lay_cells.specs.Tallies.{AreTallied}
 use Rattle.lay_cells.proofs.tally.tally_all.Given as goal
 

@@ -1,8 +1,8 @@
 use Rattle.std.proofs.Common.{◌≡◌, ◌∙◌, ◌<◌, [], ℕ, List, length, get_or, arith, sym, subst}
 use Rattle.std.proofs.lemmas.List.{get_or_default}
-use Rattle.lay_calls.specs.Graph.{row, rows_of}
+use Rattle.lay_cells.specs.Graph.{row, rows_of}
 use Rattle.lay_cells.specs.Tallies.{IsSum, IsTally}
-use Rattle.lay_calls.proofs.GraphLemmas.{row_read}
+use Rattle.lay_cells.proofs.GraphLemmas.{row_read}
 use Rattle.lay_cells.proofs.TallyLemmas.{sum-few, sum-next, sum-none, tally-few, tally-shallow}
 use Rattle.lay_cells.proofs.tally.tally_of.Goals as goal
 

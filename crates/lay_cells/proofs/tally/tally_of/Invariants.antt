@@ -1,5 +1,5 @@
 use Rattle.std.proofs.Common.{take}
-use Rattle.lay_calls.specs.Graph.{row, rows_of}
+use Rattle.lay_cells.specs.Graph.{row, rows_of}
 use Rattle.lay_cells.specs.Tallies.{IsSum}
 use Rattle.lay_cells.proofs.tally.tally_of.Given as goal
 

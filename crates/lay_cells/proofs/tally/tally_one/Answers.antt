@@ -1,5 +1,5 @@
 use Rattle.std.proofs.Common.{◌∙◌, is_some, ap, arith, sym}
-use Rattle.lay_calls.specs.Graph.{rows_of}
+use Rattle.lay_cells.specs.Graph.{rows_of}
 use Rattle.lay_cells.specs.Tallies.{IsTallied}
 use Rattle.lay_cells.proofs.TallyLemmas.{at_none, at_one, known_none}
 use Rattle.lay_cells.proofs.tally.tally_one.Goals as goal

@@ -1,6 +1,6 @@
 use Rattle.std.proofs.Common.{◌≡◌, ◌∙◌, ◌++◌, ◌-◌, ◌∷◌, [], List, ap, append_assoc, sym}
 use Rattle.std.specs.Prelude.{flat_map}
-use Rattle.lay_calls.specs.declared.cell_id.CellId.TheVariants.{Symbol}
+use Rattle.lay_cells.specs.declared.cell_id.CellId.TheVariants.{Symbol}
 use Rattle.lay_layouts.specs.Layout.{Layout}
 use Rattle.lay_layouts.specs.Lent.{LentCall, calls_in}
 use Rattle.lay_flat.specs.declared.ends.End.{End}

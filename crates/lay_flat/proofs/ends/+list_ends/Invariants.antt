@@ -1,6 +1,6 @@
 use Rattle.std.proofs.Common.{◌≡◌, ◌++◌, ◌-◌, drop}
 use Rattle.std.specs.Prelude.{flat_map}
-use Rattle.lay_calls.specs.declared.cell_id.CellId.TheVariants.{Symbol}
+use Rattle.lay_cells.specs.declared.cell_id.CellId.TheVariants.{Symbol}
 use Rattle.lay_flat.specs.Ends.{ends_within, turn_after}
 use Rattle.lay_flat.proofs.ends.+list_ends.Given as goal
 

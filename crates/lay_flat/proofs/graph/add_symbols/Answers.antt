@@ -1,9 +1,9 @@
 use Rattle.std.proofs.Common.{◌≡◌, ◌++◌, ◌<◌, Some, None, ap, arith, map, rules, subst, sym, ◌∙◌, List, ℕ, true}
 use Rattle.std.specs.Prelude.{slice_get}
 use Rattle.std.proofs.lemmas.Option.{slice_get_within}
-use Rattle.lay_calls.specs.declared.cell_id.CellId.TheVariants.{Symbol}
-use Rattle.lay_calls.specs.Symbols.{has_symbol}
-use Rattle.lay_calls.specs.Walks.{Calls}
+use Rattle.lay_cells.specs.declared.cell_id.CellId.TheVariants.{Symbol}
+use Rattle.lay_cells.specs.Symbols.{has_symbol}
+use Rattle.lay_cells.specs.Walks.{Calls}
 use Rattle.lay_layouts.specs.Layout.{Layout}
 use Rattle.lay_layouts.specs.Lent.{LentCall, calls_in}
 use Rattle.lay_items.specs.Graphs.{graph_calls, in_graph, symbol_calls}

@@ -1,5 +1,5 @@
 use Rattle.std.proofs.Common.{◌∙◌, ap}
-use Rattle.lay_items.specs.Tallies.{counted}
+use Rattle.lay_cells.specs.Tallies.{counted}
 use Rattle.lay_flat.proofs.LayoutWalks.{count_is, depth_is, graph_acyclic}
 use Rattle.lay_items.proofs.Reaching.{cell_in}
 use Rattle.lay_flat.proofs.graph.depth_and_walks.Goals as goal

@@ -1,7 +1,7 @@
 use Rattle.std.proofs.Common.{◌≡◌, ◌∙◌, ◌++◌, ◌∷◌, ℕ, List, [], ap, append_assoc, map, nat_eq, rules, subst, sym}
 use Rattle.std.specs.FinMap.{FinMap, entries}
 use Rattle.std.specs.List.{IsDistinct}
-use Rattle.lay_calls.specs.Symbols.{with_symbol}
+use Rattle.lay_cells.specs.Symbols.{with_symbol}
 use Rattle.lay_layouts.specs.Layout.{symbols_of}
 use Rattle.lay_layouts.specs.SlotOrder.{Standing, in_slot_order, standing_cmp}
 use Rattle.lay_layouts.proofs.MapLemmas.{entries_again}

@@ -1,8 +1,8 @@
 use Rattle.std.proofs.Common.{◌∙◌, List, ap, subst, sym}
 use Rattle.std.specs.List.Sorted.{IsStrictlySortedBy}
 use Rattle.std.specs.Map.{keys_of}
-use Rattle.lay_page.specs.Shared.{pages_in}
-use Rattle.lay_page.specs.Written.{lower}
+use Rattle.lay_pages.specs.Shared.{pages_in}
+use Rattle.lay_pages.specs.Written.{lower}
 use Rattle.lay_pages.proofs.BesideLemmas.{last_none, last_some}
 use Rattle.lay_pages.proofs.PageOfLemmas.{sorted_in}
 use Rattle.lay_pages.proofs.beside.below.Goals as goal

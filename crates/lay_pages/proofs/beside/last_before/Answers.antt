@@ -1,9 +1,9 @@
 use Rattle.std.proofs.Common.{◌∙◌, ◌≤◌, ◌++◌, List, [], arith, ap, get_or, length, rules, subst, sym, take}
 use Rattle.std.proofs.lemmas.List.{append-nil}
 use Rattle.std.specs.List.{AllByRecursion}
-use Rattle.lay_page.specs.Shared.{AreSized, entries_in, items_of, joined, pages_in}
-use Rattle.lay_page.specs.Written.{last_entry}
-use Rattle.lay_page.proofs.ShareLemmas.{all_take, count_books, length_map}
+use Rattle.lay_pages.specs.Shared.{AreSized, entries_in, items_of, joined, pages_in}
+use Rattle.lay_pages.specs.Written.{last_entry}
+use Rattle.lay_pages.proofs.ShareLemmas.{all_take, count_books, length_map}
 use Rattle.lay_pages.proofs.LastLemmas.{last_behind, take_items, take_pages}
 use Rattle.lay_pages.proofs.LentLemmas.{lent_book}
 use Rattle.lay_pages.proofs.beside.last_before.Goals as goal

@@ -1,8 +1,8 @@
 use Rattle.std.proofs.Common.{◌≡◌, ◌∙◌, ◌++◌, [], ap, arith, sym}
 use Rattle.std.proofs.lemmas.List.{append-nil, nil_from_length}
 use Rattle.std.specs.Vec.Iter.{into_iter_items}
-use Rattle.lay_page.proofs.FillLemmas.{booked}
-use Rattle.lay_page.specs.Shared.{filled, items_of, joined}
+use Rattle.lay_pages.proofs.FillLemmas.{booked}
+use Rattle.lay_pages.specs.Shared.{filled, items_of, joined}
 use Rattle.lay_pages.proofs.builder.books_of.Goals as goal
 
 pub returns-clause-entries : goal.returns-clause-entries

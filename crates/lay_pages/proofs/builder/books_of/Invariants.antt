@@ -1,6 +1,6 @@
 use Rattle.std.proofs.Common.{◌≡◌, ◌++◌}
 use Rattle.std.specs.Vec.Iter.{into_iter_items}
-use Rattle.lay_page.specs.Shared.{AreFilled, filled, items_of}
+use Rattle.lay_pages.specs.Shared.{AreFilled, filled, items_of}
 use Rattle.lay_pages.proofs.builder.books_of.Given as goal
 
 -- the pages so far, and those that are left, are all

@@ -1,6 +1,6 @@
 use Rattle.std.proofs.Common.{◌≡◌}
 use Rattle.std.specs.Cmp.Lexicographic.{pointwise}
-use Rattle.lay_page.specs.Written.{are_equal}
+use Rattle.lay_pages.specs.Written.{are_equal}
 use Rattle.lay_pages.proofs.entries.are_same.Given as goal
 
 -- those that are left decide

@@ -2,10 +2,10 @@ use Rattle.std.proofs.Common.{◌∙◌, ◌+◌, ◌++◌, List, [], rules, sub
 use Rattle.std.proofs.lemmas.List.{take_rest}
 use Rattle.std.specs.List.Sorted.{IsStrictlySortedBy}
 use Rattle.std.specs.Map.{keys_of}
-use Rattle.lay_page.specs.Shared.{items_of, joined}
-use Rattle.lay_page.specs.Written.{from_key}
-use Rattle.lay_page.proofs.FillLemmas.{drop_items, from-level}
-use Rattle.lay_page.proofs.PlaceLemmas.{sorted-at}
+use Rattle.lay_pages.specs.Shared.{items_of, joined}
+use Rattle.lay_pages.specs.Written.{from_key}
+use Rattle.lay_pages.proofs.FillLemmas.{drop_items, from-level}
+use Rattle.lay_pages.proofs.PlaceLemmas.{sorted-at}
 use Rattle.lay_pages.proofs.LentLemmas.{lent_page}
 use Rattle.lay_pages.proofs.entries.from_in_book.Goals as goal
 

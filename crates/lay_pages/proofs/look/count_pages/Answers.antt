@@ -1,7 +1,7 @@
 use Rattle.std.proofs.Common.{◌≡◌, ◌<◌, ◌≤◌, ◌+◌, [], arith, ap, length, refl, rules, take}
-use Rattle.lay_page.specs.Shared.{joined, pages_in}
-use Rattle.lay_page.proofs.BookLemmas.{all_taken, pages_many, pages_more, pages_within}
-use Rattle.lay_page.proofs.ShareLemmas.{count_books, count_items, pages_at}
+use Rattle.lay_pages.specs.Shared.{joined, pages_in}
+use Rattle.lay_pages.proofs.BookLemmas.{all_taken, pages_many, pages_more, pages_within}
+use Rattle.lay_pages.proofs.ShareLemmas.{count_books, count_items, pages_at}
 use Rattle.lay_pages.proofs.look.count_pages.Goals as goal
 
 -- there are fewer pages than entries

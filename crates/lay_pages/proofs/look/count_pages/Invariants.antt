@@ -1,5 +1,5 @@
 use Rattle.std.proofs.Common.{◌≡◌, length, take}
-use Rattle.lay_page.specs.Shared.{joined, pages_in}
+use Rattle.lay_pages.specs.Shared.{joined, pages_in}
 use Rattle.lay_pages.proofs.look.count_pages.Given as goal
 
 -- those of the books so far

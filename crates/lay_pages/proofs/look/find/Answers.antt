@@ -2,7 +2,7 @@ use Rattle.std.proofs.Common.{◌∙◌, List, ap, subst, sym}
 use Rattle.std.specs.FinMap.{find}
 use Rattle.std.specs.List.Sorted.{IsStrictlySortedBy}
 use Rattle.std.specs.Map.{keys_of}
-use Rattle.lay_page.specs.Shared.{pages_in}
+use Rattle.lay_pages.specs.Shared.{pages_in}
 use Rattle.lay_pages.proofs.PageOfLemmas.{found_in, sorted_in}
 use Rattle.lay_pages.proofs.look.find.Goals as goal
 

@@ -3,7 +3,7 @@ use Rattle.std.specs.Prelude.{is_some, option_copied}
 use Rattle.std.specs.FinMap.{find}
 use Rattle.std.specs.List.Sorted.{IsStrictlySortedBy}
 use Rattle.std.specs.Map.{keys_of}
-use Rattle.lay_page.specs.Shared.{pages_in}
+use Rattle.lay_pages.specs.Shared.{pages_in}
 use Rattle.lay_pages.proofs.PageOfLemmas.{found_in, sorted_in}
 use Rattle.lay_pages.proofs.look.has_value.Goals as goal
 

@@ -1,5 +1,5 @@
 use Rattle.std.proofs.Common.{List, rules, subst, sym}
-use Rattle.lay_page.specs.Written.{IsPlace}
+use Rattle.lay_pages.specs.Written.{IsPlace}
 use Rattle.lay_pages.proofs.LentLemmas.{lent_book}
 use Rattle.lay_pages.proofs.place.place_of.Goals as goal
 

@@ -1,8 +1,8 @@
 use Rattle.std.proofs.Common.{◌≡◌, ◌∙◌, ◌≤◌, List, [], arith, ap, get_or, length, rules, sym}
-use Rattle.lay_page.specs.Shared.{items_of, joined, pages_in}
-use Rattle.lay_page.specs.Written.{after_write}
-use Rattle.lay_page.proofs.BookLemmas.{books_after}
-use Rattle.lay_page.proofs.ShareLemmas.{count_items, spliced_pages}
+use Rattle.lay_pages.specs.Shared.{items_of, joined, pages_in}
+use Rattle.lay_pages.specs.Written.{after_write}
+use Rattle.lay_pages.proofs.BookLemmas.{books_after}
+use Rattle.lay_pages.proofs.ShareLemmas.{count_items, spliced_pages}
 use Rattle.lay_pages.proofs.LentLemmas.{lent_book}
 use Rattle.lay_pages.proofs.update.books_with.Goals as goal
 

@@ -1,9 +1,9 @@
 use Rattle.std.proofs.Common.{◌≡◌, ◌∙◌, List, [], ap, rules, subst, sym, true}
 use Rattle.std.specs.List.Sorted.{IsStrictlySortedBy}
 use Rattle.std.specs.Map.{keys_of}
-use Rattle.lay_page.specs.Shared.{items_of, page_parts}
-use Rattle.lay_page.specs.Written.{after_write}
-use Rattle.lay_page.proofs.BookLemmas.{books_first}
+use Rattle.lay_pages.specs.Shared.{items_of, page_parts}
+use Rattle.lay_pages.specs.Written.{after_write}
+use Rattle.lay_pages.proofs.BookLemmas.{books_first}
 use Rattle.lay_pages.proofs.update.first_books.Goals as goal
 
 pub with-requires : goal.with-requires

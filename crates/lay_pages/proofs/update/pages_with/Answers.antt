@@ -1,11 +1,11 @@
 use Rattle.std.proofs.Common.{◌≡◌, ◌∙◌, List, [], arith, ap, get_or, rules, subst, sym}
 use Rattle.std.specs.List.Sorted.{IsStrictlySortedBy}
 use Rattle.std.specs.Map.{keys_of}
-use Rattle.lay_page.specs.Shared.{items_of}
-use Rattle.lay_page.specs.Written.{after_write}
-use Rattle.lay_page.proofs.BookLemmas.{few_after, pages_after}
-use Rattle.lay_page.proofs.PlaceLemmas.{sorted-at}
-use Rattle.lay_page.proofs.ShareLemmas.{count_items}
+use Rattle.lay_pages.specs.Shared.{items_of}
+use Rattle.lay_pages.specs.Written.{after_write}
+use Rattle.lay_pages.proofs.BookLemmas.{few_after, pages_after}
+use Rattle.lay_pages.proofs.PlaceLemmas.{sorted-at}
+use Rattle.lay_pages.proofs.ShareLemmas.{count_items}
 use Rattle.lay_pages.proofs.LentLemmas.{lent_page}
 use Rattle.lay_pages.proofs.update.pages_with.Goals as goal
 

@@ -1,4 +1,4 @@
-use Rattle.lay_cell_items.specs.Runs.{AreHeld}
+use Rattle.lay_items.specs.Runs.{AreHeld}
 use Rattle.lay_tests.proofs.runs.boxes.Given as goal
 
 -- the items so far are held with the marks of their runs

@@ -3,7 +3,7 @@ use Rattle.std.proofs.Common.{◌≡◌, Bool, map, ◌∙◌}
 use Rattle.std.specs.Prelude.{filter}
 use Rattle.std.specs.List.{zip}
 use Rattle.lay_point.specs.declared.point.Point.{Point}
-use Rattle.band_workers.specs.EdgeLabels.{differs, owned_items}
+use Rattle.face_rows.specs.Labels.{differs, owned_items}
 use Rattle.face_rows.specs.Operations.{answer}
 use Rattle.layer_ops.proofs.Kept.{kept_by_labels}
 use Rattle.layer_ops.proofs.edges.operation_edges.Goals as goal

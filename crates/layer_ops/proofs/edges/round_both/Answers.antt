@@ -1,8 +1,8 @@
 -- Turned rings are rings, and rounding them has one answer.
 use Rattle.std.proofs.Common.{◌≡◌, sym, subst, ◌∙◌}
-use Rattle.bool_shape_laws.specs.RoundLaws.{AreOwnedRings}
-use Rattle.bool_shape_laws.specs.Shapes.{owned_of}
-use Rattle.bool_shape_laws.proofs.TurningLemmas.{owned_are_rings}
+use Rattle.snap_laws.specs.RoundLaws.{AreOwnedRings}
+use Rattle.bool_rules.specs.Shapes.{owned_of}
+use Rattle.bool_rules.proofs.TurningLemmas.{owned_are_rings}
 use Rattle.layer_ops.proofs.Both.{both_turned, rounded_is}
 use Rattle.layer_ops.proofs.edges.round_both.Goals as goal
 

@@ -4,7 +4,7 @@ use Rattle.std.specs.Global.{Vec}
 use Rattle.std.proofs.lemmas.Result.{err_from_is_err_and}
 use Rattle.lay_point.specs.declared.ring.Ring.{Ring}
 use Rattle.lay_point.specs.Memory.{IsAnswer}
-use Rattle.face_link_laws.specs.Linking.{linked_rings}
+use Rattle.face_ring_laws.specs.Linking.{linked_rings}
 use Rattle.layer_ops.specs.declared.fault.OpFault.TheVariants.{NoMemory}
 use Rattle.layer_ops.specs.Combining.{tested_shapes}
 use Rattle.layer_ops.proofs.Short.{all_short, some_long}

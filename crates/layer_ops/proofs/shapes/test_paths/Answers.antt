@@ -5,7 +5,7 @@ use Rattle.std.proofs.lemmas.List.{take_all}
 use Rattle.std.proofs.lemmas.List.Folds.{list_all_at, list_all-map}
 use Rattle.lay_point.specs.declared.ring.Ring.{Ring}
 use Rattle.lay_point.specs.Bridges.{bridged}
-use Rattle.bool_shape_laws.specs.Shapes.{is_short}
+use Rattle.bool_rules.specs.Shapes.{is_short}
 use Rattle.layer_ops.specs.declared.fault.OpFault.{OpFault}
 use Rattle.layer_ops.specs.declared.fault.OpFault.TheVariants.{TooMany}
 use Rattle.layer_ops.proofs.shapes.test_paths.Goals as goal

@@ -1,5 +1,5 @@
 use Rattle.std.proofs.Common.{◌≡◌, ◌++◌, map, take}
-use Rattle.bool_shape_laws.specs.Shapes.{owned_by}
+use Rattle.bool_rules.specs.Shapes.{owned_by}
 use Rattle.layer_ops.proofs.turning.add_turned.Given as goal
 
 -- the rings of the flattening so far are added, turned

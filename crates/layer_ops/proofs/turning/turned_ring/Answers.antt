@@ -3,8 +3,8 @@ use Rattle.std.proofs.Common.{◌≡◌, map, sym, ap, ◌∙◌, Vec, Global}
 use Rattle.std.specs.Option.{option_map_or}
 use Rattle.lay_point.specs.declared.point.Point.{Point}
 use Rattle.lay_point.specs.Turns.{turned}
-use Rattle.snap_visits.specs.declared.owner.Owner.{Owner}
-use Rattle.bool_shape_laws.specs.Shapes.{owned_by}
+use Rattle.snap_chains.specs.declared.owner.Owner.{Owner}
+use Rattle.bool_rules.specs.Shapes.{owned_by}
 use Rattle.layer_ops.proofs.Unturned.{unturned_points}
 use Rattle.layer_ops.proofs.turning.turned_ring.Goals as goal
 use Rattle.layer_ops.proofs.turning.turned_ring.Goals.{then-is_unturned, else-is_unturned+in_ok-turned_points}

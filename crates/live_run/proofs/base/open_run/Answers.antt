@@ -1,5 +1,5 @@
 use Rattle.std.proofs.Common.{◌≡◌, ℕ, true, Ok, Err, List, refl, subst, sym}
-use Rattle.job_live.specs.Live.{before_first_line, run_of}
+use Rattle.live_run.specs.Live.{before_first_line, run_of}
 use Rattle.live_run.specs.Course.{IsBaseOf, Refuses, end_of_head}
 use Rattle.live_run.proofs.BaseLemmas.{opens, refuses}
 use Rattle.live_run.proofs.base.open_run.Goals as goal

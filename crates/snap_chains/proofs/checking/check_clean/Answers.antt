@@ -1,5 +1,5 @@
 use Rattle.std.proofs.Common.{subst}
-use Rattle.snap_visits.specs.Rounded.{AreClean}
+use Rattle.snap_chains.specs.Rounded.{AreClean}
 use Rattle.snap_chains.proofs.checking.check_clean.Goals as goal
 
 pub invariant_of-result : goal.invariant_of-result

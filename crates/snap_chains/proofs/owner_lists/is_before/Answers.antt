@@ -1,6 +1,6 @@
 use Rattle.std.proofs.Common.{◌≡◌, ◌∙◌, rules, sym, ap}
 use Rattle.std.specs.Ordering.{is_lt}
-use Rattle.snap_visits.proofs.EdgeOrder.{edge_cmp}
+use Rattle.snap_chains.proofs.EdgeOrder.{edge_cmp}
 use Rattle.snap_chains.proofs.VisitorLemmas.{earlier, less_by_before}
 use Rattle.snap_chains.proofs.owner_lists.is_before.Goals as goal
 

@@ -1,7 +1,7 @@
 use Rattle.std.proofs.Common.{subst}
 use Rattle.std.specs.Prelude.{slice_range}
-use Rattle.snap_visits.specs.declared.visits.Visit.{Visit}
-use Rattle.snap_visits.specs.Visits.{AreVisitors}
+use Rattle.snap_chains.specs.declared.visits.Visit.{Visit}
+use Rattle.snap_chains.specs.Visits.{AreVisitors}
 use Rattle.snap_chains.proofs.ListLemmas.{map-range}
 use Rattle.snap_chains.proofs.ScanLemmas.{earlier_is_no_later, places_by_scan}
 use Rattle.snap_chains.proofs.VisitorLemmas.{part_has, part_rises, places_in_order, visitors_of_part}

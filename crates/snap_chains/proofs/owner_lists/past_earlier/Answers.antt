@@ -1,6 +1,6 @@
 use Rattle.std.proofs.Common.{◌≡◌, rules, true, sym, subst}
-use Rattle.snap_visits.specs.Undirected.{IsEdgeBefore}
-use Rattle.snap_visits.specs.declared.visits.Visit.{Visit}
+use Rattle.lay_point.specs.Edges.{IsEdgeBefore}
+use Rattle.snap_chains.specs.declared.visits.Visit.{Visit}
 use Rattle.snap_chains.proofs.ScanLemmas.{holds_before}
 use Rattle.snap_chains.proofs.owner_lists.past_earlier.Goals as goal
 

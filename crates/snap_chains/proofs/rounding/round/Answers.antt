@@ -4,7 +4,7 @@ use Rattle.std.specs.List.Sorted.{IsPermutation}
 use Rattle.std.proofs.lemmas.List.{length-map}
 use Rattle.lay_point.specs.declared.point.Point.{Point}
 use Rattle.lay_point.specs.Rings.{NeighboursDiffer}
-use Rattle.snap_visits.specs.Visits.{visits_of}
+use Rattle.snap_chains.specs.Visits.{visits_of}
 use Rattle.snap_chains.proofs.RoundLemmas.{all_neighbours_differ, as_many_walks, round_is_clean, round_is_rounded, round_of}
 use Rattle.snap_chains.proofs.rounding.round.Goals as goal
 

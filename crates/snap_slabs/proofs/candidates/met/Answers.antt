@@ -1,7 +1,7 @@
 use Rattle.std.proofs.Common.{◌≡◌, ◌↔◌, ◌++◌, [], ◌∷◌, cond, rules, ap, subst, get_or, pos, Contains}
 use Rattle.std.proofs.lemmas.List.{take_all, get_or_default}
 use Rattle.lay_point.specs.declared.point.Point.{Point}
-use Rattle.snap_segments.specs.Segments.{Meets}
+use Rattle.snap_pixels.specs.Segments.{Meets}
 use Rattle.snap_slabs.proofs.Sorted.{kept_more}
 use Rattle.snap_slabs.proofs.candidates.met.Goals as goal
 use Rattle.snap_slabs.proofs.candidates.met.Goals.{then-meets+in_ok-push, else-meets}

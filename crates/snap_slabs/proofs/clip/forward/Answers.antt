@@ -1,4 +1,4 @@
-use Rattle.snap_segments.specs.Segments.{Meets}
+use Rattle.snap_pixels.specs.Segments.{Meets}
 use Rattle.snap_slabs.proofs.ClipLemmas.{meets_back}
 use Rattle.snap_slabs.proofs.clip.forward.Goals as goal
 

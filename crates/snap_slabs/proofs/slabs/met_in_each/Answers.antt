@@ -1,7 +1,7 @@
 use Rattle.std.proofs.Common.{◌↔◌, ◌∙◌, ◌++◌, List, ap, refl, rules, subst, Contains}
 use Rattle.std.proofs.lemmas.List.{take_all}
 use Rattle.lay_point.specs.declared.point.Point.{Point}
-use Rattle.snap_segments.specs.Segments.{Meets}
+use Rattle.snap_pixels.specs.Segments.{Meets}
 use Rattle.snap_slabs.specs.Slabs.{points_in}
 use Rattle.snap_slabs.proofs.SlabLemmas.{gathered}
 use Rattle.snap_slabs.proofs.slabs.met_in_each.Goals as goal

@@ -1,6 +1,6 @@
 use Rattle.std.proofs.Common.{◌↔◌, Contains, take}
 use Rattle.lay_point.specs.declared.point.Point.{Point}
-use Rattle.snap_segments.specs.Segments.{Meets}
+use Rattle.snap_pixels.specs.Segments.{Meets}
 use Rattle.snap_slabs.specs.Slabs.{points_in}
 use Rattle.snap_slabs.proofs.slabs.met_in_each.Given as goal
 

@@ -1,7 +1,7 @@
 use Rattle.std.proofs.Common.{◌∙◌, List, take, drop, sym, ap, subst}
 use Rattle.std.proofs.lemmas.List.{drop_min, take_min}
 use Rattle.lay_point.specs.declared.point.Point.{Point}
-use Rattle.snap_segments.specs.Order.{AreTransposed}
+use Rattle.snap_pixels.specs.Order.{AreTransposed}
 use Rattle.snap_slabs.specs.Slabs.{AreSlabs}
 use Rattle.snap_slabs.proofs.SlabLemmas.{behind, behind-push, one_slab_more}
 use Rattle.snap_slabs.proofs.slabs.slabs_of.Goals as goal

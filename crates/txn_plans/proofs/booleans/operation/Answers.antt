@@ -4,7 +4,7 @@ use Rattle.lay_flat.specs.declared.fault.FlatFault.TheVariants as flat_fault
 use Rattle.lay_flat.proofs.Answered.{flattened_from}
 use Rattle.layer_ops.specs.declared.fault.OpFault.TheVariants as op_fault
 use Rattle.layer_ops.specs.Combining.{combined, shape_lists}
-use Rattle.txn_marks.specs.Booleans.{bool_shapes}
+use Rattle.bool_rules.specs.Booleans.{bool_shapes}
 use Rattle.txn_plans.specs.Shaping.{fault_of_op, lists_in, points_of}
 use Rattle.txn_plans.proofs.Operated.{combined_refused, combined_shapes, first_refused, second_refused, walks_refused}
 use Rattle.txn_plans.proofs.booleans.operation.Goals as goal

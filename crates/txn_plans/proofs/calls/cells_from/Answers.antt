@@ -1,5 +1,5 @@
 use Rattle.std.proofs.Common.{◌≡◌, ◌++◌, List, map, rules, ◌∙◌}
-use Rattle.lay_calls.specs.declared.cell_id.CellId.TheVariants.{Symbol}
+use Rattle.lay_cells.specs.declared.cell_id.CellId.TheVariants.{Symbol}
 use Rattle.txn_plans.specs.Searching.{symbols_from, top_in}
 use Rattle.txn_plans.proofs.Searches.{ends_reached}
 use Rattle.txn_plans.proofs.calls.cells_from.Goals as goal

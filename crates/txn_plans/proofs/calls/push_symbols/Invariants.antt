@@ -1,5 +1,5 @@
 use Rattle.std.proofs.Common.{◌≡◌, ◌++◌, map, take}
-use Rattle.lay_calls.specs.declared.cell_id.CellId.TheVariants.{Symbol}
+use Rattle.lay_cells.specs.declared.cell_id.CellId.TheVariants.{Symbol}
 use Rattle.txn_plans.proofs.calls.push_symbols.Given as goal
 
 -- the symbols so far come behind

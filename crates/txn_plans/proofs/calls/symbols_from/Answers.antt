@@ -1,5 +1,5 @@
 use Rattle.std.proofs.Common.{◌≡◌, ◌+◌, ◌++◌, ◌∷◌, [], List, ℕ, length, reverse, map, false, rules, ap, ◌∙◌, arith, length-append}
-use Rattle.lay_calls.specs.Symbols.{has_symbol}
+use Rattle.lay_cells.specs.Symbols.{has_symbol}
 use Rattle.txn_plans.specs.Searching.{called_by, symbols_from}
 use Rattle.txn_plans.proofs.Searches.{begins, fewer, goes_in, left}
 use Rattle.txn_plans.proofs.calls.symbols_from.Goals as goal

@@ -3,7 +3,7 @@ use Rattle.std.proofs.lemmas.Bool.{or_parts}
 use Rattle.lay_point.specs.declared.point.Point.{Point}
 use Rattle.lay_point.specs.Rings.{rectangle}
 use Rattle.txn_commands.specs.Figures.{lower_left}
-use Rattle.txn_marks.proofs.Rings.{corners_in_range}
+use Rattle.txn_rules.proofs.Rings.{corners_in_range}
 use Rattle.txn_plans.proofs.Shifting.{below}
 use Rattle.txn_plans.proofs.shapes.box_ring.Goals as goal
 

@@ -2,7 +2,7 @@ use Rattle.std.proofs.Common.{◌≡◌, ◌∙◌, false, sym}
 use Rattle.std.specs.declared.result.Result.{Result}
 use Rattle.std.specs.declared.result.Result.TheVariants.{Err, Ok}
 use Rattle.std.specs.Prelude.{OnOk, is_err}
-use Rattle.undo_entries.proofs.ListedLemmas.{withdrawn}
+use Rattle.undo_index.proofs.ListedLemmas.{withdrawn}
 use Rattle.undo_book.proofs.commit.list_at.Goals as goal
 
 at_ok : {T E P : Type 0} (r : Result T E) → is_err r ≡ false → OnOk r P → P

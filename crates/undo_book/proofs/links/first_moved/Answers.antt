@@ -4,10 +4,10 @@ use Rattle.std.specs.Prelude.{nat_lt}
 use Rattle.std.specs.FinSet.{items}
 use Rattle.std.specs.List.{list_any}
 use Rattle.undo_rules.specs.Links.{Entry}
-use Rattle.undo_entries.specs.First.{has_place}
-use Rattle.undo_entries.specs.Listed.{is_listed}
-use Rattle.undo_entries.specs.Places.{named_at, stands_at}
-use Rattle.undo_entries.proofs.MovedLemmas.{moved_here}
+use Rattle.undo_index.specs.First.{has_place}
+use Rattle.undo_index.specs.Listed.{is_listed}
+use Rattle.undo_book.specs.Places.{named_at, stands_at}
+use Rattle.undo_book.proofs.MovedLemmas.{moved_here}
 use Rattle.undo_book.proofs.links.first_moved.Goals as goal
 
 pub returns : goal.returns

@@ -3,9 +3,9 @@ use Rattle.std.proofs.lemmas.Option.{slice_get_past, slice_get_read}
 use Rattle.std.specs.FinSet.{items}
 use Rattle.std.specs.List.{list_any}
 use Rattle.undo_rules.specs.Links.{Entry}
-use Rattle.undo_entries.specs.First.{IsFirst}
-use Rattle.undo_entries.specs.Listed.{is_listed}
-use Rattle.undo_entries.proofs.IndexedLemmas.{reader_found, reader_gone, reader_is}
+use Rattle.undo_index.specs.First.{IsFirst}
+use Rattle.undo_index.specs.Listed.{is_listed}
+use Rattle.undo_book.proofs.IndexedLemmas.{reader_found, reader_gone, reader_is}
 use Rattle.undo_book.proofs.links.first_reader.Goals as goal
 
 pub returns-in_err-place : goal.returns-in_err-place

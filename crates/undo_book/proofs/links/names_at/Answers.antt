@@ -1,4 +1,4 @@
-use Rattle.undo_entries.specs.Indexed.{name_at}
+use Rattle.undo_book.specs.Indexed.{name_at}
 use Rattle.undo_book.proofs.NameLemmas.{named_next}
 use Rattle.undo_book.proofs.links.names_at.Goals as goal
 

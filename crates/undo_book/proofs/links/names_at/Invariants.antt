@@ -1,6 +1,6 @@
 use Rattle.std.proofs.Common.{◌≡◌, ◌++◌, drop}
 use Rattle.std.specs.List.{filter_map}
-use Rattle.undo_entries.specs.Indexed.{name_at}
+use Rattle.undo_book.specs.Indexed.{name_at}
 use Rattle.undo_book.proofs.links.names_at.Given as goal
 
 -- with those of the places that are left they are all

@@ -1,8 +1,8 @@
 use Rattle.std.proofs.Common.{◌≡◌, ◌||◌, ◌&&◌, [], ap, rules}
 use Rattle.std.specs.Prelude.{nat_lt}
 use Rattle.std.specs.List.{list_any}
-use Rattle.undo_entries.specs.First.{has_place}
-use Rattle.undo_entries.specs.Places.{stands_at}
+use Rattle.undo_index.specs.First.{has_place}
+use Rattle.undo_book.specs.Places.{stands_at}
 use Rattle.undo_book.proofs.links.places_of.Goals as goal
 
 pub loop-name-init : goal.loop-name-init

@@ -1,8 +1,8 @@
 use Rattle.std.proofs.Common.{◌≡◌, ℕ, ◌||◌, ◌&&◌, drop}
 use Rattle.std.specs.Prelude.{nat_lt}
 use Rattle.std.specs.List.{list_any}
-use Rattle.undo_entries.specs.First.{has_place}
-use Rattle.undo_entries.specs.Places.{stands_at}
+use Rattle.undo_index.specs.First.{has_place}
+use Rattle.undo_book.specs.Places.{stands_at}
 use Rattle.undo_book.proofs.links.places_of.Given as goal
 
 -- with the places of the names that are left they are all

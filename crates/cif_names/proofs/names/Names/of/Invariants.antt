@@ -1,5 +1,5 @@
 use Rattle.std.proofs.Common.{◌≡◌, length}
-use Rattle.cif_scan.specs.Cutting.{cut_rest}
+use Rattle.cif_grammar.specs.Cutting.{cut_rest}
 use Rattle.cif_names.specs.Names.{names_from, names_of}
 use Rattle.cif_names.proofs.names.Names.of.Given as goal
 

@@ -4,12 +4,12 @@ use Rattle.std.specs.Option.{option_copied}
 use Rattle.std.specs.Prelude.{All}
 use Rattle.std.proofs.lemmas.List.{get_or_default}
 use Rattle.std.proofs.lemmas.List.Elements.{All-drop}
-use Rattle.face_sides.specs.Lines.{BeginsAt, EndsBefore, edge_at, nowhere, owners_at}
-use Rattle.face_sides.specs.Rows.{AreRowEdges}
-use Rattle.face_sides.specs.Reaches.{EndAtReach}
-use Rattle.face_sides.specs.Sides.{AreBehind, AreSidesOf, IsKnown, is_odd_in, sides_at}
-use Rattle.face_sides.proofs.LabelLemmas.{label_beside, label_of, row_behind, row_given}
-use Rattle.face_sides.proofs.ReachLemmas.{row_ends}
+use Rattle.face_rows.specs.Lines.{BeginsAt, EndsBefore, edge_at, nowhere, owners_at}
+use Rattle.face_rows.specs.Rows.{AreRowEdges}
+use Rattle.face_sweep.specs.Reaches.{EndAtReach}
+use Rattle.face_sweep.specs.Sides.{AreBehind, AreSidesOf, IsKnown, is_odd_in, sides_at}
+use Rattle.face_sweep.proofs.LabelLemmas.{label_beside, label_of, row_behind, row_given}
+use Rattle.face_sweep.proofs.ReachLemmas.{row_ends}
 use Rattle.face_labels.proofs.line.Line.differs.Goals as goal
 
 pub gap_beside-gap-requires : goal.gap_beside-gap-requires

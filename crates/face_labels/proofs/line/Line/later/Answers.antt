@@ -2,17 +2,17 @@
 use Rattle.std.proofs.Common.{◌≡◌, ◌≤ℤ◌, ◌<ℤ◌, inl, inr, ⊎_elim, Contains, to_z, of_z, w32, subst, sym}
 use Rattle.std.specs.Prelude.{All}
 use Rattle.std.proofs.lemmas.Int.{to_z-of_z}
-use Rattle.face_sides.specs.Ends.{AreEnds}
-use Rattle.face_sides.specs.Lines.{edge_at, nowhere}
-use Rattle.face_sides.specs.Reaches.{EndAtReach}
-use Rattle.face_sides.specs.Rows.{upward}
-use Rattle.face_sides.specs.Sides.{AreBehind, IsKnown}
-use Rattle.face_sides.specs.Starts.{BeginsBy}
-use Rattle.face_sides.proofs.LabelLemmas.{row_behind}
-use Rattle.face_sides.proofs.OrderLemmas.{begun_or_there}
-use Rattle.face_sides.proofs.ReachLemmas.{row_ends}
-use Rattle.face_sides.proofs.RowLemmas.{spans_of}
-use Rattle.face_sides.proofs.StartLemmas.{has_all}
+use Rattle.face_sweep.specs.Ends.{AreEnds}
+use Rattle.face_rows.specs.Lines.{edge_at, nowhere}
+use Rattle.face_sweep.specs.Reaches.{EndAtReach}
+use Rattle.face_rows.specs.Rows.{upward}
+use Rattle.face_sweep.specs.Sides.{AreBehind, IsKnown}
+use Rattle.face_sweep.specs.Starts.{BeginsBy}
+use Rattle.face_sweep.proofs.LabelLemmas.{row_behind}
+use Rattle.face_sweep.proofs.OrderLemmas.{begun_or_there}
+use Rattle.face_sweep.proofs.ReachLemmas.{row_ends}
+use Rattle.face_rows.proofs.RowLemmas.{spans_of}
+use Rattle.face_sweep.proofs.StartLemmas.{has_all}
 use Rattle.face_labels.proofs.line.Line.later.Goals as goal
 
 pub find_begun-requires-clause-behind : goal.find_begun-requires-clause-behind

@@ -2,14 +2,14 @@ use Rattle.std.proofs.Common.{None, length, to_z, of_z, w32, sym, ap, subst, ◌
 use Rattle.std.specs.Prelude.{All}
 use Rattle.std.specs.List.Sorted.{IsPermutation}
 use Rattle.std.proofs.lemmas.List.{length-replicate}
-use Rattle.face_sides.specs.Ends.{ends_beyond}
-use Rattle.face_sides.specs.Reaches.{EndAtReach}
-use Rattle.face_sides.specs.Sides.{AreBehind, IsKnown}
-use Rattle.face_sides.specs.Sound.{AreSound}
-use Rattle.face_sides.proofs.EndLemmas.{ends_in_order}
-use Rattle.face_sides.proofs.LabelLemmas.{row_behind, row_given}
-use Rattle.face_sides.proofs.StateLemmas.{none_known}
-use Rattle.face_sides.proofs.ReachLemmas.{row_ends}
+use Rattle.face_sweep.specs.Ends.{ends_beyond}
+use Rattle.face_sweep.specs.Reaches.{EndAtReach}
+use Rattle.face_sweep.specs.Sides.{AreBehind, IsKnown}
+use Rattle.face_rows.specs.Sound.{AreSound}
+use Rattle.face_sweep.proofs.EndLemmas.{ends_in_order}
+use Rattle.face_sweep.proofs.LabelLemmas.{row_behind, row_given}
+use Rattle.face_sweep.proofs.StateLemmas.{none_known}
+use Rattle.face_sweep.proofs.ReachLemmas.{row_ends}
 use Rattle.face_labels.proofs.line.Line.new.Goals as goal
 
 pub find_sides-requires-clause-given : goal.find_sides-requires-clause-given

@@ -6,7 +6,7 @@ use Rattle.face_rings.specs.declared.incidence.End.{End}
 use Rattle.std.specs.List.Sorted.{IsPartitionPoint}
 use Rattle.std.specs.Ordering.{is_lt}
 use Rattle.face_rings.specs.Incidence.{AreEndsOf, IsUsedAt, point_cmp, left_of}
-use Rattle.face_link_laws.specs.Linking.{Ends}
+use Rattle.face_ring_laws.specs.Linking.{Ends}
 use Rattle.face_rings.proofs.IncidenceLemmas.{IsSearch, marks_kept, not_other, other, search_found}
 use Rattle.face_rings.proofs.IncidenceLemmas.{search_kept, search_marked, search_over, search_passed, searched}
 use Rattle.face_rings.proofs.incidence.Incidence.take_at.Goals as goal

@@ -3,8 +3,8 @@ use Rattle.std.proofs.Common.{◌≡◌, ℤ, pos, ◌<ℤ◌, ◌+ℤ◌, ◌-�
 use Rattle.std.specs.Int.{w128}
 use Rattle.std.proofs.lemmas.Int.{ints, to_z-of_z}
 use Rattle.lay_point.specs.declared.point.Point.{Point}
-use Rattle.lay_int_laws.proofs.Signs.{linear}
-use Rattle.face_label_laws.proofs.Rows.{rises_in}
+use Rattle.lay_point.proofs.Signs.{linear}
+use Rattle.face_side_laws.proofs.Rows.{rises_in}
 use Rattle.face_rows.specs.Rows.{upward}
 use Rattle.face_rows.proofs.RowLemmas.{spans_of}
 use Rattle.face_rows.proofs.crossing.Crossing.new.Goals as goal

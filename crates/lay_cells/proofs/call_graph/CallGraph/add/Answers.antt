@@ -1,9 +1,9 @@
 use Rattle.std.proofs.Common.{◌≡◌, ◌∷◌, ◌++◌, [], arith, rules, subst, sym, IsTrue}
-use Rattle.lay_calls.specs.declared.cell_id.CellId.TheVariants.{Symbol}
-use Rattle.lay_calls.specs.Graph.{rows_of}
-use Rattle.lay_calls.specs.Symbols.{has_cell}
-use Rattle.lay_calls.specs.Walks.{Calls}
-use Rattle.lay_calls.proofs.GraphLemmas.{one_more_call, position_of-within}
+use Rattle.lay_cells.specs.declared.cell_id.CellId.TheVariants.{Symbol}
+use Rattle.lay_cells.specs.Graph.{rows_of}
+use Rattle.lay_cells.specs.Symbols.{has_cell}
+use Rattle.lay_cells.specs.Walks.{Calls}
+use Rattle.lay_cells.proofs.GraphLemmas.{one_more_call, position_of-within}
 use Rattle.lay_cells.proofs.call_graph.CallGraph.add.Goals as goal
 
 pub add_to_row-requires : goal.add_to_row-requires

@@ -1,8 +1,8 @@
 use Rattle.std.proofs.Common.{◌≡◌, true, Contains, IsTrue, rules, sym, subst}
-use Rattle.lay_calls.specs.Places.{goes_later}
-use Rattle.lay_calls.specs.Symbols.{has_cell, has_symbol}
-use Rattle.lay_calls.specs.Walks.{Calls}
-use Rattle.lay_calls.proofs.PlaceLemmas.{later_closes_none}
+use Rattle.lay_cells.specs.Places.{goes_later}
+use Rattle.lay_cells.specs.Symbols.{has_cell, has_symbol}
+use Rattle.lay_cells.specs.Walks.{Calls}
+use Rattle.lay_cells.proofs.PlaceLemmas.{later_closes_none}
 use Rattle.lay_cells.proofs.call_graph.CallGraph.closes_cycle.Goals as goal
 
 -- no walk leads back from a later place

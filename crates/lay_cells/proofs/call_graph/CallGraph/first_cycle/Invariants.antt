@@ -1,5 +1,5 @@
 use Rattle.std.proofs.Common.{ℕ, ◌<◌}
-use Rattle.lay_calls.specs.Walks.{ClosesCycle, call_at}
+use Rattle.lay_cells.specs.Walks.{ClosesCycle, call_at}
 use Rattle.lay_cells.proofs.call_graph.CallGraph.first_cycle.Given as goal
 
 -- none of the calls so far closes a cycle

@@ -1,10 +1,10 @@
 use Rattle.std.proofs.Common.{◌<◌, length, arith, rules, subst, sym, ◌∙◌, IsTrue, false}
 use Rattle.std.proofs.lemmas.List.{get_or_default}
-use Rattle.lay_calls.specs.Graph.{rows_of}
-use Rattle.lay_calls.specs.Symbols.{has_cell}
-use Rattle.lay_calls.specs.Walks.{Calls, Walks}
-use Rattle.lay_calls.proofs.GraphLemmas.{position_of-within}
-use Rattle.lay_calls.proofs.WalkLemmas.{mark_from_walk, targets_within, walk_from_mark}
+use Rattle.lay_cells.specs.Graph.{rows_of}
+use Rattle.lay_cells.specs.Symbols.{has_cell}
+use Rattle.lay_cells.specs.Walks.{Calls, Walks}
+use Rattle.lay_cells.proofs.GraphLemmas.{position_of-within}
+use Rattle.lay_cells.proofs.WalkLemmas.{mark_from_walk, targets_within, walk_from_mark}
 use Rattle.lay_cells.proofs.call_graph.CallGraph.leads.Goals as goal
 
 pub reached-requires-clause-start : goal.reached-requires-clause-start

@@ -1,8 +1,8 @@
 use Rattle.std.proofs.Common.{ℕ, List, sym, subst}
-use Rattle.lay_calls.specs.Graph.{rows_of}
-use Rattle.lay_calls.specs.Places.{AreOrdered}
-use Rattle.lay_calls.proofs.PlaceLemmas.{ordered_without_places}
-use Rattle.lay_calls.proofs.WalkLemmas.{targets_within}
+use Rattle.lay_cells.specs.Graph.{rows_of}
+use Rattle.lay_cells.specs.Places.{AreOrdered}
+use Rattle.lay_cells.proofs.PlaceLemmas.{ordered_without_places}
+use Rattle.lay_cells.proofs.WalkLemmas.{targets_within}
 use Rattle.lay_cells.proofs.call_graph.CallGraph.places.Goals as goal
 
 pub callers_first-requires : goal.callers_first-requires

@@ -1,14 +1,14 @@
 use Rattle.std.proofs.Common.{◌∙◌, ℕ, length, List, map, ap, arith, subst, sym, IsTrue}
 use Rattle.std.proofs.lemmas.Result.{IfOk-weaker}
-use Rattle.lay_calls.specs.Graph.{rows_of}
-use Rattle.lay_calls.specs.Places.{ArePositions}
-use Rattle.lay_calls.specs.Symbols.{has_cell}
+use Rattle.lay_cells.specs.Graph.{rows_of}
+use Rattle.lay_cells.specs.Places.{ArePositions}
+use Rattle.lay_cells.specs.Symbols.{has_cell}
 use Rattle.lay_cells.specs.Tallies.{IsTally, counted}
-use Rattle.lay_calls.specs.WalkLists.{longest, walks_from}
-use Rattle.lay_calls.specs.Walks.{Calls, IsAcyclic}
-use Rattle.lay_calls.proofs.GraphLemmas.{position_of-within}
+use Rattle.lay_cells.specs.WalkLists.{longest, walks_from}
+use Rattle.lay_cells.specs.Walks.{Calls, IsAcyclic}
+use Rattle.lay_cells.proofs.GraphLemmas.{position_of-within}
 use Rattle.lay_cells.proofs.TallyLemmas.{height-few, tally_from}
-use Rattle.lay_calls.proofs.WalkLemmas.{targets_within}
+use Rattle.lay_cells.proofs.WalkLemmas.{targets_within}
 use Rattle.lay_cells.proofs.call_graph.CallGraph.tally.Goals as goal
 
 pub callees_first-requires : goal.callees_first-requires

@@ -1,9 +1,9 @@
 use Rattle.std.proofs.Common.{◌≡◌, ◌∙◌, List, Option, ap, subst, sym}
 use Rattle.std.specs.FinMap.{FinMap}
-use Rattle.lay_cell_items.specs.Written.{after_write}
+use Rattle.lay_pages.specs.Written.{after_write}
 use Rattle.lay_layouts.specs.declared.id.ItemId.{ItemId}
 use Rattle.lay_layouts.specs.declared.item.Item.{Item}
-use Rattle.lay_cell_items.specs.Runs.{AreHeld}
+use Rattle.lay_items.specs.Runs.{AreHeld}
 use Rattle.lay_layouts.specs.IdOrder.{ids_exact, ids_total}
 use Rattle.lay_layouts.specs.Ids.{id_cmp}
 use Rattle.lay_layouts.specs.Layout.{map_of_items, put}

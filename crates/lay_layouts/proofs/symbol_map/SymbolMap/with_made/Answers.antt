@@ -2,7 +2,7 @@ use Rattle.std.proofs.Common.{◌≡◌, ◌∙◌, ◌+◌, ◌∷◌, ◌&&◌
 use Rattle.std.proofs.Math.ListN.{drop_of_length-le}
 use Rattle.std.proofs.lemmas.List.{drop_more}
 use Rattle.std.specs.FinMap as finite
-use Rattle.lay_calls.specs.Symbols.{with_symbol}
+use Rattle.lay_cells.specs.Symbols.{with_symbol}
 use Rattle.lay_layouts.specs.Layout.{SymbolWrite, put_all}
 use Rattle.lay_layouts.specs.SlotOrder.{in_slot_order, is_behind, is_made}
 use Rattle.lay_layouts.proofs.MadeLemmas.{IsGrown, grown, start}

@@ -1,9 +1,9 @@
 use Rattle.std.proofs.Common.{◌∙◌, ◌+◌, ◌++◌, ◌-◌, [], append_assoc, drop, get_or, length, map, rules, sym, take}
 use Rattle.std.proofs.lemmas.List.{take_rest}
-use Rattle.lay_page.specs.Shared.{entries_in, items_of, joined, pages_in}
-use Rattle.lay_page.specs.Written.{from_key}
-use Rattle.lay_page.proofs.FillLemmas.{drop_pages, from-level}
-use Rattle.lay_page.proofs.ShareLemmas.{drop_map}
+use Rattle.lay_pages.specs.Shared.{entries_in, items_of, joined, pages_in}
+use Rattle.lay_pages.specs.Written.{from_key}
+use Rattle.lay_pages.proofs.FillLemmas.{drop_pages, from-level}
+use Rattle.lay_pages.proofs.ShareLemmas.{drop_map}
 use Rattle.lay_pages.proofs.LentLemmas.{lent_book}
 use Rattle.lay_pages.proofs.entries.Entries.from.Goals as goal
 

@@ -1,5 +1,5 @@
 use Rattle.std.proofs.Common.{◌≡◌, ◌+◌, length}
-use Rattle.lay_page.specs.Shared.{items_of, joined, left, pages_in}
+use Rattle.lay_pages.specs.Shared.{items_of, joined, left, pages_in}
 use Rattle.lay_pages.proofs.entries.EntriesIterator.next.Given as goal
 
 -- pages are opened, and no entry is passed over

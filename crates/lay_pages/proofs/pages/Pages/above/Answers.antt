@@ -1,5 +1,5 @@
 use Rattle.std.proofs.Common.{◌∙◌, ap, sym}
-use Rattle.lay_page.specs.Written.{lent_entry}
+use Rattle.lay_pages.specs.Written.{lent_entry}
 use Rattle.lay_pages.proofs.BesideLemmas.{above_behind, above_first, above_none}
 use Rattle.lay_pages.proofs.pages.Pages.above.Goals as goal
 

@@ -3,8 +3,8 @@ use Rattle.std.specs.Prelude.{not}
 use Rattle.std.specs.List.Sorted.{IsStrictlySortedBy}
 use Rattle.std.specs.Map.{keys_of}
 use Rattle.std.specs.Ordering.{is_lt}
-use Rattle.lay_page.specs.Shared.{entries_in, pages_in}
-use Rattle.lay_page.proofs.OrderLemmas.{sorted-kept}
+use Rattle.lay_pages.specs.Shared.{entries_in, pages_in}
+use Rattle.lay_pages.proofs.OrderLemmas.{sorted-kept}
 use Rattle.lay_pages.proofs.pages.Pages.from.Goals as goal
 
 pub returns-clause-sorted : goal.returns-clause-sorted

@@ -1,9 +1,9 @@
 use Rattle.std.proofs.Common.{◌≡◌, ◌∙◌, Option, None, Some, arith, ap, cond, length, refl}
 use Rattle.std.specs.Prelude.{is_some}
 use Rattle.std.specs.FinMap.{find}
-use Rattle.lay_page.specs.Shared.{entries_in, pages_in}
-use Rattle.lay_page.specs.Written.{count_of}
-use Rattle.lay_page.proofs.OrderLemmas.{count-written}
+use Rattle.lay_pages.specs.Shared.{entries_in, pages_in}
+use Rattle.lay_pages.specs.Written.{count_of}
+use Rattle.lay_pages.proofs.OrderLemmas.{count-written}
 use Rattle.lay_pages.proofs.pages.Pages.with.Goals as goal
 
 one_or_none : {X : Type 0} (o : Option X) → cond (is_some o) 1 0 ≡ count_of o

@@ -1,7 +1,7 @@
 use Rattle.std.proofs.Common.{◌≡◌, drop}
 use Rattle.std.specs.List.Sorted.{IsStrictlySortedBy}
 use Rattle.std.specs.Map.{keys_of}
-use Rattle.lay_page.specs.Written.{written_all}
+use Rattle.lay_pages.specs.Written.{written_all}
 use Rattle.lay_pages.proofs.pages.Pages.with_all.Given as goal
 
 -- the writes that are left make of what is new what all of them make

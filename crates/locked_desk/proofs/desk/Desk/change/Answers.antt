@@ -1,9 +1,9 @@
 use Rattle.std.proofs.Common.{rules, ap, refl, ◌∙◌}
 use Rattle.desk_rules.specs.Legal.{answer_of}
 use Rattle.desk_rules.proofs.SeatLemmas.{seat_kept}
-use Rattle.desk_lock.specs.Desks.{desk_answer}
-use Rattle.desk_lock.specs.Ways.{answer_for, call_for}
-use Rattle.desk_lock.proofs.CallLemmas.{answer_by_book, gains_kept}
+use Rattle.locked_desk.specs.Desks.{desk_answer}
+use Rattle.locked_desk.specs.Ways.{answer_for, call_for}
+use Rattle.locked_desk.proofs.CallLemmas.{answer_by_book, gains_kept}
 use Rattle.undo_rules.specs.declared.log.Answer.{Answer}
 use Rattle.locked_desk.proofs.desk.Desk.change.Goals as goal
 

@@ -1,8 +1,8 @@
 use Rattle.std.proofs.Common.{rules, ◌∙◌, ap, refl}
 use Rattle.undo_rules.specs.declared.log.Call.TheVariants.{Commit}
 use Rattle.desk_rules.proofs.SeatLemmas.{seat_kept}
-use Rattle.desk_lock.specs.Desks.{commit_answer, desk_commit_answer}
-use Rattle.desk_lock.proofs.CallLemmas.{commit_by_book_answer, gains_kept}
+use Rattle.locked_desk.specs.Desks.{commit_answer, desk_commit_answer}
+use Rattle.locked_desk.proofs.CallLemmas.{commit_by_book_answer, gains_kept}
 use Rattle.locked_desk.proofs.desk.Desk.commit.Goals as goal
 
 pub invariant_of-seat-2 : goal.invariant_of-seat-2

@@ -3,7 +3,7 @@ use Rattle.undo_rules.specs.declared.log.Answer.TheVariants.{Opened}
 use Rattle.undo_rules.specs.declared.log.Call.TheVariants.{Open}
 use Rattle.desk_rules.specs.Legal.{opened_answer, refusal}
 use Rattle.desk_rules.proofs.SeatLemmas.{seat_kept}
-use Rattle.desk_lock.proofs.CallLemmas.{gains_kept, opens_at}
+use Rattle.locked_desk.proofs.CallLemmas.{gains_kept, opens_at}
 use Rattle.locked_desk.proofs.desk.Desk.open.Goals as goal
 
 pub invariant_of-seat-then-not-is_own : goal.invariant_of-seat-then-not-is_own

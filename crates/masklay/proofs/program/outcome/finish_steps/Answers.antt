@@ -1,12 +1,12 @@
 use Rattle.std.proofs.Common.{◌≡◌, ◌∙◌, ◌≤◌, [], List, Ok, ap, false, inr, length, replicate, rules, sym, arith}
 use Rattle.std.specs.List.{list_any}
-use Rattle.live_run.specs.Machine.{Ran, after_steps, is_memory, start}
+use Rattle.session_core.specs.Machine.{Ran, after_steps, is_memory, start}
 use Rattle.session_steps.specs.Turns.{dealt, in_turn}
-use Rattle.live_run.specs.TheConstants.{MAX_CALLS}
+use Rattle.undo_book.specs.declared.book.TheConstants.{MAX_CALLS}
 use Rattle.job_text.specs.Order.{order_of}
 use Rattle.masklay.specs.Outcome.{finished_by, finished_from, sessions_for}
 use Rattle.masklay.specs.declared.program.outcome.Finished.{Finished}
-use Rattle.live_run.proofs.MachineLemmas.{ran_all}
+use Rattle.session_core.proofs.MachineLemmas.{ran_all}
 use Rattle.session_steps.proofs.DealtLemmas.{few_hands}
 use Rattle.masklay.proofs.program.outcome.finish_steps.Goals as goal
 

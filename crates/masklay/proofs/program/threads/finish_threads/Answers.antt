@@ -1,9 +1,9 @@
 use Rattle.std.proofs.Common.{◌≡◌, false, inr, rules}
 use Rattle.std.specs.List.{list_any}
 use Rattle.undo_rules.specs.Books.{History}
-use Rattle.live_run.specs.Machine.{is_memory}
+use Rattle.session_core.specs.Machine.{is_memory}
 use Rattle.job_text.specs.Order.{order_of}
-use Rattle.desk_run.proofs.ScriptLemmas.{few_replies}
+use Rattle.locked_desk.proofs.ScriptLemmas.{few_replies}
 use Rattle.masklay.proofs.program.threads.finish_threads.Goals as goal
 
 -- as many sessions reply as have scripts

@@ -1,5 +1,5 @@
 use Rattle.std.proofs.Common.{subst}
-use Rattle.snap_visits.specs.Rounded.{AreClean}
+use Rattle.snap_chains.specs.Rounded.{AreClean}
 use Rattle.snap_chains.proofs.clean_edges.CleanEdges.edges.Goals as goal
 
 pub returns-clause-clean : goal.returns-clause-clean

@@ -4,7 +4,7 @@ use Rattle.std.proofs.lemmas.List.Elements.{All-replicate}
 use Rattle.snap_chains.specs.declared.owner_lists.Part.{Part}
 use Rattle.snap_chains.specs.OwnerLists.{IsInside, lists_of}
 use Rattle.snap_chains.proofs.ListLemmas.{no_lists}
-use Rattle.snap_visits.proofs.OwnerLemmas.{replicate_more}
+use Rattle.snap_chains.proofs.OwnerLemmas.{replicate_more}
 use Rattle.snap_chains.proofs.owner_lists.OwnerLists.empty.Goals as goal
 
 pub loop-preserved : goal.loop-preserved

@@ -3,12 +3,12 @@ use Rattle.std.proofs.lemmas.List.{length-map, take_all}
 use Rattle.std.proofs.lemmas.List.Elements.{All-from_recursion}
 use Rattle.std.specs.Prelude.{All}
 use Rattle.std.specs.List.{AllZip}
-use Rattle.snap_visits.specs.Undirected.{IsEdgeBefore}
-use Rattle.snap_visits.specs.declared.visits.Visit.{Visit}
+use Rattle.lay_point.specs.Edges.{IsEdgeBefore}
+use Rattle.snap_chains.specs.declared.visits.Visit.{Visit}
 use Rattle.snap_chains.specs.OwnerLists.{HasVisitors, IsInside, lists_of}
-use Rattle.snap_visits.specs.Visits.{AreVisitors}
+use Rattle.snap_chains.specs.Visits.{AreVisitors}
 use Rattle.snap_chains.proofs.ListLemmas.{parts_inside, parts_visited}
-use Rattle.snap_visits.proofs.OwnedLemmas.{zip_more}
+use Rattle.snap_slabs.proofs.OwnedLemmas.{zip_more}
 use Rattle.snap_chains.proofs.ScanLemmas.{passed_more}
 use Rattle.snap_chains.proofs.owner_lists.OwnerLists.of_visits.Goals as goal
 

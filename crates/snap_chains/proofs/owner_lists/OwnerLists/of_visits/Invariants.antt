@@ -1,8 +1,8 @@
 use Rattle.std.proofs.Common.{ℕ, ◌<◌, ◌≤◌, length, get_or, take}
 use Rattle.std.specs.List.{AllZip}
 use Rattle.lay_point.specs.declared.point.Point.{Point}
-use Rattle.snap_visits.specs.Undirected.{IsEdgeBefore}
-use Rattle.snap_visits.specs.declared.visits.Visit.{Visit}
+use Rattle.lay_point.specs.Edges.{IsEdgeBefore}
+use Rattle.snap_chains.specs.declared.visits.Visit.{Visit}
 use Rattle.snap_chains.specs.OwnerLists.{HasVisitors}
 use Rattle.snap_chains.proofs.owner_lists.OwnerLists.of_visits.Given as goal
 

@@ -1,10 +1,10 @@
 use Rattle.std.proofs.Common.{◌≡◌, ◌↔◌, [], length, rules, ap, ◌∙◌, subst, Contains}
 use Rattle.std.specs.Prelude.{replicate}
 use Rattle.lay_point.specs.declared.point.Point.{Point}
-use Rattle.snap_visits.specs.Undirected.{IsEdgeBefore}
-use Rattle.snap_visits.proofs.EdgeOrder.{edge_order}
-use Rattle.snap_visits.proofs.OwnerLemmas.{rounded_without_owners}
-use Rattle.snap_visits.proofs.Sorted.{sorted_once}
+use Rattle.lay_point.specs.Edges.{IsEdgeBefore}
+use Rattle.snap_chains.proofs.EdgeOrder.{edge_order}
+use Rattle.snap_chains.proofs.OwnerLemmas.{rounded_without_owners}
+use Rattle.snap_slabs.proofs.Sorted.{sorted_once}
 use Rattle.snap_chains.proofs.rounded.Rounded.from_edges.Goals as goal
 
 pub invariant_of-result : goal.invariant_of-result

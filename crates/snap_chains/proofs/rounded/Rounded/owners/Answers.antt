@@ -1,7 +1,7 @@
 use Rattle.std.proofs.Common.{subst}
 use Rattle.std.proofs.lemmas.Option.{slice_get_within}
-use Rattle.snap_visits.specs.Rising.{IsRising}
-use Rattle.snap_visits.specs.Owners.{IsOwnerBefore}
+use Rattle.lay_point.specs.Rising.{IsRising}
+use Rattle.snap_chains.specs.Owners.{IsOwnerBefore}
 use Rattle.snap_chains.proofs.ListLemmas.{got}
 use Rattle.snap_chains.proofs.rounded.Rounded.owners.Goals as goal
 

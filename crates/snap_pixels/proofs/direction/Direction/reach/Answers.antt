@@ -1,5 +1,5 @@
 use Rattle.std.proofs.Common.{rules, ◌∙◌, ◌+ℤ◌}
-use Rattle.snap_segments.proofs.BoundLemmas.{product_is, sum_of_products}
+use Rattle.snap_pixels.proofs.BoundLemmas.{product_is, sum_of_products}
 use Rattle.snap_pixels.proofs.direction.Direction.reach.Goals as goal
 
 pub returns : goal.returns

@@ -1,8 +1,8 @@
 use Rattle.std.proofs.Common.{Contains, List, ◌↔◌, ◌∙◌, ◌-◌, ap, map, subst}
 use Rattle.std.specs.Prelude.{slice_range}
 use Rattle.lay_point.specs.declared.point.Point.{Point}
-use Rattle.snap_segments.specs.Order.{AreTransposed, transposed}
-use Rattle.snap_segments.specs.Segments.{Meets}
+use Rattle.snap_pixels.specs.Order.{AreTransposed, transposed}
+use Rattle.snap_pixels.specs.Segments.{Meets}
 use Rattle.snap_slabs.specs.Columns.{HoldMet}
 use Rattle.snap_slabs.specs.Slabs.{points_in}
 use Rattle.snap_slabs.proofs.ColumnLemmas.{columns_have_all, met_in_columns, met_in_rows}

@@ -1,7 +1,7 @@
 use Rattle.std.proofs.Common.{rules, ◌≤◌, ◌+◌, ◌/◌, List, length, refl, sym, subst, Contains}
 use Rattle.std.specs.Prelude.{slice_range}
 use Rattle.lay_point.specs.declared.point.Point.{Point}
-use Rattle.snap_segments.specs.Order.{transposed}
+use Rattle.snap_pixels.specs.Order.{transposed}
 use Rattle.snap_slabs.specs.Slabs.{AreSlabs, HoldPlaces}
 use Rattle.snap_slabs.proofs.SlabLemmas.{range_holds, range_inside}
 use Rattle.snap_slabs.proofs.finder.Finder.slabs_between.Goals as goal

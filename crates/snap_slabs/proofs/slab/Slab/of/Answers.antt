@@ -1,7 +1,7 @@
 use Rattle.std.proofs.Common.{arith, List, sym, subst, Contains}
 use Rattle.std.proofs.lemmas.Int.{ints}
 use Rattle.lay_point.specs.declared.point.Point.{Point}
-use Rattle.snap_segments.proofs.OrderLemmas.{turned_once}
+use Rattle.snap_pixels.proofs.OrderLemmas.{turned_once}
 use Rattle.snap_slabs.proofs.slab.Slab.of.Goals as goal
 
 pub invariant_of-result : goal.invariant_of-result

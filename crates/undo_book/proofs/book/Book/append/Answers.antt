@@ -5,16 +5,16 @@ use Rattle.undo_rules.specs.declared.log.Call.TheVariants.{Commit}
 use Rattle.undo_rules.specs.declared.log.Logged.{Logged}
 use Rattle.undo_rules.specs.Books.{History}
 use Rattle.undo_rules.specs.Steps.{ended_state, entered, state_of}
-use Rattle.undo_entries.specs.Homes.{AreMetBy}
-use Rattle.undo_entries.specs.Listed.{AreAdded, IsNew}
+use Rattle.txn_marks.specs.Homes.{AreMetBy}
+use Rattle.undo_index.specs.Listed.{AreAdded, IsNew}
 use Rattle.undo_book.specs.Books.{history_of}
-use Rattle.undo_entries.specs.Places.{AreTheirPlaces, IsPutUnder}
-use Rattle.undo_entries.proofs.ChangeLemmas.{commit_so}
-use Rattle.undo_entries.proofs.CommitLemmas.{LeavesCommitted, committed_so}
-use Rattle.undo_entries.specs.Indexed.{AreIndexed}
-use Rattle.undo_entries.proofs.IndexedLemmas.{commit_indexed, new_here}
+use Rattle.undo_book.specs.Places.{AreTheirPlaces, IsPutUnder}
+use Rattle.undo_book.proofs.ChangeLemmas.{commit_so}
+use Rattle.undo_book.proofs.CommitLemmas.{LeavesCommitted, committed_so}
+use Rattle.undo_book.specs.Indexed.{AreIndexed}
+use Rattle.undo_book.proofs.IndexedLemmas.{commit_indexed, new_here}
 use Rattle.undo_book.proofs.SameLemmas.{same_book}
-use Rattle.undo_entries.proofs.IndexLemmas.{places_pushed}
+use Rattle.undo_book.proofs.IndexLemmas.{places_pushed}
 use Rattle.undo_book.proofs.SinceLemmas.{commit_commits_so}
 use Rattle.undo_book.proofs.book.Book.append.Goals as goal
 

@@ -5,8 +5,8 @@ use Rattle.undo_rules.specs.declared.log.Call.TheVariants.{Commit}
 use Rattle.undo_rules.specs.declared.log.Logged.{Logged}
 use Rattle.undo_rules.specs.Steps.{ended_state, state_of}
 use Rattle.undo_book.specs.Books.{history_of}
-use Rattle.undo_entries.proofs.ChangeLemmas.{unchanged_so}
-use Rattle.undo_entries.proofs.CommitLemmas.{LeavesStale, stale_so}
+use Rattle.undo_book.proofs.ChangeLemmas.{unchanged_so}
+use Rattle.undo_book.proofs.CommitLemmas.{LeavesStale, stale_so}
 use Rattle.undo_book.proofs.SinceLemmas.{unchanged_commits_so}
 use Rattle.undo_book.proofs.book.Book.end_stale.Goals as goal
 

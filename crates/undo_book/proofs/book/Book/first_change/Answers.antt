@@ -2,7 +2,7 @@ use Rattle.std.proofs.Common.{◌≡◌, ◌<◌, ◌∙◌, arith, false, lengt
 use Rattle.std.specs.Vec.{vec_len}
 use Rattle.undo_rules.specs.Books.{History}
 use Rattle.undo_book.specs.Books.{history_of}
-use Rattle.undo_entries.proofs.ChangeLemmas.{changed_read, first_kept, kept_long}
+use Rattle.undo_book.proofs.ChangeLemmas.{changed_read, first_kept, kept_long}
 use Rattle.undo_book.proofs.book.Book.first_change.Goals as goal
 
 -- what is kept of each logged call is there

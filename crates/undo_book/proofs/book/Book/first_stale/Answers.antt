@@ -1,6 +1,6 @@
 use Rattle.std.proofs.Common.{◌≡◌, ◌<◌, ◌∙◌, ap, false, length, rules, sym}
-use Rattle.undo_entries.specs.Changes.{changed_at}
-use Rattle.undo_entries.proofs.StaleLemmas.{decided, first_is, looked_more, none_again, passed, wrote}
+use Rattle.undo_book.specs.Changes.{changed_at}
+use Rattle.undo_book.proofs.StaleLemmas.{decided, first_is, looked_more, none_again, passed, wrote}
 use Rattle.undo_book.proofs.book.Book.first_stale.Goals as goal
 use Rattle.undo_book.proofs.book.Book.first_stale.Goals.{in-Some+else-wrote_at, in_default}
 

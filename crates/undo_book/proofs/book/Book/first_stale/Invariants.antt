@@ -1,6 +1,6 @@
 use Rattle.std.proofs.Common.{◌≡◌, drop}
 use Rattle.undo_rules.specs.Steps.{stale_by}
-use Rattle.undo_entries.proofs.StaleLemmas.{NoneWrote}
+use Rattle.undo_book.proofs.StaleLemmas.{NoneWrote}
 use Rattle.undo_book.proofs.book.Book.first_stale.Given as goal
 
 -- the calls that are left decide, and none of those before wrote it

@@ -1,8 +1,8 @@
 use Rattle.std.proofs.Common.{◌∙◌, ap, drop}
 use Rattle.std.specs.List.{list_any}
 use Rattle.undo_rules.specs.Books.{History}
-use Rattle.undo_entries.specs.Indexed.{is_linked}
-use Rattle.undo_entries.proofs.IndexedLemmas.{linked_past}
+use Rattle.undo_book.specs.Indexed.{is_linked}
+use Rattle.undo_book.proofs.IndexedLemmas.{linked_past}
 use Rattle.undo_book.proofs.book.Book.is_written_from.Goals as goal
 
 pub returns : goal.returns

@@ -2,7 +2,7 @@ use Rattle.std.proofs.Common.{◌≡◌, ◌∙◌, ap, length, rules}
 use Rattle.std.specs.List.{filter_map}
 use Rattle.undo_rules.specs.Books.{History}
 use Rattle.undo_rules.specs.Links.{links_to}
-use Rattle.undo_entries.specs.Indexed.{name_at}
+use Rattle.undo_book.specs.Indexed.{name_at}
 use Rattle.undo_book.proofs.NameLemmas.{links_so}
 use Rattle.undo_book.proofs.book.Book.links_to.Goals as goal
 

@@ -4,7 +4,7 @@ use Rattle.undo_rules.specs.declared.log.Logged.{Logged}
 use Rattle.undo_rules.specs.Books.{IsHistory}
 use Rattle.undo_rules.proofs.OpenLaws.{refused_keeps}
 use Rattle.undo_book.specs.Books.{history_of}
-use Rattle.undo_entries.proofs.ChangeLemmas.{unchanged_so}
+use Rattle.undo_book.proofs.ChangeLemmas.{unchanged_so}
 use Rattle.undo_book.proofs.SinceLemmas.{unchanged_commits_so}
 use Rattle.undo_book.proofs.book.Book.log_refusal.Goals as goal
 

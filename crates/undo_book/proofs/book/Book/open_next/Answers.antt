@@ -7,7 +7,7 @@ use Rattle.undo_rules.specs.Books.{History, IsHistory, SessionState}
 use Rattle.undo_rules.specs.Steps.{after_open, state_of}
 use Rattle.undo_rules.proofs.OpenLaws.{open_keeps}
 use Rattle.undo_book.specs.Books.{history_of}
-use Rattle.undo_entries.proofs.ChangeLemmas.{unchanged_so}
+use Rattle.undo_book.proofs.ChangeLemmas.{unchanged_so}
 use Rattle.undo_book.proofs.SinceLemmas.{unchanged_commits_so}
 use Rattle.undo_book.proofs.book.Book.open_next.Goals as goal
 

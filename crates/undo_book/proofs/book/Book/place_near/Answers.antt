@@ -2,7 +2,7 @@ use Rattle.std.proofs.Common.{◌≡◌, ◌∙◌, ◌<◌, List, ap, get_or, l
 use Rattle.std.proofs.lemmas.Option.{slice_get_read}
 use Rattle.undo_rules.specs.Books.{History}
 use Rattle.undo_rules.specs.Links.{Entry}
-use Rattle.undo_entries.proofs.MovedLemmas.{place_at}
+use Rattle.undo_book.proofs.MovedLemmas.{place_at}
 use Rattle.undo_book.proofs.book.Book.place_near.Goals as goal
 
 pub returns-in-Some-clause-value : goal.returns-in-Some-clause-value

@@ -1,6 +1,6 @@
 use Rattle.std.proofs.Common.{◌≡◌, rules}
-use Rattle.undo_entries.specs.Places.{place_of}
-use Rattle.undo_entries.proofs.FoundLemmas.{found_within}
+use Rattle.undo_book.specs.Places.{place_of}
+use Rattle.undo_book.proofs.FoundLemmas.{found_within}
 use Rattle.undo_book.proofs.book.Book.place_of.Goals as goal
 
 pub returns-clause-there : goal.returns-clause-there

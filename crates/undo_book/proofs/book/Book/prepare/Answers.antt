@@ -2,7 +2,7 @@ use Rattle.std.proofs.Common.{◌≡◌, rules, subst, sym}
 use Rattle.lay_layouts.specs.Sound.{IsSound}
 use Rattle.txn_commands.specs.Records.{AreProper, Records, applied}
 use Rattle.undo_book.specs.Books.{history_of}
-use Rattle.undo_entries.proofs.CommitLemmas.{committed_so}
+use Rattle.undo_book.proofs.CommitLemmas.{committed_so}
 use Rattle.undo_book.proofs.book.Book.prepare.Goals as goal
 
 pub applied-requires-clause-proper : goal.applied-requires-clause-proper

@@ -1,6 +1,6 @@
 use Rattle.std.proofs.Common.{◌∙◌, ap, rules, sym}
 use Rattle.undo_rules.specs.Books.{History}
-use Rattle.undo_entries.proofs.FoundLemmas.{redo_answer, redo_refusal_none}
+use Rattle.undo_book.proofs.FoundLemmas.{redo_answer, redo_refusal_none}
 use Rattle.undo_book.proofs.book.Book.redo_place.Goals as goal
 
 pub returns-in_default : goal.returns-in_default

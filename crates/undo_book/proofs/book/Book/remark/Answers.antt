@@ -9,19 +9,19 @@ use Rattle.undo_rules.specs.Steps.{remarked}
 use Rattle.txn_commands.specs.declared.command.TxnId.{TxnId}
 use Rattle.txn_commands.specs.Records.{AreProper}
 use Rattle.lay_layouts.specs.Sound.{IsSound}
-use Rattle.undo_entries.specs.Homes.{AreMetBy}
-use Rattle.undo_entries.specs.Listed.{IsNew}
-use Rattle.undo_entries.specs.Marks.{AreRelisted, mark_answer, mark_call, relaid}
+use Rattle.txn_marks.specs.Homes.{AreMetBy}
+use Rattle.undo_index.specs.Listed.{IsNew}
+use Rattle.undo_book.specs.Marks.{AreRelisted, mark_answer, mark_call, relaid}
 use Rattle.undo_book.specs.Books.{history_of}
-use Rattle.undo_entries.specs.Places.{AreTheirPlaces, place_of}
-use Rattle.undo_entries.specs.Indexed.{AreIndexed}
-use Rattle.undo_entries.proofs.IndexedLemmas.{mark_indexed, undone_new}
+use Rattle.undo_book.specs.Places.{AreTheirPlaces, place_of}
+use Rattle.undo_book.specs.Indexed.{AreIndexed}
+use Rattle.undo_book.proofs.IndexedLemmas.{mark_indexed, undone_new}
 use Rattle.undo_book.proofs.SameLemmas.{same_book}
-use Rattle.undo_entries.proofs.ChangeLemmas.{again_so}
-use Rattle.undo_entries.proofs.IndexLemmas.{places_marked}
-use Rattle.undo_entries.proofs.PlaceLemmas.{place_within}
+use Rattle.undo_book.proofs.ChangeLemmas.{again_so}
+use Rattle.undo_book.proofs.IndexLemmas.{places_marked}
+use Rattle.undo_book.proofs.PlaceLemmas.{place_within}
 use Rattle.undo_book.proofs.SinceLemmas.{again_commits_so}
-use Rattle.undo_entries.proofs.UndoLemmas.{IsMarked, LeavesMarked, marked_at}
+use Rattle.undo_book.proofs.UndoLemmas.{IsMarked, LeavesMarked, marked_at}
 use Rattle.undo_book.proofs.book.Book.remark.Goals as goal
 
 -- the place is that of a transaction

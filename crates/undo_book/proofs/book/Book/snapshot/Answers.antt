@@ -2,7 +2,7 @@ use Rattle.std.proofs.Common.{◌≡◌, Some, subst}
 use Rattle.undo_rules.specs.Books.{History}
 use Rattle.undo_rules.proofs.HistoryLaws.{replays}
 use Rattle.undo_book.specs.Books.{history_of}
-use Rattle.undo_entries.specs.Replays.{replay}
+use Rattle.undo_book.specs.Replays.{replay}
 use Rattle.undo_book.proofs.book.Book.snapshot.Goals as goal
 
 pub returns-clause-replay : goal.returns-clause-replay

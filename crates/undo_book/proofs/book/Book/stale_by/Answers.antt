@@ -1,6 +1,6 @@
 use Rattle.std.proofs.Common.{◌≡◌, ◌≤◌, ◌∙◌, false, rules, subst, sym}
 use Rattle.undo_rules.specs.Books.{History}
-use Rattle.undo_entries.specs.Changes.{AreChanges, AreCommits}
+use Rattle.undo_book.specs.Changes.{AreChanges, AreCommits}
 use Rattle.undo_book.proofs.SinceLemmas.{none_since}
 use Rattle.undo_book.proofs.book.Book.stale_by.Goals as goal
 

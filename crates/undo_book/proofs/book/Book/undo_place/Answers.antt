@@ -1,6 +1,6 @@
 use Rattle.std.proofs.Common.{◌∙◌, ap, rules, sym}
 use Rattle.undo_rules.specs.Books.{History}
-use Rattle.undo_entries.proofs.FoundLemmas.{undo_answer, undo_refusal_none}
+use Rattle.undo_book.proofs.FoundLemmas.{undo_answer, undo_refusal_none}
 use Rattle.undo_book.proofs.book.Book.undo_place.Goals as goal
 
 pub returns-in_default : goal.returns-in_default

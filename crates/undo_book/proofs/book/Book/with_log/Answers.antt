@@ -1,9 +1,9 @@
 use Rattle.std.proofs.Common.{[], rules, refl}
-use Rattle.undo_entries.specs.Places.{AreTheirPlaces}
-use Rattle.undo_entries.proofs.ChangeLemmas.{none_so}
-use Rattle.undo_entries.proofs.IndexedLemmas.{none_indexed}
+use Rattle.undo_book.specs.Places.{AreTheirPlaces}
+use Rattle.undo_book.proofs.ChangeLemmas.{none_so}
+use Rattle.undo_book.proofs.IndexedLemmas.{none_indexed}
 use Rattle.undo_book.proofs.SinceLemmas.{no_commits_so}
-use Rattle.undo_entries.proofs.SoundLemmas.{begins_history}
+use Rattle.undo_book.proofs.SoundLemmas.{begins_history}
 use Rattle.undo_book.proofs.book.Book.with_log.Goals as goal
 
 -- no name has a place

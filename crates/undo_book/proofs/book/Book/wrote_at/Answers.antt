@@ -1,7 +1,8 @@
 use Rattle.std.proofs.Common.{◌∙◌, ap, get_or, sym}
 use Rattle.undo_rules.specs.Books.{History}
-use Rattle.undo_rules.specs.Links.{Entry, meets_touched}
-use Rattle.undo_entries.proofs.FoundLemmas.{wrote_none, wrote_placed}
+use Rattle.undo_rules.specs.Links.{Entry}
+use Rattle.txn_commands.specs.Meets.{meets_touched}
+use Rattle.undo_book.proofs.FoundLemmas.{wrote_none, wrote_placed}
 use Rattle.undo_book.proofs.book.Book.wrote_at.Goals as goal
 
 pub returns-in-Some : goal.returns-in-Some

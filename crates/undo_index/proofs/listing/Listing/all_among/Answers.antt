@@ -1,7 +1,7 @@
 use Rattle.std.proofs.Common.{◌≡◌, ◌∙◌, ◌||◌, ◌&&◌, [], ap, rules}
 use Rattle.std.specs.Prelude.{nat_lt}
 use Rattle.std.specs.List.{list_any}
-use Rattle.undo_places.specs.First.{has_place}
+use Rattle.undo_index.specs.First.{has_place}
 use Rattle.undo_index.specs.Listed.{is_listed}
 use Rattle.undo_index.proofs.FootprintLemmas.{any_so}
 use Rattle.undo_index.proofs.listing.Listing.all_among.Goals as goal

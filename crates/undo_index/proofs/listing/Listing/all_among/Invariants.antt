@@ -2,7 +2,7 @@ use Rattle.std.proofs.Common.{◌≡◌, ℕ, ◌||◌, ◌&&◌, drop}
 use Rattle.std.specs.Prelude.{nat_lt}
 use Rattle.std.specs.List.{list_any}
 use Rattle.std.specs.FinSet.{items}
-use Rattle.undo_places.specs.First.{has_place}
+use Rattle.undo_index.specs.First.{has_place}
 use Rattle.undo_index.specs.Listed.{is_listed}
 use Rattle.undo_index.proofs.listing.Listing.all_among.Given as goal
 

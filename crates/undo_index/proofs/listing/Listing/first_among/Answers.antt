@@ -3,7 +3,7 @@ use Rattle.std.specs.FinSet.{items}
 use Rattle.std.specs.List.{list_any}
 use Rattle.std.proofs.lemmas.List.{drop_all, drop_more}
 use Rattle.txn_commands.specs.declared.element.Element.{Element}
-use Rattle.undo_places.proofs.FirstLemmas.{Leaves, first_alike, leaves_less, leaves_none}
+use Rattle.undo_index.proofs.FirstLemmas.{Leaves, first_alike, leaves_less, leaves_none}
 use Rattle.undo_index.specs.Listed.{is_listed}
 use Rattle.undo_index.proofs.FootprintLemmas.{any_so}
 use Rattle.undo_index.proofs.listing.Listing.first_among.Goals as goal

@@ -2,8 +2,8 @@ use Rattle.std.proofs.Common.{◌≡◌, ℕ, Option, ◌∷◌, List, rules, su
 use Rattle.std.specs.FinSet.{items}
 use Rattle.std.specs.List.{list_any}
 use Rattle.txn_commands.specs.declared.element.Element.{Element}
-use Rattle.undo_places.specs.First.{IsFirst}
-use Rattle.undo_places.proofs.FirstLemmas.{Leaves, first_alike, leaves_less, leaves_none}
+use Rattle.undo_index.specs.First.{IsFirst}
+use Rattle.undo_index.proofs.FirstLemmas.{Leaves, first_alike, leaves_less, leaves_none}
 use Rattle.undo_index.specs.Listed.{is_listed}
 use Rattle.undo_index.proofs.FootprintLemmas.{any_so}
 use Rattle.undo_index.proofs.listing.Listing.first_touched.Goals as goal

@@ -1,5 +1,5 @@
 use Rattle.std.specs.FinSet.{items}
-use Rattle.undo_places.proofs.FirstLemmas.{Leaves}
+use Rattle.undo_index.proofs.FirstLemmas.{Leaves}
 use Rattle.undo_index.specs.Listed.{is_listed}
 use Rattle.undo_index.proofs.listing.Listing.first_touched.Given as goal
 

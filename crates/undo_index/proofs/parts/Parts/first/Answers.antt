@@ -1,7 +1,7 @@
 use Rattle.std.proofs.Common.{◌≡◌, ℕ, None, Option, Some, refl, rules, subst}
 use Rattle.std.specs.BTreeMap.{get}
 use Rattle.txn_commands.specs.Elements.{element_cmp}
-use Rattle.undo_places.specs.First.{IsFirst}
+use Rattle.undo_index.specs.First.{IsFirst}
 use Rattle.undo_index.specs.Listed.{is_listed}
 use Rattle.undo_index.proofs.PartsLemmas.{first_found}
 use Rattle.undo_index.proofs.parts.Parts.first.Goals as goal

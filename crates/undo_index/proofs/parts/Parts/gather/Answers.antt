@@ -4,8 +4,8 @@ use Rattle.std.specs.BTreeMap.{get}
 use Rattle.std.proofs.lemmas.Result.{on_ok_weaker}
 use Rattle.txn_commands.specs.Elements.{element_cmp}
 use Rattle.txn_marks.proofs.AnyLemmas.{or_false}
-use Rattle.undo_places.specs.First.{has_place}
-use Rattle.undo_places.proofs.TreeLemmas.{none_of}
+use Rattle.undo_index.specs.First.{has_place}
+use Rattle.undo_index.proofs.TreeLemmas.{none_of}
 use Rattle.undo_index.proofs.PartsLemmas.{gathered_found}
 use Rattle.undo_index.proofs.parts.Parts.gather.Goals as goal
 

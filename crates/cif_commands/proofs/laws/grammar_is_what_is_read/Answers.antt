@@ -1,9 +1,0 @@
-use Rattle.cif_commands.proofs.CommandGrammar.{command_again}
-use Rattle.cif_commands.proofs.Pieces.{piece_takes}
-use Rattle.cif_commands.proofs.laws.grammar_is_what_is_read.Goals as goal
-
-pub returns-clause-takes : goal.returns-clause-takes
-returns-clause-takes c = piece_takes c.args._bytes.now
-
-pub returns-clause-again : goal.returns-clause-again
-returns-clause-again c = command_again c.args._bytes.now

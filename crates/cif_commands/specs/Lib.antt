@@ -1,9 +1,0 @@
-pub mod Boxes
-pub mod Calls
-pub mod Commands
-pub mod Comments
-pub mod Definitions
-pub mod Grammar
-pub mod Layers
-pub mod Paths
-pub mod Reading

@@ -1,5 +1,0 @@
-use Rattle.cif_fault_laws.proofs.FaultGrammar.{faults_stand}
-use Rattle.cif_fault_laws.proofs.laws.faults_are_where_they_stand.Goals as goal
-
-pub returns : goal.returns
-returns c = faults_stand

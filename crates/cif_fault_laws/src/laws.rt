@@ -1,8 +1,0 @@
-//! What holds of every text that is refused, as a call that does nothing.
-ghost use Rattle.cif_fault_laws.specs.Refusals.{FaultsAreWhereTheyStand};
-
-/// A text that means a fault begins with good commands, and what stands behind them has the fault; or all its
-/// commands are good, and a call has it.
-pub fn faults_are_where_they_stand()
-    ensures { FaultsAreWhereTheyStand }
-{}

@@ -1,0 +1,17 @@
+pub mod ByteClasses
+pub mod CallGrammar
+pub mod CallSteps
+pub mod CommandGrammar
+pub mod CommentGrammar
+pub mod CutGrammar
+pub mod CutLemmas
+pub mod Digits
+pub mod NumberGrammar
+pub mod Openings
+pub mod OtherGrammar
+pub mod PathGrammar
+pub mod PathSteps
+pub mod Pieces
+pub mod Runs
+pub mod Separators
+pub mod Steps

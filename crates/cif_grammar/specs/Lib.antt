@@ -1,0 +1,14 @@
+pub mod Boxes
+pub mod Bytes
+pub mod Calls
+pub mod Commands
+pub mod Comments
+pub mod Cutting
+pub mod Definitions
+pub mod Grammar
+pub mod Layers
+pub mod Numbers
+pub mod Paths
+pub mod Reading
+pub mod ScanGrammar
+pub mod Views

@@ -1,0 +1,83 @@
+-- A text leads from one content to another, wherever it stands and whichever calls stand before it.
+use Rattle.std.proofs.Common.{◌≡◌, ℕ, ◌+◌, Bool, true, false, List, [], ◌∷◌, ◌++◌, length, Ok, refl, sym, ap, ◌∙◌, subst, append_assoc}
+use Rattle.std.specs.List.{list_all}
+use Rattle.cif_grammar.specs.Bytes.{is_blank, is_gap, is_mark}
+use Rattle.cif_grammar.specs.Commands.{Command}
+use Rattle.cif_grammar.specs.Grammar.{ReadsFrom}
+use Rattle.cif_read.specs.declared.content.Content.{Content}
+use Rattle.cif_read.specs.declared.content.Pending.{Pending}
+use Rattle.cif_read.specs.Content.{after_command_at, after_commands, effect_of, is_inside}
+use Rattle.cif_read.specs.Kept.{IsKept}
+use Rattle.cif_read.proofs.StepFacts.{step_of}
+use Rattle.cif_write.specs.Lines.{End, Line, line_text, lines_text}
+use Rattle.cif_laws.proofs.WrittenLines.{IsLineOf}
+
+-- the content with these calls
+abbrev pub with_calls : Content → List Pending → Content
+with_calls content calls = record content { calls = calls }
+
+-- the text is commands that lead to the last content, with some calls
+pub record IsReadTo (content : Content) (offset : ℕ) (text : List ℕ) (last : Content) : Type 0 where
+  pub commands : List (ℕ × Command)
+  pub reads : ReadsFrom (is_inside content.definition) offset text commands
+  pub calls : List Pending
+  pub means : after_commands content commands ≡ Ok (with_calls last calls)
+  pub kept : IsKept (with_calls last calls)
+
+abbrev pub Reaches : Content → Content → List ℕ → Type 0
+Reaches from last text = (calls : List Pending) (offset : ℕ) (gap : List ℕ) → IsKept (with_calls from calls) → list_all is_gap gap ≡ true
+    → IsReadTo (with_calls from calls) offset (gap ++ text) last
+
+-- a command leads so at any offset
+abbrev pub Does : Content → Command → Content → Type 0
+Does from c next = (calls : List Pending) (offset : ℕ)
+    → (after : List Pending) × (effect_of (with_calls from calls) offset c ≡ Ok (with_calls next after))
+
+-- a line of a command leads where the command does
+line_leads : (from next last : Content) (line : Line) (c : Command) (text : List ℕ) → IsLineOf line c → Does from c next
+    → Reaches next last text → Reaches from last (line_text line ++ text)
+unfolding after_commands after_command_at is_gap is_blank is_mark
+line_leads from next last line c text is does reaches calls offset gap kept passed =
+    let content = with_calls from calls in
+    let place = offset + length gap in
+    let done = does calls place in
+    let step = step_of content (with_calls next done.0) place c kept.scale done.1 in
+    let behind = place + length is.spelling + 1 in
+    let rest = reaches done.0 behind (10 ∷ []) (step.kept kept) refl in
+    record {
+      commands = (place, c) ∷ rest.commands;
+      reads = (
+        record {
+          gap = gap;
+          spelling = is.spelling;
+          rest = 10 ∷ text;
+          parts = ap (λ t. gap ++ t) (ap (λ l. l ++ text) is.parts ∙ append_assoc is.spelling (59 ∷ (10 ∷ [])) text);
+          passed = passed;
+          located = refl;
+          spells = is.spells;
+        },
+        step.stands,
+        subst (λ (b : Bool). ReadsFrom b behind (10 ∷ text) rest.commands) step.inside rest.reads,
+      );
+      calls = rest.calls;
+      means = rw done.1 rest.means;
+      kept = rest.kept;
+    }
+
+-- the same for the first of several lines
+pub first_leads : (from next last : Content) (line : Line) (c : Command) (lines : List Line) (text : List ℕ) → IsLineOf line c
+    → Does from c next → Reaches next last (lines_text lines ++ text) → Reaches from last (lines_text (line ∷ lines) ++ text)
+first_leads from next last line c lines text is does reaches =
+    subst (Reaches from last) (sym (append_assoc (line_text line) (lines_text lines) text))
+    (line_leads from next last line c (lines_text lines ++ text) is does reaches)
+
+-- the text ends outside of definitions
+pub end_reached : (last : Content) → is_inside last.definition ≡ false → Reaches last last (line_text End)
+unfolding after_commands is_blank is_mark
+end_reached last outside calls offset gap kept passed = record {
+  commands = [];
+  reads = (record { gap = gap; behind = 10 ∷ []; parts = refl; passed = passed; behind_blank = refl }, outside);
+  calls = calls;
+  means = refl;
+  kept = kept;
+}

@@ -1,0 +1,56 @@
+-- What is written of a layout is read back as that layout, wrapped.
+-- Source: Caltech Intermediate Form 2.0, its formal grammar, symbol definitions and calls.
+use Rattle.std.specs.Prelude.{◌≡◌, ◌⊎◌, ℕ, ◌≤◌, List, length, Some, Result, Ok, Err, IsTrue}
+use Rattle.lay_point.specs.Names.{is_layer_name}
+use Rattle.lay_layouts.specs.declared.id.ItemId.{ItemId}
+use Rattle.lay_layouts.specs.declared.item.Item.{Item}
+use Rattle.lay_layouts.specs.declared.item.Item.TheVariants.{Placed, Shape}
+use Rattle.lay_layouts.specs.Layout.{Layout, item_at}
+use Rattle.lay_layouts.specs.Sound.{IsSound}
+use Rattle.cif_grammar.specs.Commands.{Command}
+use Rattle.cif_grammar.specs.Grammar.{Reads}
+use Rattle.cif_read.specs.declared.content.Content.{Content}
+use Rattle.cif_read.specs.declared.fault.CifFault.{CifFault}
+use Rattle.cif_read.specs.declared.file.TheConstants.{MAX_SYMBOLS, MAX_TEXT}
+use Rattle.cif_read.specs.Binding.{IsBoundAs}
+use Rattle.cif_read.specs.Content.{content_of}
+use Rattle.cif_read.specs.Contents.{Contents}
+use Rattle.cif_read.specs.Meaning.{AnswersMeaning, no_memory}
+use Rattle.cif_layout.specs.FromCif.{layout_of}
+use Rattle.cif_write.specs.Text.{text}
+use Rattle.cif_write.specs.Wrap.{wrap, written}
+
+-- a shape is on a layer that has a name
+abbrev pub IsOnNamedLayer : Item → Type 0
+IsOnNamedLayer (Shape cell layer rings) = IsTrue (is_layer_name layer)
+IsOnNamedLayer (Placed cell target turn) = Unit {0}
+
+-- all shapes of a layout are
+abbrev pub AreOnNamedLayers : Layout → Type 0
+AreOnNamedLayers layout = (id : ItemId) (item : Item) → item_at layout id ≡ Some item → IsOnNamedLayer item
+
+-- the text of a layout is commands of the grammar, whose meaning is bound as a file that has the layout, wrapped
+abbrev pub IsReadBack : Layout → Type 0
+IsReadBack layout = (commands : List (ℕ × Command)) × (last : Content) × (file : Contents)
+    × Reads (text layout) commands × (content_of commands ≡ Ok last) × IsBoundAs last (Ok file) × (layout_of file ≡ wrap layout)
+
+-- where it isn't too long, whatever it may be answered with, but out of memory, is such a file
+abbrev pub IsReread : Layout → Type 0
+IsReread layout = length (text layout) ≤ MAX_TEXT → (result : Result Contents CifFault) → AnswersMeaning (text layout) result
+    → (result ≡ Err no_memory) ⊎ ((file : Contents) × (result ≡ Ok file) × (layout_of file ≡ wrap layout))
+
+-- a layout that a text can hold: it is sound, its layers have names, and no more symbols are written than a text may define
+pub record FitsText (layout : Layout) : Type 0 where
+  pub sound : IsSound layout
+  pub named : AreOnNamedLayers layout
+  pub room : length (written layout).definitions ≤ MAX_SYMBOLS
+
+abbrev pub WhatIsWrittenIsReadBack : Type 0
+WhatIsWrittenIsReadBack = (layout : Layout) → FitsText layout → IsReadBack layout × IsReread layout
+
+abbrev pub WhatIsWrappedIsSound : Type 0
+WhatIsWrappedIsSound = (layout : Layout) → FitsText layout → IsSound (wrap layout)
+
+-- the layout that is read is written as the first was
+abbrev pub WhatIsReadIsWrittenTheSame : Type 0
+WhatIsReadIsWrittenTheSame = (layout : Layout) → FitsText layout → text (wrap layout) ≡ text layout

@@ -1,0 +1,6 @@
+pub mod Boxes
+pub mod Changes
+pub mod Directions
+pub mod Distances
+pub mod Laws
+pub mod Refusals

@@ -1,4 +1,0 @@
-pub mod DistanceLemmas
-pub mod PlaceLemmas
-pub mod ChangeLemmas
-pub mod AxisLemmas

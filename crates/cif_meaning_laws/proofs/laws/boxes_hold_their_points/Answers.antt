@@ -1,5 +1,0 @@
-use Rattle.cif_meaning_laws.proofs.AxisLemmas.{boxes_law}
-use Rattle.cif_meaning_laws.proofs.laws.boxes_hold_their_points.Goals as goal
-
-pub returns : goal.returns
-returns c = boxes_law

@@ -1,5 +1,0 @@
-use Rattle.cif_meaning_laws.proofs.PlaceLemmas.{distances_law}
-use Rattle.cif_meaning_laws.proofs.laws.distances_are_scaled.Goals as goal
-
-pub returns : goal.returns
-returns c = distances_law

@@ -1,4 +1,0 @@
-pub mod Distances
-pub mod Directions
-pub mod Changes
-pub mod Boxes

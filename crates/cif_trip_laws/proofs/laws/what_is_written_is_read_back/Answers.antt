@@ -1,6 +1,0 @@
-use Rattle.cif_trip_laws.proofs.ReadBack.{read_back, wrapped_sound}
-use Rattle.cif_trip_laws.proofs.WrittenAgain.{written_the_same}
-use Rattle.cif_trip_laws.proofs.laws.what_is_written_is_read_back.Goals as goal
-
-pub returns : goal.returns
-returns c = record { again = read_back; sound = wrapped_sound; same = written_the_same }

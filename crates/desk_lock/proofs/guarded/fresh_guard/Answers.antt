@@ -1,8 +1,0 @@
-use Rattle.desk_lock.proofs.GuardedLemmas.{new_guard}
-use Rattle.desk_lock.proofs.guarded.fresh_guard.Goals as goal
-
-pub invariant_of-result : goal.invariant_of-result
-invariant_of-result g c =
-    new_guard c.args.sessions c.args.book c.args.limit c.args.counts.items c.args.calls.total c.requires.few c.requires.book
-    c.requires.counts
-    c.requires.calls

@@ -1,5 +1,0 @@
--- The desk's ledger is the one that was made.
-use Rattle.desk_run.proofs.run_scripts.Given as goal
-
-abbrev pub ghosts-run_on : goal.ghosts-run_on
-ghosts-run_on g a = record { name = a.blank.name; parts = a.blank.parts }

@@ -1,2 +1,0 @@
-pub mod Scripts
-pub use Rattle.locked_desk.specs.RunFault

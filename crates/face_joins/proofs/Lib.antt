@@ -1,2 +1,0 @@
-pub mod ForestLemmas
-pub mod JoinLemmas

@@ -1,7 +1,0 @@
-use Rattle.std.proofs.Common.{◌≡◌, drop}
-use Rattle.face_part_laws.specs.Parts.{bounding_box, grown_by}
-use Rattle.face_joins.proofs.bounds.bounds_of.Given as goal
-
--- the box so far, grown by the points that are left, is the box of all points
-abbrev pub invariant-loop-point : goal.invariant-loop-point
-invariant-loop-point l = grown_by l.bounds (drop l.point-index l.point-items) ≡ bounding_box l.ring

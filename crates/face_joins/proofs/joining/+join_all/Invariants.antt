@@ -1,4 +1,0 @@
-use Rattle.face_joins.proofs.joining.+join_all.Given as goal
-
-abbrev pub decreases-join_all : goal.decreases-join_all
-decreases-join_all l = l.depth

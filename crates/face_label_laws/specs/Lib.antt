@@ -1,9 +1,0 @@
-pub mod Labels
-pub mod Laws
-pub use Rattle.face_side_laws.specs.Slides
-pub use Rattle.snap_chains.specs.Meeting
-pub use Rattle.snap_chains.specs.Owners
-pub use Rattle.snap_chains.specs.Rounded
-pub use Rattle.snap_chains.specs.Input
-pub use Rattle.snap_chains.specs.Owner
-pub use Rattle.snap_chains.specs.Segments

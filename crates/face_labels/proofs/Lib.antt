@@ -1,1 +1,0 @@
-pub use Rattle.face_sides.proofs.Upward

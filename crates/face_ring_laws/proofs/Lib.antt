@@ -1,0 +1,10 @@
+pub mod BoxLaws
+pub mod CountLemmas
+pub mod LinkedLemmas
+pub mod ParityLemmas
+pub mod PartLaws
+pub mod PartLemmas
+pub mod RingLaws
+pub mod StepLemmas
+pub mod TakenLemmas
+pub mod WayLemmas

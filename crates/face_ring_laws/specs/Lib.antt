@@ -1,0 +1,4 @@
+pub mod Heads
+pub mod Linked
+pub mod Linking
+pub mod Parts

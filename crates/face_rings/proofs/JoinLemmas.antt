@@ -1,0 +1,359 @@
+-- How joining goes on: by pairs, by lists, and by the two sides of a line.
+use Rattle.std.proofs.Common.{◌≡◌, ◌≢◌, ◌⊎◌, inl, inr, ℕ, ◌+◌, ◌<◌, ◌≤◌, Bool, true, false, ◌||◌, List, [], ◌∷◌, ◌++◌, length, take}
+use Rattle.std.proofs.Common.{get_or, ℤ, ◌<ℤ◌, Result, Ok, Err}
+use Rattle.std.proofs.Common.{pos, refl, sym, ap, subst, ◌∙◌, ⊎_elim, arith}
+use Rattle.std.specs.Prelude.{Contains, All, OnOk, int_le, int_lt, max, min}
+use Rattle.std.proofs.lemmas.Bool.{and_parts, cases_lt, false≢true, or_left, or_right}
+use Rattle.std.proofs.lemmas.List.{get_or_default, take_more}
+use Rattle.lay_point.proofs.Members.{Has, contains, has, has-append, has-append_left, has-append_right}
+use Rattle.std.proofs.lemmas.Int.{ints}
+use Rattle.face_ring_laws.specs.Parts.{AreJoined, Box, is_up_to, touch}
+use Rattle.face_ring_laws.specs.Heads.{IsFinest}
+use Rattle.face_rings.specs.declared.cut.Cut.{Cut}
+use Rattle.face_rings.specs.declared.cut.Cut.TheVariants.{Column, Row}
+use Rattle.face_ring_laws.proofs.PartLemmas.{joined_by_boxes}
+use Rattle.lay_point.proofs.Tests.{le_true, true_lt}
+use Rattle.face_rings.specs.Forest.{IsForest, root_of, united}
+use Rattle.face_rings.specs.Joining.{AreOnlyJoined, Grows, IsPartOf, Joins, box_reaches_high, box_reaches_low}
+use Rattle.face_rings.proofs.ForestLemmas.{root_ends, root_le, root_of_own, united_cases}
+
+-- ---- trees that grow
+pub grows_not : (boxes : List Box) (ps : List ℕ) → IsForest ps → Grows boxes ps ps
+grows_not boxes ps h = record { each = refl; forest = h; only = λ g. g; kept = λ i j li lj e. e }
+
+pub grows_on : (boxes : List Box) (a b c : List ℕ) → Grows boxes a b → Grows boxes b c → Grows boxes a c
+grows_on boxes a b c g h = record {
+  each = h.each ∙ g.each;
+  forest = h.forest;
+  only = λ o. h.only (g.only o);
+  kept = λ i j li lj e. h.kept i j (omega (arith, li, g.each)) (omega (arith, lj, g.each)) (g.kept i j li lj e);
+}
+
+-- the same roots, other parents
+pub grows_by_roots : (boxes : List Box) (old new : List ℕ) → length new ≡ length old → length old ≡ length boxes → IsForest new
+    → ((k : ℕ) → k < length old → root_of new k ≡ root_of old k) → Grows boxes old new
+grows_by_roots boxes old new same each forest roots = record {
+  each = same;
+  forest = forest;
+  only = λ o other respects i j li lj e. o other respects i j li lj
+      (sym (roots i (omega (arith, li))) ∙ e ∙ roots j (omega (arith, lj)));
+  kept = λ i j li lj e. roots i li ∙ e ∙ sym (roots j lj);
+}
+
+-- the trees of two that are joined are united
+module _ (boxes : List Box) (old new : List ℕ) (i j : ℕ) (joined : AreJoined boxes i j) (each : length old ≡ length boxes)
+    (same : length new ≡ length old) (forest : IsForest new)
+    (roots : (k : ℕ) → k < length old → root_of new k ≡ united (root_of old i) (root_of old j) (root_of old k)) where
+  abbrev p : ℕ
+  p = root_of old i
+
+  abbrev q : ℕ
+  q = root_of old j
+
+  abbrev goes : ℕ → Type 0
+  goes r = (r ≡ max p q) × (united p q r ≡ min p q)
+
+  abbrev stays : ℕ → Type 0
+  stays r = (r ≢ max p q) × (united p q r ≡ r)
+
+  module _ (o : AreOnlyJoined boxes old) (other : ℕ → ℕ) (respects : (a b : ℕ) → AreJoined boxes a b → other a ≡ other b) where
+    together : (a b : ℕ) → a < length boxes → b < length boxes → root_of old a ≡ root_of old b → other a ≡ other b
+    together = o other respects
+
+    -- one whose root goes, and one whose root is the one that stays
+    across : (a b : ℕ) → a < length boxes → b < length boxes → root_of old a ≡ max p q → root_of old b ≡ min p q → other a ≡ other b
+    across a b la lb ra rb = ⊎_elim
+        (λ (e : (min p q ≡ p) × (max p q ≡ q)).
+        together a j la joined.1 (ra ∙ e.1) ∙ sym (respects i j joined) ∙ together i b joined.0 lb (sym (rb ∙ e.0)))
+        (λ (e : (min p q ≡ q) × (max p q ≡ p)).
+        together a i la joined.0 (ra ∙ e.1) ∙ respects i j joined ∙ together j b joined.1 lb (sym (rb ∙ e.0)))
+        (lesser_greater p q)
+      where
+        lesser_greater : (a b : ℕ) → ((min a b ≡ a) × (max a b ≡ b)) ⊎ ((min a b ≡ b) × (max a b ≡ a))
+        lesser_greater a b = ⊎_elim (λ (less : a < b). inl (omega arith, omega arith)) (λ (le : b ≤ a). inr (omega arith, omega arith))
+            (cases_lt a b)
+
+    still_together : (a b : ℕ) → a < length boxes → b < length boxes → root_of new a ≡ root_of new b → other a ≡ other b
+    still_together a b la lb e =
+        let f = sym (roots a (omega (arith, la))) ∙ e ∙ roots b (omega (arith, lb)) in
+        ⊎_elim
+        (λ (ga : goes (root_of old a)). ⊎_elim (λ (gb : goes (root_of old b)). together a b la lb (ga.0 ∙ sym gb.0))
+        (λ (sb : stays (root_of old b)). across a b la lb ga.0 (sym sb.1 ∙ sym f ∙ ga.1)) (united_cases p q (root_of old b)))
+        (λ (sa : stays (root_of old a)). ⊎_elim (λ (gb : goes (root_of old b)). sym (across b a lb la gb.0 (sym sa.1 ∙ f ∙ gb.1)))
+        (λ (sb : stays (root_of old b)). together a b la lb (sym sa.1 ∙ f ∙ sb.1)) (united_cases p q (root_of old b)))
+        (united_cases p q (root_of old a))
+
+  pub grows_united : Grows boxes old new
+  grows_united = record {
+    each = same;
+    forest = forest;
+    only = λ o other respects a b la lb e. still_together o other respects a b la lb e;
+    kept = λ a b la lb e. roots a la ∙ ap (united p q) e ∙ sym (roots b lb);
+  }
+
+  pub now_together : root_of new i ≡ root_of new j
+  now_together = roots i (omega (arith, joined.0)) ∙ left ∙ sym right ∙ sym (roots j (omega (arith, joined.1)))
+    where
+      left : united p q p ≡ min p q
+      left = ⊎_elim (λ (g : goes p). g.1) (λ (s : stays p). s.1 ∙ omega (arith, s.0)) (united_cases p q p)
+
+      right : united p q q ≡ min p q
+      right = ⊎_elim (λ (g : goes q). g.1) (λ (s : stays q). s.1 ∙ omega (arith, s.0)) (united_cases p q q)
+
+-- ---- two that touch both reach one side of a line
+-- along one axis, of boxes from a to b and from c to d
+one_side : (at a b c d : ℤ) → int_le a d ≡ true → int_le c b ≡ true
+    → (((int_le a at || int_le b at) ≡ true) × ((int_le c at || int_le d at) ≡ true))
+    ⊎ (((int_lt at a || int_lt at b) ≡ true) × ((int_lt at c || int_lt at d) ≡ true))
+one_side at a b c d h g = by_tests (int_le a at || int_le b at) (int_le c at || int_le d at) refl refl
+  where
+    above : (a b : ℤ) → (int_le a at || int_le b at) ≡ false → (at <ℤ a) × (at <ℤ b)
+    above a b h = (grind (arith, ints), grind (arith, ints))
+
+    by_tests : (s t : Bool) → (int_le a at || int_le b at) ≡ s → (int_le c at || int_le d at) ≡ t
+        → (((int_le a at || int_le b at) ≡ true) × ((int_le c at || int_le d at) ≡ true))
+        ⊎ (((int_lt at a || int_lt at b) ≡ true) × ((int_lt at c || int_lt at d) ≡ true))
+    by_tests true true e f = inl (e, f)
+    by_tests false t e f =
+        let over = above a b e in
+        let reach = le_true a d h in
+        inr (
+          or_left (int_lt at a) (int_lt at b) (true_lt at a over.0),
+          or_right (int_lt at c) (int_lt at d)
+              (true_lt at d (omega (arith, ints, over.0, reach))),
+        )
+    by_tests true false e f =
+        let over = above c d f in
+        let reach = le_true c b g in
+        inr (
+          or_right (int_lt at a) (int_lt at b) (true_lt at b (omega (arith, ints, over.0, reach))),
+          or_left (int_lt at c) (int_lt at d)
+              (true_lt at c over.0),
+        )
+
+module _ (b c : Box) (h : touch b c ≡ true) where
+  halves : (is_up_to b.0 c.1 ≡ true) × (is_up_to c.0 b.1 ≡ true)
+  halves = and_parts (is_up_to b.0 c.1) (is_up_to c.0 b.1) h
+
+  first : (int_le b.0.x c.1.x ≡ true) × (int_le b.0.y c.1.y ≡ true)
+  first = and_parts (int_le b.0.x c.1.x) (int_le b.0.y c.1.y) halves.0
+
+  second : (int_le c.0.x b.1.x ≡ true) × (int_le c.0.y b.1.y ≡ true)
+  second = and_parts (int_le c.0.x b.1.x) (int_le c.0.y b.1.y) halves.1
+
+  both_reach : (cut : Cut)
+      → ((box_reaches_low cut b ≡ true) × (box_reaches_low cut c ≡ true))
+      ⊎ ((box_reaches_high cut b ≡ true) × (box_reaches_high cut c ≡ true))
+  both_reach (Column at) = one_side at b.0.x b.1.x c.0.x c.1.x first.0 second.0
+  both_reach (Row at) = one_side at b.0.y b.1.y c.0.y c.1.y first.1 second.1
+
+-- the lists of the two sides
+pub joined_by_sides : (boxes : List Box) (cut : Cut) (numbers low high : List ℕ) (old mid new : List ℕ) → length old ≡ length boxes
+    → IsPartOf (box_reaches_low cut) boxes numbers low → IsPartOf (box_reaches_high cut) boxes numbers high
+    → Joins boxes low old mid → Joins boxes high mid new → Joins boxes numbers old new
+joined_by_sides boxes cut numbers low high old mid new each is_low is_high l h = record {
+  grows = grows_on boxes old mid new l.grows h.grows;
+  joined = λ i j mi mj touching.
+      let d : Box = get_or boxes i (record { x = pos 0; y = pos 0 }, record { x = pos 0; y = pos 0 }) in
+      ⊎_elim
+      (λ (both : (box_reaches_low cut (get_or boxes i d) ≡ true) × (box_reaches_low cut (get_or boxes j d) ≡ true)).
+      h.grows.kept i j (omega (arith, touching.0, each, l.grows.each)) (omega (arith, touching.1, each, l.grows.each))
+      (l.joined i j (is_low.all i d mi both.0) (is_low.all j d mj both.1) touching))
+      (λ (both : (box_reaches_high cut (get_or boxes i d) ≡ true) × (box_reaches_high cut (get_or boxes j d) ≡ true)).
+      h.joined i j (is_high.all i d mi both.0) (is_high.all j d mj both.1) touching)
+      (both_reach (get_or boxes i d) (get_or boxes j d) (touching.2 d) cut);
+}
+
+-- ---- lists, number by number
+pub has_more : (numbers : List ℕ) (i : ℕ) → i < length numbers → (k : ℕ) → Contains (take (i + 1) numbers) k
+    → Contains (take i numbers) k ⊎ (get_or numbers i 0 ≡ k)
+has_more numbers i lt k m = ⊎_elim (λ (early : Has (take i numbers) k). inl (contains (take i numbers) k early))
+    (λ (here : Has (get_or numbers i 0 ∷ []) k). ⊎_elim (λ (same : get_or numbers i 0 ≡ k). inr same) (λ (none : ⊥). absurd none) here)
+    (has-append (take i numbers) (get_or numbers i 0 ∷ []) k
+    (subst (λ l. Has l k) (take_more numbers i 0 lt) (has (take (i + 1) numbers) k m)))
+
+pub more_has : (xs : List ℕ) (n k : ℕ) → Contains xs k ⊎ (n ≡ k) → Contains (xs ++ n ∷ []) k
+more_has xs n k (inl m) = contains (xs ++ n ∷ []) k (has-append_left xs (n ∷ []) k (has xs k m))
+more_has xs n k (inr same) = contains (xs ++ n ∷ []) k (has-append_right xs (n ∷ []) k (inl same))
+
+pub part_none : (test : Box → Bool) (boxes : List Box) (numbers part : List ℕ) → part ≡ [] → IsPartOf test boxes (take 0 numbers) part
+part_none test boxes numbers part none = record {
+  among = λ k m. absurd (has [] k (subst (λ l. Contains l k) none m));
+  all = λ k d m h. absurd (has [] k m);
+}
+
+module _ (test : Box → Bool) (boxes : List Box) (numbers part : List ℕ) (i : ℕ) (b : Box) (lt : i < length numbers)
+    (inside : get_or numbers i 0 < length boxes) (is_b : b ≡ get_or boxes (get_or numbers i 0) b)
+    (h : IsPartOf test boxes (take i numbers) part) where
+  abbrev n : ℕ
+  n = get_or numbers i 0
+
+  grown : (k : ℕ) → Contains (take i numbers) k ⊎ (n ≡ k) → Contains (take (i + 1) numbers) k
+  grown k m = subst (λ l. Contains l k) (sym (take_more numbers i 0 lt)) (more_has (take i numbers) n k m)
+
+  pub part_takes : (part' : List ℕ) → part' ≡ part ++ n ∷ [] → IsPartOf test boxes (take (i + 1) numbers) part'
+  part_takes part' pushed = record {
+    among = λ k m. ⊎_elim (λ (early : Has part k). grown k (inl (h.among k (contains part k early))))
+        (λ (here : Has (n ∷ []) k). ⊎_elim (λ (same : n ≡ k). grown k (inr same)) (λ (none : ⊥). absurd none) here)
+        (has-append part (n ∷ []) k (subst (λ l. Has l k) pushed (has part' k m)));
+    all = λ k d m passes. subst (λ l. Contains l k) (sym pushed)
+        (more_has part n k (⊎_elim (λ (early : Contains (take i numbers) k). inl (h.all k d early passes))
+        (λ (same : n ≡ k). inr same) (has_more numbers i lt k m)));
+  }
+
+  pub part_skips : test b ≡ false → IsPartOf test boxes (take (i + 1) numbers) part
+  part_skips fails = record {
+    among = λ k m. grown k (inl (h.among k m));
+    all = λ k d m passes. ⊎_elim (λ (early : Contains (take i numbers) k). h.all k d early passes)
+        (λ (same : n ≡ k).
+        let at : b ≡ get_or boxes k d = is_b ∙ get_or_default boxes n b d inside ∙ ap (λ z. get_or boxes z d) same in
+        absurd (false≢true (sym fails ∙ ap test at ∙ passes)))
+        (has_more numbers i lt k m);
+  }
+
+pub inside_part : (test : Box → Bool) (boxes : List Box) (numbers part : List ℕ) → All (λ k. k < length boxes) numbers
+    → IsPartOf test boxes numbers part → (k : ℕ) → Contains part k → k < length boxes
+inside_part test boxes numbers part inside h k m = at (h.among k m)
+  where
+    at : Contains numbers k → k < length boxes
+    at (i, lt, same) = subst (λ z. z < length boxes) (get_or_default numbers i 0 k lt ∙ same) (inside i 0 lt)
+
+-- ---- those that are joined to one
+-- those of the first i numbers that are joined to it are in its tree, and all of them where all were joined
+pub record IsJoining (boxes : List Box) (start now : List ℕ) (one : ℕ) (numbers : List ℕ) (i : ℕ) (all : Bool) : Type 0 where
+  pub grows : Grows boxes start now
+  pub inside : (k : ℕ) → Contains (take i numbers) k → k < length boxes
+  pub joined : (k : ℕ) → Contains (take i numbers) k → AreJoined boxes one k → root_of now one ≡ root_of now k
+  pub every : all ≡ true → (k : ℕ) → Contains (take i numbers) k → root_of now one ≡ root_of now k
+
+module _ (boxes : List Box) (start now : List ℕ) (one : ℕ) (numbers : List ℕ) (i : ℕ) (all : Bool) (b c : Box)
+    (h : IsJoining boxes start now one numbers i all) (each : length start ≡ length boxes) (lt : i < length numbers)
+    (one_inside : one < length boxes) (inside : get_or numbers i 0 < length boxes) (is_b : b ≡ get_or boxes one b)
+    (is_c : c ≡ get_or boxes (get_or numbers i 0) c) where
+  next_inside : (k : ℕ) → Contains (take (i + 1) numbers) k → k < length boxes
+  next_inside k m = ⊎_elim (λ (early : Contains (take i numbers) k). h.inside k early)
+      (λ (same : get_or numbers i 0 ≡ k). subst (λ z. z < length boxes) same inside) (has_more numbers i lt k m)
+
+  pub joining_takes : (new : List ℕ) → touch b c ≡ true → length new ≡ length now → IsForest new
+      → ((k : ℕ) → k < length now → root_of new k ≡ united (root_of now one) (root_of now (get_or numbers i 0)) (root_of now k))
+      → IsJoining boxes start new one numbers (i + 1) all
+  joining_takes new touching same forest roots = record {
+    grows = grows_on boxes start now new h.grows more;
+    inside = next_inside;
+    joined = λ k m g. ⊎_elim (λ (early : Contains (take i numbers) k). still k (h.inside k early) (h.joined k early g))
+        (λ (e : get_or numbers i 0 ≡ k). subst (λ z. root_of new one ≡ root_of new z) e here) (has_more numbers i lt k m);
+    every = λ flag k m. ⊎_elim (λ (early : Contains (take i numbers) k). still k (h.inside k early) (h.every flag k early))
+        (λ (e : get_or numbers i 0 ≡ k). subst (λ z. root_of new one ≡ root_of new z) e here) (has_more numbers i lt k m);
+  }
+    where
+      whole : length now ≡ length boxes
+      whole = h.grows.each ∙ each
+
+      pair : AreJoined boxes one (get_or numbers i 0)
+      pair = joined_by_boxes boxes one (get_or numbers i 0) b c one_inside inside is_b is_c touching
+
+      more : Grows boxes now new
+      more = grows_united boxes now new one (get_or numbers i 0) pair whole same forest roots
+
+      here : root_of new one ≡ root_of new (get_or numbers i 0)
+      here = now_together boxes now new one (get_or numbers i 0) pair whole same forest roots
+
+      still : (k : ℕ) → k < length boxes → root_of now one ≡ root_of now k → root_of new one ≡ root_of new k
+      still k lt e = more.kept one k (omega (arith, whole, one_inside)) (omega (arith, whole)) e
+
+  pub joining_skips : touch b c ≡ false → IsJoining boxes start now one numbers (i + 1) false
+  joining_skips apart = record {
+    grows = h.grows;
+    inside = next_inside;
+    joined = λ k m g. ⊎_elim (λ (early : Contains (take i numbers) k). h.joined k early g)
+        (λ (e : get_or numbers i 0 ≡ k).
+        let at_one : b ≡ get_or boxes one c = is_b ∙ get_or_default boxes one b c one_inside in
+        let at_k : c ≡ get_or boxes k c = is_c ∙ ap (λ z. get_or boxes z c) e in
+        let touching : touch b c ≡ true = (λ t. touch (at_one t) (at_k t)) ∙ g.2 c in
+        absurd (false≢true (sym apart ∙ touching)))
+        (has_more numbers i lt k m);
+    every = λ flag. absurd (false≢true flag);
+  }
+
+-- ---- those that are joined pair by pair
+pub record IsPairing (boxes : List Box) (start now numbers : List ℕ) (n : ℕ) : Type 0 where
+  pub grows : Grows boxes start now
+  pub joined : (i j : ℕ) → Contains (take n numbers) i → Contains numbers j → AreJoined boxes i j → root_of now i ≡ root_of now j
+
+pub pairing_next : (boxes : List Box) (start now new numbers : List ℕ) (n : ℕ) → IsPairing boxes start now numbers n
+    → length start ≡ length boxes → n < length numbers → Grows boxes now new
+    → ((k : ℕ) → Contains numbers k → AreJoined boxes (get_or numbers n 0) k → root_of new (get_or numbers n 0) ≡ root_of new k)
+    → IsPairing boxes start new numbers (n + 1)
+pairing_next boxes start now new numbers n h each lt more joined = record {
+  grows = grows_on boxes start now new h.grows more;
+  joined = λ i j m m' g. ⊎_elim
+      (λ (early : Contains (take n numbers) i).
+      more.kept i j (omega (arith, each, h.grows.each, g.0)) (omega (arith, each, h.grows.each, g.1)) (h.joined i j early m' g))
+      (λ (e : get_or numbers n 0 ≡ i).
+      subst (λ z. root_of new z ≡ root_of new j) e (joined j m' (subst (λ z. AreJoined boxes z j) (sym e) g)))
+      (has_more numbers n lt i m);
+}
+
+-- ---- from one list to the next
+pub joins_all_in_one : (boxes : List Box) (numbers old new : List ℕ) (one : ℕ) → Grows boxes old new
+    → ((k : ℕ) → Contains numbers k → root_of new one ≡ root_of new k) → Joins boxes numbers old new
+joins_all_in_one boxes numbers old new one grows all = record {
+  grows = grows;
+  joined = λ i j m m' g. sym (all i m) ∙ all j m';
+}
+
+pub joins_none : (boxes : List Box) (numbers old : List ℕ) → IsForest old → length numbers ≡ 0 → Joins boxes numbers old old
+joins_none boxes numbers old h none = record {
+  grows = grows_not boxes old h;
+  joined = λ i j m m' g. absurd (omega (arith, m.1, none));
+}
+
+pub joins_later : (boxes : List Box) (numbers old mid new : List ℕ) → Grows boxes old mid → Joins boxes numbers mid new
+    → Joins boxes numbers old new
+joins_later boxes numbers old mid new g h = record { grows = grows_on boxes old mid new g h.grows; joined = h.joined }
+
+pub on_ok : {A E : Type 0} (r : Result A E) (P Q : Type 0) → (P → Q) → OnOk r P → OnOk r Q
+on_ok (Ok x) P Q f h = f h
+on_ok (Err e) P Q f h = tt
+
+pub all_inside : (numbers : List ℕ) (n : ℕ) → ((k : ℕ) → Contains numbers k → k < n) → All (λ k. k < n) numbers
+all_inside numbers n h i d lt = h (get_or numbers i d) (i, lt, sym (get_or_default numbers i d (get_or numbers i d) lt))
+
+pub lone_has : (numbers : List ℕ) (n : ℕ) → length numbers ≡ n → ((k : ℕ) → k < n → get_or numbers k 0 ≡ k) → (k : ℕ) → k < n
+    → Contains numbers k
+lone_has numbers n each lone k lt = (k, omega (arith, each), sym (get_or_default numbers k 0 k (omega (arith, each))) ∙ lone k lt)
+
+pub lone_forest : (ps : List ℕ) (n : ℕ) → length ps ≡ n → ((k : ℕ) → k < n → get_or ps k 0 ≡ k) → IsForest ps
+lone_forest ps n each lone k lt = let own = lone k (omega (arith, each)) in omega (arith, own)
+
+-- ---- in the end
+pub finest_of_roots : (boxes : List Box) (start ps heads : List ℕ) → length start ≡ length boxes
+    → ((k : ℕ) → k < length boxes → get_or start k 0 ≡ k) → (numbers : List ℕ) → ((k : ℕ) → k < length boxes → Contains numbers k)
+    → Joins boxes numbers start ps → length heads ≡ length ps → ((k : ℕ) → k < length ps → get_or heads k 0 ≡ root_of ps k)
+    → IsFinest (AreJoined boxes) (length boxes) heads
+finest_of_roots boxes start ps heads each lone numbers all h same roots = record {
+  each = same ∙ h.grows.each ∙ each;
+  first = first;
+  joined = λ i j touching. at i touching.0 ∙ h.joined i j (all i touching.0) (all j touching.1) touching ∙ sym (at j touching.1);
+  finest = λ other respects i j li lj e. h.grows.only alone other respects i j li lj (sym (at i li) ∙ e ∙ at j lj);
+}
+  where
+    inside : (k : ℕ) → k < length boxes → k < length ps
+    inside k lt = omega (arith, h.grows.each, each)
+
+    at : (k : ℕ) → k < length boxes → get_or heads k 0 ≡ root_of ps k
+    at k lt = roots k (inside k lt)
+
+    first : (k : ℕ) → k < length heads → (get_or heads k 0 ≤ k) × (get_or heads (get_or heads k 0) 0 ≡ get_or heads k 0)
+    first k lt =
+        let l : k < length ps = omega (arith, same) in
+        let le = root_le ps h.grows.forest k l in
+        let is_root = roots k l in (
+          omega (arith, is_root, le),
+          ap (λ z. get_or heads z 0) is_root ∙ roots (root_of ps k) (omega (arith, le))
+              ∙ root_of_own ps (root_of ps k) (root_ends ps h.grows.forest k l) ∙ sym is_root,
+        )
+
+    alone : AreOnlyJoined boxes start
+    alone other respects i j li lj e =
+        ap other (sym (root_of_own start i (lone i li)) ∙ e ∙ root_of_own start j (lone j lj))

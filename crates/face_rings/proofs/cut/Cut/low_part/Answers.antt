@@ -1,0 +1,30 @@
+use Rattle.std.proofs.Common.{◌≡◌, ◌+◌, ◌++◌, [], ◌∷◌, sym, subst, ◌∙◌, ap, take, rules, get_or, List, ℕ, Vec, Global}
+use Rattle.std.proofs.lemmas.List.{take_all}
+use Rattle.face_rings.specs.Joining.{IsPartOf, box_reaches_low}
+use Rattle.face_rings.proofs.JoinLemmas.{part_skips, part_takes}
+use Rattle.face_rings.proofs.cut.Cut.low_part.Goals as goal
+use Rattle.face_rings.proofs.cut.Cut.low_part.Goals.{then-reaches_low+in_ok-push, else-reaches_low}
+
+pub loop-number-preserved : goal.loop-number-preserved
+loop-number-preserved c =
+    let numbers = c.args.numbers.now in
+    let i = c.loop-number.number-index in
+    let test = box_reaches_low c.args.self in
+    let b = c.index-boxes-number.result in
+    let inside = c.requires i 0 c.loop-number-test.true in
+    let after : List ℕ → Type 0 = λ part. IsPartOf test c.args.boxes.now (take (i + 1) numbers) part in
+    elim c.if-reaches_low.branch [
+      | then-reaches_low+in_ok-push w ↦
+          let pushed : w.push.new.self.items ≡ c.loop-number.part.items ++ get_or numbers i 0 ∷ [] = search rules in
+          subst after (sym (ap (λ (p : Vec ℕ Global). p.items) w.part-is))
+          (part_takes test c.args.boxes.now numbers c.loop-number.part.items i b c.loop-number-test.true inside
+          c.index-boxes-number.is c.loop-number.invariant w.push.new.self.items pushed)
+      | else-reaches_low w ↦
+          subst after (sym (ap (λ (p : Vec ℕ Global). p.items) w.part-is))
+          (part_skips test c.args.boxes.now numbers c.loop-number.part.items i b c.loop-number-test.true inside
+          c.index-boxes-number.is c.loop-number.invariant (sym c.reaches_low.ensures ∙ w.if-reaches_low.false))
+    ]
+
+pub returns : goal.returns
+returns c = subst (λ l. IsPartOf (box_reaches_low c.args.self) c.args.boxes.now l c.loop-number.part.items)
+    (take_all c.loop-number.number-index c.args.numbers.now c.loop-number-test.false) c.loop-number.invariant

@@ -1,0 +1,252 @@
+-- Sides of edges that are known, and what those of a row tell about a gap in it.
+use Rattle.std.proofs.Common.{◌≡◌, ◌⊎◌, inl, inr, ⊎_elim, ℕ, zero, suc, ◌+◌, ◌-◌, ◌<◌, ◌≤◌, Bool, true, false, not, List, [], ◌∷◌}
+use Rattle.std.proofs.Common.{None, Option, Some, Contains, length, get_or, drop, set, replicate, add-one, refl, sym, ap, subst, ◌∙◌, arith}
+use Rattle.std.specs.Prelude.{All, nat_eq, nat_lt}
+use Rattle.std.specs.Bool.{beq}
+use Rattle.std.specs.List.Sorted.{IsNonDecreasing}
+use Rattle.std.specs.Option.{is_some}
+use Rattle.std.proofs.Math.Seq.{drop-cons}
+use Rattle.std.proofs.Math.ListN.{length-set}
+use Rattle.std.proofs.lemmas.Bool.Decides.{Decides-eqb, nat_tests}
+use Rattle.std.proofs.lemmas.Bool.{cases_lt}
+use Rattle.std.proofs.lemmas.List.{get_or-drop, get_or-set_other, get_or-set_same, get_or_default, length-drop}
+use Rattle.lay_point.specs.Parity.{xor}
+use Rattle.lay_point.proofs.Parity.{parity_none}
+use Rattle.snap_chains.specs.declared.owner.Owner.{Owner}
+use Rattle.snap_chains.specs.Rounded.{Owned, is_owner_listed}
+use Rattle.face_sweep.specs.declared.counts.Counts.{Counts}
+use Rattle.face_sweep.specs.declared.sides.Sides.{Sides}
+use Rattle.face_sweep.specs.declared.sides.Told.{Told}
+use Rattle.face_sweep.specs.declared.sides.Told.TheVariants.{Inside, Nothing, Unknown}
+use Rattle.face_sweep.specs.Counts.{AreCounts}
+use Rattle.face_rows.specs.Lines.{owners_at}
+use Rattle.face_rows.proofs.JudgeLemmas.{has_drop}
+use Rattle.face_sweep.specs.Sides.{AreBehind, AreKnown, AreSidesOf, IsKnown, IsTold, StandsAt, holds_beside, is_odd_in, sides_at}
+
+pub counts_agree : (c : Counts) (f g : Owner → Bool) → ((o : Owner) → f o ≡ g o) → AreCounts c f → AreCounts c g
+counts_agree c f g same h = coe 0 1 (i. AreCounts c (λ o. same o i)) h
+
+pub sides_agree : (owners : List Owner) (f g : Owner → Bool) (sides : Sides) → ((o : Owner) → f o ≡ g o) → AreSidesOf owners f sides
+    → AreSidesOf owners g sides
+sides_agree owners f g sides same h = coe 0 1 (i. AreSidesOf owners (λ o. same o i) sides) h
+
+-- ---- behind an edge
+pub split_at : (numbers : List ℕ) (gap : ℕ) → gap < length numbers → drop gap numbers ≡ get_or numbers gap 0 ∷ drop (gap + 1) numbers
+split_at numbers gap less = drop-cons numbers gap 0 less ∙ ap (λ m. get_or numbers gap 0 ∷ drop m numbers) (sym (add-one gap))
+
+-- one edge more
+pub odd_split : (r : Owned) (numbers : List ℕ) (gap : ℕ) (o : Owner) → gap < length numbers
+    → is_odd_in r (drop gap numbers) o
+    ≡ xor (is_owner_listed o (owners_at r (get_or numbers gap 0))) (is_odd_in r (drop (gap + 1) numbers) o)
+odd_split r numbers gap o less = ap (λ l. is_odd_in r l o) (split_at numbers gap less)
+
+-- what holds left of an edge, by what holds beside it
+pub odd_left : (r : Owned) (numbers : List ℕ) (gap : ℕ) (o : Owner) → AreBehind r numbers → gap < length numbers
+    → is_odd_in r (drop gap numbers) o
+    ≡ xor (is_owner_listed o (owners_at r (get_or numbers gap 0))) (holds_beside r (get_or numbers gap 0) o)
+odd_left r numbers gap o h less =
+    odd_split r numbers gap o less ∙ ap (xor (is_owner_listed o (owners_at r (get_or numbers gap 0)))) (h gap less o)
+
+pub first_left : (r : Owned) (numbers : List ℕ) (known : List (Option Sides)) (m : ℕ) (sides : Sides) → AreBehind r numbers
+    → AreKnown r known → 0 < length numbers → get_or numbers 0 0 ≡ m → sides_at known m ≡ Some sides
+    → AreCounts sides.left (is_odd_in r numbers)
+first_left r numbers known m sides behind h less at is =
+    counts_agree sides.left (λ o. xor (is_owner_listed o (owners_at r m)) (holds_beside r m o)) (is_odd_in r numbers)
+    (λ o. ap (λ k. xor (is_owner_listed o (owners_at r k)) (holds_beside r k o)) (sym at) ∙ sym (odd_left r numbers 0 o behind less))
+    (h.sides m sides is).left
+
+-- ---- known sides
+none_some : (x : Sides) → None ≡ Some x → ⊥
+none_some x e = absurd cc
+
+pub known_not_none : (known : List (Option Sides)) (m : ℕ) → IsKnown known m → sides_at known m ≡ None → ⊥
+known_not_none known m h e = none_some h.0 (sym e ∙ h.1)
+
+-- at a number that isn't there, there are none
+pub known_inside : (known : List (Option Sides)) (m : ℕ) (sides : Sides) → sides_at known m ≡ Some sides → m < length known
+known_inside [] m sides e = absurd (none_some sides e)
+known_inside (k ∷ ks) zero sides e = omega arith
+known_inside (k ∷ ks) (suc m) sides e = let less = known_inside ks m sides e in omega arith
+
+none_at : (n m : ℕ) → sides_at (replicate n None) m ≡ None
+none_at zero m = refl
+none_at (suc n) zero = refl
+none_at (suc n) (suc m) = none_at n m
+
+pub none_known : (r : Owned) (n : ℕ) (known : List (Option Sides)) → known ≡ replicate n None → length known ≡ length r.0
+    → AreKnown r known
+none_known r n known e count = record {
+  count = count;
+  sides = λ m sides is. absurd (none_some sides (sym (none_at n m) ∙ sym (ap (λ l. sides_at l m) e) ∙ is));
+}
+
+some_same : (x y : Sides) → Some x ≡ Some y → x ≡ y
+some_same x y e = cc
+
+pub known_more : (r : Owned) (known : List (Option Sides)) (n : ℕ) (sides : Sides) → n < length known
+    → AreSidesOf (owners_at r n) (holds_beside r n) sides → AreKnown r known → AreKnown r (set known n (Some sides))
+known_more r known n sides less is h = record {
+  count = length-set known n (Some sides) ∙ h.count;
+  sides = λ m other found. by_number m other found (nat_eq n m) refl;
+}
+  where
+    by_number : (m : ℕ) (other : Sides) → sides_at (set known n (Some sides)) m ≡ Some other → (b : Bool) → nat_eq n m ≡ b
+        → AreSidesOf (owners_at r m) (holds_beside r m) other
+    by_number m other found true t =
+        let same = (Decides-eqb n m).0 t in
+        let here : sides ≡ other = some_same sides other (sym (get_or-set_same known n (Some sides) None less)
+        ∙ subst (λ k. sides_at (set known n (Some sides)) k ≡ Some other) (sym same) found) in
+        subst (λ k. AreSidesOf (owners_at r k) (holds_beside r k) other) same
+        (subst (AreSidesOf (owners_at r n) (holds_beside r n)) here is)
+    by_number m other found false t =
+        h.sides m other (sym (get_or-set_other known n m (Some sides) None (λ same. let t' = (Decides-eqb n m).1 (sym same) in absurd cc))
+        ∙ found)
+
+-- what is known stays so
+pub still_known : (known : List (Option Sides)) (n m : ℕ) (sides : Sides) → n < length known → IsKnown known m
+    → IsKnown (set known n (Some sides)) m
+still_known known n m sides less h = by_number (nat_eq n m) refl
+  where
+    by_number : (b : Bool) → nat_eq n m ≡ b → IsKnown (set known n (Some sides)) m
+    by_number true t =
+        let same = (Decides-eqb n m).0 t in
+        (sides, subst (λ k. sides_at (set known n (Some sides)) k ≡ Some sides) same (get_or-set_same known n (Some sides) None less))
+    by_number false t =
+        (h.0, get_or-set_other known n m (Some sides) None (λ same. let t' = (Decides-eqb n m).1 (sym same) in absurd cc) ∙ h.1)
+
+pub now_known : (known : List (Option Sides)) (n : ℕ) (sides : Sides) → n < length known → IsKnown (set known n (Some sides)) n
+now_known known n sides less = (sides, get_or-set_same known n (Some sides) None less)
+
+some_known : (x : Option Sides) → is_some x ≡ true → (sides : Sides) × (x ≡ Some sides)
+some_known None e = absurd cc
+some_known (Some sides) e = (sides, refl)
+
+pub known_by_test : (known : List (Option Sides)) (n : ℕ) (x : Option Sides) → x ≡ sides_at known n → is_some x ≡ true → IsKnown known n
+known_by_test known n x is e = let s = some_known x e in (s.0, sym is ∙ s.1)
+
+-- ---- all from an index on
+all_cons : (P : ℕ → Type 0) (x : ℕ) (xs : List ℕ) → P x → All P xs → All P (x ∷ xs)
+all_cons P x xs first rest zero d less = first
+all_cons P x xs first rest (suc k) d less = rest k d (omega arith)
+
+pub all_before : (P : ℕ → Type 0) (numbers : List ℕ) (i : ℕ) → 0 < i → i ≤ length numbers → P (get_or numbers (i - 1) 0)
+    → All P (drop i numbers) → All P (drop (i - 1) numbers)
+all_before P numbers i more bound first rest =
+    let back : (i - 1) + 1 ≡ i = omega arith in
+    subst (All P) (sym (split_at numbers (i - 1) (omega arith) ∙ ap (λ k. get_or numbers (i - 1) 0 ∷ drop k numbers) back))
+    (all_cons P (get_or numbers (i - 1) 0) (drop i numbers) first rest)
+
+-- ---- what edges tell
+-- of an edge right of the place, whose sides are known, nothing is known only where it doesn't list the owner
+pub not_told_right : (r : Owned) (known : List (Option Sides)) (n : ℕ) (o : Owner) (told : Told) → IsKnown known n
+    → IsTold r known n o told → ((b : Bool) → told ≡ Inside b → ⊥) → is_owner_listed o (owners_at r n) ≡ false
+not_told_right r known n o Nothing own is other = is
+not_told_right r known n o Unknown own is other = absurd (known_not_none known n own is.1)
+not_told_right r known n o (Inside b) own is other = absurd (other b refl)
+
+-- the next one on the left tells what holds right of it, and so of those up to the place
+pub told_left : (r : Owned) (numbers : List ℕ) (left right before : ℕ) (o : Owner) (between inside : Bool) → AreBehind r numbers
+    → 0 < before → before ≤ length numbers
+    → is_odd_in r (drop before numbers) o ≡ is_odd_in r (drop left numbers) o
+    → is_odd_in r (drop left numbers) o ≡ xor between (is_odd_in r (drop right numbers) o)
+    → inside ≡ holds_beside r (get_or numbers (before - 1) 0) o → not (beq inside between) ≡ is_odd_in r (drop right numbers) o
+told_left r numbers left right before o between inside h some bound none passed is =
+    let back : (before - 1) + 1 ≡ before = omega arith in
+    let there : inside ≡ xor between (is_odd_in r (drop right numbers) o) =
+    is ∙ sym (h (before - 1) (omega arith) o) ∙ ap (λ k. is_odd_in r (drop k numbers) o) back ∙ none ∙ passed in
+    ap (λ b. not (beq b between)) there ∙ cancelled between (is_odd_in r (drop right numbers) o)
+  where
+    cancelled : (a b : Bool) → not (beq (xor a b) a) ≡ b
+    cancelled true true = refl
+    cancelled true false = refl
+    cancelled false true = refl
+    cancelled false false = refl
+
+-- ---- where an edge stands
+pub before : (numbers : List ℕ) (n left right : ℕ) → StandsAt numbers n left right → left ≤ right
+before numbers n left right h = ⊎_elim (λ (same : left ≡ right). omega arith) (λ (next : (left + 1 ≡ right) × (get_or numbers left 0 ≡ n)).
+    let e = next.0 in omega arith) h.place
+
+-- between the edges left of it and those right of it there is only itself
+pub odd_between : (r : Owned) (numbers : List ℕ) (n left right : ℕ) (o : Owner) → StandsAt numbers n left right
+    → is_owner_listed o (owners_at r n) ≡ true
+    → is_odd_in r (drop left numbers) o ≡ xor (nat_lt left right) (is_odd_in r (drop right numbers) o)
+odd_between r numbers n left right o h listed = ⊎_elim
+    (λ (same : left ≡ right).
+    ap (λ k. is_odd_in r (drop k numbers) o) same
+    ∙ sym (ap (λ b. xor b (is_odd_in r (drop right numbers) o)) (not_less left right (omega arith))))
+    (λ (next : (left + 1 ≡ right) × (get_or numbers left 0 ≡ n)).
+    let e = next.0 in
+    let bound = h.bound in
+    odd_split r numbers left o (omega arith)
+    ∙ (λ i. xor ((ap (λ m. is_owner_listed o (owners_at r m)) next.1 ∙ listed) i) (is_odd_in r (drop (next.0 i) numbers) o))
+    ∙ sym (ap (λ b. xor b (is_odd_in r (drop right numbers) o)) (less left right (omega arith))))
+    h.place
+  where
+    less : (m n : ℕ) → m < n → nat_lt m n ≡ true
+    less m n h = grind (arith, nat_tests)
+
+    not_less : (m n : ℕ) → n ≤ m → nat_lt m n ≡ false
+    not_less m n h = grind (arith, nat_tests)
+
+-- where none from an index on lists the owner
+pub none_behind : (r : Owned) (numbers : List ℕ) (index : ℕ) (o : Owner)
+    → ((k : ℕ) → index ≤ k → k < length numbers → is_owner_listed o (owners_at r (get_or numbers k 0)) ≡ false)
+    → is_odd_in r (drop index numbers) o ≡ false
+none_behind r numbers index o none = parity_none (λ m. is_owner_listed o (owners_at r m)) (drop index numbers) (λ m found.
+    let at = has_drop numbers index m found in
+    subst (λ j. is_owner_listed o (owners_at r j) ≡ false) at.1.is (none at.0 at.1.behind at.1.inside))
+
+-- ---- the edges of a row at some places
+-- those that don't stand at one of the first i places are known
+abbrev pub AreOthersKnown : List ℕ → List ℕ → ℕ → List (Option Sides) → Type 0
+AreOthersKnown numbers places i known = (k : ℕ) → k < length numbers
+    → ((m : ℕ) × (m < i) × (get_or places m 0 ≡ k)) ⊎ IsKnown known (get_or numbers k 0)
+
+pub all_left : (numbers places : List ℕ) (known : List (Option Sides))
+    → ((k : ℕ) → k < length numbers → Contains places k ⊎ IsKnown known (get_or numbers k 0))
+    → AreOthersKnown numbers places (length places) known
+all_left numbers places known h k less = ⊎_elim
+    (λ (at : Contains places k). inl (at.0, at.1, get_or_default places at.0 0 k at.1 ∙ at.2))
+    (λ (own : IsKnown known (get_or numbers k 0)). inr own)
+    (h k less)
+
+-- as the places are in order, those behind the last of them are known
+pub behind_places : (numbers places : List ℕ) (i : ℕ) (known : List (Option Sides)) → IsNonDecreasing places → 0 < i → i ≤ length places
+    → AreOthersKnown numbers places i known → All (IsKnown known) (drop (get_or places (i - 1) 0 + 1) numbers)
+behind_places numbers places i known order some bound h k d less =
+    let p = get_or places (i - 1) 0 in
+    let inside : (p + 1) + k < length numbers = omega (arith, length-drop (p + 1) numbers, less) in
+    let at : get_or numbers ((p + 1) + k) 0 ≡ get_or (drop (p + 1) numbers) k d =
+    get_or_default numbers ((p + 1) + k) 0 d inside ∙ sym (get_or-drop (p + 1) numbers k d) in
+    subst (IsKnown known) at (⊎_elim
+    (λ (place : (m : ℕ) × (m < i) × (get_or places m 0 ≡ (p + 1) + k)).
+    let lt = place.1 in
+    let up = order place.0 (i - 1) 0 (omega (arith, lt)) (omega arith) in
+    let is = place.2 in
+    absurd (omega (arith, up, is)))
+    (λ (own : IsKnown known (get_or numbers ((p + 1) + k) 0)). own)
+    (h ((p + 1) + k) inside))
+
+pub one_fewer : (numbers places : List ℕ) (i : ℕ) (known new : List (Option Sides)) → 0 < i → AreOthersKnown numbers places i known
+    → ((n : ℕ) → IsKnown known n → IsKnown new n) → IsKnown new (get_or numbers (get_or places (i - 1) 0) 0)
+    → AreOthersKnown numbers places (i - 1) new
+one_fewer numbers places i known new some h kept here k less = ⊎_elim
+    (λ (place : (m : ℕ) × (m < i) × (get_or places m 0 ≡ k)). by_place place (cases_lt place.0 (i - 1)))
+    (λ (own : IsKnown known (get_or numbers k 0)). inr (kept (get_or numbers k 0) own))
+    (h k less)
+  where
+    by_place : (place : (m : ℕ) × (m < i) × (get_or places m 0 ≡ k)) → (place.0 < i - 1) ⊎ (i - 1 ≤ place.0)
+        → ((m : ℕ) × (m < i - 1) × (get_or places m 0 ≡ k)) ⊎ IsKnown new (get_or numbers k 0)
+    by_place place (inl lt) = inl (place.0, lt, place.2)
+    by_place place (inr ge) =
+        let lt = place.1 in
+        let same : i - 1 ≡ place.0 = omega (arith, lt, ge, some) in
+        inr (subst (λ j. IsKnown new (get_or numbers j 0)) (ap (λ m. get_or places m 0) same ∙ place.2) here)
+
+pub none_left : (numbers places : List ℕ) (known : List (Option Sides)) → AreOthersKnown numbers places 0 known
+    → All (IsKnown known) numbers
+none_left numbers places known h k d less = ⊎_elim
+    (λ (place : (m : ℕ) × (m < 0) × (get_or places m 0 ≡ k)). let lt = place.1 in absurd (omega (arith, lt)))
+    (λ (own : IsKnown known (get_or numbers k 0)). subst (IsKnown known) (get_or_default numbers k 0 d less) own)
+    (h k less)

@@ -1,0 +1,96 @@
+-- Each owner is turned once.
+use Rattle.std.proofs.Common.{◌≡◌, ◌+◌, ◌<◌, ◌++◌, true, false, [], ◌∷◌, drop, length, get_or, map, take, refl, sym, ap, subst, ◌∙◌, rules}
+use Rattle.std.proofs.lemmas.List.{get_or_default, map-append, take_all, take_more}
+use Rattle.std.proofs.lemmas.Option.{get_or_from_slice_get}
+use Rattle.lay_point.specs.Parity.{parity, xor}
+use Rattle.snap_chains.specs.declared.owner.Input.TheVariants.{First}
+use Rattle.snap_chains.specs.declared.owner.Owner.{Owner}
+use Rattle.snap_chains.specs.Owners.{owner_eq}
+use Rattle.snap_chains.specs.Rounded.{is_owner_listed}
+use Rattle.face_sweep.specs.Counts.{AreCounts}
+use Rattle.face_rows.specs.Lines.{owners_at}
+use Rattle.face_sweep.specs.Sides.{is_odd_in}
+use Rattle.face_sweep.proofs.KeptLemmas.{rest}
+use Rattle.face_rows.proofs.OwnerLemmas.{listed_at, listed_of, none_before, turn_more}
+use Rattle.face_sweep.proofs.StateLemmas.{before, counts_agree, odd_between}
+use Rattle.face_sweep.proofs.sides.Sides.of.Goals as goal
+
+first : Owner
+first = record { input = First; shape = 0 }
+
+pub turned-left_of-requires : goal.turned-left_of-requires
+unfolding first
+turned-left_of-requires c =
+    let r = c.args.edges.now in
+    let behind = drop c.args.right c.args.numbers.now in
+    let owners = c.owners-owner-items.result.now in
+    let i = c.loop-owner.owner-index in
+    let o = get_or owners i first in (
+      λ p. xor (parity (λ q. owner_eq q p) (take i owners)) (is_odd_in r behind p),
+      c.loop-owner.invariant.left,
+      ap (λ b. xor b (is_odd_in r behind o)) (none_before owners i first c.owners-owner-items.ensures.rising c.loop-owner-test.true)
+          ∙ sym c.holds_right-holds.ensures,
+    )
+
+pub loop-owner-preserved : goal.loop-owner-preserved
+unfolding first
+loop-owner-preserved c =
+    let r = c.args.edges.now in
+    let behind = drop c.args.right c.args.numbers.now in
+    let owners = c.owners-owner-items.result.now in
+    let i = c.loop-owner.owner-index in
+    let o = get_or owners i first in
+    let less = c.loop-owner-test.true in
+    let was = λ (p : Owner). xor (parity (λ q. owner_eq q p) (take i owners)) (is_odd_in r behind p) in
+    record {
+      left = counts_agree c.turned-left_of.result (λ p. xor (owner_eq o p) (was p))
+          (λ p. xor (parity (λ q. owner_eq q p) (take (i + 1) owners)) (is_odd_in r behind p))
+          (λ p. turn_more owners i first p (is_odd_in r behind p) less)
+          (c.turned-left_of.ensures was c.loop-owner.invariant.left
+          (ap (λ b. xor b (is_odd_in r behind o)) (none_before owners i first c.owners-owner-items.ensures.rising less)
+          ∙ sym c.holds_right-holds.ensures));
+      inside = c.in_ok-push.ensures.ok ∙ (λ k. c.loop-owner.invariant.inside k ++ c.holds_right-holds.ensures k ∷ [])
+          ∙ sym (ap (map (is_odd_in r behind)) (take_more owners i first less) ∙ map-append (is_odd_in r behind) (take i owners) (o ∷ []));
+    }
+
+pub returns : goal.returns
+returns c =
+    let r = c.args.edges.now in
+    let behind = drop c.args.right c.args.numbers.now in
+    let owners = c.owners-owner-items.result.now in
+    let all = take_all c.loop-owner.owner-index owners c.loop-owner-test.false in
+    let own : owners_at r c.args.number ≡ owners =
+    get_or_from_slice_get r.1 c.args.number owners [] c.owners-owner-items.ensures.value in
+    record {
+      right = subst (λ l. AreCounts c.right_counts-right_of.result (is_odd_in r l)) (rest c.args.numbers.now c.args.right)
+          c.right_counts-right_of.ensures;
+      left = counts_agree c.loop-owner.left_of _ (λ o. xor (is_owner_listed o (owners_at r c.args.number)) (is_odd_in r behind o))
+          (λ o. ap (λ b. xor b (is_odd_in r behind o)) (ap (parity (λ q. owner_eq q o)) all
+          ∙ listed_of owners o c.owners-owner-items.ensures.rising ∙ sym (ap (is_owner_listed o) own)))
+          c.loop-owner.invariant.left;
+      inside = c.loop-owner.invariant.inside ∙ ap (map (is_odd_in r behind)) (all ∙ sym own);
+    }
+
+pub loop-owner-init : goal.loop-owner-init
+loop-owner-init c =
+    record {
+      left = subst (λ l. AreCounts c.right_counts-right_of.result (is_odd_in c.args.edges.now l))
+          (rest c.args.numbers.now c.args.right) c.right_counts-right_of.ensures;
+      inside = search rules;
+    }
+
+pub holds_right-holds-requires-clause-order : goal.holds_right-holds-requires-clause-order
+holds_right-holds-requires-clause-order c = before c.args.numbers.now c.args.number c.args.left c.args.right c.requires.place
+
+pub holds_right-holds-requires-clause-between : goal.holds_right-holds-requires-clause-between
+unfolding first
+holds_right-holds-requires-clause-between c =
+    let r = c.args.edges.now in
+    let n = c.args.number in
+    let owners = c.owners-owner-items.result.now in
+    let i = c.loop-owner.owner-index in
+    let o = get_or owners i first in
+    let own : owners_at r n ≡ owners = get_or_from_slice_get r.1 n owners [] c.owners-owner-items.ensures.value in
+    let listed : is_owner_listed o (owners_at r n) ≡ true = ap (is_owner_listed o) own
+    ∙ listed_at owners i o c.loop-owner-test.true (sym (get_or_default owners i first o c.loop-owner-test.true)) in
+    odd_between r c.args.numbers.now n c.args.left c.args.right o c.requires.place listed

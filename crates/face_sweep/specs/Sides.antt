@@ -1,0 +1,85 @@
+-- The shapes that hold on the two sides of an edge.
+use Rattle.std.specs.Prelude.{
+  ◌≡◌,
+  ◌⊎◌,
+  ℕ,
+  ◌+◌,
+  ◌<◌,
+  ◌≤◌,
+  true,
+  false,
+  pos,
+  ◌+ℤ◌,
+  Bool,
+  Contains,
+  IsTrue,
+  List,
+  None,
+  Option,
+  Some,
+  drop,
+  length,
+  map,
+  slice_index,
+  slice_index_or,
+}
+use Rattle.lay_point.specs.Parity.{xor, parity}
+use Rattle.snap_chains.specs.declared.owner.Owner.{Owner}
+use Rattle.snap_chains.specs.Rounded.{Owned, is_owner_listed}
+use Rattle.face_rows.specs.Labels.{answer_on, odd_of, owned_items}
+use Rattle.face_rows.specs.declared.op.Op.{Op}
+use Rattle.face_sweep.specs.declared.sides.Sides.{Sides}
+use Rattle.face_sweep.specs.declared.sides.Told.{Told}
+use Rattle.face_sweep.specs.declared.sides.Told.TheVariants.{Inside, Nothing, Unknown}
+use Rattle.face_sweep.specs.Counts.{AreCounts}
+use Rattle.face_rows.specs.Lines.{edge_at, owners_at}
+use Rattle.face_rows.specs.Operations.{answer}
+
+-- an odd number of these edges lists the owner
+abbrev pub is_odd_in : Owned → List ℕ → Owner → Bool
+is_odd_in r numbers o = parity (λ n. is_owner_listed o (owners_at r n)) numbers
+
+-- the owner holds right of the edge's midpoint, or above that of a level edge
+abbrev pub holds_beside : Owned → ℕ → Owner → Bool
+holds_beside r n o =
+    odd_of (owned_items r) o (pos 2) ((edge_at r n).0.x +ℤ (edge_at r n).1.x) ((edge_at r n).0.y +ℤ (edge_at r n).1.y)
+
+-- these are edges of a row from some place on to its right end: what holds beside each is what those behind it tell
+abbrev pub AreBehind : Owned → List ℕ → Type 0
+AreBehind r numbers = (i : ℕ) → i < length numbers → (o : Owner) → is_odd_in r (drop (i + 1) numbers) o
+    ≡ holds_beside r (slice_index numbers i) o
+
+-- of an edge with these owners, if those shapes hold on its right
+pub record AreSidesOf (owners : List Owner) (holds : Owner → Bool) (sides : Sides) : Type 0 where
+  pub right : AreCounts sides.right holds
+  pub left : AreCounts sides.left (λ o. xor (is_owner_listed o owners) (holds o))
+  pub inside : sides.inside.items ≡ map holds owners
+
+-- whether the operation's answers on the two sides differ, of whatever edge they are, if only these shapes can hold there
+abbrev pub IsDifference : Op → Sides → Bool → Type 0
+IsDifference op sides result = (holds : Owner → Bool) (owners shapes : List Owner) → AreSidesOf owners holds sides
+    → ((o : Owner) → IsTrue (holds o) → Contains shapes o)
+    → ((o : Owner) → IsTrue (is_owner_listed o owners) → Contains shapes o)
+    → result ≡ xor (answer_on (answer op) shapes holds) (answer_on (answer op) shapes (λ o. xor (is_owner_listed o owners) (holds o)))
+
+abbrev pub sides_at : List (Option Sides) → ℕ → Option Sides
+sides_at known n = slice_index_or known n None
+
+-- those that are known are those of the edges of their numbers
+pub record AreKnown (r : Owned) (known : List (Option Sides)) : Type 0 where
+  pub count : length known ≡ length r.0
+  pub sides : (n : ℕ) (sides : Sides) → sides_at known n ≡ Some sides → AreSidesOf (owners_at r n) (holds_beside r n) sides
+
+abbrev pub IsKnown : List (Option Sides) → ℕ → Type 0
+IsKnown known n = (sides : Sides) × (sides_at known n ≡ Some sides)
+
+-- what is reported is whether the owner lists the edge of this number and, if so and if its sides are known, whether it holds beside it
+abbrev pub IsTold : Owned → List (Option Sides) → ℕ → Owner → Told → Type 0
+IsTold r known n o Nothing = is_owner_listed o (owners_at r n) ≡ false
+IsTold r known n o Unknown = (is_owner_listed o (owners_at r n) ≡ true) × (sides_at known n ≡ None)
+IsTold r known n o (Inside inside) = (is_owner_listed o (owners_at r n) ≡ true) × (inside ≡ holds_beside r n o)
+
+-- in the row the edge of this number stands between the edges left of it and those right of it, or isn't there
+pub record StandsAt (numbers : List ℕ) (n left right : ℕ) : Type 0 where
+  pub bound : right ≤ length numbers
+  pub place : (left ≡ right) ⊎ ((left + 1 ≡ right) × (slice_index numbers left ≡ n))

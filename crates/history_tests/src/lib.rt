@@ -1,0 +1,18 @@
+//! Tests of live runs, by their public calls alone.
+//!
+//! A crate with tests is proved twice, with them and without, so they stand in a crate of their own. Nothing
+//! stands on it.
+#![tactic(auto)]
+
+#[cfg(test)]
+mod book_tests;
+#[cfg(test)]
+mod calls;
+#[cfg(test)]
+mod core_tests;
+#[cfg(test)]
+mod desk_runs;
+#[cfg(test)]
+mod live_runs;
+#[cfg(test)]
+mod refusals;

@@ -1,9 +1,0 @@
-use Rattle.std.proofs.Common.{rules}
-use Rattle.byte_io.proofs.BufferedLemmas.{Buffered-is, Buffered-then}
-use Rattle.job_lines.proofs.reply_text.put_id.Goals as goal
-
-pub returns : goal.returns
-returns g c =
-    Buffered-is
-    (Buffered-then (Buffered-then c.put_txn.ensures c.put_byte.ensures) c.put_unsigned.ensures)
-    (search rules)

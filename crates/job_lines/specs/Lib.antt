@@ -1,3 +1,0 @@
-pub mod Replies
-pub mod Text
-pub mod Words

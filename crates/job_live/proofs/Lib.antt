@@ -1,2 +1,0 @@
-pub mod LineLemmas
-pub use Rattle.session_core.proofs.MachineLemmas

@@ -1,4 +1,0 @@
-pub mod Live
-pub mod Laws
-pub use Rattle.session_core.specs.Machine
-pub use Rattle.session_core.specs.TheConstants

@@ -1,3 +1,0 @@
-pub mod AnswerWords
-pub mod OrderRead
-pub mod ReplyRead

@@ -1,3 +1,0 @@
-pub mod Laws
-pub mod Numbers
-pub mod Told

@@ -1,4 +1,0 @@
-pub mod BeginLemmas
-pub mod GroupLemmas
-pub mod MarkLemmas
-pub mod RunLemmas

@@ -1,3 +1,0 @@
-pub mod Begun
-pub mod Runs
-pub use Rattle.lay_page.specs.Written

@@ -1,0 +1,11 @@
+use Rattle.std.proofs.Common.{rules}
+use Rattle.std.proofs.lemmas.List.Sorted.{answers_always}
+use Rattle.lay_pages.proofs.SearchLemmas.{searched}
+use Rattle.lay_pages.proofs.page.search.Goals as goal
+
+-- the closure gives an entry's key
+pub returns : goal.returns
+returns g c =
+    let facts = c.binary_search_by_key.ensures in
+    let by_key = facts.position (λ entry. entry.0) (answers_always _ _ _ (λ f a r g called. search rules)) in
+    searched g.met.K.Ord.total g.met.K.PageKey.exact c.args.page.now c.args.key c.requires _ facts.bound by_key

@@ -1,5 +1,0 @@
-use Rattle.std.proofs.Common.{length}
-use Rattle.lay_winding.proofs.directing.add_levels.Given as goal
-
-abbrev pub decreases-loop-edge : goal.decreases-loop-edge
-decreases-loop-edge l = length l.left

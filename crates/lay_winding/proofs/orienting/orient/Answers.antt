@@ -1,8 +1,0 @@
-use Rattle.std.proofs.Common.{◌≡◌, refl, true, rules}
-use Rattle.lay_winding.proofs.OrientedLemmas.{oriented_by_once}
-use Rattle.lay_winding.proofs.orienting.orient.Goals as goal
-
-pub returns-then-branch : goal.returns-then-branch
-returns-then-branch c =
-    let flag : c.in_ok-wind_once.field-0 ≡ true = search rules in
-    oriented_by_once c.args.rings.now c.args.rings.now c.are_rings.ensures (c.in_ok-wind_once.ensures flag) (λ k x y. refl)

@@ -1,5 +1,0 @@
-pub mod Laws
-pub mod Once
-pub mod Oriented
-pub mod Slants
-pub mod Winding

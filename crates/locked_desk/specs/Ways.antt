@@ -1,0 +1,22 @@
+-- Undo and redo as one call, with the way that it goes.
+-- Source: this project's own.
+use Rattle.std.specs.Prelude.{Bool, true, false}
+use Rattle.txn_commands.specs.declared.command.TxnId.{TxnId}
+use Rattle.undo_rules.specs.declared.log.Answer.{Answer}
+use Rattle.undo_rules.specs.declared.log.Call.{Call}
+use Rattle.undo_book.specs.Marks.{mark_answer, mark_call}
+use Rattle.locked_desk.specs.declared.way.Way.{Way}
+use Rattle.locked_desk.specs.declared.way.Way.TheVariants.{Back, Forth}
+
+-- whether the transaction is live after it
+abbrev pub leaves_live : Way → Bool
+leaves_live Back = false
+leaves_live Forth = true
+
+-- the call that takes a transaction this way
+abbrev pub call_for : Way → TxnId → Call
+call_for way txn = mark_call (leaves_live way) txn
+
+-- the answer to such a call that is accepted
+abbrev pub answer_for : Way → Answer
+answer_for way = mark_answer (leaves_live way)

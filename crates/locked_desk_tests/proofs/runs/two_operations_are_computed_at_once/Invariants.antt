@@ -1,5 +1,0 @@
--- The desk's ledger is the one that was made.
-use Rattle.locked_desk_tests.proofs.runs.two_operations_are_computed_at_once.Given as goal
-
-abbrev pub ghosts-run_two : goal.ghosts-run_two
-ghosts-run_two g a = record { name = a.blank.name; parts = a.blank.parts }

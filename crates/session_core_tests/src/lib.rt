@@ -1,8 +1,0 @@
-//! Tests of `session_core`, by its public calls alone.
-//!
-//! A crate with tests is proved twice, with them and without, so they stand in a crate of their own. Nothing
-//! stands on it.
-#![tactic(auto)]
-
-#[cfg(test)]
-mod tests;

@@ -1,0 +1,51 @@
+-- Where the steps of sessions lead.
+use Rattle.std.specs.Prelude.{◌≡◌, ℕ, ◌≤◌, true, List, ◌∷◌, ◌++◌, Some, Ok}
+use Rattle.lay_cells.specs.declared.cell_id.CellId.{CellId}
+use Rattle.cif_read.specs.Contents.{Contents}
+use Rattle.cif_read.specs.Meaning.{IsMeaning}
+use Rattle.cif_layout.specs.FromCif.{layout_of}
+use Rattle.lay_layouts.specs.Layout.{Layout}
+use Rattle.lay_layouts.specs.Sound.{IsSound}
+use Rattle.face_rows.specs.declared.op.Op.{Op}
+use Rattle.txn_commands.specs.declared.command.Command.{Command}
+use Rattle.txn_commands.specs.declared.command.Command.TheVariants.{Bool as Combine}
+use Rattle.txn_commands.specs.declared.command.TxnId.{TxnId}
+use Rattle.undo_rules.specs.Books.{History, IsHistory}
+use Rattle.undo_rules.specs.Histories.{commands_at}
+use Rattle.undo_rules.specs.Links.{Entry}
+use Rattle.undo_laws.specs.Staying.{HasNoItemOf, Stays}
+use Rattle.session_steps.specs.declared.Reply.{Reply}
+use Rattle.session_steps.specs.declared.Step.{Step}
+use Rattle.session_core.specs.Machine.{Ran, State, after_steps, start}
+
+-- the state has a history from this base
+abbrev pub HasHistory : Layout → State → Type 0
+HasHistory base s = IsHistory s.history × (s.history.base ≡ base)
+
+-- steps of at most 64 sessions on a sound base lead to a history from it
+abbrev pub StepsLeadToHistories : Type 0
+StepsLeadToHistories = (base : Layout) (sessions limit : ℕ) (steps : List (ℕ × Step)) (replies : List Reply) (final : State)
+    → IsSound base → sessions ≤ 64 → Ran (start base sessions limit) steps replies final → HasHistory base final
+
+-- what each operation of a live transaction drew stays to the end of the history
+abbrev pub KeepsOperations : Layout → History → Type 0
+KeepsOperations base h =
+    (before : List Entry) (entry : Entry) (later : List Entry) (earlier : List Command) (op : Op) (cell : CellId) (a b out : List ℕ)
+    (rest : List Command) → h.entries ≡ before ++ entry ∷ later → entry.live ≡ true
+    → commands_at h.log entry.place ≡ Some (earlier ++ Combine op cell a b out ∷ rest)
+    → Stays h.log base h.layout before entry later earlier op cell a b out rest
+
+-- so it is of a machine's steps
+abbrev pub MachinesKeepOperations : Type 0
+MachinesKeepOperations = (base : Layout) (sessions limit : ℕ) (steps : List (ℕ × Step)) (replies : List Reply) (final : State)
+    → IsSound base → sessions ≤ 64 → Ran (start base sessions limit) steps replies final → KeepsOperations base final.history
+
+-- and of the program's, to none of which memory is refused
+abbrev pub ProgramsKeepOperations : Type 0
+ProgramsKeepOperations = (base : Layout) (sessions limit : ℕ) (steps : List (ℕ × Step)) → IsSound base → sessions ≤ 64
+    → KeepsOperations base (after_steps (start base sessions limit) steps).1.history
+
+-- The layout that a text means is such a base, and none of its items has an id of a transaction: sessions are numbered from 1.
+abbrev pub TextsMeanBases : Type 0
+TextsMeanBases = (text : List ℕ) (file : Contents) → IsMeaning text (Ok file)
+    → IsSound (layout_of file) × ((txn : TxnId) → 1 ≤ txn.session → HasNoItemOf txn (layout_of file))

@@ -1,0 +1,4 @@
+pub mod Histories
+pub mod Logs
+pub mod Rearranged
+pub mod Undoing

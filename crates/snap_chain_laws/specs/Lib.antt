@@ -1,9 +1,0 @@
-pub mod Chains
-pub mod Parity
-pub mod Rising
-pub mod Rounding
-pub mod Undirected
-pub use Rattle.snap_edge_laws.specs.Edges
-pub use Rattle.snap_edge_laws.specs.Hot
-pub use Rattle.snap_edge_laws.specs.Segments
-pub use Rattle.snap_edge_laws.specs.Segment

@@ -1,0 +1,62 @@
+//! Chains of segments: the hot centres that they meet, in the order in which they go.
+ghost use Rattle.std.specs.Prelude.{◌≡◌, ◌^◌, neg_ℤ, pos, ◌-ℤ◌, ◌*ℤ◌, ◌≤ℤ◌, Contains, IfOk};
+ghost use Rattle.std.specs.Int.{int_signum};
+ghost use Rattle.lay_point.specs.declared.point.Point.{Point};
+ghost use Rattle.snap_edge_laws.specs.Edges.{key};
+ghost use Rattle.snap_edge_laws.specs.Chains.{IsChain};
+
+use lay_point::{NoMemory, Point};
+use snap_pixels::{HotSet, Segment};
+use snap_slabs::Finder;
+use std::alloc::Global;
+use std::cmp::Ordering;
+
+/// Returns the hot centres whose pixels the segment meets, in the order in which it goes.
+///
+/// Source: Hobby, Practical segment intersection with finite precision output, 1999.
+///
+/// # Cost
+///
+/// Each hot centre between the segment's columns, or between its rows, is asked: whichever are fewer.
+pub fn chain(alloc: Global, segment: &Segment, hot: &HotSet) -> Result<Vec<Point>, NoMemory>
+    ensures { IfOk result (λ points. IsChain (Contains hot.now) segment.now points.items) }
+{
+    let finder = Finder::plain(alloc, hot);
+    let points = chain_in(alloc, segment, &finder)?;
+    Ok(points)
+}
+
+/// Returns the chain of the segment, as `chain` does, of the centres of the finder.
+pub(crate) fn chain_in(
+    alloc: Global,
+    segment: &Segment,
+    finder: &Finder,
+) -> Result<Vec<Point>, NoMemory>
+    ensures { IfOk result (λ points. IsChain (Contains finder.now) segment.now points.items) }
+{
+    let mut points = finder.met(alloc, segment)?;
+    points.sort_unstable_by_key(|point: &Point| (key(segment, *point), *point));
+    points.dedup();
+    Ok(points)
+}
+
+/// Returns how far `centre` lies along the direction of the segment, of which only the signs count.
+fn key(segment: &Segment, centre: Point) -> i64
+    ensures { result ≡ key segment.now centre }
+{
+    let (a, b) = (segment.a(), segment.b());
+    advance(a.x, b.x, centre.x) + advance(a.y, b.y, centre.y)
+}
+
+/// Returns how far `at` lies in the direction from `from` to `to`.
+fn advance(from: i32, to: i32, at: i32) -> i64
+    ensures value { result ≡ int_signum (to -ℤ from) *ℤ at }
+    ensures low { neg_ℤ (pos (2 ^ 31)) ≤ℤ result }
+    ensures high { result ≤ℤ pos (2 ^ 31) }
+{
+    match to.cmp(&from) {
+        Ordering::Less => -i64::from(at),
+        Ordering::Equal => 0,
+        Ordering::Greater => i64::from(at),
+    }
+}

@@ -1,0 +1,9 @@
+pub mod Crossing
+pub mod Exists
+pub mod InRange
+pub mod Meeting
+pub mod OneList
+pub mod Places
+pub mod Sides
+pub mod Sorting
+pub mod Unique

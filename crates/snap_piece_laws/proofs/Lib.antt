@@ -1,4 +1,0 @@
-pub mod Areas
-pub mod Ends
-pub mod Sideways
-pub mod Stops

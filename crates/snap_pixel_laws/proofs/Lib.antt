@@ -1,2 +1,0 @@
-pub mod OneList
-pub mod Places

@@ -1,9 +1,0 @@
-pub mod Laws
-pub mod Crossings
-pub mod Meeting
-pub mod Rounding
-pub mod Sorting
-pub use Rattle.snap_chains.specs.Round
-pub use Rattle.snap_chains.specs.Rounded
-pub use Rattle.snap_chains.specs.Input
-pub use Rattle.snap_chains.specs.Owner

@@ -1,7 +1,0 @@
-use Rattle.std.proofs.Common.{arith}
-use Rattle.std.proofs.lemmas.Int.{ints}
-use Rattle.snap_segments.proofs.SideLemmas.{lower_is}
-use Rattle.snap_segments.proofs.side.Side.lower.Goals as goal
-
-pub returns : goal.returns
-returns c = λ k t. lower_is c.args.a c.args.b c.args.centre _ _ k t (omega (arith, ints)) (omega (arith, ints))

@@ -1,7 +1,0 @@
-use Rattle.std.proofs.Common.{take}
-use Rattle.snap_visits.specs.OwnedRings.{AreSides}
-use Rattle.snap_visits.proofs.owned.all_sides.Given as goal
-
--- the sides of the rings so far
-abbrev pub invariant-loop-ring : goal.invariant-loop-ring
-invariant-loop-ring l = AreSides (take l.ring-index l.rings) l.segments.items

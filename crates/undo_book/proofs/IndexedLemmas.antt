@@ -1,0 +1,292 @@
+-- What is listed under elements, as transactions are committed, undone and redone.
+use Rattle.std.proofs.Common.{◌≡◌, ℕ, ◌<◌, ◌≤◌, ◌==◌, zero, suc, Bool, true, false, not, cond, ◌||◌, ◌&&◌, List, [], ◌∷◌, ◌++◌, length}
+use Rattle.std.proofs.Common.{drop, Option, None, Some, refl, sym, ap, subst, ◌∙◌, arith, slice_get, slice_set}
+use Rattle.std.specs.Prelude.{is_some}
+use Rattle.std.proofs.lemmas.Bool.Decides.{Decides-eqb, Decides-like, same_from_decides}
+use Rattle.std.specs.FinSet.{contains, contains-empty, contains-items, items}
+use Rattle.std.specs.List.{list_any}
+use Rattle.txn_commands.specs.declared.command.TxnId.{TxnId}
+use Rattle.txn_commands.specs.declared.element.Element.{Element}
+use Rattle.txn_commands.specs.Elements.{Touched, element_eq}
+use Rattle.txn_commands.specs.Lies.{passes}
+use Rattle.txn_commands.specs.Meets.{some_meets}
+use Rattle.txn_commands.specs.Records.{Records}
+use Rattle.txn_marks.specs.Homes.{AreMetBy}
+use Rattle.txn_marks.proofs.AnyLemmas.{any_alike, any_none, any_swap}
+use Rattle.txn_marks.proofs.SetLemmas.{contains-back}
+use Rattle.undo_rules.specs.Links.{Entry, first_reader, marked}
+use Rattle.txn_commands.specs.Meets.{meets_touched}
+use Rattle.undo_index.specs.First.{IsFirst, first_some, look, looked_up_at, or_some}
+use Rattle.undo_index.specs.Listed.{AreAdded, AreRemoved, IsNew, Listed, is_listed, nothing_listed, pair_cmp}
+use Rattle.undo_index.proofs.FirstLemmas.{first_alike, first_found}
+use Rattle.undo_book.specs.Indexed.{AreIndexed, Lists, is_linked, touched, wrote}
+use Rattle.undo_book.specs.Marks.{AreRelisted}
+
+-- ---- places of a list
+
+or_none : (a : Bool) → (a || false) ≡ a
+or_none true = refl
+or_none false = refl
+
+past_end : {X : Type 0} (test : X → Bool) (xs : List X) → passes test (slice_get xs (length xs)) ≡ false
+past_end test [] = refl
+past_end test (x ∷ xs) = past_end test xs
+
+pub suc_zero : (i : ℕ) → (suc i == 0) ≡ false
+suc_zero i = by (suc i == 0) refl where
+  by : (b : Bool) → (suc i == 0) ≡ b → b ≡ false
+  by true is = let e : suc i ≡ 0 = (Decides-eqb (suc i) 0).0 is in absurd (omega (arith, e))
+  by false is = refl
+
+pub zero_suc : (i : ℕ) → (0 == suc i) ≡ false
+zero_suc i = by (0 == suc i) refl where
+  by : (b : Bool) → (0 == suc i) ≡ b → b ≡ false
+  by true is = let e : 0 ≡ suc i = (Decides-eqb 0 (suc i)).0 is in absurd (omega (arith, e))
+  by false is = refl
+
+pub suc_suc : (i j : ℕ) → (suc i == suc j) ≡ (i == j)
+suc_suc i j = same_from_decides (suc i == suc j) (i == j)
+    (Decides-like {Q = i ≡ j} (suc i == suc j) (λ e. omega (arith, e)) (λ e. ap suc e) (Decides-eqb (suc i) (suc j))) (Decides-eqb i j)
+
+pushed_at : {X : Type 0} (test : X → Bool) (xs : List X) (x : X) (i : ℕ) →
+    passes test (slice_get (xs ++ x ∷ []) i) ≡ (passes test (slice_get xs i) || ((i == length xs) && test x))
+pushed_at test [] x zero = refl
+pushed_at test [] x (suc i) = sym (ap (λ b. b && test x) (suc_zero i))
+pushed_at test (y ∷ ys) x zero = sym (ap (λ b. test y || (b && test x)) (zero_suc (length ys)) ∙ or_none (test y))
+pushed_at test (y ∷ ys) x (suc i) =
+    pushed_at test ys x i ∙ sym (ap (λ b. passes test (slice_get ys i) || (b && test x)) (suc_suc i (length ys)))
+
+set_at : {X : Type 0} (test : X → Bool) (xs : List X) (i : ℕ) (x : X) → i < length xs → (j : ℕ) →
+    passes test (slice_get (slice_set xs i x) j) ≡ cond (j == i) (test x) (passes test (slice_get xs j))
+set_at test [] i x less j = absurd (omega (arith, less))
+set_at test (y ∷ ys) zero x less zero = refl
+set_at test (y ∷ ys) zero x less (suc j) = sym (ap (λ b. cond b (test x) (passes test (slice_get ys j))) (suc_zero j))
+set_at test (y ∷ ys) (suc i) x less zero = sym (ap (λ b. cond b (test x) (test y)) (zero_suc i))
+set_at test (y ∷ ys) (suc i) x less (suc j) =
+    set_at test ys i x (omega (arith, less)) j ∙ sym (ap (λ b. cond b (test x) (passes test (slice_get ys j))) (suc_suc j i))
+
+-- ---- listed transactions
+
+module _ (test : Element → Entry → Bool) where
+  begun : Lists test nothing_listed []
+  begun e i = contains-empty pair_cmp (e, i)
+
+  new_at_end : (listed : Listed) (es : List Entry) → Lists test listed es → IsNew listed (length es)
+  new_at_end listed es lists e = lists e (length es) ∙ past_end (test e) es
+
+  new_at : (listed : Listed) (es : List Entry) (i : ℕ) (entry : Entry) → Lists test listed es → slice_get es i ≡ Some entry →
+      ((e : Element) → test e entry ≡ false) → IsNew listed i
+  new_at listed es i entry lists at none e = lists e i ∙ ap (passes (test e)) at ∙ none e
+
+  pushed : (listed new : Listed) (es : List Entry) (entry : Entry) (elements : Touched) → Lists test listed es →
+      AreAdded listed elements (length es) new → ((e : Element) → contains elements e ≡ test e entry) →
+      Lists test new (es ++ entry ∷ [])
+  pushed listed new es entry elements lists added are e i =
+      added e i ∙ (λ k. lists e i k || ((i == length es) && are e k)) ∙ sym (pushed_at (test e) es entry i)
+
+  entered : (listed new : Listed) (es : List Entry) (i : ℕ) (entry next : Entry) (elements : Touched) → Lists test listed es →
+      slice_get es i ≡ Some entry → i < length es → AreAdded listed elements i new → ((e : Element) → test e entry ≡ false) →
+      ((e : Element) → contains elements e ≡ test e next) → Lists test new (slice_set es i next)
+  entered listed new es i entry next elements lists at less added none are e j =
+      added e j ∙ (λ k. lists e j k || ((j == i) && are e k)) ∙ by (j == i) refl ∙ sym (set_at (test e) es i next less j) where
+        by : (b : Bool) → (j == i) ≡ b →
+            (passes (test e) (slice_get es j) || (b && test e next)) ≡ cond b (test e next) (passes (test e) (slice_get es j))
+        by false is = or_none (passes (test e) (slice_get es j))
+        by true is =
+            let same : j ≡ i = (Decides-eqb j i).0 is in
+            let was : passes (test e) (slice_get es j) ≡ false =
+            ap (λ k. passes (test e) (slice_get es k)) same ∙ ap (passes (test e)) at ∙ none e in
+            ap (λ b. b || test e next) was
+
+  left : (listed new : Listed) (es : List Entry) (i : ℕ) (entry next : Entry) (elements : Touched) → Lists test listed es →
+      slice_get es i ≡ Some entry → i < length es → AreRemoved listed elements i new →
+      ((e : Element) → contains elements e ≡ test e entry) →
+      ((e : Element) → test e next ≡ false) → Lists test new (slice_set es i next)
+  left listed new es i entry next elements lists at less removed are none e j =
+      removed e j ∙ (λ k. lists e j k && not ((j == i) && are e k)) ∙ by (j == i) refl ∙ sym (set_at (test e) es i next less j) where
+        no_more : (b : Bool) → (b && not b) ≡ false
+        no_more true = refl
+        no_more false = refl
+
+        stays : (b : Bool) → (b && true) ≡ b
+        stays true = refl
+        stays false = refl
+
+        by : (b : Bool) → (j == i) ≡ b → (passes (test e) (slice_get es j) && not (b && test e entry))
+            ≡ cond b (test e next) (passes (test e) (slice_get es j))
+        by false is = stays (passes (test e) (slice_get es j))
+        by true is =
+            let same : j ≡ i = (Decides-eqb j i).0 is in
+            let was : passes (test e) (slice_get es j) ≡ test e entry =
+            ap (λ k. passes (test e) (slice_get es k)) same ∙ ap (passes (test e)) at in
+            ap (λ b. b && not (test e entry)) was ∙ no_more (test e entry) ∙ sym (none e)
+
+-- ---- the index of a book
+
+pub none_indexed : (w r : Listed) (es : List Entry) → w ≡ nothing_listed → r ≡ nothing_listed → es ≡ [] → AreIndexed w r es
+none_indexed w r es writers readers none =
+    subst (λ (xs : List Entry). AreIndexed w r xs) (sym none)
+    (subst (λ (l : Listed). AreIndexed w l []) (sym readers) (subst (λ (l : Listed). AreIndexed l nothing_listed []) (sym writers)
+    (record { writers = begun wrote; readers = begun touched })))
+
+live_so : (a b : Bool) → a ≡ true → b ≡ (a && b)
+live_so a b live = sym (ap (λ x. x && b) live)
+
+undone_so : (a b : Bool) → a ≡ false → (a && b) ≡ false
+undone_so a b undone = ap (λ x. x && b) undone
+
+pub commit_indexed : (w r v s : Listed) (es fs : List Entry) (entry : Entry) (met : Touched) (place : ℕ) → AreIndexed w r es →
+    AreAdded w met place v → AreAdded r entry.footprint place s → AreMetBy entry.writes met → entry.live ≡ true → place ≡ length es →
+    fs ≡ es ++ entry ∷ [] → AreIndexed v s fs
+commit_indexed w r v s es fs entry met place is wrote_it read_it are live last more =
+    subst (λ (xs : List Entry). AreIndexed v s xs) (sym more) (record {
+      writers = pushed wrote w v es entry met is.writers (subst (λ (n : ℕ). AreAdded w met n v) last wrote_it)
+          (λ e. are e ∙ live_so entry.live (some_meets entry.writes e) live);
+      readers = pushed touched r s es entry entry.footprint is.readers (subst (λ (n : ℕ). AreAdded r entry.footprint n s) last read_it)
+          (λ e. live_so entry.live (contains entry.footprint e) live);
+    })
+
+pub mark_indexed : (live : Bool) (w r v s : Listed) (es fs : List Entry) (i : ℕ) (entry : Entry) (met : Touched) → AreIndexed w r es →
+    AreRelisted live w met i v → AreRelisted live r entry.footprint i s → AreMetBy entry.writes met → entry.live ≡ not live →
+    slice_get es i ≡ Some entry → i < length es → fs ≡ slice_set es i (marked live entry) → AreIndexed v s fs
+mark_indexed false w r v s es fs i entry met is wrote_it read_it are live at less marks =
+    subst (λ (xs : List Entry). AreIndexed v s xs) (sym marks) (record {
+      writers = left wrote w v es i entry (marked false entry) met is.writers at less wrote_it
+          (λ e. are e ∙ live_so entry.live (some_meets entry.writes e) live) (λ e. refl);
+      readers = left touched r s es i entry (marked false entry) entry.footprint is.readers at less read_it
+          (λ e. live_so entry.live (contains entry.footprint e) live) (λ e. refl);
+    })
+mark_indexed true w r v s es fs i entry met is wrote_it read_it are undone at less marks =
+    subst (λ (xs : List Entry). AreIndexed v s xs) (sym marks) (record {
+      writers = entered wrote w v es i entry (marked true entry) met is.writers at less wrote_it
+          (λ e. undone_so entry.live (some_meets entry.writes e) undone) are;
+      readers = entered touched r s es i entry (marked true entry) entry.footprint is.readers at less read_it
+          (λ e. undone_so entry.live (contains entry.footprint e) undone) (λ e. refl);
+    })
+
+-- the place of a transaction that is committed next, or redone, isn't listed
+pub new_here : (w r : Listed) (es : List Entry) (place : ℕ) → AreIndexed w r es → place ≡ length es → IsNew w place × IsNew r place
+new_here w r es place is last = (
+  subst (IsNew w) (sym last) (new_at_end wrote w es is.writers),
+  subst (IsNew r) (sym last) (new_at_end touched r es is.readers),
+)
+
+pub undone_new : (w r : Listed) (es : List Entry) (i : ℕ) (entry : Entry) → AreIndexed w r es → slice_get es i ≡ Some entry →
+    entry.live ≡ false → IsNew w i × IsNew r i
+undone_new w r es i entry is at undone = (
+  new_at wrote w es i entry is.writers at (λ e. undone_so entry.live (some_meets entry.writes e) undone),
+  new_at touched r es i entry is.readers at (λ e. undone_so entry.live (contains entry.footprint e) undone),
+)
+
+-- ---- the first reader
+
+module _ (writes : Records) where
+  abbrev pub reads : Entry → Bool
+  reads entry = entry.live && meets_touched writes entry.footprint
+
+  abbrev pub named : Entry → Option TxnId
+  named entry = cond (reads entry) (Some entry.txn) None
+
+  reader_some : (es : List Entry) → first_reader writes es ≡ first_some named es
+  reader_some [] = refl
+  reader_some (entry ∷ es) = by (reads entry) (reader_some es) where
+    by : (b : Bool) → first_reader writes es ≡ first_some named es
+        → cond b (Some entry.txn) (first_reader writes es) ≡ or_some (cond b (Some entry.txn) None) (first_some named es)
+    by true rest = refl
+    by false rest = rest
+
+  named_so : (o : Option Entry) → is_some (look named o) ≡ passes reads o
+  named_so None = refl
+  named_so (Some entry) = by (reads entry) where
+    by : (b : Bool) → is_some (cond b (Some entry.txn) None) ≡ b
+    by true = refl
+    by false = refl
+
+  -- it is looked up by the elements that the records meet
+  meets_either : (met footprint : Touched) → AreMetBy writes met →
+      list_any (λ e. contains footprint e) (items met) ≡ meets_touched writes footprint
+  meets_either met footprint are =
+      any_alike (contains footprint) (λ e. list_any (λ f. element_eq f e) (items footprint)) (items met)
+      (λ e. sym (contains-back footprint e))
+      ∙ any_swap (λ e f. element_eq f e) (items met) (items footprint)
+      ∙ any_alike (λ f. list_any (λ e. element_eq f e) (items met)) (some_meets writes) (items footprint)
+      (λ f. sym (contains-items met f) ∙ are f)
+
+  pub any_live : (live : Bool) (p : Element → Bool) (es : List Element) → list_any (λ e. live && p e) es ≡ (live && list_any p es)
+  any_live true p es = refl
+  any_live false p es = any_none es
+
+  read_so : (met : Touched) → AreMetBy writes met → (o : Option Entry) → list_any (λ e. passes (touched e) o) (items met) ≡ passes reads o
+  read_so met are None = any_none (items met)
+  read_so met are (Some entry) =
+      any_live entry.live (contains entry.footprint) (items met) ∙ ap (λ b. entry.live && b) (meets_either met entry.footprint are)
+
+  pub reader_found : (r : Listed) (es : List Entry) (met : Touched) (from : ℕ) (o : Option ℕ) → Lists touched r es →
+      AreMetBy writes met → IsFirst (λ p. list_any (λ e. is_listed r e p) (items met)) from o →
+      first_reader writes (drop from es) ≡ looked_up_at named es o
+  reader_found r es met from o lists are first =
+      reader_some (drop from es)
+      ∙ first_found named es from o (first_alike (λ p. list_any (λ e. is_listed r e p) (items met))
+      (λ p. is_some (look named (slice_get es p))) from o
+      (λ p. any_alike (λ e. is_listed r e p) (λ e. passes (touched e) (slice_get es p)) (items met) (λ e. lists e p)
+      ∙ read_so met are (slice_get es p) ∙ sym (named_so (slice_get es p))) first)
+
+  -- the one at the first place is named
+  pub reader_is : (r : Listed) (es : List Entry) (met : Touched) (from p : ℕ) (entry : Entry) → Lists touched r es →
+      AreMetBy writes met → IsFirst (λ q. list_any (λ e. is_listed r e q) (items met)) from (Some p) → slice_get es p ≡ Some entry →
+      first_reader writes (drop from es) ≡ Some entry.txn
+  reader_is r es met from p entry lists are first at =
+      reader_found r es met from (Some p) lists are first ∙ ap (look named) at ∙ ap (λ b. cond b (Some entry.txn) None) yes where
+        yes : reads entry ≡ true
+        yes =
+            sym (any_alike (λ e. is_listed r e p) (λ e. passes (touched e) (slice_get es p)) (items met) (λ e. lists e p)
+            ∙ read_so met are (slice_get es p) ∙ ap (passes reads) at) ∙ first.1
+
+  pub reader_gone : (r : Listed) (es : List Entry) (met : Touched) (from p : ℕ) → Lists touched r es →
+      AreMetBy writes met → IsFirst (λ q. list_any (λ e. is_listed r e q) (items met)) from (Some p) → slice_get es p ≡ None →
+      first_reader writes (drop from es) ≡ None
+  reader_gone r es met from p lists are first at = reader_found r es met from (Some p) lists are first ∙ ap (look named) at
+
+-- ---- a writer from a place on
+
+module _ {X : Type 0} (test : X → Bool) where
+  none_past : (xs : List X) (from : ℕ) → ((p : ℕ) → from ≤ p → passes test (slice_get xs p) ≡ false) → list_any test (drop from xs) ≡ false
+  none_past [] zero none = refl
+  none_past [] (suc from) none = refl
+  none_past (x ∷ xs) (suc from) none = none_past xs from (λ p less. none (suc p) (omega (arith, less)))
+  none_past (x ∷ xs) zero none =
+      let rest = none_past xs 0 (λ p less. none (suc p) (omega arith)) in
+      let first : test x ≡ false = none 0 (omega arith) in
+      λ i. first i || rest i
+
+  one_past : (xs : List X) (from p : ℕ) → from ≤ p → passes test (slice_get xs p) ≡ true → list_any test (drop from xs) ≡ true
+  one_past [] zero p less there = absurd cc
+  one_past [] (suc from) p less there = absurd cc
+  one_past (x ∷ xs) (suc from) zero less there = absurd (omega (arith, less))
+  one_past (x ∷ xs) (suc from) (suc p) less there = one_past xs from p (omega (arith, less)) there
+  one_past (x ∷ xs) zero zero less there = ap (λ b. b || list_any test xs) there
+  one_past (x ∷ xs) zero (suc p) less there = or_so (test x) (one_past xs 0 p (omega arith) there) where
+    or_so : (b : Bool) → list_any test xs ≡ true → (b || list_any test xs) ≡ true
+    or_so true h = refl
+    or_so false h = h
+
+  first_past : (xs : List X) (from : ℕ) (o : Option ℕ) → IsFirst (λ p. passes test (slice_get xs p)) from o →
+      is_some o ≡ list_any test (drop from xs)
+  first_past xs from None first = sym (none_past xs from first)
+  first_past xs from (Some p) first = sym (one_past xs from p first.0 first.1)
+
+linked_so : (footprint : Touched) (o : Option Entry) →
+    list_any (λ e. passes (wrote e) o) (items footprint) ≡ passes (λ entry. is_linked entry footprint) o
+linked_so footprint None = any_none (items footprint)
+linked_so footprint (Some entry) = any_live entry.writes entry.live (some_meets entry.writes) (items footprint)
+
+-- it is looked up by the elements that are touched
+pub linked_past : (w : Listed) (es : List Entry) (footprint : Touched) (from : ℕ) (o : Option ℕ) → Lists wrote w es →
+    IsFirst (λ p. list_any (λ e. is_listed w e p) (items footprint)) from o →
+    is_some o ≡ list_any (λ entry. is_linked entry footprint) (drop from es)
+linked_past w es footprint from o lists first =
+    first_past (λ (entry : Entry). is_linked entry footprint) es from o
+    (first_alike (λ p. list_any (λ e. is_listed w e p) (items footprint))
+    (λ p. passes (λ (entry : Entry). is_linked entry footprint) (slice_get es p)) from o
+    (λ p. any_alike (λ e. is_listed w e p) (λ e. passes (wrote e) (slice_get es p)) (items footprint) (λ e. lists e p)
+    ∙ linked_so footprint (slice_get es p)) first)

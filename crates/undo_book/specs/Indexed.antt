@@ -1,0 +1,36 @@
+-- What is listed under elements: the live transactions that wrote them, and those that touched them.
+use Rattle.std.specs.Prelude.{◌≡◌, ℕ, List, Bool, ◌&&◌, Option, option_map, slice_get}
+use Rattle.std.specs.FinSet as set
+use Rattle.txn_commands.specs.declared.command.TxnId.{TxnId}
+use Rattle.txn_commands.specs.declared.element.Element.{Element}
+use Rattle.txn_commands.specs.Lies.{passes}
+use Rattle.txn_commands.specs.Meets.{some_meets}
+use Rattle.txn_commands.specs.Elements.{Touched}
+use Rattle.undo_rules.specs.Links.{Entry}
+use Rattle.txn_commands.specs.Meets.{meets_touched}
+use Rattle.undo_index.specs.Listed.{Listed, is_listed}
+
+-- the transaction is live, and its records meet the element
+abbrev pub wrote : Element → Entry → Bool
+wrote e entry = entry.live && some_meets entry.writes e
+
+-- it is live, and the element is in its footprint
+abbrev pub touched : Element → Entry → Bool
+touched e entry = entry.live && set.contains entry.footprint e
+
+-- a place is listed under an element exactly where the transaction there passes the test
+abbrev pub Lists : (Element → Entry → Bool) → Listed → List Entry → Type 0
+Lists test listed entries = (e : Element) (i : ℕ) → is_listed listed e i ≡ passes (test e) (slice_get entries i)
+
+-- each place is listed under the elements that its live transaction wrote, and under those that it touched
+pub record AreIndexed (wrote_by read_by : Listed) (entries : List Entry) : Type 0 where
+  pub writers : Lists wrote wrote_by entries
+  pub readers : Lists touched read_by entries
+
+-- the transaction is live and wrote what is touched
+abbrev pub is_linked : Entry → Touched → Bool
+is_linked entry touched = entry.live && meets_touched entry.writes touched
+
+-- the name of the transaction at a place
+abbrev pub name_at : List Entry → ℕ → Option TxnId
+name_at entries place = option_map (λ entry. entry.txn) (slice_get entries place)

@@ -1,0 +1,12 @@
+pub mod CommitLemmas
+pub mod EntryLemmas
+pub mod FirstLemmas
+pub mod Numbered
+pub mod Others
+pub mod OwedLemmas
+pub mod Passages
+pub mod Places
+pub mod Replacing
+pub mod Staying
+pub mod TouchLemmas
+pub mod UndoLemmas

@@ -1,5 +1,0 @@
-pub mod FirstLemmas
-pub mod RangeLemmas
-pub mod OnceLemmas
-pub mod ApartLemmas
-pub mod TreeLemmas

@@ -1,5 +1,0 @@
-use Rattle.undo_refusal_laws.proofs.UndoLemmas.{redos_law}
-use Rattle.undo_refusal_laws.proofs.laws.redos_are_refused_for_cause.Goals as goal
-
-pub returns : goal.returns
-returns c = redos_law
