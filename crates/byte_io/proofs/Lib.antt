@@ -1,5 +1,4 @@
 pub mod BufferedLemmas
-pub mod DecimalLemmas
 pub mod DigitLemmas
 pub mod LineLemmas
 pub mod PairLemmas

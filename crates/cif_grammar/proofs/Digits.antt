@@ -1,5 +1,5 @@
 -- What digits spell, one digit after the other.
-use Rattle.std.proofs.Common.{◌≡◌, ℕ, ◌+◌, ◌-◌, ◌*◌, ◌≤◌, min, List, [], ◌∷◌, true, false, refl, ap, ◌∙◌, arith, sym}
+use Rattle.std.proofs.Common.{◌≡◌, ℕ, ◌+◌, ◌-◌, ◌*◌, min, List, [], ◌∷◌, true, refl, ap, ◌∙◌, arith, sym}
 use Rattle.std.specs.Prelude.{fold}
 use Rattle.std.specs.List.{take_while}
 use Rattle.lay_point.specs.Names.{is_digit}
@@ -29,19 +29,3 @@ one_digit limit value b bs h =
 
 pub one_passed : (b : ℕ) (bs : List ℕ) → is_digit b ≡ true → skip is_digit bs ≡ skip is_digit (b ∷ bs)
 one_passed b bs h = sym (skip-cons is_digit b bs ∙ rw h refl)
-
--- no more digits leave the value
-pub no_digits : (limit value : ℕ) (rest : List ℕ) → take_while is_digit rest ≡ [] → value ≤ limit
-    → capped_from limit value (take_while is_digit rest) ≡ value
-no_digits limit value rest none small = rw none (omega (arith, small))
-
--- no digit stands at the front
-pub none_taken : (b : ℕ) (bs : List ℕ) → is_digit b ≡ false → take_while is_digit (b ∷ bs) ≡ []
-none_taken b bs h = take_while-cons is_digit b bs ∙ rw h refl
-
-pub none_passed : (b : ℕ) (bs : List ℕ) → is_digit b ≡ false → skip is_digit (b ∷ bs) ≡ b ∷ bs
-none_passed b bs h = skip-cons is_digit b bs ∙ rw h refl
-
--- a digit stands at the front
-pub first_taken : (b : ℕ) (bs : List ℕ) → is_digit b ≡ true → take_while is_digit (b ∷ bs) ≡ b ∷ take_while is_digit bs
-first_taken b bs h = take_while-cons is_digit b bs ∙ rw h refl

@@ -1,18 +1,16 @@
 -- One separator at the front, and where runs of bytes stop.
 use Rattle.std.proofs.Common.{◌≡◌, ℕ, ◌+◌, ◌≤◌, Bool, true, false, List, [], ◌∷◌, ◌++◌}
-use Rattle.std.proofs.Common.{length, Some, None, refl, ap, ◌∙◌, ◌&&◌, arith, inl, inr}
+use Rattle.std.proofs.Common.{length, Some, None, refl, ap, ◌&&◌, arith, inl, inr}
 use Rattle.std.specs.List.{list_all}
 use Rattle.std.proofs.lemmas.Bool.{and_parts}
-use Rattle.std.proofs.lemmas.List.{length-append}
 use Rattle.std.proofs.lemmas.List.Folds.{list_all-append}
 use Rattle.std.proofs.lemmas.Option.{none-some, same_Some}
 use Rattle.cif_grammar.specs.declared.number.Number.{Number}
 use Rattle.lay_point.specs.Names.{is_digit}
 use Rattle.cif_grammar.specs.Bytes.{is_blank, is_separator}
 use Rattle.cif_grammar.specs.ScanGrammar.{IsDigits, IsSigned, sign}
-use Rattle.cif_grammar.specs.Numbers.{behind_separator, signed_at}
+use Rattle.cif_grammar.specs.Numbers.{behind_separator}
 use Rattle.cif_grammar.proofs.ByteClasses.{blank_no_digit}
-use Rattle.cif_grammar.proofs.NumberGrammar.{signed_takes}
 use Rattle.cif_grammar.proofs.Runs.{Stops}
 use Rattle.cif_grammar.proofs.Steps.{chosen_of}
 
@@ -40,17 +38,6 @@ separator_takes (b ∷ bs) rest e =
 pub separator_again : (b : ℕ) (bs : List ℕ) → is_separator b ≡ true → behind_separator (b ∷ bs) ≡ Some bs
 unfolding behind_separator
 separator_again b bs h = rw h refl
-
-pub separator_shorter : (bytes rest : List ℕ) → behind_separator bytes ≡ Some rest → length rest + 1 ≡ length bytes
-separator_shorter bytes rest e =
-    let found = separator_takes bytes rest e in
-    rw found.1 (omega arith)
-
-pub signed_shorter : (bytes : List ℕ) (n : Number) (rest : List ℕ) → signed_at bytes ≡ Some (n, rest) → length rest ≤ length bytes
-signed_shorter bytes n rest e =
-    let found = signed_takes bytes n rest e in
-    let whole : length bytes ≡ length found.text + length rest = ap length found.parts ∙ length-append found.text rest in
-    omega arith
 
 -- what has a part that isn't blank isn't
 pub front_not_blank : (xs ys : List ℕ) → list_all is_blank xs ≡ false → list_all is_blank (xs ++ ys) ≡ false

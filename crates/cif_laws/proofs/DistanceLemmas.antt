@@ -34,7 +34,7 @@ use Rattle.cif_read.proofs.RingFacts.{taken}
 use Rattle.cif_read.proofs.ScaleLemmas.{scaled_exact}
 use Rattle.cif_read.proofs.SymbolLemmas.{new_symbol}
 use Rattle.std.specs.List.{list_any}
-use Rattle.cif_laws.specs.Distances.{IsDistance, IsNextScale, IsScaled}
+use Rattle.cif_laws.specs.Distances.{IsNextScale, IsScaled}
 
 abs_neg : (k : ℕ) → unsigned_abs (neg_ℤ (pos k)) ≡ k
 abs_neg zero = refl
@@ -69,11 +69,6 @@ is_scaled scale n ratio = record {
   whole = λ h. scaled_exact scale (doubled n) h;
   only = λ units e. only_units scale (doubled n) units ratio e;
 }
-
--- two numbers that are the same distance are the same
-pub same_units : (scale : Scale) (n : Number) (a b : ℤ) → IsRatio scale → IsDistance scale n a → IsDistance scale n b → a ≡ b
-same_units scale n a b ratio f g =
-    sym (only_units scale (doubled n) a ratio f).1 ∙ (only_units scale (doubled n) b ratio g).1
 
 -- ---- what was drawn
 

@@ -1,12 +1,7 @@
 -- The scan for the least unused number, step by step.
-use Rattle.std.proofs.Common.{◌≡◌, ◌<◌, ℕ, zero, suc, ◌+◌, ◌-◌, true, false, List, cond, ap, arith}
+use Rattle.std.proofs.Common.{◌≡◌, ◌<◌, ℕ, zero, suc, ◌+◌, ◌-◌, true, List, cond, ap, arith}
 use Rattle.lay_cells.specs.Symbols.{has_symbol}
 use Rattle.cif_write.specs.Wrap.{unused_from}
-
-pub unused_here : (count number : ℕ) (numbers : List ℕ) → 0 < count → has_symbol numbers number ≡ false
-    → unused_from count number numbers ≡ number
-unused_here zero number numbers h free = absurd (omega (arith, h))
-unused_here (suc count) number numbers h free = ap (λ b. cond b (unused_from count (number + 1) numbers) number) free
 
 pub unused_behind : (count number : ℕ) (numbers : List ℕ) → 0 < count → has_symbol numbers number ≡ true
     → unused_from count number numbers ≡ unused_from (count - 1) (number + 1) numbers

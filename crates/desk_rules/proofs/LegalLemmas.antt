@@ -1,6 +1,6 @@
 -- Legal logs grow call by call.
 use Rattle.std.proofs.Common.{◌≡◌, ℕ, ◌+◌, ◌-◌, Bool, true, false, cond, not, ◌==◌, List, [], ◌∷◌, ◌++◌, length, drop, Option, None, Some}
-use Rattle.std.proofs.Common.{Result, Ok, Err, refl, ap, sym, ◌∙◌, subst, inl, inr, ◌⊎◌, nat_le, replicate, slice_set}
+use Rattle.std.proofs.Common.{Result, Ok, Err, refl, ap, sym, ◌∙◌, subst, inl, inr, nat_le, replicate, slice_set}
 use Rattle.std.proofs.Common.{suc, zero}
 use Rattle.std.proofs.lemmas.Bool.Decides.{Decides-eqb}
 use Rattle.lay_layouts.specs.Sound.{IsSound}
@@ -23,9 +23,9 @@ use Rattle.undo_rules.specs.Steps.{depends}
 use Rattle.undo_rules.specs.Steps.{ended_state, found, is_log_full, is_own, logged, moved_refusal, open_step, opening, or_else}
 use Rattle.undo_rules.specs.Steps.{redo_refusal}
 use Rattle.undo_rules.specs.Steps.{redo_refusal_at}
-use Rattle.undo_rules.specs.Steps.{redo_step, stale_by, state_of, undo_refusal, undo_refusal_at, undo_step, unless, unused}
+use Rattle.undo_rules.specs.Steps.{stale_by, state_of, undo_refusal, undo_refusal_at, unless, unused}
 use Rattle.undo_rules.proofs.OpenLaws.{set_cases}
-use Rattle.desk_rules.specs.Legal.{ArePendingSound, Grew, Grown, IsLegal, Leads, Stepped, TakesCall, answer_of, commit_meant, meant}
+use Rattle.desk_rules.specs.Legal.{ArePendingSound, Grew, Grown, IsLegal, Leads, Stepped, TakesCall, commit_meant, meant}
 use Rattle.desk_rules.specs.Legal.{meant_by, meant_of}
 use Rattle.desk_rules.specs.Legal.{opened_answer, outcome, refusal, told, told_open, work_on}
 
@@ -200,40 +200,7 @@ grown h next session call answer (inr fails) = subst (λ a. Grown h session call
 
 -- ---- calls of a book, which may be out of memory
 
-told_takes : {T : Type 0} (done : Answer) (h next : History) (wanted : Result T BookFault × History) (result : Result T BookFault)
-    → TakesCall h wanted result next → (told done wanted ≡ (answer_of done result, next)) ⊎ ((answer_of done result ≡ None) × (next ≡ h))
-told_takes done h next wanted result (inl takes) = inl (λ i. (answer_of done (sym takes.0 i), sym takes.1 i))
-told_takes done h next wanted result (inr fails) = inr (ap (answer_of done) fails.0, fails.1)
-
 pub stepped_open : (h next : History) (session : ℕ) (result : Result Transaction BookFault) → TakesCall h (open_step h session) result next
     → Stepped h session Open (opened_answer result) next
 stepped_open h next session result (inl takes) = inl (λ i. (opened_answer (sym takes.0 i), sym takes.1 i))
 stepped_open h next session result (inr fails) = inr (ap opened_answer fails.0, fails.1)
-
-pub stepped_undo : (h next : History) (session : ℕ) (txn : TxnId) (result : Result (Unit {0}) BookFault)
-    → TakesCall h (undo_step h session txn) result next → Stepped h session (Undo txn) (answer_of Undone result) next
-stepped_undo h next session txn result takes = told_takes Undone h next (undo_step h session txn) result takes
-
-pub stepped_redo : (h next : History) (session : ℕ) (txn : TxnId) (result : Result (Unit {0}) BookFault)
-    → TakesCall h (redo_step h session txn) result next → Stepped h session (Redo txn) (answer_of Redone result) next
-stepped_redo h next session txn result takes = told_takes Redone h next (redo_step h session txn) result takes
-
--- the work of an accepted open
-opens_by : History → ℕ → Bool → Bool → Result Transaction BookFault × History
-opens_by h session full many =
-    cond full (Err LogFull, h) (cond many (Err SessionFull, logged h session Open (Refused SessionFull)) (
-      Ok
-          (opening h session),
-      after_open h session,
-    ))
-
-pub opened_work : (h next : History) (session : ℕ) (work : Transaction) → TakesCall h (open_step h session) (Ok work) next
-    → (work ≡ opening h session) × (next.layout ≡ h.layout)
-unfolding opens_by
-opened_work h next session work (inr fails) = absurd (let e = fails.0 in cc)
-opened_work h next session work (inl takes) = by (is_log_full h) (nat_le 65535 (state_of h session).opens) takes.0 takes.1 where
-  by : (full many : Bool) → Ok work ≡ (opens_by h session full many).0 → next ≡ (opens_by h session full many).1
-      → (work ≡ opening h session) × (next.layout ≡ h.layout)
-  by true many answer left = absurd cc
-  by false true answer left = absurd cc
-  by false false answer left = (cc, ap (λ (g : History). g.layout) left)

@@ -1,6 +1,6 @@
 -- The steps of linking: along a way, from ring to ring, and what is so of all rings.
 use Rattle.std.proofs.Common.{◌≡◌, ◌≢◌, ℕ, zero, suc, ◌<◌, ◌≤◌, true, false, ◌&&◌, cond, List, [], ◌∷◌, ◌++◌}
-use Rattle.std.proofs.Common.{Contains, length, Option, None, Some, refl, sym, ap, subst, ◌∙◌, arith, append_assoc, append-nil}
+use Rattle.std.proofs.Common.{Contains, length, Option, None, Some, refl, sym, ap, subst, ◌∙◌, arith, append_assoc}
 use Rattle.std.specs.Prelude.{All, IsTrue}
 use Rattle.std.proofs.lemmas.Bool.{and_parts}
 use Rattle.lay_point.specs.declared.point.Point.{Point}
@@ -21,16 +21,9 @@ use Rattle.face_ring_laws.proofs.WayLemmas.{AreEven, AreRings, are_rings}
 abbrev pub whole_way : Point → Point → List Ends → List Point × List Ends
 whole_way start at es = way (suc (length es)) start at es
 
-pub way_stops : (start at : Point) (es : List Ends) → at ≡ start → whole_way start at es ≡ ([], es)
-way_stops start at es same =
-    let t : point_eq at start ≡ true = subst (λ v. point_eq at v ≡ true) same (points_decide.itself at) in rw t refl
-
 way_goes : (start at : Point) (es : List Ends) → at ≢ start
     → whole_way start at es ≡ ring_along (way (length es) start) at es (take_at at es)
 way_goes start at es apart = let f = points_decide.apart at start apart in rw f refl
-
-pub way_ends : (start at : Point) (es : List Ends) → at ≢ start → take_at at es ≡ None → whole_way start at es ≡ (at ∷ [], es)
-way_ends start at es apart h = way_goes start at es apart ∙ ap (ring_along (way (length es) start) at es) h
 
 pub way_further : (start at : Point) (es : List Ends) (t : Ends × List Ends) → at ≢ start → take_at at es ≡ Some t
     → whole_way start at es ≡ (at ∷ (whole_way start (other_end at t.0) t.1).0, (whole_way start (other_end at t.0) t.1).1)
@@ -44,9 +37,6 @@ pub record IsOnWay (start from at : Point) (before so_far : List Point) (es left
   pub points : so_far ++ (whole_way start at left).0 ≡ before ++ (whole_way start from es).0
   pub rest : (whole_way start at left).1 ≡ (whole_way start from es).1
 
-pub on_way_first : (start from : Point) (before : List Point) (es : List Ends) → IsOnWay start from from before before es es
-on_way_first start from before es = record { points = refl; rest = refl }
-
 pub on_way_further : (start from at : Point) (before so_far more : List Point) (es left left' : List Ends) (e : Ends) → at ≢ start
     → IsOnWay start from at before so_far es left → take_at at left ≡ Some (e, left') → more ≡ so_far ++ at ∷ []
     → IsOnWay start from (other_end at e) before more es left'
@@ -58,24 +48,6 @@ on_way_further start from at before so_far more es left left' e apart h taken pu
           ∙ ap (λ (w : List Point × List Ends). so_far ++ w.0) (sym further) ∙ h.points;
       rest = ap (λ (w : List Point × List Ends). w.1) (sym further) ∙ h.rest;
     }
-
-pub on_way_back : (start from at : Point) (before so_far : List Point) (es left : List Ends) → at ≡ start
-    → IsOnWay start from at before so_far es left
-    → (so_far ≡ before ++ (whole_way start from es).0) × (left ≡ (whole_way start from es).1)
-on_way_back start from at before so_far es left same h =
-    let stops = way_stops start at left same in (
-      sym (append-nil so_far) ∙ ap (λ (w : List Point × List Ends). so_far ++ w.0) (sym stops) ∙ h.points,
-      ap (λ (w : List Point × List Ends). w.1) (sym stops) ∙ h.rest,
-    )
-
-pub on_way_lost : (start from at : Point) (before so_far more : List Point) (es left : List Ends) → at ≢ start
-    → IsOnWay start from at before so_far es left → take_at at left ≡ None → more ≡ so_far ++ at ∷ []
-    → (more ≡ before ++ (whole_way start from es).0) × (left ≡ (whole_way start from es).1)
-on_way_lost start from at before so_far more es left apart h none pushed =
-    let ends = way_ends start at left apart none in (
-      pushed ∙ ap (λ (w : List Point × List Ends). so_far ++ w.0) (sym ends) ∙ h.points,
-      ap (λ (w : List Point × List Ends). w.1) (sym ends) ∙ h.rest,
-    )
 
 pub taken_shorter : (at : Point) (left left' : List Ends) (e : Ends) → take_at at left ≡ Some (e, left') → length left' < length left
 taken_shorter at left left' e h = let count = taken_length at left e left' (is_taken at left (e, left') h) in omega arith

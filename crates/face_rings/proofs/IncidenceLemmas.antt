@@ -312,27 +312,11 @@ search_marked edges i h at first index e less inside s = record {
       (λ k le lt. still_used i.used.items i.ends.items e k inside (s.passed k le lt));
 }
 
--- marking any edge leaves what was passed
-pub marked_only : (edges : List Ends) (i : Incidence) → IsIncidence edges i → (e : ℕ) → e < length i.used.items
-    → IsIncidence edges (record { ends = i.ends; cursors = i.cursors; used = with_item i.used e true })
-marked_only edges i h e inside = record {
-  ends = h.ends;
-  marks = length-set i.used.items e true ∙ h.marks;
-  cursors = h.cursors;
-  passed = λ f k lt le under. still_used i.used.items i.ends.items e k inside (h.passed f k lt le under);
-}
-
 pub marks_kept : (used : List Bool) (i : ℕ) → i < length used → KeepsMarks used (set used i true)
 marks_kept used i less k h = ⊎_elim
     (λ (same : (i ≡ k) × (get_or (set used i true) k true ≡ true)). same.1)
     (λ (apart : (i ≢ k) × (get_or (set used i true) k true ≡ get_or used k true)). apart.1 ∙ h)
     (get_or-set used i k true true less)
-
-pub mark_set : (used : List Bool) (i : ℕ) → i < length used → get_or (set used i true) i true ≡ true
-mark_set used i less = ⊎_elim
-    (λ (same : (i ≡ i) × (get_or (set used i true) i true ≡ true)). same.1)
-    (λ (apart : (i ≢ i) × (get_or (set used i true) i true ≡ get_or used i true)). absurd (apart.0 refl))
-    (get_or-set used i i true true less)
 
 -- ---- before the first mark
 pub all_unused : (edges : List Ends) → left_of edges (replicate (length edges) false) ≡ edges

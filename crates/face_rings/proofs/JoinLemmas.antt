@@ -18,26 +18,12 @@ use Rattle.face_rings.specs.Joining.{AreOnlyJoined, Grows, IsPartOf, Joins, box_
 use Rattle.face_rings.proofs.ForestLemmas.{root_ends, root_le, root_of_own, united_cases}
 
 -- ---- trees that grow
-pub grows_not : (boxes : List Box) (ps : List ℕ) → IsForest ps → Grows boxes ps ps
-grows_not boxes ps h = record { each = refl; forest = h; only = λ g. g; kept = λ i j li lj e. e }
-
 pub grows_on : (boxes : List Box) (a b c : List ℕ) → Grows boxes a b → Grows boxes b c → Grows boxes a c
 grows_on boxes a b c g h = record {
   each = h.each ∙ g.each;
   forest = h.forest;
   only = λ o. h.only (g.only o);
   kept = λ i j li lj e. h.kept i j (omega (arith, li, g.each)) (omega (arith, lj, g.each)) (g.kept i j li lj e);
-}
-
--- the same roots, other parents
-pub grows_by_roots : (boxes : List Box) (old new : List ℕ) → length new ≡ length old → length old ≡ length boxes → IsForest new
-    → ((k : ℕ) → k < length old → root_of new k ≡ root_of old k) → Grows boxes old new
-grows_by_roots boxes old new same each forest roots = record {
-  each = same;
-  forest = forest;
-  only = λ o other respects i j li lj e. o other respects i j li lj
-      (sym (roots i (omega (arith, li))) ∙ e ∙ roots j (omega (arith, lj)));
-  kept = λ i j li lj e. roots i li ∙ e ∙ sym (roots j lj);
 }
 
 -- the trees of two that are joined are united
@@ -176,12 +162,6 @@ pub more_has : (xs : List ℕ) (n k : ℕ) → Contains xs k ⊎ (n ≡ k) → C
 more_has xs n k (inl m) = contains (xs ++ n ∷ []) k (has-append_left xs (n ∷ []) k (has xs k m))
 more_has xs n k (inr same) = contains (xs ++ n ∷ []) k (has-append_right xs (n ∷ []) k (inl same))
 
-pub part_none : (test : Box → Bool) (boxes : List Box) (numbers part : List ℕ) → part ≡ [] → IsPartOf test boxes (take 0 numbers) part
-part_none test boxes numbers part none = record {
-  among = λ k m. absurd (has [] k (subst (λ l. Contains l k) none m));
-  all = λ k d m h. absurd (has [] k m);
-}
-
 module _ (test : Box → Bool) (boxes : List Box) (numbers part : List ℕ) (i : ℕ) (b : Box) (lt : i < length numbers)
     (inside : get_or numbers i 0 < length boxes) (is_b : b ≡ get_or boxes (get_or numbers i 0) b)
     (h : IsPartOf test boxes (take i numbers) part) where
@@ -295,19 +275,6 @@ pairing_next boxes start now new numbers n h each lt more joined = record {
 }
 
 -- ---- from one list to the next
-pub joins_all_in_one : (boxes : List Box) (numbers old new : List ℕ) (one : ℕ) → Grows boxes old new
-    → ((k : ℕ) → Contains numbers k → root_of new one ≡ root_of new k) → Joins boxes numbers old new
-joins_all_in_one boxes numbers old new one grows all = record {
-  grows = grows;
-  joined = λ i j m m' g. sym (all i m) ∙ all j m';
-}
-
-pub joins_none : (boxes : List Box) (numbers old : List ℕ) → IsForest old → length numbers ≡ 0 → Joins boxes numbers old old
-joins_none boxes numbers old h none = record {
-  grows = grows_not boxes old h;
-  joined = λ i j m m' g. absurd (omega (arith, m.1, none));
-}
-
 pub joins_later : (boxes : List Box) (numbers old mid new : List ℕ) → Grows boxes old mid → Joins boxes numbers mid new
     → Joins boxes numbers old new
 joins_later boxes numbers old mid new g h = record { grows = grows_on boxes old mid new g h.grows; joined = h.joined }
@@ -322,9 +289,6 @@ all_inside numbers n h i d lt = h (get_or numbers i d) (i, lt, sym (get_or_defau
 pub lone_has : (numbers : List ℕ) (n : ℕ) → length numbers ≡ n → ((k : ℕ) → k < n → get_or numbers k 0 ≡ k) → (k : ℕ) → k < n
     → Contains numbers k
 lone_has numbers n each lone k lt = (k, omega (arith, each), sym (get_or_default numbers k 0 k (omega (arith, each))) ∙ lone k lt)
-
-pub lone_forest : (ps : List ℕ) (n : ℕ) → length ps ≡ n → ((k : ℕ) → k < n → get_or ps k 0 ≡ k) → IsForest ps
-lone_forest ps n each lone k lt = let own = lone k (omega (arith, each)) in omega (arith, own)
 
 -- ---- in the end
 pub finest_of_roots : (boxes : List Box) (start ps heads : List ℕ) → length start ≡ length boxes

@@ -228,9 +228,6 @@ middle_level k x y v f scale e = (
     never false t = refl
 
 -- ---- one from each side
-twice : (z : ℤ) → pos 2 *ℤ z ≡ z +ℤ z
-twice z = identity (z ∷ []) (lit (pos 2) ⊗ # 0) (# 0 ⊕ # 0) refl
-
 -- of two level edges to a point from one side the one with the nearer end is part of the other
 pub not_nested : (u u' v : Point) → u.y ≡ v.y → u'.y ≡ v.y → ((u.x ≤ℤ u'.x) × (u'.x <ℤ v.x)) ⊎ ((u'.x ≤ℤ u.x) × (v.x <ℤ u'.x))
     → MeetAtEnds (u, v) (u', v) → ⊥

@@ -149,9 +149,6 @@ sum_between m l m' l' x y =
     identity (m ∷ l ∷ m' ∷ l' ∷ x ∷ y ∷ [])
     ((# 4 ⊗ # 0 ⊕ # 5 ⊗ # 2) ⊕ (# 4 ⊗ # 1 ⊕ # 5 ⊗ # 3)) (# 4 ⊗ (# 0 ⊕ # 1) ⊕ # 5 ⊗ (# 2 ⊕ # 3)) refl
 
-product_comm : (a b : ℤ) → a *ℤ b ≡ b *ℤ a
-product_comm a b = identity (a ∷ b ∷ []) (# 0 ⊗ # 1) (# 1 ⊗ # 0) refl
-
 -- a place on the edge from c to d between the heights a and b
 pub record IsWithin (low high : ℤ) (c d : Point) (m l : ℤ) : Type 0 where
   pub first : pos 0 ≤ℤ m

@@ -1,9 +1,9 @@
 -- An edge's label, from the shapes that hold on its sides; and those of all edges of a row.
 use Rattle.std.proofs.Common.{◌≡◌, ◌⊎◌, inl, inr, ℕ, zero, suc, ◌<◌, ◌≤◌, Bool, true, false, ◌&&◌, ◌||◌, List, [], ◌∷◌}
-use Rattle.std.proofs.Common.{◌+◌, ℤ, pos, ◌+ℤ◌, ◌<ℤ◌, length, get_or, drop, refl, sym, ap, subst, ◌∙◌, ⊎_elim, arith}
+use Rattle.std.proofs.Common.{◌+◌, ℤ, pos, ◌+ℤ◌, ◌<ℤ◌, length, get_or, drop, refl, sym, subst, ◌∙◌, ⊎_elim, arith}
 use Rattle.std.specs.Prelude.{int_lt}
 use Rattle.std.proofs.lemmas.Int.{ints}
-use Rattle.std.proofs.lemmas.List.{drop-drop, get_or-drop, get_or_default, length-drop}
+use Rattle.std.proofs.lemmas.List.{get_or_default}
 use Rattle.lay_point.proofs.Signs.{linear}
 use Rattle.face_side_laws.proofs.Rows.{row_distance, row_inside, row_k, row_place, row_x, row_y}
 use Rattle.std.specs.List.{zip}
@@ -125,15 +125,6 @@ row_behind r sound row numbers edges i less o =
 
     right_then : (z : ℤ) → pos 0 <ℤ z → int_lt (pos 0) z ≡ true
     right_then z e = grind (arith, ints)
-
--- and so in a part of it up to its right end
-pub behind-drop : (r : Owned) (numbers : List ℕ) (gap : ℕ) → AreBehind r numbers → AreBehind r (drop gap numbers)
-behind-drop r numbers gap h i less o =
-    let inside : gap + i < length numbers = omega (arith, length-drop gap numbers) in
-    let next : (gap + i) + 1 ≡ gap + (i + 1) = omega arith in
-    ap (λ l. is_odd_in r l o) (drop-drop (i + 1) gap numbers ∙ ap (λ m. drop m numbers) (sym next))
-    ∙ h (gap + i) inside o
-    ∙ sym (ap (λ m. holds_beside r m o) (get_or-drop gap numbers i 0))
 
 -- the row's numbers are those of edges
 pub row_given : (edges : List (Point × Point)) (row : ℤ) (numbers xs : List ℕ) → xs ≡ numbers → AreRowEdges edges row numbers

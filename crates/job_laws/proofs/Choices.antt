@@ -139,10 +139,6 @@ pub stepped : {B P : Type 0} (steps : List Step) (n : ℕ) (ws : List Word) (f :
 unfolding steps_with
 stepped steps n ws f b h blank said = by_words steps n ws f b (is_none_of ws) h (λ e. blank (none_is ws e)) said
 
-pub with_none : (steps : List Step) (n : ℕ) (ws : List Word) → ws ≡ [] → steps_with steps n ws ≡ Ok steps
-unfolding steps_with
-with_none steps n ws h = ap (steps_with steps n) h
-
 pub with_some : (steps : List Step) (n : ℕ) (ws : List Word) (step : Step) → step_of ws ≡ Some step
     → steps_with steps n ws ≡ Ok (steps ++ step ∷ [])
 unfolding steps_with

@@ -97,18 +97,6 @@ empty_more [] v e h (suc p) = refl
 empty_more (r ∷ rs) v e h zero = h 0
 empty_more (r ∷ rs) v e h (suc p) = empty_more rs v e (λ k. h (suc k)) p
 
--- rows without targets are those of no calls
-pub no_calls : (symbols : List ℕ) (rows : List (List ℕ)) → length rows ≡ length symbols + 1 → ((p : ℕ) → row rows p ≡ [])
-    → AreRowsOf symbols [] rows
-no_calls symbols rows len empty = record {
-  whole = len;
-  callers = λ c n h. absurd (omega (arith, h.1));
-  targets = λ c n h. absurd (omega (arith, h.1));
-  kept = λ c n h. absurd (omega (arith, h.1));
-  sound = λ p q h. let g : Contains [] q = subst (λ (xs : List ℕ). Contains xs q) (empty p) h in absurd (omega (arith, g.1));
-  listed = λ cell there. empty (position_of symbols cell);
-}
-
 module _ (symbols : List ℕ) (calls : List (CellId × ℕ)) (rows : List (List ℕ)) (r : AreRowsOf symbols calls rows) (caller : CellId)
     (target p q : ℕ) (at : p ≡ position_of symbols caller) (to : q ≡ position_of symbols (Symbol target)) where
   more : List (List ℕ)

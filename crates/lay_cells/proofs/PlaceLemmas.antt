@@ -71,10 +71,6 @@ module _ (graph : Calls) (places : List ℕ) (ordered : AreOrdered graph places)
   later_closes_none call up walk =
       omega (arith, later _ _ up, never_earlier walk)
 
--- no position is below zero
-pub ArePositions-nil : ArePositions [] 0
-ArePositions-nil q = (λ h. absurd (omega (arith, h.1)), λ less. absurd (omega (arith, less)))
-
 -- one position more
 pub ArePositions-push : (xs : List ℕ) (n : ℕ) → ArePositions xs n → ArePositions (xs ++ n ∷ []) (n + 1)
 ArePositions-push xs n are q = (

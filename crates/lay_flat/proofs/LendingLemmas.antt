@@ -1,7 +1,7 @@
 -- The rings that are lent stand one behind the other.
-use Rattle.std.proofs.Common.{◌≡◌, ◌∙◌, ◌≤◌, ◌<◌, ◌+◌, ◌++◌, inl, inr, ℕ, List, [], ◌∷◌}
-use Rattle.std.proofs.Common.{length, refl, ap, sym, subst, arith, append_assoc, take, get_or, None, unwrap_or}
-use Rattle.std.proofs.lemmas.List.{length-append, length-map, length-take-le, map-append, take_more}
+use Rattle.std.proofs.Common.{◌≡◌, ◌∙◌, ◌<◌, ◌+◌, ◌++◌, inl, inr, ℕ, List, [], ◌∷◌}
+use Rattle.std.proofs.Common.{length, ap, sym, subst, arith, append_assoc, take, get_or, None, unwrap_or}
+use Rattle.std.proofs.lemmas.List.{length-append, map-append, take_more}
 use Rattle.std.proofs.lemmas.Simd.{map-map}
 use Rattle.lay_point.specs.declared.point.Point.{Point}
 use Rattle.lay_point.specs.declared.turn.Turn.{Turn}
@@ -11,8 +11,6 @@ use Rattle.lay_layouts.specs.Layout.{Layout}
 use Rattle.lay_layouts.specs.Lent.{LentShape, shapes_in}
 use Rattle.lay_flat.specs.declared.ends.End.{End}
 use Rattle.lay_flat.specs.declared.fault.FlatFault.{FlatFault}
-use Rattle.lay_flat.specs.declared.fault.FlatFault.TheVariants.{TooMany}
-use Rattle.lay_flat.specs.declared.flat.TheConstants.{MAX_RINGS}
 use Rattle.lay_flat.specs.Flat.{FlatRing}
 use Rattle.lay_flat.specs.Flattening.{Drawn, drawn_at, rings_from, rings_of}
 use Rattle.lay_flat.specs.Lending.{IsTooMany, drawn_with}
@@ -42,24 +40,6 @@ rings_of-more number turn shape i ring less at =
     ap (λ (rs : List (List Point)). rings_of number (turn, rs)) (take_more shape i ring less
     ∙ ap (λ (r : List Point). take i shape ++ r ∷ []) (sym at))
     ∙ map-append (λ (r : List Point). (r, turn, number)) (take i shape) (ring ∷ [])
-
--- there is no room for the ring at this index
-pub no_room : (old now : List FlatRing) (number : ℕ) (turn : Turn) (shape : List (List Point)) (i : ℕ) → i < length shape
-    → now ≡ old ++ rings_of number (turn, take i shape) → MAX_RINGS ≤ length now → IsTooMany (old ++ rings_of number (turn, shape)) TooMany
-no_room old now number turn shape i less is full = inr (
-  refl,
-  omega (
-    arith,
-    ap length is,
-    full,
-    length-append old (rings_of number (turn, take i shape)),
-    length-append old (rings_of number (turn, shape)),
-    length-map {B = FlatRing} (take i shape) (λ (r : List Point). (r, turn, number)),
-    length-map {B = FlatRing} shape (λ (r : List Point). (r, turn, number)),
-    length-take-le i shape,
-    less,
-  ),
-)
 
 -- one end more
 pub ends-whole : (rings : List FlatRing) (n : ℕ) (here behind : List Drawn)

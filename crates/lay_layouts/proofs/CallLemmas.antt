@@ -2,17 +2,15 @@
 use Rattle.std.proofs.Common.{◌≡◌, List, [], ◌∷◌, Option, Some, None, Contains, inl, inr, subst}
 use Rattle.std.specs.declared.cmp.Ordering.{Ordering}
 use Rattle.std.specs.declared.cmp.Ordering.TheVariants.{Equal, Greater, Less}
-use Rattle.std.specs.FinMap.{entries, entries-insert, insert, put}
+use Rattle.std.specs.FinMap.{put}
 use Rattle.std.specs.FinMap.Entries.{by_order}
 use Rattle.std.specs.List.{cons_option}
 use Rattle.std.proofs.lemmas.List.Elements.{Contains-append_cases, Contains-append_left, Contains-append_right}
 use Rattle.lay_cells.proofs.FewerCalls.{AreAmong}
 use Rattle.lay_layouts.specs.declared.id.ItemId.{ItemId}
 use Rattle.lay_layouts.specs.declared.item.Item.{Item}
-use Rattle.lay_layouts.specs.Calls.{Call, as_call, calls_among, calls_of}
-use Rattle.lay_layouts.specs.IdOrder.{ids_total}
+use Rattle.lay_layouts.specs.Calls.{Call, as_call, calls_among}
 use Rattle.lay_layouts.specs.Ids.{id_cmp}
-use Rattle.lay_layouts.specs.Layout.{Layout}
 
 -- what stands behind what may be there
 contains_behind : (o : Option Call) (xs : List Call) → AreAmong xs (cons_option o xs)
@@ -39,11 +37,3 @@ put_fewer id item (e ∷ es) none = by_id (id_cmp id e.0) (put_fewer id item es 
   by_id Less rest = no_call_first item (calls_among (e ∷ es)) none
   by_id Equal rest = λ x h. contains_behind (as_call e.1) (calls_among es) x (no_call_first item (calls_among es) none x h)
   by_id Greater rest = contains_more (as_call e.1) (calls_among (put id_cmp id item es)) (calls_among es) rest
-
--- with one more item that is no call, the layout's calls are among those before
-pub calls_of-insert : (layout : Layout) (id : ItemId) (item : Item) → as_call item ≡ None
-    → AreAmong (calls_of (record { symbols = layout.symbols; items = insert layout.items id item })) (calls_of layout)
-unfolding calls_of
-calls_of-insert layout id item none x h =
-    put_fewer id item (entries layout.items) none x
-    (subst (λ (es : List (ItemId × Item)). Contains (calls_among es) x) (entries-insert ids_total layout.items id item) h)

@@ -1,6 +1,8 @@
 -- Layouts: symbols and items.
 -- Source: Caltech Intermediate Form 2.0 has symbols by number and the elements of each; slots, items and
 -- their ids are this project's own.
+-- Checked on: of two items one replaced and one taken out leaves the one replaced; taking out an id
+-- that isn't there changes nothing; symbol 9 is no cell.
 use Rattle.std.specs.Prelude.{◌≡◌, ℕ, List, [], ◌∷◌, Option, None, Some, Bool, true, is_some, refl}
 use Rattle.std.specs.declared.cmp.Ordering.{Ordering}
 use Rattle.std.specs.declared.cmp.Ordering.TheVariants.{Less}
@@ -77,15 +79,8 @@ put_all entries (write ∷ writes) = put_all (put entries write.0 write.1) write
 abbrev pub changed : Layout → Writes → Layout
 changed layout writes = record { symbols = put_all layout.symbols writes.symbols; items = put_all layout.items writes.items }
 
--- the layout after writes of items alone
-abbrev pub after_item_writes : Layout → List Write → Layout
-after_item_writes layout writes = changed layout (record { items = writes; symbols = [] })
-
 -- each key is above the one before it
 abbrev pub AreRising : {K X : Type 0} → (K → K → Ordering) → List (K × X) → Type 0
 AreRising cmp [] = Unit {0}
 AreRising cmp (w ∷ []) = Unit {0}
 AreRising cmp (w ∷ v ∷ writes) = (cmp w.0 v.0 ≡ Less) × AreRising cmp (v ∷ writes)
-
-abbrev pub AreWritesRising : List Write → Type 0
-AreWritesRising writes = AreRising id_cmp writes

@@ -29,12 +29,6 @@ items_eq = map_eq id_eq item_eq
 pub items_eq-Decides : (m n : FinMap id_cmp Item) → Decides (items_eq m n) (m ≡ n)
 items_eq-Decides = map_eq-Decides id_eq item_eq id_eq-Decides item_eq-Decides
 
-pub items_eq_equiv : IsEquivalence items_eq
-items_eq_equiv = decided items_eq items_eq-Decides
-
-pub items_eq_partial : IsPartialEquivalence items_eq
-items_eq_partial = partial_equiv_from_equiv items_eq_equiv
-
 -- the same symbols in the same slots, and the same items under the same ids
 abbrev pub layout_eq : Layout → Layout → Bool
 layout_eq l m = symbols_eq l.symbols m.symbols && items_eq l.items m.items

@@ -3,16 +3,12 @@ use Rattle.std.proofs.Common.{◌≡◌, ◌∙◌, ◌+◌, ◌++◌, ℕ, suc,
 use Rattle.lay_layouts.specs.declared.id.ItemId.{ItemId}
 use Rattle.lay_layouts.specs.declared.item.Item.{Item}
 use Rattle.lay_layouts.specs.Layout.{Write}
-use Rattle.lay_oriented.specs.Directed.{IsSeenAlike, IsShape, IsTurned}
+use Rattle.lay_oriented.specs.Directed.{IsShape, IsTurned}
 use Rattle.lay_oriented.specs.Steps.{AreWrites}
 
 -- whatever is written for the items that are left completes what is written for all
 abbrev pub Completes : List (ItemId × Item) → List (ItemId × Item) → List Write → ℕ → Type 0
 Completes all left done m = (ws : List Write) (n : ℕ) → AreWrites left ws n → AreWrites all (done ++ ws) (m + n)
-
-pub complete_alike : (all es : List (ItemId × Item)) (e : ItemId × Item) (done : List Write) (m : ℕ) → IsSeenAlike e.1
-    → Completes all (e ∷ es) done m → Completes all es done m
-complete_alike all es e done m alike so = λ ws n is. so ws n (inl (alike, is))
 
 pub complete_turned : (all es : List (ItemId × Item)) (e : ItemId × Item) (new : Item) (done more : List Write) (m : ℕ) → IsTurned e.1 new
     → more ≡ done ++ (e.0, Some new) ∷ [] → Completes all (e ∷ es) done m → Completes all es more m

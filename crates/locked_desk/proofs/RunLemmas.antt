@@ -150,9 +150,6 @@ pub answers_push : (d : Desk) (held : Option Transaction) (seat mid end : Seat) 
 answers_push d held seat mid end given step reply next are to =
     one_answer (logged_reply reply) seat mid end given reply refl are (step_gains d held mid step reply end next to)
 
-pub no_answers : (seat : Seat) → AreAnswers seat [] seat
-no_answers seat = record { gained = []; session = refl; own = sym (append-nil seat.own); answers = refl }
-
 -- a command of an open transaction
 pub steps_do : (d : Desk) (held : Option Transaction) (seat : Seat) (step : Step) (work after : Transaction) (command : Command)
     (reply : Reply)

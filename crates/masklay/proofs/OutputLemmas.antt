@@ -17,10 +17,10 @@ use Rattle.masklay.specs.Outcome.{IsOutcome, IsOutcomeOf, finished_with}
 use Rattle.cif_names.specs.declared.names.Names.{Names}
 use Rattle.cif_names.specs.Names.{names_of}
 use Rattle.masklay.specs.Asked.{Asked}
-use Rattle.masklay.specs.Named.{cif_in, names_for, names_in}
-use Rattle.masklay.specs.Oriented.{AnswersGiven, IsGiven}
+use Rattle.masklay.specs.Named.{cif_in, names_in}
+use Rattle.masklay.specs.Oriented.{IsGiven}
 use Rattle.masklay.specs.Threads.{BecomesOf, IsThreadedOutcome, IsThreadedOutcomeOf}
-use Rattle.masklay.specs.Output.{EndsAsAsked, IsOutput, Output, WritesOrMemory, WritesOutput, in_turns, output_from, written_output}
+use Rattle.masklay.specs.Output.{EndsAsAsked, IsOutput, Output, in_turns, output_from}
 use Rattle.masklay.specs.Reading.{input_kept}
 
 too_long_job : (bytes : List ℕ) → 16777216 < length bytes → job_of bytes ≡ Err (Line 0)
@@ -88,28 +88,6 @@ one_output named bytes a b (outcome, is, given) (other, same, put) =
     given ∙ ap (output_from (names_in named bytes)) (one_outcome bytes outcome other is same) ∙ sym put
 
 -- ---- what is written of an outcome ends the program
-
-pub ends_by : {S : Type 0} (written : S → Option (List ℕ)) (failures : S → ℕ) (old new : S) (asked : Asked)
-    (bytes : List ℕ) (outcome : Result Finished Stop) (status : Status) → AnswersGiven asked.threaded asked.oriented bytes outcome
-    → WritesOrMemory written failures old new (output_from (names_in asked.named bytes) outcome) status
-    → EndsAsAsked written failures old new asked bytes status
-ends_by written failures old new asked bytes outcome status (inr is) (inl wrote) =
-    inl (output_from (names_in asked.named bytes) outcome, (outcome, is, refl), wrote)
-ends_by written failures old new asked bytes outcome status is (inr refused) = inr refused
-ends_by written failures old new asked bytes outcome status (inl none) (inl wrote) =
-    inr (subst (λ (o : Result Finished Stop). WritesOutput written failures old new (output_from (names_in asked.named bytes) o) status)
-    none wrote)
-
--- where the names and labels are the job's, as far as the layout has symbols for them
-pub ends_named : {S : Type 0} (written : S → Option (List ℕ)) (failures : S → ℕ) (old new : S) (asked : Asked)
-    (bytes : List ℕ) (names : Option Names) (finished : Finished) (status : Status)
-    → names ≡ names_for (names_in asked.named bytes) finished.layout
-    → AnswersGiven asked.threaded asked.oriented bytes (Ok finished)
-    → WritesOrMemory written failures old new (written_output names finished) status
-    → EndsAsAsked written failures old new asked bytes status
-ends_named written failures old new asked bytes names finished status same is wrote =
-    ends_by written failures old new asked bytes (Ok finished) status is
-    (subst (λ (n : Option Names). WritesOrMemory written failures old new (written_output n finished) status) same wrote)
 
 -- ---- what a call's clauses say where its answer was tested
 

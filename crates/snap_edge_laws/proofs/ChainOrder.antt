@@ -1,14 +1,13 @@
 -- The order along a segment is strict and total on all points; on centres that the segment meets it is the order in which it meets them.
-use Rattle.std.proofs.Common.{◌≡◌, ◌⊎◌, inl, inr, ℤ, ◌≤ℤ◌, ◌<ℤ◌, sym, ◌∙◌, arith, ⊎_elim}
+use Rattle.std.proofs.Common.{◌≡◌, ◌⊎◌, inl, inr, ℤ, ◌≤ℤ◌, ◌<ℤ◌, ◌∙◌, arith, ⊎_elim}
 use Rattle.lay_point.specs.declared.point.Point.{Point}
 use Rattle.snap_pixels.specs.declared.segment.Segment.{Segment}
 use Rattle.lay_point.specs.Points.{IsBefore}
 use Rattle.snap_edge_laws.specs.Edges.{key, IsBelow}
 use Rattle.lay_point.proofs.Signs.{linear, below_or_same}
 use Rattle.snap_edge_laws.proofs.Order.{IsSpot, key_le, key_same}
-use Rattle.snap_edge_laws.proofs.Places.{apart_or_same}
 use Rattle.lay_point.proofs.Rising.{IsStrictOrder}
-use Rattle.lay_point.proofs.EdgeOrder.{before_is_strict, before_total}
+use Rattle.lay_point.proofs.EdgeOrder.{before_is_strict}
 
 below_irreflexive : (s : Segment) (c : Point) → IsBelow s c c → ⊥
 below_irreflexive s c (inl less) = omega (arith, linear)
@@ -22,12 +21,6 @@ below_transitive s c d e (inr a) (inr b) = inr (a.0 ∙ b.0, before_is_strict.tr
 
 pub below_is_strict : (s : Segment) → IsStrictOrder (IsBelow s)
 below_is_strict s = record { irreflexive = below_irreflexive s; transitive = below_transitive s }
-
-pub below_total : (s : Segment) (c d : Point) → (c ≡ d) ⊎ (IsBelow s c d ⊎ IsBelow s d c)
-below_total s c d = ⊎_elim (λ apart. inr (⊎_elim (λ less. inl (inl less)) (λ more. inr (inl more)) apart))
-    (λ (e : key s c ≡ key s d). ⊎_elim inl
-    (λ order. inr (⊎_elim (λ less. inl (inr (e, less))) (λ more. inr (inr (sym e, more))) order)) (before_total c d))
-    (apart_or_same (key s c) (key s d))
 
 -- the segment comes to c's pixel no later than to d's
 pub below_by_spots : (s : Segment) (c d : Point) (k t u : ℤ) → IsSpot s c k t → IsSpot s d k u → t ≤ℤ u → (c ≡ d) ⊎ IsBelow s c d

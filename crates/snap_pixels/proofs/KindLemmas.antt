@@ -61,6 +61,3 @@ AreParallelAll-one s later segments whole =
     both : (t u : Segment) → Contains (s ∷ []) t → Contains (s ∷ []) u → AreParallel t.a t.b u.a u.b
     both t u m n = subst (λ (v : Segment). AreParallel v.a v.b u.a u.b) (is_first t m)
         (subst (λ (v : Segment). AreParallel s.a s.b v.a v.b) (is_first u n) (cross-itself s.a s.b))
-
-pub AreParallelAll-none : (segments : List Segment) → AreParallelAll (take 0 segments)
-AreParallelAll-none segments s t m n = absurd (omega (arith, m.1))

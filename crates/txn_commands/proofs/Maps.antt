@@ -93,10 +93,6 @@ written_value {V = V} {R = R} total exact m k v q x h = by_key (eq_by_cmp R q k)
   by_key true is e = inl (same_key exact q k is, e)
   by_key false is e = inr e
 
-no_value : {V : Type 0} (o : Option V) → is_some o ≡ false → o ≡ None
-no_value None h = refl
-no_value (Some v) h = absurd cc
-
 list_any-append : {K : Type 0} (p : K → Bool) (xs ys : List K) → list_any p (xs ++ ys) ≡ (list_any p xs || list_any p ys)
 list_any-append p [] ys = refl
 list_any-append p (x ∷ xs) ys = ap (λ b. p x || b) (list_any-append p xs ys) ∙ regroup (p x) (list_any p xs) (list_any p ys) where

@@ -190,13 +190,6 @@ popped l pending rest found all n e s =
     sym (ap (λ k. searched (called_by l) k (reverse pending) found) len
     ∙ ap (λ p. searched (called_by l) (suc (length rest + left l found)) p found) back) ∙ s
 
-pub goes_past : (l : Layout) (pending rest found all : List ℕ) (n : ℕ) → pending ≡ rest ++ n ∷ [] → has_symbol found n ≡ true →
-    Searches l pending found all → Searches l rest found all
-goes_past l pending rest found all n e there s =
-    sym (ap (λ b. cond b (searched (called_by l) (length rest + left l found) (reverse rest) found)
-    (searched (called_by l) (length rest + left l found) (called_by l n ++ reverse rest) (found ++ n ∷ []))) there)
-    ∙ popped l pending rest found all n e s
-
 pub goes_in : (l : Layout) (pending rest next found all : List ℕ) (n : ℕ) → pending ≡ rest ++ n ∷ [] → has_symbol found n ≡ false →
     next ≡ rest ++ reverse (called_by l n) → Searches l pending found all → Searches l next (found ++ n ∷ []) all
 goes_in l pending rest next found all n e new f s =

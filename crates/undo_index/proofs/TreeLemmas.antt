@@ -1,8 +1,7 @@
 -- The places under one element: a sole one, or a tree of them.
-use Rattle.std.proofs.Common.{◌≡◌, ℕ, ◌==◌, ◌<◌, ◌≤◌, Bool, true, false, not, cond, ◌||◌, ◌&&◌, List, [], ◌∷◌, None, Some}
-use Rattle.std.proofs.Common.{refl, sym, ap, ◌∙◌, arith}
+use Rattle.std.proofs.Common.{◌≡◌, ℕ, ◌==◌, ◌<◌, ◌≤◌, Bool, true, false, not, cond, ◌||◌, ◌&&◌, List, [], ◌∷◌}
+use Rattle.std.proofs.Common.{refl, sym, ◌∙◌, arith}
 use Rattle.std.specs.Prelude.{nat_lt}
-use Rattle.std.proofs.lemmas.Bool.Decides.{Decides-eqb, nat_tests}
 use Rattle.std.proofs.lemmas.Cmp.{nat_cmp_total}
 use Rattle.std.specs.declared.ops.Bound.TheVariants.{Excluded, Included, Unbounded}
 use Rattle.std.specs.BTreeMap.{is_at}
@@ -12,7 +11,6 @@ use Rattle.std.specs.Cmp.{eq_by_cmp_equiv, unsigned_tied}
 use Rattle.std.specs.List.{list_any}
 use Rattle.std.specs.Ordering.{nat_cmp}
 use Rattle.undo_index.specs.First.{IsFirst, first_of, has_place}
-use Rattle.undo_index.proofs.ApartLemmas.{own_place, unequal}
 use Rattle.undo_index.proofs.FirstLemmas.{first_alike}
 use Rattle.undo_index.proofs.RangeLemmas.{any_and, any_filter, at_least, not_more, within_so}
 
@@ -21,32 +19,6 @@ use Rattle.undo_index.proofs.RangeLemmas.{any_and, any_filter, at_least, not_mor
 pub none_of : (a : Bool) → (a && false) ≡ false
 none_of true = refl
 none_of false = refl
-
-pub first_sole : (from sole : ℕ) → from ≤ sole → IsFirst (has_place (sole ∷ [])) from (Some sole)
-first_sole from sole low = (low, own_place sole [], λ p above less i. unequal p sole (λ same. omega (arith, same, less)) i || false)
-
-pub none_from : (from sole : ℕ) → sole < from → IsFirst (has_place (sole ∷ [])) from None
-none_from from sole less p low = λ i. unequal p sole (λ same. omega (arith, same, less, low)) i || false
-
--- the test of a place, where it is the sole one
-at_sole : (test : ℕ → Bool) (sole p : ℕ) (b : Bool) → test sole ≡ b → (test p && has_place (sole ∷ []) p) ≡ (b && has_place (sole ∷ []) p)
-at_sole test sole p b is = by (p == sole) refl where
-  by : (t : Bool) → (p == sole) ≡ t → (test p && (t || false)) ≡ (b && (t || false))
-  by true same = ap (λ a. a && true) (ap test ((Decides-eqb p sole).0 same) ∙ is)
-  by false apart = none_of (test p) ∙ sym (none_of b)
-
-pub sole_below : (below sole p : ℕ) → sole < below → (nat_lt p below && has_place (sole ∷ []) p) ≡ has_place (sole ∷ []) p
-sole_below below sole p less = at_sole (λ q. nat_lt q below) sole p true (grind (arith, nat_tests, less))
-
-pub sole_above : (below sole p : ℕ) → below ≤ sole → (nat_lt p below && has_place (sole ∷ []) p) ≡ false
-sole_above below sole p high = at_sole (λ q. nat_lt q below) sole p false (grind (arith, nat_tests, high))
-
-pub sole_left : (sole place : ℕ) → (sole == place) ≡ false → (p : ℕ) →
-    has_place (sole ∷ []) p ≡ (not (p == place) && has_place (sole ∷ []) p)
-sole_left sole place apart p = sym (at_sole (λ q. not (q == place)) sole p true (ap not apart))
-
-pub sole_gone : (sole place : ℕ) → (sole == place) ≡ true → (p : ℕ) → (not (p == place) && has_place (sole ∷ []) p) ≡ false
-sole_gone sole place same p = at_sole (λ q. not (q == place)) sole p false (ap not same)
 
 -- ---- a tree
 
