@@ -1,4 +1,7 @@
 //! Where the rows are cut into bands.
+//!
+//! Any cut gives the same labels, so no clause speaks of the inner ones. Bands of equal heights
+//! would leave a crowded place to one worker.
 ghost use Rattle.std.specs.Prelude.{◌≡◌, ◌+◌, ◌-◌, ◌≤◌, Contains, IfOk, IsTrue, OnOk, length, take};
 ghost use Rattle.lay_point.specs.declared.point.Point.{Point};
 ghost use Rattle.face_rows.specs.Bands.{begins_in};

@@ -56,6 +56,10 @@ impl Bands for ScopedBands {
 /// own where one can be started, and else on the caller's. All threads look at the same edges, and each
 /// passes the gate first and gives its list back as it ends.
 ///
+/// # Errors
+///
+/// `NoMemory`, if an allocation fails.
+///
 /// # Cost
 ///
 /// That of `label` for each band, in as many threads as there are workers.

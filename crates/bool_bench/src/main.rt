@@ -1,6 +1,6 @@
 //! The program `bool_bench`: reads layouts from standard input, combines two layers of each below
 //! its top cell, and prints how many shapes, rings and points come of it, or why none do.
-//! `bench/run` times it; nothing stands on it.
+//! `bench/run` times it; nothing depends on it.
 //!
 //! A line is the word of an operation, `and`, `or`, `not` or `xor`, a space, and the CIF text of a
 //! layout. The layers are `A` and `B`.

@@ -1,5 +1,7 @@
 -- The parts of rings, computed. Of rings that are joined, directly or through others, the first is the head of each.
 -- Source: this project's own rule, so that a shape is written for each separate part of a layer.
+-- Checked on: the box from (0, 0) to (40, 40) without that from (10, 10) to (30, 30) is one shape
+-- of two rings; boxes that are apart are two shapes; boxes that share a corner are one.
 use Rattle.std.specs.Prelude.{ℕ, suc, ◌==◌, Bool, false, ◌&&◌, ◌||◌, List, [], ◌∷◌, count_by, length, map, slice_index, if◌then◌else◌}
 use Rattle.std.specs.List.{range_with_len}
 use Rattle.lay_point.specs.declared.point.Point.{Point}

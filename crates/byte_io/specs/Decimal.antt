@@ -1,4 +1,5 @@
 -- Integers in decimal digits, and the value of digits.
+-- Checked on: `99999999999999999999` is kept as 2,147,483,648; `2147483647` as itself.
 use Rattle.std.specs.Prelude.{ℕ, ℤ, ◌+◌, ◌-◌, ◌*◌, ◌++◌, List, codes, fold, min}
 use Rattle.std.specs.Fmt.{signed_decimal}
 

@@ -1,5 +1,8 @@
 -- Devices that take bytes: what was written in a call, and whether the device failed in it. What a device has written is
 -- `None` where it can't know it.
+-- Source: this project's own.
+-- Checked on: a device that takes 10 bytes in all, one that takes a byte a call, and one that
+-- answers 0. Of the text of `L NM; B 40 20 0 0; E` the first gets `DS 1 1 2;` and its newline.
 use Rattle.std.specs.Prelude.{◌≡◌, ℕ, ◌+◌, List, ◌++◌, length, Bool, true, ◌&&◌, nat_lt, ◌==◌, Option, Result, Ok, Err, if◌then◌else◌}
 use Rattle.std.specs.Io.KnownBytes.{Appends}
 

@@ -1,4 +1,7 @@
 -- Devices that give bytes: how often they were read, and with which results.
+-- Source: this project's own.
+-- Checked on: an input that gives the first run (examples/first-run.job) a few bytes a call, and
+-- one that fails after some.
 use Rattle.std.specs.Prelude.{ℕ, ◌+◌, Bool, ◌&&◌, nat_lt, ◌==◌, if◌then◌else◌, Result, Ok, Err}
 use Rattle.byte_io.specs.declared.input.ReadCounts.{ReadCounts}
 

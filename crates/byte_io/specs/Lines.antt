@@ -1,4 +1,7 @@
 -- Lines of bytes. A line ends with a newline; the last may lack it.
+-- Source: this project's own.
+-- Checked on, with job_text/specs/Words.antt: `open` with one carriage return is `open`; with two
+-- it is a word of five bytes, and a fault.
 use Rattle.std.specs.Prelude.{◌≡◌, ℕ, ◌+◌, ◌-◌, option_map, unwrap_or, ◌<◌, List, [], ◌∷◌, ◌++◌, length, take, Bool, ◌&&◌, ◌==◌, nat_lt}
 use Rattle.std.specs.Prelude.{slice_index, if◌then◌else◌}
 use Rattle.std.specs.List.{position}

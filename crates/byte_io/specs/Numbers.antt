@@ -1,4 +1,7 @@
 -- Numbers that words spell.
+-- Source: this project's own.
+-- Checked on, with job_text/specs/Words.antt: `007`, `-0`, `0.0` and `64.065535` are good; `+1`,
+-- `1.`, `65.1`, `1.65536`, `1.1.1` and `2147483648` aren't.
 use Rattle.std.specs.Prelude.{ℕ, List, length, nat_le, nat_lt, Bool, ◌&&◌, Option, None, Some, if◌then◌else◌}
 use Rattle.std.specs.List.{list_all}
 use Rattle.lay_point.specs.Names.{is_digit}

@@ -1,4 +1,6 @@
 //! A buffer in front of a device, so that the device takes many small pieces at once.
+//!
+//! A text is put in pieces of a few bytes, some of a known length, so `put` and `hold` are inlined.
 ghost use Rattle.std.specs.Prelude.{◌≡◌, ◌∷◌, [], OnErr, OnOk, decimal, if◌then◌else◌, is_none};
 ghost use Rattle.std.specs.Fmt.{signed_decimal};
 ghost use Rattle.byte_io.specs.Buffered.{Buffered, held_with};
@@ -100,6 +102,10 @@ impl OutBuffer {
     }
 
     /// Writes to the device what is held back.
+    ///
+    /// # Errors
+    ///
+    /// `OutFault`, if the device fails now, or failed at an earlier piece.
     pub fn flush<O: Out>(&mut self, out: &mut O) -> Result<(), OutFault>
         ensures put { Buffered O.written O.failures out.old self.old out.new self.new [] }
         ensures ok { OnOk result (self.new ≡ Some []) }

@@ -9,6 +9,10 @@ use itoa::{Buffer, write_digits};
 use lay_point::NoMemory;
 
 /// Appends the number's digits, without leading zeros.
+///
+/// # Errors
+///
+/// `NoMemory`, if an allocation fails.
 pub fn push_unsigned(bytes: &mut Vec<u8>, number: u64) -> Result<(), NoMemory>
     ensures ok { OnOk result (bytes.new.items ≡ bytes.old.items ++ decimal number) }
     ensures err { OnErr result (bytes.new.items ≡ bytes.old.items) }
@@ -19,6 +23,10 @@ pub fn push_unsigned(bytes: &mut Vec<u8>, number: u64) -> Result<(), NoMemory>
 }
 
 /// Appends the integer's digits, without leading zeros, after a minus sign where it is negative.
+///
+/// # Errors
+///
+/// `NoMemory`, if an allocation fails.
 pub fn push_signed(bytes: &mut Vec<u8>, integer: i32) -> Result<(), NoMemory>
     ensures ok { OnOk result (bytes.new.items ≡ bytes.old.items ++ signed_decimal integer) }
     ensures err { OnErr result (bytes.new.items ≡ bytes.old.items) }

@@ -29,6 +29,10 @@ pub trait Out {
 
 /// Writes all the bytes, up to the first failure of the device.
 ///
+/// # Errors
+///
+/// `OutFault` at the first failure of the device; a prefix of the bytes was written then.
+///
 /// # Cost
 ///
 /// A call of the device for each run of bytes that it takes.

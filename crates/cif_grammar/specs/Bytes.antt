@@ -1,6 +1,8 @@
 -- The classes of bytes.
 -- Source: Caltech Intermediate Form 2.0, the grammar's digit, upper-case letter, blank and separator.
 -- That bytes from 128 on are no blanks is this project's own.
+-- Checked on: `a` is a blank; `X` is a separator and no blank; `-` is neither; byte 128 is in no
+-- class.
 use Rattle.std.specs.Prelude.{ℕ, ◌==◌, nat_lt, Bool, ◌&&◌, ◌||◌, not, List, drop}
 use Rattle.std.specs.List.{prefix_len}
 use Rattle.lay_point.specs.Names.{is_digit, is_name_byte, is_upper}

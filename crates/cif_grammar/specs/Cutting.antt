@@ -1,6 +1,9 @@
 -- How a text is cut into commands.
 -- Source: Caltech Intermediate Form 2.0: a command ends with a semicolon, a comment's parentheses match, and the text ends
 -- with an `E`. That a command behind a comment's closing parenthesis goes on to the next semicolon is this project's own.
+-- Checked on: `L A; B 2 2 0 0;`: NoEnd at 15. The empty text: NoEnd at 0. `L A; B 2 2 0 0 E`: NoEnd
+-- at 5. `(a (b;) c); E`: one command of 10 bytes. `(a (b;) c; E`: NoEnd at 0. `E X`: AfterEnd at 2.
+-- `ELSE;` and `E;`: AfterEnd at 1.
 use Rattle.std.specs.Prelude.{ℕ, zero, suc, ◌+◌, ◌-◌, ◌==◌, List, [], ◌∷◌, length, take, drop, ◌&&◌, Option, Some, None}
 use Rattle.std.specs.Prelude.{if◌then◌else◌}
 use Rattle.cif_grammar.specs.Bytes.{is_blank, is_gap, skip}

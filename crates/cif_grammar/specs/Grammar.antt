@@ -2,6 +2,11 @@
 -- Source: Caltech Intermediate Form 2.0, its formal grammar. A separator is an upper-case letter or a blank. That a layer's
 -- name may have any length here, that bytes from 128 on stand in extensions and comments alone, and that blanks may stand
 -- before the `E` where no command comes before, are this project's own.
+-- That wires, round flashes and deletions of definitions are left out is this project's own too.
+-- Checked on: `(a (b;) c); L A; Box 4 6 0 0 D0 1; E` is a comment at 0, a layer at 12, a box at 17
+-- and the end; in `C 1 T 1 T 2 0` the second `T` separates the two numbers of the one shift, and
+-- the 0 is left over, so it is in no text, and neither are `L A B` and `M TX`; `DSF 1 2 3` and
+-- `D SX1` are definitions.
 use Rattle.std.specs.Prelude.{◌≡◌, ◌⊎◌, ℕ, ◌+◌, ◌≤◌, ◌==◌, List, [], ◌∷◌, ◌++◌, length, Bool, true, false, not, Option, None, Some, IsTrue}
 use Rattle.std.specs.Prelude.{◌||◌, ◌&&◌}
 use Rattle.std.specs.List.{list_all}

@@ -1,5 +1,7 @@
 -- Numbers as a text writes them.
 -- Source: Caltech Intermediate Form 2.0, the grammar's integer, signed integer and separator.
+-- Checked on: in `B5X3Y-0Z0` the numbers are 5, 3, -0 and 0; in `B 2-2 0 0` no separator follows
+-- the first number, so it is no box.
 use Rattle.std.specs.Prelude.{ℕ, ◌==◌, List, [], ◌∷◌, Bool, true, false, Option, Some, None, if◌then◌else◌}
 use Rattle.std.specs.List.{take_while}
 use Rattle.lay_point.specs.Names.{is_digit}

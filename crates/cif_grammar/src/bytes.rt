@@ -69,7 +69,7 @@ fn is_gap(byte: u8) -> bool
 }
 
 /// Returns how many bytes at the start are of the class.
-pub fn run_len(bytes: &[u8], class: Class) -> usize
+pub(crate) fn run_len(bytes: &[u8], class: Class) -> usize
     ensures value { result ≡ prefix_len (is_in_class class) bytes.now }
     ensures within { result ≤ length bytes.now }
 {

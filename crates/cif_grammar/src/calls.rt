@@ -34,6 +34,10 @@ pub struct Call {
 }
 
 /// Reads the call behind a `C`, up to the end of the bytes. Returns `None` where they are none.
+///
+/// # Errors
+///
+/// `NoMemory`, if an allocation fails.
 #[tactic(auto, unfolding(crate::specs::Reading::call_of))]
 pub fn read_call(alloc: Global, bytes: &[u8]) -> Result<Option<Call>, NoMemory>
     ensures { IfOk result (λ call. option_map (λ c. commands.Call c.symbol c.changes) call ≡ call_of bytes.now) }

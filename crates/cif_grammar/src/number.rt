@@ -41,7 +41,7 @@ pub fn integer(bytes: &[u8]) -> Option<(u32, &[u8])>
 
 /// Reads separators, a sign or none, then digits. Returns the number and what stands behind it.
 #[tactic(auto, unfolding(crate::specs::Numbers::sign_at, crate::specs::Numbers::signed_at))]
-pub fn signed(bytes: &[u8]) -> Option<(Number, &[u8])>
+pub(crate) fn signed(bytes: &[u8]) -> Option<(Number, &[u8])>
     ensures { Gives (λ f. (f.0, f.1.now)) result (signed_at bytes.now) }
 {
     match skip(bytes, Class::Separator) {
@@ -52,7 +52,7 @@ pub fn signed(bytes: &[u8]) -> Option<(Number, &[u8])>
 
 /// Returns what stands behind the separator at the start.
 #[tactic(auto, unfolding(crate::specs::Numbers::behind_separator))]
-pub fn behind_separator(bytes: &[u8]) -> Option<&[u8]>
+pub(crate) fn behind_separator(bytes: &[u8]) -> Option<&[u8]>
     ensures { Gives (λ f. f.now) result (behind_separator bytes.now) }
 {
     match bytes {

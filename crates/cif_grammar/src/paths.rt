@@ -18,6 +18,10 @@ pub struct Vertex {
 }
 
 /// Reads the path behind a `P`, up to the end of the bytes. Returns `None` where they are none.
+///
+/// # Errors
+///
+/// `NoMemory`, if an allocation fails.
 pub fn read_path(alloc: Global, bytes: &[u8]) -> Result<Option<Sequence<Vertex>>, NoMemory>
     ensures { IfOk result (λ vertices. vertices ≡ path_of bytes.now) }
 {

@@ -1,5 +1,6 @@
 -- What is written of a layout is read back as that layout, wrapped.
 -- Source: Caltech Intermediate Form 2.0, its formal grammar, symbol definitions and calls.
+-- Checked on: the rows of tests/jobs/cif-layouts.table.
 use Rattle.std.specs.Prelude.{◌≡◌, ◌⊎◌, ℕ, ◌≤◌, List, length, Some, Result, Ok, Err, IsTrue}
 use Rattle.lay_point.specs.Names.{is_layer_name}
 use Rattle.lay_layouts.specs.declared.id.ItemId.{ItemId}

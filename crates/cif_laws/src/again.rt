@@ -19,6 +19,10 @@ use std::alloc::Global;
 
 /// Returns the layout, written and read again: itself, wrapped. A text that would be too long, or define
 /// too many symbols, is refused by the reader.
+///
+/// # Errors
+///
+/// `NoMemory`, if an allocation fails; else the reader's, of a text that is too long or defines too many symbols.
 pub fn reread(alloc: Global, snapshot: &Snapshot) -> Result<Snapshot, CifFault>
     ensures { length (written snapshot.now).definitions ≤ MAX_SYMBOLS → length (text snapshot.now) ≤ MAX_TEXT
         → IsAnswer no_memory result (Ok (wrap snapshot.now)) }

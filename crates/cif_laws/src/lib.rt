@@ -1,23 +1,32 @@
-//! What is written is read back.
+//! Laws of CIF texts: what is written is read back, faults are where they are reported, and
+//! commands mean what the standard says.
 //!
-//! The text of a sound layout is commands of the grammar, and they mean that layout, with what its top cell
-//! holds wrapped in a symbol. The grammar and the meaning are those of `cif_grammar` and `cif_read`, the
-//! text and the wrapping those of `cif_write`. `what_is_written_is_read_back` does nothing: it carries the
-//! law. `reread` writes and reads.
+//! The grammar and the meaning are those of `cif_grammar` and `cif_read`, the text and the wrapping
+//! those of `cif_write`. Functions with an empty body carry the laws; [`reread`] and
+//! [`look_at_layers`] alone do something. The program calls none of them.
 //!
-//! # Laws of faults: a text is refused for what stands where the fault is
+//! # The laws
 //!
-//! A text that means a fault begins with good commands, up to the fault. There a command of the grammar
-//! stands that has the fault, or none stands, or the text ends too early or not at all. Or all its commands
-//! are good, and a call isn't. The grammar and the meaning are those of `cif_grammar` and `cif_read`.
-//! Nothing of this runs.
+//! - [`what_is_written_is_read_back`] (`specs/Laws.antt`): the text of a sound layout whose layers
+//!   have names, and that needs no more symbols than a text may define, is commands of the grammar,
+//!   and they mean that layout, with what its top cell holds wrapped in a symbol. What is wrapped
+//!   is sound, and is written by the same text. [`reread`] writes a layout and reads it again.
+//! - [`faults_are_where_they_stand`] (`specs/Refusals.antt`): a text that means a fault begins with
+//!   good commands, up to the fault. There a command of the grammar has the fault, or no command
+//!   follows, or the text ends too early or not at all. Or all its commands are good, and a call
+//!   isn't.
+//! - [`distances_are_scaled`] (`specs/Distances.antt`): a distance in a symbol is the written one,
+//!   times the scale's first number and divided by the second.
+//! - [`calls_move_points`] (`specs/Changes.antt`): a call takes a point where its changes take it,
+//!   one after the other.
+//! - [`boxes_hold_their_points`] (`specs/Boxes.antt`, `specs/Directions.antt`): a box holds the
+//!   points that are at most half a side from its centre, along its direction and across it.
 //!
-//! # Laws of what CIF commands mean, in the words of the standard
+//! # Files
 //!
-//! `cif_read` computes what a command draws or calls. Here the same is said of points: a distance in a symbol
-//! is the written one, times the scale's first number and divided by the second; a call takes a point where its
-//! changes take it, one after the other; and a box holds the points that are at most half a side from its
-//! centre, along its direction and across it. Nothing of this runs.
+//! - `trip_laws.rt` and `again.rt`: writing and reading again.
+//! - `fault_laws.rt`: where a text is refused.
+//! - `meaning_laws.rt`: what commands mean, said of points.
 #![tactic(auto)]
 
 mod again;

@@ -1,4 +1,6 @@
 -- The layout of a text's meaning: its symbols in their order, and element q as item 0.0.q.
+-- Source: this project's own.
+-- Checked on: `L NM; B 40 20 0 0; E` has the one item 0.0.1 on `NM`.
 use Rattle.std.specs.Prelude.{List, [], ◌∷◌, map}
 use Rattle.cif_read.specs.declared.element.Element.{Element}
 use Rattle.cif_read.specs.declared.element.Figure.{Figure}

@@ -1,8 +1,9 @@
 //! The layout of a CIF text.
 //!
-//! What `cif_read` read, a `CifFile`, becomes a sound layout of `lay_items`: its symbols in the order of their
-//! definitions, and its element q as item 0.0.q (`specs/FromCif.antt`). Neither the reader nor the layout knows
-//! of the other: this crate stands above both, and another format would have one of its own beside it.
+//! What `cif_read` read, a `CifFile`, becomes a sound layout of `lay_items`: its symbols in the
+//! order of their definitions, and its element q as item 0.0.q (`specs/FromCif.antt`). Neither the
+//! reader nor the layout knows of the other: this crate depends on both ([`FromCif`]), and another
+//! format would have one of its own.
 //!
 //! ```text
 //! let snapshot = Snapshot::from_cif(alloc, cif_read::read(alloc, text)?)?;

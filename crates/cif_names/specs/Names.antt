@@ -1,4 +1,8 @@
 -- What is kept of a text's names and labels.
+-- Source: `9` and `94` are user extensions of layout editors; what is kept of them is this
+-- project's own.
+-- Checked on: in `DS 1 1 1;`, after `L M1;`, `94 A 10,-20 M1;` is ` L M1; 94 A 20 -40 M1;`; in
+-- `DS 7 1 4;`, `94 ON 2 4;` is `94 ON 1 2;`, and `94 OFF 1 4;` is left out.
 use Rattle.std.specs.Prelude.{ℕ, ◌+◌, List, [], ◌∷◌, ◌++◌, codes, filter, Bool, true, Option, None, Some, option_map, if◌then◌else◌}
 use Rattle.std.specs.Str.{bytes_eq}
 use Rattle.lay_cells.specs.Symbols.{has_symbol}

@@ -1,16 +1,19 @@
-//! Names and labels of CIF texts, kept beside the layout.
+//! `--names`: names and labels of CIF texts, kept apart from the layout.
 //!
-//! Layout editors write a cell's name as `9 NAME;` in its definition, and labels as `94 TEXT X Y [WORD];` on the layer that is
-//! set. To the layout these are user extensions, which mean nothing. `Names::of` collects them from a text that was read: each
-//! is kept as a line of its own, with the symbol in whose definition it stands, or none. `with_names` puts the lines into the
-//! text that is written: after the line that begins a symbol's definition come those of its number, a label's with its layer
-//! before it.
+//! Layout editors write a cell's name as `9 NAME;` in its definition, and labels as
+//! `94 TEXT X Y [WORD];` on the layer that is set. To the layout these are user extensions, which
+//! mean nothing. [`Names::of`] collects them from a text that was read: each is kept as a line of
+//! its own, with the symbol in whose definition it is, or none. [`with_names`] puts the lines into
+//! the text that is written: after the line that begins a symbol's definition come those of its
+//! number, a label's with its layer before it.
 //!
-//! Labels are scaled to the database units in which definitions are written. One that isn't on their grid is left out and
-//! counted, and so is every `9` or `94` of another form. Both functions take any bytes, also a text that the reader refuses.
+//! Labels are scaled to the database units in which definitions are written. One that isn't on
+//! their grid is left out and counted, and so is every `9` or `94` of another form. Both functions
+//! take any bytes, also a text that the reader refuses.
 //!
-//! Contracts see `Names` as what they are: the entries in the order of the text, and how many were left out (`names_of` of
-//! `specs/Names.antt`). What is written with them is `with_names` of `specs/Woven.antt`.
+//! Contracts see [`Names`] as the entries in the order of the text, and how many were left out
+//! (`names_of` of `specs/Names.antt`). What is written with them is `with_names` of
+//! `specs/Woven.antt`.
 //!
 //! ```text
 //! let names = Names::of(alloc, b"DS 1 1 1; 9 INV; DF; C 1; E")?;

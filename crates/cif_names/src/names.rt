@@ -51,6 +51,10 @@ pub struct Names {
 impl Names {
     /// Returns the names and labels of a text, whether the reader takes it or not.
     ///
+    /// # Errors
+    ///
+    /// `NoMemory`, if an allocation fails.
+    ///
     /// # Cost
     ///
     /// Linear in the text.
@@ -77,6 +81,10 @@ impl Names {
     }
 
     /// Returns those of these symbols, and those of no symbol.
+    ///
+    /// # Errors
+    ///
+    /// `NoMemory`, if an allocation fails.
     ///
     /// # Cost
     ///

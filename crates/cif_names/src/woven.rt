@@ -26,6 +26,10 @@ use std::collections::BTreeMap;
 /// Returns the written text with these lines in it: behind a line that begins a symbol's definition stand the symbol's own,
 /// in order, and those of no symbol in the definition of the symbol that the text's last call names.
 ///
+/// # Errors
+///
+/// `NoMemory`, if an allocation fails.
+///
 /// # Cost
 ///
 /// Linear in the text and in what is kept, times the logarithm of the number of symbols.

@@ -1,6 +1,11 @@
 -- What the commands of a text mean, one after the other.
 -- Source: Caltech Intermediate Form 2.0: figures are drawn on the layer that was set last, in the definition that they stand in.
 -- A layer is unset where a definition begins, and set again as before where it ends.
+-- The unit, the range and dropping are this project's own.
+-- Checked on: `B 5 3 0 0` has the corners (-5,-3) and (5,3); `DS 7 25 2; L ND; B 8 24 3 1; DF` has
+-- (-25,-275) and (175,325); `L A; B 0 4 1 1; P 0 0 5 5 0 0; E` has no element and two dropped;
+-- `L A; P -536870912 0 536870912 0 0 536870912; E` is in range, and with 536870913 TooBig at 5. The
+-- rows of tests/jobs/cif-layouts.table.
 use Rattle.std.specs.Prelude.{ℕ, ◌+◌, nat_lt, List, [], ◌∷◌, ◌++◌, length, Bool, true, false, ◌||◌, Option, Some, None, Result, Ok, Err}
 use Rattle.std.specs.Prelude.{if◌then◌else◌}
 use Rattle.std.specs.List.{list_any}

@@ -1,4 +1,7 @@
 -- The numbers and names of faults, as the product prints them.
+-- Source: this project's own.
+-- Checked on: the rows of tests/jobs/cif-faults.table, each kind, each pair of neighbouring checks
+-- and each offset.
 use Rattle.std.specs.Prelude.{ℕ, List, codes}
 use Rattle.cif_read.specs.declared.fault.FaultKind.{FaultKind}
 use Rattle.cif_read.specs.declared.fault.FaultKind.TheVariants.{AfterEnd, Cycle, DeleteDef, Flash}

@@ -14,6 +14,11 @@ use lay_point::NoMemory;
 use std::alloc::Global;
 
 /// Returns the file with all calls bound, or the first fault of them.
+///
+/// # Errors
+///
+/// `NoSymbol` at the first call of a symbol that has no definition, then `Cycle` at the first call that closes a
+/// cycle; `OutOfMemory`, if an allocation fails.
 pub fn bound(alloc: Global, content: Content) -> Result<CifFile, CifFault>
     requires { IsKept content }
     ensures { (result ≡ Err no_memory) ⊎ IsBoundAs content result }

@@ -109,6 +109,10 @@ impl Content {
 
     /// Applies the command at this offset, whose bytes stand here without their semicolon. After a fault the
     /// content is not to be used.
+    ///
+    /// # Errors
+    ///
+    /// The command's first fault, as `after_piece` has it; `OutOfMemory`, if an allocation fails.
     pub fn apply(&mut self, alloc: Global, offset: usize, bytes: &[u8]) -> Result<(), FaultKind>
         requires { content_size self.old + 1 < 2 ^ 32 }
         ensures { IsAnswer OutOfMemory (leaves result self.new) (after_piece self.old offset bytes.now) }

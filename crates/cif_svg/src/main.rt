@@ -1,16 +1,17 @@
 //! The program `cif_svg`: a CIF text in, a picture of one of its cells out, as SVG.
 //!
-//! The cell is flattened, and each layer is a group of paths with its name, a colour and a hatch of its own, so
-//! that layers tell apart in print too. A shape is one path, filled by parity, as the text means it: the picture
-//! is the definition. The y axis goes upward. Beside the layers stand a legend, a scale bar and the cell's size in
-//! micrometres. A coordinate of the picture is a database unit of 5 nanometres, counted from the left and the upper
-//! side of what is drawn.
+//! The cell is flattened, and each layer is a group of paths with its name, a colour and a hatch of
+//! its own, so that layers can be distinguished in print too. A shape is one path, filled by the
+//! even-odd rule, as the text means it. The y axis goes upward. Next to the layers are a legend, a
+//! scale bar and the cell's size in micrometres. A coordinate of the picture is a database unit of
+//! 5 nanometres, counted from the left and the upper side of what is drawn.
 //!
 //! ```text
 //! cif_svg 5 < layout.cif > cell-5.svg
 //! ```
 //!
-//! Without an argument the top cell is drawn, or, where it is empty, the first symbol that none calls.
+//! Without an argument the top cell is drawn, or, where it is empty, the first symbol that none
+//! calls.
 #![tactic(auto)]
 
 mod bounds;

@@ -1,7 +1,7 @@
-//! Tests of the crates of the text and its words, by their public calls alone.
+//! Tests of `byte_io`, `cif_names` and `job_advice`, by their public calls alone.
 //!
-//! A crate with tests is proved twice, with them and without, so they stand in a crate of their own. Nothing
-//! stands on it.
+//! A crate with tests is proved twice, with them and without, so they are in a crate of their own.
+//! Nothing depends on it.
 #![tactic(auto)]
 
 #[cfg(test)]

@@ -1,6 +1,8 @@
 -- Which layer lines of a text are idle, and how a text ends.
 -- Source: Caltech Intermediate Form 2.0: a primitive is on the layer that was set last, and a symbol's
 -- definition begins with none.
+-- Checked on: a second `L NM;` before a second path on `NM` would be idle, and so would one with a
+-- call or `DF;` after it.
 use Rattle.std.specs.Prelude.{◌≡◌, ◌≢◌, ℕ, List, [], ◌∷◌, ◌++◌, Option, None, Some, codes}
 use Rattle.lay_layouts.specs.Layout.{Layout}
 use Rattle.cif_write.specs.Lines.{Line, Start, OnLayer, Path, Finish, Call, End, lines_text}

@@ -1,6 +1,8 @@
 -- The lines of a CIF text: one command each, and a newline.
 -- Source: Caltech Intermediate Form 2.0 (Mead and Conway, Introduction to VLSI Systems, 1980): `DS`,
 -- `DF`, `L`, `P`, `C` with `M X`, `R` and `T`, `E`. That a command has a line and which blanks it has is this project's own.
+-- Checked on: the ring of `B 40 20 0 0` is `P -40 -20 40 -20 40 20 -40 20;`; a mirror and a shift
+-- by (20, 0) of symbol 1 are `C 1 M X T 20 0;`, one quarter turn of symbol 2 is `C 2 R 0 1;`.
 use Rattle.std.specs.Prelude.{ℕ, List, [], ◌++◌, Bool, codes, decimal, if◌then◌else◌, pos}
 use Rattle.std.specs.List.{flat_map}
 use Rattle.byte_io.specs.Decimal.{spaced_pair}

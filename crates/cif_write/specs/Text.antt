@@ -1,5 +1,8 @@
 -- The text of a layout.
 -- Source: Caltech Intermediate Form 2.0. The order of the lines is this project's own.
+-- Checked on, with a slash for each newline: the layout of `L NM; B 40 20 0 0; E` is
+-- `DS 1 1 2;/L NM;/P -40 -20 40 -20 40 20 -40 20;/DF;/C 1;/E/`; that of `E` is
+-- `DS 1 1 2;/DF;/C 1;/E/`; two shapes on `A`, one on `B` and one on `A` again have three `L` lines.
 use Rattle.std.specs.Prelude.{ℕ, List, [], ◌∷◌, ◌++◌, Bool, false, Option, None, Some, if◌then◌else◌}
 use Rattle.std.specs.List.{flat_map}
 use Rattle.lay_point.specs.declared.point.Point.{Point}

@@ -1,5 +1,8 @@
 -- The layout that is written: all that the top cell holds goes into a symbol, which it calls.
 -- Source: this project's own; Caltech Intermediate Form 2.0 for symbols and calls.
+-- Checked on: of no symbols and two shapes the wrapping symbol is 1; of symbols 4, 2 and 1 it is 3;
+-- Top with one plain call of 3 stays, and Top with two such calls, or with one that is mirrored, is
+-- wrapped.
 use Rattle.std.specs.Prelude.{ℕ, zero, suc, ◌+◌, List, [], ◌∷◌, ◌++◌, length, map, Option, None, Some, if◌then◌else◌}
 use Rattle.std.specs.List.{flat_map}
 use Rattle.lay_point.specs.Bridges.{bridged}

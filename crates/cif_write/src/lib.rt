@@ -1,12 +1,20 @@
 //! Writer of mask layouts in Caltech Intermediate Form.
 //!
-//! A layout is written wrapped (`specs/Wrap.antt`): its items stand in symbols, each shape has the one path
-//! that goes round all its rings, and the top cell is one plain call. The text is a list of lines,
-//! `specs/Text.antt`.
+//! A layout is written wrapped (`specs/Wrap.antt`): its items are in symbols, each shape has the
+//! one path that goes round all its rings, and the top cell is one plain call. The text is a list
+//! of lines, `specs/Text.antt`.
 //!
-//! It is put to an `Out`, a device that takes bytes, through an `OutBuffer`, so it never stands in
-//! memory as a whole. `prepare` does what can run out of memory, and `Prepared::put` writes: all of
-//! the text and nothing else, or a prefix of it where the device fails. `write` is the two.
+//! It is put to an `Out` of `byte_io`, a device that takes bytes, through an `OutBuffer`, so it is
+//! never in memory as a whole. [`prepare`] does what can run out of memory, and [`Prepared::put`]
+//! writes: all of the text and nothing else, or a prefix of it where the device fails. [`write`] is
+//! the two.
+//!
+//! # Model and invariants
+//!
+//! - [`Prepared`] is kept as a borrowed snapshot and a number that no symbol has. Contracts see its
+//!   `Layout`.
+//! - Its number is the least that no symbol has (`least_unused` of `specs/Wrap.antt`), which
+//!   `prepare` finds; where a `u32` has none left, that is out of memory.
 //!
 //! ```text
 //! let mut out = MemoryOut::new(alloc, 4096, 1_000_000, Failing::ByErr);

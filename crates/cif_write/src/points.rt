@@ -1,5 +1,8 @@
 //! Points in decimal digits, and the one path round all rings of a shape, which is put without being
 //! made.
+//!
+//! The last point is held back until the next shows whether it stays, so repeats are dropped
+//! without a list of the points.
 ghost use Rattle.std.specs.Prelude.{◌≡◌, ◌∷◌};
 ghost use Rattle.byte_io.specs.Buffered.{Buffered};
 ghost use Rattle.lay_point.specs.Bridges.{bridged};

@@ -87,6 +87,10 @@ pub fn prepare(snapshot: &Snapshot) -> Result<Prepared<'_>, NoMemory>
 impl<'s> Prepared<'s> {
     /// Writes the layout's text to the device. It takes no memory.
     ///
+    /// # Errors
+    ///
+    /// `OutFault` at the first failure of the device; a prefix of the text was written then.
+    ///
     /// # Cost
     ///
     /// A pass over the items, with a few comparisons for each.
@@ -102,6 +106,10 @@ impl<'s> Prepared<'s> {
 }
 
 /// Writes the layout's text to the device. The allocator is not used.
+///
+/// # Errors
+///
+/// `Device` at the first failure of the device; a prefix of the text was written then. `NoMemory` before the first byte.
 ///
 /// # Cost
 ///

@@ -17,6 +17,10 @@ use std::alloc::{AllocError, Global};
 /// the operation's answers differ on its two sides. All edges are regarded, those of other bands
 /// too.
 ///
+/// # Errors
+///
+/// `NoMemory`, if an allocation fails.
+///
 /// # Cost
 ///
 /// A sort of the edges that begin in the band, and a search in its row for each of them. From row to row

@@ -48,6 +48,10 @@ pub(crate) struct Line {
 
 impl Line {
     /// Returns the line of the row.
+    ///
+    /// # Errors
+    ///
+    /// `NoMemory`, if an allocation fails.
     pub fn new(alloc: Global, edges: &CleanEdges, row: i32) -> Result<Line, NoMemory>
         requires lesser { AreLesserFirst edges.now.0 }
         ensures line { IfOk result (IsLine edges.now) }
@@ -70,6 +74,10 @@ impl Line {
 
     /// Returns the line of a later row. Of the edges of this line those that end before it are left out. The
     /// starts, in order, are those of edges that begin behind this line, none of them before that row.
+    ///
+    /// # Errors
+    ///
+    /// `NoMemory`, if an allocation fails.
     pub fn later(
         self,
         alloc: Global,
@@ -115,6 +123,10 @@ impl Line {
 
     /// Returns whether the operation's answers differ on the two sides of the edge of this number, which
     /// begins in this row.
+    ///
+    /// # Errors
+    ///
+    /// `AllocError`, if an allocation fails.
     pub fn differs(
         &self,
         alloc: Global,

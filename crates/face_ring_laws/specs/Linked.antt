@@ -1,5 +1,7 @@
 -- What the rings are that edges are linked to. An edge is the pair of its ends, the lesser first.
 -- Source: this project's own rule, so that edges have one list of rings.
+-- Checked on: the eight sides of the squares from (0,0) to (2,2) and from (2,2) to (4,4) are two
+-- rings, 0 0, 0 2, 2 2, 2 0 and 2 2, 2 4, 4 4, 4 2.
 use Rattle.std.specs.Prelude.{◌≡◌, ◌≢◌, ◌⊎◌, Bool, true, List, [], ◌∷◌, Contains, IsTrue}
 use Rattle.lay_point.specs.declared.point.Point.{Point}
 use Rattle.lay_point.specs.Edges.{IsEdgeBefore, touches}

@@ -1,6 +1,7 @@
 -- The parts of rings: rings whose bounding boxes have a point in common are in one part, and parts are no larger than
 -- that asks. A box is the pair of its lower left and its upper right corner.
 -- Source: this project's own rule, so that a shape is written for each separate part of a layer.
+-- Checked on: with ring 0 joined to 1 and 4, and 2 to 3, the parts are 0 1 4 and 2 3.
 use Rattle.std.specs.Prelude.{◌≡◌, ℕ, ◌<◌, ◌==◌, ℤ, pos, ◌*ℤ◌, ◌≤ℤ◌, int_le, Bool, true, ◌&&◌}
 use Rattle.std.specs.Prelude.{List, [], ◌∷◌, length, map, slice_index, slice_index_or, if◌then◌else◌}
 use Rattle.std.specs.Int.{int_max, int_min}

@@ -50,7 +50,7 @@ impl Bounds {
 }
 
 /// Returns the bounding box of the ring.
-pub fn bounds_of(ring: &Ring) -> Bounds
+pub(crate) fn bounds_of(ring: &Ring) -> Bounds
     ensures { result ≡ bounding_box ring.now }
 {
     let points = ring.points();

@@ -14,6 +14,10 @@ use std::alloc::Global;
 /// place to the right crosses an odd number exactly where it crosses an odd number of the rings' edges.
 /// The path of no rings is empty.
 ///
+/// # Errors
+///
+/// `NoMemory`, if an allocation fails.
+///
 /// # Cost
 ///
 /// A pass over the points.

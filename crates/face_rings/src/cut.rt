@@ -35,6 +35,10 @@ impl Cut {
     }
 
     /// Returns those of the numbers whose boxes reach the lower side.
+    ///
+    /// # Errors
+    ///
+    /// `AllocError`, if an allocation fails.
     pub fn low_part(
         self,
         alloc: Global,
@@ -54,6 +58,10 @@ impl Cut {
     }
 
     /// Returns those of the numbers whose boxes reach the higher side.
+    ///
+    /// # Errors
+    ///
+    /// `AllocError`, if an allocation fails.
     pub fn high_part(
         self,
         alloc: Global,
@@ -85,6 +93,10 @@ pub(crate) struct Division {
 
 impl Division {
     /// Returns the division with the fewer pairs of the two by the middle ones of the boxes' lower sides.
+    ///
+    /// # Errors
+    ///
+    /// `AllocError`, if an allocation fails.
     pub fn halving(
         alloc: Global,
         boxes: &[Bounds],

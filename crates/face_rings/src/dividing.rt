@@ -29,10 +29,15 @@ use std::alloc::{AllocError, Global};
 
 /// Returns the parts of the rings: rings whose bounding boxes have a point in common, their sides
 /// included, are in one part, and no part could be divided. Parts are in the order of their first rings,
-/// and the rings of a part in theirs. The work is that of `face_rings`: no pair of rings is asked.
+/// and the rings of a part in theirs. The work is that of `joined_heads`: boxes are
+/// compared, and not all pairs of them.
 ///
 /// A place is in the boxes of one part at most. So some part has an odd number of edges to the right of
 /// it exactly where all rings together have.
+///
+/// # Errors
+///
+/// `NoMemory`, if an allocation fails.
 pub fn parts(alloc: Global, rings: Vec<Ring>) -> Result<Vec<Vec<Ring>>, NoMemory>
     ensures parts { IfOk result (λ parts. AreParts rings.items (map (λ part. part.items) parts.items)) }
 

@@ -64,6 +64,10 @@ pub(crate) struct Incidence {
 
 impl Incidence {
     /// Returns the index of the edges, none of which is used yet.
+    ///
+    /// # Errors
+    ///
+    /// `NoMemory`, if an allocation fails.
     pub fn new(alloc: Global, edges: &[Edge]) -> Result<Incidence, NoMemory>
         ensures sound { IfOk result (IsIncidence edges.now) }
         ensures all { IfOk result (λ i. left_of edges.now i.used.items ≡ edges.now) }

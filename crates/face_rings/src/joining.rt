@@ -1,4 +1,7 @@
 //! Joining boxes that have a point in common.
+//!
+//! Lists of boxes are divided, since a sweep along one axis would ask each pair that overlaps
+//! there.
 ghost use Rattle.std.specs.Prelude.{◌≡◌, ◌<◌, All, Contains, IfOk, IfSome, IsNone, OnOk, length, slice_index, true, ℕ};
 ghost use Rattle.face_ring_laws.specs.Heads.{IsFinest};
 ghost use Rattle.face_ring_laws.specs.Parts.{AreJoined};
@@ -19,7 +22,7 @@ const DEPTH: usize = 64;
 /// Returns for each box the number of the first one that it is joined to, directly or through others: two
 /// boxes are where they have a point in common. The time grows little faster than the number of boxes,
 /// but where many wide ones cross many tall ones.
-pub fn joined_heads(alloc: Global, boxes: &[Bounds]) -> Result<Vec<usize>, AllocError>
+pub(crate) fn joined_heads(alloc: Global, boxes: &[Bounds]) -> Result<Vec<usize>, AllocError>
     ensures { IfOk result (λ heads. IsFinest (AreJoined boxes.now) (length boxes.now) heads.items) }
 {
     let mut heads = lone(alloc, boxes.len())?;

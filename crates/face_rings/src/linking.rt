@@ -55,6 +55,10 @@ use std::alloc::{AllocError, Global};
 /// The rings go each edge once, and no other. So the half line from any place to the right crosses an odd
 /// number of the rings' edges exactly where it crosses an odd number of the edges. The work grows with the
 /// number of edges, and little more.
+///
+/// # Errors
+///
+/// `TooMany`, if a ring has more points than a ring may have; `NoMemory`, if an allocation fails.
 pub fn link(alloc: Global, edges: &[Edge]) -> Result<Vec<Ring>, LinkFault>
     requires rising { IsRising IsEdgeBefore edges.now }
     requires in_range { All (λ e. IsTrue (is_in_range e.0 && is_in_range e.1)) edges.now }

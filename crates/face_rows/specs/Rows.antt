@@ -1,5 +1,8 @@
 -- Rows of edges. The row r is the height r + 1/2, which no end of an edge is at. An edge crosses it at one place, or
 -- nowhere; a level edge never does.
+-- Source: this project's own.
+-- Checked on: of the 12 edges of the squares 0 0 20 20 and 10 10 30 30, numbered from 0, the height
+-- 5 + 1/2 has 0 and 8, the height 15 + 1/2 has 0, 3, 9 and 11; those of And are 3, 4, 6 and 9.
 use Rattle.std.specs.Prelude.{◌↔◌, ℕ, ◌<◌, ℤ, pos, ◌+ℤ◌, ◌-ℤ◌, ◌*ℤ◌, ◌<ℤ◌, int_le, int_lt, Bool, ◌&&◌, IsTrue}
 use Rattle.std.specs.Prelude.{List, length, Contains, slice_index_or, if◌then◌else◌}
 use Rattle.lay_point.specs.declared.point.Point.{Point}

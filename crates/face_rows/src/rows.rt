@@ -11,6 +11,10 @@ use std::alloc::{AllocError, Global};
 
 /// Returns the numbers of the edges that cross the height `row + 1/2`, from left to right. Takes
 /// time n + m log m, where m of the n edges cross it.
+///
+/// # Errors
+///
+/// `NoMemory`, if an allocation fails.
 pub fn row_edges(alloc: Global, edges: &CleanEdges, row: i32) -> Result<Vec<usize>, NoMemory>
     ensures { IfOk result (λ numbers. AreRowEdges edges.now.0 row numbers.items) }
 {

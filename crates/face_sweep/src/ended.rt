@@ -31,6 +31,10 @@ const FEW: usize = 64;
 /// Takes those of the edges of a row out of it that end below a later one. The ends up to `passed` are
 /// below the row itself; returns up to which they are below the later one.
 ///
+/// # Errors
+///
+/// `AllocError`, if an allocation fails.
+///
 /// # Cost
 ///
 /// Each edge that ends is found by halving where few end; the row is gone over where many do.

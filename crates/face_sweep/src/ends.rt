@@ -52,6 +52,10 @@ impl End {
 
 /// Returns where the edges end that do so above the row, in order.
 ///
+/// # Errors
+///
+/// `AllocError`, if an allocation fails.
+///
 /// # Cost
 ///
 /// A sort of the edges that end above.

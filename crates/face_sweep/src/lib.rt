@@ -1,18 +1,38 @@
-//! From a row to the next: the edges that end are taken out, and those that begin are put in.
+//! The sweep from a row of edges to the next, and the shapes that hold on the two sides of an edge.
 //!
-//! Starts are in the order of rows, and in a row from left to right (`specs/Starts.antt`); so the edges that
-//! begin are merged into the row in one pass. The upper ends of a row's edges are kept in order
-//! (`specs/Ends.antt`): where few edges end, each is found in its row by halving, since clean edges stand
-//! there in the order of their crossings; where many do, the row is gone over once.
+//! From row to row the edges that end are removed and those that begin are inserted. What holds
+//! right of an edge is the same all along it, so it is found once, where the edge begins, and kept.
 //!
-//! # The shapes that hold on the two sides of an edge
+//! # Model
 //!
-//! What holds right of an edge is the same all along it, so it is found once and kept: [`Sides`] has how many
-//! shapes of each input hold on each side (`specs/Counts.antt`), and which of the edge's owners are among
-//! those on its right (`specs/Sides.antt`). They are counted from the edges to the right in the edge's row,
-//! from near to far: right of an edge holds what holds left of the next, and of an owner the first edge that
-//! lists it tells. A [`Reach`] says how far to the right a shape's edges go, so that none is sought beyond
-//! (`specs/Reaches.antt`).
+//! A row is a list of numbers of edges, from left to right (`AreSomeRowEdges` of
+//! `face_rows/specs/Rows.antt`).
+//!
+//! - [`Start`] is the lower end of an edge. Starts are in the order of rows, and in a row from left
+//!   to right (`specs/Starts.antt`), so the edges that begin are merged into the row in one pass
+//!   ([`insert_begun`]).
+//! - [`End`] is the upper end of an edge. Ends are in order of their heights (`specs/Ends.antt`).
+//!   [`without_ended`] finds each edge that ends by halving where few end, since the edges of a row
+//!   are in the order of their crossings; where many end, it passes over the row once.
+//! - [`Sides`] has how many shapes of each input hold on each side of an edge
+//!   (`specs/Counts.antt`), and which of the edge's owners are among those on its right
+//!   (`specs/Sides.antt`). They are counted from the edges to the right in the edge's row, from
+//!   near to far: right of an edge holds what holds left of the next, and the first edge that an
+//!   owner owns decides for it.
+//! - [`Reach`] is the greatest x of each shape's edges, beyond which no edge of it is sought
+//!   (`specs/Reaches.antt`).
+//!
+//! # What callers must keep
+//!
+//! No type keeps what a row is: each call requires it. Of the clauses of [`Sides::of`],
+//! `EndAtReach` says that after an edge beyond a shape's reach none is of the shape, and `AreKnown`
+//! that the sides that are kept are those of their edges.
+//!
+//! # Files
+//!
+//! - `start.rt`, `moves.rt`: edges that begin, and how they are inserted.
+//! - `ends.rt`, `ended.rt`: edges that end, and how they are removed.
+//! - `sides.rt`, `counts.rt`, `reach.rt`: what holds beside an edge.
 #![tactic(auto)]
 
 mod counts;

@@ -30,6 +30,10 @@ use std::alloc::AllocError;
 /// Puts the edges that begin in the row to their places among its edges. None of the starts, which are in
 /// order, is before the row.
 ///
+/// # Errors
+///
+/// `AllocError`, if an allocation fails.
+///
 /// # Cost
 ///
 /// A search by halving for each edge that begins, and a move of the edges right of the first of them.

@@ -19,6 +19,10 @@ pub struct Reach {
 impl Reach {
     /// Returns how far the shapes of these edges reach.
     ///
+    /// # Errors
+    ///
+    /// `AllocError`, if an allocation fails.
+    ///
     /// # Cost
     ///
     /// A pass over the edges and their owners.

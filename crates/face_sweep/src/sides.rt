@@ -65,6 +65,10 @@ impl Sides {
     /// Returns the sides of the edge of this number. Of the edges of its row those before `left` are left of
     /// it, and those from `right` on, whose sides are all known, are right of it.
     ///
+    /// # Errors
+    ///
+    /// `AllocError`, if an allocation fails.
+    ///
     /// # Cost
     ///
     /// Of each owner the next edge to the right that lists it is sought, edge by edge, as far as its shape

@@ -37,6 +37,10 @@ impl Start {
 
 /// Returns where the edges begin that do so in the band, in order.
 ///
+/// # Errors
+///
+/// `AllocError`, if an allocation fails.
+///
 /// # Cost
 ///
 /// A pass over the edges, and a sort of those that begin in the band.

@@ -1,7 +1,7 @@
-//! Tests of faces and operations, by their public calls alone.
+//! Tests of rounding, faces and operations, by their public calls alone.
 //!
-//! A crate with tests is proved twice, with them and without, so they stand in a crate of their own. Nothing
-//! stands on it.
+//! A crate with tests is proved twice, with them and without, so they are in a crate of their own.
+//! Nothing depends on it.
 #![tactic(auto)]
 
 #[cfg(test)]

@@ -18,6 +18,10 @@ const TOO_LONG: &[u8] =
 
 /// What is reported to a person of a fault of the CIF text of this job.
 ///
+/// # Errors
+///
+/// `NoMemory`, if an allocation fails.
+///
 /// # Cost
 ///
 /// A pass over the text before the fault.
@@ -31,6 +35,10 @@ pub fn of_cif_fault(alloc: Global, job: &[u8], fault: CifFault) -> Result<Vec<u8
 
 /// What is reported to a person of a fault of this job on the line of this number, counted from 1. A job
 /// that is too long has it on line 0.
+///
+/// # Errors
+///
+/// `NoMemory`, if an allocation fails.
 ///
 /// # Cost
 ///

@@ -1,27 +1,38 @@
-//! What a job is, by its lines, apart from how it is read.
+//! Laws of jobs and replies: what a job is, apart from how it is read, and that lines tell what
+//! they were written for.
 //!
-//! A job is lines, each of its kind, in the order that the format gives: lines without words, the line
-//! `%cif`, the lines of the text, the lines of each session, and those of the order. This is a relation
-//! between bytes and a job. Reading takes a text for a job exactly where the relation holds: what is read
-//! is related to the job that it is read as, and what is related to a job is read as that job.
-//! `jobs_are_their_lines` does nothing: it carries the law.
+//! Nothing of this runs: functions with an empty body carry the laws.
 //!
-//! # Bytes are cut into lines and words, and step lines tell steps
+//! # Jobs
 //!
-//! A job says each step of a session on a line of its own. The line that is written for a step, its name
-//! and what it takes with a space between words, says that step and no other: it reads as the step, so two
-//! steps of one line are the same. And what lines and words are is said by a relation, apart from how they
-//! are cut: the bytes are their lines, and no others, and so are the words of a line. Which step the words
-//! say is a relation too, a table of step lines. `lines_tell_steps`, `lines_and_words_are_cut` and
-//! `steps_are_said` do nothing: they carry the laws.
+//! - [`jobs_are_their_lines`] (`specs/JobLines.antt`): a job is lines, each of its kind, in the
+//!   order that the format gives: lines without words, the line `%cif`, the lines of the text, the
+//!   lines of each session, and those of the order. This is a relation between bytes and a job.
+//!   What is read is related to the job that it is read as, and what is related to a job, and not
+//!   too long, is read as that job.
+//! - [`lines_and_words_are_cut`] (`specs/Cuts.antt`): the bytes are cut into lines after each
+//!   newline, and lines into words at spaces and tabs, and in no other way.
 //!
-//! # Lines of replies tell the replies, and lines of an order tell the order
+//! # Steps
 //!
-//! The program answers each step on a line of its own: the session, the number of the step, and the answer
-//! in words. Each of these lines tells the session, the step and the answer, but for the name of a
-//! transaction that was committed. After the replies the order of the steps is printed, and the numbers
-//! in its lines are the order. `lines_tell_replies` and `lines_tell_the_order` do nothing: they carry the
-//! laws.
+//! - [`steps_are_said`] (`specs/Steps.antt`): the words of a line are read as a step exactly where
+//!   they say it by the table of step lines.
+//! - [`lines_tell_steps`] (`specs/Written.antt`): the line that is written for a step, its name and
+//!   what it takes with a space between words, says that step, for each step whose numbers a line
+//!   can have. So steps of the same line are the same.
+//!
+//! # Replies
+//!
+//! - [`lines_tell_replies`] (`specs/Told.antt`): the line of a reply tells the session, the step
+//!   and the answer, for each reply whose numbers a line can have, but for the name of a
+//!   transaction that was committed.
+//! - [`lines_tell_the_order`] (`specs/Numbers.antt`): the numbers in the lines of an order are the
+//!   order.
+//!
+//! # Files
+//!
+//! - `laws.rt`, `line_laws.rt`, `reply_laws.rt`: of jobs, of lines and steps, and of replies. They
+//!   are stated in `specs/Laws.antt`, `specs/LineLaws.antt` and `specs/ReplyLaws.antt`.
 #![tactic(auto)]
 
 mod laws;

@@ -1,4 +1,9 @@
 -- Jobs: a CIF text between the line `%cif` and the first section, the steps of the sessions, and the order of the steps.
+-- Source: this project's own.
+-- Checked on, with a slash for each newline: examples/first-run.job; `%cif x` names line 1;
+-- `%cif/E/%order/1/` names line 3; `%cif/E/%sessions/` names line 3; a line ` %session 1` with a
+-- blank before it belongs to the CIF text; with two steps of session 1 and none of session 2,
+-- `%order/1 x 1/` names the second of these lines, `%order/x/1 2/` the first.
 use Rattle.std.specs.Prelude.{ℕ, ◌+◌, List, [], ◌∷◌, ◌++◌, codes, length, count_by, replicate, Bool, true, false, ◌&&◌, ◌==◌}
 use Rattle.std.specs.Prelude.{nat_eq, nat_lt, if◌then◌else◌, unwrap_or, Option, None, Some, Result, Ok, Err}
 use Rattle.std.specs.List.{list_all}

@@ -1,4 +1,6 @@
 -- Lines of a live run: a step of a session, or the word that asks for the layout.
+-- Source: this project's own.
+-- Checked on: each job of tests/jobs, its steps sent one by one.
 use Rattle.std.specs.Prelude.{ℕ, List, [], ◌∷◌, ◌++◌, codes, decimal, ◌&&◌, ◌==◌, if◌then◌else◌, Option, None, Some}
 use Rattle.std.specs.Str.{bytes_eq}
 use Rattle.session_steps.specs.declared.Step.{Step as StepOf}

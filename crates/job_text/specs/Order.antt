@@ -1,4 +1,8 @@
 -- The order in which the sessions' steps ran, as far as the log of the book has it.
+-- Source: this project's own.
+-- Checked on: the eight steps of examples/first-run.job, in the order 1 2 1 2 1 2 1 1, are
+-- `(order 1 2 1 1 2 2 1 1);`, since its session 2 draws, unlogged, before session 1 commits;
+-- sixteen numbers are one line, seventeen are two.
 use Rattle.std.specs.Prelude.{ℕ, zero, suc, ◌+◌, ◌-◌, ◌%◌, List, [], ◌∷◌, ◌++◌, codes}
 use Rattle.std.specs.Prelude.{decimal, drop, length, replicate, Bool, true, false, ◌||◌, ◌==◌}
 use Rattle.std.specs.Prelude.{if◌then◌else◌, option_map, slice_get, slice_index, slice_set, unwrap_or}

@@ -1,4 +1,7 @@
 -- Replies as CIF comments, one a line: the session, the number of the step, and the answer in words.
+-- Source: this project's own.
+-- Checked on: `(1 1 opened 1);`, `(1 2 made 1.1.1);`, `(1 3 committed);`, `(1 4 undone);`, and
+-- `(1 7 fault 23 Depends 2.1);` of tests/jobs/a-scan.job.
 use Rattle.std.specs.Prelude.{ℕ, ◌+◌, ◌-◌, List, [], ◌∷◌, ◌++◌, codes, decimal, if◌then◌else◌}
 use Rattle.byte_io.specs.Decimal.{spaced_pair}
 use Rattle.lay_cells.specs.declared.cell_id.CellId.{CellId}

@@ -1,4 +1,6 @@
 -- Step lines: a word that names the step, and the words that it takes.
+-- Source: this project's own.
+-- Checked on: `box top M 0 0 1` and `box top M 0 0 1 1 1` are faults, and so is `open x`.
 use Rattle.std.specs.Prelude.{ℕ, List, [], ◌∷◌, ◌++◌, codes, Bool, if◌then◌else◌, Option, None, Some, option_map, ℤ}
 use Rattle.std.specs.Str.{bytes_eq}
 use Rattle.face_rows.specs.declared.op.Op.{Op}

@@ -1,34 +1,41 @@
 //! Jobs as they are read, and replies as they are written.
 //!
-//! A job is lines: `%cif` and a CIF text, then `%session 1`, `%session 2` and so on, each with a step a
-//! line, and at last `%order` and the sessions in the order of their steps. [`Job::read`] gives the text,
-//! the steps of each session and their order, or the number of the first line with a fault. [`print`] puts
-//! a comment for each reply, and an order of the steps in which they are answered alike, which [`order_of`]
-//! makes from the log of a book. They go to the device piece by piece and take no memory: [`put_comments`] is
-//! the same without a fault for it. [`comments`] gives their text instead.
+//! A job is lines: `%cif` and a CIF text, then `%session 1`, `%session 2` and so on, each with a
+//! step a line, and at last `%order` and the sessions in the order of their steps. A reply is a
+//! comment of CIF, a line of its own. This crate knows the types of steps, replies and logs, and
+//! runs nothing.
 //!
-//! A live run has its steps in lines `SESSION STEP`, which come one at a time: [`live_line`] says what a line
-//! asks for, and [`reply_line`] and [`odd_line`] give the comments that answer it.
+//! # Model
 //!
-//! Which job the bytes are is `specs/Job.antt`, on the lines of `byte_io/specs/Lines.antt`, their words of
-//! `specs/Words.antt` and the steps of `specs/Steps.antt`; the comments are `specs/Replies.antt` and
-//! `specs/Order.antt`. Contracts see a job as the record of its text's bytes, its
-//! scripts and its order.
+//! - [`Job`] is the bytes of its CIF text, lent, the steps of each session and the order of the
+//!   sessions. Contracts see the record of these three (`job_of` of `specs/Job.antt`).
+//!   [`Job::read`] gives the job, or the number of the first line with a fault ([`JobFault`]); a
+//!   job above [`MAX_JOB`] bytes is refused as line 0, before anything else.
+//! - [`order_of`] makes, from the log of a book, an order of the steps in which they are answered
+//!   alike (`specs/Order.antt`).
+//! - [`put_comments`] puts a comment for each reply, and the order, to a device, piece by piece and
+//!   without memory. [`print`] is the same with the fault of a writer, and [`comments`] gives the
+//!   text instead (`specs/Replies.antt`).
+//! - A live run has its steps in lines `SESSION STEP`, one at a time. [`live_line`] says what a
+//!   line asks for ([`LiveLine`]), and [`reply_line`] and [`odd_line`] give the comments that
+//!   answer it (`specs/Live.antt`).
+//!
+//! # Files
+//!
+//! - `job.rt`, `scripts.rt`, `order_section.rt`: the sections of a job.
+//! - `text.rt`: where its CIF text ends (`specs/Text.antt`).
+//! - `words.rt`, `fields.rt`, `step_line.rt`: words of a line, parted by spaces and tabs
+//!   (`specs/Words.antt`), and the steps that they say (`specs/Steps.antt`). Lines are those of
+//!   `byte_io/specs/Lines.antt`.
+//! - `reply_text.rt`, `printing.rt`, `order.rt`, `text_out.rt`: what is written.
+//! - `live.rt`: lines of a live run.
+//!
+//! # Example
 //!
 //! ```text
 //! let job = Job::read(alloc, b"%cif\nE\n%session 1\nopen\n")?;
 //! assert_eq!(rt; job.order.as_slice(), [1].as_slice());
 //! ```
-//!
-//! # Lines of jobs: which words a line has and what they spell, and how replies are put into lines
-//!
-//! A line ends at a newline or at the end of the text (`byte_io/specs/Lines.antt`), and its words are parted by blanks
-//! (`specs/Words.antt`). Each reply is a comment of CIF, a line of its own
-//! (`specs/Replies.antt`): [`put_reply`] writes one to a device, piece by piece and without memory.
-//! [`TextOut`] is a device that keeps the text. [`split_text`] finds where the CIF text of a job ends
-//! (`specs/Text.antt`).
-//!
-//! `job_text` reads jobs and prints runs.
 #![tactic(auto)]
 
 mod fields;
@@ -48,6 +55,3 @@ pub use job::{Job, JobFault, MAX_JOB};
 pub use live::{LiveLine, live_line, odd_line, reply_line};
 pub use order::order_of;
 pub use printing::{comments, print, put_comments};
-pub use reply_text::{put_replies, put_reply};
-pub use text::{Place, split_text};
-pub use text_out::TextOut;

@@ -30,6 +30,10 @@ pub enum LiveLine {
 }
 
 /// Returns what the line says: nothing, `SESSION STEP` with a step as in a job, or `%write`.
+///
+/// # Errors
+///
+/// `NoMemory`, if an allocation fails.
 #[tactic(auto, unfolding(crate::specs::Live::live_line))]
 pub fn live_line(alloc: Global, line: &[u8]) -> Result<LiveLine, NoMemory>
     ensures { IsAnswer (record {}) result (Ok (live_line (words_of line.now))) }
@@ -57,6 +61,10 @@ fn step_line(alloc: Global, session: u8, line: &[u8]) -> Result<LiveLine, NoMemo
 }
 
 /// Returns the comment that answers a step of a session with this reply.
+///
+/// # Errors
+///
+/// `NoMemory`, if an allocation fails.
 pub fn reply_line(alloc: Global, session: u8, step: u64, reply: &Reply) -> Result<Vec<u8>, NoMemory>
     ensures { IfOk result (λ line. line.items ≡ reply_text session step reply.now) }
 {
@@ -68,6 +76,10 @@ pub fn reply_line(alloc: Global, session: u8, step: u64, reply: &Reply) -> Resul
 }
 
 /// Returns the comment that says that the line of this number, counted from 1, is odd.
+///
+/// # Errors
+///
+/// `NoMemory`, if an allocation fails.
 #[tactic(auto, unfolding(crate::specs::Live::odd_text))]
 pub fn odd_line(alloc: Global, number: u64) -> Result<Vec<u8>, NoMemory>
     ensures { IfOk result (λ line. line.items ≡ odd_text number) }

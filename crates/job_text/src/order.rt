@@ -32,6 +32,10 @@ const SESSIONS: usize = 256;
 /// logged call its session's number, once for each step up to and with the call's; then the steps that
 /// are left, session by session. The first of the sessions is session 1.
 ///
+/// # Errors
+///
+/// `NoMemory`, if an allocation fails.
+///
 /// # Cost
 ///
 /// A pass over the log and the replies.

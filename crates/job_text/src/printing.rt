@@ -16,6 +16,10 @@ use std::alloc::Global;
 /// Writes the replies to the steps of the sessions, session by session, and the order, as comments. At `Device` a
 /// prefix of the comments was written. The allocator has no use.
 ///
+/// # Errors
+///
+/// `Device` at the first failure of the device; a prefix of the comments was written then.
+///
 /// # Cost
 ///
 /// A pass over the replies and the order.
@@ -41,6 +45,10 @@ pub fn print<O: Out>(
 /// Writes the lines of the replies to the steps of the sessions, session by session, and those of the order, piece by
 /// piece. It takes no memory.
 ///
+/// # Errors
+///
+/// `OutFault` at the first failure of the device; a prefix of the comments was written then.
+///
 /// # Cost
 ///
 /// A pass over the replies and the order.
@@ -63,6 +71,10 @@ pub fn put_comments<O: Out>(
 }
 
 /// Returns the lines of the replies to the steps of the sessions, session by session, and those of the order.
+///
+/// # Errors
+///
+/// `NoMemory`, if an allocation fails.
 ///
 /// # Cost
 ///

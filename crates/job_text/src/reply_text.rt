@@ -37,7 +37,7 @@ use undo_rules::BookFault;
 /// # Cost
 ///
 /// A pass over the replies, and over the points of the shapes that they show.
-pub fn put_replies<O: Out>(out: &mut O, buffer: &mut OutBuffer, sessions: &[Sequence<Reply>])
+pub(crate) fn put_replies<O: Out>(out: &mut O, buffer: &mut OutBuffer, sessions: &[Sequence<Reply>])
     ensures { Buffered O.written O.failures out.old buffer.old out.new buffer.new
         (replies_text sessions.now) }
 {
@@ -65,7 +65,7 @@ fn put_session<O: Out>(out: &mut O, buffer: &mut OutBuffer, session: u64, replie
 /// # Cost
 ///
 /// Of a look a pass over the shape's points.
-pub fn put_reply<O: Out>(
+pub(crate) fn put_reply<O: Out>(
     out: &mut O,
     buffer: &mut OutBuffer,
     session: u64,

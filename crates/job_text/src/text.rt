@@ -1,4 +1,8 @@
 //! Where the CIF text of a job ends.
+//!
+//! A section's line begins with `%`, and most texts have none. So `memchr` finds the next `%`, and
+//! only the line that begins there is tested for a section; else the search goes on after that
+//! line.
 ghost use Rattle.std.specs.Prelude.{◌≡◌, ℕ, ◌+◌, ◌<◌, ◌≤◌, ◌==◌, ◌^◌, count_by, drop, length, take};
 ghost use Rattle.byte_io.specs.Lines.{lines};
 ghost use Rattle.job_text.specs.Text.{are_whole, is_section, sections_of, text_of};
@@ -14,7 +18,7 @@ pub type Place<'a> = (u32, &'a [u8]);
 /// # Cost
 ///
 /// A few passes over the text.
-pub fn split_text(number: u32, bytes: &[u8]) -> (&[u8], Place<'_>)
+pub(crate) fn split_text(number: u32, bytes: &[u8]) -> (&[u8], Place<'_>)
     requires { number + length bytes.now < 2 ^ 32 }
     ensures text { result.0.now ≡ text_of (lines bytes.now) }
     ensures sections { (result.1.0, lines result.1.1.now) ≡ sections_of number (lines bytes.now) }

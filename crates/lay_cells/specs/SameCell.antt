@@ -1,4 +1,5 @@
 -- Equality of cells: the test, and that it decides. What an `==` answers is such a test.
+-- Checked on: Top and symbol 0 are different cells.
 use Rattle.std.specs.Prelude.{◌≡◌, ◌==◌, Bool, true, false, refl}
 use Rattle.std.specs.Bool.{Decides}
 use Rattle.std.proofs.Common.{ap}

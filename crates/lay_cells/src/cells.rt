@@ -44,6 +44,10 @@ impl Cells {
 
     /// Adds the symbol of this number behind the others, and returns whether it was new.
     ///
+    /// # Errors
+    ///
+    /// `NoMemory`, if an allocation fails; nothing is changed then.
+    ///
     /// # Cost
     ///
     /// That of an insertion in a hash table.

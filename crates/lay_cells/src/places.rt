@@ -49,7 +49,7 @@ impl Mark {
 /// Returns a place for each position: that of a caller is before that of what it calls, or the same where
 /// calls lead back. It is Tarjan's search for strong components, which looks at each cell and each of the
 /// calls once or twice. The clause leaves the places open, since the caller tests them.
-pub fn callers_first(
+pub(crate) fn callers_first(
     alloc: Global,
     rows: &Vec<Vec<usize>>,
     calls: usize,
@@ -74,7 +74,7 @@ pub fn callers_first(
 /// # Cost
 ///
 /// That of `callers_first`, and a sort of the positions.
-pub fn callees_first(
+pub(crate) fn callees_first(
     alloc: Global,
     rows: &Vec<Vec<usize>>,
     calls: usize,

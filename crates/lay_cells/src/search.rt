@@ -8,7 +8,11 @@ use std::alloc::Global;
 
 /// Returns for each position whether a path of the rows leads there from `start`. Each position is pending
 /// at most once.
-pub fn reached(alloc: Global, rows: &Vec<Vec<usize>>, start: usize) -> Result<Vec<bool>, NoMemory>
+pub(crate) fn reached(
+    alloc: Global,
+    rows: &Vec<Vec<usize>>,
+    start: usize,
+) -> Result<Vec<bool>, NoMemory>
     requires start { start < length (rows_of rows.now.items) }
     requires within { AreWithin (rows_of rows.now.items) }
     ensures { IfOk result (λ marks. AreReached (rows_of rows.now.items) start marks.items) }

@@ -55,6 +55,10 @@ impl Tally {
 
 /// Returns the tally of the cell at `start`. The order has all positions. Where each stands behind those of
 /// the cells that it calls, each call is looked at once; else again in each round.
+///
+/// # Errors
+///
+/// `NoMemory`, if an allocation fails.
 pub fn tallied(
     alloc: Global,
     rows: &Vec<Vec<usize>>,

@@ -1,5 +1,8 @@
 -- Where the walks of a layout's calls end, and what they do to the points there.
 -- Source: Caltech Intermediate Form 2.0, calls of symbols: what a symbol holds is transformed as its call says.
+-- Checked on: `DS 1; L A; P 0 0 2 0 0 1; DF; DS 2; C 1 M X T 10 0; DF; C 2 R 0 1; C 1; E` has the
+-- points (0,0), (4,0), (0,2) twice below Top: first turned to (0,20), (0,16), (-2,20), then not
+-- turned.
 use Rattle.std.specs.Prelude.{ℕ, zero, suc, List, [], ◌∷◌, Option, None, Some, flat_map, if◌then◌else◌, length}
 use Rattle.lay_point.specs.declared.turn.Turn.{Turn}
 use Rattle.lay_point.specs.Points.{is_in_range}

@@ -16,6 +16,11 @@ use std::alloc::Global;
 /// order of their ids, then what its calls lead to, in order of theirs. Of more than one layer, `Walks` has
 /// the walks made once.
 ///
+/// # Errors
+///
+/// `NoCell`, `TooDeep`, `TooMany` (walks, then rings) and `OutOfRange`, tested in this order; `NoMemory` in place of all
+/// but `NoCell`, if an allocation fails.
+///
 /// # Cost
 ///
 /// That of `Walks::from` and of one `layer`.

@@ -1,4 +1,7 @@
 //! The calls of the cells that a cell leads to, as a graph. What stands in other cells isn't looked at.
+//!
+//! The calls are in the order of the search, and not of the layout. Depth and number of walks don't
+//! depend on it.
 ghost use Rattle.std.specs.Prelude.{◌≡◌, [], ◌++◌, IfOk, IsTrue, OnOk, length, map};
 ghost use Rattle.lay_cells.specs.Symbols.{has_cell};
 ghost use Rattle.lay_cells.specs.Tallies.{counted};

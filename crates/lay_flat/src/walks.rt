@@ -49,6 +49,11 @@ impl<'s> Walks<'s> {
     /// Returns the walks from a cell, or the first of `NoCell`, `TooDeep` and `TooMany` of walks that holds.
     /// A turn that is out of range is refused by `layer`, after too many rings.
     ///
+    /// # Errors
+    ///
+    /// `NoCell`, `TooDeep` and `TooMany` of walks, tested in this order; `NoMemory` in place of all but `NoCell`, if an
+    /// allocation fails.
+    ///
     /// # Cost
     ///
     /// The items of each cell that the cell leads to are gone over once, for its calls, however many walks end
@@ -78,6 +83,11 @@ impl<'s> Walks<'s> {
 
     /// Returns all rings on a layer at the ends of the walks. A cell's own shapes come first, in order of
     /// their ids, then what its calls lead to, in order of theirs.
+    ///
+    /// # Errors
+    ///
+    /// `TooMany`, if there are more than `MAX_RINGS` rings, then `OutOfRange`, if a walk's turn or a turned point is out of
+    /// range; `NoMemory`, if an allocation fails.
     ///
     /// # Cost
     ///

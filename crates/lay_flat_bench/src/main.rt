@@ -1,5 +1,6 @@
-//! The program `lay_flat_bench`: reads layouts from standard input, flattens each below its symbol 1, and
-//! prints how many rings come of it, or why none do. `bench/run` times it; nothing stands on it.
+//! The program `lay_flat_bench`: reads layouts from standard input, flattens each below its symbol
+//! 1, and prints how many rings come of it, or why none do. `bench/run` times it; nothing depends
+//! on it.
 //!
 //! A line is the CIF text of a layout. The layer is `A`.
 #![tactic(auto)]

@@ -1,4 +1,6 @@
 //! Items that come in order of their ids.
+//!
+//! `push` and `Beginnings::take` are inlined, so that an item is moved straight into its page.
 ghost use Rattle.std.specs.Prelude.{◌≡◌, ◌++◌, [], ◌∷◌, IfOk, OnOk};
 ghost use Rattle.std.specs.List.Sorted.{IsStrictlySortedBy};
 ghost use Rattle.std.specs.Map.{keys_of};
@@ -49,6 +51,10 @@ impl ItemsBuilder {
 
     // Inlined, so that an item is made where it stays.
     /// Puts an item after them, under its id. Where memory runs out, items may be lost.
+    ///
+    /// # Errors
+    ///
+    /// `NoMemory`, if an allocation fails.
     #[inline(always)]
     pub fn push(&mut self, alloc: Global, id: ItemId, item: Item) -> Result<(), NoMemory>
         ensures { OnOk result (self.new ≡ self.old ++ ((id, item) ∷ [])) }
@@ -64,6 +70,10 @@ impl ItemsBuilder {
     }
 
     /// Returns the pages of the items, and where their runs begin.
+    ///
+    /// # Errors
+    ///
+    /// `NoMemory`, if an allocation fails.
     ///
     /// # Cost
     ///

@@ -1,4 +1,8 @@
 //! The groups that items are of.
+//!
+//! A layer's tag is a `u32` made of its name, so marks are compared as numbers, of 4 bytes where a
+//! name has 17. Names that share a tag are in one group, and then the names themselves are
+//! compared.
 ghost use Rattle.std.specs.Prelude.{◌≡◌};
 ghost use Rattle.lay_items.specs.Runs.{
   begins,

@@ -1,13 +1,53 @@
-//! Items of a layout, versions of a layout, and snapshots that lend what they hold.
+//! Versions and snapshots of a layout: they lend what they hold, and share what didn't change.
 //!
-//! A `Version` is a layout: a finite map from item ids to items, and one from symbol numbers to
-//! slots. Contracts see it as the record `Layout` of `lay_layouts/specs/Layout.antt`, however it is kept. It also
-//! keeps in its type the symbols' numbers in the order of their slots. A `Snapshot` owns a shared version
-//! and keeps in its type that the layout is sound: symbols have numbers within the limit and places of
-//! their own; each item stands in a cell that is there; each shape is drawn by rings, with a bridged path
-//! no longer than a ring; each call is of a symbol that is there, with a shift in range; and no symbol
-//! contains itself. What it lends is of the layout as it was when the snapshot was taken, whatever came
-//! after.
+//! What a snapshot lends is of the layout as it was when the snapshot was taken, whatever came
+//! after. Nothing here knows of a file format: a reader's crate gives the items of a text one after
+//! another, as `cif_layout` does.
+//!
+//! # Model
+//!
+//! - [`Version`] is kept as an `Arc` of a map of symbols and one of a map of items. Contracts see
+//!   the record `Layout` of `lay_layouts/specs/Layout.antt`, however it is kept.
+//! - [`Snapshot`] is kept as an `Arc` of a version. Contracts see its `Layout`. Sharing it copies
+//!   nothing.
+//! - The map of items (`item_map.rt`) is kept as pages of items in order of the ids, and pages of
+//!   the marks of their runs, by cell and by cell and layer. Contracts see the finite map from ids
+//!   to items.
+//! - [`NumberedItems`] takes the items of a text: pages under their ids, the last of which grows,
+//!   and a count. Contracts see the list of its items; where memory runs out, some may be lost.
+//! - [`Entries`] lends all items, and the iterators of [`Snapshot::items`], [`Snapshot::shapes`]
+//!   and [`Snapshot::calls`] those of a cell, its shapes on a layer and its calls, in order of
+//!   their ids: these are kept as the pages of items, the marks of runs, a group, and what is left
+//!   of the items from its run on. Contracts see the list of those that are left
+//!   (`lay_layouts/specs/Lent.antt`).
+//!
+//! A run is items that follow each other and are of one group: a cell's items, its shapes on layers
+//! of a tag, or its calls. A [`Mark`] says where a run begins; marks are in order of group and id.
+//! A group's items are read run by run: from a mark on up to the first item of another group, which
+//! is the only other item that is read, then from the group's next mark on.
+//!
+//! # Invariants
+//!
+//! - `Snapshot`: the layout is sound (`IsSound` of `lay_layouts/specs/Sound.antt`).
+//!   [`Snapshot::of`] requires it of the version; it isn't tested at run time.
+//! - The map of items: items are in order of their ids; each item that begins a run has a mark, and
+//!   each mark is that of an item, with its group (`AreHeld` of `specs/Runs.antt`). An item that no
+//!   longer begins a run may keep its mark.
+//! - `NumberedItems`: its q-th item has the id 0.0.q, and its count is that of all (`AreNumbered`
+//!   of `specs/Numbered.antt`).
+//! - What an iterator of a group has left is the end of all items, which are in order and marked
+//!   (`AreLent` of `specs/Runs.antt`).
+//!
+//! # Files
+//!
+//! - `version.rt`, `snapshot.rt`, `item_map.rt`: layouts. A write makes anew the pages that it
+//!   falls in, of items, and of marks where runs begin or end by it; more writes than one in
+//!   thirty-two of the items go into them in one pass (`entries.rt`, `specs/Entries.antt`).
+//! - `builder.rt`, `numbered.rt`, `beginnings.rt`: items that come one after another, and their
+//!   marks.
+//! - `iter.rt`: what is lent; `group.rt`, `marks.rt`, `runs.rt`: groups, marks and runs.
+//!
+//! # Example
 //!
 //! ```text
 //! let mut items = NumberedItems::new(alloc);
@@ -15,24 +55,6 @@
 //! let snapshot = Snapshot::of(alloc, Version::of_numbered(alloc, &symbols, items)?)?;
 //! for (id, item) in snapshot.items(CellId::Top) { .. }
 //! ```
-//!
-//! Nothing here knows of a file format: a reader's crate gives the items of a text one after another
-//! ([`NumberedItems`]), as `cif_layout` does. Many writes at once go into the items in one pass
-//! (`specs/Entries.antt`).
-//!
-//! # The items of a cell, of a layer in it, and its calls, in order of their ids
-//!
-//! Items stand in order of their ids. Those that follow each other and are of one group are a run: a group is a
-//! cell's items, its shapes on layers of a tag, or its calls. A [`Mark`] says where a run begins, and marks are in
-//! order of group and id (`specs/Runs.antt`). So a group's items are read run by run: from a mark on, up to the first
-//! item of another group, then from the group's next mark on. Of other items, one is read for each run. [`Items`]
-//! goes over those of a cell, [`Shapes`] over those of a layer, and [`Calls`] over the calls
-//! (`lay_layouts/specs/Lent.antt`).
-//!
-//! [`ItemsBuilder`] takes items one after another, and makes their pages and the marks of their runs.
-//!
-//! Each item that begins a run has a mark, and each mark is that of an item, with its group. One that no longer
-//! begins a run may keep its mark: where the item before it has gone, nothing else is read or written for it.
 #![tactic(auto)]
 
 mod beginnings;

@@ -1,4 +1,7 @@
 //! Marks of the items that begin runs.
+//!
+//! A mark is a group and an id, not an index, so a write moves no other mark. One that no longer
+//! begins a run may stay: to remove it would take one more search and one more write.
 ghost use Rattle.std.specs.Prelude.{◌≡◌, IfOk, None, Some, option_copied};
 ghost use Rattle.std.specs.FinMap.{find};
 ghost use Rattle.lay_pages.specs.Written.{

@@ -42,6 +42,10 @@ impl NumberedItems {
 
     /// Puts an item after them. More than a `u32` counts are out of memory. Where memory runs out, items may be
     /// lost.
+    ///
+    /// # Errors
+    ///
+    /// `NoMemory`, if an allocation fails.
     pub fn push(&mut self, alloc: Global, item: Item) -> Result<(), NoMemory>
         ensures { OnOk result (self.new ≡ self.old ++ (item ∷ [])) }
     {

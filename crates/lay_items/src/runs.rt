@@ -35,6 +35,10 @@ impl Runs {
 
     /// Returns the runs after a write: under the id is this item from then on, or none.
     ///
+    /// # Errors
+    ///
+    /// `NoMemory`, if an allocation fails.
+    ///
     /// # Cost
     ///
     /// A few searches by halving. Where runs begin or end by the write, that of `Pages::with` once to six times.
@@ -55,6 +59,10 @@ impl Runs {
     }
 
     /// Returns the same runs once more.
+    ///
+    /// # Errors
+    ///
+    /// `NoMemory`, if an allocation fails.
     pub fn share(&self, alloc: Global) -> Result<Runs, NoMemory>
         ensures cells { IfOk result (λ new. new.cells ≡ self.now.cells) }
         ensures layers { IfOk result (λ new. new.layers ≡ self.now.layers) }

@@ -39,6 +39,10 @@ impl Model for Snapshot {
 
 impl Snapshot {
     /// Returns the snapshot of a sound version.
+    ///
+    /// # Errors
+    ///
+    /// `NoMemory`, if an allocation fails.
     pub fn of(alloc: Global, version: Version) -> Result<Snapshot, NoMemory>
         requires { IsSound version }
         ensures { IsAnswer (record {}) result (Ok version) }
@@ -48,6 +52,10 @@ impl Snapshot {
     }
 
     /// Returns one more owner of the same layout. The allocator is not used.
+    ///
+    /// # Errors
+    ///
+    /// `NoMemory`, if an allocation fails.
     pub fn share(&self, _alloc: Global) -> Result<Snapshot, NoMemory>
         ensures { IsAnswer (record {}) result (Ok self.now) }
     {

@@ -43,6 +43,10 @@ impl Model for Version {
 
 impl Version {
     /// Returns the layout without symbols and items.
+    ///
+    /// # Errors
+    ///
+    /// `NoMemory`, if an allocation fails.
     pub fn new(alloc: Global) -> Result<Version, NoMemory>
         ensures { IsAnswer (record {}) result (Ok no_items) }
     {
@@ -53,6 +57,10 @@ impl Version {
 
     /// Returns the layout of these symbols, in this order, and of these items, of which the q-th has the id
     /// 0.0.q. Where there are more symbols or items than a `u32` counts, that is out of memory.
+    ///
+    /// # Errors
+    ///
+    /// `NoMemory`, if an allocation fails.
     ///
     /// # Cost
     ///
@@ -65,6 +73,10 @@ impl Version {
 
     /// Returns the layout of these symbols and of items that have their ids, as `of_parts` does: so who makes items one
     /// after another needn't list them first.
+    ///
+    /// # Errors
+    ///
+    /// `NoMemory`, if an allocation fails.
     ///
     /// # Cost
     ///
@@ -189,6 +201,10 @@ impl Version {
 
     /// Returns the layout after these writes: under an id or a number stands this item or slot from then on,
     /// or none. What isn't written is shared.
+    ///
+    /// # Errors
+    ///
+    /// `NoMemory`, if an allocation fails.
     ///
     /// # Cost
     ///

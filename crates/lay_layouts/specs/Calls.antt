@@ -1,4 +1,7 @@
 -- The calls of a layout.
+-- Source: this project's own.
+-- Checked on: a layout with a shape 0.0.1 and a call 0.0.2 of symbol 9 in symbol 2 has the one call
+-- (symbol 2, 9).
 use Rattle.std.specs.Prelude.{ℕ, List, Option, None, Some}
 use Rattle.std.specs.List.{filter_map}
 use Rattle.std.specs.FinMap as map

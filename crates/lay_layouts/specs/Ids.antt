@@ -1,4 +1,6 @@
 -- The order of item ids.
+-- Source: this project's own.
+-- Checked on: 0.0.2 is before 1.1.1; 1.1.9 is before 1.2.1; 1.2.9 is before 2.1.1.
 use Rattle.std.specs.Prelude.{ℕ, refl}
 use Rattle.std.specs.declared.cmp.Ordering.{Ordering}
 use Rattle.std.specs.Ordering.{nat_cmp, ordering_then}

@@ -1,4 +1,6 @@
 -- Items, and the items of a cell.
+-- Source: this project's own.
+-- Checked on: a layout with 0.0.1 and 1.1.1 in Top has both in this order; symbol 1 has none.
 use Rattle.std.specs.Prelude.{List, filter}
 use Rattle.std.specs.FinMap as map
 use Rattle.lay_cells.specs.declared.cell_id.CellId.{CellId}

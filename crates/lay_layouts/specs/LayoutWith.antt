@@ -1,4 +1,7 @@
 -- The layout of a list of symbols and a list of items.
+-- Source: this project's own.
+-- Checked on: the symbols 9, 2 and two items give 9 the place 1, 2 the place 2, and the items 0.0.1
+-- and 0.0.2.
 use Rattle.std.specs.Prelude.{ℕ, ◌+◌, List, [], ◌∷◌}
 use Rattle.lay_layouts.specs.declared.id.ItemId.{ItemId}
 use Rattle.lay_layouts.specs.declared.item.Item.{Item}

@@ -1,4 +1,7 @@
 -- What is lent of an item and of a cell.
+-- Source: this project's own.
+-- Checked on: of the box `B 5 3 0 0` ring 0 of item 0.0.1 has four points; there is no ring 1, and
+-- none of item 0.0.9.
 use Rattle.std.specs.Prelude.{ℕ, List, Option, None, Some, if◌then◌else◌, option_and_then, slice_get}
 use Rattle.std.specs.List.{filter_map}
 use Rattle.lay_point.specs.declared.point.Point.{Point}

@@ -1,5 +1,8 @@
 -- The order of a layout's symbols: those of a text in the order in which it has them, then those that
 -- transactions made, by number.
+-- Source: this project's own.
+-- Checked on: symbols 9 and 2 at the places 1 and 2 are in the order 9, 2; a made symbol 1 comes
+-- after both.
 use Rattle.std.specs.Prelude.{◌≡◌, ℕ, Bool, true, false, List, map, nat_lt, Option, None, Some}
 use Rattle.std.specs.declared.cmp.Ordering.{Ordering}
 use Rattle.std.specs.Ordering.{nat_cmp, ordering_then}

@@ -1,4 +1,7 @@
 //! Items and their rings.
+//!
+//! Most shapes are boxes. The ring of one is kept in the item, so a copy takes no memory and no
+//! count.
 ghost use Rattle.std.specs.Prelude.{◌≡◌, ◌∷◌, [], IfOk, Ok};
 ghost use Rattle.lay_point.specs.Memory.{IsAnswer};
 ghost use Rattle.lay_layouts.specs.Items.{cell_of};
@@ -36,6 +39,10 @@ impl Model for Rings {
 
 impl Rings {
     /// Returns the rings, to be shared but for a sole one of four points.
+    ///
+    /// # Errors
+    ///
+    /// `NoMemory`, if an allocation fails.
     pub fn new(alloc: Global, mut rings: Vec<Ring>) -> Result<Rings, NoMemory>
         ensures { IsAnswer (record {}) result (Ok rings.items) }
     {
@@ -49,6 +56,10 @@ impl Rings {
     }
 
     /// Returns the ring, to be shared but where it has four points. It needs no list.
+    ///
+    /// # Errors
+    ///
+    /// `NoMemory`, if an allocation fails.
     pub fn one(alloc: Global, ring: Ring) -> Result<Rings, NoMemory>
         ensures { IsAnswer (record {}) result (Ok (ring ∷ [])) }
     {
@@ -138,6 +149,10 @@ impl Item {
 
     /// Returns an equal item. Rings are shared, but for a few points in place, so the allocator is not
     /// used.
+    ///
+    /// # Errors
+    ///
+    /// `NoMemory`, if an allocation fails.
     pub fn copy(&self, _alloc: Global) -> Result<Item, NoMemory>
         ensures { IsAnswer (record {}) result (Ok self.now) }
     {

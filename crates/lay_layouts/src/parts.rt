@@ -62,6 +62,10 @@ fn insert_symbol(
 }
 
 /// Returns the next number, where a `u32` has it.
+///
+/// # Errors
+///
+/// `NoMemory`, if an allocation fails.
 pub fn one_more(number: u32) -> Result<u32, NoMemory>
     ensures { IfOk result (λ next. next ≡ number + 1) }
 {

@@ -64,6 +64,10 @@ impl SymbolMap {
 
     /// Returns the symbols of a text, in this order.
     ///
+    /// # Errors
+    ///
+    /// `NoMemory`, if an allocation fails.
+    ///
     /// # Cost
     ///
     /// A sort of the symbols.
@@ -116,6 +120,10 @@ impl SymbolMap {
     }
 
     /// Returns the symbols after these writes.
+    ///
+    /// # Errors
+    ///
+    /// `NoMemory`, if an allocation fails.
     ///
     /// # Cost
     ///

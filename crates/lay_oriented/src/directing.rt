@@ -37,6 +37,10 @@ enum Step {
 /// It stays too, and is counted, where no such path was found, as where its edges cross, and where that path
 /// would be longer than a ring may be. Calls, symbols and ids stay.
 ///
+/// # Errors
+///
+/// `NoMemory`, if an allocation fails.
+///
 /// # Cost
 ///
 /// That of `orient` for each shape, and a version made anew.

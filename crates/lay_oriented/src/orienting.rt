@@ -30,7 +30,7 @@ pub enum Oriented {
 /// The answer is `No` where no such rings were found, as where edges cross or partly lie on one
 /// another. Each answer is checked before it is given; that there is one for rings whose edges meet at
 /// ends alone is tested, and not proved.
-pub fn orient(alloc: Global, rings: &[Ring]) -> Result<Oriented, NoMemory>
+pub(crate) fn orient(alloc: Global, rings: &[Ring]) -> Result<Oriented, NoMemory>
     ensures { IfOk result (IsOriented rings.now) }
 {
     are_rings(rings);
@@ -77,7 +77,7 @@ fn have_edges(alloc: Global, rings: &[Ring], edges: &[(Point, Point)]) -> Result
 /// # Cost
 ///
 /// A pass over the rings.
-pub fn are_rings(rings: &[Ring])
+pub(crate) fn are_rings(rings: &[Ring])
     ensures { AllByRecursion IsRing rings.now }
 {
     let mut rest = rings;

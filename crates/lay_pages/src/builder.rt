@@ -42,6 +42,10 @@ impl<K: PageKey, V: Kept> PagesBuilder<K, V> {
     }
 
     /// Puts an entry after them. Where that runs out of memory, entries may be lost.
+    ///
+    /// # Errors
+    ///
+    /// `AllocError`, if an allocation fails.
     pub fn push(&mut self, alloc: Global, key: K, value: V) -> Result<(), AllocError>
         ensures { OnOk result (self.new ≡ self.old ++ ((key, value) ∷ [])) }
     {
@@ -59,6 +63,10 @@ impl<K: PageKey, V: Kept> PagesBuilder<K, V> {
     }
 
     /// Returns the map of the entries, in full pages and books but for the last.
+    ///
+    /// # Errors
+    ///
+    /// `AllocError`, if an allocation fails.
     pub fn build(self, alloc: Global) -> Result<Pages<K, V>, AllocError>
         requires { IsStrictlySortedBy K.cmp (keys_of self) }
         ensures { IfOk result (λ pages. pages ≡ self) }

@@ -1,19 +1,38 @@
-//! Entries in order of their keys, in pages that maps share.
+//! Sorted maps that share their pages: a map after a write shares all but what the write changed.
 //!
-//! `Pages` is a map as the list of its entries, in pages of 1 to 64 entries and books of 1 to 64
-//! pages. Each page and each book is shared: a map after a write has a page and a book of its own,
-//! and shares all others with the map before. Contracts see the list of the entries, which is in
-//! order of the keys.
+//! # Model
 //!
-//! # A page of entries, and lists of shared parts
+//! - [`Pages`] is a map as the list of its entries: in pages of 1 to 64 entries, and books of 1 to
+//!   64 pages. Each page, each book and the list of the books is shared. Contracts see the list of
+//!   the entries, in order of their keys.
+//! - [`PagesBuilder`] takes entries one after another, in order of their keys, and makes full pages
+//!   of them. Contracts see the list of the entries so far; where memory runs out, some may be
+//!   lost.
+//! - [`Entries`] lends a map's entries, in order. It is kept as what is left of a page, of its book
+//!   and of the books. Contracts see the list of those that are left.
+//! - [`PageKey`] is a key whose order ties only equal keys, and [`Kept`] a value whose clone is
+//!   equal to it.
 //!
-//! A page has 1 to 64 entries in order of their keys, and a book 1 to 64 pages; each is shared
-//! (`specs/Shared.antt`). `page` finds a key in a page by halving, and makes the page anew after a write
-//! (`specs/Written.antt`). `book_of` and `page_of` say in which a key belongs. `push_parts` puts elements behind
-//! shared lists in parts of up to 64, `spliced` puts them in place of one of the lists, and [`Lists`] makes such
-//! lists in one pass.
+//! A write makes a page, its book and the list of the books anew ([`Pages::with`]): up to 64
+//! entries, 64 pages and one book for some 2,000 to 4,096 entries. [`Pages::share`] copies nothing.
 //!
-//! `lay_pages` has the map that is made of them.
+//! # Invariants
+//!
+//! - `Pages`: keys rise strictly, pages and books have 1 to 64 elements each, and the count is that
+//!   of all entries (`AreCountedBooks` of `specs/Shared.antt`). The empty map has this and each
+//!   write keeps it, so nothing is tested.
+//! - `PagesBuilder`: what it has taken is cut into full lists, and its count is that of all
+//!   (`AreTaken` of `specs/Shared.antt`).
+//!
+//! # Files
+//!
+//! - `pages.rt`, `builder.rt`, `entries.rt`: a type each; `keys.rt`: the traits of keys and values.
+//! - `page.rt`: a page. A key is found in it by halving, and a write makes it anew
+//!   (`specs/Written.antt`).
+//! - `page_place.rt`, `place.rt`: into which book and which page a key falls (`specs/Places.antt`).
+//! - `look.rt`, `beside.rt`: the value under a key, and the entry before it.
+//! - `update.rt`: what a write makes anew; `share.rt` and `lists.rt`: lists of shared lists of up
+//!   to 64, spliced, appended to, or filled in one pass.
 #![tactic(auto)]
 
 mod beside;
@@ -32,8 +51,5 @@ mod update;
 pub use builder::PagesBuilder;
 pub use entries::Entries;
 pub use keys::{Kept, PageKey};
-pub use lists::Lists;
-pub use page::{Book, Page, around};
-pub use page_place::{book_of, page_of};
+pub use page::around;
 pub use pages::Pages;
-pub use share::{push_parts, spliced};

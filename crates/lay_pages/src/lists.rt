@@ -27,6 +27,10 @@ impl<T: Drop> Lists<T> {
     }
 
     /// Puts an element after them. Where that runs out of memory, elements may be lost.
+    ///
+    /// # Errors
+    ///
+    /// `AllocError`, if an allocation fails.
     pub fn push(&mut self, alloc: Global, element: T) -> Result<(), AllocError>
         requires { AreFilled (items_of self.old.lists.items) self.old.last.items }
         ensures elements { OnOk result (filled (items_of self.new.lists.items) self.new.last.items
@@ -55,6 +59,10 @@ impl<T: Drop> Lists<T> {
     }
 
     /// Returns the lists.
+    ///
+    /// # Errors
+    ///
+    /// `AllocError`, if an allocation fails.
     pub fn end(self, alloc: Global) -> Result<Vec<Arc<Vec<T>>>, AllocError>
         requires { AreFilled (items_of self.lists.items) self.last.items }
         ensures elements { IfOk result (λ new. joined (items_of new.items)

@@ -80,6 +80,10 @@ pub fn from<K: PageKey, V>(page: &[(K, V)], key: K) -> &[(K, V)]
 }
 
 /// Returns the page after a write.
+///
+/// # Errors
+///
+/// `AllocError`, if an allocation fails.
 pub fn with<K: PageKey, V: Kept>(
     alloc: Global,
     page: &[(K, V)],

@@ -11,7 +11,7 @@ use crate::page::{Book, Page, first_key};
 use std::cmp::Ordering;
 
 /// Returns the index of the book into which a write falls.
-pub fn book_of<K: PageKey, V: Kept>(books: &[Book<K, V>], key: K) -> usize
+pub(crate) fn book_of<K: PageKey, V: Kept>(books: &[Book<K, V>], key: K) -> usize
     requires some { 0 < length books.now }
     requires books { AreBooks K.cmp (pages_in books.now) }
     ensures { IsPlace K.cmp key (map joined (pages_in books.now)) result }
@@ -29,7 +29,7 @@ pub fn book_of<K: PageKey, V: Kept>(books: &[Book<K, V>], key: K) -> usize
 }
 
 /// Returns the index of the page into which a write falls.
-pub fn page_of<K: PageKey, V: Kept>(pages: &[Page<K, V>], key: K) -> usize
+pub(crate) fn page_of<K: PageKey, V: Kept>(pages: &[Page<K, V>], key: K) -> usize
     requires some { 0 < length pages.now }
     requires sized { AreSized (items_of pages.now) }
     requires sorted { IsStrictlySortedBy K.cmp (keys_of (joined (items_of pages.now))) }

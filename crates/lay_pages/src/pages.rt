@@ -177,6 +177,10 @@ impl<K: PageKey, V: Kept> Pages<K, V> {
 
     /// Returns the entries after a write: under the key is this value from then on, or none.
     ///
+    /// # Errors
+    ///
+    /// `AllocError`, if an allocation fails.
+    ///
     /// # Cost
     ///
     /// Makes a page, a book and the list of the books anew, of up to 64 entries, 64 pages and a book for
@@ -206,6 +210,10 @@ impl<K: PageKey, V: Kept> Pages<K, V> {
 
     /// Returns the entries after these writes, the first of them first.
     ///
+    /// # Errors
+    ///
+    /// `AllocError`, if an allocation fails.
+    ///
     /// # Cost
     ///
     /// That of each write.
@@ -226,6 +234,10 @@ impl<K: PageKey, V: Kept> Pages<K, V> {
     }
 
     /// Returns the same entries once more. The allocator is not used.
+    ///
+    /// # Errors
+    ///
+    /// `AllocError`, if an allocation fails.
     pub fn share(&self, _alloc: Global) -> Result<Pages<K, V>, AllocError>
         ensures entries { IfOk result (λ new. new ≡ self.now) }
         ensures sorted { IfOk result (λ new. IsStrictlySortedBy K.cmp (keys_of new)) }

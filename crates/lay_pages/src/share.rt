@@ -1,4 +1,7 @@
 //! Lists of shared lists: what is put behind them in parts, and in place of one of them.
+//!
+//! Of 65 elements 32 stay in the first part, but 64 where the last one is new: with 64 in each
+//! case, keys that come in falling order would leave a page for each entry.
 ghost use Rattle.std.specs.Prelude.{◌≡◌, ◌++◌, ◌<◌, ◌≤◌, ◌+◌, [], ◌∷◌, IfOk, OnOk, length, take, drop};
 ghost use Rattle.lay_pages.specs.Shared.{items_of, page_parts};
 
@@ -11,7 +14,7 @@ use std::sync::Arc;
 /// # Cost
 ///
 /// A pass over the lists.
-pub fn spliced<T: Drop>(
+pub(crate) fn spliced<T: Drop>(
     alloc: Global,
     lists: &[Arc<Vec<T>>],
     at: usize,
@@ -42,7 +45,7 @@ fn append<T: Drop>(new: &mut Vec<Arc<Vec<T>>>, lists: &[Arc<Vec<T>>]) -> Result<
 
 /// Puts the elements behind the lists, in parts of up to 64: none, one, or two where there are more. The first of
 /// two has 64 where the lists grow at their end, and else 32. Where that runs out of memory, some may be there.
-pub fn push_parts<T: Drop>(
+pub(crate) fn push_parts<T: Drop>(
     alloc: Global,
     lists: &mut Vec<Arc<Vec<T>>>,
     mut elements: Vec<T>,

@@ -2,6 +2,10 @@
 -- It goes round the first ring, and from that ring's first point out to each further one and back; so each of the ways
 -- between rings is gone along twice, and doesn't count by parity. That further ways start at the first ring's first point
 -- is this project's own.
+-- Source: this project's own, for formats in which one polygon draws a shape by parity.
+-- Checked on: the square 0 0, 0 40, 40 40, 40 0 with the hole 10 10, 10 30, 30 30, 30 10 gives 0 0,
+-- 0 40, 40 40, 40 0, 0 0, 10 10, 10 30, 30 30, 30 10, 10 10; with a second ring that starts at 0 0
+-- too, 0 0, 10 20, 20 10, it gives 0 0, 0 40, 40 40, 40 0, 0 0, 10 20, 20 10.
 use Rattle.std.specs.Prelude.{List, [], ◌∷◌, ◌++◌}
 use Rattle.lay_point.specs.declared.point.Point.{Point}
 use Rattle.lay_point.specs.Rings.{closed, without_repeats}

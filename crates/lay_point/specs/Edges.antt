@@ -1,4 +1,5 @@
 -- Undirected edges: pairs of points, the lesser first.
+-- Source: this project's own.
 use Rattle.std.specs.Prelude.{◌≡◌, ◌⊎◌, int_lt, Bool, cond, ◌&&◌, ◌||◌}
 use Rattle.std.specs.Ordering.{int_eq}
 use Rattle.lay_point.specs.declared.point.Point.{Point}

@@ -1,4 +1,7 @@
 -- Running out of memory.
+-- Source: this project's own.
+-- Checked on: reading `E` with ample memory is Ok. The word allows a call that always fails, so
+-- this has to be tested of each call.
 use Rattle.std.specs.Prelude.{◌≡◌, ◌⊎◌, Result, Err}
 
 -- the wanted result, or out of memory in its place

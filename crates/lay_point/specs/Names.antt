@@ -1,5 +1,7 @@
 -- Layer names: 1 to `MAX_LAYER_NAME` digits or upper-case letters of ASCII.
 -- Source: Caltech Intermediate Form 2.0, `L name`, which allows 1 to 4; the limit is this project's own.
+-- Checked on: `A`, `0Z9` and `ABCDEFGHIJKLMNOP` (16) are names; the empty one, `m` and
+-- `ABCDEFGHIJKLMNOPQ` (17) aren't.
 use Rattle.std.specs.Prelude.{ℕ, List, length, Bool, ◌&&◌, ◌||◌, nat_le, Option, None, Some, if◌then◌else◌}
 use Rattle.std.specs.List.{list_all}
 use Rattle.lay_point.specs.declared.layer_name.TheConstants.{MAX_LAYER_NAME}

@@ -1,4 +1,5 @@
 -- How a layer name is kept: its bytes, and zeros behind them up to the limit.
+-- Checked on: `NM` is 78, 77 and fourteen zeros, length 2.
 use Rattle.std.specs.Prelude.{◌≡◌, ℕ, ◌-◌, ◌≤◌, List, ◌++◌, length, take, drop, replicate, IsTrue}
 use Rattle.std.proofs.Common.{arith, ap, sym, ◌∙◌}
 use Rattle.std.proofs.lemmas.List.{length-take-le, take-append-drop}

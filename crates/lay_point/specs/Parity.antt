@@ -2,6 +2,9 @@
 -- closed paths it tells whether the place is inside. A place (x, y) at scale k, with 1 ≤ k, stands for (x / k, y / k).
 -- Source: Shimrat, Algorithm 112: Position of point relative to polygon, 1962. That an edge has its lower end and not its
 -- upper one, so that a level edge is never crossed, and that a place on an edge isn't left of it, are this project's own.
+-- Checked on: of the square from (0,0) to (4,4), (2,2) and (7/2,1/2) are inside, (-1,2) and (2,7)
+-- aren't; (0,2) and (2,0), on its left and lower sides, are, (4,2) and (2,4), on the others,
+-- aren't.
 use Rattle.std.specs.Prelude.{Bool, true, false, not, ◌&&◌, ◌||◌, List, [], ◌∷◌, ℤ, pos, ◌+ℤ◌, ◌-ℤ◌, ◌*ℤ◌, int_le, int_lt}
 use Rattle.lay_point.specs.declared.point.Point.{Point}
 

@@ -1,4 +1,7 @@
 -- Points: the range of their coordinates, and their order.
+-- Source: Caltech Intermediate Form 2.0 has hundredths of a micrometre; the unit of half a
+-- hundredth and the limit are this project's own.
+-- Checked on: 1,073,741,824 and -1,073,741,824 are in range, 1,073,741,825 isn't.
 use Rattle.std.specs.Prelude.{◌≡◌, ◌⊎◌, ℤ, neg_ℤ, ◌<ℤ◌, int_le, Bool, ◌&&◌}
 use Rattle.std.specs.Ordering.{int_eq}
 use Rattle.lay_point.specs.declared.point.Point.{Point}

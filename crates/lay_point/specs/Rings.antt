@@ -1,6 +1,10 @@
 -- Rings: closed paths of points.
 -- Source: Caltech Intermediate Form 2.0, polygons and boxes. A polygon is closed from its last vertex
 -- to its first; that equal neighbours are dropped, and the limits, are this project's own.
+-- Checked on: -5 -3, 5 -3, 5 3, -5 3 is a ring, and the rectangle of (-5,-3) and (5,3). Without
+-- repeats (0,0) (0,0) (4,0) (4,4) (0,0) is (0,0) (4,0) (4,4), and (1,1) (1,1) is (1,1). As rings
+-- two points are FewPoints; three of which one has 1,073,741,825 are OutOfRange; (1073741825,0) and
+-- (0,0) are FewPoints, which is tested first.
 use Rattle.std.specs.Prelude.{◌≢◌, ◌≤◌, List, [], ◌∷◌, ◌++◌, length, not, nat_lt, IsTrue, Result, Ok, Err, if◌then◌else◌}
 use Rattle.std.specs.List.{list_all}
 use Rattle.lay_point.specs.declared.point.Point.{Point}

@@ -1,4 +1,5 @@
 -- Equality of points, names and rings: the tests, and that they decide. What an `==` answers is such a test.
+-- Checked on: two rings with the same points from another start are different.
 use Rattle.std.specs.Prelude.{◌≡◌, ℕ, List, Bool, refl}
 use Rattle.std.specs.Str.{bytes_eq}
 use Rattle.std.specs.Bool.{Decides}

@@ -1,5 +1,7 @@
 -- Turns: maps of points by a mirror, quarter turns and a shift.
 -- Source: Caltech Intermediate Form 2.0, the transformations of a call: `M X`, `R` and `T`, in this order.
+-- Checked on: a mirror and a shift by (20, 0), then one quarter turn, take (0, 0) to (0, 20),
+-- (4, 0) to (0, 16) and (0, 2) to (-2, 20); composed they mirror, turn once and shift by (0, 20).
 use Rattle.std.specs.Prelude.{ℤ, neg_ℤ, pos, ◌+ℤ◌, Bool, false, not, Option, None, Some, if◌then◌else◌}
 use Rattle.lay_point.specs.declared.point.Point.{Point}
 use Rattle.lay_point.specs.declared.turn.Quarter.{Quarter}

@@ -1,4 +1,7 @@
 //! Lists that give their memory back as they are gone through.
+//!
+//! Memory is given back before an element is taken, so that the element moves straight to the
+//! caller.
 ghost use Rattle.std.specs.Prelude.{◌≡◌};
 
 use std::marker::Model;

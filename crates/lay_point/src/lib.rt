@@ -1,30 +1,54 @@
 //! Points, turns, layer names and rings: the words of every layer of the layout database.
 //!
-//! Lengths are in database units of 5 nanometres. A point of a layout has both coordinates in
-//! `-LIMIT..=LIMIT`. A `Ring` is a closed path that keeps in its type that its points are in range,
-//! that there are 3 to `MAX_RING_POINTS` of them, and that no two neighbours, the last and the first
-//! among them, are equal. A `LayerName` keeps that it is 1 to `MAX_LAYER_NAME` digits and upper-case
-//! letters.
-//! Contracts see a ring as the list of its points, a name as the list of its bytes, and a `Sequence`
-//! as the list of its elements. A `Given` lends a list's elements by value and gives their memory back.
-//! Parity says whether a place is inside closed paths: `odd` of
-//! `specs/Parity.antt`, over the edges of `specs/RingEdges.antt`.
+//! Lengths are in database units of 5 nanometres. Parity tells whether a place is inside closed
+//! paths: the half line from it to the right crosses an odd number of their edges (`odd` of
+//! `specs/Parity.antt`, over the edges of `specs/RingEdges.antt`).
 //!
-//! What may allocate takes the allocator and returns `NoMemory`, or that variant of its fault, where an
-//! allocation failed. `IsAnswer` of `specs/Memory.antt` is the word for it in all crates.
+//! # Model
+//!
+//! - [`Point`] is its two coordinates, and [`Turn`] a mirror, quarter turns and a shift, applied in
+//!   this order.
+//! - [`Edge`] is kept as its two ends. Contracts see the pair of them, the lesser first.
+//! - [`Ring`] is kept as four points in place, else as a `Vec`. Contracts see the list of its
+//!   points.
+//! - [`LayerName`] is kept as 16 bytes in place and a length. Contracts see the list of its bytes.
+//! - [`Sequence`] is kept as a `Vec`. Contracts see the list of its elements.
+//! - [`Given`] lends a list's elements by value and gives their memory back as it goes. Contracts
+//!   see the list of those that are left.
+//!
+//! A call that may run out of memory says so in its result: [`NoMemory`], `AllocError`, or the
+//! variant `NoMemory` of its fault. `IsAnswer` of `specs/Memory.antt` says that an answer is the
+//! wanted one, or out of memory in its place.
+//!
+//! # Invariants
+//!
+//! - `Point` keeps nothing: its coordinates are any `i32`. One of a layout has both in
+//!   `-LIMIT..=LIMIT`, which [`Point::is_in_range`] tests; [`Turn::then`] and [`Turn::apply`]
+//!   return `None` outside.
+//! - `Edge`: its ends differ and are in order ([`Edge::new`]).
+//! - `Ring`: 3 to [`MAX_RING_POINTS`] points in range; neighbours differ, the last and the first
+//!   among them (`IsRing` of `specs/Rings.antt`). [`Ring::new`] drops repeats, then tests the rest,
+//!   and names the first fault as a [`RingFault`].
+//! - `LayerName`: 1 to [`MAX_LAYER_NAME`] digits and upper-case letters of ASCII, followed by zeros
+//!   (`IsPadded` of `specs/Padded.antt`), tested by [`LayerName::new`].
+//!
+//! # Files
+//!
+//! - `point.rt`, `turn.rt`, `edge.rt`, `ring.rt`, `layer_name.rt`: a type each.
+//! - `sequence.rt`, `given.rt`, `memory.rt`: lists and failed allocations, for all crates.
+//! - `specs/Bridges.antt`: the one path round all rings of a shape.
+//! - `laws.rt`: [`whole_numbers_have_laws`] does nothing and carries the laws of whole numbers
+//!   without bounds. `proofs/Polynomials.antt` proves an identity of polynomials by computing both
+//!   normal forms; `Products.antt`, `Signs.antt` and `Division.antt` have products, signs and
+//!   rounding.
+//!
+//! # Example
 //!
 //! ```text
 //! let square = [Point { x: 0, y: 0 }, Point { x: 4, y: 0 }, Point { x: 4, y: 4 }, Point { x: 0, y: 4 }];
 //! let ring = Ring::new(alloc, &square)?;
 //! assert_eq!(rt; ring.points(), square.as_slice());
 //! ```
-//!
-//! # Laws of the whole numbers, for the geometry of whole points
-//!
-//! `proofs/Polynomials.antt` proves an identity of polynomials by computing both normal forms, so that
-//! an identity is one term. `Products.antt` has the ring's laws, `Signs.antt` the signs of products and
-//! the cancelling of positive factors, `Division.antt` that each fraction is rounded to a whole number.
-//! Numbers have no bounds here, and nothing of this runs.
 #![tactic(auto)]
 
 mod edge;

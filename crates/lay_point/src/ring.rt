@@ -67,6 +67,11 @@ impl Ring {
     /// Returns the ring of these points. A point that equals the one before it is dropped, then the last
     /// one where it equals the first.
     ///
+    /// # Errors
+    ///
+    /// `FewPoints`, `OutOfRange` and `TooMany`, tested in this order on the points that are left; `NoMemory`, if an
+    /// allocation fails.
+    ///
     /// # Cost
     ///
     /// A pass over the points.
@@ -162,6 +167,10 @@ impl Eq for Ring {
 
 /// Returns the points as a ring keeps them: a point that equals the one before it is dropped, then the
 /// last one where it equals the first.
+///
+/// # Errors
+///
+/// `NoMemory`, if an allocation fails.
 ///
 /// # Cost
 ///

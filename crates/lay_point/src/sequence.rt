@@ -47,6 +47,10 @@ impl<T> Sequence<T> {
 
 impl<T: Drop> Sequence<T> {
     /// Puts an element behind the others.
+    ///
+    /// # Errors
+    ///
+    /// `NoMemory`, if an allocation fails; nothing is changed then.
     pub fn push(&mut self, element: T) -> Result<(), NoMemory>
         ensures ok { OnOk result (self.new ≡ self.old ++ (element ∷ [])) }
         ensures err { OnErr result (self.new ≡ self.old) }

@@ -1,16 +1,38 @@
-//! A live run over devices: the lines of one device, each answered on the other before more is read.
+//! `--live`: a run over devices whose steps come in lines, each answered before more is read.
 //!
-//! An editor that keeps a process sends it a job without scripts, `%cif` and a CIF text, then the line `%live`, and from then
-//! on lines of a live run (`live_run`): `SESSION STEP` or `%write`. [`run_live`] answers each line as soon as its newline has
-//! come, with the reply's comment or the text of the layout as it is then, and at the end of the input with the order of the
-//! steps and the layout. A fault of the job or of its CIF text is no text here but an end of the run, which the caller tells.
+//! An editor that keeps a process sends it a job without scripts, `%cif` and a CIF text, then the
+//! line `%live`, and from then on lines `SESSION STEP` or `%write`. [`run_live`] answers each line
+//! as soon as its newline has come: with the reply's comment, or with the text of the layout as it
+//! is then. A line that is neither is answered by its number, and a blank one not at all; neither
+//! changes anything. At the end of the input come the comments of the order and the layout. So the
+//! replies, the order and the layout at the end are those of a job of the same steps. The run has
+//! 64 sessions.
 //!
-//! Which lines are answered how is `specs/Said.antt`, over `live_run`; how a run ends, by the bytes that the input gave, is
-//! `specs/Ending.antt`. What is said of a failed input is what keeps an answer from waiting for the next line: all lines that
-//! came whole are answered by then.
+//! A fault of the job or of its CIF text isn't written but is an end of the run, [`LiveEnd`], which
+//! the caller reports. At most [`MAX_READS`] reads are made of the input.
 //!
-//! Between two bytes a run is an [`ear::Ear`]: a course, which is the head's lines or the run behind them, and what has come of
-//! the next line (`specs/Course.antt`, `specs/Ear.antt`). It keeps no more of the input than its head and one line.
+//! # Model
+//!
+//! - Between two bytes a run is a course, which is the lines of the head or the run after them, and
+//!   what has come of the next line (`specs/Course.antt`, `specs/Ear.antt`). It keeps no more of
+//!   the input than its head and one line.
+//! - The run after the head is a machine of `session_core`, the sessions and replies of the steps
+//!   so far, and the number of lines. Contracts see these, and what a line is answered, over the
+//!   step function of the machine, is `specs/Live.antt`.
+//! - Which lines are answered how is `specs/Said.antt`; how a run ends, by the bytes that the input
+//!   gave, is `specs/Ending.antt`. What is said of a failed input is what keeps an answer from
+//!   waiting for the next line: all lines that came whole are answered by then.
+//! - [`lines_are_steps`] does nothing and carries the law: the lines so far lead where their steps
+//!   lead as a job, with the same replies (`specs/Laws.antt`).
+//!
+//! # Files
+//!
+//! - `run.rt`: the run from its first byte; `ear.rt`: bytes put together to lines.
+//! - `course.rt`, `base.rt`: head and steps, and the layout of the head (`specs/Cif.antt`).
+//! - `live.rt`: the sessions, and what a line is answered; `put.rt`: the writing of it.
+//! - `ending.rt`: how a run ends.
+//!
+//! # Example
 //!
 //! ```text
 //! match run_live(rt, alloc, &bands, &mut input, &mut out) {
@@ -18,17 +40,6 @@
 //!     ..
 //! }
 //! ```
-//!
-//! # A live run: 64 sessions on the layout of a CIF text, whose steps come in lines, one at a time
-//!
-//! An editor that keeps a process can't wait for the end of a job. [`Live::answer`] takes one line, `SESSION
-//! STEP` or `%write`, and gives at once what answers it: the comment that a job would have for the step, or
-//! that the layout is wanted as it is now. A line that is neither is answered by its number, and changes
-//! nothing. [`Live::end`] gives the comments of the order, and the layout, at the end, so all that was answered is
-//! what a job of the same steps writes, each reply where its step was.
-//!
-//! What a line is answered is `specs/Live.antt`, over the step function of `session_core`; that the lines so
-//! far lead where their steps lead as a job is `lines_are_steps`.
 #![tactic(auto)]
 
 mod base;
@@ -42,5 +53,4 @@ mod run;
 
 pub use ending::LiveEnd;
 pub use laws::lines_are_steps;
-pub use live::{Answer, Live};
 pub use run::{MAX_READS, run_live};

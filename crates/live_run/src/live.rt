@@ -49,6 +49,10 @@ pub struct Live {
 
 impl Live {
     /// Returns a run on this layout, before its first line.
+    ///
+    /// # Errors
+    ///
+    /// `NoMemory`, if an allocation fails.
     pub fn new(alloc: Global, base: Snapshot) -> Result<Live, NoMemory>
         ensures { IfOk result (λ run. run_of run ≡ before_first_line base) }
     {
@@ -70,6 +74,10 @@ impl Live {
 
     /// Returns the run after a line, and what the line is answered. `bands` finds the edges of Booleans. Out
     /// of memory the run is at its end.
+    ///
+    /// # Errors
+    ///
+    /// `NoMemory`, if an allocation fails.
     ///
     /// # Cost
     ///
@@ -97,6 +105,10 @@ impl Live {
     }
 
     /// Returns the comments of the order of the steps, as the log tells it, and the layout at the end.
+    ///
+    /// # Errors
+    ///
+    /// `NoMemory`, if an allocation fails.
     pub fn end(self, alloc: Global) -> Result<(Vec<u8>, Snapshot), NoMemory>
         ensures order { IfOk result (λ r. r.0.items ≡ order_text (order_of self.machine.history.log
             (dealt self.sessions.items self.replies.items (replicate 64 [])))) }

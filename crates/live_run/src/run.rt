@@ -23,7 +23,8 @@ const BUFFER: usize = 16_384;
 ///
 /// # Cost
 ///
-/// Memory grows with the head of the input, with the longest line, and with the run itself (`live_run`).
+/// Memory grows with the head of the input, with the longest line, and with what the run keeps: its
+/// book and the replies.
 pub fn run_live<I: In, O: Out>(
     rt: &(impl Threads + Sync),
     alloc: Global,

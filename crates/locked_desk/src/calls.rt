@@ -30,10 +30,13 @@ use undo_book::CommitRefusal;
 use undo_rules::{Answer, BookFault, Call, Logged};
 
 impl<L: Ledger> Desk<L> {
-    /// Opens the session's next work, on the layout as it then is. Refused as the book refuses it; or, with
-    /// nothing changed, as `Differs` where the log doesn't have the seat's last call at its place, or not as
-    /// many calls of the session. `NoMemory` can stand in place of any answer. Where the base or the number
-    /// of sessions isn't the desk's own, the answer is `Differs` of session 0, the call then being logged.
+    /// Opens the session's next work, on the layout as it then is.
+    ///
+    /// # Errors
+    ///
+    /// `Differs`, with nothing changed, if the log doesn't have the seat's last call at its place, or not as many calls of
+    /// the session; `Book` with the book's refusal; `Differs` of session 0, the call then being logged, if the base or the
+    /// number of sessions isn't the desk's own. `NoMemory` can stand in place of any answer.
     pub fn open<R: Wait>(
         &self,
         rt: &R,
@@ -74,9 +77,12 @@ impl<L: Ledger> Desk<L> {
         }
     }
 
-    /// Commits a work of the seat's session. Refused as the book refuses it, or as `Differs` with nothing
-    /// changed, as in `open`. A work of another session is refused as `Foreign`, after `LogFull`. The work is
-    /// handed back, unless it was stale and has ended.
+    /// Commits a work of the seat's session.
+    ///
+    /// # Errors
+    ///
+    /// `Differs`, with nothing changed, as in `open`; `Book` with the book's refusal, which is `Foreign`, after `LogFull`,
+    /// for a work of another session. The work is handed back, unless it was stale and has ended.
     pub fn commit<R: Wait>(
         &self,
         rt: &R,
@@ -118,8 +124,11 @@ impl<L: Ledger> Desk<L> {
         commit_by_book(result)
     }
 
-    /// Undoes a committed transaction, of any session. Refused as the book refuses it, or as `Differs` with
-    /// nothing changed, as in `open`.
+    /// Undoes a committed transaction, of any session.
+    ///
+    /// # Errors
+    ///
+    /// `Differs`, with nothing changed, as in `open`; `Book` with the book's refusal.
     pub fn undo<R: Wait>(
         &self,
         rt: &R,
@@ -133,8 +142,11 @@ impl<L: Ledger> Desk<L> {
         self.change(rt, alloc, seat, Way::Back, txn)
     }
 
-    /// Redoes an undone transaction, of any session. Refused as the book refuses it, or as `Differs` with
-    /// nothing changed, as in `open`.
+    /// Redoes an undone transaction, of any session.
+    ///
+    /// # Errors
+    ///
+    /// `Differs`, with nothing changed, as in `open`; `Book` with the book's refusal.
     pub fn redo<R: Wait>(
         &self,
         rt: &R,

@@ -54,8 +54,12 @@ pub enum CloseRefusal<L: Ledger> {
 }
 
 impl<L: Ledger> Desk<L> {
-    /// Ends the desk with all its seats. Refused as `MissingSeat` where a session has none, and as `Differs`
-    /// where the log doesn't have a call of a seat, or the book not the desk's base. All is handed back.
+    /// Ends the desk with all its seats.
+    ///
+    /// # Errors
+    ///
+    /// `MissingSeat`, if a session has none, then `Differs`, if the log doesn't have a call of a seat at its place, or the
+    /// book not the desk's base. All is handed back.
     ///
     /// # Cost
     ///

@@ -44,6 +44,10 @@ impl<L: Ledger> Model for Desk<L> {
 impl<L: Ledger> Desk<L> {
     /// Returns a desk of this layout, with so many sessions and a seat for each. Its book logs `MAX_CALLS`
     /// calls at most.
+    ///
+    /// # Errors
+    ///
+    /// `NoMemory`, if an allocation fails.
     pub fn new(
         alloc: Global,
         base: Snapshot,
@@ -62,6 +66,10 @@ impl<L: Ledger> Desk<L> {
     }
 
     /// Returns such a desk whose book logs as many calls as `limit` at most.
+    ///
+    /// # Errors
+    ///
+    /// `NoMemory`, if an allocation fails.
     pub fn with_log(
         alloc: Global,
         base: Snapshot,

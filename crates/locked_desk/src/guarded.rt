@@ -268,7 +268,7 @@ impl<L: Ledger> Guarded<L> {
 }
 
 /// Returns the refusal that names the session and its last place.
-pub fn differs(session: u8, own: &[Kept]) -> DeskFault
+pub(crate) fn differs(session: u8, own: &[Kept]) -> DeskFault
     ensures { result ≡ differs_refusal session own.now }
 {
     let place = match own.last() {
@@ -317,7 +317,7 @@ fn count_call<L: Ledger>(
 }
 
 /// Returns what is behind the lock of a new desk.
-pub fn fresh_guard<L: Ledger>(
+pub(crate) fn fresh_guard<L: Ledger>(
     sessions: u8,
     book: Book,
     limit: u32,

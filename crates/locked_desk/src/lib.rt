@@ -1,22 +1,49 @@
-//! A desk: one lock round a book, a seat for each session, and sessions that run in threads.
+//! `--threaded`: sessions that run in threads of their own, over one book under a lock.
 //!
-//! Each call of a session goes through the lock to the book. A session's [`Seat`] keeps the session's logged
-//! calls with their answers and places, and the desk's ledger counts all calls. So much is known of a call
-//! of a [`Desk`] that is logged: there is a legal log whose last call it is, with the answer and at the place
-//! that the seat keeps. And once a desk is closed with all its seats, its log is legal from the layout that
-//! the desk was made with, and has just the calls that the seats keep, each once.
+//! Each call of a session goes through the lock to the book. A transaction runs its commands on its
+//! own `Work` of `txn_work`, which has no desk, so no command runs under the lock.
 //!
-//! A transaction runs its commands on its own [`Work`](txn_work::Work), which has no desk: no command runs
-//! under the lock. [`run_sessions`] runs the steps of each session in a thread of its own.
+//! # Model
 //!
-//! # What is done under a desk's lock: calls of a book, each counted and kept
+//! - [`Desk`] is a book under a lock, with a fixed number of sessions. Contracts see the layout
+//!   that it was made with, and the number of sessions.
+//! - [`Seat`] is a session's token, which can't be copied: its logged calls, with their answers and
+//!   places, and its share of the desk's count of calls. Contracts see the session and its calls.
+//! - Behind the lock (`guarded.rt`) are the book, the number of each session's calls in its log,
+//!   and a ledger that counts all of them. Contracts see these (`Guard` of
+//!   `desk_rules/specs/Guards.antt`).
+//! - [`Closed`] is what is left of a desk: its book.
 //!
-//! A [`Guarded`] is a book with the numbers of calls of the sessions in its log, and the ledger's count of
-//! them all. Each of its calls does what the book's does and, where it is logged, adds it to the session's
-//! kept calls, with its answer and its place (`specs/Desks.antt`, `specs/Stored.antt`). So the log is always
-//! legal, and has just the calls that the sessions keep. Nothing here waits.
+//! What is known of a call that is logged: there is a legal log whose last call it is, with the
+//! answer and at the place that the seat keeps (`specs/Desks.antt`). Once a desk is closed with all
+//! its seats, its log is legal from the layout that the desk was made with, and has just the calls
+//! that the seats keep, each once (`IsClosed` of `desk_rules/specs/Close.antt`).
 //!
-//! `locked_desk` has the lock.
+//! # Invariants
+//!
+//! - Behind the lock: the log is legal, and each session has as many calls in it as are counted
+//!   (`IsGuard` of `desk_rules/specs/Guards.antt`). Each call does what the book's does and, where
+//!   it is logged, adds it to the seat's calls.
+//! - `Seat`: its calls rise, and its share is their number.
+//! - `Desk`: 1 to 64 sessions, as many as its ledger has parts.
+//!
+//! A seat whose calls the log doesn't have is answered `Differs` ([`DeskFault`]), and closing
+//! without all seats `MissingSeat` ([`CloseRefusal`]); all is handed back.
+//!
+//! # Files
+//!
+//! - `desk.rt`, `seat.rt`, `guarded.rt`, `way.rt`: the desk. Nothing in `guarded.rt` waits.
+//! - `calls.rt`, `shown.rt`, `close.rt`: what a session may ask of it: calls, the layout, its end.
+//! - `steps.rt`, `sessions.rt`, `run.rt`: the steps of a session, a thread for each, and
+//!   [`run_scripts`], which makes the desk and runs a script for each session. [`SessionGate`] is
+//!   called before each step; no answer depends on it.
+//!
+//! # Example
+//!
+//! ```text
+//! let run = run_scripts(&rt, alloc, 1, base, scripts)?;
+//! let order = order_of(alloc, run.closed.book.log(), run.replies.as_slice())?; // of `job_text`
+//! ```
 #![tactic(auto)]
 
 mod calls;
@@ -33,10 +60,8 @@ mod way;
 
 pub use close::{CloseRefusal, Closed};
 pub use desk::Desk;
-pub use fault::{DeskFault, DeskRefusal, RunFault};
-pub use guarded::{Guarded, differs, fresh_guard};
+pub use fault::{DeskFault, RunFault};
 pub use run::run_scripts;
 pub use seat::Seat;
 pub use sessions::{Run, run_sessions};
 pub use steps::SessionGate;
-pub use way::Way;

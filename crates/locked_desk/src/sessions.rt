@@ -30,6 +30,10 @@ pub struct Run {
 /// Runs the steps of each session, each session in a thread of its own, joins them and closes the desk. The
 /// n-th script is that of session n. Where a thread can't be started, its session runs on the calling thread.
 /// `gate` is called before each step, outside the lock, and `bands` finds the edges of Booleans.
+///
+/// # Errors
+///
+/// `NoMemory`, if an allocation fails; `Differs` and `MissingSeat` as `close` answers them. When each comes no clause says.
 pub fn run_sessions<L, R, G, B>(
     rt: &R,
     alloc: Global,

@@ -12,10 +12,13 @@ use std::sync::Wait;
 use std::sync::ledger::Ledger;
 
 impl<L: Ledger> Desk<L> {
-    /// Returns the layout after a legal log in which the calls of the seat's session are the seat's. Refused
-    /// as `Differs` where the log doesn't have one of the seat's calls at its place, of which the first is
-    /// named, or has others of the session; or as `Differs` of session 0 where the base or the number of
-    /// sessions isn't the desk's own. `NoMemory` can stand in place of any answer.
+    /// Returns the layout after a legal log in which the calls of the seat's session are the seat's.
+    ///
+    /// # Errors
+    ///
+    /// `Differs` with the first of the seat's calls that the log doesn't have at its place, or with the seat's last, if the
+    /// log has others of the session; `Differs` of session 0, if the base or the number of sessions isn't the desk's own.
+    /// `NoMemory` can stand in place of any answer.
     ///
     /// # Cost
     ///

@@ -1,4 +1,8 @@
 -- What the words of a command line ask for, and how the program ends early. The first word names the program.
+-- Source: this project's own; the crate `clap` for the words.
+-- Checked on, by tests/program: `--help`, `-h` and `-hx` are help; `--help=h`, `--h`, `-xh`,
+-- `help`, `--workers` with 0, 65, a word or nothing, and the word of no bytes are mistakes, and so
+-- is help after another argument; every file of tests/jobs has its output with 2, 3 and 64 workers.
 use Rattle.std.specs.Prelude.{◌≡◌, ℕ, ◌⊎◌, ◌&&◌, ◌||◌, Bool, true, false, List, [], ◌∷◌, Option, String, codes, string_bytes}
 use Rattle.std.specs.Global.{Global}
 use Rattle.std.specs.List.{list_any}

@@ -1,4 +1,7 @@
 -- What becomes of a job: the replies, the order and the layout, or why there are none.
+-- Source: this project's own.
+-- Checked on: examples/first-run.job; jobs of tests/jobs with one session, which have their output
+-- with `--threaded` too; `B 2 2 0 0; E` as CIF is status 4 and `cif fault 7 NoLayer at 0`.
 use Rattle.std.specs.Prelude.{◌≡◌, ℕ, List, [], length, max, min, replicate, Result, Ok, Err}
 use Rattle.cif_read.specs.declared.fault.CifFault.{CifFault}
 use Rattle.cif_read.specs.declared.fault.FaultKind.TheVariants.{NoMemory as CifMemory}

@@ -1,4 +1,8 @@
 //! The command line.
+//!
+//! `clap` decides which words are valid, but its contract doesn't tie a flag to a word. So `asks`
+//! looks for each option among the words once more, and the clauses of `launch` say which were
+//! given.
 ghost use Rattle.std.specs.Prelude.{◌≡◌, ◌≤◌, ◌<◌, ◌⊎◌, IfErr, IfOk, false, true, vec_len};
 ghost use Rattle.std.specs.List.{list_any};
 ghost use Rattle.masklay.specs.declared.command_line.OptionsFault.TheVariants.{Clap};
@@ -17,7 +21,8 @@ ghost use Rattle.masklay.specs.Launch.{
 ghost use Rattle.masklay.specs.Run.{IsRun};
 ghost use Rattle.masklay.specs.Telling.{MayReport};
 
-use crate::program::{MAX_WORKERS, Options, Status, live, put, put_memory, run};
+use crate::program::{Options, Status, live, put, put_memory, run};
+use band_workers::MAX_WORKERS;
 use byte_io::{In, Out};
 use clap::error::ErrorKind;
 use clap::{Arg, ArgAction, Command, Error};
@@ -255,6 +260,10 @@ fn say<O: Out, E: Out>(alloc: Global, error: &Error, out: &mut O, errors: &mut E
 }
 
 /// Returns the words of the process's command line.
+///
+/// # Errors
+///
+/// `NotUtf8`, if a word isn't UTF-8; `NoMemory`, if an allocation fails.
 pub fn words(rt: &HostRuntime) -> Result<Vec<String>, WordsFault> {
     match env::args(rt) {
         Ok(words) => words.collect(rt.alloc()).map_err(|_| WordsFault::NoMemory),

@@ -1,13 +1,18 @@
 //! The program `masklay`: reads a job from standard input, a CIF text and the steps of sessions on
-//! it, and writes the replies to the steps, their order and the CIF text of the layout that they lead to.
+//! it, and writes the replies to the steps, their order and the CIF text of the layout that they
+//! lead to.
 //!
-//! `main` only wires the standard streams to [`command_line::launch`], which is generic over a device
-//! that gives bytes and two that take them. It is [`program::run`] with the options that the words say: a
-//! `job_text::Job` is read from the input, a `session_core::Machine` takes its steps, and then the output
-//! is written; what it takes of memory is taken before its first byte. What is written is a function of
-//! the bytes that were read (`IsOutput` of `specs/Output.antt`); with `--threaded` the sessions run in
-//! threads, by `locked_desk`, and what is written is that of one of their runs (`specs/Threads.antt`); with `--oriented` the
-//! layout's shapes are directed by `lay_oriented` before it is written (`specs/Oriented.antt`).
+//! `main` only wires the standard streams to `command_line::launch`, which is generic over a device
+//! that gives bytes and two that take them. It is `program::run` with the options that the words
+//! say: a `job_text::Job` is read from the input, a `session_core::Machine` takes its steps, and
+//! then the output is written; what it takes of memory is taken before its first byte.
+//!
+//! What is written is a function of the bytes that were read (`IsOutput` of `specs/Output.antt`).
+//! With `--threaded` the sessions run in threads, by `locked_desk`, and what is written is that of
+//! one of their runs (`specs/Threads.antt`). With `--oriented` the layout's shapes are directed by
+//! `lay_oriented` before it is written (`specs/Oriented.antt`), with `--names` names and labels are
+//! put into its text by `cif_names` (`specs/Named.antt`), and with `--live` lines are answered one
+//! by one, by `live_run` (`specs/Live.antt`).
 //!
 //! ```text
 //! let mut input = MemoryIn::new(b"%cif\nE\n", 4096, 1000);

@@ -21,7 +21,7 @@ mod threads;
 
 use byte_io::{In, Out, put_all};
 pub use live::live;
-pub use options::{MAX_WORKERS, Options};
+pub use options::Options;
 use oriented::finish_given;
 use output::{write_given, write_stop};
 use reading::{ReadFault, read_all};

@@ -1,5 +1,8 @@
 -- Sessions that take steps on one book: what each step answers, in the order in which refusals are tested,
 -- and what it leaves.
+-- Source: this project's own.
+-- Checked on: `commit` first of all is NotOpen; a second `open` is AlreadyOpen; any step of session
+-- 0, or of session 3 among two, is NoSession; tests/jobs/refusals.job.
 use Rattle.std.specs.Prelude.{◌≡◌, ◌≢◌, ℕ, ◌-◌, List, [], ◌∷◌, length, Bool, true, false, ◌&&◌, nat_le, Option, None, Some, Result, Ok}
 use Rattle.std.specs.Prelude.{Err, if◌then◌else◌, slice_index_or, slice_set, replicate, ◌⊎◌, refl}
 use Rattle.std.specs.Coded.{Coded, code_by, coded×, coded_list, coded_option}

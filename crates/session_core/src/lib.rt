@@ -1,11 +1,16 @@
 //! The core: sessions that take steps, one after another, on one book.
 //!
-//! A [`Machine`] holds a book and the transaction that each session has open. A step of a session is
-//! refused by the machine, where there is no such session or it has a transaction open, or none; else
-//! it is a command of the open transaction, ends it, or is a call of the book. Contracts see a machine as
-//! the record `State` of `specs/Machine.antt`, which says what each step answers and leaves, and what a
-//! list of steps does. A machine keeps in its type that each open transaction is the one that the book
-//! awaits, so a commit is never refused as foreign.
+//! A step of a session is refused by the [`Machine`], where there is no such session or it has a
+//! transaction open, or none; else it is a command of the open transaction, ends it, or is a call
+//! of the book.
+//!
+//! # Model and invariants
+//!
+//! - `Machine` is kept as a book, and a list of the sessions' works. Contracts see the record
+//!   `State` of `specs/Machine.antt`, which says what each step answers and leaves, and what a list
+//!   of steps does.
+//! - It has at most 64 sessions, and each open transaction is the one that the book keeps for its
+//!   session (`IsState` of `specs/Machines.antt`), so a commit is never refused as foreign.
 //!
 //! ```text
 //! let steps = vec![in alloc; (1, Step::Open), (1, Step::Do(command)), (1, Step::Commit)]?;

@@ -42,6 +42,10 @@ impl Model for Machine {
 
 impl Machine {
     /// Returns a machine on this layout with this many sessions, none of which has a transaction open.
+    ///
+    /// # Errors
+    ///
+    /// `NoMemory`, if an allocation fails.
     pub fn new(alloc: Global, base: Snapshot, sessions: u8) -> Result<Machine, NoMemory>
         requires low { 1 ≤ sessions }
         requires high { sessions ≤ 64 }
@@ -51,6 +55,10 @@ impl Machine {
     }
 
     /// Returns such a machine whose book logs as many calls as `limit` at most.
+    ///
+    /// # Errors
+    ///
+    /// `NoMemory`, if an allocation fails.
     pub fn with_log(
         alloc: Global,
         base: Snapshot,
@@ -233,6 +241,10 @@ impl Machine {
 
     /// The machine after these steps, each with the number of its session, and its answers to them. `bands`
     /// finds the edges of Booleans. What the steps took is given back on the way.
+    ///
+    /// # Errors
+    ///
+    /// `NoMemory`, if an allocation fails.
     ///
     /// # Cost
     ///

@@ -1,4 +1,6 @@
 //! Steps in turns, and replies dealt to their sessions.
+//!
+//! Each session's list of replies is made with room for all of them, so it never grows.
 ghost use Rattle.std.specs.Prelude.{◌≡◌, ◌++◌, ◌∷◌, ◌-◌, ℕ, List, [], IfOk, MatchOption, OnOk, length, replicate, slice_index_or, slice_set, vec_len};
 ghost use Rattle.session_steps.specs.declared.Step.{Step as AnyStep};
 ghost use Rattle.session_steps.specs.Turns.{dealt, in_turn, is_first_alone, taken, with_step};
@@ -61,6 +63,10 @@ impl Hand {
 /// Returns the steps of these scripts, each with the number of its session, as the sessions come in this
 /// order. A session that has no step left is passed over.
 ///
+/// # Errors
+///
+/// `NoMemory`, if an allocation fails.
+///
 /// # Cost
 ///
 /// A pass over the steps.
@@ -108,6 +114,10 @@ fn take_step(left: &mut Vec<Left>, session: u8) -> Option<Step>
 
 /// Returns the replies of so many sessions, dealt to them as they come in this order. Those of a session alone stay
 /// where they are; else what they took is given back on the way.
+///
+/// # Errors
+///
+/// `NoMemory`, if an allocation fails.
 ///
 /// # Cost
 ///

@@ -1,4 +1,7 @@
 -- The first two edges of a list that have more in common than an end.
+-- Source: this project's own.
+-- Checked on: (0, 0) to (2, 2) and (0, 2) to (2, 0) aren't clean, and the pair is 0 and 1; the
+-- squares 0 0 20 20 and 10 10 30 30 round to 12 clean edges.
 use Rattle.std.specs.Prelude.{◌≡◌, ◌⊎◌, ℕ, ◌<◌, List, length, slice_index_or}
 use Rattle.lay_point.specs.declared.point.Point.{Point}
 use Rattle.snap_edge_laws.specs.Meeting.{MeetAtEnds}

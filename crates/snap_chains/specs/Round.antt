@@ -1,5 +1,9 @@
 -- What rounding makes of the rings of shapes: the edges that the rounded rings go, each with the shapes that own it.
 -- Source: Hobby, Practical segment intersection with finite precision output, 1999.
+-- Owners are this project's own.
+-- Checked on: of the squares 0 0 20 20 of the first input and 10 10 30 30 of the second each has 6
+-- of the 12 edges, cut at (10, 20) and (20, 10); two equal squares of one owner make 4 edges
+-- without owners, and of two owners 4 edges with both, the first input's first.
 use Rattle.std.specs.Prelude.{◌↔◌, List, [], ◌∷◌, Contains, IsTrue, if◌then◌else◌}
 use Rattle.std.specs.List.{AllZip}
 use Rattle.lay_point.specs.declared.point.Point.{Point}

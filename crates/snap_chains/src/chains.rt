@@ -15,6 +15,10 @@ use std::cmp::Ordering;
 ///
 /// Source: Hobby, Practical segment intersection with finite precision output, 1999.
 ///
+/// # Errors
+///
+/// `NoMemory`, if an allocation fails.
+///
 /// # Cost
 ///
 /// Each hot centre between the segment's columns, or between its rows, is asked: whichever are fewer.

@@ -13,6 +13,10 @@ use std::alloc::Global;
 
 /// Returns the edges where they are clean, else the first two that aren't. The number of steps is that
 /// of the pairs of edges.
+///
+/// # Errors
+///
+/// `NotClean` with the first pair of edges that have more in common than an end, by the first edge, then by the second.
 pub fn check_clean(_alloc: Global, rounded: Rounded) -> Result<CleanEdges, CleanFault>
     ensures value { IfOk result (λ c. c ≡ rounded) }
     ensures clean { OnOk result (AreClean rounded.0) }

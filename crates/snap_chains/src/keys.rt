@@ -1,4 +1,7 @@
 //! The sorting of visits, by keys that are compared in less time than visits.
+//!
+//! What is proved is that the visits are the same ones. `visited_edges` and `odd_visits` sort
+//! again, which takes about one pass over what is in order.
 ghost use Rattle.std.specs.Prelude.{◌≡◌, ◌<◌, ◌^◌, All, IfOk, length};
 ghost use Rattle.std.specs.List.{AllZip};
 ghost use Rattle.std.specs.List.Sorted.{IsPermutation};
@@ -25,7 +28,7 @@ pub(crate) struct Key {
 /// # Cost
 ///
 /// A sort of the visits.
-pub fn in_order(
+pub(crate) fn in_order(
     rt: &(impl Threads + Sync),
     alloc: Global,
     visits: Vec<Visit>,

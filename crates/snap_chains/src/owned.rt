@@ -39,7 +39,7 @@ impl<'s> Model for OwnedRing<'s> {
 /// # Cost
 ///
 /// That of `hot`, and of the chains of all sides.
-pub fn round_rings(
+pub(crate) fn round_rings(
     rt: &(impl Threads + Sync),
     alloc: Global,
     rings: &[OwnedRing],

@@ -1,4 +1,6 @@
 //! The owners of edges, from the visits of these.
+//!
+//! All owners are in one list: a list for each edge would take an allocation each.
 ghost use Rattle.std.specs.Prelude.{◌≡◌, ◌↔◌, ◌<◌, ◌≤◌, [], IfOk, IsTrue, Some, length, map, replicate, slice_get};
 ghost use Rattle.std.specs.List.{AllZip};
 ghost use Rattle.lay_point.specs.Rising.{IsRising};
@@ -43,6 +45,10 @@ impl Model for OwnerLists {
 
 impl OwnerLists {
     /// Returns so many empty lists.
+    ///
+    /// # Errors
+    ///
+    /// `AllocError`, if an allocation fails.
     pub fn empty(alloc: Global, count: usize) -> Result<OwnerLists, AllocError>
         ensures { IfOk result (λ lists. lists ≡ replicate count []) }
     {
@@ -57,6 +63,10 @@ impl OwnerLists {
     }
 
     /// Returns for each edge the owners of its visits, in order. Both are gone through once.
+    ///
+    /// # Errors
+    ///
+    /// `AllocError`, if an allocation fails.
     pub fn of_visits(
         alloc: Global,
         edges: &[Edge],

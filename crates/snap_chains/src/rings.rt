@@ -18,6 +18,10 @@ use std::alloc::{AllocError, Global};
 ///
 /// Source: Hobby, Practical segment intersection with finite precision output, 1999.
 ///
+/// # Errors
+///
+/// `NoMemory`, if an allocation fails.
+///
 /// # Cost
 ///
 /// That of `chain` for each side.
@@ -64,6 +68,10 @@ pub(crate) fn round_ring_in(
 }
 
 /// Returns the sides of the ring: from each point to the next, and from the last to the first.
+///
+/// # Errors
+///
+/// `NoMemory`, if an allocation fails.
 ///
 /// # Cost
 ///

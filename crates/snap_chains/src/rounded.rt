@@ -34,6 +34,10 @@ impl Model for Rounded {
 impl Rounded {
     /// Returns the distinct edges of these, in order, without owners.
     ///
+    /// # Errors
+    ///
+    /// `NoMemory`, if an allocation fails.
+    ///
     /// # Cost
     ///
     /// A sort of the edges.

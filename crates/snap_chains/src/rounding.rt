@@ -19,6 +19,10 @@ use std::thread::Threads;
 ///
 /// Source: Hobby, Practical segment intersection with finite precision output, 1999.
 ///
+/// # Errors
+///
+/// `NoMemory`, if an allocation fails.
+///
 /// # Cost
 ///
 /// That of `hot` of all sides, of their chains, and of sorts of the edges that the rings go.

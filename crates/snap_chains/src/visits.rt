@@ -1,4 +1,7 @@
 //! Visits: that a ring of a shape, rounded, goes an edge; one for each time that it does.
+//!
+//! In order, equal visits are neighbours, so one pass finds the odd ones. A map from edges to sets
+//! of owners would allocate for each edge.
 ghost use Rattle.std.specs.Prelude.{
   ◌≡◌,
   ◌↔◌,
@@ -40,7 +43,7 @@ pub struct Visit {
 /// # Cost
 ///
 /// A pass over the walks.
-pub fn all_visits(
+pub(crate) fn all_visits(
     alloc: Global,
     rings: &[OwnedRing],
     walks: &[Vec<Point>],
@@ -88,7 +91,7 @@ fn edge_between(a: Point, b: Point) -> Edge
 /// # Cost
 ///
 /// A sort of the visits.
-pub fn visited_edges(alloc: Global, visits: &[Visit]) -> Result<Vec<Edge>, AllocError>
+pub(crate) fn visited_edges(alloc: Global, visits: &[Visit]) -> Result<Vec<Edge>, AllocError>
     ensures rising { IfOk result (λ edges. IsRising IsEdgeBefore edges.items) }
     ensures exact { IfOk result (λ edges. (e : Point × Point) → Contains edges.items e
         ↔ Contains (map (λ v. v.edge) visits.now) e) }
@@ -107,7 +110,7 @@ pub fn visited_edges(alloc: Global, visits: &[Visit]) -> Result<Vec<Edge>, Alloc
 /// # Cost
 ///
 /// A sort of the visits.
-pub fn odd_visits(alloc: Global, mut visits: Vec<Visit>) -> Result<Vec<Visit>, AllocError>
+pub(crate) fn odd_visits(alloc: Global, mut visits: Vec<Visit>) -> Result<Vec<Visit>, AllocError>
     ensures rising { IfOk result (λ odd. IsRising IsVisitBefore odd.items) }
     ensures exact { IfOk result (λ odd. (v : Visit) → Contains odd.items v
         ↔ IsTrue (parity (visit_eq v) visits.items)) }

@@ -1,6 +1,8 @@
 -- Edges of snap-rounded segments. A segment becomes the chain of the hot centres whose pixels it meets, in the order in which
 -- it goes; an edge joins two neighbours of a chain.
 -- Source: Hobby, Practical segment intersection with finite precision output, 1999.
+-- Checked on: (0, 0) to (1, 1) and (0, 1) to (1, 0) have the chains (0, 0), (1, 1) and (0, 1),
+-- (1, 1), (1, 0); with (4, 1) to (4, 9), (0, 0) to (10, 2) has the chain (0, 0), (4, 1), (10, 2).
 use Rattle.std.specs.Prelude.{◌≡◌, ◌⊎◌, ℤ, pos, ◌+ℤ◌, ◌-ℤ◌, ◌*ℤ◌, ◌≤ℤ◌, ◌<ℤ◌, List, Contains}
 use Rattle.std.specs.Int.{int_signum}
 use Rattle.lay_point.specs.declared.point.Point.{Point}

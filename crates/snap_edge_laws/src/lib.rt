@@ -1,36 +1,37 @@
-//! Why edges of snap-rounded segments meet only at shared ends.
+//! Why edges of snap-rounded segments meet only at shared ends, and the exact test of two edges.
 //!
-//! A segment becomes the chain of the hot centres whose pixels it meets; an edge joins two neighbours of
-//! a chain. `specs/Edges.antt` says so, and what is claimed. The proof takes points of the segments in
-//! the pixels of two edges' ends. At rest the pieces between them don't cross, since the pixel of a
-//! crossing is hot (`Rest.antt`). Then these points move to their centres, first along x, then along y,
-//! and no end ever comes to lie on the other piece (`Motion.antt`); so, by the laws of `snap_edge_laws`, the
-//! edges don't cross either (`Meeting.antt`). Edges that share an end have no other place in common
-//! (`SharedEnds.antt`). `Spans.antt` has all that is used of chains. Nothing of this runs.
+//! A segment becomes its chain, the hot centres whose pixels it meets; an edge joins two neighbours
+//! of a chain (`specs/Edges.antt`, `specs/Chains.antt`). Functions with an empty body carry the
+//! laws. [`meet_at_ends`] alone runs: it says whether two different edges have only an end in
+//! common (`MeetAtEnds` of `specs/Meeting.antt`). Coordinates may be any `i32`; all arithmetic is
+//! exact, in 128 bits.
 //!
-//! # Laws of two straight pieces: how they cross, and what happens before they do
+//! # The laws, and how they are proved
 //!
-//! Two pieces cross properly where the quadrilateral of their ends is convex, so that four areas are
-//! positive. `proofs/Areas.antt` has the identities of these areas. While the ends move evenly along x
-//! the areas change evenly too; `Stops.antt` finds the first time at which one of them is 0, and
-//! `Ends.antt` which end then lies on the other piece. `Sideways.antt` puts this together. Nothing of
-//! this runs.
+//! - [`edges_meet_only_at_ends`]: two different edges of segments have no place in common but a
+//!   point that is an end of both. The proof takes points of the segments in the pixels of the
+//!   edges' ends. At rest the pieces between them don't cross, since the pixel of a crossing is hot
+//!   (`proofs/Rest.antt`). Then these points move to their centres, first along x, then along y,
+//!   and no end ever comes to lie on the other piece (`proofs/Motion.antt`), so the edges don't
+//!   cross either (`proofs/MeetingLemmas.antt`). Edges that share an end have no other place in
+//!   common (`proofs/SharedEnds.antt`).
+//! - [`areas_have_laws`] and [`pieces_touch_before_they_cross`] (`specs/Areas.antt`,
+//!   `specs/Pieces.antt`): two pieces cross properly where the quadrilateral of their ends is
+//!   convex, so that four areas are positive. While the ends move evenly along x the areas change
+//!   evenly too. `proofs/Stops.antt` finds the first time at which one of them is 0,
+//!   `proofs/Ends.antt` which end then lies on the other piece, and `proofs/Sideways.antt` joins
+//!   the two.
+//! - [`chains_have_laws`] and [`rounded_edges_are_clean`]: a segment has one chain. Its neighbours
+//!   are the segment's edges, it joins the segment's ends (`proofs/Chains.antt`), and different
+//!   edges of chains have only ends in common.
+//! - [`rounded_paths_have_laws`] and [`edges_of_rounded_rings_have_laws`] (`specs/Rounding.antt`,
+//!   `specs/Undirected.antt`): chains that are joined are walks of these edges
+//!   (`proofs/Walks.antt`, `proofs/Rounded.antt`). Of the undirected edges that some closed walks
+//!   go an odd number of times, an even number have a given point for an end (`proofs/Edges.antt`).
 //!
-//! # Laws of chains, of the paths that they join to, and of the edges of these
+//! # Example
 //!
-//! A chain is the rising list of the hot centres that a segment meets, in the order in which it goes. So
-//! it is determined (`proofs/Rising.antt`), its neighbours are the segment's edges, and it goes from one
-//! end to the other (`Chains.antt`). Joined chains are walks of these edges (`Walks.antt`,
-//! `Rounded.antt`). Taken as undirected they meet only at shared ends, and of those that some closed
-//! walks go an odd number of times an even number stands at each point (`Parity.antt`, `Edges.antt`).
-//! Nothing of this runs.
-//!
-//! # The exact test whether two edges have only an end in common
-//!
-//! Coordinates may be any `i32`; all arithmetic is exact, in 128 bits. A place is a fraction, as two
-//! whole numbers and a scale (`specs/Meeting.antt`).
-//!
-//! ```
+//! ```text
 //! let crossed = match (Edge::new(a, b), Edge::new(c, d)) {
 //!     (Some(e), Some(f)) => e != f && !meet_at_ends(e, f),
 //!     _ => false,

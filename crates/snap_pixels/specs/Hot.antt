@@ -1,5 +1,7 @@
 -- Hot pixels of segments.
 -- Source: Hobby, Practical segment intersection with finite precision output, 1999.
+-- Checked on: (0, 0) to (1, 1) and (0, 1) to (1, 0) make (0, 0), (0, 1), (1, 0) and (1, 1) hot;
+-- (0, 0) to (639, 639) and (0, 639) to (639, 0) their ends and (320, 320).
 use Rattle.std.specs.Prelude.{◌⊎◌, pos, List, Contains, ◌↔◌}
 use Rattle.lay_point.specs.declared.point.Point.{Point}
 use Rattle.snap_pixels.specs.declared.segment.Segment.{Segment}

@@ -1,6 +1,7 @@
 -- Pixels. A place (x, y) at scale k, with 1 ≤ k, stands for (x / k, y / k). The pixel of a centre is the unit square
 -- round it, with its left and lower sides and without its right and upper ones, so each place is in one pixel.
 -- Source: Hobby, Practical segment intersection with finite precision output, 1999.
+-- Checked on: (1/2, 1/2) is in the pixel of (1, 1), (-1/2, -1/2) in that of (0, 0).
 use Rattle.std.specs.Prelude.{ℤ, pos, ◌+ℤ◌, ◌*ℤ◌, ◌≤ℤ◌, ◌<ℤ◌}
 use Rattle.lay_point.specs.declared.point.Point.{Point}
 

@@ -40,6 +40,10 @@ impl Cut {
     }
 
     /// Returns the segments that reach the lower side.
+    ///
+    /// # Errors
+    ///
+    /// `AllocError`, if an allocation fails.
     pub fn low_part(self, alloc: Global, segments: &[Segment]) -> Result<Vec<Segment>, AllocError>
         ensures { IfOk result (λ part. part.items ≡ filter (reaches_low self) segments.now) }
     {
@@ -53,6 +57,10 @@ impl Cut {
     }
 
     /// Returns the segments that reach the higher side.
+    ///
+    /// # Errors
+    ///
+    /// `AllocError`, if an allocation fails.
     pub fn high_part(self, alloc: Global, segments: &[Segment]) -> Result<Vec<Segment>, AllocError>
         ensures { IfOk result (λ part. part.items ≡ filter (reaches_high self) segments.now) }
     {

@@ -11,7 +11,7 @@ pub const MAX_AREA: i128 = 1 << 65;
 const _: () = prove!(MAX_AREA == 36_893_488_147_419_103_232);
 
 /// Returns the way from one coordinate to another. It has a magnitude below 2^32.
-pub fn difference(from: i32, to: i32) -> i64
+pub(crate) fn difference(from: i32, to: i32) -> i64
     ensures value { result ≡ to -ℤ from }
     ensures low { neg_ℤ (pos (2 ^ 32)) <ℤ result }
     ensures high { result <ℤ pos (2 ^ 32) }
@@ -20,7 +20,7 @@ pub fn difference(from: i32, to: i32) -> i64
 }
 
 /// Returns the product. Each factor is at most 2^63 in magnitude, so the product is at most 2^126.
-pub fn product(a: i64, b: i64) -> i128
+pub(crate) fn product(a: i64, b: i64) -> i128
     ensures { result ≡ a *ℤ b }
 {
     i128::from(a) * i128::from(b)

@@ -32,6 +32,10 @@ impl Model for HotSet {
 impl HotSet {
     /// Returns the set of these centres, which may be in any order and more than once.
     ///
+    /// # Errors
+    ///
+    /// `AllocError`, if an allocation fails.
+    ///
     /// # Cost
     ///
     /// Two sorts of the centres.
@@ -76,6 +80,10 @@ impl HotSet {
 }
 
 /// Returns the points with x and y exchanged.
+///
+/// # Errors
+///
+/// `AllocError`, if an allocation fails.
 ///
 /// # Cost
 ///

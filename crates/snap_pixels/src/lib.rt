@@ -1,16 +1,44 @@
 //! Hot pixels: those that hold an end of a segment, or a point common to two segments that aren't
-//! parallel. Snap rounding draws segments through the centres of the hot pixels that they meet.
+//! parallel.
 //!
-//! Lengths are in database units of 5 nanometres, and a coordinate may be any `i32`. The pixel of a
-//! point is the unit square round it, with its left and lower sides and without the other two, so that
-//! each place is in one pixel. A place between points is a fraction, as two whole numbers and a scale
-//! (`specs/Pixels.antt`, `specs/Segments.antt`). All arithmetic is exact, in 64 and 128 bits.
+//! Snap rounding draws segments through the centres of the hot pixels that they meet. Lengths are
+//! in database units of 5 nanometres, and a coordinate may be any `i32`. All arithmetic is exact,
+//! in 64 and 128 bits.
 //!
-//! A `Segment` keeps in its type that its ends differ. A `HotSet` is seen as the list of its centres,
-//! and keeps that they rise in the order of points. `hot` and `hot_plain` return exactly the hot
-//! pixels (`specs/Hot.antt`), or that an allocation failed.
+//! # Model
 //!
-//! ```
+//! - The pixel of a point is the unit square round it, with its left and lower sides and without
+//!   the other two, so that each place is in one pixel. A place between points is a fraction, as
+//!   two whole numbers and a scale (`specs/Pixels.antt`).
+//! - [`Segment`] is its two ends. Contracts see both; its points are those of
+//!   `specs/Segments.antt`.
+//! - [`HotSet`] is kept as two `Vec`s: its centres, and the same with x and y exchanged. Contracts
+//!   see the list of its centres.
+//! - [`meets`] says whether a segment meets a pixel: the four sides of the pixel leave an interval
+//!   of the segment's points (`specs/Sides.antt`). [`crossing`] is the centre of the pixel that
+//!   holds the point common to two segments that aren't parallel.
+//! - [`hot`] and [`hot_plain`] return exactly the hot pixels (`AreHotCentres` of `specs/Hot.antt`),
+//!   or that an allocation failed. `hot` searches in as many threads as there are processors.
+//!
+//! # Invariants
+//!
+//! - `Segment`: its ends differ (`differ` in `segment.rt`), tested by [`Segment::new`].
+//! - `HotSet`: its centres rise, by x and then by y, and its second list is the same with x and y
+//!   exchanged, in order (`ArePointsRising` and `AreTransposed` of `specs/Order.antt`).
+//!   [`HotSet::from_unsorted`] sorts both.
+//!
+//! # Files
+//!
+//! - `search.rt`: the search; `parts.rt`, `cut.rt`, `cell.rt`, `direction.rt`: segments divided
+//!   into short lists, each pair that may meet in one of them (`specs/Parts.antt`).
+//! - `kind.rt`, `counts.rt`, `repeats.rt`: parallel and equal segments, which needn't be asked.
+//! - `meeting.rt`, `side.rt`, `span.rt`, `common_point.rt`, `rounding.rt`: one segment and one
+//!   pixel, and two segments.
+//! - `exact.rt`, `boxes.rt`: arithmetic for all coordinates, and a quick test of boxes.
+//!
+//! # Example
+//!
+//! ```text
 //! let ends = [
 //!     (Point { x: 0, y: 0 }, Point { x: 639, y: 639 }),
 //!     (Point { x: 0, y: 639 }, Point { x: 639, y: 0 }),
@@ -23,25 +51,6 @@
 //! }
 //! let found = hot(rt, alloc, &segments)?;
 //! let crossed = found.contains(Point { x: 320, y: 320 });
-//! ```
-//!
-//! # Segments, pixels and what a segment meets
-//!
-//! Lengths are in database units of 5 nanometres, and a coordinate may be any `i32`. The pixel of a point
-//! is the unit square round it, with its left and lower sides and without the other two, so that each place
-//! is in one pixel. A place between points is a fraction, as two whole numbers and a scale
-//! (`specs/Pixels.antt`, `specs/Segments.antt`). All arithmetic is exact, in 64 and 128 bits.
-//!
-//! A [`Segment`] keeps in its type that its ends differ. [`meets`] says whether it meets a pixel: the four
-//! sides of the pixel leave an interval of the segment's points (`specs/Sides.antt`). [`crossing`] is the
-//! centre of the pixel that holds the point common to two segments that aren't parallel. A [`HotSet`] is seen
-//! as the list of its centres, and keeps that they rise in the order of points (`specs/Order.antt`).
-//!
-//! `snap_pixels` finds the hot pixels of segments.
-//!
-//! ```
-//! let segment = Segment::new(Point { x: 0, y: 0 }, Point { x: 10, y: 2 })?;
-//! let met = meets(&segment, Point { x: 4, y: 1 });
 //! ```
 #![tactic(auto)]
 
@@ -66,9 +75,8 @@ mod span;
 mod tests;
 
 pub use common_point::crossing;
-pub use exact::{MAX_AREA, area, difference, product};
+pub use exact::{MAX_AREA, area};
 pub use hot_set::{HotSet, turned, turned_all};
 pub use meeting::meets;
-pub use repeats::{distinct, thin};
 pub use search::{hot, hot_plain};
 pub use segment::Segment;

@@ -12,7 +12,7 @@ use std::alloc::{AllocError, Global};
 /// # Cost
 ///
 /// A sort of the segments.
-pub fn distinct(alloc: Global, segments: &[Segment]) -> Result<Vec<Segment>, AllocError>
+pub(crate) fn distinct(alloc: Global, segments: &[Segment]) -> Result<Vec<Segment>, AllocError>
     ensures { IfOk result (λ once. (s : Segment)
         → Contains once.items s ↔ Contains segments.now s) }
 {
@@ -28,7 +28,7 @@ pub fn distinct(alloc: Global, segments: &[Segment]) -> Result<Vec<Segment>, All
 /// # Cost
 ///
 /// A sort of the marks, where there are more than `limit`.
-pub fn thin(marked: &mut Vec<Point>, limit: usize) -> usize
+pub(crate) fn thin(marked: &mut Vec<Point>, limit: usize) -> usize
     ensures { (c : Point) → Contains marked.new.items c ↔ Contains marked.old.items c }
 {
     if marked.len() <= limit {

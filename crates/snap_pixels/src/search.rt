@@ -23,6 +23,10 @@ const MARKS: usize = 65_536;
 ///
 /// Source: Hobby, Practical segment intersection with finite precision output, 1999.
 ///
+/// # Errors
+///
+/// `NoMemory`, if an allocation fails.
+///
 /// # Cost
 ///
 /// Equal segments are asked once, and two along the same axis aren't asked about each other, since they are
@@ -61,6 +65,10 @@ pub fn hot(
 
 /// Returns the hot pixels of the segments, found in this thread, undivided: of neighbours along the same axis none
 /// is asked about another, and all other pairs are asked.
+///
+/// # Errors
+///
+/// `NoMemory`, if an allocation fails.
 ///
 /// # Cost
 ///

@@ -1,8 +1,8 @@
-//! The program `snap_round_bench`: reads rings from standard input, rounds them and prints how many edges come
-//! of them. `bench/run` times it; nothing stands on it.
+//! The program `snap_round_bench`: reads rings from standard input, rounds them and prints how many
+//! edges come of them. `bench/run` times it; nothing depends on it.
 //!
-//! A line is a ring: the coordinates of its points, in database units, apart by blanks. Each ring is a
-//! shape of its own.
+//! A line is a ring: the coordinates of its points, in database units, separated by blanks. Each
+//! ring is a shape of its own.
 #![tactic(auto)]
 
 ghost use Rattle.std.specs.Prelude.{All, IfOk};

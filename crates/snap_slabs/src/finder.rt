@@ -56,6 +56,10 @@ impl<'h> Finder<'h> {
     /// Returns a finder for many segments. Where centres lie evenly, a slab is four times as wide as one
     /// centre is from the next, so that a short segment goes through one slab mostly.
     ///
+    /// # Errors
+    ///
+    /// `AllocError`, if an allocation fails.
+    ///
     /// # Cost
     ///
     /// A sort of the centres in each slab.
@@ -70,6 +74,10 @@ impl<'h> Finder<'h> {
 
     /// Returns the hot centres whose pixels the segment meets. Asked are those in its columns where they are
     /// few, else those in its rows of the slabs that it goes through, or in its rows if it is level.
+    ///
+    /// # Errors
+    ///
+    /// `AllocError`, if an allocation fails.
     ///
     /// # Cost
     ///

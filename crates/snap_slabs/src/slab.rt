@@ -39,6 +39,10 @@ impl Model for Slab {
 
 impl Slab {
     /// Returns the slab of these centres.
+    ///
+    /// # Errors
+    ///
+    /// `AllocError`, if an allocation fails.
     pub fn of(alloc: Global, part: &[Point]) -> Result<Slab, AllocError>
         ensures { IfOk result (λ slab. AreTransposed part.now slab) }
     {

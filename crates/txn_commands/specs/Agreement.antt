@@ -1,4 +1,7 @@
 -- Layouts that agree on elements.
+-- Source: this project's own.
+-- Checked on: the layouts before and after a box 1.1.1 on M agree on Layer(top, N), and not on
+-- Layer(top, M).
 use Rattle.std.specs.Prelude.{◌≡◌, ℕ, Bool, true, List, Option, Some}
 use Rattle.std.specs.FinMap as map
 use Rattle.std.specs.FinSet as set

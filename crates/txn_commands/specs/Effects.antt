@@ -1,4 +1,7 @@
 -- The effect of commands on a transaction, as it sees its layout.
+-- Source: this project's own.
+-- Checked on: the first box of session 1's first transaction makes 1.1.1, and the layout of the
+-- text keeps its 0.0.1.
 use Rattle.std.specs.Prelude.{ℕ, ◌+◌, List, [], ◌∷◌, ◌++◌, length, Bool, ◌||◌, nat_lt, Option, None, Some, Result, Ok, Err}
 use Rattle.lay_layouts.specs.declared.id.ItemId.{ItemId}
 use Rattle.lay_layouts.specs.Layout.{Layout}

@@ -1,4 +1,7 @@
 -- Elements of footprints, in an order of their own, and finite sets of them.
+-- Source: this project's own.
+-- Checked on: two boxes of 1.1 in the top cell touch 1.1.1 and 1.1.2; tests/jobs/a-scan.job,
+-- tests/jobs/a-dropped-symbol-is-stale.job and tests/jobs/a-filled-symbol-is-stale.job.
 use Rattle.std.specs.Prelude.{◌≡◌, ℕ, Bool, List, [], ◌∷◌, Some, refl}
 use Rattle.std.specs.declared.cmp.Ordering.{Ordering}
 use Rattle.std.specs.declared.cmp.Ordering.TheVariants.{Equal, Greater, Less}

@@ -1,5 +1,11 @@
 -- What each command is to do on a layout, or why it is refused, in the order in which it is tested.
 -- Source: this project's own rules of editing.
+-- Rings and calls are as in Caltech Intermediate Form 2.0.
+-- Checked on: `box top NP 0 0 10 10` makes the ring 0 0, 10 0, 10 10, 0 10, and so does
+-- `box top NP 10 10 0 0`; `box 9 A 0 0 0 5` is NoCell; `box top A 0 0 0 1073741825` is FewPoints;
+-- `box top A 0 0 1 1073741825` is OutOfRange; tests/jobs/refusals.job,
+-- tests/jobs/boxes-and-refusals.job, tests/jobs/symbols-are-made.job,
+-- tests/jobs/a-used-symbol-stays.job and tests/jobs/a-boolean-too-deep.job.
 use Rattle.std.specs.Prelude.{ℕ, List, map as map_list, Bool, not, nat_lt, ◌&&◌, ◌||◌, Option, None, Some, Result, Ok, Err, is_some}
 use Rattle.std.specs.Prelude.{if◌then◌else◌}
 use Rattle.std.specs.FinMap as map

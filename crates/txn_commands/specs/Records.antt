@@ -1,4 +1,8 @@
 -- Records: what is written between two layouts.
+-- Source: this project's own.
+-- Checked on: the first run's first box (examples/first-run.job) has the one record 1.1.1, none
+-- before, the shape after; a box over an equal item of the base has no record. The box moved from
+-- layer M to N meets Layer(top, M) and Layer(top, N).
 use Rattle.std.specs.Prelude.{◌≢◌, ℕ, ◌==◌, List, [], ◌∷◌, map, Bool, true, false, Option, None, Some, if◌then◌else◌}
 use Rattle.std.specs.FinMap as finite
 use Rattle.std.specs.List.{AllByRecursion}

@@ -1,4 +1,7 @@
 -- Transactions at work: what their commands, run on a snapshot, wrote and touched.
+-- Source: this project's own.
+-- Checked on: after `open` there is no command, no record and an empty footprint; after one box
+-- there is one of each.
 use Rattle.std.specs.Prelude.{◌≡◌, ℕ, List, Some}
 use Rattle.lay_layouts.specs.Layout.{Layout}
 use Rattle.txn_commands.specs.declared.command.Command.{Command}

@@ -108,6 +108,10 @@ pub enum Command {
 
 impl Command {
     /// Returns an equal command.
+    ///
+    /// # Errors
+    ///
+    /// `NoMemory`, if an allocation fails.
     pub fn copy(&self, alloc: Global) -> Result<Command, NoMemory>
         ensures { IsAnswer (record {}) result (Ok self.now) }
     {

@@ -38,6 +38,10 @@ impl Footprint {
 
     /// Adds an element.
     ///
+    /// # Errors
+    ///
+    /// `NoMemory`, if an allocation fails; nothing is changed then.
+    ///
     /// # Cost
     ///
     /// Comparisons in proportion to the logarithm of the number of elements.

@@ -1,16 +1,24 @@
 //! What a transaction leaves: what it wrote, and what it read or wrote.
 //!
-//! [`Writes`] has a record of each item and of each symbol that differ between two layouts, with both
-//! values, in order. It grows write by write: `set_item` and `set_symbol` merge a write with those before
-//! it, so that what is written back to its first value has no record. A committed transaction keeps them as
-//! [`Records`], in lists, a sole one in place ([`Few`]). `applied` and `reverted` lead from the one layout to the
-//! other and back; no command is run again.
+//! # Model
 //!
-//! A [`Footprint`] is a set of [`Element`](txn_rules::Element)s. Whether two layouts have the same in each
-//! of them is `agrees`, and whether some record meets one of them is `touch`: each record is looked up by
-//! the few elements in which its values lie, so the footprint isn't gone over.
+//! - [`Writes`] has a record of each item and of each symbol that differ between two layouts, with
+//!   both values ([`ItemChange`], [`CellChange`]), in order. It is kept as a `BTreeMap` of items
+//!   and one of symbols, each value of an item before and after shared on its own. It grows write
+//!   by write: [`Writes::set_item`] and [`Writes::set_symbol`] merge a write with those before it,
+//!   so that what is written back to its first value has no record. Contracts see the records of
+//!   both, in order (`Records` of `txn_commands/specs/Records.antt`).
+//! - [`Records`] is what a committed transaction keeps of them: the same in two lists, without room
+//!   for others; a sole item is in place. Contracts see the same records. [`Records::applied`] and
+//!   [`Records::reverted`] lead from the one layout to the other and back; no command is run again.
+//! - [`Footprint`] is kept as a `BTreeSet` of elements (`Element` of `txn_commands`). Contracts see
+//!   the finite set of its elements.
+//! - [`Few`] is kept as one element in place, else as a `Vec`. Contracts see the list of its
+//!   elements.
 //!
-//! Contracts see writes as `Records`, and a footprint as a finite set (`txn_rules/specs`).
+//! Whether two layouts have the same in each element of a footprint is [`agrees`], and whether some
+//! record meets one of them is [`Records::touch`]: each record is looked up by the few elements in
+//! which its values lie, so the footprint isn't gone over.
 #![tactic(auto)]
 
 mod change;

@@ -51,6 +51,10 @@ impl Model for Records {
 impl Records {
     /// Returns those of the writes. The values of items are shared.
     ///
+    /// # Errors
+    ///
+    /// `NoMemory`, if an allocation fails.
+    ///
     /// # Cost
     ///
     /// A pass over the records.
@@ -78,6 +82,10 @@ impl Records {
 
     /// Returns the layout with the values after. Where nothing was written it is the same layout, shared.
     ///
+    /// # Errors
+    ///
+    /// `NoMemory`, if an allocation fails.
+    ///
     /// # Cost
     ///
     /// That of `Version::with`.
@@ -92,6 +100,10 @@ impl Records {
     }
 
     /// Returns the layout with the values before. Where nothing was written it is the same layout, shared.
+    ///
+    /// # Errors
+    ///
+    /// `NoMemory`, if an allocation fails.
     ///
     /// # Cost
     ///
@@ -108,6 +120,10 @@ impl Records {
 
     /// Returns the elements that some record meets: those in which a value lies, before or after. They are in no
     /// order, and one may stand there several times.
+    ///
+    /// # Errors
+    ///
+    /// `NoMemory`, if an allocation fails.
     ///
     /// # Cost
     ///

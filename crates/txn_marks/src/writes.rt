@@ -56,6 +56,10 @@ impl Writes {
 
     /// Returns equal writes. The rings of items are shared.
     ///
+    /// # Errors
+    ///
+    /// `NoMemory`, if an allocation fails.
+    ///
     /// # Cost
     ///
     /// A pass over the records.
@@ -107,6 +111,10 @@ impl Writes {
 
     /// Writes an item, which had the value `before` in the first of the two layouts.
     ///
+    /// # Errors
+    ///
+    /// `NoMemory`, if an allocation fails; nothing is changed then.
+    ///
     /// # Cost
     ///
     /// As that of `item`.
@@ -125,6 +133,10 @@ impl Writes {
 
     /// Writes a symbol, which had the slot `before` in the first of the two layouts.
     ///
+    /// # Errors
+    ///
+    /// `NoMemory`, if an allocation fails; nothing is changed then.
+    ///
     /// # Cost
     ///
     /// As that of `item`.
@@ -141,6 +153,10 @@ impl Writes {
     }
 
     /// Returns the layout with the values after. Where nothing was written it is the same layout, shared.
+    ///
+    /// # Errors
+    ///
+    /// `NoMemory`, if an allocation fails.
     ///
     /// # Cost
     ///

@@ -59,6 +59,10 @@ impl Model for Act {
 impl Act {
     /// Returns the layout after what the act writes. What isn't written is shared.
     ///
+    /// # Errors
+    ///
+    /// `NoMemory`, if an allocation fails.
+    ///
     /// # Cost
     ///
     /// That of `Version::with`.

@@ -20,6 +20,10 @@ use txn_commands::{CmdFault, Command};
 /// come in the order of each command's tests. Any answer can give way to `NoMemory`. `bands` finds the
 /// edges of a Boolean.
 ///
+/// # Errors
+///
+/// The first refusal of the command's tests, in their order; `NoMemory`, if an allocation fails.
+///
 /// # Cost
 ///
 /// Of a call that of a search of the calls, of a symbol that is dropped that of a pass over the items, of

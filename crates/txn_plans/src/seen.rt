@@ -90,6 +90,10 @@ impl<'a> Seen<'a> {
 
     /// Returns the layout as a snapshot of its own.
     ///
+    /// # Errors
+    ///
+    /// `NoMemory`, if an allocation fails.
+    ///
     /// # Cost
     ///
     /// That of `Version::with`, where the layout isn't kept.

@@ -1,13 +1,19 @@
-//! Commands of transactions: what each makes of a layout, what it reads, and the laws of that.
+//! Laws of commands: what they read, what they leave alone, and why their records can be applied
+//! and reverted.
 //!
-//! A [`Command`] is refused, and then changes nothing, or it is accepted: it has an answer, leads to a
-//! layout, and has touched parts of the layout, its [`Element`]s. What it does is `effect` of
-//! `txn_commands/specs/Effects.antt`. What a transaction wrote is read off the layouts before and after it, as
-//! [`Record`]s and [`CellRecord`]s.
+//! What a command does is `effect` of `txn_commands/specs/Effects.antt`, and what a transaction
+//! wrote is read off the layouts before and after it (`txn_commands/specs/Records.antt`). The laws
+//! are stated in `txn_commands/specs/Laws.antt`. Nothing of this runs: functions with an empty body
+//! carry them.
 //!
-//! The calls of `laws` do nothing. Their clauses say what holds of all commands: commands that are accepted
-//! do the same on each layout that agrees with the first on what they touched, they leave alone what they
-//! didn't touch, and their records can be applied and reverted beside those of other transactions.
+//! - [`commands_have_laws`]: a command does the same on all sound layouts in which what it touches
+//!   is the same, and touches what it writes.
+//! - [`runs_have_laws`]: commands that are all accepted leave alone what they don't touch, keep a
+//!   layout sound, make items of their own, and go alike on all sound layouts in which what they
+//!   touch is the same.
+//! - [`records_have_laws`]: the records between layouts lead from the one to the other and back,
+//!   and between sound layouts go past commands that touch nothing of them. So they can be applied
+//!   and reverted next to those of other transactions.
 #![tactic(auto)]
 
 mod laws;

@@ -152,6 +152,11 @@ impl Work {
     /// `TxnFull` after them; any answer can give way to `NoMemory`. A refused command changes nothing.
     /// `bands` finds the edges of a Boolean, which is rounded in as many threads as there are processors.
     ///
+    /// # Errors
+    ///
+    /// The first refusal of the command's tests, in their order, and `TxnFull` after them; `NoMemory`, if an allocation
+    /// fails. Nothing is changed then.
+    ///
     /// # Cost
     ///
     /// That of its plan, and of `Version::with` once a command needed the whole layout. A call, an operation or

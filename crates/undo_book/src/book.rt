@@ -54,6 +54,10 @@ impl Model for Book {
 
 impl Book {
     /// Returns the history of this base without calls, of which it logs `MAX_CALLS` at most.
+    ///
+    /// # Errors
+    ///
+    /// `NoMemory`, if an allocation fails.
     pub fn new(alloc: Global, base: Snapshot) -> Result<Book, NoMemory>
         ensures { IsAnswer (record {}) result (Ok (fresh base MAX_CALLS)) }
     {
@@ -61,6 +65,10 @@ impl Book {
     }
 
     /// Returns the history of this base without calls, of which it logs as many as `limit` at most.
+    ///
+    /// # Errors
+    ///
+    /// `NoMemory`, if an allocation fails.
     pub fn with_log(alloc: Global, base: Snapshot, limit: u32) -> Result<Book, NoMemory>
         requires low { 1 ≤ limit }
         requires high { limit ≤ MAX_CALLS }

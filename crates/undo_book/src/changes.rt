@@ -33,6 +33,10 @@ impl Changes {
     }
 
     /// Reserves room for one more call.
+    ///
+    /// # Errors
+    ///
+    /// `NoMemory`, if an allocation fails.
     pub fn reserve_call(&mut self) -> Result<(), NoMemory>
         ensures earlier { self.new.earlier.items ≡ self.old.earlier.items }
         ensures last { self.new.last.items ≡ self.old.last.items }
@@ -44,6 +48,10 @@ impl Changes {
     }
 
     /// Reserves room for one more call and one more transaction.
+    ///
+    /// # Errors
+    ///
+    /// `NoMemory`, if an allocation fails.
     pub fn reserve_commit(&mut self) -> Result<(), NoMemory>
         ensures earlier { self.new.earlier.items ≡ self.old.earlier.items }
         ensures last { self.new.last.items ≡ self.old.last.items }
@@ -93,7 +101,7 @@ impl Changes {
 }
 
 /// Returns whether there is no such call, or it lies before this place of the log.
-pub fn is_before(earlier: Option<u32>, since: usize) -> bool
+pub(crate) fn is_before(earlier: Option<u32>, since: usize) -> bool
     ensures { result ≡ is_unchanged_since earlier since }
 {
     match earlier {

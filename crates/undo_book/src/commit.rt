@@ -57,12 +57,19 @@ fn refused(fault: BookFault, work: Work) -> CommitRefusal
 }
 
 impl Book {
-    /// Commits a work: its transaction is live, and the last one. Refused, with the work handed back, as
-    /// `LogFull`, then as `Foreign` where the work isn't the one that its session opened last in this book
-    /// and that has not ended, or where the layout at its open isn't as its snapshot has it on what it
-    /// touched. Refused as `Stale` with the first transaction that a call since its open committed, undid or
-    /// redid and that wrote what the work touched; the work has then ended. Only this is logged. `NoMemory` in
-    /// place of the other answers but the first two hands the work back, and nothing changes.
+    /// Commits a work: its transaction is live, and the last one.
+    ///
+    /// # Errors
+    ///
+    /// Tested in this order:
+    ///
+    /// - `LogFull`, with the work handed back.
+    /// - `Foreign`, with the work handed back, if it isn't the one that its session opened last in this book and that has
+    ///   not ended, or if the layout at its open isn't as its snapshot has it on what it touched.
+    /// - `Stale` with the first transaction that a call since its open committed, undid or redid and that wrote what the
+    ///   work touched. The work has then ended; only this refusal is logged.
+    ///
+    /// `NoMemory` in place of `Stale` and of success hands the work back, and nothing is changed.
     ///
     /// # Cost
     ///

@@ -1,18 +1,55 @@
 //! The history of a layout: transactions that commit, and are undone and redone by their names.
 //!
-//! A session opens a transaction and gets a [`Work`](txn_work::Work) on a snapshot of the layout. A commit
-//! hands the work to the [`Book`], unless a transaction that a call since the open committed, undid or redid wrote what the
-//! work touched. Any committed
-//! transaction can be undone, unless a later live one touched what it wrote; and redone, unless a later live
-//! one did, or the live earlier ones that wrote what it touched are no longer those of its commit. What is
-//! written is applied and reverted: no command is run again. And yet the layout is always that of running
-//! the commands of the live transactions, in the order of their commits, from the base. That is what a
-//! `Book` keeps in its type, with the places of its transactions by their names and of their changes in its
-//! log.
+//! A session opens a transaction and gets a `Work` of `txn_work` on a snapshot of the layout. A
+//! commit hands the work to the [`Book`], unless a transaction that a call since the open
+//! committed, undid or redid wrote what the work touched. Any committed transaction can be undone,
+//! unless a later live one touched what it wrote; and redone, unless a later live one did, or the
+//! live earlier ones that wrote what it touched are no longer those of its commit. What was written
+//! is applied and reverted: no command is run again.
 //!
-//! Contracts see a `Book` as the record `History` of `undo_rules/specs/Books.antt`. What each call answers
-//! and leaves is in `undo_rules/specs/Steps.antt`; any answer but `LogFull`, and `Foreign` of a commit, can give way
-//! to `NoMemory`, and then nothing changes (`specs/Calls.antt`).
+//! # Model
+//!
+//! - `Book` is kept as two snapshots, lists of the log, the entries and the sessions, the places of
+//!   transactions by their names, where the log changes which transaction, and an index of the live
+//!   ones by the elements that they wrote and touched. Contracts see the record `History` of
+//!   `undo_rules/specs/Books.antt`.
+//! - An `Entry` is a committed transaction: its records, its footprint, whom it saw, and whether it
+//!   is live. A `SessionState` has a session's opens and the one that is pending.
+//!
+//! What each call answers and leaves is `undo_rules/specs/Steps.antt`. Any answer but LogFull, and
+//! Foreign of a commit, can give way to NoMemory, and then nothing changes (`Takes` and `TakesWork`
+//! of `specs/Calls.antt`). A commit that is refused hands its work back, unless it was stale
+//! ([`CommitRefusal`]).
+//!
+//! # Invariants
+//!
+//! [`Book::new`] has them of a base without calls, and each call keeps them (`IsBook` of
+//! `specs/Books.antt`):
+//!
+//! - The layout is that of running the commands of the live transactions, in the order of their
+//!   commits, from the base, each with its records (`IsHistory` of `undo_rules/specs/Books.antt`).
+//! - Of each name the place of its transaction is kept (`specs/Places.antt`).
+//! - Of each logged call the place of the last one before it that changed the same transaction is
+//!   kept, and of each transaction that of its last change (`AreChanges` of `specs/Changes.antt`).
+//! - Transactions are in the order of their commits; one whose last change is after the last undo
+//!   or redo was changed by its commit alone, and is live (`AreCommits` of `specs/Changes.antt`).
+//! - Of each element the places of the live transactions that wrote it, and of those that touched
+//!   it, are kept (`AreIndexed` of `specs/Indexed.antt`).
+//!
+//! # Limits
+//!
+//! 64 sessions, [`MAX_TRANSACTIONS`] opened transactions of a session, and [`MAX_CALLS`] logged
+//! calls.
+//!
+//! # Files
+//!
+//! - `book.rt`, `entry.rt`, `session.rt`, `changes.rt`: the state.
+//! - `open.rt`, `commit.rt`, `undo.rt`, `redo.rt`: a call each. `remark.rt` is what undo and redo
+//!   share.
+//! - `find.rt`, `links.rt`: transactions by their names, and what is against undoing or redoing
+//!   them.
+//!
+//! # Example
 //!
 //! ```text
 //! let mut book = Book::new(alloc, base)?;
@@ -22,18 +59,6 @@
 //! book.undo(alloc, 1, txn)?;
 //! book.redo(alloc, 1, txn)?;
 //! ```
-//!
-//! # What a history keeps of its transactions, sessions and places
-//!
-//! An [`Entry`] is a committed transaction: its records, its footprint, whom it saw, and whether it is live. A
-//! [`SessionState`] has a session's opens and the one that is pending. [`Changes`] has of each call of the
-//! log the last one before it that changed the same transaction, of each transaction its last change, and the
-//! place behind the last undo or redo (`specs/Changes.antt`). An index lists an entry's place under an element
-//! exactly where the entry is live and its records meet it, or its footprint has it (`specs/Places.antt`,
-//! `specs/Indexed.antt`).
-//!
-//! The laws say what a commit, an undo and a redo leave of that, and that what the index finds is what the
-//! definitions of Stale, Depends and Moved ask for. `undo_book` has the history itself.
 #![tactic(auto)]
 
 mod book;
@@ -49,8 +74,6 @@ mod session;
 mod undo;
 
 pub use book::{Book, MAX_CALLS};
-pub use changes::{Changes, is_before};
 pub use commit::CommitRefusal;
-pub use entry::{Entry, mark_at};
+pub use entry::Entry;
 pub use open::MAX_TRANSACTIONS;
-pub use session::{Pending, SessionState, end_pending, unused_sessions};

@@ -18,8 +18,11 @@ const _: () = prove!(MAX_TRANSACTIONS == 65_535);
 
 impl Book {
     /// Opens the next transaction of a session, on the layout as it is, and drops what the session has open.
-    /// Refused as `LogFull`, then as `SessionFull` where the session has as many transactions as it may
-    /// have. All but `LogFull` and `NoMemory` are logged.
+    ///
+    /// # Errors
+    ///
+    /// `LogFull`, then `SessionFull`, if the session has as many transactions as it may have, which is logged; `NoMemory`
+    /// in place of `SessionFull`.
     pub fn open(&mut self, alloc: Global, session: u8) -> Result<Work, BookFault>
         requires low { 1 ≤ session }
         requires high { session ≤ 64 }

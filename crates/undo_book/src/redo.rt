@@ -10,10 +10,14 @@ use txn_commands::TxnId;
 use undo_rules::{BookFault, Call};
 
 impl Book {
-    /// Redoes an undone transaction, of any session, at its place. Refused as `LogFull`, then as `NoTxn`, as
-    /// `StillLive`, as `Depends` with the first later live transaction that touched what this one wrote,
-    /// and as `Moved` with the first earlier one that is linked to it now and wasn't at its commit, or the
-    /// other way round. All but `LogFull` and `NoMemory` are logged.
+    /// Redoes an undone transaction, of any session, at its place.
+    ///
+    /// # Errors
+    ///
+    /// `LogFull`, `NoTxn`, `StillLive`, `Depends` with the first later live transaction that touched what this one wrote,
+    /// and `Moved` with the first earlier one that is linked to it now and wasn't at its commit, or the other way round,
+    /// tested in this order. `NoMemory` in place of all but `LogFull`. All but these two are logged; else nothing is
+    /// changed.
     ///
     /// # Cost
     ///

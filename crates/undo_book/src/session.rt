@@ -106,7 +106,7 @@ impl Pending {
 }
 
 /// Returns what is kept of 64 sessions that never opened a transaction.
-pub fn unused_sessions(alloc: Global) -> Result<Vec<SessionState>, NoMemory>
+pub(crate) fn unused_sessions(alloc: Global) -> Result<Vec<SessionState>, NoMemory>
     ensures { IfOk result (λ sessions. sessions.items ≡ replicate 64 unused) }
 {
     let mut sessions = Vec::with_capacity(alloc, SESSIONS)?;
@@ -117,7 +117,7 @@ pub fn unused_sessions(alloc: Global) -> Result<Vec<SessionState>, NoMemory>
 }
 
 /// Drops what the session has pending, since it has ended.
-pub fn end_pending(sessions: &mut Vec<SessionState>, session: u8)
+pub(crate) fn end_pending(sessions: &mut Vec<SessionState>, session: u8)
     requires low { 1 ≤ session }
     requires high { session ≤ vec_len sessions.old }
     ensures { sessions.new.items ≡ slice_set sessions.old.items (session - 1)

@@ -10,9 +10,13 @@ use txn_commands::TxnId;
 use undo_rules::{BookFault, Call};
 
 impl Book {
-    /// Undoes a committed transaction, of any session. Refused as `LogFull`, then as `NoTxn`, as `NotLive`,
-    /// and as `Depends` with the first later live transaction that touched what this one wrote. All but
-    /// `LogFull` and `NoMemory` are logged.
+    /// Undoes a committed transaction, of any session.
+    ///
+    /// # Errors
+    ///
+    /// `LogFull`, `NoTxn`, `NotLive`, and `Depends` with the first later live transaction that touched what this one
+    /// wrote, tested in this order. `NoMemory` in place of all but `LogFull`. All but these two are logged; else nothing
+    /// is changed.
     ///
     /// # Cost
     ///

@@ -30,6 +30,10 @@ impl Model for Elements {
 impl Elements {
     /// Returns those of the footprint. The list has no room for others, and a sole one takes no allocation.
     ///
+    /// # Errors
+    ///
+    /// `NoMemory`, if an allocation fails.
+    ///
     /// # Cost
     ///
     /// A pass over the elements.
@@ -52,6 +56,10 @@ impl Elements {
     }
 
     /// Returns those that some record meets.
+    ///
+    /// # Errors
+    ///
+    /// `NoMemory`, if an allocation fails.
     ///
     /// # Cost
     ///

@@ -31,6 +31,10 @@ impl Index {
     /// Lists a transaction as live, with the elements that it wrote and those that it touched. Out of memory
     /// all stays as it was where it isn't listed.
     ///
+    /// # Errors
+    ///
+    /// `NoMemory`, if an allocation fails.
+    ///
     /// # Cost
     ///
     /// That of `Listing::add`.

@@ -20,6 +20,10 @@ pub enum Kept {
 impl Kept {
     /// Adds the place. Out of memory the places are those that were there.
     ///
+    /// # Errors
+    ///
+    /// `NoMemory`, if an allocation fails.
+    ///
     /// # Cost
     ///
     /// As many comparisons as the logarithm of the number of places.
@@ -76,6 +80,10 @@ impl Kept {
 
     /// Adds the places below this one, in rising order, to those that were found. Out of memory some of them may be
     /// there already.
+    ///
+    /// # Errors
+    ///
+    /// `NoMemory`, if an allocation fails.
     ///
     /// # Cost
     ///

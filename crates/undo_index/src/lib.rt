@@ -1,23 +1,35 @@
-//! An index of a history: who wrote and who read what.
+//! An index of a history: who wrote and who touched what, so that conflicts are looked up by
+//! elements and not asked of each transaction.
 //!
-//! A [`Listing`] has places listed under elements, in order. An [`Index`] has two of them: the live
-//! transactions that wrote an element, and those that touched it. So who wrote what a footprint has, and who
-//! touched what was written, is looked up by elements, and not asked of each transaction. The places under one
-//! element that is no item are an `undo_index::Kept`; [`first_apart`], passed on from there too, compares the
-//! places that are linked with those that were, both as [`Places`], which rise.
+//! A place is the index of a transaction in its history, a plain number.
 //!
-//! [`Elements`] are those of a footprint, or those that records meet, in a list that doesn't grow.
+//! # Model
 //!
-//! Contracts see a listing as the finite set of its pairs, and elements as the finite set of them.
+//! - [`Index`] is two listings: the places of the live transactions that wrote an element, and of
+//!   those that touched it, that is read or wrote it.
+//! - [`Listing`] is kept as a tree of pairs for items, whose ids take less room, and for each other
+//!   element the places under it (`parts.rt`). Contracts see the finite set of its pairs of element
+//!   and place (`specs/Listed.antt`).
+//! - The places under one element (`kept.rt`) are a sole one in place, or a tree. Contracts ask
+//!   which places are there, and of a search that it finds the first one from a place on that
+//!   passes a test (`specs/First.antt`).
+//! - [`Elements`] are those of a footprint, or those that records meet, in a list that doesn't
+//!   grow; a sole one is in place. Contracts see the finite set of them.
+//! - [`Places`] is a list of places. Contracts see the list. [`first_apart`] finds the least place
+//!   that one of two such lists has and the other hasn't: so the places that are linked are
+//!   compared with those that were.
 //!
-//! # Places of transactions in their history, as they are listed under one element
+//! # Invariants
 //!
-//! A place is a plain number: the index of a transaction. A [`Kept`] has the places under one element: a sole one
-//! stands in place, several are a tree. [`Places`] are a list that rises, each place once, and [`first_apart`] finds
-//! the least one that one of two such lists has alone. [`lesser`] brings first places of several searches together.
+//! - `Places`: they rise, each once ([`Places::of`] sorts them).
+//! - `Index` keeps nothing in its type. That it has just the live transactions of a history is kept
+//!   by the book of `undo_book`. Where memory runs out, [`Index::enter`] and [`Listing::add`] take
+//!   back what they listed, so a place that is new leaves the listing as it was.
 //!
-//! Contracts see [`Places`] as the list of them, and of a [`Kept`] the list of its places. They ask of a list which
-//! numbers it has, and of a search that it finds the first number from one on that passes a test.
+//! # Files
+//!
+//! - `index.rt`, `listing.rt`, `under.rt`, `parts.rt`, `kept.rt`: what is listed under elements.
+//! - `elements.rt`, `places.rt`, `apart.rt`, `least.rt`: what is asked with, and what is found.
 #![tactic(auto)]
 
 mod apart;
@@ -33,7 +45,5 @@ mod under;
 pub use apart::first_apart;
 pub use elements::Elements;
 pub use index::Index;
-pub use kept::Kept;
-pub use least::lesser;
 pub use listing::Listing;
 pub use places::Places;

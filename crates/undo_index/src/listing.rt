@@ -59,6 +59,10 @@ impl Listing {
     /// Lists the place under each of the elements. Out of memory it takes those back that it listed, so what
     /// was listed stays as it was where the place is a new one.
     ///
+    /// # Errors
+    ///
+    /// `NoMemory`, if an allocation fails.
+    ///
     /// # Cost
     ///
     /// As many steps as there are elements, each by the logarithm of the number of pairs.
@@ -119,6 +123,10 @@ impl Listing {
     }
 
     /// Returns all places below this one that are listed under one of the elements, in rising order.
+    ///
+    /// # Errors
+    ///
+    /// `NoMemory`, if an allocation fails.
     ///
     /// # Cost
     ///

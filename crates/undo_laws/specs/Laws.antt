@@ -1,5 +1,8 @@
 -- What commands that compute operations on layers leave in a layout, and where that is.
 -- Source: this project's own rule. A place (x, y) at scale k, with 1 ≤ k, stands for (x / k, y / k).
+-- Checked on: tests/jobs/an-and-of-two-boxes.job, tests/jobs/a-not-leaves-holes.job,
+-- tests/jobs/an-empty-xor-clears-its-layer.job, tests/jobs/parts-are-shapes.job and
+-- tests/jobs/a-boolean-is-undone.job.
 use Rattle.std.specs.Prelude.{◌≡◌, ◌≢◌, ◌⊎◌, ℕ, ◌<◌, ℤ, pos, ◌≤ℤ◌, Bool, List, [], ◌∷◌, None, Some, Ok}
 use Rattle.std.specs.List.{list_any}
 use Rattle.lay_point.specs.Bridges.{bridged}

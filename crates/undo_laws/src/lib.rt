@@ -1,33 +1,47 @@
-//! Where the shapes are that a Boolean command writes.
+//! Laws of histories in the user's words: what operations drew stays, footprints have no more than
+//! they owe, and refusals name their cause.
+//!
+//! Nothing of this runs: functions with an empty body carry the laws.
+//!
+//! # What a Boolean command draws, and how long it stays
 //!
 //! Such a command computes an operation on two layers: it removes the shapes of its cell on an
 //! output layer and writes those of the operation there. `bool_rules` says where the shapes of an
-//! operation are, and `txn_rules` what a command writes. The laws here join the two: directly
-//! behind the command a place is inside some shape of the cell on the output layer exactly where
-//! the operation holds of the two layers as they were, rounded together. So it is of the rings of
-//! the shapes, and of the one path for each shape that the text of a layout has. Shapes elsewhere,
-//! calls and symbols stay, where the ids of the new shapes are free. `commands_draw_operations`
-//! does nothing: it carries the laws.
+//! operation are, and `txn_rules` what a command writes.
 //!
-//! `undo_rules` says what a history is: live transactions, whose commands run in the order of their
-//! commits give the layout. `operations_stay_in_histories` carries the same law over the layout at
-//! the end of a history, which is what is written: it holds there until another live transaction
-//! writes on the layer.
+//! - [`commands_draw_operations`] (`specs/Laws.antt`): directly after the command a place is inside
+//!   some shape of the cell on the output layer exactly where the operation holds of the two layers
+//!   as they were, rounded together. So it is of the rings of the shapes, and of the one path for
+//!   each shape that the text of a layout has. Shapes elsewhere and calls stay, where the ids of
+//!   the new shapes are free.
+//! - [`operations_stay_in_histories`] (`specs/Staying.antt`): in a history that began on a sound
+//!   layout the same holds at the end, of an operation of a live transaction, unless that
+//!   transaction changed the shapes after it or a later live one wrote there.
 //!
-//! # Laws of footprints from the other side: nothing is in one that isn't owed
+//! # What a footprint has
 //!
-//! That a footprint has all that a transaction reads and writes follows from the laws of `txn_rules`. Here it is
-//! said that it has no more: each element comes from a command that looked at it or wrote it, and calls lead to
-//! each cell that is looked through. And layouts that agree on a footprint pass the test of it, so that no work
-//! is turned away as another history's without cause. Nothing of this runs.
+//! - [`footprints_are_owed`] (`specs/Owed.antt`): each element comes from a command that looked at
+//!   it or wrote it, by the kind of the command. And layouts that agree on a footprint are found
+//!   to, so that no work is turned away as another history's without cause. That a footprint has
+//!   all that a transaction reads and writes follows from the laws of `txn_rules`.
 //!
-//! # Laws of a book's refusals: each names the transaction that is its cause, and comes where there is one alone
+//! # What a refusal names
 //!
-//! `undo_rules` computes what an undo, a redo and a commit are answered. Here the answers that name a
-//! transaction are said in words: Depends comes exactly where a later live transaction touched what this one
-//! wrote, and names the first of them; Moved, where an earlier one is linked and wasn't seen, or the other way
-//! round; Stale, where a call since the open changed a transaction that wrote what the work touched. Foreign
-//! comes exactly where the work isn't the one that its session has pending. Nothing of this runs.
+//! `undo_rules` computes the answers. Here those that name a transaction are said in words
+//! (`specs/Refusing.antt`), where no two transactions have one name and the log has room.
+//!
+//! - [`undos_are_refused_for_cause`]: Depends comes exactly where the transaction is live and a
+//!   later live one touched what it wrote; the first of them is named.
+//! - [`redos_are_refused_for_cause`]: Depends comes exactly where the transaction is undone and a
+//!   later live one touched what it wrote; Moved where none did, and an earlier one is linked now
+//!   and wasn't seen, or the other way round.
+//! - [`commits_are_refused_for_cause`]: Foreign comes exactly where the work isn't the pending one
+//!   of its session, or the layouts aren't found to agree on what it touched; Stale where neither
+//!   is so, and a call since its open changed a transaction that wrote what the work touched.
+//!
+//! # Files
+//!
+//! - `region_laws.rt`, `footprint_laws.rt`, `refusal_laws.rt`: the laws, in this order.
 #![tactic(auto)]
 
 mod footprint_laws;

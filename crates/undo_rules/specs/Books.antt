@@ -1,4 +1,7 @@
 -- The history of a book: the base, the layout now, the log, the committed transactions, and what each session has open.
+-- Source: this project's own.
+-- Checked on: two boxes in transactions 1.1 and 1.2: the replay has both; with 1.2 undone the first
+-- alone; with both undone it is the base.
 use Rattle.std.specs.Prelude.{◌≡◌, ℕ, ◌+◌, ◌<◌, ◌≤◌, List, [], ◌∷◌, length, drop, true, Option, None, Some, is_some, slice_get, option_map}
 use Rattle.std.specs.Prelude.{if◌then◌else◌}
 use Rattle.std.specs.List.{AllByRecursion, filter_map}

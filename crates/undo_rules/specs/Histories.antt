@@ -1,4 +1,7 @@
 -- Histories: the live transactions, run in the order of their commits, lead from the base to the layout.
+-- Source: this project's own.
+-- Checked on: two boxes in 1.1 and 1.2: from the base by 1.1 to the first box, by 1.2 to both; with
+-- 1.2 undone the first box is left.
 use Rattle.std.specs.Prelude.{◌≡◌, ℕ, List, [], ◌∷◌, ◌++◌, length, map, Bool, true}
 use Rattle.std.specs.Prelude.{false, Option, None, Some, if◌then◌else◌, slice_get, MatchBool}
 use Rattle.std.specs.List.{AllByRecursion}

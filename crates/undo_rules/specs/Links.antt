@@ -1,4 +1,7 @@
 -- Which transactions a transaction is linked to: the live earlier ones that wrote what it touched.
+-- Source: this project's own.
+-- Checked on: tests/jobs/a-scan.job: 2.1, which combines layer M, is linked to 1.1, which drew on
+-- M, and not to 1.2, which drew on N.
 use Rattle.std.specs.Prelude.{◌≡◌, ℕ, ◌==◌, List, [], ◌∷◌, map, Bool, false, ◌&&◌, Option, None, Some, if◌then◌else◌}
 use Rattle.std.specs.List.{AllByRecursion, list_any}
 use Rattle.txn_commands.specs.declared.command.TxnId.{TxnId}

@@ -1,4 +1,9 @@
 -- The calls of a book: what each answers, in the order in which refusals are tested, and what it leaves.
+-- Source: this project's own.
+-- Checked on: tests/jobs/an-earlier-box-is-undone.job (an earlier transaction is undone, which
+-- nothing later touched), tests/jobs/boxes-are-undone-in-any-order.job, tests/jobs/moved-ground.job
+-- (Stale, NotLive, Depends, StillLive) and tests/jobs/moves-in-a-row.job (Depends and Moved). A
+-- work of another book, whose session never opened in this one: Foreign.
 use Rattle.std.specs.Prelude.{ℕ, ◌+◌, ◌-◌, ◌==◌, ◌&&◌, not, List, [], ◌∷◌, ◌++◌, length, drop, Bool, true, false, nat_le, Option}
 use Rattle.std.specs.Prelude.{None, Some, Result, Ok, Err, if◌then◌else◌, slice_index_or, slice_set, replicate, unwrap_or}
 use Rattle.lay_layouts.specs.Layout.{Layout}

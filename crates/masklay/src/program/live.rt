@@ -5,13 +5,12 @@ ghost use Rattle.live_run.specs.declared.run.TheConstants.{MAX_READS};
 ghost use Rattle.masklay.specs.Live.{IsLive, WritesLiveEnd};
 ghost use Rattle.masklay.specs.Telling.{MayReport};
 
-use crate::program::options::MAX_WORKERS;
 use crate::program::outcome::Stop;
 use crate::program::output::write_stop;
 use crate::program::put_memory;
 use crate::program::status::Status;
 use crate::program::telling::tell_of_stop;
-use band_workers::{OneBand, ScopedBands};
+use band_workers::{MAX_WORKERS, OneBand, ScopedBands};
 use byte_io::{In, Out};
 use live_run::{LiveEnd, run_live};
 use std::alloc::Global;

@@ -1,8 +1,5 @@
 //! How the program is to run.
 
-/// The most workers.
-pub use band_workers::MAX_WORKERS;
-
 /// How the program is to run.
 #[derive(Clone, Copy, Debug, PartialEq, Eq)]
 pub struct Options {

@@ -8,9 +8,9 @@ ghost use Rattle.undo_book.specs.declared.book.TheConstants.{MAX_CALLS};
 ghost use Rattle.masklay.specs.Outcome.{finished_from, sessions_for, stop_of_cif, stop_of_job};
 ghost use Rattle.masklay.specs.Threads.{AnswersOutcome, stop_of_run};
 
-use crate::program::options::{MAX_WORKERS, Options};
+use crate::program::options::Options;
 use crate::program::threads::finish_threads;
-use band_workers::{OneBand, ScopedBands};
+use band_workers::{MAX_WORKERS, OneBand, ScopedBands};
 use cif_layout::FromCif;
 use cif_read::{CifFault, FaultKind, read};
 use job_text::{Job, JobFault, order_of};
