@@ -12,7 +12,7 @@ class Error(Exception):
 class MasklayError(Error):
     """A step was refused. Nothing has changed; but a commit that is `Stale` has ended its transaction.
 
-    `docs/DEFINITIONS.md` of masklay lists the numbers.
+    `docs/FORMAT.md` of masklay lists the numbers.
     """
 
     #: The number of the refusal, as 23.
