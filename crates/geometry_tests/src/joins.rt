@@ -3,6 +3,7 @@ ghost use Rattle.std.specs.Prelude.{◌≡◌};
 
 use face_rings::*;
 use lay_point::{Point, Ring};
+use std::alloc::Global;
 use std::test::*;
 
 // Could catch a joining that always runs out of memory, boxes that are apart by a unit and joined, and boxes
@@ -16,14 +17,27 @@ fn boxes_are_joined_where_they_touch(rt: HostRuntime) -> Result<(), Fail> {
         (10, 10, 11, 20),
         (11, 5, 20, 6),
     ];
-    let mut boxes = Vec::new(rt.alloc());
+    let mut rings = Vec::new(rt.alloc());
     for (left, low, right, high) in corners {
         let one = Point { x: left, y: low };
         let other = Point { x: right, y: high };
-        let ring = Ring::rectangle(rt.alloc(), one, other);
-        boxes.push(bounds_of(&ring))?;
+        rings.push(Ring::rectangle(rt.alloc(), one, other))?;
     }
-    let heads = joined_heads(rt.alloc(), &boxes)?;
-    assert_eq!(rt; heads.as_slice(), [0, 1, 2, 0, 2].as_slice());
+    let found = parts(rt.alloc(), rings)?;
+    assert_eq!(rt; found.len(), 3);
+    let wanted: [(usize, &[i32]); 3] = [(0, &[0, 10]), (1, &[21]), (2, &[11, 11])];
+    for (number, want) in wanted {
+        let part = found.get(number).ok_or("no part")?;
+        assert_eq!(rt; lefts_of(rt.alloc(), part)?.as_slice(), want);
+    }
     Ok(())
+}
+
+/// Returns the x of the first point of each ring.
+fn lefts_of(alloc: Global, rings: &[Ring]) -> Result<Vec<i32>, Fail> {
+    let mut lefts = Vec::new(alloc);
+    for ring in rings {
+        lefts.push(ring.points().first().ok_or("no point")?.x)?;
+    }
+    Ok(lefts)
 }

@@ -87,18 +87,8 @@ fn rounds_rings_together(rt: HostRuntime) -> Result<(), Fail> {
         owned(Input::First, first.points()),
         owned(Input::Second, second.points()),
     ];
-    let walks = round_rings(&rt, rt.alloc(), &rings)?;
-    let mut all = Vec::new(rt.alloc());
-    for walk in walks.as_slice() {
-        for ends in walk.as_slice().windows(2) {
-            if let [from, to] = ends {
-                all.push((*from, *to))?;
-            }
-        }
-    }
-    assert_eq!(rt; all.len(), 12);
-    let given = edges(rt.alloc(), all.as_slice())?;
-    let rounded = Rounded::from_edges(rt.alloc(), &given)?;
+    let together = round(&rt, rt.alloc(), &rings)?;
+    let rounded = Rounded::from_edges(rt.alloc(), together.edges())?;
     let clean = check_clean(rt.alloc(), rounded)?;
     assert_eq!(rt; clean.edges().len(), 12);
     Ok(())
