@@ -28,7 +28,7 @@ fn a_wire_is_shown_where_it_is(rt: HostRuntime) -> Result<(), Fail> {
     let job = b"\n%cif\nL NM;\n  B 40 20 0 0; W 10 0 0 40 0; E\n";
     let fault = fault_of(rt.alloc(), &job[6..])?;
     let want =
-        "masklay: line 4, column 16: a wire, which isn't read\n    B 40 20 0 0; W 10 0 0 40 0; E\n                 ^\n  Write the polygon";
+        "masklay: line 2 of the CIF text (line 4 of the job), column 16: a wire, which isn't read\n    B 40 20 0 0; W 10 0 0 40 0; E\n                 ^\n  Write the polygon";
     let lines = of_cif_fault(rt.alloc(), job, fault)?;
     assert!(rt; tells(&lines, want, "In KLayout turn paths into polygons"));
     Ok(())
@@ -50,27 +50,27 @@ fn a_command_that_is_not_read_has_its_words(rt: HostRuntime) -> Result<(), Fail>
     let rows: [(&[u8], &str, &str); 5] = [
         (
             b"L A; B 2 2 0 0;",
-            "masklay: line 2, column 16: the text ends",
+            "masklay: line 1 of the CIF text (line 2 of the job), column 16: the text ends",
             "with `E`",
         ),
         (
             b"B 2 2 0; E",
-            "masklay: line 2, column 1: this isn't a command",
+            "masklay: line 1 of the CIF text (line 2 of the job), column 1: this isn't a command",
             "`B length width x y;`",
         ),
         (
             b"R 4 0 0; E",
-            "masklay: line 2, column 1: a round flash",
+            "masklay: line 1 of the CIF text (line 2 of the job), column 1: a round flash",
             "Write a box or a polygon",
         ),
         (
             b"DD 1; E",
-            "masklay: line 2, column 1: a deletion",
+            "masklay: line 1 of the CIF text (line 2 of the job), column 1: a deletion",
             "number of its own",
         ),
         (
             b"X 1; E",
-            "masklay: line 2, column 1: this isn't a command",
+            "masklay: line 1 of the CIF text (line 2 of the job), column 1: this isn't a command",
             "Lower-case letters are blanks",
         ),
     ];
@@ -86,27 +86,27 @@ fn a_fault_of_a_symbol_has_its_words(rt: HostRuntime) -> Result<(), Fail> {
     let rows: [(&[u8], &str, &str); 5] = [
         (
             b"DS 1; DF; C 1 R 1 1; E",
-            "masklay: line 2, column 11: a direction",
+            "masklay: line 1 of the CIF text (line 2 of the job), column 11: a direction",
             "just one is 0",
         ),
         (
             b"DS 1; DF; DS 1; DF; E",
-            "masklay: line 2, column 11: a second definition",
+            "masklay: line 1 of the CIF text (line 2 of the job), column 11: a second definition",
             "number of its own",
         ),
         (
             b"C 3; E",
-            "masklay: line 2, column 1: a call of a symbol",
+            "masklay: line 1 of the CIF text (line 2 of the job), column 1: a call of a symbol",
             "Define the symbol",
         ),
         (
             b"DS 1; C 1; DF; E",
-            "masklay: line 2, column 7: a call by which",
+            "masklay: line 1 of the CIF text (line 2 of the job), column 7: a call by which",
             "circle",
         ),
         (
             b"DS 1 0 2; DF; E",
-            "masklay: line 2, column 1: a scale with a 0",
+            "masklay: line 1 of the CIF text (line 2 of the job), column 1: a scale with a 0",
             "at least 1",
         ),
     ];
@@ -122,27 +122,27 @@ fn a_fault_of_a_shape_or_of_the_end_has_its_words(rt: HostRuntime) -> Result<(),
     let rows: [(&[u8], &str, &str); 5] = [
         (
             b"B 2 2 0 0; E",
-            "masklay: line 2, column 1: a shape where no layer",
+            "masklay: line 1 of the CIF text (line 2 of the job), column 1: a shape where no layer",
             "Write `L NAME;`",
         ),
         (
             b"DS 1 1 3;\nL A; B 2 2 0 0; DF; C 1; E",
-            "masklay: line 3, column 6: a distance",
+            "masklay: line 2 of the CIF text (line 3 of the job), column 6: a distance",
             "5 nanometres",
         ),
         (
             b"L A; P 0 0 9999999999 1 1 1; E",
-            "masklay: line 2, column 6: a number or",
+            "masklay: line 1 of the CIF text (line 2 of the job), column 6: a number or",
             "2,147,483,647",
         ),
         (
             b"E X",
-            "masklay: line 2, column 3: something comes after `E`",
+            "masklay: line 1 of the CIF text (line 2 of the job), column 3: something comes after `E`",
             "Take it away",
         ),
         (
             b"L ABCDEFGHIJKLMNOPQ; E",
-            "masklay: line 2, column 1: a layer's name",
+            "masklay: line 1 of the CIF text (line 2 of the job), column 1: a layer's name",
             "shorter name",
         ),
     ];
@@ -158,7 +158,7 @@ fn a_line_of_a_job_is_shown_with_its_form(rt: HostRuntime) -> Result<(), Fail> {
     let job = b"%cif\nE\n%session 1\nopen\n  box top M 0 0 1\n";
     let lines = of_job_fault(rt.alloc(), job, 5)?;
     let want =
-        "masklay: line 5, column 3: this line isn't as it has to be\n    box top M 0 0 1\n    ^\n  `box CELL LAYER X1 Y1 X2 Y2`";
+        "masklay: line 5, column 18: here comes a whole number from -2,147,483,648 to 2,147,483,647, and the line ends\n    box top M 0 0 1\n                   ^\n  `box CELL LAYER X1 Y1 X2 Y2`";
     assert!(rt; tells(&lines, want, ""));
     let too_long = of_job_fault(rt.alloc(), job, 0)?;
     assert!(rt; tells(&too_long, "masklay: the job has more", "16,777,216"));

@@ -19,10 +19,51 @@ fn a_text_of_an_editor_keeps_its_name_and_label(rt: HostRuntime) -> Result<(), F
         b"DS 1 1 1;\n9 INV;\nL M1;\nB 40 20 0 0;\n94 A 10,-20 M1;\n94 B 0 5;\nDF;\nC 1;\n94 TOP 3 4;\nE";
     let written = b"DS 1 1 2;\nL M1;\nP -40 -20 40 -20 40 20 -40 20;\nDF;\nC 1;\nE\n";
     let want =
-        "DS 1 1 2;\n9 INV;\n L M1; 94 A 20 -40 M1;\n L M1; 94 B 0 10;\n94 TOP 6 8;\nL M1;\nP -40 -20 40 -20 40 20 -40 20;\nDF;\nC 1;\nE\n";
+        "DS 1 1 2;\n9 INV;\n94 TOP 6 8;\n L M1; 94 A 20 -40;\n L M1; 94 B 0 10;\nL M1;\nP -40 -20 40 -20 40 20 -40 20;\nDF;\nC 1;\nE\n";
     let (bytes, left_out) = put_into(rt.alloc(), text, written)?;
     assert_eq!(rt; bytes.as_slice(), want.as_bytes());
     assert_eq!(rt; left_out, 0);
+    Ok(())
+}
+
+// Could catch a definition by which the layer that was set before a definition is lost behind it, or that of the definition goes on.
+#[test]
+fn a_label_behind_a_definition_is_on_the_layer_before_it(rt: HostRuntime) -> Result<(), Fail> {
+    let text = b"L A; DS 1; L B; B 2 2 0 0; 94 IN 1 1; DF; 94 T 0 0; B 4 4 0 0; C 1; E";
+    let written = b"DS 1 1 2;\nDF;\nDS 2 1 2;\nC 1;\nDF;\nC 2;\nE\n";
+    let want = "DS 1 1 2;\n L B; 94 IN 2 2;\nDF;\nDS 2 1 2;\n L A; 94 T 0 0;\nC 1;\nDF;\nC 2;\nE\n";
+    let (bytes, left_out) = put_into(rt.alloc(), text, written)?;
+    assert_eq!(rt; bytes.as_slice(), want.as_bytes());
+    assert_eq!(rt; left_out, 0);
+    Ok(())
+}
+
+// Could catch an order of lines, or a form of a line, that is read as another label: one without a layer behind one that sets it, in the
+// symbol itself and of no symbol; a word that is left out where no layer is set; and a word that isn't left out at a layer.
+#[test]
+fn naming_twice_is_naming_once(rt: HostRuntime) -> Result<(), Fail> {
+    let text =
+        b"DS 1 1 1; L M1; 94 A 1 2 M1; 94 S 1 2 30; DF; 94 T 3 4 M9; L M2; 94 U 0,0; DS 2; 94 B 5 6 7; 9 TWO; C 1; DF; 94 V -1 0; C 2; E";
+    let written = b"DS 1 1 2;\nDF;\nDS 2 1 2;\nC 1;\nDF;\nC 2;\nE\n";
+    let want =
+        "DS 1 1 2;\n L M1; 94 A 2 4;\n L M1; 94 S 2 4 30;\nDF;\nDS 2 1 2;\n94 T 6 8 M9;\n94 B 10 12 7;\n9 TWO;\n L M2; 94 U 0 0;\n L M2; 94 V -2 0;\nC 1;\nDF;\nC 2;\nE\n";
+    let (once, _) = put_into(rt.alloc(), text, written)?;
+    assert_eq!(rt; once.as_slice(), want.as_bytes());
+    let (twice, left_out) = put_into(rt.alloc(), once.as_slice(), written)?;
+    assert_eq!(rt; twice.as_slice(), want.as_bytes());
+    assert_eq!(rt; left_out, 0);
+    Ok(())
+}
+
+// Could catch an instance's name that is lost without a count, or kept in a line.
+#[test]
+fn an_instance_has_its_name_counted(rt: HostRuntime) -> Result<(), Fail> {
+    let text = b"DS 1 1 2; DF; DS 2 1 2; 9 TWO; 91 one_0; C 1; DF; 91; C 2; E";
+    let written = b"DS 1 1 2;\nDF;\nDS 2 1 2;\nC 1;\nDF;\nC 2;\nE\n";
+    let want = "DS 1 1 2;\nDF;\nDS 2 1 2;\n9 TWO;\nC 1;\nDF;\nC 2;\nE\n";
+    let (bytes, left_out) = put_into(rt.alloc(), text, written)?;
+    assert_eq!(rt; bytes.as_slice(), want.as_bytes());
+    assert_eq!(rt; left_out, 2);
     Ok(())
 }
 

@@ -44,3 +44,20 @@ abbrev pub TellsPlace : List ℕ → ℕ → List ℕ → Type 0
 TellsPlace text offset lines =
     (start : ℕ) × IsLineStart text offset start
     × (rest : List ℕ) × (lines ≡ heading_text (1 + lines_before text offset) (1 + (offset - start)) ++ rest)
+
+unfoldable pub text_line_text : ℕ → List ℕ
+text_line_text line = codes "masklay: line " ++ decimal line ++ codes " of the CIF text"
+
+-- how the lines begin that tell of a place in the CIF text of a job, by its line there and its line in the job
+unfoldable pub text_heading_text : ℕ → ℕ → ℕ → List ℕ
+text_heading_text line of_job column =
+    (text_line_text line ++ (codes " (line " ++ decimal of_job ++ codes " of the job)"))
+    ++ (codes ", column " ++ decimal column ++ codes ": ")
+
+-- these lines tell the place of the byte at this offset of a job whose CIF text begins at `text`: its line in the text, which is
+-- one more than the lines that end from there on before the byte, its line in the job, and its column
+abbrev pub TellsTextPlace : List ℕ → ℕ → ℕ → List ℕ → Type 0
+TellsTextPlace job text offset lines =
+    (start : ℕ) × IsLineStart job offset start
+    × (rest : List ℕ)
+    × (lines ≡ text_heading_text (1 + (lines_before job offset - lines_before job text)) (1 + lines_before job offset) (1 + (offset - start)) ++ rest)

@@ -4,7 +4,7 @@
 pub(crate) fn form_of(word: &[u8]) -> &'static str {
     match word {
         b"open" | b"commit" | b"cancel" =>
-            "`open`, `commit` and `cancel` stand alone on their lines.",
+            "`open`, `commit` and `cancel` are alone on their lines.",
         b"undo" | b"redo" =>
             "A transaction is named by its session and its number: `undo 1.1`, `redo 2.3`.",
         b"look" | b"delete" =>
@@ -15,8 +15,7 @@ pub(crate) fn form_of(word: &[u8]) -> &'static str {
         b"%session" =>
             "Sections are `%session 1`, `%session 2` and so on, without a gap, at most 64.",
         b"%order" =>
-            "`%order` comes last and stands alone on its line; the lines after it have each session's number once for each of its steps.",
-        b"%cif" => "`%cif` stands alone on the first line, and only there.",
+            "`%order` comes last and is alone on its line; the lines after it have each session's number once for each of its steps.",
         _ => form_of_shapes(word),
     }
 }
@@ -33,6 +32,6 @@ fn form_of_shapes(word: &[u8]) -> &'static str {
         b"and" | b"or" | b"not" | b"xor" =>
             "`and CELL A B OUT`, and `or`, `not`, `xor` likewise: the layers A and B of the cell, drawn on the layer OUT.",
         _ =>
-            "A job is `%cif`, a CIF text, `%session 1` with a step a line, further sections, and perhaps `%order`. Steps are open, commit, cancel, undo, redo, box, poly, delete, move, layer, place, look, mkcell, rmcell, and, or, not and xor.",
+            "Steps are open, commit, cancel, undo, redo, box, poly, delete, move, layer, place, look, mkcell, rmcell, and, or, not and xor.",
     }
 }

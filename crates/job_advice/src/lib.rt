@@ -18,7 +18,16 @@ mod advice;
 mod cif_words;
 mod job_words;
 mod line;
+mod line_advice;
+mod no_job;
+mod notices;
+mod parts;
 mod place;
+mod problem;
+mod refusals;
+mod sections;
 mod window;
 
-pub use advice::{of_cif_fault, of_job_fault};
+pub use advice::{of_cif_fault, of_job_fault, of_text_fault};
+pub use notices::of_notices;
+pub use refusals::{of_refusals, sentence_of};
