@@ -90,7 +90,7 @@ pub calls_turned : (number : ℕ) (set : Option (List ℕ)) (symbols : List ℕ)
 unfolding after_call
 calls_turned number set symbols es target turn small within calls offset =
     let content = with_calls (inside number set symbols es) calls in (
-      calls ++ record { offset = offset; caller = Symbol number; target = target } ∷ [],
+      record calls { calls = calls.calls ++ record { offset = offset; caller = Symbol number; target = target } ∷ [] },
       rw (small_target target small, turn_small turn within)
           (ap (λ r. and_then r (λ turn. Ok (called content offset target turn))) (turn_back turn within)),
     )
@@ -101,7 +101,7 @@ pub calls_plainly : (symbols : List ℕ) (es : List Element) (target : ℕ) → 
 unfolding after_call
 calls_plainly symbols es target small calls offset =
     let content = with_calls (outside symbols es) calls in (
-      calls ++ record { offset = offset; caller = Top; target = target } ∷ [],
+      record calls { calls = calls.calls ++ record { offset = offset; caller = Top; target = target } ∷ [] },
       rw (small_target target small)
           (ap (λ r. and_then r (λ turn. Ok (called content offset target turn))) unturned_back),
     )

@@ -5,6 +5,8 @@ pub mod DistanceLemmas
 pub mod FaultGrammar
 pub mod HeldItems
 pub mod LinesLead
+pub mod NamedLead
+pub mod NamelessLines
 pub mod PlaceLemmas
 pub mod Reaching
 pub mod ReadBack

@@ -43,12 +43,12 @@ abbrev pub element_of : ℕ → Item → Element
 element_of number (Shape cell layer rings) = record { cell = Symbol number; figure = Polygon layer (bridged rings) }
 element_of number (Placed cell target turn) = record { cell = Symbol number; figure = Call target turn }
 
-record IsName (name : List ℕ) : Type 0 where
-  some : 1 ≤ length name
-  short : length name ≤ MAX_LAYER_NAME
-  bytes : list_all is_name_byte name ≡ true
+pub record IsName (name : List ℕ) : Type 0 where
+  pub some : 1 ≤ length name
+  pub short : length name ≤ MAX_LAYER_NAME
+  pub bytes : list_all is_name_byte name ≡ true
 
-named : (name : List ℕ) → is_layer_name name ≡ true → IsName name
+pub named : (name : List ℕ) → is_layer_name name ≡ true → IsName name
 named name h = record { some = grind (arith, nat_tests); short = grind (arith, nat_tests); bytes = grind (arith, nat_tests) }
 
 ring_line : (ps : List Point) → IsRing ps → IsLineOf (Path ps) (command.Polygon (map vertex_of ps))
@@ -65,6 +65,17 @@ module _ (number : ℕ) (symbols : List ℕ) (last : Content) (text : List ℕ) 
       (command.Polygon (map vertex_of ps)) [] text (ring_line ps ring)
       (draws number layer symbols es ps ring) reaches
 
+  -- whichever layer is set before
+  pub layered_leads : (set : Option (List ℕ)) (layer : List ℕ) (es : List Element) (ps : List Point) → is_layer_name layer ≡ true
+      → IsRing ps
+      → Reaches (inside number (Some layer) symbols (es ++ record { cell = Symbol number; figure = Polygon layer ps } ∷ [])) last text
+      → Reaches (inside number set symbols es) last (lines_text (OnLayer layer ∷ Path ps ∷ []) ++ text)
+  layered_leads set layer es ps name ring reaches =
+      let is = named layer name in
+      first_leads (inside number set symbols es) (inside number (Some layer) symbols es) last (OnLayer layer) (command.Layer layer)
+      (Path ps ∷ []) text (layer_line layer is.some is.bytes) (sets_layer number set symbols es layer is.short)
+      (path_leads layer es ps ring reaches)
+
   shape_leads : (set : Option (List ℕ)) (layer : List ℕ) (es : List Element) (ps : List Point) → is_layer_name layer ≡ true → IsRing ps
       → Reaches (inside number (Some layer) symbols (es ++ record { cell = Symbol number; figure = Polygon layer ps } ∷ [])) last text
       → (b : Bool) → is_set set layer ≡ b
@@ -72,13 +83,9 @@ module _ (number : ℕ) (symbols : List ℕ) (last : Content) (text : List ℕ) 
   shape_leads set layer es ps name ring reaches true e =
       subst (λ (s : Option (List ℕ)). Reaches (inside number s symbols es) last (lines_text (Path ps ∷ []) ++ text))
       (sym (is_set-true set layer e)) (path_leads layer es ps ring reaches)
-  shape_leads set layer es ps name ring reaches false e =
-      let is = named layer name in
-      first_leads (inside number set symbols es) (inside number (Some layer) symbols es) last (OnLayer layer) (command.Layer layer)
-      (Path ps ∷ []) text (layer_line layer is.some is.bytes) (sets_layer number set symbols es layer is.short)
-      (path_leads layer es ps ring reaches)
+  shape_leads set layer es ps name ring reaches false e = layered_leads set layer es ps name ring reaches
 
-  item_leads : (set : Option (List ℕ)) (es : List Element) (item : Item) → IsWritable item
+  pub item_leads : (set : Option (List ℕ)) (es : List Element) (item : Item) → IsWritable item
       → Reaches (inside number (layer_after set item) symbols (es ++ element_of number item ∷ [])) last text
       → Reaches (inside number set symbols es) last (lines_text (item_lines set item) ++ text)
   item_leads set es (Shape cell layer rings) may reaches =
@@ -89,12 +96,12 @@ module _ (number : ℕ) (symbols : List ℕ) (last : Content) (text : List ℕ) 
       (call_line target turn (omega (arith, may.0)) may.1) (calls_turned number set symbols es target turn may.0 may.1) reaches
 
 -- lines and others behind them
-lines_apart : (lines more : List Line) (text : List ℕ) → lines_text (lines ++ more) ++ text ≡ lines_text lines ++ (lines_text more ++ text)
+pub lines_apart : (lines more : List Line) (text : List ℕ) → lines_text (lines ++ more) ++ text ≡ lines_text lines ++ (lines_text more ++ text)
 lines_apart lines more text =
     ap (λ t. t ++ text) (flat_map-append line.line_text lines more) ∙ append_assoc (lines_text lines) (lines_text more) text
 
 -- whatever layer is set in the end
-items_lead : (number : ℕ) (symbols : List ℕ) (last : Content) (text : List ℕ) (items : List Item) (set : Option (List ℕ))
+pub items_lead : (number : ℕ) (symbols : List ℕ) (last : Content) (text : List ℕ) (items : List Item) (set : Option (List ℕ))
     (es : List Element)
     → AllByRecursion IsWritable items
     → ((end : Option (List ℕ)) → Reaches (inside number end symbols (es ++ map (element_of number) items)) last text)

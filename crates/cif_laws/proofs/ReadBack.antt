@@ -34,11 +34,11 @@ use Rattle.cif_layout.specs.FromCif.{item_of, layout_of}
 use Rattle.cif_layout.proofs.SoundLemmas.{layout_of-sound}
 use Rattle.cif_write.specs.Text.{text}
 use Rattle.cif_write.specs.Wrap.{Definition, Written, as_written, items_written, wrap, written}
-use Rattle.cif_laws.specs.Laws.{AreOnNamedLayers, FitsText, IsReread, WhatIsWrappedIsSound, WhatIsWrittenIsReadBack}
+use Rattle.cif_laws.specs.Laws.{AreOnNamedLayers, FitsText, IsAnsweredAs, IsReadAs, WhatIsWrappedIsSound, WhatIsWrittenIsReadBack}
 use Rattle.cif_laws.proofs.CommandsDo.{outside}
 use Rattle.cif_laws.proofs.HeldItems.{targets}
 use Rattle.cif_laws.proofs.LinesLead.{element_of, elements_of, elements_written, file_read, symbol_of}
-use Rattle.cif_laws.proofs.Reaching.{with_calls}
+use Rattle.cif_laws.proofs.Reaching.{Reaches, with_calls}
 use Rattle.cif_laws.proofs.WrittenCalls.{IsFrom, IsGood, WrittenCalls, calls_well, still_acyclic}
 use Rattle.cif_laws.proofs.WrittenSymbols.{has_number, own_numbers, written_well}
 
@@ -86,51 +86,67 @@ module _ (layout : Layout) (sound : IsSound layout) (named : AreOnNamedLayers la
 
 -- ---- the laws
 
--- what the text of a layout is read as
-record IsWrittenContent (layout : Layout) : Type 0 where
+-- what a text is read as that has a layout
+record IsWrittenContent (layout : Layout) (bytes : List ℕ) : Type 0 where
   commands : List (ℕ × Command)
   last : Content
-  reads : Reads (text layout) commands
+  reads : Reads bytes commands
   means : content_of commands ≡ Ok last
   kept : IsKept last
   bound : All (IsBound last.symbols) last.calls
   acyclic : IsAcyclic (map edge_of last.calls)
   again : layout_of (contents_of last) ≡ wrap layout
 
-content_written : (layout : Layout) → FitsText layout → IsWrittenContent layout
-unfolding text content_of
-content_written layout may =
+-- a text that leads to what is written of the layout is read as such
+abbrev pub LeadsToWritten : Layout → List ℕ → Type 0
+LeadsToWritten layout bytes =
+    Reaches (outside [] []) (outside (map symbol_of (written layout).definitions) (elements_written (written layout))) bytes
+
+content_written : (layout : Layout) → FitsText layout → (bytes : List ℕ) → LeadsToWritten layout bytes → IsWrittenContent layout bytes
+unfolding content_of
+content_written layout may bytes leads =
     let file = written layout in
     let well = written_well layout may.sound may.named may.room in
     let good = calls_well layout may.sound may.named well in
-    let read = file_read file well.definitions well.small [] 0 [] start_kept refl in
+    let read = leads (record { calls = []; extensions = 0 }) 0 [] start_kept refl in
     record {
       commands = read.commands;
       last = with_calls (outside (map symbol_of file.definitions) (elements_written file)) read.calls;
       reads = read.reads;
       means = read.means;
       kept = read.kept;
-      bound = bound layout may.sound may.named file read.calls good read.kept.calls;
-      acyclic = acyclic layout may.sound may.named file read.calls good read.kept.calls;
+      bound = bound layout may.sound may.named file read.calls.calls good read.kept.calls;
+      acyclic = acyclic layout may.sound may.named file read.calls.calls good read.kept.calls;
       again = ap (layout_with (map symbol_of file.definitions)) (written_again file);
     }
 
-answered : (layout : Layout) → IsWrittenContent layout → IsReread layout
-answered layout w short result (inl none) = inl none
-answered layout w short result (inr meaning) =
-    let content : content_within (text layout) ≡ Ok w.last = short_text (text layout) short
-    ∙ complete (text layout) w.commands w.reads ∙ w.means in
+answered : (layout : Layout) (bytes : List ℕ) → IsWrittenContent layout bytes → IsAnsweredAs layout bytes
+answered layout bytes w short result (inl none) = inl none
+answered layout bytes w short result (inr meaning) =
+    let content : content_within bytes ≡ Ok w.last = short_text bytes short
+    ∙ complete bytes w.commands w.reads ∙ w.means in
     let bound = subst (λ (r : Result Content CifFault). IsEndOf r result) content meaning in
     inr (contents_of w.last, one_end w.last result (Ok (contents_of w.last)) bound (refl, w.bound, w.acyclic), w.again)
 
+pub read_as : (layout : Layout) → FitsText layout → (bytes : List ℕ) → LeadsToWritten layout bytes
+    → IsReadAs layout bytes × IsAnsweredAs layout bytes
+read_as layout may bytes leads =
+    let w = content_written layout may bytes leads in
+    ((w.commands, w.last, contents_of w.last, w.reads, w.means, (refl, w.bound, w.acyclic), w.again), answered layout bytes w)
+
+-- the text of a layout leads there
+text_leads : (layout : Layout) → FitsText layout → LeadsToWritten layout (text layout)
+unfolding text
+text_leads layout may =
+    let well = written_well layout may.sound may.named may.room in
+    file_read (written layout) well.definitions well.small
+
 pub read_back : WhatIsWrittenIsReadBack
-read_back layout may =
-    let w = content_written layout may in
-    ((w.commands, w.last, contents_of w.last, w.reads, w.means, (refl, w.bound, w.acyclic), w.again), answered layout w)
+read_back layout may = read_as layout may (text layout) (text_leads layout may)
 
 pub wrapped_sound : WhatIsWrappedIsSound
 wrapped_sound layout may =
-    let w = content_written layout may in
+    let w = content_written layout may (text layout) (text_leads layout may) in
     subst IsSound w.again (layout_of-sound (contents_of w.last) (sound_file w.last w.kept w.bound w.acyclic))
 
 -- ---- what a reader answers

@@ -30,15 +30,21 @@ IsOnNamedLayer (Placed cell target turn) = Unit {0}
 abbrev pub AreOnNamedLayers : Layout → Type 0
 AreOnNamedLayers layout = (id : ItemId) (item : Item) → item_at layout id ≡ Some item → IsOnNamedLayer item
 
--- the text of a layout is commands of the grammar, whose meaning is bound as a file that has the layout, wrapped
-abbrev pub IsReadBack : Layout → Type 0
-IsReadBack layout = (commands : List (ℕ × Command)) × (last : Content) × (file : Contents)
-    × Reads (text layout) commands × (content_of commands ≡ Ok last) × IsBoundAs last (Ok file) × (layout_of file ≡ wrap layout)
+-- a text is commands of the grammar, whose meaning is bound as a file that has the layout, wrapped
+abbrev pub IsReadAs : Layout → List ℕ → Type 0
+IsReadAs layout bytes = (commands : List (ℕ × Command)) × (last : Content) × (file : Contents)
+    × Reads bytes commands × (content_of commands ≡ Ok last) × IsBoundAs last (Ok file) × (layout_of file ≡ wrap layout)
 
 -- where it isn't too long, whatever it may be answered with, but out of memory, is such a file
-abbrev pub IsReread : Layout → Type 0
-IsReread layout = length (text layout) ≤ MAX_TEXT → (result : Result Contents CifFault) → AnswersMeaning (text layout) result
+abbrev pub IsAnsweredAs : Layout → List ℕ → Type 0
+IsAnsweredAs layout bytes = length bytes ≤ MAX_TEXT → (result : Result Contents CifFault) → AnswersMeaning bytes result
     → (result ≡ Err no_memory) ⊎ ((file : Contents) × (result ≡ Ok file) × (layout_of file ≡ wrap layout))
+
+abbrev pub IsReadBack : Layout → Type 0
+IsReadBack layout = IsReadAs layout (text layout)
+
+abbrev pub IsReread : Layout → Type 0
+IsReread layout = IsAnsweredAs layout (text layout)
 
 -- a layout that a text can hold: it is sound, its layers have names, and no more symbols are written than a text may define
 pub record FitsText (layout : Layout) : Type 0 where

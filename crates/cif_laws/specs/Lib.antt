@@ -3,4 +3,5 @@ pub mod Changes
 pub mod Directions
 pub mod Distances
 pub mod Laws
+pub mod Named
 pub mod Refusals

@@ -4,6 +4,7 @@ ghost use Rattle.cif_laws.specs.Laws.{
   WhatIsWrappedIsSound,
   WhatIsWrittenIsReadBack,
 };
+ghost use Rattle.cif_laws.specs.Named.{NamesChangeNothing, NamesStandApart};
 
 /// What is written of a layout is read back as that layout, wrapped. That is a sound layout, and is written
 /// by the same text.
@@ -11,4 +12,11 @@ pub fn what_is_written_is_read_back()
     ensures again { WhatIsWrittenIsReadBack }
     ensures sound { WhatIsWrappedIsSound }
     ensures same { WhatIsReadIsWrittenTheSame }
+{}
+
+/// No line of what is written of a layout begins with `9 `, `94 ` or a space. So with the lines of names and labels in it, and then
+/// without such lines again, it is what it was; and with them it is read back as the layout, wrapped.
+pub fn names_change_nothing()
+    ensures apart { NamesStandApart }
+    ensures read { NamesChangeNothing }
 {}

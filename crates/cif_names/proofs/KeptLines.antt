@@ -8,7 +8,7 @@ use Rattle.std.proofs.lemmas.Bool.{and_parts, not-true}
 use Rattle.std.proofs.lemmas.Bool.Decides.{nat_tests}
 use Rattle.std.proofs.lemmas.Fmt.{decimal_by_steps}
 use Rattle.std.proofs.lemmas.List.Folds.{list_all-append}
-use Rattle.lay_point.specs.Names.{is_layer_name, is_name_byte, layer_name_of}
+use Rattle.lay_point.specs.Names.{is_digit, is_layer_name, is_name_byte, layer_name_of}
 use Rattle.cif_grammar.specs.declared.number.Number.{Number}
 use Rattle.cif_grammar.specs.Bytes.{is_blank, skip}
 use Rattle.byte_io.specs.Steps.{◌>>=◌}
@@ -21,32 +21,33 @@ use Rattle.cif_grammar.specs.Layers.{layer_of}
 use Rattle.cif_names.specs.declared.names.Names.{Names}
 use Rattle.cif_names.specs.declared.place.Place.{Place}
 use Rattle.cif_names.specs.Entries.{Label, coordinate_of, in_bits, label_command, label_of, label_text, layer_bytes, layer_text}
-use Rattle.cif_names.specs.Entries.{limit_of, name_text, number_text, product_in_units, scaled_to_units, sign_text, word_behind, word_text}
+use Rattle.cif_names.specs.Entries.{limit_of, name_text, number_text, product_in_units, scaled_to_units, sign_text, word_behind, word_beside}
+use Rattle.cif_names.specs.Entries.{word_text}
 use Rattle.cif_names.specs.Laws.{IsKeptLine, KeptLinesAreLines, is_kept_line, is_line}
 use Rattle.cif_names.specs.Names.{kept_after, label_line, name_line, names_after, names_from, names_of, nothing, with_line}
-use Rattle.cif_names.specs.Places.{after_bracket, layer_at, layered, outside, place_after, place_opened}
+use Rattle.cif_names.specs.Places.{after_bracket, layer_at, layered, outside, place_after, place_closed, place_opened}
 use Rattle.cif_names.specs.Words.{field_at, integer_of, is_dark, is_space, only_word, word_at, word_by}
 use Rattle.cif_names.proofs.SameText.{is_line-other}
 
 -- ---- bytes of which none is a newline
 
-abbrev is_plain : ℕ → Bool
+abbrev pub is_plain : ℕ → Bool
 is_plain b = not (b == 10)
 
-abbrev IsPlain : List ℕ → Type 0
+abbrev pub IsPlain : List ℕ → Type 0
 IsPlain bytes = list_all is_plain bytes ≡ true
 
-plain-append : (xs ys : List ℕ) → IsPlain xs → IsPlain ys → IsPlain (xs ++ ys)
+pub plain-append : (xs ys : List ℕ) → IsPlain xs → IsPlain ys → IsPlain (xs ++ ys)
 plain-append xs ys p q = list_all-append is_plain xs ys ∙ rw (p, q) refl
 
 -- in front of a line they are one with it
-line-append : (xs ys : List ℕ) → IsPlain xs → is_line ys ≡ true → is_line (xs ++ ys) ≡ true
+pub line-append : (xs ys : List ℕ) → IsPlain xs → is_line ys ≡ true → is_line (xs ++ ys) ≡ true
 line-append [] ys p one = one
 line-append (b ∷ bs) ys p one =
     let both = and_parts (is_plain b) (list_all is_plain bs) p in
     is_line-other b (bs ++ ys) (not-true (b == 10) both.0) ∙ line-append bs ys both.1 one
 
-all_weaker : (p q : ℕ → Bool) → ((b : ℕ) → p b ≡ true → q b ≡ true) → (bs : List ℕ) → list_all p bs ≡ true → list_all q bs ≡ true
+pub all_weaker : (p q : ℕ → Bool) → ((b : ℕ) → p b ≡ true → q b ≡ true) → (bs : List ℕ) → list_all p bs ≡ true → list_all q bs ≡ true
 all_weaker p q f [] h = refl
 all_weaker p q f (b ∷ bs) h =
     let both = and_parts (p b) (list_all p bs) h in
@@ -55,13 +56,13 @@ all_weaker p q f (b ∷ bs) h =
 dark_plain : (bs : List ℕ) → list_all is_dark bs ≡ true → IsPlain bs
 dark_plain bs h = all_weaker is_dark is_plain (λ b e. grind (arith, nat_tests)) bs h
 
-name_plain : (bs : List ℕ) → list_all is_name_byte bs ≡ true → IsPlain bs
+pub name_plain : (bs : List ℕ) → list_all is_name_byte bs ≡ true → IsPlain bs
 name_plain bs h = all_weaker is_name_byte is_plain (λ b e. grind (arith, nat_tests)) bs h
 
 one_digit : (n : ℕ) → n < 10 → IsPlain ((48 + n) ∷ [])
 one_digit n h = grind (arith, nat_tests)
 
-decimal_plain : (n : ℕ) → n < 2 ^ 64 → IsPlain (decimal n)
+pub decimal_plain : (n : ℕ) → n < 2 ^ 64 → IsPlain (decimal n)
 decimal_plain n h =
     decimal_by_steps (λ n ds. IsPlain ds) one_digit
     (λ n ds _ p. plain-append ds ((48 + n % 10) ∷ []) p (one_digit (n % 10) (omega arith))) n h
@@ -69,7 +70,7 @@ decimal_plain n h =
 -- ---- words, numbers and layers
 
 -- a step that takes what has P gives what has Q
-bind_if : {A B : Type 0} (o : Option A) (f : A → Option B) (P : A → Type 0) (Q : B → Type 0)
+pub bind_if : {A B : Type 0} (o : Option A) (f : A → Option B) (P : A → Type 0) (Q : B → Type 0)
     → IfSome o P → ((x : A) → P x → IfSome (f x) Q) → IfSome (o >>= f) Q
 bind_if None f P Q p g = tt
 bind_if (Some x) f P Q p g = g x p
@@ -97,7 +98,7 @@ only_plain bytes = bind_if (word_at bytes) _ IsPlainFirst IsPlain (word_plain by
   by w p true = p
   by w p false = tt
 
-abbrev IsSmall : Number → Type 0
+abbrev pub IsSmall : Number → Type 0
 IsSmall n = n.magnitude ≤ 2147483648
 
 in_bits-small : (negative : Bool) (n : ℕ) → IfSome (in_bits negative n) IsSmall
@@ -118,7 +119,7 @@ scaled_to_units-small scale n = by (scale.denominator == 0) (product_in_units sc
   by false true = in_bits-small n.negative (product_in_units scale n.magnitude / scale.denominator)
   by false false = tt
 
-coordinate-small : (scale : Scale) (word : List ℕ) → IfSome (coordinate_of scale word) IsSmall
+pub coordinate-small : (scale : Scale) (word : List ℕ) → IfSome (coordinate_of scale word) IsSmall
 unfolding coordinate_of
 coordinate-small scale word =
     bind_if (integer_of word) _ (λ _. ⊤) IsSmall (anything (integer_of word)) (λ n _. scaled_to_units-small scale n)
@@ -142,6 +143,13 @@ word_behind-plain bytes = by (list_all is_space bytes) where
   by : (t : Bool) → IfSome (cond t (Some []) (only_word bytes)) IsPlain
   by true = refl
   by false = only_plain bytes
+
+word_beside-plain : (set : Option (List ℕ)) (word : List ℕ) → IsPlain word → IsPlain (word_beside set word)
+word_beside-plain None word p = p
+word_beside-plain (Some layer) word p = by (list_all is_digit word) where
+  by : (t : Bool) → IsPlain (cond t word [])
+  by true = p
+  by false = refl
 
 word_text-plain : (word : List ℕ) → IsPlain word → IsPlain (word_text word)
 word_text-plain [] p = refl
@@ -174,7 +182,7 @@ label_plain place bytes set =
     bind_if (coordinate_of place.scale x_word.0) _ IsSmall IsPlainLabel (coordinate-small place.scale x_word.0) (λ x p.
     bind_if (coordinate_of place.scale y_word.0) _ IsSmall IsPlainLabel (coordinate-small place.scale y_word.0) (λ y q.
     bind_if (word_behind y_word.1) _ IsPlain IsPlainLabel (word_behind-plain y_word.1) (λ word r.
-    record { text = t; x = p; y = q; layer = layer_bytes-plain place.layer set; word = r }))))))
+    record { text = t; x = p; y = q; layer = layer_bytes-plain place.layer set; word = word_beside-plain place.layer word r }))))))
 
 -- seven parts
 seven_plain : (a b c d e f g : List ℕ) → IsPlain a → IsPlain b → IsPlain c → IsPlain d → IsPlain e → IsPlain f → IsPlain g
@@ -205,7 +213,7 @@ name_kept : (name : List ℕ) → IsPlain name → IsKept (name_text name)
 name_kept name p = (line-append (codes "9 " ++ name) (codes ";\n") (plain-append (codes "9 ") name refl p) refl, refl)
 
 -- what is made of what has P has Q
-map_if : {A B : Type 0} (f : A → B) (o : Option A) (P : A → Type 0) (Q : B → Type 0) → ((x : A) → P x → Q (f x)) → IfSome o P
+pub map_if : {A B : Type 0} (f : A → B) (o : Option A) (P : A → Type 0) (Q : B → Type 0) → ((x : A) → P x → Q (f x)) → IfSome o P
     → IfSome (option_map f o) Q
 map_if f None P Q g p = tt
 map_if f (Some x) P Q g p = g x p
@@ -222,7 +230,7 @@ label_line-kept place bytes set = map_if label_text (label_of place bytes) IsPla
 abbrev AreKept : Names → Type 0
 AreKept kept = AllByRecursion IsKeptLine kept.entries
 
-all_push : {X : Type 0} (P : X → Type 0) (xs : List X) (x : X) → AllByRecursion P xs → P x → AllByRecursion P (xs ++ x ∷ [])
+pub all_push : {X : Type 0} (P : X → Type 0) (xs : List X) (x : X) → AllByRecursion P xs → P x → AllByRecursion P (xs ++ x ∷ [])
 all_push P [] x all p = (p, tt)
 all_push P (y ∷ ys) x all p = (all.0, all_push P ys x all.1 p)
 
@@ -235,62 +243,75 @@ with_line-kept kept symbol (Some line) are is =
 names_after-kept : (kept : Names) (place : Place) (o : Option (List ℕ × List ℕ)) → AreKept kept → IfSome place.layer IsPlain
     → AreKept (names_after kept place o)
 names_after-kept kept place None are set = are
-names_after-kept kept place (Some w) are set = by (bytes_eq w.0 (codes "9")) (bytes_eq w.0 (codes "94")) where
-  by : (t u : Bool) → AreKept (cond t (with_line kept place.symbol (name_line place.symbol w.1))
-      (cond u (with_line kept place.symbol (label_line place w.1)) kept))
-  by true u = with_line-kept kept place.symbol _ are (name_line-kept place.symbol w.1)
-  by false true = with_line-kept kept place.symbol _ are (label_line-kept place w.1 set)
-  by false false = are
+names_after-kept kept place (Some w) are set =
+    by (bytes_eq w.0 (codes "9")) (bytes_eq w.0 (codes "94")) (bytes_eq w.0 (codes "91")) where
+      by : (t u v : Bool) → AreKept (cond t (with_line kept place.symbol (name_line place.symbol w.1))
+          (cond u (with_line kept place.symbol (label_line place w.1)) (cond v (with_line kept place.symbol None) kept)))
+      by true u v = with_line-kept kept place.symbol _ are (name_line-kept place.symbol w.1)
+      by false true v = with_line-kept kept place.symbol _ are (label_line-kept place w.1 set)
+      by false false true = are
+      by false false false = are
 
 kept_after-kept : (kept : Names) (place : Place) (bytes : List ℕ) → AreKept kept → IfSome place.layer IsPlain
     → AreKept (kept_after kept place bytes)
 unfolding kept_after
 kept_after-kept kept place bytes are set = names_after-kept kept place (word_at bytes) are set
 
-place_opened-plain : (place : Place) (o : Option Definition) → IfSome place.layer IsPlain → IfSome (place_opened place o).layer IsPlain
-place_opened-plain place None set = set
-place_opened-plain place (Some d) set = tt
+-- the layer that is set, and the one that is set again, are names of layers
+abbrev pub IsNamed : List ℕ → Type 0
+IsNamed name = is_layer_name name ≡ true
 
-after_bracket-plain : (place : Place) (bytes : List ℕ) → IfSome place.layer IsPlain → IfSome (after_bracket place bytes).layer IsPlain
-after_bracket-plain place [] set = set
-after_bracket-plain place (b ∷ bs) set = by (b == 83) (b == 70 && list_all is_blank bs) where
-  by : (t u : Bool) → IfSome (cond t (place_opened place (definition_of bs)) (cond u outside place)).layer IsPlain
-  by true u = place_opened-plain place (definition_of bs) set
-  by false true = tt
-  by false false = set
+pub record IsNamedPlace (place : Place) : Type 0 where
+  pub layer : IfSome place.layer IsNamed
+  pub saved : IfSome place.saved IsNamed
 
-layer_name-plain : (name : List ℕ) → IfSome (layer_name_of name) IsPlain
-layer_name-plain name = by (is_layer_name name) refl where
-  by : (t : Bool) → is_layer_name name ≡ t → IfSome (cond t (Some name) None) IsPlain
-  by true e = name_plain name (grind (arith, nat_tests))
+named_plain : (o : Option (List ℕ)) → IfSome o IsNamed → IfSome o IsPlain
+named_plain None named = tt
+named_plain (Some name) named = name_plain name (grind (arith, nat_tests))
+
+place_opened-named : (place : Place) (o : Option Definition) → IsNamedPlace place → IsNamedPlace (place_opened place o)
+place_opened-named place None are = are
+place_opened-named place (Some d) are = record { layer = tt; saved = are.layer }
+
+after_bracket-named : (place : Place) (bytes : List ℕ) → IsNamedPlace place → IsNamedPlace (after_bracket place bytes)
+after_bracket-named place [] are = are
+after_bracket-named place (b ∷ bs) are = by (b == 83) (b == 70 && list_all is_blank bs) where
+  by : (t u : Bool) → IsNamedPlace (cond t (place_opened place (definition_of bs)) (cond u (place_closed place) place))
+  by true u = place_opened-named place (definition_of bs) are
+  by false true = record { layer = are.saved; saved = tt }
+  by false false = are
+
+layer_name-named : (name : List ℕ) → IfSome (layer_name_of name) IsNamed
+layer_name-named name = by (is_layer_name name) refl where
+  by : (t : Bool) → is_layer_name name ≡ t → IfSome (cond t (Some name) None) IsNamed
+  by true e = e
   by false e = tt
 
-layer_at-plain : (bytes : List ℕ) → IfSome (layer_at bytes) IsPlain
+layer_at-named : (bytes : List ℕ) → IfSome (layer_at bytes) IsNamed
 unfolding layer_at
-layer_at-plain bytes = bind_if (layer_of bytes) _ (λ _. ⊤) IsPlain (anything (layer_of bytes)) (λ name _. layer_name-plain name)
+layer_at-named bytes = bind_if (layer_of bytes) _ (λ _. ⊤) IsNamed (anything (layer_of bytes)) (λ name _. layer_name-named name)
 
-layered-plain : (place : Place) (o : Option (List ℕ)) → IfSome place.layer IsPlain → IfSome o IsPlain
-    → IfSome (layered place o).layer IsPlain
-layered-plain place None set p = set
-layered-plain place (Some name) set p = p
+layered-named : (place : Place) (o : Option (List ℕ)) → IsNamedPlace place → IfSome o IsNamed → IsNamedPlace (layered place o)
+layered-named place None are p = are
+layered-named place (Some name) are p = record { layer = p; saved = are.saved }
 
-place_after-plain : (place : Place) (bytes : List ℕ) → IfSome place.layer IsPlain → IfSome (place_after place bytes).layer IsPlain
+pub place_after-named : (place : Place) (bytes : List ℕ) → IsNamedPlace place → IsNamedPlace (place_after place bytes)
 unfolding place_after
-place_after-plain place [] set = set
-place_after-plain place (b ∷ bs) set = by (b == 68) (b == 76) where
-  by : (t u : Bool) → IfSome (cond t (after_bracket place (skip is_blank bs)) (cond u (layered place (layer_at bs)) place)).layer IsPlain
-  by true u = after_bracket-plain place (skip is_blank bs) set
-  by false true = layered-plain place (layer_at bs) set (layer_at-plain bs)
-  by false false = set
+place_after-named place [] are = are
+place_after-named place (b ∷ bs) are = by (b == 68) (b == 76) where
+  by : (t u : Bool) → IsNamedPlace (cond t (after_bracket place (skip is_blank bs)) (cond u (layered place (layer_at bs)) place))
+  by true u = after_bracket-named place (skip is_blank bs) are
+  by false true = layered-named place (layer_at bs) are (layer_at-named bs)
+  by false false = are
 
-names_from-kept : (kept : Names) (place : Place) (ps : List (ℕ × List ℕ)) → AreKept kept → IfSome place.layer IsPlain
+names_from-kept : (kept : Names) (place : Place) (ps : List (ℕ × List ℕ)) → AreKept kept → IsNamedPlace place
     → AreKept (names_from kept place ps)
 unfolding names_from
 names_from-kept kept place [] are set = are
 names_from-kept kept place (p ∷ ps) are set =
-    names_from-kept (kept_after kept place p.1) (place_after place p.1) ps (kept_after-kept kept place p.1 are set)
-    (place_after-plain place p.1 set)
+    names_from-kept (kept_after kept place p.1) (place_after place p.1) ps
+    (kept_after-kept kept place p.1 are (named_plain place.layer set.layer)) (place_after-named place p.1 set)
 
 pub kept_lines : KeptLinesAreLines
 unfolding names_of
-kept_lines text = names_from-kept nothing outside (cut text).pieces tt tt
+kept_lines text = names_from-kept nothing outside (cut text).pieces tt (record { layer = tt; saved = tt })

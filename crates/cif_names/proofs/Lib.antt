@@ -1,4 +1,6 @@
+pub mod KeptCommands
 pub mod KeptLines
 pub mod LabelUnits
 pub mod PieceLemmas
+pub mod ReaderPlaces
 pub mod SameText

@@ -9,8 +9,7 @@ use Rattle.cif_names.specs.declared.names.Entry.{Entry}
 use Rattle.cif_names.specs.declared.names.Names.{Names}
 use Rattle.cif_names.specs.Laws.{HasNoNames, IsKeptLine, is_empty, is_kept_line, is_line, unless_kept, without_names}
 use Rattle.byte_io.specs.Lines.{in_front, lines}
-use Rattle.cif_names.specs.Woven.{has_newline, heading_of, is_symbol, is_top, last_call, lines_at_top, lines_in, started, with_names, woven}
-use Rattle.cif_names.specs.Woven.{woven_line}
+use Rattle.cif_names.specs.Woven.{has_newline, heading, heading_of, is_in, last_call, lines_in, started, with_names, woven, woven_line}
 
 -- ---- the lines of a text
 
@@ -31,7 +30,7 @@ is_line-newline : (b : ℕ) (bs : List ℕ) → (b == 10) ≡ true → is_line (
 is_line-newline b bs e = ap (λ t. cond t (is_empty bs) (is_line bs)) e
 
 -- a line at the front is the first one
-first_line : (line rest : List ℕ) → is_line line ≡ true → lines (line ++ rest) ≡ line ∷ lines rest
+pub first_line : (line rest : List ℕ) → is_line line ≡ true → lines (line ++ rest) ≡ line ∷ lines rest
 first_line [] rest one = absurd cc
 first_line (b ∷ bs) rest one = by (first_line bs rest) (b == 10) refl where
   last : (ds : List ℕ) → ds ≡ [] → (b == 10) ≡ true → lines (b ∷ (ds ++ rest)) ≡ (b ∷ ds) ∷ lines rest
@@ -115,18 +114,16 @@ all_vanish test (e ∷ es) are =
 
 -- ---- the text
 
--- what stands behind the first line of a definition vanishes
-abbrev AllVanish : (ℕ → List ℕ) → List ℕ → Type 0
-AllVanish of_symbol top = ((n : ℕ) → Vanishes (of_symbol n)) × Vanishes top
+heading_vanishes : (called : Option ℕ) (entries : List Entry) (n : ℕ) → AllByRecursion IsKeptLine entries
+    → Vanishes (heading called entries n)
+heading_vanishes called entries n are =
+    both_vanish (lines_in false called n entries) (lines_in true called n entries)
+    (all_vanish (is_in false called n) entries are) (all_vanish (is_in true called n) entries are)
 
-heading_vanishes : (of_symbol : ℕ → List ℕ) (top : List ℕ) (called o : Option ℕ) → AllVanish of_symbol top
-    → Vanishes (heading_of of_symbol top called o)
-heading_vanishes of_symbol top called None all = λ rest. refl
-heading_vanishes of_symbol top called (Some n) all =
-    both_vanish (of_symbol n) (cond (is_symbol n called) top []) (all.0 n) (by (is_symbol n called)) where
-      by : (t : Bool) → Vanishes (cond t top [])
-      by true = all.1
-      by false = λ rest. refl
+-- what stands behind a line vanishes, where each heading does
+heading_of-vanishes : (headings : ℕ → List ℕ) (o : Option ℕ) → ((n : ℕ) → Vanishes (headings n)) → Vanishes (heading_of headings o)
+heading_of-vanishes headings None all = λ rest. refl
+heading_of-vanishes headings (Some n) all = all n
 
 unless_kept-other : (line : List ℕ) → not (is_kept_line line) ≡ true → unless_kept line ≡ line
 unless_kept-other line h = by (is_kept_line line) h where
@@ -138,23 +135,22 @@ started-open : (line : List ℕ) → has_newline line ≡ false → started line
 unfolding started
 started-open line e = rw e refl
 
-same_lines : (of_symbol : ℕ → List ℕ) (top : List ℕ) (called : Option ℕ) (ls : List (List ℕ)) → AllVanish of_symbol top → AreLines ls
-    → list_all (λ line. not (is_kept_line line)) ls ≡ true → without_names (woven of_symbol top called ls) ≡ joined ls
-same_lines of_symbol top called [] all are plain = refl
-same_lines of_symbol top called (line ∷ behind) all (inl are) plain =
+same_lines : (headings : ℕ → List ℕ) (ls : List (List ℕ)) → ((n : ℕ) → Vanishes (headings n)) → AreLines ls
+    → list_all (λ line. not (is_kept_line line)) ls ≡ true → without_names (woven headings ls) ≡ joined ls
+same_lines headings [] all are plain = refl
+same_lines headings (line ∷ behind) all (inl are) plain =
     let both = and_parts (not (is_kept_line line)) (list_all (λ line. not (is_kept_line line)) behind) plain in
-    let head = heading_of of_symbol top called (started line) in
-    let more = woven of_symbol top called behind in
+    let head = heading_of headings (started line) in
+    let more = woven headings behind in
     ap without_names (append_assoc line head more)
     ∙ ap (flat_map unless_kept) (first_line line (head ++ more) are.0)
     ∙ ap (λ l. l ++ without_names (head ++ more)) (unless_kept-other line both.0)
-    ∙ ap (λ l. line ++ l) (heading_vanishes of_symbol top called (started line) all more
-    ∙ same_lines of_symbol top called behind all are.1 both.1)
-same_lines of_symbol top called (line ∷ behind) all (inr is) plain =
+    ∙ ap (λ l. line ++ l) (heading_of-vanishes headings (started line) all more ∙ same_lines headings behind all are.1 both.1)
+same_lines headings (line ∷ behind) all (inr is) plain =
     let both = and_parts (not (is_kept_line line)) (list_all (λ line. not (is_kept_line line)) behind) plain in
     rw is.last (
-    ap without_names (append-nil (woven_line of_symbol top called line)
-    ∙ ap (λ o. line ++ heading_of of_symbol top called o) (started-open line is.open_line) ∙ append-nil line)
+    ap without_names (append-nil (woven_line headings line)
+    ∙ ap (λ o. line ++ heading_of headings o) (started-open line is.open_line) ∙ append-nil line)
     ∙ ap (flat_map unless_kept) is.alone
     ∙ ap (λ l. l ++ []) (unless_kept-other line both.0))
 
@@ -162,7 +158,6 @@ pub same_text : (kept : Names) (written : List ℕ) → AllByRecursion IsKeptLin
     → without_names (with_names kept written) ≡ written
 unfolding with_names
 same_text kept written are plain =
-    same_lines (λ n. lines_in n kept.entries) (lines_at_top kept.entries) (last_call None (lines written)) (lines written)
-    ((λ n. all_vanish (λ e. is_symbol n e.symbol) kept.entries are), all_vanish (λ e. is_top e.symbol) kept.entries are)
-    (lines_are written) plain
+    let called = last_call None (lines written) in
+    same_lines (heading called kept.entries) (lines written) (λ n. heading_vanishes called kept.entries n are) (lines_are written) plain
     ∙ joined-lines written

@@ -4,6 +4,7 @@
 use Rattle.std.specs.Prelude.{ℕ, ◌==◌, ◌*◌, ◌/◌, ◌%◌, nat_le, List, [], ◌∷◌, ◌++◌, codes, decimal, Bool, ◌&&◌, not, Option, None, Some}
 use Rattle.std.specs.Prelude.{if◌then◌else◌}
 use Rattle.std.specs.List.{list_all}
+use Rattle.lay_point.specs.Names.{is_digit}
 use Rattle.cif_grammar.specs.declared.number.Number.{Number}
 use Rattle.byte_io.specs.Steps.{◌>>=◌}
 use Rattle.cif_grammar.specs.declared.definitions.Scale.{Scale}
@@ -36,7 +37,7 @@ coordinate_of scale word = do
   number ← integer_of word
   scaled_to_units scale number
 
--- a label: its text, its place, the layer that is set, and the word behind its place; no bytes where there is none
+-- a label: its text, its place, the layer that is set, and the word behind its place that stays; no bytes where there is none
 pub record Label : Type 0 where
   pub text : List ℕ
   pub x : Number
@@ -53,6 +54,11 @@ layer_bytes (Some name) = name
 unfoldable pub word_behind : List ℕ → Option (List ℕ)
 word_behind bytes = if list_all is_space bytes then Some [] else only_word bytes
 
+-- where a layer is set, a label's last word stays if it is a number, the text's size; a layer's name would be there twice
+abbrev pub word_beside : Option (List ℕ) → List ℕ → List ℕ
+word_beside None word = word
+word_beside (Some layer) word = if list_all is_digit word then word else []
+
 -- TEXT X Y [WORD], behind the `94`
 unfoldable pub label_of : Place → List ℕ → Option Label
 label_of place bytes = do
@@ -62,7 +68,7 @@ label_of place bytes = do
   x ← coordinate_of place.scale x_word.0
   y ← coordinate_of place.scale y_word.0
   word ← word_behind y_word.1
-  Some (record { text = text.0; x = x; y = y; layer = layer_bytes place.layer; word = word })
+  Some (record { text = text.0; x = x; y = y; layer = layer_bytes place.layer; word = word_beside place.layer word })
 
 -- a number in digits, with its sign unless it is 0
 abbrev pub sign_text : Number → List ℕ

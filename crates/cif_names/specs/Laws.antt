@@ -1,13 +1,22 @@
--- What is kept beside a layout is no part of its text.
-use Rattle.std.specs.Prelude.{◌≡◌, ℕ, ◌*◌, ◌≤◌, ◌==◌, Some, List, [], ◌∷◌, codes, flat_map, nat_eq, Bool, true, false, ◌||◌, not, IsTrue}
+-- What is kept beside a layout is no part of its text, and a label is where the reader has it.
+use Rattle.std.specs.Prelude.{◌≡◌, ℕ, ◌*◌, ◌≤◌, ◌==◌, List, [], ◌∷◌, codes, flat_map, nat_eq, Bool, true, false, ◌||◌, not, IsTrue}
+use Rattle.std.specs.Prelude.{Option, None, Some, option_map, Ok, ◌++◌, ◌⊎◌}
 use Rattle.std.specs.Prelude.{if◌then◌else◌}
 use Rattle.std.specs.List.{AllByRecursion, list_all, starts_with}
+use Rattle.lay_point.specs.Names.{is_layer_name}
 use Rattle.cif_grammar.specs.declared.number.Number.{Number}
 use Rattle.cif_grammar.specs.declared.definitions.Scale.{Scale}
+use Rattle.cif_grammar.specs.Grammar.{IsExtension}
+use Rattle.cif_read.specs.declared.content.Content.{Content}
+use Rattle.cif_read.specs.declared.content.OpenDefinition.{OpenDefinition}
+use Rattle.cif_read.specs.Content.{current_scale, empty_content}
+use Rattle.cif_read.specs.Meaning.{after_piece}
 use Rattle.cif_names.specs.declared.names.Entry.{Entry}
+use Rattle.cif_names.specs.declared.place.Place.{Place}
 use Rattle.cif_names.specs.Entries.{limit_of, scaled_to_units}
 use Rattle.byte_io.specs.Lines.{lines}
 use Rattle.cif_names.specs.Names.{names_of}
+use Rattle.cif_names.specs.Places.{outside, place_after}
 use Rattle.cif_names.specs.Woven.{with_names}
 
 abbrev pub is_empty : List ℕ → Bool
@@ -32,6 +41,28 @@ pub record IsKeptLine (entry : Entry) : Type 0 where
 -- all that is kept of any text
 abbrev pub KeptLinesAreLines : Type 0
 KeptLinesAreLines = (text : List ℕ) → AllByRecursion IsKeptLine (names_of text).entries
+
+-- an extension of the grammar, its semicolon and a newline
+pub record IsExtensionLine (line : List ℕ) : Type 0 where
+  pub extension : List ℕ
+  pub parts : line ≡ extension ++ codes ";\n"
+  pub is : IsExtension extension
+
+-- the command of a layer, and behind it the line of an extension
+pub record IsLayeredLine (line : List ℕ) : Type 0 where
+  pub layer : List ℕ
+  pub behind : List ℕ
+  pub parts : line ≡ codes " L " ++ layer ++ codes "; " ++ behind
+  pub named : IsTrue (is_layer_name layer)
+  pub extension : IsExtensionLine behind
+
+-- commands of the grammar: an extension, behind a layer's or behind nothing
+abbrev pub IsCommands : Entry → Type 0
+IsCommands entry = IsExtensionLine entry.line ⊎ IsLayeredLine entry.line
+
+-- all that is kept of any text
+abbrev pub KeptLinesAreCommands : Type 0
+KeptLinesAreCommands = (text : List ℕ) → AllByRecursion IsCommands (names_of text).entries
 
 -- the line, unless it is one of a name or a label
 abbrev pub unless_kept : List ℕ → List ℕ
@@ -60,3 +91,23 @@ pub record LabelsAreScaled : Type 0 where
   pub kept : (scale : Scale) (written units : Number) → scaled_to_units scale written ≡ Some units → IsDistanceInUnits scale written units
   pub only : (scale : Scale) (written units : Number) → 1 ≤ scale.denominator → IsDistanceInUnits scale written units
       → scaled_to_units scale written ≡ Some units
+
+-- the layer that the reader sets again where the definition ends that is open
+abbrev pub saved_layer : Option OpenDefinition → Option (List ℕ)
+saved_layer None = None
+saved_layer (Some o) = o.saved
+
+-- where the reader is: in which definition, at which scale, and with which layer set
+abbrev pub place_in : Content → Place
+place_in content = record {
+  symbol = option_map (λ o. o.symbol) content.definition;
+  scale = current_scale content.definition;
+  layer = content.layer;
+  saved = saved_layer content.definition;
+}
+
+-- the places of names and labels are the reader's: at a text's start, and behind each command that is read
+pub record PlacesAreTheReaders : Type 0 where
+  pub start : outside ≡ place_in empty_content
+  pub step : (content next : Content) (offset : ℕ) (bytes : List ℕ) → after_piece content offset bytes ≡ Ok next
+      → place_after (place_in content) bytes ≡ place_in next

@@ -1,8 +1,9 @@
 -- What is kept of a text's names and labels.
--- Source: `9` and `94` are user extensions of layout editors; what is kept of them is this
--- project's own.
--- Checked on: in `DS 1 1 1;`, after `L M1;`, `94 A 10,-20 M1;` is ` L M1; 94 A 20 -40 M1;`; in
--- `DS 7 1 4;`, `94 ON 2 4;` is `94 ON 1 2;`, and `94 OFF 1 4;` is left out.
+-- Source: `9`, `91` and `94` are user extensions of layout editors, of cells' names, instances' names and labels; what is kept
+-- of them is this project's own.
+-- Checked on: in `DS 1 1 1;`, after `L M1;`, `94 A 10,-20 M1;` is ` L M1; 94 A 20 -40;`; in
+-- `DS 7 1 4;`, `94 ON 2 4;` is `94 ON 1 2;`, `94 OFF 1 4;` is left out, and so is `91 inverter_0;`.
+-- Checked on: after `L TXT;`, `94 A 1 2 0;` is ` L TXT; 94 A 2 4 0;`, and without a layer `94 A 1 2 M1;` is `94 A 2 4 M1;`.
 use Rattle.std.specs.Prelude.{ℕ, ◌+◌, List, [], ◌∷◌, ◌++◌, codes, filter, Bool, true, Option, None, Some, option_map, if◌then◌else◌}
 use Rattle.std.specs.Str.{bytes_eq}
 use Rattle.lay_cells.specs.Symbols.{has_symbol}
@@ -33,12 +34,13 @@ with_line kept symbol None = record { entries = kept.entries; left_out = kept.le
 with_line kept symbol (Some line) =
     record { entries = kept.entries ++ record { symbol = symbol; line = line } ∷ []; left_out = kept.left_out }
 
--- what is kept after a command with this first word, and these bytes behind it
+-- what is kept after a command with this first word, and these bytes behind it; an instance's name is left out
 abbrev pub names_after : Names → Place → Option (List ℕ × List ℕ) → Names
 names_after kept place None = kept
 names_after kept place (Some word) =
     if bytes_eq word.0 (codes "9") then with_line kept place.symbol (name_line place.symbol word.1)
     else if bytes_eq word.0 (codes "94") then with_line kept place.symbol (label_line place word.1)
+    else if bytes_eq word.0 (codes "91") then with_line kept place.symbol None
     else kept
 
 -- what is kept after a command at this place

@@ -1,8 +1,10 @@
 -- A text with the lines of what is kept in it.
--- Source: this project's own: a symbol's lines stand behind the line that begins its definition, and those of no symbol in the
--- definition of the symbol that the text's last call names.
+-- Source: this project's own: a symbol's lines stand behind the line that begins its definition. Those of no symbol are lines
+-- of the one that the text's last call names. Lines that set no layer come first, so that none gets the layer of one before it.
+-- Checked on: of ` L M1; 94 B 0 10;` of symbol 1 and `94 TOP 6 8;` of none, where 1 is called last, the second comes first.
 use Rattle.std.specs.Prelude.{ℕ, ◌==◌, List, [], ◌∷◌, ◌++◌, codes, drop, flat_map, length, nat_eq, Bool, true, false, Option, None}
-use Rattle.std.specs.Prelude.{Some, if◌then◌else◌}
+use Rattle.std.specs.Prelude.{Some, ◌&&◌, if◌then◌else◌}
+use Rattle.std.specs.Bool.{beq}
 use Rattle.std.specs.List.{list_any, starts_with}
 use Rattle.cif_grammar.specs.Numbers.{integer_at}
 use Rattle.cif_names.specs.declared.names.Entry.{Entry}
@@ -25,55 +27,52 @@ has_newline line = list_any (λ b. b == 10) line
 unfoldable pub started : List ℕ → Option ℕ
 started line = if has_newline line then number_behind (codes "DS ") line else None
 
--- the symbol that a line calls, or where it calls none, the one before
-abbrev pub last_called : Option ℕ → Option ℕ → Option ℕ
-last_called before None = before
-last_called before (Some symbol) = Some symbol
+-- this symbol, or where there is none, the other
+abbrev pub symbol_or : Option ℕ → Option ℕ → Option ℕ
+symbol_or other None = other
+symbol_or other (Some symbol) = Some symbol
 
--- the symbol that the last call of the lines names
+-- the symbol that the last call of the lines names, or where they call none, the one before
 abbrev pub last_call : Option ℕ → List (List ℕ) → Option ℕ
 last_call before [] = before
-last_call before (line ∷ behind) = last_call (last_called before (number_behind (codes "C ") line)) behind
+last_call before (line ∷ behind) = last_call (symbol_or before (number_behind (codes "C ") line)) behind
 
 -- this is the symbol, and there is one
 abbrev pub is_symbol : ℕ → Option ℕ → Bool
 is_symbol n None = false
 is_symbol n (Some m) = m == n
 
-abbrev pub is_top : Option ℕ → Bool
-is_top None = true
-is_top (Some n) = false
+-- whether a line sets a layer: that of a label with one does, and begins with a space as no other
+abbrev pub sets_layer : List ℕ → Bool
+sets_layer line = starts_with nat_eq line (codes " ")
 
--- the lines of a symbol, one after the other
-abbrev pub line_in : ℕ → Entry → List ℕ
-line_in n e = if is_symbol n e.symbol then e.line else []
+-- whether an entry's line, which sets a layer or doesn't, stands in this symbol's definition, where this one is called last
+abbrev pub is_in : Bool → Option ℕ → ℕ → Entry → Bool
+is_in layered called n e = is_symbol n (symbol_or called e.symbol) && beq layered (sets_layer e.line)
 
-abbrev pub lines_in : ℕ → List Entry → List ℕ
-lines_in n entries = flat_map (line_in n) entries
+abbrev pub line_in : Bool → Option ℕ → ℕ → Entry → List ℕ
+line_in layered called n e = if is_in layered called n e then e.line else []
 
--- the lines of no symbol, one after the other
-abbrev pub line_at_top : Entry → List ℕ
-line_at_top e = if is_top e.symbol then e.line else []
+-- one after the other
+abbrev pub lines_in : Bool → Option ℕ → ℕ → List Entry → List ℕ
+lines_in layered called n entries = flat_map (line_in layered called n) entries
 
-abbrev pub lines_at_top : List Entry → List ℕ
-lines_at_top entries = flat_map line_at_top entries
+-- what stands in a symbol's definition behind its first line: its lines that set no layer, and then those that set one
+abbrev pub heading : Option ℕ → List Entry → ℕ → List ℕ
+heading called entries n = lines_in false called n entries ++ lines_in true called n entries
 
--- what stands in a definition behind its first line, by the lines of each symbol and of none, where this symbol is called last
-abbrev pub heading : (ℕ → List ℕ) → List ℕ → Option ℕ → ℕ → List ℕ
-heading of_symbol top called n = of_symbol n ++ (if is_symbol n called then top else [])
-
-abbrev pub heading_of : (ℕ → List ℕ) → List ℕ → Option ℕ → Option ℕ → List ℕ
-heading_of of_symbol top called None = []
-heading_of of_symbol top called (Some n) = heading of_symbol top called n
+-- what stands behind a line, by the heading of each symbol
+abbrev pub heading_of : (ℕ → List ℕ) → Option ℕ → List ℕ
+heading_of headings None = []
+heading_of headings (Some n) = headings n
 
 -- a line, and what stands behind it
-abbrev pub woven_line : (ℕ → List ℕ) → List ℕ → Option ℕ → List ℕ → List ℕ
-woven_line of_symbol top called line = line ++ heading_of of_symbol top called (started line)
+abbrev pub woven_line : (ℕ → List ℕ) → List ℕ → List ℕ
+woven_line headings line = line ++ heading_of headings (started line)
 
-abbrev pub woven : (ℕ → List ℕ) → List ℕ → Option ℕ → List (List ℕ) → List ℕ
-woven of_symbol top called ls = flat_map (woven_line of_symbol top called) ls
+abbrev pub woven : (ℕ → List ℕ) → List (List ℕ) → List ℕ
+woven headings ls = flat_map (woven_line headings) ls
 
 -- the text with the lines of what is kept in it
 unfoldable pub with_names : Names → List ℕ → List ℕ
-with_names kept written =
-    woven (λ n. lines_in n kept.entries) (lines_at_top kept.entries) (last_call None (lines written)) (lines written)
+with_names kept written = woven (heading (last_call None (lines written)) kept.entries) (lines written)

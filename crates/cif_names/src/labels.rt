@@ -1,5 +1,7 @@
 //! Lines of names and labels.
 ghost use Rattle.std.specs.Prelude.{◌≡◌, ◌++◌, IfOk, OnOk};
+ghost use Rattle.std.specs.List.{list_all};
+ghost use Rattle.lay_point.specs.Names.{is_digit};
 ghost use Rattle.cif_grammar.specs.Views.{Gives};
 ghost use Rattle.cif_names.specs.Entries.{
   label_command,
@@ -9,7 +11,7 @@ ghost use Rattle.cif_names.specs.Entries.{
   layer_text,
   name_text,
 };
-ghost use Rattle.cif_names.specs.Entries.{number_text, sign_text, word_behind, word_text};
+ghost use Rattle.cif_names.specs.Entries.{number_text, sign_text, word_behind, word_beside, word_text};
 ghost use Rattle.cif_names.specs.Names.{label_line, name_line};
 ghost use Rattle.cif_names.specs.Seen.{seen};
 
@@ -30,7 +32,8 @@ pub(crate) struct ReadLabel<'a> {
     y: Number,
     /// The bytes of the layer that is set; none where none is.
     layer: &'a [u8],
-    /// The word behind its place, which means one thing to one editor and another to the next; no bytes where there is none.
+    /// The word behind its place, which means one thing to one editor and another to the next; no bytes where there is none, or
+    /// where it doesn't stay.
     word: &'a [u8],
 }
 
@@ -85,8 +88,25 @@ fn read_label<'a>(place: &'a Place, bytes: &'a [u8]) -> Option<ReadLabel<'a>>
         x,
         y,
         layer: layer_bytes(&place.layer),
-        word,
+        word: word_beside(&place.layer, word),
     })
+}
+
+/// Returns the word behind a label's place; where a layer is set, no bytes unless it is a number.
+fn word_beside<'a>(set: &Option<LayerName>, word: &'a [u8]) -> &'a [u8]
+    ensures { result.now ≡ word_beside set.now word.now }
+{
+    match set {
+        Some(_) if !are_digits(word) => &[],
+        _ => word,
+    }
+}
+
+/// Returns whether all bytes are digits.
+fn are_digits(bytes: &[u8]) -> bool
+    ensures { result ≡ list_all is_digit bytes.now }
+{
+    bytes.iter().all(|b| b.is_ascii_digit())
 }
 
 /// Returns the word behind a label's coordinates, or no bytes.

@@ -5,11 +5,14 @@
 //! mean nothing. [`Names::of`] collects them from a text that was read: each is kept as a line of
 //! its own, with the symbol in whose definition it is, or none. [`with_names`] puts the lines into
 //! the text that is written: after the line that begins a symbol's definition come those of its
-//! number, a label's with its layer before it.
+//! number. Those that set no layer come first, then the labels that have one, each with its layer
+//! before it; so a text that is named twice is as it was named once.
 //!
 //! Labels are scaled to the database units in which definitions are written. One that isn't on
-//! their grid is left out and counted, and so is every `9` or `94` of another form. Both functions
-//! take any bytes, also a text that the reader refuses.
+//! their grid is left out and counted, and so is every `9` or `94` of another form, and every
+//! `91 NAME;`, an instance's name. Where a label's layer is set, its last word stays only if it is
+//! a number, a size to KLayout, which refuses a text with a layer's name there. Both functions take
+//! any bytes, also a text that the reader refuses.
 //!
 //! Contracts see [`Names`] as the entries in the order of the text, and how many were left out
 //! (`names_of` of `specs/Names.antt`). What is written with them is `with_names` of
@@ -31,6 +34,9 @@ mod place;
 mod words;
 mod woven;
 
-pub use laws::{kept_lines_are_lines, labels_are_scaled, without_them_the_text_is_the_same};
+pub use laws::{
+    kept_lines_are_lines, labels_are_scaled, places_are_the_readers,
+    without_them_the_text_is_the_same,
+};
 pub use names::Names;
 pub use woven::with_names;

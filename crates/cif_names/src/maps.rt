@@ -1,36 +1,59 @@
 //! The lines of each symbol, by its number.
 ghost use Rattle.std.specs.Prelude.{◌≡◌, ◌++◌, ◌==◌, [], ℕ, IfOk, OnOk, if◌then◌else◌};
 ghost use Rattle.cif_names.specs.Maps.{bytes_at, bytes_or_none};
-ghost use Rattle.cif_names.specs.Woven.{line_at_top, line_in, lines_at_top, lines_in};
+ghost use Rattle.cif_names.specs.Woven.{heading, line_in, lines_in, symbol_or};
 
 use crate::names::Entry;
 use lay_point::{NoMemory, Sequence};
 use std::alloc::Global;
 use std::collections::BTreeMap;
 
-/// Returns the lines of each symbol, one after the other.
-pub(crate) fn by_symbol(
+/// Returns the lines of each symbol, those that set no layer before those that set one, where this symbol is called last.
+pub(crate) fn headings(
     alloc: Global,
     entries: &[Entry],
+    called: Option<u32>,
 ) -> Result<BTreeMap<u32, Sequence<u8>>, NoMemory>
-    ensures { IfOk result (λ map. (n : ℕ) → bytes_at map.entries n ≡ lines_in n entries.now) }
+    ensures { IfOk result (λ map. (n : ℕ) → bytes_at map.entries n ≡ heading called entries.now n) }
 {
     let mut map = BTreeMap::new(alloc);
-    for entry in entries {
-        add_entry(alloc, &mut map, entry)?;
-    }
+    add_entries(alloc, &mut map, entries, called, false)?;
+    add_entries(alloc, &mut map, entries, called, true)?;
     Ok(map)
 }
 
-/// Adds the entry's line to those of its symbol, if it has one.
+/// Adds the lines that set a layer, or those that don't, to those of their symbols.
+fn add_entries(
+    alloc: Global,
+    map: &mut BTreeMap<u32, Sequence<u8>>,
+    entries: &[Entry],
+    called: Option<u32>,
+    layered: bool,
+) -> Result<(), NoMemory>
+    ensures { OnOk result ((n : ℕ) → bytes_at map.new.entries n
+        ≡ bytes_at map.old.entries n ++ lines_in layered called n entries.now) }
+{
+    for entry in entries {
+        add_entry(alloc, map, entry, called, layered)?;
+    }
+    Ok(())
+}
+
+/// Adds the entry's line to those of its symbol, if it sets a layer or doesn't, as is asked for.
 fn add_entry(
     alloc: Global,
     map: &mut BTreeMap<u32, Sequence<u8>>,
     entry: &Entry,
+    called: Option<u32>,
+    layered: bool,
 ) -> Result<(), NoMemory>
-    ensures { OnOk result ((n : ℕ) → bytes_at map.new.entries n ≡ bytes_at map.old.entries n ++ line_in n entry.now) }
+    ensures { OnOk result ((n : ℕ) → bytes_at map.new.entries n
+        ≡ bytes_at map.old.entries n ++ line_in layered called n entry.now) }
 {
-    match entry.symbol {
+    if entry.sets_layer() != layered {
+        return Ok(());
+    }
+    match symbol_or(called, entry.symbol) {
         None => Ok(()),
         Some(symbol) => add_line(alloc, map, symbol, entry.line.as_slice()),
     }
@@ -72,23 +95,12 @@ pub(crate) fn bytes_at(map: &BTreeMap<u32, Sequence<u8>>, symbol: u32) -> &[u8]
     }
 }
 
-/// Returns the lines of no symbol, one after the other.
-pub(crate) fn at_top(alloc: Global, entries: &[Entry]) -> Result<Vec<u8>, NoMemory>
-    ensures { IfOk result (λ bytes. bytes.items ≡ lines_at_top entries.now) }
+/// Returns the symbol, or where there is none, the other.
+pub(crate) fn symbol_or(other: Option<u32>, symbol: Option<u32>) -> Option<u32>
+    ensures { result ≡ symbol_or other symbol }
 {
-    let mut bytes = Vec::new(alloc);
-    for entry in entries {
-        push_at_top(&mut bytes, entry)?;
+    match symbol {
+        None => other,
+        Some(symbol) => Some(symbol),
     }
-    Ok(bytes)
-}
-
-/// Appends the entry's line, if it has no symbol.
-fn push_at_top(bytes: &mut Vec<u8>, entry: &Entry) -> Result<(), NoMemory>
-    ensures { OnOk result (bytes.new.items ≡ bytes.old.items ++ line_at_top entry.now) }
-{
-    if entry.symbol.is_none() {
-        bytes.extend_from_slice(entry.line.as_slice())?;
-    }
-    Ok(())
 }

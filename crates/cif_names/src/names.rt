@@ -8,6 +8,7 @@ ghost use Rattle.cif_names.specs.Names.{
   with_line,
   within,
 };
+ghost use Rattle.cif_names.specs.Woven.{sets_layer};
 
 use crate::labels::{label_line, name_line};
 use crate::pieces::split_piece;
@@ -23,8 +24,7 @@ use std::alloc::Global;
 pub(crate) struct Entry {
     /// The symbol in whose definition it stands; none where it stands in no definition.
     pub symbol: Option<u32>,
-    /// `9 NAME;` or `94 TEXT X Y [WORD];`, with its newline, its distances in database units; before a label the command that
-    /// sets its layer.
+    /// `9 NAME;`, `94 TEXT X Y [WORD];` or ` L LAYER; 94 TEXT X Y;`, with its newline, its distances in database units.
     pub line: Sequence<u8>,
 }
 
@@ -37,6 +37,13 @@ impl Entry {
             Some(symbol) => symbols.position(symbol).is_some(),
             None => true,
         }
+    }
+
+    /// Returns whether the line sets a layer.
+    pub fn sets_layer(&self) -> bool
+        ensures { result ≡ sets_layer self.now.line }
+    {
+        self.line.as_slice().starts_with(b" ")
     }
 }
 
@@ -73,7 +80,7 @@ impl Names {
         Ok(names)
     }
 
-    /// Returns how many `9` and `94` commands of the text couldn't be kept.
+    /// Returns how many `9` and `94` commands of the text couldn't be kept, and how many `91` there were.
     pub fn left_out(&self) -> usize
         ensures { result ≡ self.now.left_out }
     {
@@ -138,6 +145,7 @@ impl Names {
                 let line = label_line(alloc, place, behind)?;
                 self.add(place.symbol, line)
             }
+            b"91" => self.add(place.symbol, None),
             _ => Ok(()),
         }
     }

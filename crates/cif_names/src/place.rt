@@ -6,6 +6,7 @@ ghost use Rattle.cif_names.specs.Places.{
   layered,
   outside,
   place_after,
+  place_closed,
   place_opened,
 };
 
@@ -21,6 +22,8 @@ pub(crate) struct Place {
     pub scale: Scale,
     /// The layer that is set.
     pub layer: Option<LayerName>,
+    /// The layer that is set again where the definition ends.
+    pub saved: Option<LayerName>,
 }
 
 impl Place {
@@ -35,6 +38,7 @@ impl Place {
                 denominator: 1,
             },
             layer: None,
+            saved: None,
         }
     }
 
@@ -56,7 +60,7 @@ impl Place {
     {
         match bytes {
             [b'S', behind @ ..] => self.opened(read_definition(behind)),
-            [b'F', behind @ ..] if are_blanks(behind) => Place::outside(),
+            [b'F', behind @ ..] if are_blanks(behind) => self.closed(),
             _ => self,
         }
     }
@@ -71,7 +75,18 @@ impl Place {
                 symbol: Some(definition.symbol),
                 scale: definition.scale,
                 layer: None,
+                saved: self.layer,
             },
+        }
+    }
+
+    /// Returns the place behind the end of the definition.
+    fn closed(self) -> Place
+        ensures { result ≡ place_closed self }
+    {
+        Place {
+            layer: self.saved,
+            ..Place::outside()
         }
     }
 
@@ -82,9 +97,8 @@ impl Place {
         match layer {
             None => self,
             Some(layer) => Place {
-                symbol: self.symbol,
-                scale: self.scale,
                 layer: Some(layer),
+                ..self
             },
         }
     }

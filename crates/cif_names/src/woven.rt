@@ -4,18 +4,15 @@ ghost use Rattle.byte_io.specs.Lines.{lines};
 ghost use Rattle.cif_names.specs.Maps.{bytes_at};
 ghost use Rattle.cif_names.specs.Woven.{
   has_newline,
-  heading,
-  is_symbol,
   last_call,
-  last_called,
   number_behind,
   started,
   with_names,
   woven,
+  woven_line,
 };
-ghost use Rattle.cif_names.specs.Woven.{woven_line};
 
-use crate::maps::{at_top, by_symbol, bytes_at};
+use crate::maps::{bytes_at, headings, symbol_or};
 use crate::names::Names;
 use byte_io::split_line;
 use cif_grammar::integer;
@@ -23,8 +20,9 @@ use lay_point::{NoMemory, Sequence};
 use std::alloc::Global;
 use std::collections::BTreeMap;
 
-/// Returns the written text with these lines in it: behind a line that begins a symbol's definition stand the symbol's own,
-/// in order, and those of no symbol in the definition of the symbol that the text's last call names.
+/// Returns the written text with these lines in it, behind the line that begins the definition of their symbol; those of no
+/// symbol are lines of the symbol that the text's last call names. In a definition they come in order, but those that set no
+/// layer before those that set one: so no label gets the layer of another.
 ///
 /// # Errors
 ///
@@ -37,26 +35,22 @@ use std::collections::BTreeMap;
 pub fn with_names(alloc: Global, names: &Names, written: &[u8]) -> Result<Vec<u8>, NoMemory>
     ensures { IfOk result (λ bytes. bytes.items ≡ with_names names.now written.now) }
 {
-    let called = last_call(written);
-    let symbols = by_symbol(alloc, names.entries())?;
-    let top = at_top(alloc, names.entries())?;
-    woven(alloc, &symbols, &top, called, written)
+    let headings = headings(alloc, names.entries(), last_call(written))?;
+    woven(alloc, &headings, written)
 }
 
-/// Returns the text with the lines of each symbol and of none in it, where this symbol is called last.
+/// Returns the text with the lines of each symbol in it.
 fn woven(
     alloc: Global,
-    symbols: &BTreeMap<u32, Sequence<u8>>,
-    top: &[u8],
-    called: Option<u32>,
+    headings: &BTreeMap<u32, Sequence<u8>>,
     written: &[u8],
 ) -> Result<Vec<u8>, NoMemory>
-    ensures { IfOk result (λ bytes. bytes.items ≡ woven (bytes_at symbols.now.entries) top.now called (lines written.now)) }
+    ensures { IfOk result (λ bytes. bytes.items ≡ woven (bytes_at headings.now.entries) (lines written.now)) }
 {
     let mut bytes = Vec::new(alloc);
     let mut rest = written;
     while let Some((line, behind)) = split_line(rest) {
-        push_line(&mut bytes, symbols, top, called, line)?;
+        push_line(&mut bytes, headings, line)?;
         rest = behind;
     }
     Ok(bytes)
@@ -65,47 +59,16 @@ fn woven(
 /// Appends a line, and what stands behind it.
 fn push_line(
     bytes: &mut Vec<u8>,
-    symbols: &BTreeMap<u32, Sequence<u8>>,
-    top: &[u8],
-    called: Option<u32>,
+    headings: &BTreeMap<u32, Sequence<u8>>,
     line: &[u8],
 ) -> Result<(), NoMemory>
-    ensures { OnOk result (bytes.new.items
-        ≡ bytes.old.items ++ woven_line (bytes_at symbols.now.entries) top.now called line.now) }
+    ensures { OnOk result (bytes.new.items ≡ bytes.old.items ++ woven_line (bytes_at headings.now.entries) line.now) }
 {
     bytes.extend_from_slice(line)?;
-    match started(line) {
-        None => Ok(()),
-        Some(symbol) => push_heading(bytes, symbols, top, called, symbol),
-    }
-}
-
-/// Appends what stands behind the first line of a symbol's definition.
-fn push_heading(
-    bytes: &mut Vec<u8>,
-    symbols: &BTreeMap<u32, Sequence<u8>>,
-    top: &[u8],
-    called: Option<u32>,
-    symbol: u32,
-) -> Result<(), NoMemory>
-    ensures { OnOk result (bytes.new.items
-        ≡ bytes.old.items ++ heading (bytes_at symbols.now.entries) top.now called symbol) }
-{
-    bytes.extend_from_slice(bytes_at(symbols, symbol))?;
-    if is_symbol(symbol, called) {
-        bytes.extend_from_slice(top)?;
+    if let Some(symbol) = started(line) {
+        bytes.extend_from_slice(bytes_at(headings, symbol))?;
     }
     Ok(())
-}
-
-/// Returns whether this is the symbol.
-fn is_symbol(number: u32, symbol: Option<u32>) -> bool
-    ensures { result ≡ is_symbol number symbol }
-{
-    match symbol {
-        None => false,
-        Some(symbol) => symbol == number,
-    }
 }
 
 /// Returns the symbol whose definition the line begins.
@@ -133,20 +96,10 @@ fn last_call(written: &[u8]) -> Option<u32>
     let mut called = None;
     let mut rest = written;
     while let Some((line, behind)) = split_line(rest) {
-        called = later(called, number_behind(b"C ", line));
+        called = symbol_or(called, number_behind(b"C ", line));
         rest = behind;
     }
     called
-}
-
-/// Returns the symbol, or where there is none, the one before.
-fn later(before: Option<u32>, symbol: Option<u32>) -> Option<u32>
-    ensures { result ≡ last_called before symbol }
-{
-    match symbol {
-        None => before,
-        Some(symbol) => Some(symbol),
-    }
 }
 
 /// Returns the number behind these bytes at the front of the line.

@@ -7,8 +7,7 @@ use Rattle.cif_names.proofs.woven.woven.Given as goal
 -- what was made of the lines so far, and what is made of those that are left
 abbrev pub invariant-loop-line : goal.invariant-loop-line
 invariant-loop-line l =
-    l.bytes.items ++ woven (bytes_at l.symbols.entries) l.top l.called (lines l.rest)
-    ≡ woven (bytes_at l.symbols.entries) l.top l.called (lines l.written)
+    l.bytes.items ++ woven (bytes_at l.headings.entries) (lines l.rest) ≡ woven (bytes_at l.headings.entries) (lines l.written)
 
 abbrev pub decreases-loop-line : goal.decreases-loop-line
 decreases-loop-line l = length l.rest
