@@ -1,6 +1,6 @@
 -- The bridged path has the winding number of its rings: the ways between rings are gone along out and back, and dropped points
 -- leave out edges without a length.
-use Rattle.std.proofs.Common.{◌≡◌, ◌≤◌, Bool, true, false, cond, List, [], ◌∷◌, ◌++◌, length, ℤ, pos, ◌+ℤ◌, refl, sym, ap, ◌∙◌, subst}
+use Rattle.std.proofs.Common.{◌≡◌, true, false, cond, List, [], ◌∷◌, ◌++◌, ℤ, pos, ◌+ℤ◌, refl, sym, ap, ◌∙◌, subst}
 use Rattle.std.proofs.Common.{append_assoc, arith}
 use Rattle.std.specs.List.{AllByRecursion}
 use Rattle.lay_point.proofs.Signs.{linear}
@@ -10,8 +10,8 @@ use Rattle.lay_point.specs.Points.{point_eq}
 use Rattle.lay_point.specs.RingEdges.{pairs, edges_of_ring, edges_of}
 use Rattle.lay_point.specs.Rings.{IsRing, closed, kept_behind, opened_behind, without_repeats}
 use Rattle.lay_point.proofs.RingLemmas.{point_eq-true}
-use Rattle.lay_oriented.specs.Winding.{sum_of, turn, winding}
-use Rattle.lay_oriented.proofs.WindingLemmas.{IsTurn, sum_of-append, turn-IsTurn}
+use Rattle.lay_oriented.specs.Winding.{IsTurn, sum_of, turn, winding}
+use Rattle.lay_oriented.proofs.WindingLemmas.{sum_of-append, turn-IsTurn}
 
 module _ (f : Point × Point → ℤ) (laws : IsTurn f) where
   -- two walks joined at a point
@@ -85,13 +85,17 @@ module _ (f : Point × Point → ℤ) (laws : IsTurn f) where
       ∙ ap (λ z. sum_of f (edges_of_ring (start ∷ points)) +ℤ z) (sum_of_further start (ring ∷ rings))
       ∙ sym (sum_of-append f (edges_of_ring (start ∷ points)) (edges_of (ring ∷ rings)))
 
+-- the bridged path has the edges of its rings, and ways that are gone out and back
+pub bridged-alike : (rings : List (List Point)) (f : Point × Point → ℤ) → IsTurn f → AllByRecursion IsRing rings
+    → sum_of f (edges_of_ring (bridged rings)) ≡ sum_of f (edges_of rings)
+unfolding bridged without_repeats
+bridged-alike [] f laws h = refl
+bridged-alike ([] ∷ rings) f laws h = absurd (omega (arith, h.0.enough))
+bridged-alike ((start ∷ points) ∷ rings) f laws h =
+    sum_of-without_repeats f laws (round_all ((start ∷ points) ∷ rings)) ∙ sum_of_joined f laws start points rings
+
 -- the law of the bridged path
 pub winding-bridged : (rings : List (List Point)) (k x y : ℤ) → AllByRecursion IsRing rings
     → winding (edges_of_ring (bridged rings)) k x y ≡ winding (edges_of rings) k x y
-unfolding winding bridged without_repeats
-winding-bridged [] k x y h = refl
-winding-bridged ([] ∷ rings) k x y h = absurd (omega (arith, h.0.enough))
-winding-bridged ((start ∷ points) ∷ rings) k x y h =
-    let laws = turn-IsTurn k x y in
-    sum_of-without_repeats (turn k x y) laws (round_all ((start ∷ points) ∷ rings))
-    ∙ sum_of_joined (turn k x y) laws start points rings
+unfolding winding
+winding-bridged rings k x y h = bridged-alike rings (turn k x y) (turn-IsTurn k x y) h

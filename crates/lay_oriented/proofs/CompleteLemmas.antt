@@ -1,35 +1,49 @@
--- Writes that are found item by item.
-use Rattle.std.proofs.Common.{◌≡◌, ◌∙◌, ◌+◌, ◌++◌, ℕ, suc, List, [], ◌∷◌, Some, inl, inr, refl, ap, sym, subst, append_assoc, arith}
+-- Writes and shapes that stay, found item by item.
+use Rattle.std.proofs.Common.{◌≡◌, ◌∙◌, ◌++◌, ℕ, zero, suc, List, [], ◌∷◌, Some, inl, inr, refl, ap, sym, subst, append_assoc, take}
+use Rattle.lay_cells.specs.declared.cell_id.CellId.{CellId}
 use Rattle.lay_layouts.specs.declared.id.ItemId.{ItemId}
 use Rattle.lay_layouts.specs.declared.item.Item.{Item}
 use Rattle.lay_layouts.specs.Layout.{Write}
-use Rattle.lay_oriented.specs.Directed.{IsShape, IsTurned}
-use Rattle.lay_oriented.specs.Steps.{AreWrites}
+use Rattle.lay_oriented.specs.Directed.{IsTurned}
+use Rattle.lay_oriented.specs.Steps.{AreWrites, IsShapeOf}
 
--- whatever is written for the items that are left completes what is written for all
-abbrev pub Completes : List (ItemId × Item) → List (ItemId × Item) → List Write → ℕ → Type 0
-Completes all left done m = (ws : List Write) (n : ℕ) → AreWrites left ws n → AreWrites all (done ++ ws) (m + n)
+-- whatever is found for the items that are left completes what is found for all
+abbrev pub Completes : List (ItemId × Item) → List (ItemId × Item) → List Write → List (CellId × ItemId) → Type 0
+Completes all left done stays =
+    (ws : List Write) (more : List (CellId × ItemId)) → AreWrites left ws more → AreWrites all (done ++ ws) (stays ++ more)
 
-pub complete_turned : (all es : List (ItemId × Item)) (e : ItemId × Item) (new : Item) (done more : List Write) (m : ℕ) → IsTurned e.1 new
-    → more ≡ done ++ (e.0, Some new) ∷ [] → Completes all (e ∷ es) done m → Completes all es more m
-complete_turned all es e new done more m turned same so = λ ws n is.
-    let longer : more ++ ws ≡ done ++ (e.0, Some new) ∷ ws =
+pub complete_none : (all left : List (ItemId × Item)) (done : List Write) → left ≡ all → done ≡ [] → Completes all left done []
+complete_none all left done all_left none = λ ws more is.
+    subst (λ (l : List Write). AreWrites all (l ++ ws) more) (sym none) (subst (λ (l : List (ItemId × Item)). AreWrites l ws more) all_left is)
+
+pub complete_turned : (all es : List (ItemId × Item)) (e : ItemId × Item) (new : Item) (done longer : List Write)
+    (stays : List (CellId × ItemId)) → IsTurned e.1 new
+    → longer ≡ done ++ (e.0, Some new) ∷ [] → Completes all (e ∷ es) done stays → Completes all es longer stays
+complete_turned all es e new done longer stays turned same so = λ ws more is.
+    let split : longer ++ ws ≡ done ++ (e.0, Some new) ∷ ws =
     ap (λ l. l ++ ws) same ∙ append_assoc done ((e.0, Some new) ∷ []) ws in
-    subst (λ (l : List Write). AreWrites all l (m + n)) (sym longer) (so ((e.0, Some new) ∷ ws) n (inr (inl (new, ws, refl, turned, is))))
+    subst (λ (l : List Write). AreWrites all l (stays ++ more)) (sym split)
+    (so ((e.0, Some new) ∷ ws) more (inr (inl (new, ws, refl, turned, is))))
 
-pub complete_otherwise : (all es : List (ItemId × Item)) (e : ItemId × Item) (done : List Write) (m more : ℕ) → IsShape e.1
-    → more ≡ m + 1 → Completes all (e ∷ es) done m → Completes all es done more
-complete_otherwise all es e done m more shape same so = λ ws n is.
-    let count : m + suc n ≡ more + n = omega arith in
-    subst (λ (k : ℕ). AreWrites all (done ++ ws) k) count (so ws (suc n) (inr (inr (n, refl, shape, is))))
+pub complete_otherwise : (all es : List (ItemId × Item)) (e : ItemId × Item) (done : List Write) (stays : List (CellId × ItemId))
+    (cell : CellId) → IsShapeOf cell e.1 → Completes all (e ∷ es) done stays → Completes all es done (stays ++ (cell, e.0) ∷ [])
+complete_otherwise all es e done stays cell shape so = λ ws more is.
+    subst (λ (l : List (CellId × ItemId)). AreWrites all (done ++ ws) l) (sym (append_assoc stays ((cell, e.0) ∷ []) more))
+    (so ws ((cell, e.0) ∷ more) (inr (inr (cell, more, refl, shape, is))))
 
-nothing_more : (ws : List Write) → ws ++ [] ≡ ws
+nothing_more : {A : Type 0} (xs : List A) → xs ++ [] ≡ xs
 nothing_more [] = refl
-nothing_more (w ∷ ws) = ap (λ l. w ∷ l) (nothing_more ws)
+nothing_more (x ∷ xs) = ap (λ l. x ∷ l) (nothing_more xs)
 
-pub complete_all : (all left : List (ItemId × Item)) (done : List Write) (m : ℕ) → left ≡ [] → Completes all left done m
-    → AreWrites all done m
-complete_all all left done m none so =
-    let last : AreWrites left [] 0 = subst (λ (l : List (ItemId × Item)). AreWrites l [] 0) (sym none) (refl, refl) in
-    let count : m + 0 ≡ m = omega arith in
-    subst (λ (k : ℕ). AreWrites all done k) count (subst (λ (l : List Write). AreWrites all l (m + 0)) (nothing_more done) (so [] 0 last))
+pub complete_all : (all left : List (ItemId × Item)) (done : List Write) (stays : List (CellId × ItemId)) → left ≡ []
+    → Completes all left done stays → AreWrites all done stays
+complete_all all left done stays none so =
+    let last : AreWrites left [] [] = subst (λ (l : List (ItemId × Item)). AreWrites l [] []) (sym none) (refl, refl) in
+    subst (λ (l : List (CellId × ItemId)). AreWrites all done l) (nothing_more stays)
+    (subst (λ (l : List Write). AreWrites all l (stays ++ [])) (nothing_more done) (so [] [] last))
+
+-- the first ones of more are those of the first ones and more
+pub take_further : {A : Type 0} (n : ℕ) (xs ys : List A) → take n (take n xs ++ ys) ≡ take n (xs ++ ys)
+take_further zero xs ys = refl
+take_further (suc n) [] ys = refl
+take_further (suc n) (x ∷ xs) ys = ap (λ l. x ∷ l) (take_further n xs ys)

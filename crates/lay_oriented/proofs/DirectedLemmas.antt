@@ -1,6 +1,6 @@
 -- Items after the writes of turned shapes: which they are, and that the layout stays sound.
-use Rattle.std.proofs.Common.{◌≡◌, ◌∙◌, ℕ, suc, List, [], ◌∷◌, Option, Some, None, inl, inr, cond, refl, ap, sym, subst}
-use Rattle.std.proofs.Common.{arith, IsTrue}
+use Rattle.std.proofs.Common.{◌≡◌, ◌∙◌, List, [], ◌∷◌, Option, Some, None, inl, inr, cond, refl, ap, sym, subst}
+use Rattle.std.proofs.Common.{IsTrue}
 use Rattle.std.specs.declared.cmp.Ordering.{Ordering}
 use Rattle.std.specs.declared.cmp.Ordering.TheVariants.{Equal, Greater, Less}
 use Rattle.std.specs.FinMap.{FinMap, entries, entries_sorted, find, get, get-entries, get-from_entries, same_map}
@@ -8,6 +8,7 @@ use Rattle.std.specs.List.{AllByRecursion}
 use Rattle.std.specs.List.Sorted.{IsStrictlySortedBy}
 use Rattle.std.specs.Map.{keys_of}
 use Rattle.std.specs.Ordering.{eq_by_cmp, is_eq}
+use Rattle.lay_cells.specs.declared.cell_id.CellId.{CellId}
 use Rattle.lay_cells.specs.Walks.{IsAcyclic}
 use Rattle.lay_layouts.specs.declared.id.ItemId.{ItemId}
 use Rattle.lay_layouts.specs.declared.item.Item.{Item}
@@ -20,8 +21,8 @@ use Rattle.lay_layouts.specs.Sound.{IsSound, IsSoundItem}
 use Rattle.lay_layouts.proofs.LatestLemmas.{get-put_all, latest, unwritten}
 use Rattle.lay_layouts.proofs.MapLemmas.{entries_again, sorted_keys}
 use Rattle.lay_layouts.proofs.SlotLemmas.{tested}
-use Rattle.lay_oriented.specs.Directed.{AreDirected, IsDirected, IsTurned}
-use Rattle.lay_oriented.specs.Steps.{AreWrites}
+use Rattle.lay_oriented.specs.Directed.{AreDirected, IsDirectedBut, IsStaying, IsTurned}
+use Rattle.lay_oriented.specs.Steps.{AreWrites, IsShapeOf}
 
 -- ---- what an id has after writes
 
@@ -46,20 +47,20 @@ chosen_twice Greater x old = refl
 -- ---- the writes
 
 -- what is so of each id is so of each that is written
-all_written : (P : ItemId → Type 0) (es : List (ItemId × Item)) (ws : List Write) (n : ℕ) → AllByRecursion P (keys_of es)
+all_written : (P : ItemId → Type 0) (es : List (ItemId × Item)) (ws : List Write) (n : List (CellId × ItemId)) → AllByRecursion P (keys_of es)
     → AreWrites es ws n → AllByRecursion P (keys_of ws)
 all_written P [] ws n all is = subst (λ (v : List Write). AllByRecursion P (keys_of v)) (sym is.0) tt
 all_written P (e ∷ es) ws n all (inl same) = all_written P es ws n all.1 same.1
 all_written P (e ∷ es) ws n all (inr (inl turned)) =
     subst (λ (v : List Write). AllByRecursion P (keys_of v)) (sym turned.2) (all.0, all_written P es turned.1 n all.1 turned.4)
-all_written P (e ∷ es) ws n all (inr (inr other)) = all_written P es ws other.0 all.1 other.3
+all_written P (e ∷ es) ws n all (inr (inr other)) = all_written P es ws other.1 all.1 other.4
 
 rising_first : (w : Write) (ws : List Write) → AllByRecursion (λ y. id_cmp w.0 y ≡ Less) (keys_of ws) → AreRising id_cmp ws
     → AreRising id_cmp (w ∷ ws)
 rising_first w [] all rising = tt
 rising_first w (v ∷ ws) all rising = (all.0, rising)
 
-rising_all : (es : List (ItemId × Item)) (ws : List Write) (n : ℕ) → IsStrictlySortedBy id_cmp (keys_of es) → AreWrites es ws n
+rising_all : (es : List (ItemId × Item)) (ws : List Write) (n : List (CellId × ItemId)) → IsStrictlySortedBy id_cmp (keys_of es) → AreWrites es ws n
     → AreRising id_cmp ws
 unfolding IsStrictlySortedBy
 rising_all [] ws n sorted is = subst (λ (v : List Write). AreRising id_cmp v) (sym is.0) tt
@@ -68,29 +69,29 @@ rising_all (e ∷ es) ws n sorted (inr (inl turned)) =
     subst (λ (v : List Write). AreRising id_cmp v) (sym turned.2)
     (rising_first (e.0, Some turned.0) turned.1 (all_written (λ y. id_cmp e.0 y ≡ Less) es turned.1 n sorted.0 turned.4)
     (rising_all es turned.1 n sorted.1 turned.4))
-rising_all (e ∷ es) ws n sorted (inr (inr other)) = rising_all es ws other.0 sorted.1 other.3
+rising_all (e ∷ es) ws n sorted (inr (inr other)) = rising_all es ws other.1 sorted.1 other.4
 
 sorted_entries : (items : FinMap id_cmp Item) → IsStrictlySortedBy id_cmp (keys_of (entries items))
 sorted_entries items = sorted_keys id_cmp (entries items) (tested _ (entries_sorted items))
 
-pub writes_rise : (items : FinMap id_cmp Item) (ws : List Write) (n : ℕ) → AreWrites (entries items) ws n → AreRising id_cmp ws
+pub writes_rise : (items : FinMap id_cmp Item) (ws : List Write) (n : List (CellId × ItemId)) → AreWrites (entries items) ws n → AreRising id_cmp ws
 writes_rise items ws n is = rising_all (entries items) ws n (sorted_entries items) is
 
 -- ---- the entries after them
 
-abbrev after : (es : List (ItemId × Item)) (ws : List Write) (n : ℕ) → AreWrites es ws n → List (ItemId × Item)
+abbrev after : (es : List (ItemId × Item)) (ws : List Write) (n : List (CellId × ItemId)) → AreWrites es ws n → List (ItemId × Item)
 after [] ws n is = []
 after (e ∷ es) ws n (inl same) = e ∷ after es ws n same.1
 after (e ∷ es) ws n (inr (inl turned)) = (e.0, turned.0) ∷ after es turned.1 n turned.4
-after (e ∷ es) ws n (inr (inr other)) = e ∷ after es ws other.0 other.3
+after (e ∷ es) ws n (inr (inr other)) = e ∷ after es ws other.1 other.4
 
-keys_of-after : (es : List (ItemId × Item)) (ws : List Write) (n : ℕ) (is : AreWrites es ws n) → keys_of (after es ws n is) ≡ keys_of es
+keys_of-after : (es : List (ItemId × Item)) (ws : List Write) (n : List (CellId × ItemId)) (is : AreWrites es ws n) → keys_of (after es ws n is) ≡ keys_of es
 keys_of-after [] ws n is = refl
 keys_of-after (e ∷ es) ws n (inl same) = ap (λ l. e.0 ∷ l) (keys_of-after es ws n same.1)
 keys_of-after (e ∷ es) ws n (inr (inl turned)) = ap (λ l. e.0 ∷ l) (keys_of-after es turned.1 n turned.4)
-keys_of-after (e ∷ es) ws n (inr (inr other)) = ap (λ l. e.0 ∷ l) (keys_of-after es ws other.0 other.3)
+keys_of-after (e ∷ es) ws n (inr (inr other)) = ap (λ l. e.0 ∷ l) (keys_of-after es ws other.1 other.4)
 
-find-after : (es : List (ItemId × Item)) (ws : List Write) (n : ℕ) (is : AreWrites es ws n) → IsStrictlySortedBy id_cmp (keys_of es)
+find-after : (es : List (ItemId × Item)) (ws : List Write) (n : List (CellId × ItemId)) (is : AreWrites es ws n) → IsStrictlySortedBy id_cmp (keys_of es)
     → (q : ItemId) → find id_cmp q (after es ws n is) ≡ latest ws q (find id_cmp q es)
 unfolding IsStrictlySortedBy
 find-after [] ws n is sorted q = ap (λ (v : List Write). latest v q None) (sym is.0)
@@ -103,16 +104,16 @@ find-after (e ∷ es) ws n (inr (inl turned)) sorted q =
     (all_written (λ y. id_cmp e.0 y ≡ Less) es turned.1 n sorted.0 turned.4) (find-after es turned.1 n turned.4 sorted.1 q)
     ∙ ap (λ (v : List Write). latest v q (cond (eq_by_cmp id_cmp q e.0) (Some e.1) (find id_cmp q es))) (sym turned.2)
 find-after (e ∷ es) ws n (inr (inr other)) sorted q =
-    first_after e.0 e.1 (Some e.1) (find id_cmp q (after es ws other.0 other.3)) (find id_cmp q es) ws q
-    (all_written (λ y. id_cmp e.0 y ≡ Less) es ws other.0 sorted.0 other.3) (find-after es ws other.0 other.3 sorted.1 q)
+    first_after e.0 e.1 (Some e.1) (find id_cmp q (after es ws other.1 other.4)) (find id_cmp q es) ws q
+    (all_written (λ y. id_cmp e.0 y ≡ Less) es ws other.1 sorted.0 other.4) (find-after es ws other.1 other.4 sorted.1 q)
     ∙ ap (latest ws q) (chosen_twice (id_cmp q e.0) (Some e.1) (find id_cmp q es))
 
-get-after : (items : FinMap id_cmp Item) (ws : List Write) (n : ℕ) (is : AreWrites (entries items) ws n) (q : ItemId)
+get-after : (items : FinMap id_cmp Item) (ws : List Write) (n : List (CellId × ItemId)) (is : AreWrites (entries items) ws n) (q : ItemId)
     → get (put_all items ws) q ≡ find id_cmp q (after (entries items) ws n is)
 get-after items ws n is q =
     get-put_all items ws q ∙ ap (latest ws q) (get-entries items q) ∙ sym (find-after (entries items) ws n is (sorted_entries items) q)
 
-entries-after : (items : FinMap id_cmp Item) (ws : List Write) (n : ℕ) (is : AreWrites (entries items) ws n)
+entries-after : (items : FinMap id_cmp Item) (ws : List Write) (n : List (CellId × ItemId)) (is : AreWrites (entries items) ws n)
     → entries (put_all items ws) ≡ after (entries items) ws n is
 entries-after items ws n is =
     ap entries (same_map ids_total ids_exact (put_all items ws) (map_of_items (after (entries items) ws n is)) (λ q.
@@ -122,17 +123,21 @@ entries-after items ws n is =
 
 -- ---- they are directed
 
-directed-after : (es : List (ItemId × Item)) (ws : List Write) (n : ℕ) (is : AreWrites es ws n) → AreDirected es (after es ws n is) n
-directed-after [] ws n is = is.1
-directed-after (e ∷ es) ws n (inl same) = (refl, (0, n, omega arith, inl (refl, refl, same.0), directed-after es ws n same.1))
-directed-after (e ∷ es) ws n (inr (inl turned)) =
-    (refl, (0, n, omega arith, inr (inl (refl, turned.3)), directed-after es turned.1 n turned.4))
-directed-after (e ∷ es) ws n (inr (inr other)) =
-    let count : n ≡ suc other.0 = other.1 in
-    (refl, (1, other.0, omega (arith, count), inr (inr (refl, refl, other.2)), directed-after es ws other.0 other.3))
+staying : (id : ItemId) (x : Item) (cell : CellId) → IsShapeOf cell x → IsStaying id x ((cell, id) ∷ [])
+staying id (Shape cell' layer rings) cell same = ap (λ c. (c, id) ∷ []) (sym same)
+staying id (Placed cell' target turn) cell same = absurd same
 
-pub writes_direct : (l : Layout) (ws : List Write) (n : ℕ) → AreWrites (entries l.items) ws n
-    → IsDirected l (changed l (record { items = ws; symbols = [] })) n
+directed-after : (es : List (ItemId × Item)) (ws : List Write) (n : List (CellId × ItemId)) (is : AreWrites es ws n)
+    → AreDirected es (after es ws n is) n
+directed-after [] ws n is = is.1
+directed-after (e ∷ es) ws n (inl same) = (refl, ([], n, refl, inl (refl, refl, same.0), directed-after es ws n same.1))
+directed-after (e ∷ es) ws n (inr (inl turned)) =
+    (refl, ([], n, refl, inr (inl (refl, turned.3)), directed-after es turned.1 n turned.4))
+directed-after (e ∷ es) ws n (inr (inr other)) =
+    (refl, ((other.0, e.0) ∷ [], other.1, other.2, inr (inr (refl, staying e.0 e.1 other.0 other.3)), directed-after es ws other.1 other.4))
+
+pub writes_direct : (l : Layout) (ws : List Write) (n : List (CellId × ItemId)) → AreWrites (entries l.items) ws n
+    → IsDirectedBut l (changed l (record { items = ws; symbols = [] })) n
 writes_direct l ws n is = record {
   symbols = refl;
   items = subst (λ es. AreDirected (entries l.items) es n) (sym (entries-after l.items ws n is)) (directed-after (entries l.items) ws n is);
@@ -151,14 +156,14 @@ turned_calls id (Shape cell layer rings) (Shape cell' layer' rings') cs bs turne
 turned_calls id (Shape cell layer rings) (Placed cell' target turn) cs bs turned is = absurd turned
 turned_calls id (Placed cell target turn) y cs bs turned is = absurd turned
 
-calls_among-after : (es : List (ItemId × Item)) (ws : List Write) (n : ℕ) (is : AreWrites es ws n)
+calls_among-after : (es : List (ItemId × Item)) (ws : List Write) (n : List (CellId × ItemId)) (is : AreWrites es ws n)
     → calls_among (after es ws n is) ≡ calls_among es
 calls_among-after [] ws n is = refl
 calls_among-after (e ∷ es) ws n (inl same) = same_calls e.0 e.1 (after es ws n same.1) es (calls_among-after es ws n same.1)
 calls_among-after (e ∷ es) ws n (inr (inl turned)) =
     turned_calls e.0 e.1 turned.0 (after es turned.1 n turned.4) es turned.3 (calls_among-after es turned.1 n turned.4)
 calls_among-after (e ∷ es) ws n (inr (inr other)) =
-    same_calls e.0 e.1 (after es ws other.0 other.3) es (calls_among-after es ws other.0 other.3)
+    same_calls e.0 e.1 (after es ws other.1 other.4) es (calls_among-after es ws other.1 other.4)
 
 turned_sound : (l : Layout) (x y : Item) → IsTurned x y → IsSoundItem l x → IsSoundItem l y
 turned_sound l (Shape cell layer rings) (Shape cell' layer' rings') turned sound =
@@ -182,7 +187,7 @@ sound_first l q id x y found old keeps all behind = by (id_cmp q id) all where
   by Equal sound z there = subst (IsSoundItem l) (same_value y z there) (keeps (sound x refl))
   by Greater sound z there = behind sound z there
 
-sound-after : (l : Layout) (q : ItemId) (es : List (ItemId × Item)) (ws : List Write) (n : ℕ) (is : AreWrites es ws n)
+sound-after : (l : Layout) (q : ItemId) (es : List (ItemId × Item)) (ws : List Write) (n : List (CellId × ItemId)) (is : AreWrites es ws n)
     → ((x : Item) → find id_cmp q es ≡ Some x → IsSoundItem l x)
     → (y : Item) → find id_cmp q (after es ws n is) ≡ Some y → IsSoundItem l y
 sound-after l q [] ws n is sound = λ y there. absurd cc
@@ -193,8 +198,8 @@ sound-after l q (e ∷ es) ws n (inr (inl turned)) sound =
     sound_first l q e.0 e.1 turned.0 (find id_cmp q (after es turned.1 n turned.4)) (find id_cmp q es)
     (turned_sound l e.1 turned.0 turned.3) sound (sound-after l q es turned.1 n turned.4)
 sound-after l q (e ∷ es) ws n (inr (inr other)) sound =
-    sound_first l q e.0 e.1 e.1 (find id_cmp q (after es ws other.0 other.3)) (find id_cmp q es) (λ s. s) sound
-    (sound-after l q es ws other.0 other.3)
+    sound_first l q e.0 e.1 e.1 (find id_cmp q (after es ws other.1 other.4)) (find id_cmp q es) (λ s. s) sound
+    (sound-after l q es ws other.1 other.4)
 
 -- the same cells
 sound_same : (l : Layout) (items : FinMap id_cmp Item) (y : Item) → IsSoundItem l y
@@ -202,7 +207,7 @@ sound_same : (l : Layout) (items : FinMap id_cmp Item) (y : Item) → IsSoundIte
 sound_same l items (Shape cell layer rings) sound = sound
 sound_same l items (Placed cell target turn) sound = sound
 
-pub writes_sound : (l : Layout) (ws : List Write) (n : ℕ) → AreWrites (entries l.items) ws n → IsSound l
+pub writes_sound : (l : Layout) (ws : List Write) (n : List (CellId × ItemId)) → AreWrites (entries l.items) ws n → IsSound l
     → IsSound (changed l (record { items = ws; symbols = [] }))
 unfolding calls_of
 writes_sound l ws n is sound = record {

@@ -1,3 +1,4 @@
+pub mod AlikeLemmas
 pub mod BridgeWinding
 pub mod CompleteLemmas
 pub mod DirectedLemmas

@@ -1,24 +1,14 @@
 -- Side by side over a band of heights: where neighbours of a list from right to left are in order, the slants to the right of a
 -- place are the first of the list. So where their directions take turns, they count 0 or 1.
 use Rattle.std.proofs.Common.{◌≡◌, ◌⊎◌, inl, inr, Bool, true, false, not, cond, ◌&&◌, List, [], ◌∷◌}
-use Rattle.std.proofs.Common.{ℤ, pos, ◌+ℤ◌, ◌-ℤ◌, ◌*ℤ◌, ◌≤ℤ◌, ◌<ℤ◌, neg_ℤ, refl, sym, ap, ◌∙◌, subst, arith, ⊎_elim}
+use Rattle.std.proofs.Common.{ℤ, pos, ◌+ℤ◌, ◌-ℤ◌, ◌*ℤ◌, ◌≤ℤ◌, ◌<ℤ◌, refl, sym, ap, ◌∙◌, subst, arith}
 use Rattle.std.specs.Bool.{beq}
 use Rattle.std.specs.Prelude.{int_le, int_lt}
 use Rattle.std.proofs.lemmas.Bool.{and_parts}
 use Rattle.lay_point.proofs.Polynomials.{Expr, #, ◌⊕◌, ◌⊖◌, ◌⊗◌, identity}
-use Rattle.lay_point.proofs.Signs.{
-  linear,
-  nonnegative_product,
-  positive_product,
-  times_le,
-  times_lt,
-  cancel_lt,
-  cancel_nonnegative,
-  cancel_positive,
-}
+use Rattle.lay_point.proofs.Signs.{linear, nonnegative_product, positive_product, times_le, cancel_lt, cancel_nonnegative, cancel_positive}
 use Rattle.lay_point.proofs.Tests.{le_true, lt_false, lt_true, true_le, true_lt}
-use Rattle.lay_point.specs.declared.point.Point.{Point}
-use Rattle.lay_point.specs.Parity.{is_crossed_rising, rises_past, distance_right}
+use Rattle.lay_point.specs.Parity.{is_crossed_rising, distance_right}
 use Rattle.snap_pixels.specs.Segments.{cross}
 use Rattle.lay_oriented.specs.declared.slant.Slant.{Slant}
 use Rattle.lay_oriented.specs.Slants.{counts, gap_at_bottom, gap_at_top, is_not_left, leads, signed, slant_count, spans, take_turns}

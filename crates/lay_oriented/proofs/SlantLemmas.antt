@@ -1,16 +1,15 @@
 -- The slants of edges count what the edges count, and sums over slants that aren't reached are 0.
-use Rattle.std.proofs.Common.{◌≡◌, ◌⊎◌, inl, inr, Bool, true, false, cond, ◌&&◌, List, [], ◌∷◌, ◌++◌}
-use Rattle.std.proofs.Common.{ℤ, pos, ◌+ℤ◌, ◌-ℤ◌, ◌*ℤ◌, ◌≤ℤ◌, ◌<ℤ◌, neg_ℤ, refl, sym, ap, ◌∙◌, subst, arith}
+use Rattle.std.proofs.Common.{◌≡◌, Bool, true, false, cond, ◌&&◌, List, [], ◌∷◌}
+use Rattle.std.proofs.Common.{ℤ, pos, ◌+ℤ◌, ◌*ℤ◌, ◌≤ℤ◌, ◌<ℤ◌, neg_ℤ, refl, sym, ap, ◌∙◌, arith}
 use Rattle.std.specs.Prelude.{int_le, int_lt, Some, None}
 use Rattle.std.proofs.lemmas.Bool.{and_parts}
-use Rattle.lay_point.proofs.Signs.{below_or_not, linear, times_le, times_lt}
+use Rattle.lay_point.proofs.Signs.{linear, times_le}
 use Rattle.lay_point.proofs.Tests.{le_true, lt_false, lt_true, true_le}
 use Rattle.lay_point.specs.declared.point.Point.{Point}
-use Rattle.lay_point.specs.Parity.{is_crossed_rising, rises_past, distance_right}
+use Rattle.lay_point.specs.Parity.{is_crossed_rising, distance_right}
 use Rattle.lay_oriented.specs.declared.slant.Slant.{Slant}
 use Rattle.lay_oriented.specs.Slants.{added, are_by_height, begin_from, counts, ending_above, signed, slant_count, slant_of, slants_of}
-use Rattle.lay_oriented.specs.Winding.{sum_of, turn, winding}
-use Rattle.lay_oriented.proofs.WindingLemmas.{sum_of-append}
+use Rattle.lay_oriented.specs.Winding.{turn, winding}
 
 -- ---- slants that aren't reached
 not_past : (a b y : ℤ) → ((a ≤ℤ y) → (y <ℤ b) → ⊥) → (int_le a y && int_lt y b) ≡ false

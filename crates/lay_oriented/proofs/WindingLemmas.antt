@@ -1,6 +1,6 @@
 -- Sums over lists, and what an edge counts: in the other direction the negative, and nothing without a length.
 use Rattle.std.proofs.Common.{◌≡◌, ℕ, ◌+◌, Bool, true, false, cond, ◌&&◌, ◌||◌, List, [], ◌∷◌, ◌++◌}
-use Rattle.std.proofs.Common.{ℤ, pos, negsuc, ◌+ℤ◌, ◌*ℤ◌, ◌≤ℤ◌, ◌<ℤ◌, neg_ℤ, refl, sym, ap, ap₂, ◌∙◌, subst, arith}
+use Rattle.std.proofs.Common.{ℤ, pos, negsuc, ◌+ℤ◌, ◌*ℤ◌, neg_ℤ, refl, arith}
 use Rattle.std.specs.Prelude.{int_le, int_lt}
 use Rattle.std.specs.List.{sum_by}
 use Rattle.std.specs.List.Sorted.{IsPermutation}
@@ -9,8 +9,8 @@ use Rattle.std.proofs.lemmas.List.Sorted.{sum_by-IsPermutation}
 use Rattle.std.proofs.lemmas.List.Sums.{sum_by-cons}
 use Rattle.lay_point.proofs.Signs.{linear}
 use Rattle.lay_point.specs.declared.point.Point.{Point}
-use Rattle.lay_point.specs.Parity.{xor, parity, odd, is_crossed, is_crossed_rising, rises_past, distance_right}
-use Rattle.lay_oriented.specs.Winding.{one_if, sum_of, turn, winding}
+use Rattle.lay_point.specs.Parity.{xor, parity, odd, is_crossed_rising, rises_past, distance_right}
+use Rattle.lay_oriented.specs.Winding.{IsTurn, one_if, sum_of, turn, winding}
 
 -- ---- sums
 pub sum_of-append : {A : Type 0} (f : A → ℤ) (xs ys : List A) → sum_of f (xs ++ ys) ≡ sum_of f xs +ℤ sum_of f ys
@@ -49,10 +49,6 @@ sum_of-permutation f xs ys moved =
     omega (arith, linear)
 
 -- ---- what an edge counts
-pub record IsTurn (f : Point × Point → ℤ) : Type 0 where
-  pub turned : (p q : Point) → f (q, p) ≡ neg_ℤ (f (p, q))
-  pub without_length : (p : Point) → f (p, p) ≡ pos 0
-
 -- no edge rises past a height both ways
 not_both : (a b y : ℤ) → (int_le a y && int_lt y b) ≡ true → (int_le b y && int_lt y a) ≡ true → ⊥
 not_both a b y h g = grind (arith, ints)
@@ -66,23 +62,20 @@ one_way k x y p q h g =
     not_both (k *ℤ p.y) (k *ℤ q.y) y (first_of_both (rises_past k y p q) (int_lt (pos 0) (distance_right k x y p q)) h)
     (first_of_both (rises_past k y q p) (int_lt (pos 0) (distance_right k x y q p)) g)
 
-counted : Bool → Bool → ℤ
+abbrev pub counted : Bool → Bool → ℤ
 counted a b = cond a (pos 1) (cond b (neg_ℤ (pos 1)) (pos 0))
 
-turned_count : (a b : Bool) → (a ≡ true → b ≡ true → ⊥) → counted b a ≡ neg_ℤ (counted a b)
-unfolding counted
+pub turned_count : (a b : Bool) → (a ≡ true → b ≡ true → ⊥) → counted b a ≡ neg_ℤ (counted a b)
 turned_count true true h = absurd (h refl refl)
 turned_count true false h = refl
 turned_count false true h = refl
 turned_count false false h = refl
 
-none_counted : (a : Bool) → (a ≡ true → a ≡ true → ⊥) → counted a a ≡ pos 0
-unfolding counted
+pub none_counted : (a : Bool) → (a ≡ true → a ≡ true → ⊥) → counted a a ≡ pos 0
 none_counted true h = absurd (h refl refl)
 none_counted false h = refl
 
 pub turn-IsTurn : (k x y : ℤ) → IsTurn (turn k x y)
-unfolding counted
 turn-IsTurn k x y = record {
   turned = λ p q. turned_count (is_crossed_rising k x y p q) (is_crossed_rising k x y q p) (one_way k x y p q);
   without_length = λ p. none_counted (is_crossed_rising k x y p p) (one_way k x y p p);
@@ -91,7 +84,6 @@ turn-IsTurn k x y = record {
 -- ---- parity
 turn_and_parity : (a b c : Bool) (n s : ℤ) → (a ≡ true → b ≡ true → ⊥) → s ≡ pos 2 *ℤ n +ℤ one_if c
     → (m : ℤ) × (counted a b +ℤ s ≡ pos 2 *ℤ m +ℤ one_if (xor (a || b) c))
-unfolding counted
 turn_and_parity true true c n s h e = absurd (h refl refl)
 turn_and_parity true false true n s h e = (n +ℤ pos 1, omega (arith, linear))
 turn_and_parity true false false n s h e = (n, omega (arith, linear))
@@ -100,11 +92,16 @@ turn_and_parity false true false n s h e = (n +ℤ neg_ℤ (pos 1), omega (arith
 turn_and_parity false false true n s h e = (n, omega (arith, linear))
 turn_and_parity false false false n s h e = (n, omega (arith, linear))
 
+-- of tests of which no edge passes both
+pub sum_parity : (a b : Point × Point → Bool) → ((e : Point × Point) → a e ≡ true → b e ≡ true → ⊥) → (edges : List (Point × Point))
+    → (n : ℤ) × (sum_of (λ e. counted (a e) (b e)) edges ≡ pos 2 *ℤ n +ℤ one_if (parity (λ e. a e || b e) edges))
+sum_parity a b apart [] = (pos 0, refl)
+sum_parity a b apart (e ∷ es) =
+    let rest = sum_parity a b apart es in
+    turn_and_parity (a e) (b e) (parity (λ z. a z || b z) es) rest.0 (sum_of (λ z. counted (a z) (b z)) es) (apart e) rest.1
+
 pub winding_parity : (edges : List (Point × Point)) (k x y : ℤ)
     → (n : ℤ) × (winding edges k x y ≡ pos 2 *ℤ n +ℤ one_if (odd edges k x y))
-unfolding winding odd counted
-winding_parity [] k x y = (pos 0, refl)
-winding_parity (e ∷ es) k x y =
-    let rest = winding_parity es k x y in
-    turn_and_parity (is_crossed_rising k x y e.0 e.1) (is_crossed_rising k x y e.1 e.0) (parity (is_crossed k x y) es) rest.0
-    (sum_of (turn k x y) es) (one_way k x y e.0 e.1) rest.1
+unfolding winding odd
+winding_parity edges k x y =
+    sum_parity (λ e. is_crossed_rising k x y e.0 e.1) (λ e. is_crossed_rising k x y e.1 e.0) (λ e. one_way k x y e.0 e.1) edges

@@ -1,5 +1,5 @@
 -- What holds of winding numbers, of all edges and about all places.
-use Rattle.std.specs.Prelude.{◌≡◌, ℤ, pos, neg_ℤ, ◌+ℤ◌, ◌*ℤ◌, List, [], ◌∷◌, ◌++◌}
+use Rattle.std.specs.Prelude.{◌≡◌, ℤ, pos, ◌+ℤ◌, ◌*ℤ◌, List, [], ◌∷◌, ◌++◌}
 use Rattle.std.specs.List.{AllByRecursion}
 use Rattle.std.specs.List.Sorted.{IsPermutation}
 use Rattle.lay_point.specs.declared.point.Point.{Point}
@@ -7,7 +7,7 @@ use Rattle.lay_point.specs.Bridges.{bridged}
 use Rattle.lay_point.specs.Parity.{odd}
 use Rattle.lay_point.specs.RingEdges.{edges_of, edges_of_ring}
 use Rattle.lay_point.specs.Rings.{IsRing}
-use Rattle.lay_oriented.specs.Winding.{one_if, turn, winding}
+use Rattle.lay_oriented.specs.Winding.{one_if, winding}
 
 -- the winding number is odd exactly where the parity is
 abbrev pub HasParity : Type 0

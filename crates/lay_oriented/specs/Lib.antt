@@ -1,5 +1,6 @@
 pub mod Directed
 pub mod Laws
+pub mod Net
 pub mod Once
 pub mod Oriented
 pub mod Slants

@@ -1,7 +1,6 @@
 -- Going round at most once.
 use Rattle.std.specs.Prelude.{◌≡◌, ◌⊎◌, ℤ, pos, ◌≤ℤ◌, List}
 use Rattle.lay_point.specs.declared.point.Point.{Point}
-use Rattle.lay_point.specs.Parity.{odd}
 use Rattle.lay_point.specs.RingEdges.{edges_of}
 use Rattle.lay_oriented.specs.declared.slant.Slant.{Slant}
 use Rattle.lay_oriented.specs.Slants.{counts}

@@ -1,25 +1,5 @@
 -- Slants: edges that aren't level, each from its lower end to its upper one, with its direction.
-use Rattle.std.specs.Prelude.{
-  ◌≡◌,
-  ℤ,
-  pos,
-  neg_ℤ,
-  ◌≤ℤ◌,
-  int_le,
-  int_lt,
-  Bool,
-  true,
-  false,
-  not,
-  ◌&&◌,
-  List,
-  [],
-  ◌∷◌,
-  Option,
-  None,
-  Some,
-  if◌then◌else◌,
-}
+use Rattle.std.specs.Prelude.{ℤ, pos, neg_ℤ, int_le, int_lt, Bool, true, false, not, ◌&&◌, List, [], ◌∷◌, Option, None, Some, if◌then◌else◌}
 use Rattle.std.specs.Bool.{beq}
 use Rattle.lay_point.specs.declared.point.Point.{Point}
 use Rattle.lay_point.specs.Parity.{is_crossed_rising}

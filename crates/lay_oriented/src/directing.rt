@@ -1,12 +1,13 @@
 //! The items of a layout, their shapes directed.
-ghost use Rattle.std.specs.Prelude.{◌≡◌, ◌≤◌, IfOk, length, true};
+ghost use Rattle.std.specs.Prelude.{◌≡◌, ◌≤◌, [], ◌∷◌, ◌++◌, IfOk, OnOk, length, take, true};
 ghost use Rattle.std.specs.FinMap as map;
 ghost use Rattle.lay_layouts.specs.Sound.{IsDrawn};
-ghost use Rattle.lay_oriented.specs.Directed.{IsDirected};
-ghost use Rattle.lay_oriented.specs.Steps.{AreWrites, IsFoundFor};
+ghost use Rattle.lay_oriented.specs.Directed.{IsDirectedNaming};
+ghost use Rattle.lay_oriented.specs.Steps.{AreFound, IsFoundFor};
 
 use crate::orienting::{Oriented, are_rings, orient};
 use face_rings::bridge;
+use lay_cells::CellId;
 use lay_items::{Snapshot, Version};
 use lay_layouts::{Item, ItemId, Rings};
 use lay_point::{MAX_RING_POINTS, NoMemory, Ring};
@@ -19,6 +20,19 @@ pub struct Directed {
     pub layout: Snapshot,
     /// How many shapes stay as they were, though readers by winding number may see them otherwise.
     pub staying: usize,
+    /// The first three of these, or as many as there are, in order of their ids, each with its cell.
+    pub first: Vec<(CellId, ItemId)>,
+}
+
+/// What is found for the items of a layout.
+#[derive(Drop)]
+struct Found {
+    /// The writes of the shapes that are turned, in order of their ids.
+    writes: Vec<(ItemId, Option<Item>)>,
+    /// How many shapes readers may see otherwise.
+    staying: usize,
+    /// The first three of these.
+    first: Vec<(CellId, ItemId)>,
 }
 
 /// What is found for an item.
@@ -28,14 +42,15 @@ enum Step {
     Alike,
     /// This shape has the same places inside, and all readers see it alike.
     Turned(Item),
-    /// It is a shape for which no such path was found.
-    Otherwise,
+    /// It is a shape of this cell for which no such path was found.
+    Otherwise(CellId),
 }
 
 /// Returns the layout with its shapes directed: the path that is written of each goes once round each place
-/// that is inside by parity, and not round any other. A shape stays as it was where its path does so already.
-/// It stays too, and is counted, where no such path was found, as where its edges cross, and where that path
-/// would be longer than a ring may be. Calls, symbols and ids stay.
+/// that is inside by parity, and not round any other. A shape of several rings becomes one of one ring, along
+/// short ways between them, where that ring isn't longer than a ring may be. Another stays as it was where its
+/// path does so already. It stays too, and is counted, where no such path was found, as where its edges
+/// cross, and where that path would be longer than a ring may be. Calls, symbols and ids stay.
 ///
 /// # Errors
 ///
@@ -43,37 +58,59 @@ enum Step {
 ///
 /// # Cost
 ///
-/// That of `orient` for each shape, and a version made anew.
+/// For each shape, sorts of its edges and its corners, and at each height at which an edge ends a pass over
+/// the edges that reach it; and a version made anew.
 pub fn oriented_layout(alloc: Global, layout: &Snapshot) -> Result<Directed, NoMemory>
-    ensures { IfOk result (λ directed. IsDirected layout.now directed.layout directed.staying) }
+    ensures { IfOk result (λ directed. IsDirectedNaming layout.now directed.layout directed.staying directed.first.items) }
 {
     let old = layout.version();
-    let (writes, staying) = writes_of(alloc, old, old.size())?;
+    let Found {
+        writes,
+        staying,
+        first,
+    } = found_in(alloc, old, old.size())?;
     let new = old.with(alloc, writes.as_slice(), &[])?;
     let layout = Snapshot::of(alloc, new)?;
-    Ok(Directed { layout, staying })
+    Ok(Directed {
+        layout,
+        staying,
+        first,
+    })
 }
 
 /// Returns the writes of the shapes that are turned, in order of their ids, and how many shapes readers may
-/// see otherwise.
-fn writes_of(
-    alloc: Global,
-    layout: &Version,
-    _size: usize,
-) -> Result<(Vec<(ItemId, Option<Item>)>, usize), NoMemory>
+/// see otherwise, with the first of them.
+fn found_in(alloc: Global, layout: &Version, _size: usize) -> Result<Found, NoMemory>
     requires { length (map.entries layout.now.items) ≤ _size }
-    ensures { IfOk result (λ found. AreWrites (map.entries layout.now.items) found.0.items found.1) }
+    ensures { IfOk result (λ found. AreFound (map.entries layout.now.items) found.writes.items found.staying found.first.items) }
 {
     let mut writes = Vec::new(alloc);
     let mut staying = 0;
+    let mut first = Vec::new(alloc);
     for (id, item) in layout.iter() {
         match step_of(alloc, item)? {
             Step::Alike => {}
             Step::Turned(new) => writes.push((id, Some(new)))?,
-            Step::Otherwise => staying += 1,
+            Step::Otherwise(cell) => {
+                staying += 1;
+                add_first(&mut first, cell, id)?;
+            }
         }
     }
-    Ok((writes, staying))
+    Ok(Found {
+        writes,
+        staying,
+        first,
+    })
+}
+
+/// Adds the shape of this cell, and keeps the first three.
+fn add_first(first: &mut Vec<(CellId, ItemId)>, cell: CellId, id: ItemId) -> Result<(), NoMemory>
+    ensures { OnOk result (first.new.items ≡ take 3 (first.old.items ++ (cell, id) ∷ [])) }
+{
+    first.push((cell, id))?;
+    first.truncate(3);
+    Ok(())
 }
 
 /// Returns what is found for the item.
@@ -85,10 +122,10 @@ fn step_of(alloc: Global, item: &Item) -> Result<Step, NoMemory>
     };
     match orient(alloc, rings.as_slice())? {
         Oriented::Already => Ok(Step::Alike),
-        Oriented::No => Ok(Step::Otherwise),
+        Oriented::No => Ok(Step::Otherwise(*cell)),
         Oriented::Turned(new) => {
             if !are_drawn(alloc, new.as_slice())? {
-                return Ok(Step::Otherwise);
+                return Ok(Step::Otherwise(*cell));
             }
             let rings = Rings::new(alloc, new)?;
             Ok(Step::Turned(Item::Shape {

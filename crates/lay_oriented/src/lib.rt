@@ -7,28 +7,47 @@
 //! as where its edges cross or partly lie on one another, or where the path would be longer than a
 //! ring may be.
 //!
+//! Shapes are turned one by one, so less is said of a whole layer: where shapes overlap their
+//! winding numbers add up, and a call that mirrors turns the sign of what it draws.
+//!
 //! # Model
 //!
-//! - [`Directed`] is the new layout and the number of shapes that stay though readers may see them
-//!   otherwise. Contracts see both (`IsDirected` of `specs/Directed.antt`).
+//! - [`Directed`] is the new layout, the number of shapes that stay though readers may see them
+//!   otherwise, and the first three of these. Contracts see them (`IsDirectedNaming` of
+//!   `specs/Directed.antt`).
 //! - The winding number of edges about a place counts those to its right: one more for each that
 //!   rises, one less for each that falls (`specs/Winding.antt`). [`winding_has_laws`] carries its
 //!   laws: it is odd where the parity is, and that of the one path round rings is that of the
 //!   rings.
+//! - The edges of a shape that is turned are the old ones, an edge that stands an even number of
+//!   times left out (`KeepEdges` of `specs/Oriented.antt`): no point is added on one.
 //!
 //! # How directions are found and checked
 //!
-//! A shape whose rings all run the same way round its holes has the winding number 2 in them. A
-//! sweep directs each edge so that what is inside is on its left, edges that occur an even number
-//! of times left out, and links the edges to rings. That step is not proved. Its answer is checked
-//! before it is given: the edges are the same, and in each band of heights the edges from right to
-//! left rise and fall in turn, which a second sweep tests (`specs/Slants.antt`). That rings whose
-//! edges meet at ends alone always find directions is tested, and not proved.
+//! A shape whose rings all run the same way round its holes has the winding number 2 in them. All
+//! rings turned round are tried first, as where a shape is drawn clockwise. Else a sweep directs
+//! each edge so that what is inside is on its left, edges that occur an even number of times left
+//! out, and links the edges to rings. That step is not proved. Its answer is checked before it is
+//! given: the edges are the same, and in each band of heights the edges from right to left rise and
+//! fall in turn, which a second sweep tests (`specs/Slants.antt`). Ways that are gone both out and
+//! back are left out there (`specs/Net.antt`). That rings whose edges meet at ends alone always
+//! find directions is tested, and not proved.
+//!
+//! # How rings are joined
+//!
+//! A shape of several rings becomes one of one ring, which goes once round each and along each way
+//! between two of them out and back. From left to right, each ring is joined at its leftmost corner
+//! to a corner near it of those that were passed: the nearest of the last ones at some heights
+//! above and below. That is not proved; what is made of it is checked: its edges with their
+//! directions are those of the rings, but for ways that are gone both out and back (`GoAlike` of
+//! `specs/Net.antt`). Where the ring would be longer than a ring may be, the rings stay apart.
 //!
 //! # Files
 //!
 //! - `directing.rt`: the layout, item by item; `orienting.rt`: the rings of one shape.
 //! - `net.rt`, `winding_directing.rt`, `linking.rt`: edges, their directions, and rings of them.
+//! - `joining.rt`, `walk.rt`: one ring of several.
+//! - `directed_net.rt`: edges with their directions, without those that stand there in both.
 //! - `once.rt`, `sweep.rt`, `band.rt`, `slant.rt`, `edges.rt`: the check that rings go round each
 //!   place at most once (`specs/Once.antt`).
 //!
@@ -41,8 +60,10 @@
 #![tactic(auto)]
 
 mod band;
+mod directed_net;
 mod directing;
 mod edges;
+mod joining;
 mod laws;
 mod linking;
 mod net;
@@ -50,6 +71,7 @@ mod once;
 mod orienting;
 mod slant;
 mod sweep;
+mod walk;
 mod winding_directing;
 
 pub use directing::{Directed, oriented_layout};

@@ -21,13 +21,21 @@ pub(crate) fn linked(
         let Some(points) = way_back(alloc, edges, unused.as_mut_slice(), *start, to)? else {
             return Ok(None);
         };
-        match Ring::new(alloc, points.as_slice()) {
-            Ok(ring) => rings.push(ring)?,
-            Err(RingFault::NoMemory) => return Err(NoMemory),
-            Err(_) => return Ok(None),
-        }
+        let Some(ring) = ring_round(alloc, points.as_slice())? else {
+            return Ok(None);
+        };
+        rings.push(ring)?;
     }
     Ok(Some(rings))
+}
+
+/// Returns the ring of the points, or `None` where they make none.
+pub(crate) fn ring_round(alloc: Global, points: &[Point]) -> Result<Option<Ring>, NoMemory> {
+    match Ring::new(alloc, points) {
+        Ok(ring) => Ok(Some(ring)),
+        Err(RingFault::NoMemory) => Err(NoMemory),
+        Err(_) => Ok(None),
+    }
 }
 
 /// Returns the numbers below `count`.

@@ -1,9 +1,9 @@
 //! Edges without directions, those out that stand twice.
-ghost use Rattle.std.specs.Prelude.{◌≡◌, ◌⊎◌, ◌∷◌, ℤ, IfOk, IfSome};
+ghost use Rattle.std.specs.Prelude.{◌≡◌, ◌⊎◌, ◌∷◌, IfOk, IfSome};
 ghost use Rattle.std.specs.Cmp.Lexicographic.{pointwise};
 ghost use Rattle.lay_point.specs.Edges.{same_edge};
-ghost use Rattle.lay_point.specs.Parity.{odd};
 ghost use Rattle.lay_point.specs.RingEdges.{edges_of};
+ghost use Rattle.lay_oriented.specs.Net.{PassAlike};
 
 use crate::edges::edges_of;
 use lay_point::{Point, Ring};
@@ -12,7 +12,7 @@ use std::alloc::{AllocError, Global};
 /// Returns the edges of the rings that stand there an odd number of times, each once, its lesser end
 /// first, in order.
 pub(crate) fn net_edges(alloc: Global, rings: &[Ring]) -> Result<Vec<(Point, Point)>, AllocError>
-    ensures { IfOk result (λ net. (k x y : ℤ) → odd net.items k x y ≡ odd (edges_of rings.now) k x y) }
+    ensures { IfOk result (λ net. PassAlike net.items (edges_of rings.now)) }
 {
     let edges = edges_of(alloc, rings)?;
     let mut ordered = ordered_edges(alloc, edges.as_slice())?;
@@ -23,7 +23,7 @@ pub(crate) fn net_edges(alloc: Global, rings: &[Ring]) -> Result<Vec<(Point, Poi
 
 /// Returns the edges, each with its lesser end first.
 fn ordered_edges(alloc: Global, edges: &[(Point, Point)]) -> Result<Vec<(Point, Point)>, AllocError>
-    ensures { IfOk result (λ ordered. (k x y : ℤ) → odd ordered.items k x y ≡ odd edges.now k x y) }
+    ensures { IfOk result (λ ordered. PassAlike ordered.items edges.now) }
 {
     let mut ordered = Vec::with_capacity(alloc, edges.len())?;
     let mut left = edges;
@@ -35,7 +35,7 @@ fn ordered_edges(alloc: Global, edges: &[(Point, Point)]) -> Result<Vec<(Point, 
 }
 
 /// Returns the edge between the points, its lesser end first.
-fn ordered_edge(from: Point, to: Point) -> (Point, Point)
+pub(crate) fn ordered_edge(from: Point, to: Point) -> (Point, Point)
     ensures { (result ≡ (from, to)) ⊎ (result ≡ (to, from)) }
 {
     if from <= to { (from, to) } else { (to, from) }
@@ -43,7 +43,7 @@ fn ordered_edge(from: Point, to: Point) -> (Point, Point)
 
 /// Returns the edges without those that stand twice next to each other.
 fn without_pairs(alloc: Global, edges: &[(Point, Point)]) -> Result<Vec<(Point, Point)>, AllocError>
-    ensures { IfOk result (λ kept. (k x y : ℤ) → odd kept.items k x y ≡ odd edges.now k x y) }
+    ensures { IfOk result (λ kept. PassAlike kept.items edges.now) }
 {
     let mut kept = Vec::new(alloc);
     let mut left = edges;
@@ -73,7 +73,7 @@ fn behind_same<'a>(
     }
 }
 
-fn is_same(edge: (Point, Point), other: (Point, Point)) -> bool
+pub(crate) fn is_same(edge: (Point, Point), other: (Point, Point)) -> bool
     ensures { result ≡ same_edge edge other }
 {
     edge.0 == other.0 && edge.1 == other.1

@@ -2,6 +2,7 @@
 
 use cif_layout::FromCif;
 use cif_read::read;
+use lay_cells::CellId;
 use lay_items::Snapshot;
 use lay_layouts::ItemId;
 use lay_oriented::oriented_layout;
@@ -22,7 +23,7 @@ fn a_frame_is_turned(rt: HostRuntime) -> Result<(), Fail> {
     let layout = Snapshot::from_cif(alloc, read(alloc, text)?)?;
     let directed = oriented_layout(alloc, &layout)?;
     assert_eq!(rt; directed.staying, 0);
-    assert!(rt; directed.layout.points(FIRST, 1).is_some());
+    assert!(rt; directed.first.is_empty() && directed.layout != layout);
     let again = oriented_layout(alloc, &directed.layout)?;
     assert!(rt; again.layout == directed.layout);
     Ok(())
@@ -36,6 +37,29 @@ fn a_path_that_crosses_itself_stays(rt: HostRuntime) -> Result<(), Fail> {
     let layout = Snapshot::from_cif(alloc, read(alloc, text)?)?;
     let directed = oriented_layout(alloc, &layout)?;
     assert_eq!(rt; directed.staying, 1);
+    assert!(rt; directed.first.as_slice() == [(CellId::Top, FIRST)].as_slice());
     assert!(rt; directed.layout == layout);
+    Ok(())
+}
+
+// Could catch names of shapes that were turned or seen alike, names in another order, and more than three of
+// them or fewer. Of six paths the first and the fourth don't cross themselves.
+#[test]
+fn the_first_three_that_stay_are_named(rt: HostRuntime) -> Result<(), Fail> {
+    let alloc = rt.alloc();
+    let bow = "P 0 0 40 40 40 0 0 40;";
+    let square = "P 0 0 0 40 40 40 40 0;";
+    let text = format!(in alloc;
+        "L NM; {square}{bow}{bow}{square} DS 7; L NM; {bow} DF; {bow}{bow}{bow} C 7; E"
+    )?;
+    let layout = Snapshot::from_cif(alloc, read(alloc, text.as_bytes())?)?;
+    let directed = oriented_layout(alloc, &layout)?;
+    assert_eq!(rt; directed.staying, 6);
+    let mut names = String::new(alloc);
+    for (cell, id) in &directed.first {
+        let name = format!(in alloc; "{} {}, ", *cell == CellId::Top, id.seq)?;
+        names.push_str(&name)?;
+    }
+    assert_eq!(rt; names.as_str(), "true 2, true 3, false 5, ");
     Ok(())
 }

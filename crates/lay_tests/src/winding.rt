@@ -1,86 +1,77 @@
-//! Tests of what no clause says: that rings whose edges meet at ends alone are answered.
+//! Tests of what no clause says: that paths whose edges meet at ends alone are turned.
 
-use lay_oriented::*;
-use lay_point::{Point, Ring};
+use cif_layout::FromCif;
+use cif_read::read;
+use lay_items::Snapshot;
+use lay_layouts::ItemId;
+use lay_oriented::oriented_layout;
+use lay_point::Point;
 use std::alloc::{AllocError, Global};
 use std::test::*;
 
-/// Returns the ring of these points.
-fn ring_of(alloc: Global, path: &[(i32, i32)]) -> Result<Ring, Fail> {
-    let mut points = Vec::new(alloc);
-    for (x, y) in path {
-        points.push(Point { x: *x, y: *y })?;
-    }
-    Ok(Ring::new(alloc, &points)?)
-}
+const FIRST: ItemId = ItemId {
+    session: 0,
+    txn: 0,
+    seq: 1,
+};
 
-/// Returns the coordinates of the points, each with a space before it, and a semicolon behind each ring.
-fn text_of(alloc: Global, rings: &[Ring]) -> Result<String, AllocError> {
+/// Returns the coordinates of the points as a text has them, in twice the layout's units, each with a space before it.
+fn text_of(alloc: Global, points: &[Point]) -> Result<String, AllocError> {
     let mut text = String::new(alloc);
-    for ring in rings {
-        for point in ring.points() {
-            text.push_str(&format!(in alloc; " {} {}", point.x, point.y)?)?;
-        }
-        text.push_str(";")?;
+    for point in points {
+        text.push_str(&format!(in alloc; " {} {}", point.x / 2, point.y / 2)?)?;
     }
     Ok(text)
 }
 
-/// Returns the rings that these are directed to, or `crossed`.
-fn oriented_of(alloc: Global, paths: &[&[(i32, i32)]]) -> Result<String, Fail> {
-    let mut rings = Vec::new(alloc);
-    for path in paths {
-        rings.push(ring_of(alloc, path)?)?;
+/// Returns the path that this one is turned to, or `crossed`.
+fn oriented_of(alloc: Global, path: &str) -> Result<String, Fail> {
+    let text = format!(in alloc; "L NM; P{path}; E")?;
+    let layout = Snapshot::from_cif(alloc, read(alloc, text.as_bytes())?)?;
+    let directed = oriented_layout(alloc, &layout)?;
+    if directed.staying != 0 {
+        return Ok(format!(in alloc; "crossed")?);
     }
-    match orient(alloc, &rings)? {
-        Oriented::Already => Ok(text_of(alloc, &rings)?),
-        Oriented::Turned(new) => Ok(text_of(alloc, &new)?),
-        Oriented::No => Ok(format!(in alloc; "crossed")?),
-    }
+    let points = directed.layout.points(FIRST, 0).ok_or("no path")?;
+    Ok(text_of(alloc, points)?)
 }
 
-// Could catch a body that finds no directions, turns a ring that needn't be turned, or tells holes by
-// anything but parity: the contract says only what an answer is. The directions were found by hand.
+// Could catch a body that finds no directions, turns a path that needn't be turned, or tells holes by
+// anything but parity: the contract says only what an answer is. The directions were found by hand; where
+// several rings are joined, each is joined at its leftmost corner, the lowest of these, to the corner
+// nearest to it of those to its left.
 #[test]
 fn holes_go_clockwise(rt: HostRuntime) -> Result<(), Fail> {
-    let square: &[(i32, i32)] = &[(0, 0), (40, 0), (40, 40), (0, 40)];
-    let turned: &[(i32, i32)] = &[(0, 0), (0, 40), (40, 40), (40, 0)];
-    let hole: &[(i32, i32)] = &[(10, 10), (30, 10), (30, 30), (10, 30)];
-    let island: &[(i32, i32)] = &[(15, 15), (15, 25), (25, 25), (25, 15)];
-    let corner: &[(i32, i32)] = &[(0, 0), (20, 10), (10, 20)];
-    let bridged: &[(i32, i32)] = &[
-        (0, 0),
-        (40, 0),
-        (40, 40),
-        (0, 40),
-        (0, 0),
-        (10, 10),
-        (30, 10),
-        (30, 30),
-        (10, 30),
-        (10, 10),
-    ];
-    let bow: &[(i32, i32)] = &[(0, 0), (10, 10), (10, 0), (0, 10)];
-    let rows: [(&[&[(i32, i32)]], &str); 9] = [
-        (&[], ""),
-        (&[square], " 0 0 40 0 40 40 0 40;"),
-        (&[turned], " 0 0 40 0 40 40 0 40;"),
+    let rows = [
+        // A square, and the same the other way round.
+        (" 0 0 40 0 40 40 0 40", " 0 0 40 0 40 40 0 40"),
+        (" 0 0 0 40 40 40 40 0", " 0 0 40 0 40 40 0 40"),
+        // A square, then its hole the same way round.
         (
-            &[square, hole],
-            " 0 0 40 0 40 40 0 40; 10 10 10 30 30 30 30 10;",
+            " 0 0 40 0 40 40 0 40 0 0 10 10 30 10 30 30 10 30 10 10",
+            " 0 0 10 10 10 30 30 30 30 10 10 10 0 0 40 0 40 40 0 40",
         ),
-        (&[bridged], " 0 0 40 0 40 40 0 40; 10 10 10 30 30 30 30 10;"),
+        // A square and its hole in turn are as they should be, and both the other way round aren't.
         (
-            &[turned, hole, island],
-            " 0 0 40 0 40 40 0 40; 10 10 10 30 30 30 30 10; 15 15 25 15 25 25 15 25;",
+            " 0 0 40 0 40 40 0 40 0 0 10 10 10 30 30 30 30 10 10 10",
+            " 0 0 40 0 40 40 0 40 0 0 10 10 10 30 30 30 30 10 10 10",
         ),
-        (&[square, corner], " 0 0 10 20 20 10; 0 0 40 0 40 40 0 40;"),
-        (&[bow], "crossed"),
-        (&[square, square], ""),
+        (
+            " 10 10 30 10 30 30 10 30 10 10 0 0 0 40 40 40 40 0 0 0",
+            " 10 10 0 0 40 0 40 40 0 40 0 0 10 10 10 30 30 30 30 10",
+        ),
+        // A hole that hangs on a corner.
+        (
+            " 0 0 40 0 40 40 0 40 0 0 20 10 10 20",
+            " 0 0 40 0 40 40 0 40 0 0 10 20 20 10",
+        ),
+        // A path that crosses itself, and one that goes round twice.
+        (" 0 0 10 10 10 0 0 10", "crossed"),
+        (" 0 0 40 0 40 40 0 40 0 0 40 0 40 40 0 40", "crossed"),
     ];
-    for (paths, want) in rows {
-        let text = oriented_of(rt.alloc(), paths)?;
-        assert_eq!(rt; text.as_str(), want, "{paths:?}");
+    for (path, want) in rows {
+        let text = oriented_of(rt.alloc(), path)?;
+        assert_eq!(rt; text.as_str(), want, "{path}");
     }
     Ok(())
 }

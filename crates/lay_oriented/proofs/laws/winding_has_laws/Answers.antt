@@ -1,11 +1,9 @@
 -- The laws are theorems about all edges.
-use Rattle.std.proofs.Common.{◌≡◌, [], ◌∷◌, pos, arith}
+use Rattle.std.proofs.Common.{arith}
 use Rattle.lay_point.proofs.Signs.{linear}
 use Rattle.lay_oriented.specs.Winding.{turn, winding}
 use Rattle.lay_oriented.proofs.WindingLemmas.{sum_of-append, sum_of-permutation, turn-IsTurn, winding_parity}
 use Rattle.lay_oriented.proofs.BridgeWinding.{winding-bridged}
-use Rattle.lay_oriented.proofs.RowLemmas.{once_in_band}
-use Rattle.lay_oriented.proofs.SlantLemmas.{counts_below, counts_above, counts_of_slants}
 use Rattle.lay_oriented.proofs.laws.winding_has_laws.Goals as goal
 
 pub returns-clause-parity : goal.returns-clause-parity

@@ -1,4 +1,4 @@
-use Rattle.std.proofs.Common.{◌≡◌, ◌∷◌, sym, ap, ◌∙◌}
+use Rattle.std.proofs.Common.{◌∷◌, sym, ap, ◌∙◌}
 use Rattle.lay_oriented.proofs.NetLemmas.{edge_same}
 use Rattle.lay_oriented.proofs.net.behind_same.Goals as goal
 

@@ -1,20 +1,19 @@
-use Rattle.std.proofs.Common.{◌≡◌, ◌∷◌, [], rules, ap, ◌∙◌}
-use Rattle.lay_point.specs.Parity.{odd, xor}
-use Rattle.lay_oriented.proofs.NetLemmas.{odd_none, odd_pushed}
+use Rattle.std.proofs.Common.{ap, ◌∙◌}
+use Rattle.lay_point.specs.Parity.{parity, xor}
+use Rattle.lay_oriented.proofs.NetLemmas.{parity_none, parity_pushed}
 use Rattle.lay_oriented.proofs.net.ordered_edges.Goals as goal
 
 pub loop-edge-init : goal.loop-edge-init
-unfolding odd
-loop-edge-init c = λ k x y. ap (λ l. xor (odd l k x y) (odd c.args.edges.now k x y)) c.in_ok-ordered.ensures.items
+loop-edge-init c = λ test either. ap (λ l. xor (parity test l) (parity test c.args.edges.now)) c.in_ok-ordered.ensures.items
 
 pub loop-edge-preserved : goal.loop-edge-preserved
-loop-edge-preserved c = λ k x y.
+loop-edge-preserved c = λ test either.
     let e = c.in-Some.edge.now in
     let behind = c.in-Some.behind.now in
-    ap (λ l. xor (odd l k x y) (odd behind k x y)) c.in_ok-push.ensures.items
-    ∙ odd_pushed k x y c.loop-edge.ordered.items e c.ordered_edge.result c.loop-edge.left.now behind c.args.edges.now
-    c.ordered_edge.ensures c.in-Some.ensures.cases.0 (c.loop-edge.invariant k x y)
+    ap (λ l. xor (parity test l) (parity test behind)) c.in_ok-push.ensures.items
+    ∙ parity_pushed test either c.loop-edge.ordered.items e c.ordered_edge.result c.loop-edge.left.now behind c.args.edges.now
+    c.ordered_edge.ensures c.in-Some.ensures.cases.0 (c.loop-edge.invariant test either)
 
 pub returns : goal.returns
-returns c = λ k x y. odd_none k x y c.loop-edge.ordered.items c.loop-edge.left.now c.args.edges.now c.in_default.ensures.cases
-    (c.loop-edge.invariant k x y)
+returns c = λ test either. parity_none test c.loop-edge.ordered.items c.loop-edge.left.now c.args.edges.now c.in_default.ensures.cases
+    (c.loop-edge.invariant test either)

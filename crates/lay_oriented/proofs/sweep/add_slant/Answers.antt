@@ -1,4 +1,4 @@
-use Rattle.std.proofs.Common.{◌≡◌, ap, ◌∙◌}
+use Rattle.std.proofs.Common.{ap, ◌∙◌}
 use Rattle.lay_oriented.specs.Slants.{counts}
 use Rattle.lay_oriented.proofs.SweepLemmas.{counts-insert}
 use Rattle.lay_oriented.proofs.sweep.add_slant.Goals as goal

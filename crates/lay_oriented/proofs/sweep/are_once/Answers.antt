@@ -1,4 +1,4 @@
-use Rattle.std.proofs.Common.{◌≡◌, true, pos, ◌+ℤ◌, ℤ, w32, to_z, of_z, get_or, rules, sym, ap, ◌∙◌}
+use Rattle.std.proofs.Common.{◌≡◌, true, pos, ◌+ℤ◌, w32, to_z, of_z, get_or, rules, sym, ap, ◌∙◌}
 use Rattle.lay_oriented.specs.Slants.{counts, ending_above, is_sound_band}
 use Rattle.lay_oriented.proofs.SweepLemmas.{swept_all, swept_first, swept_more}
 use Rattle.lay_oriented.proofs.sweep.are_once.Goals as goal
