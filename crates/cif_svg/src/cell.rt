@@ -1,34 +1,33 @@
 //! Which cell is drawn.
 
-use anyhow::Context;
+use crate::cell_names::CellNames;
+use crate::order::add_called;
 use lay_cells::CellId;
 use lay_items::Snapshot;
 use lay_point::NoMemory;
 use std::alloc::Global;
 use std::collections::BTreeSet;
 
-/// Returns the cell of this name, `top` or a symbol's number; without one the top cell, or, where it is empty, the
-/// first symbol that none calls.
+/// Returns the cell of this name; without one the top cell, or, where it is empty, the first symbol that none calls.
 pub(crate) fn cell_named(
     alloc: Global,
     snapshot: &Snapshot,
-    name: Option<&str>,
-) -> anyhow::Result<CellId> {
-    match name {
-        Some("top") => Ok(CellId::Top),
-        Some(word) => {
-            let number: u32 = word
-                .parse()
-                .ok()
-                .context("the argument is `top` or a symbol's number")?;
-            Ok(CellId::Symbol(number))
-        }
-        None if snapshot.items(CellId::Top).next().is_some() => Ok(CellId::Top),
-        None => Ok(
-            first_uncalled(alloc, snapshot)
-                .ok()
-                .context("out of memory")?,
-        ),
+    names: &CellNames,
+    word: Option<&str>,
+) -> Result<Option<CellId>, NoMemory> {
+    match word {
+        Some("top") => Ok(Some(CellId::Top)),
+        Some(word) => Ok(symbol_named(snapshot, names, word).map(CellId::Symbol)),
+        None if snapshot.items(CellId::Top).next().is_some() => Ok(Some(CellId::Top)),
+        None => Ok(Some(first_uncalled(alloc, snapshot)?)),
+    }
+}
+
+/// Returns the number of the symbol that the word names: it is the number, or else its name.
+fn symbol_named(snapshot: &Snapshot, names: &CellNames, word: &str) -> Option<u32> {
+    match word.parse::<u32>() {
+        Ok(number) if snapshot.cells().position(number).is_some() => Some(number),
+        _ => names.symbol_of(word.as_bytes()),
     }
 }
 
@@ -50,16 +49,4 @@ fn called_symbols(alloc: Global, snapshot: &Snapshot) -> Result<BTreeSet<u32>, N
         }
     }
     Ok(called)
-}
-
-/// Adds the numbers of the symbols that the cell calls.
-fn add_called(
-    called: &mut BTreeSet<u32>,
-    snapshot: &Snapshot,
-    cell: CellId,
-) -> Result<(), NoMemory> {
-    for (_, target, _) in snapshot.calls(cell) {
-        called.insert(target).map_err(|_| NoMemory)?;
-    }
-    Ok(())
 }

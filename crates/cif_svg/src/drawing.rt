@@ -1,177 +1,212 @@
 //! The picture as a whole.
 
-use crate::bounds::Bounds;
-use crate::frame::{Frame, scale_bar};
-use crate::layers::{Drawn, bounds_of, drawn_below};
-use crate::path::put_ring;
+use crate::cell_names::CellNames;
+use crate::extents::{Extent, Extents};
+use crate::foot::put_foot;
+use crate::frame::{Frame, caption_of};
+use crate::groups::{put_groups, put_id};
+use crate::legend::put_legend;
+use crate::marks::put_marks;
+use crate::order::{callees_first, drawn_with, place_of};
 use crate::style::style_of;
-use anyhow::Context;
 use lay_cells::CellId;
 use lay_items::Snapshot;
-use lay_point::{LayerName, NoMemory, Point};
+use lay_point::{LayerName, NoMemory};
 use std::alloc::Global;
 use std::io::Write;
 
+/// The most shapes of a layer that get outlines and one opacity. Of more, each is small, and so many outlines are dark.
+const MAX_OUTLINED: u64 = 4_000;
+
+/// What is drawn.
+#[derive(Drop)]
+pub(crate) struct Plan<'s> {
+    pub(crate) snapshot: &'s Snapshot,
+    pub(crate) names: &'s CellNames,
+    /// The cell that is drawn.
+    pub(crate) cell: CellId,
+    /// It and the cells that are drawn with it, callers first.
+    pub(crate) cells: Vec<CellId>,
+    pub(crate) extents: Extents,
+}
+
+/// A layer of the picture.
+#[derive(Clone, Copy, Debug)]
+pub(crate) struct Sheet {
+    /// Its place among all layers of the text, which says how it looks.
+    pub(crate) place: usize,
+    pub(crate) layer: LayerName,
+    pub(crate) extent: Extent,
+}
+
 /// Returns the picture of a cell.
-pub(crate) fn picture(alloc: Global, snapshot: &Snapshot, cell: CellId) -> anyhow::Result<Vec<u8>> {
-    let drawn = drawn_below(alloc, snapshot, cell)?;
-    let bounds = bounds_of(&drawn).unwrap_or(Bounds::of(Point { x: 0, y: 0 }));
-    let frame = Frame::of(bounds, drawn.len());
+pub(crate) fn picture(
+    alloc: Global,
+    snapshot: &Snapshot,
+    names: &CellNames,
+    cell: CellId,
+) -> Result<Vec<u8>, NoMemory> {
+    let order = callees_first(alloc, snapshot)?;
+    let plan = Plan {
+        snapshot,
+        names,
+        cell,
+        cells: drawn_with(alloc, snapshot, &order, cell)?,
+        extents: Extents::of(alloc, snapshot, &order)?,
+    };
+    let sheets = sheets_of(alloc, &plan)?;
+    let caption = caption_of(alloc, &plan)?;
+    let frame = Frame::of(&plan, &sheets, &caption);
     let mut lines = Vec::new(alloc);
-    put_head(&mut lines, frame).ok().context("out of memory")?;
-    put_styles(&mut lines, frame).ok().context("out of memory")?;
-    put_layers(&mut lines, &drawn, bounds, frame)
-        .ok()
-        .context("out of memory")?;
-    put_legend(&mut lines, &drawn, frame)
-        .ok()
-        .context("out of memory")?;
-    put_foot(&mut lines, frame).ok().context("out of memory")?;
+    put_head(&mut lines, &frame)?;
+    put_styles(&mut lines, &sheets, &frame)?;
+    put_groups(&mut lines, &plan)?;
+    lines.extend_from_slice(b"</defs>\n")?;
+    put_sheets(&mut lines, &plan, &by_area(alloc, &sheets)?, &frame)?;
+    put_marks(alloc, &mut lines, &plan, &frame)?;
+    put_legend(&mut lines, &sheets, &frame)?;
+    put_foot(&mut lines, &caption, &frame)?;
     Ok(lines)
 }
 
+/// Returns the layers of which the drawn cell holds something, in order of their names.
+fn sheets_of(alloc: Global, plan: &Plan<'_>) -> Result<Vec<Sheet>, NoMemory> {
+    let mut sheets = Vec::new(alloc);
+    let Some(held) = plan.extents.held(place_of(plan.snapshot, plan.cell)) else {
+        return Ok(sheets);
+    };
+    for (place, extent) in held.iter() {
+        if let Some(layer) = plan.extents.layers().get(*place) {
+            sheets.push(Sheet {
+                place: *place,
+                layer: *layer,
+                extent: *extent,
+            })?;
+        }
+    }
+    Ok(sheets)
+}
+
+/// Returns the layers with the largest area first.
+fn by_area(alloc: Global, sheets: &[Sheet]) -> Result<Vec<Sheet>, NoMemory> {
+    let mut sorted = Vec::from_slice(alloc, sheets)?;
+    sorted.sort_unstable_by(|first: &Sheet, second: &Sheet| {
+        second
+            .extent
+            .area
+            .cmp(&first.extent.area)
+            .then(first.place.cmp(&second.place))
+    });
+    Ok(sorted)
+}
+
 /// Appends the head: the picture's size, a white ground and the size of letters.
-fn put_head(lines: &mut Vec<u8>, frame: Frame) -> Result<(), NoMemory> {
+fn put_head(lines: &mut Vec<u8>, frame: &Frame) -> Result<(), NoMemory> {
     let (width, height, letter) = (frame.whole_width(), frame.whole_height(), frame.letter);
+    let (wide, high) = (frame.pixels(width), frame.pixels(height));
     let margin = frame.letters(2);
     write!(
         lines,
-        "<svg xmlns=\"http://www.w3.org/2000/svg\" viewBox=\"-{margin} -{margin} {width} {height}\" width=\"900\" font-family=\"sans-serif\" font-size=\"{letter}\">\n<rect x=\"-{margin}\" y=\"-{margin}\" width=\"{width}\" height=\"{height}\" fill=\"white\"/>\n"
+        "<svg xmlns=\"http://www.w3.org/2000/svg\" viewBox=\"-{margin} -{margin} {width} {height}\" width=\"{wide}\" height=\"{high}\" font-family=\"monospace\" font-size=\"{letter}\">\n<style>g>path,g>rect{{vector-effect:non-scaling-stroke}}</style>\n<rect x=\"-{margin}\" y=\"-{margin}\" width=\"{width}\" height=\"{height}\" fill=\"white\"/>\n"
     )
     .map_err(|_| NoMemory)?;
     Ok(())
 }
 
-/// Appends the hatches, one for each layer.
-fn put_styles(lines: &mut Vec<u8>, frame: Frame) -> Result<(), NoMemory> {
-    lines.extend_from_slice(b"<defs>\n").map_err(|_| NoMemory)?;
-    let letter = frame.letter;
-    for number in 0..frame.layers {
-        let style = style_of(number);
-        let (colour, hatch) = (style.colour, style.hatch);
-        write!(
-            lines,
-            "<pattern id=\"hatch{number}\" width=\"{letter}\" height=\"{letter}\" viewBox=\"0 0 8 8\" patternUnits=\"userSpaceOnUse\"><rect width=\"8\" height=\"8\" fill=\"{colour}\" fill-opacity=\"0.25\"/><path d=\"{hatch}\" stroke=\"{colour}\"/></pattern>\n"
-        )
-        .map_err(|_| NoMemory)?;
-    }
-    lines.extend_from_slice(b"</defs>\n").map_err(|_| NoMemory)?;
-    Ok(())
-}
-
-/// Appends the layers, each a group of its name.
-fn put_layers(
-    lines: &mut Vec<u8>,
-    drawn: &[Drawn<'_>],
-    bounds: Bounds,
-    frame: Frame,
-) -> Result<(), NoMemory> {
-    for number in 0..drawn.len() {
-        put_layer(lines, &drawn[number], number, bounds, frame)?;
+/// Appends the begin of the definitions, and the hatches.
+fn put_styles(lines: &mut Vec<u8>, sheets: &[Sheet], frame: &Frame) -> Result<(), NoMemory> {
+    lines.extend_from_slice(b"<defs>\n")?;
+    for sheet in sheets {
+        put_hatch(lines, sheet, frame)?;
     }
     Ok(())
 }
 
-/// Appends a layer: a path for each shape, filled by parity.
-fn put_layer(
-    lines: &mut Vec<u8>,
-    drawn: &Drawn<'_>,
-    number: usize,
-    bounds: Bounds,
-    frame: Frame,
-) -> Result<(), NoMemory> {
-    let (colour, line) = (style_of(number).colour, (frame.letter / 10).max(1));
-    lines.extend_from_slice(b"<g id=\"").map_err(|_| NoMemory)?;
-    put_name(lines, &drawn.layer)?;
+/// Appends the hatch of a layer that has one.
+fn put_hatch(lines: &mut Vec<u8>, sheet: &Sheet, frame: &Frame) -> Result<(), NoMemory> {
+    let (style, letter) = (style_of(sheet.place), frame.letter);
+    let Some(hatch) = style.hatch else {
+        return Ok(());
+    };
+    let colour = style.colour;
+    lines.extend_from_slice(b"<pattern id=\"hatch-")?;
+    lines.extend_from_slice(sheet.layer.as_bytes())?;
     write!(
         lines,
-        "\" fill=\"url(#hatch{number})\" fill-rule=\"evenodd\" stroke=\"{colour}\" stroke-width=\"{line}\">\n"
+        "\" width=\"{letter}\" height=\"{letter}\" viewBox=\"0 0 8 8\" patternUnits=\"userSpaceOnUse\"><rect width=\"8\" height=\"8\" fill=\"white\"/><path d=\"{hatch}\" fill=\"none\" stroke=\"{colour}\" stroke-width=\"2\"/></pattern>\n"
     )
     .map_err(|_| NoMemory)?;
-    put_shapes(lines, drawn, bounds)?;
-    lines.extend_from_slice(b"</g>\n").map_err(|_| NoMemory)?;
     Ok(())
 }
 
-/// Appends a path for each shape, of all its rings.
-fn put_shapes(lines: &mut Vec<u8>, drawn: &Drawn<'_>, bounds: Bounds) -> Result<(), NoMemory> {
-    let mut shape = None;
-    for ring in drawn.flat.rings() {
-        if shape != Some(ring.shape_no) {
-            let begin: &[u8] = if shape.is_none() {
-                b"<path d=\""
-            } else {
-                b"\"/>\n<path d=\""
-            };
-            lines.extend_from_slice(begin).map_err(|_| NoMemory)?;
-            shape = Some(ring.shape_no);
-        }
-        put_ring(lines, ring, bounds)?;
-    }
-    lines.extend_from_slice(b"\"/>\n").map_err(|_| NoMemory)?;
-    Ok(())
-}
-
-/// Appends a layer's name, which is digits and upper-case letters.
-fn put_name(lines: &mut Vec<u8>, layer: &LayerName) -> Result<(), NoMemory> {
-    lines
-        .extend_from_slice(layer.as_bytes())
-        .map_err(|_| NoMemory)?;
-    Ok(())
-}
-
-/// Appends the legend, beside the drawing: a square and the name for each layer.
-fn put_legend(lines: &mut Vec<u8>, drawn: &[Drawn<'_>], frame: Frame) -> Result<(), NoMemory> {
-    let (x, letter) = (frame.width.saturating_add(frame.letters(2)), frame.letter);
-    let text = x.saturating_add(frame.letters(2));
-    for number in 0..drawn.len() {
-        let colour = style_of(number).colour;
-        let y = frame.letters((number.min(1_000) as i64).saturating_mul(2));
-        let base = y.saturating_add(letter);
-        write!(
-            lines,
-            "<rect x=\"{x}\" y=\"{y}\" width=\"{letter}\" height=\"{letter}\" fill=\"url(#hatch{number})\" stroke=\"{colour}\"/><text x=\"{text}\" y=\"{base}\">"
-        )
-        .map_err(|_| NoMemory)?;
-        put_name(lines, &drawn[number].layer)?;
-        lines.extend_from_slice(b"</text>\n").map_err(|_| NoMemory)?;
-    }
-    Ok(())
-}
-
-/// Appends the scale bar and the drawing's size, under it.
-fn put_foot(lines: &mut Vec<u8>, frame: Frame) -> Result<(), NoMemory> {
-    let bar = scale_bar(frame.width);
-    let (long, thick) = (bar / 5, (frame.letter / 4).max(1));
-    let y = frame.whole_height().saturating_sub(frame.letters(5));
-    let text = y.saturating_add(frame.letters(2));
+/// Appends the layers, each a group of its name; a y axis that goes upward is turned there.
+fn put_sheets(
+    lines: &mut Vec<u8>,
+    plan: &Plan<'_>,
+    sheets: &[Sheet],
+    frame: &Frame,
+) -> Result<(), NoMemory> {
+    let (right, down) = (frame.x_of(0), frame.y_of(0));
     write!(
         lines,
-        "<rect x=\"0\" y=\"{y}\" width=\"{long}\" height=\"{thick}\"/>\n<text x=\"0\" y=\"{text}\">"
+        "<g transform=\"matrix(1 0 0 -1 {right} {down})\" fill-rule=\"evenodd\" stroke-width=\"2\">\n"
     )
     .map_err(|_| NoMemory)?;
-    put_micrometres(lines, bar)?;
-    lines
-        .extend_from_slice(" \u{b5}m; drawn: ".as_bytes())
-        .map_err(|_| NoMemory)?;
-    put_micrometres(lines, frame.width.saturating_mul(5))?;
-    lines
-        .extend_from_slice(" \u{d7} ".as_bytes())
-        .map_err(|_| NoMemory)?;
-    put_micrometres(lines, frame.height.saturating_mul(5))?;
-    lines
-        .extend_from_slice(" \u{b5}m</text>\n</svg>\n".as_bytes())
-        .map_err(|_| NoMemory)?;
+    for sheet in sheets {
+        put_sheet(lines, plan, sheet)?;
+    }
+    lines.extend_from_slice(b"</g>\n")?;
     Ok(())
 }
 
-/// Appends a number of nanometres, none below 0, in micrometres.
-fn put_micrometres(lines: &mut Vec<u8>, nanometres: i64) -> Result<(), NoMemory> {
-    let (whole, rest) = (nanometres / 1_000, nanometres % 1_000);
-    if rest == 0 {
-        write!(lines, "{whole}").map_err(|_| NoMemory)?;
+/// Appends a layer. Where its shapes are few it is of one opacity, and the outlines of all lie below all insides, so that an outline
+/// is round the layer and not round each shape. Browsers take minutes for that where they are many.
+fn put_sheet(lines: &mut Vec<u8>, plan: &Plan<'_>, sheet: &Sheet) -> Result<(), NoMemory> {
+    let is_outlined = sheet.extent.shapes <= MAX_OUTLINED;
+    put_begin(lines, sheet, is_outlined)?;
+    if is_outlined {
+        put_use(lines, plan, sheet)?;
+        lines.extend_from_slice(b" fill=\"none\" stroke=\"black\"/>\n")?;
+    }
+    put_use(lines, plan, sheet)?;
+    lines.extend_from_slice(b" fill=\"")?;
+    put_fill(lines, sheet)?;
+    lines.extend_from_slice(b"\"/>\n</g>\n")?;
+    Ok(())
+}
+
+/// Appends the begin of a layer's group.
+fn put_begin(lines: &mut Vec<u8>, sheet: &Sheet, is_outlined: bool) -> Result<(), NoMemory> {
+    lines.extend_from_slice(b"<g id=\"")?;
+    lines.extend_from_slice(sheet.layer.as_bytes())?;
+    let opacity: &[u8] = if is_outlined {
+        b"\" opacity=\"0.65\"><title>"
     } else {
-        write!(lines, "{whole}.{rest:03}").map_err(|_| NoMemory)?;
+        b"\" fill-opacity=\"0.65\"><title>"
+    };
+    lines.extend_from_slice(opacity)?;
+    lines.extend_from_slice(sheet.layer.as_bytes())?;
+    lines.extend_from_slice(b"</title>\n")?;
+    Ok(())
+}
+
+/// Appends the begin of a use of what the drawn cell holds of a layer.
+fn put_use(lines: &mut Vec<u8>, plan: &Plan<'_>, sheet: &Sheet) -> Result<(), NoMemory> {
+    lines.extend_from_slice(b"<use href=\"#")?;
+    put_id(lines, plan.cell, &sheet.layer)?;
+    lines.push(b'"')?;
+    Ok(())
+}
+
+/// Appends how the inside of a layer's shapes is filled.
+pub(crate) fn put_fill(lines: &mut Vec<u8>, sheet: &Sheet) -> Result<(), NoMemory> {
+    let style = style_of(sheet.place);
+    if style.hatch.is_none() {
+        lines.extend_from_slice(style.colour.as_bytes())?;
+        return Ok(());
     }
+    lines.extend_from_slice(b"url(#hatch-")?;
+    lines.extend_from_slice(sheet.layer.as_bytes())?;
+    lines.push(b')')?;
     Ok(())
 }

@@ -1,30 +1,41 @@
-//! How a layer looks: a colour and a hatch of its own.
+//! How a layer looks: a colour, and behind the first twelve a hatch too.
 
-/// A layer's colour, and the lines of its hatch in a square of 8 by 8.
+/// A layer's colour and hatch.
 #[derive(Clone, Copy, Debug, PartialEq, Eq)]
 pub(crate) struct Style {
     pub(crate) colour: &'static str,
-    pub(crate) hatch: &'static str,
+    /// Its lines in a square of 8 by 8; none where the layer is all of one colour.
+    pub(crate) hatch: Option<&'static str>,
 }
 
-/// Colours that tell apart, also for most who see fewer of them.
-const COLOURS: [&str; 8] = [
-    "#0072b2", "#d55e00", "#009e73", "#cc79a7", "#e69f00", "#56b4e9", "#8c564b", "#555555",
+/// How many colours there are.
+const COLOUR_COUNT: usize = 12;
+
+/// Colours that tell apart, also for those who see fewer of them: Tol's, with an orange of Okabe and Ito's and black. Beside each other
+/// on white, at a layer's opacity, any two are at least 12 apart (CIE 1976) for all three kinds of colour blindness.
+const COLOURS: [&str; COLOUR_COUNT] = [
+    "#0077bb", "#e69f00", "#228833", "#cc3311", "#66ccee", "#ffaabb", "#332288", "#ddcc77",
+    "#aa3377", "#663333", "#ee6677", "#000000",
 ];
 
-/// Hatches that tell apart without colours.
-const HATCHES: [&str; 5] = [
-    "M0 8L8 0",
-    "M0 0L8 8",
-    "M0 4L8 4",
-    "M4 0L4 8",
+/// Hatches that tell apart without colours. Each looks the same turned and mirrored, as calls show it.
+const HATCHES: [&str; 4] = [
     "M0 0L8 8M0 8L8 0",
+    "M0 4H8M4 0V8",
+    "M4 1L7 4L4 7L1 4Z",
+    "M2 2H6V6H2Z",
 ];
 
-/// Returns the look of the layer of this number, from 0.
-pub(crate) fn style_of(number: usize) -> Style {
+/// Returns the look of the layer at this place among all.
+pub(crate) fn style_of(place: usize) -> Style {
+    let round = place / COLOUR_COUNT;
+    let hatch = if round == 0 {
+        None
+    } else {
+        Some(HATCHES[(round - 1) % 4])
+    };
     Style {
-        colour: COLOURS[number % 8],
-        hatch: HATCHES[number % 5],
+        colour: COLOURS[place % COLOUR_COUNT],
+        hatch,
     }
 }
