@@ -1,6 +1,6 @@
 -- What is kept of the input decides the output.
 use Rattle.std.proofs.Common.{◌≡◌, ℕ, ◌<◌, Bool, List, OnErr, OnOk, Option, Some, Result, false, length}
-use Rattle.std.proofs.Common.{true, take, Ok, Err, inl, inr, refl, sym, ap, subst, ◌∙◌, arith}
+use Rattle.std.proofs.Common.{[], true, take, Ok, Err, inl, inr, refl, sym, ap, subst, ◌∙◌, arith}
 use Rattle.std.proofs.lemmas.Bool.{cases_lt}
 use Rattle.std.specs.Result.{is_err}
 use Rattle.std.proofs.lemmas.Bool.Decides.{nat_tests}
@@ -13,14 +13,11 @@ use Rattle.masklay.specs.declared.program.status.Status.{Status}
 use Rattle.masklay.specs.declared.program.outcome.Finished.{Finished}
 use Rattle.masklay.specs.declared.program.outcome.Stop.{Stop}
 use Rattle.cif_read.proofs.OneMeaning.{one_meaning}
-use Rattle.masklay.specs.Outcome.{IsOutcome, IsOutcomeOf, finished_with}
-use Rattle.cif_names.specs.declared.names.Names.{Names}
-use Rattle.cif_names.specs.Names.{names_of}
+use Rattle.masklay.specs.Outcome.{IsOutcomeOf, finished_with, job_in}
 use Rattle.masklay.specs.Asked.{Asked}
-use Rattle.masklay.specs.Named.{cif_in, names_in}
+use Rattle.masklay.specs.Named.{names_in}
 use Rattle.masklay.specs.Oriented.{IsGiven}
-use Rattle.masklay.specs.Threads.{BecomesOf, IsThreadedOutcome, IsThreadedOutcomeOf}
-use Rattle.masklay.specs.Output.{EndsAsAsked, IsOutput, Output, in_turns, output_from}
+use Rattle.masklay.specs.Output.{EndsAsAsked, IsOutput, Output, output_from}
 use Rattle.masklay.specs.Reading.{input_kept}
 
 too_long_job : (bytes : List ℕ) → 16777216 < length bytes → job_of bytes ≡ Err (Line 0)
@@ -37,31 +34,22 @@ kept_job bytes =
           ∙ sym (too_long_job bytes (omega arith))
     ]
 
--- one byte more than a job may have is enough to tell what becomes of it
-kept_outcome : (threaded : Bool) (bytes : List ℕ) (outcome : Result Finished Stop) → BecomesOf threaded (input_kept bytes) outcome
-    → BecomesOf threaded bytes outcome
-unfolding IsOutcome IsThreadedOutcome
-kept_outcome false bytes outcome is = subst (λ (job : Result Job JobFault). IsOutcomeOf job outcome) (kept_job bytes) is
-kept_outcome true bytes outcome is = subst (λ (job : Result Job JobFault). IsThreadedOutcomeOf job outcome) (kept_job bytes) is
+kept_twice : (bytes : List ℕ) → input_kept (input_kept bytes) ≡ input_kept bytes
+unfolding input_kept
+kept_twice bytes = take_all 16777217 (take 16777217 bytes) (omega (arith, length-take 16777217 bytes))
 
-kept_given : (threaded oriented : Bool) (bytes : List ℕ) (given : Result Finished Stop) → IsGiven threaded oriented (input_kept bytes) given
-    → IsGiven threaded oriented bytes given
-kept_given threaded false bytes given is = kept_outcome threaded bytes given is
-kept_given threaded true bytes given (outcome, is, directed) = (outcome, kept_outcome threaded bytes outcome is, directed)
+-- one byte more than a job or a text may have is enough to tell which job it is
+kept_job_in : (bare : Bool) (bytes : List ℕ) → job_in bare (input_kept bytes) ≡ job_in bare bytes
+kept_job_in false bytes = kept_job bytes
+kept_job_in true bytes = ap (λ (text : List ℕ). Ok (record { cif = text; scripts = []; order = [] })) (kept_twice bytes)
 
--- the same names and labels
-kept_names : (named : Bool) (bytes : List ℕ) → names_in named (input_kept bytes) ≡ names_in named bytes
-kept_names false bytes = refl
-kept_names true bytes = ap (λ (job : Result Job JobFault). Some (names_of (cif_in job))) (kept_job bytes)
-
--- and its output
+-- and what its output is
 pub kept_output : (asked : Asked) (bytes : List ℕ) (output : Output) → IsOutput asked (input_kept bytes) output
     → IsOutput asked bytes output
-kept_output asked bytes output (outcome, is, same) = (
-  outcome,
-  kept_given asked.threaded asked.oriented bytes outcome is,
-  same ∙ ap (λ (names : Option Names). output_from names outcome) (kept_names asked.named bytes),
-)
+kept_output asked bytes output is = subst
+    (λ (job : Result Job JobFault). (outcome : Result Finished Stop) × IsGiven asked.threaded asked.oriented job outcome
+    × (output ≡ output_from asked.strict (names_in asked.named job) outcome))
+    (kept_job_in asked.bare bytes) is
 
 -- what was kept of the input has the input's output
 pub kept_ends : {S : Type 0} (written : S → Option (List ℕ)) (failures : S → ℕ) (old new : S) (asked : Asked)
@@ -78,16 +66,18 @@ one_outcome_of (Err fault) a b is same = is ∙ sym same
 one_outcome_of (Ok job) a b (meaning, means, is) (other, says, same) =
     is ∙ ap (finished_with job.scripts job.order) (one_meaning job.cif meaning other means says) ∙ sym same
 
-one_outcome : (bytes : List ℕ) (a b : Result Finished Stop) → IsOutcome bytes a → IsOutcome bytes b → a ≡ b
-unfolding IsOutcome
-one_outcome bytes a b is same = one_outcome_of (job_of bytes) a b is same
+pub one_output : (asked : Asked) (bytes : List ℕ) (a b : Output) → asked.threaded ≡ false → asked.oriented ≡ false
+    → IsOutput asked bytes a → IsOutput asked bytes b → a ≡ b
+one_output asked bytes a b turns plain (outcome, is, given) (other, same, put) =
+    given
+    ∙ ap (output_from asked.strict (names_in asked.named job)) (one_outcome_of job outcome other (in_turn outcome is) (in_turn other same))
+    ∙ sym put
+  where
+    job : Result Job JobFault
+    job = job_in asked.bare bytes
 
-pub one_output : (named : Bool) (bytes : List ℕ) (a b : Output) → IsOutput (in_turns named) bytes a → IsOutput (in_turns named) bytes b
-    → a ≡ b
-one_output named bytes a b (outcome, is, given) (other, same, put) =
-    given ∙ ap (output_from (names_in named bytes)) (one_outcome bytes outcome other is same) ∙ sym put
-
--- ---- what is written of an outcome ends the program
+    in_turn : (o : Result Finished Stop) → IsGiven asked.threaded asked.oriented job o → IsOutcomeOf job o
+    in_turn o h = subst (λ t. IsGiven t false job o) turns (subst (λ p. IsGiven asked.threaded p job o) plain h)
 
 -- ---- what a call's clauses say where its answer was tested
 

@@ -1,6 +1,6 @@
 -- What is kept of the input, a piece after the other.
 use Rattle.std.proofs.Common.{◌≡◌, ℕ, zero, suc, ◌+◌, ◌-◌, ◌≤◌, List, [], ◌∷◌, ◌++◌, length, min, take, arith, sym, ap, ◌∙◌, refl}
-use Rattle.std.proofs.lemmas.List.{take_min}
+use Rattle.std.proofs.lemmas.List.{take_all, take_min}
 use Rattle.std.proofs.Math.Seq.{take-append-add}
 use Rattle.masklay.specs.Reading.{input_kept}
 
@@ -31,3 +31,8 @@ kept_more done kept piece new so_far is = is ∙ ap (λ l. take 16777217 (l ++ p
 pub kept_none : [] ≡ input_kept []
 unfolding input_kept
 kept_none = refl
+
+-- bytes that aren't more than are kept are kept whole
+pub kept_all : (bytes : List ℕ) → length bytes ≤ 16777217 → input_kept bytes ≡ bytes
+unfolding input_kept
+kept_all bytes few = take_all 16777217 bytes few

@@ -9,7 +9,17 @@ pub record Asked : Type 0 where
   pub oriented : Bool
   -- whether symbols keep the names and labels that they had in the text that was read
   pub named : Bool
+  -- whether a run ends with a status of its own where a step was refused
+  pub strict : Bool
+  -- whether the input is a CIF text, and no job
+  pub bare : Bool
 
 -- what options ask for
 abbrev pub asked_of : Options → Asked
-asked_of options = record { threaded = options.threaded; oriented = options.oriented; named = options.named }
+asked_of options = record {
+  threaded = options.threaded;
+  oriented = options.oriented;
+  named = options.named;
+  strict = options.strict;
+  bare = options.bare;
+}

@@ -9,7 +9,7 @@ use Rattle.std.specs.List.{list_any}
 use Rattle.std.specs.Str.{bytes_eq}
 use Rattle.byte_io.specs.Input.{Counts}
 use Rattle.masklay.specs.declared.command_line.OptionsFault.{OptionsFault}
-use Rattle.masklay.specs.declared.command_line.OptionsFault.TheVariants.{Clap, LiveAlone, Workers}
+use Rattle.masklay.specs.declared.command_line.OptionsFault.TheVariants.{Clap, LiveAlone, LiveOutput, Workers}
 use Rattle.masklay.specs.declared.command_line.Wish.{Wish}
 use Rattle.masklay.specs.declared.command_line.Wish.TheVariants.{Job, Live}
 use Rattle.masklay.specs.declared.program.status.Status.{Status}
@@ -38,22 +38,26 @@ asked_in words = record {
   threaded = asks (codes "--threaded") words;
   oriented = asks (codes "--oriented") words;
   named = asks (codes "--names") words;
+  strict = asks (codes "--strict") words;
+  bare = asks (codes "--cif") words;
 }
 
 -- whether another option stands beside that of a live run
 abbrev pub asks_beside_live : List (String Global) → Bool
 asks_beside_live words =
-    asks_to_live words && (asks (codes "--threaded") words || (asks (codes "--oriented") words || asks (codes "--names") words))
+    asks_to_live words && (asks (codes "--threaded") words || (asks (codes "--oriented") words || (asks (codes "--names") words
+    || (asks (codes "--strict") words || asks (codes "--cif") words))))
 
 -- whether that is what is wrong
 abbrev pub is_live_alone : OptionsFault → Bool
 is_live_alone (Clap error) = false
 is_live_alone Workers = false
 is_live_alone LiveAlone = true
+is_live_alone LiveOutput = false
 
 -- nothing beside the run of a job
 abbrev pub nothing_asked : Asked
-nothing_asked = record { threaded = false; oriented = false; named = false }
+nothing_asked = record { threaded = false; oriented = false; named = false; strict = false; bare = false }
 
 -- what is to be run for these words
 abbrev pub IsWishOf : Wish → List (String Global) → Type 0

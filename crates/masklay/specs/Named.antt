@@ -5,7 +5,6 @@ use Rattle.cif_names.specs.Names.{names_of, within}
 use Rattle.cif_names.specs.Woven.{with_names}
 use Rattle.lay_layouts.specs.Layout.{Layout}
 use Rattle.lay_layouts.specs.SlotOrder.{in_slot_order}
-use Rattle.job_text.specs.Job.{job_of}
 use Rattle.job_text.specs.Jobs.{Job}
 use Rattle.job_text.specs.declared.job.JobFault.{JobFault}
 
@@ -19,10 +18,10 @@ abbrev pub text_with : Option Names → List ℕ → List ℕ
 text_with None text = text
 text_with (Some names) text = with_names names text
 
--- the names and labels of the job of these bytes, where symbols keep them
-abbrev pub names_in : Bool → List ℕ → Option Names
-names_in false bytes = None
-names_in true bytes = Some (names_of (cif_in (job_of bytes)))
+-- the names and labels of the job, where symbols keep them
+abbrev pub names_in : Bool → Result Job JobFault → Option Names
+names_in false job = None
+names_in true job = Some (names_of (cif_in job))
 
 -- those of the symbols that are in the layout, and those of none
 abbrev pub names_for : Option Names → Layout → Option Names

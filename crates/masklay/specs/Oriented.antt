@@ -1,5 +1,7 @@
 -- What is given out where shapes are to be directed, so that readers by winding number and readers by parity see them alike.
-use Rattle.std.specs.Prelude.{◌≡◌, ◌⊎◌, ℕ, Bool, true, false, List, Result, Ok, Err}
+use Rattle.std.specs.Prelude.{◌≡◌, ◌⊎◌, ℕ, Bool, true, false, Result, Ok, Err}
+use Rattle.job_text.specs.Jobs.{Job}
+use Rattle.job_text.specs.declared.job.JobFault.{JobFault}
 use Rattle.lay_layouts.specs.Layout.{Layout}
 use Rattle.lay_oriented.specs.Directed.{IsDirected}
 use Rattle.masklay.specs.declared.program.outcome.Finished.{Finished}
@@ -14,10 +16,10 @@ IsDirectedOutcome (Ok finished) given =
     (layout : Layout) × (staying : ℕ) × IsDirected finished.layout layout staying × (given ≡ Ok (record finished { layout = layout }))
 IsDirectedOutcome (Err stop) given = given ≡ Err stop
 
--- what is given out for these bytes, by whether sessions run in threads and whether shapes are directed
-abbrev pub IsGiven : Bool → Bool → List ℕ → Result Finished Stop → Type 0
-IsGiven threaded false bytes given = BecomesOf threaded bytes given
-IsGiven threaded true bytes given = (outcome : Result Finished Stop) × BecomesOf threaded bytes outcome × IsDirectedOutcome outcome given
+-- what is given out of the job, by whether sessions run in threads and whether shapes are directed
+abbrev pub IsGiven : Bool → Bool → Result Job JobFault → Result Finished Stop → Type 0
+IsGiven threaded false job given = BecomesOf threaded job given
+IsGiven threaded true job given = (outcome : Result Finished Stop) × BecomesOf threaded job outcome × IsDirectedOutcome outcome given
 
 -- the replies, the order and the layout of what is given out
 abbrev pub finished_part : Result Given Stop → Result Finished Stop
@@ -30,5 +32,5 @@ directed_part (Ok directed) = Ok directed.0
 directed_part (Err stop) = Err stop
 
 -- the same, or out of memory in its place
-abbrev pub AnswersGiven : Bool → Bool → List ℕ → Result Finished Stop → Type 0
-AnswersGiven threaded oriented bytes given = (given ≡ Err NoMemory) ⊎ IsGiven threaded oriented bytes given
+abbrev pub AnswersGiven : Bool → Bool → Result Job JobFault → Result Finished Stop → Type 0
+AnswersGiven threaded oriented job given = (given ≡ Err NoMemory) ⊎ IsGiven threaded oriented job given

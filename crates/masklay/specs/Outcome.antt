@@ -2,7 +2,7 @@
 -- Source: this project's own.
 -- Checked on: examples/first-run.job; jobs of tests/jobs with one session, which have their output
 -- with `--threaded` too; `B 2 2 0 0; E` as CIF is status 4 and `cif fault 7 NoLayer at 0`.
-use Rattle.std.specs.Prelude.{◌≡◌, ℕ, List, [], length, max, min, replicate, Result, Ok, Err}
+use Rattle.std.specs.Prelude.{◌≡◌, ℕ, Bool, true, false, List, [], length, max, min, replicate, Result, Ok, Err}
 use Rattle.cif_read.specs.declared.fault.CifFault.{CifFault}
 use Rattle.cif_read.specs.declared.fault.FaultKind.TheVariants.{NoMemory as CifMemory}
 use Rattle.cif_read.specs.declared.fault.FaultKind.{FaultKind}
@@ -23,6 +23,7 @@ use Rattle.undo_book.specs.declared.book.TheConstants.{MAX_CALLS}
 use Rattle.job_text.specs.Job.{job_of}
 use Rattle.session_core.specs.Machine.{State, after_steps, start}
 use Rattle.job_text.specs.Order.{order_of}
+use Rattle.masklay.specs.Reading.{input_kept}
 
 -- the stop at a fault of the job
 abbrev pub stop_of_job : JobFault → Stop
@@ -69,6 +70,8 @@ IsOutcomeOf (Err fault) outcome = outcome ≡ Err (stop_of_job fault)
 IsOutcomeOf (Ok job) outcome =
     (meaning : Result Contents CifFault) × IsMeaning job.cif meaning × (outcome ≡ finished_with job.scripts job.order meaning)
 
--- what becomes of the job of these bytes
-unfoldable pub IsOutcome : List ℕ → Result Finished Stop → Type 0
-IsOutcome bytes outcome = IsOutcomeOf (job_of bytes) outcome
+-- the job of these bytes; where they are a CIF text, that text without steps, of which no more is kept than tells that it is
+-- too long
+abbrev pub job_in : Bool → List ℕ → Result Job JobFault
+job_in false bytes = job_of bytes
+job_in true bytes = Ok (record { cif = input_kept bytes; scripts = []; order = [] })

@@ -1,5 +1,5 @@
 -- The output of the program: a text and a status.
-use Rattle.std.specs.Prelude.{◌≡◌, ℕ, Bool, false, List, ◌++◌, codes, decimal, Option, Result, Ok, Err, ◌⊎◌}
+use Rattle.std.specs.Prelude.{◌≡◌, ℕ, Bool, true, false, ◌&&◌, if◌then◌else◌, List, ◌++◌, codes, decimal, Option, Result, Ok, Err, ◌⊎◌}
 use Rattle.cif_read.specs.declared.fault.CifFault.{CifFault}
 use Rattle.cif_read.specs.Faults.{fault_name, fault_number}
 use Rattle.byte_io.specs.Device.{WroteAll, WrotePrefix}
@@ -8,12 +8,16 @@ use Rattle.masklay.specs.declared.program.outcome.Finished.{Finished}
 use Rattle.masklay.specs.declared.program.outcome.Stop.{Stop}
 use Rattle.masklay.specs.declared.program.outcome.Stop.TheVariants.{JobFault, CifFault as CifStop, DeskFault, NoMemory}
 use Rattle.masklay.specs.declared.program.status.Status.{Status}
-use Rattle.masklay.specs.declared.program.status.Status.TheVariants.{Done, CommandLine, Job, Cif, Device, Memory, Desk}
+use Rattle.masklay.specs.declared.program.status.Status.TheVariants.{Done, CommandLine, Job, Cif, Device, Memory, Desk, Refused}
 use Rattle.job_text.specs.Order.{order_text}
 use Rattle.cif_names.specs.declared.names.Names.{Names}
 use Rattle.masklay.specs.Asked.{Asked}
 use Rattle.masklay.specs.Named.{names_for, names_in, text_with}
 use Rattle.masklay.specs.Oriented.{IsGiven}
+use Rattle.masklay.specs.Outcome.{job_in}
+use Rattle.session_steps.specs.declared.Reply.{Reply}
+use Rattle.session_steps.specs.declared.Reply.TheVariants.{Fault}
+use Rattle.std.specs.List.{list_any}
 use Rattle.job_text.specs.Replies.{replies_text}
 
 -- the number with which the process ends
@@ -25,6 +29,7 @@ code_of Cif = 4
 code_of Device = 5
 code_of Memory = 6
 code_of Desk = 7
+code_of Refused = 8
 
 -- what is written, and the status with which the program ends
 pub record Output : Type 0 where
@@ -56,36 +61,42 @@ stop_output (CifStop fault) = record { text = cif_fault_text fault; status = Cif
 stop_output DeskFault = record { text = desk_fault_text; status = Desk }
 stop_output NoMemory = memory_output
 
+-- whether the step was refused
+abbrev pub is_refusal : Reply → Bool
+is_refusal (Fault fault) = true
+is_refusal reply = false
+
+-- how a run ends whose sessions were answered so: where it is strict, a refused step tells
+abbrev pub ending_of : Bool → List (List Reply) → Status
+ending_of strict replies = if strict && list_any (list_any is_refusal) replies then Refused else Done
+
 -- the comments of the replies and of the order, and the text of the layout with these names and labels in it, if there are any
-abbrev pub written_output : Option Names → Finished → Output
-written_output names finished = record {
+abbrev pub written_output : Bool → Option Names → Finished → Output
+written_output strict names finished = record {
   text = (replies_text finished.replies ++ order_text finished.order) ++ text_with names (text finished.layout);
-  status = Done;
+  status = ending_of strict finished.replies;
 }
 
 -- the same, of names and labels those of the layout's symbols and of no symbol
-abbrev pub finished_output : Option Names → Finished → Output
-finished_output names finished = written_output (names_for names finished.layout) finished
+abbrev pub finished_output : Bool → Option Names → Finished → Output
+finished_output strict names finished = written_output strict (names_for names finished.layout) finished
 
 -- what is written where this became of the job
-abbrev pub output_from : Option Names → Result Finished Stop → Output
-output_from names (Ok finished) = finished_output names finished
-output_from names (Err stop) = stop_output stop
+abbrev pub output_from : Bool → Option Names → Result Finished Stop → Output
+output_from strict names (Ok finished) = finished_output strict names finished
+output_from strict names (Err stop) = stop_output stop
 
 -- what the program writes, and how it ends, where its input is these bytes and it is asked so
 abbrev pub IsOutput : Asked → List ℕ → Output → Type 0
 IsOutput asked bytes output =
-    (outcome : Result Finished Stop) × IsGiven asked.threaded asked.oriented bytes outcome
-    × (output ≡ output_from (names_in asked.named bytes) outcome)
+    (outcome : Result Finished Stop) × IsGiven asked.threaded asked.oriented (job_in asked.bare bytes) outcome
+    × (output ≡ output_from asked.strict (names_in asked.named (job_in asked.bare bytes)) outcome)
 
--- sessions take turns and shapes stay as they are
-abbrev pub in_turns : Bool → Asked
-in_turns named = record { threaded = false; oriented = false; named = named }
-
--- asked so, an input has no two outputs
+-- asked so that sessions take turns and shapes stay as they are, an input has no two outputs
 abbrev pub HasOneOutput : Type 0
 HasOneOutput =
-    (named : Bool) (bytes : List ℕ) (a b : Output) → IsOutput (in_turns named) bytes a → IsOutput (in_turns named) bytes b → a ≡ b
+    (asked : Asked) (bytes : List ℕ) (a b : Output) → asked.threaded ≡ false → asked.oriented ≡ false
+    → IsOutput asked bytes a → IsOutput asked bytes b → a ≡ b
 
 -- From the old device to the new: all of the output was written and nothing else, and the program ended with its status;
 -- or the device failed, and a prefix was written.

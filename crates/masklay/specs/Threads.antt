@@ -6,7 +6,6 @@ use Rattle.cif_read.specs.Contents.{Contents}
 use Rattle.cif_read.specs.Meaning.{IsMeaning}
 use Rattle.cif_layout.specs.FromCif.{layout_of}
 use Rattle.lay_layouts.specs.Layout.{Layout}
-use Rattle.job_text.specs.Job.{job_of}
 use Rattle.job_text.specs.Jobs.{Job}
 use Rattle.job_text.specs.Order.{order_of}
 use Rattle.job_text.specs.declared.job.JobFault.{JobFault}
@@ -19,7 +18,7 @@ use Rattle.locked_desk.specs.Scripts.{RunsScripts}
 use Rattle.masklay.specs.declared.program.outcome.Finished.{Finished}
 use Rattle.masklay.specs.declared.program.outcome.Stop.{Stop}
 use Rattle.masklay.specs.declared.program.outcome.Stop.TheVariants.{DeskFault, NoMemory}
-use Rattle.masklay.specs.Outcome.{IsOutcome, stop_of_cif, stop_of_job}
+use Rattle.masklay.specs.Outcome.{IsOutcomeOf, stop_of_cif, stop_of_job}
 
 -- the stop at a fault of the run
 abbrev pub stop_of_run : RunFault → Stop
@@ -56,15 +55,11 @@ IsThreadedOutcomeOf (Err fault) outcome = outcome ≡ Err (stop_of_job fault)
 IsThreadedOutcomeOf (Ok job) outcome =
     (meaning : Result Contents CifFault) × IsMeaning job.cif meaning × EndsThreadsWith job.scripts meaning outcome
 
--- what becomes of the job of these bytes
-unfoldable pub IsThreadedOutcome : List ℕ → Result Finished Stop → Type 0
-IsThreadedOutcome bytes outcome = IsThreadedOutcomeOf (job_of bytes) outcome
-
 -- by whether sessions run in threads
-abbrev pub BecomesOf : Bool → List ℕ → Result Finished Stop → Type 0
-BecomesOf false bytes outcome = IsOutcome bytes outcome
-BecomesOf true bytes outcome = IsThreadedOutcome bytes outcome
+abbrev pub BecomesOf : Bool → Result Job JobFault → Result Finished Stop → Type 0
+BecomesOf false job outcome = IsOutcomeOf job outcome
+BecomesOf true job outcome = IsThreadedOutcomeOf job outcome
 
 -- the same, or out of memory in its place
-abbrev pub AnswersOutcome : Bool → List ℕ → Result Finished Stop → Type 0
-AnswersOutcome threaded bytes outcome = (outcome ≡ Err NoMemory) ⊎ BecomesOf threaded bytes outcome
+abbrev pub AnswersOutcome : Bool → Result Job JobFault → Result Finished Stop → Type 0
+AnswersOutcome threaded job outcome = (outcome ≡ Err NoMemory) ⊎ BecomesOf threaded job outcome

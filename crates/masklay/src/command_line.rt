@@ -3,7 +3,7 @@
 //! `clap` decides which words are valid, but its contract doesn't tie a flag to a word. So `asks`
 //! looks for each option among the words once more, and the clauses of `launch` say which were
 //! given.
-ghost use Rattle.std.specs.Prelude.{◌≡◌, ◌≤◌, ◌<◌, ◌⊎◌, IfErr, IfOk, false, true, vec_len};
+ghost use Rattle.std.specs.Prelude.{◌≡◌, ◌≤◌, ◌<◌, ◌⊎◌, ◌||◌, IfErr, IfOk, false, true, vec_len};
 ghost use Rattle.std.specs.List.{list_any};
 ghost use Rattle.masklay.specs.declared.command_line.OptionsFault.TheVariants.{Clap};
 ghost use Rattle.masklay.specs.Launch.{
@@ -26,6 +26,7 @@ use band_workers::MAX_WORKERS;
 use byte_io::{In, Out};
 use clap::error::ErrorKind;
 use clap::{Arg, ArgAction, Command, Error};
+use lay_point::NoMemory;
 use std::alloc::Global;
 use std::sync::Wait;
 use std::thread::Threads;
@@ -43,14 +44,22 @@ const BAD_WORKERS: &[u8] =
 const LIVE_ALONE: &[u8] =
     b"error: '--live' can be used with '--workers' alone\n\nFor more information, try '--help'.\n";
 
+/// What is wrong with an output file beside `--live`.
+const LIVE_OUTPUT: &[u8] =
+    b"error: '--live' answers on standard output, and not in a file\n\nFor more information, try '--help'.\n";
+
 /// What help says behind the options.
 const EXAMPLE: &str =
     "Coordinates of steps are database units of 5 nanometres; those of the CIF text are hundredths of a micrometre, times the scale of its definition.
 
-Example, in a shell:
+Examples, in a shell:
+  masklay --cif chip.cif                        reads a CIF text, and writes its layout
+  masklay --cif chip.cif -o new.cif             the same, into a file
+  masklay --strict job.txt -o new.cif           runs a job; the status tells of refused steps
+  masklay --oriented --names < job.txt          for readers that fill holes, with cell names
   printf '%%cif\nL M; B 40 20 0 0; E\n%%session 1\nopen\nbox top M 0 0 30 30\nor top M M Q\ncommit\n' | masklay
 
-Statuses: 0 all was written, refused steps included; 2 a mistake in the command line; 3 a fault of the job, 4 of its CIF text, each a line on standard output, and in words on standard error; 5 a device failed; 6 out of memory; 7 the sessions' desk was at fault, where they ran in threads.";
+Statuses: 0 all was written, refused steps included; 2 a mistake in the command line; 3 a fault of the job, 4 of its CIF text, each a line on standard output, and in words on standard error; 5 a file, or the input or output, can't be read or written; 6 out of memory; 7 the sessions' desk was at fault, where they ran in threads; 8 all was written, and a step was refused, with --strict.";
 
 /// Why the words of the command line can't be had.
 #[derive(Clone, Copy, Debug, PartialEq, Eq)]
@@ -103,6 +112,8 @@ const PLAIN: Options = Options {
     threaded: false,
     oriented: false,
     named: false,
+    strict: false,
+    bare: false,
 };
 
 /// What the words ask for.
@@ -121,8 +132,10 @@ enum OptionsFault {
     Clap(Error),
     /// The number of workers is none, or none from 1 to 64.
     Workers,
-    /// Another option stands beside `--live`.
+    /// Another option is given beside `--live`.
     LiveAlone,
+    /// An output file is given beside `--live`.
+    LiveOutput,
 }
 
 impl From<Error> for OptionsFault {
@@ -138,33 +151,91 @@ fn wish_of(alloc: Global, words: &[String]) -> Result<Wish, OptionsFault>
     ensures wish { IfOk result (λ wish. IsWishOf wish words.now) }
     ensures alone { IfErr result (λ fault. is_live_alone fault ≡ true → asks_beside_live words.now ≡ true) }
 {
-    let workers = workers_of(alloc, words)?;
+    let (workers, has_output) = values_of(alloc, words)?;
     let options = Options {
         workers,
         threaded: asks(b"--threaded", words),
         oriented: asks(b"--oriented", words),
         named: asks(b"--names", words),
+        strict: asks(b"--strict", words),
+        bare: asks(b"--cif", words),
     };
     if !asks(b"--live", words) {
         return Ok(Wish::Job(options));
     }
-    if options.threaded || options.oriented || options.named {
+    if is_live_refused(options) {
         return Err(OptionsFault::LiveAlone);
+    }
+    if has_output {
+        return Err(OptionsFault::LiveOutput);
     }
     Ok(Wish::Live(workers))
 }
 
-/// Returns the number of workers that the words say, if clap takes them.
-fn workers_of(alloc: Global, words: &[String]) -> Result<u8, OptionsFault>
+/// Returns whether an option is given that a live run doesn't take.
+fn is_live_refused(options: Options) -> bool
+    ensures { result ≡ (options.threaded || (options.oriented || (options.named || (options.strict || options.bare)))) }
+{
+    options.threaded || options.oriented || options.named || options.strict || options.bare
+}
+
+/// Returns the number of workers that the words say, if clap takes them, and whether they name an output file.
+fn values_of(alloc: Global, words: &[String]) -> Result<(u8, bool), OptionsFault>
     ensures { IfErr result (λ fault. is_live_alone fault ≡ false) }
 {
     let matches = command(alloc)?.try_get_matches_from(words)?;
+    let has_output = matches.get_str("output").is_some();
     let Some(word) = matches.get_str("workers") else {
-        return Ok(1);
+        return Ok((1, has_output));
     };
     match word.parse::<u8>() {
-        Ok(workers) if 1 <= workers && workers <= MAX_WORKERS => Ok(workers),
+        Ok(workers) if 1 <= workers && workers <= MAX_WORKERS => Ok((workers, has_output)),
         _ => Err(OptionsFault::Workers),
+    }
+}
+
+/// The files that take the place of the standard streams.
+#[derive(Drop)]
+pub struct Files {
+    /// The file that is read in place of standard input.
+    pub input: Option<String>,
+    /// The file that is written in place of standard output.
+    pub output: Option<String>,
+}
+
+/// Returns the files that the words name: none, where clap doesn't take the words.
+///
+/// # Errors
+///
+/// `NoMemory`, if an allocation fails.
+pub fn files_of(alloc: Global, words: &[String]) -> Result<Files, NoMemory> {
+    let none = Files {
+        input: None,
+        output: None,
+    };
+    if words.len() <= 1 {
+        return Ok(none);
+    }
+    let Ok(command) = command(alloc) else {
+        return Err(NoMemory);
+    };
+    match command.try_get_matches_from(words) {
+        Ok(matches) => Ok(Files {
+            input: owned(alloc, matches.get_str("file"))?,
+            output: owned(alloc, matches.get_str("output"))?,
+        }),
+        Err(error) => match error.kind() {
+            ErrorKind::OutOfMemory => Err(NoMemory),
+            _ => Ok(none),
+        },
+    }
+}
+
+/// Returns the text in memory of its own.
+fn owned(alloc: Global, text: Option<&str>) -> Result<Option<String>, NoMemory> {
+    match text {
+        Some(text) => Ok(Some(String::from_str(alloc, text).map_err(|_| NoMemory)?)),
+        None => Ok(None),
     }
 }
 
@@ -195,12 +266,47 @@ fn refuse<O: Out, E: Out>(alloc: Global, fault: OptionsFault, out: &mut O, error
     match fault {
         OptionsFault::Workers => put(errors, BAD_WORKERS, Status::CommandLine),
         OptionsFault::LiveAlone => put(errors, LIVE_ALONE, Status::CommandLine),
+        OptionsFault::LiveOutput => put(errors, LIVE_OUTPUT, Status::CommandLine),
         OptionsFault::Clap(error) => say(alloc, &error, out, errors),
     }
 }
 
 /// The program's name, what it does, and its options.
 fn command<'a>(alloc: Global) -> Result<Command<'a>, Error> {
+    let command = Command::new(alloc, "masklay")
+        .version("0.1.0")
+        .about(
+            "Reads a job: a CIF text and steps on its layout. Writes the replies, their order and the CIF text of the layout that they lead to.",
+        )
+        .after_help(EXAMPLE);
+    with_ways(alloc, with_sessions(alloc, with_files(alloc, command)?)?)
+}
+
+/// The command, with what it reads and writes.
+fn with_files<'a>(alloc: Global, command: Command<'a>) -> Result<Command<'a>, Error> {
+    let file = Arg::new(alloc, "file")
+        .value_name("FILE")
+        .help("The job, or with --cif the CIF text; standard input, where there is none")
+        .action(ArgAction::Set);
+    let output = Arg::new(alloc, "output")
+        .short('o')
+        .long("output")
+        .value_name("FILE")
+        .help("Writes to this file, which is replaced at the end, if all was written")
+        .action(ArgAction::Set);
+    let cif = Arg::new(alloc, "cif")
+        .long("cif")
+        .help("Takes the input for a CIF text, and not for a job")
+        .action(ArgAction::SetTrue);
+    Ok(command.arg(file)?.arg(output)?.arg(cif)?)
+}
+
+/// The command, with how steps are run.
+fn with_sessions<'a>(alloc: Global, command: Command<'a>) -> Result<Command<'a>, Error> {
+    let strict = Arg::new(alloc, "strict")
+        .long("strict")
+        .help("Ends with status 8 where a step was refused; the output is the same")
+        .action(ArgAction::SetTrue);
     let workers = Arg::new(alloc, "workers")
         .long("workers")
         .value_name("N")
@@ -212,6 +318,11 @@ fn command<'a>(alloc: Global) -> Result<Command<'a>, Error> {
         .long("threaded")
         .help("Runs each session in a thread of its own; the job's order plays no part")
         .action(ArgAction::SetTrue);
+    Ok(command.arg(strict)?.arg(workers)?.arg(threaded)?)
+}
+
+/// The command, with how the layout is written, and when.
+fn with_ways<'a>(alloc: Global, command: Command<'a>) -> Result<Command<'a>, Error> {
     let oriented = Arg::new(alloc, "oriented")
         .long("oriented")
         .help("Directs each shape's path, so that readers by winding number see its holes too")
@@ -228,18 +339,7 @@ fn command<'a>(alloc: Global) -> Result<Command<'a>, Error> {
             "Answers each step at once: after `%cif`, the text and `%live` come lines `SESSION STEP`, or `%write`",
         )
         .action(ArgAction::SetTrue);
-    let command = Command::new(alloc, "masklay")
-        .version("0.1.0")
-        .about(
-            "Reads a job from standard input: a CIF text and steps on its layout. Writes the replies, their order and the CIF text of the layout that they lead to.",
-        )
-        .after_help(EXAMPLE)
-        .arg(workers)?
-        .arg(threaded)?
-        .arg(oriented)?
-        .arg(names)?
-        .arg(live)?;
-    Ok(command)
+    Ok(command.arg(oriented)?.arg(names)?.arg(live)?)
 }
 
 /// Writes clap's text: help to `out`, and what is wrong to `errors`.

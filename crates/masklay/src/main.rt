@@ -18,25 +18,24 @@
 //! let mut input = MemoryIn::new(b"%cif\nE\n", 4096, 1000);
 //! let mut out = MemoryOut::new(alloc, 4096, 1000, Failing::ByErr);
 //! let mut errors = MemoryOut::new(alloc, 4096, 1000, Failing::ByErr);
-//! let options = Options { workers: 4, threaded: false, oriented: false, named: false };
+//! let options = Options { workers: 4, ..PLAIN };
 //! assert_eq!(rt; run(&rt, alloc, options, &mut input, &mut out, &mut errors), Status::Done);
 //! assert_eq!(rt; out.written(), b"DS 1 1 2;\nDF;\nC 1;\nE\n");
 //! ```
 #![tactic(auto)]
 
 mod command_line;
+mod files;
 mod program;
 mod streams;
 
-use command_line::{launch, words};
+use command_line::words;
+use files::run_files;
 use std::process::ExitCode;
-use streams::{StandardInput, StandardOutput};
+use streams::StandardOutput;
 
 fn main(rt: HostRuntime) -> ExitCode {
-    let mut input = StandardInput::new(rt.stdin());
-    let mut out = StandardOutput::new(rt.stdout());
     let mut errors = StandardOutput::new(rt.stderr());
-    let words = words(&rt);
-    let status = launch(&rt, rt.alloc(), words, &mut input, &mut out, &mut errors);
+    let status = run_files(&rt, &rt, words(&rt), &mut errors);
     ExitCode::from(status.code())
 }

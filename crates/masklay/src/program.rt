@@ -1,5 +1,5 @@
 //! The program as a function of its input: reads the job, runs its steps and writes the answers.
-ghost use Rattle.std.specs.Prelude.{◌≡◌};
+ghost use Rattle.std.specs.Prelude.{◌≡◌, ◌≤◌, ◌+◌, length};
 ghost use Rattle.masklay.specs.Asked.{asked_of};
 ghost use Rattle.masklay.specs.Output.{EndsAsAsked, HasOneOutput, WritesOutput, memory_output};
 ghost use Rattle.masklay.specs.Run.{IsRun};
@@ -20,6 +20,7 @@ mod tests;
 mod threads;
 
 use byte_io::{In, Out, put_all};
+use job_text::MAX_JOB;
 pub use live::live;
 pub use options::Options;
 use oriented::finish_given;
@@ -30,7 +31,7 @@ use std::alloc::Global;
 use std::mem;
 use std::sync::Wait;
 use std::thread::Threads;
-use telling::{tell_of_layout, tell_of_stop};
+use telling::{tell_of_input, tell_of_layout, tell_of_stop};
 
 /// Reads a job from the input, runs it and writes its replies, their order and the CIF text of the
 /// layout, all after the last step; or the line that says why there is none. Booleans are rounded in as
@@ -56,7 +57,10 @@ pub fn run<I: In, O: Out, E: Out>(
 {
     match read_all(alloc, input) {
         Ok(bytes) => write_output(rt, alloc, options, bytes, out, errors),
-        Err(ReadFault::Device) => Status::Device,
+        Err(ReadFault::Device) => {
+            tell_of_input(errors);
+            Status::Device
+        }
         Err(ReadFault::NoMemory) => put_memory(out),
     }
 }
@@ -70,13 +74,14 @@ fn write_output<O: Out, E: Out>(
     out: &mut O,
     errors: &mut E,
 ) -> Status
+    requires { length bytes.items ≤ MAX_JOB + 1 }
     ensures output { EndsAsAsked O.written O.failures out.old out.new (asked_of options) bytes.items result }
     ensures told { MayReport E.written E.failures errors.old errors.new result }
 {
     let mut bytes = bytes;
     match finish_given(rt, alloc, options, &mut bytes) {
         Ok(given) => {
-            let status = write_given(alloc, &given, out);
+            let status = write_given(alloc, options.strict, &given, out);
             tell_of_layout(alloc, &given, status, errors);
             // The program ends now, and the system takes all its memory at once.
             mem::forget(given);
@@ -84,7 +89,7 @@ fn write_output<O: Out, E: Out>(
         }
         Err(stop) => {
             let status = write_stop(alloc, stop, out);
-            tell_of_stop(alloc, &bytes, stop, status, errors);
+            tell_of_stop(alloc, options.bare, &bytes, stop, status, errors);
             status
         }
     }

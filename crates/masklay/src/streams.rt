@@ -3,7 +3,27 @@ ghost use Rattle.std.specs.Prelude.{◌≡◌};
 ghost use Rattle.byte_io.specs.Input.{counts_of, no_counts};
 
 use byte_io::{GhostCount, In, InFault, Out, OutFault, ReadCounts};
-use std::io::{Read, Write};
+use std::fs::File;
+use std::io;
+use std::io::{Read, Stdin, Write};
+
+/// What is read: standard input, or a file.
+#[derive(Drop)]
+pub enum Source {
+    /// Standard input.
+    Standard(Stdin),
+    /// A file.
+    File(File),
+}
+
+impl Read for Source {
+    fn read(&mut self, buffer: &mut [u8]) -> io::Result<usize> {
+        match self {
+            Source::Standard(stream) => stream.read(buffer),
+            Source::File(file) => file.read(buffer),
+        }
+    }
+}
 
 /// A stream that is read, as standard input.
 #[derive(Drop)]
@@ -42,6 +62,8 @@ impl<R: Read + Drop> In for StandardInput<R> {
 pub struct StandardOutput<W> {
     stream: W,
     failures: GhostCount,
+    /// How many bytes were written.
+    len: u64,
 }
 
 impl<W: Write + Drop> StandardOutput<W> {
@@ -53,7 +75,23 @@ impl<W: Write + Drop> StandardOutput<W> {
         StandardOutput {
             stream,
             failures: GhostCount::zero(),
+            len: 0,
         }
+    }
+}
+
+impl<W> StandardOutput<W> {
+    /// Returns how many bytes were written.
+    pub fn len(&self) -> u64 {
+        self.len
+    }
+
+    /// Returns the stream.
+    pub fn into_stream(self) -> W
+        ensures { result ≡ self.stream }
+    {
+        let StandardOutput { stream, .. } = self;
+        stream
     }
 }
 
@@ -73,6 +111,7 @@ impl<W: Write + Drop> Out for StandardOutput<W> {
         if taken == 0 {
             self.failures = self.failures.next();
         }
+        self.len = self.len.saturating_add(taken as u64);
         Ok(taken)
     }
 }

@@ -10,23 +10,43 @@ use std::io::Write;
 /// How many symbols are named at most.
 const NAMED: usize = 8;
 
-/// Says that the top cell is empty, and which symbols no other calls; nothing where it isn't empty, or where
-/// there is no symbol.
-pub(super) fn advice_on_top(alloc: Global, layout: &Snapshot) -> Result<Vec<u8>, NoMemory> {
-    let mut lines = Vec::new(alloc);
+/// Appends that the top cell is empty, and which symbols no other calls; nothing where it isn't empty, or where there is no
+/// symbol.
+pub(super) fn put_advice_on_top(
+    alloc: Global,
+    lines: &mut Vec<u8>,
+    layout: &Snapshot,
+) -> Result<(), NoMemory> {
     let is_empty = layout.items(CellId::Top).next().is_none();
     if !is_empty || layout.cells().len() == 0 {
-        return Ok(lines);
+        return Ok(());
     }
     let called = called_symbols(alloc, layout)?;
     lines.extend_from_slice(
         b"masklay: the top cell is empty, so an operation on `top` draws nothing; symbols that none calls:",
     )?;
-    put_uncalled(&mut lines, layout, &called)?;
-    lines.extend_from_slice(
-        b"\n  Name one of these in place of `top`, as `and 2 A B OUT`, or call one at top level: `C 2;` before `E`.\n",
-    )?;
-    Ok(lines)
+    put_uncalled(lines, layout, &called)?;
+    put_cure(lines, first_uncalled(layout, &called))
+}
+
+/// Appends what to do, with this symbol as the example.
+fn put_cure(lines: &mut Vec<u8>, example: Option<u32>) -> Result<(), NoMemory> {
+    let Some(number) = example else {
+        lines.push(b'\n')?;
+        return Ok(());
+    };
+    write!(
+        lines,
+        "\n  Name one of these in place of `top`, as `and {number} A B OUT`, or call one at top level: `C {number};` before `E`.\n"
+    )
+    .map_err(|_| NoMemory)
+}
+
+/// Returns the first symbol that isn't called.
+fn first_uncalled(layout: &Snapshot, called: &BTreeSet<u32>) -> Option<u32> {
+    (0..layout.cells().len())
+        .filter_map(|index| layout.cells().at(index))
+        .find(|number| !called.contains(number))
 }
 
 /// Appends the numbers of the first symbols that aren't called.

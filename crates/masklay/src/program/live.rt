@@ -73,10 +73,10 @@ fn tell_of_end<E: Out>(alloc: Global, end: &LiveEnd, status: Status, errors: &mu
 {
     match end {
         LiveEnd::Job { line, text } => {
-            tell_of_stop(alloc, text, Stop::JobFault(*line), status, errors);
+            tell_of_stop(alloc, false, text, Stop::JobFault(*line), status, errors);
         }
         LiveEnd::Cif { fault, text } => {
-            tell_of_stop(alloc, text, Stop::CifFault(*fault), status, errors);
+            tell_of_stop(alloc, false, text, Stop::CifFault(*fault), status, errors);
         }
         LiveEnd::Done | LiveEnd::Device | LiveEnd::Memory => {}
     }

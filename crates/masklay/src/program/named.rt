@@ -1,10 +1,12 @@
 //! Names and labels of the text that was read, which stay beside its layout.
-ghost use Rattle.std.specs.Prelude.{◌≡◌, IfOk};
+ghost use Rattle.std.specs.Prelude.{◌≡◌, ◌≤◌, ◌+◌, IfOk, length};
 ghost use Rattle.masklay.specs.Named.{names_for, names_in};
+ghost use Rattle.masklay.specs.Outcome.{job_in};
 
 use crate::program::options::Options;
+use crate::program::outcome::job_in;
 use cif_names::Names;
-use job_text::{Job, JobFault};
+use job_text::{JobFault, MAX_JOB};
 use lay_items::Snapshot;
 use lay_point::NoMemory;
 use std::alloc::Global;
@@ -16,12 +18,13 @@ pub(super) fn names_in(
     options: Options,
     job: &[u8],
 ) -> Result<Option<Names>, NoMemory>
-    ensures { IfOk result (λ names. names ≡ names_in options.named job.now) }
+    requires { length job.now ≤ MAX_JOB + 1 }
+    ensures { IfOk result (λ names. names ≡ names_in options.named (job_in options.bare job.now)) }
 {
     if !options.named {
         return Ok(None);
     }
-    let names = match Job::read(alloc, job) {
+    let names = match job_in(alloc, options.bare, job) {
         Ok(job) => Names::of(alloc, job.cif)?,
         Err(JobFault::Line(_)) => Names::of(alloc, b"")?,
         Err(JobFault::NoMemory) => return Err(NoMemory),

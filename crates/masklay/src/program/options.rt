@@ -13,4 +13,8 @@ pub struct Options {
     pub oriented: bool,
     /// Whether each symbol is written with the names and labels that it had in the text that was read.
     pub named: bool,
+    /// Whether the run ends with a status of its own where a step was refused.
+    pub strict: bool,
+    /// Whether the input is a CIF text, and no job.
+    pub bare: bool,
 }

@@ -1,13 +1,17 @@
 //! What is given out of a job: its outcome, with the layout's shapes directed and with the names of its text where that is
 //! asked for.
-ghost use Rattle.std.specs.Prelude.{◌≡◌, IfOk};
+ghost use Rattle.std.specs.Prelude.{◌≡◌, ◌≤◌, ◌+◌, IfOk, length};
 ghost use Rattle.masklay.specs.Named.{names_for, names_in};
 ghost use Rattle.masklay.specs.Oriented.{AnswersGiven, directed_part, finished_part};
+ghost use Rattle.masklay.specs.Outcome.{job_in};
 
 use crate::program::named::{names_for, names_in};
 use crate::program::options::Options;
-use crate::program::outcome::{Finished, Stop, finish};
+use crate::program::outcome::{Finished, Notes, Stop, finish};
 use cif_names::Names;
+use job_text::MAX_JOB;
+use lay_cells::CellId;
+use lay_layouts::ItemId;
 use lay_oriented::{Directed, oriented_layout};
 use lay_point::NoMemory;
 use std::alloc::Global;
@@ -24,6 +28,8 @@ pub(super) struct Given {
     pub(super) names: Option<Names>,
     /// How many shapes stay as they were, though all were to be directed.
     pub(super) staying: usize,
+    /// What is worth a look in the job.
+    pub(super) notes: Notes,
 }
 
 /// Runs the job of the bytes, directs its layout's shapes and keeps its text's names and labels, where the options say so.
@@ -33,17 +39,24 @@ pub(super) fn finish_given(
     options: Options,
     bytes: &mut Vec<u8>,
 ) -> Result<Given, Stop>
-    ensures outcome { AnswersGiven options.threaded options.oriented bytes.old.items (finished_part result) }
+    requires { length bytes.old.items ≤ MAX_JOB + 1 }
+    ensures outcome { AnswersGiven options.threaded options.oriented (job_in options.bare bytes.old.items) (finished_part result) }
     ensures names { IfOk result (λ given. given.names
-        ≡ names_for (names_in options.named bytes.old.items) given.finished.layout) }
+        ≡ names_for (names_in options.named (job_in options.bare bytes.old.items)) given.finished.layout) }
 {
+    let mut notes = Notes {
+        text: Vec::new(alloc),
+        names_top: false,
+        staying: Vec::new(alloc),
+    };
     let names = names_in(alloc, options, bytes.as_slice())?;
-    let (finished, staying) = finish_directed(rt, alloc, options, bytes)?;
+    let (finished, staying) = finish_directed(rt, alloc, options, bytes, &mut notes)?;
     let names = names_for(alloc, names, &finished.layout)?;
     Ok(Given {
         finished,
         names,
         staying,
+        notes,
     })
 }
 
@@ -54,10 +67,12 @@ fn finish_directed(
     alloc: Global,
     options: Options,
     bytes: &mut Vec<u8>,
+    notes: &mut Notes,
 ) -> Result<(Finished, usize), Stop>
-    ensures { AnswersGiven options.threaded options.oriented bytes.old.items (directed_part result) }
+    requires { length bytes.old.items ≤ MAX_JOB + 1 }
+    ensures { AnswersGiven options.threaded options.oriented (job_in options.bare bytes.old.items) (directed_part result) }
 {
-    let finished = finish(rt, alloc, options, bytes)?;
+    let finished = finish(rt, alloc, options, bytes, notes)?;
     if !options.oriented {
         return Ok((finished, 0));
     }
@@ -66,7 +81,12 @@ fn finish_directed(
         order,
         layout,
     } = finished;
-    let Directed { layout, staying } = oriented_layout(alloc, &layout)?;
+    let Directed {
+        layout,
+        staying,
+        first,
+    } = oriented_layout(alloc, &layout)?;
+    notes.staying = first;
     let finished = Finished {
         replies,
         order,
@@ -75,8 +95,12 @@ fn finish_directed(
     Ok((finished, staying))
 }
 
-/// Appends how many shapes stay as they were, where some do.
-pub(super) fn put_staying(lines: &mut Vec<u8>, staying: usize) -> Result<(), NoMemory> {
+/// Appends how many shapes stay as they were, and which the first of them are, where some do.
+pub(super) fn put_staying(
+    lines: &mut Vec<u8>,
+    staying: usize,
+    first: &[(CellId, ItemId)],
+) -> Result<(), NoMemory> {
     let text = match staying {
         0 => return Ok(()),
         1 => "shape stays as it was",
@@ -84,7 +108,21 @@ pub(super) fn put_staying(lines: &mut Vec<u8>, staying: usize) -> Result<(), NoM
     };
     write!(
         lines,
-        "masklay: {staying} {text}: no path that all readers see alike was found, as where edges cross or it would be too long\n"
+        "masklay: {staying} {text}: no path that all readers see alike was found, as where edges cross or it would be too long; the first:"
     )
+    .map_err(|_| NoMemory)?;
+    for (cell, id) in first {
+        put_shape(lines, *cell, *id)?;
+    }
+    lines.push(b'\n')?;
+    Ok(())
+}
+
+/// Appends which shape it is.
+fn put_shape(lines: &mut Vec<u8>, cell: CellId, id: ItemId) -> Result<(), NoMemory> {
+    match cell {
+        CellId::Top => write!(lines, " {id} in the top cell"),
+        CellId::Symbol(number) => write!(lines, " {id} in symbol {number}"),
+    }
     .map_err(|_| NoMemory)
 }

@@ -1,11 +1,11 @@
 //! What the program does with a job.
-ghost use Rattle.std.specs.Prelude.{◌≡◌, ◌≤◌, IfOk, Ok};
+ghost use Rattle.std.specs.Prelude.{◌≡◌, ◌≤◌, ◌+◌, IfOk, Ok, length};
 ghost use Rattle.std.specs.List.{list_any};
 ghost use Rattle.lay_point.specs.Memory.{IsAnswer};
 ghost use Rattle.masklay.specs.declared.program.outcome.Stop.TheVariants.{NoMemory as OutOfMemory};
 ghost use Rattle.session_core.specs.Machine.{Ran, is_memory, start};
 ghost use Rattle.undo_book.specs.declared.book.TheConstants.{MAX_CALLS};
-ghost use Rattle.masklay.specs.Outcome.{finished_from, sessions_for, stop_of_cif, stop_of_job};
+ghost use Rattle.masklay.specs.Outcome.{finished_from, job_in, sessions_for, stop_of_cif, stop_of_job};
 ghost use Rattle.masklay.specs.Threads.{AnswersOutcome, stop_of_run};
 
 use crate::program::options::Options;
@@ -13,8 +13,11 @@ use crate::program::threads::finish_threads;
 use band_workers::{MAX_WORKERS, OneBand, ScopedBands};
 use cif_layout::FromCif;
 use cif_read::{CifFault, FaultKind, read};
-use job_text::{Job, JobFault, order_of};
+use job_advice::of_notices;
+use job_text::{Job, JobFault, MAX_JOB, order_of};
+use lay_cells::CellId;
 use lay_items::Snapshot;
+use lay_layouts::ItemId;
 use lay_point::{NoMemory, Sequence};
 use locked_desk::RunFault;
 use session_core::Machine;
@@ -22,7 +25,7 @@ use session_steps::{Reply, Step, StepFault, dealt, in_turn};
 use std::alloc::Global;
 use std::sync::Wait;
 use std::thread::Threads;
-use txn_commands::CmdFault;
+use txn_commands::{CmdFault, Command};
 use undo_rules::BookFault;
 
 /// Why no layout is written.
@@ -47,6 +50,17 @@ pub(super) struct Finished {
     pub(super) order: Sequence<u8>,
     /// The layout that the steps led to.
     pub(super) layout: Snapshot,
+}
+
+/// What is worth a look in a job that has no fault, for a person.
+#[derive(Debug, Drop)]
+pub(super) struct Notes {
+    /// Lines about its CIF text.
+    pub(super) text: Vec<u8>,
+    /// Whether a step names the top cell.
+    pub(super) names_top: bool,
+    /// The first shapes that stay as they were though all were to be directed, each with its cell.
+    pub(super) staying: Vec<(CellId, ItemId)>,
 }
 
 impl From<JobFault> for Stop {
@@ -90,28 +104,67 @@ impl From<NoMemory> for Stop {
     }
 }
 
-/// Runs the job of the bytes, which go once they are read: where the job or its text has a fault they stay.
-#[tactic(auto, unfolding(crate::specs::Outcome::IsOutcome, crate::specs::Threads::IsThreadedOutcome))]
+/// Runs the job of the bytes, which are dropped once they are read: where the job or its text has a fault they stay.
+/// Appends to `notes` what is worth a look in the text.
 pub(super) fn finish(
     rt: &(impl Threads + Wait + Sync),
     alloc: Global,
     options: Options,
     bytes: &mut Vec<u8>,
+    notes: &mut Notes,
 ) -> Result<Finished, Stop>
-    ensures { AnswersOutcome options.threaded bytes.old.items result }
+    requires { length bytes.old.items ≤ MAX_JOB + 1 }
+    ensures { AnswersOutcome options.threaded (job_in options.bare bytes.old.items) result }
 {
     let Job {
         cif,
         scripts,
         order,
-    } = Job::read(alloc, bytes.as_slice())?;
+    } = job_in(alloc, options.bare, bytes.as_slice())?;
     let file = read(alloc, cif)?;
+    notes.text = of_notices(alloc, cif)?;
+    notes.names_top = name_top(scripts.as_slice());
     *bytes = Vec::new(alloc);
     let base = Snapshot::from_cif(alloc, file)?;
     if options.threaded {
         return finish_threads(rt, alloc, options.workers, base, scripts);
     }
     finish_steps(rt, alloc, options, base, scripts, order)
+}
+
+/// Returns the job of the bytes: the one that they spell or, where they are a bare CIF text, that text without steps.
+pub(super) fn job_in(alloc: Global, bare: bool, bytes: &[u8]) -> Result<Job<'_>, JobFault>
+    requires { length bytes.now ≤ MAX_JOB + 1 }
+    ensures { IsAnswer JobFault.NoMemory result (job_in bare bytes.now) }
+{
+    if !bare {
+        return Job::read(alloc, bytes);
+    }
+    Ok(Job {
+        cif: bytes,
+        scripts: Sequence::from_vec(Vec::new(alloc)),
+        order: Sequence::from_vec(Vec::new(alloc)),
+    })
+}
+
+/// Returns whether a step draws in the top cell, or combines its layers.
+fn name_top(scripts: &[Sequence<Step>]) -> bool {
+    scripts
+        .iter()
+        .any(|script| script.as_slice().iter().any(names_top))
+}
+
+/// Returns whether the step draws in the top cell, or combines its layers.
+fn names_top(step: &Step) -> bool {
+    match step {
+        Step::Do(
+            Command::Box { cell, .. }
+            | Command::Poly { cell, .. }
+            | Command::Place { cell, .. }
+            | Command::Bool { cell, .. },
+        ) => *cell == CellId::Top,
+        _ => false,
+    }
 }
 
 /// Runs the scripts' steps in this order on the layout.

@@ -1,5 +1,5 @@
 //! What is written of a job's outcome. All that takes memory comes before the first byte.
-ghost use Rattle.std.specs.Prelude.{◌≡◌, ◌++◌, IfOk, None, Some};
+ghost use Rattle.std.specs.Prelude.{◌≡◌, ◌++◌, IfOk, None, Some, false};
 ghost use Rattle.cif_write.specs.Text.{text};
 ghost use Rattle.job_text.specs.Order.{order_text};
 ghost use Rattle.job_text.specs.Replies.{replies_text};
@@ -10,8 +10,8 @@ ghost use Rattle.masklay.specs.Output.{
   desk_fault_text,
   written_output,
 };
-ghost use Rattle.masklay.specs.Output.{job_fault_text, stop_output};
-ghost use Rattle.masklay.specs.declared.program.status.Status.TheVariants.{Done};
+ghost use Rattle.masklay.specs.Output.{ending_of, is_refusal, job_fault_text, stop_output};
+ghost use Rattle.std.specs.List.{list_any};
 
 use crate::program::oriented::Given;
 use crate::program::outcome::{Finished, Stop};
@@ -22,45 +22,93 @@ use cif_names::{Names, with_names};
 use cif_read::CifFault;
 use cif_write::{Prepared, prepare};
 use job_text::{comments, put_comments};
-use lay_point::NoMemory;
+use lay_point::{NoMemory, Sequence};
+use session_steps::Reply;
 use std::alloc::Global;
 use std::io::Write;
 
 /// Writes the replies, the order and the layout, with the names and labels in it if there are any.
-pub(super) fn write_given<O: Out>(alloc: Global, given: &Given, out: &mut O) -> Status
+/// Where the run is `strict`, the status tells of a refused step.
+pub(super) fn write_given<O: Out>(alloc: Global, strict: bool, given: &Given, out: &mut O) -> Status
     ensures { WritesOrMemory O.written O.failures out.old out.new
-        (written_output given.now.names given.now.finished) result }
+        (written_output strict given.now.names given.now.finished) result }
 {
     match &given.names {
-        None => write_finished(&given.finished, out),
-        Some(names) => write_named(alloc, names, &given.finished, out),
+        None => write_finished(strict, &given.finished, out),
+        Some(names) => write_named(alloc, strict, names, &given.finished, out),
     }
 }
 
 /// Writes the replies, the order and the layout.
-fn write_finished<O: Out>(finished: &Finished, out: &mut O) -> Status
-    ensures { WritesOrMemory O.written O.failures out.old out.new (written_output None finished.now) result }
+fn write_finished<O: Out>(strict: bool, finished: &Finished, out: &mut O) -> Status
+    ensures { WritesOrMemory O.written O.failures out.old out.new
+        (written_output strict None finished.now) result }
 {
+    let ending = ending_of(strict, finished.replies.as_slice());
     match prepare(&finished.layout) {
-        Ok(layout) => put_finished(finished, &layout, out),
+        Ok(layout) => put_finished(finished, &layout, ending, out),
         Err(NoMemory) => put_memory(out),
     }
 }
 
 /// Writes the replies, the order and the layout with the names and labels in it.
-fn write_named<O: Out>(alloc: Global, names: &Names, finished: &Finished, out: &mut O) -> Status
+fn write_named<O: Out>(
+    alloc: Global,
+    strict: bool,
+    names: &Names,
+    finished: &Finished,
+    out: &mut O,
+) -> Status
     ensures { WritesOrMemory O.written O.failures out.old out.new
-        (written_output (Some names.now) finished.now) result }
+        (written_output strict (Some names.now) finished.now) result }
 {
+    let ending = ending_of(strict, finished.replies.as_slice());
     match named_bytes(alloc, names, finished) {
-        Ok(bytes) => put(out, &bytes, Status::Done),
+        Ok(bytes) => put(out, &bytes, ending),
         Err(NoMemory) => put_memory(out),
+    }
+}
+
+/// Returns the status of a run all of whose output is written, and whose sessions were answered so.
+fn ending_of(strict: bool, sessions: &[Sequence<Reply>]) -> Status
+    ensures { result ≡ ending_of strict sessions.now }
+{
+    if strict && has_refusal(sessions) {
+        return Status::Refused;
+    }
+    Status::Done
+}
+
+/// Returns whether a step of a session was refused.
+fn has_refusal(sessions: &[Sequence<Reply>]) -> bool
+    ensures { result ≡ list_any (list_any is_refusal) sessions.now }
+{
+    sessions
+        .iter()
+        .any(|replies| is_one_refused(replies.as_slice()))
+}
+
+/// Returns whether a step was refused.
+fn is_one_refused(replies: &[Reply]) -> bool
+    ensures { result ≡ list_any is_refusal replies.now }
+{
+    replies.iter().any(is_refusal)
+}
+
+/// Returns whether the step with this reply was refused.
+fn is_refusal(reply: &Reply) -> bool
+    ensures { result ≡ is_refusal reply.now }
+{
+    match reply {
+        Reply::Fault(_) => true,
+        _ => false,
     }
 }
 
 /// Returns the replies, the order and the layout with the names and labels in it.
 fn named_bytes(alloc: Global, names: &Names, finished: &Finished) -> Result<Vec<u8>, NoMemory>
-    ensures { IfOk result (λ bytes. bytes.items ≡ (written_output (Some names.now) finished.now).text) }
+    ensures { IfOk result (λ bytes. bytes.items
+        ≡ (written_output false (Some names.now) finished.now).text) }
 {
     let layout = prepare(&finished.layout)?;
     let text = text_of(alloc, &layout)?;
@@ -82,12 +130,17 @@ fn text_of(alloc: Global, layout: &Prepared<'_>) -> Result<MemoryOut, NoMemory>
     Ok(out)
 }
 
-/// Writes the replies, the order and then this layout.
-fn put_finished<O: Out>(finished: &Finished, layout: &Prepared<'_>, out: &mut O) -> Status
+/// Writes the replies, the order and then this layout. Returns the status `ending` where all was written.
+fn put_finished<O: Out>(
+    finished: &Finished,
+    layout: &Prepared<'_>,
+    ending: Status,
+    out: &mut O,
+) -> Status
     ensures { WritesOutput O.written O.failures out.old out.new
         (record {
           text = (replies_text finished.now.replies ++ order_text finished.now.order) ++ text layout.now;
-          status = Done;
+          status = ending;
         }) result }
 {
     let replies = finished.replies.as_slice();
@@ -95,7 +148,7 @@ fn put_finished<O: Out>(finished: &Finished, layout: &Prepared<'_>, out: &mut O)
     if put_comments(out, replies, order).is_err() || layout.put(out).is_err() {
         return Status::Device;
     }
-    Status::Done
+    ending
 }
 
 /// Writes the line that says why there is no layout.

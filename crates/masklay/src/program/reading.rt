@@ -45,6 +45,7 @@ impl From<NoMemory> for ReadFault {
 pub(super) fn read_all<I: In>(alloc: Global, input: &mut I) -> Result<Vec<u8>, ReadFault>
     ensures kept { IfOk result (λ kept. (bytes : List ℕ) → I.remaining input.old ≡ Some bytes
         → kept.items ≡ input_kept bytes) }
+    ensures few { IfOk result (λ kept. length kept.items ≤ MAX_JOB + 1) }
     ensures how { HowRead (I.counts input.old) (I.counts input.new) result }
     ensures reads { (I.counts input.new).reads ≤ (I.counts input.old).reads + MAX_READS }
 {

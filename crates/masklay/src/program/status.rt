@@ -19,6 +19,8 @@ pub enum Status {
     Memory,
     /// The desk of sessions in threads differed from what they keep.
     Desk,
+    /// All was written, and a step was refused in a run that is strict.
+    Refused,
 }
 
 impl Status {
@@ -34,6 +36,7 @@ impl Status {
             Status::Device => 5,
             Status::Memory => 6,
             Status::Desk => 7,
+            Status::Refused => 8,
         }
     }
 }

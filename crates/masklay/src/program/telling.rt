@@ -1,21 +1,37 @@
 //! What is reported to a person on standard error.
 ghost use Rattle.std.specs.Prelude.{◌≡◌};
 ghost use Rattle.masklay.specs.Telling.{IsReported, MayReport, may_tell};
+ghost use Rattle.masklay.specs.declared.program.status.Status.TheVariants.{Device};
 
-use crate::program::empty_top::advice_on_top;
+use crate::program::empty_top::put_advice_on_top;
 use crate::program::named::put_left_out;
 use crate::program::oriented::{Given, put_staying};
 use crate::program::outcome::Stop;
 use crate::program::status::Status;
 use byte_io::{Out, put_all};
-use job_advice::{of_cif_fault, of_job_fault};
+use job_advice::{of_cif_fault, of_job_fault, of_refusals, of_text_fault};
 use lay_point::NoMemory;
 use std::alloc::Global;
 
-/// Tells why there is no layout, where the program ends with the status of a fault. What the device doesn't
-/// take, or memory doesn't hold, isn't told.
+/// What is said where the input can't be read.
+const NOT_READ: &[u8] = b"masklay: the input can't be read to its end\n";
+
+/// What is said where the output can't be written.
+const NOT_WRITTEN: &[u8] =
+    b"masklay: the output can't be written; what was written so far is the beginning of it\n";
+
+/// Tells that the input can't be read.
+pub(super) fn tell_of_input<E: Out>(errors: &mut E)
+    ensures { MayReport E.written E.failures errors.old errors.new Device }
+{
+    tell(NOT_READ, Status::Device, errors);
+}
+
+/// Tells why there is no layout, where the program ends with the status of a fault. The bytes are a job or, where they are
+/// `bare`, a CIF text. What the device doesn't take, or memory doesn't hold, isn't told.
 pub(super) fn tell_of_stop<E: Out>(
     alloc: Global,
+    bare: bool,
     job: &[u8],
     stop: Stop,
     status: Status,
@@ -23,8 +39,12 @@ pub(super) fn tell_of_stop<E: Out>(
 )
     ensures { MayReport E.written E.failures errors.old errors.new status }
 {
+    if status == Status::Device {
+        return tell(NOT_WRITTEN, status, errors);
+    }
     let advice = match stop {
         Stop::JobFault(line) => of_job_fault(alloc, job, line),
+        Stop::CifFault(fault) if bare => of_text_fault(alloc, job, fault),
         Stop::CifFault(fault) => of_cif_fault(alloc, job, fault),
         Stop::DeskFault => Ok(Vec::new(alloc)),
         Stop::NoMemory => Err(NoMemory),
@@ -34,11 +54,14 @@ pub(super) fn tell_of_stop<E: Out>(
     }
 }
 
-/// Tells that the top cell is empty, where all was written and the layout has symbols, how many shapes stay
-/// as they were though all were to be directed, and how many names and labels are left out.
+/// Tells of refused steps, where all was written, that a step names the top cell and it is empty, how many shapes stay
+/// as they were though all were to be directed, how many names and labels are left out, and what is worth a look in the text.
 pub(super) fn tell_of_layout<E: Out>(alloc: Global, given: &Given, status: Status, errors: &mut E)
     ensures { MayReport E.written E.failures errors.old errors.new status }
 {
+    if status == Status::Device {
+        return tell(NOT_WRITTEN, status, errors);
+    }
     if let Ok(lines) = advice_on_layout(alloc, given) {
         tell(&lines, status, errors);
     }
@@ -46,8 +69,12 @@ pub(super) fn tell_of_layout<E: Out>(alloc: Global, given: &Given, status: Statu
 
 /// Says what there is to say of a layout that is written.
 fn advice_on_layout(alloc: Global, given: &Given) -> Result<Vec<u8>, NoMemory> {
-    let mut lines = advice_on_top(alloc, &given.finished.layout)?;
-    put_staying(&mut lines, given.staying)?;
+    let mut lines = of_refusals(alloc, given.finished.replies.as_slice())?;
+    if given.notes.names_top {
+        put_advice_on_top(alloc, &mut lines, &given.finished.layout)?;
+    }
+    lines.extend_from_slice(given.notes.text.as_slice())?;
+    put_staying(&mut lines, given.staying, given.notes.staying.as_slice())?;
     put_left_out(&mut lines, &given.names)?;
     Ok(lines)
 }
@@ -66,8 +93,8 @@ fn may_tell(status: Status) -> bool
     ensures { result ≡ may_tell status }
 {
     match status {
-        Status::Done | Status::Job | Status::Cif => true,
-        Status::CommandLine | Status::Device | Status::Memory | Status::Desk => false,
+        Status::Done | Status::Job | Status::Cif | Status::Device | Status::Refused => true,
+        Status::CommandLine | Status::Memory | Status::Desk => false,
     }
 }
 

@@ -37,6 +37,8 @@ fn ended(
         threaded: false,
         oriented: false,
         named: false,
+        strict: false,
+        bare: false,
     };
     let status = run(rt, alloc, options, &mut input, &mut out, &mut errors);
     (status, out)
