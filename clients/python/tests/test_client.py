@@ -1,6 +1,7 @@
 """Tests of the client against the built program: env MASKLAY, else crates/masklay/out/masklay of this repository."""
 
 import os
+import signal
 import subprocess
 import sys
 import tempfile
@@ -140,7 +141,8 @@ class History(unittest.TestCase):
                 layout.undo(first.name)
             refused = caught.exception
             self.assertEqual((refused.number, refused.name, refused.transaction), (23, "Depends", second.name))
-            self.assertEqual(str(refused), "fault 23 Depends 1.2")
+            self.assertTrue(str(refused).startswith("fault 23 Depends 1.2: "), str(refused))
+            self.assertIn("undo that one first", refused.sentence)
             with self.assertRaises(MasklayError) as caught:
                 layout.undo("5.5")
             self.assertEqual((caught.exception.name, caught.exception.transaction), ("NoTxn", None))
@@ -225,7 +227,32 @@ class Ends(unittest.TestCase):
             read("L NM;\nW 10 0 0 40 0; E")
         fault = caught.exception
         self.assertEqual((fault.number, fault.name, fault.offset, fault.status), (3, "Wire", 6, 4))
-        self.assertIn("line 3, column 1: a wire", fault.said)
+        self.assertEqual((fault.line, fault.column), (2, 1))
+        self.assertIn("line 2 of the CIF text (line 3 of the job), column 1: a wire", fault.said)
+        with self.assertRaises(TextFault) as caught:
+            rewritten("L NM;\n  W 10 0 0 40 0; E", PROGRAM)
+        self.assertEqual((caught.exception.line, caught.exception.column), (2, 3))
+
+    def test_an_interrupt(self):
+        """Could catch an interrupt that ends the program, and a reply that is taken for the next step's."""
+        wait = "    time.sleep(1) if b'commit' in line else None"
+        program = fake(
+            "k = 0", "for line in sys.stdin.buffer:",
+            "    words = line.split()",
+            "    if words[:1] == [b'?']: print('(fault line 1);', flush=True)",
+            "    if words[:1] != [b'1']: continue",
+            "    k += 1", wait, "    print(f'(1 {k} done);', flush=True)",
+        )  # fmt: skip
+        with read(program=program) as layout:
+            session = layout.session()
+            self.assertEqual(session.step("open"), "done")
+            # a shell that starts this in the background has it ignored
+            self.addCleanup(signal.signal, signal.SIGINT, signal.signal(signal.SIGINT, signal.default_int_handler))
+            timer = threading.Timer(0.3, os.kill, (os.getpid(), signal.SIGINT))
+            timer.start()
+            with self.assertRaises(KeyboardInterrupt):
+                session.step("commit")
+            self.assertEqual(session.step("open"), "done")
 
     def test_a_large_text(self):
         """Could catch two processes that wait for each other, where a text is longer than a pipe."""
@@ -281,6 +308,12 @@ class Ends(unittest.TestCase):
             layout.write()
         with read(text) as again:
             self.assertEqual(again.write(), text)
+
+    def test_workers(self):
+        """Could catch a number of workers that the program refuses."""
+        for workers in (0, 65):
+            with self.assertRaises(ValueError):
+                read(workers=workers)
 
     def test_no_program(self):
         """Could catch a program that isn't there and is waited for."""

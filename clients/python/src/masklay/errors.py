@@ -4,6 +4,8 @@ from __future__ import annotations
 
 from typing import Optional
 
+from .refusals import SENTENCES
+
 
 class Error(Exception):
     """Any error of this package but those of arguments."""
@@ -12,7 +14,7 @@ class Error(Exception):
 class MasklayError(Error):
     """A step was refused. Nothing has changed; but a commit that is `Stale` has ended its transaction.
 
-    `docs/FORMAT.md` of masklay lists the numbers.
+    `docs/FORMAT.md` of masklay lists the numbers. `str` of it ends with the cause and what to do.
     """
 
     #: The number of the refusal, as 23.
@@ -21,10 +23,14 @@ class MasklayError(Error):
     name: str
     #: The transaction that is in the way, as `2.1`, after `Depends`, `Moved` and `Stale`.
     transaction: Optional[str]
+    #: The cause and what to do, a sentence.
+    sentence: str
 
     def __init__(self, number: int, name: str, transaction: Optional[str] = None) -> None:
         self.number, self.name, self.transaction = number, name, transaction
-        super().__init__(f"fault {number} {name}" + (f" {transaction}" if transaction else ""))
+        self.sentence = SENTENCES.get(number, "")
+        words = f"fault {number} {name}" + (f" {transaction}" if transaction else "")
+        super().__init__(f"{words}: {self.sentence}" if self.sentence else words)
 
 
 class StepError(Error, ValueError):
@@ -53,9 +59,14 @@ class TextFault(ProcessError):
     name: str
     #: How many bytes of the text come before.
     offset: int
+    #: The line of the text, from 1, and the byte of that line, from 1.
+    line: int
+    column: int
 
-    def __init__(self, number: int, name: str, offset: int, status: Optional[int], said: str) -> None:
+    def __init__(self, number: int, name: str, offset: int, text: bytes, status: Optional[int], said: str) -> None:
         self.number, self.name, self.offset = number, name, offset
+        self.line = text.count(b"\n", 0, offset) + 1
+        self.column = offset - text.rfind(b"\n", 0, offset)
         super().__init__(f"cif fault {number} {name} at {offset}", status, said)
 
 

@@ -9,7 +9,7 @@ from typing import List, Optional, Tuple, Type, Union
 
 from .errors import MasklayError, ProcessError
 from .process import Process, Program
-from .replies import accepted, words_of
+from .replies import ODD, accepted, words_of
 from .transaction import Transaction
 
 #: How many sessions a layout has.
@@ -46,11 +46,16 @@ class Layout:
     ) -> "Layout":
         """Starts the program on a CIF text.
 
+        An interrupt while a call waits (`KeyboardInterrupt`) leaves the layout in use: the step is taken, and its reply is
+        passed over by the next call.
+
         `program` is its path, or a list of words. `workers` find the edges of an operation. Each call waits `timeout` seconds for
         its reply, and raises `Late` then.
 
         Raises `TextFault` where the text isn't read, and `OSError` where the program can't be started.
         """
+        if not 1 <= workers <= 64:
+            raise ValueError(f"there are 1 to 64 workers, and not {workers}")
         options = ["--workers", str(workers)] if workers != 1 else []
         process = Process(cif, program, options, timeout)
         try:
@@ -78,9 +83,15 @@ class Layout:
             raise ValueError(f"a step is one line of printed characters, and not {step!r}")
         line = f"{session} {step}".encode("utf-8")
         with self._lock:
-            words = words_of(self._process.ask(line), session, self._taken[session] + 1)
-            self._taken[session] += 1
+            reply = self._process.ask(line, lambda late: self._count(session, late))
+            self._count(session, reply)
+            words = words_of(reply, session, self._taken[session])
         return accepted(words)
+
+    def _count(self, session: int, reply: bytes) -> None:
+        """Counts a step of the session that was answered so; a line that is no step isn't counted."""
+        if not ODD.fullmatch(reply):
+            self._taken[session] += 1
 
     def undo(self, name: str) -> None:
         """Takes the transaction of this name back, whichever session made it. It is a step of session 1."""
@@ -157,7 +168,8 @@ def decoded(text: bytes) -> str:
 def without_order(output: bytes) -> Tuple[bytes, List[int]]:
     """Returns what is written at the end without the comments of the order at its beginning, and the order."""
     order: List[int] = []
-    while (found := ORDER.match(output)) is not None:
+    at = 0
+    while (found := ORDER.match(output, at)) is not None:
         order += [int(word) for word in found[1].split()]
-        output = output[found.end() :]
-    return output, order
+        at = found.end()
+    return output[at:], order

@@ -9,13 +9,15 @@ import subprocess
 import tempfile
 import threading
 import time
-from typing import List, Optional, Sequence, Union
+from typing import Callable, List, Optional, Sequence, Union
 
 from .errors import Late, OutOfMemory, ProcessError, TextFault
 
 Program = Union[str, "os.PathLike[str]", Sequence[str]]
 
 CIF_FAULT = re.compile(rb"cif fault (\d+) (\w+) at (\d+)\n")
+#: How many bytes are read at a time.
+PIECE = 1 << 16
 #: Lines that would end a CIF text too early.
 MARKS = (b"%session", b"%order", b"%live")
 
@@ -38,29 +40,36 @@ class Process:
     """A running program. One thread at a time may use it."""
 
     def __init__(self, cif: Union[bytes, str], program: Program, options: Sequence[str], timeout: float) -> None:
-        text = text_bytes(cif)
+        self._text = text_bytes(cif)
         self.timeout = timeout
         self._ended: Optional[ProcessError] = None
         self._errors = tempfile.TemporaryFile()
-        self._lines: "queue.Queue[bytes]" = queue.Queue()
+        self._pieces: "queue.Queue[bytes]" = queue.Queue()
+        self._came = bytearray()
+        # how the replies whose callers were interrupted are read, in their order
+        self._owed: List[Callable[[float], None]] = []
         self._wanted: "queue.Queue[Optional[bytes]]" = queue.Queue()
         pipe = subprocess.PIPE
         try:
-            self._child = subprocess.Popen([*words_of_program(program), "--live", *options], stdin=pipe, stdout=pipe, stderr=self._errors)
+            # a session of its own: an interrupt of the terminal is this process's, and the program goes on
+            self._child = subprocess.Popen(
+                [*words_of_program(program), "--live", *options],
+                stdin=pipe, stdout=pipe, stderr=self._errors, start_new_session=True,
+            )  # fmt: skip
         except BaseException:
             self._errors.close()
             raise
         self._threads = [threading.Thread(target=it, daemon=True) for it in (self._read, self._write)]
         for it in self._threads:
             it.start()
-        self._put(b"%cif\n" + text + b"%live\n")
+        self._put(b"%cif\n" + self._text + b"%live\n")
 
     def _read(self) -> None:
-        """Keeps what the program writes, a line at a time, and an empty one at the end. It runs in a thread of its own."""
+        """Keeps what the program writes, piece by piece, and an empty piece at the end. It runs in a thread of its own."""
         assert self._child.stdout is not None
-        for line in self._child.stdout:
-            self._lines.put(line)
-        self._lines.put(b"")
+        while piece := os.read(self._child.stdout.fileno(), PIECE):
+            self._pieces.put(piece)
+        self._pieces.put(b"")
 
     def _write(self) -> None:
         """Sends lines, and ends the input behind the last. It runs in a thread of its own, so that no call waits for a program
@@ -81,35 +90,47 @@ class Process:
         """Has lines sent, or the input ended."""
         self._wanted.put(lines)
 
-    def ask(self, line: bytes) -> bytes:
-        """Sends a line and returns the one that answers it."""
-        self._check()
-        self._put(line + b"\n")
-        return self._line(time.monotonic() + self.timeout)
+    def ask(self, line: bytes, late: Callable[[bytes], None] = lambda reply: None) -> bytes:
+        """Sends a line and returns the one that answers it. Where an interrupt comes before that, `late` gets it when it comes."""
+        return self._answer(line, self._line, late)
 
     def ask_text(self, line: bytes) -> bytes:
         """Sends a line and returns the lines that answer it, up to `E`."""
-        self._check()
-        until = time.monotonic() + self.timeout
-        self._put(line + b"\n")
-        lines = [self._line(until)]
-        while lines[-1] != b"E\n":
-            lines.append(self._line(until))
-        return b"".join(lines)
+        return self._answer(line, self._lines, lambda text: None)
 
     def finish(self) -> bytes:
         """Ends the input and returns all that is written then."""
-        self._check()
+        until = self._begin()
         self._put(None)
-        until = time.monotonic() + self.timeout
-        lines: List[bytes] = []
-        while (line := self._next(until)) != b"":
-            lines.append(line)
+        while self._more(until):
+            pass
+        output = self._taken(len(self._came))
         said = self._end()
         if self._child.returncode != 0:
-            raise self._fail(lines[-1] if lines else b"", said)
+            raise self._fail(output[output.rfind(b"\n", 0, -1) + 1 :], said)
         self._ended = ProcessError("the layout is closed", 0, said)
-        return b"".join(lines)
+        return output
+
+    def _begin(self) -> float:
+        """Begins a call, once the replies that earlier ones were interrupted for have come. Returns the time at which it ends."""
+        self._check()
+        until = time.monotonic() + self.timeout
+        while self._owed:
+            self._owed[0](until)
+            del self._owed[0]
+        return until
+
+    def _answer(self, line: bytes, read: Callable[[float], bytes], late: Callable[[bytes], None]) -> bytes:
+        """Sends a line and returns what is read; where an interrupt comes, it is read and given to `late` at the next call."""
+        until = self._begin()
+        try:
+            self._put(line + b"\n")
+            return read(until)
+        except ProcessError:
+            raise
+        except BaseException:
+            self._owed.append(lambda until: late(read(until)))
+            raise
 
     def kill(self) -> None:
         """Ends the process, if it runs."""
@@ -121,31 +142,53 @@ class Process:
         if self._ended is not None:
             raise self._ended
 
-    def _next(self, until: float) -> bytes:
-        """Returns the next line, or an empty one at the end."""
+    def _more(self, until: float) -> bool:
+        """Waits for the next piece of what the program writes. Returns whether there is one."""
         try:
-            return self._lines.get(timeout=max(0.0, until - time.monotonic()))
+            piece = self._pieces.get(timeout=max(0.0, until - time.monotonic()))
         except queue.Empty:
             self._child.kill()
             self._ended = Late(f"no reply in {self.timeout} s", None, self._end())
             raise self._ended from None
-        except BaseException:
-            self.kill()
-            raise
+        self._came += piece
+        return piece != b""
+
+    def _taken(self, size: int) -> bytes:
+        """Takes so many bytes of what has come."""
+        taken = bytes(self._came[:size])
+        del self._came[:size]
+        return taken
 
     def _line(self, until: float) -> bytes:
         """Returns the next line, where it is a reply."""
-        line = self._next(until)
-        if line in (b"", b"out of memory\n") or line.startswith((b"cif fault ", b"job fault ")):
-            raise self._fail(line, self._end())
-        return line
+        seen = 0
+        while (end := self._came.find(b"\n", seen)) < 0:
+            seen = len(self._came)
+            if not self._more(until):
+                raise self._fail(self._taken(seen), self._end())
+        return self._reply(self._taken(end + 1))
+
+    def _lines(self, until: float) -> bytes:
+        """Returns the next lines up to `E`, where they are a reply."""
+        seen = 0
+        while (end := self._came.find(b"\nE\n", seen)) < 0:
+            seen = max(0, len(self._came) - 2)
+            if not self._more(until):
+                raise self._fail(self._taken(len(self._came)), self._end())
+        return self._reply(self._taken(end + 3))
+
+    def _reply(self, reply: bytes) -> bytes:
+        """Returns what the program wrote, where it is no last line."""
+        if reply == b"out of memory\n" or reply.startswith((b"cif fault ", b"job fault ")):
+            raise self._fail(reply, self._end())
+        return reply
 
     def _fail(self, line: bytes, said: str) -> ProcessError:
         """Returns why the process has ended, by its last line, and keeps it."""
         status = self._child.returncode
         found = CIF_FAULT.fullmatch(line)
         if found is not None:
-            self._ended = TextFault(int(found[1]), found[2].decode(), int(found[3]), status, said)
+            self._ended = TextFault(int(found[1]), found[2].decode(), int(found[3]), self._text, status, said)
         elif line == b"out of memory\n":
             self._ended = OutOfMemory("out of memory", status, said)
         else:

@@ -18,12 +18,12 @@ def rewritten(cif: Union[bytes, str], program: Program = "masklay", *, oriented:
     Raises `TextFault` where the text isn't read, and `OSError` where the program can't be started.
     """
     options = ["--oriented"] * oriented + ["--names"] * names
-    job = b"%cif\n" + text_bytes(cif)
-    done = subprocess.run([*words_of_program(program), *options], input=job, stdout=subprocess.PIPE, stderr=subprocess.PIPE)
+    text = text_bytes(cif)
+    done = subprocess.run([*words_of_program(program), *options], input=b"%cif\n" + text, stdout=subprocess.PIPE, stderr=subprocess.PIPE)
     said = done.stderr.decode("utf-8", "replace")
     found = CIF_FAULT.fullmatch(done.stdout)
     if found is not None:
-        raise TextFault(int(found[1]), found[2].decode(), int(found[3]), done.returncode, said)
+        raise TextFault(int(found[1]), found[2].decode(), int(found[3]), text, done.returncode, said)
     if done.returncode == 6:
         raise OutOfMemory("out of memory", done.returncode, said)
     if done.returncode != 0:
