@@ -12,9 +12,10 @@ use Rattle.undo_rules.specs.declared.log.Logged.{Logged}
 use Rattle.undo_rules.specs.Books.{History}
 use Rattle.undo_rules.specs.Steps.{fresh}
 use Rattle.desk_rules.specs.declared.kept.Kept.{Kept}
-use Rattle.desk_rules.specs.Close.{AreSeatsRising, HasAll, IsClosed, Shows, has_seat, missing_call, missing_place, or_missing, own_total}
-use Rattle.desk_rules.specs.Guards.{Desk, ones}
-use Rattle.desk_rules.specs.Legal.{IsLegal}
+use Rattle.desk_rules.specs.Close.{AreSeatsRising, HasAll, IsClosed, Shows, has_seat, missing_call, missing_place}
+use Rattle.desk_rules.specs.Close.{or_missing, own_total}
+use Rattle.desk_rules.specs.Guards.{ones}
+use Rattle.desk_rules.specs.Legal.{Desk, IsFrom, IsLegal}
 use Rattle.desk_rules.specs.Seats.{AreCallsRising, IsIn, Seat, is_in, own_calls, own_from, with_own}
 use Rattle.desk_rules.proofs.FitLemmas.{fits, from_start, length_with, same_own}
 use Rattle.desk_rules.proofs.GuardLemmas.{is_in-is}
@@ -187,19 +188,27 @@ own_all log (seat ∷ seats) rising none tight =
       own_all log seats rising.1 parts.1 (omega (arith, one, len, rest, tight)),
     )
 
+-- what began with the desk's base and limit, and has its sessions, is from the desk
+pub from_desk : (desk : Desk) (sessions : ℕ) (state : History) → IsLegal sessions (fresh state.base state.limit) state.log state
+    → sessions ≡ desk.sessions → state.base ≡ desk.base → state.limit ≡ desk.limit → IsFrom desk state
+from_desk desk sessions state legal count base limit =
+    subst (λ b. IsLegal desk.sessions (fresh b desk.limit) state.log state) base
+    (subst (λ l. IsLegal desk.sessions (fresh state.base l) state.log state) limit
+    (subst (λ n. IsLegal n (fresh state.base state.limit) state.log state) count legal))
+
 pub closes : (desk : Desk) (sessions : ℕ) (book : History) (seats : List Seat)
     → IsLegal sessions (fresh book.base book.limit) book.log book
     → AreSeatsRising seats → missing_call book.log seats ≡ None → length seats ≤ desk.sessions → HasAll desk.sessions seats
-    → own_total seats ≡ length book.log → book.base ≡ desk.base → IsClosed desk seats book
-closes desk sessions book seats legal rising none few all total base =
+    → own_total seats ≡ length book.log → book.base ≡ desk.base → book.limit ≡ desk.limit → IsClosed desk seats book
+closes desk sessions book seats legal rising none few all total base limit =
     let count = each_once desk.sessions (λ s. calls_of s book.log) seats few all in
     let sum = up_calls desk.sessions book.log in
     let most = within_le desk.sessions book.log in
     let least = fit_all book.log seats rising none in
     record {
-      legal = subst (λ b. IsLegal desk.sessions (fresh b book.limit) book.log book) base
+      legal = from_desk desk desk.sessions book
           (legal_within sessions desk.sessions (fresh book.base book.limit) book book.log
-          (all_within desk.sessions book.log (omega (arith, count, sum, most, least, total))) legal);
+          (all_within desk.sessions book.log (omega (arith, count, sum, most, least, total))) legal) refl base limit;
       own = own_all book.log seats rising none (omega (arith, count, sum, most, total));
       all = all;
       count = total;
@@ -250,20 +259,12 @@ pub own_shown : (session : ℕ) (log : List Logged) (own : List Kept) → AreCal
     → length (own_calls session log) ≡ length own → own_calls session log ≡ own
 own_shown session log own rising none len = sym (same_own session 0 log own rising (from_start log own (all_in log own none)) (sym len))
 
-pub shows : (desk : Desk) (seat : Seat) (layout : Layout) (sessions : ℕ) (state : History)
-    → IsLegal sessions (fresh state.base state.limit) state.log state
-    → sessions ≡ desk.sessions → state.base ≡ desk.base → 1 ≤ seat.session → seat.session ≤ sessions
-    → own_calls seat.session state.log ≡ seat.own
-    → layout ≡ state.layout → Shows desk seat layout
-shows desk seat layout sessions state legal count base low high own is =
-    let here : IsLegal desk.sessions (fresh desk.base state.limit) state.log state =
-    subst (λ b. IsLegal desk.sessions (fresh b state.limit) state.log state) base
-    (subst (λ n. IsLegal n (fresh state.base state.limit) state.log state) count legal) in
-    record {
-      history = state;
-      legal = here;
-      own = own;
-      layout = is;
-      alone = alone desk.sessions seat.session (fresh desk.base state.limit) state state.log seat.own here low (omega
-          (arith, high, count)) own;
-    }
+pub shows : (desk : Desk) (seat : Seat) (layout : Layout) (state : History) → IsFrom desk state → 1 ≤ seat.session
+    → seat.session ≤ desk.sessions → own_calls seat.session state.log ≡ seat.own → layout ≡ state.layout → Shows desk seat layout
+shows desk seat layout state legal low high own is = record {
+  history = state;
+  legal = legal;
+  own = own;
+  layout = is;
+  alone = alone desk.sessions seat.session (fresh desk.base desk.limit) state state.log seat.own legal low high own;
+}

@@ -15,8 +15,8 @@ use Rattle.undo_rules.specs.Books.{History}
 use Rattle.undo_rules.specs.Steps.{fresh}
 use Rattle.desk_rules.specs.declared.kept.Kept.{Kept}
 use Rattle.lay_layouts.specs.Sound.{IsSound}
-use Rattle.desk_rules.specs.Guards.{AreCallCounts, Guard, IsGuard, has_last, ones, with_one_counted}
-use Rattle.desk_rules.specs.Legal.{Grew, IsLegal, Leads, Stepped, outcome}
+use Rattle.desk_rules.specs.Guards.{AreCallCounts, Fits, Guard, IsGuard, has_last, ones, with_one_counted}
+use Rattle.desk_rules.specs.Legal.{Desk, Grew, IsLegal, Leads, Stepped, on_base, outcome}
 use Rattle.desk_rules.specs.Seats.{IsIn, IsLastIn, IsPastCall, MadeLogged, calls_added, is_in, is_last_in, last_of, own_calls, same_at}
 use Rattle.desk_rules.proofs.LegalLemmas.{grown, legal_push}
 use Rattle.desk_rules.proofs.OwnLemmas.{length-own-push}
@@ -159,27 +159,34 @@ last_below : (log : List Logged) (last : Option Kept) → IsLastIn log last → 
 last_below log None found = tt
 last_below log (Some k) found = slice_get_within log k.place k.logged found
 
+-- the log has as many calls of the session as its own
+pub counted : (g : Guard) (session : ℕ) (own : List Kept) → IsGuard g → Looked g session own
+    → length (own_calls session g.book.log) ≡ length own
+counted g session own kept look =
+    let low = look.low in
+    let high = look.high in
+    let is : session - 1 + 1 ≡ session = omega (arith, low) in
+    subst (λ s. length (own_calls s g.book.log) ≡ length own) is
+    (sym (kept.counts.each (session - 1) (omega (arith, low, high))) ∙ look.count)
+
 -- what a logged call tells of the log behind it
-pub made_logged : (g : Guard) (next : History) (session place : ℕ) (call : Call) (answer : Option Answer) (own : List Kept) → IsGuard g
-    → IsSound g.book.layout → Looked g session own → Stepped g.book session call answer next → place ≡ length g.book.log
-    → MadeLogged answer next.base g.sessions next session own call place
-made_logged g next session place call None own kept sound look stepped at = tt
-made_logged g next session place call (Some answer) own kept sound look (inr fails) at = absurd (grind rules)
-made_logged g next session place call (Some answer) own kept sound look (inl made) at =
+pub made_logged : (desk : Desk) (g : Guard) (next : History) (session place : ℕ) (call : Call) (answer : Option Answer) (own : List Kept)
+    → IsGuard g → Fits desk g → IsSound g.book.layout → Looked g session own → Stepped g.book session call answer next
+    → place ≡ length g.book.log → MadeLogged answer (on_base next.base desk) next session own call place
+made_logged desk g next session place call None own kept fits sound look stepped at = tt
+made_logged desk g next session place call (Some answer) own kept fits sound look (inr fails) at = absurd (grind rules)
+made_logged desk g next session place call (Some answer) own kept fits sound look (inl made) at =
     let c : Logged = record { session = session; call = call; answer = answer } in
     let grew : Grew g.book session call answer next = grown g.book next session call (Some answer) (inl made) in
     let new = guard_grown g next session call answer kept sound look.low look.high made grew in
     record {
-      legal = new.legal;
+      legal = subst (λ n. IsLegal n (fresh next.base desk.limit) next.log next) fits.0
+          (subst (λ l. IsLegal g.sessions (fresh next.base l) next.log next) (grew.limit ∙ fits.1) new.legal);
       last = subst (λ log. slice_get log place ≡ Some c) (sym grew.log)
           (subst (λ p. slice_get (g.book.log ++ c ∷ []) p ≡ Some c) (sym at) (get_end g.book.log c));
       whole = let l = ap length grew.log in let a = length-append g.book.log (c ∷ []) in omega (arith, l, a, at);
       count =
-          let low = look.low in
-          let is : session - 1 + 1 ≡ session = omega (arith, low) in
-          let was : length (own_calls session g.book.log) ≡ length own =
-          subst (λ s. length (own_calls s g.book.log) ≡ length own) is
-          (sym (kept.counts.each (session - 1) (let high = look.high in omega (arith, low, high))) ∙ look.count) in
+          let was = counted g session own kept look in
           let grown-by = length-own-push session 0 g.book.log c in
           let one = ones_same session session refl in
           let here = ap (λ log. length (own_calls session log)) grew.log in omega (arith, was, grown-by, one, here);

@@ -77,7 +77,7 @@ grown_open h session = by (is_log_full h) (nat_le 65535 (state_of h session).ope
   by false false = grew_open h session
 
 -- a refusal that is logged wherever it comes
-abbrev IsPlain : Option BookFault → Type 0
+abbrev pub IsPlain : Option BookFault → Type 0
 IsPlain refused = (fault : BookFault) → refused ≡ Some fault → refusal fault ≡ Some (Refused fault)
 
 plain_none : IsPlain None
@@ -98,14 +98,14 @@ plain_either : (a b : Option BookFault) → IsPlain a → IsPlain b → IsPlain 
 plain_either None b first second = second
 plain_either (Some fault) b first second = first
 
-plain_undo : (at : Option Found) → IsPlain (undo_refusal_at at)
+pub plain_undo : (at : Option Found) → IsPlain (undo_refusal_at at)
 plain_undo None = plain_some NoTxn refl
 plain_undo (Some at) = by at.entry.live where
   by : (live : Bool) → IsPlain (cond live (depends (first_reader at.entry.writes at.later)) (Some NotLive))
   by true = plain_depends (first_reader at.entry.writes at.later)
   by false = plain_some NotLive refl
 
-plain_redo : (at : Option Found) → IsPlain (redo_refusal_at at)
+pub plain_redo : (at : Option Found) → IsPlain (redo_refusal_at at)
 plain_redo None = plain_some NoTxn refl
 plain_redo (Some at) = by at.entry.live where
   by : (live : Bool) → IsPlain (cond live (Some StillLive) (or_else (depends (first_reader at.entry.writes at.later))

@@ -5,5 +5,6 @@ pub mod LawLemmas
 pub mod LegalLemmas
 pub mod MeantLemmas
 pub mod OwnLemmas
+pub mod RefusalLemmas
 pub mod SameLemmas
 pub mod SeatLemmas

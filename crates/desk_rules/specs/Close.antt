@@ -1,16 +1,14 @@
 -- Closing a desk with its seats, and what a snapshot shows.
-use Rattle.std.specs.Prelude.{◌≡◌, ℕ, ◌+◌, ◌≤◌, ◌==◌, ◌||◌, List, [], ◌∷◌, length, Bool, true, false, Option, None, Some}
-use Rattle.std.specs.Prelude.{if◌then◌else◌, ◌++◌}
+use Rattle.std.specs.Prelude.{◌≡◌, ◌≢◌, ◌⊎◌, ℕ, ◌+◌, ◌<◌, ◌≤◌, ◌==◌, ◌||◌, List, [], ◌∷◌, length, Bool, true, false, Option}
+use Rattle.std.specs.Prelude.{None, Some, if◌then◌else◌, ◌++◌}
 use Rattle.std.specs.Prelude.{zero, suc, map}
 use Rattle.std.specs.List.{AllByRecursion}
 use Rattle.lay_layouts.specs.Layout.{Layout}
 use Rattle.undo_rules.specs.declared.log.Logged.{Logged}
 use Rattle.undo_rules.specs.Books.{History}
-use Rattle.undo_rules.specs.Steps.{fresh}
 use Rattle.desk_rules.specs.declared.kept.Kept.{Kept}
-use Rattle.desk_rules.specs.Guards.{Desk}
-use Rattle.desk_rules.specs.Legal.{IsLegal}
-use Rattle.desk_rules.specs.Seats.{AreCallsRising, Seat, is_in, own_calls}
+use Rattle.desk_rules.specs.Legal.{Desk, IsFrom}
+use Rattle.desk_rules.specs.Seats.{AreCallsRising, Seat, is_in, last_of, own_calls, place_or_zero}
 
 -- how many calls the seats have
 abbrev pub own_total : List Seat → ℕ
@@ -44,10 +42,10 @@ AreSeatsRising seats = AllByRecursion (λ (seat : Seat). AreCallsRising seat.ses
 abbrev pub HasAll : ℕ → List Seat → Type 0
 HasAll n seats = (session : ℕ) → 1 ≤ session → session ≤ n → has_seat session seats ≡ true
 
--- the log is legal from the desk's base and sessions, each seat has just its session's calls of it, and each session has a seat;
+-- the log is legal from the desk's base, sessions and limit, each seat has just its session's calls of it, and each session has a seat;
 -- nothing else is in the log
 pub record IsClosed (desk : Desk) (seats : List Seat) (book : History) : Type 0 where
-  pub legal : IsLegal desk.sessions (fresh desk.base book.limit) book.log book
+  pub legal : IsFrom desk book
   pub own : AllByRecursion (λ (seat : Seat). own_calls seat.session book.log ≡ seat.own) seats
   pub all : HasAll desk.sessions seats
   pub count : own_total seats ≡ length book.log
@@ -57,11 +55,26 @@ abbrev pub empty_seats : ℕ → List Seat
 empty_seats zero = []
 empty_seats (suc n) = empty_seats n ++ record { session = n + 1; own = [] } ∷ []
 
--- the layout after a legal log from the desk's base and sessions, in which the session's calls are the seat's
+-- ---- what a snapshot shows
+
+-- the layout after a legal log from the desk's base, sessions and limit, in which the session's calls are the seat's
 pub record Shows (desk : Desk) (seat : Seat) (shown : Layout) : Type 0 where
   pub history : History
-  pub legal : IsLegal desk.sessions (fresh desk.base history.limit) history.log history
+  pub legal : IsFrom desk history
   pub own : own_calls seat.session history.log ≡ seat.own
   pub layout : shown ≡ history.layout
   -- on a desk of one session this log is the seat's list
   pub alone : desk.sessions ≡ 1 → map (λ (k : Kept). k.logged) seat.own ≡ history.log
+
+-- the place is that of the first of the seat's calls that the log doesn't have at its place; or of the seat's last, where the log
+-- has them all, and others of the session, or the desk hasn't that session
+abbrev pub IsMissed : Desk → Seat → List Logged → ℕ → Type 0
+IsMissed desk seat log place = (missing_place log seat.own ≡ Some place)
+    ⊎ ((missing_place log seat.own ≡ None) × (place ≡ place_or_zero (last_of seat.own))
+    × ((desk.sessions < seat.session) ⊎ (own_calls seat.session log ≢ seat.own)))
+
+-- so it is of a legal log from the desk
+pub record Misses (desk : Desk) (seat : Seat) (place : ℕ) : Type 0 where
+  pub history : History
+  pub legal : IsFrom desk history
+  pub missed : IsMissed desk seat history.log place

@@ -1,11 +1,10 @@
 -- What is behind a desk's lock.
 use Rattle.std.specs.Prelude.{◌≡◌, ℕ, ◌+◌, ◌≤◌, ◌<◌, ◌==◌, ◌-◌, ◌&&◌, List, length, slice_index, slice_set, Bool, true, false, nat_le}
-use Rattle.lay_layouts.specs.Layout.{Layout}
 use Rattle.undo_rules.specs.declared.log.Logged.{Logged}
 use Rattle.undo_rules.specs.Books.{History}
 use Rattle.undo_rules.specs.Steps.{fresh}
 use Rattle.desk_rules.specs.declared.kept.Kept.{Kept}
-use Rattle.desk_rules.specs.Legal.{ArePendingSound, IsLegal}
+use Rattle.desk_rules.specs.Legal.{ArePendingSound, Desk, IsLegal}
 use Rattle.desk_rules.specs.Seats.{is_last_in, last_of, own_calls}
 
 -- how many sessions there are, the book, how many calls of each session its log has, and the ledger's total
@@ -28,10 +27,9 @@ pub record IsGuard (g : Guard) : Type 0 where
   pub counts : AreCallCounts g.sessions g.counts g.book.log
   pub total : g.total ≡ length g.book.log
 
--- what contracts see of a desk: the layout and the number of sessions that it was made with
-pub record Desk : Type 0 where
-  pub base : Layout
-  pub sessions : ℕ
+-- it is behind the lock of a desk with so many sessions and this limit
+abbrev pub Fits : Desk → Guard → Type 0
+Fits desk g = (g.sessions ≡ desk.sessions) × (g.book.limit ≡ desk.limit)
 
 -- the log has the session's last call at its place, and as many calls of the session
 abbrev pub has_last : Guard → ℕ → List Kept → Bool

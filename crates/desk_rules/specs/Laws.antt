@@ -12,8 +12,7 @@ use Rattle.undo_rules.specs.Laws.{IsOwnWork}
 use Rattle.undo_rules.specs.Steps.{commit_step, fresh, is_own}
 use Rattle.desk_rules.specs.declared.kept.Kept.{Kept}
 use Rattle.desk_rules.specs.Close.{AreSeatsRising, HasAll, IsClosed, missing_call, own_total}
-use Rattle.desk_rules.specs.Guards.{Desk}
-use Rattle.desk_rules.specs.Legal.{ArePendingSound, IsLegal, Stepped, answer_of}
+use Rattle.desk_rules.specs.Legal.{ArePendingSound, Desk, IsLegal, Stepped, answer_of}
 use Rattle.desk_rules.specs.Seats.{AreCallsRising, IsIn, Seat, own_calls}
 
 -- the history after a legal log has that log, and what it began with
@@ -42,7 +41,7 @@ abbrev pub ACountCloses : Type 0
 ACountCloses = (desk : Desk) (sessions : ℕ) (book : History) (seats : List Seat)
     → IsLegal sessions (fresh book.base book.limit) book.log book
     → AreSeatsRising seats → missing_call book.log seats ≡ None → length seats ≤ desk.sessions → HasAll desk.sessions seats
-    → own_total seats ≡ length book.log → book.base ≡ desk.base → IsClosed desk seats book
+    → own_total seats ≡ length book.log → book.base ≡ desk.base → book.limit ≡ desk.limit → IsClosed desk seats book
 
 -- a commit of a work is that of the transaction which the log means by its commands: these run on the layout at the pending open
 abbrev pub ACommitIsMeant : Type 0

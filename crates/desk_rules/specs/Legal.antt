@@ -1,6 +1,7 @@
 -- Legal logs: each call is of a session that is there, and has the answer of the book's step at its place.
 -- Source: this project's own.
 use Rattle.std.specs.Prelude.{◌≡◌, ℕ, ◌≤◌, ◌==◌, List, [], ◌∷◌, ◌++◌, Option, None, Some, Result, Ok, Err, ◌⊎◌, if◌then◌else◌, slice_get}
+use Rattle.lay_layouts.specs.Layout.{Layout}
 use Rattle.lay_layouts.specs.Sound.{IsSound}
 use Rattle.txn_commands.specs.declared.command.Command.{Command}
 use Rattle.txn_commands.specs.declared.command.TxnId.{TxnId}
@@ -15,7 +16,7 @@ use Rattle.undo_rules.specs.declared.log.Call.{Call}
 use Rattle.undo_rules.specs.declared.log.Call.TheVariants.{Commit, Open, Redo, Undo}
 use Rattle.undo_rules.specs.declared.log.Logged.{Logged}
 use Rattle.undo_rules.specs.Books.{History, Pending, SessionState}
-use Rattle.undo_rules.specs.Steps.{commit_step, open_step, redo_step, state_of, undo_step}
+use Rattle.undo_rules.specs.Steps.{commit_step, fresh, open_step, redo_step, state_of, undo_step}
 
 -- ---- what is logged of a call
 
@@ -92,6 +93,20 @@ pub record Leads (sessions : ℕ) (h : History) (c : Logged) (next : History) : 
 abbrev pub IsLegal : ℕ → History → List Logged → History → Type 0
 IsLegal sessions h [] end = end ≡ h
 IsLegal sessions h (c ∷ cs) end = (next : History) × Leads sessions h c next × IsLegal sessions next cs end
+
+-- what contracts see of a desk: the layout, the number of sessions and the most logged calls that it was made with
+pub record Desk : Type 0 where
+  pub base : Layout
+  pub sessions : ℕ
+  pub limit : ℕ
+
+-- the same desk on this layout
+abbrev pub on_base : Layout → Desk → Desk
+on_base base desk = record { base = base; sessions = desk.sessions; limit = desk.limit }
+
+-- the history is that after a legal log from the desk's base, sessions and limit
+abbrev pub IsFrom : Desk → History → Type 0
+IsFrom desk h = IsLegal desk.sessions (fresh desk.base desk.limit) h.log h
 
 -- ---- layouts at pending opens
 

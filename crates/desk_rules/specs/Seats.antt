@@ -7,10 +7,9 @@ use Rattle.undo_rules.specs.declared.log.Answer.{Answer}
 use Rattle.undo_rules.specs.declared.log.Call.{Call}
 use Rattle.undo_rules.specs.declared.log.Logged.{Logged}
 use Rattle.undo_rules.specs.Books.{History}
-use Rattle.undo_rules.specs.Steps.{fresh}
 use Rattle.desk_rules.specs.declared.kept.Kept.{Kept}
 use Rattle.desk_rules.specs.contracts.kept.Kept as kept
-use Rattle.desk_rules.specs.Legal.{IsLegal}
+use Rattle.desk_rules.specs.Legal.{Desk, IsFrom, on_base}
 use Rattle.desk_rules.specs.Same.{logged_eq}
 
 -- what contracts see of a seat: its session, and the session's logged calls
@@ -86,22 +85,21 @@ place_or_zero (Some k) = k.place
 
 -- ---- a call that was made
 
--- the history is that after a legal log from this base, with so many sessions. Its last call is this one, at its place. It has as
--- many calls of the session as the seat then has, and the seat's call before this one stands before it, at its own place
-pub record MadeAt (base : Layout) (sessions : ℕ) (h : History) (session : ℕ) (before : List Kept) (k : Kept) : Type 0 where
-  pub legal : IsLegal sessions (fresh base h.limit) h.log h
+-- the history is that after a legal log from this desk. Its last call is this one, at its place. It has as many calls of the
+-- session as the seat then has, and the seat's call before this one stands before it, at its own place
+pub record MadeAt (desk : Desk) (h : History) (session : ℕ) (before : List Kept) (k : Kept) : Type 0 where
+  pub legal : IsFrom desk h
   pub last : IsIn h.log k
   pub whole : length h.log ≡ k.place + 1
   pub count : length (own_calls session h.log) ≡ length before + 1
   pub earlier : IsLastIn h.log (last_of before)
   pub below : IsPastCall k.place (last_of before)
 
--- there is such a history
-pub record Made (session : ℕ) (before : List Kept) (k : Kept) : Type 0 where
+-- there is such a history, on some base
+pub record Made (desk : Desk) (session : ℕ) (before : List Kept) (k : Kept) : Type 0 where
   pub base : Layout
-  pub sessions : ℕ
   pub history : History
-  pub at : MadeAt base sessions history session before k
+  pub at : MadeAt (on_base base desk) history session before k
 
 -- the call at this place
 abbrev pub kept_call : ℕ → ℕ → Call → Answer → Kept
@@ -112,21 +110,20 @@ abbrev pub seat_with_call : Seat → Kept → Seat
 seat_with_call seat k = record { session = seat.session; own = seat.own ++ k ∷ [] }
 
 -- the seat gains this call, of which there is such a log
-pub record Gains (old : Seat) (call : Call) (answer : Answer) (new : Seat) : Type 0 where
+pub record Gains (desk : Desk) (old : Seat) (call : Call) (answer : Answer) (new : Seat) : Type 0 where
   pub place : ℕ
   pub gained : new ≡ seat_with_call old (kept_call place old.session call answer)
-  pub made : Made old.session old.own (kept_call place old.session call answer)
+  pub made : Made desk old.session old.own (kept_call place old.session call answer)
 
 -- the seat gains the call where it is logged, and else is as before
-abbrev pub GainsLogged : Option Answer → Seat → Call → Seat → Type 0
-GainsLogged None old call new = new ≡ old
-GainsLogged (Some answer) old call new = Gains old call answer new
+abbrev pub GainsLogged : Desk → Option Answer → Seat → Call → Seat → Type 0
+GainsLogged desk None old call new = new ≡ old
+GainsLogged desk (Some answer) old call new = Gains desk old call answer new
 
 -- such a history, where the call is logged
-abbrev pub MadeLogged : Option Answer → Layout → ℕ → History → ℕ → List Kept → Call → ℕ → Type 0
-MadeLogged None base sessions h session before call place = Unit {0}
-MadeLogged (Some answer) base sessions h session before call place = MadeAt base sessions h session before
-    (kept_call place session call answer)
+abbrev pub MadeLogged : Option Answer → Desk → History → ℕ → List Kept → Call → ℕ → Type 0
+MadeLogged None desk h session before call place = Unit {0}
+MadeLogged (Some answer) desk h session before call place = MadeAt desk h session before (kept_call place session call answer)
 
 -- how many calls this adds
 abbrev pub calls_added : Option Answer → ℕ

@@ -5,7 +5,7 @@
 //! places, each as [`Kept`]. [`is_last_in`] tests whether a log has the last of them at its place,
 //! and [`missing_place`] names the first that it hasn't; that a log has them, and no others of the
 //! session, is said in `specs/Seats.antt`. What is behind the lock of a desk is
-//! `specs/Guards.antt`, and its end `specs/Close.antt`.
+//! `specs/Guards.antt`, how a call is refused `specs/Refusals.antt`, and its end `specs/Close.antt`.
 //!
 //! Nothing here takes a lock or starts a thread.
 #![tactic(auto)]

@@ -6,7 +6,7 @@ use Rattle.session_steps.specs.declared.Reply.{Reply}
 use Rattle.session_steps.specs.declared.Step.{Step}
 use Rattle.undo_rules.specs.Books.{History}
 use Rattle.desk_rules.specs.Close.{IsClosed}
-use Rattle.desk_rules.specs.Guards.{Desk}
+use Rattle.desk_rules.specs.Legal.{Desk}
 use Rattle.desk_rules.specs.Seats.{Seat}
 use Rattle.locked_desk.specs.declared.fault.RunFault.{RunFault}
 use Rattle.locked_desk.specs.declared.steps.Job.{Job}

@@ -14,15 +14,15 @@ use Rattle.undo_rules.specs.Steps.{commit_step, commit_unless, is_log_full, is_o
 use Rattle.undo_book.specs.declared.commit.CommitRefusal.{CommitRefusal}
 use Rattle.undo_book.specs.Calls.{TakesWork, refused, with_refused_work}
 use Rattle.undo_book.proofs.CommitLemmas.{own_work}
-use Rattle.desk_rules.specs.Legal.{ArePendingSound, Stepped, answer_of, opened_answer}
+use Rattle.desk_rules.specs.Legal.{ArePendingSound, Desk, Stepped, answer_of, on_base, opened_answer, refusal}
 use Rattle.desk_rules.proofs.MeantLemmas.{stepped_work}
 use Rattle.lay_layouts.specs.Layout.{Layout}
 use Rattle.undo_rules.specs.declared.log.Call.{Call}
 use Rattle.desk_rules.specs.declared.kept.Kept.{Kept}
-use Rattle.desk_rules.specs.Guards.{Desk}
 use Rattle.desk_rules.specs.Seats.{GainsLogged, MadeAt, MadeLogged, Seat, kept_call, with_kept}
 use Rattle.desk_rules.proofs.SeatLemmas.{gains_logged}
-use Rattle.locked_desk.specs.Desks.{OpensAt, by_book, commit_answer, commit_by_book, desk_answer, desk_commit_answer}
+use Rattle.locked_desk.specs.Desks.{OpensAt, by_book}
+use Rattle.locked_desk.specs.Desks.{commit_answer, commit_by_book, desk_answer, desk_commit_answer}
 
 pub answer_by_book : (done : Answer) (result : Result (Unit {0}) BookFault) → desk_answer done (by_book result) ≡ answer_of done result
 answer_by_book done (Ok value) = refl
@@ -86,22 +86,22 @@ refused_back h next work refusal (inr fails) =
     let e = fails.0 in with_work_err work (Err _) refusal e
 
 -- the seat gains what it keeps
-pub gains_kept : {old new : Seat} (answer told : Option Answer) (base : Layout) (sessions : ℕ) (h : History) (session : ℕ)
-    (own given kept : List Kept)
-    (call : Call) (place : ℕ) → record { session = session; own = own } ≡ old → record { session = session; own = kept } ≡ new
-    → given ≡ own
-    → kept ≡ with_kept answer session own call place → MadeLogged answer base sessions h session given call place → told ≡ answer
-    → GainsLogged told old call new
-gains_kept {old} {new} answer told base sessions h session own given kept call place old-is new-is given-is kept-is made told-is =
-    let here : MadeLogged answer base sessions h session own call place =
-    subst (λ (l : List Kept). MadeLogged answer base sessions h session l call place) given-is made in
-    let gains : GainsLogged answer (record { session = session; own = own }) call (record { session = session; own = kept }) =
-    subst (λ (l : List Kept). GainsLogged answer (record { session = session; own = own }) call
+pub gains_kept : {old new : Seat} (origin desk : Desk) (answer told : Option Answer) (base : Layout) (h : History) (session : ℕ)
+    (own given kept : List Kept) (call : Call) (place : ℕ) → origin ≡ desk → record { session = session; own = own } ≡ old
+    → record { session = session; own = kept } ≡ new → given ≡ own → kept ≡ with_kept answer session own call place
+    → MadeLogged answer (on_base base origin) h session given call place → told ≡ answer → GainsLogged desk told old call new
+gains_kept {old} {new} origin desk answer told base h session own given kept call place origin-is old-is new-is given-is kept-is made
+    told-is =
+    let here : MadeLogged answer (on_base base desk) h session own call place =
+    subst (λ (d : Desk). MadeLogged answer (on_base base d) h session own call place) origin-is
+    (subst (λ (l : List Kept). MadeLogged answer (on_base base origin) h session l call place) given-is made) in
+    let gains : GainsLogged desk answer (record { session = session; own = own }) call (record { session = session; own = kept }) =
+    subst (λ (l : List Kept). GainsLogged desk answer (record { session = session; own = own }) call
     (record { session = session; own = l })) (sym kept-is)
-    (gains_logged answer base sessions h (record { session = session; own = own }) call place here) in
-    subst (λ (a : Option Answer). GainsLogged a old call new) (sym told-is)
-    (subst (λ (s : Seat). GainsLogged answer old call s) new-is
-    (subst (λ (s : Seat). GainsLogged answer s call (record { session = session; own = kept })) old-is gains))
+    (gains_logged answer desk base h (record { session = session; own = own }) call place here) in
+    subst (λ (a : Option Answer). GainsLogged desk a old call new) (sym told-is)
+    (subst (λ (s : Seat). GainsLogged desk answer old call s) new-is
+    (subst (λ (s : Seat). GainsLogged desk answer s call (record { session = session; own = kept })) old-is gains))
 
 pub committed_named : (h next : History) (work : Transaction) (result : Result TxnId CommitRefusal)
     → TakesWork h work (commit_step h work) result next
@@ -116,37 +116,35 @@ committed_back h next work (Ok txn) takes = tt
 committed_back h next work (Err refusal) takes = refused_back h next work refusal takes
 
 -- a seat and a work of an accepted open
-pub opens_at : {old new : Seat} (desk : Desk) (work : Transaction) (result : Result Transaction BookFault) (h : History)
-    (sessions session : ℕ)
-    (own given kept : List Kept) (place : ℕ) → record { session = session; own = own } ≡ old
-    → record { session = session; own = kept } ≡ new
-    → given ≡ own → kept ≡ with_kept (opened_answer result) session own Open place
-    → MadeLogged (opened_answer result) h.base sessions h session given Open place → result ≡ Ok work
+pub opens_at : {old new : Seat} (origin desk : Desk) (work : Transaction) (result : Result Transaction BookFault) (h : History)
+    (session : ℕ)
+    (own given kept : List Kept) (place : ℕ) → origin ≡ desk → record { session = session; own = own } ≡ old
+    → record { session = session; own = kept } ≡ new → given ≡ own → kept ≡ with_kept (opened_answer result) session own Open place
+    → MadeLogged (opened_answer result) (on_base h.base origin) h session given Open place → result ≡ Ok work
     → IfOk result (λ w. (w.id.session ≡ session) × (w.opened ≡ place) × (w.snapshot ≡ h.layout) × (w.commands ≡ []))
-    → h.base ≡ desk.base → sessions ≡ desk.sessions → OpensAt desk old work new
-opens_at {old} {new} desk work result h sessions session own given kept place old-is new-is given-is kept-is made ok works base-is
-    sessions-is =
+    → h.base ≡ desk.base → OpensAt desk old work new
+opens_at {old} {new} origin desk work result h session own given kept place origin-is old-is new-is given-is kept-is made ok works base-is =
     let its = subst (λ (r : Result Transaction BookFault). IfOk r (λ w. (w.id.session ≡ session) × (w.opened ≡ place) ×
     (w.snapshot ≡ h.layout)
     × (w.commands ≡ []))) ok works in
     let told : opened_answer result ≡ Some (Opened work.id.txn) = ap opened_answer ok in
-    let one : MadeLogged (opened_answer result) h.base sessions h session own Open place =
-    subst (λ (l : List Kept). MadeLogged (opened_answer result) h.base sessions h session l Open place) given-is made in
-    let two : MadeLogged (Some (Opened work.id.txn)) h.base sessions h session own Open place =
-    subst (λ (a : Option Answer). MadeLogged a h.base sessions h session own Open place) told one in
-    let three : MadeAt h.base sessions h session own (kept_call work.opened session Open (Opened work.id.txn)) =
-    subst (λ (p : ℕ). MadeAt h.base sessions h session own (kept_call p session Open (Opened work.id.txn))) (sym its.1) two in
-    let four : MadeAt desk.base sessions h session own (kept_call work.opened session Open (Opened work.id.txn)) =
-    subst (λ (b : Layout). MadeAt b sessions h session own (kept_call work.opened session Open (Opened work.id.txn))) base-is three in
-    let five : MadeAt desk.base desk.sessions h session own (kept_call work.opened session Open (Opened work.id.txn)) =
-    subst (λ (n : ℕ). MadeAt desk.base n h session own (kept_call work.opened session Open (Opened work.id.txn))) sessions-is four in
+    let one : MadeLogged (opened_answer result) (on_base h.base desk) h session own Open place =
+    subst (λ (d : Desk). MadeLogged (opened_answer result) (on_base h.base d) h session own Open place) origin-is
+    (subst (λ (l : List Kept). MadeLogged (opened_answer result) (on_base h.base origin) h session l Open place) given-is made) in
+    let two : MadeLogged (Some (Opened work.id.txn)) (on_base h.base desk) h session own Open place =
+    subst (λ (a : Option Answer). MadeLogged a (on_base h.base desk) h session own Open place) told one in
+    let three : MadeAt (on_base h.base desk) h session own (kept_call work.opened session Open (Opened work.id.txn)) =
+    subst (λ (p : ℕ). MadeAt (on_base h.base desk) h session own (kept_call p session Open (Opened work.id.txn))) (sym its.1) two in
+    let four : MadeAt desk h session own (kept_call work.opened session Open (Opened work.id.txn)) =
+    subst (λ (b : Layout). MadeAt (on_base b desk) h session own (kept_call work.opened session Open (Opened work.id.txn))) base-is
+    three in
     let kept-as : kept ≡ own ++ kept_call work.opened session Open (Opened work.id.txn) ∷ [] =
     kept-is ∙ ap (λ (a : Option Answer). with_kept a session own Open place) told
     ∙ ap (λ (p : ℕ). own ++ kept_call p session Open (Opened work.id.txn) ∷ []) (sym its.1) in
     let opens : OpensAt desk (record { session = session; own = own }) work (record { session = session; own = kept }) = record {
       gained = ap (λ (l : List Kept). record { session = session; own = l }) kept-as;
       history = h;
-      at = five;
+      at = four;
       snapshot = its.2;
       session = its.0;
       commands = its.3;

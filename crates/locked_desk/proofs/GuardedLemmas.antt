@@ -1,5 +1,5 @@
 -- What is behind the lock at the start, and what its limit is behind a call.
-use Rattle.std.proofs.Common.{◌≡◌, ℕ, ◌≤◌, List, Option, None, Some, zero, suc, refl, ap, sym, ◌∙◌, subst}
+use Rattle.std.proofs.Common.{◌≡◌, ℕ, ◌≤◌, List, Option, None, Some, zero, suc, refl, ap, sym, subst}
 use Rattle.std.proofs.Common.{replicate, slice_index}
 use Rattle.std.proofs.lemmas.List.{length-replicate}
 use Rattle.lay_layouts.specs.Layout.{Layout}
@@ -17,6 +17,13 @@ limit_kept h next session call None stepped =
     let same : next ≡ h = grown h next session call None stepped in ap (λ (g : History). g.limit) same
 limit_kept h next session call (Some answer) stepped =
     let grew : Grew h session call answer next = grown h next session call (Some answer) stepped in grew.limit
+
+pub base_kept : (h next : History) (session : ℕ) (call : Call) (answer : Option Answer) → Stepped h session call answer next
+    → next.base ≡ h.base
+base_kept h next session call None stepped =
+    let same : next ≡ h = grown h next session call None stepped in ap (λ (g : History). g.base) same
+base_kept h next session call (Some answer) stepped =
+    let grew : Grew h session call answer next = grown h next session call (Some answer) stepped in grew.base
 
 zero_at : (n i : ℕ) → slice_index (replicate n 0) i ≡ 0
 zero_at zero i = refl

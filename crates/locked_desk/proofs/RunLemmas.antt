@@ -10,15 +10,18 @@ use Rattle.undo_rules.specs.declared.log.Answer.{Answer}
 use Rattle.undo_rules.specs.declared.log.Answer.TheVariants as answers
 use Rattle.undo_rules.specs.declared.log.Call.{Call}
 use Rattle.undo_rules.specs.declared.log.Call.TheVariants as calls
+use Rattle.undo_rules.specs.declared.log.BookFault.{BookFault}
+use Rattle.undo_rules.specs.Books.{History}
 use Rattle.desk_rules.specs.declared.kept.Kept.{Kept}
+use Rattle.desk_rules.specs.Refusals.{open_fault, redo_fault, undo_fault}
 use Rattle.session_steps.specs.declared.Reply.{Reply}
 use Rattle.session_steps.specs.declared.Reply.TheVariants as replies
 use Rattle.session_steps.specs.declared.Step.{Step}
 use Rattle.session_steps.specs.declared.Step.TheVariants.{Cancel, Commit, Do, Open, Redo, Undo}
 use Rattle.session_steps.specs.declared.StepFault.TheVariants as faults
-use Rattle.desk_rules.specs.Guards.{Desk}
+use Rattle.desk_rules.specs.Legal.{Desk}
 use Rattle.desk_rules.specs.Seats.{Gains, GainsLogged, Seat}
-use Rattle.locked_desk.specs.Desks.{OpensAt, open_call}
+use Rattle.locked_desk.specs.Desks.{OpensAt, commit_fault, open_call}
 use Rattle.locked_desk.specs.Runs.{AreAnswers, BookRefuses, CallsNothing, Changes, RanSteps, RunsCommand, StepsTo}
 use Rattle.locked_desk.specs.Runs.{logged_reply, reply_to_command}
 
@@ -54,17 +57,18 @@ abbrev pub GainsAny : Option Answer → Seat → Seat → Type 0
 GainsAny None old new = new ≡ old
 GainsAny (Some answer) old new = GainsSome old answer new
 
-gains_some : (answer : Answer) (old : Seat) (call : Call) (new : Seat) → Gains old call answer new → GainsSome old answer new
-gains_some answer old call new gains = record {
+gains_some : (d : Desk) (answer : Answer) (old : Seat) (call : Call) (new : Seat) → Gains d old call answer new → GainsSome old answer new
+gains_some d answer old call new gains = record {
   kept = record { place = gains.place; logged = record { session = old.session; call = call; answer = answer } };
   session = ap (λ (s : Seat). s.session) gains.gained;
   own = ap (λ (s : Seat). s.own) gains.gained;
   answered = refl;
 }
 
-gains_any : (answer : Option Answer) (old : Seat) (call : Call) (new : Seat) → GainsLogged answer old call new → GainsAny answer old new
-gains_any None old call new gains = gains
-gains_any (Some answer) old call new gains = gains_some answer old call new gains
+gains_any : (d : Desk) (answer : Option Answer) (old : Seat) (call : Call) (new : Seat) → GainsLogged d answer old call new
+    → GainsAny answer old new
+gains_any d None old call new gains = gains
+gains_any d (Some answer) old call new gains = gains_some d answer old call new gains
 
 opens_some : (d : Desk) (seat : Seat) (work : Transaction) (end : Seat) → OpensAt d seat work end
     → GainsSome seat (answers.Opened work.id.txn) end
@@ -80,17 +84,18 @@ stays_any : (answer : Reply) (seat : Seat) (held : Option Transaction) (reply : 
 stays_any answer seat held reply end next silent stays =
     subst (λ p. GainsAny p seat end) (sym (ap logged_reply stays.0 ∙ silent)) stays.1
 
-refuses_any : (seat : Seat) (call : Call) (reply : Reply) (end : Seat) → BookRefuses seat call reply end
-    → GainsAny (logged_reply reply) seat end
-refuses_any seat call reply end refused =
+refuses_any : (d : Desk) (seat : Seat) (call : Call) (step : History → Option BookFault) (reply : Reply) (end : Seat)
+    → BookRefuses d seat call step reply end → GainsAny (logged_reply reply) seat end
+refuses_any d seat call step reply end refused =
     subst (λ p. GainsAny (logged_reply p) seat end) (sym refused.replied)
-    (gains_any (logged_reply (replies.Fault (faults.Book refused.fault))) seat call end refused.gains)
+    (gains_any d (logged_reply (replies.Fault (faults.Book refused.fault))) seat call end refused.gains)
 
-changes_any : (done : Reply) (answer : Answer) (seat : Seat) (call : Call) (reply : Reply) (end : Seat) → logged_reply done ≡ Some answer
-    → Changes done answer seat call reply end → GainsAny (logged_reply reply) seat end
-changes_any done answer seat call reply end told (inl is) =
-    subst (λ p. GainsAny p seat end) (sym (ap logged_reply is.0 ∙ told)) (gains_some answer seat call end is.1)
-changes_any done answer seat call reply end told (inr refused) = refuses_any seat call reply end refused
+changes_any : (d : Desk) (done : Reply) (answer : Answer) (seat : Seat) (call : Call) (step : History → Option BookFault) (reply : Reply)
+    (end : Seat) → logged_reply done ≡ Some answer → Changes d done answer seat call step reply end
+    → GainsAny (logged_reply reply) seat end
+changes_any d done answer seat call step reply end told (inl is) =
+    subst (λ p. GainsAny p seat end) (sym (ap logged_reply is.0 ∙ told)) (gains_some d answer seat call end is.1)
+changes_any d done answer seat call step reply end told (inr refused) = refuses_any d seat call step reply end refused
 
 command_silent : (work : Transaction) (command : _) (reply : Reply) (after : Transaction) → RunsCommand work command reply after
     → logged_reply reply ≡ None
@@ -100,11 +105,11 @@ command_silent work command reply after (inl is) = ap logged_reply is.0 ∙ by _
   by (Ok done) = refl
   by (Err fault) = refl
 
-step_gains : (d : Desk) (held : Option Transaction) (seat : Seat) (step : Step) (reply : Reply) (end : Seat) (next : Option Transaction)
+pub step_gains : (d : Desk) (held : Option Transaction) (seat : Seat) (step : Step) (reply : Reply) (end : Seat) (next : Option Transaction)
     → StepsTo d held seat step reply end next → GainsAny (logged_reply reply) seat end
 step_gains d None seat Open reply end next (inl o) =
     subst (λ r. GainsAny (logged_reply r) seat end) (sym o.replied) (opens_some d seat o.work end o.opens)
-step_gains d None seat Open reply end next (inr r) = refuses_any seat calls.Open reply end r.0
+step_gains d None seat Open reply end next (inr r) = refuses_any d seat calls.Open (open_fault seat.session) reply end r.0
 step_gains d (Some work) seat Open reply end next to = stays_any (replies.Fault faults.AlreadyOpen) seat
     (Some work) reply end next refl to
 step_gains d None seat (Do c) reply end next to = stays_any (replies.Fault faults.NotOpen) seat None reply end next refl to
@@ -113,18 +118,19 @@ step_gains d (Some work) seat (Do c) reply end next to =
 step_gains d None seat Commit reply end next to = stays_any (replies.Fault faults.NotOpen) seat None reply end next refl to
 step_gains d (Some work) seat Commit reply end next (inl is) =
     subst (λ p. GainsAny (logged_reply p) seat end) (sym is.replied)
-    (gains_some answers.Committed seat (calls.Commit work.id work.commands) end is.gains)
-step_gains d (Some work) seat Commit reply end next (inr refused) =
-    subst (λ p. GainsAny (logged_reply p) seat end) (sym refused.replied)
-    (gains_any (logged_reply (replies.Fault (faults.Book refused.fault))) seat (calls.Commit work.id work.commands) end refused.gains)
+    (gains_some d answers.Committed seat (calls.Commit work.id work.commands) end is.gains)
+step_gains d (Some work) seat Commit reply end next (inr refuses) =
+    refuses_any d seat (calls.Commit work.id work.commands) (commit_fault seat.session work) reply end refuses.refused
 step_gains d None seat Cancel reply end next to = stays_any (replies.Fault faults.NotOpen) seat None reply end next refl to
 step_gains d (Some work) seat Cancel reply end next to = stays_any replies.Cancelled seat None reply end next refl to
-step_gains d None seat (Undo t) reply end next to = changes_any replies.Undone answers.Undone seat (calls.Undo t) reply end refl to.0
-step_gains d (Some work) seat (Undo t) reply end next to = changes_any replies.Undone answers.Undone seat
-    (calls.Undo t) reply end refl to.0
-step_gains d None seat (Redo t) reply end next to = changes_any replies.Redone answers.Redone seat (calls.Redo t) reply end refl to.0
-step_gains d (Some work) seat (Redo t) reply end next to = changes_any replies.Redone answers.Redone seat
-    (calls.Redo t) reply end refl to.0
+step_gains d None seat (Undo t) reply end next to =
+    changes_any d replies.Undone answers.Undone seat (calls.Undo t) (undo_fault seat.session t) reply end refl to.0
+step_gains d (Some work) seat (Undo t) reply end next to =
+    changes_any d replies.Undone answers.Undone seat (calls.Undo t) (undo_fault seat.session t) reply end refl to.0
+step_gains d None seat (Redo t) reply end next to =
+    changes_any d replies.Redone answers.Redone seat (calls.Redo t) (redo_fault seat.session t) reply end refl to.0
+step_gains d (Some work) seat (Redo t) reply end next to =
+    changes_any d replies.Redone answers.Redone seat (calls.Redo t) (redo_fault seat.session t) reply end refl to.0
 
 one_answer : (answer : Option Answer) (seat mid end : Seat) (given : List Reply) (reply : Reply) → logged_reply reply ≡ answer
     → AreAnswers seat given mid → GainsAny answer mid end → AreAnswers seat (given ++ reply ∷ []) end

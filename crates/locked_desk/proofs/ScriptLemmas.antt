@@ -1,14 +1,14 @@
 -- As many sessions reply as have scripts.
-use Rattle.std.proofs.Common.{◌≡◌, ◌≤◌, ◌+◌, ◌∙◌, ℕ, suc, List, [], ◌∷◌, length, take, min, arith, refl, ap}
+use Rattle.std.proofs.Common.{◌≡◌, ◌≤◌, ◌+◌, ℕ, suc, List, [], ◌∷◌, length, arith, refl, ap}
 use Rattle.std.proofs.lemmas.List.{length-take}
 use Rattle.lay_layouts.specs.Layout.{Layout}
 use Rattle.undo_rules.specs.Books.{History}
 use Rattle.session_steps.specs.declared.Reply.{Reply}
 use Rattle.session_steps.specs.declared.Step.{Step}
-use Rattle.desk_rules.specs.Guards.{Desk}
+use Rattle.desk_rules.specs.Legal.{Desk}
 use Rattle.desk_rules.specs.Seats.{Seat}
 use Rattle.locked_desk.specs.Runs.{AllRan}
-use Rattle.locked_desk.specs.Scripts.{RunsScripts, desk_scripts, or_one}
+use Rattle.locked_desk.specs.Scripts.{RunsScripts, desk_for, desk_scripts, or_one}
 
 pub few_scripts : (scripts : List (List Step)) → length (desk_scripts scripts) ≤ 64
 few_scripts scripts = let taken = length-take 64 (or_one scripts) in omega (arith, taken)
@@ -28,7 +28,7 @@ as_many desk n (s ∷ ss) (steps ∷ scripts) (r ∷ rs) [] ran = absurd ran
 pub few_replies : (base : Layout) (scripts : List (List Step)) (replies : List (List Reply)) (book : History)
     → RunsScripts base scripts replies book → length replies ≤ 64
 few_replies base scripts replies book run =
-    let same = as_many (record { base = base; sessions = length (desk_scripts scripts) }) 1 run.seats (desk_scripts scripts) replies
+    let same = as_many (desk_for base (desk_scripts scripts)) 1 run.seats (desk_scripts scripts) replies
     run.ends run.ran in
     let few = few_scripts scripts in
     omega (arith, same, few)

@@ -1,5 +1,5 @@
 -- What the calls of a desk answer.
-use Rattle.std.specs.Prelude.{◌≡◌, ℕ, List, [], Option, None, Some, Result, Ok, Err, ◌⊎◌, Bool, true, false}
+use Rattle.std.specs.Prelude.{◌≡◌, ℕ, ◌==◌, List, [], Option, None, Some, Result, Ok, Err, ◌⊎◌, Bool, true, false, if◌then◌else◌}
 use Rattle.txn_commands.specs.declared.command.TxnId.{TxnId}
 use Rattle.txn_commands.specs.Transactions.{Transaction}
 use Rattle.undo_rules.specs.declared.log.Answer.{Answer}
@@ -7,15 +7,14 @@ use Rattle.undo_rules.specs.declared.log.Answer.TheVariants.{Committed, Opened}
 use Rattle.undo_rules.specs.declared.log.BookFault.{BookFault}
 use Rattle.undo_rules.specs.declared.log.BookFault.TheVariants.{Foreign, LogFull, NoMemory}
 use Rattle.undo_rules.specs.declared.log.Call.TheVariants.{Open}
-use Rattle.undo_rules.specs.declared.log.Logged.{Logged}
 use Rattle.undo_rules.specs.Books.{History}
-use Rattle.undo_rules.specs.Steps.{is_log_full}
+use Rattle.undo_rules.specs.Steps.{commit_step, is_log_full}
 use Rattle.undo_book.specs.declared.commit.CommitRefusal.{CommitRefusal}
 use Rattle.undo_book.specs.Calls.{handed_back}
 use Rattle.desk_rules.specs.declared.kept.Kept.{Kept}
-use Rattle.desk_rules.specs.Close.{missing_place}
-use Rattle.desk_rules.specs.Guards.{Desk}
-use Rattle.desk_rules.specs.Legal.{refusal}
+use Rattle.desk_rules.specs.Close.{Misses}
+use Rattle.desk_rules.specs.Legal.{Desk, refusal}
+use Rattle.desk_rules.specs.Refusals.{IsRefused, fault_in}
 use Rattle.desk_rules.specs.Seats.{Gains, GainsLogged, MadeAt, Seat, kept_call, last_of, place_or_zero, seat_with_call}
 use Rattle.locked_desk.specs.declared.fault.DeskFault.{DeskFault}
 use Rattle.locked_desk.specs.declared.fault.DeskFault.TheVariants.{Book, Differs}
@@ -45,29 +44,33 @@ abbrev pub by_book : {T : Type 0} → Result T BookFault → Result T DeskFault
 by_book (Ok value) = Ok value
 by_book (Err fault) = Err (Book fault)
 
+-- a refusal by the book is its step's after a legal log from the desk, or memory was refused
+abbrev pub IsRefusedAs : Desk → Seat → (History → Option BookFault) → DeskFault → Type 0
+IsRefusedAs desk seat step (Book fault) = IsRefused desk seat step fault
+IsRefusedAs desk seat step (Differs session place) = Unit {0}
+
 -- ---- open
 
 -- the call of an open that made this work
 abbrev pub open_call : Seat → Transaction → Kept
 open_call seat work = kept_call work.opened seat.session Open (Opened work.id.txn)
 
--- the seat gains the open, of which there is such a log from the desk's base and sessions, and the work begins on the layout
--- after it
+-- the seat gains the open, of which there is such a log from the desk, and the work begins on the layout after it
 pub record OpensAt (desk : Desk) (old : Seat) (work : Transaction) (new : Seat) : Type 0 where
   pub gained : new ≡ seat_with_call old (open_call old work)
   pub history : History
-  pub at : MadeAt desk.base desk.sessions history old.session old.own (open_call old work)
+  pub at : MadeAt desk history old.session old.own (open_call old work)
   pub snapshot : work.snapshot ≡ history.layout
   pub session : work.id.session ≡ old.session
   pub commands : work.commands ≡ []
 
--- the book answers so, or the desk's own look differs. Where the lock doesn't have the desk's base or sessions the call is logged
+-- the book answers so, or the desk's own look differs. Where the lock doesn't have the desk's base the call is logged
 abbrev pub Opens : Desk → Result Transaction DeskFault → Seat → Seat → Type 0
 Opens desk (Ok work) old new = OpensAt desk old work new
-Opens desk (Err (Book fault)) old new = GainsLogged (refusal fault) old Open new
+Opens desk (Err (Book fault)) old new = GainsLogged desk (refusal fault) old Open new
 Opens desk (Err (Differs session place)) old new =
     ((new ≡ old) × (Differs session place ≡ differs_refusal old.session old.own))
-    ⊎ ((session ≡ 0) × (place ≡ 0) × (number : ℕ) × Gains old Open (Opened number) new)
+    ⊎ ((session ≡ 0) × (place ≡ 0) × (number : ℕ) × Gains desk old Open (Opened number) new)
 
 -- ---- commit
 
@@ -102,25 +105,22 @@ full_or_foreign false = Foreign
 abbrev pub other_fault : History → BookFault
 other_fault h = full_or_foreign (is_log_full h)
 
+-- what a session's commit is refused with, where it is: a work of another session doesn't come to the book
+abbrev pub commit_fault : ℕ → Transaction → History → Option BookFault
+commit_fault session work h = if work.id.session == session then fault_in (commit_step h work).0 else Some (other_fault h)
+
 -- ---- the look at the log
 
 -- the look at the last call found no such log, or memory was refused
 abbrev pub IsLooked : DeskFault → ℕ → List Kept → Type 0
 IsLooked fault session own = (fault ≡ Book NoMemory) ⊎ (fault ≡ differs_refusal session own)
 
--- the same of a look at all calls, which names the first that is missing
-abbrev pub IsLookedAt : Option ℕ → DeskFault → ℕ → List Kept → Type 0
-IsLookedAt (Some place) fault session own = fault ≡ Differs session place
-IsLookedAt None fault session own = IsLooked fault session own
-
-abbrev pub IsLookedThrough : DeskFault → ℕ → List Kept → List Logged → Type 0
-IsLookedThrough fault session own log = IsLookedAt (missing_place log own) fault session own
-
--- no memory is left for a snapshot, or the refusal names the seat's session, or 0 where the lock doesn't have what the
--- desk was made with
-abbrev pub IsShownFault : DeskFault → Seat → Type 0
-IsShownFault (Book fault) seat = fault ≡ NoMemory
-IsShownFault (Differs session place) seat = (session ≡ seat.session) ⊎ ((session ≡ 0) × (place ≡ 0))
+-- no memory is left for a snapshot, or the refusal names the first of the seat's calls that a legal log from the desk doesn't
+-- have, or 0 where the lock doesn't have what the desk was made with
+abbrev pub IsShownFault : Desk → Seat → DeskFault → Type 0
+IsShownFault desk seat (Book fault) = fault ≡ NoMemory
+IsShownFault desk seat (Differs session place) =
+    ((session ≡ seat.session) × Misses desk seat place) ⊎ ((session ≡ 0) × (place ≡ 0))
 
 -- so a commit of a work of another session than the seat's is answered
 abbrev pub IsOtherFault : DeskFault → Type 0

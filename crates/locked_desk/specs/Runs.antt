@@ -21,12 +21,12 @@ use Rattle.session_steps.specs.declared.Step.TheVariants.{Cancel, Commit, Do, Op
 use Rattle.session_steps.specs.declared.StepFault.TheVariants.{AlreadyOpen, Book, Command as CommandFault, NotOpen}
 use Rattle.desk_rules.specs.declared.kept.Kept.{Kept}
 use Rattle.desk_rules.specs.Close.{IsClosed}
-use Rattle.desk_rules.specs.Guards.{Desk}
-use Rattle.desk_rules.specs.Legal.{refusal}
+use Rattle.desk_rules.specs.Legal.{Desk, refusal}
+use Rattle.desk_rules.specs.Refusals.{IsRefused, open_fault, redo_fault, undo_fault}
 use Rattle.desk_rules.specs.Seats.{GainsLogged, Seat}
 use Rattle.locked_desk.specs.declared.fault.DeskFault.{DeskFault}
 use Rattle.locked_desk.specs.declared.fault.DeskFault.TheVariants.{Book as DeskBook, Differs}
-use Rattle.locked_desk.specs.Desks.{OpensAt}
+use Rattle.locked_desk.specs.Desks.{OpensAt, commit_fault}
 
 -- the answer in the log of a step that was answered so, where it is logged
 abbrev pub logged_reply : Reply → Option Answer
@@ -46,11 +46,13 @@ pub record OpensSo (desk : Desk) (seat : Seat) (reply : Reply) (end : Seat) (nex
   pub holds : next ≡ Some work
   pub opens : OpensAt desk seat work end
 
--- the book refuses the call, which is in the seat where it is logged
-pub record BookRefuses (seat : Seat) (call : Call) (reply : Reply) (end : Seat) : Type 0 where
+-- the book refuses the call as its step does after such a log, and the seat has the call where it is logged
+pub record BookRefuses (desk : Desk) (seat : Seat) (call : Call) (step : History → Option BookFault) (reply : Reply) (end : Seat)
+    : Type 0 where
   pub fault : BookFault
   pub replied : reply ≡ Fault (Book fault)
-  pub gains : GainsLogged (refusal fault) seat call end
+  pub gains : GainsLogged desk (refusal fault) seat call end
+  pub cause : IsRefused desk seat step fault
 
 abbrev pub reply_to_command : Result dones.Done CmdFault → Reply
 reply_to_command (Ok done) = Done done
@@ -63,20 +65,21 @@ RunsCommand work command reply next =
     ⊎ ((reply ≡ Fault (CommandFault NoMemory)) × (next ≡ work))
 
 -- the work is committed, or refused by the book and handed back unless it was stale
-pub record CommitsSo (seat : Seat) (work : Transaction) (reply : Reply) (end : Seat) (next : Option Transaction) : Type 0 where
+pub record CommitsSo (desk : Desk) (seat : Seat) (work : Transaction) (reply : Reply) (end : Seat) (next : Option Transaction)
+    : Type 0 where
   pub replied : reply ≡ Committed work.id
-  pub gains : GainsLogged (Some answers.Committed) seat (calls.Commit work.id work.commands) end
+  pub gains : GainsLogged desk (Some answers.Committed) seat (calls.Commit work.id work.commands) end
   pub ended : next ≡ None
 
-pub record RefusesWork (seat : Seat) (work : Transaction) (reply : Reply) (end : Seat) (next : Option Transaction) : Type 0 where
-  pub fault : BookFault
-  pub replied : reply ≡ Fault (Book fault)
-  pub gains : GainsLogged (refusal fault) seat (calls.Commit work.id work.commands) end
-  pub back : next ≡ handed_back fault work
+pub record RefusesWork (desk : Desk) (seat : Seat) (work : Transaction) (reply : Reply) (end : Seat) (next : Option Transaction)
+    : Type 0 where
+  pub refused : BookRefuses desk seat (calls.Commit work.id work.commands) (commit_fault seat.session work) reply end
+  pub back : next ≡ handed_back refused.fault work
 
 -- the call is answered so and in the seat, or it is refused
-abbrev pub Changes : Reply → Answer → Seat → Call → Reply → Seat → Type 0
-Changes done answer seat call reply end = ((reply ≡ done) × GainsLogged (Some answer) seat call end) ⊎ BookRefuses seat call reply end
+abbrev pub Changes : Desk → Reply → Answer → Seat → Call → (History → Option BookFault) → Reply → Seat → Type 0
+Changes desk done answer seat call step reply end =
+    ((reply ≡ done) × GainsLogged desk (Some answer) seat call end) ⊎ BookRefuses desk seat call step reply end
 
 -- the reply to an undo or a redo
 abbrev pub RepliesTo : Result (Unit {0}) DeskFault → Reply → Reply → Type 0
@@ -90,17 +93,19 @@ CallsNothing answer seat held reply end next = (reply ≡ answer) × (end ≡ se
 
 abbrev pub StepsTo : Desk → Option Transaction → Seat → Step → Reply → Seat → Option Transaction → Type 0
 StepsTo desk None seat Open reply end next =
-    OpensSo desk seat reply end next ⊎ (BookRefuses seat calls.Open reply end × (next ≡ None))
+    OpensSo desk seat reply end next ⊎ (BookRefuses desk seat calls.Open (open_fault seat.session) reply end × (next ≡ None))
 StepsTo desk (Some work) seat Open reply end next = CallsNothing (Fault AlreadyOpen) seat (Some work) reply end next
 StepsTo desk None seat (Do command) reply end next = CallsNothing (Fault NotOpen) seat None reply end next
 StepsTo desk (Some work) seat (Do command) reply end next =
     (end ≡ seat) × (after : Transaction) × RunsCommand work command reply after × (next ≡ Some after)
 StepsTo desk None seat Commit reply end next = CallsNothing (Fault NotOpen) seat None reply end next
-StepsTo desk (Some work) seat Commit reply end next = CommitsSo seat work reply end next ⊎ RefusesWork seat work reply end next
+StepsTo desk (Some work) seat Commit reply end next = CommitsSo desk seat work reply end next ⊎ RefusesWork desk seat work reply end next
 StepsTo desk None seat Cancel reply end next = CallsNothing (Fault NotOpen) seat None reply end next
 StepsTo desk (Some work) seat Cancel reply end next = CallsNothing Cancelled seat None reply end next
-StepsTo desk held seat (Undo txn) reply end next = Changes Undone answers.Undone seat (calls.Undo txn) reply end × (next ≡ held)
-StepsTo desk held seat (Redo txn) reply end next = Changes Redone answers.Redone seat (calls.Redo txn) reply end × (next ≡ held)
+StepsTo desk held seat (Undo txn) reply end next =
+    Changes desk Undone answers.Undone seat (calls.Undo txn) (undo_fault seat.session txn) reply end × (next ≡ held)
+StepsTo desk held seat (Redo txn) reply end next =
+    Changes desk Redone answers.Redone seat (calls.Redo txn) (redo_fault seat.session txn) reply end × (next ≡ held)
 
 -- ---- all steps of a session
 

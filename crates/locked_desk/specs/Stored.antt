@@ -4,7 +4,8 @@ use Rattle.std.specs.Coded.{Coded, code_by, coded×, coded_list, coded_ℕ}
 use Rattle.lay_layouts.specs.Layout.{Layout, coded_layout}
 use Rattle.undo_rules.specs.Books.{History}
 use Rattle.undo_book.specs.Coded.{coded_history}
-use Rattle.desk_rules.specs.Guards.{Desk, Guard}
+use Rattle.desk_rules.specs.Guards.{Guard}
+use Rattle.desk_rules.specs.Legal.{Desk}
 
 abbrev pub coded_guard : Coded Guard
 coded_guard =
@@ -14,5 +15,5 @@ coded_guard =
 
 abbrev pub coded_desk : Coded Desk
 coded_desk =
-    code_by (Layout × ℕ) (coded× coded_layout coded_ℕ) (λ d. (d.base, d.sessions)) (λ p. record { base = p.0; sessions = p.1 })
-    (λ _. refl)
+    code_by (Layout × (ℕ × ℕ)) (coded× coded_layout (coded× coded_ℕ coded_ℕ)) (λ d. (d.base, (d.sessions, d.limit)))
+    (λ p. record { base = p.0; sessions = p.1.0; limit = p.1.1 }) (λ _. refl)

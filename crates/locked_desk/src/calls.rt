@@ -1,20 +1,23 @@
 //! The calls of a session: open, commit, undo and redo.
-ghost use Rattle.std.specs.Prelude.{◌≡◌, ◌≢◌, ◌<◌, IfErr, IfOk, vec_capacity, vec_len};
+ghost use Rattle.std.specs.Prelude.{◌≡◌, ◌≢◌, ◌<◌, Err, IfErr, IfOk, vec_capacity, vec_len};
 ghost use Rattle.desk_rules.specs.Legal.{answer_of, opened_answer, refusal};
+ghost use Rattle.desk_rules.specs.Refusals.{open_fault, redo_fault, undo_fault};
 ghost use Rattle.desk_rules.specs.Seats.{GainsLogged, with_kept};
 ghost use Rattle.locked_desk.specs.Desks.{
   IsOther,
+  IsRefusedAs,
   NamesSeat,
   Opens,
   by_book,
   commit_answer,
   commit_by_book,
+  commit_fault,
   desk_answer,
 };
 ghost use Rattle.locked_desk.specs.Desks.{desk_commit_answer, desk_refused};
-ghost use Rattle.locked_desk.specs.Ways.{answer_for, call_for};
+ghost use Rattle.locked_desk.specs.Ways.{answer_for, call_for, fault_for};
 
-use crate::desk::Desk;
+use crate::desk::{Desk, is_same};
 use crate::fault::{DeskFault, DeskRefusal};
 use crate::guarded::differs;
 use crate::seat::Seat;
@@ -35,15 +38,18 @@ impl<L: Ledger> Desk<L> {
     /// # Errors
     ///
     /// `Differs`, with nothing changed, if the log doesn't have the seat's last call at its place, or not as many calls of
-    /// the session; `Book` with the book's refusal; `Differs` of session 0, the call then being logged, if the base or the
-    /// number of sessions isn't the desk's own. `NoMemory` can stand in place of any answer.
+    /// the session, or what is behind the lock isn't the desk's own; `Book` with the book's refusal, which is never `Foreign`;
+    /// `Differs` of session 0, the call then being logged, if only the base isn't the desk's own. `NoMemory` can stand in
+    /// place of any answer.
     pub fn open<R: Wait>(
         &self,
         rt: &R,
         alloc: Global,
         seat: &mut Seat<L>,
     ) -> Result<Work, DeskFault>
-        ensures { Opens self.now result seat.old seat.new }
+        ensures opens { Opens self.now result seat.old seat.new }
+        ensures refused { IfErr result (λ fault. IsRefusedAs self.now seat.old (open_fault seat.old.session) fault) }
+        ensures own { result ≢ Err (DeskFault.Book BookFault.Foreign) }
     {
         let Seat {
             session,
@@ -56,8 +62,8 @@ impl<L: Ledger> Desk<L> {
         let opened = self
             .lock
             .lock(rt)
-            .open(alloc, *session, own.as_slice(), share);
-        let (result, place, base, sessions) = match opened {
+            .open(alloc, &self.origin, *session, own.as_slice(), share);
+        let (result, place, base) = match opened {
             Ok(done) => done,
             Err(fault) => return Err(fault),
         };
@@ -65,7 +71,7 @@ impl<L: Ledger> Desk<L> {
         keep(own, *session, Call::Open, place, answer);
         match result {
             Ok(work) => {
-                if !self.is_own(&base, sessions) {
+                if !is_same(&base, &self.origin.base) {
                     return Err(DeskFault::Differs {
                         session: 0,
                         place: 0,
@@ -82,7 +88,8 @@ impl<L: Ledger> Desk<L> {
     /// # Errors
     ///
     /// `Differs`, with nothing changed, as in `open`; `Book` with the book's refusal, which is `Foreign`, after `LogFull`,
-    /// for a work of another session. The work is handed back, unless it was stale and has ended.
+    /// for a work of another session. The work is handed back, unless it was stale and has ended. `NoMemory` can stand in
+    /// place of any answer.
     pub fn commit<R: Wait>(
         &self,
         rt: &R,
@@ -90,11 +97,12 @@ impl<L: Ledger> Desk<L> {
         seat: &mut Seat<L>,
         work: Work,
     ) -> Result<TxnId, DeskRefusal>
-        ensures gains { GainsLogged (desk_commit_answer result) seat.old (Call.Commit work.id work.commands) seat.new }
+        ensures gains { GainsLogged self.now (desk_commit_answer result) seat.old (Call.Commit work.id work.commands) seat.new }
         ensures txn { IfOk result (λ txn. txn ≡ work.id) }
         ensures back { IfErr result (λ refusal. refusal ≡ desk_refused refusal.fault work) }
         ensures named { IfErr result (λ refusal. NamesSeat refusal.fault seat.old) }
         ensures foreign { work.id.session ≢ seat.old.session → IsOther result }
+        ensures refused { IfErr result (λ refusal. IsRefusedAs self.now seat.old (commit_fault seat.old.session work) refusal.fault) }
     {
         let Seat {
             session,
@@ -114,7 +122,7 @@ impl<L: Ledger> Desk<L> {
         let committed = self
             .lock
             .lock(rt)
-            .commit(alloc, *session, own.as_slice(), share, work);
+            .commit(alloc, &self.origin, *session, own.as_slice(), share, work);
         let (result, place) = match committed {
             Ok(done) => done,
             Err(work) => return Err(refused(differs(*session, own.as_slice()), work)),
@@ -128,7 +136,8 @@ impl<L: Ledger> Desk<L> {
     ///
     /// # Errors
     ///
-    /// `Differs`, with nothing changed, as in `open`; `Book` with the book's refusal.
+    /// `Differs`, with nothing changed, as in `open`; `Book` with the book's refusal, which is never `Foreign`. `NoMemory` can
+    /// stand in place of any answer.
     pub fn undo<R: Wait>(
         &self,
         rt: &R,
@@ -136,8 +145,10 @@ impl<L: Ledger> Desk<L> {
         seat: &mut Seat<L>,
         txn: TxnId,
     ) -> Result<(), DeskFault>
-        ensures gains { GainsLogged (desk_answer Answer.Undone result) seat.old (Call.Undo txn) seat.new }
+        ensures gains { GainsLogged self.now (desk_answer Answer.Undone result) seat.old (Call.Undo txn) seat.new }
         ensures named { IfErr result (λ fault. NamesSeat fault seat.old) }
+        ensures refused { IfErr result (λ fault. IsRefusedAs self.now seat.old (undo_fault seat.old.session txn) fault) }
+        ensures own { result ≢ Err (DeskFault.Book BookFault.Foreign) }
     {
         self.change(rt, alloc, seat, Way::Back, txn)
     }
@@ -146,7 +157,8 @@ impl<L: Ledger> Desk<L> {
     ///
     /// # Errors
     ///
-    /// `Differs`, with nothing changed, as in `open`; `Book` with the book's refusal.
+    /// `Differs`, with nothing changed, as in `open`; `Book` with the book's refusal, which is never `Foreign`. `NoMemory` can
+    /// stand in place of any answer.
     pub fn redo<R: Wait>(
         &self,
         rt: &R,
@@ -154,8 +166,10 @@ impl<L: Ledger> Desk<L> {
         seat: &mut Seat<L>,
         txn: TxnId,
     ) -> Result<(), DeskFault>
-        ensures gains { GainsLogged (desk_answer Answer.Redone result) seat.old (Call.Redo txn) seat.new }
+        ensures gains { GainsLogged self.now (desk_answer Answer.Redone result) seat.old (Call.Redo txn) seat.new }
         ensures named { IfErr result (λ fault. NamesSeat fault seat.old) }
+        ensures refused { IfErr result (λ fault. IsRefusedAs self.now seat.old (redo_fault seat.old.session txn) fault) }
+        ensures own { result ≢ Err (DeskFault.Book BookFault.Foreign) }
     {
         self.change(rt, alloc, seat, Way::Forth, txn)
     }
@@ -169,8 +183,10 @@ impl<L: Ledger> Desk<L> {
         way: Way,
         txn: TxnId,
     ) -> Result<(), DeskFault>
-        ensures gains { GainsLogged (desk_answer (answer_for way) result) seat.old (call_for way txn) seat.new }
+        ensures gains { GainsLogged self.now (desk_answer (answer_for way) result) seat.old (call_for way txn) seat.new }
         ensures named { IfErr result (λ fault. NamesSeat fault seat.old) }
+        ensures refused { IfErr result (λ fault. IsRefusedAs self.now seat.old (fault_for way seat.old.session txn) fault) }
+        ensures own { result ≢ Err (DeskFault.Book BookFault.Foreign) }
     {
         let Seat {
             session,
@@ -180,10 +196,15 @@ impl<L: Ledger> Desk<L> {
         if own.reserve(1).is_err() {
             return Err(DeskFault::Book(BookFault::NoMemory));
         }
-        let changed = self
-            .lock
-            .lock(rt)
-            .change(alloc, *session, own.as_slice(), share, way, txn);
+        let changed = self.lock.lock(rt).change(
+            alloc,
+            &self.origin,
+            *session,
+            own.as_slice(),
+            share,
+            way,
+            txn,
+        );
         let (result, place) = match changed {
             Ok(done) => done,
             Err(fault) => return Err(fault),

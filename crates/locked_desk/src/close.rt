@@ -8,13 +8,13 @@ ghost use Rattle.desk_rules.specs.Close.{
   missing_call,
   own_total,
 };
-ghost use Rattle.locked_desk.specs.Closing.{IsOtherBase, IsRefusedClose};
+ghost use Rattle.locked_desk.specs.Closing.{Began, IsOtherOrigin, IsRefusedClose};
 
 use crate::desk::{Desk, is_same};
 use crate::guarded::Guarded;
+use crate::origin::Origin;
 use crate::seat::Seat;
 use desk_rules::missing_place;
-use lay_items::Snapshot;
 use std::sync::ledger;
 use std::sync::ledger::{Ledger, Share};
 use undo_book::Book;
@@ -40,7 +40,7 @@ pub enum CloseRefusal<L: Ledger> {
         seats: Vec<Seat<L>>,
     },
     /// The log doesn't have this call of a seat at its place; or, with session 0 and place 0, the book hasn't
-    /// the layout that the desk was made with.
+    /// the layout and the limit that the desk was made with.
     Differs {
         /// The session, or 0.
         session: u8,
@@ -59,7 +59,7 @@ impl<L: Ledger> Desk<L> {
     /// # Errors
     ///
     /// `MissingSeat`, if a session has none, then `Differs`, if the log doesn't have a call of a seat at its place, or the
-    /// book not the desk's base. All is handed back.
+    /// book not the desk's base and limit. All is handed back.
     ///
     /// # Cost
     ///
@@ -68,7 +68,7 @@ impl<L: Ledger> Desk<L> {
         ensures closed { IfOk result (λ closed. IsClosed self seats.items closed.book) }
         ensures refused { IfErr result (λ refusal. IsRefusedClose self seats.items refusal) }
     {
-        match missing_seat(seats.as_slice(), self.sessions.number) {
+        match missing_seat(seats.as_slice(), self.origin.sessions) {
             Some(session) => Err(CloseRefusal::MissingSeat {
                 session,
                 desk: self,
@@ -85,15 +85,11 @@ fn close_all<L: Ledger>(desk: Desk<L>, seats: Vec<Seat<L>>) -> Result<Closed, Cl
     ensures closed { IfOk result (λ closed. IsClosed desk seats.items closed.book) }
     ensures refused { IfErr result (λ refusal. IsRefusedClose desk seats.items refusal) }
 {
-    let Desk {
-        base,
-        sessions: _,
-        lock,
-    } = desk;
+    let Desk { origin, lock } = desk;
     let Guarded {
         sessions: _,
         book,
-        limit: _,
+        limit,
         counts: _,
         calls,
     } = lock.into_inner();
@@ -106,20 +102,22 @@ fn close_all<L: Ledger>(desk: Desk<L>, seats: Vec<Seat<L>>) -> Result<Closed, Cl
             book,
             seats,
         }),
-        None => by_base(&base, book, seats),
+        None => by_origin(&origin, book, limit, seats),
     }
 }
 
-/// Ends a desk whose log has all calls of the seats, if its book has the desk's base.
-fn by_base<L: Ledger>(
-    base: &Snapshot,
+/// Ends a desk whose log has all calls of the seats, if its book has the desk's base and limit.
+fn by_origin<L: Ledger>(
+    origin: &Origin,
     book: Book,
+    limit: u32,
     seats: Vec<Seat<L>>,
 ) -> Result<Closed, CloseRefusal<L>>
-    ensures closed { IfOk result (λ closed. (closed.book ≡ book) × (book.base ≡ base.now)) }
-    ensures refused { IfErr result (λ refusal. IsOtherBase base.now seats.items book refusal) }
+    requires { limit ≡ book.limit }
+    ensures closed { IfOk result (λ closed. (closed.book ≡ book) × Began origin.now book) }
+    ensures refused { IfErr result (λ refusal. IsOtherOrigin origin.now seats.items book refusal) }
 {
-    if is_same(book.base(), base) {
+    if limit == origin.limit && is_same(book.base(), &origin.base) {
         return Ok(Closed { book });
     }
     Err(CloseRefusal::Differs {

@@ -1,44 +1,40 @@
 //! Desks.
 ghost use Rattle.std.specs.Prelude.{◌≡◌, ◌≢◌, ◌≤◌, IfOk, false, true, replicate};
+ghost use Rattle.undo_rules.specs.Steps.{fresh};
+ghost use Rattle.undo_book.specs.declared.book.TheConstants.{MAX_CALLS};
 ghost use Rattle.desk_rules.specs.Close.{empty_seats};
 
 use crate::guarded::{Guarded, fresh_guard};
+use crate::origin::Origin;
 use crate::seat::{Seat, empty_seat};
 use lay_items::Snapshot;
 use lay_point::NoMemory;
 use std::alloc::Global;
-use std::marker::{Model, PhantomData};
-use std::sync::Mutex;
+use std::marker::Model;
 use std::sync::ledger::{Blank, Ledger, Share};
+use std::sync::{Mutex, ledger};
 use undo_book::{Book, MAX_CALLS};
 
-/// How many sessions a desk has, which is the number of its ledger's parts.
-#[derive(Drop)]
-pub(crate) struct Sessions<L: Ledger> {
-    pub(crate) number: u8,
-    of: PhantomData<L>,
-    ghost all: { number ≡ L.parts },
-    ghost some: { (1 ≤ number) × (number ≤ 64) },
-}
-
 /// A book under a lock, with a fixed number of sessions. `L` tells its seats from those of other desks.
-/// Contracts see the layout that it was made with, and the number of sessions.
+/// Contracts see the layout that it was made with, the number of sessions and the most logged calls.
 #[derive(Drop)]
 pub struct Desk<L: Ledger> {
-    pub(crate) base: Snapshot,
-    pub(crate) sessions: Sessions<L>,
+    pub(crate) origin: Origin,
     pub(crate) lock: Mutex<Guarded<L>>,
 }
 
 impl<L: Ledger> Model for Desk<L> {
-    ghost use Rattle.desk_rules.specs.Guards.{Desk};
+    ghost use Rattle.std.specs.Prelude.{◌≡◌, ◌≤◌};
+    ghost use Rattle.desk_rules.specs.Legal.{Desk};
     ghost use Rattle.locked_desk.specs.Stored.{coded_desk};
 
     ghost Value = { Desk };
 
     ghost coded = { coded_desk };
 
-    ghost view = { λ d. record { base = d.base; sessions = d.sessions.number } };
+    ghost view = { λ d. d.origin };
+
+    ghost invariant = { λ d. (d.origin.sessions ≡ L.parts) × (1 ≤ d.origin.sessions) × (d.origin.sessions ≤ 64) };
 }
 
 impl<L: Ledger> Desk<L> {
@@ -59,7 +55,7 @@ impl<L: Ledger> Desk<L> {
         requires one_each { blank.parts ≡ sessions }
         requires low { 1 ≤ sessions }
         requires high { sessions ≤ 64 }
-        ensures desk { IfOk result (λ r. r.0 ≡ record { base = base; sessions = sessions }) }
+        ensures desk { IfOk result (λ r. r.0 ≡ record { base = base; sessions = sessions; limit = MAX_CALLS }) }
         ensures seats { IfOk result (λ r. r.1.items ≡ empty_seats sessions) }
     {
         Desk::with_log(alloc, base, sessions, MAX_CALLS, blank)
@@ -84,14 +80,18 @@ impl<L: Ledger> Desk<L> {
         requires high { sessions ≤ 64 }
         requires some { 1 ≤ limit }
         requires most { limit ≤ MAX_CALLS }
-        ensures desk { IfOk result (λ r. r.0 ≡ record { base = base; sessions = sessions }) }
+        ensures desk { IfOk result (λ r. r.0 ≡ record { base = base; sessions = sessions; limit = limit }) }
         ensures seats { IfOk result (λ r. r.1.items ≡ empty_seats sessions) }
     {
         let (calls, rest) = blank.open::<L>();
         let (seats, counts) = seats_of(alloc, sessions, rest)?;
         let book = Book::with_log(alloc, base.share(alloc)?, limit)?;
-        let lock = Mutex::new(fresh_guard(sessions, book, limit, counts, calls));
-        Ok((new_desk(base, sessions, lock), seats))
+        let origin = Origin {
+            base,
+            sessions,
+            limit,
+        };
+        Ok((new_desk(origin, book, counts, calls), seats))
     }
 
     /// Returns the number of sessions.
@@ -100,14 +100,7 @@ impl<L: Ledger> Desk<L> {
         ensures parts { result ≡ L.parts }
         ensures range { (1 ≤ result) × (result ≤ 64) }
     {
-        self.sessions.number
-    }
-
-    /// Returns whether this is the layout and the number of sessions that the desk was made with.
-    pub(crate) fn is_own(&self, base: &Snapshot, sessions: u8) -> bool
-        ensures { result ≡ true → (base.now ≡ self.now.base) × (sessions ≡ self.now.sessions) }
-    {
-        is_same(base, &self.base) && sessions == self.sessions.number
+        self.origin.sessions
     }
 }
 
@@ -141,19 +134,23 @@ fn seats_of<L: Ledger>(
     Ok((seats, counts))
 }
 
-/// Returns a desk of as many sessions as the ledger has parts.
-fn new_desk<L: Ledger>(base: Snapshot, sessions: u8, lock: Mutex<Guarded<L>>) -> Desk<L>
-    requires all { sessions ≡ L.parts }
-    requires some { (1 ≤ sessions) × (sessions ≤ 64) }
-    ensures { result ≡ record { base = base; sessions = sessions } }
+/// Returns a desk of this origin, with as many sessions as the ledger has parts.
+fn new_desk<L: Ledger>(
+    origin: Origin,
+    book: Book,
+    counts: Vec<usize>,
+    calls: ledger::Book<L>,
+) -> Desk<L>
+    requires all { origin.sessions ≡ L.parts }
+    requires some { (1 ≤ origin.sessions) × (origin.sessions ≤ 64) }
+    requires book { book ≡ fresh origin.base origin.limit }
+    requires counts { counts.items ≡ replicate origin.sessions 0 }
+    requires calls { calls.total ≡ 0 }
+    ensures { result ≡ origin }
 {
-    let sessions = Sessions {
-        number: sessions,
-        of: PhantomData,
-    };
+    let guarded = fresh_guard(origin.sessions, book, origin.limit, counts, calls);
     Desk {
-        base,
-        sessions,
-        lock,
+        origin,
+        lock: Mutex::new(guarded),
     }
 }

@@ -6,7 +6,7 @@
 //! # Model
 //!
 //! - [`Desk`] is a book under a lock, with a fixed number of sessions. Contracts see the layout
-//!   that it was made with, and the number of sessions.
+//!   that it was made with, the number of sessions and the most logged calls.
 //! - [`Seat`] is a session's token, which can't be copied: its logged calls, with their answers and
 //!   places, and its share of the desk's count of calls. Contracts see the session and its calls.
 //! - Behind the lock (`guarded.rt`) are the book, the number of each session's calls in its log,
@@ -15,7 +15,9 @@
 //! - [`Closed`] is what is left of a desk: its book.
 //!
 //! What is known of a call that is logged: there is a legal log whose last call it is, with the
-//! answer and at the place that the seat keeps (`specs/Desks.antt`). Once a desk is closed with all
+//! answer and at the place that the seat keeps (`specs/Desks.antt`). Of one that isn't, as where the
+//! log is full: there is a legal log after which the book's step refuses it so (`IsRefused` of
+//! `desk_rules/specs/Refusals.antt`). Once a desk is closed with all
 //! its seats, its log is legal from the layout that the desk was made with, and has just the calls
 //! that the seats keep, each once (`IsClosed` of `desk_rules/specs/Close.antt`).
 //!
@@ -25,14 +27,16 @@
 //!   (`IsGuard` of `desk_rules/specs/Guards.antt`). Each call does what the book's does and, where
 //!   it is logged, adds it to the seat's calls.
 //! - `Seat`: its calls rise, and its share is their number.
-//! - `Desk`: 1 to 64 sessions, as many as its ledger has parts.
+//! - `Desk`: 1 to 64 sessions, as many as its ledger has parts. That its lock has its layout, sessions
+//!   and limit no type says, so calls compare them: the layout, which takes longest, at an open, and
+//!   where a refusal isn't logged.
 //!
 //! A seat whose calls the log doesn't have is answered `Differs` ([`DeskFault`]), and closing
 //! without all seats `MissingSeat` ([`CloseRefusal`]); all is handed back.
 //!
 //! # Files
 //!
-//! - `desk.rt`, `seat.rt`, `guarded.rt`, `way.rt`: the desk. Nothing in `guarded.rt` waits.
+//! - `desk.rt`, `origin.rt`, `seat.rt`, `guarded.rt`, `way.rt`: the desk. Nothing in `guarded.rt` waits.
 //! - `calls.rt`, `shown.rt`, `close.rt`: what a session may ask of it: calls, the layout, its end.
 //! - `steps.rt`, `sessions.rt`, `run.rt`: the steps of a session, a thread for each, and
 //!   [`run_scripts`], which makes the desk and runs a script for each session. [`SessionGate`] is
@@ -51,6 +55,7 @@ mod close;
 mod desk;
 mod fault;
 mod guarded;
+mod origin;
 mod run;
 mod seat;
 mod sessions;

@@ -3,7 +3,7 @@ ghost use Rattle.std.specs.Prelude.{IfErr, IfOk};
 ghost use Rattle.desk_rules.specs.Close.{Shows};
 ghost use Rattle.locked_desk.specs.Desks.{IsShownFault};
 
-use crate::desk::Desk;
+use crate::desk::{Desk, is_same};
 use crate::fault::DeskFault;
 use crate::seat::Seat;
 use lay_items::Snapshot;
@@ -17,8 +17,8 @@ impl<L: Ledger> Desk<L> {
     /// # Errors
     ///
     /// `Differs` with the first of the seat's calls that the log doesn't have at its place, or with the seat's last, if the
-    /// log has others of the session; `Differs` of session 0, if the base or the number of sessions isn't the desk's own.
-    /// `NoMemory` can stand in place of any answer.
+    /// log has others of the session; `Differs` of session 0, if what is behind the lock isn't the desk's own. `NoMemory` can
+    /// stand in place of any answer.
     ///
     /// # Cost
     ///
@@ -30,15 +30,15 @@ impl<L: Ledger> Desk<L> {
         seat: &Seat<L>,
     ) -> Result<Snapshot, DeskFault>
         ensures shows { IfOk result (λ layout. Shows self.now seat.now layout) }
-        ensures fault { IfErr result (λ fault. IsShownFault fault seat.now) }
+        ensures fault { IfErr result (λ fault. IsShownFault self.now seat.now fault) }
     {
         let shown = self
             .lock
             .lock(rt)
-            .snapshot(alloc, seat.session, seat.own.as_slice());
+            .snapshot(alloc, &self.origin, seat.session, seat.own.as_slice());
         match shown {
-            Ok((layout, base, sessions)) => {
-                if !self.is_own(&base, sessions) {
+            Ok((layout, base)) => {
+                if !is_same(&base, &self.origin.base) {
                     return Err(DeskFault::Differs {
                         session: 0,
                         place: 0,

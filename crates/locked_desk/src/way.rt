@@ -1,7 +1,8 @@
 //! Undo and redo as one call, with the way that it goes.
 ghost use Rattle.std.specs.Prelude.{◌≡◌, ◌≤◌};
 ghost use Rattle.desk_rules.specs.Legal.{Stepped, answer_of};
-ghost use Rattle.locked_desk.specs.Ways.{answer_for, call_for};
+ghost use Rattle.lay_point.specs.Memory.{IsAnswer};
+ghost use Rattle.locked_desk.specs.Ways.{answer_for, call_for, given_for};
 
 use std::alloc::Global;
 use txn_commands::TxnId;
@@ -49,6 +50,7 @@ impl Way {
         requires low { 1 ≤ session }
         requires high { session ≤ 64 }
         ensures step { Stepped book.old session (call_for self txn) (answer_of (answer_for self) result) book.new }
+        ensures answer { IsAnswer BookFault.NoMemory result (given_for self session txn book.old) }
     {
         match self {
             Way::Back => book.undo(alloc, session, txn),

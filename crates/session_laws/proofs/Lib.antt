@@ -1,4 +1,5 @@
 pub mod Answering
+pub mod Causes
 pub mod Commuting
 pub mod Cores
 pub mod Dealing

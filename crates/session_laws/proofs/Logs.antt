@@ -22,6 +22,7 @@ use Rattle.undo_rules.specs.Steps.{opening, redo_refusal, stale_by, state_of, un
 use Rattle.undo_rules.proofs.CommitLaws.{commit_keeps}
 use Rattle.undo_rules.proofs.OpenLaws.{its_state, open_keeps, refused_keeps, stale_keeps}
 use Rattle.undo_rules.proofs.StepLaws.{redo_keeps, undo_keeps}
+use Rattle.undo_book.specs.declared.book.TheConstants.{MAX_CALLS}
 use Rattle.undo_book.specs.Replays.{replay}
 use Rattle.undo_book.proofs.CommitLemmas.{own_work}
 use Rattle.undo_book.proofs.SoundLemmas.{begins_history, kept_sound}
@@ -135,7 +136,7 @@ pub threads_lead : ThreadsLeadToBooks
 threads_lead base scripts replies book sound ran = record {
   sound = sound;
   few = few_scripts scripts;
-  limit = book.limit;
+  limit = MAX_CALLS;
   legal = ran.closed.legal;
 }
 

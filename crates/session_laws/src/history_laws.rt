@@ -10,6 +10,7 @@ ghost use Rattle.session_laws.specs.Logs.{
   LogsLeadToHistories,
   LogsTakeOut,
   RedosInLogsPutBack,
+  ThreadsAreRefusedForCause,
   ThreadsLeadToBooks,
 };
 ghost use Rattle.session_laws.specs.Undoing.{MachinesTakeOut, ProgramsTakeOut, RedosAtOncePutBack};
@@ -39,9 +40,10 @@ pub fn undos_take_out()
 /// So it is of sessions that share a log of their calls, as those do that run in threads: a legal log leads
 /// from a sound layout to a history from it, in which what operations draw stays. An undo that is logged of a
 /// live transaction whose writes no later live one touched takes it out, and a redo at once that is logged puts
-/// it back.
+/// it back. Of what isn't logged, that the log is full is replied only where it is, and Foreign only to a commit.
 pub fn logs_lead_to_histories()
     ensures threads { ThreadsLeadToBooks }
+    ensures refused { ThreadsAreRefusedForCause }
     ensures histories { LogsLeadToHistories }
     ensures operations { LogsKeepOperations }
     ensures undo { LogsTakeOut }

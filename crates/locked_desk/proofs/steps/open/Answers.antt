@@ -8,5 +8,5 @@ returns-in-Ok g c = inl (record {
   work = c.in-Ok.work;
   replied = ap (λ (t : TxnId). Opened t.txn) c.id.ensures.value;
   holds = refl;
-  opens = c.in-Ok.ensures;
+  opens = c.in-Ok.ensures.opens;
 })

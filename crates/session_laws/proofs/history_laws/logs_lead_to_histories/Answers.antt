@@ -1,8 +1,12 @@
+use Rattle.session_laws.proofs.Causes.{refused_for_cause}
 use Rattle.session_laws.proofs.Logs.{logs_keep, logs_lead, logs_put_back, logs_take_out, threads_lead}
 use Rattle.session_laws.proofs.history_laws.logs_lead_to_histories.Goals as goal
 
 pub returns-clause-threads : goal.returns-clause-threads
 returns-clause-threads c = threads_lead
+
+pub returns-clause-refused : goal.returns-clause-refused
+returns-clause-refused c = refused_for_cause
 
 pub returns-clause-histories : goal.returns-clause-histories
 returns-clause-histories c = logs_lead

@@ -1,15 +1,15 @@
 use Rattle.std.proofs.Common.{rules, ◌∙◌, ap, refl}
 use Rattle.undo_rules.specs.declared.log.Call.TheVariants.{Commit}
 use Rattle.desk_rules.proofs.SeatLemmas.{seat_kept}
-use Rattle.locked_desk.specs.Desks.{commit_answer, desk_commit_answer}
+use Rattle.locked_desk.specs.Desks.{commit_answer, commit_fault, desk_commit_answer}
 use Rattle.locked_desk.proofs.CallLemmas.{commit_by_book_answer, gains_kept}
+use Rattle.locked_desk.proofs.RefusedLemmas.{commit_refused_as_desk}
 use Rattle.locked_desk.proofs.desk.Desk.commit.Goals as goal
 
 pub invariant_of-seat-2 : goal.invariant_of-seat-2
 invariant_of-seat-2 g c =
     let was = c.seat.invariant in
-    seat_kept (commit_answer c.in-Ok-committed.done.0) c.commit-committed.new.self.book.base c.commit-committed.new.self.sessions
-    c.commit-committed.new.self.book
+    seat_kept (commit_answer c.in-Ok-committed.done.0) _ c.commit-committed.new.self.book
     c.seat.inside.session c.seat.inside.own.items c.as_slice.result.now c.keep.new.own.items (Commit c.args.work.id c.args.work.commands)
     c.in-Ok-committed.done.1 c.commit-committed.new.share.parts c.commit-committed.new.share.amount c.seat.inside.share.amount
     (was.0, was.1, refl, was.3) (search rules)
@@ -17,9 +17,17 @@ invariant_of-seat-2 g c =
 
 pub returns-clause-gains : goal.returns-clause-gains
 returns-clause-gains g c =
-    gains_kept (commit_answer c.in-Ok-committed.done.0) (desk_commit_answer c.commit_by_book.result) c.commit-committed.new.self.book.base
-    c.commit-committed.new.self.sessions c.commit-committed.new.self.book c.seat.inside.session c.seat.inside.own.items
+    gains_kept c.self.inside.origin c.args.self.now (commit_answer c.in-Ok-committed.done.0) (desk_commit_answer c.commit_by_book.result)
+    c.commit-committed.new.self.book.base c.commit-committed.new.self.book c.seat.inside.session c.seat.inside.own.items
     c.as_slice.result.now
-    c.keep.new.own.items (Commit c.args.work.id c.args.work.commands) c.in-Ok-committed.done.1 c.seat.view_is refl (search rules)
+    c.keep.new.own.items (Commit c.args.work.id c.args.work.commands) c.in-Ok-committed.done.1 c.self.view_is c.seat.view_is refl
+    (search rules)
     (search rules)
     c.in-Ok-committed.ensures.made (ap desk_commit_answer c.commit_by_book.ensures ∙ commit_by_book_answer c.in-Ok-committed.done.0)
+
+pub returns-clause-refused : goal.returns-clause-refused
+returns-clause-refused g c =
+    rw c.commit_by_book.ensures (commit_refused_as_desk c.self.inside.origin c.args.self.now c.seat.inside.session c.seat.inside.own.items
+    c.as_slice.result.now (λ session. commit_fault session c.args.work) c.in-Ok-committed.done.0 c.self.view_is c.seat.view_is
+    (search rules)
+    c.in-Ok-committed.ensures.told)

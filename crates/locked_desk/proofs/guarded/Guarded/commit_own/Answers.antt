@@ -1,11 +1,16 @@
-use Rattle.std.proofs.Common.{rules, ◌≡◌, ◌∙◌, arith, length, nat_lt, sym}
+use Rattle.std.proofs.Common.{rules, ◌≡◌, ◌∙◌, arith, length, nat_lt, sym, subst}
+use Rattle.lay_point.specs.Memory.{IsAnswer}
+use Rattle.undo_rules.specs.declared.log.BookFault.TheVariants.{NoMemory}
 use Rattle.undo_rules.specs.declared.log.Call.TheVariants.{Commit}
+use Rattle.undo_rules.specs.Steps.{commit_step}
+use Rattle.undo_book.specs.Calls.{refused, with_refused_work}
 use Rattle.desk_rules.specs.Guards.{Guard, ones}
 use Rattle.desk_rules.specs.Seats.{calls_added}
 use Rattle.locked_desk.specs.Desks.{commit_answer}
 use Rattle.desk_rules.proofs.GuardLemmas.{added_is, guard_called, looked, made_logged}
 use Rattle.locked_desk.proofs.CallLemmas.{committed_back, committed_named, stepped_commit}
-use Rattle.locked_desk.proofs.GuardedLemmas.{limit_kept}
+use Rattle.locked_desk.proofs.RefusedLemmas.{taken_work}
+use Rattle.locked_desk.proofs.GuardedLemmas.{base_kept, limit_kept}
 use Rattle.locked_desk.proofs.guarded.Guarded.commit_own.Goals as goal
 
 pub invariant_of-self : goal.invariant_of-self
@@ -37,9 +42,10 @@ returns-clause-made g c =
       total = c.self.inside.calls.total;
     } in
     let look = looked was c.args.session c.args.own.now (search rules) in
-    made_logged was c.commit-result.new.self c.args.session (length c.log-place.result.now)
+    made_logged c.args.origin.now was c.commit-result.new.self c.args.session (length c.log-place.result.now)
     (Commit c.args.work.id c.args.work.commands) (commit_answer c.commit-result.result) c.args.own.now c.self.invariant.0
-    (search rules) look (stepped_commit c.self.inside.book c.commit-result.new.self c.args.session c.args.work c.commit-result.result
+    (search rules) (search rules) look (stepped_commit c.self.inside.book c.commit-result.new.self c.args.session c.args.work
+    c.commit-result.result
     (search rules) (search rules) (search rules) c.self.invariant.0.pending c.commit-result.ensures.step) (search rules)
 
 pub returns-clause-txn : goal.returns-clause-txn
@@ -65,3 +71,18 @@ returns-clause-amount g c =
     (λ i. ones (nat_lt (length (first i)) (length (second i)))) ∙ counted in
     let amount = c.count_call.ensures.amount in
     omega (arith, amount, more)
+
+pub returns-clause-step : goal.returns-clause-step
+returns-clause-step g c =
+    subst (λ (g : Guard). IsAnswer (refused NoMemory c.args.work) c.commit-result.result
+    (with_refused_work (commit_step g.book c.args.work).0 c.args.work)) c.self.view_is (taken_work
+    c.self.inside.book c.commit-result.new.self c.args.work (commit_step c.self.inside.book c.args.work) c.commit-result.result
+    c.commit-result.ensures.step)
+
+pub returns-clause-base : goal.returns-clause-base
+returns-clause-base g c =
+    subst (λ (g : Guard). c.commit-result.new.self.base ≡ g.book.base) c.self.view_is
+    (base_kept c.self.inside.book c.commit-result.new.self c.args.session (Commit c.args.work.id c.args.work.commands)
+    (commit_answer c.commit-result.result)
+    (stepped_commit c.self.inside.book c.commit-result.new.self c.args.session c.args.work c.commit-result.result (search rules)
+    (search rules) (search rules) c.self.invariant.0.pending c.commit-result.ensures.step))
