@@ -1,4 +1,6 @@
 pub mod AxisLemmas
+pub mod BoxLines
+pub mod BoxesBack
 pub mod ChangeLemmas
 pub mod CommandsDo
 pub mod DistanceLemmas
@@ -9,7 +11,9 @@ pub mod NamedLead
 pub mod NamelessLines
 pub mod PlaceLemmas
 pub mod Reaching
+pub mod ReadAlike
 pub mod ReadBack
+pub mod RoundParity
 pub mod ScaledBack
 pub mod TurnsBack
 pub mod WrittenAgain

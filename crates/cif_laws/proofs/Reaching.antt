@@ -10,7 +10,9 @@ use Rattle.cif_read.specs.declared.content.Pending.{Pending}
 use Rattle.cif_read.specs.Content.{after_command_at, after_commands, effect_of, is_inside}
 use Rattle.cif_read.specs.Kept.{IsKept}
 use Rattle.cif_read.proofs.StepFacts.{step_of}
-use Rattle.cif_write.specs.Lines.{End, Line, line_text, lines_text}
+use Rattle.cif_write.specs.declared.boxes.Rectangles.{Rectangles}
+use Rattle.cif_write.specs.Boxes.{line_text_as, lines_text_as}
+use Rattle.cif_write.specs.Lines.{End, Line, line_text}
 use Rattle.cif_laws.proofs.WrittenLines.{IsLineOf}
 
 -- calls, and a number of extensions
@@ -72,19 +74,21 @@ command_leads from next last front spelling behind c text spells in_front at_end
     }
 
 -- a line of a command leads where the command does
-pub line_leads : (from next last : Content) (line : Line) (c : Command) (text : List ℕ) → IsLineOf line c → Does from c next
-    → Reaches next last text → Reaches from last (line_text line ++ text)
+pub line_leads : (rectangles : Rectangles) (from next last : Content) (line : Line) (c : Command) (text : List ℕ)
+    → IsLineOf rectangles line c → Does from c next → Reaches next last text
+    → Reaches from last (line_text_as rectangles line ++ text)
 unfolding is_gap is_blank is_mark
-line_leads from next last line c text is does reaches =
+line_leads rectangles from next last line c text is does reaches =
     subst (Reaches from last) (sym (ap (λ l. l ++ text) is.parts ∙ append_assoc is.spelling (59 ∷ (10 ∷ [])) text))
     (command_leads from next last [] is.spelling (10 ∷ []) c text is.spells refl refl does reaches)
 
 -- the same for the first of several lines
-pub first_leads : (from next last : Content) (line : Line) (c : Command) (lines : List Line) (text : List ℕ) → IsLineOf line c
-    → Does from c next → Reaches next last (lines_text lines ++ text) → Reaches from last (lines_text (line ∷ lines) ++ text)
-first_leads from next last line c lines text is does reaches =
-    subst (Reaches from last) (sym (append_assoc (line_text line) (lines_text lines) text))
-    (line_leads from next last line c (lines_text lines ++ text) is does reaches)
+pub first_leads : (rectangles : Rectangles) (from next last : Content) (line : Line) (c : Command) (lines : List Line) (text : List ℕ)
+    → IsLineOf rectangles line c → Does from c next → Reaches next last (lines_text_as rectangles lines ++ text)
+    → Reaches from last (lines_text_as rectangles (line ∷ lines) ++ text)
+first_leads rectangles from next last line c lines text is does reaches =
+    subst (Reaches from last) (sym (append_assoc (line_text_as rectangles line) (lines_text_as rectangles lines) text))
+    (line_leads rectangles from next last line c (lines_text_as rectangles lines ++ text) is does reaches)
 
 -- the text ends outside of definitions
 pub end_reached : (last : Content) → is_inside last.definition ≡ false → Reaches last last (line_text End)

@@ -32,9 +32,14 @@ use Rattle.cif_read.proofs.StepFacts.{start_kept}
 use Rattle.cif_read.proofs.TextGrammar.{complete}
 use Rattle.cif_layout.specs.FromCif.{item_of, layout_of}
 use Rattle.cif_layout.proofs.SoundLemmas.{layout_of-sound}
+use Rattle.cif_write.specs.declared.boxes.Rectangles.{Rectangles}
+use Rattle.cif_write.specs.declared.boxes.Rectangles.TheVariants.{Polygons}
+use Rattle.cif_write.specs.Boxes.{text_as}
 use Rattle.cif_write.specs.Text.{text}
 use Rattle.cif_write.specs.Wrap.{Definition, Written, as_written, items_written, wrap, written}
-use Rattle.cif_laws.specs.Laws.{AreOnNamedLayers, FitsText, IsAnsweredAs, IsReadAs, WhatIsWrappedIsSound, WhatIsWrittenIsReadBack}
+use Rattle.cif_write.proofs.BoxLemmas.{text_as_paths}
+use Rattle.cif_laws.specs.Laws.{AreOnNamedLayers, FitsText, IsAnsweredAs, IsAnsweredWith, IsReadAs, IsReadWith}
+use Rattle.cif_laws.specs.Laws.{WhatIsWrappedIsSound, WhatIsWrittenIsReadBack}
 use Rattle.cif_laws.proofs.CommandsDo.{outside}
 use Rattle.cif_laws.proofs.HeldItems.{targets}
 use Rattle.cif_laws.proofs.LinesLead.{element_of, elements_of, elements_written, file_read, symbol_of}
@@ -44,50 +49,57 @@ use Rattle.cif_laws.proofs.WrittenSymbols.{has_number, own_numbers, written_well
 
 -- ---- items again
 
-item_again : (number : ℕ) (item : Item) → item_of (element_of number item) ≡ as_written number item
+item_again : (number : ℕ) (item : Item) → item_of (element_of Polygons number item) ≡ as_written number item
 item_again number (Shape cell layer rings) = refl
 item_again number (Placed cell target turn) = refl
 
-held_again : (number : ℕ) (items : List Item) → map item_of (map (element_of number) items) ≡ map (as_written number) items
+held_again : (number : ℕ) (items : List Item) → map item_of (map (element_of Polygons number) items) ≡ map (as_written number) items
 held_again number [] = refl
 held_again number (item ∷ items) = λ i. item_again number item i ∷ held_again number items i
 
-items_again : (ds : List Definition) → map item_of (flat_map elements_of ds)
+items_again : (ds : List Definition) → map item_of (flat_map (elements_of Polygons) ds)
     ≡ flat_map (λ (d : Definition). map (as_written d.number) d.items) ds
 items_again [] = refl
 items_again (d ∷ ds) =
-    map-append item_of (elements_of d) (flat_map elements_of ds) ∙ (λ i. held_again d.number d.items i ++ items_again ds i)
+    map-append item_of (elements_of Polygons d) (flat_map (elements_of Polygons) ds)
+    ∙ (λ i. held_again d.number d.items i ++ items_again ds i)
 
-pub written_again : (file : Written) → map item_of (elements_written file) ≡ items_written file
+pub written_again : (file : Written) → map item_of (elements_written Polygons file) ≡ items_written file
 written_again file =
-    map-append item_of (flat_map elements_of file.definitions) (record { cell = Top; figure = Call file.called unturned } ∷ [])
+    map-append item_of (flat_map (elements_of Polygons) file.definitions) (record { cell = Top; figure = Call file.called unturned } ∷ [])
     ∙ ap (λ items. items ++ Placed Top file.called unturned ∷ []) (items_again file.definitions)
 
 -- ---- the calls are bound
 
-module _ (layout : Layout) (sound : IsSound layout) (named : AreOnNamedLayers layout) where
-  bound : (file : Written) (calls : List Pending) → WrittenCalls layout file → map edge_of calls ≡ element_calls (elements_written file)
+module _ (way : Rectangles) (layout : Layout) (sound : IsSound layout) (named : AreOnNamedLayers layout) where
+  bound : (file : Written) (calls : List Pending) → WrittenCalls way layout file
+      → map edge_of calls ≡ element_calls (elements_written way file)
       → All (IsBound (map symbol_of file.definitions)) calls
   bound file calls good e =
       let all = map symbol_of file.definitions in
       unmapped (λ c. has_symbol all c.1 ≡ true) edge_of calls
       (subst (All (λ c. has_symbol all c.1 ≡ true)) (sym e)
       (All-weaker (λ c. IsGood layout all c.0 c.1) (λ c. has_symbol all c.1 ≡ true) (λ c g. g.1)
-      (element_calls (elements_written file)) good))
+      (element_calls (elements_written way file)) good))
 
-  acyclic : (file : Written) (calls : List Pending) → WrittenCalls layout file → map edge_of calls ≡ element_calls (elements_written file)
+  acyclic : (file : Written) (calls : List Pending) → WrittenCalls way layout file
+      → map edge_of calls ≡ element_calls (elements_written way file)
       → IsAcyclic (map edge_of calls)
   acyclic file calls good e =
       subst IsAcyclic (sym e)
       (still_acyclic (calls_of layout) (own_numbers layout) (λ i d h. has_number layout sound named _ (targets layout sound i d h))
-      (element_calls (elements_written file))
+      (element_calls (elements_written way file))
       (All-weaker (λ c. IsGood layout (map symbol_of file.definitions) c.0 c.1) (λ c. IsFrom (calls_of layout) (own_numbers layout) c.0 c.1)
-      (λ c g. g.0) (element_calls (elements_written file)) good) sound.acyclic)
+      (λ c g. g.0) (element_calls (elements_written way file)) good) sound.acyclic)
 
 -- ---- the laws
 
--- what a text is read as that has a layout
-record IsWrittenContent (layout : Layout) (bytes : List ℕ) : Type 0 where
+-- the layout that is read of what is written
+abbrev pub layout_read : Rectangles → Layout → Layout
+layout_read way layout = layout_with (map symbol_of (written layout).definitions) (map item_of (elements_written way (written layout)))
+
+-- what a text is read as that has this layout
+record IsWrittenContent (way : Rectangles) (layout : Layout) (bytes : List ℕ) : Type 0 where
   commands : List (ℕ × Command)
   last : Content
   reads : Reads bytes commands
@@ -95,59 +107,77 @@ record IsWrittenContent (layout : Layout) (bytes : List ℕ) : Type 0 where
   kept : IsKept last
   bound : All (IsBound last.symbols) last.calls
   acyclic : IsAcyclic (map edge_of last.calls)
-  again : layout_of (contents_of last) ≡ wrap layout
+  again : layout_of (contents_of last) ≡ layout_read way layout
 
 -- a text that leads to what is written of the layout is read as such
-abbrev pub LeadsToWritten : Layout → List ℕ → Type 0
-LeadsToWritten layout bytes =
-    Reaches (outside [] []) (outside (map symbol_of (written layout).definitions) (elements_written (written layout))) bytes
+abbrev pub LeadsToWritten : Rectangles → Layout → List ℕ → Type 0
+LeadsToWritten way layout bytes =
+    Reaches (outside [] []) (outside (map symbol_of (written layout).definitions) (elements_written way (written layout))) bytes
 
-content_written : (layout : Layout) → FitsText layout → (bytes : List ℕ) → LeadsToWritten layout bytes → IsWrittenContent layout bytes
+content_written : (way : Rectangles) (layout : Layout) → FitsText layout → (bytes : List ℕ) → LeadsToWritten way layout bytes
+    → IsWrittenContent way layout bytes
 unfolding content_of
-content_written layout may bytes leads =
+content_written way layout may bytes leads =
     let file = written layout in
     let well = written_well layout may.sound may.named may.room in
-    let good = calls_well layout may.sound may.named well in
+    let good = calls_well way layout may.sound may.named well in
     let read = leads (record { calls = []; extensions = 0 }) 0 [] start_kept refl in
     record {
       commands = read.commands;
-      last = with_calls (outside (map symbol_of file.definitions) (elements_written file)) read.calls;
+      last = with_calls (outside (map symbol_of file.definitions) (elements_written way file)) read.calls;
       reads = read.reads;
       means = read.means;
       kept = read.kept;
-      bound = bound layout may.sound may.named file read.calls.calls good read.kept.calls;
-      acyclic = acyclic layout may.sound may.named file read.calls.calls good read.kept.calls;
-      again = ap (layout_with (map symbol_of file.definitions)) (written_again file);
+      bound = bound way layout may.sound may.named file read.calls.calls good read.kept.calls;
+      acyclic = acyclic way layout may.sound may.named file read.calls.calls good read.kept.calls;
+      again = refl;
     }
 
-answered : (layout : Layout) (bytes : List ℕ) → IsWrittenContent layout bytes → IsAnsweredAs layout bytes
-answered layout bytes w short result (inl none) = inl none
-answered layout bytes w short result (inr meaning) =
-    let content : content_within bytes ≡ Ok w.last = short_text bytes short
-    ∙ complete bytes w.commands w.reads ∙ w.means in
-    let bound = subst (λ (r : Result Content CifFault). IsEndOf r result) content meaning in
-    inr (contents_of w.last, one_end w.last result (Ok (contents_of w.last)) bound (refl, w.bound, w.acyclic), w.again)
+module _ (Wanted : Layout → Type 0) where
+  answered : (way : Rectangles) (layout : Layout) (bytes : List ℕ) → IsWrittenContent way layout bytes → Wanted (layout_read way layout)
+      → IsAnsweredWith Wanted bytes
+  answered way layout bytes w wanted short result (inl none) = inl none
+  answered way layout bytes w wanted short result (inr meaning) =
+      let content : content_within bytes ≡ Ok w.last = short_text bytes short
+      ∙ complete bytes w.commands w.reads ∙ w.means in
+      let bound = subst (λ (r : Result Content CifFault). IsEndOf r result) content meaning in
+      let same = one_end w.last result (Ok (contents_of w.last)) bound (refl, w.bound, w.acyclic) in
+      inr (contents_of w.last, same, subst Wanted (sym w.again) wanted)
 
-pub read_as : (layout : Layout) → FitsText layout → (bytes : List ℕ) → LeadsToWritten layout bytes
+  pub read_with : (way : Rectangles) (layout : Layout) → FitsText layout → (bytes : List ℕ) → LeadsToWritten way layout bytes
+      → Wanted (layout_read way layout)
+      → IsReadWith Wanted bytes × IsAnsweredWith Wanted bytes
+  read_with way layout may bytes leads wanted =
+      let w = content_written way layout may bytes leads in (
+        (w.commands, w.last, contents_of w.last, w.reads, w.means, (refl, w.bound, w.acyclic), subst Wanted (sym w.again) wanted),
+        answered way layout bytes w wanted,
+      )
+
+-- without boxes it is the wrapped layout
+paths_read : (layout : Layout) → layout_read Polygons layout ≡ wrap layout
+paths_read layout = ap (layout_with (map symbol_of (written layout).definitions)) (written_again (written layout))
+
+pub read_as : (layout : Layout) → FitsText layout → (bytes : List ℕ) → LeadsToWritten Polygons layout bytes
     → IsReadAs layout bytes × IsAnsweredAs layout bytes
-read_as layout may bytes leads =
-    let w = content_written layout may bytes leads in
-    ((w.commands, w.last, contents_of w.last, w.reads, w.means, (refl, w.bound, w.acyclic), w.again), answered layout bytes w)
+read_as layout may bytes leads = read_with (λ read. read ≡ wrap layout) Polygons layout may bytes leads (paths_read layout)
 
 -- the text of a layout leads there
-text_leads : (layout : Layout) → FitsText layout → LeadsToWritten layout (text layout)
-unfolding text
-text_leads layout may =
+pub text_leads : (way : Rectangles) (layout : Layout) → FitsText layout → LeadsToWritten way layout (text_as way layout)
+unfolding text_as
+text_leads way layout may =
     let well = written_well layout may.sound may.named may.room in
-    file_read (written layout) well.definitions well.small
+    file_read way (written layout) well.definitions well.small
+
+paths_lead : (layout : Layout) → FitsText layout → LeadsToWritten Polygons layout (text layout)
+paths_lead layout may = subst (LeadsToWritten Polygons layout) (text_as_paths layout) (text_leads Polygons layout may)
 
 pub read_back : WhatIsWrittenIsReadBack
-read_back layout may = read_as layout may (text layout) (text_leads layout may)
+read_back layout may = read_as layout may (text layout) (paths_lead layout may)
 
 pub wrapped_sound : WhatIsWrappedIsSound
 wrapped_sound layout may =
-    let w = content_written layout may (text layout) (text_leads layout may) in
-    subst IsSound w.again (layout_of-sound (contents_of w.last) (sound_file w.last w.kept w.bound w.acyclic))
+    let w = content_written Polygons layout may (text layout) (paths_lead layout may) in
+    subst IsSound (w.again ∙ paths_read layout) (layout_of-sound (contents_of w.last) (sound_file w.last w.kept w.bound w.acyclic))
 
 -- ---- what a reader answers
 

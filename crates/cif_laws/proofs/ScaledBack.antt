@@ -26,12 +26,12 @@ doubled_pos n = pos-*ℤ-pos 2 n
 doubled_negsuc : (n : ℕ) → doubled (number_of (negsuc n)) ≡ negsuc (suc (2 * n))
 doubled_negsuc n = omega (arith, ints)
 
-whole : (z : ℤ) → is_whole half (doubled (number_of z)) ≡ true
+pub whole : (z : ℤ) → is_whole half (doubled (number_of z)) ≡ true
 unfolding is_whole
 whole (pos n) = ap (is_whole half) (doubled_pos n) ∙ eq-eqb (2 * n * 1 % 2) 0 (omega arith)
 whole (negsuc n) = ap (is_whole half) (doubled_negsuc n) ∙ eq-eqb (suc (suc (2 * n)) * 1 % 2) 0 (omega arith)
 
-scaled_back : (z : ℤ) → scaled half (doubled (number_of z)) ≡ z
+pub scaled_back : (z : ℤ) → scaled half (doubled (number_of z)) ≡ z
 unfolding scaled
 scaled_back (pos n) =
     ap (scaled half) (doubled_pos n) ∙ ap (λ b. cond b (neg_ℤ (pos (2 * n * 1 / 2))) (pos (2 * n * 1 / 2))) (not_negative (2 * n))

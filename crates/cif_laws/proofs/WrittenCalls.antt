@@ -23,6 +23,7 @@ use Rattle.cif_read.specs.declared.element.Element.{Element}
 use Rattle.cif_read.specs.declared.element.Figure.{Figure}
 use Rattle.cif_read.specs.declared.element.Figure.TheVariants as figure
 use Rattle.cif_read.specs.Contents.{element_calls, with_call}
+use Rattle.cif_write.specs.declared.boxes.Rectangles.{Rectangles}
 use Rattle.cif_write.specs.Wrap.{Definition, Written, held_in, written_definition}
 use Rattle.cif_write.specs.Wrap.{least_unused, own_definitions, plain_target, written, written_with}
 use Rattle.cif_write.proofs.UnusedLemmas.{least_unused_is}
@@ -98,17 +99,17 @@ abbrev pub AllCalls : (CellId → ℕ → Type 0) → List Element → Type 0
 AllCalls P es = All (λ c. P c.0 c.1) (element_calls es)
 
 -- the calls among what a cell holds, written in the symbol of this number
-held_calls : (P : CellId → ℕ → Type 0) (layout : Layout) (cell : CellId) (number : ℕ) (items : List Item) → All (IsHeld layout cell) items
-    → ((t : ℕ) → Contains (calls_of layout) (cell, t) → P (Symbol number) t) → AllCalls P (map (element_of number) items)
-held_calls P layout cell number [] h says = All-nil (λ c. P c.0 c.1)
-held_calls P layout cell number (Shape other layer rings ∷ items) h says =
-    held_calls P layout cell number items (All-tail (IsHeld layout cell) (Shape other layer rings) items h) says
-held_calls P layout cell number (Placed other target turn ∷ items) h says =
+held_calls : (way : Rectangles) (P : CellId → ℕ → Type 0) (layout : Layout) (cell : CellId) (number : ℕ) (items : List Item)
+    → All (IsHeld layout cell) items → ((t : ℕ) → Contains (calls_of layout) (cell, t) → P (Symbol number) t) → AllCalls P (map (element_of way number) items)
+held_calls way P layout cell number [] h says = All-nil (λ c. P c.0 c.1)
+held_calls way P layout cell number (Shape other layer rings ∷ items) h says =
+    held_calls way P layout cell number items (All-tail (IsHeld layout cell) (Shape other layer rings) items h) says
+held_calls way P layout cell number (Placed other target turn ∷ items) h says =
     let first = All-head (IsHeld layout cell) (Placed other target turn) items h in
     let listed : Contains (calls_of layout) (cell, target) =
     subst (λ (c : CellId). Contains (calls_of layout) (c, target)) first.stands (first.listed (other, target) refl) in
-    All-cons (λ c. P c.0 c.1) (Symbol number, target) (element_calls (map (element_of number) items)) (says target listed)
-    (held_calls P layout cell number items (All-tail (IsHeld layout cell) (Placed other target turn) items h) says)
+    All-cons (λ c. P c.0 c.1) (Symbol number, target) (element_calls (map (element_of way number) items)) (says target listed)
+    (held_calls way P layout cell number items (All-tail (IsHeld layout cell) (Placed other target turn) items h) says)
 
 element_calls-joined : (xs ys : List Element) → element_calls (xs ++ ys) ≡ element_calls xs ++ element_calls ys
 element_calls-joined [] ys = refl
@@ -133,10 +134,10 @@ abbrev pub IsGood : Layout → List ℕ → CellId → ℕ → Type 0
 IsGood layout all cell target = IsFrom (calls_of layout) (own_numbers layout) cell target × (has_symbol all target ≡ true)
 
 -- the calls of what is written
-abbrev pub WrittenCalls : Layout → Written → Type 0
-WrittenCalls layout file = AllCalls (IsGood layout (map symbol_of file.definitions)) (elements_written file)
+abbrev pub WrittenCalls : Rectangles → Layout → Written → Type 0
+WrittenCalls way layout file = AllCalls (IsGood layout (map symbol_of file.definitions)) (elements_written way file)
 
-module _ (layout : Layout) (sound : IsSound layout) (named : AreOnNamedLayers layout) where
+module _ (way : Rectangles) (layout : Layout) (sound : IsSound layout) (named : AreOnNamedLayers layout) where
   own_bound : All (λ c. has_symbol (own_numbers layout) c.1 ≡ true) (calls_of layout)
   own_bound i d h = has_number layout sound named _ (targets layout sound i d h)
 
@@ -146,29 +147,29 @@ module _ (layout : Layout) (sound : IsSound layout) (named : AreOnNamedLayers la
         within t (All-contains (λ c. has_symbol (own_numbers layout) c.1 ≡ true) (calls_of layout) (cell, t) own_bound there)
 
     own_calls : (ns : List ℕ) → All (λ n. has_symbol (own_numbers layout) n ≡ true) ns
-        → AllCalls (IsGood layout all) (flat_map elements_of (map (written_definition layout) ns))
+        → AllCalls (IsGood layout all) (flat_map (elements_of way) (map (written_definition layout) ns))
     own_calls [] h = All-nil (λ c. IsGood layout all c.0 c.1)
     own_calls (n ∷ ns) h =
-        both_calls (IsGood layout all) (elements_of (written_definition layout n))
-        (flat_map elements_of (map (written_definition layout) ns))
-        (held_calls (IsGood layout all) layout (Symbol n) n (held_in layout (Symbol n)) (held layout sound named (Symbol n))
+        both_calls (IsGood layout all) (elements_of way (written_definition layout n))
+        (flat_map (elements_of way) (map (written_definition layout) ns))
+        (held_calls way (IsGood layout all) layout (Symbol n) n (held_in layout (Symbol n)) (held layout sound named (Symbol n))
         (λ t there. (in_symbol (All-head (λ m. has_symbol (own_numbers layout) m ≡ true) n ns h) there, target_within (Symbol n) t there)))
         (own_calls ns (All-tail (λ m. has_symbol (own_numbers layout) m ≡ true) n ns h))
 
     new_calls : (number : ℕ) → has_symbol (own_numbers layout) number ≡ false
-        → AllCalls (IsGood layout all) (map (element_of number) (held_in layout Top))
+        → AllCalls (IsGood layout all) (map (element_of way number) (held_in layout Top))
     new_calls number new =
-        held_calls (IsGood layout all) layout Top number (held_in layout Top) (held layout sound named Top)
+        held_calls way (IsGood layout all) layout Top number (held_in layout Top) (held layout sound named Top)
         (λ t there. (in_new new there, target_within Top t there))
 
     -- with other definitions behind the layout's own
-    file_calls : (rest : List Definition) (called : ℕ) → AllCalls (IsGood layout all) (flat_map elements_of rest)
+    file_calls : (rest : List Definition) (called : ℕ) → AllCalls (IsGood layout all) (flat_map (elements_of way) rest)
         → has_symbol all called ≡ true
-        → AllCalls (IsGood layout all) (elements_written (record { definitions = own_definitions layout ++ rest; called = called }))
+        → AllCalls (IsGood layout all) (elements_written way (record { definitions = own_definitions layout ++ rest; called = called }))
     file_calls rest called others h =
-        both_calls (IsGood layout all) (flat_map elements_of (own_definitions layout ++ rest)) (top_call ∷ [])
-        (subst (AllCalls (IsGood layout all)) (sym (flat_map-append elements_of (own_definitions layout) rest))
-        (both_calls (IsGood layout all) (flat_map elements_of (own_definitions layout)) (flat_map elements_of rest)
+        both_calls (IsGood layout all) (flat_map (elements_of way) (own_definitions layout ++ rest)) (top_call ∷ [])
+        (subst (AllCalls (IsGood layout all)) (sym (flat_map-append (elements_of way) (own_definitions layout) rest))
+        (both_calls (IsGood layout all) (flat_map (elements_of way) (own_definitions layout)) (flat_map (elements_of way) rest)
         (own_calls (own_numbers layout) (each_there (own_numbers layout))) others))
         (All-cons (λ c. IsGood layout all c.0 c.1) (Top, called) [] (in_top, h) (All-nil (λ c. IsGood layout all c.0 c.1)))
       where
@@ -185,9 +186,9 @@ module _ (layout : Layout) (sound : IsSound layout) (named : AreOnNamedLayers la
 
   good_calls : (o : Option ℕ) → plain_target (held_in layout Top) ≡ o
       → IsWrittenWell (written_with (own_definitions layout) (held_in layout Top) (least_unused (own_numbers layout)) o)
-      → WrittenCalls layout (written_with (own_definitions layout) (held_in layout Top) (least_unused (own_numbers layout)) o)
+      → WrittenCalls way layout (written_with (own_definitions layout) (held_in layout Top) (least_unused (own_numbers layout)) o)
   good_calls (Some target) at well =
-      subst (λ (ds : List Definition). WrittenCalls layout (record { definitions = ds; called = target }))
+      subst (λ (ds : List Definition). WrittenCalls way layout (record { definitions = ds; called = target }))
       (append-nil (own_definitions layout))
       (file_calls (map symbol_of (own_definitions layout ++ [])) (own_within []) [] target
       (All-nil (λ c. IsGood layout (map symbol_of (own_definitions layout ++ [])) c.0 c.1))
@@ -198,9 +199,9 @@ module _ (layout : Layout) (sound : IsSound layout) (named : AreOnNamedLayers la
       let wrapping : Definition = record { number = unused; items = held_in layout Top } in
       let all = map symbol_of (own_definitions layout ++ wrapping ∷ []) in
       file_calls all (own_within (wrapping ∷ [])) (wrapping ∷ []) unused
-      (subst (AllCalls (IsGood layout all)) (sym (append-nil (elements_of wrapping)))
+      (subst (AllCalls (IsGood layout all)) (sym (append-nil (elements_of way wrapping)))
       (new_calls all (own_within (wrapping ∷ [])) unused (least_unused_is (own_numbers layout)).unused)) well.called
 
-  pub calls_well : IsWrittenWell (written layout) → WrittenCalls layout (written layout)
+  pub calls_well : IsWrittenWell (written layout) → WrittenCalls way layout (written layout)
   unfolding written
   calls_well well = good_calls (plain_target (held_in layout Top)) refl well

@@ -14,14 +14,17 @@ use Rattle.cif_grammar.specs.declared.definitions.Scale.{Scale}
 use Rattle.cif_grammar.specs.Commands.{Command}
 use Rattle.cif_grammar.specs.Commands as command
 use Rattle.cif_grammar.specs.Grammar.{AreVertices, IsWrittenScale, Spells}
-use Rattle.cif_write.specs.Lines.{Call, Finish, Line, OnLayer, Path, Start, line_text, path_text, point_text, turn_text}
+use Rattle.cif_write.specs.declared.boxes.Rectangles.{Rectangles}
+use Rattle.cif_write.specs.declared.boxes.Rectangles.TheVariants.{Polygons}
+use Rattle.cif_write.specs.Boxes.{line_text_as}
+use Rattle.cif_write.specs.Lines.{Call, Finish, Line, OnLayer, Path, Start, path_text, point_text, turn_text}
 use Rattle.cif_laws.proofs.WrittenNumbers.{bare_point, bare_spelled, integer_spelled, point_is, point_spelled, vertex_of}
 use Rattle.cif_laws.proofs.WrittenTurns.{changes_of, one_spelled, turn_spelled}
 
--- the line is the text of this command, a semicolon and a newline
-pub record IsLineOf (line : Line) (c : Command) : Type 0 where
+-- the line is the text of this command, a semicolon and a newline; with boxes, where they are asked for
+pub record IsLineOf (rectangles : Rectangles) (line : Line) (c : Command) : Type 0 where
   pub spelling : List ℕ
-  pub parts : line_text line ≡ spelling ++ (59 ∷ (10 ∷ []))
+  pub parts : line_text_as rectangles line ≡ spelling ++ (59 ∷ (10 ∷ []))
   pub spells : Spells spelling c
 
 -- database units are half of what a text counts in
@@ -53,8 +56,9 @@ half_spelled = record {
   behind_blank = refl;
 }
 
-pub start_line : (number : ℕ) → number ≤ MAX_MAGNITUDE → IsLineOf (Start number) (command.Start (halved_definition number))
-start_line number h = record {
+pub start_line : (rectangles : Rectangles) (number : ℕ) → number ≤ MAX_MAGNITUDE
+    → IsLineOf rectangles (Start number) (command.Start (halved_definition number))
+start_line rectangles number h = record {
   spelling = 68 ∷ 83 ∷ ((32 ∷ decimal number) ++ (32 ∷ 49 ∷ 32 ∷ 50 ∷ []));
   parts = ap (λ t. 68 ∷ 83 ∷ 32 ∷ t) (sym (append_assoc (decimal number) (32 ∷ 49 ∷ 32 ∷ 50 ∷ []) (59 ∷ 10 ∷ [])));
   spells = record {
@@ -68,9 +72,10 @@ start_line number h = record {
   };
 }
 
-pub layer_line : (name : List ℕ) → 1 ≤ length name → list_all is_name_byte name ≡ true → IsLineOf (OnLayer name) (command.Layer name)
+pub layer_line : (rectangles : Rectangles) (name : List ℕ) → 1 ≤ length name → list_all is_name_byte name ≡ true
+    → IsLineOf rectangles (OnLayer name) (command.Layer name)
 unfolding is_blank is_mark
-layer_line name some passes = record {
+layer_line rectangles name some passes = record {
   spelling = 76 ∷ 32 ∷ name;
   parts = refl;
   spells = record {
@@ -102,7 +107,7 @@ vertices_spelled (p ∷ ps) h =
     )
 
 pub path_line : (p : Point) (ps : List Point) → list_all is_in_range (p ∷ ps) ≡ true
-    → IsLineOf (Path (p ∷ ps)) (command.Polygon (map vertex_of (p ∷ ps)))
+    → IsLineOf Polygons (Path (p ∷ ps)) (command.Polygon (map vertex_of (p ∷ ps)))
 unfolding is_separator is_blank is_mark
 path_line p ps h =
     let parts = and_parts (is_in_range p) (list_all is_in_range ps) h in
@@ -118,16 +123,16 @@ path_line p ps h =
       };
     }
 
-pub finish_line : IsLineOf Finish command.Finish
-finish_line = record {
+pub finish_line : (rectangles : Rectangles) → IsLineOf rectangles Finish command.Finish
+finish_line rectangles = record {
   spelling = 68 ∷ 70 ∷ [];
   parts = refl;
   spells = record { gap = []; behind = []; parts = refl; gap_blank = refl; behind_blank = refl };
 }
 
-pub call_line : (number : ℕ) (turn : Turn) → number ≤ MAX_MAGNITUDE → is_in_range turn.shift ≡ true
-    → IsLineOf (Call number turn) (command.Call number (changes_of turn))
-call_line number turn h within = record {
+pub call_line : (rectangles : Rectangles) (number : ℕ) (turn : Turn) → number ≤ MAX_MAGNITUDE → is_in_range turn.shift ≡ true
+    → IsLineOf rectangles (Call number turn) (command.Call number (changes_of turn))
+call_line rectangles number turn h within = record {
   spelling = 67 ∷ ((32 ∷ decimal number) ++ turn_text turn);
   parts = refl;
   spells = record {

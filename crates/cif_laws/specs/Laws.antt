@@ -18,8 +18,11 @@ use Rattle.cif_read.specs.Content.{content_of}
 use Rattle.cif_read.specs.Contents.{Contents}
 use Rattle.cif_read.specs.Meaning.{AnswersMeaning, no_memory}
 use Rattle.cif_layout.specs.FromCif.{layout_of}
+use Rattle.cif_write.specs.declared.boxes.Rectangles.TheVariants.{Boxes}
+use Rattle.cif_write.specs.Boxes.{text_as}
 use Rattle.cif_write.specs.Text.{text}
 use Rattle.cif_write.specs.Wrap.{wrap, written}
+use Rattle.cif_laws.specs.SameRings.{IsSameLayout}
 
 -- a shape is on a layer that has a name
 abbrev pub IsOnNamedLayer : Item → Type 0
@@ -30,15 +33,29 @@ IsOnNamedLayer (Placed cell target turn) = Unit {0}
 abbrev pub AreOnNamedLayers : Layout → Type 0
 AreOnNamedLayers layout = (id : ItemId) (item : Item) → item_at layout id ≡ Some item → IsOnNamedLayer item
 
--- a text is commands of the grammar, whose meaning is bound as a file that has the layout, wrapped
-abbrev pub IsReadAs : Layout → List ℕ → Type 0
-IsReadAs layout bytes = (commands : List (ℕ × Command)) × (last : Content) × (file : Contents)
-    × Reads bytes commands × (content_of commands ≡ Ok last) × IsBoundAs last (Ok file) × (layout_of file ≡ wrap layout)
+-- a text is commands of the grammar, whose meaning is bound as a file that has a layout as wanted
+abbrev pub IsReadWith : (Layout → Type 0) → List ℕ → Type 0
+IsReadWith Wanted bytes = (commands : List (ℕ × Command)) × (last : Content) × (file : Contents)
+    × Reads bytes commands × (content_of commands ≡ Ok last) × IsBoundAs last (Ok file) × Wanted (layout_of file)
 
 -- where it isn't too long, whatever it may be answered with, but out of memory, is such a file
+abbrev pub IsAnsweredWith : (Layout → Type 0) → List ℕ → Type 0
+IsAnsweredWith Wanted bytes = length bytes ≤ MAX_TEXT → (result : Result Contents CifFault) → AnswersMeaning bytes result
+    → (result ≡ Err no_memory) ⊎ ((file : Contents) × (result ≡ Ok file) × Wanted (layout_of file))
+
+-- as the layout, wrapped
+abbrev pub IsReadAs : Layout → List ℕ → Type 0
+IsReadAs layout bytes = IsReadWith (λ read. read ≡ wrap layout) bytes
+
 abbrev pub IsAnsweredAs : Layout → List ℕ → Type 0
-IsAnsweredAs layout bytes = length bytes ≤ MAX_TEXT → (result : Result Contents CifFault) → AnswersMeaning bytes result
-    → (result ≡ Err no_memory) ⊎ ((file : Contents) × (result ≡ Ok file) × (layout_of file ≡ wrap layout))
+IsAnsweredAs layout bytes = IsAnsweredWith (λ read. read ≡ wrap layout) bytes
+
+-- as the layout, wrapped, but for where its rings begin and which way they run
+abbrev pub IsReadAlike : Layout → List ℕ → Type 0
+IsReadAlike layout bytes = IsReadWith (IsSameLayout (wrap layout)) bytes
+
+abbrev pub IsAnsweredAlike : Layout → List ℕ → Type 0
+IsAnsweredAlike layout bytes = IsAnsweredWith (IsSameLayout (wrap layout)) bytes
 
 abbrev pub IsReadBack : Layout → Type 0
 IsReadBack layout = IsReadAs layout (text layout)
@@ -54,6 +71,11 @@ pub record FitsText (layout : Layout) : Type 0 where
 
 abbrev pub WhatIsWrittenIsReadBack : Type 0
 WhatIsWrittenIsReadBack = (layout : Layout) → FitsText layout → IsReadBack layout × IsReread layout
+
+-- with boxes too, but for the order of points
+abbrev pub BoxesAreReadBack : Type 0
+BoxesAreReadBack =
+    (layout : Layout) → FitsText layout → IsReadAlike layout (text_as Boxes layout) × IsAnsweredAlike layout (text_as Boxes layout)
 
 abbrev pub WhatIsWrappedIsSound : Type 0
 WhatIsWrappedIsSound = (layout : Layout) → FitsText layout → IsSound (wrap layout)

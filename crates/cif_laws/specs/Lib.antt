@@ -5,3 +5,4 @@ pub mod Distances
 pub mod Laws
 pub mod Named
 pub mod Refusals
+pub mod SameRings

@@ -11,8 +11,12 @@
 //!   have names, and that needs no more symbols than a text may define, is commands of the grammar,
 //!   and they mean that layout, with what its top cell holds wrapped in a symbol. What is wrapped
 //!   is sound, and is written by the same text. [`reread`] writes a layout and reads it again.
+//! - [`boxes_are_read_back`] (`specs/SameRings.antt`): with upright rectangles written as boxes it is
+//!   read back as that layout too, but for where its rings begin and which way they run, and each
+//!   place is inside both such rings or inside neither.
 //! - [`names_change_nothing`] (`specs/Named.antt`): the text of such a layout, with the names and
-//!   labels of any text in it, is the same but for their lines, and is read back as that layout.
+//!   labels of any text in it, is the same but for their lines, and is read back as that layout. So
+//!   it is with boxes.
 //! - [`faults_are_where_they_stand`] (`specs/Refusals.antt`): a text that means a fault begins with
 //!   good commands, up to the fault. There a command of the grammar has the fault, or no command
 //!   follows, or the text ends too early or not at all. Or all its commands are good, and a call
@@ -39,4 +43,4 @@ mod trip_laws;
 pub use again::{look_at_layers, reread};
 pub use fault_laws::faults_are_where_they_stand;
 pub use meaning_laws::{boxes_hold_their_points, calls_move_points, distances_are_scaled};
-pub use trip_laws::{names_change_nothing, what_is_written_is_read_back};
+pub use trip_laws::{boxes_are_read_back, names_change_nothing, what_is_written_is_read_back};

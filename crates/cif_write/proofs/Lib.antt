@@ -1,4 +1,5 @@
 pub mod BegunLemmas
+pub mod BoxLemmas
 pub mod IdleLemmas
 pub mod LineLemmas
 pub mod UnusedLemmas

@@ -59,7 +59,7 @@ opened-kept_of start held (p ∷ ps) = by_test (point_eq held p) refl (opened-ke
       (sym (point_eq-true held p e)) behind
   by_test false e behind = ap (λ l. held ∷ l) behind
 
-point_eq-apart : (p q : Point) → ¬ (p ≡ q) → point_eq p q ≡ false
+pub point_eq-apart : (p q : Point) → ¬ (p ≡ q) → point_eq p q ≡ false
 point_eq-apart p q apart = by_test (point_eq p q) refl where
   by_test : (b : Bool) → point_eq p q ≡ b → b ≡ false
   by_test true e = absurd (apart (point_eq-true p q e))

@@ -1,3 +1,4 @@
+pub mod Boxes
 pub mod Idle
 pub mod Lines
 pub mod Text

@@ -7,7 +7,8 @@
 //! It is put to an `Out` of `byte_io`, a device that takes bytes, through an `OutBuffer`, so it is
 //! never in memory as a whole. [`prepare`] does what can run out of memory, and [`Prepared::put`]
 //! writes: all of the text and nothing else, or a prefix of it where the device fails. [`write`] is
-//! the two.
+//! the two. [`Prepared::put_as`] writes upright rectangles as boxes where it is asked to
+//! (`specs/Boxes.antt`).
 //!
 //! # Model and invariants
 //!
@@ -22,6 +23,7 @@
 //! ```
 #![tactic(auto)]
 
+mod boxes;
 mod laws;
 mod points;
 #[cfg(test)]
@@ -31,5 +33,6 @@ mod turns;
 mod wrap;
 mod writer;
 
+pub use boxes::{Rectangles, UprightBox};
 pub use laws::{lines_are_not_idle, the_wrapping_symbol_is_the_least_unused};
 pub use writer::{Prepared, WriteFault, prepare, write};

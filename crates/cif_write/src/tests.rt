@@ -1,9 +1,10 @@
 //! Tests of what no clause says: that texts are written, and that definitions mean what they should.
 
+use crate::boxes::{Rectangles, box_as};
 use crate::points::put_bridged;
 use crate::text::put_call;
 use crate::wrap::least_unused;
-use crate::writer::{WriteFault, write};
+use crate::writer::{WriteFault, prepare, write};
 use byte_io::{Failing, MemoryOut, OutBuffer};
 use cif_layout::FromCif;
 use lay_cells::Cells;
@@ -48,6 +49,83 @@ fn writes_the_lines_of_the_format(rt: HostRuntime) {
         assert_eq!(rt; rewrite(rt.alloc(), text, &mut out), Ok(()), "{want:?}");
         assert_eq!(rt; out.written(), want);
     }
+}
+
+/// Writes what the text means to the device, with boxes.
+fn rewrite_boxed(alloc: Global, text: &[u8], out: &mut MemoryOut) -> Result<(), WriteFault> {
+    let Ok(file) = cif_read::read(alloc, text) else {
+        return Err(WriteFault::NoMemory);
+    };
+    let snapshot = Snapshot::from_cif(alloc, file)?;
+    Ok(prepare(&snapshot)?.put_as(out, Rectangles::Boxes)?)
+}
+
+// Could catch a definition of a box that isn't the format: its unit, the order of its numbers, where its centre is, and which
+// paths are boxes: the rectangles that begin at any corner and run either way, but those with an odd middle, with a point
+// more, or too long, and no other shape of four points.
+#[test]
+fn upright_rectangles_are_written_as_boxes(rt: HostRuntime) {
+    let rows: [(&[u8], &[u8]); 13] = [
+        (b"L NM; B 40 20 0 0; E", b"L NM;\nB 80 40 0 0;\n"),
+        (b"L A; P 3 5 3 2 -1 2 -1 5; E", b"L A;\nB 8 6 2 7;\n"),
+        (b"L A; P -1 5 -1 2 3 2 3 5; E", b"L A;\nB 8 6 2 7;\n"),
+        (b"L A; P -1 2 -1 5 3 5 3 2; E", b"L A;\nB 8 6 2 7;\n"),
+        (
+            b"L A; B 2 2 0 0; B 2 4 0 0; L B; B 2 2 9 -9; E",
+            b"L A;\nB 4 4 0 0;\nB 4 8 0 0;\nL B;\nB 4 4 18 -18;\n",
+        ),
+        (
+            b"DS 1 1 2; L A; P 0 0 3 0 3 2 0 2; DF; C 1; E",
+            b"L A;\nP 0 0 3 0 3 2 0 2;\n",
+        ),
+        (
+            b"DS 1 1 2; L A; P 0 0 2 0 2 3 0 3; DF; C 1; E",
+            b"L A;\nP 0 0 2 0 2 3 0 3;\n",
+        ),
+        (
+            b"L A; P 0 0 2 0 2 1 1 1 1 2 0 2; E",
+            b"L A;\nP 0 0 4 0 4 2 2 2 2 4 0 4;\n",
+        ),
+        (
+            b"L A; P 0 0 1 0 2 0 2 2 0 2; E",
+            b"L A;\nP 0 0 2 0 4 0 4 4 0 4;\n",
+        ),
+        (b"L A; P 0 1 1 0 2 1 1 2; E", b"L A;\nP 0 2 2 0 4 2 2 4;\n"),
+        (b"L A; P 0 0 2 2 2 0 0 2; E", b"L A;\nP 0 0 4 4 4 0 0 4;\n"),
+        (
+            b"DS 1 1 2; L A; P -1073741824 0 1073741822 0 1073741822 2 -1073741824 2; DF; C 1; E",
+            b"L A;\nB 2147483646 2 -1 1;\n",
+        ),
+        (
+            b"DS 1 1 2; L A; P -1073741824 0 1073741824 0 1073741824 2 -1073741824 2; DF; C 1; E",
+            b"L A;\nP -1073741824 0 1073741824 0 1073741824 2 -1073741824 2;\n",
+        ),
+    ];
+    for (text, want) in rows {
+        let mut out = MemoryOut::new(rt.alloc(), 1000, 1000, Failing::ByErr);
+        assert_eq!(rt;
+            rewrite_boxed(rt.alloc(), text, &mut out),
+            Ok(()),
+            "{want:?}"
+        );
+        let inner = out
+            .written()
+            .strip_prefix(b"DS 1 1 2;\n")
+            .and_then(|rest| rest.strip_suffix(b"DF;\nC 1;\nE\n"));
+        assert_eq!(rt; inner, Some(want));
+    }
+}
+
+// Could catch a shape with a hole that is written as the box round it.
+#[test]
+fn a_shape_of_several_rings_is_no_box(rt: HostRuntime) -> Result<(), Fail> {
+    let mut rings = Vec::new(rt.alloc());
+    rings.push(ring(rt.alloc(), &[(0, 0), (8, 0), (8, 8), (0, 8)])?)?;
+    assert!(rt; box_as(Rectangles::Boxes, &rings).is_some());
+    assert!(rt; box_as(Rectangles::Polygons, &rings).is_none());
+    rings.push(ring(rt.alloc(), &[(2, 2), (2, 6), (6, 6), (6, 2)])?)?;
+    assert!(rt; box_as(Rectangles::Boxes, &rings).is_none());
+    Ok(())
 }
 
 // Could catch an answer that changes where a device fails in mid-text, and a text that is put in pieces.

@@ -2,18 +2,20 @@
 //! takes no memory.
 ghost use Rattle.std.specs.Prelude.{◌≡◌, None, map};
 ghost use Rattle.byte_io.specs.Buffered.{Buffered};
-ghost use Rattle.cif_write.specs.Lines.{Call, OnLayer, Path, Start, line_text, lines_text};
+ghost use Rattle.cif_write.specs.Boxes.{line_text_as, lines_text_as, text_as};
+ghost use Rattle.cif_write.specs.Lines.{Call, OnLayer, Path, Start, line_text};
 ghost use Rattle.cif_write.specs.Text.{
   definition_lines,
   definitions_lines,
   item_lines,
   items_lines,
 };
-ghost use Rattle.cif_write.specs.Text.{layer_after, path_lines, text};
+ghost use Rattle.cif_write.specs.Text.{layer_after, path_lines};
 ghost use Rattle.cif_write.specs.Wrap.{entry_item, least_unused, own_definitions, wrapping};
 ghost use Rattle.lay_layouts.specs.SlotOrder.{in_slot_order};
 ghost use Rattle.lay_point.specs.Bridges.{bridged};
 
+use crate::boxes::{Rectangles, box_as, put_box};
 use crate::points::put_bridged;
 use crate::turns::put_turn;
 use crate::wrap::plain_target;
@@ -23,19 +25,20 @@ use lay_items::{Items, Snapshot};
 use lay_layouts::{Item, Rings};
 use lay_point::{LayerName, Turn};
 
-/// Puts the text of the layout, of whose symbols none has the number `unused`.
+/// Puts the text of the layout, of whose symbols none has the number `unused`, with boxes where they are asked for.
 pub(crate) fn put_text<O: Out>(
     out: &mut O,
     buffer: &mut OutBuffer,
+    rectangles: Rectangles,
     snapshot: &Snapshot,
     unused: u32,
 )
     requires { unused ≡ least_unused (in_slot_order snapshot.now.symbols) }
     ensures { Buffered O.written O.failures out.old buffer.old out.new buffer.new
-        (text snapshot.now) }
+        (text_as rectangles snapshot.now) }
 {
-    put_definitions(out, buffer, snapshot);
-    let called = put_wrapping(out, buffer, snapshot, unused);
+    put_definitions(out, buffer, rectangles, snapshot);
+    let called = put_wrapping(out, buffer, rectangles, snapshot, unused);
     put_call(out, buffer, called, Turn::unturned());
     buffer.put(out, b"E\n");
 }
@@ -45,25 +48,31 @@ pub(crate) fn put_text<O: Out>(
 fn put_wrapping<O: Out>(
     out: &mut O,
     buffer: &mut OutBuffer,
+    rectangles: Rectangles,
     snapshot: &Snapshot,
     unused: u32,
 ) -> u32
     requires { unused ≡ least_unused (in_slot_order snapshot.now.symbols) }
     ensures lines { Buffered O.written O.failures out.old buffer.old out.new buffer.new
-        (lines_text (definitions_lines (wrapping snapshot.now).definitions)) }
+        (lines_text_as rectangles (definitions_lines (wrapping snapshot.now).definitions)) }
     ensures called { result ≡ (wrapping snapshot.now).called }
 {
     if let Some(target) = plain_target(snapshot.items(CellId::Top)) {
         return target;
     }
-    put_definition(out, buffer, unused, snapshot.items(CellId::Top));
+    put_definition(out, buffer, rectangles, unused, snapshot.items(CellId::Top));
     unused
 }
 
 /// Puts the lines of the symbols, in the order of their slots.
-fn put_definitions<O: Out>(out: &mut O, buffer: &mut OutBuffer, snapshot: &Snapshot)
+fn put_definitions<O: Out>(
+    out: &mut O,
+    buffer: &mut OutBuffer,
+    rectangles: Rectangles,
+    snapshot: &Snapshot,
+)
     ensures { Buffered O.written O.failures out.old buffer.old out.new buffer.new
-        (lines_text (definitions_lines (own_definitions snapshot.now))) }
+        (lines_text_as rectangles (definitions_lines (own_definitions snapshot.now))) }
 {
     let cells = snapshot.cells();
     for position in 0..cells.len() {
@@ -72,20 +81,26 @@ fn put_definitions<O: Out>(out: &mut O, buffer: &mut OutBuffer, snapshot: &Snaps
         }
         let number = cells.at(position).unwrap();
         let items = snapshot.items(CellId::Symbol(number));
-        put_definition(out, buffer, number, items);
+        put_definition(out, buffer, rectangles, number, items);
     }
 }
 
 /// Puts the lines of a symbol.
-fn put_definition<O: Out>(out: &mut O, buffer: &mut OutBuffer, number: u32, items: Items<'_>)
+fn put_definition<O: Out>(
+    out: &mut O,
+    buffer: &mut OutBuffer,
+    rectangles: Rectangles,
+    number: u32,
+    items: Items<'_>,
+)
     ensures { Buffered O.written O.failures out.old buffer.old out.new buffer.new
-        (lines_text (definition_lines (record {
+        (lines_text_as rectangles (definition_lines (record {
           number = number;
           items = map entry_item items.entry;
         }))) }
 {
     put_start(out, buffer, number);
-    put_items(out, buffer, items);
+    put_items(out, buffer, rectangles, items);
     buffer.put(out, b"DF;\n");
 }
 
@@ -100,16 +115,16 @@ fn put_start<O: Out>(out: &mut O, buffer: &mut OutBuffer, number: u32)
 }
 
 /// Puts the lines of a symbol's items.
-fn put_items<O: Out>(out: &mut O, buffer: &mut OutBuffer, items: Items<'_>)
+fn put_items<O: Out>(out: &mut O, buffer: &mut OutBuffer, rectangles: Rectangles, items: Items<'_>)
     ensures { Buffered O.written O.failures out.old buffer.old out.new buffer.new
-        (lines_text (items_lines None (map entry_item items.entry))) }
+        (lines_text_as rectangles (items_lines None (map entry_item items.entry))) }
 {
     let mut set = None;
     for (_, item) in items {
         if buffer.has_failed() {
             return;
         }
-        set = put_item(out, buffer, set, item);
+        set = put_item(out, buffer, rectangles, set, item);
     }
 }
 
@@ -118,16 +133,17 @@ fn put_items<O: Out>(out: &mut O, buffer: &mut OutBuffer, items: Items<'_>)
 fn put_item<O: Out>(
     out: &mut O,
     buffer: &mut OutBuffer,
+    rectangles: Rectangles,
     set: Option<LayerName>,
     item: &Item,
 ) -> Option<LayerName>
     ensures lines { Buffered O.written O.failures out.old buffer.old out.new buffer.new
-        (lines_text (item_lines set item.now)) }
+        (lines_text_as rectangles (item_lines set item.now)) }
     ensures set { result ≡ layer_after set item.now }
 {
     match item {
         Item::Shape { layer, rings, .. } => {
-            put_shape(out, buffer, set, *layer, rings);
+            put_shape(out, buffer, rectangles, set, *layer, rings);
             Some(*layer)
         }
         Item::Placed { target, turn, .. } => {
@@ -141,17 +157,18 @@ fn put_item<O: Out>(
 fn put_shape<O: Out>(
     out: &mut O,
     buffer: &mut OutBuffer,
+    rectangles: Rectangles,
     set: Option<LayerName>,
     layer: LayerName,
     rings: &Rings,
 )
     ensures { Buffered O.written O.failures out.old buffer.old out.new buffer.new
-        (lines_text (path_lines set layer (bridged rings.now))) }
+        (lines_text_as rectangles (path_lines set layer (bridged rings.now))) }
 {
     if set != Some(layer) {
         put_layer(out, buffer, layer);
     }
-    put_path(out, buffer, rings);
+    put_figure(out, buffer, rectangles, rings);
 }
 
 /// Puts the line that sets a layer.
@@ -162,6 +179,17 @@ fn put_layer<O: Out>(out: &mut O, buffer: &mut OutBuffer, layer: LayerName)
     buffer.put(out, b"L ");
     buffer.put(out, layer.as_bytes());
     buffer.put(out, b";\n");
+}
+
+/// Puts the line that draws a shape: the one path of its rings, or the box that it is written as.
+fn put_figure<O: Out>(out: &mut O, buffer: &mut OutBuffer, rectangles: Rectangles, rings: &Rings)
+    ensures { Buffered O.written O.failures out.old buffer.old out.new buffer.new
+        (line_text_as rectangles (Path (bridged rings.now))) }
+{
+    match box_as(rectangles, rings.as_slice()) {
+        Some(figure) => put_box(out, buffer, figure),
+        None => put_path(out, buffer, rings),
+    }
 }
 
 /// Puts the line that draws the one path of a shape's rings.

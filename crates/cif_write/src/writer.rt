@@ -5,9 +5,11 @@ ghost use Rattle.cif_write.specs.declared.writer.WriteFault.TheVariants.{
   NoMemory as OutOfMemory,
 };
 ghost use Rattle.byte_io.specs.Device.{WroteAll, WrotePrefix};
+ghost use Rattle.cif_write.specs.Boxes.{text_as};
 ghost use Rattle.cif_write.specs.Text.{text};
 ghost use Rattle.lay_point.specs.Memory.{IsAnswer};
 
+use crate::boxes::Rectangles;
 use crate::text::put_text;
 use crate::wrap::least_unused;
 use byte_io::{Out, OutBuffer, OutFault};
@@ -99,8 +101,26 @@ impl<'s> Prepared<'s> {
         ensures fault { OnErr result
             (WrotePrefix O.written O.failures out.old out.new (text self.now)) }
     {
+        self.put_as(out, Rectangles::Polygons)
+    }
+
+    /// Writes the layout's text to the device, its upright rectangles as polygons or as boxes. It takes no memory.
+    ///
+    /// # Errors
+    ///
+    /// `OutFault` at the first failure of the device; a prefix of the text was written then.
+    ///
+    /// # Cost
+    ///
+    /// That of `put`, and for boxes a few comparisons more for each shape of four points.
+    pub fn put_as<O: Out>(&self, out: &mut O, rectangles: Rectangles) -> Result<(), OutFault>
+        ensures ok { OnOk result
+            (WroteAll O.written O.failures out.old out.new (text_as rectangles self.now)) }
+        ensures fault { OnErr result
+            (WrotePrefix O.written O.failures out.old out.new (text_as rectangles self.now)) }
+    {
         let mut buffer = OutBuffer::new();
-        put_text(out, &mut buffer, self.snapshot, self.unused);
+        put_text(out, &mut buffer, rectangles, self.snapshot, self.unused);
         buffer.flush(out)
     }
 }

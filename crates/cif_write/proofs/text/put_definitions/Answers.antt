@@ -3,7 +3,7 @@ use Rattle.std.proofs.lemmas.Option.{get_or_from_slice_get}
 use Rattle.lay_layouts.specs.declared.id.ItemId.{ItemId}
 use Rattle.lay_layouts.specs.declared.item.Item.{Item}
 use Rattle.byte_io.proofs.BufferedLemmas.{Buffered-is}
-use Rattle.cif_write.specs.Lines.{lines_text}
+use Rattle.cif_write.specs.Boxes.{line_text_as, lines_text_as}
 use Rattle.cif_write.specs.Text.{definition_lines, definitions_lines}
 use Rattle.cif_write.specs.Wrap.{entry_item, written_definition}
 use Rattle.cif_write.proofs.BegunLemmas.{Begun-then}
@@ -20,8 +20,9 @@ loop-position-preserved g c =
     let within : i < length cells = omega (arith, c.loop-position-test.true, c.len-position-end.ensures.value) in
     let at : slice_get cells i ≡ Some number = search rules in
     let of_items : List (ItemId × Item) → List ℕ =
-    λ es. lines_text (definition_lines (record { number = number; items = map entry_item es })) in
-    let left = λ (k : ℕ). lines_text (definitions_lines (map (written_definition snapshot) (drop k cells))) in
+    λ es. lines_text_as c.args.rectangles (definition_lines (record { number = number; items = map entry_item es })) in
+    let left = λ (k : ℕ). lines_text_as c.args.rectangles (definitions_lines (map (written_definition snapshot) (drop k cells))) in
     Begun-then {rest = left i} (left (i + 1)) c.loop-position.invariant
     (Buffered-is c.put_definition.ensures (ap of_items c.items-items.ensures))
-    (definitions_text-step (written_definition snapshot) cells i number within (get_or_from_slice_get cells i number number at))
+    (definitions_text-step (line_text_as c.args.rectangles) (written_definition snapshot) cells i number within
+    (get_or_from_slice_get cells i number number at))

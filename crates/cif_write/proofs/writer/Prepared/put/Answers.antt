@@ -1,17 +1,15 @@
-use Rattle.std.proofs.Common.{◌≡◌, ℕ, List, [], Option, None, Some, Result, Ok, Err, OnErr, ap, append-nil, ◌∙◌}
-use Rattle.byte_io.specs.Buffered.{Buffered}
-use Rattle.byte_io.specs.Device.{WrotePrefix}
-use Rattle.byte_io.proofs.BufferedLemmas.{Buffered-failed, Buffered-is, Buffered-then}
-use Rattle.cif_write.specs.Text.{text}
+-- The text as it is written without boxes.
+use Rattle.std.proofs.Common.{List, ℕ, subst, OnOk, OnErr}
+use Rattle.byte_io.specs.Device.{WroteAll, WrotePrefix}
+use Rattle.cif_write.proofs.BoxLemmas.{text_as_paths}
 use Rattle.cif_write.proofs.writer.Prepared.put.Goals as goal
 
--- where the flush failed, so did the device, and what was held back is lost
-cut : {S E : Type 0} {written : S → Option (List ℕ)} {failures : S → ℕ} {a b : S} {h k : Option (List ℕ)} {xs : List ℕ} (r : Result Unit E)
-    → h ≡ Some [] → OnErr r (k ≡ None) → Buffered written failures a h b k xs → OnErr r (WrotePrefix written failures a b xs)
-cut (Ok u) empty failed p = tt
-cut (Err e) empty failed p = Buffered-failed (rw (empty, failed) at p)
+pub returns-clause-ok : goal.returns-clause-ok
+returns-clause-ok g c =
+    subst (λ (t : List ℕ). OnOk c.put_as.result (WroteAll g.O.Out.written g.O.Out.failures c.args.out.now c.put_as.new.out t))
+    (text_as_paths c.args.self.now) c.put_as.ensures.ok
 
 pub returns-clause-fault : goal.returns-clause-fault
 returns-clause-fault g c =
-    cut c.flush.result c.new-buffer.ensures c.flush.ensures.err
-    (Buffered-is (Buffered-then c.put_text.ensures c.flush.ensures.put) (append-nil _ ∙ ap text c.self.view_is))
+    subst (λ (t : List ℕ). OnErr c.put_as.result (WrotePrefix g.O.Out.written g.O.Out.failures c.args.out.now c.put_as.new.out t))
+    (text_as_paths c.args.self.now) c.put_as.ensures.fault
