@@ -1,10 +1,16 @@
 //! The lines that are said of a fault.
 ghost use Rattle.std.specs.Prelude.{◌≡◌, ◌≤◌, ◌++◌, IfOk, length};
-ghost use Rattle.job_advice.specs.Places.{TellsPlace, TellsTextPlace, heading_text, text_heading_text, text_line_text};
+ghost use Rattle.job_advice.specs.Places.{BeginsWith, TellsPlace, TellsTextPlace};
+ghost use Rattle.job_advice.specs.Places.{
+  heading_text,
+  live_heading_text,
+  text_heading_text,
+  text_line_text,
+};
 
 use crate::cif_words::words_of;
 use crate::line::{line_of, text_start};
-use crate::line_advice::told_of_line;
+use crate::line_advice::{told_of_line, told_of_live};
 use crate::place::{line_end, place_of};
 use crate::window::window;
 use cif_read::CifFault;
@@ -85,6 +91,24 @@ pub fn of_job_fault(alloc: Global, job: &[u8], line: u32) -> Result<Vec<u8>, NoM
     lines_of(alloc, job, offset, told.problem.as_slice(), told.cure)
 }
 
+/// What is reported to a person of a line of a live run, of this number after `%live`, that says nothing which a run takes:
+/// the word, what is wrong with it, and what the line has to be.
+///
+/// # Errors
+///
+/// `NoMemory`, if an allocation fails.
+pub fn of_live_line(alloc: Global, line: &[u8], number: u64) -> Result<Vec<u8>, NoMemory>
+    ensures { IfOk result (λ lines. BeginsWith (live_heading_text number) lines.items) }
+{
+    let end = line_end(line, 0);
+    let told = told_of_live(alloc, &line[..end])?;
+    let offset = end.saturating_sub(told.left);
+    let mut lines = live_heading(alloc, number)?;
+    let rest = rest_of(alloc, line, 0, offset, told.problem.as_slice(), told.cure)?;
+    lines.extend_from_slice(rest.as_slice())?;
+    Ok(lines)
+}
+
 /// The place and what is wrong there, the line with a caret under the place, and what to do.
 fn lines_of(
     alloc: Global,
@@ -132,6 +156,16 @@ fn heading(alloc: Global, line: usize, column: usize) -> Result<Vec<u8>, NoMemor
 {
     let mut lines = Vec::new(alloc);
     write!(lines, "masklay: line {line}, column {column}: ").map_err(|_| NoMemory)?;
+    Ok(lines)
+}
+
+/// The number of a line of a live run.
+#[tactic(auto, unfolding(crate::specs::Places::live_heading_text))]
+fn live_heading(alloc: Global, number: u64) -> Result<Vec<u8>, NoMemory>
+    ensures { IfOk result (λ lines. lines.items ≡ live_heading_text number) }
+{
+    let mut lines = Vec::new(alloc);
+    write!(lines, "masklay: line {number} after `%live`: ").map_err(|_| NoMemory)?;
     Ok(lines)
 }
 

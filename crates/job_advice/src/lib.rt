@@ -28,6 +28,6 @@ mod refusals;
 mod sections;
 mod window;
 
-pub use advice::{of_cif_fault, of_job_fault, of_text_fault};
+pub use advice::{of_cif_fault, of_job_fault, of_live_line, of_text_fault};
 pub use notices::of_notices;
 pub use refusals::{of_refusals, sentence_of};

@@ -11,6 +11,13 @@ use lay_point::NoMemory;
 use std::alloc::Global;
 use std::io::Write;
 
+/// The lines of a live run that are no steps.
+const LIVE_WORDS: &str =
+    "Such lines are %write, %cells, %items CELL, %look ITEM, %history and %changes TRANSACTION.";
+
+/// The form of a step's line.
+const LIVE_STEPS: &str = "A step comes after its session's number: `1 open`, `2 undo 1.1`.";
+
 /// Returns what is said of a line of this job, which comes after these lines.
 pub(crate) fn told_of_line(
     alloc: Global,
@@ -37,6 +44,31 @@ pub(crate) fn told_of_line(
     }
 }
 
+/// Returns what is said of a line of a live run.
+pub(crate) fn told_of_live(alloc: Global, line: &[u8]) -> Result<Told, NoMemory> {
+    let (word, left, rest) = next_word(line);
+    if word.starts_with(b"%") {
+        return told(
+            alloc,
+            left,
+            "no line of a live run begins with this word",
+            LIVE_WORDS,
+        );
+    }
+    match number_of(MAX_SESSION, word) {
+        Some(session) if session != 0 => {
+            let (name, _, _) = next_word(rest);
+            told_of_step(alloc, name, problem_of(rest))
+        }
+        _ => told(
+            alloc,
+            left,
+            "this isn't a session, from 1 to 64",
+            LIVE_STEPS,
+        ),
+    }
+}
+
 /// Returns what is wrong and what to do, where so many bytes of the line are left.
 fn told(alloc: Global, left: usize, problem: &str, cure: &'static str) -> Result<Told, NoMemory> {
     let mut text = Vec::new(alloc);
@@ -52,6 +84,11 @@ fn told(alloc: Global, left: usize, problem: &str, cure: &'static str) -> Result
 fn next_left(words: &[u8]) -> usize {
     let (_, left, _) = next_word(words);
     left
+}
+
+/// Returns the first word where there is one of a thing, else the second.
+fn plural(count: usize, one: &'static str, more: &'static str) -> &'static str {
+    if count == 1 { one } else { more }
 }
 
 /// Returns what is said of a step whose first word is this.
@@ -123,11 +160,21 @@ fn told_of_order(alloc: Global, job: &[u8], left: usize, rest: &[u8]) -> Result<
     }
     let mut text = Vec::new(alloc);
     match first_miscount(job) {
-        Some(found) => write!(
-            text,
-            "session {} has {} steps, and is {} times in the order",
-            found.session, found.steps, found.times
-        ),
+        Some(found) => {
+            let (steps, times) = (found.steps, found.times);
+            write!(
+                text,
+                "session {} has {steps} {}",
+                found.session,
+                plural(steps, "step", "steps")
+            )
+            .map_err(|_| NoMemory)?;
+            write!(
+                text,
+                ", and is {times} {} in the order",
+                plural(times, "time", "times")
+            )
+        }
         None => write!(text, "the order names a session that has no section"),
     }
     .map_err(|_| NoMemory)?;
