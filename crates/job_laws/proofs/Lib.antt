@@ -1,4 +1,5 @@
 pub mod AnswerWords
+pub mod Asked
 pub mod Choices
 pub mod Cut
 pub mod Fields

@@ -41,11 +41,11 @@ use Rattle.job_laws.specs.Written.{op_word}
 
 -- ---- results by cases
 
-choose : {A P : Type 0} (b : Bool) (x y r : A) → (if b then x else y) ≡ r → (b ≡ true → x ≡ r → P) → (b ≡ false → y ≡ r → P) → P
+pub choose : {A P : Type 0} (b : Bool) (x y r : A) → (if b then x else y) ≡ r → (b ≡ true → x ≡ r → P) → (b ≡ false → y ≡ r → P) → P
 choose true x y r h first second = first refl h
 choose false x y r h first second = second refl h
 
-no_value : {A P : Type 0} (a : A) → ◌≡◌ {A = Option A} None (Some a) → P
+pub no_value : {A P : Type 0} (a : A) → ◌≡◌ {A = Option A} None (Some a) → P
 no_value a h = absurd (cc)
 
 same_value : {A : Type 0} (a b : A) → ◌≡◌ {A = Option A} (Some a) (Some b) → a ≡ b
@@ -55,7 +55,7 @@ bound : {A B P : Type 0} (o : Option A) (f : A → Option B) (b : B) → (o >>= 
 bound None f b h more = no_value b h
 bound (Some a) f b h more = more a refl h
 
-mapped : {A B P : Type 0} (f : A → B) (o : Option A) (b : B) → option_map f o ≡ Some b → ((a : A) → o ≡ Some a → f a ≡ b → P) → P
+pub mapped : {A B P : Type 0} (f : A → B) (o : Option A) (b : B) → option_map f o ≡ Some b → ((a : A) → o ≡ Some a → f a ≡ b → P) → P
 mapped f None b h more = no_value b h
 mapped f (Some a) b h more = more a refl (same_value (f a) b h)
 
@@ -71,7 +71,7 @@ next : {A B P : Type 0} (meaning : Word → Option A) (ws : List Word) (f : A ×
 next meaning [] f b h more = no_value b h
 next meaning (word ∷ rest) f b h more = next_of (meaning word) rest f b h (λ a is left. more word rest a refl is left)
 
-ended_is : {A P : Type 0} (ws : List Word) (a b : A) → if_ended ws a ≡ Some b → (ws ≡ [] → b ≡ a → P) → P
+pub ended_is : {A P : Type 0} (ws : List Word) (a b : A) → if_ended ws a ≡ Some b → (ws ≡ [] → b ≡ a → P) → P
 ended_is [] a b h more = more refl (sym (same_value a b h))
 ended_is (w ∷ ws) a b h more = no_value b h
 
@@ -92,7 +92,7 @@ next_point ws f b h more =
     more x y rest (record { x = c; y = d }) parts (record { column = column; row = row })
     (ap f (same_value (record { x = c; y = d }, rest) found made) ∙ left))))
 
-one_word : {A P : Type 0} (meaning : Word → Option A) (ws : List Word) (b : A) → (first_as meaning ws >>= λ a. if_ended a.1 a.0) ≡ Some b →
+pub one_word : {A P : Type 0} (meaning : Word → Option A) (ws : List Word) (b : A) → (first_as meaning ws >>= λ a. if_ended a.1 a.0) ≡ Some b →
     ((word : Word) → ws ≡ word ∷ [] → meaning word ≡ Some b → P) → P
 one_word meaning ws b h more =
     next meaning ws (λ a. if_ended a.1 a.0) b h (λ word rest a first is left.
@@ -212,7 +212,7 @@ bool_sound op ws command h =
     let parts : op_word op ∷ ws ≡ op_word op ∷ cell ∷ first ∷ second ∷ last ∷ [] = cc in
     combines op cell first second last c a b out parts is1 is2 is3 is4 same)))))
 
-named : (name : Word) (text : Word) → bytes_eq name text ≡ true → text ≡ name
+pub named : (name : Word) (text : Word) → bytes_eq name text ≡ true → text ≡ name
 named name text e = sym ((bytes_eq-Decides name text).0 e)
 
 op_is : (name : Word) (op : Op) → op_of name ≡ Some op → op_word op ≡ name
@@ -305,10 +305,10 @@ command_sound name ws command h =
     (λ e is. renamed (codes "poly") name ws command (named name (codes "poly") e) (poly_sound ws command is))
     (λ e is. short_sound name ws command is))
 
-alone : (name text : Word) (ws : List Word) → text ≡ name → ws ≡ [] → name ∷ ws ≡ text ∷ []
+pub alone : (name text : Word) (ws : List Word) → text ≡ name → ws ≡ [] → name ∷ ws ≡ text ∷ []
 alone name text ws is none = cc
 
-with_one : (name text word : Word) (ws : List Word) → text ≡ name → ws ≡ word ∷ [] → name ∷ ws ≡ text ∷ word ∷ []
+pub with_one : (name text word : Word) (ws : List Word) → text ≡ name → ws ≡ word ∷ [] → name ∷ ws ≡ text ∷ word ∷ []
 with_one name text word ws is one = cc
 
 txn_sound : {P : Type 0} (meaning : TxnId → Step) (ws : List Word) (step : Step) → option_map meaning (txn_alone ws) ≡ Some step →
@@ -370,7 +370,7 @@ points_read before ws (p ∷ points) are =
     ∙ points_read (before ++ (p ∷ [])) more points are.5
     ∙ ap Some (append_assoc before (p ∷ []) points)
 
-item_one : (word : Word) (id : ItemId) → parsed_item word ≡ Some id → item_alone (word ∷ []) ≡ Some id
+pub item_one : (word : Word) (id : ItemId) → parsed_item word ≡ Some id → item_alone (word ∷ []) ≡ Some id
 unfolding item_alone
 item_one word id is = rw is refl
 
@@ -378,7 +378,7 @@ symbol_one : (word : Word) (n : ℕ) → parsed_number MAX_SYMBOL word ≡ Some 
 unfolding symbol_alone
 symbol_one word n is = rw is refl
 
-txn_one : (word : Word) (txn : TxnId) → parsed_txn word ≡ Some txn → txn_alone (word ∷ []) ≡ Some txn
+pub txn_one : (word : Word) (txn : TxnId) → parsed_txn word ≡ Some txn → txn_alone (word ∷ []) ≡ Some txn
 unfolding txn_alone
 txn_one word txn is = rw is refl
 

@@ -3,6 +3,7 @@ pub mod JobLines
 pub mod Laws
 pub mod LineLaws
 pub mod Numbers
+pub mod Questions
 pub mod ReplyLaws
 pub mod Steps
 pub mod Told

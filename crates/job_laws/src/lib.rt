@@ -21,6 +21,11 @@
 //!   what it takes with a space between words, says that step, for each step whose numbers a line
 //!   can have. So steps of the same line are the same.
 //!
+//! # Questions
+//!
+//! - [`questions_are_asked`] (`specs/Questions.antt`): the words of a line of a live run are taken for
+//!   a question exactly where they ask it by the table of questions.
+//!
 //! # Replies
 //!
 //! - [`lines_tell_replies`] (`specs/Told.antt`): the line of a reply tells the session, the step
@@ -31,7 +36,7 @@
 //!
 //! # Files
 //!
-//! - `laws.rt`, `line_laws.rt`, `reply_laws.rt`: of jobs, of lines and steps, and of replies. They
+//! - `laws.rt`, `line_laws.rt`, `reply_laws.rt`: of jobs, of lines, steps and questions, and of replies. They
 //!   are stated in `specs/Laws.antt`, `specs/LineLaws.antt` and `specs/ReplyLaws.antt`.
 #![tactic(auto)]
 
@@ -40,5 +45,7 @@ mod line_laws;
 mod reply_laws;
 
 pub use laws::jobs_are_their_lines;
-pub use line_laws::{lines_and_words_are_cut, lines_tell_steps, steps_are_said};
+pub use line_laws::{
+    lines_and_words_are_cut, lines_tell_steps, questions_are_asked, steps_are_said,
+};
 pub use reply_laws::{lines_tell_replies, lines_tell_the_order};

@@ -2,6 +2,7 @@ pub mod Job
 pub mod Jobs
 pub mod Live
 pub mod Order
+pub mod Questions
 pub mod Replies
 pub mod Steps
 pub mod Text

@@ -62,6 +62,12 @@ leading_point words = do
   y ← leading_coordinate x.1
   Some (record { x = x.0; y = y.0 }, y.1)
 
+-- the one word is a cell
+unfoldable pub cell_alone : List Word → Option CellId
+cell_alone words = do
+  cell ← leading_cell words
+  if_ended cell.1 cell.0
+
 -- the one word is a transaction
 unfoldable pub txn_alone : List Word → Option TxnId
 txn_alone words = do

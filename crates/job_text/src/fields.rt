@@ -2,6 +2,7 @@
 ghost use Rattle.std.specs.Prelude.{◌≡◌, option_map};
 ghost use Rattle.job_text.specs.Job.{is_none_of};
 ghost use Rattle.job_text.specs.Steps.{
+  cell_alone,
   if_ended,
   item_alone,
   leading_cell,
@@ -90,6 +91,15 @@ fn txn_at(line: &[u8]) -> Option<(TxnId, &[u8])>
 {
     let (word, behind) = split_word(line)?;
     Some((txn_of(word)?, behind))
+}
+
+/// The cell that the one word names.
+#[tactic(auto, unfolding(crate::specs::Steps::cell_alone))]
+pub(crate) fn cell_alone(line: &[u8]) -> Option<CellId>
+    ensures { result ≡ cell_alone (words line.now) }
+{
+    let (cell, behind) = cell_at(line)?;
+    ended(behind, cell)
 }
 
 /// The transaction that the one word names.

@@ -18,7 +18,9 @@
 //!   text instead (`specs/Replies.antt`).
 //! - A live run has its steps in lines `SESSION STEP`, one at a time. [`live_line`] says what a
 //!   line asks for ([`LiveLine`]), and [`reply_line`] and [`odd_line`] give the comments that
-//!   answer it (`specs/Live.antt`).
+//!   answer it (`specs/Live.antt`). A [`Question`] is a line that changes nothing
+//!   (`specs/Questions.antt`); `live_questions` answers it, with the names and the words of items
+//!   that `reply_text.rt` puts, into a [`TextOut`].
 //!
 //! # Files
 //!
@@ -28,7 +30,7 @@
 //!   (`specs/Words.antt`), and the steps that they say (`specs/Steps.antt`). Lines are those of
 //!   `byte_io/specs/Lines.antt`.
 //! - `reply_text.rt`, `printing.rt`, `order.rt`, `text_out.rt`: what is written.
-//! - `live.rt`: lines of a live run.
+//! - `live.rt`, `question.rt`: lines of a live run.
 //!
 //! # Example
 //!
@@ -44,6 +46,7 @@ mod live;
 mod order;
 mod order_section;
 mod printing;
+mod question;
 mod reply_text;
 mod scripts;
 mod step_line;
@@ -55,3 +58,6 @@ pub use job::{Job, JobFault, MAX_JOB};
 pub use live::{LiveLine, live_line, odd_line, reply_line};
 pub use order::order_of;
 pub use printing::{comments, print, put_comments};
+pub use question::Question;
+pub use reply_text::{put_cell, put_found, put_item_id, put_refusal, put_txn};
+pub use text_out::TextOut;

@@ -6,6 +6,7 @@ ghost use Rattle.job_text.specs.Replies.{reply_text};
 ghost use Rattle.job_text.specs.Words.{words, words_of};
 
 use crate::order_section::session_of;
+use crate::question::{Question, question_of};
 use crate::reply_text::put_reply;
 use crate::step_line::step_of;
 use crate::text_out::TextOut;
@@ -25,11 +26,13 @@ pub enum LiveLine {
     Step(u8, SessionStep),
     /// That the layout is to be written.
     Write,
+    /// A question, whose answer changes nothing.
+    Ask(Question),
     /// None of these.
     Odd,
 }
 
-/// Returns what the line says: nothing, `SESSION STEP` with a step as in a job, or `%write`.
+/// Returns what the line says: nothing, `SESSION STEP` with a step as in a job, `%write`, or a question.
 ///
 /// # Errors
 ///
@@ -43,6 +46,9 @@ pub fn live_line(alloc: Global, line: &[u8]) -> Result<LiveLine, NoMemory>
     };
     if word == "%write".as_bytes() && is_blank(rest) {
         return Ok(LiveLine::Write);
+    }
+    if let Some(question) = question_of(word, rest) {
+        return Ok(LiveLine::Ask(question));
     }
     step_line(alloc, session_of(word), rest)
 }

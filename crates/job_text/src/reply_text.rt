@@ -120,7 +120,7 @@ fn put_made<O: Out>(out: &mut O, buffer: &mut OutBuffer, id: ItemId)
         (codes "made " ++ item_text id) }
 {
     buffer.put(out, b"made ");
-    put_id(out, buffer, id.session, id.txn, u64::from(id.seq));
+    put_item_id(out, buffer, id);
 }
 
 /// Puts the words of new items, so many from this id on. No sum overflows 64 bits.
@@ -135,6 +135,13 @@ fn put_several<O: Out>(out: &mut O, buffer: &mut OutBuffer, first: ItemId, count
 }
 
 /// Puts the name of an item.
+pub fn put_item_id<O: Out>(out: &mut O, buffer: &mut OutBuffer, id: ItemId)
+    ensures { Buffered O.written O.failures out.old buffer.old out.new buffer.new (item_text id) }
+{
+    put_id(out, buffer, id.session, id.txn, u64::from(id.seq));
+}
+
+/// Puts the name of the item of this number of a transaction.
 fn put_id<O: Out>(out: &mut O, buffer: &mut OutBuffer, session: u8, txn: u16, seq: u64)
     ensures { Buffered O.written O.failures out.old buffer.old out.new buffer.new
         (item_text (record { session = session; txn = txn; seq = seq })) }
@@ -145,7 +152,7 @@ fn put_id<O: Out>(out: &mut O, buffer: &mut OutBuffer, session: u8, txn: u16, se
 }
 
 /// Puts the name of a transaction.
-fn put_txn<O: Out>(out: &mut O, buffer: &mut OutBuffer, txn: TxnId)
+pub fn put_txn<O: Out>(out: &mut O, buffer: &mut OutBuffer, txn: TxnId)
     ensures { Buffered O.written O.failures out.old buffer.old out.new buffer.new (txn_text txn) }
 {
     buffer.put_unsigned(out, u64::from(txn.session));
@@ -154,7 +161,11 @@ fn put_txn<O: Out>(out: &mut O, buffer: &mut OutBuffer, txn: TxnId)
 }
 
 /// Puts the words of an item that was looked at.
-fn put_found<O: Out>(out: &mut O, buffer: &mut OutBuffer, item: &Item)
+///
+/// # Cost
+///
+/// A pass over the points of a shape.
+pub fn put_found<O: Out>(out: &mut O, buffer: &mut OutBuffer, item: &Item)
     ensures { Buffered O.written O.failures out.old buffer.old out.new buffer.new
         (found_text item.now) }
 {
@@ -241,7 +252,7 @@ fn put_point<O: Out>(out: &mut O, buffer: &mut OutBuffer, point: Point)
 }
 
 /// Puts a cell, as jobs name it.
-fn put_cell<O: Out>(out: &mut O, buffer: &mut OutBuffer, cell: CellId)
+pub fn put_cell<O: Out>(out: &mut O, buffer: &mut OutBuffer, cell: CellId)
     ensures { Buffered O.written O.failures out.old buffer.old out.new buffer.new (cell_text cell) }
 {
     match cell {
@@ -286,7 +297,7 @@ fn put_quarter<O: Out>(out: &mut O, buffer: &mut OutBuffer, quarter: Quarter)
 }
 
 /// Puts the words of a refusal: its number, its name, and the transaction that it names.
-fn put_refusal<O: Out>(out: &mut O, buffer: &mut OutBuffer, fault: StepFault)
+pub fn put_refusal<O: Out>(out: &mut O, buffer: &mut OutBuffer, fault: StepFault)
     ensures { Buffered O.written O.failures out.old buffer.old out.new buffer.new
         (fault_text fault) }
 {

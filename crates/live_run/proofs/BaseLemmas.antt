@@ -98,11 +98,3 @@ refuses head number (JobHead line) text same is = (base_job head number line is,
 refuses head number (CifHead fault) text same is =
     let (cif, from, means) = base_cif head number fault is in (cif, from, means, same)
 refuses head number MemoryHead text same is = tt
-
--- ---- a live line
-
-pub head_opens : (t : Bool) (head : List ℕ) (count number : ℕ) (line : List ℕ) (live : Live) → t ≡ true → number ≡ count + 1
-    → BeginsRun head number (run_of live) → HeadTo t head count line (Ok (Steps live))
-head_opens t head count number line live is next opens =
-    subst (λ (b : Bool). HeadTo b head count line (Ok (Steps live))) (sym is)
-    (run_of live, subst (λ (n : ℕ). BeginsRun head n (run_of live)) next opens, refl)

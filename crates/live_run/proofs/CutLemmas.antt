@@ -52,12 +52,12 @@ unended : (b : ℕ) (line : List ℕ) → list_all is_not_newline (b ∷ line) �
 unended b [] h = is_other (eqb b 10) (both (is_not_newline b) true h).0
 unended b (c ∷ line) h = unended c line (both (is_not_newline b) (list_all is_not_newline (c ∷ line)) h).1
 
-with_newline : (line : List ℕ) → is_ended (line ++ 10 ∷ []) ≡ true
+pub with_newline : (line : List ℕ) → is_ended (line ++ 10 ∷ []) ≡ true
 with_newline [] = refl
 with_newline (b ∷ []) = refl
 with_newline (b ∷ c ∷ line) = with_newline (c ∷ line)
 
-no_whole : (line : List ℕ) → list_all is_not_newline line ≡ true → filter is_ended (lines line) ≡ []
+pub no_whole : (line : List ℕ) → list_all is_not_newline line ≡ true → filter is_ended (lines line) ≡ []
 no_whole [] h = refl
 no_whole (b ∷ line) h =
     let is : is_ended (b ∷ line) ≡ false = unended b line h in

@@ -1,6 +1,6 @@
 -- Where a run stands after a byte, and after the last.
 use Rattle.std.proofs.Common.{◌≡◌, ◌≢◌, ℕ, List, [], ◌∷◌, ◌++◌, false, eqb, Option, Result, Ok, Err}
-use Rattle.std.proofs.Common.{inl, inr, refl, sym, ap, ◌∙◌, subst, append_assoc}
+use Rattle.std.proofs.Common.{inl, inr, refl, sym, ap, ◌∙◌, subst, append_assoc, append-nil}
 use Rattle.std.specs.Prelude.{⊤}
 use Rattle.byte_io.specs.Lines.{lines}
 use Rattle.live_run.specs.declared.course.Course.{Course}
@@ -8,90 +8,149 @@ use Rattle.live_run.specs.declared.ending.LiveEnd.{LiveEnd}
 use Rattle.live_run.specs.declared.ending.LiveEnd.TheVariants.{Memory}
 use Rattle.live_run.specs.Cif.{whole}
 use Rattle.live_run.specs.Said.{IsSaid}
-use Rattle.live_run.specs.Ending.{IsAnswered, IsStop}
+use Rattle.live_run.specs.Ending.{Does, IsAnswered, IsStop, Past, all_lines, whole_lines}
+use Rattle.live_run.specs.Journal.{Entry, kept_in}
 use Rattle.live_run.specs.Course.{ClosesTo, HearsTo, Phase, phase_of}
-use Rattle.live_run.specs.Ear.{Hears, HearsLast, IsAt}
+use Rattle.live_run.specs.declared.ear.Ear.{Ear}
+use Rattle.live_run.specs.Ear.{Hears, HearsLast, IsAt, PieceTo}
 use Rattle.live_run.proofs.CutLemmas.{cut_byte, cut_end, cut_last, cut_line, cut_lines, cut_whole, cut_whole_more}
 use Rattle.live_run.proofs.StopLemmas.{closes, heard_line, said_at, stops_line, stops_memory}
 
-module _ {O : Type 0} (written : O → Option (List ℕ)) (failures : O → ℕ) where
-  -- ---- a byte
+-- ---- the past in front of what was given
 
-  pub byte_memory : (base out : O) (given : List ℕ) (phase : Phase) (line : List ℕ) (b : ℕ) (more : List ℕ)
-      → Hears written failures base out given phase line → IsStop written failures base out ((given ++ b ∷ []) ++ more) ⊥ Memory
-  byte_memory base out given phase line b more (seen, cut, at) =
-      stops_memory written failures ⊥ base out out seen phase ((given ++ b ∷ []) ++ more) (lines (line ++ b ∷ more))
-      (ap lines (append_assoc given (b ∷ []) more) ∙ cut.cut (b ∷ more)) at refl
+behind_past : (past : Past) (given : List ℕ) (seen more : List (List ℕ)) → lines given ≡ seen ++ more
+    → all_lines past given ≡ (past.lines ++ seen) ++ more
+behind_past past given seen more is =
+    ap (λ (ls : List (List ℕ)). past.lines ++ ls) is ∙ sym (append_assoc past.lines seen more)
 
-  pub byte_inside : (base out : O) (given : List ℕ) (phase : Phase) (line : List ℕ) (b : ℕ) (l : List ℕ) → eqb b 10 ≡ false
-      → l ≡ line ++ b ∷ [] → Hears written failures base out given phase line → Hears written failures base out (given ++ b ∷ []) phase l
-  byte_inside base out given phase line b l other is (seen, cut, at) =
-      subst (λ (l : List ℕ). Hears written failures base out (given ++ b ∷ []) phase l) (sym is)
-      (seen, cut_byte given seen line b other cut, at)
+whole_past : (past : Past) (given : List ℕ) (seen more : List (List ℕ)) → whole given ≡ seen ++ more
+    → (past.lines ++ seen) ++ more ≡ whole_lines past given
+whole_past past given seen more is =
+    append_assoc past.lines seen more ∙ ap (λ (ls : List (List ℕ)). past.lines ++ ls) (sym is)
 
-  newline : (base out out' : O) (given : List ℕ) (phase : Phase) (line : List ℕ) (course : Course)
-      → HearsTo written failures out out' phase (line ++ 10 ∷ []) (Ok course)
-      → Hears written failures base out given phase line → Hears written failures base out' (given ++ 10 ∷ []) (phase_of course) []
-  newline base out out' given phase line course to (seen, cut, at) = (
-    seen ++ (line ++ 10 ∷ []) ∷ [],
-    cut_line given seen line cut,
-    heard_line written failures base out out' seen (line ++ 10 ∷ []) phase course at to,
-  )
+module _ {O J : Type 0} (written : O → Option (List ℕ)) (failures : O → ℕ) (kept : J → Option (List Entry)) (losses : J → ℕ) (past : Past)
+  where
+    -- ---- a byte
 
-  pub line_heard : (base out out' : O) (given : List ℕ) (phase : Phase) (line : List ℕ) (b : ℕ) (l rest : List ℕ) (course : Course)
-      → b ≡ 10 → l ≡ line ++ b ∷ [] → rest ≡ [] → HearsTo written failures out out' phase l (Ok course)
-      → Hears written failures base out given phase line → Hears written failures base out' (given ++ b ∷ []) (phase_of course) rest
-  line_heard base out out' given phase line b l rest course ten is none to at =
-      let to' = subst (λ (l : List ℕ). HearsTo written failures out out' phase l (Ok course))
-      (is ∙ ap (λ (n : ℕ). line ++ n ∷ []) ten) to in
-      subst (λ (r : List ℕ). Hears written failures base out' (given ++ b ∷ []) (phase_of course) r) (sym none)
-      (subst (λ (n : ℕ). Hears written failures base out' (given ++ n ∷ []) (phase_of course) []) (sym ten)
-      (newline base out out' given phase line course to' at))
+    pub byte_memory : (base out : O × J) (given : List ℕ) (phase : Phase) (line : List ℕ) (b : ℕ) (more : List ℕ)
+        → Hears written failures kept losses past base out given phase line
+        → IsStop written failures kept losses past base out ((given ++ b ∷ []) ++ more) ⊥ Memory
+    byte_memory base out given phase line b more (seen, cut, at) =
+        stops_memory written failures kept losses past ⊥ base out out (past.lines ++ seen) phase ((given ++ b ∷ []) ++ more)
+        (lines (line ++ b ∷ more))
+        (behind_past past ((given ++ b ∷ []) ++ more) seen (lines (line ++ b ∷ more))
+        (ap lines (append_assoc given (b ∷ []) more) ∙ cut.cut (b ∷ more))) at refl refl
 
-  stopped : (base out out' : O) (given : List ℕ) (phase : Phase) (line : List ℕ) (end : LiveEnd) (more : List ℕ)
-      → HearsTo written failures out out' phase (line ++ 10 ∷ []) (Err end)
-      → Hears written failures base out given phase line → IsStop written failures base out' ((given ++ 10 ∷ []) ++ more) ⊥ end
-  stopped base out out' given phase line end more to (seen, cut, at) =
-      stops_line written failures ⊥ base out out' seen (line ++ 10 ∷ []) phase ((given ++ 10 ∷ []) ++ more) (lines more) end
-      (cut_lines given seen line more cut) (whole more, inl (sym (cut_whole_more given seen line more cut))) at to
+    pub byte_inside : (base out : O × J) (given : List ℕ) (phase : Phase) (line : List ℕ) (b : ℕ) (l : List ℕ) → eqb b 10 ≡ false
+        → l ≡ line ++ b ∷ [] → Hears written failures kept losses past base out given phase line
+        → Hears written failures kept losses past base out (given ++ b ∷ []) phase l
+    byte_inside base out given phase line b l other is (seen, cut, at) =
+        subst (λ (l : List ℕ). Hears written failures kept losses past base out (given ++ b ∷ []) phase l) (sym is)
+        (seen, cut_byte given seen line b other cut, at)
 
-  pub line_stopped : (base out out' : O) (given : List ℕ) (phase : Phase) (line : List ℕ) (b : ℕ) (l : List ℕ) (end : LiveEnd)
-      (more : List ℕ)
-      → b ≡ 10 → l ≡ line ++ b ∷ [] → HearsTo written failures out out' phase l (Err end)
-      → Hears written failures base out given phase line → IsStop written failures base out' ((given ++ b ∷ []) ++ more) ⊥ end
-  line_stopped base out out' given phase line b l end more ten is to at =
-      let to' = subst (λ (l : List ℕ). HearsTo written failures out out' phase l (Err end)) (is ∙ ap (λ (n : ℕ). line ++ n ∷ []) ten) to in
-      subst (λ (n : ℕ). IsStop written failures base out' ((given ++ n ∷ []) ++ more) ⊥ end) (sym ten)
-      (stopped base out out' given phase line end more to' at)
+    newline : (base out out' : O × J) (given : List ℕ) (phase : Phase) (line : List ℕ) (course : Course)
+        → HearsTo written failures kept losses out out' phase (line ++ 10 ∷ []) (Ok course)
+        → Hears written failures kept losses past base out given phase line
+        → Hears written failures kept losses past base out' (given ++ 10 ∷ []) (phase_of course) []
+    newline base out out' given phase line course to (seen, cut, at) = (
+      seen ++ (line ++ 10 ∷ []) ∷ [],
+      cut_line given seen line cut,
+      subst (λ (ls : List (List ℕ)). IsAt written failures kept losses past base out' ls (phase_of course))
+          (append_assoc past.lines seen ((line ++ 10 ∷ []) ∷ []))
+          (heard_line written failures kept losses past base out out' (past.lines ++ seen) (line ++ 10 ∷ []) phase course at to),
+    )
 
-  -- ---- the last line
+    pub line_heard : (base out out' : O × J) (given : List ℕ) (phase : Phase) (line : List ℕ) (b : ℕ) (l rest : List ℕ) (course : Course)
+        → b ≡ 10 → l ≡ line ++ b ∷ [] → rest ≡ [] → HearsTo written failures kept losses out out' phase l (Ok course)
+        → Hears written failures kept losses past base out given phase line
+        → Hears written failures kept losses past base out' (given ++ b ∷ []) (phase_of course) rest
+    line_heard base out out' given phase line b l rest course ten is none to at =
+        let to' = subst (λ (l : List ℕ). HearsTo written failures kept losses out out' phase l (Ok course))
+        (is ∙ ap (λ (n : ℕ). line ++ n ∷ []) ten) to in
+        subst (λ (r : List ℕ). Hears written failures kept losses past base out' (given ++ b ∷ []) (phase_of course) r) (sym none)
+        (subst (λ (n : ℕ). Hears written failures kept losses past base out' (given ++ n ∷ []) (phase_of course) []) (sym ten)
+        (newline base out out' given phase line course to' at))
 
-  pub last_none : (base out : O) (given : List ℕ) (phase : Phase) (line : List ℕ) → line ≡ []
-      → Hears written failures base out given phase line → IsAt written failures base out (lines given) phase
-  last_none base out given phase line none (seen, cut, at) =
-      subst (λ (ls : List (List ℕ)). IsAt written failures base out ls phase) (sym (cut_end given seen line none cut)) at
+    stopped : (base out out' : O × J) (given : List ℕ) (phase : Phase) (line : List ℕ) (end : LiveEnd) (more : List ℕ)
+        → HearsTo written failures kept losses out out' phase (line ++ 10 ∷ []) (Err end)
+        → Hears written failures kept losses past base out given phase line
+        → IsStop written failures kept losses past base out' ((given ++ 10 ∷ []) ++ more) ⊥ end
+    stopped base out out' given phase line end more to (seen, cut, at) =
+        let all = (given ++ 10 ∷ []) ++ more in
+        stops_line written failures kept losses past ⊥ base out out' (past.lines ++ seen) (line ++ 10 ∷ []) phase all (lines more) end
+        (behind_past past all seen ((line ++ 10 ∷ []) ∷ lines more) (cut_lines given seen line more cut))
+        (whole more, inl (whole_past past all seen ((line ++ 10 ∷ []) ∷ whole more) (cut_whole_more given seen line more cut))) at to
 
-  pub last_heard : (base out out' : O) (given : List ℕ) (phase : Phase) (line l : List ℕ) (result : Result Course LiveEnd) → line ≢ []
-      → l ≡ line → HearsTo written failures out out' phase l result → Hears written failures base out given phase line
-      → HearsLast written failures base out' given result
-  last_heard base out out' given phase line l (Ok course) some is to (seen, cut, at) =
-      let to' = subst (λ (l : List ℕ). HearsTo written failures out out' phase l (Ok course)) is to in
-      subst (λ (ls : List (List ℕ)). IsAt written failures base out' ls (phase_of course)) (sym (cut_last given seen line some cut))
-      (heard_line written failures base out out' seen line phase course at to')
-  last_heard base out out' given phase line l (Err end) some is to (seen, cut, at) =
-      let to' = subst (λ (l : List ℕ). HearsTo written failures out out' phase l (Err end)) is to in
-      let all = cut_last given seen line some cut in
-      stops_line written failures ⊤ base out out' seen line phase given [] end all ([], inr (tt, sym all)) at to'
+    pub line_stopped : (base out out' : O × J) (given : List ℕ) (phase : Phase) (line : List ℕ) (b : ℕ) (l : List ℕ) (end : LiveEnd)
+        (more : List ℕ)
+        → b ≡ 10 → l ≡ line ++ b ∷ [] → HearsTo written failures kept losses out out' phase l (Err end)
+        → Hears written failures kept losses past base out given phase line
+        → IsStop written failures kept losses past base out' ((given ++ b ∷ []) ++ more) ⊥ end
+    line_stopped base out out' given phase line b l end more ten is to at =
+        let to' = subst (λ (l : List ℕ). HearsTo written failures kept losses out out' phase l (Err end))
+        (is ∙ ap (λ (n : ℕ). line ++ n ∷ []) ten) to in
+        subst (λ (n : ℕ). IsStop written failures kept losses past base out' ((given ++ n ∷ []) ++ more) ⊥ end) (sym ten)
+        (stopped base out out' given phase line end more to' at)
 
-  pub last_closes : (base out out' : O) (given : List ℕ) (phase : Phase) (end : LiveEnd)
-      → IsAt written failures base out (lines given) phase → ClosesTo written failures out out' phase end
-      → IsStop written failures base out' given ⊤ end
-  last_closes base out out' given phase end at to = closes written failures base out out' (lines given) phase given end refl at to
+    -- ---- the last line
 
-  -- ---- a broken input
+    pub last_none : (base out : O × J) (given : List ℕ) (phase : Phase) (line : List ℕ) → line ≡ []
+        → Hears written failures kept losses past base out given phase line
+        → IsAt written failures kept losses past base out (all_lines past given) phase
+    last_none base out given phase line none (seen, cut, at) =
+        subst (λ (ls : List (List ℕ)). IsAt written failures kept losses past base out (past.lines ++ ls) phase)
+        (sym (cut_end given seen line none cut)) at
 
-  pub all_answered : (base out : O) (given : List ℕ) (phase : Phase) (line : List ℕ)
-      → Hears written failures base out given phase line → IsAnswered written failures base out given
-  all_answered base out given phase line (seen, cut, at) =
-      let (said, is, wrote) = said_at written failures base out seen phase at in
-      (said, subst (λ (ls : List (List ℕ)). IsSaid ls said) (sym (cut_whole given seen line cut)) is, wrote)
+    pub last_heard : (base out out' : O × J) (given : List ℕ) (phase : Phase) (line l : List ℕ) (result : Result Course LiveEnd) → line ≢ []
+        → l ≡ line → HearsTo written failures kept losses out out' phase l result
+        → Hears written failures kept losses past base out given phase line
+        → HearsLast written failures kept losses past base out' given result
+    last_heard base out out' given phase line l (Ok course) some is to (seen, cut, at) =
+        let to' = subst (λ (l : List ℕ). HearsTo written failures kept losses out out' phase l (Ok course)) is to in
+        subst (λ (ls : List (List ℕ)). IsAt written failures kept losses past base out' ls (phase_of course))
+        (sym (behind_past past given seen (line ∷ []) (cut_last given seen line some cut)))
+        (heard_line written failures kept losses past base out out' (past.lines ++ seen) line phase course at to')
+    last_heard base out out' given phase line l (Err end) some is to (seen, cut, at) =
+        let to' = subst (λ (l : List ℕ). HearsTo written failures kept losses out out' phase l (Err end)) is to in
+        let all = behind_past past given seen (line ∷ []) (cut_last given seen line some cut) in
+        stops_line written failures kept losses past ⊤ base out out' (past.lines ++ seen) line phase given [] end all
+        ([], inr (tt, sym all)) at to'
+
+    pub last_closes : (base out out' : O × J) (given : List ℕ) (phase : Phase) (end : LiveEnd)
+        → IsAt written failures kept losses past base out (all_lines past given) phase
+        → ClosesTo written failures out.0 out'.0 phase end → out'.1 ≡ out.1
+        → IsStop written failures kept losses past base out' given ⊤ end
+    last_closes base out out' given phase end at to same =
+        closes written failures kept losses past base out out' (all_lines past given) phase given end refl at to same
+
+    -- ---- a broken input
+
+    pub all_answered : (base out : O × J) (given : List ℕ) (phase : Phase) (line : List ℕ)
+        → Hears written failures kept losses past base out given phase line → IsAnswered written failures kept losses past base out given
+    all_answered base out given phase line (seen, cut, at) =
+        let (said, is, did) = said_at written failures kept losses past base out (past.lines ++ seen) phase at in
+        let all : past.lines ++ seen ≡ whole_lines past given =
+        ap (λ (ls : List (List ℕ)). past.lines ++ ls) (sym (cut_whole given seen line cut)) in (
+          said,
+          subst (λ (ls : List (List ℕ)). IsSaid ls said) all is,
+          subst (λ (ls : List (List ℕ)). Does written failures kept losses past base out said (kept_in ls)) all did,
+        )
+
+module _ {O J : Type 0} (written : O → Option (List ℕ)) (failures : O → ℕ) (kept : J → Option (List Entry)) (losses : J → ℕ) where
+  -- ---- pieces of the input
+
+  pub no_piece : (out : O × J) (ear : Ear) → PieceTo written failures kept losses out out ear [] (Ok ear)
+  no_piece out ear past base given at =
+      subst (λ (l : List ℕ). Hears written failures kept losses past base out l (phase_of ear.course) ear.line.items)
+      (sym (append-nil given)) at
+
+  pub pieces : (a b c : O × J) (first ear : Ear) (done piece : List ℕ) (result : Result Ear LiveEnd)
+      → PieceTo written failures kept losses a b first done (Ok ear) → PieceTo written failures kept losses b c ear piece result
+      → PieceTo written failures kept losses a c first (done ++ piece) result
+  pieces a b c first ear done piece (Ok next) p q past base given at =
+      subst (λ (l : List ℕ). Hears written failures kept losses past base c l (phase_of next.course) next.line.items)
+      (append_assoc given done piece) (q past base (given ++ done) (p past base given at))
+  pieces a b c first ear done piece (Err end) p q past base given at =
+      λ more.
+      subst (λ (l : List ℕ). IsStop written failures kept losses past base c (l ++ more) ⊥ end) (append_assoc given done piece)
+      (q past base (given ++ done) (p past base given at) more)

@@ -2,6 +2,9 @@ pub mod BaseLemmas
 pub mod CifLemmas
 pub mod CutLemmas
 pub mod EarLemmas
+pub mod KeptLemmas
 pub mod LineLemmas
+pub mod PastLemmas
+pub mod ResumeLemmas
 pub mod RunLemmas
 pub mod StopLemmas

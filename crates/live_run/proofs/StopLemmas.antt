@@ -6,254 +6,423 @@ use Rattle.std.specs.List.{concat}
 use Rattle.std.proofs.KnownBytes.{Appends-nil}
 use Rattle.byte_io.specs.Device.{WroteAll, WrotePrefix}
 use Rattle.byte_io.proofs.BufferedLemmas.{WroteAll-then, WrotePrefix-behind}
+use Rattle.cif_read.specs.declared.fault.CifFault.{CifFault}
 use Rattle.cif_read.specs.Contents.{Contents}
+use Rattle.cif_read.specs.Meaning.{IsMeaning}
 use Rattle.cif_layout.specs.FromCif.{layout_of}
 use Rattle.byte_io.specs.Lines.{lines}
+use Rattle.job_text.specs.declared.job.JobFault.TheVariants.{Line}
 use Rattle.job_text.specs.Job.{job_of}
-use Rattle.live_run.specs.Live.{LiveRun, after_line, after_lines, before_first_line}
+use Rattle.live_run.specs.Live.{LiveRun, after_line, after_lines, before_first_line, has_refused}
 use Rattle.live_run.specs.declared.course.Course.{Course}
 use Rattle.live_run.specs.declared.ending.LiveEnd.{LiveEnd}
-use Rattle.live_run.specs.declared.ending.LiveEnd.TheVariants.{Cif, Device, Done, Job, Memory}
+use Rattle.live_run.specs.declared.ending.LiveEnd.TheVariants.{Cif, Device, Done, Job, Journal, Memory}
 use Rattle.live_run.specs.Cif.{behind, cif_from, cif_of, is_live, whole}
-use Rattle.live_run.specs.Said.{IsBase, IsSaid, IsSaidBehind, IsWhole, answers, closing, said_text}
-use Rattle.live_run.specs.Ending.{IsStop, Tells}
-use Rattle.live_run.specs.Course.{ClosesTo, HeadTo, HearsTo, InHead, InSteps, Phase, Refuses, RunCloses, phase_of}
+use Rattle.live_run.specs.Said.{HaveRefused, IsBase, IsSaid, IsSaidBehind, IsWhole, answers, closing, said_text}
+use Rattle.live_run.specs.Ending.{Does, HasCifFault, HasJobFault, IsStop, KeepsPart, Past, Tells, WritesPart, all_lines, no_past, whole_lines}
+use Rattle.live_run.specs.Journal.{Entry, KeptAll, KeptPart, kept_head, kept_in, kept_line}
+use Rattle.live_run.specs.Course.{ClosesTo, HeadTo, HearsTo, InHead, InSteps, LiveTo, Phase, Refuses, RunCloses, phase_of}
 use Rattle.live_run.specs.Ear.{IsAt}
 use Rattle.live_run.proofs.CifLemmas.{after_more, answers_more, before_all, before_at, behind_at, behind_none, cif_at, cif_more}
 use Rattle.live_run.proofs.CifLemmas.{cif_none, concat_more}
 use Rattle.live_run.proofs.CifLemmas.{behind_more, behind_other, length_more}
+use Rattle.live_run.proofs.KeptLemmas.{kept_at, kept_more, kept_none, kept_nothing, kept_part_then, kept_then}
 
 -- a run's CIF text is that of more lines
 base_more : (seen heard more : List (List ℕ)) (file : Contents) → behind seen ≡ Some heard → IsBase seen file → IsBase (seen ++ more) file
 base_more seen heard more file h (cif, is, means) = (cif, cif_more seen heard more h ∙ is, means)
 
 -- these lines, and one that ends up among all lines or among the whole ones
-abbrev pub Holds : Type 0 → List ℕ → List (List ℕ) → List ℕ → Type 0
-Holds ended given seen line =
-    (more : List (List ℕ)) × ((seen ++ line ∷ more ≡ whole given) ⊎ (ended × (seen ++ line ∷ more ≡ lines given)))
+abbrev pub Holds : Past → Type 0 → List ℕ → List (List ℕ) → List ℕ → Type 0
+Holds past ended given seen line = (more : List (List ℕ))
+    × ((seen ++ line ∷ more ≡ whole_lines past given) ⊎ (ended × (seen ++ line ∷ more ≡ all_lines past given)))
 
-told_by : (ended : Type 0) (given : List ℕ) (seen : List (List ℕ)) (line : List ℕ) (more : List (List ℕ)) → behind seen ≡ None
-    → is_live line ≡ true → ((seen ++ line ∷ more ≡ whole given) ⊎ (ended × (seen ++ line ∷ more ≡ lines given)))
-    → Tells ended given (seen ++ line ∷ more)
-told_by ended given seen line more none live (inl is) = inl (is, ap is_some (behind_at seen line more none live))
-told_by ended given seen line more none live (inr all) = inr all
+told_by : (past : Past) (ended : Type 0) (given : List ℕ) (seen : List (List ℕ)) (line : List ℕ) (more : List (List ℕ))
+    → behind seen ≡ None → is_live line ≡ true
+    → ((seen ++ line ∷ more ≡ whole_lines past given) ⊎ (ended × (seen ++ line ∷ more ≡ all_lines past given)))
+    → Tells past given ended (seen ++ line ∷ more)
+told_by past ended given seen line more none live (inl is) = inl (is, ap is_some (behind_at seen line more none live))
+told_by past ended given seen line more none live (inr all) = inr all
 
-module _ {O : Type 0} (written : O → Option (List ℕ)) (failures : O → ℕ) where
-  wrote_none : (a b : O) → b ≡ a → WroteAll written failures a b []
-  wrote_none a b same =
-      subst (λ (o : O). WroteAll written failures a o []) (sym same) (record { all = Appends-nil (written a); unfailing = refl })
+-- where no run begins at a live line
+pub refused_job : (seen : List (List ℕ)) (line head : List ℕ) (count n : ℕ) (text : List ℕ) (more : List (List ℕ)) → is_live line ≡ true
+    → behind seen ≡ None → head ≡ concat seen → count ≡ length seen
+    → cif_from (count + 1) true (job_of head) ≡ Err (Line n) → text ≡ head → HasJobFault (seen ++ line ∷ more) n text
+refused_job seen line head count n text more live none joined counted fault is =
+    let at : cif_of (seen ++ line ∷ more) ≡ cif_from (count + 1) true (job_of head) = cif_at seen line more none live
+    ∙ ap (λ (k : ℕ). cif_from (k + 1) true (job_of (concat seen))) (sym counted)
+    ∙ ap (λ (l : List ℕ). cif_from (count + 1) true (job_of l)) (sym joined) in
+    (at ∙ fault, is ∙ joined ∙ ap concat (sym (before_at seen line more none live)))
 
-  wrote_same : (a b c : O) (text : List ℕ) → c ≡ b → WroteAll written failures a b text → WroteAll written failures a c text
-  wrote_same a b c text same h = subst (λ (o : O). WroteAll written failures a o text) (sym same) h
+pub refused_cif : (seen : List (List ℕ)) (line head : List ℕ) (count : ℕ) (fault : CifFault) (text : List ℕ) (more : List (List ℕ))
+    → is_live line ≡ true → behind seen ≡ None → head ≡ concat seen → count ≡ length seen → (cif : List ℕ)
+    → cif_from (count + 1) true (job_of head) ≡ Ok cif → IsMeaning cif (Err fault) → text ≡ head
+    → HasCifFault (seen ++ line ∷ more) fault text
+refused_cif seen line head count fault text more live none joined counted cif from means is =
+    let at : cif_of (seen ++ line ∷ more) ≡ cif_from (count + 1) true (job_of head) = cif_at seen line more none live
+    ∙ ap (λ (k : ℕ). cif_from (k + 1) true (job_of (concat seen))) (sym counted)
+    ∙ ap (λ (l : List ℕ). cif_from (count + 1) true (job_of l)) (sym joined) in
+    (cif, at ∙ from, means, is ∙ joined ∙ ap concat (sym (before_at seen line more none live)))
 
-  said_nothing : (seen : List (List ℕ)) → behind seen ≡ None → IsSaid seen []
-  said_nothing seen none = subst (λ rest. IsSaidBehind seen rest []) (sym none) refl
+-- where none begins, since there is no live line
+pub unopened_job : (seen : List (List ℕ)) (head : List ℕ) (count n : ℕ) (text : List ℕ) → behind seen ≡ None → head ≡ concat seen
+    → count ≡ length seen → cif_from (count + 1) false (job_of head) ≡ Err (Line n) → text ≡ head → HasJobFault seen n text
+unopened_job seen head count n text none joined counted fault is = (
+  cif_none seen none ∙ ap (λ (k : ℕ). cif_from (k + 1) false (job_of (concat seen))) (sym counted)
+      ∙ ap (λ (l : List ℕ). cif_from (count + 1) false (job_of l)) (sym joined) ∙ fault,
+  is ∙ joined ∙ ap concat (sym (before_all seen none)),
+)
 
-  said_answers : (seen heard : List (List ℕ)) (file : Contents) → behind seen ≡ Some heard → IsBase seen file
-      → IsSaid seen (answers (before_first_line (layout_of file)) heard)
-  said_answers seen heard file h is =
-      subst (λ rest. IsSaidBehind seen rest (answers (before_first_line (layout_of file)) heard)) (sym h) (file, is, refl)
+pub unopened_cif : (seen : List (List ℕ)) (head : List ℕ) (count : ℕ) (fault : CifFault) (text : List ℕ) → behind seen ≡ None
+    → head ≡ concat seen → count ≡ length seen → (cif : List ℕ) → cif_from (count + 1) false (job_of head) ≡ Ok cif
+    → IsMeaning cif (Err fault) → text ≡ head → HasCifFault seen fault text
+unopened_cif seen head count fault text none joined counted cif from means is = (
+  cif,
+  cif_none seen none ∙ ap (λ (k : ℕ). cif_from (k + 1) false (job_of (concat seen))) (sym counted)
+      ∙ ap (λ (l : List ℕ). cif_from (count + 1) false (job_of l)) (sym joined) ∙ from,
+  means,
+  is ∙ joined ∙ ap concat (sym (before_all seen none)),
+)
 
-  -- what is said where a run stands
-  pub said_at : (base out : O) (seen : List (List ℕ)) (phase : Phase) → IsAt written failures base out seen phase
-      → (said : List ℕ) × IsSaid seen said × WroteAll written failures base out said
-  said_at base out seen (InHead head count) (none, joined, counted, same) = ([], said_nothing seen none, wrote_none base out same)
-  said_at base out seen (InSteps run) (heard, file, h, is, ran, wrote) =
-      (answers (before_first_line (layout_of file)) heard, said_answers seen heard file h is, wrote)
+said_nothing : (seen : List (List ℕ)) → behind seen ≡ None → IsSaid seen []
+said_nothing seen none = subst (λ rest. IsSaidBehind seen rest []) (sym none) refl
 
-  -- ---- a line is heard
+pub said_answers : (seen heard : List (List ℕ)) (file : Contents) → behind seen ≡ Some heard → IsBase seen file
+    → IsSaid seen (answers (before_first_line (layout_of file)) heard)
+said_answers seen heard file h is =
+    subst (λ rest. IsSaidBehind seen rest (answers (before_first_line (layout_of file)) heard)) (sym h) (file, is, refl)
 
-  opened : (base out' : O) (seen : List (List ℕ)) (line head : List ℕ) (count : ℕ) (t : Bool) (course : Course) → is_live line ≡ t
-      → behind seen ≡ None → head ≡ concat seen → count ≡ length seen → out' ≡ base → HeadTo t head count line (Ok course)
-      → IsAt written failures base out' (seen ++ line ∷ []) (phase_of course)
-  opened base out' seen line head count false course live none joined counted same is =
-      subst (IsAt written failures base out' (seen ++ line ∷ [])) (sym is) (
-        behind_none seen (line ∷ []) none ∙ behind_other line live,
-        ap (λ (l : List ℕ). l ++ line) joined ∙ sym (concat_more seen line),
-        ap (λ n. n + 1) counted ∙ sym (length_more seen line),
-        same,
-      )
-  opened base out' seen line head count true course live none joined counted same (run, (cif, file, from, means, begins), is) =
-      let from' : cif_from (length seen + 1) true (job_of (concat seen)) ≡ Ok cif =
-      sym (ap (λ (n : ℕ). cif_from (n + 1) true (job_of (concat seen))) counted)
-      ∙ sym (ap (λ (l : List ℕ). cif_from (count + 1) true (job_of l)) joined) ∙ from in
-      subst (IsAt written failures base out' (seen ++ line ∷ [])) (sym is) (
-        [],
-        file,
-        behind_at seen line [] none live,
-        (cif, cif_at seen line [] none live ∙ from', means),
-        begins,
-        wrote_none base out' same,
-      )
+module _ {O J : Type 0} (written : O → Option (List ℕ)) (failures : O → ℕ) (kept : J → Option (List Entry)) (losses : J → ℕ) (past : Past)
+  where
+    wrote_none : (a b : O) → b ≡ a → WroteAll written failures a b []
+    wrote_none a b same =
+        subst (λ (o : O). WroteAll written failures a o []) (sym same) (record { all = Appends-nil (written a); unfailing = refl })
 
-  pub heard_line : (base out out' : O) (seen : List (List ℕ)) (line : List ℕ) (phase : Phase) (course : Course)
-      → IsAt written failures base out seen phase → HearsTo written failures out out' phase line (Ok course)
-      → IsAt written failures base out' (seen ++ line ∷ []) (phase_of course)
-  heard_line base out out' seen line (InHead head count) course (none, joined, counted, same) (still, to) =
-      opened base out' seen line head count (is_live line) course refl none joined counted (still ∙ same) to
-  heard_line base out out' seen line (InSteps run) course (heard, file, h, is, ran, wrote) (led, put) =
-      let first = before_first_line (layout_of file) in
-      let took = after_line (after_lines first heard) line in
-      let led' : phase_of course ≡ InSteps took.0 = led ∙ ap (λ (r : LiveRun). InSteps (after_line r line).0) ran in
-      let put' : WroteAll written failures out out' (said_text took) =
-      subst (λ (r : LiveRun). WroteAll written failures out out' (said_text (after_line r line))) ran put in
-      subst (IsAt written failures base out' (seen ++ line ∷ [])) (sym led') (
-        heard ++ line ∷ [],
-        file,
-        behind_more seen heard (line ∷ []) h,
-        base_more seen heard (line ∷ []) file h is,
-        sym (after_more first heard line),
-        subst (WroteAll written failures base out') (sym (answers_more first heard line)) (WroteAll-then wrote put'),
-      )
+    -- ---- what was done, and more
 
-  -- ---- a run stops at a line
+    -- nothing was done by a run without a past
+    pub does_none : (a b : O × J) → past ≡ no_past → b.0 ≡ a.0 → b.1 ≡ a.1 → Does written failures kept losses past a b [] []
+    does_none a b fresh said same = (
+      [],
+      [],
+      ap (λ (p : Past). p.said ++ []) fresh,
+      ap (λ (p : Past). p.entries ++ []) fresh,
+      wrote_none a.0 b.0 said,
+      kept_nothing kept losses a.1 b.1 same,
+    )
 
-  -- a run that is refused memory has answered what it heard
-  pub stops_memory : (ended : Type 0) (base out out' : O) (seen : List (List ℕ)) (phase : Phase) (given : List ℕ) (unseen : List (List ℕ))
-      → lines given ≡ seen ++ unseen → IsAt written failures base out seen phase → out' ≡ out
-      → IsStop written failures base out' given ended Memory
-  stops_memory ended base out out' seen phase given unseen all at same =
-      let (said, is, wrote) = said_at base out seen phase at in
-      (seen, unseen, said, sym all, is, wrote_same base out out' said same wrote)
+    does_then : (a b c : O × J) (s t : List ℕ) (e f : List Entry) → Does written failures kept losses past a b s e
+        → WroteAll written failures b.0 c.0 t → KeptAll kept losses b.1 c.1 f
+        → Does written failures kept losses past a c (s ++ t) (e ++ f)
+    does_then a b c s t e f (more, fresh, is, are, wrote, keeps) put keep = (
+      more ++ t,
+      fresh ++ f,
+      sym (append_assoc past.said more t) ∙ ap (λ (l : List ℕ). l ++ t) is,
+      sym (append_assoc past.entries fresh f) ∙ ap (λ (l : List Entry). l ++ f) are,
+      WroteAll-then wrote put,
+      kept_then kept losses a.1 b.1 c.1 fresh f keeps keep,
+    )
 
-  -- a head that is refused at a live line
-  refused : (ended : Type 0) (base out' : O) (seen : List (List ℕ)) (line head : List ℕ) (count : ℕ) (given : List ℕ)
-      (unseen : List (List ℕ)) (end : LiveEnd) → lines given ≡ seen ++ line ∷ unseen → Holds ended given seen line → is_live line ≡ true
-      → behind seen ≡ None → head ≡ concat seen → count ≡ length seen → out' ≡ base → Refuses true head (count + 1) end
-      → IsStop written failures base out' given ended end
-  refused ended base out' seen line head count given unseen Done all holds live none joined counted same r = absurd r
-  refused ended base out' seen line head count given unseen (Job n text) all (more, where_told) live none joined counted same (fault, is) =
-      let at : cif_of (seen ++ line ∷ more) ≡ cif_from (count + 1) true (job_of head) = cif_at seen line more none live
-      ∙ ap (λ (k : ℕ). cif_from (k + 1) true (job_of (concat seen))) (sym counted)
-      ∙ ap (λ (l : List ℕ). cif_from (count + 1) true (job_of l)) (sym joined) in (
-        seen ++ line ∷ more,
-        told_by ended given seen line more none live where_told,
-        at ∙ fault,
-        is ∙ joined ∙ ap concat (sym (before_at seen line more none live)),
-        same,
-      )
-  refused ended base out' seen line head count given unseen (Cif fault text) all (more, where_told) live none joined counted same
-      (cif, from, means, is) =
-      let at : cif_of (seen ++ line ∷ more) ≡ cif_from (count + 1) true (job_of head) = cif_at seen line more none live
-      ∙ ap (λ (k : ℕ). cif_from (k + 1) true (job_of (concat seen))) (sym counted)
-      ∙ ap (λ (l : List ℕ). cif_from (count + 1) true (job_of l)) (sym joined) in (
-        seen ++ line ∷ more,
-        cif,
-        told_by ended given seen line more none live where_told,
-        at ∙ from,
-        means,
-        is ∙ joined ∙ ap concat (sym (before_at seen line more none live)),
-        same,
-      )
-  refused ended base out' seen line head count given unseen Device all holds live none joined counted same r = absurd r
-  refused ended base out' seen line head count given unseen Memory all holds live none joined counted same r =
-      (seen, line ∷ unseen, [], sym all, said_nothing seen none, wrote_none base out' same)
+    part_then : (a b c : O × J) (s t : List ℕ) (e f : List Entry) → Does written failures kept losses past a b s e
+        → WrotePrefix written failures b.0 c.0 t → KeptAll kept losses b.1 c.1 f
+        → WritesPart written failures kept losses past a c (s ++ t) (e ++ f)
+    part_then a b c s t e f (more, fresh, is, are, wrote, keeps) put keep = (
+      more ++ t,
+      fresh ++ f,
+      sym (append_assoc past.said more t) ∙ ap (λ (l : List ℕ). l ++ t) is,
+      sym (append_assoc past.entries fresh f) ∙ ap (λ (l : List Entry). l ++ f) are,
+      WrotePrefix-behind wrote put,
+      kept_then kept losses a.1 b.1 c.1 fresh f keeps keep,
+    )
 
-  head_stops : (ended : Type 0) (base out' : O) (seen : List (List ℕ)) (line head : List ℕ) (count : ℕ) (given : List ℕ)
-      (unseen : List (List ℕ)) (t : Bool) (end : LiveEnd) → lines given ≡ seen ++ line ∷ unseen → Holds ended given seen line
-      → is_live line ≡ t
-      → behind seen ≡ None → head ≡ concat seen → count ≡ length seen → out' ≡ base → HeadTo t head count line (Err end)
-      → IsStop written failures base out' given ended end
-  head_stops ended base out' seen line head count given unseen false end all holds live none joined counted same is =
-      subst (IsStop written failures base out' given ended) (sym is)
-      (seen, line ∷ unseen, [], sym all, said_nothing seen none, wrote_none base out' same)
-  head_stops ended base out' seen line head count given unseen true end all holds live none joined counted same r =
-      refused ended base out' seen line head count given unseen end all holds live none joined counted same r
+    lost_then : (a b c : O × J) (s : List ℕ) (e f : List Entry) → Does written failures kept losses past a b s e
+        → c.0 ≡ b.0 → KeptPart kept losses b.1 c.1 f → KeepsPart written failures kept losses past a c s (e ++ f)
+    lost_then a b c s e f (more, fresh, is, are, wrote, keeps) same lost = (
+      more,
+      fresh ++ f,
+      is,
+      sym (append_assoc past.entries fresh f) ∙ ap (λ (l : List Entry). l ++ f) are,
+      subst (λ (o : O). WroteAll written failures a.0 o more) (sym same) wrote,
+      kept_part_then kept losses a.1 b.1 c.1 fresh f keeps lost,
+    )
 
-  run_stops : (ended : Type 0) (base out out' : O) (seen : List (List ℕ)) (line : List ℕ) (run : LiveRun) (given : List ℕ)
-      (unseen : List (List ℕ)) (end : LiveEnd) → lines given ≡ seen ++ line ∷ unseen
-      → IsAt written failures base out seen (InSteps run) → HearsTo written failures out out' (InSteps run) line (Err end)
-      → IsStop written failures base out' given ended end
-  run_stops ended base out out' seen line run given unseen Done all at r = absurd r
-  run_stops ended base out out' seen line run given unseen (Job n text) all at r = absurd r
-  run_stops ended base out out' seen line run given unseen (Cif fault text) all at r = absurd r
-  run_stops ended base out out' seen line run given unseen Device all (heard, file, h, is, ran, wrote) r =
-      let first = before_first_line (layout_of file) in
-      let took = after_line (after_lines first heard) line in
-      let put : WrotePrefix written failures out out' (said_text took) =
-      subst (λ (r : LiveRun). WrotePrefix written failures out out' (said_text (after_line r line))) ran r in (
-        seen ++ line ∷ [],
-        unseen,
-        answers first (heard ++ line ∷ []),
-        append_assoc seen (line ∷ []) unseen ∙ sym all,
-        inl (said_answers (seen ++ line ∷ []) (heard ++ line ∷ []) file (behind_more seen heard (line ∷ []) h)
-            (base_more seen heard (line ∷ []) file h is)),
-        subst (WrotePrefix written failures base out') (sym (answers_more first heard line)) (WrotePrefix-behind wrote put),
-      )
-  run_stops ended base out out' seen line run given unseen Memory all at r =
-      stops_memory ended base out out' seen (InSteps run) given (line ∷ unseen) all at r
+    pub does_same : (a b c : O × J) (s : List ℕ) (e : List Entry) → c.0 ≡ b.0 → c.1 ≡ b.1
+        → Does written failures kept losses past a b s e → Does written failures kept losses past a c s e
+    does_same a b c s e said same h =
+        subst (λ (d : O × J). Does written failures kept losses past a d s e) (sym (λ i. (said i, same i))) h
 
-  pub stops_line : (ended : Type 0) (base out out' : O) (seen : List (List ℕ)) (line : List ℕ) (phase : Phase) (given : List ℕ)
-      (unseen : List (List ℕ)) (end : LiveEnd) → lines given ≡ seen ++ line ∷ unseen → Holds ended given seen line
-      → IsAt written failures base out seen phase → HearsTo written failures out out' phase line (Err end)
-      → IsStop written failures base out' given ended end
-  stops_line ended base out out' seen line (InHead head count) given unseen end all holds (none, joined, counted, same) (still, to) =
-      head_stops ended base out' seen line head count given unseen (is_live line) end all holds refl none joined counted (still ∙ same) to
-  stops_line ended base out out' seen line (InSteps run) given unseen end all holds at r =
-      run_stops ended base out out' seen line run given unseen end all at r
+    -- what was done where a run stands
+    pub said_at : (base out : O × J) (seen : List (List ℕ)) (phase : Phase) → IsAt written failures kept losses past base out seen phase
+        → (said : List ℕ) × IsSaid seen said × Does written failures kept losses past base out said (kept_in seen)
+    said_at base out seen (InHead head count) (none, joined, counted, fresh, same) = (
+      [],
+      said_nothing seen none,
+      subst (Does written failures kept losses past base out []) (sym (kept_none seen none))
+          (does_none base out fresh (ap (λ (d : O × J). d.0) same) (ap (λ (d : O × J). d.1) same)),
+    )
+    said_at base out seen (InSteps run) (heard, file, h, is, ran, did) =
+        (answers (before_first_line (layout_of file)) heard, said_answers seen heard file h is, did)
 
-  -- ---- a run ends with its input
+    -- ---- a line is heard
 
-  head_closes : (base out' : O) (seen : List (List ℕ)) (head : List ℕ) (count : ℕ) (given : List ℕ) (end : LiveEnd)
-      → lines given ≡ seen → behind seen ≡ None → head ≡ concat seen → count ≡ length seen → out' ≡ base
-      → Refuses false head (count + 1) end
-      → IsStop written failures base out' given ⊤ end
-  head_closes base out' seen head count given Done all none joined counted same r = absurd r
-  head_closes base out' seen head count given (Job n text) all none joined counted same (fault, is) = (
-    seen,
-    inr (tt, sym all),
-    cif_none seen none ∙ ap (λ (k : ℕ). cif_from (k + 1) false (job_of (concat seen))) (sym counted)
-        ∙ ap (λ (l : List ℕ). cif_from (count + 1) false (job_of l)) (sym joined) ∙ fault,
-    is ∙ joined ∙ ap concat (sym (before_all seen none)),
-    same,
-  )
-  head_closes base out' seen head count given (Cif fault text) all none joined counted same (cif, from, means, is) = (
-    seen,
-    cif,
-    inr (tt, sym all),
-    cif_none seen none ∙ ap (λ (k : ℕ). cif_from (k + 1) false (job_of (concat seen))) (sym counted)
-        ∙ ap (λ (l : List ℕ). cif_from (count + 1) false (job_of l)) (sym joined) ∙ from,
-    means,
-    is ∙ joined ∙ ap concat (sym (before_all seen none)),
-    same,
-  )
-  head_closes base out' seen head count given Device all none joined counted same r = absurd r
-  head_closes base out' seen head count given Memory all none joined counted same r =
-      (seen, [], [], append-nil seen ∙ sym all, said_nothing seen none, wrote_none base out' same)
+    opened : (base out' : O × J) (seen : List (List ℕ)) (line head : List ℕ) (count : ℕ) (t : Bool) (course : Course) → is_live line ≡ t
+        → behind seen ≡ None → head ≡ concat seen → count ≡ length seen → past ≡ no_past → out'.0 ≡ base.0
+        → HeadTo kept losses base.1 out'.1 t head count line (Ok course)
+        → IsAt written failures kept losses past base out' (seen ++ line ∷ []) (phase_of course)
+    opened base out' seen line head count false course live none joined counted fresh said (is, same) =
+        subst (IsAt written failures kept losses past base out' (seen ++ line ∷ [])) (sym is) (
+          behind_none seen (line ∷ []) none ∙ behind_other line live,
+          ap (λ (l : List ℕ). l ++ line) joined ∙ sym (concat_more seen line),
+          ap (λ n. n + 1) counted ∙ sym (length_more seen line),
+          fresh,
+          λ i. (said i, same i),
+        )
+    opened base out' seen line head count true course live none joined counted fresh said (run, (cif, file, from, means, begins), is, keeps) =
+        let from' : cif_from (length seen + 1) true (job_of (concat seen)) ≡ Ok cif =
+        sym (ap (λ (n : ℕ). cif_from (n + 1) true (job_of (concat seen))) counted)
+        ∙ sym (ap (λ (l : List ℕ). cif_from (count + 1) true (job_of l)) joined) ∙ from in
+        let all : KeptAll kept losses base.1 out'.1 (kept_in (seen ++ line ∷ [])) =
+        subst (KeptAll kept losses base.1 out'.1)
+        (ap (λ (l : List ℕ). kept_head l line) joined ∙ sym (kept_at seen line none live)) keeps in
+        subst (IsAt written failures kept losses past base out' (seen ++ line ∷ [])) (sym is) (
+          [],
+          file,
+          behind_at seen line [] none live,
+          (cif, cif_at seen line [] none live ∙ from', means),
+          begins,
+          (
+            [],
+            kept_in (seen ++ line ∷ []),
+            ap (λ (p : Past). p.said ++ []) fresh,
+            ap (λ (p : Past). p.entries ++ kept_in (seen ++ line ∷ [])) fresh,
+            wrote_none base.0 out'.0 said,
+            all,
+          ),
+        )
 
-  run_closes : (base out out' : O) (seen : List (List ℕ)) (run : LiveRun) (given : List ℕ) (end : LiveEnd)
-      → lines given ≡ seen → IsAt written failures base out seen (InSteps run) → RunCloses written failures out out' run end
-      → IsStop written failures base out' given ⊤ end
-  run_closes base out out' seen run given Done all (heard, file, h, is, ran, wrote) r =
-      let first = before_first_line (layout_of file) in
-      let put : WroteAll written failures out out' (closing (after_lines first heard)) =
-      subst (λ (r : LiveRun). WroteAll written failures out out' (closing r)) ran r in (
-        tt,
-        answers first heard ++ closing (after_lines first heard),
-        subst (λ (ls : List (List ℕ)). IsWhole ls (answers first heard ++ closing (after_lines first heard))) (sym all)
-            (heard, file, h, is, refl),
-        WroteAll-then wrote put,
-      )
-  run_closes base out out' seen run given (Job n text) all at r = absurd r
-  run_closes base out out' seen run given (Cif fault text) all at r = absurd r
-  run_closes base out out' seen run given Device all (heard, file, h, is, ran, wrote) r =
-      let first = before_first_line (layout_of file) in
-      let put : WrotePrefix written failures out out' (closing (after_lines first heard)) =
-      subst (λ (r : LiveRun). WrotePrefix written failures out out' (closing r)) ran r in (
-        seen,
-        [],
-        answers first heard ++ closing (after_lines first heard),
-        append-nil seen ∙ sym all,
-        inr (subst (λ (ls : List (List ℕ)). IsWhole ls (answers first heard ++ closing (after_lines first heard))) (sym all)
-            (heard, file, h, is, refl)),
-        WrotePrefix-behind wrote put,
-      )
-  run_closes base out out' seen run given Memory all at r =
-      stops_memory ⊤ base out out' seen (InSteps run) given [] (all ∙ sym (append-nil seen)) at r
+    pub heard_line : (base out out' : O × J) (seen : List (List ℕ)) (line : List ℕ) (phase : Phase) (course : Course)
+        → IsAt written failures kept losses past base out seen phase
+        → HearsTo written failures kept losses out out' phase line (Ok course)
+        → IsAt written failures kept losses past base out' (seen ++ line ∷ []) (phase_of course)
+    heard_line base out out' seen line (InHead head count) course (none, joined, counted, fresh, same) (still, to) =
+        opened base out' seen line head count (is_live line) course refl none joined counted fresh
+        (still ∙ ap (λ (d : O × J). d.0) same)
+        (subst (λ (d : O × J). HeadTo kept losses d.1 out'.1 (is_live line) head count line (Ok course)) same to)
+    heard_line base out out' seen line (InSteps run) course (heard, file, h, is, ran, did) (led, put, keep) =
+        let first = before_first_line (layout_of file) in
+        let took = after_line (after_lines first heard) line in
+        let led' : phase_of course ≡ InSteps took.0 = led ∙ ap (λ (r : LiveRun). InSteps (after_line r line).0) ran in
+        let put' : WroteAll written failures out.0 out'.0 (said_text took) =
+        subst (λ (r : LiveRun). WroteAll written failures out.0 out'.0 (said_text (after_line r line))) ran put in
+        let did' = does_then base out out' (answers first heard) (said_text took) (kept_in seen) (kept_line line) did put' keep in
+        subst (IsAt written failures kept losses past base out' (seen ++ line ∷ [])) (sym led') (
+          heard ++ line ∷ [],
+          file,
+          behind_more seen heard (line ∷ []) h,
+          base_more seen heard (line ∷ []) file h is,
+          sym (after_more first heard line),
+          subst (λ (l : List ℕ). Does written failures kept losses past base out' l (kept_in (seen ++ line ∷ [])))
+              (sym (answers_more first heard line))
+              (subst (Does written failures kept losses past base out' (answers first heard ++ said_text took))
+              (sym (kept_more seen heard line h)) did'),
+        )
 
-  pub closes : (base out out' : O) (seen : List (List ℕ)) (phase : Phase) (given : List ℕ) (end : LiveEnd)
-      → lines given ≡ seen → IsAt written failures base out seen phase → ClosesTo written failures out out' phase end
-      → IsStop written failures base out' given ⊤ end
-  closes base out out' seen (InHead head count) given end all (none, joined, counted, same) (still, r) =
-      head_closes base out' seen head count given end all none joined counted (still ∙ same) r
-  closes base out out' seen (InSteps run) given end all at r = run_closes base out out' seen run given end all at r
+    -- ---- a run stops at a line
+
+    -- a run that is refused memory has answered what it heard
+    pub stops_memory : (ended : Type 0) (base out out' : O × J) (seen : List (List ℕ)) (phase : Phase) (given : List ℕ)
+        (unseen : List (List ℕ))
+        → all_lines past given ≡ seen ++ unseen → IsAt written failures kept losses past base out seen phase → out'.0 ≡ out.0
+        → out'.1 ≡ out.1 → IsStop written failures kept losses past base out' given ended Memory
+    stops_memory ended base out out' seen phase given unseen all at still same =
+        let (said, is, did) = said_at base out seen phase at in
+        (seen, unseen, said, sym all, is, does_same base out out' said (kept_in seen) still same did)
+
+    -- a head that is refused at a live line
+    refused : (ended : Type 0) (base out' : O × J) (seen : List (List ℕ)) (line head : List ℕ) (count : ℕ) (given : List ℕ)
+        (unseen : List (List ℕ)) (end : LiveEnd) → all_lines past given ≡ seen ++ line ∷ unseen → Holds past ended given seen line
+        → is_live line ≡ true
+        → behind seen ≡ None → head ≡ concat seen → count ≡ length seen → past ≡ no_past → out'.0 ≡ base.0
+        → LiveTo kept losses base.1 out'.1 head (count + 1) line (Err end)
+        → IsStop written failures kept losses past base out' given ended end
+    refused ended base out' seen line head count given unseen (Done any) all holds live none joined counted fresh said r = absurd r.0
+    refused ended base out' seen line head count given unseen (Job n text) all (more, where_told) live none joined counted fresh said
+        ((fault, is), same) = (
+          seen ++ line ∷ more,
+          told_by past ended given seen line more none live where_told,
+          refused_job seen line head count n text.items more live none joined counted fault is,
+          λ i. (said i, same i),
+        )
+    refused ended base out' seen line head count given unseen (Cif fault text) all (more, where_told) live none joined counted fresh said
+        ((cif, from, means, is), same) = (
+          seen ++ line ∷ more,
+          told_by past ended given seen line more none live where_told,
+          refused_cif seen line head count fault text.items more live none joined counted cif from means is,
+          λ i. (said i, same i),
+        )
+    refused ended base out' seen line head count given unseen Device all holds live none joined counted fresh said r = absurd r.0
+    refused ended base out' seen line head count given unseen Journal all holds live none joined counted fresh said r = (
+      seen,
+      unseen,
+      line,
+      [],
+      sym all,
+      said_nothing seen none,
+      subst (KeepsPart written failures kept losses past base out' [])
+          (ap (λ (l : List ℕ). kept_head l line) joined ∙ sym (kept_at seen line none live))
+          (lost_then base base out' [] [] (kept_head head line) (does_none base base fresh refl refl) said r),
+    )
+    refused ended base out' seen line head count given unseen Memory all holds live none joined counted fresh said (r, same) = (
+      seen,
+      line ∷ unseen,
+      [],
+      sym all,
+      said_nothing seen none,
+      subst (Does written failures kept losses past base out' []) (sym (kept_none seen none)) (does_none base out' fresh said same),
+    )
+
+    head_stops : (ended : Type 0) (base out' : O × J) (seen : List (List ℕ)) (line head : List ℕ) (count : ℕ) (given : List ℕ)
+        (unseen : List (List ℕ)) (t : Bool) (end : LiveEnd) → all_lines past given ≡ seen ++ line ∷ unseen
+        → Holds past ended given seen line → is_live line ≡ t
+        → behind seen ≡ None → head ≡ concat seen → count ≡ length seen → past ≡ no_past → out'.0 ≡ base.0
+        → HeadTo kept losses base.1 out'.1 t head count line (Err end)
+        → IsStop written failures kept losses past base out' given ended end
+    head_stops ended base out' seen line head count given unseen false end all holds live none joined counted fresh said (is, same) =
+        subst (IsStop written failures kept losses past base out' given ended) (sym is) (
+          seen,
+          line ∷ unseen,
+          [],
+          sym all,
+          said_nothing seen none,
+          subst (Does written failures kept losses past base out' []) (sym (kept_none seen none)) (does_none base out' fresh said same),
+        )
+    head_stops ended base out' seen line head count given unseen true end all holds live none joined counted fresh said r =
+        refused ended base out' seen line head count given unseen end all holds live none joined counted fresh said r
+
+    run_stops : (ended : Type 0) (base out out' : O × J) (seen : List (List ℕ)) (line : List ℕ) (run : LiveRun) (given : List ℕ)
+        (unseen : List (List ℕ)) (end : LiveEnd) → all_lines past given ≡ seen ++ line ∷ unseen
+        → IsAt written failures kept losses past base out seen (InSteps run)
+        → HearsTo written failures kept losses out out' (InSteps run) line (Err end)
+        → IsStop written failures kept losses past base out' given ended end
+    run_stops ended base out out' seen line run given unseen (Done any) all at r = absurd r
+    run_stops ended base out out' seen line run given unseen (Job n text) all at r = absurd r
+    run_stops ended base out out' seen line run given unseen (Cif fault text) all at r = absurd r
+    run_stops ended base out out' seen line run given unseen Device all (heard, file, h, is, ran, did) (r, keep) =
+        let first = before_first_line (layout_of file) in
+        let took = after_line (after_lines first heard) line in
+        let put : WrotePrefix written failures out.0 out'.0 (said_text took) =
+        subst (λ (r : LiveRun). WrotePrefix written failures out.0 out'.0 (said_text (after_line r line))) ran r in
+        let did' = part_then base out out' (answers first heard) (said_text took) (kept_in seen) (kept_line line) did put keep in (
+          seen ++ line ∷ [],
+          unseen,
+          answers first (heard ++ line ∷ []),
+          append_assoc seen (line ∷ []) unseen ∙ sym all,
+          inl (said_answers (seen ++ line ∷ []) (heard ++ line ∷ []) file (behind_more seen heard (line ∷ []) h)
+              (base_more seen heard (line ∷ []) file h is)),
+          subst (λ (l : List ℕ). WritesPart written failures kept losses past base out' l (kept_in (seen ++ line ∷ [])))
+              (sym (answers_more first heard line))
+              (subst (WritesPart written failures kept losses past base out' (answers first heard ++ said_text took))
+              (sym (kept_more seen heard line h)) did'),
+        )
+    run_stops ended base out out' seen line run given unseen Journal all (heard, file, h, is, ran, did) (still, lost) =
+        let said = answers (before_first_line (layout_of file)) heard in (
+          seen,
+          unseen,
+          line,
+          said,
+          sym all,
+          said_answers seen heard file h is,
+          subst (KeepsPart written failures kept losses past base out' said) (sym (kept_more seen heard line h))
+              (lost_then base out out' said (kept_in seen) (kept_line line) did still lost),
+        )
+    run_stops ended base out out' seen line run given unseen Memory all at (still, same) =
+        stops_memory ended base out out' seen (InSteps run) given (line ∷ unseen) all at still same
+
+    pub stops_line : (ended : Type 0) (base out out' : O × J) (seen : List (List ℕ)) (line : List ℕ) (phase : Phase) (given : List ℕ)
+        (unseen : List (List ℕ)) (end : LiveEnd) → all_lines past given ≡ seen ++ line ∷ unseen → Holds past ended given seen line
+        → IsAt written failures kept losses past base out seen phase → HearsTo written failures kept losses out out' phase line (Err end)
+        → IsStop written failures kept losses past base out' given ended end
+    stops_line ended base out out' seen line (InHead head count) given unseen end all holds (none, joined, counted, fresh, same) (still, to) =
+        head_stops ended base out' seen line head count given unseen (is_live line) end all holds refl none joined counted fresh
+        (still ∙ ap (λ (d : O × J). d.0) same)
+        (subst (λ (d : O × J). HeadTo kept losses d.1 out'.1 (is_live line) head count line (Err end)) same to)
+    stops_line ended base out out' seen line (InSteps run) given unseen end all holds at r =
+        run_stops ended base out out' seen line run given unseen end all at r
+
+    -- ---- a run ends with its input
+
+    head_closes : (base out' : O × J) (seen : List (List ℕ)) (head : List ℕ) (count : ℕ) (given : List ℕ) (end : LiveEnd)
+        → all_lines past given ≡ seen → behind seen ≡ None → head ≡ concat seen → count ≡ length seen → past ≡ no_past
+        → out'.0 ≡ base.0 → out'.1 ≡ base.1 → Refuses false head (count + 1) end
+        → IsStop written failures kept losses past base out' given ⊤ end
+    head_closes base out' seen head count given (Done any) all none joined counted fresh said same r = absurd r
+    head_closes base out' seen head count given (Job n text) all none joined counted fresh said same (fault, is) = (
+      seen,
+      inr (tt, sym all),
+      unopened_job seen head count n text.items none joined counted fault is,
+      λ i. (said i, same i),
+    )
+    head_closes base out' seen head count given (Cif fault text) all none joined counted fresh said same (cif, from, means, is) = (
+      seen,
+      inr (tt, sym all),
+      unopened_cif seen head count fault text.items none joined counted cif from means is,
+      λ i. (said i, same i),
+    )
+    head_closes base out' seen head count given Device all none joined counted fresh said same r = absurd r
+    head_closes base out' seen head count given Journal all none joined counted fresh said same r = absurd r
+    head_closes base out' seen head count given Memory all none joined counted fresh said same r = (
+      seen,
+      [],
+      [],
+      append-nil seen ∙ sym all,
+      said_nothing seen none,
+      subst (Does written failures kept losses past base out' []) (sym (kept_none seen none)) (does_none base out' fresh said same),
+    )
+
+    run_closes : (base out out' : O × J) (seen : List (List ℕ)) (run : LiveRun) (given : List ℕ) (end : LiveEnd)
+        → all_lines past given ≡ seen → IsAt written failures kept losses past base out seen (InSteps run)
+        → RunCloses written failures out.0 out'.0 run end → out'.1 ≡ out.1
+        → IsStop written failures kept losses past base out' given ⊤ end
+    run_closes base out out' seen run given (Done any) all (heard, file, h, is, ran, did) (r, flag) same =
+        let first = before_first_line (layout_of file) in
+        let said = answers first heard in
+        let last = closing (after_lines first heard) in
+        let put : WroteAll written failures out.0 out'.0 last =
+        subst (λ (r : LiveRun). WroteAll written failures out.0 out'.0 (closing r)) ran r in
+        let did' = does_then base out out' said last (kept_in seen) [] did put (kept_nothing kept losses out.1 out'.1 same) in (
+          tt,
+          said ++ last,
+          subst (λ (ls : List (List ℕ)). IsWhole ls (said ++ last)) (sym all) (heard, file, h, is, refl),
+          subst (λ (ls : List (List ℕ)). HaveRefused ls any) (sym all)
+              (heard, file, h, is, flag ∙ ap has_refused ran),
+          subst (Does written failures kept losses past base out' (said ++ last))
+              (append-nil (kept_in seen) ∙ ap kept_in (sym all)) did',
+        )
+    run_closes base out out' seen run given (Job n text) all at r same = absurd r
+    run_closes base out out' seen run given (Cif fault text) all at r same = absurd r
+    run_closes base out out' seen run given Device all (heard, file, h, is, ran, did) r same =
+        let first = before_first_line (layout_of file) in
+        let said = answers first heard in
+        let last = closing (after_lines first heard) in
+        let put : WrotePrefix written failures out.0 out'.0 last =
+        subst (λ (r : LiveRun). WrotePrefix written failures out.0 out'.0 (closing r)) ran r in
+        let did' = part_then base out out' said last (kept_in seen) [] did put (kept_nothing kept losses out.1 out'.1 same) in (
+          seen,
+          [],
+          said ++ last,
+          append-nil seen ∙ sym all,
+          inr ((heard, file, h, is, refl), refl),
+          subst (WritesPart written failures kept losses past base out' (said ++ last)) (append-nil (kept_in seen)) did',
+        )
+    run_closes base out out' seen run given Journal all at r same = absurd r
+    run_closes base out out' seen run given Memory all at r same =
+        stops_memory ⊤ base out out' seen (InSteps run) given [] (all ∙ sym (append-nil seen)) at r same
+
+    pub closes : (base out out' : O × J) (seen : List (List ℕ)) (phase : Phase) (given : List ℕ) (end : LiveEnd)
+        → all_lines past given ≡ seen → IsAt written failures kept losses past base out seen phase
+        → ClosesTo written failures out.0 out'.0 phase end → out'.1 ≡ out.1
+        → IsStop written failures kept losses past base out' given ⊤ end
+    closes base out out' seen (InHead head count) given end all (none, joined, counted, fresh, is) (still, r) same =
+        head_closes base out' seen head count given end all none joined counted fresh (still ∙ ap (λ (d : O × J). d.0) is)
+        (same ∙ ap (λ (d : O × J). d.1) is) r
+    closes base out out' seen (InSteps run) given end all at r same = run_closes base out out' seen run given end all at r same

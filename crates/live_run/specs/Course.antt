@@ -15,14 +15,15 @@ use Rattle.job_text.specs.declared.job.JobFault.{JobFault}
 use Rattle.job_text.specs.declared.job.JobFault.TheVariants.{Line, NoMemory as JobMemory}
 use Rattle.job_text.specs.Job.{job_of}
 use Rattle.live_run.specs.declared.live.Live.{Live}
-use Rattle.live_run.specs.Live.{LiveRun, Said, after_line, before_first_line, run_of}
+use Rattle.live_run.specs.Live.{LiveRun, Said, after_line, before_first_line, has_refused, run_of}
 use Rattle.live_run.specs.declared.base.HeadFault.{HeadFault}
 use Rattle.live_run.specs.declared.base.HeadFault.TheVariants.{Cif as CifHead, Job as JobHead, Memory as MemoryHead}
 use Rattle.live_run.specs.declared.course.Course.{Course}
 use Rattle.live_run.specs.declared.course.Course.TheVariants.{Head, Steps}
 use Rattle.live_run.specs.declared.ending.LiveEnd.{LiveEnd}
-use Rattle.live_run.specs.declared.ending.LiveEnd.TheVariants.{Cif, Device, Done, Job, Memory}
+use Rattle.live_run.specs.declared.ending.LiveEnd.TheVariants.{Cif, Device, Done, Job, Journal, Memory}
 use Rattle.live_run.specs.Cif.{cif_from, is_live}
+use Rattle.live_run.specs.Journal.{Entry, KeptAll, KeptPart, entries_by, kept_head, kept_line}
 use Rattle.live_run.specs.Said.{closing, said_text}
 
 -- before the live line, the lines so far, joined, and how many they are; behind it, the run
@@ -79,17 +80,18 @@ BeginsRun head number run =
 
 -- none does, by whether there is a live line
 abbrev pub Refuses : Bool → List ℕ → ℕ → LiveEnd → Type 0
-Refuses live head number Done = ⊥
+Refuses live head number (Done refused) = ⊥
 Refuses live head number (Job line text) = (cif_from number live (job_of head) ≡ Err (Line line)) × (text.items ≡ head)
 Refuses live head number (Cif fault text) =
     (cif : List ℕ) × (cif_from number live (job_of head) ≡ Ok cif) × IsMeaning cif (Err fault) × (text.items ≡ head)
 Refuses live head number Device = ⊥
+Refuses live head number Journal = ⊥
 Refuses live head number Memory = ⊤
 
 -- a run begins behind this head, or none does
-abbrev pub OpensTo : List ℕ → ℕ → Result Live LiveEnd → Type 0
+abbrev pub OpensTo : List ℕ → ℕ → Result Live HeadFault → Type 0
 OpensTo head number (Ok live) = BeginsRun head number (run_of live)
-OpensTo head number (Err end) = Refuses true head number end
+OpensTo head number (Err fault) = (text : Vec ℕ Global) → text.items ≡ head → Refuses true head number (end_of_head fault text)
 
 -- ---- a line
 
@@ -98,12 +100,24 @@ abbrev pub end_of_write : WriteFault → LiveEnd
 end_of_write DeviceFault = Device
 end_of_write NoMemory = Memory
 
--- what a line behind this head leads to, by whether it is live
-abbrev pub HeadTo : Bool → List ℕ → ℕ → List ℕ → Result Course LiveEnd → Type 0
-HeadTo false head count line (Ok course) = phase_of course ≡ InHead (head ++ line) (count + 1)
-HeadTo false head count line (Err end) = end ≡ Memory
-HeadTo true head count line (Ok course) = (run : LiveRun) × BeginsRun head (count + 1) run × (phase_of course ≡ InSteps run)
-HeadTo true head count line (Err end) = Refuses true head (count + 1) end
+module _ {J : Type 0} (kept : J → Option (List Entry)) (losses : J → ℕ) (book book' : J) where
+  -- a line was kept, as it was to be
+  abbrev pub KeepsTo : List Entry → Result Unit LiveEnd → Type 0
+  KeepsTo entries (Ok x) = KeptAll kept losses book book' entries
+  KeepsTo entries (Err end) = (end ≡ Journal) × KeptPart kept losses book book' entries
+
+  -- what a live line behind this head leads to: where a run begins, head and line are kept
+  abbrev pub LiveTo : List ℕ → ℕ → List ℕ → Result Course LiveEnd → Type 0
+  LiveTo head number line (Ok course) =
+      (run : LiveRun) × BeginsRun head number run × (phase_of course ≡ InSteps run) × KeptAll kept losses book book' (kept_head head line)
+  LiveTo head number line (Err Journal) = KeptPart kept losses book book' (kept_head head line)
+  LiveTo head number line (Err end) = Refuses true head number end × (book' ≡ book)
+
+  -- what a line behind this head leads to, by whether it is live
+  abbrev pub HeadTo : Bool → List ℕ → ℕ → List ℕ → Result Course LiveEnd → Type 0
+  HeadTo false head count line (Ok course) = (phase_of course ≡ InHead (head ++ line) (count + 1)) × (book' ≡ book)
+  HeadTo false head count line (Err end) = (end ≡ Memory) × (book' ≡ book)
+  HeadTo true head count line result = LiveTo head (count + 1) line result
 
 module _ {O : Type 0} (written : O → Option (List ℕ)) (failures : O → ℕ) (out out' : O) where
   -- the text was written; or the device failed, and a prefix was; or memory was refused, and nothing was
@@ -112,31 +126,36 @@ module _ {O : Type 0} (written : O → Option (List ℕ)) (failures : O → ℕ)
   Puts text (Err DeviceFault) = WrotePrefix written failures out out' text
   Puts text (Err NoMemory) = out' ≡ out
 
-  -- what a line of a run leads to, which leaves this and is answered so
-  abbrev pub AnswersTo : LiveRun × Said → Result Course LiveEnd → Type 0
-  AnswersTo said (Ok course) = (phase_of course ≡ InSteps said.0) × WroteAll written failures out out' (said_text said)
-  AnswersTo said (Err Done) = ⊥
-  AnswersTo said (Err (Job line text)) = ⊥
-  AnswersTo said (Err (Cif fault text)) = ⊥
-  AnswersTo said (Err Device) = WrotePrefix written failures out out' (said_text said)
-  AnswersTo said (Err Memory) = out' ≡ out
-
-  -- what a line leads to
-  abbrev pub HearsTo : Phase → List ℕ → Result Course LiveEnd → Type 0
-  HearsTo (InHead head count) line result = (out' ≡ out) × HeadTo (is_live line) head count line result
-  HearsTo (InSteps run) line result = AnswersTo (after_line run line) result
-
-  -- ---- the end
-
   -- what the end of the input leads to in a run
   abbrev pub RunCloses : LiveRun → LiveEnd → Type 0
-  RunCloses run Done = WroteAll written failures out out' (closing run)
+  RunCloses run (Done refused) = WroteAll written failures out out' (closing run) × (refused ≡ has_refused run)
   RunCloses run (Job line text) = ⊥
   RunCloses run (Cif fault text) = ⊥
   RunCloses run Device = WrotePrefix written failures out out' (closing run)
+  RunCloses run Journal = ⊥
   RunCloses run Memory = out' ≡ out
 
   -- what the end of the input leads to
   abbrev pub ClosesTo : Phase → LiveEnd → Type 0
   ClosesTo (InHead head count) end = (out' ≡ out) × Refuses false head (count + 1) end
   ClosesTo (InSteps run) end = RunCloses run end
+
+module _ {O J : Type 0} (written : O → Option (List ℕ)) (failures : O → ℕ) (kept : J → Option (List Entry)) (losses : J → ℕ)
+    (out out' : O × J) where
+  -- what a line of a run leads to, which leaves this, is answered so and is kept so, before the first byte of the answer
+  abbrev pub AnswersTo : LiveRun × Said → List Entry → Result Course LiveEnd → Type 0
+  AnswersTo said entries (Ok course) =
+      (phase_of course ≡ InSteps said.0) × WroteAll written failures out.0 out'.0 (said_text said)
+      × KeptAll kept losses out.1 out'.1 entries
+  AnswersTo said entries (Err (Done refused)) = ⊥
+  AnswersTo said entries (Err (Job line text)) = ⊥
+  AnswersTo said entries (Err (Cif fault text)) = ⊥
+  AnswersTo said entries (Err Device) =
+      WrotePrefix written failures out.0 out'.0 (said_text said) × KeptAll kept losses out.1 out'.1 entries
+  AnswersTo said entries (Err Journal) = (out'.0 ≡ out.0) × KeptPart kept losses out.1 out'.1 entries
+  AnswersTo said entries (Err Memory) = (out'.0 ≡ out.0) × (out'.1 ≡ out.1)
+
+  -- what a line leads to
+  abbrev pub HearsTo : Phase → List ℕ → Result Course LiveEnd → Type 0
+  HearsTo (InHead head count) line result = (out'.0 ≡ out.0) × HeadTo kept losses out.1 out'.1 (is_live line) head count line result
+  HearsTo (InSteps run) line result = AnswersTo (after_line run line) (kept_line line) result

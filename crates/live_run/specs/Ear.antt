@@ -1,8 +1,7 @@
 -- Where a live run stands between two bytes, by all the bytes that were given so far.
-use Rattle.std.specs.Prelude.{◌≡◌, ℕ, ⊤, List, ◌++◌, length, filter, Bool, true, not, ◌==◌, Option, None, Some, Result, Ok, Err}
+use Rattle.std.specs.Prelude.{◌≡◌, ℕ, ◌+◌, ◌⊎◌, ⊤, List, [], ◌++◌, length, filter, Bool, true, false, not, ◌==◌, Option, None, Some, Result, Ok, Err}
 use Rattle.std.specs.List.{concat, list_all}
 use Rattle.std.specs.Io.KnownBytes.{Consumes}
-use Rattle.byte_io.specs.Device.{WroteAll}
 use Rattle.byte_io.specs.Input.{Counts}
 use Rattle.cif_read.specs.Contents.{Contents}
 use Rattle.cif_layout.specs.FromCif.{layout_of}
@@ -11,9 +10,10 @@ use Rattle.live_run.specs.Live.{after_lines, before_first_line}
 use Rattle.live_run.specs.declared.course.Course.{Course}
 use Rattle.live_run.specs.declared.ear.Ear.{Ear}
 use Rattle.live_run.specs.declared.ending.LiveEnd.{LiveEnd}
-use Rattle.live_run.specs.Cif.{behind, is_ended}
-use Rattle.live_run.specs.Course.{Phase, InHead, InSteps, phase_of}
-use Rattle.live_run.specs.Ending.{IsEnded, IsLiveRun, IsStop}
+use Rattle.live_run.specs.Cif.{behind, is_ended, whole}
+use Rattle.live_run.specs.Course.{Phase, InHead, InSteps, Refuses, phase_of}
+use Rattle.live_run.specs.Ending.{Does, IsEnd, IsEnded, IsStop, Past, Unbegun, all_lines, no_past}
+use Rattle.live_run.specs.Journal.{Entry, kept_in}
 use Rattle.live_run.specs.Said.{IsBase, answers}
 
 -- whether the byte ends no line
@@ -26,53 +26,82 @@ pub record IsCut (bytes : List ℕ) (seen : List (List ℕ)) (line : List ℕ) :
   pub ended : filter is_ended seen ≡ seen
   pub inside : list_all is_not_newline line ≡ true
 
-module _ {O : Type 0} (written : O → Option (List ℕ)) (failures : O → ℕ) (base out : O) where
-  -- from the device before the first line to this one, these lines were answered, and the run stands here
+module _ {O J : Type 0} (written : O → Option (List ℕ)) (failures : O → ℕ) (kept : J → Option (List Entry)) (losses : J → ℕ)
+    (past : Past) (base out : O × J) where
+  -- from the devices before the first line to these, these lines were kept and answered, and the run stands here
   abbrev pub IsAt : List (List ℕ) → Phase → Type 0
-  IsAt seen (InHead head count) = (behind seen ≡ None) × (head ≡ concat seen) × (count ≡ length seen) × (out ≡ base)
+  IsAt seen (InHead head count) =
+      (behind seen ≡ None) × (head ≡ concat seen) × (count ≡ length seen) × (past ≡ no_past) × (out ≡ base)
   IsAt seen (InSteps run) =
       (heard : List (List ℕ)) × (file : Contents) × (behind seen ≡ Some heard) × IsBase seen file
       × (run ≡ after_lines (before_first_line (layout_of file)) heard)
-      × WroteAll written failures base out (answers (before_first_line (layout_of file)) heard)
+      × Does written failures kept losses past base out (answers (before_first_line (layout_of file)) heard) (kept_in seen)
 
   -- the same, by the bytes that were given
   abbrev pub Hears : List ℕ → Phase → List ℕ → Type 0
-  Hears given phase line = (seen : List (List ℕ)) × IsCut given seen line × IsAt seen phase
+  Hears given phase line = (seen : List (List ℕ)) × IsCut given seen line × IsAt (past.lines ++ seen) phase
 
   -- so a run stands once these bytes were given; or it stopped in them, whatever stands behind them
   abbrev pub HearsOn : List ℕ → Result Ear LiveEnd → Type 0
   HearsOn given (Ok ear) = Hears given (phase_of ear.course) ear.line.items
-  HearsOn given (Err end) = (more : List ℕ) → IsStop written failures base out (given ++ more) ⊥ end
+  HearsOn given (Err end) = (more : List ℕ) → IsStop written failures kept losses past base out (given ++ more) ⊥ end
 
   -- so a run stands once all lines were heard, the last too; or it has ended
   abbrev pub HearsLast : List ℕ → Result Course LiveEnd → Type 0
-  HearsLast given (Ok course) = IsAt (lines given) (phase_of course)
-  HearsLast given (Err end) = IsStop written failures base out given ⊤ end
+  HearsLast given (Ok course) = IsAt (all_lines past given) (phase_of course)
+  HearsLast given (Err end) = IsStop written failures kept losses past base out given ⊤ end
 
-module _ {O : Type 0} (written : O → Option (List ℕ)) (failures : O → ℕ) (out out' : O) where
+module _ {O J : Type 0} (written : O → Option (List ℕ)) (failures : O → ℕ) (kept : J → Option (List Entry)) (losses : J → ℕ)
+    (out out' : O × J) where
   -- a run that stands here is led there by this piece of the input
   abbrev pub PieceTo : Ear → List ℕ → Result Ear LiveEnd → Type 0
   PieceTo ear piece result =
-      (base : O) (given : List ℕ) → Hears written failures base out given (phase_of ear.course) ear.line.items
-      → HearsOn written failures base out' (given ++ piece) result
+      (past : Past) (base : O × J) (given : List ℕ)
+      → Hears written failures kept losses past base out given (phase_of ear.course) ear.line.items
+      → HearsOn written failures kept losses past base out' (given ++ piece) result
 
   -- the last line, which has no newline, is heard too
   abbrev pub LastTo : Ear → Result Course LiveEnd → Type 0
   LastTo ear result =
-      (base : O) (given : List ℕ) → Hears written failures base out given (phase_of ear.course) ear.line.items
-      → HearsLast written failures base out' given result
+      (past : Past) (base : O × J) (given : List ℕ)
+      → Hears written failures kept losses past base out given (phase_of ear.course) ear.line.items
+      → HearsLast written failures kept losses past base out' given result
 
   -- a run that stands here when the input has ended, ends so
   abbrev pub EndTo : Ear → LiveEnd → Type 0
   EndTo ear end =
-      (base : O) (given : List ℕ) → Hears written failures base out given (phase_of ear.course) ear.line.items
-      → IsStop written failures base out' given ⊤ end
+      (past : Past) (base : O × J) (given : List ℕ)
+      → Hears written failures kept losses past base out given (phase_of ear.course) ear.line.items
+      → IsStop written failures kept losses past base out' given ⊤ end
 
--- the input was read to its end, and its bytes were heard; or the run has ended
-abbrev pub HeardAll : {I O : Type 0} → (I → Option (List ℕ)) → (I → Counts) → (O → Option (List ℕ)) → (O → ℕ) → I → I → O → O
-    → Result Ear LiveEnd → Type 0
-HeardAll remaining counts written failures input input' out out' (Ok ear) =
-    (given : List ℕ) × Consumes (remaining input) (remaining input') given
-    × Hears written failures out out' given (phase_of ear.course) ear.line.items × IsEnded (counts input) (counts input')
-HeardAll remaining counts written failures input input' out out' (Err end) =
-    IsLiveRun remaining counts written failures input input' out out' end
+-- a run stands before its first line, or behind these lines of its journal
+abbrev pub StandsBehind : List (List ℕ) → Phase → Type 0
+StandsBehind lines phase = ((lines ≡ []) × (phase ≡ InHead [] 0))
+    ⊎ ((heard : List (List ℕ)) × (file : Contents) × (behind lines ≡ Some heard) × IsBase lines file
+    × (phase ≡ InSteps (after_lines (before_first_line (layout_of file)) heard)))
+
+-- a run that stands here begins so: in front of its first line it has heard nothing
+abbrev pub BegunAt : Phase → Phase → Type 0
+BegunAt (InHead head count) phase = (count ≡ 0) × (phase ≡ InHead [] 0)
+BegunAt (InSteps run) phase = phase ≡ InSteps run
+
+-- of a run that has heard a journal: where no live line came, none begins; else it stands where it stood, between lines
+abbrev pub BegunTo : Ear → Result Ear LiveEnd → Type 0
+BegunTo ear (Ok begun) = BegunAt (phase_of ear.course) (phase_of begun.course) × (begun.line.items ≡ [])
+BegunTo ear (Err end) = (head : List ℕ) × (count : ℕ) × (phase_of ear.course ≡ InHead head count) × Refuses false head (count + 1) end
+
+-- a run begins behind the lines that this journal has whole, and nothing has come of the next; or none begins
+abbrev pub Begins : List ℕ → Result Ear LiveEnd → Type 0
+Begins journal (Ok ear) = StandsBehind (whole journal) (phase_of ear.course) × (ear.line.items ≡ [])
+Begins journal (Err end) = Unbegun (whole journal) end
+
+-- the input was read to its end, and its bytes were heard by a run that stood here; or the run has ended
+abbrev pub HeardAll : {I O J : Type 0} → (I → Option (List ℕ)) → (I → Counts) → (O → Option (List ℕ)) → (O → ℕ)
+    → (J → Option (List Entry)) → (J → ℕ) → Ear → I → I → O × J → O × J → Result Ear LiveEnd → Type 0
+HeardAll remaining counts written failures kept losses first input input' out out' (Ok ear) =
+    (given : List ℕ) × Consumes (remaining input) (remaining input') given × IsEnded (counts input) (counts input')
+    × PieceTo written failures kept losses out out' first given (Ok ear)
+HeardAll remaining counts written failures kept losses first input input' out out' (Err end) =
+    (past : Past) → Hears written failures kept losses past out out [] (phase_of first.course) first.line.items
+    → (given : List ℕ) × Consumes (remaining input) (remaining input') given
+    × IsEnd written failures kept losses past out out' given (counts input) (counts input') end

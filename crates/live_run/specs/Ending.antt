@@ -1,5 +1,5 @@
 -- How a live run ends.
-use Rattle.std.specs.Prelude.{◌≡◌, ℕ, ◌+◌, ◌⊎◌, List, ◌++◌, true, Option, is_some, Ok, Err}
+use Rattle.std.specs.Prelude.{◌≡◌, ℕ, ◌+◌, ◌⊎◌, ⊤, List, [], ◌∷◌, ◌++◌, Bool, true, Option, None, is_some, Ok, Err}
 use Rattle.std.specs.List.{concat}
 use Rattle.std.specs.Io.KnownBytes.{Consumes}
 use Rattle.byte_io.specs.Device.{WroteAll, WrotePrefix}
@@ -9,9 +9,11 @@ use Rattle.cif_read.specs.Meaning.{IsMeaning}
 use Rattle.job_text.specs.declared.job.JobFault.TheVariants.{Line}
 use Rattle.byte_io.specs.Lines.{lines}
 use Rattle.live_run.specs.declared.ending.LiveEnd.{LiveEnd}
-use Rattle.live_run.specs.declared.ending.LiveEnd.TheVariants.{Cif, Device, Done, Job, Memory}
+use Rattle.live_run.specs.declared.ending.LiveEnd.TheVariants.{Cif, Device, Done, Job, Journal, Memory}
+use Rattle.live_run.specs.declared.journal.NoJournal.{NoJournal}
 use Rattle.live_run.specs.Cif.{before, behind, cif_of, whole}
-use Rattle.live_run.specs.Said.{IsSaid, IsWhole}
+use Rattle.live_run.specs.Journal.{Entry, KeptAll, KeptPart, kept_in}
+use Rattle.live_run.specs.Said.{HaveRefused, IsSaid, IsWhole}
 
 -- the input came to its end, and didn't fail
 abbrev pub IsEnded : Counts → Counts → Type 0
@@ -23,53 +25,138 @@ IsBroken old new =
     (new.ends ≡ old.ends)
     × ((new.failures ≡ old.failures + 1) ⊎ ((new.failures ≡ old.failures) × (new.nonempty_reads ≡ old.nonempty_reads + 33554432)))
 
--- The lines that tell which CIF text the bytes have: the whole ones, once the live line is among them; or all, where the
--- input has ended.
-abbrev pub Tells : Type 0 → List ℕ → List (List ℕ) → Type 0
-Tells ended given told = ((told ≡ whole given) × (is_some (behind told) ≡ true)) ⊎ (ended × (told ≡ lines given))
+-- what was before a run: the lines of its journal, what they were answered, and what was kept of them
+pub record Past : Type 0 where
+  pub lines : List (List ℕ)
+  pub said : List ℕ
+  pub entries : List Entry
 
-module _ {O : Type 0} (written : O → Option (List ℕ)) (failures : O → ℕ) (out out' : O) (given : List ℕ) where
-  -- the bytes that were given tell of a fault at this line of the job in front of the live line; nothing was written
+-- nothing was before it
+abbrev pub no_past : Past
+no_past = record { lines = []; said = []; entries = [] }
+
+-- these lines were before it
+pub record IsPast (journal : List (List ℕ)) (past : Past) : Type 0 where
+  pub lines : past.lines ≡ journal
+  pub said : IsSaid journal past.said
+  pub entries : past.entries ≡ kept_in journal
+
+-- the lines of the past and of the bytes that were given
+abbrev pub all_lines : Past → List ℕ → List (List ℕ)
+all_lines past given = past.lines ++ lines given
+
+-- those of them that ended
+abbrev pub whole_lines : Past → List ℕ → List (List ℕ)
+whole_lines past given = past.lines ++ whole given
+
+-- The lines that tell which CIF text there is: the whole ones, once the live line is among them; or all, where the input has
+-- ended.
+abbrev pub Tells : Past → List ℕ → Type 0 → List (List ℕ) → Type 0
+Tells past given ended told =
+    ((told ≡ whole_lines past given) × (is_some (behind told) ≡ true)) ⊎ (ended × (told ≡ all_lines past given))
+
+-- the lines up to the live line, or all where there is none, have a fault at this line of the job
+abbrev pub HasJobFault : List (List ℕ) → ℕ → List ℕ → Type 0
+HasJobFault told line text = (cif_of told ≡ Err (Line line)) × (text ≡ concat (before told))
+
+-- the CIF text of the lines has this fault
+abbrev pub HasCifFault : List (List ℕ) → CifFault → List ℕ → Type 0
+HasCifFault told fault text = (cif : List ℕ) × (cif_of told ≡ Ok cif) × IsMeaning cif (Err fault) × (text ≡ concat (before told))
+
+module _ {O J : Type 0} (written : O → Option (List ℕ)) (failures : O → ℕ) (kept : J → Option (List Entry)) (losses : J → ℕ)
+    (past : Past) (out out' : O × J) where
+  -- with what was before, this was written and this kept, and neither device failed
+  abbrev pub Does : List ℕ → List Entry → Type 0
+  Does said entries = (more : List ℕ) × (fresh : List Entry) × (past.said ++ more ≡ said) × (past.entries ++ fresh ≡ entries)
+      × WroteAll written failures out.0 out'.0 more × KeptAll kept losses out.1 out'.1 fresh
+
+  -- the same, but the output failed in what it was to write
+  abbrev pub WritesPart : List ℕ → List Entry → Type 0
+  WritesPart said entries = (more : List ℕ) × (fresh : List Entry) × (past.said ++ more ≡ said) × (past.entries ++ fresh ≡ entries)
+      × WrotePrefix written failures out.0 out'.0 more × KeptAll kept losses out.1 out'.1 fresh
+
+  -- the same, but the journal failed in what it was to keep
+  abbrev pub KeepsPart : List ℕ → List Entry → Type 0
+  KeepsPart said entries = (more : List ℕ) × (fresh : List Entry) × (past.said ++ more ≡ said) × (past.entries ++ fresh ≡ entries)
+      × WroteAll written failures out.0 out'.0 more × KeptPart kept losses out.1 out'.1 fresh
+
+module _ {O J : Type 0} (written : O → Option (List ℕ)) (failures : O → ℕ) (kept : J → Option (List Entry)) (losses : J → ℕ)
+    (past : Past) (out out' : O × J) (given : List ℕ) where
+  -- the bytes that were given tell of a fault at this line of the job in front of the live line; nothing was written or kept
   abbrev pub IsJobEnd : Type 0 → ℕ → List ℕ → Type 0
-  IsJobEnd ended line text =
-      (told : List (List ℕ)) × Tells ended given told × (cif_of told ≡ Err (Line line)) × (text ≡ concat (before told)) × (out' ≡ out)
+  IsJobEnd ended line text = (told : List (List ℕ)) × Tells past given ended told × HasJobFault told line text × (out' ≡ out)
 
   -- the same of this fault of the CIF text
   abbrev pub IsCifEnd : Type 0 → CifFault → List ℕ → Type 0
-  IsCifEnd ended fault text =
-      (told : List (List ℕ)) × (cif : List ℕ) × Tells ended given told × (cif_of told ≡ Ok cif) × IsMeaning cif (Err fault)
-      × (text ≡ concat (before told)) × (out' ≡ out)
+  IsCifEnd ended fault text = (told : List (List ℕ)) × Tells past given ended told × HasCifFault told fault text × (out' ≡ out)
 
-  -- some first lines of the bytes were answered, each of them, and nothing else was written
+  -- some first lines were kept and answered, each of them, and nothing else was written or kept
   abbrev pub IsMemoryEnd : Type 0
-  IsMemoryEnd =
-      (seen unseen : List (List ℕ)) × (said : List ℕ) × (seen ++ unseen ≡ lines given) × IsSaid seen said
-      × WroteAll written failures out out' said
+  IsMemoryEnd = (seen unseen : List (List ℕ)) × (said : List ℕ) × (seen ++ unseen ≡ all_lines past given) × IsSaid seen said
+      × Does written failures kept losses past out out' said (kept_in seen)
 
-  -- the output failed in the answers of some first lines of the bytes, or in what is said in all
+  -- the output failed in the answers of some first lines, which were kept, or in what is said in all
   abbrev pub IsCutOff : Type 0
-  IsCutOff =
-      (seen unseen : List (List ℕ)) × (said : List ℕ) × (seen ++ unseen ≡ lines given) × (IsSaid seen said ⊎ IsWhole (lines given) said)
-      × WrotePrefix written failures out out' said
+  IsCutOff = (seen unseen : List (List ℕ)) × (said : List ℕ) × (seen ++ unseen ≡ all_lines past given)
+      × (IsSaid seen said ⊎ (IsWhole seen said × (unseen ≡ [])))
+      × WritesPart written failures kept losses past out out' said (kept_in seen)
 
-  -- each whole line of the bytes was answered, and nothing else was written
+  -- the journal failed in the keeping of a line, and those in front of it were kept and answered
+  abbrev pub IsLost : Type 0
+  IsLost = (seen unseen : List (List ℕ)) × (line said : List ℕ) × (seen ++ line ∷ unseen ≡ all_lines past given) × IsSaid seen said
+      × KeepsPart written failures kept losses past out out' said (kept_in (seen ++ line ∷ []))
+
+  -- each whole line was kept and answered, and nothing else was written or kept
   abbrev pub IsAnswered : Type 0
-  IsAnswered = (said : List ℕ) × IsSaid (whole given) said × WroteAll written failures out out' said
+  IsAnswered = (said : List ℕ) × IsSaid (whole_lines past given) said
+      × Does written failures kept losses past out out' said (kept_in (whole_lines past given))
 
   -- a run that ended so, and not for its input: where it is done, the input has ended and all is said
   abbrev pub IsStop : Type 0 → LiveEnd → Type 0
-  IsStop ended Done = ended × (said : List ℕ) × IsWhole (lines given) said × WroteAll written failures out out' said
+  IsStop ended (Done refused) =
+      ended × (said : List ℕ) × IsWhole (all_lines past given) said × HaveRefused (all_lines past given) refused
+      × Does written failures kept losses past out out' said (kept_in (all_lines past given))
   IsStop ended (Job line text) = IsJobEnd ended line text.items
   IsStop ended (Cif fault text) = IsCifEnd ended fault text.items
   IsStop ended Device = IsCutOff
+  IsStop ended Journal = IsLost
   IsStop ended Memory = IsMemoryEnd
 
   -- the same, or the input is broken and each whole line of it was answered
   abbrev pub IsEnd : Counts → Counts → LiveEnd → Type 0
   IsEnd old new end = IsStop (IsEnded old new) end ⊎ ((end ≡ Device) × IsBroken old new × IsAnswered)
 
--- from the old input and output device to the new, where the run ended so: these bytes were given
-pub record IsLiveRun {I O : Type 0} (remaining : I → Option (List ℕ)) (counts : I → Counts)
-    (written : O → Option (List ℕ)) (failures : O → ℕ) (input input' : I) (out out' : O) (end : LiveEnd) : Type 0 where
-  pub by : (given : List ℕ) × Consumes (remaining input) (remaining input') given
-      × IsEnd written failures out out' given (counts input) (counts input') end
+-- whether a run can begin from these lines of its journal: there are none, or one of them is live
+abbrev pub can_begin : List (List ℕ) → Bool
+can_begin [] = true
+can_begin (line ∷ lines) = is_some (behind (line ∷ lines))
+
+-- no run begins from these lines of its journal: there is no live line, they have a fault, or memory was refused
+abbrev pub Unbegun : List (List ℕ) → LiveEnd → Type 0
+Unbegun told (Done refused) = ⊥
+Unbegun told (Job line text) = HasJobFault told line text.items
+Unbegun told (Cif fault text) = HasCifFault told fault text.items
+Unbegun told Device = ⊥
+Unbegun told Journal = ⊥
+Unbegun told Memory = ⊤
+
+module _ {I O J : Type 0} (remaining : I → Option (List ℕ)) (counts : I → Counts) (written : O → Option (List ℕ)) (failures : O → ℕ)
+    (kept : J → Option (List Entry)) (losses : J → ℕ) where
+  -- From the old devices to the new, a run over the lines that this journal has whole and then those of the input: what the
+  -- lines of the journal are answered isn't said again, nor are they kept again.
+  abbrev pub Resumes : List ℕ → I → I → O × J → O × J → LiveEnd → Type 0
+  Resumes journal input input' out out' end =
+      (past : Past) × (given : List ℕ) × (can_begin (whole journal) ≡ true) × IsPast (whole journal) past
+      × Consumes (remaining input) (remaining input') given
+      × IsEnd written failures kept losses past out out' given (counts input) (counts input') end
+
+  -- the same, or no run began, and nothing was read, written or kept
+  pub record IsJournaled (journal : List ℕ) (input input' : I) (out out' : O × J) (end : LiveEnd) : Type 0 where
+    pub by : Resumes journal input input' out out' end
+        ⊎ (Unbegun (whole journal) end × (input' ≡ input) × (out' ≡ out))
+
+-- from the old input and output device to the new, a run without a journal ended so
+abbrev pub IsLiveRun : {I O : Type 0} → (I → Option (List ℕ)) → (I → Counts) → (O → Option (List ℕ)) → (O → ℕ)
+    → I → I → O → O → LiveEnd → Type 0
+IsLiveRun remaining counts written failures input input' out out' end =
+    IsJournaled {J = NoJournal} remaining counts written failures (λ j. None) (λ j. 0) [] input input' (out, record {}) (out', record {}) end

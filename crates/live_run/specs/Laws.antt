@@ -1,20 +1,28 @@
 -- The lines of a live run lead where their steps lead as a job.
-use Rattle.std.specs.Prelude.{◌≡◌, ℕ, List, [], ◌∷◌, ◌++◌, map}
+use Rattle.std.specs.Prelude.{◌≡◌, ℕ, List, [], ◌∷◌, ◌++◌, map, true, Some}
+use Rattle.std.specs.List.{AllByRecursion, list_all}
+use Rattle.cif_layout.specs.FromCif.{layout_of}
+use Rattle.cif_read.specs.Contents.{Contents}
 use Rattle.lay_layouts.specs.Layout.{Layout}
 use Rattle.undo_book.specs.declared.book.TheConstants.{MAX_CALLS}
 use Rattle.session_steps.specs.declared.Step.{Step as StepOf}
 use Rattle.session_core.specs.Machine.{after_steps, start}
 use Rattle.job_text.specs.declared.live.LiveLine.{LiveLine}
-use Rattle.job_text.specs.declared.live.LiveLine.TheVariants.{Blank, Step, Write, Odd}
+use Rattle.job_text.specs.declared.live.LiveLine.TheVariants.{Ask, Blank, Odd, Step, Write}
 use Rattle.job_text.specs.Live.{live_line}
 use Rattle.job_text.specs.Words.{words_of}
+use Rattle.live_run.specs.Cif.{behind, whole}
+use Rattle.live_run.specs.Ear.{is_not_newline}
+use Rattle.live_run.specs.Journal.{bytes_of, kept_in}
 use Rattle.live_run.specs.Live.{LiveRun, after_lines, before_first_line}
+use Rattle.live_run.specs.Said.{IsBase}
 
 -- the step that a line says, if it says one
 abbrev pub steps_of : LiveLine → List (ℕ × StepOf)
 steps_of Blank = []
 steps_of (Step session step) = (session, step) ∷ []
 steps_of Write = []
+steps_of (Ask question) = []
 steps_of Odd = []
 
 -- the steps that lines say, in order
@@ -31,3 +39,26 @@ pub record LedBy (base : Layout) (steps : List (ℕ × StepOf)) (run : LiveRun) 
 -- so do lines, whatever they are
 abbrev pub LinesAreSteps : Type 0
 LinesAreSteps = (base : Layout) (lines : List (List ℕ)) → LedBy base (steps_in lines) (after_lines (before_first_line base) lines)
+
+-- a line has one newline, at its end
+abbrev pub IsLine : List ℕ → Type 0
+IsLine line = (body : List ℕ) × (list_all is_not_newline body ≡ true) × (line ≡ body ++ 10 ∷ [])
+
+abbrev pub AreLines : List (List ℕ) → Type 0
+AreLines lines = AllByRecursion IsLine lines
+
+-- two runs are the same but for how many lines came
+pub record SameSteps (a b : LiveRun) : Type 0 where
+  pub state : a.state ≡ b.state
+  pub sessions : a.sessions ≡ b.sessions
+  pub replies : a.replies ≡ b.replies
+  pub taken : a.taken ≡ b.taken
+
+-- what a journal has of lines, and of the next line any bytes but its newline: a run that begins from it begins where the run of
+-- those lines stands
+abbrev pub JournalsResume : Type 0
+JournalsResume = (lines heard : List (List ℕ)) (file : Contents) (cut : List ℕ) → AreLines lines → behind lines ≡ Some heard
+    → IsBase lines file → list_all is_not_newline cut ≡ true
+    → (kept : List (List ℕ)) × (behind (whole (bytes_of (kept_in lines) ++ cut)) ≡ Some kept)
+    × IsBase (whole (bytes_of (kept_in lines) ++ cut)) file
+    × SameSteps (after_lines (before_first_line (layout_of file)) kept) (after_lines (before_first_line (layout_of file)) heard)

@@ -2,14 +2,17 @@
 use Rattle.std.specs.Prelude.{ℕ, ◌+◌, List, [], ◌∷◌, ◌++◌, Bool, true, false, replicate, slice_index, slice_set}
 use Rattle.lay_layouts.specs.Layout.{Layout}
 use Rattle.undo_book.specs.declared.book.TheConstants.{MAX_CALLS}
+use Rattle.std.specs.List.{list_any}
 use Rattle.session_steps.specs.declared.Reply.{Reply}
+use Rattle.session_steps.specs.declared.Reply.TheVariants.{Fault}
 use Rattle.session_steps.specs.declared.Step.{Step as StepOf}
 use Rattle.session_core.specs.Machine.{State, start, step_outcome}
 use Rattle.job_text.specs.declared.live.LiveLine.{LiveLine}
-use Rattle.job_text.specs.declared.live.LiveLine.TheVariants.{Blank, Step, Write, Odd}
+use Rattle.job_text.specs.declared.live.LiveLine.TheVariants.{Ask, Blank, Odd, Step, Write}
 use Rattle.job_text.specs.Live.{live_line, odd_text}
 use Rattle.job_text.specs.Replies.{reply_text}
 use Rattle.job_text.specs.Words.{words_of}
+use Rattle.live_questions.specs.Answers.{answer_text}
 use Rattle.live_run.specs.declared.live.Answer.{Answer}
 use Rattle.live_run.specs.declared.live.Live.{Live}
 
@@ -34,6 +37,15 @@ run_of l = record {
 -- a run on this layout before its first line, of 64 sessions
 abbrev pub before_first_line : Layout → LiveRun
 before_first_line base = record { state = start base 64 MAX_CALLS; sessions = []; replies = []; taken = replicate 65 0; lines = 0 }
+
+-- whether the step with this reply was refused
+abbrev pub is_refusal : Reply → Bool
+is_refusal (Fault fault) = true
+is_refusal reply = false
+
+-- whether a step was
+abbrev pub has_refused : LiveRun → Bool
+has_refused run = list_any is_refusal run.replies
 
 -- a comment, and whether the layout is wanted
 abbrev pub Said : Type 0
@@ -78,6 +90,7 @@ abbrev pub answered : LiveRun → LiveLine → LiveRun × Said
 answered run Blank = (one_more run, ([], false))
 answered run (Step session step) = after_step run session step
 answered run Write = (one_more run, ([], true))
+answered run (Ask question) = (one_more run, (answer_text question run.state.history, false))
 answered run Odd = (one_more run, (odd_text (run.lines + 1), false))
 
 -- what a line is answered

@@ -1,5 +1,5 @@
 -- What is said in a live run, once these lines came.
-use Rattle.std.specs.Prelude.{◌≡◌, ℕ, List, [], ◌∷◌, ◌++◌, replicate, if◌then◌else◌, Option, None, Some, Ok}
+use Rattle.std.specs.Prelude.{◌≡◌, ℕ, List, [], ◌∷◌, ◌++◌, Bool, replicate, if◌then◌else◌, Option, None, Some, Ok}
 use Rattle.cif_read.specs.Contents.{Contents}
 use Rattle.cif_read.specs.Meaning.{IsMeaning}
 use Rattle.cif_write.specs.Text.{text}
@@ -7,12 +7,21 @@ use Rattle.cif_layout.specs.FromCif.{layout_of}
 use Rattle.lay_layouts.specs.Layout.{Layout}
 use Rattle.session_steps.specs.Turns.{dealt}
 use Rattle.job_text.specs.Order.{order_of, order_text}
-use Rattle.live_run.specs.Live.{LiveRun, Said, after_line, after_lines, before_first_line}
+use Rattle.live_run.specs.Live.{LiveRun, Said, after_line, after_lines, before_first_line, has_refused}
 use Rattle.live_run.specs.Cif.{behind, cif_of}
+
+-- the layout that is shown in an answer, where one is wanted
+abbrev pub shown_in : Layout → Said → Option Layout
+shown_in layout said = if said.1 then Some layout else None
+
+-- its text
+abbrev pub shown_text : Option Layout → List ℕ
+shown_text None = []
+shown_text (Some layout) = text layout
 
 -- the text of an answer: its comment, and this layout where it is wanted
 abbrev pub comment_and_layout : Layout → Said → List ℕ
-comment_and_layout layout said = said.0 ++ (if said.1 then text layout else [])
+comment_and_layout layout said = said.0 ++ shown_text (shown_in layout said)
 
 -- what a line is answered, where the layout is as the line left it
 abbrev pub said_text : LiveRun × Said → List ℕ
@@ -47,3 +56,9 @@ abbrev pub IsWhole : List (List ℕ) → List ℕ → Type 0
 IsWhole lines said =
     (heard : List (List ℕ)) × (file : Contents) × (behind lines ≡ Some heard) × IsBase lines file
     × (said ≡ answers (before_first_line (layout_of file)) heard ++ closing (after_lines (before_first_line (layout_of file)) heard))
+
+-- where these lines were all, a step of theirs was refused, or none was
+abbrev pub HaveRefused : List (List ℕ) → Bool → Type 0
+HaveRefused lines refused =
+    (heard : List (List ℕ)) × (file : Contents) × (behind lines ≡ Some heard) × IsBase lines file
+    × (refused ≡ has_refused (after_lines (before_first_line (layout_of file)) heard))

@@ -66,17 +66,15 @@ impl From<NoMemory> for HeadFault {
 }
 
 /// Returns the run behind this head, before its first line, where the live line has this number.
-pub(crate) fn open_run(alloc: Global, head: Vec<u8>, number: u32) -> Result<Live, LiveEnd>
-    ensures { OpensTo head.items number result }
+pub(crate) fn open_run(alloc: Global, head: &[u8], number: u32) -> Result<Live, HeadFault>
+    ensures { OpensTo head.now number result }
 {
-    match base_of(alloc, head.as_slice(), number) {
-        Ok(base) => Ok(Live::new(alloc, base)?),
-        Err(fault) => Err(head_end(fault, head)),
-    }
+    let base = base_of(alloc, head, number)?;
+    Ok(Live::new(alloc, base)?)
 }
 
 /// Returns the end of a run whose head has this fault and this text.
-fn head_end(fault: HeadFault, text: Vec<u8>) -> LiveEnd
+pub(crate) fn head_end(fault: HeadFault, text: Vec<u8>) -> LiveEnd
     ensures { result ≡ end_of_head fault text }
 {
     match fault {

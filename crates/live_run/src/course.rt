@@ -7,16 +7,20 @@ ghost use Rattle.live_run.specs.Course.{
   ClosesTo,
   HeadTo,
   HearsTo,
+  KeepsTo,
+  LiveTo,
   Puts,
   RunCloses,
   phase_of,
 };
+ghost use Rattle.live_run.specs.Journal.{entries_by, kept_as, kept_head, kept_line};
 ghost use Rattle.live_run.specs.Said.{closing};
 
-use crate::base::{open_run, unopened};
+use crate::base::{head_end, open_run, unopened};
 use crate::ending::LiveEnd;
-use crate::live::Live;
-use crate::put::{put_answer, put_both};
+use crate::journal::Journal;
+use crate::live::{Keeping, Live};
+use crate::put::{put_answer, put_both, shown};
 use band_workers::Bands;
 use byte_io::Out;
 use cif_write::WriteFault;
@@ -26,7 +30,7 @@ use std::thread::Threads;
 
 /// Where a run stands between two lines. Contracts see its `phase_of`.
 #[derive(Drop)]
-pub(crate) enum Course {
+pub enum Course {
     /// In front of the live line: the lines so far, and how many they are.
     Head(Vec<u8>, u32),
     /// Behind it.
@@ -34,20 +38,22 @@ pub(crate) enum Course {
 }
 
 impl Course {
-    /// Returns the course after a line, which is answered at once.
-    pub(crate) fn hear<O: Out>(
+    /// Returns the course after a line, which is kept and answered at once.
+    pub(crate) fn hear<O: Out, J: Journal>(
         self,
         rt: &(impl Threads + Sync),
         alloc: Global,
         bands: &impl Bands,
         out: &mut O,
+        journal: &mut J,
         line: &[u8],
     ) -> Result<Course, LiveEnd>
-        ensures { HearsTo O.written O.failures out.old out.new (phase_of self) line.now result }
+        ensures { HearsTo O.written O.failures J.kept J.losses (out.old, journal.old) (out.new, journal.new)
+            (phase_of self) line.now result }
     {
         match self {
-            Course::Head(text, count) => hear_head(alloc, text, count, line),
-            Course::Steps(live) => hear_step(rt, alloc, bands, out, live, line),
+            Course::Head(text, count) => hear_head(alloc, text, count, journal, line),
+            Course::Steps(live) => hear_step(rt, alloc, bands, out, journal, live, line),
         }
     }
 
@@ -73,43 +79,95 @@ fn is_live(line: &[u8]) -> bool
 }
 
 /// Returns the course after a line behind these others, none of which is live.
-fn hear_head(alloc: Global, text: Vec<u8>, count: u32, line: &[u8]) -> Result<Course, LiveEnd>
-    ensures { HeadTo (is_live line.now) text.items count line.now result }
+fn hear_head<J: Journal>(
+    alloc: Global,
+    text: Vec<u8>,
+    count: u32,
+    journal: &mut J,
+    line: &[u8],
+) -> Result<Course, LiveEnd>
+    ensures { HeadTo J.kept J.losses journal.old journal.new (is_live line.now) text.items count line.now result }
 {
     let number = count.checked_add(1).ok_or(NoMemory)?;
     if is_live(line) {
-        return match open_run(alloc, text, number) {
-            Ok(live) => Ok(Course::Steps(live)),
-            Err(end) => Err(end),
-        };
+        return hear_live(alloc, text, number, journal, line);
     }
     let mut text = text;
     text.extend_from_slice(line).map_err(|_| NoMemory)?;
     Ok(Course::Head(text, number))
 }
 
-/// Returns the course after a line of a run, which is answered.
-fn hear_step<O: Out>(
+/// Returns the course after a live line of this number, which is kept behind its head where a run begins.
+fn hear_live<J: Journal>(
+    alloc: Global,
+    text: Vec<u8>,
+    number: u32,
+    journal: &mut J,
+    line: &[u8],
+) -> Result<Course, LiveEnd>
+    ensures { LiveTo J.kept J.losses journal.old journal.new text.items number line.now result }
+{
+    match open_run(alloc, text.as_slice(), number) {
+        Ok(live) => {
+            keep_head(journal, text.as_slice(), line)?;
+            Ok(Course::Steps(live))
+        }
+        Err(fault) => Err(head_end(fault, text)),
+    }
+}
+
+/// Keeps the head of a run and its live line.
+fn keep_head<J: Journal>(journal: &mut J, head: &[u8], line: &[u8]) -> Result<(), LiveEnd>
+    ensures { KeepsTo J.kept J.losses journal.old journal.new (kept_head head.now line.now) result }
+{
+    journal.keep(head, false)?;
+    journal.keep(line, true)?;
+    Ok(())
+}
+
+/// Keeps a line, where it is to be kept, or tells that it says nothing.
+fn keep_line<J: Journal>(journal: &mut J, keeping: Keeping, line: &[u8]) -> Result<(), LiveEnd>
+    ensures { KeepsTo J.kept J.losses journal.old journal.new (entries_by (kept_as keeping) line.now) result }
+{
+    match keeping {
+        Keeping::No => Ok(()),
+        Keeping::Line(is_flushed) => Ok(journal.keep(line, is_flushed)?),
+        Keeping::Odd(number) => {
+            journal.tell(line, number);
+            Ok(())
+        }
+    }
+}
+
+/// Returns the course after a line of a run, which is kept and then answered. All that takes memory comes before it is kept.
+fn hear_step<O: Out, J: Journal>(
     rt: &(impl Threads + Sync),
     alloc: Global,
     bands: &impl Bands,
     out: &mut O,
+    journal: &mut J,
     live: Live,
     line: &[u8],
 ) -> Result<Course, LiveEnd>
-    ensures { AnswersTo O.written O.failures out.old out.new (after_line (run_of live) line.now) result }
+    ensures { AnswersTo O.written O.failures J.kept J.losses (out.old, journal.old) (out.new, journal.new)
+        (after_line (run_of live) line.now) (kept_line line.now) result }
 {
     let (live, answer) = live.answer(rt, alloc, line, bands)?;
-    put_answer(out, &answer, live.layout())?;
-    Ok(Course::Steps(live))
+    let shown = shown(&answer, live.layout())?;
+    keep_line(journal, answer.keeping, line)?;
+    match put_answer(out, answer.comment.as_slice(), shown) {
+        Ok(()) => Ok(Course::Steps(live)),
+        Err(_) => Err(LiveEnd::Device),
+    }
 }
 
 /// Writes what a run has to say at its end.
 fn close_run<O: Out>(alloc: Global, out: &mut O, live: Live) -> LiveEnd
     ensures { RunCloses O.written O.failures out.old out.new (run_of live) result }
 {
+    let has_refused = live.has_refused();
     match put_closing(alloc, out, live) {
-        Ok(()) => LiveEnd::Done,
+        Ok(()) => LiveEnd::Done { has_refused },
         Err(WriteFault::Device) => LiveEnd::Device,
         Err(WriteFault::NoMemory) => LiveEnd::Memory,
     }

@@ -1,19 +1,21 @@
 //! The hearing of a live run: bytes, as they come, put together to lines.
 ghost use Rattle.std.specs.Prelude.{◌≡◌, ◌∷◌, []};
 ghost use Rattle.live_run.specs.Course.{InHead, phase_of};
-ghost use Rattle.live_run.specs.Ear.{EndTo, LastTo, PieceTo};
+ghost use Rattle.live_run.specs.Ear.{BegunTo, EndTo, LastTo, PieceTo};
 
+use crate::base::unopened;
 use crate::course::Course;
 use crate::ending::LiveEnd;
+use crate::journal::Journal;
 use band_workers::Bands;
 use byte_io::Out;
 use lay_point::NoMemory;
 use std::alloc::Global;
 use std::thread::Threads;
 
-/// Where a run stands between two bytes.
+/// A live run that is handed its input piece by piece. Contracts see where it stands between two bytes.
 #[derive(Drop)]
-pub(crate) struct Ear {
+pub struct Ear {
     /// Where it stands between two lines.
     pub(crate) course: Course,
     /// What has come of the next line, without a newline.
@@ -22,7 +24,7 @@ pub(crate) struct Ear {
 
 impl Ear {
     /// Returns a run before its first byte.
-    pub(crate) fn new(alloc: Global) -> Ear
+    pub fn new(alloc: Global) -> Ear
         ensures line { result.line.items ≡ [] }
         ensures course { phase_of result.course ≡ InHead [] 0 }
     {
@@ -32,20 +34,30 @@ impl Ear {
         }
     }
 
-    /// Returns the run after these bytes, whose lines are answered.
-    pub(crate) fn hear_piece<O: Out>(
+    /// Returns the run after these bytes. Each whole line of the bytes so far is kept and answered then: its answer and all
+    /// before it are with the device. `bands` finds the edges of Booleans.
+    ///
+    /// # Errors
+    ///
+    /// The run's end, if it ends in these bytes: as `run_live`'s, but for `Done`.
+    ///
+    /// # Cost
+    ///
+    /// That of the lines' steps.
+    pub fn hear_piece<O: Out, J: Journal>(
         self,
         rt: &(impl Threads + Sync),
         alloc: Global,
         bands: &impl Bands,
         out: &mut O,
+        journal: &mut J,
         piece: &[u8],
     ) -> Result<Ear, LiveEnd>
-        ensures { PieceTo O.written O.failures out.old out.new self piece.now result }
+        ensures { PieceTo O.written O.failures J.kept J.losses (out.old, journal.old) (out.new, journal.new) self piece.now result }
     {
         let mut ear = self;
         for byte in piece {
-            match ear.hear_byte(rt, alloc, bands, out, *byte) {
+            match ear.hear_byte(rt, alloc, bands, out, journal, *byte) {
                 Ok(next) => ear = next,
                 Err(end) => return Err(end),
             }
@@ -53,16 +65,37 @@ impl Ear {
         Ok(ear)
     }
 
+    /// Returns the run behind the whole lines that it has heard, from its journal: what has come of the next is dropped.
+    pub(crate) fn begun(self, alloc: Global) -> Result<Ear, LiveEnd>
+        ensures { BegunTo self result }
+    {
+        let Ear { course, .. } = self;
+        match course {
+            Course::Head(text, count) => {
+                if count == 0 {
+                    return Ok(Ear::new(alloc));
+                }
+                let number = count.checked_add(1).ok_or(NoMemory)?;
+                Err(unopened(alloc, text, number))
+            }
+            Course::Steps(live) => Ok(Ear {
+                course: Course::Steps(live),
+                line: Vec::new(alloc),
+            }),
+        }
+    }
+
     /// Returns the run after a byte.
-    fn hear_byte<O: Out>(
+    fn hear_byte<O: Out, J: Journal>(
         self,
         rt: &(impl Threads + Sync),
         alloc: Global,
         bands: &impl Bands,
         out: &mut O,
+        journal: &mut J,
         byte: u8,
     ) -> Result<Ear, LiveEnd>
-        ensures { PieceTo O.written O.failures out.old out.new self (byte ∷ []) result }
+        ensures { PieceTo O.written O.failures J.kept J.losses (out.old, journal.old) (out.new, journal.new) self (byte ∷ []) result }
     {
         let Ear { course, line } = self;
         let mut line = line;
@@ -70,7 +103,7 @@ impl Ear {
         if byte != b'\n' {
             return Ok(Ear { course, line });
         }
-        match course.hear(rt, alloc, bands, out, line.as_slice()) {
+        match course.hear(rt, alloc, bands, out, journal, line.as_slice()) {
             Ok(course) => {
                 line.clear();
                 Ok(Ear { course, line })
@@ -79,36 +112,38 @@ impl Ear {
         }
     }
 
-    /// Ends the run, once the input has ended: a last line without newline is answered too.
-    pub(crate) fn end<O: Out>(
+    /// Ends the run, once the input has ended: a last line without newline is answered too, and order and layout are written.
+    pub fn end<O: Out, J: Journal>(
         self,
         rt: &(impl Threads + Sync),
         alloc: Global,
         bands: &impl Bands,
         out: &mut O,
+        journal: &mut J,
     ) -> LiveEnd
-        ensures { EndTo O.written O.failures out.old out.new self result }
+        ensures { EndTo O.written O.failures J.kept J.losses (out.old, journal.old) (out.new, journal.new) self result }
     {
-        match self.hear_last(rt, alloc, bands, out) {
+        match self.hear_last(rt, alloc, bands, out, journal) {
             Ok(course) => course.close(alloc, out),
             Err(end) => end,
         }
     }
 
     /// Returns the course after the last line, which may have no newline.
-    fn hear_last<O: Out>(
+    fn hear_last<O: Out, J: Journal>(
         self,
         rt: &(impl Threads + Sync),
         alloc: Global,
         bands: &impl Bands,
         out: &mut O,
+        journal: &mut J,
     ) -> Result<Course, LiveEnd>
-        ensures { LastTo O.written O.failures out.old out.new self result }
+        ensures { LastTo O.written O.failures J.kept J.losses (out.old, journal.old) (out.new, journal.new) self result }
     {
         if self.line.is_empty() {
             return Ok(self.course);
         }
         self.course
-            .hear(rt, alloc, bands, out, self.line.as_slice())
+            .hear(rt, alloc, bands, out, journal, self.line.as_slice())
     }
 }

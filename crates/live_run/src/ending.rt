@@ -2,10 +2,12 @@
 ghost use Rattle.std.specs.Prelude.{◌≡◌};
 ghost use Rattle.live_run.specs.declared.ending.LiveEnd.TheVariants.{
   Device as DeviceEnd,
+  Journal as JournalEnd,
   Memory as MemoryEnd,
 };
 ghost use Rattle.live_run.specs.Course.{end_of_write};
 
+use crate::journal::KeepFault;
 use byte_io::InFault;
 use cif_read::CifFault;
 use cif_write::WriteFault;
@@ -14,8 +16,11 @@ use lay_point::NoMemory;
 /// How a live run ended.
 #[derive(Debug, Drop)]
 pub enum LiveEnd {
-    /// The input came to its end, and each line is answered.
-    Done,
+    /// The input came to its end, and each line is answered; whether a step was refused.
+    Done {
+        /// Whether a step was refused, of the journal's too.
+        has_refused: bool,
+    },
     /// The job in front of the line `%live` has a fault, or a script, or there is no such line. Nothing is written.
     Job {
         /// The first line with a fault, counted from 1; 0 where the job is too long.
@@ -32,6 +37,8 @@ pub enum LiveEnd {
     },
     /// A device failed, or the input gave bytes in each of 33,554,432 reads.
     Device,
+    /// The journal failed. The line that it was to keep isn't answered.
+    Journal,
     /// A growth of memory was refused. What is written answers some first lines.
     Memory,
 }
@@ -52,6 +59,14 @@ impl From<WriteFault> for LiveEnd {
             WriteFault::Device => LiveEnd::Device,
             WriteFault::NoMemory => LiveEnd::Memory,
         }
+    }
+}
+
+impl From<KeepFault> for LiveEnd {
+    ghost from_gives = { λ _ end. end ≡ JournalEnd };
+
+    fn from(_failed: KeepFault) -> LiveEnd {
+        LiveEnd::Journal
     }
 }
 

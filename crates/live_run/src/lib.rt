@@ -9,7 +9,8 @@
 //! 64 sessions.
 //!
 //! A fault of the job or of its CIF text isn't written but is an end of the run, [`LiveEnd`], which
-//! the caller reports. At most [`MAX_READS`] reads are made of the input.
+//! the caller reports. At most [`MAX_READS`] reads are made of the input. A caller that has its input
+//! piece by piece hands it to an [`Ear`].
 //!
 //! # Model
 //!
@@ -22,12 +23,17 @@
 //! - Which lines are answered how is `specs/Said.antt`; how a run ends, by the bytes that the input
 //!   gave, is `specs/Ending.antt`. What is said of a failed input is what keeps an answer from
 //!   waiting for the next line: all lines that came whole are answered by then.
-//! - [`lines_are_steps`] does nothing and carries the law: the lines so far lead where their steps
-//!   lead as a job, with the same replies (`specs/Laws.antt`).
+//! - A [`Journal`] gets the lines up to the live line, and then each step before its answer
+//!   (`specs/Journal.antt`). [`run_journaled`] begins behind the lines that one has: such a run is one
+//!   over these lines and then the input's, but for the answers to the first.
+//! - [`lines_are_steps`] and [`journals_resume`] do nothing and carry laws (`specs/Laws.antt`): the
+//!   lines so far lead where their steps lead as a job, with the same replies; and so do the lines that
+//!   a journal has of them.
 //!
 //! # Files
 //!
 //! - `run.rt`: the run from its first byte; `ear.rt`: bytes put together to lines.
+//! - `journal.rt`: where lines are kept, so that a later run can begin from them.
 //! - `course.rt`, `base.rt`: head and steps, and the layout of the head (`specs/Cif.antt`).
 //! - `live.rt`: the sessions, and what a line is answered; `put.rt`: the writing of it.
 //! - `ending.rt`: how a run ends.
@@ -46,11 +52,15 @@ mod base;
 mod course;
 mod ear;
 mod ending;
+mod journal;
 mod laws;
 mod live;
 mod put;
 mod run;
 
+pub use ear::Ear;
 pub use ending::LiveEnd;
-pub use laws::lines_are_steps;
-pub use run::{MAX_READS, run_live};
+pub use journal::{Journal, KeepFault, NoJournal};
+pub use laws::{journals_resume, lines_are_steps};
+pub use live::is_refusal;
+pub use run::{MAX_READS, run_journaled, run_live};

@@ -1,12 +1,18 @@
 //! The sessions of a live run, and what its lines are answered.
-ghost use Rattle.std.specs.Prelude.{◌≡◌, ◌+◌, [], IfOk, replicate, slice_index, slice_set};
+ghost use Rattle.std.specs.Prelude.{◌≡◌, ◌+◌, [], IfOk, Some, false, replicate, slice_index, slice_set};
 ghost use Rattle.session_steps.specs.Turns.{dealt};
 ghost use Rattle.session_core.specs.Machine.{is_memory};
+ghost use Rattle.job_text.specs.Live.{live_line};
 ghost use Rattle.job_text.specs.Order.{order_of, order_text};
+ghost use Rattle.job_text.specs.Words.{words_of};
+ghost use Rattle.live_run.specs.declared.live.Keeping.TheVariants.{No};
+ghost use Rattle.live_run.specs.Journal.{is_lasting, kept_as, keeping_of};
 ghost use Rattle.live_run.specs.Live.{
   after_line,
   after_step,
   before_first_line,
+  has_refused,
+  is_refusal,
   one_more,
   run_of,
   said_of,
@@ -16,6 +22,7 @@ use band_workers::Bands;
 use job_text::{LiveLine, comments, live_line, odd_line, order_of, reply_line};
 use lay_items::Snapshot;
 use lay_point::NoMemory;
+use live_questions::answer;
 use session_core::Machine;
 use session_steps::{Reply, Step, StepFault, dealt};
 use std::alloc::Global;
@@ -33,6 +40,33 @@ pub struct Answer {
     pub comment: Vec<u8>,
     /// Whether the layout is wanted, as it is now.
     pub is_layout_wanted: bool,
+    /// Whether the line is kept in a journal.
+    pub keeping: Keeping,
+}
+
+/// What becomes of a line in a journal.
+#[derive(Clone, Copy, Debug, PartialEq, Eq)]
+pub enum Keeping {
+    /// It isn't kept.
+    No,
+    /// It is kept, and with `true` flushed to the disk, before it is answered.
+    Line(bool),
+    /// It says nothing that a run takes, and has this number.
+    Odd(u64),
+}
+
+impl Answer {
+    /// Returns the answer of this comment, to a line that isn't kept.
+    fn new(comment: Vec<u8>) -> Answer
+        ensures said { said_of result ≡ (comment.items, false) }
+        ensures keeping { result.keeping ≡ No }
+    {
+        Answer {
+            comment,
+            is_layout_wanted: false,
+            keeping: Keeping::No,
+        }
+    }
 }
 
 /// A live run. Contracts see the state of its machine, the steps' sessions and replies so far, and how many
@@ -90,18 +124,35 @@ impl Live {
         line: &[u8],
         bands: &impl Bands,
     ) -> Result<(Live, Answer), NoMemory>
-        ensures { IfOk result (λ r. (run_of r.0, said_of r.1) ≡ after_line (run_of self) line.now) }
+        ensures answer { IfOk result (λ r. (run_of r.0, said_of r.1) ≡ after_line (run_of self) line.now) }
+        ensures keeping { IfOk result (λ r. kept_as r.1.keeping ≡ keeping_of (live_line (words_of line.now))) }
     {
         let number = self.lines.checked_add(1).ok_or(NoMemory)?;
         match live_line(alloc, line)? {
             LiveLine::Step(session, step) => self.step(rt, alloc, session, step, bands),
-            LiveLine::Blank => Ok(self.one_more(number, Vec::new(alloc), false)),
-            LiveLine::Write => Ok(self.one_more(number, Vec::new(alloc), true)),
+            LiveLine::Blank => Ok(self.one_more(number, Answer::new(Vec::new(alloc)))),
+            LiveLine::Write => {
+                let mut answer = Answer::new(Vec::new(alloc));
+                answer.is_layout_wanted = true;
+                Ok(self.one_more(number, answer))
+            }
+            LiveLine::Ask(question) => {
+                let comment = answer(alloc, question, self.machine.book())?;
+                Ok(self.one_more(number, Answer::new(comment)))
+            }
             LiveLine::Odd => {
-                let comment = odd_line(alloc, number)?;
-                Ok(self.one_more(number, comment, false))
+                let mut answer = Answer::new(odd_line(alloc, number)?);
+                answer.keeping = Keeping::Odd(number);
+                Ok(self.one_more(number, answer))
             }
         }
+    }
+
+    /// Returns whether a step was refused.
+    pub fn has_refused(&self) -> bool
+        ensures { result ≡ has_refused (run_of self.now) }
+    {
+        self.replies.iter().any(|reply| is_refusal(reply))
     }
 
     /// Returns the comments of the order of the steps, as the log tells it, and the layout at the end.
@@ -135,9 +186,11 @@ impl Live {
         step: Step,
         bands: &impl Bands,
     ) -> Result<(Live, Answer), NoMemory>
-        ensures { IfOk result (λ r. (run_of r.0, said_of r.1) ≡ after_step (run_of self) session step) }
+        ensures answer { IfOk result (λ r. (run_of r.0, said_of r.1) ≡ after_step (run_of self) session step) }
+        ensures keeping { IfOk result (λ r. kept_as r.1.keeping ≡ Some (is_lasting step)) }
     {
         let mut run = self;
+        let is_flushed = is_lasting(&step);
         let reply = run.machine.step(rt, alloc, session, step, bands);
         if is_memory(&reply) {
             return Err(NoMemory);
@@ -149,25 +202,19 @@ impl Live {
         run.sessions.push(session)?;
         run.replies.push(reply)?;
         run.lines = lines;
-        let answer = Answer {
-            comment,
-            is_layout_wanted: false,
-        };
+        let mut answer = Answer::new(comment);
+        answer.keeping = Keeping::Line(is_flushed);
         Ok((run, answer))
     }
 
     /// Returns the run with one line more, which takes no step and is answered so.
-    fn one_more(self, lines: u64, comment: Vec<u8>, is_layout_wanted: bool) -> (Live, Answer)
+    fn one_more(self, lines: u64, answer: Answer) -> (Live, Answer)
         requires { lines ≡ self.lines + 1 }
         ensures run { run_of result.0 ≡ one_more (run_of self) }
-        ensures said { said_of result.1 ≡ (comment.items, is_layout_wanted) }
+        ensures answer { result.1 ≡ answer }
     {
         let mut run = self;
         run.lines = lines;
-        let answer = Answer {
-            comment,
-            is_layout_wanted,
-        };
         (run, answer)
     }
 }
@@ -189,6 +236,23 @@ fn count_step(taken: &mut Vec<u64>, session: u8, number: u64)
     let place = usize::from(session);
     if place < taken.len() {
         taken[place] = number;
+    }
+}
+
+/// Returns whether the step with this reply was refused.
+pub fn is_refusal(reply: &Reply) -> bool
+    ensures { result ≡ is_refusal reply.now }
+{
+    matches!(reply, Reply::Fault(_))
+}
+
+/// Returns whether the step ends with what others see.
+fn is_lasting(step: &Step) -> bool
+    ensures { result ≡ is_lasting step.now }
+{
+    match step {
+        Step::Commit | Step::Undo(_) | Step::Redo(_) => true,
+        Step::Open | Step::Do(_) | Step::Cancel => false,
     }
 }
 

@@ -1,10 +1,11 @@
 //! A live run from the first byte of its input to its end.
 ghost use Rattle.std.specs.Prelude.{◌≡◌, ◌+◌, ◌≤◌};
-ghost use Rattle.live_run.specs.Ear.{HeardAll};
-ghost use Rattle.live_run.specs.Ending.{IsLiveRun};
+ghost use Rattle.live_run.specs.Ear.{Begins, HeardAll};
+ghost use Rattle.live_run.specs.Ending.{IsJournaled, IsLiveRun};
 
 use crate::ear::Ear;
 use crate::ending::LiveEnd;
+use crate::journal::{Journal, NoJournal, Silent};
 use band_workers::Bands;
 use byte_io::{In, Out};
 use std::alloc::Global;
@@ -35,31 +36,84 @@ pub fn run_live<I: In, O: Out>(
     ensures run { IsLiveRun I.remaining I.counts O.written O.failures input.old input.new out.old out.new result }
     ensures reads { (I.counts input.new).reads ≤ (I.counts input.old).reads + MAX_READS }
 {
-    match hear_all(rt, alloc, bands, input, out) {
-        Ok(ear) => ear.end(rt, alloc, bands, out),
+    run_journaled(
+        rt,
+        alloc,
+        bands,
+        Vec::new(alloc),
+        input,
+        out,
+        &mut NoJournal,
+    )
+}
+
+/// Runs the live run of the lines that the journal's bytes have whole and then of the input's, where the first are
+/// taken again without answers. Each step is kept in the journal before it is answered; without bytes, so are the
+/// text and the live line, with which the input begins then.
+///
+/// # Cost
+///
+/// That of [`run_live`], and of the journal's steps.
+pub fn run_journaled<I: In, O: Out, J: Journal>(
+    rt: &(impl Threads + Sync),
+    alloc: Global,
+    bands: &impl Bands,
+    bytes: Vec<u8>,
+    input: &mut I,
+    out: &mut O,
+    journal: &mut J,
+) -> LiveEnd
+    ensures run { IsJournaled I.remaining I.counts O.written O.failures J.kept J.losses bytes.items
+        input.old input.new (out.old, journal.old) (out.new, journal.new) result }
+    ensures reads { (I.counts input.new).reads ≤ (I.counts input.old).reads + MAX_READS }
+{
+    let ear = match begin(rt, alloc, bands, bytes) {
+        Ok(ear) => ear,
+        Err(end) => return end,
+    };
+    match hear_all(rt, alloc, bands, ear, input, out, journal) {
+        Ok(ear) => ear.end(rt, alloc, bands, out, journal),
         Err(end) => end,
     }
 }
 
-/// Returns the run at the end of its input, unless it has ended before.
-fn hear_all<I: In, O: Out>(
+/// Returns the run behind the lines that the journal's bytes have whole, which are answered to nobody.
+fn begin(
     rt: &(impl Threads + Sync),
     alloc: Global,
     bands: &impl Bands,
+    bytes: Vec<u8>,
+) -> Result<Ear, LiveEnd>
+    ensures { Begins bytes.items result }
+{
+    match Ear::new(alloc).hear_piece(rt, alloc, bands, &mut Silent, &mut NoJournal, &bytes) {
+        Ok(ear) => ear.begun(alloc),
+        Err(end) => Err(end),
+    }
+}
+
+/// Returns the run at the end of its input, unless it has ended before.
+fn hear_all<I: In, O: Out, J: Journal>(
+    rt: &(impl Threads + Sync),
+    alloc: Global,
+    bands: &impl Bands,
+    first: Ear,
     input: &mut I,
     out: &mut O,
+    journal: &mut J,
 ) -> Result<Ear, LiveEnd>
-    ensures heard { HeardAll I.remaining I.counts O.written O.failures input.old input.new out.old out.new result }
+    ensures heard { HeardAll I.remaining I.counts O.written O.failures J.kept J.losses first input.old input.new
+        (out.old, journal.old) (out.new, journal.new) result }
     ensures reads { (I.counts input.new).reads ≤ (I.counts input.old).reads + MAX_READS }
 {
-    let mut ear = Ear::new(alloc);
+    let mut ear = first;
     let mut buffer = [0; BUFFER];
     for _ in 0..MAX_READS {
         let taken = input.take(&mut buffer)?;
         if taken == 0 {
             return Ok(ear);
         }
-        match ear.hear_piece(rt, alloc, bands, out, &buffer[..taken]) {
+        match ear.hear_piece(rt, alloc, bands, out, journal, &buffer[..taken]) {
             Ok(next) => ear = next,
             Err(end) => return Err(end),
         }

@@ -5,5 +5,5 @@ use Rattle.job_text.proofs.reply_text.put_made.Goals as goal
 pub returns : goal.returns
 returns g c =
     Buffered-is
-    (Buffered-then c.put.ensures c.put_id.ensures)
+    (Buffered-then c.put.ensures c.put_item_id.ensures)
     (search rules)

@@ -1,13 +1,25 @@
-use Rattle.std.proofs.Common.{rules, ◌≡◌, ◌<◌, ◌+◌, [], ◌++◌, Result, Err, inl, inr, take, subst, sym, arith}
-use Rattle.std.proofs.KnownBytes.{Consumes-trans}
+use Rattle.std.proofs.Common.{rules, ◌≡◌, ◌<◌, ◌+◌, [], ◌++◌, Ok, Result, Err, inl, inr, refl, take, subst, sym, arith}
+use Rattle.std.proofs.KnownBytes.{Consumes-nil, Consumes-trans}
 use Rattle.std.proofs.lemmas.Grind.{common_steps}
 use Rattle.live_run.specs.declared.ear.Ear.{Ear}
 use Rattle.live_run.specs.declared.ending.LiveEnd.{LiveEnd}
 use Rattle.live_run.specs.declared.ending.LiveEnd.TheVariants.{Device}
 use Rattle.live_run.specs.Course.{phase_of}
 use Rattle.live_run.specs.Ear.{HeardAll}
+use Rattle.live_run.proofs.EarLemmas.{no_piece, pieces}
 use Rattle.live_run.proofs.RunLemmas.{consumed_kept, run_broken, run_stopped}
 use Rattle.live_run.proofs.run.hear_all.Goals as goal
+
+pub loop-init : goal.loop-init
+loop-init g c = record {
+  gone = ([], Consumes-nil (g.I.In.remaining c.args.input.now), no_piece g.O.Out.written g.O.Out.failures g.J.Journal.kept g.J.Journal.losses (c.args.out.now, c.args.journal.now) c.args.first);
+  reads = search rules;
+  nonempty_reads = search rules;
+  turns = search rules;
+  unended = refl;
+  unfailing = refl;
+  buffer = search rules;
+}
 
 -- a failed input
 pub returns-in_err-taken-clause-heard : goal.returns-in_err-taken-clause-heard
@@ -16,20 +28,29 @@ returns-in_err-taken-clause-heard g c =
     let at = c.loop.invariant.gone in
     let ends : (g.I.In.counts c.take.new.self).ends ≡ (g.I.In.counts c.args.input.now).ends = grind (arith, common_steps) in
     let failures : (g.I.In.counts c.take.new.self).failures ≡ (g.I.In.counts c.args.input.now).failures + 1 = grind (arith, common_steps) in
-    subst (λ (r : Result Ear LiveEnd). HeardAll g.I.In.remaining g.I.In.counts g.O.Out.written g.O.Out.failures c.args.input.now
-    c.take.new.self c.args.out.now c.loop.out r) (sym failed)
-    (run_broken g.O.Out.written g.O.Out.failures g.I.In.remaining g.I.In.counts c.args.input.now c.take.new.self c.args.out.now c.loop.out
-    at.0 (phase_of c.loop.ear.course) c.loop.ear.line.items (consumed_kept _ _ _ at.0 at.1 c.in_err-taken.ensures.bytes) at.2
-    (ends, inl failures))
+    subst (λ (r : Result Ear LiveEnd). HeardAll g.I.In.remaining g.I.In.counts g.O.Out.written g.O.Out.failures g.J.Journal.kept g.J.Journal.losses c.args.first c.args.input.now
+    c.take.new.self (c.args.out.now, c.args.journal.now)
+    (c.loop.out, c.loop.journal) r) (sym failed)
+    (λ past hears. (
+      at.0,
+      consumed_kept _ _ _ at.0 at.1 c.in_err-taken.ensures.bytes,
+      run_broken g.O.Out.written g.O.Out.failures g.J.Journal.kept g.J.Journal.losses past g.I.In.counts c.args.input.now c.take.new.self (c.args.out.now, c.args.journal.now)
+          (c.loop.out, c.loop.journal) at.0 (phase_of c.loop.ear.course)
+          c.loop.ear.line.items (at.2 past (c.args.out.now, c.args.journal.now) [] hears) (ends, inl failures),
+    ))
 
 -- a piece in which the run stops
 pub returns-in-Err-clause-heard : goal.returns-in-Err-clause-heard
 returns-in-Err-clause-heard g c =
     let at = c.loop.invariant.gone in
     let piece = take c.in_ok-taken.taken c.take.new.buffer in
-    run_stopped g.O.Out.written g.O.Out.failures g.I.In.remaining g.I.In.counts c.args.input.now c.take.new.self c.args.out.now
-    c.hear_piece.new.out (at.0 ++ piece) c.in-Err.end (Consumes-trans _ _ _ at.0 piece at.1 c.in_ok-taken.ensures.bytes.0)
-    (c.in-Err.ensures c.args.out.now at.0 at.2 [])
+    λ past hears. (
+      at.0 ++ piece,
+      Consumes-trans _ _ _ at.0 piece at.1 c.in_ok-taken.ensures.bytes.0,
+      run_stopped g.O.Out.written g.O.Out.failures g.J.Journal.kept g.J.Journal.losses past g.I.In.counts c.args.input.now c.take.new.self (c.args.out.now, c.args.journal.now)
+          (c.hear_piece.new.out, c.hear_piece.new.journal)
+          (at.0 ++ piece) c.in-Err.end (c.in-Err.ensures past (c.args.out.now, c.args.journal.now) at.0 (at.2 past (c.args.out.now, c.args.journal.now) [] hears) []),
+    )
 
 pub loop-preserved : goal.loop-preserved
 loop-preserved g c =
@@ -41,7 +62,8 @@ loop-preserved g c =
       gone = (
         at.0 ++ piece,
         Consumes-trans _ _ _ at.0 piece at.1 c.in_ok-taken.ensures.bytes.0,
-        c.in-Ok.ensures c.args.out.now at.0 at.2,
+        pieces g.O.Out.written g.O.Out.failures g.J.Journal.kept g.J.Journal.losses (c.args.out.now, c.args.journal.now) (c.loop.out, c.loop.journal) (c.hear_piece.new.out, c.hear_piece.new.journal)
+            c.args.first c.loop.ear at.0 piece (Ok c.in-Ok.next) at.2 c.in-Ok.ensures,
       );
       reads = grind (arith, common_steps);
       nonempty_reads = grind (arith, common_steps);
@@ -58,5 +80,13 @@ returns-clause-heard g c =
     let all : c.loop.counter ≡ 33554432 = omega arith in
     let nonempty : (g.I.In.counts c.loop.input).nonempty_reads ≡ (g.I.In.counts c.args.input.now).nonempty_reads + 33554432 =
     grind (arith, common_steps) in
-    run_broken g.O.Out.written g.O.Out.failures g.I.In.remaining g.I.In.counts c.args.input.now c.loop.input c.args.out.now c.loop.out
-    at.0 (phase_of c.loop.ear.course) c.loop.ear.line.items at.1 at.2 (c.loop.invariant.unended, inr (c.loop.invariant.unfailing, nonempty))
+    λ past hears. (
+      at.0,
+      at.1,
+      run_broken g.O.Out.written g.O.Out.failures g.J.Journal.kept g.J.Journal.losses past g.I.In.counts c.args.input.now c.loop.input (c.args.out.now, c.args.journal.now)
+          (c.loop.out, c.loop.journal) at.0
+          (phase_of c.loop.ear.course) c.loop.ear.line.items (at.2 past (c.args.out.now, c.args.journal.now) [] hears) (
+            c.loop.invariant.unended,
+            inr (c.loop.invariant.unfailing, nonempty),
+          ),
+    )

@@ -1,15 +1,15 @@
 -- What was read so far is gone from the input, and was heard. In each turn the device was read once and gave bytes; it neither
 -- ended the input nor failed.
-use Rattle.std.proofs.Common.{◌≡◌, ℕ, ◌+◌, ◌≤◌, List, length}
+use Rattle.std.proofs.Common.{◌≡◌, ℕ, ◌+◌, ◌≤◌, List, Ok, length}
 use Rattle.std.specs.Io.KnownBytes.{Consumes}
-use Rattle.live_run.specs.Course.{phase_of}
-use Rattle.live_run.specs.Ear.{Hears}
+use Rattle.live_run.specs.Ear.{PieceTo}
 use Rattle.live_run.proofs.run.hear_all.Given as goal
 
 abbrev pub invariant-loop : goal.invariant-loop
 invariant-loop g l = record {
   gone : (done : List ℕ) × Consumes (g.I.In.remaining l.initial.input) (g.I.In.remaining l.input) done
-      × Hears g.O.Out.written g.O.Out.failures l.initial.out l.out done (phase_of l.ear.course) l.ear.line.items;
+      × PieceTo g.O.Out.written g.O.Out.failures g.J.Journal.kept g.J.Journal.losses (l.initial.out, l.initial.journal) (l.out, l.journal)
+      l.initial.ear done (Ok l.ear);
   reads : (g.I.In.counts l.input).reads ≡ (g.I.In.counts l.initial.input).reads + l.counter;
   nonempty_reads : (g.I.In.counts l.input).nonempty_reads ≡ (g.I.In.counts l.initial.input).nonempty_reads + l.counter;
   turns : l.counter ≤ 33554432;

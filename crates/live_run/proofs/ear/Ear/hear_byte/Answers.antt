@@ -10,10 +10,12 @@ use Rattle.live_run.proofs.ear.Ear.hear_byte.Goals as goal
 pub returns-in_err-map_err : goal.returns-in_err-map_err
 returns-in_err-map_err g c =
     let failed : c.from_residual.result ≡ Err Memory = search rules in
-    λ base given at.
-    subst (λ (r : Result Ear LiveEnd). HearsOn g.O.Out.written g.O.Out.failures base c.args.out.now (given ++ c.args.byte ∷ []) r)
+    λ past base given at.
+    subst (λ (r : Result Ear LiveEnd). HearsOn g.O.Out.written g.O.Out.failures g.J.Journal.kept g.J.Journal.losses past base
+    (c.args.out.now, c.args.journal.now) (given ++ c.args.byte ∷ []) r)
     (sym failed)
-    (λ more. byte_memory g.O.Out.written g.O.Out.failures base c.args.out.now given (phase_of c.args.self.course) c.args.self.line.items
+    (λ more. byte_memory g.O.Out.written g.O.Out.failures g.J.Journal.kept g.J.Journal.losses past base (c.args.out.now, c.args.journal.now)
+    given (phase_of c.args.self.course) c.args.self.line.items
     c.args.byte more at)
 
 pub returns-in-Ok : goal.returns-in-Ok
@@ -21,14 +23,16 @@ returns-in-Ok g c =
     let ten : c.args.byte ≡ 10 = search rules in
     let line : c.as_slice.result.now ≡ c.args.self.line.items ++ c.args.byte ∷ [] = search rules in
     let none : c.clear.new.self.items ≡ [] = search rules in
-    λ base given at.
-    line_heard g.O.Out.written g.O.Out.failures base c.args.out.now c.hear.new.out given (phase_of c.args.self.course)
+    λ past base given at.
+    line_heard g.O.Out.written g.O.Out.failures g.J.Journal.kept g.J.Journal.losses past base (c.args.out.now, c.args.journal.now)
+    (c.hear.new.out, c.hear.new.journal) given (phase_of c.args.self.course)
     c.args.self.line.items c.args.byte c.as_slice.result.now c.clear.new.self.items c.in-Ok.course ten line none c.in-Ok.ensures at
 
 pub returns-in-Err : goal.returns-in-Err
 returns-in-Err g c =
     let ten : c.args.byte ≡ 10 = search rules in
     let line : c.as_slice.result.now ≡ c.args.self.line.items ++ c.args.byte ∷ [] = search rules in
-    λ base given at more.
-    line_stopped g.O.Out.written g.O.Out.failures base c.args.out.now c.hear.new.out given (phase_of c.args.self.course)
+    λ past base given at more.
+    line_stopped g.O.Out.written g.O.Out.failures g.J.Journal.kept g.J.Journal.losses past base (c.args.out.now, c.args.journal.now)
+    (c.hear.new.out, c.hear.new.journal) given (phase_of c.args.self.course)
     c.args.self.line.items c.args.byte c.as_slice.result.now c.in-Err.end more ten line c.in-Err.ensures at

@@ -8,15 +8,16 @@ use Rattle.live_run.proofs.ear.Ear.hear_last.Goals as goal
 pub returns-then-is_empty : goal.returns-then-is_empty
 returns-then-is_empty g c =
     let len : length c.args.self.line.items ≡ 0 = grind (arith, common_steps) in
-    λ base given at.
-    last_none g.O.Out.written g.O.Out.failures base c.args.out.now given (phase_of c.args.self.course) c.args.self.line.items
+    λ past base given at.
+    last_none g.O.Out.written g.O.Out.failures g.J.Journal.kept g.J.Journal.losses past base (c.args.out.now, c.args.journal.now) given (phase_of c.args.self.course) c.args.self.line.items
     (nil_from_length c.args.self.line.items len) at
 
 pub returns : goal.returns
 returns g c =
     let some : 0 < length c.args.self.line.items = grind (arith, common_steps) in
-    λ base given at.
-    last_heard g.O.Out.written g.O.Out.failures base c.args.out.now c.hear.new.out given (phase_of c.args.self.course)
+    λ past base given at.
+    last_heard g.O.Out.written g.O.Out.failures g.J.Journal.kept g.J.Journal.losses past base (c.args.out.now, c.args.journal.now)
+    (c.hear.new.out, c.hear.new.journal) given (phase_of c.args.self.course)
     c.args.self.line.items c.as_slice.result.now c.hear.result
     (λ e. absurd (let none : length c.args.self.line.items ≡ 0 = ap length e in omega (arith, some, none)))
     c.as_slice.ensures.value c.hear.ensures at

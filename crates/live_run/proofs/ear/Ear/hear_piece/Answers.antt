@@ -11,26 +11,29 @@ returns-in-Err g c =
     let i = c.loop-byte.byte-index in
     let piece = c.args.piece.now in
     let inside : i < length piece = search rules in
-    λ base given at more.
-    subst (λ (l : List ℕ). IsStop g.O.Out.written g.O.Out.failures base c.hear_byte.new.out l ⊥ c.in-Err.end)
+    λ past base given at more.
+    subst (λ (l : List ℕ). IsStop g.O.Out.written g.O.Out.failures g.J.Journal.kept g.J.Journal.losses past base
+    (c.hear_byte.new.out, c.hear_byte.new.journal) l ⊥ c.in-Err.end)
     (whole_piece given piece more i inside)
-    (c.in-Err.ensures base (given ++ take i piece) (c.loop-byte.invariant base given at) (drop (i + 1) piece ++ more))
+    (c.in-Err.ensures past base (given ++ take i piece) (c.loop-byte.invariant past base given at) (drop (i + 1) piece ++ more))
 
 pub loop-byte-preserved : goal.loop-byte-preserved
 loop-byte-preserved g c =
     let i = c.loop-byte.byte-index in
     let piece = c.args.piece.now in
     let inside : i < length piece = search rules in
-    λ base given at.
-    subst (λ (l : List ℕ). Hears g.O.Out.written g.O.Out.failures base c.hear_byte.new.out l (phase_of c.in-Ok.next.course)
+    λ past base given at.
+    subst (λ (l : List ℕ). Hears g.O.Out.written g.O.Out.failures g.J.Journal.kept g.J.Journal.losses past base
+    (c.hear_byte.new.out, c.hear_byte.new.journal) l (phase_of c.in-Ok.next.course)
     c.in-Ok.next.line.items)
     (append_assoc given (take i piece) (get_or piece i 0 ∷ []) ∙ ap (λ (l : List ℕ). given ++ l) (sym (take_more piece i 0 inside)))
-    (c.in-Ok.ensures base (given ++ take i piece) (c.loop-byte.invariant base given at))
+    (c.in-Ok.ensures past base (given ++ take i piece) (c.loop-byte.invariant past base given at))
 
 pub returns : goal.returns
 returns g c =
     let end : length c.args.piece.now ≤ c.loop-byte.byte-index = search rules in
     let all = take_all c.loop-byte.byte-index c.args.piece.now end in
-    λ base given at.
-    subst (λ (l : List ℕ). Hears g.O.Out.written g.O.Out.failures base c.loop-byte.out (given ++ l) (phase_of c.loop-byte.ear.course)
-    c.loop-byte.ear.line.items) all (c.loop-byte.invariant base given at)
+    λ past base given at.
+    subst (λ (l : List ℕ). Hears g.O.Out.written g.O.Out.failures g.J.Journal.kept g.J.Journal.losses past base
+    (c.loop-byte.out, c.loop-byte.journal) (given ++ l) (phase_of c.loop-byte.ear.course)
+    c.loop-byte.ear.line.items) all (c.loop-byte.invariant past base given at)

@@ -1,0 +1,112 @@
+-- Answers to the questions of a live run: comments, one a line, of which the last is `(end);`.
+-- Source: this project's own.
+-- Checked on: with the box 1.1.1 over the shape 0.0.1 of a text, `%cells` is `(cell top 2);/(end);/`; with 1.1 undone
+-- `%history` is `(1.1 undone);/(end);/` and `%changes 1.1` still `(1.1.1 made);/(end);/`; `%look 1.1.1` is then
+-- `(fault 2 NoItem);/(end);/`, with a slash for each newline.
+use Rattle.std.specs.Prelude.{ℕ, List, ◌∷◌, ◌++◌, codes, decimal, length, map, Bool, if◌then◌else◌, Option, None, Some, is_some}
+use Rattle.std.specs.FinMap as finite
+use Rattle.std.specs.List.{flat_map}
+use Rattle.lay_cells.specs.declared.cell_id.CellId.{CellId}
+use Rattle.lay_cells.specs.declared.cell_id.CellId.TheVariants.{Top, Symbol}
+use Rattle.lay_layouts.specs.declared.id.ItemId.{ItemId}
+use Rattle.lay_layouts.specs.declared.item.Item.{Item}
+use Rattle.lay_layouts.specs.IdText.{item_text}
+use Rattle.lay_layouts.specs.Items.{items_in}
+use Rattle.lay_layouts.specs.Layout.{Layout, is_cell, item_at}
+use Rattle.txn_commands.specs.declared.fault.CmdFault.TheVariants.{NoCell, NoItem}
+use Rattle.txn_commands.specs.declared.record.CellRecord.{CellRecord}
+use Rattle.txn_commands.specs.declared.record.Record.{Record}
+use Rattle.txn_commands.specs.Records.{Records}
+use Rattle.txn_commands.specs.Refusals.{txn_text}
+use Rattle.undo_rules.specs.declared.log.BookFault.TheVariants.{NoTxn}
+use Rattle.undo_rules.specs.Books.{History, entry_of}
+use Rattle.undo_rules.specs.Links.{Entry}
+use Rattle.session_steps.specs.declared.StepFault.{StepFault}
+use Rattle.session_steps.specs.declared.StepFault.TheVariants.{Book, Command}
+use Rattle.job_text.specs.declared.question.Question.{Question}
+use Rattle.job_text.specs.declared.question.Question.TheVariants.{Cells, Changes, History as Commits, Items, Look}
+use Rattle.job_text.specs.Replies.{cell_text, fault_text, found_text}
+
+-- a comment on a line of its own
+abbrev pub comment : List ℕ → List ℕ
+comment words = codes "(" ++ words ++ codes ");\n"
+
+-- a refusal, by its number and its name
+unfoldable pub refusal_line : StepFault → List ℕ
+refusal_line fault = comment (fault_text fault)
+
+-- ---- cells
+
+-- the cells of a layout: the top cell, then the symbols by number
+abbrev pub cells_of : Layout → List CellId
+cells_of layout = Top ∷ map Symbol (finite.keys layout.symbols)
+
+-- a cell, and how many items it has
+unfoldable pub cell_line : Layout → CellId → List ℕ
+cell_line layout cell = comment (codes "cell " ++ cell_text cell ++ codes " " ++ decimal (length (items_in layout cell)))
+
+unfoldable pub cells_text : Layout → List ℕ
+cells_text layout = flat_map (cell_line layout) (cells_of layout)
+
+-- ---- items
+
+-- an item: its id, and the words of a look
+unfoldable pub item_line : ItemId × Item → List ℕ
+item_line entry = comment (item_text entry.0 ++ codes " " ++ found_text entry.1)
+
+-- the items of a cell, in order of their ids
+unfoldable pub items_text : Layout → CellId → List ℕ
+items_text layout cell = if is_cell layout cell then flat_map item_line (items_in layout cell) else refusal_line (Command NoCell)
+
+-- an item, if there is one
+abbrev pub looked_text : ItemId → Option Item → List ℕ
+looked_text id None = refusal_line (Command NoItem)
+looked_text id (Some item) = item_line (id, item)
+
+-- ---- transactions
+
+abbrev pub mark_text : Bool → List ℕ
+mark_text live = if live then codes "live" else codes "undone"
+
+-- a committed transaction, and whether it is live
+unfoldable pub entry_line : Entry → List ℕ
+entry_line entry = comment (txn_text entry.txn ++ codes " " ++ mark_text entry.live)
+
+-- the committed transactions, in the order of their commits
+unfoldable pub history_text : List Entry → List ℕ
+history_text entries = flat_map entry_line entries
+
+-- what a commit did, by whether something was there before and after it
+abbrev pub change_text : Bool → Bool → List ℕ
+change_text before after = if after then (if before then codes "changed" else codes "made") else codes "gone"
+
+-- what a commit did to an item
+unfoldable pub record_line : Record → List ℕ
+record_line w = comment (item_text w.id ++ codes " " ++ change_text (is_some w.before) (is_some w.after))
+
+-- what it did to a symbol
+unfoldable pub symbol_line : CellRecord → List ℕ
+symbol_line w = comment (codes "symbol " ++ decimal w.number ++ codes " " ++ change_text (is_some w.before) (is_some w.after))
+
+-- what it did to items, in order of their ids, then to symbols, by number
+unfoldable pub records_text : Records → List ℕ
+records_text writes = flat_map record_line writes.items ++ flat_map symbol_line writes.symbols
+
+-- what the commit of a transaction did, if there was one
+abbrev pub written_text : Option Entry → List ℕ
+written_text None = refusal_line (Book NoTxn)
+written_text (Some entry) = records_text entry.writes
+
+-- ---- answers
+
+-- the lines in front of the last
+abbrev pub lines_text : Question → History → List ℕ
+lines_text Cells history = cells_text history.layout
+lines_text (Items cell) history = items_text history.layout cell
+lines_text (Look id) history = looked_text id (item_at history.layout id)
+lines_text Commits history = history_text history.entries
+lines_text (Changes txn) history = written_text (entry_of txn history.entries)
+
+-- the answer to a question, where this is the history
+unfoldable pub answer_text : Question → History → List ℕ
+answer_text question history = lines_text question history ++ comment (codes "end")

@@ -1,0 +1,80 @@
+//! The cells of a layout, and how many items each has.
+ghost use Rattle.std.specs.Prelude.{◌≡◌, IfOk, OnOk, length, map};
+ghost use Rattle.std.specs.FinMap as finite;
+ghost use Rattle.std.specs.List.{flat_map};
+ghost use Rattle.byte_io.specs.Buffered.{Buffered};
+ghost use Rattle.lay_cells.specs.declared.cell_id.CellId.TheVariants.{Symbol};
+ghost use Rattle.lay_layouts.specs.Items.{items_in};
+ghost use Rattle.live_questions.specs.Answers.{cell_line, cells_text};
+
+use byte_io::{Out, OutBuffer};
+use job_text::put_cell;
+use lay_cells::CellId;
+use lay_items::Snapshot;
+use lay_point::NoMemory;
+use std::alloc::Global;
+use std::collections::BTreeSet;
+
+/// Puts the lines of the cells: the top cell, then the symbols by number.
+pub(crate) fn put_cells<O: Out>(
+    alloc: Global,
+    out: &mut O,
+    buffer: &mut OutBuffer,
+    layout: &Snapshot,
+) -> Result<(), NoMemory>
+    ensures { OnOk result (Buffered O.written O.failures out.old buffer.old out.new buffer.new
+        (cells_text layout.now)) }
+{
+    let numbers = numbers_of(alloc, layout)?;
+    put_cell_line(out, buffer, layout, CellId::Top);
+    put_symbols(out, buffer, layout, &numbers);
+    Ok(())
+}
+
+/// Puts the lines of the symbols of these numbers.
+fn put_symbols<O: Out>(
+    out: &mut O,
+    buffer: &mut OutBuffer,
+    layout: &Snapshot,
+    numbers: &BTreeSet<u32>,
+)
+    ensures { Buffered O.written O.failures out.old buffer.old out.new buffer.new
+        (flat_map (cell_line layout.now) (map Symbol numbers.now.keys)) }
+{
+    for number in numbers {
+        put_cell_line(out, buffer, layout, CellId::Symbol(*number));
+    }
+}
+
+/// Returns the numbers of the symbols, in order.
+fn numbers_of(alloc: Global, layout: &Snapshot) -> Result<BTreeSet<u32>, NoMemory>
+    ensures { IfOk result (λ numbers. numbers.keys ≡ finite.keys layout.now.symbols) }
+{
+    let cells = layout.cells();
+    let mut numbers = BTreeSet::new(alloc);
+    for position in 0..cells.len() {
+        numbers.insert(cells.at(position).unwrap())?;
+    }
+    Ok(numbers)
+}
+
+/// Puts the line of a cell.
+fn put_cell_line<O: Out>(out: &mut O, buffer: &mut OutBuffer, layout: &Snapshot, cell: CellId)
+    ensures { Buffered O.written O.failures out.old buffer.old out.new buffer.new
+        (cell_line layout.now cell) }
+{
+    buffer.put(out, b"(cell ");
+    put_cell(out, buffer, cell);
+    buffer.put_byte(out, b' ');
+    buffer.put_unsigned(out, count_of(layout, cell) as u64);
+    buffer.put(out, b");\n");
+}
+
+/// Returns the number of the cell's items.
+fn count_of(layout: &Snapshot, cell: CellId) -> usize
+    ensures { result ≡ length (items_in layout.now cell) }
+{
+    // A cell has no more items than the layout, whose number fits a `usize`.
+    let _size = layout.size();
+    layout.items(cell).count()
+}
