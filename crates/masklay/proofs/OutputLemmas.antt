@@ -48,7 +48,7 @@ pub kept_output : (asked : Asked) (bytes : List ℕ) (output : Output) → IsOut
     → IsOutput asked bytes output
 kept_output asked bytes output is = subst
     (λ (job : Result Job JobFault). (outcome : Result Finished Stop) × IsGiven asked.threaded asked.oriented job outcome
-    × (output ≡ output_from asked.strict (names_in asked.named job) outcome))
+    × (output ≡ output_from asked.strict asked.boxed (names_in asked.named job) outcome))
     (kept_job_in asked.bare bytes) is
 
 -- what was kept of the input has the input's output
@@ -70,7 +70,7 @@ pub one_output : (asked : Asked) (bytes : List ℕ) (a b : Output) → asked.thr
     → IsOutput asked bytes a → IsOutput asked bytes b → a ≡ b
 one_output asked bytes a b turns plain (outcome, is, given) (other, same, put) =
     given
-    ∙ ap (output_from asked.strict (names_in asked.named job)) (one_outcome_of job outcome other (in_turn outcome is) (in_turn other same))
+    ∙ ap (output_from asked.strict asked.boxed (names_in asked.named job)) (one_outcome_of job outcome other (in_turn outcome is) (in_turn other same))
     ∙ sym put
   where
     job : Result Job JobFault

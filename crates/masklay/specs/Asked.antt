@@ -13,6 +13,8 @@ pub record Asked : Type 0 where
   pub strict : Bool
   -- whether the input is a CIF text, and no job
   pub bare : Bool
+  -- whether upright rectangles are written as boxes
+  pub boxed : Bool
 
 -- what options ask for
 abbrev pub asked_of : Options → Asked
@@ -22,4 +24,5 @@ asked_of options = record {
   named = options.named;
   strict = options.strict;
   bare = options.bare;
+  boxed = options.boxed;
 }

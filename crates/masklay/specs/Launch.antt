@@ -9,12 +9,13 @@ use Rattle.std.specs.List.{list_any}
 use Rattle.std.specs.Str.{bytes_eq}
 use Rattle.byte_io.specs.Input.{Counts}
 use Rattle.masklay.specs.declared.command_line.OptionsFault.{OptionsFault}
-use Rattle.masklay.specs.declared.command_line.OptionsFault.TheVariants.{Clap, LiveAlone, LiveOutput, Workers}
+use Rattle.masklay.specs.declared.command_line.OptionsFault.TheVariants.{Clap, JournalAlone, LiveAlone, LiveOutput, Workers}
 use Rattle.masklay.specs.declared.command_line.Wish.{Wish}
 use Rattle.masklay.specs.declared.command_line.Wish.TheVariants.{Job, Live}
 use Rattle.masklay.specs.declared.program.status.Status.{Status}
 use Rattle.masklay.specs.declared.program.status.Status.TheVariants.{CommandLine, Done}
 use Rattle.masklay.specs.Asked.{Asked, asked_of}
+use Rattle.live_run.specs.Journal.{Entry}
 use Rattle.masklay.specs.Live.{IsLive}
 use Rattle.masklay.specs.Output.{WritesOutput, memory_output}
 use Rattle.masklay.specs.Run.{IsRun}
@@ -40,13 +41,14 @@ asked_in words = record {
   named = asks (codes "--names") words;
   strict = asks (codes "--strict") words;
   bare = asks (codes "--cif") words;
+  boxed = asks (codes "--boxes") words;
 }
 
--- whether another option stands beside that of a live run
+-- whether an option of a job's run alone stands beside that of a live run
 abbrev pub asks_beside_live : List (String Global) → Bool
 asks_beside_live words =
     asks_to_live words && (asks (codes "--threaded") words || (asks (codes "--oriented") words || (asks (codes "--names") words
-    || (asks (codes "--strict") words || asks (codes "--cif") words))))
+    || (asks (codes "--cif") words || asks (codes "--boxes") words))))
 
 -- whether that is what is wrong
 abbrev pub is_live_alone : OptionsFault → Bool
@@ -54,23 +56,26 @@ is_live_alone (Clap error) = false
 is_live_alone Workers = false
 is_live_alone LiveAlone = true
 is_live_alone LiveOutput = false
+is_live_alone JournalAlone = false
 
 -- nothing beside the run of a job
 abbrev pub nothing_asked : Asked
-nothing_asked = record { threaded = false; oriented = false; named = false; strict = false; bare = false }
+nothing_asked = record { threaded = false; oriented = false; named = false; strict = false; bare = false; boxed = false }
 
 -- what is to be run for these words
 abbrev pub IsWishOf : Wish → List (String Global) → Type 0
 IsWishOf (Job options) words = (asks_to_live words ≡ false) × (asked_of options ≡ asked_in words)
-IsWishOf (Live workers) words = (asks_to_live words ≡ true) × (asks_beside_live words ≡ false)
+IsWishOf (Live options) words =
+    (asks_to_live words ≡ true) × (asks_beside_live words ≡ false) × (options.strict ≡ asks (codes "--strict") words)
 
--- from the old devices to the new: the run of a job that was asked so, or a live run
-abbrev pub Runs : {I O : Type 0} → Bool → Asked → (I → Option (List ℕ)) → (I → Counts) → (O → Option (List ℕ)) → (O → ℕ)
-    → I → I → O → O → Status → Type 0
-Runs false asked remaining counts written failures input input' out out' status =
-    IsRun asked remaining counts written failures input input' out out' status
-Runs true asked remaining counts written failures input input' out out' status =
-    IsLive remaining counts written failures input input' out out' status
+-- from the old devices to the new: the run of a job that was asked so, of which a journal knows nothing, or a live run behind
+-- these bytes of its journal
+abbrev pub Runs : {I O J : Type 0} → Bool → Asked → (I → Option (List ℕ)) → (I → Counts) → (O → Option (List ℕ)) → (O → ℕ)
+    → (J → Option (List Entry)) → (J → ℕ) → List ℕ → I → I → O × J → O × J → Status → Type 0
+Runs false asked remaining counts written failures kept losses journal input input' out out' status =
+    IsRun asked remaining counts written failures input input' out.0 out'.0 status × (out'.1 ≡ out.1)
+Runs true asked remaining counts written failures kept losses journal input input' out out' status =
+    IsLive asked.strict remaining counts written failures kept losses journal input input' out out' status
 
 -- From the old devices to the new: a text of help was written to the output, or one of what is wrong to the errors, or
 -- memory was refused and the output has the line that says so; and the other device is as it was.

@@ -3,6 +3,9 @@ use Rattle.std.specs.Prelude.{ℕ, List, [], Bool, true, false, Option, None, So
 use Rattle.cif_names.specs.declared.names.Names.{Names}
 use Rattle.cif_names.specs.Names.{names_of, within}
 use Rattle.cif_names.specs.Woven.{with_names}
+use Rattle.cif_write.specs.Boxes.{text_as}
+use Rattle.cif_write.specs.Text.{text}
+use Rattle.cif_write.specs.declared.boxes.Rectangles.TheVariants.{Boxes}
 use Rattle.lay_layouts.specs.Layout.{Layout}
 use Rattle.lay_layouts.specs.SlotOrder.{in_slot_order}
 use Rattle.job_text.specs.Jobs.{Job}
@@ -12,6 +15,11 @@ use Rattle.job_text.specs.declared.job.JobFault.{JobFault}
 abbrev pub cif_in : Result Job JobFault → List ℕ
 cif_in (Ok job) = job.cif
 cif_in (Err fault) = []
+
+-- the text of a layout, with boxes where that is asked for
+abbrev pub drawn : Bool → Layout → List ℕ
+drawn false layout = text layout
+drawn true layout = text_as Boxes layout
 
 -- the text that is written, with these names and labels in it, if there are any
 abbrev pub text_with : Option Names → List ℕ → List ℕ

@@ -3,20 +3,19 @@ use Rattle.std.specs.Prelude.{◌≡◌, ℕ, Bool, true, false, ◌&&◌, if◌
 use Rattle.cif_read.specs.declared.fault.CifFault.{CifFault}
 use Rattle.cif_read.specs.Faults.{fault_name, fault_number}
 use Rattle.byte_io.specs.Device.{WroteAll, WrotePrefix}
-use Rattle.cif_write.specs.Text.{text}
 use Rattle.masklay.specs.declared.program.outcome.Finished.{Finished}
 use Rattle.masklay.specs.declared.program.outcome.Stop.{Stop}
 use Rattle.masklay.specs.declared.program.outcome.Stop.TheVariants.{JobFault, CifFault as CifStop, DeskFault, NoMemory}
 use Rattle.masklay.specs.declared.program.status.Status.{Status}
 use Rattle.masklay.specs.declared.program.status.Status.TheVariants.{Done, CommandLine, Job, Cif, Device, Memory, Desk, Refused}
 use Rattle.job_text.specs.Order.{order_text}
+use Rattle.live_run.specs.Live.{is_refusal}
 use Rattle.cif_names.specs.declared.names.Names.{Names}
 use Rattle.masklay.specs.Asked.{Asked}
-use Rattle.masklay.specs.Named.{names_for, names_in, text_with}
+use Rattle.masklay.specs.Named.{drawn, names_for, names_in, text_with}
 use Rattle.masklay.specs.Oriented.{IsGiven}
 use Rattle.masklay.specs.Outcome.{job_in}
 use Rattle.session_steps.specs.declared.Reply.{Reply}
-use Rattle.session_steps.specs.declared.Reply.TheVariants.{Fault}
 use Rattle.std.specs.List.{list_any}
 use Rattle.job_text.specs.Replies.{replies_text}
 
@@ -61,36 +60,32 @@ stop_output (CifStop fault) = record { text = cif_fault_text fault; status = Cif
 stop_output DeskFault = record { text = desk_fault_text; status = Desk }
 stop_output NoMemory = memory_output
 
--- whether the step was refused
-abbrev pub is_refusal : Reply → Bool
-is_refusal (Fault fault) = true
-is_refusal reply = false
-
 -- how a run ends whose sessions were answered so: where it is strict, a refused step tells
 abbrev pub ending_of : Bool → List (List Reply) → Status
 ending_of strict replies = if strict && list_any (list_any is_refusal) replies then Refused else Done
 
--- the comments of the replies and of the order, and the text of the layout with these names and labels in it, if there are any
-abbrev pub written_output : Bool → Option Names → Finished → Output
-written_output strict names finished = record {
-  text = (replies_text finished.replies ++ order_text finished.order) ++ text_with names (text finished.layout);
+-- the comments of the replies and of the order, and the text of the layout, with boxes where that is asked for, and with these
+-- names and labels in it, if there are any
+abbrev pub written_output : Bool → Bool → Option Names → Finished → Output
+written_output strict boxed names finished = record {
+  text = (replies_text finished.replies ++ order_text finished.order) ++ text_with names (drawn boxed finished.layout);
   status = ending_of strict finished.replies;
 }
 
 -- the same, of names and labels those of the layout's symbols and of no symbol
-abbrev pub finished_output : Bool → Option Names → Finished → Output
-finished_output strict names finished = written_output strict (names_for names finished.layout) finished
+abbrev pub finished_output : Bool → Bool → Option Names → Finished → Output
+finished_output strict boxed names finished = written_output strict boxed (names_for names finished.layout) finished
 
 -- what is written where this became of the job
-abbrev pub output_from : Bool → Option Names → Result Finished Stop → Output
-output_from strict names (Ok finished) = finished_output strict names finished
-output_from strict names (Err stop) = stop_output stop
+abbrev pub output_from : Bool → Bool → Option Names → Result Finished Stop → Output
+output_from strict boxed names (Ok finished) = finished_output strict boxed names finished
+output_from strict boxed names (Err stop) = stop_output stop
 
 -- what the program writes, and how it ends, where its input is these bytes and it is asked so
 abbrev pub IsOutput : Asked → List ℕ → Output → Type 0
 IsOutput asked bytes output =
     (outcome : Result Finished Stop) × IsGiven asked.threaded asked.oriented (job_in asked.bare bytes) outcome
-    × (output ≡ output_from asked.strict (names_in asked.named (job_in asked.bare bytes)) outcome)
+    × (output ≡ output_from asked.strict asked.boxed (names_in asked.named (job_in asked.bare bytes)) outcome)
 
 -- asked so that sessions take turns and shapes stay as they are, an input has no two outputs
 abbrev pub HasOneOutput : Type 0

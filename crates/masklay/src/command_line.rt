@@ -6,6 +6,7 @@
 ghost use Rattle.std.specs.Prelude.{◌≡◌, ◌≤◌, ◌<◌, ◌⊎◌, ◌||◌, IfErr, IfOk, false, true, vec_len};
 ghost use Rattle.std.specs.List.{list_any};
 ghost use Rattle.masklay.specs.declared.command_line.OptionsFault.TheVariants.{Clap};
+ghost use Rattle.masklay.specs.declared.command_line.Wish.TheVariants.{Job};
 ghost use Rattle.masklay.specs.Launch.{
   EndsEarly,
   IsWishOf,
@@ -21,12 +22,13 @@ ghost use Rattle.masklay.specs.Launch.{
 ghost use Rattle.masklay.specs.Run.{IsRun};
 ghost use Rattle.masklay.specs.Telling.{MayReport};
 
-use crate::program::{Options, Status, live, put, put_memory, run};
+use crate::program::{LiveOptions, Options, Status, live, put, put_memory, run};
 use band_workers::MAX_WORKERS;
 use byte_io::{In, Out};
 use clap::error::ErrorKind;
 use clap::{Arg, ArgAction, Command, Error};
 use lay_point::NoMemory;
+use live_run::Journal;
 use std::alloc::Global;
 use std::sync::Wait;
 use std::thread::Threads;
@@ -42,11 +44,15 @@ const BAD_WORKERS: &[u8] =
 
 /// What is wrong with an option beside `--live`.
 const LIVE_ALONE: &[u8] =
-    b"error: '--live' can be used with '--workers' alone\n\nFor more information, try '--help'.\n";
+    b"error: '--live' can be used with '--workers', '--strict', '--journal' and '--sync' alone\n\nFor more information, try '--help'.\n";
 
 /// What is wrong with an output file beside `--live`.
 const LIVE_OUTPUT: &[u8] =
     b"error: '--live' answers on standard output, and not in a file\n\nFor more information, try '--help'.\n";
+
+/// What is wrong with a journal without `--live`, and with `--sync` without a journal.
+const JOURNAL_ALONE: &[u8] =
+    b"error: '--journal' needs '--live', and '--sync' needs '--journal'\n\nFor more information, try '--help'.\n";
 
 /// What help says behind the options.
 const EXAMPLE: &str =
@@ -57,6 +63,7 @@ Examples, in a shell:
   masklay --cif chip.cif -o new.cif             the same, into a file
   masklay --strict job.txt -o new.cif           runs a job; the status tells of refused steps
   masklay --oriented --names < job.txt          for readers that fill holes, with cell names
+  masklay --live --journal chip.journal         steps line by line, which are still there tomorrow
   printf '%%cif\nL M; B 40 20 0 0; E\n%%session 1\nopen\nbox top M 0 0 30 30\nor top M M Q\ncommit\n' | masklay
 
 Statuses: 0 all was written, refused steps included; 2 a mistake in the command line; 3 a fault of the job, 4 of its CIF text, each a line on standard output, and in words on standard error; 5 a file, or the input or output, can't be read or written; 6 out of memory; 7 the sessions' desk was at fault, where they ran in threads; 8 all was written, and a step was refused, with --strict.";
@@ -72,33 +79,36 @@ pub enum WordsFault {
 
 /// Runs the program as the words of its command line say, of which the first names it. Where clap takes them
 /// for a mistake, or as asking for help or the version, nothing is read: help is written to `out`, and what is
-/// wrong to `errors`.
-pub fn launch<I: In, O: Out, E: Out>(
+/// wrong to `errors`. `bytes` are those that the journal has; a run that isn't live knows nothing of it.
+pub fn launch<I: In, O: Out, E: Out, J: Journal>(
     rt: &(impl Threads + Wait + Sync),
     alloc: Global,
     words: Result<Vec<String>, WordsFault>,
+    bytes: Vec<u8>,
     input: &mut I,
     out: &mut O,
     errors: &mut E,
+    journal: &mut J,
 ) -> Status
     ensures plain { IfOk words (λ words. vec_len words ≤ 1
         → IsRun nothing_asked I.remaining I.counts O.written O.failures
         input.old input.new out.old out.new result
-        × MayReport E.written E.failures errors.old errors.new result) }
+        × MayReport E.written E.failures errors.old errors.new result × (journal.new ≡ journal.old)) }
     ensures options { IfOk words (λ words. 1 < vec_len words
         → (Runs (asks_to_live words.items) (asked_in words.items)
-        I.remaining I.counts O.written O.failures input.old input.new out.old out.new result
+        I.remaining I.counts O.written O.failures J.kept J.losses bytes.items input.old input.new
+        (out.old, journal.old) (out.new, journal.new) result
         × MayReport E.written E.failures errors.old errors.new result)
         ⊎ (EndsEarly O.written O.failures E.written E.failures
-        out.old out.new errors.old errors.new result × (input.new ≡ input.old))) }
+        out.old out.new errors.old errors.new result × (input.new ≡ input.old) × (journal.new ≡ journal.old))) }
     ensures wordless { IfErr words (λ _. EndsEarly O.written O.failures E.written E.failures
-        out.old out.new errors.old errors.new result × (input.new ≡ input.old)) }
+        out.old out.new errors.old errors.new result × (input.new ≡ input.old) × (journal.new ≡ journal.old)) }
 {
     match words {
         Ok(words) if words.len() <= 1 => run(rt, alloc, PLAIN, input, out, errors),
         Ok(words) => match wish_of(alloc, &words) {
             Ok(Wish::Job(options)) => run(rt, alloc, options, input, out, errors),
-            Ok(Wish::Live(workers)) => live(rt, alloc, workers, input, out, errors),
+            Ok(Wish::Live(options)) => live(rt, alloc, options, bytes, input, out, errors, journal),
             Err(fault) => refuse(alloc, fault, out, errors),
         },
         Err(WordsFault::NotUtf8) => put(errors, NOT_UTF_8, Status::CommandLine),
@@ -114,6 +124,7 @@ const PLAIN: Options = Options {
     named: false,
     strict: false,
     bare: false,
+    boxed: false,
 };
 
 /// What the words ask for.
@@ -121,8 +132,8 @@ const PLAIN: Options = Options {
 enum Wish {
     /// The run of a job.
     Job(Options),
-    /// A live run with so many workers.
-    Live(u8),
+    /// A live run.
+    Live(LiveOptions),
 }
 
 /// Why the words say no options.
@@ -136,6 +147,8 @@ enum OptionsFault {
     LiveAlone,
     /// An output file is given beside `--live`.
     LiveOutput,
+    /// A journal is given without `--live`, or is to be flushed without being given.
+    JournalAlone,
 }
 
 impl From<Error> for OptionsFault {
@@ -151,7 +164,11 @@ fn wish_of(alloc: Global, words: &[String]) -> Result<Wish, OptionsFault>
     ensures wish { IfOk result (λ wish. IsWishOf wish words.now) }
     ensures alone { IfErr result (λ fault. is_live_alone fault ≡ true → asks_beside_live words.now ≡ true) }
 {
-    let (workers, has_output) = values_of(alloc, words)?;
+    let Values {
+        workers,
+        has_output,
+        has_journal,
+    } = values_of(alloc, words)?;
     let options = Options {
         workers,
         threaded: asks(b"--threaded", words),
@@ -159,9 +176,10 @@ fn wish_of(alloc: Global, words: &[String]) -> Result<Wish, OptionsFault>
         named: asks(b"--names", words),
         strict: asks(b"--strict", words),
         bare: asks(b"--cif", words),
+        boxed: asks(b"--boxes", words),
     };
     if !asks(b"--live", words) {
-        return Ok(Wish::Job(options));
+        return job_wish(options, has_journal || asks(b"--sync", words));
     }
     if is_live_refused(options) {
         return Err(OptionsFault::LiveAlone);
@@ -169,27 +187,60 @@ fn wish_of(alloc: Global, words: &[String]) -> Result<Wish, OptionsFault>
     if has_output {
         return Err(OptionsFault::LiveOutput);
     }
-    Ok(Wish::Live(workers))
+    if asks(b"--sync", words) && !has_journal {
+        return Err(OptionsFault::JournalAlone);
+    }
+    let strict = options.strict;
+    Ok(Wish::Live(LiveOptions { workers, strict }))
+}
+
+/// Returns the run of a job, which has no journal.
+fn job_wish(options: Options, journaled: bool) -> Result<Wish, OptionsFault>
+    ensures wish { IfOk result (λ wish. wish ≡ Job options) }
+    ensures alone { IfErr result (λ fault. is_live_alone fault ≡ false) }
+{
+    if journaled {
+        return Err(OptionsFault::JournalAlone);
+    }
+    Ok(Wish::Job(options))
 }
 
 /// Returns whether an option is given that a live run doesn't take.
 fn is_live_refused(options: Options) -> bool
-    ensures { result ≡ (options.threaded || (options.oriented || (options.named || (options.strict || options.bare)))) }
+    ensures { result ≡ (options.threaded || (options.oriented || (options.named || (options.bare || options.boxed)))) }
 {
-    options.threaded || options.oriented || options.named || options.strict || options.bare
+    options.threaded || options.oriented || options.named || options.bare || options.boxed
 }
 
-/// Returns the number of workers that the words say, if clap takes them, and whether they name an output file.
-fn values_of(alloc: Global, words: &[String]) -> Result<(u8, bool), OptionsFault>
+/// What the words say beside their options.
+#[derive(Clone, Copy, Debug)]
+struct Values {
+    /// The number of workers.
+    workers: u8,
+    /// Whether there is an output file.
+    has_output: bool,
+    /// Whether there is a journal.
+    has_journal: bool,
+}
+
+/// Returns the values that the words say, if clap takes them.
+fn values_of(alloc: Global, words: &[String]) -> Result<Values, OptionsFault>
     ensures { IfErr result (λ fault. is_live_alone fault ≡ false) }
 {
     let matches = command(alloc)?.try_get_matches_from(words)?;
-    let has_output = matches.get_str("output").is_some();
+    let mut values = Values {
+        workers: 1,
+        has_output: matches.get_str("output").is_some(),
+        has_journal: matches.get_str("journal").is_some(),
+    };
     let Some(word) = matches.get_str("workers") else {
-        return Ok((1, has_output));
+        return Ok(values);
     };
     match word.parse::<u8>() {
-        Ok(workers) if 1 <= workers && workers <= MAX_WORKERS => Ok((workers, has_output)),
+        Ok(workers) if 1 <= workers && workers <= MAX_WORKERS => {
+            values.workers = workers;
+            Ok(values)
+        }
         _ => Err(OptionsFault::Workers),
     }
 }
@@ -201,6 +252,10 @@ pub struct Files {
     pub input: Option<String>,
     /// The file that is written in place of standard output.
     pub output: Option<String>,
+    /// The journal of a live run.
+    pub journal: Option<String>,
+    /// Whether each line of it is brought to the disk.
+    pub is_synced: bool,
 }
 
 /// Returns the files that the words name: none, where clap doesn't take the words.
@@ -212,6 +267,8 @@ pub fn files_of(alloc: Global, words: &[String]) -> Result<Files, NoMemory> {
     let none = Files {
         input: None,
         output: None,
+        journal: None,
+        is_synced: false,
     };
     if words.len() <= 1 {
         return Ok(none);
@@ -223,6 +280,13 @@ pub fn files_of(alloc: Global, words: &[String]) -> Result<Files, NoMemory> {
         Ok(matches) => Ok(Files {
             input: owned(alloc, matches.get_str("file"))?,
             output: owned(alloc, matches.get_str("output"))?,
+            journal: owned(
+                alloc,
+                matches
+                    .get_str("journal")
+                    .filter(|_| asks(b"--live", words)),
+            )?,
+            is_synced: asks(b"--sync", words),
         }),
         Err(error) => match error.kind() {
             ErrorKind::OutOfMemory => Err(NoMemory),
@@ -267,6 +331,7 @@ fn refuse<O: Out, E: Out>(alloc: Global, fault: OptionsFault, out: &mut O, error
         OptionsFault::Workers => put(errors, BAD_WORKERS, Status::CommandLine),
         OptionsFault::LiveAlone => put(errors, LIVE_ALONE, Status::CommandLine),
         OptionsFault::LiveOutput => put(errors, LIVE_OUTPUT, Status::CommandLine),
+        OptionsFault::JournalAlone => put(errors, JOURNAL_ALONE, Status::CommandLine),
         OptionsFault::Clap(error) => say(alloc, &error, out, errors),
     }
 }
@@ -279,7 +344,8 @@ fn command<'a>(alloc: Global) -> Result<Command<'a>, Error> {
             "Reads a job: a CIF text and steps on its layout. Writes the replies, their order and the CIF text of the layout that they lead to.",
         )
         .after_help(EXAMPLE);
-    with_ways(alloc, with_sessions(alloc, with_files(alloc, command)?)?)
+    let command = with_ways(alloc, with_sessions(alloc, with_files(alloc, command)?)?)?;
+    with_journal(alloc, command)
 }
 
 /// The command, with what it reads and writes.
@@ -339,7 +405,31 @@ fn with_ways<'a>(alloc: Global, command: Command<'a>) -> Result<Command<'a>, Err
             "Answers each step at once: after `%cif`, the text and `%live` come lines `SESSION STEP`, or `%write`",
         )
         .action(ArgAction::SetTrue);
-    Ok(command.arg(oriented)?.arg(names)?.arg(live)?)
+    let boxes = Arg::new(alloc, "boxes")
+        .long("boxes")
+        .help(
+            "Writes upright rectangles as boxes, where their middle is on the grid; read back they are the same",
+        )
+        .action(ArgAction::SetTrue);
+    Ok(command.arg(oriented)?.arg(names)?.arg(boxes)?.arg(live)?)
+}
+
+/// The command, with what a live run keeps.
+fn with_journal<'a>(alloc: Global, command: Command<'a>) -> Result<Command<'a>, Error> {
+    let journal = Arg::new(alloc, "journal")
+        .long("journal")
+        .value_name("FILE")
+        .help(
+            "Keeps a live run in this file: each step is in it before its reply. A run that finds steps in it goes on after them",
+        )
+        .action(ArgAction::Set);
+    let sync = Arg::new(alloc, "sync")
+        .long("sync")
+        .help(
+            "Flushes each step to the disk before its reply, and not commits, undos and redos alone",
+        )
+        .action(ArgAction::SetTrue);
+    Ok(command.arg(journal)?.arg(sync)?)
 }
 
 /// Writes clap's text: help to `out`, and what is wrong to `errors`.

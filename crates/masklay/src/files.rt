@@ -1,13 +1,15 @@
 //! The files that the command line names, in place of the standard streams.
 
 use crate::command_line::{Files, WordsFault, files_of, launch};
+use crate::journal::FileJournal;
 use crate::program::{Status, put_memory};
 use crate::streams::{Source, StandardInput, StandardOutput};
 use byte_io::put_all;
 use job_text::MAX_JOB;
+use live_run::NoJournal;
 use std::alloc::Global;
-use std::fs::File;
-use std::io::{Stderr, Write};
+use std::fs::{File, OpenOptions};
+use std::io::{Read, Stderr, Write};
 use std::sync::Wait;
 use std::thread::Threads;
 use std::{fs, io};
@@ -26,7 +28,12 @@ pub fn run_files(
     words: Result<Vec<String>, WordsFault>,
     errors: &mut Errors,
 ) -> Status {
-    let Files { input, output } = match named(rt.alloc(), &words) {
+    let Files {
+        input,
+        output,
+        journal,
+        is_synced,
+    } = match named(rt.alloc(), &words) {
         Some(files) => files,
         None => return put_memory(&mut StandardOutput::new(rt.stdout())),
     };
@@ -39,13 +46,89 @@ pub fn run_files(
         Err(error) => return fail(rt.alloc(), &input, "read", &error, errors),
     };
     match output {
-        None => {
-            let mut out = StandardOutput::new(rt.stdout());
-            let status = launch(threads, rt.alloc(), words, &mut source, &mut out, errors);
-            tell_of_length(rt.alloc(), out.len(), errors);
-            status
-        }
+        None => write_standard(
+            rt,
+            threads,
+            words,
+            (journal, is_synced),
+            &mut source,
+            errors,
+        ),
         Some(path) => write_file(rt, threads, words, path, &mut source, errors),
+    }
+}
+
+/// Runs the program with standard output as its output, and the journal that is named, if one is.
+fn write_standard(
+    rt: &HostRuntime,
+    threads: &(impl Threads + Wait + Sync),
+    words: Result<Vec<String>, WordsFault>,
+    (path, is_synced): (Option<String>, bool),
+    source: &mut Input,
+    errors: &mut Errors,
+) -> Status {
+    let (mut journal, bytes) = match open_journal(rt, &path, is_synced) {
+        Ok(opened) => opened,
+        Err(error) => return fail(rt.alloc(), &path, "opened as a journal", &error, errors),
+    };
+    let has_begun = !bytes.is_empty();
+    let mut out = StandardOutput::new(rt.stdout());
+    let alloc = rt.alloc();
+    let status = launch(
+        threads,
+        alloc,
+        words,
+        bytes,
+        source,
+        &mut out,
+        errors,
+        &mut journal,
+    );
+    if has_begun && (status == Status::Job || status == Status::Cif) {
+        tell_of_no_journal(alloc, &path, errors);
+    }
+    tell_of_length(alloc, out.len(), errors);
+    status
+}
+
+/// Opens the journal of this name, and returns what it has; without a name one that keeps nothing. A line without its end
+/// is cut off before the first line is added.
+fn open_journal(
+    rt: &HostRuntime,
+    path: &Option<String>,
+    is_synced: bool,
+) -> io::Result<(FileJournal, Vec<u8>)> {
+    let alloc = rt.alloc();
+    let errors = StandardOutput::new(rt.stderr());
+    let mut bytes = Vec::new(alloc);
+    let Some(path) = path else {
+        return Ok((FileJournal::new(alloc, None, None, false, errors), bytes));
+    };
+    let mut options = OpenOptions::new();
+    let mut file = options
+        .read(true)
+        .append(true)
+        .create(true)
+        .open(rt, path.as_str())?;
+    file.try_lock()?;
+    file.read_to_end(&mut bytes)?;
+    let whole = whole_len(&bytes);
+    let cut = if whole < bytes.len() {
+        Some(whole as u64)
+    } else {
+        None
+    };
+    Ok((
+        FileJournal::new(alloc, Some(file), cut, is_synced, errors),
+        bytes,
+    ))
+}
+
+/// Returns how many bytes there are up to the last newline.
+fn whole_len(bytes: &[u8]) -> usize {
+    match bytes.iter().rposition(|byte| *byte == b'\n') {
+        Some(place) => place.saturating_add(1),
+        None => 0,
     }
 }
 
@@ -56,6 +139,8 @@ fn named(alloc: Global, words: &Result<Vec<String>, WordsFault>) -> Option<Files
         Err(_) => Some(Files {
             input: None,
             output: None,
+            journal: None,
+            is_synced: false,
         }),
     }
 }
@@ -79,7 +164,17 @@ fn write_file(
         Err(error) => return fail(rt.alloc(), &Some(beside), "written", &error, errors),
     };
     let mut out = StandardOutput::new(file);
-    let status = launch(threads, rt.alloc(), words, source, &mut out, errors);
+    let alloc = rt.alloc();
+    let status = launch(
+        threads,
+        alloc,
+        words,
+        Vec::new(alloc),
+        source,
+        &mut out,
+        errors,
+        &mut NoJournal,
+    );
     tell_of_length(rt.alloc(), out.len(), errors);
     let done = match status {
         Status::Done | Status::Refused => finish(rt, out, &beside, &path),
@@ -147,6 +242,19 @@ fn tell_of_length(alloc: Global, len: u64, errors: &mut Errors) {
     }
 }
 
+/// Tells that no run begins from the journal of this name.
+fn tell_of_no_journal(alloc: Global, path: &Option<String>, errors: &mut Errors) {
+    let mut line = String::new(alloc);
+    let name = match path {
+        Some(path) => path.as_str(),
+        None => return,
+    };
+    let text = "isn't a journal that a run can begin from, and is as it was";
+    if write!(line, "masklay: {name} {text}\n").is_ok() {
+        let _ = put_all(errors, line.as_bytes());
+    }
+}
+
 /// Tells that a file can't be read or written, and returns the status of that.
 fn fail(
     alloc: Global,
@@ -160,7 +268,14 @@ fn fail(
         Some(path) => path.as_str(),
         None => "standard input",
     };
-    if write!(line, "masklay: {name} can't be {what}: {error}\n").is_ok() {
+    let told = match error.kind() {
+        io::ErrorKind::WouldBlock => write!(
+            line,
+            "masklay: {name} is the journal of a run that goes on\n"
+        ),
+        _ => write!(line, "masklay: {name} can't be {what}: {error}\n"),
+    };
+    if told.is_ok() {
         let _ = put_all(errors, line.as_bytes());
     }
     Status::Device

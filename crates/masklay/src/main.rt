@@ -26,6 +26,7 @@
 
 mod command_line;
 mod files;
+mod journal;
 mod program;
 mod streams;
 

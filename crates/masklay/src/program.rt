@@ -21,7 +21,7 @@ mod threads;
 
 use byte_io::{In, Out, put_all};
 use job_text::MAX_JOB;
-pub use live::live;
+pub use live::{LiveOptions, live};
 pub use options::Options;
 use oriented::finish_given;
 use output::{write_given, write_stop};
@@ -81,7 +81,7 @@ fn write_output<O: Out, E: Out>(
     let mut bytes = bytes;
     match finish_given(rt, alloc, options, &mut bytes) {
         Ok(given) => {
-            let status = write_given(alloc, options.strict, &given, out);
+            let status = write_given(alloc, options, &given, out);
             tell_of_layout(alloc, &given, status, errors);
             // The program ends now, and the system takes all its memory at once.
             mem::forget(given);

@@ -1,73 +1,99 @@
 //! A live run: steps in lines, each answered before the next is read.
 ghost use Rattle.std.specs.Prelude.{◌≡◌, ◌+◌, ◌≤◌};
-ghost use Rattle.live_run.specs.Ending.{IsLiveRun};
+ghost use Rattle.live_run.specs.Ending.{IsJournaled};
 ghost use Rattle.live_run.specs.declared.run.TheConstants.{MAX_READS};
-ghost use Rattle.masklay.specs.Live.{IsLive, WritesLiveEnd};
+ghost use Rattle.masklay.specs.Live.{IsLive, WritesLiveEnd, live_ending};
 ghost use Rattle.masklay.specs.Telling.{MayReport};
 
 use crate::program::outcome::Stop;
 use crate::program::output::write_stop;
 use crate::program::put_memory;
 use crate::program::status::Status;
-use crate::program::telling::tell_of_stop;
+use crate::program::telling::{tell_of_journal, tell_of_stop};
 use band_workers::{MAX_WORKERS, OneBand, ScopedBands};
 use byte_io::{In, Out};
-use live_run::{LiveEnd, run_live};
+use live_run::{Journal, LiveEnd, run_journaled};
 use std::alloc::Global;
 use std::thread::Threads;
 
+/// What a live run is asked for.
+#[derive(Clone, Copy, Debug, PartialEq, Eq)]
+pub struct LiveOptions {
+    /// How many threads find the edges of an operation.
+    pub workers: u8,
+    /// Whether the run ends with a status of its own where a step was refused.
+    pub strict: bool,
+}
+
 /// Reads a CIF text, then steps of sessions on its layout in lines, and answers each before more is read; at the
-/// end of the input it writes the order of the steps and the CIF text of the layout that they led to. A fault of
-/// the text is reported to `errors` too. So many `workers` find the edges of an operation, as in `Options`.
-pub fn live<I: In, O: Out, E: Out>(
+/// end of the input it writes the order of the steps and the CIF text of the layout that they led to. The lines that the
+/// journal's bytes have whole come first and aren't answered; the steps behind them are kept in it. A fault of
+/// the text is reported to `errors` too.
+pub fn live<I: In, O: Out, E: Out, J: Journal>(
     rt: &(impl Threads + Sync),
     alloc: Global,
-    workers: u8,
+    options: LiveOptions,
+    bytes: Vec<u8>,
     input: &mut I,
     out: &mut O,
     errors: &mut E,
+    journal: &mut J,
 ) -> Status
-    ensures run { IsLive I.remaining I.counts O.written O.failures input.old input.new out.old out.new result }
+    ensures run { IsLive options.strict I.remaining I.counts O.written O.failures J.kept J.losses bytes.items
+        input.old input.new (out.old, journal.old) (out.new, journal.new) result }
     ensures told { MayReport E.written E.failures errors.old errors.new result }
 {
-    let end = answer_lines(rt, alloc, workers, input, out);
-    let status = close(alloc, &end, out);
+    let end = answer_lines(rt, alloc, options.workers, bytes, input, out, journal);
+    let status = close(alloc, options.strict, &end, out);
     tell_of_end(alloc, &end, status, errors);
     status
 }
 
 /// Answers the lines with so many workers.
-fn answer_lines<I: In, O: Out>(
+fn answer_lines<I: In, O: Out, J: Journal>(
     rt: &(impl Threads + Sync),
     alloc: Global,
     workers: u8,
+    bytes: Vec<u8>,
     input: &mut I,
     out: &mut O,
+    journal: &mut J,
 ) -> LiveEnd
-    ensures run { IsLiveRun I.remaining I.counts O.written O.failures input.old input.new out.old out.new result }
+    ensures run { IsJournaled I.remaining I.counts O.written O.failures J.kept J.losses bytes.items
+        input.old input.new (out.old, journal.old) (out.new, journal.new) result }
     ensures reads { (I.counts input.new).reads ≤ (I.counts input.old).reads + MAX_READS }
 {
     if workers < 2 {
-        return run_live(rt, alloc, &OneBand, input, out);
+        return run_journaled(rt, alloc, &OneBand, bytes, input, out, journal);
     }
     let bands = ScopedBands::new(workers.min(MAX_WORKERS));
-    run_live(rt, alloc, &bands, input, out)
+    run_journaled(rt, alloc, &bands, bytes, input, out, journal)
 }
 
 /// Writes what comes behind the answers of a run that ended so.
-fn close<O: Out>(alloc: Global, end: &LiveEnd, out: &mut O) -> Status
-    ensures { WritesLiveEnd O.written O.failures out.old out.new end.now result }
+fn close<O: Out>(alloc: Global, strict: bool, end: &LiveEnd, out: &mut O) -> Status
+    ensures { WritesLiveEnd strict O.written O.failures out.old out.new end.now result }
 {
     match end {
-        LiveEnd::Done => Status::Done,
+        LiveEnd::Done { has_refused } => live_ending(strict, *has_refused),
         LiveEnd::Job { line, .. } => write_stop(alloc, Stop::JobFault(*line), out),
         LiveEnd::Cif { fault, .. } => write_stop(alloc, Stop::CifFault(*fault), out),
-        LiveEnd::Device => Status::Device,
+        LiveEnd::Device | LiveEnd::Journal => Status::Device,
         LiveEnd::Memory => put_memory(out),
     }
 }
 
-/// Tells of a fault of the text, where the program ends with the status of one.
+/// Returns the status of a run whose lines are all answered.
+fn live_ending(strict: bool, has_refused: bool) -> Status
+    ensures { result ≡ live_ending strict has_refused }
+{
+    if strict && has_refused {
+        return Status::Refused;
+    }
+    Status::Done
+}
+
+/// Tells of a fault of the text, where the program ends with the status of one, and of a journal that failed.
 fn tell_of_end<E: Out>(alloc: Global, end: &LiveEnd, status: Status, errors: &mut E)
     ensures { MayReport E.written E.failures errors.old errors.new status }
 {
@@ -78,6 +104,7 @@ fn tell_of_end<E: Out>(alloc: Global, end: &LiveEnd, status: Status, errors: &mu
         LiveEnd::Cif { fault, text } => {
             tell_of_stop(alloc, false, text, Stop::CifFault(*fault), status, errors);
         }
-        LiveEnd::Done | LiveEnd::Device | LiveEnd::Memory => {}
+        LiveEnd::Journal => tell_of_journal(status, errors),
+        LiveEnd::Done { .. } | LiveEnd::Device | LiveEnd::Memory => {}
     }
 }

@@ -17,4 +17,6 @@ pub struct Options {
     pub strict: bool,
     /// Whether the input is a CIF text, and no job.
     pub bare: bool,
+    /// Whether upright rectangles are written as boxes.
+    pub boxed: bool,
 }

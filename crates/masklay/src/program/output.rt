@@ -1,6 +1,6 @@
 //! What is written of a job's outcome. All that takes memory comes before the first byte.
-ghost use Rattle.std.specs.Prelude.{◌≡◌, ◌++◌, IfOk, None, Some, false};
-ghost use Rattle.cif_write.specs.Text.{text};
+ghost use Rattle.std.specs.Prelude.{◌≡◌, ◌++◌, IfOk, None, OnErr, OnOk, Some, false};
+ghost use Rattle.byte_io.specs.Device.{WroteAll, WrotePrefix};
 ghost use Rattle.job_text.specs.Order.{order_text};
 ghost use Rattle.job_text.specs.Replies.{replies_text};
 ghost use Rattle.masklay.specs.Output.{
@@ -10,43 +10,52 @@ ghost use Rattle.masklay.specs.Output.{
   desk_fault_text,
   written_output,
 };
-ghost use Rattle.masklay.specs.Output.{ending_of, is_refusal, job_fault_text, stop_output};
+ghost use Rattle.live_run.specs.Live.{is_refusal};
+ghost use Rattle.masklay.specs.Named.{drawn};
+ghost use Rattle.masklay.specs.Output.{ending_of, job_fault_text, stop_output};
 ghost use Rattle.std.specs.List.{list_any};
 
+use crate::program::options::Options;
 use crate::program::oriented::Given;
 use crate::program::outcome::{Finished, Stop};
 use crate::program::status::Status;
 use crate::program::{put, put_memory};
-use byte_io::{Failing, MemoryOut, Out};
+use byte_io::{Failing, MemoryOut, Out, OutFault};
 use cif_names::{Names, with_names};
 use cif_read::CifFault;
-use cif_write::{Prepared, prepare};
+use cif_write::{Prepared, Rectangles, prepare};
 use job_text::{comments, put_comments};
 use lay_point::{NoMemory, Sequence};
+use live_run::is_refusal;
 use session_steps::Reply;
 use std::alloc::Global;
 use std::io::Write;
 
 /// Writes the replies, the order and the layout, with the names and labels in it if there are any.
 /// Where the run is `strict`, the status tells of a refused step.
-pub(super) fn write_given<O: Out>(alloc: Global, strict: bool, given: &Given, out: &mut O) -> Status
+pub(super) fn write_given<O: Out>(
+    alloc: Global,
+    options: Options,
+    given: &Given,
+    out: &mut O,
+) -> Status
     ensures { WritesOrMemory O.written O.failures out.old out.new
-        (written_output strict given.now.names given.now.finished) result }
+        (written_output options.strict options.boxed given.now.names given.now.finished) result }
 {
     match &given.names {
-        None => write_finished(strict, &given.finished, out),
-        Some(names) => write_named(alloc, strict, names, &given.finished, out),
+        None => write_finished(options, &given.finished, out),
+        Some(names) => write_named(alloc, options, names, &given.finished, out),
     }
 }
 
 /// Writes the replies, the order and the layout.
-fn write_finished<O: Out>(strict: bool, finished: &Finished, out: &mut O) -> Status
+fn write_finished<O: Out>(options: Options, finished: &Finished, out: &mut O) -> Status
     ensures { WritesOrMemory O.written O.failures out.old out.new
-        (written_output strict None finished.now) result }
+        (written_output options.strict options.boxed None finished.now) result }
 {
-    let ending = ending_of(strict, finished.replies.as_slice());
+    let ending = ending_of(options.strict, finished.replies.as_slice());
     match prepare(&finished.layout) {
-        Ok(layout) => put_finished(finished, &layout, ending, out),
+        Ok(layout) => put_finished(finished, &layout, options.boxed, ending, out),
         Err(NoMemory) => put_memory(out),
     }
 }
@@ -54,16 +63,16 @@ fn write_finished<O: Out>(strict: bool, finished: &Finished, out: &mut O) -> Sta
 /// Writes the replies, the order and the layout with the names and labels in it.
 fn write_named<O: Out>(
     alloc: Global,
-    strict: bool,
+    options: Options,
     names: &Names,
     finished: &Finished,
     out: &mut O,
 ) -> Status
     ensures { WritesOrMemory O.written O.failures out.old out.new
-        (written_output strict (Some names.now) finished.now) result }
+        (written_output options.strict options.boxed (Some names.now) finished.now) result }
 {
-    let ending = ending_of(strict, finished.replies.as_slice());
-    match named_bytes(alloc, names, finished) {
+    let ending = ending_of(options.strict, finished.replies.as_slice());
+    match named_bytes(alloc, options.boxed, names, finished) {
         Ok(bytes) => put(out, &bytes, ending),
         Err(NoMemory) => put_memory(out),
     }
@@ -92,26 +101,21 @@ fn has_refusal(sessions: &[Sequence<Reply>]) -> bool
 fn is_one_refused(replies: &[Reply]) -> bool
     ensures { result ≡ list_any is_refusal replies.now }
 {
-    replies.iter().any(is_refusal)
-}
-
-/// Returns whether the step with this reply was refused.
-fn is_refusal(reply: &Reply) -> bool
-    ensures { result ≡ is_refusal reply.now }
-{
-    match reply {
-        Reply::Fault(_) => true,
-        _ => false,
-    }
+    replies.iter().any(|reply| is_refusal(reply))
 }
 
 /// Returns the replies, the order and the layout with the names and labels in it.
-fn named_bytes(alloc: Global, names: &Names, finished: &Finished) -> Result<Vec<u8>, NoMemory>
+fn named_bytes(
+    alloc: Global,
+    boxed: bool,
+    names: &Names,
+    finished: &Finished,
+) -> Result<Vec<u8>, NoMemory>
     ensures { IfOk result (λ bytes. bytes.items
-        ≡ (written_output false (Some names.now) finished.now).text) }
+        ≡ (written_output false boxed (Some names.now) finished.now).text) }
 {
     let layout = prepare(&finished.layout)?;
-    let text = text_of(alloc, &layout)?;
+    let text = text_of(alloc, &layout, boxed)?;
     let mut bytes = comments(
         alloc,
         finished.replies.as_slice(),
@@ -122,30 +126,42 @@ fn named_bytes(alloc: Global, names: &Names, finished: &Finished) -> Result<Vec<
 }
 
 /// Returns a device that holds the text of the layout.
-fn text_of(alloc: Global, layout: &Prepared<'_>) -> Result<MemoryOut, NoMemory>
-    ensures { IfOk result (λ out. out.bytes.items ≡ text layout.now) }
+fn text_of(alloc: Global, layout: &Prepared<'_>, boxed: bool) -> Result<MemoryOut, NoMemory>
+    ensures { IfOk result (λ out. out.bytes.items ≡ drawn boxed layout.now) }
 {
     let mut out = MemoryOut::new(alloc, usize::MAX, usize::MAX, Failing::ByErr);
-    layout.put(&mut out).map_err(|_| NoMemory)?;
+    put_layout(layout, boxed, &mut out).map_err(|_| NoMemory)?;
     Ok(out)
+}
+
+/// Writes the text of the layout, with boxes where that is asked for.
+fn put_layout<O: Out>(layout: &Prepared<'_>, boxed: bool, out: &mut O) -> Result<(), OutFault>
+    ensures ok { OnOk result (WroteAll O.written O.failures out.old out.new (drawn boxed layout.now)) }
+    ensures fault { OnErr result (WrotePrefix O.written O.failures out.old out.new (drawn boxed layout.now)) }
+{
+    if boxed {
+        return layout.put_as(out, Rectangles::Boxes);
+    }
+    layout.put(out)
 }
 
 /// Writes the replies, the order and then this layout. Returns the status `ending` where all was written.
 fn put_finished<O: Out>(
     finished: &Finished,
     layout: &Prepared<'_>,
+    boxed: bool,
     ending: Status,
     out: &mut O,
 ) -> Status
     ensures { WritesOutput O.written O.failures out.old out.new
         (record {
-          text = (replies_text finished.now.replies ++ order_text finished.now.order) ++ text layout.now;
+          text = (replies_text finished.now.replies ++ order_text finished.now.order) ++ drawn boxed layout.now;
           status = ending;
         }) result }
 {
     let replies = finished.replies.as_slice();
     let order = finished.order.as_slice();
-    if put_comments(out, replies, order).is_err() || layout.put(out).is_err() {
+    if put_comments(out, replies, order).is_err() || put_layout(layout, boxed, out).is_err() {
         return Status::Device;
     }
     ending

@@ -20,11 +20,22 @@ const NOT_READ: &[u8] = b"masklay: the input can't be read to its end\n";
 const NOT_WRITTEN: &[u8] =
     b"masklay: the output can't be written; what was written so far is the beginning of it\n";
 
+/// What is said where the journal can't be written.
+const NOT_KEPT: &[u8] =
+    b"masklay: the journal can't be written; each step that was answered is in it, and the last one isn't answered\n";
+
 /// Tells that the input can't be read.
 pub(super) fn tell_of_input<E: Out>(errors: &mut E)
     ensures { MayReport E.written E.failures errors.old errors.new Device }
 {
     tell(NOT_READ, Status::Device, errors);
+}
+
+/// Tells that the journal can't be written, where the program ends with this status.
+pub(super) fn tell_of_journal<E: Out>(status: Status, errors: &mut E)
+    ensures { MayReport E.written E.failures errors.old errors.new status }
+{
+    tell(NOT_KEPT, status, errors);
 }
 
 /// Tells why there is no layout, where the program ends with the status of a fault. The bytes are a job or, where they are

@@ -39,6 +39,7 @@ fn ended(
         named: false,
         strict: false,
         bare: false,
+        boxed: false,
     };
     let status = run(rt, alloc, options, &mut input, &mut out, &mut errors);
     (status, out)
