@@ -1,4 +1,4 @@
-//! Tests of `byte_io`, `cif_names` and `job_advice`, by their public calls alone.
+//! Tests of `byte_io`, `cif_names`, `cif_laws` and `job_advice`, by their public calls alone.
 //!
 //! A crate with tests is proved twice, with them and without, so they are in a crate of their own.
 //! Nothing depends on it.
@@ -8,5 +8,7 @@
 mod advice;
 #[cfg(test)]
 mod names;
+#[cfg(test)]
+mod reread;
 #[cfg(test)]
 mod streams;

@@ -15,4 +15,6 @@ mod desk_runs;
 #[cfg(test)]
 mod live_runs;
 #[cfg(test)]
+mod printing;
+#[cfg(test)]
 mod refusals;

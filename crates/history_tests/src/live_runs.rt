@@ -41,7 +41,10 @@ fn each_line_is_answered(rt: HostRuntime) -> Result<(), Fail> {
     want.extend_from_slice(CLOSING)?;
     for bite in [1, 7, 16_384] {
         let (end, out) = ended(&rt, rt.alloc(), RUN, bite, 1000, 1000);
-        assert!(rt; matches!(end, LiveEnd::Done), "{bite}");
+        assert!(rt;
+            matches!(end, LiveEnd::Done { has_refused: false }),
+            "{bite}"
+        );
         assert_eq!(rt; out.written(), want.as_slice(), "{bite}");
     }
     Ok(())
@@ -85,4 +88,31 @@ fn a_head_with_a_fault_is_told(rt: HostRuntime) {
         matches!(&end, LiveEnd::Cif { fault, .. } if fault.offset == 0),
         "{end:?}"
     );
+}
+
+// Could catch a run that begins anew from a journal, answers its steps, loses the names of its transactions, or takes a line that was
+// cut for a whole one; and a refused step that is forgotten.
+#[test]
+fn a_run_begins_behind_its_journal(rt: HostRuntime) -> Result<(), Fail> {
+    let alloc = rt.alloc();
+    let mut bytes = Vec::new(alloc);
+    bytes.extend_from_slice(
+        b"%cif\nL NM; B 40 20 0 0; E\n%live\n1 open\n1 box top NP 0 0 10 10\n1 commit\n1 op",
+    )?;
+    let mut input = MemoryIn::new(b"2 undo 1.1\n1 redo 2.1\n", 5, 1000);
+    let mut out = MemoryOut::new(alloc, 7, 1000, Failing::ByErr);
+    let end = run_journaled(
+        &rt,
+        alloc,
+        &OneBand,
+        bytes,
+        &mut input,
+        &mut out,
+        &mut NoJournal,
+    );
+    assert!(rt; matches!(end, LiveEnd::Done { has_refused: true }));
+    let want: &[u8] =
+        b"(2 1 undone);\n(1 4 fault 20 NoTxn);\n(order 1 1 1 2 1);\nDS 1 1 2;\nL NM;\nP -40 -20 40 -20 40 20 -40 20;\nDF;\nC 1;\nE\n";
+    assert_eq!(rt; out.written(), want);
+    Ok(())
 }
