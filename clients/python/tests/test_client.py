@@ -11,8 +11,9 @@ import unittest
 from pathlib import Path
 
 from masklay import (
-    Late, Layout, MasklayError, OutOfMemory, Placed, ProcessError, Shape, StepError, TextFault, rewritten, um,
+    Change, Committed, Late, Layout, MasklayError, OutOfMemory, Placed, ProcessError, Shape, StepError, TextFault, rewritten, um,
 )  # fmt: skip
+from masklay.flat import polygons_of
 
 HERE = Path(__file__).resolve().parent
 PROGRAM = os.environ.get("MASKLAY", str(HERE.parents[2] / "crates/masklay/out/masklay"))
@@ -163,7 +164,7 @@ class History(unittest.TestCase):
 
     def test_a_commit_that_stays_open(self):
         """Could catch a session that can't go on, where a commit is refused and its transaction stays open: it has to be cancelled."""
-        lines = ["(fault line 1);", "(1 1 opened 1);", "(1 2 fault 26 LogFull);", "(1 3 cancelled);", "(1 4 opened 2);"]
+        lines = ["(end);", "(1 1 opened 1);", "(1 2 fault 26 LogFull);", "(1 3 cancelled);", "(1 4 opened 2);"]
         program = fake(
             "[sys.stdin.readline() for _ in range(3)]",
             f"for said in {lines}: line = sys.stdin.readline(); print(said if said[5] != 'c' or 'cancel' in line else '', flush=True)",
@@ -239,7 +240,7 @@ class Ends(unittest.TestCase):
         program = fake(
             "k = 0", "for line in sys.stdin.buffer:",
             "    words = line.split()",
-            "    if words[:1] == [b'?']: print('(fault line 1);', flush=True)",
+            "    if words[:1] == [b'%history']: print('(end);', flush=True)",
             "    if words[:1] != [b'1']: continue",
             "    k += 1", wait, "    print(f'(1 {k} done);', flush=True)",
         )  # fmt: skip
@@ -334,9 +335,9 @@ class Ends(unittest.TestCase):
     def test_a_late_program(self):
         """Could catch a client that waits for ever, or takes a late reply for another's."""
         for program in (
-            fake("sys.stdin.read()", "print('(fault line 1);')"),
+            fake("sys.stdin.read()", "print('(end);')"),
             fake("time.sleep(60)"),
-            fake("print('(fault line 1);', flush=True)", "sys.stdin.read()"),
+            fake("print('(end);', flush=True)", "sys.stdin.read()"),
         ):
             begun = time.monotonic()
             with self.assertRaises(Late):
@@ -347,7 +348,7 @@ class Ends(unittest.TestCase):
 
     def test_a_dead_program(self):
         """Could catch an end of the process that is taken for a reply, and words of it that are lost."""
-        ready = "[sys.stdin.readline() for _ in range(4)]; print('(fault line 1);', flush=True); sys.stdin.readline()"
+        ready = "[sys.stdin.readline() for _ in range(4)]; print('(end);', flush=True); sys.stdin.readline()"
         for words, kind, status in (
             ("sys.stderr.write('so\\n'); sys.exit(5)", ProcessError, 5),
             ("sys.stderr.write('so\\n'); print('out of memory'); sys.exit(6)", OutOfMemory, 6),
@@ -365,17 +366,131 @@ class Ends(unittest.TestCase):
             read(program=fake("pass"))
 
 
+def run_example(name, *words):
+    """Returns what an example writes, to standard output and to standard error."""
+    path = {**os.environ, "PYTHONPATH": str(HERE.parent / "src"), "PYTHONDONTWRITEBYTECODE": "1"}
+    command = [sys.executable, str(HERE.parent / "examples" / name), *words]
+    done = subprocess.run(command, env=path, capture_output=True, timeout=60)
+    if done.returncode != 0:
+        raise AssertionError(done.stderr.decode())
+    return done.stdout.decode(), done.stderr.decode()
+
+
+def area(polygon):
+    """Returns the area that a directed path goes round."""
+    return abs(sum(x * v - u * y for (x, y), (u, v) in zip(polygon, polygon[1:] + polygon[:1]))) // 2
+
+
 class Example(unittest.TestCase):
-    """The example of the documents."""
+    """The examples of the documents."""
 
     def test_pads(self):
         """Could catch an example that fails, and one that writes another text than the one beside it."""
-        path = {**os.environ, "PYTHONPATH": str(HERE.parent / "src"), "PYTHONDONTWRITEBYTECODE": "1"}
-        script = HERE.parent / "examples/pads.py"
-        done = subprocess.run([sys.executable, str(script), PROGRAM], env=path, capture_output=True, timeout=60)
-        self.assertEqual(done.returncode, 0, done.stderr.decode())
-        self.assertEqual(done.stdout.decode(), (HERE.parent / "examples/pads.cif").read_text(encoding="ascii"))
-        self.assertEqual(done.stderr.decode(), "9 frames, 1.4.1 to 1.4.9, by transaction 1.4\nundo 1.3: Depends 1.4\n")
+        text, said = run_example("pads.py", PROGRAM)
+        self.assertEqual(text, (HERE.parent / "examples/pads.cif").read_text(encoding="ascii"))
+        self.assertEqual(said, "9 frames, 1.4.1 to 1.4.9, by transaction 1.4\nundo 1.3: Depends 1.4\n")
+
+    def test_mask(self):
+        """Could catch an example that fails, a frame or a plate that isn't cut out, and a via that is lost, or left above a cut-out. Of
+        9 by 6 vias, those at x 80 to 160 and y 80 and 120 are above one cut-out, those at x 160 to 280 and y 160 and 200 above the
+        other."""
+        text, said = run_example("mask.py", PROGRAM)
+        drawn = {layer: [area(it) for it in polygons_of(text, layer, PROGRAM)] for layer in ("FRAME", "PLATE", "VIA")}
+        self.assertEqual(drawn["FRAME"], [(400 * 280 - 360 * 240) * um(1) ** 2])
+        self.assertEqual(drawn["PLATE"], [(360 * 240 - 120 * 80 - 140 * 90 + 30 * 10) * um(1) ** 2])
+        self.assertEqual(drawn["VIA"], [um(10) ** 2] * (9 * 6 - 3 * 2 - 4 * 2))
+        self.assertEqual(said, "40 vias\n")
+
+    def test_pad_ring(self):
+        """Could catch an example that fails, a side that is turned or shifted wrongly, and distances in another unit."""
+        text, _ = run_example("pad_ring.py", "--pads", "2", "--pitch", "10", "--pad", "4", "--opening", "2", "--program", PROGRAM)
+        places = {(sum(x for x, _ in it) // 4, sum(y for _, y in it) // 4) for it in polygons_of(text, "CG", PROGRAM)}
+        sides = [(x, y) for x in (-1000, 1000) for y in (-3000, 3000)]
+        self.assertEqual(places, {*sides, *((y, x) for x, y in sides)})
+        self.assertEqual([area(it) for it in polygons_of(text, "CM", PROGRAM)], [800**2] * 8)
+        with self.assertRaises(AssertionError):
+            run_example("pad_ring.py", "--pads", "2", "--pad", "200", "--program", PROGRAM)
+
+
+class Journals(unittest.TestCase):
+    """Layouts whose process dies, and what is asked of them."""
+
+    def setUp(self):
+        folder = tempfile.TemporaryDirectory()
+        self.addCleanup(folder.cleanup)
+        self.path = Path(folder.name) / "chip.journal"
+
+    def recovered(self, **options):
+        """Returns the layout of the journal."""
+        return Layout.recover(self.path, PROGRAM, timeout=TIMEOUT, **options)
+
+    def test_a_process_that_dies(self):
+        """Could catch a step that is with the process alone, a transaction that loses its name, and one that stays open."""
+        layout = read("L M; B 2 2 0 0; E", journal=self.path)
+        one, two = layout.session(), layout.session()
+        with one.transaction() as t:
+            t.move("0.0.1", 5, 5)
+        two.step("open")
+        two.step("box top M 0 0 9 9")
+        before = layout.write()
+        layout._process._child.kill()
+        with self.assertRaises(ProcessError):
+            one.step("open")
+        layout._process.kill()
+        with self.recovered(sync=True) as layout:
+            self.assertEqual(layout.write(), before)
+            self.assertEqual(layout.history(), [Committed("1.1", True)])
+            layout.undo(t.name)
+            self.assertNotEqual(layout.write(), before)
+            with layout.session().transaction() as t:
+                t.delete("0.0.1")
+            self.assertEqual(t.name, "1.2")
+        with self.recovered() as layout:
+            self.assertEqual(layout.history(), [Committed("1.1", False), Committed("1.2", True)])
+            self.assertEqual(layout.cells(), {"top": 0})
+
+    def test_journals_that_are_refused(self):
+        """Could catch a journal that is written over, one that two processes have, and a file that is changed though it is none."""
+        with read(journal=self.path), self.assertRaises(ProcessError) as caught:
+            self.recovered()
+        self.assertIn("goes on", caught.exception.said)
+        with self.assertRaises(FileExistsError):
+            read(journal=self.path)
+        other = b"DS 1;\nDF;\nE\n"
+        self.path.write_bytes(other)
+        with self.assertRaises(ProcessError) as caught:
+            self.recovered()
+        self.assertIn("isn't a journal", caught.exception.said)
+        self.assertEqual(self.path.read_bytes(), other)
+
+    def test_questions(self):
+        """Could catch an answer that is taken apart wrongly, that is of open transactions, or that is read beyond its end."""
+        text = "DS 1; 9 INV; L A; B 2 2 1 1; DF; (DS 8; 9 NONE; DF;); DS 2 2 1; 9 CELL_2; C 1 T 3 4; DF; C 2; E"
+        with read(text) as layout:
+            self.assertEqual(layout.names, {"INV": 1, "CELL_2": 2})
+            self.assertEqual(layout.cells(), {"top": 1, 1: 1, 2: 1})
+            square = Shape(1, "A", (((0, 0), (4, 0), (4, 4), (0, 4)),))
+            self.assertEqual(layout.items("INV"), {"0.0.1": square})
+            self.assertEqual(layout.items(2), {"0.0.2": Placed(2, 1, "r0", (12, 16))})
+            self.assertEqual(layout.look("0.0.1"), square)
+            with layout.session().transaction() as t:
+                box = t.box("B", (0, 0), (1, 2), cell="INV")
+                t.move("0.0.1", 1, 0)
+                t.make_cell(7)
+                self.assertEqual(layout.cells()[1], 1)
+            wanted = [Change("changed", item="0.0.1"), Change("made", item=box), Change("made", symbol=7)]
+            self.assertEqual(layout.changes(t.name), wanted)
+            layout.undo(t.name)
+            self.assertEqual(layout.history(), [Committed(t.name, False)])
+            self.assertEqual(layout.changes(t.name), wanted)
+            for call, refused in (
+                (lambda: layout.look(box), "NoItem"), (lambda: layout.items(7), "NoCell"), (lambda: layout.changes("5.5"), "NoTxn"),
+            ):  # fmt: skip
+                with self.assertRaises(MasklayError) as caught:
+                    call()
+                self.assertEqual(caught.exception.name, refused)
+            with self.assertRaises(KeyError):
+                layout.items("NONE")
 
 
 class Units(unittest.TestCase):

@@ -18,12 +18,14 @@ read is two of them, times the scale of its definition. Ids (`1.1.2`: session, t
 
 from .errors import Error, Late, MasklayError, OutOfMemory, ProcessError, StepError, TextFault
 from .layout import Layout, Session
-from .replies import Placed, Shape
+from .replies import Change, Committed, Placed, Shape
 from .rewriting import rewritten
 from .transaction import Transaction
 from .units import um
 
 __all__ = [
+    "Change",
+    "Committed",
     "Error",
     "Late",
     "Layout",

@@ -2,15 +2,20 @@
 
 from __future__ import annotations
 
+import contextlib
+import os
 import re
 import threading
 from types import TracebackType
-from typing import List, Optional, Tuple, Type, Union
+from typing import Dict, List, Optional, Tuple, Type, Union
 
 from .errors import MasklayError, ProcessError
-from .process import Process, Program
-from .replies import ODD, accepted, words_of
-from .transaction import Transaction
+from .journal import Path, names_in, parts_of
+from .process import Process, Program, head_of, text_bytes
+from .replies import ODD, Change, Committed, Placed, Shape, accepted, cell_of, change_of, item_of, words_of
+from .transaction import Cell, Transaction, cell_word, id_word
+
+Item = Union[Shape, Placed]
 
 #: How many sessions a layout has.
 SESSIONS = 64
@@ -27,12 +32,16 @@ class Layout:
     #: After `close`: the numbers of the sessions in the order in which their steps ran.
     order: List[int]
 
-    def __init__(self, process: Process) -> None:
+    #: The symbols by the names that they have in the text from which the layout begins.
+    names: Dict[str, int]
+
+    def __init__(self, process: Process, text: bytes, taken: Optional[List[int]] = None) -> None:
         self.order = []
+        self.names = names_in(text)
         self._process = process
         self._lock = threading.Lock()
         self._given = 0
-        self._taken = [0] * (SESSIONS + 1)
+        self._taken = taken or [0] * (SESSIONS + 1)
         self._closed: Optional[str] = None
 
     @classmethod
@@ -43,8 +52,13 @@ class Layout:
         *,
         workers: int = 1,
         timeout: float = 60.0,
+        journal: Optional[Path] = None,
+        sync: bool = False,
     ) -> "Layout":
         """Starts the program on a CIF text.
+
+        With `journal`, a file that isn't there yet or is empty, each step is in that file before its reply, and `Layout.recover`
+        begins from it later. What is committed, undone or redone is on the disk then; with `sync` each step is.
 
         An interrupt while a call waits (`KeyboardInterrupt`) leaves the layout in use: the step is taken, and its reply is
         passed over by the next call.
@@ -52,19 +66,50 @@ class Layout:
         `program` is its path, or a list of words. `workers` find the edges of an operation. Each call waits `timeout` seconds for
         its reply, and raises `Late` then.
 
-        Raises `TextFault` where the text isn't read, and `OSError` where the program can't be started.
+        Raises `TextFault` where the text isn't read, `FileExistsError` where the journal has something, and `OSError` where the
+        program can't be started.
         """
-        if not 1 <= workers <= 64:
-            raise ValueError(f"there are 1 to 64 workers, and not {workers}")
-        options = ["--workers", str(workers)] if workers != 1 else []
-        process = Process(cif, program, options, timeout)
+        if journal is not None and os.path.exists(journal) and os.path.getsize(journal):
+            raise FileExistsError(f"{os.fspath(journal)} has steps already: Layout.recover begins from it")
+        text = text_bytes(cif)
+        process = Process(head_of(text), text, program, options_of(workers, journal, sync), timeout)
+        return cls._begun(process, text, None)
+
+    @classmethod
+    def recover(
+        cls, journal: Path, program: Program = "masklay", *, workers: int = 1, timeout: float = 60.0, sync: bool = False
+    ) -> "Layout":
+        """Begins from the journal of a layout whose process has ended, however it did: all that was committed is there, under its
+        name. Transactions that were open are given up; sessions begin with 1 again, and their transactions' numbers go on.
+
+        Raises `ProcessError` where the file is no journal, or another process has it.
+        """
+        text, taken = parts_of(journal, SESSIONS)
+        process = Process(b"", text, program, options_of(workers, journal, sync), timeout)
+        layout = cls._begun(process, text, taken)
         try:
-            # A line that is no step changes nothing: its answer shows that the text was read.
-            process.ask(b"?")
+            layout._give_up()
         except BaseException:
             process.kill()
             raise
-        return cls(process)
+        return layout
+
+    @classmethod
+    def _begun(cls, process: Process, text: bytes, taken: Optional[List[int]]) -> "Layout":
+        try:
+            # The answer to a question shows that the text was read.
+            process.ask_all(b"%history")
+        except BaseException:
+            process.kill()
+            raise
+        return cls(process, text, taken)
+
+    def _give_up(self) -> None:
+        """Cancels what is open in sessions that took steps."""
+        for session in range(1, SESSIONS + 1):
+            if self._taken[session]:
+                with contextlib.suppress(MasklayError):
+                    self.step(session, "cancel")
 
     def session(self) -> "Session":
         """Returns the next session: 1 at first, 64 at last. A 65th is refused as `NoSession`."""
@@ -102,9 +147,44 @@ class Layout:
         self._named(1, "redo", name)
 
     def _named(self, session: int, word: str, name: str) -> None:
-        if not NAME.fullmatch(name):
-            raise ValueError(f"a transaction's name is like 1.1, and not {name!r}")
-        self.step(session, f"{word} {name}")
+        self.step(session, f"{word} {name_word(name)}")
+
+    def cells(self) -> Dict[Cell, int]:
+        """Returns how many items each cell has, of what is committed: `top` first, then the symbols by number."""
+        lines = [words.split(" ") for words in self._asked("%cells")]
+        return {cell_of(cell): int(count) for _, cell, count in lines}
+
+    def items(self, cell: Cell = "top") -> Dict[str, Item]:
+        """Returns the items of a cell by their ids, of what is committed. `MasklayError` where there is no such cell."""
+        lines = [words.split(" ", 1) for words in self._asked(f"%items {cell_word(self.cell(cell))}")]
+        return {id: item_of(words) for id, words in lines}
+
+    def look(self, id: str) -> Item:
+        """Returns an item of what is committed. `MasklayError` where there is none of this id."""
+        (words,) = self._asked(f"%look {id_word(id)}")
+        return item_of(words.split(" ", 1)[1])
+
+    def history(self) -> List[Committed]:
+        """Returns the committed transactions in the order of their commits."""
+        lines = [words.split(" ") for words in self._asked("%history")]
+        return [Committed(name, mark == "live") for name, mark in lines]
+
+    def changes(self, name: str) -> List[Change]:
+        """Returns what the commit of the transaction did, and its undo takes back: items, then symbols."""
+        return [change_of(words) for words in self._asked(f"%changes {name_word(name)}")]
+
+    def cell(self, cell: Cell) -> Cell:
+        """Returns `top`, a symbol's number, or the number of the symbol that has this name in the text from which the layout
+        begins. `KeyError` where none has."""
+        return cell if cell == "top" or not isinstance(cell, str) else self.names[cell]
+
+    def _asked(self, question: str) -> List[str]:
+        """Returns the words of the lines that answer a question."""
+        with self._lock:
+            lines = self._process.ask_all(question.encode("ascii"))
+        for words in lines:
+            accepted(words)
+        return lines
 
     def write(self) -> str:
         """Returns the CIF text of the layout as it is now, without what is in open transactions."""
@@ -158,6 +238,23 @@ class Session:
     def redo(self, name: str) -> None:
         """Brings a transaction back that was undone."""
         self.layout._named(self.number, "redo", name)
+
+
+def options_of(workers: int, journal: Optional[Path], sync: bool) -> List[str]:
+    """Returns the words of the options. `ValueError` where there are none or too many workers."""
+    if not 1 <= workers <= 64:
+        raise ValueError(f"there are 1 to 64 workers, and not {workers}")
+    options = ["--workers", str(workers)] if workers != 1 else []
+    if journal is not None:
+        options += ["--journal", os.fspath(journal)] + (["--sync"] if sync else [])
+    return options
+
+
+def name_word(name: str) -> str:
+    """Returns a transaction's name. `ValueError` where it is none."""
+    if not NAME.fullmatch(name):
+        raise ValueError(f"a transaction's name is like 1.1, and not {name!r}")
+    return name
 
 
 def decoded(text: bytes) -> str:

@@ -11,11 +11,13 @@ import threading
 import time
 from typing import Callable, List, Optional, Sequence, Union
 
-from .errors import Late, OutOfMemory, ProcessError, TextFault
+from .errors import Late, OutOfMemory, ProcessError, StepError, TextFault
+from .replies import ODD
 
 Program = Union[str, "os.PathLike[str]", Sequence[str]]
 
 CIF_FAULT = re.compile(rb"cif fault (\d+) (\w+) at (\d+)\n")
+COMMENT = re.compile(rb"\((.*)\);\n")
 #: How many bytes are read at a time.
 PIECE = 1 << 16
 #: Lines that would end a CIF text too early.
@@ -36,11 +38,17 @@ def words_of_program(program: Program) -> List[str]:
     return [os.fspath(program)] if isinstance(program, (str, os.PathLike)) else list(program)
 
 
-class Process:
-    """A running program. One thread at a time may use it."""
+def head_of(text: bytes) -> bytes:
+    """Returns the lines in front of the steps."""
+    return b"%cif\n" + text + b"%live\n"
 
-    def __init__(self, cif: Union[bytes, str], program: Program, options: Sequence[str], timeout: float) -> None:
-        self._text = text_bytes(cif)
+
+class Process:
+    """A running program, to which the lines of `head` go first. `text` is the CIF text from which it begins. One thread at a
+    time may use it."""
+
+    def __init__(self, head: bytes, text: bytes, program: Program, options: Sequence[str], timeout: float) -> None:
+        self._text = text
         self.timeout = timeout
         self._ended: Optional[ProcessError] = None
         self._errors = tempfile.TemporaryFile()
@@ -62,7 +70,7 @@ class Process:
         self._threads = [threading.Thread(target=it, daemon=True) for it in (self._read, self._write)]
         for it in self._threads:
             it.start()
-        self._put(b"%cif\n" + self._text + b"%live\n")
+        self._put(head)
 
     def _read(self) -> None:
         """Keeps what the program writes, piece by piece, and an empty piece at the end. It runs in a thread of its own."""
@@ -97,6 +105,13 @@ class Process:
     def ask_text(self, line: bytes) -> bytes:
         """Sends a line and returns the lines that answer it, up to `E`."""
         return self._answer(line, self._lines, lambda text: None)
+
+    def ask_all(self, line: bytes) -> List[str]:
+        """Sends a question and returns the comments that answer it, without the last."""
+        answer = self._answer(line, self._comments, lambda text: None)
+        if ODD.fullmatch(answer):
+            raise StepError("the program takes this for no question")
+        return [found.decode("ascii", "replace") for found in COMMENT.findall(answer)[:-1]]
 
     def finish(self) -> bytes:
         """Ends the input and returns all that is written then."""
@@ -176,6 +191,13 @@ class Process:
             if not self._more(until):
                 raise self._fail(self._taken(len(self._came)), self._end())
         return self._reply(self._taken(end + 3))
+
+    def _comments(self, until: float) -> bytes:
+        """Returns the next lines up to `(end);`, or the one that says that the question is none."""
+        lines = [self._line(until)]
+        while lines[-1] != b"(end);\n" and not ODD.fullmatch(lines[-1]):
+            lines.append(self._line(until))
+        return b"".join(lines)
 
     def _reply(self, reply: bytes) -> bytes:
         """Returns what the program wrote, where it is no last line."""

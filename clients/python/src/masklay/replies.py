@@ -4,7 +4,7 @@ from __future__ import annotations
 
 import re
 from dataclasses import dataclass
-from typing import List, Tuple, Union
+from typing import List, Optional, Tuple, Union
 
 from .errors import MasklayError, ProcessError, StepError
 
@@ -35,6 +35,23 @@ class Placed:
     at: Point
 
 
+@dataclass(frozen=True)
+class Committed:
+    """A committed transaction: its name, and whether it is live or undone."""
+
+    name: str
+    live: bool
+
+
+@dataclass(frozen=True)
+class Change:
+    """What a commit did: to the item of this id, or to the symbol of this number, which was `made`, `changed` or `gone` by it."""
+
+    what: str
+    item: Optional[str] = None
+    symbol: Optional[int] = None
+
+
 def words_of(line: bytes, session: int, number: int) -> str:
     """Returns the words of a reply, which has to be to the session's step of this number."""
     if ODD.fullmatch(line):
@@ -60,6 +77,12 @@ def ids_of(words: str) -> List[str]:
         return []
     first = int(found[2])
     return [f"{found[1]}.{number}" for number in range(first, int(found[3] or first) + 1)]
+
+
+def change_of(words: str) -> Change:
+    """Returns the change that a line tells."""
+    first, second, *rest = words.split(" ")
+    return Change(rest[0], symbol=int(second)) if first == "symbol" else Change(second, item=first)
 
 
 def cell_of(word: str) -> Union[str, int]:

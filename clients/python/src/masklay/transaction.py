@@ -31,7 +31,8 @@ class Transaction:
         layout.undo(t.name)
 
     The methods are the commands of a job's script. Each raises `MasklayError` where it is refused; then nothing has changed, and a
-    transaction in which the error is caught goes on. Cells are `top`, what is outside all symbols, or a symbol's number.
+    transaction in which the error is caught goes on. Cells are `top`, what is outside all symbols, or a symbol's number, or
+    the name that it has in the text from which the layout begins.
     """
 
     #: The transaction's name, as `1.1`, once it is committed, and None before.
@@ -57,11 +58,11 @@ class Transaction:
 
     def box(self, layer: str, a: Point, b: Point, cell: Cell = "top") -> str:
         """Draws a box of two opposite corners, in any order, and returns its id."""
-        return self._made(f"box {cell_word(cell)} {layer_word(layer)} {numbers([a, b])}")
+        return self._made(f"box {self._cell(cell)} {layer_word(layer)} {numbers([a, b])}")
 
     def polygon(self, layer: str, points: Iterable[Point], cell: Cell = "top") -> str:
         """Draws a closed path, inside by parity, and returns its id."""
-        return self._made(f"poly {cell_word(cell)} {layer_word(layer)} {numbers(points)}")
+        return self._made(f"poly {self._cell(cell)} {layer_word(layer)} {numbers(points)}")
 
     def place(self, target: int, at: Point = (0, 0), turn: str = "r0", cell: Cell = "top") -> str:
         """Calls the symbol `target`, turned and then shifted to `at`, and returns the call's id.
@@ -70,7 +71,7 @@ class Transaction:
         """
         if turn not in TURNS:
             raise ValueError(f"a turn is one of {', '.join(sorted(TURNS))}, and not {turn!r}")
-        return self._made(f"place {cell_word(cell)} {operator.index(target)} {turn} {numbers([at])}")
+        return self._made(f"place {self._cell(cell)} {self._cell(target)} {turn} {numbers([at])}")
 
     def boolean(self, operation: str, a: str, b: str, result: str, cell: Cell = "top") -> List[str]:
         """Combines the layers `a` and `b` of the cell and of what is below it, and returns the ids of the new shapes, which replace
@@ -78,7 +79,7 @@ class Transaction:
         if operation not in OPERATIONS:
             raise ValueError(f"an operation is one of {', '.join(OPERATIONS)}, and not {operation!r}")
         layers = " ".join(layer_word(layer) for layer in (a, b, result))
-        return ids_of(self._session.step(f"{operation} {cell_word(cell)} {layers}"))
+        return ids_of(self._session.step(f"{operation} {self._cell(cell)} {layers}"))
 
     def delete(self, item: str) -> None:
         """Removes an item."""
@@ -104,6 +105,10 @@ class Transaction:
     def remove_cell(self, number: int) -> None:
         """Removes a symbol that is empty and that nothing calls."""
         self._session.step(f"rmcell {operator.index(number)}")
+
+    def _cell(self, cell: Cell) -> str:
+        """Returns the word for a cell, which may be named as in the text from which the layout begins."""
+        return cell_word(self._session.layout.cell(cell))
 
     def _made(self, step: str) -> str:
         """Returns the id of the item that a step makes."""
