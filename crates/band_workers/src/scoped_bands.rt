@@ -1,5 +1,6 @@
 //! Bands of rows, each labelled in a thread of its own.
 ghost use Rattle.std.specs.Prelude.{◌≡◌, ◌+◌, ℕ, ◌<◌, ◌≤◌, IfOk, length, vec_len, slice_index_or};
+ghost use Rattle.face_labels.specs.RowSides.{IsShared};
 ghost use Rattle.band_workers.specs.Cuts.{IsLabelled, band_at};
 ghost use Rattle.band_workers.specs.Labels.{labels_of};
 
@@ -7,7 +8,7 @@ use crate::bands::Bands;
 use crate::cuts::cuts_of;
 use crate::gate::{Gate, OpenGate};
 use crate::joined::{in_order, joined};
-use face_labels::label;
+use face_labels::{Shared, label_sharing};
 use face_rows::{Band, Op};
 use lay_point::NoMemory;
 use snap_chains::CleanEdges;
@@ -62,7 +63,7 @@ impl Bands for ScopedBands {
 ///
 /// # Cost
 ///
-/// That of `label` for each band, in as many threads as there are workers.
+/// That of `label` for each band, in as many threads as there are workers; what all bands share is found once.
 pub fn label_in_bands<R: Threads + Sync, G: Gate + Sync>(
     rt: &R,
     alloc: Global,
@@ -75,7 +76,8 @@ pub fn label_in_bands<R: Threads + Sync, G: Gate + Sync>(
     ensures { IfOk result (λ labels. labels.items ≡ labels_of op edges.now) }
 {
     let cuts = cuts_of(alloc, edges.edges(), usize::from(workers))?;
-    let parts = parts_of(rt, alloc, edges, cuts.as_slice(), gate, op)?;
+    let shared = Shared::of_edges(alloc, edges)?;
+    let parts = parts_of(rt, alloc, edges, &shared, cuts.as_slice(), gate, op)?;
     let numbered = joined(alloc, parts)?;
     let labels = in_order(alloc, edges.edges().len(), numbered.as_slice())?;
     Ok(labels)
@@ -87,17 +89,20 @@ fn parts_of<R: Threads + Sync, G: Gate + Sync>(
     rt: &R,
     alloc: Global,
     edges: &CleanEdges,
+    shared: &Shared,
     cuts: &[i64],
     gate: &G,
     op: Op,
 ) -> Result<Vec<Labels>, NoMemory>
-    requires { 1 ≤ length cuts.now }
+    requires shared { IsShared edges.now shared.now }
+    requires cuts { 1 ≤ length cuts.now }
     ensures len { IfOk result (λ parts. vec_len parts + 1 ≡ length cuts.now) }
     ensures each { IfOk result (λ parts. (i : ℕ) (d : _) → i < vec_len parts
         → IsLabelled op edges.now (band_at cuts.now i) (slice_index_or parts.items i d)) }
 {
     let part = |band: usize| -> Labels
-        requires { band + 1 < length cuts.now }
+        requires shared { IsShared edges.now shared.now }
+        requires band { band + 1 < length cuts.now }
         ensures { IsLabelled op edges.entry.now (band_at cuts.entry.now band) result }
     {
         gate.pass(band);
@@ -105,7 +110,7 @@ fn parts_of<R: Threads + Sync, G: Gate + Sync>(
             low: cuts[band],
             high: cuts[band + 1],
         };
-        label(alloc, edges, rows, op)
+        label_sharing(alloc, edges, shared, rows, op)
     };
     let parts = thread::map_indices(rt, alloc, cuts.len() - 1, &part)?;
     Ok(parts)

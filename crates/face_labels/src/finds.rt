@@ -13,13 +13,13 @@ ghost use Rattle.std.specs.Prelude.{
   slice_index,
 };
 ghost use Rattle.std.specs.List.Sorted.{IsNonDecreasing};
-ghost use Rattle.face_sweep.specs.Reaches.{EndAtReach};
+ghost use Rattle.face_sweep.specs.Reaches.{IsReachIn};
 ghost use Rattle.face_rows.specs.Rows.{AreRowEdges};
 ghost use Rattle.face_sweep.specs.Sides.{AreBehind, AreKnown, IsKnown};
 ghost use Rattle.face_sweep.specs.Starts.{AreByRow, BeginsBy, IsStartOf};
 
 use face_rows::crosses_row;
-use face_sweep::{Reach, Sides, Start, begins_after, place_of};
+use face_sweep::{Known, Reach, Sides, Start, begins_after, place_of};
 use snap_chains::CleanEdges;
 use std::alloc::{AllocError, Global};
 
@@ -28,15 +28,15 @@ pub(crate) fn find_sides(
     alloc: Global,
     edges: &CleanEdges,
     numbers: &[usize],
-    known: &mut Vec<Option<Sides>>,
+    known: &mut Known,
     reach: &Reach,
 ) -> Result<(), AllocError>
     requires given { All (λ n. n < length edges.now.0) numbers.now }
     requires behind { AreBehind edges.now numbers.now }
-    requires known { AreKnown edges.now known.old.items }
-    requires reach { EndAtReach edges.now reach.now numbers.now }
-    ensures known { OnOk result (AreKnown edges.now known.new.items) }
-    ensures all { OnOk result (All (IsKnown known.new.items) numbers.now) }
+    requires known { AreKnown edges.now known.old }
+    requires reach { IsReachIn edges.now reach.now numbers.now }
+    ensures known { OnOk result (AreKnown edges.now known.new) }
+    ensures all { OnOk result (All (IsKnown known.new) numbers.now) }
 {
     let mut index = numbers.len();
     while index > 0 {
@@ -54,18 +54,18 @@ pub(crate) fn find_begun(
     numbers: &[usize],
     starts: &[Start],
     row: i32,
-    known: &mut Vec<Option<Sides>>,
+    known: &mut Known,
     reach: &Reach,
 ) -> Result<(), AllocError>
     requires starts { All (IsStartOf edges.now) starts.now }
     requires rows { AreByRow starts.now }
     requires edges { AreRowEdges edges.now.0 row numbers.now }
     requires behind { AreBehind edges.now numbers.now }
-    requires known { AreKnown edges.now known.old.items }
-    requires others { (n : ℕ) → Contains numbers.now n → BeginsBy starts.now row n ⊎ IsKnown known.old.items n }
-    requires reach { EndAtReach edges.now reach.now numbers.now }
-    ensures known { OnOk result (AreKnown edges.now known.new.items) }
-    ensures all { OnOk result (All (IsKnown known.new.items) numbers.now) }
+    requires known { AreKnown edges.now known.old }
+    requires others { (n : ℕ) → Contains numbers.now n → BeginsBy starts.now row n ⊎ IsKnown known.old n }
+    requires reach { IsReachIn edges.now reach.now numbers.now }
+    ensures known { OnOk result (AreKnown edges.now known.new) }
+    ensures all { OnOk result (All (IsKnown known.new) numbers.now) }
 {
     let mut places = begun_places(alloc, edges, numbers, starts, row)?;
     places.sort_unstable();
@@ -105,19 +105,19 @@ fn find_at(
     edges: &CleanEdges,
     numbers: &[usize],
     places: &[usize],
-    known: &mut Vec<Option<Sides>>,
+    known: &mut Known,
     reach: &Reach,
 ) -> Result<(), AllocError>
     requires inside { All (λ k. k < length numbers.now) places.now }
     requires order { IsNonDecreasing places.now }
     requires given { All (λ n. n < length edges.now.0) numbers.now }
     requires behind { AreBehind edges.now numbers.now }
-    requires known { AreKnown edges.now known.old.items }
+    requires known { AreKnown edges.now known.old }
     requires others { (k : ℕ) → k < length numbers.now
-        → Contains places.now k ⊎ IsKnown known.old.items (slice_index numbers.now k) }
-    requires reach { EndAtReach edges.now reach.now numbers.now }
-    ensures known { OnOk result (AreKnown edges.now known.new.items) }
-    ensures all { OnOk result (All (IsKnown known.new.items) numbers.now) }
+        → Contains places.now k ⊎ IsKnown known.old (slice_index numbers.now k) }
+    requires reach { IsReachIn edges.now reach.now numbers.now }
+    ensures known { OnOk result (AreKnown edges.now known.new) }
+    ensures all { OnOk result (All (IsKnown known.new) numbers.now) }
 {
     let mut left = places.len();
     while left > 0 {
@@ -134,32 +134,32 @@ fn find_one(
     edges: &CleanEdges,
     numbers: &[usize],
     index: usize,
-    known: &mut Vec<Option<Sides>>,
+    known: &mut Known,
     reach: &Reach,
 ) -> Result<(), AllocError>
     requires index { index < length numbers.now }
     requires given { All (λ n. n < length edges.now.0) numbers.now }
     requires behind { AreBehind edges.now numbers.now }
-    requires known { AreKnown edges.now known.old.items }
-    requires all { All (IsKnown known.old.items) (drop (index + 1) numbers.now) }
-    requires reach { EndAtReach edges.now reach.now numbers.now }
-    ensures known { OnOk result (AreKnown edges.now known.new.items) }
-    ensures kept { OnOk result ((n : ℕ) → IsKnown known.old.items n → IsKnown known.new.items n) }
-    ensures here { OnOk result (IsKnown known.new.items (slice_index numbers.now index)) }
+    requires known { AreKnown edges.now known.old }
+    requires all { All (IsKnown known.old) (drop (index + 1) numbers.now) }
+    requires reach { IsReachIn edges.now reach.now numbers.now }
+    ensures known { OnOk result (AreKnown edges.now known.new) }
+    ensures kept { OnOk result ((n : ℕ) → IsKnown known.old n → IsKnown known.new n) }
+    ensures here { OnOk result (IsKnown known.new (slice_index numbers.now index)) }
 {
     let number = numbers[index];
-    if known[number].is_none() {
+    if known.get(number).is_none() {
         let sides = Sides::of(
             alloc,
             edges,
             numbers,
             index,
             index + 1,
-            known.as_slice(),
+            known,
             reach,
             number,
         )?;
-        known[number] = Some(sides);
+        known.put(number, sides)?;
     }
     Ok(())
 }

@@ -4,9 +4,11 @@ ghost use Rattle.std.specs.List.{zip};
 ghost use Rattle.face_rows.specs.Laws.{AreLesserFirst};
 ghost use Rattle.face_rows.specs.Bands.{begins_in, labelled};
 ghost use Rattle.face_rows.specs.Picked.{picked};
+ghost use Rattle.face_labels.specs.RowSides.{IsShared};
 ghost use Rattle.face_sweep.specs.Starts.{AreAllStarts, AreByRow, HasLabel, IsStartOf};
 
 use crate::line::Line;
+use crate::shared::Shared;
 use face_rows::{Band, Op};
 use face_sweep::{Start, starts};
 use lay_point::{Edge, NoMemory};
@@ -23,8 +25,9 @@ use std::alloc::{AllocError, Global};
 ///
 /// # Cost
 ///
-/// A sort of the edges that begin in the band, and a search in its row for each of them. From row to row
-/// only the edges that begin or end are looked at, and those right of one that begins are moved.
+/// A sort of the ends of all edges and of the edges that begin in the band, and a search in its row for each
+/// of them. From row to row only the edges that begin or end are looked at, and those right of one that begins
+/// are moved.
 pub fn label(
     alloc: Global,
     edges: &CleanEdges,
@@ -33,8 +36,31 @@ pub fn label(
 ) -> Result<Vec<(usize, bool)>, NoMemory>
     ensures { IfOk result (λ labels. labels.items ≡ labelled op edges.now band) }
 {
+    let shared = Shared::of_edges(alloc, edges)?;
+    label_sharing(alloc, edges, &shared, band, op)
+}
+
+/// Returns the same as [`label`], with what the sweeps of all bands share.
+///
+/// # Errors
+///
+/// `NoMemory`, if an allocation fails.
+///
+/// # Cost
+///
+/// That of [`label`], but for what is shared.
+pub fn label_sharing(
+    alloc: Global,
+    edges: &CleanEdges,
+    shared: &Shared,
+    band: Band,
+    op: Op,
+) -> Result<Vec<(usize, bool)>, NoMemory>
+    requires { IsShared edges.now shared.now }
+    ensures { IfOk result (λ labels. labels.items ≡ labelled op edges.now band) }
+{
     let starts = starts(alloc, edges.edges(), band)?;
-    let labels = labels_at(alloc, edges, starts.as_slice(), op)?;
+    let labels = labels_at(alloc, edges, shared, starts.as_slice(), op)?;
     let numbered = numbered(alloc, edges.edges(), band, labels.as_slice())?;
     Ok(numbered)
 }
@@ -44,9 +70,11 @@ pub fn label(
 fn labels_at(
     alloc: Global,
     edges: &CleanEdges,
+    shared: &Shared,
     starts: &[Start],
     op: Op,
 ) -> Result<Vec<bool>, NoMemory>
+    requires shared { IsShared edges.now shared.now }
     requires starts { All (IsStartOf edges.now) starts.now }
     requires rows { AreByRow starts.now }
     requires all { AreAllStarts edges.now starts.now }
@@ -58,13 +86,13 @@ fn labels_at(
     let Some(first) = starts.first() else {
         return Ok(labels);
     };
-    let mut line = Line::new(alloc, edges, first.y)?;
+    let mut line = Line::new(alloc, edges, shared, first.y)?;
     for index in 0..starts.len() {
         let start = starts[index];
         if start.y != line.row {
-            line = line.later(alloc, edges, start.y, &starts[index..])?;
+            line = line.later(alloc, edges, shared, start.y, &starts[index..])?;
         }
-        labels[start.number] = line.differs(alloc, edges, start.number, op)?;
+        labels[start.number] = line.differs(alloc, edges, shared, start.number, op)?;
     }
     Ok(labels)
 }

@@ -7,9 +7,12 @@
 //! [`label`] sweeps over the rows of a band (`face_rows/specs/Bands.antt`). The row r is the height
 //! r + 1/2. Each edge is judged close to its lower end (`face_rows/specs/Beside.antt`): at its
 //! crossing of the row there, and at its midpoint if it is level. What holds right of an edge is
-//! found once, where the edge begins, and kept (`face_sweep/specs/Sides.antt`). From row to row the
-//! edges that end are removed and those that begin are inserted (`face_sweep/specs/Ends.antt`,
-//! `face_sweep/specs/Starts.antt`).
+//! found once, where the edge begins, and kept until it ends (`face_sweep/specs/Sides.antt`). From
+//! row to row the edges that end are removed and those that begin are inserted
+//! (`face_sweep/specs/Ends.antt`, `face_sweep/specs/Starts.antt`).
+//!
+//! [`Shared`] is what the sweeps of all bands look at: the ends of the edges, in order, and the boxes of
+//! their shapes. It is made once and lent to each band ([`label_sharing`]).
 //!
 //! ```text
 //! let clean = round(rt, alloc, &rings)?;
@@ -20,5 +23,7 @@
 mod finds;
 mod labels;
 mod line;
+mod shared;
 
-pub use labels::label;
+pub use labels::{label, label_sharing};
+pub use shared::Shared;

@@ -8,25 +8,25 @@ ghost use Rattle.std.specs.Prelude.{
   All,
   Contains,
   IfOk,
-  None,
   OnOk,
   length,
-  replicate,
 };
 ghost use Rattle.face_rows.specs.Labels.{differs, owned_items};
 ghost use Rattle.face_rows.specs.Laws.{AreLesserFirst};
-ghost use Rattle.face_sweep.specs.Ends.{AreEnds};
+ghost use Rattle.face_sweep.specs.Ends.{AreEnds, IsEdgeEnd};
+ghost use Rattle.face_sweep.specs.Sides.{AreKnown, IsKnown};
 ghost use Rattle.face_rows.specs.Lines.{edge_at, owned_item_at};
 ghost use Rattle.face_rows.specs.Operations.{answer};
-ghost use Rattle.face_rows.specs.Rows.{AreRowEdges, upward};
+ghost use Rattle.face_rows.specs.Rows.{AreRowEdges, CrossesRow, upward};
 ghost use Rattle.face_rows.specs.Sound.{AreSound};
-ghost use Rattle.face_labels.specs.RowSides.{IsLine};
+ghost use Rattle.face_labels.specs.RowSides.{IsLine, IsShared};
 ghost use Rattle.face_sweep.specs.declared.start.Start.{Start};
 ghost use Rattle.face_sweep.specs.Starts.{AreByRow, BeginsBy, IsStartOf};
 
 use crate::finds::{find_begun, find_sides};
-use face_rows::{Op, row_edges};
-use face_sweep::{End, Reach, Sides, Start, ends_above, gap_beside, insert_begun, without_ended};
+use crate::shared::Shared;
+use face_rows::{Op, crosses_row, row_edges};
+use face_sweep::{End, Known, Sides, Start, first_above, gap_beside, insert_begun, without_ended};
 use lay_point::NoMemory;
 use snap_chains::CleanEdges;
 use std::alloc::{AllocError, Global};
@@ -37,12 +37,9 @@ use std::alloc::{AllocError, Global};
 pub(crate) struct Line {
     pub row: i32,
     pub numbers: Vec<usize>,
-    /// By the numbers of the edges, the sides of those of this row and of earlier ones.
-    pub known: Vec<Option<Sides>>,
-    pub reach: Reach,
-    /// Where edges end, in order of the heights.
-    pub ends: Vec<End>,
-    /// Up to where in that list edges end below this row.
+    /// The sides of the edges of this row.
+    pub known: Known,
+    /// Up to where in the list of ends edges end below this row.
     pub passed: usize,
 }
 
@@ -52,23 +49,26 @@ impl Line {
     /// # Errors
     ///
     /// `NoMemory`, if an allocation fails.
-    pub fn new(alloc: Global, edges: &CleanEdges, row: i32) -> Result<Line, NoMemory>
+    pub fn new(
+        alloc: Global,
+        edges: &CleanEdges,
+        shared: &Shared,
+        row: i32,
+    ) -> Result<Line, NoMemory>
         requires lesser { AreLesserFirst edges.now.0 }
-        ensures line { IfOk result (IsLine edges.now) }
+        requires shared { IsShared edges.now shared.now }
+        ensures line { IfOk result (IsLine edges.now shared.now) }
         ensures row { IfOk result (λ line. line.row ≡ row) }
     {
         let numbers = row_edges(alloc, edges, row)?;
-        let mut known = no_sides(alloc, edges.edges().len())?;
-        let reach = Reach::of_edges(alloc, edges)?;
-        find_sides(alloc, edges, numbers.as_slice(), &mut known, &reach)?;
-        let ends = ends_above(alloc, edges.edges(), row)?;
+        let mut known = Known::new(alloc, edges.edges().len())?;
+        find_sides(alloc, edges, numbers.as_slice(), &mut known, &shared.reach)?;
+        let passed = first_above(shared.ends.as_slice(), 0, row);
         Ok(Line {
             row,
             numbers,
             known,
-            reach,
-            ends,
-            passed: 0,
+            passed,
         })
     }
 
@@ -82,23 +82,24 @@ impl Line {
         self,
         alloc: Global,
         edges: &CleanEdges,
+        shared: &Shared,
         row: i32,
         starts: &[Start],
     ) -> Result<Line, NoMemory>
-        requires line { IsLine edges.now self }
+        requires shared { IsShared edges.now shared.now }
+        requires line { IsLine edges.now shared.now self }
         requires later { self.row ≤ℤ row }
         requires starts { All (IsStartOf edges.now) starts.now }
         requires rows { AreByRow starts.now }
         requires behind { (s : Start) → Contains starts.now s → row ≤ℤ s.y }
         requires begun { (n : ℕ) → n < length edges.now.0 → self.row <ℤ (upward (edge_at edges.now n)).0.y
             → (upward (edge_at edges.now n)).0.y ≤ℤ row → BeginsBy starts.now row n }
-        ensures line { IfOk result (IsLine edges.now) }
+        ensures line { IfOk result (IsLine edges.now shared.now) }
         ensures row { IfOk result (λ line. line.row ≡ row) }
     {
         let mut numbers = self.numbers;
         let mut known = self.known;
-        let reach = self.reach;
-        let ends = self.ends;
+        let ends = shared.ends.as_slice();
         let from = self.row;
         let passed = move_on(
             alloc,
@@ -106,17 +107,17 @@ impl Line {
             &mut numbers,
             from,
             row,
-            &ends,
+            ends,
             self.passed,
             starts,
         )?;
-        find_begun(alloc, edges, &numbers, starts, row, &mut known, &reach)?;
+        forget_ended(edges, &mut known, ends, self.passed, passed, row);
+        let reach = &shared.reach;
+        find_begun(alloc, edges, &numbers, starts, row, &mut known, reach)?;
         Ok(Line {
             row,
             numbers,
             known,
-            reach,
-            ends,
             passed,
         })
     }
@@ -131,16 +132,18 @@ impl Line {
         &self,
         alloc: Global,
         edges: &CleanEdges,
+        shared: &Shared,
         number: usize,
         op: Op,
     ) -> Result<bool, AllocError>
-        requires line { IsLine edges.now self.now }
+        requires shared { IsShared edges.now shared.now }
+        requires line { IsLine edges.now shared.now self.now }
         requires given { number < length edges.now.0 }
         requires row { (upward (edge_at edges.now number)).0.y ≡ self.now.row }
         ensures { IfOk result (λ label.
             label ≡ differs (answer op) (owned_items edges.now) (owned_item_at edges.now number)) }
     {
-        if let Some(sides) = self.known[number].as_ref() {
+        if let Some(sides) = self.known.get(number) {
             return Ok(sides.differs(op));
         }
         let numbers = self.numbers.as_slice();
@@ -151,23 +154,34 @@ impl Line {
             numbers,
             gap,
             gap,
-            self.known.as_slice(),
-            &self.reach,
+            &self.known,
+            &shared.reach,
             number,
         )?;
         Ok(sides.differs(op))
     }
 }
 
-/// Returns a list of so many sides that aren't known.
-fn no_sides(alloc: Global, count: usize) -> Result<Vec<Option<Sides>>, AllocError>
-    ensures { IfOk result (λ known. known.items ≡ replicate count None) }
+/// Forgets the sides of the edges that end between these places of the ends, if they don't cross the row.
+fn forget_ended(
+    edges: &CleanEdges,
+    known: &mut Known,
+    ends: &[End],
+    from: usize,
+    to: usize,
+    row: i32,
+)
+    requires ends { All (IsEdgeEnd edges.now) ends.now }
+    requires known { AreKnown edges.now known.old }
+    ensures known { AreKnown edges.now known.new }
+    ensures kept { (n : ℕ) → CrossesRow edges.now.0 row n → IsKnown known.old n → IsKnown known.new n }
 {
-    let mut known = Vec::new(alloc);
-    for _ in 0..count {
-        known.push(None)?;
+    for index in from..to.min(ends.len()) {
+        let number = ends[index].number;
+        if !crosses_row(edges.edges()[number], row) {
+            known.forget(number);
+        }
     }
-    Ok(known)
 }
 
 /// Makes the edges of a row those of a later one: takes out those that end below it, and puts in those that

@@ -1,4 +1,5 @@
 pub mod Arms
+pub mod Borders
 pub mod EvenEnds
 pub mod Level
 pub mod Rows

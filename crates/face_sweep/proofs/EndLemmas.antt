@@ -1,6 +1,6 @@
 -- Edges that end: where they stand in a row, and the row without them.
 use Rattle.std.proofs.Common.{◌≡◌, ◌≢◌, inl, inr, ⊎_elim, ℕ, zero, suc, ◌+◌, ◌<◌, ◌≤◌, Bool, true, false, List, [], ◌∷◌}
-use Rattle.std.proofs.Common.{length, get_or, Contains, ℤ, ◌*ℤ◌, ◌≤ℤ◌, ◌<ℤ◌, sym, ap, subst, ◌∙◌, arith}
+use Rattle.std.proofs.Common.{length, get_or, Contains, ℤ, pos, ◌*ℤ◌, ◌≤ℤ◌, ◌<ℤ◌, refl, sym, ap, subst, ◌∙◌, arith}
 use Rattle.std.specs.Prelude.{All, int_lt}
 use Rattle.std.specs.Cmp.{IsTotalOrder, int_cmp_is}
 use Rattle.std.specs.List.{remove}
@@ -15,13 +15,12 @@ use Rattle.std.proofs.lemmas.List.{get_or_default}
 use Rattle.std.proofs.lemmas.List.Sorted.{All-permutation, Contains-permutation, ranks_by, sorted_far}
 use Rattle.lay_point.proofs.Signs.{below_or_not, linear}
 use Rattle.lay_point.proofs.Tests.{false_lt, true_lt}
-use Rattle.lay_point.specs.declared.point.Point.{Point}
 use Rattle.lay_point.specs.Rising.{IsRising}
 use Rattle.lay_point.proofs.Members.{Has, contains, has}
 use Rattle.lay_point.proofs.Rising.{IsStrictOrder, before_rest, rising_rest}
 use Rattle.snap_chains.specs.Rounded.{Owned}
 use Rattle.face_sweep.specs.declared.ends.End.{End}
-use Rattle.face_sweep.specs.Ends.{AreByHeight, AreEnds, EndsFrom, IsEdgeEnd, edge_end, ends_beyond}
+use Rattle.face_sweep.specs.Ends.{AreAllEnds, AreByHeight, AreEnds, EndsFrom, IsEdgeEnd, edge_end, edge_ends}
 use Rattle.face_rows.specs.Lines.{edge_at, nowhere}
 use Rattle.face_rows.specs.Rows.{AreSomeRowEdges, CrossesRow, IsLeftOf, crosses_row, crossing, is_left_in_row, rise, upward}
 use Rattle.face_rows.specs.Sound.{AreSound}
@@ -260,23 +259,22 @@ by_height ends sorted i j d le less = ⊎_elim
     (λ (not_below : (get_or ends i d).y ≤ℤ (get_or ends j d).y). not_below)
     (below_or_not (get_or ends j d).y (get_or ends i d).y)
 
--- those of all edges that end above the row, in order
-pub ends_in_order : (r : Owned) (row : ℤ) (ends : List End) → IsPermutation (ends_beyond row r.0) ends → AreByHeight ends
-    → AreEnds r row ends 0
-ends_in_order r row ends moved order = record {
-  own = All-permutation (IsEdgeEnd r) (ends_beyond row r.0) ends moved (all_has (IsEdgeEnd r) (ends_beyond row r.0) (λ e m.
-      let p = picked_of test edge_end 0 r.0 e m in
+-- those of all edges
+pub all_ends : (r : Owned) (ends : List End) → IsPermutation (edge_ends r.0) ends → AreByHeight ends → AreAllEnds r ends
+all_ends r ends moved order = record {
+  own = All-permutation (IsEdgeEnd r) (edge_ends r.0) ends moved (all_has (IsEdgeEnd r) (edge_ends r.0) (λ e m.
+      let p = picked_of (λ f. true) edge_end 0 r.0 e m in
       let zero_more : 0 + p.index ≡ p.index = omega arith in
       subst (IsEdgeEnd r) (p.is nowhere) (record {
         given = subst (λ k. k < length r.0) (sym zero_more) p.inside;
         height = ap (λ k. (upward (edge_at r k)).1.y) zero_more;
       })));
   order = order;
-  ahead = λ n inside high.
+  all = λ n inside.
       let zero_more : 0 + n ≡ n = omega arith in
       let e : End = edge_end (0 + n) (edge_at r n) in
-      let here = picked_has test edge_end 0 r.0 n nowhere inside (true_lt row (upward (edge_at r n)).1.y high) in
-      let m = Contains-permutation (ends_beyond row r.0) ends e moved (contains (ends_beyond row r.0) e here) in
+      let here = picked_has (λ f. true) edge_end 0 r.0 n nowhere inside refl in
+      let m = Contains-permutation (edge_ends r.0) ends e moved (contains (edge_ends r.0) e here) in
       record {
         index = m.0;
         behind = omega arith;
@@ -284,6 +282,25 @@ ends_in_order r row ends moved order = record {
         is = λ d. ap (λ (z : End). z.number) (get_or_default ends m.0 d e m.1 ∙ m.2) ∙ zero_more;
       };
 }
+
+-- where those up to a place are below the row, those above it are from the place on
+pub ends_at : (r : Owned) (row : ℤ) (ends : List End) (passed : ℕ) → AreAllEnds r ends
+    → ((k : ℕ) (d : End) → k < passed → k < length ends → (get_or ends k d).y ≤ℤ row) → AreEnds r row ends passed
+ends_at r row ends passed h low = record {
+  own = h.own;
+  order = h.order;
+  ahead = λ n given high.
+      let f = h.all n given in
+      ⊎_elim
+      (λ (less : f.index < passed).
+      let own = h.own f.index origin f.inside in
+      let here : (upward (edge_at r n)).1.y ≡ (get_or ends f.index origin).y =
+      ap (λ k. (upward (edge_at r k)).1.y) (sym (f.is origin)) ∙ own.height in
+      let le = low f.index origin less f.inside in
+      absurd (omega (arith, linear, here, le, high)))
+      (λ (ge : passed ≤ f.index). record { index = f.index; behind = ge; inside = f.inside; is = f.is })
+      (cases_lt f.index passed);
+}
   where
-    test : Point × Point → Bool
-    test = λ e. int_lt row (upward e).1.y
+    origin : End
+    origin = record { y = pos 0; number = 0 }

@@ -1,6 +1,6 @@
 -- The edges of a row that cross a later one, and the ends below it.
 use Rattle.std.proofs.Common.{◌≡◌, inl, inr, refl, cond, ℕ, ◌<◌, ◌≤◌, Bool, true, false, List, [], ◌∷◌, length, get_or, Contains}
-use Rattle.std.proofs.Common.{ℤ, ◌≤ℤ◌, sym, ap, subst, ◌∙◌, arith}
+use Rattle.std.proofs.Common.{ℤ, ◌≤ℤ◌, ap, subst, ◌∙◌}
 use Rattle.std.specs.Prelude.{filter}
 use Rattle.std.proofs.lemmas.List.{get_or_default}
 use Rattle.lay_point.specs.Rising.{IsRising}

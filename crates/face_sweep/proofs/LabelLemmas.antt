@@ -1,6 +1,6 @@
 -- An edge's label, from the shapes that hold on its sides; and those of all edges of a row.
-use Rattle.std.proofs.Common.{◌≡◌, ◌⊎◌, inl, inr, ℕ, zero, suc, ◌<◌, ◌≤◌, Bool, true, false, ◌&&◌, ◌||◌, List, [], ◌∷◌}
-use Rattle.std.proofs.Common.{◌+◌, ℤ, pos, ◌+ℤ◌, ◌<ℤ◌, length, get_or, drop, refl, sym, subst, ◌∙◌, ⊎_elim, arith}
+use Rattle.std.proofs.Common.{◌≡◌, inl, inr, ℕ, zero, suc, ◌<◌, ◌≤◌, Bool, true, false, ◌&&◌, List, [], ◌∷◌}
+use Rattle.std.proofs.Common.{◌+◌, ℤ, pos, ◌+ℤ◌, ◌<ℤ◌, length, get_or, drop, refl, sym, subst, ◌∙◌, arith}
 use Rattle.std.specs.Prelude.{int_lt}
 use Rattle.std.proofs.lemmas.Int.{ints}
 use Rattle.std.proofs.lemmas.List.{get_or_default}
@@ -8,15 +8,11 @@ use Rattle.lay_point.proofs.Signs.{linear}
 use Rattle.face_side_laws.proofs.Rows.{row_distance, row_inside, row_k, row_place, row_x, row_y}
 use Rattle.std.specs.List.{zip}
 use Rattle.lay_point.specs.declared.point.Point.{Point}
-use Rattle.lay_point.specs.Edges.{IsEdgeBefore}
 use Rattle.lay_point.specs.Parity.{xor, parity, distance_right, is_crossed}
-use Rattle.lay_point.specs.Rising.{IsRising}
-use Rattle.lay_point.proofs.Members.{Has, contains, has, has-append_left, has-append_right}
+use Rattle.lay_point.proofs.Members.{Has, contains, has-append_left, has-append_right}
 use Rattle.snap_chains.specs.declared.owner.Owner.{Owner}
-use Rattle.snap_chains.specs.Owners.{IsOwnerBefore, owner_eq}
-use Rattle.snap_chains.specs.Rounded.{AreClean, AreEven, Owned, is_owner_listed}
-use Rattle.face_rows.specs.Labels.{Item, answer_on, differs, listed_shapes, odd_of, owned_items}
-use Rattle.face_rows.specs.Laws.{AreLesserFirst}
+use Rattle.snap_chains.specs.Rounded.{Owned, is_owner_listed}
+use Rattle.face_rows.specs.Labels.{Item, differs, listed_shapes, owned_items}
 use Rattle.face_rows.specs.declared.op.Op.{Op}
 use Rattle.face_sweep.specs.declared.sides.Sides.{Sides}
 use Rattle.face_rows.specs.Beside.{weight}

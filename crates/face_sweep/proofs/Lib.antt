@@ -1,7 +1,9 @@
+pub mod BoxLemmas
 pub mod CountLemmas
 pub mod EndLemmas
 pub mod EndedLemmas
 pub mod KeptLemmas
+pub mod KnownLemmas
 pub mod LabelLemmas
 pub mod OrderLemmas
 pub mod ReachLemmas

@@ -1,27 +1,28 @@
 -- Sides of edges that are known, and what those of a row tell about a gap in it.
-use Rattle.std.proofs.Common.{◌≡◌, ◌⊎◌, inl, inr, ⊎_elim, ℕ, zero, suc, ◌+◌, ◌-◌, ◌<◌, ◌≤◌, Bool, true, false, not, List, [], ◌∷◌}
-use Rattle.std.proofs.Common.{None, Option, Some, Contains, length, get_or, drop, set, replicate, add-one, refl, sym, ap, subst, ◌∙◌, arith}
+use Rattle.std.proofs.Common.{◌≡◌, ◌≢◌, ◌⊎◌, inl, inr, ⊎_elim, ℕ, zero, suc, ◌+◌, ◌-◌, ◌<◌, ◌≤◌, Bool, true, false, not, List, ◌∷◌}
+use Rattle.std.proofs.Common.{None, Option, Some, Contains, length, get_or, drop, add-one, refl, sym, ap, subst, ◌∙◌, arith}
 use Rattle.std.specs.Prelude.{All, nat_eq, nat_lt}
 use Rattle.std.specs.Bool.{beq}
 use Rattle.std.specs.List.Sorted.{IsNonDecreasing}
 use Rattle.std.specs.Option.{is_some}
 use Rattle.std.proofs.Math.Seq.{drop-cons}
-use Rattle.std.proofs.Math.ListN.{length-set}
 use Rattle.std.proofs.lemmas.Bool.Decides.{Decides-eqb, nat_tests}
 use Rattle.std.proofs.lemmas.Bool.{cases_lt}
-use Rattle.std.proofs.lemmas.List.{get_or-drop, get_or-set_other, get_or-set_same, get_or_default, length-drop}
+use Rattle.std.proofs.lemmas.List.{get_or-drop, get_or_default, length-drop}
 use Rattle.lay_point.specs.Parity.{xor}
 use Rattle.lay_point.proofs.Parity.{parity_none}
 use Rattle.snap_chains.specs.declared.owner.Owner.{Owner}
 use Rattle.snap_chains.specs.Rounded.{Owned, is_owner_listed}
 use Rattle.face_sweep.specs.declared.counts.Counts.{Counts}
+use Rattle.face_sweep.specs.declared.known.Known.{Known}
 use Rattle.face_sweep.specs.declared.sides.Sides.{Sides}
 use Rattle.face_sweep.specs.declared.sides.Told.{Told}
 use Rattle.face_sweep.specs.declared.sides.Told.TheVariants.{Inside, Nothing, Unknown}
 use Rattle.face_sweep.specs.Counts.{AreCounts}
 use Rattle.face_rows.specs.Lines.{owners_at}
 use Rattle.face_rows.proofs.JudgeLemmas.{has_drop}
-use Rattle.face_sweep.specs.Sides.{AreBehind, AreKnown, AreSidesOf, IsKnown, IsTold, StandsAt, holds_beside, is_odd_in, sides_at}
+use Rattle.face_sweep.specs.Sides.{AreBehind, AreKnown, AreSidesOf, HasChangedAt, IsKnown, IsTold, StandsAt}
+use Rattle.face_sweep.specs.Sides.{holds_beside, is_odd_in, known_count, sides_at}
 
 pub counts_agree : (c : Counts) (f g : Owner → Bool) → ((o : Owner) → f o ≡ g o) → AreCounts c f → AreCounts c g
 counts_agree c f g same h = coe 0 1 (i. AreCounts c (λ o. same o i)) h
@@ -47,7 +48,7 @@ pub odd_left : (r : Owned) (numbers : List ℕ) (gap : ℕ) (o : Owner) → AreB
 odd_left r numbers gap o h less =
     odd_split r numbers gap o less ∙ ap (xor (is_owner_listed o (owners_at r (get_or numbers gap 0)))) (h gap less o)
 
-pub first_left : (r : Owned) (numbers : List ℕ) (known : List (Option Sides)) (m : ℕ) (sides : Sides) → AreBehind r numbers
+pub first_left : (r : Owned) (numbers : List ℕ) (known : Known) (m : ℕ) (sides : Sides) → AreBehind r numbers
     → AreKnown r known → 0 < length numbers → get_or numbers 0 0 ≡ m → sides_at known m ≡ Some sides
     → AreCounts sides.left (is_odd_in r numbers)
 first_left r numbers known m sides behind h less at is =
@@ -59,70 +60,64 @@ first_left r numbers known m sides behind h less at is =
 none_some : (x : Sides) → None ≡ Some x → ⊥
 none_some x e = absurd cc
 
-pub known_not_none : (known : List (Option Sides)) (m : ℕ) → IsKnown known m → sides_at known m ≡ None → ⊥
+pub known_not_none : (known : Known) (m : ℕ) → IsKnown known m → sides_at known m ≡ None → ⊥
 known_not_none known m h e = none_some h.0 (sym e ∙ h.1)
 
--- at a number that isn't there, there are none
-pub known_inside : (known : List (Option Sides)) (m : ℕ) (sides : Sides) → sides_at known m ≡ Some sides → m < length known
-known_inside [] m sides e = absurd (none_some sides e)
-known_inside (k ∷ ks) zero sides e = omega arith
-known_inside (k ∷ ks) (suc m) sides e = let less = known_inside ks m sides e in omega arith
-
-none_at : (n m : ℕ) → sides_at (replicate n None) m ≡ None
-none_at zero m = refl
-none_at (suc n) zero = refl
-none_at (suc n) (suc m) = none_at n m
-
-pub none_known : (r : Owned) (n : ℕ) (known : List (Option Sides)) → known ≡ replicate n None → length known ≡ length r.0
-    → AreKnown r known
-none_known r n known e count = record {
+pub none_known : (r : Owned) (known : Known) → known_count known ≡ length r.0 → ((n : ℕ) → sides_at known n ≡ None) → AreKnown r known
+none_known r known count none = record {
   count = count;
-  sides = λ m sides is. absurd (none_some sides (sym (none_at n m) ∙ sym (ap (λ l. sides_at l m) e) ∙ is));
+  sides = λ m sides is. absurd (none_some sides (sym (none m) ∙ is));
 }
 
 some_same : (x y : Sides) → Some x ≡ Some y → x ≡ y
 some_same x y e = cc
 
-pub known_more : (r : Owned) (known : List (Option Sides)) (n : ℕ) (sides : Sides) → n < length known
-    → AreSidesOf (owners_at r n) (holds_beside r n) sides → AreKnown r known → AreKnown r (set known n (Some sides))
-known_more r known n sides less is h = record {
-  count = length-set known n (Some sides) ∙ h.count;
-  sides = λ m other found. by_number m other found (nat_eq n m) refl;
+pub known_more : (r : Owned) (old new : Known) (n : ℕ) (sides : Sides) → HasChangedAt old new n (Some sides)
+    → AreSidesOf (owners_at r n) (holds_beside r n) sides → AreKnown r old → AreKnown r new
+known_more r old new n sides put is h = record {
+  count = put.count ∙ h.count;
+  sides = λ m other found. by_number m other found (nat_eq m n) refl;
 }
   where
-    by_number : (m : ℕ) (other : Sides) → sides_at (set known n (Some sides)) m ≡ Some other → (b : Bool) → nat_eq n m ≡ b
+    by_number : (m : ℕ) (other : Sides) → sides_at new m ≡ Some other → (b : Bool) → nat_eq m n ≡ b
         → AreSidesOf (owners_at r m) (holds_beside r m) other
     by_number m other found true t =
-        let same = (Decides-eqb n m).0 t in
-        let here : sides ≡ other = some_same sides other (sym (get_or-set_same known n (Some sides) None less)
-        ∙ subst (λ k. sides_at (set known n (Some sides)) k ≡ Some other) (sym same) found) in
+        let same : n ≡ m = sym ((Decides-eqb m n).0 t) in
+        let here : sides ≡ other = some_same sides other (sym put.here ∙ subst (λ k. sides_at new k ≡ Some other) (sym same) found) in
         subst (λ k. AreSidesOf (owners_at r k) (holds_beside r k) other) same
         (subst (AreSidesOf (owners_at r n) (holds_beside r n)) here is)
-    by_number m other found false t =
-        h.sides m other (sym (get_or-set_other known n m (Some sides) None (λ same. let t' = (Decides-eqb n m).1 (sym same) in absurd cc))
-        ∙ found)
+    by_number m other found false t = h.sides m other (sym (put.others m (λ same. let t' = (Decides-eqb m n).1 same in absurd cc)) ∙ found)
 
 -- what is known stays so
-pub still_known : (known : List (Option Sides)) (n m : ℕ) (sides : Sides) → n < length known → IsKnown known m
-    → IsKnown (set known n (Some sides)) m
-still_known known n m sides less h = by_number (nat_eq n m) refl
+pub still_known : (old new : Known) (n m : ℕ) (sides : Sides) → HasChangedAt old new n (Some sides) → IsKnown old m → IsKnown new m
+still_known old new n m sides put h = by_number (nat_eq m n) refl
   where
-    by_number : (b : Bool) → nat_eq n m ≡ b → IsKnown (set known n (Some sides)) m
-    by_number true t =
-        let same = (Decides-eqb n m).0 t in
-        (sides, subst (λ k. sides_at (set known n (Some sides)) k ≡ Some sides) same (get_or-set_same known n (Some sides) None less))
-    by_number false t =
-        (h.0, get_or-set_other known n m (Some sides) None (λ same. let t' = (Decides-eqb n m).1 (sym same) in absurd cc) ∙ h.1)
+    by_number : (b : Bool) → nat_eq m n ≡ b → IsKnown new m
+    by_number true t = (sides, ap (sides_at new) ((Decides-eqb m n).0 t) ∙ put.here)
+    by_number false t = (h.0, put.others m (λ same. let t' = (Decides-eqb m n).1 same in absurd cc) ∙ h.1)
 
-pub now_known : (known : List (Option Sides)) (n : ℕ) (sides : Sides) → n < length known → IsKnown (set known n (Some sides)) n
-now_known known n sides less = (sides, get_or-set_same known n (Some sides) None less)
+-- what is forgotten is the edge of one number alone
+pub known_less : (r : Owned) (old new : Known) (n : ℕ) → HasChangedAt old new n None → AreKnown r old → AreKnown r new
+known_less r old new n put h = record {
+  count = put.count ∙ h.count;
+  sides = λ m other found. by_number m other found (nat_eq m n) refl;
+}
+  where
+    by_number : (m : ℕ) (other : Sides) → sides_at new m ≡ Some other → (b : Bool) → nat_eq m n ≡ b
+        → AreSidesOf (owners_at r m) (holds_beside r m) other
+    by_number m other found true t =
+        absurd (none_some other (sym put.here ∙ subst (λ k. sides_at new k ≡ Some other) ((Decides-eqb m n).0 t) found))
+    by_number m other found false t = h.sides m other (sym (put.others m (λ same. let t' = (Decides-eqb m n).1 same in absurd cc)) ∙ found)
+
+pub kept_less : (old new : Known) (n m : ℕ) → HasChangedAt old new m None → n ≢ m → IsKnown old n → IsKnown new n
+kept_less old new n m put apart h = (h.0, put.others n apart ∙ h.1)
 
 some_known : (x : Option Sides) → is_some x ≡ true → (sides : Sides) × (x ≡ Some sides)
 some_known None e = absurd cc
 some_known (Some sides) e = (sides, refl)
 
-pub known_by_test : (known : List (Option Sides)) (n : ℕ) (x : Option Sides) → x ≡ sides_at known n → is_some x ≡ true → IsKnown known n
-known_by_test known n x is e = let s = some_known x e in (s.0, sym is ∙ s.1)
+pub known_by_test : (known : Known) (n : ℕ) → is_some (sides_at known n) ≡ true → IsKnown known n
+known_by_test known n is = some_known (sides_at known n) is
 
 -- ---- all from an index on
 all_cons : (P : ℕ → Type 0) (x : ℕ) (xs : List ℕ) → P x → All P xs → All P (x ∷ xs)
@@ -138,7 +133,7 @@ all_before P numbers i more bound first rest =
 
 -- ---- what edges tell
 -- of an edge right of the place, whose sides are known, nothing is known only where it doesn't list the owner
-pub not_told_right : (r : Owned) (known : List (Option Sides)) (n : ℕ) (o : Owner) (told : Told) → IsKnown known n
+pub not_told_right : (r : Owned) (known : Known) (n : ℕ) (o : Owner) (told : Told) → IsKnown known n
     → IsTold r known n o told → ((b : Bool) → told ≡ Inside b → ⊥) → is_owner_listed o (owners_at r n) ≡ false
 not_told_right r known n o Nothing own is other = is
 not_told_right r known n o Unknown own is other = absurd (known_not_none known n own is.1)
@@ -199,11 +194,11 @@ none_behind r numbers index o none = parity_none (λ m. is_owner_listed o (owner
 
 -- ---- the edges of a row at some places
 -- those that don't stand at one of the first i places are known
-abbrev pub AreOthersKnown : List ℕ → List ℕ → ℕ → List (Option Sides) → Type 0
+abbrev pub AreOthersKnown : List ℕ → List ℕ → ℕ → Known → Type 0
 AreOthersKnown numbers places i known = (k : ℕ) → k < length numbers
     → ((m : ℕ) × (m < i) × (get_or places m 0 ≡ k)) ⊎ IsKnown known (get_or numbers k 0)
 
-pub all_left : (numbers places : List ℕ) (known : List (Option Sides))
+pub all_left : (numbers places : List ℕ) (known : Known)
     → ((k : ℕ) → k < length numbers → Contains places k ⊎ IsKnown known (get_or numbers k 0))
     → AreOthersKnown numbers places (length places) known
 all_left numbers places known h k less = ⊎_elim
@@ -212,7 +207,7 @@ all_left numbers places known h k less = ⊎_elim
     (h k less)
 
 -- as the places are in order, those behind the last of them are known
-pub behind_places : (numbers places : List ℕ) (i : ℕ) (known : List (Option Sides)) → IsNonDecreasing places → 0 < i → i ≤ length places
+pub behind_places : (numbers places : List ℕ) (i : ℕ) (known : Known) → IsNonDecreasing places → 0 < i → i ≤ length places
     → AreOthersKnown numbers places i known → All (IsKnown known) (drop (get_or places (i - 1) 0 + 1) numbers)
 behind_places numbers places i known order some bound h k d less =
     let p = get_or places (i - 1) 0 in
@@ -228,7 +223,7 @@ behind_places numbers places i known order some bound h k d less =
     (λ (own : IsKnown known (get_or numbers ((p + 1) + k) 0)). own)
     (h ((p + 1) + k) inside))
 
-pub one_fewer : (numbers places : List ℕ) (i : ℕ) (known new : List (Option Sides)) → 0 < i → AreOthersKnown numbers places i known
+pub one_fewer : (numbers places : List ℕ) (i : ℕ) (known new : Known) → 0 < i → AreOthersKnown numbers places i known
     → ((n : ℕ) → IsKnown known n → IsKnown new n) → IsKnown new (get_or numbers (get_or places (i - 1) 0) 0)
     → AreOthersKnown numbers places (i - 1) new
 one_fewer numbers places i known new some h kept here k less = ⊎_elim
@@ -244,7 +239,7 @@ one_fewer numbers places i known new some h kept here k less = ⊎_elim
         let same : i - 1 ≡ place.0 = omega (arith, lt, ge, some) in
         inr (subst (λ j. IsKnown new (get_or numbers j 0)) (ap (λ m. get_or places m 0) same ∙ place.2) here)
 
-pub none_left : (numbers places : List ℕ) (known : List (Option Sides)) → AreOthersKnown numbers places 0 known
+pub none_left : (numbers places : List ℕ) (known : Known) → AreOthersKnown numbers places 0 known
     → All (IsKnown known) numbers
 none_left numbers places known h k d less = ⊎_elim
     (λ (place : (m : ℕ) × (m < 0) × (get_or places m 0 ≡ k)). let lt = place.1 in absurd (omega (arith, lt)))

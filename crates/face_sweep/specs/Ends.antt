@@ -1,5 +1,5 @@
 -- Where edges end.
-use Rattle.std.specs.Prelude.{◌≡◌, ℕ, ◌<◌, ◌≤◌, ℤ, ◌≤ℤ◌, ◌<ℤ◌, int_lt, All, List, length, slice_index_or}
+use Rattle.std.specs.Prelude.{◌≡◌, ℕ, ◌<◌, ◌≤◌, ℤ, ◌≤ℤ◌, ◌<ℤ◌, true, All, List, length, slice_index_or}
 use Rattle.lay_point.specs.declared.point.Point.{Point}
 use Rattle.snap_chains.specs.Rounded.{Owned}
 use Rattle.face_sweep.specs.declared.ends.End.{End}
@@ -11,9 +11,9 @@ use Rattle.face_rows.specs.Rows.{upward}
 abbrev pub edge_end : ℕ → Point × Point → End
 edge_end n e = record { y = (upward e).1.y; number = n }
 
--- where those of the edges end that do so above the row
-abbrev pub ends_beyond : ℤ → List (Point × Point) → List End
-ends_beyond row edges = picked (λ e. int_lt row (upward e).1.y) edge_end 0 edges
+-- where the edges end
+abbrev pub edge_ends : List (Point × Point) → List End
+edge_ends edges = picked (λ e. true) edge_end 0 edges
 
 -- the end is that of the edge of its number
 pub record IsEdgeEnd (r : Owned) (e : End) : Type 0 where
@@ -30,6 +30,12 @@ pub record EndsFrom (ends : List End) (place n : ℕ) : Type 0 where
   pub behind : place ≤ index
   pub inside : index < length ends
   pub is : (d : End) → (slice_index_or ends index d).number ≡ n
+
+-- the ends of all edges, in order
+pub record AreAllEnds (r : Owned) (ends : List End) : Type 0 where
+  pub own : All (IsEdgeEnd r) ends
+  pub order : AreByHeight ends
+  pub all : (n : ℕ) → n < length r.0 → EndsFrom ends 0 n
 
 -- ends in order, where those of all edges that end above the row are from this place on
 pub record AreEnds (r : Owned) (row : ℤ) (ends : List End) (place : ℕ) : Type 0 where

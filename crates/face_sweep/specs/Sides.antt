@@ -1,16 +1,19 @@
 -- The shapes that hold on the two sides of an edge.
 use Rattle.std.specs.Prelude.{
   ◌≡◌,
+  ◌≢◌,
   ◌⊎◌,
   ℕ,
   ◌+◌,
   ◌<◌,
   ◌≤◌,
+  ◌==◌,
   true,
   false,
   pos,
   ◌+ℤ◌,
   Bool,
+  if◌then◌else◌,
   Contains,
   IsTrue,
   List,
@@ -20,14 +23,17 @@ use Rattle.std.specs.Prelude.{
   drop,
   length,
   map,
+  slice_get,
   slice_index,
-  slice_index_or,
 }
 use Rattle.lay_point.specs.Parity.{xor, parity}
 use Rattle.snap_chains.specs.declared.owner.Owner.{Owner}
 use Rattle.snap_chains.specs.Rounded.{Owned, is_owner_listed}
 use Rattle.face_rows.specs.Labels.{answer_on, odd_of, owned_items}
 use Rattle.face_rows.specs.declared.op.Op.{Op}
+use Rattle.slab.specs.Slab.{Slab, get}
+use Rattle.face_sweep.specs.declared.known.Kept.{Kept}
+use Rattle.face_sweep.specs.declared.known.Known.{Known}
 use Rattle.face_sweep.specs.declared.sides.Sides.{Sides}
 use Rattle.face_sweep.specs.declared.sides.Told.{Told}
 use Rattle.face_sweep.specs.declared.sides.Told.TheVariants.{Inside, Nothing, Unknown}
@@ -62,19 +68,39 @@ IsDifference op sides result = (holds : Owner → Bool) (owners shapes : List Ow
     → ((o : Owner) → IsTrue (is_owner_listed o owners) → Contains shapes o)
     → result ≡ xor (answer_on (answer op) shapes holds) (answer_on (answer op) shapes (λ o. xor (is_owner_listed o owners) (holds o)))
 
-abbrev pub sides_at : List (Option Sides) → ℕ → Option Sides
-sides_at known n = slice_index_or known n None
+-- the sides, if they are of the edge of this number
+abbrev pub sides_if : ℕ → Option Kept → Option Sides
+sides_if n None = None
+sides_if n (Some kept) = if kept.number == n then Some kept.sides else None
+
+-- what is kept under a key of the edge of this number
+abbrev pub sides_under : Slab Kept → ℕ → Option ℕ → Option Sides
+sides_under kept n None = None
+sides_under kept n (Some key) = sides_if n (get kept key)
+
+abbrev pub sides_at : Known → ℕ → Option Sides
+sides_at known n = sides_under known.kept n (slice_get known.keys.items n)
+
+-- for how many edges there is room
+abbrev pub known_count : Known → ℕ
+known_count known = length known.keys.items
+
+-- the edge of this number has these sides now, or none; of no other edge it is different
+pub record HasChangedAt (old new : Known) (n : ℕ) (sides : Option Sides) : Type 0 where
+  pub count : known_count new ≡ known_count old
+  pub here : sides_at new n ≡ sides
+  pub others : (m : ℕ) → m ≢ n → sides_at new m ≡ sides_at old m
 
 -- those that are known are those of the edges of their numbers
-pub record AreKnown (r : Owned) (known : List (Option Sides)) : Type 0 where
-  pub count : length known ≡ length r.0
+pub record AreKnown (r : Owned) (known : Known) : Type 0 where
+  pub count : known_count known ≡ length r.0
   pub sides : (n : ℕ) (sides : Sides) → sides_at known n ≡ Some sides → AreSidesOf (owners_at r n) (holds_beside r n) sides
 
-abbrev pub IsKnown : List (Option Sides) → ℕ → Type 0
+abbrev pub IsKnown : Known → ℕ → Type 0
 IsKnown known n = (sides : Sides) × (sides_at known n ≡ Some sides)
 
 -- what is reported is whether the owner lists the edge of this number and, if so and if its sides are known, whether it holds beside it
-abbrev pub IsTold : Owned → List (Option Sides) → ℕ → Owner → Told → Type 0
+abbrev pub IsTold : Owned → Known → ℕ → Owner → Told → Type 0
 IsTold r known n o Nothing = is_owner_listed o (owners_at r n) ≡ false
 IsTold r known n o Unknown = (is_owner_listed o (owners_at r n) ≡ true) × (sides_at known n ≡ None)
 IsTold r known n o (Inside inside) = (is_owner_listed o (owners_at r n) ≡ true) × (inside ≡ holds_beside r n o)

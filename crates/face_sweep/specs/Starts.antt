@@ -1,5 +1,5 @@
 -- Where the edges of a band begin.
-use Rattle.std.specs.Prelude.{◌≡◌, ◌⊎◌, ℕ, ◌<◌, ◌≤◌, ◌≤ℤ◌, ℤ, Bool, false, List, length, slice_index_or, Contains}
+use Rattle.std.specs.Prelude.{◌≡◌, ℕ, ◌<◌, ◌≤◌, ◌≤ℤ◌, ℤ, Bool, false, List, length, slice_index_or, Contains}
 use Rattle.lay_point.specs.declared.point.Point.{Point}
 use Rattle.snap_chains.specs.Rounded.{Owned}
 use Rattle.face_rows.specs.Labels.{differs, owned_items}

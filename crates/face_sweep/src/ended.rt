@@ -65,7 +65,11 @@ pub fn without_ended(
 }
 
 /// Returns the index of the first end from this one on that is above the row, or the number of ends.
-fn first_above(ends: &[End], from: usize, row: i32) -> usize
+///
+/// # Cost
+///
+/// A pass over the ends before it.
+pub fn first_above(ends: &[End], from: usize, row: i32) -> usize
     ensures { (k : ℕ) (d : AnyEnd) → from ≤ k → k < result → k < length ends.now
         → (slice_index_or ends.now k d).y ≤ℤ row }
 {

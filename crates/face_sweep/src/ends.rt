@@ -14,7 +14,7 @@ ghost use Rattle.std.specs.Prelude.{
   true,
 };
 ghost use Rattle.std.specs.List.Sorted.{IsPermutation};
-ghost use Rattle.face_sweep.specs.Ends.{AreByHeight, AreEnds, edge_end, ends_beyond};
+ghost use Rattle.face_sweep.specs.Ends.{AreByHeight, AreEnds, edge_end, edge_ends};
 ghost use Rattle.face_rows.specs.Lines.{edge_at};
 ghost use Rattle.face_rows.specs.Rows.{AreSomeRowEdges, CrossesRow, crossing, is_left_in_row, rise};
 ghost use Rattle.face_rows.specs.Sound.{AreSound};
@@ -50,7 +50,7 @@ impl End {
     }
 }
 
-/// Returns where the edges end that do so above the row, in order.
+/// Returns where the edges end, in order.
 ///
 /// # Errors
 ///
@@ -58,17 +58,14 @@ impl End {
 ///
 /// # Cost
 ///
-/// A sort of the edges that end above.
-pub fn ends_above(alloc: Global, edges: &[Edge], row: i32) -> Result<Vec<End>, AllocError>
-    ensures ends { IfOk result (λ ends. IsPermutation (ends_beyond row edges.now) ends.items) }
+/// A sort of the edges' ends.
+pub fn ends_of(alloc: Global, edges: &[Edge]) -> Result<Vec<End>, AllocError>
+    ensures ends { IfOk result (λ ends. IsPermutation (edge_ends edges.now) ends.items) }
     ensures order { IfOk result (λ ends. AreByHeight ends.items) }
 {
-    let mut ends = Vec::new(alloc);
+    let mut ends = Vec::with_capacity(alloc, edges.len())?;
     for number in 0..edges.len() {
-        let end = End::new(edges[number], number);
-        if end.is_above(row) {
-            ends.push(end)?;
-        }
+        ends.push(End::new(edges[number], number))?;
     }
     ends.sort_unstable();
     Ok(ends)

@@ -19,32 +19,39 @@
 //!   (`specs/Sides.antt`). They are counted from the edges to the right in the edge's row, from
 //!   near to far: right of an edge holds what holds left of the next, and the first edge that an
 //!   owner owns decides for it.
-//! - [`Reach`] is the greatest x of each shape's edges, beyond which no edge of it is sought
-//!   (`specs/Reaches.antt`).
+//! - [`Known`] keeps the sides of the edges of a row. It is as long as there are edges, but of most
+//!   edges has a key alone.
+//! - [`Reach`] is the box round each shape's edges (`specs/Reaches.antt`). Of an edge on its border
+//!   the box tells at once whether the shape holds beside it: right of a left side and above a
+//!   bottom it does, right of a right side and above a top it doesn't. Right of the box no edge of
+//!   the shape is sought.
 //!
 //! # What callers must keep
 //!
 //! No type keeps what a row is: each call requires it. Of the clauses of [`Sides::of`],
-//! `EndAtReach` says that after an edge beyond a shape's reach none is of the shape, and `AreKnown`
-//! that the sides that are kept are those of their edges.
+//! `IsReachIn` says that the boxes are those of the edges, and that after an edge right of a shape's
+//! box none is of the shape, and `AreKnown` that the sides that are kept are those of their edges.
 //!
 //! # Files
 //!
 //! - `start.rt`, `moves.rt`: edges that begin, and how they are inserted.
 //! - `ends.rt`, `ended.rt`: edges that end, and how they are removed.
-//! - `sides.rt`, `counts.rt`, `reach.rt`: what holds beside an edge.
+//! - `sides.rt`, `counts.rt`, `known.rt`, `reach.rt`, `extent.rt`: what holds beside an edge.
 #![tactic(auto)]
 
 mod counts;
 mod ended;
 mod ends;
+mod extent;
+mod known;
 mod moves;
 mod reach;
 mod sides;
 mod start;
 
-pub use ended::without_ended;
-pub use ends::{End, ends_above, place_of};
+pub use ended::{first_above, without_ended};
+pub use ends::{End, ends_of, place_of};
+pub use known::Known;
 pub use moves::{gap_beside, insert_begun};
 pub use reach::Reach;
 pub use sides::Sides;

@@ -1,19 +1,21 @@
-//! How far to the right the edges of each shape reach.
-ghost use Rattle.std.specs.Prelude.{◌≡◌, ◌<ℤ◌, ◌≤ℤ◌, ℤ, IfOk, Some, false, length, slice_get, true};
+//! How far the edges of each shape reach.
+ghost use Rattle.std.specs.Prelude.{◌≡◌, IfOk, Some, slice_get, true};
 ghost use Rattle.snap_chains.specs.declared.owner.Owner.{Owner};
 ghost use Rattle.snap_chains.specs.Rounded.{is_owner_listed};
-ghost use Rattle.face_sweep.specs.Reaches.{HaveGrown, IsReach, is_beyond, reach_of};
+ghost use Rattle.face_sweep.specs.declared.extent.Extent.{Extent};
+ghost use Rattle.face_sweep.specs.Reaches.{IsEdgeIn, HaveGrown, IsReach, extent_of};
 
+use crate::extent::Extent;
 use lay_point::Edge;
 use snap_chains::{CleanEdges, Input, Owner};
 use std::alloc::{AllocError, Global};
 
-/// For each shape of each input, by its number, the greatest x of its edges. Shapes of greater numbers than
-/// there are edges have none.
+/// For each shape of each input, by its number, the box round its edges. Shapes of greater numbers than there
+/// are edges have none.
 #[derive(Debug, Drop)]
 pub struct Reach {
-    pub(crate) first: Vec<i32>,
-    pub(crate) second: Vec<i32>,
+    pub(crate) first: Vec<Extent>,
+    pub(crate) second: Vec<Extent>,
 }
 
 impl Reach {
@@ -25,49 +27,50 @@ impl Reach {
     ///
     /// # Cost
     ///
-    /// A pass over the edges and their owners.
+    /// Two passes over the edges and their owners.
     pub fn of_edges(alloc: Global, edges: &CleanEdges) -> Result<Reach, AllocError>
         ensures { IfOk result (IsReach edges.now) }
     {
+        let shapes = shape_count(edges);
         let count = edges.edges().len();
         let mut reach = Reach {
-            first: vec![in alloc; i32::MIN; count]?,
-            second: vec![in alloc; i32::MIN; count]?,
+            first: vec![in alloc; Extent::none(); shapes]?,
+            second: vec![in alloc; Extent::none(); shapes]?,
         };
         for number in 0..count {
             let edge = edges.edges()[number];
-            reach.extend(edges.owners(number), edge.low().x.max(edge.high().x));
+            reach.extend(edges.owners(number), edge);
         }
         Ok(reach)
     }
 
-    /// Lets each of the shapes reach to x.
-    fn extend(&mut self, owners: &[Owner], x: i32)
+    /// Lets each of the shapes reach round the edge.
+    fn extend(&mut self, owners: &[Owner], edge: Edge)
         ensures first { HaveGrown self.old.first.items self.new.first.items }
         ensures second { HaveGrown self.old.second.items self.new.second.items }
-        ensures reached { (o : Owner) (limit : ℤ) → is_owner_listed o owners.now ≡ true → reach_of self.new o ≡ Some limit
-            → x ≤ℤ limit }
+        ensures reached { (o : Owner) (extent : Extent) → is_owner_listed o owners.now ≡ true
+            → extent_of self.new o ≡ Some extent → IsEdgeIn extent edge }
     {
         for owner in owners {
-            self.extend_one(*owner, x);
+            self.extend_one(*owner, edge);
         }
     }
 
-    /// Lets the shape reach to x.
-    fn extend_one(&mut self, owner: Owner, x: i32)
+    /// Lets the shape reach round the edge.
+    fn extend_one(&mut self, owner: Owner, edge: Edge)
         ensures first { HaveGrown self.old.first.items self.new.first.items }
         ensures second { HaveGrown self.old.second.items self.new.second.items }
-        ensures reached { (limit : ℤ) → reach_of self.new owner ≡ Some limit → x ≤ℤ limit }
+        ensures reached { (extent : Extent) → extent_of self.new owner ≡ Some extent → IsEdgeIn extent edge }
     {
         match owner.input {
-            Input::First => raise(&mut self.first, owner.shape, x),
-            Input::Second => raise(&mut self.second, owner.shape, x),
+            Input::First => widen(&mut self.first, owner.shape, edge),
+            Input::Second => widen(&mut self.second, owner.shape, edge),
         }
     }
 
-    /// Returns how far the shape reaches, where that is known.
-    pub fn limit(&self, owner: Owner) -> Option<i32>
-        ensures { result ≡ reach_of self.now owner }
+    /// Returns the box round the edges of the shape, where it is known.
+    pub(crate) fn extent(&self, owner: Owner) -> Option<Extent>
+        ensures { result ≡ extent_of self.now owner }
     {
         match owner.input {
             Input::First => self.first.get(owner.shape as usize).copied(),
@@ -76,23 +79,33 @@ impl Reach {
     }
 }
 
-/// Makes the limit of this number at least x, if there is one.
-fn raise(limits: &mut Vec<i32>, shape: u32, x: i32)
-    ensures grown { HaveGrown limits.old.items limits.new.items }
-    ensures reached { (limit : ℤ) → slice_get limits.new.items shape ≡ Some limit → x ≤ℤ limit }
+/// Widens the box of this number, if there is one, so that it has both ends of the edge.
+fn widen(extents: &mut Vec<Extent>, shape: u32, edge: Edge)
+    ensures grown { HaveGrown extents.old.items extents.new.items }
+    ensures reached { (extent : Extent) → slice_get extents.new.items shape ≡ Some extent → IsEdgeIn extent edge }
 {
     let index = shape as usize;
-    if index < limits.len() {
-        limits[index] = limits[index].max(x);
+    if index < extents.len() {
+        extents[index] = extents[index].with(edge.low()).with(edge.high());
     }
 }
 
-/// Returns whether both ends of the edge are beyond the limit.
-pub(crate) fn is_beyond(edge: Edge, limit: Option<i32>) -> bool
-    ensures { result ≡ is_beyond limit edge }
-{
-    match limit {
-        Some(most) => most < edge.low().x && most < edge.high().x,
-        None => false,
+/// Returns one more than the greatest number of a shape of these edges, or how many edges there are, if that
+/// is less.
+fn shape_count(edges: &CleanEdges) -> usize {
+    let most = edges.edges().len();
+    let mut count = 0;
+    for number in 0..most {
+        count = count.max(beyond_all(edges.owners(number)));
     }
+    count.min(most)
+}
+
+/// Returns the least number that is greater than those of all these shapes.
+fn beyond_all(owners: &[Owner]) -> usize {
+    let mut count = 0;
+    for owner in owners {
+        count = count.max(owner.shape as usize + 1);
+    }
+    count
 }

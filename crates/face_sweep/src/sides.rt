@@ -13,6 +13,7 @@ ghost use Rattle.std.specs.Prelude.{
   length,
   nat_lt,
   slice_index_or,
+  true,
 };
 ghost use Rattle.lay_point.specs.Parity.{xor};
 ghost use Rattle.snap_chains.specs.declared.owner.Owner.{Owner};
@@ -20,7 +21,7 @@ ghost use Rattle.snap_chains.specs.Owners.{owner_eq};
 ghost use Rattle.snap_chains.specs.Rounded.{is_owner_listed};
 ghost use Rattle.face_sweep.specs.Counts.{AreCounts};
 ghost use Rattle.face_rows.specs.Lines.{owners_at};
-ghost use Rattle.face_sweep.specs.Reaches.{EndAt, EndAtReach};
+ghost use Rattle.face_sweep.specs.Reaches.{EndAt, IsReachIn};
 ghost use Rattle.face_sweep.specs.Sides.{
   AreBehind,
   AreKnown,
@@ -29,11 +30,14 @@ ghost use Rattle.face_sweep.specs.Sides.{
   IsKnown,
   IsTold,
   StandsAt,
+  holds_beside,
   is_odd_in,
 };
 
 use crate::counts::Counts;
-use crate::reach::{Reach, is_beyond};
+use crate::extent::{Extent, is_beyond, told_by};
+use crate::known::Known;
+use crate::reach::Reach;
 use face_rows::Op;
 use smallvec::SmallVec;
 use snap_chains::{CleanEdges, Owner};
@@ -71,15 +75,15 @@ impl Sides {
     ///
     /// # Cost
     ///
-    /// Of each owner the next edge to the right that lists it is sought, edge by edge, as far as its shape
-    /// reaches.
+    /// Of an edge on the border of its owner's box nothing is sought. Of each other owner the next edge to the
+    /// right that lists it is sought, edge by edge, as far as its shape reaches.
     pub fn of(
         alloc: Global,
         edges: &CleanEdges,
         numbers: &[usize],
         left: usize,
         right: usize,
-        known: &[Option<Sides>],
+        known: &Known,
         reach: &Reach,
         number: usize,
     ) -> Result<Sides, AllocError>
@@ -89,7 +93,9 @@ impl Sides {
         requires known { AreKnown edges.now known.now }
         requires numbers { All (λ n. n < length edges.now.0) numbers.now }
         requires all { All (IsKnown known.now) (drop right numbers.now) }
-        requires reach { EndAtReach edges.now reach.now numbers.now }
+        requires reach { IsReachIn edges.now reach.now numbers.now }
+        requires beside { (o : Owner) → is_odd_in edges.now (drop right numbers.now) o
+            ≡ holds_beside edges.now number o }
         ensures { IfOk result (AreSidesOf (owners_at edges.now number)
             (is_odd_in edges.now (drop right numbers.now))) }
     {
@@ -97,8 +103,7 @@ impl Sides {
         let mut left_of = right_of;
         let mut inside = SmallVec::new(alloc);
         for owner in edges.owners(number) {
-            let limit = reach.limit(*owner);
-            let holds = holds_right(edges, numbers, left, right, known, limit, *owner);
+            let holds = holds_beside(edges, numbers, left, right, known, reach, number, *owner);
             left_of = left_of.turned(*owner, holds);
             inside.push(holds)?;
         }
@@ -118,7 +123,7 @@ impl Sides {
 }
 
 /// Returns how many shapes hold left of the first of these edges of a row: right of a gap before it.
-fn right_counts(edges: &CleanEdges, behind: &[usize], known: &[Option<Sides>]) -> Counts
+fn right_counts(edges: &CleanEdges, behind: &[usize], known: &Known) -> Counts
     requires behind { AreBehind edges.now behind.now }
     requires known { AreKnown edges.now known.now }
     requires given { All (λ n. n < length edges.now.0) behind.now }
@@ -129,19 +134,49 @@ fn right_counts(edges: &CleanEdges, behind: &[usize], known: &[Option<Sides>]) -
         return Counts::none();
     }
     let next = behind[0];
-    known[next].as_ref().unwrap().left
+    known.get(next).unwrap().left
+}
+
+/// Returns whether the shape holds right of the edge of this number, which it owns: as its box tells, or else
+/// the next edge of the shape.
+fn holds_beside(
+    edges: &CleanEdges,
+    numbers: &[usize],
+    left: usize,
+    right: usize,
+    known: &Known,
+    reach: &Reach,
+    number: usize,
+    owner: Owner,
+) -> bool
+    requires given { number < length edges.now.0 }
+    requires listed { is_owner_listed owner (owners_at edges.now number) ≡ true }
+    requires place { StandsAt numbers.now number left right }
+    requires behind { AreBehind edges.now numbers.now }
+    requires known { AreKnown edges.now known.now }
+    requires numbers { All (λ n. n < length edges.now.0) numbers.now }
+    requires all { All (IsKnown known.now) (drop right numbers.now) }
+    requires reach { IsReachIn edges.now reach.now numbers.now }
+    requires beside { is_odd_in edges.now (drop right numbers.now) owner ≡ holds_beside edges.now number owner }
+    ensures { result ≡ is_odd_in edges.now (drop right numbers.now) owner }
+{
+    let extent = reach.extent(owner);
+    if let Some(holds) = told_by(extent, edges.edges()[number]) {
+        return holds;
+    }
+    holds_right(edges, numbers, left, right, known, extent, owner)
 }
 
 /// Returns whether the shape holds right of the edges before `right`. Where `left` is less, an edge that it
-/// owns stands between. The next edge of the shape tells, on either side; behind an edge beyond the shape's
-/// limit there is none.
+/// owns stands between. The next edge of the shape tells, on either side; after an edge right of the shape's
+/// box there is none.
 fn holds_right(
     edges: &CleanEdges,
     numbers: &[usize],
     left: usize,
     right: usize,
-    known: &[Option<Sides>],
-    limit: Option<i32>,
+    known: &Known,
+    extent: Option<Extent>,
     owner: Owner,
 ) -> bool
     requires order { left ≤ right }
@@ -152,13 +187,13 @@ fn holds_right(
     requires known { AreKnown edges.now known.now }
     requires numbers { All (λ n. n < length edges.now.0) numbers.now }
     requires all { All (IsKnown known.now) (drop right numbers.now) }
-    requires ends { EndAt edges.now numbers.now owner limit }
+    requires ends { EndAt edges.now numbers.now owner extent }
     ensures { result ≡ is_odd_in edges.now (drop right numbers.now) owner }
 {
     let mut before = left;
     for index in right..numbers.len() {
         let number = numbers[index];
-        if is_beyond(edges.edges()[number], limit) {
+        if is_beyond(edges.edges()[number], extent) {
             return false;
         }
         if let Told::Inside(inside) = asked(edges, known, number, owner) {
@@ -177,7 +212,7 @@ fn holds_right(
 }
 
 /// Returns what the edge of this number tells of the shape.
-fn asked(edges: &CleanEdges, known: &[Option<Sides>], number: usize, owner: Owner) -> Told
+fn asked(edges: &CleanEdges, known: &Known, number: usize, owner: Owner) -> Told
     requires given { number < length edges.now.0 }
     requires known { AreKnown edges.now known.now }
     ensures { IsTold edges.now known.now number owner result }
@@ -185,7 +220,7 @@ fn asked(edges: &CleanEdges, known: &[Option<Sides>], number: usize, owner: Owne
     let Some(index) = index_of(edges.owners(number), owner) else {
         return Told::Nothing;
     };
-    match known[number].as_ref() {
+    match known.get(number) {
         None => Told::Unknown,
         Some(sides) => Told::Inside(sides.inside.as_slice()[index]),
     }

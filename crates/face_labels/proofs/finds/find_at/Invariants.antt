@@ -7,8 +7,8 @@ use Rattle.face_labels.proofs.finds.find_at.Given as goal
 abbrev pub invariant-loop-left : goal.invariant-loop-left
 invariant-loop-left l = record {
   bound : l.left ≤ length l.places;
-  known : AreKnown l.edges l.known.items;
-  others : AreOthersKnown l.numbers l.places l.left l.known.items;
+  known : AreKnown l.edges l.known;
+  others : AreOthersKnown l.numbers l.places l.left l.known;
 }
 
 abbrev pub decreases-loop-left : goal.decreases-loop-left

@@ -35,5 +35,5 @@ find_at-requires-clause-others c = λ k less.
     let found = c.in_ok-places.ensures.all k less (subst (λ z. BeginsBy starts z n) (sym at) begun) in
     inl (subst (λ l. Contains l k) (sym c.as_slice.ensures.value)
     (Contains-permutation c.in_ok-places.places.items c.sort_unstable.new.self.items k c.sort_unstable.ensures.permutation found)))
-    (λ (own : IsKnown c.args.known.now.items n). inr own)
+    (λ (own : IsKnown c.args.known.now n). inr own)
     (c.requires.others n (Contains-get_or numbers k 0 less))

@@ -8,7 +8,7 @@ pub find_one-requires-clause-all : goal.find_one-requires-clause-all
 find_one-requires-clause-all c =
     let i = c.loop-index.index in
     let back : (i - 1) + 1 ≡ i = omega (arith, c.loop-index-test.true) in
-    subst (λ k. All (IsKnown c.loop-index.known.items) (drop k c.args.numbers.now)) (sym back) c.loop-index.invariant.all
+    subst (λ k. All (IsKnown c.loop-index.known) (drop k c.args.numbers.now)) (sym back) c.loop-index.invariant.all
 
 pub loop-index-preserved : goal.loop-index-preserved
 loop-index-preserved c =
@@ -17,7 +17,7 @@ loop-index-preserved c =
     record {
       bound = omega (arith, c.loop-index.invariant.bound);
       known = c.in_ok-find_one.ensures.known;
-      all = all_before (IsKnown c.find_one.new.known.items) numbers i c.loop-index-test.true c.loop-index.invariant.bound
+      all = all_before (IsKnown c.find_one.new.known) numbers i c.loop-index-test.true c.loop-index.invariant.bound
           c.in_ok-find_one.ensures.here
           (λ k d less. c.in_ok-find_one.ensures.kept (get_or (drop i numbers) k d) (c.loop-index.invariant.all k d less));
     }
@@ -26,4 +26,4 @@ pub returns-clause-all : goal.returns-clause-all
 returns-clause-all c =
     let numbers = c.args.numbers.now in
     let none : c.loop-index.index ≡ 0 = omega (arith, c.loop-index-test.false) in
-    subst (λ k. All (IsKnown c.loop-index.known.items) (drop k numbers)) none c.loop-index.invariant.all
+    subst (λ k. All (IsKnown c.loop-index.known) (drop k numbers)) none c.loop-index.invariant.all

@@ -7,8 +7,8 @@ use Rattle.face_labels.proofs.finds.find_sides.Given as goal
 abbrev pub invariant-loop-index : goal.invariant-loop-index
 invariant-loop-index l = record {
   bound : l.index ≤ length l.numbers;
-  known : AreKnown l.edges l.known.items;
-  all : All (IsKnown l.known.items) (drop l.index l.numbers);
+  known : AreKnown l.edges l.known;
+  all : All (IsKnown l.known) (drop l.index l.numbers);
 }
 
 abbrev pub decreases-loop-index : goal.decreases-loop-index

@@ -83,8 +83,8 @@ later-requires-clause-behind c = λ s found.
 pub differs-requires-clause-line : goal.differs-requires-clause-line
 differs-requires-clause-line c =
     elim c.if-start-line.branch [
-      | then-start-line+in_ok-line-2 w ↦ subst (IsLine c.args.edges.now) (sym w.line-is) w.in_ok-line-2.ensures.line
-      | else-start-line w ↦ subst (IsLine c.args.edges.now) (sym w.line-is) c.loop-index.invariant.line
+      | then-start-line+in_ok-line-2 w ↦ subst (IsLine c.args.edges.now c.args.shared.now) (sym w.line-is) w.in_ok-line-2.ensures.line
+      | else-start-line w ↦ subst (IsLine c.args.edges.now c.args.shared.now) (sym w.line-is) c.loop-index.invariant.line
     ]
 
 pub differs-requires-clause-row : goal.differs-requires-clause-row
@@ -109,9 +109,9 @@ loop-index-preserved c =
       | else-start-line w ↦ search rules
     ] in
     let back : (i + 1) - 1 ≡ i = omega arith in
-    let after : IsLine c.args.edges.now c.if-start-line.line = elim c.if-start-line.branch [
-      | then-start-line+in_ok-line-2 w ↦ subst (IsLine c.args.edges.now) (sym w.line-is) w.in_ok-line-2.ensures.line
-      | else-start-line w ↦ subst (IsLine c.args.edges.now) (sym w.line-is) c.loop-index.invariant.line
+    let after : IsLine c.args.edges.now c.args.shared.now c.if-start-line.line = elim c.if-start-line.branch [
+      | then-start-line+in_ok-line-2 w ↦ subst (IsLine c.args.edges.now c.args.shared.now) (sym w.line-is) w.in_ok-line-2.ensures.line
+      | else-start-line w ↦ subst (IsLine c.args.edges.now c.args.shared.now) (sym w.line-is) c.loop-index.invariant.line
     ] in
     record {
       count = length-set c.loop-index.labels.items s.number c.in_ok-labels-2.field-0 ∙ c.loop-index.invariant.count;

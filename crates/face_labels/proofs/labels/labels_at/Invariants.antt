@@ -9,7 +9,7 @@ use Rattle.face_labels.proofs.labels.labels_at.Given as goal
 abbrev pub invariant-loop-index : goal.invariant-loop-index
 invariant-loop-index l = record {
   count : length l.labels.items ≡ length l.edges.0;
-  line : IsLine l.edges l.line;
+  line : IsLine l.edges l.fn.shared l.line;
   row : (d : Start) → l.line.row ≡ (get_or l.starts (l.index - 1) d).y;
   labels : All (HasLabel l.op l.edges l.labels.items) (take l.index l.starts);
 }

@@ -2,7 +2,7 @@
 use Rattle.std.proofs.Common.{◌≡◌, ◌<◌, ◌≤ℤ◌, ℕ, Contains, List, get_or, length, to_z, of_z, w32, sym, ap, subst, ◌∙◌}
 use Rattle.std.specs.Prelude.{All}
 use Rattle.std.proofs.lemmas.Int.{to_z-of_z}
-use Rattle.lay_point.proofs.Members.{contains, has}
+use Rattle.lay_point.proofs.Members.{contains}
 use Rattle.face_sweep.specs.Ends.{AreEnds}
 use Rattle.face_rows.specs.Rows.{AreSomeRowEdges, CrossesRow}
 use Rattle.face_sweep.proofs.EndedLemmas.{crossing_later, ends_below, still_kept, still_some}

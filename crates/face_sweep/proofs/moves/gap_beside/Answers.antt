@@ -1,5 +1,5 @@
 -- The middle is before the gap or behind it.
-use Rattle.std.proofs.Common.{◌≡◌, ◌+◌, ◌<◌, ◌≤◌, ◌-◌, ◌/◌, ℕ, true, false, sym, subst, ◌∙◌, length, arith}
+use Rattle.std.proofs.Common.{◌≡◌, ◌+◌, ◌<◌, ◌-◌, ◌/◌, true, false, sym, subst, ◌∙◌, length, arith}
 use Rattle.std.specs.Prelude.{slice_index}
 use Rattle.face_rows.specs.Beside.{is_right_of}
 use Rattle.face_rows.specs.Lines.{edge_at}

@@ -1,28 +1,6 @@
 -- The edge of a start that isn't after the row begins in it.
-use Rattle.std.proofs.Common.{
-  ◌≡◌,
-  ⊎_elim,
-  ◌+◌,
-  ◌<◌,
-  ◌≤◌,
-  ◌<ℤ◌,
-  ◌≤ℤ◌,
-  true,
-  pos,
-  Contains,
-  get_or,
-  length,
-  to_z,
-  of_z,
-  w32,
-  sym,
-  subst,
-  ap,
-  ◌∙◌,
-  arith,
-  ℕ,
-  List,
-}
+use Rattle.std.proofs.Common.{◌≡◌, ⊎_elim, ℕ, ◌<◌, ◌≤◌, ◌<ℤ◌, ◌≤ℤ◌, true, pos, Contains, get_or, to_z, of_z, w32}
+use Rattle.std.proofs.Common.{sym, subst, ap, ◌∙◌, arith}
 use Rattle.std.proofs.lemmas.Bool.{cases_lt}
 use Rattle.std.proofs.lemmas.Int.{to_z-of_z}
 use Rattle.std.proofs.lemmas.List.{get_or_default}
@@ -30,7 +8,7 @@ use Rattle.std.proofs.lemmas.List.Elements.{Contains-get_or}
 use Rattle.lay_point.proofs.Tests.{lt_false, lt_true}
 use Rattle.face_sweep.specs.declared.start.Start.{Start}
 use Rattle.face_rows.specs.Lines.{edge_at, nowhere}
-use Rattle.face_rows.specs.Rows.{AreSomeRowEdges, CrossesRow, crosses_row, upward}
+use Rattle.face_rows.specs.Rows.{AreSomeRowEdges, CrossesRow, crosses_row}
 use Rattle.face_sweep.proofs.KeptLemmas.{begins_in_front, begins_there, late_from}
 use Rattle.face_sweep.proofs.moves.insert_begun.Goals as goal
 use Rattle.face_sweep.proofs.moves.insert_begun.Goals.{then-crosses_row+in_ok-insert_edge, else-crosses_row}

@@ -1,4 +1,4 @@
-use Rattle.std.proofs.Common.{◌≡◌, ◌<◌, ℕ, Contains, get_or, length}
+use Rattle.std.proofs.Common.{◌<◌, ℕ, Contains, get_or, length}
 use Rattle.face_sweep.specs.declared.start.Start.{Start}
 use Rattle.face_rows.specs.Rows.{AreSomeRowEdges, CrossesRow}
 use Rattle.face_sweep.proofs.moves.insert_begun.Given as goal

@@ -1,6 +1,6 @@
-use Rattle.std.proofs.Common.{◌≡◌, ◌<◌, true, false, [], None, Some, length, get_or, map, sym, ap, subst, ◌∙◌}
+use Rattle.std.proofs.Common.{◌≡◌, ◌<◌, false, [], Some, length, get_or, map, sym, ap, subst, ◌∙◌}
 use Rattle.std.specs.Option.{option_copied}
-use Rattle.std.proofs.lemmas.List.{get_or_default, get_or-map, length-map}
+use Rattle.std.proofs.lemmas.List.{get_or-map, length-map}
 use Rattle.std.proofs.lemmas.Option.{get_or_from_slice_get}
 use Rattle.snap_chains.specs.Rounded.{is_owner_listed}
 use Rattle.face_rows.specs.Lines.{owners_at}
@@ -11,13 +11,9 @@ use Rattle.face_sweep.proofs.sides.asked.Goals as goal
 pub bounds-as_slice-index : goal.bounds-as_slice-index
 bounds-as_slice-index c =
     let r = c.args.edges.now in
-    let known = c.args.known.now in
     let n = c.args.number in
-    let given : n < length known = subst (λ k. n < k) (sym c.requires.known.count) c.requires.given in
-    let sides = c.in-Some-as_ref.sides.now in
-    let is : sides_at known n ≡ Some sides =
-    sym (c.index-known-number.is ∙ get_or_default known n c.index-known-number.result None given) ∙ sym c.as_ref.ensures.value
-    ∙ ap option_copied c.in-Some-as_ref.is in
+    let sides = c.in-Some-get.sides.now in
+    let is : sides_at c.args.known.now n ≡ Some sides = sym c.get.ensures.value ∙ ap option_copied c.in-Some-get.is in
     let owners : owners_at r n ≡ c.owners.result.now = get_or_from_slice_get r.1 n c.owners.result.now [] c.owners.ensures.value in
     let same : length c.as_slice.result.now ≡ length c.owners.result.now =
     ap length (c.as_slice.ensures ∙ (c.requires.known.sides n sides is).inside) ∙ length-map (owners_at r n) (holds_beside r n)
@@ -27,29 +23,22 @@ bounds-as_slice-index c =
 pub returns-in-None : goal.returns-in-None
 returns-in-None c =
     let r = c.args.edges.now in
-    let known = c.args.known.now in
     let n = c.args.number in
     let o = c.args.owner in
-    let given : n < length known = subst (λ k. n < k) (sym c.requires.known.count) c.requires.given in
     let owners : owners_at r n ≡ c.owners.result.now = get_or_from_slice_get r.1 n c.owners.result.now [] c.owners.ensures.value in (
       ap (is_owner_listed o) owners ∙ listed_at c.owners.result.now c.in-Some.index o c.in-Some.ensures.0 c.in-Some.ensures.1,
-      sym (c.index-known-number.is ∙ get_or_default known n c.index-known-number.result None given) ∙ sym c.as_ref.ensures.value
-          ∙ ap option_copied c.in-None.is,
+      sym c.get.ensures.value ∙ ap option_copied c.in-None.is,
     )
 
-pub returns-in-Some-as_ref : goal.returns-in-Some-as_ref
-returns-in-Some-as_ref c =
+pub returns-in-Some-get : goal.returns-in-Some-get
+returns-in-Some-get c =
     let r = c.args.edges.now in
-    let known = c.args.known.now in
     let n = c.args.number in
     let o = c.args.owner in
     let j = c.in-Some.index in
     let found = c.in-Some.ensures in
-    let given : n < length known = subst (λ k. n < k) (sym c.requires.known.count) c.requires.given in
-    let sides = c.in-Some-as_ref.sides.now in
-    let is : sides_at known n ≡ Some sides =
-    sym (c.index-known-number.is ∙ get_or_default known n c.index-known-number.result None given) ∙ sym c.as_ref.ensures.value
-    ∙ ap option_copied c.in-Some-as_ref.is in
+    let sides = c.in-Some-get.sides.now in
+    let is : sides_at c.args.known.now n ≡ Some sides = sym c.get.ensures.value ∙ ap option_copied c.in-Some-get.is in
     let owners : owners_at r n ≡ c.owners.result.now = get_or_from_slice_get r.1 n c.owners.result.now [] c.owners.ensures.value in (
       ap (is_owner_listed o) owners ∙ listed_at c.owners.result.now j o found.0 found.1,
       ap (λ l. get_or l j false) (c.as_slice.ensures ∙ (c.requires.known.sides n sides is).inside ∙ ap (map (holds_beside r n))

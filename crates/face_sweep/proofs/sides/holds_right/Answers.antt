@@ -1,8 +1,7 @@
-use Rattle.std.proofs.Common.{◌≡◌, ⊎_elim, ◌+◌, ◌-◌, ◌<◌, ◌≤◌, ℕ, Bool, true, false, not, length, get_or, drop, sym, ap, subst, ◌∙◌, arith}
+use Rattle.std.proofs.Common.{◌≡◌, ◌+◌, ◌-◌, ◌<◌, ◌≤◌, true, not, length, get_or, drop, sym, ap, subst, ◌∙◌, arith}
 use Rattle.std.specs.Prelude.{nat_lt}
 use Rattle.std.proofs.lemmas.List.{get_or-drop, get_or_default, length-drop}
 use Rattle.lay_point.specs.Parity.{xor}
-use Rattle.snap_chains.specs.Rounded.{is_owner_listed}
 use Rattle.face_rows.specs.Lines.{edge_at, nowhere}
 use Rattle.face_sweep.specs.Reaches.{is_beyond}
 use Rattle.face_sweep.specs.Sides.{IsKnown, holds_beside, is_odd_in}
@@ -71,7 +70,7 @@ loop-index-preserved c =
       left = passed;
     }
 
--- behind an edge beyond the limit there is none
+-- after an edge right of the box there is none
 pub returns-then-is_beyond : goal.returns-then-is_beyond
 returns-then-is_beyond c =
     let r = c.args.edges.now in
@@ -81,7 +80,7 @@ returns-then-is_beyond c =
     let edge : c.index-edges-number.result ≡ edge_at r n =
     c.index-edges-number.is ∙ (λ k. get_or (c.edges.ensures.value k) n c.index-edges-number.result)
     ∙ get_or_default r.0 n c.index-edges-number.result nowhere (c.requires.numbers i 0 c.loop-index-test.true) in
-    let beyond : is_beyond c.args.limit (edge_at r n) ≡ true =
-    sym (ap (is_beyond c.args.limit) edge) ∙ sym c.is_beyond.ensures ∙ c.if-is_beyond.true in
+    let beyond : is_beyond c.args.extent (edge_at r n) ≡ true =
+    sym (ap (is_beyond c.args.extent) edge) ∙ sym c.is_beyond.ensures ∙ c.if-is_beyond.true in
     sym (c.loop-index.invariant.right
     ∙ none_behind r numbers i c.args.owner (λ k le less. c.requires.ends i k le less beyond))

@@ -1,4 +1,4 @@
-use Rattle.std.proofs.Common.{◌≡◌, ◌<◌, ◌^◌, sym, ◌∙◌, rules}
+use Rattle.std.proofs.Common.{◌<◌, ◌^◌, ◌∙◌, rules}
 use Rattle.face_sweep.proofs.CountLemmas.{few, in_range, some_first, some_second, turned_first, turned_second}
 use Rattle.face_sweep.proofs.counts.Counts.turned.Goals as goal
 

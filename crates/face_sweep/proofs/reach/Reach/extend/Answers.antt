@@ -1,12 +1,9 @@
-use Rattle.std.proofs.Common.{◌≡◌, ◌≤ℤ◌, ℤ, Some, true, get_or, take, to_z, of_z, w32, sym, ap, subst, ◌∙◌}
-use Rattle.std.specs.Prelude.{slice_get}
-use Rattle.std.proofs.lemmas.Int.{to_z-of_z}
+use Rattle.std.proofs.Common.{ap, ◌∙◌}
 use Rattle.std.proofs.lemmas.List.{take_all}
 use Rattle.snap_chains.specs.declared.owner.Input.TheVariants.{First}
 use Rattle.snap_chains.specs.declared.owner.Owner.{Owner}
 use Rattle.snap_chains.specs.Rounded.{is_owner_listed}
-use Rattle.face_sweep.specs.Reaches.{reach_list, reach_of}
-use Rattle.face_sweep.proofs.ReachLemmas.{HasGrown, grown_more, grown_none, reach_more}
+use Rattle.face_sweep.proofs.ReachLemmas.{grown_more, grown_none, reach_more}
 use Rattle.face_sweep.proofs.reach.Reach.extend.Goals as goal
 
 origin : Owner
@@ -17,7 +14,7 @@ loop-owner-init c =
     record {
       first = grown_none c.args.self.now.first.items;
       second = grown_none c.args.self.now.second.items;
-      reached = λ o limit e. absurd cc;
+      reached = λ o extent e. absurd cc;
     }
 
 pub loop-owner-preserved : goal.loop-owner-preserved
@@ -29,12 +26,11 @@ loop-owner-preserved c =
     record {
       first = grown_more c.args.self.now.first.items old.first.items new.first.items c.loop-owner.invariant.first own.first;
       second = grown_more c.args.self.now.second.items old.second.items new.second.items c.loop-owner.invariant.second own.second;
-      reached = reach_more old new c.args.owners.now c.loop-owner.owner-index origin (to_z w32 (of_z w32 c.args.x)) c.loop-owner-test.true
+      reached = reach_more old new c.args.owners.now c.loop-owner.owner-index origin c.args.edge c.loop-owner-test.true
           (record { first = own.first; second = own.second }) own.reached c.loop-owner.invariant.reached;
     }
 
 pub returns-clause-reached : goal.returns-clause-reached
-returns-clause-reached c = λ o limit listed e.
-    let at : to_z w32 (of_z w32 c.args.x) ≡ c.args.x = to_z-of_z w32 c.args.x c.ranges.x in
-    subst (λ z. z ≤ℤ limit) at (c.loop-owner.invariant.reached o limit
-    (ap (is_owner_listed o) (take_all c.loop-owner.owner-index c.args.owners.now c.loop-owner-test.false) ∙ listed) e)
+returns-clause-reached c = λ o extent listed e.
+    c.loop-owner.invariant.reached o extent
+    (ap (is_owner_listed o) (take_all c.loop-owner.owner-index c.args.owners.now c.loop-owner-test.false) ∙ listed) e

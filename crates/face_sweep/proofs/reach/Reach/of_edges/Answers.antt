@@ -1,33 +1,10 @@
-use Rattle.std.proofs.Common.{
-  ◌≡◌,
-  ⊎_elim,
-  ◌+◌,
-  ◌<◌,
-  ◌≤◌,
-  ◌≤ℤ◌,
-  [],
-  Some,
-  true,
-  length,
-  get_or,
-  to_z,
-  of_z,
-  w32,
-  sym,
-  ap,
-  subst,
-  ◌∙◌,
-  arith,
-  rules,
-}
+use Rattle.std.proofs.Common.{◌≡◌, ⊎_elim, ◌<◌, ◌≤◌, [], length, get_or, sym, ap, subst, ◌∙◌, arith}
 use Rattle.std.proofs.lemmas.Bool.{cases_lt}
-use Rattle.std.proofs.lemmas.Int.{ints, to_z-of_z}
 use Rattle.std.proofs.lemmas.List.{get_or_default}
 use Rattle.std.proofs.lemmas.Option.{get_or_from_slice_get}
-use Rattle.lay_point.specs.declared.point.Point.{Point}
 use Rattle.snap_chains.specs.Rounded.{is_owner_listed}
 use Rattle.face_rows.specs.Lines.{edge_at, nowhere, owners_at}
-use Rattle.face_sweep.specs.Reaches.{IsInReach}
+use Rattle.face_sweep.specs.Reaches.{IsEdgeIn, IsInReach}
 use Rattle.face_sweep.proofs.ReachLemmas.{still_in_reach}
 use Rattle.face_sweep.proofs.reach.Reach.of_edges.Goals as goal
 
@@ -45,16 +22,8 @@ loop-number-preserved c = λ n before. ⊎_elim
     c.index-edges-number.is ∙ (λ i. get_or (c.edges.ensures.value i) m c.index-edges-number.result)
     ∙ get_or_default r.0 m c.index-edges-number.result nowhere given in
     let own : owners_at r m ≡ c.owners.result.now = get_or_from_slice_get r.1 m c.owners.result.now [] c.owners.ensures.value in
-    let low : to_z w32 (of_z w32 c.low.result.x) ≡ (edge_at r m).0.x = to_z-of_z w32 c.low.result.x (search rules)
-    ∙ ap (λ (p : Point). p.x) (c.low.ensures.value ∙ ap (λ (e : Point × Point). e.0) edge) in
-    let high : to_z w32 (of_z w32 c.high.result.x) ≡ (edge_at r m).1.x = to_z-of_z w32 c.high.result.x (search rules)
-    ∙ ap (λ (p : Point). p.x) (c.high.ensures.value ∙ ap (λ (e : Point × Point). e.1) edge) in
-    let top : to_z w32 (of_z w32 c.max.result) ≡ c.max.result = to_z-of_z w32 c.max.result (search rules) in
-    let here : IsInReach r c.extend.new.self m = λ o limit listed e.
-    let far = c.extend.ensures.reached o limit (sym (ap (is_owner_listed o) own) ∙ listed) e in (
-      omega (arith, ints, low, top, far, c.max.ensures.self_bound),
-      omega (arith, ints, high, top, far, c.max.ensures.other_bound),
-    ) in
+    let here : IsInReach r c.extend.new.self m = λ o extent listed e.
+    subst (IsEdgeIn extent) edge (c.extend.ensures.reached o extent (sym (ap (is_owner_listed o) own) ∙ listed) e) in
     subst (IsInReach r c.extend.new.self) same here)
     (cases_lt n c.loop-number.number)
 

@@ -1,4 +1,4 @@
-use Rattle.std.proofs.Common.{◌<◌, ℕ, length}
+use Rattle.std.proofs.Common.{◌<◌, ℕ}
 use Rattle.face_sweep.specs.Reaches.{IsInReach}
 use Rattle.face_sweep.proofs.reach.Reach.of_edges.Given as goal
 

@@ -1,5 +1,5 @@
 -- Each owner is turned once.
-use Rattle.std.proofs.Common.{◌≡◌, ◌+◌, ◌<◌, ◌++◌, true, false, [], ◌∷◌, drop, length, get_or, map, take, refl, sym, ap, subst, ◌∙◌, rules}
+use Rattle.std.proofs.Common.{◌≡◌, ◌+◌, ◌++◌, [], ◌∷◌, drop, get_or, map, take, sym, ap, subst, ◌∙◌, rules}
 use Rattle.std.proofs.lemmas.List.{get_or_default, map-append, take_all, take_more}
 use Rattle.std.proofs.lemmas.Option.{get_or_from_slice_get}
 use Rattle.lay_point.specs.Parity.{parity, xor}
@@ -12,7 +12,7 @@ use Rattle.face_rows.specs.Lines.{owners_at}
 use Rattle.face_sweep.specs.Sides.{is_odd_in}
 use Rattle.face_sweep.proofs.KeptLemmas.{rest}
 use Rattle.face_rows.proofs.OwnerLemmas.{listed_at, listed_of, none_before, turn_more}
-use Rattle.face_sweep.proofs.StateLemmas.{before, counts_agree, odd_between}
+use Rattle.face_sweep.proofs.StateLemmas.{counts_agree}
 use Rattle.face_sweep.proofs.sides.Sides.of.Goals as goal
 
 first : Owner
@@ -29,7 +29,7 @@ turned-left_of-requires c =
       λ p. xor (parity (λ q. owner_eq q p) (take i owners)) (is_odd_in r behind p),
       c.loop-owner.invariant.left,
       ap (λ b. xor b (is_odd_in r behind o)) (none_before owners i first c.owners-owner-items.ensures.rising c.loop-owner-test.true)
-          ∙ sym c.holds_right-holds.ensures,
+          ∙ sym c.holds_beside-holds.ensures,
     )
 
 pub loop-owner-preserved : goal.loop-owner-preserved
@@ -48,8 +48,8 @@ loop-owner-preserved c =
           (λ p. turn_more owners i first p (is_odd_in r behind p) less)
           (c.turned-left_of.ensures was c.loop-owner.invariant.left
           (ap (λ b. xor b (is_odd_in r behind o)) (none_before owners i first c.owners-owner-items.ensures.rising less)
-          ∙ sym c.holds_right-holds.ensures));
-      inside = c.in_ok-push.ensures.ok ∙ (λ k. c.loop-owner.invariant.inside k ++ c.holds_right-holds.ensures k ∷ [])
+          ∙ sym c.holds_beside-holds.ensures));
+      inside = c.in_ok-push.ensures.ok ∙ (λ k. c.loop-owner.invariant.inside k ++ c.holds_beside-holds.ensures k ∷ [])
           ∙ sym (ap (map (is_odd_in r behind)) (take_more owners i first less) ∙ map-append (is_odd_in r behind) (take i owners) (o ∷ []));
     }
 
@@ -79,18 +79,13 @@ loop-owner-init c =
       inside = search rules;
     }
 
-pub holds_right-holds-requires-clause-order : goal.holds_right-holds-requires-clause-order
-holds_right-holds-requires-clause-order c = before c.args.numbers.now c.args.number c.args.left c.args.right c.requires.place
-
-pub holds_right-holds-requires-clause-between : goal.holds_right-holds-requires-clause-between
+pub holds_beside-holds-requires-clause-listed : goal.holds_beside-holds-requires-clause-listed
 unfolding first
-holds_right-holds-requires-clause-between c =
+holds_beside-holds-requires-clause-listed c =
     let r = c.args.edges.now in
-    let n = c.args.number in
     let owners = c.owners-owner-items.result.now in
     let i = c.loop-owner.owner-index in
     let o = get_or owners i first in
-    let own : owners_at r n ≡ owners = get_or_from_slice_get r.1 n owners [] c.owners-owner-items.ensures.value in
-    let listed : is_owner_listed o (owners_at r n) ≡ true = ap (is_owner_listed o) own
-    ∙ listed_at owners i o c.loop-owner-test.true (sym (get_or_default owners i first o c.loop-owner-test.true)) in
-    odd_between r c.args.numbers.now n c.args.left c.args.right o c.requires.place listed
+    let own : owners_at r c.args.number ≡ owners =
+    get_or_from_slice_get r.1 c.args.number owners [] c.owners-owner-items.ensures.value in
+    ap (is_owner_listed o) own ∙ listed_at owners i o c.loop-owner-test.true (sym (get_or_default owners i first o c.loop-owner-test.true))

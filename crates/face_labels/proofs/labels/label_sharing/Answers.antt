@@ -5,7 +5,7 @@ use Rattle.std.specs.List.Sorted.{IsPermutation}
 use Rattle.face_sweep.specs.Starts.{AreAllStarts, HasLabel, IsStartOf, starts_of}
 use Rattle.face_sweep.proofs.KeptLemmas.{all_starts}
 use Rattle.face_sweep.proofs.StartLemmas.{are_starts, labels_of_band, written_labels}
-use Rattle.face_labels.proofs.labels.label.Goals as goal
+use Rattle.face_labels.proofs.labels.label_sharing.Goals as goal
 
 pub labels_at-requires-clause-starts : goal.labels_at-requires-clause-starts
 labels_at-requires-clause-starts c =
