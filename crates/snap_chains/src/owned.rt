@@ -6,9 +6,9 @@ ghost use Rattle.snap_chains.specs.OwnedRings.{AreRounded, AreSides};
 use crate::owner::Owner;
 use crate::rings::{ring_sides, round_ring_in};
 use lay_point::{NoMemory, Point};
-use snap_pixels::{Segment, hot};
+use snap_pixels::{HotSet, Segment, hot};
 use snap_slabs::Finder;
-use std::alloc::Global;
+use std::alloc::{AllocError, Global};
 use std::marker::Model;
 use std::thread::Threads;
 
@@ -49,12 +49,40 @@ pub(crate) fn round_rings(
 {
     let segments = all_sides(alloc, rings)?;
     let found = hot(rt, alloc, &segments)?;
-    let finder = Finder::with_slabs(alloc, &found)?;
-    let mut walks = Vec::new(alloc);
+    let finder = finder_of(alloc, &segments, &found)?;
+    let mut walks = Vec::with_capacity(alloc, rings.len())?;
     for ring in rings {
         walks.push(round_ring_in(alloc, &segments, &finder, ring.points)?)?;
     }
     Ok(walks)
+}
+
+/// Returns a finder in these centres. Slabs serve slanted segments alone.
+fn finder_of<'h>(
+    alloc: Global,
+    segments: &[Segment],
+    found: &'h HotSet,
+) -> Result<Finder<'h>, AllocError>
+    ensures { IfOk result (λ finder. finder ≡ found.now) }
+{
+    if segments.iter().any(is_slanted) {
+        return Finder::with_slabs(alloc, found);
+    }
+    Ok(Finder::plain(alloc, found))
+}
+
+/// Returns whether the segment is neither level nor upright.
+fn is_slanted(segment: &Segment) -> bool {
+    segment.a().x != segment.b().x && segment.a().y != segment.b().y
+}
+
+/// Returns how many points the rings have.
+fn count_points(rings: &[OwnedRing]) -> usize {
+    let mut count: usize = 0;
+    for ring in rings {
+        count = count.saturating_add(ring.points.len());
+    }
+    count
 }
 
 /// Returns the sides of all rings, ring by ring.
@@ -62,7 +90,7 @@ fn all_sides(alloc: Global, rings: &[OwnedRing]) -> Result<Vec<Segment>, NoMemor
     requires { All (λ r. IsRing r.1) rings.now }
     ensures { IfOk result (λ segments. AreSides rings.now segments.items) }
 {
-    let mut segments = Vec::new(alloc);
+    let mut segments = Vec::with_capacity(alloc, count_points(rings))?;
     for ring in rings {
         let sides = ring_sides(alloc, ring.points)?;
         segments.extend_from_slice(sides.as_slice())?;

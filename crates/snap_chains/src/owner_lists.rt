@@ -52,7 +52,7 @@ impl OwnerLists {
     pub fn empty(alloc: Global, count: usize) -> Result<OwnerLists, AllocError>
         ensures { IfOk result (λ lists. lists ≡ replicate count []) }
     {
-        let mut parts = Vec::new(alloc);
+        let mut parts = Vec::with_capacity(alloc, count)?;
         for _ in 0..count {
             parts.push(Part { from: 0, to: 0 })?;
         }
@@ -77,7 +77,7 @@ impl OwnerLists {
         ensures { IfOk result (λ lists. AllZip (AreVisitors visits.now) edges.now lists) }
     {
         let owners = owners_of(alloc, visits)?;
-        let mut parts = Vec::new(alloc);
+        let mut parts = Vec::with_capacity(alloc, edges.len())?;
         let mut at = 0;
         for edge in edges {
             let part = next_part(visits, at, *edge);
@@ -101,7 +101,7 @@ impl OwnerLists {
 fn owners_of(alloc: Global, visits: &[Visit]) -> Result<Vec<Owner>, AllocError>
     ensures { IfOk result (λ owners. owners.items ≡ map (λ v. v.owner) visits.now) }
 {
-    let mut owners = Vec::new(alloc);
+    let mut owners = Vec::with_capacity(alloc, visits.len())?;
     for visit in visits {
         owners.push(visit.owner)?;
     }

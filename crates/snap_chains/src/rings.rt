@@ -80,7 +80,7 @@ pub fn ring_sides(alloc: Global, ring: &[Point]) -> Result<Vec<Segment>, NoMemor
     requires { NeighboursDiffer (closed_walk ring.now) }
     ensures { IfOk result (λ sides. map segment_ends sides.items ≡ pairs (closed_walk ring.now)) }
 {
-    let mut sides = Vec::new(alloc);
+    let mut sides = Vec::with_capacity(alloc, ring.len())?;
     let Some((first, later)) = ring.split_first() else {
         return Ok(sides);
     };

@@ -53,12 +53,21 @@ pub(crate) fn all_visits(
     ensures { IfOk result (λ visits. visits.items
         ≡ visits_of rings.now (map (λ w. w.items) walks.now)) }
 {
-    let mut visits = Vec::new(alloc);
+    let mut visits = Vec::with_capacity(alloc, count_points(walks))?;
     for number in 0..walks.len() {
         let ring = &rings[number];
         extend_by_walk(&mut visits, ring.owner, walks[number].as_slice())?;
     }
     Ok(visits)
+}
+
+/// Returns how many points the walks have.
+fn count_points(walks: &[Vec<Point>]) -> usize {
+    let mut count: usize = 0;
+    for walk in walks {
+        count = count.saturating_add(walk.len());
+    }
+    count
 }
 
 /// Adds the visits of the owner's walk.
@@ -96,7 +105,7 @@ pub(crate) fn visited_edges(alloc: Global, visits: &[Visit]) -> Result<Vec<Edge>
     ensures exact { IfOk result (λ edges. (e : Point × Point) → Contains edges.items e
         ↔ Contains (map (λ v. v.edge) visits.now) e) }
 {
-    let mut edges = Vec::new(alloc);
+    let mut edges = Vec::with_capacity(alloc, visits.len())?;
     for visit in visits {
         edges.push(visit.edge)?;
     }
