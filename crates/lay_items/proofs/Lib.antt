@@ -6,4 +6,5 @@ pub mod MergeLemmas
 pub mod NumberedLemmas
 pub mod Reaching
 pub mod RunLemmas
+pub mod SiteLemmas
 pub mod SoundLemmas

@@ -37,6 +37,12 @@ rising_tail : (w : Write) (ws : List Write) → AreRising id_cmp (w ∷ ws) → 
 rising_tail w [] rising = tt
 rising_tail w (v ∷ ws) rising = rising.1
 
+-- so they are in order
+pub rising_sorted : (ws : List Write) → AreRising id_cmp ws → IsStrictlySortedBy id_cmp (keys_of ws)
+unfolding IsStrictlySortedBy
+rising_sorted [] rising = tt
+rising_sorted (w ∷ ws) rising = (rising_all w ws rising, rising_sorted ws (rising_tail w ws rising))
+
 -- what is found before an id, under it and behind it
 abbrev parts : ItemId → ItemId → Option Item → Option Item → (Option Item → Option Item) → Option Item
 parts q id old new rest =

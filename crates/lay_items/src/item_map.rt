@@ -5,7 +5,7 @@ ghost use Rattle.std.specs.List.Sorted.{IsStrictlySortedBy};
 ghost use Rattle.std.specs.Map.{keys_of};
 ghost use Rattle.lay_layouts.specs.Ids.{id_cmp};
 ghost use Rattle.lay_layouts.specs.Items.{standing_in};
-ghost use Rattle.lay_layouts.specs.Layout.{AreRising, map_of_items, put, put_all};
+ghost use Rattle.lay_layouts.specs.Layout.{AreRising, map_of_items, put_all};
 ghost use Rattle.lay_layouts.specs.LayoutWith.{numbered_from};
 ghost use Rattle.lay_layouts.specs.Lent.{calls_lent, shapes_among};
 ghost use Rattle.lay_layouts.specs.SameLayout.{items_eq};
@@ -160,47 +160,18 @@ impl ItemMap {
         Ok(new)
     }
 
-    /// Returns the items after these writes, made one after another.
+    /// Returns the items after these writes. The pages that they fall in are made anew, and of the marks of runs a
+    /// few where runs begin or end.
     fn written_all(
         &self,
         alloc: Global,
         writes: &[(ItemId, Option<Item>)],
     ) -> Result<ItemMap, NoMemory>
+        requires { AreRising id_cmp writes.now }
         ensures { IfOk result (λ new. new ≡ put_all self.now writes.now) }
     {
-        let mut new = self.share(alloc)?;
-        for (id, item) in writes {
-            new = new.written(alloc, *id, item)?;
-        }
-        Ok(new)
-    }
-
-    /// Returns the same items once more.
-    fn share(&self, alloc: Global) -> Result<ItemMap, NoMemory>
-        ensures { IfOk result (λ new. new ≡ self.now) }
-    {
-        let items = self.items.share(alloc)?;
-        let runs = self.runs.share(alloc)?;
+        let items = self.items.with_rising(alloc, writes)?;
+        let runs = self.runs.with_all(alloc, &self.items, &items, writes)?;
         Ok(ItemMap { items, runs })
-    }
-
-    /// Returns the items after a write. One page or two of the items are made anew, and of the marks of runs a few
-    /// where runs begin or end.
-    fn written(&self, alloc: Global, id: ItemId, item: &Option<Item>) -> Result<ItemMap, NoMemory>
-        ensures { IfOk result (λ new. new ≡ put self.now id item.now) }
-    {
-        let runs = self.runs.with(alloc, &self.items, id, item)?;
-        let items = self.items.with(alloc, id, copied(item)?)?;
-        Ok(ItemMap { items, runs })
-    }
-}
-
-/// Returns a copy of the item, where there is one.
-fn copied(item: &Option<Item>) -> Result<Option<Item>, NoMemory>
-    ensures { IfOk result (λ copy. copy ≡ item.now) }
-{
-    match item {
-        Some(item) => Ok(Some(item.clone()?)),
-        None => Ok(None),
     }
 }

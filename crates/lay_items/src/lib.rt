@@ -40,9 +40,9 @@
 //!
 //! # Files
 //!
-//! - `version.rt`, `snapshot.rt`, `item_map.rt`: layouts. A write makes anew the pages that it
-//!   falls in, of items, and of marks where runs begin or end by it; more writes than one in
-//!   thirty-two of the items go into them in one pass (`entries.rt`, `specs/Entries.antt`).
+//! - `version.rt`, `snapshot.rt`, `item_map.rt`: layouts. Writes make anew the pages that they fall
+//!   in, of items, and of marks where runs begin or end by them; more writes than one in thirty-two
+//!   of the items go into them in one pass (`entries.rt`, `specs/Entries.antt`).
 //! - `builder.rt`, `numbered.rt`, `beginnings.rt`: items that come one after another, and their
 //!   marks.
 //! - `iter.rt`: what is lent; `group.rt`, `marks.rt`, `runs.rt`: groups, marks and runs.

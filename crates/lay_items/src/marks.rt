@@ -52,20 +52,25 @@ pub(crate) struct Site<'a> {
     after: Option<(ItemId, &'a Item)>,
 }
 
-/// Returns where a write under this id falls.
+/// Returns where a write under this id falls, of writes whose ids rise: behind what those before it left, which is
+/// as it is after all of them, and before what none of those has written.
 ///
 /// # Cost
 ///
 /// Three searches by halving.
-pub(crate) fn site_of(items: &Pages<ItemId, Item>, id: ItemId) -> Site<'_>
-    ensures before { lent_entry result.before ≡ last_entry (lower id_cmp id items.now) }
-    ensures old { option_copied result.old ≡ find id_cmp id items.now }
-    ensures after { lent_entry result.after ≡ first_entry (higher id_cmp id items.now) }
+pub(crate) fn site_of<'a>(
+    old: &'a Pages<ItemId, Item>,
+    new: &'a Pages<ItemId, Item>,
+    id: ItemId,
+) -> Site<'a>
+    ensures before { lent_entry result.before ≡ last_entry (lower id_cmp id new.now) }
+    ensures old { option_copied result.old ≡ find id_cmp id old.now }
+    ensures after { lent_entry result.after ≡ first_entry (higher id_cmp id old.now) }
 {
     Site {
-        before: items.below(id),
-        old: items.get(id),
-        after: items.above(id),
+        before: new.below(id),
+        old: old.get(id),
+        after: old.above(id),
     }
 }
 

@@ -2,7 +2,7 @@
 ghost use Rattle.std.specs.Prelude.{◌≡◌, [], IfOk};
 ghost use Rattle.std.specs.List.Sorted.{IsStrictlySortedBy};
 ghost use Rattle.std.specs.Map.{keys_of};
-ghost use Rattle.lay_pages.specs.Written.{after_write};
+ghost use Rattle.lay_pages.specs.Written.{written_all};
 ghost use Rattle.lay_items.specs.Runs.{AreHeld};
 ghost use Rattle.lay_layouts.specs.Ids.{id_cmp};
 
@@ -33,7 +33,8 @@ impl Runs {
         }
     }
 
-    /// Returns the runs after a write: under the id is this item from then on, or none.
+    /// Returns the runs after these writes, whose ids rise: under each id is this item from then on, or none. The
+    /// items are those before all of the writes and those after all of them.
     ///
     /// # Errors
     ///
@@ -41,34 +42,27 @@ impl Runs {
     ///
     /// # Cost
     ///
-    /// A few searches by halving. Where runs begin or end by the write, that of `Pages::with` once to six times.
-    pub fn with(
+    /// For each write a few searches by halving, and where runs begin or end by it, that of `Pages::with` once to six
+    /// times.
+    pub fn with_all(
         &self,
         alloc: Global,
-        items: &Pages<ItemId, Item>,
-        id: ItemId,
-        item: &Option<Item>,
+        old: &Pages<ItemId, Item>,
+        new: &Pages<ItemId, Item>,
+        writes: &[(ItemId, Option<Item>)],
     ) -> Result<Runs, NoMemory>
-        requires { AreHeld items.now self.now.cells self.now.layers }
-        ensures { IfOk result (λ new. AreHeld (after_write id_cmp id item.now items.now) new.cells new.layers) }
+        requires held { AreHeld old.now self.now.cells self.now.layers }
+        requires rising { IsStrictlySortedBy id_cmp (keys_of writes.now) }
+        requires new { new.now ≡ written_all id_cmp old.now writes.now }
+        ensures { IfOk result (λ runs. AreHeld new.now runs.cells runs.layers) }
     {
-        let site = site_of(items, id);
-        let cells = written(alloc, &self.cells, By::Cell, &site, id, item.as_ref())?;
-        let layers = written(alloc, &self.layers, By::Layer, &site, id, item.as_ref())?;
-        Ok(Runs { cells, layers })
-    }
-
-    /// Returns the same runs once more.
-    ///
-    /// # Errors
-    ///
-    /// `NoMemory`, if an allocation fails.
-    pub fn share(&self, alloc: Global) -> Result<Runs, NoMemory>
-        ensures cells { IfOk result (λ new. new.cells ≡ self.now.cells) }
-        ensures layers { IfOk result (λ new. new.layers ≡ self.now.layers) }
-    {
-        let cells = self.cells.share(alloc)?;
-        let layers = self.layers.share(alloc)?;
+        let mut cells = self.cells.share(alloc)?;
+        let mut layers = self.layers.share(alloc)?;
+        for (id, item) in writes {
+            let site = site_of(old, new, *id);
+            cells = written(alloc, &cells, By::Cell, &site, *id, item.as_ref())?;
+            layers = written(alloc, &layers, By::Layer, &site, *id, item.as_ref())?;
+        }
         Ok(Runs { cells, layers })
     }
 }

@@ -208,9 +208,10 @@ impl Version {
     ///
     /// # Cost
     ///
-    /// Where few items are written each makes a page, its book and the list of the books anew, of the items
-    /// and of the marks of runs where runs begin or end; where many are, all pages are made anew in one pass. Where
-    /// symbols are written, each makes a page of theirs anew, and the list of their numbers is copied.
+    /// Where few items are written, those that fall into the same page make it, its book and the list of the books
+    /// anew, 64 at a time, and each that begins or ends a run as much of the marks of runs; where many are, all pages
+    /// are made anew in one pass. Where symbols are written, each makes a page of theirs anew, and the list of their
+    /// numbers is copied.
     pub fn with(
         &self,
         alloc: Global,

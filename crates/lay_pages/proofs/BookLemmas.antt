@@ -1,21 +1,19 @@
--- Books of pages: what one of them keeps, and what a write into it leaves.
-use Rattle.std.proofs.Common.{◌≡◌, ◌∙◌, ◌<◌, ◌≤◌, ◌+◌, ◌*◌, ℕ, zero, suc, Bool, true, List, [], ◌∷◌, Option}
-use Rattle.std.proofs.Common.{refl, ap, sym, arith, take, length, get_or, map, subst}
+-- Books of pages: what one of them keeps, and what entries in place of those of a page leave.
+use Rattle.std.proofs.Common.{◌≡◌, ◌∙◌, ◌<◌, ◌≤◌, ◌+◌, ◌*◌, ◌++◌, ℕ, zero, suc, Bool, true, List, [], ◌∷◌}
+use Rattle.std.proofs.Common.{append_assoc, refl, ap, sym, arith, drop, take, length, get_or, map, subst}
 use Rattle.std.proofs.lemmas.List.{get_or-map, length-append}
 use Rattle.std.specs.declared.cmp.Ordering.{Ordering}
 use Rattle.std.specs.declared.sync.Arc.{Arc}
 use Rattle.std.specs.declared.vec.Vec.{Vec}
-use Rattle.std.specs.Cmp.{IsTotalOrder}
-use Rattle.std.specs.FinMap.{IsAntisymmetric}
 use Rattle.std.specs.List.{AllByRecursion}
 use Rattle.std.specs.List.Sorted.{IsStrictlySortedBy}
 use Rattle.std.specs.Map.{keys_of}
 use Rattle.lay_pages.specs.Shared.{AreBooks, AreSized, entries_in, items_of, joined, page_parts, pages_in}
-use Rattle.lay_pages.specs.Written.{IsPlace, after_write}
-use Rattle.lay_pages.proofs.OrderLemmas.{sorted-written, write-level, written-full}
+use Rattle.lay_pages.specs.Places.{with_page}
 use Rattle.lay_pages.proofs.PlaceLemmas.{all-at, sized-at, sorted-at}
-use Rattle.lay_pages.proofs.ShareLemmas.{AreCut, all_append, all_spliced, are_cut, count_items, few_parts, joined_parts, joined_twice}
-use Rattle.lay_pages.proofs.ShareLemmas.{length_map, length_spliced, parts_cut, sized_parts, spliced_at, spliced_map}
+use Rattle.lay_pages.proofs.ShareLemmas.{AreCut, all_append, all_spliced, are_cut, count_items, drop_map, few_parts, joined_parts}
+use Rattle.lay_pages.proofs.ShareLemmas.{joined_spliced, joined_twice, length_map, length_spliced, parts_cut, sized_parts, spliced_at}
+use Rattle.lay_pages.proofs.ShareLemmas.{spliced_map, take_map}
 
 -- what is so of a book
 pub record IsBook {K X : Type 0} (R : K → K → Ordering) (pages : List (List (K × X))) : Type 0 where
@@ -34,92 +32,87 @@ book_at {K} {X} R lists at books lt = record {
       (sorted-at R (map joined lists) at [] (omega (arith, length_map joined lists, lt)) books.sorted);
 }
 
--- ---- what a write leaves
+-- ---- others in place of a page
 
--- one entry more at most
-pub few_after : {K X : Type 0} {R : K → K → Ordering} (total : IsTotalOrder R) (exact : IsAntisymmetric R) (k : K) (x : Option X)
-    (pages : List (List (K × X))) (at : ℕ) (entries : List (K × X)) → AreSized pages → IsStrictlySortedBy R (keys_of (joined pages))
-    → at < length pages → entries ≡ after_write R k x (get_or pages at []) → length entries ≤ 65
-few_after {R = R} total exact k x pages at entries sized sorted lt is =
-    omega (
-      arith,
-      ap length is,
-      written-full total exact k x (get_or pages at []) (sorted-at R pages at [] lt sorted),
-      (sized-at pages at [] lt sized).1,
-    )
-
--- pages of a book after a write
-pub record ArePagesAfter {K X : Type 0} (R : K → K → Ordering) (k : K) (x : Option X) (old new : List (List (K × X))) : Type 0 where
-  pub entries : joined new ≡ after_write R k x (joined old)
-  pub sized : AreSized new
-  pub few : length new ≤ length old + 1
-
-pub pages_after : {K X : Type 0} {R : K → K → Ordering} (total : IsTotalOrder R) (exact : IsAntisymmetric R) (k : K) (x : Option X)
-    (old new : List (List (K × X))) (at : ℕ) (entries : List (K × X)) (grows : Bool) → AreSized old → IsPlace R k old at
-    → length entries ≤ 65 → entries ≡ after_write R k x (get_or old at []) → new ≡ spliced_at at old (page_parts grows entries)
-    → ArePagesAfter R k x old new
-pages_after {K} {X} {R} total exact k x old new at entries grows sized place few one is = record {
-  entries = write-level total exact k x old (page_parts grows entries) new at [] place (joined_parts grows entries ∙ one) is;
-  sized = subst (λ (ps : List (List (K × X))). AreSized ps) (sym is)
-      (all_spliced (λ (es : List (K × X)). (1 ≤ length es) × (length es ≤ 64)) at old (page_parts grows entries) sized
-      (sized_parts grows entries few));
-  few = omega (
-    arith,
-    ap length is,
-    length_spliced at old (page_parts grows entries) place.in_range,
-    few_parts grows entries,
-  );
-}
-
--- books after a write
-pub record AreAfter {K X : Type 0} (R : K → K → Ordering) (k : K) (x : Option X) (old new : List (List (List (K × X)))) : Type 0 where
-  pub entries : entries_in new ≡ after_write R k x (entries_in old)
+-- books with entries in place of those of a page
+pub record ArePut {K X : Type 0} (R : K → K → Ordering) (entries : List (K × X)) (new : List (List (List (K × X)))) : Type 0 where
+  pub entries_are : entries_in new ≡ entries
   pub books : AreBooks R new
 
-pub books_after : {K X : Type 0} {R : K → K → Ordering} (total : IsTotalOrder R) (exact : IsAntisymmetric R) (k : K) (x : Option X)
-    (old new : List (List (List (K × X)))) (at : ℕ) (pages : List (List (K × X))) (grows : Bool) → AreBooks R old
-    → IsPlace R k (map joined old) at → length pages ≤ 65 → AreSized pages
-    → joined pages ≡ after_write R k x (joined (get_or old at [])) → new ≡ spliced_at at old (page_parts grows pages)
-    → AreAfter R k x old new
-books_after {K} {X} {R} total exact k x old new at pages grows books place few sized one is = record {
-  entries = same;
-  books = record {
-    books = subst (λ (ls : List (List (List (K × X)))). AreSized ls) (sym is)
-        (all_spliced (λ (ps : List (List (K × X))). (1 ≤ length ps) × (length ps ≤ 64)) at old (page_parts grows pages) books.books
-        parts.books);
-    pages = subst (λ (ls : List (List (List (K × X)))). AllByRecursion (λ (ps : List (List (K × X))). AreSized ps) ls) (sym is)
-        (all_spliced (λ (ps : List (List (K × X))). AreSized ps) at old (page_parts grows pages) books.pages parts.sized);
-    sorted = subst (λ (es : List (K × X)). IsStrictlySortedBy R (keys_of es)) (sym same)
-        (sorted-written total exact k x (entries_in old) books.sorted);
-  };
-} where
-  parts : AreCut pages (page_parts grows pages)
-  parts = parts_cut grows pages few sized
+module _ {K X : Type 0} (R : K → K → Ordering) (old new : List (List (List (K × X)))) (book page : ℕ) where
+  pub books_put : (entries : List (K × X)) (pages : List (List (K × X))) (grows is_last : Bool) → AreBooks R old → book < length old
+      → page < length (get_or old book []) → length entries ≤ 128 → IsStrictlySortedBy R (keys_of (with_page old book page entries))
+      → pages ≡ spliced_at page (get_or old book []) (page_parts grows entries) → new ≡ spliced_at book old (page_parts is_last pages)
+      → ArePut R (with_page old book page entries) new
+  books_put entries pages grows is_last books in_books in_pages few sorted pages_are is = record {
+    entries_are = same;
+    books = record {
+      books = subst (λ (ls : List (List (List (K × X)))). AreSized ls) (sym is)
+          (all_spliced (λ (ps : List (List (K × X))). (1 ≤ length ps) × (length ps ≤ 64)) book old (page_parts is_last pages) books.books
+          parts.books);
+      pages = subst (λ (ls : List (List (List (K × X)))). AllByRecursion (λ (ps : List (List (K × X))). AreSized ps) ls) (sym is)
+          (all_spliced (λ (ps : List (List (K × X))). AreSized ps) book old (page_parts is_last pages) books.pages parts.sized);
+      sorted = subst (λ (es : List (K × X)). IsStrictlySortedBy R (keys_of es)) (sym same) sorted;
+    };
+  } where
+    own : List (List (K × X))
+    own = get_or old book []
 
-  same : entries_in new ≡ after_write R k x (entries_in old)
-  same =
-      write-level total exact k x (map joined old) (map joined (page_parts grows pages)) (map joined new) at [] place
-      (parts.entries ∙ one
-      ∙ ap (after_write R k x) (sym (get_or-map joined old at [] [] (omega (arith, length_map joined old, place.in_range)))))
-      (spliced_map joined at new old (page_parts grows pages) is)
+    many : length pages ≤ 128
+    many =
+        omega (
+          arith,
+          ap length pages_are,
+          length_spliced page own (page_parts grows entries) in_pages,
+          few_parts grows entries,
+          (book_at R old book books in_books).full,
+        )
+
+    sized : AreSized pages
+    sized =
+        subst (λ (ps : List (List (K × X))). AreSized ps) (sym pages_are)
+        (all_spliced (λ (es : List (K × X)). (1 ≤ length es) × (length es ≤ 64)) page own (page_parts grows entries)
+        (book_at R old book books in_books).sized (sized_parts grows entries few))
+
+    parts : AreCut pages (page_parts is_last pages)
+    parts = parts_cut is_last pages many sized
+
+    front : List (K × X)
+    front = joined (take page own)
+
+    back : List (K × X)
+    back = joined (drop (page + 1) own)
+
+    behind : List (K × X)
+    behind = entries_in (drop (book + 1) old)
+
+    in_book : joined pages ≡ front ++ (entries ++ back)
+    in_book =
+        joined_spliced page pages own (page_parts grows entries) pages_are ∙ (λ i. front ++ (joined_parts grows entries i ++ back))
+
+    same : entries_in new ≡ with_page old book page entries
+    same =
+        joined_spliced book (map joined new) (map joined old) (map joined (page_parts is_last pages))
+        (spliced_map joined book new old (page_parts is_last pages) is)
+        ∙ (λ i. joined (take_map joined book old i) ++ ((parts.entries ∙ in_book) i ++ joined (drop_map joined (book + 1) old i)))
+        ∙ ap (λ es. entries_in (take book old) ++ es) (append_assoc front (entries ++ back) behind)
+        ∙ ap (λ es. entries_in (take book old) ++ (front ++ es)) (append_assoc entries back behind)
+        ∙ sym (append_assoc (entries_in (take book old)) front (entries ++ (back ++ behind)))
 
 -- the first books
-pub books_first : {K X Y Z V W : Type 0} {R : K → K → Ordering} (total : IsTotalOrder R) (exact : IsAntisymmetric R) (k : K) (x : Option X)
-    (entries : List (K × X)) (pages : List (Arc (Vec (K × X) Y) Z)) (books : List (Arc (Vec (Arc (Vec (K × X) Y) Z) V) W))
-    → entries ≡ after_write R k x [] → items_of pages ≡ page_parts true entries → items_of books ≡ page_parts true pages
-    → AreAfter R k x [] (pages_in books)
-unfolding IsStrictlySortedBy
-books_first {K} {X} {R = R} total exact k x entries pages books one pages_are books_are =
-    let few : length entries ≤ 65 = omega (arith, ap length one, written-full total exact k x [] tt) in
+pub books_first : {K X Y Z V W : Type 0} (R : K → K → Ordering) (entries : List (K × X)) (pages : List (Arc (Vec (K × X) Y) Z))
+    (books : List (Arc (Vec (Arc (Vec (K × X) Y) Z) V) W)) → length entries ≤ 128 → IsStrictlySortedBy R (keys_of entries)
+    → items_of pages ≡ page_parts true entries → items_of books ≡ page_parts true pages → ArePut R entries (pages_in books)
+books_first {K} {X} R entries pages books few sorted pages_are books_are =
     let sized = subst (λ (ps : List (List (K × X))). AreSized ps) (sym pages_are) (sized_parts true entries few) in
     let cut = are_cut true pages books (omega (arith, count_items pages, ap length pages_are, few_parts true entries)) sized books_are in
-    let same = cut.entries ∙ ap joined pages_are ∙ joined_parts true entries ∙ one in
+    let same = cut.entries ∙ ap joined pages_are ∙ joined_parts true entries in
     record {
-      entries = same;
+      entries_are = same;
       books = record {
         books = cut.books;
         pages = cut.sized;
-        sorted = subst (λ (es : List (K × X)). IsStrictlySortedBy R (keys_of es)) (sym same) (sorted-written total exact k x [] tt);
+        sorted = subst (λ (es : List (K × X)). IsStrictlySortedBy R (keys_of es)) (sym same) sorted;
       };
     }
 

@@ -6,6 +6,7 @@ pub mod LentLemmas
 pub mod OrderLemmas
 pub mod PageOfLemmas
 pub mod PlaceLemmas
+pub mod RisingLemmas
 pub mod SearchLemmas
 pub mod ShareLemmas
 pub mod WrittenLemmas

@@ -14,8 +14,7 @@ use Rattle.std.specs.Ordering.{is_eq, is_lt}
 use Rattle.lay_pages.specs.Shared.{joined}
 use Rattle.lay_pages.specs.Written.{AllAbove, AllBelow, IsPlace, after_write, count_of, higher, lower, written_entries}
 use Rattle.lay_pages.proofs.SearchLemmas.{turned}
-use Rattle.lay_pages.proofs.PlaceLemmas.{joined-at, written-at}
-use Rattle.lay_pages.proofs.ShareLemmas.{joined_append, spliced_at}
+use Rattle.lay_pages.proofs.PlaceLemmas.{joined-at}
 use Rattle.lay_pages.proofs.WrittenLemmas.{higher-above, lower-above}
 
 less : (o : Ordering) → is_lt o ≡ true → o ≡ Less
@@ -126,7 +125,7 @@ module _ {K X : Type 0} {R : K → K → Ordering} (total : IsTotalOrder R) (exa
     by true rest = (all-kept p (λ y. R e.0 y ≡ Less) es sorted.0, rest)
     by false rest = rest
 
-  all-lower : (k : K) (es : List (K × X)) → AllByRecursion (λ q. R q k ≡ Less) (keys_of (lower R k es))
+  pub all-lower : (k : K) (es : List (K × X)) → AllByRecursion (λ q. R q k ≡ Less) (keys_of (lower R k es))
   all-lower k [] = tt
   all-lower k (e ∷ es) = by (is_lt (R e.0 k)) refl (all-lower k es) where
     by : (b : Bool) → is_lt (R e.0 k) ≡ b → AllByRecursion (λ q. R q k ≡ Less) (keys_of (lower R k es))
@@ -166,18 +165,6 @@ module _ {K X : Type 0} {R : K → K → Ordering} (total : IsTotalOrder R) (exa
       (sorted-kept (λ q. is_lt (R k q)) es sorted)
 
   -- ---- one of the joined lists
-
-  -- others in place of the one that a write falls into
-  pub write-level : (k : K) (x : Option X) (lists others new : List (List (K × X))) (at : ℕ) (d : List (K × X)) → IsPlace R k lists at
-      → joined others ≡ after_write R k x (get_or lists at d) → new ≡ spliced_at at lists others
-      → joined new ≡ after_write R k x (joined lists)
-  write-level k x lists others new at d place one is =
-      let up : suc at ≡ at + 1 = omega arith in
-      ap joined is ∙ joined_append (take at lists) (others ++ drop (at + 1) lists)
-      ∙ ap (λ es. joined (take at lists) ++ es) (joined_append others (drop (at + 1) lists))
-      ∙ (λ i. joined (take at lists) ++ (one i ++ joined (drop (sym up i) lists)))
-      ∙ sym (written-at total exact k x lists at d place.in_range place.below
-      (subst (λ n. AllAbove R k (joined (drop n lists))) (sym up) place.above))
 
   find-below : (k : K) (es fs : List (K × X)) → AllBelow R k es → find R k (es ++ fs) ≡ find R k fs
   find-below k [] fs all = refl

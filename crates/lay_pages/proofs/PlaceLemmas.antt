@@ -1,7 +1,7 @@
 -- Which of the joined lists a write falls into.
 use Rattle.std.proofs.Common.{◌⊎◌, inl, inr}
 use Rattle.std.proofs.Common.{◌≡◌, ◌∙◌, ◌<◌, ◌≤◌, ◌++◌, ℕ, zero, suc, List, [], ◌∷◌}
-use Rattle.std.proofs.Common.{Option, append_assoc, refl, ap, sym, take, drop, length, get_or, arith, subst}
+use Rattle.std.proofs.Common.{append_assoc, refl, ap, sym, take, drop, length, get_or, arith, subst}
 use Rattle.std.specs.declared.cmp.Ordering.{Ordering}
 use Rattle.std.specs.declared.cmp.Ordering.TheVariants.{Equal, Greater, Less}
 use Rattle.std.specs.Cmp.{IsTotalOrder}
@@ -10,9 +10,8 @@ use Rattle.std.specs.List.{AllByRecursion}
 use Rattle.std.specs.List.Sorted.{IsStrictlySortedBy}
 use Rattle.std.specs.Map.{keys_of}
 use Rattle.lay_pages.specs.Shared.{AreSized, joined}
-use Rattle.lay_pages.specs.Written.{AllAbove, AllBelow, IsFirstKey, after_write}
+use Rattle.lay_pages.specs.Written.{AllAbove, AllBelow, IsFirstKey}
 use Rattle.lay_pages.proofs.SearchLemmas.{turned}
-use Rattle.lay_pages.proofs.WrittenLemmas.{written-between}
 
 -- one of the lists, and those on both sides of it
 pub joined-at : {A : Type 0} (cs : List (List A)) (at : ℕ) (d : List A) → at < length cs
@@ -54,14 +53,6 @@ module _ {K X : Type 0} {R : K → K → Ordering} (total : IsTotalOrder R) (exa
     all : (fs : List (K × X)) → AllByRecursion (λ y. R e.0 y ≡ Less) (keys_of fs) → AllAbove R k fs
     all [] h = tt
     all (f ∷ fs) h = (total.trans k e.0 f.0 less h.0, all fs h.1)
-
-  -- a write into one of the lists
-  pub written-at : (k : K) (x : Option X) (cs : List (List (K × X))) (at : ℕ) (d : List (K × X)) → at < length cs
-      → AllBelow R k (joined (take at cs)) → AllAbove R k (joined (drop (suc at) cs))
-      → after_write R k x (joined cs) ≡ joined (take at cs) ++ (after_write R k x (get_or cs at d) ++ joined (drop (suc at) cs))
-  written-at k x cs at d lt below above =
-      ap (after_write R k x) (joined-at cs at d lt)
-      ∙ written-between total k x (joined (take at cs)) (get_or cs at d) (joined (drop (suc at) cs)) below above
 
 -- what is so of all is so of one of them
 pub all-at : {A : Type 0} (P : A → Type 0) (xs : List A) (at : ℕ) (d : A) → at < length xs → AllByRecursion P xs → P (get_or xs at d)

@@ -1,5 +1,5 @@
 -- Lists of shared lists: what is at an index, others in place of one, and lists in parts.
-use Rattle.std.proofs.Common.{◌≡◌, ◌∙◌, ◌+◌, ◌<◌, ◌≤◌, ◌++◌, ℕ, zero, suc, Bool, true, false, List, [], ◌∷◌, append_assoc, refl, ap}
+use Rattle.std.proofs.Common.{◌≡◌, ◌∙◌, ◌+◌, ◌/◌, ◌<◌, ◌≤◌, ◌++◌, ℕ, zero, suc, Bool, true, false, List, [], ◌∷◌, append_assoc, refl, ap}
 use Rattle.std.proofs.Common.{cond, sym, take, drop, get_or, length, map, arith, subst}
 use Rattle.std.specs.Prelude.{nat_le}
 use Rattle.std.proofs.lemmas.List.{append-nil, get_or-map, length-append, length-drop, length-take, take-append-drop}
@@ -92,6 +92,13 @@ pub joined_append : {A : Type 0} (xs ys : List (List A)) → joined (xs ++ ys) �
 joined_append [] ys = refl
 joined_append (x ∷ xs) ys = ap (λ zs. x ++ zs) (joined_append xs ys) ∙ sym (append_assoc x (joined xs) (joined ys))
 
+-- others in place of one, joined
+pub joined_spliced : {A : Type 0} (at : ℕ) (new lists others : List (List A)) → new ≡ spliced_at at lists others
+    → joined new ≡ joined (take at lists) ++ (joined others ++ joined (drop (at + 1) lists))
+joined_spliced at new lists others is =
+    ap joined is ∙ joined_append (take at lists) (others ++ drop (at + 1) lists)
+    ∙ ap (λ es. joined (take at lists) ++ es) (joined_append others (drop (at + 1) lists))
+
 pub joined_twice : {A : Type 0} (lists : List (List (List A))) → joined (map joined lists) ≡ joined (joined lists)
 joined_twice [] = refl
 joined_twice (x ∷ xs) = ap (λ zs. joined x ++ zs) (joined_twice xs) ∙ sym (joined_append x (joined xs))
@@ -105,15 +112,15 @@ joined_parts {A} grows (x ∷ xs) = by (nat_le (length (x ∷ xs)) 64) where
   two n = ap (λ zs. take n (x ∷ xs) ++ zs) (append-nil (drop n (x ∷ xs))) ∙ take-append-drop n (x ∷ xs)
 
   by : (b : Bool)
-      → joined (cond b ((x ∷ xs) ∷ []) (take (cond grows 64 32) (x ∷ xs) ∷ drop (cond grows 64 32) (x ∷ xs) ∷ [])) ≡ x ∷ xs
+      → joined (cond b ((x ∷ xs) ∷ []) (take (cond grows 64 (length (x ∷ xs) / 2)) (x ∷ xs) ∷ drop (cond grows 64 (length (x ∷ xs) / 2)) (x ∷ xs) ∷ [])) ≡ x ∷ xs
   by true = append-nil (x ∷ xs)
-  by false = two (cond grows 64 32)
+  by false = two (cond grows 64 (length (x ∷ xs) / 2))
 
 pub few_parts : {A : Type 0} (grows : Bool) (xs : List A) → length (page_parts grows xs) ≤ 2
 few_parts grows [] = omega arith
 few_parts {A} grows (x ∷ xs) = by (nat_le (length (x ∷ xs)) 64) where
   by : (b : Bool)
-      → length (cond b ((x ∷ xs) ∷ []) (take (cond grows 64 32) (x ∷ xs) ∷ drop (cond grows 64 32) (x ∷ xs) ∷ [])) ≤ 2
+      → length (cond b ((x ∷ xs) ∷ []) (take (cond grows 64 (length (x ∷ xs) / 2)) (x ∷ xs) ∷ drop (cond grows 64 (length (x ∷ xs) / 2)) (x ∷ xs) ∷ [])) ≤ 2
   by true = omega arith
   by false = omega arith
 
@@ -122,11 +129,11 @@ pub all_parts : {A : Type 0} (P : A → Type 0) (grows : Bool) (xs : List A) →
 all_parts P grows [] all = tt
 all_parts {A} P grows (x ∷ xs) all = by (nat_le (length (x ∷ xs)) 64) where
   by : (b : Bool) → AllByRecursion (λ (ys : List A). AllByRecursion P ys)
-      (cond b ((x ∷ xs) ∷ []) (take (cond grows 64 32) (x ∷ xs) ∷ drop (cond grows 64 32) (x ∷ xs) ∷ []))
+      (cond b ((x ∷ xs) ∷ []) (take (cond grows 64 (length (x ∷ xs) / 2)) (x ∷ xs) ∷ drop (cond grows 64 (length (x ∷ xs) / 2)) (x ∷ xs) ∷ []))
   by true = (all, tt)
-  by false = (all_take P (cond grows 64 32) (x ∷ xs) all, (all_drop P (cond grows 64 32) (x ∷ xs) all, tt))
+  by false = (all_take P (cond grows 64 (length (x ∷ xs) / 2)) (x ∷ xs) all, (all_drop P (cond grows 64 (length (x ∷ xs) / 2)) (x ∷ xs) all, tt))
 
-pub sized_parts : {A : Type 0} (grows : Bool) (xs : List A) → length xs ≤ 65 → AreSized (page_parts grows xs)
+pub sized_parts : {A : Type 0} (grows : Bool) (xs : List A) → length xs ≤ 128 → AreSized (page_parts grows xs)
 sized_parts grows [] le = tt
 sized_parts {A} grows (x ∷ xs) le = by grows (nat_le (length (x ∷ xs)) 64) refl where
   two : (n : ℕ) → 1 ≤ n → n ≤ 64 → n < length (x ∷ xs) → length (x ∷ xs) ≤ n + 64
@@ -137,21 +144,22 @@ sized_parts {A} grows (x ∷ xs) le = by grows (nat_le (length (x ∷ xs)) 64) r
       ((omega (arith, t), omega (arith, t)), ((omega (arith, d), omega (arith, d)), tt))
 
   by : (g b : Bool) → nat_le (length (x ∷ xs)) 64 ≡ b
-      → AreSized (cond b ((x ∷ xs) ∷ []) (take (cond g 64 32) (x ∷ xs) ∷ drop (cond g 64 32) (x ∷ xs) ∷ []))
+      → AreSized (cond b ((x ∷ xs) ∷ []) (take (cond g 64 (length (x ∷ xs) / 2)) (x ∷ xs) ∷ drop (cond g 64 (length (x ∷ xs) / 2)) (x ∷ xs) ∷ []))
   by g true is = ((omega arith, grind (arith, nat_tests)), tt)
   by true false is =
       let more : 64 < length (x ∷ xs) = grind (arith, nat_tests) in two 64 (omega arith) (omega arith) more (omega (arith, le))
   by false false is =
       let more : 64 < length (x ∷ xs) = grind (arith, nat_tests) in
-      two 32 (omega arith) (omega arith) (omega (arith, more)) (omega (arith, le))
+      two (length (x ∷ xs) / 2) (omega (arith, more)) (omega (arith, le)) (omega (arith, more)) (omega (arith, le))
 
 pub parts_map : {A B : Type 0} (f : A → B) (grows : Bool) (xs : List A) → map (λ ys. map f ys) (page_parts grows xs) ≡ page_parts grows
     (map f xs)
 parts_map f grows [] = refl
 parts_map {A} {B} f grows (x ∷ xs) =
-    by (nat_le (length (x ∷ xs)) 64) (cond grows 64 32)
+    by (nat_le (length (x ∷ xs)) 64) (cond grows 64 (length (x ∷ xs) / 2))
     ∙ ap (λ n. cond (nat_le (suc n) 64) ((f x ∷ map f xs) ∷ [])
-    (take (cond grows 64 32) (f x ∷ map f xs) ∷ drop (cond grows 64 32) (f x ∷ map f xs) ∷ [])) (sym (length_map f xs)) where
+    (take (cond grows 64 (suc n / 2)) (f x ∷ map f xs) ∷ drop (cond grows 64 (suc n / 2)) (f x ∷ map f xs) ∷ []))
+    (sym (length_map f xs)) where
       by : (b : Bool) (n : ℕ) → map (λ ys. map f ys) (cond b ((x ∷ xs) ∷ []) (take n (x ∷ xs) ∷ drop n (x ∷ xs) ∷ []))
           ≡ cond b ((f x ∷ map f xs) ∷ []) (take n (f x ∷ map f xs) ∷ drop n (f x ∷ map f xs) ∷ [])
       by true n = refl
@@ -187,7 +195,7 @@ pub record AreCut {X : Type 0} (pages : List (List X)) (lists : List (List (List
   pub books : AreSized lists
   pub sized : AllByRecursion AreSized lists
 
-pub parts_cut : {X : Type 0} (grows : Bool) (pages : List (List X)) → length pages ≤ 65 → AreSized pages
+pub parts_cut : {X : Type 0} (grows : Bool) (pages : List (List X)) → length pages ≤ 128 → AreSized pages
     → AreCut pages (page_parts grows pages)
 parts_cut {X} grows pages le sized = record {
   entries = joined_twice (page_parts grows pages) ∙ ap joined (joined_parts grows pages);
@@ -202,7 +210,7 @@ books_twice {X} {Y} {Z} {V} {W} books =
     mapped_twice (λ (ps : List (Arc (Vec X Y) Z)). items_of ps) (λ (s : Arc (Vec (Arc (Vec X Y) Z) V) W). s.value.items) books
 
 pub are_cut : {X Y Z V W : Type 0} (grows : Bool) (list : List (Arc (Vec X Y) Z)) (new : List (Arc (Vec (Arc (Vec X Y) Z) V) W))
-    → length list ≤ 65 → AreSized (items_of list) → items_of new ≡ page_parts grows list → AreCut (items_of list) (pages_in new)
+    → length list ≤ 128 → AreSized (items_of list) → items_of new ≡ page_parts grows list → AreCut (items_of list) (pages_in new)
 are_cut {X} {Y} {Z} {V} {W} grows list new le sized is =
     subst (λ (books : List (List (List X))). AreCut (items_of list) books) (sym shape)
     (parts_cut grows (items_of list) (omega (arith, count_items list, le)) sized) where

@@ -1,5 +1,5 @@
 -- Lists of shared lists: what they hold, their sizes, and the parts that a list is put into.
-use Rattle.std.specs.Prelude.{◌≡◌, ℕ, ◌≤◌, List, [], ◌∷◌, ◌++◌, Bool, cond, drop, length, map, nat_le, take}
+use Rattle.std.specs.Prelude.{◌≡◌, ℕ, ◌≤◌, ◌/◌, List, [], ◌∷◌, ◌++◌, Bool, cond, drop, length, map, nat_le, take}
 use Rattle.std.specs.declared.cmp.Ordering.{Ordering}
 use Rattle.std.specs.declared.sync.Arc.{Arc}
 use Rattle.std.specs.declared.vec.Vec.{Vec}
@@ -26,12 +26,12 @@ AreSized lists = AllByRecursion (λ xs. (1 ≤ length xs) × (length xs ≤ 64))
 abbrev pub entries_in : {X : Type 0} → List (List (List X)) → List X
 entries_in books = joined (map joined books)
 
--- a list of up to 64, or two where there are more: the first has 64 where the list grows at its end, else 32
+-- a list of up to 64, or two where there are more: the first has 64 where the list grows at its end, else half of all
 abbrev pub page_parts : {X : Type 0} → Bool → List X → List (List X)
 page_parts grows [] = []
 page_parts grows (x ∷ xs) =
     cond (nat_le (length (x ∷ xs)) 64) ((x ∷ xs) ∷ [])
-    (take (cond grows 64 32) (x ∷ xs) ∷ drop (cond grows 64 32) (x ∷ xs) ∷ [])
+    (take (cond grows 64 (length (x ∷ xs) / 2)) (x ∷ xs) ∷ drop (cond grows 64 (length (x ∷ xs) / 2)) (x ∷ xs) ∷ [])
 
 -- books of pages of entries in order
 pub record AreBooks {K X : Type 0} (R : K → K → Ordering) (lists : List (List (List (K × X)))) : Type 0 where

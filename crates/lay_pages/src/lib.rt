@@ -14,7 +14,9 @@
 //!   equal to it.
 //!
 //! A write makes a page, its book and the list of the books anew ([`Pages::with`]): up to 64
-//! entries, 64 pages and one book for some 2,000 to 4,096 entries. [`Pages::share`] copies nothing.
+//! entries, 64 pages and one book for some 2,000 to 4,096 entries. Writes whose keys rise
+//! ([`Pages::with_rising`]) are made in groups of up to 64 that fall into the same page, and each
+//! group makes those anew once. [`Pages::share`] copies nothing.
 //!
 //! # Invariants
 //!
@@ -27,12 +29,12 @@
 //! # Files
 //!
 //! - `pages.rt`, `builder.rt`, `entries.rt`: a type each; `keys.rt`: the traits of keys and values.
-//! - `page.rt`: a page. A key is found in it by halving, and a write makes it anew
+//! - `page.rt`: a page. A key is found in it by halving, and a group of writes makes it anew
 //!   (`specs/Written.antt`).
 //! - `page_place.rt`, `place.rt`: into which book and which page a key falls (`specs/Places.antt`).
 //! - `look.rt`, `beside.rt`: the value under a key, and the entry before it.
-//! - `update.rt`: what a write makes anew; `share.rt` and `lists.rt`: lists of shared lists of up
-//!   to 64, spliced, appended to, or filled in one pass.
+//! - `update.rt`: which writes are a group, and what they make anew; `share.rt` and `lists.rt`:
+//!   lists of shared lists of up to 64, spliced, appended to, or filled in one pass.
 #![tactic(auto)]
 
 mod beside;

@@ -7,10 +7,10 @@ ghost use Rattle.lay_pages.specs.Written.{
   IsFirstKey,
   IsFoundAt,
   IsGapAt,
-  after_write,
   from_key,
   higher,
   lower,
+  written_all,
   written_entries,
 };
 
@@ -79,28 +79,48 @@ pub fn from<K: PageKey, V>(page: &[(K, V)], key: K) -> &[(K, V)]
     }
 }
 
-/// Returns the page after a write.
+/// Returns the page after these writes, which are in order of their keys.
 ///
 /// # Errors
 ///
 /// `AllocError`, if an allocation fails.
-pub fn with<K: PageKey, V: Kept>(
+///
+/// # Cost
+///
+/// A pass over the entries, and a search by halving for each write.
+pub fn with_all<K: PageKey, V: Kept>(
     alloc: Global,
     page: &[(K, V)],
-    key: K,
-    value: Option<V>,
+    writes: &[(K, Option<V>)],
 ) -> Result<Vec<(K, V)>, AllocError>
-    requires { IsStrictlySortedBy K.cmp (keys_of page.now) }
-    ensures { IfOk result (λ new. new.items ≡ after_write K.cmp key value page.now) }
+    requires sorted { IsStrictlySortedBy K.cmp (keys_of page.now) }
+    requires rising { IsStrictlySortedBy K.cmp (keys_of writes.now) }
+    ensures { IfOk result (λ new. new.items ≡ written_all K.cmp page.now writes.now) }
 {
-    let (before, after) = around(page, key);
-    let mut new = Vec::with_capacity(alloc, page.len().saturating_add(1))?;
-    append(&mut new, before)?;
-    if let Some(value) = value {
-        new.push((key, value))?;
+    let mut new = Vec::with_capacity(alloc, page.len().saturating_add(writes.len()))?;
+    let mut rest = page;
+    for (key, value) in writes {
+        let (before, after) = around(rest, *key);
+        append(&mut new, before)?;
+        push_written(&mut new, *key, value)?;
+        rest = after;
     }
-    append(&mut new, after)?;
+    append(&mut new, rest)?;
     Ok(new)
+}
+
+/// Appends what a write leaves under its key.
+fn push_written<K: PageKey, V: Kept>(
+    new: &mut Vec<(K, V)>,
+    key: K,
+    value: &Option<V>,
+) -> Result<(), AllocError>
+    ensures { OnOk result (new.new.items ≡ new.old.items ++ written_entries key value.now) }
+{
+    if let Some(value) = value {
+        new.push((key, value.clone()?))?;
+    }
+    Ok(())
 }
 
 /// Appends copies of the entries.

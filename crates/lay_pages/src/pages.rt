@@ -1,5 +1,5 @@
 //! The map as a list of books of pages.
-ghost use Rattle.std.specs.Prelude.{◌≡◌, ◌*◌, ◌≤◌, [], IfOk, length, option_copied};
+ghost use Rattle.std.specs.Prelude.{◌≡◌, ◌<◌, ◌*◌, ◌≤◌, [], IfOk, length, option_copied, take};
 ghost use Rattle.std.specs.Cmp.Lexicographic.{pointwise};
 ghost use Rattle.std.specs.FinMap.{find};
 ghost use Rattle.std.specs.List.Sorted.{IsStrictlySortedBy};
@@ -20,10 +20,11 @@ ghost use Rattle.lay_pages.specs.Written.{
 use crate::beside::below;
 use crate::entries::{Entries, are_same};
 use crate::keys::{Kept, PageKey};
-use crate::look::{count_pages, find, has_value};
+use crate::look::{count_pages, find};
+use crate::page;
 use crate::page::Book;
-use crate::place::place_of;
-use crate::update::{books_with, first_books, len_with};
+use crate::place::entries_at;
+use crate::update::{books_with, first_books, group_of, is_after, len_with};
 use std::alloc::{AllocError, Global};
 use std::marker::Model;
 use std::sync::Arc;
@@ -189,22 +190,77 @@ impl<K: PageKey, V: Kept> Pages<K, V> {
         ensures entries { IfOk result (λ new. new ≡ after_write K.cmp key value self.now) }
         ensures sorted { IfOk result (λ new. IsStrictlySortedBy K.cmp (keys_of new)) }
     {
-        let books = self.books();
-        if books.is_empty() {
-            return Pages::first(alloc, key, value);
-        }
-        let place = place_of(books, key);
-        let len = len_with(self.len, has_value(books, place, key), &value)?;
-        let books = books_with(alloc, books, place, key, value)?;
-        Pages::of(alloc, books, len)
+        let mut write = Vec::with_capacity(alloc, 1)?;
+        write.push((key, value))?;
+        let (new, _) = self.with_group(alloc, &write)?;
+        Ok(new)
     }
 
-    /// Returns the entries that a write leaves of none.
-    fn first(alloc: Global, key: K, value: Option<V>) -> Result<Pages<K, V>, AllocError>
-        ensures { IfOk result (λ new. new ≡ after_write K.cmp key value []) }
+    /// Returns the entries after these writes, whose keys rise.
+    ///
+    /// # Errors
+    ///
+    /// `AllocError`, if an allocation fails.
+    ///
+    /// # Cost
+    ///
+    /// For each 64 writes or fewer that fall into the same page, that of `with` once, and for each write that of
+    /// `get`.
+    pub fn with_rising(
+        &self,
+        alloc: Global,
+        writes: &[(K, Option<V>)],
+    ) -> Result<Pages<K, V>, AllocError>
+        requires { IsStrictlySortedBy K.cmp (keys_of writes.now) }
+        ensures entries { IfOk result (λ new. new ≡ written_all K.cmp self.now writes.now) }
+        ensures sorted { IfOk result (λ new. IsStrictlySortedBy K.cmp (keys_of new)) }
     {
-        let len = len_with(0, false, &value)?;
-        let books = first_books(alloc, key, value)?;
+        let mut new = self.share(alloc)?;
+        let mut rest = writes;
+        while !rest.is_empty() {
+            let (next, count) = new.with_group(alloc, rest)?;
+            new = next;
+            rest = &rest[count..];
+        }
+        Ok(new)
+    }
+
+    /// Returns the entries after the first of the writes and those after it that fall into the same page, up to 64,
+    /// and how many writes these are.
+    fn with_group(
+        &self,
+        alloc: Global,
+        writes: &[(K, Option<V>)],
+    ) -> Result<(Pages<K, V>, usize), AllocError>
+        requires some { 0 < length writes.now }
+        requires rising { IsStrictlySortedBy K.cmp (keys_of writes.now) }
+        ensures entries { IfOk result (λ new. new.0 ≡ written_all K.cmp self.now (take new.1 writes.now)) }
+        ensures some { IfOk result (λ new. 0 < new.1) }
+        ensures within { IfOk result (λ new. new.1 ≤ length writes.now) }
+    {
+        let books = self.books();
+        if books.is_empty() {
+            let count = writes.len().min(64);
+            return Ok((Pages::first(alloc, &writes[..count])?, count));
+        }
+        let (place, count) = group_of(books, writes);
+        let page = entries_at(books, place);
+        let entries = page::with_all(alloc, page, &writes[..count])?;
+        let len = len_with(self.len, page.len(), entries.len())?;
+        let books = books_with(alloc, books, place, entries, is_after(page, writes[0].0))?;
+        Ok((Pages::of(alloc, books, len)?, count))
+    }
+
+    /// Returns the entries that up to 64 writes, whose keys rise, leave of none.
+    fn first(alloc: Global, writes: &[(K, Option<V>)]) -> Result<Pages<K, V>, AllocError>
+        requires rising { IsStrictlySortedBy K.cmp (keys_of writes.now) }
+        requires few { length writes.now ≤ 64 }
+        ensures { IfOk result (λ new. new ≡ written_all K.cmp [] writes.now) }
+    {
+        let none = Vec::new(alloc);
+        let entries = page::with_all(alloc, &none, writes)?;
+        let len = entries.len();
+        let books = first_books(alloc, entries)?;
         Pages::of(alloc, books, len)
     }
 

@@ -8,7 +8,7 @@ use crate::page::{Book, Page};
 use crate::page_place::{book_of, page_of};
 
 /// A page of books: the index of its book, and its own in that book.
-#[derive(Clone, Copy)]
+#[derive(Clone, Copy, PartialEq, Eq)]
 pub(crate) struct Place {
     pub(crate) book: usize,
     pub(crate) page: usize,

@@ -1,7 +1,7 @@
 //! Lists of shared lists: what is put behind them in parts, and in place of one of them.
 //!
-//! Of 65 elements 32 stay in the first part, but 64 where the last one is new: with 64 in each
-//! case, keys that come in falling order would leave a page for each entry.
+//! Of more than 64 elements half stay in the first part, but 64 where the last ones are new: with 64
+//! in each case, keys that come in falling order would leave a page for each entry.
 ghost use Rattle.std.specs.Prelude.{◌≡◌, ◌++◌, ◌<◌, ◌≤◌, ◌+◌, [], ◌∷◌, IfOk, OnOk, length, take, drop};
 ghost use Rattle.lay_pages.specs.Shared.{items_of, page_parts};
 
@@ -22,7 +22,7 @@ pub(crate) fn spliced<T: Drop>(
     grows: bool,
 ) -> Result<Vec<Arc<Vec<T>>>, AllocError>
     requires in_range { at < length lists.now }
-    requires few { length elements.items ≤ 65 }
+    requires few { length elements.items ≤ 128 }
     ensures { IfOk result (λ new. items_of new.items
         ≡ take at (items_of lists.now) ++ (page_parts grows elements.items ++ drop (at + 1) (items_of lists.now))) }
 {
@@ -44,21 +44,23 @@ fn append<T: Drop>(new: &mut Vec<Arc<Vec<T>>>, lists: &[Arc<Vec<T>>]) -> Result<
 }
 
 /// Puts the elements behind the lists, in parts of up to 64: none, one, or two where there are more. The first of
-/// two has 64 where the lists grow at their end, and else 32. Where that runs out of memory, some may be there.
+/// two has 64 where the lists grow at their end, and else half of all. Where that runs out of memory, some may be
+/// there.
 pub(crate) fn push_parts<T: Drop>(
     alloc: Global,
     lists: &mut Vec<Arc<Vec<T>>>,
     mut elements: Vec<T>,
     grows: bool,
 ) -> Result<(), AllocError>
-    requires { length elements.items ≤ 65 }
+    requires { length elements.items ≤ 128 }
     ensures { OnOk result (items_of lists.new.items ≡ items_of lists.old.items ++ page_parts grows elements.items) }
 {
     if elements.is_empty() {
         return Ok(());
     }
     if elements.len() > 64 {
-        let rest = elements.split_off(if grows { 64 } else { 32 })?;
+        let first = if grows { 64 } else { elements.len() / 2 };
+        let rest = elements.split_off(first)?;
         push_list(alloc, lists, elements)?;
         push_list(alloc, lists, rest)?;
     } else {

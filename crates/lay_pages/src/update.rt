@@ -1,89 +1,84 @@
-//! What a write makes anew: one page of one book, which may be cut in two, and the number of entries.
-ghost use Rattle.std.specs.Prelude.{◌≡◌, ◌<◌, ◌≤◌, ◌+◌, [], IfOk, cond, length, true};
+//! What writes make anew: one page of one book, which may be cut in two.
+ghost use Rattle.std.specs.Prelude.{◌≡◌, ◌<◌, ◌≤◌, ◌+◌, [], IfOk, length, slice_index_or, take};
 ghost use Rattle.std.specs.List.Sorted.{IsStrictlySortedBy};
 ghost use Rattle.std.specs.Map.{keys_of};
-ghost use Rattle.lay_pages.specs.Shared.{
-  AreBooks,
-  AreSized,
-  entries_in,
-  items_of,
-  joined,
-  pages_in,
-};
-ghost use Rattle.lay_pages.specs.Written.{IsPlace, after_write, count_of};
-ghost use Rattle.lay_pages.specs.Places.{IsPageOf};
+ghost use Rattle.lay_pages.specs.Shared.{AreBooks, entries_in, pages_in};
+ghost use Rattle.lay_pages.specs.Places.{AreOfPage, with_page};
 
 use crate::keys::{Kept, PageKey};
-use crate::page;
 use crate::page::{Book, Page};
-use crate::place::Place;
+use crate::place::{Place, place_of};
 use crate::share::{push_parts, spliced};
 use std::alloc::{AllocError, Global};
 use std::cmp::Ordering;
 
-/// Returns the books after a write into this page. All but one are shared.
+/// Returns the page into which the first of the writes falls, and how many of the first writes fall into it: up to
+/// 64.
+pub(crate) fn group_of<K: PageKey, V: Kept>(
+    books: &[Book<K, V>],
+    writes: &[(K, Option<V>)],
+) -> (Place, usize)
+    requires books { AreBooks K.cmp (pages_in books.now) }
+    requires some { 0 < length books.now }
+    requires writes { 0 < length writes.now }
+    ensures some { 0 < result.1 }
+    ensures few { result.1 ≤ 64 }
+    ensures within { result.1 ≤ length writes.now }
+    ensures book { result.0.book < length books.now }
+    ensures page { result.0.page < length (slice_index_or (pages_in books.now) result.0.book []) }
+    ensures falls { AreOfPage K.cmp (take result.1 writes.now) (pages_in books.now) result.0.book result.0.page }
+{
+    let place = place_of(books, writes[0].0);
+    let mut count = 1;
+    while count < 64 && count < writes.len() && place_of(books, writes[count].0) == place {
+        count += 1;
+    }
+    (place, count)
+}
+
+/// Returns the books with these entries in place of those of a page. All other books and pages are shared.
 pub(crate) fn books_with<K: PageKey, V: Kept>(
     alloc: Global,
     books: &[Book<K, V>],
     place: Place,
-    key: K,
-    value: Option<V>,
+    entries: Vec<(K, V)>,
+    grows: bool,
 ) -> Result<Vec<Book<K, V>>, AllocError>
     requires books { AreBooks K.cmp (pages_in books.now) }
-    requires place { IsPageOf K.cmp key (pages_in books.now) place.book place.page }
+    requires book { place.book < length books.now }
+    requires page { place.page < length (slice_index_or (pages_in books.now) place.book []) }
+    requires few { length entries.items ≤ 128 }
+    requires sorted { IsStrictlySortedBy K.cmp
+        (keys_of (with_page (pages_in books.now) place.book place.page entries.items)) }
     ensures entries { IfOk result (λ new. entries_in (pages_in new.items)
-        ≡ after_write K.cmp key value (entries_in (pages_in books.now))) }
+        ≡ with_page (pages_in books.now) place.book place.page entries.items) }
     ensures books { IfOk result (λ new. AreBooks K.cmp (pages_in new.items)) }
 {
     let pages: &[Page<K, V>] = &books[place.book];
-    let grows = place.page + 1 == pages.len();
-    let new = pages_with(alloc, pages, place.page, key, value)?;
-    let books = spliced(alloc, books, place.book, new, grows)?;
+    let is_last = place.page + 1 == pages.len();
+    let new = spliced(alloc, pages, place.page, entries, grows)?;
+    let books = spliced(alloc, books, place.book, new, is_last)?;
     Ok(books)
 }
 
-/// Returns the pages of a book after a write into one of them. All but one are shared.
-fn pages_with<K: PageKey, V: Kept>(
-    alloc: Global,
-    pages: &[Page<K, V>],
-    at: usize,
-    key: K,
-    value: Option<V>,
-) -> Result<Vec<Page<K, V>>, AllocError>
-    requires sized { AreSized (items_of pages.now) }
-    requires sorted { IsStrictlySortedBy K.cmp (keys_of (joined (items_of pages.now))) }
-    requires place { IsPlace K.cmp key (items_of pages.now) at }
-    ensures entries { IfOk result (λ new. joined (items_of new.items)
-        ≡ after_write K.cmp key value (joined (items_of pages.now))) }
-    ensures sized { IfOk result (λ new. AreSized (items_of new.items)) }
-    ensures few { IfOk result (λ new. length new.items ≤ length pages.now + 1) }
-{
-    let page: &[(K, V)] = &pages[at];
-    let grows = is_after(page, key);
-    let entries = page::with(alloc, page, key, value)?;
-    let pages = spliced(alloc, pages, at, entries, grows)?;
-    Ok(pages)
-}
-
 /// Returns whether the key is above the last of the page.
-fn is_after<K: PageKey, V: Kept>(page: &[(K, V)], key: K) -> bool {
+pub(crate) fn is_after<K: PageKey, V: Kept>(page: &[(K, V)], key: K) -> bool {
     match page.last() {
         Some((last, _)) => last.cmp(&key) == Ordering::Less,
         None => true,
     }
 }
 
-/// Returns the books that a write leaves of none.
+/// Returns the books of these entries.
 pub(crate) fn first_books<K: PageKey, V: Kept>(
     alloc: Global,
-    key: K,
-    value: Option<V>,
+    entries: Vec<(K, V)>,
 ) -> Result<Vec<Book<K, V>>, AllocError>
-    ensures entries { IfOk result (λ new. entries_in (pages_in new.items) ≡ after_write K.cmp key value []) }
+    requires few { length entries.items ≤ 128 }
+    requires sorted { IsStrictlySortedBy K.cmp (keys_of entries.items) }
+    ensures entries { IfOk result (λ new. entries_in (pages_in new.items) ≡ entries.items) }
     ensures books { IfOk result (λ new. AreBooks K.cmp (pages_in new.items)) }
 {
-    let none = Vec::new(alloc);
-    let entries = page::with(alloc, &none, key, value)?;
     let mut pages = Vec::new(alloc);
     push_parts(alloc, &mut pages, entries, true)?;
     let mut books = Vec::new(alloc);
@@ -91,19 +86,11 @@ pub(crate) fn first_books<K: PageKey, V: Kept>(
     Ok(books)
 }
 
-/// Returns the number of entries after a write of this value, or of none, under a key that had a value before, or
-/// none. Where a `usize` hasn't the number, that is out of memory.
-pub(crate) fn len_with<V: Kept>(
-    len: usize,
-    had_value: bool,
-    value: &Option<V>,
-) -> Result<usize, AllocError>
-    requires { had_value ≡ true → 0 < len }
-    ensures { IfOk result (λ new. new + cond had_value 1 0 ≡ len + count_of value.now) }
+/// Returns the number of entries where so many new ones take the place of so many old ones. Where a `usize` hasn't the
+/// number, that is out of memory.
+pub(crate) fn len_with(len: usize, old: usize, new: usize) -> Result<usize, AllocError>
+    requires { old ≤ len }
+    ensures { IfOk result (λ count. count + old ≡ len + new) }
 {
-    let more = match value {
-        Some(_) => len.checked_add(1).ok_or(AllocError)?,
-        None => len,
-    };
-    if had_value { Ok(more - 1) } else { Ok(more) }
+    (len - old).checked_add(new).ok_or(AllocError)
 }

@@ -1,4 +1,5 @@
 pub mod Moving
 pub mod Operated
+pub mod RisingWrites
 pub mod Searches
 pub mod Shifting

@@ -1,5 +1,7 @@
 //! Acts: what an accepted command is to do.
-ghost use Rattle.std.specs.Prelude.{◌≡◌, [], ◌∷◌, IfOk, List, None};
+ghost use Rattle.std.specs.Prelude.{◌≡◌, ◌<◌, ◌≤◌, [], ◌∷◌, IfOk, List, None, length, take};
+ghost use Rattle.lay_layouts.specs.Ids.{id_cmp};
+ghost use Rattle.lay_layouts.specs.Layout.{AreRising};
 ghost use Rattle.txn_commands.specs.declared.element.Element as elements;
 ghost use Rattle.txn_commands.specs.declared.element.Element.TheVariants.{Item as ItemElement};
 ghost use Rattle.txn_commands.specs.Acts.{
@@ -94,7 +96,8 @@ fn item_over(
     layout.with(alloc, &[(id, item)], &[])
 }
 
-/// Returns the layout after these writes of items, one behind the other.
+/// Returns the layout after these writes of items, one behind the other. As long as their ids rise, they are written
+/// at once: those of an operation rise up to the last that goes, and again from the first that comes.
 fn items_over(
     alloc: Global,
     layout: &Version,
@@ -103,10 +106,27 @@ fn items_over(
     ensures { IfOk result (λ new. new ≡ rewritten layout.now items.now []) }
 {
     let mut new = layout.with(alloc, &[], &[])?;
-    for write in items {
-        new = new.with(alloc, std::slice::from_ref(write), &[])?;
+    let mut rest = items;
+    while !rest.is_empty() {
+        let (rising, behind) = rest.split_at(rising_len(rest));
+        new = new.with(alloc, rising, &[])?;
+        rest = behind;
     }
     Ok(new)
+}
+
+/// Returns how many of the first writes have ids that rise.
+fn rising_len(items: &[(ItemId, Option<Item>)]) -> usize
+    requires { 0 < length items.now }
+    ensures some { 0 < result }
+    ensures within { result ≤ length items.now }
+    ensures rising { AreRising id_cmp (take result items.now) }
+{
+    let mut count = 1;
+    while count < items.len() && items[count - 1].0.cmp(&items[count].0).is_lt() {
+        count += 1;
+    }
+    count
 }
 
 /// An item comes to stand under a new id. The elements begin with that of the id.
