@@ -58,8 +58,9 @@ enum Step {
 ///
 /// # Cost
 ///
-/// For each shape, sorts of its edges and its corners, and at each height at which an edge ends a pass over
-/// the edges that reach it; and a version made anew.
+/// For each shape, sorts of its edges, its corners and the ways between its rings, of each of these ways that
+/// isn't within the boxes of two rings a pass over the rings, and at each height at which an edge ends a pass
+/// over the edges that reach it; and a version made anew.
 pub fn oriented_layout(alloc: Global, layout: &Snapshot) -> Result<Directed, NoMemory>
     ensures { IfOk result (λ directed. IsDirectedNaming layout.now directed.layout directed.staying directed.first.items) }
 {

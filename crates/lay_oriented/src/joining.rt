@@ -3,20 +3,18 @@ ghost use Rattle.std.specs.Prelude.{◌≡◌, IfOk, IfSome, true};
 ghost use Rattle.lay_oriented.specs.Net.{AreJoined, GoAlike};
 ghost use Rattle.lay_point.specs.RingEdges.{edges_of};
 
+use crate::corner::{Corner, Side};
 use crate::directed_net::directed_net;
+use crate::finding::find_ways;
 use crate::linking::ring_round;
 use crate::net::are_same;
 use crate::orienting::are_rings;
-use crate::walk::{Stop, join, path_of};
+use crate::outline::Outline;
+use crate::uniting::Walks;
+use crate::walk::{Stop, path_of};
+use crate::ways::Found;
 use lay_point::{NoMemory, Point, Ring};
 use std::alloc::{AllocError, Global};
-use std::collections::BTreeMap;
-
-/// How many heights on either side of a corner are looked at for a near one.
-const REACH: usize = 16;
-
-/// A corner of a ring, by its place, the number of its ring, and its number in the walk.
-type Corner = (Point, usize, usize);
 
 /// Returns one ring that goes round each of these once, and along each way between two of them out and
 /// back, or `None` where there is one ring or none, or where that ring isn't found to be so or would be
@@ -49,31 +47,19 @@ fn go_alike(alloc: Global, new: &[Ring], old: &[Ring]) -> Result<bool, NoMemory>
     Ok(are_same(new_net.as_slice(), old_net.as_slice()))
 }
 
-/// Returns the path round the rings. From left to right, each ring is joined at its first corner to one that
-/// was passed and is near it.
+/// Returns the path round the rings, which is joined along ways between their corners.
 fn path_round(alloc: Global, rings: &[Ring]) -> Result<Vec<Point>, NoMemory> {
-    let (mut walk, mut corners) = walks_of(alloc, rings)?;
+    let (walk, mut corners) = walks_of(alloc, rings)?;
+    let mut sides = sides_of(alloc, corners.as_slice(), walk.as_slice())?;
     corners.sort_unstable();
-    let mut is_joined = Vec::new(alloc);
-    is_joined.resize(rings.len(), false)?;
-    let mut passed = BTreeMap::new(alloc);
-    for (at, ring, number) in corners.as_slice() {
-        if is_first(is_joined.as_mut_slice(), *ring)
-            && let Some(from) = nearest(&passed, *at)
-        {
-            join(&mut walk, from, *number)?;
-        }
-        passed.insert(at.y, (at.x, *number))?;
-    }
-    Ok(path_of(alloc, walk.as_slice())?)
-}
-
-/// Returns whether this ring isn't joined yet, and takes it for joined from now on.
-fn is_first(is_joined: &mut [bool], ring: usize) -> bool {
-    match is_joined.get_mut(ring) {
-        None => false,
-        Some(joined) => !std::mem::replace(joined, true),
-    }
+    sides.sort_unstable_by_key(|side: &Side| side.start.at);
+    let mut found = Found::new(alloc, outlines_of(alloc, rings)?)?;
+    find_ways(alloc, &mut found, corners.as_slice(), sides.as_slice())?;
+    found.ways.sort_unstable();
+    let mut walks = Walks::new(alloc, walk, rings.len())?;
+    walks.join_within(alloc, &found)?;
+    walks.join_rest(&found)?;
+    Ok(path_of(alloc, walks.walk.as_slice())?)
 }
 
 /// Returns the walks round each of the rings, and the rings' corners.
@@ -95,28 +81,36 @@ fn add_walk(
 ) -> Result<(), AllocError> {
     let start = walk.len();
     let mut left = points;
-    while let Some((point, behind)) = left.split_first() {
+    while let Some((point, after)) = left.split_first() {
         let number = walk.len();
-        let next = if behind.is_empty() { start } else { number + 1 };
-        corners.push((*point, ring, number))?;
+        let next = if after.is_empty() { start } else { number + 1 };
+        corners.push(Corner {
+            at: *point,
+            ring,
+            stop: number,
+        })?;
         walk.push(Stop { at: *point, next })?;
-        left = behind;
+        left = after;
     }
     Ok(())
 }
 
-/// Returns the number of a passed corner near this place, if any was passed: the nearest of the last ones at
-/// some heights on either side.
-fn nearest(passed: &BTreeMap<i32, (i32, usize)>, at: Point) -> Option<usize> {
-    let below = passed.range(..=at.y).rev().take(REACH);
-    let above = passed.range(at.y..).take(REACH);
-    let near = below
-        .chain(above)
-        .min_by_key(|(y, (x, _))| distance(at, Point { x: *x, y: **y }))?;
-    Some(near.1.1)
+/// Returns the sides between the corners, which are in the order of the walk's stops.
+fn sides_of(alloc: Global, corners: &[Corner], walk: &[Stop]) -> Result<Vec<Side>, AllocError> {
+    let mut sides = Vec::with_capacity(alloc, walk.len())?;
+    for (corner, stop) in corners.iter().zip(walk) {
+        if let Some(next) = corners.get(stop.next) {
+            sides.push(Side::between(*corner, *next))?;
+        }
+    }
+    Ok(sides)
 }
 
-/// Returns how far one place is from the other along both axes.
-fn distance(from: Point, to: Point) -> u64 {
-    u64::from(from.x.abs_diff(to.x)) + u64::from(from.y.abs_diff(to.y))
+/// Returns the boxes round the rings.
+fn outlines_of(alloc: Global, rings: &[Ring]) -> Result<Vec<Outline>, AllocError> {
+    let mut outlines = Vec::with_capacity(alloc, rings.len())?;
+    for ring in rings {
+        outlines.push(Outline::round(ring.points()))?;
+    }
+    Ok(outlines)
 }

@@ -36,17 +36,27 @@
 //! # How rings are joined
 //!
 //! A shape of several rings becomes one of one ring, which goes once round each and along each way
-//! between two of them out and back. From left to right, each ring is joined at its leftmost corner
-//! to a corner near it of those that were passed: the nearest of the last ones at some heights
-//! above and below. That is not proved; what is made of it is checked: its edges with their
-//! directions are those of the rings, but for ways that are gone both out and back (`GoAlike` of
-//! `specs/Net.antt`). Where the ring would be longer than a ring may be, the rings stay apart.
+//! between two of them out and back. A sweep goes over the corners from left to right, and keeps for
+//! each gap between two sides the corners that can be seen from the right in it: a corner is joined
+//! to those that it sees, so these ways cross no side and no other way. Of the ways the shortest are
+//! taken that join all rings. Rings that touch at a corner are joined there by no way at all.
+//!
+//! The boxes of two shapes of one result of an operation have no place in common. So ways are first
+//! taken that stay within the boxes of the shape's rings: they cross no side of another such shape.
+//! Where these don't join all rings, as of rings beside one another, a way may go straight up or
+//! down towards a level side and along it, one unit off, to its end: it crosses nothing where sides
+//! are level or upright. What is left is joined along straight ways that may leave the boxes.
+//!
+//! None of that is proved; what is made of it is checked: its edges with their directions are those
+//! of the rings, but for ways that are gone both out and back (`GoAlike` of `specs/Net.antt`). Where
+//! the ring would be longer than a ring may be, the rings stay apart.
 //!
 //! # Files
 //!
 //! - `directing.rt`: the layout, item by item; `orienting.rt`: the rings of one shape.
 //! - `net.rt`, `winding_directing.rt`, `linking.rt`: edges, their directions, and rings of them.
-//! - `joining.rt`, `walk.rt`: one ring of several.
+//! - `joining.rt`, `uniting.rt`, `walk.rt`: one ring of several.
+//! - `finding.rt`, `gaps.rt`, `fronts.rt`, `corner.rt`, `ways.rt`, `outline.rt`: ways between rings.
 //! - `directed_net.rt`: edges with their directions, without those that stand there in both.
 //! - `once.rt`, `sweep.rt`, `band.rt`, `slant.rt`, `edges.rt`: the check that rings go round each
 //!   place at most once (`specs/Once.antt`).
@@ -60,18 +70,25 @@
 #![tactic(auto)]
 
 mod band;
+mod corner;
 mod directed_net;
 mod directing;
 mod edges;
+mod finding;
+mod fronts;
+mod gaps;
 mod joining;
 mod laws;
 mod linking;
 mod net;
 mod once;
 mod orienting;
+mod outline;
 mod slant;
 mod sweep;
+mod uniting;
 mod walk;
+mod ways;
 mod winding_directing;
 
 pub use directing::{Directed, oriented_layout};

@@ -39,7 +39,7 @@ pub(crate) fn ring_round(alloc: Global, points: &[Point]) -> Result<Option<Ring>
 }
 
 /// Returns the numbers below `count`.
-fn numbers(alloc: Global, count: usize) -> Result<Vec<usize>, AllocError> {
+pub(crate) fn numbers(alloc: Global, count: usize) -> Result<Vec<usize>, AllocError> {
     let mut all = Vec::with_capacity(alloc, count)?;
     for number in 0..count {
         all.push(number)?;

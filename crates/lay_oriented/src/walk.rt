@@ -27,8 +27,18 @@ pub(crate) fn join(walk: &mut Vec<Stop>, from: usize, to: usize) -> Result<(), A
     Ok(())
 }
 
+/// Joins two walks that have a place in common, at which these stops are: the first goes on as the second did,
+/// and the second as the first.
+pub(crate) fn splice(walk: &mut [Stop], first: usize, second: usize) {
+    let (Some(one), Some(other)) = (walk.get(first).copied(), walk.get(second).copied()) else {
+        return;
+    };
+    go_on(walk, first, other.next);
+    go_on(walk, second, one.next);
+}
+
 /// Makes this the next stop after that of the number.
-pub(crate) fn go_on(walk: &mut [Stop], number: usize, next: usize) {
+fn go_on(walk: &mut [Stop], number: usize, next: usize) {
     if let Some(stop) = walk.get_mut(number) {
         stop.next = next;
     }
