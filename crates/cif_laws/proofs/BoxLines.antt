@@ -21,7 +21,7 @@ use Rattle.cif_read.specs.Content.{after_box, on_layer}
 use Rattle.cif_write.specs.declared.boxes.Rectangles.{Rectangles}
 use Rattle.cif_write.specs.declared.boxes.Rectangles.TheVariants.{Boxes, Polygons}
 use Rattle.cif_write.specs.declared.boxes.UprightBox.{UprightBox}
-use Rattle.cif_write.specs.Boxes.{box_as, box_of, box_text, figure_text, line_text_as}
+use Rattle.cif_write.specs.Boxes.{box_as, corner_box, box_text, figure_text, line_text_as}
 use Rattle.cif_write.specs.Lines.{Path, line_text, point_text}
 use Rattle.cif_laws.specs.SameRings.{IsSameRing}
 use Rattle.cif_laws.proofs.BoxesBack.{IsBoxOfRing, box_back, box_of_ring, centre_in, numbers, numbers_is, numbers_of, small_box}
@@ -141,12 +141,12 @@ box_figure ring b is =
       same = subst (IsSameRing ring) corners is.same;
     }
 
-figure_at : (ring : List Point) → IsRing ring → (o : Option UprightBox) → ((b : UprightBox) → o ≡ Some b → box_of ring ≡ Some b)
+figure_at : (ring : List Point) → IsRing ring → (o : Option UprightBox) → ((b : UprightBox) → o ≡ Some b → corner_box ring ≡ Some b)
     → IsFigure (figure_text o ring) ring (ring_read o ring)
 figure_at ring is None boxed = path_figure ring is
 figure_at ring is (Some b) boxed = box_figure ring b (box_of_ring ring b is.in_range (boxed b refl))
 
-pub box_as-box_of : (rectangles : Rectangles) (ring : List Point) (b : UprightBox) → box_as rectangles ring ≡ Some b → box_of ring ≡ Some b
+pub box_as-box_of : (rectangles : Rectangles) (ring : List Point) (b : UprightBox) → box_as rectangles ring ≡ Some b → corner_box ring ≡ Some b
 box_as-box_of Polygons ring b h = absurd (let no : ◌≡◌ {A = Option UprightBox} None (Some b) = h in cc)
 box_as-box_of Boxes ring b h = h
 

@@ -20,7 +20,7 @@ use Rattle.cif_read.specs.Boxes as reads
 use Rattle.cif_read.specs.Polygons.{is_above_written}
 use Rattle.cif_read.specs.Scales.{doubled, is_whole, scaled, value_of}
 use Rattle.cif_write.specs.declared.boxes.UprightBox.{UprightBox}
-use Rattle.cif_write.specs.Boxes.{are_corners, box_between, box_of, goes_round, is_side, side_between}
+use Rattle.cif_write.specs.Boxes.{are_corners, box_across, corner_box, goes_round, is_side, side_between}
 use Rattle.cif_laws.specs.SameRings.{IsSameRing}
 use Rattle.cif_laws.proofs.ScaledBack.{scaled_back, small_point, whole}
 use Rattle.cif_laws.proofs.WrittenLines.{half}
@@ -222,8 +222,8 @@ record HasSides (a c : Point) (b : UprightBox) : Type 0 where
   across_is : side_between a.y c.y ≡ Some across
   box_is : boxed along across ≡ b
 
-sides_of : (a c : Point) (b : UprightBox) → box_between a c ≡ Some b → HasSides a c b
-unfolding box_between
+sides_of : (a c : Point) (b : UprightBox) → box_across a c ≡ Some b → HasSides a c b
+unfolding box_across
 sides_of a c b h = by (side_between a.x c.x) (side_between a.y c.y) refl refl h where
   by : (x y : Option (ℤ × ℤ)) → side_between a.x c.x ≡ x → side_between a.y c.y ≡ y
       → option_and_then (λ s. option_and_then (λ t. Some (boxed s t)) y) x ≡ Some b → HasSides a c b
@@ -241,7 +241,7 @@ either_way p q r s b corners along up = by (goes_round p q r s) refl corners whe
   by false is e = subst (λ (ring : List Point). IsBoxOfRing ring b) (sym (corners_up p q r s e)) up
 
 box_of_corners : (p q r s : Point) (b : UprightBox) → is_in_range p ≡ true → is_in_range r ≡ true → are_corners p q r s ≡ true
-    → box_between p r ≡ Some b → IsBoxOfRing (p ∷ q ∷ r ∷ s ∷ []) b
+    → box_across p r ≡ Some b → IsBoxOfRing (p ∷ q ∷ r ∷ s ∷ []) b
 box_of_corners p q r s b p_in r_in corners h =
     let sides = sides_of p r b h in
     let x = side_of p.x r.x sides.along sides.along_is in
@@ -253,14 +253,14 @@ box_of_corners p q r s b p_in r_in corners h =
     either_way p q r s b corners (along_first b x.length y.length n_is m_is p r p_in r_in xs ys)
     (up_first b x.length y.length n_is m_is p r p_in r_in xs ys)
 
-pub box_of_ring : (ring : List Point) (b : UprightBox) → list_all is_in_range ring ≡ true → box_of ring ≡ Some b → IsBoxOfRing ring b
-unfolding box_of
+pub box_of_ring : (ring : List Point) (b : UprightBox) → list_all is_in_range ring ≡ true → corner_box ring ≡ Some b → IsBoxOfRing ring b
+unfolding corner_box
 box_of_ring [] b within h = absurd cc
 box_of_ring (p ∷ []) b within h = absurd cc
 box_of_ring (p ∷ q ∷ []) b within h = absurd cc
 box_of_ring (p ∷ q ∷ r ∷ []) b within h = absurd cc
 box_of_ring (p ∷ q ∷ r ∷ s ∷ []) b within h = by (are_corners p q r s) refl h where
-  by : (t : Bool) → are_corners p q r s ≡ t → cond t (box_between p r) None ≡ Some b → IsBoxOfRing (p ∷ q ∷ r ∷ s ∷ []) b
+  by : (t : Bool) → are_corners p q r s ≡ t → cond t (box_across p r) None ≡ Some b → IsBoxOfRing (p ∷ q ∷ r ∷ s ∷ []) b
   by true is e =
       let first = and_parts (is_in_range p) (list_all is_in_range (q ∷ r ∷ s ∷ [])) within in
       let second = and_parts (is_in_range q) (list_all is_in_range (r ∷ s ∷ [])) first.1 in

@@ -1,8 +1,8 @@
 -- A text that means a fault begins with good commands, and what stands behind them has the fault.
 use Rattle.std.proofs.Common.{zero-add, append_assoc, ◌≡◌, ℕ, zero, suc, ◌+◌, ◌<◌, Bool, true, false}
 use Rattle.std.proofs.Common.{cond, List, [], ◌∷◌, ◌++◌, length, take, drop, Option, Some, None, Result}
-use Rattle.std.proofs.Common.{Ok, Err, refl, sym, ap, ◌∙◌, subst, arith, inl, inr, ◌⊎◌, ◌&&◌}
-use Rattle.std.specs.Prelude.{◌==◌, not}
+use Rattle.std.proofs.Common.{Ok, Err, refl, sym, ap, ◌∙◌, subst, arith, inl, inr, ◌⊎◌}
+use Rattle.std.specs.Prelude.{◌==◌}
 use Rattle.std.specs.List.{list_all, take_while}
 use Rattle.std.proofs.lemmas.Bool.{and_from, eqb-true}
 use Rattle.std.proofs.lemmas.Bool.Decides.{nat_tests}
@@ -31,6 +31,7 @@ use Rattle.cif_read.proofs.MeaningLemmas.{front_breaks, front_command, front_end
 use Rattle.cif_read.proofs.PieceFacts.{read_from}
 use Rattle.cif_read.proofs.OneMeaning.{short_text}
 use Rattle.cif_read.proofs.TextGrammar.{FrontKind, accepted, at_a_break, at_a_command, at_the_end, front_kind}
+use Rattle.cif_laws.proofs.CommentEnds.{none_closes, outside, plain_behind}
 use Rattle.cif_laws.specs.Refusals.{BeginsWithNoGap, FaultsAreWhereTheyStand, HasBadCall, HasFault}
 use Rattle.cif_laws.specs.Refusals.{HasNoSemicolon, IsWrong, Leaves, NoCommand, behind_end, refused, unended, unread, within}
 
@@ -95,15 +96,6 @@ same_kind (b ∷ bs) behind = rw (behind_blanks bs behind) refl
 
 -- ---- what isn't ended
 
-plain_behind : (place : ℕ) (bytes : List ℕ) → semicolon_from place 0 bytes ≡ None → list_all is_plain bytes ≡ true
-unfolding semicolon_from
-plain_behind place [] none = refl
-plain_behind place (b ∷ bs) none = by (b == 59) none (plain_behind (place + 1) bs) where
-  by : (semicolon : Bool) → cond semicolon (Some place) (semicolon_from (place + 1) 0 bs) ≡ None
-      → (semicolon_from (place + 1) 0 bs ≡ None → list_all is_plain bs ≡ true) → (not semicolon && list_all is_plain bs) ≡ true
-  by true e rest = absurd (let no : ◌≡◌ {A = Option ℕ} (Some place) None = e in cc)
-  by false e rest = rest e
-
 gap_plain : (b : ℕ) → is_gap b ≡ false → is_plain b ≡ true
 unfolding is_gap
 gap_plain b h = grind (arith, nat_tests)
@@ -113,7 +105,10 @@ unfolding command_len
 unended_plain [] stops none = inl refl
 unended_plain (b ∷ bs) stops none = by (b == 40) refl where
   by : (opens : Bool) → (b == 40) ≡ opens → HasNoSemicolon (b ∷ bs)
-  by true e = inr (bs, ap (λ c. c ∷ bs) (eqb-true b 40 e))
+  by true e =
+      let depth : first_depth b ≡ 1 = rw e refl in
+      let inside : semicolon_from 1 1 bs ≡ None = ap (λ d. semicolon_from 1 d bs) (sym depth) ∙ none in
+      inr (bs, ap (λ c. c ∷ bs) (eqb-true b 40 e), λ behind closed. none_closes 0 1 bs behind inside closed)
   by false e =
       let depth : first_depth b ≡ 0 = rw e refl in
       inl (and_from (is_plain b) (list_all is_plain bs) (gap_plain b stops)
@@ -260,7 +255,7 @@ module _ (n offset : ℕ) (content : Content) (text : List ℕ) (fault : CifFaul
       by_read None f e =
           let same : record { kind = unread_kind bytes; offset = place_of } ≡ fault = cc in
           let kind : unread_kind bytes ≡ unread_kind (skip is_gap text) = sym (same_kind bytes behind) ∙ ap unread_kind (sym parts) in
-          here (unread bytes behind parts no_end (none_read place_of (skip is_gap text) len ends f)
+          here (unread bytes behind parts (outside (skip is_gap text) len ends) no_end (none_read place_of (skip is_gap text) len ends f)
           (sym same ∙ ap (λ k. record { kind = k; offset = place_of }) kind))
       by_read (Some c) f e = by_effect c f (effect_of content place_of c) refl e
 

@@ -3,6 +3,7 @@ pub mod BoxLines
 pub mod BoxesBack
 pub mod ChangeLemmas
 pub mod CommandsDo
+pub mod CommentEnds
 pub mod DistanceLemmas
 pub mod FaultGrammar
 pub mod HeldItems

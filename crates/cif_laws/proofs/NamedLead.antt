@@ -31,7 +31,7 @@ use Rattle.cif_write.proofs.BoxLemmas.{text_as_paths}
 use Rattle.cif_names.specs.declared.names.Entry.{Entry}
 use Rattle.cif_names.specs.Laws.{IsCommands, IsExtensionLine, IsLayeredLine}
 use Rattle.cif_names.specs.Names.{is_of_symbols, names_of, within}
-use Rattle.cif_names.specs.Woven.{has_newline, heading, heading_of, is_in, last_call, lines_in, number_behind, started, with_names, woven, woven_line}
+use Rattle.cif_names.specs.Woven.{has_newline, heading, heading_of, is_kept_in, last_call, lines_in, number_behind, started, with_names, woven, woven_line}
 use Rattle.cif_names.proofs.KeptCommands.{kept_commands}
 use Rattle.cif_names.proofs.SameText.{first_line}
 use Rattle.cif_laws.specs.Laws.{FitsText}
@@ -106,8 +106,8 @@ module _ (number : ℕ) (symbols : List ℕ) (es : List Element) (last : Content
       → Leads text → Leads (heading called entries n ++ text)
   heading_leads called entries n text are leads =
       subst Leads (sym (append_assoc (lines_in false called n entries) (lines_in true called n entries) text))
-      (picked_lead (is_in false called n) entries (lines_in true called n entries ++ text) are
-      (picked_lead (is_in true called n) entries text are leads))
+      (picked_lead (is_kept_in false called n) entries (lines_in true called n entries ++ text) are
+      (picked_lead (is_kept_in true called n) entries text are leads))
 
   -- what stands behind a line, whichever symbol it is of
   pub heading_of-leads : (called : Option ℕ) (entries : List Entry) (o : Option ℕ) (text : List ℕ)

@@ -1,9 +1,10 @@
 -- Where a text is refused, and why: behind good commands, by what stands there.
 -- Source: Caltech Intermediate Form 2.0, its formal grammar. The kinds of faults are this project's own.
-use Rattle.std.specs.Prelude.{◌≡◌, ◌⊎◌, ℕ, ◌+◌, ◌≤◌, List, [], ◌∷◌, ◌++◌, length, true, false, not, ◌==◌, Ok, Err, IsTrue}
+use Rattle.std.specs.Prelude.{◌≡◌, ◌⊎◌, ℕ, ◌+◌, ◌≤◌, List, [], ◌∷◌, ◌++◌, length, true, false, not, ◌==◌, Ok, Err, IsTrue, Some}
 use Rattle.std.specs.List.{list_all}
 use Rattle.cif_grammar.specs.Bytes.{is_blank, is_gap}
 use Rattle.cif_grammar.specs.Commands.{Command}
+use Rattle.cif_grammar.specs.Comments.{behind_closing}
 use Rattle.cif_grammar.specs.Grammar.{AreBlanks, BeginsWith, Reads}
 use Rattle.cif_read.specs.declared.content.Content.{Content}
 use Rattle.cif_read.specs.declared.fault.CifFault.{CifFault}
@@ -35,18 +36,26 @@ Leaves offset text (c ∷ cs) place rest =
 abbrev pub NoCommand : ℕ → List ℕ → Type 0
 NoCommand place rest = (c : Command) → ¬ (BeginsWith place rest place c)
 
--- no semicolon stands in the rest, unless it begins with a parenthesis
+abbrev pub AreNoSemicolons : List ℕ → Type 0
+AreNoSemicolons bytes = IsTrue (list_all (λ b. not (b == 59)) bytes)
+
+-- no semicolon stands in the rest or, where it begins with a parenthesis, behind the one that closes it
 abbrev pub HasNoSemicolon : List ℕ → Type 0
-HasNoSemicolon rest = IsTrue (list_all (λ b. not (b == 59)) rest) ⊎ ((more : List ℕ) × (rest ≡ 40 ∷ more))
+HasNoSemicolon rest = AreNoSemicolons rest
+    ⊎ ((more : List ℕ) × (rest ≡ 40 ∷ more) × ((behind : List ℕ) → behind_closing 0 more ≡ Some behind → AreNoSemicolons behind))
+
+-- where the bytes begin with a parenthesis, it is closed among them
+abbrev pub IsOutside : List ℕ → Type 0
+IsOutside bytes = (more : List ℕ) → bytes ≡ 40 ∷ more → (behind : List ℕ) × (behind_closing 0 more ≡ Some behind)
 
 -- why a text is refused that means this so far, and of which this rest is left at this offset
 pub data IsWrong (content : Content) (place : ℕ) (rest : List ℕ) (fault : CifFault) : Type 0 where
   -- a command stands there, and has the fault
   refused : (c : Command) → BeginsWith place rest place c → fault.offset ≡ place → effect_of content place c ≡ Err fault.kind
       → IsWrong content place rest fault
-  -- no command stands there, though a semicolon does behind it; the first letters say which fault that is
-  unread : (bytes behind : List ℕ) → rest ≡ bytes ++ (59 ∷ behind) → begins_with_end rest ≡ false → NoCommand place rest
-      → fault ≡ record { kind = unread_kind rest; offset = place } → IsWrong content place rest fault
+  -- no command stands there, though a semicolon does behind it, outside of parentheses; the first letters say which fault that is
+  unread : (bytes behind : List ℕ) → rest ≡ bytes ++ (59 ∷ behind) → IsOutside bytes → begins_with_end rest ≡ false
+      → NoCommand place rest → fault ≡ record { kind = unread_kind rest; offset = place } → IsWrong content place rest fault
   -- no semicolon ends what stands there, and neither does the text end there
   unended : HasNoSemicolon rest → begins_with_end rest ≡ false → NoCommand place rest → fault ≡ record { kind = NoEnd; offset = place }
       → IsWrong content place rest fault

@@ -9,7 +9,7 @@ use Rattle.cif_names.specs.declared.names.Entry.{Entry}
 use Rattle.cif_names.specs.declared.names.Names.{Names}
 use Rattle.cif_names.specs.Laws.{HasNoNames, IsKeptLine, is_empty, is_kept_line, is_line, unless_kept, without_names}
 use Rattle.byte_io.specs.Lines.{in_front, lines}
-use Rattle.cif_names.specs.Woven.{has_newline, heading, heading_of, is_in, last_call, lines_in, started, with_names, woven, woven_line}
+use Rattle.cif_names.specs.Woven.{has_newline, heading, heading_of, is_kept_in, last_call, lines_in, started, with_names, woven, woven_line}
 
 -- ---- the lines of a text
 
@@ -118,7 +118,7 @@ heading_vanishes : (called : Option ℕ) (entries : List Entry) (n : ℕ) → Al
     → Vanishes (heading called entries n)
 heading_vanishes called entries n are =
     both_vanish (lines_in false called n entries) (lines_in true called n entries)
-    (all_vanish (is_in false called n) entries are) (all_vanish (is_in true called n) entries are)
+    (all_vanish (is_kept_in false called n) entries are) (all_vanish (is_kept_in true called n) entries are)
 
 -- what stands behind a line vanishes, where each heading does
 heading_of-vanishes : (headings : ℕ → List ℕ) (o : Option ℕ) → ((n : ℕ) → Vanishes (headings n)) → Vanishes (heading_of headings o)

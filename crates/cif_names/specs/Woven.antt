@@ -47,11 +47,11 @@ abbrev pub sets_layer : List ℕ → Bool
 sets_layer line = starts_with nat_eq line (codes " ")
 
 -- whether an entry's line, which sets a layer or doesn't, stands in this symbol's definition, where this one is called last
-abbrev pub is_in : Bool → Option ℕ → ℕ → Entry → Bool
-is_in layered called n e = is_symbol n (symbol_or called e.symbol) && beq layered (sets_layer e.line)
+abbrev pub is_kept_in : Bool → Option ℕ → ℕ → Entry → Bool
+is_kept_in layered called n e = is_symbol n (symbol_or called e.symbol) && beq layered (sets_layer e.line)
 
 abbrev pub line_in : Bool → Option ℕ → ℕ → Entry → List ℕ
-line_in layered called n e = if is_in layered called n e then e.line else []
+line_in layered called n e = if is_kept_in layered called n e then e.line else []
 
 -- one after the other
 abbrev pub lines_in : Bool → Option ℕ → ℕ → List Entry → List ℕ

@@ -13,7 +13,7 @@ use Rattle.cif_grammar.specs.declared.number.TheConstants.{MAX_MAGNITUDE}
 use Rattle.lay_layouts.specs.Layout.{Layout}
 use Rattle.cif_write.specs.declared.boxes.Rectangles.TheVariants.{Polygons}
 use Rattle.cif_write.specs.declared.boxes.UprightBox.{UprightBox}
-use Rattle.cif_write.specs.Boxes.{box_of, is_side, line_text_as, lines_text_as, side_between, side_from, text_as}
+use Rattle.cif_write.specs.Boxes.{corner_box, is_side, line_text_as, lines_text_as, side_between, side_from, text_as}
 use Rattle.cif_write.specs.Lines.{Call, End, Finish, Line, OnLayer, Path, Start, line_text, lines_text}
 use Rattle.cif_write.specs.Text.{file_lines, text}
 use Rattle.cif_write.specs.Ways.{kept_by, kept_of, last_point, ways}
@@ -73,8 +73,8 @@ long_path (start ∷ p ∷ ps) (q ∷ qs) others ring other =
 
 -- ---- boxes
 
-no_box : (points : List Point) → 5 ≤ length points → ◌≡◌ {A = Option UprightBox} None (box_of points)
-unfolding box_of
+no_box : (points : List Point) → 5 ≤ length points → ◌≡◌ {A = Option UprightBox} None (corner_box points)
+unfolding corner_box
 no_box [] h = refl
 no_box (a ∷ []) h = refl
 no_box (a ∷ b ∷ []) h = refl
@@ -82,20 +82,20 @@ no_box (a ∷ b ∷ c ∷ []) h = refl
 no_box (a ∷ b ∷ c ∷ d ∷ []) h = absurd (omega (arith, h))
 no_box (a ∷ b ∷ c ∷ d ∷ e ∷ points) h = refl
 
-pub box_of_none : (rings : List (List Point)) → length rings ≡ 0 → ◌≡◌ {A = Option UprightBox} None (box_of (bridged rings))
-unfolding box_of bridged without_repeats
+pub box_of_none : (rings : List (List Point)) → length rings ≡ 0 → ◌≡◌ {A = Option UprightBox} None (corner_box (bridged rings))
+unfolding corner_box bridged without_repeats
 box_of_none [] h = refl
 box_of_none (ring ∷ rings) h = absurd (omega (arith, h))
 
 pub box_of_one : (rings : List (List Point)) (ring : List Point) → length rings ≡ 1 → ring ≡ get_or rings 0 ring → IsRing ring
-    → box_of ring ≡ box_of (bridged rings)
+    → corner_box ring ≡ corner_box (bridged rings)
 box_of_one [] ring h is good = absurd (omega (arith, h))
-box_of_one (r ∷ []) ring h is good = ap box_of (sym (bridged_one ring good)) ∙ ap (λ q. box_of (bridged (q ∷ []))) is
+box_of_one (r ∷ []) ring h is good = ap corner_box (sym (bridged_one ring good)) ∙ ap (λ q. corner_box (bridged (q ∷ []))) is
 box_of_one (r ∷ s ∷ rings) ring h is good = absurd (omega (arith, h))
 
 pub box_of_several : (rings : List (List Point)) (first second : List Point) → 2 ≤ length rings → first ≡ get_or rings 0 first
     → second ≡ get_or rings 1 second
-    → IsRing first → IsRing second → ◌≡◌ {A = Option UprightBox} None (box_of (bridged rings))
+    → IsRing first → IsRing second → ◌≡◌ {A = Option UprightBox} None (corner_box (bridged rings))
 box_of_several [] first second h is other ring good = absurd (omega (arith, h))
 box_of_several (r ∷ []) first second h is other ring good = absurd (omega (arith, h))
 box_of_several (r ∷ s ∷ rings) first second h is other ring good =

@@ -42,21 +42,21 @@ abbrev pub are_corners : Point → Point → Point → Point → Bool
 are_corners a b c d = goes_round a b c d || goes_round a d c b
 
 -- the box between two opposite corners
-unfoldable pub box_between : Point → Point → Option UprightBox
-box_between a c = do
+unfoldable pub box_across : Point → Point → Option UprightBox
+box_across a c = do
   x ← side_between a.x c.x
   y ← side_between a.y c.y
   Some (record { length = x.0; width = y.0; centre = record { x = x.1; y = y.1 } })
 
 -- the box that a path goes round
-unfoldable pub box_of : List Point → Option UprightBox
-box_of (a ∷ b ∷ c ∷ d ∷ []) = if are_corners a b c d then box_between a c else None
-box_of _ = None
+unfoldable pub corner_box : List Point → Option UprightBox
+corner_box (a ∷ b ∷ c ∷ d ∷ []) = if are_corners a b c d then box_across a c else None
+corner_box _ = None
 
 -- the box that a path is written as, if it is
 abbrev pub box_as : Rectangles → List Point → Option UprightBox
 box_as Polygons points = None
-box_as Boxes points = box_of points
+box_as Boxes points = corner_box points
 
 abbrev pub box_text : UprightBox → List ℕ
 box_text b = codes "B" ++ spaced_pair b.length b.width ++ point_text b.centre ++ codes ";\n"

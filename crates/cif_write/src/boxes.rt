@@ -6,8 +6,8 @@ ghost use Rattle.byte_io.specs.Buffered.{Buffered};
 ghost use Rattle.cif_write.specs.Boxes.{
   are_corners,
   box_as,
-  box_between,
-  box_of,
+  box_across,
+  corner_box,
   box_text,
   goes_round,
   is_side,
@@ -47,14 +47,14 @@ pub(crate) fn box_as(rectangles: Rectangles, rings: &[Ring]) -> Option<UprightBo
 {
     match rectangles {
         Rectangles::Polygons => None,
-        Rectangles::Boxes => box_of(rings),
+        Rectangles::Boxes => corner_box(rings),
     }
 }
 
 /// Returns the box that the one path round the rings goes round, if it does. That of several rings has
 /// too many points.
-fn box_of(rings: &[Ring]) -> Option<UprightBox>
-    ensures { result ≡ box_of (bridged rings.now) }
+fn corner_box(rings: &[Ring]) -> Option<UprightBox>
+    ensures { result ≡ corner_box (bridged rings.now) }
 {
     match rings {
         [] => None,
@@ -68,9 +68,9 @@ fn box_of(rings: &[Ring]) -> Option<UprightBox>
 }
 
 /// Returns the box that the path goes round, if it does.
-#[tactic(auto, unfolding(crate::specs::Boxes::box_of))]
+#[tactic(auto, unfolding(crate::specs::Boxes::corner_box))]
 fn box_round(points: &[Point]) -> Option<UprightBox>
-    ensures { result ≡ box_of points.now }
+    ensures { result ≡ corner_box points.now }
 {
     let [a, b, c, d] = points else {
         return None;
@@ -78,7 +78,7 @@ fn box_round(points: &[Point]) -> Option<UprightBox>
     if !are_corners(*a, *b, *c, *d) {
         return None;
     }
-    box_between(*a, *c)
+    box_across(*a, *c)
 }
 
 /// Returns whether the points are the corners of an upright rectangle in turn. Its sides may be empty.
@@ -96,9 +96,9 @@ fn goes_round(a: Point, b: Point, c: Point, d: Point) -> bool
 }
 
 /// Returns the box between two opposite corners, if its middle is on the grid and its sides can be written.
-#[tactic(auto, unfolding(crate::specs::Boxes::box_between))]
-fn box_between(a: Point, c: Point) -> Option<UprightBox>
-    ensures { result ≡ box_between a c }
+#[tactic(auto, unfolding(crate::specs::Boxes::box_across))]
+fn box_across(a: Point, c: Point) -> Option<UprightBox>
+    ensures { result ≡ box_across a c }
 {
     let (length, x) = side_between(a.x, c.x)?;
     let (width, y) = side_between(a.y, c.y)?;

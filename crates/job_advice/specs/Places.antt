@@ -67,5 +67,5 @@ unfoldable pub live_heading_text : ℕ → List ℕ
 live_heading_text number = codes "masklay: line " ++ decimal number ++ codes " after `%live`: "
 
 -- the second text begins with the first
-abbrev pub BeginsWith : List ℕ → List ℕ → Type 0
-BeginsWith start text = (rest : List ℕ) × (text ≡ start ++ rest)
+abbrev pub HasStart : List ℕ → List ℕ → Type 0
+HasStart start text = (rest : List ℕ) × (text ≡ start ++ rest)

@@ -1,6 +1,6 @@
 //! The lines that are said of a fault.
 ghost use Rattle.std.specs.Prelude.{◌≡◌, ◌≤◌, ◌++◌, IfOk, length};
-ghost use Rattle.job_advice.specs.Places.{BeginsWith, TellsPlace, TellsTextPlace};
+ghost use Rattle.job_advice.specs.Places.{HasStart, TellsPlace, TellsTextPlace};
 ghost use Rattle.job_advice.specs.Places.{
   heading_text,
   live_heading_text,
@@ -98,7 +98,7 @@ pub fn of_job_fault(alloc: Global, job: &[u8], line: u32) -> Result<Vec<u8>, NoM
 ///
 /// `NoMemory`, if an allocation fails.
 pub fn of_live_line(alloc: Global, line: &[u8], number: u64) -> Result<Vec<u8>, NoMemory>
-    ensures { IfOk result (λ lines. BeginsWith (live_heading_text number) lines.items) }
+    ensures { IfOk result (λ lines. HasStart (live_heading_text number) lines.items) }
 {
     let end = line_end(line, 0);
     let told = told_of_live(alloc, &line[..end])?;

@@ -100,13 +100,13 @@ written_text (Some entry) = records_text entry.writes
 -- ---- answers
 
 -- the lines in front of the last
-abbrev pub lines_text : Question → History → List ℕ
-lines_text Cells history = cells_text history.layout
-lines_text (Items cell) history = items_text history.layout cell
-lines_text (Look id) history = looked_text id (item_at history.layout id)
-lines_text Commits history = history_text history.entries
-lines_text (Changes txn) history = written_text (entry_of txn history.entries)
+abbrev pub told_lines : Question → History → List ℕ
+told_lines Cells history = cells_text history.layout
+told_lines (Items cell) history = items_text history.layout cell
+told_lines (Look id) history = looked_text id (item_at history.layout id)
+told_lines Commits history = history_text history.entries
+told_lines (Changes txn) history = written_text (entry_of txn history.entries)
 
 -- the answer to a question, where this is the history
-unfoldable pub answer_text : Question → History → List ℕ
-answer_text question history = lines_text question history ++ comment (codes "end")
+unfoldable pub told_text : Question → History → List ℕ
+told_text question history = told_lines question history ++ comment (codes "end")

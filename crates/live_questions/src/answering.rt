@@ -1,7 +1,7 @@
 //! The answer to a question.
 ghost use Rattle.std.specs.Prelude.{◌≡◌, IfOk, OnOk};
 ghost use Rattle.byte_io.specs.Buffered.{Buffered};
-ghost use Rattle.live_questions.specs.Answers.{answer_text, lines_text};
+ghost use Rattle.live_questions.specs.Answers.{told_text, told_lines};
 
 use crate::cells::put_cells;
 use crate::history::{put_changes, put_history};
@@ -23,9 +23,9 @@ use undo_book::Book;
 /// Of `Cells` a sort of the symbols, and a pass over all items; of `Items` one over the cell's items and their
 /// points; of `Look` that of `Snapshot::item`; of `History` and `Changes` a pass over the transactions, and of
 /// `Changes` one over what the transaction wrote.
-#[tactic(auto, unfolding(crate::specs::Answers::answer_text))]
+#[tactic(auto, unfolding(crate::specs::Answers::told_text))]
 pub fn answer(alloc: Global, question: Question, book: &Book) -> Result<Vec<u8>, NoMemory>
-    ensures { IfOk result (λ text. text.items ≡ answer_text question book.now) }
+    ensures { IfOk result (λ text. text.items ≡ told_text question book.now) }
 {
     let mut out = TextOut::new(alloc);
     let mut buffer = OutBuffer::new();
@@ -44,7 +44,7 @@ fn put_lines<O: Out>(
     book: &Book,
 ) -> Result<(), NoMemory>
     ensures { OnOk result (Buffered O.written O.failures out.old buffer.old out.new buffer.new
-        (lines_text question book.now)) }
+        (told_lines question book.now)) }
 {
     match question {
         Question::Cells => put_cells(alloc, out, buffer, book.snapshot())?,

@@ -3,7 +3,7 @@
 //! A [`Question`](job_text::Question) asks what is committed: the cells, the items of a cell, an
 //! item, the transactions, and what one of them wrote. [`answer`] gives the comments that answer it,
 //! one a line, of which the last is `(end);`. They are a function of the book's layout and its
-//! transactions alone, `answer_text` of `specs/Answers.antt`; what sessions have open isn't seen,
+//! transactions alone, `told_text` of `specs/Answers.antt`; what sessions have open isn't seen,
 //! and nothing changes.
 //!
 //! # Files

@@ -1,7 +1,7 @@
 use Rattle.std.proofs.Common.{◌≡◌, length, arith, ap, ◌∙◌}
-use Rattle.cif_write.specs.Boxes.{box_of}
+use Rattle.cif_write.specs.Boxes.{corner_box}
 use Rattle.cif_write.proofs.BoxLemmas.{box_of_none, box_of_one, box_of_several}
-use Rattle.cif_write.proofs.boxes.box_of.Goals as goal
+use Rattle.cif_write.proofs.boxes.corner_box.Goals as goal
 
 pub returns-in-empty : goal.returns-in-empty
 returns-in-empty c = box_of_none c.args.rings.now (omega (arith, c.in-empty.len_below))
@@ -9,7 +9,7 @@ returns-in-empty c = box_of_none c.args.rings.now (omega (arith, c.in-empty.len_
 pub returns-in-len1 : goal.returns-in-len1
 returns-in-len1 c =
     let one : length c.args.rings.now ≡ 1 = omega (arith, c.in-len1.len_at_least, c.in-len1.len_below) in
-    c.box_round.ensures ∙ ap box_of c.points.ensures.value ∙ box_of_one c.args.rings.now _ one c.ring-item.is c.points.ensures.ring
+    c.box_round.ensures ∙ ap corner_box c.points.ensures.value ∙ box_of_one c.args.rings.now _ one c.ring-item.is c.points.ensures.ring
 
 pub returns-in-len2-up : goal.returns-in-len2-up
 returns-in-len2-up c =
