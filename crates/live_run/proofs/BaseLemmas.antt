@@ -18,7 +18,7 @@ use Rattle.live_run.specs.declared.base.HeadFault.{HeadFault}
 use Rattle.live_run.specs.declared.base.HeadFault.TheVariants.{Cif as CifHead, Job as JobHead, Memory as MemoryHead}
 use Rattle.live_run.specs.declared.course.Course.TheVariants.{Steps}
 use Rattle.live_run.specs.Cif.{cif_from}
-use Rattle.live_run.specs.Course.{BeginsRun, HeadTo, IsBaseFrom, IsBaseOf, Refuses, end_of_head, head_cif, head_kind}
+use Rattle.live_run.specs.Course.{BeginsRun, HeadTo, IsBaseFrom, IsBaseOf, RefusesHead, end_of_head, head_cif, head_kind}
 
 -- a fault of a CIF text is a head's, or out of memory
 of_kind : (fault : CifFault) (kind : FaultKind) → (head_kind fault kind ≡ MemoryHead) ⊎ (head_kind fault kind ≡ CifHead fault)
@@ -93,7 +93,7 @@ base_cif head number fault (inr is) = cif_of_fault (cif_from number true (job_of
 
 -- with this fault no run begins
 pub refuses : (head : List ℕ) (number : ℕ) (fault : HeadFault) (text : Vec ℕ Global) → text.items ≡ head → IsBaseOf head number (Err fault)
-    → Refuses true head number (end_of_head fault text)
+    → RefusesHead true head number (end_of_head fault text)
 refuses head number (JobHead line) text same is = (base_job head number line is, same)
 refuses head number (CifHead fault) text same is =
     let (cif, from, means) = base_cif head number fault is in (cif, from, means, same)

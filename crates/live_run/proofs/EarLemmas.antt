@@ -9,7 +9,7 @@ use Rattle.live_run.specs.declared.ending.LiveEnd.TheVariants.{Memory}
 use Rattle.live_run.specs.Cif.{whole}
 use Rattle.live_run.specs.Said.{IsSaid}
 use Rattle.live_run.specs.Ending.{Does, IsAnswered, IsStop, Past, all_lines, whole_lines}
-use Rattle.live_run.specs.Journal.{Entry, kept_in}
+use Rattle.live_run.specs.Journal.{KeptText, kept_in}
 use Rattle.live_run.specs.Course.{ClosesTo, HearsTo, Phase, phase_of}
 use Rattle.live_run.specs.declared.ear.Ear.{Ear}
 use Rattle.live_run.specs.Ear.{Hears, HearsLast, IsAt, PieceTo}
@@ -28,7 +28,7 @@ whole_past : (past : Past) (given : List ℕ) (seen more : List (List ℕ)) → 
 whole_past past given seen more is =
     append_assoc past.lines seen more ∙ ap (λ (ls : List (List ℕ)). past.lines ++ ls) (sym is)
 
-module _ {O J : Type 0} (written : O → Option (List ℕ)) (failures : O → ℕ) (kept : J → Option (List Entry)) (losses : J → ℕ) (past : Past)
+module _ {O J : Type 0} (written : O → Option (List ℕ)) (failures : O → ℕ) (kept : J → Option (List KeptText)) (losses : J → ℕ) (past : Past)
   where
     -- ---- a byte
 
@@ -136,7 +136,7 @@ module _ {O J : Type 0} (written : O → Option (List ℕ)) (failures : O → �
           subst (λ (ls : List (List ℕ)). Does written failures kept losses past base out said (kept_in ls)) all did,
         )
 
-module _ {O J : Type 0} (written : O → Option (List ℕ)) (failures : O → ℕ) (kept : J → Option (List Entry)) (losses : J → ℕ) where
+module _ {O J : Type 0} (written : O → Option (List ℕ)) (failures : O → ℕ) (kept : J → Option (List KeptText)) (losses : J → ℕ) where
   -- ---- pieces of the input
 
   pub no_piece : (out : O × J) (ear : Ear) → PieceTo written failures kept losses out out ear [] (Ok ear)

@@ -1,5 +1,5 @@
 -- Where a run begins behind the lines of its journal.
-use Rattle.std.proofs.Common.{◌≡◌, ℕ, ◌+◌, List, [], ◌∷◌, ◌++◌, true, false, Option, None, Some, Result, Ok, Err, inl, inr, refl, sym, ap, ◌∙◌, subst}
+use Rattle.std.proofs.Common.{◌≡◌, ◌≢◌, ℕ, ◌+◌, List, [], ◌∷◌, ◌++◌, true, false, Option, None, Some, Result, Ok, Err, inl, inr, refl, sym, ap, ◌∙◌, subst}
 use Rattle.std.proofs.Common.{append-nil, length}
 use Rattle.std.proofs.lemmas.List.{nil_from_length}
 use Rattle.std.proofs.KnownBytes.{Appends-nil}
@@ -13,10 +13,10 @@ use Rattle.live_run.specs.declared.ending.LiveEnd.{LiveEnd}
 use Rattle.live_run.specs.declared.ending.LiveEnd.TheVariants.{Cif, Device, Done, Job, Journal, Memory}
 use Rattle.live_run.specs.Cif.{behind, whole}
 use Rattle.live_run.specs.Said.{IsSaid, answers}
-use Rattle.live_run.specs.Course.{InHead, InSteps, Phase, Refuses, phase_of}
+use Rattle.live_run.specs.Course.{InHead, InSteps, Phase, RefusesHead, phase_of}
 use Rattle.live_run.specs.Ending.{HasCifFault, HasJobFault, IsJournaled, IsPast, IsStop, Past, Unbegun, can_begin, no_past}
 use Rattle.live_run.specs.Ear.{Begins, BegunAt, BegunTo, EndTo, HeardAll, Hears, IsAt, StandsBehind}
-use Rattle.live_run.specs.Journal.{Entry, kept_in}
+use Rattle.live_run.specs.Journal.{KeptText, kept_in}
 use Rattle.live_run.proofs.CutLemmas.{cut_none, cut_whole}
 use Rattle.live_run.proofs.KeptLemmas.{kept_nothing}
 use Rattle.live_run.proofs.RunLemmas.{hears_none, run_ended}
@@ -33,7 +33,7 @@ past_of_none lines none = record {
   entries = sym (ap kept_in none);
 }
 
-module _ {O J : Type 0} (written : O → Option (List ℕ)) (failures : O → ℕ) (kept : J → Option (List Entry)) (losses : J → ℕ) where
+module _ {O J : Type 0} (written : O → Option (List ℕ)) (failures : O → ℕ) (kept : J → Option (List KeptText)) (losses : J → ℕ) where
   -- a run behind the lines of its journal stands in front of the first byte of its input
   pub behind_journal : (lines : List (List ℕ)) (phase : Phase) (out : O × J) (line : List ℕ) → StandsBehind lines phase → line ≡ []
       → (past : Past) × (can_begin lines ≡ true) × IsPast lines past × Hears written failures kept losses past out out [] phase line
@@ -76,15 +76,16 @@ module _ {O J : Type 0} (written : O → Option (List ℕ)) (failures : O → �
   stands base out seen (InSteps run) begun (heard, file, h, is, ran, did) same = inr (heard, file, h, is, same ∙ ap InSteps ran)
 
   unbegun : (base out : O × J) (seen : List (List ℕ)) (head : List ℕ) (count : ℕ) (end : LiveEnd)
-      → IsAt written failures kept losses no_past base out seen (InHead head count) → Refuses false head (count + 1) end → Unbegun seen end
-  unbegun base out seen head count (Done refused) at r = absurd r
-  unbegun base out seen head count (Job n text) (none, joined, counted, fresh, same) (fault, is) =
-      unopened_job seen head count n text.items none joined counted fault is
-  unbegun base out seen head count (Cif fault text) (none, joined, counted, fresh, same) (cif, from, means, is) =
+      → IsAt written failures kept losses no_past base out seen (InHead head count) → count ≢ 0 → RefusesHead false head (count + 1) end
+      → Unbegun seen end
+  unbegun base out seen head count (Done refused) at some r = absurd r
+  unbegun base out seen head count (Job n text) (none, joined, counted, fresh, same) some (fault, is) =
+      (λ e. some (counted ∙ ap length e), unopened_job seen head count n text.items none joined counted fault is)
+  unbegun base out seen head count (Cif fault text) (none, joined, counted, fresh, same) some (cif, from, means, is) =
       unopened_cif seen head count fault text.items none joined counted cif from means is
-  unbegun base out seen head count Device at r = absurd r
-  unbegun base out seen head count Journal at r = absurd r
-  unbegun base out seen head count Memory at r = tt
+  unbegun base out seen head count Device at some r = absurd r
+  unbegun base out seen head count Journal at some r = absurd r
+  unbegun base out seen head count Memory at some r = tt
 
   pub begins : (base out : O × J) (journal : List ℕ) (ear : Ear) (result : Result Ear LiveEnd)
       → Hears written failures kept losses no_past base out journal (phase_of ear.course) ear.line.items → BegunTo ear result
@@ -94,16 +95,21 @@ module _ {O J : Type 0} (written : O → Option (List ℕ)) (failures : O → �
         (stands base out seen (phase_of ear.course) (phase_of begun.course) at to),
     empty,
   )
-  begins base out journal ear (Err end) (seen, cut, at) (head, count, is, refuses) =
+  begins base out journal ear (Err end) (seen, cut, at) (head, count, is, some, refuses) =
       subst (λ (ls : List (List ℕ)). Unbegun ls end) (sym (cut_whole journal seen ear.line.items cut))
-      (unbegun base out seen head count end (subst (IsAt written failures kept losses no_past base out seen) is at) refuses)
+      (unbegun base out seen head count end (subst (IsAt written failures kept losses no_past base out seen) is at) some refuses)
+
+-- lines of which one is live are some
+not_none : (told : List (List ℕ)) → is_some (behind told) ≡ true → told ≢ []
+not_none [] some none = absurd (let e = some in cc)
+not_none (line ∷ told) some none = absurd (let e = none in cc)
 
 -- a run over devices that never fail stopped in the lines of its journal
-pub stopped_in : {O J : Type 0} (written : O → Option (List ℕ)) (kept : J → Option (List Entry)) (base out : O × J) (journal : List ℕ)
+pub stopped_in : {O J : Type 0} (written : O → Option (List ℕ)) (kept : J → Option (List KeptText)) (base out : O × J) (journal : List ℕ)
     (end : LiveEnd) → IsStop written (λ d. 0) kept (λ d. 0) no_past base out journal ⊥ end → Unbegun (whole journal) end
 stopped_in written kept base out journal (Done refused) stop = absurd stop.0
 stopped_in written kept base out journal (Job n text) (told, inl (is, some), fault, same) =
-    subst (λ (ls : List (List ℕ)). HasJobFault ls n text.items) is fault
+    subst (λ (ls : List (List ℕ)). (ls ≢ []) × HasJobFault ls n text.items) is (not_none told some, fault)
 stopped_in written kept base out journal (Job n text) (told, inr (ended, all), fault, same) = absurd ended
 stopped_in written kept base out journal (Cif fault text) (told, inl (is, some), has, same) =
     subst (λ (ls : List (List ℕ)). HasCifFault ls fault text.items) is has
@@ -115,7 +121,7 @@ stopped_in written kept base out journal Journal (seen, unseen, line, said, all,
 stopped_in written kept base out journal Memory stop = tt
 
 module _ {I O J : Type 0} (remaining : I → Option (List ℕ)) (counts : I → Counts) (written : O → Option (List ℕ)) (failures : O → ℕ)
-    (kept : J → Option (List Entry)) (losses : J → ℕ) where
+    (kept : J → Option (List KeptText)) (losses : J → ℕ) where
   -- a run that began from its journal and stopped before its input ended
   pub journal_stopped : (journal : List ℕ) (ear : Ear) (input input' : I) (out out' : O × J) (end : LiveEnd) → Begins journal (Ok ear)
       → HeardAll remaining counts written failures kept losses ear input input' out out' (Err end)

@@ -15,8 +15,8 @@ use Rattle.job_text.specs.Words.{words_of}
 use Rattle.byte_io.specs.Lines.{lines}
 use Rattle.live_run.specs.Cif.{before, behind, cif_from, cif_of, is_ended, is_live, whole}
 use Rattle.live_run.specs.Ear.{is_not_newline}
-use Rattle.live_run.specs.Journal.{Entry, bytes_of, ended, entries_by, kept_behind, kept_in, kept_line, kept_lines, keeping_of, live_of}
-use Rattle.live_run.specs.Laws.{AreLines, IsLine, JournalsResume, SameSteps}
+use Rattle.live_run.specs.Journal.{KeptText, bytes_of, as_line, entries_by, kept_since, kept_in, kept_line, kept_lines, keeping_of, first_live}
+use Rattle.live_run.specs.Laws.{AreWholeLines, IsWholeLine, JournalsResume, SameSteps}
 use Rattle.live_run.specs.Live.{LiveRun, after_line, after_lines, after_step, answered, before_first_line, one_more}
 use Rattle.live_run.specs.Said.{IsBase}
 use Rattle.live_run.proofs.CifLemmas.{behind_at, cif_at}
@@ -24,11 +24,11 @@ use Rattle.live_run.proofs.CutLemmas.{ended_line, no_whole, with_newline}
 
 -- ---- the lines of bytes
 
-ended_same : (text : List ℕ) → is_ended text ≡ true → ended text ≡ text
+ended_same : (text : List ℕ) → is_ended text ≡ true → as_line text ≡ text
 ended_same [] h = refl
 ended_same (b ∷ text) h = ap (λ (t : Bool). cond t (b ∷ text) ((b ∷ text) ++ 10 ∷ [])) h
 
-line_same : (line : List ℕ) → IsLine line → ended line ≡ line
+line_same : (line : List ℕ) → IsWholeLine line → as_line line ≡ line
 line_same line (body, inside, is) =
     ended_same line (subst (λ (l : List ℕ). is_ended l ≡ true) (sym is) (with_newline body))
 
@@ -36,26 +36,26 @@ line_same line (body, inside, is) =
 abbrev Last : List ℕ → Type 0
 Last text = (body : List ℕ) × (text ≡ body ++ 10 ∷ [])
 
-last_of : (line : List ℕ) (more : List (List ℕ)) → IsLine line → AreLines more → Last (line ++ concat more)
+last_of : (line : List ℕ) (more : List (List ℕ)) → IsWholeLine line → AreWholeLines more → Last (line ++ concat more)
 last_of line [] (body, inside, is) all = (body, append-nil line ∙ is)
 last_of line (next ∷ more) is (first, rest) =
     let (body, ends) = last_of next more first rest in
     (line ++ body, ap (λ (l : List ℕ). line ++ l) ends ∙ sym (append_assoc line body (10 ∷ [])))
 
-lines_same : (front : List (List ℕ)) → AreLines front → ended (concat front) ≡ concat front
+lines_same : (front : List (List ℕ)) → AreWholeLines front → as_line (concat front) ≡ concat front
 lines_same [] all = refl
 lines_same (line ∷ front) (is, all) =
     let (body, ends) = last_of line front is all in
     ended_same (line ++ concat front) (subst (λ (l : List ℕ). is_ended l ≡ true) (sym ends) (with_newline body))
 
-whole_by : (line rest : List ℕ) → IsLine line → whole (line ++ rest) ≡ line ∷ whole rest
+whole_by : (line rest : List ℕ) → IsWholeLine line → whole (line ++ rest) ≡ line ∷ whole rest
 whole_by line rest (body, inside, is) =
     ap (λ (l : List ℕ). whole (l ++ rest)) is ∙ ap whole (append_assoc body (10 ∷ []) rest)
     ∙ ap (filter is_ended) (ended_line body rest inside)
     ∙ ap (λ (t : Bool). cond t ((body ++ 10 ∷ []) ∷ whole rest) (whole rest)) (with_newline body)
     ∙ ap (λ (l : List ℕ). l ∷ whole rest) (sym is)
 
-whole_concat : (all : List (List ℕ)) (cut : List ℕ) → AreLines all → list_all is_not_newline cut ≡ true → whole (concat all ++ cut) ≡ all
+whole_concat : (all : List (List ℕ)) (cut : List ℕ) → AreWholeLines all → list_all is_not_newline cut ≡ true → whole (concat all ++ cut) ≡ all
 whole_concat [] cut are inside = no_whole cut inside
 whole_concat (line ∷ all) cut (is, are) inside =
     ap whole (append_assoc line (concat all) cut) ∙ whole_by line (concat all ++ cut) is
@@ -66,26 +66,26 @@ concat_two [] back = refl
 concat_two (line ∷ front) back =
     ap (λ (l : List ℕ). line ++ l) (concat_two front back) ∙ sym (append_assoc line (concat front) (concat back))
 
-lines_two : (front back : List (List ℕ)) → AreLines front → AreLines back → AreLines (front ++ back)
+lines_two : (front back : List (List ℕ)) → AreWholeLines front → AreWholeLines back → AreWholeLines (front ++ back)
 lines_two [] back all more = more
 lines_two (line ∷ front) back (is, all) more = (is, lines_two front back all more)
 
 -- ---- the parts of lines
 
 record Parts (all heard : List (List ℕ)) : Type 0 where
-  front : AreLines (before all)
-  at : IsLine (live_of all)
-  back : AreLines heard
-  live : is_live (live_of all) ≡ true
+  front : AreWholeLines (before all)
+  at : IsWholeLine (first_live all)
+  back : AreWholeLines heard
+  live : is_live (first_live all) ≡ true
   none : behind (before all) ≡ None
 
-parts_by : (t : Bool) (line : List ℕ) (all heard : List (List ℕ)) → is_live line ≡ t → IsLine line → AreLines all
+parts_by : (t : Bool) (line : List ℕ) (all heard : List (List ℕ)) → is_live line ≡ t → IsWholeLine line → AreWholeLines all
     → (behind all ≡ Some heard → Parts all heard) → cond t (Some all) (behind all) ≡ Some heard
-    → AreLines (cond t [] (line ∷ before all)) × IsLine (cond t line (live_of all)) × AreLines heard
-    × (is_live (cond t line (live_of all)) ≡ true) × (behind (cond t [] (line ∷ before all)) ≡ None)
+    → AreWholeLines (cond t [] (line ∷ before all)) × IsWholeLine (cond t line (first_live all)) × AreWholeLines heard
+    × (is_live (cond t line (first_live all)) ≡ true) × (behind (cond t [] (line ∷ before all)) ≡ None)
 parts_by true line all heard is one are on h =
     let same : all ≡ heard = cc in
-    (tt, one, subst AreLines same are, is, refl)
+    (tt, one, subst AreWholeLines same are, is, refl)
 parts_by false line all heard is one are on h =
     let p = on h in (
       (one, p.front),
@@ -95,7 +95,7 @@ parts_by false line all heard is one are on h =
       ap (λ (t : Bool). cond t (Some (before all)) (behind (before all))) is ∙ p.none,
     )
 
-parts_of : (all heard : List (List ℕ)) → AreLines all → behind all ≡ Some heard → Parts all heard
+parts_of : (all heard : List (List ℕ)) → AreWholeLines all → behind all ≡ Some heard → Parts all heard
 parts_of [] heard are h = absurd (let e = h in cc)
 parts_of (line ∷ all) heard (one, are) h =
     let (front, at, back, live, none) = parts_by (is_live line) line all heard refl one are (parts_of all heard are) h in
@@ -111,19 +111,19 @@ abbrev stepping : List (List ℕ) → List (List ℕ)
 stepping [] = []
 stepping (line ∷ more) = kept_by (keeping_of (live_line (words_of line))) line ++ stepping more
 
-bytes_two : (es fs : List Entry) → bytes_of (es ++ fs) ≡ bytes_of es ++ bytes_of fs
+bytes_two : (es fs : List KeptText) → bytes_of (es ++ fs) ≡ bytes_of es ++ bytes_of fs
 bytes_two [] fs = refl
 bytes_two (e ∷ es) fs = ap (λ (l : List ℕ). e.0 ++ l) (bytes_two es fs) ∙ sym (append_assoc e.0 (bytes_of es) (bytes_of fs))
 
-entry_bytes : (keeping : Option Bool) (line : List ℕ) → IsLine line → bytes_of (entries_by keeping line) ≡ concat (kept_by keeping line)
+entry_bytes : (keeping : Option Bool) (line : List ℕ) → IsWholeLine line → bytes_of (entries_by keeping line) ≡ concat (kept_by keeping line)
 entry_bytes None line is = refl
 entry_bytes (Some flushed) line is = ap (λ (l : List ℕ). l ++ []) (line_same line is)
 
-kept_are : (keeping : Option Bool) (line : List ℕ) → IsLine line → AreLines (kept_by keeping line)
+kept_are : (keeping : Option Bool) (line : List ℕ) → IsWholeLine line → AreWholeLines (kept_by keeping line)
 kept_are None line is = tt
 kept_are (Some flushed) line is = (is, tt)
 
-stepping_bytes : (heard : List (List ℕ)) → AreLines heard → bytes_of (kept_lines heard) ≡ concat (stepping heard)
+stepping_bytes : (heard : List (List ℕ)) → AreWholeLines heard → bytes_of (kept_lines heard) ≡ concat (stepping heard)
 stepping_bytes [] all = refl
 stepping_bytes (line ∷ heard) (is, all) =
     let keeping = keeping_of (live_line (words_of line)) in
@@ -132,7 +132,7 @@ stepping_bytes (line ∷ heard) (is, all) =
     ∙ ap (λ (l : List ℕ). concat (kept_by keeping line) ++ l) (stepping_bytes heard all)
     ∙ sym (concat_two (kept_by keeping line) (stepping heard))
 
-stepping_are : (heard : List (List ℕ)) → AreLines heard → AreLines (stepping heard)
+stepping_are : (heard : List (List ℕ)) → AreWholeLines heard → AreWholeLines (stepping heard)
 stepping_are [] all = tt
 stepping_are (line ∷ heard) (is, all) =
     let keeping = keeping_of (live_line (words_of line)) in
@@ -181,15 +181,15 @@ journals_lead all heard file cut are h (cif, is, means) inside =
     let p = parts_of all heard are h in
     let first = before_first_line (layout_of file) in
     let front = before all in
-    let line = live_of all in
+    let line = first_live all in
     let kept = front ++ line ∷ stepping heard in
     let same : bytes_of (kept_in all) ≡ concat kept =
-    ap (λ rest. bytes_of (kept_behind all rest)) h
-    ∙ ap (λ (l : List ℕ). l ++ (ended line ++ bytes_of (kept_lines heard))) (lines_same front p.front)
+    ap (λ rest. bytes_of (kept_since all rest)) h
+    ∙ ap (λ (l : List ℕ). l ++ (as_line line ++ bytes_of (kept_lines heard))) (lines_same front p.front)
     ∙ ap (λ (l : List ℕ). concat front ++ (l ++ bytes_of (kept_lines heard))) (line_same line p.at)
     ∙ ap (λ (l : List ℕ). concat front ++ (line ++ l)) (stepping_bytes heard p.back)
     ∙ sym (concat_two front (line ∷ stepping heard)) in
-    let lines_are : AreLines kept = lines_two front (line ∷ stepping heard) p.front (p.at, stepping_are heard p.back) in
+    let lines_are : AreWholeLines kept = lines_two front (line ∷ stepping heard) p.front (p.at, stepping_are heard p.back) in
     let wholes : whole (bytes_of (kept_in all) ++ cut) ≡ kept =
     ap (λ (l : List ℕ). whole (l ++ cut)) same ∙ whole_concat kept cut lines_are inside in
     let text : cif_of kept ≡ cif_of all = cif_at front line (stepping heard) p.none p.live

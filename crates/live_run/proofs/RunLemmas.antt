@@ -6,7 +6,7 @@ use Rattle.byte_io.specs.Input.{Counts}
 use Rattle.live_run.specs.declared.ending.LiveEnd.{LiveEnd}
 use Rattle.live_run.specs.declared.ending.LiveEnd.TheVariants.{Cif, Device, Done, Job, Journal, Memory}
 use Rattle.live_run.specs.Ending.{IsBroken, IsEnd, IsEnded, IsStop, Past, Tells, no_past}
-use Rattle.live_run.specs.Journal.{Entry}
+use Rattle.live_run.specs.Journal.{KeptText}
 use Rattle.live_run.specs.Course.{InHead, Phase}
 use Rattle.live_run.specs.Ear.{Hears, IsAt}
 use Rattle.live_run.proofs.CutLemmas.{cut_none}
@@ -24,7 +24,7 @@ tells_by : (past : Past) (a b : Type 0) (given : List ℕ) (told : List (List �
 tells_by past a b given told f (inl is) = inl is
 tells_by past a b given told f (inr (ended, all)) = inr (f ended, all)
 
-module _ {O J : Type 0} (written : O → Option (List ℕ)) (failures : O → ℕ) (kept : J → Option (List Entry)) (losses : J → ℕ) (past : Past)
+module _ {O J : Type 0} (written : O → Option (List ℕ)) (failures : O → ℕ) (kept : J → Option (List KeptText)) (losses : J → ℕ) (past : Past)
   where
     -- a stop, where what is known of the input's end is less
     pub stop_by : (a b : Type 0) (base out : O × J) (given : List ℕ) (end : LiveEnd) → (a → b)

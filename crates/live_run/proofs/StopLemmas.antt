@@ -20,8 +20,8 @@ use Rattle.live_run.specs.declared.ending.LiveEnd.TheVariants.{Cif, Device, Done
 use Rattle.live_run.specs.Cif.{behind, cif_from, cif_of, is_live, whole}
 use Rattle.live_run.specs.Said.{HaveRefused, IsBase, IsSaid, IsSaidBehind, IsWhole, answers, closing, said_text}
 use Rattle.live_run.specs.Ending.{Does, HasCifFault, HasJobFault, IsStop, KeepsPart, Past, Tells, WritesPart, all_lines, no_past, whole_lines}
-use Rattle.live_run.specs.Journal.{Entry, KeptAll, KeptPart, kept_head, kept_in, kept_line}
-use Rattle.live_run.specs.Course.{ClosesTo, HeadTo, HearsTo, InHead, InSteps, LiveTo, Phase, Refuses, RunCloses, phase_of}
+use Rattle.live_run.specs.Journal.{KeptText, KeptAll, KeptPart, kept_head, kept_in, kept_line}
+use Rattle.live_run.specs.Course.{ClosesTo, HeadTo, HearsTo, InHead, InSteps, LiveTo, Phase, RefusesHead, RunCloses, phase_of}
 use Rattle.live_run.specs.Ear.{IsAt}
 use Rattle.live_run.proofs.CifLemmas.{after_more, answers_more, before_all, before_at, behind_at, behind_none, cif_at, cif_more}
 use Rattle.live_run.proofs.CifLemmas.{cif_none, concat_more}
@@ -92,7 +92,7 @@ pub said_answers : (seen heard : List (List ℕ)) (file : Contents) → behind s
 said_answers seen heard file h is =
     subst (λ rest. IsSaidBehind seen rest (answers (before_first_line (layout_of file)) heard)) (sym h) (file, is, refl)
 
-module _ {O J : Type 0} (written : O → Option (List ℕ)) (failures : O → ℕ) (kept : J → Option (List Entry)) (losses : J → ℕ) (past : Past)
+module _ {O J : Type 0} (written : O → Option (List ℕ)) (failures : O → ℕ) (kept : J → Option (List KeptText)) (losses : J → ℕ) (past : Past)
   where
     wrote_none : (a b : O) → b ≡ a → WroteAll written failures a b []
     wrote_none a b same =
@@ -111,42 +111,42 @@ module _ {O J : Type 0} (written : O → Option (List ℕ)) (failures : O → �
       kept_nothing kept losses a.1 b.1 same,
     )
 
-    does_then : (a b c : O × J) (s t : List ℕ) (e f : List Entry) → Does written failures kept losses past a b s e
+    does_then : (a b c : O × J) (s t : List ℕ) (e f : List KeptText) → Does written failures kept losses past a b s e
         → WroteAll written failures b.0 c.0 t → KeptAll kept losses b.1 c.1 f
         → Does written failures kept losses past a c (s ++ t) (e ++ f)
     does_then a b c s t e f (more, fresh, is, are, wrote, keeps) put keep = (
       more ++ t,
       fresh ++ f,
       sym (append_assoc past.said more t) ∙ ap (λ (l : List ℕ). l ++ t) is,
-      sym (append_assoc past.entries fresh f) ∙ ap (λ (l : List Entry). l ++ f) are,
+      sym (append_assoc past.entries fresh f) ∙ ap (λ (l : List KeptText). l ++ f) are,
       WroteAll-then wrote put,
       kept_then kept losses a.1 b.1 c.1 fresh f keeps keep,
     )
 
-    part_then : (a b c : O × J) (s t : List ℕ) (e f : List Entry) → Does written failures kept losses past a b s e
+    part_then : (a b c : O × J) (s t : List ℕ) (e f : List KeptText) → Does written failures kept losses past a b s e
         → WrotePrefix written failures b.0 c.0 t → KeptAll kept losses b.1 c.1 f
         → WritesPart written failures kept losses past a c (s ++ t) (e ++ f)
     part_then a b c s t e f (more, fresh, is, are, wrote, keeps) put keep = (
       more ++ t,
       fresh ++ f,
       sym (append_assoc past.said more t) ∙ ap (λ (l : List ℕ). l ++ t) is,
-      sym (append_assoc past.entries fresh f) ∙ ap (λ (l : List Entry). l ++ f) are,
+      sym (append_assoc past.entries fresh f) ∙ ap (λ (l : List KeptText). l ++ f) are,
       WrotePrefix-behind wrote put,
       kept_then kept losses a.1 b.1 c.1 fresh f keeps keep,
     )
 
-    lost_then : (a b c : O × J) (s : List ℕ) (e f : List Entry) → Does written failures kept losses past a b s e
+    lost_then : (a b c : O × J) (s : List ℕ) (e f : List KeptText) → Does written failures kept losses past a b s e
         → c.0 ≡ b.0 → KeptPart kept losses b.1 c.1 f → KeepsPart written failures kept losses past a c s (e ++ f)
     lost_then a b c s e f (more, fresh, is, are, wrote, keeps) same lost = (
       more,
       fresh ++ f,
       is,
-      sym (append_assoc past.entries fresh f) ∙ ap (λ (l : List Entry). l ++ f) are,
+      sym (append_assoc past.entries fresh f) ∙ ap (λ (l : List KeptText). l ++ f) are,
       subst (λ (o : O). WroteAll written failures a.0 o more) (sym same) wrote,
       kept_part_then kept losses a.1 b.1 c.1 fresh f keeps lost,
     )
 
-    pub does_same : (a b c : O × J) (s : List ℕ) (e : List Entry) → c.0 ≡ b.0 → c.1 ≡ b.1
+    pub does_same : (a b c : O × J) (s : List ℕ) (e : List KeptText) → c.0 ≡ b.0 → c.1 ≡ b.1
         → Does written failures kept losses past a b s e → Does written failures kept losses past a c s e
     does_same a b c s e said same h =
         subst (λ (d : O × J). Does written failures kept losses past a d s e) (sym (λ i. (said i, same i))) h
@@ -353,7 +353,7 @@ module _ {O J : Type 0} (written : O → Option (List ℕ)) (failures : O → �
 
     head_closes : (base out' : O × J) (seen : List (List ℕ)) (head : List ℕ) (count : ℕ) (given : List ℕ) (end : LiveEnd)
         → all_lines past given ≡ seen → behind seen ≡ None → head ≡ concat seen → count ≡ length seen → past ≡ no_past
-        → out'.0 ≡ base.0 → out'.1 ≡ base.1 → Refuses false head (count + 1) end
+        → out'.0 ≡ base.0 → out'.1 ≡ base.1 → RefusesHead false head (count + 1) end
         → IsStop written failures kept losses past base out' given ⊤ end
     head_closes base out' seen head count given (Done any) all none joined counted fresh said same r = absurd r
     head_closes base out' seen head count given (Job n text) all none joined counted fresh said same (fault, is) = (

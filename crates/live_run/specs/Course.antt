@@ -23,7 +23,7 @@ use Rattle.live_run.specs.declared.course.Course.TheVariants.{Head, Steps}
 use Rattle.live_run.specs.declared.ending.LiveEnd.{LiveEnd}
 use Rattle.live_run.specs.declared.ending.LiveEnd.TheVariants.{Cif, Device, Done, Job, Journal, Memory}
 use Rattle.live_run.specs.Cif.{cif_from, is_live}
-use Rattle.live_run.specs.Journal.{Entry, KeptAll, KeptPart, entries_by, kept_head, kept_line}
+use Rattle.live_run.specs.Journal.{KeptText, KeptAll, KeptPart, entries_by, kept_head, kept_line}
 use Rattle.live_run.specs.Said.{closing, said_text}
 
 -- before the live line, the lines so far, joined, and how many they are; behind it, the run
@@ -79,19 +79,19 @@ BeginsRun head number run =
     × (run ≡ before_first_line (layout_of file))
 
 -- none does, by whether there is a live line
-abbrev pub Refuses : Bool → List ℕ → ℕ → LiveEnd → Type 0
-Refuses live head number (Done refused) = ⊥
-Refuses live head number (Job line text) = (cif_from number live (job_of head) ≡ Err (Line line)) × (text.items ≡ head)
-Refuses live head number (Cif fault text) =
+abbrev pub RefusesHead : Bool → List ℕ → ℕ → LiveEnd → Type 0
+RefusesHead live head number (Done refused) = ⊥
+RefusesHead live head number (Job line text) = (cif_from number live (job_of head) ≡ Err (Line line)) × (text.items ≡ head)
+RefusesHead live head number (Cif fault text) =
     (cif : List ℕ) × (cif_from number live (job_of head) ≡ Ok cif) × IsMeaning cif (Err fault) × (text.items ≡ head)
-Refuses live head number Device = ⊥
-Refuses live head number Journal = ⊥
-Refuses live head number Memory = ⊤
+RefusesHead live head number Device = ⊥
+RefusesHead live head number Journal = ⊥
+RefusesHead live head number Memory = ⊤
 
 -- a run begins behind this head, or none does
 abbrev pub OpensTo : List ℕ → ℕ → Result Live HeadFault → Type 0
 OpensTo head number (Ok live) = BeginsRun head number (run_of live)
-OpensTo head number (Err fault) = (text : Vec ℕ Global) → text.items ≡ head → Refuses true head number (end_of_head fault text)
+OpensTo head number (Err fault) = (text : Vec ℕ Global) → text.items ≡ head → RefusesHead true head number (end_of_head fault text)
 
 -- ---- a line
 
@@ -100,9 +100,9 @@ abbrev pub end_of_write : WriteFault → LiveEnd
 end_of_write DeviceFault = Device
 end_of_write NoMemory = Memory
 
-module _ {J : Type 0} (kept : J → Option (List Entry)) (losses : J → ℕ) (book book' : J) where
+module _ {J : Type 0} (kept : J → Option (List KeptText)) (losses : J → ℕ) (book book' : J) where
   -- a line was kept, as it was to be
-  abbrev pub KeepsTo : List Entry → Result Unit LiveEnd → Type 0
+  abbrev pub KeepsTo : List KeptText → Result Unit LiveEnd → Type 0
   KeepsTo entries (Ok x) = KeptAll kept losses book book' entries
   KeepsTo entries (Err end) = (end ≡ Journal) × KeptPart kept losses book book' entries
 
@@ -111,7 +111,7 @@ module _ {J : Type 0} (kept : J → Option (List Entry)) (losses : J → ℕ) (b
   LiveTo head number line (Ok course) =
       (run : LiveRun) × BeginsRun head number run × (phase_of course ≡ InSteps run) × KeptAll kept losses book book' (kept_head head line)
   LiveTo head number line (Err Journal) = KeptPart kept losses book book' (kept_head head line)
-  LiveTo head number line (Err end) = Refuses true head number end × (book' ≡ book)
+  LiveTo head number line (Err end) = RefusesHead true head number end × (book' ≡ book)
 
   -- what a line behind this head leads to, by whether it is live
   abbrev pub HeadTo : Bool → List ℕ → ℕ → List ℕ → Result Course LiveEnd → Type 0
@@ -137,13 +137,13 @@ module _ {O : Type 0} (written : O → Option (List ℕ)) (failures : O → ℕ)
 
   -- what the end of the input leads to
   abbrev pub ClosesTo : Phase → LiveEnd → Type 0
-  ClosesTo (InHead head count) end = (out' ≡ out) × Refuses false head (count + 1) end
+  ClosesTo (InHead head count) end = (out' ≡ out) × RefusesHead false head (count + 1) end
   ClosesTo (InSteps run) end = RunCloses run end
 
-module _ {O J : Type 0} (written : O → Option (List ℕ)) (failures : O → ℕ) (kept : J → Option (List Entry)) (losses : J → ℕ)
+module _ {O J : Type 0} (written : O → Option (List ℕ)) (failures : O → ℕ) (kept : J → Option (List KeptText)) (losses : J → ℕ)
     (out out' : O × J) where
   -- what a line of a run leads to, which leaves this, is answered so and is kept so, before the first byte of the answer
-  abbrev pub AnswersTo : LiveRun × Said → List Entry → Result Course LiveEnd → Type 0
+  abbrev pub AnswersTo : LiveRun × Said → List KeptText → Result Course LiveEnd → Type 0
   AnswersTo said entries (Ok course) =
       (phase_of course ≡ InSteps said.0) × WroteAll written failures out.0 out'.0 (said_text said)
       × KeptAll kept losses out.1 out'.1 entries

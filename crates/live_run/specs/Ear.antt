@@ -1,5 +1,5 @@
 -- Where a live run stands between two bytes, by all the bytes that were given so far.
-use Rattle.std.specs.Prelude.{◌≡◌, ℕ, ◌+◌, ◌⊎◌, ⊤, List, [], ◌++◌, length, filter, Bool, true, false, not, ◌==◌, Option, None, Some, Result, Ok, Err}
+use Rattle.std.specs.Prelude.{◌≡◌, ◌≢◌, ℕ, ◌+◌, ◌⊎◌, ⊤, List, [], ◌++◌, length, filter, Bool, true, false, not, ◌==◌, Option, None, Some, Result, Ok, Err}
 use Rattle.std.specs.List.{concat, list_all}
 use Rattle.std.specs.Io.KnownBytes.{Consumes}
 use Rattle.byte_io.specs.Input.{Counts}
@@ -11,9 +11,9 @@ use Rattle.live_run.specs.declared.course.Course.{Course}
 use Rattle.live_run.specs.declared.ear.Ear.{Ear}
 use Rattle.live_run.specs.declared.ending.LiveEnd.{LiveEnd}
 use Rattle.live_run.specs.Cif.{behind, is_ended, whole}
-use Rattle.live_run.specs.Course.{Phase, InHead, InSteps, Refuses, phase_of}
+use Rattle.live_run.specs.Course.{Phase, InHead, InSteps, RefusesHead, phase_of}
 use Rattle.live_run.specs.Ending.{Does, IsEnd, IsEnded, IsStop, Past, Unbegun, all_lines, no_past}
-use Rattle.live_run.specs.Journal.{Entry, kept_in}
+use Rattle.live_run.specs.Journal.{KeptText, kept_in}
 use Rattle.live_run.specs.Said.{IsBase, answers}
 
 -- whether the byte ends no line
@@ -26,7 +26,7 @@ pub record IsCut (bytes : List ℕ) (seen : List (List ℕ)) (line : List ℕ) :
   pub ended : filter is_ended seen ≡ seen
   pub inside : list_all is_not_newline line ≡ true
 
-module _ {O J : Type 0} (written : O → Option (List ℕ)) (failures : O → ℕ) (kept : J → Option (List Entry)) (losses : J → ℕ)
+module _ {O J : Type 0} (written : O → Option (List ℕ)) (failures : O → ℕ) (kept : J → Option (List KeptText)) (losses : J → ℕ)
     (past : Past) (base out : O × J) where
   -- from the devices before the first line to these, these lines were kept and answered, and the run stands here
   abbrev pub IsAt : List (List ℕ) → Phase → Type 0
@@ -51,7 +51,7 @@ module _ {O J : Type 0} (written : O → Option (List ℕ)) (failures : O → �
   HearsLast given (Ok course) = IsAt (all_lines past given) (phase_of course)
   HearsLast given (Err end) = IsStop written failures kept losses past base out given ⊤ end
 
-module _ {O J : Type 0} (written : O → Option (List ℕ)) (failures : O → ℕ) (kept : J → Option (List Entry)) (losses : J → ℕ)
+module _ {O J : Type 0} (written : O → Option (List ℕ)) (failures : O → ℕ) (kept : J → Option (List KeptText)) (losses : J → ℕ)
     (out out' : O × J) where
   -- a run that stands here is led there by this piece of the input
   abbrev pub PieceTo : Ear → List ℕ → Result Ear LiveEnd → Type 0
@@ -88,7 +88,8 @@ BegunAt (InSteps run) phase = phase ≡ InSteps run
 -- of a run that has heard a journal: where no live line came, none begins; else it stands where it stood, between lines
 abbrev pub BegunTo : Ear → Result Ear LiveEnd → Type 0
 BegunTo ear (Ok begun) = BegunAt (phase_of ear.course) (phase_of begun.course) × (begun.line.items ≡ [])
-BegunTo ear (Err end) = (head : List ℕ) × (count : ℕ) × (phase_of ear.course ≡ InHead head count) × Refuses false head (count + 1) end
+BegunTo ear (Err end) =
+    (head : List ℕ) × (count : ℕ) × (phase_of ear.course ≡ InHead head count) × (count ≢ 0) × RefusesHead false head (count + 1) end
 
 -- a run begins behind the lines that this journal has whole, and nothing has come of the next; or none begins
 abbrev pub Begins : List ℕ → Result Ear LiveEnd → Type 0
@@ -97,7 +98,7 @@ Begins journal (Err end) = Unbegun (whole journal) end
 
 -- the input was read to its end, and its bytes were heard by a run that stood here; or the run has ended
 abbrev pub HeardAll : {I O J : Type 0} → (I → Option (List ℕ)) → (I → Counts) → (O → Option (List ℕ)) → (O → ℕ)
-    → (J → Option (List Entry)) → (J → ℕ) → Ear → I → I → O × J → O × J → Result Ear LiveEnd → Type 0
+    → (J → Option (List KeptText)) → (J → ℕ) → Ear → I → I → O × J → O × J → Result Ear LiveEnd → Type 0
 HeardAll remaining counts written failures kept losses first input input' out out' (Ok ear) =
     (given : List ℕ) × Consumes (remaining input) (remaining input') given × IsEnded (counts input) (counts input')
     × PieceTo written failures kept losses out out' first given (Ok ear)

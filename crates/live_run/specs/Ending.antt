@@ -1,5 +1,5 @@
 -- How a live run ends.
-use Rattle.std.specs.Prelude.{◌≡◌, ℕ, ◌+◌, ◌⊎◌, ⊤, List, [], ◌∷◌, ◌++◌, Bool, true, Option, None, is_some, Ok, Err}
+use Rattle.std.specs.Prelude.{◌≡◌, ◌≢◌, ℕ, ◌+◌, ◌⊎◌, ⊤, List, [], ◌∷◌, ◌++◌, Bool, true, Option, None, is_some, Ok, Err}
 use Rattle.std.specs.List.{concat}
 use Rattle.std.specs.Io.KnownBytes.{Consumes}
 use Rattle.byte_io.specs.Device.{WroteAll, WrotePrefix}
@@ -12,7 +12,7 @@ use Rattle.live_run.specs.declared.ending.LiveEnd.{LiveEnd}
 use Rattle.live_run.specs.declared.ending.LiveEnd.TheVariants.{Cif, Device, Done, Job, Journal, Memory}
 use Rattle.live_run.specs.declared.journal.NoJournal.{NoJournal}
 use Rattle.live_run.specs.Cif.{before, behind, cif_of, whole}
-use Rattle.live_run.specs.Journal.{Entry, KeptAll, KeptPart, kept_in}
+use Rattle.live_run.specs.Journal.{KeptText, KeptAll, KeptPart, kept_in}
 use Rattle.live_run.specs.Said.{HaveRefused, IsSaid, IsWhole}
 
 -- the input came to its end, and didn't fail
@@ -29,7 +29,7 @@ IsBroken old new =
 pub record Past : Type 0 where
   pub lines : List (List ℕ)
   pub said : List ℕ
-  pub entries : List Entry
+  pub entries : List KeptText
 
 -- nothing was before it
 abbrev pub no_past : Past
@@ -63,24 +63,24 @@ HasJobFault told line text = (cif_of told ≡ Err (Line line)) × (text ≡ conc
 abbrev pub HasCifFault : List (List ℕ) → CifFault → List ℕ → Type 0
 HasCifFault told fault text = (cif : List ℕ) × (cif_of told ≡ Ok cif) × IsMeaning cif (Err fault) × (text ≡ concat (before told))
 
-module _ {O J : Type 0} (written : O → Option (List ℕ)) (failures : O → ℕ) (kept : J → Option (List Entry)) (losses : J → ℕ)
+module _ {O J : Type 0} (written : O → Option (List ℕ)) (failures : O → ℕ) (kept : J → Option (List KeptText)) (losses : J → ℕ)
     (past : Past) (out out' : O × J) where
   -- with what was before, this was written and this kept, and neither device failed
-  abbrev pub Does : List ℕ → List Entry → Type 0
-  Does said entries = (more : List ℕ) × (fresh : List Entry) × (past.said ++ more ≡ said) × (past.entries ++ fresh ≡ entries)
+  abbrev pub Does : List ℕ → List KeptText → Type 0
+  Does said entries = (more : List ℕ) × (fresh : List KeptText) × (past.said ++ more ≡ said) × (past.entries ++ fresh ≡ entries)
       × WroteAll written failures out.0 out'.0 more × KeptAll kept losses out.1 out'.1 fresh
 
   -- the same, but the output failed in what it was to write
-  abbrev pub WritesPart : List ℕ → List Entry → Type 0
-  WritesPart said entries = (more : List ℕ) × (fresh : List Entry) × (past.said ++ more ≡ said) × (past.entries ++ fresh ≡ entries)
+  abbrev pub WritesPart : List ℕ → List KeptText → Type 0
+  WritesPart said entries = (more : List ℕ) × (fresh : List KeptText) × (past.said ++ more ≡ said) × (past.entries ++ fresh ≡ entries)
       × WrotePrefix written failures out.0 out'.0 more × KeptAll kept losses out.1 out'.1 fresh
 
   -- the same, but the journal failed in what it was to keep
-  abbrev pub KeepsPart : List ℕ → List Entry → Type 0
-  KeepsPart said entries = (more : List ℕ) × (fresh : List Entry) × (past.said ++ more ≡ said) × (past.entries ++ fresh ≡ entries)
+  abbrev pub KeepsPart : List ℕ → List KeptText → Type 0
+  KeepsPart said entries = (more : List ℕ) × (fresh : List KeptText) × (past.said ++ more ≡ said) × (past.entries ++ fresh ≡ entries)
       × WroteAll written failures out.0 out'.0 more × KeptPart kept losses out.1 out'.1 fresh
 
-module _ {O J : Type 0} (written : O → Option (List ℕ)) (failures : O → ℕ) (kept : J → Option (List Entry)) (losses : J → ℕ)
+module _ {O J : Type 0} (written : O → Option (List ℕ)) (failures : O → ℕ) (kept : J → Option (List KeptText)) (losses : J → ℕ)
     (past : Past) (out out' : O × J) (given : List ℕ) where
   -- the bytes that were given tell of a fault at this line of the job in front of the live line; nothing was written or kept
   abbrev pub IsJobEnd : Type 0 → ℕ → List ℕ → Type 0
@@ -131,17 +131,17 @@ abbrev pub can_begin : List (List ℕ) → Bool
 can_begin [] = true
 can_begin (line ∷ lines) = is_some (behind (line ∷ lines))
 
--- no run begins from these lines of its journal: there is no live line, they have a fault, or memory was refused
+-- no run begins from these lines of its journal: there are some and none is live, they have a fault, or memory was refused
 abbrev pub Unbegun : List (List ℕ) → LiveEnd → Type 0
 Unbegun told (Done refused) = ⊥
-Unbegun told (Job line text) = HasJobFault told line text.items
+Unbegun told (Job line text) = (told ≢ []) × HasJobFault told line text.items
 Unbegun told (Cif fault text) = HasCifFault told fault text.items
 Unbegun told Device = ⊥
 Unbegun told Journal = ⊥
 Unbegun told Memory = ⊤
 
 module _ {I O J : Type 0} (remaining : I → Option (List ℕ)) (counts : I → Counts) (written : O → Option (List ℕ)) (failures : O → ℕ)
-    (kept : J → Option (List Entry)) (losses : J → ℕ) where
+    (kept : J → Option (List KeptText)) (losses : J → ℕ) where
   -- From the old devices to the new, a run over the lines that this journal has whole and then those of the input: what the
   -- lines of the journal are answered isn't said again, nor are they kept again.
   abbrev pub Resumes : List ℕ → I → I → O × J → O × J → LiveEnd → Type 0

@@ -14,30 +14,30 @@ use Rattle.live_run.specs.declared.live.Keeping.TheVariants.{Line, No, Odd}
 use Rattle.live_run.specs.Cif.{before, behind, is_ended, is_live}
 
 -- a text that was kept, and whether it and all before it were on the disk when the call returned
-abbrev pub Entry : Type 0
-Entry = List ℕ × Bool
+abbrev pub KeptText : Type 0
+KeptText = List ℕ × Bool
 
 -- the journal has these entries more; one that can't know its entries still can't
-abbrev pub Gains : Option (List Entry) → Option (List Entry) → List Entry → Type 0
-Gains None new entries = new ≡ None
-Gains (Some old) new entries = new ≡ Some (old ++ entries)
+abbrev pub KeptMore : Option (List KeptText) → Option (List KeptText) → List KeptText → Type 0
+KeptMore None new entries = new ≡ None
+KeptMore (Some old) new entries = new ≡ Some (old ++ entries)
 
-module _ {J : Type 0} (kept : J → Option (List Entry)) (losses : J → ℕ) (old new : J) where
+module _ {J : Type 0} (kept : J → Option (List KeptText)) (losses : J → ℕ) (old new : J) where
   -- from the old journal to the new: all of these were kept and nothing else, and it didn't fail
-  pub record KeptAll (entries : List Entry) : Type 0 where
-    pub all : Gains (kept old) (kept new) entries
+  pub record KeptAll (entries : List KeptText) : Type 0 where
+    pub all : KeptMore (kept old) (kept new) entries
     pub unfailing : losses new ≡ losses old
 
   -- from the old journal to the new: it failed, once, behind some first of these and a prefix of the next
-  pub record KeptPart (entries : List Entry) : Type 0 where
-    pub begun : (first more : List Entry) × (start rest : List ℕ) × (flushed : Bool)
-        × (first ++ (start ++ rest, flushed) ∷ more ≡ entries) × Gains (kept old) (kept new) (first ++ (start, false) ∷ [])
+  pub record KeptPart (entries : List KeptText) : Type 0 where
+    pub begun : (first more : List KeptText) × (start rest : List ℕ) × (flushed : Bool)
+        × (first ++ (start ++ rest, flushed) ∷ more ≡ entries) × KeptMore (kept old) (kept new) (first ++ (start, false) ∷ [])
     pub failed : losses new ≡ losses old + 1
 
 -- the text, with a newline at its end, where it has a byte
-abbrev pub ended : List ℕ → List ℕ
-ended [] = []
-ended (b ∷ text) = if is_ended (b ∷ text) then b ∷ text else (b ∷ text) ++ codes "\n"
+abbrev pub as_line : List ℕ → List ℕ
+as_line [] = []
+as_line (b ∷ text) = if is_ended (b ∷ text) then b ∷ text else (b ∷ text) ++ codes "\n"
 
 -- whether the step ends with what others see, and so is flushed to the disk before its reply
 abbrev pub is_lasting : StepOf → Bool
@@ -62,36 +62,36 @@ kept_as No = None
 kept_as (Line flushed) = Some flushed
 kept_as (Odd number) = None
 
-abbrev pub entries_by : Option Bool → List ℕ → List Entry
+abbrev pub entries_by : Option Bool → List ℕ → List KeptText
 entries_by None line = []
-entries_by (Some flushed) line = (ended line, flushed) ∷ []
+entries_by (Some flushed) line = (as_line line, flushed) ∷ []
 
 -- what is kept of a line behind the live line: the line, where it is a step
-abbrev pub kept_line : List ℕ → List Entry
+abbrev pub kept_line : List ℕ → List KeptText
 kept_line line = entries_by (keeping_of (live_line (words_of line))) line
 
-abbrev pub kept_lines : List (List ℕ) → List Entry
+abbrev pub kept_lines : List (List ℕ) → List KeptText
 kept_lines [] = []
 kept_lines (line ∷ lines) = kept_line line ++ kept_lines lines
 
 -- what is kept of a head and its live line
-abbrev pub kept_head : List ℕ → List ℕ → List Entry
-kept_head head line = (ended head, false) ∷ (ended line, true) ∷ []
+abbrev pub kept_head : List ℕ → List ℕ → List KeptText
+kept_head head line = (as_line head, false) ∷ (as_line line, true) ∷ []
 
 -- the first line that is live
-abbrev pub live_of : List (List ℕ) → List ℕ
-live_of [] = []
-live_of (line ∷ lines) = if is_live line then line else live_of lines
+abbrev pub first_live : List (List ℕ) → List ℕ
+first_live [] = []
+first_live (line ∷ lines) = if is_live line then line else first_live lines
 
-abbrev pub kept_behind : List (List ℕ) → Option (List (List ℕ)) → List Entry
-kept_behind lines None = []
-kept_behind lines (Some heard) = kept_head (concat (before lines)) (live_of lines) ++ kept_lines heard
+abbrev pub kept_since : List (List ℕ) → Option (List (List ℕ)) → List KeptText
+kept_since lines None = []
+kept_since lines (Some heard) = kept_head (concat (before lines)) (first_live lines) ++ kept_lines heard
 
 -- what is kept of lines: nothing before the live line has come
-abbrev pub kept_in : List (List ℕ) → List Entry
-kept_in lines = kept_behind lines (behind lines)
+abbrev pub kept_in : List (List ℕ) → List KeptText
+kept_in lines = kept_since lines (behind lines)
 
 -- the bytes of entries
-abbrev pub bytes_of : List Entry → List ℕ
+abbrev pub bytes_of : List KeptText → List ℕ
 bytes_of [] = []
 bytes_of (entry ∷ entries) = entry.0 ++ bytes_of entries

@@ -41,11 +41,11 @@ abbrev pub LinesAreSteps : Type 0
 LinesAreSteps = (base : Layout) (lines : List (List ℕ)) → LedBy base (steps_in lines) (after_lines (before_first_line base) lines)
 
 -- a line has one newline, at its end
-abbrev pub IsLine : List ℕ → Type 0
-IsLine line = (body : List ℕ) × (list_all is_not_newline body ≡ true) × (line ≡ body ++ 10 ∷ [])
+abbrev pub IsWholeLine : List ℕ → Type 0
+IsWholeLine line = (body : List ℕ) × (list_all is_not_newline body ≡ true) × (line ≡ body ++ 10 ∷ [])
 
-abbrev pub AreLines : List (List ℕ) → Type 0
-AreLines lines = AllByRecursion IsLine lines
+abbrev pub AreWholeLines : List (List ℕ) → Type 0
+AreWholeLines lines = AllByRecursion IsWholeLine lines
 
 -- two runs are the same but for how many lines came
 pub record SameSteps (a b : LiveRun) : Type 0 where
@@ -57,7 +57,7 @@ pub record SameSteps (a b : LiveRun) : Type 0 where
 -- what a journal has of lines, and of the next line any bytes but its newline: a run that begins from it begins where the run of
 -- those lines stands
 abbrev pub JournalsResume : Type 0
-JournalsResume = (lines heard : List (List ℕ)) (file : Contents) (cut : List ℕ) → AreLines lines → behind lines ≡ Some heard
+JournalsResume = (lines heard : List (List ℕ)) (file : Contents) (cut : List ℕ) → AreWholeLines lines → behind lines ≡ Some heard
     → IsBase lines file → list_all is_not_newline cut ≡ true
     → (kept : List (List ℕ)) × (behind (whole (bytes_of (kept_in lines) ++ cut)) ≡ Some kept)
     × IsBase (whole (bytes_of (kept_in lines) ++ cut)) file

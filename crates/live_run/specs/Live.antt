@@ -12,7 +12,7 @@ use Rattle.job_text.specs.declared.live.LiveLine.TheVariants.{Ask, Blank, Odd, S
 use Rattle.job_text.specs.Live.{live_line, odd_text}
 use Rattle.job_text.specs.Replies.{reply_text}
 use Rattle.job_text.specs.Words.{words_of}
-use Rattle.live_questions.specs.Answers.{answer_text}
+use Rattle.live_questions.specs.Answers.{told_text}
 use Rattle.live_run.specs.declared.live.Answer.{Answer}
 use Rattle.live_run.specs.declared.live.Live.{Live}
 
@@ -90,7 +90,7 @@ abbrev pub answered : LiveRun → LiveLine → LiveRun × Said
 answered run Blank = (one_more run, ([], false))
 answered run (Step session step) = after_step run session step
 answered run Write = (one_more run, ([], true))
-answered run (Ask question) = (one_more run, (answer_text question run.state.history, false))
+answered run (Ask question) = (one_more run, (told_text question run.state.history, false))
 answered run Odd = (one_more run, (odd_text (run.lines + 1), false))
 
 -- what a line is answered

@@ -9,7 +9,7 @@ ghost use Rattle.live_run.specs.Cif.{cif_from, has_no_script};
 ghost use Rattle.live_run.specs.Course.{
   IsBaseOf,
   OpensTo,
-  Refuses,
+  RefusesHead,
   end_of_head,
   head_cif,
   head_job,
@@ -65,7 +65,7 @@ impl From<NoMemory> for HeadFault {
     }
 }
 
-/// Returns the run behind this head, before its first line, where the live line has this number.
+/// Returns the run after this head, before its first line, where the live line has this number.
 pub(crate) fn open_run(alloc: Global, head: &[u8], number: u32) -> Result<Live, HeadFault>
     ensures { OpensTo head.now number result }
 {
@@ -84,9 +84,9 @@ pub(crate) fn head_end(fault: HeadFault, text: Vec<u8>) -> LiveEnd
     }
 }
 
-/// Returns the end of a run whose input ends with this head; the line behind it has this number.
+/// Returns the end of a run whose input ends with this head; the line after it has this number.
 pub(crate) fn unopened(alloc: Global, head: Vec<u8>, number: u32) -> LiveEnd
-    ensures { Refuses false head.items number result }
+    ensures { RefusesHead false head.items number result }
 {
     match job_fault(alloc, head.as_slice(), number) {
         Some(line) => LiveEnd::Job { line, text: head },

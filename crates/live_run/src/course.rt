@@ -31,9 +31,9 @@ use std::thread::Threads;
 /// Where a run stands between two lines. Contracts see its `phase_of`.
 #[derive(Drop)]
 pub enum Course {
-    /// In front of the live line: the lines so far, and how many they are.
+    /// Before the live line: the lines so far, and how many they are.
     Head(Vec<u8>, u32),
-    /// Behind it.
+    /// After it.
     Steps(Live),
 }
 
@@ -71,14 +71,14 @@ impl Course {
     }
 }
 
-/// Returns whether steps begin behind the line.
+/// Returns whether steps begin after the line.
 fn is_live(line: &[u8]) -> bool
     ensures { result ≡ is_live line.now }
 {
     line.starts_with("%live".as_bytes())
 }
 
-/// Returns the course after a line behind these others, none of which is live.
+/// Returns the course after a line that follows these others, none of which is live.
 fn hear_head<J: Journal>(
     alloc: Global,
     text: Vec<u8>,
@@ -97,7 +97,7 @@ fn hear_head<J: Journal>(
     Ok(Course::Head(text, number))
 }
 
-/// Returns the course after a live line of this number, which is kept behind its head where a run begins.
+/// Returns the course after a live line of this number, which is kept after its head where a run begins.
 fn hear_live<J: Journal>(
     alloc: Global,
     text: Vec<u8>,

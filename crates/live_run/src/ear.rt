@@ -65,7 +65,7 @@ impl Ear {
         Ok(ear)
     }
 
-    /// Returns the run behind the whole lines that it has heard, from its journal: what has come of the next is dropped.
+    /// Returns the run after the whole lines that it has heard, from its journal: what has come of the next is dropped.
     pub(crate) fn begun(self, alloc: Global) -> Result<Ear, LiveEnd>
         ensures { BegunTo self result }
     {

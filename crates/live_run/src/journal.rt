@@ -1,6 +1,6 @@
 //! Where a live run keeps its lines, so that a later run can begin from them.
 ghost use Rattle.std.specs.Prelude.{◌≡◌, ℕ, ◌∷◌, [], List, None, Option, OnErr, OnOk};
-ghost use Rattle.live_run.specs.Journal.{Entry, KeptAll, KeptPart, ended};
+ghost use Rattle.live_run.specs.Journal.{KeptText, KeptAll, KeptPart, as_line};
 
 use byte_io::{Out, OutFault};
 
@@ -12,20 +12,20 @@ pub struct KeepFault;
 pub trait Journal {
     /// What was kept so far, or `None` where the device can't know it: texts, and of each whether it, and all
     /// before it, were on the disk when the call returned.
-    ghost kept: { Self → Option (List Entry) };
+    ghost kept: { Self → Option (List KeptText) };
 
     /// How often the device has failed.
     ghost losses: { Self → ℕ };
 
-    /// Keeps the line, or lines, behind those before, with a newline at the end. With `is_flushed` it and they are on the
+    /// Keeps the line, or lines, after those before, with a newline at the end. With `is_flushed` it and they are on the
     /// disk when the call returns.
     ///
     /// # Errors
     ///
     /// `KeepFault`, if the device fails; a prefix of the line may be kept then.
     fn keep(&mut self, line: &[u8], is_flushed: bool) -> Result<(), KeepFault>
-        ensures ok { OnOk result (KeptAll kept losses self.old self.new ((ended line.now, is_flushed) ∷ [])) }
-        ensures fault { OnErr result (KeptPart kept losses self.old self.new ((ended line.now, is_flushed) ∷ [])) };
+        ensures ok { OnOk result (KeptAll kept losses self.old self.new ((as_line line.now, is_flushed) ∷ [])) }
+        ensures fault { OnErr result (KeptPart kept losses self.old self.new ((as_line line.now, is_flushed) ∷ [])) };
 
     /// Is told of a line that says nothing which a run takes, and of its number. Such a line isn't kept.
     fn tell(&mut self, line: &[u8], number: u64)

@@ -24,7 +24,7 @@
 //!   gave, is `specs/Ending.antt`. What is said of a failed input is what keeps an answer from
 //!   waiting for the next line: all lines that came whole are answered by then.
 //! - A [`Journal`] gets the lines up to the live line, and then each step before its answer
-//!   (`specs/Journal.antt`). [`run_journaled`] begins behind the lines that one has: such a run is one
+//!   (`specs/Journal.antt`). [`run_journaled`] begins after the lines that one has: such a run is one
 //!   over these lines and then the input's, but for the answers to the first.
 //! - [`lines_are_steps`] and [`journals_resume`] do nothing and carry laws (`specs/Laws.antt`): the
 //!   lines so far lead where their steps lead as a job, with the same replies; and so do the lines that

@@ -77,7 +77,7 @@ pub fn run_journaled<I: In, O: Out, J: Journal>(
     }
 }
 
-/// Returns the run behind the lines that the journal's bytes have whole, which are answered to nobody.
+/// Returns the run after the lines that the journal's bytes have whole, which are answered to nobody.
 fn begin(
     rt: &(impl Threads + Sync),
     alloc: Global,

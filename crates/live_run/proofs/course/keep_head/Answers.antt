@@ -3,7 +3,7 @@ use Rattle.std.proofs.Common.{rules, ◌≡◌, ◌∷◌, [], true, false, Err,
 use Rattle.live_run.specs.declared.ending.LiveEnd.{LiveEnd}
 use Rattle.live_run.specs.declared.ending.LiveEnd.TheVariants.{Journal}
 use Rattle.live_run.specs.Course.{KeepsTo}
-use Rattle.live_run.specs.Journal.{ended, kept_head}
+use Rattle.live_run.specs.Journal.{as_line, kept_head}
 use Rattle.live_run.proofs.KeptLemmas.{kept_part_more, kept_part_then}
 use Rattle.live_run.proofs.course.keep_head.Goals as goal
 
@@ -13,8 +13,8 @@ returns-in_err-keep g c =
     subst (λ r. KeepsTo g.J.Journal.kept g.J.Journal.losses c.args.journal.now c.keep.new.self (kept_head c.args.head.now c.args.line.now) r)
     (sym failed) (
       refl,
-      kept_part_more g.J.Journal.kept g.J.Journal.losses c.args.journal.now c.keep.new.self ((ended c.args.head.now, false) ∷ [])
-          ((ended c.args.line.now, true) ∷ []) c.in_err-keep.ensures.fault,
+      kept_part_more g.J.Journal.kept g.J.Journal.losses c.args.journal.now c.keep.new.self ((as_line c.args.head.now, false) ∷ [])
+          ((as_line c.args.line.now, true) ∷ []) c.in_err-keep.ensures.fault,
     )
 
 pub returns-in_err-keep-2 : goal.returns-in_err-keep-2
@@ -24,5 +24,5 @@ returns-in_err-keep-2 g c =
     (sym failed) (
       refl,
       kept_part_then g.J.Journal.kept g.J.Journal.losses c.args.journal.now c.keep.new.self c.keep-2.new.self
-          ((ended c.args.head.now, false) ∷ []) ((ended c.args.line.now, true) ∷ []) c.in_ok-keep.ensures.ok c.in_err-keep-2.ensures.fault,
+          ((as_line c.args.head.now, false) ∷ []) ((as_line c.args.line.now, true) ∷ []) c.in_ok-keep.ensures.ok c.in_err-keep-2.ensures.fault,
     )
