@@ -1,5 +1,5 @@
 -- What is kept of the input decides the output.
-use Rattle.std.proofs.Common.{◌≡◌, ℕ, ◌<◌, Bool, List, OnErr, OnOk, Option, Some, Result, false, length}
+use Rattle.std.proofs.Common.{◌≡◌, ℕ, ◌+◌, ◌<◌, ◌≤◌, Bool, List, IfOk, OnErr, OnOk, Option, Some, Result, false, length}
 use Rattle.std.proofs.Common.{[], true, take, Ok, Err, inl, inr, refl, sym, ap, subst, ◌∙◌, arith}
 use Rattle.std.proofs.lemmas.Bool.{cases_lt}
 use Rattle.std.specs.Result.{is_err}
@@ -15,10 +15,17 @@ use Rattle.masklay.specs.declared.program.outcome.Stop.{Stop}
 use Rattle.cif_read.proofs.OneMeaning.{one_meaning}
 use Rattle.masklay.specs.Outcome.{IsOutcomeOf, finished_with, job_in}
 use Rattle.masklay.specs.Asked.{Asked}
-use Rattle.masklay.specs.Named.{names_in}
-use Rattle.masklay.specs.Oriented.{IsGiven}
-use Rattle.masklay.specs.Output.{EndsAsAsked, IsOutput, Output, output_from}
-use Rattle.masklay.specs.Reading.{input_kept}
+use Rattle.masklay.specs.Named.{names_for, names_in}
+use Rattle.masklay.specs.Oriented.{AnswersGiven, IsGiven, finished_part}
+use Rattle.masklay.specs.Output.{EndsAsAsked, IsOutput, Output, WritesOrMemory, WritesOutput, given_output, output_from, stop_output, written_output}
+use Rattle.masklay.specs.declared.program.oriented.Given.{Given}
+use Rattle.masklay.specs.declared.program.outcome.Stop.TheVariants.{NoMemory}
+use Rattle.masklay.specs.Reading.{HowRead, input_kept}
+use Rattle.masklay.specs.Run.{IsRun, WritesUnread}
+use Rattle.masklay.specs.declared.program.reading.ReadFault.{ReadFault}
+use Rattle.masklay.specs.declared.program.reading.ReadFault.TheVariants.{Device, NoMemory as ReadMemory}
+use Rattle.byte_io.specs.Input.{Counts}
+use Rattle.live_run.specs.declared.run.TheConstants.{MAX_READS}
 
 too_long_job : (bytes : List ℕ) → 16777216 < length bytes → job_of bytes ≡ Err (Line 0)
 unfolding job_of
@@ -58,6 +65,53 @@ pub kept_ends : {S : Type 0} (written : S → Option (List ℕ)) (failures : S �
 kept_ends written failures old new asked bytes status (inl (output, is, wrote)) =
     inl (output, kept_output asked bytes output is, wrote)
 kept_ends written failures old new asked bytes status (inr refused) = inr refused
+
+-- what is given out of the bytes' job, and written, is their output
+pub given_ends : {S : Type 0} (written : S → Option (List ℕ)) (failures : S → ℕ) (old new : S) (asked : Asked)
+    (bytes : List ℕ) (given : Result Given Stop) (status : Status)
+    → AnswersGiven asked.threaded asked.oriented (job_in asked.bare bytes) (finished_part given)
+    → IfOk given (λ g. g.names ≡ names_for (names_in asked.named (job_in asked.bare bytes)) g.finished.layout)
+    → WritesOrMemory written failures old new (given_output asked.strict asked.boxed given) status
+    → EndsAsAsked written failures old new asked bytes status
+given_ends written failures old new asked bytes given status is names (inr refused) = inr refused
+given_ends written failures old new asked bytes (Ok given) status (inl none) names (inl wrote) = absurd cc
+given_ends written failures old new asked bytes (Ok given) status (inr is) names (inl wrote) =
+    inl (
+      output_from asked.strict asked.boxed (names_in asked.named (job_in asked.bare bytes)) (Ok given.finished),
+      (Ok given.finished, is, refl),
+      subst (λ n. WritesOutput written failures old new (written_output asked.strict asked.boxed n given.finished) status) names wrote,
+    )
+given_ends written failures old new asked bytes (Err stop) status (inl refused) names (inl wrote) =
+    let both : ◌≡◌ {A = Result Finished Stop} (Err stop) (Err NoMemory) = refused in
+    let same : stop ≡ NoMemory = cc in
+    inr (subst (λ s. WritesOutput written failures old new (stop_output s) status) same wrote)
+given_ends written failures old new asked bytes (Err stop) status (inr is) names (inl wrote) =
+    inl (stop_output stop, (Err stop, is, refl), wrote)
+
+-- an input that isn't read is a run
+pub unread_run : {I O : Type 0} (asked : Asked) (remaining : I → Option (List ℕ)) (counts : I → Counts) (written : O → Option (List ℕ))
+    (failures : O → ℕ) (input input' : I) (out out' : O) (status : Status) (fault : ReadFault)
+    → HowRead {A = Unit {0}} (counts input) (counts input') (Err fault) → (counts input').reads ≤ (counts input).reads + MAX_READS
+    → WritesUnread written failures out out' fault status
+    → IsRun asked remaining counts written failures input input' out out' status
+unread_run asked remaining counts written failures input input' out out' status Device (inl (ends, failed)) reads (is, same) = record {
+  answered = λ bytes told ended. absurd (omega (arith, ends));
+  unended = λ on unfailing. absurd (omega (arith, failed, unfailing));
+  failed = λ _. (is, same);
+  reads = reads;
+}
+unread_run asked remaining counts written failures input input' out out' status Device (inr endless) reads (is, same) = record {
+  answered = λ bytes told ended. let ends = endless.1 in absurd (omega (arith, ends));
+  unended = λ on unfailing. inl (endless, is, same);
+  failed = λ failed. absurd (failed endless.2);
+  reads = reads;
+}
+unread_run asked remaining counts written failures input input' out out' status ReadMemory (ends, unfailing) reads wrote = record {
+  answered = λ bytes told ended. absurd (omega (arith, ends));
+  unended = λ _ _. inr wrote;
+  failed = λ failed. absurd (failed unfailing);
+  reads = reads;
+}
 
 -- ---- bytes have one output, where sessions take turns and shapes stay
 

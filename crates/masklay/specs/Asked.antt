@@ -16,13 +16,17 @@ pub record Asked : Type 0 where
   -- whether upright rectangles are written as boxes
   pub boxed : Bool
 
--- what options ask for
-abbrev pub asked_of : Options → Asked
-asked_of options = record {
-  threaded = options.threaded;
+-- what options ask for, by whether sessions run in threads
+abbrev pub asked_by : Bool → Options → Asked
+asked_by threaded options = record {
+  threaded = threaded;
   oriented = options.oriented;
   named = options.named;
   strict = options.strict;
   bare = options.bare;
   boxed = options.boxed;
 }
+
+-- what options ask for
+abbrev pub asked_of : Options → Asked
+asked_of options = asked_by options.threaded options

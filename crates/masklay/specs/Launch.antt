@@ -15,7 +15,7 @@ use Rattle.masklay.specs.declared.command_line.Wish.TheVariants.{Job, Live}
 use Rattle.masklay.specs.declared.program.status.Status.{Status}
 use Rattle.masklay.specs.declared.program.status.Status.TheVariants.{CommandLine, Done}
 use Rattle.masklay.specs.Asked.{Asked, asked_of}
-use Rattle.live_run.specs.Journal.{Entry}
+use Rattle.live_run.specs.Journal.{KeptText}
 use Rattle.masklay.specs.Live.{IsLive}
 use Rattle.masklay.specs.Output.{WritesOutput, memory_output}
 use Rattle.masklay.specs.Run.{IsRun}
@@ -71,7 +71,7 @@ IsWishOf (Live options) words =
 -- from the old devices to the new: the run of a job that was asked so, of which a journal knows nothing, or a live run behind
 -- these bytes of its journal
 abbrev pub Runs : {I O J : Type 0} → Bool → Asked → (I → Option (List ℕ)) → (I → Counts) → (O → Option (List ℕ)) → (O → ℕ)
-    → (J → Option (List Entry)) → (J → ℕ) → List ℕ → I → I → O × J → O × J → Status → Type 0
+    → (J → Option (List KeptText)) → (J → ℕ) → List ℕ → I → I → O × J → O × J → Status → Type 0
 Runs false asked remaining counts written failures kept losses journal input input' out out' status =
     IsRun asked remaining counts written failures input input' out.0 out'.0 status × (out'.1 ≡ out.1)
 Runs true asked remaining counts written failures kept losses journal input input' out out' status =

@@ -2,7 +2,7 @@
 use Rattle.std.specs.Prelude.{◌≡◌, ℕ, ◌+◌, ◌≤◌, ◌&&◌, Bool, if◌then◌else◌, List, Option}
 use Rattle.byte_io.specs.Input.{Counts}
 use Rattle.live_run.specs.Ending.{IsJournaled}
-use Rattle.live_run.specs.Journal.{Entry}
+use Rattle.live_run.specs.Journal.{KeptText}
 use Rattle.live_run.specs.declared.run.TheConstants.{MAX_READS}
 use Rattle.live_run.specs.declared.ending.LiveEnd.{LiveEnd}
 use Rattle.live_run.specs.declared.ending.LiveEnd.TheVariants.{Done as AllSaid, Job as JobEnd, Cif as CifEnd}
@@ -30,7 +30,7 @@ WritesLiveEnd strict written failures old new MemoryEnd status = WritesOutput wr
 
 -- from the old input, and the old output and journal, to the new: a live run behind these bytes of its journal, and what closes it
 pub record IsLive {I O J : Type 0} (strict : Bool) (remaining : I → Option (List ℕ)) (counts : I → Counts)
-    (written : O → Option (List ℕ)) (failures : O → ℕ) (kept : J → Option (List Entry)) (losses : J → ℕ) (journal : List ℕ)
+    (written : O → Option (List ℕ)) (failures : O → ℕ) (kept : J → Option (List KeptText)) (losses : J → ℕ) (journal : List ℕ)
     (input input' : I) (out out' : O × J) (status : Status) : Type 0 where
   pub answered : O
   pub end : LiveEnd

@@ -17,9 +17,9 @@ cif_in (Ok job) = job.cif
 cif_in (Err fault) = []
 
 -- the text of a layout, with boxes where that is asked for
-abbrev pub drawn : Bool → Layout → List ℕ
-drawn false layout = text layout
-drawn true layout = text_as Boxes layout
+abbrev pub layout_text : Bool → Layout → List ℕ
+layout_text false layout = text layout
+layout_text true layout = text_as Boxes layout
 
 -- the text that is written, with these names and labels in it, if there are any
 abbrev pub text_with : Option Names → List ℕ → List ℕ

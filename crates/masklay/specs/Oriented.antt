@@ -21,6 +21,15 @@ abbrev pub IsGiven : Bool → Bool → Result Job JobFault → Result Finished S
 IsGiven threaded false job given = BecomesOf threaded job given
 IsGiven threaded true job given = (outcome : Result Finished Stop) × BecomesOf threaded job outcome × IsDirectedOutcome outcome given
 
+-- what is given out of what a job became, by whether shapes are directed
+abbrev pub IsGivenOf : Bool → Finished → Result Finished Stop → Type 0
+IsGivenOf false finished given = given ≡ Ok finished
+IsGivenOf true finished given = IsDirectedOutcome (Ok finished) given
+
+-- the same, or out of memory in its place
+abbrev pub AnswersGivenOf : Bool → Finished → Result Finished Stop → Type 0
+AnswersGivenOf oriented finished given = (given ≡ Err NoMemory) ⊎ IsGivenOf oriented finished given
+
 -- the replies, the order and the layout of what is given out
 abbrev pub finished_part : Result Given Stop → Result Finished Stop
 finished_part (Ok given) = Ok given.finished

@@ -2,7 +2,7 @@
 -- Source: this project's own.
 -- Checked on: examples/first-run.job; jobs of tests/jobs with one session, which have their output
 -- with `--threaded` too; `B 2 2 0 0; E` as CIF is status 4 and `cif fault 7 NoLayer at 0`.
-use Rattle.std.specs.Prelude.{◌≡◌, ℕ, Bool, true, false, List, [], length, max, min, replicate, Result, Ok, Err}
+use Rattle.std.specs.Prelude.{◌≡◌, ◌⊎◌, ℕ, Bool, true, false, List, [], length, max, min, replicate, Result, Ok, Err}
 use Rattle.cif_read.specs.declared.fault.CifFault.{CifFault}
 use Rattle.cif_read.specs.declared.fault.FaultKind.TheVariants.{NoMemory as CifMemory}
 use Rattle.cif_read.specs.declared.fault.FaultKind.{FaultKind}
@@ -13,6 +13,7 @@ use Rattle.lay_layouts.specs.Layout.{Layout}
 use Rattle.job_text.specs.Jobs.{Job}
 use Rattle.job_text.specs.declared.job.JobFault.{JobFault}
 use Rattle.job_text.specs.declared.job.JobFault.TheVariants.{Line, NoMemory as JobMemory}
+use Rattle.masklay.specs.declared.program.outcome.Begun.{Begun}
 use Rattle.masklay.specs.declared.program.outcome.Finished.{Finished}
 use Rattle.masklay.specs.declared.program.outcome.Stop.{Stop}
 use Rattle.masklay.specs.declared.program.outcome.Stop.TheVariants.{JobFault as JobStop, CifFault as CifStop, NoMemory}
@@ -69,6 +70,22 @@ abbrev pub IsOutcomeOf : Result Job JobFault → Result Finished Stop → Type 0
 IsOutcomeOf (Err fault) outcome = outcome ≡ Err (stop_of_job fault)
 IsOutcomeOf (Ok job) outcome =
     (meaning : Result Contents CifFault) × IsMeaning job.cif meaning × (outcome ≡ finished_with job.scripts job.order meaning)
+
+-- what a job without fault begins with: the layout of its CIF text, its steps and their order
+abbrev pub IsBegunOf : Result Job JobFault → Begun → Type 0
+IsBegunOf (Err fault) begun = ⊥
+IsBegunOf (Ok job) begun =
+    (file : Contents) × IsMeaning job.cif (Ok file) × (begun.base ≡ layout_of file) × (begun.scripts ≡ job.scripts) × (begun.order ≡ job.order)
+
+-- why none begins: the job's fault, or that of its CIF text
+abbrev pub IsStopOf : Result Job JobFault → Stop → Type 0
+IsStopOf (Err fault) stop = stop ≡ stop_of_job fault
+IsStopOf (Ok job) stop = (fault : CifFault) × IsMeaning job.cif (Err fault) × (stop ≡ stop_of_cif fault)
+
+-- a job begins so, or with its stop or out of memory it doesn't
+abbrev pub Begins : Result Job JobFault → Result Begun Stop → Type 0
+Begins job (Ok begun) = IsBegunOf job begun
+Begins job (Err stop) = (stop ≡ NoMemory) ⊎ IsStopOf job stop
 
 -- the job of these bytes; where they are a CIF text, that text without steps, of which no more is kept than tells that it is
 -- too long

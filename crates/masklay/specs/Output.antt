@@ -4,6 +4,7 @@ use Rattle.cif_read.specs.declared.fault.CifFault.{CifFault}
 use Rattle.cif_read.specs.Faults.{fault_name, fault_number}
 use Rattle.byte_io.specs.Device.{WroteAll, WrotePrefix}
 use Rattle.masklay.specs.declared.program.outcome.Finished.{Finished}
+use Rattle.masklay.specs.declared.program.oriented.Given.{Given}
 use Rattle.masklay.specs.declared.program.outcome.Stop.{Stop}
 use Rattle.masklay.specs.declared.program.outcome.Stop.TheVariants.{JobFault, CifFault as CifStop, DeskFault, NoMemory}
 use Rattle.masklay.specs.declared.program.status.Status.{Status}
@@ -12,7 +13,7 @@ use Rattle.job_text.specs.Order.{order_text}
 use Rattle.live_run.specs.Live.{is_refusal}
 use Rattle.cif_names.specs.declared.names.Names.{Names}
 use Rattle.masklay.specs.Asked.{Asked}
-use Rattle.masklay.specs.Named.{drawn, names_for, names_in, text_with}
+use Rattle.masklay.specs.Named.{layout_text, names_for, names_in, text_with}
 use Rattle.masklay.specs.Oriented.{IsGiven}
 use Rattle.masklay.specs.Outcome.{job_in}
 use Rattle.session_steps.specs.declared.Reply.{Reply}
@@ -68,13 +69,18 @@ ending_of strict replies = if strict && list_any (list_any is_refusal) replies t
 -- names and labels in it, if there are any
 abbrev pub written_output : Bool → Bool → Option Names → Finished → Output
 written_output strict boxed names finished = record {
-  text = (replies_text finished.replies ++ order_text finished.order) ++ text_with names (drawn boxed finished.layout);
+  text = (replies_text finished.replies ++ order_text finished.order) ++ text_with names (layout_text boxed finished.layout);
   status = ending_of strict finished.replies;
 }
 
 -- the same, of names and labels those of the layout's symbols and of no symbol
 abbrev pub finished_output : Bool → Bool → Option Names → Finished → Output
 finished_output strict boxed names finished = written_output strict boxed (names_for names finished.layout) finished
+
+-- what is written of what is given out, or of a stop
+abbrev pub given_output : Bool → Bool → Result Given Stop → Output
+given_output strict boxed (Ok given) = written_output strict boxed given.names given.finished
+given_output strict boxed (Err stop) = stop_output stop
 
 -- what is written where this became of the job
 abbrev pub output_from : Bool → Bool → Option Names → Result Finished Stop → Output

@@ -54,7 +54,7 @@ const LIVE_OUTPUT: &[u8] =
 const JOURNAL_ALONE: &[u8] =
     b"error: '--journal' needs '--live', and '--sync' needs '--journal'\n\nFor more information, try '--help'.\n";
 
-/// What help says behind the options.
+/// What help says after the options.
 const EXAMPLE: &str =
     "Coordinates of steps are database units of 5 nanometres; those of the CIF text are hundredths of a micrometre, times the scale of its definition.
 
@@ -408,7 +408,7 @@ fn with_ways<'a>(alloc: Global, command: Command<'a>) -> Result<Command<'a>, Err
     let boxes = Arg::new(alloc, "boxes")
         .long("boxes")
         .help(
-            "Writes upright rectangles as boxes, where their middle is on the grid; read back they are the same",
+            "Writes upright rectangles as boxes, where their middle is on the grid; what is read back are the same rectangles",
         )
         .action(ArgAction::SetTrue);
     Ok(command.arg(oriented)?.arg(names)?.arg(boxes)?.arg(live)?)

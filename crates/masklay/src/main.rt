@@ -9,7 +9,8 @@
 //!
 //! What is written is a function of the bytes that were read (`IsOutput` of `specs/Output.antt`).
 //! With `--threaded` the sessions run in threads, by `locked_desk`, and what is written is that of
-//! one of their runs (`specs/Threads.antt`). With `--oriented` the layout's shapes are directed by
+//! one of their runs (`specs/Threads.antt`). Without it all is done by `program::run_in_turn`,
+//! which never waits. With `--oriented` the layout's shapes are directed by
 //! `lay_oriented` before it is written (`specs/Oriented.antt`), with `--names` names and labels are
 //! put into its text by `cif_names` (`specs/Named.antt`), and with `--live` lines are answered one
 //! by one, by `live_run` (`specs/Live.antt`).

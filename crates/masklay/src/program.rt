@@ -1,8 +1,15 @@
 //! The program as a function of its input: reads the job, runs its steps and writes the answers.
-ghost use Rattle.std.specs.Prelude.{◌≡◌, ◌≤◌, ◌+◌, length};
-ghost use Rattle.masklay.specs.Asked.{asked_of};
-ghost use Rattle.masklay.specs.Output.{EndsAsAsked, HasOneOutput, WritesOutput, memory_output};
-ghost use Rattle.masklay.specs.Run.{IsRun};
+ghost use Rattle.std.specs.Prelude.{◌≡◌, ◌≤◌, ◌+◌, false, length, true};
+ghost use Rattle.masklay.specs.Asked.{asked_by, asked_of};
+ghost use Rattle.masklay.specs.Output.{
+  EndsAsAsked,
+  HasOneOutput,
+  WritesOrMemory,
+  WritesOutput,
+  given_output,
+  memory_output,
+};
+ghost use Rattle.masklay.specs.Run.{IsRun, WritesUnread};
 ghost use Rattle.masklay.specs.Telling.{MayReport};
 
 mod empty_top;
@@ -23,7 +30,8 @@ use byte_io::{In, Out, put_all};
 use job_text::MAX_JOB;
 pub use live::{LiveOptions, live};
 pub use options::Options;
-use oriented::finish_given;
+use oriented::{Given, give_in_threads, give_in_turn};
+use outcome::Stop;
 use output::{write_given, write_stop};
 use reading::{ReadFault, read_all};
 pub use status::Status;
@@ -55,18 +63,85 @@ pub fn run<I: In, O: Out, E: Out>(
     ensures told { MayReport E.written E.failures errors.old errors.new result }
     ensures one { HasOneOutput }
 {
+    if options.threaded {
+        return run_in_threads(rt, alloc, options, input, out, errors);
+    }
+    run_in_turn(rt, alloc, options, input, out, errors)
+}
+
+/// What [`run`] does without `threaded`: the steps run one after another in the job's order, and no call waits.
+pub fn run_in_turn<I: In, O: Out, E: Out>(
+    rt: &(impl Threads + Sync),
+    alloc: Global,
+    options: Options,
+    input: &mut I,
+    out: &mut O,
+    errors: &mut E,
+) -> Status
+    ensures run { IsRun (asked_by false options) I.remaining I.counts O.written O.failures
+        input.old input.new out.old out.new result }
+    ensures told { MayReport E.written E.failures errors.old errors.new result }
+    ensures one { HasOneOutput }
+{
     match read_all(alloc, input) {
-        Ok(bytes) => write_output(rt, alloc, options, bytes, out, errors),
-        Err(ReadFault::Device) => {
-            tell_of_input(errors);
-            Status::Device
-        }
-        Err(ReadFault::NoMemory) => put_memory(out),
+        Ok(bytes) => write_in_turn(rt, alloc, options, bytes, out, errors),
+        Err(fault) => write_unread(fault, out, errors),
     }
 }
 
-/// Writes what the job of the bytes leads to.
-fn write_output<O: Out, E: Out>(
+/// What [`run`] does with `threaded`.
+fn run_in_threads<I: In, O: Out, E: Out>(
+    rt: &(impl Threads + Wait + Sync),
+    alloc: Global,
+    options: Options,
+    input: &mut I,
+    out: &mut O,
+    errors: &mut E,
+) -> Status
+    ensures run { IsRun (asked_by true options) I.remaining I.counts O.written O.failures
+        input.old input.new out.old out.new result }
+    ensures told { MayReport E.written E.failures errors.old errors.new result }
+{
+    match read_all(alloc, input) {
+        Ok(bytes) => write_in_threads(rt, alloc, options, bytes, out, errors),
+        Err(fault) => write_unread(fault, out, errors),
+    }
+}
+
+/// Writes what is to be said where the input wasn't read.
+fn write_unread<O: Out, E: Out>(fault: ReadFault, out: &mut O, errors: &mut E) -> Status
+    ensures output { WritesUnread O.written O.failures out.old out.new fault result }
+    ensures told { MayReport E.written E.failures errors.old errors.new result }
+{
+    match fault {
+        ReadFault::Device => {
+            tell_of_input(errors);
+            Status::Device
+        }
+        ReadFault::NoMemory => put_memory(out),
+    }
+}
+
+/// Writes what the job of the bytes leads to, its steps in its own order.
+fn write_in_turn<O: Out, E: Out>(
+    rt: &(impl Threads + Sync),
+    alloc: Global,
+    options: Options,
+    bytes: Vec<u8>,
+    out: &mut O,
+    errors: &mut E,
+) -> Status
+    requires { length bytes.items ≤ MAX_JOB + 1 }
+    ensures output { EndsAsAsked O.written O.failures out.old out.new (asked_by false options) bytes.items result }
+    ensures told { MayReport E.written E.failures errors.old errors.new result }
+{
+    let mut bytes = bytes;
+    let given = give_in_turn(rt, alloc, options, &mut bytes);
+    write_output(alloc, options, &bytes, given, out, errors)
+}
+
+/// Writes what the job of the bytes leads to, its sessions in threads.
+fn write_in_threads<O: Out, E: Out>(
     rt: &(impl Threads + Wait + Sync),
     alloc: Global,
     options: Options,
@@ -75,11 +150,28 @@ fn write_output<O: Out, E: Out>(
     errors: &mut E,
 ) -> Status
     requires { length bytes.items ≤ MAX_JOB + 1 }
-    ensures output { EndsAsAsked O.written O.failures out.old out.new (asked_of options) bytes.items result }
+    ensures output { EndsAsAsked O.written O.failures out.old out.new (asked_by true options) bytes.items result }
     ensures told { MayReport E.written E.failures errors.old errors.new result }
 {
     let mut bytes = bytes;
-    match finish_given(rt, alloc, options, &mut bytes) {
+    let given = give_in_threads(rt, alloc, options, &mut bytes);
+    write_output(alloc, options, &bytes, given, out, errors)
+}
+
+/// Writes what is given out, or why there is none; `bytes` are those of the job where it has a fault.
+fn write_output<O: Out, E: Out>(
+    alloc: Global,
+    options: Options,
+    bytes: &[u8],
+    given: Result<Given, Stop>,
+    out: &mut O,
+    errors: &mut E,
+) -> Status
+    ensures output { WritesOrMemory O.written O.failures out.old out.new
+        (given_output options.strict options.boxed given) result }
+    ensures told { MayReport E.written E.failures errors.old errors.new result }
+{
+    match given {
         Ok(given) => {
             let status = write_given(alloc, options, &given, out);
             tell_of_layout(alloc, &given, status, errors);
@@ -89,7 +181,7 @@ fn write_output<O: Out, E: Out>(
         }
         Err(stop) => {
             let status = write_stop(alloc, stop, out);
-            tell_of_stop(alloc, options.bare, &bytes, stop, status, errors);
+            tell_of_stop(alloc, options.bare, bytes, stop, status, errors);
             status
         }
     }

@@ -27,7 +27,7 @@ pub struct LiveOptions {
 
 /// Reads a CIF text, then steps of sessions on its layout in lines, and answers each before more is read; at the
 /// end of the input it writes the order of the steps and the CIF text of the layout that they led to. The lines that the
-/// journal's bytes have whole come first and aren't answered; the steps behind them are kept in it. A fault of
+/// journal's bytes have whole come first and aren't answered; the steps after them are kept in it. A fault of
 /// the text is reported to `errors` too.
 pub fn live<I: In, O: Out, E: Out, J: Journal>(
     rt: &(impl Threads + Sync),
@@ -70,7 +70,7 @@ fn answer_lines<I: In, O: Out, J: Journal>(
     run_journaled(rt, alloc, &bands, bytes, input, out, journal)
 }
 
-/// Writes what comes behind the answers of a run that ended so.
+/// Writes what comes after the answers of a run that ended so.
 fn close<O: Out>(alloc: Global, strict: bool, end: &LiveEnd, out: &mut O) -> Status
     ensures { WritesLiveEnd strict O.written O.failures out.old out.new end.now result }
 {

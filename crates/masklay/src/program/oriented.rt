@@ -1,13 +1,14 @@
 //! What is given out of a job: its outcome, with the layout's shapes directed and with the names of its text where that is
 //! asked for.
-ghost use Rattle.std.specs.Prelude.{◌≡◌, ◌≤◌, ◌+◌, IfOk, length};
+ghost use Rattle.std.specs.Prelude.{◌≡◌, ◌≤◌, ◌+◌, IfOk, false, length, true};
 ghost use Rattle.masklay.specs.Named.{names_for, names_in};
-ghost use Rattle.masklay.specs.Oriented.{AnswersGiven, directed_part, finished_part};
+ghost use Rattle.masklay.specs.Oriented.{AnswersGiven, AnswersGivenOf, directed_part, finished_part};
 ghost use Rattle.masklay.specs.Outcome.{job_in};
 
 use crate::program::named::{names_for, names_in};
 use crate::program::options::Options;
-use crate::program::outcome::{Finished, Notes, Stop, finish};
+use crate::program::outcome::{Finished, Notes, Stop, finish_in_turn};
+use crate::program::threads::finish_in_threads;
 use cif_names::Names;
 use job_text::MAX_JOB;
 use lay_cells::CellId;
@@ -32,25 +33,56 @@ pub(super) struct Given {
     pub(super) notes: Notes,
 }
 
-/// Runs the job of the bytes, directs its layout's shapes and keeps its text's names and labels, where the options say so.
-pub(super) fn finish_given(
+/// Runs the job of the bytes, its steps in its own order, directs its layout's shapes and keeps its text's names and
+/// labels, where the options say so.
+pub(super) fn give_in_turn(
+    rt: &(impl Threads + Sync),
+    alloc: Global,
+    options: Options,
+    bytes: &mut Vec<u8>,
+) -> Result<Given, Stop>
+    requires { length bytes.old.items ≤ MAX_JOB + 1 }
+    ensures outcome { AnswersGiven false options.oriented (job_in options.bare bytes.old.items) (finished_part result) }
+    ensures names { IfOk result (λ given. given.names
+        ≡ names_for (names_in options.named (job_in options.bare bytes.old.items)) given.finished.layout) }
+{
+    let mut notes = Notes::new(alloc);
+    let names = names_in(alloc, options, bytes.as_slice())?;
+    let finished = finish_in_turn(rt, alloc, options, bytes, &mut notes)?;
+    given_of(alloc, options.oriented, names, finished, notes)
+}
+
+/// The same of the job's sessions in threads.
+pub(super) fn give_in_threads(
     rt: &(impl Threads + Wait + Sync),
     alloc: Global,
     options: Options,
     bytes: &mut Vec<u8>,
 ) -> Result<Given, Stop>
     requires { length bytes.old.items ≤ MAX_JOB + 1 }
-    ensures outcome { AnswersGiven options.threaded options.oriented (job_in options.bare bytes.old.items) (finished_part result) }
+    ensures outcome { AnswersGiven true options.oriented (job_in options.bare bytes.old.items) (finished_part result) }
     ensures names { IfOk result (λ given. given.names
         ≡ names_for (names_in options.named (job_in options.bare bytes.old.items)) given.finished.layout) }
 {
-    let mut notes = Notes {
-        text: Vec::new(alloc),
-        names_top: false,
-        staying: Vec::new(alloc),
-    };
+    let mut notes = Notes::new(alloc);
     let names = names_in(alloc, options, bytes.as_slice())?;
-    let (finished, staying) = finish_directed(rt, alloc, options, bytes, &mut notes)?;
+    let finished = finish_in_threads(rt, alloc, options, bytes, &mut notes)?;
+    given_of(alloc, options.oriented, names, finished, notes)
+}
+
+/// Returns what is given out of a job that became this.
+fn given_of(
+    alloc: Global,
+    oriented: bool,
+    names: Option<Names>,
+    finished: Finished,
+    notes: Notes,
+) -> Result<Given, Stop>
+    ensures outcome { AnswersGivenOf oriented finished (finished_part result) }
+    ensures names { IfOk result (λ given. given.names ≡ names_for names given.finished.layout) }
+{
+    let mut notes = notes;
+    let (finished, staying) = directed(alloc, oriented, finished, &mut notes)?;
     let names = names_for(alloc, names, &finished.layout)?;
     Ok(Given {
         finished,
@@ -60,20 +92,16 @@ pub(super) fn finish_given(
     })
 }
 
-/// Runs the job of the bytes, and directs its layout's shapes where the options say so. Returns also how many of
-/// them stay as they were.
-fn finish_directed(
-    rt: &(impl Threads + Wait + Sync),
+/// Directs the layout's shapes where that is asked for. Returns also how many of them stay as they were.
+fn directed(
     alloc: Global,
-    options: Options,
-    bytes: &mut Vec<u8>,
+    oriented: bool,
+    finished: Finished,
     notes: &mut Notes,
 ) -> Result<(Finished, usize), Stop>
-    requires { length bytes.old.items ≤ MAX_JOB + 1 }
-    ensures { AnswersGiven options.threaded options.oriented (job_in options.bare bytes.old.items) (directed_part result) }
+    ensures { AnswersGivenOf oriented finished (directed_part result) }
 {
-    let finished = finish(rt, alloc, options, bytes, notes)?;
-    if !options.oriented {
+    if !oriented {
         return Ok((finished, 0));
     }
     let Finished {

@@ -1,15 +1,14 @@
 //! What the program does with a job.
-ghost use Rattle.std.specs.Prelude.{◌≡◌, ◌≤◌, ◌+◌, IfOk, Ok, length};
+ghost use Rattle.std.specs.Prelude.{◌≡◌, ◌≤◌, ◌+◌, IfOk, Ok, false, length};
 ghost use Rattle.std.specs.List.{list_any};
 ghost use Rattle.lay_point.specs.Memory.{IsAnswer};
 ghost use Rattle.masklay.specs.declared.program.outcome.Stop.TheVariants.{NoMemory as OutOfMemory};
 ghost use Rattle.session_core.specs.Machine.{Ran, is_memory, start};
 ghost use Rattle.undo_book.specs.declared.book.TheConstants.{MAX_CALLS};
-ghost use Rattle.masklay.specs.Outcome.{finished_from, job_in, sessions_for, stop_of_cif, stop_of_job};
+ghost use Rattle.masklay.specs.Outcome.{Begins, finished_from, job_in, sessions_for, stop_of_cif, stop_of_job};
 ghost use Rattle.masklay.specs.Threads.{AnswersOutcome, stop_of_run};
 
 use crate::program::options::Options;
-use crate::program::threads::finish_threads;
 use band_workers::{MAX_WORKERS, OneBand, ScopedBands};
 use cif_layout::FromCif;
 use cif_read::{CifFault, FaultKind, read};
@@ -23,7 +22,6 @@ use locked_desk::RunFault;
 use session_core::Machine;
 use session_steps::{Reply, Step, StepFault, dealt, in_turn};
 use std::alloc::Global;
-use std::sync::Wait;
 use std::thread::Threads;
 use txn_commands::{CmdFault, Command};
 use undo_rules::BookFault;
@@ -61,6 +59,17 @@ pub(super) struct Notes {
     pub(super) names_top: bool,
     /// The first shapes that stay as they were though all were to be directed, each with its cell.
     pub(super) staying: Vec<(CellId, ItemId)>,
+}
+
+impl Notes {
+    /// Returns notes of nothing.
+    pub(super) fn new(alloc: Global) -> Notes {
+        Notes {
+            text: Vec::new(alloc),
+            names_top: false,
+            staying: Vec::new(alloc),
+        }
+    }
 }
 
 impl From<JobFault> for Stop {
@@ -104,32 +113,62 @@ impl From<NoMemory> for Stop {
     }
 }
 
-/// Runs the job of the bytes, which are dropped once they are read: where the job or its text has a fault they stay.
-/// Appends to `notes` what is worth a look in the text.
-pub(super) fn finish(
-    rt: &(impl Threads + Wait + Sync),
+/// What a job without fault begins with.
+#[derive(Drop)]
+pub(super) struct Begun {
+    /// The layout of its CIF text.
+    pub(super) base: Snapshot,
+    /// The steps of each session.
+    pub(super) scripts: Sequence<Sequence<Step>>,
+    /// The session of each step, in the job's order.
+    pub(super) order: Sequence<u8>,
+}
+
+/// Returns what the job of the bytes begins with. The bytes are dropped once they are read: where the job or its text has a
+/// fault they stay. Appends to `notes` what is worth a look in the text.
+pub(super) fn begin(
+    alloc: Global,
+    bare: bool,
+    bytes: &mut Vec<u8>,
+    notes: &mut Notes,
+) -> Result<Begun, Stop>
+    requires { length bytes.old.items ≤ MAX_JOB + 1 }
+    ensures { Begins (job_in bare bytes.old.items) result }
+{
+    let Job {
+        cif,
+        scripts,
+        order,
+    } = job_in(alloc, bare, bytes.as_slice())?;
+    let file = read(alloc, cif)?;
+    notes.text = of_notices(alloc, cif)?;
+    notes.names_top = name_top(scripts.as_slice());
+    *bytes = Vec::new(alloc);
+    let base = Snapshot::from_cif(alloc, file)?;
+    Ok(Begun {
+        base,
+        scripts,
+        order,
+    })
+}
+
+/// Runs the job of the bytes, its steps in its own order. The bytes and `notes` are those of [`begin`].
+pub(super) fn finish_in_turn(
+    rt: &(impl Threads + Sync),
     alloc: Global,
     options: Options,
     bytes: &mut Vec<u8>,
     notes: &mut Notes,
 ) -> Result<Finished, Stop>
     requires { length bytes.old.items ≤ MAX_JOB + 1 }
-    ensures { AnswersOutcome options.threaded (job_in options.bare bytes.old.items) result }
+    ensures { AnswersOutcome false (job_in options.bare bytes.old.items) result }
 {
-    let Job {
-        cif,
+    let Begun {
+        base,
         scripts,
         order,
-    } = job_in(alloc, options.bare, bytes.as_slice())?;
-    let file = read(alloc, cif)?;
-    notes.text = of_notices(alloc, cif)?;
-    notes.names_top = name_top(scripts.as_slice());
-    *bytes = Vec::new(alloc);
-    let base = Snapshot::from_cif(alloc, file)?;
-    if options.threaded {
-        return finish_threads(rt, alloc, options.workers, base, scripts);
-    }
-    finish_steps(rt, alloc, options, base, scripts, order)
+    } = begin(alloc, options.bare, bytes, notes)?;
+    finish_steps(rt, alloc, options.workers, base, scripts, order)
 }
 
 /// Returns the job of the bytes: the one that they spell or, where they are a bare CIF text, that text without steps.
@@ -171,7 +210,7 @@ fn names_top(step: &Step) -> bool {
 fn finish_steps(
     rt: &(impl Threads + Sync),
     alloc: Global,
-    options: Options,
+    workers: u8,
     base: Snapshot,
     scripts: Sequence<Sequence<Step>>,
     order: Sequence<u8>,
@@ -180,7 +219,7 @@ fn finish_steps(
 {
     let sessions = sessions_for(scripts.as_slice().len());
     let steps = in_turn(alloc, scripts, order.as_slice())?;
-    let (machine, replies) = run_steps(rt, alloc, options, base, sessions, steps)?;
+    let (machine, replies) = run_steps(rt, alloc, workers, base, sessions, steps)?;
     if is_out_of_memory(&replies) {
         return Err(Stop::NoMemory);
     }
@@ -195,11 +234,11 @@ fn finish_steps(
     })
 }
 
-/// Runs the steps, each with the number of its session, with as many workers as the options say.
+/// Runs the steps, each with the number of its session, with so many workers.
 fn run_steps(
     rt: &(impl Threads + Sync),
     alloc: Global,
-    options: Options,
+    workers: u8,
     base: Snapshot,
     sessions: u8,
     steps: Vec<(u8, Step)>,
@@ -208,10 +247,10 @@ fn run_steps(
     requires high { sessions ≤ 64 }
     ensures { IfOk result (λ r. Ran (start base sessions MAX_CALLS) steps.items r.1.items r.0) }
 {
-    if options.workers < 2 {
+    if workers < 2 {
         return Machine::run(rt, alloc, base, sessions, steps, &OneBand);
     }
-    let bands = ScopedBands::new(options.workers.min(MAX_WORKERS));
+    let bands = ScopedBands::new(workers.min(MAX_WORKERS));
     Machine::run(rt, alloc, base, sessions, steps, &bands)
 }
 

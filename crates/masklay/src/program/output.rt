@@ -11,7 +11,7 @@ ghost use Rattle.masklay.specs.Output.{
   written_output,
 };
 ghost use Rattle.live_run.specs.Live.{is_refusal};
-ghost use Rattle.masklay.specs.Named.{drawn};
+ghost use Rattle.masklay.specs.Named.{layout_text};
 ghost use Rattle.masklay.specs.Output.{ending_of, job_fault_text, stop_output};
 ghost use Rattle.std.specs.List.{list_any};
 
@@ -127,7 +127,7 @@ fn named_bytes(
 
 /// Returns a device that holds the text of the layout.
 fn text_of(alloc: Global, layout: &Prepared<'_>, boxed: bool) -> Result<MemoryOut, NoMemory>
-    ensures { IfOk result (λ out. out.bytes.items ≡ drawn boxed layout.now) }
+    ensures { IfOk result (λ out. out.bytes.items ≡ layout_text boxed layout.now) }
 {
     let mut out = MemoryOut::new(alloc, usize::MAX, usize::MAX, Failing::ByErr);
     put_layout(layout, boxed, &mut out).map_err(|_| NoMemory)?;
@@ -136,8 +136,8 @@ fn text_of(alloc: Global, layout: &Prepared<'_>, boxed: bool) -> Result<MemoryOu
 
 /// Writes the text of the layout, with boxes where that is asked for.
 fn put_layout<O: Out>(layout: &Prepared<'_>, boxed: bool, out: &mut O) -> Result<(), OutFault>
-    ensures ok { OnOk result (WroteAll O.written O.failures out.old out.new (drawn boxed layout.now)) }
-    ensures fault { OnErr result (WrotePrefix O.written O.failures out.old out.new (drawn boxed layout.now)) }
+    ensures ok { OnOk result (WroteAll O.written O.failures out.old out.new (layout_text boxed layout.now)) }
+    ensures fault { OnErr result (WrotePrefix O.written O.failures out.old out.new (layout_text boxed layout.now)) }
 {
     if boxed {
         return layout.put_as(out, Rectangles::Boxes);
@@ -155,7 +155,7 @@ fn put_finished<O: Out>(
 ) -> Status
     ensures { WritesOutput O.written O.failures out.old out.new
         (record {
-          text = (replies_text finished.now.replies ++ order_text finished.now.order) ++ drawn boxed layout.now;
+          text = (replies_text finished.now.replies ++ order_text finished.now.order) ++ layout_text boxed layout.now;
           status = ending;
         }) result }
 {

@@ -2,7 +2,7 @@
 
 use super::*;
 use band_workers::OneBand;
-use byte_io::{Failing, MemoryIn, MemoryOut};
+use byte_io::{Failing, InFault, MemoryIn, MemoryOut, ReadCounts};
 use cif_layout::FromCif;
 use cif_read::read;
 use cif_write::write;
@@ -20,29 +20,83 @@ const UNDONE_BOX: &[u8] =
 const UNDONE_BOX_OUTPUT: &[u8] =
     b"(1 1 opened 1);\n(1 2 made 1.1.1);\n(1 3 committed);\n(1 4 undone);\n(order 1 1 1 1);\nDS 1 1 2;\nL NM;\nP -40 -20 40 -20 40 20 -40 20;\nDF;\nC 1;\nE\n";
 
-/// How the program ends on the job and what it writes, where the input answers so many reads and the
-/// output takes so many bytes.
+const PLAIN: Options = Options {
+    workers: 1,
+    threaded: false,
+    oriented: false,
+    named: false,
+    strict: false,
+    bare: false,
+    boxed: false,
+};
+
+/// A device that gives one blank in each read, for ever.
+#[derive(Drop)]
+struct Endless {
+    counts: ReadCounts,
+}
+
+impl In for Endless {
+    ghost use Rattle.std.specs.Prelude.{None};
+    ghost use Rattle.byte_io.specs.Input.{counts_of};
+
+    ghost remaining = { λ d. None };
+
+    ghost counts = { λ d. counts_of d.counts };
+
+    fn take(&mut self, buffer: &mut [u8]) -> Result<usize, InFault> {
+        let mut answer = Ok(0);
+        if let Some(first) = buffer.first_mut() {
+            *first = b' ';
+            answer = Ok(1);
+        }
+        self.counts.count(buffer, &answer);
+        answer
+    }
+}
+
+/// How the program ends on this input and what it writes, where the output takes so many bytes.
+fn ended_on<I: In>(
+    rt: &(impl Threads + Sync),
+    alloc: Global,
+    input: &mut I,
+    room: usize,
+) -> (Status, MemoryOut) {
+    let mut out = MemoryOut::new(alloc, 1000, room, Failing::ByErr);
+    let mut errors = MemoryOut::new(alloc, 1000, 1000, Failing::ByErr);
+    let status = run_in_turn(rt, alloc, PLAIN, input, &mut out, &mut errors);
+    (status, out)
+}
+
+/// The same, where the input is the job, and answers so many reads.
 fn ended(
-    rt: &(impl Threads + Wait + Sync),
+    rt: &(impl Threads + Sync),
     alloc: Global,
     job: &[u8],
     reads: usize,
     room: usize,
 ) -> (Status, MemoryOut) {
-    let mut input = MemoryIn::new(job, 5, reads);
-    let mut out = MemoryOut::new(alloc, 1000, room, Failing::ByErr);
-    let mut errors = MemoryOut::new(alloc, 1000, 1000, Failing::ByErr);
-    let options = Options {
-        workers: 1,
-        threaded: false,
-        oriented: false,
-        named: false,
-        strict: false,
-        bare: false,
-        boxed: false,
+    ended_on(rt, alloc, &mut MemoryIn::new(job, 5, reads), room)
+}
+
+// Could catch bytes that are lost or taken twice where a read ends: the definition of the output has no reads.
+#[test]
+fn a_job_that_comes_byte_by_byte_is_run(rt: HostRuntime) {
+    let mut input = MemoryIn::new(UNDONE_BOX, 1, 1000);
+    let (status, out) = ended_on(&rt, rt.alloc(), &mut input, 1000);
+    assert_eq!(rt; status, Status::Done);
+    assert_eq!(rt; out.written(), UNDONE_BOX_OUTPUT);
+}
+
+// Could catch an input that never ends and is read for ever, or kept whole: how long a read takes is in no clause.
+#[test]
+fn an_endless_input_is_given_up(rt: HostRuntime) {
+    let mut input = Endless {
+        counts: ReadCounts::new(),
     };
-    let status = run(rt, alloc, options, &mut input, &mut out, &mut errors);
-    (status, out)
+    let (status, out) = ended_on(&rt, rt.alloc(), &mut input, 1000);
+    assert_eq!(rt; status, Status::Device);
+    assert!(rt; out.written().is_empty());
 }
 
 // Could catch a contract that no device meets, and a failure of a device that is taken for something else: in the middle

@@ -1,11 +1,13 @@
 //! What the program does with a job whose sessions run in threads.
-ghost use Rattle.std.specs.Prelude.{◌≡◌};
+ghost use Rattle.std.specs.Prelude.{◌≡◌, ◌≤◌, ◌+◌, length, true};
 ghost use Rattle.std.specs.List.{list_any};
 ghost use Rattle.session_core.specs.Machine.{is_memory};
-ghost use Rattle.masklay.specs.Threads.{AnswersThreads};
+ghost use Rattle.masklay.specs.Outcome.{job_in};
+ghost use Rattle.masklay.specs.Threads.{AnswersOutcome, AnswersThreads};
 
-use crate::program::outcome::{Finished, Stop, is_out_of_memory};
-use job_text::order_of;
+use crate::program::options::Options;
+use crate::program::outcome::{Begun, Finished, Notes, Stop, begin, is_out_of_memory};
+use job_text::{MAX_JOB, order_of};
 use lay_items::Snapshot;
 use lay_point::Sequence;
 use locked_desk::{Closed, Run, run_scripts};
@@ -14,9 +16,24 @@ use std::alloc::Global;
 use std::sync::Wait;
 use std::thread::Threads;
 
+/// Runs the job of the bytes, the steps of each session in a thread of its own. The bytes and `notes` are those of [`begin`].
+pub(super) fn finish_in_threads(
+    rt: &(impl Threads + Wait + Sync),
+    alloc: Global,
+    options: Options,
+    bytes: &mut Vec<u8>,
+    notes: &mut Notes,
+) -> Result<Finished, Stop>
+    requires { length bytes.old.items ≤ MAX_JOB + 1 }
+    ensures { AnswersOutcome true (job_in options.bare bytes.old.items) result }
+{
+    let Begun { base, scripts, .. } = begin(alloc, options.bare, bytes, notes)?;
+    finish_threads(rt, alloc, options.workers, base, scripts)
+}
+
 /// Runs the scripts' steps on the layout, those of each session in a thread of its own. The order is that of
 /// the log of the closed desk.
-pub(super) fn finish_threads(
+fn finish_threads(
     rt: &(impl Threads + Wait + Sync),
     alloc: Global,
     workers: u8,

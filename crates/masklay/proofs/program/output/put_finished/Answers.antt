@@ -4,14 +4,14 @@ use Rattle.byte_io.specs.Device.{WrotePrefix}
 use Rattle.job_text.specs.Order.{order_text}
 use Rattle.job_text.specs.Replies.{replies_text}
 use Rattle.masklay.proofs.OutputLemmas.{at_err, at_ok}
-use Rattle.masklay.specs.Named.{drawn}
+use Rattle.masklay.specs.Named.{layout_text}
 use Rattle.masklay.proofs.program.output.put_finished.Goals as goal
 use Rattle.masklay.proofs.program.output.put_finished.Goals.{then-is_err-via-else-is_err+then-is_err-2, then-is_err-via-then-is_err}
 
 -- the comments were cut, or they were written and the layout was cut
 pub returns-then-is_err : goal.returns-then-is_err
 returns-then-is_err g c =
-    let layout = drawn c.args.boxed c.args.layout.now in
+    let layout = layout_text c.args.boxed c.args.layout.now in
     let whole = replies_text c.args.finished.now.replies ++ order_text c.args.finished.now.order in
     let so : g.row.O.Denot → Type 0 = λ out. WrotePrefix g.O.Out.written g.O.Out.failures c.args.out.now out (whole ++ layout) in
     let same : replies_text c.as_slice-replies.result.now ++ order_text c.as_slice-order.result.now ≡ whole =
