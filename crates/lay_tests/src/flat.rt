@@ -6,6 +6,8 @@ use lay_cells::CellId;
 use lay_flat::*;
 use lay_items::Snapshot;
 use lay_point::{LayerName, Point};
+use std::alloc::Global;
+use std::io::Write;
 use std::test::*;
 
 // Could catch calls that fail though there is memory.
@@ -57,5 +59,32 @@ fn a_triangle_is_mirrored_and_turned(rt: HostRuntime) -> Result<(), Fail> {
         }
         _ => return Err("there aren't two rings".into()),
     }
+    Ok(())
+}
+
+/// Returns a text of so many symbols, of which each but the last calls the next twice, and the last has a box.
+fn doubling(alloc: Global, symbols: u32) -> Result<Vec<u8>, Fail> {
+    let mut text = Vec::new(alloc);
+    for number in 1..symbols {
+        let next = number + 1;
+        write!(text, "DS {number}; C {next}; C {next}; DF; ")?;
+    }
+    write!(text, "DS {symbols}; L A; B 2 2 0 0; DF; E")?;
+    Ok(text)
+}
+
+// Could catch a limit of walks that counts only those that reach a ring, and a flattening that gives up before it.
+#[test]
+fn the_most_walks_are_flattened(rt: HostRuntime) -> Result<(), Fail> {
+    let alloc = rt.alloc();
+    let layer = LayerName::new(b"A").ok_or("no layer name")?;
+    let text = doubling(alloc, 16)?;
+    let snapshot = Snapshot::from_cif(alloc, read(alloc, &text)?)?;
+    let flat = flatten(alloc, &snapshot, CellId::Symbol(1), &layer)?;
+    assert_eq!(rt; flat.rings().len(), 32_768);
+    let text = doubling(alloc, 17)?;
+    let snapshot = Snapshot::from_cif(alloc, read(alloc, &text)?)?;
+    let fault = flatten(alloc, &snapshot, CellId::Symbol(1), &layer).err();
+    assert_eq!(rt; fault, Some(FlatFault::TooMany));
     Ok(())
 }

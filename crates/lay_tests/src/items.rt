@@ -246,3 +246,37 @@ fn versions_keep_their_items_while_pages_are_cut_and_go(rt: HostRuntime) -> Resu
     }
     Ok(())
 }
+
+// Could catch writes to several pages of which one is passed over or falls into a page beside its own, and calls that
+// never succeed.
+#[test]
+fn writes_fall_into_their_pages(rt: HostRuntime) -> Result<(), Fail> {
+    let alloc = rt.alloc();
+    let mut items = NumberedItems::new(alloc);
+    let mut plain = BTreeMap::new(alloc);
+    for seq in 1..1001 {
+        let item = square(alloc, CellId::Symbol(7), b"A", 2)?;
+        plain.insert(id(seq), item.copy(alloc)?)?;
+        items.push(alloc, item)?;
+    }
+    let before = Version::of_numbered(alloc, &Cells::new(alloc), items)?;
+    let other = square(alloc, CellId::Symbol(7), b"B", 4)?;
+    let writes = [
+        (id(1), None),
+        (id(64), Some(other.copy(alloc)?)),
+        (id(65), None),
+        (id(640), Some(other.copy(alloc)?)),
+        (id(1001), Some(other.copy(alloc)?)),
+        (id(1002), Some(other)),
+    ];
+    let after = before.with(alloc, &writes, &[])?;
+    assert!(rt; has_items_of(&before, &plain) && before.pages() == 16 && after.pages() == 16);
+    for (id, item) in writes {
+        match item {
+            Some(item) => plain.insert(id, item)?,
+            None => plain.remove(&id),
+        };
+    }
+    assert!(rt; has_items_of(&after, &plain));
+    Ok(())
+}

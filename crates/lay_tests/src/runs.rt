@@ -31,6 +31,7 @@ fn none(alloc: Global) -> Held
 }
 
 /// Returns the items after a write.
+#[tactic(auto, using(lay_pages::proofs::RisingLemmas::sorted_one))]
 fn written(alloc: Global, held: Held, seq: u32, item: Option<Item>) -> Result<Held, Fail>
     requires { AreHeld held.items held.runs.cells held.runs.layers }
     ensures { IfOk result (λ new. AreHeld new.items new.runs.cells new.runs.layers) }
@@ -40,8 +41,9 @@ fn written(alloc: Global, held: Held, seq: u32, item: Option<Item>) -> Result<He
         txn: 1,
         seq,
     };
-    let runs = held.runs.with(alloc, &held.items, id, &item)?;
-    let items = held.items.with(alloc, id, item)?;
+    let writes = [(id, item)];
+    let items = held.items.with_rising(alloc, &writes)?;
+    let runs = held.runs.with_all(alloc, &held.items, &items, &writes)?;
     Ok(Held { items, runs })
 }
 

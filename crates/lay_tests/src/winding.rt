@@ -38,8 +38,7 @@ fn oriented_of(alloc: Global, path: &str) -> Result<String, Fail> {
 
 // Could catch a body that finds no directions, turns a path that needn't be turned, or tells holes by
 // anything but parity: the contract says only what an answer is. The directions were found by hand; where
-// several rings are joined, each is joined at its leftmost corner, the lowest of these, to the corner
-// nearest to it of those to its left.
+// several rings are joined, the way between two of them is the shortest.
 #[test]
 fn holes_go_clockwise(rt: HostRuntime) -> Result<(), Fail> {
     let rows = [
