@@ -2,6 +2,7 @@ pub mod AxisLemmas
 pub mod BoxLines
 pub mod BoxesBack
 pub mod ChangeLemmas
+pub mod CheckLemmas
 pub mod CommandsDo
 pub mod CommentEnds
 pub mod DistanceLemmas

@@ -32,7 +32,7 @@ use Rattle.cif_laws.proofs.DistanceLemmas.{is_scaled, next_scale, only_units, po
 -- ---- what is left of a list
 
 -- the second list is what is left of the first where some of it is left out
-abbrev IsLeft : List Point → List Point → Type 0
+abbrev pub IsLeft : List Point → List Point → Type 0
 IsLeft qs [] = Unit {0}
 IsLeft [] (p ∷ ps) = ⊥
 IsLeft (q ∷ qs) (p ∷ ps) = ((q ≡ p) × IsLeft qs ps) ⊎ IsLeft qs (p ∷ ps)
@@ -67,7 +67,7 @@ opened_left first (p ∷ []) = by_test (point_eq first p) where
   by_test false = inl (refl, tt)
 opened_left first (p ∷ q ∷ ps) = inl (refl, opened_left first (q ∷ ps))
 
-without_left : (ps : List Point) → IsLeft ps (without_repeats ps)
+pub without_left : (ps : List Point) → IsLeft ps (without_repeats ps)
 unfolding without_repeats
 without_left [] = tt
 without_left (p ∷ ps) =

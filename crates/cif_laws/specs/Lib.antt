@@ -1,5 +1,6 @@
 pub mod Boxes
 pub mod Changes
+pub mod Checks
 pub mod Directions
 pub mod Distances
 pub mod Laws

@@ -21,6 +21,8 @@
 //!   good commands, up to the fault. There a command of the grammar has the fault, or no command
 //!   follows, or the text ends too early or not at all. Or all its commands are good, and a call
 //!   isn't.
+//! - [`checks_come_in_order`] (`specs/Checks.antt`): the fault that a command has is that of the first
+//!   check, in one list, that it fails.
 //! - [`distances_are_scaled`] (`specs/Distances.antt`): a distance in a symbol is the written one,
 //!   times the scale's first number and divided by the second.
 //! - [`calls_move_points`] (`specs/Changes.antt`): a call takes a point where its changes take it,
@@ -41,6 +43,6 @@ mod meaning_laws;
 mod trip_laws;
 
 pub use again::{look_at_layers, reread};
-pub use fault_laws::faults_are_where_they_stand;
+pub use fault_laws::{checks_come_in_order, faults_are_where_they_stand};
 pub use meaning_laws::{boxes_hold_their_points, calls_move_points, distances_are_scaled};
 pub use trip_laws::{boxes_are_read_back, names_change_nothing, what_is_written_is_read_back};
