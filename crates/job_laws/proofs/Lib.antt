@@ -2,6 +2,8 @@ pub mod AnswerWords
 pub mod Asked
 pub mod Choices
 pub mod Cut
+pub mod FaultLines
+pub mod FaultsNamed
 pub mod Fields
 pub mod Heads
 pub mod Joined

@@ -32,14 +32,14 @@ counted_complete session (script ∷ scripts) order h =
     both (count == length script) (are_counted (session + 1) scripts order) ((Decides-eqb count (length script)).1 h.0)
     (counted_complete (session + 1) scripts order h.1)
 
-fits_sound : (scripts : List (List Step)) (order : List ℕ) → order_fits scripts order ≡ true →
+pub fits_sound : (scripts : List (List Step)) (order : List ℕ) → order_fits scripts order ≡ true →
     (length order ≡ total_len scripts) × AreCounted 1 scripts order
 unfolding order_fits
 fits_sound scripts order h =
     let parts = and_parts (length order == total_len scripts) (are_counted 1 scripts order) h in
     ((Decides-eqb (length order) (total_len scripts)).0 parts.0, counted_sound 1 scripts order parts.1)
 
-fits_complete : (scripts : List (List Step)) (order : List ℕ) → length order ≡ total_len scripts → AreCounted 1 scripts order →
+pub fits_complete : (scripts : List (List Step)) (order : List ℕ) → length order ≡ total_len scripts → AreCounted 1 scripts order →
     order_fits scripts order ≡ true
 unfolding order_fits
 fits_complete scripts order many counted =

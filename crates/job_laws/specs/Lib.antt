@@ -1,4 +1,5 @@
 pub mod Cuts
+pub mod Faults
 pub mod JobLines
 pub mod Laws
 pub mod LineLaws

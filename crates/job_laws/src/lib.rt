@@ -10,6 +10,9 @@
 //!   lines of each session, and those of the order. This is a relation between bytes and a job.
 //!   What is read is related to the job that it is read as, and what is related to a job, and not
 //!   too long, is read as that job.
+//! - [`faults_are_at_their_lines`] (`specs/Faults.antt`): of bytes that are no job the first line is
+//!   named that can't come where it is; but the line `%order`, where the sessions that are named after
+//!   it aren't there once for each of their steps.
 //! - [`lines_and_words_are_cut`] (`specs/Cuts.antt`): the bytes are cut into lines after each
 //!   newline, and lines into words at spaces and tabs, and in no other way.
 //!
@@ -17,9 +20,10 @@
 //!
 //! - [`steps_are_said`] (`specs/Steps.antt`): the words of a line are read as a step exactly where
 //!   they say it by the table of step lines.
-//! - [`lines_tell_steps`] (`specs/Written.antt`): the line that is written for a step, its name and
-//!   what it takes with a space between words, says that step, for each step whose numbers a line
-//!   can have. So steps of the same line are the same.
+//! - [`lines_tell_steps`] (`specs/Written.antt`): the line that a client writes for a step, its name
+//!   and what it takes with a space between words, says that step, for each step whose numbers a line
+//!   can have. So steps of the same line are the same. The program reads such lines and writes none;
+//!   `clients/python` and `tests/fuzz` write them so.
 //!
 //! # Questions
 //!
@@ -44,7 +48,7 @@ mod laws;
 mod line_laws;
 mod reply_laws;
 
-pub use laws::jobs_are_their_lines;
+pub use laws::{faults_are_at_their_lines, jobs_are_their_lines};
 pub use line_laws::{
     lines_and_words_are_cut, lines_tell_steps, questions_are_asked, steps_are_said,
 };
