@@ -19,11 +19,30 @@ pub record AreUpward {W : Type 0} (items : List ((Point × Point) × W)) : Type 
   pub proper : (p : (Point × Point) × W) → Has items p → ¬ (p.0.0 ≡ p.0.1)
   pub meets : (p q : (Point × Point) × W) → Has items p → Has items q → (p.0 ≡ q.0) ⊎ MeetAtEnds p.0 q.0
 
--- of clean edges, some of which count, and of these an even number at each point, the parity to the right is the same for
--- all places inside an edge
+-- an edge, and whether it is marked
+abbrev pub Marked : Type 0
+Marked = (Point × Point) × Bool
+
+-- a place, as many times as far from the origin as its scale says
+pub record ScaledPlace : Type 0 where
+  pub scale : ℤ
+  pub x : ℤ
+  pub y : ℤ
+
+abbrev pub IsInEdge : Point × Point → ScaledPlace → Type 0
+IsInEdge edge place = IsPlaceInside edge.0 edge.1 place.scale place.x place.y
+
+-- each point is an end of an even number of the marked edges
+abbrev pub AreEvenAtPoints : List Marked → Type 0
+AreEvenAtPoints items = (p : Point) → parity (λ item. item.1 && touches p item.0) items ≡ false
+
+-- an odd number of the marked edges is crossed on the way to the right
+abbrev pub is_odd_right_of : ScaledPlace → List Marked → Bool
+is_odd_right_of place items = parity (λ item. item.1 && is_crossed place.scale place.x place.y item.0) items
+
+-- of clean edges, those that are marked even at each point, all places inside an edge have the same parity on their right
 abbrev pub ParitiesSlide : Type 0
-ParitiesSlide = (items : List ((Point × Point) × Bool)) → AreUpward items
-    → ((v : Point) → parity (λ p. p.1 && touches v p.0) items ≡ false)
-    → (e : (Point × Point) × Bool) → Has items e → e.0.0.y <ℤ e.0.1.y
-    → (k x y k' x' y' : ℤ) → IsPlaceInside e.0.0 e.0.1 k x y → IsPlaceInside e.0.0 e.0.1 k' x' y'
-    → parity (λ p. p.1 && is_crossed k x y p.0) items ≡ parity (λ p. p.1 && is_crossed k' x' y' p.0) items
+ParitiesSlide = (items : List Marked) → AreUpward items → AreEvenAtPoints items
+    → (item : Marked) → Has items item → item.0.0.y <ℤ item.0.1.y
+    → (one other : ScaledPlace) → IsInEdge item.0 one → IsInEdge item.0 other
+    → is_odd_right_of one items ≡ is_odd_right_of other items
