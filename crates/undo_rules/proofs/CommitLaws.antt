@@ -20,7 +20,7 @@ use Rattle.undo_rules.specs.declared.log.Call.TheVariants.{Commit}
 use Rattle.undo_rules.specs.declared.log.Logged.{Logged}
 use Rattle.undo_rules.specs.Books.{History, IsHistory, IsNamed, SessionState, changed_among, changed_in, changes_since, entry_of, writes_of}
 use Rattle.undo_rules.specs.Histories.{IsSince, commands_at, commands_in}
-use Rattle.undo_rules.specs.Laws.{ACommitKeepsTheBook, Commits, IsOwnWork}
+use Rattle.undo_rules.specs.Laws.{ACommitKeepsTheBook, Commits, IsOwnWork, Taking}
 use Rattle.undo_rules.specs.Links.{Entry, txn_eq}
 use Rattle.txn_commands.specs.Meets.{meets_touched}
 use Rattle.undo_rules.specs.Steps.{ended, ended_state, entered, logged, stale_by, stale_first, state_of, touching, with_entry}
@@ -143,10 +143,25 @@ abbrev pub with_commit : History → Transaction → List Logged
 with_commit h txn =
     h.log ++ record { session = txn.id.session; call = Commit txn.id txn.commands; answer = Committed } ∷ []
 
+-- the history takes the work
+abbrev pub taking : (h : History) (txn : Transaction) → IsTransaction txn → IsOwnWork h txn → Taking
+taking h txn transaction own = record {
+  log = with_commit h txn;
+  base = h.base;
+  layout = h.layout;
+  entries = h.entries;
+  opened = own.waiting.snapshot;
+  changes = changes_since h.log h.entries own.waiting.place;
+  snapshot = txn.snapshot;
+  entry = entered h txn;
+  commands = txn.commands;
+  run = transaction.run;
+}
+
 -- its commands run alike on the layout
 pub commit_made : (h : History) → IsHistory h → (txn : Transaction) → (transaction : IsTransaction txn) → IsSound txn.snapshot →
-    IsOwnWork h txn → stale_by h.entries txn.footprint (drop (txn.opened + 1) h.log) ≡ None →
-    Commits (with_commit h txn) h.base h.layout h.entries (entered h txn) txn.commands transaction.run
+    (own : IsOwnWork h txn) → stale_by h.entries txn.footprint (drop (txn.opened + 1) h.log) ≡ None →
+    Commits (taking h txn transaction own)
 commit_made h is txn transaction sound own unstale_calls =
     let s = txn.id.session in
     let here = its_state h is s own.low own.high in
@@ -156,9 +171,11 @@ commit_made h is txn transaction sound own unstale_calls =
     let free = unstale h.entries txn.footprint (drop (own.waiting.place + 1) h.log)
     (subst (λ (n : ℕ). stale_by h.entries txn.footprint (drop (n + 1) h.log) ≡ None) (sym own.place) unstale_calls) in
     let told : commands_at log (length h.log) ≡ Some txn.commands = ap commands_in (last_call h.log call) in
-    commits log h.base txn.snapshot own.waiting.snapshot h.layout h.entries (changes_since h.log h.entries own.waiting.place)
-    (entered h txn) txn.commands transaction.run is.sound sound transaction.runs transaction.footprint transaction.writes own.agree since
-    free told refl refl (its_name_is_new h is txn own) (kept_longer h.log call h.base h.layout h.entries is.kept)
+    commits (taking h txn transaction own) is.sound sound
+    (record { runs = transaction.runs; footprint = transaction.footprint; writes = transaction.writes })
+    (record { agree = own.agree; since = since; apart = free })
+    (record { told = told; live = refl; seen = refl; named = its_name_is_new h is txn own })
+    (kept_longer h.log call h.base h.layout h.entries is.kept)
 
 pub commit_keeps : ACommitKeepsTheBook
 commit_keeps h is txn transaction sound own unstale_calls =

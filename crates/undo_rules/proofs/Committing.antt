@@ -120,40 +120,39 @@ entered_kept log base layout next entries entry sound is ran links named kept = 
 }
 
 pub commits : ACommitAppends
-commits log base snapshot opened layout entries changes entry commands run sound snapshot_sound runs footprint writes its since free told
-    live links named kept =
-    let touched = entry.footprint in
-    let agree : AgreeOn snapshot layout touched = λ e has.
-    agree-trans snapshot opened layout e (agree-sym opened snapshot e (its e has))
-    (agreed_since opened layout touched changes since free e has) in
-    let layout_sound = chain_sound log entries base layout kept.chain sound in
-    let found = frame entry.txn commands (begun snapshot) run runs (begun layout) (record {
+commits t sound snapshot_sound work fresh entered kept =
+    let touched = t.entry.footprint in
+    let agree : AgreeOn t.snapshot t.layout touched = λ e has.
+    agree-trans t.snapshot t.opened t.layout e (agree-sym t.opened t.snapshot e (fresh.agree e has))
+    (agreed_since t.opened t.layout touched t.changes fresh.since fresh.apart e has) in
+    let layout_sound = chain_sound t.log t.entries t.base t.layout kept.chain sound in
+    let found = frame t.entry.txn t.commands (begun t.snapshot) t.run work.runs (begun t.layout) (record {
       made = refl;
       footprint = refl;
       dones = refl;
       sound = snapshot_sound;
       sound_there = layout_sound;
-      agree = subst (AgreeOn snapshot layout) (sym footprint) agree;
+      agree = subst (AgreeOn t.snapshot t.layout) (sym work.footprint) agree;
     }) in
     let now : Run = found.0 in
     let alike = found.2 in
-    let same : now.footprint ≡ touched = alike.footprint ∙ footprint in
-    let from_snapshot : LeavesAlone snapshot run.layout touched =
-    subst (LeavesAlone snapshot run.layout) footprint (local entry.txn commands (begun snapshot) run runs) in
-    let from_layout : LeavesAlone layout now.layout touched =
-    subst (LeavesAlone layout now.layout) same (local entry.txn commands (begun layout) now found.1) in
-    let after : AgreeOn run.layout now.layout touched = subst (AgreeOn run.layout now.layout) footprint alike.agree in
-    let ran : RunsBetween log entry layout now.layout = record {
-      commands = commands;
+    let same : now.footprint ≡ touched = alike.footprint ∙ work.footprint in
+    let from_snapshot : LeavesAlone t.snapshot t.run.layout touched =
+    subst (LeavesAlone t.snapshot t.run.layout) work.footprint (local t.entry.txn t.commands (begun t.snapshot) t.run work.runs) in
+    let from_layout : LeavesAlone t.layout now.layout touched =
+    subst (LeavesAlone t.layout now.layout) same (local t.entry.txn t.commands (begun t.layout) now found.1) in
+    let after : AgreeOn t.run.layout now.layout touched = subst (AgreeOn t.run.layout now.layout) work.footprint alike.agree in
+    let ran : RunsBetween t.log t.entry t.layout now.layout = record {
+      commands = t.commands;
       run = now;
-      told = told;
+      told = entered.told;
       runs = found.1;
       after_is = refl;
-      writes = same_records snapshot layout run.layout now.layout touched agree from_snapshot from_layout after ∙ writes;
+      writes = same_records t.snapshot t.layout t.run.layout now.layout touched agree from_snapshot from_layout after ∙ work.writes;
       footprint = same;
     } in
-    let to : applied layout entry.writes ≡ now.layout =
-    applied_leads entry.writes layout now.layout (ran_proper log entry layout now.layout ran) (ran_leads log entry layout now.layout ran) in
+    let to : applied t.layout t.entry.writes ≡ now.layout =
+    applied_leads t.entry.writes t.layout now.layout (ran_proper t.log t.entry t.layout now.layout ran) (ran_leads t.log t.entry t.layout now.layout ran) in
     record {
       now = now;
       runs = found.1;
@@ -161,7 +160,7 @@ commits log base snapshot opened layout entries changes entry commands run sound
       footprint = same;
       writes = ran.writes;
       next = sym to;
-      leads = subst (λ (l : Layout). Lead entry.writes layout l) (sym to) (ran_leads log entry layout now.layout ran);
-      kept = subst (λ (l : Layout). AreKept log base l (entries ++ entry ∷ [])) (sym to)
-          (entered_kept log base layout now.layout entries entry layout_sound live ran links named kept);
+      leads = subst (λ (l : Layout). Lead t.entry.writes t.layout l) (sym to) (ran_leads t.log t.entry t.layout now.layout ran);
+      kept = subst (λ (l : Layout). AreKept t.log t.base l (t.entries ++ t.entry ∷ [])) (sym to)
+          (entered_kept t.log t.base t.layout now.layout t.entries t.entry layout_sound entered.live ran entered.seen entered.named kept);
     }

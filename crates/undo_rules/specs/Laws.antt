@@ -45,34 +45,53 @@ ARedoPutsBack = (log : List Logged) (base layout : Layout) (before : List Entry)
     → first_moved before (links_to before entry.footprint) entry.seen ≡ None
     → AreKept log base (applied layout entry.writes) (before ++ marked true entry ∷ later)
 
--- commands that ran on a sound layout, and touched nothing that was changed since, run alike on the layout now, and what they wrote
--- leads to the next one
-pub record Commits (log : List Logged) (base layout : Layout) (entries : List Entry) (entry : Entry) (commands : List Command) (run : Run)
-    : Type 0 where
+-- A work that a history takes: the history's log, its base, its layout and its transactions; the layout at the work's open, what
+-- was changed since, and the work's snapshot; and the transaction that is entered, with its commands and their run on the snapshot.
+pub record Taking : Type 0 where
+  pub log : List Logged
+  pub base : Layout
+  pub layout : Layout
+  pub entries : List Entry
+  pub opened : Layout
+  pub changes : List Records
+  pub snapshot : Layout
+  pub entry : Entry
+  pub commands : List Command
+  pub run : Run
+
+-- the commands ran so on the snapshot
+pub record IsWorkOf (t : Taking) : Type 0 where
+  pub runs : after_each t.entry.txn t.commands (begun t.snapshot) ≡ Some t.run
+  pub footprint : t.run.footprint ≡ t.entry.footprint
+  pub writes : records_between t.snapshot t.run.layout ≡ t.entry.writes
+
+-- the work is of this history, and nothing that it touched was changed since its open
+pub record IsFresh (t : Taking) : Type 0 where
+  pub agree : AgreeOn t.opened t.snapshot t.entry.footprint
+  pub since : IsSince t.opened t.changes t.layout
+  pub apart : AllByRecursion (λ ws. meets_touched ws t.entry.footprint ≡ false) t.changes
+
+-- the transaction is entered as live, by a name of its own, with its commands in the log and links to what it has seen
+pub record IsEntered (t : Taking) : Type 0 where
+  pub told : commands_at t.log t.entry.place ≡ Some t.commands
+  pub live : t.entry.live ≡ true
+  pub seen : links_to t.entries t.entry.footprint ≡ t.entry.seen
+  pub named : AllByRecursion (λ other. txn_eq other.txn t.entry.txn ≡ false) t.entries
+
+-- the commands run alike on the layout now, and what they wrote leads to the next one, which is kept
+pub record Commits (t : Taking) : Type 0 where
   pub now : Run
-  pub runs : after_each entry.txn commands (begun layout) ≡ Some now
-  pub dones : now.dones ≡ run.dones
-  pub footprint : now.footprint ≡ entry.footprint
-  pub writes : records_between layout now.layout ≡ entry.writes
-  pub next : now.layout ≡ applied layout entry.writes
-  pub leads : Lead entry.writes layout (applied layout entry.writes)
-  pub kept : AreKept log base (applied layout entry.writes) (entries ++ entry ∷ [])
+  pub runs : after_each t.entry.txn t.commands (begun t.layout) ≡ Some now
+  pub dones : now.dones ≡ t.run.dones
+  pub footprint : now.footprint ≡ t.entry.footprint
+  pub writes : records_between t.layout now.layout ≡ t.entry.writes
+  pub next : now.layout ≡ applied t.layout t.entry.writes
+  pub leads : Lead t.entry.writes t.layout (applied t.layout t.entry.writes)
+  pub kept : AreKept t.log t.base (applied t.layout t.entry.writes) (t.entries ++ t.entry ∷ [])
 
 abbrev pub ACommitAppends : Type 0
-ACommitAppends = (log : List Logged) (base snapshot opened layout : Layout) (entries : List Entry) (changes : List Records) (entry : Entry)
-    (commands : List Command) (run : Run)
-    -- the history began on a sound layout, and the work on another
-    → IsSound base → IsSound snapshot
-    -- the work
-    → after_each entry.txn commands (begun snapshot) ≡ Some run → run.footprint ≡ entry.footprint
-    → records_between snapshot run.layout ≡ entry.writes
-    -- it is of this history, and nothing that it touched was changed
-    → AgreeOn opened snapshot entry.footprint → IsSince opened changes layout
-    → AllByRecursion (λ ws. meets_touched ws entry.footprint ≡ false) changes
-    -- it is entered
-    → commands_at log entry.place ≡ Some commands → entry.live ≡ true → links_to entries entry.footprint ≡ entry.seen
-    → AllByRecursion (λ other. txn_eq other.txn entry.txn ≡ false) entries
-    → AreKept log base layout entries → Commits log base layout entries entry commands run
+ACommitAppends = (t : Taking) → IsSound t.base → IsSound t.snapshot → IsWorkOf t → IsFresh t → IsEntered t
+    → AreKept t.log t.base t.layout t.entries → Commits t
 
 -- an accepted undo of a book keeps what a book keeps true
 abbrev pub AnUndoKeepsTheBook : Type 0
