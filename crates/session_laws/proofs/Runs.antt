@@ -12,7 +12,7 @@ use Rattle.undo_laws.proofs.Staying.{stay}
 use Rattle.session_steps.specs.declared.Reply.{Reply}
 use Rattle.session_steps.specs.declared.Step.{Step}
 use Rattle.session_core.specs.Machine.{Ran, State, after_steps, start, step_outcome}
-use Rattle.session_laws.specs.Histories.{KeepsOperations, MachinesKeepOperations, ProgramsKeepOperations, StepsLeadToHistories}
+use Rattle.session_laws.specs.Histories.{KeepsOperations, MachinesKeepOperations, ProgramsKeepOperations, StepsLeadToHistories, setting_in}
 use Rattle.session_laws.proofs.Stepping.{IsGood, stepped}
 use Rattle.session_laws.proofs.Works.{no_works}
 
@@ -48,8 +48,8 @@ lead base sessions limit steps replies final sound few ran =
 
 -- in a history from a base
 pub stays : (base : Layout) (h : History) → IsHistory h → h.base ≡ base → KeepsOperations base h
-stays base h is same before entry later earlier op cell a b out rest parts live told =
-    stay h.log base h.layout before entry later earlier op cell a b out rest (subst IsSound same is.sound)
+stays base h is same before entry later earlier d rest parts live told =
+    stay (setting_in base h before entry later earlier rest) d (subst IsSound same is.sound)
     (subst (λ (l : Layout). AreKept h.log l h.layout (before ++ entry ∷ later)) same
     (subst (λ (es : List Entry). AreKept h.log h.base h.layout es) parts is.kept)) live told
 

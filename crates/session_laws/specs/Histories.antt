@@ -13,7 +13,7 @@ use Rattle.txn_commands.specs.declared.command.TxnId.{TxnId}
 use Rattle.undo_rules.specs.Books.{History, IsHistory}
 use Rattle.undo_rules.specs.Histories.{commands_at}
 use Rattle.undo_rules.specs.Links.{Entry}
-use Rattle.undo_laws.specs.Staying.{HasNoItemOf, Stays}
+use Rattle.undo_laws.specs.Staying.{Drawing, HasCommand, HasNoItemOf, Setting, Stays, drawing_command}
 use Rattle.session_steps.specs.declared.Reply.{Reply}
 use Rattle.session_steps.specs.declared.Step.{Step}
 use Rattle.session_core.specs.Machine.{Ran, State, after_steps, start}
@@ -27,13 +27,26 @@ abbrev pub StepsLeadToHistories : Type 0
 StepsLeadToHistories = (base : Layout) (sessions limit : ℕ) (steps : List (ℕ × Step)) (replies : List Reply) (final : State)
     → IsSound base → sessions ≤ 64 → Ran (start base sessions limit) steps replies final → HasHistory base final
 
+-- a command of a transaction of this history, which began on this base
+abbrev pub setting_in : Layout → History → List Entry → Entry → List Entry → List Command → List Command → Setting
+setting_in base h before entry later earlier rest = record {
+  log = h.log;
+  base = base;
+  layout = h.layout;
+  before = before;
+  entry = entry;
+  later = later;
+  earlier = earlier;
+  rest = rest;
+}
+
 -- what each operation of a live transaction drew stays to the end of the history
 abbrev pub KeepsOperations : Layout → History → Type 0
 KeepsOperations base h =
-    (before : List Entry) (entry : Entry) (later : List Entry) (earlier : List Command) (op : Op) (cell : CellId) (a b out : List ℕ)
-    (rest : List Command) → h.entries ≡ before ++ entry ∷ later → entry.live ≡ true
-    → commands_at h.log entry.place ≡ Some (earlier ++ Combine op cell a b out ∷ rest)
-    → Stays h.log base h.layout before entry later earlier op cell a b out rest
+    (before : List Entry) (entry : Entry) (later : List Entry) (earlier : List Command) (d : Drawing) (rest : List Command)
+    → h.entries ≡ before ++ entry ∷ later → entry.live ≡ true
+    → HasCommand (setting_in base h before entry later earlier rest) (drawing_command d)
+    → Stays (setting_in base h before entry later earlier rest) d
 
 -- so it is of a machine's steps
 abbrev pub MachinesKeepOperations : Type 0

@@ -7,7 +7,6 @@ use Rattle.lay_layouts.specs.Layout.{Layout}
 use Rattle.lay_layouts.specs.Lent.{LentShape, shapes_in}
 use Rattle.lay_layouts.specs.Sound.{IsSound}
 use Rattle.txn_commands.specs.declared.command.Command.{Command}
-use Rattle.txn_commands.specs.declared.command.Command.TheVariants.{Bool as Combine}
 use Rattle.txn_commands.specs.declared.command.TxnId.{TxnId}
 use Rattle.txn_commands.specs.declared.element.Element.TheVariants.{Layer}
 use Rattle.txn_commands.specs.Agreement.{Agree}
@@ -20,7 +19,7 @@ use Rattle.undo_rules.specs.Histories.{Chain, RunsBetween}
 use Rattle.undo_rules.specs.Links.{Entry, txn_eq}
 use Rattle.undo_rules.proofs.Grounds.{ran_sound}
 use Rattle.undo_laws.specs.Laws.{HoldWhereAsked}
-use Rattle.undo_laws.specs.Staying.{HasNoItemOf, OperationsStay}
+use Rattle.undo_laws.specs.Staying.{HasNoItemOf, OperationsStay, drawing_command}
 use Rattle.undo_laws.proofs.Others.{ids_stay_free, others_stay}
 use Rattle.undo_laws.proofs.Passages.{Keeps, aside_agree, chain_through, none_made, others_named, run_cut}
 use Rattle.undo_laws.proofs.Places.{places_told}
@@ -48,21 +47,21 @@ shapes_kept cell out drawn last after layout left same agree =
     sym left ∙ ap (λ l. shapes_in l cell out) same ∙ shapes_agree after layout cell out agree
 
 pub stay : OperationsStay
-stay log base layout before entry later earlier op cell a b out rest sound kept live told =
-    let command : Command = Combine op cell a b out in
-    let (ground, replays, is, chain) = chain_through log (IsGround base entry.txn) before (entry ∷ later) base layout
-    (each_keeps log base entry.txn before (others_named before entry later kept.named)) kept.chain
+stay s d sound kept live told =
+    let command : Command = drawing_command d in
+    let (ground, replays, is, chain) = chain_through s.log (IsGround s.base s.entry.txn) s.before (s.entry ∷ s.later) s.base s.layout
+    (each_keeps s.log s.base s.entry.txn s.before (others_named s.before s.entry s.later kept.named)) kept.chain
     (record { sound = sound; none = λ free. free }) in
-    let (after, ran, behind) : (next : Layout) × RunsBetween log entry ground next × Chain log next later layout =
-    subst (λ (b : Bool). MatchBool b ((next : Layout) × RunsBetween log entry ground next × Chain log next later layout)
-    (Chain log ground later layout)) live chain in
-    let same : ran.commands ≡ earlier ++ command ∷ rest = cc (ran.told, told) in
-    let runs : after_each entry.txn (earlier ++ command ∷ rest) (begun ground) ≡ Some ran.run =
-    subst (λ (cs : List Command). after_each entry.txn cs (begun ground) ≡ Some ran.run) same ran.runs in
-    let (reached, reaches, on) = run_cut entry.txn earlier (command ∷ rest) (begun ground) ran.run runs in
-    let (next, does, ends) = goes_on (effect entry.txn command reached) (λ run. after_each entry.txn rest run) ran.run on in
-    let drawn : HoldWhereAsked reached.layout op cell a b (shapes_in next.1.layout cell out) =
-    places_told entry.txn reached op cell a b out next (run_sound entry.txn earlier (begun ground) reached reaches is.sound) does in
+    let (after, ran, behind) : (next : Layout) × RunsBetween s.log s.entry ground next × Chain s.log next s.later s.layout =
+    subst (λ (b : Bool). MatchBool b ((next : Layout) × RunsBetween s.log s.entry ground next × Chain s.log next s.later s.layout)
+    (Chain s.log ground s.later s.layout)) live chain in
+    let same : ran.commands ≡ s.earlier ++ command ∷ s.rest = cc (ran.told, told) in
+    let runs : after_each s.entry.txn (s.earlier ++ command ∷ s.rest) (begun ground) ≡ Some ran.run =
+    subst (λ (cs : List Command). after_each s.entry.txn cs (begun ground) ≡ Some ran.run) same ran.runs in
+    let (reached, reaches, on) = run_cut s.entry.txn s.earlier (command ∷ s.rest) (begun ground) ran.run runs in
+    let (next, does, ends) = goes_on (effect s.entry.txn command reached) (λ run. after_each s.entry.txn s.rest run) ran.run on in
+    let drawn : HoldWhereAsked reached.layout d.op d.cell d.a d.b (shapes_in next.1.layout d.cell d.out) =
+    places_told s.entry.txn reached d.op d.cell d.a d.b d.out next (run_sound s.entry.txn s.earlier (begun ground) reached reaches is.sound) does in
     record {
       way = record {
         start = ground;
@@ -75,9 +74,9 @@ stay log base layout before entry later earlier op cell a b out rest sound kept 
         ends = ends;
       };
       holds = λ left aside.
-          subst (λ (ss : List LentShape). HoldWhereAsked reached.layout op cell a b ss)
-          (shapes_kept cell out next.1.layout ran.run.layout after layout left ran.after_is
-          (aside_agree log (Layer cell out) later after layout aside behind)) drawn;
-      others = λ free. others_stay entry.txn reached op cell a b out next
-          (ids_stay_free entry.txn earlier ground reached (is.none free) reaches) does;
+          subst (λ (ss : List LentShape). HoldWhereAsked reached.layout d.op d.cell d.a d.b ss)
+          (shapes_kept d.cell d.out next.1.layout ran.run.layout after s.layout left ran.after_is
+          (aside_agree s.log (Layer d.cell d.out) s.later after s.layout aside behind)) drawn;
+      others = λ free. others_stay s.entry.txn reached d.op d.cell d.a d.b d.out next
+          (ids_stay_free s.entry.txn s.earlier ground reached (is.none free) reaches) does;
     }

@@ -28,33 +28,62 @@ AreAside e entries = AllByRecursion (λ entry. entry.live ≡ true → some_meet
 abbrev pub HasNoItemOf : TxnId → Layout → Type 0
 HasNoItemOf txn layout = (id : ItemId) → id.session ≡ txn.session → id.txn ≡ txn.txn → item_at layout id ≡ None
 
--- a command among those of a live transaction: the layout of the live ones before it, the transaction up to the command, behind
--- it, and at its end
-pub record Passage (log : List Logged) (base : Layout) (before : List Entry) (txn : TxnId) (earlier : List Command) (command : Command)
-    (rest : List Command) : Type 0 where
+-- an operation on two layers of a cell, and the layer on which its result is drawn
+pub record Drawing : Type 0 where
+  pub op : Op
+  pub cell : CellId
+  pub a : List ℕ
+  pub b : List ℕ
+  pub out : List ℕ
+
+-- the command that asks for it
+abbrev pub drawing_command : Drawing → Command
+drawing_command d = Combine d.op d.cell d.a d.b d.out
+
+-- A command of a transaction in a history: the history's log, and its layouts at the beginning and at the end; the transactions
+-- before this one and after it; and its commands before this one and after it.
+pub record Setting : Type 0 where
+  pub log : List Logged
+  pub base : Layout
+  pub layout : Layout
+  pub before : List Entry
+  pub entry : Entry
+  pub later : List Entry
+  pub earlier : List Command
+  pub rest : List Command
+
+abbrev pub entries_of : Setting → List Entry
+entries_of s = s.before ++ s.entry ∷ s.later
+
+-- the transaction committed this command there
+abbrev pub HasCommand : Setting → Command → Type 0
+HasCommand s command = commands_at s.log s.entry.place ≡ Some (s.earlier ++ command ∷ s.rest)
+
+-- the layout of the live transactions before it, and the transaction's own work up to the command, after it, and at its end
+pub record Passage (s : Setting) (command : Command) : Type 0 where
   pub start : Layout
   pub reached : Run
   pub next : Done × Run
   pub last : Run
-  pub start_is : replay_from log base before ≡ Some start
-  pub reaches : after_each txn earlier (begun start) ≡ Some reached
-  pub does : effect txn command reached ≡ Ok next
-  pub ends : after_each txn rest next.1 ≡ Some last
+  pub start_is : replay_from s.log s.base s.before ≡ Some start
+  pub reaches : after_each s.entry.txn s.earlier (begun start) ≡ Some reached
+  pub does : effect s.entry.txn command reached ≡ Ok next
+  pub ends : after_each s.entry.txn s.rest next.1 ≡ Some last
 
--- In the layout at the end of the history the shapes of the operation's cell on its layer hold where the operation did, unless its
--- transaction changed them behind it or a later live one wrote there. Other shapes, calls and symbols are behind the operation
--- as they were, where the history began without ids of the transaction.
-pub record Stays (log : List Logged) (base layout : Layout) (before : List Entry) (entry : Entry) (later : List Entry)
-    (earlier : List Command) (op : Op) (cell : CellId) (a b out : List ℕ) (rest : List Command) : Type 0 where
-  pub way : Passage log base before entry.txn earlier (Combine op cell a b out) rest
-  pub holds : shapes_in way.last.layout cell out ≡ shapes_in way.next.1.layout cell out → AreAside (Layer cell out) later
-      → HoldWhereAsked way.reached.layout op cell a b (shapes_in layout cell out)
-  pub others : HasNoItemOf entry.txn base → LeavesOthers cell out way.reached.layout way.next.1.layout
+-- the layout that the command leaves
+abbrev pub left_by : {s : Setting} {command : Command} → Passage s command → Layout
+left_by way = way.next.1.layout
+
+-- At the history's end the shapes of the cell on its layer hold where the operation did, unless its transaction changed them after
+-- it or a later live one wrote there. Other shapes, calls and symbols are after it as before it, where the history began without
+-- ids of the transaction.
+pub record Stays (s : Setting) (d : Drawing) : Type 0 where
+  pub way : Passage s (drawing_command d)
+  pub holds : shapes_in way.last.layout d.cell d.out ≡ shapes_in (left_by way) d.cell d.out → AreAside (Layer d.cell d.out) s.later
+      → HoldWhereAsked way.reached.layout d.op d.cell d.a d.b (shapes_in s.layout d.cell d.out)
+  pub others : HasNoItemOf s.entry.txn s.base → LeavesOthers d.cell d.out way.reached.layout (left_by way)
 
 -- so it is of each operation of a live transaction, in a history that began on a sound layout
 abbrev pub OperationsStay : Type 0
-OperationsStay = (log : List Logged) (base layout : Layout) (before : List Entry) (entry : Entry) (later : List Entry)
-    (earlier : List Command) (op : Op) (cell : CellId) (a b out : List ℕ) (rest : List Command)
-    → IsSound base → AreKept log base layout (before ++ entry ∷ later) → entry.live ≡ true
-    → commands_at log entry.place ≡ Some (earlier ++ Combine op cell a b out ∷ rest)
-    → Stays log base layout before entry later earlier op cell a b out rest
+OperationsStay = (s : Setting) (d : Drawing) → IsSound s.base → AreKept s.log s.base s.layout (entries_of s) → s.entry.live ≡ true
+    → HasCommand s (drawing_command d) → Stays s d
