@@ -51,13 +51,20 @@ rest_from session [] taken = []
 rest_from session (replies ∷ sessions) taken =
     replicate (length replies - slice_index taken session) session ++ rest_from (session + 1) sessions taken
 
+-- how many steps a logged call adds: those of its session up to and with its own
+abbrev pub steps_up_to : List (List Reply) → List ℕ → Logged → ℕ
+steps_up_to sessions taken call = steps_to_logged (replies_left sessions taken call.session)
+
+-- with so many more steps of the session
+abbrev pub with_taken : List ℕ → ℕ → ℕ → List ℕ
+with_taken taken session more = slice_set taken session (slice_index taken session + more)
+
 -- the order from here on, where the order so far has so many steps of each session
 abbrev pub order_behind : List (List Reply) → List ℕ → List Logged → List ℕ
 order_behind sessions taken [] = rest_from 1 sessions taken
 order_behind sessions taken (call ∷ log) =
-    replicate (steps_to_logged (replies_left sessions taken call.session)) call.session
-    ++ order_behind sessions (slice_set taken call.session
-    (slice_index taken call.session + steps_to_logged (replies_left sessions taken call.session))) log
+    replicate (steps_up_to sessions taken call) call.session
+    ++ order_behind sessions (with_taken taken call.session (steps_up_to sessions taken call)) log
 
 -- For each logged call its session's number, once for each step of the session behind its last logged one, up to and
 -- with the call's. After the log the steps that are left.

@@ -10,6 +10,7 @@ use Rattle.lay_cells.specs.declared.cells.TheConstants.{MAX_SYMBOL}
 use Rattle.lay_layouts.specs.declared.id.ItemId.{ItemId}
 use Rattle.lay_point.specs.declared.point.Point.{Point}
 use Rattle.lay_point.specs.declared.turn.Quarter.{Quarter}
+use Rattle.lay_point.specs.declared.turn.Turn.{Turn}
 use Rattle.lay_point.specs.Names.{layer_name_of}
 use Rattle.txn_commands.specs.declared.command.Command.{Command}
 use Rattle.txn_commands.specs.declared.command.Command.TheVariants.{Bool as Combine, Box, Poly, Delete, Move, SetLayer, Place, Look, MakeCell}
@@ -130,6 +131,10 @@ layer_command words = do
   layer ← leading_layer id.1
   if_ended layer.1 (SetLayer id.0 layer.0)
 
+-- a turn that mirrors, or not, and turns so, and then shifts
+abbrev pub turn_by : Bool × Quarter → Point → Turn
+turn_by turning shift = record { mirror = turning.0; quarter = turning.1; shift = shift }
+
 -- what `place` takes: the cell, the symbol to call, the turning and the shift
 unfoldable pub place_command : List Word → Option Command
 place_command words = do
@@ -137,7 +142,7 @@ place_command words = do
   target ← leading_symbol cell.1
   turning ← leading_turning target.1
   shift ← leading_point turning.1
-  if_ended shift.1 (Place cell.0 target.0 (record { mirror = turning.0.0; quarter = turning.0.1; shift = shift.0 }))
+  if_ended shift.1 (Place cell.0 target.0 (turn_by turning.0 shift.0))
 
 -- the operation on layers that this word names
 unfoldable pub op_of : Word → Option Op
