@@ -1,23 +1,53 @@
--- A row with the sides of its edges.
-use Rattle.std.specs.Prelude.{All}
+-- The edges of the sweep at a stop, with the sides of each, and the labels that are written.
+use Rattle.std.specs.Prelude.{◌≡◌, ℕ, ◌≤◌, Bool, false, Contains, List, drop, length, slice_index_or, slice_range, take}
+use Rattle.lay_point.specs.declared.point.Point.{Point}
 use Rattle.snap_chains.specs.Rounded.{Owned}
+use Rattle.face_rows.specs.declared.op.Op.{Op}
+use Rattle.face_rows.specs.Labels.{differs, owned_items}
+use Rattle.face_rows.specs.Laws.{AreLesserFirst}
+use Rattle.face_rows.specs.Lines.{owned_item_at}
+use Rattle.face_rows.specs.Operations.{answer}
+use Rattle.face_sweep.specs.declared.stops.Stop.{Stop}
+use Rattle.face_sweep.specs.declared.stops.Stops.{Stops}
+use Rattle.face_sweep.specs.Points.{AreBegunAt, IsEndPoint, IsLevelFrom, IsPassed, IsStatus}
+use Rattle.face_sweep.specs.Reaches.{IsReach}
+use Rattle.face_sweep.specs.Sides.{AreKnown, IsKnown}
+use Rattle.face_sweep.specs.Stops.{AreStops, BeginAt}
 use Rattle.face_labels.specs.declared.line.Line.{Line}
 use Rattle.face_labels.specs.declared.shared.Shared.{Shared}
-use Rattle.face_sweep.specs.Ends.{AreAllEnds, AreEnds}
-use Rattle.face_sweep.specs.Reaches.{IsReach}
-use Rattle.face_rows.specs.Rows.{AreRowEdges}
-use Rattle.face_sweep.specs.Sides.{AreKnown, IsKnown}
-use Rattle.face_rows.specs.Sound.{AreSound}
 
--- the boxes of the shapes, and the ends of the edges
+-- of edges each of which is from its lesser end: the boxes of the shapes, and the stops of the sweep
 pub record IsShared (r : Owned) (shared : Shared) : Type 0 where
+  pub lesser : AreLesserFirst r.0
   pub reach : IsReach r shared.reach
-  pub ends : AreAllEnds r shared.ends.items
+  pub stops : AreStops r shared.stops
 
--- the edges of the row, with the sides of all of them
-pub record IsLine (r : Owned) (shared : Shared) (line : Line) : Type 0 where
-  pub sound : AreSound r
-  pub edges : AreRowEdges r.0 line.row line.numbers.items
+-- a stop, with the edges that begin there
+pub record IsStopOf (r : Owned) (stops : Stops) (stop : Stop) : Type 0 where
+  pub end : IsEndPoint r stop.point
+  pub order : stop.from ≤ stop.to
+  pub bound : stop.to ≤ length stops.begun.items
+  pub begun : BeginAt r stop.point (slice_range stops.begun.items stop.from stop.to)
+
+-- of the edges that begin at the point those before this index rise, and the others are level
+pub record AreSplit (r : Owned) (p : Point) (numbers : List ℕ) (index : ℕ) : Type 0 where
+  pub bound : index ≤ length numbers
+  pub begun : AreBegunAt r p (take index numbers)
+  pub levels : (n : ℕ) → Contains (drop index numbers) n → IsLevelFrom r p n
+  pub all_levels : (n : ℕ) → IsLevelFrom r p n → Contains (drop index numbers) n
+
+-- the edges at the point, with the sides of all of them
+pub record IsLineAt (r : Owned) (p : Point) (line : Line) : Type 0 where
+  pub status : IsStatus r p line.numbers.items
   pub known : AreKnown r line.known
-  pub all : All (IsKnown line.known) line.numbers.items
-  pub ends : AreEnds r line.row shared.ends.items line.passed
+  pub all : (n : ℕ) → Contains line.numbers.items n → IsKnown line.known n
+
+-- the same once the point is passed
+pub record IsLinePast (r : Owned) (p : Point) (line : Line) : Type 0 where
+  pub passed : IsPassed r p line.numbers.items
+  pub known : AreKnown r line.known
+  pub all : (n : ℕ) → Contains line.numbers.items n → IsKnown line.known n
+
+-- at the edge's number is its label
+abbrev pub HasLabel : Op → Owned → List Bool → ℕ → Type 0
+HasLabel op r labels n = slice_index_or labels n false ≡ differs (answer op) (owned_items r) (owned_item_at r n)

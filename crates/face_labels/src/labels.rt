@@ -1,16 +1,15 @@
 //! Labels: whether an operation's answers differ on the two sides of an edge.
-ghost use Rattle.std.specs.Prelude.{◌≡◌, ◌<◌, ◌≤◌, All, IfOk, length};
+ghost use Rattle.std.specs.Prelude.{◌≡◌, ◌<◌, ℕ, IfOk, int_lt, length, true};
 ghost use Rattle.std.specs.List.{zip};
-ghost use Rattle.face_rows.specs.Laws.{AreLesserFirst};
 ghost use Rattle.face_rows.specs.Bands.{begins_in, labelled};
+ghost use Rattle.face_rows.specs.Lines.{edge_at};
 ghost use Rattle.face_rows.specs.Picked.{picked};
-ghost use Rattle.face_labels.specs.RowSides.{IsShared};
-ghost use Rattle.face_sweep.specs.Starts.{AreAllStarts, AreByRow, HasLabel, IsStartOf};
+ghost use Rattle.face_labels.specs.RowSides.{HasLabel, IsShared};
 
 use crate::line::Line;
 use crate::shared::Shared;
 use face_rows::{Band, Op};
-use face_sweep::{Start, starts};
+use face_sweep::Stop;
 use lay_point::{Edge, NoMemory};
 use snap_chains::CleanEdges;
 use std::alloc::{AllocError, Global};
@@ -25,9 +24,9 @@ use std::alloc::{AllocError, Global};
 ///
 /// # Cost
 ///
-/// A sort of the ends of all edges and of the edges that begin in the band, and a search in its row for each
-/// of them. From row to row only the edges that begin or end are looked at, and those right of one that begins
-/// are moved.
+/// A sort of the ends of all edges, and for each point of the band at which edges begin or end a search among the
+/// edges of its row, which is short where the point before is near. Where more edges begin at a point than end
+/// there, or fewer, the edges right of it are moved.
 pub fn label(
     alloc: Global,
     edges: &CleanEdges,
@@ -59,42 +58,47 @@ pub fn label_sharing(
     requires { IsShared edges.now shared.now }
     ensures { IfOk result (λ labels. labels.items ≡ labelled op edges.now band) }
 {
-    let starts = starts(alloc, edges.edges(), band)?;
-    let labels = labels_at(alloc, edges, shared, starts.as_slice(), op)?;
+    let labels = labels_at(alloc, edges, shared, band, op)?;
     let numbered = numbered(alloc, edges.edges(), band, labels.as_slice())?;
     Ok(numbered)
 }
 
-/// Returns for each edge whether the operation's answers differ on its two sides, if it is one of
-/// those that begin at the starts, which are in order of their rows.
+/// Returns for each edge whether the operation's answers differ on its two sides, if it is one of those that begin
+/// in the band.
 fn labels_at(
     alloc: Global,
     edges: &CleanEdges,
     shared: &Shared,
-    starts: &[Start],
+    band: Band,
     op: Op,
 ) -> Result<Vec<bool>, NoMemory>
-    requires shared { IsShared edges.now shared.now }
-    requires starts { All (IsStartOf edges.now) starts.now }
-    requires rows { AreByRow starts.now }
-    requires all { AreAllStarts edges.now starts.now }
-    requires lesser { AreLesserFirst edges.now.0 }
+    requires { IsShared edges.now shared.now }
     ensures len { IfOk result (λ labels. length labels.items ≡ length edges.now.0) }
-    ensures labels { IfOk result (λ labels. All (HasLabel op edges.now labels.items) starts.now) }
+    ensures labels { IfOk result (λ labels. (n : ℕ) → n < length edges.now.0
+        → begins_in band (edge_at edges.now n) ≡ true → HasLabel op edges.now labels.items n) }
 {
     let mut labels = vec![in alloc; false; edges.edges().len()]?;
-    let Some(first) = starts.first() else {
+    let stops = shared.stops.stops();
+    let first = shared.stops.first_from(band.low);
+    if first == stops.len() {
         return Ok(labels);
-    };
-    let mut line = Line::new(alloc, edges, shared, first.y)?;
-    for index in 0..starts.len() {
-        let start = starts[index];
-        if start.y != line.row {
-            line = line.later(alloc, edges, shared, start.y, &starts[index..])?;
+    }
+    let mut line = Line::at(alloc, edges, shared, first)?;
+    for index in first..stops.len() {
+        let stop = stops[index];
+        if !is_below(stop, band.high) {
+            return Ok(labels);
         }
-        labels[start.number] = line.differs(alloc, edges, shared, start.number, op)?;
+        line = line.past(alloc, edges, shared, stop, op, &mut labels)?;
     }
     Ok(labels)
+}
+
+/// Returns whether the stop is below the row.
+fn is_below(stop: Stop, row: i64) -> bool
+    ensures { result ≡ int_lt stop.point.y row }
+{
+    i64::from(stop.point.y) < row
 }
 
 /// Returns those of the labels that belong to edges of the band, with the edges' numbers.

@@ -4,15 +4,18 @@
 //! (`face_rows/specs/Labels.antt`). They tell its answer: a place is to the left of an odd number
 //! of them exactly where the operation holds there.
 //!
-//! [`label`] sweeps over the rows of a band (`face_rows/specs/Bands.antt`). The row r is the height
-//! r + 1/2. Each edge is judged close to its lower end (`face_rows/specs/Beside.antt`): at its
-//! crossing of the row there, and at its midpoint if it is level. What holds right of an edge is
-//! found once, where the edge begins, and kept until it ends (`face_sweep/specs/Sides.antt`). From
-//! row to row the edges that end are removed and those that begin are inserted
-//! (`face_sweep/specs/Ends.antt`, `face_sweep/specs/Starts.antt`).
+//! [`label`] sweeps over the points of a band of rows at which edges begin or end
+//! (`face_sweep/specs/Points.antt`, `face_rows/specs/Bands.antt`). What holds on the two sides of an
+//! edge is the same all along it, so it has its label at the stop where it begins. What holds right of it is kept
+//! until it ends (`face_sweep/specs/Sides.antt`). The edges of the row below
+//! the band are found once, when its sweep begins.
 //!
-//! [`Shared`] is what the sweeps of all bands look at: the ends of the edges, in order, and the boxes of
-//! their shapes. It is made once and lent to each band ([`label_sharing`]).
+//! At a stop the edges that end there are found by a search for the point. A level edge that begins there is
+//! judged by the edges right of the point. Then those that end are replaced by those that rise from the point,
+//! and these are judged, from right to left.
+//!
+//! [`Shared`] is what the sweeps of all bands look at: the stops, and the boxes of the shapes. It is made once
+//! and lent to each band ([`label_sharing`]).
 //!
 //! ```text
 //! let clean = round(rt, alloc, &rings)?;
@@ -20,6 +23,7 @@
 //! ```
 #![tactic(auto)]
 
+mod begun;
 mod finds;
 mod labels;
 mod line;

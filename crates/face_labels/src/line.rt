@@ -1,214 +1,225 @@
-//! The edges of a row, with the shapes on the two sides of each.
+//! The edges of the sweep at a stop, with the shapes on the two sides of each.
 ghost use Rattle.std.specs.Prelude.{
   ◌≡◌,
   ◌<◌,
-  ℕ,
-  ◌≤ℤ◌,
+  ◌-◌,
+  ◌-ℤ◌,
   ◌<ℤ◌,
+  ℕ,
   All,
-  Contains,
   IfOk,
   OnOk,
   length,
+  pos,
+  slice_index_or,
 };
-ghost use Rattle.face_rows.specs.Labels.{differs, owned_items};
-ghost use Rattle.face_rows.specs.Laws.{AreLesserFirst};
-ghost use Rattle.face_sweep.specs.Ends.{AreEnds, IsEdgeEnd};
-ghost use Rattle.face_sweep.specs.Sides.{AreKnown, IsKnown};
-ghost use Rattle.face_rows.specs.Lines.{edge_at, owned_item_at};
-ghost use Rattle.face_rows.specs.Operations.{answer};
-ghost use Rattle.face_rows.specs.Rows.{AreRowEdges, CrossesRow, upward};
+ghost use Rattle.face_rows.specs.Rows.{AreRowEdges};
 ghost use Rattle.face_rows.specs.Sound.{AreSound};
-ghost use Rattle.face_labels.specs.RowSides.{IsLine, IsShared};
-ghost use Rattle.face_sweep.specs.declared.start.Start.{Start};
-ghost use Rattle.face_sweep.specs.Starts.{AreByRow, BeginsBy, IsStartOf};
+ghost use Rattle.face_sweep.specs.declared.stops.Stop.{Stop};
+ghost use Rattle.face_sweep.specs.Points.{AreBegunAt, HasLow, IsEndPoint, IsGroup, IsStatus};
+ghost use Rattle.face_sweep.specs.Reaches.{IsReach};
+ghost use Rattle.face_sweep.specs.Stops.{AreStops};
+ghost use Rattle.face_labels.specs.RowSides.{HasLabel, IsLineAt, IsLinePast, IsShared, IsStopOf};
 
-use crate::finds::{find_begun, find_sides};
+use crate::begun::{find_begun, label_levels, rising_count};
+use crate::finds::{find_sides, forget};
 use crate::shared::Shared;
-use face_rows::{Op, crosses_row, row_edges};
-use face_sweep::{End, Known, Sides, Start, first_above, gap_beside, insert_begun, without_ended};
-use lay_point::NoMemory;
+use face_rows::{Op, row_edges};
+use face_sweep::{Known, Reach, Stop, Stops, group_end, place_of_point, replace};
+use lay_point::{NoMemory, Point};
 use snap_chains::CleanEdges;
-use std::alloc::{AllocError, Global};
+use std::alloc::Global;
 
-/// The edges of a row, from left to right. What holds on the sides of an edge is the same in all rows that
-/// it crosses, so it is found once, where the edge comes in.
+/// The edges of the sweep at a stop, from left to right. What holds on the sides of an edge is the same all along
+/// it, so it is found once, where the edge comes in.
 #[derive(Debug, Drop)]
 pub(crate) struct Line {
-    pub row: i32,
     pub numbers: Vec<usize>,
-    /// The sides of the edges of this row.
+    /// The sides of these edges.
     pub known: Known,
-    /// Up to where in the list of ends edges end below this row.
-    pub passed: usize,
+    /// Where among them the stop before this one was.
+    pub place: usize,
+}
+
+/// Where the edges of a line stand that end at a point.
+#[derive(Clone, Copy, Debug)]
+pub(crate) struct Group {
+    pub point: Point,
+    pub from: usize,
+    pub to: usize,
 }
 
 impl Line {
-    /// Returns the line of the row.
+    /// Returns the line at the stop of this index, which is the first of its row.
     ///
     /// # Errors
     ///
     /// `NoMemory`, if an allocation fails.
-    pub fn new(
+    pub fn at(
         alloc: Global,
         edges: &CleanEdges,
         shared: &Shared,
-        row: i32,
+        index: usize,
     ) -> Result<Line, NoMemory>
-        requires lesser { AreLesserFirst edges.now.0 }
+        requires sound { AreSound edges.now }
         requires shared { IsShared edges.now shared.now }
-        ensures line { IfOk result (IsLine edges.now shared.now) }
-        ensures row { IfOk result (λ line. line.row ≡ row) }
+        requires index { index < length shared.now.stops.list.items }
+        requires first { (k : ℕ) (d : Stop) → k < index → (slice_index_or shared.now.stops.list.items k d).point.y
+            <ℤ (slice_index_or shared.now.stops.list.items index d).point.y }
+        ensures { IfOk result (λ line. (d : Stop)
+            → IsLineAt edges.now (slice_index_or shared.now.stops.list.items index d).point line) }
     {
-        let numbers = row_edges(alloc, edges, row)?;
+        let numbers = edges_below(alloc, edges, &shared.stops, index)?;
         let mut known = Known::new(alloc, edges.edges().len())?;
         find_sides(alloc, edges, numbers.as_slice(), &mut known, &shared.reach)?;
-        let passed = first_above(shared.ends.as_slice(), 0, row);
         Ok(Line {
-            row,
             numbers,
             known,
-            passed,
+            place: 0,
         })
     }
 
-    /// Returns the line of a later row. Of the edges of this line those that end before it are left out. The
-    /// starts, in order, are those of edges that begin behind this line, none of them before that row.
+    /// Returns the line once the stop is passed, and writes the labels of the edges that begin there.
     ///
     /// # Errors
     ///
     /// `NoMemory`, if an allocation fails.
-    pub fn later(
+    pub fn past(
         self,
         alloc: Global,
         edges: &CleanEdges,
         shared: &Shared,
-        row: i32,
-        starts: &[Start],
+        stop: Stop,
+        op: Op,
+        labels: &mut Vec<bool>,
     ) -> Result<Line, NoMemory>
+        requires sound { AreSound edges.now }
         requires shared { IsShared edges.now shared.now }
-        requires line { IsLine edges.now shared.now self }
-        requires later { self.row ≤ℤ row }
-        requires starts { All (IsStartOf edges.now) starts.now }
-        requires rows { AreByRow starts.now }
-        requires behind { (s : Start) → Contains starts.now s → row ≤ℤ s.y }
-        requires begun { (n : ℕ) → n < length edges.now.0 → self.row <ℤ (upward (edge_at edges.now n)).0.y
-            → (upward (edge_at edges.now n)).0.y ≤ℤ row → BeginsBy starts.now row n }
-        ensures line { IfOk result (IsLine edges.now shared.now) }
-        ensures row { IfOk result (λ line. line.row ≡ row) }
+        requires stop { IsStopOf edges.now shared.now.stops stop }
+        requires line { IsLineAt edges.now stop.point self }
+        requires count { length labels.old.items ≡ length edges.now.0 }
+        ensures line { IfOk result (IsLinePast edges.now stop.point) }
+        ensures count { length labels.new.items ≡ length edges.now.0 }
+        ensures kept { OnOk result ((n : ℕ) → HasLabel op edges.now labels.old.items n
+            → HasLabel op edges.now labels.new.items n) }
+        ensures labels { OnOk result ((n : ℕ) → n < length edges.now.0 → HasLow edges.now stop.point n
+            → HasLabel op edges.now labels.new.items n) }
     {
-        let mut numbers = self.numbers;
-        let mut known = self.known;
-        let ends = shared.ends.as_slice();
-        let from = self.row;
-        let passed = move_on(
+        let begun = shared.stops.begun(stop);
+        let rising = rising_count(edges, stop.point, begun);
+        let group = self.group_at(edges, stop.point);
+        let behind = &self.numbers[group.to..];
+        let (known, reach) = (&self.known, &shared.reach);
+        label_levels(
             alloc,
             edges,
-            &mut numbers,
-            from,
-            row,
-            ends,
-            self.passed,
-            starts,
-        )?;
-        forget_ended(edges, &mut known, ends, self.passed, passed, row);
-        let reach = &shared.reach;
-        find_begun(alloc, edges, &numbers, starts, row, &mut known, reach)?;
-        Ok(Line {
-            row,
-            numbers,
+            behind,
+            &begun[rising..],
             known,
-            passed,
-        })
+            reach,
+            op,
+            labels,
+        )?;
+        let line = self.with_begun(alloc, edges, reach, group, &begun[..rising], op, labels)?;
+        Ok(line)
     }
 
-    /// Returns whether the operation's answers differ on the two sides of the edge of this number, which
-    /// begins in this row.
+    /// Returns where the edges stand that end at the point.
+    fn group_at(&self, edges: &CleanEdges, point: Point) -> Group
+        requires sound { AreSound edges.now }
+        requires end { IsEndPoint edges.now point }
+        requires status { IsStatus edges.now point self.now.numbers.items }
+        ensures point { result.point ≡ point }
+        ensures group { IsGroup edges.now point self.now.numbers.items result.from result.to }
+    {
+        let from = place_of_point(edges, self.numbers.as_slice(), point, self.place);
+        let to = group_end(edges, self.numbers.as_slice(), point, from);
+        Group { point, from, to }
+    }
+
+    /// Returns the line with the edges of the group replaced by those that rise from its point, and writes the
+    /// labels of these.
     ///
     /// # Errors
     ///
-    /// `AllocError`, if an allocation fails.
-    pub fn differs(
-        &self,
+    /// `NoMemory`, if an allocation fails.
+    fn with_begun(
+        self,
         alloc: Global,
         edges: &CleanEdges,
-        shared: &Shared,
-        number: usize,
+        reach: &Reach,
+        group: Group,
+        begun: &[usize],
         op: Op,
-    ) -> Result<bool, AllocError>
-        requires shared { IsShared edges.now shared.now }
-        requires line { IsLine edges.now shared.now self.now }
-        requires given { number < length edges.now.0 }
-        requires row { (upward (edge_at edges.now number)).0.y ≡ self.now.row }
-        ensures { IfOk result (λ label.
-            label ≡ differs (answer op) (owned_items edges.now) (owned_item_at edges.now number)) }
+        labels: &mut Vec<bool>,
+    ) -> Result<Line, NoMemory>
+        requires sound { AreSound edges.now }
+        requires reach { IsReach edges.now reach.now }
+        requires end { IsEndPoint edges.now group.point }
+        requires line { IsLineAt edges.now group.point self }
+        requires group { IsGroup edges.now group.point self.numbers.items group.from group.to }
+        requires begun { AreBegunAt edges.now group.point begun.now }
+        requires count { length labels.old.items ≡ length edges.now.0 }
+        ensures line { IfOk result (IsLinePast edges.now group.point) }
+        ensures count { length labels.new.items ≡ length edges.now.0 }
+        ensures kept { OnOk result ((n : ℕ) → HasLabel op edges.now labels.old.items n
+            → HasLabel op edges.now labels.new.items n) }
+        ensures labels { OnOk result (All (HasLabel op edges.now labels.new.items) begun.now) }
     {
-        if let Some(sides) = self.known.get(number) {
-            return Ok(sides.differs(op));
-        }
-        let numbers = self.numbers.as_slice();
-        let gap = gap_beside(edges, numbers, edges.edges()[number]);
-        let sides = Sides::of(
+        let mut numbers = self.numbers;
+        let mut known = self.known;
+        forget(&mut known, &numbers[group.from..group.to]);
+        replace(alloc, &mut numbers, group.from, group.to, begun)?;
+        let behind = &numbers[group.from..];
+        find_begun(
             alloc,
             edges,
-            numbers,
-            gap,
-            gap,
-            &self.known,
-            &shared.reach,
-            number,
+            behind,
+            begun.len(),
+            &mut known,
+            reach,
+            op,
+            labels,
         )?;
-        Ok(sides.differs(op))
+        Ok(Line {
+            numbers,
+            known,
+            place: group.from,
+        })
     }
 }
 
-/// Forgets the sides of the edges that end between these places of the ends, if they don't cross the row.
-fn forget_ended(
-    edges: &CleanEdges,
-    known: &mut Known,
-    ends: &[End],
-    from: usize,
-    to: usize,
-    row: i32,
-)
-    requires ends { All (IsEdgeEnd edges.now) ends.now }
-    requires known { AreKnown edges.now known.old }
-    ensures known { AreKnown edges.now known.new }
-    ensures kept { (n : ℕ) → CrossesRow edges.now.0 row n → IsKnown known.old n → IsKnown known.new n }
-{
-    for index in from..to.min(ends.len()) {
-        let number = ends[index].number;
-        if !crosses_row(edges.edges()[number], row) {
-            known.forget(number);
-        }
-    }
-}
-
-/// Makes the edges of a row those of a later one: takes out those that end below it, and puts in those that
-/// begin in it. Of the ends, `passed` are below the row; returns how many are below the later one.
-fn move_on(
+/// Returns the edges of the row below the stop of this index, which is the first of its row.
+fn edges_below(
     alloc: Global,
     edges: &CleanEdges,
-    numbers: &mut Vec<usize>,
-    from: i32,
-    row: i32,
-    ends: &[End],
-    passed: usize,
-    starts: &[Start],
-) -> Result<usize, AllocError>
-    requires sound { AreSound edges.now }
-    requires edges { AreRowEdges edges.now.0 from numbers.old.items }
-    requires ends { AreEnds edges.now from ends.now passed }
-    requires later { from ≤ℤ row }
-    requires starts { All (IsStartOf edges.now) starts.now }
-    requires rows { AreByRow starts.now }
-    requires behind { (s : Start) → Contains starts.now s → row ≤ℤ s.y }
-    requires begun { (n : ℕ) → n < length edges.now.0 → from <ℤ (upward (edge_at edges.now n)).0.y
-        → (upward (edge_at edges.now n)).0.y ≤ℤ row → BeginsBy starts.now row n }
-    ensures edges { OnOk result (AreRowEdges edges.now.0 row numbers.new.items) }
-    ensures ends { IfOk result (λ passed. AreEnds edges.now row ends.now passed) }
+    stops: &Stops,
+    index: usize,
+) -> Result<Vec<usize>, NoMemory>
+    requires stops { AreStops edges.now stops.now }
+    requires index { index < length stops.now.list.items }
+    requires first { (k : ℕ) (d : Stop) → k < index → (slice_index_or stops.now.list.items k d).point.y
+        <ℤ (slice_index_or stops.now.list.items index d).point.y }
+    ensures { IfOk result (λ numbers. (d : Stop)
+        → AreRowEdges edges.now.0 ((slice_index_or stops.now.list.items index d).point.y -ℤ pos 1) numbers.items) }
 {
-    let below = without_ended(alloc, edges, numbers, from, row, ends, passed)?;
-    insert_begun(edges, numbers, starts, row)?;
-    Ok(below)
+    if index == 0 {
+        return Ok(Vec::new(alloc));
+    }
+    let row = row_below(stops.stops(), index);
+    row_edges(alloc, edges, row)
+}
+
+/// Returns the row below a stop that isn't in the lowest row of all.
+fn row_below(stops: &[Stop], index: usize) -> i32
+    requires index { index < length stops.now }
+    requires some { 0 < index }
+    requires first { (d : Stop) → (slice_index_or stops.now (index - 1) d).point.y
+        <ℤ (slice_index_or stops.now index d).point.y }
+    ensures { (d : Stop) → result ≡ (slice_index_or stops.now index d).point.y -ℤ pos 1 }
+{
+    let below = stops[index - 1].point.y;
+    let here = stops[index].point.y;
+    prove!(below < here);
+    here - 1
 }

@@ -2,7 +2,7 @@
 ghost use Rattle.std.specs.Prelude.{IfOk};
 ghost use Rattle.face_labels.specs.RowSides.{IsShared};
 
-use face_sweep::{End, Reach, ends_of};
+use face_sweep::{Reach, Stops};
 use lay_point::NoMemory;
 use snap_chains::CleanEdges;
 use std::alloc::Global;
@@ -12,8 +12,8 @@ use std::alloc::Global;
 pub struct Shared {
     /// How far each shape reaches.
     pub(crate) reach: Reach,
-    /// Where the edges end, in order of the heights.
-    pub(crate) ends: Vec<End>,
+    /// The points at which edges begin or end, in the order of the sweep.
+    pub(crate) stops: Stops,
 }
 
 impl Shared {
@@ -30,7 +30,7 @@ impl Shared {
         ensures { IfOk result (IsShared edges.now) }
     {
         let reach = Reach::of_edges(alloc, edges)?;
-        let ends = ends_of(alloc, edges.edges())?;
-        Ok(Shared { reach, ends })
+        let stops = Stops::of_edges(alloc, edges)?;
+        Ok(Shared { reach, stops })
     }
 }

@@ -1,5 +1,5 @@
 -- Bands in which edges begin.
-use Rattle.std.proofs.Common.{◌≡◌, ℕ, ◌+◌, ◌<◌, ◌≤◌, true, List, length, get_or, ℤ, ◌≤ℤ◌, ◌<ℤ◌, subst}
+use Rattle.std.proofs.Common.{◌≡◌, ℕ, ◌+◌, ◌<◌, ◌≤◌, true, List, length, get_or, ◌≤ℤ◌, ◌<ℤ◌, subst}
 use Rattle.std.proofs.Common.{ap, ◌∙◌, ⊎_elim, arith}
 use Rattle.std.specs.Prelude.{int_le, int_lt}
 use Rattle.std.proofs.lemmas.Bool.{and_from, and_parts, cases_lt}

@@ -1,7 +1,7 @@
 -- The place on an edge at which it is judged. It divides the way from the lower end to the upper one as 1 to a weight.
-use Rattle.std.proofs.Common.{◌≡◌, Bool, true, false, ◌||◌, cond, [], ◌∷◌}
-use Rattle.std.proofs.Common.{ℤ, pos, ◌+ℤ◌, ◌-ℤ◌, ◌*ℤ◌, ◌≤ℤ◌, ◌<ℤ◌, refl, sym, ap, ◌∙◌, arith}
-use Rattle.std.specs.Prelude.{int_lt}
+use Rattle.std.proofs.Common.{◌≡◌, Bool, true, false, cond, [], ◌∷◌}
+use Rattle.std.proofs.Common.{ℤ, pos, ◌+ℤ◌, ◌-ℤ◌, ◌*ℤ◌, ◌≤ℤ◌, ◌<ℤ◌, refl, ◌∙◌, arith}
+use Rattle.std.specs.Prelude.{if◌then◌else◌, int_lt}
 use Rattle.std.proofs.lemmas.Int.{ints}
 use Rattle.lay_point.proofs.Polynomials.{#, lit, ◌⊕◌, ◌⊖◌, ◌⊗◌, identity}
 use Rattle.lay_point.proofs.Signs.{linear, times_lt}
@@ -9,9 +9,12 @@ use Rattle.lay_point.specs.declared.point.Point.{Point}
 use Rattle.lay_point.specs.Parity.{distance_right}
 use Rattle.snap_pixels.specs.Segments.{cross}
 use Rattle.face_side_laws.specs.Slides.{IsPlaceInside}
-use Rattle.face_side_laws.proofs.Rows.{IsInRow}
-use Rattle.face_rows.specs.Beside.{is_right_of, weight}
 use Rattle.face_rows.specs.Rows.{rise, upward}
+
+-- the weight of an edge's lower end: of an edge that isn't level the place is then half a unit above that end, and of a level edge it
+-- is the midpoint
+abbrev pub weight : Point × Point → ℤ
+weight e = if int_lt (pos 0) (rise e) then rise e -ℤ pos 1 else pos 1
 
 -- the place of this weight
 abbrev pub near_k : ℤ → ℤ
@@ -36,11 +39,6 @@ at_x e = near (weight e) (upward e).0.x (upward e).1.x
 
 abbrev pub at_y : Point × Point → ℤ
 at_y e = near (weight e) (upward e).0.y (upward e).1.y
-
--- what the code tests is on which side of it the other edge is
-pub right_there : (e f : Point × Point)
-    → is_right_of e f ≡ int_lt (pos 0) (distance_right (at_k e) (at_x e) (at_y e) (upward f).0 (upward f).1)
-right_there e f = ap (int_lt (pos 0)) (sym (distance_near (weight e) (upward e).0 (upward e).1 (upward f).0 (upward f).1))
 
 -- ---- the weight
 pub record IsWeight (a b : Point) (w : ℤ) : Type 0 where
@@ -69,17 +67,6 @@ weight_of e = by_test (int_lt (pos 0) (rise e)) refl
 -- ---- where the place is
 next_times : (w a : ℤ) → (w +ℤ pos 1) *ℤ a ≡ w *ℤ a +ℤ a
 next_times w a = identity (w ∷ a ∷ []) ((# 0 ⊕ lit (pos 1)) ⊗ # 1) (# 0 ⊗ # 1 ⊕ # 1) refl
-
-next_times_more : (w a : ℤ) → (w +ℤ pos 1) *ℤ (a +ℤ pos 1) ≡ (w *ℤ a +ℤ a) +ℤ (w +ℤ pos 1)
-next_times_more w a = identity (w ∷ a ∷ []) ((# 0 ⊕ lit (pos 1)) ⊗ (# 1 ⊕ lit (pos 1))) ((# 0 ⊗ # 1 ⊕ # 1) ⊕ (# 0 ⊕ lit (pos 1))) refl
-
--- in the row of the lower end
-pub near_in_row : (w : ℤ) (a b : Point) → a.y ≤ℤ b.y → IsWeight a b w → IsInRow a.y (near_k w) (near w a.y b.y)
-near_in_row w a b rises h = record {
-  scale = omega (arith, linear, h.whole);
-  low = omega (arith, linear, next_times w a.y);
-  high = omega (arith, linear, next_times_more w a.y, h.enough);
-}
 
 -- inside an edge that isn't level
 pub near_inside : (w : ℤ) (a b : Point) → a.y <ℤ b.y → pos 1 ≤ℤ w → IsPlaceInside a b (near_k w) (near w a.x b.x) (near w a.y b.y)

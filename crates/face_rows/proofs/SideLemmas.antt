@@ -1,5 +1,5 @@
 -- The shapes that hold beside an edge hold at the place at which it is judged, and in each row that it crosses.
-use Rattle.std.proofs.Common.{◌≡◌, ◌⊎◌, inl, inr, Bool, true, false, ◌&&◌, ◌||◌, cond, List, [], ◌∷◌, map}
+use Rattle.std.proofs.Common.{◌≡◌, ◌⊎◌, inl, inr, Bool, true, false, ◌&&◌, cond, List, [], ◌∷◌, map}
 use Rattle.std.proofs.Common.{ℤ, pos, ◌+ℤ◌, ◌-ℤ◌, ◌*ℤ◌, ◌≤ℤ◌, ◌<ℤ◌, refl, sym, ap, subst, ◌∙◌, ⊎_elim, arith}
 use Rattle.std.specs.Prelude.{int_le, int_lt}
 use Rattle.std.specs.List.{zip}
@@ -8,7 +8,7 @@ use Rattle.lay_point.proofs.Polynomials.{#, lit, ◌⊕◌, ◌⊗◌, identity}
 use Rattle.lay_point.proofs.Signs.{below_or_not, linear}
 use Rattle.lay_point.specs.declared.point.Point.{Point}
 use Rattle.lay_point.specs.Edges.{is_before, same_edge, touches}
-use Rattle.lay_point.specs.Parity.{xor, parity, is_crossed}
+use Rattle.lay_point.specs.Parity.{parity, is_crossed}
 use Rattle.lay_point.proofs.EdgeOrder.{before_by_test, before_is_strict}
 use Rattle.lay_point.proofs.Members.{Has, contains}
 use Rattle.lay_point.proofs.Parity.{parity-map, parity_agree}
@@ -22,9 +22,8 @@ use Rattle.face_rows.specs.Labels.{Item, odd_of, owned_items}
 use Rattle.face_rows.specs.Laws.{AreLesserFirst}
 use Rattle.face_rows.proofs.CutLaw.{same_edge-Decides}
 use Rattle.face_rows.proofs.UpwardLemmas.{either, up_crossed, up_meet, up_rises, up_touches}
-use Rattle.face_rows.specs.Beside.{weight}
 use Rattle.face_rows.specs.Rows.{upward}
-use Rattle.face_rows.proofs.NearLemmas.{at_k, at_x, at_y, near, near_inside, near_k, weight_of}
+use Rattle.face_rows.proofs.NearLemmas.{at_k, at_x, at_y, near, near_inside, near_k, weight, weight_of}
 
 has_upward : (items : List Item) (q : Item) → Has (map (λ (p : Item). (upward p.0, p.1)) items) q → (p : Item) × Has items p
     × ((upward p.0, p.1) ≡ q)

@@ -36,13 +36,17 @@ answer_on op shapes inside = op (some_of First shapes inside) (some_of Second sh
 unfoldable pub answer_at : (Bool → Bool → Bool) → List Item → ℤ → ℤ → ℤ → Bool
 answer_at op items k x y = answer_on op (listed_shapes items) (λ o. odd_of items o k x y)
 
--- the answers on the two sides of the edge at a place on it: on its other side the shapes that list it are turned
-abbrev pub differs_at : (Bool → Bool → Bool) → List Item → Item → ℤ → ℤ → ℤ → Bool
-differs_at op items p k x y =
-    xor (answer_on op (listed_shapes items) (λ o. odd_of items o k x y))
-    (answer_on op (listed_shapes items) (λ o. xor (is_owner_listed o p.1) (odd_of items o k x y)))
+-- what holds on an edge's other side: the shapes that list it are turned
+abbrev pub turned_at : Item → (Owner → Bool) → Owner → Bool
+turned_at item holds o = xor (is_owner_listed o item.1) (holds o)
 
--- the answers on its two sides differ, at the midpoint
+-- the operation's answers on the two sides of the edge, at a place on it
+abbrev pub differs_at : (Bool → Bool → Bool) → List Item → Item → ℤ → ℤ → ℤ → Bool
+differs_at op items item k x y =
+    xor (answer_on op (listed_shapes items) (λ o. odd_of items o k x y))
+    (answer_on op (listed_shapes items) (turned_at item (λ o. odd_of items o k x y)))
+
+-- they differ, at the edge's midpoint
 unfoldable pub differs : (Bool → Bool → Bool) → List Item → Item → Bool
 differs op items p = differs_at op items p (pos 2) (p.0.0.x +ℤ p.0.1.x) (p.0.0.y +ℤ p.0.1.y)
 

@@ -1,5 +1,4 @@
 pub mod Bands
-pub mod Beside
 pub mod Crossings
 pub mod Labels
 pub mod Laws

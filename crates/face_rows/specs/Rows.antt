@@ -29,9 +29,6 @@ crossing row e =
 abbrev pub IsLeftInRow : ℤ → Point × Point → Point × Point → Type 0
 IsLeftInRow row e f = (rise f *ℤ crossing row e) <ℤ (rise e *ℤ crossing row f)
 
-abbrev pub is_left_in_row : ℤ → Point × Point → Point × Point → Bool
-is_left_in_row row e f = int_lt (rise f *ℤ crossing row e) (rise e *ℤ crossing row f)
-
 -- the edge of this number crosses the row
 abbrev pub CrossesRow : List (Point × Point) → ℤ → ℕ → Type 0
 CrossesRow edges row n = (n < length edges) × ((d : Point × Point) → IsTrue (crosses_row row (slice_index_or edges n d)))

@@ -1,5 +1,4 @@
-//! Which edges cross a row, in which order, what is right of an edge, and which edges are an
-//! operation's.
+//! Which edges cross a row, in which order, and which edges are an operation's.
 //!
 //! The row r is the height r + 1/2, which no end of an edge is at. Edges are those of rounded
 //! inputs, which are clean: they meet at their ends only, so the edges of a row are in the same
@@ -15,9 +14,6 @@
 //!   the type keeps that its denominator is positive and that both numbers are within bounds.
 //! - [`row_edges`] lists the numbers of the edges that cross a row, from left to right
 //!   (`AreRowEdges` of `specs/Rows.antt`).
-//! - Each edge is judged close to its lower end (`specs/Beside.antt`): at its crossing of the row
-//!   there, and at its midpoint if it is level. The edges to its right there ([`is_right_of`]) tell
-//!   which shapes hold.
 //!
 //! # Laws
 //!
@@ -34,13 +30,12 @@
 //!
 //! # Files
 //!
-//! - `op.rt`, `band.rt`, `rows.rt`, `crossing.rt`, `beside.rt`: a word of the model each.
+//! - `op.rt`, `band.rt`, `rows.rt`, `crossing.rt`: a word of the model each.
 //! - `directed.rt`: edges from their lower ends to their upper ones; `exact.rt`: arithmetic.
 //! - `laws.rt`, `label_laws.rt`: the laws.
 #![tactic(auto)]
 
 mod band;
-mod beside;
 mod crossing;
 mod directed;
 mod exact;
@@ -50,7 +45,6 @@ mod op;
 mod rows;
 
 pub use band::Band;
-pub use beside::is_right_of;
 pub use crossing::Crossing;
 pub use directed::{crosses_row, upward};
 pub use label_laws::operations_tell_places;

@@ -1,6 +1,6 @@
 -- An edge's label, from the shapes that hold on its sides; and those of all edges of a row.
-use Rattle.std.proofs.Common.{◌≡◌, inl, inr, ℕ, zero, suc, ◌<◌, ◌≤◌, Bool, true, false, ◌&&◌, List, [], ◌∷◌}
-use Rattle.std.proofs.Common.{◌+◌, ℤ, pos, ◌+ℤ◌, ◌<ℤ◌, length, get_or, drop, refl, sym, subst, ◌∙◌, arith}
+use Rattle.std.proofs.Common.{◌≡◌, inl, inr, ℕ, zero, suc, ◌<◌, Bool, true, false, ◌&&◌, List, [], ◌∷◌}
+use Rattle.std.proofs.Common.{◌+◌, ℤ, pos, ◌+ℤ◌, ◌<ℤ◌, length, get_or, refl, sym, subst, ◌∙◌, arith}
 use Rattle.std.specs.Prelude.{int_lt}
 use Rattle.std.proofs.lemmas.Int.{ints}
 use Rattle.std.proofs.lemmas.List.{get_or_default}
@@ -15,19 +15,15 @@ use Rattle.snap_chains.specs.Rounded.{Owned, is_owner_listed}
 use Rattle.face_rows.specs.Labels.{Item, differs, listed_shapes, owned_items}
 use Rattle.face_rows.specs.declared.op.Op.{Op}
 use Rattle.face_sweep.specs.declared.sides.Sides.{Sides}
-use Rattle.face_rows.specs.Beside.{weight}
-use Rattle.face_rows.specs.Lines.{BeginsAt, EndsBefore, edge_at, nowhere, owned_item_at, owners_at}
+use Rattle.face_rows.specs.Lines.{edge_at, nowhere, owned_item_at, owners_at}
 use Rattle.face_rows.specs.Operations.{answer}
 use Rattle.face_rows.specs.Rows.{AreRowEdges, upward}
-use Rattle.face_sweep.specs.Sides.{AreBehind, AreSidesOf, IsDifference, holds_beside, is_odd_in}
+use Rattle.face_sweep.specs.Sides.{AreBehind, AreSidesOf, IsDifference, holds_beside}
 use Rattle.face_rows.specs.Sound.{AreSound}
 use Rattle.face_rows.proofs.Shapes.{listed_has}
 use Rattle.face_rows.proofs.JudgeLemmas.{IsBeforeIn, before_rising, before_strict, is_right, odd_behind}
-use Rattle.face_rows.proofs.NearLemmas.{at_k, at_x, at_y, near_in_row, right_there, weight_of}
 use Rattle.face_rows.proofs.RowLemmas.{before_by_number, has_get, spans_of}
-use Rattle.face_rows.proofs.SideLemmas.{crossed_beside, judged_beside}
-use Rattle.face_rows.proofs.UpwardLemmas.{up_rises}
-use Rattle.face_sweep.proofs.StateLemmas.{sides_agree}
+use Rattle.face_rows.proofs.SideLemmas.{crossed_beside}
 
 -- a shape of which there is an odd number of edges is listed
 odd_shape : (f : Item → Bool) (o : Owner) (items : List Item) → parity (λ p. is_owner_listed o p.1 && f p) items ≡ true
@@ -52,27 +48,6 @@ zip_at (e ∷ es) [] n count less = absurd (omega arith)
 zip_at (e ∷ es) (o ∷ os) zero count less = inl refl
 zip_at (e ∷ es) (o ∷ os) (suc n) count less = inr (zip_at es os n (omega arith) (omega arith))
 
--- what is known of the row and of the gap
-pub record IsJudged (r : Owned) (n : ℕ) (numbers : List ℕ) (gap : ℕ) : Type 0 where
-  pub sound : AreSound r
-  pub given : n < length r.0
-  pub row : AreRowEdges r.0 (upward (edge_at r n)).0.y numbers
-  pub bound : gap ≤ length numbers
-  pub ends : EndsBefore r numbers (edge_at r n) gap
-  pub begins : BeginsAt r numbers (edge_at r n) gap
-
--- what those behind the gap tell is what holds beside the edge
-pub gap_beside : (r : Owned) (n : ℕ) (numbers : List ℕ) (gap : ℕ) → IsJudged r n numbers gap → (o : Owner)
-    → is_odd_in r (drop gap numbers) o ≡ holds_beside r n o
-gap_beside r n numbers gap h o =
-    let e = edge_at r n in
-    let there = zip_at r.0 r.1 n h.sound.paired h.given in
-    odd_behind r h.sound.rising h.sound.paired h.sound.clean (upward e).0.y (at_k e) (at_x e) (at_y e)
-    (near_in_row (weight e) (upward e).0 (upward e).1 (up_rises e) (weight_of e)) numbers h.row gap
-    (λ j next. sym (right_there e (edge_at r (get_or numbers j 0))) ∙ h.ends j next)
-    (λ less. sym (right_there e (edge_at r (get_or numbers gap 0))) ∙ h.begins less) h.bound o
-    ∙ judged_beside r h.sound.even h.sound.clean h.sound.lesser o (owned_item_at r n) there
-
 -- the label, from what holds on the edge's sides
 pub label_beside : (op : Op) (r : Owned) (n : ℕ) → AreSound r → n < length r.0 → (sides : Sides)
     → AreSidesOf (owners_at r n) (holds_beside r n) sides
@@ -86,13 +61,6 @@ label_beside op r n sound given sides own result is =
     is (holds_beside r n) owners (listed_shapes items) own
     (λ o t. contains (listed_shapes items) o (odd_shape (λ p. is_crossed (pos 2) (e.0.x +ℤ e.1.x) (e.0.y +ℤ e.1.y) p.0) o items t))
     (λ o m. contains (listed_shapes items) o (shapes_have items (owned_item_at r n) o there (listed_has o owners m)))
-
-pub label_of : (op : Op) (r : Owned) (n : ℕ) (numbers : List ℕ) (gap : ℕ) → IsJudged r n numbers gap → (sides : Sides)
-    → AreSidesOf (owners_at r n) (is_odd_in r (drop gap numbers)) sides
-    → (result : Bool) → IsDifference op sides result → result ≡ differs (answer op) (owned_items r) (owned_item_at r n)
-label_of op r n numbers gap h sides own result is =
-    label_beside op r n h.sound h.given sides (sides_agree (owners_at r n) (is_odd_in r (drop gap numbers)) (holds_beside r n) sides
-    (gap_beside r n numbers gap h) own) result is
 
 -- ---- all edges of a row
 -- what those behind an edge of a row tell is what holds beside it

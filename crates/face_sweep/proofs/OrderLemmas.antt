@@ -1,46 +1,32 @@
--- The order of a row's edges: it is kept from row to row, and an edge that begins has its place in it.
-use Rattle.std.proofs.Common.{◌≡◌, ◌≢◌, ◌⊎◌, inl, inr, ⊎_elim, ℕ, zero, suc, ◌<◌, ◌≤◌, Bool, true, false, not, ◌&&◌, cond, List, [], ◌∷◌}
-use Rattle.std.proofs.Common.{length, get_or, Contains, ℤ, pos, ◌+ℤ◌, ◌-ℤ◌, ◌*ℤ◌, ◌≤ℤ◌, ◌<ℤ◌, refl, sym, ap, subst, ◌∙◌, arith}
-use Rattle.std.specs.Prelude.{int_lt}
-use Rattle.std.specs.List.{insert}
-use Rattle.std.proofs.lemmas.Int.{ints}
+-- The order of a row's edges is kept from row to row.
+use Rattle.std.proofs.Common.{◌≡◌, ◌≢◌, inl, inr, ℕ, ◌<◌, Bool, true, false, not, ◌&&◌, List, [], ◌∷◌}
+use Rattle.std.proofs.Common.{length, Contains, ℤ, pos, ◌+ℤ◌, ◌-ℤ◌, ◌*ℤ◌, ◌≤ℤ◌, ◌<ℤ◌, refl, sym, subst, ◌∙◌, arith}
+use Rattle.std.specs.Prelude.{int_le, int_lt}
+use Rattle.std.proofs.lemmas.Bool.{and_from}
 use Rattle.std.proofs.lemmas.List.{get_or_default}
-use Rattle.std.proofs.lemmas.List.Sorted.{Contains-permutation, IsPermutation-insert, IsPermutation-sym}
-use Rattle.lay_point.proofs.Polynomials.{#, lit, ◌⊕◌, ◌⊖◌, ◌⊗◌, identity}
-use Rattle.lay_point.proofs.Signs.{below_or_not, below_or_same, linear, times_le}
-use Rattle.lay_point.proofs.Tests.{false_le, lt_false, lt_true, true_le}
+use Rattle.lay_point.proofs.Polynomials.{#, ◌⊗◌, identity}
+use Rattle.lay_point.proofs.Signs.{linear, times_le}
+use Rattle.lay_point.proofs.Tests.{false_le, true_le, true_lt}
 use Rattle.lay_point.specs.declared.point.Point.{Point}
 use Rattle.lay_point.specs.Edges.{IsEdgeBefore}
 use Rattle.lay_point.specs.Parity.{xor, distance_right, is_crossed}
 use Rattle.lay_point.specs.Rising.{IsRising}
-use Rattle.lay_point.proofs.Members.{Has, contains, has}
+use Rattle.lay_point.proofs.Members.{Has, contains}
 use Rattle.snap_edge_laws.specs.Meeting.{MeetAtEnds}
 use Rattle.snap_chains.specs.Rounded.{AreClean, Owned}
-use Rattle.face_side_laws.proofs.Rows.{
-  IsLeft,
-  Spans,
-  apart_in_row,
-  crossed_spans,
-  rises_in,
-  row_distance,
-  row_inside,
-  row_k,
-  row_place,
-  row_x,
-  row_y,
-  spans_crossed,
-}
+use Rattle.face_side_laws.proofs.Rows.{IsLeft, Spans, crossed_spans, rises_in, row_distance, row_inside, row_k}
+use Rattle.face_side_laws.proofs.Rows.{row_place, row_x, row_y, spans_crossed}
 use Rattle.face_side_laws.proofs.Slide.{slide_edge, starts}
-use Rattle.face_sweep.specs.declared.start.Start.{Start}
-use Rattle.face_rows.specs.Beside.{is_right_of, weight}
-use Rattle.face_rows.specs.Lines.{BeginsAt, EndsBefore, edge_at, nowhere}
-use Rattle.face_rows.specs.Rows.{AreRowEdges, AreSomeRowEdges, CrossesRow, IsLeftOf, crosses_row, crossing, rise, upward}
-use Rattle.face_sweep.specs.Starts.{BeginsBy}
-use Rattle.face_sweep.proofs.KeptLemmas.{crosses}
+use Rattle.face_rows.specs.Lines.{edge_at, nowhere}
+use Rattle.face_rows.specs.Rows.{AreSomeRowEdges, CrossesRow, IsLeftOf, crosses_row, crossing, rise, upward}
 use Rattle.face_rows.proofs.JudgeLemmas.{IsBeforeIn, before_rising, before_strict}
-use Rattle.face_rows.proofs.NearLemmas.{near_k, near, right_there}
 use Rattle.face_rows.proofs.RowLemmas.{has_get, other_edge, spans_of}
 use Rattle.face_rows.proofs.UpwardLemmas.{up_meet}
+
+-- ---- rows
+pub crosses : (row : ℤ) (e : Point × Point) → (upward e).0.y ≤ℤ row → row <ℤ (upward e).1.y → crosses_row row e ≡ true
+crosses row e low high =
+    and_from (int_le (upward e).0.y row) (int_lt row (upward e).1.y) (true_le (upward e).0.y row low) (true_lt row (upward e).1.y high)
 
 -- ---- from row to row
 abbrev passes : Point → Point → ℤ → ℤ → ℤ → ℤ → Point → Bool
@@ -106,60 +92,6 @@ rising_agree Before After (x ∷ y ∷ ys) agree h = (
   rising_agree Before After (y ∷ ys) (λ a b in_a in_b. agree a b (inr in_a) (inr in_b)) h.1,
 )
 
-pub rising_map : (Before After : ℕ → ℕ → Type 0) → ((x y : ℕ) → Before x y → After x y) → (xs : List ℕ) → IsRising Before xs
-    → IsRising After xs
-rising_map Before After f [] h = tt
-rising_map Before After f (x ∷ []) h = tt
-rising_map Before After f (x ∷ y ∷ ys) h = (f x y h.0, rising_map Before After f (y ∷ ys) h.1)
-
--- an element between its neighbours
-pub rising_insert : (Before : ℕ → ℕ → Type 0) (xs : List ℕ) (gap n : ℕ) → gap ≤ length xs → IsRising Before xs
-    → ((k : ℕ) → suc k ≡ gap → Before (get_or xs k 0) n) → (gap < length xs → Before n (get_or xs gap 0))
-    → IsRising Before (insert xs gap n)
-rising_insert Before [] zero n bound h before behind = tt
-rising_insert Before [] (suc gap) n bound h before behind = absurd (omega arith)
-rising_insert Before (x ∷ xs) zero n bound h before behind = (behind (omega arith), h)
-rising_insert Before (x ∷ []) (suc zero) n bound h before behind = (before zero refl, tt)
-rising_insert Before (x ∷ []) (suc (suc gap)) n bound h before behind = absurd (omega arith)
-rising_insert Before (x ∷ y ∷ ys) (suc zero) n bound h before behind = (before zero refl, (behind (omega arith), h.1))
-rising_insert Before (x ∷ y ∷ ys) (suc (suc gap)) n bound h before behind = (
-  h.0,
-  rising_insert Before (y ∷ ys) (suc gap) n (omega arith) h.1 (λ k next. before (suc k) (ap suc next))
-      (λ less. behind (omega arith)),
-)
-
--- ---- an edge that begins in the row
--- the place where it is judged is where it crosses the row
-begin_k : (a b : Point) → near_k (pos 2 *ℤ (b.y -ℤ a.y) -ℤ pos 1) ≡ pos 2 *ℤ (b.y -ℤ a.y)
-begin_k a b = identity (a.y ∷ b.y ∷ []) ((lit (pos 2) ⊗ (# 1 ⊖ # 0) ⊖ lit (pos 1)) ⊕ lit (pos 1)) (lit (pos 2) ⊗ (# 1 ⊖ # 0)) refl
-
-begin_x : (a b : Point) → near (pos 2 *ℤ (b.y -ℤ a.y) -ℤ pos 1) a.x b.x ≡ row_x a.y (a, b)
-begin_x a b = identity (a.x ∷ a.y ∷ b.x ∷ b.y ∷ [])
-    ((lit (pos 2) ⊗ (# 3 ⊖ # 1) ⊖ lit (pos 1)) ⊗ # 0 ⊕ # 2)
-    ((lit (pos 2) ⊗ # 3 ⊖ (lit (pos 2) ⊗ # 1 ⊕ lit (pos 1))) ⊗ # 0 ⊕ ((lit (pos 2) ⊗ # 1 ⊕ lit (pos 1)) ⊖ lit (pos 2) ⊗ # 1) ⊗ # 2) refl
-
-begin_y : (a b : Point) → near (pos 2 *ℤ (b.y -ℤ a.y) -ℤ pos 1) a.y b.y ≡ row_y a.y (a, b)
-begin_y a b = identity (a.y ∷ b.y ∷ [])
-    ((lit (pos 2) ⊗ (# 1 ⊖ # 0) ⊖ lit (pos 1)) ⊗ # 0 ⊕ # 1)
-    ((lit (pos 2) ⊗ # 0 ⊕ lit (pos 1)) ⊗ (# 1 ⊖ # 0)) refl
-
-steep : (e : Point × Point) → (upward e).0.y <ℤ (upward e).1.y → weight e ≡ rise e -ℤ pos 1
-steep e rises = ap (λ b. cond b (rise e -ℤ pos 1) (pos 1)) (positive (rise e) (omega (arith, linear)))
-  where
-    positive : (z : ℤ) → pos 0 <ℤ z → int_lt (pos 0) z ≡ true
-    positive z h = grind (arith, ints)
-
-right_in_begin : (e f : Point × Point) → (upward e).0.y <ℤ (upward e).1.y
-    → is_right_of e f ≡ int_lt (pos 0) (distance_right (row_k (upward e)) (row_x (upward e).0.y (upward e))
-    (row_y (upward e).0.y (upward e))
-    (upward f).0 (upward f).1)
-right_in_begin e f rises =
-    let u = upward e in
-    let w = steep e rises in
-    right_there e f
-    ∙ (λ i. int_lt (pos 0) (distance_right (near_k (w i)) (near (w i) u.0.x u.1.x) (near (w i) u.0.y u.1.y) (upward f).0 (upward f).1))
-    ∙ (λ i. int_lt (pos 0) (distance_right (begin_k u.0 u.1 i) (begin_x u.0 u.1 i) (begin_y u.0 u.1 i) (upward f).0 (upward f).1))
-
 -- the order of two edges by their numbers, whatever is taken for those that aren't there
 before_any_in : (r : Owned) (row : ℤ) (m n : ℕ) → CrossesRow r.0 row m → CrossesRow r.0 row n
     → (rise (edge_at r n) *ℤ crossing row (edge_at r m)) <ℤ (rise (edge_at r m) *ℤ crossing row (edge_at r n)) → IsBeforeIn r.0 row m n
@@ -179,64 +111,6 @@ module _ (r : Owned) (rising : IsRising IsEdgeBefore r.0) (clean : AreClean r.0)
       let f = edge_at r n in
       up_meet e f (clean e f (contains r.0 e (has_get r.0 m nowhere inside_m)) (contains r.0 f (has_get r.0 n nowhere inside_n))
       (other_edge r.0 m n nowhere rising apart inside_m inside_n))
-
-  module _ (n m : ℕ) (given : CrossesRow r.0 (upward (edge_at r n)).0.y n) (other : CrossesRow r.0 (upward (edge_at r n)).0.y m) where
-    abbrev row : ℤ
-    row = (upward (edge_at r n)).0.y
-
-    own : Spans row (upward (edge_at r n))
-    own = spans_of row (edge_at r n) (given.1 nowhere)
-
-    its : Spans row (upward (edge_at r m))
-    its = spans_of row (edge_at r m) (other.1 nowhere)
-
-    -- what is tested is the order in the row
-    pub right_after : is_right_of (edge_at r n) (edge_at r m) ≡ true → IsBeforeIn r.0 row n m
-    right_after t =
-        let u = upward (edge_at r n) in
-        let v = upward (edge_at r m) in
-        let far = lt_true (pos 0) (distance_right (row_k u) (row_x row u) (row_y row u) v.0 v.1)
-        (sym (right_in_begin (edge_at r n) (edge_at r m) (rises_in row u own)) ∙ t) in
-        before_any_in r row n m given other (omega (arith, linear, far, row_distance row u v))
-
-    pub left_before : n ≢ m → is_right_of (edge_at r n) (edge_at r m) ≡ false → IsBeforeIn r.0 row m n
-    left_before apart t =
-        let u = upward (edge_at r n) in
-        let v = upward (edge_at r m) in
-        let near = lt_false (pos 0) (distance_right (row_k u) (row_x row u) (row_y row u) v.0 v.1)
-        (sym (right_in_begin (edge_at r n) (edge_at r m) (rises_in row u own)) ∙ t) in
-        let le : (row_k u *ℤ row_x row v) ≤ℤ (row_k v *ℤ row_x row u) = omega (arith, linear, near, row_distance row u v) in
-        ⊎_elim (λ (less : (row_k u *ℤ row_x row v) <ℤ (row_k v *ℤ row_x row u)). before_any_in r row m n other given less)
-        (λ (same : row_k u *ℤ row_x row v ≡ row_k v *ℤ row_x row u).
-        absurd (apart_in_row row u v own its (meets n m apart given.0 other.0) same))
-        (below_or_same (row_k u *ℤ row_x row v) (row_k v *ℤ row_x row u) le)
-
-  -- the edge goes where the gap is
-  pub inserted : (numbers : List ℕ) (gap n : ℕ) → AreSomeRowEdges r.0 (upward (edge_at r n)).0.y numbers
-      → CrossesRow r.0 (upward (edge_at r n)).0.y n → gap ≤ length numbers → EndsBefore r numbers (edge_at r n) gap
-      → BeginsAt r numbers (edge_at r n) gap → ((k : ℕ) → suc k ≡ gap → n ≢ get_or numbers k 0)
-      → AreSomeRowEdges r.0 (upward (edge_at r n)).0.y (insert numbers gap n)
-  inserted numbers gap n h given bound ends begins apart =
-      let row = (upward (edge_at r n)).0.y in
-      let moved = IsPermutation-insert numbers gap n in
-      record {
-        members = λ m found. by_place m (has (n ∷ numbers) m
-            (Contains-permutation (insert numbers gap n) (n ∷ numbers) m
-            (IsPermutation-sym (n ∷ numbers) (insert numbers gap n) moved) found));
-        rising = rising_map (IsBeforeIn r.0 row) (IsLeftOf r.0 row) (λ l m b. b.left) (insert numbers gap n)
-            (rising_insert (IsBeforeIn r.0 row) numbers gap n bound
-            (before_rising r.0 row numbers (λ m found. h.members m (contains numbers m found)) h.rising)
-            (λ k next. let inside : k < length numbers = omega arith in
-            left_before n (get_or numbers k 0) given (at k inside) (apart k next) (ends k next))
-            (λ less. right_after n (get_or numbers gap 0) given (at gap less) (begins less)));
-      }
-    where
-      at : (k : ℕ) → k < length numbers → CrossesRow r.0 (upward (edge_at r n)).0.y (get_or numbers k 0)
-      at k inside = h.members (get_or numbers k 0) (contains numbers (get_or numbers k 0) (has_get numbers k 0 inside))
-
-      by_place : (m : ℕ) → Has (n ∷ numbers) m → CrossesRow r.0 (upward (edge_at r n)).0.y m
-      by_place m (inl same) = subst (CrossesRow r.0 (upward (edge_at r n)).0.y) same given
-      by_place m (inr found) = h.members m (contains numbers m found)
 
   -- edges of a row that cross a later row too are in order there
   pub still_in_order : (row row' : ℤ) (numbers : List ℕ) → row ≤ℤ row' → AreSomeRowEdges r.0 row numbers
@@ -258,36 +132,3 @@ module _ (r : Owned) (rising : IsRising IsEdgeBefore r.0) (clean : AreClean r.0)
             (before_any_in r row' m n s t left.less).left)
             (before_rising r.0 row numbers (λ n found. h.members n (contains numbers n found)) h.rising);
       }
-
--- an edge of the later row has begun, or it was in the row
-pub begun_or_there : (r : Owned) (row row' : ℤ) (numbers : List ℕ) (n : ℕ) → row ≤ℤ row' → AreRowEdges r.0 row numbers
-    → CrossesRow r.0 row' n → (row <ℤ (upward (edge_at r n)).0.y) ⊎ Contains numbers n
-begun_or_there r row row' numbers n later old cross =
-    let e = edge_at r n in
-    let s = spans_of row' e (cross.1 nowhere) in
-    ⊎_elim
-    (λ (behind : row <ℤ (upward e).0.y). inl behind)
-    (λ (before : (upward e).0.y ≤ℤ row). inr ((old.exact n).1 (
-      cross.0,
-      λ d. subst (λ f. crosses_row row f ≡ true) (get_or_default r.0 n nowhere d cross.0)
-          (crosses row e before (omega (arith, linear, s.high, later))),
-    )))
-    (below_or_not row (upward e).0.y)
-
--- the edges of the later row: those that go on, and those that have begun
-pub later_row : (r : Owned) (row row' : ℤ) (numbers kept new : List ℕ) (starts : List Start) → row ≤ℤ row' → AreRowEdges r.0 row numbers
-    → ((n : ℕ) → Contains numbers n → CrossesRow r.0 row' n → Contains kept n) → AreSomeRowEdges r.0 row' new
-    → ((n : ℕ) → Contains kept n → Contains new n) → ((n : ℕ) → BeginsBy starts row' n → CrossesRow r.0 row' n → Contains new n)
-    → ((n : ℕ) → n < length r.0 → row <ℤ (upward (edge_at r n)).0.y → (upward (edge_at r n)).0.y ≤ℤ row' → BeginsBy starts row' n)
-    → AreRowEdges r.0 row' new
-later_row r row row' numbers kept new starts later old stays some goes_on put begun = record {
-  exact = λ n. (
-    some.members n,
-    λ cross. ⊎_elim
-        (λ (behind : row <ℤ (upward (edge_at r n)).0.y).
-        put n (begun n cross.0 behind (spans_of row' (edge_at r n) (cross.1 nowhere)).low) cross)
-        (λ (there : Contains numbers n). goes_on n (stays n there cross))
-        (begun_or_there r row row' numbers n later old cross),
-  );
-  rising = some.rising;
-}

@@ -49,7 +49,7 @@ use Rattle.face_sweep.specs.declared.reach.Reach.{Reach}
 use Rattle.face_rows.specs.Lines.{edge_at, nowhere, owners_at}
 use Rattle.face_sweep.specs.Reaches.{HaveGrown, IsEdgeIn, IsEnclosed, IsInExtent, IsInReach, IsReach, IsReachIn}
 use Rattle.face_sweep.specs.Reaches.{extent_of, is_beyond, reach_list, widened}
-use Rattle.face_rows.specs.Rows.{AreRowEdges, crossing, rise, upward}
+use Rattle.face_rows.specs.Rows.{AreSomeRowEdges, crossing, rise, upward}
 use Rattle.face_rows.specs.Sound.{AreSound}
 use Rattle.face_rows.proofs.JudgeLemmas.{IsBeforeIn, before_rising, before_strict}
 use Rattle.face_rows.proofs.Shapes.{same_owner}
@@ -215,7 +215,7 @@ both_less : (limit a b : ℤ) → (int_lt limit a && int_lt limit b) ≡ true �
 both_less limit a b e =
     let both = and_parts (int_lt limit a) (int_lt limit b) e in (lt_true limit a both.0, lt_true limit b both.1)
 
-pub row_ends : (r : Owned) (reach : Reach) (row : ℤ) (numbers : List ℕ) → AreSound r → IsReach r reach → AreRowEdges r.0 row numbers
+pub row_ends : (r : Owned) (reach : Reach) (row : ℤ) (numbers : List ℕ) → AreSound r → IsReach r reach → AreSomeRowEdges r.0 row numbers
     → IsReachIn r reach numbers
 row_ends r reach row numbers sound all h = record {
   sound = sound;
@@ -225,7 +225,7 @@ row_ends r reach row numbers sound all h = record {
   where
     cross : (j : ℕ) → j < length numbers → Spans row (upward (edge_at r (get_or numbers j 0)))
     cross j inside = spans_of row (edge_at r (get_or numbers j 0))
-        (((h.exact (get_or numbers j 0)).0 (contains numbers (get_or numbers j 0) (has_get numbers j 0 inside))).1 nowhere)
+        ((h.members (get_or numbers j 0) (contains numbers (get_or numbers j 0) (has_get numbers j 0 inside))).1 nowhere)
 
     by_test : (o : Owner) (i k : ℕ) → i ≤ k → k < length numbers → (extent : Extent) → extent_of reach o ≡ Some extent
         → extent.high.x <ℤ (edge_at r (get_or numbers i 0)).0.x → extent.high.x <ℤ (edge_at r (get_or numbers i 0)).1.x
@@ -235,12 +235,12 @@ row_ends r reach row numbers sound all h = record {
         let limit = extent.high.x in
         let f = edge_at r (get_or numbers i 0) in
         let g = edge_at r (get_or numbers k 0) in
-        let given = ((h.exact (get_or numbers k 0)).0 (contains numbers (get_or numbers k 0) (has_get numbers k 0 less))).0 in
+        let given = (h.members (get_or numbers k 0) (contains numbers (get_or numbers k 0) (has_get numbers k 0 less))).0 in
         let own = all (get_or numbers k 0) given o extent t e in
         ⊎_elim
         (λ (before : i < k).
         let b = before_by_number (IsBeforeIn r.0 row) (before_strict r.0 row) numbers i k 0
-        (before_rising r.0 row numbers (λ m found. (h.exact m).0 (contains numbers m found)) h.rising) before less in
+        (before_rising r.0 row numbers (λ m found. h.members m (contains numbers m found)) h.rising) before less in
         let fs = ends_upward (λ z. limit <ℤ z) f first second in
         let gs = ends_upward (λ z. z ≤ℤ limit) g own.0.right own.1.right in
         absurd (not_left_of_limit row f g limit (cross i (omega arith)) (cross k less) fs.0 fs.1 gs.0 gs.1 (b.left nowhere)))

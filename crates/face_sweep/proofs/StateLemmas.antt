@@ -1,14 +1,10 @@
 -- Sides of edges that are known, and what those of a row tell about a gap in it.
-use Rattle.std.proofs.Common.{◌≡◌, ◌≢◌, ◌⊎◌, inl, inr, ⊎_elim, ℕ, zero, suc, ◌+◌, ◌-◌, ◌<◌, ◌≤◌, Bool, true, false, not, List, ◌∷◌}
-use Rattle.std.proofs.Common.{None, Option, Some, Contains, length, get_or, drop, add-one, refl, sym, ap, subst, ◌∙◌, arith}
+use Rattle.std.proofs.Common.{◌≡◌, ◌≢◌, ⊎_elim, ℕ, zero, suc, ◌+◌, ◌-◌, ◌<◌, ◌≤◌, Bool, true, false, not, List, ◌∷◌}
+use Rattle.std.proofs.Common.{None, Some, length, get_or, drop, add-one, refl, sym, ap, subst, ◌∙◌, arith}
 use Rattle.std.specs.Prelude.{All, nat_eq, nat_lt}
 use Rattle.std.specs.Bool.{beq}
-use Rattle.std.specs.List.Sorted.{IsNonDecreasing}
-use Rattle.std.specs.Option.{is_some}
 use Rattle.std.proofs.Math.Seq.{drop-cons}
 use Rattle.std.proofs.lemmas.Bool.Decides.{Decides-eqb, nat_tests}
-use Rattle.std.proofs.lemmas.Bool.{cases_lt}
-use Rattle.std.proofs.lemmas.List.{get_or-drop, get_or_default, length-drop}
 use Rattle.lay_point.specs.Parity.{xor}
 use Rattle.lay_point.proofs.Parity.{parity_none}
 use Rattle.snap_chains.specs.declared.owner.Owner.{Owner}
@@ -112,13 +108,6 @@ known_less r old new n put h = record {
 pub kept_less : (old new : Known) (n m : ℕ) → HasChangedAt old new m None → n ≢ m → IsKnown old n → IsKnown new n
 kept_less old new n m put apart h = (h.0, put.others n apart ∙ h.1)
 
-some_known : (x : Option Sides) → is_some x ≡ true → (sides : Sides) × (x ≡ Some sides)
-some_known None e = absurd cc
-some_known (Some sides) e = (sides, refl)
-
-pub known_by_test : (known : Known) (n : ℕ) → is_some (sides_at known n) ≡ true → IsKnown known n
-known_by_test known n is = some_known (sides_at known n) is
-
 -- ---- all from an index on
 all_cons : (P : ℕ → Type 0) (x : ℕ) (xs : List ℕ) → P x → All P xs → All P (x ∷ xs)
 all_cons P x xs first rest zero d less = first
@@ -191,57 +180,3 @@ pub none_behind : (r : Owned) (numbers : List ℕ) (index : ℕ) (o : Owner)
 none_behind r numbers index o none = parity_none (λ m. is_owner_listed o (owners_at r m)) (drop index numbers) (λ m found.
     let at = has_drop numbers index m found in
     subst (λ j. is_owner_listed o (owners_at r j) ≡ false) at.1.is (none at.0 at.1.behind at.1.inside))
-
--- ---- the edges of a row at some places
--- those that don't stand at one of the first i places are known
-abbrev pub AreOthersKnown : List ℕ → List ℕ → ℕ → Known → Type 0
-AreOthersKnown numbers places i known = (k : ℕ) → k < length numbers
-    → ((m : ℕ) × (m < i) × (get_or places m 0 ≡ k)) ⊎ IsKnown known (get_or numbers k 0)
-
-pub all_left : (numbers places : List ℕ) (known : Known)
-    → ((k : ℕ) → k < length numbers → Contains places k ⊎ IsKnown known (get_or numbers k 0))
-    → AreOthersKnown numbers places (length places) known
-all_left numbers places known h k less = ⊎_elim
-    (λ (at : Contains places k). inl (at.0, at.1, get_or_default places at.0 0 k at.1 ∙ at.2))
-    (λ (own : IsKnown known (get_or numbers k 0)). inr own)
-    (h k less)
-
--- as the places are in order, those behind the last of them are known
-pub behind_places : (numbers places : List ℕ) (i : ℕ) (known : Known) → IsNonDecreasing places → 0 < i → i ≤ length places
-    → AreOthersKnown numbers places i known → All (IsKnown known) (drop (get_or places (i - 1) 0 + 1) numbers)
-behind_places numbers places i known order some bound h k d less =
-    let p = get_or places (i - 1) 0 in
-    let inside : (p + 1) + k < length numbers = omega (arith, length-drop (p + 1) numbers, less) in
-    let at : get_or numbers ((p + 1) + k) 0 ≡ get_or (drop (p + 1) numbers) k d =
-    get_or_default numbers ((p + 1) + k) 0 d inside ∙ sym (get_or-drop (p + 1) numbers k d) in
-    subst (IsKnown known) at (⊎_elim
-    (λ (place : (m : ℕ) × (m < i) × (get_or places m 0 ≡ (p + 1) + k)).
-    let lt = place.1 in
-    let up = order place.0 (i - 1) 0 (omega (arith, lt)) (omega arith) in
-    let is = place.2 in
-    absurd (omega (arith, up, is)))
-    (λ (own : IsKnown known (get_or numbers ((p + 1) + k) 0)). own)
-    (h ((p + 1) + k) inside))
-
-pub one_fewer : (numbers places : List ℕ) (i : ℕ) (known new : Known) → 0 < i → AreOthersKnown numbers places i known
-    → ((n : ℕ) → IsKnown known n → IsKnown new n) → IsKnown new (get_or numbers (get_or places (i - 1) 0) 0)
-    → AreOthersKnown numbers places (i - 1) new
-one_fewer numbers places i known new some h kept here k less = ⊎_elim
-    (λ (place : (m : ℕ) × (m < i) × (get_or places m 0 ≡ k)). by_place place (cases_lt place.0 (i - 1)))
-    (λ (own : IsKnown known (get_or numbers k 0)). inr (kept (get_or numbers k 0) own))
-    (h k less)
-  where
-    by_place : (place : (m : ℕ) × (m < i) × (get_or places m 0 ≡ k)) → (place.0 < i - 1) ⊎ (i - 1 ≤ place.0)
-        → ((m : ℕ) × (m < i - 1) × (get_or places m 0 ≡ k)) ⊎ IsKnown new (get_or numbers k 0)
-    by_place place (inl lt) = inl (place.0, lt, place.2)
-    by_place place (inr ge) =
-        let lt = place.1 in
-        let same : i - 1 ≡ place.0 = omega (arith, lt, ge, some) in
-        inr (subst (λ j. IsKnown new (get_or numbers j 0)) (ap (λ m. get_or places m 0) same ∙ place.2) here)
-
-pub none_left : (numbers places : List ℕ) (known : Known) → AreOthersKnown numbers places 0 known
-    → All (IsKnown known) numbers
-none_left numbers places known h k d less = ⊎_elim
-    (λ (place : (m : ℕ) × (m < 0) × (get_or places m 0 ≡ k)). let lt = place.1 in absurd (omega (arith, lt)))
-    (λ (own : IsKnown known (get_or numbers k 0)). subst (IsKnown known) (get_or_default numbers k 0 d less) own)
-    (h k less)

@@ -1,5 +1,6 @@
 pub mod Counts
-pub mod Ends
+pub mod Nexts
+pub mod Points
 pub mod Reaches
 pub mod Sides
-pub mod Starts
+pub mod Stops

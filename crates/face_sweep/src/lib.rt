@@ -1,25 +1,29 @@
-//! The sweep from a row of edges to the next, and the shapes that hold on the two sides of an edge.
+//! A sweep over clean edges from point to point, and the shapes that hold on the two sides of an edge.
 //!
-//! From row to row the edges that end are removed and those that begin are inserted. What holds
-//! right of an edge is the same all along it, so it is found once, where the edge begins, and kept.
+//! The sweep stops at each point at which edges begin or end: row by row upward, and in a row from right to
+//! left. At a stop the edges that end there are replaced by those that begin there; between stops nothing is
+//! done. What holds right of an edge is the same all along it, so it is found once, where the edge begins, and
+//! kept.
 //!
 //! # Model
 //!
-//! A row is a list of numbers of edges, from left to right (`AreSomeRowEdges` of
-//! `face_rows/specs/Rows.antt`).
+//! The row r is the height r + 1/2 (`face_rows/specs/Rows.antt`). The list of a sweep has numbers of edges from
+//! left to right. At a point it is made of two parts (`specs/Points.antt`): the edges of the row below the point
+//! that are left of it or end there, and then those of its own row that are right of it. All edges left of the
+//! point stand before those that end there, and these before the others, so one search tells all three
+//! ([`points_pass`]).
 //!
-//! - [`Start`] is the lower end of an edge. Starts are in the order of rows, and in a row from left
-//!   to right (`specs/Starts.antt`), so the edges that begin are merged into the row in one pass
-//!   ([`insert_begun`]).
-//! - [`End`] is the upper end of an edge. Ends are in order of their heights (`specs/Ends.antt`).
-//!   [`without_ended`] finds each edge that ends by halving where few end, since the edges of a row
-//!   are in the order of their crossings; where many end, it passes over the row once.
+//! - [`Stops`] has all points at which edges begin or end, in the order of the sweep, with the edges that begin
+//!   at each: those that rise, from left to right, and then a level one (`specs/Stops.antt`).
+//! - [`place_of_point`] searches the list for a point, from a hint on: the place of the stop before, which is
+//!   near in a row. It compares two products for each edge that it looks at. [`group_end`] is where the edges
+//!   that end at the point end, and [`replace`] puts others in their place.
 //! - [`Sides`] has how many shapes of each input hold on each side of an edge
 //!   (`specs/Counts.antt`), and which of the edge's owners are among those on its right
-//!   (`specs/Sides.antt`). They are counted from the edges to the right in the edge's row, from
+//!   (`specs/Sides.antt`). They are counted from the edges to the right in the list, from
 //!   near to far: right of an edge holds what holds left of the next, and the first edge that an
-//!   owner owns decides for it.
-//! - [`Known`] keeps the sides of the edges of a row. It is as long as there are edges, but of most
+//!   owner owns decides for it. Above a level edge holds what the edges right of its left end tell.
+//! - [`Known`] keeps the sides of the edges of the list. It is as long as there are edges, but of most
 //!   edges has a key alone.
 //! - [`Reach`] is the box round each shape's edges (`specs/Reaches.antt`). Of an edge on its border
 //!   the box tells at once whether the shape holds beside it: right of a left side and above a
@@ -28,31 +32,34 @@
 //!
 //! # What callers must keep
 //!
-//! No type keeps what a row is: each call requires it. Of the clauses of [`Sides::of`],
+//! No type keeps what the list is: each call requires it. Of the clauses of [`Sides::of`],
 //! `IsReachIn` says that the boxes are those of the edges, and that after an edge right of a shape's
 //! box none is of the shape, and `AreKnown` that the sides that are kept are those of their edges.
 //!
 //! # Files
 //!
-//! - `start.rt`, `moves.rt`: edges that begin, and how they are inserted.
-//! - `ends.rt`, `ended.rt`: edges that end, and how they are removed.
+//! - `stops.rt`: the points of the sweep.
+//! - `place.rt`, `search.rt`, `side.rt`: where a point is among the edges of the list.
+//! - `passing.rt`: how the list passes a point; `laws.rt`: why it is then that of the next.
 //! - `sides.rt`, `counts.rt`, `known.rt`, `reach.rt`, `extent.rt`: what holds beside an edge.
 #![tactic(auto)]
 
 mod counts;
-mod ended;
-mod ends;
 mod extent;
 mod known;
-mod moves;
+mod laws;
+mod passing;
+mod place;
 mod reach;
+mod search;
+mod side;
 mod sides;
-mod start;
+mod stops;
 
-pub use ended::{first_above, without_ended};
-pub use ends::{End, ends_of, place_of};
 pub use known::Known;
-pub use moves::{gap_beside, insert_begun};
+pub use laws::{nexts_tell, points_pass};
+pub use passing::{group_end, replace};
+pub use place::place_of_point;
 pub use reach::Reach;
 pub use sides::Sides;
-pub use start::{Start, begins_after, starts};
+pub use stops::{Stop, Stops};

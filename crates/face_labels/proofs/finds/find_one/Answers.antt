@@ -1,14 +1,14 @@
-use Rattle.std.proofs.Common.{◌+◌, not, drop, get_or, ap, sym, ◌∙◌, arith}
+use Rattle.std.proofs.Common.{◌+◌, drop, get_or, arith}
 use Rattle.face_rows.specs.Lines.{owners_at}
 use Rattle.face_sweep.specs.Sides.{holds_beside, is_odd_in}
-use Rattle.face_sweep.proofs.StateLemmas.{known_by_test, known_more, sides_agree, still_known}
+use Rattle.face_sweep.proofs.StateLemmas.{known_more, sides_agree, still_known}
 use Rattle.face_labels.proofs.finds.find_one.Goals as goal
 
 pub put-requires : goal.put-requires
 put-requires c = omega (arith, c.requires.given c.args.index 0 c.requires.index, c.requires.known.count)
 
-pub returns-in_ok-put : goal.returns-in_ok-put
-returns-in_ok-put c =
+pub returns : goal.returns
+returns c =
     let r = c.args.edges.now in
     let numbers = c.args.numbers.now in
     let old = c.args.known.now in
@@ -25,8 +25,3 @@ returns-in_ok-put c =
       kept = λ m own. still_known old new n m sides put own;
       here = (sides, put.here);
     }
-
-pub returns-else-is_none-clause-here : goal.returns-else-is_none-clause-here
-returns-else-is_none-clause-here c =
-    known_by_test c.args.known.now (get_or c.args.numbers.now c.args.index 0)
-    (sym c.get.ensures.variant ∙ (c.is_none.ensures ∙ ap not c.if-is_none.false))

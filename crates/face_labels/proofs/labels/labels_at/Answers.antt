@@ -1,131 +1,100 @@
-use Rattle.std.proofs.Common.{
-  ◌≡◌,
-  ◌+◌,
-  ◌-◌,
-  ◌<◌,
-  ◌≤ℤ◌,
-  ◌<ℤ◌,
-  ℕ,
-  pos,
-  Contains,
-  get_or,
-  length,
-  to_z,
-  of_z,
-  w32,
-  sym,
-  subst,
-  ap,
-  ◌∙◌,
-  arith,
-  rules,
-}
-use Rattle.std.specs.Prelude.{All}
-use Rattle.std.proofs.Math.ListN.{length-set}
+-- The stops of the band are all passed: those before the first are below it, and those from the last on above.
+use Rattle.std.proofs.Common.{◌≡◌, ⊎_elim, ◌<◌, ◌≤◌, ◌≤ℤ◌, ◌<ℤ◌, false, pos, get_or, length, sym, ap, subst, ◌∙◌, arith}
+use Rattle.std.proofs.Common.{rules, to_z, of_z, w64}
+use Rattle.std.specs.Prelude.{int_lt}
+use Rattle.std.proofs.lemmas.Bool.{cases_lt}
 use Rattle.std.proofs.lemmas.Int.{to_z-of_z}
-use Rattle.std.proofs.lemmas.List.{get_or_default, take_all}
-use Rattle.std.proofs.lemmas.List.Elements.{All-drop}
-use Rattle.face_sweep.specs.declared.start.Start.{Start}
-use Rattle.face_rows.specs.Lines.{edge_at}
-use Rattle.face_rows.specs.Rows.{upward}
-use Rattle.face_labels.specs.RowSides.{IsLine}
-use Rattle.face_sweep.specs.Starts.{AreByRow, BeginsBy, HasLabel, IsStartOf}
-use Rattle.face_sweep.proofs.KeptLemmas.{begun_behind, by_row-drop, none_earlier, not_later, rest}
-use Rattle.face_sweep.proofs.StartLemmas.{labels_more}
+use Rattle.std.proofs.lemmas.List.{get_or_default}
+use Rattle.lay_point.proofs.Tests.{lt_false}
+use Rattle.lay_point.specs.declared.point.Point.{Point}
+use Rattle.face_rows.specs.Sound.{AreSound}
+use Rattle.face_sweep.specs.declared.stops.Stop.{Stop}
+use Rattle.face_sweep.specs.Points.{HasLow, IsPassed}
+use Rattle.face_sweep.proofs.SweepLemmas.{all_of_band, next_status}
+use Rattle.face_labels.specs.RowSides.{HasLabel, IsStopOf}
+use Rattle.face_labels.proofs.LineLemmas.{stop_is}
 use Rattle.face_labels.proofs.labels.labels_at.Goals as goal
-use Rattle.face_labels.proofs.labels.labels_at.Goals.{then-start-line+in_ok-line-2, else-start-line}
 
-origin : Start
-origin = record { y = pos 0; x = pos 0; number = 0 }
+abbrev origin : Stop
+origin = record { point = record { x = pos 0; y = pos 0 }; from = 0; to = 0 }
 
-pub later-requires-clause-later : goal.later-requires-clause-later
-unfolding origin
-later-requires-clause-later c =
-    let starts = c.args.starts.now in
-    let s = get_or starts c.loop-index.index origin in
-    let at : to_z w32 (of_z w32 s.y) ≡ s.y = to_z-of_z w32 s.y (search rules) in
-    subst (λ z. c.loop-index.line.row ≤ℤ z) (sym at)
-    (not_later starts c.loop-index.index c.loop-index.line.row origin c.requires.rows c.loop-index-test.true c.loop-index.invariant.row)
+pub returns-then-first-stops-clause-labels : goal.returns-then-first-stops-clause-labels
+returns-then-first-stops-clause-labels c =
+    let low : to_z w64 (of_z w64 c.args.band.low) ≡ c.args.band.low = to_z-of_z w64 c.args.band.low (search rules) in
+    let first = c.first_from-first.result in
+    let count = ap length c.stops-stops.ensures in
+    let none = c.if-first-stops.true in
+    all_of_band c.args.edges.now c.args.shared.now.stops c.requires.stops origin
+    (HasLabel c.args.op c.args.edges.now c.in_ok-labels.labels.items) c.args.band first first
+    (λ k before. subst (λ z. (get_or c.args.shared.now.stops.list.items k origin).point.y <ℤ z) low
+    (c.first_from-first.ensures.before k origin before))
+    (λ less. absurd (omega (arith, less, none, count)))
+    (λ k n from to inside given begun. absurd (omega (arith, from, to)))
 
-pub later-requires-clause-starts : goal.later-requires-clause-starts
-later-requires-clause-starts c =
-    subst (All (IsStartOf c.args.edges.now)) (sym (rest c.args.starts.now c.loop-index.index))
-    (All-drop (IsStartOf c.args.edges.now) c.loop-index.index c.args.starts.now c.requires.starts)
+pub returns-then-not-is_below-clause-labels : goal.returns-then-not-is_below-clause-labels
+returns-then-not-is_below-clause-labels c =
+    let i = c.loop-index.index in
+    let low : to_z w64 (of_z w64 c.args.band.low) ≡ c.args.band.low = to_z-of_z w64 c.args.band.low (search rules) in
+    let high = c.args.band.high in
+    let above : int_lt (get_or c.stops-stops.result.now i origin).point.y high ≡ false = search rules in
+    all_of_band c.args.edges.now c.args.shared.now.stops c.requires.stops origin
+    (HasLabel c.args.op c.args.edges.now c.loop-index.labels.items) c.args.band c.first_from-first.result i
+    (λ k before. subst (λ z. (get_or c.args.shared.now.stops.list.items k origin).point.y <ℤ z) low
+    (c.first_from-first.ensures.before k origin before))
+    (λ less. subst (λ l. high ≤ℤ (get_or l i origin).point.y) c.stops-stops.ensures
+    (lt_false (get_or c.stops-stops.result.now i origin).point.y high above))
+    (λ k n from to inside given begun. c.loop-index.invariant.labels k n origin from to inside given begun)
 
-pub later-requires-clause-rows : goal.later-requires-clause-rows
-later-requires-clause-rows c =
-    subst AreByRow (sym (rest c.args.starts.now c.loop-index.index)) (by_row-drop c.args.starts.now c.loop-index.index c.requires.rows)
-
-pub later-requires-clause-begun : goal.later-requires-clause-begun
-unfolding origin
-later-requires-clause-begun c =
+pub past-requires-clause-stop : goal.past-requires-clause-stop
+past-requires-clause-stop c =
     let r = c.args.edges.now in
-    let starts = c.args.starts.now in
+    let stops = c.args.shared.now.stops in
     let i = c.loop-index.index in
-    let s = get_or starts i origin in
-    let row = to_z w32 (of_z w32 s.y) in
-    let at : row ≡ s.y = to_z-of_z w32 s.y (search rules) in
-    let all = begun_behind r starts i c.loop-index.line.row row c.requires.rows c.requires.all c.loop-index-test.true
-    c.loop-index.invariant.row (λ d. at ∙ ap (λ (z : Start). z.y) (get_or_default starts i origin d c.loop-index-test.true)) in
-    subst (λ l. (n : ℕ) → n < length r.0 → c.loop-index.line.row <ℤ (upward (edge_at r n)).0.y → (upward (edge_at r n)).0.y ≤ℤ row
-    → BeginsBy l row n) (sym (rest starts i)) all
-
-pub later-requires-clause-behind : goal.later-requires-clause-behind
-unfolding origin
-later-requires-clause-behind c = λ s found.
-    let starts = c.args.starts.now in
-    let i = c.loop-index.index in
-    let first = get_or starts i origin in
-    let at : to_z w32 (of_z w32 first.y) ≡ first.y = to_z-of_z w32 first.y (search rules) in
-    subst (λ z. z ≤ℤ s.y) (sym at)
-    (none_earlier starts i origin s c.requires.rows c.loop-index-test.true (subst (λ l. Contains l s) (rest starts i) found))
-
-pub differs-requires-clause-line : goal.differs-requires-clause-line
-differs-requires-clause-line c =
-    elim c.if-start-line.branch [
-      | then-start-line+in_ok-line-2 w ↦ subst (IsLine c.args.edges.now c.args.shared.now) (sym w.line-is) w.in_ok-line-2.ensures.line
-      | else-start-line w ↦ subst (IsLine c.args.edges.now c.args.shared.now) (sym w.line-is) c.loop-index.invariant.line
-    ]
-
-pub differs-requires-clause-row : goal.differs-requires-clause-row
-unfolding origin
-differs-requires-clause-row c =
-    let s = get_or c.args.starts.now c.loop-index.index origin in
-    let here : s.y ≡ c.if-start-line.line.row = elim c.if-start-line.branch [
-      | then-start-line+in_ok-line-2 w ↦ search rules
-      | else-start-line w ↦ search rules
-    ] in
-    (c.requires.starts c.loop-index.index origin c.loop-index-test.true).row ∙ here
+    subst (λ l. IsStopOf r stops (get_or l i origin)) (sym c.stops-stops.ensures)
+    (stop_is r stops c.requires.stops i origin (subst (λ l. i < length l) c.stops-stops.ensures c.loop-index-test.true))
 
 pub loop-index-preserved : goal.loop-index-preserved
-unfolding origin
 loop-index-preserved c =
-    let starts = c.args.starts.now in
+    let r = c.args.edges.now in
+    let stops = c.args.shared.now.stops in
+    let list = stops.list.items in
     let i = c.loop-index.index in
-    let s = get_or starts i origin in
-    let own = c.requires.starts i origin c.loop-index-test.true in
-    let here : s.y ≡ c.if-start-line.line.row = elim c.if-start-line.branch [
-      | then-start-line+in_ok-line-2 w ↦ search rules
-      | else-start-line w ↦ search rules
-    ] in
-    let back : (i + 1) - 1 ≡ i = omega arith in
-    let after : IsLine c.args.edges.now c.args.shared.now c.if-start-line.line = elim c.if-start-line.branch [
-      | then-start-line+in_ok-line-2 w ↦ subst (IsLine c.args.edges.now c.args.shared.now) (sym w.line-is) w.in_ok-line-2.ensures.line
-      | else-start-line w ↦ subst (IsLine c.args.edges.now c.args.shared.now) (sym w.line-is) c.loop-index.invariant.line
-    ] in
+    let here : i < length list = subst (λ l. i < length l) c.stops-stops.ensures c.loop-index-test.true in
+    let line = c.in_ok-line-2.line in
+    let past = c.in_ok-line-2.ensures in
+    let at : (d : Stop) → (get_or c.stops-stops.result.now i origin).point ≡ (get_or list i d).point =
+    λ d. ap (λ l. (get_or l i origin).point) c.stops-stops.ensures ∙ ap (λ (s : Stop). s.point) (get_or_default list i origin d here) in
+    let sound : AreSound r = record {
+      rising = c.edges.ensures.rising;
+      paired = c.edges.ensures.paired;
+      even = c.edges.ensures.even;
+      clean = c.edges.ensures.clean;
+      lesser = c.requires.lesser;
+    } in
     record {
-      count = length-set c.loop-index.labels.items s.number c.in_ok-labels-2.field-0 ∙ c.loop-index.invariant.count;
-      line = after;
-      row = λ d. sym here
-          ∙ ap (λ (z : Start). z.y) (get_or_default starts i origin d c.loop-index-test.true)
-          ∙ sym (ap (λ k. (get_or starts k d).y) back);
-      labels = labels_more c.args.op c.args.edges.now c.loop-index.labels.items starts i origin c.in_ok-labels-2.field-0
-          c.loop-index-test.true
-          (omega (arith, own.given, c.loop-index.invariant.count)) c.in_ok-labels-2.ensures c.loop-index.invariant.labels;
+      count = c.past.ensures.count;
+      line = λ d less. record {
+        status = next_status r stops c.requires.stops d i line.numbers.items sound less
+            (subst (λ (q : Point). IsPassed r q line.numbers.items) (at d) past.line.passed);
+        known = past.line.known;
+        all = past.line.all;
+      };
+      labels = λ k n d from to inside given low. ⊎_elim
+          (λ (before : k < i). past.kept n (c.loop-index.invariant.labels k n d from before inside given low))
+          (λ (ge : i ≤ k).
+          let same : k ≡ i = omega arith in
+          past.labels n given (subst (λ (q : Point). HasLow r q n) (sym (at d)) (subst (λ j. HasLow r (get_or list j d).point n) same low)))
+          (cases_lt k i);
     }
 
 pub returns-clause-labels : goal.returns-clause-labels
 returns-clause-labels c =
-    subst (All (HasLabel c.args.op c.args.edges.now c.loop-index.labels.items))
-    (take_all c.loop-index.index c.args.starts.now c.loop-index-test.false)
-    c.loop-index.invariant.labels
+    let low : to_z w64 (of_z w64 c.args.band.low) ≡ c.args.band.low = to_z-of_z w64 c.args.band.low (search rules) in
+    let i = c.loop-index.index in
+    let count = ap length c.stops-stops.ensures in
+    all_of_band c.args.edges.now c.args.shared.now.stops c.requires.stops origin
+    (HasLabel c.args.op c.args.edges.now c.loop-index.labels.items) c.args.band c.first_from-first.result i
+    (λ k before. subst (λ z. (get_or c.args.shared.now.stops.list.items k origin).point.y <ℤ z) low
+    (c.first_from-first.ensures.before k origin before))
+    (λ less. absurd (omega (arith, less, c.loop-index-test.false, count)))
+    (λ k n from to inside given begun. c.loop-index.invariant.labels k n origin from to inside given begun)

@@ -1,15 +1,15 @@
-use Rattle.std.proofs.Common.{◌≡◌, ◌-◌, get_or, length, take}
-use Rattle.std.specs.Prelude.{All}
-use Rattle.face_sweep.specs.declared.start.Start.{Start}
-use Rattle.face_labels.specs.RowSides.{IsLine}
-use Rattle.face_sweep.specs.Starts.{HasLabel}
+use Rattle.std.proofs.Common.{◌≡◌, ◌<◌, ◌≤◌, ℕ, get_or, length}
+use Rattle.face_sweep.specs.declared.stops.Stop.{Stop}
+use Rattle.face_sweep.specs.Points.{HasLow}
+use Rattle.face_labels.specs.RowSides.{HasLabel, IsLineAt}
 use Rattle.face_labels.proofs.labels.labels_at.Given as goal
 
--- the edges that begin at the starts so far have their labels, and the line is that of the last of them, or of the first
+-- the line is that of the next stop, and the edges that begin at the stops so far have their labels
 abbrev pub invariant-loop-index : goal.invariant-loop-index
 invariant-loop-index l = record {
   count : length l.labels.items ≡ length l.edges.0;
-  line : IsLine l.edges l.fn.shared l.line;
-  row : (d : Start) → l.line.row ≡ (get_or l.starts (l.index - 1) d).y;
-  labels : All (HasLabel l.op l.edges l.labels.items) (take l.index l.starts);
+  line : (d : Stop) → l.index < length l.fn.shared.stops.list.items
+      → IsLineAt l.edges (get_or l.fn.shared.stops.list.items l.index d).point l.line;
+  labels : (k n : ℕ) (d : Stop) → l.first ≤ k → k < l.index → k < length l.fn.shared.stops.list.items → n < length l.edges.0
+      → HasLow l.edges (get_or l.fn.shared.stops.list.items k d).point n → HasLabel l.fn.op l.edges l.labels.items n;
 }

@@ -5,7 +5,7 @@ use Rattle.std.proofs.lemmas.Slice.Zip.{get_or-zip, length-zip}
 use Rattle.lay_point.specs.declared.point.Point.{Point}
 use Rattle.face_rows.specs.Bands.{begins_in}
 use Rattle.face_rows.proofs.PickedLemmas.{picked_more, picked_passed}
-use Rattle.face_sweep.proofs.StartLemmas.{written_labels}
+use Rattle.face_labels.proofs.WrittenLemmas.{written_labels}
 use Rattle.face_labels.proofs.labels.numbered.Goals as goal
 use Rattle.face_labels.proofs.labels.numbered.Goals.{then-has+in_ok-push, else-has}
 

@@ -1,6 +1,6 @@
 -- Each owner is turned once.
 use Rattle.std.proofs.Common.{◌≡◌, ◌+◌, ◌++◌, [], ◌∷◌, drop, get_or, map, take, sym, ap, subst, ◌∙◌, rules}
-use Rattle.std.proofs.lemmas.List.{get_or_default, map-append, take_all, take_more}
+use Rattle.std.proofs.lemmas.List.{get_or_default, map-append, take_all, take_more, take_rest}
 use Rattle.std.proofs.lemmas.Option.{get_or_from_slice_get}
 use Rattle.lay_point.specs.Parity.{parity, xor}
 use Rattle.snap_chains.specs.declared.owner.Input.TheVariants.{First}
@@ -10,7 +10,6 @@ use Rattle.snap_chains.specs.Rounded.{is_owner_listed}
 use Rattle.face_sweep.specs.Counts.{AreCounts}
 use Rattle.face_rows.specs.Lines.{owners_at}
 use Rattle.face_sweep.specs.Sides.{is_odd_in}
-use Rattle.face_sweep.proofs.KeptLemmas.{rest}
 use Rattle.face_rows.proofs.OwnerLemmas.{listed_at, listed_of, none_before, turn_more}
 use Rattle.face_sweep.proofs.StateLemmas.{counts_agree}
 use Rattle.face_sweep.proofs.sides.Sides.of.Goals as goal
@@ -62,7 +61,7 @@ returns c =
     let own : owners_at r c.args.number ≡ owners =
     get_or_from_slice_get r.1 c.args.number owners [] c.owners-owner-items.ensures.value in
     record {
-      right = subst (λ l. AreCounts c.right_counts-right_of.result (is_odd_in r l)) (rest c.args.numbers.now c.args.right)
+      right = subst (λ l. AreCounts c.right_counts-right_of.result (is_odd_in r l)) (take_rest c.args.numbers.now c.args.right)
           c.right_counts-right_of.ensures;
       left = counts_agree c.loop-owner.left_of _ (λ o. xor (is_owner_listed o (owners_at r c.args.number)) (is_odd_in r behind o))
           (λ o. ap (λ b. xor b (is_odd_in r behind o)) (ap (parity (λ q. owner_eq q o)) all
@@ -75,7 +74,7 @@ pub loop-owner-init : goal.loop-owner-init
 loop-owner-init c =
     record {
       left = subst (λ l. AreCounts c.right_counts-right_of.result (is_odd_in c.args.edges.now l))
-          (rest c.args.numbers.now c.args.right) c.right_counts-right_of.ensures;
+          (take_rest c.args.numbers.now c.args.right) c.right_counts-right_of.ensures;
       inside = search rules;
     }
 

@@ -1,0 +1,3 @@
+pub mod BegunLemmas
+pub mod LineLemmas
+pub mod WrittenLemmas

@@ -1,0 +1,232 @@
+-- What the edges of a row that are right of a place tell of it, in whatever part of a list they stand.
+use Rattle.std.proofs.Common.{◌≡◌, inl, inr, ⊎_elim, ℕ, zero, suc, ◌+◌, ◌<◌, Bool, true, false, ◌&&◌, ◌||◌, List, [], ◌∷◌}
+use Rattle.std.proofs.Common.{length, get_or, drop, Contains, ℤ, pos, ◌-ℤ◌, ◌*ℤ◌, ◌<ℤ◌, refl, sym, ap, ap₂, subst, ◌∙◌, arith}
+use Rattle.std.specs.Cmp.{both_ways}
+use Rattle.std.specs.Prelude.{nat_eq}
+use Rattle.std.specs.List.{list_any, zip}
+use Rattle.std.proofs.lemmas.Bool.{or_cases, or_right}
+use Rattle.std.proofs.lemmas.Bool.Decides.{Decides-eqb}
+use Rattle.std.proofs.lemmas.List.{get_or_default}
+use Rattle.lay_point.proofs.Signs.{linear}
+use Rattle.lay_point.specs.declared.point.Point.{Point}
+use Rattle.lay_point.specs.Parity.{parity, distance_right, is_crossed}
+use Rattle.lay_point.specs.Rising.{IsRising}
+use Rattle.lay_point.proofs.Members.{Has, contains, has}
+use Rattle.lay_point.proofs.Parity.{IsEquality, parity_of_occurrences}
+use Rattle.lay_point.proofs.Rising.{IsStrictOrder, before_rest, rising_rest}
+use Rattle.face_side_laws.proofs.Rows.{IsInRow, crossed_spans, row_distance, row_k, row_place, row_x, row_y, spans_crossed}
+use Rattle.face_rows.proofs.UpwardLemmas.{up_crossed, up_rises}
+use Rattle.face_rows.proofs.JudgeLemmas.{IsBeforeIn, before_rising, before_strict}
+use Rattle.face_rows.proofs.OwnerLemmas.{parity_any}
+use Rattle.face_rows.proofs.RowLemmas.{has_get}
+use Rattle.face_rows.proofs.SideLemmas.{crossed_beside}
+use Rattle.snap_chains.specs.declared.owner.Owner.{Owner}
+use Rattle.face_sweep.proofs.OrderLemmas.{crosses}
+use Rattle.face_rows.specs.Labels.{Item, odd_of, owned_items}
+use Rattle.face_rows.specs.Lines.{edge_at, nowhere, owned_item_at, owners_at}
+use Rattle.snap_chains.specs.Rounded.{Owned, is_owner_listed}
+use Rattle.face_rows.specs.Rows.{CrossesRow, IsLeftOf, crosses_row, upward}
+use Rattle.face_sweep.specs.Sides.{AreBehind, is_odd_in}
+use Rattle.face_rows.specs.Sound.{AreSound}
+use Rattle.face_sweep.proofs.LabelLemmas.{zip_at}
+use Rattle.face_sweep.specs.Points.{IsPassed, IsStatus}
+use Rattle.face_sweep.proofs.PointLemmas.{beside_own, in_order, span}
+
+-- ---- numbers (as in face_rows' JudgeLemmas)
+abbrev numbers_from : ℕ → List (Point × Point) → List ℕ
+numbers_from n [] = []
+numbers_from n (e ∷ es) = n ∷ numbers_from (n + 1) es
+
+below_rising : (n : ℕ) (es : List (Point × Point)) → IsRising (λ m k. m < k) (numbers_from n es)
+below_rising n [] = tt
+below_rising n (e ∷ []) = tt
+below_rising n (e ∷ f ∷ es) = (omega arith, below_rising (n + 1) (f ∷ es))
+
+below_strict : IsStrictOrder (λ (m k : ℕ). m < k)
+below_strict = record { irreflexive = λ m h. omega arith; transitive = λ m k l h g. omega arith }
+
+numbers_have : (n : ℕ) (es : List (Point × Point)) (i : ℕ) → i < length es → Has (numbers_from n es) (n + i)
+numbers_have n [] i less = absurd (omega arith)
+numbers_have n (e ∷ es) zero less = inl (omega arith)
+numbers_have n (e ∷ es) (suc i) less =
+    let same : (n + 1) + i ≡ n + suc i = omega arith in
+    inr (subst (Has (numbers_from (n + 1) es)) same (numbers_have (n + 1) es i (omega arith)))
+
+by_number : (f : Item → Bool) (g : ℕ → Bool) (n : ℕ) (es : List (Point × Point)) (os : List (List Owner)) → length os ≡ length es
+    → ((i : ℕ) → i < length es → g (n + i) ≡ f (get_or es i nowhere, get_or os i [])) → parity g (numbers_from n es) ≡ parity f (zip es os)
+by_number f g n [] os count same = refl
+by_number f g n (e ∷ es) [] count same = absurd (omega arith)
+by_number f g n (e ∷ es) (o ∷ os) count same =
+    let first : n ≡ n + zero = omega arith in
+    ap₂ Rattle.lay_point.specs.Parity.xor (ap g first ∙ same zero (omega arith))
+    (by_number f g (n + 1) es os (omega arith) (λ i less.
+    let shifted : (n + 1) + i ≡ n + suc i = omega arith in ap g shifted ∙ same (suc i) (omega arith)))
+
+nat_equality : IsEquality nat_eq
+nat_equality = record {
+  itself = λ m. (Decides-eqb m m).1 refl;
+  apart = λ m n other. by_test (nat_eq m n) other (λ t. (Decides-eqb m n).0 t);
+}
+  where
+    by_test : (b : Bool) {m n : ℕ} → ¬ (m ≡ n) → (b ≡ true → m ≡ n) → b ≡ false
+    by_test true other same = absurd (other (same refl))
+    by_test false other same = refl
+
+any_has : (xs : List ℕ) (n : ℕ) → list_any (nat_eq n) xs ≡ true → Has xs n
+any_has [] n e = absurd cc
+any_has (x ∷ xs) n e = ⊎_elim (λ (here : nat_eq n x ≡ true). inl (sym ((Decides-eqb n x).0 here)))
+    (λ (there : list_any (nat_eq n) xs ≡ true). inr (any_has xs n there)) (or_cases (nat_eq n x) (list_any (nat_eq n) xs) e)
+
+has_any : (xs : List ℕ) (n : ℕ) → Has xs n → list_any (nat_eq n) xs ≡ true
+has_any [] n m = absurd m
+has_any (x ∷ xs) n (inl same) = ap (λ b. b || list_any (nat_eq n) xs) ((Decides-eqb n x).1 (sym same))
+has_any (x ∷ xs) n (inr m) = or_right (nat_eq n x) (list_any (nat_eq n) xs) (has_any xs n m)
+
+-- ---- the edges of a row that are right of a place
+pub record AreRightOf (r : Owned) (row k x y : ℤ) (numbers : List ℕ) : Type 0 where
+  pub rising : IsRising (IsBeforeIn r.0 row) numbers
+  pub members : (n : ℕ) → Has numbers n → CrossesRow r.0 row n
+  pub right : (n : ℕ) → Has numbers n → pos 0 <ℤ distance_right k x y (upward (edge_at r n)).0 (upward (edge_at r n)).1
+  pub all : (n : ℕ) → CrossesRow r.0 row n → pos 0 <ℤ distance_right k x y (upward (edge_at r n)).0 (upward (edge_at r n)).1 → Has numbers n
+
+module _ (r : Owned) (sound : AreSound r) (row k x y : ℤ) (place : IsInRow row k y) (numbers : List ℕ) (h : AreRightOf r row k x y numbers)
+  where
+    crossed : (n : ℕ) → n < length r.0 → parity (nat_eq n) numbers ≡ is_crossed k x y (edge_at r n)
+    crossed n inside =
+        parity_any (IsBeforeIn r.0 row) (before_strict r.0 row) (nat_eq n) numbers h.rising
+        (λ l m b t. nat_equality.apart n m (λ same. (before_strict r.0 row).irreflexive l
+        (subst (IsBeforeIn r.0 row l) (sym same ∙ (Decides-eqb n l).0 t) b)))
+        ∙ both_ways (list_any (nat_eq n) numbers) (is_crossed k x y (edge_at r n))
+        (λ t.
+        let m = any_has numbers n t in
+        sym (up_crossed k x y (edge_at r n))
+        ∙ spans_crossed row k x y (upward (edge_at r n)) place (span r sound row n (h.members n m)) (h.right n m))
+        (λ t.
+        let c = crossed_spans row k x y (upward (edge_at r n)) place (up_rises (edge_at r n)) (up_crossed k x y (edge_at r n) ∙ t) in
+        has_any numbers n (h.all n (
+          inside,
+          λ d. subst (λ (f : Point × Point). crosses_row row f ≡ true) (get_or_default r.0 n nowhere d inside)
+              (crosses row (edge_at r n) c.0.low c.0.high),
+        ) c.1))
+
+    pub odd_right : (o : Owner) → is_odd_in r numbers o ≡ odd_of (owned_items r) o k x y
+    odd_right o =
+        sym (parity_of_occurrences (λ m n. m < n) below_strict nat_eq nat_equality
+        (λ n. is_owner_listed o (owners_at r n)) (numbers_from 0 r.0) numbers (below_rising 0 r.0) given)
+        ∙ by_number (λ p. is_owner_listed o p.1 && is_crossed k x y p.0)
+        (λ n. parity (nat_eq n) numbers && is_owner_listed o (owners_at r n)) 0 r.0 r.1 sound.paired (λ i less.
+        let same : 0 + i ≡ i = omega arith in
+        ap (λ n. parity (nat_eq n) numbers && is_owner_listed o (owners_at r n)) same
+        ∙ ap (λ b. b && is_owner_listed o (owners_at r i)) (crossed i less)
+        ∙ and_turned (is_crossed k x y (edge_at r i)) (is_owner_listed o (owners_at r i)))
+      where
+        and_turned : (a b : Bool) → (a && b) ≡ (b && a)
+        and_turned true true = refl
+        and_turned true false = refl
+        and_turned false true = refl
+        and_turned false false = refl
+
+        given : (n : ℕ) → Has numbers n → Has (numbers_from 0 r.0) n
+        given n m =
+            let same : 0 + n ≡ n = omega arith in
+            subst (Has (numbers_from 0 r.0)) same (numbers_have 0 r.0 n (h.members n m).0)
+
+-- ---- behind an edge of a list that is closed to the right
+after : (xs : List ℕ) (i : ℕ) (n : ℕ) → Has (drop (suc i) xs) n → Has xs n
+after [] i n m = absurd (none i m)
+  where
+    none : (i : ℕ) → Has (drop (suc i) []) n → ⊥
+    none i m = m
+after (x ∷ xs) zero n m = inr m
+after (x ∷ xs) (suc i) n m = inr (after xs i n m)
+
+rising_after : (Before : ℕ → ℕ → Type 0) (xs : List ℕ) (i : ℕ) → IsRising Before xs → IsRising Before (drop (suc i) xs)
+rising_after Before [] i h = tt
+rising_after Before (x ∷ xs) zero h = rising_rest Before x xs h
+rising_after Before (x ∷ xs) (suc i) h = rising_after Before xs i (rising_rest Before x xs h)
+
+-- what is behind an element comes after it, and what comes after it is behind it
+behind_before : (Before : ℕ → ℕ → Type 0) → IsStrictOrder Before → (xs : List ℕ) (i n : ℕ) → i < length xs → IsRising Before xs
+    → Has (drop (suc i) xs) n → Before (get_or xs i 0) n
+behind_before Before laws [] i n less h m = absurd (omega arith)
+behind_before Before laws (x ∷ xs) zero n less h m = before_rest Before laws x xs n h m
+behind_before Before laws (x ∷ xs) (suc i) n less h m = behind_before Before laws xs i n (omega arith) (rising_rest Before x xs h) m
+
+before_behind : (Before : ℕ → ℕ → Type 0) → IsStrictOrder Before → (xs : List ℕ) (i n : ℕ) → i < length xs → IsRising Before xs
+    → Has xs n → Before (get_or xs i 0) n → Has (drop (suc i) xs) n
+before_behind Before laws [] i n less h m b = absurd m
+before_behind Before laws (x ∷ xs) zero n less h (inl same) b = absurd (laws.irreflexive x (subst (Before x) (sym same) b))
+before_behind Before laws (x ∷ xs) zero n less h (inr m) b = m
+before_behind Before laws (x ∷ xs) (suc i) n less h (inl same) b =
+    absurd (laws.irreflexive x (laws.transitive x (get_or xs i 0) x
+    (before_rest Before laws x xs (get_or xs i 0) h (has_get xs i 0 (omega arith))) (subst (Before (get_or xs i 0)) (sym same) b)))
+before_behind Before laws (x ∷ xs) (suc i) n less h (inr m) b =
+    before_behind Before laws xs i n (omega arith) (rising_rest Before x xs h) m b
+
+pub passed_behind : (r : Owned) (p : Point) (numbers : List ℕ) → AreSound r → (s : IsPassed r p numbers) → AreBehind r s.above
+passed_behind r p numbers sound s i less o =
+    let n = get_or s.above i 0 in
+    let u = upward (edge_at r n) in
+    let member : Contains s.above n = contains s.above n (has_get s.above i 0 less) in
+    let cross = s.row_above.members n member in
+    let own = span r sound p.y n cross in
+    let rising = before_rising r.0 p.y s.above (λ m h. s.row_above.members m (contains s.above m h)) s.row_above.rising in
+    let next : i + 1 ≡ suc i = omega arith in
+    ap (λ j. is_odd_in r (drop j s.above) o) next
+    ∙ odd_right r sound p.y (row_k u) (row_x p.y u) (row_y p.y u) (row_place p.y u own) (drop (suc i) s.above) (record {
+      rising = rising_after (IsBeforeIn r.0 p.y) s.above i rising;
+      members = λ m h. s.row_above.members m (contains s.above m (after s.above i m h));
+      right = λ m h.
+          let b = behind_before (IsBeforeIn r.0 p.y) (before_strict r.0 p.y) s.above i m less rising h in
+          let left = b.left nowhere in
+          omega (arith, linear, left, row_distance p.y u (upward (edge_at r m)));
+      all = λ m c far.
+          let v = upward (edge_at r m) in
+          let left : IsLeftOf r.0 p.y n m = λ d.
+          coe 0 1 (z. (row_k (upward (get_or_default r.0 m nowhere d c.0 z)) *ℤ row_x p.y
+          (upward (get_or_default r.0 n nowhere d cross.0 z)))
+          <ℤ (row_k (upward (get_or_default r.0 n nowhere d cross.0 z)) *ℤ row_x p.y (upward (get_or_default r.0 m nowhere d c.0 z))))
+          (less_by (row_k v *ℤ row_x p.y u) (row_k u *ℤ row_x p.y v) (distance_right (row_k u) (row_x p.y u) (row_y p.y u) v.0 v.1) far
+          (row_distance p.y u v)) in
+          let from = (in_order r sound p p.y (beside_own r sound p) n m cross c left).from (s.right n member) in
+          before_behind (IsBeforeIn r.0 p.y) (before_strict r.0 p.y) s.above i m less rising (has s.above m (s.all_right m c from))
+          (record { first = cross; second = c; left = left });
+    }) o
+    ∙ crossed_beside r sound.even sound.clean sound.lesser o (owned_item_at r n) (zip_at r.0 r.1 n sound.paired cross.0) p.y own
+  where
+    less_by : (a b d : ℤ) → pos 0 <ℤ d → pos 2 *ℤ d ≡ b -ℤ a → a <ℤ b
+    less_by a b d far e = omega (arith, linear)
+
+pub status_behind : (r : Owned) (p : Point) (numbers : List ℕ) → AreSound r → (s : IsStatus r p numbers) → AreBehind r s.above
+status_behind r p numbers sound s i less o =
+    let n = get_or s.above i 0 in
+    let u = upward (edge_at r n) in
+    let member : Contains s.above n = contains s.above n (has_get s.above i 0 less) in
+    let cross = s.row_above.members n member in
+    let own = span r sound p.y n cross in
+    let rising = before_rising r.0 p.y s.above (λ m h. s.row_above.members m (contains s.above m h)) s.row_above.rising in
+    let next : i + 1 ≡ suc i = omega arith in
+    ap (λ j. is_odd_in r (drop j s.above) o) next
+    ∙ odd_right r sound p.y (row_k u) (row_x p.y u) (row_y p.y u) (row_place p.y u own) (drop (suc i) s.above) (record {
+      rising = rising_after (IsBeforeIn r.0 p.y) s.above i rising;
+      members = λ m h. s.row_above.members m (contains s.above m (after s.above i m h));
+      right = λ m h.
+          let b = behind_before (IsBeforeIn r.0 p.y) (before_strict r.0 p.y) s.above i m less rising h in
+          let left = b.left nowhere in
+          omega (arith, linear, left, row_distance p.y u (upward (edge_at r m)));
+      all = λ m c far.
+          let v = upward (edge_at r m) in
+          let left : IsLeftOf r.0 p.y n m = λ d.
+          coe 0 1 (z. (row_k (upward (get_or_default r.0 m nowhere d c.0 z)) *ℤ row_x p.y
+          (upward (get_or_default r.0 n nowhere d cross.0 z)))
+          <ℤ (row_k (upward (get_or_default r.0 n nowhere d cross.0 z)) *ℤ row_x p.y (upward (get_or_default r.0 m nowhere d c.0 z))))
+          (less_by (row_k v *ℤ row_x p.y u) (row_k u *ℤ row_x p.y v) (distance_right (row_k u) (row_x p.y u) (row_y p.y u) v.0 v.1) far
+          (row_distance p.y u v)) in
+          let from = (in_order r sound p p.y (beside_own r sound p) n m cross c left).behind (s.right n member) in
+          before_behind (IsBeforeIn r.0 p.y) (before_strict r.0 p.y) s.above i m less rising (has s.above m (s.all_right m c from))
+          (record { first = cross; second = c; left = left });
+    }) o
+    ∙ crossed_beside r sound.even sound.clean sound.lesser o (owned_item_at r n) (zip_at r.0 r.1 n sound.paired cross.0) p.y own
+  where
+    less_by : (a b d : ℤ) → pos 0 <ℤ d → pos 2 *ℤ d ≡ b -ℤ a → a <ℤ b
+    less_by a b d far e = omega (arith, linear)

@@ -1,0 +1,809 @@
+-- Places in the order of the sweep, where edges begin and end in that order, and the stops that are made of them.
+use Rattle.std.proofs.Common.{◌≡◌, ◌≢◌, ◌⊎◌, inl, inr, ⊎_elim, ℕ, zero, suc, ◌+◌, ◌-◌, ◌*◌, ◌/◌, ◌%◌, ◌<◌, ◌≤◌, Bool, true, false}
+use Rattle.std.proofs.Common.{List, [], ◌∷◌, ◌++◌}
+use Rattle.std.proofs.Common.{add-one, append_assoc, length, get_or, map, take, drop, Contains, ℤ, ◌<ℤ◌, ◌≤ℤ◌, refl, sym}
+use Rattle.std.proofs.Common.{ap, subst, ◌∙◌, arith}
+use Rattle.std.specs.Prelude.{All, nat_eq, slice_range}
+use Rattle.std.specs.Cmp.{IsTotalOrder, bool_cmp_total, nat_cmp_is}
+use Rattle.std.specs.List.{AllByRecursion, AllPairs, IsDistinct}
+use Rattle.std.specs.List.Sorted.{IsPermutation, IsSorted, IsSortedBy}
+use Rattle.std.specs.Ordering.{bool_cmp, is_lt, nat_cmp, on, ordering_then, then_cmp}
+use Rattle.std.specs.declared.cmp.Ordering.{Ordering}
+use Rattle.std.specs.declared.cmp.Ordering.TheVariants.{Equal, Less}
+use Rattle.std.proofs.lemmas.Bool.{cases_lt}
+use Rattle.std.proofs.lemmas.Bool.Decides.{Decides-eqb, nat_tests}
+use Rattle.std.proofs.lemmas.Cmp.{nat_cmp_total, on_total, then_total}
+use Rattle.std.proofs.lemmas.Int.{ints}
+use Rattle.std.proofs.lemmas.List.{drop-append-le, get_or-drop, get_or-map, get_or-take, get_or_default, length-append, length-drop}
+use Rattle.std.proofs.lemmas.List.{length-map, length-take-le, map-append, map_more, take-append-le, take_all}
+use Rattle.std.proofs.lemmas.List.Elements.{All-push, Contains-append_cases, Contains-append_left, Contains-append_right}
+use Rattle.std.proofs.lemmas.List.Elements.{recursion_from_All}
+use Rattle.std.proofs.lemmas.List.Sorted.{All-permutation, Contains-permutation, IsPermutation-map, IsPermutation-sym, ranks_by, sorted_far}
+use Rattle.std.proofs.lemmas.Map.Keys.{IsDistinct-IsPermutation}
+use Rattle.std.proofs.lemmas.Map.Made.{AllPairs-from_IsDistinct, IsDistinct-from_AllPairs}
+use Rattle.std.proofs.Math.Seq.{drop-append_seam}
+use Rattle.lay_point.specs.declared.point.Point.{Point}
+use Rattle.lay_point.specs.Edges.{IsEdgeBefore}
+use Rattle.lay_point.specs.Rising.{IsRising}
+use Rattle.lay_point.proofs.Members.{Has, contains, has}
+use Rattle.lay_point.proofs.Rising.{IsStrictOrder}
+use Rattle.lay_point.proofs.Signs.{linear}
+use Rattle.lay_point.proofs.Tests.{le_false, le_true}
+use Rattle.snap_chains.specs.Rounded.{AreClean, Owned}
+use Rattle.snap_chains.proofs.ListLemmas.{map-range}
+use Rattle.face_rows.specs.Crossings.{IsCrossingOf}
+use Rattle.face_rows.specs.Lines.{edge_at, nowhere}
+use Rattle.face_rows.specs.Picked.{picked}
+use Rattle.face_rows.specs.Rows.{CrossesRow, IsLeftOf, crosses_row, crossing, rise, upward}
+use Rattle.face_rows.specs.declared.crossing.Crossing.{Crossing}
+use Rattle.face_rows.proofs.PickedLemmas.{picked_has, picked_of}
+use Rattle.face_rows.proofs.RowLemmas.{before_by_number, has_get, is_left, left_of, spans_of}
+use Rattle.face_rows.proofs.UpwardLemmas.{up_rises}
+use Rattle.face_sweep.proofs.OrderLemmas.{crosses}
+use Rattle.face_sweep.specs.Points.{HasHigh, HasLow, IsAfter, IsEndPoint, IsLevelFrom}
+use Rattle.face_sweep.specs.Stops.{AreBegins, AreInOrder, AreRisers, AreStops, AreTops, BeginAt, IsBeginOf, IsExtended, IsFirstLevel}
+use Rattle.face_sweep.specs.Stops.{IsGroup}
+use Rattle.face_sweep.specs.Stops.{IsHead, IsHeadUpTo, IsNextPlace, IsNoLater, HasLowPlace, HasTopPlace, IsRun, IsSooner, offset}
+use Rattle.face_sweep.specs.Stops.{shifted, IsTopOf, IsWithRisers, begin_of, edge_begins, edge_tops}
+use Rattle.face_sweep.specs.Stops.{numbers_of, place_of, places_of, point_of}
+use Rattle.face_sweep.specs.declared.stops.Begin.{Begin}
+use Rattle.face_sweep.specs.declared.stops.Place.{Place}
+use Rattle.face_sweep.specs.declared.stops.Stop.{Stop}
+use Rattle.face_sweep.specs.declared.stops.Stops.{Stops}
+
+all_has : {A : Type 0} (P : A → Type 0) (xs : List A) → ((x : A) → Has xs x → P x) → All P xs
+all_has P xs f k d less = f (get_or xs k d) (has_get xs k d less)
+
+-- ---- places and points
+offset_shifted : (n : ℕ) → offset (shifted n) ≡ n
+offset_shifted n = grind (arith, ints)
+
+pub place_back : (q : Place) → place_of (point_of q) ≡ q
+place_back q =
+    let y = offset_shifted (q.key / 4294967296) in
+    let x = offset_shifted (4294967295 - q.key % 4294967296) in
+    let key : offset (shifted (q.key / 4294967296)) * 4294967296 + (4294967295 - offset (shifted (4294967295 - q.key % 4294967296)))
+    ≡ q.key = (λ i. y i * 4294967296 + (4294967295 - x i)) ∙ omega arith in
+    λ i. record { key = key i }
+
+sooner_parts : (a b : ℕ) → a < b
+    → ((a / 4294967296 ≡ b / 4294967296) × (a % 4294967296 < b % 4294967296)) ⊎ (a / 4294967296 < b / 4294967296)
+sooner_parts a b less = ⊎_elim
+    (λ (lt : a / 4294967296 < b / 4294967296). inr lt)
+    (λ (ge : b / 4294967296 ≤ a / 4294967296). inl (omega arith, omega arith))
+    (cases_lt (a / 4294967296) (b / 4294967296))
+
+shifted_less : (m n : ℕ) → m < n → shifted m <ℤ shifted n
+shifted_less m n less = omega (arith, linear)
+
+pub sooner_after : (a b : Place) → IsSooner a b → IsAfter (point_of a) (point_of b)
+sooner_after a b less = ⊎_elim
+    (λ (h : (a.key / 4294967296 ≡ b.key / 4294967296) × (a.key % 4294967296 < b.key % 4294967296)).
+    let lt = h.1 in
+    inl (ap shifted h.0, shifted_less (4294967295 - b.key % 4294967296) (4294967295 - a.key % 4294967296) (omega (arith, lt))))
+    (λ (lt : a.key / 4294967296 < b.key / 4294967296).
+    inr (shifted_less (a.key / 4294967296) (b.key / 4294967296) lt))
+    (sooner_parts a.key b.key less)
+
+-- ---- the order of the sweep
+after_irreflexive : (p : Point) → IsAfter p p → ⊥
+after_irreflexive p (inl h) = let lt = h.1 in omega (arith, ints, lt)
+after_irreflexive p (inr lt) = omega (arith, ints, lt)
+
+after_transitive : (p q v : Point) → IsAfter p q → IsAfter q v → IsAfter p v
+after_transitive p q v (inl a) (inl b) = inl (a.0 ∙ b.0, omega (arith, ints, a.1, b.1))
+after_transitive p q v (inl a) (inr b) = inr (omega (arith, ints, a.0, b))
+after_transitive p q v (inr a) (inl b) = inr (omega (arith, ints, a, b.0))
+after_transitive p q v (inr a) (inr b) = inr (omega (arith, ints, a, b))
+
+pub after_is_strict : IsStrictOrder IsAfter
+after_is_strict = record { irreflexive = after_irreflexive; transitive = after_transitive }
+
+sooner_irreflexive : (a : Place) → IsSooner a a → ⊥
+sooner_irreflexive a lt = omega (arith, lt)
+
+sooner_transitive : (a b c : Place) → IsSooner a b → IsSooner b c → IsSooner a c
+sooner_transitive a b c h g = omega (arith, h, g)
+
+sooner_upto : (a b c : Place) → IsSooner a b → IsNoLater b c → IsSooner a c
+sooner_upto a b c h (inl same) = subst (IsSooner a) same h
+sooner_upto a b c h (inr g) = sooner_transitive a b c h g
+
+no_later_transitive : (a b c : Place) → IsNoLater a b → IsNoLater b c → IsNoLater a c
+no_later_transitive a b c (inl same) g = subst (λ z. IsNoLater z c) (sym same) g
+no_later_transitive a b c (inr h) g = inr (sooner_upto a b c h g)
+
+no_later_both : (a b : Place) → IsNoLater a b → IsNoLater b a → a ≡ b
+no_later_both a b (inl same) g = same
+no_later_both a b (inr h) g = absurd (sooner_irreflexive a (sooner_upto a b a h g))
+
+sooner_or_not : (a b : Place) → IsSooner a b ⊎ IsNoLater b a
+sooner_or_not a b = ⊎_elim
+    (λ (less : a.key < b.key). inl less)
+    (λ (ge : b.key ≤ a.key). ⊎_elim
+    (λ (more : b.key < a.key). inr (inr more))
+    (λ (le : a.key ≤ b.key). inr (inl (let same : b.key ≡ a.key = omega arith in λ i. record { key = same i })))
+    (cases_lt b.key a.key))
+    (cases_lt a.key b.key)
+
+-- ---- sorted places and begins
+abbrev place_cmp : Place → Place → Ordering
+place_cmp = on (λ p. p.key) nat_cmp
+
+abbrev begin_cmp : Begin → Begin → Ordering
+begin_cmp = then_cmp (on (λ b. b.place) place_cmp) (then_cmp (on (λ b. b.level) bool_cmp) (on (λ b. b.number) nat_cmp))
+
+place_cmp_total : IsTotalOrder place_cmp
+place_cmp_total = on_total (λ (p : Place). p.key) nat_cmp_total
+
+begin_cmp_total : IsTotalOrder begin_cmp
+begin_cmp_total =
+    then_total (on_total (λ (b : Begin). b.place) place_cmp_total)
+    (then_total (on_total (λ (b : Begin). b.level) bool_cmp_total) (on_total (λ (b : Begin). b.number) nat_cmp_total))
+
+sooner_less : (a b : Place) → IsSooner a b → place_cmp a b ≡ Less
+sooner_less a b lt = sym (nat_cmp_is a.key b.key Less lt)
+
+itself_equal : (a : Place) → place_cmp a a ≡ Equal
+itself_equal a = sym (nat_cmp_is a.key a.key Equal refl)
+
+pub places_in_order : (places : List Place) → IsSorted place_cmp places → AreInOrder places
+places_in_order places sorted i j d le less = ⊎_elim
+    (λ (below : IsSooner (get_or places j d) (get_or places i d)).
+    let up = sorted_far (λ a b. is_lt (place_cmp a b)) (ranks_by place_cmp_total (λ p. p)) places sorted i j d le less in
+    let down = ap is_lt (sooner_less (get_or places j d) (get_or places i d) below) in
+    absurd cc)
+    (λ (not_below : IsNoLater (get_or places i d) (get_or places j d)). not_below)
+    (sooner_or_not (get_or places j d) (get_or places i d))
+
+module _ (begins : List Begin) (sorted : IsSorted begin_cmp begins) where
+  far : (i j : ℕ) (d : Begin) → i ≤ j → j < length begins → is_lt (begin_cmp (get_or begins j d) (get_or begins i d)) ≡ false
+  far i j d le less = sorted_far (λ a b. is_lt (begin_cmp a b)) (ranks_by begin_cmp_total (λ b. b)) begins sorted i j d le less
+
+  pub begins_in_order : AreInOrder (places_of begins)
+  begins_in_order i j p le less =
+      let d : Begin = record { place = p; level = false; number = 0 } in
+      let inside : j < length begins = omega (arith, length-map begins (λ (b : Begin). b.place)) in
+      let before : i < length begins = omega arith in
+      let at_i = get_or-map (λ (b : Begin). b.place) begins i d p before in
+      let at_j = get_or-map (λ (b : Begin). b.place) begins j d p inside in
+      coe 1 0 (z. IsNoLater (at_i z) (at_j z)) (ordered i j d le inside)
+    where
+      ordered : (i j : ℕ) (d : Begin) → i ≤ j → j < length begins → IsNoLater (get_or begins i d).place (get_or begins j d).place
+      ordered i j d le less = ⊎_elim
+          (λ (below : IsSooner (get_or begins j d).place (get_or begins i d).place).
+          let up = far i j d le less in
+          let down = ap (λ o. is_lt (ordering_then o (ordering_then (bool_cmp (get_or begins j d).level (get_or begins i d).level)
+          (nat_cmp (get_or begins j d).number (get_or begins i d).number))))
+          (sooner_less (get_or begins j d).place (get_or begins i d).place below) in
+          absurd cc)
+          (λ (not_below : IsNoLater (get_or begins i d).place (get_or begins j d).place). not_below)
+          (sooner_or_not (get_or begins j d).place (get_or begins i d).place)
+
+  pub levels_last : (i j : ℕ) (d : Begin) → i ≤ j → j < length begins → (get_or begins i d).place ≡ (get_or begins j d).place
+      → (get_or begins i d).level ≡ true → (get_or begins j d).level ≡ true
+  levels_last i j d le less same level = by_test (get_or begins j d).level refl
+    where
+      by_test : (t : Bool) → (get_or begins j d).level ≡ t → t ≡ true
+      by_test true e = refl
+      by_test false e =
+          let up = far i j d le less in
+          let tie : place_cmp (get_or begins j d).place (get_or begins i d).place ≡ Equal =
+          subst (λ p. place_cmp (get_or begins j d).place p ≡ Equal) (sym same) (itself_equal (get_or begins j d).place) in
+          let down : is_lt (begin_cmp (get_or begins j d) (get_or begins i d)) ≡ true = λ k. is_lt (ordering_then (tie k) (ordering_then
+          (bool_cmp (e k) (level k)) (nat_cmp (get_or begins j d).number (get_or begins i d).number))) in
+          absurd cc
+
+-- ---- each edge once
+abbrev picked_begins : ℕ → List (Point × Point) → List Begin
+picked_begins n es = picked (λ e. true) begin_of n es
+
+numbers_after : (n : ℕ) (es : List (Point × Point)) (m : ℕ) → m < n
+    → AllByRecursion (λ k. nat_eq m k ≡ false) (numbers_of (picked_begins n es))
+numbers_after n [] m less = tt
+numbers_after n (e ∷ es) m less = (grind (arith, nat_tests), numbers_after (n + 1) es m (omega arith))
+
+numbers_distinct : (n : ℕ) (es : List (Point × Point)) → IsDistinct nat_eq (numbers_of (picked_begins n es))
+unfolding IsDistinct
+numbers_distinct n [] = tt
+numbers_distinct n (e ∷ es) = (numbers_after (n + 1) es n (omega arith), numbers_distinct (n + 1) es)
+
+flips : (m n : ℕ) → nat_eq m n ≡ nat_eq n m
+flips m n = grind (arith, nat_tests)
+
+pub are_begins : (es : List (Point × Point)) (begins : List Begin)
+    → ((k : ℕ) (d : Point × Point) → k < length es → HasLowPlace (get_or es k d))
+    → IsPermutation (edge_begins es) begins → IsSorted begin_cmp begins → AreBegins es begins
+are_begins es begins fit moved sorted = record {
+  own = All-permutation (IsBeginOf es) (edge_begins es) begins moved (all_has (IsBeginOf es) (edge_begins es) (λ b m.
+      let p = picked_of (λ e. true) begin_of 0 es b m in
+      let zero_more : 0 + p.index ≡ p.index = omega arith in
+      subst (IsBeginOf es) (p.is nowhere) (record {
+        given = subst (λ k. k < length es) (sym zero_more) p.inside;
+        is = λ i. begin_of (0 + p.index) (get_or es (zero_more i) nowhere);
+        point = fit p.index nowhere p.inside ∙ ap (λ k. (upward (get_or es k nowhere)).0) (sym zero_more);
+      })));
+  all = λ n inside. Contains-permutation (edge_begins es) begins (begin_of n (get_or es n nowhere)) moved
+      (contains (edge_begins es) (begin_of n (get_or es n nowhere))
+      (subst (λ k. Has (edge_begins es) (begin_of k (get_or es n nowhere))) (omega arith)
+      (picked_has (λ e. true) begin_of 0 es n nowhere inside refl)));
+  order = begins_in_order begins sorted;
+  levels = levels_last begins sorted;
+  apart = AllPairs-from_IsDistinct Decides-eqb (numbers_of begins)
+      (IsDistinct-IsPermutation nat_eq flips (numbers_of (edge_begins es)) (numbers_of begins)
+      (IsPermutation-map (λ (b : Begin). b.number) (edge_begins es) begins moved) (numbers_distinct 0 es));
+}
+
+pub are_tops : (es : List (Point × Point)) (tops : List Place) → ((k : ℕ) (d : Point × Point) → k < length es → HasTopPlace (get_or es k d))
+    → IsPermutation (edge_tops es) tops → IsSorted place_cmp tops → AreTops es tops
+are_tops es tops fit moved sorted = record {
+  own = All-permutation (IsTopOf es) (edge_tops es) tops moved (all_has (IsTopOf es) (edge_tops es) (λ q m.
+      let p = picked_of (λ e. true) (λ n e. place_of (upward e).1) 0 es q m in
+      record {
+        number = p.index;
+        given = p.inside;
+        point = ap point_of (sym (p.is nowhere)) ∙ fit p.index nowhere p.inside;
+      }));
+  all = λ n inside.
+      let q = place_of (upward (get_or es n nowhere)).1 in (
+        q,
+        Contains-permutation (edge_tops es) tops q moved
+            (contains (edge_tops es) q (picked_has (λ e. true) (λ n e. place_of (upward e).1) 0 es n nowhere inside refl)),
+        fit n nowhere inside,
+      );
+  order = places_in_order tops sorted;
+}
+
+-- ---- a run of one place
+pub run_more : (places : List Place) (from to : ℕ) (p : Place) → AreInOrder places → IsHeadUpTo places from p
+    → from ≤ to → to < length places
+    → ((d : Place) → IsNoLater (get_or places to d) p) → ((k : ℕ) (d : Place) → from ≤ k → k < to → get_or places k d ≡ p)
+    → (k : ℕ) (d : Place) → from ≤ k → k < to + 1 → get_or places k d ≡ p
+run_more places from to p order ahead le less here so_far k d ge lt = ⊎_elim
+    (λ (before : k < to). so_far k d ge before)
+    (λ (at : to ≤ k).
+    let same : to ≡ k = omega arith in
+    subst (λ j. get_or places j d ≡ p) same
+    (no_later_both (get_or places to d) p (here d)
+    (no_later_transitive p (get_or places from d) (get_or places to d) (ahead d (omega arith)) (order from to d le less))))
+    (cases_lt k to)
+
+pub run_behind : (places : List Place) (to : ℕ) (p : Place) → AreInOrder places
+    → ((d : Place) → to < length places → IsSooner p (get_or places to d))
+    → (k : ℕ) (d : Place) → to ≤ k → k < length places → IsSooner p (get_or places k d)
+run_behind places to p order here k d le less =
+    sooner_upto p (get_or places to d) (get_or places k d) (here d (omega arith)) (order to k d le less)
+
+run_moves : (places : List Place) (i j : ℕ) (p : Place) → IsHead places i p → IsRun places i j p → i < j
+run_moves places i j p head run = ⊎_elim
+    (λ (less : i < j). less)
+    (λ (le : j ≤ i). absurd (sooner_irreflexive p (subst (IsSooner p) (head.1 p) (run.behind i p le head.0))))
+    (cases_lt i j)
+
+-- with each place fewer are left
+pub fewer_left : (lows tops : List Place) (low top after over : ℕ) (p : Place) → IsNextPlace lows low tops top p → IsRun lows low after p
+    → IsRun tops top over p → (length lows - after) + (length tops - over) < (length lows - low) + (length tops - top)
+fewer_left lows tops low top after over p next run_low run_top = ⊎_elim
+    (λ (l : IsHead lows low p). let less = run_moves lows low after p l run_low in omega (arith, less, run_low.bound, run_top.order))
+    (λ (t : IsHead tops top p). let less = run_moves tops top over p t run_top in omega (arith, less, run_low.order, run_top.bound))
+    next.one
+
+-- ---- parts of lists
+pub range_front : {A : Type 0} (xs : List A) (i : ℕ) → slice_range xs 0 i ≡ take i xs
+range_front xs i = ap (λ n. take n xs) (omega arith)
+
+range_length : {A : Type 0} (xs : List A) (a b : ℕ) → a ≤ b → b ≤ length xs → length (slice_range xs a b) ≡ b - a
+range_length xs a b le bound = length-take-le (b - a) (drop a xs) (omega (arith, length-drop a xs))
+
+range_get : {A : Type 0} (xs : List A) (a b k : ℕ) (d : A) → k < b - a → get_or (slice_range xs a b) k d ≡ get_or xs (a + k) d
+range_get xs a b k d less = get_or-take (b - a) (drop a xs) k d less ∙ get_or-drop a xs k d
+
+range_all : {A : Type 0} (P : A → Type 0) (xs : List A) (a b : ℕ) → a ≤ b → b ≤ length xs
+    → ((k : ℕ) (d : A) → a ≤ k → k < b → k < length xs → P (get_or xs k d)) → All P (slice_range xs a b)
+range_all P xs a b le bound f k d less =
+    let inside : k < b - a = omega (arith, range_length xs a b le bound) in
+    subst P (sym (range_get xs a b k d inside)) (f (a + k) d (omega arith) (omega arith) (omega arith))
+
+range_pairs : {A : Type 0} (R : A → A → Type 0) (xs : List A) (a b : ℕ) → a ≤ b → b ≤ length xs → AllPairs R xs
+    → AllPairs R (slice_range xs a b)
+range_pairs R xs a b le bound h i j d less inside =
+    let in_j : j < b - a = omega (arith, range_length xs a b le bound) in
+    let in_i : i < b - a = omega arith in
+    coe 1 0 (z. R (range_get xs a b i d in_i z) (range_get xs a b j d in_j z)) (h (a + i) (a + j) d (omega arith) (omega arith))
+
+range_numbers : (xs : List Begin) (a b : ℕ) → a ≤ b → b ≤ length xs → AllPairs (λ m n. m ≢ n) (numbers_of xs)
+    → AllPairs (λ m n. m ≢ n) (numbers_of (slice_range xs a b))
+range_numbers xs a b le bound h =
+    subst (AllPairs (λ m n. m ≢ n)) (sym (map-range (λ (z : Begin). z.number) xs a b))
+    (range_pairs (λ m n. m ≢ n) (numbers_of xs) a b le (omega (arith, length-map xs (λ (z : Begin). z.number))) h)
+
+-- a number of the list is that of one of its elements
+pub number_in : (xs : List Begin) (n k : ℕ) (d : Begin) → k < length xs → (get_or xs k d).number ≡ n → Contains (numbers_of xs) n
+number_in xs n k d less same =
+    (k, omega (arith, length-map xs (λ (b : Begin). b.number)), get_or-map (λ (b : Begin). b.number) xs k d n less ∙ same)
+
+pub record IsNumberOf (xs : List Begin) (n : ℕ) : Type 0 where
+  pub index : ℕ
+  pub inside : index < length xs
+  pub is : (d : Begin) → (get_or xs index d).number ≡ n
+
+pub number_of : (xs : List Begin) (n : ℕ) → Contains (numbers_of xs) n → IsNumberOf xs n
+number_of xs n m =
+    let less : m.0 < length xs = omega (arith, length-map xs (λ (b : Begin). b.number), m.1) in
+    record { index = m.0; inside = less; is = λ d. sym (get_or-map (λ (b : Begin). b.number) xs m.0 d n less) ∙ m.2 }
+
+-- ---- what a begin tells of its edge
+module _ (es : List (Point × Point)) (b : Begin) (own : IsBeginOf es b) where
+  low_of : (p : Point) → point_of b.place ≡ p → (upward (get_or es b.number nowhere)).0 ≡ p
+  low_of p at = sym own.point ∙ at
+
+  low_row : (upward (get_or es b.number nowhere)).0.y ≡ (point_of b.place).y
+  low_row = ap (λ (z : Point). z.y) (sym own.point)
+
+  rises_of : b.level ≡ false → (upward (get_or es b.number nowhere)).0.y <ℤ (upward (get_or es b.number nowhere)).1.y
+  rises_of level = le_false (upward (get_or es b.number nowhere)).1.y (upward (get_or es b.number nowhere)).0.y
+      (ap (λ (z : Begin). z.level) own.is ∙ level)
+
+  flat_of : b.level ≡ true → (upward (get_or es b.number nowhere)).1.y ≤ℤ (upward (get_or es b.number nowhere)).0.y
+  flat_of level = le_true (upward (get_or es b.number nowhere)).1.y (upward (get_or es b.number nowhere)).0.y
+      (ap (λ (z : Begin). z.level) own.is ∙ level)
+
+  pub crosses_own : (row : ℤ) → (point_of b.place).y ≡ row → b.level ≡ false → CrossesRow es row b.number
+  crosses_own row at level =
+      let e = get_or es b.number nowhere in
+      let low : (upward e).0.y ≡ row = low_row ∙ at in
+      let up = rises_of level in (
+        own.given,
+        λ d. subst (λ f. crosses_row row f ≡ true) (get_or_default es b.number nowhere d own.given)
+            (crosses row e (omega (arith, linear, low)) (omega (arith, linear, low, up))),
+      )
+
+-- ---- the edges that begin at one point
+pub group_of : (es : List (Point × Point)) (begins : List Begin) (points : List Point) (low after : ℕ) (p : Place) → AreBegins es begins
+    → IsRun (places_of begins) low after p
+    → ((k : ℕ) (d : Place) → k < low → k < length (places_of begins) → Contains points (point_of (get_or (places_of begins) k d)))
+    → ((q : Point) → Contains points q → IsAfter q (point_of p))
+    → IsGroup es (point_of p) (slice_range begins low after)
+group_of es begins points low after p h run had passed =
+    let count = length-map begins (λ (b : Begin). b.place) in
+    let bound : after ≤ length begins = omega (arith, count, run.bound) in
+    record {
+      own = range_all (IsBeginOf es) begins low after run.order bound (λ k d ge lt inside. h.own k d inside);
+      at = range_all (λ b. point_of b.place ≡ point_of p) begins low after run.order bound
+          (λ k d ge lt inside. ap point_of (here k d ge lt inside));
+      all = λ n given low_is.
+          let b = begin_of n (get_or es n nowhere) in
+          let m = h.all n given in
+          let less : m.0 < length begins = m.1 in
+          let at : get_or (places_of begins) m.0 p ≡ p =
+          get_or-map (λ (z : Begin). z.place) begins m.0 b p less ∙ ap (λ (z : Begin). z.place) m.2 ∙ ap place_of low_is ∙ place_back p in
+          let inside : m.0 < length (places_of begins) = omega (arith, count) in
+          ⊎_elim
+          (λ (before : m.0 < low). absurd (after_irreflexive (point_of p)
+          (passed (point_of p) (subst (λ z. Contains points (point_of z)) at (had m.0 p before inside)))))
+          (λ (ge : low ≤ m.0). ⊎_elim
+          (λ (lt : m.0 < after).
+          let k = m.0 - low in
+          let in_range : k < after - low = omega arith in
+          let back : low + k ≡ m.0 = omega arith in
+          number_in (slice_range begins low after) n k b (omega (arith, range_length begins low after run.order bound))
+          (ap (λ (z : Begin). z.number) (range_get begins low after k b in_range ∙ ap (λ j. get_or begins j b) back ∙ m.2)))
+          (λ (behind : after ≤ m.0). absurd (sooner_irreflexive p (subst (IsSooner p) at (run.behind m.0 p behind inside))))
+          (cases_lt m.0 after))
+          (cases_lt m.0 low);
+      levels = λ i j d le less level.
+          let in_j : j < after - low = omega (arith, range_length begins low after run.order bound) in
+          let in_i : i < after - low = omega arith in
+          let in_begins : low + j < length begins = omega (arith, run.order) in
+          let at_i = range_get begins low after i d in_i in
+          let at_j = range_get begins low after j d in_j in
+          ap (λ (z : Begin). z.level) at_j
+          ∙ h.levels (low + i) (low + j) d (omega arith) in_begins
+          (here (low + i) d (omega arith) (omega arith) (omega arith) ∙ sym (here (low + j) d (omega arith) (omega arith) in_begins))
+          (sym (ap (λ (z : Begin). z.level) at_i) ∙ level);
+      apart = range_numbers begins low after run.order bound h.apart;
+    }
+  where
+    here : (k : ℕ) (d : Begin) → low ≤ k → k < after → k < length begins → (get_or begins k d).place ≡ p
+    here k d ge lt inside = sym (get_or-map (λ (z : Begin). z.place) begins k d p inside) ∙ run.same k p ge lt
+
+pub risers_of : (es : List (Point × Point)) (p : Point) (group : List Begin) (index : ℕ) → IsGroup es p group → IsFirstLevel group index
+    → AreRisers es p.y (slice_range group 0 index)
+risers_of es p group index h first = record {
+  own = range_all (IsBeginOf es) group 0 index (omega arith) first.bound (λ k d ge lt inside. h.own k d inside);
+  rising = range_all (λ b. b.level ≡ false) group 0 index (omega arith) first.bound (λ k d ge lt inside. first.before k d lt);
+  at = range_all (λ b. (point_of b.place).y ≡ p.y) group 0 index (omega arith) first.bound
+      (λ k d ge lt inside. ap (λ (z : Point). z.y) (h.at k d inside));
+  apart = range_numbers group 0 index (omega arith) first.bound h.apart;
+}
+
+-- a number of the edges before the index
+record IsFront (group : List Begin) (index n : ℕ) : Type 0 where
+  pub place : ℕ
+  pub early : place < index
+  pub inside : place < length group
+  pub is : (d : Begin) → (get_or group place d).number ≡ n
+
+-- the edges that rise, and then those that are level
+pub begin_at : (r : Owned) (p : Point) (group : List Begin) (index : ℕ) (old mid new : List ℕ) → IsGroup r.0 p group
+    → IsFirstLevel group index → IsWithRisers r.0 p.y (slice_range group 0 index) old mid
+    → new ≡ mid ++ numbers_of (slice_range group index (length group)) → IsExtended r p old new
+begin_at r p group index old mid new h first risers is = record {
+  added = risers.added ++ levels;
+  is = is ∙ ap (λ xs. xs ++ levels) risers.is ∙ append_assoc old risers.added levels;
+  begun = record {
+    begun = risers.added;
+    level = levels;
+    joined = refl;
+    rising = record {
+      rising = risers.rising;
+      row = λ n m.
+          let f = front n (risers.among n m) in
+          subst (CrossesRow r.0 p.y) (f.is any) (crosses_own r.0 (get_or group f.place any) (h.own f.place any f.inside) p.y
+          (ap (λ (z : Point). z.y) (h.at f.place any f.inside)) (first.before f.place any f.early));
+      at = λ n m.
+          let f = front n (risers.among n m) in
+          subst (HasLow r p) (f.is any) (low_of r.0 (get_or group f.place any) (h.own f.place any f.inside) p (h.at f.place any f.inside));
+      all = λ n cross low_is.
+          let m = number_of group n (h.all n cross.0 low_is) in
+          ⊎_elim
+          (λ (early : m.index < index). risers.all n (in_front n m early))
+          (λ (late : index ≤ m.index).
+          let own = h.own m.index any m.inside in
+          let flat = flat_of r.0 (get_or group m.index any) own (level_from m.index late m.inside) in
+          let flat_n : (upward (edge_at r n)).1.y ≤ℤ (upward (edge_at r n)).0.y =
+          subst (λ k. (upward (edge_at r k)).1.y ≤ℤ (upward (edge_at r k)).0.y) (m.is any) flat in
+          let s = spans_of p.y (edge_at r n) (cross.1 nowhere) in
+          absurd (omega (arith, linear, flat_n, s.low, s.high)))
+          (cases_lt m.index index);
+    };
+    levels = λ n m.
+        let f = number_of (slice_range group index (length group)) n m in
+        let lt : f.index < length group - index =
+        omega (arith, f.inside, range_length group index (length group) first.bound (omega arith)) in
+        let inside : index + f.index < length group = omega arith in
+        let b = get_or group (index + f.index) any in
+        let same : b.number ≡ n =
+        sym (ap (λ (z : Begin). z.number) (range_get group index (length group) f.index any lt)) ∙ f.is any in
+        let own = h.own (index + f.index) any inside in
+        subst (IsLevelFrom r p) same (level_own b own (h.at (index + f.index) any inside)
+        (level_from (index + f.index) (omega arith) inside));
+    all_levels = λ n l.
+        let m = number_of group n (h.all n l.given l.begins) in
+        ⊎_elim
+        (λ (early : m.index < index).
+        let up = rises_of r.0 (get_or group m.index any) (h.own m.index any m.inside) (first.before m.index any early) in
+        let up_n : (upward (edge_at r n)).0.y <ℤ (upward (edge_at r n)).1.y =
+        subst (λ k. (upward (edge_at r k)).0.y <ℤ (upward (edge_at r k)).1.y) (m.is any) up in
+        let flat = l.level in
+        let low : (upward (edge_at r n)).0.y ≡ p.y = ap (λ (z : Point). z.y) l.begins in
+        absurd (omega (arith, linear, up_n, flat, low)))
+        (λ (late : index ≤ m.index).
+        let k = m.index - index in
+        let lt : k < length group - index = omega (arith, m.inside) in
+        let back : index + k ≡ m.index = omega arith in
+        number_in (slice_range group index (length group)) n k any
+        (omega (arith, range_length group index (length group) first.bound (omega arith)))
+        (ap (λ (z : Begin). z.number) (range_get group index (length group) k any lt ∙ ap (λ j. get_or group j any) back) ∙ m.is any))
+        (cases_lt m.index index);
+  };
+}
+  where
+    any : Begin
+    any = record { place = record { key = 0 }; level = false; number = 0 }
+
+    levels : List ℕ
+    levels = numbers_of (slice_range group index (length group))
+
+    level_from : (k : ℕ) → index ≤ k → k < length group → (get_or group k any).level ≡ true
+    level_from k le inside = h.levels index k any le inside (first.here any (omega arith))
+
+    level_own : (b : Begin) → IsBeginOf r.0 b → point_of b.place ≡ p → b.level ≡ true → IsLevelFrom r p b.number
+    level_own b own at level =
+        let e = edge_at r b.number in
+        let low : (upward e).0.y ≡ p.y = ap (λ (z : Point). z.y) (low_of r.0 b own p at) in
+        let flat = flat_of r.0 b own level in
+        let up = up_rises e in
+        record { given = own.given; begins = low_of r.0 b own p at; level = omega (arith, ints, low, flat, up) }
+
+    front : (n : ℕ) → Contains (numbers_of (slice_range group 0 index)) n → IsFront group index n
+    front n m =
+        let f = number_of (slice_range group 0 index) n m in
+        let early : f.index < index = omega (arith, f.inside, range_length group 0 index (omega arith) first.bound) in
+        let zero_more : 0 + f.index ≡ f.index = omega arith in
+        record {
+          place = f.index;
+          early = early;
+          inside = omega (arith, first.bound);
+          is = λ d. ap (λ k. (get_or group k d).number) (sym zero_more)
+              ∙ sym (ap (λ (z : Begin). z.number) (range_get group 0 index f.index d (omega arith))) ∙ f.is d;
+        }
+
+    in_front : (n : ℕ) (m : IsNumberOf group n) → m.index < index → Contains (numbers_of (slice_range group 0 index)) n
+    in_front n m early =
+        let zero_more : 0 + m.index ≡ m.index = omega arith in
+        number_in (slice_range group 0 index) n m.index any (omega (arith, range_length group 0 index (omega arith) first.bound))
+        (ap (λ (z : Begin). z.number) (range_get group 0 index m.index any (omega arith)) ∙ ap (λ k. (get_or group k any).number) zero_more
+        ∙ m.is any)
+
+-- ---- edges that rise from one point, from left to right
+pub few_risers : (es : List (Point × Point)) (row : ℤ) (group : List Begin) (old new : List ℕ) → length group < 2
+    → new ≡ old ++ numbers_of group → IsWithRisers es row group old new
+few_risers es row group old new few is = record {
+  added = numbers_of group;
+  is = is;
+  rising = at_most_one group few;
+  among = λ n m. m;
+  all = λ n m. m;
+}
+  where
+    at_most_one : (xs : List Begin) → length xs < 2 → IsRising (IsLeftOf es row) (numbers_of xs)
+    at_most_one [] less = tt
+    at_most_one (b ∷ []) less = tt
+    at_most_one (b ∷ c ∷ xs) less = absurd (omega arith)
+
+pub crossing_all : (es : List (Point × Point)) (row : ℤ) (group : List Begin) → AreRisers es row group
+    → (k : ℕ) (d : Begin) → k < length group → CrossesRow es row (get_or group k d).number
+crossing_all es row group h k d less =
+    crosses_own es (get_or group k d) (h.own k d less) row (h.at k d less) (h.rising k d less)
+
+-- where one edge more crosses the row
+pub crossing_push : (es : List (Point × Point)) (row : ℤ) (group : List Begin) (i : ℕ) (d : Begin) (old : List Crossing) (c : Crossing)
+    (e : Point × Point) → i < length group → AreRisers es row group → e ≡ get_or es (get_or group i d).number e
+    → c.number ≡ (get_or group i d).number → c.x ≡ crossing row e → c.rise ≡ rise e
+    → map (λ z. z.number) old ≡ numbers_of (take i group) → All (IsCrossingOf es row) old
+    → (map (λ z. z.number) (old ++ c ∷ []) ≡ numbers_of (take (i + 1) group)) × All (IsCrossingOf es row) (old ++ c ∷ [])
+crossing_push es row group i d old c e less risers is_e number x up numbers places =
+    let n = (get_or group i d).number in
+    let cross = crossing_all es row group risers i d less in
+    let any : (f : Point × Point) → e ≡ get_or es n f = λ f. is_e ∙ get_or_default es n e f cross.0 in (
+      map-append (λ (z : Crossing). z.number) old (c ∷ []) ∙ (λ k. numbers k ++ number k ∷ [])
+          ∙ sym (map_more (λ (b : Begin). b.number) group i d less),
+      All-push (IsCrossingOf es row) old c places (record {
+        given = subst (λ m. m < length es) (sym number) cross.0;
+        crosses = subst (λ m. (f : Point × Point) → crosses_row row (get_or es m f) ≡ true) (sym number) cross.1;
+        x = λ f. x ∙ ap (crossing row) (any f) ∙ ap (λ m. crossing row (get_or es m f)) (sym number);
+        rise = λ f. up ∙ ap rise (any f) ∙ ap (λ m. rise (get_or es m f)) (sym number);
+      }),
+    )
+
+module _ (es : List (Point × Point)) (row : ℤ) (rising : IsRising IsEdgeBefore es) (clean : AreClean es) where
+  all_rising : (cs : List Crossing) → AllByRecursion (IsCrossingOf es row) cs → IsDistinct nat_eq (map (λ c. c.number) cs)
+      → ((k : ℕ) (d : Crossing) → suc k < length cs → is_left (get_or cs (suc k) d) (get_or cs k d) ≡ false)
+      → IsRising (IsLeftOf es row) (map (λ c. c.number) cs)
+  unfolding IsDistinct
+  all_rising [] all apart sorted = tt
+  all_rising (a ∷ []) all apart sorted = tt
+  all_rising (a ∷ b ∷ cs) all apart sorted = (
+    left_of es row rising clean a b all.0 all.1.0 apart.0.0 (sorted zero a (omega arith)),
+    all_rising (b ∷ cs) all.1 apart.1 (λ k d less. sorted (suc k) d (omega arith)),
+  )
+
+  pub many_risers : (group : List Begin) (cs sorted : List Crossing) (old new : List ℕ) → AllPairs (λ m n. m ≢ n) (numbers_of group)
+      → map (λ c. c.number) cs ≡ numbers_of group → All (IsCrossingOf es row) cs → IsPermutation cs sorted → IsSortedBy is_left sorted
+      → new ≡ old ++ map (λ c. c.number) sorted → IsWithRisers es row group old new
+  many_risers group cs sorted old new apart numbers places moved order is =
+      let all = recursion_from_All (IsCrossingOf es row) sorted (All-permutation (IsCrossingOf es row) cs sorted moved places) in
+      let moved_numbers = IsPermutation-map (λ (c : Crossing). c.number) cs sorted moved in
+      let distinct : IsDistinct nat_eq (map (λ (c : Crossing). c.number) sorted) =
+      IsDistinct-IsPermutation nat_eq flips (map (λ (c : Crossing). c.number) cs) (map (λ (c : Crossing). c.number) sorted) moved_numbers
+      (subst (IsDistinct nat_eq) (sym numbers) (IsDistinct-from_AllPairs Decides-eqb (numbers_of group) apart)) in
+      record {
+        added = map (λ (c : Crossing). c.number) sorted;
+        is = is;
+        rising = all_rising sorted all distinct (λ k d less.
+            subst (λ m. is_left (get_or sorted m d) (get_or sorted k d) ≡ false) (add-one k) (order k d (omega arith) (omega arith)));
+        among = λ n m. subst (λ ns. Contains ns n) numbers
+            (Contains-permutation (map (λ (c : Crossing). c.number) sorted) (map (λ (c : Crossing). c.number) cs) n
+            (IsPermutation-sym (map (λ (c : Crossing). c.number) cs) (map (λ (c : Crossing). c.number) sorted) moved_numbers) m);
+        all = λ n m. Contains-permutation (map (λ (c : Crossing). c.number) cs) (map (λ (c : Crossing). c.number) sorted) n moved_numbers
+            (subst (λ ns. Contains ns n) (sym numbers) m);
+      }
+
+-- ---- the stops so far
+-- the places before the index are among the points, and all points come before those from it on
+pub record IsJoined (places : List Place) (points : List Point) (i : ℕ) : Type 0 where
+  pub had : (k : ℕ) (d : Place) → k < i → k < length places → Contains points (point_of (get_or places k d))
+  pub ahead : (q : Point) (k : ℕ) (d : Place) → Contains points q → i ≤ k → k < length places → IsAfter q (point_of (get_or places k d))
+
+only : {A : Type 0} (x y : A) → Contains (x ∷ []) y → x ≡ y
+only x y m = ⊎_elim (λ (same : x ≡ y). same) (λ none. absurd none) (has (x ∷ []) y m)
+
+joined_more : (places : List Place) (points : List Point) (i j : ℕ) (p : Place) → IsJoined places points i → IsRun places i j p
+    → IsJoined places (points ++ point_of p ∷ []) j
+joined_more places points i j p h run = record {
+  had = λ k d less inside. ⊎_elim
+      (λ (before : k < i). Contains-append_left points (point_of p ∷ []) (point_of (get_or places k d)) (h.had k d before inside))
+      (λ (ge : i ≤ k). subst (λ (z : Place). Contains (points ++ point_of p ∷ []) (point_of z)) (sym (run.same k d ge less))
+      (Contains-append_right points (point_of p ∷ []) (point_of p) (contains (point_of p ∷ []) (point_of p) (inl refl))))
+      (cases_lt k i);
+  ahead = λ q k d m le inside. ⊎_elim
+      (λ (old : Contains points q). h.ahead q k d old (omega (arith, run.order)) inside)
+      (λ (new : Contains (point_of p ∷ []) q). subst (λ z. IsAfter z (point_of (get_or places k d))) (only (point_of p) q new)
+      (sooner_after p (get_or places k d) (run.behind k d le inside)))
+      (Contains-append_cases points (point_of p ∷ []) q m);
+}
+
+rising_push : (xs : List Point) (x : Point) → IsRising IsAfter xs → ((y : Point) → Has xs y → IsAfter y x) → IsRising IsAfter (xs ++ x ∷ [])
+rising_push [] x h b = tt
+rising_push (y ∷ []) x h b = (b y (inl refl), tt)
+rising_push (y ∷ z ∷ zs) x h b = (h.0, rising_push (z ∷ zs) x h.1 (λ v m. b v (inr m)))
+
+abbrev pub points_of : List Stop → List Point
+points_of = map (λ s. s.point)
+
+-- the edges that begin at the stop
+pub record IsStopOf (r : Owned) (begun : List ℕ) (s : Stop) : Type 0 where
+  pub order : s.from ≤ s.to
+  pub bound : s.to ≤ length begun
+  pub begun_at : BeginAt r s.point (slice_range begun s.from s.to)
+
+pub record AreStopsTo (r : Owned) (lows tops : List Place) (low top : ℕ) (list : List Stop) (begun : List ℕ) : Type 0 where
+  pub low_bound : low ≤ length lows
+  pub top_bound : top ≤ length tops
+  pub rising : IsRising IsAfter (points_of list)
+  pub some : (p : Point) → Contains (points_of list) p → IsEndPoint r p
+  pub low_joined : IsJoined lows (points_of list) low
+  pub top_joined : IsJoined tops (points_of list) top
+  pub own : All (IsStopOf r begun) list
+
+-- the next place is after all points so far
+pub passed_all : (r : Owned) (lows tops : List Place) (low top : ℕ) (list : List Stop) (begun : List ℕ) (p : Place)
+    → AreStopsTo r lows tops low top list begun → IsNextPlace lows low tops top p → (q : Point) → Contains (points_of list) q
+    → IsAfter q (point_of p)
+passed_all r lows tops low top list begun p h next q m = ⊎_elim
+    (λ (l : IsHead lows low p). subst (λ (z : Place). IsAfter q (point_of z)) (l.1 p) (h.low_joined.ahead q low p m (omega arith) l.0))
+    (λ (t : IsHead tops top p). subst (λ (z : Place). IsAfter q (point_of z)) (t.1 p) (h.top_joined.ahead q top p m (omega arith) t.0))
+    next.one
+
+-- and an edge begins or ends there
+end_point : (r : Owned) (begins : List Begin) (tops : List Place) (low top : ℕ) (p : Place) → AreBegins r.0 begins → AreTops r.0 tops
+    → IsNextPlace (places_of begins) low tops top p → IsEndPoint r (point_of p)
+end_point r begins tops low top p begin_facts top_facts next = ⊎_elim
+    (λ (l : IsHead (places_of begins) low p).
+    let d : Begin = record { place = p; level = false; number = 0 } in
+    let inside : low < length begins = omega (arith, l.0, length-map begins (λ (b : Begin). b.place)) in
+    let b = get_or begins low d in
+    let own = begin_facts.own low d inside in
+    let at : point_of b.place ≡ point_of p =
+    ap point_of (sym (get_or-map (λ (z : Begin). z.place) begins low d p inside) ∙ l.1 p) in
+    record { number = b.number; given = own.given; at = inl (low_of r.0 b own (point_of p) at) })
+    (λ (t : IsHead tops top p).
+    let own = top_facts.own top p t.0 in
+    record {
+      number = own.number;
+      given = own.given;
+      at = inr (sym own.point ∙ ap point_of (t.1 p));
+    })
+    next.one
+
+range_kept : (begun added : List ℕ) (a b : ℕ) → a ≤ b → b ≤ length begun → slice_range (begun ++ added) a b ≡ slice_range begun a b
+range_kept begun added a b le bound =
+    ap (take (b - a)) (drop-append-le a begun added (omega arith))
+    ∙ take-append-le (b - a) (drop a begun) added (omega (arith, length-drop a begun))
+
+range_added : (begun added : List ℕ) → slice_range (begun ++ added) (length begun) (length (begun ++ added)) ≡ added
+range_added begun added =
+    ap (take (length (begun ++ added) - length begun)) (drop-append_seam begun added)
+    ∙ take_all (length (begun ++ added) - length begun) added (omega (arith, length-append begun added))
+
+stop_kept : (r : Owned) (begun added : List ℕ) (s : Stop) → IsStopOf r begun s → IsStopOf r (begun ++ added) s
+stop_kept r begun added s h = record {
+  order = h.order;
+  bound = omega (arith, h.bound, length-append begun added);
+  begun_at = subst (BeginAt r s.point) (sym (range_kept begun added s.from s.to h.order h.bound)) h.begun_at;
+}
+
+pub stops_more : (r : Owned) (begins : List Begin) (tops : List Place) (low top after over : ℕ) (list more : List Stop) (old new : List ℕ)
+    (p : Place) (s : Stop) → AreBegins r.0 begins → AreTops r.0 tops → AreStopsTo r (places_of begins) tops low top list old
+    → IsNextPlace (places_of begins) low tops top p → IsRun (places_of begins) low after p → IsRun tops top over p
+    → IsExtended r (point_of p) old new → s.point ≡ point_of p → s.from ≡ length old → s.to ≡ length new → more ≡ list ++ s ∷ []
+    → AreStopsTo r (places_of begins) tops after over more new
+stops_more r begins tops low top after over list more old new p s begin_facts top_facts h next run_low run_top extended at from to is =
+    let points : points_of more ≡ points_of list ++ point_of p ∷ [] =
+    ap points_of is ∙ map-append (λ (z : Stop). z.point) list (s ∷ []) ∙ ap (λ q. points_of list ++ q ∷ []) at in
+    let all : new ≡ old ++ extended.added = extended.is in
+    let passed = passed_all r (places_of begins) tops low top list old p h next in
+    let here : IsStopOf r new s = record {
+      order = omega (arith, from, to, ap length all, length-append old extended.added);
+      bound = omega (arith, to);
+      begun_at = coe 1 0 (z. BeginAt r (at z) (slice_range (all z) (from z) (to_all z)))
+          (subst (BeginAt r (point_of p)) (sym (range_added old extended.added)) extended.begun);
+    } in
+    record {
+      low_bound = run_low.bound;
+      top_bound = run_top.bound;
+      rising = subst (IsRising IsAfter) (sym points)
+          (rising_push (points_of list) (point_of p) h.rising (λ q m. passed q (contains (points_of list) q m)));
+      some = λ q m. ⊎_elim
+          (λ (before : Contains (points_of list) q). h.some q before)
+          (λ (new_one : Contains (point_of p ∷ []) q).
+          subst (IsEndPoint r) (only (point_of p) q new_one) (end_point r begins tops low top p begin_facts top_facts next))
+          (Contains-append_cases (points_of list) (point_of p ∷ []) q (subst (λ ps. Contains ps q) points m));
+      low_joined = subst (λ ps. IsJoined (places_of begins) ps after) (sym points)
+          (joined_more (places_of begins) (points_of list) low after p h.low_joined run_low);
+      top_joined = subst (λ ps. IsJoined tops ps over) (sym points) (joined_more tops (points_of list) top over p h.top_joined run_top);
+      own = subst (All (IsStopOf r new)) (sym is) (All-push (IsStopOf r new) list s
+          (λ k d less. subst (λ b. IsStopOf r b (get_or list k d)) (sym all)
+          (stop_kept r old extended.added (get_or list k d) (h.own k d less)))
+          here);
+    }
+  where
+    to_all : s.to ≡ length (old ++ extended.added)
+    to_all = to ∙ ap length extended.is
+
+pub stops_done : (r : Owned) (begins : List Begin) (tops : List Place) (low top : ℕ) (stops : Stops) → AreBegins r.0 begins
+    → AreTops r.0 tops → AreStopsTo r (places_of begins) tops low top stops.list.items stops.begun.items
+    → length (places_of begins) ≤ low → length tops ≤ top → AreStops r stops
+stops_done r begins tops low top stops begin_facts top_facts h all_low all_top = record {
+  points = record {
+    rising = h.rising;
+    all = λ p e. ⊎_elim
+        (λ (low_is : HasLow r p e.number).
+        let b = begin_of e.number (edge_at r e.number) in
+        let m = begin_facts.all e.number e.given in
+        let own : IsBeginOf r.0 b = subst (IsBeginOf r.0) m.2 (begin_facts.own m.0 b m.1) in
+        let at : get_or (places_of begins) m.0 b.place ≡ b.place =
+        get_or-map (λ (z : Begin). z.place) begins m.0 b b.place m.1 ∙ ap (λ (z : Begin). z.place) m.2 in
+        let inside : m.0 < length (places_of begins) = omega (arith, m.1, length-map begins (λ (z : Begin). z.place)) in
+        subst (Contains (points_of stops.list.items)) (ap point_of at ∙ own.point ∙ low_is)
+        (h.low_joined.had m.0 b.place (omega arith) inside))
+        (λ (high_is : HasHigh r p e.number).
+        let t = top_facts.all e.number e.given in
+        let m = t.1 in
+        subst (Contains (points_of stops.list.items)) (ap point_of m.2 ∙ t.2 ∙ high_is)
+        (h.top_joined.had m.0 t.0 (omega (arith, m.1)) m.1))
+        e.at;
+    some = h.some;
+  };
+  order = λ k d less. (h.own k d less).order;
+  bound = λ k d less. (h.own k d less).bound;
+  begun = λ k d less. (h.own k d less).begun_at;
+}
+
+-- ---- rows by halving
+module _ (list : List Stop) (rising : IsRising IsAfter (points_of list)) where
+  -- a stop is in no later row than those behind it
+  pub rows_upward : (i j : ℕ) (d : Stop) → i ≤ j → j < length list → (get_or list i d).point.y ≤ℤ (get_or list j d).point.y
+  rows_upward i j d le less = ⊎_elim
+      (λ (lt : i < j).
+      let inside : j < length (points_of list) = omega (arith, length-map list (λ (s : Stop). s.point)) in
+      let at_i = get_or-map (λ (s : Stop). s.point) list i d d.point (omega arith) in
+      let at_j = get_or-map (λ (s : Stop). s.point) list j d d.point less in
+      coe 0 1 (z. (at_i z).y ≤ℤ (at_j z).y)
+      (upto (before_by_number IsAfter after_is_strict (points_of list) i j d.point rising lt inside)))
+      (λ (ge : j ≤ i).
+      let same : i ≡ j = omega arith in
+      subst (λ k. (get_or list i d).point.y ≤ℤ (get_or list k d).point.y) same (omega (arith, linear)))
+      (cases_lt i j)
+    where
+      upto : IsAfter (get_or (points_of list) i d.point) (get_or (points_of list) j d.point)
+          → (get_or (points_of list) i d.point).y ≤ℤ (get_or (points_of list) j d.point).y
+      upto (inl h) = omega (arith, linear, h.0)
+      upto (inr h) = omega (arith, linear, h)
+
+  pub below_before : (row : ℤ) (m : ℕ) (e : Stop) → m < length list → (get_or list m e).point.y <ℤ row → (k : ℕ) (d : Stop) → k < m + 1
+      → (get_or list k d).point.y <ℤ row
+  below_before row m e inside below k d less =
+      let here : (get_or list m d).point.y <ℤ row = subst (λ (z : Stop). z.point.y <ℤ row) (get_or_default list m e d inside) below in
+      let up = rows_upward k m d (omega arith) inside in
+      omega (arith, linear, here, up)
+
+  pub above_behind : (row : ℤ) (m : ℕ) (e : Stop) → row ≤ℤ (get_or list m e).point.y → (k : ℕ) (d : Stop) → m ≤ k → k < length list
+      → row ≤ℤ (get_or list k d).point.y
+  above_behind row m e above k d le less =
+      let here : row ≤ℤ (get_or list m d).point.y =
+      subst (λ (z : Stop). row ≤ℤ z.point.y) (get_or_default list m e d (omega arith)) above in
+      let up = rows_upward m k d le less in
+      omega (arith, linear, here, up)
+
+-- ---- what holds of each edge so far
+pub one_more_edge : (P : Point × Point → Type 0) (edges : List (Point × Point)) (n : ℕ) (e : Point × Point) → n < length edges
+    → e ≡ get_or edges n e → P e → ((k : ℕ) (d : Point × Point) → k < n → P (get_or edges k d))
+    → (k : ℕ) (d : Point × Point) → k < n + 1 → P (get_or edges k d)
+one_more_edge P edges n e less is_e here so_far k d lt = ⊎_elim
+    (λ (before : k < n). so_far k d before)
+    (λ (ge : n ≤ k).
+    let same : n ≡ k = omega arith in
+    subst P (is_e ∙ get_or_default edges n e d less ∙ ap (λ i. get_or edges i d) same) here)
+    (cases_lt k n)

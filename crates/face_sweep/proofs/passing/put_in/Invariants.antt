@@ -1,0 +1,7 @@
+use Rattle.std.proofs.Common.{◌≡◌, ◌++◌, take, drop}
+use Rattle.face_sweep.proofs.passing.put_in.Given as goal
+
+-- the others up to this one are there
+abbrev pub invariant-loop-index : goal.invariant-loop-index
+invariant-loop-index l = l.numbers.items
+    ≡ (take l.fn.at l.fn.numbers.items ++ take l.index l.fn.others) ++ drop l.fn.at l.fn.numbers.items

@@ -1,0 +1,6 @@
+use Rattle.std.proofs.Common.{◌≡◌, ◌++◌, take, drop}
+use Rattle.face_sweep.proofs.passing.take_out.Given as goal
+
+-- the elements from `from` up to this one are gone
+abbrev pub invariant-loop : goal.invariant-loop
+invariant-loop l = l.numbers.items ≡ take l.fn.from l.fn.numbers.items ++ drop l.counter l.fn.numbers.items

@@ -1,0 +1,427 @@
+//! The stops of the sweep: the points at which edges begin or end, in its order.
+ghost use Rattle.std.specs.Prelude.{
+  ◌≡◌,
+  ◌++◌,
+  ◌<◌,
+  ◌≤◌,
+  ◌↔◌,
+  [],
+  ◌^◌,
+  false,
+  map,
+  All,
+  IfNone,
+  IfOk,
+  IfSome,
+  IsTrue,
+  OnOk,
+  int_lt,
+  length,
+  slice_range,
+};
+ghost use Rattle.lay_point.specs.Edges.{is_before};
+ghost use Rattle.lay_point.specs.Rising.{IsRising};
+ghost use Rattle.face_rows.specs.Crossings.{IsCrossingOf};
+ghost use Rattle.face_rows.specs.Laws.{AreLesserFirst};
+ghost use Rattle.face_sweep.specs.Points.{IsAfter};
+ghost use Rattle.face_sweep.specs.Stops.{
+  AreBegins,
+  AreInOrder,
+  AreRisers,
+  AreStops,
+  AreTops,
+  HasLowPlace,
+  IsExtended,
+  IsFirstFrom,
+  IsFirstLevel,
+  IsGroup,
+  IsHeadUpTo,
+  IsNextPlace,
+  IsNoLater,
+  IsRun,
+  IsSooner,
+  IsWithRisers,
+  begin_of,
+  begun_list,
+  numbers_of,
+  offset,
+  place_of,
+  places_of,
+  point_of,
+  shifted,
+  stop_list,
+  stop_points,
+};
+
+use face_rows::{Crossing, upward};
+use lay_point::{Edge, NoMemory, Point};
+use snap_chains::CleanEdges;
+use std::alloc::{AllocError, Global};
+
+/// A point at which edges begin or end.
+#[derive(Clone, Copy, Debug)]
+pub struct Stop {
+    pub point: Point,
+    /// From where on, in the list of all edges that begin, those stand that begin here.
+    pub from: usize,
+    /// Up to where.
+    pub to: usize,
+}
+
+impl Stop {
+    /// Returns whether the stop is below the row.
+    fn is_below(self, row: i64) -> bool
+        ensures { result ≡ int_lt self.point.y row }
+    {
+        i64::from(self.point.y) < row
+    }
+}
+
+/// The points at which edges begin or end, row by row upward, and in a row from right to left, with the edges
+/// that begin at each.
+#[derive(Debug, Drop)]
+pub struct Stops {
+    pub(crate) list: Vec<Stop>,
+    /// The numbers of the edges, in the order of the points that they begin at: from left to right, a level one last.
+    pub(crate) begun: Vec<usize>,
+}
+
+/// A point, as one number. These numbers are in the order of the sweep: by rows upward, and in a row from right
+/// to left.
+#[derive(Clone, Copy, Debug, PartialEq, Eq, PartialOrd, Ord)]
+pub(crate) struct Place {
+    pub(crate) key: u64,
+}
+
+/// Where an edge begins. At one place a level edge is behind those that rise.
+#[derive(Clone, Copy, Debug, PartialEq, Eq, PartialOrd, Ord)]
+pub(crate) struct Begin {
+    pub(crate) place: Place,
+    pub(crate) level: bool,
+    /// The number of the edge.
+    pub(crate) number: usize,
+}
+
+impl Place {
+    fn of(point: Point) -> Place
+        ensures value { result ≡ place_of point }
+        ensures point { point_of result ≡ point }
+    {
+        Place {
+            key: offset(point.y) * 4_294_967_296 + (4_294_967_295 - offset(point.x)),
+        }
+    }
+
+    fn point(self) -> Point
+        ensures { result ≡ point_of self }
+    {
+        Point {
+            x: shifted(4_294_967_295 - self.key % 4_294_967_296),
+            y: shifted(self.key / 4_294_967_296),
+        }
+    }
+
+    /// Returns whether the sweep comes to this place before the other.
+    fn is_before(self, other: Place) -> bool
+        ensures sooner { IsTrue result → IsSooner self other }
+        ensures later { result ≡ false → IsNoLater other self }
+    {
+        self < other
+    }
+}
+
+/// Returns how far the coordinate is from the least of all.
+fn offset(at: i32) -> u64
+    ensures value { result ≡ offset at }
+    ensures bound { result < 2 ^ 32 }
+{
+    (i64::from(at) + 2_147_483_648).unsigned_abs()
+}
+
+/// Returns the coordinate that is so far from the least of all.
+fn shifted(offset: u64) -> i32
+    requires { offset < 2 ^ 32 }
+    ensures { result ≡ shifted offset }
+{
+    (offset as i64 - 2_147_483_648) as i32
+}
+
+impl Begin {
+    fn new(edge: Edge, number: usize) -> Begin
+        ensures value { result ≡ begin_of number edge }
+        ensures low { HasLowPlace edge }
+        ensures lesser { IsTrue (is_before edge.0 edge.1) }
+    {
+        let (low, high) = upward(edge);
+        Begin {
+            place: Place::of(low),
+            level: high.y <= low.y,
+            number,
+        }
+    }
+}
+
+/// Returns where the edges begin, in the order of the sweep.
+fn begins_of(alloc: Global, edges: &[Edge]) -> Result<Vec<Begin>, AllocError>
+    ensures begins { IfOk result (λ begins. AreBegins edges.now begins.items) }
+    ensures lesser { IfOk result (λ begins. AreLesserFirst edges.now) }
+{
+    let mut begins = Vec::with_capacity(alloc, edges.len())?;
+    for number in 0..edges.len() {
+        begins.push(Begin::new(edges[number], number))?;
+    }
+    begins.sort_unstable();
+    Ok(begins)
+}
+
+/// Returns where the edges end, in the order of the sweep.
+fn tops_of(alloc: Global, edges: &[Edge]) -> Result<Vec<Place>, AllocError>
+    ensures { IfOk result (λ tops. AreTops edges.now tops.items) }
+{
+    let mut tops = Vec::with_capacity(alloc, edges.len())?;
+    for number in 0..edges.len() {
+        let (_, high) = upward(edges[number]);
+        tops.push(Place::of(high))?;
+    }
+    tops.sort_unstable();
+    Ok(tops)
+}
+
+/// Returns the places at which edges begin, one for each.
+fn places_of(alloc: Global, begins: &[Begin]) -> Result<Vec<Place>, AllocError>
+    ensures { IfOk result (λ places. places.items ≡ places_of begins.now) }
+{
+    let mut places = Vec::with_capacity(alloc, begins.len())?;
+    for begin in begins {
+        places.push(begin.place)?;
+    }
+    Ok(places)
+}
+
+/// Returns the place that the sweep comes to next, of those from `low` and from `top` on.
+fn next_place(lows: &[Place], low: usize, tops: &[Place], top: usize) -> Option<Place>
+    ensures some { IfSome result (IsNextPlace lows.now low tops.now top) }
+    ensures none { IfNone result ((length lows.now ≤ low) × (length tops.now ≤ top)) }
+{
+    if low >= lows.len() {
+        return tops.get(top).copied();
+    }
+    if top >= tops.len() || lows[low].is_before(tops[top]) {
+        Some(lows[low])
+    } else {
+        Some(tops[top])
+    }
+}
+
+/// Returns where those end, from this index on, that are the place.
+fn run_end(places: &[Place], from: usize, place: Place) -> usize
+    requires order { AreInOrder places.now }
+    requires from { from ≤ length places.now }
+    requires ahead { IsHeadUpTo places.now from place }
+    ensures { IsRun places.now from result place }
+{
+    let mut to = from;
+    while to < places.len() && !place.is_before(places[to]) {
+        to += 1;
+    }
+    to
+}
+
+/// Returns the index of the first level edge.
+fn first_level(group: &[Begin]) -> usize
+    ensures { IsFirstLevel group.now result }
+{
+    let mut index = 0;
+    while index < group.len() && !group[index].level {
+        index += 1;
+    }
+    index
+}
+
+/// Appends the numbers of the edges.
+fn put_numbers(group: &[Begin], begun: &mut Vec<usize>) -> Result<(), AllocError>
+    ensures { OnOk result (begun.new.items ≡ begun.old.items ++ numbers_of group.now) }
+{
+    for begin in group {
+        begun.push(begin.number)?;
+    }
+    Ok(())
+}
+
+/// Returns where the edges cross the row.
+fn crossings_of(
+    alloc: Global,
+    edges: &[Edge],
+    group: &[Begin],
+    row: i32,
+) -> Result<Vec<Crossing>, AllocError>
+    requires { AreRisers edges.now row group.now }
+    ensures numbers { IfOk result (λ crossings. map (λ c. c.number) crossings.items ≡ numbers_of group.now) }
+    ensures places { IfOk result (λ crossings. All (IsCrossingOf edges.now row) crossings.items) }
+{
+    let mut crossings = Vec::with_capacity(alloc, group.len())?;
+    for begin in group {
+        crossings.push(Crossing::new(edges[begin.number], begin.number, row))?;
+    }
+    Ok(crossings)
+}
+
+/// Appends the numbers of the edges that cross there.
+fn put_crossings(crossings: &[Crossing], begun: &mut Vec<usize>) -> Result<(), AllocError>
+    ensures { OnOk result (begun.new.items ≡ begun.old.items ++ map (λ c. c.number) crossings.now) }
+{
+    for crossing in crossings {
+        begun.push(crossing.number)?;
+    }
+    Ok(())
+}
+
+/// Appends the numbers of edges that rise from one point, from left to right.
+fn put_rising(
+    alloc: Global,
+    edges: &CleanEdges,
+    group: &[Begin],
+    row: i32,
+    begun: &mut Vec<usize>,
+) -> Result<(), AllocError>
+    requires { AreRisers edges.now.0 row group.now }
+    ensures { OnOk result (IsWithRisers edges.now.0 row group.now begun.old.items begun.new.items) }
+{
+    if group.len() < 2 {
+        put_numbers(group, begun)?;
+        return Ok(());
+    }
+    let mut crossings = crossings_of(alloc, edges.edges(), group, row)?;
+    crossings.sort_unstable_by(|first: &Crossing, second: &Crossing| first.compare(*second));
+    put_crossings(crossings.as_slice(), begun)?;
+    Ok(())
+}
+
+/// Appends the numbers of the edges that begin at one point.
+fn put_begun(
+    alloc: Global,
+    edges: &CleanEdges,
+    group: &[Begin],
+    point: Point,
+    begun: &mut Vec<usize>,
+) -> Result<(), AllocError>
+    requires { IsGroup edges.now.0 point group.now }
+    ensures { OnOk result (IsExtended edges.now point begun.old.items begun.new.items) }
+{
+    let level = first_level(group);
+    put_rising(alloc, edges, &group[..level], point.y, begun)?;
+    put_numbers(&group[level..], begun)?;
+    Ok(())
+}
+
+/// Returns the stops of the edges that begin there.
+fn stops_at(
+    alloc: Global,
+    edges: &CleanEdges,
+    begins: &[Begin],
+    lows: &[Place],
+    tops: &[Place],
+) -> Result<Stops, AllocError>
+    requires begins { AreBegins edges.now.0 begins.now }
+    requires lows { lows.now ≡ places_of begins.now }
+    requires tops { AreTops edges.now.0 tops.now }
+    ensures { IfOk result (AreStops edges.now) }
+{
+    let mut list = Vec::with_capacity(alloc, lows.len())?;
+    let mut begun = Vec::with_capacity(alloc, lows.len())?;
+    let (mut low, mut top) = (0, 0);
+    while let Some(place) = next_place(lows, low, tops, top) {
+        let after = run_end(lows, low, place);
+        let from = begun.len();
+        put_begun(alloc, edges, &begins[low..after], place.point(), &mut begun)?;
+        list.push(Stop {
+            point: place.point(),
+            from,
+            to: begun.len(),
+        })?;
+        low = after;
+        top = run_end(tops, top, place);
+    }
+    Ok(Stops { list, begun })
+}
+
+impl Stops {
+    /// Returns the stops of the edges.
+    ///
+    /// # Errors
+    ///
+    /// `NoMemory`, if an allocation fails.
+    ///
+    /// # Cost
+    ///
+    /// A sort of the edges' ends.
+    pub fn of_edges(alloc: Global, edges: &CleanEdges) -> Result<Stops, NoMemory>
+        ensures stops { IfOk result (AreStops edges.now) }
+        ensures lesser { IfOk result (λ stops. AreLesserFirst edges.now.0) }
+    {
+        let begins = begins_of(alloc, edges.edges())?;
+        let lows = places_of(alloc, begins.as_slice())?;
+        let tops = tops_of(alloc, edges.edges())?;
+        let stops = stops_at(
+            alloc,
+            edges,
+            begins.as_slice(),
+            lows.as_slice(),
+            tops.as_slice(),
+        )?;
+        Ok(stops)
+    }
+
+    /// Returns the stops, in the order of the sweep.
+    pub fn stops(&self) -> &[Stop]
+        ensures { result.now ≡ stop_list self.now }
+    {
+        self.list.as_slice()
+    }
+
+    /// Returns how many stops there are.
+    pub fn len(&self) -> usize
+        ensures { result ≡ length (stop_list self.now) }
+    {
+        self.list.len()
+    }
+
+    /// Returns whether there is no stop.
+    pub fn is_empty(&self) -> bool
+        ensures { IsTrue result ↔ (stop_list self.now ≡ []) }
+    {
+        self.list.is_empty()
+    }
+
+    /// Returns the numbers of the edges that begin at the stop, from left to right, a level one last.
+    pub fn begun(&self, stop: Stop) -> &[usize]
+        requires order { stop.from ≤ stop.to }
+        requires bound { stop.to ≤ length (begun_list self.now) }
+        ensures { result.now ≡ slice_range (begun_list self.now) stop.from stop.to }
+    {
+        &self.begun[stop.from..stop.to]
+    }
+
+    /// Returns the index of the first stop that is in this row or above it, or the number of stops. The stops
+    /// are in the order of the sweep.
+    ///
+    /// # Cost
+    ///
+    /// A search by halving.
+    pub fn first_from(&self, row: i64) -> usize
+        requires { IsRising IsAfter (stop_points self.now) }
+        ensures { IsFirstFrom self.now row result }
+    {
+        let stops = self.stops();
+        let (mut low, mut high) = (0, stops.len());
+        while low < high {
+            let middle = low + (high - low) / 2;
+            if stops[middle].is_below(row) {
+                low = middle + 1;
+            } else {
+                high = middle;
+            }
+        }
+        low
+    }
+}
