@@ -4,3 +4,4 @@ pub mod LabelUnits
 pub mod PieceLemmas
 pub mod ReaderPlaces
 pub mod SameText
+pub mod TitleLemmas

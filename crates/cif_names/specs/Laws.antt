@@ -13,10 +13,11 @@ use Rattle.cif_read.specs.Content.{current_scale, empty_content}
 use Rattle.cif_read.specs.Meaning.{after_piece}
 use Rattle.cif_names.specs.declared.names.Entry.{Entry}
 use Rattle.cif_names.specs.declared.place.Place.{Place}
-use Rattle.cif_names.specs.Entries.{limit_of, scaled_to_units}
+use Rattle.cif_names.specs.Entries.{limit_of, name_text, scaled_to_units}
 use Rattle.byte_io.specs.Lines.{lines}
 use Rattle.cif_names.specs.Names.{names_of}
 use Rattle.cif_names.specs.Places.{outside, place_after}
+use Rattle.cif_names.specs.Titles.{named_by}
 use Rattle.cif_names.specs.Woven.{with_names}
 
 abbrev pub is_empty : List ℕ → Bool
@@ -111,3 +112,7 @@ pub record PlacesAreTheReaders : Type 0 where
   pub start : outside ≡ place_in empty_content
   pub step : (content next : Content) (offset : ℕ) (bytes : List ℕ) → after_piece content offset bytes ≡ Ok next
       → place_after (place_in content) bytes ≡ place_in next
+
+-- what the line of a name says is the name
+abbrev pub NamesComeBack : Type 0
+NamesComeBack = (name : List ℕ) → named_by (name_text name) ≡ name

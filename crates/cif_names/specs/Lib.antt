@@ -5,5 +5,6 @@ pub mod Names
 pub mod Pieces
 pub mod Places
 pub mod Seen
+pub mod Titles
 pub mod Words
 pub mod Woven

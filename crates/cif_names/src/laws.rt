@@ -3,6 +3,7 @@ ghost use Rattle.cif_names.specs.Laws.{
   KeptLinesAreCommands,
   KeptLinesAreLines,
   LabelsAreScaled,
+  NamesComeBack,
   PlacesAreTheReaders,
   TextIsTheSame,
 };
@@ -28,4 +29,9 @@ pub fn places_are_the_readers()
 /// A label's coordinate, times the second number of the definition's scale, is twice the written one times the first.
 pub fn labels_are_scaled()
     ensures { LabelsAreScaled }
+{}
+
+/// What the line of a name says is the name.
+pub fn names_come_back()
+    ensures { NamesComeBack }
 {}

@@ -14,6 +14,8 @@
 //! a number, a size to KLayout, which refuses a text with a layer's name there. Both functions take
 //! any bytes, also a text that the reader refuses.
 //!
+//! [`Titles`] has the name of each symbol: the first that stands in its definition.
+//!
 //! Contracts see [`Names`] as the entries in the order of the text, and how many were left out
 //! (`names_of` of `specs/Names.antt`). What is written with them is `with_names` of
 //! `specs/Woven.antt`.
@@ -31,12 +33,14 @@ mod names;
 mod numbers;
 mod pieces;
 mod place;
+mod titles;
 mod words;
 mod woven;
 
 pub use laws::{
-    kept_lines_are_lines, labels_are_scaled, places_are_the_readers,
+    kept_lines_are_lines, labels_are_scaled, names_come_back, places_are_the_readers,
     without_them_the_text_is_the_same,
 };
 pub use names::Names;
+pub use titles::Titles;
 pub use woven::with_names;

@@ -1,5 +1,5 @@
 //! What is kept of a text's names and labels.
-ghost use Rattle.std.specs.Prelude.{◌≡◌, IfOk, OnOk};
+ghost use Rattle.std.specs.Prelude.{◌≡◌, IfOk, OnOk, filter};
 ghost use Rattle.cif_names.specs.Names.{
   is_of_symbols,
   kept_after,
@@ -37,6 +37,17 @@ impl Entry {
             Some(symbol) => symbols.position(symbol).is_some(),
             None => true,
         }
+    }
+
+    /// Returns the same line once more.
+    fn copy(&self, alloc: Global) -> Result<Entry, NoMemory>
+        ensures { IfOk result (λ entry. entry ≡ self.now) }
+    {
+        let line = Vec::from_slice(alloc, self.line.as_slice())?;
+        Ok(Entry {
+            symbol: self.symbol,
+            line: Sequence::from_vec(line),
+        })
     }
 
     /// Returns whether the line sets a layer.
@@ -95,19 +106,13 @@ impl Names {
     ///
     /// # Cost
     ///
-    /// A look-up in a hash table for each entry.
-    pub fn within(self, alloc: Global, symbols: &Cells) -> Result<Names, NoMemory>
-        ensures { IfOk result (λ names. names ≡ within symbols.now self) }
+    /// A look-up in a hash table for each entry, and a copy of those that are returned.
+    pub fn within(&self, alloc: Global, symbols: &Cells) -> Result<Names, NoMemory>
+        ensures { IfOk result (λ names. names ≡ within symbols.now self.now) }
     {
-        let Names { entries, left_out } = self;
-        let kept: Vec<Entry> = entries
-            .into_vec()
-            .into_iter()
-            .filter(|entry| entry.is_within(symbols))
-            .collect(alloc)?;
         Ok(Names {
-            entries: Sequence::from_vec(kept),
-            left_out,
+            entries: Sequence::from_vec(entries_within(alloc, self.entries(), symbols)?),
+            left_out: self.left_out,
         })
     }
 
@@ -160,4 +165,19 @@ impl Names {
         }
         Ok(())
     }
+}
+
+/// Returns those of the entries that are of these symbols, or of none.
+fn entries_within(alloc: Global, entries: &[Entry], symbols: &Cells) -> Result<Vec<Entry>, NoMemory>
+    ensures { IfOk result (λ kept. kept.items ≡ filter (is_of_symbols symbols.now) entries.now) }
+{
+    let mut kept = Vec::new(alloc);
+    let mut left = entries;
+    while let Some((entry, behind)) = left.split_first() {
+        if entry.is_within(symbols) {
+            kept.push(entry.copy(alloc)?)?;
+        }
+        left = behind;
+    }
+    Ok(kept)
 }

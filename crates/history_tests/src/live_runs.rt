@@ -16,6 +16,11 @@ const ANSWERS: &[u8] =
 const CLOSING: &[u8] =
     b"(2 1 undone);\n(order 1 1 1 2);\nDS 1 1 2;\nL NM;\nP -40 -20 40 -20 40 20 -40 20;\nDF;\nC 1;\nE\n";
 
+const PLAIN: Showing = Showing {
+    named: false,
+    oriented: false,
+};
+
 /// How the run of these lines ends and what it writes, where the input gives so many bytes a read and answers so many reads, and
 /// the output takes so many bytes.
 fn ended(
@@ -28,7 +33,7 @@ fn ended(
 ) -> (LiveEnd, MemoryOut) {
     let mut input = MemoryIn::new(lines, bite, reads);
     let mut out = MemoryOut::new(alloc, 7, room, Failing::ByErr);
-    let end = run_live(rt, alloc, &OneBand, &mut input, &mut out);
+    let end = run_live(rt, alloc, &OneBand, PLAIN, &mut input, &mut out);
     (end, out)
 }
 
@@ -42,7 +47,13 @@ fn each_line_is_answered(rt: HostRuntime) -> Result<(), Fail> {
     for bite in [1, 7, 16_384] {
         let (end, out) = ended(&rt, rt.alloc(), RUN, bite, 1000, 1000);
         assert!(rt;
-            matches!(end, LiveEnd::Done { has_refused: false }),
+            matches!(
+                end,
+                LiveEnd::Done {
+                    has_refused: false,
+                    ..
+                }
+            ),
             "{bite}"
         );
         assert_eq!(rt; out.written(), want.as_slice(), "{bite}");
@@ -90,6 +101,29 @@ fn a_head_with_a_fault_is_told(rt: HostRuntime) {
     );
 }
 
+// Could catch names of another text or of none, a symbol that is told by a label, one that isn't written and keeps its name, and names
+// left out that aren't counted.
+#[test]
+fn symbols_have_the_names_of_the_head(rt: HostRuntime) {
+    let alloc = rt.alloc();
+    let lines: &[u8] =
+        b"%cif\nDS 1; 94 IN 0 0; 9 INV; 9 OTHER; L NM; B 40 20 0 0; DF; DS 2; 9 GONE; DF; 91 i_0; C 1; E\n%live\n1 open\n1 rmcell 2\n1 commit\n%cells\n%write\n";
+    let mut input = MemoryIn::new(lines, 5, 1000);
+    let mut out = MemoryOut::new(alloc, 7, 1000, Failing::ByErr);
+    let showing = Showing {
+        named: true,
+        oriented: true,
+    };
+    let end = run_live(&rt, alloc, &OneBand, showing, &mut input, &mut out);
+    assert!(rt;
+        matches!(&end, LiveEnd::Done { notes, .. } if notes.left_out == 1 && notes.staying == 0),
+        "{end:?}"
+    );
+    let want: &[u8] =
+        b"(1 1 opened 1);\n(1 2 done);\n(1 3 committed);\n(cell top 1);\n(cell 1 1 INV);\n(end);\nDS 1 1 2;\n94 IN 0 0;\n9 INV;\n9 OTHER;\nL NM;\nP -40 -20 40 -20 40 20 -40 20;\nDF;\nC 1;\nE\n(order 1 1 1);\nDS 1 1 2;\n94 IN 0 0;\n9 INV;\n9 OTHER;\nL NM;\nP -40 -20 40 -20 40 20 -40 20;\nDF;\nC 1;\nE\n";
+    assert_eq!(rt; out.written(), want);
+}
+
 // Could catch a run that begins anew from a journal, answers its steps, loses the names of its transactions, or takes a line that was
 // cut for a whole one; and a refused step that is forgotten.
 #[test]
@@ -105,12 +139,21 @@ fn a_run_begins_behind_its_journal(rt: HostRuntime) -> Result<(), Fail> {
         &rt,
         alloc,
         &OneBand,
+        PLAIN,
         bytes,
         &mut input,
         &mut out,
         &mut NoJournal,
     );
-    assert!(rt; matches!(end, LiveEnd::Done { has_refused: true }));
+    assert!(rt;
+        matches!(
+            end,
+            LiveEnd::Done {
+                has_refused: true,
+                ..
+            }
+        )
+    );
     let want: &[u8] =
         b"(2 1 undone);\n(1 4 fault 20 NoTxn);\n(order 1 1 1 2 1);\nDS 1 1 2;\nL NM;\nP -40 -20 40 -20 40 20 -40 20;\nDF;\nC 1;\nE\n";
     assert_eq!(rt; out.written(), want);

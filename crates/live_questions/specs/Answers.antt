@@ -2,10 +2,14 @@
 -- Source: this project's own.
 -- Checked on: with the box 1.1.1 over the shape 0.0.1 of a text, `%cells` is `(cell top 2);/(end);/`; with 1.1 undone
 -- `%history` is `(1.1 undone);/(end);/` and `%changes 1.1` still `(1.1.1 made);/(end);/`; `%look 1.1.1` is then
--- `(fault 2 NoItem);/(end);/`, with a slash for each newline.
-use Rattle.std.specs.Prelude.{ℕ, List, ◌∷◌, ◌++◌, codes, decimal, length, map, Bool, if◌then◌else◌, Option, None, Some, is_some}
+-- `(fault 2 NoItem);/(end);/`, with a slash for each newline. Where the text has `9 INV;` in the definition of symbol 1, and names
+-- are asked for, `%cells` has `(cell 1 3 INV);` in place of `(cell 1 3);`.
+use Rattle.std.specs.Prelude.{ℕ, List, [], ◌∷◌, ◌++◌, codes, decimal, length, map, Bool, if◌then◌else◌, Option, None, Some, is_some}
 use Rattle.std.specs.FinMap as finite
 use Rattle.std.specs.List.{flat_map}
+use Rattle.cif_names.specs.declared.names.Names.{Names}
+use Rattle.cif_names.specs.Entries.{word_text}
+use Rattle.cif_names.specs.Titles.{title_in}
 use Rattle.lay_cells.specs.declared.cell_id.CellId.{CellId}
 use Rattle.lay_cells.specs.declared.cell_id.CellId.TheVariants.{Top, Symbol}
 use Rattle.lay_layouts.specs.declared.id.ItemId.{ItemId}
@@ -41,12 +45,19 @@ refusal_line fault = comment (fault_text fault)
 abbrev pub cells_of : Layout → List CellId
 cells_of layout = Top ∷ map Symbol (finite.keys layout.symbols)
 
--- a cell, and how many items it has
-unfoldable pub cell_line : Layout → CellId → List ℕ
-cell_line layout cell = comment (codes "cell " ++ cell_text cell ++ codes " " ++ decimal (length (items_in layout cell)))
+-- the name of a cell behind a space, if it has one, where symbols have these names
+abbrev pub title_text : (ℕ → List ℕ) → CellId → List ℕ
+title_text titles Top = []
+title_text titles (Symbol n) = word_text (titles n)
 
-unfoldable pub cells_text : Layout → List ℕ
-cells_text layout = flat_map (cell_line layout) (cells_of layout)
+-- a cell, how many items it has, and its name
+unfoldable pub cell_line : (ℕ → List ℕ) → Layout → CellId → List ℕ
+cell_line titles layout cell =
+    comment (codes "cell " ++ cell_text cell ++ codes " " ++ decimal (length (items_in layout cell)) ++ title_text titles cell)
+
+-- the cells, with the names that these have for them
+unfoldable pub cells_text : Option Names → Layout → List ℕ
+cells_text names layout = flat_map (cell_line (title_in names) layout) (cells_of layout)
 
 -- ---- items
 
@@ -99,14 +110,14 @@ written_text (Some entry) = records_text entry.writes
 
 -- ---- answers
 
--- the lines in front of the last
-abbrev pub told_lines : Question → History → List ℕ
-told_lines Cells history = cells_text history.layout
-told_lines (Items cell) history = items_text history.layout cell
-told_lines (Look id) history = looked_text id (item_at history.layout id)
-told_lines Commits history = history_text history.entries
-told_lines (Changes txn) history = written_text (entry_of txn history.entries)
+-- the lines in front of the last, where symbols have these names
+abbrev pub told_lines : Option Names → Question → History → List ℕ
+told_lines names Cells history = cells_text names history.layout
+told_lines names (Items cell) history = items_text history.layout cell
+told_lines names (Look id) history = looked_text id (item_at history.layout id)
+told_lines names Commits history = history_text history.entries
+told_lines names (Changes txn) history = written_text (entry_of txn history.entries)
 
--- the answer to a question, where this is the history
-unfoldable pub told_text : Question → History → List ℕ
-told_text question history = told_lines question history ++ comment (codes "end")
+-- the answer to a question, where symbols have these names and this is the history
+unfoldable pub told_text : Option Names → Question → History → List ℕ
+told_text names question history = told_lines names question history ++ comment (codes "end")

@@ -1,13 +1,16 @@
-//! The cells of a layout, and how many items each has.
+//! The cells of a layout, how many items each has, and its name.
 ghost use Rattle.std.specs.Prelude.{◌≡◌, IfOk, OnOk, length, map};
 ghost use Rattle.std.specs.FinMap as finite;
 ghost use Rattle.std.specs.List.{flat_map};
 ghost use Rattle.byte_io.specs.Buffered.{Buffered};
 ghost use Rattle.lay_cells.specs.declared.cell_id.CellId.TheVariants.{Symbol};
 ghost use Rattle.lay_layouts.specs.Items.{items_in};
-ghost use Rattle.live_questions.specs.Answers.{cell_line, cells_text};
+ghost use Rattle.cif_names.specs.Entries.{word_text};
+ghost use Rattle.cif_names.specs.Titles.{title_at};
+ghost use Rattle.live_questions.specs.Answers.{cell_line, cells_text, title_text};
 
 use byte_io::{Out, OutBuffer};
+use cif_names::{Names, Titles};
 use job_text::put_cell;
 use lay_cells::CellId;
 use lay_items::Snapshot;
@@ -20,14 +23,16 @@ pub(crate) fn put_cells<O: Out>(
     alloc: Global,
     out: &mut O,
     buffer: &mut OutBuffer,
+    names: &Option<Names>,
     layout: &Snapshot,
 ) -> Result<(), NoMemory>
     ensures { OnOk result (Buffered O.written O.failures out.old buffer.old out.new buffer.new
-        (cells_text layout.now)) }
+        (cells_text names.now layout.now)) }
 {
+    let titles = Titles::of(alloc, names)?;
     let numbers = numbers_of(alloc, layout)?;
-    put_cell_line(out, buffer, layout, CellId::Top);
-    put_symbols(out, buffer, layout, &numbers);
+    put_cell_line(out, buffer, &titles, layout, CellId::Top);
+    put_symbols(out, buffer, &titles, layout, &numbers);
     Ok(())
 }
 
@@ -35,14 +40,15 @@ pub(crate) fn put_cells<O: Out>(
 fn put_symbols<O: Out>(
     out: &mut O,
     buffer: &mut OutBuffer,
+    titles: &Titles,
     layout: &Snapshot,
     numbers: &BTreeSet<u32>,
 )
     ensures { Buffered O.written O.failures out.old buffer.old out.new buffer.new
-        (flat_map (cell_line layout.now) (map Symbol numbers.now.keys)) }
+        (flat_map (cell_line (title_at titles.now) layout.now) (map Symbol numbers.now.keys)) }
 {
     for number in numbers {
-        put_cell_line(out, buffer, layout, CellId::Symbol(*number));
+        put_cell_line(out, buffer, titles, layout, CellId::Symbol(*number));
     }
 }
 
@@ -58,16 +64,44 @@ fn numbers_of(alloc: Global, layout: &Snapshot) -> Result<BTreeSet<u32>, NoMemor
     Ok(numbers)
 }
 
-/// Puts the line of a cell.
-fn put_cell_line<O: Out>(out: &mut O, buffer: &mut OutBuffer, layout: &Snapshot, cell: CellId)
+/// Puts the line of a cell, with its name.
+fn put_cell_line<O: Out>(
+    out: &mut O,
+    buffer: &mut OutBuffer,
+    titles: &Titles,
+    layout: &Snapshot,
+    cell: CellId,
+)
     ensures { Buffered O.written O.failures out.old buffer.old out.new buffer.new
-        (cell_line layout.now cell) }
+        (cell_line (title_at titles.now) layout.now cell) }
 {
     buffer.put(out, b"(cell ");
     put_cell(out, buffer, cell);
     buffer.put_byte(out, b' ');
     buffer.put_unsigned(out, count_of(layout, cell) as u64);
+    put_title(out, buffer, titles, cell);
     buffer.put(out, b");\n");
+}
+
+/// Puts the name of the cell behind a space, if it has one.
+fn put_title<O: Out>(out: &mut O, buffer: &mut OutBuffer, titles: &Titles, cell: CellId)
+    ensures { Buffered O.written O.failures out.old buffer.old out.new buffer.new
+        (title_text (title_at titles.now) cell) }
+{
+    match cell {
+        CellId::Top => {}
+        CellId::Symbol(number) => put_word(out, buffer, titles.of_symbol(number)),
+    }
+}
+
+/// Puts the word behind a space, if it has a byte.
+fn put_word<O: Out>(out: &mut O, buffer: &mut OutBuffer, word: &[u8])
+    ensures { Buffered O.written O.failures out.old buffer.old out.new buffer.new (word_text word.now) }
+{
+    if !word.is_empty() {
+        buffer.put_byte(out, b' ');
+        buffer.put(out, word);
+    }
 }
 
 /// Returns the number of the cell's items.

@@ -8,7 +8,7 @@ use Rattle.job_text.specs.declared.job.JobFault.{JobFault}
 use Rattle.job_text.specs.Job.{job_of}
 use Rattle.live_run.specs.Live.{LiveRun, after_line, after_lines}
 use Rattle.live_run.specs.Cif.{before, behind, cif_from, cif_of, is_live}
-use Rattle.live_run.specs.Said.{answers, said_text}
+use Rattle.live_run.specs.Said.{AreAnswered, IsSaidText}
 
 no_live : (t : Bool) (lines : List (List ℕ)) (rest : Option (List (List ℕ))) → cond t (Some lines) rest ≡ None → (t ≡ false) × (rest ≡ None)
 no_live true lines rest h = absurd (let e = h in cc)
@@ -89,13 +89,16 @@ pub after_more : (run : LiveRun) (heard : List (List ℕ)) (line : List ℕ)
 after_more run [] line = refl
 after_more run (first ∷ heard) line = after_more (after_line run first).0 heard line
 
-pub answers_more : (run : LiveRun) (heard : List (List ℕ)) (line : List ℕ)
-    → answers run (heard ++ line ∷ []) ≡ answers run heard ++ said_text (after_line (after_lines run heard) line)
-answers_more run [] line = append-nil (said_text (after_line run line))
-answers_more run (first ∷ heard) line =
-    ap (λ (l : List ℕ). said_text (after_line run first) ++ l) (answers_more (after_line run first).0 heard line)
-    ∙ sym (append_assoc (said_text (after_line run first)) (answers (after_line run first).0 heard)
-    (said_text (after_line (after_lines run (first ∷ heard)) line)))
+pub answers_more : (run : LiveRun) (heard : List (List ℕ)) (line said more : List ℕ) → AreAnswered run heard said
+    → IsSaidText (after_line (after_lines run heard) line) more → AreAnswered run (heard ++ line ∷ []) (said ++ more)
+answers_more run [] line said more none is = (more, [], is, refl, ap (λ (l : List ℕ). l ++ more) none ∙ sym (append-nil more))
+answers_more run (first ∷ heard) line said more (one, rest, so, are, joined) is = (
+  one,
+  rest ++ more,
+  so,
+  answers_more (after_line run first).0 heard line rest more are is,
+  ap (λ (l : List ℕ). l ++ more) joined ∙ append_assoc one rest more,
+)
 
 pub concat_more : (seen : List (List ℕ)) (line : List ℕ) → concat (seen ++ line ∷ []) ≡ concat seen ++ line
 concat_more [] line = append-nil line

@@ -5,6 +5,8 @@ pub mod EarLemmas
 pub mod KeptLemmas
 pub mod LineLemmas
 pub mod PastLemmas
+pub mod PlainLemmas
 pub mod ResumeLemmas
 pub mod RunLemmas
+pub mod SaidLemmas
 pub mod StopLemmas

@@ -48,5 +48,5 @@ leads (line ∷ lines) run = lead_on run (live_line (words_of line)) lines (lead
 
 pub lines_lead : LinesAreSteps
 unfolding LeadAll
-lines_lead base lines =
-    let h = leads lines (before_first_line base) in record { state = h.state; replies = h.replies; sessions = h.sessions }
+lines_lead view base lines =
+    let h = leads lines (before_first_line view base) in record { state = h.state; replies = h.replies; sessions = h.sessions }

@@ -1,21 +1,45 @@
 -- Where a run begins behind the lines of its journal.
-use Rattle.std.proofs.Common.{◌≡◌, ◌≢◌, ℕ, ◌+◌, List, [], ◌∷◌, ◌++◌, true, false, Option, None, Some, Result, Ok, Err, inl, inr, refl, sym, ap, ◌∙◌, subst}
+use Rattle.std.proofs.Common.{
+  ◌≡◌,
+  ◌≢◌,
+  ℕ,
+  ◌+◌,
+  List,
+  [],
+  ◌∷◌,
+  ◌++◌,
+  true,
+  false,
+  Option,
+  None,
+  Some,
+  Result,
+  Ok,
+  Err,
+  inl,
+  inr,
+  refl,
+  sym,
+  ap,
+  ◌∙◌,
+  subst,
+}
 use Rattle.std.proofs.Common.{append-nil, length}
 use Rattle.std.proofs.lemmas.List.{nil_from_length}
 use Rattle.std.proofs.KnownBytes.{Appends-nil}
 use Rattle.std.specs.Prelude.{is_some}
 use Rattle.byte_io.specs.Device.{WroteAll}
 use Rattle.byte_io.specs.Input.{Counts}
-use Rattle.cif_layout.specs.FromCif.{layout_of}
-use Rattle.live_run.specs.Live.{after_lines, before_first_line}
+use Rattle.live_run.specs.declared.showing.Showing.{Showing}
+use Rattle.live_run.specs.Live.{after_lines}
 use Rattle.live_run.specs.declared.ear.Ear.{Ear}
 use Rattle.live_run.specs.declared.ending.LiveEnd.{LiveEnd}
 use Rattle.live_run.specs.declared.ending.LiveEnd.TheVariants.{Cif, Device, Done, Job, Journal, Memory}
 use Rattle.live_run.specs.Cif.{behind, whole}
-use Rattle.live_run.specs.Said.{IsSaid, answers}
+use Rattle.live_run.specs.Said.{IsSaid}
 use Rattle.live_run.specs.Course.{InHead, InSteps, Phase, RefusesHead, phase_of}
 use Rattle.live_run.specs.Ending.{HasCifFault, HasJobFault, IsJournaled, IsPast, IsStop, Past, Unbegun, can_begin, no_past}
-use Rattle.live_run.specs.Ear.{Begins, BegunAt, BegunTo, EndTo, HeardAll, Hears, IsAt, StandsBehind}
+use Rattle.live_run.specs.Ear.{BeginsBehind, BegunAt, BegunTo, EndTo, HeardAll, Hears, IsAt, StandsBehind}
 use Rattle.live_run.specs.Journal.{KeptText, kept_in}
 use Rattle.live_run.proofs.CutLemmas.{cut_none, cut_whole}
 use Rattle.live_run.proofs.KeptLemmas.{kept_nothing}
@@ -26,59 +50,66 @@ can_behind : (lines heard : List (List ℕ)) → behind lines ≡ Some heard →
 can_behind [] heard h = absurd (let e = h in cc)
 can_behind (line ∷ lines) heard h = ap is_some h
 
-past_of_none : (lines : List (List ℕ)) → lines ≡ [] → IsPast lines no_past
-past_of_none lines none = record {
+past_of_none : (showing : Showing) (lines : List (List ℕ)) → lines ≡ [] → IsPast showing lines no_past
+past_of_none showing lines none = record {
   lines = sym none;
-  said = subst (λ (ls : List (List ℕ)). IsSaid ls []) (sym none) refl;
+  said = subst (λ (ls : List (List ℕ)). IsSaid showing ls []) (sym none) refl;
   entries = sym (ap kept_in none);
 }
 
-module _ {O J : Type 0} (written : O → Option (List ℕ)) (failures : O → ℕ) (kept : J → Option (List KeptText)) (losses : J → ℕ) where
+module _ {O J : Type 0} (showing : Showing) (written : O → Option (List ℕ)) (failures : O → ℕ) (kept : J → Option (List KeptText))
+    (losses : J → ℕ) where
   -- a run behind the lines of its journal stands in front of the first byte of its input
-  pub behind_journal : (lines : List (List ℕ)) (phase : Phase) (out : O × J) (line : List ℕ) → StandsBehind lines phase → line ≡ []
-      → (past : Past) × (can_begin lines ≡ true) × IsPast lines past × Hears written failures kept losses past out out [] phase line
+  pub behind_journal : (lines : List (List ℕ)) (phase : Phase) (out : O × J) (line : List ℕ) → StandsBehind showing lines phase → line ≡ []
+      → (past : Past) × (can_begin lines ≡ true) × IsPast showing lines past × Hears showing written failures kept losses past out out []
+      phase line
   behind_journal lines phase out line (inl (none, is)) empty = (
     no_past,
     ap can_begin none,
-    past_of_none lines none,
-    hears_none written failures kept losses no_past out phase line refl is empty,
+    past_of_none showing lines none,
+    hears_none showing written failures kept losses no_past out phase line refl is empty,
   )
-  behind_journal lines phase out line (inr (heard, file, h, base, is)) empty =
-      let first = before_first_line (layout_of file) in
-      let past : Past = record { lines = lines; said = answers first heard; entries = kept_in lines } in
+  behind_journal lines phase out line (inr (heard, first, h, begun, is, said, are)) empty =
+      let past : Past = record { lines = lines; said = said; entries = kept_in lines } in
       let wrote : WroteAll written failures out.0 out.0 [] = record { all = Appends-nil (written out.0); unfailing = refl } in
-      let at : IsAt written failures kept losses past out out lines (InSteps (after_lines first heard)) = (
+      let at : IsAt showing written failures kept losses past out out lines (InSteps (after_lines first heard)) = (
         heard,
-        file,
+        first,
         h,
-        base,
+        begun,
         refl,
-        ([], [], append-nil (answers first heard), append-nil (kept_in lines), wrote, kept_nothing kept losses out.1 out.1 refl),
+        said,
+        are,
+        ([], [], append-nil said, append-nil (kept_in lines), wrote, kept_nothing kept losses out.1 out.1 refl),
       ) in (
         past,
         can_behind lines heard h,
-        record { lines = refl; said = said_answers lines heard file h base; entries = refl },
-        subst (λ (p : Phase). Hears written failures kept losses past out out [] p line) (sym is)
-            (subst (λ (l : List ℕ). Hears written failures kept losses past out out [] (InSteps (after_lines first heard)) l) (sym empty) (
+        record { lines = refl; said = said_answers showing lines heard first said h begun are; entries = refl },
+        subst (λ (p : Phase). Hears showing written failures kept losses past out out [] p line) (sym is)
+            (subst (λ (l : List ℕ). Hears showing written failures kept losses past out out [] (InSteps (after_lines first heard)) l)
+            (sym empty) (
               [],
               cut_none,
-              subst (λ (ls : List (List ℕ)). IsAt written failures kept losses past out out ls
+              subst (λ (ls : List (List ℕ)). IsAt showing written failures kept losses past out out ls
                   (InSteps (after_lines first heard))) (sym (append-nil lines)) at,
             )),
       )
 
   -- ---- the lines of a journal were heard
 
-  stands : (base out : O × J) (seen : List (List ℕ)) (phase begun : Phase) → IsAt written failures kept losses no_past base out seen phase
-      → BegunAt phase begun → StandsBehind seen begun
+  stands : (base out : O × J) (seen : List (List ℕ)) (phase begun : Phase) → IsAt showing written failures kept losses no_past base out
+      seen phase
+      → BegunAt phase begun → StandsBehind showing seen begun
   stands base out seen (InHead head count) begun (none, joined, counted, fresh, same) (zero, is) =
       inl (nil_from_length seen (sym counted ∙ zero), is)
-  stands base out seen (InSteps run) begun (heard, file, h, is, ran, did) same = inr (heard, file, h, is, same ∙ ap InSteps ran)
+  stands base out seen (InSteps run) begun (heard, first, h, is, ran, said, are, did) same =
+      inr (heard, first, h, is, same ∙ ap InSteps ran, said, are)
 
   unbegun : (base out : O × J) (seen : List (List ℕ)) (head : List ℕ) (count : ℕ) (end : LiveEnd)
-      → IsAt written failures kept losses no_past base out seen (InHead head count) → count ≢ 0 → RefusesHead false head (count + 1) end
+      → IsAt showing written failures kept losses no_past base out seen (InHead head count) → count ≢ 0 → RefusesHead false head
+      (count + 1) end
       → Unbegun seen end
-  unbegun base out seen head count (Done refused) at some r = absurd r
+  unbegun base out seen head count (Done refused notes) at some r = absurd r
   unbegun base out seen head count (Job n text) (none, joined, counted, fresh, same) some (fault, is) =
       (λ e. some (counted ∙ ap length e), unopened_job seen head count n text.items none joined counted fault is)
   unbegun base out seen head count (Cif fault text) (none, joined, counted, fresh, same) some (cif, from, means, is) =
@@ -88,16 +119,16 @@ module _ {O J : Type 0} (written : O → Option (List ℕ)) (failures : O → �
   unbegun base out seen head count Memory at some r = tt
 
   pub begins : (base out : O × J) (journal : List ℕ) (ear : Ear) (result : Result Ear LiveEnd)
-      → Hears written failures kept losses no_past base out journal (phase_of ear.course) ear.line.items → BegunTo ear result
-      → Begins journal result
+      → Hears showing written failures kept losses no_past base out journal (phase_of ear.course) ear.line.items → BegunTo ear result
+      → BeginsBehind showing journal result
   begins base out journal ear (Ok begun) (seen, cut, at) (to, empty) = (
-    subst (λ (ls : List (List ℕ)). StandsBehind ls (phase_of begun.course)) (sym (cut_whole journal seen ear.line.items cut))
+    subst (λ (ls : List (List ℕ)). StandsBehind showing ls (phase_of begun.course)) (sym (cut_whole journal seen ear.line.items cut))
         (stands base out seen (phase_of ear.course) (phase_of begun.course) at to),
     empty,
   )
   begins base out journal ear (Err end) (seen, cut, at) (head, count, is, some, refuses) =
       subst (λ (ls : List (List ℕ)). Unbegun ls end) (sym (cut_whole journal seen ear.line.items cut))
-      (unbegun base out seen head count end (subst (IsAt written failures kept losses no_past base out seen) is at) some refuses)
+      (unbegun base out seen head count end (subst (IsAt showing written failures kept losses no_past base out seen) is at) some refuses)
 
 -- lines of which one is live are some
 not_none : (told : List (List ℕ)) → is_some (behind told) ≡ true → told ≢ []
@@ -105,45 +136,59 @@ not_none [] some none = absurd (let e = some in cc)
 not_none (line ∷ told) some none = absurd (let e = none in cc)
 
 -- a run over devices that never fail stopped in the lines of its journal
-pub stopped_in : {O J : Type 0} (written : O → Option (List ℕ)) (kept : J → Option (List KeptText)) (base out : O × J) (journal : List ℕ)
-    (end : LiveEnd) → IsStop written (λ d. 0) kept (λ d. 0) no_past base out journal ⊥ end → Unbegun (whole journal) end
-stopped_in written kept base out journal (Done refused) stop = absurd stop.0
-stopped_in written kept base out journal (Job n text) (told, inl (is, some), fault, same) =
+pub stopped_in : {O J : Type 0} (showing : Showing) (written : O → Option (List ℕ)) (kept : J → Option (List KeptText))
+    (base out : O × J) (journal : List ℕ)
+    (end : LiveEnd) → IsStop showing written (λ d. 0) kept (λ d. 0) no_past base out journal ⊥ end → Unbegun (whole journal) end
+stopped_in showing written kept base out journal (Done refused notes) stop = absurd stop.0
+stopped_in showing written kept base out journal (Job n text) (told, inl (is, some), fault, same) =
     subst (λ (ls : List (List ℕ)). (ls ≢ []) × HasJobFault ls n text.items) is (not_none told some, fault)
-stopped_in written kept base out journal (Job n text) (told, inr (ended, all), fault, same) = absurd ended
-stopped_in written kept base out journal (Cif fault text) (told, inl (is, some), has, same) =
+stopped_in showing written kept base out journal (Job n text) (told, inr (ended, all), fault, same) = absurd ended
+stopped_in showing written kept base out journal (Cif fault text) (told, inl (is, some), has, same) =
     subst (λ (ls : List (List ℕ)). HasCifFault ls fault text.items) is has
-stopped_in written kept base out journal (Cif fault text) (told, inr (ended, all), has, same) = absurd ended
-stopped_in written kept base out journal Device (seen, unseen, said, all, is, (more, fresh, a, b, part, keep)) =
+stopped_in showing written kept base out journal (Cif fault text) (told, inr (ended, all), has, same) = absurd ended
+stopped_in showing written kept base out journal Device (seen, unseen, said, all, is, (more, fresh, a, b, part, keep)) =
     absurd (let none : 0 ≡ 1 = part.failed in cc)
-stopped_in written kept base out journal Journal (seen, unseen, line, said, all, is, (more, fresh, a, b, wrote, part)) =
+stopped_in showing written kept base out journal Journal (seen, unseen, line, said, all, is, (more, fresh, a, b, wrote, part)) =
     absurd (let none : 0 ≡ 1 = part.failed in cc)
-stopped_in written kept base out journal Memory stop = tt
+stopped_in showing written kept base out journal Memory stop = tt
 
-module _ {I O J : Type 0} (remaining : I → Option (List ℕ)) (counts : I → Counts) (written : O → Option (List ℕ)) (failures : O → ℕ)
+module _ {I O J : Type 0} (showing : Showing) (remaining : I → Option (List ℕ)) (counts : I → Counts) (written : O → Option (List ℕ))
+    (failures : O → ℕ)
     (kept : J → Option (List KeptText)) (losses : J → ℕ) where
   -- a run that began from its journal and stopped before its input ended
-  pub journal_stopped : (journal : List ℕ) (ear : Ear) (input input' : I) (out out' : O × J) (end : LiveEnd) → Begins journal (Ok ear)
-      → HeardAll remaining counts written failures kept losses ear input input' out out' (Err end)
-      → IsJournaled remaining counts written failures kept losses journal input input' out out' end
+  pub journal_stopped : (journal : List ℕ) (ear : Ear) (input input' : I) (out out' : O × J) (end : LiveEnd) → BeginsBehind showing journal
+      (Ok ear)
+      → HeardAll showing remaining counts written failures kept losses ear input input' out out' (Err end)
+      → IsJournaled showing remaining counts written failures kept losses journal input input' out out' end
   journal_stopped journal ear input input' out out' end (stands, empty) heard =
       let (past, can, is, hears) =
-      behind_journal written failures kept losses (whole journal) (phase_of ear.course) out ear.line.items stands empty in
+      behind_journal showing written failures kept losses (whole journal) (phase_of ear.course) out ear.line.items stands empty in
       let (given, gone, ends) = heard past hears in
       record { by = inl (past, given, can, is, gone, ends) }
 
   -- a run that began from its journal, and whose input ended
-  pub journal_ended : (journal : List ℕ) (ear last : Ear) (input input' : I) (out mid out' : O × J) (end : LiveEnd) → Begins journal (Ok ear)
-      → HeardAll remaining counts written failures kept losses ear input input' out mid (Ok last)
-      → EndTo written failures kept losses mid out' last end
-      → IsJournaled remaining counts written failures kept losses journal input input' out out' end
+  pub journal_ended : (journal : List ℕ) (ear last : Ear) (input input' : I) (out mid out' : O × J) (end : LiveEnd) → BeginsBehind showing
+      journal (Ok ear)
+      → HeardAll showing remaining counts written failures kept losses ear input input' out mid (Ok last)
+      → EndTo showing written failures kept losses mid out' last end
+      → IsJournaled showing remaining counts written failures kept losses journal input input' out out' end
   journal_ended journal ear last input input' out mid out' end (stands, empty) (given, gone, ended, to) closes =
       let (past, can, is, hears) =
-      behind_journal written failures kept losses (whole journal) (phase_of ear.course) out ear.line.items stands empty in
+      behind_journal showing written failures kept losses (whole journal) (phase_of ear.course) out ear.line.items stands empty in
       let stop = closes past out given (to past out [] hears) in
-      record { by = inl (past, given, can, is, gone, run_ended written failures kept losses past counts input input' out out' given end ended stop) }
+      record {
+        by = inl (
+          past,
+          given,
+          can,
+          is,
+          gone,
+          run_ended showing written failures kept losses past counts input input' out out'
+              given end ended stop,
+        );
+      }
 
   -- no run began
-  pub journal_unbegun : (journal : List ℕ) (input : I) (out : O × J) (end : LiveEnd) → Begins journal (Err end)
-      → IsJournaled remaining counts written failures kept losses journal input input out out end
+  pub journal_unbegun : (journal : List ℕ) (input : I) (out : O × J) (end : LiveEnd) → BeginsBehind showing journal (Err end)
+      → IsJournaled showing remaining counts written failures kept losses journal input input out out end
   journal_unbegun journal input out end un = record { by = inr (un, refl, refl) }

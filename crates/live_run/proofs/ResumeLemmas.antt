@@ -1,10 +1,29 @@
 -- The lines of a journal, and where they lead.
-use Rattle.std.proofs.Common.{◌≡◌, ℕ, ◌+◌, List, [], ◌∷◌, ◌++◌, length, Bool, true, false, cond, Option, None, Some, refl, sym, ap, ◌∙◌, subst}
+use Rattle.std.proofs.Common.{
+  ◌≡◌,
+  ℕ,
+  ◌+◌,
+  List,
+  [],
+  ◌∷◌,
+  ◌++◌,
+  length,
+  Bool,
+  true,
+  false,
+  cond,
+  Option,
+  None,
+  Some,
+  refl,
+  sym,
+  ap,
+  ◌∙◌,
+  subst,
+}
 use Rattle.std.proofs.Common.{append_assoc, append-nil, slice_index, slice_set}
 use Rattle.std.specs.Prelude.{filter, is_some}
 use Rattle.std.specs.List.{AllByRecursion, concat, list_all}
-use Rattle.cif_read.specs.Contents.{Contents}
-use Rattle.cif_layout.specs.FromCif.{layout_of}
 use Rattle.session_steps.specs.declared.Step.{Step as StepOf}
 use Rattle.session_core.specs.Machine.{State, step_outcome}
 use Rattle.job_text.specs.declared.live.LiveLine.{LiveLine}
@@ -15,10 +34,21 @@ use Rattle.job_text.specs.Words.{words_of}
 use Rattle.byte_io.specs.Lines.{lines}
 use Rattle.live_run.specs.Cif.{before, behind, cif_from, cif_of, is_ended, is_live, whole}
 use Rattle.live_run.specs.Ear.{is_not_newline}
-use Rattle.live_run.specs.Journal.{KeptText, bytes_of, as_line, entries_by, kept_since, kept_in, kept_line, kept_lines, keeping_of, first_live}
+use Rattle.live_run.specs.Journal.{
+  KeptText,
+  bytes_of,
+  as_line,
+  entries_by,
+  kept_since,
+  kept_in,
+  kept_line,
+  kept_lines,
+  keeping_of,
+  first_live,
+}
 use Rattle.live_run.specs.Laws.{AreWholeLines, IsWholeLine, JournalsResume, SameSteps}
-use Rattle.live_run.specs.Live.{LiveRun, after_line, after_lines, after_step, answered, before_first_line, one_more}
-use Rattle.live_run.specs.Said.{IsBase}
+use Rattle.live_run.specs.Live.{LiveRun, after_line, after_lines, after_step, answered, one_more}
+use Rattle.live_run.specs.Said.{IsFirstRun}
 use Rattle.live_run.proofs.CifLemmas.{behind_at, cif_at}
 use Rattle.live_run.proofs.CutLemmas.{ended_line, no_whole, with_newline}
 
@@ -177,9 +207,8 @@ alike (line ∷ heard) a b h = alike_on (live_line (words_of line)) line heard a
 
 pub journals_lead : JournalsResume
 unfolding Alike
-journals_lead all heard file cut are h (cif, is, means) inside =
+journals_lead showing all heard first cut are h (cif, file, is, means, begun) inside =
     let p = parts_of all heard are h in
-    let first = before_first_line (layout_of file) in
     let front = before all in
     let line = first_live all in
     let kept = front ++ line ∷ stepping heard in
@@ -196,6 +225,6 @@ journals_lead all heard file cut are h (cif, is, means) inside =
     ∙ ap (λ rest. cif_from (length front + 1) (is_some rest) (job_of (concat front))) (sym h) in (
       stepping heard,
       ap behind wholes ∙ behind_at front line (stepping heard) p.none p.live,
-      subst (λ (ls : List (List ℕ)). IsBase ls file) (sym wholes) (cif, text ∙ is, means),
+      subst (λ (ls : List (List ℕ)). IsFirstRun showing ls first) (sym wholes) (cif, file, text ∙ is, means, begun),
       alike heard first first (record { state = refl; sessions = refl; replies = refl; taken = refl }),
     )

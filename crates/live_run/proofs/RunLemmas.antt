@@ -3,6 +3,7 @@ use Rattle.std.proofs.Common.{◌≡◌, ℕ, List, [], ◌++◌, Option, None, 
 use Rattle.std.specs.Prelude.{⊤}
 use Rattle.std.specs.Io.KnownBytes.{Consumes, Keeps}
 use Rattle.byte_io.specs.Input.{Counts}
+use Rattle.live_run.specs.declared.showing.Showing.{Showing}
 use Rattle.live_run.specs.declared.ending.LiveEnd.{LiveEnd}
 use Rattle.live_run.specs.declared.ending.LiveEnd.TheVariants.{Cif, Device, Done, Job, Journal, Memory}
 use Rattle.live_run.specs.Ending.{IsBroken, IsEnd, IsEnded, IsStop, Past, Tells, no_past}
@@ -24,12 +25,14 @@ tells_by : (past : Past) (a b : Type 0) (given : List ℕ) (told : List (List �
 tells_by past a b given told f (inl is) = inl is
 tells_by past a b given told f (inr (ended, all)) = inr (f ended, all)
 
-module _ {O J : Type 0} (written : O → Option (List ℕ)) (failures : O → ℕ) (kept : J → Option (List KeptText)) (losses : J → ℕ) (past : Past)
+module _ {O J : Type 0} (showing : Showing) (written : O → Option (List ℕ)) (failures : O → ℕ) (kept : J → Option (List KeptText))
+    (losses : J → ℕ) (past : Past)
   where
     -- a stop, where what is known of the input's end is less
     pub stop_by : (a b : Type 0) (base out : O × J) (given : List ℕ) (end : LiveEnd) → (a → b)
-        → IsStop written failures kept losses past base out given a end → IsStop written failures kept losses past base out given b end
-    stop_by a b base out given (Done refused) f (ended, said, is, have, did) = (f ended, said, is, have, did)
+        → IsStop showing written failures kept losses past base out given a end → IsStop showing written failures kept losses past base
+        out given b end
+    stop_by a b base out given (Done refused notes) f (ended, said, is, have, did) = (f ended, said, is, have, did)
     stop_by a b base out given (Job n text) f (told, tells, is, same) = (told, tells_by past a b given told f tells, is, same)
     stop_by a b base out given (Cif fault text) f (told, tells, is, same) = (told, tells_by past a b given told f tells, is, same)
     stop_by a b base out given Device f stop = stop
@@ -38,36 +41,36 @@ module _ {O J : Type 0} (written : O → Option (List ℕ)) (failures : O → �
 
     -- before the first byte
     pub hears_none : (out : O × J) (phase : Phase) (line : List ℕ) → past ≡ no_past → phase ≡ InHead [] 0 → line ≡ []
-        → Hears written failures kept losses past out out [] phase line
+        → Hears showing written failures kept losses past out out [] phase line
     hears_none out phase line fresh is none =
-        subst (λ (p : Phase). Hears written failures kept losses past out out [] p line) (sym is)
-        (subst (λ (l : List ℕ). Hears written failures kept losses past out out [] (InHead [] 0) l) (sym none) (
+        subst (λ (p : Phase). Hears showing written failures kept losses past out out [] p line) (sym is)
+        (subst (λ (l : List ℕ). Hears showing written failures kept losses past out out [] (InHead [] 0) l) (sym none) (
           [],
           cut_none,
-          subst (λ (p : Past). IsAt written failures kept losses p out out (p.lines ++ []) (InHead [] 0)) (sym fresh)
+          subst (λ (p : Past). IsAt showing written failures kept losses p out out (p.lines ++ []) (InHead [] 0)) (sym fresh)
               (refl, refl, refl, refl, refl),
         ))
 
     module _ {I : Type 0} (counts : I → Counts) where
       -- the input is broken
       pub run_broken : (input input' : I) (out out' : O × J) (given : List ℕ) (phase : Phase) (line : List ℕ)
-          → Hears written failures kept losses past out out' given phase line
+          → Hears showing written failures kept losses past out out' given phase line
           → IsBroken (counts input) (counts input')
-          → IsEnd written failures kept losses past out out' given (counts input) (counts input') Device
+          → IsEnd showing written failures kept losses past out out' given (counts input) (counts input') Device
       run_broken input input' out out' given phase line hears broken =
-          inr (refl, broken, all_answered written failures kept losses past out out' given phase line hears)
+          inr (refl, broken, all_answered showing written failures kept losses past out out' given phase line hears)
 
       -- the run stopped in these bytes
       pub run_stopped : (input input' : I) (out out' : O × J) (given : List ℕ) (end : LiveEnd)
-          → IsStop written failures kept losses past out out' (given ++ []) ⊥ end
-          → IsEnd written failures kept losses past out out' given (counts input) (counts input') end
+          → IsStop showing written failures kept losses past out out' (given ++ []) ⊥ end
+          → IsEnd showing written failures kept losses past out out' given (counts input) (counts input') end
       run_stopped input input' out out' given end stop =
           inl (stop_by ⊥ (IsEnded (counts input) (counts input')) out out' given end (λ none. absurd none)
-          (subst (λ (l : List ℕ). IsStop written failures kept losses past out out' l ⊥ end) (append-nil given) stop))
+          (subst (λ (l : List ℕ). IsStop showing written failures kept losses past out out' l ⊥ end) (append-nil given) stop))
 
       -- the input ended
       pub run_ended : (input input' : I) (out out' : O × J) (given : List ℕ) (end : LiveEnd)
-          → IsEnded (counts input) (counts input') → IsStop written failures kept losses past out out' given ⊤ end
-          → IsEnd written failures kept losses past out out' given (counts input) (counts input') end
+          → IsEnded (counts input) (counts input') → IsStop showing written failures kept losses past out out' given ⊤ end
+          → IsEnd showing written failures kept losses past out out' given (counts input) (counts input') end
       run_ended input input' out out' given end ended stop =
           inl (stop_by ⊤ (IsEnded (counts input) (counts input')) out out' given end (λ _. ended) stop)

@@ -7,18 +7,17 @@ use Rattle.std.proofs.KnownBytes.{Appends-nil}
 use Rattle.byte_io.specs.Device.{WroteAll, WrotePrefix}
 use Rattle.byte_io.proofs.BufferedLemmas.{WroteAll-then, WrotePrefix-behind}
 use Rattle.cif_read.specs.declared.fault.CifFault.{CifFault}
-use Rattle.cif_read.specs.Contents.{Contents}
 use Rattle.cif_read.specs.Meaning.{IsMeaning}
-use Rattle.cif_layout.specs.FromCif.{layout_of}
 use Rattle.byte_io.specs.Lines.{lines}
 use Rattle.job_text.specs.declared.job.JobFault.TheVariants.{Line}
 use Rattle.job_text.specs.Job.{job_of}
-use Rattle.live_run.specs.Live.{LiveRun, after_line, after_lines, before_first_line, has_refused}
+use Rattle.live_run.specs.declared.showing.Showing.{Showing}
+use Rattle.live_run.specs.Live.{LiveRun, after_line, after_lines, has_refused}
 use Rattle.live_run.specs.declared.course.Course.{Course}
 use Rattle.live_run.specs.declared.ending.LiveEnd.{LiveEnd}
 use Rattle.live_run.specs.declared.ending.LiveEnd.TheVariants.{Cif, Device, Done, Job, Journal, Memory}
 use Rattle.live_run.specs.Cif.{behind, cif_from, cif_of, is_live, whole}
-use Rattle.live_run.specs.Said.{HaveRefused, IsBase, IsSaid, IsSaidBehind, IsWhole, answers, closing, said_text}
+use Rattle.live_run.specs.Said.{AreAnswered, HaveRefused, IsClosing, IsFirstRun, IsSaid, IsSaidBehind, IsSaidText, IsWhole, first_run}
 use Rattle.live_run.specs.Ending.{Does, HasCifFault, HasJobFault, IsStop, KeepsPart, Past, Tells, WritesPart, all_lines, no_past, whole_lines}
 use Rattle.live_run.specs.Journal.{KeptText, KeptAll, KeptPart, kept_head, kept_in, kept_line}
 use Rattle.live_run.specs.Course.{ClosesTo, HeadTo, HearsTo, InHead, InSteps, LiveTo, Phase, RefusesHead, RunCloses, phase_of}
@@ -28,9 +27,10 @@ use Rattle.live_run.proofs.CifLemmas.{cif_none, concat_more}
 use Rattle.live_run.proofs.CifLemmas.{behind_more, behind_other, length_more}
 use Rattle.live_run.proofs.KeptLemmas.{kept_at, kept_more, kept_none, kept_nothing, kept_part_then, kept_then}
 
--- a run's CIF text is that of more lines
-base_more : (seen heard more : List (List ℕ)) (file : Contents) → behind seen ≡ Some heard → IsBase seen file → IsBase (seen ++ more) file
-base_more seen heard more file h (cif, is, means) = (cif, cif_more seen heard more h ∙ is, means)
+-- a run begins so behind more lines too
+first_more : (showing : Showing) (seen heard more : List (List ℕ)) (first : LiveRun) → behind seen ≡ Some heard
+    → IsFirstRun showing seen first → IsFirstRun showing (seen ++ more) first
+first_more showing seen heard more first h (cif, file, is, means, same) = (cif, file, cif_more seen heard more h ∙ is, means, same)
 
 -- these lines, and one that ends up among all lines or among the whole ones
 abbrev pub Holds : Past → Type 0 → List ℕ → List (List ℕ) → List ℕ → Type 0
@@ -84,15 +84,16 @@ unopened_cif seen head count fault text none joined counted cif from means is = 
   is ∙ joined ∙ ap concat (sym (before_all seen none)),
 )
 
-said_nothing : (seen : List (List ℕ)) → behind seen ≡ None → IsSaid seen []
-said_nothing seen none = subst (λ rest. IsSaidBehind seen rest []) (sym none) refl
+said_nothing : (showing : Showing) (seen : List (List ℕ)) → behind seen ≡ None → IsSaid showing seen []
+said_nothing showing seen none = subst (λ rest. IsSaidBehind showing seen rest []) (sym none) refl
 
-pub said_answers : (seen heard : List (List ℕ)) (file : Contents) → behind seen ≡ Some heard → IsBase seen file
-    → IsSaid seen (answers (before_first_line (layout_of file)) heard)
-said_answers seen heard file h is =
-    subst (λ rest. IsSaidBehind seen rest (answers (before_first_line (layout_of file)) heard)) (sym h) (file, is, refl)
+pub said_answers : (showing : Showing) (seen heard : List (List ℕ)) (first : LiveRun) (said : List ℕ) → behind seen ≡ Some heard
+    → IsFirstRun showing seen first → AreAnswered first heard said → IsSaid showing seen said
+said_answers showing seen heard first said h is are =
+    subst (λ rest. IsSaidBehind showing seen rest said) (sym h) (first, is, are)
 
-module _ {O J : Type 0} (written : O → Option (List ℕ)) (failures : O → ℕ) (kept : J → Option (List KeptText)) (losses : J → ℕ) (past : Past)
+module _ {O J : Type 0} (showing : Showing) (written : O → Option (List ℕ)) (failures : O → ℕ) (kept : J → Option (List KeptText))
+    (losses : J → ℕ) (past : Past)
   where
     wrote_none : (a b : O) → b ≡ a → WroteAll written failures a b []
     wrote_none a b same =
@@ -152,25 +153,26 @@ module _ {O J : Type 0} (written : O → Option (List ℕ)) (failures : O → �
         subst (λ (d : O × J). Does written failures kept losses past a d s e) (sym (λ i. (said i, same i))) h
 
     -- what was done where a run stands
-    pub said_at : (base out : O × J) (seen : List (List ℕ)) (phase : Phase) → IsAt written failures kept losses past base out seen phase
-        → (said : List ℕ) × IsSaid seen said × Does written failures kept losses past base out said (kept_in seen)
+    pub said_at : (base out : O × J) (seen : List (List ℕ)) (phase : Phase) → IsAt showing written failures kept losses past base out
+        seen phase
+        → (said : List ℕ) × IsSaid showing seen said × Does written failures kept losses past base out said (kept_in seen)
     said_at base out seen (InHead head count) (none, joined, counted, fresh, same) = (
       [],
-      said_nothing seen none,
+      said_nothing showing seen none,
       subst (Does written failures kept losses past base out []) (sym (kept_none seen none))
           (does_none base out fresh (ap (λ (d : O × J). d.0) same) (ap (λ (d : O × J). d.1) same)),
     )
-    said_at base out seen (InSteps run) (heard, file, h, is, ran, did) =
-        (answers (before_first_line (layout_of file)) heard, said_answers seen heard file h is, did)
+    said_at base out seen (InSteps run) (heard, first, h, is, ran, said, are, did) =
+        (said, said_answers showing seen heard first said h is are, did)
 
     -- ---- a line is heard
 
     opened : (base out' : O × J) (seen : List (List ℕ)) (line head : List ℕ) (count : ℕ) (t : Bool) (course : Course) → is_live line ≡ t
         → behind seen ≡ None → head ≡ concat seen → count ≡ length seen → past ≡ no_past → out'.0 ≡ base.0
-        → HeadTo kept losses base.1 out'.1 t head count line (Ok course)
-        → IsAt written failures kept losses past base out' (seen ++ line ∷ []) (phase_of course)
+        → HeadTo showing kept losses base.1 out'.1 t head count line (Ok course)
+        → IsAt showing written failures kept losses past base out' (seen ++ line ∷ []) (phase_of course)
     opened base out' seen line head count false course live none joined counted fresh said (is, same) =
-        subst (IsAt written failures kept losses past base out' (seen ++ line ∷ [])) (sym is) (
+        subst (IsAt showing written failures kept losses past base out' (seen ++ line ∷ [])) (sym is) (
           behind_none seen (line ∷ []) none ∙ behind_other line live,
           ap (λ (l : List ℕ). l ++ line) joined ∙ sym (concat_more seen line),
           ap (λ n. n + 1) counted ∙ sym (length_more seen line),
@@ -184,12 +186,14 @@ module _ {O J : Type 0} (written : O → Option (List ℕ)) (failures : O → �
         let all : KeptAll kept losses base.1 out'.1 (kept_in (seen ++ line ∷ [])) =
         subst (KeptAll kept losses base.1 out'.1)
         (ap (λ (l : List ℕ). kept_head l line) joined ∙ sym (kept_at seen line none live)) keeps in
-        subst (IsAt written failures kept losses past base out' (seen ++ line ∷ [])) (sym is) (
+        subst (IsAt showing written failures kept losses past base out' (seen ++ line ∷ [])) (sym is) (
           [],
-          file,
+          first_run showing cif file,
           behind_at seen line [] none live,
-          (cif, cif_at seen line [] none live ∙ from', means),
+          (cif, file, cif_at seen line [] none live ∙ from', means, refl),
           begins,
+          [],
+          refl,
           (
             [],
             kept_in (seen ++ line ∷ []),
@@ -201,30 +205,27 @@ module _ {O J : Type 0} (written : O → Option (List ℕ)) (failures : O → �
         )
 
     pub heard_line : (base out out' : O × J) (seen : List (List ℕ)) (line : List ℕ) (phase : Phase) (course : Course)
-        → IsAt written failures kept losses past base out seen phase
-        → HearsTo written failures kept losses out out' phase line (Ok course)
-        → IsAt written failures kept losses past base out' (seen ++ line ∷ []) (phase_of course)
+        → IsAt showing written failures kept losses past base out seen phase
+        → HearsTo showing written failures kept losses out out' phase line (Ok course)
+        → IsAt showing written failures kept losses past base out' (seen ++ line ∷ []) (phase_of course)
     heard_line base out out' seen line (InHead head count) course (none, joined, counted, fresh, same) (still, to) =
         opened base out' seen line head count (is_live line) course refl none joined counted fresh
         (still ∙ ap (λ (d : O × J). d.0) same)
-        (subst (λ (d : O × J). HeadTo kept losses d.1 out'.1 (is_live line) head count line (Ok course)) same to)
-    heard_line base out out' seen line (InSteps run) course (heard, file, h, is, ran, did) (led, put, keep) =
-        let first = before_first_line (layout_of file) in
+        (subst (λ (d : O × J). HeadTo showing kept losses d.1 out'.1 (is_live line) head count line (Ok course)) same to)
+    heard_line base out out' seen line (InSteps run) course (heard, first, h, is, ran, said, are, did) (led, (text, so, put, keep)) =
         let took = after_line (after_lines first heard) line in
         let led' : phase_of course ≡ InSteps took.0 = led ∙ ap (λ (r : LiveRun). InSteps (after_line r line).0) ran in
-        let put' : WroteAll written failures out.0 out'.0 (said_text took) =
-        subst (λ (r : LiveRun). WroteAll written failures out.0 out'.0 (said_text (after_line r line))) ran put in
-        let did' = does_then base out out' (answers first heard) (said_text took) (kept_in seen) (kept_line line) did put' keep in
-        subst (IsAt written failures kept losses past base out' (seen ++ line ∷ [])) (sym led') (
+        let so' : IsSaidText took text = subst (λ (r : LiveRun). IsSaidText (after_line r line) text) ran so in
+        let did' = does_then base out out' said text (kept_in seen) (kept_line line) did put keep in
+        subst (IsAt showing written failures kept losses past base out' (seen ++ line ∷ [])) (sym led') (
           heard ++ line ∷ [],
-          file,
+          first,
           behind_more seen heard (line ∷ []) h,
-          base_more seen heard (line ∷ []) file h is,
+          first_more showing seen heard (line ∷ []) first h is,
           sym (after_more first heard line),
-          subst (λ (l : List ℕ). Does written failures kept losses past base out' l (kept_in (seen ++ line ∷ [])))
-              (sym (answers_more first heard line))
-              (subst (Does written failures kept losses past base out' (answers first heard ++ said_text took))
-              (sym (kept_more seen heard line h)) did'),
+          said ++ text,
+          answers_more first heard line said text are so',
+          subst (Does written failures kept losses past base out' (said ++ text)) (sym (kept_more seen heard line h)) did',
         )
 
     -- ---- a run stops at a line
@@ -232,8 +233,8 @@ module _ {O J : Type 0} (written : O → Option (List ℕ)) (failures : O → �
     -- a run that is refused memory has answered what it heard
     pub stops_memory : (ended : Type 0) (base out out' : O × J) (seen : List (List ℕ)) (phase : Phase) (given : List ℕ)
         (unseen : List (List ℕ))
-        → all_lines past given ≡ seen ++ unseen → IsAt written failures kept losses past base out seen phase → out'.0 ≡ out.0
-        → out'.1 ≡ out.1 → IsStop written failures kept losses past base out' given ended Memory
+        → all_lines past given ≡ seen ++ unseen → IsAt showing written failures kept losses past base out seen phase → out'.0 ≡ out.0
+        → out'.1 ≡ out.1 → IsStop showing written failures kept losses past base out' given ended Memory
     stops_memory ended base out out' seen phase given unseen all at still same =
         let (said, is, did) = said_at base out seen phase at in
         (seen, unseen, said, sym all, is, does_same base out out' said (kept_in seen) still same did)
@@ -243,9 +244,9 @@ module _ {O J : Type 0} (written : O → Option (List ℕ)) (failures : O → �
         (unseen : List (List ℕ)) (end : LiveEnd) → all_lines past given ≡ seen ++ line ∷ unseen → Holds past ended given seen line
         → is_live line ≡ true
         → behind seen ≡ None → head ≡ concat seen → count ≡ length seen → past ≡ no_past → out'.0 ≡ base.0
-        → LiveTo kept losses base.1 out'.1 head (count + 1) line (Err end)
-        → IsStop written failures kept losses past base out' given ended end
-    refused ended base out' seen line head count given unseen (Done any) all holds live none joined counted fresh said r = absurd r.0
+        → LiveTo showing kept losses base.1 out'.1 head (count + 1) line (Err end)
+        → IsStop showing written failures kept losses past base out' given ended end
+    refused ended base out' seen line head count given unseen (Done any notes) all holds live none joined counted fresh said r = absurd r.0
     refused ended base out' seen line head count given unseen (Job n text) all (more, where_told) live none joined counted fresh said
         ((fault, is), same) = (
           seen ++ line ∷ more,
@@ -267,7 +268,7 @@ module _ {O J : Type 0} (written : O → Option (List ℕ)) (failures : O → �
       line,
       [],
       sym all,
-      said_nothing seen none,
+      said_nothing showing seen none,
       subst (KeepsPart written failures kept losses past base out' [])
           (ap (λ (l : List ℕ). kept_head l line) joined ∙ sym (kept_at seen line none live))
           (lost_then base base out' [] [] (kept_head head line) (does_none base base fresh refl refl) said r),
@@ -277,7 +278,7 @@ module _ {O J : Type 0} (written : O → Option (List ℕ)) (failures : O → �
       line ∷ unseen,
       [],
       sym all,
-      said_nothing seen none,
+      said_nothing showing seen none,
       subst (Does written failures kept losses past base out' []) (sym (kept_none seen none)) (does_none base out' fresh said same),
     )
 
@@ -285,15 +286,15 @@ module _ {O J : Type 0} (written : O → Option (List ℕ)) (failures : O → �
         (unseen : List (List ℕ)) (t : Bool) (end : LiveEnd) → all_lines past given ≡ seen ++ line ∷ unseen
         → Holds past ended given seen line → is_live line ≡ t
         → behind seen ≡ None → head ≡ concat seen → count ≡ length seen → past ≡ no_past → out'.0 ≡ base.0
-        → HeadTo kept losses base.1 out'.1 t head count line (Err end)
-        → IsStop written failures kept losses past base out' given ended end
+        → HeadTo showing kept losses base.1 out'.1 t head count line (Err end)
+        → IsStop showing written failures kept losses past base out' given ended end
     head_stops ended base out' seen line head count given unseen false end all holds live none joined counted fresh said (is, same) =
-        subst (IsStop written failures kept losses past base out' given ended) (sym is) (
+        subst (IsStop showing written failures kept losses past base out' given ended) (sym is) (
           seen,
           line ∷ unseen,
           [],
           sym all,
-          said_nothing seen none,
+          said_nothing showing seen none,
           subst (Does written failures kept losses past base out' []) (sym (kept_none seen none)) (does_none base out' fresh said same),
         )
     head_stops ended base out' seen line head count given unseen true end all holds live none joined counted fresh said r =
@@ -301,51 +302,46 @@ module _ {O J : Type 0} (written : O → Option (List ℕ)) (failures : O → �
 
     run_stops : (ended : Type 0) (base out out' : O × J) (seen : List (List ℕ)) (line : List ℕ) (run : LiveRun) (given : List ℕ)
         (unseen : List (List ℕ)) (end : LiveEnd) → all_lines past given ≡ seen ++ line ∷ unseen
-        → IsAt written failures kept losses past base out seen (InSteps run)
-        → HearsTo written failures kept losses out out' (InSteps run) line (Err end)
-        → IsStop written failures kept losses past base out' given ended end
-    run_stops ended base out out' seen line run given unseen (Done any) all at r = absurd r
+        → IsAt showing written failures kept losses past base out seen (InSteps run)
+        → HearsTo showing written failures kept losses out out' (InSteps run) line (Err end)
+        → IsStop showing written failures kept losses past base out' given ended end
+    run_stops ended base out out' seen line run given unseen (Done any notes) all at r = absurd r
     run_stops ended base out out' seen line run given unseen (Job n text) all at r = absurd r
     run_stops ended base out out' seen line run given unseen (Cif fault text) all at r = absurd r
-    run_stops ended base out out' seen line run given unseen Device all (heard, file, h, is, ran, did) (r, keep) =
-        let first = before_first_line (layout_of file) in
-        let took = after_line (after_lines first heard) line in
-        let put : WrotePrefix written failures out.0 out'.0 (said_text took) =
-        subst (λ (r : LiveRun). WrotePrefix written failures out.0 out'.0 (said_text (after_line r line))) ran r in
-        let did' = part_then base out out' (answers first heard) (said_text took) (kept_in seen) (kept_line line) did put keep in (
+    run_stops ended base out out' seen line run given unseen Device all (heard, first, h, is, ran, said, are, did) (text, so, r, keep) =
+        let so' : IsSaidText (after_line (after_lines first heard) line) text =
+        subst (λ (r : LiveRun). IsSaidText (after_line r line) text) ran so in
+        let did' = part_then base out out' said text (kept_in seen) (kept_line line) did r keep in (
           seen ++ line ∷ [],
           unseen,
-          answers first (heard ++ line ∷ []),
+          said ++ text,
           append_assoc seen (line ∷ []) unseen ∙ sym all,
-          inl (said_answers (seen ++ line ∷ []) (heard ++ line ∷ []) file (behind_more seen heard (line ∷ []) h)
-              (base_more seen heard (line ∷ []) file h is)),
-          subst (λ (l : List ℕ). WritesPart written failures kept losses past base out' l (kept_in (seen ++ line ∷ [])))
-              (sym (answers_more first heard line))
-              (subst (WritesPart written failures kept losses past base out' (answers first heard ++ said_text took))
-              (sym (kept_more seen heard line h)) did'),
+          inl (said_answers showing (seen ++ line ∷ []) (heard ++ line ∷ []) first (said ++ text) (behind_more seen heard (line ∷ []) h)
+              (first_more showing seen heard (line ∷ []) first h is) (answers_more first heard line said text are so')),
+          subst (WritesPart written failures kept losses past base out' (said ++ text)) (sym (kept_more seen heard line h)) did',
         )
-    run_stops ended base out out' seen line run given unseen Journal all (heard, file, h, is, ran, did) (still, lost) =
-        let said = answers (before_first_line (layout_of file)) heard in (
-          seen,
-          unseen,
-          line,
-          said,
-          sym all,
-          said_answers seen heard file h is,
-          subst (KeepsPart written failures kept losses past base out' said) (sym (kept_more seen heard line h))
-              (lost_then base out out' said (kept_in seen) (kept_line line) did still lost),
-        )
+    run_stops ended base out out' seen line run given unseen Journal all (heard, first, h, is, ran, said, are, did) (still, lost) = (
+      seen,
+      unseen,
+      line,
+      said,
+      sym all,
+      said_answers showing seen heard first said h is are,
+      subst (KeepsPart written failures kept losses past base out' said) (sym (kept_more seen heard line h))
+          (lost_then base out out' said (kept_in seen) (kept_line line) did still lost),
+    )
     run_stops ended base out out' seen line run given unseen Memory all at (still, same) =
         stops_memory ended base out out' seen (InSteps run) given (line ∷ unseen) all at still same
 
     pub stops_line : (ended : Type 0) (base out out' : O × J) (seen : List (List ℕ)) (line : List ℕ) (phase : Phase) (given : List ℕ)
         (unseen : List (List ℕ)) (end : LiveEnd) → all_lines past given ≡ seen ++ line ∷ unseen → Holds past ended given seen line
-        → IsAt written failures kept losses past base out seen phase → HearsTo written failures kept losses out out' phase line (Err end)
-        → IsStop written failures kept losses past base out' given ended end
+        → IsAt showing written failures kept losses past base out seen phase → HearsTo showing written failures kept losses out out'
+        phase line (Err end)
+        → IsStop showing written failures kept losses past base out' given ended end
     stops_line ended base out out' seen line (InHead head count) given unseen end all holds (none, joined, counted, fresh, same) (still, to) =
         head_stops ended base out' seen line head count given unseen (is_live line) end all holds refl none joined counted fresh
         (still ∙ ap (λ (d : O × J). d.0) same)
-        (subst (λ (d : O × J). HeadTo kept losses d.1 out'.1 (is_live line) head count line (Err end)) same to)
+        (subst (λ (d : O × J). HeadTo showing kept losses d.1 out'.1 (is_live line) head count line (Err end)) same to)
     stops_line ended base out out' seen line (InSteps run) given unseen end all holds at r =
         run_stops ended base out out' seen line run given unseen end all at r
 
@@ -354,8 +350,8 @@ module _ {O J : Type 0} (written : O → Option (List ℕ)) (failures : O → �
     head_closes : (base out' : O × J) (seen : List (List ℕ)) (head : List ℕ) (count : ℕ) (given : List ℕ) (end : LiveEnd)
         → all_lines past given ≡ seen → behind seen ≡ None → head ≡ concat seen → count ≡ length seen → past ≡ no_past
         → out'.0 ≡ base.0 → out'.1 ≡ base.1 → RefusesHead false head (count + 1) end
-        → IsStop written failures kept losses past base out' given ⊤ end
-    head_closes base out' seen head count given (Done any) all none joined counted fresh said same r = absurd r
+        → IsStop showing written failures kept losses past base out' given ⊤ end
+    head_closes base out' seen head count given (Done any notes) all none joined counted fresh said same r = absurd r
     head_closes base out' seen head count given (Job n text) all none joined counted fresh said same (fault, is) = (
       seen,
       inr (tt, sym all),
@@ -375,43 +371,36 @@ module _ {O J : Type 0} (written : O → Option (List ℕ)) (failures : O → �
       [],
       [],
       append-nil seen ∙ sym all,
-      said_nothing seen none,
+      said_nothing showing seen none,
       subst (Does written failures kept losses past base out' []) (sym (kept_none seen none)) (does_none base out' fresh said same),
     )
 
     run_closes : (base out out' : O × J) (seen : List (List ℕ)) (run : LiveRun) (given : List ℕ) (end : LiveEnd)
-        → all_lines past given ≡ seen → IsAt written failures kept losses past base out seen (InSteps run)
+        → all_lines past given ≡ seen → IsAt showing written failures kept losses past base out seen (InSteps run)
         → RunCloses written failures out.0 out'.0 run end → out'.1 ≡ out.1
-        → IsStop written failures kept losses past base out' given ⊤ end
-    run_closes base out out' seen run given (Done any) all (heard, file, h, is, ran, did) (r, flag) same =
-        let first = before_first_line (layout_of file) in
-        let said = answers first heard in
-        let last = closing (after_lines first heard) in
-        let put : WroteAll written failures out.0 out'.0 last =
-        subst (λ (r : LiveRun). WroteAll written failures out.0 out'.0 (closing r)) ran r in
+        → IsStop showing written failures kept losses past base out' given ⊤ end
+    run_closes base out out' seen run given (Done any notes) all (heard, first, h, is, ran, said, are, did) (last, so, put, flag) same =
+        let so' : IsClosing (after_lines first heard) last = subst (λ (r : LiveRun). IsClosing r last) ran so in
         let did' = does_then base out out' said last (kept_in seen) [] did put (kept_nothing kept losses out.1 out'.1 same) in (
           tt,
           said ++ last,
-          subst (λ (ls : List (List ℕ)). IsWhole ls (said ++ last)) (sym all) (heard, file, h, is, refl),
-          subst (λ (ls : List (List ℕ)). HaveRefused ls any) (sym all)
-              (heard, file, h, is, flag ∙ ap has_refused ran),
+          subst (λ (ls : List (List ℕ)). IsWhole showing ls (said ++ last)) (sym all)
+              (heard, first, h, is, said, last, are, so', refl),
+          subst (λ (ls : List (List ℕ)). HaveRefused showing ls any) (sym all)
+              (heard, first, h, is, flag ∙ ap has_refused ran),
           subst (Does written failures kept losses past base out' (said ++ last))
               (append-nil (kept_in seen) ∙ ap kept_in (sym all)) did',
         )
     run_closes base out out' seen run given (Job n text) all at r same = absurd r
     run_closes base out out' seen run given (Cif fault text) all at r same = absurd r
-    run_closes base out out' seen run given Device all (heard, file, h, is, ran, did) r same =
-        let first = before_first_line (layout_of file) in
-        let said = answers first heard in
-        let last = closing (after_lines first heard) in
-        let put : WrotePrefix written failures out.0 out'.0 last =
-        subst (λ (r : LiveRun). WrotePrefix written failures out.0 out'.0 (closing r)) ran r in
+    run_closes base out out' seen run given Device all (heard, first, h, is, ran, said, are, did) (last, so, put) same =
+        let so' : IsClosing (after_lines first heard) last = subst (λ (r : LiveRun). IsClosing r last) ran so in
         let did' = part_then base out out' said last (kept_in seen) [] did put (kept_nothing kept losses out.1 out'.1 same) in (
           seen,
           [],
           said ++ last,
           append-nil seen ∙ sym all,
-          inr ((heard, file, h, is, refl), refl),
+          inr ((heard, first, h, is, said, last, are, so', refl), refl),
           subst (WritesPart written failures kept losses past base out' (said ++ last)) (append-nil (kept_in seen)) did',
         )
     run_closes base out out' seen run given Journal all at r same = absurd r
@@ -419,9 +408,9 @@ module _ {O J : Type 0} (written : O → Option (List ℕ)) (failures : O → �
         stops_memory ⊤ base out out' seen (InSteps run) given [] (all ∙ sym (append-nil seen)) at r same
 
     pub closes : (base out out' : O × J) (seen : List (List ℕ)) (phase : Phase) (given : List ℕ) (end : LiveEnd)
-        → all_lines past given ≡ seen → IsAt written failures kept losses past base out seen phase
+        → all_lines past given ≡ seen → IsAt showing written failures kept losses past base out seen phase
         → ClosesTo written failures out.0 out'.0 phase end → out'.1 ≡ out.1
-        → IsStop written failures kept losses past base out' given ⊤ end
+        → IsStop showing written failures kept losses past base out' given ⊤ end
     closes base out out' seen (InHead head count) given end all (none, joined, counted, fresh, is) (still, r) same =
         head_closes base out' seen head count given end all none joined counted fresh (still ∙ ap (λ (d : O × J). d.0) is)
         (same ∙ ap (λ (d : O × J). d.1) is) r

@@ -15,7 +15,9 @@ use Rattle.job_text.specs.declared.job.JobFault.{JobFault}
 use Rattle.job_text.specs.declared.job.JobFault.TheVariants.{Line, NoMemory as JobMemory}
 use Rattle.job_text.specs.Job.{job_of}
 use Rattle.live_run.specs.declared.live.Live.{Live}
-use Rattle.live_run.specs.Live.{LiveRun, Said, after_line, before_first_line, has_refused, run_of}
+use Rattle.live_run.specs.declared.showing.Showing.{Showing}
+use Rattle.live_run.specs.declared.showing.View.{View}
+use Rattle.live_run.specs.Live.{LiveRun, Said, after_line, has_refused, run_of}
 use Rattle.live_run.specs.declared.base.HeadFault.{HeadFault}
 use Rattle.live_run.specs.declared.base.HeadFault.TheVariants.{Cif as CifHead, Job as JobHead, Memory as MemoryHead}
 use Rattle.live_run.specs.declared.course.Course.{Course}
@@ -23,8 +25,9 @@ use Rattle.live_run.specs.declared.course.Course.TheVariants.{Head, Steps}
 use Rattle.live_run.specs.declared.ending.LiveEnd.{LiveEnd}
 use Rattle.live_run.specs.declared.ending.LiveEnd.TheVariants.{Cif, Device, Done, Job, Journal, Memory}
 use Rattle.live_run.specs.Cif.{cif_from, is_live}
-use Rattle.live_run.specs.Journal.{KeptText, KeptAll, KeptPart, entries_by, kept_head, kept_line}
-use Rattle.live_run.specs.Said.{closing, said_text}
+use Rattle.live_run.specs.Journal.{KeptText, KeptAll, KeptPart, kept_head, kept_line}
+use Rattle.live_run.specs.Said.{IsClosing, IsSaidText, first_run}
+use Rattle.live_run.specs.Shown.{view_of}
 
 -- before the live line, the lines so far, joined, and how many they are; behind it, the run
 pub data Phase : Type 0 where
@@ -58,29 +61,31 @@ end_of_head (JobHead line) text = Job line text
 end_of_head (CifHead fault) text = Cif fault text
 end_of_head MemoryHead text = Memory
 
--- the layout of a CIF text that means this
-abbrev pub base_with : Result Contents CifFault → Result Layout HeadFault
-base_with (Ok file) = Ok (layout_of file)
-base_with (Err fault) = Err (head_cif fault)
+-- the layout of a CIF text that means this, and how it is shown
+abbrev pub base_with : Showing → List ℕ → Result Contents CifFault → Result (Layout × View) HeadFault
+base_with showing cif (Ok file) = Ok (layout_of file, view_of showing cif)
+base_with showing cif (Err fault) = Err (head_cif fault)
 
--- the layout of a head with this CIF text
-abbrev pub IsBaseFrom : Result (List ℕ) JobFault → Result Layout HeadFault → Type 0
-IsBaseFrom (Err fault) result = result ≡ Err (head_job fault)
-IsBaseFrom (Ok cif) result = (meaning : Result Contents CifFault) × IsMeaning cif meaning × (result ≡ base_with meaning)
+-- the same of a head with this CIF text
+abbrev pub IsBaseFrom : Showing → Result (List ℕ) JobFault → Result (Layout × View) HeadFault → Type 0
+IsBaseFrom showing (Err fault) result = result ≡ Err (head_job fault)
+IsBaseFrom showing (Ok cif) result =
+    (meaning : Result Contents CifFault) × IsMeaning cif meaning × (result ≡ base_with showing cif meaning)
 
--- the layout on which a run begins behind this head, where the live line has this number; or out of memory in its place
-unfoldable pub IsBaseOf : List ℕ → ℕ → Result Layout HeadFault → Type 0
-IsBaseOf head number result = (result ≡ Err MemoryHead) ⊎ IsBaseFrom (cif_from number true (job_of head)) result
+-- the layout on which a run begins behind this head, where the live line has this number, and how it is shown; or out of memory in
+-- its place
+unfoldable pub IsBaseOf : Showing → List ℕ → ℕ → Result (Layout × View) HeadFault → Type 0
+IsBaseOf showing head number result = (result ≡ Err MemoryHead) ⊎ IsBaseFrom showing (cif_from number true (job_of head)) result
 
 -- a run begins behind this head
-abbrev pub BeginsRun : List ℕ → ℕ → LiveRun → Type 0
-BeginsRun head number run =
+abbrev pub BeginsRun : Showing → List ℕ → ℕ → LiveRun → Type 0
+BeginsRun showing head number run =
     (cif : List ℕ) × (file : Contents) × (cif_from number true (job_of head) ≡ Ok cif) × IsMeaning cif (Ok file)
-    × (run ≡ before_first_line (layout_of file))
+    × (run ≡ first_run showing cif file)
 
 -- none does, by whether there is a live line
 abbrev pub RefusesHead : Bool → List ℕ → ℕ → LiveEnd → Type 0
-RefusesHead live head number (Done refused) = ⊥
+RefusesHead live head number (Done refused notes) = ⊥
 RefusesHead live head number (Job line text) = (cif_from number live (job_of head) ≡ Err (Line line)) × (text.items ≡ head)
 RefusesHead live head number (Cif fault text) =
     (cif : List ℕ) × (cif_from number live (job_of head) ≡ Ok cif) × IsMeaning cif (Err fault) × (text.items ≡ head)
@@ -89,9 +94,9 @@ RefusesHead live head number Journal = ⊥
 RefusesHead live head number Memory = ⊤
 
 -- a run begins behind this head, or none does
-abbrev pub OpensTo : List ℕ → ℕ → Result Live HeadFault → Type 0
-OpensTo head number (Ok live) = BeginsRun head number (run_of live)
-OpensTo head number (Err fault) = (text : Vec ℕ Global) → text.items ≡ head → RefusesHead true head number (end_of_head fault text)
+abbrev pub OpensTo : Showing → List ℕ → ℕ → Result Live HeadFault → Type 0
+OpensTo showing head number (Ok live) = BeginsRun showing head number (run_of live)
+OpensTo showing head number (Err fault) = (text : Vec ℕ Global) → text.items ≡ head → RefusesHead true head number (end_of_head fault text)
 
 -- ---- a line
 
@@ -106,10 +111,12 @@ module _ {J : Type 0} (kept : J → Option (List KeptText)) (losses : J → ℕ)
   KeepsTo entries (Ok x) = KeptAll kept losses book book' entries
   KeepsTo entries (Err end) = (end ≡ Journal) × KeptPart kept losses book book' entries
 
+module _ {J : Type 0} (showing : Showing) (kept : J → Option (List KeptText)) (losses : J → ℕ) (book book' : J) where
   -- what a live line behind this head leads to: where a run begins, head and line are kept
   abbrev pub LiveTo : List ℕ → ℕ → List ℕ → Result Course LiveEnd → Type 0
   LiveTo head number line (Ok course) =
-      (run : LiveRun) × BeginsRun head number run × (phase_of course ≡ InSteps run) × KeptAll kept losses book book' (kept_head head line)
+      (run : LiveRun) × BeginsRun showing head number run × (phase_of course ≡ InSteps run) × KeptAll kept losses book book'
+      (kept_head head line)
   LiveTo head number line (Err Journal) = KeptPart kept losses book book' (kept_head head line)
   LiveTo head number line (Err end) = RefusesHead true head number end × (book' ≡ book)
 
@@ -120,18 +127,19 @@ module _ {J : Type 0} (kept : J → Option (List KeptText)) (losses : J → ℕ)
   HeadTo true head count line result = LiveTo head (count + 1) line result
 
 module _ {O : Type 0} (written : O → Option (List ℕ)) (failures : O → ℕ) (out out' : O) where
-  -- the text was written; or the device failed, and a prefix was; or memory was refused, and nothing was
-  abbrev pub Puts : {A : Type 0} → List ℕ → Result A WriteFault → Type 0
-  Puts text (Ok x) = WroteAll written failures out out' text
-  Puts text (Err DeviceFault) = WrotePrefix written failures out out' text
-  Puts text (Err NoMemory) = out' ≡ out
+  -- what closes a run was written; or the device failed, and a prefix was; or memory was refused, and nothing was
+  abbrev pub PutsClosing : {A : Type 0} → LiveRun → Result A WriteFault → Type 0
+  PutsClosing run (Ok x) = (text : List ℕ) × IsClosing run text × WroteAll written failures out out' text
+  PutsClosing run (Err DeviceFault) = (text : List ℕ) × IsClosing run text × WrotePrefix written failures out out' text
+  PutsClosing run (Err NoMemory) = out' ≡ out
 
   -- what the end of the input leads to in a run
   abbrev pub RunCloses : LiveRun → LiveEnd → Type 0
-  RunCloses run (Done refused) = WroteAll written failures out out' (closing run) × (refused ≡ has_refused run)
+  RunCloses run (Done refused notes) =
+      (text : List ℕ) × IsClosing run text × WroteAll written failures out out' text × (refused ≡ has_refused run)
   RunCloses run (Job line text) = ⊥
   RunCloses run (Cif fault text) = ⊥
-  RunCloses run Device = WrotePrefix written failures out out' (closing run)
+  RunCloses run Device = (text : List ℕ) × IsClosing run text × WrotePrefix written failures out out' text
   RunCloses run Journal = ⊥
   RunCloses run Memory = out' ≡ out
 
@@ -142,20 +150,27 @@ module _ {O : Type 0} (written : O → Option (List ℕ)) (failures : O → ℕ)
 
 module _ {O J : Type 0} (written : O → Option (List ℕ)) (failures : O → ℕ) (kept : J → Option (List KeptText)) (losses : J → ℕ)
     (out out' : O × J) where
-  -- what a line of a run leads to, which leaves this, is answered so and is kept so, before the first byte of the answer
-  abbrev pub AnswersTo : LiveRun × Said → List KeptText → Result Course LiveEnd → Type 0
-  AnswersTo said entries (Ok course) =
-      (phase_of course ≡ InSteps said.0) × WroteAll written failures out.0 out'.0 (said_text said)
-      × KeptAll kept losses out.1 out'.1 entries
-  AnswersTo said entries (Err (Done refused)) = ⊥
-  AnswersTo said entries (Err (Job line text)) = ⊥
-  AnswersTo said entries (Err (Cif fault text)) = ⊥
-  AnswersTo said entries (Err Device) =
-      WrotePrefix written failures out.0 out'.0 (said_text said) × KeptAll kept losses out.1 out'.1 entries
-  AnswersTo said entries (Err Journal) = (out'.0 ≡ out.0) × KeptPart kept losses out.1 out'.1 entries
-  AnswersTo said entries (Err Memory) = (out'.0 ≡ out.0) × (out'.1 ≡ out.1)
+  -- what a line leads to that leaves this, is answered so and is kept so, before the first byte of the answer
+  abbrev pub GivesTo : LiveRun × Said → List KeptText → Result Unit LiveEnd → Type 0
+  GivesTo said entries (Ok x) =
+      (text : List ℕ) × IsSaidText said text × WroteAll written failures out.0 out'.0 text × KeptAll kept losses out.1 out'.1 entries
+  GivesTo said entries (Err (Done refused notes)) = ⊥
+  GivesTo said entries (Err (Job line text)) = ⊥
+  GivesTo said entries (Err (Cif fault text)) = ⊥
+  GivesTo said entries (Err Device) =
+      (text : List ℕ) × IsSaidText said text × WrotePrefix written failures out.0 out'.0 text × KeptAll kept losses out.1 out'.1 entries
+  GivesTo said entries (Err Journal) = (out'.0 ≡ out.0) × KeptPart kept losses out.1 out'.1 entries
+  GivesTo said entries (Err Memory) = (out'.0 ≡ out.0) × (out'.1 ≡ out.1)
 
+  -- the same of a run, which goes on so
+  abbrev pub AnswersTo : LiveRun × Said → List KeptText → Result Course LiveEnd → Type 0
+  AnswersTo said entries (Ok course) = (phase_of course ≡ InSteps said.0) × GivesTo said entries (Ok tt)
+  AnswersTo said entries (Err end) = GivesTo said entries (Err end)
+
+module _ {O J : Type 0} (showing : Showing) (written : O → Option (List ℕ)) (failures : O → ℕ) (kept : J → Option (List KeptText))
+    (losses : J → ℕ) (out out' : O × J) where
   -- what a line leads to
   abbrev pub HearsTo : Phase → List ℕ → Result Course LiveEnd → Type 0
-  HearsTo (InHead head count) line result = (out'.0 ≡ out.0) × HeadTo kept losses out.1 out'.1 (is_live line) head count line result
-  HearsTo (InSteps run) line result = AnswersTo (after_line run line) (kept_line line) result
+  HearsTo (InHead head count) line result =
+      (out'.0 ≡ out.0) × HeadTo showing kept losses out.1 out'.1 (is_live line) head count line result
+  HearsTo (InSteps run) line result = AnswersTo written failures kept losses out out' (after_line run line) (kept_line line) result

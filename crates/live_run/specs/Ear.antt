@@ -1,12 +1,34 @@
 -- Where a live run stands between two bytes, by all the bytes that were given so far.
-use Rattle.std.specs.Prelude.{◌≡◌, ◌≢◌, ℕ, ◌+◌, ◌⊎◌, ⊤, List, [], ◌++◌, length, filter, Bool, true, false, not, ◌==◌, Option, None, Some, Result, Ok, Err}
+use Rattle.std.specs.Prelude.{
+  ◌≡◌,
+  ◌≢◌,
+  ℕ,
+  ◌+◌,
+  ◌⊎◌,
+  ⊤,
+  List,
+  [],
+  ◌++◌,
+  length,
+  filter,
+  Bool,
+  true,
+  false,
+  not,
+  ◌==◌,
+  Option,
+  None,
+  Some,
+  Result,
+  Ok,
+  Err,
+}
 use Rattle.std.specs.List.{concat, list_all}
 use Rattle.std.specs.Io.KnownBytes.{Consumes}
 use Rattle.byte_io.specs.Input.{Counts}
-use Rattle.cif_read.specs.Contents.{Contents}
-use Rattle.cif_layout.specs.FromCif.{layout_of}
 use Rattle.byte_io.specs.Lines.{lines}
-use Rattle.live_run.specs.Live.{after_lines, before_first_line}
+use Rattle.live_run.specs.Live.{LiveRun, after_lines}
+use Rattle.live_run.specs.declared.showing.Showing.{Showing}
 use Rattle.live_run.specs.declared.course.Course.{Course}
 use Rattle.live_run.specs.declared.ear.Ear.{Ear}
 use Rattle.live_run.specs.declared.ending.LiveEnd.{LiveEnd}
@@ -14,7 +36,7 @@ use Rattle.live_run.specs.Cif.{behind, is_ended, whole}
 use Rattle.live_run.specs.Course.{Phase, InHead, InSteps, RefusesHead, phase_of}
 use Rattle.live_run.specs.Ending.{Does, IsEnd, IsEnded, IsStop, Past, Unbegun, all_lines, no_past}
 use Rattle.live_run.specs.Journal.{KeptText, kept_in}
-use Rattle.live_run.specs.Said.{IsBase, answers}
+use Rattle.live_run.specs.Said.{AreAnswered, IsFirstRun}
 
 -- whether the byte ends no line
 abbrev pub is_not_newline : ℕ → Bool
@@ -26,16 +48,16 @@ pub record IsCut (bytes : List ℕ) (seen : List (List ℕ)) (line : List ℕ) :
   pub ended : filter is_ended seen ≡ seen
   pub inside : list_all is_not_newline line ≡ true
 
-module _ {O J : Type 0} (written : O → Option (List ℕ)) (failures : O → ℕ) (kept : J → Option (List KeptText)) (losses : J → ℕ)
-    (past : Past) (base out : O × J) where
+module _ {O J : Type 0} (showing : Showing) (written : O → Option (List ℕ)) (failures : O → ℕ) (kept : J → Option (List KeptText))
+    (losses : J → ℕ) (past : Past) (base out : O × J) where
   -- from the devices before the first line to these, these lines were kept and answered, and the run stands here
   abbrev pub IsAt : List (List ℕ) → Phase → Type 0
   IsAt seen (InHead head count) =
       (behind seen ≡ None) × (head ≡ concat seen) × (count ≡ length seen) × (past ≡ no_past) × (out ≡ base)
   IsAt seen (InSteps run) =
-      (heard : List (List ℕ)) × (file : Contents) × (behind seen ≡ Some heard) × IsBase seen file
-      × (run ≡ after_lines (before_first_line (layout_of file)) heard)
-      × Does written failures kept losses past base out (answers (before_first_line (layout_of file)) heard) (kept_in seen)
+      (heard : List (List ℕ)) × (first : LiveRun) × (behind seen ≡ Some heard) × IsFirstRun showing seen first
+      × (run ≡ after_lines first heard) × (said : List ℕ) × AreAnswered first heard said
+      × Does written failures kept losses past base out said (kept_in seen)
 
   -- the same, by the bytes that were given
   abbrev pub Hears : List ℕ → Phase → List ℕ → Type 0
@@ -44,41 +66,41 @@ module _ {O J : Type 0} (written : O → Option (List ℕ)) (failures : O → �
   -- so a run stands once these bytes were given; or it stopped in them, whatever stands behind them
   abbrev pub HearsOn : List ℕ → Result Ear LiveEnd → Type 0
   HearsOn given (Ok ear) = Hears given (phase_of ear.course) ear.line.items
-  HearsOn given (Err end) = (more : List ℕ) → IsStop written failures kept losses past base out (given ++ more) ⊥ end
+  HearsOn given (Err end) = (more : List ℕ) → IsStop showing written failures kept losses past base out (given ++ more) ⊥ end
 
   -- so a run stands once all lines were heard, the last too; or it has ended
   abbrev pub HearsLast : List ℕ → Result Course LiveEnd → Type 0
   HearsLast given (Ok course) = IsAt (all_lines past given) (phase_of course)
-  HearsLast given (Err end) = IsStop written failures kept losses past base out given ⊤ end
+  HearsLast given (Err end) = IsStop showing written failures kept losses past base out given ⊤ end
 
-module _ {O J : Type 0} (written : O → Option (List ℕ)) (failures : O → ℕ) (kept : J → Option (List KeptText)) (losses : J → ℕ)
-    (out out' : O × J) where
+module _ {O J : Type 0} (showing : Showing) (written : O → Option (List ℕ)) (failures : O → ℕ) (kept : J → Option (List KeptText))
+    (losses : J → ℕ) (out out' : O × J) where
   -- a run that stands here is led there by this piece of the input
   abbrev pub PieceTo : Ear → List ℕ → Result Ear LiveEnd → Type 0
   PieceTo ear piece result =
       (past : Past) (base : O × J) (given : List ℕ)
-      → Hears written failures kept losses past base out given (phase_of ear.course) ear.line.items
-      → HearsOn written failures kept losses past base out' (given ++ piece) result
+      → Hears showing written failures kept losses past base out given (phase_of ear.course) ear.line.items
+      → HearsOn showing written failures kept losses past base out' (given ++ piece) result
 
   -- the last line, which has no newline, is heard too
   abbrev pub LastTo : Ear → Result Course LiveEnd → Type 0
   LastTo ear result =
       (past : Past) (base : O × J) (given : List ℕ)
-      → Hears written failures kept losses past base out given (phase_of ear.course) ear.line.items
-      → HearsLast written failures kept losses past base out' given result
+      → Hears showing written failures kept losses past base out given (phase_of ear.course) ear.line.items
+      → HearsLast showing written failures kept losses past base out' given result
 
   -- a run that stands here when the input has ended, ends so
   abbrev pub EndTo : Ear → LiveEnd → Type 0
   EndTo ear end =
       (past : Past) (base : O × J) (given : List ℕ)
-      → Hears written failures kept losses past base out given (phase_of ear.course) ear.line.items
-      → IsStop written failures kept losses past base out' given ⊤ end
+      → Hears showing written failures kept losses past base out given (phase_of ear.course) ear.line.items
+      → IsStop showing written failures kept losses past base out' given ⊤ end
 
 -- a run stands before its first line, or behind these lines of its journal
-abbrev pub StandsBehind : List (List ℕ) → Phase → Type 0
-StandsBehind lines phase = ((lines ≡ []) × (phase ≡ InHead [] 0))
-    ⊎ ((heard : List (List ℕ)) × (file : Contents) × (behind lines ≡ Some heard) × IsBase lines file
-    × (phase ≡ InSteps (after_lines (before_first_line (layout_of file)) heard)))
+abbrev pub StandsBehind : Showing → List (List ℕ) → Phase → Type 0
+StandsBehind showing lines phase = ((lines ≡ []) × (phase ≡ InHead [] 0))
+    ⊎ ((heard : List (List ℕ)) × (first : LiveRun) × (behind lines ≡ Some heard) × IsFirstRun showing lines first
+    × (phase ≡ InSteps (after_lines first heard)) × (said : List ℕ) × AreAnswered first heard said)
 
 -- a run that stands here begins so: in front of its first line it has heard nothing
 abbrev pub BegunAt : Phase → Phase → Type 0
@@ -92,17 +114,17 @@ BegunTo ear (Err end) =
     (head : List ℕ) × (count : ℕ) × (phase_of ear.course ≡ InHead head count) × (count ≢ 0) × RefusesHead false head (count + 1) end
 
 -- a run begins behind the lines that this journal has whole, and nothing has come of the next; or none begins
-abbrev pub Begins : List ℕ → Result Ear LiveEnd → Type 0
-Begins journal (Ok ear) = StandsBehind (whole journal) (phase_of ear.course) × (ear.line.items ≡ [])
-Begins journal (Err end) = Unbegun (whole journal) end
+abbrev pub BeginsBehind : Showing → List ℕ → Result Ear LiveEnd → Type 0
+BeginsBehind showing journal (Ok ear) = StandsBehind showing (whole journal) (phase_of ear.course) × (ear.line.items ≡ [])
+BeginsBehind showing journal (Err end) = Unbegun (whole journal) end
 
 -- the input was read to its end, and its bytes were heard by a run that stood here; or the run has ended
-abbrev pub HeardAll : {I O J : Type 0} → (I → Option (List ℕ)) → (I → Counts) → (O → Option (List ℕ)) → (O → ℕ)
+abbrev pub HeardAll : {I O J : Type 0} → Showing → (I → Option (List ℕ)) → (I → Counts) → (O → Option (List ℕ)) → (O → ℕ)
     → (J → Option (List KeptText)) → (J → ℕ) → Ear → I → I → O × J → O × J → Result Ear LiveEnd → Type 0
-HeardAll remaining counts written failures kept losses first input input' out out' (Ok ear) =
+HeardAll showing remaining counts written failures kept losses first input input' out out' (Ok ear) =
     (given : List ℕ) × Consumes (remaining input) (remaining input') given × IsEnded (counts input) (counts input')
-    × PieceTo written failures kept losses out out' first given (Ok ear)
-HeardAll remaining counts written failures kept losses first input input' out out' (Err end) =
-    (past : Past) → Hears written failures kept losses past out out [] (phase_of first.course) first.line.items
+    × PieceTo showing written failures kept losses out out' first given (Ok ear)
+HeardAll showing remaining counts written failures kept losses first input input' out out' (Err end) =
+    (past : Past) → Hears showing written failures kept losses past out out [] (phase_of first.course) first.line.items
     → (given : List ℕ) × Consumes (remaining input) (remaining input') given
-    × IsEnd written failures kept losses past out out' given (counts input) (counts input') end
+    × IsEnd showing written failures kept losses past out out' given (counts input) (counts input') end

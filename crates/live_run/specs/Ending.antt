@@ -11,6 +11,7 @@ use Rattle.byte_io.specs.Lines.{lines}
 use Rattle.live_run.specs.declared.ending.LiveEnd.{LiveEnd}
 use Rattle.live_run.specs.declared.ending.LiveEnd.TheVariants.{Cif, Device, Done, Job, Journal, Memory}
 use Rattle.live_run.specs.declared.journal.NoJournal.{NoJournal}
+use Rattle.live_run.specs.declared.showing.Showing.{Showing}
 use Rattle.live_run.specs.Cif.{before, behind, cif_of, whole}
 use Rattle.live_run.specs.Journal.{KeptText, KeptAll, KeptPart, kept_in}
 use Rattle.live_run.specs.Said.{HaveRefused, IsSaid, IsWhole}
@@ -36,9 +37,9 @@ abbrev pub no_past : Past
 no_past = record { lines = []; said = []; entries = [] }
 
 -- these lines were before it
-pub record IsPast (journal : List (List ℕ)) (past : Past) : Type 0 where
+pub record IsPast (showing : Showing) (journal : List (List ℕ)) (past : Past) : Type 0 where
   pub lines : past.lines ≡ journal
-  pub said : IsSaid journal past.said
+  pub said : IsSaid showing journal past.said
   pub entries : past.entries ≡ kept_in journal
 
 -- the lines of the past and of the bytes that were given
@@ -80,8 +81,8 @@ module _ {O J : Type 0} (written : O → Option (List ℕ)) (failures : O → �
   KeepsPart said entries = (more : List ℕ) × (fresh : List KeptText) × (past.said ++ more ≡ said) × (past.entries ++ fresh ≡ entries)
       × WroteAll written failures out.0 out'.0 more × KeptPart kept losses out.1 out'.1 fresh
 
-module _ {O J : Type 0} (written : O → Option (List ℕ)) (failures : O → ℕ) (kept : J → Option (List KeptText)) (losses : J → ℕ)
-    (past : Past) (out out' : O × J) (given : List ℕ) where
+module _ {O J : Type 0} (showing : Showing) (written : O → Option (List ℕ)) (failures : O → ℕ) (kept : J → Option (List KeptText))
+    (losses : J → ℕ) (past : Past) (out out' : O × J) (given : List ℕ) where
   -- the bytes that were given tell of a fault at this line of the job in front of the live line; nothing was written or kept
   abbrev pub IsJobEnd : Type 0 → ℕ → List ℕ → Type 0
   IsJobEnd ended line text = (told : List (List ℕ)) × Tells past given ended told × HasJobFault told line text × (out' ≡ out)
@@ -92,29 +93,29 @@ module _ {O J : Type 0} (written : O → Option (List ℕ)) (failures : O → �
 
   -- some first lines were kept and answered, each of them, and nothing else was written or kept
   abbrev pub IsMemoryEnd : Type 0
-  IsMemoryEnd = (seen unseen : List (List ℕ)) × (said : List ℕ) × (seen ++ unseen ≡ all_lines past given) × IsSaid seen said
+  IsMemoryEnd = (seen unseen : List (List ℕ)) × (said : List ℕ) × (seen ++ unseen ≡ all_lines past given) × IsSaid showing seen said
       × Does written failures kept losses past out out' said (kept_in seen)
 
   -- the output failed in the answers of some first lines, which were kept, or in what is said in all
   abbrev pub IsCutOff : Type 0
   IsCutOff = (seen unseen : List (List ℕ)) × (said : List ℕ) × (seen ++ unseen ≡ all_lines past given)
-      × (IsSaid seen said ⊎ (IsWhole seen said × (unseen ≡ [])))
+      × (IsSaid showing seen said ⊎ (IsWhole showing seen said × (unseen ≡ [])))
       × WritesPart written failures kept losses past out out' said (kept_in seen)
 
   -- the journal failed in the keeping of a line, and those in front of it were kept and answered
   abbrev pub IsLost : Type 0
-  IsLost = (seen unseen : List (List ℕ)) × (line said : List ℕ) × (seen ++ line ∷ unseen ≡ all_lines past given) × IsSaid seen said
+  IsLost = (seen unseen : List (List ℕ)) × (line said : List ℕ) × (seen ++ line ∷ unseen ≡ all_lines past given) × IsSaid showing seen said
       × KeepsPart written failures kept losses past out out' said (kept_in (seen ++ line ∷ []))
 
   -- each whole line was kept and answered, and nothing else was written or kept
   abbrev pub IsAnswered : Type 0
-  IsAnswered = (said : List ℕ) × IsSaid (whole_lines past given) said
+  IsAnswered = (said : List ℕ) × IsSaid showing (whole_lines past given) said
       × Does written failures kept losses past out out' said (kept_in (whole_lines past given))
 
   -- a run that ended so, and not for its input: where it is done, the input has ended and all is said
   abbrev pub IsStop : Type 0 → LiveEnd → Type 0
-  IsStop ended (Done refused) =
-      ended × (said : List ℕ) × IsWhole (all_lines past given) said × HaveRefused (all_lines past given) refused
+  IsStop ended (Done refused notes) =
+      ended × (said : List ℕ) × IsWhole showing (all_lines past given) said × HaveRefused showing (all_lines past given) refused
       × Does written failures kept losses past out out' said (kept_in (all_lines past given))
   IsStop ended (Job line text) = IsJobEnd ended line text.items
   IsStop ended (Cif fault text) = IsCifEnd ended fault text.items
@@ -133,22 +134,22 @@ can_begin (line ∷ lines) = is_some (behind (line ∷ lines))
 
 -- no run begins from these lines of its journal: there are some and none is live, they have a fault, or memory was refused
 abbrev pub Unbegun : List (List ℕ) → LiveEnd → Type 0
-Unbegun told (Done refused) = ⊥
+Unbegun told (Done refused notes) = ⊥
 Unbegun told (Job line text) = (told ≢ []) × HasJobFault told line text.items
 Unbegun told (Cif fault text) = HasCifFault told fault text.items
 Unbegun told Device = ⊥
 Unbegun told Journal = ⊥
 Unbegun told Memory = ⊤
 
-module _ {I O J : Type 0} (remaining : I → Option (List ℕ)) (counts : I → Counts) (written : O → Option (List ℕ)) (failures : O → ℕ)
-    (kept : J → Option (List KeptText)) (losses : J → ℕ) where
+module _ {I O J : Type 0} (showing : Showing) (remaining : I → Option (List ℕ)) (counts : I → Counts) (written : O → Option (List ℕ))
+    (failures : O → ℕ) (kept : J → Option (List KeptText)) (losses : J → ℕ) where
   -- From the old devices to the new, a run over the lines that this journal has whole and then those of the input: what the
   -- lines of the journal are answered isn't said again, nor are they kept again.
   abbrev pub Resumes : List ℕ → I → I → O × J → O × J → LiveEnd → Type 0
   Resumes journal input input' out out' end =
-      (past : Past) × (given : List ℕ) × (can_begin (whole journal) ≡ true) × IsPast (whole journal) past
+      (past : Past) × (given : List ℕ) × (can_begin (whole journal) ≡ true) × IsPast showing (whole journal) past
       × Consumes (remaining input) (remaining input') given
-      × IsEnd written failures kept losses past out out' given (counts input) (counts input') end
+      × IsEnd showing written failures kept losses past out out' given (counts input) (counts input') end
 
   -- the same, or no run began, and nothing was read, written or kept
   pub record IsJournaled (journal : List ℕ) (input input' : I) (out out' : O × J) (end : LiveEnd) : Type 0 where
@@ -156,7 +157,8 @@ module _ {I O J : Type 0} (remaining : I → Option (List ℕ)) (counts : I → 
         ⊎ (Unbegun (whole journal) end × (input' ≡ input) × (out' ≡ out))
 
 -- from the old input and output device to the new, a run without a journal ended so
-abbrev pub IsLiveRun : {I O : Type 0} → (I → Option (List ℕ)) → (I → Counts) → (O → Option (List ℕ)) → (O → ℕ)
+abbrev pub IsLiveRun : {I O : Type 0} → Showing → (I → Option (List ℕ)) → (I → Counts) → (O → Option (List ℕ)) → (O → ℕ)
     → I → I → O → O → LiveEnd → Type 0
-IsLiveRun remaining counts written failures input input' out out' end =
-    IsJournaled {J = NoJournal} remaining counts written failures (λ j. None) (λ j. 0) [] input input' (out, record {}) (out', record {}) end
+IsLiveRun showing remaining counts written failures input input' out out' end =
+    IsJournaled {J = NoJournal} showing remaining counts written failures (λ j. None) (λ j. 0) [] input input' (out, record {})
+    (out', record {}) end

@@ -1,8 +1,6 @@
 -- The lines of a live run lead where their steps lead as a job.
-use Rattle.std.specs.Prelude.{◌≡◌, ℕ, List, [], ◌∷◌, ◌++◌, map, true, Some}
+use Rattle.std.specs.Prelude.{◌≡◌, ℕ, List, [], ◌∷◌, ◌++◌, map, true, false, None, Option, Some, if◌then◌else◌}
 use Rattle.std.specs.List.{AllByRecursion, list_all}
-use Rattle.cif_layout.specs.FromCif.{layout_of}
-use Rattle.cif_read.specs.Contents.{Contents}
 use Rattle.lay_layouts.specs.Layout.{Layout}
 use Rattle.undo_book.specs.declared.book.TheConstants.{MAX_CALLS}
 use Rattle.session_steps.specs.declared.Step.{Step as StepOf}
@@ -14,8 +12,11 @@ use Rattle.job_text.specs.Words.{words_of}
 use Rattle.live_run.specs.Cif.{behind, whole}
 use Rattle.live_run.specs.Ear.{is_not_newline}
 use Rattle.live_run.specs.Journal.{bytes_of, kept_in}
-use Rattle.live_run.specs.Live.{LiveRun, after_lines, before_first_line}
-use Rattle.live_run.specs.Said.{IsBase}
+use Rattle.live_run.specs.Live.{LiveRun, Said, after_line, after_lines, before_first_line}
+use Rattle.live_run.specs.Said.{AreAnswered, IsClosing, IsFirstRun, shown_named, order_said}
+use Rattle.live_run.specs.Shown.{text_named}
+use Rattle.live_run.specs.declared.showing.Showing.{Showing}
+use Rattle.live_run.specs.declared.showing.View.{View}
 
 -- the step that a line says, if it says one
 abbrev pub steps_of : LiveLine → List (ℕ × StepOf)
@@ -38,7 +39,8 @@ pub record LedBy (base : Layout) (steps : List (ℕ × StepOf)) (run : LiveRun) 
 
 -- so do lines, whatever they are
 abbrev pub LinesAreSteps : Type 0
-LinesAreSteps = (base : Layout) (lines : List (List ℕ)) → LedBy base (steps_in lines) (after_lines (before_first_line base) lines)
+LinesAreSteps =
+    (view : View) (base : Layout) (lines : List (List ℕ)) → LedBy base (steps_in lines) (after_lines (before_first_line view base) lines)
 
 -- a line has one newline, at its end
 abbrev pub IsWholeLine : List ℕ → Type 0
@@ -57,8 +59,27 @@ pub record SameSteps (a b : LiveRun) : Type 0 where
 -- what a journal has of lines, and of the next line any bytes but its newline: a run that begins from it begins where the run of
 -- those lines stands
 abbrev pub JournalsResume : Type 0
-JournalsResume = (lines heard : List (List ℕ)) (file : Contents) (cut : List ℕ) → AreWholeLines lines → behind lines ≡ Some heard
-    → IsBase lines file → list_all is_not_newline cut ≡ true
+JournalsResume = (showing : Showing) (lines heard : List (List ℕ)) (first : LiveRun) (cut : List ℕ) → AreWholeLines lines
+    → behind lines ≡ Some heard → IsFirstRun showing lines first → list_all is_not_newline cut ≡ true
     → (kept : List (List ℕ)) × (behind (whole (bytes_of (kept_in lines) ++ cut)) ≡ Some kept)
-    × IsBase (whole (bytes_of (kept_in lines) ++ cut)) file
-    × SameSteps (after_lines (before_first_line (layout_of file)) kept) (after_lines (before_first_line (layout_of file)) heard)
+    × IsFirstRun showing (whole (bytes_of (kept_in lines) ++ cut)) first
+    × SameSteps (after_lines first kept) (after_lines first heard)
+
+-- what a line is answered where shapes stay as they are: a comment, and the layout that the line left, where it is wanted
+abbrev pub said_text : LiveRun × Said → List ℕ
+said_text took = took.1.0 ++ shown_named took.0.view.names (if took.1.1 then Some took.0.state.history.layout else None)
+
+-- what these lines are answered then, in order
+abbrev pub answers : LiveRun → List (List ℕ) → List ℕ
+answers run [] = []
+answers run (line ∷ lines) = said_text (after_line run line) ++ answers (after_line run line).0 lines
+
+-- what is written at the end then
+abbrev pub closing : LiveRun → List ℕ
+closing run = order_said run ++ text_named run.view.names run.state.history.layout
+
+-- where shapes stay as they are, lines have one text of answers, and a run one at its end; without names that of the layout itself
+abbrev pub PlainRunsSayOne : Type 0
+PlainRunsSayOne = (run : LiveRun) → run.view.oriented ≡ false
+    → ((lines : List (List ℕ)) (said : List ℕ) → AreAnswered run lines said → said ≡ answers run lines)
+    × ((said : List ℕ) → IsClosing run said → said ≡ closing run)

@@ -6,3 +6,4 @@ pub mod Journal
 pub mod Laws
 pub mod Live
 pub mod Said
+pub mod Shown

@@ -15,14 +15,17 @@ use Rattle.job_text.specs.Words.{words_of}
 use Rattle.live_questions.specs.Answers.{told_text}
 use Rattle.live_run.specs.declared.live.Answer.{Answer}
 use Rattle.live_run.specs.declared.live.Live.{Live}
+use Rattle.live_run.specs.declared.showing.View.{View}
 
--- the state of the machine, the session of each step and its reply, how many steps each session took, and how many lines came
+-- the state of the machine, the session of each step and its reply, how many steps each session took, how many lines came, and how
+-- the layout is shown
 pub record LiveRun : Type 0 where
   pub state : State
   pub sessions : List ℕ
   pub replies : List Reply
   pub taken : List ℕ
   pub lines : ℕ
+  pub view : View
 
 -- what contracts see of a live run
 abbrev pub run_of : Live → LiveRun
@@ -32,11 +35,19 @@ run_of l = record {
   replies = l.replies.items;
   taken = l.taken.items;
   lines = l.lines;
+  view = l.view;
 }
 
--- a run on this layout before its first line, of 64 sessions
-abbrev pub before_first_line : Layout → LiveRun
-before_first_line base = record { state = start base 64 MAX_CALLS; sessions = []; replies = []; taken = replicate 65 0; lines = 0 }
+-- a run on this layout before its first line, of 64 sessions, which shows the layout so
+abbrev pub before_first_line : View → Layout → LiveRun
+before_first_line view base = record {
+  state = start base 64 MAX_CALLS;
+  sessions = [];
+  replies = [];
+  taken = replicate 65 0;
+  lines = 0;
+  view = view;
+}
 
 -- whether the step with this reply was refused
 abbrev pub is_refusal : Reply → Bool
@@ -63,6 +74,7 @@ one_more run = record {
   replies = run.replies;
   taken = run.taken;
   lines = run.lines + 1;
+  view = run.view;
 }
 
 -- the number of the session's next step
@@ -77,6 +89,7 @@ stepped run session took = record {
   replies = run.replies ++ took.0 ∷ [];
   taken = slice_set run.taken session (next_of run session);
   lines = run.lines + 1;
+  view = run.view;
 }
 
 -- what a step is answered, and what it leaves
@@ -90,7 +103,7 @@ abbrev pub answered : LiveRun → LiveLine → LiveRun × Said
 answered run Blank = (one_more run, ([], false))
 answered run (Step session step) = after_step run session step
 answered run Write = (one_more run, ([], true))
-answered run (Ask question) = (one_more run, (told_text question run.state.history, false))
+answered run (Ask question) = (one_more run, (told_text run.view.names question run.state.history, false))
 answered run Odd = (one_more run, (odd_text (run.lines + 1), false))
 
 -- what a line is answered

@@ -1,4 +1,4 @@
-//! The layout on which a live run begins: that of the CIF text in front of the line `%live`.
+//! The layout on which a live run begins, that of the CIF text in front of the line `%live`, and how it is shown.
 ghost use Rattle.std.specs.Prelude.{◌≡◌, ◌+◌, IfSome, true, false, Err};
 ghost use Rattle.std.specs.Result.{result_map_both};
 ghost use Rattle.lay_point.specs.Memory.{IsAnswer};
@@ -17,6 +17,7 @@ ghost use Rattle.live_run.specs.Course.{
 
 use crate::ending::LiveEnd;
 use crate::live::Live;
+use crate::showing::{Showing, View};
 use cif_layout::FromCif;
 use cif_read::{CifFault, FaultKind, read};
 use job_text::{Job, JobFault};
@@ -66,11 +67,16 @@ impl From<NoMemory> for HeadFault {
 }
 
 /// Returns the run after this head, before its first line, where the live line has this number.
-pub(crate) fn open_run(alloc: Global, head: &[u8], number: u32) -> Result<Live, HeadFault>
-    ensures { OpensTo head.now number result }
+pub(crate) fn open_run(
+    alloc: Global,
+    showing: Showing,
+    head: &[u8],
+    number: u32,
+) -> Result<Live, HeadFault>
+    ensures { OpensTo showing head.now number result }
 {
-    let base = base_of(alloc, head, number)?;
-    Ok(Live::new(alloc, base)?)
+    let (base, view) = base_of(alloc, showing, head, number)?;
+    Ok(Live::new(alloc, base, view)?)
 }
 
 /// Returns the end of a run whose head has this fault and this text.
@@ -94,14 +100,20 @@ pub(crate) fn unopened(alloc: Global, head: Vec<u8>, number: u32) -> LiveEnd
     }
 }
 
-/// Returns the layout of the head's CIF text.
+/// Returns the layout of the head's CIF text, and how it is shown.
 #[tactic(auto, unfolding(crate::specs::Course::IsBaseOf))]
-fn base_of(alloc: Global, head: &[u8], number: u32) -> Result<Snapshot, HeadFault>
-    ensures { IsBaseOf head.now number result }
+fn base_of(
+    alloc: Global,
+    showing: Showing,
+    head: &[u8],
+    number: u32,
+) -> Result<(Snapshot, View), HeadFault>
+    ensures { IsBaseOf showing head.now number result }
 {
     let cif = cif_of(alloc, head, number)?;
     let file = read(alloc, cif)?;
-    Ok(Snapshot::from_cif(alloc, file)?)
+    let view = View::of(alloc, showing, cif)?;
+    Ok((Snapshot::from_cif(alloc, file)?, view))
 }
 
 /// Returns the CIF text of a head in front of a live line of this number.

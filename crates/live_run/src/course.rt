@@ -1,29 +1,31 @@
 //! The course of a live run, line by line.
 ghost use Rattle.std.specs.Prelude.{◌≡◌, ◌+◌};
-ghost use Rattle.live_run.specs.Live.{after_line, run_of};
+ghost use Rattle.live_run.specs.Live.{after_line, run_of, said_of};
 ghost use Rattle.live_run.specs.Cif.{is_live};
 ghost use Rattle.live_run.specs.Course.{
   AnswersTo,
   ClosesTo,
+  GivesTo,
   HeadTo,
   HearsTo,
   KeepsTo,
   LiveTo,
-  Puts,
+  PutsClosing,
   RunCloses,
   phase_of,
 };
 ghost use Rattle.live_run.specs.Journal.{entries_by, kept_as, kept_head, kept_line};
-ghost use Rattle.live_run.specs.Said.{closing};
 
 use crate::base::{head_end, open_run, unopened};
-use crate::ending::LiveEnd;
+use crate::ending::{EndNotes, LiveEnd};
 use crate::journal::Journal;
-use crate::live::{Keeping, Live};
-use crate::put::{put_answer, put_both, shown};
+use crate::live::{Answer, Keeping, Live};
+use crate::put::{put_shown, seen_in, shown_in};
+use crate::showing::{Showing, seen, shown};
 use band_workers::Bands;
 use byte_io::Out;
 use cif_write::WriteFault;
+use lay_oriented::Directed;
 use lay_point::NoMemory;
 use std::alloc::Global;
 use std::thread::Threads;
@@ -44,15 +46,16 @@ impl Course {
         rt: &(impl Threads + Sync),
         alloc: Global,
         bands: &impl Bands,
+        showing: Showing,
         out: &mut O,
         journal: &mut J,
         line: &[u8],
     ) -> Result<Course, LiveEnd>
-        ensures { HearsTo O.written O.failures J.kept J.losses (out.old, journal.old) (out.new, journal.new)
+        ensures { HearsTo showing O.written O.failures J.kept J.losses (out.old, journal.old) (out.new, journal.new)
             (phase_of self) line.now result }
     {
         match self {
-            Course::Head(text, count) => hear_head(alloc, text, count, journal, line),
+            Course::Head(text, count) => hear_head(alloc, showing, text, count, journal, line),
             Course::Steps(live) => hear_step(rt, alloc, bands, out, journal, live, line),
         }
     }
@@ -81,16 +84,17 @@ fn is_live(line: &[u8]) -> bool
 /// Returns the course after a line that follows these others, none of which is live.
 fn hear_head<J: Journal>(
     alloc: Global,
+    showing: Showing,
     text: Vec<u8>,
     count: u32,
     journal: &mut J,
     line: &[u8],
 ) -> Result<Course, LiveEnd>
-    ensures { HeadTo J.kept J.losses journal.old journal.new (is_live line.now) text.items count line.now result }
+    ensures { HeadTo showing J.kept J.losses journal.old journal.new (is_live line.now) text.items count line.now result }
 {
     let number = count.checked_add(1).ok_or(NoMemory)?;
     if is_live(line) {
-        return hear_live(alloc, text, number, journal, line);
+        return hear_live(alloc, showing, text, number, journal, line);
     }
     let mut text = text;
     text.extend_from_slice(line).map_err(|_| NoMemory)?;
@@ -100,14 +104,15 @@ fn hear_head<J: Journal>(
 /// Returns the course after a live line of this number, which is kept after its head where a run begins.
 fn hear_live<J: Journal>(
     alloc: Global,
+    showing: Showing,
     text: Vec<u8>,
     number: u32,
     journal: &mut J,
     line: &[u8],
 ) -> Result<Course, LiveEnd>
-    ensures { LiveTo J.kept J.losses journal.old journal.new text.items number line.now result }
+    ensures { LiveTo showing J.kept J.losses journal.old journal.new text.items number line.now result }
 {
-    match open_run(alloc, text.as_slice(), number) {
+    match open_run(alloc, showing, text.as_slice(), number) {
         Ok(live) => {
             keep_head(journal, text.as_slice(), line)?;
             Ok(Course::Steps(live))
@@ -153,10 +158,34 @@ fn hear_step<O: Out, J: Journal>(
         (after_line (run_of live) line.now) (kept_line line.now) result }
 {
     let (live, answer) = live.answer(rt, alloc, line, bands)?;
-    let shown = shown(&answer, live.layout())?;
-    keep_line(journal, answer.keeping, line)?;
-    match put_answer(out, answer.comment.as_slice(), shown) {
+    match give_answer(alloc, out, journal, &live, answer, line) {
         Ok(()) => Ok(Course::Steps(live)),
+        Err(end) => Err(end),
+    }
+}
+
+/// Keeps a line of a run, which stands so now, and then writes its answer. All that takes memory comes before it is kept.
+fn give_answer<O: Out, J: Journal>(
+    alloc: Global,
+    out: &mut O,
+    journal: &mut J,
+    live: &Live,
+    answer: Answer,
+    line: &[u8],
+) -> Result<(), LiveEnd>
+    ensures { GivesTo O.written O.failures J.kept J.losses (out.old, journal.old) (out.new, journal.new)
+        (run_of live.now, said_of answer) (entries_by (kept_as answer.keeping) line.now) result }
+{
+    let seen = seen_in(alloc, &answer, live.view(), live.layout())?;
+    let Answer {
+        comment,
+        keeping,
+        ..
+    } = answer;
+    let (bytes, layout) = shown_in(alloc, &live.view().names, comment, &seen)?;
+    keep_line(journal, keeping, line)?;
+    match put_shown(out, bytes.as_slice(), layout) {
+        Ok(()) => Ok(()),
         Err(_) => Err(LiveEnd::Device),
     }
 }
@@ -167,16 +196,27 @@ fn close_run<O: Out>(alloc: Global, out: &mut O, live: Live) -> LiveEnd
 {
     let has_refused = live.has_refused();
     match put_closing(alloc, out, live) {
-        Ok(()) => LiveEnd::Done { has_refused },
+        Ok(notes) => LiveEnd::Done { has_refused, notes },
         Err(WriteFault::Device) => LiveEnd::Device,
         Err(WriteFault::NoMemory) => LiveEnd::Memory,
     }
 }
 
-/// Writes the order of a run's steps, and the layout at its end.
-fn put_closing<O: Out>(alloc: Global, out: &mut O, live: Live) -> Result<(), WriteFault>
-    ensures { Puts O.written O.failures out.old out.new (closing (run_of live)) result }
+/// Writes the order of a run's steps, and the layout at its end. Returns what there is to tell of the layout.
+fn put_closing<O: Out>(alloc: Global, out: &mut O, live: Live) -> Result<EndNotes, WriteFault>
+    ensures { PutsClosing O.written O.failures out.old out.new (run_of live) result }
 {
-    let (order, layout) = live.end(alloc)?;
-    put_both(out, order.as_slice(), &layout)
+    let (order, layout, view) = live.end(alloc)?;
+    let Directed {
+        layout,
+        staying,
+        first,
+    } = seen(alloc, view.oriented, &layout)?;
+    let (bytes, text) = shown(alloc, &view.names, order, &layout)?;
+    put_shown(out, bytes.as_slice(), text)?;
+    Ok(EndNotes {
+        staying,
+        first,
+        left_out: view.left_out(),
+    })
 }

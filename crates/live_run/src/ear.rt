@@ -7,6 +7,7 @@ use crate::base::unopened;
 use crate::course::Course;
 use crate::ending::LiveEnd;
 use crate::journal::Journal;
+use crate::showing::Showing;
 use band_workers::Bands;
 use byte_io::Out;
 use lay_point::NoMemory;
@@ -35,7 +36,7 @@ impl Ear {
     }
 
     /// Returns the run after these bytes. Each whole line of the bytes so far is kept and answered then: its answer and all
-    /// before it are with the device. `bands` finds the edges of Booleans.
+    /// before it are with the device. `bands` finds the edges of Booleans; `showing` is the same at each call of a run.
     ///
     /// # Errors
     ///
@@ -49,15 +50,16 @@ impl Ear {
         rt: &(impl Threads + Sync),
         alloc: Global,
         bands: &impl Bands,
+        showing: Showing,
         out: &mut O,
         journal: &mut J,
         piece: &[u8],
     ) -> Result<Ear, LiveEnd>
-        ensures { PieceTo O.written O.failures J.kept J.losses (out.old, journal.old) (out.new, journal.new) self piece.now result }
+        ensures { PieceTo showing O.written O.failures J.kept J.losses (out.old, journal.old) (out.new, journal.new) self piece.now result }
     {
         let mut ear = self;
         for byte in piece {
-            match ear.hear_byte(rt, alloc, bands, out, journal, *byte) {
+            match ear.hear_byte(rt, alloc, bands, showing, out, journal, *byte) {
                 Ok(next) => ear = next,
                 Err(end) => return Err(end),
             }
@@ -91,11 +93,13 @@ impl Ear {
         rt: &(impl Threads + Sync),
         alloc: Global,
         bands: &impl Bands,
+        showing: Showing,
         out: &mut O,
         journal: &mut J,
         byte: u8,
     ) -> Result<Ear, LiveEnd>
-        ensures { PieceTo O.written O.failures J.kept J.losses (out.old, journal.old) (out.new, journal.new) self (byte ∷ []) result }
+        ensures { PieceTo showing O.written O.failures J.kept J.losses (out.old, journal.old) (out.new, journal.new) self
+            (byte ∷ []) result }
     {
         let Ear { course, line } = self;
         let mut line = line;
@@ -103,7 +107,7 @@ impl Ear {
         if byte != b'\n' {
             return Ok(Ear { course, line });
         }
-        match course.hear(rt, alloc, bands, out, journal, line.as_slice()) {
+        match course.hear(rt, alloc, bands, showing, out, journal, line.as_slice()) {
             Ok(course) => {
                 line.clear();
                 Ok(Ear { course, line })
@@ -118,12 +122,13 @@ impl Ear {
         rt: &(impl Threads + Sync),
         alloc: Global,
         bands: &impl Bands,
+        showing: Showing,
         out: &mut O,
         journal: &mut J,
     ) -> LiveEnd
-        ensures { EndTo O.written O.failures J.kept J.losses (out.old, journal.old) (out.new, journal.new) self result }
+        ensures { EndTo showing O.written O.failures J.kept J.losses (out.old, journal.old) (out.new, journal.new) self result }
     {
-        match self.hear_last(rt, alloc, bands, out, journal) {
+        match self.hear_last(rt, alloc, bands, showing, out, journal) {
             Ok(course) => course.close(alloc, out),
             Err(end) => end,
         }
@@ -135,15 +140,23 @@ impl Ear {
         rt: &(impl Threads + Sync),
         alloc: Global,
         bands: &impl Bands,
+        showing: Showing,
         out: &mut O,
         journal: &mut J,
     ) -> Result<Course, LiveEnd>
-        ensures { LastTo O.written O.failures J.kept J.losses (out.old, journal.old) (out.new, journal.new) self result }
+        ensures { LastTo showing O.written O.failures J.kept J.losses (out.old, journal.old) (out.new, journal.new) self result }
     {
         if self.line.is_empty() {
             return Ok(self.course);
         }
-        self.course
-            .hear(rt, alloc, bands, out, journal, self.line.as_slice())
+        self.course.hear(
+            rt,
+            alloc,
+            bands,
+            showing,
+            out,
+            journal,
+            self.line.as_slice(),
+        )
     }
 }

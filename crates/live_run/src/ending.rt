@@ -11,7 +11,20 @@ use crate::journal::KeepFault;
 use byte_io::InFault;
 use cif_read::CifFault;
 use cif_write::WriteFault;
+use lay_cells::CellId;
+use lay_layouts::ItemId;
 use lay_point::NoMemory;
+
+/// What there is to tell of the layout at the end of a run, for a person.
+#[derive(Debug, Drop)]
+pub struct EndNotes {
+    /// How many shapes stay as they were, though all were to be directed.
+    pub staying: usize,
+    /// The first three of these, or as many as there are, each with its cell.
+    pub first: Vec<(CellId, ItemId)>,
+    /// How many names and labels of the text are left out, where they are shown.
+    pub left_out: usize,
+}
 
 /// How a live run ended.
 #[derive(Debug, Drop)]
@@ -20,6 +33,8 @@ pub enum LiveEnd {
     Done {
         /// Whether a step was refused, of the journal's too.
         has_refused: bool,
+        /// What there is to tell of the layout at the end.
+        notes: EndNotes,
     },
     /// The job in front of the line `%live` has a fault, or a script, or there is no such line. Nothing is written.
     Job {

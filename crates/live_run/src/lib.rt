@@ -26,6 +26,9 @@
 //! - A [`Journal`] gets the lines up to the live line, and then each step before its answer
 //!   (`specs/Journal.antt`). [`run_journaled`] begins after the lines that one has: such a run is one
 //!   over these lines and then the input's, but for the answers to the first.
+//! - A run shows its layout as [`Showing`] asks: with the names and labels of its head's text, and
+//!   with its shapes directed (`specs/Shown.antt`). Directing has no one answer, so what is said is a
+//!   relation; [`plain_runs_say_one`] carries the law that it is one text where shapes stay.
 //! - [`lines_are_steps`] and [`journals_resume`] do nothing and carry laws (`specs/Laws.antt`): the
 //!   lines so far lead where their steps lead as a job, with the same replies; and so do the lines that
 //!   a journal has of them.
@@ -36,12 +39,13 @@
 //! - `journal.rt`: where lines are kept, so that a later run can begin from them.
 //! - `course.rt`, `base.rt`: head and steps, and the layout of the head (`specs/Cif.antt`).
 //! - `live.rt`: the sessions, and what a line is answered; `put.rt`: the writing of it.
+//! - `showing.rt`: how a layout is shown, of a job's too.
 //! - `ending.rt`: how a run ends.
 //!
 //! # Example
 //!
 //! ```text
-//! match run_live(rt, alloc, &bands, &mut input, &mut out) {
+//! match run_live(rt, alloc, &bands, showing, &mut input, &mut out) {
 //!     LiveEnd::Job { line, .. } => .. // nothing is written, and the caller says where the fault is
 //!     ..
 //! }
@@ -57,10 +61,12 @@ mod laws;
 mod live;
 mod put;
 mod run;
+mod showing;
 
 pub use ear::Ear;
-pub use ending::LiveEnd;
+pub use ending::{EndNotes, LiveEnd};
 pub use journal::{Journal, KeepFault, NoJournal};
-pub use laws::{journals_resume, lines_are_steps};
+pub use laws::{journals_resume, lines_are_steps, plain_runs_say_one};
 pub use live::is_refusal;
 pub use run::{MAX_READS, run_journaled, run_live};
+pub use showing::{Showing, named_bytes, names_for, names_when, put_layout};

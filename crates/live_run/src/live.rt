@@ -18,6 +18,7 @@ ghost use Rattle.live_run.specs.Live.{
   said_of,
 };
 
+use crate::showing::View;
 use band_workers::Bands;
 use job_text::{LiveLine, comments, live_line, odd_line, order_of, reply_line};
 use lay_items::Snapshot;
@@ -69,8 +70,8 @@ impl Answer {
     }
 }
 
-/// A live run. Contracts see the state of its machine, the steps' sessions and replies so far, and how many
-/// lines came (`run_of`).
+/// A live run. Contracts see the state of its machine, the steps' sessions and replies so far, how many
+/// lines came, and how its layout is shown (`run_of`).
 #[derive(Drop)]
 pub struct Live {
     machine: Machine,
@@ -79,16 +80,18 @@ pub struct Live {
     /// How many steps each session took, by its number.
     taken: Vec<u64>,
     lines: u64,
+    /// How the layout is shown.
+    view: View,
 }
 
 impl Live {
-    /// Returns a run on this layout, before its first line.
+    /// Returns a run on this layout, before its first line, which shows the layout so.
     ///
     /// # Errors
     ///
     /// `NoMemory`, if an allocation fails.
-    pub fn new(alloc: Global, base: Snapshot) -> Result<Live, NoMemory>
-        ensures { IfOk result (λ run. run_of run ≡ before_first_line base) }
+    pub fn new(alloc: Global, base: Snapshot, view: View) -> Result<Live, NoMemory>
+        ensures { IfOk result (λ run. run_of run ≡ before_first_line view base) }
     {
         Ok(Live {
             machine: Machine::new(alloc, base, SESSIONS)?,
@@ -96,6 +99,7 @@ impl Live {
             replies: Vec::new(alloc),
             taken: vec![in alloc; 0; usize::from(SESSIONS) + 1]?,
             lines: 0,
+            view,
         })
     }
 
@@ -104,6 +108,13 @@ impl Live {
         ensures { result.now ≡ self.now.machine.history.layout }
     {
         self.machine.book().snapshot()
+    }
+
+    /// How it is shown.
+    pub(crate) fn view(&self) -> &View
+        ensures { result.now ≡ self.now.view }
+    {
+        &self.view
     }
 
     /// Returns the run after a line, and what the line is answered. `bands` finds the edges of Booleans. Out
@@ -137,7 +148,7 @@ impl Live {
                 Ok(self.one_more(number, answer))
             }
             LiveLine::Ask(question) => {
-                let comment = answer(alloc, question, self.machine.book())?;
+                let comment = answer(alloc, &self.view.names, question, self.machine.book())?;
                 Ok(self.one_more(number, Answer::new(comment)))
             }
             LiveLine::Odd => {
@@ -155,26 +166,28 @@ impl Live {
         self.replies.iter().any(|reply| is_refusal(reply))
     }
 
-    /// Returns the comments of the order of the steps, as the log tells it, and the layout at the end.
+    /// Returns the comments of the order of the steps, as the log tells it, the layout at the end, and how it is shown.
     ///
     /// # Errors
     ///
     /// `NoMemory`, if an allocation fails.
-    pub fn end(self, alloc: Global) -> Result<(Vec<u8>, Snapshot), NoMemory>
+    pub fn end(self, alloc: Global) -> Result<(Vec<u8>, Snapshot, View), NoMemory>
         ensures order { IfOk result (λ r. r.0.items ≡ order_text (order_of self.machine.history.log
             (dealt self.sessions.items self.replies.items (replicate 64 [])))) }
         ensures layout { IfOk result (λ r. r.1 ≡ self.machine.history.layout) }
+        ensures view { IfOk result (λ r. r.2 ≡ self.view) }
     {
         let Live {
             machine,
             sessions,
             replies,
+            view,
             ..
         } = self;
         let replies = dealt(alloc, SESSIONS, sessions.as_slice(), replies)?;
         let order = order_of(alloc, machine.book().log(), replies.as_slice())?;
         let layout = machine.book().snapshot().share(alloc)?;
-        Ok((comments(alloc, &[], &order)?, layout))
+        Ok((comments(alloc, &[], &order)?, layout, view))
     }
 
     /// Returns the run after a step of a session, and the comment that answers it.

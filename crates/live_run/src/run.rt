@@ -1,11 +1,12 @@
 //! A live run from the first byte of its input to its end.
 ghost use Rattle.std.specs.Prelude.{◌≡◌, ◌+◌, ◌≤◌};
-ghost use Rattle.live_run.specs.Ear.{Begins, HeardAll};
+ghost use Rattle.live_run.specs.Ear.{BeginsBehind, HeardAll};
 ghost use Rattle.live_run.specs.Ending.{IsJournaled, IsLiveRun};
 
 use crate::ear::Ear;
 use crate::ending::LiveEnd;
 use crate::journal::{Journal, NoJournal, Silent};
+use crate::showing::Showing;
 use band_workers::Bands;
 use byte_io::{In, Out};
 use std::alloc::Global;
@@ -20,26 +21,29 @@ const _: () = prove!(MAX_READS == 33_554_432);
 const BUFFER: usize = 16_384;
 
 /// Runs the live run of the input's lines on 64 sessions, and answers each as soon as it has come. `bands` finds the
-/// edges of Booleans.
+/// edges of Booleans. The layout is shown with the names and labels of the text in front of the live line, and with its shapes
+/// directed, where `showing` says so; what the run keeps stays as it is.
 ///
 /// # Cost
 ///
 /// Memory grows with the head of the input, with the longest line, and with what the run keeps: its
-/// book and the replies.
+/// book, the replies, and the names and labels. Each text with names is in memory before it is written.
 pub fn run_live<I: In, O: Out>(
     rt: &(impl Threads + Sync),
     alloc: Global,
     bands: &impl Bands,
+    showing: Showing,
     input: &mut I,
     out: &mut O,
 ) -> LiveEnd
-    ensures run { IsLiveRun I.remaining I.counts O.written O.failures input.old input.new out.old out.new result }
+    ensures run { IsLiveRun showing I.remaining I.counts O.written O.failures input.old input.new out.old out.new result }
     ensures reads { (I.counts input.new).reads ≤ (I.counts input.old).reads + MAX_READS }
 {
     run_journaled(
         rt,
         alloc,
         bands,
+        showing,
         Vec::new(alloc),
         input,
         out,
@@ -49,7 +53,8 @@ pub fn run_live<I: In, O: Out>(
 
 /// Runs the live run of the lines that the journal's bytes have whole and then of the input's, where the first are
 /// taken again without answers. Each step is kept in the journal before it is answered; without bytes, so are the
-/// text and the live line, with which the input begins then.
+/// text and the live line, with which the input begins then. Names and labels are those of the text, which is then the
+/// journal's or the input's.
 ///
 /// # Cost
 ///
@@ -58,21 +63,22 @@ pub fn run_journaled<I: In, O: Out, J: Journal>(
     rt: &(impl Threads + Sync),
     alloc: Global,
     bands: &impl Bands,
+    showing: Showing,
     bytes: Vec<u8>,
     input: &mut I,
     out: &mut O,
     journal: &mut J,
 ) -> LiveEnd
-    ensures run { IsJournaled I.remaining I.counts O.written O.failures J.kept J.losses bytes.items
+    ensures run { IsJournaled showing I.remaining I.counts O.written O.failures J.kept J.losses bytes.items
         input.old input.new (out.old, journal.old) (out.new, journal.new) result }
     ensures reads { (I.counts input.new).reads ≤ (I.counts input.old).reads + MAX_READS }
 {
-    let ear = match begin(rt, alloc, bands, bytes) {
+    let ear = match begin(rt, alloc, bands, showing, bytes) {
         Ok(ear) => ear,
         Err(end) => return end,
     };
-    match hear_all(rt, alloc, bands, ear, input, out, journal) {
-        Ok(ear) => ear.end(rt, alloc, bands, out, journal),
+    match hear_all(rt, alloc, bands, showing, ear, input, out, journal) {
+        Ok(ear) => ear.end(rt, alloc, bands, showing, out, journal),
         Err(end) => end,
     }
 }
@@ -82,11 +88,20 @@ fn begin(
     rt: &(impl Threads + Sync),
     alloc: Global,
     bands: &impl Bands,
+    showing: Showing,
     bytes: Vec<u8>,
 ) -> Result<Ear, LiveEnd>
-    ensures { Begins bytes.items result }
+    ensures { BeginsBehind showing bytes.items result }
 {
-    match Ear::new(alloc).hear_piece(rt, alloc, bands, &mut Silent, &mut NoJournal, &bytes) {
+    match Ear::new(alloc).hear_piece(
+        rt,
+        alloc,
+        bands,
+        showing,
+        &mut Silent,
+        &mut NoJournal,
+        &bytes,
+    ) {
         Ok(ear) => ear.begun(alloc),
         Err(end) => Err(end),
     }
@@ -97,12 +112,13 @@ fn hear_all<I: In, O: Out, J: Journal>(
     rt: &(impl Threads + Sync),
     alloc: Global,
     bands: &impl Bands,
+    showing: Showing,
     first: Ear,
     input: &mut I,
     out: &mut O,
     journal: &mut J,
 ) -> Result<Ear, LiveEnd>
-    ensures heard { HeardAll I.remaining I.counts O.written O.failures J.kept J.losses first input.old input.new
+    ensures heard { HeardAll showing I.remaining I.counts O.written O.failures J.kept J.losses first input.old input.new
         (out.old, journal.old) (out.new, journal.new) result }
     ensures reads { (I.counts input.new).reads ≤ (I.counts input.old).reads + MAX_READS }
 {
@@ -113,7 +129,7 @@ fn hear_all<I: In, O: Out, J: Journal>(
         if taken == 0 {
             return Ok(ear);
         }
-        match ear.hear_piece(rt, alloc, bands, out, journal, &buffer[..taken]) {
+        match ear.hear_piece(rt, alloc, bands, showing, out, journal, &buffer[..taken]) {
             Ok(next) => ear = next,
             Err(end) => return Err(end),
         }

@@ -1,5 +1,5 @@
 -- What is kept of the input decides the output.
-use Rattle.std.proofs.Common.{◌≡◌, ℕ, ◌+◌, ◌<◌, ◌≤◌, Bool, List, IfOk, OnErr, OnOk, Option, Some, Result, false, length}
+use Rattle.std.proofs.Common.{◌≡◌, ℕ, ◌+◌, ◌<◌, ◌≤◌, Bool, List, IfOk, OnErr, OnOk, Option, Result, false, length}
 use Rattle.std.proofs.Common.{[], true, take, Ok, Err, inl, inr, refl, sym, ap, subst, ◌∙◌, arith}
 use Rattle.std.proofs.lemmas.Bool.{cases_lt}
 use Rattle.std.specs.Result.{is_err}
@@ -15,7 +15,8 @@ use Rattle.masklay.specs.declared.program.outcome.Stop.{Stop}
 use Rattle.cif_read.proofs.OneMeaning.{one_meaning}
 use Rattle.masklay.specs.Outcome.{IsOutcomeOf, finished_with, job_in}
 use Rattle.masklay.specs.Asked.{Asked}
-use Rattle.masklay.specs.Named.{names_for, names_in}
+use Rattle.live_run.specs.Shown.{names_for}
+use Rattle.masklay.specs.Named.{names_in}
 use Rattle.masklay.specs.Oriented.{AnswersGiven, IsGiven, finished_part}
 use Rattle.masklay.specs.Output.{EndsAsAsked, IsOutput, Output, WritesOrMemory, WritesOutput, given_output, output_from, stop_output, written_output}
 use Rattle.masklay.specs.declared.program.oriented.Given.{Given}

@@ -16,6 +16,7 @@ use Rattle.masklay.specs.declared.program.status.Status.{Status}
 use Rattle.masklay.specs.declared.program.status.Status.TheVariants.{CommandLine, Done}
 use Rattle.masklay.specs.Asked.{Asked, asked_of}
 use Rattle.live_run.specs.Journal.{KeptText}
+use Rattle.live_run.specs.declared.showing.Showing.{Showing}
 use Rattle.masklay.specs.Live.{IsLive}
 use Rattle.masklay.specs.Output.{WritesOutput, memory_output}
 use Rattle.masklay.specs.Run.{IsRun}
@@ -33,7 +34,7 @@ asks option (name ∷ arguments) = list_any (is_option option) arguments
 abbrev pub asks_to_live : List (String Global) → Bool
 asks_to_live words = asks (codes "--live") words
 
--- what a job's run is asked for
+-- what a run is asked for
 abbrev pub asked_in : List (String Global) → Asked
 asked_in words = record {
   threaded = asks (codes "--threaded") words;
@@ -44,11 +45,14 @@ asked_in words = record {
   boxed = asks (codes "--boxes") words;
 }
 
+-- what a live run that is asked so shows of its layout
+abbrev pub showing_of : Asked → Showing
+showing_of asked = record { named = asked.named; oriented = asked.oriented }
+
 -- whether an option of a job's run alone stands beside that of a live run
 abbrev pub asks_beside_live : List (String Global) → Bool
 asks_beside_live words =
-    asks_to_live words && (asks (codes "--threaded") words || (asks (codes "--oriented") words || (asks (codes "--names") words
-    || (asks (codes "--cif") words || asks (codes "--boxes") words))))
+    asks_to_live words && (asks (codes "--threaded") words || (asks (codes "--cif") words || asks (codes "--boxes") words))
 
 -- whether that is what is wrong
 abbrev pub is_live_alone : OptionsFault → Bool
@@ -67,6 +71,7 @@ abbrev pub IsWishOf : Wish → List (String Global) → Type 0
 IsWishOf (Job options) words = (asks_to_live words ≡ false) × (asked_of options ≡ asked_in words)
 IsWishOf (Live options) words =
     (asks_to_live words ≡ true) × (asks_beside_live words ≡ false) × (options.strict ≡ asks (codes "--strict") words)
+    × (options.showing ≡ showing_of (asked_in words))
 
 -- from the old devices to the new: the run of a job that was asked so, of which a journal knows nothing, or a live run behind
 -- these bytes of its journal
@@ -75,7 +80,7 @@ abbrev pub Runs : {I O J : Type 0} → Bool → Asked → (I → Option (List �
 Runs false asked remaining counts written failures kept losses journal input input' out out' status =
     IsRun asked remaining counts written failures input input' out.0 out'.0 status × (out'.1 ≡ out.1)
 Runs true asked remaining counts written failures kept losses journal input input' out out' status =
-    IsLive asked.strict remaining counts written failures kept losses journal input input' out out' status
+    IsLive asked.strict (showing_of asked) remaining counts written failures kept losses journal input input' out out' status
 
 -- From the old devices to the new: a text of help was written to the output, or one of what is wrong to the errors, or
 -- memory was refused and the output has the line that says so; and the other device is as it was.

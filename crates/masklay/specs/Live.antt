@@ -4,6 +4,7 @@ use Rattle.byte_io.specs.Input.{Counts}
 use Rattle.live_run.specs.Ending.{IsJournaled}
 use Rattle.live_run.specs.Journal.{KeptText}
 use Rattle.live_run.specs.declared.run.TheConstants.{MAX_READS}
+use Rattle.live_run.specs.declared.showing.Showing.{Showing}
 use Rattle.live_run.specs.declared.ending.LiveEnd.{LiveEnd}
 use Rattle.live_run.specs.declared.ending.LiveEnd.TheVariants.{Done as AllSaid, Job as JobEnd, Cif as CifEnd}
 use Rattle.live_run.specs.declared.ending.LiveEnd.TheVariants.{Device as DeviceEnd, Journal as JournalEnd, Memory as MemoryEnd}
@@ -19,7 +20,7 @@ live_ending strict refused = if strict && refused then Refused else Done
 -- From the old device to the new: what is written where a live run ended so, and the status. The line of a fault is written
 -- alone, and the one for a refused growth of memory behind the answers so far.
 abbrev pub WritesLiveEnd : {S : Type 0} → Bool → (S → Option (List ℕ)) → (S → ℕ) → S → S → LiveEnd → Status → Type 0
-WritesLiveEnd strict written failures old new (AllSaid refused) status = (status ≡ live_ending strict refused) × (new ≡ old)
+WritesLiveEnd strict written failures old new (AllSaid refused notes) status = (status ≡ live_ending strict refused) × (new ≡ old)
 WritesLiveEnd strict written failures old new (JobEnd line text) status =
     WritesOrMemory written failures old new (stop_output (JobFault line)) status
 WritesLiveEnd strict written failures old new (CifEnd fault text) status =
@@ -28,13 +29,14 @@ WritesLiveEnd strict written failures old new DeviceEnd status = (status ≡ Dev
 WritesLiveEnd strict written failures old new JournalEnd status = (status ≡ Device) × (new ≡ old)
 WritesLiveEnd strict written failures old new MemoryEnd status = WritesOutput written failures old new memory_output status
 
--- from the old input, and the old output and journal, to the new: a live run behind these bytes of its journal, and what closes it
-pub record IsLive {I O J : Type 0} (strict : Bool) (remaining : I → Option (List ℕ)) (counts : I → Counts)
+-- from the old input, and the old output and journal, to the new: a live run behind these bytes of its journal, which shows its
+-- layout so, and what closes it
+pub record IsLive {I O J : Type 0} (strict : Bool) (showing : Showing) (remaining : I → Option (List ℕ)) (counts : I → Counts)
     (written : O → Option (List ℕ)) (failures : O → ℕ) (kept : J → Option (List KeptText)) (losses : J → ℕ) (journal : List ℕ)
     (input input' : I) (out out' : O × J) (status : Status) : Type 0 where
   pub answered : O
   pub end : LiveEnd
-  pub ran : IsJournaled remaining counts written failures kept losses journal input input' out (answered, out'.1) end
+  pub ran : IsJournaled showing remaining counts written failures kept losses journal input input' out (answered, out'.1) end
   pub closed : WritesLiveEnd strict written failures answered out'.0 end status
   -- the input is read so often at most
   pub reads : (counts input').reads ≤ (counts input).reads + MAX_READS

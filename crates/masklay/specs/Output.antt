@@ -1,5 +1,5 @@
 -- The output of the program: a text and a status.
-use Rattle.std.specs.Prelude.{◌≡◌, ℕ, Bool, true, false, ◌&&◌, if◌then◌else◌, List, ◌++◌, codes, decimal, Option, Result, Ok, Err, ◌⊎◌}
+use Rattle.std.specs.Prelude.{◌≡◌, ℕ, Bool, false, ◌&&◌, if◌then◌else◌, List, ◌++◌, codes, decimal, Option, Result, Ok, Err, ◌⊎◌}
 use Rattle.cif_read.specs.declared.fault.CifFault.{CifFault}
 use Rattle.cif_read.specs.Faults.{fault_name, fault_number}
 use Rattle.byte_io.specs.Device.{WroteAll, WrotePrefix}
@@ -13,7 +13,8 @@ use Rattle.job_text.specs.Order.{order_text}
 use Rattle.live_run.specs.Live.{is_refusal}
 use Rattle.cif_names.specs.declared.names.Names.{Names}
 use Rattle.masklay.specs.Asked.{Asked}
-use Rattle.masklay.specs.Named.{layout_text, names_for, names_in, text_with}
+use Rattle.live_run.specs.Shown.{layout_text, names_for, text_with}
+use Rattle.masklay.specs.Named.{names_in}
 use Rattle.masklay.specs.Oriented.{IsGiven}
 use Rattle.masklay.specs.Outcome.{job_in}
 use Rattle.session_steps.specs.declared.Reply.{Reply}

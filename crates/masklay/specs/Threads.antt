@@ -1,5 +1,5 @@
 -- What becomes of a job whose sessions run in threads.
-use Rattle.std.specs.Prelude.{◌≡◌, ◌⊎◌, ℕ, Bool, true, false, List, Result, Ok, Err}
+use Rattle.std.specs.Prelude.{◌≡◌, ◌⊎◌, Bool, true, false, List, Result, Ok, Err}
 use Rattle.std.specs.List.{list_any}
 use Rattle.cif_read.specs.declared.fault.CifFault.{CifFault}
 use Rattle.cif_read.specs.Contents.{Contents}

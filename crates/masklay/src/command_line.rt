@@ -28,7 +28,7 @@ use byte_io::{In, Out};
 use clap::error::ErrorKind;
 use clap::{Arg, ArgAction, Command, Error};
 use lay_point::NoMemory;
-use live_run::Journal;
+use live_run::{Journal, Showing};
 use std::alloc::Global;
 use std::sync::Wait;
 use std::thread::Threads;
@@ -44,7 +44,7 @@ const BAD_WORKERS: &[u8] =
 
 /// What is wrong with an option beside `--live`.
 const LIVE_ALONE: &[u8] =
-    b"error: '--live' can be used with '--workers', '--strict', '--journal' and '--sync' alone\n\nFor more information, try '--help'.\n";
+    b"error: '--live' can't be used with '--threaded', '--cif' or '--boxes'\n\nFor more information, try '--help'.\n";
 
 /// What is wrong with an output file beside `--live`.
 const LIVE_OUTPUT: &[u8] =
@@ -143,7 +143,7 @@ enum OptionsFault {
     Clap(Error),
     /// The number of workers is none, or none from 1 to 64.
     Workers,
-    /// Another option is given beside `--live`.
+    /// An option of jobs alone is given beside `--live`.
     LiveAlone,
     /// An output file is given beside `--live`.
     LiveOutput,
@@ -190,8 +190,15 @@ fn wish_of(alloc: Global, words: &[String]) -> Result<Wish, OptionsFault>
     if asks(b"--sync", words) && !has_journal {
         return Err(OptionsFault::JournalAlone);
     }
-    let strict = options.strict;
-    Ok(Wish::Live(LiveOptions { workers, strict }))
+    let showing = Showing {
+        named: options.named,
+        oriented: options.oriented,
+    };
+    Ok(Wish::Live(LiveOptions {
+        workers,
+        strict: options.strict,
+        showing,
+    }))
 }
 
 /// Returns the run of a job, which has no journal.
@@ -207,9 +214,9 @@ fn job_wish(options: Options, journaled: bool) -> Result<Wish, OptionsFault>
 
 /// Returns whether an option is given that a live run doesn't take.
 fn is_live_refused(options: Options) -> bool
-    ensures { result ≡ (options.threaded || (options.oriented || (options.named || (options.bare || options.boxed)))) }
+    ensures { result ≡ (options.threaded || (options.bare || options.boxed)) }
 {
-    options.threaded || options.oriented || options.named || options.bare || options.boxed
+    options.threaded || options.bare || options.boxed
 }
 
 /// What the words say beside their options.

@@ -9,10 +9,10 @@ use crate::program::outcome::Stop;
 use crate::program::output::write_stop;
 use crate::program::put_memory;
 use crate::program::status::Status;
-use crate::program::telling::{tell_of_journal, tell_of_stop};
+use crate::program::telling::{tell_of_journal, tell_of_notes, tell_of_stop};
 use band_workers::{MAX_WORKERS, OneBand, ScopedBands};
 use byte_io::{In, Out};
-use live_run::{Journal, LiveEnd, run_journaled};
+use live_run::{Journal, LiveEnd, Showing, run_journaled};
 use std::alloc::Global;
 use std::thread::Threads;
 
@@ -23,12 +23,15 @@ pub struct LiveOptions {
     pub workers: u8,
     /// Whether the run ends with a status of its own where a step was refused.
     pub strict: bool,
+    /// With which names and labels the layout is written, and whether its shapes are directed.
+    pub showing: Showing,
 }
 
 /// Reads a CIF text, then steps of sessions on its layout in lines, and answers each before more is read; at the
-/// end of the input it writes the order of the steps and the CIF text of the layout that they led to. The lines that the
+/// end of the input it writes the order of the steps and the CIF text of the layout that they led to. Each layout is written as
+/// `showing` says. The lines that the
 /// journal's bytes have whole come first and aren't answered; the steps after them are kept in it. A fault of
-/// the text is reported to `errors` too.
+/// the text is reported to `errors` too, and so is what [`run`](crate::program::run) reports of shapes and names.
 pub fn live<I: In, O: Out, E: Out, J: Journal>(
     rt: &(impl Threads + Sync),
     alloc: Global,
@@ -39,35 +42,36 @@ pub fn live<I: In, O: Out, E: Out, J: Journal>(
     errors: &mut E,
     journal: &mut J,
 ) -> Status
-    ensures run { IsLive options.strict I.remaining I.counts O.written O.failures J.kept J.losses bytes.items
+    ensures run { IsLive options.strict options.showing I.remaining I.counts O.written O.failures J.kept J.losses bytes.items
         input.old input.new (out.old, journal.old) (out.new, journal.new) result }
     ensures told { MayReport E.written E.failures errors.old errors.new result }
 {
-    let end = answer_lines(rt, alloc, options.workers, bytes, input, out, journal);
+    let end = answer_lines(rt, alloc, options, bytes, input, out, journal);
     let status = close(alloc, options.strict, &end, out);
     tell_of_end(alloc, &end, status, errors);
     status
 }
 
-/// Answers the lines with so many workers.
+/// Answers the lines, with as many workers as are asked for.
 fn answer_lines<I: In, O: Out, J: Journal>(
     rt: &(impl Threads + Sync),
     alloc: Global,
-    workers: u8,
+    options: LiveOptions,
     bytes: Vec<u8>,
     input: &mut I,
     out: &mut O,
     journal: &mut J,
 ) -> LiveEnd
-    ensures run { IsJournaled I.remaining I.counts O.written O.failures J.kept J.losses bytes.items
+    ensures run { IsJournaled options.showing I.remaining I.counts O.written O.failures J.kept J.losses bytes.items
         input.old input.new (out.old, journal.old) (out.new, journal.new) result }
     ensures reads { (I.counts input.new).reads ≤ (I.counts input.old).reads + MAX_READS }
 {
-    if workers < 2 {
-        return run_journaled(rt, alloc, &OneBand, bytes, input, out, journal);
+    let showing = options.showing;
+    if options.workers < 2 {
+        return run_journaled(rt, alloc, &OneBand, showing, bytes, input, out, journal);
     }
-    let bands = ScopedBands::new(workers.min(MAX_WORKERS));
-    run_journaled(rt, alloc, &bands, bytes, input, out, journal)
+    let bands = ScopedBands::new(options.workers.min(MAX_WORKERS));
+    run_journaled(rt, alloc, &bands, showing, bytes, input, out, journal)
 }
 
 /// Writes what comes after the answers of a run that ended so.
@@ -75,7 +79,7 @@ fn close<O: Out>(alloc: Global, strict: bool, end: &LiveEnd, out: &mut O) -> Sta
     ensures { WritesLiveEnd strict O.written O.failures out.old out.new end.now result }
 {
     match end {
-        LiveEnd::Done { has_refused } => live_ending(strict, *has_refused),
+        LiveEnd::Done { has_refused, .. } => live_ending(strict, *has_refused),
         LiveEnd::Job { line, .. } => write_stop(alloc, Stop::JobFault(*line), out),
         LiveEnd::Cif { fault, .. } => write_stop(alloc, Stop::CifFault(*fault), out),
         LiveEnd::Device | LiveEnd::Journal => Status::Device,
@@ -93,7 +97,8 @@ fn live_ending(strict: bool, has_refused: bool) -> Status
     Status::Done
 }
 
-/// Tells of a fault of the text, where the program ends with the status of one, and of a journal that failed.
+/// Tells of a fault of the text, where the program ends with the status of one, of a journal that failed, and of the layout at
+/// the end.
 fn tell_of_end<E: Out>(alloc: Global, end: &LiveEnd, status: Status, errors: &mut E)
     ensures { MayReport E.written E.failures errors.old errors.new status }
 {
@@ -105,6 +110,7 @@ fn tell_of_end<E: Out>(alloc: Global, end: &LiveEnd, status: Status, errors: &mu
             tell_of_stop(alloc, false, text, Stop::CifFault(*fault), status, errors);
         }
         LiveEnd::Journal => tell_of_journal(status, errors),
-        LiveEnd::Done { .. } | LiveEnd::Device | LiveEnd::Memory => {}
+        LiveEnd::Done { notes, .. } => tell_of_notes(alloc, notes, status, errors),
+        LiveEnd::Device | LiveEnd::Memory => {}
     }
 }

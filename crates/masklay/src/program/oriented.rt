@@ -1,11 +1,12 @@
 //! What is given out of a job: its outcome, with the layout's shapes directed and with the names of its text where that is
 //! asked for.
 ghost use Rattle.std.specs.Prelude.{◌≡◌, ◌≤◌, ◌+◌, IfOk, false, length, true};
-ghost use Rattle.masklay.specs.Named.{names_for, names_in};
+ghost use Rattle.live_run.specs.Shown.{names_for};
+ghost use Rattle.masklay.specs.Named.{names_in};
 ghost use Rattle.masklay.specs.Oriented.{AnswersGiven, AnswersGivenOf, directed_part, finished_part};
 ghost use Rattle.masklay.specs.Outcome.{job_in};
 
-use crate::program::named::{names_for, names_in};
+use crate::program::named::names_in;
 use crate::program::options::Options;
 use crate::program::outcome::{Finished, Notes, Stop, finish_in_turn};
 use crate::program::threads::finish_in_threads;
@@ -15,6 +16,7 @@ use lay_cells::CellId;
 use lay_layouts::ItemId;
 use lay_oriented::{Directed, oriented_layout};
 use lay_point::NoMemory;
+use live_run::names_for;
 use std::alloc::Global;
 use std::io::Write;
 use std::sync::Wait;
@@ -83,7 +85,7 @@ fn given_of(
 {
     let mut notes = notes;
     let (finished, staying) = directed(alloc, oriented, finished, &mut notes)?;
-    let names = names_for(alloc, names, &finished.layout)?;
+    let names = names_for(alloc, &names, &finished.layout)?;
     Ok(Given {
         finished,
         names,

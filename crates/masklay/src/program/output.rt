@@ -1,6 +1,5 @@
 //! What is written of a job's outcome. All that takes memory comes before the first byte.
-ghost use Rattle.std.specs.Prelude.{◌≡◌, ◌++◌, IfOk, None, OnErr, OnOk, Some, false};
-ghost use Rattle.byte_io.specs.Device.{WroteAll, WrotePrefix};
+ghost use Rattle.std.specs.Prelude.{◌≡◌, ◌++◌, IfOk, None, Some, false};
 ghost use Rattle.job_text.specs.Order.{order_text};
 ghost use Rattle.job_text.specs.Replies.{replies_text};
 ghost use Rattle.masklay.specs.Output.{
@@ -11,7 +10,7 @@ ghost use Rattle.masklay.specs.Output.{
   written_output,
 };
 ghost use Rattle.live_run.specs.Live.{is_refusal};
-ghost use Rattle.masklay.specs.Named.{layout_text};
+ghost use Rattle.live_run.specs.Shown.{layout_text};
 ghost use Rattle.masklay.specs.Output.{ending_of, job_fault_text, stop_output};
 ghost use Rattle.std.specs.List.{list_any};
 
@@ -20,13 +19,13 @@ use crate::program::oriented::Given;
 use crate::program::outcome::{Finished, Stop};
 use crate::program::status::Status;
 use crate::program::{put, put_memory};
-use byte_io::{Failing, MemoryOut, Out, OutFault};
-use cif_names::{Names, with_names};
+use byte_io::Out;
+use cif_names::Names;
 use cif_read::CifFault;
-use cif_write::{Prepared, Rectangles, prepare};
+use cif_write::{Prepared, prepare};
 use job_text::{comments, put_comments};
 use lay_point::{NoMemory, Sequence};
-use live_run::is_refusal;
+use live_run::{is_refusal, named_bytes, put_layout};
 use session_steps::Reply;
 use std::alloc::Global;
 use std::io::Write;
@@ -72,7 +71,7 @@ fn write_named<O: Out>(
         (written_output options.strict options.boxed (Some names.now) finished.now) result }
 {
     let ending = ending_of(options.strict, finished.replies.as_slice());
-    match named_bytes(alloc, options.boxed, names, finished) {
+    match all_named(alloc, options.boxed, names, finished) {
         Ok(bytes) => put(out, &bytes, ending),
         Err(NoMemory) => put_memory(out),
     }
@@ -105,7 +104,7 @@ fn is_one_refused(replies: &[Reply]) -> bool
 }
 
 /// Returns the replies, the order and the layout with the names and labels in it.
-fn named_bytes(
+fn all_named(
     alloc: Global,
     boxed: bool,
     names: &Names,
@@ -115,34 +114,14 @@ fn named_bytes(
         ≡ (written_output false boxed (Some names.now) finished.now).text) }
 {
     let layout = prepare(&finished.layout)?;
-    let text = text_of(alloc, &layout, boxed)?;
+    let text = named_bytes(alloc, boxed, names, &layout)?;
     let mut bytes = comments(
         alloc,
         finished.replies.as_slice(),
         finished.order.as_slice(),
     )?;
-    bytes.extend_from_slice(&with_names(alloc, names, text.written())?)?;
+    bytes.extend_from_slice(&text)?;
     Ok(bytes)
-}
-
-/// Returns a device that holds the text of the layout.
-fn text_of(alloc: Global, layout: &Prepared<'_>, boxed: bool) -> Result<MemoryOut, NoMemory>
-    ensures { IfOk result (λ out. out.bytes.items ≡ layout_text boxed layout.now) }
-{
-    let mut out = MemoryOut::new(alloc, usize::MAX, usize::MAX, Failing::ByErr);
-    put_layout(layout, boxed, &mut out).map_err(|_| NoMemory)?;
-    Ok(out)
-}
-
-/// Writes the text of the layout, with boxes where that is asked for.
-fn put_layout<O: Out>(layout: &Prepared<'_>, boxed: bool, out: &mut O) -> Result<(), OutFault>
-    ensures ok { OnOk result (WroteAll O.written O.failures out.old out.new (layout_text boxed layout.now)) }
-    ensures fault { OnErr result (WrotePrefix O.written O.failures out.old out.new (layout_text boxed layout.now)) }
-{
-    if boxed {
-        return layout.put_as(out, Rectangles::Boxes);
-    }
-    layout.put(out)
 }
 
 /// Writes the replies, the order and then this layout. Returns the status `ending` where all was written.

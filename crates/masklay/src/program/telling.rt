@@ -4,13 +4,14 @@ ghost use Rattle.masklay.specs.Telling.{IsReported, MayReport, may_tell};
 ghost use Rattle.masklay.specs.declared.program.status.Status.TheVariants.{Device};
 
 use crate::program::empty_top::put_advice_on_top;
-use crate::program::named::put_left_out;
+use crate::program::named::{left_out_of, put_left_out};
 use crate::program::oriented::{Given, put_staying};
 use crate::program::outcome::Stop;
 use crate::program::status::Status;
 use byte_io::{Out, put_all};
 use job_advice::{of_cif_fault, of_job_fault, of_refusals, of_text_fault};
 use lay_point::NoMemory;
+use live_run::EndNotes;
 use std::alloc::Global;
 
 /// What is said where the input can't be read.
@@ -86,7 +87,25 @@ fn advice_on_layout(alloc: Global, given: &Given) -> Result<Vec<u8>, NoMemory> {
     }
     lines.extend_from_slice(given.notes.text.as_slice())?;
     put_staying(&mut lines, given.staying, given.notes.staying.as_slice())?;
-    put_left_out(&mut lines, &given.names)?;
+    put_left_out(&mut lines, left_out_of(&given.names))?;
+    Ok(lines)
+}
+
+/// Tells how many shapes stay as they were though all were to be directed, and how many names and labels are left out, at the end
+/// of a live run.
+pub(super) fn tell_of_notes<E: Out>(alloc: Global, notes: &EndNotes, status: Status, errors: &mut E)
+    ensures { MayReport E.written E.failures errors.old errors.new status }
+{
+    if let Ok(lines) = advice_on_notes(alloc, notes) {
+        tell(&lines, status, errors);
+    }
+}
+
+/// Says what there is to say of the layout at the end of a live run.
+fn advice_on_notes(alloc: Global, notes: &EndNotes) -> Result<Vec<u8>, NoMemory> {
+    let mut lines = Vec::new(alloc);
+    put_staying(&mut lines, notes.staying, notes.first.as_slice())?;
+    put_left_out(&mut lines, notes.left_out)?;
     Ok(lines)
 }
 

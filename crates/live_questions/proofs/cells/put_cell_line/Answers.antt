@@ -7,6 +7,6 @@ pub returns : goal.returns
 unfolding cell_line
 returns g c =
     Buffered-is
-    (Buffered-then (Buffered-then (Buffered-then (Buffered-then c.put.ensures c.put_cell.ensures) c.put_byte.ensures)
-    c.put_unsigned.ensures) c.put-2.ensures)
+    (Buffered-then (Buffered-then (Buffered-then (Buffered-then (Buffered-then c.put.ensures c.put_cell.ensures) c.put_byte.ensures)
+    c.put_unsigned.ensures) c.put_title.ensures) c.put-2.ensures)
     (search rules)

@@ -7,9 +7,10 @@ use Rattle.live_run.proofs.base.open_run.Goals as goal
 pub returns-in_err-base : goal.returns-in_err-base
 returns-in_err-base c =
     let failed : c.from_residual.result ≡ Err c.in_err-base.field-0.0 = search rules in
-    subst (OpensTo c.args.head.now c.args.number) (sym failed)
-    (λ text same. refuses c.args.head.now c.args.number c.in_err-base.field-0.0 text same c.in_err-base.ensures)
+    subst (OpensTo c.args.showing c.args.head.now c.args.number) (sym failed)
+    (λ text same. refuses c.args.showing c.args.head.now c.args.number c.in_err-base.field-0.0 text same c.in_err-base.ensures)
 
 pub returns : goal.returns
 returns c =
-    opens c.args.head.now c.args.number c.in_ok-base.base (run_of c.in_ok-new.field-0) c.in_ok-base.ensures c.in_ok-new.ensures
+    opens c.args.showing c.args.head.now c.args.number c.in_ok-base.base c.in_ok-base.view (run_of c.in_ok-new.field-0)
+    c.in_ok-base.ensures c.in_ok-new.ensures

@@ -1,6 +1,5 @@
 -- the head isn't kept; or it is, and the line isn't
-use Rattle.std.proofs.Common.{rules, ◌≡◌, ◌∷◌, [], true, false, Err, Result, refl, subst, sym}
-use Rattle.live_run.specs.declared.ending.LiveEnd.{LiveEnd}
+use Rattle.std.proofs.Common.{rules, ◌≡◌, ◌∷◌, [], true, false, Err, refl, subst, sym}
 use Rattle.live_run.specs.declared.ending.LiveEnd.TheVariants.{Journal}
 use Rattle.live_run.specs.Course.{KeepsTo}
 use Rattle.live_run.specs.Journal.{as_line, kept_head}

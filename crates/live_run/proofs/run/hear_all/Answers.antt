@@ -12,7 +12,12 @@ use Rattle.live_run.proofs.run.hear_all.Goals as goal
 
 pub loop-init : goal.loop-init
 loop-init g c = record {
-  gone = ([], Consumes-nil (g.I.In.remaining c.args.input.now), no_piece g.O.Out.written g.O.Out.failures g.J.Journal.kept g.J.Journal.losses (c.args.out.now, c.args.journal.now) c.args.first);
+  gone = (
+    [],
+    Consumes-nil (g.I.In.remaining c.args.input.now),
+    no_piece c.args.showing g.O.Out.written g.O.Out.failures g.J.Journal.kept
+        g.J.Journal.losses (c.args.out.now, c.args.journal.now) c.args.first,
+  );
   reads = search rules;
   nonempty_reads = search rules;
   turns = search rules;
@@ -28,13 +33,15 @@ returns-in_err-taken-clause-heard g c =
     let at = c.loop.invariant.gone in
     let ends : (g.I.In.counts c.take.new.self).ends ≡ (g.I.In.counts c.args.input.now).ends = grind (arith, common_steps) in
     let failures : (g.I.In.counts c.take.new.self).failures ≡ (g.I.In.counts c.args.input.now).failures + 1 = grind (arith, common_steps) in
-    subst (λ (r : Result Ear LiveEnd). HeardAll g.I.In.remaining g.I.In.counts g.O.Out.written g.O.Out.failures g.J.Journal.kept g.J.Journal.losses c.args.first c.args.input.now
+    subst (λ (r : Result Ear LiveEnd). HeardAll c.args.showing g.I.In.remaining g.I.In.counts g.O.Out.written g.O.Out.failures
+    g.J.Journal.kept g.J.Journal.losses c.args.first c.args.input.now
     c.take.new.self (c.args.out.now, c.args.journal.now)
     (c.loop.out, c.loop.journal) r) (sym failed)
     (λ past hears. (
       at.0,
       consumed_kept _ _ _ at.0 at.1 c.in_err-taken.ensures.bytes,
-      run_broken g.O.Out.written g.O.Out.failures g.J.Journal.kept g.J.Journal.losses past g.I.In.counts c.args.input.now c.take.new.self (c.args.out.now, c.args.journal.now)
+      run_broken c.args.showing g.O.Out.written g.O.Out.failures g.J.Journal.kept g.J.Journal.losses past g.I.In.counts c.args.input.now
+          c.take.new.self (c.args.out.now, c.args.journal.now)
           (c.loop.out, c.loop.journal) at.0 (phase_of c.loop.ear.course)
           c.loop.ear.line.items (at.2 past (c.args.out.now, c.args.journal.now) [] hears) (ends, inl failures),
     ))
@@ -47,7 +54,8 @@ returns-in-Err-clause-heard g c =
     λ past hears. (
       at.0 ++ piece,
       Consumes-trans _ _ _ at.0 piece at.1 c.in_ok-taken.ensures.bytes.0,
-      run_stopped g.O.Out.written g.O.Out.failures g.J.Journal.kept g.J.Journal.losses past g.I.In.counts c.args.input.now c.take.new.self (c.args.out.now, c.args.journal.now)
+      run_stopped c.args.showing g.O.Out.written g.O.Out.failures g.J.Journal.kept g.J.Journal.losses past g.I.In.counts c.args.input.now
+          c.take.new.self (c.args.out.now, c.args.journal.now)
           (c.hear_piece.new.out, c.hear_piece.new.journal)
           (at.0 ++ piece) c.in-Err.end (c.in-Err.ensures past (c.args.out.now, c.args.journal.now) at.0 (at.2 past (c.args.out.now, c.args.journal.now) [] hears) []),
     )
@@ -62,7 +70,8 @@ loop-preserved g c =
       gone = (
         at.0 ++ piece,
         Consumes-trans _ _ _ at.0 piece at.1 c.in_ok-taken.ensures.bytes.0,
-        pieces g.O.Out.written g.O.Out.failures g.J.Journal.kept g.J.Journal.losses (c.args.out.now, c.args.journal.now) (c.loop.out, c.loop.journal) (c.hear_piece.new.out, c.hear_piece.new.journal)
+        pieces c.args.showing g.O.Out.written g.O.Out.failures g.J.Journal.kept g.J.Journal.losses (c.args.out.now, c.args.journal.now)
+            (c.loop.out, c.loop.journal) (c.hear_piece.new.out, c.hear_piece.new.journal)
             c.args.first c.loop.ear at.0 piece (Ok c.in-Ok.next) at.2 c.in-Ok.ensures,
       );
       reads = grind (arith, common_steps);
@@ -83,7 +92,8 @@ returns-clause-heard g c =
     λ past hears. (
       at.0,
       at.1,
-      run_broken g.O.Out.written g.O.Out.failures g.J.Journal.kept g.J.Journal.losses past g.I.In.counts c.args.input.now c.loop.input (c.args.out.now, c.args.journal.now)
+      run_broken c.args.showing g.O.Out.written g.O.Out.failures g.J.Journal.kept g.J.Journal.losses past g.I.In.counts c.args.input.now
+          c.loop.input (c.args.out.now, c.args.journal.now)
           (c.loop.out, c.loop.journal) at.0
           (phase_of c.loop.ear.course) c.loop.ear.line.items (at.2 past (c.args.out.now, c.args.journal.now) [] hears) (
             c.loop.invariant.unended,

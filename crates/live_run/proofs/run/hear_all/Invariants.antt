@@ -8,7 +8,8 @@ use Rattle.live_run.proofs.run.hear_all.Given as goal
 abbrev pub invariant-loop : goal.invariant-loop
 invariant-loop g l = record {
   gone : (done : List ℕ) × Consumes (g.I.In.remaining l.initial.input) (g.I.In.remaining l.input) done
-      × PieceTo g.O.Out.written g.O.Out.failures g.J.Journal.kept g.J.Journal.losses (l.initial.out, l.initial.journal) (l.out, l.journal)
+      × PieceTo l.showing g.O.Out.written g.O.Out.failures g.J.Journal.kept g.J.Journal.losses (l.initial.out, l.initial.journal)
+      (l.out, l.journal)
       l.initial.ear done (Ok l.ear);
   reads : (g.I.In.counts l.input).reads ≡ (g.I.In.counts l.initial.input).reads + l.counter;
   nonempty_reads : (g.I.In.counts l.input).nonempty_reads ≡ (g.I.In.counts l.initial.input).nonempty_reads + l.counter;

@@ -6,6 +6,7 @@ use Rattle.live_run.proofs.ear.Ear.end.Goals as goal
 pub returns-in-Ok : goal.returns-in-Ok
 returns-in-Ok g c =
     λ past base given at.
-    last_closes g.O.Out.written g.O.Out.failures g.J.Journal.kept g.J.Journal.losses past base (c.hear_last.new.out, c.hear_last.new.journal)
+    last_closes c.args.showing g.O.Out.written g.O.Out.failures g.J.Journal.kept g.J.Journal.losses past base
+    (c.hear_last.new.out, c.hear_last.new.journal)
     (c.close.new.out, c.hear_last.new.journal) given (phase_of c.in-Ok.course) c.close.result (c.in-Ok.ensures past base given at)
     c.close.ensures refl

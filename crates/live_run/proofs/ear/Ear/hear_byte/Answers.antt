@@ -11,10 +11,11 @@ pub returns-in_err-map_err : goal.returns-in_err-map_err
 returns-in_err-map_err g c =
     let failed : c.from_residual.result ≡ Err Memory = search rules in
     λ past base given at.
-    subst (λ (r : Result Ear LiveEnd). HearsOn g.O.Out.written g.O.Out.failures g.J.Journal.kept g.J.Journal.losses past base
+    subst (λ (r : Result Ear LiveEnd). HearsOn c.args.showing g.O.Out.written g.O.Out.failures g.J.Journal.kept g.J.Journal.losses past base
     (c.args.out.now, c.args.journal.now) (given ++ c.args.byte ∷ []) r)
     (sym failed)
-    (λ more. byte_memory g.O.Out.written g.O.Out.failures g.J.Journal.kept g.J.Journal.losses past base (c.args.out.now, c.args.journal.now)
+    (λ more. byte_memory c.args.showing g.O.Out.written g.O.Out.failures g.J.Journal.kept g.J.Journal.losses past base
+    (c.args.out.now, c.args.journal.now)
     given (phase_of c.args.self.course) c.args.self.line.items
     c.args.byte more at)
 
@@ -24,7 +25,8 @@ returns-in-Ok g c =
     let line : c.as_slice.result.now ≡ c.args.self.line.items ++ c.args.byte ∷ [] = search rules in
     let none : c.clear.new.self.items ≡ [] = search rules in
     λ past base given at.
-    line_heard g.O.Out.written g.O.Out.failures g.J.Journal.kept g.J.Journal.losses past base (c.args.out.now, c.args.journal.now)
+    line_heard c.args.showing g.O.Out.written g.O.Out.failures g.J.Journal.kept g.J.Journal.losses past base
+    (c.args.out.now, c.args.journal.now)
     (c.hear.new.out, c.hear.new.journal) given (phase_of c.args.self.course)
     c.args.self.line.items c.args.byte c.as_slice.result.now c.clear.new.self.items c.in-Ok.course ten line none c.in-Ok.ensures at
 
@@ -33,6 +35,7 @@ returns-in-Err g c =
     let ten : c.args.byte ≡ 10 = search rules in
     let line : c.as_slice.result.now ≡ c.args.self.line.items ++ c.args.byte ∷ [] = search rules in
     λ past base given at more.
-    line_stopped g.O.Out.written g.O.Out.failures g.J.Journal.kept g.J.Journal.losses past base (c.args.out.now, c.args.journal.now)
+    line_stopped c.args.showing g.O.Out.written g.O.Out.failures g.J.Journal.kept g.J.Journal.losses past base
+    (c.args.out.now, c.args.journal.now)
     (c.hear.new.out, c.hear.new.journal) given (phase_of c.args.self.course)
     c.args.self.line.items c.args.byte c.as_slice.result.now c.in-Err.end more ten line c.in-Err.ensures at

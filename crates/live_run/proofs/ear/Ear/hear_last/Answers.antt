@@ -9,14 +9,16 @@ pub returns-then-is_empty : goal.returns-then-is_empty
 returns-then-is_empty g c =
     let len : length c.args.self.line.items ≡ 0 = grind (arith, common_steps) in
     λ past base given at.
-    last_none g.O.Out.written g.O.Out.failures g.J.Journal.kept g.J.Journal.losses past base (c.args.out.now, c.args.journal.now) given (phase_of c.args.self.course) c.args.self.line.items
+    last_none c.args.showing g.O.Out.written g.O.Out.failures g.J.Journal.kept g.J.Journal.losses past base
+    (c.args.out.now, c.args.journal.now) given (phase_of c.args.self.course) c.args.self.line.items
     (nil_from_length c.args.self.line.items len) at
 
 pub returns : goal.returns
 returns g c =
     let some : 0 < length c.args.self.line.items = grind (arith, common_steps) in
     λ past base given at.
-    last_heard g.O.Out.written g.O.Out.failures g.J.Journal.kept g.J.Journal.losses past base (c.args.out.now, c.args.journal.now)
+    last_heard c.args.showing g.O.Out.written g.O.Out.failures g.J.Journal.kept g.J.Journal.losses past base
+    (c.args.out.now, c.args.journal.now)
     (c.hear.new.out, c.hear.new.journal) given (phase_of c.args.self.course)
     c.args.self.line.items c.as_slice.result.now c.hear.result
     (λ e. absurd (let none : length c.args.self.line.items ≡ 0 = ap length e in omega (arith, some, none)))

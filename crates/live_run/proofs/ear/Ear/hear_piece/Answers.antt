@@ -12,7 +12,7 @@ returns-in-Err g c =
     let piece = c.args.piece.now in
     let inside : i < length piece = search rules in
     λ past base given at more.
-    subst (λ (l : List ℕ). IsStop g.O.Out.written g.O.Out.failures g.J.Journal.kept g.J.Journal.losses past base
+    subst (λ (l : List ℕ). IsStop c.args.showing g.O.Out.written g.O.Out.failures g.J.Journal.kept g.J.Journal.losses past base
     (c.hear_byte.new.out, c.hear_byte.new.journal) l ⊥ c.in-Err.end)
     (whole_piece given piece more i inside)
     (c.in-Err.ensures past base (given ++ take i piece) (c.loop-byte.invariant past base given at) (drop (i + 1) piece ++ more))
@@ -23,7 +23,7 @@ loop-byte-preserved g c =
     let piece = c.args.piece.now in
     let inside : i < length piece = search rules in
     λ past base given at.
-    subst (λ (l : List ℕ). Hears g.O.Out.written g.O.Out.failures g.J.Journal.kept g.J.Journal.losses past base
+    subst (λ (l : List ℕ). Hears c.args.showing g.O.Out.written g.O.Out.failures g.J.Journal.kept g.J.Journal.losses past base
     (c.hear_byte.new.out, c.hear_byte.new.journal) l (phase_of c.in-Ok.next.course)
     c.in-Ok.next.line.items)
     (append_assoc given (take i piece) (get_or piece i 0 ∷ []) ∙ ap (λ (l : List ℕ). given ++ l) (sym (take_more piece i 0 inside)))
@@ -34,6 +34,6 @@ returns g c =
     let end : length c.args.piece.now ≤ c.loop-byte.byte-index = search rules in
     let all = take_all c.loop-byte.byte-index c.args.piece.now end in
     λ past base given at.
-    subst (λ (l : List ℕ). Hears g.O.Out.written g.O.Out.failures g.J.Journal.kept g.J.Journal.losses past base
+    subst (λ (l : List ℕ). Hears c.args.showing g.O.Out.written g.O.Out.failures g.J.Journal.kept g.J.Journal.losses past base
     (c.loop-byte.out, c.loop-byte.journal) (given ++ l) (phase_of c.loop-byte.ear.course)
     c.loop-byte.ear.line.items) all (c.loop-byte.invariant past base given at)

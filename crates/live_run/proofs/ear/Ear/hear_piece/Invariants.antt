@@ -5,5 +5,6 @@ use Rattle.live_run.proofs.ear.Ear.hear_piece.Given as goal
 
 abbrev pub invariant-loop-byte : goal.invariant-loop-byte
 invariant-loop-byte g l =
-    PieceTo g.O.Out.written g.O.Out.failures g.J.Journal.kept g.J.Journal.losses (l.initial.out, l.initial.journal) (l.out, l.journal)
+    PieceTo l.showing g.O.Out.written g.O.Out.failures g.J.Journal.kept g.J.Journal.losses (l.initial.out, l.initial.journal)
+    (l.out, l.journal)
     l.initial.ear (take l.byte-index l.piece) (Ok l.ear)

@@ -18,4 +18,5 @@ returns c =
       replies = replies i;
       taken = taken i;
       lines = 0;
+      view = c.args.view;
     }

@@ -1,5 +1,5 @@
 -- a file can't know what it has; each failure is counted
-use Rattle.std.proofs.Common.{ℕ, ◌+◌, ◌∙◌, [], ap, refl}
+use Rattle.std.proofs.Common.{◌+◌, ◌∙◌, [], ap, refl}
 use Rattle.byte_io.specs.declared.count.GhostCount.{GhostCount}
 use Rattle.live_run.specs.Journal.{as_line}
 use Rattle.masklay.proofs.journal.FileJournalJournal.keep.Goals as goal

@@ -1,10 +1,10 @@
-use Rattle.std.proofs.Common.{◌≡◌, ◌∙◌, ◌≤◌, [], List, Ok, ap, false, inr, length, replicate, rules, sym, arith}
+use Rattle.std.proofs.Common.{◌≡◌, ◌∙◌, ◌≤◌, [], Ok, ap, false, inr, length, replicate, rules}
 use Rattle.std.specs.List.{list_any}
 use Rattle.session_core.specs.Machine.{Ran, after_steps, is_memory, start}
 use Rattle.session_steps.specs.Turns.{dealt, in_turn}
 use Rattle.undo_book.specs.declared.book.TheConstants.{MAX_CALLS}
 use Rattle.job_text.specs.Order.{order_of}
-use Rattle.masklay.specs.Outcome.{finished_by, finished_from, sessions_for}
+use Rattle.masklay.specs.Outcome.{finished_by, sessions_for}
 use Rattle.masklay.specs.declared.program.outcome.Finished.{Finished}
 use Rattle.session_core.proofs.MachineLemmas.{ran_all}
 use Rattle.session_steps.proofs.DealtLemmas.{few_hands}

@@ -4,7 +4,7 @@ use Rattle.byte_io.specs.Device.{WrotePrefix}
 use Rattle.job_text.specs.Order.{order_text}
 use Rattle.job_text.specs.Replies.{replies_text}
 use Rattle.masklay.proofs.OutputLemmas.{at_err, at_ok}
-use Rattle.masklay.specs.Named.{layout_text}
+use Rattle.live_run.specs.Shown.{layout_text}
 use Rattle.masklay.proofs.program.output.put_finished.Goals as goal
 use Rattle.masklay.proofs.program.output.put_finished.Goals.{then-is_err-via-else-is_err+then-is_err-2, then-is_err-via-then-is_err}
 
