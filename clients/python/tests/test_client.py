@@ -111,6 +111,19 @@ class Editing(unittest.TestCase):
 class History(unittest.TestCase):
     """Undo by name, and what is in the way."""
 
+    # Could catch an option that isn't handed on, and an answer with a name that isn't understood.
+    def test_names_and_directions_are_written(self):
+        text = "DS 1; 9 INV; L A; P 0 0 8 0 8 8 0 8 0 0 2 2 6 2 6 6 2 6 2 2; DF; C 1; E"
+        with read(text, named=True, oriented=True) as layout:
+            self.assertEqual(layout.cells(), {"top": 1, 1: 1})
+            written = layout.write()
+            self.assertIn("9 INV;", written)
+            self.assertEqual(layout.close(), written)
+        with read(text) as layout:
+            plain = layout.write()
+        self.assertNotIn("9 INV;", plain)
+        self.assertNotEqual(plain, written.replace("9 INV;\n", ""))
+
     def test_undo_and_redo_by_name(self):
         """Could catch an undo of the newest in place of the named one, and a layout that is written as it was before."""
         with read() as layout:

@@ -54,11 +54,16 @@ class Layout:
         timeout: float = 60.0,
         journal: Optional[Path] = None,
         sync: bool = False,
+        named: bool = False,
+        oriented: bool = False,
     ) -> "Layout":
         """Starts the program on a CIF text.
 
         With `journal`, a file that isn't there yet or is empty, each step is in that file before its reply, and `Layout.recover`
         begins from it later. What is committed, undone or redone is on the disk then; with `sync` each step is.
+
+        With `named` what is written has the text's names of symbols and labels; with `oriented` its paths are filled alike by
+        even-odd and by winding number, where such paths are found.
 
         An interrupt while a call waits (`KeyboardInterrupt`) leaves the layout in use: the step is taken, and its reply is
         passed over by the next call.
@@ -72,12 +77,21 @@ class Layout:
         if journal is not None and os.path.exists(journal) and os.path.getsize(journal):
             raise FileExistsError(f"{os.fspath(journal)} has steps already: Layout.recover begins from it")
         text = text_bytes(cif)
-        process = Process(head_of(text), text, program, options_of(workers, journal, sync), timeout)
+        options = options_of(workers, journal, sync, named, oriented)
+        process = Process(head_of(text), text, program, options, timeout)
         return cls._begun(process, text, None)
 
     @classmethod
     def recover(
-        cls, journal: Path, program: Program = "masklay", *, workers: int = 1, timeout: float = 60.0, sync: bool = False
+        cls,
+        journal: Path,
+        program: Program = "masklay",
+        *,
+        workers: int = 1,
+        timeout: float = 60.0,
+        sync: bool = False,
+        named: bool = False,
+        oriented: bool = False,
     ) -> "Layout":
         """Begins from the journal of a layout whose process has ended, however it did: all that was committed is there, under its
         name. Transactions that were open are given up; sessions begin with 1 again, and their transactions' numbers go on.
@@ -85,7 +99,8 @@ class Layout:
         Raises `ProcessError` where the file is no journal, or another process has it.
         """
         text, taken = parts_of(journal, SESSIONS)
-        process = Process(b"", text, program, options_of(workers, journal, sync), timeout)
+        options = options_of(workers, journal, sync, named, oriented)
+        process = Process(b"", text, program, options, timeout)
         layout = cls._begun(process, text, taken)
         try:
             layout._give_up()
@@ -152,7 +167,7 @@ class Layout:
     def cells(self) -> Dict[Cell, int]:
         """Returns how many items each cell has, of what is committed: `top` first, then the symbols by number."""
         lines = [words.split(" ") for words in self._asked("%cells")]
-        return {cell_of(cell): int(count) for _, cell, count in lines}
+        return {cell_of(cell): int(count) for _, cell, count, *_ in lines}
 
     def items(self, cell: Cell = "top") -> Dict[str, Item]:
         """Returns the items of a cell by their ids, of what is committed. `MasklayError` where there is no such cell."""
@@ -240,11 +255,12 @@ class Session:
         self.layout._named(self.number, "redo", name)
 
 
-def options_of(workers: int, journal: Optional[Path], sync: bool) -> List[str]:
+def options_of(workers: int, journal: Optional[Path], sync: bool, named: bool, oriented: bool) -> List[str]:
     """Returns the words of the options. `ValueError` where there are none or too many workers."""
     if not 1 <= workers <= 64:
         raise ValueError(f"there are 1 to 64 workers, and not {workers}")
     options = ["--workers", str(workers)] if workers != 1 else []
+    options += ["--names"] * named + ["--oriented"] * oriented
     if journal is not None:
         options += ["--journal", os.fspath(journal)] + (["--sync"] if sync else [])
     return options
