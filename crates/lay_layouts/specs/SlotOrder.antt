@@ -20,8 +20,20 @@ rank Made = (1, 0)
 abbrev pub Standing : Type 0
 Standing = (ℕ × ℕ) × ℕ
 
+abbrev pub origin_of : Standing → ℕ
+origin_of standing = standing.0.0
+
+abbrev pub text_place_of : Standing → ℕ
+text_place_of standing = standing.0.1
+
+abbrev pub symbol_number_of : Standing → ℕ
+symbol_number_of standing = standing.1
+
+-- by origin; where that is the same, by the place in the text; where that is the same too, by number
 abbrev pub standing_cmp : Standing → Standing → Ordering
-standing_cmp a b = ordering_then (ordering_then (nat_cmp a.0.0 b.0.0) (nat_cmp a.0.1 b.0.1)) (nat_cmp a.1 b.1)
+standing_cmp a b =
+    ordering_then (ordering_then (nat_cmp (origin_of a) (origin_of b)) (nat_cmp (text_place_of a) (text_place_of b)))
+    (nat_cmp (symbol_number_of a) (symbol_number_of b))
 
 -- a symbol's number under what it is ordered by
 abbrev pub standing_of : ℕ × CellSlot → Standing × ℕ
