@@ -165,11 +165,26 @@ abbrev pub group_before : By → Option Group → Option Item → Option Group
 group_before by before None = before
 group_before by before (Some item) = Some (group_in by item)
 
--- the marks after a write: of the item before it, the one that goes and the one after it
-abbrev pub marks_after : By → Option HeldItem → ItemId → Option Item → Option Item → Option HeldItem → MarkList → MarkList
-marks_after by before id old new after marks =
-    with_mark_of by (group_before by (group_of by before) new) after
-    (with_mark_of by (group_of by before) (entry_under id new) (without_mark_of by id old marks))
+-- where a write falls: the items before and after its id, and the one under it, before the write and after
+pub record WriteSite : Type 0 where
+  pub before : Option HeldItem
+  pub id : ItemId
+  pub old : Option Item
+  pub new : Option Item
+  pub after : Option HeldItem
+
+-- the marks after a write, in three steps: the mark of the item that goes is taken away
+abbrev pub marks_left : By → WriteSite → MarkList → MarkList
+marks_left by site marks = without_mark_of by site.id site.old marks
+
+-- the item that comes has one, where it begins a run
+abbrev pub marks_with_new : By → WriteSite → MarkList → MarkList
+marks_with_new by site marks = with_mark_of by (group_of by site.before) (entry_under site.id site.new) (marks_left by site marks)
+
+-- and so has the item after it, where that begins one now
+abbrev pub marks_after : By → WriteSite → MarkList → MarkList
+marks_after by site marks =
+    with_mark_of by (group_before by (group_of by site.before) site.new) site.after (marks_with_new by site marks)
 
 -- ---- what is lent of a group
 

@@ -87,8 +87,13 @@ pub(crate) fn written(
     id: ItemId,
     item: Option<&Item>,
 ) -> Result<Marks, NoMemory>
-    ensures { IfOk result (λ new. new ≡ marks_after by (lent_entry site.now.before) id (option_copied site.now.old)
-        (option_copied item.entry) (lent_entry site.now.after) marks.now) }
+    ensures { IfOk result (λ new. new ≡ marks_after by (record {
+      before = lent_entry site.now.before;
+      id = id;
+      old = option_copied site.now.old;
+      new = option_copied item.entry;
+      after = lent_entry site.now.after;
+    }) marks.now) }
 {
     let kept = without_mark_of(alloc, marks, by, id, site.old)?;
     let before = group_of(by, site.before);
