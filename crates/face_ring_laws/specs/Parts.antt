@@ -49,18 +49,36 @@ with_label p [] xs = []
 with_label p (l ∷ ls) [] = []
 with_label p (l ∷ ls) (x ∷ xs) = if l == p then x ∷ with_label p ls xs else with_label p ls xs
 
--- each ring has a label, the number of its part
+-- ---- the partition of the rings
+
+-- the number of a ring's part
+abbrev pub part_of : List ℕ → ℕ → ℕ
+part_of labels i = slice_index labels i
+
+-- rings that are joined are in one part
+abbrev pub KeepsJoined : List (List Point) → (ℕ → ℕ) → Type 0
+KeepsJoined rings part = (i j : ℕ) → AreJoined (map bounding_box rings) i j → part i ≡ part j
+
+-- no division of the rings that keeps joined ones together parts two that this one has together
+abbrev pub IsFinestOf : List (List Point) → (ℕ → ℕ) → Type 0
+IsFinestOf rings part = (other : ℕ → ℕ) → KeepsJoined rings other
+    → (i j : ℕ) → i < length rings → j < length rings → part i ≡ part j → other i ≡ other j
+
+-- one of the first n rings is in part p
+abbrev pub HasRingOf : List ℕ → ℕ → ℕ → Type 0
+HasRingOf labels n p = (j : ℕ) × (j < n) × (part_of labels j ≡ p)
+
+-- these are the parts of the rings, where the labels tell for each ring in which part it is
 pub record ArePartsBy (labels : List ℕ) (rings : List (List Point)) (parts : List (List (List Point))) : Type 0 where
+  -- it is a partition: each ring is in one part, and no part is empty
   pub each : length labels ≡ length rings
-  pub within : (i : ℕ) → i < length rings → slice_index labels i < length parts
-  -- joined rings are in one part, and in each division of the rings of which that is so the rings of a part are together
-  pub joined : (i j : ℕ) → AreJoined (map bounding_box rings) i j → slice_index labels i ≡ slice_index labels j
-  pub finest : (other : ℕ → ℕ) → ((i j : ℕ) → AreJoined (map bounding_box rings) i j → other i ≡ other j)
-      → (i j : ℕ) → i < length rings → j < length rings → slice_index labels i ≡ slice_index labels j → other i ≡ other j
-  -- parts come in the order of their first rings, and none is empty
-  pub ordered : (i p : ℕ) → i < length rings → p < slice_index labels i → (j : ℕ) × (j < i) × (slice_index labels j ≡ p)
-  pub used : (p : ℕ) → p < length parts → (j : ℕ) × (j < length rings) × (slice_index labels j ≡ p)
-  -- a part has its rings in their order
+  pub within : (i : ℕ) → i < length rings → part_of labels i < length parts
+  pub used : (p : ℕ) → p < length parts → HasRingOf labels (length rings) p
+  -- it is the finest that keeps joined rings together
+  pub joined : KeepsJoined rings (part_of labels)
+  pub finest : IsFinestOf rings (part_of labels)
+  -- parts come in the order of their first rings, and a part has its rings in their order
+  pub ordered : (i p : ℕ) → i < length rings → p < part_of labels i → HasRingOf labels i p
   pub rings_of_part : (p : ℕ) (d : List (List Point)) → p < length parts → slice_index_or parts p d ≡ with_label p labels rings
 
 abbrev pub AreParts : List (List Point) → List (List (List Point)) → Type 0
