@@ -17,7 +17,7 @@ use Rattle.cif_names.specs.Entries.{limit_of, name_text, scaled_to_units}
 use Rattle.byte_io.specs.Lines.{lines}
 use Rattle.cif_names.specs.Names.{names_of}
 use Rattle.cif_names.specs.Places.{outside, place_after}
-use Rattle.cif_names.specs.Titles.{named_by}
+use Rattle.cif_names.specs.Titles.{name_said_by}
 use Rattle.cif_names.specs.Woven.{with_names}
 
 abbrev pub is_empty : List ℕ → Bool
@@ -115,4 +115,4 @@ pub record PlacesAreTheReaders : Type 0 where
 
 -- what the line of a name says is the name
 abbrev pub NamesComeBack : Type 0
-NamesComeBack = (name : List ℕ) → named_by (name_text name) ≡ name
+NamesComeBack = (name : List ℕ) → name_said_by (name_text name) ≡ name

@@ -13,8 +13,8 @@ abbrev pub is_name : List ℕ → Bool
 is_name line = starts_with nat_eq line (codes "9 ")
 
 -- what the line of a name says: all of it but `9 ` in front, and the semicolon and the newline at its end
-abbrev pub named_by : List ℕ → List ℕ
-named_by line = take (length line - 4) (drop 2 line)
+abbrev pub name_said_by : List ℕ → List ℕ
+name_said_by line = take (length line - 4) (drop 2 line)
 
 -- whether an entry is a name of this symbol
 abbrev pub is_name_of : ℕ → Entry → Bool
@@ -22,7 +22,7 @@ is_name_of n e = is_symbol n e.symbol && is_name e.line
 
 -- the name of a symbol that an entry says, or where it says none the one before
 abbrev pub named_or : List ℕ → ℕ → Entry → List ℕ
-named_or before n e = if is_name_of n e then named_by e.line else before
+named_or before n e = if is_name_of n e then name_said_by e.line else before
 
 -- the name of a symbol that the first of these entries says, or where none does the one before
 abbrev pub first_name : List ℕ → ℕ → List Entry → List ℕ

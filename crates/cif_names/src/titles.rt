@@ -1,7 +1,7 @@
 //! The names of symbols, by their numbers.
 ghost use Rattle.std.specs.Prelude.{◌≡◌, ◌==◌, [], ℕ, IfOk, OnOk, if◌then◌else◌};
 ghost use Rattle.cif_names.specs.Maps.{bytes_at};
-ghost use Rattle.cif_names.specs.Titles.{first_name, is_name, named_by, named_or, title_at, title_in};
+ghost use Rattle.cif_names.specs.Titles.{first_name, is_name, name_said_by, named_or, title_at, title_in};
 
 use crate::maps::bytes_at;
 use crate::names::{Entry, Names};
@@ -67,7 +67,7 @@ fn add_name(
 {
     let line = entry.line.as_slice();
     match entry.symbol {
-        Some(symbol) if is_name(line) => set_name(alloc, names, symbol, named_by(line)),
+        Some(symbol) if is_name(line) => set_name(alloc, names, symbol, name_said_by(line)),
         _ => Ok(()),
     }
 }
@@ -95,8 +95,8 @@ fn is_name(line: &[u8]) -> bool
 }
 
 /// Returns what the line of a name says.
-fn named_by(line: &[u8]) -> &[u8]
-    ensures { result.now ≡ named_by line.now }
+fn name_said_by(line: &[u8]) -> &[u8]
+    ensures { result.now ≡ name_said_by line.now }
 {
     if line.len() < 4 {
         return &[];

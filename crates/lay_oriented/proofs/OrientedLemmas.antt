@@ -8,7 +8,7 @@ use Rattle.lay_point.specs.Parity.{odd}
 use Rattle.lay_point.specs.RingEdges.{edges_of, edges_of_ring}
 use Rattle.lay_point.specs.Rings.{IsRing}
 use Rattle.lay_oriented.specs.Once.{IsZeroOrOne, WindOnce}
-use Rattle.lay_oriented.specs.Net.{AreJoined, GoAlike, PassAlike}
+use Rattle.lay_oriented.specs.Net.{AreJoinedRings, GoAlike, PassAlike}
 use Rattle.lay_oriented.specs.Oriented.{AreOriented, KeepParity}
 use Rattle.lay_oriented.specs.Winding.{one_if, winding}
 use Rattle.lay_oriented.proofs.AlikeLemmas.{keep_alike, parity_alike, winding_alike}
@@ -47,7 +47,7 @@ oriented_by_once old new rings once alike = record {
         by_parity (winding (edges_of new) k x y) all.0 (odd (edges_of new) k x y) (once k x y scale) all.1 ∙ (λ i. one_if (keep k x y i))
 
 -- what is so of rings is so of those that are joined of them
-pub oriented_joined : (old new one : List (List Point)) → AreOriented old new → AreJoined one new → AreOriented old one
+pub oriented_joined : (old new one : List (List Point)) → AreOriented old new → AreJoinedRings one new → AreOriented old one
 oriented_joined old new one is joined = record {
   rings = λ k x y scale. winding_alike (edges_of one) (edges_of new) joined.0 k x y ∙ is.rings k x y scale;
   path = λ k x y scale.

@@ -21,5 +21,5 @@ abbrev pub PassAlike : List (Point × Point) → List (Point × Point) → Type 
 PassAlike new old = (test : Point × Point → Bool) → IsUndirected test → parity test new ≡ parity test old
 
 -- rings with the edges of the old ones and ways that are gone out and back
-abbrev pub AreJoined : List (List Point) → List (List Point) → Type 0
-AreJoined new old = GoAlike (edges_of new) (edges_of old) × AllByRecursion IsRing new
+abbrev pub AreJoinedRings : List (List Point) → List (List Point) → Type 0
+AreJoinedRings new old = GoAlike (edges_of new) (edges_of old) × AllByRecursion IsRing new

@@ -1,6 +1,6 @@
 //! One ring round several ones, along short ways between them.
 ghost use Rattle.std.specs.Prelude.{◌≡◌, IfOk, IfSome, true};
-ghost use Rattle.lay_oriented.specs.Net.{AreJoined, GoAlike};
+ghost use Rattle.lay_oriented.specs.Net.{AreJoinedRings, GoAlike};
 ghost use Rattle.lay_point.specs.RingEdges.{edges_of};
 
 use crate::corner::{Corner, Side};
@@ -20,7 +20,7 @@ use std::alloc::{AllocError, Global};
 /// back, or `None` where there is one ring or none, or where that ring isn't found to be so or would be
 /// longer than a ring may be.
 pub(crate) fn joined(alloc: Global, rings: &[Ring]) -> Result<Option<Vec<Ring>>, NoMemory>
-    ensures { IfOk result (λ found. IfSome found (λ one. AreJoined one.items rings.now)) }
+    ensures { IfOk result (λ found. IfSome found (λ one. AreJoinedRings one.items rings.now)) }
 {
     if rings.len() < 2 {
         return Ok(None);
