@@ -20,7 +20,7 @@ use Rattle.snap_chains.specs.Owners.{input_eq, owner_eq}
 use Rattle.snap_chains.specs.Round.{AreOwnersOf, IsRoundOf, owner_walks}
 use Rattle.snap_chains.specs.Rounded.{Owned, is_owner_listed}
 use Rattle.snap_slabs.proofs.Sorted.{same_tests}
-use Rattle.snap_chains.proofs.VisitOrder.{owner_eq-Decides}
+use Rattle.snap_chains.proofs.OwnerOrder.{owner_eq-Decides}
 use Rattle.face_rows.specs.Labels.{Item, answer_at, listed_shapes, odd_of, owned_items, some_of}
 use Rattle.face_rows.proofs.Cuts.{AreDistinct, and_false_right, parity_of_one}
 use Rattle.face_rows.proofs.Shapes.{inputs_are_their_shapes}

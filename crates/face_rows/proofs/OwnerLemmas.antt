@@ -13,7 +13,7 @@ use Rattle.snap_chains.specs.declared.owner.Owner.{Owner}
 use Rattle.snap_chains.specs.Owners.{IsOwnerBefore, input_eq, owner_eq}
 use Rattle.snap_chains.specs.Rounded.{is_owner_listed}
 use Rattle.face_rows.proofs.Shapes.{any_true, input_itself, same_owner}
-use Rattle.snap_chains.proofs.VisitOrder.{owners_are_strict}
+use Rattle.snap_chains.proofs.OwnerOrder.{owners_are_strict}
 use Rattle.face_rows.proofs.RowLemmas.{has_get}
 
 pub owner_itself : (o : Owner) → owner_eq o o ≡ true

@@ -42,7 +42,3 @@ edge_order = record {
   ties = matches_eq-law;
   less = λ e f h. before_by_low e f (point_cmp e.0 f.0) refl h;
 }
-
--- edges that `cmp` finds equal are one
-pub edge_exact : (e f : Point × Point) → edge_cmp e f ≡ Equal → e ≡ f
-edge_exact e f h = (edges_decide e f).0 (edge_order.ties e f ∙ ap is_eq h)

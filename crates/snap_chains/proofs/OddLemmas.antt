@@ -11,11 +11,11 @@ use Rattle.std.specs.Ordering.{is_lt, ordering_reverse}
 use Rattle.std.specs.Cmp.{IsTotalOrder}
 use Rattle.std.specs.List.Sorted.{IsPermutation, IsSorted}
 use Rattle.std.proofs.lemmas.Bool.{false≢true}
-use Rattle.std.proofs.lemmas.List.{get_or-take, get_or_default, length-take, take_all, take_more}
+use Rattle.std.proofs.lemmas.List.{get_or-take, get_or_default, length-take, take_more}
 use Rattle.std.proofs.lemmas.List.MinMax.{ranks_by}
 use Rattle.std.proofs.lemmas.List.Sorted.{sorted_far, sum_by-IsPermutation}
 use Rattle.std.proofs.lemmas.List.Sums.{sum_by-cons}
-use Rattle.std.proofs.lemmas.Option.{get_or_from_slice_get, slice_get-get_or, slice_get_within}
+use Rattle.std.proofs.lemmas.Option.{slice_get-get_or}
 use Rattle.lay_point.specs.Parity.{parity, xor}
 use Rattle.lay_point.specs.Rising.{IsRising, last}
 use Rattle.lay_point.proofs.Members.{Has, has, contains, has-append, has-append_left, has-append_right}
@@ -45,7 +45,7 @@ parity_permutation test xs ys move =
     parity_count test ys ∙ ap is_odd (sum_by-IsPermutation (λ x. weight (test x)) xs ys move) ∙ sym (parity_count test xs)
 
 -- where the parity is odd, one passes
-odd_has : {A : Type 0} (test : A → Bool) (xs : List A) → parity test xs ≡ true → (z : A) × Has xs z × (test z ≡ true)
+pub odd_has : {A : Type 0} (test : A → Bool) (xs : List A) → parity test xs ≡ true → (z : A) × Has xs z × (test z ≡ true)
 odd_has test [] h = absurd (false≢true h)
 odd_has {A} test (x ∷ xs) h = by_test (odd_has test xs) (test x) refl
   where
@@ -184,18 +184,7 @@ module _ {A : Type 0} {cmp : A → A → Ordering} {same : A → A → Bool} (Be
         (subst (λ v. is_lt (cmp v (get_or xs k x)) ≡ false) (sym at)
         (sorted_far (λ v w. is_lt (cmp v w)) (ranks_by order.total (λ v. v)) xs sorted k i x (omega arith) lt)))
 
-    -- the next is the last that is kept
-    pub next_is_last : slice_get kept (length kept - 1) ≡ Some x → AreOdd same Before (take (i + 1) xs) (take (length kept - 1) kept)
-    next_is_last e =
-        let n = length kept - 1 in
-        let inside = slice_get_within kept n x e in
-        let whole : kept ≡ take n kept ++ x ∷ [] =
-        sym (take_all (n + 1) kept (omega (arith, inside))) ∙ take_more kept n x inside
-        ∙ ap (λ u. take n kept ++ u ∷ []) (get_or_from_slice_get kept n x x e) in
-        subst (λ l. AreOdd same Before l (take n kept)) (sym one_more)
-        (odd_pop (take i xs) (take n kept) x (subst (AreOdd same Before (take i xs)) whole so_far))
-
-    -- it isn't
+    -- the next isn't the last that is kept
     pub next_is_not_last : (slice_get kept (length kept - 1) ≢ Some x) → AreOdd same Before (take (i + 1) xs) (kept ++ x ∷ [])
     next_is_not_last differ =
         subst (λ l. AreOdd same Before l (kept ++ x ∷ [])) (sym one_more)

@@ -1,41 +1,38 @@
 -- Rounded rings, their visits, and the edges and owners that come of them.
-use Rattle.std.proofs.Common.{◌≡◌, ◌≢◌, ◌↔◌, inl, inr, Bool, true, false, cond, ◌&&◌, ◌||◌, List, [], ◌∷◌, ◌++◌, Vec, Global}
-use Rattle.std.proofs.Common.{length, map, get_or, refl, sym, ap, ap₂, ◌∙◌, subst, arith, Contains}
-use Rattle.std.specs.Prelude.{All, IsTrue}
+use Rattle.std.proofs.Common.{◌≡◌, ◌↔◌, inl, inr, Bool, true, false, cond, ◌&&◌, List, [], ◌∷◌, ◌++◌}
+use Rattle.std.proofs.Common.{length, map, refl, sym, ap, ap₂, ◌∙◌, subst, arith, Contains}
 use Rattle.std.specs.List.{AllZip, AllByRecursion, zip}
 use Rattle.std.proofs.lemmas.Bool.{false≢true, or_right}
 use Rattle.std.specs.List.Sorted.{IsPermutation}
 use Rattle.std.proofs.lemmas.List.{map-append}
 use Rattle.std.proofs.lemmas.List.Sorted.{Contains-permutation, IsPermutation-sym}
-use Rattle.std.proofs.lemmas.List.Elements.{All-from_recursion, Contains-get_or}
+use Rattle.std.proofs.lemmas.List.Elements.{All-from_recursion}
 use Rattle.std.proofs.lemmas.Slice.Zip.{AllZip-long}
 use Rattle.lay_point.specs.declared.point.Point.{Point}
-use Rattle.lay_point.specs.Rings.{NeighboursDiffer}
 use Rattle.snap_pixels.specs.declared.segment.Segment.{Segment}
-use Rattle.snap_pixels.specs.Hot.{IsHot}
-use Rattle.snap_edge_laws.proofs.SharedEnds.{ends_differ}
 use Rattle.lay_point.specs.Parity.{parity, xor}
 use Rattle.lay_point.specs.Rising.{IsRising, pairs}
 use Rattle.snap_edge_laws.specs.Rounding.{IsRoundedPath, closed_walk}
 use Rattle.snap_edge_laws.specs.Undirected.{AreEdgesOf, AreRoundedRings, is_owned}
 use Rattle.lay_point.specs.Edges.{IsEdgeBefore, same_edge, touches, undirected}
 use Rattle.snap_edge_laws.specs.Undirected.{walked_edges}
-use Rattle.snap_edge_laws.proofs.Chains.{edge_of_neighbours}
 use Rattle.snap_edge_laws.proofs.Edges.{edges_are_clean, owned_edges_are_even}
 use Rattle.lay_point.proofs.Members.{Has, has, contains}
 use Rattle.lay_point.proofs.Parity.{parity-append, parity-map, parity_agree, parity_none}
-use Rattle.snap_edge_laws.proofs.Rounded.{rounded_paths_have_edges}
 use Rattle.snap_chains.specs.declared.owner.Owner.{Owner}
-use Rattle.snap_chains.specs.declared.visits.Visit.{Visit}
-use Rattle.snap_chains.specs.OwnedRings.{AreRounded}
+use Rattle.snap_chains.specs.Visits.{Visit}
+use Rattle.snap_chains.specs.OwnedRings.{AreRounded, AreSides}
+use Rattle.snap_chains.specs.Passes.{ArePassesOf, visit_at}
+use Rattle.snap_chains.specs.declared.pass.Pass.{Pass}
 use Rattle.snap_chains.specs.Owners.{IsOwnerBefore, owner_eq}
 use Rattle.snap_chains.specs.Round.{AreOwnersOf, IsRoundOf, owner_walks}
+use Rattle.snap_chains.specs.Reading.{AreOddVisitors, IsView}
 use Rattle.snap_chains.specs.Rounded.{AreClean, IsRounded, is_owner_listed}
-use Rattle.snap_chains.specs.Visits.{AreVisitors, visit_eq, visits_by, visits_of}
+use Rattle.snap_chains.specs.Visits.{visit_eq, visits_by, visits_of}
 use Rattle.snap_chains.proofs.PathLemmas.{Contains-map, Has-map}
 use Rattle.snap_chains.proofs.OddLemmas.{parity_permutation}
 use Rattle.snap_slabs.proofs.Sorted.{same_tests}
-use Rattle.snap_chains.proofs.VisitOrder.{owner_eq-Decides}
+use Rattle.snap_chains.proofs.OwnerOrder.{owner_eq-Decides}
 
 -- ---- rounded rings
 -- the ring of which a walk is the rounded one
@@ -55,27 +52,6 @@ rounded_rings rings walks h w m = rounded_ring h.segments rings walks h.rounded 
 pub as_many_walks : (rings : List (Owner × List Point)) (walks : List (List Point)) → AreRounded rings walks → length rings ≡ length walks
 as_many_walks rings walks h = sym (AllZip-long (λ r w. IsRoundedPath h.segments (closed_walk r.1) w) rings walks h.rounded)
 
-differ_by_pairs : (w : List Point) → ((c d : Point) → Has (pairs w) (c, d) → c ≢ d) → NeighboursDiffer w
-differ_by_pairs [] h = tt
-differ_by_pairs (p ∷ []) h = tt
-differ_by_pairs (p ∷ q ∷ ps) h = (h p q (inl refl), differ_by_pairs (q ∷ ps) (λ c d m. h c d (inr m)))
-
--- neighbours in a walk are neighbours in a chain, which rises
-neighbours_differ : (rings : List (Owner × List Point)) (walks : List (List Point)) → AreRounded rings walks → (w : List Point)
-    → Contains walks w → NeighboursDiffer w
-neighbours_differ rings walks h w m = differ_by_pairs w (λ c d n.
-    let ring = rounded_rings rings walks h w m in
-    let e = rounded_paths_have_edges h.segments (closed_walk ring.0) w ring.1 c d (contains (pairs w) (c, d) n) in
-    ends_differ e.s c d
-    (edge_of_neighbours (IsHot h.segments) e.s e.chain c d e.is_chain (has (pairs e.chain) (c, d) e.neighbours)).below)
-
-pub all_neighbours_differ : (rings : List (Owner × List Point)) (walks : List (Vec Point Global))
-    → AreRounded rings (map (λ w. w.items) walks)
-    → All (λ w. NeighboursDiffer w.items) walks
-all_neighbours_differ rings walks h k d lt =
-    neighbours_differ rings (map (λ w. w.items) walks) h (get_or walks k d).items
-    (Contains-map (λ (w : Vec Point Global). w.items) walks (get_or walks k d) (Contains-get_or walks k d lt))
-
 -- ---- visits
 visited : (rings : List (Owner × List Point)) (walks : List (List Point)) → length rings ≡ length walks
     → map (λ (v : Visit). v.edge) (visits_of rings walks) ≡ walked_edges undirected walks
@@ -92,7 +68,7 @@ visited (r ∷ rings) (w ∷ walks) e =
     edges_by (p ∷ ps) = ap (λ l. undirected p ∷ l) (edges_by ps)
 
 -- the edges of the visits are those of the walks
-edges_visited : (rings : List (Owner × List Point)) (walks : List (List Point)) (edges : List (Point × Point)) → AreRounded rings walks
+pub edges_visited : (rings : List (Owner × List Point)) (walks : List (List Point)) (edges : List (Point × Point)) → AreRounded rings walks
     → IsRising IsEdgeBefore edges
     → ((e : Point × Point) → Contains edges e ↔ Contains (map (λ (v : Visit). v.edge) (visits_of rings walks)) e) → AreEdgesOf walks edges
 edges_visited rings walks edges h up exact = record {
@@ -114,7 +90,7 @@ and-false true = refl
 and-false false = refl
 
 -- the visits of the edge by the owner are as many as the owner's walks go it, up to an even number
-visits_by_owner : (o : Owner) (e : Point × Point) (rings : List (Owner × List Point)) (walks : List (List Point))
+pub visits_by_owner : (o : Owner) (e : Point × Point) (rings : List (Owner × List Point)) (walks : List (List Point))
     → parity (visit_eq (record { edge = e; owner = o })) (visits_of rings walks) ≡ is_owned (owner_walks o rings walks) e
 visits_by_owner o e [] walks = refl
 visits_by_owner o e (r ∷ rings) [] = refl
@@ -144,54 +120,43 @@ module _ {A B : Type 0} (R S : A → B → Type 0) (step : (x : A) (y : B) → R
   zip_by (x ∷ xs) [] h = absurd h
   zip_by (x ∷ xs) (y ∷ ys) h = (step x y h.0, zip_by xs ys h.1)
 
--- the visitors by odd visits are the owners
-owners_by_visits : (rings : List (Owner × List Point)) (walks : List (List Point)) (odd : List Visit) (edges : List (Point × Point))
-    (owners : List (List Owner))
-    → ((v : Visit) → Contains odd v ↔ IsTrue (parity (visit_eq v) (visits_of rings walks)))
-    → AllZip (AreVisitors odd) edges owners → AllZip (AreOwnersOf rings walks) edges owners
-owners_by_visits rings walks odd edges owners exact = zip_by (AreVisitors odd) (AreOwnersOf rings walks) (λ e own h.
-    record {
-      rising = h.rising;
-      exact = λ o.
-          let same = visits_by_owner o e rings walks in
-          let known = exact (record { edge = e; owner = o }) in (
-            (λ m. sym same ∙ known.0 ((h.exact o).0 m)),
-            (λ t. (h.exact o).1 (known.1 (same ∙ t))),
-          );
-    }) edges owners
-
--- what comes of the visits, where the slices that calls lend are these lists
 -- the visits in another order have the same edges
-edges_in_order : (xs ys : List Visit) → IsPermutation xs ys → (e : Point × Point)
+pub edges_in_order : (xs ys : List Visit) → IsPermutation xs ys → (e : Point × Point)
     → Contains (map (λ (v : Visit). v.edge) xs) e → Contains (map (λ (v : Visit). v.edge) ys) e
 edges_in_order xs ys same e m =
     let found = Has-map (λ (v : Visit). v.edge) xs e (has (map (λ (v : Visit). v.edge) xs) e m) in
     subst (Contains (map (λ (v : Visit). v.edge) ys)) found.2
     (Contains-map (λ (v : Visit). v.edge) ys found.0 (Contains-permutation xs ys found.0 same (contains xs found.0 found.1)))
 
-pub round_of : (rings : List (Owner × List Point)) (walks : List (List Point)) (visits visits' : List Visit)
-    (edges edges' : List (Point × Point))
-    (odd odd' : List Visit) (owners : List (List Owner)) → AreRounded rings walks → IsPermutation (visits_of rings walks) visits
-    → visits' ≡ visits → edges' ≡ edges → odd' ≡ odd
-    → IsRising IsEdgeBefore edges → ((e : Point × Point) → Contains edges e ↔ Contains (map (λ (v : Visit). v.edge) visits') e)
-    → ((v : Visit) → Contains odd v ↔ IsTrue (parity (visit_eq v) visits)) → AllZip (AreVisitors odd') edges' owners
+-- what passes are read to, by points, is what rounding makes of the rings whose visits they are
+pub round_of_view : (rings : List (Owner × List Point)) (walks : List (List Point)) (visits : List Visit) (edges : List (Point × Point))
+    (owners : List (List Owner)) → AreRounded rings walks → IsPermutation (visits_of rings walks) visits → IsView visits edges owners
     → IsRoundOf rings (edges, owners)
-round_of rings walks visits visits' edges edges' odd odd' owners h e same same_edges same_odd up exact odd_exact visited_by = record {
+round_of_view rings walks visits edges owners h e v = record {
   walks = walks;
   rounded = h;
-  edges = edges_visited rings walks edges h up
+  edges = edges_visited rings walks edges h v.rising
       (λ f. (
-        (λ m. edges_in_order visits (visits_of rings walks) (IsPermutation-sym _ _ e) f
-            (subst (λ l. Contains (map (λ (v : Visit). v.edge) l) f) same ((exact f).0 m))),
-        (λ m. (exact f).1 (subst (λ l. Contains (map (λ (v : Visit). v.edge) l) f) (sym same)
-            (edges_in_order (visits_of rings walks) visits e f m))),
+        (λ m. edges_in_order visits (visits_of rings walks) (IsPermutation-sym _ _ e) f ((v.exact f).0 m)),
+        (λ m. (v.exact f).1 (edges_in_order (visits_of rings walks) visits e f m)),
       ));
-  owners = owners_by_visits rings walks odd edges owners
-      (λ v.
-      let parities = parity_permutation (visit_eq v) (visits_of rings walks) visits e in
-      ((λ m. sym parities ∙ (odd_exact v).0 m), (λ t. (odd_exact v).1 (parities ∙ t))))
-      (coe 0 1 (i. AllZip (AreVisitors (same_odd i)) (same_edges i) owners) visited_by);
+  owners = zip_by (AreOddVisitors visits) (AreOwnersOf rings walks) (λ f own w. record {
+    rising = w.rising;
+    exact = λ o.
+        let same = visits_by_owner o f rings walks in
+        let moved = parity_permutation (visit_eq (record { edge = f; owner = o })) (visits_of rings walks) visits e in
+        ((λ m. sym same ∙ sym moved ∙ (w.exact o).0 m), (λ t. (w.exact o).1 (moved ∙ same ∙ t)));
+  }) edges owners v.owned;
 }
+
+-- where the slices that calls lend are these lists
+pub round_of_passes : (rings : List (Owner × List Point)) (segments segments' : List Segment) (hot hot' : List Point) (passes : List Pass)
+    (edges : List (Point × Point)) (owners : List (List Owner)) → AreSides rings segments → segments' ≡ segments → hot' ≡ hot
+    → ArePassesOf segments' hot rings passes → IsView (map (visit_at hot') passes) edges owners → IsRoundOf rings (edges, owners)
+round_of_passes rings segments segments' hot hot' passes edges owners sides same same_hot made view =
+    round_of_view rings made.walks (map (visit_at hot) passes) edges owners
+    (record { segments = segments'; sides = subst (AreSides rings) (sym same) sides; rounded = made.rounded })
+    made.visits (subst (λ l. IsView (map (visit_at l) passes) edges owners) same_hot view)
 
 -- ---- what the types keep
 listed : (o : Owner) (owners : List Owner) → is_owner_listed o owners ≡ true → Has owners o

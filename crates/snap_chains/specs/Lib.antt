@@ -1,10 +1,10 @@
 pub mod Clean
-pub mod Keys
 pub mod OwnedRings
 pub mod OwnerLists
 pub mod Owners
+pub mod Passes
+pub mod Reading
 pub mod Round
 pub mod Rounded
-pub mod Scans
 pub mod Sides
 pub mod Visits

@@ -1,12 +1,15 @@
 -- Visits: that a ring of a shape, rounded, goes an edge; one for each time that it does.
-use Rattle.std.specs.Prelude.{◌≡◌, ◌⊎◌, ◌↔◌, Bool, ◌&&◌, List, [], ◌∷◌, ◌++◌, map, Contains}
+use Rattle.std.specs.Prelude.{Bool, ◌&&◌, List, [], ◌∷◌, ◌++◌, map}
 use Rattle.lay_point.specs.declared.point.Point.{Point}
 use Rattle.lay_point.specs.Edges.{undirected}
-use Rattle.lay_point.specs.Rising.{IsRising, pairs}
-use Rattle.lay_point.specs.Edges.{IsEdgeBefore, same_edge}
+use Rattle.lay_point.specs.Rising.{pairs}
+use Rattle.lay_point.specs.Edges.{same_edge}
 use Rattle.snap_chains.specs.declared.owner.Owner.{Owner}
-use Rattle.snap_chains.specs.declared.visits.Visit.{Visit}
-use Rattle.snap_chains.specs.Owners.{IsOwnerBefore, owner_eq}
+use Rattle.snap_chains.specs.Owners.{owner_eq}
+
+pub record Visit : Type 0 where
+  pub edge : Point × Point
+  pub owner : Owner
 
 -- the owner goes each pair of neighbours of the walk
 abbrev pub visits_by : Owner → List Point → List Visit
@@ -21,12 +24,3 @@ visits_of (r ∷ rings) (w ∷ walks) = visits_by r.0 w ++ visits_of rings walks
 -- the same edge, gone by the same owner
 abbrev pub visit_eq : Visit → Visit → Bool
 visit_eq v w = same_edge v.edge w.edge && owner_eq v.owner w.owner
-
--- by edge, then by owner
-abbrev pub IsVisitBefore : Visit → Visit → Type 0
-IsVisitBefore v w = IsEdgeBefore v.edge w.edge ⊎ ((v.edge ≡ w.edge) × IsOwnerBefore v.owner w.owner)
-
--- the owners that go the edge, in order
-pub record AreVisitors (visits : List Visit) (e : Point × Point) (owners : List Owner) : Type 0 where
-  pub rising : IsRising IsOwnerBefore owners
-  pub exact : (o : Owner) → Contains owners o ↔ Contains visits (record { edge = e; owner = o })

@@ -21,7 +21,7 @@ use std::cmp::Ordering;
 ///
 /// # Cost
 ///
-/// Each hot centre between the segment's columns, or between its rows, is asked: whichever are fewer.
+/// Each hot centre in the segment's columns is asked.
 pub fn chain(alloc: Global, segment: &Segment, hot: &HotSet) -> Result<Vec<Point>, NoMemory>
     ensures { IfOk result (λ points. IsChain (Contains hot.now) segment.now points.items) }
 {

@@ -8,6 +8,12 @@
 //! returns the edges that the rounded rings go, each once, with the shapes that own it: those whose
 //! rings go it an odd number of times (`IsRoundOf` of `specs/Round.antt`).
 //!
+//! `round` goes by the numbers of hot centres, which rise as the centres do. A pass is two numbers and an
+//! owner: that one of the owner's rings goes from the one centre to the other. The chain of a side along an axis is a
+//! run of numbers (`snap_slabs::Numbers`), so its passes are written without a list of points; that of a slanted
+//! side is found, and its centres numbered. Sorted passes are in the order of edges, and those of one edge are
+//! neighbours, in the order of owners.
+//!
 //! # Model
 //!
 //! - [`Owner`] is a shape of one of two inputs ([`Input`]), by its number. [`OwnedRing`] is an
@@ -16,9 +22,9 @@
 //!   says for each edge where its own are. Contracts see the pair of the list of edges and the list
 //!   of their lists of owners. Edges have no direction, and are in the order of their lesser ends,
 //!   then of their greater ones.
-//! - A visit (`visits.rt`) is an edge that a rounded ring goes, with the ring's owner
-//!   (`specs/Visits.antt`). Visits are sorted by keys of whole numbers (`specs/Keys.antt`), so that
-//!   equal ones are neighbours, and those that occur an odd number of times give the owners.
+//! - A visit (`specs/Visits.antt`) is an edge that a rounded ring goes, with the ring's owner. A pass
+//!   (`pass.rt`, `specs/Passes.antt`) is the same by numbers. What sorted passes are read to
+//!   (`specs/Reading.antt`) is by points the edges of the visits, and their owners.
 //!
 //! # Invariants
 //!
@@ -33,8 +39,10 @@
 //!
 //! # Files
 //!
-//! - `rounding.rt`: all of it in order; `owned.rt`, `rings.rt`, `chains.rt`: rings, sides, chains.
-//! - `visits.rt`, `keys.rt`, `owner_lists.rt`: from walks to edges with owners.
+//! - `rounding.rt`: all of it in order.
+//! - `owned.rt`, `rings.rt`, `chains.rt`: rings, their sides, and chains by points.
+//! - `centres.rt`, `pass.rt`, `passes.rt`: the passes of rings, by numbers.
+//! - `reading.rt`, `owner_lists.rt`: from passes to edges with owners.
 //! - `rounded.rt`, `clean_edges.rt`, `checking.rt`: the results, and the test.
 //!
 //! # Example
@@ -49,17 +57,19 @@
 //! ```
 #![tactic(auto)]
 
+mod centres;
 mod chains;
 mod checking;
 mod clean_edges;
-mod keys;
 mod owned;
 mod owner;
 mod owner_lists;
+mod pass;
+mod passes;
+mod reading;
 mod rings;
 mod rounded;
 mod rounding;
-mod visits;
 
 pub use chains::chain;
 pub use checking::check_clean;

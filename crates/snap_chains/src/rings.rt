@@ -7,10 +7,9 @@ ghost use Rattle.lay_point.specs.Rising.{pairs};
 ghost use Rattle.snap_edge_laws.specs.Rounding.{IsRoundedPath, closed_walk, tail};
 ghost use Rattle.snap_chains.specs.Sides.{segment_ends};
 
-use crate::chains::chain_in;
+use crate::chains::chain;
 use lay_point::{NoMemory, Point};
 use snap_pixels::{HotSet, Segment};
-use snap_slabs::Finder;
 use std::alloc::{AllocError, Global};
 
 /// Returns the rounded ring, its first point again at its end: the chains of its sides, joined. `hot`
@@ -36,24 +35,6 @@ pub fn round_ring(
     requires sides { (e : Point × Point) → Contains (pairs (closed_walk ring.now)) e → Contains (map segment_ends _segments.now) e }
     ensures { IfOk result (λ walk. IsRoundedPath _segments.now (closed_walk ring.now) walk.items) }
 {
-    let finder = Finder::plain(alloc, hot);
-    let walk = round_ring_in(alloc, _segments, &finder, ring)?;
-    Ok(walk)
-}
-
-/// Returns the rounded ring, as `round_ring` does. The centres of the finder are the hot pixels of all
-/// the segments.
-pub(crate) fn round_ring_in(
-    alloc: Global,
-    _segments: &[Segment],
-    finder: &Finder,
-    ring: &[Point],
-) -> Result<Vec<Point>, NoMemory>
-    requires hot { AreHotCentres _segments.now finder.now }
-    requires ring { IsRing ring.now }
-    requires sides { (e : Point × Point) → Contains (pairs (closed_walk ring.now)) e → Contains (map segment_ends _segments.now) e }
-    ensures { IfOk result (λ walk. IsRoundedPath _segments.now (closed_walk ring.now) walk.items) }
-{
     let mut walk = Vec::new(alloc);
     let Some((first, _)) = ring.split_first() else {
         return Ok(walk);
@@ -61,7 +42,7 @@ pub(crate) fn round_ring_in(
     walk.push(*first)?;
     let sides = ring_sides(alloc, ring)?;
     for side in sides.as_slice() {
-        let points = chain_in(alloc, side, finder)?;
+        let points = chain(alloc, side, hot)?;
         extend_by_rest(&mut walk, points.as_slice())?;
     }
     Ok(walk)

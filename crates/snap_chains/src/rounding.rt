@@ -3,29 +3,31 @@ ghost use Rattle.std.specs.Prelude.{All, IfOk};
 ghost use Rattle.lay_point.specs.Rings.{IsRing};
 ghost use Rattle.snap_chains.specs.Round.{IsRoundOf};
 
+use crate::centres::Centres;
 use crate::clean_edges::CleanEdges;
-use crate::keys::in_order;
-use crate::owned::{OwnedRing, round_rings};
-use crate::owner_lists::OwnerLists;
+use crate::owned::{OwnedRing, all_sides};
+use crate::passes::all_passes;
+use crate::reading::read;
 use crate::rounded::Rounded;
-use crate::visits::{all_visits, odd_visits, visited_edges};
 use lay_point::NoMemory;
+use snap_pixels::hot;
 use std::alloc::Global;
 use std::thread::Threads;
 
 /// Returns the edges that the rounded rings go, each once, with their owners: the shapes whose rings, all
 /// together, go the edge an odd number of times. An edge that no shape goes an odd number of times stays,
-/// without owners. Hot pixels are found in as many threads as there are processors.
+/// without owners. Hot pixels are found, and passes sorted, in as many threads as there are processors.
 ///
 /// Source: Hobby, Practical segment intersection with finite precision output, 1999.
 ///
 /// # Errors
 ///
-/// `NoMemory`, if an allocation fails.
+/// `NoMemory`, if an allocation fails, and where there are 2^32 hot pixels or more.
 ///
 /// # Cost
 ///
-/// That of `hot` of all sides, of their chains, and of sorts of the edges that the rings go.
+/// That of `hot` of all sides, of a sort of the hot pixels by rows, of the chains of slanted sides, and of a sort of
+/// the edges that the rings go.
 pub fn round(
     rt: &(impl Threads + Sync),
     alloc: Global,
@@ -34,12 +36,11 @@ pub fn round(
     requires { All (λ r. IsRing r.1) rings.now }
     ensures { IfOk result (λ clean. IsRoundOf rings.now clean) }
 {
-    let walks = round_rings(rt, alloc, rings)?;
-    let visits = all_visits(alloc, rings, walks.as_slice())?;
-    let visits = in_order(rt, alloc, visits)?;
-    let edges = visited_edges(alloc, visits.as_slice())?;
-    let odd = odd_visits(alloc, visits)?;
-    let owners = OwnerLists::of_visits(alloc, edges.as_slice(), odd.as_slice())?;
+    let segments = all_sides(alloc, rings)?;
+    let found = hot(rt, alloc, &segments)?;
+    let centres = Centres::of(alloc, &segments, &found)?;
+    let passes = all_passes(alloc, rings, &segments, &centres)?;
+    let (edges, owners) = read(rt, alloc, passes, centres.numbers.centres())?;
     let rounded = Rounded { edges, owners };
     Ok(CleanEdges { rounded })
 }

@@ -21,7 +21,7 @@ use Rattle.snap_chains.specs.Owners.{IsOwnerBefore, owner_eq}
 use Rattle.snap_chains.specs.Round.{AreOwnersOf, owner_walks}
 use Rattle.snap_chains.specs.Sides.{segment_ends}
 use Rattle.snap_chains.proofs.PathLemmas.{Has-map}
-use Rattle.snap_chains.proofs.VisitOrder.{owner_eq-Decides}
+use Rattle.snap_chains.proofs.OwnerOrder.{owner_eq-Decides}
 use Rattle.snap_laws.specs.Crossings.{hot_centres}
 use Rattle.snap_laws.specs.RoundLaws.{RoundingExists, RoundingIsComputed}
 use Rattle.snap_laws.specs.Meeting.{meets_of}

@@ -19,7 +19,7 @@ use Rattle.snap_chains.specs.declared.owner.Owner.{Owner}
 use Rattle.snap_chains.specs.Owners.{IsOwnerBefore}
 use Rattle.snap_chains.specs.Round.{AreOwnersOf}
 use Rattle.snap_chains.specs.Sides.{segment_ends}
-use Rattle.snap_chains.proofs.VisitOrder.{owners_are_strict}
+use Rattle.snap_chains.proofs.OwnerOrder.{owners_are_strict}
 use Rattle.snap_laws.specs.RoundLaws.{RoundingIsUnique}
 use Rattle.snap_laws.proofs.Sides.{IsBelowOn, hot_same}
 

@@ -1,7 +1,7 @@
 //! Sets of hot centres.
 ghost use Rattle.std.specs.Prelude.{◌≡◌, ◌↔◌, IfOk, IsTrue, Contains, map};
 ghost use Rattle.lay_point.specs.declared.point.Point.{Point};
-ghost use Rattle.snap_pixels.specs.Order.{ArePointsRising, AreTransposed, transposed};
+ghost use Rattle.snap_pixels.specs.Order.{ArePointsRising, transposed};
 
 use lay_point::Point;
 use std::alloc::{AllocError, Global};
@@ -12,43 +12,33 @@ use std::marker::Model;
 #[derive(Debug, Drop)]
 pub struct HotSet {
     centres: Vec<Point>,
-    /// The centres with x and y exchanged, in order.
-    turned: Vec<Point>,
 }
 
 impl Model for HotSet {
     ghost use Rattle.std.specs.Prelude.{List};
     ghost use Rattle.lay_point.specs.declared.point.Point.{Point};
-    ghost use Rattle.snap_pixels.specs.Order.{ArePointsRising, AreTransposed};
+    ghost use Rattle.snap_pixels.specs.Order.{ArePointsRising};
 
     ghost Value = { List Point };
 
     ghost view = { λ h. h.centres.items };
 
-    ghost invariant = { λ h. ArePointsRising h.centres.items × ArePointsRising h.turned.items
-        × AreTransposed h.centres.items h.turned.items };
+    ghost invariant = { λ h. ArePointsRising h.centres.items };
 }
 
 impl HotSet {
     /// Returns the set of these centres, which may be in any order and more than once.
     ///
-    /// # Errors
-    ///
-    /// `AllocError`, if an allocation fails.
-    ///
     /// # Cost
     ///
-    /// Two sorts of the centres.
-    pub fn from_unsorted(alloc: Global, mut centres: Vec<Point>) -> Result<HotSet, AllocError>
-        ensures rising { IfOk result (λ hot. ArePointsRising hot) }
-        ensures members { IfOk result (λ hot. (c : Point) → Contains hot c ↔ Contains centres.items c) }
+    /// A sort of the centres.
+    pub fn from_unsorted(mut centres: Vec<Point>) -> HotSet
+        ensures rising { ArePointsRising result }
+        ensures members { (c : Point) → Contains result c ↔ Contains centres.items c }
     {
         centres.sort_unstable();
         centres.dedup();
-        let mut turned = turned_all(alloc, centres.as_slice())?;
-        turned.sort_unstable();
-        turned.dedup();
-        Ok(HotSet { centres, turned })
+        HotSet { centres }
     }
 
     /// Returns whether the pixel of `centre` is hot.
@@ -68,14 +58,6 @@ impl HotSet {
         ensures rising { ArePointsRising self.now }
     {
         self.centres.as_slice()
-    }
-
-    /// Returns the hot centres with x and y exchanged, in order.
-    pub fn turned(&self) -> &[Point]
-        ensures rising { ArePointsRising result.now }
-        ensures members { AreTransposed self.now result.now }
-    {
-        self.turned.as_slice()
     }
 }
 

@@ -12,8 +12,7 @@
 //!   two whole numbers and a scale (`specs/Pixels.antt`).
 //! - [`Segment`] is its two ends. Contracts see both; its points are those of
 //!   `specs/Segments.antt`.
-//! - [`HotSet`] is kept as two `Vec`s: its centres, and the same with x and y exchanged. Contracts
-//!   see the list of its centres.
+//! - [`HotSet`] is kept as a `Vec` of its centres. Contracts see the list of them.
 //! - [`meets`] says whether a segment meets a pixel: the four sides of the pixel leave an interval
 //!   of the segment's points (`specs/Sides.antt`). [`crossing`] is the centre of the pixel that
 //!   holds the point common to two segments that aren't parallel.
@@ -23,9 +22,8 @@
 //! # Invariants
 //!
 //! - `Segment`: its ends differ (`differ` in `segment.rt`), tested by [`Segment::new`].
-//! - `HotSet`: its centres rise, by x and then by y, and its second list is the same with x and y
-//!   exchanged, in order (`ArePointsRising` and `AreTransposed` of `specs/Order.antt`).
-//!   [`HotSet::from_unsorted`] sorts both.
+//! - `HotSet`: its centres rise, by x and then by y (`ArePointsRising` of `specs/Order.antt`).
+//!   [`HotSet::from_unsorted`] sorts them.
 //!
 //! # Files
 //!

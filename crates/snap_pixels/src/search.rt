@@ -59,8 +59,7 @@ pub fn hot(
         )
         .collect::<Result<Vec<Vec<Point>>, AllocError>>(rt, alloc)??;
     let marked = joined(alloc, &lists)?;
-    let found = HotSet::from_unsorted(alloc, marked)?;
-    Ok(found)
+    Ok(HotSet::from_unsorted(marked))
 }
 
 /// Returns the hot pixels of the segments, found in this thread, undivided: of neighbours along the same axis none
@@ -77,8 +76,7 @@ pub fn hot_plain(alloc: Global, segments: &[Segment]) -> Result<HotSet, NoMemory
     ensures { IfOk result (AreHotCentres segments.now) }
 {
     let marked = marks_of(alloc, segments)?;
-    let found = HotSet::from_unsorted(alloc, marked)?;
-    Ok(found)
+    Ok(HotSet::from_unsorted(marked))
 }
 
 /// Returns the hot centres of the segments, in any order.

@@ -1,5 +1,5 @@
 -- Centres in order: no centre before the low corner of a segment's box is met, and none behind its high corner.
-use Rattle.std.proofs.Common.{◌≡◌, ◌↔◌, ⊎_elim, ℕ, zero, suc, ◌+◌, ◌-◌, ◌<◌, ◌≤◌, ◌⊎◌, inl, inr, List, length, get_or, drop, map}
+use Rattle.std.proofs.Common.{◌≡◌, ◌↔◌, ⊎_elim, ℕ, zero, suc, ◌+◌, ◌-◌, ◌<◌, ◌≤◌, ◌⊎◌, inl, inr, List, length, get_or, drop}
 use Rattle.std.proofs.Common.{ℤ, ◌≤ℤ◌, ◌<ℤ◌, sym, ap, ◌∙◌, subst, arith, Bool, true, false, Contains, Decides}
 use Rattle.std.specs.Prelude.{int_lt, not, slice_range}
 use Rattle.std.specs.List.Sorted.{IsPartitionedBy, IsPartitionPoint}
@@ -8,10 +8,10 @@ use Rattle.std.proofs.lemmas.Bool.Decides.{Decides-and, Decides-int_eq, Decides-
 use Rattle.std.proofs.lemmas.Int.{ints}
 use Rattle.std.proofs.lemmas.List.{get_or-drop, get_or-take, length-drop, length-take}
 use Rattle.lay_point.specs.declared.point.Point.{Point}
-use Rattle.snap_pixels.specs.Order.{ArePointsRising, AreTransposed, transposed}
+use Rattle.snap_pixels.specs.Order.{ArePointsRising, transposed}
 use Rattle.lay_point.specs.Points.{IsBefore}
 use Rattle.snap_pixels.specs.Segments.{Meets}
-use Rattle.snap_pixels.proofs.OrderLemmas.{ArePointsRising-next, turned_members}
+use Rattle.snap_pixels.proofs.OrderLemmas.{ArePointsRising-next}
 use Rattle.snap_pixels.proofs.BoxLemmas.{Meets-apart}
 use Rattle.lay_point.proofs.Signs.{linear}
 use Rattle.snap_slabs.specs.Columns.{HoldMet, is_lesser_point}
@@ -180,19 +180,3 @@ met_in_columns hot columns met a b inside all are_met c = (
 -- ---- on the other side of the diagonal
 pub meets_turned : (a b c : Point) → Meets a b c → Meets (transposed a) (transposed b) (transposed c)
 meets_turned a b c (k, t, f, place) = (k, t, f, record { column = place.row; row = place.column })
-
--- of the centres in the rows of a segment those that are met, turned back
-pub met_in_rows : (hot others rows met found : List Point) (a b : Point) → AreTransposed hot others
-    → ((c : Point) → Contains rows c → Contains others c)
-    → ((c : Point) → Contains others c → Meets (transposed a) (transposed b) c → Contains rows c)
-    → ((c : Point) → Contains met c ↔ (Contains rows c × Meets (transposed a) (transposed b) c))
-    → found ≡ map transposed met → (c : Point) → Contains found c ↔ (Contains hot c × Meets a b c)
-met_in_rows hot others rows met found a b other inside all are_met is c = (
-  (λ m.
-      let there = (are_met (transposed c)).0 ((turned_members met (transposed c)).0 (subst (λ l. Contains l c) is m)) in
-      ((other c).0 (inside (transposed c) there.0), meets_turned (transposed a) (transposed b) (transposed c) there.1)),
-  (λ h.
-      let across = meets_turned a b c h.1 in
-      subst (λ l. Contains l c) (sym is)
-      ((turned_members met (transposed c)).1 ((are_met (transposed c)).1 (all (transposed c) ((other c).1 h.0) across, across)))),
-)

@@ -1,5 +1,10 @@
+pub mod Along
 pub mod ClipLemmas
 pub mod ColumnLemmas
+pub mod KeyOrder
 pub mod OwnedLemmas
+pub mod Placing
+pub mod RowRuns
 pub mod SlabLemmas
 pub mod Sorted
+pub mod Stretches

@@ -1,8 +1,7 @@
 -- Rings of shapes: the sides of each are among those of all.
-use Rattle.std.proofs.Common.{◌≡◌, ℕ, zero, suc, ◌+◌, ◌<◌, List, [], ◌∷◌, ◌++◌, length, get_or, take, Contains, sym, ap, ◌∙◌, subst, arith}
+use Rattle.std.proofs.Common.{◌≡◌, ℕ, zero, suc, ◌<◌, List, [], ◌∷◌, ◌++◌, length, get_or, Contains, sym, subst, arith}
 use Rattle.std.specs.Prelude.{flat_map}
 use Rattle.std.specs.List.{AllZip}
-use Rattle.std.proofs.lemmas.List.{take_more}
 use Rattle.lay_point.proofs.Members.{Has, has, contains, has-append_left, has-append_right}
 
 in_one : {A B : Type 0} (f : A → List B) (xs : List A) (i : ℕ) (d : A) (y : B) → i < length xs → Has (f (get_or xs i d)) y →
@@ -18,16 +17,9 @@ Contains-flat_map f xs i x all lt at e y m =
     subst (λ l. Contains l y) (sym e)
     (contains (flat_map f xs) y (in_one f xs i x y lt (subst (λ v. Has (f v) y) at (has (f x) y m))))
 
-zip_push : {A B : Type 0} (R : A → B → Type 0) (xs : List A) (ys : List B) (x : A) (y : B) → AllZip R xs ys → R x y
+pub zip_push : {A B : Type 0} (R : A → B → Type 0) (xs : List A) (ys : List B) (x : A) (y : B) → AllZip R xs ys → R x y
     → AllZip R (xs ++ x ∷ []) (ys ++ y ∷ [])
 zip_push R [] [] x y h r = (r, tt)
 zip_push R [] (w ∷ ys) x y h r = absurd h
 zip_push R (v ∷ xs) [] x y h r = absurd h
 zip_push R (v ∷ xs) (w ∷ ys) x y h r = (h.0, zip_push R xs ys x y h.1 r)
-
--- one more pair
-pub zip_more : {A B : Type 0} (R : A → B → Type 0) (xs : List A) (ys : List B) (i : ℕ) (x : A) (y : B) → i < length xs → x ≡ get_or xs i x
-    → AllZip R (take i xs) ys → R x y → AllZip R (take (i + 1) xs) (ys ++ y ∷ [])
-zip_more R xs ys i x y lt at h r =
-    let more = take_more xs i x lt ∙ ap (λ v. take i xs ++ v ∷ []) (sym at) in
-    subst (λ l. AllZip R l (ys ++ y ∷ [])) (sym more) (zip_push R (take i xs) ys x y h r)

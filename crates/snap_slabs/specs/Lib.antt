@@ -1,3 +1,4 @@
 pub mod Clips
 pub mod Columns
+pub mod Runs
 pub mod Slabs

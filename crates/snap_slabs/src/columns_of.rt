@@ -1,26 +1,15 @@
 //! The columns that a segment goes through.
-ghost use Rattle.std.specs.Prelude.{◌≡◌, ◌≤◌, ◌≤ℤ◌, Contains, length};
+ghost use Rattle.std.specs.Prelude.{◌≡◌, ◌≤◌, ◌≤ℤ◌, length};
 ghost use Rattle.lay_point.specs.declared.point.Point.{Point};
 ghost use Rattle.snap_pixels.specs.Order.{ArePointsRising};
-ghost use Rattle.snap_pixels.specs.Segments.{Meets};
 ghost use Rattle.snap_slabs.specs.Columns.{HoldMet, is_lesser_point};
 
 use lay_point::Point;
 use snap_pixels::Segment;
 
-/// Returns the centres from the least to the greatest column of the segment; in these two columns only
-/// those that aren't below its box, or above it. Of an upright segment these are the ones between its ends.
-pub(crate) fn columns<'a>(segment: &Segment, centres: &'a [Point]) -> &'a [Point]
-    requires { ArePointsRising centres.now }
-    ensures inside { (c : Point) → Contains result.now c → Contains centres.now c }
-    ensures all { (c : Point) → Contains centres.now c → Meets segment.now.a segment.now.b c
-        → Contains result.now c }
-{
-    let (from, to) = places(segment, centres);
-    &centres[from..to]
-}
-
-/// Returns where these centres begin, and where they end.
+/// Returns where the centres begin, and where they end, from the least to the greatest column of the segment; in these
+/// two columns only those that aren't below its box, or above it. Of an upright segment these are the ones between its
+/// ends.
 pub(crate) fn places(segment: &Segment, centres: &[Point]) -> (usize, usize)
     requires { ArePointsRising centres.now }
     ensures ordered { result.0 ≤ result.1 }

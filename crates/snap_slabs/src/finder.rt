@@ -1,12 +1,12 @@
 //! The search of the hot centres that a segment meets.
 ghost use Rattle.std.specs.Prelude.{◌≡◌, ◌↔◌, ◌<◌, ◌≤◌, Contains, IfOk, IfSome, length};
 ghost use Rattle.lay_point.specs.declared.point.Point.{Point};
-ghost use Rattle.snap_pixels.specs.Order.{ArePointsRising, transposed};
+ghost use Rattle.snap_pixels.specs.Order.{transposed};
 ghost use Rattle.snap_pixels.specs.Segments.{Meets};
 ghost use Rattle.snap_slabs.specs.Slabs.{HoldPlaces, points_in};
 
 use crate::candidates::met;
-use crate::columns_of::{columns, places};
+use crate::columns_of::places;
 use crate::slab::Slab;
 use crate::slabs::{met_in_each, slabs_of};
 use lay_point::Point;
@@ -73,7 +73,7 @@ impl<'h> Finder<'h> {
     }
 
     /// Returns the hot centres whose pixels the segment meets. Asked are those in its columns where they are
-    /// few, else those in its rows of the slabs that it goes through, or in its rows if it is level.
+    /// few or there are no slabs, else those in its rows of the slabs that it goes through.
     ///
     /// # Errors
     ///
@@ -82,24 +82,15 @@ impl<'h> Finder<'h> {
     /// # Cost
     ///
     /// Each centre is asked that is in the rows which the segment reaches in a slab, or in the segment's
-    /// columns where these are few.
+    /// columns.
     pub fn met(&self, alloc: Global, segment: &Segment) -> Result<Vec<Point>, AllocError>
         ensures { IfOk result (λ points. (c : Point) → Contains points.items c
             ↔ (Contains self.now c × Meets segment.now.a segment.now.b c)) }
     {
         let (from, to) = places(segment, self.hot.centres());
-        let across = segment.turned();
-        let is_level = segment.a().y == segment.b().y;
-        if let Some(slabs) = self.slabs_between(from, to, is_level) {
-            let in_slabs = met_in_each(alloc, &across, slabs)?;
+        if let Some(slabs) = self.slabs_between(from, to) {
+            let in_slabs = met_in_each(alloc, &segment.turned(), slabs)?;
             let points = turned_all(alloc, in_slabs.as_slice())?;
-            return Ok(points);
-        }
-        let in_rows = rows(&across, self.hot.turned(), to - from);
-        let fewer = in_rows.len() < to - from;
-        if fewer {
-            let found = met(alloc, &across, in_rows)?;
-            let points = turned_all(alloc, found.as_slice())?;
             return Ok(points);
         }
         let points = met(alloc, segment, &self.hot.centres()[from..to])?;
@@ -107,8 +98,8 @@ impl<'h> Finder<'h> {
     }
 
     /// Returns the slabs of the centres from the index `from` on, before `to`, where it takes less time to
-    /// search them than to ask all these centres. A level segment is left to its rows.
-    fn slabs_between(&self, from: usize, to: usize, is_level: bool) -> Option<&[Slab]>
+    /// search them than to ask all these centres.
+    fn slabs_between(&self, from: usize, to: usize) -> Option<&[Slab]>
         requires ordered { from ≤ to }
         requires inside { to ≤ length self.now }
         ensures inside { IfSome result (λ slabs. (c : Point) → Contains (points_in slabs.now) c
@@ -117,23 +108,9 @@ impl<'h> Finder<'h> {
     {
         let first = from / self.size;
         let last = to / self.size;
-        if is_level || last >= self.slabs.len() || (to - from) / SLAB_STEPS <= last - first {
+        if last >= self.slabs.len() || (to - from) / SLAB_STEPS <= last - first {
             return None;
         }
         Some(&self.slabs[first..last + 1])
     }
-}
-
-/// Returns the centres in the rows of a segment. Both are turned. Where only so few are in its columns that
-/// a search takes longer than to ask these, all centres are returned.
-fn rows<'a>(across: &Segment, turned: &'a [Point], in_columns: usize) -> &'a [Point]
-    requires { ArePointsRising turned.now }
-    ensures inside { (c : Point) → Contains result.now c → Contains turned.now c }
-    ensures all { (c : Point) → Contains turned.now c → Meets across.now.a across.now.b c
-        → Contains result.now c }
-{
-    if in_columns <= SLAB_STEPS {
-        return turned;
-    }
-    columns(across, turned)
 }

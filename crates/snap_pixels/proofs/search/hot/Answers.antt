@@ -26,6 +26,6 @@ returns g c =
     (λ s. through (c.put_by_kind.ensures s) (c.in_ok-once.ensures s)) in
     let searched = λ (p : Point). subst (λ l. IsHotInOne (map (λ part. part.items) parts) p ↔ IsHot l p) c.as_slice.ensures.value
     (c.in_ok-parts.ensures p) in
-    AreHotCentres-marked c.args.segments.now c.in_ok-marked.marked.items c.in_ok-found.found
-    c.in_ok-found.ensures.rising c.in_ok-found.ensures.members
+    AreHotCentres-marked c.args.segments.now c.in_ok-marked.marked.items c.from_unsorted.result
+    c.from_unsorted.ensures.rising c.from_unsorted.ensures.members
     (λ p. through (joined p) (through (found p) (through (searched p) (same p))))

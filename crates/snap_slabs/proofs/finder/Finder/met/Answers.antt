@@ -1,11 +1,11 @@
 use Rattle.std.proofs.Common.{Contains, List, ◌↔◌, ◌∙◌, ◌-◌, ap, map, subst}
 use Rattle.std.specs.Prelude.{slice_range}
 use Rattle.lay_point.specs.declared.point.Point.{Point}
-use Rattle.snap_pixels.specs.Order.{AreTransposed, transposed}
+use Rattle.snap_pixels.specs.Order.{transposed}
 use Rattle.snap_pixels.specs.Segments.{Meets}
 use Rattle.snap_slabs.specs.Columns.{HoldMet}
 use Rattle.snap_slabs.specs.Slabs.{points_in}
-use Rattle.snap_slabs.proofs.ColumnLemmas.{columns_have_all, met_in_columns, met_in_rows}
+use Rattle.snap_slabs.proofs.ColumnLemmas.{columns_have_all, met_in_columns}
 use Rattle.snap_slabs.proofs.SlabLemmas.{in_whole, met_in_slabs}
 use Rattle.snap_slabs.proofs.finder.Finder.met.Goals as goal
 
@@ -17,22 +17,9 @@ returns-in-Some c =
     let held = subst (λ (l : List Point). HoldMet l s.a s.b c.places-from.result) (c.centres.ensures.value ∙ c.self.view_is)
     c.places-from.ensures.all in
     let are_met = coe 0 1 (i. (p : Point) → Contains found p
-    ↔ (Contains (points_in slabs) p × Meets (c.turned-across.ensures.a i) (c.turned-across.ensures.b i) p)) c.in_ok-in_slabs.ensures in
+    ↔ (Contains (points_in slabs) p × Meets (c.turned.ensures.a i) (c.turned.ensures.b i) p)) c.in_ok-in_slabs.ensures in
     met_in_slabs c.args.self.now found c.in_ok-points.points.items slabs s.a s.b c.places-from.result.0 c.places-from.result.1 held
     c.in-Some.ensures.inside c.in-Some.ensures.all are_met (c.in_ok-points.ensures ∙ ap (map transposed) c.as_slice.ensures.value)
-
-pub returns-then-fewer : goal.returns-then-fewer
-returns-then-fewer c =
-    let s = c.args.segment.now in
-    let rows = c.rows-in_rows.result.now in
-    let found = c.in_ok-found.found.items in
-    let other = subst (λ (l : List Point). AreTransposed l c.turned.result.now) c.self.view_is c.turned.ensures.members in
-    let all = coe 0 1 (i. (p : Point) → Contains c.turned.result.now p → Meets (c.turned-across.ensures.a i) (c.turned-across.ensures.b i) p
-    → Contains rows p) c.rows-in_rows.ensures.all in
-    let are_met = coe 0 1 (i. (p : Point) → Contains found p
-    ↔ (Contains rows p × Meets (c.turned-across.ensures.a i) (c.turned-across.ensures.b i) p)) c.in_ok-found.ensures in
-    met_in_rows c.args.self.now c.turned.result.now rows found c.in_ok-points-2.points.items s.a s.b other
-    c.rows-in_rows.ensures.inside all are_met (c.in_ok-points-2.ensures ∙ ap (map transposed) c.as_slice-then-fewer.ensures.value)
 
 pub returns : goal.returns
 returns c =
@@ -42,7 +29,7 @@ returns c =
     let hot = c.args.self.now in
     let held = subst (λ (l : List Point). HoldMet l s.a s.b c.places-from.result) (c.centres.ensures.value ∙ c.self.view_is)
     c.places-from.ensures.all in
-    let are_met = subst (λ (l : List Point). (p : Point) → Contains c.in_ok-points-3.points.items p
-    ↔ (Contains (slice_range l from to) p × Meets s.a s.b p)) (c.centres-2.ensures.value ∙ c.self.view_is) c.in_ok-points-3.ensures in
-    met_in_columns hot (slice_range hot from to) c.in_ok-points-3.points.items s.a s.b (in_whole (to - from) from hot)
+    let are_met = subst (λ (l : List Point). (p : Point) → Contains c.in_ok-points-2.points.items p
+    ↔ (Contains (slice_range l from to) p × Meets s.a s.b p)) (c.centres-2.ensures.value ∙ c.self.view_is) c.in_ok-points-2.ensures in
+    met_in_columns hot (slice_range hot from to) c.in_ok-points-2.points.items s.a s.b (in_whole (to - from) from hot)
     (columns_have_all hot s.a s.b c.places-from.result held) are_met

@@ -1,0 +1,50 @@
+use Rattle.std.proofs.Common.{◌≡◌, ◌∙◌, ◌++◌, ◌∷◌, [], get_or, length, inl, refl, rules, sym, ap, subst}
+use Rattle.std.proofs.lemmas.List.{nil_from_length}
+use Rattle.lay_point.proofs.Members.{Has}
+use Rattle.snap_chains.specs.declared.pass.Pass.{Pass}
+use Rattle.std.specs.List.Sorted.{IsSorted}
+use Rattle.snap_chains.specs.Reading.{ends_of, IsOddAdded, pass_cmp}
+use Rattle.snap_chains.proofs.ReadLemmas.{IsReading, reading_end, reading_more, reading_start, sorted_take, still_left}
+use Rattle.snap_chains.proofs.reading.read_sorted.Goals as goal
+
+pub loop-first-init : goal.loop-first-init
+loop-first-init c =
+    coe 1 0 (i. IsReading c.args.centres.now c.args.passes.now c.args.passes.now (c.in_ok-edges.ensures.items i)
+    (c.in_ok-owners.ensures.items i) (c.in_ok-parts.ensures.items i)) (reading_start c.args.centres.now c.args.passes.now c.requires.sorted)
+
+pub edge_at-requires-clause-inside : goal.edge_at-requires-clause-inside
+edge_at-requires-clause-inside c =
+    let rest = c.loop-first.rest.now in
+    let first = c.in-Some.first.now in
+    let whole : rest ≡ first ∷ c.in-Some.field-0-1.now = search rules in
+    c.requires.inside first (still_left c.args.centres.now c.args.passes.now rest c.loop-first.edges.items c.loop-first.owners.items
+    c.loop-first.parts.items c.loop-first.invariant first (subst (λ l. Has l first) (sym whole) (inl refl)))
+
+pub loop-first-preserved : goal.loop-first-preserved
+loop-first-preserved c =
+    let rest = c.loop-first.rest.now in
+    let first = c.in-Some.first.now in
+    let n = c.group_length.result in
+    let whole : rest ≡ first ∷ c.in-Some.field-0-1.now = search rules in
+    let is_first : (d : Pass) → get_or rest 0 d ≡ first = λ d. ap (λ l. get_or l 0 d) whole in
+    let added = subst (λ l. IsOddAdded l (ends_of first) c.loop-first.owners.items c.add_odd.new.owners.items) c.split_at.ensures.front c.in_ok-add_odd.ensures in
+    let odd = added.0 in
+    let from : c.len-from.result ≡ length c.loop-first.owners.items = search rules in
+    let to : c.len-to.result ≡ length (c.loop-first.owners.items ++ odd) = (search rules) ∙ ap length added.1 in
+    let next = reading_more c.args.centres.now c.args.passes.now rest c.loop-first.edges.items c.loop-first.owners.items c.loop-first.parts.items n first odd
+    (record { from = c.len-from.result; to = c.len-to.result })
+    c.loop-first.invariant c.group_length.ensures is_first added.2 from to in
+    coe 1 0 (i. IsReading c.args.centres.now c.args.passes.now (c.split_at.ensures.back i)
+    ((c.in_ok-push-2.ensures.items ∙ ap (λ v. c.loop-first.edges.items ++ v ∷ []) c.edge_at.ensures) i)
+    (added.1 i) (c.in_ok-push.ensures.items i)) next
+
+pub add_odd-requires-clause-sorted : goal.add_odd-requires-clause-sorted
+add_odd-requires-clause-sorted c =
+    subst (IsSorted pass_cmp) (sym c.split_at.ensures.front)
+    (sorted_take c.loop-first.rest.now c.group_length.result c.loop-first.invariant.sorted)
+
+pub returns : goal.returns
+returns c =
+    let zero : length c.loop-first.rest.now ≡ 0 = search rules in
+    reading_end c.args.centres.now c.args.passes.now c.loop-first.rest.now c.loop-first.edges.items c.loop-first.owners.items
+    c.loop-first.parts.items c.loop-first.invariant (nil_from_length c.loop-first.rest.now zero)

@@ -1,0 +1,99 @@
+//! Hot centres, by number and by search.
+ghost use Rattle.std.specs.Prelude.{◌≡◌, ◌<◌, ℕ, Contains, IfOk, length};
+ghost use Rattle.snap_edge_laws.specs.Chains.{IsChain};
+ghost use Rattle.snap_slabs.specs.Runs.{centres_at};
+
+use crate::chains::chain_in;
+use lay_point::{NoMemory, Point};
+use snap_pixels::{HotSet, Segment};
+use snap_slabs::{Finder, Numbers};
+use std::alloc::{AllocError, Global};
+use std::marker::Model;
+
+/// The hot centres of some segments: their numbers serve the segments along an axis, and a finder the slanted ones.
+/// Contracts see the list of the centres.
+#[derive(Debug, Drop)]
+pub(crate) struct Centres<'h> {
+    pub numbers: Numbers<'h>,
+    pub finder: Finder<'h>,
+}
+
+impl<'h> Model for Centres<'h> {
+    ghost use Rattle.std.specs.Prelude.{◌≡◌, List};
+    ghost use Rattle.lay_point.specs.declared.point.Point.{Point};
+
+    ghost Value = { List Point };
+
+    ghost view = { λ c. c.numbers };
+
+    ghost invariant = { λ c. c.finder ≡ c.numbers };
+}
+
+impl<'h> Centres<'h> {
+    /// Returns the hot centres of the segments. Slabs are made only where one of these is slanted.
+    ///
+    /// # Errors
+    ///
+    /// `NoMemory`, if an allocation fails, and where there are 2^32 centres or more.
+    pub fn of(
+        alloc: Global,
+        segments: &[Segment],
+        found: &'h HotSet,
+    ) -> Result<Centres<'h>, NoMemory>
+        ensures { IfOk result (λ centres. centres ≡ found.now) }
+    {
+        let numbers = Numbers::new(alloc, found)?;
+        let finder = finder_of(alloc, segments, found)?;
+        Ok(Centres { numbers, finder })
+    }
+
+    /// Returns the numbers of the chain of a segment, in the order in which it goes.
+    ///
+    /// # Errors
+    ///
+    /// `NoMemory`, if an allocation fails.
+    ///
+    /// # Cost
+    ///
+    /// That of the chain, and a binary search for each of its centres.
+    pub fn chain_numbers(&self, alloc: Global, segment: &Segment) -> Result<Vec<u32>, NoMemory>
+        ensures inside { IfOk result (λ numbers. (k : ℕ) → Contains numbers.items k → k < length self.now) }
+        ensures chain { IfOk result (λ numbers. IsChain (Contains self.now) segment.now (centres_at self.now numbers.items)) }
+    {
+        let points = chain_in(alloc, segment, &self.finder)?;
+        let numbers = numbers_of(alloc, &self.numbers, points.as_slice())?;
+        Ok(numbers)
+    }
+}
+
+/// Returns a finder in these centres. Slabs serve slanted segments alone.
+fn finder_of<'h>(
+    alloc: Global,
+    segments: &[Segment],
+    found: &'h HotSet,
+) -> Result<Finder<'h>, AllocError>
+    ensures { IfOk result (λ finder. finder ≡ found.now) }
+{
+    if segments.iter().any(is_slanted) {
+        return Finder::with_slabs(alloc, found);
+    }
+    Ok(Finder::plain(alloc, found))
+}
+
+/// Returns whether the segment is neither level nor upright.
+fn is_slanted(segment: &Segment) -> bool {
+    segment.a().x != segment.b().x && segment.a().y != segment.b().y
+}
+
+/// Returns the numbers of these centres.
+fn numbers_of(alloc: Global, numbers: &Numbers, points: &[Point]) -> Result<Vec<u32>, AllocError>
+    requires { (c : Point) → Contains points.now c → Contains numbers.now c }
+    ensures centres { IfOk result (λ found. centres_at numbers.now found.items ≡ points.now) }
+    ensures inside { IfOk result (λ found. (k : ℕ) → Contains found.items k → k < length numbers.now) }
+{
+    let mut found = Vec::with_capacity(alloc, points.len())?;
+    for point in points {
+        found.push(numbers.number(*point))?;
+    }
+    Ok(found)
+}

@@ -1,0 +1,133 @@
+//! The edges that passes go, and the owners of each, read of sorted passes.
+ghost use Rattle.std.specs.Prelude.{◌≡◌, ◌↔◌, ◌<◌, Contains, IfOk, IsTrue, OnOk, length, map};
+ghost use Rattle.std.specs.List.Sorted.{IsPermutation, IsSorted};
+ghost use Rattle.lay_point.specs.Points.{IsBefore};
+ghost use Rattle.lay_point.specs.Rising.{IsRising};
+ghost use Rattle.snap_chains.specs.declared.pass.Pass.{Pass};
+ghost use Rattle.snap_chains.specs.Passes.{HasCentres, edge_at, visit_at};
+ghost use Rattle.snap_chains.specs.Reading.{EndsWith, IsGroup, IsOddAdded, IsReadAs, IsView, ends_of, pass_cmp};
+
+use crate::owner::Owner;
+use crate::owner_lists::{OwnerLists, Part};
+use crate::pass::{Pass, is_same_edge};
+use lay_point::{Edge, Point};
+use rayon::slice::par_sort_unstable;
+use std::alloc::{AllocError, Global};
+use std::thread::Threads;
+
+/// Returns the edges that the passes go, each once and in order, and the owners that go each an odd number of
+/// times. The passes are sorted in as many threads as there are processors.
+///
+/// # Errors
+///
+/// `AllocError`, if an allocation fails.
+///
+/// # Cost
+///
+/// A sort of the passes, and one pass over them.
+pub(crate) fn read(
+    rt: &(impl Threads + Sync),
+    alloc: Global,
+    passes: Vec<Pass>,
+    centres: &[Point],
+) -> Result<(Vec<Edge>, OwnerLists), AllocError>
+    requires rising { IsRising IsBefore centres.now }
+    requires inside { (p : Pass) → Contains passes.items p → HasCentres centres.now p }
+    ensures { IfOk result (λ r. IsView (map (visit_at centres.now) passes.items) r.0.items r.1) }
+{
+    let sorted = in_order(rt, passes);
+    let found = read_sorted(alloc, sorted.as_slice(), centres)?;
+    Ok(found)
+}
+
+/// Returns the passes in order.
+fn in_order(rt: &(impl Threads + Sync), passes: Vec<Pass>) -> Vec<Pass>
+    ensures permutation { IsPermutation passes.items result.items }
+    ensures sorted { IsSorted pass_cmp result.items }
+{
+    let mut passes = passes;
+    par_sort_unstable(rt, passes.as_mut_slice());
+    passes
+}
+
+/// Returns the edges of sorted passes, and the owners of each.
+fn read_sorted(
+    alloc: Global,
+    passes: &[Pass],
+    centres: &[Point],
+) -> Result<(Vec<Edge>, OwnerLists), AllocError>
+    requires sorted { IsSorted pass_cmp passes.now }
+    requires rising { IsRising IsBefore centres.now }
+    requires inside { (p : Pass) → Contains passes.now p → HasCentres centres.now p }
+    ensures { IfOk result (λ r. IsReadAs centres.now passes.now r.0.items r.1) }
+{
+    let mut edges = Vec::with_capacity(alloc, passes.len())?;
+    let mut owners = Vec::with_capacity(alloc, passes.len())?;
+    let mut parts = Vec::with_capacity(alloc, passes.len())?;
+    let mut rest = passes;
+    while let Some((first, _)) = rest.split_first() {
+        let (group, later) = rest.split_at(group_length(rest));
+        let from = owners.len();
+        add_odd(&mut owners, group, (first.low, first.high))?;
+        let to = owners.len();
+        parts.push(Part { from, to })?;
+        edges.push(edge_at(*first, centres))?;
+        rest = later;
+    }
+    Ok((edges, OwnerLists { owners, parts }))
+}
+
+/// Returns how many of the passes, from the first on, go the first's edge.
+fn group_length(passes: &[Pass]) -> usize
+    requires { 0 < length passes.now }
+    ensures { IsGroup passes.now result }
+{
+    let first = passes[0];
+    for number in 1..passes.len() {
+        if !is_same_edge(first, passes[number]) {
+            return number;
+        }
+    }
+    passes.len()
+}
+
+/// Returns the edge that the pass goes.
+fn edge_at(pass: Pass, centres: &[Point]) -> Edge
+    requires rising { IsRising IsBefore centres.now }
+    requires inside { HasCentres centres.now pass }
+    ensures { result ≡ edge_at centres.now pass }
+{
+    edge_between(centres[pass.low as usize], centres[pass.high as usize])
+}
+
+/// Returns the edge between two points, the lesser first.
+fn edge_between(low: Point, high: Point) -> Edge
+    requires { IsBefore low high }
+    ensures { result ≡ (low, high) }
+{
+    Edge::new(low, high).unwrap()
+}
+
+/// Adds the owners that are there an odd number of times among passes of one edge, in order.
+fn add_odd(owners: &mut Vec<Owner>, group: &[Pass], _edge: (u32, u32)) -> Result<(), AllocError>
+    requires sorted { IsSorted pass_cmp group.now }
+    requires same { (p : Pass) → Contains group.now p → ends_of p ≡ _edge }
+    ensures { OnOk result (IsOddAdded group.now _edge owners.old.items owners.new.items) }
+{
+    let base = owners.len();
+    for pass in group {
+        if ends_with(owners.as_slice(), base, pass.owner) {
+            owners.pop();
+        } else {
+            owners.push(pass.owner)?;
+        }
+    }
+    Ok(())
+}
+
+/// Returns whether the owner is the last, behind the first `base`.
+fn ends_with(owners: &[Owner], base: usize, owner: Owner) -> bool
+    ensures { IsTrue result ↔ EndsWith owners.now base owner }
+{
+    base < owners.len() && owners[owners.len() - 1] == owner
+}

@@ -1,0 +1,57 @@
+-- Runs: chains of sides along an axis, as numbers of hot centres.
+use Rattle.std.specs.Prelude.{◌≡◌, ◌⊎◌, ℕ, ◌<◌, ◌≤◌, ◌-◌, ◌^◌, pos, ◌<ℤ◌, List, map, length, slice_get, slice_index_or, Some, ◌↔◌, reverse, Contains}
+use Rattle.lay_point.specs.declared.point.Point.{Point}
+use Rattle.snap_pixels.specs.declared.segment.Segment.{Segment}
+use Rattle.snap_slabs.specs.declared.rows.RowKey.{RowKey}
+use Rattle.lay_point.specs.Points.{IsBefore}
+use Rattle.snap_edge_laws.specs.Chains.{IsChain}
+use Rattle.lay_point.specs.Rising.{IsRising}
+
+abbrev pub origin : Point
+origin = record { x = pos 0; y = pos 0 }
+
+-- the centre of this number
+abbrev pub centre_at : List Point → ℕ → Point
+centre_at hot i = slice_index_or hot i origin
+
+abbrev pub centres_at : List Point → List ℕ → List Point
+centres_at hot numbers = map (centre_at hot) numbers
+
+-- the key of the centre of this number, by which centres are in the order of rows
+abbrev pub row_key : List Point → ℕ → RowKey
+row_key hot i = record { row = (centre_at hot i).y; back = 4294967295 - i }
+
+abbrev pub number_of : RowKey → ℕ
+number_of k = 4294967295 - k.back
+
+-- by row upward, in a row from right to left
+abbrev pub IsRowBefore : Point → Point → Type 0
+IsRowBefore p q = (p.y <ℤ q.y) ⊎ ((p.y ≡ q.y) × (q.x <ℤ p.x))
+
+-- the segment goes from the centre of the one number to that of the other
+abbrev pub IsSide : List Point → Segment → ℕ → ℕ → Type 0
+IsSide hot s i j = (slice_get hot i ≡ Some s.a) × (slice_get hot j ≡ Some s.b)
+
+-- the centres of these numbers are the segment's chain, forth or back
+abbrev pub IsRun : List Point → Segment → List ℕ → Type 0
+IsRun hot s numbers =
+    IsChain (Contains hot) s (centres_at hot numbers) ⊎ IsChain (Contains hot) s (reverse (centres_at hot numbers))
+
+-- the centres rise, the other list has their numbers by rows, and the last has where each number is in that list
+pub record AreNumbered (hot : List Point) (rows places : List ℕ) : Type 0 where
+  pub rising : IsRising IsBefore hot
+  pub by_row : IsRising IsRowBefore (centres_at hot rows)
+  pub members : (c : Point) → Contains (centres_at hot rows) c ↔ Contains hot c
+  pub inside : (k : ℕ) → Contains rows k → k < length hot
+  pub few : length hot < 2 ^ 32
+  pub as_many : length places ≡ length hot
+  pub placed : (i : ℕ) → i < length hot → slice_get rows (slice_index_or places i 0) ≡ Some i
+
+-- the first and the last of two numbers
+pub record AreEnds (i j first last : ℕ) : Type 0 where
+  pub first_low : first ≤ i
+  pub first_high : first ≤ j
+  pub last_low : i ≤ last
+  pub last_high : j ≤ last
+  pub first_is : (first ≡ i) ⊎ (first ≡ j)
+  pub last_is : (last ≡ i) ⊎ (last ≡ j)
