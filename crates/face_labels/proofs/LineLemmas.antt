@@ -1,28 +1,34 @@
 -- The line of a sweep when it passes a stop.
-use Rattle.std.proofs.Common.{◌≡◌, ⊎_elim, ℕ, ◌-◌, ◌<◌, ◌≤◌, Bool, List, ◌++◌, length, get_or, take, drop, append_assoc}
-use Rattle.std.proofs.Common.{Contains, ap, subst, ◌∙◌, arith}
+use Rattle.std.proofs.Common.{◌≡◌, ⊎_elim, ℕ, ◌+◌, ◌-◌, ◌<◌, ◌≤◌, Bool, List, ◌++◌, length, get_or, take, drop, append_assoc}
+use Rattle.std.proofs.Common.{Contains, pos, ◌≤ℤ◌, ◌<ℤ◌, refl, sym, ap, subst, ◌∙◌, arith}
 use Rattle.std.specs.Prelude.{All, slice_range}
-use Rattle.std.proofs.lemmas.List.{drop_at, get_or_default, length-take-le, take_rest}
+use Rattle.std.proofs.Math.ListN.{take-append-drop}
+use Rattle.std.proofs.lemmas.Bool.{cases_lt}
+use Rattle.std.proofs.lemmas.List.{drop-drop, drop_at, get_or-drop, get_or_append_left, get_or_default, length-drop, length-take-le, take_at}
 use Rattle.std.proofs.lemmas.List.Elements.{Contains-append_left, Contains-append_right}
+use Rattle.lay_point.proofs.Signs.{linear}
 use Rattle.lay_point.specs.declared.point.Point.{Point}
 use Rattle.lay_point.proofs.Members.{Has, contains, has, has-append}
+use Rattle.snap_chains.specs.declared.owner.Owner.{Owner}
 use Rattle.snap_chains.specs.Rounded.{Owned}
 use Rattle.face_rows.specs.Rows.{CrossesRow}
 use Rattle.face_rows.specs.Sound.{AreSound}
 use Rattle.face_rows.specs.declared.op.Op.{Op}
 use Rattle.face_rows.proofs.RowLemmas.{has_get}
 use Rattle.face_sweep.specs.declared.known.Known.{Known}
-use Rattle.face_sweep.specs.declared.reach.Reach.{Reach}
 use Rattle.face_sweep.specs.declared.stops.Stop.{Stop}
 use Rattle.face_sweep.specs.declared.stops.Stops.{Stops}
-use Rattle.face_sweep.specs.Points.{HasLow, IsGroup, IsLevelFrom}
-use Rattle.face_sweep.specs.Reaches.{IsReach, IsReachIn}
-use Rattle.face_sweep.specs.Sides.{IsKnown}
+use Rattle.face_sweep.specs.OwnRows.{IsCutAt, own_edge, own_of}
+use Rattle.face_sweep.specs.Points.{AreBegunAt, HasHigh, HasLow, IsGroup, IsLevelFrom, IsPassed, IsStatus, distance_from}
+use Rattle.face_sweep.specs.Sides.{AreBehind, IsKnown, holds_beside, is_odd_in}
 use Rattle.face_sweep.specs.Stops.{AreStops}
 use Rattle.face_sweep.proofs.PassLemmas.{AreRest, has_back, has_front, none_of_group}
-use Rattle.face_sweep.proofs.ReachLemmas.{row_ends}
+use Rattle.face_sweep.proofs.OwnLemmas.{own_append}
+use Rattle.face_sweep.proofs.PointLemmas.{begins_none, ends_none}
+use Rattle.face_sweep.proofs.ReplaceLemmas.{status_given}
+use Rattle.face_sweep.proofs.StateLemmas.{split_at}
 use Rattle.face_sweep.proofs.SweepLemmas.{is_end}
-use Rattle.face_labels.specs.RowSides.{AreSplit, HasLabel, IsStopOf}
+use Rattle.face_labels.specs.RowSides.{AreSplit, HasLabel, IsSweepStop}
 use Rattle.face_labels.proofs.BegunLemmas.{rises_or_level}
 
 pub all_in : (P : ℕ → Type 0) (xs : List ℕ) → ((n : ℕ) → Contains xs n → P n) → All P xs
@@ -31,23 +37,6 @@ all_in P xs f k d less = f (get_or xs k d) (contains xs (get_or xs k d) (has_get
 pub in_all : (P : ℕ → Type 0) (xs : List ℕ) (n : ℕ) → All P xs → Contains xs n → P n
 in_all P xs n all m = subst P m.2 (all m.0 n m.1)
 
--- ---- the edges right of the point
-pub rest_given : (r : Owned) (p : Point) (numbers : List ℕ) → AreRest r p numbers → All (λ n. n < length r.0) numbers
-rest_given r p numbers h = all_in (λ n. n < length r.0) numbers (λ n found. (h.row.members n found).0)
-
-pub rest_reach : (r : Owned) (reach : Reach) (p : Point) (numbers : List ℕ) → AreSound r → IsReach r reach → AreRest r p numbers
-    → IsReachIn r reach numbers
-rest_reach r reach p numbers sound all h = row_ends r reach p.y numbers sound all h.row
-
--- what code gives for those behind the group, once it is replaced
-pub behind_is : (old new begun : List ℕ) (from to : ℕ) → from ≤ to → to ≤ length old → new ≡ take from old ++ begun ++ drop to old
-    → take (length new - from) (drop from new) ≡ begun ++ drop to old
-behind_is old new begun from to order bound is =
-    take_rest new from
-    ∙ ap (drop from) (is ∙ append_assoc (take from old) begun (drop to old))
-    ∙ drop_at (take from old) (begun ++ drop to old) from (length-take-le from old (omega arith))
-
--- ---- the sides that are known
 among_front : (xs : List ℕ) (from n : ℕ) → from ≤ length xs → Contains (take from xs) n → Contains xs n
 among_front xs from n bound found =
     let f = has_front xs from n bound found in
@@ -57,10 +46,131 @@ among_front xs from n bound found =
 among_back : (xs : List ℕ) (to n : ℕ) → Contains (drop to xs) n → Contains xs n
 among_back xs to n found = let b = has_back xs to n found in (b.0, b.2, get_or_default xs b.0 n 0 b.2 ∙ b.3)
 
-pub known_back : (numbers : List ℕ) (to : ℕ) (known : Known) → ((n : ℕ) → Contains numbers n → IsKnown known n)
-    → All (IsKnown known) (drop to numbers)
-known_back numbers to known all = all_in (IsKnown known) (drop to numbers) (λ n found. all n (among_back numbers to n found))
+-- ---- the edges right of the point
+pub rest_given : (r : Owned) (p : Point) (numbers : List ℕ) → AreRest r p numbers → All (λ n. n < length r.0) numbers
+rest_given r p numbers h = all_in (λ n. n < length r.0) numbers (λ n found. (h.row.members n found).0)
 
+-- those behind an edge of the row tell what holds beside it
+module _ (r : Owned) (numbers : List ℕ) (from : ℕ) (h : AreBehind r (drop from numbers)) where
+  pub beside_at : (k : ℕ) → from ≤ k → k < length numbers → (o : Owner)
+      → is_odd_in r (drop (k + 1) numbers) o ≡ holds_beside r (get_or numbers k 0) o
+  beside_at k le less o =
+      let i = k - from in
+      let there : from + i ≡ k = omega arith in
+      let next : from + (i + 1) ≡ k + 1 = omega arith in
+      ap (λ j. is_odd_in r (drop j numbers) o) (sym next)
+      ∙ ap (λ l. is_odd_in r l o) (sym (drop-drop (i + 1) from numbers))
+      ∙ h i (omega (arith, length-drop from numbers)) o
+      ∙ ap (λ n. holds_beside r n o) (get_or-drop from numbers i 0 ∙ ap (λ j. get_or numbers j 0) there)
+
+  pub behind_at : (k : ℕ) → from ≤ k → AreBehind r (drop k numbers)
+  behind_at k le i less o =
+      let next : k + (i + 1) ≡ (k + i) + 1 = omega arith in
+      ap (λ l. is_odd_in r l o) (drop-drop (i + 1) k numbers)
+      ∙ ap (λ j. is_odd_in r (drop j numbers) o) next
+      ∙ beside_at (k + i) (omega arith) (omega (arith, length-drop k numbers, less)) o
+      ∙ ap (λ n. holds_beside r n o) (sym (get_or-drop k numbers i 0))
+
+-- ---- the list once the group is replaced
+module _ (old new begun : List ℕ) (from to : ℕ) (order : from ≤ to) (bound : to ≤ length old)
+    (is : new ≡ take from old ++ begun ++ drop to old) where
+  long : length (take from old) ≡ from
+  long = length-take-le from old (omega arith)
+
+  joined : new ≡ take from old ++ (begun ++ drop to old)
+  joined = is ∙ append_assoc (take from old) begun (drop to old)
+
+  pub new_front : take from new ≡ take from old
+  new_front = ap (take from) joined ∙ take_at (take from old) (begun ++ drop to old) from long
+
+  pub new_back : drop from new ≡ begun ++ drop to old
+  new_back = ap (drop from) joined ∙ drop_at (take from old) (begun ++ drop to old) from long
+
+  pub new_rest : drop (from + length begun) new ≡ drop to old
+  new_rest = sym (drop-drop (length begun) from new) ∙ ap (drop (length begun)) new_back
+      ∙ drop_at begun (drop to old) (length begun) refl
+
+  pub new_at : (k : ℕ) → k < length begun → get_or new (from + k) 0 ≡ get_or begun k 0
+  new_at k less = sym (get_or-drop from new k 0) ∙ ap (λ l. get_or l k 0) new_back ∙ get_or_append_left begun (drop to old) 0 k less
+
+-- ---- where they are beside the point
+module _ (r : Owned) (p : Point) (numbers : List ℕ) (from to : ℕ) (sound : AreSound r) (h : IsGroup r p numbers from to) where
+  front_left : (n : ℕ) → Contains (take from numbers) n → distance_from r p n <ℤ pos 0
+  front_left n found =
+      let f = has_front numbers from n (omega (arith, h.order, h.bound)) found in
+      subst (λ j. distance_from r p j <ℤ pos 0) f.2 (h.left f.0 f.1)
+
+  back_right : (n : ℕ) → Contains (drop to numbers) n → pos 0 ≤ℤ distance_from r p n
+  back_right n found =
+      let b = has_back numbers to n found in
+      let far = subst (λ j. pos 0 <ℤ distance_from r p j) b.3 (h.right b.0 b.1 b.2) in
+      omega (arith, linear, far)
+
+  group_right : (n : ℕ) → Contains (drop from numbers) n → pos 0 ≤ℤ distance_from r p n
+  group_right n found =
+      let b = has_back numbers from n found in
+      ⊎_elim
+      (λ (ends : b.0 < to).
+      let none = ends_none r sound p n (subst (HasHigh r p) b.3 (h.ends b.0 b.1 ends)) in
+      omega (arith, linear, none))
+      (λ (right : to ≤ b.0).
+      let far = subst (λ j. pos 0 <ℤ distance_from r p j) b.3 (h.right b.0 right b.2) in
+      omega (arith, linear, far))
+      (cases_lt b.0 to)
+
+  pub group_cut : IsCutAt r p (drop from numbers) (take from numbers)
+  group_cut = record { not_left = group_right; are_left = front_left }
+
+  pub rest_cut : IsCutAt r p (drop to numbers) (take from numbers)
+  rest_cut = record { not_left = back_right; are_left = front_left }
+
+  pub begun_cut : (begun : List ℕ) → AreBegunAt r p begun → IsCutAt r p (begun ++ drop to numbers) (take from numbers)
+  begun_cut begun b = record {
+    not_left = λ n found. ⊎_elim
+        (λ (rises : Has begun n).
+        let none = begins_none r sound p n (b.at n (contains begun n rises)) in
+        omega (arith, linear, none))
+        (λ (back : Has (drop to numbers) n). back_right n (contains (drop to numbers) n back))
+        (has-append begun (drop to numbers) n (has (begun ++ drop to numbers) n found));
+    are_left = front_left;
+  }
+
+-- those of a later part are of the whole
+pub cut_later : (r : Owned) (p : Point) (numbers left : List ℕ) (from k : ℕ) → from ≤ k → IsCutAt r p (drop from numbers) left
+    → IsCutAt r p (drop k numbers) left
+cut_later r p numbers left from k le h = record {
+  not_left = λ n found. h.not_left n (later n found);
+  are_left = h.are_left;
+}
+  where
+    later : (n : ℕ) → Contains (drop k numbers) n → Contains (drop from numbers) n
+    later n found =
+        let there : from + (k - from) ≡ k = omega arith in
+        among_back (drop from numbers) (k - from) n
+        (subst (λ l. Contains l n) (sym (drop-drop (k - from) from numbers ∙ ap (λ j. drop j numbers) there)) found)
+
+pub passed_given : (r : Owned) (p : Point) (numbers : List ℕ) → IsPassed r p numbers → All (λ n. n < length r.0) numbers
+passed_given r p numbers s = all_in (λ n. n < length r.0) numbers (λ n found. ⊎_elim
+    (λ (below : Has s.below n). (s.row_below.members n (contains s.below n below)).0)
+    (λ (above : Has s.above n). (s.row_above.members n (contains s.above n above)).0)
+    (has-append s.below s.above n (has (s.below ++ s.above) n (subst (λ l. Contains l n) s.joined found))))
+
+pub all_given : (r : Owned) (p : Point) (numbers : List ℕ) → IsStatus r p numbers → All (λ n. n < length r.0) numbers
+all_given r p numbers s k d less =
+    subst (λ m. m < length r.0) (get_or_default numbers k 0 d less) (status_given r p numbers s k less)
+
+-- ---- the edges of single shapes
+-- those of an edge and of those behind it
+pub own_split : (r : Owned) (o : Owner) (numbers : List ℕ) (i : ℕ) → i < length numbers
+    → own_of r o (drop (i + 1) numbers) ++ own_edge r o (get_or numbers i 0) ≡ own_of r o (drop i numbers)
+own_split r o numbers i less = sym (ap (own_of r o) (split_at numbers i less))
+
+pub own_joined : (r : Owned) (o : Owner) (numbers : List ℕ) (from : ℕ)
+    → own_of r o (drop from numbers) ++ own_of r o (take from numbers) ≡ own_of r o numbers
+own_joined r o numbers from =
+    sym (own_append r o (take from numbers) (drop from numbers)) ∙ ap (own_of r o) (take-append-drop from numbers)
+
+-- ---- the sides that are known
 -- those of the group are forgotten
 module _ (r : Owned) (p : Point) (numbers : List ℕ) (from to : ℕ) (sound : AreSound r) (h : IsGroup r p numbers from to) (old known : Known)
     (all : (n : ℕ) → Contains numbers n → IsKnown old n)
@@ -75,16 +185,16 @@ module _ (r : Owned) (p : Point) (numbers : List ℕ) (from to : ℕ) (sound : A
       kept n (none_of_group r p numbers from to n sound h (Contains-append_left (take from numbers) (drop to numbers) n found))
       (all n (among_front numbers from n (omega (arith, h.order, h.bound)) found))
 
-  -- and those of the edges that begin are found
-  pub known_all : (new begun : List ℕ) (last : Known) → new ≡ take from numbers ++ begun ++ drop to numbers
-      → ((n : ℕ) → IsKnown known n → IsKnown last n) → All (IsKnown last) (begun ++ drop to numbers)
-      → (n : ℕ) → Contains new n → IsKnown last n
-  known_all new begun last is still found n there = ⊎_elim
-      (λ (front : Has (take from numbers) n). still n (known_front n (contains (take from numbers) n front)))
-      (λ (back : Has (begun ++ drop to numbers) n).
-      in_all (IsKnown last) (begun ++ drop to numbers) n found (contains (begun ++ drop to numbers) n back))
-      (has-append (take from numbers) (begun ++ drop to numbers) n (has (take from numbers ++ (begun ++ drop to numbers)) n
-      (subst (λ ns. Contains ns n) (is ∙ append_assoc (take from numbers) begun (drop to numbers)) there)))
+-- and those of the edges that begin are found
+pub known_all : (numbers new begun : List ℕ) (from to : ℕ) (known last : Known) → new ≡ take from numbers ++ begun ++ drop to numbers
+    → ((n : ℕ) → Contains (take from numbers) n → IsKnown known n) → ((n : ℕ) → IsKnown known n → IsKnown last n)
+    → All (IsKnown last) (begun ++ drop to numbers) → (n : ℕ) → Contains new n → IsKnown last n
+known_all numbers new begun from to known last is left still found n there = ⊎_elim
+    (λ (front : Has (take from numbers) n). still n (left n (contains (take from numbers) n front)))
+    (λ (back : Has (begun ++ drop to numbers) n).
+    in_all (IsKnown last) (begun ++ drop to numbers) n found (contains (begun ++ drop to numbers) n back))
+    (has-append (take from numbers) (begun ++ drop to numbers) n (has (take from numbers ++ (begun ++ drop to numbers)) n
+    (subst (λ ns. Contains ns n) (is ∙ append_assoc (take from numbers) begun (drop to numbers)) there)))
 
 -- ---- the labels of the edges that begin at a point
 pub begun_labels : (r : Owned) (op : Op) (p : Point) (numbers : List ℕ) (index : ℕ) (first last : List Bool) → AreSplit r p numbers index
@@ -97,6 +207,6 @@ begun_labels r op p numbers index first last h levels kept begun n given low = �
 
 -- ---- the stops
 pub stop_is : (r : Owned) (stops : Stops) → AreStops r stops → (k : ℕ) (d : Stop) → k < length stops.list.items
-    → IsStopOf r stops (get_or stops.list.items k d)
+    → IsSweepStop r stops (get_or stops.list.items k d)
 stop_is r stops h k d less =
     record { end = is_end r stops h d k less; order = h.order k d less; bound = h.bound k d less; begun = h.begun k d less }

@@ -1,10 +1,10 @@
 -- The labels that are written.
-use Rattle.std.proofs.Common.{◌≡◌, ℕ, zero, suc, ◌+◌, ◌<◌, ◌≤◌, Bool, true, false, cond, List, [], ◌∷◌}
-use Rattle.std.proofs.Common.{length, get_or, set, take, refl, sym, subst, ◌∙◌, arith}
+use Rattle.std.proofs.Common.{◌≡◌, ℕ, zero, suc, ◌+◌, ◌<◌, Bool, true, false, cond, List, [], ◌∷◌}
+use Rattle.std.proofs.Common.{length, get_or, set, refl, sym, subst, ◌∙◌, arith}
 use Rattle.std.specs.Prelude.{All, nat_eq}
 use Rattle.std.specs.List.{zip}
 use Rattle.std.proofs.lemmas.Bool.Decides.{Decides-eqb}
-use Rattle.std.proofs.lemmas.List.{get_or-set_other, get_or-set_same, get_or-take, get_or_default, length-take-le}
+use Rattle.std.proofs.lemmas.List.{get_or-set_other, get_or-set_same, get_or_default}
 use Rattle.lay_point.specs.declared.point.Point.{Point}
 use Rattle.snap_chains.specs.declared.owner.Owner.{Owner}
 use Rattle.snap_chains.specs.Rounded.{Owned}
@@ -32,11 +32,6 @@ label_kept op r labels n label m less is h = by_number (nat_eq n m) refl
         get_or-set_other labels n m label false (λ same. let t' = (Decides-eqb n m).1 (sym same) in absurd cc) ∙ h
 
 -- ---- lists
-pub all_taken : (P : ℕ → Type 0) (xs : List ℕ) (n : ℕ) → n ≤ length xs → ((k : ℕ) → k < n → P (get_or xs k 0)) → All P (take n xs)
-all_taken P xs n bound so_far k d less =
-    let short : k < n = subst (λ m. k < m) (length-take-le n xs bound) less in
-    subst P (get_or_default xs k 0 d (omega arith) ∙ sym (get_or-take n xs k d short)) (so_far k short)
-
 pub all_found : (P : ℕ → Type 0) (xs : List ℕ) → ((k : ℕ) → k < length xs → P (get_or xs k 0)) → All P xs
 all_found P xs so_far k d less = subst P (get_or_default xs k 0 d less) (so_far k less)
 

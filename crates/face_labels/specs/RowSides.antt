@@ -1,5 +1,5 @@
 -- The edges of the sweep at a stop, with the sides of each, and the labels that are written.
-use Rattle.std.specs.Prelude.{◌≡◌, ℕ, ◌≤◌, Bool, false, Contains, List, drop, length, slice_index_or, slice_range, take}
+use Rattle.std.specs.Prelude.{◌≡◌, ℕ, ◌≤◌, Bool, false, Contains, List, ◌++◌, drop, length, slice_index_or, slice_range, take}
 use Rattle.lay_point.specs.declared.point.Point.{Point}
 use Rattle.snap_chains.specs.Rounded.{Owned}
 use Rattle.face_rows.specs.declared.op.Op.{Op}
@@ -9,10 +9,13 @@ use Rattle.face_rows.specs.Lines.{owned_item_at}
 use Rattle.face_rows.specs.Operations.{answer}
 use Rattle.face_sweep.specs.declared.stops.Stop.{Stop}
 use Rattle.face_sweep.specs.declared.stops.Stops.{Stops}
-use Rattle.face_sweep.specs.Points.{AreBegunAt, IsEndPoint, IsLevelFrom, IsPassed, IsStatus}
-use Rattle.face_sweep.specs.Reaches.{IsReach}
+use Rattle.face_sweep.specs.declared.reach.Reach.{Reach}
+use Rattle.face_sweep.specs.OwnRows.{AreOwn, HasRoom, own_of}
+use Rattle.face_sweep.specs.Points.{AreBegunAt, IsEndPoint, IsGroup, IsLevelFrom, IsPassed, IsStatus}
+use Rattle.face_sweep.specs.Reaches.{IsReach, keys_of}
 use Rattle.face_sweep.specs.Sides.{AreKnown, IsKnown}
 use Rattle.face_sweep.specs.Stops.{AreStops, BeginAt}
+use Rattle.face_labels.specs.declared.group.Group.{Group}
 use Rattle.face_labels.specs.declared.line.Line.{Line}
 use Rattle.face_labels.specs.declared.shared.Shared.{Shared}
 
@@ -23,7 +26,7 @@ pub record IsShared (r : Owned) (shared : Shared) : Type 0 where
   pub stops : AreStops r shared.stops
 
 -- a stop, with the edges that begin there
-pub record IsStopOf (r : Owned) (stops : Stops) (stop : Stop) : Type 0 where
+pub record IsSweepStop (r : Owned) (stops : Stops) (stop : Stop) : Type 0 where
   pub end : IsEndPoint r stop.point
   pub order : stop.from ≤ stop.to
   pub bound : stop.to ≤ length stops.begun.items
@@ -36,17 +39,32 @@ pub record AreSplit (r : Owned) (p : Point) (numbers : List ℕ) (index : ℕ) :
   pub levels : (n : ℕ) → Contains (drop index numbers) n → IsLevelFrom r p n
   pub all_levels : (n : ℕ) → IsLevelFrom r p n → Contains (drop index numbers) n
 
--- the edges at the point, with the sides of all of them
-pub record IsLineAt (r : Owned) (p : Point) (line : Line) : Type 0 where
+-- the edges at the point, with the sides of all of them, and those that single shapes own
+pub record IsLineAt (r : Owned) (reach : Reach) (p : Point) (line : Line) : Type 0 where
   pub status : IsStatus r p line.numbers.items
   pub known : AreKnown r line.known
   pub all : (n : ℕ) → Contains line.numbers.items n → IsKnown line.known n
+  pub room : HasRoom r (keys_of reach) line.own
+  pub own : AreOwn (keys_of reach) (λ o. own_of r o line.numbers.items) line.own
 
--- the same once the point is passed
-pub record IsLinePast (r : Owned) (p : Point) (line : Line) : Type 0 where
+-- the same, but of the edges of the group, which end at its point, only the numbers
+pub record IsLineWithout (r : Owned) (reach : Reach) (gone : Group) (line : Line) : Type 0 where
+  pub status : IsStatus r gone.point line.numbers.items
+  pub group : IsGroup r gone.point line.numbers.items gone.from gone.to
+  pub known : AreKnown r line.known
+  pub all_left : (n : ℕ) → Contains (take gone.from line.numbers.items) n → IsKnown line.known n
+  pub all_right : (n : ℕ) → Contains (drop gone.to line.numbers.items) n → IsKnown line.known n
+  pub room : HasRoom r (keys_of reach) line.own
+  pub own : AreOwn (keys_of reach)
+      (λ o. own_of r o (drop gone.to line.numbers.items) ++ own_of r o (take gone.from line.numbers.items)) line.own
+
+-- the same as at a point once it is passed
+pub record IsLinePast (r : Owned) (reach : Reach) (p : Point) (line : Line) : Type 0 where
   pub passed : IsPassed r p line.numbers.items
   pub known : AreKnown r line.known
   pub all : (n : ℕ) → Contains line.numbers.items n → IsKnown line.known n
+  pub room : HasRoom r (keys_of reach) line.own
+  pub own : AreOwn (keys_of reach) (λ o. own_of r o line.numbers.items) line.own
 
 -- at the edge's number is its label
 abbrev pub HasLabel : Op → Owned → List Bool → ℕ → Type 0

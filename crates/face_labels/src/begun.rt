@@ -2,13 +2,14 @@
 ghost use Rattle.std.specs.Prelude.{
   ◌≡◌,
   ◌+◌,
+  ◌++◌,
   ◌<◌,
   ◌≤◌,
   ℕ,
   All,
   Contains,
-  IfOk,
   OnOk,
+  Some,
   drop,
   int_lt,
   length,
@@ -20,16 +21,19 @@ ghost use Rattle.face_rows.specs.Labels.{differs, owned_items};
 ghost use Rattle.face_rows.specs.Lines.{edge_at, owned_item_at};
 ghost use Rattle.face_rows.specs.Operations.{answer};
 ghost use Rattle.face_rows.specs.Rows.{upward};
-ghost use Rattle.face_sweep.specs.Reaches.{IsReachIn};
+ghost use Rattle.face_rows.specs.Sound.{AreSound};
+ghost use Rattle.face_sweep.specs.OwnRows.{AreOwn, AreRight, HasPutEdge, HasRoom, IsCutAt, own_of};
+ghost use Rattle.face_sweep.specs.Reaches.{IsReach, keys_of};
 ghost use Rattle.face_sweep.specs.Sides.{AreBehind, AreKnown, IsKnown, holds_beside, is_odd_in};
 ghost use Rattle.face_sweep.specs.Stops.{BeginAt};
 ghost use Rattle.face_labels.specs.RowSides.{AreSplit, HasLabel};
 
+use crate::group::Group;
 use face_rows::{Op, upward};
-use face_sweep::{Known, Reach, Sides};
+use face_sweep::{Known, OwnRows, Reach, Sides};
 use lay_point::Point;
 use snap_chains::CleanEdges;
-use std::alloc::{AllocError, Global};
+use std::alloc::AllocError;
 
 /// Returns how many of the edges that begin at the point rise from it. They stand before a level one.
 pub(crate) fn rising_count(edges: &CleanEdges, point: Point, begun: &[usize]) -> usize
@@ -53,136 +57,174 @@ fn rises_above(edges: &CleanEdges, number: usize, point: Point) -> bool
     point.y < high.y
 }
 
-/// Writes the labels of level edges, above which holds what these edges, of all that are right of them, tell.
-///
-/// # Errors
-///
-/// `AllocError`, if an allocation fails.
+/// Writes the labels of level edges that begin at the point. Above them holds what these edges tell, which are all
+/// that are right of it. The lists of single shapes have none that ends there.
 pub(crate) fn label_levels(
-    alloc: Global,
     edges: &CleanEdges,
     behind: &[usize],
     levels: &[usize],
+    point: Point,
     known: &Known,
+    own: &OwnRows,
     reach: &Reach,
     op: Op,
     labels: &mut Vec<bool>,
-) -> Result<(), AllocError>
+)
+    requires sound { AreSound edges.now }
     requires behind { AreBehind edges.now behind.now }
     requires given { All (λ n. n < length edges.now.0) behind.now }
     requires known { AreKnown edges.now known.now }
     requires all { All (IsKnown known.now) behind.now }
-    requires reach { IsReachIn edges.now reach.now behind.now }
+    requires reach { IsReach edges.now reach.now }
+    requires room { HasRoom edges.now (keys_of reach.now) own.now }
+    requires own { AreRight edges.now (keys_of reach.now) (Some point) behind.now own.now }
     requires levels { All (λ n. n < length edges.now.0) levels.now }
     requires beside { (n : ℕ) (o : Owner) → Contains levels.now n
         → is_odd_in edges.now behind.now o ≡ holds_beside edges.now n o }
     requires count { length labels.old.items ≡ length edges.now.0 }
     ensures count { length labels.new.items ≡ length edges.now.0 }
-    ensures kept { OnOk result ((n : ℕ) → HasLabel op edges.now labels.old.items n
-        → HasLabel op edges.now labels.new.items n) }
-    ensures labels { OnOk result (All (HasLabel op edges.now labels.new.items) levels.now) }
+    ensures kept { (n : ℕ) → HasLabel op edges.now labels.old.items n → HasLabel op edges.now labels.new.items n }
+    ensures labels { All (HasLabel op edges.now labels.new.items) levels.now }
 {
     for index in 0..levels.len() {
         let number = levels[index];
-        labels[number] = level_label(alloc, edges, behind, known, reach, number, op)?;
+        let label = level_label(edges, behind, point, known, own, reach, number, op);
+        labels[number] = label;
     }
-    Ok(())
 }
 
 /// Returns whether the operation's answers differ above and below a level edge, above which holds what these
 /// edges tell.
 fn level_label(
-    alloc: Global,
     edges: &CleanEdges,
     behind: &[usize],
+    point: Point,
     known: &Known,
+    own: &OwnRows,
     reach: &Reach,
     number: usize,
     op: Op,
-) -> Result<bool, AllocError>
+) -> bool
+    requires sound { AreSound edges.now }
     requires behind { AreBehind edges.now behind.now }
     requires given { All (λ n. n < length edges.now.0) behind.now }
     requires known { AreKnown edges.now known.now }
     requires all { All (IsKnown known.now) behind.now }
-    requires reach { IsReachIn edges.now reach.now behind.now }
+    requires reach { IsReach edges.now reach.now }
+    requires room { HasRoom edges.now (keys_of reach.now) own.now }
+    requires own { AreRight edges.now (keys_of reach.now) (Some point) behind.now own.now }
     requires number { number < length edges.now.0 }
     requires beside { (o : Owner) → is_odd_in edges.now behind.now o ≡ holds_beside edges.now number o }
-    ensures { IfOk result (λ label.
-        label ≡ differs (answer op) (owned_items edges.now) (owned_item_at edges.now number)) }
+    ensures { result ≡ differs (answer op) (owned_items edges.now) (owned_item_at edges.now number) }
 {
-    let sides = Sides::of(alloc, edges, behind, 0, 0, known, reach, number)?;
-    Ok(sides.differs(op))
+    let sides = Sides::of(edges, behind, known, reach, own, Some(point), number);
+    sides.differs(op)
 }
 
-/// Finds the sides of the first `count` of these edges, from right to left, and writes their labels. Those of the
-/// others are known.
+/// Finds the sides of the edges of the group, which begin at its point, from right to left, and writes their
+/// labels. Those of the edges behind them are known. The lists of single shapes have all edges of the line but
+/// these, which are put in.
 ///
 /// # Errors
 ///
 /// `AllocError`, if an allocation fails.
 pub(crate) fn find_begun(
-    alloc: Global,
     edges: &CleanEdges,
     numbers: &[usize],
-    count: usize,
+    group: Group,
     known: &mut Known,
+    own: &mut OwnRows,
     reach: &Reach,
     op: Op,
     labels: &mut Vec<bool>,
 ) -> Result<(), AllocError>
-    requires bound { count ≤ length numbers.now }
+    requires sound { AreSound edges.now }
+    requires reach { IsReach edges.now reach.now }
+    requires order { group.from ≤ group.to }
+    requires bound { group.to ≤ length numbers.now }
     requires given { All (λ n. n < length edges.now.0) numbers.now }
-    requires behind { AreBehind edges.now numbers.now }
+    requires behind { AreBehind edges.now (drop group.from numbers.now) }
     requires known { AreKnown edges.now known.old }
-    requires all { All (IsKnown known.old) (drop count numbers.now) }
-    requires reach { IsReachIn edges.now reach.now numbers.now }
+    requires all { All (IsKnown known.old) (drop group.to numbers.now) }
+    requires room { HasRoom edges.now (keys_of reach.now) own.old }
+    requires cut { IsCutAt edges.now group.point (drop group.from numbers.now) (take group.from numbers.now) }
+    requires own { AreOwn (keys_of reach.now)
+        (λ o. own_of edges.now o (drop group.to numbers.now) ++ own_of edges.now o (take group.from numbers.now)) own.old }
     requires count { length labels.old.items ≡ length edges.now.0 }
     ensures known { OnOk result (AreKnown edges.now known.new) }
     ensures kept { OnOk result ((n : ℕ) → IsKnown known.old n → IsKnown known.new n) }
-    ensures all { OnOk result (All (IsKnown known.new) numbers.now) }
+    ensures all { OnOk result (All (IsKnown known.new) (drop group.from numbers.now)) }
+    ensures room { OnOk result (HasRoom edges.now (keys_of reach.now) own.new) }
+    ensures own { OnOk result (AreOwn (keys_of reach.now) (λ o. own_of edges.now o numbers.now) own.new) }
     ensures count { length labels.new.items ≡ length edges.now.0 }
     ensures written { OnOk result ((n : ℕ) → HasLabel op edges.now labels.old.items n
         → HasLabel op edges.now labels.new.items n) }
-    ensures labels { OnOk result (All (HasLabel op edges.now labels.new.items) (take count numbers.now)) }
+    ensures labels { OnOk result ((k : ℕ) → group.from ≤ k → k < group.to
+        → HasLabel op edges.now labels.new.items (slice_index numbers.now k)) }
 {
-    let mut index = count;
-    while index > 0 {
+    let mut index = group.to;
+    while index > group.from {
         index -= 1;
-        find_labelled(alloc, edges, numbers, index, known, reach, op, labels)?;
+        find_labelled(
+            edges,
+            numbers,
+            index,
+            group.point,
+            known,
+            own,
+            reach,
+            op,
+            labels,
+        )?;
     }
     Ok(())
 }
 
-/// Finds the sides of the edge at this index, and writes its label. The sides of the edges behind it are known.
+/// Finds the sides of the edge at this index, which begins at the point, and writes its label. The sides of the
+/// edges behind it are known. It comes to the lists of single shapes.
+///
+/// # Errors
+///
+/// `AllocError`, if an allocation fails.
 fn find_labelled(
-    alloc: Global,
     edges: &CleanEdges,
     numbers: &[usize],
     index: usize,
+    point: Point,
     known: &mut Known,
+    own: &mut OwnRows,
     reach: &Reach,
     op: Op,
     labels: &mut Vec<bool>,
 ) -> Result<(), AllocError>
+    requires sound { AreSound edges.now }
+    requires reach { IsReach edges.now reach.now }
     requires index { index < length numbers.now }
     requires given { All (λ n. n < length edges.now.0) numbers.now }
-    requires behind { AreBehind edges.now numbers.now }
+    requires behind { AreBehind edges.now (drop (index + 1) numbers.now) }
+    requires beside { (o : Owner) → is_odd_in edges.now (drop (index + 1) numbers.now) o
+        ≡ holds_beside edges.now (slice_index numbers.now index) o }
     requires known { AreKnown edges.now known.old }
     requires all { All (IsKnown known.old) (drop (index + 1) numbers.now) }
-    requires reach { IsReachIn edges.now reach.now numbers.now }
+    requires room { HasRoom edges.now (keys_of reach.now) own.old }
+    requires own { AreRight edges.now (keys_of reach.now) (Some point) (drop (index + 1) numbers.now) own.old }
     requires count { length labels.old.items ≡ length edges.now.0 }
     ensures known { OnOk result (AreKnown edges.now known.new) }
     ensures kept { OnOk result ((n : ℕ) → IsKnown known.old n → IsKnown known.new n) }
     ensures here { OnOk result (IsKnown known.new (slice_index numbers.now index)) }
+    ensures room { OnOk result (HasRoom edges.now (keys_of reach.now) own.new) }
+    ensures put { OnOk result
+        (HasPutEdge edges.now (keys_of reach.now) (Some point) (slice_index numbers.now index) own.old own.new) }
     ensures count { length labels.new.items ≡ length edges.now.0 }
     ensures written { OnOk result ((n : ℕ) → HasLabel op edges.now labels.old.items n
         → HasLabel op edges.now labels.new.items n) }
     ensures label { OnOk result (HasLabel op edges.now labels.new.items (slice_index numbers.now index)) }
 {
     let number = numbers[index];
-    let next = index + 1;
-    let sides = Sides::of(alloc, edges, numbers, index, next, known, reach, number)?;
+    let behind = &numbers[index + 1..];
+    let sides = Sides::of(edges, behind, known, reach, own, Some(point), number);
     labels[number] = sides.differs(op);
     known.put(number, sides)?;
+    own.put(edges, reach, number, Some(point))?;
     Ok(())
 }

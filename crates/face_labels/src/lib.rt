@@ -7,15 +7,16 @@
 //! [`label`] sweeps over the points of a band of rows at which edges begin or end
 //! (`face_sweep/specs/Points.antt`, `face_rows/specs/Bands.antt`). What holds on the two sides of an
 //! edge is the same all along it, so it has its label at the stop where it begins. What holds right of it is kept
-//! until it ends (`face_sweep/specs/Sides.antt`). The edges of the row below
-//! the band are found once, when its sweep begins.
+//! until it ends (`face_sweep/specs/Sides.antt`), and so long the edge is in the lists of those of its owners that
+//! need one (`face_sweep/specs/OwnRows.antt`). The edges of the row below the band are found once, when its sweep
+//! begins.
 //!
-//! At a stop the edges that end there are found by a search for the point. A level edge that begins there is
-//! judged by the edges right of the point. Then those that end are replaced by those that rise from the point,
-//! and these are judged, from right to left.
+//! At a stop the edges that end there are found by a search for the point, and taken out of the lists. A level
+//! edge that begins there is judged by the edges right of the point. Then those that end are replaced by those
+//! that rise from the point, and these are judged, from right to left, and put into the lists.
 //!
-//! [`Shared`] is what the sweeps of all bands look at: the stops, and the boxes of the shapes. It is made once
-//! and lent to each band ([`label_sharing`]).
+//! [`Shared`] is what the sweeps of all bands look at: the stops, the boxes of the shapes, and which shapes need
+//! lists. It is made once and lent to each band ([`label_sharing`]). The lists are each band's own.
 //!
 //! ```text
 //! let clean = round(rt, alloc, &rings)?;
@@ -25,6 +26,7 @@
 
 mod begun;
 mod finds;
+mod group;
 mod labels;
 mod line;
 mod shared;

@@ -19,13 +19,14 @@ ghost use Rattle.face_sweep.specs.declared.stops.Stop.{Stop};
 ghost use Rattle.face_sweep.specs.Points.{AreBegunAt, HasLow, IsEndPoint, IsGroup, IsStatus};
 ghost use Rattle.face_sweep.specs.Reaches.{IsReach};
 ghost use Rattle.face_sweep.specs.Stops.{AreStops};
-ghost use Rattle.face_labels.specs.RowSides.{HasLabel, IsLineAt, IsLinePast, IsShared, IsStopOf};
+ghost use Rattle.face_labels.specs.RowSides.{HasLabel, IsLineAt, IsLinePast, IsLineWithout, IsShared, IsSweepStop};
 
 use crate::begun::{find_begun, label_levels, rising_count};
-use crate::finds::{find_sides, forget};
+use crate::finds::{find_sides, forget, take_out};
+use crate::group::Group;
 use crate::shared::Shared;
 use face_rows::{Op, row_edges};
-use face_sweep::{Known, Reach, Stop, Stops, group_end, place_of_point, replace};
+use face_sweep::{Known, OwnRows, Reach, Stop, Stops, group_end, place_of_point, replace};
 use lay_point::{NoMemory, Point};
 use snap_chains::CleanEdges;
 use std::alloc::Global;
@@ -37,16 +38,10 @@ pub(crate) struct Line {
     pub numbers: Vec<usize>,
     /// The sides of these edges.
     pub known: Known,
+    /// Which of them single shapes own.
+    pub own: OwnRows,
     /// Where among them the stop before this one was.
     pub place: usize,
-}
-
-/// Where the edges of a line stand that end at a point.
-#[derive(Clone, Copy, Debug)]
-pub(crate) struct Group {
-    pub point: Point,
-    pub from: usize,
-    pub to: usize,
 }
 
 impl Line {
@@ -67,14 +62,22 @@ impl Line {
         requires first { (k : ℕ) (d : Stop) → k < index → (slice_index_or shared.now.stops.list.items k d).point.y
             <ℤ (slice_index_or shared.now.stops.list.items index d).point.y }
         ensures { IfOk result (λ line. (d : Stop)
-            → IsLineAt edges.now (slice_index_or shared.now.stops.list.items index d).point line) }
+            → IsLineAt edges.now shared.now.reach (slice_index_or shared.now.stops.list.items index d).point line) }
     {
         let numbers = edges_below(alloc, edges, &shared.stops, index)?;
         let mut known = Known::new(alloc, edges.edges().len())?;
-        find_sides(alloc, edges, numbers.as_slice(), &mut known, &shared.reach)?;
+        let mut own = OwnRows::new(alloc, &shared.reach)?;
+        find_sides(
+            edges,
+            numbers.as_slice(),
+            &mut known,
+            &mut own,
+            &shared.reach,
+        )?;
         Ok(Line {
             numbers,
             known,
+            own,
             place: 0,
         })
     }
@@ -95,10 +98,10 @@ impl Line {
     ) -> Result<Line, NoMemory>
         requires sound { AreSound edges.now }
         requires shared { IsShared edges.now shared.now }
-        requires stop { IsStopOf edges.now shared.now.stops stop }
-        requires line { IsLineAt edges.now stop.point self }
+        requires stop { IsSweepStop edges.now shared.now.stops stop }
+        requires line { IsLineAt edges.now shared.now.reach stop.point self }
         requires count { length labels.old.items ≡ length edges.now.0 }
-        ensures line { IfOk result (IsLinePast edges.now stop.point) }
+        ensures line { IfOk result (IsLinePast edges.now shared.now.reach stop.point) }
         ensures count { length labels.new.items ≡ length edges.now.0 }
         ensures kept { OnOk result ((n : ℕ) → HasLabel op edges.now labels.old.items n
             → HasLabel op edges.now labels.new.items n) }
@@ -108,19 +111,20 @@ impl Line {
         let begun = shared.stops.begun(stop);
         let rising = rising_count(edges, stop.point, begun);
         let group = self.group_at(edges, stop.point);
-        let behind = &self.numbers[group.to..];
-        let (known, reach) = (&self.known, &shared.reach);
+        let reach = &shared.reach;
+        let rest = self.without(edges, reach, group);
         label_levels(
-            alloc,
             edges,
-            behind,
+            &rest.numbers[group.to..],
             &begun[rising..],
-            known,
+            group.point,
+            &rest.known,
+            &rest.own,
             reach,
             op,
             labels,
-        )?;
-        let line = self.with_begun(alloc, edges, reach, group, &begun[..rising], op, labels)?;
+        );
+        let line = rest.with_begun(alloc, edges, reach, group, &begun[..rising], op, labels)?;
         Ok(line)
     }
 
@@ -135,6 +139,27 @@ impl Line {
         let from = place_of_point(edges, self.numbers.as_slice(), point, self.place);
         let to = group_end(edges, self.numbers.as_slice(), point, from);
         Group { point, from, to }
+    }
+
+    /// Returns the line with the sides of the group's edges, which end at its point, forgotten, and these out of the
+    /// lists of single shapes. Their numbers stay.
+    fn without(self, edges: &CleanEdges, reach: &Reach, group: Group) -> Line
+        requires sound { AreSound edges.now }
+        requires reach { IsReach edges.now reach.now }
+        requires line { IsLineAt edges.now reach.now group.point self }
+        requires group { IsGroup edges.now group.point self.numbers.items group.from group.to }
+        ensures { IsLineWithout edges.now reach.now group result }
+    {
+        let mut known = self.known;
+        let mut own = self.own;
+        forget(&mut known, &self.numbers[group.from..group.to]);
+        take_out(edges, self.numbers.as_slice(), group, &mut own, reach);
+        Line {
+            numbers: self.numbers,
+            known,
+            own,
+            place: group.from,
+        }
     }
 
     /// Returns the line with the edges of the group replaced by those that rise from its point, and writes the
@@ -156,11 +181,10 @@ impl Line {
         requires sound { AreSound edges.now }
         requires reach { IsReach edges.now reach.now }
         requires end { IsEndPoint edges.now group.point }
-        requires line { IsLineAt edges.now group.point self }
-        requires group { IsGroup edges.now group.point self.numbers.items group.from group.to }
+        requires line { IsLineWithout edges.now reach.now group self }
         requires begun { AreBegunAt edges.now group.point begun.now }
         requires count { length labels.old.items ≡ length edges.now.0 }
-        ensures line { IfOk result (IsLinePast edges.now group.point) }
+        ensures line { IfOk result (IsLinePast edges.now reach.now group.point) }
         ensures count { length labels.new.items ≡ length edges.now.0 }
         ensures kept { OnOk result ((n : ℕ) → HasLabel op edges.now labels.old.items n
             → HasLabel op edges.now labels.new.items n) }
@@ -168,15 +192,19 @@ impl Line {
     {
         let mut numbers = self.numbers;
         let mut known = self.known;
-        forget(&mut known, &numbers[group.from..group.to]);
+        let mut own = self.own;
         replace(alloc, &mut numbers, group.from, group.to, begun)?;
-        let behind = &numbers[group.from..];
+        let risers = Group {
+            point: group.point,
+            from: group.from,
+            to: group.from + begun.len(),
+        };
         find_begun(
-            alloc,
             edges,
-            behind,
-            begun.len(),
+            numbers.as_slice(),
+            risers,
             &mut known,
+            &mut own,
             reach,
             op,
             labels,
@@ -184,6 +212,7 @@ impl Line {
         Ok(Line {
             numbers,
             known,
+            own,
             place: group.from,
         })
     }

@@ -10,7 +10,7 @@ use std::alloc::Global;
 /// What the sweeps of all bands of the same edges look at, so that it is found once.
 #[derive(Debug, Drop)]
 pub struct Shared {
-    /// How far each shape reaches.
+    /// How far each shape reaches, and which shapes need lists of their own edges.
     pub(crate) reach: Reach,
     /// The points at which edges begin or end, in the order of the sweep.
     pub(crate) stops: Stops,
@@ -25,7 +25,8 @@ impl Shared {
     ///
     /// # Cost
     ///
-    /// Two passes over the edges and their owners, and a sort of the edges' ends.
+    /// Three passes over the edges and their owners, a sort of the edges' ends, and one of the owners of those edges
+    /// that aren't on the border of their shape's box.
     pub fn of_edges(alloc: Global, edges: &CleanEdges) -> Result<Shared, NoMemory>
         ensures { IfOk result (IsShared edges.now) }
     {

@@ -32,8 +32,8 @@ use Rattle.face_rows.proofs.Cuts.{AreDistinct, parity_of_one}
 use Rattle.face_rows.proofs.SideLemmas.{zip_first}
 use Rattle.face_rows.proofs.UpwardLemmas.{either, up, up_crossed, up_rises}
 use Rattle.face_sweep.specs.declared.extent.Extent.{Extent}
-use Rattle.face_sweep.specs.Reaches.{IsEdgeIn, IsReachIn, extent_of, is_level_at, is_upright_at, told_by}
-use Rattle.face_sweep.specs.declared.reach.Reach.{Reach}
+use Rattle.face_sweep.specs.Reaches.{AreBoxes, IsEdgeIn, extent_of, is_level_at, is_upright_at, told_by}
+use Rattle.face_sweep.specs.declared.boxes.Boxes.{Boxes}
 use Rattle.face_sweep.specs.Sides.{holds_beside}
 use Rattle.face_sweep.proofs.LabelLemmas.{zip_at}
 
@@ -250,13 +250,13 @@ module _ (r : Owned) (o : Owner) (box : Extent) (n : ℕ) (h : IsBoxed r o box n
       by_tests false false false false el eb er et t = absurd (none_is holds t)
 
 -- what the box tells is what holds beside the edge
-pub told_beside : (r : Owned) (reach : Reach) (numbers : List ℕ) (o : Owner) (n : ℕ) (holds : Bool) → IsReachIn r reach numbers
-    → n < length r.0 → is_owner_listed o (owners_at r n) ≡ true → told_by (extent_of reach o) (edge_at r n) ≡ Some holds
+pub told_beside : (r : Owned) (boxes : Boxes) (o : Owner) (n : ℕ) (holds : Bool) → AreSound r → AreBoxes r boxes
+    → n < length r.0 → is_owner_listed o (owners_at r n) ≡ true → told_by (extent_of boxes o) (edge_at r n) ≡ Some holds
     → holds_beside r n o ≡ holds
-told_beside r reach numbers o n holds h given listed told = by_extent (extent_of reach o) refl told
+told_beside r boxes o n holds sound all given listed told = by_extent (extent_of boxes o) refl told
   where
-    by_extent : (extent : Option Extent) → extent_of reach o ≡ extent → told_by extent (edge_at r n) ≡ Some holds
+    by_extent : (extent : Option Extent) → extent_of boxes o ≡ extent → told_by extent (edge_at r n) ≡ Some holds
         → holds_beside r n o ≡ holds
     by_extent None e t = absurd (none_is holds t)
     by_extent (Some box) e t = told_is r o box n
-        (record { sound = h.sound; within = λ m inside own. h.all m inside o box own e; given = given; listed = listed }) holds t
+        (record { sound = sound; within = λ m inside own. all m inside o box own e; given = given; listed = listed }) holds t

@@ -7,6 +7,7 @@ pub mod LevelLemmas
 pub mod NextLemmas
 pub mod NextTellsLemmas
 pub mod OrderLemmas
+pub mod OwnLemmas
 pub mod PassLemmas
 pub mod PointLemmas
 pub mod ReachLemmas

@@ -1,23 +1,18 @@
 -- Sides of edges that are known, and what those of a row tell about a gap in it.
-use Rattle.std.proofs.Common.{◌≡◌, ◌≢◌, ⊎_elim, ℕ, zero, suc, ◌+◌, ◌-◌, ◌<◌, ◌≤◌, Bool, true, false, not, List, ◌∷◌}
+use Rattle.std.proofs.Common.{◌≡◌, ◌≢◌, ℕ, zero, suc, ◌+◌, ◌-◌, ◌<◌, ◌≤◌, Bool, true, false, List, ◌∷◌}
 use Rattle.std.proofs.Common.{None, Some, length, get_or, drop, add-one, refl, sym, ap, subst, ◌∙◌, arith}
-use Rattle.std.specs.Prelude.{All, nat_eq, nat_lt}
-use Rattle.std.specs.Bool.{beq}
+use Rattle.std.specs.Prelude.{All, nat_eq}
 use Rattle.std.proofs.Math.Seq.{drop-cons}
-use Rattle.std.proofs.lemmas.Bool.Decides.{Decides-eqb, nat_tests}
+use Rattle.std.proofs.lemmas.Bool.Decides.{Decides-eqb}
 use Rattle.lay_point.specs.Parity.{xor}
-use Rattle.lay_point.proofs.Parity.{parity_none}
 use Rattle.snap_chains.specs.declared.owner.Owner.{Owner}
 use Rattle.snap_chains.specs.Rounded.{Owned, is_owner_listed}
 use Rattle.face_sweep.specs.declared.counts.Counts.{Counts}
 use Rattle.face_sweep.specs.declared.known.Known.{Known}
 use Rattle.face_sweep.specs.declared.sides.Sides.{Sides}
-use Rattle.face_sweep.specs.declared.sides.Told.{Told}
-use Rattle.face_sweep.specs.declared.sides.Told.TheVariants.{Inside, Nothing, Unknown}
 use Rattle.face_sweep.specs.Counts.{AreCounts}
 use Rattle.face_rows.specs.Lines.{owners_at}
-use Rattle.face_rows.proofs.JudgeLemmas.{has_drop}
-use Rattle.face_sweep.specs.Sides.{AreBehind, AreKnown, AreSidesOf, HasChangedAt, IsKnown, IsTold, StandsAt}
+use Rattle.face_sweep.specs.Sides.{AreBehind, AreKnown, AreSidesOf, HasChangedAt, IsKnown}
 use Rattle.face_sweep.specs.Sides.{holds_beside, is_odd_in, known_count, sides_at}
 
 pub counts_agree : (c : Counts) (f g : Owner → Bool) → ((o : Owner) → f o ≡ g o) → AreCounts c f → AreCounts c g
@@ -55,9 +50,6 @@ first_left r numbers known m sides behind h less at is =
 -- ---- known sides
 none_some : (x : Sides) → None ≡ Some x → ⊥
 none_some x e = absurd cc
-
-pub known_not_none : (known : Known) (m : ℕ) → IsKnown known m → sides_at known m ≡ None → ⊥
-known_not_none known m h e = none_some h.0 (sym e ∙ h.1)
 
 pub none_known : (r : Owned) (known : Known) → known_count known ≡ length r.0 → ((n : ℕ) → sides_at known n ≡ None) → AreKnown r known
 none_known r known count none = record {
@@ -119,64 +111,3 @@ all_before P numbers i more bound first rest =
     let back : (i - 1) + 1 ≡ i = omega arith in
     subst (All P) (sym (split_at numbers (i - 1) (omega arith) ∙ ap (λ k. get_or numbers (i - 1) 0 ∷ drop k numbers) back))
     (all_cons P (get_or numbers (i - 1) 0) (drop i numbers) first rest)
-
--- ---- what edges tell
--- of an edge right of the place, whose sides are known, nothing is known only where it doesn't list the owner
-pub not_told_right : (r : Owned) (known : Known) (n : ℕ) (o : Owner) (told : Told) → IsKnown known n
-    → IsTold r known n o told → ((b : Bool) → told ≡ Inside b → ⊥) → is_owner_listed o (owners_at r n) ≡ false
-not_told_right r known n o Nothing own is other = is
-not_told_right r known n o Unknown own is other = absurd (known_not_none known n own is.1)
-not_told_right r known n o (Inside b) own is other = absurd (other b refl)
-
--- the next one on the left tells what holds right of it, and so of those up to the place
-pub told_left : (r : Owned) (numbers : List ℕ) (left right before : ℕ) (o : Owner) (between inside : Bool) → AreBehind r numbers
-    → 0 < before → before ≤ length numbers
-    → is_odd_in r (drop before numbers) o ≡ is_odd_in r (drop left numbers) o
-    → is_odd_in r (drop left numbers) o ≡ xor between (is_odd_in r (drop right numbers) o)
-    → inside ≡ holds_beside r (get_or numbers (before - 1) 0) o → not (beq inside between) ≡ is_odd_in r (drop right numbers) o
-told_left r numbers left right before o between inside h some bound none passed is =
-    let back : (before - 1) + 1 ≡ before = omega arith in
-    let there : inside ≡ xor between (is_odd_in r (drop right numbers) o) =
-    is ∙ sym (h (before - 1) (omega arith) o) ∙ ap (λ k. is_odd_in r (drop k numbers) o) back ∙ none ∙ passed in
-    ap (λ b. not (beq b between)) there ∙ cancelled between (is_odd_in r (drop right numbers) o)
-  where
-    cancelled : (a b : Bool) → not (beq (xor a b) a) ≡ b
-    cancelled true true = refl
-    cancelled true false = refl
-    cancelled false true = refl
-    cancelled false false = refl
-
--- ---- where an edge stands
-pub before : (numbers : List ℕ) (n left right : ℕ) → StandsAt numbers n left right → left ≤ right
-before numbers n left right h = ⊎_elim (λ (same : left ≡ right). omega arith) (λ (next : (left + 1 ≡ right) × (get_or numbers left 0 ≡ n)).
-    let e = next.0 in omega arith) h.place
-
--- between the edges left of it and those right of it there is only itself
-pub odd_between : (r : Owned) (numbers : List ℕ) (n left right : ℕ) (o : Owner) → StandsAt numbers n left right
-    → is_owner_listed o (owners_at r n) ≡ true
-    → is_odd_in r (drop left numbers) o ≡ xor (nat_lt left right) (is_odd_in r (drop right numbers) o)
-odd_between r numbers n left right o h listed = ⊎_elim
-    (λ (same : left ≡ right).
-    ap (λ k. is_odd_in r (drop k numbers) o) same
-    ∙ sym (ap (λ b. xor b (is_odd_in r (drop right numbers) o)) (not_less left right (omega arith))))
-    (λ (next : (left + 1 ≡ right) × (get_or numbers left 0 ≡ n)).
-    let e = next.0 in
-    let bound = h.bound in
-    odd_split r numbers left o (omega arith)
-    ∙ (λ i. xor ((ap (λ m. is_owner_listed o (owners_at r m)) next.1 ∙ listed) i) (is_odd_in r (drop (next.0 i) numbers) o))
-    ∙ sym (ap (λ b. xor b (is_odd_in r (drop right numbers) o)) (less left right (omega arith))))
-    h.place
-  where
-    less : (m n : ℕ) → m < n → nat_lt m n ≡ true
-    less m n h = grind (arith, nat_tests)
-
-    not_less : (m n : ℕ) → n ≤ m → nat_lt m n ≡ false
-    not_less m n h = grind (arith, nat_tests)
-
--- where none from an index on lists the owner
-pub none_behind : (r : Owned) (numbers : List ℕ) (index : ℕ) (o : Owner)
-    → ((k : ℕ) → index ≤ k → k < length numbers → is_owner_listed o (owners_at r (get_or numbers k 0)) ≡ false)
-    → is_odd_in r (drop index numbers) o ≡ false
-none_behind r numbers index o none = parity_none (λ m. is_owner_listed o (owners_at r m)) (drop index numbers) (λ m found.
-    let at = has_drop numbers index m found in
-    subst (λ j. is_owner_listed o (owners_at r j) ≡ false) at.1.is (none at.0 at.1.behind at.1.inside))

@@ -41,11 +41,11 @@ use Rattle.face_rows.proofs.RowLemmas.{before_by_number, has_get, is_left, left_
 use Rattle.face_rows.proofs.UpwardLemmas.{up_rises}
 use Rattle.face_sweep.proofs.OrderLemmas.{crosses}
 use Rattle.face_sweep.specs.Points.{HasHigh, HasLow, IsAfter, IsEndPoint, IsLevelFrom}
-use Rattle.face_sweep.specs.Stops.{AreBegins, AreInOrder, AreRisers, AreStops, AreTops, BeginAt, IsBeginOf, IsExtended, IsFirstLevel}
+use Rattle.face_sweep.specs.Stops.{AreBegins, ArePlacesInOrder, AreRisers, AreStops, AreTops, BeginAt, IsBeginOf, IsExtended, IsFirstLevel}
 use Rattle.face_sweep.specs.Stops.{IsGroup}
-use Rattle.face_sweep.specs.Stops.{IsHead, IsHeadUpTo, IsNextPlace, IsNoLater, HasLowPlace, HasTopPlace, IsRun, IsSooner, offset}
-use Rattle.face_sweep.specs.Stops.{shifted, IsTopOf, IsWithRisers, begin_of, edge_begins, edge_tops}
-use Rattle.face_sweep.specs.Stops.{numbers_of, place_of, places_of, point_of}
+use Rattle.face_sweep.specs.Stops.{IsHead, IsHeadUpTo, IsNextPlace, IsNoLater, HasLowPlace, HasTopPlace, IsPlaceRun, IsSooner, from_least}
+use Rattle.face_sweep.specs.Stops.{above_least, IsTopOf, IsWithRisers, begin_of, edge_begins, edge_tops}
+use Rattle.face_sweep.specs.Stops.{begin_numbers, sweep_place, begin_places, swept_point}
 use Rattle.face_sweep.specs.declared.stops.Begin.{Begin}
 use Rattle.face_sweep.specs.declared.stops.Place.{Place}
 use Rattle.face_sweep.specs.declared.stops.Stop.{Stop}
@@ -55,14 +55,14 @@ all_has : {A : Type 0} (P : A → Type 0) (xs : List A) → ((x : A) → Has xs 
 all_has P xs f k d less = f (get_or xs k d) (has_get xs k d less)
 
 -- ---- places and points
-offset_shifted : (n : ℕ) → offset (shifted n) ≡ n
+offset_shifted : (n : ℕ) → from_least (above_least n) ≡ n
 offset_shifted n = grind (arith, ints)
 
-pub place_back : (q : Place) → place_of (point_of q) ≡ q
+pub place_back : (q : Place) → sweep_place (swept_point q) ≡ q
 place_back q =
     let y = offset_shifted (q.key / 4294967296) in
     let x = offset_shifted (4294967295 - q.key % 4294967296) in
-    let key : offset (shifted (q.key / 4294967296)) * 4294967296 + (4294967295 - offset (shifted (4294967295 - q.key % 4294967296)))
+    let key : from_least (above_least (q.key / 4294967296)) * 4294967296 + (4294967295 - from_least (above_least (4294967295 - q.key % 4294967296)))
     ≡ q.key = (λ i. y i * 4294967296 + (4294967295 - x i)) ∙ omega arith in
     λ i. record { key = key i }
 
@@ -73,14 +73,14 @@ sooner_parts a b less = ⊎_elim
     (λ (ge : b / 4294967296 ≤ a / 4294967296). inl (omega arith, omega arith))
     (cases_lt (a / 4294967296) (b / 4294967296))
 
-shifted_less : (m n : ℕ) → m < n → shifted m <ℤ shifted n
+shifted_less : (m n : ℕ) → m < n → above_least m <ℤ above_least n
 shifted_less m n less = omega (arith, linear)
 
-pub sooner_after : (a b : Place) → IsSooner a b → IsAfter (point_of a) (point_of b)
+pub sooner_after : (a b : Place) → IsSooner a b → IsAfter (swept_point a) (swept_point b)
 sooner_after a b less = ⊎_elim
     (λ (h : (a.key / 4294967296 ≡ b.key / 4294967296) × (a.key % 4294967296 < b.key % 4294967296)).
     let lt = h.1 in
-    inl (ap shifted h.0, shifted_less (4294967295 - b.key % 4294967296) (4294967295 - a.key % 4294967296) (omega (arith, lt))))
+    inl (ap above_least h.0, shifted_less (4294967295 - b.key % 4294967296) (4294967295 - a.key % 4294967296) (omega (arith, lt))))
     (λ (lt : a.key / 4294967296 < b.key / 4294967296).
     inr (shifted_less (a.key / 4294967296) (b.key / 4294967296) lt))
     (sooner_parts a.key b.key less)
@@ -147,7 +147,7 @@ sooner_less a b lt = sym (nat_cmp_is a.key b.key Less lt)
 itself_equal : (a : Place) → place_cmp a a ≡ Equal
 itself_equal a = sym (nat_cmp_is a.key a.key Equal refl)
 
-pub places_in_order : (places : List Place) → IsSorted place_cmp places → AreInOrder places
+pub places_in_order : (places : List Place) → IsSorted place_cmp places → ArePlacesInOrder places
 places_in_order places sorted i j d le less = ⊎_elim
     (λ (below : IsSooner (get_or places j d) (get_or places i d)).
     let up = sorted_far (λ a b. is_lt (place_cmp a b)) (ranks_by place_cmp_total (λ p. p)) places sorted i j d le less in
@@ -160,7 +160,7 @@ module _ (begins : List Begin) (sorted : IsSorted begin_cmp begins) where
   far : (i j : ℕ) (d : Begin) → i ≤ j → j < length begins → is_lt (begin_cmp (get_or begins j d) (get_or begins i d)) ≡ false
   far i j d le less = sorted_far (λ a b. is_lt (begin_cmp a b)) (ranks_by begin_cmp_total (λ b. b)) begins sorted i j d le less
 
-  pub begins_in_order : AreInOrder (places_of begins)
+  pub begins_in_order : ArePlacesInOrder (begin_places begins)
   begins_in_order i j p le less =
       let d : Begin = record { place = p; level = false; number = 0 } in
       let inside : j < length begins = omega (arith, length-map begins (λ (b : Begin). b.place)) in
@@ -199,11 +199,11 @@ abbrev picked_begins : ℕ → List (Point × Point) → List Begin
 picked_begins n es = picked (λ e. true) begin_of n es
 
 numbers_after : (n : ℕ) (es : List (Point × Point)) (m : ℕ) → m < n
-    → AllByRecursion (λ k. nat_eq m k ≡ false) (numbers_of (picked_begins n es))
+    → AllByRecursion (λ k. nat_eq m k ≡ false) (begin_numbers (picked_begins n es))
 numbers_after n [] m less = tt
 numbers_after n (e ∷ es) m less = (grind (arith, nat_tests), numbers_after (n + 1) es m (omega arith))
 
-numbers_distinct : (n : ℕ) (es : List (Point × Point)) → IsDistinct nat_eq (numbers_of (picked_begins n es))
+numbers_distinct : (n : ℕ) (es : List (Point × Point)) → IsDistinct nat_eq (begin_numbers (picked_begins n es))
 unfolding IsDistinct
 numbers_distinct n [] = tt
 numbers_distinct n (e ∷ es) = (numbers_after (n + 1) es n (omega arith), numbers_distinct (n + 1) es)
@@ -229,8 +229,8 @@ are_begins es begins fit moved sorted = record {
       (picked_has (λ e. true) begin_of 0 es n nowhere inside refl)));
   order = begins_in_order begins sorted;
   levels = levels_last begins sorted;
-  apart = AllPairs-from_IsDistinct Decides-eqb (numbers_of begins)
-      (IsDistinct-IsPermutation nat_eq flips (numbers_of (edge_begins es)) (numbers_of begins)
+  apart = AllPairs-from_IsDistinct Decides-eqb (begin_numbers begins)
+      (IsDistinct-IsPermutation nat_eq flips (begin_numbers (edge_begins es)) (begin_numbers begins)
       (IsPermutation-map (λ (b : Begin). b.number) (edge_begins es) begins moved) (numbers_distinct 0 es));
 }
 
@@ -238,24 +238,24 @@ pub are_tops : (es : List (Point × Point)) (tops : List Place) → ((k : ℕ) (
     → IsPermutation (edge_tops es) tops → IsSorted place_cmp tops → AreTops es tops
 are_tops es tops fit moved sorted = record {
   own = All-permutation (IsTopOf es) (edge_tops es) tops moved (all_has (IsTopOf es) (edge_tops es) (λ q m.
-      let p = picked_of (λ e. true) (λ n e. place_of (upward e).1) 0 es q m in
+      let p = picked_of (λ e. true) (λ n e. sweep_place (upward e).1) 0 es q m in
       record {
         number = p.index;
         given = p.inside;
-        point = ap point_of (sym (p.is nowhere)) ∙ fit p.index nowhere p.inside;
+        point = ap swept_point (sym (p.is nowhere)) ∙ fit p.index nowhere p.inside;
       }));
   all = λ n inside.
-      let q = place_of (upward (get_or es n nowhere)).1 in (
+      let q = sweep_place (upward (get_or es n nowhere)).1 in (
         q,
         Contains-permutation (edge_tops es) tops q moved
-            (contains (edge_tops es) q (picked_has (λ e. true) (λ n e. place_of (upward e).1) 0 es n nowhere inside refl)),
+            (contains (edge_tops es) q (picked_has (λ e. true) (λ n e. sweep_place (upward e).1) 0 es n nowhere inside refl)),
         fit n nowhere inside,
       );
   order = places_in_order tops sorted;
 }
 
 -- ---- a run of one place
-pub run_more : (places : List Place) (from to : ℕ) (p : Place) → AreInOrder places → IsHeadUpTo places from p
+pub run_more : (places : List Place) (from to : ℕ) (p : Place) → ArePlacesInOrder places → IsHeadUpTo places from p
     → from ≤ to → to < length places
     → ((d : Place) → IsNoLater (get_or places to d) p) → ((k : ℕ) (d : Place) → from ≤ k → k < to → get_or places k d ≡ p)
     → (k : ℕ) (d : Place) → from ≤ k → k < to + 1 → get_or places k d ≡ p
@@ -268,21 +268,21 @@ run_more places from to p order ahead le less here so_far k d ge lt = ⊎_elim
     (no_later_transitive p (get_or places from d) (get_or places to d) (ahead d (omega arith)) (order from to d le less))))
     (cases_lt k to)
 
-pub run_behind : (places : List Place) (to : ℕ) (p : Place) → AreInOrder places
+pub run_behind : (places : List Place) (to : ℕ) (p : Place) → ArePlacesInOrder places
     → ((d : Place) → to < length places → IsSooner p (get_or places to d))
     → (k : ℕ) (d : Place) → to ≤ k → k < length places → IsSooner p (get_or places k d)
 run_behind places to p order here k d le less =
     sooner_upto p (get_or places to d) (get_or places k d) (here d (omega arith)) (order to k d le less)
 
-run_moves : (places : List Place) (i j : ℕ) (p : Place) → IsHead places i p → IsRun places i j p → i < j
+run_moves : (places : List Place) (i j : ℕ) (p : Place) → IsHead places i p → IsPlaceRun places i j p → i < j
 run_moves places i j p head run = ⊎_elim
     (λ (less : i < j). less)
     (λ (le : j ≤ i). absurd (sooner_irreflexive p (subst (IsSooner p) (head.1 p) (run.behind i p le head.0))))
     (cases_lt i j)
 
 -- with each place fewer are left
-pub fewer_left : (lows tops : List Place) (low top after over : ℕ) (p : Place) → IsNextPlace lows low tops top p → IsRun lows low after p
-    → IsRun tops top over p → (length lows - after) + (length tops - over) < (length lows - low) + (length tops - top)
+pub fewer_left : (lows tops : List Place) (low top after over : ℕ) (p : Place) → IsNextPlace lows low tops top p → IsPlaceRun lows low after p
+    → IsPlaceRun tops top over p → (length lows - after) + (length tops - over) < (length lows - low) + (length tops - top)
 fewer_left lows tops low top after over p next run_low run_top = ⊎_elim
     (λ (l : IsHead lows low p). let less = run_moves lows low after p l run_low in omega (arith, less, run_low.bound, run_top.order))
     (λ (t : IsHead tops top p). let less = run_moves tops top over p t run_top in omega (arith, less, run_low.order, run_top.bound))
@@ -311,14 +311,14 @@ range_pairs R xs a b le bound h i j d less inside =
     let in_i : i < b - a = omega arith in
     coe 1 0 (z. R (range_get xs a b i d in_i z) (range_get xs a b j d in_j z)) (h (a + i) (a + j) d (omega arith) (omega arith))
 
-range_numbers : (xs : List Begin) (a b : ℕ) → a ≤ b → b ≤ length xs → AllPairs (λ m n. m ≢ n) (numbers_of xs)
-    → AllPairs (λ m n. m ≢ n) (numbers_of (slice_range xs a b))
+range_numbers : (xs : List Begin) (a b : ℕ) → a ≤ b → b ≤ length xs → AllPairs (λ m n. m ≢ n) (begin_numbers xs)
+    → AllPairs (λ m n. m ≢ n) (begin_numbers (slice_range xs a b))
 range_numbers xs a b le bound h =
     subst (AllPairs (λ m n. m ≢ n)) (sym (map-range (λ (z : Begin). z.number) xs a b))
-    (range_pairs (λ m n. m ≢ n) (numbers_of xs) a b le (omega (arith, length-map xs (λ (z : Begin). z.number))) h)
+    (range_pairs (λ m n. m ≢ n) (begin_numbers xs) a b le (omega (arith, length-map xs (λ (z : Begin). z.number))) h)
 
 -- a number of the list is that of one of its elements
-pub number_in : (xs : List Begin) (n k : ℕ) (d : Begin) → k < length xs → (get_or xs k d).number ≡ n → Contains (numbers_of xs) n
+pub number_in : (xs : List Begin) (n k : ℕ) (d : Begin) → k < length xs → (get_or xs k d).number ≡ n → Contains (begin_numbers xs) n
 number_in xs n k d less same =
     (k, omega (arith, length-map xs (λ (b : Begin). b.number)), get_or-map (λ (b : Begin). b.number) xs k d n less ∙ same)
 
@@ -327,17 +327,17 @@ pub record IsNumberOf (xs : List Begin) (n : ℕ) : Type 0 where
   pub inside : index < length xs
   pub is : (d : Begin) → (get_or xs index d).number ≡ n
 
-pub number_of : (xs : List Begin) (n : ℕ) → Contains (numbers_of xs) n → IsNumberOf xs n
+pub number_of : (xs : List Begin) (n : ℕ) → Contains (begin_numbers xs) n → IsNumberOf xs n
 number_of xs n m =
     let less : m.0 < length xs = omega (arith, length-map xs (λ (b : Begin). b.number), m.1) in
     record { index = m.0; inside = less; is = λ d. sym (get_or-map (λ (b : Begin). b.number) xs m.0 d n less) ∙ m.2 }
 
 -- ---- what a begin tells of its edge
 module _ (es : List (Point × Point)) (b : Begin) (own : IsBeginOf es b) where
-  low_of : (p : Point) → point_of b.place ≡ p → (upward (get_or es b.number nowhere)).0 ≡ p
+  low_of : (p : Point) → swept_point b.place ≡ p → (upward (get_or es b.number nowhere)).0 ≡ p
   low_of p at = sym own.point ∙ at
 
-  low_row : (upward (get_or es b.number nowhere)).0.y ≡ (point_of b.place).y
+  low_row : (upward (get_or es b.number nowhere)).0.y ≡ (swept_point b.place).y
   low_row = ap (λ (z : Point). z.y) (sym own.point)
 
   rises_of : b.level ≡ false → (upward (get_or es b.number nowhere)).0.y <ℤ (upward (get_or es b.number nowhere)).1.y
@@ -348,7 +348,7 @@ module _ (es : List (Point × Point)) (b : Begin) (own : IsBeginOf es b) where
   flat_of level = le_true (upward (get_or es b.number nowhere)).1.y (upward (get_or es b.number nowhere)).0.y
       (ap (λ (z : Begin). z.level) own.is ∙ level)
 
-  pub crosses_own : (row : ℤ) → (point_of b.place).y ≡ row → b.level ≡ false → CrossesRow es row b.number
+  pub crosses_own : (row : ℤ) → (swept_point b.place).y ≡ row → b.level ≡ false → CrossesRow es row b.number
   crosses_own row at level =
       let e = get_or es b.number nowhere in
       let low : (upward e).0.y ≡ row = low_row ∙ at in
@@ -360,27 +360,27 @@ module _ (es : List (Point × Point)) (b : Begin) (own : IsBeginOf es b) where
 
 -- ---- the edges that begin at one point
 pub group_of : (es : List (Point × Point)) (begins : List Begin) (points : List Point) (low after : ℕ) (p : Place) → AreBegins es begins
-    → IsRun (places_of begins) low after p
-    → ((k : ℕ) (d : Place) → k < low → k < length (places_of begins) → Contains points (point_of (get_or (places_of begins) k d)))
-    → ((q : Point) → Contains points q → IsAfter q (point_of p))
-    → IsGroup es (point_of p) (slice_range begins low after)
+    → IsPlaceRun (begin_places begins) low after p
+    → ((k : ℕ) (d : Place) → k < low → k < length (begin_places begins) → Contains points (swept_point (get_or (begin_places begins) k d)))
+    → ((q : Point) → Contains points q → IsAfter q (swept_point p))
+    → IsGroup es (swept_point p) (slice_range begins low after)
 group_of es begins points low after p h run had passed =
     let count = length-map begins (λ (b : Begin). b.place) in
     let bound : after ≤ length begins = omega (arith, count, run.bound) in
     record {
       own = range_all (IsBeginOf es) begins low after run.order bound (λ k d ge lt inside. h.own k d inside);
-      at = range_all (λ b. point_of b.place ≡ point_of p) begins low after run.order bound
-          (λ k d ge lt inside. ap point_of (here k d ge lt inside));
+      at = range_all (λ b. swept_point b.place ≡ swept_point p) begins low after run.order bound
+          (λ k d ge lt inside. ap swept_point (here k d ge lt inside));
       all = λ n given low_is.
           let b = begin_of n (get_or es n nowhere) in
           let m = h.all n given in
           let less : m.0 < length begins = m.1 in
-          let at : get_or (places_of begins) m.0 p ≡ p =
-          get_or-map (λ (z : Begin). z.place) begins m.0 b p less ∙ ap (λ (z : Begin). z.place) m.2 ∙ ap place_of low_is ∙ place_back p in
-          let inside : m.0 < length (places_of begins) = omega (arith, count) in
+          let at : get_or (begin_places begins) m.0 p ≡ p =
+          get_or-map (λ (z : Begin). z.place) begins m.0 b p less ∙ ap (λ (z : Begin). z.place) m.2 ∙ ap sweep_place low_is ∙ place_back p in
+          let inside : m.0 < length (begin_places begins) = omega (arith, count) in
           ⊎_elim
-          (λ (before : m.0 < low). absurd (after_irreflexive (point_of p)
-          (passed (point_of p) (subst (λ z. Contains points (point_of z)) at (had m.0 p before inside)))))
+          (λ (before : m.0 < low). absurd (after_irreflexive (swept_point p)
+          (passed (swept_point p) (subst (λ z. Contains points (swept_point z)) at (had m.0 p before inside)))))
           (λ (ge : low ≤ m.0). ⊎_elim
           (λ (lt : m.0 < after).
           let k = m.0 - low in
@@ -412,7 +412,7 @@ pub risers_of : (es : List (Point × Point)) (p : Point) (group : List Begin) (i
 risers_of es p group index h first = record {
   own = range_all (IsBeginOf es) group 0 index (omega arith) first.bound (λ k d ge lt inside. h.own k d inside);
   rising = range_all (λ b. b.level ≡ false) group 0 index (omega arith) first.bound (λ k d ge lt inside. first.before k d lt);
-  at = range_all (λ b. (point_of b.place).y ≡ p.y) group 0 index (omega arith) first.bound
+  at = range_all (λ b. (swept_point b.place).y ≡ p.y) group 0 index (omega arith) first.bound
       (λ k d ge lt inside. ap (λ (z : Point). z.y) (h.at k d inside));
   apart = range_numbers group 0 index (omega arith) first.bound h.apart;
 }
@@ -427,7 +427,7 @@ record IsFront (group : List Begin) (index n : ℕ) : Type 0 where
 -- the edges that rise, and then those that are level
 pub begin_at : (r : Owned) (p : Point) (group : List Begin) (index : ℕ) (old mid new : List ℕ) → IsGroup r.0 p group
     → IsFirstLevel group index → IsWithRisers r.0 p.y (slice_range group 0 index) old mid
-    → new ≡ mid ++ numbers_of (slice_range group index (length group)) → IsExtended r p old new
+    → new ≡ mid ++ begin_numbers (slice_range group index (length group)) → IsExtended r p old new
 begin_at r p group index old mid new h first risers is = record {
   added = risers.added ++ levels;
   is = is ∙ ap (λ xs. xs ++ levels) risers.is ∙ append_assoc old risers.added levels;
@@ -493,12 +493,12 @@ begin_at r p group index old mid new h first risers is = record {
     any = record { place = record { key = 0 }; level = false; number = 0 }
 
     levels : List ℕ
-    levels = numbers_of (slice_range group index (length group))
+    levels = begin_numbers (slice_range group index (length group))
 
     level_from : (k : ℕ) → index ≤ k → k < length group → (get_or group k any).level ≡ true
     level_from k le inside = h.levels index k any le inside (first.here any (omega arith))
 
-    level_own : (b : Begin) → IsBeginOf r.0 b → point_of b.place ≡ p → b.level ≡ true → IsLevelFrom r p b.number
+    level_own : (b : Begin) → IsBeginOf r.0 b → swept_point b.place ≡ p → b.level ≡ true → IsLevelFrom r p b.number
     level_own b own at level =
         let e = edge_at r b.number in
         let low : (upward e).0.y ≡ p.y = ap (λ (z : Point). z.y) (low_of r.0 b own p at) in
@@ -506,7 +506,7 @@ begin_at r p group index old mid new h first risers is = record {
         let up = up_rises e in
         record { given = own.given; begins = low_of r.0 b own p at; level = omega (arith, ints, low, flat, up) }
 
-    front : (n : ℕ) → Contains (numbers_of (slice_range group 0 index)) n → IsFront group index n
+    front : (n : ℕ) → Contains (begin_numbers (slice_range group 0 index)) n → IsFront group index n
     front n m =
         let f = number_of (slice_range group 0 index) n m in
         let early : f.index < index = omega (arith, f.inside, range_length group 0 index (omega arith) first.bound) in
@@ -519,7 +519,7 @@ begin_at r p group index old mid new h first risers is = record {
               ∙ sym (ap (λ (z : Begin). z.number) (range_get group 0 index f.index d (omega arith))) ∙ f.is d;
         }
 
-    in_front : (n : ℕ) (m : IsNumberOf group n) → m.index < index → Contains (numbers_of (slice_range group 0 index)) n
+    in_front : (n : ℕ) (m : IsNumberOf group n) → m.index < index → Contains (begin_numbers (slice_range group 0 index)) n
     in_front n m early =
         let zero_more : 0 + m.index ≡ m.index = omega arith in
         number_in (slice_range group 0 index) n m.index any (omega (arith, range_length group 0 index (omega arith) first.bound))
@@ -528,16 +528,16 @@ begin_at r p group index old mid new h first risers is = record {
 
 -- ---- edges that rise from one point, from left to right
 pub few_risers : (es : List (Point × Point)) (row : ℤ) (group : List Begin) (old new : List ℕ) → length group < 2
-    → new ≡ old ++ numbers_of group → IsWithRisers es row group old new
+    → new ≡ old ++ begin_numbers group → IsWithRisers es row group old new
 few_risers es row group old new few is = record {
-  added = numbers_of group;
+  added = begin_numbers group;
   is = is;
   rising = at_most_one group few;
   among = λ n m. m;
   all = λ n m. m;
 }
   where
-    at_most_one : (xs : List Begin) → length xs < 2 → IsRising (IsLeftOf es row) (numbers_of xs)
+    at_most_one : (xs : List Begin) → length xs < 2 → IsRising (IsLeftOf es row) (begin_numbers xs)
     at_most_one [] less = tt
     at_most_one (b ∷ []) less = tt
     at_most_one (b ∷ c ∷ xs) less = absurd (omega arith)
@@ -551,8 +551,8 @@ crossing_all es row group h k d less =
 pub crossing_push : (es : List (Point × Point)) (row : ℤ) (group : List Begin) (i : ℕ) (d : Begin) (old : List Crossing) (c : Crossing)
     (e : Point × Point) → i < length group → AreRisers es row group → e ≡ get_or es (get_or group i d).number e
     → c.number ≡ (get_or group i d).number → c.x ≡ crossing row e → c.rise ≡ rise e
-    → map (λ z. z.number) old ≡ numbers_of (take i group) → All (IsCrossingOf es row) old
-    → (map (λ z. z.number) (old ++ c ∷ []) ≡ numbers_of (take (i + 1) group)) × All (IsCrossingOf es row) (old ++ c ∷ [])
+    → map (λ z. z.number) old ≡ begin_numbers (take i group) → All (IsCrossingOf es row) old
+    → (map (λ z. z.number) (old ++ c ∷ []) ≡ begin_numbers (take (i + 1) group)) × All (IsCrossingOf es row) (old ++ c ∷ [])
 crossing_push es row group i d old c e less risers is_e number x up numbers places =
     let n = (get_or group i d).number in
     let cross = crossing_all es row group risers i d less in
@@ -579,15 +579,15 @@ module _ (es : List (Point × Point)) (row : ℤ) (rising : IsRising IsEdgeBefor
     all_rising (b ∷ cs) all.1 apart.1 (λ k d less. sorted (suc k) d (omega arith)),
   )
 
-  pub many_risers : (group : List Begin) (cs sorted : List Crossing) (old new : List ℕ) → AllPairs (λ m n. m ≢ n) (numbers_of group)
-      → map (λ c. c.number) cs ≡ numbers_of group → All (IsCrossingOf es row) cs → IsPermutation cs sorted → IsSortedBy is_left sorted
+  pub many_risers : (group : List Begin) (cs sorted : List Crossing) (old new : List ℕ) → AllPairs (λ m n. m ≢ n) (begin_numbers group)
+      → map (λ c. c.number) cs ≡ begin_numbers group → All (IsCrossingOf es row) cs → IsPermutation cs sorted → IsSortedBy is_left sorted
       → new ≡ old ++ map (λ c. c.number) sorted → IsWithRisers es row group old new
   many_risers group cs sorted old new apart numbers places moved order is =
       let all = recursion_from_All (IsCrossingOf es row) sorted (All-permutation (IsCrossingOf es row) cs sorted moved places) in
       let moved_numbers = IsPermutation-map (λ (c : Crossing). c.number) cs sorted moved in
       let distinct : IsDistinct nat_eq (map (λ (c : Crossing). c.number) sorted) =
       IsDistinct-IsPermutation nat_eq flips (map (λ (c : Crossing). c.number) cs) (map (λ (c : Crossing). c.number) sorted) moved_numbers
-      (subst (IsDistinct nat_eq) (sym numbers) (IsDistinct-from_AllPairs Decides-eqb (numbers_of group) apart)) in
+      (subst (IsDistinct nat_eq) (sym numbers) (IsDistinct-from_AllPairs Decides-eqb (begin_numbers group) apart)) in
       record {
         added = map (λ (c : Crossing). c.number) sorted;
         is = is;
@@ -603,25 +603,25 @@ module _ (es : List (Point × Point)) (row : ℤ) (rising : IsRising IsEdgeBefor
 -- ---- the stops so far
 -- the places before the index are among the points, and all points come before those from it on
 pub record IsJoined (places : List Place) (points : List Point) (i : ℕ) : Type 0 where
-  pub had : (k : ℕ) (d : Place) → k < i → k < length places → Contains points (point_of (get_or places k d))
-  pub ahead : (q : Point) (k : ℕ) (d : Place) → Contains points q → i ≤ k → k < length places → IsAfter q (point_of (get_or places k d))
+  pub had : (k : ℕ) (d : Place) → k < i → k < length places → Contains points (swept_point (get_or places k d))
+  pub ahead : (q : Point) (k : ℕ) (d : Place) → Contains points q → i ≤ k → k < length places → IsAfter q (swept_point (get_or places k d))
 
 only : {A : Type 0} (x y : A) → Contains (x ∷ []) y → x ≡ y
 only x y m = ⊎_elim (λ (same : x ≡ y). same) (λ none. absurd none) (has (x ∷ []) y m)
 
-joined_more : (places : List Place) (points : List Point) (i j : ℕ) (p : Place) → IsJoined places points i → IsRun places i j p
-    → IsJoined places (points ++ point_of p ∷ []) j
+joined_more : (places : List Place) (points : List Point) (i j : ℕ) (p : Place) → IsJoined places points i → IsPlaceRun places i j p
+    → IsJoined places (points ++ swept_point p ∷ []) j
 joined_more places points i j p h run = record {
   had = λ k d less inside. ⊎_elim
-      (λ (before : k < i). Contains-append_left points (point_of p ∷ []) (point_of (get_or places k d)) (h.had k d before inside))
-      (λ (ge : i ≤ k). subst (λ (z : Place). Contains (points ++ point_of p ∷ []) (point_of z)) (sym (run.same k d ge less))
-      (Contains-append_right points (point_of p ∷ []) (point_of p) (contains (point_of p ∷ []) (point_of p) (inl refl))))
+      (λ (before : k < i). Contains-append_left points (swept_point p ∷ []) (swept_point (get_or places k d)) (h.had k d before inside))
+      (λ (ge : i ≤ k). subst (λ (z : Place). Contains (points ++ swept_point p ∷ []) (swept_point z)) (sym (run.same k d ge less))
+      (Contains-append_right points (swept_point p ∷ []) (swept_point p) (contains (swept_point p ∷ []) (swept_point p) (inl refl))))
       (cases_lt k i);
   ahead = λ q k d m le inside. ⊎_elim
       (λ (old : Contains points q). h.ahead q k d old (omega (arith, run.order)) inside)
-      (λ (new : Contains (point_of p ∷ []) q). subst (λ z. IsAfter z (point_of (get_or places k d))) (only (point_of p) q new)
+      (λ (new : Contains (swept_point p ∷ []) q). subst (λ z. IsAfter z (swept_point (get_or places k d))) (only (swept_point p) q new)
       (sooner_after p (get_or places k d) (run.behind k d le inside)))
-      (Contains-append_cases points (point_of p ∷ []) q m);
+      (Contains-append_cases points (swept_point p ∷ []) q m);
 }
 
 rising_push : (xs : List Point) (x : Point) → IsRising IsAfter xs → ((y : Point) → Has xs y → IsAfter y x) → IsRising IsAfter (xs ++ x ∷ [])
@@ -633,7 +633,7 @@ abbrev pub points_of : List Stop → List Point
 points_of = map (λ s. s.point)
 
 -- the edges that begin at the stop
-pub record IsStopOf (r : Owned) (begun : List ℕ) (s : Stop) : Type 0 where
+pub record IsSweepStop (r : Owned) (begun : List ℕ) (s : Stop) : Type 0 where
   pub order : s.from ≤ s.to
   pub bound : s.to ≤ length begun
   pub begun_at : BeginAt r s.point (slice_range begun s.from s.to)
@@ -645,35 +645,35 @@ pub record AreStopsTo (r : Owned) (lows tops : List Place) (low top : ℕ) (list
   pub some : (p : Point) → Contains (points_of list) p → IsEndPoint r p
   pub low_joined : IsJoined lows (points_of list) low
   pub top_joined : IsJoined tops (points_of list) top
-  pub own : All (IsStopOf r begun) list
+  pub own : All (IsSweepStop r begun) list
 
 -- the next place is after all points so far
 pub passed_all : (r : Owned) (lows tops : List Place) (low top : ℕ) (list : List Stop) (begun : List ℕ) (p : Place)
     → AreStopsTo r lows tops low top list begun → IsNextPlace lows low tops top p → (q : Point) → Contains (points_of list) q
-    → IsAfter q (point_of p)
+    → IsAfter q (swept_point p)
 passed_all r lows tops low top list begun p h next q m = ⊎_elim
-    (λ (l : IsHead lows low p). subst (λ (z : Place). IsAfter q (point_of z)) (l.1 p) (h.low_joined.ahead q low p m (omega arith) l.0))
-    (λ (t : IsHead tops top p). subst (λ (z : Place). IsAfter q (point_of z)) (t.1 p) (h.top_joined.ahead q top p m (omega arith) t.0))
+    (λ (l : IsHead lows low p). subst (λ (z : Place). IsAfter q (swept_point z)) (l.1 p) (h.low_joined.ahead q low p m (omega arith) l.0))
+    (λ (t : IsHead tops top p). subst (λ (z : Place). IsAfter q (swept_point z)) (t.1 p) (h.top_joined.ahead q top p m (omega arith) t.0))
     next.one
 
 -- and an edge begins or ends there
 end_point : (r : Owned) (begins : List Begin) (tops : List Place) (low top : ℕ) (p : Place) → AreBegins r.0 begins → AreTops r.0 tops
-    → IsNextPlace (places_of begins) low tops top p → IsEndPoint r (point_of p)
+    → IsNextPlace (begin_places begins) low tops top p → IsEndPoint r (swept_point p)
 end_point r begins tops low top p begin_facts top_facts next = ⊎_elim
-    (λ (l : IsHead (places_of begins) low p).
+    (λ (l : IsHead (begin_places begins) low p).
     let d : Begin = record { place = p; level = false; number = 0 } in
     let inside : low < length begins = omega (arith, l.0, length-map begins (λ (b : Begin). b.place)) in
     let b = get_or begins low d in
     let own = begin_facts.own low d inside in
-    let at : point_of b.place ≡ point_of p =
-    ap point_of (sym (get_or-map (λ (z : Begin). z.place) begins low d p inside) ∙ l.1 p) in
-    record { number = b.number; given = own.given; at = inl (low_of r.0 b own (point_of p) at) })
+    let at : swept_point b.place ≡ swept_point p =
+    ap swept_point (sym (get_or-map (λ (z : Begin). z.place) begins low d p inside) ∙ l.1 p) in
+    record { number = b.number; given = own.given; at = inl (low_of r.0 b own (swept_point p) at) })
     (λ (t : IsHead tops top p).
     let own = top_facts.own top p t.0 in
     record {
       number = own.number;
       given = own.given;
-      at = inr (sym own.point ∙ ap point_of (t.1 p));
+      at = inr (sym own.point ∙ ap swept_point (t.1 p));
     })
     next.one
 
@@ -687,7 +687,7 @@ range_added begun added =
     ap (take (length (begun ++ added) - length begun)) (drop-append_seam begun added)
     ∙ take_all (length (begun ++ added) - length begun) added (omega (arith, length-append begun added))
 
-stop_kept : (r : Owned) (begun added : List ℕ) (s : Stop) → IsStopOf r begun s → IsStopOf r (begun ++ added) s
+stop_kept : (r : Owned) (begun added : List ℕ) (s : Stop) → IsSweepStop r begun s → IsSweepStop r (begun ++ added) s
 stop_kept r begun added s h = record {
   order = h.order;
   bound = omega (arith, h.bound, length-append begun added);
@@ -695,36 +695,36 @@ stop_kept r begun added s h = record {
 }
 
 pub stops_more : (r : Owned) (begins : List Begin) (tops : List Place) (low top after over : ℕ) (list more : List Stop) (old new : List ℕ)
-    (p : Place) (s : Stop) → AreBegins r.0 begins → AreTops r.0 tops → AreStopsTo r (places_of begins) tops low top list old
-    → IsNextPlace (places_of begins) low tops top p → IsRun (places_of begins) low after p → IsRun tops top over p
-    → IsExtended r (point_of p) old new → s.point ≡ point_of p → s.from ≡ length old → s.to ≡ length new → more ≡ list ++ s ∷ []
-    → AreStopsTo r (places_of begins) tops after over more new
+    (p : Place) (s : Stop) → AreBegins r.0 begins → AreTops r.0 tops → AreStopsTo r (begin_places begins) tops low top list old
+    → IsNextPlace (begin_places begins) low tops top p → IsPlaceRun (begin_places begins) low after p → IsPlaceRun tops top over p
+    → IsExtended r (swept_point p) old new → s.point ≡ swept_point p → s.from ≡ length old → s.to ≡ length new → more ≡ list ++ s ∷ []
+    → AreStopsTo r (begin_places begins) tops after over more new
 stops_more r begins tops low top after over list more old new p s begin_facts top_facts h next run_low run_top extended at from to is =
-    let points : points_of more ≡ points_of list ++ point_of p ∷ [] =
+    let points : points_of more ≡ points_of list ++ swept_point p ∷ [] =
     ap points_of is ∙ map-append (λ (z : Stop). z.point) list (s ∷ []) ∙ ap (λ q. points_of list ++ q ∷ []) at in
     let all : new ≡ old ++ extended.added = extended.is in
-    let passed = passed_all r (places_of begins) tops low top list old p h next in
-    let here : IsStopOf r new s = record {
+    let passed = passed_all r (begin_places begins) tops low top list old p h next in
+    let here : IsSweepStop r new s = record {
       order = omega (arith, from, to, ap length all, length-append old extended.added);
       bound = omega (arith, to);
       begun_at = coe 1 0 (z. BeginAt r (at z) (slice_range (all z) (from z) (to_all z)))
-          (subst (BeginAt r (point_of p)) (sym (range_added old extended.added)) extended.begun);
+          (subst (BeginAt r (swept_point p)) (sym (range_added old extended.added)) extended.begun);
     } in
     record {
       low_bound = run_low.bound;
       top_bound = run_top.bound;
       rising = subst (IsRising IsAfter) (sym points)
-          (rising_push (points_of list) (point_of p) h.rising (λ q m. passed q (contains (points_of list) q m)));
+          (rising_push (points_of list) (swept_point p) h.rising (λ q m. passed q (contains (points_of list) q m)));
       some = λ q m. ⊎_elim
           (λ (before : Contains (points_of list) q). h.some q before)
-          (λ (new_one : Contains (point_of p ∷ []) q).
-          subst (IsEndPoint r) (only (point_of p) q new_one) (end_point r begins tops low top p begin_facts top_facts next))
-          (Contains-append_cases (points_of list) (point_of p ∷ []) q (subst (λ ps. Contains ps q) points m));
-      low_joined = subst (λ ps. IsJoined (places_of begins) ps after) (sym points)
-          (joined_more (places_of begins) (points_of list) low after p h.low_joined run_low);
+          (λ (new_one : Contains (swept_point p ∷ []) q).
+          subst (IsEndPoint r) (only (swept_point p) q new_one) (end_point r begins tops low top p begin_facts top_facts next))
+          (Contains-append_cases (points_of list) (swept_point p ∷ []) q (subst (λ ps. Contains ps q) points m));
+      low_joined = subst (λ ps. IsJoined (begin_places begins) ps after) (sym points)
+          (joined_more (begin_places begins) (points_of list) low after p h.low_joined run_low);
       top_joined = subst (λ ps. IsJoined tops ps over) (sym points) (joined_more tops (points_of list) top over p h.top_joined run_top);
-      own = subst (All (IsStopOf r new)) (sym is) (All-push (IsStopOf r new) list s
-          (λ k d less. subst (λ b. IsStopOf r b (get_or list k d)) (sym all)
+      own = subst (All (IsSweepStop r new)) (sym is) (All-push (IsSweepStop r new) list s
+          (λ k d less. subst (λ b. IsSweepStop r b (get_or list k d)) (sym all)
           (stop_kept r old extended.added (get_or list k d) (h.own k d less)))
           here);
     }
@@ -733,8 +733,8 @@ stops_more r begins tops low top after over list more old new p s begin_facts to
     to_all = to ∙ ap length extended.is
 
 pub stops_done : (r : Owned) (begins : List Begin) (tops : List Place) (low top : ℕ) (stops : Stops) → AreBegins r.0 begins
-    → AreTops r.0 tops → AreStopsTo r (places_of begins) tops low top stops.list.items stops.begun.items
-    → length (places_of begins) ≤ low → length tops ≤ top → AreStops r stops
+    → AreTops r.0 tops → AreStopsTo r (begin_places begins) tops low top stops.list.items stops.begun.items
+    → length (begin_places begins) ≤ low → length tops ≤ top → AreStops r stops
 stops_done r begins tops low top stops begin_facts top_facts h all_low all_top = record {
   points = record {
     rising = h.rising;
@@ -743,15 +743,15 @@ stops_done r begins tops low top stops begin_facts top_facts h all_low all_top =
         let b = begin_of e.number (edge_at r e.number) in
         let m = begin_facts.all e.number e.given in
         let own : IsBeginOf r.0 b = subst (IsBeginOf r.0) m.2 (begin_facts.own m.0 b m.1) in
-        let at : get_or (places_of begins) m.0 b.place ≡ b.place =
+        let at : get_or (begin_places begins) m.0 b.place ≡ b.place =
         get_or-map (λ (z : Begin). z.place) begins m.0 b b.place m.1 ∙ ap (λ (z : Begin). z.place) m.2 in
-        let inside : m.0 < length (places_of begins) = omega (arith, m.1, length-map begins (λ (z : Begin). z.place)) in
-        subst (Contains (points_of stops.list.items)) (ap point_of at ∙ own.point ∙ low_is)
+        let inside : m.0 < length (begin_places begins) = omega (arith, m.1, length-map begins (λ (z : Begin). z.place)) in
+        subst (Contains (points_of stops.list.items)) (ap swept_point at ∙ own.point ∙ low_is)
         (h.low_joined.had m.0 b.place (omega arith) inside))
         (λ (high_is : HasHigh r p e.number).
         let t = top_facts.all e.number e.given in
         let m = t.1 in
-        subst (Contains (points_of stops.list.items)) (ap point_of m.2 ∙ t.2 ∙ high_is)
+        subst (Contains (points_of stops.list.items)) (ap swept_point m.2 ∙ t.2 ∙ high_is)
         (h.top_joined.had m.0 t.0 (omega (arith, m.1)) m.1))
         e.at;
     some = h.some;

@@ -1,5 +1,6 @@
 pub mod Counts
 pub mod Nexts
+pub mod OwnRows
 pub mod Points
 pub mod Reaches
 pub mod Sides

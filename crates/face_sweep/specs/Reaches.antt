@@ -1,12 +1,12 @@
--- How far the edges of each shape reach.
+-- How far the edges of each shape reach, and which shapes have edges of which their boxes don't tell.
 use Rattle.std.specs.Prelude.{
   ◌≡◌,
   ℕ,
+  ◌+◌,
+  ◌*◌,
   ◌<◌,
-  ◌≤◌,
   ℤ,
   ◌≤ℤ◌,
-  int_lt,
   Bool,
   true,
   false,
@@ -19,9 +19,10 @@ use Rattle.std.specs.Prelude.{
   Some,
   length,
   slice_get,
-  slice_index,
+  Contains,
 }
 use Rattle.std.specs.Int.{int_max, int_min}
+use Rattle.std.specs.List.Sorted.{IsStrictlyIncreasing}
 use Rattle.std.specs.Ordering.{int_eq}
 use Rattle.lay_point.specs.declared.point.Point.{Point}
 use Rattle.snap_chains.specs.declared.owner.Input.{Input}
@@ -29,17 +30,17 @@ use Rattle.snap_chains.specs.declared.owner.Input.TheVariants.{First, Second}
 use Rattle.snap_chains.specs.declared.owner.Owner.{Owner}
 use Rattle.snap_chains.specs.Rounded.{Owned, is_owner_listed}
 use Rattle.face_sweep.specs.declared.extent.Extent.{Extent}
+use Rattle.face_sweep.specs.declared.boxes.Boxes.{Boxes}
 use Rattle.face_sweep.specs.declared.reach.Reach.{Reach}
 use Rattle.face_rows.specs.Lines.{edge_at, owners_at}
-use Rattle.face_rows.specs.Sound.{AreSound}
 
-abbrev pub reach_list : Reach → Input → List Extent
-reach_list reach First = reach.first.items
-reach_list reach Second = reach.second.items
+abbrev pub box_list : Boxes → Input → List Extent
+box_list boxes First = boxes.first.items
+box_list boxes Second = boxes.second.items
 
 -- the box round the edges of a shape, where it has one
-abbrev pub extent_of : Reach → Owner → Option Extent
-extent_of reach o = slice_get (reach_list reach o.input) o.shape
+abbrev pub extent_of : Boxes → Owner → Option Extent
+extent_of boxes o = slice_get (box_list boxes o.input) o.shape
 
 -- the point is in the box
 pub record IsInExtent (extent : Extent) (p : Point) : Type 0 where
@@ -69,17 +70,12 @@ HaveGrown old new = (shape : ℕ) (extent : Extent) → slice_get new shape ≡ 
     × (slice_get old shape ≡ Some before) × IsEnclosed before extent
 
 -- the edge of this number is in the boxes of its shapes
-abbrev pub IsInReach : Owned → Reach → ℕ → Type 0
-IsInReach r reach n = (o : Owner) (extent : Extent) → is_owner_listed o (owners_at r n) ≡ true → extent_of reach o ≡ Some extent
+abbrev pub IsInBoxes : Owned → Boxes → ℕ → Type 0
+IsInBoxes r boxes n = (o : Owner) (extent : Extent) → is_owner_listed o (owners_at r n) ≡ true → extent_of boxes o ≡ Some extent
     → IsEdgeIn extent (edge_at r n)
 
-abbrev pub IsReach : Owned → Reach → Type 0
-IsReach r reach = (n : ℕ) → n < length r.0 → IsInReach r reach n
-
--- both ends of the edge are right of the box, if there is one
-abbrev pub is_beyond : Option Extent → Point × Point → Bool
-is_beyond None e = false
-is_beyond (Some extent) e = int_lt extent.high.x e.0.x && int_lt extent.high.x e.1.x
+abbrev pub AreBoxes : Owned → Boxes → Type 0
+AreBoxes r boxes = (n : ℕ) → n < length r.0 → IsInBoxes r boxes n
 
 -- both ends of the edge are in the column, or at the height
 abbrev pub is_upright_at : ℤ → Point × Point → Bool
@@ -101,13 +97,25 @@ abbrev pub told_by : Option Extent → Point × Point → Option Bool
 told_by None e = None
 told_by (Some extent) e = if is_first extent e then Some true else (if is_last extent e then Some false else None)
 
--- after an edge of the list that is right of the box there is none of the shape
-abbrev pub EndAt : Owned → List ℕ → Owner → Option Extent → Type 0
-EndAt r numbers o extent = (i k : ℕ) → i ≤ k → k < length numbers → is_beyond extent (edge_at r (slice_index numbers i)) ≡ true
-    → is_owner_listed o (owners_at r (slice_index numbers k)) ≡ false
+-- ---- shapes that are traced
+-- one number for each shape: the shapes of the two inputs take turns
+abbrev pub turn_of : Input → ℕ
+turn_of First = 0
+turn_of Second = 1
 
--- the boxes are those of the shapes of sound edges, and bound these edges of a row
-pub record IsReachIn (r : Owned) (reach : Reach) (numbers : List ℕ) : Type 0 where
-  pub sound : AreSound r
-  pub all : IsReach r reach
-  pub ends : (o : Owner) → EndAt r numbers o (extent_of reach o)
+abbrev pub key_of : Owner → ℕ
+key_of o = 2 * o.shape + turn_of o.input
+
+-- of each edge of another shape its box tells
+pub record AreTraced (r : Owned) (boxes : Boxes) (keys : List ℕ) : Type 0 where
+  pub rising : IsStrictlyIncreasing keys
+  pub all : (n : ℕ) (o : Owner) → n < length r.0 → is_owner_listed o (owners_at r n) ≡ true
+      → told_by (extent_of boxes o) (edge_at r n) ≡ None → Contains keys (key_of o)
+
+-- the keys of the shapes that are traced
+abbrev pub keys_of : Reach → List ℕ
+keys_of reach = reach.traced.items
+
+pub record IsReach (r : Owned) (reach : Reach) : Type 0 where
+  pub boxes : AreBoxes r reach.boxes
+  pub traced : AreTraced r reach.boxes (keys_of reach)

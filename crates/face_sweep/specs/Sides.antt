@@ -2,14 +2,10 @@
 use Rattle.std.specs.Prelude.{
   ◌≡◌,
   ◌≢◌,
-  ◌⊎◌,
   ℕ,
   ◌+◌,
   ◌<◌,
-  ◌≤◌,
   ◌==◌,
-  true,
-  false,
   pos,
   ◌+ℤ◌,
   Bool,
@@ -22,7 +18,6 @@ use Rattle.std.specs.Prelude.{
   Some,
   drop,
   length,
-  map,
   slice_get,
   slice_index,
 }
@@ -35,8 +30,6 @@ use Rattle.slab.specs.Slab.{Slab, get}
 use Rattle.face_sweep.specs.declared.known.Kept.{Kept}
 use Rattle.face_sweep.specs.declared.known.Known.{Known}
 use Rattle.face_sweep.specs.declared.sides.Sides.{Sides}
-use Rattle.face_sweep.specs.declared.sides.Told.{Told}
-use Rattle.face_sweep.specs.declared.sides.Told.TheVariants.{Inside, Nothing, Unknown}
 use Rattle.face_sweep.specs.Counts.{AreCounts}
 use Rattle.face_rows.specs.Lines.{edge_at, owners_at}
 use Rattle.face_rows.specs.Operations.{answer}
@@ -59,7 +52,6 @@ AreBehind r numbers = (i : ℕ) → i < length numbers → (o : Owner) → is_od
 pub record AreSidesOf (owners : List Owner) (holds : Owner → Bool) (sides : Sides) : Type 0 where
   pub right : AreCounts sides.right holds
   pub left : AreCounts sides.left (λ o. xor (is_owner_listed o owners) (holds o))
-  pub inside : sides.inside.items ≡ map holds owners
 
 -- whether the operation's answers on the two sides differ, of whatever edge they are, if only these shapes can hold there
 abbrev pub IsDifference : Op → Sides → Bool → Type 0
@@ -98,14 +90,3 @@ pub record AreKnown (r : Owned) (known : Known) : Type 0 where
 
 abbrev pub IsKnown : Known → ℕ → Type 0
 IsKnown known n = (sides : Sides) × (sides_at known n ≡ Some sides)
-
--- what is reported is whether the owner lists the edge of this number and, if so and if its sides are known, whether it holds beside it
-abbrev pub IsTold : Owned → Known → ℕ → Owner → Told → Type 0
-IsTold r known n o Nothing = is_owner_listed o (owners_at r n) ≡ false
-IsTold r known n o Unknown = (is_owner_listed o (owners_at r n) ≡ true) × (sides_at known n ≡ None)
-IsTold r known n o (Inside inside) = (is_owner_listed o (owners_at r n) ≡ true) × (inside ≡ holds_beside r n o)
-
--- in the row the edge of this number stands between the edges left of it and those right of it, or isn't there
-pub record StandsAt (numbers : List ℕ) (n left right : ℕ) : Type 0 where
-  pub bound : right ≤ length numbers
-  pub place : (left ≡ right) ⊎ ((left + 1 ≡ right) × (slice_index numbers left ≡ n))

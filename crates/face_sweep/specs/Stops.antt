@@ -48,17 +48,17 @@ pub record AreStops (r : Owned) (stops : Stops) : Type 0 where
 
 -- ---- places: points in the order of the sweep
 -- how far a coordinate is from the least of all
-abbrev pub offset : ℤ → ℕ
-offset z = nat_abs (z +ℤ pos 2147483648)
+abbrev pub from_least : ℤ → ℕ
+from_least z = nat_abs (z +ℤ pos 2147483648)
 
-abbrev pub shifted : ℕ → ℤ
-shifted n = pos n -ℤ pos 2147483648
+abbrev pub above_least : ℕ → ℤ
+above_least n = pos n -ℤ pos 2147483648
 
-abbrev pub place_of : Point → Place
-place_of p = record { key = offset p.y * 4294967296 + (4294967295 - offset p.x) }
+abbrev pub sweep_place : Point → Place
+sweep_place p = record { key = from_least p.y * 4294967296 + (4294967295 - from_least p.x) }
 
-abbrev pub point_of : Place → Point
-point_of q = record { x = shifted (4294967295 - q.key % 4294967296); y = shifted (q.key / 4294967296) }
+abbrev pub swept_point : Place → Point
+swept_point q = record { x = above_least (4294967295 - q.key % 4294967296); y = above_least (q.key / 4294967296) }
 
 -- the sweep comes to a before b
 abbrev pub IsSooner : Place → Place → Type 0
@@ -67,59 +67,59 @@ IsSooner a b = a.key < b.key
 abbrev pub IsNoLater : Place → Place → Type 0
 IsNoLater a b = (a ≡ b) ⊎ IsSooner a b
 
-abbrev pub AreInOrder : List Place → Type 0
-AreInOrder places = (i j : ℕ) (d : Place) → i ≤ j → j < length places
+abbrev pub ArePlacesInOrder : List Place → Type 0
+ArePlacesInOrder places = (i j : ℕ) (d : Place) → i ≤ j → j < length places
     → IsNoLater (slice_index_or places i d) (slice_index_or places j d)
 
 -- ---- where edges begin, and where they end
 abbrev pub begin_of : ℕ → Point × Point → Begin
-begin_of n e = record { place = place_of (upward e).0; level = int_le (upward e).1.y (upward e).0.y; number = n }
+begin_of n e = record { place = sweep_place (upward e).0; level = int_le (upward e).1.y (upward e).0.y; number = n }
 
 abbrev pub edge_begins : List (Point × Point) → List Begin
 edge_begins edges = picked (λ e. true) begin_of 0 edges
 
 abbrev pub edge_tops : List (Point × Point) → List Place
-edge_tops edges = picked (λ e. true) (λ n e. place_of (upward e).1) 0 edges
+edge_tops edges = picked (λ e. true) (λ n e. sweep_place (upward e).1) 0 edges
 
-abbrev pub numbers_of : List Begin → List ℕ
-numbers_of = map (λ b. b.number)
+abbrev pub begin_numbers : List Begin → List ℕ
+begin_numbers = map (λ b. b.number)
 
-abbrev pub places_of : List Begin → List Place
-places_of = map (λ b. b.place)
+abbrev pub begin_places : List Begin → List Place
+begin_places = map (λ b. b.place)
 
 -- the places of the edge's ends are those of its points, as they are of all points that code has
 abbrev pub HasLowPlace : Point × Point → Type 0
-HasLowPlace e = point_of (place_of (upward e).0) ≡ (upward e).0
+HasLowPlace e = swept_point (sweep_place (upward e).0) ≡ (upward e).0
 
 abbrev pub HasTopPlace : Point × Point → Type 0
-HasTopPlace e = point_of (place_of (upward e).1) ≡ (upward e).1
+HasTopPlace e = swept_point (sweep_place (upward e).1) ≡ (upward e).1
 
 -- it is where the edge of its number begins
 pub record IsBeginOf (edges : List (Point × Point)) (b : Begin) : Type 0 where
   pub given : b.number < length edges
   pub is : begin_of b.number (slice_index_or edges b.number nowhere) ≡ b
-  pub point : point_of b.place ≡ (upward (slice_index_or edges b.number nowhere)).0
+  pub point : swept_point b.place ≡ (upward (slice_index_or edges b.number nowhere)).0
 
 -- where all edges begin, in order; at one place the level edges come last
 pub record AreBegins (edges : List (Point × Point)) (begins : List Begin) : Type 0 where
   pub own : All (IsBeginOf edges) begins
   pub all : (n : ℕ) → n < length edges → Contains begins (begin_of n (slice_index_or edges n nowhere))
-  pub order : AreInOrder (places_of begins)
+  pub order : ArePlacesInOrder (begin_places begins)
   pub levels : (i j : ℕ) (d : Begin) → i ≤ j → j < length begins
       → (slice_index_or begins i d).place ≡ (slice_index_or begins j d).place
       → (slice_index_or begins i d).level ≡ true → (slice_index_or begins j d).level ≡ true
-  pub apart : AllPairs (λ m n. m ≢ n) (numbers_of begins)
+  pub apart : AllPairs (λ m n. m ≢ n) (begin_numbers begins)
 
 pub record IsTopOf (edges : List (Point × Point)) (q : Place) : Type 0 where
   pub number : ℕ
   pub given : number < length edges
-  pub point : point_of q ≡ (upward (slice_index_or edges number nowhere)).1
+  pub point : swept_point q ≡ (upward (slice_index_or edges number nowhere)).1
 
 -- where all edges end, in order
 pub record AreTops (edges : List (Point × Point)) (tops : List Place) : Type 0 where
   pub own : All (IsTopOf edges) tops
-  pub all : (n : ℕ) → n < length edges → (q : Place) × Contains tops q × (point_of q ≡ (upward (slice_index_or edges n nowhere)).1)
-  pub order : AreInOrder tops
+  pub all : (n : ℕ) → n < length edges → (q : Place) × Contains tops q × (swept_point q ≡ (upward (slice_index_or edges n nowhere)).1)
+  pub order : ArePlacesInOrder tops
 
 -- ---- from place to place
 -- the place isn't behind that at the index, if there is one
@@ -135,7 +135,7 @@ pub record IsNextPlace (lows : List Place) (low : ℕ) (tops : List Place) (top 
   pub no_top : IsHeadUpTo tops top p
 
 -- those from one index up to the other are the place, and those behind them come later
-pub record IsRun (places : List Place) (from to : ℕ) (p : Place) : Type 0 where
+pub record IsPlaceRun (places : List Place) (from to : ℕ) (p : Place) : Type 0 where
   pub order : from ≤ to
   pub bound : to ≤ length places
   pub same : (k : ℕ) (d : Place) → from ≤ k → k < to → slice_index_or places k d ≡ p
@@ -144,18 +144,18 @@ pub record IsRun (places : List Place) (from to : ℕ) (p : Place) : Type 0 wher
 -- ---- the edges that begin at one point
 pub record IsGroup (edges : List (Point × Point)) (p : Point) (group : List Begin) : Type 0 where
   pub own : All (IsBeginOf edges) group
-  pub at : All (λ b. point_of b.place ≡ p) group
-  pub all : (n : ℕ) → n < length edges → (upward (slice_index_or edges n nowhere)).0 ≡ p → Contains (numbers_of group) n
+  pub at : All (λ b. swept_point b.place ≡ p) group
+  pub all : (n : ℕ) → n < length edges → (upward (slice_index_or edges n nowhere)).0 ≡ p → Contains (begin_numbers group) n
   pub levels : (i j : ℕ) (d : Begin) → i ≤ j → j < length group → (slice_index_or group i d).level ≡ true
       → (slice_index_or group j d).level ≡ true
-  pub apart : AllPairs (λ m n. m ≢ n) (numbers_of group)
+  pub apart : AllPairs (λ m n. m ≢ n) (begin_numbers group)
 
 -- edges that begin in the row and aren't level, each once
 pub record AreRisers (edges : List (Point × Point)) (row : ℤ) (group : List Begin) : Type 0 where
   pub own : All (IsBeginOf edges) group
   pub rising : All (λ b. b.level ≡ false) group
-  pub at : All (λ b. (point_of b.place).y ≡ row) group
-  pub apart : AllPairs (λ m n. m ≢ n) (numbers_of group)
+  pub at : All (λ b. (swept_point b.place).y ≡ row) group
+  pub apart : AllPairs (λ m n. m ≢ n) (begin_numbers group)
 
 -- the edges from the index on are level, and those before it aren't
 pub record IsFirstLevel (group : List Begin) (index : ℕ) : Type 0 where
@@ -168,8 +168,8 @@ pub record IsWithRisers (edges : List (Point × Point)) (row : ℤ) (group : Lis
   pub added : List ℕ
   pub is : new ≡ old ++ added
   pub rising : IsRising (IsLeftOf edges row) added
-  pub among : (n : ℕ) → Contains added n → Contains (numbers_of group) n
-  pub all : (n : ℕ) → Contains (numbers_of group) n → Contains added n
+  pub among : (n : ℕ) → Contains added n → Contains (begin_numbers group) n
+  pub all : (n : ℕ) → Contains (begin_numbers group) n → Contains added n
 
 -- the numbers of the edges that begin at the point are appended
 pub record IsExtended (r : Owned) (p : Point) (old new : List ℕ) : Type 0 where

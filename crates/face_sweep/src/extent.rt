@@ -2,7 +2,6 @@
 ghost use Rattle.std.specs.Prelude.{◌≡◌};
 ghost use Rattle.std.specs.Int.{int_max, int_min};
 ghost use Rattle.face_sweep.specs.Reaches.{
-  is_beyond,
   is_first,
   is_last,
   is_level_at,
@@ -75,16 +74,6 @@ fn is_last(extent: Extent, edge: Edge) -> bool
     ensures { result ≡ is_last extent edge }
 {
     is_upright_at(edge, extent.high.x) || is_level_at(edge, extent.high.y)
-}
-
-/// Returns whether both ends of the edge are right of the box, if there is one.
-pub(crate) fn is_beyond(edge: Edge, extent: Option<Extent>) -> bool
-    ensures { result ≡ is_beyond extent edge }
-{
-    match extent {
-        Some(extent) => extent.high.x < edge.low().x && extent.high.x < edge.high().x,
-        None => false,
-    }
 }
 
 /// Returns whether both ends of the edge are in the column.

@@ -18,36 +18,40 @@
 //! - [`place_of_point`] searches the list for a point, from a hint on: the place of the stop before, which is
 //!   near in a row. It compares two products for each edge that it looks at. [`group_end`] is where the edges
 //!   that end at the point end, and [`replace`] puts others in their place.
-//! - [`Sides`] has how many shapes of each input hold on each side of an edge
-//!   (`specs/Counts.antt`), and which of the edge's owners are among those on its right
-//!   (`specs/Sides.antt`). They are counted from the edges to the right in the list, from
-//!   near to far: right of an edge holds what holds left of the next, and the first edge that an
-//!   owner owns decides for it. Above a level edge holds what the edges right of its left end tell.
+//! - [`Sides`] has how many shapes of each input hold on each side of an edge (`specs/Counts.antt`,
+//!   `specs/Sides.antt`). Right of an edge holds what holds left of the next; left of it the owners of the edge
+//!   are turned. Above a level edge holds what the edges right of its left end tell.
 //! - [`Known`] keeps the sides of the edges of the list. It is as long as there are edges, but of most
 //!   edges has a key alone.
 //! - [`Reach`] is the box round each shape's edges (`specs/Reaches.antt`). Of an edge on its border
 //!   the box tells at once whether the shape holds beside it: right of a left side and above a
-//!   bottom it does, right of a right side and above a top it doesn't. Right of the box no edge of
-//!   the shape is sought.
+//!   bottom it does, right of a right side and above a top it doesn't.
+//! - [`OwnRows`] has, for each shape with other edges than these, those of the row's edges that it owns
+//!   (`specs/OwnRows.antt`). A shape holds right of a point exactly if an odd number of its edges is right of
+//!   it, and one search in the shape's own list tells how many there are. An edge comes to the lists of its
+//!   owners where it begins, and goes where it ends.
 //!
 //! # What callers must keep
 //!
 //! No type keeps what the list is: each call requires it. Of the clauses of [`Sides::of`],
-//! `IsReachIn` says that the boxes are those of the edges, and that after an edge right of a shape's
-//! box none is of the shape, and `AreKnown` that the sides that are kept are those of their edges.
+//! `IsReach` says that the boxes are those of the edges, `AreRight` that the lists of single shapes have the
+//! edges right of the point, and `AreKnown` that the sides that are kept are those of their edges.
 //!
 //! # Files
 //!
 //! - `stops.rt`: the points of the sweep.
 //! - `place.rt`, `search.rt`, `side.rt`: where a point is among the edges of the list.
 //! - `passing.rt`: how the list passes a point; `laws.rt`: why it is then that of the next.
-//! - `sides.rt`, `counts.rt`, `known.rt`, `reach.rt`, `extent.rt`: what holds beside an edge.
+//! - `sides.rt`, `counts.rt`, `known.rt`: what holds beside an edge.
+//! - `reach.rt`, `boxes.rt`, `extent.rt`, `traced.rt`, `own_rows.rt`: whether one shape holds beside an edge.
 #![tactic(auto)]
 
+mod boxes;
 mod counts;
 mod extent;
 mod known;
 mod laws;
+mod own_rows;
 mod passing;
 mod place;
 mod reach;
@@ -55,9 +59,11 @@ mod search;
 mod side;
 mod sides;
 mod stops;
+mod traced;
 
 pub use known::Known;
 pub use laws::{nexts_tell, points_pass};
+pub use own_rows::OwnRows;
 pub use passing::{group_end, replace};
 pub use place::place_of_point;
 pub use reach::Reach;

@@ -24,7 +24,7 @@ pub fn place_of_point(edges: &CleanEdges, numbers: &[usize], point: Point, hint:
 }
 
 /// Returns whether the edge at this index is left of the point.
-fn is_left_at(edges: &CleanEdges, numbers: &[usize], index: usize, point: Point) -> bool
+pub(crate) fn is_left_at(edges: &CleanEdges, numbers: &[usize], index: usize, point: Point) -> bool
     requires given { All (λ n. n < length edges.now.0) numbers.now }
     requires index { index < length numbers.now }
     ensures { result ≡ int_lt (distance_from edges.now point (slice_index numbers.now index)) (pos 0) }

@@ -1,21 +1,18 @@
-//! How far the edges of each shape reach.
-ghost use Rattle.std.specs.Prelude.{◌≡◌, IfOk, Some, slice_get, true};
-ghost use Rattle.snap_chains.specs.declared.owner.Owner.{Owner};
-ghost use Rattle.snap_chains.specs.Rounded.{is_owner_listed};
-ghost use Rattle.face_sweep.specs.declared.extent.Extent.{Extent};
-ghost use Rattle.face_sweep.specs.Reaches.{IsEdgeIn, HaveGrown, IsReach, extent_of};
+//! What is known of each shape before the sweep.
+ghost use Rattle.std.specs.Prelude.{IfOk};
+ghost use Rattle.face_sweep.specs.Reaches.{IsReach};
 
-use crate::extent::Extent;
-use lay_point::Edge;
-use snap_chains::{CleanEdges, Input, Owner};
+use crate::boxes::Boxes;
+use crate::traced::traced_shapes;
+use snap_chains::CleanEdges;
 use std::alloc::{AllocError, Global};
 
-/// For each shape of each input, by its number, the box round its edges. Shapes of greater numbers than there
-/// are edges have none.
+/// The boxes round the edges of the shapes, and which shapes have edges of which these don't tell.
 #[derive(Debug, Drop)]
 pub struct Reach {
-    pub(crate) first: Vec<Extent>,
-    pub(crate) second: Vec<Extent>,
+    pub(crate) boxes: Boxes,
+    /// The keys of those shapes, in order. The sweep traces the edges of each.
+    pub(crate) traced: Vec<u64>,
 }
 
 impl Reach {
@@ -27,85 +24,13 @@ impl Reach {
     ///
     /// # Cost
     ///
-    /// Two passes over the edges and their owners.
+    /// Three passes over the edges and their owners, and a sort of the owners of those edges that aren't on the
+    /// border of their shape's box.
     pub fn of_edges(alloc: Global, edges: &CleanEdges) -> Result<Reach, AllocError>
         ensures { IfOk result (IsReach edges.now) }
     {
-        let shapes = shape_count(edges);
-        let count = edges.edges().len();
-        let mut reach = Reach {
-            first: vec![in alloc; Extent::none(); shapes]?,
-            second: vec![in alloc; Extent::none(); shapes]?,
-        };
-        for number in 0..count {
-            let edge = edges.edges()[number];
-            reach.extend(edges.owners(number), edge);
-        }
-        Ok(reach)
+        let boxes = Boxes::of_edges(alloc, edges)?;
+        let traced = traced_shapes(alloc, edges, &boxes)?;
+        Ok(Reach { boxes, traced })
     }
-
-    /// Lets each of the shapes reach round the edge.
-    fn extend(&mut self, owners: &[Owner], edge: Edge)
-        ensures first { HaveGrown self.old.first.items self.new.first.items }
-        ensures second { HaveGrown self.old.second.items self.new.second.items }
-        ensures reached { (o : Owner) (extent : Extent) → is_owner_listed o owners.now ≡ true
-            → extent_of self.new o ≡ Some extent → IsEdgeIn extent edge }
-    {
-        for owner in owners {
-            self.extend_one(*owner, edge);
-        }
-    }
-
-    /// Lets the shape reach round the edge.
-    fn extend_one(&mut self, owner: Owner, edge: Edge)
-        ensures first { HaveGrown self.old.first.items self.new.first.items }
-        ensures second { HaveGrown self.old.second.items self.new.second.items }
-        ensures reached { (extent : Extent) → extent_of self.new owner ≡ Some extent → IsEdgeIn extent edge }
-    {
-        match owner.input {
-            Input::First => widen(&mut self.first, owner.shape, edge),
-            Input::Second => widen(&mut self.second, owner.shape, edge),
-        }
-    }
-
-    /// Returns the box round the edges of the shape, where it is known.
-    pub(crate) fn extent(&self, owner: Owner) -> Option<Extent>
-        ensures { result ≡ extent_of self.now owner }
-    {
-        match owner.input {
-            Input::First => self.first.get(owner.shape as usize).copied(),
-            Input::Second => self.second.get(owner.shape as usize).copied(),
-        }
-    }
-}
-
-/// Widens the box of this number, if there is one, so that it has both ends of the edge.
-fn widen(extents: &mut Vec<Extent>, shape: u32, edge: Edge)
-    ensures grown { HaveGrown extents.old.items extents.new.items }
-    ensures reached { (extent : Extent) → slice_get extents.new.items shape ≡ Some extent → IsEdgeIn extent edge }
-{
-    let index = shape as usize;
-    if index < extents.len() {
-        extents[index] = extents[index].with(edge.low()).with(edge.high());
-    }
-}
-
-/// Returns one more than the greatest number of a shape of these edges, or how many edges there are, if that
-/// is less.
-fn shape_count(edges: &CleanEdges) -> usize {
-    let most = edges.edges().len();
-    let mut count = 0;
-    for number in 0..most {
-        count = count.max(beyond_all(edges.owners(number)));
-    }
-    count.min(most)
-}
-
-/// Returns the least number that is greater than those of all these shapes.
-fn beyond_all(owners: &[Owner]) -> usize {
-    let mut count = 0;
-    for owner in owners {
-        count = count.max(owner.shape as usize + 1);
-    }
-    count
 }

@@ -26,7 +26,7 @@ ghost use Rattle.face_rows.specs.Laws.{AreLesserFirst};
 ghost use Rattle.face_sweep.specs.Points.{IsAfter};
 ghost use Rattle.face_sweep.specs.Stops.{
   AreBegins,
-  AreInOrder,
+  ArePlacesInOrder,
   AreRisers,
   AreStops,
   AreTops,
@@ -38,17 +38,17 @@ ghost use Rattle.face_sweep.specs.Stops.{
   IsHeadUpTo,
   IsNextPlace,
   IsNoLater,
-  IsRun,
+  IsPlaceRun,
   IsSooner,
   IsWithRisers,
   begin_of,
   begun_list,
-  numbers_of,
-  offset,
-  place_of,
-  places_of,
-  point_of,
-  shifted,
+  begin_numbers,
+  from_least,
+  sweep_place,
+  begin_places,
+  swept_point,
+  above_least,
   stop_list,
   stop_points,
 };
@@ -104,20 +104,20 @@ pub(crate) struct Begin {
 
 impl Place {
     fn of(point: Point) -> Place
-        ensures value { result ≡ place_of point }
-        ensures point { point_of result ≡ point }
+        ensures value { result ≡ sweep_place point }
+        ensures point { swept_point result ≡ point }
     {
         Place {
-            key: offset(point.y) * 4_294_967_296 + (4_294_967_295 - offset(point.x)),
+            key: from_least(point.y) * 4_294_967_296 + (4_294_967_295 - from_least(point.x)),
         }
     }
 
     fn point(self) -> Point
-        ensures { result ≡ point_of self }
+        ensures { result ≡ swept_point self }
     {
         Point {
-            x: shifted(4_294_967_295 - self.key % 4_294_967_296),
-            y: shifted(self.key / 4_294_967_296),
+            x: above_least(4_294_967_295 - self.key % 4_294_967_296),
+            y: above_least(self.key / 4_294_967_296),
         }
     }
 
@@ -131,19 +131,19 @@ impl Place {
 }
 
 /// Returns how far the coordinate is from the least of all.
-fn offset(at: i32) -> u64
-    ensures value { result ≡ offset at }
+fn from_least(at: i32) -> u64
+    ensures value { result ≡ from_least at }
     ensures bound { result < 2 ^ 32 }
 {
     (i64::from(at) + 2_147_483_648).unsigned_abs()
 }
 
 /// Returns the coordinate that is so far from the least of all.
-fn shifted(offset: u64) -> i32
-    requires { offset < 2 ^ 32 }
-    ensures { result ≡ shifted offset }
+fn above_least(distance: u64) -> i32
+    requires { distance < 2 ^ 32 }
+    ensures { result ≡ above_least distance }
 {
-    (offset as i64 - 2_147_483_648) as i32
+    (distance as i64 - 2_147_483_648) as i32
 }
 
 impl Begin {
@@ -188,8 +188,8 @@ fn tops_of(alloc: Global, edges: &[Edge]) -> Result<Vec<Place>, AllocError>
 }
 
 /// Returns the places at which edges begin, one for each.
-fn places_of(alloc: Global, begins: &[Begin]) -> Result<Vec<Place>, AllocError>
-    ensures { IfOk result (λ places. places.items ≡ places_of begins.now) }
+fn begin_places(alloc: Global, begins: &[Begin]) -> Result<Vec<Place>, AllocError>
+    ensures { IfOk result (λ places. places.items ≡ begin_places begins.now) }
 {
     let mut places = Vec::with_capacity(alloc, begins.len())?;
     for begin in begins {
@@ -215,10 +215,10 @@ fn next_place(lows: &[Place], low: usize, tops: &[Place], top: usize) -> Option<
 
 /// Returns where those end, from this index on, that are the place.
 fn run_end(places: &[Place], from: usize, place: Place) -> usize
-    requires order { AreInOrder places.now }
+    requires order { ArePlacesInOrder places.now }
     requires from { from ≤ length places.now }
     requires ahead { IsHeadUpTo places.now from place }
-    ensures { IsRun places.now from result place }
+    ensures { IsPlaceRun places.now from result place }
 {
     let mut to = from;
     while to < places.len() && !place.is_before(places[to]) {
@@ -240,7 +240,7 @@ fn first_level(group: &[Begin]) -> usize
 
 /// Appends the numbers of the edges.
 fn put_numbers(group: &[Begin], begun: &mut Vec<usize>) -> Result<(), AllocError>
-    ensures { OnOk result (begun.new.items ≡ begun.old.items ++ numbers_of group.now) }
+    ensures { OnOk result (begun.new.items ≡ begun.old.items ++ begin_numbers group.now) }
 {
     for begin in group {
         begun.push(begin.number)?;
@@ -256,7 +256,7 @@ fn crossings_of(
     row: i32,
 ) -> Result<Vec<Crossing>, AllocError>
     requires { AreRisers edges.now row group.now }
-    ensures numbers { IfOk result (λ crossings. map (λ c. c.number) crossings.items ≡ numbers_of group.now) }
+    ensures numbers { IfOk result (λ crossings. map (λ c. c.number) crossings.items ≡ begin_numbers group.now) }
     ensures places { IfOk result (λ crossings. All (IsCrossingOf edges.now row) crossings.items) }
 {
     let mut crossings = Vec::with_capacity(alloc, group.len())?;
@@ -323,7 +323,7 @@ fn stops_at(
     tops: &[Place],
 ) -> Result<Stops, AllocError>
     requires begins { AreBegins edges.now.0 begins.now }
-    requires lows { lows.now ≡ places_of begins.now }
+    requires lows { lows.now ≡ begin_places begins.now }
     requires tops { AreTops edges.now.0 tops.now }
     ensures { IfOk result (AreStops edges.now) }
 {
@@ -360,7 +360,7 @@ impl Stops {
         ensures lesser { IfOk result (λ stops. AreLesserFirst edges.now.0) }
     {
         let begins = begins_of(alloc, edges.edges())?;
-        let lows = places_of(alloc, begins.as_slice())?;
+        let lows = begin_places(alloc, begins.as_slice())?;
         let tops = tops_of(alloc, edges.edges())?;
         let stops = stops_at(
             alloc,

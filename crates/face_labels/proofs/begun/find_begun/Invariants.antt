@@ -1,19 +1,25 @@
-use Rattle.std.proofs.Common.{◌≡◌, ◌<◌, ◌≤◌, ℕ, drop, get_or, length}
+use Rattle.std.proofs.Common.{◌≡◌, ◌<◌, ◌≤◌, ◌++◌, ℕ, drop, get_or, length, take}
 use Rattle.std.specs.Prelude.{All}
+use Rattle.face_sweep.specs.OwnRows.{AreOwn, HasRoom, own_of}
+use Rattle.face_sweep.specs.Reaches.{keys_of}
 use Rattle.face_sweep.specs.Sides.{AreKnown, IsKnown}
 use Rattle.face_labels.specs.RowSides.{HasLabel}
 use Rattle.face_labels.proofs.begun.find_begun.Given as goal
 
--- the sides of those from the index on are known, and the labels are written
+-- the sides of those from the index on are known, these are in the lists, and the labels are written
 abbrev pub invariant-loop-index : goal.invariant-loop-index
 invariant-loop-index l = record {
-  bound : l.index ≤ l.fn.count;
+  from : l.fn.group.from ≤ l.index;
+  bound : l.index ≤ l.fn.group.to;
   known : AreKnown l.edges l.known;
   kept : (n : ℕ) → IsKnown l.initial.known n → IsKnown l.known n;
   all : All (IsKnown l.known) (drop l.index l.numbers);
+  room : HasRoom l.edges (keys_of l.reach) l.own;
+  own : AreOwn (keys_of l.reach)
+      (λ o. own_of l.edges o (drop l.index l.numbers) ++ own_of l.edges o (take l.fn.group.from l.numbers)) l.own;
   count : length l.labels.items ≡ length l.edges.0;
   written : (n : ℕ) → HasLabel l.fn.op l.edges l.initial.labels.items n → HasLabel l.fn.op l.edges l.labels.items n;
-  labels : (k : ℕ) → l.index ≤ k → k < l.fn.count → HasLabel l.fn.op l.edges l.labels.items (get_or l.numbers k 0);
+  labels : (k : ℕ) → l.index ≤ k → k < l.fn.group.to → HasLabel l.fn.op l.edges l.labels.items (get_or l.numbers k 0);
 }
 
 abbrev pub decreases-loop-index : goal.decreases-loop-index

@@ -1,5 +1,6 @@
-use Rattle.std.proofs.Common.{◌≡◌, ◌<◌, ◌+◌, ◌∙◌, drop, get_or, length, arith}
+use Rattle.std.proofs.Common.{◌≡◌, ◌<◌, ◌+◌, ◌∙◌, drop, get_or, length, subst, arith}
 use Rattle.std.proofs.Math.ListN.{length-set}
+use Rattle.std.proofs.lemmas.List.{take_rest}
 use Rattle.face_rows.specs.Labels.{differs, owned_items}
 use Rattle.face_rows.specs.Lines.{owned_item_at, owners_at}
 use Rattle.face_rows.specs.Operations.{answer}
@@ -21,20 +22,22 @@ returns c =
     let new = c.put.new.self in
     let i = c.args.index in
     let n = get_or numbers i 0 in
-    let sides = c.in_ok-sides.sides in
+    let sides = c.of-sides.result in
     let put = c.in_ok-put.ensures in
     let labels = c.args.labels.now.items in
     let inside : n < length labels = omega (arith, c.requires.given i 0 c.requires.index, c.requires.count) in
     let own : AreSidesOf (owners_at r n) (holds_beside r n) sides =
-    sides_agree (owners_at r n) (is_odd_in r (drop (i + 1) numbers)) (holds_beside r n) sides
-    (λ o. c.requires.behind i c.requires.index o) c.in_ok-sides.ensures in
+    sides_agree (owners_at r n) (is_odd_in r (drop (i + 1) numbers)) (holds_beside r n) sides c.requires.beside
+    (subst (λ l. AreSidesOf (owners_at r n) (is_odd_in r l) sides) (take_rest numbers (i + 1)) c.of-sides.ensures) in
     let label = c.differs.result in
     let is : label ≡ differs (answer op) (owned_items r) (owned_item_at r n) =
-    label_beside op r n c.requires.reach.sound (c.requires.given i 0 c.requires.index) sides own label c.differs.ensures in
+    label_beside op r n c.requires.sound (c.requires.given i 0 c.requires.index) sides own label c.differs.ensures in
     record {
       known = known_more r old new n sides put own c.requires.known;
       kept = λ m h. still_known old new n m sides put h;
       here = (sides, put.here);
+      room = c.in_ok-put-2.ensures.room;
+      put = c.in_ok-put-2.ensures.put;
       count = length-set labels n label ∙ c.requires.count;
       written = λ m h. label_kept op r labels n label m inside is h;
       label = label_here op r labels n label inside is;

@@ -7,8 +7,8 @@ use Rattle.face_labels.specs.RowSides.{HasLabel}
 use Rattle.face_labels.proofs.WrittenLemmas.{all_found, label_here, label_kept}
 use Rattle.face_labels.proofs.begun.label_levels.Goals as goal
 
-pub level_label-requires-clause-beside : goal.level_label-requires-clause-beside
-level_label-requires-clause-beside c = λ o.
+pub level_label-label-requires-clause-beside : goal.level_label-label-requires-clause-beside
+level_label-label-requires-clause-beside c = λ o.
     let levels = c.args.levels.now in
     let i = c.loop-index.index in
     c.requires.beside (get_or levels i 0) o (Contains-get_or levels i 0 c.loop-index-test.true)
@@ -21,17 +21,17 @@ loop-index-preserved c =
     let old = c.loop-index.labels.items in
     let i = c.loop-index.index in
     let n = get_or levels i 0 in
-    let label = c.in_ok-labels.field-0 in
+    let label = c.level_label-label.result in
     let own = c.loop-index.invariant in
     let inside : n < length old = omega (arith, own.count, c.requires.levels i 0 c.loop-index-test.true) in
     record {
       count = length-set old n label ∙ own.count;
-      kept = λ m h. label_kept op r old n label m inside c.in_ok-labels.ensures (own.kept m h);
+      kept = λ m h. label_kept op r old n label m inside c.level_label-label.ensures (own.kept m h);
       labels = λ k less. ⊎_elim
-          (λ (before : k < i). label_kept op r old n label (get_or levels k 0) inside c.in_ok-labels.ensures (own.labels k before))
+          (λ (before : k < i). label_kept op r old n label (get_or levels k 0) inside c.level_label-label.ensures (own.labels k before))
           (λ (ge : i ≤ k).
           let same : i ≡ k = omega arith in
-          subst (λ j. HasLabel op r (set old n label) (get_or levels j 0)) same (label_here op r old n label inside c.in_ok-labels.ensures))
+          subst (λ j. HasLabel op r (set old n label) (get_or levels j 0)) same (label_here op r old n label inside c.level_label-label.ensures))
           (cases_lt k i);
     }
 

@@ -1,18 +1,14 @@
-use Rattle.std.proofs.Common.{inl, refl, arith}
 use Rattle.face_rows.specs.Lines.{owners_at}
 use Rattle.face_sweep.specs.Sides.{holds_beside, is_odd_in}
 use Rattle.face_sweep.proofs.LabelLemmas.{label_beside}
 use Rattle.face_sweep.proofs.StateLemmas.{sides_agree}
 use Rattle.face_labels.proofs.begun.level_label.Goals as goal
 
-pub of-requires-clause-place : goal.of-requires-clause-place
-of-requires-clause-place c = record { bound = omega arith; place = inl refl }
-
 pub returns : goal.returns
 returns c =
     let r = c.args.edges.now in
     let n = c.args.number in
-    label_beside c.args.op r n c.requires.reach.sound c.requires.number c.in_ok-sides.sides
-    (sides_agree (owners_at r n) (is_odd_in r c.args.behind.now) (holds_beside r n) c.in_ok-sides.sides c.requires.beside
-    c.in_ok-sides.ensures)
+    label_beside c.args.op r n c.requires.sound c.requires.number c.of-sides.result
+    (sides_agree (owners_at r n) (is_odd_in r c.args.behind.now) (holds_beside r n) c.of-sides.result c.requires.beside
+    c.of-sides.ensures)
     c.differs.result c.differs.ensures

@@ -11,7 +11,7 @@ use Rattle.face_rows.specs.Sound.{AreSound}
 use Rattle.face_sweep.specs.declared.stops.Stop.{Stop}
 use Rattle.face_sweep.specs.Points.{HasLow, IsPassed}
 use Rattle.face_sweep.proofs.SweepLemmas.{all_of_band, next_status}
-use Rattle.face_labels.specs.RowSides.{HasLabel, IsStopOf}
+use Rattle.face_labels.specs.RowSides.{HasLabel, IsSweepStop}
 use Rattle.face_labels.proofs.LineLemmas.{stop_is}
 use Rattle.face_labels.proofs.labels.labels_at.Goals as goal
 
@@ -50,7 +50,7 @@ past-requires-clause-stop c =
     let r = c.args.edges.now in
     let stops = c.args.shared.now.stops in
     let i = c.loop-index.index in
-    subst (λ l. IsStopOf r stops (get_or l i origin)) (sym c.stops-stops.ensures)
+    subst (λ l. IsSweepStop r stops (get_or l i origin)) (sym c.stops-stops.ensures)
     (stop_is r stops c.requires.stops i origin (subst (λ l. i < length l) c.stops-stops.ensures c.loop-index-test.true))
 
 pub loop-index-preserved : goal.loop-index-preserved
@@ -78,6 +78,8 @@ loop-index-preserved c =
             (subst (λ (q : Point). IsPassed r q line.numbers.items) (at d) past.line.passed);
         known = past.line.known;
         all = past.line.all;
+        room = past.line.room;
+        own = past.line.own;
       };
       labels = λ k n d from to inside given low. ⊎_elim
           (λ (before : k < i). past.kept n (c.loop-index.invariant.labels k n d from before inside given low))

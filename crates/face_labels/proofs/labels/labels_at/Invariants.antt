@@ -9,7 +9,7 @@ abbrev pub invariant-loop-index : goal.invariant-loop-index
 invariant-loop-index l = record {
   count : length l.labels.items ≡ length l.edges.0;
   line : (d : Stop) → l.index < length l.fn.shared.stops.list.items
-      → IsLineAt l.edges (get_or l.fn.shared.stops.list.items l.index d).point l.line;
+      → IsLineAt l.edges l.fn.shared.reach (get_or l.fn.shared.stops.list.items l.index d).point l.line;
   labels : (k n : ℕ) (d : Stop) → l.first ≤ k → k < l.index → k < length l.fn.shared.stops.list.items → n < length l.edges.0
       → HasLow l.edges (get_or l.fn.shared.stops.list.items k d).point n → HasLabel l.fn.op l.edges l.labels.items n;
 }

@@ -1,6 +1,6 @@
 use Rattle.std.proofs.Common.{◌≡◌, ◌≤◌, ◌++◌, [], ◌∷◌, length, sym, subst, rules}
 use Rattle.std.specs.Prelude.{slice_range}
-use Rattle.face_sweep.specs.Stops.{IsExtended, IsGroup, IsNextPlace, IsRun, places_of}
+use Rattle.face_sweep.specs.Stops.{IsExtended, IsGroup, IsNextPlace, IsPlaceRun, begin_places}
 use Rattle.face_sweep.specs.declared.stops.Stop.{Stop}
 use Rattle.face_sweep.proofs.StopLemmas.{AreStopsTo, fewer_left, group_of, passed_all, points_of, stops_done, stops_more}
 use Rattle.face_sweep.proofs.stops.stops_at.Goals as goal
@@ -18,10 +18,10 @@ put_begun-requires c =
     let begun = c.loop-place.begun.items in
     let h = subst (λ l. AreStopsTo r l tops low top list begun) c.requires.lows c.loop-place.invariant in
     let next = subst (λ l. IsNextPlace l low tops top p) c.requires.lows c.in-Some.ensures.some in
-    let run = subst (λ l. IsRun l low after p) c.requires.lows c.run_end-after.ensures in
+    let run = subst (λ l. IsPlaceRun l low after p) c.requires.lows c.run_end-after.ensures in
     subst (λ q. IsGroup r.0 q (slice_range begins low after)) (sym c.point.ensures)
     (group_of r.0 begins (points_of list) low after p c.requires.begins run h.low_joined.had
-    (passed_all r (places_of begins) tops low top list begun p h next))
+    (passed_all r (begin_places begins) tops low top list begun p h next))
 
 pub loop-place-smaller : goal.loop-place-smaller
 loop-place-smaller c =
@@ -45,7 +45,7 @@ loop-place-preserved c =
     let s : Stop = record { point = c.point-in-Some.result; from = c.len-from.result; to = c.len.result } in
     let h = subst (λ l. AreStopsTo r l tops low top list old) c.requires.lows c.loop-place.invariant in
     let next = subst (λ l. IsNextPlace l low tops top p) c.requires.lows c.in-Some.ensures.some in
-    let run = subst (λ l. IsRun l low after p) c.requires.lows c.run_end-after.ensures in
+    let run = subst (λ l. IsPlaceRun l low after p) c.requires.lows c.run_end-after.ensures in
     let put : IsExtended r c.point.result old new = c.in_ok-put_begun.ensures in
     let extended = subst (λ q. IsExtended r q old new) c.point.ensures put in
     let from : c.len-from.result ≡ length old = search rules in

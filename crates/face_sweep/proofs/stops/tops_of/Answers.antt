@@ -3,7 +3,7 @@ use Rattle.std.specs.List.Sorted.{IsPermutation}
 use Rattle.std.proofs.lemmas.List.{take_all}
 use Rattle.face_rows.specs.Rows.{upward}
 use Rattle.face_rows.proofs.PickedLemmas.{picked_more}
-use Rattle.face_sweep.specs.Stops.{HasTopPlace, edge_tops, place_of}
+use Rattle.face_sweep.specs.Stops.{HasTopPlace, edge_tops, sweep_place}
 use Rattle.face_sweep.proofs.StopLemmas.{are_tops, one_more_edge}
 use Rattle.face_sweep.proofs.stops.tops_of.Goals as goal
 
@@ -14,10 +14,10 @@ loop-number-preserved c =
     let e = c.index-edges-number.result in
     let old = c.loop-number.tops.items in
     let less = c.loop-number-test.true in
-    let pushed : c.push.new.self.items ≡ old ++ place_of (upward e).1 ∷ [] = search rules in
+    let pushed : c.push.new.self.items ≡ old ++ sweep_place (upward e).1 ∷ [] = search rules in
     let fits : HasTopPlace e = search rules in (
-      pushed ∙ ap (λ ts. ts ++ place_of (upward e).1 ∷ []) c.loop-number.invariant.0
-          ∙ sym (picked_more (λ f. true) (λ k f. place_of (upward f).1) edges n e less c.index-edges-number.is refl),
+      pushed ∙ ap (λ ts. ts ++ sweep_place (upward e).1 ∷ []) c.loop-number.invariant.0
+          ∙ sym (picked_more (λ f. true) (λ k f. sweep_place (upward f).1) edges n e less c.index-edges-number.is refl),
       one_more_edge HasTopPlace edges n e less c.index-edges-number.is fits c.loop-number.invariant.1,
     )
 

@@ -1,11 +1,9 @@
 use Rattle.std.proofs.Common.{◌-ℤ◌, pos, get_or, length, sym, ap, subst, ◌∙◌}
 use Rattle.std.specs.Prelude.{All}
-use Rattle.face_rows.specs.Rows.{AreSomeRowEdges}
 use Rattle.face_sweep.specs.declared.stops.Stop.{Stop}
-use Rattle.face_sweep.specs.Reaches.{IsReachIn}
+use Rattle.face_sweep.specs.OwnRows.{AreOwn, own_of}
 use Rattle.face_sweep.specs.Sides.{AreBehind, IsKnown}
 use Rattle.face_sweep.proofs.LabelLemmas.{row_behind, row_given}
-use Rattle.face_sweep.proofs.ReachLemmas.{row_ends}
 use Rattle.face_sweep.proofs.StateLemmas.{none_known}
 use Rattle.face_sweep.proofs.SweepLemmas.{first_status}
 use Rattle.face_labels.proofs.LineLemmas.{in_all}
@@ -32,15 +30,8 @@ find_sides-requires-clause-known c =
     none_known c.args.edges.now c.in_ok-known.known (c.in_ok-known.ensures.count ∙ ap length c.edges.ensures.value)
     c.in_ok-known.ensures.none
 
-pub find_sides-requires-clause-reach : goal.find_sides-requires-clause-reach
-find_sides-requires-clause-reach c =
-    let r = c.args.edges.now in
-    let row = (get_or c.args.shared.now.stops.list.items c.args.index origin).point.y -ℤ pos 1 in
-    let numbers = c.in_ok-numbers.numbers.items in
-    let h = c.in_ok-numbers.ensures origin in
-    let some : AreSomeRowEdges r.0 row numbers = record { members = λ n. (h.exact n).0; rising = h.rising } in
-    subst (IsReachIn r c.args.shared.now.reach) (sym c.as_slice.ensures.value)
-    (row_ends r c.args.shared.now.reach row numbers c.requires.sound c.requires.shared.reach some)
+pub find_sides-requires-clause-room : goal.find_sides-requires-clause-room
+find_sides-requires-clause-room c = c.in_ok-own.ensures.room c.args.edges.now
 
 pub returns : goal.returns
 returns c = λ d.
@@ -53,4 +44,7 @@ returns c = λ d.
       known = c.in_ok-find_sides.ensures.known;
       all = λ n found. in_all (IsKnown known) numbers n
           (subst (All (IsKnown known)) c.as_slice.ensures.value c.in_ok-find_sides.ensures.all) found;
+      room = c.in_ok-find_sides.ensures.room;
+      own = subst (λ l. AreOwn c.args.shared.now.reach.traced.items (λ o. own_of r o l) c.find_sides.new.own) c.as_slice.ensures.value
+          c.in_ok-find_sides.ensures.own;
     }

@@ -1,13 +1,12 @@
 -- Each owner is turned once.
-use Rattle.std.proofs.Common.{◌≡◌, ◌+◌, ◌++◌, [], ◌∷◌, drop, get_or, map, take, sym, ap, subst, ◌∙◌, rules}
-use Rattle.std.proofs.lemmas.List.{get_or_default, map-append, take_all, take_more, take_rest}
+use Rattle.std.proofs.Common.{◌≡◌, ◌+◌, [], get_or, take, sym, ap, ◌∙◌}
+use Rattle.std.proofs.lemmas.List.{get_or_default, take_all}
 use Rattle.std.proofs.lemmas.Option.{get_or_from_slice_get}
 use Rattle.lay_point.specs.Parity.{parity, xor}
 use Rattle.snap_chains.specs.declared.owner.Input.TheVariants.{First}
 use Rattle.snap_chains.specs.declared.owner.Owner.{Owner}
 use Rattle.snap_chains.specs.Owners.{owner_eq}
 use Rattle.snap_chains.specs.Rounded.{is_owner_listed}
-use Rattle.face_sweep.specs.Counts.{AreCounts}
 use Rattle.face_rows.specs.Lines.{owners_at}
 use Rattle.face_sweep.specs.Sides.{is_odd_in}
 use Rattle.face_rows.proofs.OwnerLemmas.{listed_at, listed_of, none_before, turn_more}
@@ -16,67 +15,6 @@ use Rattle.face_sweep.proofs.sides.Sides.of.Goals as goal
 
 first : Owner
 first = record { input = First; shape = 0 }
-
-pub turned-left_of-requires : goal.turned-left_of-requires
-unfolding first
-turned-left_of-requires c =
-    let r = c.args.edges.now in
-    let behind = drop c.args.right c.args.numbers.now in
-    let owners = c.owners-owner-items.result.now in
-    let i = c.loop-owner.owner-index in
-    let o = get_or owners i first in (
-      λ p. xor (parity (λ q. owner_eq q p) (take i owners)) (is_odd_in r behind p),
-      c.loop-owner.invariant.left,
-      ap (λ b. xor b (is_odd_in r behind o)) (none_before owners i first c.owners-owner-items.ensures.rising c.loop-owner-test.true)
-          ∙ sym c.holds_beside-holds.ensures,
-    )
-
-pub loop-owner-preserved : goal.loop-owner-preserved
-unfolding first
-loop-owner-preserved c =
-    let r = c.args.edges.now in
-    let behind = drop c.args.right c.args.numbers.now in
-    let owners = c.owners-owner-items.result.now in
-    let i = c.loop-owner.owner-index in
-    let o = get_or owners i first in
-    let less = c.loop-owner-test.true in
-    let was = λ (p : Owner). xor (parity (λ q. owner_eq q p) (take i owners)) (is_odd_in r behind p) in
-    record {
-      left = counts_agree c.turned-left_of.result (λ p. xor (owner_eq o p) (was p))
-          (λ p. xor (parity (λ q. owner_eq q p) (take (i + 1) owners)) (is_odd_in r behind p))
-          (λ p. turn_more owners i first p (is_odd_in r behind p) less)
-          (c.turned-left_of.ensures was c.loop-owner.invariant.left
-          (ap (λ b. xor b (is_odd_in r behind o)) (none_before owners i first c.owners-owner-items.ensures.rising less)
-          ∙ sym c.holds_beside-holds.ensures));
-      inside = c.in_ok-push.ensures.ok ∙ (λ k. c.loop-owner.invariant.inside k ++ c.holds_beside-holds.ensures k ∷ [])
-          ∙ sym (ap (map (is_odd_in r behind)) (take_more owners i first less) ∙ map-append (is_odd_in r behind) (take i owners) (o ∷ []));
-    }
-
-pub returns : goal.returns
-returns c =
-    let r = c.args.edges.now in
-    let behind = drop c.args.right c.args.numbers.now in
-    let owners = c.owners-owner-items.result.now in
-    let all = take_all c.loop-owner.owner-index owners c.loop-owner-test.false in
-    let own : owners_at r c.args.number ≡ owners =
-    get_or_from_slice_get r.1 c.args.number owners [] c.owners-owner-items.ensures.value in
-    record {
-      right = subst (λ l. AreCounts c.right_counts-right_of.result (is_odd_in r l)) (take_rest c.args.numbers.now c.args.right)
-          c.right_counts-right_of.ensures;
-      left = counts_agree c.loop-owner.left_of _ (λ o. xor (is_owner_listed o (owners_at r c.args.number)) (is_odd_in r behind o))
-          (λ o. ap (λ b. xor b (is_odd_in r behind o)) (ap (parity (λ q. owner_eq q o)) all
-          ∙ listed_of owners o c.owners-owner-items.ensures.rising ∙ sym (ap (is_owner_listed o) own)))
-          c.loop-owner.invariant.left;
-      inside = c.loop-owner.invariant.inside ∙ ap (map (is_odd_in r behind)) (all ∙ sym own);
-    }
-
-pub loop-owner-init : goal.loop-owner-init
-loop-owner-init c =
-    record {
-      left = subst (λ l. AreCounts c.right_counts-right_of.result (is_odd_in c.args.edges.now l))
-          (take_rest c.args.numbers.now c.args.right) c.right_counts-right_of.ensures;
-      inside = search rules;
-    }
 
 pub holds_beside-holds-requires-clause-listed : goal.holds_beside-holds-requires-clause-listed
 unfolding first
@@ -88,3 +26,54 @@ holds_beside-holds-requires-clause-listed c =
     let own : owners_at r c.args.number ≡ owners =
     get_or_from_slice_get r.1 c.args.number owners [] c.owners-owner-items.ensures.value in
     ap (is_owner_listed o) own ∙ listed_at owners i o c.loop-owner-test.true (sym (get_or_default owners i first o c.loop-owner-test.true))
+
+pub holds_beside-holds-requires-clause-own : goal.holds_beside-holds-requires-clause-own
+holds_beside-holds-requires-clause-own c =
+    record { behind = c.args.behind.now; right = c.requires.own; tell = c.requires.beside }
+
+pub turned-left-requires : goal.turned-left-requires
+unfolding first
+turned-left-requires c =
+    let r = c.args.edges.now in
+    let behind = c.args.behind.now in
+    let owners = c.owners-owner-items.result.now in
+    let i = c.loop-owner.owner-index in
+    let o = get_or owners i first in (
+      λ p. xor (parity (λ q. owner_eq q p) (take i owners)) (is_odd_in r behind p),
+      c.loop-owner.invariant,
+      ap (λ b. xor b (is_odd_in r behind o)) (none_before owners i first c.owners-owner-items.ensures.rising c.loop-owner-test.true)
+          ∙ c.requires.beside o ∙ sym c.holds_beside-holds.ensures,
+    )
+
+pub loop-owner-preserved : goal.loop-owner-preserved
+unfolding first
+loop-owner-preserved c =
+    let r = c.args.edges.now in
+    let behind = c.args.behind.now in
+    let owners = c.owners-owner-items.result.now in
+    let i = c.loop-owner.owner-index in
+    let o = get_or owners i first in
+    let less = c.loop-owner-test.true in
+    let was = λ (p : Owner). xor (parity (λ q. owner_eq q p) (take i owners)) (is_odd_in r behind p) in
+    counts_agree c.turned-left.result (λ p. xor (owner_eq o p) (was p))
+    (λ p. xor (parity (λ q. owner_eq q p) (take (i + 1) owners)) (is_odd_in r behind p))
+    (λ p. turn_more owners i first p (is_odd_in r behind p) less)
+    (c.turned-left.ensures was c.loop-owner.invariant
+    (ap (λ b. xor b (is_odd_in r behind o)) (none_before owners i first c.owners-owner-items.ensures.rising less)
+    ∙ c.requires.beside o ∙ sym c.holds_beside-holds.ensures))
+
+pub returns : goal.returns
+returns c =
+    let r = c.args.edges.now in
+    let behind = c.args.behind.now in
+    let owners = c.owners-owner-items.result.now in
+    let all = take_all c.loop-owner.owner-index owners c.loop-owner-test.false in
+    let own : owners_at r c.args.number ≡ owners =
+    get_or_from_slice_get r.1 c.args.number owners [] c.owners-owner-items.ensures.value in
+    record {
+      right = c.right_counts-right.ensures;
+      left = counts_agree c.loop-owner.left _ (λ o. xor (is_owner_listed o (owners_at r c.args.number)) (is_odd_in r behind o))
+          (λ o. ap (λ b. xor b (is_odd_in r behind o)) (ap (parity (λ q. owner_eq q o)) all
+          ∙ listed_of owners o c.owners-owner-items.ensures.rising ∙ sym (ap (is_owner_listed o) own)))
+          c.loop-owner.invariant;
+    }

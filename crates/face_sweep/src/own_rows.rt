@@ -1,0 +1,216 @@
+//! The edges of single shapes in a row.
+ghost use Rattle.std.specs.Prelude.{◌≡◌, ◌<◌, ◌≤◌, ◌++◌, ◌∷◌, [], ℕ, All, Contains, IfOk, List, OnOk, length};
+ghost use Rattle.std.specs.List.Sorted.{IsStrictlyIncreasing};
+ghost use Rattle.snap_chains.specs.declared.owner.Owner.{Owner};
+ghost use Rattle.snap_chains.specs.Rounded.{Owned};
+ghost use Rattle.face_sweep.specs.OwnRows.{
+  AreOwn,
+  HasPut,
+  HasPutEdge,
+  HasRoom,
+  HasTaken,
+  HasTakenEdge,
+  IsCut,
+  is_odd,
+};
+ghost use Rattle.face_sweep.specs.Reaches.{key_of, keys_of};
+
+use crate::place::is_left_at;
+use crate::reach::Reach;
+use crate::search::partition_from;
+use crate::traced::index_of;
+use lay_point::Point;
+use snap_chains::{CleanEdges, Owner};
+use std::alloc::{AllocError, Global};
+
+/// For each shape that is traced the numbers of its edges in the row, from right to left. An odd number of them
+/// is right of a place exactly where the shape holds there.
+#[derive(Debug, Drop)]
+pub struct OwnRows {
+    pub(crate) lists: Vec<Vec<usize>>,
+}
+
+impl OwnRows {
+    /// Returns empty lists, one for each shape that is traced.
+    ///
+    /// # Errors
+    ///
+    /// `AllocError`, if an allocation fails.
+    pub fn new(alloc: Global, reach: &Reach) -> Result<OwnRows, AllocError>
+        ensures room { IfOk result (λ own. (r : Owned) → HasRoom r (keys_of reach.now) own) }
+        ensures own { IfOk result (AreOwn (keys_of reach.now) (λ o. [])) }
+    {
+        let mut lists = Vec::with_capacity(alloc, reach.traced.len())?;
+        for _shape in 0..reach.traced.len() {
+            lists.push(Vec::new(alloc))?;
+        }
+        Ok(OwnRows { lists })
+    }
+
+    /// Returns whether an odd number of the edges of the shape, which is traced, isn't left of the point. If there
+    /// is no point, all of them count.
+    pub(crate) fn holds_right(
+        &self,
+        edges: &CleanEdges,
+        reach: &Reach,
+        owner: Owner,
+        point: Option<Point>,
+    ) -> bool
+        requires traced { Contains (keys_of reach.now) (key_of owner) }
+        requires rising { IsStrictlyIncreasing (keys_of reach.now) }
+        requires room { HasRoom edges.now (keys_of reach.now) self.now }
+        ensures { (own : Owner → List ℕ) (right left : List ℕ) → AreOwn (keys_of reach.now) own self.now
+            → own owner ≡ right ++ left → IsCut edges.now point right left → result ≡ is_odd (length right) }
+    {
+        let index = index_of(reach.traced.as_slice(), owner).unwrap();
+        is_odd(place_in(edges, self.lists[index].as_slice(), point))
+    }
+
+    /// Puts the edge of this number into the lists of its owners, behind those of their edges that aren't left of
+    /// the point. If there is no point, it comes behind all of them.
+    ///
+    /// # Errors
+    ///
+    /// `AllocError`, if an allocation fails.
+    ///
+    /// # Cost
+    ///
+    /// Of each owner a search among its edges.
+    pub fn put(
+        &mut self,
+        edges: &CleanEdges,
+        reach: &Reach,
+        number: usize,
+        point: Option<Point>,
+    ) -> Result<(), AllocError>
+        requires given { number < length edges.now.0 }
+        requires rising { IsStrictlyIncreasing (keys_of reach.now) }
+        requires room { HasRoom edges.now (keys_of reach.now) self.old }
+        ensures room { OnOk result (HasRoom edges.now (keys_of reach.now) self.new) }
+        ensures put { OnOk result (HasPutEdge edges.now (keys_of reach.now) point number self.old self.new) }
+    {
+        for owner in edges.owners(number) {
+            self.put_one(edges, reach, *owner, number, point)?;
+        }
+        Ok(())
+    }
+
+    /// Puts the number into the list of the owner, if it is traced.
+    fn put_one(
+        &mut self,
+        edges: &CleanEdges,
+        reach: &Reach,
+        owner: Owner,
+        number: usize,
+        point: Option<Point>,
+    ) -> Result<(), AllocError>
+        requires given { number < length edges.now.0 }
+        requires rising { IsStrictlyIncreasing (keys_of reach.now) }
+        requires room { HasRoom edges.now (keys_of reach.now) self.old }
+        ensures room { OnOk result (HasRoom edges.now (keys_of reach.now) self.new) }
+        ensures put { OnOk result (HasPut edges.now (keys_of reach.now) owner point number self.old self.new) }
+    {
+        if let Some(index) = index_of(reach.traced.as_slice(), owner) {
+            put_number(edges, &mut self.lists[index], number, point)?;
+        }
+        Ok(())
+    }
+
+    /// Takes the edge of this number out of the lists of its owners. Of the edges of each owner that aren't left
+    /// of the point it is the leftmost.
+    ///
+    /// # Cost
+    ///
+    /// Of each owner a search among its edges.
+    pub fn take_out(&mut self, edges: &CleanEdges, reach: &Reach, number: usize, point: Point)
+        requires given { number < length edges.now.0 }
+        requires rising { IsStrictlyIncreasing (keys_of reach.now) }
+        requires room { HasRoom edges.now (keys_of reach.now) self.old }
+        ensures room { HasRoom edges.now (keys_of reach.now) self.new }
+        ensures taken { HasTakenEdge edges.now (keys_of reach.now) point number self.old self.new }
+    {
+        for owner in edges.owners(number) {
+            self.take_one(edges, reach, *owner, point);
+        }
+    }
+
+    /// Takes the leftmost edge that isn't left of the point out of the list of the owner, if it is traced.
+    fn take_one(&mut self, edges: &CleanEdges, reach: &Reach, owner: Owner, point: Point)
+        requires rising { IsStrictlyIncreasing (keys_of reach.now) }
+        requires room { HasRoom edges.now (keys_of reach.now) self.old }
+        ensures room { HasRoom edges.now (keys_of reach.now) self.new }
+        ensures taken { HasTaken edges.now (keys_of reach.now) owner point self.old self.new }
+    {
+        if let Some(index) = index_of(reach.traced.as_slice(), owner) {
+            take_number(edges, &mut self.lists[index], point);
+        }
+    }
+}
+
+/// Puts the number into the list, behind those that aren't left of the point.
+fn put_number(
+    edges: &CleanEdges,
+    list: &mut Vec<usize>,
+    number: usize,
+    point: Option<Point>,
+) -> Result<(), AllocError>
+    requires number { number < length edges.now.0 }
+    requires given { All (λ n. n < length edges.now.0) list.old.items }
+    ensures given { OnOk result (All (λ n. n < length edges.now.0) list.new.items) }
+    ensures put { OnOk result ((right left : List ℕ) → list.old.items ≡ right ++ left
+        → IsCut edges.now point right left → list.new.items ≡ (right ++ number ∷ []) ++ left) }
+{
+    let place = place_in(edges, list.as_slice(), point);
+    list.insert(place, number)?;
+    Ok(())
+}
+
+/// Takes out the last of those that aren't left of the point.
+fn take_number(edges: &CleanEdges, list: &mut Vec<usize>, point: Point)
+    requires given { All (λ n. n < length edges.now.0) list.old.items }
+    ensures given { All (λ n. n < length edges.now.0) list.new.items }
+    ensures taken { (right left : List ℕ) (n : ℕ) → list.old.items ≡ (right ++ n ∷ []) ++ left
+        → IsCut edges.now (Some point) (right ++ n ∷ []) left → list.new.items ≡ right ++ left }
+{
+    let place = place_in(edges, list.as_slice(), Some(point));
+    if place > 0 {
+        list.remove(place - 1);
+    }
+}
+
+/// Returns how many of these edges aren't left of the point, if those stand before the others. If there is no
+/// point, it is all of them.
+///
+/// # Cost
+///
+/// A search by halving.
+fn place_in(edges: &CleanEdges, list: &[usize], point: Option<Point>) -> usize
+    requires { All (λ n. n < length edges.now.0) list.now }
+    ensures bound { result ≤ length list.now }
+    ensures cut { (right left : List ℕ) → list.now ≡ right ++ left → IsCut edges.now point right left
+        → result ≡ length right }
+{
+    match point {
+        None => list.len(),
+        Some(point) => place_right(edges, list, point),
+    }
+}
+
+/// Returns how many of these edges aren't left of the point, if those stand before the others.
+fn place_right(edges: &CleanEdges, list: &[usize], point: Point) -> usize
+    requires { All (λ n. n < length edges.now.0) list.now }
+    ensures bound { result ≤ length list.now }
+    ensures cut { (right left : List ℕ) → list.now ≡ right ++ left → IsCut edges.now (Some point) right left
+        → result ≡ length right }
+{
+    partition_from(list.len(), list.len() / 2, |index| {
+        !is_left_at(edges, list, index, point)
+    })
+}
+
+/// Returns whether the count is odd.
+fn is_odd(count: usize) -> bool
+    ensures { result ≡ is_odd count }
+{
+    count % 2 == 1
+}

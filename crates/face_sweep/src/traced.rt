@@ -1,0 +1,86 @@
+//! The shapes whose edges the sweep traces: those of some edge of which the shape's box doesn't tell.
+ghost use Rattle.std.specs.Prelude.{◌≡◌, ◌≢◌, ◌<◌, ℕ, Contains, IfOk, MatchOption, None, OnOk, length, slice_index, true};
+ghost use Rattle.std.specs.List.Sorted.{IsStrictlyIncreasing};
+ghost use Rattle.snap_chains.specs.declared.owner.Owner.{Owner};
+ghost use Rattle.snap_chains.specs.Rounded.{is_owner_listed};
+ghost use Rattle.face_sweep.specs.Reaches.{AreTraced, extent_of, key_of, told_by};
+
+use crate::boxes::Boxes;
+use crate::extent::told_by;
+use lay_point::Edge;
+use snap_chains::{CleanEdges, Input, Owner};
+use std::alloc::{AllocError, Global};
+
+/// Returns the keys of the shapes that own an edge of which their box doesn't tell, in order.
+pub(crate) fn traced_shapes(
+    alloc: Global,
+    edges: &CleanEdges,
+    boxes: &Boxes,
+) -> Result<Vec<u64>, AllocError>
+    ensures { IfOk result (λ keys. AreTraced edges.now boxes.now keys.items) }
+{
+    let mut keys = Vec::new(alloc);
+    for number in 0..edges.edges().len() {
+        let edge = edges.edges()[number];
+        put_untold(edges.owners(number), edge, boxes, &mut keys)?;
+    }
+    keys.sort_unstable();
+    keys.dedup();
+    Ok(keys)
+}
+
+/// Appends the keys of those owners of the edge whose boxes don't tell of it.
+fn put_untold(
+    owners: &[Owner],
+    edge: Edge,
+    boxes: &Boxes,
+    keys: &mut Vec<u64>,
+) -> Result<(), AllocError>
+    ensures kept { OnOk result ((k : ℕ) → Contains keys.old.items k → Contains keys.new.items k) }
+    ensures untold { OnOk result ((o : Owner) → is_owner_listed o owners.now ≡ true
+        → told_by (extent_of boxes.now o) edge ≡ None → Contains keys.new.items (key_of o)) }
+{
+    for owner in owners {
+        put_if_untold(*owner, edge, boxes, keys)?;
+    }
+    Ok(())
+}
+
+/// Appends the key of the owner, if its box doesn't tell of the edge.
+fn put_if_untold(
+    owner: Owner,
+    edge: Edge,
+    boxes: &Boxes,
+    keys: &mut Vec<u64>,
+) -> Result<(), AllocError>
+    ensures kept { OnOk result ((k : ℕ) → Contains keys.old.items k → Contains keys.new.items k) }
+    ensures untold { OnOk result (told_by (extent_of boxes.now owner) edge ≡ None
+        → Contains keys.new.items (key_of owner)) }
+{
+    if told_by(boxes.extent(owner), edge).is_none() {
+        keys.push(key_of(owner))?;
+    }
+    Ok(())
+}
+
+/// Returns the index of the shape's key, if it is one of these, which are in order.
+pub(crate) fn index_of(keys: &[u64], owner: Owner) -> Option<usize>
+    requires { IsStrictlyIncreasing keys.now }
+    ensures { MatchOption result ((i : ℕ) → i < length keys.now → slice_index keys.now i ≢ key_of owner)
+        (λ i. (i < length keys.now) × (slice_index keys.now i ≡ key_of owner)) }
+{
+    match keys.binary_search(&key_of(owner)) {
+        Ok(index) => Some(index),
+        Err(_) => None,
+    }
+}
+
+/// Returns the key of the shape. The shapes of the two inputs take turns.
+fn key_of(owner: Owner) -> u64
+    ensures { result ≡ key_of owner }
+{
+    match owner.input {
+        Input::First => 2 * u64::from(owner.shape),
+        Input::Second => 2 * u64::from(owner.shape) + 1,
+    }
+}
