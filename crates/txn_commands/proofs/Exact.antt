@@ -1,5 +1,5 @@
 -- The derived test of two commands tells exactly.
-use Rattle.std.proofs.Common.{◌≡◌, ◌&&◌, ◌==◌, Bool as Test, true, false, ℕ, List, [], ◌∷◌, ap, refl, rules}
+use Rattle.std.proofs.Common.{◌≡◌, ◌&&◌, ◌==◌, true, false, ℕ, List, [], ◌∷◌, ap, refl, rules}
 use Rattle.std.specs.Ordering.{int_eq}
 use Rattle.std.proofs.lemmas.Bool.{and_parts}
 use Rattle.std.proofs.lemmas.Bool.Decides.{Decides-eqb, Decides-int_eq}

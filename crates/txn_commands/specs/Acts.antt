@@ -102,14 +102,30 @@ operands a b cell = Calls cell ∷ Layer cell a ∷ Layer cell b ∷ []
 abbrev pub item_elements : List Write → List Element
 item_elements writes = map (λ write. Item write.0) writes
 
--- the shapes of an operation take the place of those of the cell on their layer, which have these ids; these cells are reached
--- from the cell
-abbrev pub bool_act : ItemId → CellId → List ℕ → List ℕ → List ℕ → List CellId → List ItemId → List Rings → Act
-bool_act new cell a b out cells old shapes = record {
+-- an operation on layers a and b of a cell, whose shapes come to stand on layer out: the cells that are reached from the cell, and
+-- the ids of the shapes that stood on layer out
+pub record Combination : Type 0 where
+  pub cell : CellId
+  pub a : List ℕ
+  pub b : List ℕ
+  pub out : List ℕ
+  pub cells : List CellId
+  pub old : List ItemId
+
+-- the old shapes go, and these come, under new ids from this one on
+abbrev pub replacing : ItemId → Combination → List Rings → List Write
+replacing new c shapes = removals c.old ++ new_shapes new c.cell c.out shapes
+
+-- what is read for it: the cell, the layer that changes, and in each cell that is reached the calls and both layers
+abbrev pub read_for : Combination → List Element
+read_for c = cell_elements c.cell ++ Layer c.cell c.out ∷ flat_map (operands c.a c.b) c.cells
+
+-- the shapes of an operation take the place of those of its cell on its layer
+abbrev pub bool_act : ItemId → Combination → List Rings → Act
+bool_act new c shapes = record {
   done = made_from new (length shapes);
-  elements = item_elements (removals old ++ new_shapes new cell out shapes)
-      ++ (cell_elements cell ++ Layer cell out ∷ flat_map (operands a b) cells);
-  items = removals old ++ new_shapes new cell out shapes;
+  elements = item_elements (replacing new c shapes) ++ read_for c;
+  items = replacing new c shapes;
   symbols = [];
   made = length shapes;
 }

@@ -54,7 +54,7 @@ use Rattle.txn_commands.specs.declared.fault.CmdFault.TheVariants.{
   NotShape,
 }
 use Rattle.txn_commands.specs.declared.fault.CmdFault.TheVariants.{OutOfRange, TooDeep, TooMany}
-use Rattle.txn_commands.specs.Acts.{Act, bool_act, change_act, drop_cell_act, look_act, make_cell_act, place_act, shape_act}
+use Rattle.txn_commands.specs.Acts.{Act, Combination, bool_act, change_act, drop_cell_act, look_act, make_cell_act, place_act, shape_act}
 use Rattle.txn_commands.specs.Figures.{box_ring, is_item_in_range, moved, shape_of}
 use Rattle.txn_commands.specs.Lies.{lies}
 use Rattle.txn_commands.specs.Reach.{is_among, reached}
@@ -106,11 +106,21 @@ fault_of_flat flat_fault.NoMemory = NoMemory
 abbrev pub shape_ids : Layout → CellId → List ℕ → List ItemId
 shape_ids layout cell layer = map_list (λ shape. shape.0) (shapes_in layout cell layer)
 
--- shapes take the place of those of the cell on a layer, which have these ids; these cells are reached from the cell
-abbrev pub replace_by : ItemId → CellId → List ℕ → List ℕ → List ℕ → List CellId → List ItemId → Result (List Rings) FlatFault
-    → Result Act CmdFault
-replace_by new cell a b out cells old (Ok shapes) = Ok (bool_act new cell a b out cells old shapes)
-replace_by new cell a b out cells old (Err fault) = Err (fault_of_flat fault)
+-- an operation on layers a and b of a cell of the layout, with its shapes on layer out
+abbrev pub combination_in : Layout → CellId → List ℕ → List ℕ → List ℕ → Combination
+combination_in layout cell a b out = record {
+  cell = cell;
+  a = a;
+  b = b;
+  out = out;
+  cells = reached layout cell;
+  old = shape_ids layout cell out;
+}
+
+-- the shapes that the operation has take the place of the old ones, or it is refused
+abbrev pub replace_by : ItemId → Combination → Result (List Rings) FlatFault → Result Act CmdFault
+replace_by new c (Ok shapes) = Ok (bool_act new c shapes)
+replace_by new c (Err fault) = Err (fault_of_flat fault)
 
 -- what a command does on a layout, where the next new item has this id
 unfoldable pub plan : ItemId → Command → Layout → Result Act CmdFault
@@ -132,7 +142,7 @@ plan new (Place cell target turn) layout =
     (Ok (place_act new cell target turn (reached layout (Symbol target)))))))
 plan new (Look id) layout = with_value (item_at layout id) NoItem (λ item. Ok (look_act id item))
 plan new (Combine op cell a b out) layout =
-    replace_by new cell a b out (reached layout cell) (shape_ids layout cell out) (bool_shapes layout op cell a b)
+    replace_by new (combination_in layout cell a b out) (bool_shapes layout op cell a b)
 plan new (MakeCell number) layout =
     refused_if (nat_lt MAX_SYMBOL number) OutOfRange
     (refused_if (is_some (map.get layout.symbols number)) CellThere (Ok (make_cell_act number)))

@@ -6,8 +6,7 @@ ghost use Rattle.txn_commands.specs.declared.command.Command.TheVariants as comm
 ghost use Rattle.txn_commands.specs.Acts.{bool_act, cell_elements, id_after, item_elements};
 ghost use Rattle.txn_commands.specs.Acts.{made_from, new_shapes, operands, removals};
 ghost use Rattle.txn_commands.specs.declared.element.Element.TheVariants.{Layer};
-ghost use Rattle.txn_commands.specs.Plans.{fault_of_flat, plan, shape_ids};
-ghost use Rattle.txn_commands.specs.Reach.{reached};
+ghost use Rattle.txn_commands.specs.Plans.{combination_in, fault_of_flat, plan, shape_ids};
 ghost use Rattle.lay_flat.specs.declared.fault.FlatFault.TheVariants as flat_fault;
 ghost use Rattle.bool_rules.specs.Booleans.{bool_shapes};
 ghost use Rattle.txn_plans.specs.Shaping.{command_result, fault_of_op, lists_in, points_of};
@@ -138,8 +137,8 @@ fn replace_act(
     asked: Asked,
     shapes: Vec<Vec<Ring>>,
 ) -> Result<Act, NoMemory>
-    ensures { IfOk result (λ act. act ≡ bool_act new asked.cell asked.a asked.b asked.out
-        (reached layout.now asked.cell) (shape_ids layout.now asked.cell asked.out) (points_of shapes.items)) }
+    ensures { IfOk result (λ act. act ≡ bool_act new
+        (combination_in layout.now asked.cell asked.a asked.b asked.out) (points_of shapes.items)) }
 {
     let made = count(new, &shapes)?;
     let cells = cells_from(alloc, layout, asked.cell)?;

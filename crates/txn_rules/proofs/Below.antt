@@ -2,7 +2,7 @@
 use Rattle.std.proofs.Common.{◌≡◌, Bool, true, false, ◌&&◌, cond, List, [], ◌∷◌, filter, refl, ap, sym, subst, ◌∙◌, Contains}
 use Rattle.std.specs.Prelude.{ℕ, None, Some, if◌then◌else◌}
 use Rattle.std.specs.FinMap.{entries}
-use Rattle.std.specs.List.{AllByRecursion, cons_option, filter_map, flat_map}
+use Rattle.std.specs.List.{AllByRecursion, cons_option, flat_map}
 use Rattle.std.proofs.lemmas.Bool.Decides.{same_from_decides}
 use Rattle.std.proofs.lemmas.Slice.Eq.{bytes_eq-Decides}
 use Rattle.lay_point.specs.Same.{names_eq}
@@ -19,7 +19,7 @@ use Rattle.lay_layouts.specs.declared.item.Item as items
 use Rattle.lay_layouts.specs.declared.item.Item.TheVariants.{Placed, Shape}
 use Rattle.lay_layouts.specs.Calls.{Call, calls_of}
 use Rattle.lay_layouts.specs.IdOrder.{ids_exact, ids_total}
-use Rattle.lay_layouts.specs.Items.{cell_of, items_in, standing_in}
+use Rattle.lay_layouts.specs.Items.{items_in, standing_in}
 use Rattle.lay_layouts.specs.Layout.{Layout}
 use Rattle.lay_layouts.specs.Lent.{LentCall, calls_in, calls_lent, shape_on, shapes_among, shapes_in}
 use Rattle.lay_flat.specs.Ends.{end_of, target_of}
@@ -31,7 +31,7 @@ use Rattle.txn_commands.specs.declared.element.Element.TheVariants.{Calls, Layer
 use Rattle.txn_commands.specs.Acts.{cell_elements, operands}
 use Rattle.txn_commands.specs.Agreement.{Agree, AgreeOnEach}
 use Rattle.txn_commands.specs.Lies.{lies}
-use Rattle.txn_commands.specs.Reach.{is_among, reached}
+use Rattle.txn_commands.specs.Reach.{reached}
 use Rattle.txn_commands.proofs.Agreements.{same_is_cell}
 use Rattle.txn_commands.proofs.Lists.{all_parts}
 use Rattle.txn_commands.proofs.Lying.{filter-alike_maps}

@@ -2,7 +2,7 @@
 use Rattle.std.proofs.Common.{◌≡◌, inl, inr, ◌⊎◌, ℕ, zero, suc, ◌+◌, ◌<◌, Bool, true}
 use Rattle.std.proofs.Common.{false, List, [], ◌∷◌, ◌++◌, length, map, refl, ap, sym, subst}
 use Rattle.std.proofs.Common.{◌∙◌, arith}
-use Rattle.std.specs.Prelude.{None, Some, Result, Ok, Err, flat_map, if◌then◌else◌}
+use Rattle.std.specs.Prelude.{Some, Result, Ok, Err, flat_map, if◌then◌else◌}
 use Rattle.std.specs.List.{AllByRecursion}
 use Rattle.std.proofs.lemmas.Bool.{or_left, or_right}
 use Rattle.std.specs.Cmp.{eq_by_cmp_equiv}
@@ -26,12 +26,12 @@ use Rattle.bool_rules.proofs.BooleanLaws.{booleans_read}
 use Rattle.txn_commands.specs.declared.command.Command.TheVariants.{Bool as Combine}
 use Rattle.txn_commands.specs.declared.element.Element.{Element}
 use Rattle.txn_commands.specs.declared.element.Element.TheVariants.{Calls, Item, Layer}
-use Rattle.txn_commands.specs.Acts.{Act, bool_act, cell_elements, id_after, item_elements, new_shapes, operands, removals}
+use Rattle.txn_commands.specs.Acts.{Act, Combination, bool_act, cell_elements, id_after, item_elements, new_shapes, operands, read_for, removals, replacing}
 use Rattle.txn_commands.specs.Agreement.{Agree, AgreeOnEach}
 use Rattle.txn_commands.specs.Covers.{IsCovered, has}
 use Rattle.txn_commands.specs.Elements.{element_cmp, elements_total}
 use Rattle.txn_commands.specs.Own.{id_from}
-use Rattle.txn_commands.specs.Plans.{plan, replace_by, shape_ids}
+use Rattle.txn_commands.specs.Plans.{combination_in, plan, replace_by, shape_ids}
 use Rattle.txn_commands.specs.Reach.{reached}
 use Rattle.txn_commands.specs.Writing.{rewritten}
 use Rattle.txn_rules.proofs.Below.{same_first, same_second, shapes_agree}
@@ -40,11 +40,10 @@ use Rattle.txn_commands.proofs.Maps.{written_value}
 use Rattle.txn_rules.proofs.Reach.{same_reach}
 
 -- an operation that is accepted has shapes, and is the act of these
-pub replaced_by : (new : ItemId) (cell : CellId) (a b out : List ℕ) (cells : List CellId) (old : List ItemId)
-    (result : Result (List Rings) FlatFault) (act : Act) → replace_by new cell a b out cells old result ≡ Ok act →
-    (shapes : List Rings) × (result ≡ Ok shapes) × (bool_act new cell a b out cells old shapes ≡ act)
-replaced_by new cell a b out cells old (Ok shapes) act h = (shapes, refl, cc)
-replaced_by new cell a b out cells old (Err fault) act h = absurd cc
+pub replaced_by : (new : ItemId) (c : Combination) (result : Result (List Rings) FlatFault) (act : Act) → replace_by new c result ≡ Ok act →
+    (shapes : List Rings) × (result ≡ Ok shapes) × (bool_act new c shapes ≡ act)
+replaced_by new c (Ok shapes) act h = (shapes, refl, cc)
+replaced_by new c (Err fault) act h = absurd cc
 
 -- its cell is there
 flat_there : (l : Layout) (cell : CellId) (layer : List ℕ) (rings : List FlatRing) → flat_of l cell layer ≡ Ok rings → is_cell l cell ≡ true
@@ -81,8 +80,9 @@ unfolding plan
 same_bool new op cell a b out l m act one other h agree =
     let cells = reached l cell in
     let old = shape_ids l cell out in
-    let is = replaced_by new cell a b out cells old (bool_shapes l op cell a b) act h in
-    let agreed : AgreeOnEach l m (bool_act new cell a b out cells old is.0).elements =
+    let combination = combination_in l cell a b out in
+    let is = replaced_by new combination (bool_shapes l op cell a b) act h in
+    let agreed : AgreeOnEach l m (bool_act new combination is.0).elements =
     subst (λ (x : Act). AgreeOnEach l m x.elements) (sym is.2) agree in
     let read = (all_parts (Agree l m) (item_elements (removals old ++ new_shapes new cell out is.0))
     (cell_elements cell ++ Layer cell out ∷ flat_map (operands a b) cells) agreed).1 in
@@ -92,7 +92,7 @@ same_bool new op cell a b out l m act one other h agree =
     (same_second l m cell a b parts.0 parts.1.1)) in
     let same_cells : reached m cell ≡ cells = same_reach l m cell (on_calls l m a b cells parts.1.1) in
     let same_ids : shape_ids m cell out ≡ old = ap (map (λ shape. shape.0)) (sym (shapes_agree l m cell out parts.1.0)) in
-    (λ i. replace_by new cell a b out (same_cells i) (same_ids i) (same_shapes i)) ∙ h
+    (λ i. replace_by new (record { cell = cell; a = a; b = b; out = out; cells = same_cells i; old = same_ids i }) (same_shapes i)) ∙ h
 
 -- writes are covered by the elements of their ids
 items_covered : (writes : List Write) (more : List Element) →
@@ -107,11 +107,9 @@ items_covered (w ∷ writes) more = (
       (items_covered writes more),
 )
 
-pub replaced_covered : (new : ItemId) (cell : CellId) (a b out : List ℕ) (cells : List CellId) (old : List ItemId) (shapes : List Rings) →
-    IsCovered (bool_act new cell a b out cells old shapes)
-replaced_covered new cell a b out cells old shapes = record {
-  items = items_covered (removals old ++ new_shapes new cell out shapes)
-      (cell_elements cell ++ Layer cell out ∷ flat_map (operands a b) cells);
+pub replaced_covered : (new : ItemId) (c : Combination) (shapes : List Rings) → IsCovered (bool_act new c shapes)
+replaced_covered new c shapes = record {
+  items = items_covered (replacing new c shapes) (read_for c);
   symbols = tt;
 }
 

@@ -42,7 +42,7 @@ use Rattle.txn_commands.specs.Acts.{look_act, make_act, make_cell_act, shape_act
 use Rattle.txn_commands.specs.Covers.{IsCovered, has}
 use Rattle.txn_commands.specs.Elements.{element_cmp, elements_total}
 use Rattle.txn_commands.specs.Figures.{box_ring, is_item_in_range, moved, shape_of}
-use Rattle.txn_commands.specs.Plans.{is_used, move_to, plan, refused_if, relayer, ring_act, shape_ids}
+use Rattle.txn_commands.specs.Plans.{combination_in, is_used, move_to, plan, refused_if, relayer, ring_act}
 use Rattle.txn_commands.specs.Reach.{reached}
 use Rattle.txn_rules.proofs.Booleans.{replaced_by, replaced_covered}
 use Rattle.txn_rules.proofs.Rings.{box_ring-ring, ring_of-ring}
@@ -59,7 +59,7 @@ pub data IsPlanned (new : ItemId) (l : Layout) (act : Act) : Type 0 where
   places : (cell : CellId) (target : ℕ) (turn : Turn) → HasPlaced new cell target turn l act → IsPlanned new l act
   looks : (id : ItemId) (item : items.Item) → item_at l id ≡ Some item → look_act id item ≡ act → IsPlanned new l act
   replaces : (op : Op) (cell : CellId) (a b out : List ℕ) (shapes : List Rings) → bool_shapes l op cell a b ≡ Ok shapes
-      → bool_act new cell a b out (reached l cell) (shape_ids l cell out) shapes ≡ act → IsPlanned new l act
+      → bool_act new (combination_in l cell a b out) shapes ≡ act → IsPlanned new l act
   makes_cell : (number : ℕ) → nat_lt MAX_SYMBOL number ≡ false → is_some (get l.symbols number) ≡ false → make_cell_act number ≡ act
       → IsPlanned new l act
   drops_cell : (number : ℕ) → is_used l number ≡ false → drop_cell_act number ≡ act → IsPlanned new l act
@@ -108,7 +108,7 @@ planned new (Place cell target turn) l act h = places cell target turn (has_plac
 planned new (Look id) l act h =
     let item = given (item_at l id) NoItem (λ x. Ok (look_act id x)) act h in looks id item.0 item.1 (cc (item.2))
 planned new (Combine op cell a b out) l act h =
-    let is = replaced_by new cell a b out (reached l cell) (shape_ids l cell out) (bool_shapes l op cell a b) act h in
+    let is = replaced_by new (combination_in l cell a b out) (bool_shapes l op cell a b) act h in
     replaces op cell a b out is.0 is.1 is.2
 planned new (MakeCell number) l act h =
     let rest : Result Act CmdFault = refused_if (is_some (get l.symbols number)) CellThere (Ok (make_cell_act number)) in
@@ -141,7 +141,7 @@ covered new l act (places cell target turn is) = subst IsCovered is.acts
     (made_covered new (Placed cell target turn) (cell_elements cell ++ Cell target ∷ map Calls (reached l (Symbol target))))
 covered new l act (looks id item there same) = subst IsCovered same (record { items = tt; symbols = tt })
 covered new l act (replaces op cell a b out shapes some same) =
-    subst IsCovered same (replaced_covered new cell a b out (reached l cell) (shape_ids l cell out) shapes)
+    subst IsCovered same (replaced_covered new (combination_in l cell a b out) shapes)
 covered new l act (makes_cell number small free same) =
     subst IsCovered same (record { items = tt; symbols = (has_first (Cell number) [], tt) })
 covered new l act (drops_cell number unused same) =

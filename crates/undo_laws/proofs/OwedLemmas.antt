@@ -48,7 +48,7 @@ use Rattle.txn_commands.specs.Effects.{Run, after_each, begun, effect, next_id, 
 use Rattle.txn_commands.specs.Elements.{Touched, element_cmp, elements_exact, elements_total}
 use Rattle.txn_commands.specs.Figures.{box_ring, moved, shape_of}
 use Rattle.txn_commands.specs.Lies.{lies}
-use Rattle.txn_commands.specs.Plans.{is_used, move_to, plan, refused_if, relayer, ring_act, shape_ids}
+use Rattle.txn_commands.specs.Plans.{combination_in, is_used, move_to, plan, refused_if, relayer, ring_act}
 use Rattle.txn_commands.specs.Reach.{is_among, reached}
 use Rattle.txn_commands.proofs.Agreements.{same_item, same_slot}
 use Rattle.txn_rules.proofs.Booleans.{replaced_by}
@@ -255,8 +255,8 @@ owed new (Look id) l act e h there =
     let item = given (item_at l id) NoItem (λ x. Ok (look_act id x)) act h in
     has_one e (Item id) (as_known e (look_act id item.0) act (cc (item.2)) there)
 owed new (Combine op cell a b out) l act e h there =
-    let is = replaced_by new cell a b out (reached l cell) (shape_ids l cell out) (bool_shapes l op cell a b) act h in
-    let known = bool_act new cell a b out (reached l cell) (shape_ids l cell out) is.0 in
+    let is = replaced_by new (combination_in l cell a b out) (bool_shapes l op cell a b) act h in
+    let known = bool_act new (combination_in l cell a b out) is.0 in
     subst (λ (x : Act). IsOwed new (Combine op cell a b out) l x e) is.2
     (of_bool e cell a b out l known (as_known e known act is.2 there))
 owed new (MakeCell number) l act e h there =

@@ -31,8 +31,7 @@ use Rattle.txn_commands.specs.Acts.{Act, new_shapes, removals}
 use Rattle.txn_commands.specs.Agreement.{Agree, AreAlike}
 use Rattle.txn_commands.specs.Effects.{Run, effect, next_id}
 use Rattle.txn_commands.specs.Lies.{lies}
-use Rattle.txn_commands.specs.Plans.{plan, shape_ids}
-use Rattle.txn_commands.specs.Reach.{reached}
+use Rattle.txn_commands.specs.Plans.{combination_in, plan, shape_ids}
 use Rattle.txn_commands.specs.Writing.{rewritten}
 use Rattle.txn_rules.proofs.Below.{names_swapped, shapes_agree}
 use Rattle.txn_rules.proofs.Booleans.{replaced_by}
@@ -233,7 +232,7 @@ pub replaced : (txn : TxnId) (run : Run) (op : Op) (cell : CellId) (a b out : Li
 unfolding plan
 replaced txn run op cell a b out next h =
     let is = act_of txn (Combine op cell a b out) run next h in
-    let parts = replaced_by (next_id txn run) cell a b out (reached run.layout cell) (shape_ids run.layout cell out)
+    let parts = replaced_by (next_id txn run) (combination_in run.layout cell a b out)
     (bool_shapes run.layout op cell a b) is.act is.plan_is in
     record {
       shapes = parts.0;
