@@ -4,5 +4,6 @@ pub mod CompareLemmas
 pub mod EqLemmas
 pub mod FewLemmas
 pub mod HomeLemmas
+pub mod OnceLemmas
 pub mod SetLemmas
 pub mod TouchLemmas

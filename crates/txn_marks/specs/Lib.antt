@@ -2,5 +2,6 @@ pub mod Coded
 pub mod Few
 pub mod Homes
 pub mod Kept
+pub mod Marks
 pub mod Met
 pub mod WritesOf

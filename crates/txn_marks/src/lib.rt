@@ -13,6 +13,10 @@
 //!   [`Records::reverted`] lead from the one layout to the other and back; no command is run again.
 //! - [`Footprint`] is kept as a `BTreeSet` of elements (`Element` of `txn_commands`). Contracts see
 //!   the finite set of its elements.
+//! - [`Elements`] are those of a footprint, or those that records meet, in a list that doesn't
+//!   grow. Contracts see the finite set of them.
+//! - [`Marks`] are what a history keeps of a transaction: its records, the elements that they meet, and
+//!   its footprint, in such lists.
 //! - [`Few`] is kept as one element in place, else as a `Vec`. Contracts see the list of its
 //!   elements.
 //!
@@ -25,6 +29,8 @@ mod change;
 mod elements;
 mod few;
 mod footprint;
+mod listed;
+mod marks;
 mod met;
 mod records;
 mod same;
@@ -34,6 +40,8 @@ mod writes;
 pub use change::{CellChange, ItemChange};
 pub use few::Few;
 pub use footprint::Footprint;
+pub use listed::Elements;
+pub use marks::Marks;
 pub use records::Records;
 pub use same::agrees;
 pub use writes::Writes;

@@ -10,12 +10,14 @@
 //!
 //! # Model and invariants
 //!
-//! - `Work` is kept as its parts, the layout that it sees, once a command needed that whole, and
-//!   the last command that was refused after much of the layout was gone over, with its refusal.
+//! - `Work` is kept as its parts, the layout that it sees, once a command needed that whole, the
+//!   last command that was refused after much of the layout was gone over, with its refusal, and
+//!   what a history keeps of it, once [`Work::prepare`] has made that.
 //!   Contracts see the record `Transaction` of `txn_commands/specs/Transactions.antt`.
 //! - Its writes and its footprint are those of its commands, run on its snapshot, which is sound;
-//!   the layout that it keeps is the one that they lead to; and the command whose refusal it keeps
-//!   would be refused so again (`IsWork` of `specs/Works.antt`).
+//!   the layout that it keeps is the one that they lead to; the command whose refusal it keeps
+//!   would be refused so again; and what a history keeps of it is of these writes and this footprint
+//!   (`IsWork` of `specs/Works.antt`).
 //!
 //! ```text
 //! let mut work = Work::new(alloc, snapshot, TxnId { session: 1, txn: 1 }, 0);
@@ -24,7 +26,9 @@
 //! ```
 #![tactic(auto)]
 
+mod ending;
 mod marking;
 mod work;
 
+pub use ending::Spent;
 pub use work::Work;

@@ -19,7 +19,7 @@ use std::alloc::Global;
 use std::marker::Model;
 use std::thread::Threads;
 use txn_commands::{CmdFault, Command, Done, MAX_COMMANDS, TxnId};
-use txn_marks::{Footprint, Writes};
+use txn_marks::{Footprint, Marks, Writes};
 use txn_plans::{Act, Seen, plan};
 
 /// A transaction on a snapshot: its accepted commands, what they wrote and what they touched. It keeps in
@@ -28,17 +28,19 @@ use txn_plans::{Act, Seen, plan};
 pub struct Work {
     id: TxnId,
     opened: u32,
-    snapshot: Snapshot,
+    pub(crate) snapshot: Snapshot,
     /// The layout as it sees it, once a command needed it whole.
-    whole: Option<Snapshot>,
-    commands: Vec<Command>,
+    pub(crate) whole: Option<Snapshot>,
+    pub(crate) commands: Vec<Command>,
     /// How many items they made.
     made: u32,
-    writes: Writes,
-    footprint: Footprint,
+    pub(crate) writes: Writes,
+    pub(crate) footprint: Footprint,
     /// The last command that was refused after much of the layout was gone over, and the refusal. It would be
     /// refused so again, until another is accepted.
-    refused: Option<(Command, CmdFault)>,
+    pub(crate) refused: Option<(Command, CmdFault)>,
+    /// What a history keeps of it, once that is made.
+    pub(crate) marks: Option<Marks>,
 }
 
 impl Model for Work {
@@ -80,6 +82,7 @@ impl Work {
             writes: Writes::new(alloc),
             footprint: Footprint::new(alloc),
             refused: None,
+            marks: None,
         }
     }
 
@@ -135,17 +138,6 @@ impl Work {
         ensures { option_copied result ≡ item_at (run_so_far self.now).layout id }
     {
         self.seen().item(id)
-    }
-
-    /// Returns its commands, its writes and its footprint.
-    pub fn into_parts(self) -> (Sequence<Command>, Writes, Footprint)
-        ensures commands { result.0 ≡ self.commands }
-        ensures writes { result.1 ≡ self.writes }
-        ensures footprint { result.2 ≡ self.footprint }
-    {
-        let mut commands = self.commands;
-        commands.shrink_to_fit();
-        (Sequence::from_vec(commands), self.writes, self.footprint)
     }
 
     /// Runs a command in the transaction. The refusals come in the order of the command's tests, and
@@ -307,6 +299,7 @@ impl Work {
         self.made = more;
         self.whole = whole;
         self.refused = None;
+        self.marks = None;
         self.commands.push(command).unwrap();
         Ok(done)
     }

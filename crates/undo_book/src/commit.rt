@@ -1,6 +1,6 @@
 //! Commits.
 ghost use Rattle.std.specs.Prelude.{◌≡◌, ◌+◌, IfErr, IfOk, OnErr, OnOk, Err, None, Some, false, true, drop};
-ghost use Rattle.txn_marks.specs.Homes.{AreMetBy};
+ghost use Rattle.txn_marks.specs.Marks.{AreMarksOf};
 ghost use Rattle.txn_commands.specs.Records.{applied};
 ghost use Rattle.undo_index.specs.Listed.{AreAdded, IsNew};
 ghost use Rattle.undo_rules.specs.Links.{links_to};
@@ -16,10 +16,11 @@ use lay_items::Snapshot;
 use lay_point::{NoMemory, Sequence};
 use std::alloc::Global;
 use std::collections::BTreeMap;
+use std::mem::replace;
 use txn_commands::{Command, TxnId};
-use txn_marks::Records;
-use txn_work::Work;
-use undo_index::{Elements, Index};
+use txn_marks::Marks;
+use txn_work::{Spent, Work};
+use undo_index::Index;
 use undo_rules::{Answer, BookFault, Call, Logged};
 
 /// A refused commit.
@@ -34,16 +35,38 @@ pub struct CommitRefusal {
 /// What a commit leaves and keeps, made before it changes anything.
 #[derive(Drop)]
 struct Prepared {
-    /// What it wrote.
-    writes: Records,
+    /// What is kept of its work.
+    marks: Marks,
     /// The layout after it.
     layout: Snapshot,
     /// The transactions that it is linked to.
     seen: Vec<TxnId>,
-    /// The elements in which what it wrote lies.
-    met: Elements,
-    /// Those that it read or wrote.
-    read: Elements,
+}
+
+/// What a commit leaves over: what is left of its work, and the layout before it. Dropping it takes time, which a
+/// session that shares the book spends when it has let the book go.
+#[derive(Drop)]
+pub struct Rest {
+    work: Option<Spent>,
+    layout: Option<Snapshot>,
+}
+
+impl Rest {
+    /// Returns what is left of this work, and this layout before it.
+    fn of(spent: Spent, layout: Snapshot) -> Rest {
+        Rest {
+            work: Some(spent),
+            layout: Some(layout),
+        }
+    }
+
+    /// Of a commit that is refused nothing is left.
+    pub fn none() -> Rest {
+        Rest {
+            work: None,
+            layout: None,
+        }
+    }
 }
 
 /// Returns a refused commit with its work.
@@ -85,15 +108,42 @@ impl Book {
         // The commands, run on the layout at the commit, give what they gave in the work.
         ensures ran { OnOk result (RunsAgain work self.old.layout self.new.layout) }
     {
+        let (result, _) = self.commit_with_rest(alloc, work);
+        result
+    }
+
+    /// Commits a work as [`Book::commit`] does, and hands back what is left over.
+    ///
+    /// # Errors
+    ///
+    /// Those of [`Book::commit`].
+    ///
+    /// # Cost
+    ///
+    /// That of [`Book::commit`], but for dropping the rest.
+    pub fn commit_with_rest(
+        &mut self,
+        alloc: Global,
+        work: Work,
+    ) -> (Result<TxnId, CommitRefusal>, Rest)
+        ensures step { TakesWork self.old work (commit_step self.old work) result.0 self.new }
+        ensures full { is_log_full self.old ≡ true → result.0 ≡ Err (refused BookFault.LogFull work) }
+        ensures foreign { is_log_full self.old ≡ false → is_own self.old work ≡ false
+            → result.0 ≡ Err (refused BookFault.Foreign work) }
+        ensures ran { OnOk result.0 (RunsAgain work self.old.layout self.new.layout) }
+    {
         if self.is_full() {
-            return Err(refused(BookFault::LogFull, work));
+            return (Err(refused(BookFault::LogFull, work)), Rest::none());
         }
         if !self.is_own(&work) {
-            return Err(refused(BookFault::Foreign, work));
+            return (Err(refused(BookFault::Foreign, work)), Rest::none());
         }
         match self.changed_under(&work) {
-            Some(other) => self.end_stale(work, other),
-            None => self.append(alloc, work),
+            Some(other) => (self.end_stale(work, other), Rest::none()),
+            None => match self.append(alloc, work) {
+                Ok((txn, rest)) => (Ok(txn), rest),
+                Err(refusal) => (Err(refusal), Rest::none()),
+            },
         }
     }
 
@@ -132,7 +182,7 @@ impl Book {
         }
         let txn = work.id();
         let fault = BookFault::Stale(other);
-        let (commands, _, _) = work.into_parts();
+        let (commands, _) = work.into_commands();
         let logged = Logged {
             session: txn.session,
             call: Call::Commit { txn, commands },
@@ -146,11 +196,11 @@ impl Book {
 
     /// Appends the transaction of a work of the book's own that isn't stale. The work is handed back where it
     /// is out of memory.
-    fn append(&mut self, alloc: Global, work: Work) -> Result<TxnId, CommitRefusal>
+    fn append(&mut self, alloc: Global, work: Work) -> Result<(TxnId, Rest), CommitRefusal>
         requires log { is_log_full self.old ≡ false }
         requires own { is_own self.old work ≡ true }
         requires fresh { stale_by self.old.entries work.footprint (drop (work.opened + 1) self.old.log) ≡ None }
-        ensures txn { IfOk result (λ txn. txn ≡ work.id) }
+        ensures txn { IfOk result (λ r. r.0 ≡ work.id) }
         ensures ok { OnOk result (self.new ≡ after_commit self.old work) }
         ensures ran { OnOk result (RunsAgain work self.old.layout self.new.layout) }
         ensures back { IfErr result (λ refusal. refusal ≡ refused BookFault.NoMemory work) }
@@ -159,63 +209,54 @@ impl Book {
         let txn = work.id();
         // Its snapshot is sound.
         work.snapshot().version();
-        let Ok(prepared) = self.prepare(alloc, &work) else {
+        let mut work = work;
+        let Ok(prepared) = self.prepare(alloc, &mut work) else {
             return Err(refused(BookFault::NoMemory, work));
         };
         let Prepared {
-            writes,
+            marks,
             layout,
             seen,
-            met,
-            read,
         } = prepared;
+        let index = self.entries.len();
         if self.entries.reserve(1).is_err()
             || self.log.reserve(1).is_err()
             || self.changes.reserve_commit().is_err()
+            || list_at(&mut self.index, &mut self.places, txn, index, &marks).is_err()
         {
             return Err(refused(BookFault::NoMemory, work));
         }
-        let index = self.entries.len();
-        let listed = list_at(&mut self.index, &mut self.places, txn, index, &met, &read);
-        if listed.is_err() {
-            return Err(refused(BookFault::NoMemory, work));
-        }
         let place = self.log.len() as u32;
-        let (commands, _, _) = work.into_parts();
-        let entry = Entry::new(txn, place, writes, read, seen);
+        let (commands, spent) = work.into_commands();
+        let entry = Entry::new(txn, place, marks.wrote, marks.touched, seen);
         self.entries.push(entry).unwrap();
         self.log.push(committed(txn, commands)).unwrap();
         self.changes.add_commit(place);
         end_pending(&mut self.sessions, txn.session);
-        self.layout = layout;
-        Ok(txn)
+        let before = replace(&mut self.layout, layout);
+        Ok((txn, Rest::of(spent, before)))
     }
 
     /// Makes what a commit of the work leaves and keeps, and changes nothing yet.
-    fn prepare(&self, alloc: Global, work: &Work) -> Result<Prepared, NoMemory>
-        requires own { is_own self.now work.now ≡ true }
-        requires fresh { stale_by self.now.entries work.now.footprint
-            (drop (work.now.opened + 1) self.now.log) ≡ None }
-        ensures writes { IfOk result (λ made. made.writes ≡ work.now.writes) }
-        ensures layout { IfOk result (λ made. made.layout ≡ applied self.now.layout work.now.writes) }
-        ensures seen { IfOk result (λ made. made.seen.items ≡ links_to self.now.entries work.now.footprint) }
-        ensures met { IfOk result (λ made. AreMetBy work.now.writes made.met) }
-        ensures read { IfOk result (λ made. made.read ≡ work.now.footprint) }
+    fn prepare(&self, alloc: Global, work: &mut Work) -> Result<Prepared, NoMemory>
+        requires own { is_own self.now work.old ≡ true }
+        requires fresh { stale_by self.now.entries work.old.footprint
+            (drop (work.old.opened + 1) self.now.log) ≡ None }
+        ensures same { work.new ≡ work.old }
+        ensures marks { IfOk result (λ made. AreMarksOf work.old.writes work.old.footprint made.marks) }
+        ensures layout { IfOk result (λ made. made.layout ≡ applied self.now.layout work.old.writes) }
+        ensures seen { IfOk result (λ made. made.seen.items ≡ links_to self.now.entries work.old.footprint) }
     {
         work.id();
         // Its snapshot is sound.
         work.snapshot().version();
-        let writes = Records::of(alloc, work.writes())?;
-        let layout = writes.applied(alloc, &self.layout)?;
-        let read = Elements::of(alloc, work.footprint())?;
-        let seen = self.links_to(alloc, &read)?;
-        let met = Elements::met_by(alloc, &writes)?;
+        let marks = work.take_marks(alloc)?;
+        let layout = marks.wrote.applied(alloc, &self.layout)?;
+        let seen = self.links_to(alloc, &marks.touched)?;
         Ok(Prepared {
-            writes,
+            marks,
             layout,
             seen,
-            met,
-            read,
         })
     }
 }
@@ -242,11 +283,10 @@ fn list_at(
     places: &mut BTreeMap<(u8, u16), usize>,
     txn: TxnId,
     place: usize,
-    met: &Elements,
-    footprint: &Elements,
+    marks: &Marks,
 ) -> Result<(), NoMemory>
-    ensures writers { OnOk result (AreAdded index.old.writers met.now place index.new.writers) }
-    ensures readers { OnOk result (AreAdded index.old.readers footprint.now place index.new.readers) }
+    ensures writers { OnOk result (AreAdded index.old.writers marks.now.met place index.new.writers) }
+    ensures readers { OnOk result (AreAdded index.old.readers marks.now.touched place index.new.readers) }
     ensures places { OnOk result (IsPutUnder txn place places.old.entries places.new.entries) }
     ensures same_writers { OnErr result (IsNew index.old.writers place
         → index.new.writers ≡ index.old.writers) }
@@ -254,9 +294,9 @@ fn list_at(
         → index.new.readers ≡ index.old.readers) }
     ensures same_places { OnErr result (places.new.entries ≡ places.old.entries) }
 {
-    index.enter(met, footprint, place)?;
+    index.enter(&marks.met, &marks.touched, place)?;
     if places.insert((txn.session, txn.txn), place).is_err() {
-        index.leave(met, footprint, place);
+        index.leave(&marks.met, &marks.touched, place);
         return Err(NoMemory {});
     }
     Ok(())

@@ -5,8 +5,7 @@ ghost use Rattle.undo_rules.specs.Links.{Entry as Kept, marked};
 use lay_point::Sequence;
 use std::marker::Model;
 use txn_commands::TxnId;
-use txn_marks::Records;
-use undo_index::Elements;
+use txn_marks::{Elements, Records};
 
 /// A committed transaction. Contracts see the record of its parts.
 #[derive(Debug, Drop)]

@@ -18,8 +18,8 @@ use lay_point::NoMemory;
 use std::alloc::Global;
 use std::collections::BTreeMap;
 use txn_commands::TxnId;
-use txn_marks::Footprint;
-use undo_index::{Elements, Index};
+use txn_marks::{Elements, Footprint};
+use undo_index::Index;
 use undo_rules::BookFault;
 
 impl Book {

@@ -19,7 +19,8 @@
 //! What each call answers and leaves is `undo_rules/specs/Steps.antt`. Any answer but LogFull, and
 //! Foreign of a commit, can give way to NoMemory, and then nothing changes (`Takes` and `TakesWork`
 //! of `specs/Calls.antt`). A commit that is refused hands its work back, unless it was stale
-//! ([`CommitRefusal`]).
+//! ([`CommitRefusal`]). [`Book::commit_with_rest`] hands back besides what is left over, for callers that
+//! drop it when they have let go of the book.
 //!
 //! # Invariants
 //!
@@ -74,6 +75,6 @@ mod session;
 mod undo;
 
 pub use book::{Book, MAX_CALLS};
-pub use commit::CommitRefusal;
+pub use commit::{CommitRefusal, Rest};
 pub use entry::Entry;
 pub use open::MAX_TRANSACTIONS;

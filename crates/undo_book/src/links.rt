@@ -14,7 +14,8 @@ use lay_point::NoMemory;
 use std::alloc::Global;
 use std::collections::BTreeMap;
 use txn_commands::TxnId;
-use undo_index::{Elements, Index, Places, first_apart};
+use txn_marks::Elements;
+use undo_index::{Index, Places, first_apart};
 use undo_rules::{Answer, Call, Logged};
 
 /// Returns the first live transaction from this place on that touched what another one wrote, of which the

@@ -21,8 +21,8 @@ use lay_items::Snapshot;
 use lay_point::NoMemory;
 use std::alloc::Global;
 use txn_commands::TxnId;
-use txn_marks::Records;
-use undo_index::{Elements, Index};
+use txn_marks::{Elements, Records};
+use undo_index::Index;
 use undo_rules::{Answer, Call, Logged};
 
 impl Book {

@@ -15,7 +15,7 @@ use Rattle.std.specs.List.Sorted.{IsPermutation, IsSorted, IsStrictlySortedBy}
 use Rattle.std.specs.Ordering.{nat_cmp}
 use Rattle.undo_index.specs.First.{IsFirst, first_of, has_place, is_apart, lesser}
 use Rattle.undo_index.proofs.FirstLemmas.{first_alike}
-use Rattle.undo_index.proofs.OnceLemmas.{once_each}
+use Rattle.txn_marks.proofs.OnceLemmas.{once_each}
 
 -- ---- places gathered
 

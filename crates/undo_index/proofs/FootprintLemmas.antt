@@ -1,14 +1,10 @@
--- All elements of a footprint, and elements in lists.
+-- All elements of a footprint.
 use Rattle.std.proofs.Common.{◌≡◌, Bool, true, false, not, ◌||◌, ◌&&◌, List, [], ◌∷◌, refl, sym, ap, ◌∙◌}
-use Rattle.std.specs.Cmp.{Equal-is}
-use Rattle.std.specs.FinSet.{contains-from_list, from_list, items, same_set}
+use Rattle.std.specs.FinSet.{from_list, items}
 use Rattle.std.specs.List.{list_all, list_any}
-use Rattle.std.specs.List.Retain.{DiffersFromLast, IsFiltered}
-use Rattle.std.specs.List.Sorted.{IsPermutation}
 use Rattle.txn_commands.specs.declared.element.Element.{Element}
-use Rattle.txn_commands.specs.Elements.{Touched, element_cmp, element_eq, elements_exact, elements_total}
+use Rattle.txn_commands.specs.Elements.{Touched, element_cmp}
 use Rattle.txn_marks.proofs.SetLemmas.{all_items}
-use Rattle.undo_index.proofs.OnceLemmas.{once_each}
 
 any_not : {X : Type 0} (p : X → Bool) (xs : List X) → list_any p xs ≡ not (list_all (λ x. not (p x)) xs)
 any_not p [] = refl
@@ -25,13 +21,3 @@ any_items p ks =
 pub any_so : (p : Element → Bool) (keys : List Element) (elements : Touched) → from_list {R = element_cmp} keys ≡ elements →
     list_any p keys ≡ list_any p (items elements)
 any_so p keys elements are = any_items p keys ∙ ap (λ (s : Touched). list_any p (items s)) are
-
--- ---- brought in order
-
--- each once, they are the same set
-pub same_elements : (all sorted once : List Element) → IsPermutation all sorted → IsFiltered (DiffersFromLast element_eq) [] sorted once →
-    from_list {R = element_cmp} once ≡ from_list all
-same_elements all sorted once moved filtered = same_set elements_total elements_exact _ _ (λ e.
-    contains-from_list elements_total once e
-    ∙ once_each element_eq (λ x y h. elements_exact x y ((Equal-is (element_cmp x y)).0 h)) all sorted once moved filtered e
-    ∙ sym (contains-from_list elements_total all e))

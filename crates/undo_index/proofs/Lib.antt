@@ -3,7 +3,6 @@ pub mod FirstLemmas
 pub mod FootprintLemmas
 pub mod KeptLemmas
 pub mod ListedLemmas
-pub mod OnceLemmas
 pub mod PairLemmas
 pub mod PartsLemmas
 pub mod RangeLemmas

@@ -2,10 +2,10 @@
 ghost use Rattle.std.specs.Prelude.{◌≡◌, OnErr, OnOk};
 ghost use Rattle.undo_index.specs.Listed.{AreAdded, AreRemoved, IsNew, nothing_listed};
 
-use crate::elements::Elements;
 use crate::listing::Listing;
 use lay_point::NoMemory;
 use std::alloc::Global;
+use txn_marks::Elements;
 
 /// The live transactions of a history, by what they wrote and by what they touched.
 #[derive(Drop)]

@@ -13,8 +13,6 @@
 //! - The places under one element (`kept.rt`) are a sole one in place, or a tree. Contracts ask
 //!   which places are there, and of a search that it finds the first one from a place on that
 //!   passes a test (`specs/First.antt`).
-//! - [`Elements`] are those of a footprint, or those that records meet, in a list that doesn't
-//!   grow; a sole one is in place. Contracts see the finite set of them.
 //! - [`Places`] is a list of places. Contracts see the list. [`first_apart`] finds the least place
 //!   that one of two such lists has and the other hasn't: so the places that are linked are
 //!   compared with those that were.
@@ -29,11 +27,10 @@
 //! # Files
 //!
 //! - `index.rt`, `listing.rt`, `under.rt`, `parts.rt`, `kept.rt`: what is listed under elements.
-//! - `elements.rt`, `places.rt`, `apart.rt`, `least.rt`: what is asked with, and what is found.
+//! - `places.rt`, `apart.rt`, `least.rt`: what is asked with, and what is found.
 #![tactic(auto)]
 
 mod apart;
-mod elements;
 mod index;
 mod kept;
 mod least;
@@ -43,7 +40,6 @@ mod places;
 mod under;
 
 pub use apart::first_apart;
-pub use elements::Elements;
 pub use index::Index;
 pub use listing::Listing;
 pub use places::Places;

@@ -12,7 +12,6 @@ ghost use Rattle.undo_index.specs.Listed.{
   nothing_listed,
 };
 
-use crate::elements::Elements;
 use crate::least::lesser;
 use crate::parts::Parts;
 use crate::places::Places;
@@ -23,7 +22,7 @@ use std::alloc::Global;
 use std::collections::BTreeSet;
 use std::marker::Model;
 use txn_commands::Element;
-use txn_marks::Footprint;
+use txn_marks::{Elements, Footprint};
 
 /// Places listed under elements. Contracts see the finite set of the pairs.
 ///

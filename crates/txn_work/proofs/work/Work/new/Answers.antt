@@ -7,6 +7,7 @@ invariant_of-result c = record {
   kept = new_kept _ (search rules) (search rules) (search rules) (search rules);
   whole = tt;
   refused = tt;
+  marks = tt;
 }
 
 pub returns-clause-transaction : goal.returns-clause-transaction

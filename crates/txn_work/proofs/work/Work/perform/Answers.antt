@@ -59,6 +59,7 @@ invariant_of-self-2 c =
           (subst (λ (t : Transaction). IfSome c.whole_after-whole.result
           (λ l. l ≡ rewritten (run_so_far t).layout act.items act.symbols)) (sym same) c.whole_after-whole.ensures);
       refused = tt;
+      marks = tt;
     }
 
 pub returns-clause-ok : goal.returns-clause-ok

@@ -19,13 +19,13 @@ use Rattle.undo_book.proofs.SinceLemmas.{commit_commits_so}
 use Rattle.undo_book.proofs.book.Book.append.Goals as goal
 
 -- the transaction as it is entered
-entry : (c : goal.Joined-met-3) → c.push.new.self.items
+entry : (c : goal.Joined-marks-4) → c.push.new.self.items
     ≡ c.self.inside.entries.items ++ entered (history_of c.self.inside) c.args.work ∷ []
 entry c = search rules
 
 -- what is left at the end
-left : (c : goal.Joined-met-3) → LeavesCommitted c.args.self.now (history_of (record c.self.inside {
-  layout = c.in-Ok.prepared.layout;
+left : (c : goal.Joined-marks-4) → LeavesCommitted c.args.self.now (history_of (record c.self.inside {
+  layout = c.replace-before.new.dest;
   log = c.push-2.new.self;
   entries = c.push.new.self;
   sessions = c.end_pending.new.sessions;
@@ -35,28 +35,29 @@ left c =
     let work = c.args.work in
     let can = committed_so b c.args.self.now c.self.view_is c.self.invariant.history work c.id-txn.ensures.transaction
     (search rules) c.requires.own c.requires.fresh in
-    let layout : c.in-Ok.prepared.layout ≡ applied c.self.inside.layout work.writes =
-    c.in-Ok.ensures.layout ∙ ap (λ (h : History). applied h.layout work.writes) (sym c.self.view_is) in
+    let now : c.replace-before.new.dest ≡ c.in-Ok.prepared.layout = search rules in
+    let layout : c.replace-before.new.dest ≡ applied c.self.inside.layout work.writes =
+    now ∙ c.in-Ok.ensures.layout ∙ ap (λ (h : History). applied h.layout work.writes) (sym c.self.view_is) in
     let log : c.push-2.new.self.items ≡ c.self.inside.log.items
     ++ record { session = work.id.session; call = Commit work.id work.commands; answer = Committed } ∷ [] = search rules in
     let sessions : c.end_pending.new.sessions.items ≡ slice_set c.self.inside.sessions.items (work.id.session - 1)
     (ended_state (state_of b work.id.session)) = search rules in
-    can.left c.in-Ok.prepared.layout c.push-2.new.self.items c.push.new.self.items c.end_pending.new.sessions.items layout log (entry c)
+    can.left c.replace-before.new.dest c.push-2.new.self.items c.push.new.self.items c.end_pending.new.sessions.items layout log (entry c)
     sessions
 
 -- who wrote and touched what
-indexed : (c : goal.Joined-met-3) →
-    AreIndexed c.list_at-listed.new.index.writers c.list_at-listed.new.index.readers c.push.new.self.items
+indexed : (c : goal.Joined-marks-4) →
+    AreIndexed c.list_at.new.index.writers c.list_at.new.index.readers c.push.new.self.items
 indexed c =
     let was = c.self.inside.index in
     let work = c.args.work in
-    let met = c.in-Ok.prepared.met in
+    let marks = c.in-Ok.prepared.marks in
     let last : c.len-index.result ≡ length c.self.inside.entries.items = search rules in
-    let added : AreAdded was.writers met c.len-index.result c.list_at-listed.new.index.writers = search rules in
-    let read : AreAdded was.readers work.footprint c.len-index.result c.list_at-listed.new.index.readers = search rules in
-    let are : AreMetBy work.writes met = c.in-Ok.ensures.met in
-    commit_indexed was.writers was.readers c.list_at-listed.new.index.writers c.list_at-listed.new.index.readers
-    c.self.inside.entries.items c.push.new.self.items (entered (history_of c.self.inside) work) met c.len-index.result
+    let added : AreAdded was.writers marks.met c.len-index.result c.list_at.new.index.writers = search rules in
+    let read : AreAdded was.readers work.footprint c.len-index.result c.list_at.new.index.readers = search rules in
+    let are : AreMetBy work.writes marks.met = c.in-Ok.ensures.marks.met in
+    commit_indexed was.writers was.readers c.list_at.new.index.writers c.list_at.new.index.readers
+    c.self.inside.entries.items c.push.new.self.items (entered (history_of c.self.inside) work) marks.met c.len-index.result
     c.self.invariant.index added read are refl last (entry c)
 
 pub invariant_of-self-2 : goal.invariant_of-self-2
@@ -72,12 +73,12 @@ invariant_of-self-2 c =
     search rules in
     let again : c.add_commit.new.self.again ≡ c.self.inside.changes.again = search rules in
     let last : c.len-index.result ≡ length c.self.inside.entries.items = search rules in
-    let put : IsPutUnder c.id-txn.result c.len-index.result c.self.inside.places.entries c.list_at-listed.new.places.entries =
+    let put : IsPutUnder c.id-txn.result c.len-index.result c.self.inside.places.entries c.list_at.new.places.entries =
     search rules in
     record {
       history = (left c).history;
-      places = subst (AreTheirPlaces c.list_at-listed.new.places.entries) (sym (entry c))
-          (places_pushed c.self.inside.places.entries c.list_at-listed.new.places.entries c.self.inside.entries.items (entered b work)
+      places = subst (AreTheirPlaces c.list_at.new.places.entries) (sym (entry c))
+          (places_pushed c.self.inside.places.entries c.list_at.new.places.entries c.self.inside.entries.items (entered b work)
           c.id-txn.result c.len-index.result (sym c.id-txn.ensures.value) last can.apart c.self.invariant.places put);
       index = indexed c;
       changes = commit_so call (entered b work) c.self.invariant.changes refl can.apart earlier changed log (entry c);
@@ -96,8 +97,8 @@ invariant_of-self-then-is_err-4 c =
     let was = c.self.inside.index in
     let last : c.len-index.result ≡ length c.self.inside.entries.items = search rules in
     let fresh = new_here was.writers was.readers c.self.inside.entries.items c.len-index.result c.self.invariant.index last in
-    let writers : IsNew was.writers c.len-index.result → c.list_at-listed.new.index.writers ≡ was.writers = search rules in
-    let readers : IsNew was.readers c.len-index.result → c.list_at-listed.new.index.readers ≡ was.readers = search rules in
-    let places : c.list_at-listed.new.places.entries ≡ c.self.inside.places.entries = search rules in
+    let writers : IsNew was.writers c.len-index.result → c.list_at.new.index.writers ≡ was.writers = search rules in
+    let readers : IsNew was.readers c.len-index.result → c.list_at.new.index.readers ≡ was.readers = search rules in
+    let places : c.list_at.new.places.entries ≡ c.self.inside.places.entries = search rules in
     same_book c.self.inside _ (search rules) places (search rules) (search rules) (search rules) (writers fresh.0) (readers fresh.1)
     c.self.invariant

@@ -3,11 +3,13 @@ ghost use Rattle.std.specs.Prelude.{◌≡◌, IfOk};
 ghost use Rattle.std.specs.FinSet as set;
 ghost use Rattle.txn_marks.specs.Homes.{AreMetBy};
 
+use crate::few::Few;
+use crate::footprint::Footprint;
+use crate::records::Records;
 use lay_point::NoMemory;
 use std::alloc::Global;
 use std::marker::Model;
 use txn_commands::Element;
-use txn_marks::{Few, Footprint, Records};
 
 /// Elements in a list that doesn't grow: those of a footprint, or those that records meet. Most transactions touch a few,
 /// for which a node of a tree is ten times as large. A sole one stands in place. Contracts see the finite set of them.

@@ -1,8 +1,8 @@
 use Rattle.std.proofs.Common.{◌∙◌, ap}
 use Rattle.std.specs.FinSet.{contains, from_list}
 use Rattle.txn_commands.specs.Elements.{Touched, element_cmp}
-use Rattle.undo_index.proofs.FootprintLemmas.{same_elements}
-use Rattle.undo_index.proofs.elements.Elements.met_by.Goals as goal
+use Rattle.txn_marks.proofs.OnceLemmas.{same_elements}
+use Rattle.txn_marks.proofs.listed.Elements.met_by.Goals as goal
 
 pub returns : goal.returns
 returns c e =

@@ -5,6 +5,10 @@ use Rattle.std.proofs.lemmas.List.Sorted.{list_any-IsPermutation}
 use Rattle.std.specs.List.{dedup, dedup_from, list_any}
 use Rattle.std.specs.List.Retain.{DiffersFromLast, IsFiltered}
 use Rattle.std.specs.List.Sorted.{IsPermutation}
+use Rattle.std.specs.Cmp.{Equal-is}
+use Rattle.std.specs.FinSet.{contains-from_list, from_list, same_set}
+use Rattle.txn_commands.specs.declared.element.Element.{Element}
+use Rattle.txn_commands.specs.Elements.{element_cmp, element_eq, elements_exact, elements_total}
 
 twice : (a b : Bool) → (a || b) ≡ (a || (a || b))
 twice true b = refl
@@ -33,3 +37,13 @@ module _ {X : Type 0} (same : X → X → Bool) (exact : (x y : X) → same x y 
   once_each all sorted once moved filtered p =
       ap (list_any (same p)) (dedup_is same sorted once filtered) ∙ once_has sorted p
       ∙ sym (list_any-IsPermutation (same p) all sorted moved)
+
+-- ---- elements of a layout
+
+-- each once, they are the same set
+pub same_elements : (all sorted once : List Element) → IsPermutation all sorted → IsFiltered (DiffersFromLast element_eq) [] sorted once →
+    from_list {R = element_cmp} once ≡ from_list all
+same_elements all sorted once moved filtered = same_set elements_total elements_exact _ _ (λ e.
+    contains-from_list elements_total once e
+    ∙ once_each element_eq (λ x y h. elements_exact x y ((Equal-is (element_cmp x y)).0 h)) all sorted once moved filtered e
+    ∙ sym (contains-from_list elements_total all e))

@@ -4,7 +4,7 @@ use Rattle.std.proofs.lemmas.List.{append-nil}
 use Rattle.txn_commands.specs.declared.element.Element.{Element}
 use Rattle.txn_commands.specs.Elements.{Touched, element_cmp}
 use Rattle.txn_marks.proofs.FewLemmas.{sole}
-use Rattle.undo_index.proofs.elements.Elements.of.Goals as goal
+use Rattle.txn_marks.proofs.listed.Elements.of.Goals as goal
 
 abbrev set_of : List Element → Touched
 set_of xs = from_list {R = element_cmp} xs
