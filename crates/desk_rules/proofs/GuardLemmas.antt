@@ -6,7 +6,7 @@ use Rattle.std.proofs.lemmas.Bool.Decides.{nat_tests}
 use Rattle.std.proofs.lemmas.Grind.{get_or-set_at}
 use Rattle.std.proofs.lemmas.List.{get_or-set_other, length-set, length-append}
 use Rattle.std.proofs.lemmas.Option.{slice_get_within}
-use Rattle.std.specs.Prelude.{slice_get}
+use Rattle.std.specs.Prelude.{IfSome, slice_get}
 use Rattle.undo_rules.specs.declared.log.Answer.{Answer}
 use Rattle.undo_rules.specs.declared.log.Call.{Call}
 use Rattle.undo_rules.specs.declared.log.Logged.{Logged}
@@ -17,7 +17,7 @@ use Rattle.desk_rules.specs.declared.kept.Kept.{Kept}
 use Rattle.lay_layouts.specs.Sound.{IsSound}
 use Rattle.desk_rules.specs.Guards.{AreCallCounts, Fits, Guard, IsGuard, has_last, ones, with_one_counted}
 use Rattle.desk_rules.specs.Legal.{Desk, Grew, IsLegal, Leads, Stepped, on_base, outcome}
-use Rattle.desk_rules.specs.Seats.{IsIn, IsLastIn, IsPastCall, MadeLogged, calls_added, is_in, is_last_in, last_of, own_calls, same_at}
+use Rattle.desk_rules.specs.Seats.{EndsWith, IsIn, IsLastIn, IsPastCall, calls_added, is_in, is_last_in, last_of, own_calls, same_at}
 use Rattle.desk_rules.proofs.LegalLemmas.{grown, legal_push}
 use Rattle.desk_rules.proofs.OwnLemmas.{length-own-push}
 
@@ -172,7 +172,7 @@ counted g session own kept look =
 -- what a logged call tells of the log behind it
 pub made_logged : (desk : Desk) (g : Guard) (next : History) (session place : ℕ) (call : Call) (answer : Option Answer) (own : List Kept)
     → IsGuard g → Fits desk g → IsSound g.book.layout → Looked g session own → Stepped g.book session call answer next
-    → place ≡ length g.book.log → MadeLogged answer (on_base next.base desk) next session own call place
+    → place ≡ length g.book.log → IfSome answer (EndsWith (on_base next.base desk) next (record { session = session; before = own; call = call; place = place }))
 made_logged desk g next session place call None own kept fits sound look stepped at = tt
 made_logged desk g next session place call (Some answer) own kept fits sound look (inr fails) at = absurd (grind rules)
 made_logged desk g next session place call (Some answer) own kept fits sound look (inl made) at =

@@ -13,7 +13,7 @@ use Rattle.undo_rules.specs.declared.log.Call.{Call}
 use Rattle.undo_rules.specs.declared.log.Call.TheVariants.{Open, Redo, Undo}
 use Rattle.undo_rules.specs.declared.log.Logged.{Logged}
 use Rattle.undo_rules.specs.Books.{History}
-use Rattle.undo_rules.specs.Steps.{after_open, after_redo, after_undo, commit_step, commit_unless, found, fresh, is_log_full, is_own}
+use Rattle.undo_rules.specs.Steps.{after_open, after_redo, after_undo, commit_step, commit_unless, found, is_log_full, is_own}
 use Rattle.undo_rules.specs.Steps.{logged, opening, redo_refusal, stale_by, state_of, undo_refusal, unless}
 use Rattle.desk_rules.specs.declared.kept.Kept.{Kept}
 use Rattle.desk_rules.specs.Close.{Misses, missing_place}

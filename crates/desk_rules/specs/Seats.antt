@@ -83,54 +83,58 @@ abbrev pub place_or_zero : Option Kept → ℕ
 place_or_zero None = 0
 place_or_zero (Some k) = k.place
 
--- ---- a call that was made
+-- ---- a call that is made
 
--- the history is that after a legal log from this desk. Its last call is this one, at its place. It has as many calls of the
--- session as the seat then has, and the seat's call before this one stands before it, at its own place
-pub record MadeAt (desk : Desk) (h : History) (session : ℕ) (before : List Kept) (k : Kept) : Type 0 where
-  pub legal : IsFrom desk h
-  pub last : IsIn h.log k
-  pub whole : length h.log ≡ k.place + 1
-  pub count : length (own_calls session h.log) ≡ length before + 1
-  pub earlier : IsLastIn h.log (last_of before)
-  pub below : IsPastCall k.place (last_of before)
-
--- there is such a history, on some base
-pub record Made (desk : Desk) (session : ℕ) (before : List Kept) (k : Kept) : Type 0 where
-  pub base : Layout
-  pub history : History
-  pub at : MadeAt (on_base base desk) history session before k
-
--- the call at this place
-abbrev pub kept_call : ℕ → ℕ → Call → Answer → Kept
-kept_call place session call answer = record { place = place; logged = record { session = session; call = call; answer = answer } }
-
--- the seat with one more call
-abbrev pub seat_with_call : Seat → Kept → Seat
-seat_with_call seat k = record { session = seat.session; own = seat.own ++ k ∷ [] }
-
--- the seat gains this call, of which there is such a log
-pub record Gains (desk : Desk) (old : Seat) (call : Call) (answer : Answer) (new : Seat) : Type 0 where
+-- a session's next call: the session, its logged calls before, the call, and its place in the log
+pub record NextCall : Type 0 where
+  pub session : ℕ
+  pub before : List Kept
+  pub call : Call
   pub place : ℕ
-  pub gained : new ≡ seat_with_call old (kept_call place old.session call answer)
-  pub made : Made desk old.session old.own (kept_call place old.session call answer)
 
--- the seat gains the call where it is logged, and else is as before
-abbrev pub GainsLogged : Desk → Option Answer → Seat → Call → Seat → Type 0
-GainsLogged desk None old call new = new ≡ old
-GainsLogged desk (Some answer) old call new = Gains desk old call answer new
+-- the call as it is logged with this answer
+abbrev pub kept_next : NextCall → Answer → Kept
+kept_next next answer = record { place = next.place; logged = record { session = next.session; call = next.call; answer = answer } }
 
--- such a history, where the call is logged
-abbrev pub MadeLogged : Option Answer → Desk → History → ℕ → List Kept → Call → ℕ → Type 0
-MadeLogged None desk h session before call place = Unit {0}
-MadeLogged (Some answer) desk h session before call place = MadeAt desk h session before (kept_call place session call answer)
+-- The history is that after a legal log from this desk. Its last call is the next one, with this answer and at its place. It has
+-- as many calls of the session as the session then has, and the session's call before this one stands before it, at its own place
+pub record EndsWith (desk : Desk) (h : History) (next : NextCall) (answer : Answer) : Type 0 where
+  pub legal : IsFrom desk h
+  pub last : IsIn h.log (kept_next next answer)
+  pub whole : length h.log ≡ next.place + 1
+  pub count : length (own_calls next.session h.log) ≡ length next.before + 1
+  pub earlier : IsLastIn h.log (last_of next.before)
+  pub below : IsPastCall next.place (last_of next.before)
+
+-- the session's calls behind it, where it is logged with this answer or isn't logged
+abbrev pub calls_behind : NextCall → Option Answer → List Kept
+calls_behind next None = next.before
+calls_behind next (Some answer) = next.before ++ kept_next next answer ∷ []
 
 -- how many calls this adds
 abbrev pub calls_added : Option Answer → ℕ
 calls_added None = 0
 calls_added (Some answer) = 1
 
--- the calls with this one, where it is logged
-abbrev pub with_kept : Option Answer → ℕ → List Kept → Call → ℕ → List Kept
-with_kept None session own call place = own
-with_kept (Some answer) session own call place = own ++ kept_call place session call answer ∷ []
+-- ---- what a seat gains
+
+-- the next call of the seat's session
+abbrev pub next_at : Seat → Call → ℕ → NextCall
+next_at seat call place = record { session = seat.session; before = seat.own; call = call; place = place }
+
+-- the seat behind the call, which is logged with this answer
+abbrev pub seat_behind : NextCall → Answer → Seat
+seat_behind next answer = record { session = next.session; own = calls_behind next (Some answer) }
+
+-- the seat gains this call: it is at the end of the log of some history from the desk, on some base
+pub record Gains (desk : Desk) (old : Seat) (call : Call) (answer : Answer) (new : Seat) : Type 0 where
+  pub place : ℕ
+  pub gained : new ≡ seat_behind (next_at old call place) answer
+  pub base : Layout
+  pub history : History
+  pub ends : EndsWith (on_base base desk) history (next_at old call place) answer
+
+-- the seat gains the call where it is logged, and else is as before
+abbrev pub GainsLogged : Desk → Option Answer → Seat → Call → Seat → Type 0
+GainsLogged desk None old call new = new ≡ old
+GainsLogged desk (Some answer) old call new = Gains desk old call answer new

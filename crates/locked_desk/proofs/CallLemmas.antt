@@ -1,6 +1,7 @@
 -- Calls of a book behind the lock, and their answers as the desk's.
 use Rattle.std.proofs.Common.{◌≡◌, ℕ, List, [], ◌∷◌, ◌++◌, Bool, true, false, cond, not, Option, None, Some, Result, Ok, Err, IfErr}
 use Rattle.std.proofs.Common.{IfOk, refl, ap, sym, ◌∙◌, subst, inl, inr, drop, ◌+◌}
+use Rattle.std.specs.Prelude.{IfSome}
 use Rattle.lay_layouts.specs.Sound.{IsSound}
 use Rattle.txn_commands.specs.declared.command.TxnId.{TxnId}
 use Rattle.txn_commands.specs.Transactions.{IsTransaction, Transaction}
@@ -19,9 +20,9 @@ use Rattle.desk_rules.proofs.MeantLemmas.{stepped_work}
 use Rattle.lay_layouts.specs.Layout.{Layout}
 use Rattle.undo_rules.specs.declared.log.Call.{Call}
 use Rattle.desk_rules.specs.declared.kept.Kept.{Kept}
-use Rattle.desk_rules.specs.Seats.{GainsLogged, MadeAt, MadeLogged, Seat, kept_call, with_kept}
+use Rattle.desk_rules.specs.Seats.{EndsWith, GainsLogged, Seat, calls_behind, next_at}
 use Rattle.desk_rules.proofs.SeatLemmas.{gains_logged}
-use Rattle.locked_desk.specs.Desks.{OpensAt, by_book}
+use Rattle.locked_desk.specs.Desks.{OpensAt, by_book, open_call}
 use Rattle.locked_desk.specs.Desks.{commit_answer, commit_by_book, desk_answer, desk_commit_answer}
 
 pub answer_by_book : (done : Answer) (result : Result (Unit {0}) BookFault) → desk_answer done (by_book result) ≡ answer_of done result
@@ -88,17 +89,20 @@ refused_back h next work refusal (inr fails) =
 -- the seat gains what it keeps
 pub gains_kept : {old new : Seat} (origin desk : Desk) (answer told : Option Answer) (base : Layout) (h : History) (session : ℕ)
     (own given kept : List Kept) (call : Call) (place : ℕ) → origin ≡ desk → record { session = session; own = own } ≡ old
-    → record { session = session; own = kept } ≡ new → given ≡ own → kept ≡ with_kept answer session own call place
-    → MadeLogged answer (on_base base origin) h session given call place → told ≡ answer → GainsLogged desk told old call new
+    → record { session = session; own = kept } ≡ new → given ≡ own
+    → kept ≡ calls_behind (record { session = session; before = own; call = call; place = place }) answer
+    → IfSome answer (EndsWith (on_base base origin) h (record { session = session; before = given; call = call; place = place }))
+    → told ≡ answer → GainsLogged desk told old call new
 gains_kept {old} {new} origin desk answer told base h session own given kept call place origin-is old-is new-is given-is kept-is made
     told-is =
-    let here : MadeLogged answer (on_base base desk) h session own call place =
-    subst (λ (d : Desk). MadeLogged answer (on_base base d) h session own call place) origin-is
-    (subst (λ (l : List Kept). MadeLogged answer (on_base base origin) h session l call place) given-is made) in
-    let gains : GainsLogged desk answer (record { session = session; own = own }) call (record { session = session; own = kept }) =
-    subst (λ (l : List Kept). GainsLogged desk answer (record { session = session; own = own }) call
-    (record { session = session; own = l })) (sym kept-is)
-    (gains_logged answer desk base h (record { session = session; own = own }) call place here) in
+    let seat : Seat = record { session = session; own = own } in
+    let here : IfSome answer (EndsWith (on_base base desk) h (next_at seat call place)) =
+    subst (λ (d : Desk). IfSome answer (EndsWith (on_base base d) h (next_at seat call place))) origin-is
+    (subst (λ (l : List Kept). IfSome answer (EndsWith (on_base base origin) h
+    (next_at (record { session = session; own = l }) call place))) given-is made) in
+    let gains : GainsLogged desk answer seat call (record { session = session; own = kept }) =
+    subst (λ (l : List Kept). GainsLogged desk answer seat call (record { session = session; own = l })) (sym kept-is)
+    (gains_logged answer desk base h seat call place here) in
     subst (λ (a : Option Answer). GainsLogged desk a old call new) (sym told-is)
     (subst (λ (s : Seat). GainsLogged desk answer old call s) new-is
     (subst (λ (s : Seat). GainsLogged desk answer s call (record { session = session; own = kept })) old-is gains))
@@ -119,32 +123,35 @@ committed_back h next work (Err refusal) takes = refused_back h next work refusa
 pub opens_at : {old new : Seat} (origin desk : Desk) (work : Transaction) (result : Result Transaction BookFault) (h : History)
     (session : ℕ)
     (own given kept : List Kept) (place : ℕ) → origin ≡ desk → record { session = session; own = own } ≡ old
-    → record { session = session; own = kept } ≡ new → given ≡ own → kept ≡ with_kept (opened_answer result) session own Open place
-    → MadeLogged (opened_answer result) (on_base h.base origin) h session given Open place → result ≡ Ok work
+    → record { session = session; own = kept } ≡ new → given ≡ own
+    → kept ≡ calls_behind (record { session = session; before = own; call = Open; place = place }) (opened_answer result)
+    → IfSome (opened_answer result) (EndsWith (on_base h.base origin) h
+    (record { session = session; before = given; call = Open; place = place })) → result ≡ Ok work
     → IfOk result (λ w. (w.id.session ≡ session) × (w.opened ≡ place) × (w.snapshot ≡ h.layout) × (w.commands ≡ []))
     → h.base ≡ desk.base → OpensAt desk old work new
 opens_at {old} {new} origin desk work result h session own given kept place origin-is old-is new-is given-is kept-is made ok works base-is =
     let its = subst (λ (r : Result Transaction BookFault). IfOk r (λ w. (w.id.session ≡ session) × (w.opened ≡ place) ×
     (w.snapshot ≡ h.layout)
     × (w.commands ≡ []))) ok works in
+    let seat : Seat = record { session = session; own = own } in
     let told : opened_answer result ≡ Some (Opened work.id.txn) = ap opened_answer ok in
-    let one : MadeLogged (opened_answer result) (on_base h.base desk) h session own Open place =
-    subst (λ (d : Desk). MadeLogged (opened_answer result) (on_base h.base d) h session own Open place) origin-is
-    (subst (λ (l : List Kept). MadeLogged (opened_answer result) (on_base h.base origin) h session l Open place) given-is made) in
-    let two : MadeLogged (Some (Opened work.id.txn)) (on_base h.base desk) h session own Open place =
-    subst (λ (a : Option Answer). MadeLogged a (on_base h.base desk) h session own Open place) told one in
-    let three : MadeAt (on_base h.base desk) h session own (kept_call work.opened session Open (Opened work.id.txn)) =
-    subst (λ (p : ℕ). MadeAt (on_base h.base desk) h session own (kept_call p session Open (Opened work.id.txn))) (sym its.1) two in
-    let four : MadeAt desk h session own (kept_call work.opened session Open (Opened work.id.txn)) =
-    subst (λ (b : Layout). MadeAt (on_base b desk) h session own (kept_call work.opened session Open (Opened work.id.txn))) base-is
-    three in
-    let kept-as : kept ≡ own ++ kept_call work.opened session Open (Opened work.id.txn) ∷ [] =
-    kept-is ∙ ap (λ (a : Option Answer). with_kept a session own Open place) told
-    ∙ ap (λ (p : ℕ). own ++ kept_call p session Open (Opened work.id.txn) ∷ []) (sym its.1) in
-    let opens : OpensAt desk (record { session = session; own = own }) work (record { session = session; own = kept }) = record {
+    let one : IfSome (opened_answer result) (EndsWith (on_base h.base desk) h (next_at seat Open place)) =
+    subst (λ (d : Desk). IfSome (opened_answer result) (EndsWith (on_base h.base d) h (next_at seat Open place))) origin-is
+    (subst (λ (l : List Kept). IfSome (opened_answer result) (EndsWith (on_base h.base origin) h
+    (next_at (record { session = session; own = l }) Open place))) given-is made) in
+    let two : EndsWith (on_base h.base desk) h (next_at seat Open place) (Opened work.id.txn) =
+    subst (λ (a : Option Answer). IfSome a (EndsWith (on_base h.base desk) h (next_at seat Open place))) told one in
+    let three : EndsWith (on_base h.base desk) h (open_call seat work) (Opened work.id.txn) =
+    subst (λ (p : ℕ). EndsWith (on_base h.base desk) h (next_at seat Open p) (Opened work.id.txn)) (sym its.1) two in
+    let four : EndsWith desk h (open_call seat work) (Opened work.id.txn) =
+    subst (λ (b : Layout). EndsWith (on_base b desk) h (open_call seat work) (Opened work.id.txn)) base-is three in
+    let kept-as : kept ≡ calls_behind (open_call seat work) (Some (Opened work.id.txn)) =
+    kept-is ∙ ap (calls_behind (next_at seat Open place)) told
+    ∙ ap (λ (p : ℕ). calls_behind (next_at seat Open p) (Some (Opened work.id.txn))) (sym its.1) in
+    let opens : OpensAt desk seat work (record { session = session; own = kept }) = record {
       gained = ap (λ (l : List Kept). record { session = session; own = l }) kept-as;
       history = h;
-      at = four;
+      ends = four;
       snapshot = its.2;
       session = its.0;
       commands = its.3;

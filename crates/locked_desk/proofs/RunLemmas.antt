@@ -10,35 +10,27 @@ use Rattle.undo_rules.specs.declared.log.Answer.{Answer}
 use Rattle.undo_rules.specs.declared.log.Answer.TheVariants as answers
 use Rattle.undo_rules.specs.declared.log.Call.{Call}
 use Rattle.undo_rules.specs.declared.log.Call.TheVariants as calls
-use Rattle.undo_rules.specs.declared.log.BookFault.{BookFault}
-use Rattle.undo_rules.specs.Books.{History}
 use Rattle.desk_rules.specs.declared.kept.Kept.{Kept}
-use Rattle.desk_rules.specs.Refusals.{open_fault, redo_fault, undo_fault}
 use Rattle.session_steps.specs.declared.Reply.{Reply}
 use Rattle.session_steps.specs.declared.Reply.TheVariants as replies
 use Rattle.session_steps.specs.declared.Step.{Step}
 use Rattle.session_steps.specs.declared.Step.TheVariants.{Cancel, Commit, Do, Open, Redo, Undo}
 use Rattle.session_steps.specs.declared.StepFault.TheVariants as faults
 use Rattle.desk_rules.specs.Legal.{Desk}
-use Rattle.desk_rules.specs.Seats.{Gains, GainsLogged, Seat}
-use Rattle.locked_desk.specs.Desks.{OpensAt, commit_fault, open_call}
-use Rattle.locked_desk.specs.Runs.{AreAnswers, BookRefuses, CallsNothing, Changes, RanSteps, RunsCommand, StepsTo}
-use Rattle.locked_desk.specs.Runs.{logged_reply, reply_to_command}
+use Rattle.desk_rules.specs.Seats.{Gains, GainsLogged, Seat, kept_next, next_at}
+use Rattle.locked_desk.specs.Desks.{OpensAt, open_call}
+use Rattle.locked_desk.specs.Runs.{AreAnswers, BookCall, BookRefuses, CallsNothing, Changes, RanSteps, RunsCommand, SeatedSession, StepsTo}
+use Rattle.locked_desk.specs.Runs.{StepsByCancel, StepsByCommand, StepsByCommit, StepsByOpen, asked_commit, logged_reply, asked_open}
+use Rattle.locked_desk.specs.Runs.{asked_redo, reply_to_command, asked_undo}
 
-pub ran_push : (d : Desk) (held : Option Transaction) (seat : Seat) (steps : List Step) (given : List Reply) (mid : Seat)
-    (last : Option Transaction)
-    (step : Step) (reply : Reply) (end : Seat) (next : Option Transaction) → RanSteps d held seat steps given mid last
-    → StepsTo d last mid step reply end next → RanSteps d held seat (steps ++ step ∷ []) (given ++ reply ∷ []) end next
-ran_push d held seat [] [] mid last step reply end next ran to = (
-  end,
-  next,
-  subst (λ s. StepsTo d held s step reply end next) ran.0 (subst (λ h. StepsTo d h mid step reply end next) ran.1 to),
-  (refl, refl),
-)
-ran_push d held seat [] (r ∷ rs) mid last step reply end next ran to = absurd ran
-ran_push d held seat (s ∷ ss) [] mid last step reply end next ran to = absurd ran
-ran_push d held seat (s ∷ ss) (r ∷ rs) mid last step reply end next ran to =
-    (ran.0, ran.1, ran.2, ran_push d ran.1 ran.0 ss rs mid last step reply end next ran.3 to)
+pub ran_push : (d : Desk) (before : SeatedSession) (steps : List Step) (given : List Reply) (mid : SeatedSession) (step : Step)
+    (reply : Reply) (after : SeatedSession) → RanSteps d before steps given mid → StepsTo d mid step reply after
+    → RanSteps d before (steps ++ step ∷ []) (given ++ reply ∷ []) after
+ran_push d before [] [] mid step reply after ran to = (after, subst (λ s. StepsTo d s step reply after) ran to, refl)
+ran_push d before [] (r ∷ rs) mid step reply after ran to = absurd ran
+ran_push d before (s ∷ ss) [] mid step reply after ran to = absurd ran
+ran_push d before (s ∷ ss) (r ∷ rs) mid step reply after ran to =
+    (ran.0, ran.1, ran_push d ran.0 ss rs mid step reply after ran.2 to)
 
 -- ---- answers
 
@@ -59,7 +51,7 @@ GainsAny (Some answer) old new = GainsSome old answer new
 
 gains_some : (d : Desk) (answer : Answer) (old : Seat) (call : Call) (new : Seat) → Gains d old call answer new → GainsSome old answer new
 gains_some d answer old call new gains = record {
-  kept = record { place = gains.place; logged = record { session = old.session; call = call; answer = answer } };
+  kept = kept_next (next_at old call gains.place) answer;
   session = ap (λ (s : Seat). s.session) gains.gained;
   own = ap (λ (s : Seat). s.own) gains.gained;
   answered = refl;
@@ -73,29 +65,28 @@ gains_any d (Some answer) old call new gains = gains_some d answer old call new 
 opens_some : (d : Desk) (seat : Seat) (work : Transaction) (end : Seat) → OpensAt d seat work end
     → GainsSome seat (answers.Opened work.id.txn) end
 opens_some d seat work end opens = record {
-  kept = open_call seat work;
+  kept = kept_next (open_call seat work) (answers.Opened work.id.txn);
   session = ap (λ (s : Seat). s.session) opens.gained;
   own = ap (λ (s : Seat). s.own) opens.gained;
   answered = refl;
 }
 
-stays_any : (answer : Reply) (seat : Seat) (held : Option Transaction) (reply : Reply) (end : Seat) (next : Option Transaction)
-    → logged_reply answer ≡ None → CallsNothing answer seat held reply end next → GainsAny (logged_reply reply) seat end
-stays_any answer seat held reply end next silent stays =
-    subst (λ p. GainsAny p seat end) (sym (ap logged_reply stays.0 ∙ silent)) stays.1
+stays_any : (answer : Reply) (seat : Seat) (work : Option Transaction) (reply : Reply) (after : SeatedSession)
+    → logged_reply answer ≡ None → CallsNothing answer seat work reply after → GainsAny (logged_reply reply) seat after.seat
+stays_any answer seat work reply after silent stays =
+    subst (λ p. GainsAny p seat after.seat) (sym (ap logged_reply stays.0 ∙ silent)) stays.1
 
-refuses_any : (d : Desk) (seat : Seat) (call : Call) (step : History → Option BookFault) (reply : Reply) (end : Seat)
-    → BookRefuses d seat call step reply end → GainsAny (logged_reply reply) seat end
-refuses_any d seat call step reply end refused =
+refuses_any : (d : Desk) (seat : Seat) (asked : BookCall) (reply : Reply) (end : Seat)
+    → BookRefuses d seat asked reply end → GainsAny (logged_reply reply) seat end
+refuses_any d seat asked reply end refused =
     subst (λ p. GainsAny (logged_reply p) seat end) (sym refused.replied)
-    (gains_any d (logged_reply (replies.Fault (faults.Book refused.fault))) seat call end refused.gains)
+    (gains_any d (logged_reply (replies.Fault (faults.Book refused.fault))) seat asked.call end refused.gains)
 
-changes_any : (d : Desk) (done : Reply) (answer : Answer) (seat : Seat) (call : Call) (step : History → Option BookFault) (reply : Reply)
-    (end : Seat) → logged_reply done ≡ Some answer → Changes d done answer seat call step reply end
-    → GainsAny (logged_reply reply) seat end
-changes_any d done answer seat call step reply end told (inl is) =
-    subst (λ p. GainsAny p seat end) (sym (ap logged_reply is.0 ∙ told)) (gains_some d answer seat call end is.1)
-changes_any d done answer seat call step reply end told (inr refused) = refuses_any d seat call step reply end refused
+changes_any : (d : Desk) (seat : Seat) (asked : BookCall) (done reply : Reply) (end : Seat)
+    → Changes d seat asked done reply end → GainsAny (logged_reply reply) seat end
+changes_any d seat asked done reply end (inl is) =
+    subst (λ r. GainsAny (logged_reply r) seat end) (sym is.0) (gains_any d (logged_reply done) seat asked.call end is.1)
+changes_any d seat asked done reply end (inr refused) = refuses_any d seat asked reply end refused
 
 command_silent : (work : Transaction) (command : _) (reply : Reply) (after : Transaction) → RunsCommand work command reply after
     → logged_reply reply ≡ None
@@ -105,32 +96,42 @@ command_silent work command reply after (inl is) = ap logged_reply is.0 ∙ by _
   by (Ok done) = refl
   by (Err fault) = refl
 
-pub step_gains : (d : Desk) (held : Option Transaction) (seat : Seat) (step : Step) (reply : Reply) (end : Seat) (next : Option Transaction)
-    → StepsTo d held seat step reply end next → GainsAny (logged_reply reply) seat end
-step_gains d None seat Open reply end next (inl o) =
-    subst (λ r. GainsAny (logged_reply r) seat end) (sym o.replied) (opens_some d seat o.work end o.opens)
-step_gains d None seat Open reply end next (inr r) = refuses_any d seat calls.Open (open_fault seat.session) reply end r.0
-step_gains d (Some work) seat Open reply end next to = stays_any (replies.Fault faults.AlreadyOpen) seat
-    (Some work) reply end next refl to
-step_gains d None seat (Do c) reply end next to = stays_any (replies.Fault faults.NotOpen) seat None reply end next refl to
-step_gains d (Some work) seat (Do c) reply end next to =
-    subst (λ p. GainsAny p seat end) (sym (command_silent work c reply to.1 to.2)) to.0
-step_gains d None seat Commit reply end next to = stays_any (replies.Fault faults.NotOpen) seat None reply end next refl to
-step_gains d (Some work) seat Commit reply end next (inl is) =
-    subst (λ p. GainsAny (logged_reply p) seat end) (sym is.replied)
-    (gains_some d answers.Committed seat (calls.Commit work.id work.commands) end is.gains)
-step_gains d (Some work) seat Commit reply end next (inr refuses) =
-    refuses_any d seat (calls.Commit work.id work.commands) (commit_fault seat.session work) reply end refuses.refused
-step_gains d None seat Cancel reply end next to = stays_any (replies.Fault faults.NotOpen) seat None reply end next refl to
-step_gains d (Some work) seat Cancel reply end next to = stays_any replies.Cancelled seat None reply end next refl to
-step_gains d None seat (Undo t) reply end next to =
-    changes_any d replies.Undone answers.Undone seat (calls.Undo t) (undo_fault seat.session t) reply end refl to.0
-step_gains d (Some work) seat (Undo t) reply end next to =
-    changes_any d replies.Undone answers.Undone seat (calls.Undo t) (undo_fault seat.session t) reply end refl to.0
-step_gains d None seat (Redo t) reply end next to =
-    changes_any d replies.Redone answers.Redone seat (calls.Redo t) (redo_fault seat.session t) reply end refl to.0
-step_gains d (Some work) seat (Redo t) reply end next to =
-    changes_any d replies.Redone answers.Redone seat (calls.Redo t) (redo_fault seat.session t) reply end refl to.0
+by_open : (d : Desk) (seat : Seat) (work : Option Transaction) (reply : Reply) (after : SeatedSession)
+    → StepsByOpen d seat work reply after → GainsAny (logged_reply reply) seat after.seat
+by_open d seat None reply after (inl o) =
+    subst (λ r. GainsAny (logged_reply r) seat after.seat) (sym o.replied) (opens_some d seat o.work after.seat o.opens)
+by_open d seat None reply after (inr r) = refuses_any d seat (asked_open seat) reply after.seat r.0
+by_open d seat (Some work) reply after to = stays_any (replies.Fault faults.AlreadyOpen) seat (Some work) reply after refl to
+
+by_command : (seat : Seat) (work : Option Transaction) (command : Command) (reply : Reply) (after : SeatedSession)
+    → StepsByCommand seat work command reply after → GainsAny (logged_reply reply) seat after.seat
+by_command seat None command reply after to = stays_any (replies.Fault faults.NotOpen) seat None reply after refl to
+by_command seat (Some work) command reply after to =
+    subst (λ p. GainsAny p seat after.seat) (sym (command_silent work command reply to.1 to.2)) to.0
+
+by_commit : (d : Desk) (seat : Seat) (work : Option Transaction) (reply : Reply) (after : SeatedSession)
+    → StepsByCommit d seat work reply after → GainsAny (logged_reply reply) seat after.seat
+by_commit d seat None reply after to = stays_any (replies.Fault faults.NotOpen) seat None reply after refl to
+by_commit d seat (Some work) reply after (inl is) =
+    subst (λ p. GainsAny (logged_reply p) seat after.seat) (sym is.replied)
+    (gains_some d answers.Committed seat (calls.Commit work.id work.commands) after.seat is.gains)
+by_commit d seat (Some work) reply after (inr refuses) = refuses_any d seat (asked_commit seat work) reply after.seat refuses.refused
+
+by_cancel : (seat : Seat) (work : Option Transaction) (reply : Reply) (after : SeatedSession)
+    → StepsByCancel seat work reply after → GainsAny (logged_reply reply) seat after.seat
+by_cancel seat None reply after to = stays_any (replies.Fault faults.NotOpen) seat None reply after refl to
+by_cancel seat (Some work) reply after to = stays_any replies.Cancelled seat None reply after refl to
+
+pub step_gains : (d : Desk) (before : SeatedSession) (step : Step) (reply : Reply) (after : SeatedSession)
+    → StepsTo d before step reply after → GainsAny (logged_reply reply) before.seat after.seat
+step_gains d before Open reply after to = by_open d before.seat before.work reply after to
+step_gains d before (Do command) reply after to = by_command before.seat before.work command reply after to
+step_gains d before Commit reply after to = by_commit d before.seat before.work reply after to
+step_gains d before Cancel reply after to = by_cancel before.seat before.work reply after to
+step_gains d before (Undo txn) reply after to =
+    changes_any d before.seat (asked_undo before.seat txn) replies.Undone reply after.seat to.0
+step_gains d before (Redo txn) reply after to =
+    changes_any d before.seat (asked_redo before.seat txn) replies.Redone reply after.seat to.0
 
 one_answer : (answer : Option Answer) (seat mid end : Seat) (given : List Reply) (reply : Reply) → logged_reply reply ≡ answer
     → AreAnswers seat given mid → GainsAny answer mid end → AreAnswers seat (given ++ reply ∷ []) end
@@ -150,16 +151,17 @@ one_answer (Some answer) seat mid end given reply is are gains = record {
       ∙ sym (map-append (λ (k : Kept). k.logged.answer) are.gained (gains.kept ∷ []));
 }
 
-pub answers_push : (d : Desk) (held : Option Transaction) (seat mid end : Seat) (given : List Reply) (step : Step) (reply : Reply)
-    (next : Option Transaction) → AreAnswers seat given mid → StepsTo d held mid step reply end next
-    → AreAnswers seat (given ++ reply ∷ []) end
-answers_push d held seat mid end given step reply next are to =
-    one_answer (logged_reply reply) seat mid end given reply refl are (step_gains d held mid step reply end next to)
+pub answers_push : (d : Desk) (seat : Seat) (mid : SeatedSession) (given : List Reply) (step : Step) (reply : Reply)
+    (after : SeatedSession) → AreAnswers seat given mid.seat → StepsTo d mid step reply after
+    → AreAnswers seat (given ++ reply ∷ []) after.seat
+answers_push d seat mid given step reply after are to =
+    one_answer (logged_reply reply) seat mid.seat after.seat given reply refl are (step_gains d mid step reply after to)
 
 -- a command of an open transaction
-pub steps_do : (d : Desk) (held : Option Transaction) (seat : Seat) (step : Step) (work after : Transaction) (command : Command)
-    (reply : Reply)
-    → held ≡ Some work → step ≡ Do command → RunsCommand work command reply after → StepsTo d held seat step reply seat (Some after)
-steps_do d held seat step work after command reply held-is step-is runs =
-    subst (λ (h : Option Transaction). StepsTo d h seat step reply seat (Some after)) (sym held-is)
-    (subst (λ (s : Step). StepsTo d (Some work) seat s reply seat (Some after)) (sym step-is) (refl, after, runs, refl))
+pub steps_do : (d : Desk) (held : Option Transaction) (seat : Seat) (step : Step) (work next : Transaction) (command : Command)
+    (reply : Reply) → held ≡ Some work → step ≡ Do command → RunsCommand work command reply next
+    → StepsTo d (record { seat = seat; work = held }) step reply (record { seat = seat; work = Some next })
+steps_do d held seat step work next command reply held-is step-is runs =
+    let after : SeatedSession = record { seat = seat; work = Some next } in
+    subst (λ (h : Option Transaction). StepsTo d (record { seat = seat; work = h }) step reply after) (sym held-is)
+    (subst (λ (s : Step). StepsTo d (record { seat = seat; work = Some work }) s reply after) (sym step-is) (refl, next, runs, refl))

@@ -15,7 +15,7 @@ use Rattle.desk_rules.specs.declared.kept.Kept.{Kept}
 use Rattle.desk_rules.specs.Close.{Misses}
 use Rattle.desk_rules.specs.Legal.{Desk, refusal}
 use Rattle.desk_rules.specs.Refusals.{IsRefused, fault_in}
-use Rattle.desk_rules.specs.Seats.{Gains, GainsLogged, MadeAt, Seat, kept_call, last_of, place_or_zero, seat_with_call}
+use Rattle.desk_rules.specs.Seats.{EndsWith, Gains, GainsLogged, NextCall, Seat, last_of, next_at, place_or_zero, seat_behind}
 use Rattle.locked_desk.specs.declared.fault.DeskFault.{DeskFault}
 use Rattle.locked_desk.specs.declared.fault.DeskFault.TheVariants.{Book, Differs}
 use Rattle.locked_desk.specs.declared.fault.DeskRefusal.{DeskRefusal}
@@ -52,14 +52,14 @@ IsRefusedAs desk seat step (Differs session place) = Unit {0}
 -- ---- open
 
 -- the call of an open that made this work
-abbrev pub open_call : Seat → Transaction → Kept
-open_call seat work = kept_call work.opened seat.session Open (Opened work.id.txn)
+abbrev pub open_call : Seat → Transaction → NextCall
+open_call seat work = next_at seat Open work.opened
 
--- the seat gains the open, of which there is such a log from the desk, and the work begins on the layout after it
+-- the seat gains the open, which is at the end of the log of a history from the desk, and the work begins on its layout
 pub record OpensAt (desk : Desk) (old : Seat) (work : Transaction) (new : Seat) : Type 0 where
-  pub gained : new ≡ seat_with_call old (open_call old work)
+  pub gained : new ≡ seat_behind (open_call old work) (Opened work.id.txn)
   pub history : History
-  pub at : MadeAt desk history old.session old.own (open_call old work)
+  pub ends : EndsWith desk history (open_call old work) (Opened work.id.txn)
   pub snapshot : work.snapshot ≡ history.layout
   pub session : work.id.session ≡ old.session
   pub commands : work.commands ≡ []

@@ -2,6 +2,7 @@
 use Rattle.std.specs.Prelude.{◌≡◌, ℕ, ◌+◌, ◌++◌, List, [], ◌∷◌, map, Option, None, Some, Result, Ok, Err, ◌⊎◌}
 use Rattle.std.specs.List.{AllByRecursion, Contains, filter_map}
 use Rattle.txn_commands.specs.declared.command.Command.{Command}
+use Rattle.txn_commands.specs.declared.command.TxnId.{TxnId}
 use Rattle.txn_commands.specs.declared.command.Done as dones
 use Rattle.txn_commands.specs.declared.fault.CmdFault.{CmdFault}
 use Rattle.txn_commands.specs.declared.fault.CmdFault.TheVariants.{NoMemory}
@@ -37,22 +38,50 @@ logged_reply Redone = Some answers.Redone
 logged_reply (Fault (Book fault)) = refusal fault
 logged_reply reply = None
 
--- ---- a step of a session that has this open
+-- ---- a session, and what its steps ask of the book
 
--- an open is answered with a work on the layout after a legal log
-pub record OpensSo (desk : Desk) (seat : Seat) (reply : Reply) (end : Seat) (next : Option Transaction) : Type 0 where
-  pub work : Transaction
-  pub replied : reply ≡ Opened work.id.txn
-  pub holds : next ≡ Some work
-  pub opens : OpensAt desk seat work end
+-- a session at its seat, and the transaction that it has open
+pub record SeatedSession : Type 0 where
+  pub seat : Seat
+  pub work : Option Transaction
+
+-- a call of the book: as it is logged, and with what the book's step refuses it, where it does
+pub record BookCall : Type 0 where
+  pub call : Call
+  pub fault : History → Option BookFault
+
+abbrev pub asked_open : Seat → BookCall
+asked_open seat = record { call = calls.Open; fault = open_fault seat.session }
+
+abbrev pub asked_commit : Seat → Transaction → BookCall
+asked_commit seat work = record { call = calls.Commit work.id work.commands; fault = commit_fault seat.session work }
+
+abbrev pub asked_undo : Seat → TxnId → BookCall
+asked_undo seat txn = record { call = calls.Undo txn; fault = undo_fault seat.session txn }
+
+abbrev pub asked_redo : Seat → TxnId → BookCall
+asked_redo seat txn = record { call = calls.Redo txn; fault = redo_fault seat.session txn }
+
+-- ---- what becomes of a call
 
 -- the book refuses the call as its step does after such a log, and the seat has the call where it is logged
-pub record BookRefuses (desk : Desk) (seat : Seat) (call : Call) (step : History → Option BookFault) (reply : Reply) (end : Seat)
-    : Type 0 where
+pub record BookRefuses (desk : Desk) (seat : Seat) (asked : BookCall) (reply : Reply) (end : Seat) : Type 0 where
   pub fault : BookFault
   pub replied : reply ≡ Fault (Book fault)
-  pub gains : GainsLogged desk (refusal fault) seat call end
-  pub cause : IsRefused desk seat step fault
+  pub gains : GainsLogged desk (refusal fault) seat asked.call end
+  pub cause : IsRefused desk seat asked.fault fault
+
+-- the call is done, with this reply, and in the seat; or it is refused
+abbrev pub Changes : Desk → Seat → BookCall → Reply → Reply → Seat → Type 0
+Changes desk seat asked done reply end =
+    ((reply ≡ done) × GainsLogged desk (logged_reply done) seat asked.call end) ⊎ BookRefuses desk seat asked reply end
+
+-- an open is answered with a work on the layout after a legal log
+pub record OpensSo (desk : Desk) (seat : Seat) (reply : Reply) (after : SeatedSession) : Type 0 where
+  pub work : Transaction
+  pub replied : reply ≡ Opened work.id.txn
+  pub holds : after.work ≡ Some work
+  pub opens : OpensAt desk seat work after.seat
 
 abbrev pub reply_to_command : Result dones.Done CmdFault → Reply
 reply_to_command (Ok done) = Done done
@@ -65,21 +94,14 @@ RunsCommand work command reply next =
     ⊎ ((reply ≡ Fault (CommandFault NoMemory)) × (next ≡ work))
 
 -- the work is committed, or refused by the book and handed back unless it was stale
-pub record CommitsSo (desk : Desk) (seat : Seat) (work : Transaction) (reply : Reply) (end : Seat) (next : Option Transaction)
-    : Type 0 where
+pub record CommitsSo (desk : Desk) (seat : Seat) (work : Transaction) (reply : Reply) (after : SeatedSession) : Type 0 where
   pub replied : reply ≡ Committed work.id
-  pub gains : GainsLogged desk (Some answers.Committed) seat (calls.Commit work.id work.commands) end
-  pub ended : next ≡ None
+  pub gains : GainsLogged desk (Some answers.Committed) seat (calls.Commit work.id work.commands) after.seat
+  pub ended : after.work ≡ None
 
-pub record RefusesWork (desk : Desk) (seat : Seat) (work : Transaction) (reply : Reply) (end : Seat) (next : Option Transaction)
-    : Type 0 where
-  pub refused : BookRefuses desk seat (calls.Commit work.id work.commands) (commit_fault seat.session work) reply end
-  pub back : next ≡ handed_back refused.fault work
-
--- the call is answered so and in the seat, or it is refused
-abbrev pub Changes : Desk → Reply → Answer → Seat → Call → (History → Option BookFault) → Reply → Seat → Type 0
-Changes desk done answer seat call step reply end =
-    ((reply ≡ done) × GainsLogged desk (Some answer) seat call end) ⊎ BookRefuses desk seat call step reply end
+pub record RefusesWork (desk : Desk) (seat : Seat) (work : Transaction) (reply : Reply) (after : SeatedSession) : Type 0 where
+  pub refused : BookRefuses desk seat (asked_commit seat work) reply after.seat
+  pub back : after.work ≡ handed_back refused.fault work
 
 -- the reply to an undo or a redo
 abbrev pub RepliesTo : Result (Unit {0}) DeskFault → Reply → Reply → Type 0
@@ -87,35 +109,51 @@ RepliesTo (Ok value) done reply = reply ≡ done
 RepliesTo (Err (DeskBook fault)) done reply = reply ≡ Fault (Book fault)
 RepliesTo (Err (Differs session place)) done reply = ⊥
 
--- nothing is called
-abbrev pub CallsNothing : Reply → Seat → Option Transaction → Reply → Seat → Option Transaction → Type 0
-CallsNothing answer seat held reply end next = (reply ≡ answer) × (end ≡ seat) × (next ≡ held)
+-- ---- a step
 
-abbrev pub StepsTo : Desk → Option Transaction → Seat → Step → Reply → Seat → Option Transaction → Type 0
-StepsTo desk None seat Open reply end next =
-    OpensSo desk seat reply end next ⊎ (BookRefuses desk seat calls.Open (open_fault seat.session) reply end × (next ≡ None))
-StepsTo desk (Some work) seat Open reply end next = CallsNothing (Fault AlreadyOpen) seat (Some work) reply end next
-StepsTo desk None seat (Do command) reply end next = CallsNothing (Fault NotOpen) seat None reply end next
-StepsTo desk (Some work) seat (Do command) reply end next =
-    (end ≡ seat) × (after : Transaction) × RunsCommand work command reply after × (next ≡ Some after)
-StepsTo desk None seat Commit reply end next = CallsNothing (Fault NotOpen) seat None reply end next
-StepsTo desk (Some work) seat Commit reply end next = CommitsSo desk seat work reply end next ⊎ RefusesWork desk seat work reply end next
-StepsTo desk None seat Cancel reply end next = CallsNothing (Fault NotOpen) seat None reply end next
-StepsTo desk (Some work) seat Cancel reply end next = CallsNothing Cancelled seat None reply end next
-StepsTo desk held seat (Undo txn) reply end next =
-    Changes desk Undone answers.Undone seat (calls.Undo txn) (undo_fault seat.session txn) reply end × (next ≡ held)
-StepsTo desk held seat (Redo txn) reply end next =
-    Changes desk Redone answers.Redone seat (calls.Redo txn) (redo_fault seat.session txn) reply end × (next ≡ held)
+-- the book isn't called: the reply is this one, the seat is as it was, and this is open
+abbrev pub CallsNothing : Reply → Seat → Option Transaction → Reply → SeatedSession → Type 0
+CallsNothing answer seat work reply after = (reply ≡ answer) × (after.seat ≡ seat) × (after.work ≡ work)
+
+-- an open, of a session that has this open
+abbrev pub StepsByOpen : Desk → Seat → Option Transaction → Reply → SeatedSession → Type 0
+StepsByOpen desk seat None reply after =
+    OpensSo desk seat reply after ⊎ (BookRefuses desk seat (asked_open seat) reply after.seat × (after.work ≡ None))
+StepsByOpen desk seat (Some work) reply after = CallsNothing (Fault AlreadyOpen) seat (Some work) reply after
+
+abbrev pub StepsByCommand : Seat → Option Transaction → Command → Reply → SeatedSession → Type 0
+StepsByCommand seat None command reply after = CallsNothing (Fault NotOpen) seat None reply after
+StepsByCommand seat (Some work) command reply after =
+    (after.seat ≡ seat) × (next : Transaction) × RunsCommand work command reply next × (after.work ≡ Some next)
+
+abbrev pub StepsByCommit : Desk → Seat → Option Transaction → Reply → SeatedSession → Type 0
+StepsByCommit desk seat None reply after = CallsNothing (Fault NotOpen) seat None reply after
+StepsByCommit desk seat (Some work) reply after = CommitsSo desk seat work reply after ⊎ RefusesWork desk seat work reply after
+
+abbrev pub StepsByCancel : Seat → Option Transaction → Reply → SeatedSession → Type 0
+StepsByCancel seat None reply after = CallsNothing (Fault NotOpen) seat None reply after
+StepsByCancel seat (Some work) reply after = CallsNothing Cancelled seat None reply after
+
+-- a session's step leads from where it was to where it is, with this reply
+abbrev pub StepsTo : Desk → SeatedSession → Step → Reply → SeatedSession → Type 0
+StepsTo desk before Open reply after = StepsByOpen desk before.seat before.work reply after
+StepsTo desk before (Do command) reply after = StepsByCommand before.seat before.work command reply after
+StepsTo desk before Commit reply after = StepsByCommit desk before.seat before.work reply after
+StepsTo desk before Cancel reply after = StepsByCancel before.seat before.work reply after
+StepsTo desk before (Undo txn) reply after =
+    Changes desk before.seat (asked_undo before.seat txn) Undone reply after.seat × (after.work ≡ before.work)
+StepsTo desk before (Redo txn) reply after =
+    Changes desk before.seat (asked_redo before.seat txn) Redone reply after.seat × (after.work ≡ before.work)
 
 -- ---- all steps of a session
 
 -- the steps, one after another
-abbrev pub RanSteps : Desk → Option Transaction → Seat → List Step → List Reply → Seat → Option Transaction → Type 0
-RanSteps desk held seat [] [] end last = (end ≡ seat) × (last ≡ held)
-RanSteps desk held seat [] (reply ∷ replies) end last = ⊥
-RanSteps desk held seat (step ∷ steps) [] end last = ⊥
-RanSteps desk held seat (step ∷ steps) (reply ∷ replies) end last =
-    (mid : Seat) × (next : Option Transaction) × StepsTo desk held seat step reply mid next × RanSteps desk next mid steps replies end last
+abbrev pub RanSteps : Desk → SeatedSession → List Step → List Reply → SeatedSession → Type 0
+RanSteps desk before [] [] after = after ≡ before
+RanSteps desk before [] (reply ∷ replies) after = ⊥
+RanSteps desk before (step ∷ steps) [] after = ⊥
+RanSteps desk before (step ∷ steps) (reply ∷ replies) after =
+    (mid : SeatedSession) × StepsTo desk before step reply mid × RanSteps desk mid steps replies after
 
 -- the replies to the steps that are logged are, in order, the answers of the calls that the seat gained
 pub record AreAnswers (seat : Seat) (replies : List Reply) (end : Seat) : Type 0 where
@@ -127,7 +165,7 @@ pub record AreAnswers (seat : Seat) (replies : List Reply) (end : Seat) : Type 0
 -- with nothing open at the start
 pub record RunsSo (desk : Desk) (seat : Seat) (steps : List Step) (replies : List Reply) (end : Seat) : Type 0 where
   pub last : Option Transaction
-  pub ran : RanSteps desk None seat steps replies end last
+  pub ran : RanSteps desk (record { seat = seat; work = None }) steps replies (record { seat = end; work = last })
   pub answers : AreAnswers seat replies end
 
 -- ---- all sessions

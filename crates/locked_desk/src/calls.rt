@@ -2,7 +2,7 @@
 ghost use Rattle.std.specs.Prelude.{◌≡◌, ◌≢◌, ◌<◌, Err, IfErr, IfOk, vec_capacity, vec_len};
 ghost use Rattle.desk_rules.specs.Legal.{answer_of, opened_answer, refusal};
 ghost use Rattle.desk_rules.specs.Refusals.{open_fault, redo_fault, undo_fault};
-ghost use Rattle.desk_rules.specs.Seats.{GainsLogged, with_kept};
+ghost use Rattle.desk_rules.specs.Seats.{GainsLogged, calls_behind};
 ghost use Rattle.locked_desk.specs.Desks.{
   IsOther,
   IsRefusedAs,
@@ -109,7 +109,8 @@ impl<L: Ledger> Desk<L> {
             own,
             share,
         } = seat;
-        if own.reserve(1).is_err() {
+        let mut work = work;
+        if own.reserve(1).is_err() || work.prepare(alloc).is_err() {
             return Err(refused(DeskFault::Book(BookFault::NoMemory), work));
         }
         let Ok(commands) = copied(alloc, work.commands()) else {
@@ -123,7 +124,8 @@ impl<L: Ledger> Desk<L> {
             .lock
             .lock(rt)
             .commit(alloc, &self.origin, *session, own.as_slice(), share, work);
-        let (result, place) = match committed {
+        // What is left over is dropped here, when the lock has been let go.
+        let (result, place, _rest) = match committed {
             Ok(done) => done,
             Err(work) => return Err(refused(differs(*session, own.as_slice()), work)),
         };
@@ -218,7 +220,7 @@ impl<L: Ledger> Desk<L> {
 /// Adds the call to the session's own, where it is logged.
 fn keep(own: &mut Vec<Kept>, session: u8, call: Call, place: usize, answer: Option<Answer>)
     requires { vec_len own.old < vec_capacity own.old }
-    ensures { own.new.items ≡ with_kept answer session own.old.items call place }
+    ensures { own.new.items ≡ calls_behind (record { session = session; before = own.old.items; call = call; place = place }) answer }
 {
     if let Some(answer) = answer {
         let logged = Logged {

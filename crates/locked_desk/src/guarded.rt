@@ -1,5 +1,5 @@
 //! What is behind the lock: the book, how many calls each session has, and the ledger of all calls.
-ghost use Rattle.std.specs.Prelude.{◌≡◌, ◌≢◌, ◌⊎◌, ◌+◌, ◌-◌, ◌^◌, ◌<◌, ◌≤◌, [], Err, IfErr, IfOk, None, false, true, replicate};
+ghost use Rattle.std.specs.Prelude.{◌≡◌, ◌≢◌, ◌⊎◌, ◌+◌, ◌-◌, ◌^◌, ◌<◌, ◌≤◌, [], Err, IfErr, IfOk, IfSome, None, false, true, replicate};
 ghost use Rattle.std.specs.Prelude.{Some, slice_index, vec_len};
 ghost use Rattle.lay_point.specs.Memory.{IsAnswer};
 ghost use Rattle.undo_rules.specs.Steps.{commit_step, fresh, is_log_full};
@@ -8,7 +8,7 @@ ghost use Rattle.desk_rules.specs.Close.{missing_place};
 ghost use Rattle.desk_rules.specs.Guards.{Fits, has_last, ones, with_one_counted};
 ghost use Rattle.desk_rules.specs.Legal.{IsFrom, answer_of, on_base, opened_answer};
 ghost use Rattle.desk_rules.specs.Refusals.{IsRefused, open_fault};
-ghost use Rattle.desk_rules.specs.Seats.{AreCallsRising, MadeLogged, calls_added, last_of, own_calls, place_or_zero};
+ghost use Rattle.desk_rules.specs.Seats.{AreCallsRising, EndsWith, calls_added, last_of, own_calls, place_or_zero};
 ghost use Rattle.locked_desk.specs.Desks.{
   IsLooked,
   IsShownFault,
@@ -32,7 +32,7 @@ use std::sync::ledger;
 use std::sync::ledger::{Ledger, Share};
 use txn_commands::TxnId;
 use txn_work::Work;
-use undo_book::{Book, CommitRefusal};
+use undo_book::{Book, CommitRefusal, Rest};
 use undo_rules::{BookFault, Call};
 
 /// A book with the numbers of calls of the sessions in its log.
@@ -137,8 +137,8 @@ impl<L: Ledger> Guarded<L> {
         share: &mut Share<L>,
     ) -> Result<(Result<Work, BookFault>, usize, Snapshot), DeskFault>
         requires { share.old.parts ≡ 1 }
-        ensures made { IfOk result (λ r. MadeLogged (opened_answer r.0) (on_base self.new.book.base origin.now) self.new.book
-            session own.now Call.Open r.1) }
+        ensures made { IfOk result (λ r. IfSome (opened_answer r.0) (EndsWith (on_base self.new.book.base origin.now) self.new.book
+            (record { session = session; before = own.now; call = Call.Open; place = r.1 }))) }
         ensures work { IfOk result (λ r. IfOk r.0 (λ w. (w.id.session ≡ session) × (w.opened ≡ r.1)
             × (w.snapshot ≡ self.new.book.layout) × (w.commands ≡ []))) }
         ensures base { IfOk result (λ r. r.2 ≡ self.new.book.base) }
@@ -181,8 +181,8 @@ impl<L: Ledger> Guarded<L> {
         txn: TxnId,
     ) -> Result<(Result<(), BookFault>, usize), DeskFault>
         requires { share.old.parts ≡ 1 }
-        ensures made { IfOk result (λ r. MadeLogged (answer_of (answer_for way) r.0) (on_base self.new.book.base origin.now)
-            self.new.book session own.now (call_for way txn) r.1) }
+        ensures made { IfOk result (λ r. IfSome (answer_of (answer_for way) r.0) (EndsWith (on_base self.new.book.base origin.now)
+            self.new.book (record { session = session; before = own.now; call = call_for way txn; place = r.1 }))) }
         ensures told { IfOk result (λ r. IfErr r.0 (λ fault. IsRefused origin.now (record { session = session; own = own.now })
             (fault_for way session txn) fault)) }
         ensures amount { IfOk result (λ r. share.new.amount ≡ share.old.amount + calls_added (answer_of (answer_for way) r.0)) }
@@ -209,7 +209,7 @@ impl<L: Ledger> Guarded<L> {
     }
 
     /// Commits a work, where the log has the session's calls so far; else hands it back. A work of another
-    /// session doesn't come to the book.
+    /// session doesn't come to the book. What a commit leaves over is handed back, to be dropped without the lock.
     pub fn commit(
         &mut self,
         alloc: Global,
@@ -218,10 +218,10 @@ impl<L: Ledger> Guarded<L> {
         own: &[Kept],
         share: &mut Share<L>,
         work: Work,
-    ) -> Result<(Result<TxnId, CommitRefusal>, usize), Work>
+    ) -> Result<(Result<TxnId, CommitRefusal>, usize, Rest), Work>
         requires { share.old.parts ≡ 1 }
-        ensures made { IfOk result (λ r. MadeLogged (commit_answer r.0) (on_base self.new.book.base origin.now) self.new.book
-            session own.now (Call.Commit work.id work.commands) r.1) }
+        ensures made { IfOk result (λ r. IfSome (commit_answer r.0) (EndsWith (on_base self.new.book.base origin.now) self.new.book
+            (record { session = session; before = own.now; call = Call.Commit work.id work.commands; place = r.1 }))) }
         ensures txn { IfOk result (λ r. IfOk r.0 (λ txn. txn ≡ work.id)) }
         ensures back { IfOk result (λ r. IfErr r.0 (λ refusal. refusal ≡ refused refusal.fault work)) }
         ensures foreign { IfOk result (λ r. work.id.session ≢ session → r.0 ≡ Err (refused (other_fault self.old.book) work)) }
@@ -240,15 +240,15 @@ impl<L: Ledger> Guarded<L> {
             }
             let place = self.book.log().len();
             let full = place >= self.limit as usize;
-            return Ok((Err(refused_work(full, work)), place));
+            return Ok((Err(refused_work(full, work)), place, Rest::none()));
         }
-        let (result, place) = self.commit_own(alloc, origin, session, own, share, work);
+        let (result, place, rest) = self.commit_own(alloc, origin, session, own, share, work);
         match result {
-            Ok(txn) => Ok((Ok(txn), place)),
+            Ok(txn) => Ok((Ok(txn), place, rest)),
             Err(refusal) => {
                 let may_tell = self.may_tell(origin, refusal.fault);
                 match told(refusal, may_tell) {
-                    Ok(refusal) => Ok((Err(refusal), place)),
+                    Ok(refusal) => Ok((Err(refusal), place, rest)),
                     Err(work) => Err(work),
                 }
             }
@@ -264,15 +264,15 @@ impl<L: Ledger> Guarded<L> {
         own: &[Kept],
         share: &mut Share<L>,
         work: Work,
-    ) -> (Result<TxnId, CommitRefusal>, usize)
+    ) -> (Result<TxnId, CommitRefusal>, usize, Rest)
         requires look { has_last self.old session own.now ≡ true }
         requires fits { Fits origin.now self.old }
         requires session { work.id.session ≡ session }
         requires part { share.old.parts ≡ 1 }
         requires low { 1 ≤ session }
         requires high { session ≤ 64 }
-        ensures made { MadeLogged (commit_answer result.0) (on_base self.new.book.base origin.now) self.new.book
-            session own.now (Call.Commit work.id work.commands) result.1 }
+        ensures made { IfSome (commit_answer result.0) (EndsWith (on_base self.new.book.base origin.now) self.new.book
+            (record { session = session; before = own.now; call = Call.Commit work.id work.commands; place = result.1 })) }
         ensures step { IsAnswer (refused BookFault.NoMemory work) result.0
             (with_refused_work (commit_step self.old.book work).0 work) }
         ensures base { self.new.book.base ≡ self.old.book.base }
@@ -295,10 +295,10 @@ impl<L: Ledger> Guarded<L> {
         work.snapshot().version();
         work.id();
         let place = book.log().len();
-        let result = book.commit(alloc, work);
+        let (result, rest) = book.commit_with_rest(alloc, work);
         let more = place < book.log().len();
         count_call(counts, calls, share, session, more);
-        (result, place)
+        (result, place, rest)
     }
 
     /// Returns the refusal of a snapshot that names this place, or session 0, where this isn't of a desk of this

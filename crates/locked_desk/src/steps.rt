@@ -74,7 +74,8 @@ fn take_step<L: Ledger, R: Threads + Wait + Sync, B: Bands>(
     step: Step,
     bands: &B,
 ) -> Result<(Reply, Option<Work>), RunFault>
-    ensures { IfOk result (λ r. StepsTo desk.now held seat.old step r.0 seat.new r.1) }
+    ensures { IfOk result (λ r. StepsTo desk.now (record { seat = seat.old; work = held }) step r.0
+        (record { seat = seat.new; work = r.1 })) }
 {
     match step {
         Step::Open => match held {
@@ -114,7 +115,8 @@ fn open<L: Ledger, R: Wait>(
     desk: &Desk<L>,
     seat: &mut Seat<L>,
 ) -> Result<(Reply, Option<Work>), RunFault>
-    ensures { IfOk result (λ r. StepsTo desk.now None seat.old Step.Open r.0 seat.new r.1) }
+    ensures { IfOk result (λ r. StepsTo desk.now (record { seat = seat.old; work = None }) Step.Open r.0
+        (record { seat = seat.new; work = r.1 })) }
 {
     match desk.open(rt, alloc, seat) {
         Ok(work) => Ok((Reply::Opened(work.id().txn), Some(work))),
@@ -131,7 +133,8 @@ fn commit<L: Ledger, R: Wait>(
     seat: &mut Seat<L>,
     work: Work,
 ) -> Result<(Reply, Option<Work>), RunFault>
-    ensures { IfOk result (λ r. StepsTo desk.now (Some work) seat.old Step.Commit r.0 seat.new r.1) }
+    ensures { IfOk result (λ r. StepsTo desk.now (record { seat = seat.old; work = Some work }) Step.Commit r.0
+        (record { seat = seat.new; work = r.1 })) }
 {
     match desk.commit(rt, alloc, seat, work) {
         Ok(txn) => Ok((Reply::Committed(txn), None)),

@@ -23,7 +23,8 @@ use Rattle.desk_rules.specs.Refusals.{IsRefused, fault_in, open_fault, redo_faul
 use Rattle.desk_rules.specs.Seats.{Seat, calls_added}
 use Rattle.desk_rules.proofs.RefusalLemmas.{commit_full, open_full, open_own, redo_full, redo_own, undo_full, undo_own}
 use Rattle.locked_desk.specs.Desks.{commit_fault, full_or_foreign}
-use Rattle.locked_desk.specs.Runs.{AllRan, BookRefuses, Changes, RanSteps, RunsCommand, StepsTo, logged_reply, reply_to_command}
+use Rattle.locked_desk.specs.Runs.{AllRan, BookRefuses, Changes, RanSteps, RunsCommand, SeatedSession, StepsTo, logged_reply}
+use Rattle.locked_desk.specs.Runs.{StepsByCancel, StepsByCommand, StepsByCommit, StepsByOpen, reply_to_command}
 use Rattle.locked_desk.specs.Scripts.{desk_for, desk_scripts}
 use Rattle.locked_desk.proofs.RunLemmas.{GainsAny, step_gains}
 use Rattle.session_laws.specs.Logs.{AllAreForCause, AreForCause, IsForCause, IsFull, ThreadsAreRefusedForCause}
@@ -61,7 +62,7 @@ module _ (d : Desk) (seat : Seat) (asked : History → Option BookFault) where
 
   for_cause : (call : Call) (step : Step) (reply : Reply) (end : Seat)
       → ((h : History) → asked h ≡ Some LogFull → is_log_full h ≡ true)
-      → (((h : History) → asked h ≡ Some Foreign → ⊥) ⊎ (step ≡ Commit)) → BookRefuses d seat call asked reply end
+      → (((h : History) → asked h ≡ Some Foreign → ⊥) ⊎ (step ≡ Commit)) → BookRefuses d seat (record { call = call; fault = asked }) reply end
       → IsForCause d seat.session (length seat.own) step reply
   for_cause call step reply end full own refused = record {
     full = λ is. full_for full
@@ -73,12 +74,12 @@ module _ (d : Desk) (seat : Seat) (asked : History → Option BookFault) where
     by (inr commits) cause = commits
     by (inl never) cause = absurd (never_for never cause)
 
-  for_change : (done : Reply) (answer : Answer) (call : Call) (step : Step) (reply : Reply) (end : Seat) → book_fault done ≡ None
+  for_change : (done : Reply) (call : Call) (step : Step) (reply : Reply) (end : Seat) → book_fault done ≡ None
       → ((h : History) → asked h ≡ Some LogFull → is_log_full h ≡ true) → ((h : History) → asked h ≡ Some Foreign → ⊥)
-      → Changes d done answer seat call asked reply end → IsForCause d seat.session (length seat.own) step reply
-  for_change done answer call step reply end none full own (inl is) =
+      → Changes d seat (record { call = call; fault = asked }) done reply end → IsForCause d seat.session (length seat.own) step reply
+  for_change done call step reply end none full own (inl is) =
       quiet d seat.session (length seat.own) step reply (ap book_fault is.0 ∙ none)
-  for_change done answer call step reply end none full own (inr refused) = for_cause call step reply end full (inl own) refused
+  for_change done call step reply end none full own (inr refused) = for_cause call step reply end full (inl own) refused
 
 -- a commit is refused so where the log is full, or the work isn't the book's own
 commit_is_full : (session : ℕ) (work : Transaction) (h : History) → commit_fault session work h ≡ Some LogFull → is_log_full h ≡ true
@@ -104,35 +105,46 @@ command_quiet work command reply after (inl is) = ap book_fault is.0 ∙ by _ wh
   by (Ok done) = refl
   by (Err fault) = refl
 
-step_cause : (d : Desk) (held : Option Transaction) (seat : Seat) (step : Step) (reply : Reply) (end : Seat) (next : Option Transaction)
-    → StepsTo d held seat step reply end next → IsForCause d seat.session (length seat.own) step reply
-step_cause d None seat Open reply end next (inl o) = quiet d seat.session (length seat.own) Open reply (ap book_fault o.replied)
-step_cause d None seat Open reply end next (inr r) =
-    for_cause d seat (open_fault seat.session) _ Open reply end (λ h is. open_full h seat.session LogFull is refl)
+by_open : (d : Desk) (seat : Seat) (work : Option Transaction) (reply : Reply) (after : SeatedSession)
+    → StepsByOpen d seat work reply after → IsForCause d seat.session (length seat.own) Open reply
+by_open d seat None reply after (inl o) = quiet d seat.session (length seat.own) Open reply (ap book_fault o.replied)
+by_open d seat None reply after (inr r) =
+    for_cause d seat (open_fault seat.session) _ Open reply after.seat (λ h is. open_full h seat.session LogFull is refl)
     (inl (λ h. open_own h seat.session)) r.0
-step_cause d (Some work) seat Open reply end next to = quiet d seat.session (length seat.own) Open reply (ap book_fault to.0)
-step_cause d None seat (Do c) reply end next to = quiet d seat.session (length seat.own) (Do c) reply (ap book_fault to.0)
-step_cause d (Some work) seat (Do c) reply end next to =
-    quiet d seat.session (length seat.own) (Do c) reply (command_quiet work c reply to.1 to.2)
-step_cause d None seat Commit reply end next to = quiet d seat.session (length seat.own) Commit reply (ap book_fault to.0)
-step_cause d (Some work) seat Commit reply end next (inl is) =
-    quiet d seat.session (length seat.own) Commit reply (ap book_fault is.replied)
-step_cause d (Some work) seat Commit reply end next (inr r) =
-    for_cause d seat (commit_fault seat.session work) _ Commit reply end (commit_is_full seat.session work) (inr refl) r.refused
-step_cause d None seat Cancel reply end next to = quiet d seat.session (length seat.own) Cancel reply (ap book_fault to.0)
-step_cause d (Some work) seat Cancel reply end next to = quiet d seat.session (length seat.own) Cancel reply (ap book_fault to.0)
-step_cause d None seat (Undo t) reply end next to =
-    for_change d seat (undo_fault seat.session t) _ _ _ (Undo t) reply end refl (λ h is. undo_full h seat.session t LogFull is refl)
-    (λ h. undo_own h seat.session t) to.0
-step_cause d (Some work) seat (Undo t) reply end next to =
-    for_change d seat (undo_fault seat.session t) _ _ _ (Undo t) reply end refl (λ h is. undo_full h seat.session t LogFull is refl)
-    (λ h. undo_own h seat.session t) to.0
-step_cause d None seat (Redo t) reply end next to =
-    for_change d seat (redo_fault seat.session t) _ _ _ (Redo t) reply end refl (λ h is. redo_full h seat.session t LogFull is refl)
-    (λ h. redo_own h seat.session t) to.0
-step_cause d (Some work) seat (Redo t) reply end next to =
-    for_change d seat (redo_fault seat.session t) _ _ _ (Redo t) reply end refl (λ h is. redo_full h seat.session t LogFull is refl)
-    (λ h. redo_own h seat.session t) to.0
+by_open d seat (Some work) reply after to = quiet d seat.session (length seat.own) Open reply (ap book_fault to.0)
+
+by_command : (d : Desk) (seat : Seat) (work : Option Transaction) (command : Command) (reply : Reply) (after : SeatedSession)
+    → StepsByCommand seat work command reply after → IsForCause d seat.session (length seat.own) (Do command) reply
+by_command d seat None command reply after to = quiet d seat.session (length seat.own) (Do command) reply (ap book_fault to.0)
+by_command d seat (Some work) command reply after to =
+    quiet d seat.session (length seat.own) (Do command) reply (command_quiet work command reply to.1 to.2)
+
+by_commit : (d : Desk) (seat : Seat) (work : Option Transaction) (reply : Reply) (after : SeatedSession)
+    → StepsByCommit d seat work reply after → IsForCause d seat.session (length seat.own) Commit reply
+by_commit d seat None reply after to = quiet d seat.session (length seat.own) Commit reply (ap book_fault to.0)
+by_commit d seat (Some work) reply after (inl is) = quiet d seat.session (length seat.own) Commit reply (ap book_fault is.replied)
+by_commit d seat (Some work) reply after (inr r) =
+    for_cause d seat (commit_fault seat.session work) _ Commit reply after.seat (commit_is_full seat.session work) (inr refl) r.refused
+
+by_cancel : (d : Desk) (seat : Seat) (work : Option Transaction) (reply : Reply) (after : SeatedSession)
+    → StepsByCancel seat work reply after → IsForCause d seat.session (length seat.own) Cancel reply
+by_cancel d seat None reply after to = quiet d seat.session (length seat.own) Cancel reply (ap book_fault to.0)
+by_cancel d seat (Some work) reply after to = quiet d seat.session (length seat.own) Cancel reply (ap book_fault to.0)
+
+step_cause : (d : Desk) (before : SeatedSession) (step : Step) (reply : Reply) (after : SeatedSession)
+    → StepsTo d before step reply after → IsForCause d before.seat.session (length before.seat.own) step reply
+step_cause d before Open reply after to = by_open d before.seat before.work reply after to
+step_cause d before (Do command) reply after to = by_command d before.seat before.work command reply after to
+step_cause d before Commit reply after to = by_commit d before.seat before.work reply after to
+step_cause d before Cancel reply after to = by_cancel d before.seat before.work reply after to
+step_cause d before (Undo t) reply after to =
+    let session = before.seat.session in
+    for_change d before.seat (undo_fault session t) _ _ (Undo t) reply after.seat refl
+    (λ h is. undo_full h session t LogFull is refl) (λ h. undo_own h session t) to.0
+step_cause d before (Redo t) reply after to =
+    let session = before.seat.session in
+    for_change d before.seat (redo_fault session t) _ _ (Redo t) reply after.seat refl
+    (λ h is. redo_full h session t LogFull is refl) (λ h. redo_own h session t) to.0
 
 -- ---- all steps
 
@@ -144,18 +156,18 @@ gains_calls None old new gains =
 gains_calls (Some answer) old new gains =
     (gains.session, ap length gains.own ∙ length-append old.own (gains.kept ∷ []))
 
-causes : (d : Desk) (held : Option Transaction) (seat : Seat) (calls : ℕ) (steps : List Step) (replies : List Reply) (end : Seat)
-    (last : Option Transaction) → length seat.own ≡ calls → RanSteps d held seat steps replies end last
-    → AreForCause d seat.session calls steps replies
-causes d held seat calls [] [] end last many ran = tt
-causes d held seat calls [] (reply ∷ replies) end last many ran = absurd ran
-causes d held seat calls (step ∷ steps) [] end last many ran = absurd ran
-causes d held seat calls (step ∷ steps) (reply ∷ replies) end last many ran =
-    let more = gains_calls (logged_reply reply) seat ran.0 (step_gains d held seat step reply ran.0 ran.1 ran.2) in (
-      subst (λ n. IsForCause d seat.session n step reply) many (step_cause d held seat step reply ran.0 ran.1 ran.2),
+causes : (d : Desk) (before : SeatedSession) (calls : ℕ) (steps : List Step) (replies : List Reply) (after : SeatedSession)
+    → length before.seat.own ≡ calls → RanSteps d before steps replies after
+    → AreForCause d before.seat.session calls steps replies
+causes d before calls [] [] after many ran = tt
+causes d before calls [] (reply ∷ replies) after many ran = absurd ran
+causes d before calls (step ∷ steps) [] after many ran = absurd ran
+causes d before calls (step ∷ steps) (reply ∷ replies) after many ran =
+    let more = gains_calls (logged_reply reply) before.seat ran.0.seat (step_gains d before step reply ran.0 ran.1) in (
+      subst (λ n. IsForCause d before.seat.session n step reply) many (step_cause d before step reply ran.0 ran.1),
       subst (λ session. AreForCause d session (calls + calls_added (logged_reply reply)) steps replies) more.0
-          (causes d ran.1 ran.0 (calls + calls_added (logged_reply reply)) steps replies end last
-          (more.1 ∙ ap (λ n. n + calls_added (logged_reply reply)) many) ran.3),
+          (causes d ran.0 (calls + calls_added (logged_reply reply)) steps replies after
+          (more.1 ∙ ap (λ n. n + calls_added (logged_reply reply)) many) ran.2),
     )
 
 -- ---- all sessions
@@ -176,7 +188,8 @@ all_causes : (d : Desk) (given n : ℕ) (seats : List Seat) (scripts : List (Lis
 all_causes d given n [] [] [] [] among ran = tt
 all_causes d given n (s ∷ ss) (steps ∷ scripts) (r ∷ rs) (e ∷ es) among ran = (
   subst (λ session. AreForCause d session 0 steps r) ran.0
-      (causes d None s 0 steps r e ran.1.last (ap length (empty_own given s among.0)) ran.1.ran),
+      (causes d (record { seat = s; work = None }) 0 steps r (record { seat = e; work = ran.1.last })
+      (ap length (empty_own given s among.0)) ran.1.ran),
   all_causes d given (n + 1) ss scripts rs es among.1 ran.2,
 )
 all_causes d given n [] (steps ∷ scripts) replies ends among ran = absurd ran

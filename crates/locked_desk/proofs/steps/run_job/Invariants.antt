@@ -5,6 +5,7 @@ use Rattle.locked_desk.proofs.steps.run_job.Given as goal
 
 abbrev pub invariant-loop-step : goal.invariant-loop-step
 invariant-loop-step g l = record {
-  ran : RanSteps l.fn.desk None l.fn.job.seat l.yielded l.replies.items l.seat l.held;
+  ran : RanSteps l.fn.desk (record { seat = l.fn.job.seat; work = None }) l.yielded l.replies.items
+      (record { seat = l.seat; work = l.held });
   answers : AreAnswers l.fn.job.seat l.replies.items l.seat;
 }
