@@ -13,7 +13,7 @@ use Rattle.snap_pixels.specs.declared.cut.Cut.TheVariants.{Column, Row, Slanted}
 use Rattle.snap_pixels.specs.declared.direction.Direction.{Direction}
 use Rattle.snap_pixels.specs.declared.segment.Segment.{Segment}
 use Rattle.snap_pixels.specs.Cuts.{reach, reaches_high, reaches_low}
-use Rattle.snap_pixels.specs.Hot.{IsHot}
+use Rattle.snap_pixels.specs.Marks.{IsCrossed}
 use Rattle.snap_pixels.specs.Segments.{Crosses, IsFraction, along}
 use Rattle.snap_pixels.proofs.BoxLemmas.{along_at_least, along_at_most}
 
@@ -79,17 +79,6 @@ both_reach (Slanted d m) s t c (apart, k, l, l', h, place) =
     one_side k l l' (reach d s.a) (reach d s.b) (reach d t.a) (reach d t.b) m h.first h.second
     (reach_common d k l l' s.a s.b t.a t.b h.column h.row)
 
-either : (a b m : ℤ) → ((int_le a m || int_le b m) ≡ true) ⊎ ((int_le m a || int_le m b) ≡ true)
-either a b m = ⊎_elim
-    (λ (over : m <ℤ a). inr (or_left (int_le m a) (int_le m b) (true_le m a (omega (arith, linear)))))
-    (λ (under : a ≤ℤ m). inl (or_left (int_le a m) (int_le b m) (true_le a m under)))
-    (below_or_not m a)
-
-one_reaches : (cut : Cut) (s : Segment) → (reaches_low cut s ≡ true) ⊎ (reaches_high cut s ≡ true)
-one_reaches (Column m) s = either s.a.x s.b.x m
-one_reaches (Row m) s = either s.a.y s.b.y m
-one_reaches (Slanted d m) s = either (reach d s.a) (reach d s.b) m
-
 -- ---- lists of those that pass a test
 module _ {A : Type 0} (p : A → Bool) where
   has_filter : (xs : List A) (x : A) → p x ≡ true → Has xs x → Has (filter p xs) x
@@ -121,32 +110,21 @@ module _ {A : Type 0} (p : A → Bool) where
   from_filtered xs ys e x m = contains xs x (filter_has xs x (has (filter p xs) x (subst (λ l. Contains l x) e m)))
 
 -- ---- the two sides
-pub IsHot-among : (part segments : List Segment) → ((s : Segment) → Contains part s → Contains segments s) → (c : Point)
-    → IsHot part c → IsHot segments c
-IsHot-among part segments among c (inl (s, m, h)) = inl (s, among s m, h)
-IsHot-among part segments among c (inr (s, t, m, n, x)) = inr (s, t, among s m, among t n, x)
+pub IsCrossed-among : (part segments : List Segment) → ((s : Segment) → Contains part s → Contains segments s) → (c : Point)
+    → IsCrossed part c → IsCrossed segments c
+IsCrossed-among part segments among c (s, t, m, n, x) = (s, t, among s m, among t n, x)
 
--- the hot pixels of segments are those of the two sides
-pub IsHot-divided : (cut : Cut) (segments low high : List Segment) → low ≡ filter (reaches_low cut) segments
-    → high ≡ filter (reaches_high cut) segments → (c : Point) → IsHot segments c ↔ (IsHot low c ⊎ IsHot high c)
-IsHot-divided cut segments low high is_low is_high c = (
+-- segments cross where those of one of the two sides do
+pub IsCrossed-divided : (cut : Cut) (segments low high : List Segment) → low ≡ filter (reaches_low cut) segments
+    → high ≡ filter (reaches_high cut) segments → (c : Point) → IsCrossed segments c ↔ (IsCrossed low c ⊎ IsCrossed high c)
+IsCrossed-divided cut segments low high is_low is_high c = (
   to_sides,
-  ⊎_elim (λ h. IsHot-among low segments (from_filtered (reaches_low cut) segments low is_low) c h)
-      (λ h. IsHot-among high segments (from_filtered (reaches_high cut) segments high is_high) c h),
+  ⊎_elim (λ h. IsCrossed-among low segments (from_filtered (reaches_low cut) segments low is_low) c h)
+      (λ h. IsCrossed-among high segments (from_filtered (reaches_high cut) segments high is_high) c h),
 )
   where
-    in_low : (s : Segment) → reaches_low cut s ≡ true → Contains segments s → Contains low s
-    in_low s t m = filtered (reaches_low cut) segments low s is_low t m
-
-    in_high : (s : Segment) → reaches_high cut s ≡ true → Contains segments s → Contains high s
-    in_high s t m = filtered (reaches_high cut) segments high s is_high t m
-
-    to_sides : IsHot segments c → IsHot low c ⊎ IsHot high c
-    to_sides (inl (s, m, h)) = ⊎_elim
-        (λ t. inl (inl (s, in_low s t m, h)))
-        (λ t. inr (inl (s, in_high s t m, h)))
-        (one_reaches cut s)
-    to_sides (inr (s, t, m, n, x)) = ⊎_elim
-        (λ r. inl (inr (s, t, in_low s r.0 m, in_low t r.1 n, x)))
-        (λ r. inr (inr (s, t, in_high s r.0 m, in_high t r.1 n, x)))
+    to_sides : IsCrossed segments c → IsCrossed low c ⊎ IsCrossed high c
+    to_sides (s, t, m, n, x) = ⊎_elim
+        (λ r. inl (s, t, filtered _ segments low s is_low r.0 m, filtered _ segments low t is_low r.1 n, x))
+        (λ r. inr (s, t, filtered _ segments high s is_high r.0 m, filtered _ segments high t is_high r.1 n, x))
         (both_reach cut s t c x)

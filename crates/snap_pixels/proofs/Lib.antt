@@ -2,6 +2,7 @@ pub mod BoundLemmas
 pub mod BoxLemmas
 pub mod CrossingLemmas
 pub mod CutLemmas
+pub mod GatheredLemmas
 pub mod HotLemmas
 pub mod KindLemmas
 pub mod MarkLemmas

@@ -1,13 +1,13 @@
--- What the search marks, step by step.
+-- What the search finds, step by step.
 use Rattle.std.proofs.Common.{◌≡◌, ℕ, ◌+◌, ◌<◌, ◌⊎◌, inl, inr, ⊎_elim, ◌↔◌, List, [], ◌∷◌, ◌++◌, length, get_or, take}
-use Rattle.std.proofs.Common.{Option, Some, None, Contains, sym, ap, ◌∙◌, subst, arith, append-nil, pos, ℤ, ◌≤◌}
-use Rattle.std.specs.Prelude.{option_to_list}
+use Rattle.std.proofs.Common.{Option, Some, None, Contains, sym, ap, ◌∙◌, subst, arith, pos, ℤ, ◌≤◌}
 use Rattle.std.proofs.lemmas.Int.{ints}
 use Rattle.std.proofs.lemmas.List.{take_more, take_all}
 use Rattle.std.proofs.lemmas.List.Elements.{Contains-append_left, Contains-push, Contains-push_cases}
 use Rattle.lay_point.specs.declared.point.Point.{Point}
 use Rattle.snap_pixels.specs.declared.segment.Segment.{Segment}
-use Rattle.snap_pixels.specs.Marks.{CrossesOne, Marks, RunMarks}
+use Rattle.snap_pixels.specs.Hot.{HoldsEnd}
+use Rattle.snap_pixels.specs.Marks.{CrossesOne, IsEnd, RunCrosses}
 use Rattle.snap_pixels.specs.Pixels.{HoldsPlace, IsRoundedTo}
 use Rattle.snap_pixels.specs.Segments.{Crosses}
 
@@ -30,38 +30,6 @@ HoldsPlace-whole p c = (
   }),
 )
 
--- one more segment to cross
-CrossesOne-more : (s t : Segment) (later : List Segment) (i : ℕ) (found : Option Point) → i < length later → t ≡ get_or later i t
-    → ((c : Point) → Crosses s.a s.b t.a t.b c ↔ (found ≡ Some c))
-    → (c : Point) → CrossesOne s (take (i + 1) later) c ↔ (CrossesOne s (take i later) c ⊎ (found ≡ Some c))
-CrossesOne-more s t later i found lt at exact c = (
-  (λ w. ⊎_elim
-      (λ (was : Contains (take i later) w.0). inl (w.0, was, w.2))
-      (λ (same : t ≡ w.0). inr ((exact c).0 (subst (λ (u : Segment). Crosses s.a s.b u.a u.b c) (sym same) w.2)))
-      (Contains-push_cases (take i later) t w.0 (subst (λ l. Contains l w.0) e w.1))),
-  (⊎_elim
-      (λ w. (w.0, subst (λ l. Contains l w.0) (sym e) (Contains-append_left _ _ w.0 w.1), w.2))
-      (λ f. (t, subst (λ l. Contains l t) (sym e) (Contains-push _ t), (exact c).1 f))),
-)
-  where
-    e : take (i + 1) later ≡ take i later ++ t ∷ []
-    e = take_more later i t lt ∙ ap (λ u. take i later ++ u ∷ []) (sym at)
-
--- one more centre, where one was found
-Contains-found : (old new : List Point) (found : Option Point) → new ≡ old ++ option_to_list found
-    → (c : Point) → Contains new c ↔ (Contains old c ⊎ (found ≡ Some c))
-Contains-found old new None e c = (
-  λ w. inl (subst (λ l. Contains l c) (e ∙ append-nil old) w),
-  ⊎_elim (λ w. subst (λ l. Contains l c) (sym (e ∙ append-nil old)) w) (λ f. cc),
-)
-Contains-found old new (Some p) e c = (
-  (λ w. ⊎_elim (λ was. inl was) (λ same. inr (ap Some same)) (Contains-push_cases old p c (subst (λ l. Contains l c) e w))),
-  ⊎_elim (λ w. subst (λ l. Contains l c) (sym e) (Contains-append_left _ _ c w))
-      (λ f.
-      let same : p ≡ c = cc in
-      subst (λ l. Contains l c) (sym e) (subst (λ q. Contains (old ++ p ∷ []) q) same (Contains-push old p))),
-)
-
 joined : {N O F B C D : Type 0} → (N ↔ (O ⊎ F)) → (O ↔ (B ⊎ C)) → (D ↔ (C ⊎ F)) → N ↔ (B ⊎ D)
 joined n o d = (
   (λ w. ⊎_elim
@@ -72,74 +40,90 @@ joined n o d = (
       (λ k. ⊎_elim (λ was. n.1 (inl (o.1 (inr was)))) (λ f. n.1 (inr f)) (d.0 k)),
 )
 
+-- one more segment of which something is so
+module _ (P : Segment → Type 0) (s : Segment) (segments : List Segment) (i : ℕ) where
+  one_more : i < length segments → get_or segments i s ≡ s
+      → ((t : Segment) × Contains (take (i + 1) segments) t × P t) ↔ (((t : Segment) × Contains (take i segments) t × P t) ⊎ P s)
+  one_more lt at =
+      let e : take (i + 1) segments ≡ take i segments ++ s ∷ [] =
+      take_more segments i s lt ∙ ap (λ u. take i segments ++ u ∷ []) at in (
+        (λ w. ⊎_elim
+            (λ (was : Contains (take i segments) w.0). inl (w.0, was, w.2))
+            (λ (same : s ≡ w.0). inr (subst P (sym same) w.2))
+            (Contains-push_cases (take i segments) s w.0 (subst (λ l. Contains l w.0) e w.1))),
+        (⊎_elim
+            (λ w. (w.0, subst (λ l. Contains l w.0) (sym e) (Contains-append_left _ _ w.0 w.1), w.2))
+            (λ h. (s, subst (λ l. Contains l s) (sym e) (Contains-push _ s), h))),
+      )
+
+-- ---- crossings
+-- one more centre, where one was found
+pub found_some : {N O : Type 0} (p c : Point) → (N ↔ (O ⊎ (p ≡ c))) → N ↔ (O ⊎ (Some p ≡ Some c))
+found_some p c h = (
+  (λ n. ⊎_elim (λ o. inl o) (λ e. inr (ap Some e)) (h.0 n)),
+  ⊎_elim (λ o. h.1 (inl o)) (λ f. let same : p ≡ c = cc in h.1 (inr same)),
+)
+
+pub found_none : {O : Type 0} (c : Point) → O ↔ (O ⊎ (None ≡ Some c))
+found_none c = ((λ o. inl o), ⊎_elim (λ o. o) (λ f. cc))
+
 -- a step of the loop over the later segments
 pub CrossesOne-step : (s t : Segment) (later : List Segment) (i : ℕ) (found : Option Point) (begun old new : List Point)
     → i < length later → t ≡ get_or later i t → ((c : Point) → Crosses s.a s.b t.a t.b c ↔ (found ≡ Some c))
-    → new ≡ old ++ option_to_list found
+    → ((c : Point) → Contains new c ↔ (Contains old c ⊎ (found ≡ Some c)))
     → ((c : Point) → Contains old c ↔ (Contains begun c ⊎ CrossesOne s (take i later) c))
     → (c : Point) → Contains new c ↔ (Contains begun c ⊎ CrossesOne s (take (i + 1) later) c)
-CrossesOne-step s t later i found begun old new lt at exact e so_far c =
-    joined (Contains-found old new found e c) (so_far c) (CrossesOne-more s t later i found lt at exact c)
+CrossesOne-step s t later i found begun old new lt at exact added so_far c =
+    let more = one_more (λ (u : Segment). Crosses s.a s.b u.a u.b c) t later i lt (sym at) in
+    joined (added c) (so_far c) (
+      (λ w. ⊎_elim (λ o. inl o) (λ x. inr ((exact c).0 x)) (more.0 w)),
+      ⊎_elim (λ o. more.1 (inl o)) (λ f. more.1 (inr ((exact c).1 f))),
+    )
 
--- after the two ends and the loop
-pub Marks-whole : (s : Segment) (later : List Segment) (begun marked old : List Point) (n : ℕ)
-    → begun ≡ (old ++ s.a ∷ []) ++ s.b ∷ [] → length later ≤ n
+pub CrossesOne-whole : (s : Segment) (later : List Segment) (begun marked : List Point) (n : ℕ) → length later ≤ n
     → ((c : Point) → Contains marked c ↔ (Contains begun c ⊎ CrossesOne s (take n later) c))
-    → (c : Point) → Contains marked c ↔ (Contains old c ⊎ Marks s later c)
-Marks-whole s later begun marked old n e over so_far c = (
-  (λ w. ⊎_elim
-      (λ b. ⊎_elim
-      (λ was. ⊎_elim (λ o. inl o) (λ (a : s.a ≡ c). inr (inl (inl ((HoldsPlace-whole s.a c).1 a)))) (Contains-push_cases old s.a c was))
-      (λ (b : s.b ≡ c). inr (inl (inr ((HoldsPlace-whole s.b c).1 b))))
-      (Contains-push_cases (old ++ s.a ∷ []) s.b c (subst (λ l. Contains l c) e b)))
-      (λ k. inr (inr (subst (λ l. CrossesOne s l c) all k)))
-      ((so_far c).0 w)),
-  ⊎_elim
-      (λ o. ends (Contains-append_left _ _ c (Contains-append_left _ _ c o)))
-      (⊎_elim
-      (⊎_elim
-      (λ h. ends (Contains-append_left _ _ c (at_end s.a old ((HoldsPlace-whole s.a c).0 h))))
-      (λ h. ends (at_end s.b (old ++ s.a ∷ []) ((HoldsPlace-whole s.b c).0 h))))
-      (λ k. (so_far c).1 (inr (subst (λ l. CrossesOne s l c) (sym all) k)))),
-)
-  where
-    all : take n later ≡ later
-    all = take_all n later over
-
-    ends : Contains ((old ++ s.a ∷ []) ++ s.b ∷ []) c → Contains marked c
-    ends w = (so_far c).1 (inl (subst (λ l. Contains l c) (sym e) w))
-
-    at_end : (p : Point) (l : List Point) → p ≡ c → Contains (l ++ p ∷ []) c
-    at_end p l same = subst (λ q. Contains (l ++ p ∷ []) q) same (Contains-push l p)
-
--- one more segment of a run
-RunMarks-more : (s : Segment) (run later : List Segment) (i : ℕ) → i < length run → get_or run i s ≡ s
-    → (c : Point) → RunMarks (take (i + 1) run) later c ↔ (RunMarks (take i run) later c ⊎ Marks s later c)
-RunMarks-more s run later i lt at c = (
-  (λ w. ⊎_elim
-      (λ (was : Contains (take i run) w.0). inl (w.0, was, w.2))
-      (λ (same : s ≡ w.0). inr (subst (λ (u : Segment). Marks u later c) (sym same) w.2))
-      (Contains-push_cases (take i run) s w.0 (subst (λ l. Contains l w.0) e w.1))),
-  (⊎_elim
-      (λ w. (w.0, subst (λ l. Contains l w.0) (sym e) (Contains-append_left _ _ w.0 w.1), w.2))
-      (λ h. (s, subst (λ l. Contains l s) (sym e) (Contains-push _ s), h))),
-)
-  where
-    e : take (i + 1) run ≡ take i run ++ s ∷ []
-    e = take_more run i s lt ∙ ap (λ u. take i run ++ u ∷ []) at
+    → (c : Point) → Contains marked c ↔ (Contains begun c ⊎ CrossesOne s later c)
+CrossesOne-whole s later begun marked n over so_far c =
+    subst (λ l. Contains marked c ↔ (Contains begun c ⊎ CrossesOne s l c)) (take_all n later over) (so_far c)
 
 -- a step of the loop over a run
-pub RunMarks-step : (s : Segment) (run later : List Segment) (i : ℕ) (begun old new : List Point)
+pub RunCrosses-step : (s : Segment) (run later : List Segment) (i : ℕ) (begun old new : List Point)
     → i < length run → get_or run i s ≡ s
-    → ((c : Point) → Contains new c ↔ (Contains old c ⊎ Marks s later c))
-    → ((c : Point) → Contains old c ↔ (Contains begun c ⊎ RunMarks (take i run) later c))
-    → (c : Point) → Contains new c ↔ (Contains begun c ⊎ RunMarks (take (i + 1) run) later c)
-RunMarks-step s run later i begun old new lt at more so_far c =
-    joined (more c) (so_far c) (RunMarks-more s run later i lt at c)
+    → ((c : Point) → Contains new c ↔ (Contains old c ⊎ CrossesOne s later c))
+    → ((c : Point) → Contains old c ↔ (Contains begun c ⊎ RunCrosses (take i run) later c))
+    → (c : Point) → Contains new c ↔ (Contains begun c ⊎ RunCrosses (take (i + 1) run) later c)
+RunCrosses-step s run later i begun old new lt at more so_far c =
+    joined (more c) (so_far c) (one_more (λ u. CrossesOne u later c) s run i lt at)
 
--- after the loop
-pub RunMarks-whole : (run later : List Segment) (begun marked : List Point) (n : ℕ) → length run ≤ n
-    → ((c : Point) → Contains marked c ↔ (Contains begun c ⊎ RunMarks (take n run) later c))
-    → (c : Point) → Contains marked c ↔ (Contains begun c ⊎ RunMarks run later c)
-RunMarks-whole run later begun marked n over so_far c =
-    subst (λ l. Contains marked c ↔ (Contains begun c ⊎ RunMarks l later c)) (take_all n run over) (so_far c)
+pub RunCrosses-whole : (run later : List Segment) (begun marked : List Point) (n : ℕ) → length run ≤ n
+    → ((c : Point) → Contains marked c ↔ (Contains begun c ⊎ RunCrosses (take n run) later c))
+    → (c : Point) → Contains marked c ↔ (Contains begun c ⊎ RunCrosses run later c)
+RunCrosses-whole run later begun marked n over so_far c =
+    subst (λ l. Contains marked c ↔ (Contains begun c ⊎ RunCrosses l later c)) (take_all n run over) (so_far c)
+
+-- ---- ends
+-- what the two ends of a segment add
+two_ends : {N M O : Type 0} (s : Segment) (c : Point) → (M ↔ (O ⊎ (s.a ≡ c))) → (N ↔ (M ⊎ (s.b ≡ c))) → N ↔ (O ⊎ HoldsEnd s c)
+two_ends s c m n =
+    let first = HoldsPlace-whole s.a c in
+    let second = HoldsPlace-whole s.b c in (
+      (λ w. ⊎_elim (λ v. ⊎_elim (λ o. inl o) (λ e. inr (inl (first.1 e))) (m.0 v)) (λ e. inr (inr (second.1 e))) (n.0 w)),
+      ⊎_elim (λ o. n.1 (inl (m.1 (inl o))))
+          (⊎_elim (λ h. n.1 (inl (m.1 (inr (first.0 h))))) (λ h. n.1 (inr (second.0 h)))),
+    )
+
+-- a step of the loop over the segments
+pub IsEnd-step : (s : Segment) (segments : List Segment) (i : ℕ) (begun old mid new : List Point)
+    → i < length segments → get_or segments i s ≡ s
+    → ((c : Point) → Contains mid c ↔ (Contains old c ⊎ (s.a ≡ c)))
+    → ((c : Point) → Contains new c ↔ (Contains mid c ⊎ (s.b ≡ c)))
+    → ((c : Point) → Contains old c ↔ (Contains begun c ⊎ IsEnd (take i segments) c))
+    → (c : Point) → Contains new c ↔ (Contains begun c ⊎ IsEnd (take (i + 1) segments) c)
+IsEnd-step s segments i begun old mid new lt at first second so_far c =
+    joined (two_ends s c (first c) (second c)) (so_far c) (one_more (λ u. HoldsEnd u c) s segments i lt at)
+
+pub IsEnd-whole : (segments : List Segment) (begun marked : List Point) (n : ℕ) → length segments ≤ n
+    → ((c : Point) → Contains marked c ↔ (Contains begun c ⊎ IsEnd (take n segments) c))
+    → (c : Point) → Contains marked c ↔ (Contains begun c ⊎ IsEnd segments c)
+IsEnd-whole segments begun marked n over so_far c =
+    subst (λ l. Contains marked c ↔ (Contains begun c ⊎ IsEnd l c)) (take_all n segments over) (so_far c)

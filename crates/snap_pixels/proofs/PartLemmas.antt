@@ -6,9 +6,9 @@ use Rattle.std.specs.List.{AllZip}
 use Rattle.std.proofs.lemmas.List.Elements.{Contains-append_cases, Contains-append_left, Contains-append_right}
 use Rattle.lay_point.specs.declared.point.Point.{Point}
 use Rattle.snap_pixels.specs.declared.segment.Segment.{Segment}
-use Rattle.snap_pixels.specs.Hot.{IsHot}
-use Rattle.snap_pixels.specs.Parts.{IsHotInOne}
-use Rattle.snap_pixels.proofs.CutLemmas.{IsHot-among}
+use Rattle.snap_pixels.specs.Marks.{IsCrossed}
+use Rattle.snap_pixels.specs.Parts.{IsCrossedInOne}
+use Rattle.snap_pixels.proofs.CutLemmas.{IsCrossed-among}
 
 one_more : {A B C D : Type 0} → (A ↔ (B ⊎ C)) → (D ⊎ A) ↔ ((D ⊎ B) ⊎ C)
 one_more h = (
@@ -18,15 +18,15 @@ one_more h = (
 
 module _ {V : Type 0} (items : V → List Segment) where
   pushed : (old : List V) (part : V) (c : Point)
-      → IsHotInOne (map items (old ++ part ∷ [])) c ↔ (IsHotInOne (map items old) c ⊎ IsHot (items part) c)
+      → IsCrossedInOne (map items (old ++ part ∷ [])) c ↔ (IsCrossedInOne (map items old) c ⊎ IsCrossed (items part) c)
   pushed [] part c = (⊎_elim (λ h. inr h) (λ n. absurd n), ⊎_elim (λ n. absurd n) (λ h. inl h))
   pushed (v ∷ vs) part c = one_more (pushed vs part c)
 
   -- one part more
-  pub IsHotInOne-push : (old new : List V) (part : V) → new ≡ old ++ part ∷ []
-      → (c : Point) → IsHotInOne (map items new) c ↔ (IsHotInOne (map items old) c ⊎ IsHot (items part) c)
-  IsHotInOne-push old new part e c =
-      subst (λ l. IsHotInOne (map items l) c ↔ (IsHotInOne (map items old) c ⊎ IsHot (items part) c)) (sym e) (pushed old part c)
+  pub IsCrossedInOne-push : (old new : List V) (part : V) → new ≡ old ++ part ∷ []
+      → (c : Point) → IsCrossedInOne (map items new) c ↔ (IsCrossedInOne (map items old) c ⊎ IsCrossed (items part) c)
+  IsCrossedInOne-push old new part e c =
+      subst (λ l. IsCrossedInOne (map items l) c ↔ (IsCrossedInOne (map items old) c ⊎ IsCrossed (items part) c)) (sym e) (pushed old part c)
 
 -- the parts of one side, and then those of the other
 pub both_sides : {N M O L H S : Type 0} → (S ↔ (L ⊎ H)) → (M ↔ (O ⊎ L)) → (N ↔ (M ⊎ H)) → N ↔ (O ⊎ S)
@@ -37,11 +37,11 @@ both_sides s m n = (
 
 module _ {V W : Type 0} (E : Type 0) (items : V → List Segment) (points : W → List Point) where
   abbrev pub AreFound : V → Result W E → Type 0
-  AreFound part r = IfOk r (λ w. (c : Point) → Contains (points w) c ↔ IsHot (items part) c)
+  AreFound part r = IfOk r (λ w. (c : Point) → Contains (points w) c ↔ IsCrossed (items part) c)
 
   -- the lists of the parts' hot centres hold those of all parts
   found_in_lists : (parts : List V) (ws : List W) → AllZip AreFound parts (map Ok ws)
-      → (c : Point) → Contains (flat_map points ws) c ↔ IsHotInOne (map items parts) c
+      → (c : Point) → Contains (flat_map points ws) c ↔ IsCrossedInOne (map items parts) c
   found_in_lists [] [] h c = ((λ w. absurd (omega (arith, w.1))), (λ n. absurd n))
   found_in_lists [] (w ∷ ws) h c = absurd h
   found_in_lists (p ∷ ps) [] h c = absurd h
@@ -55,13 +55,20 @@ module _ {V W : Type 0} (E : Type 0) (items : V → List Segment) (points : W �
 
   pub found_in_parts : (parts : List V) (rs : List (Result W E)) (ws : List W) → AllZip AreFound parts rs
       → rs ≡ map Ok ws → (marked : List Point) → marked ≡ flat_map points ws
-      → (c : Point) → Contains marked c ↔ IsHotInOne (map items parts) c
+      → (c : Point) → Contains marked c ↔ IsCrossedInOne (map items parts) c
   found_in_parts parts rs ws h e marked is c =
-      subst (λ l. Contains l c ↔ IsHotInOne (map items parts) c) (sym is)
+      subst (λ l. Contains l c ↔ IsCrossedInOne (map items parts) c) (sym is)
       (found_in_lists parts ws (subst (AllZip AreFound parts) e h) c)
 
 pub through : {A B C : Type 0} → (A ↔ B) → (B ↔ C) → A ↔ C
 through f g = ((λ a. g.0 (f.0 a)), (λ c. f.1 (g.1 c)))
+
+-- with what is the same
+pub with_more : {N O A B : Type 0} → (N ↔ (O ⊎ A)) → (A ↔ B) → N ↔ (O ⊎ B)
+with_more n f = (
+  (λ w. ⊎_elim (λ o. inl o) (λ a. inr (f.0 a)) (n.0 w)),
+  ⊎_elim (λ o. n.1 (inl o)) (λ b. n.1 (inr (f.1 b))),
+)
 
 -- what the lists hold, with one list more
 module _ {V : Type 0} (points : V → List Point) where
@@ -73,31 +80,43 @@ module _ {V : Type 0} (points : V → List Point) where
       ap (λ l. points w ++ l) (flat_more ws n v (omega (arith, lt)) at)
       ∙ sym (append_assoc (points w) (flat_map points (take n ws)) (points v))
 
-  pub list_more : (lists : List V) (n : ℕ) (v : V) (old new : List Point) → n < length lists → get_or lists n v ≡ v
-      → new ≡ old ++ points v → ((c : Point) → Contains old c ↔ Contains (flat_map points (take n lists)) c)
-      → (c : Point) → Contains new c ↔ Contains (flat_map points (take (n + 1) lists)) c
-  list_more lists n v old new lt at added so_far c =
+  pub list_more : (lists : List V) (n : ℕ) (v : V) (begun old new : List Point) → n < length lists → get_or lists n v ≡ v
+      → new ≡ old ++ points v
+      → ((c : Point) → Contains old c ↔ (Contains begun c ⊎ Contains (flat_map points (take n lists)) c))
+      → (c : Point) → Contains new c ↔ (Contains begun c ⊎ Contains (flat_map points (take (n + 1) lists)) c)
+  list_more lists n v begun old new lt at added so_far c =
       let all : List Point = flat_map points (take n lists) in
       let next : suc n ≡ n + 1 = omega arith in
       let more = subst (λ m. flat_map points (take m lists) ≡ all ++ points v) next (flat_more lists n v lt at) in (
-        (λ w. subst (λ l. Contains l c) (sym more) (⊎_elim
-            (λ was. Contains-append_left all (points v) c ((so_far c).0 was))
-            (λ is. Contains-append_right all (points v) c is)
-            (Contains-append_cases old (points v) c (subst (λ l. Contains l c) added w)))),
+        (λ w. ⊎_elim
+            (λ was. ⊎_elim (λ b. inl b)
+            (λ k. inr (subst (λ l. Contains l c) (sym more) (Contains-append_left all (points v) c k)))
+            ((so_far c).0 was))
+            (λ is. inr (subst (λ l. Contains l c) (sym more) (Contains-append_right all (points v) c is)))
+            (Contains-append_cases old (points v) c (subst (λ l. Contains l c) added w))),
         (λ w. subst (λ l. Contains l c) (sym added) (⊎_elim
-            (λ was. Contains-append_left old (points v) c ((so_far c).1 was))
+            (λ b. Contains-append_left old (points v) c ((so_far c).1 (inl b)))
+            (λ k. ⊎_elim
+            (λ was. Contains-append_left old (points v) c ((so_far c).1 (inr was)))
             (λ is. Contains-append_right old (points v) c is)
-            (Contains-append_cases all (points v) c (subst (λ l. Contains l c) more w)))),
+            (Contains-append_cases all (points v) c (subst (λ l. Contains l c) more k)))
+            w)),
       )
 
 -- segments that are each in the other list have the same hot pixels
-pub IsHot-same : (once segments : List Segment) → ((s : Segment) → Contains once s ↔ Contains segments s)
-    → (c : Point) → IsHot once c ↔ IsHot segments c
-IsHot-same once segments same c = (
-  IsHot-among once segments (λ s w. (same s).0 w) c,
-  IsHot-among segments once (λ s w. (same s).1 w) c,
+pub IsCrossed-same : (once segments : List Segment) → ((s : Segment) → Contains once s ↔ Contains segments s)
+    → (c : Point) → IsCrossed once c ↔ IsCrossed segments c
+IsCrossed-same once segments same c = (
+  IsCrossed-among once segments (λ s w. (same s).0 w) c,
+  IsCrossed-among segments once (λ s w. (same s).1 w) c,
 )
 
 -- in no parts there is nothing before
 pub all_new : {A N B : Type 0} → (N → ⊥) → (A ↔ (N ⊎ B)) → A ↔ B
 all_new none h = ((λ a. ⊎_elim (λ n. absurd (none n)) (λ b. b) (h.0 a)), (λ b. h.1 (inr b)))
+
+pub all_found : {B : Type 0} (begun all : List Point) (c : Point) → begun ≡ [] → (Contains all c ↔ (Contains begun c ⊎ B)) → Contains all c ↔ B
+all_found begun all c none h = all_new (λ w. no_centre (subst (λ l. Contains l c) none w)) h
+  where
+    no_centre : Contains [] c → ⊥
+    no_centre w = omega (arith, w.1)

@@ -1,5 +1,6 @@
 pub mod Boxes
 pub mod Cuts
+pub mod Gathered
 pub mod Hot
 pub mod Kinds
 pub mod Marks

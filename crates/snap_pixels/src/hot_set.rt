@@ -3,6 +3,7 @@ ghost use Rattle.std.specs.Prelude.{◌≡◌, ◌↔◌, IfOk, IsTrue, Contains
 ghost use Rattle.lay_point.specs.declared.point.Point.{Point};
 ghost use Rattle.snap_pixels.specs.Order.{ArePointsRising, transposed};
 
+use crate::gathered::Gathered;
 use lay_point::Point;
 use std::alloc::{AllocError, Global};
 use std::marker::Model;
@@ -27,18 +28,21 @@ impl Model for HotSet {
 }
 
 impl HotSet {
-    /// Returns the set of these centres, which may be in any order and more than once.
+    /// Returns the set of the centres that were gathered.
+    ///
+    /// # Errors
+    ///
+    /// `AllocError`, if an allocation fails.
     ///
     /// # Cost
     ///
     /// A sort of the centres.
-    pub fn from_unsorted(mut centres: Vec<Point>) -> HotSet
-        ensures rising { ArePointsRising result }
-        ensures members { (c : Point) → Contains result c ↔ Contains centres.items c }
+    pub(crate) fn of(alloc: Global, gathered: Gathered) -> Result<HotSet, AllocError>
+        ensures rising { IfOk result (λ set. ArePointsRising set) }
+        ensures members { IfOk result (λ set. (c : Point) → Contains set c ↔ Contains gathered c) }
     {
-        centres.sort_unstable();
-        centres.dedup();
-        HotSet { centres }
+        let centres = gathered.into_rising(alloc)?;
+        Ok(HotSet { centres })
     }
 
     /// Returns whether the pixel of `centre` is hot.

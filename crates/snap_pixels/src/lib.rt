@@ -23,12 +23,13 @@
 //!
 //! - `Segment`: its ends differ (`differ` in `segment.rt`), tested by [`Segment::new`].
 //! - `HotSet`: its centres rise, by x and then by y (`ArePointsRising` of `specs/Order.antt`).
-//!   [`HotSet::from_unsorted`] sorts them.
+//!   They are gathered as numbers in the same order, which are sorted (`gathered.rt`).
 //!
 //! # Files
 //!
 //! - `search.rt`: the search; `parts.rt`, `cut.rt`, `cell.rt`, `direction.rt`: segments divided
 //!   into short lists, each pair that may meet in one of them (`specs/Parts.antt`).
+//! - `gathered.rt`, `hot_set.rt`: centres as they are found, and the set of them.
 //! - `kind.rt`, `counts.rt`, `repeats.rt`: parallel and equal segments, which needn't be asked.
 //! - `meeting.rt`, `side.rt`, `span.rt`, `common_point.rt`, `rounding.rt`: one segment and one
 //!   pixel, and two segments.
@@ -59,6 +60,7 @@ mod counts;
 mod cut;
 mod direction;
 mod exact;
+mod gathered;
 mod hot_set;
 mod kind;
 mod meeting;

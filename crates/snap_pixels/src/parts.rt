@@ -1,8 +1,8 @@
 //! Short lists of segments that are searched apart: each segment is in those whose cells it may meet.
 ghost use Rattle.std.specs.Prelude.{◌≡◌, ◌↔◌, ◌⊎◌, ◌<◌, IfOk, IfSome, OnOk, map};
 ghost use Rattle.lay_point.specs.declared.point.Point.{Point};
-ghost use Rattle.snap_pixels.specs.Hot.{IsHot};
-ghost use Rattle.snap_pixels.specs.Parts.{IsHotInOne};
+ghost use Rattle.snap_pixels.specs.Marks.{IsCrossed};
+ghost use Rattle.snap_pixels.specs.Parts.{IsCrossedInOne};
 
 use crate::cell::{Cell, Division};
 use crate::counts::Counts;
@@ -18,10 +18,10 @@ const DEPTH: usize = 48;
 /// The parts list each segment at most so many times more, on average.
 const REPEATS: usize = 8;
 
-/// Returns lists of the segments of which the hot pixels, together, are those of the segments.
+/// Returns lists of the segments of which the crossings, together, are those of the segments.
 pub(crate) fn parts_of(alloc: Global, segments: &[Segment]) -> Result<Vec<Vec<Segment>>, AllocError>
     ensures { IfOk result (λ parts. (c : Point)
-        → IsHotInOne (map (λ part. part.items) parts.items) c ↔ IsHot segments.now c) }
+        → IsCrossedInOne (map (λ part. part.items) parts.items) c ↔ IsCrossed segments.now c) }
 {
     let mut parts = Vec::new(alloc);
     let all = Vec::from_slice(alloc, segments)?;
@@ -40,8 +40,8 @@ fn add_parts(
     spare: usize,
     depth: usize,
 ) -> Result<(), AllocError>
-    ensures { OnOk result ((c : Point) → IsHotInOne (map (λ part. part.items) parts.new.items) c
-        ↔ (IsHotInOne (map (λ part. part.items) parts.old.items) c ⊎ IsHot segments.items c)) }
+    ensures { OnOk result ((c : Point) → IsCrossedInOne (map (λ part. part.items) parts.new.items) c
+        ↔ (IsCrossedInOne (map (λ part. part.items) parts.old.items) c ⊎ IsCrossed segments.items c)) }
 {
     let Some(division) = useful_division(segments.as_slice(), cell, spare, depth) else {
         parts.push(segments)?;

@@ -1,22 +1,20 @@
 //! The search for hot pixels.
 ghost use Rattle.std.specs.Prelude.{◌≡◌, ◌↔◌, ◌⊎◌, OnOk, IfOk, Contains, flat_map};
 ghost use Rattle.lay_point.specs.declared.point.Point.{Point};
-ghost use Rattle.snap_pixels.specs.Hot.{AreHotCentres, IsHot};
-ghost use Rattle.snap_pixels.specs.Marks.{Marks, RunMarks};
+ghost use Rattle.snap_pixels.specs.Hot.{AreHotCentres};
+ghost use Rattle.snap_pixels.specs.Marks.{CrossesOne, IsCrossed, IsEnd, RunCrosses};
 
 use crate::common_point::crossing;
+use crate::gathered::Gathered;
 use crate::hot_set::HotSet;
 use crate::kind::{put_by_kind, run_length};
 use crate::parts::parts_of;
-use crate::repeats::{distinct, thin};
+use crate::repeats::distinct;
 use crate::segment::Segment;
 use lay_point::{NoMemory, Point};
 use rayon::prelude::*;
 use std::alloc::{AllocError, Global};
 use std::thread::Threads;
-
-/// Up to this many marks are kept as they come.
-const MARKS: usize = 65_536;
 
 /// Returns the hot pixels of the segments. Their crossings are found in as many threads as there are
 /// processors.
@@ -33,8 +31,8 @@ const MARKS: usize = 65_536;
 /// parallel. On segments that are short beside the whole, and on long ones that are parallel, the time is that of
 /// a sort of the segments and the crossings. Of nested boxes a small part of the pairs is asked, which grows
 /// faster than their number. The pairs asked are at most about twice those of distinct segments that aren't along
-/// the same axis. The lists hold at most nine times the segments, and a hot pixel once for each list that finds
-/// it, until these are joined.
+/// the same axis. The lists hold at most nine times the segments, and a crossing once for each list that finds
+/// it, until these are joined. The ends are listed once.
 pub fn hot(
     rt: &(impl Threads + Sync),
     alloc: Global,
@@ -49,17 +47,20 @@ pub fn hot(
         .as_slice()
         .par_iter()
         .map(
-            |part: &Vec<Segment>| -> Result<Vec<Point>, AllocError>
-                ensures { IfOk result (λ marked. (c : Point)
-                    → Contains marked.items c ↔ IsHot part.now.items c) }
+            |part: &Vec<Segment>| -> Result<Gathered, AllocError>
+                ensures { IfOk result (λ found. (c : Point)
+                    → Contains found c ↔ IsCrossed part.now.items c) }
             {
-                let marked = marks_of(alloc, part.as_slice())?;
-                Ok(marked)
+                let found = crossings(alloc, part.as_slice())?;
+                Ok(found)
             },
         )
-        .collect::<Result<Vec<Vec<Point>>, AllocError>>(rt, alloc)??;
-    let marked = joined(alloc, &lists)?;
-    Ok(HotSet::from_unsorted(marked))
+        .collect::<Result<Vec<Gathered>, AllocError>>(rt, alloc)??;
+    let mut centres = Gathered::new(alloc);
+    add_ends(&mut centres, segments)?;
+    add_lists(&mut centres, &lists)?;
+    let set = HotSet::of(alloc, centres)?;
+    Ok(set)
 }
 
 /// Returns the hot pixels of the segments, found in this thread, undivided: of neighbours along the same axis none
@@ -75,72 +76,85 @@ pub fn hot(
 pub fn hot_plain(alloc: Global, segments: &[Segment]) -> Result<HotSet, NoMemory>
     ensures { IfOk result (AreHotCentres segments.now) }
 {
-    let marked = marks_of(alloc, segments)?;
-    Ok(HotSet::from_unsorted(marked))
+    let mut centres = Gathered::new(alloc);
+    add_ends(&mut centres, segments)?;
+    add_crossings(&mut centres, segments)?;
+    let set = HotSet::of(alloc, centres)?;
+    Ok(set)
 }
 
-/// Returns the hot centres of the segments, in any order.
-fn marks_of(alloc: Global, segments: &[Segment]) -> Result<Vec<Point>, AllocError>
-    ensures { IfOk result (λ marked. (c : Point) → Contains marked.items c ↔ IsHot segments.now c) }
-{
-    let mut marked = Vec::new(alloc);
-    let mut limit = MARKS;
-    let mut rest = segments;
-    while !rest.is_empty() {
-        let (run, later) = rest.split_at(run_length(rest));
-        limit = mark_run(&mut marked, run, later, limit)?;
-        rest = later;
-    }
-    Ok(marked)
-}
-
-/// Adds the centres that the segments of a run mark, each of which is asked about the later segments alone.
-/// Returns the limit from which on repeats are removed.
-fn mark_run(
-    marked: &mut Vec<Point>,
-    run: &[Segment],
-    later: &[Segment],
-    mut limit: usize,
-) -> Result<usize, AllocError>
+/// Adds the ends of the segments.
+fn add_ends(centres: &mut Gathered, segments: &[Segment]) -> Result<(), AllocError>
     ensures { OnOk result ((c : Point)
-        → Contains marked.new.items c ↔ (Contains marked.old.items c ⊎ RunMarks run.now later.now c)) }
+        → Contains centres.new c ↔ (Contains centres.old c ⊎ IsEnd segments.now c)) }
 {
-    for segment in run {
-        mark_segment(marked, segment, later)?;
-        limit = thin(marked, limit);
-    }
-    Ok(limit)
-}
-
-/// Adds the centres that the segment marks: those of its ends and of its crossings with the later segments.
-fn mark_segment(
-    marked: &mut Vec<Point>,
-    segment: &Segment,
-    later: &[Segment],
-) -> Result<(), AllocError>
-    ensures { OnOk result ((c : Point)
-        → Contains marked.new.items c ↔ (Contains marked.old.items c ⊎ Marks segment.now later.now c)) }
-{
-    marked.push(segment.a())?;
-    marked.push(segment.b())?;
-    for other in later {
-        if let Some(centre) = crossing(segment, other) {
-            marked.push(centre)?;
-        }
+    for segment in segments {
+        centres.push(segment.a())?;
+        centres.push(segment.b())?;
     }
     Ok(())
 }
 
-/// Returns the centres of all lists, in any order.
-fn joined(alloc: Global, lists: &[Vec<Point>]) -> Result<Vec<Point>, AllocError>
-    ensures { IfOk result (λ v. (c : Point)
-        → Contains v.items c ↔ Contains (flat_map (λ list. list.items) lists.now) c) }
+/// Adds the centres of all lists.
+fn add_lists(centres: &mut Gathered, lists: &[Gathered]) -> Result<(), AllocError>
+    ensures { OnOk result ((c : Point)
+        → Contains centres.new c ↔ (Contains centres.old c ⊎ Contains (flat_map (λ list. list) lists.now) c)) }
 {
-    let mut all = Vec::new(alloc);
-    let mut limit = MARKS;
     for list in lists {
-        all.extend_from_slice(list.as_slice())?;
-        limit = thin(&mut all, limit);
+        centres.append(list)?;
+        centres.thin();
     }
-    Ok(all)
+    Ok(())
+}
+
+/// Returns the centres of the segments' crossings.
+fn crossings(alloc: Global, segments: &[Segment]) -> Result<Gathered, AllocError>
+    ensures { IfOk result (λ found. (c : Point) → Contains found c ↔ IsCrossed segments.now c) }
+{
+    let mut found = Gathered::new(alloc);
+    add_crossings(&mut found, segments)?;
+    Ok(found)
+}
+
+/// Adds the centres of the segments' crossings.
+fn add_crossings(centres: &mut Gathered, segments: &[Segment]) -> Result<(), AllocError>
+    ensures { OnOk result ((c : Point)
+        → Contains centres.new c ↔ (Contains centres.old c ⊎ IsCrossed segments.now c)) }
+{
+    let mut rest = segments;
+    while !rest.is_empty() {
+        let (run, later) = rest.split_at(run_length(rest));
+        cross_run(centres, run, later)?;
+        rest = later;
+    }
+    Ok(())
+}
+
+/// Adds the crossings of the segments of a run, each of which is asked about the later segments alone.
+fn cross_run(centres: &mut Gathered, run: &[Segment], later: &[Segment]) -> Result<(), AllocError>
+    ensures { OnOk result ((c : Point)
+        → Contains centres.new c ↔ (Contains centres.old c ⊎ RunCrosses run.now later.now c)) }
+{
+    for segment in run {
+        cross_later(centres, segment, later)?;
+        centres.thin();
+    }
+    Ok(())
+}
+
+/// Adds the crossings of the segment with the later ones.
+fn cross_later(
+    centres: &mut Gathered,
+    segment: &Segment,
+    later: &[Segment],
+) -> Result<(), AllocError>
+    ensures { OnOk result ((c : Point)
+        → Contains centres.new c ↔ (Contains centres.old c ⊎ CrossesOne segment.now later.now c)) }
+{
+    for other in later {
+        if let Some(centre) = crossing(segment, other) {
+            centres.push(centre)?;
+        }
+    }
+    Ok(())
 }

@@ -1,10 +1,10 @@
 use Rattle.std.proofs.Common.{map, subst, ◌↔◌}
-use Rattle.snap_pixels.specs.Hot.{IsHot}
-use Rattle.snap_pixels.specs.Parts.{IsHotInOne}
+use Rattle.snap_pixels.specs.Marks.{IsCrossed}
+use Rattle.snap_pixels.specs.Parts.{IsCrossedInOne}
 use Rattle.snap_pixels.proofs.PartLemmas.{all_new}
 use Rattle.snap_pixels.proofs.parts.parts_of.Goals as goal
 
 pub returns : goal.returns
 returns c = λ p.
-    subst (λ l. IsHotInOne (map (λ part. part.items) c.add_parts.new.parts.items) p ↔ IsHot l p) c.in_ok-all.ensures.items
-    (all_new (λ n. subst (λ l. IsHotInOne (map (λ part. part.items) l) p) c.new-parts.ensures.items n) (c.in_ok-add_parts.ensures p))
+    subst (λ l. IsCrossedInOne (map (λ part. part.items) c.add_parts.new.parts.items) p ↔ IsCrossed l p) c.in_ok-all.ensures.items
+    (all_new (λ n. subst (λ l. IsCrossedInOne (map (λ part. part.items) l) p) c.new-parts.ensures.items n) (c.in_ok-add_parts.ensures p))

@@ -1,12 +1,12 @@
-use Rattle.std.proofs.Common.{◌↔◌, ◌∙◌, ap, refl, subst, map, Contains}
+use Rattle.std.proofs.Common.{◌↔◌, ◌⊎◌, ◌∙◌, ap, refl, subst, map, Contains}
 use Rattle.std.specs.Prelude.{flat_map}
 use Rattle.std.specs.declared.alloc.AllocError.{AllocError}
 use Rattle.rayon.proofs.ToStd.{slice-AllZip}
-use Rattle.snap_pixels.proofs.HotLemmas.{AreHotCentres-marked}
+use Rattle.snap_pixels.proofs.HotLemmas.{AreHotCentres-gathered}
 use Rattle.lay_point.specs.declared.point.Point.{Point}
-use Rattle.snap_pixels.specs.Hot.{IsHot}
-use Rattle.snap_pixels.specs.Parts.{IsHotInOne}
-use Rattle.snap_pixels.proofs.PartLemmas.{AreFound, IsHot-same, found_in_parts, through}
+use Rattle.snap_pixels.specs.Marks.{IsCrossed}
+use Rattle.snap_pixels.specs.Parts.{IsCrossedInOne}
+use Rattle.snap_pixels.proofs.PartLemmas.{AreFound, IsCrossed-same, found_in_parts, through, with_more}
 use Rattle.snap_pixels.proofs.search.hot.Goals as goal
 
 pub returns : goal.returns
@@ -16,16 +16,18 @@ returns g c =
     let h = rw (c.map.ensures.f) at c.in_ok-collect.ensures in
     let chain = h.1 in
     let made = rw c.in_ok-lists.was at h.2 in
-    let each = slice-AllZip chain.0 parts (chain.1 ∙ slice) (AreFound AllocError (λ v. v.items) (λ v. v.items)) h.0 chain.2 in
+    let each = slice-AllZip chain.0 parts (chain.1 ∙ slice) (AreFound AllocError (λ v. v.items) (λ v. v)) h.0 chain.2 in
     let lists = c.deref.ensures.value ∙ made.2 in
     let found =
-    found_in_parts AllocError (λ v. v.items) (λ v. v.items) parts h.0 made.0 each made.1 (flat_map (λ v. v.items) made.0) refl in
-    let joined = λ (p : Point). subst (λ l. Contains c.in_ok-marked.marked.items p ↔ Contains (flat_map (λ v. v.items) l) p) lists
-    (c.in_ok-marked.ensures p) in
-    let same = IsHot-same c.put_by_kind.new.segments.items c.args.segments.now
+    found_in_parts AllocError (λ v. v.items) (λ v. v) parts h.0 made.0 each made.1 (flat_map (λ v. v) made.0) refl in
+    let joined = λ (p : Point). subst
+    (λ l. Contains c.add_lists.new.centres p ↔ (Contains c.add_ends.new.centres p ⊎ Contains (flat_map (λ v. v) l) p)) lists
+    (c.in_ok-add_lists.ensures p) in
+    let same = IsCrossed-same c.put_by_kind.new.segments.items c.args.segments.now
     (λ s. through (c.put_by_kind.ensures s) (c.in_ok-once.ensures s)) in
-    let searched = λ (p : Point). subst (λ l. IsHotInOne (map (λ part. part.items) parts) p ↔ IsHot l p) c.as_slice.ensures.value
+    let searched = λ (p : Point). subst (λ l. IsCrossedInOne (map (λ part. part.items) parts) p ↔ IsCrossed l p) c.as_slice.ensures.value
     (c.in_ok-parts.ensures p) in
-    AreHotCentres-marked c.args.segments.now c.in_ok-marked.marked.items c.from_unsorted.result
-    c.from_unsorted.ensures.rising c.from_unsorted.ensures.members
-    (λ p. through (joined p) (through (found p) (through (searched p) (same p))))
+    AreHotCentres-gathered c.args.segments.now c.new-centres.result c.add_ends.new.centres c.add_lists.new.centres c.in_ok-set.set
+    c.new-centres.ensures c.in_ok-add_ends.ensures
+    (λ p. with_more (joined p) (through (found p) (through (searched p) (same p))))
+    c.in_ok-set.ensures.rising c.in_ok-set.ensures.members

@@ -1,7 +1,7 @@
-use Rattle.snap_pixels.proofs.HotLemmas.{AreHotCentres-marked}
+use Rattle.snap_pixels.proofs.HotLemmas.{AreHotCentres-gathered}
 use Rattle.snap_pixels.proofs.search.hot_plain.Goals as goal
 
 pub returns : goal.returns
 returns c =
-    AreHotCentres-marked c.args.segments.now c.in_ok-marked.marked.items c.from_unsorted.result
-    c.from_unsorted.ensures.rising c.from_unsorted.ensures.members c.in_ok-marked.ensures
+    AreHotCentres-gathered c.args.segments.now c.new-centres.result c.add_ends.new.centres c.add_crossings.new.centres c.in_ok-set.set
+    c.new-centres.ensures c.in_ok-add_ends.ensures c.in_ok-add_crossings.ensures c.in_ok-set.ensures.rising c.in_ok-set.ensures.members
