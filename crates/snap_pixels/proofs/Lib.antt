@@ -1,7 +1,6 @@
 pub mod BoundLemmas
 pub mod BoxLemmas
 pub mod CrossingLemmas
-pub mod CutLemmas
 pub mod GatheredLemmas
 pub mod HotLemmas
 pub mod KindLemmas
@@ -10,3 +9,4 @@ pub mod OrderLemmas
 pub mod PartLemmas
 pub mod RoundLemmas
 pub mod SideLemmas
+pub mod StripLemmas

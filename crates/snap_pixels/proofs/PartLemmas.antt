@@ -8,7 +8,10 @@ use Rattle.lay_point.specs.declared.point.Point.{Point}
 use Rattle.snap_pixels.specs.declared.segment.Segment.{Segment}
 use Rattle.snap_pixels.specs.Marks.{IsCrossed}
 use Rattle.snap_pixels.specs.Parts.{IsCrossedInOne}
-use Rattle.snap_pixels.proofs.CutLemmas.{IsCrossed-among}
+
+IsCrossed-among : (part segments : List Segment) → ((s : Segment) → Contains part s → Contains segments s) → (c : Point)
+    → IsCrossed part c → IsCrossed segments c
+IsCrossed-among part segments among c (s, t, m, n, x) = (s, t, among s m, among t n, x)
 
 one_more : {A B C D : Type 0} → (A ↔ (B ⊎ C)) → (D ⊎ A) ↔ ((D ⊎ B) ⊎ C)
 one_more h = (
@@ -28,12 +31,26 @@ module _ {V : Type 0} (items : V → List Segment) where
   IsCrossedInOne-push old new part e c =
       subst (λ l. IsCrossedInOne (map items l) c ↔ (IsCrossedInOne (map items old) c ⊎ IsCrossed (items part) c)) (sym e) (pushed old part c)
 
--- the parts of one side, and then those of the other
-pub both_sides : {N M O L H S : Type 0} → (S ↔ (L ⊎ H)) → (M ↔ (O ⊎ L)) → (N ↔ (M ⊎ H)) → N ↔ (O ⊎ S)
-both_sides s m n = (
-  (λ w. ⊎_elim (λ v. ⊎_elim (λ o. inl o) (λ l. inr (s.1 (inl l))) (m.0 v)) (λ h. inr (s.1 (inr h))) (n.0 w)),
-  ⊎_elim (λ o. n.1 (inl (m.1 (inl o)))) (λ w. ⊎_elim (λ l. n.1 (inl (m.1 (inr l)))) (λ h. n.1 (inr h)) (s.0 w)),
+-- before the parts of any list
+pub with_listed : {P C L : Type 0} → (C ↔ L) → (P ⊎ C) ↔ (P ⊎ L)
+with_listed h = (⊎_elim (λ p. inl p) (λ c. inr (h.0 c)), ⊎_elim (λ p. inl p) (λ l. inr (h.1 l)))
+
+-- the parts of one list more
+pub after_list : {S P L M X N : Type 0} → (S ↔ (P ⊎ L)) → (L ↔ (M ⊎ X)) → (N ↔ (P ⊎ X)) → S ↔ (N ⊎ M)
+after_list s l n = (
+  (λ w. ⊎_elim (λ p. inl (n.1 (inl p))) (λ v. ⊎_elim (λ m. inr m) (λ x. inl (n.1 (inr x))) (l.0 v)) (s.0 w)),
+  ⊎_elim (λ w. ⊎_elim (λ p. s.1 (inl p)) (λ x. s.1 (inr (l.1 (inr x)))) (n.0 w)) (λ m. s.1 (inr (l.1 (inl m)))),
 )
+
+-- in no lists nothing is crossed
+pub no_list : {V : Type 0} (items : V → List Segment) (lists : List V) → length lists ≡ 0 → (c : Point)
+    → IsCrossedInOne (map items lists) c → ⊥
+no_list items [] none c h = h
+no_list items (v ∷ vs) none c h = absurd (omega arith)
+
+-- after those of all lists
+pub after_all : {S P L : Type 0} → (L → ⊥) → (S ↔ (P ⊎ L)) → P ↔ S
+after_all none s = ((λ p. s.1 (inl p)), (λ w. ⊎_elim (λ p. p) (λ l. absurd (none l)) (s.0 w)))
 
 module _ {V W : Type 0} (E : Type 0) (items : V → List Segment) (points : W → List Point) where
   abbrev pub AreFound : V → Result W E → Type 0

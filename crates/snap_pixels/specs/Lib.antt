@@ -1,5 +1,4 @@
 pub mod Boxes
-pub mod Cuts
 pub mod Gathered
 pub mod Hot
 pub mod Kinds
@@ -9,3 +8,4 @@ pub mod Parts
 pub mod Pixels
 pub mod Segments
 pub mod Sides
+pub mod Strips

@@ -9,14 +9,14 @@ use lay_point::Point;
 pub(crate) fn boxes_are_apart(a: Point, b: Point, c: Point, d: Point) -> bool
     ensures { IsTrue result → (ArePairsApart a.x b.x c.x d.x ⊎ ArePairsApart a.y b.y c.y d.y) }
 {
-    is_left_or_lower(a, b, c, d) || is_left_or_lower(c, d, a, b)
+    is_left_or_lower(a, b, c, d) | is_left_or_lower(c, d, a, b)
 }
 
 /// Returns whether the box round `a` and `b` is to the left of the one round `c` and `d`, or below it.
 fn is_left_or_lower(a: Point, b: Point, c: Point, d: Point) -> bool
     ensures { IsTrue result → (IsPairBelow a.x b.x c.x d.x ⊎ IsPairBelow a.y b.y c.y d.y) }
 {
-    is_left(a, b, c, d) || is_lower(a, b, c, d)
+    is_left(a, b, c, d) | is_lower(a, b, c, d)
 }
 
 /// Returns whether `a` and `b` are to the left of `c` and `d`.

@@ -57,12 +57,12 @@ mod boxes;
 mod cell;
 mod common_point;
 mod counts;
-mod cut;
-mod direction;
+mod division;
 mod exact;
 mod gathered;
 mod hot_set;
 mod kind;
+mod measure;
 mod meeting;
 mod parts;
 mod repeats;
@@ -71,6 +71,7 @@ mod search;
 mod segment;
 mod side;
 mod span;
+mod strips;
 #[cfg(test)]
 mod tests;
 

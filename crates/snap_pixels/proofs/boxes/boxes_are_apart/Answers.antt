@@ -1,8 +1,9 @@
 use Rattle.std.proofs.Common.{inl, inr, ⊎_elim}
+use Rattle.std.proofs.lemmas.Bool.{or_cases}
 use Rattle.snap_pixels.proofs.boxes.boxes_are_apart.Goals as goal
 
-pub returns-then-is_left_or_lower : goal.returns-then-is_left_or_lower
-returns-then-is_left_or_lower c = λ e. ⊎_elim (λ w. inl (inl w)) (λ w. inr (inl w)) (c.is_left_or_lower.ensures e)
-
-pub returns-else-is_left_or_lower : goal.returns-else-is_left_or_lower
-returns-else-is_left_or_lower c = λ e. ⊎_elim (λ w. inl (inr w)) (λ w. inr (inr w)) (c.is_left_or_lower-else-is_left_or_lower.ensures e)
+pub returns : goal.returns
+returns c = λ e. ⊎_elim
+    (λ one. ⊎_elim (λ w. inl (inl w)) (λ w. inr (inl w)) (c.is_left_or_lower.ensures one))
+    (λ other. ⊎_elim (λ w. inl (inr w)) (λ w. inr (inr w)) (c.is_left_or_lower-2.ensures other))
+    (or_cases c.is_left_or_lower.result c.is_left_or_lower-2.result e)

@@ -1,8 +1,8 @@
-use Rattle.std.proofs.Common.{◌≡◌, ◌∙◌, ◌++◌, [], ◌∷◌, ap, rules}
-use Rattle.std.specs.Prelude.{filter}
-use Rattle.snap_pixels.specs.Cuts.{reaches_high, reaches_low}
-use Rattle.snap_pixels.proofs.CutLemmas.{IsCrossed-divided}
-use Rattle.snap_pixels.proofs.PartLemmas.{IsCrossedInOne-push, both_sides}
+use Rattle.std.proofs.Common.{◌≡◌, ◌++◌, [], ◌∷◌, List, Vec, Global, length, map, subst, rules, arith}
+use Rattle.snap_pixels.specs.declared.segment.Segment.{Segment}
+use Rattle.snap_pixels.specs.Strips.{AreStripLists}
+use Rattle.snap_pixels.proofs.PartLemmas.{IsCrossedInOne-push, after_all, after_list, no_list, with_listed}
+use Rattle.snap_pixels.proofs.StripLemmas.{IsCrossed-listed}
 use Rattle.snap_pixels.proofs.parts.+add_parts.Goals as goal
 
 pub returns-in_default : goal.returns-in_default
@@ -10,10 +10,22 @@ returns-in_default t c =
     let e : c.push.new.self.items ≡ c.args.parts.now.items ++ c.args.segments ∷ [] = search rules in
     IsCrossedInOne-push (λ part. part.items) c.args.parts.now.items c.push.new.self.items c.args.segments e
 
+pub loop-list-init : goal.loop-list-init
+loop-list-init t c =
+    let items = λ (list : Vec Segment Global). list.items in
+    let strips = c.in-Some.division.strips in
+    let lists = map items c.in_ok-lists.lists.items in
+    let listed = subst (λ (l : List Segment). AreStripLists strips l lists) c.as_slice-2.ensures.value c.in_ok-lists.ensures in
+    λ p. with_listed (IsCrossed-listed strips c.args.segments.items lists listed p)
+
+pub loop-list-preserved : goal.loop-list-preserved
+loop-list-preserved t c = λ p.
+    let e : c.loop-list.lists.items ≡ c.pop.new.self.items ++ c.in-Some-pop.list ∷ [] = c.in-Some-pop.ensures.items in
+    after_list (c.loop-list.invariant p)
+    (IsCrossedInOne-push (λ list. list.items) c.pop.new.self.items c.loop-list.lists.items c.in-Some-pop.list e p)
+    (c.in_ok-add_parts.ensures p)
+
 pub returns : goal.returns
 returns t c = λ p.
-    let low = c.in_ok-low.ensures ∙ ap (filter (reaches_low c.in-Some.division.cut)) c.as_slice-2.ensures.value in
-    let high = c.in_ok-high.ensures ∙ ap (filter (reaches_high c.in-Some.division.cut)) c.as_slice-3.ensures.value in
-    both_sides
-    (IsCrossed-divided c.in-Some.division.cut c.args.segments.items c.in_ok-low.low.items c.in_ok-high.high.items low high p)
-    (c.in_ok-add_parts.ensures p) (c.in_ok-add_parts-2.ensures p)
+    let none : length c.loop-list.lists.items ≡ 0 = search (rules, arith) in
+    after_all (no_list (λ (list : Vec Segment Global). list.items) c.loop-list.lists.items none p) (c.loop-list.invariant p)
