@@ -217,6 +217,11 @@ Crosses-swapped a b c d p (apart, k, t, t', h, place) =
       record { column = subst (λ x. IsRoundedTo p.x k x) h.column place.column; row = subst (λ y. IsRoundedTo p.y k y) h.row place.row },
     )
 
+pub Crosses-exchanged : (a b c d : Point) (r : Option Point) → ((p : Point) → Crosses c d a b p ↔ (r ≡ Some p))
+    → (p : Point) → Crosses a b c d p ↔ (r ≡ Some p)
+Crosses-exchanged a b c d r h p =
+    ((λ x. (h p).0 (Crosses-swapped a b c d p x)), (λ e. Crosses-swapped c d a b p ((h p).1 e)))
+
 pub cross-itself : (a b : Point) → cross a b a b ≡ pos 0
 cross-itself a b = identity (a.x ∷ a.y ∷ b.x ∷ b.y ∷ []) (cross_of (# 0) (# 1) (# 2) (# 3) (# 0) (# 1) (# 2) (# 3)) (lit (pos 0)) refl
 

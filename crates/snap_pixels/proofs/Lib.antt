@@ -9,4 +9,5 @@ pub mod OrderLemmas
 pub mod PartLemmas
 pub mod RoundLemmas
 pub mod SideLemmas
+pub mod StraightLemmas
 pub mod StripLemmas

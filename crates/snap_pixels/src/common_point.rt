@@ -1,6 +1,7 @@
 //! Common points of two segments.
 ghost use Rattle.std.specs.Prelude.{◌≡◌, ◌↔◌, ℤ, pos, ◌≤ℤ◌, ◌<ℤ◌, IsTrue, Some};
 ghost use Rattle.lay_point.specs.declared.point.Point.{Point};
+ghost use Rattle.snap_pixels.specs.Boxes.{IsBetween};
 ghost use Rattle.snap_pixels.specs.Segments.{Crosses, cross};
 
 use crate::boxes::boxes_are_apart;
@@ -20,6 +21,12 @@ pub fn crossing(first: &Segment, second: &Segment) -> Option<Point>
     if boxes_are_apart(a, b, c, d) {
         return None;
     }
+    if a.y == b.y && c.x == d.x {
+        return level_crossing(first, second);
+    }
+    if a.x == b.x && c.y == d.y {
+        return level_crossing(second, first);
+    }
     let turn = area(a, b, c, d);
     if turn > 0 {
         return left_crossing(a, b, c, d);
@@ -28,6 +35,49 @@ pub fn crossing(first: &Segment, second: &Segment) -> Option<Point>
         return left_crossing(a, b, d, c);
     }
     None
+}
+
+/// Returns the common point of a level segment and an upright one. It is a whole point.
+fn level_crossing(level: &Segment, upright: &Segment) -> Option<Point>
+    requires level { level.now.a.y ≡ level.now.b.y }
+    requires upright { upright.now.a.x ≡ upright.now.b.x }
+    ensures { (p : Point)
+        → Crosses level.now.a level.now.b upright.now.a upright.now.b p ↔ (result ≡ Some p) }
+{
+    let (a, b) = (level.a(), level.b());
+    let (c, d) = (upright.a(), upright.b());
+    if !is_between_columns(c, a, b) {
+        return None;
+    }
+    if !is_between_rows(a, c, d) {
+        return None;
+    }
+    Some(corner(c, a))
+}
+
+/// Returns whether x of a point is that of one of two others, or between these.
+fn is_between_columns(at: Point, one: Point, other: Point) -> bool
+    ensures { IsTrue result ↔ IsBetween at.x one.x other.x }
+{
+    (one.x <= at.x && at.x <= other.x) || (other.x <= at.x && at.x <= one.x)
+}
+
+/// Returns whether y of a point is that of one of two others, or between these.
+fn is_between_rows(at: Point, one: Point, other: Point) -> bool
+    ensures { IsTrue result ↔ IsBetween at.y one.y other.y }
+{
+    (one.y <= at.y && at.y <= other.y) || (other.y <= at.y && at.y <= one.y)
+}
+
+/// Returns the point in the column of the one point and in the row of the other.
+fn corner(column: Point, row: Point) -> Point
+    ensures x { result.x ≡ column.x }
+    ensures y { result.y ≡ row.y }
+{
+    Point {
+        x: column.x,
+        y: row.y,
+    }
 }
 
 /// Returns what `crossing` does, for a segment from `c` to `d` that turns left from the one from `a`

@@ -2,13 +2,16 @@ use Rattle.std.proofs.Common.{sym, ◌∙◌, arith}
 use Rattle.std.proofs.lemmas.Int.{ints}
 use Rattle.snap_pixels.specs.Segments.{AreParallel}
 use Rattle.snap_pixels.proofs.BoxLemmas.{Crosses-apart}
-use Rattle.snap_pixels.proofs.CrossingLemmas.{Crosses-parallel, Crosses-same, Crosses-same_turned, turned_left}
+use Rattle.snap_pixels.proofs.CrossingLemmas.{Crosses-exchanged, Crosses-parallel, Crosses-same, Crosses-same_turned, turned_left}
 use Rattle.snap_pixels.proofs.common_point.crossing.Goals as goal
 
 pub returns-then-boxes_are_apart : goal.returns-then-boxes_are_apart
 returns-then-boxes_are_apart c =
     Crosses-same _ _ _ _ _ _ _ _ _ c.a-a.ensures c.b-b.ensures c.a-c.ensures c.b-d.ensures
     (Crosses-apart _ _ _ _ (c.boxes_are_apart.ensures c.if-boxes_are_apart.true))
+
+pub returns-then-c-d-2 : goal.returns-then-c-d-2
+returns-then-c-d-2 c = Crosses-exchanged _ _ _ _ _ c.level_crossing-then-c-d-2.ensures
 
 pub returns-then-turn-gt0 : goal.returns-then-turn-gt0
 returns-then-turn-gt0 c =
