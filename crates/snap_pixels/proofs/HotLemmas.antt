@@ -5,7 +5,7 @@ use Rattle.lay_point.specs.declared.point.Point.{Point}
 use Rattle.snap_pixels.specs.declared.segment.Segment.{Segment}
 use Rattle.snap_pixels.specs.Hot.{AreHotCentres}
 use Rattle.snap_pixels.specs.Kinds.{AreParallelAll}
-use Rattle.snap_pixels.specs.Marks.{IsCrossed, IsEnd, RunCrosses}
+use Rattle.snap_pixels.specs.Marks.{IsCrossed, HoldsAnEnd, RunCrosses}
 use Rattle.snap_pixels.specs.Order.{ArePointsRising}
 use Rattle.snap_pixels.specs.Segments.{Crosses}
 use Rattle.snap_pixels.proofs.CrossingLemmas.{Crosses-swapped}
@@ -58,7 +58,7 @@ IsCrossed-whole segments rest begun marked none so_far c = (
 
 -- a rising list of the ends and of the crossings
 pub AreHotCentres-gathered : (segments : List Segment) (begun ends all centres : List Point) → begun ≡ []
-    → ((c : Point) → Contains ends c ↔ (Contains begun c ⊎ IsEnd segments c))
+    → ((c : Point) → Contains ends c ↔ (Contains begun c ⊎ HoldsAnEnd segments c))
     → ((c : Point) → Contains all c ↔ (Contains ends c ⊎ IsCrossed segments c))
     → ArePointsRising centres → ((c : Point) → Contains centres c ↔ Contains all c) → AreHotCentres segments centres
 AreHotCentres-gathered segments begun ends all centres none is_end crossed rising members = record {

@@ -7,7 +7,7 @@ use Rattle.std.proofs.lemmas.List.Elements.{Contains-append_left, Contains-push,
 use Rattle.lay_point.specs.declared.point.Point.{Point}
 use Rattle.snap_pixels.specs.declared.segment.Segment.{Segment}
 use Rattle.snap_pixels.specs.Hot.{HoldsEnd}
-use Rattle.snap_pixels.specs.Marks.{CrossesOne, IsEnd, RunCrosses}
+use Rattle.snap_pixels.specs.Marks.{CrossesOne, HoldsAnEnd, RunCrosses}
 use Rattle.snap_pixels.specs.Pixels.{HoldsPlace, IsRoundedTo}
 use Rattle.snap_pixels.specs.Segments.{Crosses}
 
@@ -113,17 +113,17 @@ two_ends s c m n =
     )
 
 -- a step of the loop over the segments
-pub IsEnd-step : (s : Segment) (segments : List Segment) (i : ℕ) (begun old mid new : List Point)
+pub HoldsAnEnd-step : (s : Segment) (segments : List Segment) (i : ℕ) (begun old mid new : List Point)
     → i < length segments → get_or segments i s ≡ s
     → ((c : Point) → Contains mid c ↔ (Contains old c ⊎ (s.a ≡ c)))
     → ((c : Point) → Contains new c ↔ (Contains mid c ⊎ (s.b ≡ c)))
-    → ((c : Point) → Contains old c ↔ (Contains begun c ⊎ IsEnd (take i segments) c))
-    → (c : Point) → Contains new c ↔ (Contains begun c ⊎ IsEnd (take (i + 1) segments) c)
-IsEnd-step s segments i begun old mid new lt at first second so_far c =
+    → ((c : Point) → Contains old c ↔ (Contains begun c ⊎ HoldsAnEnd (take i segments) c))
+    → (c : Point) → Contains new c ↔ (Contains begun c ⊎ HoldsAnEnd (take (i + 1) segments) c)
+HoldsAnEnd-step s segments i begun old mid new lt at first second so_far c =
     joined (two_ends s c (first c) (second c)) (so_far c) (one_more (λ u. HoldsEnd u c) s segments i lt at)
 
-pub IsEnd-whole : (segments : List Segment) (begun marked : List Point) (n : ℕ) → length segments ≤ n
-    → ((c : Point) → Contains marked c ↔ (Contains begun c ⊎ IsEnd (take n segments) c))
-    → (c : Point) → Contains marked c ↔ (Contains begun c ⊎ IsEnd segments c)
-IsEnd-whole segments begun marked n over so_far c =
-    subst (λ l. Contains marked c ↔ (Contains begun c ⊎ IsEnd l c)) (take_all n segments over) (so_far c)
+pub HoldsAnEnd-whole : (segments : List Segment) (begun marked : List Point) (n : ℕ) → length segments ≤ n
+    → ((c : Point) → Contains marked c ↔ (Contains begun c ⊎ HoldsAnEnd (take n segments) c))
+    → (c : Point) → Contains marked c ↔ (Contains begun c ⊎ HoldsAnEnd segments c)
+HoldsAnEnd-whole segments begun marked n over so_far c =
+    subst (λ l. Contains marked c ↔ (Contains begun c ⊎ HoldsAnEnd l c)) (take_all n segments over) (so_far c)

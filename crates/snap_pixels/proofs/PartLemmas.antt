@@ -1,12 +1,14 @@
 -- Lists of segments that are searched apart, and what is found in them.
-use Rattle.std.proofs.Common.{ℕ, ◌+◌, ◌<◌, zero, suc, length, get_or, take, append-nil, append_assoc}
+use Rattle.std.proofs.Common.{ℕ, ◌+◌, ◌<◌, ◌≤◌, zero, suc, length, get_or, take, append-nil, append_assoc}
 use Rattle.std.proofs.Common.{◌≡◌, Result, Ok, ◌⊎◌, inl, inr, ⊎_elim, ◌↔◌, List, [], ◌∷◌, ◌++◌, map, Contains, sym, ap, subst, ◌∙◌, arith}
 use Rattle.std.specs.Prelude.{IfOk, flat_map}
 use Rattle.std.specs.List.{AllZip}
+use Rattle.std.proofs.lemmas.List.{take_all}
 use Rattle.std.proofs.lemmas.List.Elements.{Contains-append_cases, Contains-append_left, Contains-append_right}
 use Rattle.lay_point.specs.declared.point.Point.{Point}
 use Rattle.snap_pixels.specs.declared.segment.Segment.{Segment}
 use Rattle.snap_pixels.specs.Marks.{IsCrossed}
+use Rattle.snap_pixels.specs.Kinds.{AreParallelAll}
 use Rattle.snap_pixels.specs.Parts.{IsCrossedInOne}
 
 IsCrossed-among : (part segments : List Segment) → ((s : Segment) → Contains part s → Contains segments s) → (c : Point)
@@ -30,6 +32,17 @@ module _ {V : Type 0} (items : V → List Segment) where
       → (c : Point) → IsCrossedInOne (map items new) c ↔ (IsCrossedInOne (map items old) c ⊎ IsCrossed (items part) c)
   IsCrossedInOne-push old new part e c =
       subst (λ l. IsCrossedInOne (map items l) c ↔ (IsCrossedInOne (map items old) c ⊎ IsCrossed (items part) c)) (sym e) (pushed old part c)
+
+-- parallel segments don't cross
+pub none_crossed : {P : Type 0} (segments : List Segment) (n : ℕ) → length segments ≤ n → AreParallelAll (take n segments)
+    → (c : Point) → P ↔ (P ⊎ IsCrossed segments c)
+none_crossed segments n over parallel c = ((λ p. inl p), ⊎_elim (λ p. p) (λ h. absurd (none h)))
+  where
+    all : AreParallelAll segments
+    all = subst AreParallelAll (take_all n segments over) parallel
+
+    none : IsCrossed segments c → ⊥
+    none (s, t, m, n, x) = x.0 (all s t m n)
 
 -- before the parts of any list
 pub with_listed : {P C L : Type 0} → (C ↔ L) → (P ⊎ C) ↔ (P ⊎ L)

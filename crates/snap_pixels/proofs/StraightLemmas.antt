@@ -1,17 +1,17 @@
 -- A level segment from a to b and an upright one from c to d have a common point just where x of the second is between the ends
 -- of the first, and y of the first between those of the second. It is a whole point.
-use Rattle.std.proofs.Common.{◌≡◌, ◌≢◌, ◌⊎◌, inl, inr, ⊎_elim, ◌↔◌, Some, None, List, [], ◌∷◌, ℤ, pos, neg_ℤ, ◌+ℤ◌, ◌-ℤ◌, ◌*ℤ◌, ◌≤ℤ◌, ◌<ℤ◌}
+use Rattle.std.proofs.Common.{◌≡◌, ◌≢◌, inl, inr, ⊎_elim, ◌↔◌, Some, None, [], ◌∷◌, ℤ, pos, ◌+ℤ◌, ◌-ℤ◌, ◌*ℤ◌, ◌≤ℤ◌, ◌<ℤ◌}
 use Rattle.std.proofs.Common.{refl, sym, subst, ap, ◌∙◌, arith}
 use Rattle.lay_point.proofs.Polynomials.{#, lit, ◌⊕◌, ◌⊖◌, ◌⊗◌, identity}
 use Rattle.lay_point.proofs.Signs.{linear, below_or_not, nonnegative_product, times_le}
 use Rattle.lay_point.specs.declared.point.Point.{Point}
-use Rattle.snap_pixels.specs.Boxes.{ArePairsApart, IsBetween}
-use Rattle.snap_pixels.specs.Pixels.{HoldsPlace, IsRoundedTo}
-use Rattle.snap_pixels.specs.Segments.{AreParallel, Crosses, IsCommon, IsFraction, along, cross}
+use Rattle.snap_pixels.specs.Boxes.{ArePairsApart, IsWithinEnds}
+use Rattle.snap_pixels.specs.Pixels.{IsRoundedTo}
+use Rattle.snap_pixels.specs.Segments.{AreParallel, Crosses, along, cross}
 use Rattle.snap_pixels.proofs.BoxLemmas.{Crosses-apart}
 use Rattle.snap_pixels.proofs.RoundLemmas.{IsRoundedTo-one}
 
-not_between : (m a b : ℤ) → (IsBetween m a b → ⊥) → ArePairsApart a b m m
+not_between : (m a b : ℤ) → (IsWithinEnds m a b → ⊥) → ArePairsApart a b m m
 not_between m a b out = ⊎_elim
     (λ (over : m <ℤ a). ⊎_elim
     (λ (over' : m <ℤ b). inr (over, over', over, over'))
@@ -31,7 +31,7 @@ apart_turned a b m (inl h) = inr h
 apart_turned a b m (inr h) = inl h
 
 -- how far m is on the way, times the way
-on_way : (m a b : ℤ) → IsBetween m a b
+on_way : (m a b : ℤ) → IsWithinEnds m a b
     → (pos 0 ≤ℤ ((m -ℤ a) *ℤ (b -ℤ a))) × (((m -ℤ a) *ℤ (b -ℤ a)) ≤ℤ ((b -ℤ a) *ℤ (b -ℤ a)))
 on_way m a b (inl h) =
     let p = nonnegative_product (m -ℤ a) (b -ℤ a) (omega (arith, linear, h.0)) (omega (arith, linear, h.0, h.1)) in
@@ -83,7 +83,7 @@ module _ (a b c d : Point) (level : a.y ≡ b.y) (upright : c.x ≡ d.x) where
       let row = IsRoundedTo-one a.y p.y k (a.y *ℤ k) one (whole_rounded a.y k one) (subst (λ z. IsRoundedTo p.y k z) at_y place.row) in
       λ i. record { x = column i; y = row i }
 
-  module _ (differ : a ≢ b) (differ' : c ≢ d) (in_x : IsBetween c.x a.x b.x) (in_y : IsBetween a.y c.y d.y) where
+  module _ (differ : a ≢ b) (differ' : c ≢ d) (in_x : IsWithinEnds c.x a.x b.x) (in_y : IsWithinEnds a.y c.y d.y) where
     abbrev wide : ℤ
     wide = (b.x -ℤ a.x) *ℤ (b.x -ℤ a.x)
 
@@ -168,10 +168,10 @@ module _ (a b c d : Point) (level : a.y ≡ b.y) (upright : c.x ≡ d.x) where
           (λ e. let same : met ≡ p = sym is ∙ cc in subst (λ r. Crosses a b c d r) same crossed),
         )
 
-  pub Crosses-missed_x : (IsBetween c.x a.x b.x → ⊥) → (p : Point) → Crosses a b c d p ↔ (None ≡ Some p)
+  pub Crosses-missed_x : (IsWithinEnds c.x a.x b.x → ⊥) → (p : Point) → Crosses a b c d p ↔ (None ≡ Some p)
   Crosses-missed_x out =
       Crosses-apart a b c d (inl (subst (λ z. ArePairsApart a.x b.x c.x z) upright (not_between c.x a.x b.x out)))
 
-  pub Crosses-missed_y : (IsBetween a.y c.y d.y → ⊥) → (p : Point) → Crosses a b c d p ↔ (None ≡ Some p)
+  pub Crosses-missed_y : (IsWithinEnds a.y c.y d.y → ⊥) → (p : Point) → Crosses a b c d p ↔ (None ≡ Some p)
   Crosses-missed_y out =
       Crosses-apart a b c d (inr (subst (λ z. ArePairsApart a.y z c.y d.y) level (apart_turned c.y d.y a.y (not_between a.y c.y d.y out))))

@@ -19,7 +19,7 @@ use Rattle.snap_pixels.specs.declared.strips.Strips.{Strips}
 use Rattle.snap_pixels.specs.Marks.{IsCrossed}
 use Rattle.snap_pixels.specs.Parts.{IsCrossedInOne}
 use Rattle.snap_pixels.specs.Segments.{Crosses, along}
-use Rattle.snap_pixels.specs.Strips.{AreStripLists, IsInStrip, list_of, reach, strip_number, strip_of_a, strip_of_b}
+use Rattle.snap_pixels.specs.Strips.{AreStripLists, IsInStrip, strip_list, reach, strip_number, strip_of_a, strip_of_b}
 use Rattle.snap_pixels.proofs.BoxLemmas.{no_common}
 
 -- ---- how far places are
@@ -108,13 +108,13 @@ module _ (s : Strips) (t u : Segment) (c : Point) (x : Crosses t.a t.b u.a u.b c
 
 -- ---- lists of segments
 -- what two segments of the list of this number cross, is crossed in one
-crossed_in_one : (lists : List (List Segment)) (k : ℕ) (c : Point) → IsCrossed (list_of lists k) c → IsCrossedInOne lists c
+crossed_in_one : (lists : List (List Segment)) (k : ℕ) (c : Point) → IsCrossed (strip_list lists k) c → IsCrossedInOne lists c
 crossed_in_one [] k c (t, u, m, n, x) = absurd (omega (arith, m.1))
 crossed_in_one (l ∷ ls) zero c h = inl h
 crossed_in_one (l ∷ ls) (suc k) c h = inr (crossed_in_one ls k c h)
 
 in_one_crossed : (segments : List Segment) (lists : List (List Segment))
-    → ((k : ℕ) (t : Segment) → Contains (list_of lists k) t → Contains segments t)
+    → ((k : ℕ) (t : Segment) → Contains (strip_list lists k) t → Contains segments t)
     → (c : Point) → IsCrossedInOne lists c → IsCrossed segments c
 in_one_crossed segments [] own c h = absurd h
 in_one_crossed segments (l ∷ ls) own c (inl (t, u, m, n, x)) = (t, u, own 0 t m, own 0 u n, x)
@@ -134,59 +134,51 @@ IsCrossed-listed s segments lists h c = (
 -- the lists old became new: the segment is in those of the numbers from first on and before n
 pub record ArePut (old new : List (List Segment)) (s : Segment) (first n : ℕ) : Type 0 where
   pub len : length new ≡ length old
-  pub own : (k : ℕ) (t : Segment) → Contains (list_of new k) t → Contains (list_of old k) t ⊎ (s ≡ t)
-  pub kept : (k : ℕ) (t : Segment) → Contains (list_of old k) t → Contains (list_of new k) t
-  pub added : (k : ℕ) → first ≤ k → k < n → Contains (list_of new k) s
-
-pub put_begun : (old : List (List Segment)) (s : Segment) (first : ℕ) → ArePut old old s first first
-put_begun old s first = record {
-  len = refl;
-  own = λ k t m. inl m;
-  kept = λ k t m. m;
-  added = λ k le lt. absurd (omega arith);
-}
+  pub own : (k : ℕ) (t : Segment) → Contains (strip_list new k) t → Contains (strip_list old k) t ⊎ (s ≡ t)
+  pub kept : (k : ℕ) (t : Segment) → Contains (strip_list old k) t → Contains (strip_list new k) t
+  pub added : (k : ℕ) → first ≤ k → k < n → Contains (strip_list new k) s
 
 pub put_more : (old mid new : List (List Segment)) (s : Segment) (first n : ℕ) → ArePut old mid s first n → n < length mid
-    → new ≡ slice_set mid n (list_of mid n ++ s ∷ []) → ArePut old new s first (n + 1)
+    → new ≡ slice_set mid n (strip_list mid n ++ s ∷ []) → ArePut old new s first (n + 1)
 put_more old mid new s first n h lt e = record {
   len = ap length e ∙ length-set mid n _ ∙ h.len;
   own = λ k t m. ⊎_elim
       (λ (same : k ≡ n). ⊎_elim
-      (λ (was : Contains (list_of mid n) t). h.own k t (subst (λ j. Contains (list_of mid j) t) (sym same) was))
+      (λ (was : Contains (strip_list mid n) t). h.own k t (subst (λ j. Contains (strip_list mid j) t) (sym same) was))
       (λ (is : s ≡ t). inr is)
-      (Contains-push_cases (list_of mid n) s t (subst (λ l. Contains l t) (at_n k same) m)))
+      (Contains-push_cases (strip_list mid n) s t (subst (λ l. Contains l t) (at_n k same) m)))
       (λ (other : k ≢ n). h.own k t (subst (λ l. Contains l t) (at_other k other) m))
       (cases_eq k n);
   kept = λ k t m. grown k t (h.kept k t m);
   added = λ k le less. ⊎_elim
-      (λ (same : k ≡ n). subst (λ l. Contains l s) (sym (at_n k same)) (Contains-push (list_of mid n) s))
+      (λ (same : k ≡ n). subst (λ l. Contains l s) (sym (at_n k same)) (Contains-push (strip_list mid n) s))
       (λ (other : k ≢ n). grown k s (h.added k le (omega arith)))
       (cases_eq k n);
 }
   where
-    at_n : (k : ℕ) → k ≡ n → list_of new k ≡ list_of mid n ++ s ∷ []
-    at_n k same = ap (λ l. list_of l k) e ∙ ap (λ j. list_of (slice_set mid n (list_of mid n ++ s ∷ [])) j) same
-        ∙ get_or-set_same mid n (list_of mid n ++ s ∷ []) [] lt
+    at_n : (k : ℕ) → k ≡ n → strip_list new k ≡ strip_list mid n ++ s ∷ []
+    at_n k same = ap (λ l. strip_list l k) e ∙ ap (λ j. strip_list (slice_set mid n (strip_list mid n ++ s ∷ [])) j) same
+        ∙ get_or-set_same mid n (strip_list mid n ++ s ∷ []) [] lt
 
-    at_other : (k : ℕ) → k ≢ n → list_of new k ≡ list_of mid k
-    at_other k other = ap (λ l. list_of l k) e ∙ get_or-set_other mid n k (list_of mid n ++ s ∷ []) [] other
+    at_other : (k : ℕ) → k ≢ n → strip_list new k ≡ strip_list mid k
+    at_other k other = ap (λ l. strip_list l k) e ∙ get_or-set_other mid n k (strip_list mid n ++ s ∷ []) [] other
 
-    grown : (k : ℕ) (t : Segment) → Contains (list_of mid k) t → Contains (list_of new k) t
+    grown : (k : ℕ) (t : Segment) → Contains (strip_list mid k) t → Contains (strip_list new k) t
     grown k t m = ⊎_elim
         (λ (same : k ≡ n). subst (λ l. Contains l t) (sym (at_n k same))
-        (Contains-append_left (list_of mid n) (s ∷ []) t (subst (λ j. Contains (list_of mid j) t) same m)))
+        (Contains-append_left (strip_list mid n) (s ∷ []) t (subst (λ j. Contains (strip_list mid j) t) same m)))
         (λ (other : k ≢ n). subst (λ l. Contains l t) (sym (at_other k other)) m)
         (cases_eq k n)
 
 -- ---- all segments, one by one
 -- those so far are in the lists of their strips
 pub record AreListed (s : Strips) (segments : List Segment) (n : ℕ) (lists : List (List Segment)) : Type 0 where
-  pub own : (k : ℕ) (t : Segment) → Contains (list_of lists k) t → Contains segments t
-  pub all : (k : ℕ) (t : Segment) → Contains (take n segments) t → IsInStrip s t k → Contains (list_of lists k) t
+  pub own : (k : ℕ) (t : Segment) → Contains (strip_list lists k) t → Contains segments t
+  pub all : (k : ℕ) (t : Segment) → Contains (take n segments) t → IsInStrip s t k → Contains (strip_list lists k) t
   pub room : s.last < length lists
 
 pub listed_begun : (s : Strips) (segments : List Segment) (lists : List (List Segment)) → s.last < length lists
-    → ((k : ℕ) → length (list_of lists k) ≡ 0) → AreListed s segments 0 lists
+    → ((k : ℕ) → length (strip_list lists k) ≡ 0) → AreListed s segments 0 lists
 listed_begun s segments lists room none = record {
   own = λ k t m. let e = none k in absurd (omega (arith, m.1));
   all = λ k t m. absurd (omega (arith, m.1));
@@ -196,9 +188,9 @@ listed_begun s segments lists room none = record {
 pub listed_more : (s : Strips) (segments : List Segment) (n : ℕ) (old new : List (List Segment)) (t : Segment)
     → AreListed s segments n old → n < length segments → t ≡ get_or segments n t
     → length new ≡ length old
-    → ((k : ℕ) (u : Segment) → Contains (list_of new k) u → Contains (list_of old k) u ⊎ (t ≡ u))
-    → ((k : ℕ) (u : Segment) → Contains (list_of old k) u → Contains (list_of new k) u)
-    → ((k : ℕ) → min (strip_of_a s t) (strip_of_b s t) ≤ k → k ≤ max (strip_of_a s t) (strip_of_b s t) → Contains (list_of new k) t)
+    → ((k : ℕ) (u : Segment) → Contains (strip_list new k) u → Contains (strip_list old k) u ⊎ (t ≡ u))
+    → ((k : ℕ) (u : Segment) → Contains (strip_list old k) u → Contains (strip_list new k) u)
+    → ((k : ℕ) → min (strip_of_a s t) (strip_of_b s t) ≤ k → k ≤ max (strip_of_a s t) (strip_of_b s t) → Contains (strip_list new k) t)
     → AreListed s segments (n + 1) new
 listed_more s segments n old new t h lt at len own kept added = record {
   own = λ k u m. ⊎_elim
@@ -207,7 +199,7 @@ listed_more s segments n old new t h lt at len own kept added = record {
       (own k u m);
   all = λ k u m within. ⊎_elim
       (λ (was : Contains (take n segments) u). kept k u (h.all k u was within))
-      (λ (is : t ≡ u). subst (λ v. IsInStrip s v k → Contains (list_of new k) v) is (λ w. added k w.0 w.1) within)
+      (λ (is : t ≡ u). subst (λ v. IsInStrip s v k → Contains (strip_list new k) v) is (λ w. added k w.0 w.1) within)
       (Contains-push_cases (take n segments) t u (subst (λ l. Contains l u) more m));
   room = omega (arith, h.room);
 }

@@ -9,5 +9,5 @@ abbrev pub ArePairsApart : ℤ → ℤ → ℤ → ℤ → Type 0
 ArePairsApart a b c d = IsPairBelow a b c d ⊎ IsPairBelow c d a b
 
 -- m is one of a and b, or between them
-abbrev pub IsBetween : ℤ → ℤ → ℤ → Type 0
-IsBetween m a b = ((a ≤ℤ m) × (m ≤ℤ b)) ⊎ ((b ≤ℤ m) × (m ≤ℤ a))
+abbrev pub IsWithinEnds : ℤ → ℤ → ℤ → Type 0
+IsWithinEnds m a b = ((a ≤ℤ m) × (m ≤ℤ b)) ⊎ ((b ≤ℤ m) × (m ≤ℤ a))

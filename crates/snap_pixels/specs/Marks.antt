@@ -18,5 +18,5 @@ abbrev pub IsCrossed : List Segment → Point → Type 0
 IsCrossed segments c = (s : Segment) × (t : Segment) × Contains segments s × Contains segments t × Crosses s.a s.b t.a t.b c
 
 -- it holds an end of one of the segments
-abbrev pub IsEnd : List Segment → Point → Type 0
-IsEnd segments c = (s : Segment) × Contains segments s × HoldsEnd s c
+abbrev pub HoldsAnEnd : List Segment → Point → Type 0
+HoldsAnEnd segments c = (s : Segment) × Contains segments s × HoldsEnd s c

@@ -30,10 +30,10 @@ abbrev pub IsInStrip : Strips → Segment → ℕ → Type 0
 IsInStrip s t k = (min (strip_of_a s t) (strip_of_b s t) ≤ k) × (k ≤ max (strip_of_a s t) (strip_of_b s t))
 
 -- the list of this number
-abbrev pub list_of : List (List Segment) → ℕ → List Segment
-list_of lists k = slice_index_or lists k []
+abbrev pub strip_list : List (List Segment) → ℕ → List Segment
+strip_list lists k = slice_index_or lists k []
 
 -- each list has some of the segments, and all those that are in its strip
 pub record AreStripLists (s : Strips) (segments : List Segment) (lists : List (List Segment)) : Type 0 where
-  pub own : (k : ℕ) (t : Segment) → Contains (list_of lists k) t → Contains segments t
-  pub all : (k : ℕ) (t : Segment) → Contains segments t → IsInStrip s t k → Contains (list_of lists k) t
+  pub own : (k : ℕ) (t : Segment) → Contains (strip_list lists k) t → Contains segments t
+  pub all : (k : ℕ) (t : Segment) → Contains segments t → IsInStrip s t k → Contains (strip_list lists k) t

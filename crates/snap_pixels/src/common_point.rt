@@ -1,7 +1,7 @@
 //! Common points of two segments.
 ghost use Rattle.std.specs.Prelude.{◌≡◌, ◌↔◌, ℤ, pos, ◌≤ℤ◌, ◌<ℤ◌, IsTrue, Some};
 ghost use Rattle.lay_point.specs.declared.point.Point.{Point};
-ghost use Rattle.snap_pixels.specs.Boxes.{IsBetween};
+ghost use Rattle.snap_pixels.specs.Boxes.{IsWithinEnds};
 ghost use Rattle.snap_pixels.specs.Segments.{Crosses, cross};
 
 use crate::boxes::boxes_are_apart;
@@ -57,14 +57,14 @@ fn level_crossing(level: &Segment, upright: &Segment) -> Option<Point>
 
 /// Returns whether x of a point is that of one of two others, or between these.
 fn is_between_columns(at: Point, one: Point, other: Point) -> bool
-    ensures { IsTrue result ↔ IsBetween at.x one.x other.x }
+    ensures { IsTrue result ↔ IsWithinEnds at.x one.x other.x }
 {
     (one.x <= at.x && at.x <= other.x) || (other.x <= at.x && at.x <= one.x)
 }
 
 /// Returns whether y of a point is that of one of two others, or between these.
 fn is_between_rows(at: Point, one: Point, other: Point) -> bool
-    ensures { IsTrue result ↔ IsBetween at.y one.y other.y }
+    ensures { IsTrue result ↔ IsWithinEnds at.y one.y other.y }
 {
     (one.y <= at.y && at.y <= other.y) || (other.y <= at.y && at.y <= one.y)
 }

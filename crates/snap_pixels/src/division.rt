@@ -11,11 +11,12 @@ use std::alloc::{AllocError, Global};
 const CROWD: usize = 8;
 
 /// A segment in a list costs as much as so many pairs, counted twice.
-const LISTING: usize = 8;
+const LISTING: usize = 6;
 
-/// Where a list's segments may be, and how many more times all of them together may be listed.
+/// A list's counts, where its segments may cross, and how many more times all of them together may be listed.
 #[derive(Clone, Copy, Debug)]
 pub(crate) struct Room {
+    pub counts: Counts,
     pub cell: Cell,
     pub spare: usize,
 }
@@ -26,12 +27,15 @@ pub(crate) struct Division {
     pub strips: Strips,
     pub counts: Vec<Counts>,
     room: Room,
+    /// The pairs that are asked in all strips, counted twice.
     pairs: usize,
+    /// How many segments are listed in the strips in which pairs are asked.
+    listed: usize,
 }
 
 impl Division {
-    /// Returns a division of the segments in which fewer pairs are asked, or `None`. They have these counts, and are
-    /// in the order of kinds. Columns or rows are taken, where these serve, whichever there are more of; otherwise
+    /// Returns a division of the segments in which fewer pairs are asked, or `None`. They have this room, and are in
+    /// the order of kinds. Columns or rows are taken, where these serve, whichever there are more of; otherwise
     /// strips along the slanted segment in the middle of the list. Parallel segments, which columns and rows hardly
     /// tell apart, are told apart so.
     ///
@@ -41,22 +45,32 @@ impl Division {
     pub fn of(
         alloc: Global,
         segments: &[Segment],
-        whole: Counts,
+        mut room: Room,
+    ) -> Result<Option<Division>, AllocError> {
+        room.cell = room.cell.narrowed(segments, room.counts);
+        let (first, second) = columns_and_rows(room.cell, segments, room.spare);
+        for strips in [first, second] {
+            let division = Division::serving(alloc, strips, segments, room)?;
+            if division.is_some() {
+                return Ok(division);
+            }
+        }
+        Division::serving(alloc, slanted(segments, room), segments, room)
+    }
+
+    /// Returns the division of the segments by the strips, if there are any and it serves.
+    fn serving(
+        alloc: Global,
+        strips: Option<Strips>,
+        segments: &[Segment],
         room: Room,
     ) -> Result<Option<Division>, AllocError> {
-        let cell = room.cell.narrowed(segments, whole);
-        let (first, second) = columns_and_rows(cell, segments, room.spare);
-        let room = Room {
-            cell,
-            spare: room.spare,
+        let Some(strips) = strips else {
+            return Ok(None);
         };
-        for strips in [first, second, slanted(segments, whole, room.spare)] {
-            if let Some(strips) = strips {
-                let division = Division::by(strips, strips.counts(alloc, segments)?, room);
-                if division.serves(whole) {
-                    return Ok(Some(division));
-                }
-            }
+        let division = Division::by(strips, strips.counts(alloc, segments)?, room);
+        if division.serves() {
+            return Ok(Some(division));
         }
         Ok(None)
     }
@@ -64,51 +78,51 @@ impl Division {
     /// Returns the division by the strips, in which the segments have these counts.
     fn by(strips: Strips, counts: Vec<Counts>, room: Room) -> Division {
         let mut pairs: usize = 0;
+        let mut listed: usize = 0;
         for count in counts.as_slice() {
-            pairs = pairs.saturating_add(count.pairs());
+            if count.pairs() > 0 {
+                pairs = pairs.saturating_add(count.pairs());
+                listed = listed.saturating_add(count.all());
+            }
         }
         Division {
             strips,
             counts,
             room,
             pairs,
+            listed,
         }
-    }
-
-    /// Returns how many segments the lists have.
-    fn listed(&self) -> usize {
-        let mut listed: usize = 0;
-        for count in self.counts.as_slice() {
-            listed = listed.saturating_add(count.all());
-        }
-        listed
     }
 
     /// Returns whether the division is allowed, and saves more than it costs.
-    fn serves(&self, whole: Counts) -> bool {
-        let listed = self.listed();
-        let cost = self.pairs.saturating_add(listed.saturating_mul(LISTING));
-        listed.saturating_sub(whole.all()) <= self.room.spare && cost < whole.pairs() / 4 * 3
+    fn serves(&self) -> bool {
+        let whole = self.room.counts;
+        let cost = self
+            .pairs
+            .saturating_add(self.listed.saturating_mul(LISTING));
+        self.repeats() <= self.room.spare && cost < whole.pairs() / 8 * 7
     }
 
     /// Returns the room of the list of this number: its strip, and the share of what is spare that its pairs have.
     pub fn room(&self, number: usize) -> Room {
-        let whole: usize = self.room.spare;
-        let mut pairs: usize = 0;
-        if let Some(count) = self.counts.get(number) {
-            pairs = count.pairs();
-        }
+        let counts = self.counts.get(number).copied().unwrap_or(Counts::none());
+        let spare = self.room.spare.saturating_sub(self.repeats());
         Room {
+            counts,
             cell: self.room.cell.part(self.strips, number),
-            spare: share(whole, pairs, self.pairs),
+            spare: share(spare, counts.pairs(), self.pairs),
         }
+    }
+
+    /// Returns how many more segments are listed than there were.
+    fn repeats(&self) -> usize {
+        self.listed.saturating_sub(self.room.counts.all())
     }
 }
 
 /// Returns the share of what is spare that so many of the pairs have.
 fn share(spare: usize, part: usize, whole: usize) -> usize {
-    let times = (spare as u128).saturating_mul(part as u128);
-    usize::try_from(times / (whole.max(1) as u128)).unwrap_or(spare)
+    spare.saturating_mul(part) / whole.max(1)
 }
 
 /// Returns columns and rows of the cell, as wide as the segments are long, or wider, so that there are cells of
@@ -141,9 +155,10 @@ fn columns_and_rows(
 }
 
 /// Returns strips along the slanted segment in the middle of the list, or `None` where there is none.
-fn slanted(segments: &[Segment], whole: Counts, spare: usize) -> Option<Strips> {
-    let measure = Measure::Slanted(Direction::across(whole.middle_slanted(segments)?));
-    let mut strip = Lengths::along(measure, segments).fitted(spare);
+fn slanted(segments: &[Segment], room: Room) -> Option<Strips> {
+    let middle = room.counts.middle_slanted(segments)?;
+    let measure = Measure::Slanted(Direction::across(middle));
+    let mut strip = Lengths::along(measure, segments).fitted(room.spare);
     for _turn in 0..64 {
         if strip.number() <= segments.len() / CROWD {
             break;

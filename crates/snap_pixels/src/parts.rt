@@ -7,11 +7,15 @@ ghost use Rattle.snap_pixels.specs.Parts.{IsCrossedInOne};
 use crate::cell::Cell;
 use crate::counts::Counts;
 use crate::division::{Division, Room};
+use crate::kind::run_length;
 use crate::segment::Segment;
 use std::alloc::{AllocError, Global};
 
 /// Lists in which no more pairs are asked aren't divided. A pair counts twice.
 const FEW: usize = 400;
+
+/// Nor those in which no more pairs are asked for a segment.
+const SMALL: usize = 22;
 
 /// Lists are divided at most so many times.
 const DEPTH: usize = 48;
@@ -28,6 +32,7 @@ pub(crate) fn parts_of(alloc: Global, segments: &[Segment]) -> Result<Vec<Vec<Se
     let mut parts = Vec::new(alloc);
     let all = Vec::from_slice(alloc, segments)?;
     let room = Room {
+        counts: Counts::of(segments),
         cell: Cell::round(segments),
         spare: segments.len().saturating_mul(REPEATS),
     };
@@ -47,8 +52,7 @@ fn add_parts(
         ↔ (IsCrossedInOne (map (λ part. part.items) parts.old.items) c ⊎ IsCrossed segments.items c)) }
 {
     let Some(division) = useful_division(alloc, segments.as_slice(), room, depth)? else {
-        parts.push(segments)?;
-        return Ok(());
+        return add_part(parts, segments);
     };
     let counts = division.counts.as_slice();
     let mut lists = division.strips.lists(alloc, counts, segments.as_slice())?;
@@ -56,6 +60,18 @@ fn add_parts(
         let room = division.room(lists.len());
         add_parts(alloc, parts, list, room, depth - 1)?;
     }
+    Ok(())
+}
+
+/// Adds a part, unless all its segments are parallel.
+fn add_part(parts: &mut Vec<Vec<Segment>>, segments: Vec<Segment>) -> Result<(), AllocError>
+    ensures { OnOk result ((c : Point) → IsCrossedInOne (map (λ part. part.items) parts.new.items) c
+        ↔ (IsCrossedInOne (map (λ part. part.items) parts.old.items) c ⊎ IsCrossed segments.items c)) }
+{
+    if run_length(segments.as_slice()) >= segments.len() {
+        return Ok(());
+    }
+    parts.push(segments)?;
     Ok(())
 }
 
@@ -68,10 +84,10 @@ fn useful_division(
 ) -> Result<Option<Division>, AllocError>
     ensures { IfOk result (λ division. IfSome division (λ _. 0 < depth)) }
 {
-    let whole = Counts::of(segments);
-    if depth == 0 || whole.pairs() <= FEW {
+    let few = segments.len().saturating_mul(SMALL).max(FEW);
+    if depth == 0 || room.counts.pairs() <= few {
         return Ok(None);
     }
-    let division = Division::of(alloc, segments, whole, room)?;
+    let division = Division::of(alloc, segments, room)?;
     Ok(division)
 }

@@ -2,7 +2,7 @@
 ghost use Rattle.std.specs.Prelude.{◌≡◌, ◌↔◌, ◌⊎◌, OnOk, IfOk, Contains, flat_map};
 ghost use Rattle.lay_point.specs.declared.point.Point.{Point};
 ghost use Rattle.snap_pixels.specs.Hot.{AreHotCentres};
-ghost use Rattle.snap_pixels.specs.Marks.{CrossesOne, IsCrossed, IsEnd, RunCrosses};
+ghost use Rattle.snap_pixels.specs.Marks.{CrossesOne, IsCrossed, HoldsAnEnd, RunCrosses};
 
 use crate::common_point::crossing;
 use crate::gathered::Gathered;
@@ -30,9 +30,9 @@ use std::thread::Threads;
 /// Equal segments are asked once, and two along the same axis aren't asked about each other, since they are
 /// parallel. On segments that are short beside the whole, and on long ones that are parallel, the time is that of
 /// a sort of the segments and the crossings. Of nested boxes a small part of the pairs is asked, which grows
-/// faster than their number. The pairs asked are at most about twice those of distinct segments that aren't along
-/// the same axis. The lists hold at most nine times the segments, and a crossing once for each list that finds
-/// it, until these are joined. The ends are listed once.
+/// faster than their number. Never are more pairs asked than those of distinct segments that aren't along the
+/// same axis. The lists hold at most nine times the segments, and a crossing once for each list that finds it,
+/// until these are joined. The ends are listed once.
 pub fn hot(
     rt: &(impl Threads + Sync),
     alloc: Global,
@@ -86,7 +86,7 @@ pub fn hot_plain(alloc: Global, segments: &[Segment]) -> Result<HotSet, NoMemory
 /// Adds the ends of the segments.
 fn add_ends(centres: &mut Gathered, segments: &[Segment]) -> Result<(), AllocError>
     ensures { OnOk result ((c : Point)
-        → Contains centres.new c ↔ (Contains centres.old c ⊎ IsEnd segments.now c)) }
+        → Contains centres.new c ↔ (Contains centres.old c ⊎ HoldsAnEnd segments.now c)) }
 {
     for segment in segments {
         centres.push(segment.a())?;

@@ -18,7 +18,7 @@ ghost use Rattle.std.specs.Prelude.{
 ghost use Rattle.snap_pixels.specs.declared.segment.Segment.{Segment};
 ghost use Rattle.snap_pixels.specs.Strips.{
   AreStripLists,
-  list_of,
+  strip_list,
   strip_number,
   strip_of_a,
   strip_of_b,
@@ -130,7 +130,7 @@ fn empty_lists(
     last: usize,
 ) -> Result<Vec<Vec<Segment>>, AllocError>
     ensures len { IfOk result (λ lists. last < length lists.items) }
-    ensures none { IfOk result (λ lists. (k : ℕ) → length (list_of (map (λ list. list.items) lists.items) k) ≡ 0) }
+    ensures none { IfOk result (λ lists. (k : ℕ) → length (strip_list (map (λ list. list.items) lists.items) k) ≡ 0) }
 {
     let mut lists = Vec::with_capacity(alloc, counts.len())?;
     lists.push(empty_list(alloc, counts, 0)?)?;
@@ -159,13 +159,13 @@ fn put(
     requires { last < length lists.old.items }
     ensures len { OnOk result (length lists.new.items ≡ length lists.old.items) }
     ensures own { OnOk result ((k : ℕ) (t : Segment)
-        → Contains (list_of (map (λ list. list.items) lists.new.items) k) t
-        → Contains (list_of (map (λ list. list.items) lists.old.items) k) t ⊎ (segment.now ≡ t)) }
+        → Contains (strip_list (map (λ list. list.items) lists.new.items) k) t
+        → Contains (strip_list (map (λ list. list.items) lists.old.items) k) t ⊎ (segment.now ≡ t)) }
     ensures kept { OnOk result ((k : ℕ) (t : Segment)
-        → Contains (list_of (map (λ list. list.items) lists.old.items) k) t
-        → Contains (list_of (map (λ list. list.items) lists.new.items) k) t) }
+        → Contains (strip_list (map (λ list. list.items) lists.old.items) k) t
+        → Contains (strip_list (map (λ list. list.items) lists.new.items) k) t) }
     ensures added { OnOk result ((k : ℕ) → first ≤ k → k ≤ last
-        → Contains (list_of (map (λ list. list.items) lists.new.items) k) segment.now) }
+        → Contains (strip_list (map (λ list. list.items) lists.new.items) k) segment.now) }
 {
     for number in first..last + 1 {
         lists[number].push(*segment)?;

@@ -5,11 +5,6 @@ use Rattle.snap_pixels.proofs.PartLemmas.{IsCrossedInOne-push, after_all, after_
 use Rattle.snap_pixels.proofs.StripLemmas.{IsCrossed-listed}
 use Rattle.snap_pixels.proofs.parts.+add_parts.Goals as goal
 
-pub returns-in_default : goal.returns-in_default
-returns-in_default t c =
-    let e : c.push.new.self.items ≡ c.args.parts.now.items ++ c.args.segments ∷ [] = search rules in
-    IsCrossedInOne-push (λ part. part.items) c.args.parts.now.items c.push.new.self.items c.args.segments e
-
 pub loop-list-init : goal.loop-list-init
 loop-list-init t c =
     let items = λ (list : Vec Segment Global). list.items in

@@ -2,7 +2,7 @@ use Rattle.std.proofs.Common.{◌≡◌, ◌<◌, ◌∷◌, [], ◌++◌, List,
 use Rattle.std.specs.Prelude.{slice_set}
 use Rattle.std.proofs.lemmas.List.{get_or-map, length-map, map-set}
 use Rattle.snap_pixels.specs.declared.segment.Segment.{Segment}
-use Rattle.snap_pixels.specs.Strips.{list_of}
+use Rattle.snap_pixels.specs.Strips.{strip_list}
 use Rattle.snap_pixels.proofs.StripLemmas.{put_more}
 use Rattle.snap_pixels.proofs.strips.put.Goals as goal
 
@@ -14,7 +14,7 @@ loop-number-preserved c =
     let now = map items lists in
     let within : n < length lists = search (rules, arith) in
     let old = c.index_mut.result.now in
-    let same : old.items ≡ list_of now n =
+    let same : old.items ≡ strip_list now n =
     ap items c.index_mut.ensures.value ∙ sym (get_or-map items lists n old [] within) in
     let pushed : c.push.new.self.items ≡ old.items ++ c.args.segment.now ∷ [] = c.in_ok-push.ensures.items in
     put_more (map items c.args.lists.now.items) now (map items (slice_set lists n c.push.new.self)) c.args.segment.now c.args.first n
