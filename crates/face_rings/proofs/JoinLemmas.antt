@@ -1,20 +1,19 @@
 -- How joining goes on: by pairs, by lists, and by the two sides of a line.
 use Rattle.std.proofs.Common.{◌≡◌, ◌≢◌, ◌⊎◌, inl, inr, ℕ, ◌+◌, ◌<◌, ◌≤◌, Bool, true, false, ◌||◌, List, [], ◌∷◌, ◌++◌, length, take}
-use Rattle.std.proofs.Common.{get_or, ℤ, ◌<ℤ◌, Result, Ok, Err}
-use Rattle.std.proofs.Common.{pos, refl, sym, ap, subst, ◌∙◌, ⊎_elim, arith}
-use Rattle.std.specs.Prelude.{Contains, All, OnOk, int_le, int_lt, max, min}
-use Rattle.std.proofs.lemmas.Bool.{and_parts, cases_lt, false≢true, or_left, or_right}
-use Rattle.std.proofs.lemmas.List.{get_or_default, take_more}
+use Rattle.std.proofs.Common.{get_or, ℤ, ◌<ℤ◌, ◌≤ℤ◌, Result, Ok, Err}
+use Rattle.std.proofs.Common.{pos, refl, sym, ap, subst, ◌∙◌, ⊎_elim, arith, length-append}
+use Rattle.std.specs.Prelude.{Contains, All, OnOk, not, int_le, int_lt, max, min}
+use Rattle.std.proofs.lemmas.Bool.{and_from, and_parts, cases_lt, false≢true, or_left, or_right}
+use Rattle.std.proofs.lemmas.List.{get_or-take, get_or_append_left, get_or_default, get_or_push, length-take, take_more}
 use Rattle.lay_point.proofs.Members.{Has, contains, has, has-append, has-append_left, has-append_right}
 use Rattle.std.proofs.lemmas.Int.{ints}
 use Rattle.face_ring_laws.specs.Parts.{AreJoined, Box, is_up_to, touch}
 use Rattle.face_ring_laws.specs.Heads.{IsFinest}
 use Rattle.face_rings.specs.declared.cut.Cut.{Cut}
-use Rattle.face_rings.specs.declared.cut.Cut.TheVariants.{Column, Row}
 use Rattle.face_ring_laws.proofs.PartLemmas.{joined_by_boxes}
 use Rattle.lay_point.proofs.Tests.{le_true, true_lt}
 use Rattle.face_rings.specs.Forest.{IsForest, root_of, united}
-use Rattle.face_rings.specs.Joining.{AreOnlyJoined, Grows, IsPartOf, Joins, box_reaches_high, box_reaches_low}
+use Rattle.face_rings.specs.Joining.{AreByBottom, AreCoversJoined, AreOnlyJoined, Grows, IsPartOf, Joins, box_of, box_reaches_high, box_reaches_low, covers}
 use Rattle.face_rings.proofs.ForestLemmas.{root_ends, root_le, root_of_own, united_cases}
 
 -- ---- trees that grow
@@ -127,30 +126,77 @@ module _ (b c : Box) (h : touch b c ≡ true) where
   second : (int_le c.0.x b.1.x ≡ true) × (int_le c.0.y b.1.y ≡ true)
   second = and_parts (int_le c.0.x b.1.x) (int_le c.0.y b.1.y) halves.1
 
-  both_reach : (cut : Cut)
+  both_reach : (cut : Cut) → covers cut.stretch b ≡ false → covers cut.stretch c ≡ false
       → ((box_reaches_low cut b ≡ true) × (box_reaches_low cut c ≡ true))
       ⊎ ((box_reaches_high cut b ≡ true) × (box_reaches_high cut c ≡ true))
-  both_reach (Column at) = one_side at b.0.x b.1.x c.0.x c.1.x first.0 second.0
-  both_reach (Row at) = one_side at b.0.y b.1.y c.0.y c.1.y first.1 second.1
+  both_reach cut b_not c_not = ⊎_elim
+      (λ (both : ((int_le b.0.x at || int_le b.1.x at) ≡ true) × ((int_le c.0.x at || int_le c.1.x at) ≡ true)).
+      inl (and_from (not (covers cut.stretch b)) _ (ap not b_not) both.0, and_from (not (covers cut.stretch c)) _ (ap not c_not) both.1))
+      (λ (both : ((int_lt at b.0.x || int_lt at b.1.x) ≡ true) × ((int_lt at c.0.x || int_lt at c.1.x) ≡ true)).
+      inr (and_from (not (covers cut.stretch b)) _ (ap not b_not) both.0, and_from (not (covers cut.stretch c)) _ (ap not c_not) both.1))
+      (one_side at b.0.x b.1.x c.0.x c.1.x first.0 second.0)
+    where
+      at : ℤ
+      at = cut.column
 
--- the lists of the two sides
-pub joined_by_sides : (boxes : List Box) (cut : Cut) (numbers low high : List ℕ) (old mid new : List ℕ) → length old ≡ length boxes
-    → IsPartOf (box_reaches_low cut) boxes numbers low → IsPartOf (box_reaches_high cut) boxes numbers high
-    → Joins boxes low old mid → Joins boxes high mid new → Joins boxes numbers old new
-joined_by_sides boxes cut numbers low high old mid new each is_low is_high l h = record {
-  grows = grows_on boxes old mid new l.grows h.grows;
-  joined = λ i j mi mj touching.
-      let d : Box = get_or boxes i (record { x = pos 0; y = pos 0 }, record { x = pos 0; y = pos 0 }) in
-      ⊎_elim
-      (λ (both : (box_reaches_low cut (get_or boxes i d) ≡ true) × (box_reaches_low cut (get_or boxes j d) ≡ true)).
-      h.grows.kept i j (omega (arith, touching.0, each, l.grows.each)) (omega (arith, touching.1, each, l.grows.each))
-      (l.joined i j (is_low.all i d mi both.0) (is_low.all j d mj both.1) touching))
-      (λ (both : (box_reaches_high cut (get_or boxes i d) ≡ true) × (box_reaches_high cut (get_or boxes j d) ≡ true)).
-      h.joined i j (is_high.all i d mi both.0) (is_high.all j d mj both.1) touching)
-      (both_reach (get_or boxes i d) (get_or boxes j d) (touching.2 d) cut);
-}
+abbrev pub nowhere : Box
+nowhere = (record { x = pos 0; y = pos 0 }, record { x = pos 0; y = pos 0 })
+
+pub joined_back : (boxes : List Box) (i j : ℕ) → AreJoined boxes i j → AreJoined boxes j i
+joined_back boxes i j g = (
+  g.1,
+  g.0,
+  (λ d.
+      let b = get_or boxes i d in
+      let c = get_or boxes j d in
+      let both = and_parts (is_up_to b.0 c.1) (is_up_to c.0 b.1) (g.2 d) in
+      and_from (is_up_to c.0 b.1) (is_up_to b.0 c.1) both.1 both.0),
+)
+
+-- those that cover the stretch, and the lists of the two sides
+module _ (boxes : List Box) (cut : Cut) (numbers low high old first mid new : List ℕ) (each : length old ≡ length boxes)
+    (more : Grows boxes old first) (over : AreCoversJoined boxes cut.stretch numbers first)
+    (is_low : IsPartOf (box_reaches_low cut) boxes numbers low) (is_high : IsPartOf (box_reaches_high cut) boxes numbers high)
+    (l : Joins boxes low first mid) (h : Joins boxes high mid new) where
+  to_end : Grows boxes first new
+  to_end = grows_on boxes first mid new l.grows h.grows
+
+  by_cover : (i j : ℕ) → Contains numbers i → Contains numbers j → AreJoined boxes i j → covers cut.stretch (box_of boxes i) ≡ true
+      → root_of new i ≡ root_of new j
+  by_cover i j mi mj g c =
+      to_end.kept i j (omega (arith, g.0, each, more.each)) (omega (arith, g.1, each, more.each)) (over i j mi mj c g)
+
+  by_sides : (i j : ℕ) → Contains numbers i → Contains numbers j → AreJoined boxes i j → covers cut.stretch (box_of boxes i) ≡ false
+      → covers cut.stretch (box_of boxes j) ≡ false → root_of new i ≡ root_of new j
+  by_sides i j mi mj g ci cj = ⊎_elim
+      (λ (both : (box_reaches_low cut (box_of boxes i) ≡ true) × (box_reaches_low cut (box_of boxes j) ≡ true)).
+      h.grows.kept i j (omega (arith, g.0, each, more.each, l.grows.each)) (omega (arith, g.1, each, more.each, l.grows.each))
+      (l.joined i j (is_low.all i nowhere mi both.0) (is_low.all j nowhere mj both.1) g))
+      (λ (both : (box_reaches_high cut (box_of boxes i) ≡ true) × (box_reaches_high cut (box_of boxes j) ≡ true)).
+      h.joined i j (is_high.all i nowhere mi both.0) (is_high.all j nowhere mj both.1) g)
+      (both_reach (box_of boxes i) (box_of boxes j) (g.2 nowhere) cut ci cj)
+
+  by_tests : (i j : ℕ) → Contains numbers i → Contains numbers j → AreJoined boxes i j → (s t : Bool)
+      → covers cut.stretch (box_of boxes i) ≡ s → covers cut.stretch (box_of boxes j) ≡ t → root_of new i ≡ root_of new j
+  by_tests i j mi mj g true t ci cj = by_cover i j mi mj g ci
+  by_tests i j mi mj g false true ci cj = sym (by_cover j i mj mi (joined_back boxes i j g) cj)
+  by_tests i j mi mj g false false ci cj = by_sides i j mi mj g ci cj
+
+  pub joined_by_sides : Joins boxes numbers old new
+  joined_by_sides = record {
+    grows = grows_on boxes old first new more to_end;
+    joined = λ i j mi mj g. by_tests i j mi mj g (covers cut.stretch (box_of boxes i)) (covers cut.stretch (box_of boxes j)) refl refl;
+  }
 
 -- ---- lists, number by number
+pub index_in_first : (numbers : List ℕ) (i k : ℕ) → Contains (take i numbers) k
+    → (m : ℕ) × (m < i) × (m < length numbers) × (get_or numbers m 0 ≡ k)
+index_in_first numbers i k (m, lt, same) =
+    let short : m < min i (length numbers) = omega (arith, lt, length-take i numbers) in
+    let first : m < i = omega (arith, short) in
+    let inside : m < length numbers = omega (arith, short) in
+    (m, first, inside, get_or_default numbers m 0 k inside ∙ sym (get_or-take i numbers m k first) ∙ same)
+
 pub has_more : (numbers : List ℕ) (i : ℕ) → i < length numbers → (k : ℕ) → Contains (take (i + 1) numbers) k
     → Contains (take i numbers) k ⊎ (get_or numbers i 0 ≡ k)
 has_more numbers i lt k m = ⊎_elim (λ (early : Has (take i numbers) k). inl (contains (take i numbers) k early))
@@ -162,8 +208,36 @@ pub more_has : (xs : List ℕ) (n k : ℕ) → Contains xs k ⊎ (n ≡ k) → C
 more_has xs n k (inl m) = contains (xs ++ n ∷ []) k (has-append_left xs (n ∷ []) k (has xs k m))
 more_has xs n k (inr same) = contains (xs ++ n ∷ []) k (has-append_right xs (n ∷ []) k (inl same))
 
+abbrev low_side : List Box → ℕ → ℤ
+low_side boxes k = (box_of boxes k).0.y
+
+-- what is pushed lies no lower than the others
+pushed_by_bottom : (boxes : List Box) (part : List ℕ) (n : ℕ) → AreByBottom boxes part
+    → ((k : ℕ) → Contains part k → (box_of boxes k).0.y ≤ℤ (box_of boxes n).0.y) → AreByBottom boxes (part ++ n ∷ [])
+pushed_by_bottom boxes part n h above i j le lt = ⊎_elim
+    (λ (early : j < length part). coe 1 0 (t. low_side boxes (get_or_append_left part (n ∷ []) 0 i (omega arith) t) ≤ℤ low_side boxes (get_or_append_left part (n ∷ []) 0 j early t)) (h i j le early))
+    (λ (late : length part ≤ j).
+    let last : j ≡ length part = omega (arith, length-append part (n ∷ [])) in
+    coe 1 0 (t. low_side boxes (get_or (part ++ n ∷ []) i 0) ≤ℤ low_side boxes (get_or_push part n 0 j (sym last) t)) (to_last i (omega arith)))
+    (cases_lt j (length part))
+  where
+    to_last : (i : ℕ) → i ≤ length part → low_side boxes (get_or (part ++ n ∷ []) i 0) ≤ℤ low_side boxes n
+    to_last i le = ⊎_elim
+        (λ (early : i < length part). coe 1 0 (t. low_side boxes (get_or_append_left part (n ∷ []) 0 i early t) ≤ℤ low_side boxes n)
+        (above (get_or part i 0) (i, early, get_or_default part i (get_or part i 0) 0 early)))
+        (λ (late : length part ≤ i).
+        let last : i ≡ length part = omega arith in
+        coe 1 0 (t. low_side boxes (get_or_push part n 0 i (sym last) t) ≤ℤ low_side boxes n) (omega (arith, ints)))
+        (cases_lt i (length part))
+
+before_by_bottom : (boxes : List Box) (numbers : List ℕ) (i k : ℕ) → AreByBottom boxes numbers → i < length numbers
+    → Contains (take i numbers) k → (box_of boxes k).0.y ≤ℤ (box_of boxes (get_or numbers i 0)).0.y
+before_by_bottom boxes numbers i k h lt m =
+    let at = index_in_first numbers i k m in
+    subst (λ z. (box_of boxes z).0.y ≤ℤ (box_of boxes (get_or numbers i 0)).0.y) at.3 (h at.0 i (omega (arith, at.1)) lt)
+
 module _ (test : Box → Bool) (boxes : List Box) (numbers part : List ℕ) (i : ℕ) (b : Box) (lt : i < length numbers)
-    (inside : get_or numbers i 0 < length boxes) (is_b : b ≡ get_or boxes (get_or numbers i 0) b)
+    (inside : get_or numbers i 0 < length boxes) (is_b : b ≡ get_or boxes (get_or numbers i 0) b) (by_bottom : AreByBottom boxes numbers)
     (h : IsPartOf test boxes (take i numbers) part) where
   abbrev n : ℕ
   n = get_or numbers i 0
@@ -179,6 +253,8 @@ module _ (test : Box → Bool) (boxes : List Box) (numbers part : List ℕ) (i :
     all = λ k d m passes. subst (λ l. Contains l k) (sym pushed)
         (more_has part n k (⊎_elim (λ (early : Contains (take i numbers) k). inl (h.all k d early passes))
         (λ (same : n ≡ k). inr same) (has_more numbers i lt k m)));
+    by_bottom = subst (AreByBottom boxes) (sym pushed) (pushed_by_bottom boxes part n h.by_bottom
+        (λ k m. before_by_bottom boxes numbers i k by_bottom lt (h.among k m)));
   }
 
   pub part_skips : test b ≡ false → IsPartOf test boxes (take (i + 1) numbers) part
@@ -189,6 +265,7 @@ module _ (test : Box → Bool) (boxes : List Box) (numbers part : List ℕ) (i :
         let at : b ≡ get_or boxes k d = is_b ∙ get_or_default boxes n b d inside ∙ ap (λ z. get_or boxes z d) same in
         absurd (false≢true (sym fails ∙ ap test at ∙ passes)))
         (has_more numbers i lt k m);
+    by_bottom = h.by_bottom;
   }
 
 pub inside_part : (test : Box → Bool) (boxes : List Box) (numbers part : List ℕ) → All (λ k. k < length boxes) numbers
@@ -199,15 +276,14 @@ inside_part test boxes numbers part inside h k m = at (h.among k m)
     at (i, lt, same) = subst (λ z. z < length boxes) (get_or_default numbers i 0 k lt ∙ same) (inside i 0 lt)
 
 -- ---- those that are joined to one
--- those of the first i numbers that are joined to it are in its tree, and all of them where all were joined
-pub record IsJoining (boxes : List Box) (start now : List ℕ) (one : ℕ) (numbers : List ℕ) (i : ℕ) (all : Bool) : Type 0 where
+-- those of the first i numbers that are joined to it are in its tree
+pub record IsJoining (boxes : List Box) (start now : List ℕ) (one : ℕ) (numbers : List ℕ) (i : ℕ) : Type 0 where
   pub grows : Grows boxes start now
   pub inside : (k : ℕ) → Contains (take i numbers) k → k < length boxes
   pub joined : (k : ℕ) → Contains (take i numbers) k → AreJoined boxes one k → root_of now one ≡ root_of now k
-  pub every : all ≡ true → (k : ℕ) → Contains (take i numbers) k → root_of now one ≡ root_of now k
 
-module _ (boxes : List Box) (start now : List ℕ) (one : ℕ) (numbers : List ℕ) (i : ℕ) (all : Bool) (b c : Box)
-    (h : IsJoining boxes start now one numbers i all) (each : length start ≡ length boxes) (lt : i < length numbers)
+module _ (boxes : List Box) (start now : List ℕ) (one : ℕ) (numbers : List ℕ) (i : ℕ) (b c : Box)
+    (h : IsJoining boxes start now one numbers i) (each : length start ≡ length boxes) (lt : i < length numbers)
     (one_inside : one < length boxes) (inside : get_or numbers i 0 < length boxes) (is_b : b ≡ get_or boxes one b)
     (is_c : c ≡ get_or boxes (get_or numbers i 0) c) where
   next_inside : (k : ℕ) → Contains (take (i + 1) numbers) k → k < length boxes
@@ -216,13 +292,11 @@ module _ (boxes : List Box) (start now : List ℕ) (one : ℕ) (numbers : List �
 
   pub joining_takes : (new : List ℕ) → touch b c ≡ true → length new ≡ length now → IsForest new
       → ((k : ℕ) → k < length now → root_of new k ≡ united (root_of now one) (root_of now (get_or numbers i 0)) (root_of now k))
-      → IsJoining boxes start new one numbers (i + 1) all
+      → IsJoining boxes start new one numbers (i + 1)
   joining_takes new touching same forest roots = record {
     grows = grows_on boxes start now new h.grows more;
     inside = next_inside;
     joined = λ k m g. ⊎_elim (λ (early : Contains (take i numbers) k). still k (h.inside k early) (h.joined k early g))
-        (λ (e : get_or numbers i 0 ≡ k). subst (λ z. root_of new one ≡ root_of new z) e here) (has_more numbers i lt k m);
-    every = λ flag k m. ⊎_elim (λ (early : Contains (take i numbers) k). still k (h.inside k early) (h.every flag k early))
         (λ (e : get_or numbers i 0 ≡ k). subst (λ z. root_of new one ≡ root_of new z) e here) (has_more numbers i lt k m);
   }
     where
@@ -241,7 +315,7 @@ module _ (boxes : List Box) (start now : List ℕ) (one : ℕ) (numbers : List �
       still : (k : ℕ) → k < length boxes → root_of now one ≡ root_of now k → root_of new one ≡ root_of new k
       still k lt e = more.kept one k (omega (arith, whole, one_inside)) (omega (arith, whole)) e
 
-  pub joining_skips : touch b c ≡ false → IsJoining boxes start now one numbers (i + 1) false
+  pub joining_skips : touch b c ≡ false → IsJoining boxes start now one numbers (i + 1)
   joining_skips apart = record {
     grows = h.grows;
     inside = next_inside;
@@ -252,7 +326,6 @@ module _ (boxes : List Box) (start now : List ℕ) (one : ℕ) (numbers : List �
         let touching : touch b c ≡ true = (λ t. touch (at_one t) (at_k t)) ∙ g.2 c in
         absurd (false≢true (sym apart ∙ touching)))
         (has_more numbers i lt k m);
-    every = λ flag. absurd (false≢true flag);
   }
 
 -- ---- those that are joined pair by pair
@@ -275,20 +348,16 @@ pairing_next boxes start now new numbers n h each lt more joined = record {
 }
 
 -- ---- from one list to the next
-pub joins_later : (boxes : List Box) (numbers old mid new : List ℕ) → Grows boxes old mid → Joins boxes numbers mid new
-    → Joins boxes numbers old new
-joins_later boxes numbers old mid new g h = record { grows = grows_on boxes old mid new g h.grows; joined = h.joined }
-
 pub on_ok : {A E : Type 0} (r : Result A E) (P Q : Type 0) → (P → Q) → OnOk r P → OnOk r Q
 on_ok (Ok x) P Q f h = f h
 on_ok (Err e) P Q f h = tt
 
+pub on_both : {A E : Type 0} (r : Result A E) (P Q R : Type 0) → (P → Q → R) → OnOk r P → OnOk r Q → OnOk r R
+on_both (Ok x) P Q R f h g = f h g
+on_both (Err e) P Q R f h g = tt
+
 pub all_inside : (numbers : List ℕ) (n : ℕ) → ((k : ℕ) → Contains numbers k → k < n) → All (λ k. k < n) numbers
 all_inside numbers n h i d lt = h (get_or numbers i d) (i, lt, sym (get_or_default numbers i d (get_or numbers i d) lt))
-
-pub lone_has : (numbers : List ℕ) (n : ℕ) → length numbers ≡ n → ((k : ℕ) → k < n → get_or numbers k 0 ≡ k) → (k : ℕ) → k < n
-    → Contains numbers k
-lone_has numbers n each lone k lt = (k, omega (arith, each), sym (get_or_default numbers k 0 k (omega (arith, each))) ∙ lone k lt)
 
 -- ---- in the end
 pub finest_of_roots : (boxes : List Box) (start ps heads : List ℕ) → length start ≡ length boxes

@@ -1,4 +1,6 @@
+pub mod BottomLemmas
 pub mod BridgeParity
+pub mod CoverLemmas
 pub mod ForestLemmas
 pub mod IncidenceLemmas
 pub mod JoinLemmas

@@ -1,8 +1,9 @@
 -- How lists of boxes are joined: those that are joined, directly or through others, are in one tree.
-use Rattle.std.specs.Prelude.{◌≡◌, ℕ, ◌<◌, Bool, true, ◌||◌, int_le, int_lt, List, length, Contains, Option, None, Some, slice_index_or, ⊤}
+use Rattle.std.specs.Prelude.{◌≡◌, ◌⊎◌, ℕ, ◌<◌, ◌≤◌, Bool, true, not, ◌||◌, ◌&&◌, ◌≤ℤ◌, int_le, int_lt, pos, List, [], ◌∷◌, length, Contains}
+use Rattle.std.specs.Prelude.{slice_index, slice_index_or}
 use Rattle.face_ring_laws.specs.Parts.{AreJoined, Box}
 use Rattle.face_rings.specs.declared.cut.Cut.{Cut}
-use Rattle.face_rings.specs.declared.cut.Cut.TheVariants.{Column, Row}
+use Rattle.face_rings.specs.declared.stretch.Stretch.{Stretch}
 use Rattle.face_rings.specs.Forest.{IsForest, root_of}
 
 -- those that are in one tree are together wherever all joined ones are
@@ -22,22 +23,66 @@ pub record Joins (boxes : List Box) (numbers old new : List ℕ) : Type 0 where
   pub grows : Grows boxes old new
   pub joined : (i j : ℕ) → Contains numbers i → Contains numbers j → AreJoined boxes i j → root_of new i ≡ root_of new j
 
--- whether a corner of the box is on the line or on its lower side
+-- ---- lists in the order of lower sides
+-- the box of a number
+abbrev pub box_of : List Box → ℕ → Box
+box_of boxes k = slice_index_or boxes k (record { x = pos 0; y = pos 0 }, record { x = pos 0; y = pos 0 })
+
+-- the lower side isn't above the higher one
+abbrev pub HasHeight : Box → Type 0
+HasHeight b = b.0.y ≤ℤ b.1.y
+
+-- the boxes of the numbers come by their lower sides
+abbrev pub AreByBottom : List Box → List ℕ → Type 0
+AreByBottom boxes numbers = (i j : ℕ) → i ≤ j → j < length numbers
+    → (box_of boxes (slice_index numbers i)).0.y ≤ℤ (box_of boxes (slice_index numbers j)).0.y
+
+-- ---- boxes that have a column in common with each of a list
+-- none of the boxes ends before the stretch, and none starts behind it
+abbrev pub IsStretchOf : List Box → List ℕ → Stretch → Type 0
+IsStretchOf boxes numbers s = (k : ℕ) → Contains numbers k
+    → (s.first_end ≤ℤ (box_of boxes k).1.x) × ((box_of boxes k).0.x ≤ℤ s.last_start)
+
+-- whether the box reaches over the stretch
+abbrev pub covers : Stretch → Box → Bool
+covers s b = int_le b.0.x s.first_end && int_le s.last_start b.1.x
+
+-- where a later one of the numbers covers the stretch, it is in one tree with those before it that it is joined to
+abbrev pub AreJoinedDown : List Box → Stretch → List ℕ → List ℕ → Type 0
+AreJoinedDown boxes s numbers parents = (i j : ℕ) → i < j → j < length numbers → covers s (box_of boxes (slice_index numbers j)) ≡ true
+    → AreJoined boxes (slice_index numbers i) (slice_index numbers j)
+    → root_of parents (slice_index numbers i) ≡ root_of parents (slice_index numbers j)
+
+-- where an earlier one covers it, it is in one tree with those behind it that it is joined to
+abbrev pub AreJoinedUp : List Box → Stretch → List ℕ → List ℕ → Type 0
+AreJoinedUp boxes s numbers parents = (i j : ℕ) → i < j → j < length numbers → covers s (box_of boxes (slice_index numbers i)) ≡ true
+    → AreJoined boxes (slice_index numbers i) (slice_index numbers j)
+    → root_of parents (slice_index numbers i) ≡ root_of parents (slice_index numbers j)
+
+-- each of the numbers that covers the stretch is in one tree with those that it is joined to
+abbrev pub AreCoversJoined : List Box → Stretch → List ℕ → List ℕ → Type 0
+AreCoversJoined boxes s numbers parents = (i j : ℕ) → Contains numbers i → Contains numbers j → covers s (box_of boxes i) ≡ true
+    → AreJoined boxes i j → root_of parents i ≡ root_of parents j
+
+-- of one and the open ones the highest alone stays open
+pub record IsHighestOf (boxes : List Box) (one : ℕ) (opened top : List ℕ) : Type 0 where
+  pub number : ℕ
+  pub alone : top ≡ number ∷ []
+  pub among : (number ≡ one) ⊎ Contains opened number
+  pub above : (box_of boxes one).1.y ≤ℤ (box_of boxes number).1.y
+  pub highest : (k : ℕ) → Contains opened k → (box_of boxes k).1.y ≤ℤ (box_of boxes number).1.y
+
+-- ---- the two sides of a column
+-- whether a corner of the box is on the column or to its left, where the box doesn't cover the stretch
 abbrev pub box_reaches_low : Cut → Box → Bool
-box_reaches_low (Column at) b = int_le b.0.x at || int_le b.1.x at
-box_reaches_low (Row at) b = int_le b.0.y at || int_le b.1.y at
+box_reaches_low cut b = not (covers cut.stretch b) && (int_le b.0.x cut.column || int_le b.1.x cut.column)
 
--- whether a corner of the box is on the higher side of the line
+-- whether a corner of the box is to the right of the column, where the box doesn't cover the stretch
 abbrev pub box_reaches_high : Cut → Box → Bool
-box_reaches_high (Column at) b = int_lt at b.0.x || int_lt at b.1.x
-box_reaches_high (Row at) b = int_lt at b.0.y || int_lt at b.1.y
+box_reaches_high cut b = not (covers cut.stretch b) && (int_lt cut.column b.0.x || int_lt cut.column b.1.x)
 
--- some of the numbers, and of those whose boxes pass the test all
+-- some of the numbers, in their order, and of those whose boxes pass the test all
 pub record IsPartOf (test : Box → Bool) (boxes : List Box) (numbers part : List ℕ) : Type 0 where
   pub among : (k : ℕ) → Contains part k → Contains numbers k
   pub all : (k : ℕ) (d : Box) → Contains numbers k → test (slice_index_or boxes k d) ≡ true → Contains part k
-
--- a list is divided only where that is still allowed
-abbrev pub IsUseful : ℕ → Option Cut → Type 0
-IsUseful depth None = ⊤
-IsUseful depth (Some cut) = 0 < depth
+  pub by_bottom : AreByBottom boxes part

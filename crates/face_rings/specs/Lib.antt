@@ -1,3 +1,4 @@
+pub mod Bottoms
 pub mod Forest
 pub mod Incidence
 pub mod Joining

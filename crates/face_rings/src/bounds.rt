@@ -34,13 +34,6 @@ impl Bounds {
         }
     }
 
-    /// Returns the sum of its sides, by which boxes are compared where nothing hangs on it.
-    pub(crate) fn extent(self) -> u64 {
-        let width = u64::from(self.low.x.abs_diff(self.high.x));
-        let height = u64::from(self.low.y.abs_diff(self.high.y));
-        width.wrapping_add(height)
-    }
-
     /// Returns whether the boxes have a point in common.
     pub fn touches(self, other: Bounds) -> bool
         ensures { result ≡ touch self other }

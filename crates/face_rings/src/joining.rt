@@ -1,16 +1,20 @@
 //! Joining boxes that have a point in common.
 //!
-//! Lists of boxes are divided, since a sweep along one axis would ask each pair that overlaps
-//! there.
-ghost use Rattle.std.specs.Prelude.{◌≡◌, ◌<◌, All, Contains, IfOk, IfSome, IsNone, OnOk, length, slice_index, true, ℕ};
+//! Lists of boxes are divided by columns, halfway from the first box's end to the last one's start.
+//! Before each division the boxes that cover all between are joined to what they touch and leave the
+//! list, so that what is left is in one half mostly.
+ghost use Rattle.std.specs.Prelude.{◌≡◌, ◌<◌, All, Contains, IfOk, OnOk, length, slice_index, ℕ};
 ghost use Rattle.face_ring_laws.specs.Heads.{IsFinest};
 ghost use Rattle.face_ring_laws.specs.Parts.{AreJoined};
 ghost use Rattle.face_rings.specs.Forest.{IsForest, root_of};
-ghost use Rattle.face_rings.specs.Joining.{Grows, IsUseful, Joins};
+ghost use Rattle.face_rings.specs.Joining.{AreByBottom, Grows, HasHeight, Joins};
 
+use crate::bottoms::by_bottom;
 use crate::bounds::Bounds;
-use crate::cut::{Cut, Division};
+use crate::covering::join_covering;
+use crate::cut::Cut;
 use crate::forest::{lone, settle, unite};
+use crate::stretch::Stretch;
 use std::alloc::{AllocError, Global};
 
 /// So many boxes aren't divided.
@@ -20,9 +24,9 @@ const FEW: usize = 12;
 const DEPTH: usize = 64;
 
 /// Returns for each box the number of the first one that it is joined to, directly or through others: two
-/// boxes are where they have a point in common. The time grows little faster than the number of boxes,
-/// but where many wide ones cross many tall ones.
+/// boxes are where they have a point in common. The time grows little faster than the number of boxes.
 pub(crate) fn joined_heads(alloc: Global, boxes: &[Bounds]) -> Result<Vec<usize>, AllocError>
+    requires { All HasHeight boxes.now }
     ensures { IfOk result (λ heads. IsFinest (AreJoined boxes.now) (length boxes.now) heads.items) }
 {
     let mut heads = lone(alloc, boxes.len())?;
@@ -34,9 +38,10 @@ pub(crate) fn joined_heads(alloc: Global, boxes: &[Bounds]) -> Result<Vec<usize>
 fn find_heads(alloc: Global, boxes: &[Bounds], parents: &mut [usize]) -> Result<(), AllocError>
     requires each { length parents.old ≡ length boxes.now }
     requires lone { (k : ℕ) → k < length boxes.now → slice_index parents.old k ≡ k }
+    requires height { All HasHeight boxes.now }
     ensures { OnOk result (IsFinest (AreJoined boxes.now) (length boxes.now) parents.new) }
 {
-    let numbers = lone(alloc, boxes.len())?;
+    let numbers = by_bottom(alloc, boxes)?;
     join_all(alloc, boxes, parents, numbers, DEPTH)?;
     settle(parents);
     Ok(())
@@ -52,90 +57,38 @@ fn join_all(
 ) -> Result<(), AllocError>
     requires forest { IsForest parents.old }
     requires each { length parents.old ≡ length boxes.now }
+    requires height { All HasHeight boxes.now }
     requires inside { All (λ k. k < length boxes.now) numbers.items }
+    requires by_bottom { AreByBottom boxes.now numbers.items }
     ensures { OnOk result (Joins boxes.now numbers.items parents.old parents.new) }
 {
-    if join_to_widest(boxes, parents, numbers.as_slice()) {
-        return Ok(());
-    }
-    let Some(cut) = useful_cut(alloc, boxes, numbers.as_slice(), depth)? else {
+    if depth == 0 || numbers.len() <= FEW {
         join_pairs(boxes, parents, numbers.as_slice());
         return Ok(());
-    };
+    }
+    let stretch = Stretch::of(boxes, numbers.as_slice());
+    join_covering(alloc, boxes, parents, stretch, numbers.as_slice())?;
+    let cut = Cut::halving(stretch);
     let low = cut.low_part(alloc, boxes, numbers.as_slice())?;
     let high = cut.high_part(alloc, boxes, numbers.as_slice())?;
     join_all(alloc, boxes, parents, low, depth - 1)?;
     join_all(alloc, boxes, parents, high, depth - 1)
 }
 
-/// Returns the line across which the boxes are to be divided, or `None` where they aren't.
-fn useful_cut(
-    alloc: Global,
-    boxes: &[Bounds],
-    numbers: &[usize],
-    depth: usize,
-) -> Result<Option<Cut>, AllocError>
-    requires { All (λ k. k < length boxes.now) numbers.now }
-    ensures { IfOk result (IsUseful depth) }
-{
-    if depth == 0 || numbers.len() <= FEW {
-        return Ok(None);
-    }
-    let division = Division::halving(alloc, boxes, numbers)?;
-    if division.is_useful(numbers.len()) {
-        return Ok(Some(division.cut));
-    }
-    Ok(None)
-}
-
-/// Joins the boxes to the widest of them, and returns whether it touches all.
-fn join_to_widest(boxes: &[Bounds], parents: &mut [usize], numbers: &[usize]) -> bool
-    requires forest { IsForest parents.old }
-    requires each { length parents.old ≡ length boxes.now }
-    requires inside { All (λ k. k < length boxes.now) numbers.now }
-    ensures grows { Grows boxes.now parents.old parents.new }
-    ensures all { result ≡ true → Joins boxes.now numbers.now parents.old parents.new }
-{
-    match widest(boxes, numbers) {
-        Some(one) => join_to(boxes, parents, one, numbers),
-        None => true,
-    }
-}
-
-/// Returns the number of the widest box.
-fn widest(boxes: &[Bounds], numbers: &[usize]) -> Option<usize>
-    requires { All (λ k. k < length boxes.now) numbers.now }
-    ensures inside { IfSome result (λ k. k < length boxes.now) }
-    ensures none { IsNone result → length numbers.now ≡ 0 }
-{
-    let mut one = *numbers.first()?;
-    for number in numbers {
-        if boxes[one].extent() < boxes[*number].extent() {
-            one = *number;
-        }
-    }
-    Some(one)
-}
-
-/// Joins to the box of number `one` those of the numbers that it touches, and returns whether these are all.
-fn join_to(boxes: &[Bounds], parents: &mut [usize], one: usize, numbers: &[usize]) -> bool
+/// Joins to the box of number `one` those of the numbers that it touches.
+pub(crate) fn join_to(boxes: &[Bounds], parents: &mut [usize], one: usize, numbers: &[usize])
     requires forest { IsForest parents.old }
     requires each { length parents.old ≡ length boxes.now }
     requires one { one < length boxes.now }
     requires inside { All (λ k. k < length boxes.now) numbers.now }
     ensures grows { Grows boxes.now parents.old parents.new }
     ensures joined { (k : ℕ) → Contains numbers.now k → AreJoined boxes.now one k → root_of parents.new one ≡ root_of parents.new k }
-    ensures all { result ≡ true → (k : ℕ) → Contains numbers.now k → root_of parents.new one ≡ root_of parents.new k }
 {
-    let mut all = true;
     for number in numbers {
         if boxes[one].touches(boxes[*number]) {
             unite(parents, one, *number);
-        } else {
-            all = false;
         }
     }
-    all
 }
 
 /// Joins the boxes, pair by pair.

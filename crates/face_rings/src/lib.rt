@@ -20,18 +20,24 @@
 //!
 //! # How parts are found
 //!
-//! Two rings are joined where their boxes have a point in common, sides included. Boxes are divided
-//! across a line into those that reach its lower side and those that reach its higher one, over and
-//! over, until they are few: two boxes that have a point in common both reach the side where it is,
-//! so such a pair is asked in one list at least (`Joins` of `specs/Joining.antt`). Where one box
-//! touches all of its list, no pair need be asked. Rings that are joined so far are the trees of a
-//! forest, in which each has an earlier one for its parent, and the first has itself
-//! (`specs/Forest.antt`).
+//! Two rings are joined where their boxes have a point in common, sides included. A list of boxes goes
+//! from where the first of them ends to where the last one starts, by their x: boxes that cover this
+//! stretch have a column in common with each of the list. In the order of their lower sides two passes
+//! join them to all that they touch (`covering.rt`). The others are divided across the column halfway
+//! through the stretch into those that reach its lower side and those that reach its higher one, over
+//! and over, until they are few: two boxes that have a point in common both reach the side where it is,
+//! so such a pair is joined in one list at least (`Joins` of `specs/Joining.antt`). A stretch halves
+//! with each division, and each end of a box is in one list of a depth at most, so the time grows with
+//! the number of boxes and of divisions.
+//!
+//! Rings that are joined so far are the trees of a forest, in which each has an earlier one for its
+//! parent, and the first has itself (`specs/Forest.antt`).
 //!
 //! # Files
 //!
 //! - `linking.rt`, `incidence.rt`: rings, and the edges left at a point (`specs/Incidence.antt`).
-//! - `dividing.rt`, `joining.rt`, `forest.rt`, `cut.rt`, `bounds.rt`: parts.
+//! - `dividing.rt`, `joining.rt`, `forest.rt`, `bounds.rt`: parts; `bottoms.rt`, `stretch.rt`,
+//!   `covering.rt`, `cut.rt`: which boxes are joined (`specs/Joining.antt`, `specs/Bottoms.antt`).
 //! - `bridging.rt`: the path; `fault.rt`: why edges aren't linked.
 //!
 //! # Example
@@ -45,8 +51,10 @@
 //! ```
 #![tactic(auto)]
 
+mod bottoms;
 mod bounds;
 mod bridging;
+mod covering;
 mod cut;
 mod dividing;
 mod fault;
@@ -54,6 +62,7 @@ mod forest;
 mod incidence;
 mod joining;
 mod linking;
+mod stretch;
 
 pub use bridging::bridge;
 pub use dividing::parts;

@@ -4,7 +4,12 @@ use Rattle.face_ring_laws.specs.Parts.{AreJoined, bounding_box}
 use Rattle.face_ring_laws.proofs.PartLaws.{odd_by_parts}
 use Rattle.face_ring_laws.specs.Heads.{AreDivided, IsFinest, IsNumbered}
 use Rattle.face_ring_laws.proofs.PartLemmas.{are_parts}
+use Rattle.face_rings.proofs.BottomLemmas.{boxes_have_height}
 use Rattle.face_rings.proofs.dividing.parts.Goals as goal
+
+pub joined_heads-requires : goal.joined_heads-requires
+joined_heads-requires c =
+    boxes_have_height c.deref-2.result.now c.deref.result.now (c.deref-2.ensures.value ∙ c.in_ok-boxes.ensures)
 
 pub returns-clause-parts : goal.returns-clause-parts
 returns-clause-parts c =

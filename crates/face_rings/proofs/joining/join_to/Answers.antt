@@ -1,4 +1,4 @@
-use Rattle.std.proofs.Common.{◌+◌, sym, subst, ◌∙◌, Bool, false, List, ℕ}
+use Rattle.std.proofs.Common.{◌+◌, sym, subst, ◌∙◌, List, ℕ}
 use Rattle.std.proofs.lemmas.List.{take_all}
 use Rattle.std.specs.Prelude.{Contains}
 use Rattle.face_rings.proofs.JoinLemmas.{IsJoining, joining_skips, joining_takes}
@@ -13,20 +13,19 @@ loop-number-preserved c =
     let b = c.index-boxes-one.result in
     let d = c.index-boxes-number.result in
     let inside = c.requires.inside i 0 c.loop-number-test.true in
-    let after : List ℕ → Bool → Type 0 = λ parents all. IsJoining boxes c.args.parents.now parents c.args.one numbers (i + 1) all in
+    let after : List ℕ → Type 0 = λ parents. IsJoining boxes c.args.parents.now parents c.args.one numbers (i + 1) in
     elim c.if-touches.branch [
       | then-touches w ↦
-          subst (λ all. after c.if-touches.parents all) (sym w.all-is)
-          (subst (λ parents. after parents c.loop-number.all) (sym w.parents-is)
-          (joining_takes boxes c.args.parents.now c.loop-number.parents c.args.one numbers i c.loop-number.all b d
+          subst after (sym w.parents-is)
+          (joining_takes boxes c.args.parents.now c.loop-number.parents c.args.one numbers i b d
           c.loop-number.invariant c.requires.each c.loop-number-test.true c.requires.one inside c.index-boxes-one.is
           c.index-boxes-number.is w.unite.new.parents (sym c.touches.ensures ∙ w.if-touches.true) w.unite.auto.parents
-          w.unite.ensures.forest w.unite.ensures.united))
+          w.unite.ensures.forest w.unite.ensures.united)
       | else-touches w ↦
-          subst (λ all. after c.if-touches.parents all) (sym w.all-is) (subst (λ parents. after parents false) (sym w.parents-is)
-          (joining_skips boxes c.args.parents.now c.loop-number.parents c.args.one numbers i c.loop-number.all b d
+          subst after (sym w.parents-is)
+          (joining_skips boxes c.args.parents.now c.loop-number.parents c.args.one numbers i b d
           c.loop-number.invariant c.requires.each c.loop-number-test.true c.requires.one inside c.index-boxes-one.is
-          c.index-boxes-number.is (sym c.touches.ensures ∙ w.if-touches.false)))
+          c.index-boxes-number.is (sym c.touches.ensures ∙ w.if-touches.false))
     ]
 
 pub returns-clause-grows : goal.returns-clause-grows
@@ -35,7 +34,3 @@ returns-clause-grows c = c.loop-number.invariant.grows
 pub returns-clause-joined : goal.returns-clause-joined
 returns-clause-joined c = λ k m g. c.loop-number.invariant.joined k
     (subst (λ l. Contains l k) (sym (take_all c.loop-number.number-index c.args.numbers.now c.loop-number-test.false)) m) g
-
-pub returns-clause-all : goal.returns-clause-all
-returns-clause-all c = λ flag k m. c.loop-number.invariant.every flag k
-    (subst (λ l. Contains l k) (sym (take_all c.loop-number.number-index c.args.numbers.now c.loop-number-test.false)) m)

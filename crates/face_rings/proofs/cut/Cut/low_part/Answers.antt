@@ -11,18 +11,18 @@ loop-number-preserved c =
     let i = c.loop-number.number-index in
     let test = box_reaches_low c.args.self in
     let b = c.index-boxes-number.result in
-    let inside = c.requires i 0 c.loop-number-test.true in
+    let inside = c.requires.inside i 0 c.loop-number-test.true in
     let after : List ℕ → Type 0 = λ part. IsPartOf test c.args.boxes.now (take (i + 1) numbers) part in
     elim c.if-reaches_low.branch [
       | then-reaches_low+in_ok-push w ↦
           let pushed : w.push.new.self.items ≡ c.loop-number.part.items ++ get_or numbers i 0 ∷ [] = search rules in
           subst after (sym (ap (λ (p : Vec ℕ Global). p.items) w.part-is))
           (part_takes test c.args.boxes.now numbers c.loop-number.part.items i b c.loop-number-test.true inside
-          c.index-boxes-number.is c.loop-number.invariant w.push.new.self.items pushed)
+          c.index-boxes-number.is c.requires.by_bottom c.loop-number.invariant w.push.new.self.items pushed)
       | else-reaches_low w ↦
           subst after (sym (ap (λ (p : Vec ℕ Global). p.items) w.part-is))
           (part_skips test c.args.boxes.now numbers c.loop-number.part.items i b c.loop-number-test.true inside
-          c.index-boxes-number.is c.loop-number.invariant (sym c.reaches_low.ensures ∙ w.if-reaches_low.false))
+          c.index-boxes-number.is c.requires.by_bottom c.loop-number.invariant (sym c.reaches_low.ensures ∙ w.if-reaches_low.false))
     ]
 
 pub returns : goal.returns
