@@ -5,3 +5,4 @@ pub mod ForestLemmas
 pub mod IncidenceLemmas
 pub mod JoinLemmas
 pub mod LinkLemmas
+pub mod PathLemmas

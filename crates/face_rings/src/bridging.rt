@@ -1,11 +1,14 @@
 //! One path round all rings of a shape.
-ghost use Rattle.std.specs.Prelude.{◌≡◌, ◌++◌, ◌∷◌, ℤ, IfOk, OnOk};
+ghost use Rattle.std.specs.Prelude.{◌≡◌, ◌+◌, ◌++◌, ◌∷◌, ◌≤◌, ℤ, IfOk, OnOk, length, min, nat_le, sum_by};
+ghost use Rattle.std.specs.List.{AllByRecursion};
+ghost use Rattle.lay_point.specs.declared.ring.TheConstants.{MAX_RING_POINTS};
 ghost use Rattle.lay_point.specs.Bridges.{bridged, further, round_all};
 ghost use Rattle.lay_point.specs.Parity.{odd};
 ghost use Rattle.lay_point.specs.RingEdges.{edges_of, edges_of_ring};
 ghost use Rattle.lay_point.specs.Rings.{IsRing, closed};
+ghost use Rattle.face_rings.specs.Paths.{added_len};
 
-use lay_point::{NoMemory, Point, Ring, without_repeats};
+use lay_point::{MAX_RING_POINTS, NoMemory, Point, Ring, without_repeats};
 use std::alloc::Global;
 
 /// Returns the points of one closed path round all the rings. It goes round the first, then from that
@@ -70,4 +73,45 @@ fn add_closed(path: &mut Vec<Point>, ring: &Ring) -> Result<(), NoMemory>
     path.extend_from_slice(ring.points())?;
     path.push(ring.points()[0])?;
     Ok(())
+}
+
+/// Returns whether the path round all the rings that [`bridge`] returns has at most `MAX_RING_POINTS`
+/// points. They are counted, and the path isn't made.
+pub fn is_path_short(rings: &[Ring]) -> bool
+    ensures { result ≡ nat_le (length (bridged rings.now)) MAX_RING_POINTS }
+{
+    let Some((first, others)) = rings.split_first() else {
+        return true;
+    };
+    let points = first.points();
+    path_len(points[0], points.len(), others) <= MAX_RING_POINTS
+}
+
+/// Returns how many points the path has that goes round a ring of so many points from this start, then
+/// round the others, or one more than a ring may have if that is less.
+fn path_len(start: Point, first_len: usize, others: &[Ring]) -> usize
+    requires { first_len ≤ MAX_RING_POINTS }
+    ensures len { result ≡ min (first_len + sum_by (added_len start) others.now) (MAX_RING_POINTS + 1) }
+    ensures rings { AllByRecursion IsRing others.now }
+{
+    let mut len = first_len;
+    let mut left = others;
+    while let Some((ring, behind)) = left.split_first() {
+        len = (len + added_len(start, ring)).min(MAX_RING_POINTS + 1);
+        left = behind;
+    }
+    len
+}
+
+/// Returns how many points a further ring adds to the path from this start.
+fn added_len(start: Point, ring: &Ring) -> usize
+    ensures len { result ≡ added_len start ring.now }
+    ensures ring { IsRing ring.now }
+{
+    let points = ring.points();
+    if points[0] == start {
+        points.len()
+    } else {
+        points.len() + 2
+    }
 }

@@ -16,7 +16,8 @@
 //!   edge left there, up to the first return to the start. A ring above `MAX_RING_POINTS` of
 //!   `lay_point` is refused ([`LinkFault`]).
 //! - `bridge` goes round the first ring, and from that ring's first point out to each further ring,
-//!   round it and back.
+//!   round it and back. `is_path_short` counts that path's points without making it: a further ring
+//!   adds its own, and two where it doesn't begin at the start (`specs/Paths.antt`).
 //!
 //! # How parts are found
 //!
@@ -64,7 +65,7 @@ mod joining;
 mod linking;
 mod stretch;
 
-pub use bridging::bridge;
+pub use bridging::{bridge, is_path_short};
 pub use dividing::parts;
 pub use fault::LinkFault;
 pub use linking::link;

@@ -62,11 +62,9 @@ test_cases true fault e = absurd cc
 test_cases false fault e = (refl, cc)
 
 pub test_failed : (edges : List Ends) (parts : List Rings) (answer : Result (Unit {0}) OpFault) (fault : OpFault)
-    (result : Result (Vec (Vec Ring)) OpFault) → answer ≡ Err fault → IsAnswer NoMemory answer (tested_shapes parts)
+    (result : Result (Vec (Vec Ring)) OpFault) → answer ≡ Err fault → answer ≡ tested_shapes parts
     → parts ≡ parts_of (linked_rings edges) → result ≡ Err fault → IsAnswer NoMemory (shape_lists result) (shaped edges)
-test_failed edges parts answer fault result was (inl refused) same e =
-    let no_memory : fault ≡ NoMemory = cc in inl (ap shape_lists e ∙ ap Err no_memory)
-test_failed edges parts answer fault result was (inr tested_so) same e =
+test_failed edges parts answer fault result was tested_so same e =
     let long = test_cases (are_short parts) fault (sym was ∙ tested_so) in
     inr (ap shape_lists e ∙ ap Err long.1 ∙ sym (long_path edges (sym (ap are_short same) ∙ long.0)))
 
@@ -75,9 +73,8 @@ passed_cases true e = refl
 passed_cases false e = absurd cc
 
 pub test_passed : (edges : List Ends) (parts : List Rings) (answer : Result (Unit {0}) OpFault) → answer ≡ Ok tt
-    → IsAnswer NoMemory answer (tested_shapes parts) → list_all is_short (linked_rings edges) ≡ true → parts ≡ parts_of (linked_rings edges)
+    → answer ≡ tested_shapes parts → list_all is_short (linked_rings edges) ≡ true → parts ≡ parts_of (linked_rings edges)
     → IsAnswer NoMemory (Ok parts) (shaped edges)
-test_passed edges parts answer was (inl refused) short same = absurd cc
-test_passed edges parts answer was (inr tested_so) short same =
+test_passed edges parts answer was tested_so short same =
     let paths = passed_cases (are_short parts) (sym was ∙ tested_so) in
     inr (ap Ok same ∙ sym (all_fit edges short (sym (ap are_short same) ∙ paths)))
