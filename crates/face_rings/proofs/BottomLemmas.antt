@@ -16,7 +16,7 @@ use Rattle.lay_point.specs.declared.point.Point.{Point}
 use Rattle.face_ring_laws.specs.Parts.{Box, bounding_box, grown, grown_by}
 use Rattle.face_rings.specs.declared.bottoms.Bottom.{Bottom}
 use Rattle.face_rings.specs.Bottoms.{AreBottomsOf, IsBottomOf, bottom_cmp}
-use Rattle.face_rings.specs.Joining.{AreByBottom, HasHeight, box_of}
+use Rattle.face_rings.specs.Joining.{AreByBottom, HasHeight, numbered_box}
 
 -- ---- the order
 bottom_cmp_total : IsTotalOrder bottom_cmp
@@ -40,7 +40,7 @@ rise bottoms h i j d le lt =
 
 -- ---- the lower sides of all boxes
 abbrev pub bottom_at : List Box → ℕ → Bottom
-bottom_at boxes k = record { y = (box_of boxes k).0.y; number = k }
+bottom_at boxes k = record { y = (numbered_box boxes k).0.y; number = k }
 
 pub are_bottoms : (boxes : List Box) (all sorted : List Bottom) → length all ≡ length boxes
     → ((k : ℕ) (d : Bottom) → k < length boxes → get_or all k d ≡ bottom_at boxes k) → IsPermutation all sorted → IsSorted bottom_cmp sorted
@@ -83,8 +83,8 @@ module _ (boxes : List Box) (bottoms : List Bottom) (numbers : List ℕ) (h : Ar
       let less : c.0 < length numbers = omega (arith, c.1, each) in
       (c.0, less, number_at c.0 k less ∙ ap (λ (b : Bottom). b.number) (get_or_default bottoms c.0 none (bottom_at boxes k) c.1 ∙ c.2))
 
-  bottom_of : (i : ℕ) → i < length numbers → (get_or bottoms i none).y ≡ (box_of boxes (get_or numbers i 0)).0.y
-  bottom_of i lt = (own i (omega (arith, each))).1 ∙ ap (λ z. (box_of boxes z).0.y) (sym (number_at i 0 lt))
+  bottom_of : (i : ℕ) → i < length numbers → (get_or bottoms i none).y ≡ (numbered_box boxes (get_or numbers i 0)).0.y
+  bottom_of i lt = (own i (omega (arith, each))).1 ∙ ap (λ z. (numbered_box boxes z).0.y) (sym (number_at i 0 lt))
 
   pub numbers_by_bottom : AreByBottom boxes numbers
   numbers_by_bottom i j le lt =

@@ -13,7 +13,7 @@ use Rattle.face_ring_laws.proofs.PartLemmas.{joined_by_boxes}
 use Rattle.face_rings.specs.declared.stretch.Stretch.{Stretch}
 use Rattle.face_rings.specs.Forest.{root_of}
 use Rattle.face_rings.specs.Joining.{AreByBottom, AreCoversJoined, AreJoinedDown, AreJoinedUp, Grows, HasHeight, IsHighestOf}
-use Rattle.face_rings.specs.Joining.{IsStretchOf, box_of, covers}
+use Rattle.face_rings.specs.Joining.{IsStretchOf, numbered_box, covers}
 use Rattle.face_rings.proofs.JoinLemmas.{all_inside, grows_on, has_more, index_in_first, joined_back, more_has, nowhere}
 
 -- ---- numbers of a list
@@ -51,16 +51,16 @@ touch_from b c bx by cx cy = and_from (is_up_to b.0 c.1) (is_up_to c.0 b.1)
     (and_from (int_le c.0.x b.1.x) (int_le c.0.y b.1.y) (true_le c.0.x b.1.x cx) (true_le c.0.y b.1.y cy))
 
 rows_of : (boxes : List Box) (i j : ℕ) → AreJoined boxes i j
-    → ((box_of boxes i).0.y ≤ℤ (box_of boxes j).1.y) × ((box_of boxes j).0.y ≤ℤ (box_of boxes i).1.y)
+    → ((numbered_box boxes i).0.y ≤ℤ (numbered_box boxes j).1.y) × ((numbered_box boxes j).0.y ≤ℤ (numbered_box boxes i).1.y)
 rows_of boxes i j joined =
-    let b = box_of boxes i in
-    let c = box_of boxes j in
+    let b = numbered_box boxes i in
+    let c = numbered_box boxes j in
     let halves = and_parts (is_up_to b.0 c.1) (is_up_to c.0 b.1) (joined.2 nowhere) in (
       le_true b.0.y c.1.y (and_parts (int_le b.0.x c.1.x) (int_le b.0.y c.1.y) halves.0).1,
       le_true c.0.y b.1.y (and_parts (int_le c.0.x b.1.x) (int_le c.0.y b.1.y) halves.1).1,
     )
 
-pub read_box : (boxes : List Box) (n : ℕ) (b : Box) → n < length boxes → b ≡ get_or boxes n b → b ≡ box_of boxes n
+pub read_box : (boxes : List Box) (n : ℕ) (b : Box) → n < length boxes → b ≡ get_or boxes n b → b ≡ numbered_box boxes n
 read_box boxes n b inside is_b = is_b ∙ get_or_default boxes n b nowhere inside
 
 -- ---- the stretch of one box more
@@ -73,7 +73,7 @@ stretch_more boxes numbers i lt inside b is_b s more is h k m = ⊎_elim
     let at = h k early in
     (omega (arith, ints, clamps, at.0, first), omega (arith, ints, clamps, at.1, last)))
     (λ (same : get_or numbers i 0 ≡ k).
-    let at : b ≡ box_of boxes k = read_box boxes (get_or numbers i 0) b inside is_b ∙ ap (box_of boxes) same in
+    let at : b ≡ numbered_box boxes k = read_box boxes (get_or numbers i 0) b inside is_b ∙ ap (numbered_box boxes) same in
     subst (λ z. (more.first_end ≤ℤ z.1.x) × (z.0.x ≤ℤ more.last_start)) at
     (omega (arith, ints, clamps, first), omega (arith, ints, clamps, last)))
     (has_more numbers i lt k m)
@@ -87,12 +87,12 @@ stretch_more boxes numbers i lt inside b is_b s more is h k m = ⊎_elim
 -- ---- the highest of one box more
 abbrev pub IsTopOf : List Box → List ℕ → ℕ → ℕ → ℕ → Type 0
 IsTopOf boxes numbers one i top = (top < length boxes) × ((top ≡ one) ⊎ Contains (take i numbers) top)
-    × ((box_of boxes one).1.y ≤ℤ (box_of boxes top).1.y)
-    × ((k : ℕ) → Contains (take i numbers) k → (box_of boxes k).1.y ≤ℤ (box_of boxes top).1.y)
+    × ((numbered_box boxes one).1.y ≤ℤ (numbered_box boxes top).1.y)
+    × ((k : ℕ) → Contains (take i numbers) k → (numbered_box boxes k).1.y ≤ℤ (numbered_box boxes top).1.y)
 
 pub highest_more : (boxes : List Box) (numbers : List ℕ) (one i top next : ℕ) → i < length numbers → get_or numbers i 0 < length boxes
-    → (next ≡ top) ⊎ (next ≡ get_or numbers i 0) → (box_of boxes top).1.y ≤ℤ (box_of boxes next).1.y
-    → (box_of boxes (get_or numbers i 0)).1.y ≤ℤ (box_of boxes next).1.y → IsTopOf boxes numbers one i top
+    → (next ≡ top) ⊎ (next ≡ get_or numbers i 0) → (numbered_box boxes top).1.y ≤ℤ (numbered_box boxes next).1.y
+    → (numbered_box boxes (get_or numbers i 0)).1.y ≤ℤ (numbered_box boxes next).1.y → IsTopOf boxes numbers one i top
     → IsTopOf boxes numbers one (i + 1) next
 highest_more boxes numbers one i top next lt inside either old this h = (
   ⊎_elim (λ (same : next ≡ top). subst (λ z. z < length boxes) (sym same) h.0)
@@ -103,7 +103,7 @@ highest_more boxes numbers one i top next lt inside either old this h = (
       (λ (same : next ≡ get_or numbers i 0). inr (taken_has numbers i lt next (inr (sym same)))) either,
   omega (arith, ints, h.2, old),
   (λ k m. ⊎_elim (λ (early : Contains (take i numbers) k). let below = h.3 k early in omega (arith, ints, below, old))
-      (λ (same : get_or numbers i 0 ≡ k). subst (λ z. (box_of boxes z).1.y ≤ℤ (box_of boxes next).1.y) same this)
+      (λ (same : get_or numbers i 0 ≡ k). subst (λ z. (numbered_box boxes z).1.y ≤ℤ (numbered_box boxes next).1.y) same this)
       (has_more numbers i lt k m)),
 )
 
@@ -130,10 +130,10 @@ module _ (boxes : List Box) (numbers : List ℕ) (s : Stretch) (height : All Has
   n i = get_or numbers i 0
 
   abbrev low : ℕ → ℤ
-  low k = (box_of boxes k).0.y
+  low k = (numbered_box boxes k).0.y
 
   abbrev high : ℕ → ℤ
-  high k = (box_of boxes k).1.y
+  high k = (numbered_box boxes k).1.y
 
   within : (k : ℕ) → Contains numbers k → k < length boxes
   within k m = let at = index_in numbers k m in subst (λ z. z < length boxes) at.2 (inside at.0 0 at.1)
@@ -142,11 +142,11 @@ module _ (boxes : List Box) (numbers : List ℕ) (s : Stretch) (height : All Has
   upright k m = height k nowhere (within k m)
 
   -- one that covers the stretch is joined to each that it meets in a row
-  meets : (a b : ℕ) → Contains numbers a → Contains numbers b → covers s (box_of boxes a) ≡ true → low a ≤ℤ high b → low b ≤ℤ high a
+  meets : (a b : ℕ) → Contains numbers a → Contains numbers b → covers s (numbered_box boxes a) ≡ true → low a ≤ℤ high b → low b ≤ℤ high a
       → AreJoined boxes a b
   meets a b ma mb over h g =
-      let p = box_of boxes a in
-      let q = box_of boxes b in
+      let p = numbered_box boxes a in
+      let q = numbered_box boxes b in
       let ends = and_parts (int_le p.0.x s.first_end) (int_le s.last_start p.1.x) over in
       let start : p.0.x ≤ℤ s.first_end = le_true p.0.x s.first_end ends.0 in
       let end : s.last_start ≤ℤ p.1.x = le_true s.last_start p.1.x ends.1 in
@@ -156,7 +156,7 @@ module _ (boxes : List Box) (numbers : List ℕ) (s : Stretch) (height : All Has
       (touch_from p q (omega (arith, ints, start, by.0)) h (omega (arith, ints, end, by.1)) g)
 
   module _ (from to : ℕ → Bool)
-      (one_covers : (a b : ℕ) → from a ≡ true → to b ≡ true → (covers s (box_of boxes a) ≡ true) ⊎ (covers s (box_of boxes b) ≡ true))
+      (one_covers : (a b : ℕ) → from a ≡ true → to b ≡ true → (covers s (numbered_box boxes a) ≡ true) ⊎ (covers s (numbered_box boxes b) ≡ true))
       (start now : List ℕ) (i : ℕ) (opened : List ℕ) (each : length start ≡ length boxes) (lt : i < length numbers)
       (h : IsPass boxes numbers from to start now i opened) where
     whole : length now ≡ length boxes
@@ -164,8 +164,8 @@ module _ (boxes : List Box) (numbers : List ℕ) (s : Stretch) (height : All Has
 
     meet : (a b : ℕ) → Contains numbers a → Contains numbers b → from a ≡ true → to b ≡ true → low a ≤ℤ high b → low b ≤ℤ high a
         → AreJoined boxes a b
-    meet a b ma mb f t below above = ⊎_elim (λ (over : covers s (box_of boxes a) ≡ true). meets a b ma mb over below above)
-        (λ (over : covers s (box_of boxes b) ≡ true). joined_back boxes b a (meets b a mb ma over above below)) (one_covers a b f t)
+    meet a b ma mb f t below above = ⊎_elim (λ (over : covers s (numbered_box boxes a) ≡ true). meets a b ma mb over below above)
+        (λ (over : covers s (numbered_box boxes b) ≡ true). joined_back boxes b a (meets b a mb ma over above below)) (one_covers a b f t)
 
     -- the box of this turn is joined to the open ones
     module _ (new : List ℕ) (more : Grows boxes now new)
@@ -208,7 +208,7 @@ module _ (boxes : List Box) (numbers : List ℕ) (s : Stretch) (height : All Has
       }
 
       -- it covers the stretch
-      module _ (over : covers s (box_of boxes (n i)) ≡ true) (passes : from (n i) ≡ true) (left : List ℕ)
+      module _ (over : covers s (numbered_box boxes (n i)) ≡ true) (passes : from (n i) ≡ true) (left : List ℕ)
           (top : IsHighestOf boxes (n i) opened left) where
         this_in : Contains numbers (n i)
         this_in = number_in numbers i lt
@@ -313,10 +313,10 @@ covers_joined boxes s numbers mid new each more down up a b ma mb over g =
     let at = index_in numbers a ma in
     let bt = index_in numbers b mb in
     coe 0 1 (k. root_of new (at.2 k) ≡ root_of new (bt.2 k)) (by_index at.0 bt.0 at.1 bt.1
-    (subst (λ z. covers s (box_of boxes z) ≡ true) (sym at.2) over)
+    (subst (λ z. covers s (numbered_box boxes z) ≡ true) (sym at.2) over)
     (coe 1 0 (k. AreJoined boxes (at.2 k) (bt.2 k)) g))
   where
-    by_index : (i j : ℕ) → i < length numbers → j < length numbers → covers s (box_of boxes (get_or numbers i 0)) ≡ true
+    by_index : (i j : ℕ) → i < length numbers → j < length numbers → covers s (numbered_box boxes (get_or numbers i 0)) ≡ true
         → AreJoined boxes (get_or numbers i 0) (get_or numbers j 0)
         → root_of new (get_or numbers i 0) ≡ root_of new (get_or numbers j 0)
     by_index i j li lj c g = ⊎_elim (λ (before : i < j). up i j before lj c g)

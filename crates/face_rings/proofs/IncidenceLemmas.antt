@@ -4,7 +4,7 @@ use Rattle.std.proofs.Common.{length, get_or, take, set, None, Some, refl, sym, 
 use Rattle.std.specs.declared.cmp.Ordering.{Ordering}
 use Rattle.std.specs.declared.cmp.Ordering.TheVariants.{Less, Equal, Greater}
 use Rattle.std.specs.Cmp.{IsTotalOrder}
-use Rattle.std.specs.List.Sorted.{IsPartitionedBy, IsPartitionPoint, IsPermutation, IsSorted, IsSortedBy}
+use Rattle.std.specs.List.Sorted.{IsPartitionedBy, IsPermutation, IsSorted, IsSortedBy}
 use Rattle.std.specs.Prelude.{max, replicate}
 use Rattle.std.specs.Vec.{with_item}
 use Rattle.std.specs.Ordering.{is_eq, is_lt, nat_cmp, ordering_index, ordering_reverse, ordering_then}
@@ -21,7 +21,7 @@ use Rattle.lay_point.proofs.EdgeOrder.{points_decide, same_by_test}
 use Rattle.lay_point.proofs.Members.{Has, has, contains}
 use Rattle.face_rings.specs.declared.incidence.End.{End}
 use Rattle.face_rings.specs.declared.incidence.Incidence.{Incidence}
-use Rattle.face_rings.specs.Incidence.{AreEndsOf, IsIncidence, IsUsedAt, KeepsMarks, end_cmp, point_cmp, left_of}
+use Rattle.face_rings.specs.Incidence.{AreEndsOf, IsFirstAt, IsIncidence, IsUsedAt, KeepsMarks, end_cmp, point_cmp, left_of}
 use Rattle.face_ring_laws.proofs.PartLemmas.{get_or-set}
 use Rattle.face_ring_laws.specs.Linking.{Ends, keeping_first, take_at}
 
@@ -45,7 +45,7 @@ point_cmp_total = then_total (on_total (λ (p : Point). p.x) int_cmp_total) (on_
 pub end_cmp_total : IsTotalOrder end_cmp
 end_cmp_total = then_total (on_total (λ (e : End). e.at) point_cmp_total) (on_total (λ (e : End). e.edge) nat_cmp_total)
 
-first_not_less : (o p : Ordering) → is_lt (ordering_then o p) ≡ false → is_lt o ≡ false
+pub first_not_less : (o p : Ordering) → is_lt (ordering_then o p) ≡ false → is_lt o ≡ false
 first_not_less Less p h = h
 first_not_less Equal p h = refl
 first_not_less Greater p h = refl
@@ -170,7 +170,7 @@ reversed_not_less Less h g = absurd cc
 reversed_not_less Equal h g = refl
 reversed_not_less Greater h g = absurd cc
 
-neither_less : (p q : Point) → is_lt (point_cmp p q) ≡ false → is_lt (point_cmp q p) ≡ false → p ≡ q
+pub neither_less : (p q : Point) → is_lt (point_cmp p q) ≡ false → is_lt (point_cmp q p) ≡ false → p ≡ q
 neither_less p q h g =
     let equal = reversed_not_less (point_cmp p q) h (sym (ap is_lt (point_cmp_total.antisymm q p)) ∙ g) in
     same_by_test p q (point_ties p q ∙ ap is_eq equal)
@@ -182,7 +182,7 @@ le_by_cmp m n o e h = by_ranked (m < n) (m ≡ n) (n < m) o (ranked m n o e)
 -- a search at a point: its first end, and the index reached
 pub record IsSearch (edges : List Ends) (ends : List End) (used : List Bool) (at : Point) (first index : ℕ) : Type 0 where
   pub whole : AreEndsOf edges ends
-  pub split : IsPartitionPoint (λ e. is_lt (point_cmp e.at at) ≡ true) (λ e. is_lt (point_cmp e.at at) ≡ false) ends first
+  pub split : IsFirstAt ends at first
   pub ordered : first ≤ index
   pub passed : (k : ℕ) → first ≤ k → k < index → IsUsedAt used ends k
 
@@ -196,7 +196,7 @@ open_end edges ends used at first index s j d less on left =
     let c = (s.whole.exact x).1 (less, (λ e. subst (λ z. touches at z ≡ true) (get_or_default edges j d e less) on)) in
     let not_before : first ≤ c.0 = ⊎_elim
     (λ (before : c.0 < first). absurd (not_less_itself at
-    (subst (λ z. is_lt (point_cmp z.at at) ≡ true) c.2 (s.split.0 c.0 x (omega arith) before))))
+    (subst (λ z. is_lt (point_cmp z.at at) ≡ true) c.2 (s.split.before c.0 x before))))
     (λ (le : first ≤ c.0). le) (cases_lt c.0 first) in
     let reached : index ≤ c.0 = ⊎_elim
     (λ (before : c.0 < index). absurd (false≢true (sym left ∙ subst (λ z. get_or used z.edge true ≡ true) c.2
@@ -204,7 +204,7 @@ open_end edges ends used at first index s j d less on left =
     (λ (le : index ≤ c.0). le) (cases_lt c.0 index) in
     (c.0, reached, c.1, (λ e. get_or_default ends c.0 e x c.1 ∙ c.2))
 
-no_later_below : (ends : List End) → IsSorted end_cmp ends → (i j : ℕ) (d : End) → i ≤ j → j < length ends
+pub no_later_below : (ends : List End) → IsSorted end_cmp ends → (i j : ℕ) (d : End) → i ≤ j → j < length ends
     → is_lt (end_cmp (get_or ends j d) (get_or ends i d)) ≡ false
 no_later_below ends h i j d le lt = sorted_far (λ x y. is_lt (end_cmp x y)) (ranks_by end_cmp_total (λ x. x)) ends h i j d le lt
 
@@ -246,7 +246,7 @@ search_passed edges ends used at first index s end less is_end other =
     (no_later_below ends s.whole.sorted index later.0 end later.1 later.2)) in
     let not_above = first_not_less (point_cmp at end.at) (nat_cmp j end.edge) order in
     let not_below : is_lt (point_cmp end.at at) ≡ false =
-    subst (λ z. is_lt (point_cmp z.at at) ≡ false) (sym is_end) (s.split.1 index end s.ordered less) in
+    subst (λ z. is_lt (point_cmp z.at at) ≡ false) (sym is_end) (s.split.behind index end s.ordered less) in
     other (neither_less end.at at not_below not_above)))
 
 -- ---- cursors
@@ -276,7 +276,7 @@ cursor_moved used ends cursors first reached less was more f index inside le lt 
 -- ---- a step of a search
 pub searched : (edges : List Ends) (i : Incidence) → IsIncidence edges i → (at : Point) (first cursor from index : ℕ)
     → first < length i.cursors.items
-    → IsPartitionPoint (λ e. is_lt (point_cmp e.at at) ≡ true) (λ e. is_lt (point_cmp e.at at) ≡ false) i.ends.items first
+    → IsFirstAt i.ends.items at first
     → cursor ≡ get_or i.cursors.items first cursor → from ≡ max cursor first → from ≤ index
     → ((k : ℕ) → from ≤ k → k < index → IsUsedAt i.used.items i.ends.items k)
     → IsSearch edges i.ends.items i.used.items at first index
@@ -292,9 +292,10 @@ searched edges i h at first cursor from index less split is_cursor is_from reach
 
 pub search_kept : (edges : List Ends) (i : Incidence) → IsIncidence edges i → (at : Point) (first index : ℕ)
     → first < length i.cursors.items → IsSearch edges i.ends.items i.used.items at first index
-    → IsIncidence edges (record { ends = i.ends; cursors = with_item i.cursors first index; used = i.used })
+    → IsIncidence edges (record { ends = i.ends; firsts = i.firsts; cursors = with_item i.cursors first index; used = i.used })
 search_kept edges i h at first index less s = record {
   ends = h.ends;
+  firsts = h.firsts;
   marks = h.marks;
   cursors = length-set i.cursors.items first index ∙ h.cursors;
   passed = cursor_moved i.used.items i.ends.items i.cursors.items first index less h.passed s.passed;
@@ -302,9 +303,10 @@ search_kept edges i h at first index less s = record {
 
 pub search_marked : (edges : List Ends) (i : Incidence) → IsIncidence edges i → (at : Point) (first index e : ℕ)
     → first < length i.cursors.items → e < length i.used.items → IsSearch edges i.ends.items i.used.items at first index
-    → IsIncidence edges (record { ends = i.ends; cursors = with_item i.cursors first index; used = with_item i.used e true })
+    → IsIncidence edges (record { ends = i.ends; firsts = i.firsts; cursors = with_item i.cursors first index; used = with_item i.used e true })
 search_marked edges i h at first index e less inside s = record {
   ends = h.ends;
+  firsts = h.firsts;
   marks = length-set i.used.items e true ∙ h.marks;
   cursors = length-set i.cursors.items first index ∙ h.cursors;
   passed = cursor_moved (set i.used.items e true) i.ends.items i.cursors.items first index less

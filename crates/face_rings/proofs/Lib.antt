@@ -1,6 +1,8 @@
 pub mod BottomLemmas
 pub mod BridgeParity
 pub mod CoverLemmas
+pub mod CutLemmas
+pub mod FirstLemmas
 pub mod ForestLemmas
 pub mod IncidenceLemmas
 pub mod JoinLemmas

@@ -1,5 +1,5 @@
 -- The length of the path round several rings: the rings have no repeats, so only points at the start can be dropped.
-use Rattle.std.proofs.Common.{◌≡◌, ◌≢◌, ℕ, suc, ◌+◌, ◌≤◌, List, [], ◌∷◌, ◌++◌, length, get_or, Bool, true, false, cond}
+use Rattle.std.proofs.Common.{◌≡◌, ℕ, suc, ◌+◌, ◌≤◌, List, [], ◌∷◌, ◌++◌, length, get_or, Bool, true, false, cond}
 use Rattle.std.proofs.Common.{refl, ap, sym, ◌∙◌, subst, arith, append_assoc}
 use Rattle.std.specs.Prelude.{min, nat_le, sum_by}
 use Rattle.std.proofs.lemmas.Bool.Decides.{nat_tests}
@@ -16,17 +16,10 @@ use Rattle.lay_point.proofs.EdgeOrder.{points_decide, same_by_test}
 use Rattle.face_rings.specs.Paths.{added_len}
 
 -- ---- points that are kept
-apart_tests : (p q : Point) → p ≢ q → point_eq p q ≡ false
-apart_tests p q h = by_test (point_eq p q) refl
-  where
-    by_test : (b : Bool) → point_eq p q ≡ b → b ≡ false
-    by_test true e = absurd (h (same_by_test p q e))
-    by_test false e = refl
-
 kept_over : (p q : Point) (ps rest : List Point) → NeighboursDiffer (p ∷ ps ++ q ∷ [])
     → kept_behind p (ps ++ q ∷ rest) ≡ ps ++ q ∷ kept_behind q rest
-kept_over p q [] rest d = rw (apart_tests p q d.0) refl
-kept_over p q (r ∷ rs) rest d = rw (apart_tests p r d.0) (ap (λ xs. r ∷ xs) (kept_over r q rs rest d.1))
+kept_over p q [] rest d = rw (points_decide.apart p q d.0) refl
+kept_over p q (r ∷ rs) rest d = rw (points_decide.apart p r d.0) (ap (λ xs. r ∷ xs) (kept_over r q rs rest d.1))
 
 -- behind a closed ring
 kept_closed : (p : Point) (ps rest : List Point) → NeighboursDiffer (p ∷ ps ++ p ∷ [])
@@ -127,7 +120,7 @@ further_more s p ps r rs h later = by_test (point_eq p s) refl
         let sum = sum_by-cons (added_len s) (p ∷ ps) (r ∷ rs) in
         let added = subst (λ z. added_len z (p ∷ ps) ≡ suc (length ps)) same (added_same p ps) in omega (arith, next, sum, added, later)
     by_test false e =
-        let apart : point_eq s p ≡ false = apart_tests s p (λ same. false≢true (sym e ∙ ap (point_eq p) same ∙ points_decide.itself p)) in
+        let apart : point_eq s p ≡ false = points_decide.apart s p (λ same. false≢true (sym e ∙ ap (point_eq p) same ∙ points_decide.itself p)) in
         let next = next_other s p ps (further s (r ∷ rs)) apart e h.0.apart some in
         let sum = sum_by-cons (added_len s) (p ∷ ps) (r ∷ rs) in
         let added = added_other s p ps e in omega (arith, next, sum, added, later)
@@ -143,7 +136,7 @@ further_len s (p ∷ ps) [] h = by_test (point_eq p s) refl
         let sum = sum_by-cons (added_len p) (p ∷ ps) [] in
         let added = added_same p ps in omega (arith, last, sum, added))
     by_test false e =
-        let apart : point_eq s p ≡ false = apart_tests s p (λ same. false≢true (sym e ∙ ap (point_eq p) same ∙ points_decide.itself p)) in
+        let apart : point_eq s p ≡ false = points_decide.apart s p (λ same. false≢true (sym e ∙ ap (point_eq p) same ∙ points_decide.itself p)) in
         let last = last_other s p ps apart h.0.apart in
         let sum = sum_by-cons (added_len s) (p ∷ ps) [] in
         let added = added_other s p ps e in omega (arith, last, sum, added)

@@ -5,7 +5,7 @@ use Rattle.std.specs.List.Sorted.{IsSorted}
 use Rattle.std.specs.Ordering.{int_cmp, nat_cmp, on, then_cmp}
 use Rattle.face_ring_laws.specs.Parts.{Box}
 use Rattle.face_rings.specs.declared.bottoms.Bottom.{Bottom}
-use Rattle.face_rings.specs.Joining.{box_of}
+use Rattle.face_rings.specs.Joining.{numbered_box}
 
 -- what `cmp` of lower sides computes: by y, then by number
 abbrev pub bottom_cmp : Bottom → Bottom → Ordering
@@ -13,7 +13,7 @@ bottom_cmp = then_cmp (on (λ b. b.y) int_cmp) (on (λ b. b.number) nat_cmp)
 
 -- the lower side of the box of its number
 abbrev pub IsBottomOf : List Box → Bottom → Type 0
-IsBottomOf boxes b = (b.number < length boxes) × (b.y ≡ (box_of boxes b.number).0.y)
+IsBottomOf boxes b = (b.number < length boxes) × (b.y ≡ (numbered_box boxes b.number).0.y)
 
 -- the lower sides of all boxes, in order
 pub record AreBottomsOf (boxes : List Box) (bottoms : List Bottom) : Type 0 where

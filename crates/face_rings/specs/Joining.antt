@@ -25,8 +25,8 @@ pub record Joins (boxes : List Box) (numbers old new : List ℕ) : Type 0 where
 
 -- ---- lists in the order of lower sides
 -- the box of a number
-abbrev pub box_of : List Box → ℕ → Box
-box_of boxes k = slice_index_or boxes k (record { x = pos 0; y = pos 0 }, record { x = pos 0; y = pos 0 })
+abbrev pub numbered_box : List Box → ℕ → Box
+numbered_box boxes k = slice_index_or boxes k (record { x = pos 0; y = pos 0 }, record { x = pos 0; y = pos 0 })
 
 -- the lower side isn't above the higher one
 abbrev pub HasHeight : Box → Type 0
@@ -35,13 +35,13 @@ HasHeight b = b.0.y ≤ℤ b.1.y
 -- the boxes of the numbers come by their lower sides
 abbrev pub AreByBottom : List Box → List ℕ → Type 0
 AreByBottom boxes numbers = (i j : ℕ) → i ≤ j → j < length numbers
-    → (box_of boxes (slice_index numbers i)).0.y ≤ℤ (box_of boxes (slice_index numbers j)).0.y
+    → (numbered_box boxes (slice_index numbers i)).0.y ≤ℤ (numbered_box boxes (slice_index numbers j)).0.y
 
 -- ---- boxes that have a column in common with each of a list
 -- none of the boxes ends before the stretch, and none starts behind it
 abbrev pub IsStretchOf : List Box → List ℕ → Stretch → Type 0
 IsStretchOf boxes numbers s = (k : ℕ) → Contains numbers k
-    → (s.first_end ≤ℤ (box_of boxes k).1.x) × ((box_of boxes k).0.x ≤ℤ s.last_start)
+    → (s.first_end ≤ℤ (numbered_box boxes k).1.x) × ((numbered_box boxes k).0.x ≤ℤ s.last_start)
 
 -- whether the box reaches over the stretch
 abbrev pub covers : Stretch → Box → Bool
@@ -49,19 +49,19 @@ covers s b = int_le b.0.x s.first_end && int_le s.last_start b.1.x
 
 -- where a later one of the numbers covers the stretch, it is in one tree with those before it that it is joined to
 abbrev pub AreJoinedDown : List Box → Stretch → List ℕ → List ℕ → Type 0
-AreJoinedDown boxes s numbers parents = (i j : ℕ) → i < j → j < length numbers → covers s (box_of boxes (slice_index numbers j)) ≡ true
+AreJoinedDown boxes s numbers parents = (i j : ℕ) → i < j → j < length numbers → covers s (numbered_box boxes (slice_index numbers j)) ≡ true
     → AreJoined boxes (slice_index numbers i) (slice_index numbers j)
     → root_of parents (slice_index numbers i) ≡ root_of parents (slice_index numbers j)
 
 -- where an earlier one covers it, it is in one tree with those behind it that it is joined to
 abbrev pub AreJoinedUp : List Box → Stretch → List ℕ → List ℕ → Type 0
-AreJoinedUp boxes s numbers parents = (i j : ℕ) → i < j → j < length numbers → covers s (box_of boxes (slice_index numbers i)) ≡ true
+AreJoinedUp boxes s numbers parents = (i j : ℕ) → i < j → j < length numbers → covers s (numbered_box boxes (slice_index numbers i)) ≡ true
     → AreJoined boxes (slice_index numbers i) (slice_index numbers j)
     → root_of parents (slice_index numbers i) ≡ root_of parents (slice_index numbers j)
 
 -- each of the numbers that covers the stretch is in one tree with those that it is joined to
 abbrev pub AreCoversJoined : List Box → Stretch → List ℕ → List ℕ → Type 0
-AreCoversJoined boxes s numbers parents = (i j : ℕ) → Contains numbers i → Contains numbers j → covers s (box_of boxes i) ≡ true
+AreCoversJoined boxes s numbers parents = (i j : ℕ) → Contains numbers i → Contains numbers j → covers s (numbered_box boxes i) ≡ true
     → AreJoined boxes i j → root_of parents i ≡ root_of parents j
 
 -- of one and the open ones the highest alone stays open
@@ -69,8 +69,8 @@ pub record IsHighestOf (boxes : List Box) (one : ℕ) (opened top : List ℕ) : 
   pub number : ℕ
   pub alone : top ≡ number ∷ []
   pub among : (number ≡ one) ⊎ Contains opened number
-  pub above : (box_of boxes one).1.y ≤ℤ (box_of boxes number).1.y
-  pub highest : (k : ℕ) → Contains opened k → (box_of boxes k).1.y ≤ℤ (box_of boxes number).1.y
+  pub above : (numbered_box boxes one).1.y ≤ℤ (numbered_box boxes number).1.y
+  pub highest : (k : ℕ) → Contains opened k → (numbered_box boxes k).1.y ≤ℤ (numbered_box boxes number).1.y
 
 -- ---- the two sides of a column
 -- whether a corner of the box is on the column or to its left, where the box doesn't cover the stretch

@@ -15,7 +15,7 @@ ghost use Rattle.face_rings.specs.Joining.{
   HasHeight,
   IsHighestOf,
   IsStretchOf,
-  box_of,
+  numbered_box,
 };
 
 use crate::bounds::Bounds;
@@ -129,9 +129,9 @@ fn highest(boxes: &[Bounds], one: usize, numbers: &[usize]) -> usize
     requires one { one < length boxes.now }
     requires inside { All (λ k. k < length boxes.now) numbers.now }
     ensures among { (result ≡ one) ⊎ Contains numbers.now result }
-    ensures above { (box_of boxes.now one).1.y ≤ℤ (box_of boxes.now result).1.y }
+    ensures above { (numbered_box boxes.now one).1.y ≤ℤ (numbered_box boxes.now result).1.y }
     ensures highest { (k : ℕ) → Contains numbers.now k
-        → (box_of boxes.now k).1.y ≤ℤ (box_of boxes.now result).1.y }
+        → (numbered_box boxes.now k).1.y ≤ℤ (numbered_box boxes.now result).1.y }
 {
     let mut top = one;
     for number in numbers {
@@ -145,8 +145,8 @@ fn higher(boxes: &[Bounds], one: usize, other: usize) -> usize
     requires one { one < length boxes.now }
     requires other { other < length boxes.now }
     ensures either { (result ≡ one) ⊎ (result ≡ other) }
-    ensures first { (box_of boxes.now one).1.y ≤ℤ (box_of boxes.now result).1.y }
-    ensures second { (box_of boxes.now other).1.y ≤ℤ (box_of boxes.now result).1.y }
+    ensures first { (numbered_box boxes.now one).1.y ≤ℤ (numbered_box boxes.now result).1.y }
+    ensures second { (numbered_box boxes.now other).1.y ≤ℤ (numbered_box boxes.now result).1.y }
 {
     let (first, second) = (boxes[one], boxes[other]);
     if first.high.y < second.high.y {

@@ -32,7 +32,7 @@ ghost use Rattle.lay_point.specs.Points.{is_in_range};
 ghost use Rattle.lay_point.specs.RingEdges.{edges_of};
 ghost use Rattle.lay_point.specs.Rings.{IsRing};
 ghost use Rattle.lay_point.specs.Rising.{IsRising};
-ghost use Rattle.face_rings.specs.Incidence.{IsIncidence, KeepsMarks, left_of};
+ghost use Rattle.face_rings.specs.Incidence.{IsFirstAt, IsIncidence, KeepsMarks, left_of};
 ghost use Rattle.face_ring_laws.specs.Linked.{AreLinked};
 ghost use Rattle.face_ring_laws.specs.Linking.{
   Ends,
@@ -44,7 +44,7 @@ ghost use Rattle.face_ring_laws.specs.Linking.{
 };
 
 use crate::fault::LinkFault;
-use crate::incidence::Incidence;
+use crate::incidence::{Incidence, Stop};
 use lay_point::{Edge, MAX_RING_POINTS, NoMemory, Point, Ring};
 use std::alloc::{AllocError, Global};
 
@@ -139,44 +139,50 @@ fn ring_points(
     unused.used[number] = true;
     let mut points = Vec::new(alloc);
     points.push(first.low())?;
-    walk_back(edges, unused, first.low(), first.high(), &mut points)?;
+    let stop = unused.high_stop(edges, number);
+    walk_back(edges, unused, first.low(), stop, &mut points)?;
     Ok(points)
 }
 
-/// Adds the points from `at` up to the first return to the start.
+/// Adds the points from this stop up to the first return to the start.
 fn walk_back(
     edges: &[Edge],
     unused: &mut Incidence,
     start: Point,
-    at: Point,
+    stop: Stop,
     points: &mut Vec<Point>,
 ) -> Result<(), AllocError>
-    requires { IsIncidence edges.now unused.old }
+    requires sound { IsIncidence edges.now unused.old }
+    requires first { IsFirstAt unused.old.ends.items stop.at stop.first }
     ensures sound { IsIncidence edges.now unused.new }
     ensures kept { KeepsMarks unused.old.used.items unused.new.used.items }
     ensures points { OnOk result (let left = left_of edges.now unused.old.used.items in
-        points.new.items ≡ points.old.items ++ (way (suc (length left)) start at left).0) }
+        points.new.items ≡ points.old.items ++ (way (suc (length left)) start stop.at left).0) }
     ensures left { OnOk result (let left = left_of edges.now unused.old.used.items in
-        left_of edges.now unused.new.used.items ≡ (way (suc (length left)) start at left).1) }
+        left_of edges.now unused.new.used.items ≡ (way (suc (length left)) start stop.at left).1) }
 {
-    let mut at = at;
-    while at != start {
-        points.push(at)?;
-        let Some(edge) = unused.take_at(edges, at) else {
+    let mut stop = stop;
+    while stop.at != start {
+        points.push(stop.at)?;
+        let Some(number) = unused.take_at(edges, stop) else {
             return Ok(());
         };
-        at = other_end(edge, at);
+        stop = other_stop(edges, unused, number, stop.at);
     }
     Ok(())
 }
 
-/// Returns the end of the edge that `at` isn't.
-fn other_end(edge: Edge, at: Point) -> Point
-    ensures { result ≡ other_end at edge }
+/// Returns the stop at the end of the edge that `at` isn't.
+fn other_stop(edges: &[Edge], unused: &Incidence, number: usize, at: Point) -> Stop
+    requires sound { IsIncidence edges.now unused.now }
+    requires inside { number < length edges.now }
+    ensures point { (d : Ends) → result.at ≡ other_end at (slice_index_or edges.now number d) }
+    ensures first { IsFirstAt unused.now.ends.items result.at result.first }
 {
+    let edge = edges[number];
     if edge.low() == at {
-        edge.high()
+        unused.high_stop(edges, number)
     } else {
-        edge.low()
+        unused.low_stop(edges, number)
     }
 }

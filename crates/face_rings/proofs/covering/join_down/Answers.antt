@@ -1,12 +1,12 @@
 use Rattle.std.proofs.Common.{◌+◌, ◌∙◌, Bool, true, List, ℕ, Vec, Global, arith, ap, get_or, inr, refl, subst, sym}
-use Rattle.face_rings.specs.Joining.{box_of, covers}
+use Rattle.face_rings.specs.Joining.{numbered_box, covers}
 use Rattle.face_rings.proofs.CoverLemmas.{IsPass, opened_inside, pass_covered, pass_opens, read_box}
 use Rattle.face_rings.proofs.covering.join_down.Goals as goal
 use Rattle.face_rings.proofs.covering.join_down.Goals.{then-is_covered_by+in_ok-take_over, else-is_covered_by+in_ok-push}
 
 pub take_over-requires-clause-inside : goal.take_over-requires-clause-inside
 take_over-requires-clause-inside c =
-    opened_inside c.args.boxes.now c.args.numbers.now (λ k. true) (λ k. covers c.args.stretch (box_of c.args.boxes.now k)) c.args.parents.now
+    opened_inside c.args.boxes.now c.args.numbers.now (λ k. true) (λ k. covers c.args.stretch (numbered_box c.args.boxes.now k)) c.args.parents.now
     c.loop-number.parents c.loop-number.number-index c.loop-number.opened.items c.requires.inside c.loop-number.invariant
 
 pub loop-number-preserved : goal.loop-number-preserved
@@ -21,7 +21,7 @@ loop-number-preserved c =
     let lt = c.loop-number-test.true in
     let inside = c.requires.inside i 0 lt in
     let from : ℕ → Bool = (λ k. true) in
-    let to : ℕ → Bool = (λ k. covers c.args.stretch (box_of c.args.boxes.now k)) in
+    let to : ℕ → Bool = (λ k. covers c.args.stretch (numbered_box c.args.boxes.now k)) in
     let at = read_box boxes (get_or numbers i 0) c.index-boxes-number.result inside c.index-boxes-number.is in
     let after : List ℕ → List ℕ → Type 0 = λ ps left. IsPass boxes numbers from to c.args.parents.now ps (i + 1) left in
     elim c.if-is_covered_by.branch [

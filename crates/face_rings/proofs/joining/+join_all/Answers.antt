@@ -1,6 +1,7 @@
 use Rattle.std.proofs.Common.{subst, sym, ◌∙◌, arith, length}
 use Rattle.face_rings.specs.Joining.{AreCoversJoined, IsPartOf, Joins, box_reaches_high, box_reaches_low}
-use Rattle.face_rings.proofs.JoinLemmas.{all_inside, inside_part, joined_by_sides, on_ok}
+use Rattle.face_rings.proofs.CutLemmas.{inside_part, joined_by_sides}
+use Rattle.face_rings.proofs.JoinLemmas.{all_inside, on_ok}
 use Rattle.face_rings.proofs.joining.+join_all.Goals as goal
 
 pub join_all-requires : goal.join_all-requires

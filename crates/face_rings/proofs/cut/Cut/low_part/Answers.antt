@@ -1,7 +1,7 @@
 use Rattle.std.proofs.Common.{◌≡◌, ◌+◌, ◌++◌, [], ◌∷◌, sym, subst, ◌∙◌, ap, take, rules, get_or, List, ℕ, Vec, Global}
 use Rattle.std.proofs.lemmas.List.{take_all}
 use Rattle.face_rings.specs.Joining.{IsPartOf, box_reaches_low}
-use Rattle.face_rings.proofs.JoinLemmas.{part_skips, part_takes}
+use Rattle.face_rings.proofs.CutLemmas.{part_skips, part_takes}
 use Rattle.face_rings.proofs.cut.Cut.low_part.Goals as goal
 use Rattle.face_rings.proofs.cut.Cut.low_part.Goals.{then-reaches_low+in_ok-push, else-reaches_low}
 
