@@ -6,11 +6,11 @@ ghost use Rattle.lay_oriented.specs.Directed.{IsDirectedNaming};
 ghost use Rattle.lay_oriented.specs.Steps.{AreFound, IsFoundFor};
 
 use crate::orienting::{Oriented, are_rings, orient};
-use face_rings::bridge;
+use face_rings::is_path_short;
 use lay_cells::CellId;
 use lay_items::{Snapshot, Version};
 use lay_layouts::{Item, ItemId, Rings};
-use lay_point::{MAX_RING_POINTS, NoMemory, Ring};
+use lay_point::{NoMemory, Ring};
 use std::alloc::Global;
 
 /// A layout with its shapes directed.
@@ -125,7 +125,7 @@ fn step_of(alloc: Global, item: &Item) -> Result<Step, NoMemory>
         Oriented::Already => Ok(Step::Alike),
         Oriented::No => Ok(Step::Otherwise(*cell)),
         Oriented::Turned(new) => {
-            if !are_drawn(alloc, new.as_slice())? {
+            if !are_drawn(new.as_slice()) {
                 return Ok(Step::Otherwise(*cell));
             }
             let rings = Rings::new(alloc, new)?;
@@ -139,12 +139,9 @@ fn step_of(alloc: Global, item: &Item) -> Result<Step, NoMemory>
 }
 
 /// Returns whether rings draw a shape: there are some, and the path round them is no longer than a ring may be.
-fn are_drawn(alloc: Global, rings: &[Ring]) -> Result<bool, NoMemory>
-    ensures { IfOk result (λ drawn. drawn ≡ true → IsDrawn rings.now) }
+fn are_drawn(rings: &[Ring]) -> bool
+    ensures { result ≡ true → IsDrawn rings.now }
 {
     are_rings(rings);
-    if rings.is_empty() {
-        return Ok(false);
-    }
-    Ok(bridge(alloc, rings)?.len() <= MAX_RING_POINTS)
+    !rings.is_empty() && is_path_short(rings)
 }
