@@ -56,7 +56,7 @@ pub fn parts(alloc: Global, rings: Vec<Ring>) -> Result<Vec<Vec<Ring>>, NoMemory
 fn boxes_of(alloc: Global, rings: &[Ring]) -> Result<Vec<Bounds>, AllocError>
     ensures { IfOk result (λ boxes. boxes.items ≡ map bounding_box rings.now) }
 {
-    let mut boxes = Vec::new(alloc);
+    let mut boxes = Vec::with_capacity(alloc, rings.len())?;
     for ring in rings {
         boxes.push(bounds_of(ring))?;
     }
@@ -68,7 +68,7 @@ fn labels_of(alloc: Global, heads: &[usize]) -> Result<(Vec<usize>, usize), Allo
     requires { AreFirst heads.now }
     ensures { IfOk result (λ r. IsNumbered heads.now (length heads.now) r.0.items r.1) }
 {
-    let mut labels: Vec<usize> = Vec::new(alloc);
+    let mut labels: Vec<usize> = Vec::with_capacity(alloc, heads.len())?;
     let mut count = 0;
     for number in 0..heads.len() {
         if heads[number] == number {
@@ -107,7 +107,7 @@ fn empty_parts(alloc: Global, count: usize) -> Result<Vec<Vec<Ring>>, AllocError
     ensures count { IfOk result (λ parts. length parts.items ≡ count) }
     ensures empty { IfOk result (λ parts. All (λ part. length part.items ≡ 0) parts.items) }
 {
-    let mut parts = Vec::new(alloc);
+    let mut parts = Vec::with_capacity(alloc, count)?;
     for _ in 0..count {
         parts.push(Vec::new(alloc))?;
     }

@@ -9,7 +9,7 @@ pub(crate) fn lone(alloc: Global, count: usize) -> Result<Vec<usize>, AllocError
     ensures len { IfOk result (λ all. length all.items ≡ count) }
     ensures each { IfOk result (λ all. (k : ℕ) → k < count → slice_index all.items k ≡ k) }
 {
-    let mut all = Vec::new(alloc);
+    let mut all = Vec::with_capacity(alloc, count)?;
     for number in 0..count {
         all.push(number)?;
     }

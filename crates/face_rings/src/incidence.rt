@@ -167,7 +167,7 @@ fn sorted_ends(alloc: Global, edges: &[Edge]) -> Result<Vec<End>, AllocError>
     ensures sound { IfOk result (λ ends. AreEndsOf edges.now ends.items) }
     ensures lesser { IfOk result (λ ends. (e : Ends) → Contains edges.now e → IsTrue (is_before e.0 e.1)) }
 {
-    let mut ends = Vec::new(alloc);
+    let mut ends = Vec::with_capacity(alloc, 2 * edges.len())?;
     for number in 0..edges.len() {
         let edge = edges[number];
         ends.push(End {

@@ -75,7 +75,7 @@ pub(crate) fn lend_all<'t>(
 ) -> Result<Vec<OwnedRing<'t>>, NoMemory>
     ensures { IfOk result (λ lent. lent.items ≡ rings.now) }
 {
-    let mut lent = Vec::new(alloc);
+    let mut lent = Vec::with_capacity(alloc, rings.len())?;
     for ring in rings {
         lent.push(ring.lend())?;
     }

@@ -1,4 +1,4 @@
-use Rattle.std.proofs.Common.{◌≡◌, ◌≢◌, ◌<◌, ◌≤◌, ◌+◌, length, get_or, ◌∙◌, arith, rules}
+use Rattle.std.proofs.Common.{◌≡◌, ◌≢◌, ◌<◌, ◌≤◌, ◌+◌, length, get_or, subst, ◌∙◌, arith, rules}
 use Rattle.std.proofs.lemmas.List.{get_or_default}
 use Rattle.face_ring_laws.specs.Heads.{IsNumbered}
 use Rattle.face_ring_laws.proofs.PartLemmas.{numbered_fresh, numbered_old}
@@ -28,3 +28,8 @@ loop-number-preserved c =
           w.in_ok-push-2.ensures.items in
           coe 1 0 (k. IsNumbered heads (n + 1) (w.labels-is k).items (w.count-is k) × (w.count-is k ≤ n + 1)) (next, omega (arith, h.1))
     ]
+
+pub returns : goal.returns
+returns c =
+    subst (λ n. IsNumbered c.args.heads.now n c.loop-number.labels.items c.loop-number.count)
+    (omega (arith, c.loop-number-test.false, c.loop-number.auto.number-end)) c.loop-number.invariant.0
