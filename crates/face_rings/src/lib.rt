@@ -28,8 +28,8 @@
 //! through the stretch into those that reach its lower side and those that reach its higher one, over
 //! and over, until they are few: two boxes that have a point in common both reach the side where it is,
 //! so such a pair is joined in one list at least (`Joins` of `specs/Joining.antt`). A stretch halves
-//! with each division, and each end of a box is in one list of a depth at most, so the time grows with
-//! the number of boxes and of divisions.
+//! with each division, and an end of a box is within one stretch of each depth at most, so the time
+//! grows with the number of boxes and the depth.
 //!
 //! Rings that are joined so far are the trees of a forest, in which each has an earlier one for its
 //! parent, and the first has itself (`specs/Forest.antt`).
