@@ -77,22 +77,25 @@ pub fn link(alloc: Global, edges: &[Edge]) -> Result<Vec<Ring>, LinkFault>
     ensures too_many { IsErrOf result LinkFault.TooMany → Any (λ ring. most < length ring) (linked_rings edges.now) }
 {
     let mut unused = Incidence::new(alloc, edges)?;
+    let mut points = Vec::new(alloc);
     let mut rings = Vec::new(alloc);
     for number in 0..edges.len() {
         if !unused.used[number] {
-            let ring = next_ring(alloc, edges, &mut unused, number)?;
+            let ring = next_ring(alloc, edges, &mut unused, number, &mut points)?;
             rings.push(ring)?;
         }
     }
     Ok(rings)
 }
 
-/// Returns the ring that begins with the edge of this number, the first that isn't used.
+/// Returns the ring that begins with the edge of this number, the first that isn't used. Its points are
+/// gathered in `points`, in place of what they were.
 fn next_ring(
     alloc: Global,
     edges: &[Edge],
     unused: &mut Incidence,
     number: usize,
+    points: &mut Vec<Point>,
 ) -> Result<Ring, LinkFault>
     requires sound { IsIncidence edges.now unused.old }
     requires inside { number < length edges.now }
@@ -110,20 +113,20 @@ fn next_ring(
     ensures too_many { IsErrOf result LinkFault.TooMany
         → most < length (first_ring (left_of edges.now unused.old.used.items)) }
 {
-    let points = ring_points(alloc, edges, unused, number)?;
+    walk_ring(edges, unused, number, points)?;
     if points.len() > MAX_RING_POINTS {
         return Err(LinkFault::TooMany);
     }
-    Ring::new(alloc, &points).map_err(|_| LinkFault::NoMemory)
+    Ring::new(alloc, points).map_err(|_| LinkFault::NoMemory)
 }
 
-/// Returns the points of the ring that begins with the edge of this number, the first that isn't used.
-fn ring_points(
-    alloc: Global,
+/// Makes `points` those of the ring that begins with the edge of this number, the first that isn't used.
+fn walk_ring(
     edges: &[Edge],
     unused: &mut Incidence,
     number: usize,
-) -> Result<Vec<Point>, NoMemory>
+    points: &mut Vec<Point>,
+) -> Result<(), NoMemory>
     requires sound { IsIncidence edges.now unused.old }
     requires inside { number < length edges.now }
     requires first { (d : Ends) → left_of edges.now unused.old.used.items
@@ -131,17 +134,17 @@ fn ring_points(
     ensures sound { IsIncidence edges.now unused.new }
     ensures kept { KeepsMarks unused.old.used.items unused.new.used.items }
     ensures marked { OnOk result (slice_index_or unused.new.used.items number true ≡ true) }
-    ensures points { IfOk result (λ ps. ps.items ≡ first_ring (left_of edges.now unused.old.used.items)) }
+    ensures points { OnOk result (points.new.items ≡ first_ring (left_of edges.now unused.old.used.items)) }
     ensures left { OnOk result (left_of edges.now unused.new.used.items
         ≡ behind_first (left_of edges.now unused.old.used.items)) }
 {
     let first = edges[number];
     unused.used[number] = true;
-    let mut points = Vec::new(alloc);
+    points.clear();
     points.push(first.low())?;
     let stop = unused.high_stop(edges, number);
-    walk_back(edges, unused, first.low(), stop, &mut points)?;
-    Ok(points)
+    walk_back(edges, unused, first.low(), stop, points)?;
+    Ok(())
 }
 
 /// Adds the points from this stop up to the first return to the start.
