@@ -19,7 +19,7 @@ use Rattle.face_sweep.specs.declared.known.Known.{Known}
 use Rattle.face_sweep.specs.declared.stops.Stop.{Stop}
 use Rattle.face_sweep.specs.declared.stops.Stops.{Stops}
 use Rattle.face_sweep.specs.OwnRows.{IsCutAt, own_edge, own_of}
-use Rattle.face_sweep.specs.Points.{AreBegunAt, HasHigh, HasLow, IsGroup, IsLevelFrom, IsPassed, IsStatus, distance_from}
+use Rattle.face_sweep.specs.Points.{AreBegunAt, HasHigh, HasLow, IsEndedGroup, IsLevelFrom, IsPassed, IsStatus, distance_from}
 use Rattle.face_sweep.specs.Sides.{AreBehind, IsKnown, holds_beside, is_odd_in}
 use Rattle.face_sweep.specs.Stops.{AreStops}
 use Rattle.face_sweep.proofs.PassLemmas.{AreRest, has_back, has_front, none_of_group}
@@ -94,7 +94,7 @@ module _ (old new begun : List ℕ) (from to : ℕ) (order : from ≤ to) (bound
   new_at k less = sym (get_or-drop from new k 0) ∙ ap (λ l. get_or l k 0) new_back ∙ get_or_append_left begun (drop to old) 0 k less
 
 -- ---- where they are beside the point
-module _ (r : Owned) (p : Point) (numbers : List ℕ) (from to : ℕ) (sound : AreSound r) (h : IsGroup r p numbers from to) where
+module _ (r : Owned) (p : Point) (numbers : List ℕ) (from to : ℕ) (sound : AreSound r) (h : IsEndedGroup r p numbers from to) where
   front_left : (n : ℕ) → Contains (take from numbers) n → distance_from r p n <ℤ pos 0
   front_left n found =
       let f = has_front numbers from n (omega (arith, h.order, h.bound)) found in
@@ -172,7 +172,7 @@ own_joined r o numbers from =
 
 -- ---- the sides that are known
 -- those of the group are forgotten
-module _ (r : Owned) (p : Point) (numbers : List ℕ) (from to : ℕ) (sound : AreSound r) (h : IsGroup r p numbers from to) (old known : Known)
+module _ (r : Owned) (p : Point) (numbers : List ℕ) (from to : ℕ) (sound : AreSound r) (h : IsEndedGroup r p numbers from to) (old known : Known)
     (all : (n : ℕ) → Contains numbers n → IsKnown old n)
     (kept : (n : ℕ) → (Contains (slice_range numbers from to) n → ⊥) → IsKnown old n → IsKnown known n) where
   pub known_rest : (n : ℕ) → Contains (drop to numbers) n → IsKnown known n

@@ -10,8 +10,8 @@ use Rattle.face_rows.specs.Operations.{answer}
 use Rattle.face_sweep.specs.declared.stops.Stop.{Stop}
 use Rattle.face_sweep.specs.declared.stops.Stops.{Stops}
 use Rattle.face_sweep.specs.declared.reach.Reach.{Reach}
-use Rattle.face_sweep.specs.OwnRows.{AreOwn, HasRoom, own_of}
-use Rattle.face_sweep.specs.Points.{AreBegunAt, IsEndPoint, IsGroup, IsLevelFrom, IsPassed, IsStatus}
+use Rattle.face_sweep.specs.OwnRows.{AreOwn, HaveLists, own_of}
+use Rattle.face_sweep.specs.Points.{AreBegunAt, IsEndPoint, IsEndedGroup, IsLevelFrom, IsPassed, IsStatus}
 use Rattle.face_sweep.specs.Reaches.{IsReach, keys_of}
 use Rattle.face_sweep.specs.Sides.{AreKnown, IsKnown}
 use Rattle.face_sweep.specs.Stops.{AreStops, BeginAt}
@@ -44,17 +44,17 @@ pub record IsLineAt (r : Owned) (reach : Reach) (p : Point) (line : Line) : Type
   pub status : IsStatus r p line.numbers.items
   pub known : AreKnown r line.known
   pub all : (n : ℕ) → Contains line.numbers.items n → IsKnown line.known n
-  pub room : HasRoom r (keys_of reach) line.own
+  pub room : HaveLists r (keys_of reach) line.own
   pub own : AreOwn (keys_of reach) (λ o. own_of r o line.numbers.items) line.own
 
 -- the same, but of the edges of the group, which end at its point, only the numbers
 pub record IsLineWithout (r : Owned) (reach : Reach) (gone : Group) (line : Line) : Type 0 where
   pub status : IsStatus r gone.point line.numbers.items
-  pub group : IsGroup r gone.point line.numbers.items gone.from gone.to
+  pub group : IsEndedGroup r gone.point line.numbers.items gone.from gone.to
   pub known : AreKnown r line.known
   pub all_left : (n : ℕ) → Contains (take gone.from line.numbers.items) n → IsKnown line.known n
   pub all_right : (n : ℕ) → Contains (drop gone.to line.numbers.items) n → IsKnown line.known n
-  pub room : HasRoom r (keys_of reach) line.own
+  pub room : HaveLists r (keys_of reach) line.own
   pub own : AreOwn (keys_of reach)
       (λ o. own_of r o (drop gone.to line.numbers.items) ++ own_of r o (take gone.from line.numbers.items)) line.own
 
@@ -63,7 +63,7 @@ pub record IsLinePast (r : Owned) (reach : Reach) (p : Point) (line : Line) : Ty
   pub passed : IsPassed r p line.numbers.items
   pub known : AreKnown r line.known
   pub all : (n : ℕ) → Contains line.numbers.items n → IsKnown line.known n
-  pub room : HasRoom r (keys_of reach) line.own
+  pub room : HaveLists r (keys_of reach) line.own
   pub own : AreOwn (keys_of reach) (λ o. own_of r o line.numbers.items) line.own
 
 -- at the edge's number is its label

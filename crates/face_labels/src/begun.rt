@@ -22,7 +22,7 @@ ghost use Rattle.face_rows.specs.Lines.{edge_at, owned_item_at};
 ghost use Rattle.face_rows.specs.Operations.{answer};
 ghost use Rattle.face_rows.specs.Rows.{upward};
 ghost use Rattle.face_rows.specs.Sound.{AreSound};
-ghost use Rattle.face_sweep.specs.OwnRows.{AreOwn, AreRight, HasPutEdge, HasRoom, IsCutAt, own_of};
+ghost use Rattle.face_sweep.specs.OwnRows.{AreOwn, AreRight, HasPutEdge, HaveLists, IsCutAt, own_of};
 ghost use Rattle.face_sweep.specs.Reaches.{IsReach, keys_of};
 ghost use Rattle.face_sweep.specs.Sides.{AreBehind, AreKnown, IsKnown, holds_beside, is_odd_in};
 ghost use Rattle.face_sweep.specs.Stops.{BeginAt};
@@ -76,7 +76,7 @@ pub(crate) fn label_levels(
     requires known { AreKnown edges.now known.now }
     requires all { All (IsKnown known.now) behind.now }
     requires reach { IsReach edges.now reach.now }
-    requires room { HasRoom edges.now (keys_of reach.now) own.now }
+    requires room { HaveLists edges.now (keys_of reach.now) own.now }
     requires own { AreRight edges.now (keys_of reach.now) (Some point) behind.now own.now }
     requires levels { All (λ n. n < length edges.now.0) levels.now }
     requires beside { (n : ℕ) (o : Owner) → Contains levels.now n
@@ -111,7 +111,7 @@ fn level_label(
     requires known { AreKnown edges.now known.now }
     requires all { All (IsKnown known.now) behind.now }
     requires reach { IsReach edges.now reach.now }
-    requires room { HasRoom edges.now (keys_of reach.now) own.now }
+    requires room { HaveLists edges.now (keys_of reach.now) own.now }
     requires own { AreRight edges.now (keys_of reach.now) (Some point) behind.now own.now }
     requires number { number < length edges.now.0 }
     requires beside { (o : Owner) → is_odd_in edges.now behind.now o ≡ holds_beside edges.now number o }
@@ -146,7 +146,7 @@ pub(crate) fn find_begun(
     requires behind { AreBehind edges.now (drop group.from numbers.now) }
     requires known { AreKnown edges.now known.old }
     requires all { All (IsKnown known.old) (drop group.to numbers.now) }
-    requires room { HasRoom edges.now (keys_of reach.now) own.old }
+    requires room { HaveLists edges.now (keys_of reach.now) own.old }
     requires cut { IsCutAt edges.now group.point (drop group.from numbers.now) (take group.from numbers.now) }
     requires own { AreOwn (keys_of reach.now)
         (λ o. own_of edges.now o (drop group.to numbers.now) ++ own_of edges.now o (take group.from numbers.now)) own.old }
@@ -154,7 +154,7 @@ pub(crate) fn find_begun(
     ensures known { OnOk result (AreKnown edges.now known.new) }
     ensures kept { OnOk result ((n : ℕ) → IsKnown known.old n → IsKnown known.new n) }
     ensures all { OnOk result (All (IsKnown known.new) (drop group.from numbers.now)) }
-    ensures room { OnOk result (HasRoom edges.now (keys_of reach.now) own.new) }
+    ensures room { OnOk result (HaveLists edges.now (keys_of reach.now) own.new) }
     ensures own { OnOk result (AreOwn (keys_of reach.now) (λ o. own_of edges.now o numbers.now) own.new) }
     ensures count { length labels.new.items ≡ length edges.now.0 }
     ensures written { OnOk result ((n : ℕ) → HasLabel op edges.now labels.old.items n
@@ -206,13 +206,13 @@ fn find_labelled(
         ≡ holds_beside edges.now (slice_index numbers.now index) o }
     requires known { AreKnown edges.now known.old }
     requires all { All (IsKnown known.old) (drop (index + 1) numbers.now) }
-    requires room { HasRoom edges.now (keys_of reach.now) own.old }
+    requires room { HaveLists edges.now (keys_of reach.now) own.old }
     requires own { AreRight edges.now (keys_of reach.now) (Some point) (drop (index + 1) numbers.now) own.old }
     requires count { length labels.old.items ≡ length edges.now.0 }
     ensures known { OnOk result (AreKnown edges.now known.new) }
     ensures kept { OnOk result ((n : ℕ) → IsKnown known.old n → IsKnown known.new n) }
     ensures here { OnOk result (IsKnown known.new (slice_index numbers.now index)) }
-    ensures room { OnOk result (HasRoom edges.now (keys_of reach.now) own.new) }
+    ensures room { OnOk result (HaveLists edges.now (keys_of reach.now) own.new) }
     ensures put { OnOk result
         (HasPutEdge edges.now (keys_of reach.now) (Some point) (slice_index numbers.now index) own.old own.new) }
     ensures count { length labels.new.items ≡ length edges.now.0 }

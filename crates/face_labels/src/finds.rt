@@ -19,7 +19,7 @@ ghost use Rattle.std.specs.List.Sorted.{IsStrictlyIncreasing};
 ghost use Rattle.snap_chains.specs.declared.owner.Owner.{Owner};
 ghost use Rattle.snap_chains.specs.Rounded.{Owned};
 ghost use Rattle.face_rows.specs.Sound.{AreSound};
-ghost use Rattle.face_sweep.specs.OwnRows.{AreOwn, HasRoom, IsCutAt, own_of};
+ghost use Rattle.face_sweep.specs.OwnRows.{AreOwn, HaveLists, IsCutAt, own_of};
 ghost use Rattle.face_sweep.specs.Reaches.{IsReach, keys_of};
 ghost use Rattle.face_sweep.specs.Sides.{AreBehind, AreKnown, IsKnown, holds_beside, is_odd_in};
 
@@ -41,11 +41,11 @@ pub(crate) fn find_sides(
     requires given { All (λ n. n < length edges.now.0) numbers.now }
     requires behind { AreBehind edges.now numbers.now }
     requires known { AreKnown edges.now known.old }
-    requires room { HasRoom edges.now (keys_of reach.now) own.old }
+    requires room { HaveLists edges.now (keys_of reach.now) own.old }
     requires own { AreOwn (keys_of reach.now) (λ o. []) own.old }
     ensures known { OnOk result (AreKnown edges.now known.new) }
     ensures all { OnOk result (All (IsKnown known.new) numbers.now) }
-    ensures room { OnOk result (HasRoom edges.now (keys_of reach.now) own.new) }
+    ensures room { OnOk result (HaveLists edges.now (keys_of reach.now) own.new) }
     ensures own { OnOk result (AreOwn (keys_of reach.now) (λ o. own_of edges.now o numbers.now) own.new) }
 {
     let mut index = numbers.len();
@@ -75,12 +75,12 @@ fn find_one(
         ≡ holds_beside edges.now (slice_index numbers.now index) o }
     requires known { AreKnown edges.now known.old }
     requires all { All (IsKnown known.old) (drop (index + 1) numbers.now) }
-    requires room { HasRoom edges.now (keys_of reach.now) own.old }
+    requires room { HaveLists edges.now (keys_of reach.now) own.old }
     requires own { AreOwn (keys_of reach.now) (λ o. own_of edges.now o (drop (index + 1) numbers.now)) own.old }
     ensures known { OnOk result (AreKnown edges.now known.new) }
     ensures kept { OnOk result ((n : ℕ) → IsKnown known.old n → IsKnown known.new n) }
     ensures here { OnOk result (IsKnown known.new (slice_index numbers.now index)) }
-    ensures room { OnOk result (HasRoom edges.now (keys_of reach.now) own.new) }
+    ensures room { OnOk result (HaveLists edges.now (keys_of reach.now) own.new) }
     ensures own { OnOk result (AreOwn (keys_of reach.now) (λ o. own_of edges.now o (drop index numbers.now)) own.new) }
 {
     let number = numbers[index];
@@ -113,10 +113,10 @@ pub(crate) fn take_out(
     requires order { group.from ≤ group.to }
     requires bound { group.to ≤ length numbers.now }
     requires rising { IsStrictlyIncreasing (keys_of reach.now) }
-    requires room { HasRoom edges.now (keys_of reach.now) own.old }
+    requires room { HaveLists edges.now (keys_of reach.now) own.old }
     requires cut { IsCutAt edges.now group.point (drop group.from numbers.now) (take group.from numbers.now) }
     requires own { AreOwn (keys_of reach.now) (λ o. own_of edges.now o numbers.now) own.old }
-    ensures room { HasRoom edges.now (keys_of reach.now) own.new }
+    ensures room { HaveLists edges.now (keys_of reach.now) own.new }
     ensures own { AreOwn (keys_of reach.now)
         (λ o. own_of edges.now o (drop group.to numbers.now) ++ own_of edges.now o (take group.from numbers.now)) own.new }
 {

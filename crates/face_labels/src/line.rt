@@ -16,7 +16,7 @@ ghost use Rattle.std.specs.Prelude.{
 ghost use Rattle.face_rows.specs.Rows.{AreRowEdges};
 ghost use Rattle.face_rows.specs.Sound.{AreSound};
 ghost use Rattle.face_sweep.specs.declared.stops.Stop.{Stop};
-ghost use Rattle.face_sweep.specs.Points.{AreBegunAt, HasLow, IsEndPoint, IsGroup, IsStatus};
+ghost use Rattle.face_sweep.specs.Points.{AreBegunAt, HasLow, IsEndPoint, IsEndedGroup, IsStatus};
 ghost use Rattle.face_sweep.specs.Reaches.{IsReach};
 ghost use Rattle.face_sweep.specs.Stops.{AreStops};
 ghost use Rattle.face_labels.specs.RowSides.{HasLabel, IsLineAt, IsLinePast, IsLineWithout, IsShared, IsSweepStop};
@@ -134,7 +134,7 @@ impl Line {
         requires end { IsEndPoint edges.now point }
         requires status { IsStatus edges.now point self.now.numbers.items }
         ensures point { result.point ≡ point }
-        ensures group { IsGroup edges.now point self.now.numbers.items result.from result.to }
+        ensures group { IsEndedGroup edges.now point self.now.numbers.items result.from result.to }
     {
         let from = place_of_point(edges, self.numbers.as_slice(), point, self.place);
         let to = group_end(edges, self.numbers.as_slice(), point, from);
@@ -147,7 +147,7 @@ impl Line {
         requires sound { AreSound edges.now }
         requires reach { IsReach edges.now reach.now }
         requires line { IsLineAt edges.now reach.now group.point self }
-        requires group { IsGroup edges.now group.point self.numbers.items group.from group.to }
+        requires group { IsEndedGroup edges.now group.point self.numbers.items group.from group.to }
         ensures { IsLineWithout edges.now reach.now group result }
     {
         let mut known = self.known;

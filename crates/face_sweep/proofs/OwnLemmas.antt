@@ -28,9 +28,9 @@ use Rattle.face_rows.specs.Lines.{owners_at}
 use Rattle.face_rows.proofs.OwnerLemmas.{none_before, owner_itself, turn_more}
 use Rattle.face_rows.proofs.Shapes.{same_owner}
 use Rattle.face_sweep.specs.declared.own_rows.OwnRows.{OwnRows}
-use Rattle.face_sweep.specs.OwnRows.{AreOwn, HasRoom, IsCutAt, is_odd, list_at, lists_of, one_if, own_edge, own_of}
+use Rattle.face_sweep.specs.OwnRows.{AreOwn, HaveLists, IsCutAt, is_odd, list_at, lists_of, listed_if, own_edge, own_of}
 use Rattle.face_sweep.specs.Points.{distance_from}
-use Rattle.face_sweep.specs.Reaches.{key_of, turn_of}
+use Rattle.face_sweep.specs.Reaches.{key_of, input_number}
 use Rattle.face_sweep.specs.Sides.{is_odd_in}
 
 -- ---- those of the edges that a shape owns
@@ -41,7 +41,7 @@ pub odd_by_rest : (n : ℕ) → nat_eq (n % 2) 1 ≡ is_odd n
 odd_by_rest zero = refl
 odd_by_rest (suc n) = odd_next n ∙ ap not (odd_by_rest n)
 
-one_more : (xs : List ℕ) (n : ℕ) (b c : Bool) → is_odd (length xs) ≡ c → is_odd (length (xs ++ one_if b n)) ≡ xor b c
+one_more : (xs : List ℕ) (n : ℕ) (b c : Bool) → is_odd (length xs) ≡ c → is_odd (length (xs ++ listed_if b n)) ≡ xor b c
 one_more xs n true c h = ap is_odd (length-append xs (n ∷ []) ∙ add-one (length xs)) ∙ ap not h
 one_more xs n false c h = ap (λ l. is_odd (length l)) (append-nil xs) ∙ h
 
@@ -56,7 +56,7 @@ own_append r o [] ys = sym (append-nil (own_of r o ys))
 own_append r o (x ∷ xs) ys =
     ap (λ l. l ++ own_edge r o x) (own_append r o xs ys) ∙ append_assoc (own_of r o ys) (own_of r o xs) (own_edge r o x)
 
-one_has : (b : Bool) (n m : ℕ) → Has (one_if b n) m → n ≡ m
+one_has : (b : Bool) (n m : ℕ) → Has (listed_if b n) m → n ≡ m
 one_has true n m (inl same) = same
 one_has true n m (inr none) = absurd none
 one_has false n m none = absurd none
@@ -110,7 +110,7 @@ cut_place r p numbers right left place is h bound before behind =
     (subst (λ l. place < length l → distance_from r p (get_or l place 0) <ℤ pos 0) is behind)
 
 -- ---- keys
-owner_is : (i j : Input) (m n : ℕ) → 2 * m + turn_of i ≡ 2 * n + turn_of j
+owner_is : (i j : Input) (m n : ℕ) → 2 * m + input_number i ≡ 2 * n + input_number j
     → (let o : Owner = record { input = i; shape = m } in o) ≡ record { input = j; shape = n }
 owner_is First First m n e =
     let same : m ≡ n = omega arith in λ k. record { input = First; shape = same k }
@@ -164,7 +164,7 @@ module _ (keys : List ℕ) (old new : OwnRows) (i : ℕ) (v : List ℕ) (same : 
   others : (j : ℕ) → j ≢ i → list_at new j ≡ list_at old j
   others j apart = ap (λ l. get_or l j []) is ∙ get_or-set_other (lists_of old) i j v [] apart
 
-  pub room_changed : (r : Owned) → HasRoom r keys old → All (λ n. n < length r.0) v → HasRoom r keys new
+  pub room_changed : (r : Owned) → HaveLists r keys old → All (λ n. n < length r.0) v → HaveLists r keys new
   room_changed r room all = record {
     count = ap length is ∙ length-set (lists_of old) i v ∙ room.count;
     given = λ j. ⊎_elim

@@ -10,7 +10,7 @@ use Rattle.snap_chains.specs.declared.owner.Owner.{Owner}
 use Rattle.snap_chains.specs.Rounded.{Owned}
 use Rattle.face_rows.specs.Rows.{AreSomeRowEdges}
 use Rattle.face_rows.specs.Sound.{AreSound}
-use Rattle.face_sweep.specs.Points.{AreBegunAt, HasHigh, IsEndPoint, IsGroup, IsLevelFrom, IsStatus, distance_from}
+use Rattle.face_sweep.specs.Points.{AreBegunAt, HasHigh, IsEndPoint, IsEndedGroup, IsLevelFrom, IsStatus, distance_from}
 use Rattle.face_sweep.specs.Sides.{AreBehind, holds_beside, is_odd_in}
 use Rattle.face_sweep.proofs.BehindLemmas.{passed_behind, status_behind}
 use Rattle.face_sweep.proofs.LevelLemmas.{level_behind}
@@ -23,20 +23,20 @@ pub record AreRest (r : Owned) (p : Point) (numbers : List ℕ) : Type 0 where
   pub behind : AreBehind r numbers
 
 pub rest_of_status : (r : Owned) (p : Point) (numbers : List ℕ) (from to : ℕ) → AreSound r → IsEndPoint r p → IsStatus r p numbers
-    → IsGroup r p numbers from to → AreRest r p (drop to numbers)
+    → IsEndedGroup r p numbers from to → AreRest r p (drop to numbers)
 rest_of_status r p numbers from to sound v s h =
     subst (AreRest r p) (sym (status_rest r p numbers from to sound v s h))
     (record { row = s.row_above; behind = status_behind r p numbers sound s })
 
 pub rest_beside : (r : Owned) (p : Point) (numbers : List ℕ) (from to n : ℕ) (o : Owner) → AreSound r → IsEndPoint r p
     → IsStatus r p numbers
-    → IsGroup r p numbers from to → IsLevelFrom r p n → is_odd_in r (drop to numbers) o ≡ holds_beside r n o
+    → IsEndedGroup r p numbers from to → IsLevelFrom r p n → is_odd_in r (drop to numbers) o ≡ holds_beside r n o
 rest_beside r p numbers from to n o sound v s h level =
     ap (λ l. is_odd_in r l o) (status_rest r p numbers from to sound v s h) ∙ level_behind r p numbers n sound level s o
 
 -- once it is passed
 pub rest_of_passed : (r : Owned) (p : Point) (numbers begun : List ℕ) (from to : ℕ) → AreSound r → IsEndPoint r p → IsStatus r p numbers
-    → AreBegunAt r p begun → IsGroup r p numbers from to → AreRest r p (begun ++ drop to numbers)
+    → AreBegunAt r p begun → IsEndedGroup r p numbers from to → AreRest r p (begun ++ drop to numbers)
 rest_of_passed r p numbers begun from to sound v s b h =
     let t = passed_rest r p numbers begun from to sound v s b h in
     subst (AreRest r p) t.1
@@ -65,7 +65,7 @@ has_back xs to n (j, less, at) =
     let inside : to + j < length xs = omega (arith, length-drop to xs) in
     (to + j, omega arith, inside, get_or_default xs (to + j) 0 n inside ∙ sym (get_or-drop to xs j n) ∙ at)
 
-pub none_of_group : (r : Owned) (p : Point) (numbers : List ℕ) (from to n : ℕ) → AreSound r → IsGroup r p numbers from to
+pub none_of_group : (r : Owned) (p : Point) (numbers : List ℕ) (from to n : ℕ) → AreSound r → IsEndedGroup r p numbers from to
     → Contains (take from numbers ++ drop to numbers) n → Contains (slice_range numbers from to) n → ⊥
 none_of_group r p numbers from to n sound h other within =
     let g = has_range numbers from to n h.order h.bound within in

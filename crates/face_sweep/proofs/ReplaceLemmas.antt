@@ -14,7 +14,7 @@ use Rattle.face_rows.specs.Lines.{edge_at}
 use Rattle.snap_chains.specs.Rounded.{Owned}
 use Rattle.face_rows.specs.Rows.{upward}
 use Rattle.face_rows.specs.Sound.{AreSound}
-use Rattle.face_sweep.specs.Points.{HasHigh, IsGroup, IsPlaceAmong, IsStatus, IsEndPoint, distance_from}
+use Rattle.face_sweep.specs.Points.{HasHigh, IsEndedGroup, IsPlaceAmong, IsStatus, IsEndPoint, distance_from}
 use Rattle.face_sweep.proofs.StatusLemmas.{append_joined, places_tell}
 
 take_length : (xs : List ℕ) (n : ℕ) → n ≤ length xs → length (take n xs) ≡ n
@@ -97,7 +97,7 @@ status_given r p numbers s k less =
 pub group_here : (r : Owned) (p : Point) (numbers : List ℕ) (from to : ℕ) → AreSound r → IsEndPoint r p → IsStatus r p numbers
     → IsPlaceAmong r p numbers from → from ≤ to → to ≤ length numbers
     → ((k : ℕ) → from ≤ k → k < to → HasHigh r p (slice_index numbers k))
-    → (to < length numbers → point_eq (upward (edge_at r (slice_index numbers to))).1 p ≡ false) → IsGroup r p numbers from to
+    → (to < length numbers → point_eq (upward (edge_at r (slice_index numbers to))).1 p ≡ false) → IsEndedGroup r p numbers from to
 group_here r p numbers from to sound v s place order bound ends other =
     let t = places_tell r p numbers from sound v s place in
     record {

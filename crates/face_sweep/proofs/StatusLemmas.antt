@@ -17,7 +17,7 @@ use Rattle.face_rows.specs.Lines.{edge_at, nowhere}
 use Rattle.snap_chains.specs.Rounded.{Owned}
 use Rattle.face_rows.specs.Rows.{AreSomeRowEdges, CrossesRow, IsLeftOf, crossing, rise, upward}
 use Rattle.face_rows.specs.Sound.{AreSound}
-use Rattle.face_sweep.specs.Points.{AreBegunAt, HasHigh, IsGroup, IsPassed, IsPlaceAmong, IsStatus, IsEndPoint, TellsAll, distance_from}
+use Rattle.face_sweep.specs.Points.{AreBegunAt, HasHigh, IsEndedGroup, IsPassed, IsPlaceAmong, IsStatus, IsEndPoint, TellsAll, distance_from}
 use Rattle.face_sweep.proofs.PointLemmas.{begins_none, beside_below, beside_own, ends_none, in_order, meets, none_begins, none_ends, span}
 
 -- ---- lists
@@ -187,7 +187,7 @@ module _ (r : Owned) (sound : AreSound r) where
               (cases_lt (suc k) place)
 
       -- ---- past the point
-      pub group_end : (from to : ℕ) → IsGroup r p (below ++ above) from to → to ≡ length below
+      pub group_end : (from to : ℕ) → IsEndedGroup r p (below ++ above) from to → to ≡ length below
       group_end from to h = ⊎_elim
           (λ (less : to < length below).
           let near = left (at to) (below_at to less) in
@@ -209,7 +209,7 @@ module _ (r : Owned) (sound : AreSound r) where
       pub passed : (begun : List ℕ) (from to : ℕ) → AreSomeRowEdges r.0 p.y above
           → ((n : ℕ) → CrossesRow r.0 (p.y -ℤ pos 1) n → distance_from r p n ≤ℤ pos 0 → Contains below n)
           → ((n : ℕ) → CrossesRow r.0 p.y n → pos 0 <ℤ distance_from r p n → Contains above n)
-          → AreBegunAt r p begun → IsGroup r p (below ++ above) from to
+          → AreBegunAt r p begun → IsEndedGroup r p (below ++ above) from to
           → IsPassed r p (take from (below ++ above) ++ begun ++ drop to (below ++ above))
       passed begun from to row_above all_left all_right b h =
           let last = group_end from to h in
@@ -261,26 +261,26 @@ places_tell r p numbers place sound v s h =
     (tells r sound p v s.below s.above s.row_below s.left s.right place (subst (λ ns. IsPlaceAmong r p ns place) s.joined h))
 
 pub points_pass : (r : Owned) (p : Point) (numbers begun : List ℕ) (from to : ℕ) → AreSound r → IsEndPoint r p → IsStatus r p numbers
-    → AreBegunAt r p begun → IsGroup r p numbers from to → IsPassed r p (take from numbers ++ begun ++ drop to numbers)
+    → AreBegunAt r p begun → IsEndedGroup r p numbers from to → IsPassed r p (take from numbers ++ begun ++ drop to numbers)
 points_pass r p numbers begun from to sound v s b h =
     subst (λ ns. IsPassed r p (take from ns ++ begun ++ drop to ns)) (sym s.joined)
     (passed r sound p v s.below s.above s.row_below s.left s.right begun from to s.row_above s.all_left s.all_right b
-    (subst (λ ns. IsGroup r p ns from to) s.joined h))
+    (subst (λ ns. IsEndedGroup r p ns from to) s.joined h))
 
 -- ---- what is right of the point
 pub status_rest : (r : Owned) (p : Point) (numbers : List ℕ) (from to : ℕ) → AreSound r → IsEndPoint r p → (s : IsStatus r p numbers)
-    → IsGroup r p numbers from to → drop to numbers ≡ s.above
+    → IsEndedGroup r p numbers from to → drop to numbers ≡ s.above
 status_rest r p numbers from to sound v s h =
-    let last = group_end r sound p v s.below s.above s.row_below s.left s.right from to (subst (λ ns. IsGroup r p ns from to) s.joined h) in
+    let last = group_end r sound p v s.below s.above s.row_below s.left s.right from to (subst (λ ns. IsEndedGroup r p ns from to) s.joined h) in
     ap (drop to) s.joined ∙ drop_at s.below s.above to (sym last)
 
 -- once the point is passed, the edges that begin there and those right of it are those of its own row
 pub passed_rest : (r : Owned) (p : Point) (numbers begun : List ℕ) (from to : ℕ) → AreSound r → IsEndPoint r p → IsStatus r p numbers
-    → AreBegunAt r p begun → IsGroup r p numbers from to
+    → AreBegunAt r p begun → IsEndedGroup r p numbers from to
     → (t : IsPassed r p (take from numbers ++ begun ++ drop to numbers)) × (t.above ≡ begun ++ drop to numbers)
 unfolding passed
 passed_rest r p numbers begun from to sound v s b h =
-    let g = subst (λ ns. IsGroup r p ns from to) s.joined h in
+    let g = subst (λ ns. IsEndedGroup r p ns from to) s.joined h in
     let last = group_end r sound p v s.below s.above s.row_below s.left s.right from to g in
     subst (λ ns. (t : IsPassed r p (take from ns ++ begun ++ drop to ns)) × (t.above ≡ begun ++ drop to ns)) (sym s.joined) (
       passed r sound p v s.below s.above s.row_below s.left s.right begun from to s.row_above s.all_left s.all_right b g,

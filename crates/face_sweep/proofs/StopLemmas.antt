@@ -42,7 +42,7 @@ use Rattle.face_rows.proofs.UpwardLemmas.{up_rises}
 use Rattle.face_sweep.proofs.OrderLemmas.{crosses}
 use Rattle.face_sweep.specs.Points.{HasHigh, HasLow, IsAfter, IsEndPoint, IsLevelFrom}
 use Rattle.face_sweep.specs.Stops.{AreBegins, ArePlacesInOrder, AreRisers, AreStops, AreTops, BeginAt, IsBeginOf, IsExtended, IsFirstLevel}
-use Rattle.face_sweep.specs.Stops.{IsGroup}
+use Rattle.face_sweep.specs.Stops.{IsBegunGroup}
 use Rattle.face_sweep.specs.Stops.{IsHead, IsHeadUpTo, IsNextPlace, IsNoLater, HasLowPlace, HasTopPlace, IsPlaceRun, IsSooner, from_least}
 use Rattle.face_sweep.specs.Stops.{above_least, IsTopOf, IsWithRisers, begin_of, edge_begins, edge_tops}
 use Rattle.face_sweep.specs.Stops.{begin_numbers, sweep_place, begin_places, swept_point}
@@ -363,7 +363,7 @@ pub group_of : (es : List (Point × Point)) (begins : List Begin) (points : List
     → IsPlaceRun (begin_places begins) low after p
     → ((k : ℕ) (d : Place) → k < low → k < length (begin_places begins) → Contains points (swept_point (get_or (begin_places begins) k d)))
     → ((q : Point) → Contains points q → IsAfter q (swept_point p))
-    → IsGroup es (swept_point p) (slice_range begins low after)
+    → IsBegunGroup es (swept_point p) (slice_range begins low after)
 group_of es begins points low after p h run had passed =
     let count = length-map begins (λ (b : Begin). b.place) in
     let bound : after ≤ length begins = omega (arith, count, run.bound) in
@@ -407,7 +407,7 @@ group_of es begins points low after p h run had passed =
     here : (k : ℕ) (d : Begin) → low ≤ k → k < after → k < length begins → (get_or begins k d).place ≡ p
     here k d ge lt inside = sym (get_or-map (λ (z : Begin). z.place) begins k d p inside) ∙ run.same k p ge lt
 
-pub risers_of : (es : List (Point × Point)) (p : Point) (group : List Begin) (index : ℕ) → IsGroup es p group → IsFirstLevel group index
+pub risers_of : (es : List (Point × Point)) (p : Point) (group : List Begin) (index : ℕ) → IsBegunGroup es p group → IsFirstLevel group index
     → AreRisers es p.y (slice_range group 0 index)
 risers_of es p group index h first = record {
   own = range_all (IsBeginOf es) group 0 index (omega arith) first.bound (λ k d ge lt inside. h.own k d inside);
@@ -425,7 +425,7 @@ record IsFront (group : List Begin) (index n : ℕ) : Type 0 where
   pub is : (d : Begin) → (get_or group place d).number ≡ n
 
 -- the edges that rise, and then those that are level
-pub begin_at : (r : Owned) (p : Point) (group : List Begin) (index : ℕ) (old mid new : List ℕ) → IsGroup r.0 p group
+pub begin_at : (r : Owned) (p : Point) (group : List Begin) (index : ℕ) (old mid new : List ℕ) → IsBegunGroup r.0 p group
     → IsFirstLevel group index → IsWithRisers r.0 p.y (slice_range group 0 index) old mid
     → new ≡ mid ++ begin_numbers (slice_range group index (length group)) → IsExtended r p old new
 begin_at r p group index old mid new h first risers is = record {

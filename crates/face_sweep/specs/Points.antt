@@ -61,7 +61,7 @@ pub record IsPassed (r : Owned) (p : Point) (numbers : List ℕ) : Type 0 where
   pub all_right : (n : ℕ) → CrossesRow r.0 p.y n → pos 0 ≤ℤ distance_from r p n → Contains above n
 
 -- at the point: the edges before `from` are left of it, those before `to` end there, and the others are right of it
-pub record IsGroup (r : Owned) (p : Point) (numbers : List ℕ) (from to : ℕ) : Type 0 where
+pub record IsEndedGroup (r : Owned) (p : Point) (numbers : List ℕ) (from to : ℕ) : Type 0 where
   pub order : from ≤ to
   pub bound : to ≤ length numbers
   pub left : (k : ℕ) → k < from → distance_from r p (slice_index numbers k) <ℤ pos 0
@@ -90,7 +90,7 @@ PlacesTell = (r : Owned) (p : Point) (numbers : List ℕ) (place : ℕ) → AreS
 -- the edges that end at the point are taken out, and those that begin there are put in their place
 abbrev pub PointsPass : Type 0
 PointsPass = (r : Owned) (p : Point) (numbers begun : List ℕ) (from to : ℕ) → AreSound r → IsEndPoint r p → IsStatus r p numbers
-    → AreBegunAt r p begun → IsGroup r p numbers from to → IsPassed r p (take from numbers ++ begun ++ drop to numbers)
+    → AreBegunAt r p begun → IsEndedGroup r p numbers from to → IsPassed r p (take from numbers ++ begun ++ drop to numbers)
 
 -- later in the sweep: to the left in the same row, or in a later row
 abbrev pub IsAfter : Point → Point → Type 0

@@ -99,12 +99,12 @@ told_by (Some extent) e = if is_first extent e then Some true else (if is_last e
 
 -- ---- shapes that are traced
 -- one number for each shape: the shapes of the two inputs take turns
-abbrev pub turn_of : Input → ℕ
-turn_of First = 0
-turn_of Second = 1
+abbrev pub input_number : Input → ℕ
+input_number First = 0
+input_number Second = 1
 
 abbrev pub key_of : Owner → ℕ
-key_of o = 2 * o.shape + turn_of o.input
+key_of o = 2 * o.shape + input_number o.input
 
 -- of each edge of another shape its box tells
 pub record AreTraced (r : Owned) (boxes : Boxes) (keys : List ℕ) : Type 0 where

@@ -142,7 +142,7 @@ pub record IsPlaceRun (places : List Place) (from to : ℕ) (p : Place) : Type 0
   pub behind : (k : ℕ) (d : Place) → to ≤ k → k < length places → IsSooner p (slice_index_or places k d)
 
 -- ---- the edges that begin at one point
-pub record IsGroup (edges : List (Point × Point)) (p : Point) (group : List Begin) : Type 0 where
+pub record IsBegunGroup (edges : List (Point × Point)) (p : Point) (group : List Begin) : Type 0 where
   pub own : All (IsBeginOf edges) group
   pub at : All (λ b. swept_point b.place ≡ p) group
   pub all : (n : ℕ) → n < length edges → (upward (slice_index_or edges n nowhere)).0 ≡ p → Contains (begin_numbers group) n

@@ -5,12 +5,12 @@ ghost use Rattle.snap_chains.specs.declared.owner.Owner.{Owner};
 ghost use Rattle.snap_chains.specs.Rounded.{Owned};
 ghost use Rattle.face_sweep.specs.OwnRows.{
   AreOwn,
-  HasPut,
+  HasInserted,
   HasPutEdge,
-  HasRoom,
+  HaveLists,
   HasTaken,
   HasTakenEdge,
-  IsCut,
+  IsCutBy,
   is_odd,
 };
 ghost use Rattle.face_sweep.specs.Reaches.{key_of, keys_of};
@@ -37,7 +37,7 @@ impl OwnRows {
     ///
     /// `AllocError`, if an allocation fails.
     pub fn new(alloc: Global, reach: &Reach) -> Result<OwnRows, AllocError>
-        ensures room { IfOk result (λ own. (r : Owned) → HasRoom r (keys_of reach.now) own) }
+        ensures room { IfOk result (λ own. (r : Owned) → HaveLists r (keys_of reach.now) own) }
         ensures own { IfOk result (AreOwn (keys_of reach.now) (λ o. [])) }
     {
         let mut lists = Vec::with_capacity(alloc, reach.traced.len())?;
@@ -58,9 +58,9 @@ impl OwnRows {
     ) -> bool
         requires traced { Contains (keys_of reach.now) (key_of owner) }
         requires rising { IsStrictlyIncreasing (keys_of reach.now) }
-        requires room { HasRoom edges.now (keys_of reach.now) self.now }
+        requires room { HaveLists edges.now (keys_of reach.now) self.now }
         ensures { (own : Owner → List ℕ) (right left : List ℕ) → AreOwn (keys_of reach.now) own self.now
-            → own owner ≡ right ++ left → IsCut edges.now point right left → result ≡ is_odd (length right) }
+            → own owner ≡ right ++ left → IsCutBy edges.now point right left → result ≡ is_odd (length right) }
     {
         let index = index_of(reach.traced.as_slice(), owner).unwrap();
         is_odd(place_in(edges, self.lists[index].as_slice(), point))
@@ -85,8 +85,8 @@ impl OwnRows {
     ) -> Result<(), AllocError>
         requires given { number < length edges.now.0 }
         requires rising { IsStrictlyIncreasing (keys_of reach.now) }
-        requires room { HasRoom edges.now (keys_of reach.now) self.old }
-        ensures room { OnOk result (HasRoom edges.now (keys_of reach.now) self.new) }
+        requires room { HaveLists edges.now (keys_of reach.now) self.old }
+        ensures room { OnOk result (HaveLists edges.now (keys_of reach.now) self.new) }
         ensures put { OnOk result (HasPutEdge edges.now (keys_of reach.now) point number self.old self.new) }
     {
         for owner in edges.owners(number) {
@@ -106,9 +106,9 @@ impl OwnRows {
     ) -> Result<(), AllocError>
         requires given { number < length edges.now.0 }
         requires rising { IsStrictlyIncreasing (keys_of reach.now) }
-        requires room { HasRoom edges.now (keys_of reach.now) self.old }
-        ensures room { OnOk result (HasRoom edges.now (keys_of reach.now) self.new) }
-        ensures put { OnOk result (HasPut edges.now (keys_of reach.now) owner point number self.old self.new) }
+        requires room { HaveLists edges.now (keys_of reach.now) self.old }
+        ensures room { OnOk result (HaveLists edges.now (keys_of reach.now) self.new) }
+        ensures put { OnOk result (HasInserted edges.now (keys_of reach.now) owner point number self.old self.new) }
     {
         if let Some(index) = index_of(reach.traced.as_slice(), owner) {
             put_number(edges, &mut self.lists[index], number, point)?;
@@ -125,8 +125,8 @@ impl OwnRows {
     pub fn take_out(&mut self, edges: &CleanEdges, reach: &Reach, number: usize, point: Point)
         requires given { number < length edges.now.0 }
         requires rising { IsStrictlyIncreasing (keys_of reach.now) }
-        requires room { HasRoom edges.now (keys_of reach.now) self.old }
-        ensures room { HasRoom edges.now (keys_of reach.now) self.new }
+        requires room { HaveLists edges.now (keys_of reach.now) self.old }
+        ensures room { HaveLists edges.now (keys_of reach.now) self.new }
         ensures taken { HasTakenEdge edges.now (keys_of reach.now) point number self.old self.new }
     {
         for owner in edges.owners(number) {
@@ -137,8 +137,8 @@ impl OwnRows {
     /// Takes the leftmost edge that isn't left of the point out of the list of the owner, if it is traced.
     fn take_one(&mut self, edges: &CleanEdges, reach: &Reach, owner: Owner, point: Point)
         requires rising { IsStrictlyIncreasing (keys_of reach.now) }
-        requires room { HasRoom edges.now (keys_of reach.now) self.old }
-        ensures room { HasRoom edges.now (keys_of reach.now) self.new }
+        requires room { HaveLists edges.now (keys_of reach.now) self.old }
+        ensures room { HaveLists edges.now (keys_of reach.now) self.new }
         ensures taken { HasTaken edges.now (keys_of reach.now) owner point self.old self.new }
     {
         if let Some(index) = index_of(reach.traced.as_slice(), owner) {
@@ -158,7 +158,7 @@ fn put_number(
     requires given { All (λ n. n < length edges.now.0) list.old.items }
     ensures given { OnOk result (All (λ n. n < length edges.now.0) list.new.items) }
     ensures put { OnOk result ((right left : List ℕ) → list.old.items ≡ right ++ left
-        → IsCut edges.now point right left → list.new.items ≡ (right ++ number ∷ []) ++ left) }
+        → IsCutBy edges.now point right left → list.new.items ≡ (right ++ number ∷ []) ++ left) }
 {
     let place = place_in(edges, list.as_slice(), point);
     list.insert(place, number)?;
@@ -170,7 +170,7 @@ fn take_number(edges: &CleanEdges, list: &mut Vec<usize>, point: Point)
     requires given { All (λ n. n < length edges.now.0) list.old.items }
     ensures given { All (λ n. n < length edges.now.0) list.new.items }
     ensures taken { (right left : List ℕ) (n : ℕ) → list.old.items ≡ (right ++ n ∷ []) ++ left
-        → IsCut edges.now (Some point) (right ++ n ∷ []) left → list.new.items ≡ right ++ left }
+        → IsCutBy edges.now (Some point) (right ++ n ∷ []) left → list.new.items ≡ right ++ left }
 {
     let place = place_in(edges, list.as_slice(), Some(point));
     if place > 0 {
@@ -187,7 +187,7 @@ fn take_number(edges: &CleanEdges, list: &mut Vec<usize>, point: Point)
 fn place_in(edges: &CleanEdges, list: &[usize], point: Option<Point>) -> usize
     requires { All (λ n. n < length edges.now.0) list.now }
     ensures bound { result ≤ length list.now }
-    ensures cut { (right left : List ℕ) → list.now ≡ right ++ left → IsCut edges.now point right left
+    ensures cut { (right left : List ℕ) → list.now ≡ right ++ left → IsCutBy edges.now point right left
         → result ≡ length right }
 {
     match point {
@@ -200,7 +200,7 @@ fn place_in(edges: &CleanEdges, list: &[usize], point: Option<Point>) -> usize
 fn place_right(edges: &CleanEdges, list: &[usize], point: Point) -> usize
     requires { All (λ n. n < length edges.now.0) list.now }
     ensures bound { result ≤ length list.now }
-    ensures cut { (right left : List ℕ) → list.now ≡ right ++ left → IsCut edges.now (Some point) right left
+    ensures cut { (right left : List ℕ) → list.now ≡ right ++ left → IsCutBy edges.now (Some point) right left
         → result ≡ length right }
 {
     partition_from(list.len(), list.len() / 2, |index| {

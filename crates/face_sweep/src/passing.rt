@@ -4,7 +4,7 @@ ghost use Rattle.lay_point.specs.Points.{point_eq};
 ghost use Rattle.face_rows.specs.Lines.{edge_at};
 ghost use Rattle.face_rows.specs.Rows.{upward};
 ghost use Rattle.face_rows.specs.Sound.{AreSound};
-ghost use Rattle.face_sweep.specs.Points.{IsEndPoint, IsGroup, IsPlaceAmong, IsStatus};
+ghost use Rattle.face_sweep.specs.Points.{IsEndPoint, IsEndedGroup, IsPlaceAmong, IsStatus};
 
 use face_rows::upward;
 use lay_point::Point;
@@ -21,7 +21,7 @@ pub fn group_end(edges: &CleanEdges, numbers: &[usize], point: Point, from: usiz
     requires end { IsEndPoint edges.now point }
     requires status { IsStatus edges.now point numbers.now }
     requires place { IsPlaceAmong edges.now point numbers.now from }
-    ensures { IsGroup edges.now point numbers.now from result }
+    ensures { IsEndedGroup edges.now point numbers.now from result }
 {
     for index in from..numbers.len() {
         if !ends_at(edges, numbers[index], point) {

@@ -5,7 +5,7 @@ ghost use Rattle.snap_chains.specs.Rounded.{is_owner_listed};
 ghost use Rattle.face_rows.specs.Lines.{owners_at};
 ghost use Rattle.face_rows.specs.Sound.{AreSound};
 ghost use Rattle.face_sweep.specs.Counts.{AreCounts};
-ghost use Rattle.face_sweep.specs.OwnRows.{AreRight, HasRoom, TellBeside};
+ghost use Rattle.face_sweep.specs.OwnRows.{AreRight, HaveLists, TellBeside};
 ghost use Rattle.face_sweep.specs.Reaches.{IsReach, keys_of};
 ghost use Rattle.face_sweep.specs.Sides.{
   AreBehind,
@@ -60,7 +60,7 @@ impl Sides {
         requires known { AreKnown edges.now known.now }
         requires all { All (IsKnown known.now) behind.now }
         requires reach { IsReach edges.now reach.now }
-        requires room { HasRoom edges.now (keys_of reach.now) own.now }
+        requires room { HaveLists edges.now (keys_of reach.now) own.now }
         requires own { AreRight edges.now (keys_of reach.now) point behind.now own.now }
         requires beside { (o : Owner) → is_odd_in edges.now behind.now o ≡ holds_beside edges.now number o }
         ensures { AreSidesOf (owners_at edges.now number) (is_odd_in edges.now behind.now) result }
@@ -111,7 +111,7 @@ fn holds_beside(
     requires given { number < length edges.now.0 }
     requires listed { is_owner_listed owner (owners_at edges.now number) ≡ true }
     requires reach { IsReach edges.now reach.now }
-    requires room { HasRoom edges.now (keys_of reach.now) own.now }
+    requires room { HaveLists edges.now (keys_of reach.now) own.now }
     requires own { TellBeside edges.now (keys_of reach.now) point number own.now }
     ensures { result ≡ holds_beside edges.now number owner }
 {

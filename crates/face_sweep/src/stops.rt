@@ -34,7 +34,7 @@ ghost use Rattle.face_sweep.specs.Stops.{
   IsExtended,
   IsFirstFrom,
   IsFirstLevel,
-  IsGroup,
+  IsBegunGroup,
   IsHeadUpTo,
   IsNextPlace,
   IsNoLater,
@@ -305,7 +305,7 @@ fn put_begun(
     point: Point,
     begun: &mut Vec<usize>,
 ) -> Result<(), AllocError>
-    requires { IsGroup edges.now.0 point group.now }
+    requires { IsBegunGroup edges.now.0 point group.now }
     ensures { OnOk result (IsExtended edges.now point begun.old.items begun.new.items) }
 {
     let level = first_level(group);

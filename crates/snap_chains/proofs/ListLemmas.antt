@@ -2,14 +2,14 @@
 use Rattle.std.proofs.Common.{◌≡◌, ℕ, zero, suc, ◌-◌, List, [], ◌∷◌, map, get_or, Some, take, drop, refl, sym, ap, ◌∙◌}
 use Rattle.std.specs.Prelude.{replicate, slice_get, slice_range}
 use Rattle.std.proofs.lemmas.List.{drop-map, take-map}
-use Rattle.snap_chains.specs.OwnerLists.{lists_of}
+use Rattle.snap_chains.specs.OwnerLists.{owner_lists_of}
 
 pub got : {A : Type 0} (xs : List A) (i : ℕ) (x : A) → slice_get xs i ≡ Some x → get_or xs i x ≡ x
 got [] i x h = absurd cc
 got (y ∷ ys) zero x h = cc
 got (y ∷ ys) (suc i) x h = got ys i x h
 
-pub no_lists : (n : ℕ) → lists_of [] (replicate n (record { from = 0; to = 0 })) ≡ replicate n []
+pub no_lists : (n : ℕ) → owner_lists_of [] (replicate n (record { from = 0; to = 0 })) ≡ replicate n []
 no_lists zero = refl
 no_lists (suc n) = ap (λ l. [] ∷ l) (no_lists n)
 

@@ -15,7 +15,7 @@ use Rattle.snap_chains.specs.Owners.{IsOwnerBefore}
 use Rattle.snap_chains.proofs.OddLemmas.{AreOdd, odd_pop, next_is_not_last, odd_has}
 use Rattle.snap_chains.proofs.OwnerLemmas.{map-push}
 use Rattle.snap_chains.specs.declared.pass.Pass.{Pass}
-use Rattle.snap_chains.specs.Reading.{AreEndsBefore, Ends, EndsWith, IsOddAdded, IsPassBefore, ends_of, pass_cmp, pass_eq, pass_of}
+use Rattle.snap_chains.specs.Reading.{AreEndsBefore, NumberedEdge, HasLastOwner, IsOddAdded, IsPassBefore, numbered_edge, pass_cmp, pass_eq, pass_of}
 use Rattle.snap_chains.proofs.ViewLemmas.{pass_eq-Decides}
 use Rattle.snap_chains.proofs.PassOrder.{pass_order, ends_are_strict}
 
@@ -49,19 +49,19 @@ odd_start group old = record {
   odd = record { rising = tt; exact = λ v. ((λ m. absurd (has [] v m)), (λ t. absurd (false≢true t))) };
 }
 
-module _ (group : List Pass) (e : Ends) (old : List Owner) (sorted : IsSorted pass_cmp group)
-    (same : (p : Pass) → Contains group p → ends_of p ≡ e) where
-  seen_ends : (k : ℕ) (kept : List Pass) → AreOdd pass_eq IsPassBefore (take k group) kept → (p : Pass) → Has kept p → ends_of p ≡ e
+module _ (group : List Pass) (e : NumberedEdge) (old : List Owner) (sorted : IsSorted pass_cmp group)
+    (same : (p : Pass) → Contains group p → numbered_edge p ≡ e) where
+  seen_ends : (k : ℕ) (kept : List Pass) → AreOdd pass_eq IsPassBefore (take k group) kept → (p : Pass) → Has kept p → numbered_edge p ≡ e
   seen_ends k kept h p m =
       let seen = odd_has (pass_eq p) (take k group) ((h.exact p).0 (contains kept p m)) in
       let one = (pass_eq-Decides p seen.0).0 seen.2 in
-      ap ends_of one ∙ same seen.0 (contains group seen.0 (has_take k group seen.0 seen.1))
+      ap numbered_edge one ∙ same seen.0 (contains group seen.0 (has_take k group seen.0 seen.1))
 
   module _ (k : ℕ) (x : Pass) (owners : List Owner) (lt : k < length group) (at : x ≡ get_or group k x) (so_far : IsOddSoFar group old k owners) where
     one_more : take (k + 1) group ≡ take k group ++ x ∷ []
     one_more = take_more group k x lt ∙ ap (λ u. take k group ++ u ∷ []) (sym at)
 
-    x_ends : ends_of x ≡ e
+    x_ends : numbered_edge x ≡ e
     x_ends = same x (k, lt, sym at)
 
     -- with a last pass z
@@ -72,7 +72,7 @@ module _ (group : List Pass) (e : Ends) (old : List Owner) (sorted : IsSorted pa
     count : length owners ≡ length old + length so_far.kept
     count = ap length so_far.items ∙ length-append old (map owner_of so_far.kept) ∙ ap (λ n. length old + n) (length-map so_far.kept owner_of)
 
-    pub odd_less : EndsWith owners (length old) x.owner → IsOddSoFar group old (k + 1) (take (length owners - 1) owners)
+    pub odd_less : HasLastOwner owners (length old) x.owner → IsOddSoFar group old (k + 1) (take (length owners - 1) owners)
     odd_less w =
         let kept = so_far.kept in
         let some : 0 < length kept = omega (arith, w.0, count) in
@@ -86,7 +86,7 @@ module _ (group : List Pass) (e : Ends) (old : List Owner) (sorted : IsSorted pa
         let owner : z.owner ≡ x.owner = some_same x.owner z.owner x.owner
         (sym (ap (λ l. slice_get l (length owners - 1)) items ∙ got_last front z.owner (length owners - 1) before) ∙ w.1) in
         let z_kept : Has kept z = has kept z (length kept - 1, omega (arith, some), last_again kept x some) in
-        let ends : ends_of z ≡ ends_of x = seen_ends k kept so_far.odd z z_kept ∙ sym x_ends in
+        let ends : numbered_edge z ≡ numbered_edge x = seen_ends k kept so_far.odd z z_kept ∙ sym x_ends in
         let one : z ≡ x = λ i. record { low = (ends i).0; high = (ends i).1; owner = owner i } in
         record {
           kept = init;
@@ -99,7 +99,7 @@ module _ (group : List Pass) (e : Ends) (old : List Owner) (sorted : IsSorted pa
         last_again : (l : List Pass) (d : Pass) → 0 < length l → get_or l (length l - 1) (get_or l (length l - 1) d) ≡ get_or l (length l - 1) d
         last_again l d some = get_or_default l (length l - 1) (get_or l (length l - 1) d) d (omega (arith, some))
 
-    pub odd_more : ¬ (EndsWith owners (length old) x.owner) → IsOddSoFar group old (k + 1) (owners ++ x.owner ∷ [])
+    pub odd_more : ¬ (HasLastOwner owners (length old) x.owner) → IsOddSoFar group old (k + 1) (owners ++ x.owner ∷ [])
     odd_more other =
         let kept = so_far.kept in
         record {
@@ -109,7 +109,7 @@ module _ (group : List Pass) (e : Ends) (old : List Owner) (sorted : IsSorted pa
           odd = next_is_not_last IsPassBefore pass_order group kept k x sorted lt at so_far.odd (λ h. other (ends_with h));
         }
       where
-        ends_with : slice_get so_far.kept (length so_far.kept - 1) ≡ Some x → EndsWith owners (length old) x.owner
+        ends_with : slice_get so_far.kept (length so_far.kept - 1) ≡ Some x → HasLastOwner owners (length old) x.owner
         ends_with h =
             let kept = so_far.kept in
             let inside = slice_get_within kept (length kept - 1) x h in
@@ -133,7 +133,7 @@ module _ (group : List Pass) (e : Ends) (old : List Owner) (sorted : IsSorted pa
           rising = rising-map IsPassBefore IsOwnerBefore owner_of kept
               (λ p q m n less. ⊎_elim
               (λ b. absurd (ends_are_strict.irreflexive e (coe 0 1 (i. AreEndsBefore (seen_ends k kept h.odd p m i) (seen_ends k kept h.odd q n i)) b)))
-              (λ (t : (ends_of p ≡ ends_of q) × IsOwnerBefore p.owner q.owner). t.1) less) odd.rising;
+              (λ (t : (numbered_edge p ≡ numbered_edge q) × IsOwnerBefore p.owner q.owner). t.1) less) odd.rising;
           exact = λ o. (
             (λ m.
                 let r = map-has owner_of kept o (has (map owner_of kept) o m) in

@@ -16,7 +16,7 @@ use Rattle.lay_point.proofs.Members.{Has, has, contains}
 use Rattle.snap_edge_laws.proofs.ChainOrder.{below_is_strict}
 use Rattle.snap_pixels.specs.declared.segment.Segment.{Segment}
 use Rattle.snap_edge_laws.specs.Edges.{IsBelow}
-use Rattle.snap_slabs.specs.Runs.{IsRun, centre_at, centres_at, origin}
+use Rattle.snap_slabs.specs.Runs.{IsChainRun, centre_at, centres_at, no_centre}
 use Rattle.snap_slabs.proofs.Stretches.{before_by_number, rising_back, rising_in, back_more}
 use Rattle.snap_chains.specs.declared.owner.Owner.{Owner}
 use Rattle.snap_chains.specs.Visits.{Visit}
@@ -29,7 +29,7 @@ use Rattle.snap_chains.specs.declared.pass.Pass.{Pass}
 use Rattle.snap_chains.specs.Passes.{HasCentres, IsSideAdded, pass_between, passes_by, visit_at}
 
 pub centre_before : (hot : List Point) → IsRising IsBefore hot → (i j : ℕ) → i < j → j < length hot → IsBefore (centre_at hot i) (centre_at hot j)
-centre_before hot up i j less inside = before_by_number IsBefore before_is_strict hot i j origin up less inside
+centre_before hot up i j less inside = before_by_number IsBefore before_is_strict hot i j no_centre up less inside
 
 -- ---- one pass
 module _ (hot : List Point) (up : IsRising IsBefore hot) (o : Owner) where
@@ -123,7 +123,7 @@ numbers_apart hot (i ∷ []) h = tt
 numbers_apart hot (i ∷ j ∷ rest) h = (λ e. h.0 (ap (centre_at hot) e), numbers_apart hot (j ∷ rest) h.1)
 
 pub side_added : (hot : List Point) → IsRising IsBefore hot → (s : Segment) (o : Owner) (numbers : List ℕ) (old new : List Pass)
-    → ((k : ℕ) → Contains numbers k → k < length hot) → IsRun hot s numbers → new ≡ old ++ passes_by o numbers
+    → ((k : ℕ) → Contains numbers k → k < length hot) → IsChainRun hot s numbers → new ≡ old ++ passes_by o numbers
     → IsSideAdded hot s o old new
 side_added hot up s o numbers old new inside (inl chain) is =
     let apart = numbers_apart hot numbers (points_apart s _ chain.rising) in

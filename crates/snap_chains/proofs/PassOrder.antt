@@ -9,14 +9,14 @@ use Rattle.snap_chains.specs.Owners.{IsOwnerBefore}
 use Rattle.snap_chains.proofs.OddLemmas.{IsSortOrder}
 use Rattle.snap_chains.proofs.OwnerOrder.{strict_by, first_less, both_equal, numbers_are_strict, owner_cmp_total, number_less, number_exact, owner_less, owner_exact, owners_are_strict}
 use Rattle.snap_chains.specs.declared.pass.Pass.{Pass}
-use Rattle.snap_chains.specs.Reading.{Ends, ends_of, pass_eq, pass_cmp, owner_cmp, AreEndsBefore, IsPassBefore}
+use Rattle.snap_chains.specs.Reading.{NumberedEdge, numbered_edge, pass_eq, pass_cmp, owner_cmp, AreEndsBefore, IsPassBefore}
 use Rattle.snap_chains.proofs.ViewLemmas.{pass_eq-Decides}
 
 pub ends_are_strict : IsStrictOrder AreEndsBefore
-ends_are_strict = strict_by (λ (e : Ends). e.0) (λ (e : Ends). e.1) (λ (m n : ℕ). m < n) (λ (m n : ℕ). m < n) numbers_are_strict numbers_are_strict
+ends_are_strict = strict_by (λ (e : NumberedEdge). e.0) (λ (e : NumberedEdge). e.1) (λ (m n : ℕ). m < n) (λ (m n : ℕ). m < n) numbers_are_strict numbers_are_strict
 
 passes_are_strict : IsStrictOrder IsPassBefore
-passes_are_strict = strict_by ends_of (λ (p : Pass). p.owner) AreEndsBefore IsOwnerBefore ends_are_strict owners_are_strict
+passes_are_strict = strict_by numbered_edge (λ (p : Pass). p.owner) AreEndsBefore IsOwnerBefore ends_are_strict owners_are_strict
 
 pass_cmp_total : IsTotalOrder pass_cmp
 pass_cmp_total = then_total (on_total (λ (p : Pass). p.low) nat_cmp_total)

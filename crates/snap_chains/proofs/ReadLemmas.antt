@@ -22,8 +22,8 @@ use Rattle.std.proofs.lemmas.List.Sorted.{IsPermutation-sym, IsPermutation-map, 
 use Rattle.snap_chains.proofs.OddLemmas.{parity_permutation}
 use Rattle.snap_chains.specs.declared.owner.Owner.{Owner}
 use Rattle.snap_chains.specs.declared.pass.Pass.{Pass}
-use Rattle.snap_chains.specs.Reading.{AreEndsBefore, AreOddOwners, AreRead, Ends, IsGroup, IsPassBefore, IsReadAs, edge_of, ends_of, pass_cmp, pass_eq, pass_of}
-use Rattle.snap_chains.specs.OwnerLists.{IsInside, list_of, lists_of}
+use Rattle.snap_chains.specs.Reading.{AreEndsBefore, AreOddOwners, AreRead, NumberedEdge, IsEdgeGroup, IsPassBefore, IsReadOff, edge_by_numbers, numbered_edge, pass_cmp, pass_eq, pass_of}
+use Rattle.snap_chains.specs.OwnerLists.{IsInside, list_of, owner_lists_of}
 use Rattle.snap_chains.specs.declared.owner_lists.Part.{Part}
 use Rattle.snap_chains.proofs.OwnerLemmas.{map-push}
 use Rattle.lay_point.specs.declared.point.Point.{Point}
@@ -56,36 +56,36 @@ not_after x y h = by_order (pass_cmp y x) refl
 
 -- the ends of the earlier are no later
 ends_no_later : (xs : List Pass) → IsSorted pass_cmp xs → (i j : ℕ) (d : Pass) → i ≤ j → j < length xs
-    → (ends_of (get_or xs i d) ≡ ends_of (get_or xs j d)) ⊎ AreEndsBefore (ends_of (get_or xs i d)) (ends_of (get_or xs j d))
-ends_no_later xs h i j d le lt = ⊎_elim (λ (e : get_or xs i d ≡ get_or xs j d). inl (ap ends_of e))
+    → (numbered_edge (get_or xs i d) ≡ numbered_edge (get_or xs j d)) ⊎ AreEndsBefore (numbered_edge (get_or xs i d)) (numbered_edge (get_or xs j d))
+ends_no_later xs h i j d le lt = ⊎_elim (λ (e : get_or xs i d ≡ get_or xs j d). inl (ap numbered_edge e))
     (λ (b : IsPassBefore (get_or xs i d) (get_or xs j d)). ⊎_elim inr (λ t. inl t.0) b)
     (not_after (get_or xs j d) (get_or xs i d)
     (sorted_far (λ v w. is_lt (pass_cmp v w)) (ranks_by pass_order.total (λ v. v)) xs h i j d le lt))
 
 -- ---- a group
-module _ (rest : List Pass) (n : ℕ) (sorted : IsSorted pass_cmp rest) (g : IsGroup rest n) (first : Pass)
+module _ (rest : List Pass) (n : ℕ) (sorted : IsSorted pass_cmp rest) (g : IsEdgeGroup rest n) (first : Pass)
     (is_first : (d : Pass) → get_or rest 0 d ≡ first) where
-  pub in_group : (p : Pass) → Has (take n rest) p → ends_of p ≡ ends_of first
+  pub in_group : (p : Pass) → Has (take n rest) p → numbered_edge p ≡ numbered_edge first
   in_group p m =
       let c = contains (take n rest) p m in
       let k = c.0 in
       let low : k < n = omega (arith, c.1, length-take n rest) in
-      ap ends_of (sym (sym (get_or-take n rest k p low) ∙ c.2)) ∙ g.same k p low ∙ ap ends_of (is_first p)
+      ap numbered_edge (sym (sym (get_or-take n rest k p low) ∙ c.2)) ∙ g.same k p low ∙ ap numbered_edge (is_first p)
 
-  pub in_later : (p : Pass) → Has (drop n rest) p → AreEndsBefore (ends_of first) (ends_of p)
+  pub in_later : (p : Pass) → Has (drop n rest) p → AreEndsBefore (numbered_edge first) (numbered_edge p)
   in_later p m =
       let c = contains (drop n rest) p m in
       let j = n + c.0 in
       let lt : j < length rest = omega (arith, c.1, length-drop n rest) in
       let at : get_or rest j p ≡ p = sym (get_or-drop n rest c.0 p) ∙ c.2 in
       let inside : n < length rest = omega (arith, lt) in
-      let start : AreEndsBefore (ends_of (get_or rest 0 p)) (ends_of (get_or rest n p)) =
-      ⊎_elim (λ (e : ends_of (get_or rest 0 p) ≡ ends_of (get_or rest n p)). absurd (g.next p inside e)) (λ b. b)
+      let start : AreEndsBefore (numbered_edge (get_or rest 0 p)) (numbered_edge (get_or rest n p)) =
+      ⊎_elim (λ (e : numbered_edge (get_or rest 0 p) ≡ numbered_edge (get_or rest n p)). absurd (g.next p inside e)) (λ b. b)
       (ends_no_later rest sorted 0 n p (omega arith) inside) in
-      let start' = subst (λ v. AreEndsBefore (ends_of v) (ends_of (get_or rest n p))) (is_first p) start in
-      subst (λ v. AreEndsBefore (ends_of first) (ends_of v)) at (⊎_elim
-      (λ (e : ends_of (get_or rest n p) ≡ ends_of (get_or rest j p)). subst (AreEndsBefore (ends_of first)) e start')
-      (λ b. ends_are_strict.transitive (ends_of first) (ends_of (get_or rest n p)) (ends_of (get_or rest j p)) start' b)
+      let start' = subst (λ v. AreEndsBefore (numbered_edge v) (numbered_edge (get_or rest n p))) (is_first p) start in
+      subst (λ v. AreEndsBefore (numbered_edge first) (numbered_edge v)) at (⊎_elim
+      (λ (e : numbered_edge (get_or rest n p) ≡ numbered_edge (get_or rest j p)). subst (AreEndsBefore (numbered_edge first)) e start')
+      (λ b. ends_are_strict.transitive (numbered_edge first) (numbered_edge (get_or rest n p)) (numbered_edge (get_or rest j p)) start' b)
       (ends_no_later rest sorted n j p (omega arith) lt))
 
   pub first_in_group : Has (take n rest) first
@@ -120,7 +120,7 @@ dropped_whole (suc n) (x ∷ xs) ys e = dropped_whole n xs ys (omega (arith, e))
 
 -- the lists are as they were where more owners come behind
 lists_kept : (owners more : List Owner) (parts : List Part) → AllByRecursion (IsInside (length owners)) parts
-    → lists_of (owners ++ more) parts ≡ lists_of owners parts
+    → owner_lists_of (owners ++ more) parts ≡ owner_lists_of owners parts
 lists_kept owners more [] h = refl
 lists_kept owners more (p ∷ parts) h =
     let low : p.from ≤ length owners = omega (arith, h.0) in
@@ -131,7 +131,7 @@ lists_kept owners more (p ∷ parts) h =
 -- the list of those that come behind
 pub lists_push : (owners odd : List Owner) (parts : List Part) (p : Part) → AllByRecursion (IsInside (length owners)) parts
     → p.from ≡ length owners → p.to ≡ length owners + length odd
-    → lists_of (owners ++ odd) (parts ++ p ∷ []) ≡ lists_of owners parts ++ odd ∷ []
+    → owner_lists_of (owners ++ odd) (parts ++ p ∷ []) ≡ owner_lists_of owners parts ++ odd ∷ []
 lists_push owners odd parts p h from to =
     let long : p.to - p.from ≡ length odd = omega (arith, from, to) in
     map-push (list_of (owners ++ odd)) parts p
@@ -157,40 +157,40 @@ zip_in R S [] (b ∷ ys) f h = absurd h
 zip_in R S (a ∷ xs) [] f h = absurd h
 zip_in R S (a ∷ xs) (b ∷ ys) f h = (f a b (inl refl) h.0, zip_in R S xs ys (λ x y m r. f x y (inr m) r) h.1)
 
-no_match : (p q : Pass) → ¬ (ends_of p ≡ ends_of q) → pass_eq p q ≡ false
+no_match : (p q : Pass) → ¬ (numbered_edge p ≡ numbered_edge q) → pass_eq p q ≡ false
 no_match p q apart = by_test (pass_eq p q) (pass_eq-Decides p q)
   where
     by_test : (b : Bool) → Decides b (p ≡ q) → b ≡ false
-    by_test true d = absurd (apart (ap ends_of (d.0 refl)))
+    by_test true d = absurd (apart (ap numbered_edge (d.0 refl)))
     by_test false d = refl
 
-module _ (done group : List Pass) (e : Ends) (same : (p : Pass) → Has group p → ends_of p ≡ e) (first : Pass) (there : Has group first)
-    (before : (d : Ends) → Has (map ends_of done) d → AreEndsBefore d e) where
-  none_of_group : (d : Ends) (o : Owner) → AreEndsBefore d e → parity (pass_eq (pass_of d o)) group ≡ false
+module _ (done group : List Pass) (e : NumberedEdge) (same : (p : Pass) → Has group p → numbered_edge p ≡ e) (first : Pass) (there : Has group first)
+    (before : (d : NumberedEdge) → Has (map numbered_edge done) d → AreEndsBefore d e) where
+  none_of_group : (d : NumberedEdge) (o : Owner) → AreEndsBefore d e → parity (pass_eq (pass_of d o)) group ≡ false
   none_of_group d o less = parity_none (pass_eq (pass_of d o)) group
       (λ q m. no_match (pass_of d o) q (λ s. ends_are_strict.irreflexive e (subst (λ v. AreEndsBefore v e) (s ∙ same q m) less)))
 
   none_of_done : (o : Owner) → parity (pass_eq (pass_of e o)) done ≡ false
   none_of_done o = parity_none (pass_eq (pass_of e o)) done
       (λ q m. no_match (pass_of e o) q (λ s. ends_are_strict.irreflexive e
-      (subst (λ v. AreEndsBefore v e) (sym s) (before (ends_of q) (has-map ends_of done q m)))))
+      (subst (λ v. AreEndsBefore v e) (sym s) (before (numbered_edge q) (has-map numbered_edge done q m)))))
 
-  pub read_more : (edges : List Ends) (lists : List (List Owner)) (odd : List Owner) → AreRead done edges lists
+  pub read_more : (edges : List NumberedEdge) (lists : List (List Owner)) (odd : List Owner) → AreRead done edges lists
       → AreOddOwners group e odd → AreRead (done ++ group) (edges ++ e ∷ []) (lists ++ odd ∷ [])
   read_more edges lists odd r h = record {
     rising = rising_end AreEndsBefore edges e r.rising earlier;
     exact = λ d. (
-      (λ m. contains _ d (subst (λ l. Has l d) (sym (map-append ends_of done group)) (⊎_elim
-          (λ (old : Has edges d). has-append_left (map ends_of done) (map ends_of group) d (has (map ends_of done) d ((r.exact d).0 (contains edges d old))))
-          (λ (new : Has (e ∷ []) d). has-append_right (map ends_of done) (map ends_of group) d
-          (⊎_elim (λ (is : e ≡ d). subst (Has (map ends_of group)) (same first there ∙ is) (has-map ends_of group first there)) (λ none. absurd none) new))
+      (λ m. contains _ d (subst (λ l. Has l d) (sym (map-append numbered_edge done group)) (⊎_elim
+          (λ (old : Has edges d). has-append_left (map numbered_edge done) (map numbered_edge group) d (has (map numbered_edge done) d ((r.exact d).0 (contains edges d old))))
+          (λ (new : Has (e ∷ []) d). has-append_right (map numbered_edge done) (map numbered_edge group) d
+          (⊎_elim (λ (is : e ≡ d). subst (Has (map numbered_edge group)) (same first there ∙ is) (has-map numbered_edge group first there)) (λ none. absurd none) new))
           (has-append edges (e ∷ []) d (has (edges ++ e ∷ []) d m))))),
       (λ m. contains _ d (⊎_elim
-          (λ (old : Has (map ends_of done) d). has-append_left edges (e ∷ []) d (has edges d ((r.exact d).1 (contains (map ends_of done) d old))))
-          (λ (new : Has (map ends_of group) d). let p = map-has ends_of group d new in
+          (λ (old : Has (map numbered_edge done) d). has-append_left edges (e ∷ []) d (has edges d ((r.exact d).1 (contains (map numbered_edge done) d old))))
+          (λ (new : Has (map numbered_edge group) d). let p = map-has numbered_edge group d new in
           has-append_right edges (e ∷ []) d (inl (sym (same p.0 p.1) ∙ p.2)))
-          (has-append (map ends_of done) (map ends_of group) d
-          (subst (λ l. Has l d) (map-append ends_of done group) (has (map ends_of (done ++ group)) d m))))),
+          (has-append (map numbered_edge done) (map numbered_edge group) d
+          (subst (λ l. Has l d) (map-append numbered_edge done group) (has (map numbered_edge (done ++ group)) d m))))),
     );
     owned = zip_push (AreOddOwners (done ++ group)) edges lists e odd
         (zip_in (AreOddOwners done) (AreOddOwners (done ++ group)) edges lists (λ d l m w. record {
@@ -210,19 +210,19 @@ module _ (done group : List Pass) (e : Ends) (same : (p : Pass) → Has group p 
         });
   }
     where
-      earlier : (d : Ends) → Has edges d → AreEndsBefore d e
-      earlier d m = before d (has (map ends_of done) d ((r.exact d).0 (contains edges d m)))
+      earlier : (d : NumberedEdge) → Has edges d → AreEndsBefore d e
+      earlier d m = before d (has (map numbered_edge done) d ((r.exact d).0 (contains edges d m)))
 
 -- ---- the whole
 pub record IsReading (hot : List Point) (passes rest : List Pass) (edges : List (Point × Point)) (owners : List Owner) (parts : List Part)
     : Type 0 where
   pub done : List Pass
-  pub ends : List Ends
-  pub edges_are : edges ≡ map (edge_of hot) ends
+  pub ends : List NumberedEdge
+  pub edges_are : edges ≡ map (edge_by_numbers hot) ends
   pub whole : passes ≡ done ++ rest
   pub sorted : IsSorted pass_cmp rest
-  pub before : (d : Ends) → Has (map ends_of done) d → (p : Pass) → Has rest p → AreEndsBefore d (ends_of p)
-  pub read : AreRead done ends (lists_of owners parts)
+  pub before : (d : NumberedEdge) → Has (map numbered_edge done) d → (p : Pass) → Has rest p → AreEndsBefore d (numbered_edge p)
+  pub read : AreRead done ends (owner_lists_of owners parts)
   pub parted : AllByRecursion (IsInside (length owners)) parts
 
 pub reading_start : (hot : List Point) (passes : List Pass) → IsSorted pass_cmp passes → IsReading hot passes passes [] [] []
@@ -244,54 +244,54 @@ still_left hot passes rest edges owners parts h p m =
     contains passes p (subst (λ l. Has l p) (sym h.whole) (has-append_right h.done rest p m))
 
 pub reading_more : (hot : List Point) (passes rest : List Pass) (edges : List (Point × Point)) (owners : List Owner) (parts : List Part)
-    (n : ℕ) (first : Pass) (odd : List Owner) (part : Part) → IsReading hot passes rest edges owners parts → IsGroup rest n
-    → ((d : Pass) → get_or rest 0 d ≡ first) → AreOddOwners (take n rest) (ends_of first) odd
+    (n : ℕ) (first : Pass) (odd : List Owner) (part : Part) → IsReading hot passes rest edges owners parts → IsEdgeGroup rest n
+    → ((d : Pass) → get_or rest 0 d ≡ first) → AreOddOwners (take n rest) (numbered_edge first) odd
     → part.from ≡ length owners → part.to ≡ length (owners ++ odd)
-    → IsReading hot passes (drop n rest) (edges ++ edge_of hot (ends_of first) ∷ []) (owners ++ odd) (parts ++ part ∷ [])
+    → IsReading hot passes (drop n rest) (edges ++ edge_by_numbers hot (numbered_edge first) ∷ []) (owners ++ odd) (parts ++ part ∷ [])
 reading_more hot passes rest edges owners parts n first odd part h g is_first w from to =
     let group = take n rest in
-    let e = ends_of first in
+    let e = numbered_edge first in
     let long = length-append owners odd in
     let there = first_in_group rest n h.sorted g first is_first in
     let same = in_group rest n h.sorted g first is_first in
-    let early : (d : Ends) → Has (map ends_of h.done) d → AreEndsBefore d e = λ d k. h.before d k first (has_take n rest first there) in
+    let early : (d : NumberedEdge) → Has (map numbered_edge h.done) d → AreEndsBefore d e = λ d k. h.before d k first (has_take n rest first there) in
     record {
       done = h.done ++ group;
       ends = h.ends ++ e ∷ [];
-      edges_are = ap (λ l. l ++ edge_of hot e ∷ []) h.edges_are ∙ sym (map-push (edge_of hot) h.ends e);
+      edges_are = ap (λ l. l ++ edge_by_numbers hot e ∷ []) h.edges_are ∙ sym (map-push (edge_by_numbers hot) h.ends e);
       whole = h.whole ∙ ap (λ l. h.done ++ l) (sym (take-append-drop n rest)) ∙ sym (append_assoc h.done group (drop n rest));
       sorted = sorted_drop rest n h.sorted;
       before = λ d k p l. ⊎_elim
-          (λ (old : Has (map ends_of h.done) d). h.before d old p (has_drop n rest p l))
-          (λ (new : Has (map ends_of group) d). let q = map-has ends_of group d new in
-          subst (λ v. AreEndsBefore v (ends_of p)) (sym (same q.0 q.1) ∙ q.2) (in_later rest n h.sorted g first is_first p l))
-          (has-append (map ends_of h.done) (map ends_of group) d (subst (λ z. Has z d) (map-append ends_of h.done group) k));
+          (λ (old : Has (map numbered_edge h.done) d). h.before d old p (has_drop n rest p l))
+          (λ (new : Has (map numbered_edge group) d). let q = map-has numbered_edge group d new in
+          subst (λ v. AreEndsBefore v (numbered_edge p)) (sym (same q.0 q.1) ∙ q.2) (in_later rest n h.sorted g first is_first p l))
+          (has-append (map numbered_edge h.done) (map numbered_edge group) d (subst (λ z. Has z d) (map-append numbered_edge h.done group) k));
       read = subst (AreRead (h.done ++ group) (h.ends ++ e ∷ []))
           (sym (lists_push owners odd parts part h.parted from (to ∙ long)))
-          (read_more h.done group e same first there early h.ends (lists_of owners parts) odd h.read w);
+          (read_more h.done group e same first there early h.ends (owner_lists_of owners parts) odd h.read w);
       parted = parts_push (length owners) (length (owners ++ odd)) parts part h.parted (omega (arith, long))
           (omega (arith, from, to, long), omega (arith, to));
     }
 
 pub reading_end : (hot : List Point) (passes rest : List Pass) (edges : List (Point × Point)) (owners : List Owner) (parts : List Part)
-    → IsReading hot passes rest edges owners parts → rest ≡ [] → IsReadAs hot passes edges (lists_of owners parts)
+    → IsReading hot passes rest edges owners parts → rest ≡ [] → IsReadOff hot passes edges (owner_lists_of owners parts)
 reading_end hot passes rest edges owners parts h none = record {
   ends = h.ends;
   edges_are = h.edges_are;
-  read = subst (λ l. AreRead l h.ends (lists_of owners parts))
+  read = subst (λ l. AreRead l h.ends (owner_lists_of owners parts))
       (sym (h.whole ∙ ap (λ l. h.done ++ l) none ∙ append-nil h.done)) h.read;
 }
 
 -- in another order
-pub read_permuted : (passes sorted : List Pass) (edges : List Ends) (lists : List (List Owner)) → IsPermutation passes sorted
+pub read_permuted : (passes sorted : List Pass) (edges : List NumberedEdge) (lists : List (List Owner)) → IsPermutation passes sorted
     → AreRead sorted edges lists → AreRead passes edges lists
 read_permuted passes sorted edges lists moved r =
     let back = IsPermutation-sym passes sorted moved in
     record {
       rising = r.rising;
       exact = λ e. (
-        (λ m. Contains-permutation (map ends_of sorted) (map ends_of passes) e (IsPermutation-map ends_of sorted passes back) ((r.exact e).0 m)),
-        (λ m. (r.exact e).1 (Contains-permutation (map ends_of passes) (map ends_of sorted) e (IsPermutation-map ends_of passes sorted moved) m)),
+        (λ m. Contains-permutation (map numbered_edge sorted) (map numbered_edge passes) e (IsPermutation-map numbered_edge sorted passes back) ((r.exact e).0 m)),
+        (λ m. (r.exact e).1 (Contains-permutation (map numbered_edge passes) (map numbered_edge sorted) e (IsPermutation-map numbered_edge passes sorted moved) m)),
       );
       owned = zip_in (AreOddOwners sorted) (AreOddOwners passes) edges lists (λ e l m w. record {
         rising = w.rising;

@@ -21,7 +21,7 @@ use Rattle.snap_chains.proofs.EdgeOrder.{edges_decide}
 use Rattle.snap_chains.proofs.OwnerOrder.{owner_eq-Decides}
 use Rattle.snap_chains.specs.declared.pass.Pass.{Pass}
 use Rattle.snap_chains.specs.Passes.{HasCentres, visit_at}
-use Rattle.snap_chains.specs.Reading.{Ends, ends_of, pass_of, pass_eq, AreEndsBefore, AreOddOwners, AreRead, edge_of, AreOddVisitors, IsView}
+use Rattle.snap_chains.specs.Reading.{NumberedEdge, numbered_edge, pass_of, pass_eq, AreEndsBefore, AreOddOwners, AreRead, edge_by_numbers, AreOddVisitors, IsView}
 use Rattle.snap_chains.proofs.PassLemmas.{centre_before}
 
 pub pass_eq-Decides : (p q : Pass) → Decides (pass_eq p q) (p ≡ q)
@@ -68,8 +68,8 @@ module _ (hot : List Point) (up : IsRising IsBefore hot) where
       (λ t. (visit_decides (visit_at hot p) (visit_at hot q)).1 (ap (visit_at hot) ((pass_eq-Decides p q).0 t)))
       (λ t. (pass_eq-Decides p q).1 (one_pass p q ip iq ((visit_decides (visit_at hot p) (visit_at hot q)).0 t)))
 
-  edges_before : (e f : Ends) → e.0 < length hot → e.1 < length hot → f.0 < length hot → f.1 < length hot → AreEndsBefore e f
-      → IsEdgeBefore (edge_of hot e) (edge_of hot f)
+  edges_before : (e f : NumberedEdge) → e.0 < length hot → e.1 < length hot → f.0 < length hot → f.1 < length hot → AreEndsBefore e f
+      → IsEdgeBefore (edge_by_numbers hot e) (edge_by_numbers hot f)
   edges_before e f e0 e1 f0 f1 (inl h) = inl (centre_before hot up e.0 f.0 h f0)
   edges_before e f e0 e1 f0 f1 (inr h) = inr (ap (centre_at hot) h.0, centre_before hot up e.1 f.1 h.1 f1)
 
@@ -77,31 +77,31 @@ module _ (hot : List Point) (up : IsRising IsBefore hot) where
     visits : List Visit
     visits = map (visit_at hot) passes
 
-    inside_edge : (e : Ends) → Has (map ends_of passes) e → (e.0 < e.1) × (e.1 < length hot)
+    inside_edge : (e : NumberedEdge) → Has (map numbered_edge passes) e → (e.0 < e.1) × (e.1 < length hot)
     inside_edge e m =
-        let r = map-has ends_of passes e m in
-        subst (λ (d : Ends). (d.0 < d.1) × (d.1 < length hot)) r.2 (inside r.0 r.1)
+        let r = map-has numbered_edge passes e m in
+        subst (λ (d : NumberedEdge). (d.0 < d.1) × (d.1 < length hot)) r.2 (inside r.0 r.1)
 
-    edge_members : (edges : List Ends) → ((e : Ends) → Contains edges e ↔ Contains (map ends_of passes) e)
-        → (e : Point × Point) → Contains (map (edge_of hot) edges) e ↔ Contains (map (λ v. v.edge) (map (visit_at hot) passes)) e
+    edge_members : (edges : List NumberedEdge) → ((e : NumberedEdge) → Contains edges e ↔ Contains (map numbered_edge passes) e)
+        → (e : Point × Point) → Contains (map (edge_by_numbers hot) edges) e ↔ Contains (map (λ v. v.edge) (map (visit_at hot) passes)) e
     edge_members edges exact e = (
       (λ m.
-          let r = map-has (edge_of hot) edges e (has (map (edge_of hot) edges) e m) in
-          let there = map-has ends_of passes r.0 (has (map ends_of passes) r.0 ((exact r.0).0 (contains edges r.0 r.1))) in
+          let r = map-has (edge_by_numbers hot) edges e (has (map (edge_by_numbers hot) edges) e m) in
+          let there = map-has numbered_edge passes r.0 (has (map numbered_edge passes) r.0 ((exact r.0).0 (contains edges r.0 r.1))) in
           contains (map (λ v. v.edge) (map (visit_at hot) passes)) e
-          (subst (Has (map (λ v. v.edge) (map (visit_at hot) passes))) (ap (edge_of hot) there.2 ∙ r.2)
+          (subst (Has (map (λ v. v.edge) (map (visit_at hot) passes))) (ap (edge_by_numbers hot) there.2 ∙ r.2)
           (has-map (λ v. v.edge) (map (visit_at hot) passes) (visit_at hot there.0) (has-map (visit_at hot) passes there.0 there.1)))),
       (λ m.
           let v = map-has (λ v. v.edge) (map (visit_at hot) passes) e (has (map (λ v. v.edge) (map (visit_at hot) passes)) e m) in
           let p = map-has (visit_at hot) passes v.0 v.1 in
-          let there = (exact (ends_of p.0)).1 (contains (map ends_of passes) (ends_of p.0) (has-map ends_of passes p.0 p.1)) in
-          contains (map (edge_of hot) edges) e
-          (subst (Has (map (edge_of hot) edges)) (ap (λ (w : Visit). w.edge) p.2 ∙ v.2)
-          (has-map (edge_of hot) edges (ends_of p.0) (has edges (ends_of p.0) there)))),
+          let there = (exact (numbered_edge p.0)).1 (contains (map numbered_edge passes) (numbered_edge p.0) (has-map numbered_edge passes p.0 p.1)) in
+          contains (map (edge_by_numbers hot) edges) e
+          (subst (Has (map (edge_by_numbers hot) edges)) (ap (λ (w : Visit). w.edge) p.2 ∙ v.2)
+          (has-map (edge_by_numbers hot) edges (numbered_edge p.0) (has edges (numbered_edge p.0) there)))),
     )
 
-    owned_through : (edges : List Ends) (owners : List (List Owner)) → ((e : Ends) → Has edges e → (e.0 < e.1) × (e.1 < length hot))
-        → AllZip (AreOddOwners passes) edges owners → AllZip (AreOddVisitors (map (visit_at hot) passes)) (map (edge_of hot) edges) owners
+    owned_through : (edges : List NumberedEdge) (owners : List (List Owner)) → ((e : NumberedEdge) → Has edges e → (e.0 < e.1) × (e.1 < length hot))
+        → AllZip (AreOddOwners passes) edges owners → AllZip (AreOddVisitors (map (visit_at hot) passes)) (map (edge_by_numbers hot) edges) owners
     owned_through [] [] within h = tt
     owned_through [] (l ∷ owners) within h = absurd h
     owned_through (e ∷ edges) [] within h = absurd h
@@ -119,13 +119,13 @@ module _ (hot : List Point) (up : IsRising IsBefore hot) where
     )
 
     -- what is read by numbers is by points what the visits are read to
-    pub view_of : (edges : List Ends) (owners : List (List Owner)) → AreRead passes edges owners
-        → IsView (map (visit_at hot) passes) (map (edge_of hot) edges) owners
+    pub view_of : (edges : List NumberedEdge) (owners : List (List Owner)) → AreRead passes edges owners
+        → IsView (map (visit_at hot) passes) (map (edge_by_numbers hot) edges) owners
     view_of edges owners r =
-        let within : (e : Ends) → Has edges e → (e.0 < e.1) × (e.1 < length hot) =
-        λ e m. inside_edge e (has (map ends_of passes) e ((r.exact e).0 (contains edges e m))) in
+        let within : (e : NumberedEdge) → Has edges e → (e.0 < e.1) × (e.1 < length hot) =
+        λ e m. inside_edge e (has (map numbered_edge passes) e ((r.exact e).0 (contains edges e m))) in
         record {
-          rising = rising-map AreEndsBefore IsEdgeBefore (edge_of hot) edges
+          rising = rising-map AreEndsBefore IsEdgeBefore (edge_by_numbers hot) edges
               (λ e f m n less.
               let a = within e m in
               let b = within f n in

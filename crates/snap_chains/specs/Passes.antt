@@ -14,11 +14,11 @@ use Rattle.snap_chains.specs.Visits.{visits_by, visits_of}
 use Rattle.snap_chains.specs.declared.pass.Pass.{Pass}
 
 -- the edge that the pass goes, and by whom
-abbrev pub edge_at : List Point → Pass → Point × Point
-edge_at hot p = (centre_at hot p.low, centre_at hot p.high)
+abbrev pub passed_edge : List Point → Pass → Point × Point
+passed_edge hot p = (centre_at hot p.low, centre_at hot p.high)
 
 abbrev pub visit_at : List Point → Pass → Visit
-visit_at hot p = record { edge = edge_at hot p; owner = p.owner }
+visit_at hot p = record { edge = passed_edge hot p; owner = p.owner }
 
 abbrev pub pass_between : Owner → ℕ × ℕ → Pass
 pass_between o e = cond (ltb e.0 e.1) (record { low = e.0; high = e.1; owner = o }) (record { low = e.1; high = e.0; owner = o })

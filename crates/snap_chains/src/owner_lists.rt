@@ -24,11 +24,11 @@ pub(crate) struct OwnerLists {
 impl Model for OwnerLists {
     ghost use Rattle.std.specs.Prelude.{All, List, length};
     ghost use Rattle.snap_chains.specs.declared.owner.Owner.{Owner};
-    ghost use Rattle.snap_chains.specs.OwnerLists.{IsInside, lists_of};
+    ghost use Rattle.snap_chains.specs.OwnerLists.{IsInside, owner_lists_of};
 
     ghost Value = { List (List Owner) };
 
-    ghost view = { λ l. lists_of l.owners.items l.parts.items };
+    ghost view = { λ l. owner_lists_of l.owners.items l.parts.items };
 
     ghost invariant = { λ l. All (IsInside (length l.owners.items)) l.parts.items };
 }

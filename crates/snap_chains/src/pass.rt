@@ -1,7 +1,7 @@
 //! Passes: that a ring of a shape, rounded, goes from one hot centre to the next, by their numbers.
 ghost use Rattle.std.specs.Prelude.{◌≡◌, ◌↔◌, IsTrue};
 ghost use Rattle.snap_chains.specs.Passes.{pass_between};
-ghost use Rattle.snap_chains.specs.Reading.{ends_of};
+ghost use Rattle.snap_chains.specs.Reading.{numbered_edge};
 
 use crate::owner::Owner;
 
@@ -37,7 +37,7 @@ pub(crate) fn pass_between(a: u32, b: u32, owner: Owner) -> Pass
 
 /// Returns whether both passes are between the same centres.
 pub(crate) fn is_same_edge(a: Pass, b: Pass) -> bool
-    ensures { IsTrue result ↔ (ends_of a ≡ ends_of b) }
+    ensures { IsTrue result ↔ (numbered_edge a ≡ numbered_edge b) }
 {
     a.low == b.low && a.high == b.high
 }

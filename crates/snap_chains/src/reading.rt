@@ -4,8 +4,8 @@ ghost use Rattle.std.specs.List.Sorted.{IsPermutation, IsSorted};
 ghost use Rattle.lay_point.specs.Points.{IsBefore};
 ghost use Rattle.lay_point.specs.Rising.{IsRising};
 ghost use Rattle.snap_chains.specs.declared.pass.Pass.{Pass};
-ghost use Rattle.snap_chains.specs.Passes.{HasCentres, edge_at, visit_at};
-ghost use Rattle.snap_chains.specs.Reading.{EndsWith, IsGroup, IsOddAdded, IsReadAs, IsView, ends_of, pass_cmp};
+ghost use Rattle.snap_chains.specs.Passes.{HasCentres, passed_edge, visit_at};
+ghost use Rattle.snap_chains.specs.Reading.{HasLastOwner, IsEdgeGroup, IsOddAdded, IsReadOff, IsView, numbered_edge, pass_cmp};
 
 use crate::owner::Owner;
 use crate::owner_lists::{OwnerLists, Part};
@@ -59,7 +59,7 @@ fn read_sorted(
     requires sorted { IsSorted pass_cmp passes.now }
     requires rising { IsRising IsBefore centres.now }
     requires inside { (p : Pass) → Contains passes.now p → HasCentres centres.now p }
-    ensures { IfOk result (λ r. IsReadAs centres.now passes.now r.0.items r.1) }
+    ensures { IfOk result (λ r. IsReadOff centres.now passes.now r.0.items r.1) }
 {
     let mut edges = Vec::with_capacity(alloc, passes.len())?;
     let mut owners = Vec::with_capacity(alloc, passes.len())?;
@@ -80,7 +80,7 @@ fn read_sorted(
 /// Returns how many of the passes, from the first on, go the first's edge.
 fn group_length(passes: &[Pass]) -> usize
     requires { 0 < length passes.now }
-    ensures { IsGroup passes.now result }
+    ensures { IsEdgeGroup passes.now result }
 {
     let first = passes[0];
     for number in 1..passes.len() {
@@ -95,7 +95,7 @@ fn group_length(passes: &[Pass]) -> usize
 fn edge_at(pass: Pass, centres: &[Point]) -> Edge
     requires rising { IsRising IsBefore centres.now }
     requires inside { HasCentres centres.now pass }
-    ensures { result ≡ edge_at centres.now pass }
+    ensures { result ≡ passed_edge centres.now pass }
 {
     edge_between(centres[pass.low as usize], centres[pass.high as usize])
 }
@@ -111,7 +111,7 @@ fn edge_between(low: Point, high: Point) -> Edge
 /// Adds the owners that are there an odd number of times among passes of one edge, in order.
 fn add_odd(owners: &mut Vec<Owner>, group: &[Pass], _edge: (u32, u32)) -> Result<(), AllocError>
     requires sorted { IsSorted pass_cmp group.now }
-    requires same { (p : Pass) → Contains group.now p → ends_of p ≡ _edge }
+    requires same { (p : Pass) → Contains group.now p → numbered_edge p ≡ _edge }
     ensures { OnOk result (IsOddAdded group.now _edge owners.old.items owners.new.items) }
 {
     let base = owners.len();
@@ -127,7 +127,7 @@ fn add_odd(owners: &mut Vec<Owner>, group: &[Pass], _edge: (u32, u32)) -> Result
 
 /// Returns whether the owner is the last, behind the first `base`.
 fn ends_with(owners: &[Owner], base: usize, owner: Owner) -> bool
-    ensures { IsTrue result ↔ EndsWith owners.now base owner }
+    ensures { IsTrue result ↔ HasLastOwner owners.now base owner }
 {
     base < owners.len() && owners[owners.len() - 1] == owner
 }

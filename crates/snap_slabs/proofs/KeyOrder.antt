@@ -32,7 +32,7 @@ use Rattle.lay_point.proofs.EdgeOrder.{before_is_strict}
 use Rattle.snap_slabs.proofs.Sorted.{IsOrder, sorted_once}
 use Rattle.snap_slabs.specs.declared.rows.RowKey.{RowKey}
 use Rattle.snap_slabs.specs.contracts.rows.RowKeyOrd.TheImpl.Laws.{matches_eq-law}
-use Rattle.snap_slabs.specs.Runs.{IsRowBefore, centre_at, centres_at, origin, number_of, row_key}
+use Rattle.snap_slabs.specs.Runs.{IsRowBefore, centre_at, centres_at, no_centre, number_of, row_key}
 use Rattle.snap_slabs.proofs.Stretches.{before_by_number}
 
 abbrev IsKeyBefore : RowKey → RowKey → Type 0
@@ -121,7 +121,7 @@ module _ (hot : List Point) (up : IsRising IsBefore hot) (few : length hot < 2 ^
         h.0,
         ⊎_elim (λ (l : (centre_at hot j).x <ℤ (centre_at hot i).x). l)
             (λ (t : ((centre_at hot j).x ≡ (centre_at hot i).x) × ((centre_at hot j).y <ℤ (centre_at hot i).y)). absurd (omega (arith, linear, h.0, t.1)))
-            (before_by_number IsBefore before_is_strict hot j i origin up less li),
+            (before_by_number IsBefore before_is_strict hot j i no_centre up less li),
       )
 
   keys_before : (j k : RowKey) → Has keys j → Has keys k → IsKeyBefore j k
@@ -174,9 +174,9 @@ row_members hot rows all c = (
   (λ m.
       let r = map-has (centre_at hot) rows c (has (centres_at hot rows) c m) in
       let lt = (all r.0).0 (contains rows r.0 r.1) in
-      (r.0, lt, get_or_default hot r.0 c origin lt ∙ r.2)),
+      (r.0, lt, get_or_default hot r.0 c no_centre lt ∙ r.2)),
   (λ m.
-      let e : centre_at hot m.0 ≡ c = get_or_default hot m.0 origin c m.1 ∙ m.2 in
+      let e : centre_at hot m.0 ≡ c = get_or_default hot m.0 no_centre c m.1 ∙ m.2 in
       subst (Contains (centres_at hot rows)) e
       (contains (centres_at hot rows) (centre_at hot m.0) (has-map (centre_at hot) rows m.0 (has rows m.0 ((all m.0).1 m.1))))),
 )

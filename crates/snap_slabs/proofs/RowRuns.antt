@@ -15,7 +15,7 @@ use Rattle.snap_edge_laws.specs.Chains.{IsChain}
 use Rattle.lay_point.proofs.Rising.{IsStrictOrder}
 use Rattle.lay_point.proofs.EdgeOrder.{before_is_strict}
 use Rattle.lay_point.specs.Rising.{IsRising}
-use Rattle.snap_slabs.specs.Runs.{AreEnds, origin, centre_at, centres_at, IsRowBefore, IsSide, IsRun, AreNumbered}
+use Rattle.snap_slabs.specs.Runs.{AreEnds, no_centre, centre_at, centres_at, IsRowBefore, IsSide, IsChainRun, AreByRows}
 use Rattle.snap_slabs.proofs.Stretches.{before_by_number}
 use Rattle.std.specs.List.{range_with_len}
 use Rattle.snap_slabs.proofs.Along.{row_before_is_strict, row_falls, column_rises, chain_forth, chain_back, along_left, along_right, along_up, along_down}
@@ -53,8 +53,8 @@ pub centres_from : (hot : List Point) (a n : ℕ) → a + n ≤ length hot → c
 centres_from hot a zero le = refl
 centres_from hot a (suc n) le =
     (λ t. centre_at hot a ∷ centres_from hot (a + 1) n (omega arith) t)
-    ∙ ap (λ k. get_or hot a origin ∷ take n (drop k hot)) (add-one a)
-    ∙ sym (ap (take (suc n)) (drop-cons hot a origin (omega arith)))
+    ∙ ap (λ k. get_or hot a no_centre ∷ take n (drop k hot)) (add-one a)
+    ∙ sym (ap (take (suc n)) (drop-cons hot a no_centre (omega arith)))
 
 module _ (hot xs : List Point) (same : (c : Point) → Contains xs c ↔ Contains hot c) (s : Segment) (i j first last : ℕ)
     (e : AreEnds i j first last) (li : i < length xs) (lj : j < length xs)
@@ -100,7 +100,7 @@ module _ (hot xs : List Point) (same : (c : Point) → Contains xs c ↔ Contain
       (below_or_not s.b.y s.a.y)
 
 -- ---- by numbers
-module _ (hot : List Point) (rows places : List ℕ) (n : AreNumbered hot rows places) (s : Segment) (i j : ℕ) (side : IsSide hot s i j) where
+module _ (hot : List Point) (rows places : List ℕ) (n : AreByRows hot rows places) (s : Segment) (i j : ℕ) (side : IsSide hot s i j) where
   in_row : (k : ℕ) (p : Point) → slice_get hot k ≡ Some p → slice_index_or places k 0 < length rows
   in_row k p here = slice_get_within rows (slice_index_or places k 0) k (n.placed k (slice_get_within hot k p here))
 
@@ -110,10 +110,10 @@ module _ (hot : List Point) (rows places : List ℕ) (n : AreNumbered hot rows p
   at_place : (k : ℕ) (p : Point) → slice_get hot k ≡ Some p → get_or (centres_at hot rows) (slice_index_or places k 0) p ≡ p
   at_place k p here = get_or-map (centre_at hot) rows (slice_index_or places k 0) 0 p (in_row k p here)
       ∙ ap (centre_at hot) (get_or_from_slice_get rows (slice_index_or places k 0) k 0 (n.placed k (slice_get_within hot k p here)))
-      ∙ get_or_from_slice_get hot k p origin here
+      ∙ get_or_from_slice_get hot k p no_centre here
 
   pub row_is_run : (first last : ℕ) → AreEnds (slice_index_or places i 0) (slice_index_or places j 0) first last → s.a.y ≡ s.b.y
-      → IsRun hot s (slice_range rows first (last + 1))
+      → IsChainRun hot s (slice_range rows first (last + 1))
   row_is_run first last e level =
       subst (λ l. IsChain (Contains hot) s l ⊎ IsChain (Contains hot) s (reverse l)) (range-map (centre_at hot) rows first (last + 1))
       (level_run hot (centres_at hot rows) n.members s (slice_index_or places i 0) (slice_index_or places j 0) first last e
@@ -121,7 +121,7 @@ module _ (hot : List Point) (rows places : List ℕ) (n : AreNumbered hot rows p
       (λ x. s.differ (same_point s.a s.b x level)))
 
   pub column_is_run : (first last : ℕ) → AreEnds i j first last → s.a.x ≡ s.b.x
-      → IsRun hot s (range_with_len first (last + 1 - first))
+      → IsChainRun hot s (range_with_len first (last + 1 - first))
   column_is_run first last e upright =
       subst (λ l. IsChain (Contains hot) s l ⊎ IsChain (Contains hot) s (reverse l))
       (sym (centres_from hot first (last + 1 - first) (omega (arith, e.last_low, e.first_low, bound e.last_is))))

@@ -7,12 +7,12 @@ use Rattle.lay_point.specs.Points.{IsBefore}
 use Rattle.snap_edge_laws.specs.Chains.{IsChain}
 use Rattle.lay_point.specs.Rising.{IsRising}
 
-abbrev pub origin : Point
-origin = record { x = pos 0; y = pos 0 }
+abbrev pub no_centre : Point
+no_centre = record { x = pos 0; y = pos 0 }
 
 -- the centre of this number
 abbrev pub centre_at : List Point → ℕ → Point
-centre_at hot i = slice_index_or hot i origin
+centre_at hot i = slice_index_or hot i no_centre
 
 abbrev pub centres_at : List Point → List ℕ → List Point
 centres_at hot numbers = map (centre_at hot) numbers
@@ -33,12 +33,12 @@ abbrev pub IsSide : List Point → Segment → ℕ → ℕ → Type 0
 IsSide hot s i j = (slice_get hot i ≡ Some s.a) × (slice_get hot j ≡ Some s.b)
 
 -- the centres of these numbers are the segment's chain, forth or back
-abbrev pub IsRun : List Point → Segment → List ℕ → Type 0
-IsRun hot s numbers =
+abbrev pub IsChainRun : List Point → Segment → List ℕ → Type 0
+IsChainRun hot s numbers =
     IsChain (Contains hot) s (centres_at hot numbers) ⊎ IsChain (Contains hot) s (reverse (centres_at hot numbers))
 
 -- the centres rise, the other list has their numbers by rows, and the last has where each number is in that list
-pub record AreNumbered (hot : List Point) (rows places : List ℕ) : Type 0 where
+pub record AreByRows (hot : List Point) (rows places : List ℕ) : Type 0 where
   pub rising : IsRising IsBefore hot
   pub by_row : IsRising IsRowBefore (centres_at hot rows)
   pub members : (c : Point) → Contains (centres_at hot rows) c ↔ Contains hot c

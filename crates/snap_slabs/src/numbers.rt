@@ -4,7 +4,7 @@ ghost use Rattle.std.specs.List.{range_with_len};
 ghost use Rattle.lay_point.specs.Points.{IsBefore};
 ghost use Rattle.lay_point.specs.Rising.{IsRising};
 ghost use Rattle.snap_pixels.specs.declared.segment.Segment.{Segment};
-ghost use Rattle.snap_slabs.specs.Runs.{AreEnds, IsRun, IsSide};
+ghost use Rattle.snap_slabs.specs.Runs.{AreEnds, IsChainRun, IsSide};
 
 use crate::rows::{places_of, rows_of};
 use lay_point::{NoMemory, Point};
@@ -25,13 +25,13 @@ pub struct Numbers<'h> {
 impl<'h> Model for Numbers<'h> {
     ghost use Rattle.std.specs.Prelude.{List};
     ghost use Rattle.lay_point.specs.declared.point.Point.{Point};
-    ghost use Rattle.snap_slabs.specs.Runs.{AreNumbered};
+    ghost use Rattle.snap_slabs.specs.Runs.{AreByRows};
 
     ghost Value = { List Point };
 
     ghost view = { λ n. n.hot.now };
 
-    ghost invariant = { λ n. AreNumbered n.hot.now n.rows.items n.places.items };
+    ghost invariant = { λ n. AreByRows n.hot.now n.rows.items n.places.items };
 }
 
 impl<'h> Numbers<'h> {
@@ -87,7 +87,7 @@ impl<'h> Numbers<'h> {
         requires to { to < length self.now }
         ensures rising { IsRising IsBefore self.now }
         ensures inside { (k : ℕ) → Contains result.now k → k < length self.now }
-        ensures run { (s : Segment) → IsSide self.now s from to → s.a.y ≡ s.b.y → IsRun self.now s result.now }
+        ensures run { (s : Segment) → IsSide self.now s from to → s.a.y ≡ s.b.y → IsChainRun self.now s result.now }
     {
         let a = self.places[from as usize];
         let b = self.places[to as usize];
@@ -103,7 +103,7 @@ impl<'h> Numbers<'h> {
         ensures ordered { result.0 ≤ result.1 }
         ensures inside { result.1 < length self.now }
         ensures run { (s : Segment) → IsSide self.now s from to → s.a.x ≡ s.b.x
-            → IsRun self.now s (range_with_len result.0 (result.1 + 1 - result.0)) }
+            → IsChainRun self.now s (range_with_len result.0 (result.1 + 1 - result.0)) }
     {
         // A field is named, which brings the type's invariant.
         let _ = &self.rows;

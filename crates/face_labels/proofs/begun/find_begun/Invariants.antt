@@ -1,6 +1,6 @@
 use Rattle.std.proofs.Common.{◌≡◌, ◌<◌, ◌≤◌, ◌++◌, ℕ, drop, get_or, length, take}
 use Rattle.std.specs.Prelude.{All}
-use Rattle.face_sweep.specs.OwnRows.{AreOwn, HasRoom, own_of}
+use Rattle.face_sweep.specs.OwnRows.{AreOwn, HaveLists, own_of}
 use Rattle.face_sweep.specs.Reaches.{keys_of}
 use Rattle.face_sweep.specs.Sides.{AreKnown, IsKnown}
 use Rattle.face_labels.specs.RowSides.{HasLabel}
@@ -14,7 +14,7 @@ invariant-loop-index l = record {
   known : AreKnown l.edges l.known;
   kept : (n : ℕ) → IsKnown l.initial.known n → IsKnown l.known n;
   all : All (IsKnown l.known) (drop l.index l.numbers);
-  room : HasRoom l.edges (keys_of l.reach) l.own;
+  room : HaveLists l.edges (keys_of l.reach) l.own;
   own : AreOwn (keys_of l.reach)
       (λ o. own_of l.edges o (drop l.index l.numbers) ++ own_of l.edges o (take l.fn.group.from l.numbers)) l.own;
   count : length l.labels.items ≡ length l.edges.0;

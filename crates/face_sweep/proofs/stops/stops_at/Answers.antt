@@ -1,6 +1,6 @@
 use Rattle.std.proofs.Common.{◌≡◌, ◌≤◌, ◌++◌, [], ◌∷◌, length, sym, subst, rules}
 use Rattle.std.specs.Prelude.{slice_range}
-use Rattle.face_sweep.specs.Stops.{IsExtended, IsGroup, IsNextPlace, IsPlaceRun, begin_places}
+use Rattle.face_sweep.specs.Stops.{IsExtended, IsBegunGroup, IsNextPlace, IsPlaceRun, begin_places}
 use Rattle.face_sweep.specs.declared.stops.Stop.{Stop}
 use Rattle.face_sweep.proofs.StopLemmas.{AreStopsTo, fewer_left, group_of, passed_all, points_of, stops_done, stops_more}
 use Rattle.face_sweep.proofs.stops.stops_at.Goals as goal
@@ -19,7 +19,7 @@ put_begun-requires c =
     let h = subst (λ l. AreStopsTo r l tops low top list begun) c.requires.lows c.loop-place.invariant in
     let next = subst (λ l. IsNextPlace l low tops top p) c.requires.lows c.in-Some.ensures.some in
     let run = subst (λ l. IsPlaceRun l low after p) c.requires.lows c.run_end-after.ensures in
-    subst (λ q. IsGroup r.0 q (slice_range begins low after)) (sym c.point.ensures)
+    subst (λ q. IsBegunGroup r.0 q (slice_range begins low after)) (sym c.point.ensures)
     (group_of r.0 begins (points_of list) low after p c.requires.begins run h.low_joined.had
     (passed_all r (begin_places begins) tops low top list begun p h next))
 

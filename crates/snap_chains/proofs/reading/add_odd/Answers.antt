@@ -4,7 +4,7 @@ use Rattle.std.proofs.lemmas.List.{take_all, get_or_default}
 use Rattle.snap_chains.specs.declared.owner.Owner.{Owner}
 use Rattle.snap_chains.specs.declared.owner.Input.TheVariants.{First}
 use Rattle.snap_chains.specs.declared.pass.Pass.{Pass}
-use Rattle.snap_chains.specs.Reading.{EndsWith}
+use Rattle.snap_chains.specs.Reading.{HasLastOwner}
 use Rattle.snap_chains.proofs.OddOwners.{IsOddSoFar, odd_start, odd_less, odd_more, odd_end}
 use Rattle.snap_chains.proofs.reading.add_odd.Goals as goal
 use Rattle.snap_chains.proofs.reading.add_odd.Goals.{then-ends_with, else-ends_with+in_ok-push}
@@ -25,7 +25,7 @@ loop-pass-preserved c =
     let tests = c.ends_with.ensures in
     elim c.if-ends_with.branch [
       | then-ends_with w ↦
-          let ends : EndsWith owners (length old) x.owner = coe 0 1 (i. EndsWith (c.as_slice.ensures.value i) (len i) x.owner) (tests.0 w.if-ends_with.true) in
+          let ends : HasLastOwner owners (length old) x.owner = coe 0 1 (i. HasLastOwner (c.as_slice.ensures.value i) (len i) x.owner) (tests.0 w.if-ends_with.true) in
           let fewer : c.if-ends_with.owners.items ≡ take (length owners - 1) owners =
           ap (λ (v : Vec Owner Global). v.items) w.owners-is ∙ w.pop.ensures.rest ∙ ap (λ n. take (n - 1) owners) (sym c.as_slice.ensures.len ∙ ap length c.as_slice.ensures.value) in
           subst (IsOddSoFar group old (k + 1)) (sym fewer)
@@ -35,7 +35,7 @@ loop-pass-preserved c =
           ap (λ (v : Vec Owner Global). v.items) w.owners-is ∙ w.in_ok-push.ensures.items in
           subst (IsOddSoFar group old (k + 1)) (sym more)
           (odd_more group c.args._edge old c.requires.sorted c.requires.same k x owners c.loop-pass-test.true at c.loop-pass.invariant
-          (λ e. false≢true (sym w.if-ends_with.false ∙ tests.1 (coe 1 0 (i. EndsWith (c.as_slice.ensures.value i) (len i) x.owner) e))))
+          (λ e. false≢true (sym w.if-ends_with.false ∙ tests.1 (coe 1 0 (i. HasLastOwner (c.as_slice.ensures.value i) (len i) x.owner) e))))
     ]
 
 pub returns : goal.returns

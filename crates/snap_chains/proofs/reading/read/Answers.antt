@@ -2,7 +2,7 @@ use Rattle.std.proofs.Common.{map, sym, subst, Contains}
 use Rattle.std.proofs.lemmas.List.Sorted.{Contains-permutation, IsPermutation-sym}
 use Rattle.lay_point.proofs.Members.{contains}
 use Rattle.snap_chains.specs.Passes.{visit_at}
-use Rattle.snap_chains.specs.Reading.{IsReadAs, IsView}
+use Rattle.snap_chains.specs.Reading.{IsReadOff, IsView}
 use Rattle.snap_chains.proofs.ReadLemmas.{read_permuted}
 use Rattle.snap_chains.proofs.ViewLemmas.{view_of}
 use Rattle.snap_chains.proofs.reading.read.Goals as goal
@@ -19,7 +19,7 @@ returns g c =
     let passes = c.args.passes.items in
     let sorted = c.in_order-sorted.result.items in
     let owners = c.in_ok-found.found.1 in
-    let found = subst (λ l. IsReadAs hot l c.in_ok-found.found.0.items owners) c.as_slice.ensures.value c.in_ok-found.ensures in
+    let found = subst (λ l. IsReadOff hot l c.in_ok-found.found.0.items owners) c.as_slice.ensures.value c.in_ok-found.ensures in
     subst (λ l. IsView (map (visit_at hot) passes) l owners) (sym found.edges_are)
     (view_of hot c.requires.rising passes (λ p m. c.requires.inside p (contains passes p m)) found.ends owners
     (read_permuted passes sorted found.ends owners c.in_order-sorted.ensures.permutation found.read))

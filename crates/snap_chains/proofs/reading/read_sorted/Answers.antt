@@ -3,7 +3,7 @@ use Rattle.std.proofs.lemmas.List.{nil_from_length}
 use Rattle.lay_point.proofs.Members.{Has}
 use Rattle.snap_chains.specs.declared.pass.Pass.{Pass}
 use Rattle.std.specs.List.Sorted.{IsSorted}
-use Rattle.snap_chains.specs.Reading.{ends_of, IsOddAdded, pass_cmp}
+use Rattle.snap_chains.specs.Reading.{numbered_edge, IsOddAdded, pass_cmp}
 use Rattle.snap_chains.proofs.ReadLemmas.{IsReading, reading_end, reading_more, reading_start, sorted_take, still_left}
 use Rattle.snap_chains.proofs.reading.read_sorted.Goals as goal
 
@@ -27,7 +27,7 @@ loop-first-preserved c =
     let n = c.group_length.result in
     let whole : rest ≡ first ∷ c.in-Some.field-0-1.now = search rules in
     let is_first : (d : Pass) → get_or rest 0 d ≡ first = λ d. ap (λ l. get_or l 0 d) whole in
-    let added = subst (λ l. IsOddAdded l (ends_of first) c.loop-first.owners.items c.add_odd.new.owners.items) c.split_at.ensures.front c.in_ok-add_odd.ensures in
+    let added = subst (λ l. IsOddAdded l (numbered_edge first) c.loop-first.owners.items c.add_odd.new.owners.items) c.split_at.ensures.front c.in_ok-add_odd.ensures in
     let odd = added.0 in
     let from : c.len-from.result ≡ length c.loop-first.owners.items = search rules in
     let to : c.len-to.result ≡ length (c.loop-first.owners.items ++ odd) = (search rules) ∙ ap length added.1 in

@@ -9,7 +9,7 @@ use Rattle.snap_chains.specs.Owners.{owner_eq}
 use Rattle.snap_chains.specs.Rounded.{is_owner_listed}
 use Rattle.face_rows.specs.Lines.{owners_at}
 use Rattle.face_rows.proofs.OwnerLemmas.{listed_of}
-use Rattle.face_sweep.specs.OwnRows.{one_if}
+use Rattle.face_sweep.specs.OwnRows.{listed_if}
 use Rattle.face_sweep.proofs.OwnLemmas.{own_agree, passed_not, passed_now, passed_still}
 use Rattle.face_sweep.proofs.own_rows.OwnRows.put.Goals as goal
 
@@ -28,12 +28,12 @@ loop-owner-preserved c =
     record {
       room = c.in_ok-put_one.ensures.room;
       put = λ right left cut h. c.in_ok-put_one.ensures.put
-          (λ p. (right p ++ one_if (parity (λ q. owner_eq q p) (take i owners)) n) ++ left p)
-          (λ p. (right p ++ one_if (parity (λ q. owner_eq q p) (take (i + 1) owners)) n) ++ left p) (right o) (left o)
-          (ap (λ b. (right o ++ one_if b n) ++ left o) (passed_not owners i first rising less)
+          (λ p. (right p ++ listed_if (parity (λ q. owner_eq q p) (take i owners)) n) ++ left p)
+          (λ p. (right p ++ listed_if (parity (λ q. owner_eq q p) (take (i + 1) owners)) n) ++ left p) (right o) (left o)
+          (ap (λ b. (right o ++ listed_if b n) ++ left o) (passed_not owners i first rising less)
           ∙ ap (λ l. l ++ left o) (append-nil (right o)))
-          (cut o) (ap (λ b. (right o ++ one_if b n) ++ left o) (passed_now owners i first rising less))
-          (λ p apart. ap (λ b. (right p ++ one_if b n) ++ left p) (passed_still owners i first rising less p apart))
+          (cut o) (ap (λ b. (right o ++ listed_if b n) ++ left o) (passed_now owners i first rising less))
+          (λ p apart. ap (λ b. (right p ++ listed_if b n) ++ left p) (passed_still owners i first rising less p apart))
           (c.loop-owner.invariant.put right left cut h);
     }
 
@@ -45,6 +45,6 @@ returns-clause-put c = λ right left cut h.
     let all = take_all c.loop-owner.owner-index owners c.loop-owner-test.false in
     let own : owners_at r n ≡ owners = get_or_from_slice_get r.1 n owners [] c.owners-owner-items.ensures.value in
     own_agree c.args.reach.now.traced.items c.loop-owner.self _ _
-    (λ o. ap (λ b. (right o ++ one_if b n) ++ left o) (ap (parity (λ q. owner_eq q o)) all
+    (λ o. ap (λ b. (right o ++ listed_if b n) ++ left o) (ap (parity (λ q. owner_eq q o)) all
     ∙ listed_of owners o c.owners-owner-items.ensures.rising ∙ sym (ap (is_owner_listed o) own)))
     (c.loop-owner.invariant.put right left cut h)

@@ -10,7 +10,7 @@ use Rattle.snap_chains.specs.Owners.{owner_eq}
 use Rattle.snap_chains.specs.Rounded.{is_owner_listed}
 use Rattle.face_rows.specs.Lines.{owners_at}
 use Rattle.face_rows.proofs.OwnerLemmas.{listed_at, listed_of}
-use Rattle.face_sweep.specs.OwnRows.{IsCutAt, one_if}
+use Rattle.face_sweep.specs.OwnRows.{IsCutAt, listed_if}
 use Rattle.face_sweep.proofs.OwnLemmas.{own_agree, passed_not, passed_now, passed_still}
 use Rattle.face_sweep.proofs.own_rows.OwnRows.take_out.Goals as goal
 
@@ -32,14 +32,14 @@ loop-owner-preserved c =
     record {
       room = c.take_one.ensures.room;
       taken = λ right left cut h. c.take_one.ensures.taken
-          (λ p. (right p ++ one_if (xor (parity (λ q. owner_eq q p) (take i owners)) (is_owner_listed p owners)) n) ++ left p)
-          (λ p. (right p ++ one_if (xor (parity (λ q. owner_eq q p) (take (i + 1) owners)) (is_owner_listed p owners)) n) ++ left p)
+          (λ p. (right p ++ listed_if (xor (parity (λ q. owner_eq q p) (take i owners)) (is_owner_listed p owners)) n) ++ left p)
+          (λ p. (right p ++ listed_if (xor (parity (λ q. owner_eq q p) (take (i + 1) owners)) (is_owner_listed p owners)) n) ++ left p)
           (right o) (left o) n
-          (λ k. (right o ++ one_if (xor (passed_not owners i first rising less k) (listed k)) n) ++ left o)
-          (subst (λ b. IsCutAt r c.args.point (right o ++ one_if b n) (left o)) (ap (is_owner_listed o) own ∙ listed) (cut o))
-          ((λ k. (right o ++ one_if (xor (passed_now owners i first rising less k) (listed k)) n) ++ left o)
+          (λ k. (right o ++ listed_if (xor (passed_not owners i first rising less k) (listed k)) n) ++ left o)
+          (subst (λ b. IsCutAt r c.args.point (right o ++ listed_if b n) (left o)) (ap (is_owner_listed o) own ∙ listed) (cut o))
+          ((λ k. (right o ++ listed_if (xor (passed_now owners i first rising less k) (listed k)) n) ++ left o)
           ∙ ap (λ l. l ++ left o) (append-nil (right o)))
-          (λ p apart. ap (λ b. (right p ++ one_if (xor b (is_owner_listed p owners)) n) ++ left p)
+          (λ p apart. ap (λ b. (right p ++ listed_if (xor b (is_owner_listed p owners)) n) ++ left p)
           (passed_still owners i first rising less p apart))
           (c.loop-owner.invariant.taken right left cut h);
     }
@@ -50,8 +50,8 @@ returns-clause-taken c = λ right left cut h.
     let n = c.args.number in
     let all = take_all c.loop-owner.owner-index owners c.loop-owner-test.false in
     own_agree c.args.reach.now.traced.items c.loop-owner.self _ _
-    (λ o. ap (λ b. (right o ++ one_if (xor b (is_owner_listed o owners)) n) ++ left o) (ap (parity (λ q. owner_eq q o)) all
+    (λ o. ap (λ b. (right o ++ listed_if (xor b (is_owner_listed o owners)) n) ++ left o) (ap (parity (λ q. owner_eq q o)) all
     ∙ listed_of owners o c.owners-owner-items.ensures.rising)
-    ∙ ap (λ b. (right o ++ one_if b n) ++ left o) (xor_self (is_owner_listed o owners))
+    ∙ ap (λ b. (right o ++ listed_if b n) ++ left o) (xor_self (is_owner_listed o owners))
     ∙ ap (λ l. l ++ left o) (append-nil (right o)))
     (c.loop-owner.invariant.taken right left cut h)

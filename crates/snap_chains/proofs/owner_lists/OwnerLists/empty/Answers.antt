@@ -2,7 +2,7 @@ use Rattle.std.proofs.Common.{◌≡◌, ◌++◌, [], ◌∷◌, ◌∙◌, ap,
 use Rattle.std.specs.Prelude.{All, replicate}
 use Rattle.std.proofs.lemmas.List.Elements.{All-replicate}
 use Rattle.snap_chains.specs.declared.owner_lists.Part.{Part}
-use Rattle.snap_chains.specs.OwnerLists.{IsInside, lists_of}
+use Rattle.snap_chains.specs.OwnerLists.{IsInside, owner_lists_of}
 use Rattle.snap_chains.proofs.ListLemmas.{no_lists}
 use Rattle.snap_chains.proofs.OwnerLemmas.{replicate_more}
 use Rattle.snap_chains.proofs.owner_lists.OwnerLists.empty.Goals as goal
@@ -21,4 +21,4 @@ invariant_of-result c =
 pub returns : goal.returns
 returns c =
     let all : c.loop.counter ≡ c.args.count = omega (arith, c.loop-test.false, c.loop.auto) in
-    (λ i. lists_of (c.new.ensures.items i) (c.loop.invariant i)) ∙ no_lists c.loop.counter ∙ ap (λ n. replicate n []) all
+    (λ i. owner_lists_of (c.new.ensures.items i) (c.loop.invariant i)) ∙ no_lists c.loop.counter ∙ ap (λ n. replicate n []) all
