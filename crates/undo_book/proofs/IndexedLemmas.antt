@@ -3,11 +3,11 @@ use Rattle.std.proofs.Common.{◌≡◌, ℕ, ◌<◌, ◌≤◌, ◌==◌, zero
 use Rattle.std.proofs.Common.{drop, Option, None, Some, refl, sym, ap, subst, ◌∙◌, arith, slice_get, slice_set}
 use Rattle.std.specs.Prelude.{is_some}
 use Rattle.std.proofs.lemmas.Bool.Decides.{Decides-eqb, Decides-like, same_from_decides}
-use Rattle.std.specs.FinSet.{contains, contains-empty, contains-items, items}
+use Rattle.std.specs.FinSet.{contains, contains-empty, contains-items, from_list, items}
 use Rattle.std.specs.List.{list_any}
 use Rattle.txn_commands.specs.declared.command.TxnId.{TxnId}
 use Rattle.txn_commands.specs.declared.element.Element.{Element}
-use Rattle.txn_commands.specs.Elements.{Touched, element_eq}
+use Rattle.txn_commands.specs.Elements.{Touched, element_cmp, element_eq}
 use Rattle.txn_commands.specs.Lies.{passes}
 use Rattle.txn_commands.specs.Meets.{some_meets}
 use Rattle.txn_commands.specs.Records.{Records}
@@ -17,9 +17,10 @@ use Rattle.txn_marks.proofs.SetLemmas.{contains-back}
 use Rattle.undo_rules.specs.Links.{Entry, first_reader, marked}
 use Rattle.txn_commands.specs.Meets.{meets_touched}
 use Rattle.undo_index.specs.First.{IsFirst, first_some, look, looked_up_at, or_some}
-use Rattle.undo_index.specs.Listed.{AreAdded, AreRemoved, IsNew, Listed, is_listed, nothing_listed, pair_cmp}
+use Rattle.undo_index.specs.Listed.{AreAdded, AreRemoved, IsNew, Listed, is_made_by, is_others, nothing_listed, pair_cmp}
 use Rattle.undo_index.proofs.FirstLemmas.{first_alike, first_found}
-use Rattle.undo_book.specs.Indexed.{AreIndexed, Lists, is_linked, touched, wrote}
+use Rattle.undo_index.proofs.FootprintLemmas.{any_so}
+use Rattle.undo_book.specs.Indexed.{AreIndexed, Lists, by_other, is_linked, touched, wrote}
 use Rattle.undo_book.specs.Marks.{AreRelisted}
 
 -- ---- places of a list
@@ -72,38 +73,49 @@ module _ (test : Element → Entry → Bool) where
   begun e i = contains-empty pair_cmp (e, i)
 
   new_at_end : (listed : Listed) (es : List Entry) → Lists test listed es → IsNew listed (length es)
-  new_at_end listed es lists e = lists e (length es) ∙ past_end (test e) es
+  new_at_end listed es lists e = lists e (length es) ∙ past_end (by_other test e) es
+
+  -- who passes nowhere isn't listed
+  no_other : (entry : Entry) → ((e : Element) → test e entry ≡ false) → (e : Element) → by_other test e entry ≡ false
+  no_other entry none e = ap (λ b. b && not (is_made_by entry.txn e)) (none e)
 
   new_at : (listed : Listed) (es : List Entry) (i : ℕ) (entry : Entry) → Lists test listed es → slice_get es i ≡ Some entry →
       ((e : Element) → test e entry ≡ false) → IsNew listed i
-  new_at listed es i entry lists at none e = lists e i ∙ ap (passes (test e)) at ∙ none e
+  new_at listed es i entry lists at none e = lists e i ∙ ap (passes (by_other test e)) at ∙ no_other entry none e
+
+  others_so : (entry : Entry) (elements : Touched) → ((e : Element) → contains elements e ≡ test e entry) → (e : Element) →
+      is_others entry.txn elements e ≡ by_other test e entry
+  others_so entry elements are e = ap (λ b. b && not (is_made_by entry.txn e)) (are e)
 
   pushed : (listed new : Listed) (es : List Entry) (entry : Entry) (elements : Touched) → Lists test listed es →
-      AreAdded listed elements (length es) new → ((e : Element) → contains elements e ≡ test e entry) →
+      AreAdded listed entry.txn elements (length es) new → ((e : Element) → contains elements e ≡ test e entry) →
       Lists test new (es ++ entry ∷ [])
   pushed listed new es entry elements lists added are e i =
-      added e i ∙ (λ k. lists e i k || ((i == length es) && are e k)) ∙ sym (pushed_at (test e) es entry i)
+      added e i ∙ (λ k. lists e i k || ((i == length es) && others_so entry elements are e k))
+      ∙ sym (pushed_at (by_other test e) es entry i)
 
   entered : (listed new : Listed) (es : List Entry) (i : ℕ) (entry next : Entry) (elements : Touched) → Lists test listed es →
-      slice_get es i ≡ Some entry → i < length es → AreAdded listed elements i new → ((e : Element) → test e entry ≡ false) →
+      slice_get es i ≡ Some entry → i < length es → AreAdded listed next.txn elements i new → ((e : Element) → test e entry ≡ false) →
       ((e : Element) → contains elements e ≡ test e next) → Lists test new (slice_set es i next)
   entered listed new es i entry next elements lists at less added none are e j =
-      added e j ∙ (λ k. lists e j k || ((j == i) && are e k)) ∙ by (j == i) refl ∙ sym (set_at (test e) es i next less j) where
-        by : (b : Bool) → (j == i) ≡ b →
-            (passes (test e) (slice_get es j) || (b && test e next)) ≡ cond b (test e next) (passes (test e) (slice_get es j))
-        by false is = or_none (passes (test e) (slice_get es j))
+      added e j ∙ (λ k. lists e j k || ((j == i) && others_so next elements are e k)) ∙ by (j == i) refl
+      ∙ sym (set_at (by_other test e) es i next less j) where
+        by : (b : Bool) → (j == i) ≡ b → (passes (by_other test e) (slice_get es j) || (b && by_other test e next))
+            ≡ cond b (by_other test e next) (passes (by_other test e) (slice_get es j))
+        by false is = or_none (passes (by_other test e) (slice_get es j))
         by true is =
             let same : j ≡ i = (Decides-eqb j i).0 is in
-            let was : passes (test e) (slice_get es j) ≡ false =
-            ap (λ k. passes (test e) (slice_get es k)) same ∙ ap (passes (test e)) at ∙ none e in
-            ap (λ b. b || test e next) was
+            let was : passes (by_other test e) (slice_get es j) ≡ false =
+            ap (λ k. passes (by_other test e) (slice_get es k)) same ∙ ap (passes (by_other test e)) at ∙ no_other entry none e in
+            ap (λ b. b || by_other test e next) was
 
   left : (listed new : Listed) (es : List Entry) (i : ℕ) (entry next : Entry) (elements : Touched) → Lists test listed es →
-      slice_get es i ≡ Some entry → i < length es → AreRemoved listed elements i new →
+      slice_get es i ≡ Some entry → i < length es → AreRemoved listed entry.txn elements i new →
       ((e : Element) → contains elements e ≡ test e entry) →
       ((e : Element) → test e next ≡ false) → Lists test new (slice_set es i next)
   left listed new es i entry next elements lists at less removed are none e j =
-      removed e j ∙ (λ k. lists e j k && not ((j == i) && are e k)) ∙ by (j == i) refl ∙ sym (set_at (test e) es i next less j) where
+      removed e j ∙ (λ k. lists e j k && not ((j == i) && others_so entry elements are e k)) ∙ by (j == i) refl
+      ∙ sym (set_at (by_other test e) es i next less j) where
         no_more : (b : Bool) → (b && not b) ≡ false
         no_more true = refl
         no_more false = refl
@@ -112,14 +124,14 @@ module _ (test : Element → Entry → Bool) where
         stays true = refl
         stays false = refl
 
-        by : (b : Bool) → (j == i) ≡ b → (passes (test e) (slice_get es j) && not (b && test e entry))
-            ≡ cond b (test e next) (passes (test e) (slice_get es j))
-        by false is = stays (passes (test e) (slice_get es j))
+        by : (b : Bool) → (j == i) ≡ b → (passes (by_other test e) (slice_get es j) && not (b && by_other test e entry))
+            ≡ cond b (by_other test e next) (passes (by_other test e) (slice_get es j))
+        by false is = stays (passes (by_other test e) (slice_get es j))
         by true is =
             let same : j ≡ i = (Decides-eqb j i).0 is in
-            let was : passes (test e) (slice_get es j) ≡ test e entry =
-            ap (λ k. passes (test e) (slice_get es k)) same ∙ ap (passes (test e)) at in
-            ap (λ b. b && not (test e entry)) was ∙ no_more (test e entry) ∙ sym (none e)
+            let was : passes (by_other test e) (slice_get es j) ≡ by_other test e entry =
+            ap (λ k. passes (by_other test e) (slice_get es k)) same ∙ ap (passes (by_other test e)) at in
+            ap (λ b. b && not (by_other test e entry)) was ∙ no_more (by_other test e entry) ∙ sym (no_other next none e)
 
 -- ---- the index of a book
 
@@ -136,18 +148,18 @@ undone_so : (a b : Bool) → a ≡ false → (a && b) ≡ false
 undone_so a b undone = ap (λ x. x && b) undone
 
 pub commit_indexed : (w r v s : Listed) (es fs : List Entry) (entry : Entry) (met : Touched) (place : ℕ) → AreIndexed w r es →
-    AreAdded w met place v → AreAdded r entry.footprint place s → AreMetBy entry.writes met → entry.live ≡ true → place ≡ length es →
+    AreAdded w entry.txn met place v → AreAdded r entry.txn entry.footprint place s → AreMetBy entry.writes met → entry.live ≡ true → place ≡ length es →
     fs ≡ es ++ entry ∷ [] → AreIndexed v s fs
 commit_indexed w r v s es fs entry met place is wrote_it read_it are live last more =
     subst (λ (xs : List Entry). AreIndexed v s xs) (sym more) (record {
-      writers = pushed wrote w v es entry met is.writers (subst (λ (n : ℕ). AreAdded w met n v) last wrote_it)
+      writers = pushed wrote w v es entry met is.writers (subst (λ (n : ℕ). AreAdded w entry.txn met n v) last wrote_it)
           (λ e. are e ∙ live_so entry.live (some_meets entry.writes e) live);
-      readers = pushed touched r s es entry entry.footprint is.readers (subst (λ (n : ℕ). AreAdded r entry.footprint n s) last read_it)
+      readers = pushed touched r s es entry entry.footprint is.readers (subst (λ (n : ℕ). AreAdded r entry.txn entry.footprint n s) last read_it)
           (λ e. live_so entry.live (contains entry.footprint e) live);
     })
 
 pub mark_indexed : (live : Bool) (w r v s : Listed) (es fs : List Entry) (i : ℕ) (entry : Entry) (met : Touched) → AreIndexed w r es →
-    AreRelisted live w met i v → AreRelisted live r entry.footprint i s → AreMetBy entry.writes met → entry.live ≡ not live →
+    AreRelisted live w entry.txn met i v → AreRelisted live r entry.txn entry.footprint i s → AreMetBy entry.writes met → entry.live ≡ not live →
     slice_get es i ≡ Some entry → i < length es → fs ≡ slice_set es i (marked live entry) → AreIndexed v s fs
 mark_indexed false w r v s es fs i entry met is wrote_it read_it are live at less marks =
     subst (λ (xs : List Entry). AreIndexed v s xs) (sym marks) (record {
@@ -221,31 +233,28 @@ module _ (writes : Records) where
   read_so met are (Some entry) =
       any_live entry.live (contains entry.footprint) (items met) ∙ ap (λ b. entry.live && b) (meets_either met entry.footprint are)
 
-  pub reader_found : (r : Listed) (es : List Entry) (met : Touched) (from : ℕ) (o : Option ℕ) → Lists touched r es →
-      AreMetBy writes met → IsFirst (λ p. list_any (λ e. is_listed r e p) (items met)) from o →
+  pub reader_found : (es : List Entry) (met : Touched) (from : ℕ) (o : Option ℕ) → AreMetBy writes met →
+      IsFirst (λ p. list_any (λ e. passes (touched e) (slice_get es p)) (items met)) from o →
       first_reader writes (drop from es) ≡ looked_up_at named es o
-  reader_found r es met from o lists are first =
+  reader_found es met from o are first =
       reader_some (drop from es)
-      ∙ first_found named es from o (first_alike (λ p. list_any (λ e. is_listed r e p) (items met))
+      ∙ first_found named es from o (first_alike (λ p. list_any (λ e. passes (touched e) (slice_get es p)) (items met))
       (λ p. is_some (look named (slice_get es p))) from o
-      (λ p. any_alike (λ e. is_listed r e p) (λ e. passes (touched e) (slice_get es p)) (items met) (λ e. lists e p)
-      ∙ read_so met are (slice_get es p) ∙ sym (named_so (slice_get es p))) first)
+      (λ p. read_so met are (slice_get es p) ∙ sym (named_so (slice_get es p))) first)
 
   -- the one at the first place is named
-  pub reader_is : (r : Listed) (es : List Entry) (met : Touched) (from p : ℕ) (entry : Entry) → Lists touched r es →
-      AreMetBy writes met → IsFirst (λ q. list_any (λ e. is_listed r e q) (items met)) from (Some p) → slice_get es p ≡ Some entry →
+  pub reader_is : (es : List Entry) (met : Touched) (from p : ℕ) (entry : Entry) → AreMetBy writes met →
+      IsFirst (λ q. list_any (λ e. passes (touched e) (slice_get es q)) (items met)) from (Some p) → slice_get es p ≡ Some entry →
       first_reader writes (drop from es) ≡ Some entry.txn
-  reader_is r es met from p entry lists are first at =
-      reader_found r es met from (Some p) lists are first ∙ ap (look named) at ∙ ap (λ b. cond b (Some entry.txn) None) yes where
+  reader_is es met from p entry are first at =
+      reader_found es met from (Some p) are first ∙ ap (look named) at ∙ ap (λ b. cond b (Some entry.txn) None) yes where
         yes : reads entry ≡ true
-        yes =
-            sym (any_alike (λ e. is_listed r e p) (λ e. passes (touched e) (slice_get es p)) (items met) (λ e. lists e p)
-            ∙ read_so met are (slice_get es p) ∙ ap (passes reads) at) ∙ first.1
+        yes = sym (read_so met are (slice_get es p) ∙ ap (passes reads) at) ∙ first.1
 
-  pub reader_gone : (r : Listed) (es : List Entry) (met : Touched) (from p : ℕ) → Lists touched r es →
-      AreMetBy writes met → IsFirst (λ q. list_any (λ e. is_listed r e q) (items met)) from (Some p) → slice_get es p ≡ None →
+  pub reader_gone : (es : List Entry) (met : Touched) (from p : ℕ) → AreMetBy writes met →
+      IsFirst (λ q. list_any (λ e. passes (touched e) (slice_get es q)) (items met)) from (Some p) → slice_get es p ≡ None →
       first_reader writes (drop from es) ≡ None
-  reader_gone r es met from p lists are first at = reader_found r es met from (Some p) lists are first ∙ ap (look named) at
+  reader_gone es met from p are first at = reader_found es met from (Some p) are first ∙ ap (look named) at
 
 -- ---- a writer from a place on
 
@@ -275,18 +284,16 @@ module _ {X : Type 0} (test : X → Bool) where
   first_past xs from None first = sym (none_past xs from first)
   first_past xs from (Some p) first = sym (one_past xs from p first.0 first.1)
 
-linked_so : (footprint : Touched) (o : Option Entry) →
-    list_any (λ e. passes (wrote e) o) (items footprint) ≡ passes (λ entry. is_linked entry footprint) o
-linked_so footprint None = any_none (items footprint)
-linked_so footprint (Some entry) = any_live entry.writes entry.live (some_meets entry.writes) (items footprint)
+-- there is a first writer of an element where one from the place on wrote it
+pub writer_past : (es : List Entry) (e : Element) (from : ℕ) (o : Option ℕ) → IsFirst (λ p. passes (wrote e) (slice_get es p)) from o →
+    is_some o ≡ list_any (wrote e) (drop from es)
+writer_past es e from o first = first_past (wrote e) es from o first
 
--- it is looked up by the elements that are touched
-pub linked_past : (w : Listed) (es : List Entry) (footprint : Touched) (from : ℕ) (o : Option ℕ) → Lists wrote w es →
-    IsFirst (λ p. list_any (λ e. is_listed w e p) (items footprint)) from o →
-    is_some o ≡ list_any (λ entry. is_linked entry footprint) (drop from es)
-linked_past w es footprint from o lists first =
-    first_past (λ (entry : Entry). is_linked entry footprint) es from o
-    (first_alike (λ p. list_any (λ e. is_listed w e p) (items footprint))
-    (λ p. passes (λ (entry : Entry). is_linked entry footprint) (slice_get es p)) from o
-    (λ p. any_alike (λ e. is_listed w e p) (λ e. passes (wrote e) (slice_get es p)) (items footprint) (λ e. lists e p)
-    ∙ linked_so footprint (slice_get es p)) first)
+-- some element was written where some transaction wrote what is touched
+pub linked_past : (es : List Entry) (elements : List Element) (footprint : Touched) → from_list {R = element_cmp} elements ≡ footprint →
+    list_any (λ e. list_any (wrote e) es) elements ≡ list_any (λ entry. is_linked entry footprint) es
+linked_past es elements footprint are =
+    any_so (λ e. list_any (wrote e) es) elements footprint are
+    ∙ any_swap wrote (items footprint) es
+    ∙ any_alike (λ entry. list_any (λ e. wrote e entry) (items footprint)) (λ entry. is_linked entry footprint) es
+    (λ entry. any_live entry.writes entry.live (some_meets entry.writes) (items footprint))

@@ -3,6 +3,7 @@ pub mod CommitLemmas
 pub mod FoundLemmas
 pub mod IndexLemmas
 pub mod IndexedLemmas
+pub mod MakerLemmas
 pub mod MovedLemmas
 pub mod NameLemmas
 pub mod PlaceLemmas

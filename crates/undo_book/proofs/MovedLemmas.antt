@@ -17,9 +17,8 @@ use Rattle.undo_rules.specs.Links.{txn_eq}
 use Rattle.undo_rules.proofs.EqualLinks.{linked-all, txn_eq-same}
 use Rattle.undo_rules.proofs.Moved.{not_among, txn_eq-sym}
 use Rattle.undo_index.specs.First.{IsFirst, first_some, has_place, is_apart, look, looked_up_at, or_some}
-use Rattle.undo_index.specs.Listed.{Listed, is_listed}
 use Rattle.undo_index.proofs.FirstLemmas.{first_alike, first_found}
-use Rattle.undo_book.specs.Indexed.{Lists, wrote}
+use Rattle.undo_book.specs.Indexed.{wrote}
 use Rattle.undo_book.specs.Places.{AreTheirPlaces, found_at as place_found, is_place, moved_at, named_at, place_of, stands_at}
 use Rattle.undo_book.proofs.IndexLemmas.{names_equal}
 use Rattle.undo_book.proofs.IndexedLemmas.{any_live, suc_suc, suc_zero, zero_suc}
@@ -85,7 +84,7 @@ among_links touched (e ∷ es) (suc p) entry named at =
       by false = refl
 
 -- a place is that of a name where the transaction there has it
-place_so : (es : List Entry) (p : ℕ) (entry : Entry) (name : TxnId) → AreNamed (map trace_of es) → slice_get es p ≡ Some entry →
+pub place_so : (es : List Entry) (p : ℕ) (entry : Entry) (name : TxnId) → AreNamed (map trace_of es) → slice_get es p ≡ Some entry →
     is_place p (place_of name es) ≡ txn_eq entry.txn name
 place_so [] p entry name named at = absurd cc
 place_so (e ∷ es) zero entry name named at = let same : e ≡ entry = cc in
@@ -115,7 +114,7 @@ place_at es p entry name named at is =
       by (Some q) same = ap Some (eqb-true p q same)
 
 -- behind the last there is none
-no_place : (es : List Entry) (p : ℕ) (name : TxnId) → slice_get es p ≡ None → is_place p (place_of name es) ≡ false
+pub no_place : (es : List Entry) (p : ℕ) (name : TxnId) → slice_get es p ≡ None → is_place p (place_of name es) ≡ false
 no_place [] p name at = refl
 no_place (e ∷ es) zero name at = absurd cc
 no_place (e ∷ es) (suc p) name at = by (txn_eq e.txn name) (place_of name es) refl (no_place es p name at) where
@@ -168,7 +167,7 @@ named_taken (e ∷ es) (suc n) named = (
 
 -- ---- the first that has moved
 
-module _ (touched : Touched) (names : List TxnId) (w : Listed) (es : List Entry) (places : List ((ℕ × ℕ) × ℕ)) (place : ℕ) where
+module _ (touched : Touched) (names : List TxnId) (es : List Entry) (places : List ((ℕ × ℕ) × ℕ)) (place : ℕ) where
   abbrev pub before : List Entry
   before = take place es
 
@@ -177,7 +176,7 @@ module _ (touched : Touched) (names : List TxnId) (w : Listed) (es : List Entry)
 
   -- a place below is linked, or was seen
   abbrev pub is_linked : ℕ → Bool
-  is_linked p = nat_lt p place && list_any (λ e. is_listed w e p) (items touched)
+  is_linked p = nat_lt p place && list_any (λ e. passes (wrote e) (slice_get es p)) (items touched)
 
   abbrev pub was_seen : ℕ → Bool
   was_seen p = nat_lt p place && list_any (stands_at places p) names
@@ -186,35 +185,33 @@ module _ (touched : Touched) (names : List TxnId) (w : Listed) (es : List Entry)
       names
   seen_so are p = any_alike (stands_at places p) (λ name. is_place p (place_of name es)) names (λ name. ap (is_place p) (are name))
 
-  linked_so : Lists wrote w es → (p : ℕ) → (o : Option Entry) → slice_get es p ≡ o →
-      list_any (λ e. is_listed w e p) (items touched) ≡ passes (λ (entry : Entry). entry.live && meets_touched entry.writes touched) o
-  linked_so lists p o at =
-      any_alike (λ e. is_listed w e p) (λ e. passes (wrote e) o) (items touched)
-      (λ e. lists e p ∙ ap (passes (wrote e)) at) ∙ by o where
-        by : (o : Option Entry) → list_any (λ e. passes (wrote e) o) (items touched)
-            ≡ passes (λ (entry : Entry). entry.live && meets_touched entry.writes touched) o
-        by None = any_none (items touched)
-        by (Some entry) = any_live entry.writes entry.live (some_meets entry.writes) (items touched)
+  linked_so : (p : ℕ) → (o : Option Entry) → slice_get es p ≡ o → list_any (λ e. passes (wrote e) (slice_get es p)) (items touched)
+      ≡ passes (λ (entry : Entry). entry.live && meets_touched entry.writes touched) o
+  linked_so p o at = ap (λ x. list_any (λ e. passes (wrote e) x) (items touched)) at ∙ by o where
+    by : (o : Option Entry) → list_any (λ e. passes (wrote e) o) (items touched)
+        ≡ passes (λ (entry : Entry). entry.live && meets_touched entry.writes touched) o
+    by None = any_none (items touched)
+    by (Some entry) = any_live entry.writes entry.live (some_meets entry.writes) (items touched)
 
-  apart_so : Lists wrote w es → AreTheirPlaces places es → AreNamed (map trace_of es) → (p : ℕ) →
+  apart_so : AreTheirPlaces places es → AreNamed (map trace_of es) → (p : ℕ) →
       is_apart (is_linked p) (was_seen p) ≡ is_some (look f (slice_get before p))
-  apart_so lists are named p = by (nat_lt p place) refl (slice_get es p) refl where
+  apart_so are named p = by (nat_lt p place) refl (slice_get es p) refl where
     by : (b : Bool) → nat_lt p place ≡ b → (o : Option Entry) → slice_get es p ≡ o →
-        is_apart (b && list_any (λ e. is_listed w e p) (items touched)) (b && list_any (stands_at places p) names)
+        is_apart (b && list_any (λ e. passes (wrote e) (slice_get es p)) (items touched)) (b && list_any (stands_at places p) names)
         ≡ is_some (look f (slice_get before p))
     by false more o at =
         let high : place ≤ p = grind (arith, nat_tests, more) in
         sym (ap (λ (x : Option Entry). is_some (look f x)) (past es place p high))
     by true less None at =
         let low : p < place = grind (arith, nat_tests, less) in
-        (λ i. is_apart (linked_so lists p None at i)
+        (λ i. is_apart (linked_so p None at i)
         ((seen_so are p ∙ any_alike (λ name. is_place p (place_of name es)) (λ name. false) names
         (λ name. no_place es p name at) ∙ any_none names) i))
         ∙ sym (ap (λ (x : Option Entry). is_some (look f x)) (taken es place p low ∙ at))
     by true less (Some entry) at =
         let low : p < place = grind (arith, nat_tests, less) in
         let there : slice_get before p ≡ Some entry = taken es place p low ∙ at in
-        (λ i. is_apart ((linked_so lists p (Some entry) at
+        (λ i. is_apart ((linked_so p (Some entry) at
         ∙ sym (among_links touched before p entry (named_taken es place named) there)) i)
         ((seen_so are p ∙ any_alike (λ name. is_place p (place_of name es)) (txn_eq entry.txn) names
         (λ name. place_so es p entry name named at)) i))
@@ -244,24 +241,24 @@ module _ (touched : Touched) (names : List TxnId) (w : Listed) (es : List Entry)
           let none : Some entry ≡ None = sym at ∙ past es place p high in
           absurd cc
 
-  pub moved_found : Lists wrote w es → AreTheirPlaces places es → AreNamed (map trace_of es) → (o : Option ℕ) →
+  pub moved_found : AreTheirPlaces places es → AreNamed (map trace_of es) → (o : Option ℕ) →
       IsFirst (λ p. is_apart (is_linked p) (was_seen p)) 0 o → named_at es o ≡ first_moved before (links_to before touched) names
-  moved_found lists are named o first =
+  moved_found are named o first =
       let alike = first_alike (λ p. is_apart (is_linked p) (was_seen p)) (λ p. is_some (look f (slice_get before p))) 0 o
-      (apart_so lists are named) first in
+      (apart_so are named) first in
       sym (moved_some before (links_to before touched) names ∙ first_found f before 0 o alike ∙ named_so o alike)
 
 -- the same of the places that two lists have
-pub moved_here : (w : Listed) (es : List Entry) (places : List ((ℕ × ℕ) × ℕ)) (place : ℕ) (entry : Entry) (touched : Touched)
+pub moved_here : (es : List Entry) (places : List ((ℕ × ℕ) × ℕ)) (place : ℕ) (entry : Entry) (touched : Touched)
     (names : List TxnId) (linked seen : List ℕ) (o : Option ℕ) → slice_get es place ≡ Some entry → touched ≡ entry.footprint →
-    names ≡ entry.seen → Lists wrote w es → AreTheirPlaces places es → AreNamed (map trace_of es) →
-    ((p : ℕ) → has_place linked p ≡ (nat_lt p place && list_any (λ e. is_listed w e p) (items touched))) →
+    names ≡ entry.seen → AreTheirPlaces places es → AreNamed (map trace_of es) →
+    ((p : ℕ) → has_place linked p ≡ (nat_lt p place && list_any (λ e. passes (wrote e) (slice_get es p)) (items touched))) →
     ((p : ℕ) → has_place seen p ≡ (nat_lt p place && list_any (stands_at places p) names)) →
     IsFirst (λ p. is_apart (has_place linked p) (has_place seen p)) 0 o → named_at es o ≡ moved_at (place_found es place)
-moved_here w es places place entry touched names linked seen o at same sames lists are named links sees first =
-    moved_found touched names w es places place lists are named o
+moved_here es places place entry touched names linked seen o at same sames are named links sees first =
+    moved_found touched names es places place are named o
     (first_alike (λ p. is_apart (has_place linked p) (has_place seen p))
-    (λ p. is_apart (nat_lt p place && list_any (λ e. is_listed w e p) (items touched))
+    (λ p. is_apart (nat_lt p place && list_any (λ e. passes (wrote e) (slice_get es p)) (items touched))
     (nat_lt p place && list_any (stands_at places p) names))
     0 o (λ p i. is_apart (links p i) (sees p i)) first)
     ∙ (λ i. first_moved (take place es) (links_to (take place es) (same i)) (sames i))

@@ -11,12 +11,11 @@ use Rattle.txn_commands.specs.declared.command.TxnId.{TxnId}
 use Rattle.txn_commands.specs.Elements.{Touched}
 use Rattle.txn_commands.specs.Lies.{passes}
 use Rattle.txn_commands.specs.Meets.{some_meets}
-use Rattle.txn_marks.proofs.AnyLemmas.{any_alike, any_none}
+use Rattle.txn_marks.proofs.AnyLemmas.{any_none}
 use Rattle.undo_rules.specs.Links.{Entry, links_to}
 use Rattle.undo_index.specs.First.{has_place}
-use Rattle.undo_index.specs.Listed.{Listed, is_listed}
 use Rattle.undo_index.proofs.ApartLemmas.{above, below_all, further}
-use Rattle.undo_book.specs.Indexed.{Lists, is_linked, name_at, wrote}
+use Rattle.undo_book.specs.Indexed.{is_linked, name_at, wrote}
 use Rattle.undo_book.proofs.IndexedLemmas.{any_live}
 
 -- ---- rising places
@@ -136,13 +135,12 @@ within (e ∷ es) t (suc i) = ap (λ b. b && passes t (slice_get es i)) (less i 
     by false one true other = absurd (grind (arith, nat_tests, one, other))
     by false one false other = refl
 
-pub links_so : (fp : Touched) (w : Listed) (es : List Entry) (ks : List ℕ) (end : ℕ) → Lists wrote w es → end ≡ length es →
-    IsStrictlySortedBy nat_cmp ks →
-    ((p : ℕ) → has_place ks p ≡ (nat_lt p end && list_any (λ e. is_listed w e p) (items fp))) →
+pub links_so : (fp : Touched) (es : List Entry) (ks : List ℕ) (end : ℕ) → end ≡ length es → IsStrictlySortedBy nat_cmp ks →
+    ((p : ℕ) → has_place ks p ≡ (nat_lt p end && list_any (λ e. passes (wrote e) (slice_get es p)) (items fp))) →
     filter_map (name_at es) ks ≡ links_to es fp
-links_so fp w es ks end lists last sorted are = names_so fp es 0 ks (name_at es) (rise ks sorted) (record {
+links_so fp es ks end last sorted are = names_so fp es 0 ks (name_at es) (rise ks sorted) (record {
   there = λ i. ap (λ p. has_place ks p) (zero_on i)
-      ∙ are i ∙ (λ k. nat_lt i (last k) && linked i k) ∙ within es (λ entry. is_linked entry fp) i;
+      ∙ are i ∙ (λ k. nat_lt i (last k) && linked_so (slice_get es i) k) ∙ within es (λ entry. is_linked entry fp) i;
   named = λ i entry at. ap (name_at es) (zero_on i) ∙ ap (λ o. option_map (λ (e : Entry). e.txn) o) at;
 }) where
   zero_on : (i : ℕ) → 0 + i ≡ i
@@ -151,10 +149,6 @@ links_so fp w es ks end lists last sorted are = names_so fp es 0 ks (name_at es)
   linked_so : (o : Option Entry) → list_any (λ e. passes (wrote e) o) (items fp) ≡ passes (λ entry. is_linked entry fp) o
   linked_so None = any_none (items fp)
   linked_so (Some entry) = any_live entry.writes entry.live (some_meets entry.writes) (items fp)
-
-  linked : (i : ℕ) → list_any (λ e. is_listed w e i) (items fp) ≡ passes (λ entry. is_linked entry fp) (slice_get es i)
-  linked i =
-      any_alike (λ e. is_listed w e i) (λ e. passes (wrote e) (slice_get es i)) (items fp) (λ e. lists e i) ∙ linked_so (slice_get es i)
 
 -- ---- names gathered one by one
 

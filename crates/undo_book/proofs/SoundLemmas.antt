@@ -1,17 +1,20 @@
 -- A history leads from its sound base to a sound layout, and the records of its transactions are in order.
-use Rattle.std.proofs.Common.{◌≡◌, ℕ, zero, suc, List, [], ◌∷◌, ◌++◌, None, Some, refl, sym, ap, subst, ◌∙◌, replicate, slice_get}
+use Rattle.std.proofs.Common.{◌≡◌, ℕ, zero, suc, Bool, List, [], ◌∷◌, ◌++◌, None, Some, refl, sym, ap, subst, ◌∙◌, replicate, slice_get}
 use Rattle.std.proofs.lemmas.List.{length-replicate}
+use Rattle.std.specs.List.{AllByRecursion}
 use Rattle.lay_layouts.specs.Layout.{Layout}
 use Rattle.lay_layouts.specs.Sound.{IsSound}
 use Rattle.txn_commands.specs.Records.{AreProper}
 use Rattle.undo_rules.specs.declared.log.Logged.{Logged}
 use Rattle.undo_rules.specs.Books.{History, IsHistory, SessionState}
-use Rattle.undo_rules.specs.Histories.{AreKept}
-use Rattle.undo_rules.specs.Links.{Entry}
+use Rattle.undo_rules.specs.Histories.{AreKept, AreRooted}
+use Rattle.undo_rules.specs.Links.{Entry, Trace, trace_of}
 use Rattle.undo_rules.specs.Steps.{fresh, unused}
 use Rattle.undo_rules.proofs.Grounds.{ran_proper}
 use Rattle.undo_rules.proofs.Roots.{root_of}
 use Rattle.undo_rules.proofs.Undoing.{chain_sound}
+use Rattle.undo_book.specs.Indexed.{CanBeLookedUp}
+use Rattle.undo_book.specs.Places.{AreTheirPlaces}
 
 pub kept_sound : (log : List Logged) (base layout : Layout) (entries : List Entry) → AreKept log base layout entries → IsSound base
     → IsSound layout
@@ -22,6 +25,23 @@ pub entry_proper : (log : List Logged) (base layout : Layout) (before : List Ent
 entry_proper log base layout before entry later kept =
     let (root, _) = root_of log base [] [] before entry later kept.rooted in
     ran_proper log entry root.before root.after root.ran
+
+rooted_proper : (log : List Logged) (base : Layout) (earlier : List Trace) (marks : List Bool) (entries : List Entry) →
+    AreRooted log base earlier marks entries → AllByRecursion (λ (entry : Entry). AreProper entry.writes) entries
+rooted_proper log base earlier marks [] rooted = tt
+rooted_proper log base earlier marks (entry ∷ entries) (root, links, rest) = (
+  ran_proper log entry root.before root.after root.ran,
+  rooted_proper log base (earlier ++ trace_of entry ∷ []) (marks ++ entry.live ∷ []) entries rest,
+)
+
+-- so transactions are found by their names, and in what one wrote an item by its id
+pub kept_found : (h : History) (places : List ((ℕ × ℕ) × ℕ)) (es : List Entry) → IsHistory h → AreTheirPlaces places h.entries →
+    es ≡ h.entries → CanBeLookedUp places es
+kept_found h places es is are same = subst (CanBeLookedUp places) (sym same) (record {
+  places = are;
+  named = is.kept.named;
+  proper = rooted_proper h.log h.base [] [] h.entries is.kept.rooted;
+})
 
 -- ---- a history without calls
 

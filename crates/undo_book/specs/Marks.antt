@@ -36,7 +36,7 @@ abbrev pub relaid : Bool → Layout → Records → Layout
 relaid false layout writes = reverted layout writes
 relaid true layout writes = applied layout writes
 
--- the place is listed under these elements too, or under none of them
-abbrev pub AreRelisted : Bool → Listed → Touched → ℕ → Listed → Type 0
-AreRelisted false old elements place new = AreRemoved old elements place new
-AreRelisted true old elements place new = AreAdded old elements place new
+-- the place is listed under those of these elements too that the transaction didn't make, or under none of these
+abbrev pub AreRelisted : Bool → Listed → TxnId → Touched → ℕ → Listed → Type 0
+AreRelisted false old txn elements place new = AreRemoved old txn elements place new
+AreRelisted true old txn elements place new = AreAdded old txn elements place new

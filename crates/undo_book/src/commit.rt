@@ -276,8 +276,8 @@ fn committed(txn: TxnId, commands: Sequence<Command>) -> Logged
     }
 }
 
-/// Lists a transaction at its place, under its name and under the elements that it wrote and touched. Out of
-/// memory all stays as it was where its place is a new one.
+/// Lists a transaction at its place, under its name and under the elements that it wrote and touched and didn't make.
+/// Out of memory all stays as it was where its place is a new one.
 fn list_at(
     index: &mut Index,
     places: &mut BTreeMap<(u8, u16), usize>,
@@ -285,8 +285,8 @@ fn list_at(
     place: usize,
     marks: &Marks,
 ) -> Result<(), NoMemory>
-    ensures writers { OnOk result (AreAdded index.old.writers marks.now.met place index.new.writers) }
-    ensures readers { OnOk result (AreAdded index.old.readers marks.now.touched place index.new.readers) }
+    ensures writers { OnOk result (AreAdded index.old.writers txn marks.now.met place index.new.writers) }
+    ensures readers { OnOk result (AreAdded index.old.readers txn marks.now.touched place index.new.readers) }
     ensures places { OnOk result (IsPutUnder txn place places.old.entries places.new.entries) }
     ensures same_writers { OnErr result (IsNew index.old.writers place
         → index.new.writers ≡ index.old.writers) }
@@ -294,9 +294,9 @@ fn list_at(
         → index.new.readers ≡ index.old.readers) }
     ensures same_places { OnErr result (places.new.entries ≡ places.old.entries) }
 {
-    index.enter(&marks.met, &marks.touched, place)?;
+    index.enter(txn, &marks.met, &marks.touched, place)?;
     if places.insert((txn.session, txn.txn), place).is_err() {
-        index.leave(&marks.met, &marks.touched, place);
+        index.leave(txn, &marks.met, &marks.touched, place);
         return Err(NoMemory {});
     }
     Ok(())

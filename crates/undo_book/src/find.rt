@@ -1,19 +1,18 @@
 //! Transactions by their names, and what is against undoing or redoing them.
-ghost use Rattle.std.specs.Prelude.{◌≡◌, ◌<◌, ◌≤◌, IfOk, IfSome, MatchResult, None, Some, drop, length, map, nat_lt};
+ghost use Rattle.std.specs.Prelude.{◌≡◌, ◌<◌, ◌≤◌, IfOk, IfSome, MatchResult, None, Some, drop, length, nat_lt};
 ghost use Rattle.std.specs.List.{list_any};
 ghost use Rattle.std.specs.List.Sorted.{IsPartitionPoint};
 ghost use Rattle.undo_rules.specs.Books.{writes_of};
-ghost use Rattle.undo_rules.specs.Links.{AreNamed, trace_of};
 ghost use Rattle.undo_rules.specs.Steps.{redo_refusal, redo_refusal_at, stale_by, touching};
 ghost use Rattle.undo_rules.specs.Steps.{undo_refusal, undo_refusal_at};
 ghost use Rattle.undo_book.specs.Changes.{first_change};
-ghost use Rattle.undo_book.specs.Indexed.{AreIndexed, is_linked};
-ghost use Rattle.undo_book.specs.Places.{AreTheirPlaces, found_at, place_of};
+ghost use Rattle.undo_book.specs.Indexed.{CanBeLookedUp, AreIndexed, is_linked};
+ghost use Rattle.undo_book.specs.Places.{found_at, place_of};
 
 use crate::book::Book;
 use crate::changes::is_before;
 use crate::entry::Entry;
-use crate::links::{changed_in, first_moved, first_reader};
+use crate::links::{changed_in, first_moved, first_reader, is_written_from};
 use lay_point::NoMemory;
 use std::alloc::Global;
 use std::collections::BTreeMap;
@@ -46,7 +45,7 @@ impl Book {
         let Some(place) = self.place_of(txn) else {
             return Ok(Err(BookFault::NoTxn));
         };
-        let refusal = undo_refusal_at(alloc, &self.index, &self.entries, place)?;
+        let refusal = undo_refusal_at(alloc, &self.index, &self.places, &self.entries, place)?;
         match refusal {
             Some(fault) => Ok(Err(fault)),
             None => Ok(Ok(place)),
@@ -107,7 +106,7 @@ impl Book {
         if from >= self.entries.len() {
             return false;
         }
-        self.index.writers.first_touched(footprint, from).is_some()
+        is_written_from(&self.index, &self.places, &self.entries, footprint, from)
     }
 
     /// Returns the first transaction that a call from this place of the log on changed and that wrote what is
@@ -178,11 +177,13 @@ fn next_place(place: Option<usize>) -> usize {
 fn undo_refusal_at(
     alloc: Global,
     index: &Index,
+    places: &BTreeMap<(u8, u16), usize>,
     entries: &[Entry],
     place: usize,
 ) -> Result<Option<BookFault>, NoMemory>
     requires place { place < length entries.now }
     requires index { AreIndexed index.now.writers index.now.readers entries.now }
+    requires found { CanBeLookedUp places.now.entries entries.now }
     ensures { IfOk result (λ refusal. refusal ≡ undo_refusal_at (found_at entries.now place)) }
 {
     let entry = &entries[place];
@@ -190,7 +191,7 @@ fn undo_refusal_at(
         return Ok(Some(BookFault::NotLive));
     }
     let met = Elements::met_by(alloc, &entry.writes)?;
-    Ok(first_reader(index, entries, entry, &met, place + 1).map(BookFault::Depends))
+    Ok(first_reader(index, places, entries, entry, &met, place + 1).map(BookFault::Depends))
 }
 
 /// Returns why the transaction at this place can't be redone.
@@ -203,8 +204,7 @@ fn redo_refusal_at(
 ) -> Result<Option<BookFault>, NoMemory>
     requires place { place < length entries.now }
     requires index { AreIndexed index.now.writers index.now.readers entries.now }
-    requires places { AreTheirPlaces places.now.entries entries.now }
-    requires named { AreNamed (map trace_of entries.now) }
+    requires found { CanBeLookedUp places.now.entries entries.now }
     ensures { IfOk result (λ refusal. refusal ≡ redo_refusal_at (found_at entries.now place)) }
 {
     let entry = &entries[place];
@@ -212,7 +212,7 @@ fn redo_refusal_at(
         return Ok(Some(BookFault::StillLive));
     }
     let met = Elements::met_by(alloc, &entry.writes)?;
-    if let Some(reader) = first_reader(index, entries, entry, &met, place + 1) {
+    if let Some(reader) = first_reader(index, places, entries, entry, &met, place + 1) {
         return Ok(Some(BookFault::Depends(reader)));
     }
     let moved = first_moved(alloc, index, places, entries, place)?;

@@ -34,8 +34,9 @@
 //!   kept, and of each transaction that of its last change (`AreChanges` of `specs/Changes.antt`).
 //! - Transactions are in the order of their commits; one whose last change is after the last undo
 //!   or redo was changed by its commit alone, and is live (`AreCommits` of `specs/Changes.antt`).
-//! - Of each element the places of the live transactions that wrote it, and of those that touched
-//!   it, are kept (`AreIndexed` of `specs/Indexed.antt`).
+//! - Of each element the places of the live transactions that wrote it and didn't make it, and of
+//!   those that touched it and didn't, are kept (`AreIndexed` of `specs/Indexed.antt`). Who made an
+//!   item is in its id: that transaction is found by its name, and its own marks tell what it did.
 //!
 //! # Limits
 //!
@@ -48,7 +49,7 @@
 //! - `open.rt`, `commit.rt`, `undo.rt`, `redo.rt`: a call each. `remark.rt` is what undo and redo
 //!   share.
 //! - `find.rt`, `links.rt`: transactions by their names, and what is against undoing or redoing
-//!   them.
+//!   them. `by_element.rt`: transactions by what they wrote or touched.
 //!
 //! # Example
 //!
@@ -63,6 +64,7 @@
 #![tactic(auto)]
 
 mod book;
+mod by_element;
 mod changes;
 mod commit;
 mod entry;

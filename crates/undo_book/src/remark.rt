@@ -16,7 +16,7 @@ ghost use Rattle.undo_book.specs.Places.{place_of};
 ghost use Rattle.undo_book.specs.Replays.{CanBeRedone, replay};
 
 use crate::book::Book;
-use crate::entry::mark_at;
+use crate::entry::{Entry, mark_at};
 use lay_items::Snapshot;
 use lay_point::NoMemory;
 use std::alloc::Global;
@@ -49,7 +49,7 @@ impl Book {
         let met = Elements::met_by(alloc, &entry.writes)?;
         self.log.reserve(1)?;
         self.changes.reserve_call()?;
-        relist(&mut self.index, &met, &entry.footprint, place, live)?;
+        relist(&mut self.index, entry, &met, place, live)?;
         self.changes.add_again(place, self.log.len() as u32);
         mark_at(&mut self.entries, place, live);
         self.log.push(marking(session, txn, live)).unwrap();
@@ -76,17 +76,17 @@ fn relaid(
     }
 }
 
-/// Lists a transaction at its place, as live or no longer. Only the first can be out of memory, and then all
+/// Lists a transaction at its place, as live or no longer, with the elements that its records meet. Only the first can be out of memory, and then all
 /// stays as it was where it isn't listed.
 fn relist(
     index: &mut Index,
+    entry: &Entry,
     met: &Elements,
-    footprint: &Elements,
     place: usize,
     live: bool,
 ) -> Result<(), NoMemory>
-    ensures writers { OnOk result (AreRelisted live index.old.writers met.now place index.new.writers) }
-    ensures readers { OnOk result (AreRelisted live index.old.readers footprint.now place index.new.readers) }
+    ensures writers { OnOk result (AreRelisted live index.old.writers entry.now.txn met.now place index.new.writers) }
+    ensures readers { OnOk result (AreRelisted live index.old.readers entry.now.txn entry.now.footprint place index.new.readers) }
     ensures live { OnErr result (live ≡ true) }
     ensures same_writers { OnErr result (IsNew index.old.writers place
         → index.new.writers ≡ index.old.writers) }
@@ -94,9 +94,9 @@ fn relist(
         → index.new.readers ≡ index.old.readers) }
 {
     if live {
-        index.enter(met, footprint, place)?;
+        index.enter(entry.txn, met, &entry.footprint, place)?;
     } else {
-        index.leave(met, footprint, place);
+        index.leave(entry.txn, met, &entry.footprint, place);
     }
     Ok(())
 }

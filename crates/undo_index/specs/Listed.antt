@@ -8,6 +8,7 @@ use Rattle.std.specs.FinSet as set
 use Rattle.std.specs.FinSet.{FinSet}
 use Rattle.lay_layouts.specs.declared.id.ItemId.{ItemId}
 use Rattle.txn_commands.specs.contracts.element.Element as element
+use Rattle.txn_commands.specs.declared.command.TxnId.{TxnId}
 use Rattle.txn_commands.specs.declared.element.Element.{Element}
 use Rattle.txn_commands.specs.declared.element.Element.TheVariants.{Calls, Cell, Content, Item, Layer, Uses}
 use Rattle.txn_commands.specs.Elements.{Touched, element_cmp}
@@ -36,15 +37,28 @@ is_listed listed e p = set.contains listed (e, p)
 abbrev pub IsNew : Listed → ℕ → Type 0
 IsNew listed place = (e : Element) → is_listed listed e place ≡ false
 
--- the place is listed under these elements too
-abbrev pub AreAdded : Listed → Touched → ℕ → Listed → Type 0
-AreAdded old elements place new =
-    (e : Element) (p : ℕ) → is_listed new e p ≡ (is_listed old e p || ((p == place) && set.contains elements e))
+-- the element is an item that the transaction made: its id tells
+abbrev pub is_made_by : TxnId → Element → Bool
+is_made_by txn (Item id) = (txn.session == id.session) && (txn.txn == id.txn)
+is_made_by txn (Layer cell layer) = false
+is_made_by txn (Calls cell) = false
+is_made_by txn (Cell number) = false
+is_made_by txn (Content number) = false
+is_made_by txn (Uses number) = false
 
--- the place is listed under none of these elements
-abbrev pub AreRemoved : Listed → Touched → ℕ → Listed → Type 0
-AreRemoved old elements place new =
-    (e : Element) (p : ℕ) → is_listed new e p ≡ (is_listed old e p && not ((p == place) && set.contains elements e))
+-- the element is one of these, and the transaction didn't make it
+abbrev pub is_others : TxnId → Touched → Element → Bool
+is_others txn elements e = set.contains elements e && not (is_made_by txn e)
+
+-- the transaction's place is listed under those of these elements too that it didn't make
+abbrev pub AreAdded : Listed → TxnId → Touched → ℕ → Listed → Type 0
+AreAdded old txn elements place new =
+    (e : Element) (p : ℕ) → is_listed new e p ≡ (is_listed old e p || ((p == place) && is_others txn elements e))
+
+-- it is listed under none of these
+abbrev pub AreRemoved : Listed → TxnId → Touched → ℕ → Listed → Type 0
+AreRemoved old txn elements place new =
+    (e : Element) (p : ℕ) → is_listed new e p ≡ (is_listed old e p && not ((p == place) && is_others txn elements e))
 
 -- ---- how they are kept
 

@@ -3,7 +3,7 @@ ghost use Rattle.std.specs.Prelude.{◌≡◌};
 ghost use Rattle.undo_index.specs.First.{lesser};
 
 /// Returns the lesser one of two places, of which either may be missing.
-pub(crate) fn lesser(one: Option<usize>, other: Option<usize>) -> Option<usize>
+pub fn lesser(one: Option<usize>, other: Option<usize>) -> Option<usize>
     ensures { result ≡ lesser one other }
 {
     match (one, other) {

@@ -1,33 +1,31 @@
 //! Places under elements.
-ghost use Rattle.std.specs.Prelude.{◌≡◌, ℕ, ◌||◌, ◌&&◌, IfOk, OnErr, OnOk, nat_lt};
+ghost use Rattle.std.specs.Prelude.{◌≡◌, ℕ, ◌||◌, ◌&&◌, OnErr, OnOk, nat_lt};
 ghost use Rattle.std.specs.FinSet as set;
-ghost use Rattle.std.specs.List.{list_any};
 ghost use Rattle.undo_index.specs.First.{IsFirst, has_place};
 ghost use Rattle.undo_index.specs.Listed.{
   AreAdded,
   AreRemoved,
   IsNew,
   is_listed,
+  is_made_by,
   element_id,
   nothing_listed,
 };
 
-use crate::least::lesser;
 use crate::parts::Parts;
-use crate::places::Places;
 use crate::under::{first_under, gather_under};
 use lay_layouts::ItemId;
 use lay_point::NoMemory;
 use std::alloc::Global;
 use std::collections::BTreeSet;
 use std::marker::Model;
-use txn_commands::Element;
-use txn_marks::{Elements, Footprint};
+use txn_commands::{Element, TxnId};
+use txn_marks::Elements;
 
 /// Places listed under elements. Contracts see the finite set of the pairs.
 ///
-/// Of most transactions half of the pairs or more are of items, and an id takes a quarter of what an element
-/// does. So those of items have a tree of their own. The other elements are few, with many places each.
+/// A transaction that moves or removes items of others has a pair for each, and an id takes a quarter of what an
+/// element does. So those of items have a tree of their own. The other elements are few, with many places each.
 #[derive(Drop)]
 pub struct Listing {
     items: BTreeSet<(ItemId, usize)>,
@@ -55,8 +53,8 @@ impl Listing {
         }
     }
 
-    /// Lists the place under each of the elements. Out of memory it takes those back that it listed, so what
-    /// was listed stays as it was where the place is a new one.
+    /// Lists the transaction's place under each of the elements that it didn't make. Out of memory it takes those
+    /// back that it listed, so what was listed stays as it was where the place is a new one.
     ///
     /// # Errors
     ///
@@ -64,64 +62,50 @@ impl Listing {
     ///
     /// # Cost
     ///
-    /// As many steps as there are elements, each by the logarithm of the number of pairs.
-    pub fn add(&mut self, elements: &Elements, place: usize) -> Result<(), NoMemory>
-        ensures ok { OnOk result (AreAdded self.old elements.now place self.new) }
+    /// As many steps as there are elements, each that is listed by the logarithm of the number of pairs.
+    pub fn add(&mut self, txn: TxnId, elements: &Elements, place: usize) -> Result<(), NoMemory>
+        ensures ok { OnOk result (AreAdded self.old txn elements.now place self.new) }
         ensures err { OnErr result (IsNew self.old place → self.new ≡ self.old) }
     {
         for element in elements.as_slice() {
-            if self.insert(*element, place).is_err() {
-                self.remove(elements, place);
+            if !is_made_by(txn, element) && self.insert(*element, place).is_err() {
+                self.remove(txn, elements, place);
                 return Err(NoMemory {});
             }
         }
         Ok(())
     }
 
-    /// Lists the place no longer under any of the elements.
+    /// Lists the transaction's place no longer under any of the elements.
     ///
     /// # Cost
     ///
     /// As that of `add`.
-    pub fn remove(&mut self, elements: &Elements, place: usize)
-        ensures { AreRemoved self.old elements.now place self.new }
+    pub fn remove(&mut self, txn: TxnId, elements: &Elements, place: usize)
+        ensures { AreRemoved self.old txn elements.now place self.new }
     {
         for element in elements.as_slice() {
-            self.remove_one(*element, place);
+            if !is_made_by(txn, element) {
+                self.remove_one(*element, place);
+            }
         }
     }
 
-    /// Returns the least place from this one on that is listed under one of the elements.
+    /// Returns the least place from this one on that is listed under the element.
     ///
     /// # Cost
     ///
-    /// As that of `add`.
-    pub fn first_among(&self, elements: &Elements, from: usize) -> Option<usize>
-        ensures { IsFirst (λ p. list_any (λ e. is_listed self.now e p) (set.items elements.now)) from result }
+    /// The logarithm of the number of pairs.
+    pub fn first(&self, element: Element, from: usize) -> Option<usize>
+        ensures { IsFirst (is_listed self.now element) from result }
     {
-        let mut least = None;
-        for element in elements.as_slice() {
-            least = lesser(least, self.first(*element, from));
+        match element_id(&element) {
+            Some(id) => first_under(&self.items, id, from),
+            None => self.others.first(element, from),
         }
-        least
     }
 
-    /// Returns the least place from this one on that is listed under one of the elements of the footprint.
-    ///
-    /// # Cost
-    ///
-    /// As that of `add`.
-    pub fn first_touched(&self, footprint: &Footprint, from: usize) -> Option<usize>
-        ensures { IsFirst (λ p. list_any (λ e. is_listed self.now e p) (set.items footprint.now)) from result }
-    {
-        let mut first = None;
-        for element in footprint.elements() {
-            first = lesser(first, self.first(*element, from));
-        }
-        first
-    }
-
-    /// Returns all places below this one that are listed under one of the elements, in rising order.
+    /// Adds the places below this one that are listed under the element, in rising order.
     ///
     /// # Errors
     ///
@@ -129,22 +113,20 @@ impl Listing {
     ///
     /// # Cost
     ///
-    /// As that of `add`, and as that of bringing the places in order that are listed there under each of the
-    /// elements: one step for each where one element alone has any, else by the logarithm of their number.
-    pub fn all_among(
+    /// The logarithm of the number of pairs, and a step for each place.
+    pub fn gather(
         &self,
-        alloc: Global,
-        elements: &Elements,
+        element: Element,
         below: usize,
-    ) -> Result<Places, NoMemory>
-        ensures { IfOk result (λ places. (p : ℕ) → has_place places p
-            ≡ (nat_lt p below && list_any (λ e. is_listed self.now e p) (set.items elements.now))) }
+        places: &mut Vec<usize>,
+    ) -> Result<(), NoMemory>
+        ensures { OnOk result ((p : ℕ) → has_place places.new.items p
+            ≡ (has_place places.old.items p || (nat_lt p below && is_listed self.now element p))) }
     {
-        let mut places = Vec::new(alloc);
-        for element in elements.as_slice() {
-            self.gather(*element, below, &mut places)?;
+        match element_id(&element) {
+            Some(id) => gather_under(&self.items, id, below, places),
+            None => self.others.gather(element, below, places),
         }
-        Ok(Places::of(places))
     }
 
     /// Lists the place under the element.
@@ -172,40 +154,24 @@ impl Listing {
             None => self.others.remove(element, place),
         }
     }
-
-    /// Returns the least place from this one on that is listed under the element.
-    fn first(&self, element: Element, from: usize) -> Option<usize>
-        ensures { IsFirst (is_listed self.now element) from result }
-    {
-        match element_id(&element) {
-            Some(id) => first_under(&self.items, id, from),
-            None => self.others.first(element, from),
-        }
-    }
-
-    /// Adds the places below this one that are listed under the element.
-    fn gather(
-        &self,
-        element: Element,
-        below: usize,
-        places: &mut Vec<usize>,
-    ) -> Result<(), NoMemory>
-        ensures { OnOk result ((p : ℕ) → has_place places.new.items p
-            ≡ (has_place places.old.items p || (nat_lt p below && is_listed self.now element p))) }
-    {
-        match element_id(&element) {
-            Some(id) => gather_under(&self.items, id, below, places),
-            None => self.others.gather(element, below, places),
-        }
-    }
 }
 
 /// Returns the id, where the element is an item.
-fn element_id(element: &Element) -> Option<ItemId>
+pub fn element_id(element: &Element) -> Option<ItemId>
     ensures { result ≡ element_id element.now }
 {
     match element {
         Element::Item(id) => Some(*id),
         _ => None,
+    }
+}
+
+/// Returns whether the element is an item that the transaction made.
+fn is_made_by(txn: TxnId, element: &Element) -> bool
+    ensures { result ≡ is_made_by txn element.now }
+{
+    match element {
+        Element::Item(id) => txn.session == id.session && txn.txn == id.txn,
+        _ => false,
     }
 }

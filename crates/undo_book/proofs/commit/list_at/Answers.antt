@@ -11,12 +11,12 @@ at_ok (Err e) h p = absurd cc
 
 pub returns-then-is_err-clause-same_writers : goal.returns-then-is_err-clause-same_writers
 returns-then-is_err-clause-same_writers c fresh =
-    withdrawn c.args.index.now.writers c.enter.new.self.writers c.leave.new.self.writers c.args.marks.now.met c.args.place
+    withdrawn c.args.index.now.writers c.enter.new.self.writers c.leave.new.self.writers c.args.txn c.args.marks.now.met c.args.place
     c.in_ok-enter.ensures.writers c.leave.ensures.writers fresh
 
 pub returns-then-is_err-clause-same_readers : goal.returns-then-is_err-clause-same_readers
 returns-then-is_err-clause-same_readers c fresh =
-    withdrawn c.args.index.now.readers c.enter.new.self.readers c.leave.new.self.readers c.args.marks.now.touched c.args.place
+    withdrawn c.args.index.now.readers c.enter.new.self.readers c.leave.new.self.readers c.args.txn c.args.marks.now.touched c.args.place
     c.in_ok-enter.ensures.readers c.leave.ensures.readers fresh
 
 -- under its name stands its place

@@ -3,9 +3,10 @@ use Rattle.std.proofs.lemmas.Option.{slice_get_read}
 use Rattle.std.specs.Prelude.{nat_lt}
 use Rattle.std.specs.FinSet.{items}
 use Rattle.std.specs.List.{list_any}
+use Rattle.txn_commands.specs.Lies.{passes}
 use Rattle.undo_rules.specs.Links.{Entry}
 use Rattle.undo_index.specs.First.{has_place}
-use Rattle.undo_index.specs.Listed.{is_listed}
+use Rattle.undo_book.specs.Indexed.{wrote}
 use Rattle.undo_book.specs.Places.{named_at, stands_at}
 use Rattle.undo_book.proofs.MovedLemmas.{moved_here}
 use Rattle.undo_book.proofs.links.first_moved.Goals as goal
@@ -19,13 +20,13 @@ returns c =
     slice_get_read es (length es) place entry refl c.requires.place c.index-entries-place.is in
     let given : c.as_slice.result.now ≡ c.entry.inside.seen = search rules in
     let linked : (p : ℕ) → has_place c.in_ok-linked.linked p
-    ≡ (nat_lt p place && list_any (λ e. is_listed c.args.index.now.writers e p) (items c.entry.inside.footprint)) =
+    ≡ (nat_lt p place && list_any (λ e. passes (wrote e) (slice_get es p)) (items c.entry.inside.footprint)) =
     c.in_ok-linked.ensures in
     let seen : (p : ℕ) → has_place c.in_ok-seen.seen p
     ≡ (nat_lt p place && list_any (stands_at c.args.places.now.entries p) c.entry.inside.seen) =
     λ p. c.in_ok-seen.ensures p ∙ ap (λ names. nat_lt p place && list_any (stands_at c.args.places.now.entries p) names) given in
     let named : c.named_at.result ≡ named_at es c.first_apart.result = search rules in
-    named ∙ moved_here c.args.index.now.writers es c.args.places.now.entries place entry c.entry.inside.footprint c.entry.inside.seen
+    named ∙ moved_here es c.args.places.now.entries place entry c.entry.inside.footprint c.entry.inside.seen
     c.in_ok-linked.linked c.in_ok-seen.seen c.first_apart.result at (ap (λ (e : Entry). e.footprint) c.entry.view_is)
-    (ap (λ (e : Entry). e.seen) c.entry.view_is) c.requires.index.writers c.requires.places c.requires.named linked seen
+    (ap (λ (e : Entry). e.seen) c.entry.view_is) c.requires.found.places c.requires.found.named linked seen
     c.first_apart.ensures

@@ -53,8 +53,8 @@ indexed c =
     let work = c.args.work in
     let marks = c.in-Ok.prepared.marks in
     let last : c.len-index.result ≡ length c.self.inside.entries.items = search rules in
-    let added : AreAdded was.writers marks.met c.len-index.result c.list_at.new.index.writers = search rules in
-    let read : AreAdded was.readers work.footprint c.len-index.result c.list_at.new.index.readers = search rules in
+    let added : AreAdded was.writers work.id marks.met c.len-index.result c.list_at.new.index.writers = search rules in
+    let read : AreAdded was.readers work.id work.footprint c.len-index.result c.list_at.new.index.readers = search rules in
     let are : AreMetBy work.writes marks.met = c.in-Ok.ensures.marks.met in
     commit_indexed was.writers was.readers c.list_at.new.index.writers c.list_at.new.index.readers
     c.self.inside.entries.items c.push.new.self.items (entered (history_of c.self.inside) work) marks.met c.len-index.result

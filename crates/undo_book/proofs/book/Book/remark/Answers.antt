@@ -96,8 +96,8 @@ indexed c =
     let less = within (history_of c.self.inside) c.args.self.now c.self.view_is c.args.txn c.args.place c.requires.place in
     let met : AreMetBy c.entry.inside.writes c.in_ok-met.met = search rules in
     let are : AreMetBy entry.writes c.in_ok-met.met = subst (λ (e : Entry). AreMetBy e.writes c.in_ok-met.met) c.entry.view_is met in
-    let wrote_it : AreRelisted c.args.live was.writers c.in_ok-met.met c.args.place c.relist.new.index.writers = search rules in
-    let read_it : AreRelisted c.args.live was.readers entry.footprint c.args.place c.relist.new.index.readers = search rules in
+    let wrote_it : AreRelisted c.args.live was.writers entry.txn c.in_ok-met.met c.args.place c.relist.new.index.writers = search rules in
+    let read_it : AreRelisted c.args.live was.readers entry.txn entry.footprint c.args.place c.relist.new.index.readers = search rules in
     mark_indexed c.args.live was.writers was.readers c.relist.new.index.writers c.relist.new.index.readers c.self.inside.entries.items
     c.mark_at.new.entries.items c.args.place entry c.in_ok-met.met c.self.invariant.index wrote_it read_it are (can c).other (can c).there
     less (c.mark_at.ensures entry (can c).there)

@@ -4,4 +4,4 @@ use Rattle.undo_index.proofs.listing.Listing.remove.Given as goal
 
 -- with the elements that are left it is listed as it is to be
 abbrev pub invariant-loop-element : goal.invariant-loop-element
-invariant-loop-element l = Removes l.fn.self l.elements l.place l.self (drop l.element-index l.element-items)
+invariant-loop-element l = Removes l.fn.self l.txn l.elements l.place l.self (drop l.element-index l.element-items)
