@@ -29,7 +29,6 @@ use Rattle.std.proofs.lemmas.List.{nil_from_length}
 use Rattle.std.proofs.KnownBytes.{Appends-nil}
 use Rattle.std.specs.Prelude.{is_some}
 use Rattle.byte_io.specs.Device.{WroteAll}
-use Rattle.byte_io.specs.Input.{Counts}
 use Rattle.live_run.specs.declared.showing.Showing.{Showing}
 use Rattle.live_run.specs.Live.{after_lines}
 use Rattle.live_run.specs.declared.ear.Ear.{Ear}
@@ -38,6 +37,7 @@ use Rattle.live_run.specs.declared.ending.LiveEnd.TheVariants.{Cif, Device, Done
 use Rattle.live_run.specs.Cif.{behind, whole}
 use Rattle.live_run.specs.Said.{IsSaid}
 use Rattle.live_run.specs.Course.{InHead, InSteps, Phase, RefusesHead, phase_of}
+use Rattle.live_run.specs.Devices.{Devices, Observed, devices}
 use Rattle.live_run.specs.Ending.{HasCifFault, HasJobFault, IsJournaled, IsPast, IsStop, Past, Unbegun, can_begin, no_past}
 use Rattle.live_run.specs.Ear.{BeginsBehind, BegunAt, BegunTo, EndTo, HeardAll, Hears, IsAt, StandsBehind}
 use Rattle.live_run.specs.Journal.{KeptText, kept_in}
@@ -152,30 +152,28 @@ stopped_in showing written kept base out journal Journal (seen, unseen, line, sa
     absurd (let none : 0 ≡ 1 = part.failed in cc)
 stopped_in showing written kept base out journal Memory stop = tt
 
-module _ {I O J : Type 0} (showing : Showing) (remaining : I → Option (List ℕ)) (counts : I → Counts) (written : O → Option (List ℕ))
-    (failures : O → ℕ)
-    (kept : J → Option (List KeptText)) (losses : J → ℕ) where
+module _ {I O J : Type 0} (showing : Showing) (observed : Observed I O J) where
   -- a run that began from its journal and stopped before its input ended
-  pub journal_stopped : (journal : List ℕ) (ear : Ear) (input input' : I) (out out' : O × J) (end : LiveEnd) → BeginsBehind showing journal
-      (Ok ear)
-      → HeardAll showing remaining counts written failures kept losses ear input input' out out' (Err end)
-      → IsJournaled showing remaining counts written failures kept losses journal input input' out out' end
-  journal_stopped journal ear input input' out out' end (stands, empty) heard =
+  pub journal_stopped : (journal : List ℕ) (ear : Ear) (before after : Devices I O J) (end : LiveEnd)
+      → BeginsBehind showing journal (Ok ear) → HeardAll showing observed ear before after (Err end)
+      → IsJournaled showing observed journal before after end
+  journal_stopped journal ear before after end (stands, empty) heard =
       let (past, can, is, hears) =
-      behind_journal showing written failures kept losses (whole journal) (phase_of ear.course) out ear.line.items stands empty in
+      behind_journal showing observed.written observed.failures observed.kept observed.losses (whole journal) (phase_of ear.course)
+      (before.out, before.journal) ear.line.items stands empty in
       let (given, gone, ends) = heard past hears in
       record { by = inl (past, given, can, is, gone, ends) }
 
   -- a run that began from its journal, and whose input ended
-  pub journal_ended : (journal : List ℕ) (ear last : Ear) (input input' : I) (out mid out' : O × J) (end : LiveEnd) → BeginsBehind showing
-      journal (Ok ear)
-      → HeardAll showing remaining counts written failures kept losses ear input input' out mid (Ok last)
-      → EndTo showing written failures kept losses mid out' last end
-      → IsJournaled showing remaining counts written failures kept losses journal input input' out out' end
-  journal_ended journal ear last input input' out mid out' end (stands, empty) (given, gone, ended, to) closes =
+  pub journal_ended : (journal : List ℕ) (ear last : Ear) (before mid : Devices I O J) (out : O) (book : J) (end : LiveEnd)
+      → BeginsBehind showing journal (Ok ear) → HeardAll showing observed ear before mid (Ok last)
+      → EndTo showing observed.written observed.failures observed.kept observed.losses (mid.out, mid.journal) (out, book) last end
+      → IsJournaled showing observed journal before (devices mid.input out book) end
+  journal_ended journal ear last before mid out book end (stands, empty) (given, gone, ended, to) closes =
       let (past, can, is, hears) =
-      behind_journal showing written failures kept losses (whole journal) (phase_of ear.course) out ear.line.items stands empty in
-      let stop = closes past out given (to past out [] hears) in
+      behind_journal showing observed.written observed.failures observed.kept observed.losses (whole journal) (phase_of ear.course)
+      (before.out, before.journal) ear.line.items stands empty in
+      let stop = closes past (before.out, before.journal) given (to past (before.out, before.journal) [] hears) in
       record {
         by = inl (
           past,
@@ -183,12 +181,12 @@ module _ {I O J : Type 0} (showing : Showing) (remaining : I → Option (List �
           can,
           is,
           gone,
-          run_ended showing written failures kept losses past counts input input' out out'
-              given end ended stop,
+          run_ended showing observed.written observed.failures observed.kept observed.losses past observed.counts before.input mid.input
+              (before.out, before.journal) (out, book) given end ended stop,
         );
       }
 
   -- no run began
-  pub journal_unbegun : (journal : List ℕ) (input : I) (out : O × J) (end : LiveEnd) → BeginsBehind showing journal (Err end)
-      → IsJournaled showing remaining counts written failures kept losses journal input input out out end
-  journal_unbegun journal input out end un = record { by = inr (un, refl, refl) }
+  pub journal_unbegun : (journal : List ℕ) (before : Devices I O J) (end : LiveEnd) → BeginsBehind showing journal (Err end)
+      → IsJournaled showing observed journal before before end
+  journal_unbegun journal before end un = record { by = inr (un, refl) }

@@ -25,7 +25,6 @@ use Rattle.std.specs.Prelude.{
 }
 use Rattle.std.specs.List.{concat, list_all}
 use Rattle.std.specs.Io.KnownBytes.{Consumes}
-use Rattle.byte_io.specs.Input.{Counts}
 use Rattle.byte_io.specs.Lines.{lines}
 use Rattle.live_run.specs.Live.{LiveRun, after_lines}
 use Rattle.live_run.specs.declared.showing.Showing.{Showing}
@@ -34,6 +33,7 @@ use Rattle.live_run.specs.declared.ear.Ear.{Ear}
 use Rattle.live_run.specs.declared.ending.LiveEnd.{LiveEnd}
 use Rattle.live_run.specs.Cif.{behind, is_ended, whole}
 use Rattle.live_run.specs.Course.{Phase, InHead, InSteps, RefusesHead, phase_of}
+use Rattle.live_run.specs.Devices.{Devices, Observed}
 use Rattle.live_run.specs.Ending.{Does, IsEnd, IsEnded, IsStop, Past, Unbegun, all_lines, no_past}
 use Rattle.live_run.specs.Journal.{KeptText, kept_in}
 use Rattle.live_run.specs.Said.{AreAnswered, IsFirstRun}
@@ -118,13 +118,30 @@ abbrev pub BeginsBehind : Showing → List ℕ → Result Ear LiveEnd → Type 0
 BeginsBehind showing journal (Ok ear) = StandsBehind showing (whole journal) (phase_of ear.course) × (ear.line.items ≡ [])
 BeginsBehind showing journal (Err end) = Unbegun (whole journal) end
 
--- the input was read to its end, and its bytes were heard by a run that stood here; or the run has ended
-abbrev pub HeardAll : {I O J : Type 0} → Showing → (I → Option (List ℕ)) → (I → Counts) → (O → Option (List ℕ)) → (O → ℕ)
-    → (J → Option (List KeptText)) → (J → ℕ) → Ear → I → I → O × J → O × J → Result Ear LiveEnd → Type 0
-HeardAll showing remaining counts written failures kept losses first input input' out out' (Ok ear) =
-    (given : List ℕ) × Consumes (remaining input) (remaining input') given × IsEnded (counts input) (counts input')
-    × PieceTo showing written failures kept losses out out' first given (Ok ear)
-HeardAll showing remaining counts written failures kept losses first input input' out out' (Err end) =
-    (past : Past) → Hears showing written failures kept losses past out out [] (phase_of first.course) first.line.items
-    → (given : List ℕ) × Consumes (remaining input) (remaining input') given
-    × IsEnd showing written failures kept losses past out out' given (counts input) (counts input') end
+module _ {I O J : Type 0} (showing : Showing) (observed : Observed I O J) (first : Ear) (before after : Devices I O J) where
+  -- with this behind it, a run that hears these devices stands where it stood first
+  abbrev pub StandsFirst : Past → Type 0
+  StandsFirst past =
+      Hears showing observed.written observed.failures observed.kept observed.losses past (before.out, before.journal)
+      (before.out, before.journal) [] (phase_of first.course) first.line.items
+
+  -- the input was read to its end, and its bytes led the run here
+  abbrev pub HeardOut : Ear → Type 0
+  HeardOut ear =
+      (given : List ℕ) × Consumes (observed.remaining before.input) (observed.remaining after.input) given
+      × IsEnded (observed.counts before.input) (observed.counts after.input)
+      × PieceTo showing observed.written observed.failures observed.kept observed.losses (before.out, before.journal)
+      (after.out, after.journal) first given (Ok ear)
+
+  -- the input was read so far, and the run ended so
+  abbrev pub HeardPart : LiveEnd → Type 0
+  HeardPart end =
+      (past : Past) → StandsFirst past
+      → (given : List ℕ) × Consumes (observed.remaining before.input) (observed.remaining after.input) given
+      × IsEnd showing observed.written observed.failures observed.kept observed.losses past (before.out, before.journal)
+      (after.out, after.journal) given (observed.counts before.input) (observed.counts after.input) end
+
+  -- all of the input was heard, or the run has ended before
+  abbrev pub HeardAll : Result Ear LiveEnd → Type 0
+  HeardAll (Ok ear) = HeardOut ear
+  HeardAll (Err end) = HeardPart end

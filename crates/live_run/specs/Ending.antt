@@ -13,6 +13,7 @@ use Rattle.live_run.specs.declared.ending.LiveEnd.TheVariants.{Cif, Device, Done
 use Rattle.live_run.specs.declared.journal.NoJournal.{NoJournal}
 use Rattle.live_run.specs.declared.showing.Showing.{Showing}
 use Rattle.live_run.specs.Cif.{before, behind, cif_of, whole}
+use Rattle.live_run.specs.Devices.{Devices, Observed, devices, observed_by}
 use Rattle.live_run.specs.Journal.{KeptText, KeptAll, KeptPart, kept_in}
 use Rattle.live_run.specs.Said.{HaveRefused, IsSaid, IsWhole}
 
@@ -141,24 +142,24 @@ Unbegun told Device = ⊥
 Unbegun told Journal = ⊥
 Unbegun told Memory = ⊤
 
-module _ {I O J : Type 0} (showing : Showing) (remaining : I → Option (List ℕ)) (counts : I → Counts) (written : O → Option (List ℕ))
-    (failures : O → ℕ) (kept : J → Option (List KeptText)) (losses : J → ℕ) where
-  -- From the old devices to the new, a run over the lines that this journal has whole and then those of the input: what the
+module _ {I O J : Type 0} (showing : Showing) (observed : Observed I O J) (journal : List ℕ) (before after : Devices I O J)
+    (end : LiveEnd) where
+  -- From the devices before to those after, a run over the lines that this journal has whole and then those of the input: what the
   -- lines of the journal are answered isn't said again, nor are they kept again.
-  abbrev pub Resumes : List ℕ → I → I → O × J → O × J → LiveEnd → Type 0
-  Resumes journal input input' out out' end =
+  abbrev pub Resumes : Type 0
+  Resumes =
       (past : Past) × (given : List ℕ) × (can_begin (whole journal) ≡ true) × IsPast showing (whole journal) past
-      × Consumes (remaining input) (remaining input') given
-      × IsEnd showing written failures kept losses past out out' given (counts input) (counts input') end
+      × Consumes (observed.remaining before.input) (observed.remaining after.input) given
+      × IsEnd showing observed.written observed.failures observed.kept observed.losses past (before.out, before.journal)
+      (after.out, after.journal) given (observed.counts before.input) (observed.counts after.input) end
 
   -- the same, or no run began, and nothing was read, written or kept
-  pub record IsJournaled (journal : List ℕ) (input input' : I) (out out' : O × J) (end : LiveEnd) : Type 0 where
-    pub by : Resumes journal input input' out out' end
-        ⊎ (Unbegun (whole journal) end × (input' ≡ input) × (out' ≡ out))
+  pub record IsJournaled : Type 0 where
+    pub by : Resumes ⊎ (Unbegun (whole journal) end × (after ≡ before))
 
 -- from the old input and output device to the new, a run without a journal ended so
 abbrev pub IsLiveRun : {I O : Type 0} → Showing → (I → Option (List ℕ)) → (I → Counts) → (O → Option (List ℕ)) → (O → ℕ)
     → I → I → O → O → LiveEnd → Type 0
 IsLiveRun showing remaining counts written failures input input' out out' end =
-    IsJournaled {J = NoJournal} showing remaining counts written failures (λ j. None) (λ j. 0) [] input input' (out, record {})
-    (out', record {}) end
+    IsJournaled {J = NoJournal} showing (observed_by remaining counts written failures (λ j. None) (λ j. 0)) []
+    (devices input out (record {})) (devices input' out' (record {})) end

@@ -1,5 +1,6 @@
 pub mod Cif
 pub mod Course
+pub mod Devices
 pub mod Ear
 pub mod Ending
 pub mod Journal

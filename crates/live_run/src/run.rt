@@ -1,5 +1,6 @@
 //! A live run from the first byte of its input to its end.
 ghost use Rattle.std.specs.Prelude.{◌≡◌, ◌+◌, ◌≤◌};
+ghost use Rattle.live_run.specs.Devices.{devices, observed_by};
 ghost use Rattle.live_run.specs.Ear.{BeginsBehind, HeardAll};
 ghost use Rattle.live_run.specs.Ending.{IsJournaled, IsLiveRun};
 
@@ -69,8 +70,8 @@ pub fn run_journaled<I: In, O: Out, J: Journal>(
     out: &mut O,
     journal: &mut J,
 ) -> LiveEnd
-    ensures run { IsJournaled showing I.remaining I.counts O.written O.failures J.kept J.losses bytes.items
-        input.old input.new (out.old, journal.old) (out.new, journal.new) result }
+    ensures run { IsJournaled showing (observed_by I.remaining I.counts O.written O.failures J.kept J.losses) bytes.items
+        (devices input.old out.old journal.old) (devices input.new out.new journal.new) result }
     ensures reads { (I.counts input.new).reads ≤ (I.counts input.old).reads + MAX_READS }
 {
     let ear = match begin(rt, alloc, bands, showing, bytes) {
@@ -118,8 +119,8 @@ fn hear_all<I: In, O: Out, J: Journal>(
     out: &mut O,
     journal: &mut J,
 ) -> Result<Ear, LiveEnd>
-    ensures heard { HeardAll showing I.remaining I.counts O.written O.failures J.kept J.losses first input.old input.new
-        (out.old, journal.old) (out.new, journal.new) result }
+    ensures heard { HeardAll showing (observed_by I.remaining I.counts O.written O.failures J.kept J.losses) first
+        (devices input.old out.old journal.old) (devices input.new out.new journal.new) result }
     ensures reads { (I.counts input.new).reads ≤ (I.counts input.old).reads + MAX_READS }
 {
     let mut ear = first;

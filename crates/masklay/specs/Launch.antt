@@ -7,7 +7,6 @@ use Rattle.std.specs.Prelude.{◌≡◌, ℕ, ◌⊎◌, ◌&&◌, ◌||◌, Boo
 use Rattle.std.specs.Global.{Global}
 use Rattle.std.specs.List.{list_any}
 use Rattle.std.specs.Str.{bytes_eq}
-use Rattle.byte_io.specs.Input.{Counts}
 use Rattle.masklay.specs.declared.command_line.OptionsFault.{OptionsFault}
 use Rattle.masklay.specs.declared.command_line.OptionsFault.TheVariants.{Clap, JournalAlone, LiveAlone, LiveOutput, Workers}
 use Rattle.masklay.specs.declared.command_line.Wish.{Wish}
@@ -15,10 +14,10 @@ use Rattle.masklay.specs.declared.command_line.Wish.TheVariants.{Job, Live}
 use Rattle.masklay.specs.declared.program.status.Status.{Status}
 use Rattle.masklay.specs.declared.program.status.Status.TheVariants.{CommandLine, Done}
 use Rattle.masklay.specs.Asked.{Asked, asked_of}
-use Rattle.live_run.specs.Journal.{KeptText}
+use Rattle.live_run.specs.Devices.{Devices, Observed}
 use Rattle.live_run.specs.declared.showing.Showing.{Showing}
 use Rattle.masklay.specs.Live.{IsLive}
-use Rattle.masklay.specs.Output.{WritesOutput, memory_output}
+use Rattle.masklay.specs.Output.{Output, WritesOutput, memory_output}
 use Rattle.masklay.specs.Run.{IsRun}
 
 -- whether the word is this option
@@ -73,19 +72,33 @@ IsWishOf (Live options) words =
     (asks_to_live words ≡ true) × (asks_beside_live words ≡ false) × (options.strict ≡ asks (codes "--strict") words)
     × (options.showing ≡ showing_of (asked_in words))
 
--- from the old devices to the new: the run of a job that was asked so, of which a journal knows nothing, or a live run behind
--- these bytes of its journal
-abbrev pub Runs : {I O J : Type 0} → Bool → Asked → (I → Option (List ℕ)) → (I → Counts) → (O → Option (List ℕ)) → (O → ℕ)
-    → (J → Option (List KeptText)) → (J → ℕ) → List ℕ → I → I → O × J → O × J → Status → Type 0
-Runs false asked remaining counts written failures kept losses journal input input' out out' status =
-    IsRun asked remaining counts written failures input input' out.0 out'.0 status × (out'.1 ≡ out.1)
-Runs true asked remaining counts written failures kept losses journal input input' out out' status =
-    IsLive asked.strict (showing_of asked) remaining counts written failures kept losses journal input input' out out' status
+-- from the devices before to those after: the run of a job that was asked so, of which a journal knows nothing, or a live run
+-- behind these bytes of its journal
+abbrev pub Runs : {I O J : Type 0} → Observed I O J → Bool → Asked → List ℕ → Devices I O J → Devices I O J → Status → Type 0
+Runs observed false asked journal before after status =
+    IsRun asked observed.remaining observed.counts observed.written observed.failures before.input after.input before.out after.out status
+    × (after.journal ≡ before.journal)
+Runs observed true asked journal before after status = IsLive asked.strict (showing_of asked) observed journal before after status
 
--- From the old devices to the new: a text of help was written to the output, or one of what is wrong to the errors, or
--- memory was refused and the output has the line that says so; and the other device is as it was.
-abbrev pub EndsEarly : {O E : Type 0} → (O → Option (List ℕ)) → (O → ℕ) → (E → Option (List ℕ)) → (E → ℕ) → O → O → E → E → Status → Type 0
-EndsEarly written failures told failed out out' errors errors' status =
-    ((text : List ℕ) × WritesOutput written failures out out' (record { text = text; status = Done }) status × (errors' ≡ errors))
-    ⊎ (((text : List ℕ) × WritesOutput told failed errors errors' (record { text = text; status = CommandLine }) status × (out' ≡ out))
-    ⊎ (WritesOutput written failures out out' memory_output status × (errors' ≡ errors)))
+-- a device that is written to, before and after, and what contracts see of it
+pub record Writing (S : Type 0) : Type 0 where
+  pub written : S → Option (List ℕ)
+  pub failures : S → ℕ
+  pub before : S
+  pub after : S
+
+abbrev pub writing : {S : Type 0} → (S → Option (List ℕ)) → (S → ℕ) → S → S → Writing S
+writing written failures before after = record { written = written; failures = failures; before = before; after = after }
+
+-- this is written to the one device, and the other is as it was
+abbrev pub WritesOne : {S T : Type 0} → Writing S → Writing T → Output → Status → Type 0
+WritesOne one other output status =
+    WritesOutput one.written one.failures one.before one.after output status × (other.after ≡ other.before)
+
+-- a text of help was written to the output, or one of what is wrong to the errors, or memory was refused and the output has the
+-- line that says so
+abbrev pub EndsEarly : {O E : Type 0} → Writing O → Writing E → Status → Type 0
+EndsEarly out errors status =
+    ((text : List ℕ) × WritesOne out errors (record { text = text; status = Done }) status)
+    ⊎ (((text : List ℕ) × WritesOne errors out (record { text = text; status = CommandLine }) status)
+    ⊎ WritesOne out errors memory_output status)

@@ -1,8 +1,7 @@
 -- A live run of the program: what is written behind its last answer, and how it ends.
 use Rattle.std.specs.Prelude.{◌≡◌, ℕ, ◌+◌, ◌≤◌, ◌&&◌, Bool, if◌then◌else◌, List, Option}
-use Rattle.byte_io.specs.Input.{Counts}
+use Rattle.live_run.specs.Devices.{Devices, Observed, devices}
 use Rattle.live_run.specs.Ending.{IsJournaled}
-use Rattle.live_run.specs.Journal.{KeptText}
 use Rattle.live_run.specs.declared.run.TheConstants.{MAX_READS}
 use Rattle.live_run.specs.declared.showing.Showing.{Showing}
 use Rattle.live_run.specs.declared.ending.LiveEnd.{LiveEnd}
@@ -29,14 +28,12 @@ WritesLiveEnd strict written failures old new DeviceEnd status = (status ≡ Dev
 WritesLiveEnd strict written failures old new JournalEnd status = (status ≡ Device) × (new ≡ old)
 WritesLiveEnd strict written failures old new MemoryEnd status = WritesOutput written failures old new memory_output status
 
--- from the old input, and the old output and journal, to the new: a live run behind these bytes of its journal, which shows its
--- layout so, and what closes it
-pub record IsLive {I O J : Type 0} (strict : Bool) (showing : Showing) (remaining : I → Option (List ℕ)) (counts : I → Counts)
-    (written : O → Option (List ℕ)) (failures : O → ℕ) (kept : J → Option (List KeptText)) (losses : J → ℕ) (journal : List ℕ)
-    (input input' : I) (out out' : O × J) (status : Status) : Type 0 where
+-- from the devices before to those after: a live run behind these bytes of its journal, which shows its layout so, and what closes it
+pub record IsLive {I O J : Type 0} (strict : Bool) (showing : Showing) (observed : Observed I O J) (journal : List ℕ)
+    (before after : Devices I O J) (status : Status) : Type 0 where
   pub answered : O
   pub end : LiveEnd
-  pub ran : IsJournaled showing remaining counts written failures kept losses journal input input' out (answered, out'.1) end
-  pub closed : WritesLiveEnd strict written failures answered out'.0 end status
+  pub ran : IsJournaled showing observed journal before (devices after.input answered after.journal) end
+  pub closed : WritesLiveEnd strict observed.written observed.failures answered after.out end status
   -- the input is read so often at most
-  pub reads : (counts input').reads ≤ (counts input).reads + MAX_READS
+  pub reads : (observed.counts after.input).reads ≤ (observed.counts before.input).reads + MAX_READS

@@ -7,6 +7,7 @@ ghost use Rattle.std.specs.Prelude.{◌≡◌, ◌≤◌, ◌<◌, ◌⊎◌, �
 ghost use Rattle.std.specs.List.{list_any};
 ghost use Rattle.masklay.specs.declared.command_line.OptionsFault.TheVariants.{Clap};
 ghost use Rattle.masklay.specs.declared.command_line.Wish.TheVariants.{Job};
+ghost use Rattle.live_run.specs.Devices.{devices, observed_by};
 ghost use Rattle.masklay.specs.Launch.{
   EndsEarly,
   IsWishOf,
@@ -18,16 +19,17 @@ ghost use Rattle.masklay.specs.Launch.{
   is_live_alone,
   is_option,
   nothing_asked,
+  writing,
 };
 ghost use Rattle.masklay.specs.Run.{IsRun};
 ghost use Rattle.masklay.specs.Telling.{MayReport};
 
+use crate::arguments::command;
 use crate::program::{LiveOptions, Options, Status, live, put, put_memory, run};
 use band_workers::MAX_WORKERS;
 use byte_io::{In, Out};
+use clap::Error;
 use clap::error::ErrorKind;
-use clap::{Arg, ArgAction, Command, Error};
-use lay_point::NoMemory;
 use live_run::{Journal, Showing};
 use std::alloc::Global;
 use std::sync::Wait;
@@ -53,20 +55,6 @@ const LIVE_OUTPUT: &[u8] =
 /// What is wrong with a journal without `--live`, and with `--sync` without a journal.
 const JOURNAL_ALONE: &[u8] =
     b"error: '--journal' needs '--live', and '--sync' needs '--journal'\n\nFor more information, try '--help'.\n";
-
-/// What help says after the options.
-const EXAMPLE: &str =
-    "Coordinates of steps are database units of 5 nanometres; those of the CIF text are hundredths of a micrometre, times the scale of its definition.
-
-Examples, in a shell:
-  masklay --cif chip.cif                        reads a CIF text, and writes its layout
-  masklay --cif chip.cif -o new.cif             the same, into a file
-  masklay --strict job.txt -o new.cif           runs a job; the status tells of refused steps
-  masklay --oriented --names < job.txt          for readers that fill holes, with cell names
-  masklay --live --journal chip.journal         steps line by line, which are still there tomorrow
-  printf '%%cif\nL M; B 40 20 0 0; E\n%%session 1\nopen\nbox top M 0 0 30 30\nor top M M Q\ncommit\n' | masklay
-
-Statuses: 0 all was written, refused steps included; 2 a mistake in the command line; 3 a fault of the job, 4 of its CIF text, each a line on standard output, and in words on standard error; 5 a file, or the input or output, can't be read or written; 6 out of memory; 7 the sessions' desk was at fault, where they ran in threads; 8 all was written, and a step was refused, with --strict.";
 
 /// Why the words of the command line can't be had.
 #[derive(Clone, Copy, Debug, PartialEq, Eq)]
@@ -95,14 +83,15 @@ pub fn launch<I: In, O: Out, E: Out, J: Journal>(
         input.old input.new out.old out.new result
         × MayReport E.written E.failures errors.old errors.new result × (journal.new ≡ journal.old)) }
     ensures options { IfOk words (λ words. 1 < vec_len words
-        → (Runs (asks_to_live words.items) (asked_in words.items)
-        I.remaining I.counts O.written O.failures J.kept J.losses bytes.items input.old input.new
-        (out.old, journal.old) (out.new, journal.new) result
+        → (Runs (observed_by I.remaining I.counts O.written O.failures J.kept J.losses)
+        (asks_to_live words.items) (asked_in words.items) bytes.items
+        (devices input.old out.old journal.old) (devices input.new out.new journal.new) result
         × MayReport E.written E.failures errors.old errors.new result)
-        ⊎ (EndsEarly O.written O.failures E.written E.failures
-        out.old out.new errors.old errors.new result × (input.new ≡ input.old) × (journal.new ≡ journal.old))) }
-    ensures wordless { IfErr words (λ _. EndsEarly O.written O.failures E.written E.failures
-        out.old out.new errors.old errors.new result × (input.new ≡ input.old) × (journal.new ≡ journal.old)) }
+        ⊎ (EndsEarly (writing O.written O.failures out.old out.new) (writing E.written E.failures errors.old errors.new) result
+        × (input.new ≡ input.old) × (journal.new ≡ journal.old))) }
+    ensures wordless { IfErr words (λ _.
+        EndsEarly (writing O.written O.failures out.old out.new) (writing E.written E.failures errors.old errors.new) result
+        × (input.new ≡ input.old) × (journal.new ≡ journal.old)) }
 {
     match words {
         Ok(words) if words.len() <= 1 => run(rt, alloc, PLAIN, input, out, errors),
@@ -252,66 +241,8 @@ fn values_of(alloc: Global, words: &[String]) -> Result<Values, OptionsFault>
     }
 }
 
-/// The files that take the place of the standard streams.
-#[derive(Drop)]
-pub struct Files {
-    /// The file that is read in place of standard input.
-    pub input: Option<String>,
-    /// The file that is written in place of standard output.
-    pub output: Option<String>,
-    /// The journal of a live run.
-    pub journal: Option<String>,
-    /// Whether each line of it is brought to the disk.
-    pub is_synced: bool,
-}
-
-/// Returns the files that the words name: none, where clap doesn't take the words.
-///
-/// # Errors
-///
-/// `NoMemory`, if an allocation fails.
-pub fn files_of(alloc: Global, words: &[String]) -> Result<Files, NoMemory> {
-    let none = Files {
-        input: None,
-        output: None,
-        journal: None,
-        is_synced: false,
-    };
-    if words.len() <= 1 {
-        return Ok(none);
-    }
-    let Ok(command) = command(alloc) else {
-        return Err(NoMemory);
-    };
-    match command.try_get_matches_from(words) {
-        Ok(matches) => Ok(Files {
-            input: owned(alloc, matches.get_str("file"))?,
-            output: owned(alloc, matches.get_str("output"))?,
-            journal: owned(
-                alloc,
-                matches
-                    .get_str("journal")
-                    .filter(|_| asks(b"--live", words)),
-            )?,
-            is_synced: asks(b"--sync", words),
-        }),
-        Err(error) => match error.kind() {
-            ErrorKind::OutOfMemory => Err(NoMemory),
-            _ => Ok(none),
-        },
-    }
-}
-
-/// Returns the text in memory of its own.
-fn owned(alloc: Global, text: Option<&str>) -> Result<Option<String>, NoMemory> {
-    match text {
-        Some(text) => Ok(Some(String::from_str(alloc, text).map_err(|_| NoMemory)?)),
-        None => Ok(None),
-    }
-}
-
 /// Returns whether an argument is this option. In words that clap takes none is it but the option.
-fn asks(option: &[u8], words: &[String]) -> bool
+pub fn asks(option: &[u8], words: &[String]) -> bool
     ensures { result ≡ asks option.now words.now }
 {
     match words.split_first() {
@@ -331,8 +262,8 @@ fn has(option: &[u8], arguments: &[String]) -> bool
 
 /// Writes what is said in place of a run.
 fn refuse<O: Out, E: Out>(alloc: Global, fault: OptionsFault, out: &mut O, errors: &mut E) -> Status
-    ensures { EndsEarly O.written O.failures E.written E.failures
-        out.old out.new errors.old errors.new result }
+    ensures { EndsEarly (writing O.written O.failures out.old out.new)
+        (writing E.written E.failures errors.old errors.new) result }
 {
     match fault {
         OptionsFault::Workers => put(errors, BAD_WORKERS, Status::CommandLine),
@@ -343,106 +274,10 @@ fn refuse<O: Out, E: Out>(alloc: Global, fault: OptionsFault, out: &mut O, error
     }
 }
 
-/// The program's name, what it does, and its options.
-fn command<'a>(alloc: Global) -> Result<Command<'a>, Error> {
-    let command = Command::new(alloc, "masklay")
-        .version("0.1.0")
-        .about(
-            "Reads a job: a CIF text and steps on its layout. Writes the replies, their order and the CIF text of the layout that they lead to.",
-        )
-        .after_help(EXAMPLE);
-    let command = with_ways(alloc, with_sessions(alloc, with_files(alloc, command)?)?)?;
-    with_journal(alloc, command)
-}
-
-/// The command, with what it reads and writes.
-fn with_files<'a>(alloc: Global, command: Command<'a>) -> Result<Command<'a>, Error> {
-    let file = Arg::new(alloc, "file")
-        .value_name("FILE")
-        .help("The job, or with --cif the CIF text; standard input, where there is none")
-        .action(ArgAction::Set);
-    let output = Arg::new(alloc, "output")
-        .short('o')
-        .long("output")
-        .value_name("FILE")
-        .help("Writes to this file, which is replaced at the end, if all was written")
-        .action(ArgAction::Set);
-    let cif = Arg::new(alloc, "cif")
-        .long("cif")
-        .help("Takes the input for a CIF text, and not for a job")
-        .action(ArgAction::SetTrue);
-    Ok(command.arg(file)?.arg(output)?.arg(cif)?)
-}
-
-/// The command, with how steps are run.
-fn with_sessions<'a>(alloc: Global, command: Command<'a>) -> Result<Command<'a>, Error> {
-    let strict = Arg::new(alloc, "strict")
-        .long("strict")
-        .help("Ends with status 8 where a step was refused; the output is the same")
-        .action(ArgAction::SetTrue);
-    let workers = Arg::new(alloc, "workers")
-        .long("workers")
-        .value_name("N")
-        .help(
-            "How many threads find the edges of an operation, from 1 to 64; the output is the same",
-        )
-        .action(ArgAction::Set);
-    let threaded = Arg::new(alloc, "threaded")
-        .long("threaded")
-        .help("Runs each session in a thread of its own; the job's order plays no part")
-        .action(ArgAction::SetTrue);
-    Ok(command.arg(strict)?.arg(workers)?.arg(threaded)?)
-}
-
-/// The command, with how the layout is written, and when.
-fn with_ways<'a>(alloc: Global, command: Command<'a>) -> Result<Command<'a>, Error> {
-    let oriented = Arg::new(alloc, "oriented")
-        .long("oriented")
-        .help("Directs each shape's path, so that readers by winding number see its holes too")
-        .action(ArgAction::SetTrue);
-    let names = Arg::new(alloc, "names")
-        .long("names")
-        .help(
-            "Writes each symbol with the name (9) and the labels (94) that it had in the text that was read",
-        )
-        .action(ArgAction::SetTrue);
-    let live = Arg::new(alloc, "live")
-        .long("live")
-        .help(
-            "Answers each step at once: after `%cif`, the text and `%live` come lines `SESSION STEP`, or `%write`",
-        )
-        .action(ArgAction::SetTrue);
-    let boxes = Arg::new(alloc, "boxes")
-        .long("boxes")
-        .help(
-            "Writes upright rectangles as boxes, where their middle is on the grid; what is read back are the same rectangles",
-        )
-        .action(ArgAction::SetTrue);
-    Ok(command.arg(oriented)?.arg(names)?.arg(boxes)?.arg(live)?)
-}
-
-/// The command, with what a live run keeps.
-fn with_journal<'a>(alloc: Global, command: Command<'a>) -> Result<Command<'a>, Error> {
-    let journal = Arg::new(alloc, "journal")
-        .long("journal")
-        .value_name("FILE")
-        .help(
-            "Keeps a live run in this file: each step is in it before its reply. A run that finds steps in it goes on after them",
-        )
-        .action(ArgAction::Set);
-    let sync = Arg::new(alloc, "sync")
-        .long("sync")
-        .help(
-            "Flushes each step to the disk before its reply, and not commits, undos and redos alone",
-        )
-        .action(ArgAction::SetTrue);
-    Ok(command.arg(journal)?.arg(sync)?)
-}
-
 /// Writes clap's text: help to `out`, and what is wrong to `errors`.
 fn say<O: Out, E: Out>(alloc: Global, error: &Error, out: &mut O, errors: &mut E) -> Status
-    ensures { EndsEarly O.written O.failures E.written E.failures
-        out.old out.new errors.old errors.new result }
+    ensures { EndsEarly (writing O.written O.failures out.old out.new)
+        (writing E.written E.failures errors.old errors.new) result }
 {
     let Ok(text) = error.to_string(alloc) else {
         return put_memory(out);

@@ -1,11 +1,14 @@
 //! The files that the command line names, in place of the standard streams.
 
-use crate::command_line::{Files, WordsFault, files_of, launch};
+use crate::arguments::command;
+use crate::command_line::{WordsFault, asks, launch};
 use crate::journal::FileJournal;
 use crate::program::{Status, put_memory};
 use crate::streams::{Source, StandardInput, StandardOutput};
 use byte_io::put_all;
+use clap::error::ErrorKind;
 use job_text::MAX_JOB;
+use lay_point::NoMemory;
 use live_run::NoJournal;
 use std::alloc::Global;
 use std::fs::{File, OpenOptions};
@@ -19,6 +22,70 @@ type Errors = StandardOutput<Stderr>;
 
 /// The device of what is read.
 type Input = StandardInput<Source>;
+
+/// The files that take the place of the standard streams.
+#[derive(Drop)]
+struct Files {
+    /// The file that is read in place of standard input.
+    input: Option<String>,
+    /// The file that is written in place of standard output.
+    output: Option<String>,
+    /// The journal of a live run.
+    journal: Option<String>,
+    /// Whether each line of it is brought to the disk.
+    is_synced: bool,
+}
+
+impl Files {
+    /// Returns none, for the standard streams.
+    fn none() -> Files {
+        Files {
+            input: None,
+            output: None,
+            journal: None,
+            is_synced: false,
+        }
+    }
+}
+
+/// Returns the files that the words name: none, where clap doesn't take the words.
+///
+/// # Errors
+///
+/// `NoMemory`, if an allocation fails.
+fn files_of(alloc: Global, words: &[String]) -> Result<Files, NoMemory> {
+    if words.len() <= 1 {
+        return Ok(Files::none());
+    }
+    let Ok(command) = command(alloc) else {
+        return Err(NoMemory);
+    };
+    match command.try_get_matches_from(words) {
+        Ok(matches) => Ok(Files {
+            input: owned(alloc, matches.get_str("file"))?,
+            output: owned(alloc, matches.get_str("output"))?,
+            journal: owned(
+                alloc,
+                matches
+                    .get_str("journal")
+                    .filter(|_| asks(b"--live", words)),
+            )?,
+            is_synced: asks(b"--sync", words),
+        }),
+        Err(error) => match error.kind() {
+            ErrorKind::OutOfMemory => Err(NoMemory),
+            _ => Ok(Files::none()),
+        },
+    }
+}
+
+/// Returns the text in memory of its own.
+fn owned(alloc: Global, text: Option<&str>) -> Result<Option<String>, NoMemory> {
+    match text {
+        Some(text) => Ok(Some(String::from_str(alloc, text).map_err(|_| NoMemory)?)),
+        None => Ok(None),
+    }
+}
 
 /// Runs the program as the words of its command line say, on the files that they name and the standard streams.
 /// `threads` starts its threads.
@@ -136,12 +203,7 @@ fn whole_len(bytes: &[u8]) -> usize {
 fn named(alloc: Global, words: &Result<Vec<String>, WordsFault>) -> Option<Files> {
     match words {
         Ok(words) => files_of(alloc, words).ok(),
-        Err(_) => Some(Files {
-            input: None,
-            output: None,
-            journal: None,
-            is_synced: false,
-        }),
+        Err(_) => Some(Files::none()),
     }
 }
 

@@ -25,6 +25,7 @@
 //! ```
 #![tactic(auto)]
 
+mod arguments;
 mod command_line;
 mod files;
 mod journal;

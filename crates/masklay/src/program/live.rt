@@ -1,5 +1,6 @@
 //! A live run: steps in lines, each answered before the next is read.
 ghost use Rattle.std.specs.Prelude.{◌≡◌, ◌+◌, ◌≤◌};
+ghost use Rattle.live_run.specs.Devices.{devices, observed_by};
 ghost use Rattle.live_run.specs.Ending.{IsJournaled};
 ghost use Rattle.live_run.specs.declared.run.TheConstants.{MAX_READS};
 ghost use Rattle.masklay.specs.Live.{IsLive, WritesLiveEnd, live_ending};
@@ -42,8 +43,8 @@ pub fn live<I: In, O: Out, E: Out, J: Journal>(
     errors: &mut E,
     journal: &mut J,
 ) -> Status
-    ensures run { IsLive options.strict options.showing I.remaining I.counts O.written O.failures J.kept J.losses bytes.items
-        input.old input.new (out.old, journal.old) (out.new, journal.new) result }
+    ensures run { IsLive options.strict options.showing (observed_by I.remaining I.counts O.written O.failures J.kept J.losses)
+        bytes.items (devices input.old out.old journal.old) (devices input.new out.new journal.new) result }
     ensures told { MayReport E.written E.failures errors.old errors.new result }
 {
     let end = answer_lines(rt, alloc, options, bytes, input, out, journal);
@@ -62,8 +63,8 @@ fn answer_lines<I: In, O: Out, J: Journal>(
     out: &mut O,
     journal: &mut J,
 ) -> LiveEnd
-    ensures run { IsJournaled options.showing I.remaining I.counts O.written O.failures J.kept J.losses bytes.items
-        input.old input.new (out.old, journal.old) (out.new, journal.new) result }
+    ensures run { IsJournaled options.showing (observed_by I.remaining I.counts O.written O.failures J.kept J.losses)
+        bytes.items (devices input.old out.old journal.old) (devices input.new out.new journal.new) result }
     ensures reads { (I.counts input.new).reads ≤ (I.counts input.old).reads + MAX_READS }
 {
     let showing = options.showing;

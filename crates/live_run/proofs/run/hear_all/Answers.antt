@@ -5,6 +5,7 @@ use Rattle.live_run.specs.declared.ear.Ear.{Ear}
 use Rattle.live_run.specs.declared.ending.LiveEnd.{LiveEnd}
 use Rattle.live_run.specs.declared.ending.LiveEnd.TheVariants.{Device}
 use Rattle.live_run.specs.Course.{phase_of}
+use Rattle.live_run.specs.Devices.{devices, observed_by}
 use Rattle.live_run.specs.Ear.{HeardAll}
 use Rattle.live_run.proofs.EarLemmas.{no_piece, pieces}
 use Rattle.live_run.proofs.RunLemmas.{consumed_kept, run_broken, run_stopped}
@@ -33,10 +34,9 @@ returns-in_err-taken-clause-heard g c =
     let at = c.loop.invariant.gone in
     let ends : (g.I.In.counts c.take.new.self).ends ≡ (g.I.In.counts c.args.input.now).ends = grind (arith, common_steps) in
     let failures : (g.I.In.counts c.take.new.self).failures ≡ (g.I.In.counts c.args.input.now).failures + 1 = grind (arith, common_steps) in
-    subst (λ (r : Result Ear LiveEnd). HeardAll c.args.showing g.I.In.remaining g.I.In.counts g.O.Out.written g.O.Out.failures
-    g.J.Journal.kept g.J.Journal.losses c.args.first c.args.input.now
-    c.take.new.self (c.args.out.now, c.args.journal.now)
-    (c.loop.out, c.loop.journal) r) (sym failed)
+    subst (λ (r : Result Ear LiveEnd). HeardAll c.args.showing (observed_by g.I.In.remaining g.I.In.counts g.O.Out.written g.O.Out.failures
+    g.J.Journal.kept g.J.Journal.losses) c.args.first (devices c.args.input.now c.args.out.now c.args.journal.now)
+    (devices c.take.new.self c.loop.out c.loop.journal) r) (sym failed)
     (λ past hears. (
       at.0,
       consumed_kept _ _ _ at.0 at.1 c.in_err-taken.ensures.bytes,
