@@ -1,4 +1,5 @@
 pub mod ChainLemmas
+pub mod ChunkLemmas
 pub mod CleanLemmas
 pub mod EdgeOrder
 pub mod ListLemmas

@@ -1,5 +1,5 @@
 //! The passes of rings: one for each edge that a rounded ring goes, each time that it does.
-ghost use Rattle.std.specs.Prelude.{◌≡◌, ◌↔◌, All, Contains, IfOk, IsTrue, ◌++◌, ◌+◌, ◌-◌, ◌≤◌, OnOk, map};
+ghost use Rattle.std.specs.Prelude.{◌≡◌, ◌↔◌, All, Contains, IfOk, IsTrue, ◌++◌, ◌+◌, ◌-◌, ◌≤◌, OnOk, flat_map, map};
 ghost use Rattle.std.specs.List.{range_with_len};
 ghost use Rattle.lay_point.specs.declared.point.Point.{Point};
 ghost use Rattle.lay_point.specs.Rings.{IsRing};
@@ -8,7 +8,7 @@ ghost use Rattle.lay_point.specs.Rising.{IsRising, pairs};
 ghost use Rattle.snap_pixels.specs.Hot.{AreHotCentres};
 ghost use Rattle.snap_edge_laws.specs.Rounding.{closed_walk};
 ghost use Rattle.snap_slabs.specs.Runs.{IsSide};
-ghost use Rattle.snap_chains.specs.OwnedRings.{AreSides};
+ghost use Rattle.snap_chains.specs.OwnedRings.{HaveSides};
 ghost use Rattle.snap_chains.specs.Passes.{ArePassesOf, ArePathPasses, IsSideAdded, passes_by};
 ghost use Rattle.snap_chains.specs.Sides.{segment_ends};
 
@@ -18,15 +18,20 @@ use crate::owner::Owner;
 use crate::pass::{Pass, pass_between};
 use crate::rings::ring_sides;
 use lay_point::NoMemory;
+use rayon::prelude::*;
 use snap_pixels::Segment;
 use std::alloc::{AllocError, Global};
+use std::thread::Threads;
 
 /// How many passes have room for each centre. Most centres are corners or crossings, from which two sides go on by one
 /// pass each.
 const PASSES_PER_CENTRE: usize = 2;
 
+/// So many rings are rounded in one thread after another.
+const RINGS: usize = 256;
+
 /// Returns the passes of the rounded rings, in no order. The centres are the hot ones of the segments, which are
-/// the sides of all rings.
+/// the sides of all rings. The rings are shared out among as many threads as there are processors.
 ///
 /// # Errors
 ///
@@ -37,18 +42,57 @@ const PASSES_PER_CENTRE: usize = 2;
 /// A binary search for each side. A side along an axis takes no more than its passes; for a slanted one its chain
 /// is found, and the number of each centre in that.
 pub(crate) fn all_passes(
+    rt: &(impl Threads + Sync),
     alloc: Global,
     rings: &[OwnedRing],
     _segments: &[Segment],
     centres: &Centres,
 ) -> Result<Vec<Pass>, NoMemory>
     requires rings { All (λ r. IsRing r.1) rings.now }
-    requires sides { AreSides rings.now _segments.now }
+    requires sides { HaveSides rings.now _segments.now }
     requires hot { AreHotCentres _segments.now centres.now }
     ensures { IfOk result (λ passes. ArePassesOf _segments.now centres.now rings.now passes.items) }
 {
+    let lists = rings
+        .par_chunks(RINGS)
+        .with_min_len(1)
+        .map(
+            |some: &[OwnedRing]| -> Result<Vec<Pass>, NoMemory>
+                requires { All (λ r. IsRing r.1) some.now × HaveSides some.now _segments.now
+                    × AreHotCentres _segments.now centres.now }
+                ensures { IfOk result (λ passes. ArePassesOf _segments.entry.now centres.entry.now some.now passes.items) }
+            { passes_of(alloc, some, _segments, centres) },
+        )
+        .collect::<Result<Vec<Vec<Pass>>, NoMemory>>(rt, alloc)??;
     let room = centres.numbers.centres().len() * PASSES_PER_CENTRE;
-    let mut passes = Vec::with_capacity(alloc, room)?;
+    let passes = joined(alloc, &lists, room)?;
+    Ok(passes)
+}
+
+/// Returns all passes of the lists, one list after the other, with room for so many.
+fn joined(alloc: Global, lists: &[Vec<Pass>], room: usize) -> Result<Vec<Pass>, AllocError>
+    ensures { IfOk result (λ all. all.items ≡ flat_map (λ list. list.items) lists.now) }
+{
+    let mut all = Vec::with_capacity(alloc, room)?;
+    for list in lists {
+        all.extend_from_slice(list.as_slice())?;
+    }
+    Ok(all)
+}
+
+/// Returns the passes of these rounded rings, in no order.
+fn passes_of(
+    alloc: Global,
+    rings: &[OwnedRing],
+    _segments: &[Segment],
+    centres: &Centres,
+) -> Result<Vec<Pass>, NoMemory>
+    requires rings { All (λ r. IsRing r.1) rings.now }
+    requires sides { HaveSides rings.now _segments.now }
+    requires hot { AreHotCentres _segments.now centres.now }
+    ensures { IfOk result (λ passes. ArePassesOf _segments.now centres.now rings.now passes.items) }
+{
+    let mut passes = Vec::new(alloc);
     for ring in rings {
         add_ring(alloc, &mut passes, ring, _segments, centres)?;
     }

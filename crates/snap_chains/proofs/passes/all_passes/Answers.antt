@@ -1,36 +1,47 @@
-use Rattle.std.proofs.Common.{List, ◌∙◌, ◌++◌, [], ◌∷◌, map, take, rules, sym, ap, subst}
-use Rattle.std.proofs.lemmas.List.{take_all, take_more}
+use Rattle.std.proofs.Common.{◌≡◌, ◌∙◌, List, All, arith, flat_map, sym, ap, subst}
+use Rattle.std.specs.Prelude.{max}
+use Rattle.rayon.specs.Lists.{chunks_of}
+use Rattle.rayon.proofs.ToStd.{chunks_of-concat, slice-AllZip}
+use Rattle.lay_point.specs.declared.memory.NoMemory.{NoMemory}
 use Rattle.lay_point.specs.declared.point.Point.{Point}
-use Rattle.lay_point.specs.Rising.{pairs}
-use Rattle.snap_edge_laws.specs.Rounding.{closed_walk}
-use Rattle.snap_slabs.proofs.OwnedLemmas.{Contains-flat_map}
+use Rattle.lay_point.specs.Rings.{IsRing}
 use Rattle.snap_chains.specs.declared.owner.Owner.{Owner}
 use Rattle.snap_chains.specs.Passes.{ArePassesOf}
-use Rattle.snap_chains.specs.Sides.{segment_ends}
-use Rattle.snap_chains.proofs.PathPasses.{no_ring_yet, ring_more}
+use Rattle.snap_chains.specs.OwnedRings.{HaveSides}
+use Rattle.snap_chains.proofs.ChunkLemmas.{ArePassed, all_join, some_have}
 use Rattle.snap_chains.proofs.passes.all_passes.Goals as goal
 
-pub loop-ring-init : goal.loop-ring-init
-loop-ring-init c =
-    subst (ArePassesOf c.args._segments.now c.args.centres.now []) (sym c.in_ok-passes.ensures.items)
-    (no_ring_yet c.args._segments.now c.args.centres.now)
-
-pub add_ring-requires-clause-sides : goal.add_ring-requires-clause-sides
-add_ring-requires-clause-sides c =
-    Contains-flat_map (λ (r : Owner × List Point). pairs (closed_walk r.1)) c.args.rings.now c.loop-ring.ring-index c.ring-item.result
-    (map segment_ends c.args._segments.now) c.loop-ring-test.true c.ring-item.is c.requires.sides
-
-pub loop-ring-preserved : goal.loop-ring-preserved
-loop-ring-preserved c =
+pub collect-requires-clause-ready : goal.collect-requires-clause-ready
+collect-requires-clause-ready g c κs within =
     let rings = c.args.rings.now in
-    let r = c.ring-item.result in
-    let more = take_more rings c.loop-ring.ring-index r c.loop-ring-test.true
-    ∙ ap (λ q. take c.loop-ring.ring-index rings ++ q ∷ []) (sym c.ring-item.is) in
-    subst (λ l. ArePassesOf c.args._segments.now c.args.centres.now l c.add_ring.new.passes.items) (sym more)
-    (ring_more c.args._segments.now c.args.centres.now (take c.loop-ring.ring-index rings) r c.loop-ring.passes.items
-    c.add_ring.new.passes.items c.loop-ring.invariant c.in_ok-add_ring.ensures)
+    let segments = c.args._segments.now in
+    let chunks = c.map.result.base.base in
+    let slice : chunks.slice.now ≡ rings =
+    ap (λ it. it.base.slice.now) c.map.ensures.base ∙ ap (λ it. it.slice.now) c.with_min_len.ensures.base ∙ c.par_chunks.ensures.slice in
+    let some = chunks_of (max chunks.size 1) chunks.slice.now in
+    let whole = chunks_of-concat (max chunks.size 1) chunks.slice.now (omega arith) ∙ slice in
+    let have = some_have segments some (subst (All (λ (r : Owner × List Point). IsRing r.1)) (sym whole) c.requires.rings)
+    (subst (λ (l : List (Owner × List Point)). HaveSides l segments) (sym whole) c.requires.sides) in
+    rw (c.map.ensures.f) (λ k d lt x e. (
+      (subst (All (λ (r : Owner × List Point). IsRing r.1)) (sym e) (have k d lt).0,
+          subst (λ (l : List (Owner × List Point)). HaveSides l segments) (sym e) (have k d lt).1, c.requires.hot),
+      λ y p. tt,
+    ))
 
 pub returns : goal.returns
-returns c =
-    let all = take_all c.loop-ring.ring-index c.args.rings.now (search rules) in
-    subst (λ l. ArePassesOf c.args._segments.now c.args.centres.now l c.loop-ring.passes.items) all c.loop-ring.invariant
+returns g c =
+    let rings = c.args.rings.now in
+    let segments = c.args._segments.now in
+    let hot = c.args.centres.now in
+    let chunks = c.map.result.base.base in
+    let slice : chunks.slice.now ≡ rings =
+    ap (λ it. it.base.slice.now) c.map.ensures.base ∙ ap (λ it. it.slice.now) c.with_min_len.ensures.base ∙ c.par_chunks.ensures.slice in
+    let some = chunks_of (max chunks.size 1) chunks.slice.now in
+    let whole = chunks_of-concat (max chunks.size 1) chunks.slice.now (omega arith) ∙ slice in
+    let h = rw (c.map.ensures.f) at c.in_ok-collect.ensures in
+    let chain = h.1 in
+    let made = rw c.in_ok-lists.was at h.2 in
+    let each = slice-AllZip chain.0 some chain.1 (ArePassed segments hot NoMemory (λ v. v.items)) h.0 chain.2 in
+    let joined = all_join segments hot NoMemory (λ v. v.items) some h.0 made.0 each made.1 in
+    let lists = c.in_ok-passes.ensures ∙ ap (flat_map (λ v. v.items)) (c.deref.ensures.value ∙ made.2) in
+    subst (λ l. ArePassesOf segments hot rings l) (sym lists) (subst (λ l. ArePassesOf segments hot l (flat_map (λ v. v.items) made.0)) whole joined)
