@@ -21,8 +21,10 @@ ghost use Rattle.snap_pixels.specs.Gathered.{centre_of, coordinate_from};
 ghost use Rattle.snap_pixels.specs.Order.{ArePointsRising};
 
 use lay_point::Point;
+use rayon::slice::par_sort_unstable;
 use std::alloc::{AllocError, Global};
 use std::marker::Model;
+use std::thread::Threads;
 
 /// Up to this many keys are kept as they come.
 const MANY: usize = 65_536;
@@ -92,6 +94,23 @@ impl Gathered {
             sort_once(&mut self.keys);
             self.limit = self.keys.len().saturating_mul(2).max(self.limit);
         }
+    }
+
+    /// Does the same as `thin`, in as many threads as there are processors.
+    pub fn thin_in_threads(&mut self, rt: &(impl Threads + Sync))
+        ensures { (c : Point) → Contains self.new c ↔ Contains self.old c }
+    {
+        if self.keys.len() > self.limit {
+            self.sort(rt);
+            self.thin();
+        }
+    }
+
+    /// Sorts the keys in as many threads as there are processors. What sorts them again takes one pass.
+    pub fn sort(&mut self, rt: &(impl Threads + Sync))
+        ensures { (c : Point) → Contains self.new c ↔ Contains self.old c }
+    {
+        par_sort_unstable(rt, self.keys.as_mut_slice());
     }
 
     /// Returns the centres, each once, in the order of points.

@@ -3,19 +3,25 @@ ghost use Rattle.std.specs.Prelude.{◌↔◌, IfOk, Contains};
 ghost use Rattle.snap_pixels.specs.declared.segment.Segment.{Segment};
 
 use crate::segment::Segment;
+use rayon::slice::par_sort_unstable;
 use std::alloc::{AllocError, Global};
+use std::thread::Threads;
 
-/// Returns the segments, each once.
+/// Returns the segments, each once. They are sorted in as many threads as there are processors.
 ///
 /// # Cost
 ///
 /// A sort of the segments.
-pub(crate) fn distinct(alloc: Global, segments: &[Segment]) -> Result<Vec<Segment>, AllocError>
+pub(crate) fn distinct(
+    rt: &(impl Threads + Sync),
+    alloc: Global,
+    segments: &[Segment],
+) -> Result<Vec<Segment>, AllocError>
     ensures { IfOk result (λ once. (s : Segment)
         → Contains once.items s ↔ Contains segments.now s) }
 {
     let mut once = Vec::from_slice(alloc, segments)?;
-    once.sort_unstable();
+    par_sort_unstable(rt, once.as_mut_slice());
     once.dedup();
     Ok(once)
 }

@@ -16,7 +16,10 @@ use rayon::prelude::*;
 use std::alloc::{AllocError, Global};
 use std::thread::Threads;
 
-/// Returns the hot pixels of the segments. Their crossings are found in as many threads as there are
+/// So many lists of segments are worth a thread.
+const LEAST_LISTS: usize = 64;
+
+/// Returns the hot pixels of the segments. Their crossings are found, and sorted, in as many threads as there are
 /// processors.
 ///
 /// Source: Hobby, Practical segment intersection with finite precision output, 1999.
@@ -40,12 +43,13 @@ pub fn hot(
 ) -> Result<HotSet, NoMemory>
     ensures { IfOk result (AreHotCentres segments.now) }
 {
-    let mut once = distinct(alloc, segments)?;
+    let mut once = distinct(rt, alloc, segments)?;
     put_by_kind(&mut once)?;
     let parts = parts_of(alloc, once.as_slice())?;
     let lists = parts
         .as_slice()
         .par_iter()
+        .with_min_len(LEAST_LISTS)
         .map(
             |part: &Vec<Segment>| -> Result<Gathered, AllocError>
                 ensures { IfOk result (λ found. (c : Point)
@@ -58,7 +62,8 @@ pub fn hot(
         .collect::<Result<Vec<Gathered>, AllocError>>(rt, alloc)??;
     let mut centres = Gathered::new(alloc);
     add_ends(&mut centres, segments)?;
-    add_lists(&mut centres, &lists)?;
+    add_lists(rt, &mut centres, &lists)?;
+    centres.sort(rt);
     let set = HotSet::of(alloc, centres)?;
     Ok(set)
 }
@@ -96,13 +101,17 @@ fn add_ends(centres: &mut Gathered, segments: &[Segment]) -> Result<(), AllocErr
 }
 
 /// Adds the centres of all lists.
-fn add_lists(centres: &mut Gathered, lists: &[Gathered]) -> Result<(), AllocError>
+fn add_lists(
+    rt: &(impl Threads + Sync),
+    centres: &mut Gathered,
+    lists: &[Gathered],
+) -> Result<(), AllocError>
     ensures { OnOk result ((c : Point)
         → Contains centres.new c ↔ (Contains centres.old c ⊎ Contains (flat_map (λ list. list) lists.now) c)) }
 {
     for list in lists {
         centres.append(list)?;
-        centres.thin();
+        centres.thin_in_threads(rt);
     }
     Ok(())
 }

@@ -1,8 +1,10 @@
-use Rattle.std.proofs.Common.{◌↔◌, Contains, subst}
+use Rattle.std.proofs.Common.{◌↔◌, ◌∙◌, Contains, rules, subst}
+use Rattle.std.proofs.lemmas.List.{places, with_items_is}
 use Rattle.snap_pixels.proofs.OrderLemmas.{once_members, segment_eq, segment_eq-Decides}
 use Rattle.snap_pixels.proofs.repeats.distinct.Goals as goal
 
 pub returns : goal.returns
-returns c = λ s.
-    subst (λ l. Contains c.dedup.new.self.items s ↔ Contains l s) c.in_ok-once.ensures.items
-    (once_members segment_eq segment_eq-Decides _ _ _ c.sort_unstable.ensures.permutation c.dedup.ensures.filtered s)
+returns g c = λ s.
+    let all = with_items_is c.in_ok-once.once c.par_sort_unstable.new.s (search (rules, places)) in
+    subst (λ l. Contains c.dedup.new.self.items s ↔ Contains l s) (c.as_mut_slice.ensures.value ∙ c.in_ok-once.ensures.items)
+    (once_members segment_eq segment_eq-Decides _ _ _ c.par_sort_unstable.ensures.permutation (rw all at c.dedup.ensures.filtered) s)
