@@ -9,6 +9,7 @@ use snap_pixels::{HotSet, Segment};
 use snap_slabs::{Finder, Numbers};
 use std::alloc::{AllocError, Global};
 use std::marker::Model;
+use std::thread::Threads;
 
 /// The hot centres of some segments: their numbers serve the segments along an axis, and a finder the slanted ones.
 /// Contracts see the list of the centres.
@@ -36,13 +37,14 @@ impl<'h> Centres<'h> {
     ///
     /// `NoMemory`, if an allocation fails, and where there are 2^32 centres or more.
     pub fn of(
+        rt: &(impl Threads + Sync),
         alloc: Global,
         segments: &[Segment],
         found: &'h HotSet,
     ) -> Result<Centres<'h>, NoMemory>
         ensures { IfOk result (λ centres. centres ≡ found.now) }
     {
-        let numbers = Numbers::new(alloc, found)?;
+        let numbers = Numbers::new(rt, alloc, found)?;
         let finder = finder_of(alloc, segments, found)?;
         Ok(Centres { numbers, finder })
     }

@@ -38,7 +38,7 @@ pub fn round(
 {
     let segments = all_sides(alloc, rings)?;
     let found = hot(rt, alloc, &segments)?;
-    let centres = Centres::of(alloc, &segments, &found)?;
+    let centres = Centres::of(rt, alloc, &segments, &found)?;
     let passes = all_passes(rt, alloc, rings, &segments, &centres)?;
     let (edges, owners) = read(rt, alloc, passes, centres.numbers.centres())?;
     let rounded = Rounded { edges, owners };

@@ -11,6 +11,7 @@ use lay_point::{NoMemory, Point};
 use snap_pixels::HotSet;
 use std::alloc::Global;
 use std::marker::Model;
+use std::thread::Threads;
 
 /// Hot centres with their numbers: the index of each in the order of points. Contracts see the list of the centres.
 #[derive(Debug, Drop)]
@@ -35,7 +36,7 @@ impl<'h> Model for Numbers<'h> {
 }
 
 impl<'h> Numbers<'h> {
-    /// Returns the numbers of the hot centres.
+    /// Returns the numbers of the hot centres. They are sorted in as many threads as there are processors.
     ///
     /// # Errors
     ///
@@ -44,14 +45,18 @@ impl<'h> Numbers<'h> {
     /// # Cost
     ///
     /// A sort of the centres by rows.
-    pub fn new(alloc: Global, hot: &'h HotSet) -> Result<Numbers<'h>, NoMemory>
+    pub fn new(
+        rt: &(impl Threads + Sync),
+        alloc: Global,
+        hot: &'h HotSet,
+    ) -> Result<Numbers<'h>, NoMemory>
         ensures { IfOk result (λ numbers. numbers ≡ hot.now) }
     {
         let centres = hot.centres();
         if is_many(centres.len()) {
             return Err(NoMemory);
         }
-        let rows = rows_of(alloc, centres)?;
+        let rows = rows_of(rt, alloc, centres)?;
         if is_many(rows.len()) {
             return Err(NoMemory);
         }

@@ -6,7 +6,9 @@ ghost use Rattle.lay_point.specs.Rising.{IsRising};
 ghost use Rattle.snap_slabs.specs.Runs.{IsRowBefore, centres_at, number_of, row_key};
 
 use lay_point::Point;
+use rayon::slice::par_sort_unstable;
 use std::alloc::{AllocError, Global};
+use std::thread::Threads;
 
 /// The row of a centre and its number, taken from the greatest. Keys are in the order of rows, in a row from greater
 /// numbers to lesser.
@@ -16,15 +18,20 @@ pub(crate) struct RowKey {
     back: u32,
 }
 
-/// Returns the numbers of the centres by rows upward, in a row from right to left.
-pub(crate) fn rows_of(alloc: Global, centres: &[Point]) -> Result<Vec<u32>, AllocError>
+/// Returns the numbers of the centres by rows upward, in a row from right to left. They are sorted in as many
+/// threads as there are processors.
+pub(crate) fn rows_of(
+    rt: &(impl Threads + Sync),
+    alloc: Global,
+    centres: &[Point],
+) -> Result<Vec<u32>, AllocError>
     requires rising { IsRising IsBefore centres.now }
     requires few { length centres.now < 2 ^ 32 }
     ensures by_row { IfOk result (λ rows. IsRising IsRowBefore (centres_at centres.now rows.items)) }
     ensures members { IfOk result (λ rows. (i : ℕ) → Contains rows.items i ↔ i < length centres.now) }
 {
     let mut keys = row_keys(alloc, centres)?;
-    keys.sort_unstable();
+    par_sort_unstable(rt, keys.as_mut_slice());
     keys.dedup();
     let rows = numbers_of(alloc, keys.as_slice())?;
     Ok(rows)

@@ -10,16 +10,16 @@ use Rattle.snap_slabs.proofs.KeyOrder.{rising_points, row_members}
 use Rattle.snap_slabs.proofs.numbers.Numbers.new.Goals as goal
 
 pub rows_of-requires-clause-rising : goal.rows_of-requires-clause-rising
-rows_of-requires-clause-rising c =
+rows_of-requires-clause-rising g c κs within =
     subst (IsRising IsBefore) (sym c.centres-centres.ensures.value) (rising_points c.args.hot.now c.centres-centres.ensures.rising)
 
 pub places_of-requires-clause-inside : goal.places_of-requires-clause-inside
-places_of-requires-clause-inside c = λ i m.
+places_of-requires-clause-inside g c = λ i m.
     let lt = (c.in_ok-rows.ensures.members i).0 (subst (λ l. Contains l i) c.as_slice.ensures.value m) in
     lt
 
 pub invariant_of-result : goal.invariant_of-result
-invariant_of-result c =
+invariant_of-result g c =
     let hot = c.args.hot.now in
     let rows = c.in_ok-rows.rows.items in
     let all : (i : ℕ) → Contains rows i ↔ i < length hot =
