@@ -3,12 +3,11 @@ use Rattle.std.proofs.Common.{◌≡◌, ◌≢◌, ◌⊎◌, inl, inr, ⊎_eli
 use Rattle.std.proofs.Common.{List, [], ◌∷◌, ◌++◌}
 use Rattle.std.proofs.Common.{add-one, append_assoc, length, get_or, map, take, drop, Contains, ℤ, ◌<ℤ◌, ◌≤ℤ◌, refl, sym}
 use Rattle.std.proofs.Common.{ap, subst, ◌∙◌, arith}
-use Rattle.std.specs.Prelude.{All, nat_eq, slice_range}
-use Rattle.std.specs.Cmp.{IsTotalOrder, bool_cmp_total, nat_cmp_is}
+use Rattle.std.specs.Prelude.{All, int_le, nat_eq, nat_le, slice_range}
+use Rattle.std.specs.Cmp.{IsTotalOrder, nat_cmp_is}
 use Rattle.std.specs.List.{AllByRecursion, AllPairs, IsDistinct}
 use Rattle.std.specs.List.Sorted.{IsPermutation, IsSorted, IsSortedBy}
-use Rattle.std.specs.Ordering.{bool_cmp, is_lt, nat_cmp, on, ordering_then, then_cmp}
-use Rattle.std.specs.declared.cmp.Ordering.{Ordering}
+use Rattle.std.specs.Ordering.{is_lt, nat_cmp, ordering_then}
 use Rattle.std.specs.declared.cmp.Ordering.TheVariants.{Equal, Less}
 use Rattle.std.proofs.lemmas.Bool.{cases_lt}
 use Rattle.std.proofs.lemmas.Bool.Decides.{Decides-eqb, nat_tests}
@@ -41,13 +40,16 @@ use Rattle.face_rows.proofs.RowLemmas.{before_by_number, has_get, is_left, left_
 use Rattle.face_rows.proofs.UpwardLemmas.{up_rises}
 use Rattle.face_sweep.proofs.OrderLemmas.{crosses}
 use Rattle.face_sweep.specs.Points.{HasHigh, HasLow, IsAfter, IsEndPoint, IsLevelFrom}
-use Rattle.face_sweep.specs.Stops.{AreBegins, ArePlacesInOrder, AreRisers, AreStops, AreTops, BeginAt, IsBeginOf, IsExtended, IsFirstLevel}
+use Rattle.face_sweep.specs.Stops.{AreRisers, AreStops, BeginAt, IsExtended, IsFirstLevel}
 use Rattle.face_sweep.specs.Stops.{IsBegunGroup}
-use Rattle.face_sweep.specs.Stops.{IsHead, IsHeadUpTo, IsNextPlace, IsNoLater, HasLowPlace, HasTopPlace, IsPlaceRun, IsSooner, from_least}
-use Rattle.face_sweep.specs.Stops.{above_least, IsTopOf, IsWithRisers, begin_of, edge_begins, edge_tops}
-use Rattle.face_sweep.specs.Stops.{begin_numbers, sweep_place, begin_places, swept_point}
-use Rattle.face_sweep.specs.declared.stops.Begin.{Begin}
-use Rattle.face_sweep.specs.declared.stops.Place.{Place}
+use Rattle.face_sweep.specs.Stops.{IsHead, IsHeadUpTo, IsNextPlace, IsPlaceRun}
+use Rattle.face_sweep.specs.Stops.{IsWithRisers}
+use Rattle.face_sweep.specs.Ends.{AreBegins, AreSortedEnds, AreReordered, AreMadeEnds, ArePlacesInOrder, AreTops, HasLowPlace, HasTopPlace}
+use Rattle.face_sweep.specs.Ends.{IsBeginOf, IsNoLater, IsSooner, IsTopOf, above_least, begin_cmp, begin_number, begin_numbers, begin_of}
+use Rattle.face_sweep.specs.Ends.{begin_places, edge_begins, edge_tops, from_least, is_level, level_part, place_cmp, sweep_place, swept_point}
+use Rattle.face_sweep.specs.declared.ends.Begin.{Begin}
+use Rattle.face_sweep.specs.declared.ends.Ends.{Ends}
+use Rattle.face_sweep.specs.declared.ends.Place.{Place}
 use Rattle.face_sweep.specs.declared.stops.Stop.{Stop}
 use Rattle.face_sweep.specs.declared.stops.Stops.{Stops}
 
@@ -127,19 +129,13 @@ sooner_or_not a b = ⊎_elim
     (cases_lt a.key b.key)
 
 -- ---- sorted places and begins
-abbrev place_cmp : Place → Place → Ordering
-place_cmp = on (λ p. p.key) nat_cmp
-
-abbrev begin_cmp : Begin → Begin → Ordering
-begin_cmp = then_cmp (on (λ b. b.place) place_cmp) (then_cmp (on (λ b. b.level) bool_cmp) (on (λ b. b.number) nat_cmp))
-
 place_cmp_total : IsTotalOrder place_cmp
 place_cmp_total = on_total (λ (p : Place). p.key) nat_cmp_total
 
 begin_cmp_total : IsTotalOrder begin_cmp
 begin_cmp_total =
     then_total (on_total (λ (b : Begin). b.place) place_cmp_total)
-    (then_total (on_total (λ (b : Begin). b.level) bool_cmp_total) (on_total (λ (b : Begin). b.number) nat_cmp_total))
+    (on_total (λ (b : Begin). b.order) nat_cmp_total)
 
 sooner_less : (a b : Place) → IsSooner a b → place_cmp a b ≡ Less
 sooner_less a b lt = sym (nat_cmp_is a.key b.key Less lt)
@@ -162,7 +158,7 @@ module _ (begins : List Begin) (sorted : IsSorted begin_cmp begins) where
 
   pub begins_in_order : ArePlacesInOrder (begin_places begins)
   begins_in_order i j p le less =
-      let d : Begin = record { place = p; level = false; number = 0 } in
+      let d : Begin = record { place = p; order = 0 } in
       let inside : j < length begins = omega (arith, length-map begins (λ (b : Begin). b.place)) in
       let before : i < length begins = omega arith in
       let at_i = get_or-map (λ (b : Begin). b.place) begins i d p before in
@@ -173,55 +169,81 @@ module _ (begins : List Begin) (sorted : IsSorted begin_cmp begins) where
       ordered i j d le less = ⊎_elim
           (λ (below : IsSooner (get_or begins j d).place (get_or begins i d).place).
           let up = far i j d le less in
-          let down = ap (λ o. is_lt (ordering_then o (ordering_then (bool_cmp (get_or begins j d).level (get_or begins i d).level)
-          (nat_cmp (get_or begins j d).number (get_or begins i d).number))))
+          let down = ap (λ o. is_lt (ordering_then o (nat_cmp (get_or begins j d).order (get_or begins i d).order)))
           (sooner_less (get_or begins j d).place (get_or begins i d).place below) in
           absurd cc)
           (λ (not_below : IsNoLater (get_or begins i d).place (get_or begins j d).place). not_below)
           (sooner_or_not (get_or begins j d).place (get_or begins i d).place)
 
   pub levels_last : (i j : ℕ) (d : Begin) → i ≤ j → j < length begins → (get_or begins i d).place ≡ (get_or begins j d).place
-      → (get_or begins i d).level ≡ true → (get_or begins j d).level ≡ true
-  levels_last i j d le less same level = by_test (get_or begins j d).level refl
+      → is_level (get_or begins i d) ≡ true → is_level (get_or begins j d) ≡ true
+  levels_last i j d le less same level = by_test (is_level (get_or begins j d)) refl
     where
-      by_test : (t : Bool) → (get_or begins j d).level ≡ t → t ≡ true
+      by_test : (t : Bool) → is_level (get_or begins j d) ≡ t → t ≡ true
       by_test true e = refl
       by_test false e =
           let up = far i j d le less in
           let tie : place_cmp (get_or begins j d).place (get_or begins i d).place ≡ Equal =
           subst (λ p. place_cmp (get_or begins j d).place p ≡ Equal) (sym same) (itself_equal (get_or begins j d).place) in
-          let down : is_lt (begin_cmp (get_or begins j d) (get_or begins i d)) ≡ true = λ k. is_lt (ordering_then (tie k) (ordering_then
-          (bool_cmp (e k) (level k)) (nat_cmp (get_or begins j d).number (get_or begins i d).number))) in
+          let lower : (get_or begins j d).order < (get_or begins i d).order = grind (arith, nat_tests, e, level) in
+          let order = sym (nat_cmp_is (get_or begins j d).order (get_or begins i d).order Less lower) in
+          let down : is_lt (begin_cmp (get_or begins j d) (get_or begins i d)) ≡ true = λ k. is_lt (ordering_then (tie k) (order k)) in
           absurd cc
+
+-- ---- the number of an edge, and whether it is level, of where it begins
+part_number : (b : Bool) (n : ℕ) → n < 9223372036854775808 → (level_part b + n) % 9223372036854775808 ≡ n
+part_number true n small = omega (arith, small)
+part_number false n small = omega (arith, small)
+
+part_level : (b : Bool) (n : ℕ) → n < 9223372036854775808 → nat_le 9223372036854775808 (level_part b + n) ≡ b
+part_level true n small = grind (arith, nat_tests, small)
+part_level false n small = grind (arith, nat_tests, small)
+
+number_back : (n : ℕ) (e : Point × Point) → n < 9223372036854775808 → begin_number (begin_of n e) ≡ n
+number_back n e small = part_number (int_le (upward e).1.y (upward e).0.y) n small
+
+level_back : (n : ℕ) (e : Point × Point) → n < 9223372036854775808 → is_level (begin_of n e) ≡ int_le (upward e).1.y (upward e).0.y
+level_back n e small = part_level (int_le (upward e).1.y (upward e).0.y) n small
 
 -- ---- each edge once
 abbrev picked_begins : ℕ → List (Point × Point) → List Begin
 picked_begins n es = picked (λ e. true) begin_of n es
 
-numbers_after : (n : ℕ) (es : List (Point × Point)) (m : ℕ) → m < n
+numbers_after : (n : ℕ) (es : List (Point × Point)) (m : ℕ) → m < n → n + length es ≤ 9223372036854775808
     → AllByRecursion (λ k. nat_eq m k ≡ false) (begin_numbers (picked_begins n es))
-numbers_after n [] m less = tt
-numbers_after n (e ∷ es) m less = (grind (arith, nat_tests), numbers_after (n + 1) es m (omega arith))
+numbers_after n [] m less small = tt
+numbers_after n (e ∷ es) m less small = (
+  (let back = number_back n e (omega (arith, small)) in grind (arith, nat_tests, back)),
+  numbers_after (n + 1) es m (omega arith) (omega (arith, small)),
+)
 
-numbers_distinct : (n : ℕ) (es : List (Point × Point)) → IsDistinct nat_eq (begin_numbers (picked_begins n es))
+numbers_distinct : (n : ℕ) (es : List (Point × Point)) → n + length es ≤ 9223372036854775808
+    → IsDistinct nat_eq (begin_numbers (picked_begins n es))
 unfolding IsDistinct
-numbers_distinct n [] = tt
-numbers_distinct n (e ∷ es) = (numbers_after (n + 1) es n (omega arith), numbers_distinct (n + 1) es)
+numbers_distinct n [] small = tt
+numbers_distinct n (e ∷ es) small = (
+  subst (λ m. AllByRecursion (λ k. nat_eq m k ≡ false) (begin_numbers (picked_begins (n + 1) es)))
+      (sym (number_back n e (omega (arith, small)))) (numbers_after (n + 1) es n (omega arith) (omega (arith, small))),
+  numbers_distinct (n + 1) es (omega (arith, small)),
+)
 
 flips : (m n : ℕ) → nat_eq m n ≡ nat_eq n m
 flips m n = grind (arith, nat_tests)
 
-pub are_begins : (es : List (Point × Point)) (begins : List Begin)
-    → ((k : ℕ) (d : Point × Point) → k < length es → HasLowPlace (get_or es k d))
+pub are_begins : (es : List (Point × Point)) (begins : List Begin) → length es < 9223372036854775808 → All HasLowPlace es
     → IsPermutation (edge_begins es) begins → IsSorted begin_cmp begins → AreBegins es begins
-are_begins es begins fit moved sorted = record {
+are_begins es begins small fit moved sorted = record {
+  small = small;
   own = All-permutation (IsBeginOf es) (edge_begins es) begins moved (all_has (IsBeginOf es) (edge_begins es) (λ b m.
       let p = picked_of (λ e. true) begin_of 0 es b m in
       let zero_more : 0 + p.index ≡ p.index = omega arith in
+      let e = get_or es p.index nowhere in
+      let back : begin_number (begin_of (0 + p.index) e) ≡ p.index =
+      number_back (0 + p.index) e (omega (arith, small, p.inside)) ∙ zero_more in
       subst (IsBeginOf es) (p.is nowhere) (record {
-        given = subst (λ k. k < length es) (sym zero_more) p.inside;
-        is = λ i. begin_of (0 + p.index) (get_or es (zero_more i) nowhere);
-        point = fit p.index nowhere p.inside ∙ ap (λ k. (upward (get_or es k nowhere)).0) (sym zero_more);
+        given = subst (λ k. k < length es) (sym back) p.inside;
+        is = λ i. begin_of ((back ∙ sym zero_more) i) (get_or es (back i) nowhere);
+        point = fit p.index nowhere p.inside ∙ ap (λ k. (upward (get_or es k nowhere)).0) (sym back);
       })));
   all = λ n inside. Contains-permutation (edge_begins es) begins (begin_of n (get_or es n nowhere)) moved
       (contains (edge_begins es) (begin_of n (get_or es n nowhere))
@@ -231,11 +253,10 @@ are_begins es begins fit moved sorted = record {
   levels = levels_last begins sorted;
   apart = AllPairs-from_IsDistinct Decides-eqb (begin_numbers begins)
       (IsDistinct-IsPermutation nat_eq flips (begin_numbers (edge_begins es)) (begin_numbers begins)
-      (IsPermutation-map (λ (b : Begin). b.number) (edge_begins es) begins moved) (numbers_distinct 0 es));
+      (IsPermutation-map begin_number (edge_begins es) begins moved) (numbers_distinct 0 es (omega (arith, small))));
 }
 
-pub are_tops : (es : List (Point × Point)) (tops : List Place) → ((k : ℕ) (d : Point × Point) → k < length es → HasTopPlace (get_or es k d))
-    → IsPermutation (edge_tops es) tops → IsSorted place_cmp tops → AreTops es tops
+pub are_tops : (es : List (Point × Point)) (tops : List Place) → All HasTopPlace es → IsPermutation (edge_tops es) tops → IsSorted place_cmp tops → AreTops es tops
 are_tops es tops fit moved sorted = record {
   own = All-permutation (IsTopOf es) (edge_tops es) tops moved (all_has (IsTopOf es) (edge_tops es) (λ q m.
       let p = picked_of (λ e. true) (λ n e. sweep_place (upward e).1) 0 es q m in
@@ -252,6 +273,14 @@ are_tops es tops fit moved sorted = record {
         fit n nowhere inside,
       );
   order = places_in_order tops sorted;
+}
+
+-- the ends of the edges, sorted
+pub are_ends : (es : List (Point × Point)) (made ends : Ends) → AreMadeEnds es made → AreReordered made ends → AreSortedEnds es ends
+are_ends es made ends h order = record {
+  begins = are_begins es ends.begins.items h.small h.low
+      (subst (λ bs. IsPermutation bs ends.begins.items) h.begins order.begins) order.begins_sorted;
+  tops = are_tops es ends.tops.items h.top (subst (λ ts. IsPermutation ts ends.tops.items) h.tops order.tops) order.tops_sorted;
 }
 
 -- ---- a run of one place
@@ -314,47 +343,50 @@ range_pairs R xs a b le bound h i j d less inside =
 range_numbers : (xs : List Begin) (a b : ℕ) → a ≤ b → b ≤ length xs → AllPairs (λ m n. m ≢ n) (begin_numbers xs)
     → AllPairs (λ m n. m ≢ n) (begin_numbers (slice_range xs a b))
 range_numbers xs a b le bound h =
-    subst (AllPairs (λ m n. m ≢ n)) (sym (map-range (λ (z : Begin). z.number) xs a b))
-    (range_pairs (λ m n. m ≢ n) (begin_numbers xs) a b le (omega (arith, length-map xs (λ (z : Begin). z.number))) h)
+    subst (AllPairs (λ m n. m ≢ n)) (sym (map-range begin_number xs a b))
+    (range_pairs (λ m n. m ≢ n) (begin_numbers xs) a b le (omega (arith, length-map xs begin_number)) h)
 
 -- a number of the list is that of one of its elements
-pub number_in : (xs : List Begin) (n k : ℕ) (d : Begin) → k < length xs → (get_or xs k d).number ≡ n → Contains (begin_numbers xs) n
+pub number_in : (xs : List Begin) (n k : ℕ) (d : Begin) → k < length xs → begin_number (get_or xs k d) ≡ n → Contains (begin_numbers xs) n
 number_in xs n k d less same =
-    (k, omega (arith, length-map xs (λ (b : Begin). b.number)), get_or-map (λ (b : Begin). b.number) xs k d n less ∙ same)
+    (k, omega (arith, length-map xs begin_number), get_or-map begin_number xs k d n less ∙ same)
 
 pub record IsNumberOf (xs : List Begin) (n : ℕ) : Type 0 where
   pub index : ℕ
   pub inside : index < length xs
-  pub is : (d : Begin) → (get_or xs index d).number ≡ n
+  pub is : (d : Begin) → begin_number (get_or xs index d) ≡ n
 
 pub number_of : (xs : List Begin) (n : ℕ) → Contains (begin_numbers xs) n → IsNumberOf xs n
 number_of xs n m =
-    let less : m.0 < length xs = omega (arith, length-map xs (λ (b : Begin). b.number), m.1) in
-    record { index = m.0; inside = less; is = λ d. sym (get_or-map (λ (b : Begin). b.number) xs m.0 d n less) ∙ m.2 }
+    let less : m.0 < length xs = omega (arith, length-map xs begin_number, m.1) in
+    record { index = m.0; inside = less; is = λ d. sym (get_or-map begin_number xs m.0 d n less) ∙ m.2 }
 
 -- ---- what a begin tells of its edge
 module _ (es : List (Point × Point)) (b : Begin) (own : IsBeginOf es b) where
-  low_of : (p : Point) → swept_point b.place ≡ p → (upward (get_or es b.number nowhere)).0 ≡ p
+  low_of : (p : Point) → swept_point b.place ≡ p → (upward (get_or es (begin_number b) nowhere)).0 ≡ p
   low_of p at = sym own.point ∙ at
 
-  low_row : (upward (get_or es b.number nowhere)).0.y ≡ (swept_point b.place).y
+  low_row : (upward (get_or es (begin_number b) nowhere)).0.y ≡ (swept_point b.place).y
   low_row = ap (λ (z : Point). z.y) (sym own.point)
 
-  rises_of : b.level ≡ false → (upward (get_or es b.number nowhere)).0.y <ℤ (upward (get_or es b.number nowhere)).1.y
-  rises_of level = le_false (upward (get_or es b.number nowhere)).1.y (upward (get_or es b.number nowhere)).0.y
-      (ap (λ (z : Begin). z.level) own.is ∙ level)
+  told : int_le (upward (get_or es (begin_number b) nowhere)).1.y (upward (get_or es (begin_number b) nowhere)).0.y ≡ is_level b
+  told = sym (level_back (begin_number b) (get_or es (begin_number b) nowhere) (omega arith)) ∙ ap is_level own.is
 
-  flat_of : b.level ≡ true → (upward (get_or es b.number nowhere)).1.y ≤ℤ (upward (get_or es b.number nowhere)).0.y
-  flat_of level = le_true (upward (get_or es b.number nowhere)).1.y (upward (get_or es b.number nowhere)).0.y
-      (ap (λ (z : Begin). z.level) own.is ∙ level)
+  rises_of : is_level b ≡ false → (upward (get_or es (begin_number b) nowhere)).0.y <ℤ (upward (get_or es (begin_number b) nowhere)).1.y
+  rises_of level = le_false (upward (get_or es (begin_number b) nowhere)).1.y (upward (get_or es (begin_number b) nowhere)).0.y
+      (told ∙ level)
 
-  pub crosses_own : (row : ℤ) → (swept_point b.place).y ≡ row → b.level ≡ false → CrossesRow es row b.number
+  flat_of : is_level b ≡ true → (upward (get_or es (begin_number b) nowhere)).1.y ≤ℤ (upward (get_or es (begin_number b) nowhere)).0.y
+  flat_of level = le_true (upward (get_or es (begin_number b) nowhere)).1.y (upward (get_or es (begin_number b) nowhere)).0.y
+      (told ∙ level)
+
+  pub crosses_own : (row : ℤ) → (swept_point b.place).y ≡ row → is_level b ≡ false → CrossesRow es row (begin_number b)
   crosses_own row at level =
-      let e = get_or es b.number nowhere in
+      let e = get_or es (begin_number b) nowhere in
       let low : (upward e).0.y ≡ row = low_row ∙ at in
       let up = rises_of level in (
         own.given,
-        λ d. subst (λ f. crosses_row row f ≡ true) (get_or_default es b.number nowhere d own.given)
+        λ d. subst (λ f. crosses_row row f ≡ true) (get_or_default es (begin_number b) nowhere d own.given)
             (crosses row e (omega (arith, linear, low)) (omega (arith, linear, low, up))),
       )
 
@@ -387,7 +419,8 @@ group_of es begins points low after p h run had passed =
           let in_range : k < after - low = omega arith in
           let back : low + k ≡ m.0 = omega arith in
           number_in (slice_range begins low after) n k b (omega (arith, range_length begins low after run.order bound))
-          (ap (λ (z : Begin). z.number) (range_get begins low after k b in_range ∙ ap (λ j. get_or begins j b) back ∙ m.2)))
+          (ap begin_number (range_get begins low after k b in_range ∙ ap (λ j. get_or begins j b) back ∙ m.2)
+          ∙ number_back n (get_or es n nowhere) (omega (arith, given, h.small))))
           (λ (behind : after ≤ m.0). absurd (sooner_irreflexive p (subst (IsSooner p) at (run.behind m.0 p behind inside))))
           (cases_lt m.0 after))
           (cases_lt m.0 low);
@@ -397,10 +430,10 @@ group_of es begins points low after p h run had passed =
           let in_begins : low + j < length begins = omega (arith, run.order) in
           let at_i = range_get begins low after i d in_i in
           let at_j = range_get begins low after j d in_j in
-          ap (λ (z : Begin). z.level) at_j
+          ap is_level at_j
           ∙ h.levels (low + i) (low + j) d (omega arith) in_begins
           (here (low + i) d (omega arith) (omega arith) (omega arith) ∙ sym (here (low + j) d (omega arith) (omega arith) in_begins))
-          (sym (ap (λ (z : Begin). z.level) at_i) ∙ level);
+          (sym (ap is_level at_i) ∙ level);
       apart = range_numbers begins low after run.order bound h.apart;
     }
   where
@@ -411,7 +444,7 @@ pub risers_of : (es : List (Point × Point)) (p : Point) (group : List Begin) (i
     → AreRisers es p.y (slice_range group 0 index)
 risers_of es p group index h first = record {
   own = range_all (IsBeginOf es) group 0 index (omega arith) first.bound (λ k d ge lt inside. h.own k d inside);
-  rising = range_all (λ b. b.level ≡ false) group 0 index (omega arith) first.bound (λ k d ge lt inside. first.before k d lt);
+  rising = range_all (λ b. is_level b ≡ false) group 0 index (omega arith) first.bound (λ k d ge lt inside. first.before k d lt);
   at = range_all (λ b. (swept_point b.place).y ≡ p.y) group 0 index (omega arith) first.bound
       (λ k d ge lt inside. ap (λ (z : Point). z.y) (h.at k d inside));
   apart = range_numbers group 0 index (omega arith) first.bound h.apart;
@@ -422,7 +455,7 @@ record IsFront (group : List Begin) (index n : ℕ) : Type 0 where
   pub place : ℕ
   pub early : place < index
   pub inside : place < length group
-  pub is : (d : Begin) → (get_or group place d).number ≡ n
+  pub is : (d : Begin) → begin_number (get_or group place d) ≡ n
 
 -- the edges that rise, and then those that are level
 pub begin_at : (r : Owned) (p : Point) (group : List Begin) (index : ℕ) (old mid new : List ℕ) → IsBegunGroup r.0 p group
@@ -463,8 +496,8 @@ begin_at r p group index old mid new h first risers is = record {
         omega (arith, f.inside, range_length group index (length group) first.bound (omega arith)) in
         let inside : index + f.index < length group = omega arith in
         let b = get_or group (index + f.index) any in
-        let same : b.number ≡ n =
-        sym (ap (λ (z : Begin). z.number) (range_get group index (length group) f.index any lt)) ∙ f.is any in
+        let same : begin_number b ≡ n =
+        sym (ap begin_number (range_get group index (length group) f.index any lt)) ∙ f.is any in
         let own = h.own (index + f.index) any inside in
         subst (IsLevelFrom r p) same (level_own b own (h.at (index + f.index) any inside)
         (level_from (index + f.index) (omega arith) inside));
@@ -484,23 +517,23 @@ begin_at r p group index old mid new h first risers is = record {
         let back : index + k ≡ m.index = omega arith in
         number_in (slice_range group index (length group)) n k any
         (omega (arith, range_length group index (length group) first.bound (omega arith)))
-        (ap (λ (z : Begin). z.number) (range_get group index (length group) k any lt ∙ ap (λ j. get_or group j any) back) ∙ m.is any))
+        (ap begin_number (range_get group index (length group) k any lt ∙ ap (λ j. get_or group j any) back) ∙ m.is any))
         (cases_lt m.index index);
   };
 }
   where
     any : Begin
-    any = record { place = record { key = 0 }; level = false; number = 0 }
+    any = record { place = record { key = 0 }; order = 0 }
 
     levels : List ℕ
     levels = begin_numbers (slice_range group index (length group))
 
-    level_from : (k : ℕ) → index ≤ k → k < length group → (get_or group k any).level ≡ true
+    level_from : (k : ℕ) → index ≤ k → k < length group → is_level (get_or group k any) ≡ true
     level_from k le inside = h.levels index k any le inside (first.here any (omega arith))
 
-    level_own : (b : Begin) → IsBeginOf r.0 b → swept_point b.place ≡ p → b.level ≡ true → IsLevelFrom r p b.number
+    level_own : (b : Begin) → IsBeginOf r.0 b → swept_point b.place ≡ p → is_level b ≡ true → IsLevelFrom r p (begin_number b)
     level_own b own at level =
-        let e = edge_at r b.number in
+        let e = edge_at r (begin_number b) in
         let low : (upward e).0.y ≡ p.y = ap (λ (z : Point). z.y) (low_of r.0 b own p at) in
         let flat = flat_of r.0 b own level in
         let up = up_rises e in
@@ -515,15 +548,15 @@ begin_at r p group index old mid new h first risers is = record {
           place = f.index;
           early = early;
           inside = omega (arith, first.bound);
-          is = λ d. ap (λ k. (get_or group k d).number) (sym zero_more)
-              ∙ sym (ap (λ (z : Begin). z.number) (range_get group 0 index f.index d (omega arith))) ∙ f.is d;
+          is = λ d. ap (λ k. begin_number (get_or group k d)) (sym zero_more)
+              ∙ sym (ap begin_number (range_get group 0 index f.index d (omega arith))) ∙ f.is d;
         }
 
     in_front : (n : ℕ) (m : IsNumberOf group n) → m.index < index → Contains (begin_numbers (slice_range group 0 index)) n
     in_front n m early =
         let zero_more : 0 + m.index ≡ m.index = omega arith in
         number_in (slice_range group 0 index) n m.index any (omega (arith, range_length group 0 index (omega arith) first.bound))
-        (ap (λ (z : Begin). z.number) (range_get group 0 index m.index any (omega arith)) ∙ ap (λ k. (get_or group k any).number) zero_more
+        (ap begin_number (range_get group 0 index m.index any (omega arith)) ∙ ap (λ k. begin_number (get_or group k any)) zero_more
         ∙ m.is any)
 
 -- ---- edges that rise from one point, from left to right
@@ -543,22 +576,22 @@ few_risers es row group old new few is = record {
     at_most_one (b ∷ c ∷ xs) less = absurd (omega arith)
 
 pub crossing_all : (es : List (Point × Point)) (row : ℤ) (group : List Begin) → AreRisers es row group
-    → (k : ℕ) (d : Begin) → k < length group → CrossesRow es row (get_or group k d).number
+    → (k : ℕ) (d : Begin) → k < length group → CrossesRow es row (begin_number (get_or group k d))
 crossing_all es row group h k d less =
     crosses_own es (get_or group k d) (h.own k d less) row (h.at k d less) (h.rising k d less)
 
 -- where one edge more crosses the row
 pub crossing_push : (es : List (Point × Point)) (row : ℤ) (group : List Begin) (i : ℕ) (d : Begin) (old : List Crossing) (c : Crossing)
-    (e : Point × Point) → i < length group → AreRisers es row group → e ≡ get_or es (get_or group i d).number e
-    → c.number ≡ (get_or group i d).number → c.x ≡ crossing row e → c.rise ≡ rise e
+    (e : Point × Point) → i < length group → AreRisers es row group → e ≡ get_or es (begin_number (get_or group i d)) e
+    → c.number ≡ begin_number (get_or group i d) → c.x ≡ crossing row e → c.rise ≡ rise e
     → map (λ z. z.number) old ≡ begin_numbers (take i group) → All (IsCrossingOf es row) old
     → (map (λ z. z.number) (old ++ c ∷ []) ≡ begin_numbers (take (i + 1) group)) × All (IsCrossingOf es row) (old ++ c ∷ [])
 crossing_push es row group i d old c e less risers is_e number x up numbers places =
-    let n = (get_or group i d).number in
+    let n = begin_number (get_or group i d) in
     let cross = crossing_all es row group risers i d less in
     let any : (f : Point × Point) → e ≡ get_or es n f = λ f. is_e ∙ get_or_default es n e f cross.0 in (
       map-append (λ (z : Crossing). z.number) old (c ∷ []) ∙ (λ k. numbers k ++ number k ∷ [])
-          ∙ sym (map_more (λ (b : Begin). b.number) group i d less),
+          ∙ sym (map_more begin_number group i d less),
       All-push (IsCrossingOf es row) old c places (record {
         given = subst (λ m. m < length es) (sym number) cross.0;
         crosses = subst (λ m. (f : Point × Point) → crosses_row row (get_or es m f) ≡ true) (sym number) cross.1;
@@ -661,13 +694,13 @@ end_point : (r : Owned) (begins : List Begin) (tops : List Place) (low top : ℕ
     → IsNextPlace (begin_places begins) low tops top p → IsEndPoint r (swept_point p)
 end_point r begins tops low top p begin_facts top_facts next = ⊎_elim
     (λ (l : IsHead (begin_places begins) low p).
-    let d : Begin = record { place = p; level = false; number = 0 } in
+    let d : Begin = record { place = p; order = 0 } in
     let inside : low < length begins = omega (arith, l.0, length-map begins (λ (b : Begin). b.place)) in
     let b = get_or begins low d in
     let own = begin_facts.own low d inside in
     let at : swept_point b.place ≡ swept_point p =
     ap swept_point (sym (get_or-map (λ (z : Begin). z.place) begins low d p inside) ∙ l.1 p) in
-    record { number = b.number; given = own.given; at = inl (low_of r.0 b own (swept_point p) at) })
+    record { number = begin_number b; given = own.given; at = inl (low_of r.0 b own (swept_point p) at) })
     (λ (t : IsHead tops top p).
     let own = top_facts.own top p t.0 in
     record {
@@ -746,7 +779,9 @@ stops_done r begins tops low top stops begin_facts top_facts h all_low all_top =
         let at : get_or (begin_places begins) m.0 b.place ≡ b.place =
         get_or-map (λ (z : Begin). z.place) begins m.0 b b.place m.1 ∙ ap (λ (z : Begin). z.place) m.2 in
         let inside : m.0 < length (begin_places begins) = omega (arith, m.1, length-map begins (λ (z : Begin). z.place)) in
-        subst (Contains (points_of stops.list.items)) (ap swept_point at ∙ own.point ∙ low_is)
+        let back = number_back e.number (edge_at r e.number) (omega (arith, e.given, begin_facts.small)) in
+        let low : swept_point b.place ≡ p = own.point ∙ ap (λ k. (upward (edge_at r k)).0) back ∙ low_is in
+        subst (Contains (points_of stops.list.items)) (ap swept_point at ∙ low)
         (h.low_joined.had m.0 b.place (omega arith) inside))
         (λ (high_is : HasHigh r p e.number).
         let t = top_facts.all e.number e.given in

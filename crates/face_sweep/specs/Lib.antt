@@ -1,4 +1,5 @@
 pub mod Counts
+pub mod Ends
 pub mod Nexts
 pub mod OwnRows
 pub mod Points

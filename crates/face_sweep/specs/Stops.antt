@@ -1,5 +1,5 @@
 -- The stops of the sweep: all points at which edges begin or end, in its order, with the edges that begin at each.
-use Rattle.std.specs.Prelude.{◌≡◌, ◌≢◌, ◌⊎◌, ℕ, ◌+◌, ◌-◌, ◌*◌, ◌/◌, ◌%◌, ◌<◌, ◌≤◌, ℤ, pos, ◌+ℤ◌, ◌-ℤ◌, ◌<ℤ◌, ◌≤ℤ◌, int_le, nat_abs}
+use Rattle.std.specs.Prelude.{◌≡◌, ◌≢◌, ◌⊎◌, ℕ, ◌<◌, ◌≤◌, ℤ, ◌<ℤ◌, ◌≤ℤ◌}
 use Rattle.std.specs.Prelude.{true, false, List, ◌++◌}
 use Rattle.std.specs.Prelude.{All, Contains, length, map, slice_index_or, slice_range}
 use Rattle.std.specs.List.{AllPairs}
@@ -7,11 +7,11 @@ use Rattle.lay_point.specs.declared.point.Point.{Point}
 use Rattle.lay_point.specs.Rising.{IsRising}
 use Rattle.snap_chains.specs.Rounded.{Owned}
 use Rattle.face_rows.specs.Lines.{nowhere}
-use Rattle.face_rows.specs.Picked.{picked}
 use Rattle.face_rows.specs.Rows.{IsLeftOf, upward}
 use Rattle.face_sweep.specs.Points.{AreBegunAt, IsAfter, IsEndPoint, IsLevelFrom}
-use Rattle.face_sweep.specs.declared.stops.Begin.{Begin}
-use Rattle.face_sweep.specs.declared.stops.Place.{Place}
+use Rattle.face_sweep.specs.Ends.{IsBeginOf, IsNoLater, IsSooner, begin_numbers, is_level, swept_point}
+use Rattle.face_sweep.specs.declared.ends.Begin.{Begin}
+use Rattle.face_sweep.specs.declared.ends.Place.{Place}
 use Rattle.face_sweep.specs.declared.stops.Stop.{Stop}
 use Rattle.face_sweep.specs.declared.stops.Stops.{Stops}
 
@@ -46,81 +46,6 @@ pub record AreStops (r : Owned) (stops : Stops) : Type 0 where
   pub begun : (k : ℕ) (d : Stop) → k < length stops.list.items
       → BeginAt r (slice_index_or stops.list.items k d).point (begun_at stops k d)
 
--- ---- places: points in the order of the sweep
--- how far a coordinate is from the least of all
-abbrev pub from_least : ℤ → ℕ
-from_least z = nat_abs (z +ℤ pos 2147483648)
-
-abbrev pub above_least : ℕ → ℤ
-above_least n = pos n -ℤ pos 2147483648
-
-abbrev pub sweep_place : Point → Place
-sweep_place p = record { key = from_least p.y * 4294967296 + (4294967295 - from_least p.x) }
-
-abbrev pub swept_point : Place → Point
-swept_point q = record { x = above_least (4294967295 - q.key % 4294967296); y = above_least (q.key / 4294967296) }
-
--- the sweep comes to a before b
-abbrev pub IsSooner : Place → Place → Type 0
-IsSooner a b = a.key < b.key
-
-abbrev pub IsNoLater : Place → Place → Type 0
-IsNoLater a b = (a ≡ b) ⊎ IsSooner a b
-
-abbrev pub ArePlacesInOrder : List Place → Type 0
-ArePlacesInOrder places = (i j : ℕ) (d : Place) → i ≤ j → j < length places
-    → IsNoLater (slice_index_or places i d) (slice_index_or places j d)
-
--- ---- where edges begin, and where they end
-abbrev pub begin_of : ℕ → Point × Point → Begin
-begin_of n e = record { place = sweep_place (upward e).0; level = int_le (upward e).1.y (upward e).0.y; number = n }
-
-abbrev pub edge_begins : List (Point × Point) → List Begin
-edge_begins edges = picked (λ e. true) begin_of 0 edges
-
-abbrev pub edge_tops : List (Point × Point) → List Place
-edge_tops edges = picked (λ e. true) (λ n e. sweep_place (upward e).1) 0 edges
-
-abbrev pub begin_numbers : List Begin → List ℕ
-begin_numbers = map (λ b. b.number)
-
-abbrev pub begin_places : List Begin → List Place
-begin_places = map (λ b. b.place)
-
--- the places of the edge's ends are those of its points, as they are of all points that code has
-abbrev pub HasLowPlace : Point × Point → Type 0
-HasLowPlace e = swept_point (sweep_place (upward e).0) ≡ (upward e).0
-
-abbrev pub HasTopPlace : Point × Point → Type 0
-HasTopPlace e = swept_point (sweep_place (upward e).1) ≡ (upward e).1
-
--- it is where the edge of its number begins
-pub record IsBeginOf (edges : List (Point × Point)) (b : Begin) : Type 0 where
-  pub given : b.number < length edges
-  pub is : begin_of b.number (slice_index_or edges b.number nowhere) ≡ b
-  pub point : swept_point b.place ≡ (upward (slice_index_or edges b.number nowhere)).0
-
--- where all edges begin, in order; at one place the level edges come last
-pub record AreBegins (edges : List (Point × Point)) (begins : List Begin) : Type 0 where
-  pub own : All (IsBeginOf edges) begins
-  pub all : (n : ℕ) → n < length edges → Contains begins (begin_of n (slice_index_or edges n nowhere))
-  pub order : ArePlacesInOrder (begin_places begins)
-  pub levels : (i j : ℕ) (d : Begin) → i ≤ j → j < length begins
-      → (slice_index_or begins i d).place ≡ (slice_index_or begins j d).place
-      → (slice_index_or begins i d).level ≡ true → (slice_index_or begins j d).level ≡ true
-  pub apart : AllPairs (λ m n. m ≢ n) (begin_numbers begins)
-
-pub record IsTopOf (edges : List (Point × Point)) (q : Place) : Type 0 where
-  pub number : ℕ
-  pub given : number < length edges
-  pub point : swept_point q ≡ (upward (slice_index_or edges number nowhere)).1
-
--- where all edges end, in order
-pub record AreTops (edges : List (Point × Point)) (tops : List Place) : Type 0 where
-  pub own : All (IsTopOf edges) tops
-  pub all : (n : ℕ) → n < length edges → (q : Place) × Contains tops q × (swept_point q ≡ (upward (slice_index_or edges n nowhere)).1)
-  pub order : ArePlacesInOrder tops
-
 -- ---- from place to place
 -- the place isn't behind that at the index, if there is one
 abbrev pub IsHeadUpTo : List Place → ℕ → Place → Type 0
@@ -146,22 +71,22 @@ pub record IsBegunGroup (edges : List (Point × Point)) (p : Point) (group : Lis
   pub own : All (IsBeginOf edges) group
   pub at : All (λ b. swept_point b.place ≡ p) group
   pub all : (n : ℕ) → n < length edges → (upward (slice_index_or edges n nowhere)).0 ≡ p → Contains (begin_numbers group) n
-  pub levels : (i j : ℕ) (d : Begin) → i ≤ j → j < length group → (slice_index_or group i d).level ≡ true
-      → (slice_index_or group j d).level ≡ true
+  pub levels : (i j : ℕ) (d : Begin) → i ≤ j → j < length group → is_level (slice_index_or group i d) ≡ true
+      → is_level (slice_index_or group j d) ≡ true
   pub apart : AllPairs (λ m n. m ≢ n) (begin_numbers group)
 
 -- edges that begin in the row and aren't level, each once
 pub record AreRisers (edges : List (Point × Point)) (row : ℤ) (group : List Begin) : Type 0 where
   pub own : All (IsBeginOf edges) group
-  pub rising : All (λ b. b.level ≡ false) group
+  pub rising : All (λ b. is_level b ≡ false) group
   pub at : All (λ b. (swept_point b.place).y ≡ row) group
   pub apart : AllPairs (λ m n. m ≢ n) (begin_numbers group)
 
 -- the edges from the index on are level, and those before it aren't
 pub record IsFirstLevel (group : List Begin) (index : ℕ) : Type 0 where
   pub bound : index ≤ length group
-  pub before : (k : ℕ) (d : Begin) → k < index → (slice_index_or group k d).level ≡ false
-  pub here : (d : Begin) → index < length group → (slice_index_or group index d).level ≡ true
+  pub before : (k : ℕ) (d : Begin) → k < index → is_level (slice_index_or group k d) ≡ false
+  pub here : (d : Begin) → index < length group → is_level (slice_index_or group index d) ≡ true
 
 -- the numbers of the group's edges are appended, from left to right
 pub record IsWithRisers (edges : List (Point × Point)) (row : ℤ) (group : List Begin) (old new : List ℕ) : Type 0 where

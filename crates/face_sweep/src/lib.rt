@@ -14,7 +14,8 @@
 //! ([`points_pass`]).
 //!
 //! - [`Stops`] has all points at which edges begin or end, in the order of the sweep, with the edges that begin
-//!   at each: those that rise, from left to right, and then a level one (`specs/Stops.antt`).
+//!   at each: those that rise, from left to right, and then a level one (`specs/Stops.antt`). They are made of
+//!   the edges' ends as numbers that are sorted (`specs/Ends.antt`).
 //! - [`place_of_point`] searches the list for a point, from a hint on: the place of the stop before, which is
 //!   near in a row. It compares two products for each edge that it looks at. [`group_end`] is where the edges
 //!   that end at the point end, and [`replace`] puts others in their place.
@@ -39,7 +40,7 @@
 //!
 //! # Files
 //!
-//! - `stops.rt`: the points of the sweep.
+//! - `stops.rt`: the points of the sweep; `ends.rt`: the ends of edges in its order.
 //! - `place.rt`, `search.rt`, `side.rt`: where a point is among the edges of the list.
 //! - `passing.rt`: how the list passes a point; `laws.rt`: why it is then that of the next.
 //! - `sides.rt`, `counts.rt`, `known.rt`: what holds beside an edge.
@@ -48,6 +49,7 @@
 
 mod boxes;
 mod counts;
+mod ends;
 mod extent;
 mod known;
 mod laws;

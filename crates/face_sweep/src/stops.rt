@@ -2,58 +2,40 @@
 ghost use Rattle.std.specs.Prelude.{
   ◌≡◌,
   ◌++◌,
-  ◌<◌,
   ◌≤◌,
-  ◌↔◌,
-  [],
-  ◌^◌,
-  false,
   map,
   All,
   IfNone,
   IfOk,
   IfSome,
-  IsTrue,
   OnOk,
   int_lt,
   length,
   slice_range,
 };
-ghost use Rattle.lay_point.specs.Edges.{is_before};
 ghost use Rattle.lay_point.specs.Rising.{IsRising};
 ghost use Rattle.face_rows.specs.Crossings.{IsCrossingOf};
 ghost use Rattle.face_rows.specs.Laws.{AreLesserFirst};
 ghost use Rattle.face_sweep.specs.Points.{IsAfter};
+ghost use Rattle.face_sweep.specs.Ends.{AreBegins, AreSortedEnds, ArePlacesInOrder, AreTops, begin_numbers, begin_places};
 ghost use Rattle.face_sweep.specs.Stops.{
-  AreBegins,
-  ArePlacesInOrder,
   AreRisers,
   AreStops,
-  AreTops,
-  HasLowPlace,
+  IsBegunGroup,
   IsExtended,
   IsFirstFrom,
   IsFirstLevel,
-  IsBegunGroup,
   IsHeadUpTo,
   IsNextPlace,
-  IsNoLater,
   IsPlaceRun,
-  IsSooner,
   IsWithRisers,
-  begin_of,
   begun_list,
-  begin_numbers,
-  from_least,
-  sweep_place,
-  begin_places,
-  swept_point,
-  above_least,
   stop_list,
   stop_points,
 };
 
-use face_rows::{Crossing, upward};
+use crate::ends::{Begin, Ends, Place};
+use face_rows::Crossing;
 use lay_point::{Edge, NoMemory, Point};
 use snap_chains::CleanEdges;
 use std::alloc::{AllocError, Global};
@@ -84,107 +66,6 @@ pub struct Stops {
     pub(crate) list: Vec<Stop>,
     /// The numbers of the edges, in the order of the points that they begin at: from left to right, a level one last.
     pub(crate) begun: Vec<usize>,
-}
-
-/// A point, as one number. These numbers are in the order of the sweep: by rows upward, and in a row from right
-/// to left.
-#[derive(Clone, Copy, Debug, PartialEq, Eq, PartialOrd, Ord)]
-pub(crate) struct Place {
-    pub(crate) key: u64,
-}
-
-/// Where an edge begins. At one place a level edge is behind those that rise.
-#[derive(Clone, Copy, Debug, PartialEq, Eq, PartialOrd, Ord)]
-pub(crate) struct Begin {
-    pub(crate) place: Place,
-    pub(crate) level: bool,
-    /// The number of the edge.
-    pub(crate) number: usize,
-}
-
-impl Place {
-    fn of(point: Point) -> Place
-        ensures value { result ≡ sweep_place point }
-        ensures point { swept_point result ≡ point }
-    {
-        Place {
-            key: from_least(point.y) * 4_294_967_296 + (4_294_967_295 - from_least(point.x)),
-        }
-    }
-
-    fn point(self) -> Point
-        ensures { result ≡ swept_point self }
-    {
-        Point {
-            x: above_least(4_294_967_295 - self.key % 4_294_967_296),
-            y: above_least(self.key / 4_294_967_296),
-        }
-    }
-
-    /// Returns whether the sweep comes to this place before the other.
-    fn is_before(self, other: Place) -> bool
-        ensures sooner { IsTrue result → IsSooner self other }
-        ensures later { result ≡ false → IsNoLater other self }
-    {
-        self < other
-    }
-}
-
-/// Returns how far the coordinate is from the least of all.
-fn from_least(at: i32) -> u64
-    ensures value { result ≡ from_least at }
-    ensures bound { result < 2 ^ 32 }
-{
-    (i64::from(at) + 2_147_483_648).unsigned_abs()
-}
-
-/// Returns the coordinate that is so far from the least of all.
-fn above_least(distance: u64) -> i32
-    requires { distance < 2 ^ 32 }
-    ensures { result ≡ above_least distance }
-{
-    (distance as i64 - 2_147_483_648) as i32
-}
-
-impl Begin {
-    fn new(edge: Edge, number: usize) -> Begin
-        ensures value { result ≡ begin_of number edge }
-        ensures low { HasLowPlace edge }
-        ensures lesser { IsTrue (is_before edge.0 edge.1) }
-    {
-        let (low, high) = upward(edge);
-        Begin {
-            place: Place::of(low),
-            level: high.y <= low.y,
-            number,
-        }
-    }
-}
-
-/// Returns where the edges begin, in the order of the sweep.
-fn begins_of(alloc: Global, edges: &[Edge]) -> Result<Vec<Begin>, AllocError>
-    ensures begins { IfOk result (λ begins. AreBegins edges.now begins.items) }
-    ensures lesser { IfOk result (λ begins. AreLesserFirst edges.now) }
-{
-    let mut begins = Vec::with_capacity(alloc, edges.len())?;
-    for number in 0..edges.len() {
-        begins.push(Begin::new(edges[number], number))?;
-    }
-    begins.sort_unstable();
-    Ok(begins)
-}
-
-/// Returns where the edges end, in the order of the sweep.
-fn tops_of(alloc: Global, edges: &[Edge]) -> Result<Vec<Place>, AllocError>
-    ensures { IfOk result (λ tops. AreTops edges.now tops.items) }
-{
-    let mut tops = Vec::with_capacity(alloc, edges.len())?;
-    for number in 0..edges.len() {
-        let (_, high) = upward(edges[number]);
-        tops.push(Place::of(high))?;
-    }
-    tops.sort_unstable();
-    Ok(tops)
 }
 
 /// Returns the places at which edges begin, one for each.
@@ -232,7 +113,7 @@ fn first_level(group: &[Begin]) -> usize
     ensures { IsFirstLevel group.now result }
 {
     let mut index = 0;
-    while index < group.len() && !group[index].level {
+    while index < group.len() && !group[index].is_level() {
         index += 1;
     }
     index
@@ -243,7 +124,7 @@ fn put_numbers(group: &[Begin], begun: &mut Vec<usize>) -> Result<(), AllocError
     ensures { OnOk result (begun.new.items ≡ begun.old.items ++ begin_numbers group.now) }
 {
     for begin in group {
-        begun.push(begin.number)?;
+        begun.push(begin.number())?;
     }
     Ok(())
 }
@@ -261,7 +142,8 @@ fn crossings_of(
 {
     let mut crossings = Vec::with_capacity(alloc, group.len())?;
     for begin in group {
-        crossings.push(Crossing::new(edges[begin.number], begin.number, row))?;
+        let number = begin.number();
+        crossings.push(Crossing::new(edges[number], number, row))?;
     }
     Ok(crossings)
 }
@@ -345,6 +227,21 @@ fn stops_at(
     Ok(Stops { list, begun })
 }
 
+/// Returns the stops of edges that begin and end there.
+fn stops_of(alloc: Global, edges: &CleanEdges, ends: &Ends) -> Result<Stops, AllocError>
+    requires { AreSortedEnds edges.now.0 ends.now }
+    ensures { IfOk result (AreStops edges.now) }
+{
+    let lows = begin_places(alloc, ends.begins.as_slice())?;
+    stops_at(
+        alloc,
+        edges,
+        ends.begins.as_slice(),
+        lows.as_slice(),
+        ends.tops.as_slice(),
+    )
+}
+
 impl Stops {
     /// Returns the stops of the edges.
     ///
@@ -359,16 +256,8 @@ impl Stops {
         ensures stops { IfOk result (AreStops edges.now) }
         ensures lesser { IfOk result (λ stops. AreLesserFirst edges.now.0) }
     {
-        let begins = begins_of(alloc, edges.edges())?;
-        let lows = begin_places(alloc, begins.as_slice())?;
-        let tops = tops_of(alloc, edges.edges())?;
-        let stops = stops_at(
-            alloc,
-            edges,
-            begins.as_slice(),
-            lows.as_slice(),
-            tops.as_slice(),
-        )?;
+        let ends = Ends::of_edges(alloc, edges.edges())?;
+        let stops = stops_of(alloc, edges, &ends.sorted())?;
         Ok(stops)
     }
 
@@ -377,20 +266,6 @@ impl Stops {
         ensures { result.now ≡ stop_list self.now }
     {
         self.list.as_slice()
-    }
-
-    /// Returns how many stops there are.
-    pub fn len(&self) -> usize
-        ensures { result ≡ length (stop_list self.now) }
-    {
-        self.list.len()
-    }
-
-    /// Returns whether there is no stop.
-    pub fn is_empty(&self) -> bool
-        ensures { IsTrue result ↔ (stop_list self.now ≡ []) }
-    {
-        self.list.is_empty()
     }
 
     /// Returns the numbers of the edges that begin at the stop, from left to right, a level one last.

@@ -1,5 +1,5 @@
 use Rattle.std.proofs.Common.{◌≡◌, take}
-use Rattle.face_sweep.specs.Stops.{begin_places}
+use Rattle.face_sweep.specs.Ends.{begin_places}
 use Rattle.face_sweep.proofs.stops.begin_places.Given as goal
 
 -- the places so far

@@ -1,10 +1,10 @@
-use Rattle.std.proofs.Common.{◌≡◌, ◌∙◌, map, false, to_z, of_z, w32, sym, ap, subst}
+use Rattle.std.proofs.Common.{◌≡◌, ◌∙◌, get_or, map, to_z, of_z, w32, sym, ap, subst}
 use Rattle.std.specs.Prelude.{All}
 use Rattle.std.proofs.lemmas.Int.{to_z-of_z}
 use Rattle.face_rows.specs.Crossings.{IsCrossingOf}
 use Rattle.face_rows.specs.declared.crossing.Crossing.{Crossing}
 use Rattle.face_sweep.specs.Stops.{AreRisers}
-use Rattle.face_sweep.specs.declared.stops.Begin.{Begin}
+use Rattle.face_sweep.specs.declared.ends.Begin.{Begin}
 use Rattle.face_sweep.proofs.StopLemmas.{crossing_push}
 use Rattle.face_sweep.proofs.stops.crossings_of.Goals as goal
 
@@ -15,9 +15,12 @@ loop-begin-preserved c =
     let row = to_z w32 (of_z w32 c.args.row) in
     let at : row ≡ c.args.row = to_z-of_z w32 c.args.row c.ranges.row in
     let risers = subst (λ z. AreRisers es z group) (sym at) c.requires in
-    let any : Begin = record { place = record { key = 0 }; level = false; number = 0 } in
-    let next = crossing_push es row group c.loop-begin.begin-index any c.loop-begin.crossings.items c.new.result c.index-edges-begin.result
-    c.loop-begin-test.true risers c.index-edges-begin.is c.new.ensures.number c.new.ensures.x c.new.ensures.rise
+    let any : Begin = record { place = record { key = 0 }; order = 0 } in
+    let is_number = c.number-number.ensures in
+    let e = c.index-edges-number.result in
+    let next = crossing_push es row group c.loop-begin.begin-index any c.loop-begin.crossings.items c.new.result e
+    c.loop-begin-test.true risers (subst (λ n. e ≡ get_or es n e) is_number c.index-edges-number.is)
+    (c.new.ensures.number ∙ is_number) c.new.ensures.x c.new.ensures.rise
     c.loop-begin.invariant.numbers c.loop-begin.invariant.places in
     let is = c.in_ok-push.ensures.items in
     record {

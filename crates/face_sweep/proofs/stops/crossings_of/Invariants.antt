@@ -1,7 +1,7 @@
 use Rattle.std.proofs.Common.{◌≡◌, map, take}
 use Rattle.std.specs.Prelude.{All}
 use Rattle.face_rows.specs.Crossings.{IsCrossingOf}
-use Rattle.face_sweep.specs.Stops.{begin_numbers}
+use Rattle.face_sweep.specs.Ends.{begin_numbers}
 use Rattle.face_sweep.proofs.stops.crossings_of.Given as goal
 
 -- where those of the edges so far cross the row

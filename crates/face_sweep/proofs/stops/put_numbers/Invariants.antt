@@ -1,5 +1,5 @@
 use Rattle.std.proofs.Common.{◌≡◌, ◌++◌, take}
-use Rattle.face_sweep.specs.Stops.{begin_numbers}
+use Rattle.face_sweep.specs.Ends.{begin_numbers}
 use Rattle.face_sweep.proofs.stops.put_numbers.Given as goal
 
 -- the numbers so far

@@ -1,7 +1,7 @@
 use Rattle.std.proofs.Common.{subst, arith}
 use Rattle.std.proofs.lemmas.List.{get_or_default}
-use Rattle.face_sweep.specs.Stops.{IsNoLater, IsSooner}
-use Rattle.face_sweep.specs.declared.stops.Place.{Place}
+use Rattle.face_sweep.specs.Ends.{IsNoLater, IsSooner}
+use Rattle.face_sweep.specs.declared.ends.Place.{Place}
 use Rattle.face_sweep.proofs.StopLemmas.{run_behind, run_more}
 use Rattle.face_sweep.proofs.stops.run_end.Goals as goal
 

@@ -1,5 +1,5 @@
 use Rattle.std.proofs.Common.{◌≡◌, ◌<◌, ◌≤◌, ◌-◌, ℕ, get_or, length}
-use Rattle.face_sweep.specs.declared.stops.Place.{Place}
+use Rattle.face_sweep.specs.declared.ends.Place.{Place}
 use Rattle.face_sweep.proofs.stops.run_end.Given as goal
 
 -- those so far are the place

@@ -1,6 +1,7 @@
 use Rattle.std.proofs.Common.{◌≡◌, ◌≤◌, ◌++◌, [], ◌∷◌, length, sym, subst, rules}
 use Rattle.std.specs.Prelude.{slice_range}
-use Rattle.face_sweep.specs.Stops.{IsExtended, IsBegunGroup, IsNextPlace, IsPlaceRun, begin_places}
+use Rattle.face_sweep.specs.Ends.{begin_places}
+use Rattle.face_sweep.specs.Stops.{IsExtended, IsBegunGroup, IsNextPlace, IsPlaceRun}
 use Rattle.face_sweep.specs.declared.stops.Stop.{Stop}
 use Rattle.face_sweep.proofs.StopLemmas.{AreStopsTo, fewer_left, group_of, passed_all, points_of, stops_done, stops_more}
 use Rattle.face_sweep.proofs.stops.stops_at.Goals as goal

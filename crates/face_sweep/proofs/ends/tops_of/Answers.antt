@@ -1,11 +1,10 @@
-use Rattle.std.proofs.Common.{◌≡◌, ◌++◌, ◌∙◌, [], ◌∷◌, true, refl, sym, ap, subst, arith, rules}
-use Rattle.std.specs.List.Sorted.{IsPermutation}
+use Rattle.std.proofs.Common.{◌≡◌, ◌++◌, ◌∙◌, [], ◌∷◌, true, refl, sym, ap, arith, rules}
 use Rattle.std.proofs.lemmas.List.{take_all}
 use Rattle.face_rows.specs.Rows.{upward}
 use Rattle.face_rows.proofs.PickedLemmas.{picked_more}
-use Rattle.face_sweep.specs.Stops.{HasTopPlace, edge_tops, sweep_place}
-use Rattle.face_sweep.proofs.StopLemmas.{are_tops, one_more_edge}
-use Rattle.face_sweep.proofs.stops.tops_of.Goals as goal
+use Rattle.face_sweep.specs.Ends.{HasTopPlace, edge_tops, sweep_place}
+use Rattle.face_sweep.proofs.StopLemmas.{one_more_edge}
+use Rattle.face_sweep.proofs.ends.tops_of.Goals as goal
 
 pub loop-number-preserved : goal.loop-number-preserved
 loop-number-preserved c =
@@ -21,11 +20,10 @@ loop-number-preserved c =
       one_more_edge HasTopPlace edges n e less c.index-edges-number.is fits c.loop-number.invariant.1,
     )
 
-pub returns : goal.returns
-returns c =
+pub returns-clause-tops : goal.returns-clause-tops
+returns-clause-tops c =
     let edges = c.args.edges.now in
-    let sorted = c.sort_unstable.new.self.items in
-    let all : c.loop-number.tops.items ≡ edge_tops edges =
-    c.loop-number.invariant.0 ∙ ap edge_tops (take_all c.loop-number.number edges c.loop-number-test.false) in
-    are_tops edges sorted (λ k d less. c.loop-number.invariant.1 k d (omega (arith, less, c.loop-number-test.false)))
-    (subst (λ ts. IsPermutation ts sorted) all c.sort_unstable.ensures.permutation) c.sort_unstable.ensures.sorted
+    c.loop-number.invariant.0 ∙ ap edge_tops (take_all c.loop-number.number edges c.loop-number-test.false)
+
+pub returns-clause-top : goal.returns-clause-top
+returns-clause-top c = λ k d less. c.loop-number.invariant.1 k d (omega (arith, less, c.loop-number-test.false))

@@ -1,11 +1,10 @@
-use Rattle.std.proofs.Common.{arith, ◌≡◌, ◌++◌, ◌∙◌, [], ◌∷◌, true, refl, sym, ap, subst}
-use Rattle.std.specs.List.Sorted.{IsPermutation}
+use Rattle.std.proofs.Common.{arith, ◌≡◌, ◌++◌, ◌∙◌, [], ◌∷◌, true, refl, sym, ap}
 use Rattle.std.proofs.lemmas.List.{take_all}
 use Rattle.lay_point.proofs.EdgeOrder.{one_more_lesser}
 use Rattle.face_rows.proofs.PickedLemmas.{picked_more}
-use Rattle.face_sweep.specs.Stops.{HasLowPlace, begin_of, edge_begins}
-use Rattle.face_sweep.proofs.StopLemmas.{are_begins, one_more_edge}
-use Rattle.face_sweep.proofs.stops.begins_of.Goals as goal
+use Rattle.face_sweep.specs.Ends.{HasLowPlace, begin_of, edge_begins}
+use Rattle.face_sweep.proofs.StopLemmas.{one_more_edge}
+use Rattle.face_sweep.proofs.ends.begins_of.Goals as goal
 
 pub loop-number-preserved : goal.loop-number-preserved
 loop-number-preserved c =
@@ -25,8 +24,7 @@ loop-number-preserved c =
 pub returns-clause-begins : goal.returns-clause-begins
 returns-clause-begins c =
     let edges = c.args.edges.now in
-    let sorted = c.sort_unstable.new.self.items in
-    let all : c.loop-number.begins.items ≡ edge_begins edges =
-    c.loop-number.invariant.0 ∙ ap edge_begins (take_all c.loop-number.number edges c.loop-number-test.false) in
-    are_begins edges sorted (λ k d less. c.loop-number.invariant.2 k d (omega (arith, less, c.loop-number-test.false)))
-    (subst (λ bs. IsPermutation bs sorted) all c.sort_unstable.ensures.permutation) c.sort_unstable.ensures.sorted
+    c.loop-number.invariant.0 ∙ ap edge_begins (take_all c.loop-number.number edges c.loop-number-test.false)
+
+pub returns-clause-low : goal.returns-clause-low
+returns-clause-low c = λ k d less. c.loop-number.invariant.2 k d (omega (arith, less, c.loop-number-test.false))

@@ -1,8 +1,8 @@
 use Rattle.std.proofs.Common.{◌≡◌, ◌<◌, true, ℕ, get_or, take}
 use Rattle.lay_point.specs.declared.point.Point.{Point}
 use Rattle.lay_point.specs.Edges.{is_before}
-use Rattle.face_sweep.specs.Stops.{HasLowPlace, edge_begins}
-use Rattle.face_sweep.proofs.stops.begins_of.Given as goal
+use Rattle.face_sweep.specs.Ends.{HasLowPlace, edge_begins}
+use Rattle.face_sweep.proofs.ends.begins_of.Given as goal
 
 -- where those of the edges so far begin
 abbrev pub invariant-loop-number : goal.invariant-loop-number

@@ -1,7 +1,7 @@
 use Rattle.std.proofs.Common.{◌≡◌, ◌<◌, ℕ, get_or, take}
 use Rattle.lay_point.specs.declared.point.Point.{Point}
-use Rattle.face_sweep.specs.Stops.{HasTopPlace, edge_tops}
-use Rattle.face_sweep.proofs.stops.tops_of.Given as goal
+use Rattle.face_sweep.specs.Ends.{HasTopPlace, edge_tops}
+use Rattle.face_sweep.proofs.ends.tops_of.Given as goal
 
 -- where those of the edges so far end
 abbrev pub invariant-loop-number : goal.invariant-loop-number
