@@ -63,7 +63,8 @@ impl Bands for ScopedBands {
 ///
 /// # Cost
 ///
-/// That of `label` for each band, in as many threads as there are workers; what all bands share is found once.
+/// That of `label` for each band, in as many threads as there are workers. What all bands share is found once, and
+/// the edges' ends are sorted for it in as many threads as there are processors.
 pub fn label_in_bands<R: Threads + Sync, G: Gate + Sync>(
     rt: &R,
     alloc: Global,
@@ -76,7 +77,7 @@ pub fn label_in_bands<R: Threads + Sync, G: Gate + Sync>(
     ensures { IfOk result (λ labels. labels.items ≡ labels_of op edges.now) }
 {
     let cuts = cuts_of(alloc, edges.edges(), usize::from(workers))?;
-    let shared = Shared::of_edges(alloc, edges)?;
+    let shared = Shared::of_edges_in_threads(rt, alloc, edges)?;
     let parts = parts_of(rt, alloc, edges, &shared, cuts.as_slice(), gate, op)?;
     let numbered = joined(alloc, parts)?;
     let labels = in_order(alloc, edges.edges().len(), numbered.as_slice())?;

@@ -6,6 +6,7 @@ use face_sweep::{Reach, Stops};
 use lay_point::NoMemory;
 use snap_chains::CleanEdges;
 use std::alloc::Global;
+use std::thread::Threads;
 
 /// What the sweeps of all bands of the same edges look at, so that it is found once.
 #[derive(Debug, Drop)]
@@ -32,6 +33,27 @@ impl Shared {
     {
         let reach = Reach::of_edges(alloc, edges)?;
         let stops = Stops::of_edges(alloc, edges)?;
+        Ok(Shared { reach, stops })
+    }
+
+    /// Returns the same as `of_edges`. The edges' ends are sorted in as many threads as there are processors.
+    ///
+    /// # Errors
+    ///
+    /// `NoMemory`, if an allocation fails.
+    ///
+    /// # Cost
+    ///
+    /// That of `of_edges`.
+    pub fn of_edges_in_threads(
+        rt: &(impl Threads + Sync),
+        alloc: Global,
+        edges: &CleanEdges,
+    ) -> Result<Shared, NoMemory>
+        ensures { IfOk result (IsShared edges.now) }
+    {
+        let reach = Reach::of_edges(alloc, edges)?;
+        let stops = Stops::of_edges_in_threads(rt, alloc, edges)?;
         Ok(Shared { reach, stops })
     }
 }

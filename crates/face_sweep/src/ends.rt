@@ -23,7 +23,9 @@ ghost use Rattle.face_sweep.specs.Ends.{
 
 use face_rows::upward;
 use lay_point::{Edge, Point};
+use rayon::slice::par_sort_unstable;
 use std::alloc::{AllocError, Global};
+use std::thread::Threads;
 
 /// A point, as one number. These numbers are in the order of the sweep: by rows upward, and in a row from right
 /// to left.
@@ -149,6 +151,16 @@ impl Ends {
         let mut ends = self;
         ends.begins.sort_unstable();
         ends.tops.sort_unstable();
+        ends
+    }
+
+    /// Returns the same in the order of the sweep, sorted in as many threads as there are processors.
+    pub(crate) fn sorted_in_threads(self, rt: &(impl Threads + Sync)) -> Ends
+        ensures { AreReordered self result }
+    {
+        let mut ends = self;
+        par_sort_unstable(rt, ends.begins.as_mut_slice());
+        par_sort_unstable(rt, ends.tops.as_mut_slice());
         ends
     }
 }

@@ -39,6 +39,7 @@ use face_rows::Crossing;
 use lay_point::{Edge, NoMemory, Point};
 use snap_chains::CleanEdges;
 use std::alloc::{AllocError, Global};
+use std::thread::Threads;
 
 /// A point at which edges begin or end.
 #[derive(Clone, Copy, Debug)]
@@ -258,6 +259,28 @@ impl Stops {
     {
         let ends = Ends::of_edges(alloc, edges.edges())?;
         let stops = stops_of(alloc, edges, &ends.sorted())?;
+        Ok(stops)
+    }
+
+    /// Returns the same as `of_edges`. The edges' ends are sorted in as many threads as there are processors.
+    ///
+    /// # Errors
+    ///
+    /// `NoMemory`, if an allocation fails.
+    ///
+    /// # Cost
+    ///
+    /// A sort of the edges' ends.
+    pub fn of_edges_in_threads(
+        rt: &(impl Threads + Sync),
+        alloc: Global,
+        edges: &CleanEdges,
+    ) -> Result<Stops, NoMemory>
+        ensures stops { IfOk result (AreStops edges.now) }
+        ensures lesser { IfOk result (λ stops. AreLesserFirst edges.now.0) }
+    {
+        let ends = Ends::of_edges(alloc, edges.edges())?;
+        let stops = stops_of(alloc, edges, &ends.sorted_in_threads(rt))?;
         Ok(stops)
     }
 
