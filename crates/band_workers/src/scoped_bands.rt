@@ -76,8 +76,8 @@ pub fn label_in_bands<R: Threads + Sync, G: Gate + Sync>(
     requires { 1 ≤ workers }
     ensures { IfOk result (λ labels. labels.items ≡ labels_of op edges.now) }
 {
-    let cuts = cuts_of(alloc, edges.edges(), usize::from(workers))?;
     let shared = Shared::of_edges_in_threads(rt, alloc, edges)?;
+    let cuts = cuts_of(alloc, edges.edges(), &shared, usize::from(workers))?;
     let parts = parts_of(rt, alloc, edges, &shared, cuts.as_slice(), gate, op)?;
     let numbered = joined(alloc, parts)?;
     let labels = in_order(alloc, edges.edges().len(), numbered.as_slice())?;

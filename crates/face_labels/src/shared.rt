@@ -1,8 +1,9 @@
 //! What the sweeps of all bands look at.
-ghost use Rattle.std.specs.Prelude.{IfOk};
+ghost use Rattle.std.specs.Prelude.{◌≡◌, IfOk};
+ghost use Rattle.face_sweep.specs.Stops.{stop_list};
 ghost use Rattle.face_labels.specs.RowSides.{IsShared};
 
-use face_sweep::{Reach, Stops};
+use face_sweep::{Reach, Stop, Stops};
 use lay_point::NoMemory;
 use snap_chains::CleanEdges;
 use std::alloc::Global;
@@ -55,5 +56,12 @@ impl Shared {
         let reach = Reach::of_edges(alloc, edges)?;
         let stops = Stops::of_edges_in_threads(rt, alloc, edges)?;
         Ok(Shared { reach, stops })
+    }
+
+    /// Returns the points at which edges begin or end, by rows upward, and in a row from right to left.
+    pub fn stops(&self) -> &[Stop]
+        ensures { result.now ≡ stop_list self.now.stops }
+    {
+        self.stops.stops()
     }
 }
