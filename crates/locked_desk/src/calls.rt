@@ -60,8 +60,7 @@ impl<L: Ledger> Desk<L> {
             return Err(DeskFault::Book(BookFault::NoMemory));
         }
         let opened = self
-            .lock
-            .lock(rt)
+            .entered(rt)
             .open(alloc, &self.origin, *session, own.as_slice(), share);
         let (result, place, base) = match opened {
             Ok(done) => done,
@@ -121,8 +120,7 @@ impl<L: Ledger> Desk<L> {
             commands,
         };
         let committed = self
-            .lock
-            .lock(rt)
+            .entered(rt)
             .commit(alloc, &self.origin, *session, own.as_slice(), share, work);
         // What is left over is dropped here, when the lock has been let go.
         let (result, place, _rest) = match committed {
@@ -198,7 +196,7 @@ impl<L: Ledger> Desk<L> {
         if own.reserve(1).is_err() {
             return Err(DeskFault::Book(BookFault::NoMemory));
         }
-        let changed = self.lock.lock(rt).change(
+        let changed = self.entered(rt).change(
             alloc,
             &self.origin,
             *session,

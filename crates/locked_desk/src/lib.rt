@@ -38,6 +38,7 @@
 //!
 //! - `desk.rt`, `origin.rt`, `seat.rt`, `guarded.rt`, `way.rt`: the desk. Nothing in `guarded.rt` waits.
 //! - `calls.rt`, `shown.rt`, `close.rt`: what a session may ask of it: calls, the layout, its end.
+//! - `entering.rt`: how they get behind its lock.
 //! - `steps.rt`, `sessions.rt`, `run.rt`: the steps of a session, a thread for each, and
 //!   [`run_scripts`], which makes the desk and runs a script for each session. [`SessionGate`] is
 //!   called before each step; no answer depends on it.
@@ -53,6 +54,7 @@
 mod calls;
 mod close;
 mod desk;
+mod entering;
 mod fault;
 mod guarded;
 mod origin;

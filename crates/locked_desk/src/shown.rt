@@ -33,8 +33,7 @@ impl<L: Ledger> Desk<L> {
         ensures fault { IfErr result (λ fault. IsShownFault self.now seat.now fault) }
     {
         let shown = self
-            .lock
-            .lock(rt)
+            .entered(rt)
             .snapshot(alloc, &self.origin, seat.session, seat.own.as_slice());
         match shown {
             Ok((layout, base)) => {
