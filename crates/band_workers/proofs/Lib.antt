@@ -1,2 +1,2 @@
 pub mod AllLabels
-pub mod JoinLemmas
+pub mod WriteLemmas

@@ -4,7 +4,7 @@ use Rattle.snap_chains.specs.Rounded.{Owned}
 use Rattle.face_rows.specs.declared.band.Band.{Band}
 use Rattle.face_rows.specs.declared.op.Op.{Op}
 use Rattle.face_rows.specs.Bands.{labelled}
-use Rattle.band_workers.specs.Joined.{Part}
+use Rattle.band_workers.specs.Written.{Part}
 
 -- the i-th band: from the i-th cut up to the next
 abbrev pub band_at : List ℤ → ℕ → Band

@@ -1,3 +1,3 @@
 pub mod Cuts
-pub mod Joined
 pub mod Labels
+pub mod Written

@@ -14,9 +14,9 @@
 mod bands;
 mod cuts;
 mod gate;
-mod joined;
 mod one_band;
 mod scoped_bands;
+mod written;
 
 pub use bands::Bands;
 pub use gate::{Gate, OpenGate};

@@ -7,7 +7,7 @@ ghost use Rattle.band_workers.specs.Labels.{labels_of};
 use crate::bands::Bands;
 use crate::cuts::cuts_of;
 use crate::gate::{Gate, OpenGate};
-use crate::joined::{in_order, joined};
+use crate::written::written;
 use face_labels::{Shared, label_sharing};
 use face_rows::{Band, Op};
 use lay_point::NoMemory;
@@ -79,9 +79,7 @@ pub fn label_in_bands<R: Threads + Sync, G: Gate + Sync>(
     let shared = Shared::of_edges_in_threads(rt, alloc, edges)?;
     let cuts = cuts_of(alloc, edges.edges(), &shared, usize::from(workers))?;
     let parts = parts_of(rt, alloc, edges, &shared, cuts.as_slice(), gate, op)?;
-    let numbered = joined(alloc, parts)?;
-    let labels = in_order(alloc, edges.edges().len(), numbered.as_slice())?;
-    Ok(labels)
+    written(alloc, edges.edges().len(), parts)
 }
 
 /// Returns what the workers give back, in the order of their bands, the i-th of which is from the i-th cut

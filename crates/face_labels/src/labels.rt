@@ -1,9 +1,12 @@
 //! Labels: whether an operation's answers differ on the two sides of an edge.
 ghost use Rattle.std.specs.Prelude.{◌≡◌, ◌<◌, ℕ, IfOk, int_lt, length, true};
 ghost use Rattle.std.specs.List.{zip};
+ghost use Rattle.lay_point.specs.Rising.{IsRising};
 ghost use Rattle.face_rows.specs.Bands.{begins_in, labelled};
 ghost use Rattle.face_rows.specs.Lines.{edge_at};
 ghost use Rattle.face_rows.specs.Picked.{picked};
+ghost use Rattle.face_sweep.specs.Points.{IsAfter};
+ghost use Rattle.face_sweep.specs.Stops.{stop_points};
 ghost use Rattle.face_labels.specs.RowSides.{HasLabel, IsShared};
 
 use crate::line::Line;
@@ -61,7 +64,8 @@ pub fn label_sharing(
     ensures { IfOk result (λ labels. labels.items ≡ labelled op edges.now band) }
 {
     let labels = labels_at(alloc, edges, shared, band, op)?;
-    let numbered = numbered(alloc, edges.edges(), band, labels.as_slice())?;
+    let room = begun_count(shared, band);
+    let numbered = numbered(alloc, edges.edges(), band, labels.as_slice(), room)?;
     Ok(numbered)
 }
 
@@ -103,18 +107,33 @@ fn is_below(stop: Stop, row: i64) -> bool
     i64::from(stop.point.y) < row
 }
 
-/// Returns those of the labels that belong to edges of the band, with the edges' numbers.
+/// Returns how many edges begin at the stops of the band.
+fn begun_count(shared: &Shared, band: Band) -> usize
+    requires { IsRising IsAfter (stop_points shared.now.stops) }
+{
+    let stops = shared.stops.stops();
+    let first = shared.stops.first_from(band.low);
+    let end = shared.stops.first_from(band.high);
+    if end <= first {
+        return 0;
+    }
+    stops[end - 1].to.saturating_sub(stops[first].from)
+}
+
+/// Returns those of the labels that belong to edges of the band, with the edges' numbers. There is room for so many
+/// from the start.
 fn numbered(
     alloc: Global,
     edges: &[Edge],
     band: Band,
     labels: &[bool],
+    room: usize,
 ) -> Result<Vec<(usize, bool)>, AllocError>
     requires { length labels.now ≡ length edges.now }
     ensures { IfOk result (λ numbered. numbered.items
         ≡ picked (λ p. begins_in band p.0) (λ n p. (n, p.1)) 0 (zip edges.now labels.now)) }
 {
-    let mut numbered = Vec::new(alloc);
+    let mut numbered = Vec::with_capacity(alloc, room)?;
     for number in 0..edges.len() {
         if band.has(edges[number]) {
             numbered.push((number, labels[number]))?;

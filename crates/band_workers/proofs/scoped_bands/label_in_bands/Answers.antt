@@ -1,19 +1,18 @@
--- The parts are those of bands that hold all edges, so that joined and put in order they are all labels.
+-- The parts are those of bands that hold all edges, so that written into one list they are all labels.
 use Rattle.std.proofs.Common.{rules}
-use Rattle.band_workers.proofs.JoinLemmas.{AreParts, are_within, in_order_is}
+use Rattle.band_workers.proofs.WriteLemmas.{AreParts, are_below, written_is}
 use Rattle.band_workers.proofs.scoped_bands.label_in_bands.Goals as goal
 
-pub in_order-requires : goal.in_order-requires
-in_order-requires g c =
+pub written-requires : goal.written-requires
+written-requires g c =
     let parts : AreParts c.args.op c.args.edges.now c.in_ok-cuts.cuts.items c.in_ok-parts.parts.items = record {
       paired = c.edges.ensures.paired;
       count = search rules;
       each = search rules;
       whole = search rules;
     } in
-    let within = are_within c.args.op c.args.edges.now c.in_ok-cuts.cuts.items c.in_ok-parts.parts.items c.in_ok-numbered.numbered.items
-    parts c.in_ok-numbered.ensures in
-    search (rules, within)
+    let below = are_below c.args.op c.args.edges.now c.in_ok-cuts.cuts.items c.in_ok-parts.parts.items parts in
+    search (rules, below)
 
 pub returns : goal.returns
 returns g c =
@@ -23,6 +22,5 @@ returns g c =
       each = search rules;
       whole = search rules;
     } in
-    let in_order = in_order_is c.args.op c.args.edges.now c.in_ok-cuts.cuts.items c.in_ok-parts.parts.items
-    c.in_ok-numbered.numbered.items parts c.in_ok-numbered.ensures in
-    search (rules, in_order)
+    let written = written_is c.args.op c.args.edges.now c.in_ok-cuts.cuts.items c.in_ok-parts.parts.items parts in
+    search (rules, written)

@@ -1,13 +1,15 @@
--- The workers' labels, joined and put in order, are those of all edges.
+-- The workers' labels, written into one list, are those of all edges.
 use Rattle.std.proofs.Common.{◌≡◌, ◌≢◌, ◌⊎◌, inl, inr, ℕ, zero, suc, ◌+◌, ◌-◌, ◌<◌, Bool, true, false, List, [], ◌∷◌, ◌++◌}
 use Rattle.std.proofs.Common.{rules, length, get_or, replicate, Ok, Err, Contains, refl, sym, ap, subst, ◌∙◌, arith}
-use Rattle.std.specs.Prelude.{ℤ, pos, int_le, int_lt, slice_set}
+use Rattle.std.specs.Prelude.{ℤ, pos, IfOk, Result, int_le, int_lt, slice_set}
 use Rattle.std.specs.Global.{Vec}
 use Rattle.std.specs.List.{AllByRecursion}
 use Rattle.std.proofs.lemmas.Int.{ints}
 use Rattle.std.proofs.lemmas.List.{ext_get_or, get_or-map, get_or-set_other, get_or-set_same, length-map, length-replicate, length-set}
 use Rattle.std.proofs.lemmas.Slice.Zip.{length-zip}
 use Rattle.std.proofs.lemmas.Bool.{and_parts}
+use Rattle.std.proofs.lemmas.List.Elements.{recursion_from_All}
+use Rattle.lay_point.specs.declared.memory.NoMemory.{NoMemory}
 use Rattle.lay_point.specs.declared.point.Point.{Point}
 use Rattle.lay_point.proofs.Members.{Has, contains, has-append, has-append_left, has-append_right}
 use Rattle.snap_chains.specs.Rounded.{Owned}
@@ -21,10 +23,33 @@ use Rattle.face_rows.proofs.PickedLemmas.{picked_has, picked_of}
 use Rattle.face_rows.proofs.SideLemmas.{zip_first}
 use Rattle.lay_point.proofs.Tests.{le_true, lt_false, lt_true, true_le}
 use Rattle.band_workers.specs.Cuts.{IsLabelled, band_at, whole_band}
-use Rattle.band_workers.specs.Joined.{AreNumbersBelow, Part, joined_onto, with_labels}
+use Rattle.band_workers.specs.Written.{AreNumbersBelow, ArePartsBelow, Part, with_labels, with_parts}
 use Rattle.band_workers.specs.Labels.{labels_of}
 
 -- ---- joining
+
+-- the labels so far with those of the parts behind them; or a part is out of memory
+abbrev joined_onto : List (ℕ × Bool) → List Part → Result (List (ℕ × Bool)) NoMemory
+joined_onto numbered [] = Ok numbered
+joined_onto numbered (Ok labels ∷ parts) = joined_onto (numbered ++ labels.items) parts
+joined_onto numbered (Err fault ∷ parts) = Err fault
+
+with_both : (labels : List Bool) (ps qs : List (ℕ × Bool)) → with_labels labels (ps ++ qs) ≡ with_labels (with_labels labels ps) qs
+with_both labels [] qs = refl
+with_both labels (p ∷ ps) qs = with_both (slice_set labels p.0 p.1) ps qs
+
+-- what is written part by part is what the joined labels give
+abbrev IsWrittenJoined : List Bool → List (ℕ × Bool) → List Part → List Bool → Type 0
+IsWrittenJoined first before parts labels =
+    (all : List (ℕ × Bool)) × (joined_onto before parts ≡ Ok all) × (with_labels first all ≡ labels)
+
+written_joined : (first : List Bool) (before : List (ℕ × Bool)) (parts : List Part) (labels : List Bool)
+    → with_parts (with_labels first before) parts ≡ Ok labels → IsWrittenJoined first before parts labels
+written_joined first before [] labels is = let same : with_labels first before ≡ labels = search rules in (before, refl, same)
+written_joined first before (Err fault ∷ parts) labels is = absurd cc
+written_joined first before (Ok part ∷ parts) labels is =
+    written_joined first (before ++ part.items) parts labels
+    (subst (λ l. with_parts l parts ≡ Ok labels) (sym (with_both first before part.items)) is)
 
 -- all labels of this part are among the joined ones
 abbrev AllAmong : List (ℕ × Bool) → Part → Type 0
@@ -152,8 +177,7 @@ pub record AreParts (op : Op) (r : Owned) (cuts : List ℤ) (parts : List Part) 
   pub each : (i : ℕ) (d : Part) → i < length parts → IsLabelled op r (band_at cuts i) (get_or parts i d)
   pub whole : (e : Point × Point) → Contains r.0 e → begins_in (whole_band cuts) e ≡ true
 
-module _ (op : Op) (r : Owned) (cuts : List ℤ) (parts : List Part) (all : List (ℕ × Bool)) (h : AreParts op r cuts parts)
-    (joined : joined_onto [] parts ≡ Ok all) where
+module _ (op : Op) (r : Owned) (cuts : List ℤ) (parts : List Part) (h : AreParts op r cuts parts) where
   abbrev wanted : List Bool
   wanted = labels_of op r
 
@@ -172,29 +196,41 @@ module _ (op : Op) (r : Owned) (cuts : List ℤ) (parts : List Part) (all : List
   len_wanted : length wanted ≡ length r.0
   len_wanted = length-map (owned_items r) label ∙ len_items
 
-  right : (p : ℕ × Bool) → Has all p → IsRight wanted p
-  right p m = elim ((is_join [] parts all joined).from p m) [
+  right_of : (band : Band) (labels : List (ℕ × Bool)) → labels ≡ labelled op r band → (p : ℕ × Bool) → Has labels p → IsRight wanted p
+  right_of band labels items p m =
+      let q = picked_of (λ p. begins_in band p.0) (λ n p. (n, label p)) 0 (owned_items r) p (subst (λ l. Has l p) items m) in
+      let is = q.is no_item in
+      let plain : 0 + q.index ≡ q.index = omega arith in
+      let at : q.index ≡ p.0 = sym plain ∙ ap (λ (z : ℕ × Bool). z.0) is in
+      record {
+        within = omega (arith, at, q.inside, len_wanted, len_items);
+        is = ap (λ i. get_or wanted i false) (sym at) ∙ get_or-map label (owned_items r) q.index no_item false q.inside
+            ∙ ap (λ (z : ℕ × Bool). z.1) is;
+      }
+
+  part_below : (band : Band) (part : Part) → IsLabelled op r band part → IfOk part (λ labels. AreNumbersBelow (length r.0) labels.items)
+  part_below band (Err fault) is = tt
+  part_below band (Ok labels) is =
+      all_has (λ p. p.0 < length r.0) labels.items
+      (λ p m. let w = (right_of band labels.items is p m).within in omega (arith, w, len_wanted))
+
+  pub are_below : ArePartsBelow (length r.0) parts
+  are_below = recursion_from_All (λ (part : Part). IfOk part (λ labels. AreNumbersBelow (length r.0) labels.items)) parts
+      (λ i d less. part_below (band_at cuts i) (get_or parts i d) (h.each i d less))
+
+  right : (all : List (ℕ × Bool)) → joined_onto [] parts ≡ Ok all → (p : ℕ × Bool) → Has all p → IsRight wanted p
+  right all joined p m = elim ((is_join [] parts all joined).from p m) [
     | inl none ↦ absurd none
     | inr from ↦
         let labels = from.1 in
-        let items = of_ok op r (band_at cuts from.0) (get_or parts from.0 no_part) labels (from.3.0 no_part)
-        (h.each from.0 no_part from.2) in
-        let q = picked_of (λ p. begins_in (band_at cuts from.0) p.0) (λ n p. (n, label p)) 0 (owned_items r) p
-        (subst (λ l. Has l p) items from.3.1) in
-        let is = q.is no_item in
-        let plain : 0 + q.index ≡ q.index = omega arith in
-        let at : q.index ≡ p.0 = sym plain ∙ ap (λ (z : ℕ × Bool). z.0) is in
-        record {
-          within = omega (arith, at, q.inside, len_wanted, len_items);
-          is = ap (λ i. get_or wanted i false) (sym at) ∙ get_or-map label (owned_items r) q.index no_item false q.inside
-              ∙ ap (λ (z : ℕ × Bool). z.1) is;
-        }
+        right_of (band_at cuts from.0) labels.items
+        (of_ok op r (band_at cuts from.0) (get_or parts from.0 no_part) labels (from.3.0 no_part) (h.each from.0 no_part from.2)) p from.3.1
   ]
 
   -- an edge in whose band's part its label is given
-  in_part : (n i : ℕ) → n < length (owned_items r) → i < length parts
+  in_part : (all : List (ℕ × Bool)) → joined_onto [] parts ≡ Ok all → (n i : ℕ) → n < length (owned_items r) → i < length parts
       → begins_in (band_at cuts i) (get_or (owned_items r) n no_item).0 ≡ true → Numbered n all
-  in_part n i inside less begins =
+  in_part all joined n i inside less begins =
       let part = get_or parts i no_part in
       let among : AllAmong all part = (is_join [] parts all joined).each i no_part less in
       let items : among.0.items ≡ labelled op r (band_at cuts i) =
@@ -216,17 +252,17 @@ module _ (op : Op) (r : Owned) (cuts : List ℤ) (parts : List Part) (all : List
       let b = between cuts (upward e).0.y (length cuts - 1) both.0 both.1 in
       (b.0, omega (arith, b.1, h.count), rw (b.2, b.3) refl)
 
-  some : (n : ℕ) → n < length wanted → Numbered n all
-  some n less =
+  some : (all : List (ℕ × Bool)) → joined_onto [] parts ≡ Ok all → (n : ℕ) → n < length wanted → Numbered n all
+  some all joined n less =
       let inside : n < length (owned_items r) = omega (arith, less, len_wanted, len_items) in
       let item = get_or (owned_items r) n no_item in
       let given : Contains r.0 item.0 = contains r.0 item.0 (zip_first r.0 r.1 item (has_get_or (owned_items r) n no_item inside)) in
       let band = in_band item.0 (h.whole item.0 given) in
-      in_part n band.0 inside band.1 band.2
+      in_part all joined n band.0 inside band.1 band.2
 
-  pub are_within : AreNumbersBelow (length r.0) all
-  are_within = all_has (λ p. p.0 < length r.0) all (λ p m. let w = (right p m).within in omega (arith, w, len_wanted))
-
-  pub in_order_is : with_labels (replicate (length r.0) false) all ≡ labels_of op r
-  in_order_is = put_right wanted (replicate (length r.0) false) all (length-replicate (length r.0) false ∙ sym len_wanted)
-      (all_has (IsRight wanted) all right) (λ n less. inr (some n less))
+  pub written_is : (labels : List Bool) → with_parts (replicate (length r.0) false) parts ≡ Ok labels → labels ≡ labels_of op r
+  written_is labels is =
+      let j = written_joined (replicate (length r.0) false) [] parts labels is in
+      sym j.2
+      ∙ put_right wanted (replicate (length r.0) false) j.0 (length-replicate (length r.0) false ∙ sym len_wanted)
+      (all_has (IsRight wanted) j.0 (right j.0 j.1)) (λ n less. inr (some j.0 j.1 n less))
