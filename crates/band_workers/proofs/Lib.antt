@@ -1,2 +1,1 @@
-pub mod AllLabels
 pub mod WriteLemmas

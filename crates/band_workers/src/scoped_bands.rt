@@ -8,7 +8,7 @@ use crate::bands::Bands;
 use crate::cuts::cuts_of;
 use crate::gate::{Gate, OpenGate};
 use crate::written::written;
-use face_labels::{Shared, label_sharing};
+use face_labels::{Shared, label_edges, label_sharing};
 use face_rows::{Band, Op};
 use lay_point::NoMemory;
 use snap_chains::CleanEdges;
@@ -54,8 +54,8 @@ impl Bands for ScopedBands {
 
 /// Returns for each edge, in order, whether the operation's answers differ on its two sides. The rows are
 /// cut into as many bands of consecutive rows as there are workers, and each is labelled in a thread of its
-/// own where one can be started, and else on the caller's. All threads look at the same edges, and each
-/// passes the gate first and gives its list back as it ends.
+/// own where one can be started, and else on the caller's, as a band is that is the only one. All threads look
+/// at the same edges, and each passes the gate first and gives its list back as it ends.
 ///
 /// # Errors
 ///
@@ -77,6 +77,10 @@ pub fn label_in_bands<R: Threads + Sync, G: Gate + Sync>(
     ensures { IfOk result (λ labels. labels.items ≡ labels_of op edges.now) }
 {
     let shared = Shared::of_edges_in_threads(rt, alloc, edges)?;
+    if workers == 1 {
+        gate.pass(0);
+        return label_edges(alloc, edges, &shared, op);
+    }
     let cuts = cuts_of(alloc, edges.edges(), &shared, usize::from(workers))?;
     let parts = parts_of(rt, alloc, edges, &shared, cuts.as_slice(), gate, op)?;
     written(alloc, edges.edges().len(), parts)

@@ -1,10 +1,11 @@
 -- The labels that are written.
 use Rattle.std.proofs.Common.{◌≡◌, ℕ, zero, suc, ◌+◌, ◌<◌, Bool, true, false, cond, List, [], ◌∷◌}
-use Rattle.std.proofs.Common.{length, get_or, set, refl, sym, subst, ◌∙◌, arith}
+use Rattle.std.proofs.Common.{length, get_or, map, set, refl, sym, ap, subst, ◌∙◌, arith}
 use Rattle.std.specs.Prelude.{All, nat_eq}
 use Rattle.std.specs.List.{zip}
 use Rattle.std.proofs.lemmas.Bool.Decides.{Decides-eqb}
-use Rattle.std.proofs.lemmas.List.{get_or-set_other, get_or-set_same, get_or_default}
+use Rattle.std.proofs.lemmas.List.{ext_get_or, get_or-map, get_or-set_other, get_or-set_same, get_or_default, length-map}
+use Rattle.std.proofs.lemmas.Slice.Zip.{get_or-zip, length-zip}
 use Rattle.lay_point.specs.declared.point.Point.{Point}
 use Rattle.snap_chains.specs.declared.owner.Owner.{Owner}
 use Rattle.snap_chains.specs.Rounded.{Owned}
@@ -66,3 +67,17 @@ pub labels_of_band : (op : Op) (r : Owned) (band : Band) (labels : List Bool) �
     → written_labels band 0 (zip r.0 labels) ≡ labelled op r band
 labels_of_band op r band labels paired count all =
     picked_labels band (differs (answer op) (owned_items r)) 0 r.0 labels r.1 count paired all
+
+-- ---- the labels of all edges
+pub labels_of_all : (op : Op) (r : Owned) (labels : List Bool) → length r.1 ≡ length r.0 → length labels ≡ length r.0
+    → ((n : ℕ) → n < length r.0 → HasLabel op r labels n) → labels ≡ map (differs (answer op) (owned_items r)) (owned_items r)
+labels_of_all op r labels paired count all =
+    let label = differs (answer op) (owned_items r) in
+    let items = length-zip r.0 r.1 in
+    let same : length labels ≡ length (map label (owned_items r)) = omega (arith, items, paired, count, length-map (owned_items r) label) in
+    ext_get_or false labels (map label (owned_items r)) same (λ n less.
+    let inside : n < length r.0 = omega (arith, count) in
+    let owned : n < length r.1 = omega (arith, paired) in
+    let at = get_or-zip r.0 r.1 n (nowhere, []) inside owned in
+    all n inside ∙ ap label (sym at)
+    ∙ sym (get_or-map label (owned_items r) n (nowhere, []) false (omega (arith, items, paired))))

@@ -1,9 +1,11 @@
 //! Labels: whether an operation's answers differ on the two sides of an edge.
-ghost use Rattle.std.specs.Prelude.{◌≡◌, ◌<◌, ℕ, IfOk, int_lt, length, true};
+ghost use Rattle.std.specs.Prelude.{◌≡◌, ◌<◌, ℕ, IfOk, int_lt, length, map, true};
 ghost use Rattle.std.specs.List.{zip};
 ghost use Rattle.lay_point.specs.Rising.{IsRising};
 ghost use Rattle.face_rows.specs.Bands.{begins_in, labelled};
+ghost use Rattle.face_rows.specs.Labels.{differs, owned_items};
 ghost use Rattle.face_rows.specs.Lines.{edge_at};
+ghost use Rattle.face_rows.specs.Operations.{answer};
 ghost use Rattle.face_rows.specs.Picked.{picked};
 ghost use Rattle.face_sweep.specs.Points.{IsAfter};
 ghost use Rattle.face_sweep.specs.Stops.{stop_points};
@@ -67,6 +69,30 @@ pub fn label_sharing(
     let room = begun_count(shared, band);
     let numbered = numbered(alloc, edges.edges(), band, labels.as_slice(), room)?;
     Ok(numbered)
+}
+
+/// Returns for each edge, in order, whether the operation's answers differ on its two sides. These are the labels
+/// of [`label`] for a band in which all edges begin, without the edges' numbers.
+///
+/// # Errors
+///
+/// `NoMemory`, if an allocation fails.
+///
+/// # Cost
+///
+/// That of [`label_sharing`] for such a band.
+pub fn label_edges(
+    alloc: Global,
+    edges: &CleanEdges,
+    shared: &Shared,
+    op: Op,
+) -> Result<Vec<bool>, NoMemory>
+    requires { IsShared edges.now shared.now }
+    ensures { IfOk result (λ labels. labels.items
+        ≡ map (differs (answer op) (owned_items edges.now)) (owned_items edges.now)) }
+{
+    let labels = labels_at(alloc, edges, shared, Band::of(edges.edges()), op)?;
+    Ok(labels)
 }
 
 /// Returns for each edge whether the operation's answers differ on its two sides, if it is one of those that begin

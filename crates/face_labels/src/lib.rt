@@ -16,7 +16,8 @@
 //! that rise from the point, and these are judged, from right to left, and put into the lists.
 //!
 //! [`Shared`] is what the sweeps of all bands look at: the stops, the boxes of the shapes, and which shapes need
-//! lists. It is made once and lent to each band ([`label_sharing`]). The lists are each band's own.
+//! lists. It is made once and lent to each band ([`label_sharing`]). The lists are each band's own. [`label_edges`]
+//! gives the labels of all edges as one list.
 //!
 //! ```text
 //! let clean = round(rt, alloc, &rings)?;
@@ -31,5 +32,5 @@ mod labels;
 mod line;
 mod shared;
 
-pub use labels::{label, label_sharing};
+pub use labels::{label, label_edges, label_sharing};
 pub use shared::Shared;
