@@ -10,8 +10,8 @@ use std::marker::Model;
 /// Where a list begins, and where it ends.
 #[derive(Clone, Copy, Debug)]
 pub(crate) struct Part {
-    pub from: usize,
-    pub to: usize,
+    pub from: u32,
+    pub to: u32,
 }
 
 /// A list of owners for each of some edges, all in one. Contracts see the list of the lists.
@@ -58,6 +58,6 @@ impl OwnerLists {
         ensures { slice_get self.now number ≡ Some result.now }
     {
         let part = self.parts[number];
-        &self.owners[part.from..part.to]
+        &self.owners[part.from as usize..part.to as usize]
     }
 }

@@ -20,7 +20,7 @@ use std::thread::Threads;
 ///
 /// # Errors
 ///
-/// `AllocError`, if an allocation fails.
+/// `AllocError`, if an allocation fails, and where there are 2^32 owners or more.
 ///
 /// # Cost
 ///
@@ -67,14 +67,25 @@ fn read_sorted(
     let mut rest = passes;
     while let Some((first, _)) = rest.split_first() {
         let (group, later) = rest.split_at(group_length(rest));
-        let from = owners.len();
+        let from = count_of(&owners)?;
         add_odd(&mut owners, group, (first.low, first.high))?;
-        let to = owners.len();
+        let to = count_of(&owners)?;
         parts.push(Part { from, to })?;
         edges.push(edge_at(*first, centres))?;
         rest = later;
     }
     Ok((edges, OwnerLists { owners, parts }))
+}
+
+/// Returns how many owners there are, if a number of 32 bits can say it.
+fn count_of(owners: &Vec<Owner>) -> Result<u32, AllocError>
+    ensures { IfOk result (λ count. count ≡ length owners.now.items) }
+{
+    let count = owners.len();
+    if count > u32::MAX as usize {
+        return Err(AllocError);
+    }
+    Ok(count as u32)
 }
 
 /// Returns how many of the passes, from the first on, go the first's edge.
