@@ -1,15 +1,20 @@
 //! Where edges begin and where they end, in the order of the sweep.
 ghost use Rattle.std.specs.Prelude.{◌≡◌, ◌<◌, ◌≤◌, ◌^◌, false, All, IfOk, IsTrue, int_le};
+ghost use Rattle.std.specs.List.Sorted.{IsPermutation, IsSorted};
 ghost use Rattle.lay_point.specs.Edges.{is_before};
 ghost use Rattle.face_rows.specs.Laws.{AreLesserFirst};
 ghost use Rattle.face_sweep.specs.Ends.{
-  AreReordered,
+  AreBegins,
   AreMadeEnds,
+  AreReordered,
+  AreSortedEnds,
+  AreTops,
   HasLowPlace,
   HasTopPlace,
   IsNoLater,
   IsSooner,
   above_least,
+  begin_cmp,
   begin_number,
   begin_of,
   edge_begins,
@@ -17,6 +22,7 @@ ghost use Rattle.face_sweep.specs.Ends.{
   from_least,
   is_level,
   level_part,
+  place_cmp,
   sweep_place,
   swept_point,
 };
@@ -25,7 +31,7 @@ use face_rows::upward;
 use lay_point::{Edge, Point};
 use rayon::slice::par_sort_unstable;
 use std::alloc::{AllocError, Global};
-use std::thread::Threads;
+use std::thread::{self, Threads};
 
 /// A point, as one number. These numbers are in the order of the sweep: by rows upward, and in a row from right
 /// to left.
@@ -154,15 +160,74 @@ impl Ends {
         ends
     }
 
-    /// Returns the same in the order of the sweep, sorted in as many threads as there are processors.
-    pub(crate) fn sorted_in_threads(self, rt: &(impl Threads + Sync)) -> Ends
-        ensures { AreReordered self result }
+    /// Returns where the edges begin and end, in the order of the sweep. The begins are found in one thread and the
+    /// tops in another, and both are sorted in as many as there are processors.
+    pub(crate) fn in_threads(
+        rt: &(impl Threads + Sync),
+        alloc: Global,
+        edges: &[Edge],
+    ) -> Result<Ends, AllocError>
+        ensures ends { IfOk result (AreSortedEnds edges.now) }
+        ensures lesser { IfOk result (λ ends. AreLesserFirst edges.now) }
     {
-        let mut ends = self;
-        par_sort_unstable(rt, ends.begins.as_mut_slice());
-        par_sort_unstable(rt, ends.tops.as_mut_slice());
-        ends
+        let tops = || -> Result<Vec<Place>, AllocError>
+            ensures { IfOk result (λ tops. AreTops edges.entry.now tops.items) }
+        { tops_in_order(rt, alloc, edges) };
+        let begins = || -> Result<Vec<Begin>, AllocError>
+            ensures begins { IfOk result (λ begins. AreBegins edges.entry.now begins.items) }
+            ensures lesser { IfOk result (λ begins. AreLesserFirst edges.entry.now) }
+        { begins_in_order(rt, alloc, edges) };
+        let (tops, begins) = thread::join(rt, tops, begins);
+        Ok(Ends {
+            begins: begins?,
+            tops: tops?,
+        })
     }
+}
+
+/// Returns where the edges begin, in the order of the sweep.
+fn begins_in_order(
+    rt: &(impl Threads + Sync),
+    alloc: Global,
+    edges: &[Edge],
+) -> Result<Vec<Begin>, AllocError>
+    ensures begins { IfOk result (λ begins. AreBegins edges.now begins.items) }
+    ensures lesser { IfOk result (λ begins. AreLesserFirst edges.now) }
+{
+    let begins = begins_of(alloc, edges)?;
+    Ok(sorted_begins(rt, begins))
+}
+
+/// Returns the same in the order of the sweep.
+fn sorted_begins(rt: &(impl Threads + Sync), begins: Vec<Begin>) -> Vec<Begin>
+    ensures permutation { IsPermutation begins.items result.items }
+    ensures sorted { IsSorted begin_cmp result.items }
+{
+    let mut begins = begins;
+    par_sort_unstable(rt, begins.as_mut_slice());
+    begins
+}
+
+/// Returns where the edges end, in the order of the sweep.
+fn tops_in_order(
+    rt: &(impl Threads + Sync),
+    alloc: Global,
+    edges: &[Edge],
+) -> Result<Vec<Place>, AllocError>
+    ensures { IfOk result (λ tops. AreTops edges.now tops.items) }
+{
+    let tops = tops_of(alloc, edges)?;
+    Ok(sorted_tops(rt, tops))
+}
+
+/// Returns the same in the order of the sweep.
+fn sorted_tops(rt: &(impl Threads + Sync), tops: Vec<Place>) -> Vec<Place>
+    ensures permutation { IsPermutation tops.items result.items }
+    ensures sorted { IsSorted place_cmp result.items }
+{
+    let mut tops = tops;
+    par_sort_unstable(rt, tops.as_mut_slice());
+    tops
 }
 
 /// Returns where the edges begin.

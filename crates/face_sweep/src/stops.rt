@@ -262,7 +262,8 @@ impl Stops {
         Ok(stops)
     }
 
-    /// Returns the same as `of_edges`. The edges' ends are sorted in as many threads as there are processors.
+    /// Returns the same as `of_edges`. The edges' ends are found in two threads, and sorted in as many as there are
+    /// processors.
     ///
     /// # Errors
     ///
@@ -279,8 +280,8 @@ impl Stops {
         ensures stops { IfOk result (AreStops edges.now) }
         ensures lesser { IfOk result (λ stops. AreLesserFirst edges.now.0) }
     {
-        let ends = Ends::of_edges(alloc, edges.edges())?;
-        let stops = stops_of(alloc, edges, &ends.sorted_in_threads(rt))?;
+        let ends = Ends::in_threads(rt, alloc, edges.edges())?;
+        let stops = stops_of(alloc, edges, &ends)?;
         Ok(stops)
     }
 
