@@ -3,7 +3,8 @@
 //! `Bands::label_all` says for each edge of the rounded inputs whether it is one of an operation's
 //! edges: whether the operation's answers differ on its two sides (`face_rows/specs/Labels.antt`).
 //! Its law determines the answer, however the edges are shared out. `OneBand` labels them all on
-//! the caller's thread.
+//! the caller's thread, `ScopedBands` a band in each of its threads. What a sweep looks at is found
+//! before, once and in threads (`face_labels::Shared`).
 //!
 //! ```
 //! let clean = round(rt, alloc, &rings)?;

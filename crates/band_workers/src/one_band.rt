@@ -7,8 +7,8 @@ use snap_chains::CleanEdges;
 use std::alloc::Global;
 use std::thread::Threads;
 
-/// Labels all edges in one band, on the caller's thread. Their ends are sorted before in as many threads as there
-/// are processors.
+/// Labels all edges in one band, on the caller's thread. What the sweep looks at is found before, in threads if there
+/// are many edges.
 #[derive(Clone, Copy, Debug, PartialEq, Eq)]
 pub struct OneBand;
 

@@ -63,8 +63,8 @@ impl Bands for ScopedBands {
 ///
 /// # Cost
 ///
-/// That of `label` for each band, in as many threads as there are workers. What all bands share is found once, and
-/// the edges' ends are sorted for it in as many threads as there are processors.
+/// That of `label` for each band, in as many threads as there are workers. What all bands share is found once, in as
+/// many threads as there are processors if there are many edges.
 pub fn label_in_bands<R: Threads + Sync, G: Gate + Sync>(
     rt: &R,
     alloc: Global,
