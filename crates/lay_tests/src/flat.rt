@@ -88,3 +88,30 @@ fn the_most_walks_are_flattened(rt: HostRuntime) -> Result<(), Fail> {
     assert_eq!(rt; fault, Some(FlatFault::TooMany));
     Ok(())
 }
+
+/// Returns a text of so many symbols, of which each but the last calls the next, and the last has a box.
+fn chain(alloc: Global, symbols: u32) -> Result<Vec<u8>, Fail> {
+    let mut text = Vec::new(alloc);
+    for number in 1..symbols {
+        let next = number + 1;
+        write!(text, "DS {number}; C {next}; DF; ")?;
+    }
+    write!(text, "DS {symbols}; L A; B 2 2 0 0; DF; E")?;
+    Ok(text)
+}
+
+// Could catch a depth that counts cells in place of calls, and a chain of the greatest depth that is refused.
+#[test]
+fn a_chain_of_64_calls_is_flattened(rt: HostRuntime) -> Result<(), Fail> {
+    let alloc = rt.alloc();
+    let layer = LayerName::new(b"A").ok_or("no layer name")?;
+    let text = chain(alloc, 65)?;
+    let snapshot = Snapshot::from_cif(alloc, read(alloc, &text)?)?;
+    let flat = flatten(alloc, &snapshot, CellId::Symbol(1), &layer)?;
+    assert_eq!(rt; flat.rings().len(), 1);
+    let text = chain(alloc, 66)?;
+    let snapshot = Snapshot::from_cif(alloc, read(alloc, &text)?)?;
+    let fault = flatten(alloc, &snapshot, CellId::Symbol(1), &layer).err();
+    assert_eq!(rt; fault, Some(FlatFault::TooDeep));
+    Ok(())
+}

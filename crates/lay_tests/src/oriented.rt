@@ -14,8 +14,8 @@ const FIRST: ItemId = ItemId {
     seq: 1,
 };
 
-// Could catch a layout that is given back as it was, with its shapes counted. The path goes round a frame, then round its hole
-// the same way.
+// Could catch a layout that is given back as it was, with its shapes counted, and a shape that is counted though it is seen alike.
+// The path goes round a frame, then round its hole the same way.
 #[test]
 fn a_frame_is_turned(rt: HostRuntime) -> Result<(), Fail> {
     let alloc = rt.alloc();
@@ -26,6 +26,7 @@ fn a_frame_is_turned(rt: HostRuntime) -> Result<(), Fail> {
     assert!(rt; directed.first.is_empty() && directed.layout != layout);
     let again = oriented_layout(alloc, &directed.layout)?;
     assert!(rt; again.layout == directed.layout);
+    assert!(rt; again.staying == 0 && again.first.is_empty());
     Ok(())
 }
 

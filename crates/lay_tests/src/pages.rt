@@ -24,6 +24,11 @@ fn a_page_that_grows_is_cut_when_it_is_full(rt: HostRuntime) -> Result<(), Fail>
         none = none.with(alloc, key, None)?;
     }
     assert!(rt; none.len() == 0 && none.pages() == 0);
+    let mut grown = more.share(alloc)?;
+    for key in 65..129 {
+        grown = grown.with(alloc, key, Some(key))?;
+    }
+    assert!(rt; grown.len() == 129 && grown.pages() == 3);
     assert!(rt; full.len() == 64 && full.get(0) == Some(&0) && full.get(64).is_none());
     assert!(rt; more.get(0) == Some(&0) && less.get(0).is_none() && less.get(64) == Some(&64));
     Ok(())
