@@ -78,8 +78,8 @@ impl Kept {
         }
     }
 
-    /// Adds the places below this one, in rising order, to those that were found. Out of memory some of them may be
-    /// there already.
+    /// Adds the places below this one to those that were found, in rising order, which spares `Places::of` the sort:
+    /// clauses say only which they are. Out of memory some of them may be there already.
     ///
     /// # Errors
     ///

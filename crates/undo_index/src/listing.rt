@@ -105,7 +105,8 @@ impl Listing {
         }
     }
 
-    /// Adds the places below this one that are listed under the element, in rising order.
+    /// Adds the places below this one that are listed under the element, in rising order: clauses say only which they
+    /// are, and `Places::of` puts them in order, each once.
     ///
     /// # Errors
     ///
