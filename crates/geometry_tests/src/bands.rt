@@ -75,8 +75,8 @@ impl Gate for Meeting {
     }
 }
 
-// Could catch bands that are labelled one after the other, which no clause forbids: each of two workers waits until the other
-// has come too.
+// Could catch bands that are labelled one after the other, and a worker that passes no gate, which no clause forbids: each of
+// two workers comes to the gate, and waits there until the other has come too.
 #[test]
 fn two_bands_are_labelled_at_once(rt: HostRuntime) -> Result<(), Fail> {
     let ring = Ring::rectangle(rt.alloc(), at(0, 0), at(20, 20));
@@ -88,6 +88,7 @@ fn two_bands_are_labelled_at_once(rt: HostRuntime) -> Result<(), Fail> {
     };
     let labels = label_in_bands(&rt, rt.alloc(), &clean, 2, &gate, Op::Or)?;
     assert_eq!(rt; labels.len(), 4);
+    assert!(rt; gate.first.load(Ordering::SeqCst) && gate.second.load(Ordering::SeqCst));
     assert!(rt; !gate.missed.load(Ordering::SeqCst));
     Ok(())
 }
