@@ -52,7 +52,7 @@ pub enum RunFault {
         /// The least such session.
         session: u8,
     },
-    /// An allocation failed, or a thread couldn't be started.
+    /// An allocation failed.
     #[error("out of memory")]
     NoMemory,
 }

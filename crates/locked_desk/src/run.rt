@@ -35,13 +35,14 @@ impl SessionGate for OpenGate {
 }
 
 /// Runs the scripts on the layout, each in a thread of its own, as that of the session of its number. Where
-/// there is none, one session takes no step; those after the 64th aren't run. `workers` threads label the
-/// edges of a Boolean; 0 is taken as 1, and more than `MAX_WORKERS` as `MAX_WORKERS`.
+/// there is none, one session takes no step; those after the 64th aren't run. A script for which no thread can
+/// be started runs on the caller's. `workers` threads label the edges of a Boolean; 0 is taken as 1, and more
+/// than `MAX_WORKERS` as `MAX_WORKERS`.
 ///
 /// # Errors
 ///
-/// `NoMemory` where an allocation fails or a thread can't be started; `Differs` and `MissingSeat` where the closed desk isn't
-/// as its sessions left it. When each comes no clause says.
+/// `NoMemory` where an allocation fails; `Differs` and `MissingSeat` where the closed desk isn't as its sessions left it. When
+/// each comes no clause says.
 pub fn run_scripts<R: Threads + Wait + Sync>(
     rt: &R,
     alloc: Global,
