@@ -106,7 +106,7 @@ pub enum Answer {
 /// A call of a session, with its answer.
 #[derive(Debug, Drop, PartialEq, Eq)]
 pub struct Logged {
-    /// The session, 1 to 64.
+    /// The number of the session.
     pub session: u8,
     /// What it called.
     pub call: Call,
