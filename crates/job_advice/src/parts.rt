@@ -1,5 +1,6 @@
 //! What the words of a step have to be.
 
+use crate::sections::MAX_SESSION;
 use byte_io::{is_number, number_of, place_of};
 use lay_cells::MAX_SYMBOL;
 use lay_point::LayerName;
@@ -89,7 +90,7 @@ fn is_coordinate(word: &[u8]) -> bool {
 /// Returns whether the word names a transaction: its session and its number.
 fn is_txn(word: &[u8]) -> bool {
     match parted(word) {
-        Some((session, number)) => number_of(64, session).is_some()
+        Some((session, number)) => number_of(MAX_SESSION, session).is_some()
             && number_of(65_535, number).is_some(),
         None => false,
     }
@@ -103,7 +104,7 @@ fn is_item(word: &[u8]) -> bool {
     let Some((txn, number)) = parted(behind) else {
         return false;
     };
-    number_of(64, session).is_some()
+    number_of(MAX_SESSION, session).is_some()
         && number_of(65_535, txn).is_some()
         && is_number(number)
         && number_of(4_294_967_295, number).is_some()

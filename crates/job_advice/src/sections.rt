@@ -2,9 +2,10 @@
 
 use crate::problem::next_word;
 use byte_io::number_of;
+use undo_rules::MAX_SESSIONS;
 
 /// The greatest number of a session.
-pub(crate) const MAX_SESSION: u32 = 64;
+pub(crate) const MAX_SESSION: u32 = MAX_SESSIONS as u32;
 
 /// The part of a job in which a line is.
 #[derive(Clone, Copy, Debug, PartialEq, Eq)]

@@ -23,9 +23,12 @@ use lay_cells::{CellId, MAX_SYMBOL};
 use lay_layouts::ItemId;
 use lay_point::Quarter;
 use txn_commands::TxnId;
+use undo_rules::MAX_SESSIONS;
 
 /// The greatest number of a session.
-pub(crate) const MAX_SESSION: u32 = 64;
+pub(crate) const MAX_SESSION: u32 = MAX_SESSIONS as u32;
+
+const _: () = prove!(MAX_SESSION == 64);
 
 /// The greatest number of a transaction.
 const MAX_TXN: u32 = 65_535;
