@@ -13,7 +13,7 @@ use std::alloc::Global;
 use std::collections::BTreeMap;
 use std::marker::Model;
 use undo_index::Index;
-use undo_rules::{Answer, BookFault, Call, Logged};
+use undo_rules::{Answer, BookFault, Call, Logged, SessionId};
 
 /// The most calls that a book logs.
 pub const MAX_CALLS: u32 = 1_048_576;
@@ -140,7 +140,7 @@ impl Book {
     /// Logs a refused call, and changes nothing else.
     pub(crate) fn log_refusal(
         &mut self,
-        session: u8,
+        session: SessionId,
         call: Call,
         fault: BookFault,
     ) -> Result<(), NoMemory>
@@ -149,7 +149,7 @@ impl Book {
     {
         self.changes.reserve_call()?;
         self.log.push(Logged {
-            session,
+            session: session.number(),
             call,
             answer: Answer::Refused(fault),
         })?;

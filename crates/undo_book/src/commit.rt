@@ -1,5 +1,5 @@
 //! Commits.
-ghost use Rattle.std.specs.Prelude.{◌≡◌, ◌+◌, IfErr, IfOk, OnErr, OnOk, Err, None, Some, false, true, drop};
+ghost use Rattle.std.specs.Prelude.{◌≡◌, ◌+◌, IfErr, IfOk, IfSome, IsNone, OnErr, OnOk, Err, None, Some, false, true, drop};
 ghost use Rattle.txn_marks.specs.Marks.{AreMarksOf};
 ghost use Rattle.txn_commands.specs.Records.{applied};
 ghost use Rattle.undo_index.specs.Listed.{AreAdded, IsNew};
@@ -21,7 +21,7 @@ use txn_commands::{Command, TxnId};
 use txn_marks::Marks;
 use txn_work::{Spent, Work};
 use undo_index::Index;
-use undo_rules::{Answer, BookFault, Call, Logged};
+use undo_rules::{Answer, BookFault, Call, Logged, SessionId};
 
 /// A refused commit.
 #[derive(Drop)]
@@ -135,29 +135,32 @@ impl Book {
         if self.is_full() {
             return (Err(refused(BookFault::LogFull, work)), Rest::none());
         }
-        if !self.is_own(&work) {
+        let Some(session) = self.own_session(&work) else {
             return (Err(refused(BookFault::Foreign, work)), Rest::none());
-        }
+        };
         match self.changed_under(&work) {
-            Some(other) => (self.end_stale(work, other), Rest::none()),
-            None => match self.append(alloc, work) {
+            Some(other) => (self.end_stale(session, work, other), Rest::none()),
+            None => match self.append(alloc, session, work) {
                 Ok((txn, rest)) => (Ok(txn), rest),
                 Err(refusal) => (Err(refusal), Rest::none()),
             },
         }
     }
 
-    /// Returns whether the work is the one that its session opened last and that has not ended, and the
+    /// Returns the session of the work, if the work is the one that it opened last and that has not ended, and the
     /// layout at its open is as its snapshot has it on what it touched.
-    fn is_own(&self, work: &Work) -> bool
-        ensures { result ≡ is_own self.now work.now }
+    fn own_session(&self, work: &Work) -> Option<SessionId>
+        ensures own { IfSome result (λ session. (session ≡ work.now.id.session) × (is_own self.now work.now ≡ true)) }
+        ensures other { IsNone result → is_own self.now work.now ≡ false }
     {
         let id = work.id();
-        if id.session == 0 || id.session > 64 {
-            return false;
+        let session = SessionId::new(id.session)?;
+        let state = &self.sessions[session.index()];
+        if state.opens() == id.txn && state.awaits(work) {
+            Some(session)
+        } else {
+            None
         }
-        let state = &self.sessions[usize::from(id.session) - 1];
-        state.opens() == id.txn && state.awaits(work)
     }
 
     /// Returns the first transaction that a call since the work's open changed and that wrote what the work
@@ -171,9 +174,15 @@ impl Book {
         self.stale_by(work.footprint(), since)
     }
 
-    /// Ends the transaction of a work of the book's own, of which another wrote what it touched. The work
+    /// Ends the transaction of the session's own work, of which another wrote what it touched. The work
     /// is handed back where it is out of memory.
-    fn end_stale(&mut self, work: Work, other: TxnId) -> Result<TxnId, CommitRefusal>
+    fn end_stale(
+        &mut self,
+        session: SessionId,
+        work: Work,
+        other: TxnId,
+    ) -> Result<TxnId, CommitRefusal>
+        requires session { session ≡ work.id.session }
         requires own { is_own self.old work ≡ true }
         ensures { EndsStale self.old work other result self.new }
     {
@@ -190,13 +199,19 @@ impl Book {
         };
         self.log.push(logged).unwrap();
         self.changes.add_unchanged();
-        end_pending(&mut self.sessions, txn.session);
+        end_pending(&mut self.sessions, session);
         Err(CommitRefusal { fault, work: None })
     }
 
-    /// Appends the transaction of a work of the book's own that isn't stale. The work is handed back where it
+    /// Appends the transaction of the session's own work that isn't stale. The work is handed back where it
     /// is out of memory.
-    fn append(&mut self, alloc: Global, work: Work) -> Result<(TxnId, Rest), CommitRefusal>
+    fn append(
+        &mut self,
+        alloc: Global,
+        session: SessionId,
+        work: Work,
+    ) -> Result<(TxnId, Rest), CommitRefusal>
+        requires session { session ≡ work.id.session }
         requires log { is_log_full self.old ≡ false }
         requires own { is_own self.old work ≡ true }
         requires fresh { stale_by self.old.entries work.footprint (drop (work.opened + 1) self.old.log) ≡ None }
@@ -232,7 +247,7 @@ impl Book {
         self.entries.push(entry).unwrap();
         self.log.push(committed(txn, commands)).unwrap();
         self.changes.add_commit(place);
-        end_pending(&mut self.sessions, txn.session);
+        end_pending(&mut self.sessions, session);
         let before = replace(&mut self.layout, layout);
         Ok((txn, Rest::of(spent, before)))
     }

@@ -40,7 +40,7 @@
 //!
 //! # Limits
 //!
-//! 64 sessions, [`MAX_TRANSACTIONS`] opened transactions of a session, and [`MAX_CALLS`] logged
+//! `MAX_SESSIONS` sessions, [`MAX_TRANSACTIONS`] opened transactions of a session, and [`MAX_CALLS`] logged
 //! calls.
 //!
 //! # Files

@@ -9,7 +9,7 @@ use lay_point::NoMemory;
 use std::alloc::Global;
 use txn_commands::TxnId;
 use txn_work::Work;
-use undo_rules::{Answer, BookFault, Call, Logged};
+use undo_rules::{Answer, BookFault, Call, Logged, SessionId};
 
 /// The most transactions of a session.
 pub const MAX_TRANSACTIONS: u16 = 65_535;
@@ -29,6 +29,7 @@ impl Book {
         ensures step { Takes self.old (open_step self.old session) result self.new }
         ensures full { is_log_full self.old ≡ true → result ≡ Err BookFault.LogFull }
     {
+        let session = SessionId::new(session).unwrap();
         if self.is_full() {
             return Err(BookFault::LogFull);
         }
@@ -40,18 +41,14 @@ impl Book {
     }
 
     /// Returns how many opens of the session were accepted.
-    fn opens(&self, session: u8) -> u16
-        requires low { 1 ≤ session }
-        requires high { session ≤ 64 }
+    fn opens(&self, session: SessionId) -> u16
         ensures { result ≡ (state_of self.now session).opens }
     {
-        self.sessions[usize::from(session) - 1].opens()
+        self.sessions[session.index()].opens()
     }
 
     /// Opens the next transaction of a session, for which there is room.
-    fn open_next(&mut self, alloc: Global, session: u8) -> Result<Work, NoMemory>
-        requires low { 1 ≤ session }
-        requires high { session ≤ 64 }
+    fn open_next(&mut self, alloc: Global, session: SessionId) -> Result<Work, NoMemory>
         requires log { is_log_full self.old ≡ false }
         requires room { (state_of self.old session).opens < MAX_TRANSACTIONS }
         ensures work { IfOk result (λ work. work ≡ opening self.old session) }
@@ -64,10 +61,11 @@ impl Book {
         let snapshot = self.layout.share(alloc)?;
         self.log.reserve(1)?;
         self.changes.reserve_call()?;
-        self.sessions[usize::from(session) - 1] = SessionState {
+        self.sessions[session.index()] = SessionState {
             opens: txn,
             pending: Some(Pending { place, snapshot }),
         };
+        let session = session.number();
         let logged = Logged {
             session,
             call: Call::Open,

@@ -7,7 +7,7 @@ ghost use Rattle.undo_book.specs.Replays.{replay};
 use crate::book::Book;
 use std::alloc::Global;
 use txn_commands::TxnId;
-use undo_rules::{BookFault, Call};
+use undo_rules::{BookFault, Call, SessionId};
 
 impl Book {
     /// Redoes an undone transaction, of any session, at its place.
@@ -31,6 +31,7 @@ impl Book {
         // The layout is that of the same history with the transaction at its place.
         ensures again { OnOk result (replay (with_mark self.old true txn) ≡ Some self.new.layout) }
     {
+        let session = SessionId::new(session).unwrap();
         if self.is_full() {
             return Err(BookFault::LogFull);
         }

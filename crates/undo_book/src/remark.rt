@@ -23,7 +23,7 @@ use std::alloc::Global;
 use txn_commands::TxnId;
 use txn_marks::{Elements, Records};
 use undo_index::Index;
-use undo_rules::{Answer, Call, Logged};
+use undo_rules::{Answer, Call, Logged, SessionId};
 
 impl Book {
     /// Marks the transaction at this place as live, or as undone, which nothing is against: applies what it
@@ -31,7 +31,7 @@ impl Book {
     pub(crate) fn remark(
         &mut self,
         alloc: Global,
-        session: u8,
+        session: SessionId,
         txn: TxnId,
         place: usize,
         live: bool,
@@ -102,7 +102,7 @@ fn relist(
 }
 
 /// Returns the logged call that marked the transaction.
-fn marking(session: u8, txn: TxnId, live: bool) -> Logged
+fn marking(session: SessionId, txn: TxnId, live: bool) -> Logged
     ensures { result ≡ record { session = session; call = mark_call live txn; answer = mark_answer live } }
 {
     let (call, answer) = if live {
@@ -111,7 +111,7 @@ fn marking(session: u8, txn: TxnId, live: bool) -> Logged
         (Call::Undo(txn), Answer::Undone)
     };
     Logged {
-        session,
+        session: session.number(),
         call,
         answer,
     }

@@ -9,9 +9,7 @@ use std::alloc::Global;
 use std::marker::Model;
 use txn_marks::agrees;
 use txn_work::Work;
-
-/// The most sessions.
-const SESSIONS: usize = 64;
+use undo_rules::{MAX_SESSIONS, SessionId};
 
 /// A transaction that a session opened last and that has not ended yet. Contracts see the place of its open
 /// in the log, and the layout then.
@@ -105,23 +103,22 @@ impl Pending {
     }
 }
 
-/// Returns what is kept of 64 sessions that never opened a transaction.
+/// Returns what is kept of `MAX_SESSIONS` sessions that never opened a transaction.
 pub(crate) fn unused_sessions(alloc: Global) -> Result<Vec<SessionState>, NoMemory>
-    ensures { IfOk result (λ sessions. sessions.items ≡ replicate 64 unused) }
+    ensures { IfOk result (λ sessions. sessions.items ≡ replicate MAX_SESSIONS unused) }
 {
-    let mut sessions = Vec::with_capacity(alloc, SESSIONS)?;
-    for _ in 0..SESSIONS {
+    let mut sessions = Vec::with_capacity(alloc, usize::from(MAX_SESSIONS))?;
+    for _ in 0..MAX_SESSIONS {
         sessions.push(SessionState::unused())?;
     }
     Ok(sessions)
 }
 
 /// Drops what the session has pending, since it has ended.
-pub(crate) fn end_pending(sessions: &mut Vec<SessionState>, session: u8)
-    requires low { 1 ≤ session }
-    requires high { session ≤ vec_len sessions.old }
+pub(crate) fn end_pending(sessions: &mut Vec<SessionState>, session: SessionId)
+    requires { session ≤ vec_len sessions.old }
     ensures { sessions.new.items ≡ slice_set sessions.old.items (session - 1)
         (ended_state (slice_index_or sessions.old.items (session - 1) unused)) }
 {
-    sessions[usize::from(session) - 1].end();
+    sessions[session.index()].end();
 }

@@ -7,7 +7,7 @@ ghost use Rattle.undo_book.specs.Replays.{CanBeRedone, replay};
 use crate::book::Book;
 use std::alloc::Global;
 use txn_commands::TxnId;
-use undo_rules::{BookFault, Call};
+use undo_rules::{BookFault, Call, SessionId};
 
 impl Book {
     /// Undoes a committed transaction, of any session.
@@ -31,6 +31,7 @@ impl Book {
         // Nothing but a full log and memory is against a redo at once, and it leads back to the former layout.
         ensures again { OnOk result (CanBeRedone self.new session txn self.old.layout) }
     {
+        let session = SessionId::new(session).unwrap();
         if self.is_full() {
             return Err(BookFault::LogFull);
         }

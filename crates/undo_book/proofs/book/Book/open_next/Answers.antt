@@ -28,12 +28,12 @@ invariant_of-self-2 c =
     let earlier : c.add_unchanged.new.self.earlier.items ≡ c.self.inside.changes.earlier.items ++ None ∷ [] = search rules in
     let last : c.add_unchanged.new.self.last.items ≡ c.self.inside.changes.last.items = search rules in
     let again : c.add_unchanged.new.self.again ≡ c.self.inside.changes.again = search rules in
-    let kept = with_item c.self.inside.sessions (c.from.result - 1) made in
+    let kept = with_item c.self.inside.sessions c.index.result made in
     let sessions : kept.items ≡ slice_set now.sessions (s - 1) new = search rules in
     let same : record (history_of c.self.inside) { log = c.push.new.self.items; sessions = kept.items } ≡ after_open now s =
     λ i. record (c.self.view_is i) { log = log i; sessions = sessions i } in
     record {
-      history = subst (λ (h : History). IsHistory h) (sym same) (open_keeps now is s c.requires.low c.requires.high);
+      history = subst (λ (h : History). IsHistory h) (sym same) (open_keeps now is s c.number-session.ensures.low c.number-session.ensures.high);
       places = c.self.invariant.places;
       index = c.self.invariant.index;
       changes = unchanged_so call c.self.invariant.changes refl earlier last logged;
