@@ -1,9 +1,9 @@
 -- A machine keeps what it keeps, step after step.
-use Rattle.std.proofs.Common.{◌≡◌, ◌≢◌, ℕ, ◌+◌, ◌-◌, ◌<◌, ◌≤◌, Bool, true, false, ◌&&◌, cond, List, [], ◌∷◌, ◌++◌, length, nat_eq}
+use Rattle.std.proofs.Common.{◌≡◌, ◌≢◌, ℕ, ◌+◌, ◌-◌, ◌<◌, ◌≤◌, Bool, true, false, ◌&&◌, cond, List, [], ◌∷◌, length, nat_eq}
 use Rattle.std.proofs.Common.{nat_le, Option, None, Some, Result, Ok, Err, OnErr, OnOk}
-use Rattle.std.proofs.Common.{not, drop, slice_index_or, slice_set, inl, inr, refl, ap}
+use Rattle.std.proofs.Common.{drop, slice_index_or, slice_set, inl, inr, refl, ap}
 use Rattle.std.proofs.Common.{sym, ◌∙◌, subst, arith, zero, suc, replicate}
-use Rattle.std.proofs.lemmas.Bool.{and_parts, cases_Bool, cases_eq, or_parts}
+use Rattle.std.proofs.lemmas.Bool.{and_parts, cases_eq, or_parts}
 use Rattle.std.proofs.lemmas.Bool.Decides.{nat_tests}
 use Rattle.std.proofs.lemmas.Grind.{get_or-set_at}
 use Rattle.std.proofs.lemmas.List.{get_or-set_other, length-replicate, length-set, set-get_or, set-set}
@@ -225,26 +225,26 @@ pub record Taken (w : Inside) (place session : ℕ) (txn : Transaction) : Type 0
   pub there : is_session (machine_state w) session ≡ true
   pub is_open : open_of (machine_state w) session ≡ Some txn
 
-pub taken_out : (w : Inside) (now : State) → machine_state w ≡ now → IsMachine w → (session n : ℕ) → n ≡ session →
-    is_session now session ≡ true → (x taken : Option Transaction) (txn : Transaction) → x ≡ slice_index_or w.works.items (n - 1) x →
-    taken ≡ x → taken ≡ Some txn → Taken w (n - 1) session txn
-taken_out w now view kept session n is_session_of there x taken txn at is_x is =
+pub taken_out : (w : Inside) (now : State) → machine_state w ≡ now → IsMachine w → (session place : ℕ) → place ≡ session - 1 →
+    is_session now session ≡ true → (x taken : Option Transaction) (txn : Transaction) → x ≡ slice_index_or w.works.items place x →
+    taken ≡ x → taken ≡ Some txn → Taken w place session txn
+taken_out w now view kept session place is_place there x taken txn at is_x is =
     let s = machine_state w in
     let few = kept.few in
     let here : is_session s session ≡ true = ap (λ t. is_session t session) view ∙ there in
     let parts = and_parts (nat_le 1 session) (nat_le session (length w.works.items)) here in
     let low = parts.0 in
     let high = parts.1 in
-    let inside : n - 1 < length w.works.items = grind (arith, nat_tests) in
-    let a = slice_get-get_or w.works.items (n - 1) None inside in
-    let b = slice_get-get_or w.works.items (n - 1) x inside in
-    let found : slice_index_or w.works.items (n - 1) None ≡ Some txn = cc in
+    let inside : place < length w.works.items = grind (arith, nat_tests) in
+    let a = slice_get-get_or w.works.items place None inside in
+    let b = slice_get-get_or w.works.items place x inside in
+    let found : slice_index_or w.works.items place None ≡ Some txn = cc in
     record {
       inside = inside;
       few = omega arith;
       found = found;
       there = here;
-      is_open = ap (λ k. slice_index_or w.works.items (k - 1) None) (sym is_session_of) ∙ found;
+      is_open = ap (λ k. slice_index_or w.works.items k None) (sym is_place) ∙ found;
     }
 
 -- what was taken out of its place and is put back

@@ -1,5 +1,5 @@
 -- Steps of a run that are left complete it.
-use Rattle.std.proofs.Common.{◌≡◌, ◌++◌, ◌∷◌, ℕ, List, [], refl, subst, sym}
+use Rattle.std.proofs.Common.{◌++◌, ◌∷◌, ℕ, List, [], refl, subst, sym}
 use Rattle.std.proofs.lemmas.List.{append_assoc, append-nil}
 use Rattle.session_steps.specs.declared.Reply.{Reply}
 use Rattle.session_steps.specs.declared.Step.{Step}

@@ -9,7 +9,7 @@
 //! - `Machine` is kept as a book, and a list of the sessions' works. Contracts see the record
 //!   `State` of `specs/Machine.antt`, which says what each step answers and leaves, and what a list
 //!   of steps does.
-//! - It has at most 64 sessions, and each open transaction is the one that the book keeps for its
+//! - It has at most `MAX_SESSIONS` sessions, and each open transaction is the one that the book keeps for its
 //!   session (`IsState` of `specs/Machines.antt`), so a commit is never refused as foreign.
 //!
 //! ```text

@@ -1,5 +1,5 @@
 //! The machine: a book, and the transaction that each session has open.
-ghost use Rattle.std.specs.Prelude.{◌≡◌, ◌≤◌, false, true, IfOk, Ok, None, Some, replicate};
+ghost use Rattle.std.specs.Prelude.{◌≡◌, ◌≤◌, false, true, IfOk, IfSome, IsNone, Ok, None, Some, replicate};
 ghost use Rattle.std.specs.List.{All};
 ghost use Rattle.lay_point.specs.Memory.{IsAnswer};
 ghost use Rattle.txn_commands.specs.declared.command.TxnId.{TxnId as TxnName};
@@ -18,6 +18,7 @@ use std::thread::Threads;
 use txn_commands::{Command, TxnId};
 use txn_work::Work;
 use undo_book::{Book, CommitRefusal, MAX_CALLS};
+use undo_rules::{SessionCount, SessionId};
 
 /// Sessions on one book, each with at most one transaction open.
 #[derive(Drop)]
@@ -73,7 +74,7 @@ impl Machine {
     {
         Ok(Machine {
             book: Book::with_log(alloc, base, limit)?,
-            works: no_works(alloc, sessions)?,
+            works: no_works(alloc, SessionCount::new(sessions).unwrap())?,
         })
     }
 
@@ -118,9 +119,9 @@ impl Machine {
         ensures again { (txn : TxnName) → step ≡ Step.Undo txn → result ≡ Reply.Undone
             → CanBeRedone self.new.history session txn self.old.history.layout }
     {
-        if !self.is_session(session) {
+        let Some(session) = self.session(session) else {
             return Reply::Fault(StepFault::NoSession);
-        }
+        };
         match step {
             Step::Open => self.open(alloc, session),
             Step::Do(command) => self.run_command(rt, alloc, session, command, bands),
@@ -131,24 +132,31 @@ impl Machine {
         }
     }
 
-    /// Returns whether there is such a session.
-    fn is_session(&self, session: u8) -> bool
-        ensures { result ≡ is_session self.now session }
+    /// Returns the session of the number, if there is such a one.
+    fn session(&self, number: u8) -> Option<SessionId>
+        ensures some { IfSome result (λ session. (session ≡ number) × (is_session self.now session ≡ true)) }
+        ensures none { IsNone result → is_session self.now number ≡ false }
     {
-        session >= 1 && usize::from(session) <= self.works.len()
+        let count = self.works.len();
+        let session = SessionId::new(number)?;
+        if session.index() < count {
+            Some(session)
+        } else {
+            None
+        }
     }
 
     /// Opens a transaction of the session.
-    fn open(&mut self, alloc: Global, session: u8) -> Reply
+    fn open(&mut self, alloc: Global, session: SessionId) -> Reply
         requires { is_session self.old session ≡ true }
         ensures step { TakesStep self.old session Step.Open result self.new }
         ensures own { IsNotForeign result }
     {
-        let place = usize::from(session) - 1;
+        let place = session.index();
         if self.works[place].is_some() {
             return Reply::Fault(StepFault::AlreadyOpen);
         }
-        match self.book.open(alloc, session) {
+        match self.book.open(alloc, session.number()) {
             Ok(work) => {
                 let number = work.id().txn;
                 self.works[place] = Some(work);
@@ -163,7 +171,7 @@ impl Machine {
         &mut self,
         rt: &(impl Threads + Sync),
         alloc: Global,
-        session: u8,
+        session: SessionId,
         command: Command,
         bands: &impl Bands,
     ) -> Reply
@@ -171,7 +179,7 @@ impl Machine {
         ensures step { TakesStep self.old session (Step.Do command) result self.new }
         ensures own { IsNotForeign result }
     {
-        let place = usize::from(session) - 1;
+        let place = session.index();
         let Some(mut work) = self.works[place].take() else {
             return Reply::Fault(StepFault::NotOpen);
         };
@@ -184,12 +192,12 @@ impl Machine {
     }
 
     /// Commits the session's transaction.
-    fn commit(&mut self, alloc: Global, session: u8) -> Reply
+    fn commit(&mut self, alloc: Global, session: SessionId) -> Reply
         requires { is_session self.old session ≡ true }
         ensures step { TakesStep self.old session Step.Commit result self.new }
         ensures own { IsNotForeign result }
     {
-        let place = usize::from(session) - 1;
+        let place = session.index();
         let Some(work) = self.works[place].take() else {
             return Reply::Fault(StepFault::NotOpen);
         };
@@ -199,12 +207,12 @@ impl Machine {
     }
 
     /// Gives the session's transaction up.
-    fn cancel(&mut self, session: u8) -> Reply
+    fn cancel(&mut self, session: SessionId) -> Reply
         requires { is_session self.old session ≡ true }
         ensures step { TakesStep self.old session Step.Cancel result self.new }
         ensures own { IsNotForeign result }
     {
-        let place = usize::from(session) - 1;
+        let place = session.index();
         if self.works[place].is_none() {
             return Reply::Fault(StepFault::NotOpen);
         }
@@ -213,7 +221,7 @@ impl Machine {
     }
 
     /// Undoes a transaction.
-    fn undo(&mut self, alloc: Global, session: u8, txn: TxnId) -> Reply
+    fn undo(&mut self, alloc: Global, session: SessionId, txn: TxnId) -> Reply
         requires { is_session self.old session ≡ true }
         ensures step { TakesStep self.old session (Step.Undo txn) result self.new }
         ensures own { IsNotForeign result }
@@ -221,19 +229,19 @@ impl Machine {
             → replay (with_mark self.old.history false txn) ≡ Some self.new.history.layout }
         ensures again { result ≡ Reply.Undone → CanBeRedone self.new.history session txn self.old.history.layout }
     {
-        match self.book.undo(alloc, session, txn) {
+        match self.book.undo(alloc, session.number(), txn) {
             Ok(()) => Reply::Undone,
             Err(fault) => Reply::Fault(StepFault::Book(fault)),
         }
     }
 
     /// Redoes a transaction.
-    fn redo(&mut self, alloc: Global, session: u8, txn: TxnId) -> Reply
+    fn redo(&mut self, alloc: Global, session: SessionId, txn: TxnId) -> Reply
         requires { is_session self.old session ≡ true }
         ensures step { TakesStep self.old session (Step.Redo txn) result self.new }
         ensures own { IsNotForeign result }
     {
-        match self.book.redo(alloc, session, txn) {
+        match self.book.redo(alloc, session.number(), txn) {
             Ok(()) => Reply::Redone,
             Err(fault) => Reply::Fault(StepFault::Book(fault)),
         }
@@ -287,11 +295,11 @@ fn outcome(answer: Result<TxnId, CommitRefusal>) -> (Reply, Option<Work>)
 }
 
 /// No open transactions, one for each session.
-fn no_works(alloc: Global, sessions: u8) -> Result<Vec<Option<Work>>, NoMemory>
+fn no_works(alloc: Global, sessions: SessionCount) -> Result<Vec<Option<Work>>, NoMemory>
     ensures { IfOk result (λ works. works.items ≡ replicate sessions None) }
 {
-    let mut works = Vec::with_capacity(alloc, usize::from(sessions))?;
-    for _ in 0..sessions {
+    let mut works = Vec::with_capacity(alloc, usize::from(sessions.number()))?;
+    for _ in 0..sessions.number() {
         works.push(None)?;
     }
     Ok(works)

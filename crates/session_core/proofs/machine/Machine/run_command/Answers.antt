@@ -1,4 +1,4 @@
-use Rattle.std.proofs.Common.{◌≡◌, ◌-◌, ◌∙◌, Some, ap, slice_set, subst, sym}
+use Rattle.std.proofs.Common.{◌≡◌, ◌∙◌, Some, ap, slice_set, subst, sym}
 use Rattle.std.proofs.lemmas.List.{set-set}
 use Rattle.session_steps.specs.declared.Step.TheVariants.{Do}
 use Rattle.session_core.specs.Machine.{State, TakesStep, command_reply, with_work}
@@ -10,8 +10,8 @@ use Rattle.session_core.proofs.machine.Machine.run_command.Goals.{in-Ok, in-Err}
 pub invariant_of-self-2 : goal.invariant_of-self-2
 invariant_of-self-2 g c =
     let works = c.self.inside.works.items in
-    let place = c.from-place.result - 1 in
-    let t = taken_out c.self.inside c.args.self.now c.self.view_is c.self.invariant c.args.session c.from-place.result c.from-place.ensures
+    let place = c.index-place.result in
+    let t = taken_out c.self.inside c.args.self.now c.self.view_is c.self.invariant c.args.session place c.index-place.ensures.value
     c.requires c.index_mut.result.now c.take.result c.in-Some.work c.index_mut.ensures.value c.take.ensures.value c.in-Some.is in
     let new = c.run-answer.new.self in
     let same = same_parts c.in-Some.work new c.args.command c.run-answer.result c.run-answer.ensures.ok c.run-answer.ensures.err in
@@ -22,15 +22,15 @@ pub returns-clause-step : goal.returns-clause-step
 returns-clause-step g c =
     let s = machine_state c.self.inside in
     let works = c.self.inside.works.items in
-    let place = c.from-place.result - 1 in
+    let place = c.index-place.result in
     let session = c.args.session in
     let new = c.run-answer.new.self in
-    let t = taken_out c.self.inside c.args.self.now c.self.view_is c.self.invariant session c.from-place.result c.from-place.ensures
+    let t = taken_out c.self.inside c.args.self.now c.self.view_is c.self.invariant session place c.index-place.ensures.value
     c.requires c.index_mut.result.now c.take.result c.in-Some.work c.index_mut.ensures.value c.take.ensures.value c.in-Some.is in
     let end : State = record s { works = slice_set (slice_set works place c.take.new.self) place (Some new) } in
     let is_end : end ≡ with_work s s.history session (Some new) =
     ap (λ w. record s { works = w }) (set-set works place c.take.new.self (Some new)
-    ∙ ap (λ n. slice_set works (n - 1) (Some new)) c.from-place.ensures) in
+    ∙ ap (λ n. slice_set works n (Some new)) c.index-place.ensures.value) in
     let reply : c.match-answer.result ≡ command_reply c.run-answer.result = elim c.match-answer.branch [
       | in-Ok w ↦ w.result-is ∙ ap command_reply (sym w.in-Ok.is)
       | in-Err w ↦ w.result-is ∙ ap command_reply (sym w.in-Err.is)
