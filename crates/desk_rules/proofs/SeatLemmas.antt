@@ -38,18 +38,17 @@ gains_logged (Some answer) desk base state old call place made = record {
 -- what a seat keeps, behind a call
 pub seat_kept : (answer : Option Answer) (desk : Desk) (state : History) (session : ℕ) (own given kept : List Kept) (call : Call)
     (place parts amount was : ℕ)
-    → (1 ≤ session) × AreCallsRising session 0 own × (parts ≡ parts) × (was ≡ length own) → given ≡ own
+    → AreCallsRising session 0 own × (parts ≡ parts) × (was ≡ length own) → given ≡ own
     → IfSome answer (EndsWith desk state (record { session = session; before = given; call = call; place = place }))
     → kept ≡ calls_behind (record { session = session; before = own; call = call; place = place }) answer
     → parts ≡ 1 → amount ≡ was + calls_added answer
-    → (1 ≤ session) × AreCallsRising session 0 kept × (parts ≡ 1) × (amount ≡ length kept)
+    → AreCallsRising session 0 kept × (parts ≡ 1) × (amount ≡ length kept)
 seat_kept answer desk state session own given kept call place parts amount was before given-is made kept-is one amount-is =
     let next : NextCall = record { session = session; before = own; call = call; place = place } in
     let here : IfSome answer (EndsWith desk state next) =
     subst (λ (l : List Kept). IfSome answer (EndsWith desk state (record { session = session; before = l; call = call; place = place })))
     given-is made in (
-      before.0,
-      subst (AreCallsRising session 0) (sym kept-is) (rising_kept answer desk state next here before.1),
+      subst (AreCallsRising session 0) (sym kept-is) (rising_kept answer desk state next here before.0),
       one,
-      amount-is ∙ ap (λ n. n + calls_added answer) before.3 ∙ sym (length_kept answer next) ∙ ap length (sym kept-is),
+      amount-is ∙ ap (λ n. n + calls_added answer) before.2 ∙ sym (length_kept answer next) ∙ ap length (sym kept-is),
     )

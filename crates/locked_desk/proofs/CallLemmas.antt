@@ -1,5 +1,5 @@
 -- Calls of a book behind the lock, and their answers as the desk's.
-use Rattle.std.proofs.Common.{◌≡◌, ℕ, List, [], ◌∷◌, ◌++◌, Bool, true, false, cond, not, Option, None, Some, Result, Ok, Err, IfErr}
+use Rattle.std.proofs.Common.{◌≡◌, ℕ, List, [], Bool, true, false, cond, not, Option, None, Some, Result, Ok, Err, IfErr}
 use Rattle.std.proofs.Common.{IfOk, refl, ap, sym, ◌∙◌, subst, inl, inr, drop, ◌+◌}
 use Rattle.std.specs.Prelude.{IfSome}
 use Rattle.lay_layouts.specs.Sound.{IsSound}
@@ -11,9 +11,9 @@ use Rattle.undo_rules.specs.declared.log.BookFault.{BookFault}
 use Rattle.undo_rules.specs.declared.log.BookFault.TheVariants.{Foreign, LogFull}
 use Rattle.undo_rules.specs.declared.log.Call.TheVariants.{Commit, Open}
 use Rattle.undo_rules.specs.Books.{History}
-use Rattle.undo_rules.specs.Steps.{commit_step, commit_unless, is_log_full, is_own, stale_by}
+use Rattle.undo_rules.specs.Steps.{commit_step, commit_unless, is_log_full, is_own, open_step, stale_by}
 use Rattle.undo_book.specs.declared.commit.CommitRefusal.{CommitRefusal}
-use Rattle.undo_book.specs.Calls.{TakesWork, refused, with_refused_work}
+use Rattle.undo_book.specs.Calls.{Takes, TakesWork, handed_back, refused, with_refused_work}
 use Rattle.undo_book.proofs.CommitLemmas.{own_work}
 use Rattle.desk_rules.specs.Legal.{ArePendingSound, Desk, Stepped, answer_of, on_base, opened_answer, refusal}
 use Rattle.desk_rules.proofs.MeantLemmas.{stepped_work}
@@ -22,7 +22,8 @@ use Rattle.undo_rules.specs.declared.log.Call.{Call}
 use Rattle.desk_rules.specs.declared.kept.Kept.{Kept}
 use Rattle.desk_rules.specs.Seats.{EndsWith, GainsLogged, Seat, calls_behind, next_at}
 use Rattle.desk_rules.proofs.SeatLemmas.{gains_logged}
-use Rattle.locked_desk.specs.Desks.{OpensAt, by_book, open_call}
+use Rattle.locked_desk.specs.declared.fault.DeskFault.TheVariants.{Book}
+use Rattle.locked_desk.specs.Desks.{OpensAt, by_book, desk_refused, open_call}
 use Rattle.locked_desk.specs.Desks.{commit_answer, commit_by_book, desk_answer, desk_commit_answer}
 
 pub answer_by_book : (done : Answer) (result : Result (Unit {0}) BookFault) → desk_answer done (by_book result) ≡ answer_of done result
@@ -33,10 +34,24 @@ pub commit_by_book_answer : (result : Result TxnId CommitRefusal) → desk_commi
 commit_by_book_answer (Ok txn) = refl
 commit_by_book_answer (Err refused) = refl
 
+-- what the book hands back, the desk does
+pub back_by_book : (given work : Transaction) (answer : Result TxnId CommitRefusal) → given ≡ work
+    → IfErr answer (λ refusal. refusal ≡ refused refusal.fault given)
+    → IfErr (commit_by_book answer) (λ refusal. refusal ≡ desk_refused refusal.fault work)
+back_by_book given work (Ok txn) same back = tt
+back_by_book given work (Err refusal) same back =
+    ap (λ w. record { fault = Book refusal.fault; work = w })
+    (ap (λ (r : CommitRefusal). r.work) back ∙ ap (handed_back refusal.fault) same)
+
 committed_answer : (work : Transaction) (result : Result TxnId BookFault)
     → commit_answer (with_refused_work result work) ≡ answer_of Committed result
 committed_answer work (Ok txn) = refl
 committed_answer work (Err fault) = refl
+
+-- an open of the session's number is one of the session
+pub opened_by : (h next : History) (number session : ℕ) (result : Result Transaction BookFault) → number ≡ session
+    → Takes h (open_step h number) result next → Takes h (open_step h session) result next
+opened_by h next number session result is takes = subst (λ n. Takes h (open_step h n) result next) is takes
 
 -- a commit of a work of the session, as the log has it
 pub stepped_commit : (h next : History) (session : ℕ) (work : Transaction) (result : Result TxnId CommitRefusal)

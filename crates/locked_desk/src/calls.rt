@@ -30,7 +30,7 @@ use std::sync::ledger::Ledger;
 use txn_commands::{Command, TxnId};
 use txn_work::Work;
 use undo_book::CommitRefusal;
-use undo_rules::{Answer, BookFault, Call, Logged};
+use undo_rules::{Answer, BookFault, Call, Logged, SessionId};
 
 impl<L: Ledger> Desk<L> {
     /// Opens the session's next work, on the layout as it then is.
@@ -216,13 +216,13 @@ impl<L: Ledger> Desk<L> {
 }
 
 /// Adds the call to the session's own, where it is logged.
-fn keep(own: &mut Vec<Kept>, session: u8, call: Call, place: usize, answer: Option<Answer>)
+fn keep(own: &mut Vec<Kept>, session: SessionId, call: Call, place: usize, answer: Option<Answer>)
     requires { vec_len own.old < vec_capacity own.old }
     ensures { own.new.items ≡ calls_behind (record { session = session; before = own.old.items; call = call; place = place }) answer }
 {
     if let Some(answer) = answer {
         let logged = Logged {
-            session,
+            session: session.number(),
             call,
             answer,
         };

@@ -18,7 +18,7 @@ use desk_rules::missing_place;
 use std::sync::ledger;
 use std::sync::ledger::{Ledger, Share};
 use undo_book::Book;
-use undo_rules::Logged;
+use undo_rules::{Logged, SessionCount};
 
 /// What is left of a closed desk.
 #[derive(Drop)]
@@ -68,7 +68,7 @@ impl<L: Ledger> Desk<L> {
         ensures closed { IfOk result (λ closed. IsClosed self seats.items closed.book) }
         ensures refused { IfErr result (λ refusal. IsRefusedClose self seats.items refusal) }
     {
-        match missing_seat(seats.as_slice(), self.origin.sessions) {
+        match missing_seat(seats.as_slice(), self.session_count()) {
             Some(session) => Err(CloseRefusal::MissingSeat {
                 session,
                 desk: self,
@@ -86,6 +86,8 @@ fn close_all<L: Ledger>(desk: Desk<L>, seats: Vec<Seat<L>>) -> Result<Closed, Cl
     ensures refused { IfErr result (λ refusal. IsRefusedClose desk seats.items refusal) }
 {
     let Desk { origin, lock } = desk;
+    // There is a session.
+    origin.sessions.number();
     let Guarded {
         sessions: _,
         book,
@@ -143,13 +145,12 @@ fn has_seat<L: Ledger>(seats: &[Seat<L>], session: u8) -> bool
 }
 
 /// Returns the least of the sessions without a seat.
-pub(crate) fn missing_seat<L: Ledger>(seats: &[Seat<L>], sessions: u8) -> Option<u8>
-    requires { sessions ≤ 64 }
+pub(crate) fn missing_seat<L: Ledger>(seats: &[Seat<L>], sessions: SessionCount) -> Option<u8>
     ensures none { IsNone result → HasAll sessions seats.now }
     ensures some { IfSome result (λ s. (1 ≤ s) × (s ≤ sessions) × (has_seat s seats.now ≡ false)) }
     ensures least { IfSome result (λ s. HasAll (s - 1) seats.now) }
 {
-    for session in 1..sessions + 1 {
+    for session in 1..sessions.number() + 1 {
         if !has_seat(seats, session) {
             return Some(session);
         }

@@ -14,6 +14,7 @@ use std::marker::Model;
 use std::sync::ledger::{Blank, Ledger, Share};
 use std::sync::{Mutex, ledger};
 use undo_book::{Book, MAX_CALLS};
+use undo_rules::{SessionCount, SessionId};
 
 /// A book under a lock, with a fixed number of sessions. `L` tells its seats from those of other desks.
 /// Contracts see the layout that it was made with, the number of sessions and the most logged calls.
@@ -24,7 +25,7 @@ pub struct Desk<L: Ledger> {
 }
 
 impl<L: Ledger> Model for Desk<L> {
-    ghost use Rattle.std.specs.Prelude.{◌≡◌, ◌≤◌};
+    ghost use Rattle.std.specs.Prelude.{◌≡◌};
     ghost use Rattle.desk_rules.specs.Legal.{Desk};
     ghost use Rattle.locked_desk.specs.Stored.{coded_desk};
 
@@ -34,7 +35,7 @@ impl<L: Ledger> Model for Desk<L> {
 
     ghost view = { λ d. d.origin };
 
-    ghost invariant = { λ d. (d.origin.sessions ≡ L.parts) × (1 ≤ d.origin.sessions) × (d.origin.sessions ≤ 64) };
+    ghost invariant = { λ d. d.origin.sessions ≡ L.parts };
 }
 
 impl<L: Ledger> Desk<L> {
@@ -83,6 +84,7 @@ impl<L: Ledger> Desk<L> {
         ensures desk { IfOk result (λ r. r.0 ≡ record { base = base; sessions = sessions; limit = limit }) }
         ensures seats { IfOk result (λ r. r.1.items ≡ empty_seats sessions) }
     {
+        let sessions = SessionCount::new(sessions).unwrap();
         let (calls, rest) = blank.open::<L>();
         let (seats, counts) = seats_of(alloc, sessions, rest)?;
         let book = Book::with_log(alloc, base.share(alloc)?, limit)?;
@@ -100,6 +102,13 @@ impl<L: Ledger> Desk<L> {
         ensures parts { result ≡ L.parts }
         ensures range { (1 ≤ result) × (result ≤ 64) }
     {
+        self.origin.sessions.number()
+    }
+
+    /// Returns the same as a count of sessions.
+    pub(crate) fn session_count(&self) -> SessionCount
+        ensures { result ≡ self.now.sessions }
+    {
         self.origin.sessions
     }
 }
@@ -115,7 +124,7 @@ pub(crate) fn is_same(one: &Snapshot, other: &Snapshot) -> bool
 /// Returns a seat for each session, which has a part of the share, and as many zeros.
 fn seats_of<L: Ledger>(
     alloc: Global,
-    sessions: u8,
+    sessions: SessionCount,
     share: Share<L>,
 ) -> Result<(Vec<Seat<L>>, Vec<usize>), NoMemory>
     requires parts { share.parts ≡ sessions }
@@ -124,11 +133,13 @@ fn seats_of<L: Ledger>(
     ensures counts { IfOk result (λ r. r.1.items ≡ replicate sessions 0) }
 {
     let mut rest = share;
+    let sessions = sessions.number();
     let mut seats = Vec::with_capacity(alloc, usize::from(sessions))?;
     let mut counts = Vec::with_capacity(alloc, usize::from(sessions))?;
     for i in 0..sessions {
         let share = rest.split_off(1, 0);
-        seats.push(empty_seat(alloc, i + 1, share))?;
+        let session = SessionId::new(i + 1).unwrap();
+        seats.push(empty_seat(alloc, session, share))?;
         counts.push(0)?;
     }
     Ok((seats, counts))
@@ -142,7 +153,6 @@ fn new_desk<L: Ledger>(
     calls: ledger::Book<L>,
 ) -> Desk<L>
     requires all { origin.sessions ≡ L.parts }
-    requires some { (1 ≤ origin.sessions) × (origin.sessions ≤ 64) }
     requires book { book ≡ fresh origin.base origin.limit }
     requires counts { counts.items ≡ replicate origin.sessions 0 }
     requires calls { calls.total ≡ 0 }

@@ -33,13 +33,13 @@ use std::sync::ledger::{Ledger, Share};
 use txn_commands::TxnId;
 use txn_work::Work;
 use undo_book::{Book, CommitRefusal, Rest};
-use undo_rules::{BookFault, Call};
+use undo_rules::{BookFault, Call, SessionCount, SessionId};
 
 /// A book with the numbers of calls of the sessions in its log.
 #[derive(Drop)]
 pub struct Guarded<L: Ledger> {
     /// How many sessions have seats.
-    pub sessions: u8,
+    pub sessions: SessionCount,
     /// The history.
     pub book: Book,
     /// How many calls the book logs at most.
@@ -67,15 +67,13 @@ impl<L: Ledger> Model for Guarded<L> {
 
 impl<L: Ledger> Guarded<L> {
     /// Returns whether the log has the session's last call at its place, and as many calls of the session.
-    pub(crate) fn has_last(&self, session: u8, own: &[Kept]) -> bool
-        ensures value { result ≡ has_last self.now session own.now }
-        ensures low { result ≡ true → 1 ≤ session }
-        ensures high { result ≡ true → session ≤ 64 }
+    pub(crate) fn has_last(&self, session: SessionId, own: &[Kept]) -> bool
+        ensures { result ≡ has_last self.now session own.now }
     {
-        if session == 0 || session > self.sessions {
+        if !self.sessions.has(session) {
             return false;
         }
-        self.counts[usize::from(session) - 1] == own.len() && is_last_in(self.book.log(), own)
+        self.counts[session.index()] == own.len() && is_last_in(self.book.log(), own)
     }
 
     /// Returns whether this has as many sessions as a desk of this origin, and logs as many calls.
@@ -97,10 +95,8 @@ impl<L: Ledger> Guarded<L> {
 
     /// Returns whether this is of a desk of this origin, and the log has the session's calls so far. The base is
     /// compared only where the log is full.
-    fn is_ready(&self, origin: &Origin, session: u8, own: &[Kept]) -> bool
+    fn is_ready(&self, origin: &Origin, session: SessionId, own: &[Kept]) -> bool
         ensures last { result ≡ true → has_last self.now session own.now ≡ true }
-        ensures low { result ≡ true → 1 ≤ session }
-        ensures high { result ≡ true → session ≤ 64 }
         ensures fits { result ≡ true → Fits origin.now self.now }
         ensures full { result ≡ true → is_log_full self.now.book ≡ true → self.now.book.base ≡ origin.now.base }
     {
@@ -132,7 +128,7 @@ impl<L: Ledger> Guarded<L> {
         &mut self,
         alloc: Global,
         origin: &Origin,
-        session: u8,
+        session: SessionId,
         own: &[Kept],
         share: &mut Share<L>,
     ) -> Result<(Result<Work, BookFault>, usize, Snapshot), DeskFault>
@@ -162,7 +158,7 @@ impl<L: Ledger> Guarded<L> {
         // The layout is sound.
         book.snapshot().version();
         let place = book.log().len();
-        let result = book.open(alloc, session);
+        let result = book.open(alloc, session.number());
         let more = place < book.log().len();
         count_call(counts, calls, share, session, more);
         Ok((result, place, base))
@@ -174,7 +170,7 @@ impl<L: Ledger> Guarded<L> {
         &mut self,
         alloc: Global,
         origin: &Origin,
-        session: u8,
+        session: SessionId,
         own: &[Kept],
         share: &mut Share<L>,
         way: Way,
@@ -214,7 +210,7 @@ impl<L: Ledger> Guarded<L> {
         &mut self,
         alloc: Global,
         origin: &Origin,
-        session: u8,
+        session: SessionId,
         own: &[Kept],
         share: &mut Share<L>,
         work: Work,
@@ -234,7 +230,7 @@ impl<L: Ledger> Guarded<L> {
         if !self.is_ready(origin, session, own) {
             return Err(work);
         }
-        if work.id().session != session {
+        if work.id().session != session.number() {
             if !is_same(self.book.base(), &origin.base) {
                 return Err(work);
             }
@@ -260,7 +256,7 @@ impl<L: Ledger> Guarded<L> {
         &mut self,
         alloc: Global,
         origin: &Origin,
-        session: u8,
+        session: SessionId,
         own: &[Kept],
         share: &mut Share<L>,
         work: Work,
@@ -269,8 +265,6 @@ impl<L: Ledger> Guarded<L> {
         requires fits { Fits origin.now self.old }
         requires session { work.id.session ≡ session }
         requires part { share.old.parts ≡ 1 }
-        requires low { 1 ≤ session }
-        requires high { session ≤ 64 }
         ensures made { IfSome (commit_answer result.0) (EndsWith (on_base self.new.book.base origin.now) self.new.book
             (record { session = session; before = own.now; call = Call.Commit work.id work.commands; place = result.1 })) }
         ensures step { IsAnswer (refused BookFault.NoMemory work) result.0
@@ -303,11 +297,12 @@ impl<L: Ledger> Guarded<L> {
 
     /// Returns the refusal of a snapshot that names this place, or session 0, where this isn't of a desk of this
     /// origin.
-    fn missed(&self, origin: &Origin, session: u8, place: usize) -> DeskFault
+    fn missed(&self, origin: &Origin, session: SessionId, place: usize) -> DeskFault
         ensures { ((result ≡ DeskFault.Differs session place) × Fits origin.now self.now × IsFrom origin.now self.now.book)
             ⊎ (result ≡ DeskFault.Differs 0 0) }
     {
         if self.fits(origin) && is_same(self.book.base(), &origin.base) {
+            let session = session.number();
             return DeskFault::Differs { session, place };
         }
         DeskFault::Differs {
@@ -322,10 +317,9 @@ impl<L: Ledger> Guarded<L> {
         &self,
         alloc: Global,
         origin: &Origin,
-        session: u8,
+        session: SessionId,
         own: &[Kept],
     ) -> Result<(Snapshot, Snapshot), DeskFault>
-        requires low { 1 ≤ session }
         requires rising { AreCallsRising session 0 own.now }
         ensures value { IfOk result (λ r. (r.0 ≡ self.now.book.layout) × (r.1 ≡ self.now.book.base)) }
         ensures own { IfOk result (λ r. own_calls session self.now.book.log ≡ own.now) }
@@ -344,10 +338,9 @@ impl<L: Ledger> Guarded<L> {
         &self,
         alloc: Global,
         origin: &Origin,
-        session: u8,
+        session: SessionId,
         own: &[Kept],
     ) -> Result<(Snapshot, Snapshot), DeskFault>
-        requires low { 1 ≤ session }
         requires rising { AreCallsRising session 0 own.now }
         requires there { missing_place self.now.book.log own.now ≡ None }
         ensures value { IfOk result (λ r. (r.0 ≡ self.now.book.layout) × (r.1 ≡ self.now.book.base)) }
@@ -384,9 +377,10 @@ fn last_place(own: &[Kept]) -> usize
 }
 
 /// Returns the refusal that names the session and its last place.
-pub(crate) fn differs(session: u8, own: &[Kept]) -> DeskFault
+pub(crate) fn differs(session: SessionId, own: &[Kept]) -> DeskFault
     ensures { result ≡ differs_refusal session own.now }
 {
+    let session = session.number();
     let place = last_place(own);
     DeskFault::Differs { session, place }
 }
@@ -426,10 +420,9 @@ fn count_call<L: Ledger>(
     counts: &mut Vec<usize>,
     calls: &mut ledger::Book<L>,
     share: &mut Share<L>,
-    session: u8,
+    session: SessionId,
     more: bool,
 )
-    requires low { 1 ≤ session }
     requires high { session ≤ vec_len counts.old }
     requires room { slice_index counts.old.items (session - 1) < 2 ^ 63 }
     requires part { share.old.parts ≡ 1 }
@@ -439,20 +432,19 @@ fn count_call<L: Ledger>(
     ensures parts { share.new.parts ≡ 1 }
 {
     if more {
-        counts[usize::from(session) - 1] += 1;
+        counts[session.index()] += 1;
         calls.add(share, 1);
     }
 }
 
 /// Returns what is behind the lock of a new desk.
 pub(crate) fn fresh_guard<L: Ledger>(
-    sessions: u8,
+    sessions: SessionCount,
     book: Book,
     limit: u32,
     counts: Vec<usize>,
     calls: ledger::Book<L>,
 ) -> Guarded<L>
-    requires few { sessions ≤ 64 }
     requires book { book ≡ fresh book.base limit }
     requires counts { counts.items ≡ replicate sessions 0 }
     requires calls { calls.total ≡ 0 }

@@ -27,7 +27,7 @@
 //!   (`IsGuard` of `desk_rules/specs/Guards.antt`). Each call does what the book's does and, where
 //!   it is logged, adds it to the seat's calls.
 //! - `Seat`: its calls rise, and its share is their number.
-//! - `Desk`: 1 to 64 sessions, as many as its ledger has parts. That its lock has its layout, sessions
+//! - `Desk`: 1 to `MAX_SESSIONS` sessions, as many as its ledger has parts. That its lock has its layout, sessions
 //!   and limit no type says, so calls compare them: the layout, which takes longest, at an open, and
 //!   where a refusal isn't logged.
 //!

@@ -2,6 +2,7 @@
 
 use lay_items::Snapshot;
 use std::marker::Model;
+use undo_rules::SessionCount;
 
 /// What a desk is made with: its layout, the number of its sessions, and how many calls its book logs at most.
 #[derive(Drop)]
@@ -9,7 +10,7 @@ pub struct Origin {
     /// The layout.
     pub base: Snapshot,
     /// The number of sessions.
-    pub sessions: u8,
+    pub sessions: SessionCount,
     /// The most logged calls.
     pub limit: u32,
 }

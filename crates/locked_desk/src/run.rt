@@ -23,9 +23,7 @@ use std::marker::Brand;
 use std::sync::Wait;
 use std::sync::ledger::{Blank, Ledger};
 use std::thread::Threads;
-
-/// The most sessions.
-const MAX_SESSIONS: usize = 64;
+use undo_rules::{MAX_SESSIONS, SessionCount};
 
 /// A gate that stands open.
 struct OpenGate;
@@ -35,9 +33,9 @@ impl SessionGate for OpenGate {
 }
 
 /// Runs the scripts on the layout, each in a thread of its own, as that of the session of its number. Where
-/// there is none, one session takes no step; those after the 64th aren't run. A script for which no thread can
-/// be started runs on the caller's. `workers` threads label the edges of a Boolean; 0 is taken as 1, and more
-/// than `MAX_WORKERS` as `MAX_WORKERS`.
+/// there is none, one session takes no step; those after the `MAX_SESSIONS`-th aren't run. A script for which no
+/// thread can be started runs on the caller's. `workers` threads label the edges of a Boolean; 0 is taken as 1, and
+/// more than `MAX_WORKERS` as `MAX_WORKERS`.
 ///
 /// # Errors
 ///
@@ -53,24 +51,24 @@ pub fn run_scripts<R: Threads + Wait + Sync>(
     ensures { IfOk result (λ run. RunsScripts base scripts run.replies run.closed.book) }
 {
     let scripts = desk_scripts(alloc, scripts)?;
-    let sessions = scripts.as_slice().len() as u8;
-    let blank = Blank::new(u64::from(sessions));
+    let sessions = SessionCount::new(scripts.as_slice().len() as u8).unwrap();
+    let blank = Blank::new(u64::from(sessions.number()));
     run_on::<Brand, R>(rt, alloc, workers, base, sessions, scripts, blank)
 }
 
-/// Returns the scripts of a desk: one without steps where there are none, and at most 64.
+/// Returns the scripts of a desk: one without steps where there are none, and at most `MAX_SESSIONS`.
 fn desk_scripts(
     alloc: Global,
     scripts: Sequence<Sequence<Step>>,
 ) -> Result<Sequence<Sequence<Step>>, NoMemory>
     ensures value { IfOk result (λ all. all ≡ desk_scripts scripts) }
-    ensures range { IfOk result (λ all. (1 ≤ length all) × (length all ≤ 64)) }
+    ensures range { IfOk result (λ all. (1 ≤ length all) × (length all ≤ MAX_SESSIONS)) }
 {
     let mut scripts = scripts.into_vec();
     if scripts.is_empty() {
         scripts.push(Sequence::from_vec(Vec::new(alloc)))?;
     }
-    scripts.truncate(MAX_SESSIONS);
+    scripts.truncate(usize::from(MAX_SESSIONS));
     Ok(Sequence::from_vec(scripts))
 }
 
@@ -80,18 +78,17 @@ fn run_on<L: Ledger + Send + Sync, R: Threads + Wait + Sync>(
     alloc: Global,
     workers: u8,
     base: Snapshot,
-    sessions: u8,
+    sessions: SessionCount,
     scripts: Sequence<Sequence<Step>>,
     blank: Blank,
 ) -> Result<Run, RunFault>
     requires name { blank.name ≡ L.name }
     requires parts { blank.parts ≡ L.parts }
     requires one_each { blank.parts ≡ sessions }
-    requires range { (1 ≤ sessions) × (sessions ≤ 64) }
     requires scripts { length scripts ≡ sessions }
     ensures { IfOk result (λ run. RunsOn base scripts run.replies run.closed.book) }
 {
-    let (desk, seats) = Desk::<L>::new(alloc, base, sessions, blank)?;
+    let (desk, seats) = Desk::<L>::new(alloc, base, sessions.number(), blank)?;
     if workers < 2 {
         return run_sessions(rt, alloc, desk, seats, scripts, &OpenGate, &OneBand);
     }

@@ -1,22 +1,23 @@
 //! Seats: tokens of sessions.
-ghost use Rattle.std.specs.Prelude.{◌≡◌, ◌≤◌, []};
+ghost use Rattle.std.specs.Prelude.{◌≡◌, []};
 
 use desk_rules::Kept;
 use std::alloc::Global;
 use std::marker::Model;
 use std::sync::ledger::{Ledger, Share};
+use undo_rules::SessionId;
 
 /// A session's token: its logged calls, and its share of the desk's count of calls. It can't be copied.
 /// Contracts see the session and its calls.
 #[derive(Drop)]
 pub struct Seat<L: Ledger> {
-    pub(crate) session: u8,
+    pub(crate) session: SessionId,
     pub(crate) own: Vec<Kept>,
     pub(crate) share: Share<L>,
 }
 
 impl<L: Ledger> Model for Seat<L> {
-    ghost use Rattle.std.specs.Prelude.{◌≡◌, ◌≤◌, length};
+    ghost use Rattle.std.specs.Prelude.{◌≡◌, length};
     ghost use Rattle.desk_rules.specs.Seats.{AreCallsRising, Seat, coded_seat};
 
     ghost Value = { Seat };
@@ -25,7 +26,7 @@ impl<L: Ledger> Model for Seat<L> {
 
     ghost view = { λ s. record { session = s.session; own = s.own.items } };
 
-    ghost invariant = { λ s. (1 ≤ s.session) × AreCallsRising s.session 0 s.own.items × (s.share.parts ≡ 1)
+    ghost invariant = { λ s. AreCallsRising s.session 0 s.own.items × (s.share.parts ≡ 1)
         × (s.share.amount ≡ length s.own.items) };
 }
 
@@ -34,7 +35,7 @@ impl<L: Ledger> Seat<L> {
     pub fn session(&self) -> u8
         ensures value { result ≡ self.now.session }
     {
-        self.session
+        self.session.number()
     }
 
     /// Lends the session's logged calls with their places, in order.
@@ -46,8 +47,7 @@ impl<L: Ledger> Seat<L> {
 }
 
 /// Returns the seat of a session without calls.
-pub(crate) fn empty_seat<L: Ledger>(alloc: Global, session: u8, share: Share<L>) -> Seat<L>
-    requires low { 1 ≤ session }
+pub(crate) fn empty_seat<L: Ledger>(alloc: Global, session: SessionId, share: Share<L>) -> Seat<L>
     requires parts { share.parts ≡ 1 }
     requires amount { share.amount ≡ 0 }
     ensures { result ≡ record { session = session; own = [] } }

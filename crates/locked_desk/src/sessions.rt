@@ -17,6 +17,7 @@ use std::sync::Wait;
 use std::sync::ledger::Ledger;
 use std::thread;
 use std::thread::Threads;
+use undo_rules::MAX_SESSIONS;
 
 /// A run of sessions that has ended.
 #[derive(Drop)]
@@ -51,6 +52,8 @@ where
     requires { length scripts ≡ desk.sessions }
     ensures { IfOk result (λ run. IsDeskRun desk seats.items scripts run.replies run.closed.book) }
 {
+    // There are at most `MAX_SESSIONS`.
+    desk.sessions();
     let jobs = jobs_of(alloc, seats, scripts)?;
     let outcomes = run_jobs(rt, alloc, &desk, jobs, gate, bands)?;
     let (seats, replies) = ended(alloc, outcomes)?;
@@ -92,7 +95,7 @@ fn jobs_of<L: Ledger>(
     seats: Vec<Seat<L>>,
     scripts: Sequence<Sequence<Step>>,
 ) -> Result<Vec<Job<L>>, RunFault>
-    requires { length scripts ≤ 64 }
+    requires { length scripts ≤ MAX_SESSIONS }
     ensures { IfOk result (λ jobs. AreJobs seats.items 1 scripts jobs.items) }
 {
     let mut seats = seats;
@@ -102,7 +105,7 @@ fn jobs_of<L: Ledger>(
         let session = jobs.len() + 1;
         let Some(seat) = take_seat(&mut seats, session) else {
             return Err(RunFault::MissingSeat {
-                session: session.min(64) as u8,
+                session: session.min(usize::from(MAX_SESSIONS)) as u8,
             });
         };
         jobs.push(Job { seat, steps })?;

@@ -32,6 +32,8 @@ impl<L: Ledger> Desk<L> {
         ensures shows { IfOk result (λ layout. Shows self.now seat.now layout) }
         ensures fault { IfErr result (λ fault. IsShownFault self.now seat.now fault) }
     {
+        // Sessions are numbered from 1.
+        seat.session.number();
         let shown = self
             .entered(rt)
             .snapshot(alloc, &self.origin, seat.session, seat.own.as_slice());

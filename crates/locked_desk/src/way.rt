@@ -1,5 +1,5 @@
 //! Undo and redo as one call, with the way that it goes.
-ghost use Rattle.std.specs.Prelude.{◌≡◌, ◌≤◌};
+ghost use Rattle.std.specs.Prelude.{◌≡◌};
 ghost use Rattle.desk_rules.specs.Legal.{Stepped, answer_of};
 ghost use Rattle.lay_point.specs.Memory.{IsAnswer};
 ghost use Rattle.locked_desk.specs.Ways.{answer_for, call_for, given_for};
@@ -7,7 +7,7 @@ ghost use Rattle.locked_desk.specs.Ways.{answer_for, call_for, given_for};
 use std::alloc::Global;
 use txn_commands::TxnId;
 use undo_book::Book;
-use undo_rules::{Answer, BookFault, Call};
+use undo_rules::{Answer, BookFault, Call, SessionId};
 
 /// Whether a transaction is undone or redone.
 #[derive(Clone, Copy, Debug)]
@@ -44,17 +44,15 @@ impl Way {
         self,
         book: &mut Book,
         alloc: Global,
-        session: u8,
+        session: SessionId,
         txn: TxnId,
     ) -> Result<(), BookFault>
-        requires low { 1 ≤ session }
-        requires high { session ≤ 64 }
         ensures step { Stepped book.old session (call_for self txn) (answer_of (answer_for self) result) book.new }
         ensures answer { IsAnswer BookFault.NoMemory result (given_for self session txn book.old) }
     {
         match self {
-            Way::Back => book.undo(alloc, session, txn),
-            Way::Forth => book.redo(alloc, session, txn),
+            Way::Back => book.undo(alloc, session.number(), txn),
+            Way::Forth => book.redo(alloc, session.number(), txn),
         }
     }
 }

@@ -11,7 +11,7 @@ pub audited-seats-requires-clause-some : goal.audited-seats-requires-clause-some
 audited-seats-requires-clause-some g c =
     let n = c.desk.inside.origin.sessions in
     let all : HasAll n c.args.seats.items = search rules in
-    some_seats n c.args.seats.items c.desk.invariant.1 all
+    some_seats n c.args.seats.items (subst (λ (d : Desk). 1 ≤ d.sessions) c.origin.view_is c.number.ensures.low) all
 
 pub returns-clause-closed : goal.returns-clause-closed
 returns-clause-closed g c =
@@ -23,7 +23,7 @@ returns-clause-closed g c =
     let few : length seats ≤ n = search rules in
     let many : length seats ≡ n = seats_many n seats few all in
     let total : own_total seats ≡ length book.log =
-    c.audited-seats.ensures.whole (many ∙ c.desk.invariant.0) ∙ c.book.invariant.0.total in
+    c.audited-seats.ensures.whole (many ∙ c.desk.invariant) ∙ c.book.invariant.0.total in
     let rising : AreSeatsRising seats = c.audited-seats.ensures.rising in
     let none : missing_call book.log seats ≡ None = search rules in
     let is : desk ≡ c.args.desk = search rules in
@@ -41,7 +41,7 @@ returns-clause-refused g c =
     let few : length seats ≤ n = search rules in
     let many : length seats ≡ n = seats_many n seats few all in
     let total : own_total seats ≡ length book.log =
-    c.audited-seats.ensures.whole (many ∙ c.desk.invariant.0) ∙ c.book.invariant.0.total in
+    c.audited-seats.ensures.whole (many ∙ c.desk.invariant) ∙ c.book.invariant.0.total in
     let none : missing_call book.log seats ≡ None = search rules in
     let is : desk ≡ c.args.desk = search rules in
     subst (λ (d : Desk). RefusesSo d seats c.by_origin.result) is
@@ -58,7 +58,7 @@ returns-in-Some-clause-refused g c =
     let few : length seats ≤ n = search rules in
     let many : length seats ≡ n = seats_many n seats few all in
     let total : own_total seats ≡ length book.log =
-    c.audited-seats.ensures.whole (many ∙ c.desk.invariant.0) ∙ c.book.invariant.0.total in
+    c.audited-seats.ensures.whole (many ∙ c.desk.invariant) ∙ c.book.invariant.0.total in
     let named : missing_call book.log seats ≡ Some (c.in-Some.session, c.in-Some.place) = search rules in
     let is : desk ≡ c.args.desk = search rules in (
       c.audited-seats.ensures.seats,

@@ -15,7 +15,7 @@ invariant_of-seat-2 g c =
     seat_kept (answer_of done c.in-Ok.done.0) _ c.change-changed.new.self.book
     c.seat.inside.session c.seat.inside.own.items c.as_slice.result.now c.keep.new.own.items (call_for c.args.way c.args.txn)
     c.in-Ok.done.1
-    c.change-changed.new.share.parts c.change-changed.new.share.amount c.seat.inside.share.amount (was.0, was.1, refl, was.3)
+    c.change-changed.new.share.parts c.change-changed.new.share.amount c.seat.inside.share.amount (was.0, refl, was.2)
     (search rules)
     c.in-Ok.ensures.made (search rules) c.change-changed.ensures.parts c.in-Ok.ensures.amount
 

@@ -7,7 +7,7 @@ use Rattle.desk_rules.specs.Refusals.{IsRefused}
 use Rattle.desk_rules.specs.Seats.{EndsWith}
 use Rattle.desk_rules.proofs.SeatLemmas.{seat_kept}
 use Rattle.locked_desk.specs.Desks.{commit_answer, commit_fault, desk_commit_answer}
-use Rattle.locked_desk.proofs.CallLemmas.{commit_by_book_answer, gains_kept}
+use Rattle.locked_desk.proofs.CallLemmas.{back_by_book, commit_by_book_answer, gains_kept}
 use Rattle.locked_desk.proofs.RefusedLemmas.{commit_refused_as_desk}
 use Rattle.locked_desk.proofs.desk.Desk.commit.Goals as goal
 
@@ -25,7 +25,7 @@ invariant_of-seat-2 g c =
     seat_kept (commit_answer c.in-Ok-committed.done.0) _ c.commit-committed.new.self.book
     c.seat.inside.session c.seat.inside.own.items c.as_slice.result.now c.keep.new.own.items (Commit c.args.work.id c.args.work.commands)
     c.in-Ok-committed.done.1 c.commit-committed.new.share.parts c.commit-committed.new.share.amount c.seat.inside.share.amount
-    (was.0, was.1, refl, was.3) (search rules)
+    (was.0, refl, was.2) (search rules)
     made (search rules) c.commit-committed.ensures.parts c.in-Ok-committed.ensures.amount
 
 pub returns-clause-gains : goal.returns-clause-gains
@@ -56,3 +56,8 @@ returns-clause-refused g c =
     c.as_slice.result.now (λ session. commit_fault session c.args.work) c.in-Ok-committed.done.0 c.self.view_is c.seat.view_is
     (search rules)
     told)
+
+pub returns-clause-back : goal.returns-clause-back
+returns-clause-back g c =
+    let same : c.prepare.new.self ≡ c.args.work = search rules in
+    rw c.commit_by_book.ensures (back_by_book c.prepare.new.self c.args.work c.in-Ok-committed.done.0 same c.in-Ok-committed.ensures.back)

@@ -11,7 +11,7 @@ invariant_of-seat-then-not-is_same g c =
     let was = c.seat.invariant in
     seat_kept (opened_answer c.in-Ok.done.0) _ c.open-opened.new.self.book
     c.seat.inside.session c.seat.inside.own.items c.as_slice.result.now c.keep.new.own.items Open c.in-Ok.done.1
-    c.open-opened.new.share.parts c.open-opened.new.share.amount c.seat.inside.share.amount (was.0, was.1, refl, was.3) (search rules)
+    c.open-opened.new.share.parts c.open-opened.new.share.amount c.seat.inside.share.amount (was.0, refl, was.2) (search rules)
     c.in-Ok.ensures.made (search rules) c.open-opened.ensures.parts c.in-Ok.ensures.amount
 
 pub returns-then-not-is_same-clause-opens : goal.returns-then-not-is_same-clause-opens
@@ -31,7 +31,7 @@ invariant_of-seat-in-Ok-result g c =
     let was = c.seat.invariant in
     seat_kept (opened_answer c.in-Ok.done.0) _ c.open-opened.new.self.book
     c.seat.inside.session c.seat.inside.own.items c.as_slice.result.now c.keep.new.own.items Open c.in-Ok.done.1
-    c.open-opened.new.share.parts c.open-opened.new.share.amount c.seat.inside.share.amount (was.0, was.1, refl, was.3) (search rules)
+    c.open-opened.new.share.parts c.open-opened.new.share.amount c.seat.inside.share.amount (was.0, refl, was.2) (search rules)
     c.in-Ok.ensures.made (search rules) c.open-opened.ensures.parts c.in-Ok.ensures.amount
 
 pub returns-in-Ok-result-clause-opens : goal.returns-in-Ok-result-clause-opens
@@ -47,7 +47,7 @@ invariant_of-seat-2 g c =
     let was = c.seat.invariant in
     seat_kept (opened_answer c.in-Ok.done.0) _ c.open-opened.new.self.book
     c.seat.inside.session c.seat.inside.own.items c.as_slice.result.now c.keep.new.own.items Open c.in-Ok.done.1
-    c.open-opened.new.share.parts c.open-opened.new.share.amount c.seat.inside.share.amount (was.0, was.1, refl, was.3) (search rules)
+    c.open-opened.new.share.parts c.open-opened.new.share.amount c.seat.inside.share.amount (was.0, refl, was.2) (search rules)
     c.in-Ok.ensures.made (search rules) c.open-opened.ensures.parts c.in-Ok.ensures.amount
 
 pub returns-clause-opens : goal.returns-clause-opens

@@ -15,4 +15,4 @@ returns-else-not-is_same-clause-shows g c =
     let calls : own_calls seat.session h.log ≡ seat.own = search rules in
     subst (λ (d : Desk). Shows d c.args.seat.now c.in-Ok.layout) c.self.view_is
     (subst (λ (s : Seat). Shows desk s c.in-Ok.layout) c.seat.view_is
-    (shows desk seat c.in-Ok.layout h legal c.seat.invariant.0 c.in-Ok.ensures.high calls c.in-Ok.ensures.value.0))
+    (shows desk seat c.in-Ok.layout h legal c.number.ensures.low c.in-Ok.ensures.high calls c.in-Ok.ensures.value.0))

@@ -10,8 +10,8 @@ use Rattle.locked_desk.specs.Desks.{commit_fault}
 use Rattle.locked_desk.proofs.RefusedLemmas.{foreign_base, other_refused, own_refused}
 use Rattle.locked_desk.proofs.guarded.Guarded.commit.Goals as goal
 
-pub returns-then-id-session-clause-told : goal.returns-then-id-session-clause-told
-returns-then-id-session-clause-told g c =
+pub returns-then-id-number-clause-told : goal.returns-then-id-number-clause-told
+returns-then-id-number-clause-told g c =
     let was : Guard = record {
       sessions = c.self.inside.sessions;
       book = c.self.inside.book;

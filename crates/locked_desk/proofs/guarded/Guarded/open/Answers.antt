@@ -7,6 +7,7 @@ use Rattle.desk_rules.proofs.LegalLemmas.{stepped_open}
 use Rattle.undo_rules.specs.Steps.{is_log_full, open_step}
 use Rattle.desk_rules.specs.Refusals.{open_fault}
 use Rattle.desk_rules.proofs.RefusalLemmas.{open_full, refused_as}
+use Rattle.locked_desk.proofs.CallLemmas.{opened_by}
 use Rattle.locked_desk.proofs.RefusedLemmas.{taken}
 use Rattle.locked_desk.proofs.GuardedLemmas.{limit_kept}
 use Rattle.locked_desk.proofs.guarded.Guarded.open.Goals as goal
@@ -20,7 +21,8 @@ invariant_of-self-2 g c =
       total = c.self.inside.calls.total;
     } in
     let look = looked was c.args.session c.args.own.now (search rules) in
-    let stepped = (stepped_open c.self.inside.book c.open-result.new.self c.args.session c.open-result.result
+    let stepped = stepped_open c.self.inside.book c.open-result.new.self c.args.session c.open-result.result
+    (opened_by c.self.inside.book c.open-result.new.self c.number.result c.args.session c.open-result.result c.number.ensures.value
     c.open-result.ensures.step) in (
       guard_called was c.open-result.new.self c.args.session Open
           (opened_answer c.open-result.result) c.args.own.now c.count_call.new.counts.items
@@ -44,7 +46,8 @@ returns-clause-made g c =
     made_logged c.args.origin.now was c.open-result.new.self c.args.session (length c.log-place.result.now) Open
     (opened_answer c.open-result.result) c.args.own.now c.self.invariant.0 fits
     (search rules) look (stepped_open c.self.inside.book c.open-result.new.self c.args.session c.open-result.result
-    c.open-result.ensures.step) (search rules)
+    (opened_by c.self.inside.book c.open-result.new.self c.number.result c.args.session c.open-result.result c.number.ensures.value
+    c.open-result.ensures.step)) (search rules)
 
 pub returns-clause-told : goal.returns-clause-told
 returns-clause-told g c =
@@ -58,5 +61,7 @@ returns-clause-told g c =
     let fits : Fits c.args.origin.now was = search rules in
     let full : is_log_full was.book ≡ true → was.book.base ≡ c.args.origin.now.base = search rules in
     refused_as c.args.origin.now was c.args.session c.args.own.now (open_fault c.args.session) c.open-result.result
-    (open_step was.book c.args.session).0 c.self.invariant.0 fits look (taken c.open-result.ensures.step) refl
+    (open_step was.book c.args.session).0 c.self.invariant.0 fits look (taken
+    (opened_by c.self.inside.book c.open-result.new.self c.number.result c.args.session c.open-result.result c.number.ensures.value
+    c.open-result.ensures.step)) refl
     (λ fault at none. full (open_full was.book c.args.session fault at none))

@@ -29,5 +29,5 @@ returns-then-not-has_last-clause-refused g c =
     let guard = c.args.self.now in
     let kept : IsGuard guard = subst (λ (h : Guard). IsGuard h) c.self.view_is c.self.invariant.0 in
     let looked : has_last guard c.args.session c.args.own.now ≡ false = search rules in
-    shown_last c.args.origin.now guard c.args.session c.args.own.now c.last_place.result c.missed.result kept c.requires.low looked
+    shown_last c.args.origin.now guard c.args.session c.args.own.now c.last_place.result c.missed.result kept (search rules) looked
     c.requires.there c.last_place.ensures c.missed.ensures
