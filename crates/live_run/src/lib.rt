@@ -6,7 +6,7 @@
 //! is then. A line that is neither is answered by its number, and a blank one not at all; neither
 //! changes anything. At the end of the input come the comments of the order and the layout. So the
 //! replies, the order and the layout at the end are those of a job of the same steps. The run has
-//! 64 sessions.
+//! `MAX_SESSIONS` sessions.
 //!
 //! A fault of the job or of its CIF text isn't written but is an end of the run, [`LiveEnd`], which
 //! the caller reports. At most [`MAX_READS`] reads are made of the input. A caller that has its input

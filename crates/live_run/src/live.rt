@@ -29,10 +29,7 @@ use session_steps::{Reply, Step, StepFault, dealt};
 use std::alloc::Global;
 use std::thread::Threads;
 use txn_commands::CmdFault;
-use undo_rules::BookFault;
-
-/// How many sessions a live run has.
-const SESSIONS: u8 = 64;
+use undo_rules::{BookFault, MAX_SESSIONS};
 
 /// What a line is answered.
 #[derive(Debug, Drop)]
@@ -94,10 +91,10 @@ impl Live {
         ensures { IfOk result (λ run. run_of run ≡ before_first_line view base) }
     {
         Ok(Live {
-            machine: Machine::new(alloc, base, SESSIONS)?,
+            machine: Machine::new(alloc, base, MAX_SESSIONS)?,
             sessions: Vec::new(alloc),
             replies: Vec::new(alloc),
-            taken: vec![in alloc; 0; usize::from(SESSIONS) + 1]?,
+            taken: vec![in alloc; 0; usize::from(MAX_SESSIONS) + 1]?,
             lines: 0,
             view,
         })
@@ -184,7 +181,7 @@ impl Live {
             view,
             ..
         } = self;
-        let replies = dealt(alloc, SESSIONS, sessions.as_slice(), replies)?;
+        let replies = dealt(alloc, MAX_SESSIONS, sessions.as_slice(), replies)?;
         let order = order_of(alloc, machine.book().log(), replies.as_slice())?;
         let layout = machine.book().snapshot().share(alloc)?;
         Ok((comments(alloc, &[], &order)?, layout, view))

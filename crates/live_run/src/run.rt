@@ -21,7 +21,7 @@ const _: () = prove!(MAX_READS == 33_554_432);
 /// How many bytes are asked for in one read.
 const BUFFER: usize = 16_384;
 
-/// Runs the live run of the input's lines on 64 sessions, and answers each as soon as it has come. `bands` finds the
+/// Runs the live run of the input's lines on `MAX_SESSIONS` sessions, and answers each as soon as it has come. `bands` finds the
 /// edges of Booleans. The layout is shown with the names and labels of the text in front of the live line, and with its shapes
 /// directed, where `showing` says so; what the run keeps stays as it is.
 ///
