@@ -6,13 +6,14 @@ use Rattle.lay_oriented.specs.Directed.{IsDirectedNaming}
 use Rattle.lay_oriented.specs.declared.directing.Directed.{Directed}
 use Rattle.live_run.specs.declared.showing.View.{View}
 use Rattle.live_run.specs.declared.course.Course.TheVariants.{Steps}
+use Rattle.live_run.specs.declared.ending.EndNotes.{EndNotes}
 use Rattle.live_run.specs.declared.ending.LiveEnd.{LiveEnd}
 use Rattle.live_run.specs.declared.live.Live.{Live}
 use Rattle.live_run.specs.Course.{AnswersTo, GivesTo, InSteps}
 use Rattle.live_run.specs.Journal.{KeptText}
 use Rattle.live_run.specs.Live.{LiveRun, Said, run_of}
-use Rattle.live_run.specs.Said.{IsClosing, IsSaidText, IsShownIn, shown_named, order_said}
-use Rattle.live_run.specs.Shown.{IsShown, text_named}
+use Rattle.live_run.specs.Said.{IsClosing, IsNotedClosing, IsSaidText, IsShownIn, shown_named, order_said}
+use Rattle.live_run.specs.Shown.{IsShown, IsShownNaming, left_out_of, text_named}
 
 -- a layout that was directed is seen so
 pub seen_directed : {E : Type 0} (oriented : Bool) (layout : Layout) (result : Result Directed E) → oriented ≡ true
@@ -20,6 +21,13 @@ pub seen_directed : {E : Type 0} (oriented : Bool) (layout : Layout) (result : R
 seen_directed oriented layout (Ok d) is (stays, count, named, but) =
     subst (λ o. IsShown o layout d.layout) (sym is) (d.staying, (stays, count, but))
 seen_directed oriented layout (Err e) is none = none
+
+-- and what stays is noted
+pub noted_directed : {E : Type 0} (oriented : Bool) (layout : Layout) (result : Result Directed E) → oriented ≡ true
+    → IfOk result (λ d. IsDirectedNaming layout d.layout d.staying d.first.items)
+    → IfOk result (λ d. IsShownNaming oriented layout d.layout d.staying d.first.items)
+noted_directed oriented layout (Ok d) is so = subst (λ o. IsShownNaming o layout d.layout d.staying d.first.items) (sym is) so
+noted_directed oriented layout (Err e) is none = none
 
 -- of an answer that wants the layout this one is seen
 pub seen_one : (wanted : Bool) (view : View) (layout seen : Layout) → wanted ≡ true → IsShown view.oriented layout seen
@@ -43,6 +51,20 @@ pub closing_by : (run : LiveRun) (view : View) (layout seen : Layout) (order wor
 closing_by run view layout seen order words of_run at_run ordered so joined = (
   seen,
   subst (λ (l : Layout). IsShown run.view.oriented l seen) at_run (subst (λ (v : View). IsShown v.oriented layout seen) of_run so),
+  joined ∙ ap (λ (o : List ℕ). o ++ text_named view.names seen) ordered
+      ∙ ap (λ (v : View). order_said run ++ text_named v.names seen) of_run,
+)
+
+-- and so it is noted
+pub noted_by : (run : LiveRun) (view : View) (layout seen : Layout) (notes : EndNotes) (order words : List ℕ) → view ≡ run.view
+    → layout ≡ run.state.history.layout → order ≡ order_said run
+    → IsShownNaming view.oriented layout seen notes.staying notes.first.items → notes.left_out ≡ left_out_of view.names
+    → words ≡ order ++ text_named view.names seen → IsNotedClosing run notes words
+noted_by run view layout seen notes order words of_run at_run ordered so left joined = (
+  seen,
+  subst (λ (l : Layout). IsShownNaming run.view.oriented l seen notes.staying notes.first.items) at_run
+      (subst (λ (v : View). IsShownNaming v.oriented layout seen notes.staying notes.first.items) of_run so),
+  left ∙ ap (λ (v : View). left_out_of v.names) of_run,
   joined ∙ ap (λ (o : List ℕ). o ++ text_named view.names seen) ordered
       ∙ ap (λ (v : View). order_said run ++ text_named v.names seen) of_run,
 )

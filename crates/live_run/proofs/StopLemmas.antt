@@ -17,7 +17,7 @@ use Rattle.live_run.specs.declared.course.Course.{Course}
 use Rattle.live_run.specs.declared.ending.LiveEnd.{LiveEnd}
 use Rattle.live_run.specs.declared.ending.LiveEnd.TheVariants.{Cif, Device, Done, Job, Journal, Memory}
 use Rattle.live_run.specs.Cif.{behind, cif_from, cif_of, is_live, whole}
-use Rattle.live_run.specs.Said.{AreAnswered, HaveRefused, IsClosing, IsFirstRun, IsSaid, IsSaidBehind, IsSaidText, IsWhole, first_run}
+use Rattle.live_run.specs.Said.{AreAnswered, HaveRefused, IsClosing, IsFirstRun, IsNotedClosing, IsNotedWhole, IsSaid, IsSaidBehind, IsSaidText, first_run}
 use Rattle.live_run.specs.Ending.{Does, HasCifFault, HasJobFault, IsStop, KeepsPart, Past, Tells, WritesPart, all_lines, no_past, whole_lines}
 use Rattle.live_run.specs.Journal.{KeptText, KeptAll, KeptPart, kept_head, kept_in, kept_line}
 use Rattle.live_run.specs.Course.{ClosesTo, HeadTo, HearsTo, InHead, InSteps, LiveTo, Phase, RefusesHead, RunCloses, phase_of}
@@ -380,11 +380,11 @@ module _ {O J : Type 0} (showing : Showing) (written : O → Option (List ℕ)) 
         → RunCloses written failures out.0 out'.0 run end → out'.1 ≡ out.1
         → IsStop showing written failures kept losses past base out' given ⊤ end
     run_closes base out out' seen run given (Done any notes) all (heard, first, h, is, ran, said, are, did) (last, so, put, flag) same =
-        let so' : IsClosing (after_lines first heard) last = subst (λ (r : LiveRun). IsClosing r last) ran so in
+        let so' : IsNotedClosing (after_lines first heard) notes last = subst (λ (r : LiveRun). IsNotedClosing r notes last) ran so in
         let did' = does_then base out out' said last (kept_in seen) [] did put (kept_nothing kept losses out.1 out'.1 same) in (
           tt,
           said ++ last,
-          subst (λ (ls : List (List ℕ)). IsWhole showing ls (said ++ last)) (sym all)
+          subst (λ (ls : List (List ℕ)). IsNotedWhole showing ls notes (said ++ last)) (sym all)
               (heard, first, h, is, said, last, are, so', refl),
           subst (λ (ls : List (List ℕ)). HaveRefused showing ls any) (sym all)
               (heard, first, h, is, flag ∙ ap has_refused ran),

@@ -22,11 +22,12 @@ use Rattle.live_run.specs.declared.base.HeadFault.{HeadFault}
 use Rattle.live_run.specs.declared.base.HeadFault.TheVariants.{Cif as CifHead, Job as JobHead, Memory as MemoryHead}
 use Rattle.live_run.specs.declared.course.Course.{Course}
 use Rattle.live_run.specs.declared.course.Course.TheVariants.{Head, Steps}
+use Rattle.live_run.specs.declared.ending.EndNotes.{EndNotes}
 use Rattle.live_run.specs.declared.ending.LiveEnd.{LiveEnd}
 use Rattle.live_run.specs.declared.ending.LiveEnd.TheVariants.{Cif, Device, Done, Job, Journal, Memory}
 use Rattle.live_run.specs.Cif.{cif_from, is_live}
 use Rattle.live_run.specs.Journal.{KeptText, KeptAll, KeptPart, kept_head, kept_line}
-use Rattle.live_run.specs.Said.{IsClosing, IsSaidText, first_run}
+use Rattle.live_run.specs.Said.{IsClosing, IsNotedClosing, IsSaidText, first_run}
 use Rattle.live_run.specs.Shown.{view_of}
 
 -- before the live line, the lines so far, joined, and how many they are; behind it, the run
@@ -128,15 +129,15 @@ module _ {J : Type 0} (showing : Showing) (kept : J → Option (List KeptText)) 
 
 module _ {O : Type 0} (written : O → Option (List ℕ)) (failures : O → ℕ) (out out' : O) where
   -- what closes a run was written; or the device failed, and a prefix was; or memory was refused, and nothing was
-  abbrev pub PutsClosing : {A : Type 0} → LiveRun → Result A WriteFault → Type 0
-  PutsClosing run (Ok x) = (text : List ℕ) × IsClosing run text × WroteAll written failures out out' text
+  abbrev pub PutsClosing : LiveRun → Result EndNotes WriteFault → Type 0
+  PutsClosing run (Ok notes) = (text : List ℕ) × IsNotedClosing run notes text × WroteAll written failures out out' text
   PutsClosing run (Err DeviceFault) = (text : List ℕ) × IsClosing run text × WrotePrefix written failures out out' text
   PutsClosing run (Err NoMemory) = out' ≡ out
 
   -- what the end of the input leads to in a run
   abbrev pub RunCloses : LiveRun → LiveEnd → Type 0
   RunCloses run (Done refused notes) =
-      (text : List ℕ) × IsClosing run text × WroteAll written failures out out' text × (refused ≡ has_refused run)
+      (text : List ℕ) × IsNotedClosing run notes text × WroteAll written failures out out' text × (refused ≡ has_refused run)
   RunCloses run (Job line text) = ⊥
   RunCloses run (Cif fault text) = ⊥
   RunCloses run Device = (text : List ℕ) × IsClosing run text × WrotePrefix written failures out out' text

@@ -15,7 +15,7 @@ use Rattle.live_run.specs.declared.showing.Showing.{Showing}
 use Rattle.live_run.specs.Cif.{before, behind, cif_of, whole}
 use Rattle.live_run.specs.Devices.{Devices, Observed, devices, observed_by}
 use Rattle.live_run.specs.Journal.{KeptText, KeptAll, KeptPart, kept_in}
-use Rattle.live_run.specs.Said.{HaveRefused, IsSaid, IsWhole}
+use Rattle.live_run.specs.Said.{HaveRefused, IsNotedWhole, IsSaid, IsWhole}
 
 -- the input came to its end, and didn't fail
 abbrev pub IsEnded : Counts → Counts → Type 0
@@ -113,10 +113,10 @@ module _ {O J : Type 0} (showing : Showing) (written : O → Option (List ℕ)) 
   IsAnswered = (said : List ℕ) × IsSaid showing (whole_lines past given) said
       × Does written failures kept losses past out out' said (kept_in (whole_lines past given))
 
-  -- a run that ended so, and not for its input: where it is done, the input has ended and all is said
+  -- a run that ended so, and not for its input: where it is done, the input has ended, all is said, and noted of the layout
   abbrev pub IsStop : Type 0 → LiveEnd → Type 0
   IsStop ended (Done refused notes) =
-      ended × (said : List ℕ) × IsWhole showing (all_lines past given) said × HaveRefused showing (all_lines past given) refused
+      ended × (said : List ℕ) × IsNotedWhole showing (all_lines past given) notes said × HaveRefused showing (all_lines past given) refused
       × Does written failures kept losses past out out' said (kept_in (all_lines past given))
   IsStop ended (Job line text) = IsJobEnd ended line text.items
   IsStop ended (Cif fault text) = IsCifEnd ended fault text.items

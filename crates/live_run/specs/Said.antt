@@ -8,11 +8,12 @@ use Rattle.cif_layout.specs.FromCif.{layout_of}
 use Rattle.lay_layouts.specs.Layout.{Layout}
 use Rattle.session_steps.specs.Turns.{dealt}
 use Rattle.job_text.specs.Order.{order_of, order_text}
+use Rattle.live_run.specs.declared.ending.EndNotes.{EndNotes}
 use Rattle.live_run.specs.declared.showing.Showing.{Showing}
 use Rattle.live_run.specs.declared.showing.View.{View}
 use Rattle.live_run.specs.Live.{LiveRun, Said, after_line, after_lines, before_first_line, has_refused}
 use Rattle.live_run.specs.Cif.{behind, cif_of}
-use Rattle.live_run.specs.Shown.{IsShown, text_named, view_of}
+use Rattle.live_run.specs.Shown.{IsShown, IsShownNaming, left_out_of, text_named, view_of}
 
 -- the text of a layout that is written behind other bytes, if one is
 abbrev pub shown_text : Option Layout → List ℕ
@@ -50,6 +51,12 @@ abbrev pub IsClosing : LiveRun → List ℕ → Type 0
 IsClosing run said =
     (seen : Layout) × IsShown run.view.oriented run.state.history.layout seen × (said ≡ order_said run ++ text_named run.view.names seen)
 
+-- the same, and these are the notes of the layout that is written then
+abbrev pub IsNotedClosing : LiveRun → EndNotes → List ℕ → Type 0
+IsNotedClosing run notes said =
+    (seen : Layout) × IsShownNaming run.view.oriented run.state.history.layout seen notes.staying notes.first.items
+    × (notes.left_out ≡ left_out_of run.view.names) × (said ≡ order_said run ++ text_named run.view.names seen)
+
 -- a run before its first line, whose CIF text is this and means this
 abbrev pub first_run : Showing → List ℕ → Contents → LiveRun
 first_run showing cif file = before_first_line (view_of showing cif) (layout_of file)
@@ -73,6 +80,13 @@ abbrev pub IsWhole : Showing → List (List ℕ) → List ℕ → Type 0
 IsWhole showing lines said =
     (heard : List (List ℕ)) × (first : LiveRun) × (behind lines ≡ Some heard) × IsFirstRun showing lines first
     × (answered closed : List ℕ) × AreAnswered first heard answered × IsClosing (after_lines first heard) closed
+    × (said ≡ answered ++ closed)
+
+-- the same, and these are the notes of the layout at the end
+abbrev pub IsNotedWhole : Showing → List (List ℕ) → EndNotes → List ℕ → Type 0
+IsNotedWhole showing lines notes said =
+    (heard : List (List ℕ)) × (first : LiveRun) × (behind lines ≡ Some heard) × IsFirstRun showing lines first
+    × (answered closed : List ℕ) × AreAnswered first heard answered × IsNotedClosing (after_lines first heard) notes closed
     × (said ≡ answered ++ closed)
 
 -- where these lines were all, a step of theirs was refused, or none was

@@ -1,15 +1,17 @@
 -- How a layout is shown: with the names and labels of a text, and with its shapes directed.
 -- Source: this project's own.
-use Rattle.std.specs.Prelude.{◌≡◌, ℕ, List, Bool, true, false, Option, None, Some}
+use Rattle.std.specs.Prelude.{◌≡◌, ℕ, List, [], Bool, true, false, Option, None, Some}
 use Rattle.cif_names.specs.declared.names.Names.{Names}
 use Rattle.cif_names.specs.Names.{names_of, within}
 use Rattle.cif_names.specs.Woven.{with_names}
 use Rattle.cif_write.specs.Boxes.{text_as}
 use Rattle.cif_write.specs.Text.{text}
 use Rattle.cif_write.specs.declared.boxes.Rectangles.TheVariants.{Boxes}
+use Rattle.lay_cells.specs.declared.cell_id.CellId.{CellId}
+use Rattle.lay_layouts.specs.declared.id.ItemId.{ItemId}
 use Rattle.lay_layouts.specs.Layout.{Layout}
 use Rattle.lay_layouts.specs.SlotOrder.{in_slot_order}
-use Rattle.lay_oriented.specs.Directed.{IsDirected}
+use Rattle.lay_oriented.specs.Directed.{IsDirected, IsDirectedNaming}
 use Rattle.live_run.specs.declared.showing.Showing.{Showing}
 use Rattle.live_run.specs.declared.showing.View.{View}
 
@@ -45,3 +47,13 @@ view_of showing cif = record { names = names_when showing.named cif; oriented = 
 abbrev pub IsShown : Bool → Layout → Layout → Type 0
 IsShown false layout seen = seen ≡ layout
 IsShown true layout seen = (staying : ℕ) × IsDirected layout seen staying
+
+-- the same, and how many shapes stay though they were to be directed, with the first three of them; else none
+abbrev pub IsShownNaming : Bool → Layout → Layout → ℕ → List (CellId × ItemId) → Type 0
+IsShownNaming false layout seen staying first = (seen ≡ layout) × (staying ≡ 0) × (first ≡ [])
+IsShownNaming true layout seen staying first = IsDirectedNaming layout seen staying first
+
+-- how many names and labels are left out, where any are shown
+abbrev pub left_out_of : Option Names → ℕ
+left_out_of None = 0
+left_out_of (Some names) = names.left_out

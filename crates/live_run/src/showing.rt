@@ -6,7 +6,9 @@ ghost use Rattle.cif_names.specs.Woven.{with_names};
 ghost use Rattle.live_run.specs.Said.{shown_named, shown_text};
 ghost use Rattle.live_run.specs.Shown.{
   IsShown,
+  IsShownNaming,
   layout_text,
+  left_out_of,
   text_named,
   names_for,
   names_when,
@@ -53,7 +55,9 @@ impl View {
     }
 
     /// Returns how many of the text's names and labels are left out, where they are shown.
-    pub(crate) fn left_out(&self) -> usize {
+    pub(crate) fn left_out(&self) -> usize
+        ensures { result ≡ left_out_of self.now.names }
+    {
         match &self.names {
             Some(names) => names.left_out(),
             None => 0,
@@ -112,7 +116,8 @@ pub fn names_for(
 ///
 /// That of `oriented_layout`, where it is asked for.
 pub(crate) fn seen(alloc: Global, oriented: bool, layout: &Snapshot) -> Result<Directed, NoMemory>
-    ensures { IfOk result (λ directed. IsShown oriented layout.now directed.layout) }
+    ensures layout { IfOk result (λ directed. IsShown oriented layout.now directed.layout) }
+    ensures noted { IfOk result (λ directed. IsShownNaming oriented layout.now directed.layout directed.staying directed.first.items) }
 {
     if oriented {
         return oriented_layout(alloc, layout);
