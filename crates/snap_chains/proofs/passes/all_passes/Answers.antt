@@ -23,8 +23,11 @@ collect-requires-clause-ready g c κs within =
     let have = some_have segments some (subst (All (λ (r : Owner × List Point). IsRing r.1)) (sym whole) c.requires.rings)
     (subst (λ (l : List (Owner × List Point)). HaveSides l segments) (sym whole) c.requires.sides) in
     rw (c.map.ensures.f) (λ k d lt x e. (
-      (subst (All (λ (r : Owner × List Point). IsRing r.1)) (sym e) (have k d lt).0,
-          subst (λ (l : List (Owner × List Point)). HaveSides l segments) (sym e) (have k d lt).1, c.requires.hot),
+      (
+        subst (All (λ (r : Owner × List Point). IsRing r.1)) (sym e) (have k d lt).0,
+        subst (λ (l : List (Owner × List Point)). HaveSides l segments) (sym e) (have k d lt).1,
+        c.requires.hot,
+      ),
       λ y p. tt,
     ))
 
