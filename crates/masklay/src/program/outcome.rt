@@ -24,7 +24,7 @@ use session_steps::{Reply, Step, StepFault, dealt, in_turn};
 use std::alloc::Global;
 use std::thread::Threads;
 use txn_commands::{CmdFault, Command};
-use undo_rules::BookFault;
+use undo_rules::{BookFault, MAX_SESSIONS, SessionCount};
 
 /// Why no layout is written.
 #[derive(Clone, Copy, Debug, PartialEq, Eq)]
@@ -225,7 +225,7 @@ fn finish_steps(
     }
     // The rest of the history takes the most memory, and is dropped before the replies are dealt.
     let (layout, log) = machine.into_book().end();
-    let replies = dealt(alloc, sessions, order.as_slice(), replies)?;
+    let replies = dealt(alloc, sessions.number(), order.as_slice(), replies)?;
     let order = order_of(alloc, &log, replies.as_slice())?;
     Ok(Finished {
         layout,
@@ -240,13 +240,12 @@ fn run_steps(
     alloc: Global,
     workers: u8,
     base: Snapshot,
-    sessions: u8,
+    sessions: SessionCount,
     steps: Vec<(u8, Step)>,
 ) -> Result<(Machine, Vec<Reply>), NoMemory>
-    requires low { 1 ≤ sessions }
-    requires high { sessions ≤ 64 }
     ensures { IfOk result (λ r. Ran (start base sessions MAX_CALLS) steps.items r.1.items r.0) }
 {
+    let sessions = sessions.number();
     if workers < 2 {
         return Machine::run(rt, alloc, base, sessions, steps, &OneBand);
     }
@@ -255,10 +254,11 @@ fn run_steps(
 }
 
 /// Returns how many sessions run so many scripts: a job without steps has one that takes none.
-fn sessions_for(scripts: usize) -> u8
+fn sessions_for(scripts: usize) -> SessionCount
     ensures { result ≡ sessions_for scripts }
 {
-    scripts.min(64).max(1) as u8
+    let count = scripts.min(usize::from(MAX_SESSIONS)).max(1);
+    SessionCount::new(count as u8).unwrap()
 }
 
 /// Returns whether one of the steps was out of memory.
