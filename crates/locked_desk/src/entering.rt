@@ -2,33 +2,24 @@
 
 use crate::desk::Desk;
 use crate::guarded::Guarded;
-use std::hint::spin_loop;
 use std::sync::ledger::Ledger;
 use std::sync::{MutexGuard, Wait};
+use std::thread::yield_now;
 
 /// How often the lock is looked at before a thread sleeps.
-const LOOKS: u32 = 64;
-
-/// How many pauses of the processor, of some tens of nanoseconds each, are between two looks.
-const PAUSES: u32 = 32;
+const LOOKS: u32 = 200;
 
 impl<L: Ledger> Desk<L> {
     /// Returns what is behind the lock, once no other thread has it. A call holds the lock for some microseconds, and
-    /// a thread that sleeps takes longer to wake, so the lock is looked at for a while first.
+    /// a thread that sleeps takes longer to wake, so the lock is looked at for a while first. Between two looks other
+    /// threads may run.
     pub(crate) fn entered<R: Wait>(&self, rt: &R) -> MutexGuard<'_, Guarded<L>> {
         for _ in 0..LOOKS {
             if let Some(guard) = self.lock.try_lock() {
                 return guard;
             }
-            pause();
+            yield_now();
         }
         self.lock.lock(rt)
-    }
-}
-
-/// Lets the processor rest.
-fn pause() {
-    for _ in 0..PAUSES {
-        spin_loop();
     }
 }

@@ -11,7 +11,7 @@ use crate::owner::Owner;
 use crate::owner_lists::{OwnerLists, Part};
 use crate::pass::{Pass, is_same_edge};
 use lay_point::{Edge, Point};
-use rayon::slice::par_sort_unstable;
+use snap_pixels::sort_in_threads;
 use std::alloc::{AllocError, Global};
 use std::thread::Threads;
 
@@ -46,7 +46,7 @@ fn in_order(rt: &(impl Threads + Sync), passes: Vec<Pass>) -> Vec<Pass>
     ensures sorted { IsSorted pass_cmp result.items }
 {
     let mut passes = passes;
-    par_sort_unstable(rt, passes.as_mut_slice());
+    sort_in_threads(rt, passes.as_mut_slice());
     passes
 }
 

@@ -20,8 +20,8 @@ ghost use Rattle.lay_point.specs.declared.point.Point.{Point};
 ghost use Rattle.snap_pixels.specs.Gathered.{centre_of, coordinate_from};
 ghost use Rattle.snap_pixels.specs.Order.{ArePointsRising};
 
+use crate::sorting::sort_in_threads;
 use lay_point::Point;
-use rayon::slice::par_sort_unstable;
 use std::alloc::{AllocError, Global};
 use std::marker::Model;
 use std::thread::Threads;
@@ -110,7 +110,7 @@ impl Gathered {
     pub fn sort(&mut self, rt: &(impl Threads + Sync))
         ensures { (c : Point) → Contains self.new c ↔ Contains self.old c }
     {
-        par_sort_unstable(rt, self.keys.as_mut_slice());
+        sort_in_threads(rt, self.keys.as_mut_slice());
     }
 
     /// Returns the centres, each once, in the order of points.

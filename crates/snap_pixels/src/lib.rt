@@ -34,6 +34,7 @@
 //! - `meeting.rt`, `side.rt`, `span.rt`, `common_point.rt`, `rounding.rt`: one segment and one
 //!   pixel, and two segments.
 //! - `exact.rt`, `boxes.rt`: arithmetic for all coordinates, and a quick test of boxes.
+//! - `sorting.rt`: sorts in threads.
 //!
 //! # Example
 //!
@@ -70,6 +71,7 @@ mod rounding;
 mod search;
 mod segment;
 mod side;
+mod sorting;
 mod span;
 mod strips;
 #[cfg(test)]
@@ -81,3 +83,4 @@ pub use hot_set::{HotSet, turned, turned_all};
 pub use meeting::meets;
 pub use search::{hot, hot_plain};
 pub use segment::Segment;
+pub use sorting::sort_in_threads;

@@ -3,7 +3,7 @@ ghost use Rattle.std.specs.Prelude.{◌↔◌, IfOk, Contains};
 ghost use Rattle.snap_pixels.specs.declared.segment.Segment.{Segment};
 
 use crate::segment::Segment;
-use rayon::slice::par_sort_unstable;
+use crate::sorting::sort_in_threads;
 use std::alloc::{AllocError, Global};
 use std::thread::Threads;
 
@@ -21,7 +21,7 @@ pub(crate) fn distinct(
         → Contains once.items s ↔ Contains segments.now s) }
 {
     let mut once = Vec::from_slice(alloc, segments)?;
-    par_sort_unstable(rt, once.as_mut_slice());
+    sort_in_threads(rt, once.as_mut_slice());
     once.dedup();
     Ok(once)
 }

@@ -6,7 +6,7 @@ ghost use Rattle.lay_point.specs.Rising.{IsRising};
 ghost use Rattle.snap_slabs.specs.Runs.{IsRowBefore, centres_at, number_of, row_key};
 
 use lay_point::Point;
-use rayon::slice::par_sort_unstable;
+use snap_pixels::sort_in_threads;
 use std::alloc::{AllocError, Global};
 use std::thread::Threads;
 
@@ -31,7 +31,7 @@ pub(crate) fn rows_of(
     ensures members { IfOk result (λ rows. (i : ℕ) → Contains rows.items i ↔ i < length centres.now) }
 {
     let mut keys = row_keys(alloc, centres)?;
-    par_sort_unstable(rt, keys.as_mut_slice());
+    sort_in_threads(rt, keys.as_mut_slice());
     keys.dedup();
     let rows = numbers_of(alloc, keys.as_slice())?;
     Ok(rows)

@@ -10,8 +10,8 @@ use Rattle.snap_pixels.proofs.gathered.Gathered.sort.Goals as goal
 pub returns : goal.returns
 returns g c =
     let old = c.self.inside.keys.items in
-    let new = c.par_sort_unstable.new.s in
-    let moved = subst (λ (l : List ℕ). IsPermutation l new) c.as_mut_slice.ensures.value c.par_sort_unstable.ensures.permutation in
+    let new = c.sort_in_threads.new.elements in
+    let moved = subst (λ (l : List ℕ). IsPermutation l new) c.as_mut_slice.ensures.value c.sort_in_threads.ensures.permutation in
     rw (with_items_is c.self.inside.keys new (search (rules, places)))
     (subst (λ (l : List Point). (p : Point) → Contains (map centre_of new) p ↔ Contains l p) c.self.view_is
     (same_centres old new (λ k. (Contains-permutation new old k (IsPermutation-sym old new moved), Contains-permutation old new k moved))))

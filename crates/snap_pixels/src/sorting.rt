@@ -1,0 +1,26 @@
+//! Sorts in threads.
+ghost use Rattle.std.specs.Prelude.{◌≡◌, length};
+ghost use Rattle.std.specs.List.Sorted.{IsPermutation, IsSorted};
+
+use rayon::slice::par_sort_unstable;
+use std::thread::Threads;
+
+/// Fewer elements than this are sorted sooner than the processors are counted.
+const LEAST: usize = 4096;
+
+/// Sorts the elements, if there are many in as many threads as there are processors. Equal ones may change places.
+///
+/// # Cost
+///
+/// That of a sort.
+pub fn sort_in_threads<T: Ord + Send>(rt: &(impl Threads + Sync), elements: &mut [T])
+    ensures permutation { IsPermutation elements.old elements.new }
+    ensures len { length elements.new ≡ length elements.old }
+    ensures sorted { IsSorted T.cmp elements.new }
+{
+    if elements.len() < LEAST {
+        elements.sort_unstable();
+    } else {
+        par_sort_unstable(rt, elements);
+    }
+}
