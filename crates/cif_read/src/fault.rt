@@ -117,7 +117,8 @@ impl From<NoMemory> for FaultKind {
 pub struct CifFault {
     /// What is wrong.
     pub kind: FaultKind,
-    /// How many bytes of the text stand before the faulty command or byte; 0 for `TooMany` and `NoMemory`.
+    /// How many bytes of the text are before the faulty command or byte; for `TooMany` before the definition or
+    /// the polygon that is beyond the limit, and 0 where the text is too long. 0 for `NoMemory`.
     pub offset: usize,
 }
 

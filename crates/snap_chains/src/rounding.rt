@@ -16,7 +16,8 @@ use std::thread::Threads;
 
 /// Returns the edges that the rounded rings go, each once, with their owners: the shapes whose rings, all
 /// together, go the edge an odd number of times. An edge that no shape goes an odd number of times stays,
-/// without owners. Hot pixels are found, and passes sorted, in as many threads as there are processors.
+/// without owners. Hot pixels are found, rings rounded, and passes sorted in as many threads as there are
+/// processors.
 ///
 /// Source: Hobby, Practical segment intersection with finite precision output, 1999.
 ///

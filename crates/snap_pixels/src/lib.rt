@@ -17,7 +17,8 @@
 //!   of the segment's points (`specs/Sides.antt`). [`crossing`] is the centre of the pixel that
 //!   holds the point common to two segments that aren't parallel.
 //! - [`hot`] and [`hot_plain`] return exactly the hot pixels (`AreHotCentres` of `specs/Hot.antt`),
-//!   or that an allocation failed. `hot` searches in as many threads as there are processors.
+//!   or that an allocation failed. `hot` searches and sorts in as many threads as there are
+//!   processors.
 //!
 //! # Invariants
 //!

@@ -76,8 +76,8 @@ fn relaid(
     }
 }
 
-/// Lists a transaction at its place, as live or no longer, with the elements that its records meet. Only the first can be out of memory, and then all
-/// stays as it was where it isn't listed.
+/// Lists a transaction at its place, as live or no longer, with the elements that its records meet. Only the first
+/// can be out of memory, and then all stays as it was where it isn't listed.
 fn relist(
     index: &mut Index,
     entry: &Entry,
