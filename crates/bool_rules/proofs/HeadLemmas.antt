@@ -6,7 +6,9 @@ use Rattle.std.proofs.lemmas.Bool.{and_parts, false≢true, or_cases, or_left, o
 use Rattle.std.proofs.lemmas.Bool.Decides.{Decides-eqb}
 use Rattle.std.proofs.lemmas.List.{get_or-map, length-map}
 use Rattle.face_ring_laws.specs.Heads.{AreFirst, IsFinest}
-use Rattle.face_ring_laws.specs.Parts.{AreJoined, Box, is_up_to, touch}
+use Rattle.lay_point.specs.declared.rect.Rect.{Rect}
+use Rattle.lay_point.specs.Rects.{is_up_to, touch}
+use Rattle.face_ring_laws.specs.Parts.{AreJoined}
 use Rattle.bool_rules.specs.Dividing.{heads_of, heads_with, touches_head}
 
 -- ---- tests
@@ -16,17 +18,17 @@ and_turned true false = refl
 and_turned false true = refl
 and_turned false false = refl
 
-touch_turned : (b c : Box) → touch b c ≡ touch c b
-touch_turned b c = and_turned (is_up_to b.0 c.1) (is_up_to c.0 b.1)
+touch_turned : (b c : Rect) → touch b c ≡ touch c b
+touch_turned b c = and_turned (is_up_to b.low c.high) (is_up_to c.low b.high)
 
 -- ---- the boxes that one touches
 -- the box touches the one of this number, which has this head
-pub record TouchesAt (b : Box) (head : ℕ) (bs : List Box) (heads : List ℕ) (j : ℕ) : Type 0 where
+pub record TouchesAt (b : Rect) (head : ℕ) (bs : List Rect) (heads : List ℕ) (j : ℕ) : Type 0 where
   pub inside : j < length bs
   pub head_is : get_or heads j 0 ≡ head
-  pub touching : (d : Box) → touch b (get_or bs j d) ≡ true
+  pub touching : (d : Rect) → touch b (get_or bs j d) ≡ true
 
-some_touched : (b : Box) (head : ℕ) (bs : List Box) (heads : List ℕ) → touches_head b head bs heads ≡ true
+some_touched : (b : Rect) (head : ℕ) (bs : List Rect) (heads : List ℕ) → touches_head b head bs heads ≡ true
     → (j : ℕ) × TouchesAt b head bs heads j
 some_touched b head [] heads e = absurd cc
 some_touched b head (c ∷ cs) [] e = absurd cc
@@ -38,8 +40,8 @@ some_touched b head (c ∷ cs) (h ∷ hs) e =
     (suc r.0, record { inside = omega (arith, r.1.inside); head_is = r.1.head_is; touching = r.1.touching }))
     (or_cases (h == head && touch b c) (touches_head b head cs hs) e)
 
-touched : (b : Box) (bs : List Box) (heads : List ℕ) (j : ℕ) → j < length bs → j < length heads
-    → ((d : Box) → touch b (get_or bs j d) ≡ true) → touches_head b (get_or heads j 0) bs heads ≡ true
+touched : (b : Rect) (bs : List Rect) (heads : List ℕ) (j : ℕ) → j < length bs → j < length heads
+    → ((d : Rect) → touch b (get_or bs j d) ≡ true) → touches_head b (get_or heads j 0) bs heads ≡ true
 touched b [] heads j lb lh t = absurd (omega arith)
 touched b (c ∷ cs) [] j lb lh t = absurd (omega arith)
 touched b (c ∷ cs) (h ∷ hs) zero lb lh t =
@@ -48,7 +50,7 @@ touched b (c ∷ cs) (h ∷ hs) (suc j) lb lh t =
     or_right (h == get_or hs j 0 && touch b c) (touches_head b (get_or hs j 0) cs hs) (touched b cs hs j (omega arith) (omega arith) t)
 
 -- ---- one more box
-module _ (b : Box) (bs : List Box) (heads : List ℕ) (h : IsFinest (AreJoined bs) (length bs) heads) where
+module _ (b : Rect) (bs : List Rect) (heads : List ℕ) (h : IsFinest (AreJoined bs) (length bs) heads) where
   abbrev test : ℕ → Bool
   test head = touches_head b head bs heads
 
@@ -90,7 +92,7 @@ module _ (b : Box) (bs : List Box) (heads : List ℕ) (h : IsFinest (AreJoined b
   firsts (suc k) lt = first_behind k (let same = length-map heads moved in omega (arith, h.each))
 
   -- what the box touches has it for a head
-  touched_head : (j : ℕ) → j < length bs → ((d : Box) → touch b (get_or bs j d) ≡ true) → head' (suc j) ≡ 0
+  touched_head : (j : ℕ) → j < length bs → ((d : Rect) → touch b (get_or bs j d) ≡ true) → head' (suc j) ≡ 0
   touched_head j lt t =
       ⊎_elim (λ (to_it : (test (head j) ≡ true) × (moved (head j) ≡ 0)). behind j lt ∙ to_it.1)
       (λ (own : (test (head j) ≡ false) × (moved (head j) ≡ suc (head j))).
@@ -162,6 +164,6 @@ none_joined = record {
   finest = λ other respects i j li lj e. absurd (omega arith);
 }
 
-pub heads_are_finest : (boxes : List Box) → IsFinest (AreJoined boxes) (length boxes) (heads_of boxes)
+pub heads_are_finest : (boxes : List Rect) → IsFinest (AreJoined boxes) (length boxes) (heads_of boxes)
 heads_are_finest [] = none_joined
 heads_are_finest (b ∷ bs) = finest_with b bs (heads_of bs) (heads_are_finest bs)

@@ -5,20 +5,22 @@
 use Rattle.std.specs.Prelude.{ℕ, suc, ◌==◌, Bool, false, ◌&&◌, ◌||◌, List, [], ◌∷◌, count_by, length, map, slice_index, if◌then◌else◌}
 use Rattle.std.specs.List.{range_with_len}
 use Rattle.lay_point.specs.declared.point.Point.{Point}
-use Rattle.face_ring_laws.specs.Parts.{Box, bounding_box, touch, with_label}
+use Rattle.lay_point.specs.declared.rect.Rect.{Rect}
+use Rattle.lay_point.specs.Rects.{touch}
+use Rattle.face_ring_laws.specs.Parts.{bounding_box, with_label}
 
 -- the box touches one of these that has this head
-abbrev pub touches_head : Box → ℕ → List Box → List ℕ → Bool
+abbrev pub touches_head : Rect → ℕ → List Rect → List ℕ → Bool
 touches_head b head [] heads = false
 touches_head b head (c ∷ cs) [] = false
 touches_head b head (c ∷ cs) (h ∷ heads) = (h == head && touch b c) || touches_head b head cs heads
 
 -- the heads of a box and those behind it, by the heads that these have without it: it is the head of all that it is joined to
-abbrev pub heads_with : Box → List Box → List ℕ → List ℕ
+abbrev pub heads_with : Rect → List Rect → List ℕ → List ℕ
 heads_with b bs heads = 0 ∷ map (λ head. if touches_head b head bs heads then 0 else suc head) heads
 
 -- for each box the number of its head
-abbrev pub heads_of : List Box → List ℕ
+abbrev pub heads_of : List Rect → List ℕ
 heads_of [] = []
 heads_of (b ∷ bs) = heads_with b bs (heads_of bs)
 

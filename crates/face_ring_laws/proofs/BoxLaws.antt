@@ -16,45 +16,26 @@ use Rattle.lay_point.specs.Rising.{last}
 use Rattle.lay_point.proofs.Members.{Has, has-append}
 use Rattle.lay_point.proofs.Parity.{parity_agree, parity_none, parity_of_walk, xor_self}
 use Rattle.lay_point.proofs.Rising.{pair_first, pair_second}
-use Rattle.face_ring_laws.specs.Parts.{Box, bounding_box, grown, grown_by, is_in_box, touch}
+use Rattle.lay_point.specs.declared.rect.Rect.{Rect}
+use Rattle.lay_point.specs.Rects.{IsIn, grown, touch}
+use Rattle.lay_point.proofs.RectLemmas.{grown_has, grown_keeps}
+use Rattle.face_ring_laws.specs.Parts.{bounding_box, grown_by, is_in_box}
 
 -- ---- the box has all points
-pub record IsIn (b : Box) (p : Point) : Type 0 where
-  pub left : b.0.x ≤ℤ p.x
-  pub right : p.x ≤ℤ b.1.x
-  pub low : b.0.y ≤ℤ p.y
-  pub high : p.y ≤ℤ b.1.y
-
-grown_has : (b : Box) (p q : Point) → IsIn b q → IsIn (grown b p) q
-grown_has b p q h = record {
-  left = omega (arith, ints, clamps, h.left);
-  right = omega (arith, ints, clamps, h.right);
-  low = omega (arith, ints, clamps, h.low);
-  high = omega (arith, ints, clamps, h.high);
-}
-
-grown_has_new : (b : Box) (p : Point) → IsIn (grown b p) p
-grown_has_new b p = record {
-  left = omega (arith, ints, clamps);
-  right = omega (arith, ints, clamps);
-  low = omega (arith, ints, clamps);
-  high = omega (arith, ints, clamps);
-}
-
-grown_by_has : (b : Box) (ps : List Point) (q : Point) → IsIn b q ⊎ Has ps q → IsIn (grown_by b ps) q
+grown_by_has : (b : Rect) (ps : List Point) (q : Point) → IsIn b q ⊎ Has ps q → IsIn (grown_by b ps) q
 grown_by_has b [] q (inl h) = h
 grown_by_has b [] q (inr m) = absurd m
-grown_by_has b (p ∷ ps) q (inl h) = grown_by_has (grown b p) ps q (inl (grown_has b p q h))
-grown_by_has b (p ∷ ps) q (inr (inl same)) = grown_by_has (grown b p) ps q (inl (subst (IsIn (grown b p)) same (grown_has_new b p)))
+grown_by_has b (p ∷ ps) q (inl h) = grown_by_has (grown b p) ps q (inl (grown_keeps b p q h))
+grown_by_has b (p ∷ ps) q (inr (inl same)) = grown_by_has (grown b p) ps q (inl (subst (IsIn (grown b p)) same (grown_has b p)))
 grown_by_has b (p ∷ ps) q (inr (inr m)) = grown_by_has (grown b p) ps q (inr m)
 
-itself_in : (p : Point) → IsIn (p, p) p
-itself_in p = record { left = omega (arith, ints); right = omega (arith, ints); low = omega (arith, ints); high = omega (arith, ints) }
+itself_in : (p : Point) → IsIn (record { low = p; high = p }) p
+itself_in p = record { left = omega (arith, ints); right = omega (arith, ints); bottom = omega (arith, ints); top = omega (arith, ints) }
 
 pub box_has : (ring : List Point) (q : Point) → Has ring q → IsIn (bounding_box ring) q
 box_has [] q m = absurd m
-box_has (p ∷ ps) q (inl same) = grown_by_has (p, p) ps q (inl (subst (IsIn (p, p)) same (itself_in p)))
-box_has (p ∷ ps) q (inr m) = grown_by_has (p, p) ps q (inr m)
+box_has (p ∷ ps) q (inl same) = grown_by_has (record { low = p; high = p }) ps q (inl (subst (IsIn (record { low = p; high = p })) same (itself_in p)))
+box_has (p ∷ ps) q (inr m) = grown_by_has (record { low = p; high = p }) ps q (inr m)
 
 -- ---- on which side an edge passes a place
 -- an edge that rises past the height with both ends not to the right of the place isn't to its right
@@ -143,16 +124,16 @@ last-back p q [] = refl
 last-back p q (r ∷ rs) = last-back p r rs
 
 -- ---- outside
-even_right : (k x y : ℤ) (ring : List Point) → pos 1 ≤ℤ k → (k *ℤ (bounding_box ring).1.x) <ℤ x
+even_right : (k x y : ℤ) (ring : List Point) → pos 1 ≤ℤ k → (k *ℤ (bounding_box ring).high.x) <ℤ x
     → parity (is_crossed k x y) (edges_of_ring ring) ≡ false
 even_right k x y ring scale out = parity_none (is_crossed k x y) (edges_of_ring ring) (λ e m.
     let ends = edge_in ring e m in
-    let first = times_le k e.0.x (bounding_box ring).1.x (omega (arith, linear)) ends.0.right in
-    let second = times_le k e.1.x (bounding_box ring).1.x (omega (arith, linear)) ends.1.right in
+    let first = times_le k e.0.x (bounding_box ring).high.x (omega (arith, linear)) ends.0.right in
+    let second = times_le k e.1.x (bounding_box ring).high.x (omega (arith, linear)) ends.1.right in
     ap₂ (λ a b. a || b) (rising_missed k x y e.0 e.1 scale (omega (arith, linear)) (omega (arith, linear)))
     (rising_missed k x y e.1 e.0 scale (omega (arith, linear)) (omega (arith, linear))))
 
-even_left : (k x y : ℤ) (ring : List Point) → pos 1 ≤ℤ k → x <ℤ (k *ℤ (bounding_box ring).0.x)
+even_left : (k x y : ℤ) (ring : List Point) → pos 1 ≤ℤ k → x <ℤ (k *ℤ (bounding_box ring).low.x)
     → parity (is_crossed k x y) (edges_of_ring ring) ≡ false
 even_left k x y [] scale out = refl
 even_left k x y (p ∷ ps) scale out =
@@ -160,8 +141,8 @@ even_left k x y (p ∷ ps) scale out =
     let under : Point → Bool = λ v. int_le (k *ℤ v.y) y in
     parity_agree (is_crossed k x y) (λ e. xor (under e.0) (under e.1)) (edges_of_ring ring) (λ e m.
     let ends = edge_in ring e m in
-    let first = times_le k (bounding_box ring).0.x e.0.x (omega (arith, linear)) ends.0.left in
-    let second = times_le k (bounding_box ring).0.x e.1.x (omega (arith, linear)) ends.1.left in
+    let first = times_le k (bounding_box ring).low.x e.0.x (omega (arith, linear)) ends.0.left in
+    let second = times_le k (bounding_box ring).low.x e.1.x (omega (arith, linear)) ends.1.left in
     ap₂ (λ a b. a || b) (rising_met k x y e.0 e.1 scale (omega (arith, linear)) (omega (arith, linear)))
     (rising_met k x y e.1 e.0 scale (omega (arith, linear)) (omega (arith, linear)))
     ∙ xor_by_parts (under e.0) (under e.1))
@@ -176,18 +157,18 @@ level_missed k x y p q out = and_false (rises_past k y p q) (int_lt (pos 0) (dis
     let high = lt_true y (k *ℤ q.y) both.1 in
     ⊎_elim (λ (above : y <ℤ (k *ℤ p.y)). omega (arith, linear)) (λ (below : (k *ℤ q.y) ≤ℤ y). omega (arith, linear)) out)
 
-even_level : (k x y : ℤ) (ring : List Point) → pos 1 ≤ℤ k → (y <ℤ (k *ℤ (bounding_box ring).0.y)) ⊎ ((k *ℤ (bounding_box ring).1.y) <ℤ y)
+even_level : (k x y : ℤ) (ring : List Point) → pos 1 ≤ℤ k → (y <ℤ (k *ℤ (bounding_box ring).low.y)) ⊎ ((k *ℤ (bounding_box ring).high.y) <ℤ y)
     → parity (is_crossed k x y) (edges_of_ring ring) ≡ false
 even_level k x y ring scale out = parity_none (is_crossed k x y) (edges_of_ring ring) (λ e m.
     let ends = edge_in ring e m in
-    let low = times_le k (bounding_box ring).0.y e.0.y (omega (arith, linear)) ends.0.low in
-    let low' = times_le k (bounding_box ring).0.y e.1.y (omega (arith, linear)) ends.1.low in
-    let high = times_le k e.0.y (bounding_box ring).1.y (omega (arith, linear)) ends.0.high in
-    let high' = times_le k e.1.y (bounding_box ring).1.y (omega (arith, linear)) ends.1.high in
-    ⊎_elim (λ (under : y <ℤ (k *ℤ (bounding_box ring).0.y)).
+    let low = times_le k (bounding_box ring).low.y e.0.y (omega (arith, linear)) ends.0.bottom in
+    let low' = times_le k (bounding_box ring).low.y e.1.y (omega (arith, linear)) ends.1.bottom in
+    let high = times_le k e.0.y (bounding_box ring).high.y (omega (arith, linear)) ends.0.top in
+    let high' = times_le k e.1.y (bounding_box ring).high.y (omega (arith, linear)) ends.1.top in
+    ⊎_elim (λ (under : y <ℤ (k *ℤ (bounding_box ring).low.y)).
     ap₂ (λ a b. a || b) (level_missed k x y e.0 e.1 (inl (omega (arith, linear))))
     (level_missed k x y e.1 e.0 (inl (omega (arith, linear)))))
-    (λ (over : (k *ℤ (bounding_box ring).1.y) <ℤ y).
+    (λ (over : (k *ℤ (bounding_box ring).high.y) <ℤ y).
     ap₂ (λ a b. a || b) (level_missed k x y e.0 e.1 (inr (omega (arith, linear))))
     (level_missed k x y e.1 e.0 (inr (omega (arith, linear)))))
     out)
@@ -195,18 +176,18 @@ even_level k x y ring scale out = parity_none (is_crossed k x y) (edges_of_ring 
 -- a ring is even about a place outside its box
 pub even_outside : (k x y : ℤ) (ring : List Point) → pos 1 ≤ℤ k → is_in_box k x y (bounding_box ring) ≡ false
     → parity (is_crossed k x y) (edges_of_ring ring) ≡ false
-even_outside k x y ring scale out = by_tests (int_le (k *ℤ b.0.x) x) (int_le x (k *ℤ b.1.x)) (int_le (k *ℤ b.0.y) y) (int_le y (k *ℤ b.1.y))
+even_outside k x y ring scale out = by_tests (int_le (k *ℤ b.low.x) x) (int_le x (k *ℤ b.high.x)) (int_le (k *ℤ b.low.y) y) (int_le y (k *ℤ b.high.y))
     refl refl refl refl out
   where
-    b : Box
+    b : Rect
     b = bounding_box ring
 
-    by_tests : (l r d u : Bool) → int_le (k *ℤ b.0.x) x ≡ l → int_le x (k *ℤ b.1.x) ≡ r → int_le (k *ℤ b.0.y) y ≡ d
-        → int_le y (k *ℤ b.1.y) ≡ u → (l && r && d && u) ≡ false → parity (is_crossed k x y) (edges_of_ring ring) ≡ false
-    by_tests false r d u hl hr hd hu o = even_left k x y ring scale (le_false (k *ℤ b.0.x) x hl)
-    by_tests true false d u hl hr hd hu o = even_right k x y ring scale (le_false x (k *ℤ b.1.x) hr)
-    by_tests true true false u hl hr hd hu o = even_level k x y ring scale (inl (le_false (k *ℤ b.0.y) y hd))
-    by_tests true true true false hl hr hd hu o = even_level k x y ring scale (inr (le_false y (k *ℤ b.1.y) hu))
+    by_tests : (l r d u : Bool) → int_le (k *ℤ b.low.x) x ≡ l → int_le x (k *ℤ b.high.x) ≡ r → int_le (k *ℤ b.low.y) y ≡ d
+        → int_le y (k *ℤ b.high.y) ≡ u → (l && r && d && u) ≡ false → parity (is_crossed k x y) (edges_of_ring ring) ≡ false
+    by_tests false r d u hl hr hd hu o = even_left k x y ring scale (le_false (k *ℤ b.low.x) x hl)
+    by_tests true false d u hl hr hd hu o = even_right k x y ring scale (le_false x (k *ℤ b.high.x) hr)
+    by_tests true true false u hl hr hd hu o = even_level k x y ring scale (inl (le_false (k *ℤ b.low.y) y hd))
+    by_tests true true true false hl hr hd hu o = even_level k x y ring scale (inr (le_false y (k *ℤ b.high.y) hu))
     by_tests true true true true hl hr hd hu o = absurd cc
 
 -- ---- boxes that have a place in common touch
@@ -220,12 +201,12 @@ four_true false b c d e = absurd cc
 all_four : (a b c d : Bool) → a ≡ true → b ≡ true → c ≡ true → d ≡ true → ((a && b) && (c && d)) ≡ true
 all_four a b c d ha hb hc hd = rw (ha, hb, hc, hd) refl
 
-pub touch_by_place : (k x y : ℤ) (b c : Box) → pos 1 ≤ℤ k → is_in_box k x y b ≡ true → is_in_box k x y c ≡ true → touch b c ≡ true
+pub touch_by_place : (k x y : ℤ) (b c : Rect) → pos 1 ≤ℤ k → is_in_box k x y b ≡ true → is_in_box k x y c ≡ true → touch b c ≡ true
 touch_by_place k x y b c scale h g =
-    let hs = four_true (int_le (k *ℤ b.0.x) x) (int_le x (k *ℤ b.1.x)) (int_le (k *ℤ b.0.y) y) (int_le y (k *ℤ b.1.y)) h in
-    let gs = four_true (int_le (k *ℤ c.0.x) x) (int_le x (k *ℤ c.1.x)) (int_le (k *ℤ c.0.y) y) (int_le y (k *ℤ c.1.y)) g in
-    all_four (int_le b.0.x c.1.x) (int_le b.0.y c.1.y) (int_le c.0.x b.1.x) (int_le c.0.y b.1.y)
-    (between b.0.x c.1.x x hs.0 gs.1) (between b.0.y c.1.y y hs.2 gs.3) (between c.0.x b.1.x x gs.0 hs.1) (between c.0.y b.1.y y gs.2 hs.3)
+    let hs = four_true (int_le (k *ℤ b.low.x) x) (int_le x (k *ℤ b.high.x)) (int_le (k *ℤ b.low.y) y) (int_le y (k *ℤ b.high.y)) h in
+    let gs = four_true (int_le (k *ℤ c.low.x) x) (int_le x (k *ℤ c.high.x)) (int_le (k *ℤ c.low.y) y) (int_le y (k *ℤ c.high.y)) g in
+    all_four (int_le b.low.x c.high.x) (int_le b.low.y c.high.y) (int_le c.low.x b.high.x) (int_le c.low.y b.high.y)
+    (between b.low.x c.high.x x hs.0 gs.1) (between b.low.y c.high.y y hs.2 gs.3) (between c.low.x b.high.x x gs.0 hs.1) (between c.low.y b.high.y y gs.2 hs.3)
   where
     between : (a d z : ℤ) → int_le (k *ℤ a) z ≡ true → int_le z (k *ℤ d) ≡ true → int_le a d ≡ true
     between a d z low high =

@@ -8,9 +8,10 @@ use Rattle.std.proofs.lemmas.Bool.Decides.{Decides-eqb}
 use Rattle.std.proofs.lemmas.List.{get_or-map, get_or_default, length-map}
 use Rattle.lay_point.specs.declared.point.Point.{Point}
 use Rattle.lay_point.specs.Parity.{xor, parity, is_crossed, odd}
+use Rattle.lay_point.specs.Rects.{touch}
 use Rattle.lay_point.specs.RingEdges.{edges_of, edges_of_ring}
 use Rattle.lay_point.proofs.Parity.{parity-append}
-use Rattle.face_ring_laws.specs.Parts.{AreJoined, AreParts, ArePartsBy, bounding_box, is_in_box, touch, with_label}
+use Rattle.face_ring_laws.specs.Parts.{AreJoined, AreParts, ArePartsBy, bounding_box, is_in_box, with_label}
 use Rattle.face_ring_laws.proofs.BoxLaws.{even_outside, touch_by_place}
 
 -- ---- of all rings together

@@ -7,7 +7,9 @@ use Rattle.std.proofs.lemmas.Bool.Decides.{Decides-eqb}
 use Rattle.std.proofs.lemmas.List.{get_or_default, length-map}
 use Rattle.std.proofs.Math.ListN.{length-set}
 use Rattle.lay_point.specs.declared.point.Point.{Point}
-use Rattle.face_ring_laws.specs.Parts.{AreJoined, ArePartsBy, Box, bounding_box, touch, with_label}
+use Rattle.lay_point.specs.declared.rect.Rect.{Rect}
+use Rattle.lay_point.specs.Rects.{touch}
+use Rattle.face_ring_laws.specs.Parts.{AreJoined, ArePartsBy, bounding_box, with_label}
 use Rattle.face_ring_laws.specs.Heads.{AreDivided, AreFirst, IsFinest, IsNumbered}
 
 eq_cases : (l p : ℕ) (b : Bool) → (l == p) ≡ b → ((l ≡ p) × (b ≡ true)) ⊎ ((l ≢ p) × (b ≡ false))
@@ -27,7 +29,7 @@ get_or-set (y ∷ xs) (suc i) (suc j) x d less = ⊎_elim
     (get_or-set xs i j x d (omega arith))
 
 -- ---- boxes that touch
-pub joined_by_boxes : (boxes : List Box) (i j : ℕ) (b c : Box) → i < length boxes → j < length boxes → b ≡ get_or boxes i b
+pub joined_by_boxes : (boxes : List Rect) (i j : ℕ) (b c : Rect) → i < length boxes → j < length boxes → b ≡ get_or boxes i b
     → c ≡ get_or boxes j c
     → touch b c ≡ true → AreJoined boxes i j
 joined_by_boxes boxes i j b c li lj is_b is_c h = (
@@ -224,7 +226,7 @@ divided_more {A} count labels xs parts l x old new h same less is_old pushed = r
 }
 
 -- ---- all together
-pub are_parts : (rings : List (List Point)) (boxes : List Box) (heads labels : List ℕ) (count : ℕ) (parts : List (List (List Point)))
+pub are_parts : (rings : List (List Point)) (boxes : List Rect) (heads labels : List ℕ) (count : ℕ) (parts : List (List (List Point)))
     → boxes ≡ map bounding_box rings → IsFinest (AreJoined boxes) (length boxes) heads → IsNumbered heads (length heads) labels count
     → AreDivided count labels rings parts → ArePartsBy labels rings parts
 are_parts rings boxes heads labels count parts is_boxes h numbered divided =

@@ -1,47 +1,33 @@
 -- The parts of rings: rings whose bounding boxes have a point in common are in one part, and parts are no larger than
--- that asks. A box is the pair of its lower left and its upper right corner.
+-- that asks.
 -- Source: this project's own rule, so that a shape is written for each separate part of a layer.
 -- Checked on: with ring 0 joined to 1 and 4, and 2 to 3, the parts are 0 1 4 and 2 3.
 use Rattle.std.specs.Prelude.{◌≡◌, ℕ, ◌<◌, ◌==◌, ℤ, pos, ◌*ℤ◌, ◌≤ℤ◌, int_le, Bool, true, ◌&&◌}
 use Rattle.std.specs.Prelude.{List, [], ◌∷◌, length, map, slice_index, slice_index_or, if◌then◌else◌}
-use Rattle.std.specs.Int.{int_max, int_min}
 use Rattle.std.specs.List.{list_any}
 use Rattle.lay_point.specs.declared.point.Point.{Point}
+use Rattle.lay_point.specs.declared.rect.Rect.{Rect}
 use Rattle.lay_point.specs.Parity.{odd}
+use Rattle.lay_point.specs.Rects.{grown, touch}
 use Rattle.lay_point.specs.RingEdges.{edges_of}
 
-abbrev pub Box : Type 0
-Box = Point × Point
-
--- the box that has the point too
-abbrev pub grown : Box → Point → Box
-grown b p = (record { x = int_min b.0.x p.x; y = int_min b.0.y p.y }, record { x = int_max b.1.x p.x; y = int_max b.1.y p.y })
-
-abbrev pub grown_by : Box → List Point → Box
+abbrev pub grown_by : Rect → List Point → Rect
 grown_by b [] = b
 grown_by b (p ∷ ps) = grown_by (grown b p) ps
 
 -- the bounding box; a ring has points
-abbrev pub bounding_box : List Point → Box
-bounding_box [] = (record { x = pos 0; y = pos 0 }, record { x = pos 0; y = pos 0 })
-bounding_box (p ∷ ps) = grown_by (p, p) ps
-
--- p is neither to the right of q nor above it
-abbrev pub is_up_to : Point → Point → Bool
-is_up_to p q = int_le p.x q.x && int_le p.y q.y
-
--- the boxes, sides included, have a point in common
-abbrev pub touch : Box → Box → Bool
-touch b c = is_up_to b.0 c.1 && is_up_to c.0 b.1
+abbrev pub bounding_box : List Point → Rect
+bounding_box [] = record { low = record { x = pos 0; y = pos 0 }; high = record { x = pos 0; y = pos 0 } }
+bounding_box (p ∷ ps) = grown_by (record { low = p; high = p }) ps
 
 -- the place (x, y) at scale k is in the box, sides included
-abbrev pub is_in_box : ℤ → ℤ → ℤ → Box → Bool
-is_in_box k x y b = int_le (k *ℤ b.0.x) x && int_le x (k *ℤ b.1.x) && int_le (k *ℤ b.0.y) y && int_le y (k *ℤ b.1.y)
+abbrev pub is_in_box : ℤ → ℤ → ℤ → Rect → Bool
+is_in_box k x y b = int_le (k *ℤ b.low.x) x && int_le x (k *ℤ b.high.x) && int_le (k *ℤ b.low.y) y && int_le y (k *ℤ b.high.y)
 
 -- the boxes of these numbers touch
-abbrev pub AreJoined : List Box → ℕ → ℕ → Type 0
+abbrev pub AreJoined : List Rect → ℕ → ℕ → Type 0
 AreJoined boxes i j = (i < length boxes) × (j < length boxes)
-    × ((d : Box) → touch (slice_index_or boxes i d) (slice_index_or boxes j d) ≡ true)
+    × ((d : Rect) → touch (slice_index_or boxes i d) (slice_index_or boxes j d) ≡ true)
 
 -- those of the elements whose label is p, in order
 abbrev pub with_label : {A : Type 0} → ℕ → List ℕ → List A → List A

@@ -13,7 +13,9 @@ use Rattle.std.proofs.lemmas.Int.{clamps, ints}
 use Rattle.std.proofs.lemmas.List.{get_or-map, get_or_default, length-map}
 use Rattle.std.proofs.lemmas.List.Sorted.{Contains-permutation, IsPermutation-sym, ranks_by, sorted_far}
 use Rattle.lay_point.specs.declared.point.Point.{Point}
-use Rattle.face_ring_laws.specs.Parts.{Box, bounding_box, grown, grown_by}
+use Rattle.lay_point.specs.declared.rect.Rect.{Rect}
+use Rattle.lay_point.specs.Rects.{grown}
+use Rattle.face_ring_laws.specs.Parts.{bounding_box, grown_by}
 use Rattle.face_rings.specs.declared.bottoms.Bottom.{Bottom}
 use Rattle.face_rings.specs.Bottoms.{AreBottomsOf, IsBottomOf, bottom_cmp}
 use Rattle.face_rings.specs.Joining.{AreByBottom, HasHeight, numbered_box}
@@ -39,10 +41,10 @@ rise bottoms h i j d le lt =
     (first_not_less (int_cmp (get_or bottoms j d).y (get_or bottoms i d).y) _ far)
 
 -- ---- the lower sides of all boxes
-abbrev pub bottom_at : List Box → ℕ → Bottom
-bottom_at boxes k = record { y = (numbered_box boxes k).0.y; number = k }
+abbrev pub bottom_at : List Rect → ℕ → Bottom
+bottom_at boxes k = record { y = (numbered_box boxes k).low.y; number = k }
 
-pub are_bottoms : (boxes : List Box) (all sorted : List Bottom) → length all ≡ length boxes
+pub are_bottoms : (boxes : List Rect) (all sorted : List Bottom) → length all ≡ length boxes
     → ((k : ℕ) (d : Bottom) → k < length boxes → get_or all k d ≡ bottom_at boxes k) → IsPermutation all sorted → IsSorted bottom_cmp sorted
     → AreBottomsOf boxes sorted
 are_bottoms boxes all sorted each at moved order = record {
@@ -60,7 +62,7 @@ are_bottoms boxes all sorted each at moved order = record {
 }
 
 -- ---- their numbers
-module _ (boxes : List Box) (bottoms : List Bottom) (numbers : List ℕ) (h : AreBottomsOf boxes bottoms)
+module _ (boxes : List Rect) (bottoms : List Bottom) (numbers : List ℕ) (h : AreBottomsOf boxes bottoms)
     (is : numbers ≡ map (λ b. b.number) bottoms) where
   each : length numbers ≡ length bottoms
   each = ap length is ∙ length-map bottoms (λ (b : Bottom). b.number)
@@ -83,23 +85,23 @@ module _ (boxes : List Box) (bottoms : List Bottom) (numbers : List ℕ) (h : Ar
       let less : c.0 < length numbers = omega (arith, c.1, each) in
       (c.0, less, number_at c.0 k less ∙ ap (λ (b : Bottom). b.number) (get_or_default bottoms c.0 none (bottom_at boxes k) c.1 ∙ c.2))
 
-  bottom_of : (i : ℕ) → i < length numbers → (get_or bottoms i none).y ≡ (numbered_box boxes (get_or numbers i 0)).0.y
-  bottom_of i lt = (own i (omega (arith, each))).1 ∙ ap (λ z. (numbered_box boxes z).0.y) (sym (number_at i 0 lt))
+  bottom_of : (i : ℕ) → i < length numbers → (get_or bottoms i none).y ≡ (numbered_box boxes (get_or numbers i 0)).low.y
+  bottom_of i lt = (own i (omega (arith, each))).1 ∙ ap (λ z. (numbered_box boxes z).low.y) (sym (number_at i 0 lt))
 
   pub numbers_by_bottom : AreByBottom boxes numbers
   numbers_by_bottom i j le lt =
       coe 0 1 (t. bottom_of i (omega arith) t ≤ℤ bottom_of j lt t) (rise bottoms h.sorted i j none le (omega (arith, each)))
 
 -- ---- boxes have a height
-height_grown : (b : Box) (ps : List Point) → HasHeight b → HasHeight (grown_by b ps)
+height_grown : (b : Rect) (ps : List Point) → HasHeight b → HasHeight (grown_by b ps)
 height_grown b [] h = h
 height_grown b (p ∷ ps) h = height_grown (grown b p) ps (omega (arith, ints, clamps, h))
 
 height_box : (ps : List Point) → HasHeight (bounding_box ps)
 height_box [] = omega (arith, ints)
-height_box (p ∷ ps) = height_grown (p, p) ps (omega (arith, ints))
+height_box (p ∷ ps) = height_grown (record { low = p; high = p }) ps (omega (arith, ints))
 
-pub boxes_have_height : (boxes : List Box) (rings : List (List Point)) → boxes ≡ map bounding_box rings → All HasHeight boxes
+pub boxes_have_height : (boxes : List Rect) (rings : List (List Point)) → boxes ≡ map bounding_box rings → All HasHeight boxes
 boxes_have_height boxes rings is i d lt =
     let less : i < length rings = omega (arith, ap length is, length-map rings bounding_box) in
     let at : get_or boxes i d ≡ bounding_box (get_or rings i []) = ap (λ l. get_or l i d) is ∙ get_or-map bounding_box rings i [] d less in

@@ -8,7 +8,9 @@ use Rattle.std.specs.Int.{int_max, int_min}
 use Rattle.std.proofs.lemmas.Int.{clamps, ints}
 use Rattle.lay_point.proofs.Members.{Has, contains, has, has-append}
 use Rattle.lay_point.proofs.Tests.{le_true, true_le}
-use Rattle.face_ring_laws.specs.Parts.{AreJoined, Box, is_up_to, touch}
+use Rattle.lay_point.specs.declared.rect.Rect.{Rect}
+use Rattle.lay_point.specs.Rects.{is_up_to, touch}
+use Rattle.face_ring_laws.specs.Parts.{AreJoined}
 use Rattle.face_ring_laws.proofs.PartLemmas.{joined_by_boxes}
 use Rattle.face_rings.specs.declared.stretch.Stretch.{Stretch}
 use Rattle.face_rings.specs.Forest.{root_of}
@@ -45,28 +47,28 @@ has_one : (numbers : List ℕ) (n : ℕ) → numbers ≡ n ∷ [] → Contains n
 has_one numbers n alone = subst (λ l. Contains l n) (sym alone) (contains (n ∷ []) n (inl refl))
 
 -- ---- boxes that touch
-touch_from : (b c : Box) → b.0.x ≤ℤ c.1.x → b.0.y ≤ℤ c.1.y → c.0.x ≤ℤ b.1.x → c.0.y ≤ℤ b.1.y → touch b c ≡ true
-touch_from b c bx by cx cy = and_from (is_up_to b.0 c.1) (is_up_to c.0 b.1)
-    (and_from (int_le b.0.x c.1.x) (int_le b.0.y c.1.y) (true_le b.0.x c.1.x bx) (true_le b.0.y c.1.y by))
-    (and_from (int_le c.0.x b.1.x) (int_le c.0.y b.1.y) (true_le c.0.x b.1.x cx) (true_le c.0.y b.1.y cy))
+touch_from : (b c : Rect) → b.low.x ≤ℤ c.high.x → b.low.y ≤ℤ c.high.y → c.low.x ≤ℤ b.high.x → c.low.y ≤ℤ b.high.y → touch b c ≡ true
+touch_from b c bx by cx cy = and_from (is_up_to b.low c.high) (is_up_to c.low b.high)
+    (and_from (int_le b.low.x c.high.x) (int_le b.low.y c.high.y) (true_le b.low.x c.high.x bx) (true_le b.low.y c.high.y by))
+    (and_from (int_le c.low.x b.high.x) (int_le c.low.y b.high.y) (true_le c.low.x b.high.x cx) (true_le c.low.y b.high.y cy))
 
-rows_of : (boxes : List Box) (i j : ℕ) → AreJoined boxes i j
-    → ((numbered_box boxes i).0.y ≤ℤ (numbered_box boxes j).1.y) × ((numbered_box boxes j).0.y ≤ℤ (numbered_box boxes i).1.y)
+rows_of : (boxes : List Rect) (i j : ℕ) → AreJoined boxes i j
+    → ((numbered_box boxes i).low.y ≤ℤ (numbered_box boxes j).high.y) × ((numbered_box boxes j).low.y ≤ℤ (numbered_box boxes i).high.y)
 rows_of boxes i j joined =
     let b = numbered_box boxes i in
     let c = numbered_box boxes j in
-    let halves = and_parts (is_up_to b.0 c.1) (is_up_to c.0 b.1) (joined.2 nowhere) in (
-      le_true b.0.y c.1.y (and_parts (int_le b.0.x c.1.x) (int_le b.0.y c.1.y) halves.0).1,
-      le_true c.0.y b.1.y (and_parts (int_le c.0.x b.1.x) (int_le c.0.y b.1.y) halves.1).1,
+    let halves = and_parts (is_up_to b.low c.high) (is_up_to c.low b.high) (joined.2 nowhere) in (
+      le_true b.low.y c.high.y (and_parts (int_le b.low.x c.high.x) (int_le b.low.y c.high.y) halves.0).1,
+      le_true c.low.y b.high.y (and_parts (int_le c.low.x b.high.x) (int_le c.low.y b.high.y) halves.1).1,
     )
 
-pub read_box : (boxes : List Box) (n : ℕ) (b : Box) → n < length boxes → b ≡ get_or boxes n b → b ≡ numbered_box boxes n
+pub read_box : (boxes : List Rect) (n : ℕ) (b : Rect) → n < length boxes → b ≡ get_or boxes n b → b ≡ numbered_box boxes n
 read_box boxes n b inside is_b = is_b ∙ get_or_default boxes n b nowhere inside
 
 -- ---- the stretch of one box more
-pub stretch_more : (boxes : List Box) (numbers : List ℕ) (i : ℕ) → i < length numbers → get_or numbers i 0 < length boxes → (b : Box)
+pub stretch_more : (boxes : List Rect) (numbers : List ℕ) (i : ℕ) → i < length numbers → get_or numbers i 0 < length boxes → (b : Rect)
     → b ≡ get_or boxes (get_or numbers i 0) b → (s more : Stretch)
-    → more ≡ record { first_end = int_min s.first_end b.1.x; last_start = int_max s.last_start b.0.x }
+    → more ≡ record { first_end = int_min s.first_end b.high.x; last_start = int_max s.last_start b.low.x }
     → IsStretchOf boxes (take i numbers) s → IsStretchOf boxes (take (i + 1) numbers) more
 stretch_more boxes numbers i lt inside b is_b s more is h k m = ⊎_elim
     (λ (early : Contains (take i numbers) k).
@@ -74,25 +76,25 @@ stretch_more boxes numbers i lt inside b is_b s more is h k m = ⊎_elim
     (omega (arith, ints, clamps, at.0, first), omega (arith, ints, clamps, at.1, last)))
     (λ (same : get_or numbers i 0 ≡ k).
     let at : b ≡ numbered_box boxes k = read_box boxes (get_or numbers i 0) b inside is_b ∙ ap (numbered_box boxes) same in
-    subst (λ z. (more.first_end ≤ℤ z.1.x) × (z.0.x ≤ℤ more.last_start)) at
+    subst (λ z. (more.first_end ≤ℤ z.high.x) × (z.low.x ≤ℤ more.last_start)) at
     (omega (arith, ints, clamps, first), omega (arith, ints, clamps, last)))
     (has_more numbers i lt k m)
   where
-    first : more.first_end ≡ int_min s.first_end b.1.x
+    first : more.first_end ≡ int_min s.first_end b.high.x
     first = ap (λ (z : Stretch). z.first_end) is
 
-    last : more.last_start ≡ int_max s.last_start b.0.x
+    last : more.last_start ≡ int_max s.last_start b.low.x
     last = ap (λ (z : Stretch). z.last_start) is
 
 -- ---- the highest of one box more
-abbrev pub IsTopOf : List Box → List ℕ → ℕ → ℕ → ℕ → Type 0
+abbrev pub IsTopOf : List Rect → List ℕ → ℕ → ℕ → ℕ → Type 0
 IsTopOf boxes numbers one i top = (top < length boxes) × ((top ≡ one) ⊎ Contains (take i numbers) top)
-    × ((numbered_box boxes one).1.y ≤ℤ (numbered_box boxes top).1.y)
-    × ((k : ℕ) → Contains (take i numbers) k → (numbered_box boxes k).1.y ≤ℤ (numbered_box boxes top).1.y)
+    × ((numbered_box boxes one).high.y ≤ℤ (numbered_box boxes top).high.y)
+    × ((k : ℕ) → Contains (take i numbers) k → (numbered_box boxes k).high.y ≤ℤ (numbered_box boxes top).high.y)
 
-pub highest_more : (boxes : List Box) (numbers : List ℕ) (one i top next : ℕ) → i < length numbers → get_or numbers i 0 < length boxes
-    → (next ≡ top) ⊎ (next ≡ get_or numbers i 0) → (numbered_box boxes top).1.y ≤ℤ (numbered_box boxes next).1.y
-    → (numbered_box boxes (get_or numbers i 0)).1.y ≤ℤ (numbered_box boxes next).1.y → IsTopOf boxes numbers one i top
+pub highest_more : (boxes : List Rect) (numbers : List ℕ) (one i top next : ℕ) → i < length numbers → get_or numbers i 0 < length boxes
+    → (next ≡ top) ⊎ (next ≡ get_or numbers i 0) → (numbered_box boxes top).high.y ≤ℤ (numbered_box boxes next).high.y
+    → (numbered_box boxes (get_or numbers i 0)).high.y ≤ℤ (numbered_box boxes next).high.y → IsTopOf boxes numbers one i top
     → IsTopOf boxes numbers one (i + 1) next
 highest_more boxes numbers one i top next lt inside either old this h = (
   ⊎_elim (λ (same : next ≡ top). subst (λ z. z < length boxes) (sym same) h.0)
@@ -103,12 +105,12 @@ highest_more boxes numbers one i top next lt inside either old this h = (
       (λ (same : next ≡ get_or numbers i 0). inr (taken_has numbers i lt next (inr (sym same)))) either,
   omega (arith, ints, h.2, old),
   (λ k m. ⊎_elim (λ (early : Contains (take i numbers) k). let below = h.3 k early in omega (arith, ints, below, old))
-      (λ (same : get_or numbers i 0 ≡ k). subst (λ z. (numbered_box boxes z).1.y ≤ℤ (numbered_box boxes next).1.y) same this)
+      (λ (same : get_or numbers i 0 ≡ k). subst (λ z. (numbered_box boxes z).high.y ≤ℤ (numbered_box boxes next).high.y) same this)
       (has_more numbers i lt k m)),
 )
 
 -- ---- a pass: each of one kind is to be in one tree with those of another kind behind it that it is joined to
-pub record IsPass (boxes : List Box) (numbers : List ℕ) (from to : ℕ → Bool) (start now : List ℕ) (i : ℕ) (opened : List ℕ) : Type 0 where
+pub record IsPass (boxes : List Rect) (numbers : List ℕ) (from to : ℕ → Bool) (start now : List ℕ) (i : ℕ) (opened : List ℕ) : Type 0 where
   pub grows : Grows boxes start now
   pub among : (k : ℕ) → Contains opened k → Contains (take i numbers) k
   pub only : (k : ℕ) → Contains opened k → from k ≡ true
@@ -119,21 +121,21 @@ pub record IsPass (boxes : List Box) (numbers : List ℕ) (from to : ℕ → Boo
       → AreJoined boxes (get_or numbers k 0) (get_or numbers j 0)
       → root_of now (get_or numbers k 0) ≡ root_of now (get_or numbers j 0)
 
-pub opened_inside : (boxes : List Box) (numbers : List ℕ) (from to : ℕ → Bool) (start now : List ℕ) (i : ℕ) (opened : List ℕ)
+pub opened_inside : (boxes : List Rect) (numbers : List ℕ) (from to : ℕ → Bool) (start now : List ℕ) (i : ℕ) (opened : List ℕ)
     → All (λ k. k < length boxes) numbers → IsPass boxes numbers from to start now i opened → All (λ k. k < length boxes) opened
 opened_inside boxes numbers from to start now i opened inside h = all_inside opened (length boxes) (λ k m.
     let at = index_in_first numbers i k (h.among k m) in subst (λ z. z < length boxes) at.3 (inside at.0 0 at.2))
 
-module _ (boxes : List Box) (numbers : List ℕ) (s : Stretch) (height : All HasHeight boxes) (inside : All (λ k. k < length boxes) numbers)
+module _ (boxes : List Rect) (numbers : List ℕ) (s : Stretch) (height : All HasHeight boxes) (inside : All (λ k. k < length boxes) numbers)
     (by_bottom : AreByBottom boxes numbers) (stretch : IsStretchOf boxes numbers s) where
   abbrev n : ℕ → ℕ
   n i = get_or numbers i 0
 
   abbrev low : ℕ → ℤ
-  low k = (numbered_box boxes k).0.y
+  low k = (numbered_box boxes k).low.y
 
   abbrev high : ℕ → ℤ
-  high k = (numbered_box boxes k).1.y
+  high k = (numbered_box boxes k).high.y
 
   within : (k : ℕ) → Contains numbers k → k < length boxes
   within k m = let at = index_in numbers k m in subst (λ z. z < length boxes) at.2 (inside at.0 0 at.1)
@@ -147,9 +149,9 @@ module _ (boxes : List Box) (numbers : List ℕ) (s : Stretch) (height : All Has
   meets a b ma mb over h g =
       let p = numbered_box boxes a in
       let q = numbered_box boxes b in
-      let ends = and_parts (int_le p.0.x s.first_end) (int_le s.last_start p.1.x) over in
-      let start : p.0.x ≤ℤ s.first_end = le_true p.0.x s.first_end ends.0 in
-      let end : s.last_start ≤ℤ p.1.x = le_true s.last_start p.1.x ends.1 in
+      let ends = and_parts (int_le p.low.x s.first_end) (int_le s.last_start p.high.x) over in
+      let start : p.low.x ≤ℤ s.first_end = le_true p.low.x s.first_end ends.0 in
+      let end : s.last_start ≤ℤ p.high.x = le_true s.last_start p.high.x ends.1 in
       let by = stretch b mb in
       joined_by_boxes boxes a b p q (within a ma) (within b mb) (get_or_default boxes a nowhere p (within a ma))
       (get_or_default boxes b nowhere q (within b mb))
@@ -307,7 +309,7 @@ module _ (boxes : List Box) (numbers : List ℕ) (s : Stretch) (height : All Has
     }
 
 -- ---- both passes
-pub covers_joined : (boxes : List Box) (s : Stretch) (numbers mid new : List ℕ) → length mid ≡ length boxes → Grows boxes mid new
+pub covers_joined : (boxes : List Rect) (s : Stretch) (numbers mid new : List ℕ) → length mid ≡ length boxes → Grows boxes mid new
     → AreJoinedDown boxes s numbers mid → AreJoinedUp boxes s numbers new → AreCoversJoined boxes s numbers new
 covers_joined boxes s numbers mid new each more down up a b ma mb over g =
     let at = index_in numbers a ma in

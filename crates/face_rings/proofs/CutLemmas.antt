@@ -7,7 +7,9 @@ use Rattle.std.proofs.lemmas.List.{get_or_append_left, get_or_default, get_or_pu
 use Rattle.std.proofs.lemmas.Int.{ints}
 use Rattle.lay_point.proofs.Members.{Has, contains, has, has-append}
 use Rattle.lay_point.proofs.Tests.{le_true, true_lt}
-use Rattle.face_ring_laws.specs.Parts.{AreJoined, Box, is_up_to, touch}
+use Rattle.lay_point.specs.declared.rect.Rect.{Rect}
+use Rattle.lay_point.specs.Rects.{is_up_to, touch}
+use Rattle.face_ring_laws.specs.Parts.{AreJoined}
 use Rattle.face_rings.specs.declared.cut.Cut.{Cut}
 use Rattle.face_rings.specs.Forest.{root_of}
 use Rattle.face_rings.specs.Joining.{AreByBottom, AreCoversJoined, Grows, IsPartOf, Joins, numbered_box, box_reaches_high, box_reaches_low}
@@ -45,31 +47,31 @@ one_side at a b c d h g = by_tests (int_le a at || int_le b at) (int_le c at || 
               (true_lt at c over.0),
         )
 
-module _ (b c : Box) (h : touch b c ≡ true) where
-  halves : (is_up_to b.0 c.1 ≡ true) × (is_up_to c.0 b.1 ≡ true)
-  halves = and_parts (is_up_to b.0 c.1) (is_up_to c.0 b.1) h
+module _ (b c : Rect) (h : touch b c ≡ true) where
+  halves : (is_up_to b.low c.high ≡ true) × (is_up_to c.low b.high ≡ true)
+  halves = and_parts (is_up_to b.low c.high) (is_up_to c.low b.high) h
 
-  first : (int_le b.0.x c.1.x ≡ true) × (int_le b.0.y c.1.y ≡ true)
-  first = and_parts (int_le b.0.x c.1.x) (int_le b.0.y c.1.y) halves.0
+  first : (int_le b.low.x c.high.x ≡ true) × (int_le b.low.y c.high.y ≡ true)
+  first = and_parts (int_le b.low.x c.high.x) (int_le b.low.y c.high.y) halves.0
 
-  second : (int_le c.0.x b.1.x ≡ true) × (int_le c.0.y b.1.y ≡ true)
-  second = and_parts (int_le c.0.x b.1.x) (int_le c.0.y b.1.y) halves.1
+  second : (int_le c.low.x b.high.x ≡ true) × (int_le c.low.y b.high.y ≡ true)
+  second = and_parts (int_le c.low.x b.high.x) (int_le c.low.y b.high.y) halves.1
 
   both_reach : (cut : Cut) → covers cut.stretch b ≡ false → covers cut.stretch c ≡ false
       → ((box_reaches_low cut b ≡ true) × (box_reaches_low cut c ≡ true))
       ⊎ ((box_reaches_high cut b ≡ true) × (box_reaches_high cut c ≡ true))
   both_reach cut b_not c_not = ⊎_elim
-      (λ (both : ((int_le b.0.x at || int_le b.1.x at) ≡ true) × ((int_le c.0.x at || int_le c.1.x at) ≡ true)).
+      (λ (both : ((int_le b.low.x at || int_le b.high.x at) ≡ true) × ((int_le c.low.x at || int_le c.high.x at) ≡ true)).
       inl (and_from (not (covers cut.stretch b)) _ (ap not b_not) both.0, and_from (not (covers cut.stretch c)) _ (ap not c_not) both.1))
-      (λ (both : ((int_lt at b.0.x || int_lt at b.1.x) ≡ true) × ((int_lt at c.0.x || int_lt at c.1.x) ≡ true)).
+      (λ (both : ((int_lt at b.low.x || int_lt at b.high.x) ≡ true) × ((int_lt at c.low.x || int_lt at c.high.x) ≡ true)).
       inr (and_from (not (covers cut.stretch b)) _ (ap not b_not) both.0, and_from (not (covers cut.stretch c)) _ (ap not c_not) both.1))
-      (one_side at b.0.x b.1.x c.0.x c.1.x first.0 second.0)
+      (one_side at b.low.x b.high.x c.low.x c.high.x first.0 second.0)
     where
       at : ℤ
       at = cut.column
 
 -- those that cover the stretch, and the lists of the two sides
-module _ (boxes : List Box) (cut : Cut) (numbers low high old first mid new : List ℕ) (each : length old ≡ length boxes)
+module _ (boxes : List Rect) (cut : Cut) (numbers low high old first mid new : List ℕ) (each : length old ≡ length boxes)
     (more : Grows boxes old first) (over : AreCoversJoined boxes cut.stretch numbers first)
     (is_low : IsPartOf (box_reaches_low cut) boxes numbers low) (is_high : IsPartOf (box_reaches_high cut) boxes numbers high)
     (l : Joins boxes low first mid) (h : Joins boxes high mid new) where
@@ -104,12 +106,12 @@ module _ (boxes : List Box) (cut : Cut) (numbers low high old first mid new : Li
   }
 
 -- ---- parts of a list
-abbrev low_side : List Box → ℕ → ℤ
-low_side boxes k = (numbered_box boxes k).0.y
+abbrev low_side : List Rect → ℕ → ℤ
+low_side boxes k = (numbered_box boxes k).low.y
 
 -- what is pushed lies no lower than the others
-pushed_by_bottom : (boxes : List Box) (part : List ℕ) (n : ℕ) → AreByBottom boxes part
-    → ((k : ℕ) → Contains part k → (numbered_box boxes k).0.y ≤ℤ (numbered_box boxes n).0.y) → AreByBottom boxes (part ++ n ∷ [])
+pushed_by_bottom : (boxes : List Rect) (part : List ℕ) (n : ℕ) → AreByBottom boxes part
+    → ((k : ℕ) → Contains part k → (numbered_box boxes k).low.y ≤ℤ (numbered_box boxes n).low.y) → AreByBottom boxes (part ++ n ∷ [])
 pushed_by_bottom boxes part n h above i j le lt = ⊎_elim
     (λ (early : j < length part). coe 1 0 (t. low_side boxes (get_or_append_left part (n ∷ []) 0 i (omega arith) t) ≤ℤ low_side boxes (get_or_append_left part (n ∷ []) 0 j early t)) (h i j le early))
     (λ (late : length part ≤ j).
@@ -126,13 +128,13 @@ pushed_by_bottom boxes part n h above i j le lt = ⊎_elim
         coe 1 0 (t. low_side boxes (get_or_push part n 0 i (sym last) t) ≤ℤ low_side boxes n) (omega (arith, ints)))
         (cases_lt i (length part))
 
-before_by_bottom : (boxes : List Box) (numbers : List ℕ) (i k : ℕ) → AreByBottom boxes numbers → i < length numbers
-    → Contains (take i numbers) k → (numbered_box boxes k).0.y ≤ℤ (numbered_box boxes (get_or numbers i 0)).0.y
+before_by_bottom : (boxes : List Rect) (numbers : List ℕ) (i k : ℕ) → AreByBottom boxes numbers → i < length numbers
+    → Contains (take i numbers) k → (numbered_box boxes k).low.y ≤ℤ (numbered_box boxes (get_or numbers i 0)).low.y
 before_by_bottom boxes numbers i k h lt m =
     let at = index_in_first numbers i k m in
-    subst (λ z. (numbered_box boxes z).0.y ≤ℤ (numbered_box boxes (get_or numbers i 0)).0.y) at.3 (h at.0 i (omega (arith, at.1)) lt)
+    subst (λ z. (numbered_box boxes z).low.y ≤ℤ (numbered_box boxes (get_or numbers i 0)).low.y) at.3 (h at.0 i (omega (arith, at.1)) lt)
 
-module _ (test : Box → Bool) (boxes : List Box) (numbers part : List ℕ) (i : ℕ) (b : Box) (lt : i < length numbers)
+module _ (test : Rect → Bool) (boxes : List Rect) (numbers part : List ℕ) (i : ℕ) (b : Rect) (lt : i < length numbers)
     (inside : get_or numbers i 0 < length boxes) (is_b : b ≡ get_or boxes (get_or numbers i 0) b) (by_bottom : AreByBottom boxes numbers)
     (h : IsPartOf test boxes (take i numbers) part) where
   abbrev n : ℕ
@@ -164,7 +166,7 @@ module _ (test : Box → Bool) (boxes : List Box) (numbers part : List ℕ) (i :
     by_bottom = h.by_bottom;
   }
 
-pub inside_part : (test : Box → Bool) (boxes : List Box) (numbers part : List ℕ) → All (λ k. k < length boxes) numbers
+pub inside_part : (test : Rect → Bool) (boxes : List Rect) (numbers part : List ℕ) → All (λ k. k < length boxes) numbers
     → IsPartOf test boxes numbers part → (k : ℕ) → Contains part k → k < length boxes
 inside_part test boxes numbers part inside h k m = at (h.among k m)
   where

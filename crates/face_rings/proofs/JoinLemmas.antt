@@ -6,7 +6,9 @@ use Rattle.std.specs.Prelude.{Contains, All, OnOk, max, min}
 use Rattle.std.proofs.lemmas.Bool.{and_from, and_parts, cases_lt, false≢true}
 use Rattle.std.proofs.lemmas.List.{get_or-take, get_or_default, length-take, take_more}
 use Rattle.lay_point.proofs.Members.{Has, contains, has, has-append, has-append_left, has-append_right}
-use Rattle.face_ring_laws.specs.Parts.{AreJoined, Box, is_up_to, touch}
+use Rattle.lay_point.specs.declared.rect.Rect.{Rect}
+use Rattle.lay_point.specs.Rects.{is_up_to, touch}
+use Rattle.face_ring_laws.specs.Parts.{AreJoined}
 use Rattle.face_ring_laws.specs.Heads.{IsFinest}
 use Rattle.face_ring_laws.proofs.PartLemmas.{joined_by_boxes}
 use Rattle.face_rings.specs.Forest.{IsForest, root_of, united}
@@ -14,7 +16,7 @@ use Rattle.face_rings.specs.Joining.{AreOnlyJoined, Grows, Joins}
 use Rattle.face_rings.proofs.ForestLemmas.{root_ends, root_le, root_of_own, united_cases}
 
 -- ---- trees that grow
-pub grows_on : (boxes : List Box) (a b c : List ℕ) → Grows boxes a b → Grows boxes b c → Grows boxes a c
+pub grows_on : (boxes : List Rect) (a b c : List ℕ) → Grows boxes a b → Grows boxes b c → Grows boxes a c
 grows_on boxes a b c g h = record {
   each = h.each ∙ g.each;
   forest = h.forest;
@@ -23,7 +25,7 @@ grows_on boxes a b c g h = record {
 }
 
 -- the trees of two that are joined are united
-module _ (boxes : List Box) (old new : List ℕ) (i j : ℕ) (joined : AreJoined boxes i j) (each : length old ≡ length boxes)
+module _ (boxes : List Rect) (old new : List ℕ) (i j : ℕ) (joined : AreJoined boxes i j) (each : length old ≡ length boxes)
     (same : length new ≡ length old) (forest : IsForest new)
     (roots : (k : ℕ) → k < length old → root_of new k ≡ united (root_of old i) (root_of old j) (root_of old k)) where
   abbrev p : ℕ
@@ -83,18 +85,18 @@ module _ (boxes : List Box) (old new : List ℕ) (i j : ℕ) (joined : AreJoined
       right = ⊎_elim (λ (g : goes q). g.1) (λ (s : stays q). s.1 ∙ omega (arith, s.0)) (united_cases p q q)
 
 -- ---- boxes that touch
-abbrev pub nowhere : Box
-nowhere = (record { x = pos 0; y = pos 0 }, record { x = pos 0; y = pos 0 })
+abbrev pub nowhere : Rect
+nowhere = record { low = record { x = pos 0; y = pos 0 }; high = record { x = pos 0; y = pos 0 } }
 
-pub joined_back : (boxes : List Box) (i j : ℕ) → AreJoined boxes i j → AreJoined boxes j i
+pub joined_back : (boxes : List Rect) (i j : ℕ) → AreJoined boxes i j → AreJoined boxes j i
 joined_back boxes i j g = (
   g.1,
   g.0,
   (λ d.
       let b = get_or boxes i d in
       let c = get_or boxes j d in
-      let both = and_parts (is_up_to b.0 c.1) (is_up_to c.0 b.1) (g.2 d) in
-      and_from (is_up_to c.0 b.1) (is_up_to b.0 c.1) both.1 both.0),
+      let both = and_parts (is_up_to b.low c.high) (is_up_to c.low b.high) (g.2 d) in
+      and_from (is_up_to c.low b.high) (is_up_to b.low c.high) both.1 both.0),
 )
 
 -- ---- lists, number by number
@@ -119,12 +121,12 @@ more_has xs n k (inr same) = contains (xs ++ n ∷ []) k (has-append_right xs (n
 
 -- ---- those that are joined to one
 -- those of the first i numbers that are joined to it are in its tree
-pub record IsJoining (boxes : List Box) (start now : List ℕ) (one : ℕ) (numbers : List ℕ) (i : ℕ) : Type 0 where
+pub record IsJoining (boxes : List Rect) (start now : List ℕ) (one : ℕ) (numbers : List ℕ) (i : ℕ) : Type 0 where
   pub grows : Grows boxes start now
   pub inside : (k : ℕ) → Contains (take i numbers) k → k < length boxes
   pub joined : (k : ℕ) → Contains (take i numbers) k → AreJoined boxes one k → root_of now one ≡ root_of now k
 
-module _ (boxes : List Box) (start now : List ℕ) (one : ℕ) (numbers : List ℕ) (i : ℕ) (b c : Box)
+module _ (boxes : List Rect) (start now : List ℕ) (one : ℕ) (numbers : List ℕ) (i : ℕ) (b c : Rect)
     (h : IsJoining boxes start now one numbers i) (each : length start ≡ length boxes) (lt : i < length numbers)
     (one_inside : one < length boxes) (inside : get_or numbers i 0 < length boxes) (is_b : b ≡ get_or boxes one b)
     (is_c : c ≡ get_or boxes (get_or numbers i 0) c) where
@@ -171,11 +173,11 @@ module _ (boxes : List Box) (start now : List ℕ) (one : ℕ) (numbers : List �
   }
 
 -- ---- those that are joined pair by pair
-pub record IsPairing (boxes : List Box) (start now numbers : List ℕ) (n : ℕ) : Type 0 where
+pub record IsPairing (boxes : List Rect) (start now numbers : List ℕ) (n : ℕ) : Type 0 where
   pub grows : Grows boxes start now
   pub joined : (i j : ℕ) → Contains (take n numbers) i → Contains numbers j → AreJoined boxes i j → root_of now i ≡ root_of now j
 
-pub pairing_next : (boxes : List Box) (start now new numbers : List ℕ) (n : ℕ) → IsPairing boxes start now numbers n
+pub pairing_next : (boxes : List Rect) (start now new numbers : List ℕ) (n : ℕ) → IsPairing boxes start now numbers n
     → length start ≡ length boxes → n < length numbers → Grows boxes now new
     → ((k : ℕ) → Contains numbers k → AreJoined boxes (get_or numbers n 0) k → root_of new (get_or numbers n 0) ≡ root_of new k)
     → IsPairing boxes start new numbers (n + 1)
@@ -202,7 +204,7 @@ pub all_inside : (numbers : List ℕ) (n : ℕ) → ((k : ℕ) → Contains numb
 all_inside numbers n h i d lt = h (get_or numbers i d) (i, lt, sym (get_or_default numbers i d (get_or numbers i d) lt))
 
 -- ---- in the end
-pub finest_of_roots : (boxes : List Box) (start ps heads : List ℕ) → length start ≡ length boxes
+pub finest_of_roots : (boxes : List Rect) (start ps heads : List ℕ) → length start ≡ length boxes
     → ((k : ℕ) → k < length boxes → get_or start k 0 ≡ k) → (numbers : List ℕ) → ((k : ℕ) → k < length boxes → Contains numbers k)
     → Joins boxes numbers start ps → length heads ≡ length ps → ((k : ℕ) → k < length ps → get_or heads k 0 ≡ root_of ps k)
     → IsFinest (AreJoined boxes) (length boxes) heads

@@ -3,7 +3,7 @@ ghost use Rattle.std.specs.Prelude.{◌≡◌, ◌<◌, All, Contains, IfOk, len
 ghost use Rattle.face_rings.specs.Bottoms.{AreBottomsOf};
 ghost use Rattle.face_rings.specs.Joining.{AreByBottom};
 
-use crate::bounds::Bounds;
+use lay_point::Rect;
 use std::alloc::{AllocError, Global};
 
 /// Where the lower side of a box is. They are in the order of their y, then of the boxes' numbers.
@@ -16,7 +16,7 @@ pub(crate) struct Bottom {
 }
 
 /// Returns the numbers of the boxes in the order of their lower sides.
-pub(crate) fn by_bottom(alloc: Global, boxes: &[Bounds]) -> Result<Vec<usize>, AllocError>
+pub(crate) fn by_bottom(alloc: Global, boxes: &[Rect]) -> Result<Vec<usize>, AllocError>
     ensures inside { IfOk result (λ numbers. All (λ k. k < length boxes.now) numbers.items) }
     ensures all { IfOk result (λ numbers. (k : ℕ) → k < length boxes.now → Contains numbers.items k) }
     ensures by_bottom { IfOk result (λ numbers. AreByBottom boxes.now numbers.items) }
@@ -37,7 +37,7 @@ fn numbers_of(alloc: Global, bottoms: &[Bottom]) -> Result<Vec<usize>, AllocErro
 }
 
 /// Returns the lower sides of the boxes, in order.
-fn sorted_bottoms(alloc: Global, boxes: &[Bounds]) -> Result<Vec<Bottom>, AllocError>
+fn sorted_bottoms(alloc: Global, boxes: &[Rect]) -> Result<Vec<Bottom>, AllocError>
     ensures { IfOk result (λ bottoms. AreBottomsOf boxes.now bottoms.items) }
 {
     let mut bottoms = Vec::with_capacity(alloc, boxes.len())?;

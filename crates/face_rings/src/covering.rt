@@ -18,16 +18,16 @@ ghost use Rattle.face_rings.specs.Joining.{
   numbered_box,
 };
 
-use crate::bounds::Bounds;
 use crate::joining::join_to;
 use crate::stretch::Stretch;
+use lay_point::Rect;
 use std::alloc::{AllocError, Global};
 
 /// Joins each box that covers the stretch to all that it touches. The time grows with the number of
 /// boxes.
 pub(crate) fn join_covering(
     alloc: Global,
-    boxes: &[Bounds],
+    boxes: &[Rect],
     parents: &mut [usize],
     stretch: Stretch,
     numbers: &[usize],
@@ -48,7 +48,7 @@ pub(crate) fn join_covering(
 /// Joins each box that covers the stretch to those before it that it touches.
 fn join_down(
     alloc: Global,
-    boxes: &[Bounds],
+    boxes: &[Rect],
     parents: &mut [usize],
     stretch: Stretch,
     numbers: &[usize],
@@ -76,7 +76,7 @@ fn join_down(
 /// Joins each box to those before it that cover the stretch and that it touches.
 fn join_up(
     alloc: Global,
-    boxes: &[Bounds],
+    boxes: &[Rect],
     parents: &mut [usize],
     stretch: Stretch,
     numbers: &[usize],
@@ -103,7 +103,7 @@ fn join_up(
 
 /// Joins the box to the open ones that it touches, and leaves of these and it the highest one open.
 fn take_over(
-    boxes: &[Bounds],
+    boxes: &[Rect],
     parents: &mut [usize],
     one: usize,
     opened: &mut Vec<usize>,
@@ -125,13 +125,13 @@ fn take_over(
 }
 
 /// Returns the number of the highest of the boxes and the one of number `one`.
-fn highest(boxes: &[Bounds], one: usize, numbers: &[usize]) -> usize
+fn highest(boxes: &[Rect], one: usize, numbers: &[usize]) -> usize
     requires one { one < length boxes.now }
     requires inside { All (λ k. k < length boxes.now) numbers.now }
     ensures among { (result ≡ one) ⊎ Contains numbers.now result }
-    ensures above { (numbered_box boxes.now one).1.y ≤ℤ (numbered_box boxes.now result).1.y }
+    ensures above { (numbered_box boxes.now one).high.y ≤ℤ (numbered_box boxes.now result).high.y }
     ensures highest { (k : ℕ) → Contains numbers.now k
-        → (numbered_box boxes.now k).1.y ≤ℤ (numbered_box boxes.now result).1.y }
+        → (numbered_box boxes.now k).high.y ≤ℤ (numbered_box boxes.now result).high.y }
 {
     let mut top = one;
     for number in numbers {
@@ -141,12 +141,12 @@ fn highest(boxes: &[Bounds], one: usize, numbers: &[usize]) -> usize
 }
 
 /// Returns the number of the higher one of two boxes.
-fn higher(boxes: &[Bounds], one: usize, other: usize) -> usize
+fn higher(boxes: &[Rect], one: usize, other: usize) -> usize
     requires one { one < length boxes.now }
     requires other { other < length boxes.now }
     ensures either { (result ≡ one) ⊎ (result ≡ other) }
-    ensures first { (numbered_box boxes.now one).1.y ≤ℤ (numbered_box boxes.now result).1.y }
-    ensures second { (numbered_box boxes.now other).1.y ≤ℤ (numbered_box boxes.now result).1.y }
+    ensures first { (numbered_box boxes.now one).high.y ≤ℤ (numbered_box boxes.now result).high.y }
+    ensures second { (numbered_box boxes.now other).high.y ≤ℤ (numbered_box boxes.now result).high.y }
 {
     let (first, second) = (boxes[one], boxes[other]);
     if first.high.y < second.high.y {

@@ -2,8 +2,8 @@
 ghost use Rattle.std.specs.Prelude.{◌≡◌, ◌<◌, All, IfOk, length};
 ghost use Rattle.face_rings.specs.Joining.{AreByBottom, IsPartOf, box_reaches_high, box_reaches_low};
 
-use crate::bounds::Bounds;
 use crate::stretch::Stretch;
+use lay_point::Rect;
 use std::alloc::{AllocError, Global};
 
 /// A column across the stretch of a list of boxes. Those that cover the stretch are on neither side.
@@ -27,7 +27,7 @@ impl Cut {
     }
 
     /// Returns whether a corner of the box is on the column or to its left.
-    pub fn reaches_low(self, bounds: Bounds) -> bool
+    pub fn reaches_low(self, bounds: Rect) -> bool
         ensures { result ≡ box_reaches_low self bounds }
     {
         !self.stretch.is_covered_by(bounds)
@@ -35,7 +35,7 @@ impl Cut {
     }
 
     /// Returns whether a corner of the box is to the right of the column.
-    pub fn reaches_high(self, bounds: Bounds) -> bool
+    pub fn reaches_high(self, bounds: Rect) -> bool
         ensures { result ≡ box_reaches_high self bounds }
     {
         !self.stretch.is_covered_by(bounds)
@@ -50,7 +50,7 @@ impl Cut {
     pub fn low_part(
         self,
         alloc: Global,
-        boxes: &[Bounds],
+        boxes: &[Rect],
         numbers: &[usize],
     ) -> Result<Vec<usize>, AllocError>
         requires inside { All (λ k. k < length boxes.now) numbers.now }
@@ -74,7 +74,7 @@ impl Cut {
     pub fn high_part(
         self,
         alloc: Global,
-        boxes: &[Bounds],
+        boxes: &[Rect],
         numbers: &[usize],
     ) -> Result<Vec<usize>, AllocError>
         requires inside { All (λ k. k < length boxes.now) numbers.now }

@@ -22,9 +22,8 @@ ghost use Rattle.lay_point.specs.RingEdges.{edges_of};
 ghost use Rattle.face_ring_laws.specs.Parts.{AreParts, bounding_box};
 ghost use Rattle.face_ring_laws.specs.Heads.{AreDivided, AreFirst, IsNumbered};
 
-use crate::bounds::{Bounds, bounds_of};
 use crate::joining::joined_heads;
-use lay_point::{NoMemory, Ring};
+use lay_point::{NoMemory, Rect, Ring};
 use std::alloc::{AllocError, Global};
 
 /// Returns the parts of the rings: rings whose bounding boxes have a point in common, their sides
@@ -53,7 +52,7 @@ pub fn parts(alloc: Global, rings: Vec<Ring>) -> Result<Vec<Vec<Ring>>, NoMemory
 }
 
 /// Returns the bounding boxes of the rings.
-fn boxes_of(alloc: Global, rings: &[Ring]) -> Result<Vec<Bounds>, AllocError>
+fn boxes_of(alloc: Global, rings: &[Ring]) -> Result<Vec<Rect>, AllocError>
     ensures { IfOk result (λ boxes. boxes.items ≡ map bounding_box rings.now) }
 {
     let mut boxes = Vec::with_capacity(alloc, rings.len())?;
@@ -61,6 +60,18 @@ fn boxes_of(alloc: Global, rings: &[Ring]) -> Result<Vec<Bounds>, AllocError>
         boxes.push(bounds_of(ring))?;
     }
     Ok(boxes)
+}
+
+/// Returns the bounding box of the ring.
+fn bounds_of(ring: &Ring) -> Rect
+    ensures { result ≡ bounding_box ring.now }
+{
+    let points = ring.points();
+    let mut bounds = Rect::of(points[0]);
+    for point in &points[1..] {
+        bounds = bounds.grown(*point);
+    }
+    bounds
 }
 
 /// Returns the number of each one's part, in the order of the heads, and how many parts there are.

@@ -10,11 +10,11 @@ ghost use Rattle.face_rings.specs.Forest.{IsForest, root_of};
 ghost use Rattle.face_rings.specs.Joining.{AreByBottom, Grows, HasHeight, Joins};
 
 use crate::bottoms::by_bottom;
-use crate::bounds::Bounds;
 use crate::covering::join_covering;
 use crate::cut::Cut;
 use crate::forest::{lone, settle, unite};
 use crate::stretch::Stretch;
+use lay_point::Rect;
 use std::alloc::{AllocError, Global};
 
 /// So many boxes aren't divided.
@@ -25,7 +25,7 @@ const DEPTH: usize = 64;
 
 /// Returns for each box the number of the first one that it is joined to, directly or through others: two
 /// boxes are where they have a point in common. The time grows little faster than the number of boxes.
-pub(crate) fn joined_heads(alloc: Global, boxes: &[Bounds]) -> Result<Vec<usize>, AllocError>
+pub(crate) fn joined_heads(alloc: Global, boxes: &[Rect]) -> Result<Vec<usize>, AllocError>
     requires { All HasHeight boxes.now }
     ensures { IfOk result (λ heads. IsFinest (AreJoined boxes.now) (length boxes.now) heads.items) }
 {
@@ -35,7 +35,7 @@ pub(crate) fn joined_heads(alloc: Global, boxes: &[Bounds]) -> Result<Vec<usize>
 }
 
 /// Gives each of the lone numbers the first one whose box its own is joined to.
-fn find_heads(alloc: Global, boxes: &[Bounds], parents: &mut [usize]) -> Result<(), AllocError>
+fn find_heads(alloc: Global, boxes: &[Rect], parents: &mut [usize]) -> Result<(), AllocError>
     requires each { length parents.old ≡ length boxes.now }
     requires lone { (k : ℕ) → k < length boxes.now → slice_index parents.old k ≡ k }
     requires height { All HasHeight boxes.now }
@@ -50,7 +50,7 @@ fn find_heads(alloc: Global, boxes: &[Bounds], parents: &mut [usize]) -> Result<
 /// Joins the boxes of these numbers, whose list is divided at most `depth` times.
 fn join_all(
     alloc: Global,
-    boxes: &[Bounds],
+    boxes: &[Rect],
     parents: &mut [usize],
     numbers: Vec<usize>,
     depth: usize,
@@ -76,7 +76,7 @@ fn join_all(
 }
 
 /// Joins to the box of number `one` those of the numbers that it touches.
-pub(crate) fn join_to(boxes: &[Bounds], parents: &mut [usize], one: usize, numbers: &[usize])
+pub(crate) fn join_to(boxes: &[Rect], parents: &mut [usize], one: usize, numbers: &[usize])
     requires forest { IsForest parents.old }
     requires each { length parents.old ≡ length boxes.now }
     requires one { one < length boxes.now }
@@ -92,7 +92,7 @@ pub(crate) fn join_to(boxes: &[Bounds], parents: &mut [usize], one: usize, numbe
 }
 
 /// Joins the boxes, pair by pair.
-fn join_pairs(boxes: &[Bounds], parents: &mut [usize], numbers: &[usize])
+fn join_pairs(boxes: &[Rect], parents: &mut [usize], numbers: &[usize])
     requires forest { IsForest parents.old }
     requires each { length parents.old ≡ length boxes.now }
     requires inside { All (λ k. k < length boxes.now) numbers.now }

@@ -37,8 +37,8 @@
 //! # Files
 //!
 //! - `linking.rt`, `incidence.rt`: rings, and the edges left at a point (`specs/Incidence.antt`).
-//! - `dividing.rt`, `joining.rt`, `forest.rt`, `bounds.rt`: parts; `bottoms.rt`, `stretch.rt`,
-//!   `covering.rt`, `cut.rt`: which boxes are joined (`specs/Joining.antt`, `specs/Bottoms.antt`).
+//! - `dividing.rt`, `joining.rt`, `forest.rt`: parts; `bottoms.rt`, `stretch.rt`, `covering.rt`,
+//!   `cut.rt`: which boxes are joined (`specs/Joining.antt`, `specs/Bottoms.antt`).
 //! - `bridging.rt`: the path; `fault.rt`: why edges aren't linked.
 //!
 //! # Example
@@ -53,7 +53,6 @@
 #![tactic(auto)]
 
 mod bottoms;
-mod bounds;
 mod bridging;
 mod covering;
 mod cut;

@@ -3,7 +3,7 @@ ghost use Rattle.std.specs.Prelude.{◌≡◌, ◌<◌, All, int_le, length};
 ghost use Rattle.std.specs.Int.{int_max, int_min};
 ghost use Rattle.face_rings.specs.Joining.{IsStretchOf, covers};
 
-use crate::bounds::Bounds;
+use lay_point::Rect;
 
 /// From where the first of some boxes ends to where the last of them starts, by their x. A box that
 /// covers it has a column in common with each of them.
@@ -17,7 +17,7 @@ pub(crate) struct Stretch {
 
 impl Stretch {
     /// Returns the stretch of the boxes of these numbers.
-    pub fn of(boxes: &[Bounds], numbers: &[usize]) -> Stretch
+    pub fn of(boxes: &[Rect], numbers: &[usize]) -> Stretch
         requires { All (λ k. k < length boxes.now) numbers.now }
         ensures { IsStretchOf boxes.now numbers.now result }
     {
@@ -32,10 +32,10 @@ impl Stretch {
     }
 
     /// Returns the stretch with one box more.
-    fn with(self, bounds: Bounds) -> Stretch
+    fn with(self, bounds: Rect) -> Stretch
         ensures { result ≡ record {
-          first_end = int_min self.first_end bounds.1.x;
-          last_start = int_max self.last_start bounds.0.x;
+          first_end = int_min self.first_end bounds.high.x;
+          last_start = int_max self.last_start bounds.low.x;
         } }
     {
         Stretch {
@@ -45,7 +45,7 @@ impl Stretch {
     }
 
     /// Returns whether the box reaches over the stretch.
-    pub fn is_covered_by(self, bounds: Bounds) -> bool
+    pub fn is_covered_by(self, bounds: Rect) -> bool
         ensures { result ≡ covers self bounds }
     {
         bounds.low.x <= self.first_end && self.last_start <= bounds.high.x

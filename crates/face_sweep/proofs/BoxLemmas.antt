@@ -9,6 +9,7 @@ use Rattle.std.proofs.lemmas.Bool.{and_parts}
 use Rattle.std.proofs.lemmas.Bool.Decides.{Decides-int_eq}
 use Rattle.lay_point.proofs.Signs.{linear}
 use Rattle.lay_point.specs.declared.point.Point.{Point}
+use Rattle.lay_point.specs.declared.rect.Rect.{Rect}
 use Rattle.lay_point.specs.Edges.{is_before, same_edge, IsEdgeBefore}
 use Rattle.lay_point.specs.Parity.{xor, is_crossed}
 use Rattle.lay_point.specs.Points.{IsBefore}
@@ -31,7 +32,6 @@ use Rattle.face_rows.proofs.CutLaw.{same_edge-Decides}
 use Rattle.face_rows.proofs.Cuts.{AreDistinct, parity_of_one}
 use Rattle.face_rows.proofs.SideLemmas.{zip_first}
 use Rattle.face_rows.proofs.UpwardLemmas.{either, up, up_crossed, up_rises}
-use Rattle.face_sweep.specs.declared.extent.Extent.{Extent}
 use Rattle.face_sweep.specs.Reaches.{AreBoxes, IsEdgeIn, extent_of, is_level_at, is_upright_at, told_by}
 use Rattle.face_sweep.specs.declared.boxes.Boxes.{Boxes}
 use Rattle.face_sweep.specs.Sides.{holds_beside}
@@ -67,7 +67,7 @@ none_is b e = absurd cc
 
 -- ---- the box
 -- an edge of the shape, which has this box
-record IsBoxed (r : Owned) (o : Owner) (box : Extent) (n : ℕ) : Type 0 where
+record IsBoxed (r : Owned) (o : Owner) (box : Rect) (n : ℕ) : Type 0 where
   pub sound : AreSound r
   pub within : (m : ℕ) → m < length r.0 → is_owner_listed o (owners_at r m) ≡ true → IsEdgeIn box (edge_at r m)
   pub given : n < length r.0
@@ -80,7 +80,7 @@ IsUprightAt x e = (e.0.x ≡ x) × (e.1.x ≡ x)
 abbrev IsLevelAt : ℤ → Point × Point → Type 0
 IsLevelAt y e = (e.0.y ≡ y) × (e.1.y ≡ y)
 
-module _ (r : Owned) (o : Owner) (box : Extent) (n : ℕ) (h : IsBoxed r o box n) where
+module _ (r : Owned) (o : Owner) (box : Rect) (n : ℕ) (h : IsBoxed r o box n) where
   abbrev items : List Item
   items = owned_items r
 
@@ -255,7 +255,7 @@ pub told_beside : (r : Owned) (boxes : Boxes) (o : Owner) (n : ℕ) (holds : Boo
     → holds_beside r n o ≡ holds
 told_beside r boxes o n holds sound all given listed told = by_extent (extent_of boxes o) refl told
   where
-    by_extent : (extent : Option Extent) → extent_of boxes o ≡ extent → told_by extent (edge_at r n) ≡ Some holds
+    by_extent : (extent : Option Rect) → extent_of boxes o ≡ extent → told_by extent (edge_at r n) ≡ Some holds
         → holds_beside r n o ≡ holds
     by_extent None e t = absurd (none_is holds t)
     by_extent (Some box) e t = told_is r o box n

@@ -1,12 +1,11 @@
 //! The boxes round the edges of shapes.
 ghost use Rattle.std.specs.Prelude.{◌≡◌, IfOk, Some, slice_get, true};
+ghost use Rattle.lay_point.specs.declared.rect.Rect.{Rect};
 ghost use Rattle.snap_chains.specs.declared.owner.Owner.{Owner};
 ghost use Rattle.snap_chains.specs.Rounded.{is_owner_listed};
-ghost use Rattle.face_sweep.specs.declared.extent.Extent.{Extent};
 ghost use Rattle.face_sweep.specs.Reaches.{IsEdgeIn, HaveGrown, AreBoxes, extent_of};
 
-use crate::extent::Extent;
-use lay_point::Edge;
+use lay_point::{Edge, Point, Rect};
 use snap_chains::{CleanEdges, Input, Owner};
 use std::alloc::{AllocError, Global};
 
@@ -14,8 +13,8 @@ use std::alloc::{AllocError, Global};
 /// are edges have none.
 #[derive(Debug, Drop)]
 pub(crate) struct Boxes {
-    pub first: Vec<Extent>,
-    pub second: Vec<Extent>,
+    pub first: Vec<Rect>,
+    pub second: Vec<Rect>,
 }
 
 impl Boxes {
@@ -26,8 +25,8 @@ impl Boxes {
         let shapes = shape_count(edges);
         let count = edges.edges().len();
         let mut boxes = Boxes {
-            first: vec![in alloc; Extent::none(); shapes]?,
-            second: vec![in alloc; Extent::none(); shapes]?,
+            first: vec![in alloc; no_box(); shapes]?,
+            second: vec![in alloc; no_box(); shapes]?,
         };
         for number in 0..count {
             let edge = edges.edges()[number];
@@ -40,7 +39,7 @@ impl Boxes {
     fn extend(&mut self, owners: &[Owner], edge: Edge)
         ensures first { HaveGrown self.old.first.items self.new.first.items }
         ensures second { HaveGrown self.old.second.items self.new.second.items }
-        ensures reached { (o : Owner) (extent : Extent) → is_owner_listed o owners.now ≡ true
+        ensures reached { (o : Owner) (extent : Rect) → is_owner_listed o owners.now ≡ true
             → extent_of self.new o ≡ Some extent → IsEdgeIn extent edge }
     {
         for owner in owners {
@@ -52,7 +51,7 @@ impl Boxes {
     fn extend_one(&mut self, owner: Owner, edge: Edge)
         ensures first { HaveGrown self.old.first.items self.new.first.items }
         ensures second { HaveGrown self.old.second.items self.new.second.items }
-        ensures reached { (extent : Extent) → extent_of self.new owner ≡ Some extent → IsEdgeIn extent edge }
+        ensures reached { (extent : Rect) → extent_of self.new owner ≡ Some extent → IsEdgeIn extent edge }
     {
         match owner.input {
             Input::First => widen(&mut self.first, owner.shape, edge),
@@ -61,7 +60,7 @@ impl Boxes {
     }
 
     /// Returns the box round the edges of the shape, where it is known.
-    pub fn extent(&self, owner: Owner) -> Option<Extent>
+    pub fn extent(&self, owner: Owner) -> Option<Rect>
         ensures { result ≡ extent_of self.now owner }
     {
         match owner.input {
@@ -71,14 +70,28 @@ impl Boxes {
     }
 }
 
+/// Returns the box of no edges.
+fn no_box() -> Rect {
+    Rect {
+        low: Point {
+            x: i32::MAX,
+            y: i32::MAX,
+        },
+        high: Point {
+            x: i32::MIN,
+            y: i32::MIN,
+        },
+    }
+}
+
 /// Widens the box of this number, if there is one, so that it has both ends of the edge.
-fn widen(extents: &mut Vec<Extent>, shape: u32, edge: Edge)
+fn widen(extents: &mut Vec<Rect>, shape: u32, edge: Edge)
     ensures grown { HaveGrown extents.old.items extents.new.items }
-    ensures reached { (extent : Extent) → slice_get extents.new.items shape ≡ Some extent → IsEdgeIn extent edge }
+    ensures reached { (extent : Rect) → slice_get extents.new.items shape ≡ Some extent → IsEdgeIn extent edge }
 {
     let index = shape as usize;
     if index < extents.len() {
-        extents[index] = extents[index].with(edge.low()).with(edge.high());
+        extents[index] = extents[index].grown(edge.low()).grown(edge.high());
     }
 }
 

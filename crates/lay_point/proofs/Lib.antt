@@ -6,6 +6,7 @@ pub mod NameLemmas
 pub mod Parity
 pub mod Polynomials
 pub mod Products
+pub mod RectLemmas
 pub mod RingLemmas
 pub mod Rising
 pub mod Signs

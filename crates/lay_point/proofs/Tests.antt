@@ -1,5 +1,5 @@
 -- Tests of whole numbers, and the orders that they tell.
-use Rattle.std.proofs.Common.{◌≡◌, Bool, true, false, not, ℤ, ◌≤ℤ◌, ◌<ℤ◌, sym, ap, ◌∙◌, ⊎_elim, arith}
+use Rattle.std.proofs.Common.{◌≡◌, true, false, not, ℤ, ◌≤ℤ◌, ◌<ℤ◌, sym, ap, ◌∙◌, ⊎_elim, arith}
 use Rattle.std.specs.Prelude.{int_le, int_lt}
 use Rattle.std.proofs.lemmas.Int.{ints}
 use Rattle.lay_point.proofs.Signs.{below_or_not}

@@ -7,6 +7,7 @@ pub mod Names
 pub mod Padded
 pub mod Parity
 pub mod Points
+pub mod Rects
 pub mod RingEdges
 pub mod Rings
 pub mod Rising

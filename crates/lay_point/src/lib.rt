@@ -8,6 +8,7 @@
 //!
 //! - [`Point`] is its two coordinates, and [`Turn`] a mirror, quarter turns and a shift, applied in
 //!   this order.
+//! - [`Rect`] is its lower left and its upper right corner.
 //! - [`Edge`] is kept as its two ends. Contracts see the pair of them, the lesser first.
 //! - [`Ring`] is kept as four points in place, else as a `Vec`. Contracts see the list of its
 //!   points.
@@ -25,6 +26,7 @@
 //! - `Point` keeps nothing: its coordinates are any `i32`. One of a layout has both in
 //!   `-LIMIT..=LIMIT`, which [`Point::is_in_range`] tests; [`Turn::then`] and [`Turn::apply`]
 //!   return `None` outside.
+//! - `Rect` keeps nothing: its corners are any points.
 //! - `Edge`: its ends differ and are in order ([`Edge::new`]).
 //! - `Ring`: 3 to [`MAX_RING_POINTS`] points in range; neighbours differ, the last and the first
 //!   among them (`IsRing` of `specs/Rings.antt`). [`Ring::new`] drops repeats, then tests the rest,
@@ -34,7 +36,7 @@
 //!
 //! # Files
 //!
-//! - `point.rt`, `turn.rt`, `edge.rt`, `ring.rt`, `layer_name.rt`: a type each.
+//! - `point.rt`, `turn.rt`, `rect.rt`, `edge.rt`, `ring.rt`, `layer_name.rt`: a type each.
 //! - `sequence.rt`, `given.rt`, `memory.rt`: lists and failed allocations, for all crates.
 //! - `specs/Bridges.antt`: the one path round all rings of a shape.
 //! - `laws.rt`: [`whole_numbers_have_laws`] does nothing and carries the laws of whole numbers
@@ -57,6 +59,7 @@ mod laws;
 mod layer_name;
 mod memory;
 mod point;
+mod rect;
 mod ring;
 mod sequence;
 mod turn;
@@ -67,6 +70,7 @@ pub use laws::whole_numbers_have_laws;
 pub use layer_name::{LayerName, MAX_LAYER_NAME};
 pub use memory::NoMemory;
 pub use point::{LIMIT, Point};
+pub use rect::Rect;
 pub use ring::{MAX_RING_POINTS, Ring, RingFault, without_repeats};
 pub use sequence::Sequence;
 pub use turn::{Quarter, Turn};

@@ -1,6 +1,6 @@
-use Rattle.std.proofs.Common.{◌+◌, ◌∙◌, Bool, true, List, ℕ, Vec, Global, arith, ap, get_or, inr, refl, subst, sym}
+use Rattle.std.proofs.Common.{◌+◌, ◌∙◌, Bool, true, List, ℕ, Vec, Global, arith, ap, inr, refl, subst, sym}
 use Rattle.face_rings.specs.Joining.{numbered_box, covers}
-use Rattle.face_rings.proofs.CoverLemmas.{IsPass, opened_inside, pass_covered, pass_opens, read_box}
+use Rattle.face_rings.proofs.CoverLemmas.{IsPass, opened_inside, pass_covered, pass_opens}
 use Rattle.face_rings.proofs.covering.join_down.Goals as goal
 use Rattle.face_rings.proofs.covering.join_down.Goals.{then-is_covered_by+in_ok-take_over, else-is_covered_by+in_ok-push}
 
@@ -19,14 +19,12 @@ loop-number-preserved c =
     let opened = c.loop-number.opened.items in
     let h = c.loop-number.invariant in
     let lt = c.loop-number-test.true in
-    let inside = c.requires.inside i 0 lt in
     let from : ℕ → Bool = (λ k. true) in
     let to : ℕ → Bool = (λ k. covers c.args.stretch (numbered_box c.args.boxes.now k)) in
-    let at = read_box boxes (get_or numbers i 0) c.index-boxes-number.result inside c.index-boxes-number.is in
     let after : List ℕ → List ℕ → Type 0 = λ ps left. IsPass boxes numbers from to c.args.parents.now ps (i + 1) left in
     elim c.if-is_covered_by.branch [
       | then-is_covered_by+in_ok-take_over w ↦
-          let over = ap (covers s) (sym at) ∙ sym c.is_covered_by.ensures ∙ w.if-is_covered_by.true in
+          let over = sym c.is_covered_by.ensures ∙ w.if-is_covered_by.true in
           subst (after c.if-is_covered_by.parents) (sym (ap (λ (v : Vec ℕ Global). v.items) w.opened-is))
           (subst (λ ps. after ps w.take_over.new.opened.items) (sym w.parents-is)
           (pass_covered boxes numbers s c.requires.height c.requires.inside c.requires.by_bottom c.requires.stretch from to (λ a b f t. inr t)
@@ -36,7 +34,7 @@ loop-number-preserved c =
           subst (after c.if-is_covered_by.parents) (sym (ap (λ (v : Vec ℕ Global). v.items) w.opened-is))
           (subst (λ ps. after ps w.push.new.self.items) (sym w.parents-is)
           (pass_opens boxes numbers s c.requires.height c.requires.inside c.requires.by_bottom c.requires.stretch from to (λ a b f t. inr t)
-          c.args.parents.now now i opened c.requires.each lt h refl (ap (covers s) (sym at) ∙ sym c.is_covered_by.ensures ∙ w.if-is_covered_by.false)
+          c.args.parents.now now i opened c.requires.each lt h refl (sym c.is_covered_by.ensures ∙ w.if-is_covered_by.false)
           w.push.new.self.items w.in_ok-push.ensures.items))
     ]
 

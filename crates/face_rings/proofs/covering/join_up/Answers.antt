@@ -1,7 +1,7 @@
-use Rattle.std.proofs.Common.{◌+◌, ◌<◌, ◌∙◌, Bool, true, List, ℕ, Vec, Global, arith, ap, get_or, inl, length, refl, subst, sym}
+use Rattle.std.proofs.Common.{◌+◌, ◌<◌, ◌∙◌, Bool, true, List, ℕ, Vec, Global, arith, ap, inl, length, refl, subst, sym}
 use Rattle.std.specs.Prelude.{All, Contains}
 use Rattle.face_rings.specs.Joining.{numbered_box, covers}
-use Rattle.face_rings.proofs.CoverLemmas.{IsPass, opened_inside, pass_covered, pass_stays, read_box}
+use Rattle.face_rings.proofs.CoverLemmas.{IsPass, opened_inside, pass_covered, pass_stays}
 use Rattle.face_rings.proofs.covering.join_up.Goals as goal
 use Rattle.face_rings.proofs.covering.join_up.Goals.{then-is_covered_by+in_ok-take_over, else-is_covered_by}
 
@@ -26,14 +26,12 @@ loop-number-preserved c =
     let opened = c.loop-number.opened.items in
     let h = c.loop-number.invariant in
     let lt = c.loop-number-test.true in
-    let inside = c.requires.inside i 0 lt in
     let from : ℕ → Bool = (λ k. covers c.args.stretch (numbered_box c.args.boxes.now k)) in
     let to : ℕ → Bool = (λ k. true) in
-    let at = read_box boxes (get_or numbers i 0) c.index-boxes-number.result inside c.index-boxes-number.is in
     let after : List ℕ → List ℕ → Type 0 = λ ps left. IsPass boxes numbers from to c.args.parents.now ps (i + 1) left in
     elim c.if-is_covered_by.branch [
       | then-is_covered_by+in_ok-take_over w ↦
-          let over = ap (covers s) (sym at) ∙ sym c.is_covered_by.ensures ∙ w.if-is_covered_by.true in
+          let over = sym c.is_covered_by.ensures ∙ w.if-is_covered_by.true in
           subst (after c.if-is_covered_by.parents) (sym (ap (λ (v : Vec ℕ Global). v.items) w.opened-is))
           (subst (λ ps. after ps w.take_over.new.opened.items) (sym w.parents-is)
           (pass_covered boxes numbers s c.requires.height c.requires.inside c.requires.by_bottom c.requires.stretch from to (λ a b f t. inl f)
@@ -45,7 +43,7 @@ loop-number-preserved c =
           (pass_stays boxes numbers s c.requires.height c.requires.inside c.requires.by_bottom c.requires.stretch from to (λ a b f t. inl f)
           c.args.parents.now now i opened c.requires.each lt h w.join_to.new.parents w.join_to.ensures.grows
           (λ k m g. w.join_to.ensures.joined k (subst (λ l. Contains l k) (sym w.deref.ensures.value) m) g)
-          (ap (covers s) (sym at) ∙ sym c.is_covered_by.ensures ∙ w.if-is_covered_by.false)))
+          (sym c.is_covered_by.ensures ∙ w.if-is_covered_by.false)))
     ]
 
 pub returns-clause-joined : goal.returns-clause-joined

@@ -1,7 +1,8 @@
-use Rattle.std.proofs.Common.{◌+◌, sym, subst, ◌∙◌, List, ℕ}
-use Rattle.std.proofs.lemmas.List.{take_all}
+use Rattle.std.proofs.Common.{◌+◌, sym, subst, ◌∙◌, List, get_or, ℕ}
+use Rattle.std.proofs.lemmas.List.{get_or_default, take_all}
 use Rattle.std.specs.Prelude.{Contains}
-use Rattle.face_rings.proofs.JoinLemmas.{IsJoining, joining_skips, joining_takes}
+use Rattle.face_rings.specs.Joining.{numbered_box}
+use Rattle.face_rings.proofs.JoinLemmas.{IsJoining, joining_skips, joining_takes, nowhere}
 use Rattle.face_rings.proofs.joining.join_to.Goals as goal
 use Rattle.face_rings.proofs.joining.join_to.Goals.{then-touches, else-touches}
 
@@ -10,22 +11,25 @@ loop-number-preserved c =
     let boxes = c.args.boxes.now in
     let numbers = c.args.numbers.now in
     let i = c.loop-number.number-index in
-    let b = c.index-boxes-one.result in
-    let d = c.index-boxes-number.result in
+    let n = get_or numbers i 0 in
+    let b = numbered_box boxes c.args.one in
+    let d = numbered_box boxes n in
     let inside = c.requires.inside i 0 c.loop-number-test.true in
+    let is_b = get_or_default boxes c.args.one nowhere b c.requires.one in
+    let is_d = get_or_default boxes n nowhere d inside in
     let after : List ℕ → Type 0 = λ parents. IsJoining boxes c.args.parents.now parents c.args.one numbers (i + 1) in
     elim c.if-touches.branch [
       | then-touches w ↦
           subst after (sym w.parents-is)
           (joining_takes boxes c.args.parents.now c.loop-number.parents c.args.one numbers i b d
-          c.loop-number.invariant c.requires.each c.loop-number-test.true c.requires.one inside c.index-boxes-one.is
-          c.index-boxes-number.is w.unite.new.parents (sym c.touches.ensures ∙ w.if-touches.true) w.unite.auto.parents
+          c.loop-number.invariant c.requires.each c.loop-number-test.true c.requires.one inside is_b
+          is_d w.unite.new.parents (sym c.touches.ensures ∙ w.if-touches.true) w.unite.auto.parents
           w.unite.ensures.forest w.unite.ensures.united)
       | else-touches w ↦
           subst after (sym w.parents-is)
           (joining_skips boxes c.args.parents.now c.loop-number.parents c.args.one numbers i b d
-          c.loop-number.invariant c.requires.each c.loop-number-test.true c.requires.one inside c.index-boxes-one.is
-          c.index-boxes-number.is (sym c.touches.ensures ∙ w.if-touches.false))
+          c.loop-number.invariant c.requires.each c.loop-number-test.true c.requires.one inside is_b
+          is_d (sym c.touches.ensures ∙ w.if-touches.false))
     ]
 
 pub returns-clause-grows : goal.returns-clause-grows

@@ -1,61 +1,46 @@
-//! Bounding boxes of rings.
+//! Boxes with sides along the axes, as they are round points, rings and edges.
 ghost use Rattle.std.specs.Prelude.{◌≡◌};
 ghost use Rattle.std.specs.Int.{int_max, int_min};
-ghost use Rattle.face_ring_laws.specs.Parts.{bounding_box, grown, is_up_to, touch};
+ghost use Rattle.lay_point.specs.Rects.{grown, is_up_to, touch};
 
-use lay_point::{Point, Ring};
-use std::marker::Model;
+use crate::point::Point;
 
-/// A bounding box, sides included. Contracts see the pair of its lower left and its upper right corner.
-#[derive(Clone, Copy, Debug)]
-pub struct Bounds {
-    pub(crate) low: Point,
-    pub(crate) high: Point,
+/// A box with sides along the axes, its sides included.
+#[derive(Clone, Copy, Debug, PartialEq, Eq, PartialOrd, Ord, Default)]
+pub struct Rect {
+    /// The lower left corner.
+    pub low: Point,
+    /// The upper right corner.
+    pub high: Point,
 }
 
-impl Model for Bounds {
-    ghost use Rattle.lay_point.specs.declared.point.Point.{Point};
+impl Rect {
+    /// Returns the box of this point alone.
+    pub fn of(point: Point) -> Rect
+        ensures { result ≡ record { low = point; high = point } }
+    {
+        Rect {
+            low: point,
+            high: point,
+        }
+    }
 
-    ghost Value = { Point × Point };
-
-    ghost view = { λ b. (b.low, b.high) };
-
-    ghost inverse = { λ b. record { low = b.0; high = b.1 } };
-}
-
-impl Bounds {
     /// Returns the least box that has the point too.
-    fn grown(self, point: Point) -> Bounds
+    pub fn grown(self, point: Point) -> Rect
         ensures { result ≡ grown self point }
     {
-        Bounds {
+        Rect {
             low: lower_left(self.low, point),
             high: upper_right(self.high, point),
         }
     }
 
-    /// Returns whether the boxes have a point in common.
-    pub fn touches(self, other: Bounds) -> bool
+    /// Returns whether the boxes, their sides included, have a point in common.
+    pub fn touches(self, other: Rect) -> bool
         ensures { result ≡ touch self other }
     {
         is_up_to(self.low, other.high) && is_up_to(other.low, self.high)
     }
-}
-
-/// Returns the bounding box of the ring.
-pub(crate) fn bounds_of(ring: &Ring) -> Bounds
-    ensures { result ≡ bounding_box ring.now }
-{
-    let points = ring.points();
-    let first = points[0];
-    let mut bounds = Bounds {
-        low: first,
-        high: first,
-    };
-    for point in &points[1..] {
-        bounds = bounds.grown(*point);
-    }
-    bounds
 }
 
 /// Returns the lower left corner of the least box that has both points.
