@@ -13,7 +13,7 @@ use Rattle.lay_point.specs.Rings.{IsRing, NeighboursDiffer, closed, kept_behind,
 use Rattle.lay_point.specs.Rings.{checked_ring, ring_of}
 use Rattle.lay_point.proofs.RingLemmas.{opened-apart, point_eq-true}
 
-point_eq_apart : (p q : Point) → p ≢ q → point_eq p q ≡ false
+pub point_eq_apart : (p q : Point) → p ≢ q → point_eq p q ≡ false
 point_eq_apart p q h = elim (point_eq p q) as (λ b. point_eq p q ≡ b → b ≡ false) [
   | true ↦ λ e. absurd (h (point_eq-true p q e))
   | false ↦ λ e. refl
@@ -21,7 +21,7 @@ point_eq_apart p q h = elim (point_eq p q) as (λ b. point_eq p q ≡ b → b �
 
 -- ---- a ring has no repeats
 -- points that differ from those before them are kept, and so is the next one behind them
-kept_apart : (p q : Point) (ps rest : List Point) → NeighboursDiffer (p ∷ ps ++ q ∷ [])
+pub kept_apart : (p q : Point) (ps rest : List Point) → NeighboursDiffer (p ∷ ps ++ q ∷ [])
     → kept_behind p (ps ++ q ∷ rest) ≡ ps ++ q ∷ kept_behind q rest
 kept_apart p q [] rest d = rw (point_eq_apart p q d.0) refl
 kept_apart p q (r ∷ rs) rest d = rw (point_eq_apart p r d.0) (ap (λ xs. r ∷ xs) (kept_apart r q rs rest d.1))

@@ -1,6 +1,6 @@
 -- The orders of points and of undirected edges are strict, that of points is total, and tests of points and edges decide.
 use Rattle.std.proofs.Common.{◌≡◌, ◌⊎◌, inl, inr, Bool, true, false, cond, ◌&&◌, ℤ, ◌<ℤ◌, refl, sym, ap₂, subst, ◌∙◌, ◌||◌}
-use Rattle.std.proofs.Common.{arith, ⊎_elim, int_eq, ℕ, ◌+◌, ◌<◌, ◌≤◌, List, length, get_or, ap}
+use Rattle.std.proofs.Common.{arith, ⊎_elim, ℕ, ◌+◌, ◌<◌, ◌≤◌, List, length, get_or, ap}
 use Rattle.std.proofs.lemmas.Int.{ints, by_lt_z}
 use Rattle.std.proofs.lemmas.Bool.Decides.{Decides-int_eq}
 use Rattle.std.proofs.lemmas.Bool.{and_parts, cases_lt, false_from_ne_true}
@@ -11,20 +11,16 @@ use Rattle.lay_point.specs.Parity.{xor}
 use Rattle.lay_point.specs.Points.{IsBefore, point_eq}
 use Rattle.lay_point.proofs.Parity.{IsEquality}
 use Rattle.lay_point.proofs.Rising.{IsStrictOrder}
+use Rattle.lay_point.proofs.RingLemmas.{point_eq-true}
 
 pub same_point : (p q : Point) → p.x ≡ q.x → p.y ≡ q.y → p ≡ q
 same_point p q ex ey = λ i. record { x = ex i; y = ey i }
 
 -- ---- tests
-pub same_by_test : (p q : Point) → point_eq p q ≡ true → p ≡ q
-same_by_test p q e =
-    let both = and_parts (int_eq p.x q.x) (int_eq p.y q.y) e in
-    same_point p q ((Decides-int_eq p.x q.x).0 both.0) ((Decides-int_eq p.y q.y).0 both.1)
-
 pub points_decide : IsEquality point_eq
 points_decide = record {
   itself = λ p. ap₂ (λ a b. a && b) ((Decides-int_eq p.x p.x).1 refl) ((Decides-int_eq p.y p.y).1 refl);
-  apart = λ p q differ. false_from_ne_true (point_eq p q) (λ e. differ (same_by_test p q e));
+  apart = λ p q differ. false_from_ne_true (point_eq p q) (λ e. differ (point_eq-true p q e));
 }
 
 pub edges_decide : IsEquality same_edge
@@ -32,12 +28,12 @@ edges_decide = record {
   itself = λ e. ap₂ (λ a b. a && b) (points_decide.itself e.0) (points_decide.itself e.1);
   apart = λ e f differ. false_from_ne_true (same_edge e f) (λ g.
       let both = and_parts (point_eq e.0 f.0) (point_eq e.1 f.1) g in
-      differ (λ i. (same_by_test e.0 f.0 both.0 i, same_by_test e.1 f.1 both.1 i)));
+      differ (λ i. (point_eq-true e.0 f.0 both.0 i, point_eq-true e.1 f.1 both.1 i)));
 }
 
 -- one end of a proper edge is a point where the edge touches it
 pub one_end : (v : Point) (e : Point × Point) → ¬ (e.0 ≡ e.1) → xor (point_eq e.0 v) (point_eq e.1 v) ≡ touches v e
-one_end v e apart = by_tests (point_eq e.0 v) (point_eq e.1 v) (λ f g. apart (same_by_test e.0 v f ∙ sym (same_by_test e.1 v g)))
+one_end v e apart = by_tests (point_eq e.0 v) (point_eq e.1 v) (λ f g. apart (point_eq-true e.0 v f ∙ sym (point_eq-true e.1 v g)))
   where
     by_tests : (a b : Bool) → (a ≡ true → b ≡ true → ⊥) → xor a b ≡ (a || b)
     by_tests false b h = refl
@@ -61,7 +57,7 @@ before_transitive p q r (inl a) (inr b) = inl (omega (arith, ints, b.0))
 before_transitive p q r (inr a) (inl b) = inl (omega (arith, ints, a.0))
 before_transitive p q r (inr a) (inr b) = inr (a.0 ∙ b.0, omega (arith, ints, a.1, b.1))
 
-apart_or_same : (a b : ℤ) → ((a <ℤ b) ⊎ (b <ℤ a)) ⊎ (a ≡ b)
+pub apart_or_same : (a b : ℤ) → ((a <ℤ b) ⊎ (b <ℤ a)) ⊎ (a ≡ b)
 apart_or_same a b = by_lt_z a b (λ less. inl (inl less)) (λ g. by_lt_z b a (λ more. inl (inr more)) (λ h. inr (omega (arith, ints))))
 
 pub before_total : (p q : Point) → (p ≡ q) ⊎ (IsBefore p q ⊎ IsBefore q p)

@@ -1,8 +1,11 @@
+pub mod BoolLaws
 pub mod BridgeLemmas
 pub mod Division
 pub mod EdgeOrder
+pub mod ListLaws
 pub mod Members
 pub mod NameLemmas
+pub mod NumberLaws
 pub mod Parity
 pub mod Polynomials
 pub mod Products

@@ -141,7 +141,7 @@ kept-value vs m (negsuc n) s = refl
 swap_sum : (x y z : ℤ) → x +ℤ (y +ℤ z) ≡ y +ℤ (x +ℤ z)
 swap_sum x y z = sym (+ℤ_assoc x y z) ∙ ap (λ w. w +ℤ z) (+ℤ_comm x y) ∙ +ℤ_assoc y x z
 
-swap_product : (x y z : ℤ) → x *ℤ (y *ℤ z) ≡ y *ℤ (x *ℤ z)
+pub swap_product : (x y z : ℤ) → x *ℤ (y *ℤ z) ≡ y *ℤ (x *ℤ z)
 swap_product x y z = sym (*ℤ_assoc x y z) ∙ ap (λ w. w *ℤ z) (*ℤ_comm x y) ∙ *ℤ_assoc y x z
 
 placed-value : (vs : List ℤ) (o : Order) (m : List ℕ) (c : ℤ) (n : List ℕ) (d : ℤ) (s further : Sum)

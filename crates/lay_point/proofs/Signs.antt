@@ -32,7 +32,7 @@ positive_product (pos (suc a)) (negsuc b) h g = absurd (omega (arith, linear))
 positive_product (negsuc a) b h g = absurd (omega (arith, linear))
 
 -- k * (b - a) as a difference
-spread : (k a b : ℤ) → k *ℤ (b -ℤ a) ≡ k *ℤ b -ℤ k *ℤ a
+pub spread : (k a b : ℤ) → k *ℤ (b -ℤ a) ≡ k *ℤ b -ℤ k *ℤ a
 spread k a b = identity (k ∷ a ∷ b ∷ []) (# 0 ⊗ (# 2 ⊖ # 1)) (# 0 ⊗ # 2 ⊖ # 0 ⊗ # 1) refl
 
 -- a factor that isn't negative keeps an order, a positive one keeps it strict

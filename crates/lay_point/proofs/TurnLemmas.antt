@@ -6,15 +6,13 @@ use Rattle.lay_point.specs.declared.turn.Quarter.{Quarter}
 use Rattle.lay_point.specs.declared.turn.Quarter.TheVariants.{R0, R90, R180, R270}
 use Rattle.lay_point.specs.declared.turn.Turn.{Turn}
 use Rattle.lay_point.specs.Turns.{composed, mirrored, next_quarter, opposite, quarters, shifted, turned, turned_by}
+use Rattle.lay_point.proofs.Products.{+ℤ_assoc}
 
 neg-neg : (a : ℤ) → neg_ℤ (neg_ℤ a) ≡ a
 neg-neg a = omega (arith, ints)
 
 neg-plus : (a b : ℤ) → neg_ℤ (a +ℤ b) ≡ neg_ℤ a +ℤ neg_ℤ b
 neg-plus a b = omega (arith, ints)
-
-plus-assoc : (a b c : ℤ) → (a +ℤ b) +ℤ c ≡ a +ℤ (b +ℤ c)
-plus-assoc a b c = omega (arith, ints)
 
 -- points of the same coordinates
 same_point : {p q : Point} → p.x ≡ q.x → p.y ≡ q.y → p ≡ q
@@ -87,7 +85,7 @@ moved-shifted : (n : Bool) (r : Quarter) (s p : Point) → moved n r (shifted s 
 moved-shifted n r s p = ap (turned_by r) (mirrored-shifted n s p) ∙ turned_by-shifted r (mirrored n s) (mirrored n p)
 
 shifted-shifted : (s t p : Point) → shifted (shifted t s) p ≡ shifted t (shifted s p)
-shifted-shifted s t p = same_point (sym (plus-assoc p.x s.x t.x)) (sym (plus-assoc p.y s.y t.y))
+shifted-shifted s t p = same_point (sym (+ℤ_assoc p.x s.x t.x)) (sym (+ℤ_assoc p.y s.y t.y))
 
 pub turned-composed : (first next : Turn) (p : Point) → turned (composed first next) p ≡ turned next (turned first p)
 unfolding composed turned
