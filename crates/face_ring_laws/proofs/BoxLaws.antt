@@ -4,7 +4,7 @@ use Rattle.std.proofs.Common.{List, [], ◌∷◌, ◌++◌, ℤ, pos, ◌+ℤ�
 use Rattle.std.proofs.Common.{refl, ap, ap₂, subst, ◌∙◌, ⊎_elim, arith}
 use Rattle.std.specs.Prelude.{int_le, int_lt}
 use Rattle.std.proofs.lemmas.Bool.{and_parts}
-use Rattle.std.proofs.lemmas.Int.{ints, clamps}
+use Rattle.std.proofs.lemmas.Int.{ints}
 use Rattle.lay_point.proofs.Polynomials.{#, lit, ◌⊕◌, ◌⊖◌, ◌⊗◌, identity}
 use Rattle.lay_point.proofs.Signs.{cancel_le, cancel_positive, linear, nonnegative_product, positive_product, times_le}
 use Rattle.lay_point.proofs.Tests.{le_false, le_true, lt_is_not_le, lt_true, true_le, true_lt}

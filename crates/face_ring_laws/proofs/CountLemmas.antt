@@ -9,9 +9,11 @@ use Rattle.lay_point.specs.Edges.{is_before, touches, undirected}
 use Rattle.lay_point.specs.Parity.{xor, parity, is_crossed, odd}
 use Rattle.lay_point.specs.Points.{point_eq}
 use Rattle.lay_point.specs.RingEdges.{pairs, edges_of, edges_of_ring}
-use Rattle.lay_point.proofs.EdgeOrder.{before_by_test, before_is_strict, same_by_test, undirected_back, undirected_lesser}
+use Rattle.lay_point.proofs.EdgeOrder.{before_by_test, before_is_strict, undirected_back, undirected_lesser}
 use Rattle.lay_point.proofs.Members.{Has}
 use Rattle.lay_point.proofs.Parity.{parity-map, parity_agree}
+use Rattle.lay_point.proofs.RingLemmas.{point_eq-true}
+use Rattle.lay_point.proofs.ListLaws.{map-append}
 use Rattle.face_ring_laws.specs.Linking.{Ends, other_end}
 use Rattle.face_ring_laws.proofs.ParityLemmas.{IsEdgeTest, is_crossed-IsEdgeTest}
 use Rattle.face_ring_laws.proofs.TakenLemmas.{other_has, taken_count, taken_has, taken_touches}
@@ -31,8 +33,8 @@ pub walked : (at : Point) (e : Ends) → is_before e.0 e.1 ≡ true → touches 
 walked at e lesser h = by_end (point_eq e.0 at) refl h
   where
     by_end : (p : Bool) → point_eq e.0 at ≡ p → (p || point_eq e.1 at) ≡ true → undirected (at, cond p e.1 e.0) ≡ e
-    by_end true f t = ap (λ v. undirected (v, e.1)) (sym (same_by_test e.0 at f)) ∙ undirected_lesser e lesser
-    by_end false f t = ap (λ v. undirected (v, e.0)) (sym (same_by_test e.1 at t)) ∙ undirected_back e lesser
+    by_end true f t = ap (λ v. undirected (v, e.1)) (sym (point_eq-true e.0 at f)) ∙ undirected_lesser e lesser
+    by_end false f t = ap (λ v. undirected (v, e.0)) (sym (point_eq-true e.1 at t)) ∙ undirected_back e lesser
 
 -- ---- the edges of a way, each as often as it is gone
 abbrev pub gone_by : Point → List Point → List Ends
@@ -65,10 +67,6 @@ way_count test start at es points rest (onward at₁ e es₁ es₂ rest₁ point
     let further = way_count test start (other_end at₁ e) es₂ points₁ rest₁ w (λ f m. lesser f (other_has at₁ es₁ e es₂ h f m)) in
     let all = taken_count at₁ es₁ e es₂ h test in
     omega arith
-
-map-append : {A B : Type 0} (f : A → B) (xs ys : List A) → map f (xs ++ ys) ≡ map f xs ++ map f ys
-map-append f [] ys = refl
-map-append f (x ∷ xs) ys = ap (λ l. f x ∷ l) (map-append f xs ys)
 
 -- ---- of all rings
 pub rings_count : (test : Ends → Bool) (es : List Ends) (rings : List (List Point)) → AreRings es rings

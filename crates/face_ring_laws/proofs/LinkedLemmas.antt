@@ -5,9 +5,10 @@ use Rattle.lay_point.specs.declared.point.Point.{Point}
 use Rattle.lay_point.specs.Edges.{IsEdgeBefore, same_edge, touches}
 use Rattle.lay_point.specs.Points.{point_eq}
 use Rattle.lay_point.specs.Rising.{IsRising}
-use Rattle.lay_point.proofs.EdgeOrder.{edges_are_strict, edges_decide, points_decide, same_by_test}
+use Rattle.lay_point.proofs.EdgeOrder.{edges_are_strict, edges_decide, points_decide}
 use Rattle.lay_point.proofs.Members.{Has, has, contains}
 use Rattle.lay_point.proofs.Rising.{before_rest}
+use Rattle.lay_point.proofs.RingLemmas.{point_eq-true}
 use Rattle.face_ring_laws.specs.Linked.{AreLinked, IsLeastLeft, IsWayBack, back, done, on, ring}
 use Rattle.face_ring_laws.specs.Linking.{Ends, other_end}
 use Rattle.face_ring_laws.proofs.TakenLemmas.{IsTaken, here, has_other, other_has, taken_apart}
@@ -71,7 +72,7 @@ has_or_not (x ∷ xs) e = by_test (same_edge x e) refl (has_or_not xs e)
     by_test : (b : Bool) → same_edge x e ≡ b → Has xs e ⊎ (¬ (Has xs e)) → Has (x ∷ xs) e ⊎ (¬ (Has (x ∷ xs) e))
     by_test true h further =
         let both = and_parts (point_eq x.0 e.0) (point_eq x.1 e.1) h in
-        inl (inl (λ i. (same_by_test x.0 e.0 both.0 i, same_by_test x.1 e.1 both.1 i)))
+        inl (inl (λ i. (point_eq-true x.0 e.0 both.0 i, point_eq-true x.1 e.1 both.1 i)))
     by_test false h (inl m) = inl (inr m)
     by_test false h (inr n) = inr (λ m. ⊎_elim (λ (same : x ≡ e).
         let t : same_edge x e ≡ true = subst (λ z. same_edge x z ≡ true) same (edges_decide.itself x) in absurd cc) n m)

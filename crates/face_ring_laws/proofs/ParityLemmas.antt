@@ -5,6 +5,7 @@ use Rattle.std.proofs.Common.{arith}
 use Rattle.std.proofs.lemmas.Int.{ints}
 use Rattle.lay_point.specs.declared.point.Point.{Point}
 use Rattle.lay_point.specs.Parity.{xor, is_crossed, is_crossed_rising, distance_right}
+use Rattle.lay_point.proofs.BoolLaws.{or_comm}
 
 -- what counts twice doesn't count
 pub xor_twice : (a b c : Bool) → xor a (xor b (xor a c)) ≡ xor b c
@@ -18,12 +19,6 @@ xor_twice true true true = refl
 pub record IsEdgeTest (test : Point × Point → Bool) : Type 0 where
   pub turned : (p q : Point) → test (p, q) ≡ test (q, p)
   pub without_length : (p : Point) → test (p, p) ≡ false
-
-or_comm : (a b : Bool) → (a || b) ≡ (b || a)
-or_comm false false = refl
-or_comm false true = refl
-or_comm true false = refl
-or_comm true true = refl
 
 not_past : (a y : ℤ) → (int_le a y && int_lt y a) ≡ false
 not_past a y = grind (arith, ints)

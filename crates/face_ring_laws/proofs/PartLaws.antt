@@ -3,16 +3,17 @@
 use Rattle.std.proofs.Common.{◌≡◌, ◌≢◌, ◌⊎◌, inl, inr, ℕ, zero, suc, ◌<◌, ◌==◌, Bool, true, false, ◌||◌, List, [], ◌∷◌, length, map, get_or}
 use Rattle.std.proofs.Common.{ℤ, pos, ◌≤ℤ◌, refl, sym, ap, ap₂, ◌∙◌, ⊎_elim, arith}
 use Rattle.std.specs.List.{list_any}
-use Rattle.std.proofs.lemmas.Bool.{false≢true}
-use Rattle.std.proofs.lemmas.Bool.Decides.{Decides-eqb}
+use Rattle.std.proofs.lemmas.Bool.{false_from_ne_true}
 use Rattle.std.proofs.lemmas.List.{get_or-map, get_or_default, length-map}
 use Rattle.lay_point.specs.declared.point.Point.{Point}
 use Rattle.lay_point.specs.Parity.{xor, parity, is_crossed, odd}
 use Rattle.lay_point.specs.Rects.{touch}
 use Rattle.lay_point.specs.RingEdges.{edges_of, edges_of_ring}
 use Rattle.lay_point.proofs.Parity.{parity-append}
+use Rattle.lay_point.proofs.BoolLaws.{or-false}
 use Rattle.face_ring_laws.specs.Parts.{AreJoined, AreParts, ArePartsBy, bounding_box, is_in_box, with_label}
 use Rattle.face_ring_laws.proofs.BoxLaws.{even_outside, touch_by_place}
+use Rattle.face_ring_laws.proofs.PartLemmas.{eq_cases}
 
 -- ---- of all rings together
 pub parity_by_rings : (test : Point × Point → Bool) (rings : List (List Point))
@@ -22,10 +23,6 @@ parity_by_rings test (r ∷ rs) =
     parity-append test (edges_of_ring r) (edges_of rs) ∙ ap (xor (parity test (edges_of_ring r))) (parity_by_rings test rs)
 
 -- ---- of those with one label
-eq_cases : (l p : ℕ) (b : Bool) → (l == p) ≡ b → ((l ≡ p) × (b ≡ true)) ⊎ ((l ≢ p) × (b ≡ false))
-eq_cases l p true h = inl ((Decides-eqb l p).0 h, refl)
-eq_cases l p false h = inr ((λ same. false≢true (sym h ∙ (Decides-eqb l p).1 same)), refl)
-
 module _ {A : Type 0} (odd_one : A → Bool) (p : ℕ) where
   pub labelled_all : (labels : List ℕ) (xs : List A) → length labels ≡ length xs
       → ((i : ℕ) (d : A) → i < length xs → get_or labels i 0 ≢ p → odd_one (get_or xs i d) ≡ false)
@@ -60,15 +57,11 @@ any_none : {A : Type 0} (f : A → Bool) (xs : List A) → ((i : ℕ) (d : A) �
 any_none f [] h = refl
 any_none f (x ∷ xs) h = ap₂ (λ a b. a || b) (h zero x (omega arith)) (any_none f xs (λ i d lt. h (suc i) d (omega arith)))
 
-or_false : (b : Bool) → (b || false) ≡ b
-or_false true = refl
-or_false false = refl
-
 any_one : {A : Type 0} (f : A → Bool) (xs : List A) (k : ℕ) (e : A) → k < length xs
     → ((i : ℕ) (d : A) → i < length xs → i ≢ k → f (get_or xs i d) ≡ false) → list_any f xs ≡ f (get_or xs k e)
 any_one f [] k e less h = absurd (omega arith)
 any_one f (x ∷ xs) zero e less h =
-    ap (λ b. f x || b) (any_none f xs (λ i d lt. h (suc i) d (omega arith) (omega arith))) ∙ or_false (f x)
+    ap (λ b. f x || b) (any_none f xs (λ i d lt. h (suc i) d (omega arith) (omega arith))) ∙ or-false (f x)
 any_one f (x ∷ xs) (suc k) e less h =
     ap (λ b. b || list_any f xs) (h zero x (omega arith) (omega arith))
     ∙ any_one f xs k e (omega arith) (λ i d lt apart. h (suc i) d (omega arith) (λ same. apart (omega arith)))
@@ -110,10 +103,6 @@ joined_by_place k x y rings i j scale li lj hi hj =
           (bounding_box (get_or rings j [])) scale (hi []) (hj [])),
     )
 
-not_true : (b : Bool) → (b ≡ true → ⊥) → b ≡ false
-not_true true h = absurd (h refl)
-not_true false h = refl
-
 some_part_is_odd : (k x y : ℤ) (labels : List ℕ) (rings : List (List Point)) (parts : List (List (List Point))) → pos 1 ≤ℤ k
     → ArePartsBy labels rings parts
     → list_any (λ part. parity (is_crossed k x y) (edges_of part)) parts ≡ parity (is_crossed k x y) (edges_of rings)
@@ -134,7 +123,7 @@ some_part_is_odd k x y labels rings parts scale h = ⊎_elim found none (some_bo
     found (i, li, hi) =
         let p = get_or labels i 0 in
         let apart = λ (j : ℕ) (d : List Point) (lj : j < length rings) (other : get_or labels j 0 ≢ p).
-        even_outside k x y (get_or rings j d) scale (not_true (is_in_box k x y (bounding_box (get_or rings j d))) (λ hj.
+        even_outside k x y (get_or rings j d) scale (false_from_ne_true (is_in_box k x y (bounding_box (get_or rings j d))) (λ hj.
         other (sym (h.joined i j (joined_by_place k x y rings i j scale li lj hi
         (λ e. ap (λ r. is_in_box k x y (bounding_box r)) (get_or_default rings j e d lj) ∙ hj)))))) in
         any_one (λ part. parity test (edges_of part)) parts p [] (h.within i li)

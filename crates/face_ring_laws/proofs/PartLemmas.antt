@@ -12,7 +12,7 @@ use Rattle.lay_point.specs.Rects.{touch}
 use Rattle.face_ring_laws.specs.Parts.{AreJoined, ArePartsBy, bounding_box, with_label}
 use Rattle.face_ring_laws.specs.Heads.{AreDivided, AreFirst, IsFinest, IsNumbered}
 
-eq_cases : (l p : ℕ) (b : Bool) → (l == p) ≡ b → ((l ≡ p) × (b ≡ true)) ⊎ ((l ≢ p) × (b ≡ false))
+pub eq_cases : (l p : ℕ) (b : Bool) → (l == p) ≡ b → ((l ≡ p) × (b ≡ true)) ⊎ ((l ≢ p) × (b ≡ false))
 eq_cases l p true h = inl ((Decides-eqb l p).0 h, refl)
 eq_cases l p false h = inr ((λ same. false≢true (sym h ∙ (Decides-eqb l p).1 same)), refl)
 

@@ -8,9 +8,10 @@ use Rattle.lay_point.specs.Edges.{IsEdgeBefore, touches, undirected}
 use Rattle.lay_point.specs.Points.{is_in_range, point_eq}
 use Rattle.lay_point.specs.Rings.{IsRing, NeighboursDiffer, closed}
 use Rattle.lay_point.specs.Rising.{IsRising}
-use Rattle.lay_point.proofs.EdgeOrder.{edges_are_strict, same_by_test, undirected_back}
+use Rattle.lay_point.proofs.EdgeOrder.{edges_are_strict, undirected_back}
 use Rattle.lay_point.proofs.Members.{Has}
 use Rattle.lay_point.proofs.Rising.{before_rest, rising_rest}
+use Rattle.lay_point.proofs.RingLemmas.{point_eq-true}
 use Rattle.face_ring_laws.specs.Linking.{Ends, other_end}
 use Rattle.face_ring_laws.proofs.CountLemmas.{AreUndirected, proper_from_undirected, walked, way_front}
 use Rattle.face_ring_laws.proofs.TakenLemmas.{other_has, taken_has, taken_rising, taken_touches}
@@ -26,8 +27,8 @@ other_differs : (at : Point) (e : Ends) → ¬ (e.0 ≡ e.1) → touches at e �
 other_differs at e differ h = by_end (point_eq e.0 at) refl h
   where
     by_end : (p : Bool) → point_eq e.0 at ≡ p → (p || point_eq e.1 at) ≡ true → at ≢ cond p e.1 e.0
-    by_end true f t same = differ (same_by_test e.0 at f ∙ same)
-    by_end false f t same = differ (sym (same_by_test e.1 at t ∙ same))
+    by_end true f t same = differ (point_eq-true e.0 at f ∙ same)
+    by_end false f t same = differ (sym (point_eq-true e.1 at t ∙ same))
 
 -- ---- a way
 way_in_range : (start at : Point) (es : List Ends) (points : List Point) (rest : List Ends) → IsWay start at es points rest

@@ -5,9 +5,10 @@ use Rattle.lay_point.specs.declared.point.Point.{Point}
 use Rattle.lay_point.specs.Edges.{touches}
 use Rattle.lay_point.specs.Parity.{xor, parity}
 use Rattle.lay_point.specs.Points.{point_eq}
-use Rattle.lay_point.proofs.EdgeOrder.{same_by_test, points_decide}
+use Rattle.lay_point.proofs.EdgeOrder.{points_decide}
 use Rattle.lay_point.proofs.Members.{Has}
 use Rattle.lay_point.proofs.Parity.{xor-false, xor_comm, xor_self, xor_cancel}
+use Rattle.lay_point.proofs.RingLemmas.{point_eq-false, point_eq-true}
 use Rattle.face_ring_laws.specs.Linking.{Ends, other_end, ring_along, rings_up_to, take_at, way}
 use Rattle.face_ring_laws.proofs.TakenLemmas.{
   IsTaken,
@@ -43,17 +44,17 @@ other_touches at x e differ h = by_end (point_eq e.0 at) (point_eq e.1 at) refl 
     ends_at : (a b : Point) → ¬ (a ≡ b) → (p q : Bool) → point_eq a x ≡ p → point_eq b x ≡ q → (p || q) ≡ xor p q
     ends_at a b apart false q f g = refl
     ends_at a b apart true false f g = refl
-    ends_at a b apart true true f g = absurd (apart (same_by_test a x f ∙ sym (same_by_test b x g)))
+    ends_at a b apart true true f g = absurd (apart (point_eq-true a x f ∙ sym (point_eq-true b x g)))
 
     by_end : (p q : Bool) → point_eq e.0 at ≡ p → point_eq e.1 at ≡ q → (p || q) ≡ true
         → touches x e ≡ xor (point_eq at x) (point_eq (cond p e.1 e.0) x)
     by_end true q f g t =
         ends_at e.0 e.1 differ (point_eq e.0 x) (point_eq e.1 x) refl refl
-        ∙ ap (λ v. xor (point_eq v x) (point_eq e.1 x)) (same_by_test e.0 at f)
+        ∙ ap (λ v. xor (point_eq v x) (point_eq e.1 x)) (point_eq-true e.0 at f)
     by_end false true f g t =
         ends_at e.0 e.1 differ (point_eq e.0 x) (point_eq e.1 x) refl refl
         ∙ xor_comm (point_eq e.0 x) (point_eq e.1 x)
-        ∙ ap (λ v. xor (point_eq v x) (point_eq e.0 x)) (same_by_test e.1 at g)
+        ∙ ap (λ v. xor (point_eq v x) (point_eq e.0 x)) (point_eq-true e.1 at g)
     by_end false false f g t = absurd cc
 
 xor_twice_front : (a b c : Bool) → a ≡ xor b c → c ≡ xor b a
@@ -64,10 +65,6 @@ xor_twice_front a true true e = rw e refl
 -- how the edges left stand at the points while a way from the start is at a point
 abbrev pub StandAt : Point → Point → List Ends → Type 0
 StandAt start at es = (x : Point) → parity (touches x) es ≡ xor (point_eq start x) (point_eq at x)
-
-not_there : (at start : Point) → point_eq at start ≡ false → at ≢ start
-not_there at start e same =
-    let t : point_eq at start ≡ true = subst (λ v. point_eq at v ≡ true) same (points_decide.itself at) in absurd cc
 
 further_stands : (start at : Point) (es : List Ends) (e : Ends) (es' : List Ends) → IsTaken at es e es' → ¬ (e.0 ≡ e.1)
     → StandAt start at es → StandAt start (other_end at e) es'
@@ -93,13 +90,13 @@ way_further : (n : ℕ) (start at : Point) (es : List Ends) → ComesBack n star
     → IsWay start at es (ring_along (way n start) at es o).0 (ring_along (way n start) at es o).1
 way_further n start at es further less proper stands e None h =
     let even : parity (touches at) es ≡ false = none_taken at es h in
-    let not_start : point_eq start at ≡ false = points_decide.apart start at (λ same. not_there at start e (sym same)) in
+    let not_start : point_eq start at ≡ false = points_decide.apart start at (λ same. point_eq-false at start e (sym same)) in
     let odd : parity (touches at) es ≡ true = stands at ∙ ap₂ xor not_start (points_decide.itself at) in
     absurd cc
 way_further n start at es further less proper stands e (Some t) h =
     let taken = is_taken at es t h in
     let count = taken_length at es t.0 t.1 taken in
-    onward at t.0 es t.1 (way n start (other_end at t.0) t.1).1 (way n start (other_end at t.0) t.1).0 (not_there at start e) taken
+    onward at t.0 es t.1 (way n start (other_end at t.0) t.1).1 (way n start (other_end at t.0) t.1).0 (point_eq-false at start e) taken
     (further (other_end at t.0) t.1 (omega arith) (λ f m. proper f (other_has at es t.0 t.1 taken f m))
     (further_stands start at es t.0 t.1 taken (proper t.0 (taken_has at es t.0 t.1 taken)) stands))
 
@@ -109,7 +106,7 @@ is_way (suc n) start at es less proper stands =
     elim (point_eq at start) as (λ b. point_eq at start ≡ b
     → IsWay start at es (cond b ([], es) (ring_along (way n start) at es (take_at at es))).0
     (cond b ([], es) (ring_along (way n start) at es (take_at at es))).1) [
-      | true ↦ λ e. subst (λ v. IsWay start v es [] es) (sym (same_by_test at start e)) (at_start es)
+      | true ↦ λ e. subst (λ v. IsWay start v es [] es) (sym (point_eq-true at start e)) (at_start es)
       | false ↦ λ e. way_further n start at es (is_way n start) less proper stands e (take_at at es) refl
     ] refl
 

@@ -2,11 +2,10 @@
 use Rattle.std.proofs.Common.{◌≡◌, ℕ, ◌<◌, ◌≤◌, false, List, [], ◌∷◌, length, map, get_or, ℤ, ◌≤ℤ◌, ◌<ℤ◌}
 use Rattle.std.proofs.Common.{IfOk, Result, Ok, Err, pos, refl, sym, ap, subst, ◌∙◌, arith}
 use Rattle.std.specs.declared.cmp.Ordering.{Ordering}
-use Rattle.std.specs.declared.cmp.Ordering.TheVariants.{Less, Equal, Greater}
 use Rattle.std.specs.Cmp.{IsTotalOrder}
 use Rattle.std.specs.List.Sorted.{IsPermutation, IsSorted}
 use Rattle.std.specs.Prelude.{All, Contains}
-use Rattle.std.specs.Ordering.{int_cmp, is_lt, ordering_then}
+use Rattle.std.specs.Ordering.{int_cmp, is_lt}
 use Rattle.std.proofs.lemmas.Bool.{false≢true}
 use Rattle.std.proofs.lemmas.Cmp.{by_ranked, int_cmp_total, int_ranked, nat_cmp_total, on_total, then_total}
 use Rattle.std.proofs.lemmas.Int.{clamps, ints}
@@ -19,15 +18,11 @@ use Rattle.face_ring_laws.specs.Parts.{bounding_box, grown_by}
 use Rattle.face_rings.specs.declared.bottoms.Bottom.{Bottom}
 use Rattle.face_rings.specs.Bottoms.{AreBottomsOf, IsBottomOf, bottom_cmp}
 use Rattle.face_rings.specs.Joining.{AreByBottom, HasHeight, numbered_box}
+use Rattle.face_rings.proofs.IncidenceLemmas.{first_not_less}
 
 -- ---- the order
 bottom_cmp_total : IsTotalOrder bottom_cmp
 bottom_cmp_total = then_total (on_total (λ (b : Bottom). b.y) int_cmp_total) (on_total (λ (b : Bottom). b.number) nat_cmp_total)
-
-first_not_less : (o p : Ordering) → is_lt (ordering_then o p) ≡ false → is_lt o ≡ false
-first_not_less Less p h = h
-first_not_less Equal p h = refl
-first_not_less Greater p h = refl
 
 le_by_cmp : (x y : ℤ) (o : Ordering) → o ≡ int_cmp x y → is_lt o ≡ false → y ≤ℤ x
 le_by_cmp x y o e h = by_ranked (x <ℤ y) (x ≡ y) (y <ℤ x) o (int_ranked x y o e)

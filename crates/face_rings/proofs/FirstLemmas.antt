@@ -10,7 +10,7 @@ use Rattle.std.proofs.Math.ListN.{length-set}
 use Rattle.lay_point.specs.declared.point.Point.{Point}
 use Rattle.lay_point.specs.Edges.{touches}
 use Rattle.lay_point.specs.Points.{point_eq}
-use Rattle.lay_point.proofs.EdgeOrder.{points_decide, same_by_test}
+use Rattle.lay_point.proofs.EdgeOrder.{points_decide}
 use Rattle.face_ring_laws.proofs.PartLemmas.{get_or-set}
 use Rattle.face_ring_laws.specs.Linking.{Ends}
 use Rattle.face_rings.specs.declared.incidence.End.{End}
@@ -18,6 +18,7 @@ use Rattle.face_rings.specs.declared.incidence.Firsts.{Firsts}
 use Rattle.face_rings.specs.Incidence.{AreEndsOf, AreFirstsOf, IsFirstAt, end_cmp, next_first, no_end, point_cmp}
 use Rattle.face_rings.proofs.IncidenceLemmas.{before_point_first, first_not_less, neither_less, no_later_below}
 use Rattle.std.proofs.lemmas.Bool.{or_left, or_right}
+use Rattle.lay_point.proofs.RingLemmas.{point_eq-true}
 
 abbrev pub point_at : List End → ℕ → Point
 point_at ends i = (get_or ends i no_end).at
@@ -61,7 +62,7 @@ module _ (ends : List End) (sorted : IsSorted end_cmp ends) where
     where
       by_test : (b : Bool) → point_eq (point_at ends i) (point_at ends (suc i)) ≡ b
           → IsFirstAt ends (point_at ends (suc i)) (cond b first (suc i))
-      by_test true e = subst (λ z. IsFirstAt ends z first) (same_by_test (point_at ends i) (point_at ends (suc i)) e) (before i refl)
+      by_test true e = subst (λ z. IsFirstAt ends z first) (point_eq-true (point_at ends i) (point_at ends (suc i)) e) (before i refl)
       by_test false e = begins i lt e
 
 -- ---- the first ends of an edge
@@ -99,7 +100,7 @@ module _ (edges : List Ends) (ends : List End) (firsts : List Firsts) (first i :
   by_test : (p at : Point) (b : Bool) (was is : ℕ) → point_eq p end.at ≡ b → is ≡ cond b next was → p ≡ at
       → (at ≡ end.at ⊎ IsFirstAt ends at was) → IsFirstAt ends at is
   by_test p at true was is test is_new same known =
-      coe 1 0 (k. IsFirstAt ends ((sym same ∙ same_by_test p end.at test) k) (is_new k)) found
+      coe 1 0 (k. IsFirstAt ends ((sym same ∙ point_eq-true p end.at test) k) (is_new k)) found
   by_test p at false was is test is_new same (inl here) =
       absurd (false≢true (sym test ∙ ap (λ z. point_eq z end.at) (same ∙ here) ∙ points_decide.itself end.at))
   by_test p at false was is test is_new same (inr known) = subst (IsFirstAt ends at) (sym is_new) known

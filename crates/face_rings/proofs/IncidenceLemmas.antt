@@ -17,8 +17,9 @@ use Rattle.lay_point.specs.declared.point.Point.{Point}
 use Rattle.lay_point.specs.contracts.point.PointOrd.TheImpl.Laws.{matches_eq-law as point_ties}
 use Rattle.lay_point.specs.Edges.{touches}
 use Rattle.lay_point.specs.Points.{point_eq}
-use Rattle.lay_point.proofs.EdgeOrder.{points_decide, same_by_test}
+use Rattle.lay_point.proofs.EdgeOrder.{points_decide}
 use Rattle.lay_point.proofs.Members.{Has, has, contains}
+use Rattle.lay_point.proofs.RingLemmas.{point_eq-true}
 use Rattle.face_rings.specs.declared.incidence.End.{End}
 use Rattle.face_rings.specs.declared.incidence.Incidence.{Incidence}
 use Rattle.face_rings.specs.Incidence.{AreEndsOf, IsFirstAt, IsIncidence, IsUsedAt, KeepsMarks, end_cmp, point_cmp, left_of}
@@ -30,7 +31,7 @@ pub not_other : (p q : Point) → false ≡ not (point_eq p q) → p ≡ q
 not_other p q h = by_test (point_eq p q) refl h
   where
     by_test : (b : Bool) → point_eq p q ≡ b → false ≡ not b → p ≡ q
-    by_test true e g = same_by_test p q e
+    by_test true e g = point_eq-true p q e
     by_test false e g = absurd cc
 
 pub other : (p q : Point) → true ≡ not (point_eq p q) → p ≢ q
@@ -110,8 +111,8 @@ has_end n [] at i d less h = absurd (omega arith)
 has_end n (e ∷ es) at zero d less h =
     let number : n ≡ n + 0 = omega arith in
     ⊎_elim
-    (λ (low : point_eq e.0 at ≡ true). inl (λ k. record { at = same_by_test e.0 at low k; edge = number k }))
-    (λ (high : point_eq e.1 at ≡ true). inr (inl (λ k. record { at = same_by_test e.1 at high k; edge = number k })))
+    (λ (low : point_eq e.0 at ≡ true). inl (λ k. record { at = point_eq-true e.0 at low k; edge = number k }))
+    (λ (high : point_eq e.1 at ≡ true). inr (inl (λ k. record { at = point_eq-true e.1 at high k; edge = number k })))
     (or_cases (point_eq e.0 at) (point_eq e.1 at) h)
 has_end n (e ∷ es) at (suc i) d less h =
     let number : suc n + i ≡ n + suc i = omega arith in
@@ -173,7 +174,7 @@ reversed_not_less Greater h g = absurd cc
 pub neither_less : (p q : Point) → is_lt (point_cmp p q) ≡ false → is_lt (point_cmp q p) ≡ false → p ≡ q
 neither_less p q h g =
     let equal = reversed_not_less (point_cmp p q) h (sym (ap is_lt (point_cmp_total.antisymm q p)) ∙ g) in
-    same_by_test p q (point_ties p q ∙ ap is_eq equal)
+    point_eq-true p q (point_ties p q ∙ ap is_eq equal)
 
 le_by_cmp : (m n : ℕ) (o : Ordering) → o ≡ nat_cmp m n → is_lt o ≡ false → n ≤ m
 le_by_cmp m n o e h = by_ranked (m < n) (m ≡ n) (n < m) o (ranked m n o e)

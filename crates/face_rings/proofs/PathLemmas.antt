@@ -11,20 +11,16 @@ use Rattle.lay_point.specs.declared.ring.TheConstants.{MAX_RING_POINTS}
 use Rattle.lay_point.specs.Bridges.{bridged, further}
 use Rattle.lay_point.specs.Points.{point_eq}
 use Rattle.lay_point.specs.Rings.{IsRing, NeighboursDiffer, closed, kept_behind, opened_behind, without_repeats}
-use Rattle.lay_point.proofs.BridgeLemmas.{bridged_one}
-use Rattle.lay_point.proofs.EdgeOrder.{points_decide, same_by_test}
+use Rattle.lay_point.proofs.BridgeLemmas.{bridged_one, kept_apart}
+use Rattle.lay_point.proofs.EdgeOrder.{points_decide}
+use Rattle.lay_point.proofs.RingLemmas.{point_eq-true}
 use Rattle.face_rings.specs.Paths.{added_len}
 
 -- ---- points that are kept
-kept_over : (p q : Point) (ps rest : List Point) → NeighboursDiffer (p ∷ ps ++ q ∷ [])
-    → kept_behind p (ps ++ q ∷ rest) ≡ ps ++ q ∷ kept_behind q rest
-kept_over p q [] rest d = rw (points_decide.apart p q d.0) refl
-kept_over p q (r ∷ rs) rest d = rw (points_decide.apart p r d.0) (ap (λ xs. r ∷ xs) (kept_over r q rs rest d.1))
-
 -- behind a closed ring
 kept_closed : (p : Point) (ps rest : List Point) → NeighboursDiffer (p ∷ ps ++ p ∷ [])
     → kept_behind p ((ps ++ p ∷ []) ++ rest) ≡ ps ++ p ∷ kept_behind p rest
-kept_closed p ps rest d = ap (kept_behind p) (append_assoc ps (p ∷ []) rest) ∙ kept_over p p ps rest d
+kept_closed p ps rest d = ap (kept_behind p) (append_assoc ps (p ∷ []) rest) ∙ kept_apart p p ps rest d
 
 -- ---- the end of the path
 opened_over : (first : Point) (xs : List Point) (y : Point) (ys : List Point)
@@ -49,7 +45,7 @@ left_len start ps = length (opened_behind start (kept_behind start ps))
 last_same : (p : Point) (ps : List Point) → NeighboursDiffer (p ∷ ps ++ p ∷ []) → left_len p (p ∷ ps ++ p ∷ []) ≡ length ps
 last_same p ps d =
     let itself = points_decide.itself p in
-    let kept : kept_behind p (p ∷ ps ++ p ∷ []) ≡ ps ++ p ∷ [] = rw itself (kept_over p p ps [] d) in
+    let kept : kept_behind p (p ∷ ps ++ p ∷ []) ≡ ps ++ p ∷ [] = rw itself (kept_apart p p ps [] d) in
     let over : length (opened_behind p (ps ++ p ∷ [])) ≡ length ps + length (opened_behind p (p ∷ [])) = opened_over p ps p [] in
     let none : length (opened_behind p (p ∷ [])) ≡ 0 = rw itself refl in
     ap (λ xs. length (opened_behind p xs)) kept ∙ omega (arith, over, none)
@@ -57,7 +53,7 @@ last_same p ps d =
 last_other : (s p : Point) (ps : List Point) → point_eq s p ≡ false → NeighboursDiffer (p ∷ ps ++ p ∷ [])
     → left_len s (p ∷ ps ++ p ∷ []) ≡ length ps + 2
 last_other s p ps apart d =
-    let kept : kept_behind s (p ∷ ps ++ p ∷ []) ≡ (p ∷ ps) ++ p ∷ [] = rw apart (ap (λ xs. p ∷ xs) (kept_over p p ps [] d)) in
+    let kept : kept_behind s (p ∷ ps ++ p ∷ []) ≡ (p ∷ ps) ++ p ∷ [] = rw apart (ap (λ xs. p ∷ xs) (kept_apart p p ps [] d)) in
     let over : length (opened_behind s ((p ∷ ps) ++ p ∷ [])) ≡ length (p ∷ ps) + length (opened_behind s (p ∷ [])) =
     opened_over s (p ∷ ps) p [] in
     let one : length (opened_behind s (p ∷ [])) ≡ 1 = rw apart refl in
@@ -114,7 +110,7 @@ further_more s p ps r rs h later = by_test (point_eq p s) refl
     by_test : (b : Bool) → point_eq p s ≡ b
         → left_len s (further s ((p ∷ ps) ∷ r ∷ rs)) + 1 ≡ sum_by (added_len s) ((p ∷ ps) ∷ r ∷ rs)
     by_test true e =
-        let same = same_by_test p s e in
+        let same = point_eq-true p s e in
         let next = subst (λ z. left_len z (closed (p ∷ ps) ++ z ∷ further z (r ∷ rs)) ≡ suc (length ps) + left_len z (further z (r ∷ rs)))
         same (next_same p ps (further p (r ∷ rs)) h.0.apart (subst (λ z. 1 ≤ left_len z (further z (r ∷ rs))) (sym same) some)) in
         let sum = sum_by-cons (added_len s) (p ∷ ps) (r ∷ rs) in
@@ -131,7 +127,7 @@ further_len s [] rs h = absurd (omega (arith, h.0.enough))
 further_len s (p ∷ ps) [] h = by_test (point_eq p s) refl
   where
     by_test : (b : Bool) → point_eq p s ≡ b → left_len s (p ∷ ps ++ p ∷ []) + 1 ≡ sum_by (added_len s) ((p ∷ ps) ∷ [])
-    by_test true e = subst (λ z. left_len z (p ∷ ps ++ p ∷ []) + 1 ≡ sum_by (added_len z) ((p ∷ ps) ∷ [])) (same_by_test p s e)
+    by_test true e = subst (λ z. left_len z (p ∷ ps ++ p ∷ []) + 1 ≡ sum_by (added_len z) ((p ∷ ps) ∷ [])) (point_eq-true p s e)
         (let last = last_same p ps h.0.apart in
         let sum = sum_by-cons (added_len p) (p ∷ ps) [] in
         let added = added_same p ps in omega (arith, last, sum, added))
