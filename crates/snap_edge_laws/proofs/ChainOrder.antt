@@ -2,7 +2,6 @@
 use Rattle.std.proofs.Common.{◌≡◌, ◌⊎◌, inl, inr, ℤ, ◌≤ℤ◌, ◌<ℤ◌, ◌∙◌, arith, ⊎_elim}
 use Rattle.lay_point.specs.declared.point.Point.{Point}
 use Rattle.snap_pixels.specs.declared.segment.Segment.{Segment}
-use Rattle.lay_point.specs.Points.{IsBefore}
 use Rattle.snap_edge_laws.specs.Edges.{key, IsBelow}
 use Rattle.lay_point.proofs.Signs.{linear, below_or_same}
 use Rattle.snap_edge_laws.proofs.Order.{IsSpot, key_le, key_same}

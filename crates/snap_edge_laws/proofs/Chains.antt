@@ -83,7 +83,7 @@ meets_at s c k t h = (k, t, record { scale = h.scale; low = h.low; high = h.high
 one : pos 1 ≤ℤ pos 1
 one = omega (arith, linear)
 
-own_pixel : (c : Point) → HoldsPlace c (pos 1) c.x c.y
+pub own_pixel : (c : Point) → HoldsPlace c (pos 1) c.x c.y
 own_pixel c =
     let times_one = λ (a : ℤ). identity (a ∷ []) (# 0 ⊗ lit (pos 1)) (# 0) refl in
     record {

@@ -23,7 +23,7 @@ use Rattle.snap_edge_laws.proofs.Walks.{AreClosed, even_edges, touches-xor}
 use Rattle.snap_edge_laws.proofs.Rounded.{rounded_paths_have_edges, rounded_ring_is_closed}
 use Rattle.snap_edge_laws.proofs.Undirected.{HasEndsOf, gone, edges_of_more}
 use Rattle.lay_point.proofs.EdgeOrder.{edges_are_strict, edges_decide, points_decide}
-use Rattle.lay_point.proofs.EdgeOrder.{same_by_test}
+use Rattle.lay_point.proofs.RingLemmas.{point_eq-true}
 use Rattle.snap_edge_laws.proofs.Undirected.{undirected_ends, undirected_xor, one_undirected}
 
 -- an edge of R, and the neighbours in a segment's chain that it comes from
@@ -95,7 +95,7 @@ owned_edges_are_even segments walks some edges rings h inside v =
     parity_agree (λ e. is_owned some e && touches v e) (λ e. is_owned some e && xor (point_eq e.0 v) (point_eq e.1 v)) edges
     (λ e m. let p = comes_from segments walks edges rings h e (contains edges e m) in
     ap (λ b. is_owned some e && b)
-    (touches-xor point_eq points_decide e.0 e.1 v (different_ends e p.pair p.ends p.differ) (same_by_test e.0 v) (same_by_test e.1 v)))
+    (touches-xor point_eq points_decide e.0 e.1 v (different_ends e p.pair p.ends p.differ) (point_eq-true e.0 v) (point_eq-true e.1 v)))
     ∙ even_edges IsEdgeBefore edges_are_strict same_edge edges_decide undirected (λ e. xor (point_eq e.0 v) (point_eq e.1 v))
     (λ p. point_eq p v) (undirected_xor (λ p. point_eq p v)) some
     (all_closed some (λ w m. let ring = rings w (inside w (contains some w m)) in

@@ -10,8 +10,7 @@ use Rattle.snap_pixels.specs.Segments.{AreParallel}
 use Rattle.snap_edge_laws.specs.Edges.{IsEndpoint, IsOn, IsSharedEnd}
 use Rattle.lay_point.proofs.Polynomials.{#, lit, ◌⊕◌, ◌⊖◌, ◌⊗◌, identity}
 use Rattle.lay_point.proofs.Signs.{linear, below_or_same, times_lt, cancel_same, cancel_zero}
-use Rattle.snap_edge_laws.proofs.Order.{same_point}
-use Rattle.lay_point.proofs.EdgeOrder.{before_is_strict, before_total}
+use Rattle.lay_point.proofs.EdgeOrder.{before_is_strict, before_total, same_point}
 use Rattle.snap_edge_laws.specs.Meeting.{MeetAtEnds}
 use Rattle.snap_edge_laws.proofs.Lines.{parallels, one, first_on, last_on, inside}
 

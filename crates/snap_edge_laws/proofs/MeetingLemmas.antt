@@ -8,14 +8,14 @@ use Rattle.snap_edge_laws.specs.Areas.{area, IsConvex}
 use Rattle.snap_edge_laws.specs.Pieces.{IsOnPiece, HasEnd, first, second, third, fourth}
 use Rattle.lay_point.proofs.Polynomials.{#, lit, ◌⊕◌, ◌⊖◌, ◌⊗◌, identity}
 use Rattle.lay_point.proofs.Signs.{linear, positive_product, cancel_zero, cancel_positive, below_or_same}
-use Rattle.snap_edge_laws.proofs.Order.{same_point}
+use Rattle.lay_point.proofs.EdgeOrder.{apart_or_same, same_point}
 use Rattle.snap_edge_laws.proofs.Spans.{turned_span}
 use Rattle.snap_edge_laws.proofs.Areas.{areas_balance, area-turned, area-flipped, area-scaled, area_in_part, scaled, flipped}
 use Rattle.snap_edge_laws.proofs.Ends.{turned_piece, AreWeights, flat_end, flipped_end}
 use Rattle.snap_edge_laws.proofs.Ends.{along_back}
 use Rattle.snap_edge_laws.proofs.Motion.{AreApart, swap_ends, convex_at_rest}
 use Rattle.snap_edge_laws.proofs.Rest.{no_crossing_at_rest}
-use Rattle.snap_edge_laws.proofs.Places.{apart_or_same, not_same}
+use Rattle.snap_edge_laws.proofs.Places.{not_same}
 use Rattle.snap_edge_laws.proofs.SharedEnds.{IsClear}
 
 -- ---- what the point in common says

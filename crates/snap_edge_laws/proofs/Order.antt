@@ -9,6 +9,7 @@ use Rattle.snap_pixels.specs.Segments.{along}
 use Rattle.snap_edge_laws.specs.Edges.{key}
 use Rattle.lay_point.proofs.Polynomials.{#, lit, ◌⊕◌, ◌⊖◌, ◌⊗◌, ⊝, identity}
 use Rattle.lay_point.proofs.Signs.{linear, nonnegative_product}
+use Rattle.lay_point.proofs.EdgeOrder.{same_point}
 use Rattle.snap_edge_laws.proofs.Rounding.{rounded_le}
 
 -- the coordinates c and c' in a direction of this sign: c is no further, and where it is as far they are equal
@@ -56,9 +57,6 @@ pub record IsSpot (s : Segment) (c : Point) (k t : ℤ) : Type 0 where
   pub low : pos 0 ≤ℤ t
   pub high : t ≤ℤ k
   pub holds : HoldsPlace c k (along k t s.a.x s.b.x) (along k t s.a.y s.b.y)
-
-pub same_point : (p q : Point) → p.x ≡ q.x → p.y ≡ q.y → p ≡ q
-same_point p q ex ey = λ i. record { x = ex i; y = ey i }
 
 -- c's place comes first, so its key is no greater
 pub key_le : (s : Segment) (c d : Point) (k t u : ℤ) → IsSpot s c k t → IsSpot s d k u → t ≤ℤ u → key s c ≤ℤ key s d

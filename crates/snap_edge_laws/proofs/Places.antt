@@ -4,8 +4,8 @@ use Rattle.lay_point.specs.declared.point.Point.{Point}
 use Rattle.snap_pixels.specs.Segments.{along, IsFraction}
 use Rattle.snap_edge_laws.specs.Edges.{IsOn}
 use Rattle.lay_point.proofs.Polynomials.{#, ◌⊕◌, ◌⊖◌, ◌⊗◌, identity}
-use Rattle.lay_point.proofs.Signs.{linear, nonnegative_product, positive_product, times_lt, below_or_not, below_or_same}
-use Rattle.snap_edge_laws.proofs.Order.{same_point}
+use Rattle.lay_point.proofs.Signs.{linear, nonnegative_product, positive_product, times_lt}
+use Rattle.lay_point.proofs.EdgeOrder.{apart_or_same, same_point}
 use Rattle.snap_edge_laws.proofs.Areas.{flipped}
 use Rattle.snap_edge_laws.proofs.Ends.{along_back}
 
@@ -78,10 +78,6 @@ flipped_somewhere c d k x y h = record {
   l = h.l;
   is_along = record { part = h.is_along.part; column = h.is_along.row; row = h.is_along.column };
 }
-
-pub apart_or_same : (a b : ℤ) → ((a <ℤ b) ⊎ (b <ℤ a)) ⊎ (a ≡ b)
-apart_or_same a b = ⊎_elim (λ less. inl (inl less))
-    (λ (le : b ≤ℤ a). ⊎_elim (λ less. inl (inr less)) (λ e. inr (sym e)) (below_or_same b a le)) (below_or_not a b)
 
 pub not_same : (a b : ℤ) → (a <ℤ b) ⊎ (b <ℤ a) → a ≡ b → ⊥
 not_same a b (inl less) e = omega (arith, linear)

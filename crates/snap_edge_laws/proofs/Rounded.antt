@@ -15,7 +15,7 @@ abbrev first_of : Point → List Point → Point
 first_of p [] = p
 first_of p (x ∷ xs) = x
 
-abbrev last_of : Point → List Point → Point
+abbrev pub last_of : Point → List Point → Point
 last_of p [] = p
 last_of p (x ∷ xs) = last x xs
 

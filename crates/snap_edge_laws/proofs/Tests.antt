@@ -1,19 +1,13 @@
 -- Tests of points, and what they tell.
-use Rattle.std.proofs.Common.{◌≡◌, inr, Bool, true, false, sym, ◌∙◌, arith, ⊎_elim, Decides}
+use Rattle.std.proofs.Common.{◌≡◌, inr, Bool, false, sym, ◌∙◌, ⊎_elim, Decides}
 use Rattle.std.proofs.lemmas.Bool.{false≢true}
-use Rattle.std.proofs.lemmas.Int.{ints}
 use Rattle.lay_point.specs.declared.point.Point.{Point}
 use Rattle.lay_point.specs.Edges.{is_before}
 use Rattle.lay_point.specs.Points.{point_eq}
 use Rattle.lay_point.specs.Same.{point_eq-Decides}
 use Rattle.lay_point.specs.Points.{IsBefore}
+use Rattle.lay_point.proofs.EdgeOrder.{test_by_before}
 use Rattle.snap_edge_laws.specs.Edges.{IsEndpoint}
-
-pub before_by_test : (p q : Point) → is_before p q ≡ true → IsBefore p q
-before_by_test p q e = grind (arith, ints)
-
-pub test_by_before : (p q : Point) → IsBefore p q → is_before p q ≡ true
-test_by_before p q h = grind (arith, ints)
 
 pub not_before_by_test : (p q : Point) → is_before p q ≡ false → IsBefore p q → ⊥
 not_before_by_test p q e h = false≢true (sym e ∙ test_by_before p q h)

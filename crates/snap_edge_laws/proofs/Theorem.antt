@@ -7,9 +7,9 @@ use Rattle.snap_pixels.specs.Hot.{IsHot}
 use Rattle.snap_edge_laws.specs.Edges.{IsEndpoint, IsEdgeOf, IsOn, AreOneEdge, IsSharedEnd, MeetOnlyAtEnds}
 use Rattle.lay_point.proofs.Signs.{linear, cancel_same}
 use Rattle.lay_point.proofs.Products.{*ℤ_comm}
-use Rattle.snap_edge_laws.proofs.Order.{same_point}
+use Rattle.lay_point.proofs.EdgeOrder.{apart_or_same, same_point}
 use Rattle.snap_edge_laws.proofs.Spans.{spans_of}
-use Rattle.snap_edge_laws.proofs.Places.{IsAlong, turned_along, somewhere, along_at_multiple, apart_or_same, not_same}
+use Rattle.snap_edge_laws.proofs.Places.{IsAlong, turned_along, somewhere, along_at_multiple, not_same}
 use Rattle.snap_edge_laws.proofs.SharedEnds.{IsClear, IsPlaceOf, clear_edge, turned_clear, ends_differ, meet_at_shared_end}
 use Rattle.snap_edge_laws.proofs.MeetingLemmas.{AreMeeting, no_meeting_apart}
 

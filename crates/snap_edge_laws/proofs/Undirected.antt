@@ -1,20 +1,13 @@
 -- Undirected edges: each comes from a pair of neighbours, with the same ends.
-use Rattle.std.proofs.Common.{◌≡◌, ◌⊎◌, inl, inr, Bool, true, false, cond, ◌&&◌, List, [], ◌∷◌, map, refl, sym, ap, ap₂, subst, ◌∙◌}
-use Rattle.std.proofs.Common.{arith, ⊎_elim, int_eq}
-use Rattle.std.proofs.lemmas.Int.{ints}
-use Rattle.std.proofs.lemmas.Bool.Decides.{Decides-int_eq}
+use Rattle.std.proofs.Common.{◌≡◌, ◌⊎◌, inl, inr, Bool, true, false, cond, List, [], ◌∷◌, map, refl, sym, ap, subst, ◌∙◌}
+use Rattle.std.proofs.Common.{⊎_elim}
 use Rattle.lay_point.specs.declared.point.Point.{Point}
-use Rattle.lay_point.specs.Points.{point_eq}
-use Rattle.lay_point.specs.Points.{IsBefore}
 use Rattle.snap_edge_laws.specs.Edges.{AreOneEdge}
-use Rattle.snap_edge_laws.proofs.Order.{same_point}
 use Rattle.lay_point.specs.Rising.{pairs}
 use Rattle.lay_point.specs.Parity.{xor}
-use Rattle.lay_point.specs.Edges.{IsEdgeBefore, same_edge}
 use Rattle.snap_edge_laws.specs.Undirected.{walked_edges}
 use Rattle.lay_point.specs.Edges.{is_before, undirected}
 use Rattle.lay_point.proofs.Members.{Has, has-append, has-append_left, has-append_right}
-use Rattle.lay_point.proofs.Rising.{IsStrictOrder}
 use Rattle.lay_point.proofs.EdgeOrder.{before_is_strict, before_total}
 use Rattle.lay_point.proofs.Parity.{xor_comm}
 use Rattle.lay_point.proofs.EdgeOrder.{before_by_test, test_by_before}

@@ -2,7 +2,8 @@ use Rattle.std.proofs.Common.{◌≡◌, true, false, rules, refl, sym, ◌∙�
 use Rattle.std.proofs.lemmas.Bool.{false≢true}
 use Rattle.snap_pixels.specs.Segments.{AreParallel}
 use Rattle.lay_point.specs.Edges.{is_before}
-use Rattle.snap_edge_laws.proofs.Tests.{before_by_test, not_before_by_test}
+use Rattle.lay_point.proofs.EdgeOrder.{before_by_test}
+use Rattle.snap_edge_laws.proofs.Tests.{not_before_by_test}
 use Rattle.snap_edge_laws.proofs.Slanted.{shared_end_only, slanted_Decides}
 use Rattle.snap_edge_laws.proofs.Level.{one_after_other, other_way_round, level_Decides, not_itself}
 use Rattle.snap_edge_laws.proofs.meeting.ends_meet.Goals as goal
