@@ -10,13 +10,14 @@ use Rattle.snap_pixels.specs.Pixels.{IsRoundedTo}
 use Rattle.snap_pixels.specs.Segments.{Meets, along}
 use Rattle.snap_pixels.proofs.BoxLemmas.{Meets-apart}
 use Rattle.snap_edge_laws.proofs.Rounding.{rounded_centre}
-use Rattle.snap_edge_laws.proofs.Order.{IsSpot, same_point}
+use Rattle.snap_edge_laws.proofs.Order.{IsSpot}
 use Rattle.snap_pixels.specs.declared.segment.Segment.{Segment}
 use Rattle.snap_edge_laws.specs.Edges.{IsBelow}
 use Rattle.snap_edge_laws.specs.Chains.{IsChain}
 use Rattle.lay_point.specs.Rising.{IsRising}
 use Rattle.lay_point.proofs.Members.{Has, has, contains}
 use Rattle.lay_point.proofs.Rising.{IsStrictOrder, IsUpTo}
+use Rattle.lay_point.proofs.EdgeOrder.{same_point}
 use Rattle.snap_edge_laws.proofs.ChainOrder.{below_by_spots}
 use Rattle.snap_slabs.specs.Runs.{IsRowBefore}
 use Rattle.snap_slabs.proofs.Stretches.{rising_back, rising_in, rising_range, has-reverse, reverse-has, stretch_is_between}

@@ -14,6 +14,7 @@ use Rattle.snap_pixels.specs.Segments.{Meets}
 use Rattle.snap_pixels.proofs.OrderLemmas.{ArePointsRising-next}
 use Rattle.snap_pixels.proofs.BoxLemmas.{Meets-apart}
 use Rattle.lay_point.proofs.Signs.{linear}
+use Rattle.lay_point.proofs.EdgeOrder.{before_is_strict}
 use Rattle.snap_slabs.specs.Columns.{HoldMet, is_lesser_point}
 
 pub Decides-int_lt : (a b : ℤ) → Decides (int_lt a b) (a <ℤ b)
@@ -27,12 +28,6 @@ Decides-is_lesser_point p q =
 abbrev pub IsAtMost : Point → Point → Type 0
 IsAtMost p q = (p ≡ q) ⊎ IsBefore p q
 
-before_trans : (p q r : Point) → IsBefore p q → IsBefore q r → IsBefore p r
-before_trans p q r (inl h) (inl g) = inl (omega (arith, linear))
-before_trans p q r (inl h) (inr g) = inl (omega (arith, linear, g.0))
-before_trans p q r (inr h) (inl g) = inl (omega (arith, linear, h.0))
-before_trans p q r (inr h) (inr g) = inr (h.0 ∙ g.0, omega (arith, linear, h.1, g.1))
-
 pub centres_rise : (cs : List Point) → ArePointsRising cs → (i j : ℕ) (d : Point) → i ≤ j → j < length cs
     → IsAtMost (get_or cs i d) (get_or cs j d)
 centres_rise cs h i zero d le lt =
@@ -44,7 +39,7 @@ centres_rise cs h i (suc j) d le lt = ⊎_elim
     let step = subst (λ k. IsBefore (get_or cs j d) (get_or cs k d)) next (ArePointsRising-next cs h j d (omega arith)) in
     inr (⊎_elim
     (λ same. subst (λ p. IsBefore p (get_or cs (suc j) d)) (sym same) step)
-    (λ before. before_trans (get_or cs i d) (get_or cs j d) (get_or cs (suc j) d) before step)
+    (λ before. before_is_strict.transitive (get_or cs i d) (get_or cs j d) (get_or cs (suc j) d) before step)
     (centres_rise cs h i j d (omega arith) (omega arith))))
     (λ (ge : suc j ≤ i).
     let e : i ≡ suc j = omega arith in
@@ -56,7 +51,7 @@ left_part low cs up i j d le lt t =
     let less = (Decides-is_lesser_point (get_or cs j d) low).0 t in
     (Decides-is_lesser_point (get_or cs i d) low).1 (⊎_elim
     (λ same. subst (λ p. IsBefore p low) (sym same) less)
-    (λ before. before_trans (get_or cs i d) (get_or cs j d) low before less)
+    (λ before. before_is_strict.transitive (get_or cs i d) (get_or cs j d) low before less)
     (centres_rise cs up i j d le lt))
 
 Decides-no_later : (high c : Point) → Decides (not (is_lesser_point high c)) (¬ IsBefore high c)
@@ -67,7 +62,7 @@ right_part high cs up i j d le lt t =
     let no_later = (Decides-no_later high (get_or cs j d)).0 t in
     (Decides-no_later high (get_or cs i d)).1 (λ later. no_later (⊎_elim
     (λ same. subst (IsBefore high) same later)
-    (λ before. before_trans high (get_or cs i d) (get_or cs j d) later before)
+    (λ before. before_is_strict.transitive high (get_or cs i d) (get_or cs j d) later before)
     (centres_rise cs up i j d le lt)))
 
 -- the corners of a box round a and b

@@ -29,11 +29,11 @@ use Rattle.snap_pixels.specs.Order.{ArePointsRising}
 use Rattle.lay_point.specs.Rising.{IsRising}
 use Rattle.lay_point.proofs.Members.{Has, has, contains}
 use Rattle.lay_point.proofs.EdgeOrder.{before_is_strict}
+use Rattle.lay_point.proofs.ListLaws.{before_by_number, has-map, map-has}
 use Rattle.snap_slabs.proofs.Sorted.{IsOrder, sorted_once}
 use Rattle.snap_slabs.specs.declared.rows.RowKey.{RowKey}
 use Rattle.snap_slabs.specs.contracts.rows.RowKeyOrd.TheImpl.Laws.{matches_eq-law}
 use Rattle.snap_slabs.specs.Runs.{IsRowBefore, centre_at, centres_at, no_centre, number_of, row_key}
-use Rattle.snap_slabs.proofs.Stretches.{before_by_number}
 
 abbrev IsKeyBefore : RowKey → RowKey → Type 0
 IsKeyBefore j k = (j.row <ℤ k.row) ⊎ ((j.row ≡ k.row) × (j.back < k.back))
@@ -67,16 +67,6 @@ key_order = record {
 }
 
 -- ---- maps of lists
-pub has-map : {A B : Type 0} (f : A → B) (xs : List A) (x : A) → Has xs x → Has (map f xs) (f x)
-has-map f [] x h = absurd h
-has-map f (y ∷ ys) x (inl e) = inl (ap f e)
-has-map f (y ∷ ys) x (inr h) = inr (has-map f ys x h)
-
-pub map-has : {A B : Type 0} (f : A → B) (xs : List A) (z : B) → Has (map f xs) z → (x : A) × Has xs x × (f x ≡ z)
-map-has f [] z h = absurd h
-map-has f (y ∷ ys) z (inl e) = (y, inl refl, e)
-map-has f (y ∷ ys) z (inr h) = let r = map-has f ys z h in (r.0, inr r.1, r.2)
-
 pub rising-map : {A B : Type 0} (Before : A → A → Type 0) (After : B → B → Type 0) (f : A → B) (xs : List A)
     → ((x y : A) → Has xs x → Has xs y → Before x y → After (f x) (f y)) → IsRising Before xs → IsRising After (map f xs)
 rising-map Before After f [] g h = tt

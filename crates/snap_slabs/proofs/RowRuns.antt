@@ -9,15 +9,14 @@ use Rattle.std.proofs.lemmas.Option.{slice_get_within, get_or_from_slice_get}
 use Rattle.lay_point.proofs.Signs.{linear, below_or_not, below_or_same}
 use Rattle.lay_point.specs.declared.point.Point.{Point}
 use Rattle.lay_point.specs.Points.{IsBefore}
-use Rattle.snap_edge_laws.proofs.Order.{same_point}
 use Rattle.snap_pixels.specs.declared.segment.Segment.{Segment}
 use Rattle.snap_edge_laws.specs.Chains.{IsChain}
 use Rattle.lay_point.proofs.Rising.{IsStrictOrder}
-use Rattle.lay_point.proofs.EdgeOrder.{before_is_strict}
+use Rattle.lay_point.proofs.EdgeOrder.{before_is_strict, same_point}
 use Rattle.lay_point.specs.Rising.{IsRising}
 use Rattle.snap_slabs.specs.Runs.{AreEnds, no_centre, centre_at, centres_at, IsRowBefore, IsSide, IsChainRun, AreByRows}
-use Rattle.snap_slabs.proofs.Stretches.{before_by_number}
 use Rattle.std.specs.List.{range_with_len}
+use Rattle.lay_point.proofs.ListLaws.{before_by_number}
 use Rattle.snap_slabs.proofs.Along.{row_before_is_strict, row_falls, column_rises, chain_forth, chain_back, along_left, along_right, along_up, along_down}
 
 -- of two elements in order the first has the lesser number

@@ -11,6 +11,7 @@ use Rattle.snap_pixels.specs.Order.{AreTransposed, transposed}
 use Rattle.snap_pixels.specs.Segments.{Meets}
 use Rattle.snap_pixels.proofs.OrderLemmas.{turned_members}
 use Rattle.lay_point.proofs.Members.{Has, has, contains, has-append}
+use Rattle.lay_point.proofs.ListLaws.{get_or-slice_range}
 use Rattle.snap_slabs.specs.Columns.{HoldMet}
 use Rattle.snap_slabs.specs.Slabs.{AreSlabs, HoldPlaces, points_in}
 use Rattle.snap_slabs.proofs.ColumnLemmas.{meets_turned}
@@ -84,10 +85,6 @@ element [] k lt = absurd (omega arith)
 element (x ∷ xs) zero lt = (x, refl)
 element (x ∷ xs) (suc k) lt = element xs k (omega arith)
 
-get_or-range : {A : Type 0} (xs : List A) (from to k : ℕ) (d : A) → k < to - from
-    → get_or (slice_range xs from to) k d ≡ get_or xs (from + k) d
-get_or-range xs from to k d lt = get_or-take (to - from) (drop from xs) k d lt ∙ get_or-drop from xs k d
-
 length-range : {A : Type 0} (xs : List A) (from to : ℕ) → to ≤ length xs → length (slice_range xs from to) ≡ to - from
 length-range xs from to le = omega (arith, le, length-take (to - from) (drop from xs), length-drop from xs)
 
@@ -105,7 +102,7 @@ module _ (size : ℕ) (cs : List Point) (slabs : List (List Point)) (are : AreSl
       let k = found.0 in
       let s = found.1 in
       let few : k < end - first = omega (arith, found.2, length-range slabs first end inside) in
-      let here : get_or slabs (first + k) s ≡ s = sym (get_or-range slabs first end k s few) ∙ found.3 in
+      let here : get_or slabs (first + k) s ≡ s = sym (get_or-slice_range slabs first end k s few) ∙ found.3 in
       slab_inside size cs slabs are (first + k) s (omega (arith, few, inside)) c
       (subst (λ (v : List Point). Contains v c) (sym here) found.4)
 
@@ -120,7 +117,7 @@ module _ (size : ℕ) (cs : List Point) (slabs : List (List Point)) (are : AreSl
       let there = element slabs k (omega (arith, high, inside)) in
       let s = there.0 in
       let here : get_or (slice_range slabs first end) (k - first) s ≡ s =
-      get_or-range slabs first end (k - first) s few ∙ ap (λ j. get_or slabs j s) back ∙ there.1 in
+      get_or-slice_range slabs first end (k - first) s few ∙ ap (λ j. get_or slabs j s) back ∙ there.1 in
       let held = subst (λ (v : List Point). Contains v (transposed c)) there.1
       (slab_has size cs slabs are pos i c below at s (omega (arith, high, inside))) in
       Contains-flat_map (λ (v : List Point). v) (slice_range slabs first end) (k - first) s

@@ -6,21 +6,8 @@ use Rattle.std.proofs.lemmas.Bool.{cases_lt}
 use Rattle.std.proofs.lemmas.List.{get_or-drop, get_or-take, length-drop, length-take, get_or_default, reverse-append}
 use Rattle.lay_point.specs.Rising.{IsRising}
 use Rattle.lay_point.proofs.Members.{Has, has, contains, has-append, has-append_left, has-append_right}
-use Rattle.lay_point.proofs.Rising.{IsStrictOrder, IsUpTo, rising_rest, before_rest}
-
-pub has_get : {A : Type 0} (xs : List A) (n : ℕ) (d : A) → n < length xs → Has xs (get_or xs n d)
-has_get [] n d less = absurd (omega arith)
-has_get (x ∷ xs) zero d less = inl refl
-has_get (x ∷ xs) (suc n) d less = inr (has_get xs n d (omega arith))
-
-pub before_by_number : {A : Type 0} (Before : A → A → Type 0) → IsStrictOrder Before → (xs : List A) (m n : ℕ) (d : A)
-    → IsRising Before xs → m < n → n < length xs → Before (get_or xs m d) (get_or xs n d)
-before_by_number Before laws [] m n d h less inside = absurd (omega arith)
-before_by_number Before laws (x ∷ xs) m zero d h less inside = absurd (omega arith)
-before_by_number Before laws (x ∷ xs) zero (suc n) d h less inside =
-    before_rest Before laws x xs (get_or xs n d) h (has_get xs n d (omega arith))
-before_by_number Before laws (x ∷ xs) (suc m) (suc n) d h less inside =
-    before_by_number Before laws xs m n d (rising_rest Before x xs h) (omega arith) (omega arith)
+use Rattle.lay_point.proofs.Rising.{IsStrictOrder, IsUpTo, rising_rest}
+use Rattle.lay_point.proofs.ListLaws.{before_by_number}
 
 rising_drop : {A : Type 0} (Before : A → A → Type 0) (n : ℕ) (xs : List A) → IsRising Before xs → IsRising Before (drop n xs)
 rising_drop Before zero xs h = h
