@@ -43,8 +43,8 @@ fn row_keys(alloc: Global, centres: &[Point]) -> Result<Vec<RowKey>, AllocError>
     ensures { IfOk result (λ keys. keys.items ≡ map (row_key centres.now) (range_with_len 0 (length centres.now))) }
 {
     let mut keys = Vec::with_capacity(alloc, centres.len())?;
-    for number in 0..centres.len() {
-        keys.push(key_of(centres[number], number as u32))?;
+    for (number, centre) in centres.iter().enumerate() {
+        keys.push(key_of(*centre, number as u32))?;
     }
     Ok(keys)
 }
@@ -79,8 +79,8 @@ pub(crate) fn places_of(alloc: Global, rows: &[u32], count: usize) -> Result<Vec
         → slice_get rows.now (slice_index_or places.items i 0) ≡ Some i) }
 {
     let mut places = vec![in alloc; 0; count]?;
-    for place in 0..rows.len() {
-        places[rows[place] as usize] = place as u32;
+    for (place, number) in rows.iter().enumerate() {
+        places[*number as usize] = place as u32;
     }
     Ok(places)
 }
