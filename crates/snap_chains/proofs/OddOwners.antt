@@ -7,9 +7,10 @@ use Rattle.std.proofs.lemmas.Bool.{false≢true}
 use Rattle.std.proofs.lemmas.List.{take_all, take_more, length-map, get_or_default}
 use Rattle.std.proofs.lemmas.Option.{get_or_from_slice_get, slice_get_within}
 use Rattle.lay_point.proofs.Members.{Has, has, contains}
-use Rattle.snap_slabs.proofs.KeyOrder.{has-map, map-has, rising-map}
+use Rattle.snap_slabs.proofs.KeyOrder.{rising-map}
 use Rattle.snap_slabs.proofs.Stretches.{has_take}
 use Rattle.lay_point.specs.Parity.{parity}
+use Rattle.lay_point.proofs.ListLaws.{has-map, map-has}
 use Rattle.snap_chains.specs.declared.owner.Owner.{Owner}
 use Rattle.snap_chains.specs.Owners.{IsOwnerBefore}
 use Rattle.snap_chains.proofs.OddLemmas.{AreOdd, odd_pop, next_is_not_last, odd_has}

@@ -1,5 +1,5 @@
 -- The order of owners, as `Ord` computes it, and that it is strict.
-use Rattle.std.proofs.Common.{◌≡◌, ◌⊎◌, inl, inr, ◌<◌, ℕ, refl, sym, ap, ◌∙◌, subst, Decides, arith}
+use Rattle.std.proofs.Common.{◌≡◌, ◌⊎◌, inl, inr, ◌<◌, ℕ, refl, sym, ap, ◌∙◌, subst, Decides}
 use Rattle.std.specs.declared.cmp.Ordering.{Ordering}
 use Rattle.std.specs.declared.cmp.Ordering.TheVariants.{Less, Equal, Greater}
 use Rattle.std.specs.Ordering.{nat_cmp, on, then_cmp, ordering_then, ordering_reverse}
@@ -7,6 +7,7 @@ use Rattle.std.specs.Cmp.{IsTotalOrder}
 use Rattle.std.proofs.lemmas.Bool.Decides.{Decides-and, Decides-eqb, Decides-like}
 use Rattle.std.proofs.lemmas.Cmp.{nat_cmp_total, on_total, then_total, ranked}
 use Rattle.lay_point.proofs.Rising.{IsStrictOrder}
+use Rattle.lay_point.proofs.NumberLaws.{numbers_are_strict}
 use Rattle.snap_chains.specs.declared.owner.Input.{Input}
 use Rattle.snap_chains.specs.declared.owner.Input.TheVariants.{First, Second}
 use Rattle.snap_chains.specs.declared.owner.Owner.{Owner}
@@ -91,12 +92,6 @@ inputs_are_strict = record {
   where
     first_or_second : First ≡ Second → ⊥
     first_or_second e = absurd cc
-
-pub numbers_are_strict : IsStrictOrder (λ (m n : ℕ). m < n)
-numbers_are_strict = record {
-  irreflexive = λ n h. absurd (omega (arith, h));
-  transitive = λ l m n h g. omega (arith, h, g);
-}
 
 input_eq-Decides : (i j : Input) → Decides (input_eq i j) (i ≡ j)
 input_eq-Decides First First = (λ h. refl, λ e. refl)

@@ -17,13 +17,14 @@ use Rattle.snap_edge_laws.proofs.ChainOrder.{below_is_strict}
 use Rattle.snap_pixels.specs.declared.segment.Segment.{Segment}
 use Rattle.snap_edge_laws.specs.Edges.{IsBelow}
 use Rattle.snap_slabs.specs.Runs.{IsChainRun, centre_at, centres_at, no_centre}
-use Rattle.snap_slabs.proofs.Stretches.{before_by_number, rising_back, rising_in, back_more}
+use Rattle.snap_slabs.proofs.Stretches.{rising_back, rising_in, back_more}
 use Rattle.snap_chains.specs.declared.owner.Owner.{Owner}
 use Rattle.snap_chains.specs.Visits.{Visit}
 use Rattle.snap_chains.specs.Visits.{visits_by}
 use Rattle.snap_chains.proofs.OwnerLemmas.{map-push}
 use Rattle.std.specs.List.{range_with_len}
 use Rattle.std.proofs.lemmas.List.FromFn.{get_or-range_with_len, length-range_with_len}
+use Rattle.lay_point.proofs.ListLaws.{before_by_number}
 use Rattle.snap_chains.proofs.PathLemmas.{pairs-push}
 use Rattle.snap_chains.specs.declared.pass.Pass.{Pass}
 use Rattle.snap_chains.specs.Passes.{HasCentres, IsSideAdded, pass_between, passes_by, visit_at}

@@ -5,9 +5,10 @@ use Rattle.std.specs.Ordering.{nat_cmp, on, then_cmp}
 use Rattle.std.specs.Cmp.{IsTotalOrder}
 use Rattle.std.proofs.lemmas.Cmp.{nat_cmp_total, on_total, then_total}
 use Rattle.lay_point.proofs.Rising.{IsStrictOrder}
+use Rattle.lay_point.proofs.NumberLaws.{numbers_are_strict}
 use Rattle.snap_chains.specs.Owners.{IsOwnerBefore}
 use Rattle.snap_chains.proofs.OddLemmas.{IsSortOrder}
-use Rattle.snap_chains.proofs.OwnerOrder.{strict_by, first_less, both_equal, numbers_are_strict, owner_cmp_total, number_less, number_exact, owner_less, owner_exact, owners_are_strict}
+use Rattle.snap_chains.proofs.OwnerOrder.{strict_by, first_less, both_equal, owner_cmp_total, number_less, number_exact, owner_less, owner_exact, owners_are_strict}
 use Rattle.snap_chains.specs.declared.pass.Pass.{Pass}
 use Rattle.snap_chains.specs.Reading.{NumberedEdge, numbered_edge, pass_eq, pass_cmp, owner_cmp, AreEndsBefore, IsPassBefore}
 use Rattle.snap_chains.proofs.ViewLemmas.{pass_eq-Decides}

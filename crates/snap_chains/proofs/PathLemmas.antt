@@ -14,8 +14,9 @@ use Rattle.snap_edge_laws.specs.Chains.{IsChain}
 use Rattle.lay_point.specs.Rising.{IsRising, pairs, last}
 use Rattle.snap_edge_laws.specs.Rounding.{IsRoundedPath, closed_walk, further, point, tail}
 use Rattle.lay_point.proofs.Members.{Has, has, contains}
+use Rattle.lay_point.proofs.ListLaws.{map-has}
 use Rattle.snap_edge_laws.proofs.Chains.{chains_join_ends}
-use Rattle.snap_edge_laws.proofs.Rounded.{rounded_paths_join_ends}
+use Rattle.snap_edge_laws.proofs.Rounded.{last_of, rounded_paths_join_ends}
 use Rattle.snap_chains.specs.Sides.{segment_ends}
 use Rattle.snap_chains.proofs.OwnerLemmas.{map-push}
 
@@ -77,10 +78,6 @@ chain_of_hot segments hot s chain all h = record {
   );
 }
 
-abbrev pub last_of : Point → List Point → Point
-last_of p [] = p
-last_of p (x ∷ xs) = last x xs
-
 -- the chain of one more side, from where the path ends
 pub further_side : (segments : List Segment) (s : Segment) (chain : List Point) → Contains segments s → IsChain (IsHot segments) s chain
     → (path points : List Point) → IsRoundedPath segments path points → last_of s.a path ≡ s.a
@@ -108,11 +105,6 @@ Contains-map {A} {B} f xs x h = contains (map f xs) (f x) (mapped xs (has xs x h
     mapped (y ∷ ys) (inl e) = inl (ap f e)
     mapped (y ∷ ys) (inr m) = inr (mapped ys m)
 
-pub Has-map : {A B : Type 0} (f : A → B) (xs : List A) (y : B) → Has (map f xs) y → (x : A) × Has xs x × (f x ≡ y)
-Has-map f [] y m = absurd m
-Has-map f (x ∷ xs) y (inl e) = (x, inl refl, e)
-Has-map f (x ∷ xs) y (inr m) = let r = Has-map f xs y m in (r.0, inr r.1, r.2)
-
 -- ---- a chain depends on the ends of its segment alone
 abbrev key_of : Point → Point → Point → ℤ
 key_of a b c = int_signum (b.x -ℤ a.x) *ℤ c.x +ℤ int_signum (b.y -ℤ a.y) *ℤ c.y
@@ -132,7 +124,7 @@ side_of_some : (segments : List Segment) (s : Segment) (chain path walk : List P
     → IsChain (IsHot segments) s chain → IsRoundedPath segments path walk → last_of s.a path ≡ s.a
     → IsRoundedPath segments (path ++ s.b ∷ []) (walk ++ tail chain)
 side_of_some segments s chain path walk among h so_far link =
-    let found = Has-map segment_ends segments (segment_ends s) (has (map segment_ends segments) (segment_ends s) among) in
+    let found = map-has segment_ends segments (segment_ends s) (has (map segment_ends segments) (segment_ends s) among) in
     let t = found.0 in
     let ea : t.a ≡ s.a = ap (λ (p : Point × Point). p.0) found.2 in
     let eb : t.b ≡ s.b = ap (λ (p : Point × Point). p.1) found.2 in

@@ -1,5 +1,5 @@
 -- The passes of the sides of a ring, one side after another, and of one ring after another.
-use Rattle.std.proofs.Common.{◌≡◌, ℕ, ◌+◌, ◌<◌, ◌≤◌, List, [], ◌∷◌, ◌++◌, length, get_or, take, map, pos, Some, inl, inr, refl, sym, ap, subst, ◌∙◌, ⊎_elim, Contains, append_assoc, append-nil, ℤ, ◌≤ℤ◌, arith}
+use Rattle.std.proofs.Common.{◌≡◌, ℕ, ◌+◌, ◌<◌, ◌≤◌, List, [], ◌∷◌, ◌++◌, length, get_or, take, map, Some, inl, inr, refl, sym, ap, subst, ◌∙◌, ⊎_elim, Contains, append_assoc, append-nil, arith}
 use Rattle.std.specs.Prelude.{slice_get}
 use Rattle.std.specs.List.Sorted.{IsPermutation}
 use Rattle.std.proofs.lemmas.List.{map-append, take_all, take_more}
@@ -9,15 +9,12 @@ use Rattle.lay_point.specs.declared.point.Point.{Point}
 use Rattle.lay_point.specs.Edges.{undirected}
 use Rattle.lay_point.specs.Rising.{IsFromTo, pairs, last}
 use Rattle.lay_point.proofs.Members.{Has, has, contains, has-append}
-use Rattle.lay_point.proofs.Signs.{linear}
-use Rattle.lay_point.proofs.Polynomials.{#, lit, ◌⊗◌, identity}
+use Rattle.lay_point.proofs.ListLaws.{map-has}
 use Rattle.snap_pixels.specs.declared.segment.Segment.{Segment}
 use Rattle.snap_pixels.specs.Hot.{AreHotCentres}
-use Rattle.snap_pixels.specs.Pixels.{HoldsPlace, IsRoundedTo}
 use Rattle.snap_edge_laws.specs.Rounding.{IsRoundedPath, closed_walk, point, tail}
-use Rattle.snap_edge_laws.proofs.Chains.{chains_join_ends}
-use Rattle.snap_edge_laws.proofs.Rounded.{rounded_paths_join_ends}
-use Rattle.snap_edge_laws.proofs.Rounding.{rounded_centre}
+use Rattle.snap_edge_laws.proofs.Chains.{chains_join_ends, own_pixel}
+use Rattle.snap_edge_laws.proofs.Rounded.{last_of, rounded_paths_join_ends}
 use Rattle.snap_edge_laws.proofs.Walks.{joined_pairs}
 use Rattle.snap_slabs.proofs.OwnedLemmas.{zip_push}
 use Rattle.snap_chains.specs.declared.owner.Owner.{Owner}
@@ -27,25 +24,14 @@ use Rattle.snap_chains.specs.Passes.{ArePassesOf, ArePathPasses, IsSideAdded, vi
 use Rattle.snap_chains.specs.Sides.{segment_ends}
 use Rattle.snap_chains.specs.Visits.{visits_by, visits_of}
 use Rattle.snap_chains.proofs.OwnerLemmas.{map-push}
-use Rattle.snap_chains.proofs.PathLemmas.{AreLinked, Contains-map, Has-map, chain_of_hot, further_side, last_of, last-push, linked_at, same_chain, sides_linked}
+use Rattle.snap_chains.proofs.PathLemmas.{AreLinked, Contains-map, chain_of_hot, further_side, last-push, linked_at, same_chain, sides_linked}
 
 -- ---- ends are hot
-own_pixel : (c : Point) → HoldsPlace c (pos 1) c.x c.y
-own_pixel c =
-    let times_one = λ (a : ℤ). identity (a ∷ []) (# 0 ⊗ lit (pos 1)) (# 0) refl in
-    record {
-      column = subst (IsRoundedTo c.x (pos 1)) (times_one c.x) (rounded_centre c.x (pos 1) one);
-      row = subst (IsRoundedTo c.y (pos 1)) (times_one c.y) (rounded_centre c.y (pos 1) one);
-    }
-  where
-    one : pos 1 ≤ℤ pos 1
-    one = omega (arith, linear)
-
 -- the ends of a segment are hot centres
 pub ends_are_hot : (segments : List Segment) (hot : List Point) → AreHotCentres segments hot → (p q : Point)
     → Contains (map segment_ends segments) (p, q) → Contains hot p × Contains hot q
 ends_are_hot segments hot all p q among =
-    let found = Has-map segment_ends segments (p, q) (has (map segment_ends segments) (p, q) among) in
+    let found = map-has segment_ends segments (p, q) (has (map segment_ends segments) (p, q) among) in
     let t = found.0 in
     let given = contains segments t found.1 in (
       subst (Contains hot) (ap (λ (e : Point × Point). e.0) found.2) ((all.exact t.a).1 (inl (t, given, inl (own_pixel t.a)))),
@@ -81,7 +67,7 @@ side_joins : (segments : List Segment) (hot : List Point) (o : Owner) (s : Segme
     → AreHotCentres segments hot → Contains (map segment_ends segments) (segment_ends s) → last p ps ≡ s.a
     → ArePathPasses segments hot o (p ∷ ps) old mid → IsSideAdded hot s o mid new → ArePathPasses segments hot o (p ∷ (ps ++ s.b ∷ [])) old new
 side_joins segments hot o s p ps old mid new all among link h side =
-    let found = Has-map segment_ends segments (segment_ends s) (has (map segment_ends segments) (segment_ends s) among) in
+    let found = map-has segment_ends segments (segment_ends s) (has (map segment_ends segments) (segment_ends s) among) in
     let t = found.0 in
     let ea : t.a ≡ s.a = ap (λ (e : Point × Point). e.0) found.2 in
     let eb : t.b ≡ s.b = ap (λ (e : Point × Point). e.1) found.2 in

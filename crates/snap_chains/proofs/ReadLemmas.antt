@@ -15,7 +15,6 @@ use Rattle.lay_point.specs.Rising.{IsRising}
 use Rattle.lay_point.proofs.Members.{Has, has, contains, has-append, has-append_left, has-append_right}
 use Rattle.lay_point.proofs.Parity.{parity-append, parity_none, xor-false}
 use Rattle.lay_point.specs.Parity.{parity, xor}
-use Rattle.snap_slabs.proofs.KeyOrder.{has-map, map-has}
 use Rattle.snap_slabs.proofs.Stretches.{has_take, has_drop}
 use Rattle.std.specs.List.Sorted.{IsPermutation}
 use Rattle.std.proofs.lemmas.List.Sorted.{IsPermutation-sym, IsPermutation-map, Contains-permutation}
@@ -27,6 +26,7 @@ use Rattle.snap_chains.specs.OwnerLists.{IsInside, list_of, owner_lists_of}
 use Rattle.snap_chains.specs.declared.owner_lists.Part.{Part}
 use Rattle.snap_chains.proofs.OwnerLemmas.{map-push}
 use Rattle.lay_point.specs.declared.point.Point.{Point}
+use Rattle.lay_point.proofs.ListLaws.{has-map, map-has}
 use Rattle.snap_chains.proofs.ViewLemmas.{pass_eq-Decides}
 use Rattle.snap_chains.proofs.PassOrder.{pass_order, ends_are_strict}
 

@@ -19,6 +19,8 @@ use Rattle.snap_edge_laws.specs.Undirected.{walked_edges}
 use Rattle.snap_edge_laws.proofs.Edges.{edges_are_clean, owned_edges_are_even}
 use Rattle.lay_point.proofs.Members.{Has, has, contains}
 use Rattle.lay_point.proofs.Parity.{parity-append, parity-map, parity_agree, parity_none}
+use Rattle.lay_point.proofs.ListLaws.{map-has}
+use Rattle.lay_point.proofs.BoolLaws.{and-false, and-true}
 use Rattle.snap_chains.specs.declared.owner.Owner.{Owner}
 use Rattle.snap_chains.specs.Visits.{Visit}
 use Rattle.snap_chains.specs.OwnedRings.{AreRounded, AreSides}
@@ -29,7 +31,7 @@ use Rattle.snap_chains.specs.Round.{AreOwnersOf, IsRoundOf, owner_walks}
 use Rattle.snap_chains.specs.Reading.{AreOddVisitors, IsView}
 use Rattle.snap_chains.specs.Rounded.{AreClean, IsRounded, is_owner_listed}
 use Rattle.snap_chains.specs.Visits.{visit_eq, visits_by, visits_of}
-use Rattle.snap_chains.proofs.PathLemmas.{Contains-map, Has-map}
+use Rattle.snap_chains.proofs.PathLemmas.{Contains-map}
 use Rattle.snap_chains.proofs.OddLemmas.{parity_permutation}
 use Rattle.snap_slabs.proofs.Sorted.{same_tests}
 use Rattle.snap_chains.proofs.OwnerOrder.{owner_eq-Decides}
@@ -81,14 +83,6 @@ owner_turned o p =
     same_tests (owner_eq o p) (owner_eq p o) (λ h. (owner_eq-Decides p o).1 (sym ((owner_eq-Decides o p).0 h)))
     (λ h. (owner_eq-Decides o p).1 (sym ((owner_eq-Decides p o).0 h)))
 
-and-true : (b : Bool) → (b && true) ≡ b
-and-true true = refl
-and-true false = refl
-
-and-false : (b : Bool) → (b && false) ≡ false
-and-false true = refl
-and-false false = refl
-
 -- the visits of the edge by the owner are as many as the owner's walks go it, up to an even number
 pub visits_by_owner : (o : Owner) (e : Point × Point) (rings : List (Owner × List Point)) (walks : List (List Point))
     → parity (visit_eq (record { edge = e; owner = o })) (visits_of rings walks) ≡ is_owned (owner_walks o rings walks) e
@@ -124,7 +118,7 @@ module _ {A B : Type 0} (R S : A → B → Type 0) (step : (x : A) (y : B) → R
 pub edges_in_order : (xs ys : List Visit) → IsPermutation xs ys → (e : Point × Point)
     → Contains (map (λ (v : Visit). v.edge) xs) e → Contains (map (λ (v : Visit). v.edge) ys) e
 edges_in_order xs ys same e m =
-    let found = Has-map (λ (v : Visit). v.edge) xs e (has (map (λ (v : Visit). v.edge) xs) e m) in
+    let found = map-has (λ (v : Visit). v.edge) xs e (has (map (λ (v : Visit). v.edge) xs) e m) in
     subst (Contains (map (λ (v : Visit). v.edge) ys)) found.2
     (Contains-map (λ (v : Visit). v.edge) ys found.0 (Contains-permutation xs ys found.0 same (contains xs found.0 found.1)))
 
@@ -159,19 +153,19 @@ round_of_passes rings segments segments' hot hot' passes edges owners sides same
     made.visits (subst (λ l. IsView (map (visit_at l) passes) edges owners) same_hot view)
 
 -- ---- what the types keep
-listed : (o : Owner) (owners : List Owner) → is_owner_listed o owners ≡ true → Has owners o
-listed o [] h = absurd (false≢true h)
-listed o (p ∷ owners) h = by_test (listed o owners) (owner_eq p o) refl h
+pub listed_has : (o : Owner) (owners : List Owner) → is_owner_listed o owners ≡ true → Has owners o
+listed_has o [] h = absurd (false≢true h)
+listed_has o (p ∷ owners) h = by_test (listed_has o owners) (owner_eq p o) refl h
   where
     by_test : (is_owner_listed o owners ≡ true → Has owners o) → (b : Bool) → b ≡ owner_eq p o → is_owner_listed o (p ∷ owners) ≡ true
         → Has (p ∷ owners) o
     by_test later true e t = inl ((owner_eq-Decides p o).0 (sym e))
     by_test later false e t = inr (later (rw (← e) at t))
 
-list_has : (o : Owner) (owners : List Owner) → Has owners o → is_owner_listed o owners ≡ true
-list_has o [] m = absurd m
-list_has o (p ∷ owners) (inl e) = rw ((owner_eq-Decides p o).1 e) refl
-list_has o (p ∷ owners) (inr m) = or_right (owner_eq p o) (is_owner_listed o owners) (list_has o owners m)
+pub has_listed : (o : Owner) (owners : List Owner) → Has owners o → is_owner_listed o owners ≡ true
+has_listed o [] m = absurd m
+has_listed o (p ∷ owners) (inl e) = rw ((owner_eq-Decides p o).1 e) refl
+has_listed o (p ∷ owners) (inr m) = or_right (owner_eq p o) (is_owner_listed o owners) (has_listed o owners m)
 
 module _ (rings : List (Owner × List Point)) (walks : List (List Point)) where
   parity_listed : (o : Owner) (v : Point) (edges : List (Point × Point)) (owners : List (List Owner))
@@ -184,7 +178,7 @@ module _ (rings : List (Owner × List Point)) (walks : List (List Point)) where
   parity_listed o v (e ∷ edges) (own ∷ owners) h =
       ap₂ (λ b p. xor (b && touches v e) p)
       (same_tests (is_owner_listed o own) (is_owned (owner_walks o rings walks) e)
-      (λ t. (h.0.exact o).0 (contains own o (listed o own t))) (λ t. list_has o own (has own o ((h.0.exact o).1 t))))
+      (λ t. (h.0.exact o).0 (contains own o (listed_has o own t))) (λ t. has_listed o own (has own o ((h.0.exact o).1 t))))
       (parity_listed o v edges owners h.1)
 
   all_ordered : (edges : List (Point × Point)) (owners : List (List Owner)) → AllZip (AreOwnersOf rings walks) edges owners

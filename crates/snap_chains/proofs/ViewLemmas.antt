@@ -12,8 +12,9 @@ use Rattle.lay_point.specs.Parity.{parity, xor}
 use Rattle.snap_slabs.proofs.Sorted.{same_tests}
 use Rattle.lay_point.specs.Rising.{IsRising}
 use Rattle.lay_point.proofs.Members.{Has, has, contains}
+use Rattle.lay_point.proofs.ListLaws.{has-map, map-has}
 use Rattle.snap_slabs.specs.Runs.{centre_at}
-use Rattle.snap_slabs.proofs.KeyOrder.{has-map, map-has, rising-map}
+use Rattle.snap_slabs.proofs.KeyOrder.{rising-map}
 use Rattle.snap_chains.specs.declared.owner.Owner.{Owner}
 use Rattle.snap_chains.specs.Visits.{Visit}
 use Rattle.snap_chains.specs.Visits.{visit_eq}
