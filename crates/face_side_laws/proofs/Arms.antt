@@ -13,7 +13,9 @@ use Rattle.lay_point.specs.declared.point.Point.{Point}
 use Rattle.lay_point.specs.Edges.{touches}
 use Rattle.lay_point.specs.Parity.{distance_right, is_crossed}
 use Rattle.lay_point.specs.Points.{point_eq}
-use Rattle.lay_point.proofs.EdgeOrder.{same_by_test, same_point}
+use Rattle.lay_point.proofs.EdgeOrder.{same_point}
+use Rattle.lay_point.proofs.RingLemmas.{point_eq-true}
+use Rattle.lay_point.proofs.NumberLaws.{none_times}
 use Rattle.snap_edge_laws.specs.Edges.{IsBetween, IsEndpoint, IsOn}
 use Rattle.snap_edge_laws.specs.Meeting.{MeetAtEnds}
 use Rattle.snap_edge_laws.proofs.Lines.{first_on, last_on}
@@ -50,8 +52,8 @@ level_end p q v w level height between touching (inl same) = ends_of p q (subst 
     ends_of a b t = by_test (point_eq a v) refl t
       where
         by_test : (s : Bool) → point_eq a v ≡ s → (s || point_eq b v) ≡ true → IsEndpoint v a b
-        by_test true e g = inl (sym (same_by_test a v e))
-        by_test false e g = inr (sym (same_by_test b v g))
+        by_test true e g = inl (sym (point_eq-true a v e))
+        by_test false e g = inr (sym (point_eq-true b v g))
 level_end p q v w level height between touching (inr meet) =
     let on = level_on p q (pos 1) v.x v.y level (height ∙ sym (one_times q.y)) (scaled between) in
     let shared = meet (pos 1) v.x v.y (omega (arith, linear)) on (end_on (point_eq w.0 v) refl touching) in
@@ -63,8 +65,8 @@ level_end p q v w level height between touching (inr meet) =
     scaled (inr h) = inr (omega (arith, linear, one_times q.x, h.0), omega (arith, linear, one_times p.x, h.1))
 
     end_on : (s : Bool) → point_eq w.0 v ≡ s → (s || point_eq w.1 v) ≡ true → IsOn w.0 w.1 (pos 1) v.x v.y
-    end_on true e g = let same = same_by_test w.0 v e in subst (λ (z : Point). IsOn w.0 w.1 (pos 1) z.x z.y) same (first_on w.0 w.1)
-    end_on false e g = let same = same_by_test w.1 v g in subst (λ (z : Point). IsOn w.0 w.1 (pos 1) z.x z.y) same (last_on w.0 w.1)
+    end_on true e g = let same = point_eq-true w.0 v e in subst (λ (z : Point). IsOn w.0 w.1 (pos 1) z.x z.y) same (first_on w.0 w.1)
+    end_on false e g = let same = point_eq-true w.1 v g in subst (λ (z : Point). IsOn w.0 w.1 (pos 1) z.x z.y) same (last_on w.0 w.1)
 
 -- ---- another edge at the height of a level one
 there_x : (v c d : Point) → right_of_point v (c, d)
@@ -115,9 +117,6 @@ from_middle u v c d = identity (u.x ∷ u.y ∷ v.x ∷ v.y ∷ c.x ∷ c.y ∷ 
     (lit (pos 2) ⊗ ((lit (pos 1) ⊗ # 4 ⊖ # 2) ⊗ (# 7 ⊖ # 5) ⊕ (# 3 ⊖ lit (pos 1) ⊗ # 5) ⊗ (# 6 ⊖ # 4))
     ⊕ (# 2 ⊖ # 0) ⊗ (# 7 ⊖ # 5) ⊕ (# 1 ⊖ # 3) ⊗ (# 6 ⊖ # 4)) refl
 
-no_part : (z w : ℤ) → z ≡ pos 0 → z *ℤ w ≡ pos 0
-no_part z w e = ap (λ u. u *ℤ w) e ∙ identity (w ∷ []) (lit (pos 0) ⊗ # 0) (lit (pos 0)) refl
-
 spread : (a b w : ℤ) → (a -ℤ b) *ℤ w ≡ w *ℤ a -ℤ w *ℤ b
 spread a b w = identity (a ∷ b ∷ w ∷ []) ((# 0 ⊖ # 1) ⊗ # 2) (# 2 ⊗ # 0 ⊖ # 2 ⊗ # 1) refl
 
@@ -155,7 +154,7 @@ middle_left u v f level less up meet =
     let q = middle_row u v level in
     let w = f.1.y -ℤ f.0.y in
     let middle = from_middle u v f.0 f.1 in
-    let flat = no_part (u.y -ℤ v.y) (f.1.x -ℤ f.0.x) (omega (arith, linear, level)) in
+    let flat = none_times (u.y -ℤ v.y) (f.1.x -ℤ f.0.x) (omega (arith, linear, level)) in
     both_ways (is_crossed (pos 2) (u.x +ℤ v.x) (u.y +ℤ v.y) f) (from_on v.y v f)
     (λ t.
     let c = crossed_spans v.y (pos 2) (u.x +ℤ v.x) (u.y +ℤ v.y) f q up t in
@@ -190,7 +189,7 @@ middle_right u v f level less up meet =
     let q = middle_row u v level in
     let w = f.1.y -ℤ f.0.y in
     let middle = from_middle u v f.0 f.1 in
-    let flat = no_part (u.y -ℤ v.y) (f.1.x -ℤ f.0.x) (omega (arith, linear, level)) in
+    let flat = none_times (u.y -ℤ v.y) (f.1.x -ℤ f.0.x) (omega (arith, linear, level)) in
     both_ways (is_crossed (pos 2) (u.x +ℤ v.x) (u.y +ℤ v.y) f) (beyond v.y v f)
     (λ t.
     let c = crossed_spans v.y (pos 2) (u.x +ℤ v.x) (u.y +ℤ v.y) f q up t in

@@ -8,14 +8,9 @@ use Rattle.lay_point.proofs.Signs.{below_or_not, below_or_same, linear, nonnegat
 use Rattle.lay_point.proofs.Tests.{false_le, false_lt, le_false, le_true, lt_false, lt_true, true_le, true_lt}
 use Rattle.lay_point.specs.declared.point.Point.{Point}
 use Rattle.lay_point.specs.Parity.{xor, distance_right, is_crossed}
+use Rattle.lay_point.proofs.NumberLaws.{none_times, times_none}
 use Rattle.snap_edge_laws.specs.Meeting.{MeetAtEnds}
 use Rattle.face_side_laws.proofs.Slide.{rising_only, starts}
-
-none_times : (z w : ℤ) → z ≡ pos 0 → z *ℤ w ≡ pos 0
-none_times z w e = ap (λ u. u *ℤ w) e ∙ identity (w ∷ []) (lit (pos 0) ⊗ # 0) (lit (pos 0)) refl
-
-times_none : (z w : ℤ) → w ≡ pos 0 → z *ℤ w ≡ pos 0
-times_none z w e = ap (λ u. z *ℤ u) e ∙ identity (z ∷ []) (# 0 ⊗ lit (pos 0)) (lit (pos 0)) refl
 
 -- the distance from a place in the column x0, by the ends' distances from it
 column_distance : (x0 X Y : ℤ) (c d : Point) → X ≡ pos 2 *ℤ x0

@@ -4,9 +4,10 @@ use Rattle.lay_point.specs.declared.point.Point.{Point}
 use Rattle.lay_point.specs.Edges.{touches}
 use Rattle.lay_point.specs.Parity.{xor, parity}
 use Rattle.lay_point.specs.Points.{point_eq}
-use Rattle.lay_point.proofs.EdgeOrder.{one_end, points_decide, same_by_test}
+use Rattle.lay_point.proofs.EdgeOrder.{one_end, points_decide}
 use Rattle.lay_point.proofs.Members.{Has}
 use Rattle.lay_point.proofs.Parity.{parity_agree, parity_none, parity-xor}
+use Rattle.lay_point.proofs.RingLemmas.{point_eq-true}
 
 -- the test, but not at the point
 abbrev without : Point → (Point → Bool) → Point → Bool
@@ -26,7 +27,7 @@ split v test u = by_same (point_eq u v) refl
     elsewhere false false = refl
 
     by_same : (s : Bool) → point_eq u v ≡ s → test u ≡ xor (not s && test u) (test v && s)
-    by_same true e = ap test (same_by_test u v e) ∙ here (test v)
+    by_same true e = ap test (point_eq-true u v e) ∙ here (test v)
     by_same false e = elsewhere (test v) (test u)
 
 module _ {W : Type 0} (counts : (Point × Point) × W → Bool) (items : List ((Point × Point) × W))
@@ -110,7 +111,7 @@ module _ {W : Type 0} (counts : (Point × Point) × W → Bool) (items : List ((
   end_has (v ∷ vs) u h = by_test (point_eq v u) refl h (λ g. end_has vs u g)
     where
       by_test : (b : Bool) → point_eq v u ≡ b → (b || is_end vs u) ≡ true → (is_end vs u ≡ true → Has vs u) → Has (v ∷ vs) u
-      by_test true e g further = inl (same_by_test v u e)
+      by_test true e g further = inl (point_eq-true v u e)
       by_test false e g further = inr (further g)
 
   has_end : (vs : List Point) (u : Point) → Has vs u → is_end vs u ≡ true

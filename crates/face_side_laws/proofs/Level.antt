@@ -11,6 +11,9 @@ use Rattle.lay_point.proofs.Tests.{false_le, false_lt, true_le, true_lt}
 use Rattle.lay_point.specs.declared.point.Point.{Point}
 use Rattle.lay_point.specs.Parity.{xor, distance_right}
 use Rattle.lay_point.specs.Points.{point_eq}
+use Rattle.lay_point.proofs.NumberLaws.{int_eq-same, none_times}
+use Rattle.lay_point.proofs.BoolLaws.{and-false}
+use Rattle.lay_point.proofs.Parity.{xor-false, xor_self}
 
 abbrev pub Edge : Type 0
 Edge = Point × Point
@@ -54,9 +57,6 @@ at_finish v a b = identity (v.x ∷ v.y ∷ a.x ∷ a.y ∷ b.x ∷ b.y ∷ [])
     ((lit (pos 1) ⊗ # 2 ⊖ # 0) ⊗ (# 5 ⊖ # 3) ⊕ (# 1 ⊖ lit (pos 1) ⊗ # 3) ⊗ (# 4 ⊖ # 2))
     ((# 4 ⊖ # 0) ⊗ (# 5 ⊖ # 3) ⊕ (# 1 ⊖ # 5) ⊗ (# 4 ⊖ # 2)) refl
 
-none_times : (z w : ℤ) → z ≡ pos 0 → z *ℤ w ≡ pos 0
-none_times z w e = ap (λ u. u *ℤ w) e ∙ identity (w ∷ []) (lit (pos 0) ⊗ # 0) (lit (pos 0)) refl
-
 -- the sign of a difference times a positive number
 le_by_times : (z x h : ℤ) → pos 0 <ℤ h → int_le (pos 0) ((z -ℤ x) *ℤ h) ≡ int_le x z
 le_by_times z x h positive = ⊎_elim
@@ -85,9 +85,6 @@ lt_by_times z x h positive = ⊎_elim
     turned = identity (z ∷ x ∷ h ∷ []) ((# 0 ⊖ # 1) ⊗ # 2) (lit (pos 0) ⊖ (# 1 ⊖ # 0) ⊗ # 2) refl
 
 -- ---- through the height
-same_true : (a b : ℤ) → a ≡ b → int_eq a b ≡ true
-same_true a b e = (Decides-int_eq a b).1 e
-
 same_false : (a b : ℤ) → (a ≡ b → ⊥) → int_eq a b ≡ false
 same_false a b h = by_test (int_eq a b) refl
   where
@@ -101,18 +98,6 @@ row_true r f low high = grind (arith, ints)
 row_false : (r : ℤ) (f : Edge) → (r <ℤ f.0.y) ⊎ (f.1.y ≤ℤ r) → in_row r f ≡ false
 row_false r f (inl above) = grind (arith, ints)
 row_false r f (inr below) = grind (arith, ints)
-
-and_false : (b : Bool) → (b && false) ≡ false
-and_false true = refl
-and_false false = refl
-
-xor_none : (b : Bool) → xor b false ≡ b
-xor_none true = refl
-xor_none false = refl
-
-xor_self : (b : Bool) → xor b b ≡ false
-xor_self true = refl
-xor_self false = refl
 
 -- an edge that isn't level: how its ends and its rows at the height go together, for either kind of "to the right"
 module _ (v a b : Point) (rises : a.y <ℤ b.y) (side : ℤ → Bool) (point : ℤ → Bool)
@@ -136,7 +121,7 @@ module _ (v a b : Point) (rises : a.y <ℤ b.y) (side : ℤ → Bool) (point : �
       omega (arith, linear, at_start v a b, none_times (v.y -ℤ a.y) (b.x -ℤ a.x) (omega (arith, linear, e))) in
       ap₂ (λ s t. s && t) (row_true v.y (a, b) (omega (arith, linear, e)) (omega (arith, linear, e)))
       (ap side distance ∙ by_times a.x (b.y -ℤ a.y) h)
-      ∙ sym (ap (λ t. t && point a.x) (same_true a.y v.y e))
+      ∙ sym (ap (λ t. t && point a.x) (int_eq-same a.y v.y e))
 
   finish_here : b.y ≡ v.y → here (v.y -ℤ pos 1) ≡ at b
   finish_here e =
@@ -145,7 +130,7 @@ module _ (v a b : Point) (rises : a.y <ℤ b.y) (side : ℤ → Bool) (point : �
       omega (arith, linear, at_finish v a b, none_times (v.y -ℤ b.y) (b.x -ℤ a.x) (omega (arith, linear, e))) in
       ap₂ (λ s t. s && t) (row_true (v.y -ℤ pos 1) (a, b) (omega (arith, linear, e)) (omega (arith, linear, e)))
       (ap side distance ∙ by_times b.x (b.y -ℤ a.y) h)
-      ∙ sym (ap (λ t. t && point b.x) (same_true b.y v.y e))
+      ∙ sym (ap (λ t. t && point b.x) (int_eq-same b.y v.y e))
 
   both_rows : a.y <ℤ v.y → v.y <ℤ b.y → here v.y ≡ here (v.y -ℤ pos 1)
   both_rows low high = ap (λ t. t && side (right_of_point v (a, b)))
@@ -192,10 +177,10 @@ ends_from_here v f up = ⊎_elim
     (λ (e : f.0.y ≡ f.1.y).
     sym (ap₂ xor (ap₂ (λ s t. xor (s && int_le (pos 0) (right_of_point v f)) (t && int_le (pos 0) (right_of_point v f)))
     (level_no_row v.y f e) (level_no_row (v.y -ℤ pos 1) f e))
-    (ap (λ t. t && xor (from_here v f.0) (from_here v f.1)) (same_true f.0.y f.1.y e))))
+    (ap (λ t. t && xor (from_here v f.0) (from_here v f.1)) (int_eq-same f.0.y f.1.y e))))
     (λ (rises : f.0.y <ℤ f.1.y).
     rows_and_ends v f.0 f.1 rises (int_le (pos 0)) (int_le v.x) (λ z h positive. le_by_times z v.x h positive)
-    ∙ sym (xor_none (xor (from_on v.y v f) (from_on (v.y -ℤ pos 1) v f)))
+    ∙ sym (xor-false (xor (from_on v.y v f) (from_on (v.y -ℤ pos 1) v f)))
     ∙ ap (λ t. xor (xor (from_on v.y v f) (from_on (v.y -ℤ pos 1) v f)) (t && xor (from_here v f.0) (from_here v f.1)))
     (sym (same_false f.0.y f.1.y (λ e. omega (arith, linear, e)))))
     (level_or_rises f up)
@@ -206,10 +191,10 @@ ends_behind_here v f up = ⊎_elim
     (λ (e : f.0.y ≡ f.1.y).
     sym (ap₂ xor (ap₂ (λ s t. xor (s && int_lt (pos 0) (right_of_point v f)) (t && int_lt (pos 0) (right_of_point v f)))
     (level_no_row v.y f e) (level_no_row (v.y -ℤ pos 1) f e))
-    (ap (λ t. t && xor (behind_here v f.0) (behind_here v f.1)) (same_true f.0.y f.1.y e))))
+    (ap (λ t. t && xor (behind_here v f.0) (behind_here v f.1)) (int_eq-same f.0.y f.1.y e))))
     (λ (rises : f.0.y <ℤ f.1.y).
     rows_and_ends v f.0 f.1 rises (int_lt (pos 0)) (int_lt v.x) (λ z h positive. lt_by_times z v.x h positive)
-    ∙ sym (xor_none (xor (beyond v.y v f) (beyond (v.y -ℤ pos 1) v f)))
+    ∙ sym (xor-false (xor (beyond v.y v f) (beyond (v.y -ℤ pos 1) v f)))
     ∙ ap (λ t. xor (xor (beyond v.y v f) (beyond (v.y -ℤ pos 1) v f)) (t && xor (behind_here v f.0) (behind_here v f.1)))
     (sym (same_false f.0.y f.1.y (λ e. omega (arith, linear, e)))))
     (level_or_rises f up)
@@ -224,7 +209,7 @@ here_or_behind v u = by_test (int_eq u.y v.y)
         ∙ sym (same_false u.x v.x (λ e. omega (arith, linear, e))))
         (λ (le : u.x ≤ℤ v.x). ⊎_elim
         (λ (more : u.x <ℤ v.x). ap₂ xor (le_no more) (lt_no le) ∙ sym (same_false u.x v.x (λ e. omega (arith, linear, e))))
-        (λ (e : u.x ≡ v.x). ap₂ xor (le_yes (omega (arith, linear, e))) (lt_no le) ∙ sym (same_true u.x v.x e))
+        (λ (e : u.x ≡ v.x). ap₂ xor (le_yes (omega (arith, linear, e))) (lt_no le) ∙ sym (int_eq-same u.x v.x e))
         (below_or_same u.x v.x le))
         (below_or_not v.x u.x)
       where
@@ -246,7 +231,7 @@ here_or_behind v u = by_test (int_eq u.y v.y)
         and_true : (c : Bool) → (c && true) ≡ c
         and_true true = refl
         and_true false = refl
-    by_test false = sym (and_false (int_eq u.x v.x))
+    by_test false = sym (and-false (int_eq u.x v.x))
 
 regroup : (a b c d : Bool) → xor (xor a c) (xor b d) ≡ xor (xor a b) (xor c d)
 regroup false false c d = refl

@@ -2,11 +2,12 @@
 use Rattle.std.proofs.Common.{◌≡◌, Bool, true, false, not, ◌&&◌, [], ◌∷◌, ℤ, pos, ◌+ℤ◌, ◌-ℤ◌, ◌*ℤ◌, ◌≤ℤ◌, ◌<ℤ◌}
 use Rattle.std.proofs.Common.{refl, sym, ◌∙◌, ⊎_elim, arith}
 use Rattle.std.specs.Prelude.{int_lt}
-use Rattle.lay_point.proofs.Polynomials.{#, lit, ◌⊕◌, ◌⊖◌, ◌⊗◌, identity}
+use Rattle.lay_point.proofs.Polynomials.{#, identity, lit, swap_product, ◌⊕◌, ◌⊖◌, ◌⊗◌}
 use Rattle.lay_point.proofs.Signs.{below_or_not, linear, nonnegative_product, positive_product, times_le, times_lt, cancel_le, cancel_lt}
 use Rattle.lay_point.proofs.Tests.{false_le, le_false, le_true, lt_true, true_le, true_lt}
 use Rattle.lay_point.specs.declared.point.Point.{Point}
 use Rattle.lay_point.specs.Parity.{distance_right, is_crossed}
+use Rattle.lay_point.proofs.Products.{*ℤ_comm}
 use Rattle.snap_edge_laws.specs.Meeting.{MeetAtEnds}
 use Rattle.face_side_laws.proofs.Sides.{IsWithin, at_height, height_there, no_end_outside, not_on, right_of, scale_there}
 use Rattle.face_side_laws.proofs.Slide.{IsPlaceInside, rising_only, starts}
@@ -32,9 +33,6 @@ rises_in r e h = omega (arith, linear, h.low, h.high)
 row_scale : (z w : ℤ) → (pos 2 *ℤ w) *ℤ z ≡ w *ℤ (pos 2 *ℤ z)
 row_scale z w = identity (z ∷ w ∷ []) ((lit (pos 2) ⊗ # 1) ⊗ # 0) (# 1 ⊗ (lit (pos 2) ⊗ # 0)) refl
 
-turned_product : (a b : ℤ) → a *ℤ b ≡ b *ℤ a
-turned_product a b = identity (a ∷ b ∷ []) (# 0 ⊗ # 1) (# 1 ⊗ # 0) refl
-
 pub row_inside : (r : ℤ) (e : Point × Point) → Spans r e → IsPlaceInside e.0 e.1 (row_k e) (row_x r e) (row_y r e)
 row_inside r e h =
     let g = e.1.y -ℤ e.0.y in
@@ -49,8 +47,8 @@ row_inside r e h =
           ⊗ (# 3 ⊖ # 1)
           ⊕ ((lit (pos 2) ⊗ # 4 ⊕ lit (pos 1)) ⊗ (# 3 ⊖ # 1) ⊖ (lit (pos 2) ⊗ (# 3 ⊖ # 1)) ⊗ # 1) ⊗ (# 2 ⊖ # 0))
           (lit (pos 0)) refl;
-      above = omega (arith, linear, low, row_scale e.0.y g, turned_product (pos 2 *ℤ r +ℤ pos 1) g);
-      below = omega (arith, linear, high, row_scale e.1.y g, turned_product (pos 2 *ℤ r +ℤ pos 1) g);
+      above = omega (arith, linear, low, row_scale e.0.y g, *ℤ_comm (pos 2 *ℤ r +ℤ pos 1) g);
+      below = omega (arith, linear, high, row_scale e.1.y g, *ℤ_comm (pos 2 *ℤ r +ℤ pos 1) g);
     }
 
 -- ---- the order there
@@ -117,8 +115,8 @@ row_place r e h =
     let high = times_lt g (pos 2 *ℤ r +ℤ pos 1) (pos 2 *ℤ (r +ℤ pos 1)) positive (omega (arith, linear)) in
     record {
       scale = omega (arith, linear);
-      low = omega (arith, linear, low, row_scale r g, turned_product (pos 2 *ℤ r +ℤ pos 1) g);
-      high = omega (arith, linear, high, row_scale (r +ℤ pos 1) g, turned_product (pos 2 *ℤ r +ℤ pos 1) g);
+      low = omega (arith, linear, low, row_scale r g, *ℤ_comm (pos 2 *ℤ r +ℤ pos 1) g);
+      high = omega (arith, linear, high, row_scale (r +ℤ pos 1) g, *ℤ_comm (pos 2 *ℤ r +ℤ pos 1) g);
     }
 
 -- the place of f there, from e
@@ -239,15 +237,12 @@ apart_in_row r e f se sf meet same =
     }) (omega (arith, linear, row_right r e f, row_distance r f e, same))
 
 -- ---- fractions
-factors : (a b z : ℤ) → a *ℤ (b *ℤ z) ≡ b *ℤ (a *ℤ z)
-factors a b z = identity (a ∷ b ∷ z ∷ []) (# 0 ⊗ (# 1 ⊗ # 2)) (# 1 ⊗ (# 0 ⊗ # 2)) refl
-
 pub fraction_le : (kp xp km xm kq xq : ℤ) → pos 0 <ℤ kp → pos 0 <ℤ km → pos 0 <ℤ kq
     → (km *ℤ xp) ≤ℤ (kp *ℤ xm) → (kq *ℤ xm) ≤ℤ (km *ℤ xq) → (kq *ℤ xp) ≤ℤ (kp *ℤ xq)
 fraction_le kp xp km xm kq xq hp hm hq first second =
     let a = times_le kq (km *ℤ xp) (kp *ℤ xm) (omega (arith, linear)) first in
     let b = times_le kp (kq *ℤ xm) (km *ℤ xq) (omega (arith, linear)) second in
-    cancel_le km (kq *ℤ xp) (kp *ℤ xq) hm (omega (arith, linear, a, b, factors kq km xp, factors kq kp xm, factors kp km xq))
+    cancel_le km (kq *ℤ xp) (kp *ℤ xq) hm (omega (arith, linear, a, b, swap_product kq km xp, swap_product kq kp xm, swap_product kp km xq))
 
 pub fraction_lt : (kp xp km xm kq xq : ℤ) → pos 0 <ℤ kp → pos 0 <ℤ km → pos 0 <ℤ kq
     → (km *ℤ xp) <ℤ (kp *ℤ xm) → (kq *ℤ xm) <ℤ (km *ℤ xq) → (kq *ℤ xp) <ℤ (kp *ℤ xq)
@@ -259,7 +254,7 @@ fraction_lt kp xp km xm kq xq hp hm hq first second =
       linear,
       a,
       b,
-      factors kq km xp,
-      factors kq kp xm,
-      factors kp km xq,
+      swap_product kq km xp,
+      swap_product kq kp xm,
+      swap_product kp km xq,
     ))

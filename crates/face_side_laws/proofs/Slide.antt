@@ -3,7 +3,7 @@ use Rattle.std.proofs.Common.{◌≡◌, Bool, true, false, not, ◌&&◌, ◌||
 use Rattle.std.proofs.Common.{refl, sym, ap, ap₂, subst, ◌∙◌, ⊎_elim, arith}
 use Rattle.std.specs.Prelude.{int_le, int_lt}
 use Rattle.std.proofs.lemmas.Int.{ints}
-use Rattle.lay_point.proofs.Polynomials.{#, lit, ◌⊕◌, ◌⊖◌, ◌⊗◌, identity}
+use Rattle.lay_point.proofs.Polynomials.{#, identity, lit, swap_product, ◌⊕◌, ◌⊖◌, ◌⊗◌}
 use Rattle.lay_point.proofs.Signs.{below_or_not, linear, positive_product, times_le, times_lt, cancel_le, cancel_lt}
 use Rattle.lay_point.proofs.Tests.{false_le, le_false, le_true, lt_is_not_le, true_le}
 use Rattle.lay_point.specs.declared.point.Point.{Point}
@@ -11,6 +11,7 @@ use Rattle.lay_point.specs.Edges.{touches}
 use Rattle.lay_point.specs.Parity.{xor, parity, distance_right, is_crossed, is_crossed_rising}
 use Rattle.lay_point.proofs.Members.{Has}
 use Rattle.lay_point.proofs.Parity.{parity_agree, parity-xor, xor_self}
+use Rattle.lay_point.proofs.BoolLaws.{same_by_xor}
 use Rattle.snap_edge_laws.specs.Meeting.{MeetAtEnds}
 pub use Rattle.face_side_laws.specs.Slides.{AreUpward, IsPlaceInside}
 use Rattle.face_side_laws.proofs.EvenEnds.{even_ends}
@@ -197,11 +198,8 @@ slide_tests false false true false at at' first last up up' in_ in' both begins 
 slide_tests false false false false at at' first last up up' in_ in' both begins ends inside = refl
 
 -- between the heights of the two places, and to the right of the edge from a to b
-abbrev passes : Point → Point → ℤ → ℤ → ℤ → ℤ → Point → Bool
+abbrev pub passes : Point → Point → ℤ → ℤ → ℤ → ℤ → Point → Bool
 passes a b k y k' y' v = not (starts k y v) && starts k' y' v && int_lt (distance_right (pos 1) v.x v.y a b) (pos 0)
-
-factors : (k k' z : ℤ) → k *ℤ (k' *ℤ z) ≡ k' *ℤ (k *ℤ z)
-factors k k' z = identity (k ∷ k' ∷ z ∷ []) (# 0 ⊗ (# 1 ⊗ # 2)) (# 1 ⊗ (# 0 ⊗ # 2)) refl
 
 module _ (a b c d : Point) (k x y k' x' y' : ℤ) (rises : a.y <ℤ b.y) (up : c.y ≤ℤ d.y) (meet : MeetAtEnds (a, b) (c, d))
     (q : IsPlaceInside a b k x y) (q' : IsPlaceInside a b k' x' y') (order : (k' *ℤ y) ≤ℤ (k *ℤ y')) where
@@ -209,7 +207,7 @@ module _ (a b c d : Point) (k x y k' x' y' : ℤ) (rises : a.y <ℤ b.y) (up : c
   later : (v : Point) → starts k y v ≡ true → starts k' y' v ≡ true
   later v h =
       let low = times_le k' (k *ℤ v.y) y (omega (arith, linear, q'.scale)) (le_true (k *ℤ v.y) y h) in
-      true_le (k' *ℤ v.y) y' (cancel_le k (k' *ℤ v.y) y' (omega (arith, linear, q.scale)) (omega (arith, linear, factors k k' v.y)))
+      true_le (k' *ℤ v.y) y' (cancel_le k (k' *ℤ v.y) y' (omega (arith, linear, q.scale)) (omega (arith, linear, swap_product k k' v.y)))
 
   from_end : (k y : ℤ) → pos 1 ≤ℤ k → starts k y d ≡ true → starts k y c ≡ true
   from_end k y scale h =
@@ -291,12 +289,6 @@ module _ (a b : Point) (k x y k' x' y' : ℤ) (rises : a.y <ℤ b.y) (q : IsPlac
       high_out false t u e = rw e refl
 
 -- ---- of all edges together
-same_by_xor : (a b : Bool) → xor a b ≡ false → a ≡ b
-same_by_xor true true e = refl
-same_by_xor true false e = absurd cc
-same_by_xor false true e = absurd cc
-same_by_xor false false e = refl
-
 and_xor : (s a b : Bool) → xor (s && a) (s && b) ≡ (s && xor a b)
 and_xor true a b = refl
 and_xor false a b = refl
