@@ -3,27 +3,26 @@
 use Rattle.std.proofs.Common.{◌≡◌, ℕ, zero, suc, ◌<◌, Bool, true, false, not, ◌&&◌, ◌||◌, List, [], ◌∷◌}
 use Rattle.std.proofs.Common.{ℤ, pos, ◌+ℤ◌, ◌*ℤ◌, ◌<ℤ◌, refl, sym, ap, ap₂, ◌∙◌, ⊎_elim, arith}
 use Rattle.std.specs.Prelude.{int_lt}
-use Rattle.std.proofs.Common.{Decides}
-use Rattle.std.proofs.lemmas.Bool.Decides.{Decides-and, Decides-like}
 use Rattle.std.proofs.lemmas.Int.{ints}
 use Rattle.std.specs.Cmp.{both_ways}
-use Rattle.lay_point.specs.Same.{point_eq-Decides}
 use Rattle.lay_point.proofs.Polynomials.{#, lit, ◌⊕◌, ◌⊖◌, ◌⊗◌, identity}
 use Rattle.lay_point.proofs.Signs.{below_or_same, linear}
 use Rattle.lay_point.specs.declared.point.Point.{Point}
 use Rattle.lay_point.specs.Edges.{same_edge, touches}
 use Rattle.lay_point.specs.Parity.{xor, parity, distance_right, is_crossed}
 use Rattle.lay_point.proofs.Members.{Has}
-use Rattle.lay_point.proofs.Parity.{parity_agree, parity_none, parity-xor}
+use Rattle.lay_point.proofs.Parity.{parity-xor, parity_agree, parity_none, xor-false}
+use Rattle.lay_point.proofs.BoolLaws.{and-false, and_over_xor}
 use Rattle.snap_edge_laws.specs.Meeting.{MeetAtEnds}
 use Rattle.snap_chains.specs.declared.owner.Input.{Input}
 use Rattle.snap_chains.specs.declared.owner.Input.TheVariants.{First, Second}
 use Rattle.snap_chains.specs.declared.owner.Owner.{Owner}
 use Rattle.snap_chains.specs.Owners.{input_eq}
 use Rattle.snap_chains.specs.Rounded.{is_owner_listed}
+use Rattle.snap_chains.proofs.EdgeOrder.{edges_decide}
 use Rattle.face_rows.specs.Labels.{Item, answer_on, differs, differs_at, listed_shapes, odd_of, some_of}
-use Rattle.face_rows.proofs.Cuts.{AreDistinct, IsLeftmost, and_false_right, count_less, count_of}
-use Rattle.face_rows.proofs.Cuts.{leftmost, one_item, parity_of_one, row_positive, xor_false_right}
+use Rattle.face_rows.proofs.Cuts.{AreDistinct, IsLeftmost, count_less, count_of}
+use Rattle.face_rows.proofs.Cuts.{leftmost, one_item, parity_of_one, row_positive}
 use Rattle.face_side_laws.proofs.Rows.{IsLeft, Spans, apart_in_row, crossed_spans, fraction_lt, rises_in, row_distance}
 use Rattle.face_side_laws.proofs.Rows.{row_inside, row_k, row_place, row_x, row_y, spans_crossed}
 use Rattle.face_side_laws.proofs.Slide.{AreUpward, IsPlaceInside, rising_only, slide, starts}
@@ -33,29 +32,19 @@ pub record IsCut (r : ℤ) (items : List Item) (test : Item → Bool) : Type 0 w
   pub spans : (p : Item) → Has items p → test p ≡ true → Spans r p.0
   pub closed : (p q : Item) → Has items p → Has items q → test p ≡ true → Spans r q.0 → IsLeft r p.0 q.0 → test q ≡ true
 
-pub same_edge-Decides : (e f : Point × Point) → Decides (same_edge e f) (e ≡ f)
-same_edge-Decides e f =
-    Decides-like (same_edge e f) (λ both. λ i. (both.0 i, both.1 i))
-    (λ same. (ap (λ (g : Point × Point). g.0) same, ap (λ (g : Point × Point). g.1) same))
-    (Decides-and _ _ (point_eq-Decides e.0 f.0) (point_eq-Decides e.1 f.1))
-
 -- ---- no shape
 no_shape : (op : Bool → Bool → Bool) → op false false ≡ false → (shapes : List Owner) → answer_on op shapes (λ o. false) ≡ false
 no_shape op none shapes = ap₂ op (none_of First shapes) (none_of Second shapes) ∙ none
   where
     none_of : (i : Input) (os : List Owner) → some_of i os (λ o. false) ≡ false
     none_of i [] = refl
-    none_of i (o ∷ os) = ap₂ (λ a b. a || b) (and_false_right (input_eq o.input i)) (none_of i os)
+    none_of i (o ∷ os) = ap₂ (λ a b. a || b) (and-false (input_eq o.input i)) (none_of i os)
 
 pub true_false : (b : Bool) → b ≡ true → b ≡ false → ⊥
 true_false b e f = absurd cc
 
-and_split : (s a b : Bool) → (s && xor a b) ≡ xor (s && a) (s && b)
-and_split true a b = refl
-and_split false a b = refl
-
 cancel : (a b : Bool) → xor (xor a b) a ≡ b
-cancel false b = xor_false_right b
+cancel false b = xor-false b
 cancel true true = refl
 cancel true false = refl
 
@@ -131,16 +120,16 @@ module _ (op : Bool → Bool → Bool) (none : op false false ≡ false) (items 
       where
         by_same : (s : Bool) → same_edge p.0 m.0 ≡ s → test p ≡ xor s (right p)
         by_same true e =
-            let same = (same_edge-Decides p.0 m.0).0 e in
+            let same = (edges_decide p.0 m.0).0 e in
             ap test (one_item items p m distinct given left.given same) ∙ left.passes ∙ ap not (sym (not_right p same))
         by_same false e =
-            both_ways (test p) (right p) (to_right p given (λ same. true_false (same_edge p.0 m.0) ((same_edge-Decides p.0 m.0).1 same) e))
+            both_ways (test p) (right p) (to_right p given (λ same. true_false (same_edge p.0 m.0) ((edges_decide p.0 m.0).1 same) e))
             (from_right p given)
 
     split_parity : (g : Item → Bool) → parity (λ p. g p && test p) items ≡ xor (g m) (parity (λ p. g p && right p) items)
     split_parity g =
         parity_agree (λ p. g p && test p) (λ p. xor (g p && same_edge p.0 m.0) (g p && right p)) items
-        (λ p given. ap (λ b. g p && b) (split p given) ∙ and_split (g p) (same_edge p.0 m.0) (right p))
+        (λ p given. ap (λ b. g p && b) (split p given) ∙ and_over_xor (g p) (same_edge p.0 m.0) (right p))
         ∙ parity-xor (λ p. g p && same_edge p.0 m.0) (λ p. g p && right p) items
         ∙ ap (λ b. xor b (parity (λ p. g p && right p) items)) (parity_of_one g items m distinct left.given)
 
@@ -178,9 +167,9 @@ module _ (op : Bool → Bool → Bool) (none : op false false ≡ false) (items 
       ∙ sym (λ i. answer_on op shapes (λ o. shapes_split o i)))
       (λ (empty : (q : Item) → Has items q → test q ≡ false).
       parity_none (λ p. differs op items p && test p) items (λ p given. ap (λ b. differs op items p && b) (empty p given)
-      ∙ and_false_right (differs op items p))
+      ∙ and-false (differs op items p))
       ∙ sym ((λ i. answer_on op shapes (λ o.
       parity_none (λ p. is_owner_listed o p.1 && test p) items (λ p given. ap (λ b. is_owner_listed o p.1 && b) (empty p given)
-      ∙ and_false_right (is_owner_listed o p.1)) i))
+      ∙ and-false (is_owner_listed o p.1)) i))
       ∙ no_shape op none shapes))
       (leftmost r test items cut.spans)

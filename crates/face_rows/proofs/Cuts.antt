@@ -8,7 +8,8 @@ use Rattle.lay_point.specs.Edges.{same_edge}
 use Rattle.lay_point.specs.Parity.{xor, parity}
 use Rattle.lay_point.proofs.EdgeOrder.{edges_decide}
 use Rattle.lay_point.proofs.Members.{Has}
-use Rattle.lay_point.proofs.Parity.{parity_none}
+use Rattle.lay_point.proofs.Parity.{parity_none, xor-false}
+use Rattle.lay_point.proofs.BoolLaws.{and-false, and-true}
 use Rattle.face_rows.specs.Labels.{Item}
 use Rattle.face_side_laws.proofs.Rows.{Spans, fraction_le}
 use Rattle.face_side_laws.proofs.Rows.{row_k, row_x}
@@ -25,30 +26,18 @@ one_item (r ∷ rs) p q h (inl e) (inr n) same = absurd (h.0 q n (ap (λ (z : It
 one_item (r ∷ rs) p q h (inr m) (inl f) same = absurd (h.0 p m (ap (λ (z : Item). z.0) f ∙ sym same))
 one_item (r ∷ rs) p q h (inr m) (inr n) same = one_item rs p q h.1 m n same
 
-pub and_false_right : (b : Bool) → (b && false) ≡ false
-and_false_right true = refl
-and_false_right false = refl
-
-pub and_true_right : (b : Bool) → (b && true) ≡ b
-and_true_right true = refl
-and_true_right false = refl
-
-pub xor_false_right : (b : Bool) → xor b false ≡ b
-xor_false_right true = refl
-xor_false_right false = refl
-
 -- a parity over the one item with the edge is the item's own
 pub parity_of_one : (test : Item → Bool) (ps : List Item) (m : Item) → AreDistinct ps → Has ps m
     → parity (λ p. test p && same_edge p.0 m.0) ps ≡ test m
 parity_of_one test [] m h given = absurd given
 parity_of_one test (p ∷ ps) m h (inl e) =
-    ap₂ xor (ap (λ b. test p && b) (subst (λ z. same_edge p.0 z.0 ≡ true) e (edges_decide.itself p.0)) ∙ and_true_right (test p)
+    ap₂ xor (ap (λ b. test p && b) (subst (λ z. same_edge p.0 z.0 ≡ true) e (edges_decide.itself p.0)) ∙ and-true (test p)
     ∙ ap test e)
     (parity_none (λ q. test q && same_edge q.0 m.0) ps (λ q n.
-    ap (λ b. test q && b) (edges_decide.apart q.0 m.0 (λ same. h.0 q n (ap (λ (z : Item). z.0) e ∙ sym same))) ∙ and_false_right (test q)))
-    ∙ xor_false_right (test m)
+    ap (λ b. test q && b) (edges_decide.apart q.0 m.0 (λ same. h.0 q n (ap (λ (z : Item). z.0) e ∙ sym same))) ∙ and-false (test q)))
+    ∙ xor-false (test m)
 parity_of_one test (p ∷ ps) m h (inr given) =
-    ap₂ xor (ap (λ b. test p && b) (edges_decide.apart p.0 m.0 (h.0 m given)) ∙ and_false_right (test p))
+    ap₂ xor (ap (λ b. test p && b) (edges_decide.apart p.0 m.0 (h.0 m given)) ∙ and-false (test p))
     (parity_of_one test ps m h.1 given)
 
 -- ---- counted

@@ -1,10 +1,10 @@
 -- Behind a gap of a row are the edges that are right of a place; so the shapes that an odd number of them lists are those
 -- that hold at the place.
-use Rattle.std.proofs.Common.{◌≡◌, ◌≢◌, inl, inr, ℕ, zero, suc, ◌+◌, ◌<◌, ◌≤◌, Bool, true, false, ◌&&◌, ◌||◌, List, [], ◌∷◌}
+use Rattle.std.proofs.Common.{◌≡◌, ◌≢◌, inl, inr, ℕ, zero, suc, ◌+◌, ◌<◌, ◌≤◌, Bool, true, false, ◌&&◌, List, [], ◌∷◌}
 use Rattle.std.proofs.Common.{length, get_or, drop, Contains, ℤ, pos, ◌*ℤ◌, ◌<ℤ◌, refl, sym, ap, ap₂, subst, ◌∙◌, ⊎_elim, arith}
 use Rattle.std.specs.Prelude.{int_le, int_lt, nat_eq}
 use Rattle.std.specs.List.{list_any, zip}
-use Rattle.std.proofs.lemmas.Bool.{and_from, cases_lt, or_cases, or_right}
+use Rattle.std.proofs.lemmas.Bool.{and_from, cases_lt}
 use Rattle.std.proofs.lemmas.Bool.Decides.{Decides-eqb}
 use Rattle.std.proofs.lemmas.List.{get_or_default}
 use Rattle.std.specs.Cmp.{both_ways}
@@ -17,6 +17,8 @@ use Rattle.lay_point.specs.Rising.{IsRising}
 use Rattle.lay_point.proofs.Members.{Has, contains, has}
 use Rattle.lay_point.proofs.Parity.{IsEquality, parity_of_occurrences}
 use Rattle.lay_point.proofs.Rising.{IsStrictOrder, rising_rest}
+use Rattle.lay_point.proofs.ListLaws.{before_by_number, has_get, has_number, number_has}
+use Rattle.lay_point.proofs.NumberLaws.{numbers_are_strict}
 use Rattle.face_side_laws.proofs.Rows.{IsInRow, Spans, beside, crossed_spans, fraction_lt, right_in_row, spans_crossed}
 use Rattle.face_rows.proofs.UpwardLemmas.{up_crossed, up_meet, up_rises}
 use Rattle.snap_chains.specs.declared.owner.Owner.{Owner}
@@ -25,7 +27,7 @@ use Rattle.face_rows.specs.Labels.{Item, odd_of, owned_items}
 use Rattle.face_rows.specs.Lines.{edge_at, nowhere, owners_at}
 use Rattle.face_rows.specs.Rows.{AreRowEdges, CrossesRow, IsLeftOf, crosses_row, crossing, rise, upward}
 use Rattle.face_rows.proofs.OwnerLemmas.{parity_any}
-use Rattle.face_rows.proofs.RowLemmas.{before_by_number, has_get, other_edge, spans_of}
+use Rattle.face_rows.proofs.RowLemmas.{other_edge, spans_of}
 
 -- ---- lists by number
 drop_has : (xs : List ℕ) (gap i : ℕ) → gap ≤ i → i < length xs → Has (drop gap xs) (get_or xs i 0)
@@ -63,19 +65,16 @@ rising_drop Before (x ∷ xs) zero h = h
 rising_drop Before (x ∷ xs) (suc gap) h = rising_drop Before xs gap (rising_rest Before x xs h)
 
 -- the numbers from n on
-abbrev numbers_from : ℕ → List (Point × Point) → List ℕ
+abbrev pub numbers_from : ℕ → List (Point × Point) → List ℕ
 numbers_from n [] = []
 numbers_from n (e ∷ es) = n ∷ numbers_from (n + 1) es
 
-below_rising : (n : ℕ) (es : List (Point × Point)) → IsRising (λ m k. m < k) (numbers_from n es)
+pub below_rising : (n : ℕ) (es : List (Point × Point)) → IsRising (λ m k. m < k) (numbers_from n es)
 below_rising n [] = tt
 below_rising n (e ∷ []) = tt
 below_rising n (e ∷ f ∷ es) = (omega arith, below_rising (n + 1) (f ∷ es))
 
-below_strict : IsStrictOrder (λ (m k : ℕ). m < k)
-below_strict = record { irreflexive = λ m h. omega arith; transitive = λ m k l h g. omega arith }
-
-numbers_have : (n : ℕ) (es : List (Point × Point)) (i : ℕ) → i < length es → Has (numbers_from n es) (n + i)
+pub numbers_have : (n : ℕ) (es : List (Point × Point)) (i : ℕ) → i < length es → Has (numbers_from n es) (n + i)
 numbers_have n [] i less = absurd (omega arith)
 numbers_have n (e ∷ es) zero less = inl (omega arith)
 numbers_have n (e ∷ es) (suc i) less =
@@ -88,7 +87,7 @@ numbers_in n (e ∷ es) m (inl same) = (zero, omega arith, omega arith)
 numbers_in n (e ∷ es) m (inr h) = let g = numbers_in (n + 1) es m h in (suc g.0, omega (arith, g.1), omega (arith, g.2))
 
 -- a parity over items is one over their numbers
-by_number : (f : Item → Bool) (g : ℕ → Bool) (n : ℕ) (es : List (Point × Point)) (os : List (List Owner)) → length os ≡ length es
+pub by_number : (f : Item → Bool) (g : ℕ → Bool) (n : ℕ) (es : List (Point × Point)) (os : List (List Owner)) → length os ≡ length es
     → ((i : ℕ) → i < length es → g (n + i) ≡ f (get_or es i nowhere, get_or os i [])) → parity g (numbers_from n es) ≡ parity f (zip es os)
 by_number f g n [] os count same = refl
 by_number f g n (e ∷ es) [] count same = absurd (omega arith)
@@ -107,16 +106,6 @@ nat_equality = record {
     by_test : (b : Bool) {m n : ℕ} → ¬ (m ≡ n) → (b ≡ true → m ≡ n) → b ≡ false
     by_test true other same = absurd (other (same refl))
     by_test false other same = refl
-
-any_has : (xs : List ℕ) (n : ℕ) → list_any (nat_eq n) xs ≡ true → Has xs n
-any_has [] n e = absurd cc
-any_has (x ∷ xs) n e = ⊎_elim (λ (here : nat_eq n x ≡ true). inl (sym ((Decides-eqb n x).0 here)))
-    (λ (there : list_any (nat_eq n) xs ≡ true). inr (any_has xs n there)) (or_cases (nat_eq n x) (list_any (nat_eq n) xs) e)
-
-has_any : (xs : List ℕ) (n : ℕ) → Has xs n → list_any (nat_eq n) xs ≡ true
-has_any [] n m = absurd m
-has_any (x ∷ xs) n (inl same) = ap (λ b. b || list_any (nat_eq n) xs) ((Decides-eqb n x).1 (sym same))
-has_any (x ∷ xs) n (inr m) = or_right (nat_eq n x) (list_any (nat_eq n) xs) (has_any xs n m)
 
 -- ---- the order of a row
 -- both cross the row, and the first does so left of the second
@@ -217,7 +206,7 @@ module _ (r : Owned) (rising : IsRising IsEdgeBefore r.0) (paired : length r.1 �
         (subst (IsBeforeIn r.0 row l) (sym same ∙ (Decides-eqb n l).0 t) h)))
         ∙ both_ways (list_any (nat_eq n) (drop gap numbers)) (is_crossed k x y (edge_at r n))
         (λ t.
-        let found = has_drop numbers gap n (any_has (drop gap numbers) n t) in
+        let found = has_drop numbers gap n (number_has (drop gap numbers) n t) in
         let i = found.1 in
         let f = edge_at r n in
         let there : right n ≡ true = subst (λ k. right k ≡ true) i.is (behind found.0 i.behind i.inside) in
@@ -236,7 +225,7 @@ module _ (r : Owned) (rising : IsRising IsEdgeBefore r.0) (paired : length r.1 �
               (get_or_default r.0 n nowhere d inside) (spans_test row f c.0),
         ))) in
         let i = member.1 in
-        has_any (drop gap numbers) n (⊎_elim
+        has_number (drop gap numbers) n (⊎_elim
         (λ (less : member.0 < gap). absurd (front member.0 less i.inside bound (subst (λ k. right k ≡ true) (sym i.is) there)))
         (λ (le : gap ≤ member.0). subst (Has (drop gap numbers)) i.is (drop_has numbers gap member.0 le i.inside))
         (cases_lt member.0 gap)))
@@ -248,7 +237,7 @@ module _ (r : Owned) (rising : IsRising IsEdgeBefore r.0) (paired : length r.1 �
     pub odd_behind : gap ≤ length numbers → (o : Owner)
         → parity (λ n. is_owner_listed o (owners_at r n)) (drop gap numbers) ≡ odd_of (owned_items r) o k x y
     odd_behind bound o =
-        sym (parity_of_occurrences (λ m n. m < n) below_strict nat_eq nat_equality
+        sym (parity_of_occurrences (λ m n. m < n) numbers_are_strict nat_eq nat_equality
         (λ n. is_owner_listed o (owners_at r n)) (numbers_from 0 r.0)
         (drop gap numbers) (below_rising 0 r.0) given)
         ∙ by_number (λ p. is_owner_listed o p.1 && is_crossed k x y p.0)

@@ -1,6 +1,7 @@
 pub mod BandLemmas
 pub mod CutLaw
 pub mod Cuts
+pub mod ItemLemmas
 pub mod JudgeLemmas
 pub mod NearLemmas
 pub mod OwnerLemmas

@@ -9,12 +9,12 @@ use Rattle.lay_point.specs.Parity.{xor, parity}
 use Rattle.lay_point.proofs.Members.{Has}
 use Rattle.lay_point.proofs.Parity.{parity-append, parity_none, xor-false, xor_assoc, xor_comm}
 use Rattle.lay_point.proofs.Rising.{IsStrictOrder, before_rest, rising_rest}
+use Rattle.lay_point.proofs.ListLaws.{any_true, has_get}
 use Rattle.snap_chains.specs.declared.owner.Owner.{Owner}
 use Rattle.snap_chains.specs.Owners.{IsOwnerBefore, input_eq, owner_eq}
 use Rattle.snap_chains.specs.Rounded.{is_owner_listed}
-use Rattle.face_rows.proofs.Shapes.{any_true, input_itself, same_owner}
+use Rattle.face_rows.proofs.Shapes.{input_itself, same_owner}
 use Rattle.snap_chains.proofs.OwnerOrder.{owners_are_strict}
-use Rattle.face_rows.proofs.RowLemmas.{has_get}
 
 pub owner_itself : (o : Owner) → owner_eq o o ≡ true
 owner_itself o = both (input_eq o.input o.input) (input_itself o.input) ((Decides-eqb o.shape o.shape).1 refl)

@@ -22,7 +22,7 @@ use Rattle.lay_point.specs.Edges.{IsEdgeBefore}
 use Rattle.lay_point.specs.Rising.{IsRising}
 use Rattle.lay_point.proofs.EdgeOrder.{edges_are_strict}
 use Rattle.lay_point.proofs.Members.{Has, contains, has}
-use Rattle.lay_point.proofs.Rising.{IsStrictOrder, before_rest, rising_rest}
+use Rattle.lay_point.proofs.ListLaws.{before_by_number, has_get}
 use Rattle.face_side_laws.proofs.Rows.{Spans, apart_in_row, fraction_le}
 use Rattle.face_rows.proofs.UpwardLemmas.{up_meet}
 use Rattle.snap_chains.specs.Rounded.{AreClean}
@@ -41,20 +41,6 @@ spans_of row e h =
     record { low = le_true (upward e).0.y row both.0; high = lt_true row (upward e).1.y both.1 }
 
 -- ---- elements by number
-pub has_get : {A : Type 0} (xs : List A) (n : ℕ) (d : A) → n < length xs → Has xs (get_or xs n d)
-has_get [] n d less = absurd (omega arith)
-has_get (x ∷ xs) zero d less = inl refl
-has_get (x ∷ xs) (suc n) d less = inr (has_get xs n d (omega arith))
-
-pub before_by_number : {A : Type 0} (Before : A → A → Type 0) → IsStrictOrder Before → (xs : List A) (m n : ℕ) (d : A)
-    → IsRising Before xs → m < n → n < length xs → Before (get_or xs m d) (get_or xs n d)
-before_by_number Before laws [] m n d h less inside = absurd (omega arith)
-before_by_number Before laws (x ∷ xs) m zero d h less inside = absurd (omega arith)
-before_by_number Before laws (x ∷ xs) zero (suc n) d h less inside =
-    before_rest Before laws x xs (get_or xs n d) h (has_get xs n d (omega arith))
-before_by_number Before laws (x ∷ xs) (suc m) (suc n) d h less inside =
-    before_by_number Before laws xs m n d (rising_rest Before x xs h) (omega arith) (omega arith)
-
 -- different numbers are of different edges
 pub other_edge : (edges : List (Point × Point)) (m n : ℕ) (d : Point × Point) → IsRising IsEdgeBefore edges → m ≢ n
     → m < length edges → n < length edges → ¬ (get_or edges m d ≡ get_or edges n d)

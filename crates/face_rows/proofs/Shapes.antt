@@ -1,16 +1,18 @@
 -- Owners that are the same, and those that are listed. A shape with an odd parity is listed; so an input holds where some shape of
 -- it does.
-use Rattle.std.proofs.Common.{◌≡◌, inl, inr, Bool, true, false, ◌&&◌, ◌||◌, List, [], ◌∷◌, ◌==◌, refl, sym, ap, subst, ◌∙◌, ⊎_elim}
+use Rattle.std.proofs.Common.{◌≡◌, inl, inr, Bool, true, false, ◌&&◌, List, [], ◌∷◌, ◌==◌, refl, sym, ap, subst, ◌∙◌, ⊎_elim}
 use Rattle.std.specs.List.{list_any}
 use Rattle.std.proofs.lemmas.Bool.{and_parts, or_cases}
 use Rattle.std.proofs.lemmas.Bool.Decides.{Decides-eqb}
 use Rattle.lay_point.specs.Parity.{xor, parity, is_crossed}
 use Rattle.lay_point.proofs.Members.{Has, has-append_left, has-append_right}
+use Rattle.lay_point.proofs.ListLaws.{any_true}
 use Rattle.snap_chains.specs.declared.owner.Input.{Input}
 use Rattle.snap_chains.specs.declared.owner.Input.TheVariants.{First, Second}
 use Rattle.snap_chains.specs.declared.owner.Owner.{Owner}
 use Rattle.snap_chains.specs.Owners.{input_eq, owner_eq}
 use Rattle.snap_chains.specs.Rounded.{is_owner_listed}
+use Rattle.snap_chains.proofs.RoundLemmas.{listed_has}
 use Rattle.face_rows.specs.Labels.{Item, listed_shapes, odd_of, owned_items}
 use Rattle.face_rows.specs.Laws.{InputsAreTheirShapes}
 
@@ -31,11 +33,6 @@ same_owner o p e =
     let second = (Decides-eqb o.shape p.shape).0 both.1 in
     λ i. record { input = first i; shape = second i }
 
-pub listed_has : (o : Owner) (os : List Owner) → is_owner_listed o os ≡ true → Has os o
-listed_has o [] e = absurd cc
-listed_has o (p ∷ os) e = ⊎_elim (λ (here : owner_eq p o ≡ true). inl (same_owner p o here))
-    (λ (there : is_owner_listed o os ≡ true). inr (listed_has o os there)) (or_cases (owner_eq p o) (is_owner_listed o os) e)
-
 -- an odd number is one at least
 odd_has : (test : Item → Bool) (items : List Item) → parity test items ≡ true → (p : Item) × Has items p × (test p ≡ true)
 odd_has test [] e = absurd cc
@@ -46,19 +43,10 @@ odd_has test (p ∷ ps) e = by_test (test p) refl e (λ f. odd_has test ps f)
     by_test true t f further = (p, inl refl, t)
     by_test false t f further = let r = further f in (r.0, inr r.1, r.2)
 
-shapes_have : (items : List Item) (p : Item) (o : Owner) → Has items p → Has p.1 o → Has (listed_shapes items) o
+pub shapes_have : (items : List Item) (p : Item) (o : Owner) → Has items p → Has p.1 o → Has (listed_shapes items) o
 shapes_have [] p o m n = absurd m
 shapes_have (q ∷ qs) p o (inl same) n = has-append_left q.1 (listed_shapes qs) o (subst (λ (z : Item). Has z.1 o) (sym same) n)
 shapes_have (q ∷ qs) p o (inr m) n = has-append_right q.1 (listed_shapes qs) o (shapes_have qs p o m n)
-
-pub any_true : {A : Type 0} (test : A → Bool) (xs : List A) (x : A) → Has xs x → test x ≡ true → list_any test xs ≡ true
-any_true test [] x m t = absurd m
-any_true test (y ∷ ys) x (inl same) t = ap (λ b. b || list_any test ys) (ap test same ∙ t)
-any_true test (y ∷ ys) x (inr m) t = later (test y) (any_true test ys x m t)
-  where
-    later : (a : Bool) {b : Bool} → b ≡ true → (a || b) ≡ true
-    later true h = refl
-    later false h = h
 
 true_any : (test : Owner → Bool) (os : List Owner) → list_any test os ≡ true → (o : Owner) × (test o ≡ true)
 true_any test [] e = absurd cc

@@ -2,7 +2,6 @@
 use Rattle.std.proofs.Common.{◌≡◌, ◌⊎◌, inl, inr, Bool, true, false, ◌&&◌, cond, List, [], ◌∷◌, map}
 use Rattle.std.proofs.Common.{ℤ, pos, ◌+ℤ◌, ◌-ℤ◌, ◌*ℤ◌, ◌≤ℤ◌, ◌<ℤ◌, refl, sym, ap, subst, ◌∙◌, ⊎_elim, arith}
 use Rattle.std.specs.Prelude.{int_le, int_lt}
-use Rattle.std.specs.List.{zip}
 use Rattle.std.proofs.lemmas.Int.{ints}
 use Rattle.lay_point.proofs.Polynomials.{#, lit, ◌⊕◌, ◌⊗◌, identity}
 use Rattle.lay_point.proofs.Signs.{below_or_not, linear}
@@ -12,35 +11,20 @@ use Rattle.lay_point.specs.Parity.{parity, is_crossed}
 use Rattle.lay_point.proofs.EdgeOrder.{before_by_test, before_is_strict}
 use Rattle.lay_point.proofs.Members.{Has, contains}
 use Rattle.lay_point.proofs.Parity.{parity-map, parity_agree}
+use Rattle.lay_point.proofs.ListLaws.{has-map, map-has}
 use Rattle.snap_edge_laws.specs.Meeting.{MeetAtEnds}
 use Rattle.face_side_laws.specs.Slides.{AreUpward, IsPlaceInside}
 use Rattle.face_side_laws.proofs.Rows.{Spans, rises_in, row_inside, row_k, row_x, row_y}
 use Rattle.face_side_laws.proofs.Slide.{slide}
 use Rattle.snap_chains.specs.declared.owner.Owner.{Owner}
 use Rattle.snap_chains.specs.Rounded.{AreClean, AreEven, Owned, is_owner_listed}
+use Rattle.snap_chains.proofs.EdgeOrder.{edges_decide}
 use Rattle.face_rows.specs.Labels.{Item, odd_of, owned_items}
 use Rattle.face_rows.specs.Laws.{AreLesserFirst}
-use Rattle.face_rows.proofs.CutLaw.{same_edge-Decides}
 use Rattle.face_rows.proofs.UpwardLemmas.{either, up_crossed, up_meet, up_rises, up_touches}
 use Rattle.face_rows.specs.Rows.{upward}
 use Rattle.face_rows.proofs.NearLemmas.{at_k, at_x, at_y, near, near_inside, near_k, weight, weight_of}
-
-has_upward : (items : List Item) (q : Item) → Has (map (λ (p : Item). (upward p.0, p.1)) items) q → (p : Item) × Has items p
-    × ((upward p.0, p.1) ≡ q)
-has_upward [] q m = absurd m
-has_upward (p ∷ ps) q (inl same) = (p, inl refl, same)
-has_upward (p ∷ ps) q (inr m) = let r = has_upward ps q m in (r.0, inr r.1, r.2)
-
-pub has_map : {A B : Type 0} (f : A → B) (xs : List A) (x : A) → Has xs x → Has (map f xs) (f x)
-has_map f [] x m = absurd m
-has_map f (y ∷ ys) x (inl same) = inl (ap f same)
-has_map f (y ∷ ys) x (inr m) = inr (has_map f ys x m)
-
-pub zip_first : (es : List (Point × Point)) (os : List (List Owner)) (p : Item) → Has (zip es os) p → Has es p.0
-zip_first [] os p m = absurd m
-zip_first (e ∷ es) [] p m = absurd m
-zip_first (e ∷ es) (o ∷ os) p (inl same) = inl (ap (λ (q : Item). q.0) same)
-zip_first (e ∷ es) (o ∷ os) p (inr m) = inr (zip_first es os p m)
+use Rattle.face_rows.proofs.ItemLemmas.{zip_first}
 
 module _ (r : Owned) (even : AreEven r) (clean : AreClean r.0) (lesser : AreLesserFirst r.0) where
   abbrev items : List Item
@@ -62,22 +46,22 @@ module _ (r : Owned) (even : AreEven r) (clean : AreClean r.0) (lesser : AreLess
 
   are_upward : AreUpward risen
   are_upward = record {
-    rises = λ q m. let p = has_upward items q m in subst (λ (z : Item). z.0.0.y ≤ℤ z.0.1.y) p.2 (up_rises p.0.0);
+    rises = λ q m. let p = map-has (λ (p : Item). (upward p.0, p.1)) items q m in subst (λ (z : Item). z.0.0.y ≤ℤ z.0.1.y) p.2 (up_rises p.0.0);
     proper = λ q m.
-        let p = has_upward items q m in
+        let p = map-has (λ (p : Item). (upward p.0, p.1)) items q m in
         subst (λ (z : Item). ¬ (z.0.0 ≡ z.0.1)) p.2 (upward_proper p.0.0 (proper p.0.0 (zip_first r.0 r.1 p.0 p.1)));
     meets = λ q s m n.
-        let p = has_upward items q m in
-        let t = has_upward items s n in
+        let p = map-has (λ (p : Item). (upward p.0, p.1)) items q m in
+        let t = map-has (λ (p : Item). (upward p.0, p.1)) items s n in
         let two = both p.0.0 t.0.0 (zip_first r.0 r.1 p.0 p.1) (zip_first r.0 r.1 t.0 t.1) (same_edge p.0.0 t.0.0) refl in
         coe 0 1 (i. ((p.2 i).0 ≡ (t.2 i).0) ⊎ MeetAtEnds (p.2 i).0 (t.2 i).0) two;
   }
     where
       both : (e f : Point × Point) → Has r.0 e → Has r.0 f → (b : Bool) → same_edge e f ≡ b
           → (upward e ≡ upward f) ⊎ MeetAtEnds (upward e) (upward f)
-      both e f m n true t = inl (ap upward ((same_edge-Decides e f).0 t))
+      both e f m n true t = inl (ap upward ((edges_decide e f).0 t))
       both e f m n false t = inr (up_meet e f (clean e f (contains r.0 e m) (contains r.0 f n) (λ same.
-          let t' = (same_edge-Decides e f).1 same in absurd cc)))
+          let t' = (edges_decide e f).1 same in absurd cc)))
 
   even_upward : (o : Owner) (v : Point) → parity (λ p. is_owner_listed o p.1 && touches v p.0) risen ≡ false
   even_upward o v =
@@ -116,7 +100,7 @@ module _ (r : Owned) (even : AreEven r) (clean : AreClean r.0) (lesser : AreLess
       let b = (upward p.0).1 in
       sym (odd_upward o k x y)
       ∙ slide risen are_upward (is_owner_listed o) (even_upward o) (upward p.0, p.1)
-      (has_map (λ (q : Item). (upward q.0, q.1)) items p m) rises
+      (has-map (λ (q : Item). (upward q.0, q.1)) items p m) rises
       k x y (near_k (pos 1)) (near (pos 1) a.x b.x) (near (pos 1) a.y b.y) q (near_inside (pos 1) a b rises (omega (arith, linear)))
       ∙ odd_upward o (near_k (pos 1)) (near (pos 1) a.x b.x) (near (pos 1) a.y b.y)
       ∙ sym (at_midpoint o p.0)

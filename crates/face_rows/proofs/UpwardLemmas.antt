@@ -1,5 +1,5 @@
 -- The edges of rounded inputs, each from its lower end to its upper one: what is crossed, listed and labelled is the same.
-use Rattle.std.proofs.Common.{Contains, ◌≡◌, ◌⊎◌, inl, inr, Bool, true, false, ◌&&◌, ◌||◌, cond, List, [], ◌∷◌, ◌++◌, map, filter}
+use Rattle.std.proofs.Common.{Contains, ◌≡◌, ◌⊎◌, inl, inr, Bool, true, false, ◌&&◌, cond, List, [], ◌∷◌, ◌++◌, map, filter}
 use Rattle.std.proofs.Common.{ℤ, pos, ◌+ℤ◌, ◌≤ℤ◌, refl, sym, ap, ap₂, subst, ◌∙◌, arith}
 use Rattle.std.specs.Prelude.{int_le}
 use Rattle.std.specs.List.{zip}
@@ -13,18 +13,22 @@ use Rattle.lay_point.proofs.EdgeOrder.{before_by_test, before_is_strict, edges_a
 use Rattle.lay_point.proofs.Members.{Has, has, contains}
 use Rattle.lay_point.proofs.Parity.{parity-map, parity_agree}
 use Rattle.lay_point.proofs.Rising.{before_rest, rising_rest}
+use Rattle.lay_point.proofs.BoolLaws.{or_comm}
+use Rattle.lay_point.proofs.Products.{+ℤ_comm}
+use Rattle.lay_point.proofs.ListLaws.{map-has}
 use Rattle.snap_edge_laws.specs.Meeting.{MeetAtEnds}
 use Rattle.snap_chains.specs.declared.owner.Owner.{Owner}
 use Rattle.snap_chains.specs.Rounded.{AreClean, IsRounded, Owned, is_owner_listed}
+use Rattle.snap_chains.proofs.EdgeOrder.{edges_decide}
 use Rattle.face_rows.specs.Labels.{Item, answer_at, answer_on, differs, differs_at, edges_of_operation, listed_shapes, odd_of}
 use Rattle.face_rows.specs.Labels.{owned_items}
 use Rattle.face_rows.specs.Laws.{AreLesserFirst}
-use Rattle.face_rows.proofs.CutLaw.{same_edge-Decides}
 use Rattle.face_rows.proofs.Cuts.{AreDistinct}
 use Rattle.face_rows.proofs.Places.{place_law}
 use Rattle.face_side_laws.proofs.Sides.{meet_first, meet_second}
 use Rattle.face_side_laws.proofs.Slide.{AreUpward}
 use Rattle.face_rows.proofs.Vertex.{even_law}
+use Rattle.face_rows.proofs.ItemLemmas.{zip_first}
 
 -- from the lower end to the upper one
 abbrev pub up : Point × Point → Point × Point
@@ -41,17 +45,11 @@ either f same e = by_test (int_le e.0.y e.1.y)
     by_test true = refl
     by_test false = same e.1 e.0
 
-or_turned : (a b : Bool) → (a || b) ≡ (b || a)
-or_turned true true = refl
-or_turned true false = refl
-or_turned false true = refl
-or_turned false false = refl
-
 pub up_crossed : (k x y : ℤ) (e : Point × Point) → is_crossed k x y (up e) ≡ is_crossed k x y e
-up_crossed k x y = either (is_crossed k x y) (λ a b. or_turned (is_crossed_rising k x y a b) (is_crossed_rising k x y b a))
+up_crossed k x y = either (is_crossed k x y) (λ a b. or_comm (is_crossed_rising k x y a b) (is_crossed_rising k x y b a))
 
 pub up_touches : (v : Point) (e : Point × Point) → touches v (up e) ≡ touches v e
-up_touches v = either (touches v) (λ a b. or_turned (point_eq a v) (point_eq b v))
+up_touches v = either (touches v) (λ a b. or_comm (point_eq a v) (point_eq b v))
 
 -- ---- the same shapes, parities and labels
 shapes_same : (items : List Item) → listed_shapes (map up_item items) ≡ listed_shapes items
@@ -68,9 +66,6 @@ answer_same : (op : Bool → Bool → Bool) (items : List Item) (k x y : ℤ) �
 unfolding answer_at
 answer_same op items k x y = λ i. answer_on op (shapes_same items i) (λ o. odd_same items o k x y i)
 
-sum_turned : (a b : ℤ) → a +ℤ b ≡ b +ℤ a
-sum_turned a b = omega (arith, ints)
-
 label_same : (op : Bool → Bool → Bool) (items : List Item) (p : Item) → differs op (map up_item items) (up_item p) ≡ differs op items p
 unfolding differs
 label_same op items p =
@@ -79,7 +74,7 @@ label_same op items p =
     (answer_on op (shapes_same items i)
     (λ o. xor (is_owner_listed o p.1) (odd_same items o (pos 2) ((up p.0).0.x +ℤ (up p.0).1.x) ((up p.0).0.y +ℤ (up p.0).1.y) i))))
     ∙ either (λ e. differs_at op items (e, p.1) (pos 2) (e.0.x +ℤ e.1.x) (e.0.y +ℤ e.1.y)) (λ a b. λ i.
-    differs_at op items (p.0, p.1) (pos 2) (sum_turned a.x b.x i) (sum_turned a.y b.y i)) p.0
+    differs_at op items (p.0, p.1) (pos 2) (+ℤ_comm a.x b.x i) (+ℤ_comm a.y b.y i)) p.0
 
 -- ---- clean edges stay clean
 pub up_meet : (e f : Point × Point) → MeetAtEnds e f → MeetAtEnds (up e) (up f)
@@ -114,17 +109,6 @@ up_proper e h = by_test (int_le e.0.y e.1.y)
     by_test false same = h (sym same)
 
 -- ---- all items
-has_map : (items : List Item) (q : Item) → Has (map up_item items) q → (p : Item) × Has items p × (up_item p ≡ q)
-has_map [] q m = absurd m
-has_map (p ∷ ps) q (inl same) = (p, inl refl, same)
-has_map (p ∷ ps) q (inr m) = let r = has_map ps q m in (r.0, inr r.1, r.2)
-
-zip_has : (es : List (Point × Point)) (os : List (List Owner)) (p : Item) → Has (zip es os) p → Has es p.0
-zip_has [] os p m = absurd m
-zip_has (e ∷ es) [] p m = absurd m
-zip_has (e ∷ es) (o ∷ os) p (inl same) = inl (ap (λ (q : Item). q.0) same)
-zip_has (e ∷ es) (o ∷ os) p (inr m) = inr (zip_has es os p m)
-
 distinct_up : (es : List (Point × Point)) (os : List (List Owner)) → IsRising IsEdgeBefore es
     → ((e : Point × Point) → Has es e → is_before e.0 e.1 ≡ true)
     → AreDistinct (map up_item (zip es os))
@@ -132,8 +116,8 @@ distinct_up [] os up_ lesser = tt
 distinct_up (e ∷ es) [] up_ lesser = tt
 distinct_up (e ∷ es) (o ∷ os) rising lesser = (
   (λ q m same.
-      let p = has_map (zip es os) q m in
-      let mp = zip_has es os p.0 p.1 in
+      let p = map-has up_item (zip es os) q m in
+      let mp = zip_first es os p.0 p.1 in
       let ups : up e ≡ up p.0.0 = same ∙ sym (ap (λ (z : Item). z.0) p.2) in
       let one : e ≡ p.0.0 = sym (up_again e (lesser e (inl refl))) ∙ ap undirected ups ∙ up_again p.0.0 (lesser p.0.0 (inr mp)) in
       edges_are_strict.irreflexive e (subst (IsEdgeBefore e) (sym one) (before_rest IsEdgeBefore edges_are_strict e es p.0.0 rising mp))),
@@ -142,27 +126,27 @@ distinct_up (e ∷ es) (o ∷ os) rising lesser = (
 
 module _ (r : Owned) (rounded : IsRounded r) (clean : AreClean r.0) (lesser : AreLesserFirst r.0) where
   edge_of : (p : Item) → Has (owned_items r) p → Has r.0 p.0
-  edge_of p m = zip_has r.0 r.1 p m
+  edge_of p m = zip_first r.0 r.1 p m
 
   upward : AreUpward (map up_item (owned_items r))
   upward = record {
-    rises = λ q m. let p = has_map (owned_items r) q m in subst (λ (z : Item). z.0.0.y ≤ℤ z.0.1.y) p.2 (up_rises p.0.0);
+    rises = λ q m. let p = map-has up_item (owned_items r) q m in subst (λ (z : Item). z.0.0.y ≤ℤ z.0.1.y) p.2 (up_rises p.0.0);
     proper = λ q m.
-        let p = has_map (owned_items r) q m in
+        let p = map-has up_item (owned_items r) q m in
         let l = lesser p.0.0 (contains r.0 p.0.0 (edge_of p.0 p.1)) in
         subst (λ (z : Item). ¬ (z.0.0 ≡ z.0.1)) p.2 (up_proper p.0.0 (λ same.
         before_is_strict.irreflexive p.0.0.1 (before_by_test p.0.0.1 p.0.0.1 (subst (λ v. is_before v p.0.0.1 ≡ true) same l))));
     meets = λ q s m n.
-        let p = has_map (owned_items r) q m in
-        let t = has_map (owned_items r) s n in
+        let p = map-has up_item (owned_items r) q m in
+        let t = map-has up_item (owned_items r) s n in
         let two = both p.0.0 t.0.0 (edge_of p.0 p.1) (edge_of t.0 t.1) (same_edge p.0.0 t.0.0) refl in
         coe 0 1 (i. ((p.2 i).0 ≡ (t.2 i).0) ⊎ MeetAtEnds (p.2 i).0 (t.2 i).0) two;
   }
     where
       both : (e f : Point × Point) → Has r.0 e → Has r.0 f → (b : Bool) → same_edge e f ≡ b → (up e ≡ up f) ⊎ MeetAtEnds (up e) (up f)
-      both e f m n true t = inl (ap up ((same_edge-Decides e f).0 t))
+      both e f m n true t = inl (ap up ((edges_decide e f).0 t))
       both e f m n false t = inr (up_meet e f (clean e f (contains r.0 e m) (contains r.0 f n) (λ same.
-          let t' = (same_edge-Decides e f).1 same in absurd cc)))
+          let t' = (edges_decide e f).1 same in absurd cc)))
 
   even_up : (o : Owner) (v : Point) → parity (λ p. is_owner_listed o p.1 && touches v p.0) (map up_item (owned_items r)) ≡ false
   even_up o v =

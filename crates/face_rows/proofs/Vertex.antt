@@ -15,17 +15,20 @@ use Rattle.lay_point.specs.Parity.{xor, parity, is_crossed}
 use Rattle.lay_point.proofs.EdgeOrder.{one_end}
 use Rattle.lay_point.proofs.Members.{Has}
 use Rattle.lay_point.proofs.Parity.{parity_agree, parity_none, parity-xor, xor_self}
+use Rattle.lay_point.proofs.BoolLaws.{and-false, and_over_xor, same_by_xor}
+use Rattle.lay_point.proofs.NumberLaws.{int_eq-same}
 use Rattle.snap_edge_laws.specs.Edges.{IsBetween, IsEndpoint}
 use Rattle.snap_edge_laws.specs.Meeting.{MeetAtEnds}
 use Rattle.snap_edge_laws.proofs.Level.{other_way_round}
 use Rattle.snap_chains.specs.declared.owner.Owner.{Owner}
 use Rattle.snap_chains.specs.Rounded.{is_owner_listed}
+use Rattle.snap_chains.proofs.EdgeOrder.{edges_decide}
 use Rattle.face_rows.specs.Labels.{Item, answer_on, differs, listed_shapes, odd_of}
 use Rattle.face_side_laws.proofs.Arms.{le_zero, level_end, lt_zero}
 use Rattle.face_side_laws.proofs.Arms.{middle_left, middle_level, middle_right, not_nested, one_times}
 use Rattle.face_side_laws.proofs.Arms.{row_spans, spans_row, zero_le, zero_lt}
-use Rattle.face_rows.proofs.CutLaw.{IsCut, cut_law, same_edge-Decides}
-use Rattle.face_rows.proofs.Cuts.{AreDistinct, and_false_right, count_of, parity_of_one}
+use Rattle.face_rows.proofs.CutLaw.{IsCut, cut_law}
+use Rattle.face_rows.proofs.Cuts.{AreDistinct, count_of, parity_of_one}
 use Rattle.face_side_laws.proofs.EvenEnds.{even_ends}
 use Rattle.face_side_laws.proofs.Level.{Edge, behind_here, beyond, ends_behind_here, ends_from_here}
 use Rattle.face_side_laws.proofs.Level.{from_here, from_on, in_row, left_arm, right_arm, right_of_point, touches_here}
@@ -34,21 +37,11 @@ use Rattle.face_side_laws.proofs.Sides.{meet_first}
 use Rattle.face_side_laws.proofs.Slide.{AreUpward}
 
 -- ---- truth values
-and_split : (s a b : Bool) → (s && xor a b) ≡ xor (s && a) (s && b)
-and_split true a b = refl
-and_split false a b = refl
-
 other_of : (a b l : Bool) → xor a b ≡ l → b ≡ xor l a
 other_of true true l e = ap (λ z. xor z true) e
 other_of true false l e = ap (λ z. xor z true) e
 other_of false true l e = ap (λ z. xor z false) e
 other_of false false l e = ap (λ z. xor z false) e
-
-sum_of : (a b : Bool) → xor a b ≡ false → a ≡ b
-sum_of true true e = refl
-sum_of true false e = absurd cc
-sum_of false true e = absurd cc
-sum_of false false e = refl
 
 one_of : (a b : Bool) → xor a b ≡ true → ((a ≡ true) × (b ≡ false)) ⊎ ((a ≡ false) × (b ≡ true))
 one_of true false e = inl (refl, refl)
@@ -69,9 +62,6 @@ EndsIt g v = g.0.y ≡ g.1.y → v.y ≡ g.1.y → IsBetween g.0.x v.x g.1.x →
 
 eq_true : (a b : ℤ) → int_eq a b ≡ true → a ≡ b
 eq_true a b e = (Decides-int_eq a b).0 e
-
-true_eq : (a b : ℤ) → a ≡ b → int_eq a b ≡ true
-true_eq a b e = (Decides-int_eq a b).1 e
 
 second_false : (a b : Bool) → a ≡ true → (a && b) ≡ false → b ≡ false
 second_false true b h e = e
@@ -100,7 +90,7 @@ left_arm_is v a b h ends =
     (λ (one : (from_here v a ≡ true) × (from_here v b ≡ false)).
     let here = and_parts (int_eq a.y v.y) (int_le v.x a.x) one.0 in
     let at_a = eq_true a.y v.y here.0 in
-    let less = le_false v.x b.x (second_false (int_eq b.y v.y) (int_le v.x b.x) (true_eq b.y v.y (sym level ∙ at_a)) one.1) in
+    let less = le_false v.x b.x (second_false (int_eq b.y v.y) (int_le v.x b.x) (int_eq-same b.y v.y (sym level ∙ at_a)) one.1) in
     let more = le_true v.x a.x here.1 in
     ⊎_elim
     (λ (same : v ≡ a). record { other = b; joins = inr (λ i. (sym same i, b)); level = sym level ∙ at_a; left = less })
@@ -109,7 +99,7 @@ left_arm_is v a b h ends =
     (λ (one : (from_here v a ≡ false) × (from_here v b ≡ true)).
     let here = and_parts (int_eq b.y v.y) (int_le v.x b.x) one.1 in
     let at_b = eq_true b.y v.y here.0 in
-    let less = le_false v.x a.x (second_false (int_eq a.y v.y) (int_le v.x a.x) (true_eq a.y v.y (level ∙ at_b)) one.0) in
+    let less = le_false v.x a.x (second_false (int_eq a.y v.y) (int_le v.x a.x) (int_eq-same a.y v.y (level ∙ at_b)) one.0) in
     let more = le_true v.x b.x here.1 in
     ⊎_elim
     (λ (same : v ≡ a). absurd (omega (arith, linear, less, x_differs v a same)))
@@ -125,7 +115,7 @@ right_arm_is v a b h ends =
     (λ (one : (behind_here v a ≡ true) × (behind_here v b ≡ false)).
     let here = and_parts (int_eq a.y v.y) (int_lt v.x a.x) one.0 in
     let at_a = eq_true a.y v.y here.0 in
-    let less = lt_false v.x b.x (second_false (int_eq b.y v.y) (int_lt v.x b.x) (true_eq b.y v.y (sym level ∙ at_a)) one.1) in
+    let less = lt_false v.x b.x (second_false (int_eq b.y v.y) (int_lt v.x b.x) (int_eq-same b.y v.y (sym level ∙ at_a)) one.1) in
     let more = lt_true v.x a.x here.1 in
     ⊎_elim
     (λ (same : v ≡ a). absurd (omega (arith, linear, more, x_differs v a same)))
@@ -134,7 +124,7 @@ right_arm_is v a b h ends =
     (λ (one : (behind_here v a ≡ false) × (behind_here v b ≡ true)).
     let here = and_parts (int_eq b.y v.y) (int_lt v.x b.x) one.1 in
     let at_b = eq_true b.y v.y here.0 in
-    let less = lt_false v.x a.x (second_false (int_eq a.y v.y) (int_lt v.x a.x) (true_eq a.y v.y (level ∙ at_b)) one.0) in
+    let less = lt_false v.x a.x (second_false (int_eq a.y v.y) (int_lt v.x a.x) (int_eq-same a.y v.y (level ∙ at_b)) one.0) in
     let more = lt_true v.x b.x here.1 in
     ⊎_elim
     (λ (same : v ≡ a). record { other = b; joins = inr (λ i. (sym same i, b)); level = at_b; right = more })
@@ -198,8 +188,8 @@ module _ (op : Bool → Bool → Bool) (none : op false false ≡ false) (items 
         let only : (test : Item → Bool) → parity (λ p. test p && arm p.0) items ≡ test g =
         λ test. parity_agree (λ p. test p && arm p.0) (λ p. test p && same_edge p.0 g.0) items
         (λ p m. ap (λ b. test p && b) (both_ways (arm p.0) (same_edge p.0 g.0)
-        (λ s. (same_edge-Decides p.0 g.0).1 (alone p g m given s t))
-        (λ s. ap arm ((same_edge-Decides p.0 g.0).0 s) ∙ t)))
+        (λ s. (edges_decide p.0 g.0).1 (alone p g m given s t))
+        (λ s. ap arm ((edges_decide p.0 g.0).0 s) ∙ t)))
         ∙ parity_of_one test items g distinct given in
         let there : (o : Owner) → odd_of items o (pos 2) (g.0.0.x +ℤ g.0.1.x) (g.0.0.y +ℤ g.0.1.y) ≡ odds above o =
         λ o. parity_agree (λ p. is_owner_listed o p.1 && is_crossed (pos 2) (g.0.0.x +ℤ g.0.1.x) (g.0.0.y +ℤ g.0.1.y) p.0)
@@ -215,10 +205,10 @@ module _ (op : Bool → Bool → Bool) (none : op false false ≡ false) (items 
         (λ (found : (g : Item) × Has items g × (arm g.0 ≡ true)). arm_label found.0 found.1 found.2)
         (λ (out : (p : Item) → Has items p → arm p.0 ≡ false).
         let same : (o : Owner) → odds above o ≡ odds below o =
-        λ o. sum_of (odds above o) (odds below o) (sum o ∙ parity_none (λ p. is_owner_listed o p.1 && arm p.0) items
-        (λ p m. ap (λ b. is_owner_listed o p.1 && b) (out p m) ∙ and_false_right (is_owner_listed o p.1))) in
+        λ o. same_by_xor (odds above o) (odds below o) (sum o ∙ parity_none (λ p. is_owner_listed o p.1 && arm p.0) items
+        (λ p m. ap (λ b. is_owner_listed o p.1 && b) (out p m) ∙ and-false (is_owner_listed o p.1))) in
         parity_none (λ p. differs op items p && arm p.0) items
-        (λ p m. ap (λ b. differs op items p && b) (out p m) ∙ and_false_right (differs op items p))
+        (λ p m. ap (λ b. differs op items p && b) (out p m) ∙ and-false (differs op items p))
         ∙ sym ((λ i. xor (answer_on op shapes (λ o. same o i)) (answer_on op shapes (odds below)))
         ∙ xor_self (answer_on op shapes (odds below))))
         (some_arm items)
@@ -268,13 +258,13 @@ module _ (op : Bool → Bool → Bool) (none : op false false ≡ false) (items 
 
     left_sum : (o : Owner) → xor (odds (λ p. from_on v.y v p.0) o) (odds (λ p. from_on (v.y -ℤ pos 1) v p.0) o)
         ≡ odds (λ p. left_arm v p.0) o
-    left_sum o = sum_of _ _ (sym (
+    left_sum o = same_by_xor _ _ (sym (
         parity_agree (λ p. is_owner_listed o p.1 && xor (from_here v p.0.0) (from_here v p.0.1))
         (λ p. xor (xor (is_owner_listed o p.1 && from_on v.y v p.0) (is_owner_listed o p.1 && from_on (v.y -ℤ pos 1) v p.0))
         (is_owner_listed o p.1 && left_arm v p.0))
         items (λ p m. ap (λ b. is_owner_listed o p.1 && b) (ends_from_here v p.0 (h.rises p m))
-        ∙ and_split (is_owner_listed o p.1) (xor (from_on v.y v p.0) (from_on (v.y -ℤ pos 1) v p.0)) (left_arm v p.0)
-        ∙ ap (λ b. xor b (is_owner_listed o p.1 && left_arm v p.0)) (and_split (is_owner_listed o p.1) (from_on v.y v p.0)
+        ∙ and_over_xor (is_owner_listed o p.1) (xor (from_on v.y v p.0) (from_on (v.y -ℤ pos 1) v p.0)) (left_arm v p.0)
+        ∙ ap (λ b. xor b (is_owner_listed o p.1 && left_arm v p.0)) (and_over_xor (is_owner_listed o p.1) (from_on v.y v p.0)
         (from_on (v.y -ℤ pos 1) v p.0)))
         ∙ parity-xor (λ p. xor (is_owner_listed o p.1 && from_on v.y v p.0) (is_owner_listed o p.1 && from_on (v.y -ℤ pos 1) v p.0))
         (λ p. is_owner_listed o p.1 && left_arm v p.0) items
@@ -284,13 +274,13 @@ module _ (op : Bool → Bool → Bool) (none : op false false ≡ false) (items 
 
     right_sum : (o : Owner) → xor (odds (λ p. beyond v.y v p.0) o) (odds (λ p. beyond (v.y -ℤ pos 1) v p.0) o)
         ≡ odds (λ p. right_arm v p.0) o
-    right_sum o = sum_of _ _ (sym (
+    right_sum o = same_by_xor _ _ (sym (
         parity_agree (λ p. is_owner_listed o p.1 && xor (behind_here v p.0.0) (behind_here v p.0.1))
         (λ p. xor (xor (is_owner_listed o p.1 && beyond v.y v p.0) (is_owner_listed o p.1 && beyond (v.y -ℤ pos 1) v p.0))
         (is_owner_listed o p.1 && right_arm v p.0))
         items (λ p m. ap (λ b. is_owner_listed o p.1 && b) (ends_behind_here v p.0 (h.rises p m))
-        ∙ and_split (is_owner_listed o p.1) (xor (beyond v.y v p.0) (beyond (v.y -ℤ pos 1) v p.0)) (right_arm v p.0)
-        ∙ ap (λ b. xor b (is_owner_listed o p.1 && right_arm v p.0)) (and_split (is_owner_listed o p.1) (beyond v.y v p.0)
+        ∙ and_over_xor (is_owner_listed o p.1) (xor (beyond v.y v p.0) (beyond (v.y -ℤ pos 1) v p.0)) (right_arm v p.0)
+        ∙ ap (λ b. xor b (is_owner_listed o p.1 && right_arm v p.0)) (and_over_xor (is_owner_listed o p.1) (beyond v.y v p.0)
         (beyond (v.y -ℤ pos 1) v p.0)))
         ∙ parity-xor (λ p. xor (is_owner_listed o p.1 && beyond v.y v p.0) (is_owner_listed o p.1 && beyond (v.y -ℤ pos 1) v p.0))
         (λ p. is_owner_listed o p.1 && right_arm v p.0) items
@@ -438,5 +428,5 @@ module _ (op : Bool → Bool → Bool) (none : op false false ≡ false) (items 
         (λ (found : (w : Item) × Has items w × (touches v w.0 ≡ true)). even_there found.0 found.1 found.2)
         (λ (out : (p : Item) → Has items p → touches v p.0 ≡ false).
         parity_none (λ p. differs op items p && touches v p.0) items
-        (λ p m. ap (λ b. differs op items p && b) (out p m) ∙ and_false_right (differs op items p)))
+        (λ p m. ap (λ b. differs op items p && b) (out p m) ∙ and-false (differs op items p)))
         (touched items)
