@@ -1,10 +1,9 @@
 -- What the edges of a row that are right of a place tell of it, in whatever part of a list they stand.
-use Rattle.std.proofs.Common.{◌≡◌, inl, inr, ⊎_elim, ℕ, zero, suc, ◌+◌, ◌<◌, Bool, true, false, ◌&&◌, ◌||◌, List, [], ◌∷◌}
-use Rattle.std.proofs.Common.{length, get_or, drop, Contains, ℤ, pos, ◌-ℤ◌, ◌*ℤ◌, ◌<ℤ◌, refl, sym, ap, ap₂, subst, ◌∙◌, arith}
+use Rattle.std.proofs.Common.{◌≡◌, inl, inr, ℕ, zero, suc, ◌+◌, ◌<◌, Bool, true, false, ◌&&◌, List, [], ◌∷◌}
+use Rattle.std.proofs.Common.{length, get_or, drop, Contains, ℤ, pos, ◌-ℤ◌, ◌*ℤ◌, ◌<ℤ◌, refl, sym, ap, subst, ◌∙◌, arith}
 use Rattle.std.specs.Cmp.{both_ways}
 use Rattle.std.specs.Prelude.{nat_eq}
-use Rattle.std.specs.List.{list_any, zip}
-use Rattle.std.proofs.lemmas.Bool.{or_cases, or_right}
+use Rattle.std.specs.List.{list_any}
 use Rattle.std.proofs.lemmas.Bool.Decides.{Decides-eqb}
 use Rattle.std.proofs.lemmas.List.{get_or_default}
 use Rattle.lay_point.proofs.Signs.{linear}
@@ -14,15 +13,16 @@ use Rattle.lay_point.specs.Rising.{IsRising}
 use Rattle.lay_point.proofs.Members.{Has, contains, has}
 use Rattle.lay_point.proofs.Parity.{IsEquality, parity_of_occurrences}
 use Rattle.lay_point.proofs.Rising.{IsStrictOrder, before_rest, rising_rest}
+use Rattle.lay_point.proofs.ListLaws.{has_get, has_number, number_has}
+use Rattle.lay_point.proofs.NumberLaws.{numbers_are_strict}
 use Rattle.face_side_laws.proofs.Rows.{IsInRow, crossed_spans, row_distance, row_k, row_place, row_x, row_y, spans_crossed}
 use Rattle.face_rows.proofs.UpwardLemmas.{up_crossed, up_rises}
-use Rattle.face_rows.proofs.JudgeLemmas.{IsBeforeIn, before_rising, before_strict}
+use Rattle.face_rows.proofs.JudgeLemmas.{IsBeforeIn, before_rising, before_strict, below_rising, by_number, numbers_from, numbers_have}
 use Rattle.face_rows.proofs.OwnerLemmas.{parity_any}
-use Rattle.face_rows.proofs.RowLemmas.{has_get}
 use Rattle.face_rows.proofs.SideLemmas.{crossed_beside}
 use Rattle.snap_chains.specs.declared.owner.Owner.{Owner}
 use Rattle.face_sweep.proofs.OrderLemmas.{crosses}
-use Rattle.face_rows.specs.Labels.{Item, odd_of, owned_items}
+use Rattle.face_rows.specs.Labels.{odd_of, owned_items}
 use Rattle.face_rows.specs.Lines.{edge_at, nowhere, owned_item_at, owners_at}
 use Rattle.snap_chains.specs.Rounded.{Owned, is_owner_listed}
 use Rattle.face_rows.specs.Rows.{CrossesRow, IsLeftOf, crosses_row, upward}
@@ -33,35 +33,6 @@ use Rattle.face_sweep.specs.Points.{IsPassed, IsStatus}
 use Rattle.face_sweep.proofs.PointLemmas.{beside_own, in_order, span}
 
 -- ---- numbers (as in face_rows' JudgeLemmas)
-abbrev numbers_from : ℕ → List (Point × Point) → List ℕ
-numbers_from n [] = []
-numbers_from n (e ∷ es) = n ∷ numbers_from (n + 1) es
-
-below_rising : (n : ℕ) (es : List (Point × Point)) → IsRising (λ m k. m < k) (numbers_from n es)
-below_rising n [] = tt
-below_rising n (e ∷ []) = tt
-below_rising n (e ∷ f ∷ es) = (omega arith, below_rising (n + 1) (f ∷ es))
-
-below_strict : IsStrictOrder (λ (m k : ℕ). m < k)
-below_strict = record { irreflexive = λ m h. omega arith; transitive = λ m k l h g. omega arith }
-
-numbers_have : (n : ℕ) (es : List (Point × Point)) (i : ℕ) → i < length es → Has (numbers_from n es) (n + i)
-numbers_have n [] i less = absurd (omega arith)
-numbers_have n (e ∷ es) zero less = inl (omega arith)
-numbers_have n (e ∷ es) (suc i) less =
-    let same : (n + 1) + i ≡ n + suc i = omega arith in
-    inr (subst (Has (numbers_from (n + 1) es)) same (numbers_have (n + 1) es i (omega arith)))
-
-by_number : (f : Item → Bool) (g : ℕ → Bool) (n : ℕ) (es : List (Point × Point)) (os : List (List Owner)) → length os ≡ length es
-    → ((i : ℕ) → i < length es → g (n + i) ≡ f (get_or es i nowhere, get_or os i [])) → parity g (numbers_from n es) ≡ parity f (zip es os)
-by_number f g n [] os count same = refl
-by_number f g n (e ∷ es) [] count same = absurd (omega arith)
-by_number f g n (e ∷ es) (o ∷ os) count same =
-    let first : n ≡ n + zero = omega arith in
-    ap₂ Rattle.lay_point.specs.Parity.xor (ap g first ∙ same zero (omega arith))
-    (by_number f g (n + 1) es os (omega arith) (λ i less.
-    let shifted : (n + 1) + i ≡ n + suc i = omega arith in ap g shifted ∙ same (suc i) (omega arith)))
-
 nat_equality : IsEquality nat_eq
 nat_equality = record {
   itself = λ m. (Decides-eqb m m).1 refl;
@@ -71,16 +42,6 @@ nat_equality = record {
     by_test : (b : Bool) {m n : ℕ} → ¬ (m ≡ n) → (b ≡ true → m ≡ n) → b ≡ false
     by_test true other same = absurd (other (same refl))
     by_test false other same = refl
-
-any_has : (xs : List ℕ) (n : ℕ) → list_any (nat_eq n) xs ≡ true → Has xs n
-any_has [] n e = absurd cc
-any_has (x ∷ xs) n e = ⊎_elim (λ (here : nat_eq n x ≡ true). inl (sym ((Decides-eqb n x).0 here)))
-    (λ (there : list_any (nat_eq n) xs ≡ true). inr (any_has xs n there)) (or_cases (nat_eq n x) (list_any (nat_eq n) xs) e)
-
-has_any : (xs : List ℕ) (n : ℕ) → Has xs n → list_any (nat_eq n) xs ≡ true
-has_any [] n m = absurd m
-has_any (x ∷ xs) n (inl same) = ap (λ b. b || list_any (nat_eq n) xs) ((Decides-eqb n x).1 (sym same))
-has_any (x ∷ xs) n (inr m) = or_right (nat_eq n x) (list_any (nat_eq n) xs) (has_any xs n m)
 
 -- ---- the edges of a row that are right of a place
 pub record AreRightOf (r : Owned) (row k x y : ℤ) (numbers : List ℕ) : Type 0 where
@@ -98,12 +59,12 @@ module _ (r : Owned) (sound : AreSound r) (row k x y : ℤ) (place : IsInRow row
         (subst (IsBeforeIn r.0 row l) (sym same ∙ (Decides-eqb n l).0 t) b)))
         ∙ both_ways (list_any (nat_eq n) numbers) (is_crossed k x y (edge_at r n))
         (λ t.
-        let m = any_has numbers n t in
+        let m = number_has numbers n t in
         sym (up_crossed k x y (edge_at r n))
         ∙ spans_crossed row k x y (upward (edge_at r n)) place (span r sound row n (h.members n m)) (h.right n m))
         (λ t.
         let c = crossed_spans row k x y (upward (edge_at r n)) place (up_rises (edge_at r n)) (up_crossed k x y (edge_at r n) ∙ t) in
-        has_any numbers n (h.all n (
+        has_number numbers n (h.all n (
           inside,
           λ d. subst (λ (f : Point × Point). crosses_row row f ≡ true) (get_or_default r.0 n nowhere d inside)
               (crosses row (edge_at r n) c.0.low c.0.high),
@@ -111,7 +72,7 @@ module _ (r : Owned) (sound : AreSound r) (row k x y : ℤ) (place : IsInRow row
 
     pub odd_right : (o : Owner) → is_odd_in r numbers o ≡ odd_of (owned_items r) o k x y
     odd_right o =
-        sym (parity_of_occurrences (λ m n. m < n) below_strict nat_eq nat_equality
+        sym (parity_of_occurrences (λ m n. m < n) numbers_are_strict nat_eq nat_equality
         (λ n. is_owner_listed o (owners_at r n)) (numbers_from 0 r.0) numbers (below_rising 0 r.0) given)
         ∙ by_number (λ p. is_owner_listed o p.1 && is_crossed k x y p.0)
         (λ n. parity (nat_eq n) numbers && is_owner_listed o (owners_at r n)) 0 r.0 r.1 sound.paired (λ i less.

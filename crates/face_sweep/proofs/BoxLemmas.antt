@@ -10,14 +10,12 @@ use Rattle.std.proofs.lemmas.Bool.Decides.{Decides-int_eq}
 use Rattle.lay_point.proofs.Signs.{linear}
 use Rattle.lay_point.specs.declared.point.Point.{Point}
 use Rattle.lay_point.specs.declared.rect.Rect.{Rect}
-use Rattle.lay_point.specs.Edges.{is_before, same_edge, IsEdgeBefore}
+use Rattle.lay_point.specs.Edges.{is_before, same_edge}
 use Rattle.lay_point.specs.Parity.{xor, is_crossed}
 use Rattle.lay_point.specs.Points.{IsBefore}
-use Rattle.lay_point.specs.Rising.{IsRising}
-use Rattle.lay_point.proofs.EdgeOrder.{before_by_test, before_is_strict, edges_are_strict}
+use Rattle.lay_point.proofs.EdgeOrder.{before_by_test, before_is_strict}
 use Rattle.lay_point.proofs.Members.{Has, contains}
 use Rattle.lay_point.proofs.Parity.{parity-xor, parity_agree, parity_none, xor-false, xor_comm}
-use Rattle.lay_point.proofs.Rising.{before_rest, rising_rest}
 use Rattle.snap_edge_laws.specs.Meeting.{MeetAtEnds}
 use Rattle.face_side_laws.proofs.Borders.{all_above, all_right, itself_there, level_itself, none_above, none_right, past}
 use Rattle.face_side_laws.proofs.EvenEnds.{even_ends}
@@ -25,13 +23,13 @@ use Rattle.face_side_laws.proofs.Sides.{meet_second}
 use Rattle.face_side_laws.proofs.Slide.{starts}
 use Rattle.snap_chains.specs.declared.owner.Owner.{Owner}
 use Rattle.snap_chains.specs.Rounded.{Owned, is_owner_listed}
+use Rattle.snap_chains.proofs.EdgeOrder.{edges_decide}
 use Rattle.face_rows.specs.Labels.{Item, odd_of, owned_items}
 use Rattle.face_rows.specs.Lines.{edge_at, nowhere, owned_item_at, owners_at}
 use Rattle.face_rows.specs.Sound.{AreSound}
-use Rattle.face_rows.proofs.CutLaw.{same_edge-Decides}
-use Rattle.face_rows.proofs.Cuts.{AreDistinct, parity_of_one}
-use Rattle.face_rows.proofs.SideLemmas.{zip_first}
+use Rattle.face_rows.proofs.Cuts.{parity_of_one}
 use Rattle.face_rows.proofs.UpwardLemmas.{either, up, up_crossed, up_rises}
+use Rattle.face_rows.proofs.ItemLemmas.{distinct_zip, zip_first}
 use Rattle.face_sweep.specs.Reaches.{AreBoxes, IsEdgeIn, extent_of, is_level_at, is_upright_at, told_by}
 use Rattle.face_sweep.specs.declared.boxes.Boxes.{Boxes}
 use Rattle.face_sweep.specs.Sides.{holds_beside}
@@ -45,15 +43,6 @@ zip_item (e ∷ es) [] p m = absurd m
 zip_item (e ∷ es) (o ∷ os) p (inl same) =
     (zero, omega arith, ap (λ (q : Item). q.0) same, ap (λ (q : Item). q.1) same)
 zip_item (e ∷ es) (o ∷ os) p (inr m) = let h = zip_item es os p m in (suc h.0, omega (arith, h.1), h.2, h.3)
-
-distinct_zip : (es : List (Point × Point)) (os : List (List Owner)) → IsRising IsEdgeBefore es → AreDistinct (zip es os)
-distinct_zip [] os h = tt
-distinct_zip (e ∷ es) [] h = tt
-distinct_zip (e ∷ es) (o ∷ os) h = (
-  (λ q m same. edges_are_strict.irreflexive e
-      (subst (IsEdgeBefore e) (sym same) (before_rest IsEdgeBefore edges_are_strict e es q.0 h (zip_first es os q m)))),
-  distinct_zip es os (rising_rest IsEdgeBefore e es h),
-)
 
 -- ---- of a list of tests
 xor_true_swap : (a b c : Bool) → a ≡ xor b c → b ≡ false → c ≡ true → a ≡ true
@@ -114,7 +103,7 @@ module _ (r : Owned) (o : Owner) (box : Rect) (n : ℕ) (h : IsBoxed r o box n) 
 
   meets : (p : Item) → Has items p → same_edge p.0 e ≡ false → MeetAtEnds e p.0
   meets p m apart = h.sound.clean e p.0 (contains r.0 e (zip_first r.0 r.1 own given)) (contains r.0 p.0 (zip_first r.0 r.1 p m))
-      (λ same. let t = (same_edge-Decides p.0 e).1 (sym same) in absurd cc)
+      (λ same. let t = (edges_decide p.0 e).1 (sym same) in absurd cc)
 
   -- the edge is e itself, not turned, and the other is from its lower end to its upper one
   up_meets : (p : Item) → Has items p → same_edge p.0 e ≡ false → MeetAtEnds (e.0, e.1) ((up p.0).0, (up p.0).1)
@@ -145,7 +134,7 @@ module _ (r : Owned) (o : Owner) (box : Rect) (n : ℕ) (h : IsBoxed r o box n) 
 
       by_same : (p : Item) → Has items p → is_owner_listed o p.1 ≡ true → (s : Bool) → same_edge p.0 e ≡ s
           → is_crossed k x y p.0 ≡ xor (xor (test p.0.0) (test p.0.1)) s
-      by_same p m listed true t = this p ((same_edge-Decides p.0 e).0 t)
+      by_same p m listed true t = this p ((edges_decide p.0 e).0 t)
       by_same p m listed false t = others p m listed t ∙ sym (xor-false (xor (test p.0.0) (test p.0.1)))
 
       each : (p : Item) → Has items p → (l : Bool) → is_owner_listed o p.1 ≡ l

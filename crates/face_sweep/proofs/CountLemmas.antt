@@ -5,6 +5,7 @@ use Rattle.std.specs.List.{list_any}
 use Rattle.std.proofs.lemmas.Bool.{cases_lt}
 use Rattle.lay_point.specs.Parity.{xor}
 use Rattle.lay_point.proofs.Members.{has}
+use Rattle.lay_point.proofs.ListLaws.{any_true}
 use Rattle.snap_chains.specs.declared.owner.Input.{Input}
 use Rattle.snap_chains.specs.declared.owner.Input.TheVariants.{First, Second}
 use Rattle.snap_chains.specs.declared.owner.Owner.{Owner}
@@ -14,7 +15,7 @@ use Rattle.face_sweep.specs.declared.counts.Counts.{Counts}
 use Rattle.face_rows.specs.declared.op.Op.{Op}
 use Rattle.face_sweep.specs.Counts.{AreCounts, all_shapes, count, count_in}
 use Rattle.face_rows.specs.Operations.{answer}
-use Rattle.face_rows.proofs.Shapes.{any_true, input_itself, same_input, same_owner}
+use Rattle.face_rows.proofs.Shapes.{input_itself, same_input, same_owner}
 use Rattle.face_rows.proofs.OwnerLemmas.{owner_itself}
 
 -- ---- counts

@@ -10,8 +10,10 @@ use Rattle.std.specs.List.{zip}
 use Rattle.lay_point.specs.declared.point.Point.{Point}
 use Rattle.lay_point.specs.Parity.{xor, parity, distance_right, is_crossed}
 use Rattle.lay_point.proofs.Members.{Has, contains, has-append_left, has-append_right}
+use Rattle.lay_point.proofs.ListLaws.{before_by_number, has_get}
 use Rattle.snap_chains.specs.declared.owner.Owner.{Owner}
 use Rattle.snap_chains.specs.Rounded.{Owned, is_owner_listed}
+use Rattle.snap_chains.proofs.RoundLemmas.{listed_has}
 use Rattle.face_rows.specs.Labels.{Item, differs, listed_shapes, owned_items}
 use Rattle.face_rows.specs.declared.op.Op.{Op}
 use Rattle.face_sweep.specs.declared.sides.Sides.{Sides}
@@ -20,10 +22,10 @@ use Rattle.face_rows.specs.Operations.{answer}
 use Rattle.face_rows.specs.Rows.{AreRowEdges, upward}
 use Rattle.face_sweep.specs.Sides.{AreBehind, AreSidesOf, IsDifference, holds_beside}
 use Rattle.face_rows.specs.Sound.{AreSound}
-use Rattle.face_rows.proofs.Shapes.{listed_has}
 use Rattle.face_rows.proofs.JudgeLemmas.{IsBeforeIn, before_rising, before_strict, is_right, odd_behind}
-use Rattle.face_rows.proofs.RowLemmas.{before_by_number, has_get, spans_of}
+use Rattle.face_rows.proofs.RowLemmas.{spans_of}
 use Rattle.face_rows.proofs.SideLemmas.{crossed_beside}
+use Rattle.face_rows.proofs.Shapes.{shapes_have}
 
 -- a shape of which there is an odd number of edges is listed
 odd_shape : (f : Item → Bool) (o : Owner) (items : List Item) → parity (λ p. is_owner_listed o p.1 && f p) items ≡ true
@@ -35,11 +37,6 @@ odd_shape f o (p ∷ ps) e = by_test (is_owner_listed o p.1) refl e (λ g. odd_s
         → (parity (λ q. is_owner_listed o q.1 && f q) ps ≡ true → Has (listed_shapes ps) o) → Has (listed_shapes (p ∷ ps)) o
     by_test true t g further = has-append_left p.1 (listed_shapes ps) o (listed_has o p.1 t)
     by_test false t g further = has-append_right p.1 (listed_shapes ps) o (further g)
-
-shapes_have : (items : List Item) (p : Item) (o : Owner) → Has items p → Has p.1 o → Has (listed_shapes items) o
-shapes_have [] p o m n = absurd m
-shapes_have (q ∷ qs) p o (inl same) n = has-append_left q.1 (listed_shapes qs) o (subst (λ (z : Item). Has z.1 o) (sym same) n)
-shapes_have (q ∷ qs) p o (inr m) n = has-append_right q.1 (listed_shapes qs) o (shapes_have qs p o m n)
 
 pub zip_at : (es : List (Point × Point)) (os : List (List Owner)) (n : ℕ) → length os ≡ length es → n < length es
     → Has (zip es os) (get_or es n nowhere, get_or os n [])

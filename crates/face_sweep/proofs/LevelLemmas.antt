@@ -5,17 +5,19 @@ use Rattle.std.proofs.Common.{ℤ, pos, ◌+ℤ◌, ◌-ℤ◌, ◌*ℤ◌, ◌�
 use Rattle.std.specs.Prelude.{int_le}
 use Rattle.std.proofs.lemmas.Int.{ints}
 use Rattle.lay_point.proofs.Polynomials.{#, lit, ◌⊕◌, ◌⊖◌, ◌⊗◌, identity}
-use Rattle.lay_point.proofs.Signs.{below_or_not, linear, positive_product}
+use Rattle.lay_point.proofs.Signs.{below_or_not, linear, positive_product, spread}
 use Rattle.lay_point.specs.declared.point.Point.{Point}
 use Rattle.lay_point.specs.Parity.{distance_right}
 use Rattle.lay_point.specs.Points.{IsBefore}
 use Rattle.lay_point.proofs.EdgeOrder.{before_by_test}
 use Rattle.lay_point.proofs.Members.{contains, has}
+use Rattle.lay_point.proofs.ListLaws.{has_get}
+use Rattle.lay_point.proofs.NumberLaws.{none_times, times_none}
+use Rattle.lay_point.proofs.Products.{+ℤ_comm}
 use Rattle.snap_edge_laws.specs.Meeting.{MeetAtEnds}
 use Rattle.face_side_laws.proofs.Sides.{mixed, mixed_on}
 use Rattle.face_rows.proofs.UpwardLemmas.{either}
 use Rattle.face_rows.proofs.JudgeLemmas.{before_rising}
-use Rattle.face_rows.proofs.RowLemmas.{has_get}
 use Rattle.snap_chains.specs.declared.owner.Owner.{Owner}
 use Rattle.face_rows.specs.Labels.{odd_of, owned_items}
 use Rattle.face_rows.specs.Lines.{edge_at, nowhere}
@@ -47,15 +49,6 @@ scale_of y a b = omega (arith, linear)
 height_of : (y : ℤ) (a b : Point) → mixed (b.y -ℤ y) (y -ℤ a.y) a.y b.y ≡ (b.y -ℤ a.y) *ℤ y
 height_of y a b = identity (y ∷ a.y ∷ b.y ∷ []) ((# 2 ⊖ # 0) ⊗ # 1 ⊕ (# 0 ⊖ # 1) ⊗ # 2) ((# 2 ⊖ # 1) ⊗ # 0) refl
 
-none_times : (z w : ℤ) → z ≡ pos 0 → z *ℤ w ≡ pos 0
-none_times z w e = ap (λ u. u *ℤ w) e ∙ identity (w ∷ []) (lit (pos 0) ⊗ # 0) (lit (pos 0)) refl
-
-times_none : (z w : ℤ) → w ≡ pos 0 → z *ℤ w ≡ pos 0
-times_none z w e = ap (λ u. z *ℤ u) e ∙ identity (z ∷ []) (# 0 ⊗ lit (pos 0)) (lit (pos 0)) refl
-
-spread : (k u v : ℤ) → k *ℤ (v -ℤ u) ≡ k *ℤ v -ℤ k *ℤ u
-spread k u v = identity (k ∷ u ∷ v ∷ []) (# 0 ⊗ (# 2 ⊖ # 1)) (# 0 ⊗ # 2 ⊖ # 0 ⊗ # 1) refl
-
 -- of an edge from a to b that is right of the left end p of a level edge, the place at that height is beyond the midpoint
 beyond : (p q a b : Point) → p.y ≡ q.y → p.x <ℤ q.x → a.y ≤ℤ p.y → p.y <ℤ b.y → MeetAtEnds (p, q) (a, b)
     → pos 0 <ℤ distance_right (pos 1) p.x p.y a b
@@ -85,9 +78,6 @@ beyond p q a b level wide low high meet far = ⊎_elim
     (λ (same : shared.end ≡ q). let e = ap (λ (v : Point). k *ℤ v.x) same in omega (arith, linear)) shared.of_first))
     (λ (so : ((b.y -ℤ a.y) *ℤ (q.x -ℤ p.x)) ≤ℤ distance_right (pos 1) p.x p.y a b). so)
     (below_or_not (distance_right (pos 1) p.x p.y a b) ((b.y -ℤ a.y) *ℤ (q.x -ℤ p.x)))
-
-sum_turned : (a b : ℤ) → a +ℤ b ≡ b +ℤ a
-sum_turned a b = omega (arith, ints)
 
 pub level_behind : (r : Owned) (p : Point) (numbers : List ℕ) (n : ℕ) → AreSound r → IsLevelFrom r p n → (s : IsStatus r p numbers)
     → (o : Owner)
@@ -120,7 +110,7 @@ level_behind r p numbers n sound h s o =
     }) o
     ∙ (λ i. odd_of (owned_items r) o (pos 2) (a.x +ℤ q.x) (double i))
     ∙ either (λ (f : Point × Point). odd_of (owned_items r) o (pos 2) (f.0.x +ℤ f.1.x) (f.0.y +ℤ f.1.y)) (λ u v. λ i.
-    odd_of (owned_items r) o (pos 2) (sum_turned u.x v.x i) (sum_turned u.y v.y i)) (edge_at r n)
+    odd_of (owned_items r) o (pos 2) (+ℤ_comm u.x v.x i) (+ℤ_comm u.y v.y i)) (edge_at r n)
   where
     a : Point
     a = (upward (edge_at r n)).0

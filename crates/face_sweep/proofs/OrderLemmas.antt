@@ -12,15 +12,16 @@ use Rattle.lay_point.specs.Edges.{IsEdgeBefore}
 use Rattle.lay_point.specs.Parity.{xor, distance_right, is_crossed}
 use Rattle.lay_point.specs.Rising.{IsRising}
 use Rattle.lay_point.proofs.Members.{Has, contains}
+use Rattle.lay_point.proofs.ListLaws.{has_get}
 use Rattle.snap_edge_laws.specs.Meeting.{MeetAtEnds}
 use Rattle.snap_chains.specs.Rounded.{AreClean, Owned}
 use Rattle.face_side_laws.proofs.Rows.{IsLeft, Spans, crossed_spans, rises_in, row_distance, row_inside, row_k}
 use Rattle.face_side_laws.proofs.Rows.{row_place, row_x, row_y, spans_crossed}
-use Rattle.face_side_laws.proofs.Slide.{slide_edge, starts}
+use Rattle.face_side_laws.proofs.Slide.{passes, slide_edge, starts}
 use Rattle.face_rows.specs.Lines.{edge_at, nowhere}
 use Rattle.face_rows.specs.Rows.{AreSomeRowEdges, CrossesRow, IsLeftOf, crosses_row, crossing, rise, upward}
 use Rattle.face_rows.proofs.JudgeLemmas.{IsBeforeIn, before_rising, before_strict}
-use Rattle.face_rows.proofs.RowLemmas.{has_get, other_edge, spans_of}
+use Rattle.face_rows.proofs.RowLemmas.{other_edge, spans_of}
 use Rattle.face_rows.proofs.UpwardLemmas.{up_meet}
 
 -- ---- rows
@@ -29,9 +30,6 @@ crosses row e low high =
     and_from (int_le (upward e).0.y row) (int_lt row (upward e).1.y) (true_le (upward e).0.y row low) (true_lt row (upward e).1.y high)
 
 -- ---- from row to row
-abbrev passes : Point → Point → ℤ → ℤ → ℤ → ℤ → Point → Bool
-passes a b k y k' y' v = not (starts k y v) && starts k' y' v && int_lt (distance_right (pos 1) v.x v.y a b) (pos 0)
-
 -- of two edges that cross two rows the same is to the left in both
 pub kept_order : (row row' : ℤ) (e f : Point × Point) → row ≤ℤ row' → Spans row e → Spans row' e → Spans row f → Spans row' f
     → MeetAtEnds e f → IsLeft row e f → IsLeft row' e f

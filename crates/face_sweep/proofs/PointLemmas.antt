@@ -9,11 +9,12 @@ use Rattle.lay_point.specs.declared.point.Point.{Point}
 use Rattle.lay_point.specs.Parity.{distance_right}
 use Rattle.lay_point.proofs.EdgeOrder.{same_point}
 use Rattle.lay_point.proofs.Members.{contains}
+use Rattle.lay_point.proofs.ListLaws.{has_get}
 use Rattle.snap_edge_laws.specs.Meeting.{MeetAtEnds}
 use Rattle.face_side_laws.proofs.Rows.{IsBesideRow, IsLeft, Spans, not_left_in_row, right_in_row}
 use Rattle.face_side_laws.proofs.Sides.{not_on}
 use Rattle.face_rows.proofs.UpwardLemmas.{up_meet}
-use Rattle.face_rows.proofs.RowLemmas.{has_get, other_edge, spans_of}
+use Rattle.face_rows.proofs.RowLemmas.{other_edge, spans_of}
 use Rattle.face_rows.specs.Lines.{edge_at, nowhere}
 use Rattle.snap_chains.specs.Rounded.{Owned}
 use Rattle.face_rows.specs.Rows.{CrossesRow, IsLeftOf, upward}

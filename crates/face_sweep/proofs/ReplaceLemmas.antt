@@ -8,8 +8,9 @@ use Rattle.std.proofs.lemmas.List.{drop-drop, drop_at, drop_more, set_at, take_a
 use Rattle.std.proofs.lemmas.List.Elements.{Contains-get_or}
 use Rattle.lay_point.specs.declared.point.Point.{Point}
 use Rattle.lay_point.specs.Points.{point_eq}
-use Rattle.lay_point.proofs.EdgeOrder.{points_decide, same_by_test}
+use Rattle.lay_point.proofs.EdgeOrder.{points_decide}
 use Rattle.lay_point.proofs.Members.{has, has-append}
+use Rattle.lay_point.proofs.RingLemmas.{point_eq-true}
 use Rattle.face_rows.specs.Lines.{edge_at}
 use Rattle.snap_chains.specs.Rounded.{Owned}
 use Rattle.face_rows.specs.Rows.{upward}
@@ -83,7 +84,7 @@ replaced old first second third others from to c most order bound is_first is_se
 
 -- ---- the group
 pub ends_by_test : (r : Owned) (p : Point) (n : ℕ) → point_eq (upward (edge_at r n)).1 p ≡ true → HasHigh r p n
-ends_by_test r p n t = same_by_test (upward (edge_at r n)).1 p t
+ends_by_test r p n t = point_eq-true (upward (edge_at r n)).1 p t
 
 pub status_given : (r : Owned) (p : Point) (numbers : List ℕ) → IsStatus r p numbers → (k : ℕ) → k < length numbers
     → get_or numbers k 0 < length r.0

@@ -9,9 +9,9 @@ use Rattle.lay_point.proofs.Signs.{below_or_not, below_or_same, linear}
 use Rattle.lay_point.specs.declared.point.Point.{Point}
 use Rattle.lay_point.specs.Rising.{IsRising}
 use Rattle.lay_point.proofs.Members.{Has, contains, has, has-append, has-append_left, has-append_right}
+use Rattle.lay_point.proofs.ListLaws.{before_by_number}
 use Rattle.face_side_laws.proofs.Rows.{IsBesideRow, apart_in_row}
 use Rattle.face_rows.proofs.JudgeLemmas.{IsBeforeIn, before_rising, before_strict}
-use Rattle.face_rows.proofs.RowLemmas.{before_by_number}
 use Rattle.face_sweep.proofs.OrderLemmas.{rising_from}
 use Rattle.face_rows.specs.Lines.{edge_at, nowhere}
 use Rattle.snap_chains.specs.Rounded.{Owned}

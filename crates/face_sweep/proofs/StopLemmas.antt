@@ -13,7 +13,7 @@ use Rattle.std.proofs.lemmas.Bool.{cases_lt}
 use Rattle.std.proofs.lemmas.Bool.Decides.{Decides-eqb, nat_tests}
 use Rattle.std.proofs.lemmas.Cmp.{nat_cmp_total, on_total, then_total}
 use Rattle.std.proofs.lemmas.Int.{ints}
-use Rattle.std.proofs.lemmas.List.{drop-append-le, get_or-drop, get_or-map, get_or-take, get_or_default, length-append, length-drop}
+use Rattle.std.proofs.lemmas.List.{drop-append-le, get_or-map, get_or_default, length-append, length-drop}
 use Rattle.std.proofs.lemmas.List.{length-map, length-take-le, map-append, map_more, take-append-le, take_all}
 use Rattle.std.proofs.lemmas.List.Elements.{All-push, Contains-append_cases, Contains-append_left, Contains-append_right}
 use Rattle.std.proofs.lemmas.List.Elements.{recursion_from_All}
@@ -28,6 +28,7 @@ use Rattle.lay_point.proofs.Members.{Has, contains, has}
 use Rattle.lay_point.proofs.Rising.{IsStrictOrder}
 use Rattle.lay_point.proofs.Signs.{linear}
 use Rattle.lay_point.proofs.Tests.{le_false, le_true}
+use Rattle.lay_point.proofs.ListLaws.{before_by_number, get_or-slice_range, has_get}
 use Rattle.snap_chains.specs.Rounded.{AreClean, Owned}
 use Rattle.snap_chains.proofs.ListLemmas.{map-range}
 use Rattle.face_rows.specs.Crossings.{IsCrossingOf}
@@ -36,7 +37,7 @@ use Rattle.face_rows.specs.Picked.{picked}
 use Rattle.face_rows.specs.Rows.{CrossesRow, IsLeftOf, crosses_row, crossing, rise, upward}
 use Rattle.face_rows.specs.declared.crossing.Crossing.{Crossing}
 use Rattle.face_rows.proofs.PickedLemmas.{picked_has, picked_of}
-use Rattle.face_rows.proofs.RowLemmas.{before_by_number, has_get, is_left, left_of, spans_of}
+use Rattle.face_rows.proofs.RowLemmas.{is_left, left_of, spans_of}
 use Rattle.face_rows.proofs.UpwardLemmas.{up_rises}
 use Rattle.face_sweep.proofs.OrderLemmas.{crosses}
 use Rattle.face_sweep.specs.Points.{HasHigh, HasLow, IsAfter, IsEndPoint, IsLevelFrom}
@@ -324,21 +325,18 @@ range_front xs i = ap (λ n. take n xs) (omega arith)
 range_length : {A : Type 0} (xs : List A) (a b : ℕ) → a ≤ b → b ≤ length xs → length (slice_range xs a b) ≡ b - a
 range_length xs a b le bound = length-take-le (b - a) (drop a xs) (omega (arith, length-drop a xs))
 
-range_get : {A : Type 0} (xs : List A) (a b k : ℕ) (d : A) → k < b - a → get_or (slice_range xs a b) k d ≡ get_or xs (a + k) d
-range_get xs a b k d less = get_or-take (b - a) (drop a xs) k d less ∙ get_or-drop a xs k d
-
 range_all : {A : Type 0} (P : A → Type 0) (xs : List A) (a b : ℕ) → a ≤ b → b ≤ length xs
     → ((k : ℕ) (d : A) → a ≤ k → k < b → k < length xs → P (get_or xs k d)) → All P (slice_range xs a b)
 range_all P xs a b le bound f k d less =
     let inside : k < b - a = omega (arith, range_length xs a b le bound) in
-    subst P (sym (range_get xs a b k d inside)) (f (a + k) d (omega arith) (omega arith) (omega arith))
+    subst P (sym (get_or-slice_range xs a b k d inside)) (f (a + k) d (omega arith) (omega arith) (omega arith))
 
 range_pairs : {A : Type 0} (R : A → A → Type 0) (xs : List A) (a b : ℕ) → a ≤ b → b ≤ length xs → AllPairs R xs
     → AllPairs R (slice_range xs a b)
 range_pairs R xs a b le bound h i j d less inside =
     let in_j : j < b - a = omega (arith, range_length xs a b le bound) in
     let in_i : i < b - a = omega arith in
-    coe 1 0 (z. R (range_get xs a b i d in_i z) (range_get xs a b j d in_j z)) (h (a + i) (a + j) d (omega arith) (omega arith))
+    coe 1 0 (z. R (get_or-slice_range xs a b i d in_i z) (get_or-slice_range xs a b j d in_j z)) (h (a + i) (a + j) d (omega arith) (omega arith))
 
 range_numbers : (xs : List Begin) (a b : ℕ) → a ≤ b → b ≤ length xs → AllPairs (λ m n. m ≢ n) (begin_numbers xs)
     → AllPairs (λ m n. m ≢ n) (begin_numbers (slice_range xs a b))
@@ -419,7 +417,7 @@ group_of es begins points low after p h run had passed =
           let in_range : k < after - low = omega arith in
           let back : low + k ≡ m.0 = omega arith in
           number_in (slice_range begins low after) n k b (omega (arith, range_length begins low after run.order bound))
-          (ap begin_number (range_get begins low after k b in_range ∙ ap (λ j. get_or begins j b) back ∙ m.2)
+          (ap begin_number (get_or-slice_range begins low after k b in_range ∙ ap (λ j. get_or begins j b) back ∙ m.2)
           ∙ number_back n (get_or es n nowhere) (omega (arith, given, h.small))))
           (λ (behind : after ≤ m.0). absurd (sooner_irreflexive p (subst (IsSooner p) at (run.behind m.0 p behind inside))))
           (cases_lt m.0 after))
@@ -428,8 +426,8 @@ group_of es begins points low after p h run had passed =
           let in_j : j < after - low = omega (arith, range_length begins low after run.order bound) in
           let in_i : i < after - low = omega arith in
           let in_begins : low + j < length begins = omega (arith, run.order) in
-          let at_i = range_get begins low after i d in_i in
-          let at_j = range_get begins low after j d in_j in
+          let at_i = get_or-slice_range begins low after i d in_i in
+          let at_j = get_or-slice_range begins low after j d in_j in
           ap is_level at_j
           ∙ h.levels (low + i) (low + j) d (omega arith) in_begins
           (here (low + i) d (omega arith) (omega arith) (omega arith) ∙ sym (here (low + j) d (omega arith) (omega arith) in_begins))
@@ -497,7 +495,7 @@ begin_at r p group index old mid new h first risers is = record {
         let inside : index + f.index < length group = omega arith in
         let b = get_or group (index + f.index) any in
         let same : begin_number b ≡ n =
-        sym (ap begin_number (range_get group index (length group) f.index any lt)) ∙ f.is any in
+        sym (ap begin_number (get_or-slice_range group index (length group) f.index any lt)) ∙ f.is any in
         let own = h.own (index + f.index) any inside in
         subst (IsLevelFrom r p) same (level_own b own (h.at (index + f.index) any inside)
         (level_from (index + f.index) (omega arith) inside));
@@ -517,7 +515,7 @@ begin_at r p group index old mid new h first risers is = record {
         let back : index + k ≡ m.index = omega arith in
         number_in (slice_range group index (length group)) n k any
         (omega (arith, range_length group index (length group) first.bound (omega arith)))
-        (ap begin_number (range_get group index (length group) k any lt ∙ ap (λ j. get_or group j any) back) ∙ m.is any))
+        (ap begin_number (get_or-slice_range group index (length group) k any lt ∙ ap (λ j. get_or group j any) back) ∙ m.is any))
         (cases_lt m.index index);
   };
 }
@@ -549,14 +547,14 @@ begin_at r p group index old mid new h first risers is = record {
           early = early;
           inside = omega (arith, first.bound);
           is = λ d. ap (λ k. begin_number (get_or group k d)) (sym zero_more)
-              ∙ sym (ap begin_number (range_get group 0 index f.index d (omega arith))) ∙ f.is d;
+              ∙ sym (ap begin_number (get_or-slice_range group 0 index f.index d (omega arith))) ∙ f.is d;
         }
 
     in_front : (n : ℕ) (m : IsNumberOf group n) → m.index < index → Contains (begin_numbers (slice_range group 0 index)) n
     in_front n m early =
         let zero_more : 0 + m.index ≡ m.index = omega arith in
         number_in (slice_range group 0 index) n m.index any (omega (arith, range_length group 0 index (omega arith) first.bound))
-        (ap begin_number (range_get group 0 index m.index any (omega arith)) ∙ ap (λ k. begin_number (get_or group k any)) zero_more
+        (ap begin_number (get_or-slice_range group 0 index m.index any (omega arith)) ∙ ap (λ k. begin_number (get_or group k any)) zero_more
         ∙ m.is any)
 
 -- ---- edges that rise from one point, from left to right

@@ -7,6 +7,7 @@ use Rattle.std.proofs.lemmas.List.{get_or-map}
 use Rattle.lay_point.proofs.Signs.{linear}
 use Rattle.lay_point.specs.declared.point.Point.{Point}
 use Rattle.lay_point.proofs.Rising.{IsStrictOrder}
+use Rattle.lay_point.proofs.ListLaws.{before_by_number}
 use Rattle.snap_chains.specs.Rounded.{Owned}
 use Rattle.face_rows.specs.declared.band.Band.{Band}
 use Rattle.face_rows.specs.Bands.{begins_in}
@@ -14,7 +15,7 @@ use Rattle.face_rows.specs.Lines.{edge_at, nowhere}
 use Rattle.face_rows.specs.Rows.{AreRowEdges, CrossesRow, upward}
 use Rattle.face_rows.specs.Sound.{AreSound}
 use Rattle.face_rows.proofs.BandLemmas.{bounds}
-use Rattle.face_rows.proofs.RowLemmas.{before_by_number, spans_of}
+use Rattle.face_rows.proofs.RowLemmas.{spans_of}
 use Rattle.face_sweep.specs.declared.stops.Stop.{Stop}
 use Rattle.face_sweep.specs.declared.stops.Stops.{Stops}
 use Rattle.face_sweep.specs.Points.{HasLow, IsAfter, IsEndPoint, IsNextPoint, IsPassed, IsStatus}
