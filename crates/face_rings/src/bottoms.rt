@@ -41,8 +41,7 @@ fn sorted_bottoms(alloc: Global, boxes: &[Rect]) -> Result<Vec<Bottom>, AllocErr
     ensures { IfOk result (λ bottoms. AreBottomsOf boxes.now bottoms.items) }
 {
     let mut bottoms = Vec::with_capacity(alloc, boxes.len())?;
-    for number in 0..boxes.len() {
-        let bounds = boxes[number];
+    for (number, bounds) in boxes.iter().enumerate() {
         let y = bounds.low.y;
         bottoms.push(Bottom { y, number })?;
     }

@@ -81,12 +81,12 @@ fn labels_of(alloc: Global, heads: &[usize]) -> Result<(Vec<usize>, usize), Allo
 {
     let mut labels: Vec<usize> = Vec::with_capacity(alloc, heads.len())?;
     let mut count = 0;
-    for number in 0..heads.len() {
-        if heads[number] == number {
+    for (number, head) in heads.iter().enumerate() {
+        if *head == number {
             labels.push(count)?;
             count += 1;
         } else {
-            labels.push(labels[heads[number]])?;
+            labels.push(labels[*head])?;
         }
     }
     Ok((labels, count))

@@ -168,8 +168,7 @@ fn sorted_ends(alloc: Global, edges: &[Edge]) -> Result<Vec<End>, AllocError>
     ensures lesser { IfOk result (λ ends. (e : Ends) → Contains edges.now e → IsTrue (is_before e.0 e.1)) }
 {
     let mut ends = Vec::with_capacity(alloc, 2 * edges.len())?;
-    for number in 0..edges.len() {
-        let edge = edges[number];
+    for (number, edge) in edges.iter().enumerate() {
         ends.push(End {
             at: edge.low(),
             edge: number,
@@ -191,8 +190,7 @@ fn firsts_of(alloc: Global, edges: &[Edge], ends: &[End]) -> Result<Vec<Firsts>,
 {
     let mut firsts = vec![in alloc; Firsts { low: 0, high: 0 }; edges.len()]?;
     let mut first = 0;
-    for index in 0..ends.len() {
-        let end = ends[index];
+    for (index, end) in ends.iter().enumerate() {
         first = first_or_next(ends, first, index);
         let edge = edges[end.edge];
         firsts[end.edge] = with_first(firsts[end.edge], edge, Stop { at: end.at, first });
