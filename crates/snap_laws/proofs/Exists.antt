@@ -16,11 +16,11 @@ use Rattle.snap_edge_laws.specs.Rounding.{IsRoundedPath, closed_walk, further, p
 use Rattle.snap_edge_laws.specs.Undirected.{AreEdgesOf, is_owned, walked_edges}
 use Rattle.lay_point.specs.Edges.{IsEdgeBefore}
 use Rattle.lay_point.proofs.Members.{Has, has, contains, has-append_left, has-append_right}
+use Rattle.lay_point.proofs.ListLaws.{map-has}
 use Rattle.snap_chains.specs.declared.owner.Owner.{Owner}
 use Rattle.snap_chains.specs.Owners.{IsOwnerBefore, owner_eq}
 use Rattle.snap_chains.specs.Round.{AreOwnersOf, owner_walks}
 use Rattle.snap_chains.specs.Sides.{segment_ends}
-use Rattle.snap_chains.proofs.PathLemmas.{Has-map}
 use Rattle.snap_chains.proofs.OwnerOrder.{owner_eq-Decides}
 use Rattle.snap_laws.specs.Crossings.{hot_centres}
 use Rattle.snap_laws.specs.RoundLaws.{RoundingExists, RoundingIsComputed}
@@ -100,7 +100,7 @@ module _ (segments : List Segment) (sides : List (Point × Point)) (are_sides : 
   path_is : (p : Point) (path : List Point) → AreAmong (pairs (p ∷ path)) → IsRoundedPath segments (p ∷ path) (walk_of hot (p ∷ path))
   path_is p [] inside = point p
   path_is p (q ∷ path) inside =
-      let s = Has-map segment_ends segments (p, q) (inside (p, q) (inl refl)) in
+      let s = map-has segment_ends segments (p, q) (inside (p, q) (inl refl)) in
       one_side s.0 p q path (walk_of hot (q ∷ path)) (ap (λ (e : Point × Point). e.0) s.2) (ap (λ (e : Point × Point). e.1) s.2)
       (contains segments s.0 s.1) (path_is q path (λ e m. inside e (inr m)))
 

@@ -30,6 +30,7 @@ use Rattle.lay_point.proofs.Members.{Has, has, contains, has-append}
 use Rattle.lay_point.proofs.Rising.{pair_first, pair_second}
 use Rattle.snap_edge_laws.proofs.Rounded.{rounded_paths_have_edges}
 use Rattle.snap_edge_laws.proofs.Undirected.{gone}
+use Rattle.snap_edge_laws.proofs.Motion.{mixture_high}
 use Rattle.snap_chains.specs.declared.owner.Owner.{Owner}
 use Rattle.snap_chains.specs.OwnedRings.{AreRounded}
 use Rattle.snap_chains.specs.Round.{IsRoundOf}
@@ -115,21 +116,13 @@ along_low m k t a b f ha hb =
     let g = identity (k ∷ t ∷ a ∷ b ∷ []) ((# 0 ⊖ # 1) ⊗ # 2 ⊕ # 1 ⊗ # 3) (# 2 ⊗ (# 0 ⊖ # 1) ⊕ # 3 ⊗ # 1) refl in
     omega (arith, linear)
 
-along_high : (m k t a b : ℤ) → IsFraction t k → a ≤ℤ m → b ≤ℤ m → along k t a b ≤ℤ (m *ℤ k)
-along_high m k t a b f ha hb =
-    let p = times_le (k -ℤ t) a m (omega (arith, linear, f.high)) ha in
-    let q = times_le t b m f.low hb in
-    let e = identity (m ∷ k ∷ t ∷ []) ((# 1 ⊖ # 2) ⊗ # 0 ⊕ # 2 ⊗ # 0) (# 0 ⊗ # 1) refl in
-    let g = identity (k ∷ t ∷ a ∷ b ∷ []) ((# 0 ⊖ # 1) ⊗ # 2 ⊕ # 1 ⊗ # 3) (# 2 ⊗ (# 0 ⊖ # 1) ⊕ # 3 ⊗ # 1) refl in
-    omega (arith, linear)
-
 pub inside_along : (a b c : Point) (k t : ℤ) → IsInside a → IsInside b → IsFraction t k
     → HoldsPlace c k (along k t a.x b.x) (along k t a.y b.y) → IsInside c
 inside_along a b c k t ha hb f place = record {
   left = IsRoundedTo-low (neg_ℤ LIMIT) c.x k _ f.scale (along_low (neg_ℤ LIMIT) k t a.x b.x f ha.left hb.left) place.column;
-  right = IsRoundedTo-high LIMIT c.x k _ f.scale (along_high LIMIT k t a.x b.x f ha.right hb.right) place.column;
+  right = IsRoundedTo-high LIMIT c.x k _ f.scale (mixture_high LIMIT k t a.x b.x f ha.right hb.right) place.column;
   low = IsRoundedTo-low (neg_ℤ LIMIT) c.y k _ f.scale (along_low (neg_ℤ LIMIT) k t a.y b.y f ha.low hb.low) place.row;
-  high = IsRoundedTo-high LIMIT c.y k _ f.scale (along_high LIMIT k t a.y b.y f ha.high hb.high) place.row;
+  high = IsRoundedTo-high LIMIT c.y k _ f.scale (mixture_high LIMIT k t a.y b.y f ha.high hb.high) place.row;
 }
 
 -- ---- the ends of sides

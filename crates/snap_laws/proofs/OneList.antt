@@ -5,12 +5,7 @@ use Rattle.std.proofs.lemmas.Int.{ints}
 use Rattle.lay_point.specs.declared.point.Point.{Point}
 use Rattle.snap_pixels.specs.Order.{ArePointsRising}
 use Rattle.lay_point.specs.Points.{IsBefore}
-
-IsBefore-trans : (p q r : Point) → IsBefore p q → IsBefore q r → IsBefore p r
-IsBefore-trans p q r (inl h) (inl g) = inl (omega (arith, ints))
-IsBefore-trans p q r (inl h) (inr g) = inl (omega (arith, ints, g.0))
-IsBefore-trans p q r (inr h) (inl g) = inl (omega (arith, ints, h.0))
-IsBefore-trans p q r (inr h) (inr g) = inr (h.0 ∙ g.0, omega (arith, ints, h.1, g.1))
+use Rattle.lay_point.proofs.EdgeOrder.{before_is_strict}
 
 not_before_itself : (p q : Point) → p ≡ q → IsBefore p q → ⊥
 not_before_itself p q e (inl h) = let f = ap (λ (r : Point). r.x) e in omega (arith, ints)
@@ -33,7 +28,7 @@ first_before p [] up q w = absurd (omega (arith, w.1))
 first_before p (r ∷ rs) up q w =
     ⊎_elim
     (λ (e : r ≡ q). subst (λ s. IsBefore p s) e up.0)
-    (λ later. IsBefore-trans p r q up.0 (first_before r rs up.1 q later))
+    (λ later. before_is_strict.transitive p r q up.0 (first_before r rs up.1 q later))
     (Contains-cases r q rs w)
 
 -- the first points are one
@@ -45,7 +40,7 @@ same_first p q ps qs up up' w w' =
     (λ later. ⊎_elim
     (λ (e : p ≡ q). e)
     (λ later'. absurd (not_before_itself p p refl
-    (IsBefore-trans p q p (first_before p ps up q later') (first_before q qs up' p later))))
+    (before_is_strict.transitive p q p (first_before p ps up q later') (first_before q qs up' p later))))
     (Contains-cases p q ps w'))
     (Contains-cases q p qs w)
 

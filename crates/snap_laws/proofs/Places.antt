@@ -6,6 +6,7 @@ use Rattle.lay_point.proofs.Signs.{linear, positive_product}
 use Rattle.snap_pixels.specs.Pixels.{IsRoundedTo}
 use Rattle.snap_pixels.specs.Segments.{along}
 use Rattle.snap_pixels.proofs.RoundLemmas.{IsRoundedTo-one, IsRoundedTo-same}
+use Rattle.snap_edge_laws.proofs.Ends.{along_back}
 use Rattle.snap_laws.specs.PixelLaws.{CrossingsAreMet, EitherWayMeets, EndsAreMet, PlacesHaveOnePixel, ScalesAreFree}
 
 pub one_pixel : PlacesHaveOnePixel
@@ -80,17 +81,13 @@ crossings_met a b a' b' c (apart, k, t, t', h, place) = (
   ),
 )
 
-other_way : (k t a b : ℤ) → along k t a b ≡ along k (k -ℤ t) b a
-other_way k t a b =
-    identity (k ∷ t ∷ a ∷ b ∷ []) (# 2 ⊗ (# 0 ⊖ # 1) ⊕ # 3 ⊗ # 1) (# 3 ⊗ (# 0 ⊖ (# 0 ⊖ # 1)) ⊕ # 2 ⊗ (# 0 ⊖ # 1)) refl
-
 pub met_either_way : EitherWayMeets
 met_either_way a b c (k, t, f, place) = (
   k,
   k -ℤ t,
   record { scale = f.scale; low = omega (arith, linear, f.high); high = omega (arith, linear, f.low) },
   record {
-    column = subst (λ x. IsRoundedTo c.x k x) (other_way k t a.x b.x) place.column;
-    row = subst (λ y. IsRoundedTo c.y k y) (other_way k t a.y b.y) place.row;
+    column = subst (λ x. IsRoundedTo c.x k x) (along_back k t a.x b.x) place.column;
+    row = subst (λ y. IsRoundedTo c.y k y) (along_back k t a.y b.y) place.row;
   },
 )

@@ -7,8 +7,9 @@ use Rattle.snap_pixels.specs.Hot.{IsHot}
 use Rattle.snap_pixels.specs.Segments.{Crosses}
 use Rattle.snap_pixels.proofs.MarkLemmas.{HoldsPlace-whole}
 use Rattle.lay_point.proofs.Members.{Has, has, contains}
+use Rattle.lay_point.proofs.ListLaws.{map-has}
 use Rattle.snap_chains.specs.Sides.{segment_ends}
-use Rattle.snap_chains.proofs.PathLemmas.{Contains-map, Has-map}
+use Rattle.snap_chains.proofs.PathLemmas.{Contains-map}
 use Rattle.snap_laws.specs.Rounding.{way_along}
 
 -- the centre is an end of a side, or the pixel of a crossing
@@ -40,14 +41,14 @@ hot_marked segments c (inr (s, t, m, n, x)) = inr (
 
 pub marked_hot : (segments : List Segment) (c : Point) → IsMarked (map segment_ends segments) c → IsHot segments c
 marked_hot segments c (inl (e, m, inl same)) =
-    let s = Has-map segment_ends segments e m in
+    let s = map-has segment_ends segments e m in
     inl (s.0, contains segments s.0 s.1, inl ((HoldsPlace-whole s.0.a c).1 (ap (λ (p : Point × Point). p.0) s.2 ∙ same)))
 marked_hot segments c (inl (e, m, inr same)) =
-    let s = Has-map segment_ends segments e m in
+    let s = map-has segment_ends segments e m in
     inl (s.0, contains segments s.0 s.1, inr ((HoldsPlace-whole s.0.b c).1 (ap (λ (p : Point × Point). p.1) s.2 ∙ same)))
 marked_hot segments c (inr (e, f, m, n, x)) =
-    let s = Has-map segment_ends segments e m in
-    let t = Has-map segment_ends segments f n in
+    let s = map-has segment_ends segments e m in
+    let t = map-has segment_ends segments f n in
     inr (
       s.0,
       t.0,
