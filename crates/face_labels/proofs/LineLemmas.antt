@@ -9,12 +9,12 @@ use Rattle.std.proofs.lemmas.List.Elements.{Contains-append_left, Contains-appen
 use Rattle.lay_point.proofs.Signs.{linear}
 use Rattle.lay_point.specs.declared.point.Point.{Point}
 use Rattle.lay_point.proofs.Members.{Has, contains, has, has-append}
+use Rattle.lay_point.proofs.ListLaws.{has_get}
 use Rattle.snap_chains.specs.declared.owner.Owner.{Owner}
 use Rattle.snap_chains.specs.Rounded.{Owned}
 use Rattle.face_rows.specs.Rows.{CrossesRow}
 use Rattle.face_rows.specs.Sound.{AreSound}
 use Rattle.face_rows.specs.declared.op.Op.{Op}
-use Rattle.face_rows.proofs.RowLemmas.{has_get}
 use Rattle.face_sweep.specs.declared.known.Known.{Known}
 use Rattle.face_sweep.specs.declared.stops.Stop.{Stop}
 use Rattle.face_sweep.specs.declared.stops.Stops.{Stops}

@@ -2,9 +2,9 @@
 use Rattle.std.proofs.Common.{◌≡◌, Contains, true}
 use Rattle.lay_point.specs.declared.point.Point.{Point}
 use Rattle.lay_point.proofs.Members.{contains}
+use Rattle.lay_point.proofs.ListLaws.{has_get}
 use Rattle.face_rows.specs.Bands.{begins_in}
 use Rattle.face_rows.specs.Lines.{edge_at, nowhere}
-use Rattle.face_rows.proofs.RowLemmas.{has_get}
 use Rattle.face_labels.proofs.WrittenLemmas.{labels_of_all}
 use Rattle.face_labels.proofs.labels.label_edges.Goals as goal
 
