@@ -20,8 +20,9 @@ use Rattle.face_rows.specs.Bands.{begins_in, labelled}
 use Rattle.face_rows.specs.Rows.{upward}
 use Rattle.face_rows.specs.Operations.{answer}
 use Rattle.face_rows.proofs.PickedLemmas.{picked_has, picked_of}
-use Rattle.face_rows.proofs.SideLemmas.{zip_first}
 use Rattle.lay_point.proofs.Tests.{le_true, lt_false, lt_true, true_le}
+use Rattle.lay_point.proofs.ListLaws.{has_get}
+use Rattle.face_rows.proofs.ItemLemmas.{zip_first}
 use Rattle.band_workers.specs.Cuts.{IsLabelled, band_at, whole_band}
 use Rattle.band_workers.specs.Written.{AreNumbersBelow, ArePartsBelow, Part, with_labels, with_parts}
 use Rattle.band_workers.specs.Labels.{labels_of}
@@ -161,11 +162,6 @@ all_has : {A : Type 0} (P : A → Type 0) (xs : List A) → ((x : A) → Has xs 
 all_has P [] f = tt
 all_has P (x ∷ xs) f = (f x (inl refl), all_has P xs (λ y m. f y (inr m)))
 
-has_get_or : {A : Type 0} (xs : List A) (i : ℕ) (d : A) → i < length xs → Has xs (get_or xs i d)
-has_get_or [] i d less = absurd (omega arith)
-has_get_or (x ∷ xs) zero d less = inl refl
-has_get_or (x ∷ xs) (suc i) d less = inr (has_get_or xs i d (omega arith))
-
 of_ok : (op : Op) (r : Owned) (band : Band) (part : Part) (labels : Vec (ℕ × Bool)) → part ≡ Ok labels → IsLabelled op r band part
     → labels.items ≡ labelled op r band
 of_ok op r band part labels is h = subst (IsLabelled op r band) is h
@@ -256,7 +252,7 @@ module _ (op : Op) (r : Owned) (cuts : List ℤ) (parts : List Part) (h : ArePar
   some all joined n less =
       let inside : n < length (owned_items r) = omega (arith, less, len_wanted, len_items) in
       let item = get_or (owned_items r) n no_item in
-      let given : Contains r.0 item.0 = contains r.0 item.0 (zip_first r.0 r.1 item (has_get_or (owned_items r) n no_item inside)) in
+      let given : Contains r.0 item.0 = contains r.0 item.0 (zip_first r.0 r.1 item (has_get (owned_items r) n no_item inside)) in
       let band = in_band item.0 (h.whole item.0 given) in
       in_part all joined n band.0 inside band.1 band.2
 
