@@ -7,6 +7,7 @@ use Rattle.std.specs.FinMap.{FinMap, IsAntisymmetric, entries, entries_sorted, f
 use Rattle.std.specs.List.{AllByRecursion, list_any}
 use Rattle.std.specs.Ordering.{eq_by_cmp, is_eq, nat_cmp, ordering_then}
 use Rattle.std.proofs.lemmas.Bool.Decides.{nat_tests}
+use Rattle.lay_point.proofs.BoolLaws.{true_by_T}
 use Rattle.lay_cells.specs.declared.cell_id.CellId.{CellId}
 use Rattle.lay_cells.specs.declared.cell_id.CellId.TheVariants.{Symbol, Top}
 use Rattle.lay_cells.specs.Symbols.{has_cell, has_symbol}
@@ -20,7 +21,7 @@ use Rattle.lay_layouts.specs.Layout.{Layout, is_cell}
 use Rattle.lay_layouts.specs.SlotOrder.{Standing, by_standing, in_slot_order, rank, standing_cmp, standing_of}
 use Rattle.lay_layouts.specs.Sound.{IsSound, IsSoundItem}
 use Rattle.lay_layouts.proofs.DistinctLemmas.{AreDistinct}
-use Rattle.lay_layouts.proofs.SlotLemmas.{find-standings, of_rank, sorted-distinct, standings_total, tested}
+use Rattle.lay_layouts.proofs.SlotLemmas.{find-standings, of_rank, sorted-distinct, standings_total}
 
 -- what is found among entries is among their values
 found-any : {K : Type 0} (R : K → K → Ordering) (es : List (K × ℕ)) (k : K) (n : ℕ) → find R k es ≡ Some n
@@ -53,7 +54,7 @@ has_slot symbols n there = by_slot (get symbols n) refl there where
       ranks (rank slot) in
       let at : find standing_cmp (rank slot, n) (entries m) ≡ Some n =
       sym (get-entries m (rank slot, n)) ∙ get-from_entries standings_total (map standing_of (entries symbols)) (rank slot, n)
-      ∙ find-standings (entries symbols) (rank slot) n (sorted-distinct nat_cmp (entries symbols) (tested _ (entries_sorted symbols)))
+      ∙ find-standings (entries symbols) (rank slot) n (sorted-distinct nat_cmp (entries symbols) (true_by_T _ (entries_sorted symbols)))
       ∙ ap (of_rank (rank slot) n) (sym (get-entries symbols n) ∙ is) ∙ ap (λ b. cond b (Some n) None) same in
       found-any standing_cmp (entries m) (rank slot, n) n at where
         equal : (k : ℕ) → eq_by_cmp nat_cmp k k ≡ true
@@ -96,5 +97,5 @@ pub all_placeable : (layout : Layout) → IsSound layout
     → AllByRecursion (λ (e : ItemId × Item). IsPlaceable (in_slot_order layout.symbols) e.1) (entries layout.items)
 all_placeable layout sound =
     all_found id_cmp ids_total ids_exact (IsPlaceable (in_slot_order layout.symbols)) (entries layout.items)
-    (sorted-distinct id_cmp (entries layout.items) (tested _ (entries_sorted layout.items)))
+    (sorted-distinct id_cmp (entries layout.items) (true_by_T _ (entries_sorted layout.items)))
     (λ id item at. sound_placeable layout item (sound.items id item (get-entries layout.items id ∙ at)))

@@ -10,11 +10,12 @@ use Rattle.std.proofs.lemmas.Bool.{eqb-true, or_right}
 use Rattle.std.proofs.lemmas.Bool.Decides.{Decides-eqb}
 use Rattle.std.proofs.lemmas.List.Elements.{All-cons, All-map, All-nil, All-tail, All-head, All-weaker, recursion_from_All}
 use Rattle.std.proofs.lemmas.Map.Lookups.{exact_pairs, exact_unsigned}
+use Rattle.lay_point.proofs.BoolLaws.{true_by_T}
 use Rattle.lay_cells.specs.Symbols.{has_symbol}
 use Rattle.lay_layouts.specs.declared.slot.CellSlot.{CellSlot}
 use Rattle.lay_layouts.specs.SlotOrder.{Standing, by_standing, in_slot_order, rank, standing_cmp, standing_of}
 use Rattle.lay_layouts.proofs.DistinctLemmas.{AreDistinct}
-use Rattle.lay_layouts.proofs.SlotLemmas.{find-standings, is_eq-then, of_rank, sorted-distinct, standings_exact, standings_total, tested}
+use Rattle.lay_layouts.proofs.SlotLemmas.{find-standings, is_eq-then, of_rank, sorted-distinct, standings_exact, standings_total}
 
 -- ---- entries
 
@@ -35,7 +36,7 @@ module _ {K X : Type 0} {R : K → K → Ordering} (total : IsTotalOrder R) (exa
       by e at false is = at
 
   entries-distinct : (m : FinMap R X) → AreDistinct R (entries m)
-  entries-distinct m = sorted-distinct R (entries m) (tested _ (entries_sorted m))
+  entries-distinct m = sorted-distinct R (entries m) (true_by_T _ (entries_sorted m))
 
   pub entries-found : (m : FinMap R X) → All (λ e. get m e.0 ≡ Some e.1) (entries m)
   entries-found m =

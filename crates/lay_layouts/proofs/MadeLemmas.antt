@@ -17,6 +17,7 @@ use Rattle.std.proofs.lemmas.List.{get_or-map, length-map, map-append, take_all,
 use Rattle.std.proofs.lemmas.List.Elements.{All-head, All-tail, All-weaker}
 use Rattle.std.proofs.lemmas.Map.Lookups.{exact_unsigned}
 use Rattle.std.proofs.lemmas.Option.{get_or_from_slice_get}
+use Rattle.lay_point.proofs.BoolLaws.{true_by_T}
 use Rattle.lay_cells.specs.Symbols.{has_symbol, with_symbol}
 use Rattle.lay_layouts.specs.declared.slot.CellSlot.{CellSlot}
 use Rattle.lay_layouts.specs.declared.slot.CellSlot.TheVariants.{Base, Made}
@@ -24,7 +25,7 @@ use Rattle.lay_layouts.specs.Layout.{SymbolWrite, put_all, symbols_of}
 use Rattle.lay_layouts.specs.SlotOrder.{AreMadeUpTo, Standing, by_standing, in_slot_order, is_behind, is_made, rank, standing_cmp}
 use Rattle.lay_layouts.proofs.EntryLemmas.{IsStanding, all_standing, found_standing, order_is, standings, symbols-ordered}
 use Rattle.lay_layouts.proofs.MapLemmas.{no_length, sorted_keys}
-use Rattle.lay_layouts.proofs.SlotLemmas.{by_standing-entries, sorted-distinct, standings_exact, standings_total, tested}
+use Rattle.lay_layouts.proofs.SlotLemmas.{by_standing-entries, sorted-distinct, standings_exact, standings_total}
 use Rattle.lay_layouts.proofs.SymbolLemmas.{in_slot_order-distinct, with_symbol-new}
 
 abbrev Symbols : Type 0
@@ -67,7 +68,7 @@ module _ (s : Symbols) (n : ℕ) (below : (m : ℕ) → get s m ≡ Some Made �
       let m : FinMap standing_cmp ℕ = by_standing es in
       let more : by_standing (entries (insert s n Made)) ≡ insert m (rank Made, n) n =
       ap (λ (t : Symbols). by_standing (entries (insert t n Made))) (sym (entries_map s))
-      ∙ by_standing-entries ((n, Made) ∷ es) (sym (get-entries s n) ∙ none, sorted-distinct nat_cmp es (tested _ (entries_sorted s))) in
+      ∙ by_standing-entries ((n, Made) ∷ es) (sym (get-entries s n) ∙ none, sorted-distinct nat_cmp es (true_by_T _ (entries_sorted s))) in
       let last : entries (insert m (rank Made, n) n) ≡ entries m ++ ((rank Made, n), n) ∷ [] =
       entries-insert standings_total m (rank Made, n) n
       ∙ put_last standing_cmp (rank Made, n) n (entries m)
@@ -203,7 +204,7 @@ module _ (s : Symbols) (cells : List ℕ) (ordered : cells ≡ in_slot_order s) 
   unfolding es standings
   sorted =
       subst (λ (fs : List (Standing × ℕ)). IsStrictlySortedBy standing_cmp (keys_of fs)) split
-      (sorted_keys standing_cmp es (tested _ (entries_sorted (by_standing (entries s)))))
+      (sorted_keys standing_cmp es (true_by_T _ (entries_sorted (by_standing (entries s)))))
 
   -- it has a slot
   pub last_slot : get s x ≡ None → ⊥

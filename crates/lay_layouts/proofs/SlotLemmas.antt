@@ -1,7 +1,7 @@
 -- The symbols of a list, in slots of a text, stand in the order of the list.
 use Rattle.std.proofs.Common.{◌≡◌, ◌<◌, ℕ, ◌+◌, drop, get_or, length, Bool, true, false, ◌&&◌}
 use Rattle.std.proofs.Common.{List, [], ◌∷◌, Option, Some, None, cond, refl, ap, sym, ◌∙◌, arith, map}
-use Rattle.std.proofs.Common.{nat_eq, T}
+use Rattle.std.proofs.Common.{nat_eq}
 use Rattle.std.specs.declared.cmp.Ordering.{Ordering}
 use Rattle.std.specs.declared.cmp.Ordering.TheVariants.{Equal, Greater, Less}
 use Rattle.std.specs.Cmp.{Equal-is, IsTotalOrder, eq_by_cmp_equiv, nat_cmp_is, nat_cmp_total}
@@ -17,6 +17,7 @@ use Rattle.std.proofs.lemmas.Bool.Decides.{Decides-eqb, same_from_decides}
 use Rattle.std.proofs.lemmas.Cmp.{on_total, then_total}
 use Rattle.std.proofs.lemmas.List.{at_drop_more}
 use Rattle.std.proofs.lemmas.Map.Lookups.{exact_pairs, exact_unsigned}
+use Rattle.lay_point.proofs.BoolLaws.{true_by_T}
 use Rattle.lay_layouts.specs.declared.slot.CellSlot.{CellSlot}
 use Rattle.lay_layouts.specs.declared.slot.CellSlot.TheVariants.{Base}
 use Rattle.lay_layouts.specs.Layout.{symbols_of}
@@ -70,11 +71,6 @@ find-standings (e ∷ es) r n h =
           rank_alone _ n e.0 _ same (behind ∙ ap (of_rank r n) (ap (λ k. find nat_cmp k es) same ∙ h.0))
       by_number behind false is = other_number _ (Some e.0) _ ∙ behind
 
--- the test holds
-pub tested : (b : Bool) → T b → b ≡ true
-tested true h = refl
-tested false h = absurd h
-
 -- a key below all others isn't found among them
 find-below : {K X : Type 0} (R : K → K → Ordering) (k : K) (es : List (K × X)) → below_all R k es ≡ true → find R k es ≡ None
 find-below R k [] h = refl
@@ -99,7 +95,7 @@ by_standing-entries es h =
     let m : FinMap nat_cmp CellSlot = symbols_of es in
     same_map standings_total standings_exact _ _ (λ q.
     get-from_entries standings_total (map standing_of (entries m)) q
-    ∙ find-standings (entries m) q.0 q.1 (sorted-distinct nat_cmp (entries m) (tested _ (entries_sorted m)))
+    ∙ find-standings (entries m) q.0 q.1 (sorted-distinct nat_cmp (entries m) (true_by_T _ (entries_sorted m)))
     ∙ ap (of_rank q.0 q.1) (sym (get-entries m q.1) ∙ get-from_entries nat_cmp_total es q.1)
     ∙ sym (find-standings es q.0 q.1 h) ∙ sym (get-from_entries standings_total (map standing_of es) q))
 

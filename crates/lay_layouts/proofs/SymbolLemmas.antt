@@ -10,12 +10,13 @@ use Rattle.std.specs.Map.{keys_of}
 use Rattle.std.specs.Ordering.{eq_by_cmp, is_eq, nat_cmp, ordering_then}
 use Rattle.std.proofs.lemmas.Bool.Decides.{nat_tests}
 use Rattle.std.proofs.lemmas.Map.Lookups.{exact_pairs, exact_unsigned}
+use Rattle.lay_point.proofs.BoolLaws.{true_by_T}
 use Rattle.lay_cells.specs.Symbols.{has_symbol, with_symbol}
 use Rattle.lay_layouts.specs.declared.slot.CellSlot.{CellSlot}
 use Rattle.lay_layouts.specs.SlotOrder.{Standing, by_standing, in_slot_order, rank, standing_cmp, standing_of}
 use Rattle.lay_layouts.proofs.DistinctLemmas.{AreDistinct}
 use Rattle.lay_layouts.proofs.MapLemmas.{sorted_keys}
-use Rattle.lay_layouts.proofs.SlotLemmas.{find-standings, of_rank, sorted-distinct, standings_exact, standings_total, tested}
+use Rattle.lay_layouts.proofs.SlotLemmas.{find-standings, of_rank, sorted-distinct, standings_exact, standings_total}
 
 rank_at : Option CellSlot → ℕ × ℕ
 rank_at None = (0, 0)
@@ -85,11 +86,11 @@ module _ (symbols : FinMap nat_cmp CellSlot) where
   unfolding in_slot_order
   in_slot_order-distinct =
       let m : FinMap standing_cmp ℕ = by_standing (entries symbols) in
-      let sorted : is_sorted standing_cmp (entries m) ≡ true = tested _ (entries_sorted m) in
+      let sorted : is_sorted standing_cmp (entries m) ≡ true = true_by_T _ (entries_sorted m) in
       numbers_distinct (entries m) (sorted_keys standing_cmp (entries m) sorted)
       (all_stand (entries m) (sorted-distinct standing_cmp (entries m) sorted) (λ q n at.
       stands q n (get symbols q.1) refl (ap (of_rank q.0 q.1) (get-entries symbols q.1)
-      ∙ sym (find-standings (entries symbols) q.0 q.1 (sorted-distinct nat_cmp (entries symbols) (tested _ (entries_sorted symbols))))
+      ∙ sym (find-standings (entries symbols) q.0 q.1 (sorted-distinct nat_cmp (entries symbols) (true_by_T _ (entries_sorted symbols))))
       ∙ sym (get-from_entries standings_total (map standing_of (entries symbols)) q) ∙ get-entries m q ∙ at)))
 
   -- the standings are inserted in turn

@@ -13,6 +13,7 @@ use Rattle.std.proofs.lemmas.Bool.Decides.{Decides-eqb, same_from_decides}
 use Rattle.std.proofs.lemmas.List.Elements.{recursion_from_All}
 use Rattle.std.proofs.lemmas.List.Sums.{count_by-le-length, length-filter}
 use Rattle.std.proofs.lemmas.Map.Lookups.{btree_set_from_contains, exact_unsigned}
+use Rattle.lay_point.proofs.BoolLaws.{true_by_T}
 use Rattle.lay_cells.specs.Symbols.{has_symbol}
 use Rattle.lay_cells.specs.declared.cell_id.CellId.{CellId}
 use Rattle.lay_cells.specs.SameCell.{cell_eq}
@@ -24,7 +25,6 @@ use Rattle.lay_layouts.specs.declared.slot.CellSlot.{CellSlot}
 use Rattle.lay_layouts.specs.SlotOrder.{in_slot_order}
 use Rattle.lay_layouts.proofs.EntryLemmas.{order-symbols, symbols-ordered}
 use Rattle.lay_layouts.proofs.MapLemmas.{sorted_keys}
-use Rattle.lay_layouts.proofs.SlotLemmas.{tested}
 
 -- ---- numbers
 
@@ -58,7 +58,7 @@ pub numbers_sorted : (symbols : FinMap nat_cmp CellSlot) (numbers : List ℕ) �
     → ((q : ℕ) → list_any (is_at (nat_cmp q)) numbers ≡ has_symbol (in_slot_order symbols) q) → numbers ≡ finite.keys symbols
 numbers_sorted symbols numbers sorted same =
     btree_set_from_contains nat_cmp_total (record { keys = numbers }) (record { keys = finite.keys symbols }) sorted
-    (sorted_keys nat_cmp (entries symbols) (tested _ (entries_sorted symbols)))
+    (sorted_keys nat_cmp (entries symbols) (true_by_T _ (entries_sorted symbols)))
     (λ q. same q ∙ ordered_numbers symbols q ∙ contains_key-keys symbols q) exact_unsigned
 
 -- the order of numbers ties the same ones
