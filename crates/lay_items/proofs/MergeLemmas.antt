@@ -10,8 +10,9 @@ use Rattle.std.specs.List.Sorted.{IsStrictlySortedBy}
 use Rattle.std.specs.Map.{keys_of}
 use Rattle.std.specs.Ordering.{eq_by_cmp, is_eq, is_lt, ordering_reverse}
 use Rattle.std.proofs.lemmas.List.{at_drop_more}
+use Rattle.lay_point.proofs.BoolLaws.{Less_by_test}
+use Rattle.lay_point.proofs.ListLaws.{all_weaker}
 use Rattle.lay_pages.specs.Written.{higher, lower, written_entries}
-use Rattle.lay_items.proofs.RunLemmas.{all_weaker, less}
 use Rattle.lay_layouts.specs.declared.id.ItemId.{ItemId}
 use Rattle.lay_layouts.specs.declared.item.Item.{Item}
 use Rattle.lay_items.specs.Entries.{merged}
@@ -163,10 +164,10 @@ pub sorted-merged : (es : List (ItemId × Item)) (ws : List Write) → IsStrictl
 sorted-merged es [] sorted rising = sorted
 sorted-merged es (w ∷ ws) sorted rising =
     sorted-joined (lower id_cmp w.0 es) w.0 w.1 (merged (higher id_cmp w.0 es) ws) (sorted-kept (λ x. is_lt (id_cmp x w.0)) es sorted)
-    (all_weaker (λ k. is_lt (id_cmp k w.0) ≡ true) (λ k. id_cmp k w.0 ≡ Less) (λ k. less (id_cmp k w.0)) (keys_of (lower id_cmp w.0 es))
+    (all_weaker (λ k. is_lt (id_cmp k w.0) ≡ true) (λ k. id_cmp k w.0 ≡ Less) (λ k. Less_by_test (id_cmp k w.0)) (keys_of (lower id_cmp w.0 es))
     (all-passes (λ x. is_lt (id_cmp x w.0)) es))
     (all-merged (λ k. id_cmp w.0 k ≡ Less) (higher id_cmp w.0 es) ws
-    (all_weaker (λ k. is_lt (id_cmp w.0 k) ≡ true) (λ k. id_cmp w.0 k ≡ Less) (λ k. less (id_cmp w.0 k)) (keys_of (higher id_cmp w.0 es))
+    (all_weaker (λ k. is_lt (id_cmp w.0 k) ≡ true) (λ k. id_cmp w.0 k ≡ Less) (λ k. Less_by_test (id_cmp w.0 k)) (keys_of (higher id_cmp w.0 es))
     (all-passes (λ x. is_lt (id_cmp w.0 x)) es)) (rising_all w ws rising))
     (sorted-merged (higher id_cmp w.0 es) ws (sorted-kept (λ x. is_lt (id_cmp w.0 x)) es sorted) (rising_tail w ws rising))
 

@@ -30,7 +30,7 @@ abbrev pub IsIn : CellId → List ℕ → CellId → Type 0
 IsIn start symbols Top = IsTop start
 IsIn start symbols (Symbol n) = has_symbol symbols n ≡ true
 
-other_way : (a b : ℕ) → nat_eq a b ≡ false → nat_eq b a ≡ false
+pub other_way : (a b : ℕ) → nat_eq a b ≡ false → nat_eq b a ≡ false
 other_way a b h = grind (arith, nat_tests)
 
 -- a symbol stands at some index

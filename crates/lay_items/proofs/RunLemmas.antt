@@ -16,6 +16,8 @@ use Rattle.std.specs.Ordering.{is_eq, is_lt, nat_cmp, ordering_then}
 use Rattle.std.proofs.lemmas.Bool.Decides.{Decides-eqb}
 use Rattle.std.proofs.lemmas.Cmp.{tied_itself}
 use Rattle.std.proofs.lemmas.List.Elements.{filter-append}
+use Rattle.lay_point.proofs.BoolLaws.{Less_by_test}
+use Rattle.lay_point.proofs.ListLaws.{all_weaker}
 use Rattle.lay_pages.specs.Written.{from_key}
 use Rattle.lay_pages.proofs.OrderLemmas.{sorted-kept}
 use Rattle.lay_pages.proofs.PlaceLemmas.{sorted-right}
@@ -32,11 +34,6 @@ use Rattle.lay_items.specs.Runs.{from_mark, group_cmp, group_in, groups_exact, g
 use Rattle.lay_items.specs.Runs.{marks_exact, marks_total, next_mark, of_group, same_group}
 
 -- ---- lists
-
--- what is so of each, and gives another thing, gives that of each
-pub all_weaker : {A : Type 0} (P Q : A → Type 0) → ((a : A) → P a → Q a) → (xs : List A) → AllByRecursion P xs → AllByRecursion Q xs
-all_weaker P Q h [] all = tt
-all_weaker P Q h (x ∷ xs) all = (h x all.0, all_weaker P Q h xs all.1)
 
 filter_none : {A : Type 0} (p : A → Bool) (xs : List A) → AllByRecursion (λ x. p x ≡ false) xs → filter p xs ≡ []
 filter_none p [] all = refl
@@ -66,14 +63,9 @@ passes_all {A} p (x ∷ xs) = cases (p x) refl (passes_all p xs) where
   cases true is rest = (is, rest)
   cases false is rest = rest
 
-not_true : (b : Bool) → not b ≡ true → b ≡ false
+pub not_true : (b : Bool) → not b ≡ true → b ≡ false
 not_true true h = absurd cc
 not_true false h = refl
-
-pub less : (o : Ordering) → is_lt o ≡ true → o ≡ Less
-less Less h = refl
-less Equal h = absurd cc
-less Greater h = absurd cc
 
 -- ---- entries in order
 
@@ -277,7 +269,7 @@ below_next group id marks (Some s) are t below = cases (id_cmp t s) refl where
       let no : true ≡ false = sym below ∙ ap (λ k. is_lt (id_cmp k id)) (ids_exact t s is) ∙ are.from s refl in
       absurd cc
   cases Greater is =
-      let before : id_cmp s id ≡ Less = ids_total.trans s t id (turned ids_total t s Greater is) (less (id_cmp t id) below) in
+      let before : id_cmp s id ≡ Less = ids_total.trans s t id (turned ids_total t s Greater is) (Less_by_test (id_cmp t id) below) in
       let no : true ≡ false = sym (ap is_lt before) ∙ are.from s refl in
       absurd cc
 

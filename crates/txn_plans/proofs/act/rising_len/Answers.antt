@@ -1,6 +1,6 @@
 use Rattle.std.proofs.Common.{◌∙◌, ap, arith, sym}
 use Rattle.std.specs.Ordering.{is_lt}
-use Rattle.lay_items.proofs.RunLemmas.{less}
+use Rattle.lay_point.proofs.BoolLaws.{Less_by_test}
 use Rattle.txn_plans.proofs.RisingWrites.{rising_more, rising_one}
 use Rattle.txn_plans.proofs.act.rising_len.Goals as goal
 
@@ -15,5 +15,5 @@ loop-count-preserved c = record {
   within = omega arith;
   rising = rising_more c.args.items.now c.loop-count.count c.index-items-count.result c.index-items-count-in-loop-count.result
       c.loop-count.invariant.some (omega arith) c.loop-count.invariant.rising
-      (less _ (sym (c.if-is_lt.ensures ∙ ap is_lt c.cmp.ensures)));
+      (Less_by_test _ (sym (c.if-is_lt.ensures ∙ ap is_lt c.cmp.ensures)));
 }
