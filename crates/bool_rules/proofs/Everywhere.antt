@@ -13,10 +13,6 @@ by_place P [] all k d inside = absurd (omega (arith, inside))
 by_place P (x ∷ xs) all zero d inside = all.0
 by_place P (x ∷ xs) all (suc k) d inside = by_place P xs all.1 k d (omega (arith, inside))
 
-pub weaker : {A : Type 0} (P Q : A → Type 0) → ((x : A) → P x → Q x) → (xs : List A) → AllByRecursion P xs → AllByRecursion Q xs
-weaker P Q implies [] all = tt
-weaker P Q implies (x ∷ xs) all = (implies x all.0, weaker P Q implies xs all.1)
-
 pub all-append : {A : Type 0} (P : A → Type 0) (xs ys : List A) → AllByRecursion P xs → AllByRecursion P ys → AllByRecursion P (xs ++ ys)
 all-append P [] ys first second = second
 all-append P (x ∷ xs) ys first second = (first.0, all-append P xs ys first.1 second)

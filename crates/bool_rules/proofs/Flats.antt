@@ -6,6 +6,7 @@ use Rattle.std.specs.List.{AllByRecursion, list_all, list_any}
 use Rattle.lay_point.specs.Rings.{IsRing}
 use Rattle.lay_point.specs.Same.{names_eq}
 use Rattle.lay_point.specs.Turns.{unturned}
+use Rattle.lay_point.proofs.ListLaws.{all_weaker}
 use Rattle.lay_cells.specs.declared.cell_id.CellId.{CellId}
 use Rattle.lay_layouts.specs.declared.id.ItemId.{ItemId}
 use Rattle.lay_layouts.specs.declared.item.Item.{Item}
@@ -24,7 +25,7 @@ use Rattle.lay_flat.specs.Flat.{FlatRing, IsFlat, is_within}
 use Rattle.lay_flat.specs.Flattening.{Drawn, drawn_at, ends_of, flat_at, flat_of, on_success, rings_at, rings_from, rings_of, tested}
 use Rattle.bool_rules.specs.Laws.{FlatteningsAreFlat}
 use Rattle.bool_rules.proofs.Everywhere.{IfKept, all-append, all-filter, all-filter_map, all-flat_map}
-use Rattle.bool_rules.proofs.Everywhere.{all-map, by_place, by_recursion, tested_each, weaker}
+use Rattle.bool_rules.proofs.Everywhere.{all-map, by_place, by_recursion, tested_each}
 
 -- a shape's rings are rings
 abbrev HasRings : LentShape → Type 0
@@ -42,7 +43,7 @@ module _ (layout : Layout) (sound : IsSound layout) where
 
   all_held : AllByRecursion IsHeld (entries layout.items)
   all_held =
-      weaker (λ e. get layout.items e.0 ≡ Some e.1) IsHeld (λ e at. sound.items e.0 e.1 at) (entries layout.items)
+      all_weaker (λ e. get layout.items e.0 ≡ Some e.1) IsHeld (λ e at. sound.items e.0 e.1 at) (entries layout.items)
       (by_recursion (λ e. get layout.items e.0 ≡ Some e.1) (entries layout.items) (entries-found ids_total ids_exact layout.items))
 
   held_in : (cell : CellId) → AllByRecursion IsHeld (items_in layout cell)

@@ -8,18 +8,13 @@ use Rattle.std.proofs.lemmas.List.{get_or-map, length-map}
 use Rattle.face_ring_laws.specs.Heads.{AreFirst, IsFinest}
 use Rattle.lay_point.specs.declared.rect.Rect.{Rect}
 use Rattle.lay_point.specs.Rects.{is_up_to, touch}
+use Rattle.lay_point.proofs.BoolLaws.{and_comm}
 use Rattle.face_ring_laws.specs.Parts.{AreJoined}
 use Rattle.bool_rules.specs.Dividing.{heads_of, heads_with, touches_head}
 
 -- ---- tests
-and_turned : (a b : Bool) → (a && b) ≡ (b && a)
-and_turned true true = refl
-and_turned true false = refl
-and_turned false true = refl
-and_turned false false = refl
-
 touch_turned : (b c : Rect) → touch b c ≡ touch c b
-touch_turned b c = and_turned (is_up_to b.low c.high) (is_up_to c.low b.high)
+touch_turned b c = and_comm (is_up_to b.low c.high) (is_up_to c.low b.high)
 
 -- ---- the boxes that one touches
 -- the box touches the one of this number, which has this head

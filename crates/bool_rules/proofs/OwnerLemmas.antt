@@ -1,18 +1,17 @@
 -- Of distinct edges, each counted where a list has it an odd number of times, as many pass a test, by parity, as of the list.
-use Rattle.std.proofs.Common.{◌≡◌, inl, inr, ⊎_elim, Bool, true, false, ◌&&◌, ◌||◌, cond, List, [], ◌∷◌, ◌++◌, map, ℤ}
+use Rattle.std.proofs.Common.{◌≡◌, inl, inr, ⊎_elim, Bool, true, false, ◌&&◌, cond, List, [], ◌∷◌, ◌++◌, map, ℤ}
 use Rattle.std.proofs.Common.{refl, sym, ap, ap₂, subst, ◌∙◌}
 use Rattle.std.specs.List.{AllZip, flat_map, list_any, zip}
 use Rattle.std.proofs.lemmas.Bool.{and_parts, false≢true, or_cases}
 use Rattle.lay_point.specs.declared.point.Point.{Point}
-use Rattle.lay_point.specs.Edges.{IsEdgeBefore, is_before, same_edge, undirected}
+use Rattle.lay_point.specs.Edges.{is_before, same_edge, undirected}
 use Rattle.lay_point.specs.Parity.{xor, parity, odd, is_crossed}
 use Rattle.lay_point.specs.RingEdges.{pairs}
 use Rattle.lay_point.proofs.Members.{Has, contains, has, has-append, has-append_left, has-append_right}
 use Rattle.lay_point.proofs.Parity.{parity-append, parity-map, parity-xor, parity_agree, parity_none}
-use Rattle.lay_point.specs.Rising.{IsRising}
 use Rattle.snap_edge_laws.specs.Undirected.{is_owned, walked_edges}
-use Rattle.lay_point.proofs.Rising.{before_rest, rising_rest}
-use Rattle.lay_point.proofs.EdgeOrder.{edges_are_strict}
+use Rattle.lay_point.proofs.BoolLaws.{and-false, and_comm, and_over_xor}
+use Rattle.lay_point.proofs.ListLaws.{any_true}
 use Rattle.snap_chains.specs.declared.owner.Input.{Input}
 use Rattle.snap_chains.specs.declared.owner.Input.TheVariants.{First, Second}
 use Rattle.snap_chains.specs.declared.owner.Owner.{Owner}
@@ -22,35 +21,27 @@ use Rattle.snap_chains.specs.Rounded.{Owned, is_owner_listed}
 use Rattle.snap_slabs.proofs.Sorted.{same_tests}
 use Rattle.snap_chains.proofs.OwnerOrder.{owner_eq-Decides}
 use Rattle.face_rows.specs.Labels.{Item, answer_at, listed_shapes, odd_of, owned_items, some_of}
-use Rattle.face_rows.proofs.Cuts.{AreDistinct, and_false_right, parity_of_one}
-use Rattle.face_rows.proofs.Shapes.{inputs_are_their_shapes}
+use Rattle.face_rows.proofs.Cuts.{AreDistinct, parity_of_one}
+use Rattle.face_rows.proofs.Shapes.{input_itself, inputs_are_their_shapes, same_input}
 use Rattle.face_ring_laws.proofs.ParityLemmas.{is_crossed-IsEdgeTest}
+use Rattle.snap_chains.proofs.RoundLemmas.{has_listed, listed_has}
 use Rattle.face_rows.specs.Operations.{answer}
+use Rattle.face_rows.proofs.ItemLemmas.{distinct_zip}
 use Rattle.bool_rules.specs.Shapes.{owned_of, rounded_inputs}
 use Rattle.bool_rules.proofs.ShapeLemmas.{inputs_round, shapes_tell_places}
 use Rattle.bool_rules.specs.Inside.{AnswersAreThoseOfRings, OwnersAreThoseOfRings, ShapesAreThoseOfRings, holds, is_inside_rounded}
 
 -- ---- tests that agree
-and_comm : (a b : Bool) → (a && b) ≡ (b && a)
-and_comm true true = refl
-and_comm true false = refl
-and_comm false true = refl
-and_comm false false = refl
-
-and_xor : (a b c : Bool) → (a && xor b c) ≡ xor (a && b) (a && c)
-and_xor true b c = refl
-and_xor false b c = refl
-
 -- ---- a list of edges, by the distinct ones
 odd_ones : (test : Point × Point → Bool) (items : List Item) → AreDistinct items → (goes : List (Point × Point))
     → ((e : Point × Point) → Has goes e → (m : Item) × Has items m × (m.0 ≡ e))
     → parity (λ (p : Item). test p.0 && parity (same_edge p.0) goes) items ≡ parity test goes
-odd_ones test items distinct [] cover = parity_none (λ (p : Item). test p.0 && false) items (λ p m. and_false_right (test p.0))
+odd_ones test items distinct [] cover = parity_none (λ (p : Item). test p.0 && false) items (λ p m. and-false (test p.0))
 odd_ones test items distinct (e ∷ goes) cover =
     let m = cover e (inl refl) in
     parity_agree (λ (p : Item). test p.0 && xor (same_edge p.0 e) (parity (same_edge p.0) goes))
     (λ (p : Item). xor (test p.0 && same_edge p.0 e) (test p.0 && parity (same_edge p.0) goes)) items
-    (λ p n. and_xor (test p.0) (same_edge p.0 e) (parity (same_edge p.0) goes))
+    (λ p n. and_over_xor (test p.0) (same_edge p.0 e) (parity (same_edge p.0) goes))
     ∙ parity-xor (λ (p : Item). test p.0 && same_edge p.0 e) (λ (p : Item). test p.0 && parity (same_edge p.0) goes) items
     ∙ ap₂ xor
     (subst (λ z. parity (λ (p : Item). test p.0 && same_edge p.0 z) items ≡ test z) m.2
@@ -58,21 +49,6 @@ odd_ones test items distinct (e ∷ goes) cover =
     (odd_ones test items distinct goes (λ f n. cover f (inr n)))
 
 -- ---- edges in order, with owners
-zip_edge : (es : List (Point × Point)) (os : List (List Owner)) (p : Item) → Has (zip es os) p → Has es p.0
-zip_edge [] os p m = absurd m
-zip_edge (e ∷ es) [] p m = absurd m
-zip_edge (e ∷ es) (o ∷ os) p (inl same) = inl (ap (λ (q : Item). q.0) same)
-zip_edge (e ∷ es) (o ∷ os) p (inr m) = inr (zip_edge es os p m)
-
-distinct_items : (es : List (Point × Point)) (os : List (List Owner)) → IsRising IsEdgeBefore es → AreDistinct (zip es os)
-distinct_items [] os up = tt
-distinct_items (e ∷ es) [] up = tt
-distinct_items (e ∷ es) (o ∷ os) up = (
-  (λ q m same. edges_are_strict.irreflexive e (subst (IsEdgeBefore e) (sym same)
-      (before_rest IsEdgeBefore edges_are_strict e es q.0 up (zip_edge es os q m)))),
-  distinct_items es os (rising_rest IsEdgeBefore e es up),
-)
-
 edge_item : (R : Point × Point → List Owner → Type 0) (es : List (Point × Point)) (os : List (List Owner)) → AllZip R es os
     → (e : Point × Point) → Has es e → (m : Item) × Has (zip es os) m × (m.0 ≡ e)
 edge_item R [] os h e m = absurd m
@@ -87,27 +63,10 @@ item_owners R (e ∷ es) [] h p m = absurd h
 item_owners R (e ∷ es) (o ∷ os) h p (inl same) = subst (λ (z : Item). R z.0 z.1) same h.0
 item_owners R (e ∷ es) (o ∷ os) h p (inr m) = item_owners R es os h.1 p m
 
-listed_has : (o : Owner) (os : List Owner) → is_owner_listed o os ≡ true → Has os o
-listed_has o [] e = absurd (false≢true e)
-listed_has o (p ∷ os) e = ⊎_elim (λ (here : owner_eq p o ≡ true). inl ((owner_eq-Decides p o).0 here))
-    (λ (there : is_owner_listed o os ≡ true). inr (listed_has o os there)) (or_cases (owner_eq p o) (is_owner_listed o os) e)
-
-any_true : {A : Type 0} (test : A → Bool) (xs : List A) (x : A) → Has xs x → test x ≡ true → list_any test xs ≡ true
-any_true test [] x m t = absurd m
-any_true test (y ∷ xs) x (inl same) t = ap (λ b. b || list_any test xs) (ap test same ∙ t)
-any_true test (y ∷ xs) x (inr m) t = later (test y) (list_any test xs) (any_true test xs x m t)
-  where
-    later : (a b : Bool) → b ≡ true → (a || b) ≡ true
-    later true b h = refl
-    later false b h = h
-
 true_any : {A : Type 0} (test : A → Bool) (xs : List A) → list_any test xs ≡ true → (x : A) × Has xs x × (test x ≡ true)
 true_any test [] e = absurd (false≢true e)
 true_any test (y ∷ xs) e = ⊎_elim (λ (here : test y ≡ true). (y, inl refl, here))
     (λ (there : list_any test xs ≡ true). let r = true_any test xs there in (r.0, inr r.1, r.2)) (or_cases (test y) (list_any test xs) e)
-
-has_listed : (o : Owner) (os : List Owner) → Has os o → is_owner_listed o os ≡ true
-has_listed o os m = any_true (λ p. owner_eq p o) os o m ((owner_eq-Decides o o).1 refl)
 
 -- ---- the walks of one owner
 walks_among : (o : Owner) (rings : List (Owner × List Point)) (walks : List (List Point)) (e : Point × Point)
@@ -149,7 +108,7 @@ owners_of_rings rings r h o k x y =
     parity_agree (λ (p : Item). is_owner_listed o p.1 && is_crossed k x y p.0)
     (λ (p : Item). is_crossed k x y p.0 && parity (same_edge p.0) goes) (owned_items r)
     (λ p m. and_comm (is_owner_listed o p.1) (is_crossed k x y p.0) ∙ ap (λ b. is_crossed k x y p.0 && b) (listed p m))
-    ∙ odd_ones (is_crossed k x y) (owned_items r) (distinct_items r.0 r.1 h.edges.rising) goes
+    ∙ odd_ones (is_crossed k x y) (owned_items r) (distinct_zip r.0 r.1 h.edges.rising) goes
     (λ e m. edge_item (AreOwnersOf rings h.walks) r.0 r.1 h.owners e
     (has r.0 e ((h.edges.exact e).1 (contains (walked_edges undirected h.walks) e (walks_among o rings h.walks e m)))))
     ∙ crossed_walks k x y (owner_walks o rings h.walks)
@@ -163,16 +122,6 @@ owners_of_rings rings r h o k x y =
         (λ t. has_listed o p.1 (has p.1 o ((owners.exact o).1 t)))
 
 -- ---- inputs
-input_same : (i j : Input) → input_eq i j ≡ true → i ≡ j
-input_same First First e = refl
-input_same First Second e = absurd (false≢true e)
-input_same Second First e = absurd (false≢true e)
-input_same Second Second e = refl
-
-input_itself : (i : Input) → input_eq i i ≡ true
-input_itself First = refl
-input_itself Second = refl
-
 -- a shape that has a place inside has a ring
 inside_has : (k x y : ℤ) (o : Owner) (rings : List (Owner × List Point)) (walks : List (List Point))
     → odd (flat_map pairs (owner_walks o rings walks)) k x y ≡ true → (r : Owner × List Point) × Has rings r × (r.0 ≡ o)
@@ -203,7 +152,7 @@ input_holds rings r h input k x y = same_tests _ _
     (λ t.
     let found = true_any (λ (q : Owner × List Point). input_eq q.0.input input && is_inside_rounded rings h.walks q.0 k x y) rings t in
     let both = and_parts (input_eq found.0.0.input input) (is_inside_rounded rings h.walks found.0.0 k x y) found.2 in
-    let same = input_same found.0.0.input input both.0 in
+    let same = same_input found.0.0.input input both.0 in
     (inputs_are_their_shapes r input k x y).1 (
       found.0.0.shape,
       ap (λ i. odd_of (owned_items r) (record { input = i; shape = found.0.0.shape }) k x y) (sym same)

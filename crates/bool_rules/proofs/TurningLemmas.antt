@@ -37,7 +37,7 @@ turned_by_same R90 p q e = same_point p q (ap (λ r. r.y) e) (neg_same p.y q.y (
 turned_by_same R180 p q e = same_point p q (neg_same p.x q.x (ap (λ r. r.x) e)) (neg_same p.y q.y (ap (λ r. r.y) e))
 turned_by_same R270 p q e = same_point p q (neg_same p.x q.x (ap (λ r. r.y) e)) (ap (λ r. r.x) e)
 
-shifted_same : (s p q : Point) → shifted s p ≡ shifted s q → p ≡ q
+pub shifted_same : (s p q : Point) → shifted s p ≡ shifted s q → p ≡ q
 shifted_same s p q e = same_point p q (plus_same p.x q.x s.x (ap (λ r. r.x) e)) (plus_same p.y q.y s.y (ap (λ r. r.y) e))
 
 pub turned_same : (t : Turn) (p q : Point) → turned t p ≡ turned t q → p ≡ q
