@@ -2,12 +2,13 @@
 use Rattle.std.proofs.Common.{◌≡◌, ◌≢◌, Bool, true, false, ◌&&◌, List, [], ◌∷◌, ◌++◌, length}
 use Rattle.std.proofs.Common.{ℤ, pos, ◌+ℤ◌, neg_ℤ, refl, sym, ap, ap₂, ◌∙◌, arith}
 use Rattle.std.proofs.lemmas.Bool.{and_parts}
-use Rattle.lay_point.proofs.EdgeOrder.{same_by_test}
 use Rattle.lay_point.proofs.Signs.{linear}
 use Rattle.lay_point.specs.declared.point.Point.{Point}
 use Rattle.lay_point.specs.Edges.{same_edge}
 use Rattle.lay_point.specs.Parity.{odd, parity}
 use Rattle.lay_point.specs.Points.{point_eq}
+use Rattle.lay_point.proofs.RingLemmas.{point_eq-true}
+use Rattle.lay_point.proofs.BoolLaws.{and_comm}
 use Rattle.lay_oriented.specs.Net.{GoAlike}
 use Rattle.lay_oriented.specs.Oriented.{KeepEdges, KeepParity, lies_between}
 use Rattle.lay_oriented.specs.Winding.{IsTurn, sum_of, turn, winding}
@@ -25,18 +26,12 @@ parity_alike new old alike k x y =
     same_rest (odd new k x y) (odd old k x y) one.0 other.0 (sym one.1 ∙ winding_alike new old alike k x y ∙ other.1)
 
 -- ---- edges between two points
-and_turned : (a b : Bool) → (a && b) ≡ (b && a)
-and_turned true true = refl
-and_turned true false = refl
-and_turned false true = refl
-and_turned false false = refl
-
 -- no edge lies between two points in both directions
 one_direction : (p q : Point) → p ≢ q → (e : Point × Point) → same_edge e (p, q) ≡ true → same_edge e (q, p) ≡ true → ⊥
 one_direction p q apart e h g =
     let one = and_parts (point_eq e.0 p) (point_eq e.1 q) h in
     let other = and_parts (point_eq e.0 q) (point_eq e.1 p) g in
-    apart (sym (same_by_test e.0 p one.0) ∙ same_by_test e.0 q other.0)
+    apart (sym (point_eq-true e.0 p one.0) ∙ point_eq-true e.0 q other.0)
 
 between : Point → Point → Point × Point → ℤ
 between p q e = counted (same_edge e (p, q)) (same_edge e (q, p))
@@ -45,12 +40,12 @@ between-IsTurn : (p q : Point) → p ≢ q → IsTurn (between p q)
 unfolding between
 between-IsTurn p q apart = record {
   turned = λ r s.
-      ap₂ counted (and_turned (point_eq s p) (point_eq r q)) (and_turned (point_eq s q) (point_eq r p))
+      ap₂ counted (and_comm (point_eq s p) (point_eq r q)) (and_comm (point_eq s q) (point_eq r p))
       ∙ turned_count (same_edge (r, s) (p, q)) (same_edge (r, s) (q, p)) (one_direction p q apart (r, s));
   without_length = λ r.
-      ap (counted (same_edge (r, r) (p, q))) (and_turned (point_eq r q) (point_eq r p))
+      ap (counted (same_edge (r, r) (p, q))) (and_comm (point_eq r q) (point_eq r p))
       ∙ none_counted (same_edge (r, r) (p, q)) (λ h g.
-      one_direction p q apart (r, r) h (and_turned (point_eq r q) (point_eq r p) ∙ g));
+      one_direction p q apart (r, r) h (and_comm (point_eq r q) (point_eq r p) ∙ g));
 }
 
 pub keep_alike : (new old : List (Point × Point)) → GoAlike new old → KeepEdges new old

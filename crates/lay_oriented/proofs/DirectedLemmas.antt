@@ -8,6 +8,7 @@ use Rattle.std.specs.List.{AllByRecursion}
 use Rattle.std.specs.List.Sorted.{IsStrictlySortedBy}
 use Rattle.std.specs.Map.{keys_of}
 use Rattle.std.specs.Ordering.{eq_by_cmp, is_eq}
+use Rattle.lay_point.proofs.BoolLaws.{true_by_T}
 use Rattle.lay_cells.specs.declared.cell_id.CellId.{CellId}
 use Rattle.lay_cells.specs.Walks.{IsAcyclic}
 use Rattle.lay_layouts.specs.declared.id.ItemId.{ItemId}
@@ -20,7 +21,6 @@ use Rattle.lay_layouts.specs.Layout.{AreRising, Layout, Write, changed, is_cell,
 use Rattle.lay_layouts.specs.Sound.{IsSound, IsSoundItem}
 use Rattle.lay_layouts.proofs.LatestLemmas.{get-put_all, latest, unwritten}
 use Rattle.lay_layouts.proofs.MapLemmas.{entries_again, sorted_keys}
-use Rattle.lay_layouts.proofs.SlotLemmas.{tested}
 use Rattle.lay_oriented.specs.Directed.{AreDirected, IsDirectedBut, IsStaying, IsTurned}
 use Rattle.lay_oriented.specs.Steps.{AreWrites, IsShapeOf}
 
@@ -72,7 +72,7 @@ rising_all (e ∷ es) ws n sorted (inr (inl turned)) =
 rising_all (e ∷ es) ws n sorted (inr (inr other)) = rising_all es ws other.1 sorted.1 other.4
 
 sorted_entries : (items : FinMap id_cmp Item) → IsStrictlySortedBy id_cmp (keys_of (entries items))
-sorted_entries items = sorted_keys id_cmp (entries items) (tested _ (entries_sorted items))
+sorted_entries items = sorted_keys id_cmp (entries items) (true_by_T _ (entries_sorted items))
 
 pub writes_rise : (items : FinMap id_cmp Item) (ws : List Write) (n : List (CellId × ItemId)) → AreWrites (entries items) ws n → AreRising id_cmp ws
 writes_rise items ws n is = rising_all (entries items) ws n (sorted_entries items) is

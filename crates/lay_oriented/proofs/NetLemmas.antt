@@ -9,7 +9,7 @@ use Rattle.lay_point.specs.Edges.{same_edge}
 use Rattle.lay_point.specs.Points.{point_eq}
 use Rattle.lay_point.specs.Parity.{xor, parity, odd, is_crossed}
 use Rattle.lay_point.proofs.Parity.{parity-append, xor-false, xor_assoc, xor_self}
-use Rattle.lay_point.proofs.EdgeOrder.{same_by_test}
+use Rattle.lay_point.proofs.RingLemmas.{point_eq-true}
 use Rattle.face_ring_laws.proofs.ParityLemmas.{is_crossed-IsEdgeTest}
 use Rattle.lay_oriented.specs.Net.{IsUndirected, PassAlike}
 use Rattle.lay_oriented.specs.Oriented.{KeepEdges, KeepParity, lies_between}
@@ -106,7 +106,7 @@ edges_alike new old alike p q apart = alike (lies_between p q) (λ r s.
 
 pub edge_same : (e f : Point × Point) → same_edge e f ≡ true → e ≡ f
 edge_same e f h = let parts = and_parts (point_eq e.0 f.0) (point_eq e.1 f.1) h in
-    λ i. (same_by_test e.0 f.0 parts.0 i, same_by_test e.1 f.1 parts.1 i)
+    λ i. (point_eq-true e.0 f.0 parts.0 i, point_eq-true e.1 f.1 parts.1 i)
 
 pub edges_same : (es fs : List (Point × Point)) → pointwise same_edge es fs ≡ true → es ≡ fs
 edges_same [] [] h = refl
