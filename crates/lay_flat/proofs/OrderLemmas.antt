@@ -1,17 +1,17 @@
 -- Lists that are made of lists in order, and the walks and places of a layout.
 use Rattle.std.proofs.Common.{◌≡◌, inl, inr, ⊎_elim, ℕ, zero, suc, Bool, true, false, cond, List, [], ◌∷◌, ◌++◌, length, map}
-use Rattle.std.proofs.Common.{Option, Some, None, T, refl, sym, ap, subst, ◌∙◌}
+use Rattle.std.proofs.Common.{Option, Some, None, refl, sym, ap, subst, ◌∙◌}
 use Rattle.std.specs.Prelude.{filter, flat_map}
 use Rattle.std.specs.List.{cons_option, filter_map}
-use Rattle.std.specs.declared.cmp.Ordering.{Ordering}
-use Rattle.std.specs.declared.cmp.Ordering.TheVariants.{Less, Equal, Greater}
 use Rattle.std.specs.Ordering.{is_lt}
 use Rattle.std.specs.FinMap.{entries, entries_sorted, is_sorted}
 use Rattle.std.specs.FinMap.Entries.{below_all}
-use Rattle.std.proofs.lemmas.Bool.{and_parts, false≢true}
+use Rattle.std.proofs.lemmas.Bool.{and_parts}
 use Rattle.lay_point.specs.Same.{names_eq}
 use Rattle.lay_point.specs.Turns.{unturned}
 use Rattle.lay_point.proofs.Members.{Has, has, has-append}
+use Rattle.lay_point.proofs.BoolLaws.{Less_by_test, true_by_T}
+use Rattle.lay_point.proofs.ListLaws.{map-append, map-has}
 use Rattle.lay_cells.specs.declared.cell_id.CellId.{CellId}
 use Rattle.lay_cells.specs.declared.cell_id.CellId.TheVariants.{Symbol}
 use Rattle.lay_cells.specs.SameCell.{cell_eq}
@@ -80,16 +80,11 @@ filter_map_in_order {A} {B} Before After f keeps (x ∷ xs) h = by_answer (f x) 
       rest,
     )
 
-has_map : {A B : Type 0} (f : A → B) (xs : List A) (v : B) → Has (map f xs) v → (x : A) × Has xs x × (f x ≡ v)
-has_map f [] v m = absurd m
-has_map f (x ∷ xs) v (inl same) = (x, inl refl, same)
-has_map f (x ∷ xs) v (inr m) = let r = has_map f xs v m in (r.0, inr r.1, r.2)
-
 map_in_order : {A B : Type 0} (Before : A → A → Type 0) (After : B → B → Type 0) (f : A → B)
     → ((x y : A) → Before x y → After (f x) (f y)) → (xs : List A) → InOrder Before xs → InOrder After (map f xs)
 map_in_order Before After f keeps [] h = tt
 map_in_order Before After f keeps (x ∷ xs) h = (
-  (λ v m. let r = has_map f xs v m in subst (After (f x)) r.2 (keeps x r.0 (h.0 r.0 r.1))),
+  (λ v m. let r = map-has f xs v m in subst (After (f x)) r.2 (keeps x r.0 (h.0 r.0 r.1))),
   map_in_order Before After f keeps xs h.1,
 )
 
@@ -118,20 +113,11 @@ flat_in_order Before After f each across (x ∷ xs) h =
 abbrev IsEntryBefore : ItemId × Item → ItemId × Item → Type 0
 IsEntryBefore e f = IsIdBefore e.0 f.0
 
-tested : (b : Bool) → T b → b ≡ true
-tested true h = refl
-tested false h = absurd h
-
-is_less : (o : Ordering) → is_lt o ≡ true → o ≡ Less
-is_less Less t = refl
-is_less Equal t = absurd (false≢true t)
-is_less Greater t = absurd (false≢true t)
-
 below : (id : ItemId) (es : List (ItemId × Item)) → below_all id_cmp id es ≡ true → (e : ItemId × Item) → Has es e → IsIdBefore id e.0
 below id [] h e m = absurd m
 below id (f ∷ es) h e (inl same) =
     let both = and_parts (is_lt (id_cmp id f.0)) (below_all id_cmp id es) h in
-    subst (λ (z : ItemId × Item). IsIdBefore id z.0) same (is_less (id_cmp id f.0) both.0)
+    subst (λ (z : ItemId × Item). IsIdBefore id z.0) same (Less_by_test (id_cmp id f.0) both.0)
 below id (f ∷ es) h e (inr m) =
     let both = and_parts (is_lt (id_cmp id f.0)) (below_all id_cmp id es) h in
     below id es both.1 e m
@@ -146,7 +132,7 @@ items_in_order : (layout : Layout) (cell : CellId) → InOrder IsEntryBefore (it
 unfolding items_in
 items_in_order layout cell =
     filter_in_order IsEntryBefore (λ entry. cell_eq (cell_of entry.1) cell) (entries layout.items)
-    (entries_in_order (entries layout.items) (tested _ (entries_sorted layout.items)))
+    (entries_in_order (entries layout.items) (true_by_T _ (entries_sorted layout.items)))
 
 -- ---- calls and shapes of a cell
 abbrev IsCallBefore : LentCall → LentCall → Type 0
@@ -192,7 +178,7 @@ walks_in_order layout zero cell = ((λ w m. absurd m), tt)
 walks_in_order layout (suc n) cell = (
   (λ w m.
       let r = has_flat (going_on layout n) (calls_in layout cell) w m in
-      let s = has_map (λ walk. r.0 ∷ walk) (walks_within (calls_in layout) target_of n (Symbol (target_of r.0))) w r.2 in
+      let s = map-has (λ walk. r.0 ∷ walk) (walks_within (calls_in layout) target_of n (Symbol (target_of r.0))) w r.2 in
       subst (IsWalkBefore []) s.2 tt),
   flat_in_order IsCallBefore IsWalkBefore (going_on layout n)
       (λ call. map_in_order IsWalkBefore IsWalkBefore (λ walk. call ∷ walk) (λ w v less. inr (refl, less))
@@ -203,8 +189,8 @@ walks_in_order layout (suc n) cell = (
     across : (c d : LentCall) (w v : List LentCall) → IsCallBefore c d → Has (going_on layout n c) w → Has (going_on layout n d) v
         → IsWalkBefore w v
     across c d w v less m k =
-        let r = has_map (λ walk. c ∷ walk) (walks_within (calls_in layout) target_of n (Symbol (target_of c))) w m in
-        let s = has_map (λ walk. d ∷ walk) (walks_within (calls_in layout) target_of n (Symbol (target_of d))) v k in
+        let r = map-has (λ walk. c ∷ walk) (walks_within (calls_in layout) target_of n (Symbol (target_of c))) w m in
+        let s = map-has (λ walk. d ∷ walk) (walks_within (calls_in layout) target_of n (Symbol (target_of d))) v k in
         subst (λ z. IsWalkBefore z v) r.2 (subst (IsWalkBefore (c ∷ r.0)) s.2 (inl less))
 
 all_walks_in_order : (layout : Layout) (cell : CellId) → InOrder IsWalkBefore (walks_of layout cell)
@@ -222,17 +208,13 @@ places_in_order layout cell layer =
     across : (w v : List LentCall) (p q : WalkedShape) → IsWalkBefore w v → Has (places_on layout cell layer w) p
         → Has (places_on layout cell layer v) q → IsPlaceBefore p q
     across w v p q less m n =
-        let r = has_map (λ (shape : LentShape). (w, shape)) (shapes_in layout (end_of cell w) layer) p m in
-        let s = has_map (λ (shape : LentShape). (v, shape)) (shapes_in layout (end_of cell v) layer) q n in
+        let r = map-has (λ (shape : LentShape). (w, shape)) (shapes_in layout (end_of cell w) layer) p m in
+        let s = map-has (λ (shape : LentShape). (v, shape)) (shapes_in layout (end_of cell v) layer) q n in
         subst (λ z. IsPlaceBefore z q) r.2 (subst (IsPlaceBefore (w, r.0)) s.2 (inl less))
 
 map-map : {A B C : Type 0} (g : B → C) (f : A → B) (xs : List A) → map g (map f xs) ≡ map (λ x. g (f x)) xs
 map-map g f [] = refl
 map-map g f (x ∷ xs) = ap (λ ys. g (f x) ∷ ys) (map-map g f xs)
-
-map-append : {A B : Type 0} (g : A → B) (xs ys : List A) → map g (xs ++ ys) ≡ map g xs ++ map g ys
-map-append g [] ys = refl
-map-append g (x ∷ xs) ys = ap (λ zs. g x ∷ zs) (map-append g xs ys)
 
 drawn_along : (layout : Layout) (cell : CellId) (layer : List ℕ) (walks : List (List LentCall))
     → flat_map (drawn_at layout layer) (map (end_along cell (Some unturned)) walks)
