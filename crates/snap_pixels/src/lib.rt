@@ -29,7 +29,7 @@
 //! # Files
 //!
 //! - `search.rt`: the search; `parts.rt`, `division.rt`, `cell.rt`, `strips.rt`, `measure.rt`: segments divided
-//!   into short lists, each pair that may meet in one of them (`specs/Parts.antt`, `specs/Strips.antt`).
+//!   into parts, each pair that may meet in one of them (`specs/Parts.antt`, `specs/Strips.antt`).
 //! - `gathered.rt`, `hot_set.rt`: centres as they are found, and the set of them.
 //! - `kind.rt`, `counts.rt`, `repeats.rt`: parallel and equal segments, which needn't be asked.
 //! - `meeting.rt`, `side.rt`, `span.rt`, `common_point.rt`, `rounding.rt`: one segment and one

@@ -1,4 +1,4 @@
-//! Short lists of segments that are searched apart: each segment is in those whose strips it may meet.
+//! Parts of the segments that are searched apart: each segment is in those whose strips it may meet.
 ghost use Rattle.std.specs.Prelude.{◌≡◌, ◌↔◌, ◌⊎◌, ◌<◌, IfOk, IfSome, OnOk, map};
 ghost use Rattle.lay_point.specs.declared.point.Point.{Point};
 ghost use Rattle.snap_pixels.specs.Marks.{IsCrossed};
@@ -11,83 +11,145 @@ use crate::kind::run_length;
 use crate::segment::Segment;
 use std::alloc::{AllocError, Global};
 
-/// Lists in which no more pairs are asked aren't divided. A pair counts twice.
+/// Parts in which no more pairs are asked aren't divided. A pair counts twice.
 const FEW: usize = 400;
 
 /// Nor those in which no more pairs are asked for a segment.
 const SMALL: usize = 22;
 
-/// Lists are divided at most so many times.
+/// All segments are divided at most so many times, one division after another.
 const DEPTH: usize = 48;
 
 /// The parts list each segment at most so many times more, on average.
 const REPEATS: usize = 8;
 
-/// Returns lists of the segments of which the crossings, together, are those of the segments. The segments are in the
-/// order of their kinds, and so are those of each list.
-pub(crate) fn parts_of(alloc: Global, segments: &[Segment]) -> Result<Vec<Vec<Segment>>, AllocError>
+/// Segments in the order of their kinds, which are searched apart from others, and how far they may be divided.
+#[derive(Debug, Drop)]
+pub(crate) struct Part {
+    pub segments: Vec<Segment>,
+    room: Room,
+    /// How many divisions may follow one another.
+    depth: usize,
+}
+
+impl Part {
+    /// Returns the part that all segments are in.
+    pub fn whole(segments: Vec<Segment>) -> Part
+        ensures { result.segments ≡ segments }
+    {
+        let all = segments.as_slice();
+        let room = Room {
+            counts: Counts::of(all),
+            cell: Cell::round(all),
+            spare: all.len().saturating_mul(REPEATS),
+        };
+        Part {
+            segments,
+            room,
+            depth: DEPTH,
+        }
+    }
+
+    /// Returns a division of the part, or `None` where it isn't worth one.
+    fn division(&self, alloc: Global) -> Result<Option<Division>, AllocError>
+        ensures { IfOk result (λ division. IfSome division (λ _. 0 < self.now.depth)) }
+    {
+        let few = self.segments.len().saturating_mul(SMALL).max(FEW);
+        if self.depth == 0 || self.room.counts.pairs() <= few {
+            return Ok(None);
+        }
+        let division = Division::of(alloc, self.segments.as_slice(), self.room)?;
+        Ok(division)
+    }
+}
+
+/// What takes the parts that aren't divided.
+pub(crate) trait TakesParts {
+    /// The pixel of the point holds a crossing of two segments of one of the parts.
+    ghost crossed: { Self → Point → Type 0 };
+
+    /// Takes a part.
+    ///
+    /// # Errors
+    ///
+    /// `AllocError`, if an allocation fails.
+    fn take(&mut self, part: Part) -> Result<(), AllocError>
+        ensures { OnOk result ((c : Point) → crossed self.new c ↔ (crossed self.old c ⊎ IsCrossed part.segments.items c)) };
+}
+
+impl TakesParts for Vec<Part> {
+    ghost crossed = { λ parts. IsCrossedInOne (map (λ part. part.segments.items) parts.items) };
+
+    fn take(&mut self, part: Part) -> Result<(), AllocError> {
+        self.push(part)?;
+        Ok(())
+    }
+}
+
+/// Returns parts of which the crossings, together, are those of the segments, which are in the order of their
+/// kinds. Those of no more than `few` segments aren't divided further.
+///
+/// # Errors
+///
+/// `AllocError`, if an allocation fails.
+pub(crate) fn parts_of(
+    alloc: Global,
+    segments: Vec<Segment>,
+    few: usize,
+) -> Result<Vec<Part>, AllocError>
     ensures { IfOk result (λ parts. (c : Point)
-        → IsCrossedInOne (map (λ part. part.items) parts.items) c ↔ IsCrossed segments.now c) }
+        → IsCrossedInOne (map (λ part. part.segments.items) parts.items) c ↔ IsCrossed segments.items c) }
 {
     let mut parts = Vec::new(alloc);
-    let all = Vec::from_slice(alloc, segments)?;
-    let room = Room {
-        counts: Counts::of(segments),
-        cell: Cell::round(segments),
-        spare: segments.len().saturating_mul(REPEATS),
-    };
-    add_parts(alloc, &mut parts, all, room, DEPTH)?;
+    add_parts(alloc, &mut parts, Part::whole(segments), few)?;
     Ok(parts)
 }
 
-/// Adds the parts of the segments, which have this room. They are divided at most `depth` times.
-fn add_parts(
+/// Divides the part, and each part of it that has more than `few` segments, and adds those that aren't divided. A
+/// part is gone once it is divided.
+///
+/// # Errors
+///
+/// `AllocError`, if an allocation fails.
+pub(crate) fn add_parts<T: TakesParts>(
     alloc: Global,
-    parts: &mut Vec<Vec<Segment>>,
-    segments: Vec<Segment>,
-    room: Room,
-    depth: usize,
+    parts: &mut T,
+    part: Part,
+    few: usize,
 ) -> Result<(), AllocError>
-    ensures { OnOk result ((c : Point) → IsCrossedInOne (map (λ part. part.items) parts.new.items) c
-        ↔ (IsCrossedInOne (map (λ part. part.items) parts.old.items) c ⊎ IsCrossed segments.items c)) }
+    ensures { OnOk result ((c : Point) → T.crossed parts.new c ↔ (T.crossed parts.old c ⊎ IsCrossed part.segments.items c)) }
 {
-    let Some(division) = useful_division(alloc, segments.as_slice(), room, depth)? else {
-        return add_part(parts, segments);
+    if part.segments.len() <= few {
+        return add_part(parts, part);
+    }
+    let Some(division) = part.division(alloc)? else {
+        return add_part(parts, part);
     };
     let counts = division.counts.as_slice();
-    let mut lists = division.strips.lists(alloc, counts, segments.as_slice())?;
-    while let Some(list) = lists.pop() {
+    let mut lists = division
+        .strips
+        .lists(alloc, counts, part.segments.as_slice())?;
+    let depth = part.depth - 1;
+    drop(part);
+    while let Some(segments) = lists.pop() {
         let room = division.room(lists.len());
-        add_parts(alloc, parts, list, room, depth - 1)?;
+        let strip = Part {
+            segments,
+            room,
+            depth,
+        };
+        add_parts(alloc, parts, strip, few)?;
     }
     Ok(())
 }
 
 /// Adds a part, unless all its segments are parallel.
-fn add_part(parts: &mut Vec<Vec<Segment>>, segments: Vec<Segment>) -> Result<(), AllocError>
-    ensures { OnOk result ((c : Point) → IsCrossedInOne (map (λ part. part.items) parts.new.items) c
-        ↔ (IsCrossedInOne (map (λ part. part.items) parts.old.items) c ⊎ IsCrossed segments.items c)) }
+fn add_part<T: TakesParts>(parts: &mut T, part: Part) -> Result<(), AllocError>
+    ensures { OnOk result ((c : Point) → T.crossed parts.new c ↔ (T.crossed parts.old c ⊎ IsCrossed part.segments.items c)) }
 {
-    if run_length(segments.as_slice()) >= segments.len() {
+    if run_length(part.segments.as_slice()) >= part.segments.len() {
         return Ok(());
     }
-    parts.push(segments)?;
+    parts.take(part)?;
     Ok(())
-}
-
-/// Returns a division of the segments, or `None` where they aren't to be divided.
-fn useful_division(
-    alloc: Global,
-    segments: &[Segment],
-    room: Room,
-    depth: usize,
-) -> Result<Option<Division>, AllocError>
-    ensures { IfOk result (λ division. IfSome division (λ _. 0 < depth)) }
-{
-    let few = segments.len().saturating_mul(SMALL).max(FEW);
-    if depth == 0 || room.counts.pairs() <= few {
-        return Ok(None);
-    }
-    let division = Division::of(alloc, segments, room)?;
-    Ok(division)
 }

@@ -8,7 +8,7 @@ use crate::common_point::crossing;
 use crate::gathered::Gathered;
 use crate::hot_set::HotSet;
 use crate::kind::{put_by_kind, run_length};
-use crate::parts::parts_of;
+use crate::parts::{Part, TakesParts, add_parts, parts_of};
 use crate::repeats::distinct;
 use crate::segment::Segment;
 use lay_point::{NoMemory, Point};
@@ -16,11 +16,14 @@ use rayon::prelude::*;
 use std::alloc::{AllocError, Global};
 use std::thread::Threads;
 
-/// So many lists of segments are worth a thread.
-const LEAST_LISTS: usize = 64;
+/// A part of so many segments is worth a thread, which divides it further.
+const SHARE: usize = 1024;
 
-/// Returns the hot pixels of the segments. Their crossings are found, and sorted, in as many threads as there are
-/// processors.
+/// So is one that has no more than one of so many of all segments.
+const SHARES: usize = 64;
+
+/// Returns the hot pixels of the segments. Once these are divided into parts that are each worth a thread, the parts
+/// are divided, their crossings found, and all centres sorted in as many threads as there are processors.
 ///
 /// Source: Hobby, Practical segment intersection with finite precision output, 1999.
 ///
@@ -34,8 +37,9 @@ const LEAST_LISTS: usize = 64;
 /// parallel. On segments that are short beside the whole, and on long ones that are parallel, the time is that of
 /// a sort of the segments and the crossings. Of nested boxes a small part of the pairs is asked, which grows
 /// faster than their number. Never are more pairs asked than those of distinct segments that aren't along the
-/// same axis. The lists hold at most nine times the segments, and a crossing once for each list that finds it,
-/// until these are joined. The ends are listed once.
+/// same axis. A part is gone once it is divided: those that wait hold at most nine times the segments, and mostly
+/// little more than those once. A crossing is held once for each short list that finds it, but for the repeats that
+/// are removed where a part's thread finds many. The ends are listed once.
 pub fn hot(
     rt: &(impl Threads + Sync),
     alloc: Global,
@@ -45,17 +49,17 @@ pub fn hot(
 {
     let mut once = distinct(rt, alloc, segments)?;
     put_by_kind(&mut once)?;
-    let parts = parts_of(alloc, once.as_slice())?;
+    let few = (once.len() / SHARES).max(SHARE);
+    let parts = parts_of(alloc, once, few)?;
     let lists = parts
-        .as_slice()
-        .par_iter()
-        .with_min_len(LEAST_LISTS)
+        .into_par_iter()
+        .with_min_len(1)
         .map(
-            |part: &Vec<Segment>| -> Result<Gathered, AllocError>
+            |part: Part| -> Result<Gathered, AllocError>
                 ensures { IfOk result (λ found. (c : Point)
-                    → Contains found c ↔ IsCrossed part.now.items c) }
+                    → Contains found c ↔ IsCrossed part.segments.items c) }
             {
-                let found = crossings(alloc, part.as_slice())?;
+                let found = crossings(alloc, part)?;
                 Ok(found)
             },
         )
@@ -116,13 +120,23 @@ fn add_lists(
     Ok(())
 }
 
-/// Returns the centres of the segments' crossings.
-fn crossings(alloc: Global, segments: &[Segment]) -> Result<Gathered, AllocError>
-    ensures { IfOk result (λ found. (c : Point) → Contains found c ↔ IsCrossed segments.now c) }
+/// Returns the centres of the crossings of the part's segments. It is divided further, and each part of it that isn't
+/// is asked as soon as there is one.
+fn crossings(alloc: Global, part: Part) -> Result<Gathered, AllocError>
+    ensures { IfOk result (λ found. (c : Point) → Contains found c ↔ IsCrossed part.segments.items c) }
 {
     let mut found = Gathered::new(alloc);
-    add_crossings(&mut found, segments)?;
+    add_parts(alloc, &mut found, part, 0)?;
     Ok(found)
+}
+
+impl TakesParts for Gathered {
+    ghost crossed = { λ found. Contains found };
+
+    /// Adds the centres of the crossings of the part's segments.
+    fn take(&mut self, part: Part) -> Result<(), AllocError> {
+        add_crossings(self, part.segments.as_slice())
+    }
 }
 
 /// Adds the centres of the segments' crossings.

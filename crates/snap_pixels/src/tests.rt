@@ -154,12 +154,12 @@ fn nested_boxes(alloc: Global, number: u16) -> Result<Vec<Segment>, AllocError> 
 #[test]
 fn asks_few_pairs_of_nested_boxes(rt: HostRuntime) -> Result<(), Fail> {
     let all = nested_boxes(rt.alloc(), 201)?;
-    let parts = parts_of(rt.alloc(), all.as_slice())?;
+    let whole = Counts::of(all.as_slice()).pairs();
+    let parts = parts_of(rt.alloc(), all, 0)?;
     let mut asked: usize = 0;
     for part in parts.as_slice() {
-        asked = asked.saturating_add(Counts::of(part.as_slice()).pairs());
+        asked = asked.saturating_add(Counts::of(part.segments.as_slice()).pairs());
     }
-    let whole = Counts::of(all.as_slice()).pairs();
     assert!(rt; asked < whole / 8, "{asked} of {whole}");
     Ok(())
 }

@@ -6,5 +6,6 @@ use Rattle.snap_pixels.proofs.parts.parts_of.Goals as goal
 
 pub returns : goal.returns
 returns c = λ p.
-    subst (λ l. IsCrossedInOne (map (λ part. part.items) c.add_parts.new.parts.items) p ↔ IsCrossed l p) c.in_ok-all.ensures.items
-    (all_new (λ n. subst (λ l. IsCrossedInOne (map (λ part. part.items) l) p) c.new-parts.ensures.items n) (c.in_ok-add_parts.ensures p))
+    subst (λ l. IsCrossedInOne (map (λ part. part.segments.items) c.add_parts.new.parts.items) p ↔ IsCrossed l.items p) c.whole.ensures
+    (all_new (λ n. subst (λ l. IsCrossedInOne (map (λ part. part.segments.items) l) p) c.new-parts.ensures.items n)
+    (c.in_ok-add_parts.ensures p))
