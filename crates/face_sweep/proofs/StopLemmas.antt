@@ -284,6 +284,11 @@ are_ends es made ends h order = record {
   tops = are_tops es ends.tops.items h.top (subst (λ ts. IsPermutation ts ends.tops.items) h.tops order.tops) order.tops_sorted;
 }
 
+-- the place of the item at the index
+pub place_at : {T : Type 0} (place_of : T → Place) (items : List T) (i : ℕ) (x : T) (q : Place) → i < length items
+    → x ≡ get_or items i x → q ≡ place_of x → (d : Place) → q ≡ get_or (map place_of items) i d
+place_at place_of items i x q less is at d = at ∙ ap place_of is ∙ sym (get_or-map place_of items i x d less)
+
 -- ---- a run of one place
 pub run_more : (places : List Place) (from to : ℕ) (p : Place) → ArePlacesInOrder places → IsHeadUpTo places from p
     → from ≤ to → to < length places

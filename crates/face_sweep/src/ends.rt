@@ -29,7 +29,7 @@ ghost use Rattle.face_sweep.specs.Ends.{
 
 use face_rows::upward;
 use lay_point::{Edge, Point};
-use rayon::slice::par_sort_unstable;
+use snap_pixels::sort_in_threads;
 use std::alloc::{AllocError, Global};
 use std::thread::{self, Threads};
 
@@ -204,7 +204,7 @@ fn sorted_begins(rt: &(impl Threads + Sync), begins: Vec<Begin>) -> Vec<Begin>
     ensures sorted { IsSorted begin_cmp result.items }
 {
     let mut begins = begins;
-    par_sort_unstable(rt, begins.as_mut_slice());
+    sort_in_threads(rt, begins.as_mut_slice());
     begins
 }
 
@@ -226,7 +226,7 @@ fn sorted_tops(rt: &(impl Threads + Sync), tops: Vec<Place>) -> Vec<Place>
     ensures sorted { IsSorted place_cmp result.items }
 {
     let mut tops = tops;
-    par_sort_unstable(rt, tops.as_mut_slice());
+    sort_in_threads(rt, tops.as_mut_slice());
     tops
 }
 

@@ -17,6 +17,7 @@ ghost use Rattle.lay_point.specs.Rising.{IsRising};
 ghost use Rattle.face_rows.specs.Crossings.{IsCrossingOf};
 ghost use Rattle.face_rows.specs.Laws.{AreLesserFirst};
 ghost use Rattle.face_sweep.specs.Points.{IsAfter};
+ghost use Rattle.face_sweep.specs.declared.ends.Place.{Place};
 ghost use Rattle.face_sweep.specs.Ends.{AreBegins, AreSortedEnds, ArePlacesInOrder, AreTops, begin_numbers, begin_places};
 ghost use Rattle.face_sweep.specs.Stops.{
   AreRisers,
@@ -69,41 +70,57 @@ pub struct Stops {
     pub(crate) begun: Vec<usize>,
 }
 
-/// Returns the places at which edges begin, one for each.
-fn begin_places(alloc: Global, begins: &[Begin]) -> Result<Vec<Place>, AllocError>
-    ensures { IfOk result (λ places. places.items ≡ begin_places begins.now) }
-{
-    let mut places = Vec::with_capacity(alloc, begins.len())?;
-    for begin in begins {
-        places.push(begin.place)?;
-    }
-    Ok(places)
+/// What stands at a place.
+trait StandsAt {
+    /// The place.
+    ghost place_of: { Self → Place };
+
+    /// Returns the place.
+    fn stands_at(&self) -> Place
+        ensures { result ≡ place_of self.now };
 }
 
-/// Returns the place that the sweep comes to next, of those from `low` and from `top` on.
-fn next_place(lows: &[Place], low: usize, tops: &[Place], top: usize) -> Option<Place>
-    ensures some { IfSome result (IsNextPlace lows.now low tops.now top) }
-    ensures none { IfNone result ((length lows.now ≤ low) × (length tops.now ≤ top)) }
+impl StandsAt for Place {
+    ghost place_of = { λ place. place };
+
+    fn stands_at(&self) -> Place {
+        *self
+    }
+}
+
+impl StandsAt for Begin {
+    ghost place_of = { λ begin. begin.place };
+
+    fn stands_at(&self) -> Place {
+        self.place
+    }
+}
+
+/// Returns the place that the sweep comes to next, of those of the begins from `low` and of the tops from `top` on.
+fn next_place(begins: &[Begin], low: usize, tops: &[Place], top: usize) -> Option<Place>
+    ensures some { IfSome result (IsNextPlace (begin_places begins.now) low tops.now top) }
+    ensures none { IfNone result ((length begins.now ≤ low) × (length tops.now ≤ top)) }
 {
-    if low >= lows.len() {
+    if low >= begins.len() {
         return tops.get(top).copied();
     }
-    if top >= tops.len() || lows[low].is_before(tops[top]) {
-        Some(lows[low])
+    let place = begins[low].place;
+    if top >= tops.len() || place.is_before(tops[top]) {
+        Some(place)
     } else {
         Some(tops[top])
     }
 }
 
-/// Returns where those end, from this index on, that are the place.
-fn run_end(places: &[Place], from: usize, place: Place) -> usize
-    requires order { ArePlacesInOrder places.now }
-    requires from { from ≤ length places.now }
-    requires ahead { IsHeadUpTo places.now from place }
-    ensures { IsPlaceRun places.now from result place }
+/// Returns where those end, from this index on, that stand at the place.
+fn run_end<T: StandsAt>(items: &[T], from: usize, place: Place) -> usize
+    requires order { ArePlacesInOrder (map T.place_of items.now) }
+    requires from { from ≤ length items.now }
+    requires ahead { IsHeadUpTo (map T.place_of items.now) from place }
+    ensures { IsPlaceRun (map T.place_of items.now) from result place }
 {
     let mut to = from;
-    while to < places.len() && !place.is_before(places[to]) {
+    while to < items.len() && !place.is_before(items[to].stands_at()) {
         to += 1;
     }
     to
@@ -202,19 +219,17 @@ fn stops_at(
     alloc: Global,
     edges: &CleanEdges,
     begins: &[Begin],
-    lows: &[Place],
     tops: &[Place],
 ) -> Result<Stops, AllocError>
     requires begins { AreBegins edges.now.0 begins.now }
-    requires lows { lows.now ≡ begin_places begins.now }
     requires tops { AreTops edges.now.0 tops.now }
     ensures { IfOk result (AreStops edges.now) }
 {
-    let mut list = Vec::with_capacity(alloc, lows.len())?;
-    let mut begun = Vec::with_capacity(alloc, lows.len())?;
+    let mut list = Vec::with_capacity(alloc, begins.len())?;
+    let mut begun = Vec::with_capacity(alloc, begins.len())?;
     let (mut low, mut top) = (0, 0);
-    while let Some(place) = next_place(lows, low, tops, top) {
-        let after = run_end(lows, low, place);
+    while let Some(place) = next_place(begins, low, tops, top) {
+        let after = run_end(begins, low, place);
         let from = begun.len();
         put_begun(alloc, edges, &begins[low..after], place.point(), &mut begun)?;
         list.push(Stop {
@@ -233,14 +248,7 @@ fn stops_of(alloc: Global, edges: &CleanEdges, ends: &Ends) -> Result<Stops, All
     requires { AreSortedEnds edges.now.0 ends.now }
     ensures { IfOk result (AreStops edges.now) }
 {
-    let lows = begin_places(alloc, ends.begins.as_slice())?;
-    stops_at(
-        alloc,
-        edges,
-        ends.begins.as_slice(),
-        lows.as_slice(),
-        ends.tops.as_slice(),
-    )
+    stops_at(alloc, edges, ends.begins.as_slice(), ends.tops.as_slice())
 }
 
 impl Stops {
