@@ -7,6 +7,7 @@ ghost use Rattle.lay_point.specs.declared.point.Point.{Point};
 ghost use Rattle.face_rows.specs.Bands.{begins_in};
 ghost use Rattle.band_workers.specs.Cuts.{whole_band};
 
+use crate::workers::Workers;
 use face_labels::Shared;
 use face_rows::Band;
 use face_sweep::Stop;
@@ -20,9 +21,8 @@ pub(crate) fn cuts_of(
     alloc: Global,
     edges: &[Edge],
     shared: &Shared,
-    workers: usize,
+    workers: Workers,
 ) -> Result<Vec<i64>, NoMemory>
-    requires { 1 ≤ workers }
     ensures len { IfOk result (λ cuts. length cuts.items ≡ workers + 1) }
     ensures whole { IfOk result (λ cuts. (e : Point × Point) → Contains edges.now e
         → IsTrue (begins_in (whole_band cuts.items) e)) }
@@ -30,7 +30,7 @@ pub(crate) fn cuts_of(
     let whole = Band::of(edges);
     let mut cuts = Vec::new(alloc);
     cuts.push(whole.low)?;
-    put_inner(&mut cuts, shared.stops(), workers)?;
+    put_inner(&mut cuts, shared.stops(), usize::from(workers.number()))?;
     cuts.push(whole.high)?;
     Ok(cuts)
 }

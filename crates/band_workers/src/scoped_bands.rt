@@ -7,6 +7,7 @@ ghost use Rattle.band_workers.specs.Labels.{labels_of};
 use crate::bands::Bands;
 use crate::cuts::cuts_of;
 use crate::gate::{Gate, OpenGate};
+use crate::workers::{MAX_WORKERS, Workers};
 use crate::written::written;
 use face_labels::{Shared, label_edges, label_sharing};
 use face_rows::{Band, Op};
@@ -15,18 +16,13 @@ use snap_chains::CleanEdges;
 use std::alloc::Global;
 use std::thread::{self, Threads};
 
-/// The most workers.
-pub const MAX_WORKERS: u8 = 64;
-
-const _: () = prove!(MAX_WORKERS == 64);
-
 /// What a worker gives back: the labels of the edges that begin in its band, with their numbers.
 pub(crate) type Labels = Result<Vec<(usize, bool)>, NoMemory>;
 
 /// Labels the edges in bands of consecutive rows, each in a thread of its own.
 #[derive(Clone, Copy, Debug, PartialEq, Eq)]
 pub struct ScopedBands {
-    workers: u8,
+    workers: Workers,
 }
 
 impl ScopedBands {
@@ -34,6 +30,13 @@ impl ScopedBands {
     pub fn new(workers: u8) -> ScopedBands
         requires low { 1 ≤ workers }
         requires high { workers ≤ MAX_WORKERS }
+        ensures { result.workers ≡ workers }
+    {
+        ScopedBands::of(Workers::nearest(workers))
+    }
+
+    /// So many workers.
+    pub fn of(workers: Workers) -> ScopedBands
         ensures { result.workers ≡ workers }
     {
         ScopedBands { workers }
@@ -48,14 +51,15 @@ impl Bands for ScopedBands {
         edges: &CleanEdges,
         op: Op,
     ) -> Result<Vec<bool>, NoMemory> {
-        label_in_bands(rt, alloc, edges, self.workers.max(1), &OpenGate, op)
+        label_by(rt, alloc, edges, self.workers, &OpenGate, op)
     }
 }
 
 /// Returns for each edge, in order, whether the operation's answers differ on its two sides. The rows are
 /// cut into as many bands of consecutive rows as there are workers, and each is labelled in a thread of its
 /// own where one can be started, and else on the caller's, as a band is that is the only one. All threads look
-/// at the same edges, and each passes the gate first and gives its list back as it ends.
+/// at the same edges, and each passes the gate first and gives its list back as it ends. More workers than
+/// [`MAX_WORKERS`](crate::workers::MAX_WORKERS) are taken as so many.
 ///
 /// # Errors
 ///
@@ -76,12 +80,26 @@ pub fn label_in_bands<R: Threads + Sync, G: Gate + Sync>(
     requires { 1 ≤ workers }
     ensures { IfOk result (λ labels. labels.items ≡ labels_of op edges.now) }
 {
+    label_by(rt, alloc, edges, Workers::nearest(workers), gate, op)
+}
+
+/// Returns what [`label_in_bands`] does, by so many workers.
+fn label_by<R: Threads + Sync, G: Gate + Sync>(
+    rt: &R,
+    alloc: Global,
+    edges: &CleanEdges,
+    workers: Workers,
+    gate: &G,
+    op: Op,
+) -> Result<Vec<bool>, NoMemory>
+    ensures { IfOk result (λ labels. labels.items ≡ labels_of op edges.now) }
+{
     let shared = Shared::of_edges_in_threads(rt, alloc, edges)?;
-    if workers == 1 {
+    if workers.number() == 1 {
         gate.pass(0);
         return label_edges(alloc, edges, &shared, op);
     }
-    let cuts = cuts_of(alloc, edges.edges(), &shared, usize::from(workers))?;
+    let cuts = cuts_of(alloc, edges.edges(), &shared, workers)?;
     let parts = parts_of(rt, alloc, edges, &shared, cuts.as_slice(), gate, op)?;
     written(alloc, edges.edges().len(), parts)
 }

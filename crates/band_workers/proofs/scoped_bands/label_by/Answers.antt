@@ -1,7 +1,7 @@
 -- The parts are those of bands that hold all edges, so that written into one list they are all labels.
 use Rattle.std.proofs.Common.{rules}
 use Rattle.band_workers.proofs.WriteLemmas.{AreParts, are_below, written_is}
-use Rattle.band_workers.proofs.scoped_bands.label_in_bands.Goals as goal
+use Rattle.band_workers.proofs.scoped_bands.label_by.Goals as goal
 
 pub written-requires : goal.written-requires
 written-requires g c =
