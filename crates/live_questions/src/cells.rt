@@ -108,7 +108,7 @@ fn put_word<O: Out>(out: &mut O, buffer: &mut OutBuffer, word: &[u8])
 fn count_of(layout: &Snapshot, cell: CellId) -> usize
     ensures { result ≡ length (items_in layout.now cell) }
 {
-    // A cell has no more items than the layout, whose number fits a `usize`.
+    // for the proof: a cell has no more items than the layout, whose number fits a `usize`
     let _size = layout.size();
     layout.items(cell).count()
 }

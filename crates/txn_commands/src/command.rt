@@ -14,8 +14,9 @@ pub const MAX_COMMANDS: usize = 65_535;
 
 const _: () = prove!(MAX_COMMANDS == 65_535);
 
-/// The name of a transaction: its session, and its number among the accepted opens of that session.
-#[derive(Clone, Copy, Debug, PartialEq, Eq)]
+/// The name of a transaction: its session, and its number among the accepted opens of that session. Names are in the
+/// order of their sessions, and those of a session in that of their numbers.
+#[derive(Clone, Copy, Debug, PartialEq, Eq, PartialOrd, Ord)]
 pub struct TxnId {
     /// The session: 1 to 64 of a transaction that was opened.
     pub session: u8,

@@ -70,7 +70,7 @@ impl Work {
         } }
         ensures transaction { IsTransaction result }
     {
-        // A snapshot is sound.
+        // for the proof: a snapshot is sound
         snapshot.version();
         Work {
             id,
@@ -92,6 +92,16 @@ impl Work {
         ensures transaction { IsTransaction self.now }
     {
         self.id
+    }
+
+    /// Does nothing. For proofs: its snapshot is sound, and it is a transaction.
+    pub fn known(&self)
+        ensures sound { IsSound self.now.snapshot }
+        ensures transaction { IsTransaction self.now }
+    {
+        // for the proof: a snapshot is sound, and what has a name is a transaction
+        self.snapshot.version();
+        self.id();
     }
 
     /// Returns the place of its open in the log, from 0.

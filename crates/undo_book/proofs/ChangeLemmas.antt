@@ -11,12 +11,12 @@ use Rattle.undo_rules.specs.Links.{Entry, marked, txn_eq}
 use Rattle.undo_rules.specs.Steps.{remarked}
 use Rattle.undo_rules.proofs.EqualLinks.{txn_eq-same}
 use Rattle.undo_rules.proofs.OpenLaws.{set_length}
+use Rattle.undo_rules.proofs.EqualLinks.{txn_eq-true}
 use Rattle.undo_book.specs.Changes.{AreChanges, changed_at, changed_of, earlier_at, earlier_of, earliers, first_change, is_of}
 use Rattle.undo_book.specs.Changes.{is_unchanged_since}
 use Rattle.undo_book.specs.Changes.{kept_at, last_change, or_first}
 use Rattle.undo_book.specs.Places.{place_of}
 use Rattle.undo_book.proofs.FoundLemmas.{get_within}
-use Rattle.undo_book.proofs.IndexLemmas.{names_equal}
 use Rattle.undo_book.proofs.PlaceLemmas.{place_last, place_marked, place_pushed, place_within}
 
 -- ---- one more call
@@ -167,7 +167,7 @@ commit_kept earlier last log entries call entry are changed apart = record {
   by : (txn : TxnId) (b : Bool) → txn_eq entry.txn txn ≡ b → cond b (Some (length log)) (last_change txn log)
       ≡ kept_at (last ++ length log ∷ []) (place_of txn (entries ++ entry ∷ []))
   by txn true is =
-      sym (ap (λ name. kept_at (last ++ length log ∷ []) (place_of name (entries ++ entry ∷ []))) (sym (names_equal entry.txn txn is))
+      sym (ap (λ name. kept_at (last ++ length log ∷ []) (place_of name (entries ++ entry ∷ []))) (sym (txn_eq-true entry.txn txn is))
       ∙ ap (kept_at (last ++ length log ∷ [])) (place_last entries entry apart)
       ∙ get_last last (length log) (length entries) (sym are.long))
   by txn false is =
@@ -192,7 +192,7 @@ one_name (e ∷ es) s t i at too =
       by : (a b : Bool) → txn_eq e.txn s ≡ a → txn_eq e.txn t ≡ b → (p q : Option ℕ) → place_of s es ≡ p → place_of t es ≡ q
           → cond a (Some 0) (option_map suc p) ≡ Some i → cond b (Some 0) (option_map suc q) ≡ Some i
           → ((k : ℕ) → place_of s es ≡ Some k → place_of t es ≡ Some k → s ≡ t) → s ≡ t
-      by true true is its p q of too_of at too rest = sym (names_equal e.txn s is) ∙ names_equal e.txn t its
+      by true true is its p q of too_of at too rest = sym (txn_eq-true e.txn s is) ∙ txn_eq-true e.txn t its
       by true false is its p None of too_of at too rest = absurd cc
       by true false is its p (Some k) of too_of at too rest =
           let first : 0 ≡ i = cc in
@@ -229,7 +229,7 @@ again_kept earlier last log entries call txn place live are changed placed = rec
   by : (name : TxnId) (b : Bool) → txn_eq txn name ≡ b → cond b (Some (length log)) (last_change name log)
       ≡ kept_at (slice_set last place (length log)) (place_of name entries)
   by name true is =
-      sym (ap (λ n. kept_at (slice_set last place (length log)) (place_of n entries)) (sym (names_equal txn name is))
+      sym (ap (λ n. kept_at (slice_set last place (length log)) (place_of n entries)) (sym (txn_eq-true txn name is))
       ∙ ap (kept_at (slice_set last place (length log))) placed ∙ get_set last place (length log) within)
   by name false is = are.named name ∙ other (place_of name entries) refl where
     other : (p : Option ℕ) → place_of name entries ≡ p → kept_at last p ≡ kept_at (slice_set last place (length log)) p

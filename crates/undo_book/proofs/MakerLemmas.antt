@@ -32,8 +32,9 @@ use Rattle.undo_rules.specs.Links.{Entry}
 use Rattle.undo_index.specs.First.{IsFirst, has_place, lesser}
 use Rattle.undo_index.specs.Listed.{Listed, element_id, is_listed, is_made_by}
 use Rattle.undo_index.proofs.FirstLemmas.{first_alike, lesser_first}
+use Rattle.undo_index.proofs.KeptLemmas.{made_of}
 use Rattle.undo_book.specs.Indexed.{CanBeLookedUp, Lists, by_maker, by_other, wrote}
-use Rattle.undo_book.specs.Places.{is_place, name_cmp, place_of}
+use Rattle.undo_book.specs.Places.{is_place, maker_of, name_cmp, place_of}
 use Rattle.undo_book.proofs.MovedLemmas.{no_place, place_so}
 use Rattle.undo_book.proofs.PlaceLemmas.{place_within}
 
@@ -97,21 +98,13 @@ module _ (t : ℕ → Bool) (from : ℕ) where
 
 -- ---- the maker
 
-is_item : (e : Element) (id : ItemId) → element_id e ≡ Some id → e ≡ Item id
-is_item (Item j) id is = let same : j ≡ id = cc in ap Item same
-is_item (Layer cell layer) id is = absurd cc
-is_item (Calls cell) id is = absurd cc
-is_item (Cell number) id is = absurd cc
-is_item (Content number) id is = absurd cc
-is_item (Uses number) id is = absurd cc
-
 -- a place is the one that is found under the name in an id exactly where its transaction made the item
-pub made_there : (places : List ((ℕ × ℕ) × ℕ)) (es : List Entry) (id : ItemId) (o : Option ℕ) → CanBeLookedUp places es →
-    o ≡ lookup (is_at (name_cmp (id.session, id.txn))) places → (p : ℕ) →
+pub made_there : (places : List (TxnId × ℕ)) (es : List Entry) (id : ItemId) (o : Option ℕ) → CanBeLookedUp places es →
+    o ≡ lookup (is_at (name_cmp (maker_of id))) places → (p : ℕ) →
     is_place p o ≡ passes (λ (entry : Entry). is_made_by entry.txn (Item id)) (slice_get es p)
 made_there places es id o found is p = by (slice_get es p) refl where
   name : TxnId
-  name = record { session = id.session; txn = id.txn }
+  name = maker_of id
 
   placed : o ≡ place_of name es
   placed = is ∙ found.places name
@@ -120,11 +113,11 @@ made_there places es id o found is p = by (slice_get es p) refl where
   by None at = ap (is_place p) placed ∙ no_place es p name at
   by (Some entry) at = ap (is_place p) placed ∙ place_so es p entry name found.named at
 
-pub made_within : (places : List ((ℕ × ℕ) × ℕ)) (es : List Entry) (id : ItemId) (q : ℕ) → CanBeLookedUp places es →
-    Some q ≡ lookup (is_at (name_cmp (id.session, id.txn))) places → q < length es
+pub made_within : (places : List (TxnId × ℕ)) (es : List Entry) (id : ItemId) (q : ℕ) → CanBeLookedUp places es →
+    Some q ≡ lookup (is_at (name_cmp (maker_of id))) places → q < length es
 made_within places es id q found is =
-    place_within es (record { session = id.session; txn = id.txn }) q
-    (sym (is ∙ found.places (record { session = id.session; txn = id.txn })))
+    place_within es (maker_of id) q
+    (sym (is ∙ found.places (maker_of id)))
 
 module _ (test : Element → Entry → Bool) (es : List Entry) where
   abbrev pub Makes : Element → Option ℕ → Type 0
@@ -171,18 +164,18 @@ module _ (test : Element → Entry → Bool) (es : List Entry) where
         cases false apart = sym (ap (λ b. test e x && b) (sym is ∙ apart) ∙ false_and (test e x))
 
   -- the one of the name in an id
-  module _ (places : List ((ℕ × ℕ) × ℕ)) (found : CanBeLookedUp places es) (e : Element) (id : ItemId) (is : element_id e ≡ Some id) where
-    pub maker_missing : None ≡ lookup (is_at (name_cmp (id.session, id.txn))) places → Passes e None
-    maker_missing none = subst (λ x. Passes x None) (sym (is_item e id is))
+  module _ (places : List (TxnId × ℕ)) (found : CanBeLookedUp places es) (e : Element) (id : ItemId) (is : element_id e ≡ Some id) where
+    pub maker_missing : None ≡ lookup (is_at (name_cmp (maker_of id))) places → Passes e None
+    maker_missing none = subst (λ x. Passes x None) (sym (made_of e id is))
         (none_passes (Item id) (made_there places es id None found none))
 
-    module _ (q : ℕ) (at : Some q ≡ lookup (is_at (name_cmp (id.session, id.txn))) places) where
+    module _ (q : ℕ) (at : Some q ≡ lookup (is_at (name_cmp (maker_of id))) places) where
       pub maker_passes : passes (test e) (slice_get es q) ≡ true → Passes e (Some q)
-      maker_passes = subst (λ x. passes (test x) (slice_get es q) ≡ true → Passes x (Some q)) (sym (is_item e id is))
+      maker_passes = subst (λ x. passes (test x) (slice_get es q) ≡ true → Passes x (Some q)) (sym (made_of e id is))
           (it_passes (Item id) q (made_there places es id (Some q) found at))
 
       pub maker_fails : passes (test e) (slice_get es q) ≡ false → Passes e None
-      maker_fails = subst (λ x. passes (test x) (slice_get es q) ≡ false → Passes x None) (sym (is_item e id is))
+      maker_fails = subst (λ x. passes (test x) (slice_get es q) ≡ false → Passes x None) (sym (made_of e id is))
           (it_fails (Item id) q (made_there places es id (Some q) found at))
 
       -- before a place it isn't the first from there on
@@ -262,7 +255,7 @@ written_so es records id are proper =
 -- of an item that an element is
 pub written_of : (e : Element) (id : ItemId) → element_id e ≡ Some id → (es : List Entry) (q : ℕ) →
     passes (wrote e) (slice_get es q) ≡ passes (wrote (Item id)) (slice_get es q)
-written_of e id is es q = ap (λ x. passes (wrote x) (slice_get es q)) (is_item e id is)
+written_of e id is es q = ap (λ x. passes (wrote x) (slice_get es q)) (made_of e id is)
 
 -- an element of a set, looked for in a list of it from the side of the others
 pub element_there : (es : List Element) (e : Element) (set : Touched) → from_list {R = element_cmp} es ≡ set →

@@ -18,9 +18,9 @@ use Rattle.undo_rules.proofs.EqualLinks.{linked-all, txn_eq-same}
 use Rattle.undo_rules.proofs.Moved.{not_among, txn_eq-sym}
 use Rattle.undo_index.specs.First.{IsFirst, first_some, has_place, is_apart, look, looked_up_at, or_some}
 use Rattle.undo_index.proofs.FirstLemmas.{first_alike, first_found}
+use Rattle.undo_rules.proofs.EqualLinks.{txn_eq-true}
 use Rattle.undo_book.specs.Indexed.{wrote}
 use Rattle.undo_book.specs.Places.{AreTheirPlaces, found_at as place_found, is_place, moved_at, named_at, place_of, stands_at}
-use Rattle.undo_book.proofs.IndexLemmas.{names_equal}
 use Rattle.undo_book.proofs.IndexedLemmas.{any_live, suc_suc, suc_zero, zero_suc}
 
 -- ---- one after the other
@@ -99,7 +99,7 @@ place_so (e ∷ es) (suc p) entry name named at =
           is_place p (place_of name es) ≡ txn_eq entry.txn name →
           is_place (suc p) (cond b (Some 0) (option_map suc o)) ≡ txn_eq entry.txn name
       by true is o its rest =
-          suc_zero p ∙ sym (ap (txn_eq entry.txn) (sym (names_equal e.txn name is))
+          suc_zero p ∙ sym (ap (txn_eq entry.txn) (sym (txn_eq-true e.txn name is))
           ∙ txn_eq-sym e.txn entry.txn (others e entry es p named.0 at))
       by false is None its rest = sym (ap (is_place p) its) ∙ rest
       by false is (Some q) its rest = suc_suc p q ∙ sym (ap (is_place p) its) ∙ rest
@@ -167,7 +167,7 @@ named_taken (e ∷ es) (suc n) named = (
 
 -- ---- the first that has moved
 
-module _ (touched : Touched) (names : List TxnId) (es : List Entry) (places : List ((ℕ × ℕ) × ℕ)) (place : ℕ) where
+module _ (touched : Touched) (names : List TxnId) (es : List Entry) (places : List (TxnId × ℕ)) (place : ℕ) where
   abbrev pub before : List Entry
   before = take place es
 
@@ -249,7 +249,7 @@ module _ (touched : Touched) (names : List TxnId) (es : List Entry) (places : Li
       sym (moved_some before (links_to before touched) names ∙ first_found f before 0 o alike ∙ named_so o alike)
 
 -- the same of the places that two lists have
-pub moved_here : (es : List Entry) (places : List ((ℕ × ℕ) × ℕ)) (place : ℕ) (entry : Entry) (touched : Touched)
+pub moved_here : (es : List Entry) (places : List (TxnId × ℕ)) (place : ℕ) (entry : Entry) (touched : Touched)
     (names : List TxnId) (linked seen : List ℕ) (o : Option ℕ) → slice_get es place ≡ Some entry → touched ≡ entry.footprint →
     names ≡ entry.seen → AreTheirPlaces places es → AreNamed (map trace_of es) →
     ((p : ℕ) → has_place linked p ≡ (nat_lt p place && list_any (λ e. passes (wrote e) (slice_get es p)) (items touched))) →

@@ -4,6 +4,7 @@ use Rattle.std.proofs.lemmas.List.{length-replicate}
 use Rattle.std.specs.List.{AllByRecursion}
 use Rattle.lay_layouts.specs.Layout.{Layout}
 use Rattle.lay_layouts.specs.Sound.{IsSound}
+use Rattle.txn_commands.specs.declared.command.TxnId.{TxnId}
 use Rattle.txn_commands.specs.Records.{AreProper}
 use Rattle.undo_rules.specs.declared.log.Logged.{Logged}
 use Rattle.undo_rules.specs.Books.{History, IsHistory, SessionState}
@@ -35,7 +36,7 @@ rooted_proper log base earlier marks (entry ∷ entries) (root, links, rest) = (
 )
 
 -- so transactions are found by their names, and in what one wrote an item by its id
-pub kept_found : (h : History) (places : List ((ℕ × ℕ) × ℕ)) (es : List Entry) → IsHistory h → AreTheirPlaces places h.entries →
+pub kept_found : (h : History) (places : List (TxnId × ℕ)) (es : List Entry) → IsHistory h → AreTheirPlaces places h.entries →
     es ≡ h.entries → CanBeLookedUp places es
 kept_found h places es is are same = subst (CanBeLookedUp places) (sym same) (record {
   places = are;

@@ -9,10 +9,10 @@ use Rattle.undo_rules.specs.declared.log.Logged.{Logged}
 use Rattle.undo_rules.specs.Books.{changed_in, writes_of}
 use Rattle.undo_rules.specs.Links.{Entry}
 use Rattle.undo_rules.specs.Steps.{stale_by, stale_first, touching}
+use Rattle.undo_rules.proofs.EqualLinks.{txn_eq-true}
 use Rattle.undo_book.specs.Changes.{changed_at, changed_of, earlier_at, earlier_of, first_change, is_of, is_unchanged_since, last_change}
 use Rattle.undo_book.specs.Changes.{or_first}
 use Rattle.undo_book.proofs.FoundLemmas.{get_within}
-use Rattle.undo_book.proofs.IndexLemmas.{names_equal}
 
 -- the transaction that was changed, if any, wrote what is touched
 abbrev pub wrote : List Entry → Touched → Option TxnId → Bool
@@ -28,7 +28,7 @@ NoneWrote entries touched log since place =
 
 changed_so : (txn : TxnId) (changed : Option TxnId) → is_of txn changed ≡ true → changed ≡ Some txn
 changed_so txn None h = absurd cc
-changed_so txn (Some other) h = ap Some (names_equal other txn h)
+changed_so txn (Some other) h = ap Some (txn_eq-true other txn h)
 
 -- it lies among the calls, and changed the transaction
 last_is : (txn : TxnId) (log : List Logged) (n j : ℕ) → last_change txn (take n log) ≡ Some j → (j < n) × (changed_at log j ≡ Some txn)

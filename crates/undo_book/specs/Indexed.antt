@@ -1,5 +1,5 @@
 -- What is listed under elements: the live transactions that wrote them, and those that touched them.
-use Rattle.std.specs.Prelude.{◌≡◌, ℕ, List, map, Bool, not, ◌&&◌, Option, option_map, slice_get}
+use Rattle.std.specs.Prelude.{◌≡◌, ℕ, List, map, Bool, not, ◌&&◌, Option, Some, option_map, slice_get}
 use Rattle.std.specs.FinSet as set
 use Rattle.std.specs.List.{AllByRecursion}
 use Rattle.txn_commands.specs.declared.command.TxnId.{TxnId}
@@ -10,6 +10,7 @@ use Rattle.txn_commands.specs.Elements.{Touched}
 use Rattle.txn_commands.specs.Records.{AreProper}
 use Rattle.undo_rules.specs.Links.{AreNamed, Entry, trace_of}
 use Rattle.txn_commands.specs.Meets.{meets_touched}
+use Rattle.txn_marks.specs.Homes.{AreMetBy}
 use Rattle.undo_index.specs.Listed.{Listed, is_listed, is_made_by}
 use Rattle.undo_book.specs.Places.{AreTheirPlaces}
 
@@ -39,10 +40,14 @@ pub record AreIndexed (wrote_by read_by : Listed) (entries : List Entry) : Type 
   pub readers : Lists touched read_by entries
 
 -- transactions are found by their names, and in what one wrote an item by its id
-pub record CanBeLookedUp (by_name : List ((ℕ × ℕ) × ℕ)) (entries : List Entry) : Type 0 where
+pub record CanBeLookedUp (by_name : List (TxnId × ℕ)) (entries : List Entry) : Type 0 where
   pub places : AreTheirPlaces by_name entries
   pub named : AreNamed (map trace_of entries)
   pub proper : AllByRecursion (λ entry. AreProper entry.writes) entries
+
+-- the records of the transaction at a place meet these elements
+abbrev pub IsMetAt : List Entry → ℕ → Touched → Type 0
+IsMetAt entries place met = (entry : Entry) → slice_get entries place ≡ Some entry → AreMetBy entry.writes met
 
 -- the transaction is live and wrote what is touched
 abbrev pub is_linked : Entry → Touched → Bool

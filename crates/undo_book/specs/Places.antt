@@ -22,6 +22,7 @@ use Rattle.std.specs.declared.cmp.Ordering.{Ordering}
 use Rattle.std.specs.BTreeMap.{is_at}
 use Rattle.std.specs.Map.{lookup}
 use Rattle.std.specs.Ordering.{nat_cmp, ordering_then}
+use Rattle.lay_layouts.specs.declared.id.ItemId.{ItemId}
 use Rattle.txn_commands.specs.declared.command.TxnId.{TxnId}
 use Rattle.undo_rules.specs.Links.{Entry, first_moved, links_to, txn_eq}
 use Rattle.undo_rules.specs.Steps.{Found}
@@ -36,29 +37,30 @@ abbrev pub found_at : List Entry → ℕ → Option Found
 found_at entries place = option_map (λ entry. record { before = take place entries; entry = entry; later = drop (suc place) entries })
     (slice_get entries place)
 
--- a name as two numbers, and the order of these
-abbrev pub name_of : TxnId → ℕ × ℕ
-name_of txn = (txn.session, txn.txn)
+-- the order of names: by session, and then by number
+abbrev pub name_cmp : TxnId → TxnId → Ordering
+name_cmp a b = ordering_then (nat_cmp a.session b.session) (nat_cmp a.txn b.txn)
 
-abbrev pub name_cmp : ℕ × ℕ → ℕ × ℕ → Ordering
-name_cmp a b = ordering_then (nat_cmp a.0 b.0) (nat_cmp a.1 b.1)
+-- the name of the transaction that makes items of such ids
+abbrev pub maker_of : ItemId → TxnId
+maker_of id = record { session = id.session; txn = id.txn }
 
 -- under each name stands the place of its transaction, and under no other name a place
-abbrev pub AreTheirPlaces : List ((ℕ × ℕ) × ℕ) → List Entry → Type 0
-AreTheirPlaces places entries = (txn : TxnId) → lookup (is_at (name_cmp (name_of txn))) places ≡ place_of txn entries
+abbrev pub AreTheirPlaces : List (TxnId × ℕ) → List Entry → Type 0
+AreTheirPlaces places entries = (txn : TxnId) → lookup (is_at (name_cmp txn)) places ≡ place_of txn entries
 
 -- under one more name stands a place
-abbrev pub IsPutUnder : TxnId → ℕ → List ((ℕ × ℕ) × ℕ) → List ((ℕ × ℕ) × ℕ) → Type 0
-IsPutUnder txn place old new = (q : ℕ × ℕ) → lookup (is_at (name_cmp q)) new
-    ≡ (if is_at (name_cmp (name_of txn)) q then Some place else lookup (is_at (name_cmp q)) old)
+abbrev pub IsPutUnder : TxnId → ℕ → List (TxnId × ℕ) → List (TxnId × ℕ) → Type 0
+IsPutUnder txn place old new = (q : TxnId) → lookup (is_at (name_cmp q)) new
+    ≡ (if is_at (name_cmp txn) q then Some place else lookup (is_at (name_cmp q)) old)
 
 -- under a name stands this place
 abbrev pub is_place : ℕ → Option ℕ → Bool
 is_place p None = false
 is_place p (Some place) = p == place
 
-abbrev pub stands_at : List ((ℕ × ℕ) × ℕ) → ℕ → TxnId → Bool
-stands_at places p name = is_place p (lookup (is_at (name_cmp (name_of name))) places)
+abbrev pub stands_at : List (TxnId × ℕ) → ℕ → TxnId → Bool
+stands_at places p name = is_place p (lookup (is_at (name_cmp name)) places)
 
 -- the name of the transaction at a place, if there is one
 abbrev pub named_at : List Entry → Option ℕ → Option TxnId

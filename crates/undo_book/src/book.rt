@@ -1,6 +1,7 @@
 //! The book: one history.
 ghost use Rattle.std.specs.Prelude.{◌≡◌, ◌≤◌, OnErr, OnOk, Ok, Some};
 ghost use Rattle.lay_point.specs.Memory.{IsAnswer};
+ghost use Rattle.lay_layouts.specs.Sound.{IsSound};
 ghost use Rattle.undo_rules.specs.Steps.{fresh, is_log_full, logged};
 ghost use Rattle.undo_book.specs.Replays.{replay};
 
@@ -12,6 +13,7 @@ use lay_point::NoMemory;
 use std::alloc::Global;
 use std::collections::BTreeMap;
 use std::marker::Model;
+use txn_commands::TxnId;
 use undo_index::Index;
 use undo_rules::{Answer, BookFault, Call, Logged, SessionId};
 
@@ -19,6 +21,9 @@ use undo_rules::{Answer, BookFault, Call, Logged, SessionId};
 pub const MAX_CALLS: u32 = 1_048_576;
 
 const _: () = prove!(MAX_CALLS == 1_048_576);
+
+/// The places of transactions by their names.
+pub(crate) type ByName = BTreeMap<TxnId, usize>;
 
 /// A history of a layout. Contracts see the record of its base, its layout, its log, how long that may be,
 /// its committed transactions and what it keeps of the sessions. It keeps in its type that the layout is that
@@ -31,8 +36,8 @@ pub struct Book {
     pub(crate) limit: u32,
     pub(crate) entries: Vec<Entry>,
     pub(crate) sessions: Vec<SessionState>,
-    /// The places of the transactions by their names: session and number.
-    pub(crate) places: BTreeMap<(u8, u16), usize>,
+    /// The places of the transactions by their names.
+    pub(crate) places: ByName,
     pub(crate) changes: Changes,
     /// Who wrote and who read what, by their places.
     pub(crate) index: Index,
@@ -101,6 +106,14 @@ impl Book {
         ensures replay { replay self.now ≡ Some result.now }
     {
         &self.layout
+    }
+
+    /// Does nothing. For proofs: the layout is sound.
+    pub fn known(&self)
+        ensures { IsSound self.now.layout }
+    {
+        // for the proof: a snapshot is sound
+        self.layout.version();
     }
 
     /// Lends the logged calls with their answers, in order.

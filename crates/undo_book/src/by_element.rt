@@ -13,14 +13,14 @@ ghost use Rattle.txn_commands.specs.Meets.{some_meets};
 ghost use Rattle.txn_commands.specs.Records.{AreProper};
 ghost use Rattle.undo_index.specs.First.{IsFirst, has_place};
 ghost use Rattle.undo_book.specs.Indexed.{CanBeLookedUp, AreIndexed, by_maker, touched, wrote};
-ghost use Rattle.undo_book.specs.Places.{is_place, name_cmp};
+ghost use Rattle.undo_book.specs.Places.{is_place, maker_of, name_cmp};
 
+use crate::book::ByName;
 use crate::entry::Entry;
 use lay_layouts::ItemId;
 use lay_pages::page::find;
 use lay_point::NoMemory;
-use std::collections::BTreeMap;
-use txn_commands::Element;
+use txn_commands::{Element, TxnId};
 use txn_marks::Records;
 use undo_index::{Index, element_id, lesser};
 
@@ -31,7 +31,7 @@ use undo_index::{Index, element_id, lesser};
 /// The logarithm of all that is listed, of the number of transactions, and of the records of the maker.
 pub(crate) fn first_writer_of(
     index: &Index,
-    places: &BTreeMap<(u8, u16), usize>,
+    places: &ByName,
     entries: &[Entry],
     element: &Element,
     from: usize,
@@ -54,7 +54,7 @@ pub(crate) fn first_writer_of(
 /// earlier one wrote that is so only if the base has an item with the name of a later one.
 pub(crate) fn first_reader_of(
     index: &Index,
-    places: &BTreeMap<(u8, u16), usize>,
+    places: &ByName,
     entries: &[Entry],
     element: &Element,
     from: usize,
@@ -75,7 +75,7 @@ pub(crate) fn first_reader_of(
 /// That of `first_writer_of`, and a step for each place.
 pub(crate) fn gather_writers_of(
     index: &Index,
-    places: &BTreeMap<(u8, u16), usize>,
+    places: &ByName,
     entries: &[Entry],
     element: &Element,
     below: usize,
@@ -91,11 +91,7 @@ pub(crate) fn gather_writers_of(
 }
 
 /// Returns the place of the live transaction that made the element and wrote it, if there is one.
-fn writing_maker(
-    places: &BTreeMap<(u8, u16), usize>,
-    entries: &[Entry],
-    element: &Element,
-) -> Option<usize>
+fn writing_maker(places: &ByName, entries: &[Entry], element: &Element) -> Option<usize>
     requires { CanBeLookedUp places.now.entries entries.now }
     ensures { (p : ℕ) → is_place p result ≡ passes (by_maker wrote element.now) (slice_get entries.now p) }
 {
@@ -109,7 +105,7 @@ fn writing_maker(
 
 /// Returns the place of the live transaction that made the element and touched it, if it is from this one on.
 fn reading_maker(
-    places: &BTreeMap<(u8, u16), usize>,
+    places: &ByName,
     entries: &[Entry],
     element: &Element,
     from: usize,
@@ -126,10 +122,14 @@ fn reading_maker(
 }
 
 /// Returns the place of the transaction that makes items of ids as this one, if it is committed.
-fn maker(places: &BTreeMap<(u8, u16), usize>, id: ItemId) -> Option<usize>
-    ensures { result ≡ lookup (is_at (name_cmp (id.session, id.txn))) places.now.entries }
+fn maker(places: &ByName, id: ItemId) -> Option<usize>
+    ensures { result ≡ lookup (is_at (name_cmp (maker_of id))) places.now.entries }
 {
-    places.get(&(id.session, id.txn)).copied()
+    let name = TxnId {
+        session: id.session,
+        txn: id.txn,
+    };
+    places.get(&name).copied()
 }
 
 /// Returns whether the transaction at the place is live and wrote the item.

@@ -9,13 +9,12 @@ ghost use Rattle.undo_book.specs.Calls.{EndsStale, TakesWork, refused};
 ghost use Rattle.undo_book.specs.Places.{IsPutUnder};
 ghost use Rattle.undo_book.specs.Replays.{RunsAgain};
 
-use crate::book::Book;
+use crate::book::{Book, ByName};
 use crate::entry::Entry;
 use crate::session::end_pending;
 use lay_items::Snapshot;
 use lay_point::{NoMemory, Sequence};
 use std::alloc::Global;
-use std::collections::BTreeMap;
 use std::mem::replace;
 use txn_commands::{Command, TxnId};
 use txn_marks::Marks;
@@ -222,8 +221,8 @@ impl Book {
         ensures err { OnErr result (self.new ≡ self.old) }
     {
         let txn = work.id();
-        // Its snapshot is sound.
-        work.snapshot().version();
+        // for the proof: its snapshot is sound, and it is a transaction
+        work.known();
         let mut work = work;
         let Ok(prepared) = self.prepare(alloc, &mut work) else {
             return Err(refused(BookFault::NoMemory, work));
@@ -262,9 +261,8 @@ impl Book {
         ensures layout { IfOk result (λ made. made.layout ≡ applied self.now.layout work.old.writes) }
         ensures seen { IfOk result (λ made. made.seen.items ≡ links_to self.now.entries work.old.footprint) }
     {
-        work.id();
-        // Its snapshot is sound.
-        work.snapshot().version();
+        // for the proof: its snapshot is sound, and it is a transaction
+        work.known();
         let marks = work.take_marks(alloc)?;
         let layout = marks.wrote.applied(alloc, &self.layout)?;
         let seen = self.links_to(alloc, &marks.touched)?;
@@ -295,7 +293,7 @@ fn committed(txn: TxnId, commands: Sequence<Command>) -> Logged
 /// Out of memory all stays as it was where its place is a new one.
 fn list_at(
     index: &mut Index,
-    places: &mut BTreeMap<(u8, u16), usize>,
+    places: &mut ByName,
     txn: TxnId,
     place: usize,
     marks: &Marks,
@@ -310,7 +308,7 @@ fn list_at(
     ensures same_places { OnErr result (places.new.entries ≡ places.old.entries) }
 {
     index.enter(txn, &marks.met, &marks.touched, place)?;
-    if places.insert((txn.session, txn.txn), place).is_err() {
+    if places.insert(txn, place).is_err() {
         index.leave(txn, &marks.met, &marks.touched, place);
         return Err(NoMemory {});
     }

@@ -1,21 +1,19 @@
 //! Transactions by their names, and what is against undoing or redoing them.
-ghost use Rattle.std.specs.Prelude.{◌≡◌, ◌<◌, ◌≤◌, IfOk, IfSome, MatchResult, None, Some, drop, length, nat_lt};
+ghost use Rattle.std.specs.Prelude.{◌≡◌, ◌≢◌, ◌<◌, ◌≤◌, IfErr, IfOk, IfSome, OnOk, None, Some, drop, length, nat_lt};
 ghost use Rattle.std.specs.List.{list_any};
 ghost use Rattle.std.specs.List.Sorted.{IsPartitionPoint};
 ghost use Rattle.undo_rules.specs.Books.{writes_of};
 ghost use Rattle.undo_rules.specs.Steps.{redo_refusal, redo_refusal_at, stale_by, touching};
 ghost use Rattle.undo_rules.specs.Steps.{undo_refusal, undo_refusal_at};
 ghost use Rattle.undo_book.specs.Changes.{first_change};
-ghost use Rattle.undo_book.specs.Indexed.{CanBeLookedUp, AreIndexed, is_linked};
+ghost use Rattle.undo_book.specs.Indexed.{CanBeLookedUp, AreIndexed, IsMetAt, is_linked};
 ghost use Rattle.undo_book.specs.Places.{found_at, place_of};
 
-use crate::book::Book;
+use crate::book::{Book, ByName};
 use crate::changes::is_before;
 use crate::entry::Entry;
 use crate::links::{changed_in, first_moved, first_reader, is_written_from};
-use lay_point::NoMemory;
 use std::alloc::Global;
-use std::collections::BTreeMap;
 use txn_commands::TxnId;
 use txn_marks::{Elements, Footprint};
 use undo_index::Index;
@@ -27,51 +25,55 @@ impl Book {
         ensures value { result ≡ place_of txn self.now.entries }
         ensures there { IfSome result (λ place. place < length self.now.entries) }
     {
-        self.places.get(&(txn.session, txn.txn)).copied()
+        self.places.get(&txn).copied()
     }
 
-    /// Returns the place of the transaction of this name, where nothing is against undoing it, or why it
-    /// can't be undone.
+    /// Returns the place of the transaction of this name and what its records meet, where nothing is against
+    /// undoing it.
+    ///
+    /// # Errors
+    ///
+    /// `NoMemory`, if an allocation fails; else why it can't be undone.
     pub(crate) fn undo_place(
         &self,
         alloc: Global,
         txn: TxnId,
-    ) -> Result<Result<usize, BookFault>, NoMemory>
-        ensures { IfOk result (λ answer. MatchResult answer
-            (λ place. (place_of txn self.now.entries ≡ Some place)
-            × (undo_refusal self.now txn ≡ None) × (place < length self.now.entries))
-            (λ fault. undo_refusal self.now txn ≡ Some fault)) }
+    ) -> Result<(usize, Elements), BookFault>
+        ensures place { IfOk result (λ found. place_of txn self.now.entries ≡ Some found.0) }
+        ensures there { IfOk result (λ found. found.0 < length self.now.entries) }
+        ensures met { IfOk result (λ found. IsMetAt self.now.entries found.0 found.1) }
+        ensures free { OnOk result (undo_refusal self.now txn ≡ None) }
+        ensures refused { IfErr result (λ fault. fault ≢ BookFault.NoMemory → undo_refusal self.now txn ≡ Some fault) }
     {
         let Some(place) = self.place_of(txn) else {
-            return Ok(Err(BookFault::NoTxn));
+            return Err(BookFault::NoTxn);
         };
-        let refusal = undo_refusal_at(alloc, &self.index, &self.places, &self.entries, place)?;
-        match refusal {
-            Some(fault) => Ok(Err(fault)),
-            None => Ok(Ok(place)),
-        }
+        let met = undo_met(alloc, &self.index, &self.places, &self.entries, place)?;
+        Ok((place, met))
     }
 
-    /// Returns the place of the transaction of this name, where nothing is against redoing it, or why it
-    /// can't be redone.
+    /// Returns the place of the transaction of this name and what its records meet, where nothing is against
+    /// redoing it.
+    ///
+    /// # Errors
+    ///
+    /// `NoMemory`, if an allocation fails; else why it can't be redone.
     pub(crate) fn redo_place(
         &self,
         alloc: Global,
         txn: TxnId,
-    ) -> Result<Result<usize, BookFault>, NoMemory>
-        ensures { IfOk result (λ answer. MatchResult answer
-            (λ place. (place_of txn self.now.entries ≡ Some place)
-            × (redo_refusal self.now txn ≡ None) × (place < length self.now.entries))
-            (λ fault. redo_refusal self.now txn ≡ Some fault)) }
+    ) -> Result<(usize, Elements), BookFault>
+        ensures place { IfOk result (λ found. place_of txn self.now.entries ≡ Some found.0) }
+        ensures there { IfOk result (λ found. found.0 < length self.now.entries) }
+        ensures met { IfOk result (λ found. IsMetAt self.now.entries found.0 found.1) }
+        ensures free { OnOk result (redo_refusal self.now txn ≡ None) }
+        ensures refused { IfErr result (λ fault. fault ≢ BookFault.NoMemory → redo_refusal self.now txn ≡ Some fault) }
     {
         let Some(place) = self.place_of(txn) else {
-            return Ok(Err(BookFault::NoTxn));
+            return Err(BookFault::NoTxn);
         };
-        let refusal = redo_refusal_at(alloc, &self.index, &self.places, &self.entries, place)?;
-        match refusal {
-            Some(fault) => Ok(Err(fault)),
-            None => Ok(Ok(place)),
-        }
+        let met = redo_met(alloc, &self.index, &self.places, &self.entries, place)?;
+        Ok((place, met))
     }
 
     /// Returns the first transaction that a call from this place of the log on changed and that wrote what is
@@ -173,48 +175,59 @@ fn next_place(place: Option<usize>) -> usize {
     }
 }
 
-/// Returns why the transaction at this place can't be undone.
-fn undo_refusal_at(
+/// Returns what the records of the transaction at this place meet, where nothing is against undoing it, or what is.
+fn undo_met(
     alloc: Global,
     index: &Index,
-    places: &BTreeMap<(u8, u16), usize>,
+    places: &ByName,
     entries: &[Entry],
     place: usize,
-) -> Result<Option<BookFault>, NoMemory>
+) -> Result<Elements, BookFault>
     requires place { place < length entries.now }
     requires index { AreIndexed index.now.writers index.now.readers entries.now }
     requires found { CanBeLookedUp places.now.entries entries.now }
-    ensures { IfOk result (λ refusal. refusal ≡ undo_refusal_at (found_at entries.now place)) }
+    ensures met { IfOk result (λ met. IsMetAt entries.now place met) }
+    ensures free { OnOk result (undo_refusal_at (found_at entries.now place) ≡ None) }
+    ensures refused { IfErr result (λ fault. fault ≢ BookFault.NoMemory
+        → undo_refusal_at (found_at entries.now place) ≡ Some fault) }
 {
     let entry = &entries[place];
     if !entry.live {
-        return Ok(Some(BookFault::NotLive));
+        return Err(BookFault::NotLive);
     }
     let met = Elements::met_by(alloc, &entry.writes)?;
-    Ok(first_reader(index, places, entries, entry, &met, place + 1).map(BookFault::Depends))
+    match first_reader(index, places, entries, entry, &met, place + 1) {
+        Some(reader) => Err(BookFault::Depends(reader)),
+        None => Ok(met),
+    }
 }
 
-/// Returns why the transaction at this place can't be redone.
-fn redo_refusal_at(
+/// Returns what the records of the transaction at this place meet, where nothing is against redoing it, or what is.
+fn redo_met(
     alloc: Global,
     index: &Index,
-    places: &BTreeMap<(u8, u16), usize>,
+    places: &ByName,
     entries: &[Entry],
     place: usize,
-) -> Result<Option<BookFault>, NoMemory>
+) -> Result<Elements, BookFault>
     requires place { place < length entries.now }
     requires index { AreIndexed index.now.writers index.now.readers entries.now }
     requires found { CanBeLookedUp places.now.entries entries.now }
-    ensures { IfOk result (λ refusal. refusal ≡ redo_refusal_at (found_at entries.now place)) }
+    ensures met { IfOk result (λ met. IsMetAt entries.now place met) }
+    ensures free { OnOk result (redo_refusal_at (found_at entries.now place) ≡ None) }
+    ensures refused { IfErr result (λ fault. fault ≢ BookFault.NoMemory
+        → redo_refusal_at (found_at entries.now place) ≡ Some fault) }
 {
     let entry = &entries[place];
     if entry.live {
-        return Ok(Some(BookFault::StillLive));
+        return Err(BookFault::StillLive);
     }
     let met = Elements::met_by(alloc, &entry.writes)?;
     if let Some(reader) = first_reader(index, places, entries, entry, &met, place + 1) {
-        return Ok(Some(BookFault::Depends(reader)));
+        return Err(BookFault::Depends(reader));
     }
-    let moved = first_moved(alloc, index, places, entries, place)?;
-    Ok(moved.map(BookFault::Moved))
+    match first_moved(alloc, index, places, entries, place)? {
+        Some(moved) => Err(BookFault::Moved(moved)),
+        None => Ok(met),
+    }
 }

@@ -10,12 +10,11 @@ ghost use Rattle.undo_index.specs.First.{IsFirst, has_place};
 ghost use Rattle.undo_book.specs.Indexed.{CanBeLookedUp, AreIndexed, is_linked, name_at, touched, wrote};
 ghost use Rattle.undo_book.specs.Places.{found_at, moved_at, named_at, stands_at};
 
-use crate::book::Book;
+use crate::book::{Book, ByName};
 use crate::by_element::{first_reader_of, first_writer_of, gather_writers_of};
 use crate::entry::Entry;
 use lay_point::NoMemory;
 use std::alloc::Global;
-use std::collections::BTreeMap;
 use txn_commands::TxnId;
 use txn_marks::{Elements, Footprint};
 use undo_index::{Index, Places, first_apart, lesser};
@@ -25,7 +24,7 @@ use undo_rules::{Answer, Call, Logged};
 /// records meet these elements.
 pub(crate) fn first_reader(
     index: &Index,
-    places: &BTreeMap<(u8, u16), usize>,
+    places: &ByName,
     entries: &[Entry],
     entry: &Entry,
     met: &Elements,
@@ -43,7 +42,7 @@ pub(crate) fn first_reader(
 /// Returns the least place from this one on whose transaction is live and touched one of the elements.
 fn first_touching(
     index: &Index,
-    places: &BTreeMap<(u8, u16), usize>,
+    places: &ByName,
     entries: &[Entry],
     met: &Elements,
     from: usize,
@@ -66,7 +65,7 @@ fn first_touching(
 /// Returns whether a live transaction from this place on wrote an element of the footprint.
 pub(crate) fn is_written_from(
     index: &Index,
-    places: &BTreeMap<(u8, u16), usize>,
+    places: &ByName,
     entries: &[Entry],
     footprint: &Footprint,
     from: usize,
@@ -93,7 +92,7 @@ pub(crate) fn is_written_from(
 fn writers_among(
     alloc: Global,
     index: &Index,
-    places: &BTreeMap<(u8, u16), usize>,
+    places: &ByName,
     entries: &[Entry],
     elements: &Elements,
     below: usize,
@@ -120,7 +119,7 @@ fn writers_among(
 pub(crate) fn first_moved(
     alloc: Global,
     index: &Index,
-    places: &BTreeMap<(u8, u16), usize>,
+    places: &ByName,
     entries: &[Entry],
     place: usize,
 ) -> Result<Option<TxnId>, NoMemory>
@@ -138,7 +137,7 @@ pub(crate) fn first_moved(
 /// Returns the places below this one at which transactions of these names stand, in rising order.
 fn places_of(
     alloc: Global,
-    places: &BTreeMap<(u8, u16), usize>,
+    places: &ByName,
     names: &[TxnId],
     below: usize,
 ) -> Result<Places, NoMemory>
@@ -154,7 +153,7 @@ fn places_of(
 
 /// Adds the place at which the transaction of this name stands, where that is below the other one.
 fn place_of(
-    places: &BTreeMap<(u8, u16), usize>,
+    places: &ByName,
     name: TxnId,
     below: usize,
     found: &mut Vec<usize>,
@@ -162,7 +161,7 @@ fn place_of(
     ensures { OnOk result ((p : ℕ) → has_place found.new.items p
         ≡ (has_place found.old.items p || (nat_lt p below && stands_at places.now.entries p name))) }
 {
-    if let Some(place) = places.get(&(name.session, name.txn)) {
+    if let Some(place) = places.get(&name) {
         if *place < below {
             found.push(*place)?;
         }

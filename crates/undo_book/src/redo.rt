@@ -35,8 +35,9 @@ impl Book {
         if self.is_full() {
             return Err(BookFault::LogFull);
         }
-        match self.redo_place(alloc, txn)? {
-            Ok(place) => Ok(self.remark(alloc, session, txn, place, true)?),
+        match self.redo_place(alloc, txn) {
+            Ok((place, met)) => Ok(self.remark(alloc, session, txn, place, &met, true)?),
+            Err(BookFault::NoMemory) => Err(BookFault::NoMemory),
             Err(fault) => {
                 self.log_refusal(session, Call::Redo(txn), fault)?;
                 Err(fault)

@@ -4,6 +4,7 @@ ghost use Rattle.lay_layouts.specs.Sound.{IsSound};
 ghost use Rattle.txn_commands.specs.Records.{AreProper};
 ghost use Rattle.undo_rules.specs.Steps.{is_log_full, with_mark};
 ghost use Rattle.undo_index.specs.Listed.{IsNew};
+ghost use Rattle.undo_book.specs.Indexed.{IsMetAt};
 ghost use Rattle.undo_book.specs.Marks.{
   AreRelisted,
   after_mark,
@@ -26,18 +27,20 @@ use undo_index::Index;
 use undo_rules::{Answer, Call, Logged, SessionId};
 
 impl Book {
-    /// Marks the transaction at this place as live, or as undone, which nothing is against: applies what it
-    /// wrote, or reverts it.
+    /// Marks the transaction at this place, whose records meet these elements, as live, or as undone, which
+    /// nothing is against: applies what it wrote, or reverts it.
     pub(crate) fn remark(
         &mut self,
         alloc: Global,
         session: SessionId,
         txn: TxnId,
         place: usize,
+        met: &Elements,
         live: bool,
     ) -> Result<(), NoMemory>
         requires log { is_log_full self.old ≡ false }
         requires place { place_of txn self.old.entries ≡ Some place }
+        requires met { IsMetAt self.old.entries place met.now }
         requires free { mark_refusal live self.old txn ≡ None }
         ensures ok { OnOk result (self.new ≡ after_mark live self.old session txn) }
         ensures replayed { OnOk result (replay (with_mark self.old live txn) ≡ Some self.new.layout) }
@@ -46,10 +49,9 @@ impl Book {
     {
         let entry = &self.entries[place];
         let layout = relaid(alloc, &self.layout, &entry.writes, live)?;
-        let met = Elements::met_by(alloc, &entry.writes)?;
         self.log.reserve(1)?;
         self.changes.reserve_call()?;
-        relist(&mut self.index, entry, &met, place, live)?;
+        relist(&mut self.index, entry, met, place, live)?;
         self.changes.add_again(place, self.log.len() as u32);
         mark_at(&mut self.entries, place, live);
         self.log.push(marking(session, txn, live)).unwrap();

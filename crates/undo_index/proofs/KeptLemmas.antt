@@ -199,7 +199,7 @@ other_removed items ks x none place =
     (less_so (listed_of items ks) x place) (less_so ks x place)
 
 -- the only element of an id
-made_of : (e : Element) (id : ItemId) → element_id e ≡ Some id → e ≡ Item id
+pub made_of : (e : Element) (id : ItemId) → element_id e ≡ Some id → e ≡ Item id
 made_of (Item a) id is = cc
 made_of (Layer cell layer) id is = absurd cc
 made_of (Calls cell) id is = absurd cc

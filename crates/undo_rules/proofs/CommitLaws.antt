@@ -25,6 +25,7 @@ use Rattle.undo_rules.specs.Links.{Entry, txn_eq}
 use Rattle.txn_commands.specs.Meets.{meets_touched}
 use Rattle.undo_rules.specs.Steps.{ended, ended_state, entered, logged, stale_by, stale_first, state_of, touching, with_entry}
 use Rattle.undo_rules.proofs.Committing.{commits, since_more}
+use Rattle.undo_rules.proofs.EqualLinks.{txn_eq-same}
 use Rattle.undo_rules.proofs.Finding.{there_more, writes_more}
 use Rattle.undo_rules.proofs.Logs.{changed_longer, drop_longer, kept_longer}
 use Rattle.undo_rules.proofs.OpenLaws.{all_weaker, its_state, set_cases, set_length}
@@ -73,13 +74,10 @@ unnamed session number state txn (e ∷ entries) at of last waits all =
           let less = (all.0 (its ∙ of ∙ sym at)).1 waits in
           absurd (omega (arith, less, same, last))
 
-same_name : (txn : TxnId) → txn_eq txn txn ≡ true
-same_name txn = rw ((Decides-eqb txn.session txn.session).1 refl, (Decides-eqb txn.txn txn.txn).1 refl) refl
-
 -- the last one is found under its name
 last_found : (entries : List Entry) (e : Entry) → AllByRecursion (λ other. txn_eq other.txn e.txn ≡ false) entries →
     entry_of e.txn (entries ++ e ∷ []) ≡ Some e
-last_found [] e apart = ap (λ b. cond b (Some e) None) (same_name e.txn)
+last_found [] e apart = ap (λ b. cond b (Some e) None) (txn_eq-same e.txn)
 last_found (x ∷ entries) e apart =
     ap (λ b. cond b (Some x) (entry_of e.txn (entries ++ e ∷ []))) apart.0 ∙ last_found entries e apart.1
 

@@ -1,6 +1,7 @@
 -- Equal links: what they say of the marks.
-use Rattle.std.proofs.Common.{◌≡◌, ◌⊎◌, inl, inr, Bool, true, false, cond, ◌&&◌, List, [], ◌∷◌, length, refl, sym, ap, ◌∙◌, arith}
+use Rattle.std.proofs.Common.{◌≡◌, ◌⊎◌, inl, inr, ◌==◌, Bool, true, false, cond, ◌&&◌, List, [], ◌∷◌, length, refl, sym, ap, ◌∙◌, arith}
 use Rattle.std.specs.List.{AllByRecursion}
+use Rattle.std.proofs.lemmas.Bool.{and_parts}
 use Rattle.std.proofs.lemmas.Bool.Decides.{Decides-eqb}
 use Rattle.txn_commands.specs.declared.command.TxnId.{TxnId}
 use Rattle.txn_commands.specs.declared.element.Element.{Element}
@@ -13,6 +14,13 @@ use Rattle.undo_rules.proofs.Laying.{SameMarks}
 
 pub txn_eq-same : (t : TxnId) → txn_eq t t ≡ true
 txn_eq-same t = rw ((Decides-eqb t.session t.session).1 refl, (Decides-eqb t.txn t.txn).1 refl) refl
+
+pub txn_eq-true : (s t : TxnId) → txn_eq s t ≡ true → s ≡ t
+txn_eq-true s t h =
+    let parts = and_parts (s.session == t.session) (s.txn == t.txn) h in
+    let session : s.session ≡ t.session = (Decides-eqb s.session t.session).0 parts.0 in
+    let number : s.txn ≡ t.txn = (Decides-eqb s.txn t.txn).0 parts.1 in
+    λ i. record { session = session i; txn = number i }
 
 -- what holds of all names holds of the linked ones
 pub linked-all : (P : TxnId → Type 0) (touched : Touched) (ts : List Trace) (ms : List Bool) → AllByRecursion (λ t. P t.txn) ts →

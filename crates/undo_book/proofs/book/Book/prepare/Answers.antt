@@ -10,11 +10,11 @@ applied-requires-clause-proper c =
     let same : c.in_ok-marks.marks.wrote ≡ c.args.work.now.writes = search rules in
     subst (λ (ws : Records). AreProper ws) (sym same)
     (committed_so (history_of c.self.inside) c.args.self.now c.self.view_is c.self.invariant.history c.args.work.now
-    c.id.ensures.transaction (search rules) c.requires.own c.requires.fresh).proper
+    c.known.ensures.transaction (search rules) c.requires.own c.requires.fresh).proper
 
 pub applied-requires-clause-sound : goal.applied-requires-clause-sound
 applied-requires-clause-sound c =
     let same : c.in_ok-marks.marks.wrote ≡ c.args.work.now.writes = search rules in
     subst (λ (ws : Records). IsSound (applied c.self.inside.layout ws)) (sym same)
     (committed_so (history_of c.self.inside) c.args.self.now c.self.view_is c.self.invariant.history c.args.work.now
-    c.id.ensures.transaction (search rules) c.requires.own c.requires.fresh).sound
+    c.known.ensures.transaction (search rules) c.requires.own c.requires.fresh).sound

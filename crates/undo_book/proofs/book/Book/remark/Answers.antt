@@ -69,13 +69,13 @@ mark_at-requires c =
     omega (arith, less, len)
 
 -- what nothing is against
-can : (c : goal.Joined-met-4) → IsMarked c.args.live (history_of c.self.inside) c.args.self.now c.args.session c.args.txn
+can : (c : goal.After-drop-self-inside) → IsMarked c.args.live (history_of c.self.inside) c.args.self.now c.args.session c.args.txn
     c.args.place c.index-entry.result.now
 can c = marked_at c.args.live (history_of c.self.inside) c.args.self.now c.self.view_is c.self.invariant.history c.args.session c.args.txn
     c.args.place c.index-entry.result.now c.requires.place c.index-entry.ensures c.requires.free
 
 -- what is left at the end
-left : (c : goal.Joined-met-4) → LeavesMarked c.args.live c.args.self.now (history_of (record c.self.inside {
+left : (c : goal.After-drop-self-inside) → LeavesMarked c.args.live c.args.self.now (history_of (record c.self.inside {
   layout = c.in_ok-layout.layout;
   log = c.push.new.self;
   entries = c.mark_at.new.entries;
@@ -89,17 +89,17 @@ left c =
     (c.mark_at.ensures c.index-entry.result.now (can c).there)
 
 -- who wrote and touched what
-indexed : (c : goal.Joined-met-4) → AreIndexed c.relist.new.index.writers c.relist.new.index.readers c.mark_at.new.entries.items
+indexed : (c : goal.After-drop-self-inside) → AreIndexed c.relist.new.index.writers c.relist.new.index.readers c.mark_at.new.entries.items
 indexed c =
     let was = c.self.inside.index in
     let entry = c.index-entry.result.now in
     let less = within (history_of c.self.inside) c.args.self.now c.self.view_is c.args.txn c.args.place c.requires.place in
-    let met : AreMetBy c.entry.inside.writes c.in_ok-met.met = search rules in
-    let are : AreMetBy entry.writes c.in_ok-met.met = subst (λ (e : Entry). AreMetBy e.writes c.in_ok-met.met) c.entry.view_is met in
-    let wrote_it : AreRelisted c.args.live was.writers entry.txn c.in_ok-met.met c.args.place c.relist.new.index.writers = search rules in
+    let there = ap (λ (h : History). slice_get h.entries c.args.place) (sym c.self.view_is) ∙ (can c).there in
+    let are : AreMetBy entry.writes c.args.met.now = c.requires.met entry there in
+    let wrote_it : AreRelisted c.args.live was.writers entry.txn c.args.met.now c.args.place c.relist.new.index.writers = search rules in
     let read_it : AreRelisted c.args.live was.readers entry.txn entry.footprint c.args.place c.relist.new.index.readers = search rules in
     mark_indexed c.args.live was.writers was.readers c.relist.new.index.writers c.relist.new.index.readers c.self.inside.entries.items
-    c.mark_at.new.entries.items c.args.place entry c.in_ok-met.met c.self.invariant.index wrote_it read_it are (can c).other (can c).there
+    c.mark_at.new.entries.items c.args.place entry c.args.met.now c.self.invariant.index wrote_it read_it are (can c).other (can c).there
     less (c.mark_at.ensures entry (can c).there)
 
 pub invariant_of-self-2 : goal.invariant_of-self-2
