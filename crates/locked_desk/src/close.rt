@@ -86,7 +86,7 @@ fn close_all<L: Ledger>(desk: Desk<L>, seats: Vec<Seat<L>>) -> Result<Closed, Cl
     ensures refused { IfErr result (λ refusal. IsRefusedClose desk seats.items refusal) }
 {
     let Desk { origin, lock } = desk;
-    // There is a session.
+    // for the proof: there is a session
     origin.sessions.number();
     let Guarded {
         sessions: _,
@@ -203,6 +203,7 @@ fn audit_all<L: Ledger>(seats: &mut [Seat<L>], calls: &mut ledger::Book<L>)
         own,
         share,
     } = seat;
+    // for the proof: how many calls the seat has
     let _count = own.len();
     audit(rest, share, calls);
 }

@@ -155,7 +155,7 @@ impl<L: Ledger> Guarded<L> {
             calls,
         } = self;
         let base = book.base().share(alloc)?;
-        // The layout is sound.
+        // for the proof: the layout is sound
         book.snapshot().version();
         let place = book.log().len();
         let result = book.open(alloc, session.number());
@@ -195,7 +195,7 @@ impl<L: Ledger> Guarded<L> {
             counts,
             calls,
         } = self;
-        // The layout is sound.
+        // for the proof: the layout is sound
         book.snapshot().version();
         let place = book.log().len();
         let result = way.take(book, alloc, session, txn);
@@ -275,6 +275,7 @@ impl<L: Ledger> Guarded<L> {
         ensures amount { share.new.amount ≡ share.old.amount + calls_added (commit_answer result.0) }
         ensures parts { share.new.parts ≡ 1 }
     {
+        // for the proof: how many calls there are, and how many there may be
         let _calls = own.len();
         let _limit = origin.limit;
         let Guarded {
@@ -284,7 +285,7 @@ impl<L: Ledger> Guarded<L> {
             counts,
             calls,
         } = self;
-        // The layout and the work's snapshot are sound, and the work is a transaction.
+        // for the proof: the layout and the work's snapshot are sound, and the work is a transaction
         book.snapshot().version();
         work.snapshot().version();
         work.id();
@@ -349,7 +350,7 @@ impl<L: Ledger> Guarded<L> {
         ensures legal { IfOk result (λ r. IsFrom (on_base self.now.book.base origin.now) self.now.book) }
         ensures refused { IfErr result (λ fault. IsShownFault origin.now (record { session = session; own = own.now }) fault) }
     {
-        // What is behind the lock is a guard.
+        // for the proof: what is behind the lock is a guard
         let _sessions = self.sessions;
         if !self.has_last(session, own) {
             return Err(self.missed(origin, session, last_place(own)));

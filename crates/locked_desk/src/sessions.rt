@@ -52,7 +52,7 @@ where
     requires { length scripts ≡ desk.sessions }
     ensures { IfOk result (λ run. IsDeskRun desk seats.items scripts run.replies run.closed.book) }
 {
-    // There are at most `MAX_SESSIONS`.
+    // for the proof: there are at most `MAX_SESSIONS`
     desk.sessions();
     let jobs = jobs_of(alloc, seats, scripts)?;
     let outcomes = run_jobs(rt, alloc, &desk, jobs, gate, bands)?;

@@ -32,7 +32,7 @@ impl<L: Ledger> Desk<L> {
         ensures shows { IfOk result (λ layout. Shows self.now seat.now layout) }
         ensures fault { IfErr result (λ fault. IsShownFault self.now seat.now fault) }
     {
-        // Sessions are numbered from 1.
+        // for the proof: sessions are numbered from 1
         seat.session.number();
         let shown = self
             .entered(rt)
