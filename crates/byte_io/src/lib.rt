@@ -42,4 +42,4 @@ pub use device::{Out, OutFault, put_all};
 pub use input::{In, InFault, ReadCounts};
 pub use lines::{content, place_of, split_line};
 pub use memory::{Failing, MemoryIn, MemoryOut};
-pub use numbers::{is_number, number_of};
+pub use numbers::{are_digits, is_number, number_of};

@@ -35,7 +35,11 @@ pub fn is_number(word: &[u8]) -> bool
 }
 
 /// Returns whether all bytes are digits.
-fn are_digits(bytes: &[u8]) -> bool
+///
+/// # Cost
+///
+/// A pass over the bytes.
+pub fn are_digits(bytes: &[u8]) -> bool
     ensures { result ≡ list_all is_digit bytes.now }
 {
     bytes.iter().all(|b| b.is_ascii_digit())

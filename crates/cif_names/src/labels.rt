@@ -1,7 +1,5 @@
 //! Lines of names and labels.
 ghost use Rattle.std.specs.Prelude.{◌≡◌, ◌++◌, IfOk, OnOk};
-ghost use Rattle.std.specs.List.{list_all};
-ghost use Rattle.lay_point.specs.Names.{is_digit};
 ghost use Rattle.cif_grammar.specs.Views.{Gives};
 ghost use Rattle.cif_names.specs.Entries.{
   label_command,
@@ -18,7 +16,7 @@ ghost use Rattle.cif_names.specs.Seen.{seen};
 use crate::numbers::coordinate_of;
 use crate::place::Place;
 use crate::words::{are_spaces, only_word, split_field, split_word};
-use byte_io::push_unsigned;
+use byte_io::{are_digits, push_unsigned};
 use cif_grammar::Number;
 use lay_point::{LayerName, NoMemory, Sequence};
 use std::alloc::Global;
@@ -100,13 +98,6 @@ fn word_beside<'a>(set: &Option<LayerName>, word: &'a [u8]) -> &'a [u8]
         Some(_) if !are_digits(word) => &[],
         _ => word,
     }
-}
-
-/// Returns whether all bytes are digits.
-fn are_digits(bytes: &[u8]) -> bool
-    ensures { result ≡ list_all is_digit bytes.now }
-{
-    bytes.iter().all(|b| b.is_ascii_digit())
 }
 
 /// Returns the word behind a label's coordinates, or no bytes.

@@ -30,7 +30,7 @@ pub(crate) fn coordinate_of(scale: Scale, word: &[u8]) -> Option<Number>
 /// Returns the distance at this scale, in database units.
 #[tactic(auto, unfolding(crate::specs::Entries::scaled_to_units))]
 fn scaled(scale: Scale, number: Number) -> Option<Number>
-    requires { number.magnitude ≤ 2147483648 }
+    requires { number.magnitude ≤ MAX_COORDINATE }
     ensures { result ≡ scaled_to_units scale number }
 {
     if scale.denominator == 0 {
@@ -46,7 +46,7 @@ fn scaled(scale: Scale, number: Number) -> Option<Number>
 
 /// Returns the magnitude in database units, times the scale's numerator.
 fn product(scale: Scale, magnitude: u32) -> u64
-    requires { magnitude ≤ 2147483648 }
+    requires { magnitude ≤ MAX_COORDINATE }
     ensures { result ≡ product_in_units scale magnitude }
 {
     2 * u64::from(magnitude) * u64::from(scale.numerator)
@@ -69,18 +69,15 @@ fn in_bits(negative: bool, magnitude: u64) -> Option<Number>
 fn limit_of(negative: bool) -> u64
     ensures { result ≡ limit_of negative }
 {
-    if negative {
-        2_147_483_648
-    } else {
-        2_147_483_647
-    }
+    let most = u64::from(MAX_COORDINATE);
+    if negative { most } else { most - 1 }
 }
 
 /// Returns the integer that the word spells.
 #[tactic(auto, unfolding(crate::specs::Words::integer_of))]
 fn integer_of(word: &[u8]) -> Option<Number>
     ensures value { result ≡ integer_of word.now }
-    ensures small { IfSome result (λ n. n.magnitude ≤ 2147483648) }
+    ensures small { IfSome result (λ n. n.magnitude ≤ MAX_COORDINATE) }
 {
     match word {
         [b'-', digits @ ..] => with_sign(true, number_of(MAX_COORDINATE, digits)),
@@ -90,9 +87,9 @@ fn integer_of(word: &[u8]) -> Option<Number>
 
 /// Returns the number with this sign, where there is one.
 fn with_sign(negative: bool, magnitude: Option<u32>) -> Option<Number>
-    requires { IfSome magnitude (λ n. n ≤ 2147483648) }
+    requires { IfSome magnitude (λ n. n ≤ MAX_COORDINATE) }
     ensures value { result ≡ with_sign negative magnitude }
-    ensures small { IfSome result (λ n. n.magnitude ≤ 2147483648) }
+    ensures small { IfSome result (λ n. n.magnitude ≤ MAX_COORDINATE) }
 {
     let magnitude = magnitude?;
     Some(Number {

@@ -1,9 +1,9 @@
 //! The commands of a text, one at a time.
 ghost use Rattle.std.specs.Prelude.{◌≡◌, MatchOption};
-ghost use Rattle.cif_read.specs.Meaning.{begins_with_end};
 ghost use Rattle.cif_names.specs.Pieces.{HasNoCommand, IsFirstPiece};
 
 use cif_grammar::{Class, command_len, skip};
+use cif_read::begins_with_end;
 
 /// Returns the command at the start of a rest of a text, without its semicolon, and what stands behind that and gaps.
 /// `None` where the text ends or breaks off.
@@ -15,14 +15,4 @@ pub(crate) fn split_piece(rest: &[u8]) -> Option<(&[u8], &[u8])>
     }
     let len = command_len(rest)?;
     Some((&rest[..len], skip(&rest[len + 1..], Class::Gap)))
-}
-
-/// Returns whether the bytes begin with the `E` that ends a text.
-fn begins_with_end(bytes: &[u8]) -> bool
-    ensures { result ≡ begins_with_end bytes.now }
-{
-    match bytes {
-        [b'E', ..] => true,
-        _ => false,
-    }
 }

@@ -67,4 +67,4 @@ pub use element::{Element, Figure};
 pub use fault::{CifFault, FaultKind};
 pub use file::{CifFile, MAX_SYMBOLS, MAX_TEXT};
 pub use laws::a_text_has_one_meaning;
-pub use reader::read;
+pub use reader::{begins_with_end, read};

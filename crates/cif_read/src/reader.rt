@@ -82,7 +82,7 @@ fn content_in(alloc: Global, text: &[u8]) -> Result<Content, CifFault>
 }
 
 /// Returns whether the bytes begin with the `E` that ends a text.
-fn begins_with_end(bytes: &[u8]) -> bool
+pub fn begins_with_end(bytes: &[u8]) -> bool
     ensures { result ≡ begins_with_end bytes.now }
 {
     match bytes {
