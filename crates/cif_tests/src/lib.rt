@@ -7,6 +7,8 @@
 #[cfg(test)]
 mod advice;
 #[cfg(test)]
+mod examples;
+#[cfg(test)]
 mod names;
 #[cfg(test)]
 mod reread;

@@ -9,6 +9,8 @@ mod bands;
 #[cfg(test)]
 mod drawn;
 #[cfg(test)]
+mod examples;
+#[cfg(test)]
 mod joins;
 #[cfg(test)]
 mod labels;

@@ -7,6 +7,8 @@
 #[cfg(test)]
 mod cells;
 #[cfg(test)]
+mod examples;
+#[cfg(test)]
 mod flat;
 #[cfg(test)]
 mod items;
