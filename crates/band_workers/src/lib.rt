@@ -6,9 +6,13 @@
 //! the caller's thread, `ScopedBands` a band in each of its threads, of which there are as many as its
 //! [`Workers`] say. What a sweep looks at is found before, once and in threads (`face_labels::Shared`).
 //!
-//! ```
-//! let clean = round(rt, alloc, &rings)?;
-//! let labels = OneBand.label_all(rt, alloc, &clean, Op::And)?;
+//! # Example
+//!
+//! The test `examples::edges_are_labelled` of `geometry_tests` runs this.
+//!
+//! ```text
+//! let clean = round(&rt, alloc, &rings)?;
+//! let labels = OneBand.label_all(&rt, alloc, &clean, Op::Or)?;
 //! ```
 #![tactic(auto)]
 

@@ -17,12 +17,16 @@
 //! - [`split_line`] cuts the first line off a text, and [`content`] is what a line says without its
 //!   end (`specs/Lines.antt`).
 //!
+//! # Example
+//!
+//! The test `examples::a_number_is_put_to_a_device` of `cif_tests` runs this.
+//!
 //! ```text
 //! let mut text = Vec::new(alloc);
 //! push_unsigned(&mut text, 40)?;
 //! let mut out = MemoryOut::new(alloc, 7, 1000, Failing::ByErr);
-//! put_all(&mut out, &text)?;
-//! assert_eq!(rt; out.written(), b"40");
+//! assert!(rt; put_all(&mut out, &text).is_ok());
+//! assert_eq!(rt; out.written(), b"40".as_slice());
 //! ```
 #![tactic(auto)]
 

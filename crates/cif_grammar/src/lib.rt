@@ -35,10 +35,15 @@
 //!
 //! # Example
 //!
+//! The test `examples::a_command_is_cut_and_read` of `cif_tests` runs this.
+//!
 //! ```text
-//! let len = command_len(b"B 40 20 0 0; E").unwrap(); // 11
-//! let numbers = read_box(b" 40 20 0 0").unwrap(); // what comes after the `B`
-//! let (side, rest) = integer(b" 40X20").unwrap(); // 40, and the rest is `X20`
+//! assert_eq!(rt; command_len(b"B 40 20 0 0; E"), Some(11));
+//! // What comes after the `B`.
+//! assert!(rt; read_box(b" 40 20 0 0").is_some());
+//! let (side, rest) = integer(b" 40X20").ok_or("no integer")?;
+//! assert_eq!(rt; side, 40);
+//! assert_eq!(rt; rest, b"X20".as_slice());
 //! ```
 #![tactic(auto)]
 

@@ -5,6 +5,10 @@
 //! reader nor the layout knows of the other: this crate depends on both ([`FromCif`]), and another
 //! format would have one of its own.
 //!
+//! # Example
+//!
+//! The test `examples::a_layout_is_written` of `cif_tests` runs this.
+//!
 //! ```text
 //! let snapshot = Snapshot::from_cif(alloc, cif_read::read(alloc, text)?)?;
 //! ```

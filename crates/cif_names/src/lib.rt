@@ -20,9 +20,14 @@
 //! (`names_of` of `specs/Names.antt`). What is written with them is `with_names` of
 //! `specs/Woven.antt`.
 //!
+//! # Example
+//!
+//! The test `examples::a_name_comes_back` of `cif_tests` runs this.
+//!
 //! ```text
 //! let names = Names::of(alloc, b"DS 1 1 1; 9 INV; DF; C 1; E")?;
-//! let bytes = with_names(alloc, &names, b"DS 1 1 2;\nDF;\nC 1;\nE\n")?; // DS 1 1 2;\n9 INV;\nDF;\n..
+//! let bytes = with_names(alloc, &names, b"DS 1 1 2;\nDF;\nC 1;\nE\n")?;
+//! assert_eq!(rt; bytes.as_slice(), b"DS 1 1 2;\n9 INV;\nDF;\nC 1;\nE\n".as_slice());
 //! ```
 #![tactic(auto)]
 

@@ -44,6 +44,8 @@
 //!
 //! # Example
 //!
+//! The test `examples::a_text_is_read` of `cif_tests` runs this.
+//!
 //! ```text
 //! let file = cif_read::read(alloc, b"DS 1; L NM; B 40 20 0 0; DF; C 1 T 5 0; E")?;
 //! assert_eq!(rt; file.elements().len(), 2);

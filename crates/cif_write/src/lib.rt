@@ -17,9 +17,13 @@
 //! - Its number is the least that no symbol has (`least_unused` of `specs/Wrap.antt`), which
 //!   `prepare` finds; where a `u32` has none left, that is out of memory.
 //!
+//! # Example
+//!
+//! The test `examples::a_layout_is_written` of `cif_tests` runs this.
+//!
 //! ```text
 //! let mut out = MemoryOut::new(alloc, 4096, 1_000_000, Failing::ByErr);
-//! write(alloc, &snapshot, &mut out)?;
+//! assert!(rt; write(alloc, &snapshot, &mut out).is_ok());
 //! ```
 #![tactic(auto)]
 

@@ -19,9 +19,14 @@
 //! lists. It is made once and lent to each band ([`label_sharing`]). The lists are each band's own. [`label_edges`]
 //! gives the labels of all edges as one list.
 //!
+//! # Example
+//!
+//! The test `examples::edges_are_labelled` of `geometry_tests` runs this.
+//!
 //! ```text
-//! let clean = round(rt, alloc, &rings)?;
-//! let labels = label(alloc, &clean, Band { low: 0, high: 1_000 }, Op::And)?;
+//! let clean = round(&rt, alloc, &rings)?;
+//! let band = Band { low: 0, high: 1_000 };
+//! let labels = label(alloc, &clean, band, Op::And)?;
 //! ```
 #![tactic(auto)]
 

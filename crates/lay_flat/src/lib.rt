@@ -41,12 +41,13 @@
 //!
 //! # Example
 //!
+//! The test `examples::called_shapes_are_flattened` of `lay_tests` runs this.
+//!
 //! ```text
 //! let flat = flatten(alloc, &snapshot, CellId::Top, &layer)?;
-//! for ring in flat.rings() { .. }
-//!
+//! assert_eq!(rt; flat.rings().len(), 2);
 //! let walks = Walks::from(alloc, &snapshot, CellId::Top)?;
-//! let (first, second) = (walks.layer(alloc, &a)?, walks.layer(alloc, &b)?);
+//! assert_eq!(rt; walks.layer(alloc, &layer)?.rings().len(), 2);
 //! ```
 #![tactic(auto)]
 

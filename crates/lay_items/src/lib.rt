@@ -49,11 +49,13 @@
 //!
 //! # Example
 //!
+//! The test `examples::items_are_numbered` of `lay_tests` runs this.
+//!
 //! ```text
 //! let mut items = NumberedItems::new(alloc);
 //! items.push(alloc, item)?;
-//! let snapshot = Snapshot::of(alloc, Version::of_numbered(alloc, &symbols, items)?)?;
-//! for (id, item) in snapshot.items(CellId::Top) { .. }
+//! let version = Version::of_numbered(alloc, &symbols, items)?;
+//! assert_eq!(rt; version.size(), 1);
 //! ```
 #![tactic(auto)]
 

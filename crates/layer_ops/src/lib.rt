@@ -6,9 +6,14 @@
 //! the rounded inputs there. Whatever finds the edges, by the trait `Bands`, does so by the
 //! definition.
 //!
+//! # Example
+//!
+//! The test `examples::layers_are_combined` of `geometry_tests` runs this.
+//!
 //! ```text
-//! let shapes = combine(rt, alloc, Op::Not, &first, &second, &OneBand)?;
-//! for rings in &shapes { .. }
+//! let first = flatten(alloc, &snapshot, CellId::Top, &a)?;
+//! let second = flatten(alloc, &snapshot, CellId::Top, &b)?;
+//! let shapes = combine(&rt, alloc, Op::Not, &first, &second, &OneBand)?;
 //! ```
 #![tactic(auto)]
 

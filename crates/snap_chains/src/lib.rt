@@ -47,12 +47,14 @@
 //!
 //! # Example
 //!
+//! The test `examples::a_ring_is_rounded` of `geometry_tests` runs this.
+//!
 //! ```text
 //! let owner = Owner { input: Input::First, shape: 0 };
 //! let points = ring.points();
-//! let clean = round(rt, alloc, &[OwnedRing { owner, points }])?;
-//! for (number, edge) in clean.edges().iter().enumerate() {
-//!     println!(rt; "{:?} to {:?} of {:?}", edge.low(), edge.high(), clean.owners(number))?;
+//! let clean = round(&rt, alloc, &[OwnedRing { owner, points }])?;
+//! for number in 0..clean.edges().len() {
+//!     assert_eq!(rt; clean.owners(number), [owner].as_slice());
 //! }
 //! ```
 #![tactic(auto)]

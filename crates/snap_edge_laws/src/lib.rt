@@ -31,6 +31,8 @@
 //!
 //! # Example
 //!
+//! The test `examples::diagonals_cross` of `geometry_tests` runs this.
+//!
 //! ```text
 //! let crossed = match (Edge::new(a, b), Edge::new(c, d)) {
 //!     (Some(e), Some(f)) => e != f && !meet_at_ends(e, f),

@@ -39,6 +39,8 @@
 //!
 //! # Example
 //!
+//! The test `examples::a_crossing_is_hot` of `geometry_tests` runs this.
+//!
 //! ```text
 //! let ends = [
 //!     (Point { x: 0, y: 0 }, Point { x: 639, y: 639 }),
@@ -50,8 +52,8 @@
 //!         segments.push(segment)?;
 //!     }
 //! }
-//! let found = hot(rt, alloc, &segments)?;
-//! let crossed = found.contains(Point { x: 320, y: 320 });
+//! let found = hot(&rt, alloc, &segments)?;
+//! assert!(rt; found.contains(Point { x: 320, y: 320 }));
 //! ```
 #![tactic(auto)]
 
