@@ -43,14 +43,11 @@
 //!
 //! # Example
 //!
-//! The test `examples::edges_are_linked` of `geometry_tests` runs this.
-//!
 //! ```text
 //! let rings = link(alloc, &edges)?;
 //! for part in parts(alloc, rings)? {
 //!     let path = bridge(alloc, &part)?;
 //!     let one = Ring::new(alloc, path.as_slice())?;
-//!     assert_eq!(rt; one.points().len(), 3);
 //! }
 //! ```
 #![tactic(auto)]

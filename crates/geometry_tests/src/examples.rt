@@ -4,7 +4,6 @@ use crate::drawn::at;
 use band_workers::{Bands, OneBand};
 use cif_layout::FromCif;
 use face_labels::label;
-use face_rings::{bridge, link, parts};
 use face_rows::{Band, Op};
 use lay_cells::CellId;
 use lay_flat::flatten;
@@ -80,26 +79,6 @@ fn edges_are_labelled(rt: HostRuntime) -> Result<(), Fail> {
     };
     let labels = label(alloc, &clean, band, Op::And)?;
     assert!(rt; labels.iter().all(|label| !label.1));
-    Ok(())
-}
-
-#[test]
-fn edges_are_linked(rt: HostRuntime) -> Result<(), Fail> {
-    let alloc = rt.alloc();
-    let mut edges = Vec::new(alloc);
-    for (a, b) in [
-        (at(0, 0), at(0, 9)),
-        (at(0, 0), at(9, 0)),
-        (at(0, 9), at(9, 0)),
-    ] {
-        edges.push(Edge::new(a, b).ok_or("no edge")?)?;
-    }
-    let rings = link(alloc, &edges)?;
-    for part in parts(alloc, rings)? {
-        let path = bridge(alloc, &part)?;
-        let one = Ring::new(alloc, path.as_slice())?;
-        assert_eq!(rt; one.points().len(), 3);
-    }
     Ok(())
 }
 
