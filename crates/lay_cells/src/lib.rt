@@ -38,8 +38,6 @@
 //!
 //! # Example
 //!
-//! The test `examples::a_call_leads_to_its_symbol` of `lay_tests` runs this.
-//!
 //! ```text
 //! let mut cells = Cells::new(alloc);
 //! cells.add(7)?;

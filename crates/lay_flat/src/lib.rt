@@ -41,13 +41,12 @@
 //!
 //! # Example
 //!
-//! The test `examples::called_shapes_are_flattened` of `lay_tests` runs this.
-//!
 //! ```text
 //! let flat = flatten(alloc, &snapshot, CellId::Top, &layer)?;
-//! assert_eq!(rt; flat.rings().len(), 2);
+//! for ring in flat.rings() { .. }
+//!
 //! let walks = Walks::from(alloc, &snapshot, CellId::Top)?;
-//! assert_eq!(rt; walks.layer(alloc, &layer)?.rings().len(), 2);
+//! let (first, second) = (walks.layer(alloc, &a)?, walks.layer(alloc, &b)?);
 //! ```
 #![tactic(auto)]
 

@@ -49,13 +49,11 @@
 //!
 //! # Example
 //!
-//! The test `examples::items_are_numbered` of `lay_tests` runs this.
-//!
 //! ```text
 //! let mut items = NumberedItems::new(alloc);
 //! items.push(alloc, item)?;
-//! let version = Version::of_numbered(alloc, &symbols, items)?;
-//! assert_eq!(rt; version.size(), 1);
+//! let snapshot = Snapshot::of(alloc, Version::of_numbered(alloc, &symbols, items)?)?;
+//! for (id, item) in snapshot.items(CellId::Top) { .. }
 //! ```
 #![tactic(auto)]
 

@@ -63,12 +63,9 @@
 //!
 //! # Example
 //!
-//! The test `examples::shapes_are_directed` of `lay_tests` runs this.
-//!
 //! ```text
 //! let directed = oriented_layout(alloc, &snapshot)?;
-//! assert!(rt; directed.layout != snapshot);
-//! assert_eq!(rt; directed.staying, 0);
+//! write(alloc, &directed.layout, &mut out)?; // `write` of `cif_write`
 //! ```
 #![tactic(auto)]
 

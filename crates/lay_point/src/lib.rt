@@ -46,8 +46,6 @@
 //!
 //! # Example
 //!
-//! The test `examples::a_ring_keeps_its_points` of `lay_tests` runs this.
-//!
 //! ```text
 //! let square = [Point { x: 0, y: 0 }, Point { x: 4, y: 0 }, Point { x: 4, y: 4 }, Point { x: 0, y: 4 }];
 //! let ring = Ring::new(alloc, &square)?;

@@ -7,8 +7,6 @@
 #[cfg(test)]
 mod cells;
 #[cfg(test)]
-mod examples;
-#[cfg(test)]
 mod flat;
 #[cfg(test)]
 mod items;
