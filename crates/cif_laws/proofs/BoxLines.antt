@@ -146,7 +146,8 @@ figure_at : (ring : List Point) → IsRing ring → (o : Option UprightBox) → 
 figure_at ring is None boxed = path_figure ring is
 figure_at ring is (Some b) boxed = box_figure ring b (box_of_ring ring b is.in_range (boxed b refl))
 
-pub box_as-box_of : (rectangles : Rectangles) (ring : List Point) (b : UprightBox) → box_as rectangles ring ≡ Some b → corner_box ring ≡ Some b
+pub box_as-box_of : (rectangles : Rectangles) (ring : List Point) (b : UprightBox) → box_as rectangles ring ≡ Some b → corner_box ring
+    ≡ Some b
 box_as-box_of Polygons ring b h = absurd (let no : ◌≡◌ {A = Option UprightBox} None (Some b) = h in cc)
 box_as-box_of Boxes ring b h = h
 

@@ -1,5 +1,6 @@
 -- The parity of a ring's edges is the same wherever the ring begins, and whichever way it runs.
-use Rattle.std.proofs.Common.{◌≡◌, Bool, true, false, List, [], ◌∷◌, ◌++◌, reverse, refl, sym, ap, ◌∙◌, append_assoc, append-nil, inl, inr, ℤ, ◌||◌}
+use Rattle.std.proofs.Common.{◌≡◌, Bool, true, false, List, [], ◌∷◌, ◌++◌, reverse, refl, sym, ap, ◌∙◌, append_assoc, append-nil, inl,
+    inr, ℤ, ◌||◌}
 use Rattle.std.proofs.lemmas.List.{reverse-append}
 use Rattle.lay_point.specs.declared.point.Point.{Point}
 use Rattle.lay_point.specs.Parity.{is_crossed, is_crossed_rising, odd, parity, xor}

@@ -127,4 +127,5 @@ failed_with (Ok x) = None
 failed_with (Err kind) = Some kind
 
 abbrev pub ChecksComeInOrder : Type 0
-ChecksComeInOrder = (content : Content) (offset : ℕ) (c : Command) → failed_with (effect_of content offset c) ≡ first_failed (checks content c)
+ChecksComeInOrder = (content : Content) (offset : ℕ) (c : Command) → failed_with (effect_of content offset c)
+    ≡ first_failed (checks content c)

@@ -16,7 +16,8 @@ use Rattle.cif_grammar.specs.Cutting.{first_offset, front_by, front_of, offset_o
 use Rattle.cif_grammar.proofs.Runs.{taken_and_left}
 use Rattle.cif_names.specs.declared.names.Names.{Names}
 use Rattle.cif_names.specs.declared.place.Place.{Place}
-use Rattle.cif_names.specs.Entries.{Label, coordinate_of, label_command, label_of, label_text, layer_bytes, layer_text, name_text, number_text}
+use Rattle.cif_names.specs.Entries.{Label, coordinate_of, label_command, label_of, label_text, layer_bytes, layer_text, name_text,
+    number_text}
 use Rattle.cif_names.specs.Entries.{sign_text, word_behind, word_beside, word_text}
 use Rattle.cif_names.specs.Laws.{IsCommands, IsExtensionLine, IsLayeredLine, KeptLinesAreCommands}
 use Rattle.cif_names.specs.Names.{kept_after, label_line, name_line, names_after, names_from, names_of, nothing, with_line}
@@ -152,7 +153,8 @@ word_beside-open (Some layer) word p = by (list_all is_digit word) where
 number_open : (n : Number) → IsSmall n → IsOpen (number_text n)
 number_open n small =
     open-append (sign_text n) (decimal n.magnitude) (by (n.negative && not (n.magnitude == 0)))
-    (all_weaker is_digit is_open (λ b e. grind (arith, nat_tests)) (decimal n.magnitude) (decimal_is n.magnitude (omega arith)).digits) where
+    (all_weaker is_digit is_open (λ b e. grind (arith, nat_tests)) (decimal n.magnitude) (decimal_is n.magnitude (omega arith)).digits)
+        where
       by : (t : Bool) → IsOpen (cond t (codes "-") [])
       by true = refl
       by false = refl

@@ -172,7 +172,8 @@ counted g session own kept look =
 -- what a logged call tells of the log behind it
 pub made_logged : (desk : Desk) (g : Guard) (next : History) (session place : ℕ) (call : Call) (answer : Option Answer) (own : List Kept)
     → IsGuard g → Fits desk g → IsSound g.book.layout → Looked g session own → Stepped g.book session call answer next
-    → place ≡ length g.book.log → IfSome answer (EndsWith (on_base next.base desk) next (record { session = session; before = own; call = call; place = place }))
+    → place ≡ length g.book.log → IfSome answer (EndsWith (on_base next.base desk) next
+        (record { session = session; before = own; call = call; place = place }))
 made_logged desk g next session place call None own kept fits sound look stepped at = tt
 made_logged desk g next session place call (Some answer) own kept fits sound look (inr fails) at = absurd (grind rules)
 made_logged desk g next session place call (Some answer) own kept fits sound look (inl made) at =

@@ -4,7 +4,8 @@ use Rattle.std.proofs.Common.{Contains, pos, ◌≤ℤ◌, ◌<ℤ◌, refl, sym
 use Rattle.std.specs.Prelude.{All, slice_range}
 use Rattle.std.proofs.Math.ListN.{take-append-drop}
 use Rattle.std.proofs.lemmas.Bool.{cases_lt}
-use Rattle.std.proofs.lemmas.List.{drop-drop, drop_at, get_or-drop, get_or_append_left, get_or_default, length-drop, length-take-le, take_at}
+use Rattle.std.proofs.lemmas.List.{drop-drop, drop_at, get_or-drop, get_or_append_left, get_or_default, length-drop, length-take-le,
+    take_at}
 use Rattle.std.proofs.lemmas.List.Elements.{Contains-append_left, Contains-append_right}
 use Rattle.lay_point.proofs.Signs.{linear}
 use Rattle.lay_point.specs.declared.point.Point.{Point}
@@ -172,7 +173,8 @@ own_joined r o numbers from =
 
 -- ---- the sides that are known
 -- those of the group are forgotten
-module _ (r : Owned) (p : Point) (numbers : List ℕ) (from to : ℕ) (sound : AreSound r) (h : IsEndedGroup r p numbers from to) (old known : Known)
+module _ (r : Owned) (p : Point) (numbers : List ℕ) (from to : ℕ) (sound : AreSound r) (h : IsEndedGroup r p numbers from to)
+    (old known : Known)
     (all : (n : ℕ) → Contains numbers n → IsKnown old n)
     (kept : (n : ℕ) → (Contains (slice_range numbers from to) n → ⊥) → IsKnown old n → IsKnown known n) where
   pub known_rest : (n : ℕ) → Contains (drop to numbers) n → IsKnown known n

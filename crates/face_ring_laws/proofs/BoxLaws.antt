@@ -34,7 +34,8 @@ itself_in p = record { left = omega (arith, ints); right = omega (arith, ints); 
 
 pub box_has : (ring : List Point) (q : Point) → Has ring q → IsIn (bounding_box ring) q
 box_has [] q m = absurd m
-box_has (p ∷ ps) q (inl same) = grown_by_has (record { low = p; high = p }) ps q (inl (subst (IsIn (record { low = p; high = p })) same (itself_in p)))
+box_has (p ∷ ps) q (inl same) = grown_by_has (record { low = p; high = p }) ps q
+    (inl (subst (IsIn (record { low = p; high = p })) same (itself_in p)))
 box_has (p ∷ ps) q (inr m) = grown_by_has (record { low = p; high = p }) ps q (inr m)
 
 -- ---- on which side an edge passes a place
@@ -157,7 +158,8 @@ level_missed k x y p q out = and_false (rises_past k y p q) (int_lt (pos 0) (dis
     let high = lt_true y (k *ℤ q.y) both.1 in
     ⊎_elim (λ (above : y <ℤ (k *ℤ p.y)). omega (arith, linear)) (λ (below : (k *ℤ q.y) ≤ℤ y). omega (arith, linear)) out)
 
-even_level : (k x y : ℤ) (ring : List Point) → pos 1 ≤ℤ k → (y <ℤ (k *ℤ (bounding_box ring).low.y)) ⊎ ((k *ℤ (bounding_box ring).high.y) <ℤ y)
+even_level : (k x y : ℤ) (ring : List Point) → pos 1 ≤ℤ k → (y <ℤ (k *ℤ (bounding_box ring).low.y))
+    ⊎ ((k *ℤ (bounding_box ring).high.y) <ℤ y)
     → parity (is_crossed k x y) (edges_of_ring ring) ≡ false
 even_level k x y ring scale out = parity_none (is_crossed k x y) (edges_of_ring ring) (λ e m.
     let ends = edge_in ring e m in
@@ -176,7 +178,8 @@ even_level k x y ring scale out = parity_none (is_crossed k x y) (edges_of_ring 
 -- a ring is even about a place outside its box
 pub even_outside : (k x y : ℤ) (ring : List Point) → pos 1 ≤ℤ k → is_in_box k x y (bounding_box ring) ≡ false
     → parity (is_crossed k x y) (edges_of_ring ring) ≡ false
-even_outside k x y ring scale out = by_tests (int_le (k *ℤ b.low.x) x) (int_le x (k *ℤ b.high.x)) (int_le (k *ℤ b.low.y) y) (int_le y (k *ℤ b.high.y))
+even_outside k x y ring scale out = by_tests (int_le (k *ℤ b.low.x) x) (int_le x (k *ℤ b.high.x)) (int_le (k *ℤ b.low.y) y)
+    (int_le y (k *ℤ b.high.y))
     refl refl refl refl out
   where
     b : Rect
@@ -206,7 +209,8 @@ touch_by_place k x y b c scale h g =
     let hs = four_true (int_le (k *ℤ b.low.x) x) (int_le x (k *ℤ b.high.x)) (int_le (k *ℤ b.low.y) y) (int_le y (k *ℤ b.high.y)) h in
     let gs = four_true (int_le (k *ℤ c.low.x) x) (int_le x (k *ℤ c.high.x)) (int_le (k *ℤ c.low.y) y) (int_le y (k *ℤ c.high.y)) g in
     all_four (int_le b.low.x c.high.x) (int_le b.low.y c.high.y) (int_le c.low.x b.high.x) (int_le c.low.y b.high.y)
-    (between b.low.x c.high.x x hs.0 gs.1) (between b.low.y c.high.y y hs.2 gs.3) (between c.low.x b.high.x x gs.0 hs.1) (between c.low.y b.high.y y gs.2 hs.3)
+    (between b.low.x c.high.x x hs.0 gs.1) (between b.low.y c.high.y y hs.2 gs.3) (between c.low.x b.high.x x gs.0 hs.1)
+        (between c.low.y b.high.y y gs.2 hs.3)
   where
     between : (a d z : ℤ) → int_le (k *ℤ a) z ≡ true → int_le z (k *ℤ d) ≡ true → int_le a d ≡ true
     between a d z low high =

@@ -158,7 +158,8 @@ module _ (boxes : List Rect) (numbers : List ℕ) (s : Stretch) (height : All Ha
       (touch_from p q (omega (arith, ints, start, by.0)) h (omega (arith, ints, end, by.1)) g)
 
   module _ (from to : ℕ → Bool)
-      (one_covers : (a b : ℕ) → from a ≡ true → to b ≡ true → (covers s (numbered_box boxes a) ≡ true) ⊎ (covers s (numbered_box boxes b) ≡ true))
+      (one_covers : (a b : ℕ) → from a ≡ true → to b ≡ true → (covers s (numbered_box boxes a) ≡ true)
+          ⊎ (covers s (numbered_box boxes b) ≡ true))
       (start now : List ℕ) (i : ℕ) (opened : List ℕ) (each : length start ≡ length boxes) (lt : i < length numbers)
       (h : IsPass boxes numbers from to start now i opened) where
     whole : length now ≡ length boxes

@@ -53,7 +53,8 @@ next_first ends first (suc index) =
 pub record AreFirstsOf (edges : List Ends) (ends : List End) (firsts : List Firsts) : Type 0 where
   pub each : length firsts ≡ length edges
   pub low : (k : ℕ) (d : Ends) (f : Firsts) → k < length edges → IsFirstAt ends (slice_index_or edges k d).0 (slice_index_or firsts k f).low
-  pub high : (k : ℕ) (d : Ends) (f : Firsts) → k < length edges → IsFirstAt ends (slice_index_or edges k d).1 (slice_index_or firsts k f).high
+  pub high : (k : ℕ) (d : Ends) (f : Firsts) → k < length edges
+      → IsFirstAt ends (slice_index_or edges k d).1 (slice_index_or firsts k f).high
 
 -- the edge of the end at this index is used
 abbrev pub IsUsedAt : List Bool → List End → ℕ → Type 0

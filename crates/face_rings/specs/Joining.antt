@@ -1,5 +1,6 @@
 -- How lists of boxes are joined: those that are joined, directly or through others, are in one tree.
-use Rattle.std.specs.Prelude.{◌≡◌, ◌⊎◌, ℕ, ◌<◌, ◌≤◌, Bool, true, not, ◌||◌, ◌&&◌, ◌≤ℤ◌, int_le, int_lt, pos, List, [], ◌∷◌, length, Contains}
+use Rattle.std.specs.Prelude.{◌≡◌, ◌⊎◌, ℕ, ◌<◌, ◌≤◌, Bool, true, not, ◌||◌, ◌&&◌, ◌≤ℤ◌, int_le, int_lt, pos, List, [], ◌∷◌, length,
+    Contains}
 use Rattle.std.specs.Prelude.{slice_index, slice_index_or}
 use Rattle.lay_point.specs.declared.rect.Rect.{Rect}
 use Rattle.face_ring_laws.specs.Parts.{AreJoined}
@@ -50,7 +51,8 @@ covers s b = int_le b.low.x s.first_end && int_le s.last_start b.high.x
 
 -- where a later one of the numbers covers the stretch, it is in one tree with those before it that it is joined to
 abbrev pub AreJoinedDown : List Rect → Stretch → List ℕ → List ℕ → Type 0
-AreJoinedDown boxes s numbers parents = (i j : ℕ) → i < j → j < length numbers → covers s (numbered_box boxes (slice_index numbers j)) ≡ true
+AreJoinedDown boxes s numbers parents = (i j : ℕ) → i < j → j < length numbers → covers s (numbered_box boxes (slice_index numbers j))
+    ≡ true
     → AreJoined boxes (slice_index numbers i) (slice_index numbers j)
     → root_of parents (slice_index numbers i) ≡ root_of parents (slice_index numbers j)
 

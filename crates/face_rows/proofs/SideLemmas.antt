@@ -46,7 +46,8 @@ module _ (r : Owned) (even : AreEven r) (clean : AreClean r.0) (lesser : AreLess
 
   are_upward : AreUpward risen
   are_upward = record {
-    rises = λ q m. let p = map-has (λ (p : Item). (upward p.0, p.1)) items q m in subst (λ (z : Item). z.0.0.y ≤ℤ z.0.1.y) p.2 (up_rises p.0.0);
+    rises = λ q m. let p = map-has (λ (p : Item). (upward p.0, p.1)) items q m in subst (λ (z : Item). z.0.0.y ≤ℤ z.0.1.y) p.2
+        (up_rises p.0.0);
     proper = λ q m.
         let p = map-has (λ (p : Item). (upward p.0, p.1)) items q m in
         subst (λ (z : Item). ¬ (z.0.0 ≡ z.0.1)) p.2 (upward_proper p.0.0 (proper p.0.0 (zip_first r.0 r.1 p.0 p.1)));

@@ -47,7 +47,8 @@ use Rattle.face_sweep.specs.Stops.{IsHead, IsHeadUpTo, IsNextPlace, IsPlaceRun}
 use Rattle.face_sweep.specs.Stops.{IsWithRisers}
 use Rattle.face_sweep.specs.Ends.{AreBegins, AreSortedEnds, AreReordered, AreMadeEnds, ArePlacesInOrder, AreTops, HasLowPlace, HasTopPlace}
 use Rattle.face_sweep.specs.Ends.{IsBeginOf, IsNoLater, IsSooner, IsTopOf, above_least, begin_cmp, begin_number, begin_numbers, begin_of}
-use Rattle.face_sweep.specs.Ends.{begin_places, edge_begins, edge_tops, from_least, is_level, level_part, place_cmp, sweep_place, swept_point}
+use Rattle.face_sweep.specs.Ends.{begin_places, edge_begins, edge_tops, from_least, is_level, level_part, place_cmp, sweep_place,
+    swept_point}
 use Rattle.face_sweep.specs.declared.ends.Begin.{Begin}
 use Rattle.face_sweep.specs.declared.ends.Ends.{Ends}
 use Rattle.face_sweep.specs.declared.ends.Place.{Place}
@@ -65,7 +66,8 @@ pub place_back : (q : Place) → sweep_place (swept_point q) ≡ q
 place_back q =
     let y = offset_shifted (q.key / 4294967296) in
     let x = offset_shifted (4294967295 - q.key % 4294967296) in
-    let key : from_least (above_least (q.key / 4294967296)) * 4294967296 + (4294967295 - from_least (above_least (4294967295 - q.key % 4294967296)))
+    let key : from_least (above_least (q.key / 4294967296)) * 4294967296
+        + (4294967295 - from_least (above_least (4294967295 - q.key % 4294967296)))
     ≡ q.key = (λ i. y i * 4294967296 + (4294967295 - x i)) ∙ omega arith in
     λ i. record { key = key i }
 
@@ -257,7 +259,8 @@ are_begins es begins small fit moved sorted = record {
       (IsPermutation-map begin_number (edge_begins es) begins moved) (numbers_distinct 0 es (omega (arith, small))));
 }
 
-pub are_tops : (es : List (Point × Point)) (tops : List Place) → All HasTopPlace es → IsPermutation (edge_tops es) tops → IsSorted place_cmp tops → AreTops es tops
+pub are_tops : (es : List (Point × Point)) (tops : List Place) → All HasTopPlace es → IsPermutation (edge_tops es) tops
+    → IsSorted place_cmp tops → AreTops es tops
 are_tops es tops fit moved sorted = record {
   own = All-permutation (IsTopOf es) (edge_tops es) tops moved (all_has (IsTopOf es) (edge_tops es) (λ q m.
       let p = picked_of (λ e. true) (λ n e. sweep_place (upward e).1) 0 es q m in
@@ -316,7 +319,8 @@ run_moves places i j p head run = ⊎_elim
     (cases_lt i j)
 
 -- with each place fewer are left
-pub fewer_left : (lows tops : List Place) (low top after over : ℕ) (p : Place) → IsNextPlace lows low tops top p → IsPlaceRun lows low after p
+pub fewer_left : (lows tops : List Place) (low top after over : ℕ) (p : Place) → IsNextPlace lows low tops top p
+    → IsPlaceRun lows low after p
     → IsPlaceRun tops top over p → (length lows - after) + (length tops - over) < (length lows - low) + (length tops - top)
 fewer_left lows tops low top after over p next run_low run_top = ⊎_elim
     (λ (l : IsHead lows low p). let less = run_moves lows low after p l run_low in omega (arith, less, run_low.bound, run_top.order))
@@ -341,7 +345,8 @@ range_pairs : {A : Type 0} (R : A → A → Type 0) (xs : List A) (a b : ℕ) �
 range_pairs R xs a b le bound h i j d less inside =
     let in_j : j < b - a = omega (arith, range_length xs a b le bound) in
     let in_i : i < b - a = omega arith in
-    coe 1 0 (z. R (get_or-slice_range xs a b i d in_i z) (get_or-slice_range xs a b j d in_j z)) (h (a + i) (a + j) d (omega arith) (omega arith))
+    coe 1 0 (z. R (get_or-slice_range xs a b i d in_i z) (get_or-slice_range xs a b j d in_j z))
+        (h (a + i) (a + j) d (omega arith) (omega arith))
 
 range_numbers : (xs : List Begin) (a b : ℕ) → a ≤ b → b ≤ length xs → AllPairs (λ m n. m ≢ n) (begin_numbers xs)
     → AllPairs (λ m n. m ≢ n) (begin_numbers (slice_range xs a b))
@@ -411,7 +416,8 @@ group_of es begins points low after p h run had passed =
           let m = h.all n given in
           let less : m.0 < length begins = m.1 in
           let at : get_or (begin_places begins) m.0 p ≡ p =
-          get_or-map (λ (z : Begin). z.place) begins m.0 b p less ∙ ap (λ (z : Begin). z.place) m.2 ∙ ap sweep_place low_is ∙ place_back p in
+          get_or-map (λ (z : Begin). z.place) begins m.0 b p less ∙ ap (λ (z : Begin). z.place) m.2 ∙ ap sweep_place low_is
+              ∙ place_back p in
           let inside : m.0 < length (begin_places begins) = omega (arith, count) in
           ⊎_elim
           (λ (before : m.0 < low). absurd (after_irreflexive (swept_point p)
@@ -443,7 +449,8 @@ group_of es begins points low after p h run had passed =
     here : (k : ℕ) (d : Begin) → low ≤ k → k < after → k < length begins → (get_or begins k d).place ≡ p
     here k d ge lt inside = sym (get_or-map (λ (z : Begin). z.place) begins k d p inside) ∙ run.same k p ge lt
 
-pub risers_of : (es : List (Point × Point)) (p : Point) (group : List Begin) (index : ℕ) → IsBegunGroup es p group → IsFirstLevel group index
+pub risers_of : (es : List (Point × Point)) (p : Point) (group : List Begin) (index : ℕ) → IsBegunGroup es p group
+    → IsFirstLevel group index
     → AreRisers es p.y (slice_range group 0 index)
 risers_of es p group index h first = record {
   own = range_all (IsBeginOf es) group 0 index (omega arith) first.bound (λ k d ge lt inside. h.own k d inside);
@@ -559,7 +566,8 @@ begin_at r p group index old mid new h first risers is = record {
     in_front n m early =
         let zero_more : 0 + m.index ≡ m.index = omega arith in
         number_in (slice_range group 0 index) n m.index any (omega (arith, range_length group 0 index (omega arith) first.bound))
-        (ap begin_number (get_or-slice_range group 0 index m.index any (omega arith)) ∙ ap (λ k. begin_number (get_or group k any)) zero_more
+        (ap begin_number (get_or-slice_range group 0 index m.index any (omega arith))
+            ∙ ap (λ k. begin_number (get_or group k any)) zero_more
         ∙ m.is any)
 
 -- ---- edges that rise from one point, from left to right

@@ -92,7 +92,8 @@ next_point ws f b h more =
     more x y rest (record { x = c; y = d }) parts (record { column = column; row = row })
     (ap f (same_value (record { x = c; y = d }, rest) found made) ∙ left))))
 
-pub one_word : {A P : Type 0} (meaning : Word → Option A) (ws : List Word) (b : A) → (first_as meaning ws >>= λ a. if_ended a.1 a.0) ≡ Some b →
+pub one_word : {A P : Type 0} (meaning : Word → Option A) (ws : List Word) (b : A) → (first_as meaning ws >>= λ a. if_ended a.1 a.0)
+    ≡ Some b →
     ((word : Word) → ws ≡ word ∷ [] → meaning word ≡ Some b → P) → P
 one_word meaning ws b h more =
     next meaning ws (λ a. if_ended a.1 a.0) b h (λ word rest a first is left.

@@ -76,7 +76,8 @@ pub alike_added : (f : Point × Point → ℤ) (all kept : List (Point × Point)
 alike_added f all kept e is =
     let split : sum_of f all ≡ sum_of f kept +ℤ (f e +ℤ pos 0) = ap (sum_of f) is ∙ sum_of-append f kept (e ∷ []) in omega (arith, linear)
 
-pub alike_cancelled : (f : Point × Point → ℤ) → IsTurn f → (all kept : List (Point × Point)) (last e : Point × Point) → all ≡ kept ++ last ∷ []
+pub alike_cancelled : (f : Point × Point → ℤ) → IsTurn f → (all kept : List (Point × Point)) (last e : Point × Point) → all ≡ kept
+    ++ last ∷ []
     → last ≡ (e.1, e.0) → sum_of f kept ≡ sum_of f all +ℤ f e
 alike_cancelled f laws all kept last e is back =
     let split = alike_added f all kept last is in

@@ -47,7 +47,8 @@ chosen_twice Greater x old = refl
 -- ---- the writes
 
 -- what is so of each id is so of each that is written
-all_written : (P : ItemId → Type 0) (es : List (ItemId × Item)) (ws : List Write) (n : List (CellId × ItemId)) → AllByRecursion P (keys_of es)
+all_written : (P : ItemId → Type 0) (es : List (ItemId × Item)) (ws : List Write) (n : List (CellId × ItemId))
+    → AllByRecursion P (keys_of es)
     → AreWrites es ws n → AllByRecursion P (keys_of ws)
 all_written P [] ws n all is = subst (λ (v : List Write). AllByRecursion P (keys_of v)) (sym is.0) tt
 all_written P (e ∷ es) ws n all (inl same) = all_written P es ws n all.1 same.1
@@ -60,7 +61,8 @@ rising_first : (w : Write) (ws : List Write) → AllByRecursion (λ y. id_cmp w.
 rising_first w [] all rising = tt
 rising_first w (v ∷ ws) all rising = (all.0, rising)
 
-rising_all : (es : List (ItemId × Item)) (ws : List Write) (n : List (CellId × ItemId)) → IsStrictlySortedBy id_cmp (keys_of es) → AreWrites es ws n
+rising_all : (es : List (ItemId × Item)) (ws : List Write) (n : List (CellId × ItemId)) → IsStrictlySortedBy id_cmp (keys_of es)
+    → AreWrites es ws n
     → AreRising id_cmp ws
 unfolding IsStrictlySortedBy
 rising_all [] ws n sorted is = subst (λ (v : List Write). AreRising id_cmp v) (sym is.0) tt
@@ -74,7 +76,8 @@ rising_all (e ∷ es) ws n sorted (inr (inr other)) = rising_all es ws other.1 s
 sorted_entries : (items : FinMap id_cmp Item) → IsStrictlySortedBy id_cmp (keys_of (entries items))
 sorted_entries items = sorted_keys id_cmp (entries items) (true_by_T _ (entries_sorted items))
 
-pub writes_rise : (items : FinMap id_cmp Item) (ws : List Write) (n : List (CellId × ItemId)) → AreWrites (entries items) ws n → AreRising id_cmp ws
+pub writes_rise : (items : FinMap id_cmp Item) (ws : List Write) (n : List (CellId × ItemId)) → AreWrites (entries items) ws n
+    → AreRising id_cmp ws
 writes_rise items ws n is = rising_all (entries items) ws n (sorted_entries items) is
 
 -- ---- the entries after them
@@ -85,13 +88,15 @@ after (e ∷ es) ws n (inl same) = e ∷ after es ws n same.1
 after (e ∷ es) ws n (inr (inl turned)) = (e.0, turned.0) ∷ after es turned.1 n turned.4
 after (e ∷ es) ws n (inr (inr other)) = e ∷ after es ws other.1 other.4
 
-keys_of-after : (es : List (ItemId × Item)) (ws : List Write) (n : List (CellId × ItemId)) (is : AreWrites es ws n) → keys_of (after es ws n is) ≡ keys_of es
+keys_of-after : (es : List (ItemId × Item)) (ws : List Write) (n : List (CellId × ItemId)) (is : AreWrites es ws n)
+    → keys_of (after es ws n is) ≡ keys_of es
 keys_of-after [] ws n is = refl
 keys_of-after (e ∷ es) ws n (inl same) = ap (λ l. e.0 ∷ l) (keys_of-after es ws n same.1)
 keys_of-after (e ∷ es) ws n (inr (inl turned)) = ap (λ l. e.0 ∷ l) (keys_of-after es turned.1 n turned.4)
 keys_of-after (e ∷ es) ws n (inr (inr other)) = ap (λ l. e.0 ∷ l) (keys_of-after es ws other.1 other.4)
 
-find-after : (es : List (ItemId × Item)) (ws : List Write) (n : List (CellId × ItemId)) (is : AreWrites es ws n) → IsStrictlySortedBy id_cmp (keys_of es)
+find-after : (es : List (ItemId × Item)) (ws : List Write) (n : List (CellId × ItemId)) (is : AreWrites es ws n)
+    → IsStrictlySortedBy id_cmp (keys_of es)
     → (q : ItemId) → find id_cmp q (after es ws n is) ≡ latest ws q (find id_cmp q es)
 unfolding IsStrictlySortedBy
 find-after [] ws n is sorted q = ap (λ (v : List Write). latest v q None) (sym is.0)

@@ -197,7 +197,8 @@ module _ {K X : Type 0} {R : K → K → Ordering} (books : List (List (List (K 
   all_above total exact (w ∷ ws) all = (above_page w.0 all.0, all_above total exact ws all.1)
 
   -- writes that fall into a page leave all others
-  pub written_page : (total : IsTotalOrder R) (exact : IsAntisymmetric R) (ws : List (K × Option X)) → book < length books → page < length (get_or books book [])
+  pub written_page : (total : IsTotalOrder R) (exact : IsAntisymmetric R) (ws : List (K × Option X)) → book < length books
+      → page < length (get_or books book [])
       → AreOfPage R ws books book page
       → written_all R (entries_in books) ws ≡ with_page books book page (written_all R (page_in books book page) ws)
   written_page total exact ws in_books in_pages all =

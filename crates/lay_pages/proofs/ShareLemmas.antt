@@ -112,7 +112,8 @@ joined_parts {A} grows (x ∷ xs) = by (nat_le (length (x ∷ xs)) 64) where
   two n = ap (λ zs. take n (x ∷ xs) ++ zs) (append-nil (drop n (x ∷ xs))) ∙ take-append-drop n (x ∷ xs)
 
   by : (b : Bool)
-      → joined (cond b ((x ∷ xs) ∷ []) (take (cond grows 64 (length (x ∷ xs) / 2)) (x ∷ xs) ∷ drop (cond grows 64 (length (x ∷ xs) / 2)) (x ∷ xs) ∷ [])) ≡ x ∷ xs
+      → joined (cond b ((x ∷ xs) ∷ []) (take (cond grows 64 (length (x ∷ xs) / 2)) (x ∷ xs) ∷ drop (cond grows 64 (length (x ∷ xs) / 2))
+          (x ∷ xs) ∷ [])) ≡ x ∷ xs
   by true = append-nil (x ∷ xs)
   by false = two (cond grows 64 (length (x ∷ xs) / 2))
 
@@ -120,7 +121,8 @@ pub few_parts : {A : Type 0} (grows : Bool) (xs : List A) → length (page_parts
 few_parts grows [] = omega arith
 few_parts {A} grows (x ∷ xs) = by (nat_le (length (x ∷ xs)) 64) where
   by : (b : Bool)
-      → length (cond b ((x ∷ xs) ∷ []) (take (cond grows 64 (length (x ∷ xs) / 2)) (x ∷ xs) ∷ drop (cond grows 64 (length (x ∷ xs) / 2)) (x ∷ xs) ∷ [])) ≤ 2
+      → length (cond b ((x ∷ xs) ∷ []) (take (cond grows 64 (length (x ∷ xs) / 2)) (x ∷ xs) ∷ drop (cond grows 64 (length (x ∷ xs) / 2))
+          (x ∷ xs) ∷ [])) ≤ 2
   by true = omega arith
   by false = omega arith
 
@@ -129,9 +131,11 @@ pub all_parts : {A : Type 0} (P : A → Type 0) (grows : Bool) (xs : List A) →
 all_parts P grows [] all = tt
 all_parts {A} P grows (x ∷ xs) all = by (nat_le (length (x ∷ xs)) 64) where
   by : (b : Bool) → AllByRecursion (λ (ys : List A). AllByRecursion P ys)
-      (cond b ((x ∷ xs) ∷ []) (take (cond grows 64 (length (x ∷ xs) / 2)) (x ∷ xs) ∷ drop (cond grows 64 (length (x ∷ xs) / 2)) (x ∷ xs) ∷ []))
+      (cond b ((x ∷ xs) ∷ []) (take (cond grows 64 (length (x ∷ xs) / 2)) (x ∷ xs) ∷ drop (cond grows 64 (length (x ∷ xs) / 2)) (x ∷ xs)
+          ∷ []))
   by true = (all, tt)
-  by false = (all_take P (cond grows 64 (length (x ∷ xs) / 2)) (x ∷ xs) all, (all_drop P (cond grows 64 (length (x ∷ xs) / 2)) (x ∷ xs) all, tt))
+  by false = (all_take P (cond grows 64 (length (x ∷ xs) / 2)) (x ∷ xs) all,
+      (all_drop P (cond grows 64 (length (x ∷ xs) / 2)) (x ∷ xs) all, tt))
 
 pub sized_parts : {A : Type 0} (grows : Bool) (xs : List A) → length xs ≤ 128 → AreSized (page_parts grows xs)
 sized_parts grows [] le = tt
@@ -144,7 +148,8 @@ sized_parts {A} grows (x ∷ xs) le = by grows (nat_le (length (x ∷ xs)) 64) r
       ((omega (arith, t), omega (arith, t)), ((omega (arith, d), omega (arith, d)), tt))
 
   by : (g b : Bool) → nat_le (length (x ∷ xs)) 64 ≡ b
-      → AreSized (cond b ((x ∷ xs) ∷ []) (take (cond g 64 (length (x ∷ xs) / 2)) (x ∷ xs) ∷ drop (cond g 64 (length (x ∷ xs) / 2)) (x ∷ xs) ∷ []))
+      → AreSized (cond b ((x ∷ xs) ∷ []) (take (cond g 64 (length (x ∷ xs) / 2)) (x ∷ xs) ∷ drop (cond g 64 (length (x ∷ xs) / 2))
+          (x ∷ xs) ∷ []))
   by g true is = ((omega arith, grind (arith, nat_tests)), tt)
   by true false is =
       let more : 64 < length (x ∷ xs) = grind (arith, nat_tests) in two 64 (omega arith) (omega arith) more (omega (arith, le))

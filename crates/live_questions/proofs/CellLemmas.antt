@@ -44,7 +44,8 @@ ordered_numbers symbols n = by (get symbols n) refl where
 
   by : (o : Option CellSlot) → get symbols n ≡ o → has_symbol (in_slot_order symbols) n ≡ contains_key symbols n
   by (Some slot) at = symbols-ordered symbols n slot at ∙ sym (rw at refl)
-  by None none = elim (has_symbol (in_slot_order symbols) n) as (λ b. has_symbol (in_slot_order symbols) n ≡ b → b ≡ contains_key symbols n) [
+  by None none = elim (has_symbol (in_slot_order symbols) n) as
+      (λ b. has_symbol (in_slot_order symbols) n ≡ b → b ≡ contains_key symbols n) [
     | true ↦ λ any.
         sym any
         ∙ no_slot none (any_of (λ m. (slot : CellSlot) × (get symbols m ≡ Some slot)) n (in_slot_order symbols)

@@ -27,7 +27,8 @@ seen_same : (oriented : Bool) (layout seen : Layout) → oriented ≡ false → 
 seen_same false layout seen plain is = is
 seen_same true layout seen plain is = absurd (let e = plain in cc)
 
-seen_one : (wanted : Bool) (view : View) (layout : Layout) (seen : Option Layout) → view.oriented ≡ false → IsShownIn wanted view layout seen
+seen_one : (wanted : Bool) (view : View) (layout : Layout) (seen : Option Layout) → view.oriented ≡ false
+    → IsShownIn wanted view layout seen
     → seen ≡ cond wanted (Some layout) None
 seen_one false view layout seen plain is = is
 seen_one true view layout seen plain (shown, so, is) = is ∙ ap (λ (l : Layout). Some l) (seen_same view.oriented layout shown plain so)

@@ -85,7 +85,8 @@ whole_by line rest (body, inside, is) =
     ∙ ap (λ (t : Bool). cond t ((body ++ 10 ∷ []) ∷ whole rest) (whole rest)) (with_newline body)
     ∙ ap (λ (l : List ℕ). l ∷ whole rest) (sym is)
 
-whole_concat : (all : List (List ℕ)) (cut : List ℕ) → AreWholeLines all → list_all is_not_newline cut ≡ true → whole (concat all ++ cut) ≡ all
+whole_concat : (all : List (List ℕ)) (cut : List ℕ) → AreWholeLines all → list_all is_not_newline cut ≡ true → whole (concat all ++ cut)
+    ≡ all
 whole_concat [] cut are inside = no_whole cut inside
 whole_concat (line ∷ all) cut (is, are) inside =
     ap whole (append_assoc line (concat all) cut) ∙ whole_by line (concat all ++ cut) is
@@ -145,7 +146,8 @@ bytes_two : (es fs : List KeptText) → bytes_of (es ++ fs) ≡ bytes_of es ++ b
 bytes_two [] fs = refl
 bytes_two (e ∷ es) fs = ap (λ (l : List ℕ). e.0 ++ l) (bytes_two es fs) ∙ sym (append_assoc e.0 (bytes_of es) (bytes_of fs))
 
-entry_bytes : (keeping : Option Bool) (line : List ℕ) → IsWholeLine line → bytes_of (entries_by keeping line) ≡ concat (kept_by keeping line)
+entry_bytes : (keeping : Option Bool) (line : List ℕ) → IsWholeLine line → bytes_of (entries_by keeping line)
+    ≡ concat (kept_by keeping line)
 entry_bytes None line is = refl
 entry_bytes (Some flushed) line is = ap (λ (l : List ℕ). l ++ []) (line_same line is)
 
@@ -173,7 +175,8 @@ stepping_are (line ∷ heard) (is, all) =
 Alike : List (List ℕ) → Type 0
 Alike heard = (a b : LiveRun) → SameSteps a b → SameSteps (after_lines a (stepping heard)) (after_lines b heard)
 
-step_alike : (a b : LiveRun) (session : ℕ) (step : StepOf) → SameSteps a b → SameSteps (after_step a session step).0 (after_step b session step).0
+step_alike : (a b : LiveRun) (session : ℕ) (step : StepOf) → SameSteps a b
+    → SameSteps (after_step a session step).0 (after_step b session step).0
 step_alike a b session step h = record {
   state = ap (λ (s : State). (step_outcome s session step).1) h.state;
   sessions = ap (λ (l : List ℕ). l ++ session ∷ []) h.sessions;

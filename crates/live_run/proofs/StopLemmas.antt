@@ -17,8 +17,10 @@ use Rattle.live_run.specs.declared.course.Course.{Course}
 use Rattle.live_run.specs.declared.ending.LiveEnd.{LiveEnd}
 use Rattle.live_run.specs.declared.ending.LiveEnd.TheVariants.{Cif, Device, Done, Job, Journal, Memory}
 use Rattle.live_run.specs.Cif.{behind, cif_from, cif_of, is_live, whole}
-use Rattle.live_run.specs.Said.{AreAnswered, HaveRefused, IsClosing, IsFirstRun, IsNotedClosing, IsNotedWhole, IsSaid, IsSaidBehind, IsSaidText, first_run}
-use Rattle.live_run.specs.Ending.{Does, HasCifFault, HasJobFault, IsStop, KeepsPart, Past, Tells, WritesPart, all_lines, no_past, whole_lines}
+use Rattle.live_run.specs.Said.{AreAnswered, HaveRefused, IsClosing, IsFirstRun, IsNotedClosing, IsNotedWhole, IsSaid, IsSaidBehind,
+    IsSaidText, first_run}
+use Rattle.live_run.specs.Ending.{Does, HasCifFault, HasJobFault, IsStop, KeepsPart, Past, Tells, WritesPart, all_lines, no_past,
+    whole_lines}
 use Rattle.live_run.specs.Journal.{KeptText, KeptAll, KeptPart, kept_head, kept_in, kept_line}
 use Rattle.live_run.specs.Course.{ClosesTo, HeadTo, HearsTo, InHead, InSteps, LiveTo, Phase, RefusesHead, RunCloses, phase_of}
 use Rattle.live_run.specs.Ear.{IsAt}
@@ -179,7 +181,8 @@ module _ {O J : Type 0} (showing : Showing) (written : O → Option (List ℕ)) 
           fresh,
           λ i. (said i, same i),
         )
-    opened base out' seen line head count true course live none joined counted fresh said (run, (cif, file, from, means, begins), is, keeps) =
+    opened base out' seen line head count true course live none joined counted fresh said
+        (run, (cif, file, from, means, begins), is, keeps) =
         let from' : cif_from (length seen + 1) true (job_of (concat seen)) ≡ Ok cif =
         sym (ap (λ (n : ℕ). cif_from (n + 1) true (job_of (concat seen))) counted)
         ∙ sym (ap (λ (l : List ℕ). cif_from (count + 1) true (job_of l)) joined) ∙ from in
@@ -338,7 +341,8 @@ module _ {O J : Type 0} (showing : Showing) (written : O → Option (List ℕ)) 
         → IsAt showing written failures kept losses past base out seen phase → HearsTo showing written failures kept losses out out'
         phase line (Err end)
         → IsStop showing written failures kept losses past base out' given ended end
-    stops_line ended base out out' seen line (InHead head count) given unseen end all holds (none, joined, counted, fresh, same) (still, to) =
+    stops_line ended base out out' seen line (InHead head count) given unseen end all holds (none, joined, counted, fresh, same)
+        (still, to) =
         head_stops ended base out' seen line head count given unseen (is_live line) end all holds refl none joined counted fresh
         (still ∙ ap (λ (d : O × J). d.0) same)
         (subst (λ (d : O × J). HeadTo showing kept losses d.1 out'.1 (is_live line) head count line (Err end)) same to)

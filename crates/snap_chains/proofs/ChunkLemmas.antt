@@ -1,5 +1,6 @@
 -- Rings in lists of some: what holds of all rings holds of each list, and the passes of all lists are those of all rings.
-use Rattle.std.proofs.Common.{◌≡◌, suc, Result, Ok, List, [], ◌∷◌, ◌++◌, length, map, ⊎_elim, refl, sym, ap, subst, ◌∙◌, arith, Contains, append_assoc, All}
+use Rattle.std.proofs.Common.{◌≡◌, suc, Result, Ok, List, [], ◌∷◌, ◌++◌, length, map, ⊎_elim, refl, sym, ap, subst, ◌∙◌, arith,
+    Contains, append_assoc, All}
 use Rattle.std.specs.Prelude.{IfOk, flat_map}
 use Rattle.std.specs.List.{AllZip}
 use Rattle.std.specs.List.Sorted.{IsPermutation}
@@ -43,7 +44,8 @@ some_have segments (c ∷ cs) all have =
     let parts = first_part (λ (r : Ring). IsRing r.1) c rest all in
     let joined = flat_map-append sides_of c rest in
     All-cons (λ (d : List Ring). All (λ (r : Ring). IsRing r.1) d × HaveSides d segments) c cs
-    (parts.0, λ e m. have e (subst (λ l. Contains l e) (sym joined) (Contains-append_left (flat_map sides_of c) (flat_map sides_of rest) e m)))
+    (parts.0, λ e m. have e (subst (λ l. Contains l e) (sym joined)
+        (Contains-append_left (flat_map sides_of c) (flat_map sides_of rest) e m)))
     (some_have segments cs parts.1
     (λ e m. have e (subst (λ l. Contains l e) (sym joined) (Contains-append_right (flat_map sides_of c) (flat_map sides_of rest) e m))))
 
@@ -73,7 +75,8 @@ module _ (segments : List Segment) (hot : List Point) where
       record {
         walks = h.walks ++ g.walks;
         rounded = zip_join Rounds rings others h.walks g.walks h.rounded g.rounded;
-        inside = λ p m. ⊎_elim (λ (x : Contains ps p). h.inside p x) (λ (y : Contains qs p). g.inside p y) (Contains-append_cases ps qs p m);
+        inside = λ p m. ⊎_elim (λ (x : Contains ps p). h.inside p x) (λ (y : Contains qs p). g.inside p y)
+            (Contains-append_cases ps qs p m);
         visits = coe 1 0 (i. IsPermutation (visits_of-append rings others h.walks g.walks as_many i) (map-append (visit_at hot) ps qs i))
             (IsPermutation-append _ _ _ _ h.visits g.visits);
       }

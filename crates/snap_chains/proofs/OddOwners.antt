@@ -16,7 +16,8 @@ use Rattle.snap_chains.specs.Owners.{IsOwnerBefore}
 use Rattle.snap_chains.proofs.OddLemmas.{AreOdd, odd_pop, next_is_not_last, odd_has}
 use Rattle.snap_chains.proofs.OwnerLemmas.{map-push}
 use Rattle.snap_chains.specs.declared.pass.Pass.{Pass}
-use Rattle.snap_chains.specs.Reading.{AreEndsBefore, NumberedEdge, HasLastOwner, IsOddAdded, IsPassBefore, numbered_edge, pass_cmp, pass_eq, pass_of}
+use Rattle.snap_chains.specs.Reading.{AreEndsBefore, NumberedEdge, HasLastOwner, IsOddAdded, IsPassBefore, numbered_edge, pass_cmp,
+    pass_eq, pass_of}
 use Rattle.snap_chains.proofs.ViewLemmas.{pass_eq-Decides}
 use Rattle.snap_chains.proofs.PassOrder.{pass_order, ends_are_strict}
 
@@ -58,7 +59,8 @@ module _ (group : List Pass) (e : NumberedEdge) (old : List Owner) (sorted : IsS
       let one = (pass_eq-Decides p seen.0).0 seen.2 in
       ap numbered_edge one ∙ same seen.0 (contains group seen.0 (has_take k group seen.0 seen.1))
 
-  module _ (k : ℕ) (x : Pass) (owners : List Owner) (lt : k < length group) (at : x ≡ get_or group k x) (so_far : IsOddSoFar group old k owners) where
+  module _ (k : ℕ) (x : Pass) (owners : List Owner) (lt : k < length group) (at : x ≡ get_or group k x)
+      (so_far : IsOddSoFar group old k owners) where
     one_more : take (k + 1) group ≡ take k group ++ x ∷ []
     one_more = take_more group k x lt ∙ ap (λ u. take k group ++ u ∷ []) (sym at)
 
@@ -71,7 +73,8 @@ module _ (group : List Pass) (e : NumberedEdge) (old : List Owner) (sorted : IsS
         ∙ sym (append_assoc old (map owner_of init) (z.owner ∷ []))
 
     count : length owners ≡ length old + length so_far.kept
-    count = ap length so_far.items ∙ length-append old (map owner_of so_far.kept) ∙ ap (λ n. length old + n) (length-map so_far.kept owner_of)
+    count = ap length so_far.items ∙ length-append old (map owner_of so_far.kept)
+        ∙ ap (λ n. length old + n) (length-map so_far.kept owner_of)
 
     pub odd_less : HasLastOwner owners (length old) x.owner → IsOddSoFar group old (k + 1) (take (length owners - 1) owners)
     odd_less w =
@@ -97,7 +100,8 @@ module _ (group : List Pass) (e : NumberedEdge) (old : List Owner) (sorted : IsS
               (subst (AreOdd pass_eq IsPassBefore (take k group)) (split ∙ ap (λ v. init ++ v ∷ []) one) so_far.odd));
         }
       where
-        last_again : (l : List Pass) (d : Pass) → 0 < length l → get_or l (length l - 1) (get_or l (length l - 1) d) ≡ get_or l (length l - 1) d
+        last_again : (l : List Pass) (d : Pass) → 0 < length l → get_or l (length l - 1) (get_or l (length l - 1) d)
+            ≡ get_or l (length l - 1) d
         last_again l d some = get_or_default l (length l - 1) (get_or l (length l - 1) d) d (omega (arith, some))
 
     pub odd_more : ¬ (HasLastOwner owners (length old) x.owner) → IsOddSoFar group old (k + 1) (owners ++ x.owner ∷ [])
@@ -115,7 +119,8 @@ module _ (group : List Pass) (e : NumberedEdge) (old : List Owner) (sorted : IsS
             let kept = so_far.kept in
             let inside = slice_get_within kept (length kept - 1) x h in
             let init = take (length kept - 1) kept in
-            let is = split_last kept x (omega (arith, inside)) ∙ ap (λ v. init ++ v ∷ []) (get_or_from_slice_get kept (length kept - 1) x x h) in
+            let is = split_last kept x (omega (arith, inside))
+                ∙ ap (λ v. init ++ v ∷ []) (get_or_from_slice_get kept (length kept - 1) x x h) in
             let items = with_last x init is in
             let front = old ++ map owner_of init in
             let long : length owners ≡ length front + 1 = ap length items ∙ length-append front (x.owner ∷ []) in (
@@ -133,7 +138,8 @@ module _ (group : List Pass) (e : NumberedEdge) (old : List Owner) (sorted : IsS
         record {
           rising = rising-map IsPassBefore IsOwnerBefore owner_of kept
               (λ p q m n less. ⊎_elim
-              (λ b. absurd (ends_are_strict.irreflexive e (coe 0 1 (i. AreEndsBefore (seen_ends k kept h.odd p m i) (seen_ends k kept h.odd q n i)) b)))
+              (λ b. absurd (ends_are_strict.irreflexive e (coe 0 1
+                  (i. AreEndsBefore (seen_ends k kept h.odd p m i) (seen_ends k kept h.odd q n i)) b)))
               (λ (t : (numbered_edge p ≡ numbered_edge q) × IsOwnerBefore p.owner q.owner). t.1) less) odd.rising;
           exact = λ o. (
             (λ m.
@@ -141,7 +147,8 @@ module _ (group : List Pass) (e : NumberedEdge) (old : List Owner) (sorted : IsS
                 let ends = seen_ends k kept h.odd r.0 r.1 in
                 let one : r.0 ≡ pass_of e o = λ i. record { low = (ends i).0; high = (ends i).1; owner = r.2 i } in
                 subst (λ p. IsTrue (parity (pass_eq p) group)) one ((odd.exact r.0).0 (contains kept r.0 r.1))),
-            (λ t. contains (map owner_of kept) o (has-map owner_of kept (pass_of e o) (has kept (pass_of e o) ((odd.exact (pass_of e o)).1 t)))),
+            (λ t. contains (map owner_of kept) o (has-map owner_of kept (pass_of e o)
+                (has kept (pass_of e o) ((odd.exact (pass_of e o)).1 t)))),
           );
         },
       )

@@ -1,5 +1,6 @@
 -- Passes between neighbours of a run are the visits of the chain.
-use Rattle.std.proofs.Common.{◌≡◌, ◌≢◌, inl, inr, ⊎_elim, ℕ, zero, suc, ◌+◌, ◌<◌, ◌≤◌, Bool, true, false, cond, List, [], ◌∷◌, ◌++◌, length, map}
+use Rattle.std.proofs.Common.{◌≡◌, ◌≢◌, inl, inr, ⊎_elim, ℕ, zero, suc, ◌+◌, ◌<◌, ◌≤◌, Bool, true, false, cond, List, [], ◌∷◌, ◌++◌,
+    length, map}
 use Rattle.std.proofs.Common.{refl, sym, ap, subst, ◌∙◌, arith, Contains, Decides}
 use Rattle.std.specs.Prelude.{ltb, reverse}
 use Rattle.std.specs.List.Sorted.{IsPermutation}
@@ -29,7 +30,8 @@ use Rattle.snap_chains.proofs.PathLemmas.{pairs-push}
 use Rattle.snap_chains.specs.declared.pass.Pass.{Pass}
 use Rattle.snap_chains.specs.Passes.{HasCentres, IsSideAdded, pass_between, passes_by, visit_at}
 
-pub centre_before : (hot : List Point) → IsRising IsBefore hot → (i j : ℕ) → i < j → j < length hot → IsBefore (centre_at hot i) (centre_at hot j)
+pub centre_before : (hot : List Point) → IsRising IsBefore hot → (i j : ℕ) → i < j → j < length hot
+    → IsBefore (centre_at hot i) (centre_at hot j)
 centre_before hot up i j less inside = before_by_number IsBefore before_is_strict hot i j no_centre up less inside
 
 -- ---- one pass

@@ -8,13 +8,15 @@ use Rattle.lay_point.proofs.Rising.{IsStrictOrder}
 use Rattle.lay_point.proofs.NumberLaws.{numbers_are_strict}
 use Rattle.snap_chains.specs.Owners.{IsOwnerBefore}
 use Rattle.snap_chains.proofs.OddLemmas.{IsSortOrder}
-use Rattle.snap_chains.proofs.OwnerOrder.{strict_by, first_less, both_equal, owner_cmp_total, number_less, number_exact, owner_less, owner_exact, owners_are_strict}
+use Rattle.snap_chains.proofs.OwnerOrder.{strict_by, first_less, both_equal, owner_cmp_total, number_less, number_exact, owner_less,
+    owner_exact, owners_are_strict}
 use Rattle.snap_chains.specs.declared.pass.Pass.{Pass}
 use Rattle.snap_chains.specs.Reading.{NumberedEdge, numbered_edge, pass_eq, pass_cmp, owner_cmp, AreEndsBefore, IsPassBefore}
 use Rattle.snap_chains.proofs.ViewLemmas.{pass_eq-Decides}
 
 pub ends_are_strict : IsStrictOrder AreEndsBefore
-ends_are_strict = strict_by (λ (e : NumberedEdge). e.0) (λ (e : NumberedEdge). e.1) (λ (m n : ℕ). m < n) (λ (m n : ℕ). m < n) numbers_are_strict numbers_are_strict
+ends_are_strict = strict_by (λ (e : NumberedEdge). e.0) (λ (e : NumberedEdge). e.1) (λ (m n : ℕ). m < n) (λ (m n : ℕ). m < n)
+    numbers_are_strict numbers_are_strict
 
 passes_are_strict : IsStrictOrder IsPassBefore
 passes_are_strict = strict_by numbered_edge (λ (p : Pass). p.owner) AreEndsBefore IsOwnerBefore ends_are_strict owners_are_strict
@@ -26,7 +28,8 @@ pass_cmp_total = then_total (on_total (λ (p : Pass). p.low) nat_cmp_total)
 pass_less : (p q : Pass) → pass_cmp p q ≡ Less → IsPassBefore p q
 pass_less p q h = ⊎_elim
     (λ less. inl (inl (number_less p.low q.low less)))
-    (λ (tie : (nat_cmp p.low q.low ≡ Equal) × (then_cmp (on (λ (r : Pass). r.high) nat_cmp) (on (λ (r : Pass). r.owner) owner_cmp) p q ≡ Less)).
+    (λ (tie : (nat_cmp p.low q.low ≡ Equal) × (then_cmp (on (λ (r : Pass). r.high) nat_cmp) (on (λ (r : Pass). r.owner) owner_cmp) p q
+        ≡ Less)).
     let low = number_exact p.low q.low tie.0 in
     ⊎_elim
     (λ less. inl (inr (low, number_less p.high q.high less)))

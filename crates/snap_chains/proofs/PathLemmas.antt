@@ -112,7 +112,8 @@ key_of a b c = int_signum (b.x -ℤ a.x) *ℤ c.x +ℤ int_signum (b.y -ℤ a.y)
 abbrev IsBelowFor : Point → Point → Point → Point → Type 0
 IsBelowFor a b c d = (key_of a b c <ℤ key_of a b d) ⊎ ((key_of a b c ≡ key_of a b d) × IsBefore c d)
 
-pub same_chain : (Hot : Point → Type 0) (s t : Segment) (chain : List Point) → s.a ≡ t.a → s.b ≡ t.b → IsChain Hot s chain → IsChain Hot t chain
+pub same_chain : (Hot : Point → Type 0) (s t : Segment) (chain : List Point) → s.a ≡ t.a → s.b ≡ t.b → IsChain Hot s chain
+    → IsChain Hot t chain
 same_chain Hot s t chain ea eb h = record {
   rising = coe 0 1 (i. IsRising (IsBelowFor (ea i) (eb i)) chain) h.rising;
   exact = coe 0 1 (i. (c : Point) → Contains chain c ↔ (Hot c × Meets (ea i) (eb i) c)) h.exact;

@@ -1,5 +1,6 @@
 -- The passes of the sides of a ring, one side after another, and of one ring after another.
-use Rattle.std.proofs.Common.{◌≡◌, ℕ, ◌+◌, ◌<◌, ◌≤◌, List, [], ◌∷◌, ◌++◌, length, get_or, take, map, Some, inl, inr, refl, sym, ap, subst, ◌∙◌, ⊎_elim, Contains, append_assoc, append-nil, arith}
+use Rattle.std.proofs.Common.{◌≡◌, ℕ, ◌+◌, ◌<◌, ◌≤◌, List, [], ◌∷◌, ◌++◌, length, get_or, take, map, Some, inl, inr, refl, sym, ap,
+    subst, ◌∙◌, ⊎_elim, Contains, append_assoc, append-nil, arith}
 use Rattle.std.specs.Prelude.{slice_get}
 use Rattle.std.specs.List.Sorted.{IsPermutation}
 use Rattle.std.proofs.lemmas.List.{map-append, take_all, take_more}
@@ -24,7 +25,8 @@ use Rattle.snap_chains.specs.Passes.{ArePassesOf, ArePathPasses, IsSideAdded, vi
 use Rattle.snap_chains.specs.Sides.{segment_ends}
 use Rattle.snap_chains.specs.Visits.{visits_by, visits_of}
 use Rattle.snap_chains.proofs.OwnerLemmas.{map-push}
-use Rattle.snap_chains.proofs.PathLemmas.{AreLinked, Contains-map, chain_of_hot, further_side, last-push, linked_at, same_chain, sides_linked}
+use Rattle.snap_chains.proofs.PathLemmas.{AreLinked, Contains-map, chain_of_hot, further_side, last-push, linked_at, same_chain,
+    sides_linked}
 
 -- ---- ends are hot
 -- the ends of a segment are hot centres
@@ -40,7 +42,8 @@ ends_are_hot segments hot all p q among =
 
 -- ---- sides
 -- one more side, whose passes are added behind those of a path that ends where it starts
-sides_join : (segments : List Segment) (hot : List Point) (o : Owner) (s : Segment) (path : List Point) (a : Point) (old mid new : List Pass)
+sides_join : (segments : List Segment) (hot : List Point) (o : Owner) (s : Segment) (path : List Point) (a : Point)
+    (old mid new : List Pass)
     → AreHotCentres segments hot → Contains segments s → IsFromTo a s.a path → ArePathPasses segments hot o path old mid
     → IsSideAdded hot s o mid new → ArePathPasses segments hot o (path ++ s.b ∷ []) old new
 sides_join segments hot o s path a old mid new all given ends h side =
@@ -54,7 +57,8 @@ sides_join segments hot o s path a old mid new all given ends h side =
     record {
       added = h.added ++ side.added;
       new_is = side.new_is ∙ ap (λ l. l ++ side.added) h.new_is ∙ append_assoc old h.added side.added;
-      inside = λ p m. ⊎_elim (λ (x : Has h.added p). h.inside p (contains h.added p x)) (λ (y : Has side.added p). side.inside p (contains side.added p y))
+      inside = λ p m. ⊎_elim (λ (x : Has h.added p). h.inside p (contains h.added p x))
+          (λ (y : Has side.added p). side.inside p (contains side.added p y))
           (has-append h.added side.added p (has (h.added ++ side.added) p m));
       walk = h.walk ++ tail side.chain;
       rounded = further_side segments s side.chain given chain path h.walk h.rounded at_last;
@@ -65,7 +69,8 @@ sides_join segments hot o s path a old mid new all given ends h side =
 -- a side that has the ends of one of the segments
 side_joins : (segments : List Segment) (hot : List Point) (o : Owner) (s : Segment) (p : Point) (ps : List Point) (old mid new : List Pass)
     → AreHotCentres segments hot → Contains (map segment_ends segments) (segment_ends s) → last p ps ≡ s.a
-    → ArePathPasses segments hot o (p ∷ ps) old mid → IsSideAdded hot s o mid new → ArePathPasses segments hot o (p ∷ (ps ++ s.b ∷ [])) old new
+    → ArePathPasses segments hot o (p ∷ ps) old mid → IsSideAdded hot s o mid new
+        → ArePathPasses segments hot o (p ∷ (ps ++ s.b ∷ [])) old new
 side_joins segments hot o s p ps old mid new all among link h side =
     let found = map-has segment_ends segments (segment_ends s) (has (map segment_ends segments) (segment_ends s) among) in
     let t = found.0 in
@@ -168,7 +173,8 @@ no_ring_yet segments hot = record {
   visits = IsPermutation-refl [];
 }
 
-pub ring_more : (segments : List Segment) (hot : List Point) (rings : List (Owner × List Point)) (r : Owner × List Point) (old new : List Pass)
+pub ring_more : (segments : List Segment) (hot : List Point) (rings : List (Owner × List Point)) (r : Owner × List Point)
+    (old new : List Pass)
     → ArePassesOf segments hot rings old → ArePathPasses segments hot r.0 (closed_walk r.1) old new
     → ArePassesOf segments hot (rings ++ r ∷ []) new
 ring_more segments hot rings r old new h g =

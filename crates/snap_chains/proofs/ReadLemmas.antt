@@ -1,5 +1,6 @@
 -- Sorted passes, read group by group: one more group.
-use Rattle.std.proofs.Common.{◌≡◌, ◌⊎◌, inl, inr, ⊎_elim, ℕ, zero, suc, ◌+◌, ◌-◌, ◌<◌, ◌≤◌, Bool, true, false, List, [], ◌∷◌, ◌++◌, length, get_or, take, drop, map}
+use Rattle.std.proofs.Common.{◌≡◌, ◌⊎◌, inl, inr, ⊎_elim, ℕ, zero, suc, ◌+◌, ◌-◌, ◌<◌, ◌≤◌, Bool, true, false, List, [], ◌∷◌, ◌++◌,
+    length, get_or, take, drop, map}
 use Rattle.std.proofs.Common.{refl, sym, ap, subst, ◌∙◌, arith, Contains, Decides, append_assoc, append-nil, length-append}
 use Rattle.std.specs.List.{AllByRecursion, AllZip}
 use Rattle.std.specs.List.Sorted.{IsSorted}
@@ -21,7 +22,8 @@ use Rattle.std.proofs.lemmas.List.Sorted.{IsPermutation-sym, IsPermutation-map, 
 use Rattle.snap_chains.proofs.OddLemmas.{parity_permutation}
 use Rattle.snap_chains.specs.declared.owner.Owner.{Owner}
 use Rattle.snap_chains.specs.declared.pass.Pass.{Pass}
-use Rattle.snap_chains.specs.Reading.{AreEndsBefore, AreOddOwners, AreRead, NumberedEdge, IsEdgeGroup, IsPassBefore, IsReadOff, edge_by_numbers, numbered_edge, pass_cmp, pass_eq, pass_of}
+use Rattle.snap_chains.specs.Reading.{AreEndsBefore, AreOddOwners, AreRead, NumberedEdge, IsEdgeGroup, IsPassBefore, IsReadOff,
+    edge_by_numbers, numbered_edge, pass_cmp, pass_eq, pass_of}
 use Rattle.snap_chains.specs.OwnerLists.{IsInside, list_of, owner_lists_of}
 use Rattle.snap_chains.specs.declared.owner_lists.Part.{Part}
 use Rattle.snap_chains.proofs.OwnerLemmas.{map-push}
@@ -56,7 +58,8 @@ not_after x y h = by_order (pass_cmp y x) refl
 
 -- the ends of the earlier are no later
 ends_no_later : (xs : List Pass) → IsSorted pass_cmp xs → (i j : ℕ) (d : Pass) → i ≤ j → j < length xs
-    → (numbered_edge (get_or xs i d) ≡ numbered_edge (get_or xs j d)) ⊎ AreEndsBefore (numbered_edge (get_or xs i d)) (numbered_edge (get_or xs j d))
+    → (numbered_edge (get_or xs i d) ≡ numbered_edge (get_or xs j d))
+        ⊎ AreEndsBefore (numbered_edge (get_or xs i d)) (numbered_edge (get_or xs j d))
 ends_no_later xs h i j d le lt = ⊎_elim (λ (e : get_or xs i d ≡ get_or xs j d). inl (ap numbered_edge e))
     (λ (b : IsPassBefore (get_or xs i d) (get_or xs j d)). ⊎_elim inr (λ t. inl t.0) b)
     (not_after (get_or xs j d) (get_or xs i d)
@@ -164,7 +167,8 @@ no_match p q apart = by_test (pass_eq p q) (pass_eq-Decides p q)
     by_test true d = absurd (apart (ap numbered_edge (d.0 refl)))
     by_test false d = refl
 
-module _ (done group : List Pass) (e : NumberedEdge) (same : (p : Pass) → Has group p → numbered_edge p ≡ e) (first : Pass) (there : Has group first)
+module _ (done group : List Pass) (e : NumberedEdge) (same : (p : Pass) → Has group p → numbered_edge p ≡ e) (first : Pass)
+    (there : Has group first)
     (before : (d : NumberedEdge) → Has (map numbered_edge done) d → AreEndsBefore d e) where
   none_of_group : (d : NumberedEdge) (o : Owner) → AreEndsBefore d e → parity (pass_eq (pass_of d o)) group ≡ false
   none_of_group d o less = parity_none (pass_eq (pass_of d o)) group
@@ -181,12 +185,15 @@ module _ (done group : List Pass) (e : NumberedEdge) (same : (p : Pass) → Has 
     rising = rising_end AreEndsBefore edges e r.rising earlier;
     exact = λ d. (
       (λ m. contains _ d (subst (λ l. Has l d) (sym (map-append numbered_edge done group)) (⊎_elim
-          (λ (old : Has edges d). has-append_left (map numbered_edge done) (map numbered_edge group) d (has (map numbered_edge done) d ((r.exact d).0 (contains edges d old))))
+          (λ (old : Has edges d). has-append_left (map numbered_edge done) (map numbered_edge group) d
+              (has (map numbered_edge done) d ((r.exact d).0 (contains edges d old))))
           (λ (new : Has (e ∷ []) d). has-append_right (map numbered_edge done) (map numbered_edge group) d
-          (⊎_elim (λ (is : e ≡ d). subst (Has (map numbered_edge group)) (same first there ∙ is) (has-map numbered_edge group first there)) (λ none. absurd none) new))
+          (⊎_elim (λ (is : e ≡ d). subst (Has (map numbered_edge group)) (same first there ∙ is)
+              (has-map numbered_edge group first there)) (λ none. absurd none) new))
           (has-append edges (e ∷ []) d (has (edges ++ e ∷ []) d m))))),
       (λ m. contains _ d (⊎_elim
-          (λ (old : Has (map numbered_edge done) d). has-append_left edges (e ∷ []) d (has edges d ((r.exact d).1 (contains (map numbered_edge done) d old))))
+          (λ (old : Has (map numbered_edge done) d). has-append_left edges (e ∷ []) d
+              (has edges d ((r.exact d).1 (contains (map numbered_edge done) d old))))
           (λ (new : Has (map numbered_edge group) d). let p = map-has numbered_edge group d new in
           has-append_right edges (e ∷ []) d (inl (sym (same p.0 p.1) ∙ p.2)))
           (has-append (map numbered_edge done) (map numbered_edge group) d
@@ -254,7 +261,8 @@ reading_more hot passes rest edges owners parts n first odd part h g is_first w 
     let long = length-append owners odd in
     let there = first_in_group rest n h.sorted g first is_first in
     let same = in_group rest n h.sorted g first is_first in
-    let early : (d : NumberedEdge) → Has (map numbered_edge h.done) d → AreEndsBefore d e = λ d k. h.before d k first (has_take n rest first there) in
+    let early : (d : NumberedEdge) → Has (map numbered_edge h.done) d
+        → AreEndsBefore d e = λ d k. h.before d k first (has_take n rest first there) in
     record {
       done = h.done ++ group;
       ends = h.ends ++ e ∷ [];
@@ -265,7 +273,8 @@ reading_more hot passes rest edges owners parts n first odd part h g is_first w 
           (λ (old : Has (map numbered_edge h.done) d). h.before d old p (has_drop n rest p l))
           (λ (new : Has (map numbered_edge group) d). let q = map-has numbered_edge group d new in
           subst (λ v. AreEndsBefore v (numbered_edge p)) (sym (same q.0 q.1) ∙ q.2) (in_later rest n h.sorted g first is_first p l))
-          (has-append (map numbered_edge h.done) (map numbered_edge group) d (subst (λ z. Has z d) (map-append numbered_edge h.done group) k));
+          (has-append (map numbered_edge h.done) (map numbered_edge group) d
+              (subst (λ z. Has z d) (map-append numbered_edge h.done group) k));
       read = subst (AreRead (h.done ++ group) (h.ends ++ e ∷ []))
           (sym (lists_push owners odd parts part h.parted from (to ∙ long)))
           (read_more h.done group e same first there early h.ends (owner_lists_of owners parts) odd h.read w);
@@ -290,8 +299,10 @@ read_permuted passes sorted edges lists moved r =
     record {
       rising = r.rising;
       exact = λ e. (
-        (λ m. Contains-permutation (map numbered_edge sorted) (map numbered_edge passes) e (IsPermutation-map numbered_edge sorted passes back) ((r.exact e).0 m)),
-        (λ m. (r.exact e).1 (Contains-permutation (map numbered_edge passes) (map numbered_edge sorted) e (IsPermutation-map numbered_edge passes sorted moved) m)),
+        (λ m. Contains-permutation (map numbered_edge sorted) (map numbered_edge passes) e
+            (IsPermutation-map numbered_edge sorted passes back) ((r.exact e).0 m)),
+        (λ m. (r.exact e).1 (Contains-permutation (map numbered_edge passes) (map numbered_edge sorted) e
+            (IsPermutation-map numbered_edge passes sorted moved) m)),
       );
       owned = zip_in (AreOddOwners sorted) (AreOddOwners passes) edges lists (λ e l m w. record {
         rising = w.rising;

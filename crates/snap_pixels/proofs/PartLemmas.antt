@@ -31,7 +31,8 @@ module _ {V : Type 0} (items : V → List Segment) where
   pub IsCrossedInOne-push : (old new : List V) (part : V) → new ≡ old ++ part ∷ []
       → (c : Point) → IsCrossedInOne (map items new) c ↔ (IsCrossedInOne (map items old) c ⊎ IsCrossed (items part) c)
   IsCrossedInOne-push old new part e c =
-      subst (λ l. IsCrossedInOne (map items l) c ↔ (IsCrossedInOne (map items old) c ⊎ IsCrossed (items part) c)) (sym e) (pushed old part c)
+      subst (λ l. IsCrossedInOne (map items l) c ↔ (IsCrossedInOne (map items old) c ⊎ IsCrossed (items part) c)) (sym e)
+          (pushed old part c)
 
 -- parallel segments don't cross
 pub none_crossed : {P : Type 0} (segments : List Segment) (n : ℕ) → length segments ≤ n → AreParallelAll (take n segments)
@@ -145,7 +146,8 @@ IsCrossed-same once segments same c = (
 pub all_new : {A N B : Type 0} → (N → ⊥) → (A ↔ (N ⊎ B)) → A ↔ B
 all_new none h = ((λ a. ⊎_elim (λ n. absurd (none n)) (λ b. b) (h.0 a)), (λ b. h.1 (inr b)))
 
-pub all_found : {B : Type 0} (begun all : List Point) (c : Point) → begun ≡ [] → (Contains all c ↔ (Contains begun c ⊎ B)) → Contains all c ↔ B
+pub all_found : {B : Type 0} (begun all : List Point) (c : Point) → begun ≡ [] → (Contains all c ↔ (Contains begun c ⊎ B))
+    → Contains all c ↔ B
 all_found begun all c none h = all_new (λ w. no_centre (subst (λ l. Contains l c) none w)) h
   where
     no_centre : Contains [] c → ⊥

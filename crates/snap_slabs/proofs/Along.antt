@@ -122,21 +122,24 @@ module _ (Before : Point → Point → Type 0) (laws : IsStrictOrder Before) (ho
   )
 
   -- of two in the stretch the earlier in the list is met first, or last
-  first_met : ((c d : Point) → IsInside c → IsInside d → Before c d → t c ≤ℤ t d) → (c d : Point) → Has stretch c → Has stretch d → Before c d → IsBelow s c d
+  first_met : ((c d : Point) → IsInside c → IsInside d → Before c d → t c ≤ℤ t d) → (c d : Point) → Has stretch c → Has stretch d
+      → Before c d → IsBelow s c d
   first_met rises c d m n less =
       let b = (in_between c).0 (contains stretch c m) in
       let e = (in_between d).0 (contains stretch d n) in
       ⊎_elim (λ (one : c ≡ d). absurd (laws.irreflexive c (subst (Before c) (sym one) less))) (λ (below : IsBelow s c d). below)
       (below_by_spots s c d k (t c) (t d) (h.spot c b.1 b.2) (h.spot d e.1 e.2) (rises c d (b.1, b.2) (e.1, e.2) less))
 
-  last_met : ((c d : Point) → IsInside c → IsInside d → Before c d → t d ≤ℤ t c) → (c d : Point) → Has stretch c → Has stretch d → Before c d → IsBelow s d c
+  last_met : ((c d : Point) → IsInside c → IsInside d → Before c d → t d ≤ℤ t c) → (c d : Point) → Has stretch c → Has stretch d
+      → Before c d → IsBelow s d c
   last_met falls c d m n less =
       let b = (in_between c).0 (contains stretch c m) in
       let e = (in_between d).0 (contains stretch d n) in
       ⊎_elim (λ (one : d ≡ c). absurd (laws.irreflexive c (subst (Before c) one less))) (λ (below : IsBelow s d c). below)
       (below_by_spots s d c k (t d) (t c) (h.spot d e.1 e.2) (h.spot c b.1 b.2) (falls c d (b.1, b.2) (e.1, e.2) less))
 
-  pub chain_forth : ((c d : Point) → IsInside c → IsInside d → Before c d → t c ≤ℤ t d) → IsChain (Contains hot) s (slice_range xs i (j + 1))
+  pub chain_forth : ((c d : Point) → IsInside c → IsInside d → Before c d → t c ≤ℤ t d)
+      → IsChain (Contains hot) s (slice_range xs i (j + 1))
   unfolding stretch
   chain_forth rises = record {
     rising = rising_in Before (IsBelow s) stretch (first_met rises) (rising_range Before xs i (j + 1) up);
@@ -162,16 +165,19 @@ on_column : (low high c : Point) → low.x ≡ high.x → IsUpTo IsBefore low c 
 on_column low high c same (inl e) (inl f) = let x = ap (λ (p : Point). p.x) e in let y = ap (λ (p : Point). p.y) e in
     let y' = ap (λ (p : Point). p.y) f in (sym x, omega (arith, linear, y), omega (arith, linear, y'))
 on_column low high c same (inl e) (inr g) = let x = ap (λ (p : Point). p.x) e in let y = ap (λ (p : Point). p.y) e in
-    (sym x, omega (arith, linear, y), ⊎_elim (λ (l : c.x <ℤ high.x). absurd (omega (arith, linear, x))) (λ (r : (c.x ≡ high.x) × (c.y <ℤ high.y)). omega (arith, linear, r.1)) g)
+    (sym x, omega (arith, linear, y), ⊎_elim (λ (l : c.x <ℤ high.x). absurd (omega (arith, linear, x)))
+        (λ (r : (c.x ≡ high.x) × (c.y <ℤ high.y)). omega (arith, linear, r.1)) g)
 on_column low high c same (inr g) (inl f) = let x = ap (λ (p : Point). p.x) f in let y = ap (λ (p : Point). p.y) f in
-    (x ∙ sym same, ⊎_elim (λ (l : low.x <ℤ c.x). absurd (omega (arith, linear, x))) (λ (r : (low.x ≡ c.x) × (low.y <ℤ c.y)). omega (arith, linear, r.1)) g, omega (arith, linear, y))
+    (x ∙ sym same, ⊎_elim (λ (l : low.x <ℤ c.x). absurd (omega (arith, linear, x)))
+        (λ (r : (low.x ≡ c.x) × (low.y <ℤ c.y)). omega (arith, linear, r.1)) g, omega (arith, linear, y))
 on_column low high c same (inr (inl l)) (inr (inl m)) = absurd (omega (arith, linear))
 on_column low high c same (inr (inl l)) (inr (inr m)) = absurd (omega (arith, linear, m.0))
 on_column low high c same (inr (inr l)) (inr (inl m)) = absurd (omega (arith, linear, l.0))
 on_column low high c same (inr (inr l)) (inr (inr m)) = (sym l.0, omega (arith, linear, l.1), omega (arith, linear, m.1))
 
 up_to_column : (p q : Point) → p.x ≡ q.x → p.y ≤ℤ q.y → IsUpTo IsBefore p q
-up_to_column p q e le = ⊎_elim (λ (less : p.y <ℤ q.y). inr (inr (e, less))) (λ (ge : q.y ≤ℤ p.y). inl (same_point p q e (omega (arith, linear))))
+up_to_column p q e le = ⊎_elim (λ (less : p.y <ℤ q.y). inr (inr (e, less)))
+    (λ (ge : q.y ≤ℤ p.y). inl (same_point p q e (omega (arith, linear))))
     (below_or_not p.y q.y)
 
 pub along_up : (s : Segment) → s.a.x ≡ s.b.x → s.a.y <ℤ s.b.y → IsAlong IsBefore s s.a s.b (s.b.y -ℤ s.a.y) (λ c. c.y -ℤ s.a.y)
@@ -188,8 +194,10 @@ along_up s e less = record {
         };
       };
   met = λ c m.
-      let x = between_columns s.a s.b c s.a.x s.a.x m (omega (arith, linear)) (omega (arith, linear, e)) (omega (arith, linear)) (omega (arith, linear, e)) in
-      let y = between_rows s.a s.b c s.a.y s.b.y m (omega (arith, linear)) (omega (arith, linear)) (omega (arith, linear)) (omega (arith, linear)) in
+      let x = between_columns s.a s.b c s.a.x s.a.x m (omega (arith, linear)) (omega (arith, linear, e)) (omega (arith, linear))
+          (omega (arith, linear, e)) in
+      let y = between_rows s.a s.b c s.a.y s.b.y m (omega (arith, linear)) (omega (arith, linear)) (omega (arith, linear))
+          (omega (arith, linear)) in
       let cx : s.a.x ≡ c.x = omega (arith, linear, x.0, x.1) in
       (up_to_column s.a c cx y.0, up_to_column c s.b (sym cx ∙ e) y.1);
 }
@@ -208,8 +216,10 @@ along_down s e less = record {
         };
       };
   met = λ c m.
-      let x = between_columns s.a s.b c s.a.x s.a.x m (omega (arith, linear)) (omega (arith, linear, e)) (omega (arith, linear)) (omega (arith, linear, e)) in
-      let y = between_rows s.a s.b c s.b.y s.a.y m (omega (arith, linear)) (omega (arith, linear)) (omega (arith, linear)) (omega (arith, linear)) in
+      let x = between_columns s.a s.b c s.a.x s.a.x m (omega (arith, linear)) (omega (arith, linear, e)) (omega (arith, linear))
+          (omega (arith, linear, e)) in
+      let y = between_rows s.a s.b c s.b.y s.a.y m (omega (arith, linear)) (omega (arith, linear)) (omega (arith, linear))
+          (omega (arith, linear)) in
       let cx : s.a.x ≡ c.x = omega (arith, linear, x.0, x.1) in
       (up_to_column s.b c (sym e ∙ cx) y.0, up_to_column c s.a (sym cx) y.1);
 }
@@ -220,16 +230,19 @@ on_row : (low high c : Point) → low.y ≡ high.y → IsUpTo IsRowBefore low c 
 on_row low high c same (inl e) (inl f) = let y = ap (λ (p : Point). p.y) e in let x = ap (λ (p : Point). p.x) e in
     let x' = ap (λ (p : Point). p.x) f in (sym y, omega (arith, linear, x), omega (arith, linear, x'))
 on_row low high c same (inl e) (inr g) = let y = ap (λ (p : Point). p.y) e in let x = ap (λ (p : Point). p.x) e in
-    (sym y, omega (arith, linear, x), ⊎_elim (λ (l : c.y <ℤ high.y). absurd (omega (arith, linear, y))) (λ (r : (c.y ≡ high.y) × (high.x <ℤ c.x)). omega (arith, linear, r.1)) g)
+    (sym y, omega (arith, linear, x), ⊎_elim (λ (l : c.y <ℤ high.y). absurd (omega (arith, linear, y)))
+        (λ (r : (c.y ≡ high.y) × (high.x <ℤ c.x)). omega (arith, linear, r.1)) g)
 on_row low high c same (inr g) (inl f) = let y = ap (λ (p : Point). p.y) f in let x = ap (λ (p : Point). p.x) f in
-    (y ∙ sym same, ⊎_elim (λ (l : low.y <ℤ c.y). absurd (omega (arith, linear, y))) (λ (r : (low.y ≡ c.y) × (c.x <ℤ low.x)). omega (arith, linear, r.1)) g, omega (arith, linear, x))
+    (y ∙ sym same, ⊎_elim (λ (l : low.y <ℤ c.y). absurd (omega (arith, linear, y)))
+        (λ (r : (low.y ≡ c.y) × (c.x <ℤ low.x)). omega (arith, linear, r.1)) g, omega (arith, linear, x))
 on_row low high c same (inr (inl l)) (inr (inl m)) = absurd (omega (arith, linear))
 on_row low high c same (inr (inl l)) (inr (inr m)) = absurd (omega (arith, linear, m.0))
 on_row low high c same (inr (inr l)) (inr (inl m)) = absurd (omega (arith, linear, l.0))
 on_row low high c same (inr (inr l)) (inr (inr m)) = (sym l.0, omega (arith, linear, l.1), omega (arith, linear, m.1))
 
 up_to_row : (p q : Point) → p.y ≡ q.y → q.x ≤ℤ p.x → IsUpTo IsRowBefore p q
-up_to_row p q e le = ⊎_elim (λ (less : q.x <ℤ p.x). inr (inr (e, less))) (λ (ge : p.x ≤ℤ q.x). inl (same_point p q (omega (arith, linear)) e))
+up_to_row p q e le = ⊎_elim (λ (less : q.x <ℤ p.x). inr (inr (e, less)))
+    (λ (ge : p.x ≤ℤ q.x). inl (same_point p q (omega (arith, linear)) e))
     (below_or_not q.x p.x)
 
 -- to the left
@@ -247,8 +260,10 @@ along_left s e less = record {
         };
       };
   met = λ c m.
-      let y = between_rows s.a s.b c s.a.y s.a.y m (omega (arith, linear)) (omega (arith, linear, e)) (omega (arith, linear)) (omega (arith, linear, e)) in
-      let x = between_columns s.a s.b c s.b.x s.a.x m (omega (arith, linear)) (omega (arith, linear)) (omega (arith, linear)) (omega (arith, linear)) in
+      let y = between_rows s.a s.b c s.a.y s.a.y m (omega (arith, linear)) (omega (arith, linear, e)) (omega (arith, linear))
+          (omega (arith, linear, e)) in
+      let x = between_columns s.a s.b c s.b.x s.a.x m (omega (arith, linear)) (omega (arith, linear)) (omega (arith, linear))
+          (omega (arith, linear)) in
       let cy : s.a.y ≡ c.y = omega (arith, linear, y.0, y.1) in
       (up_to_row s.a c cy x.1, up_to_row c s.b (sym cy ∙ e) x.0);
 }
@@ -267,8 +282,10 @@ along_right s e less = record {
         };
       };
   met = λ c m.
-      let y = between_rows s.a s.b c s.a.y s.a.y m (omega (arith, linear)) (omega (arith, linear, e)) (omega (arith, linear)) (omega (arith, linear, e)) in
-      let x = between_columns s.a s.b c s.a.x s.b.x m (omega (arith, linear)) (omega (arith, linear)) (omega (arith, linear)) (omega (arith, linear)) in
+      let y = between_rows s.a s.b c s.a.y s.a.y m (omega (arith, linear)) (omega (arith, linear, e)) (omega (arith, linear))
+          (omega (arith, linear, e)) in
+      let x = between_columns s.a s.b c s.a.x s.b.x m (omega (arith, linear)) (omega (arith, linear)) (omega (arith, linear))
+          (omega (arith, linear)) in
       let cy : s.a.y ≡ c.y = omega (arith, linear, y.0, y.1) in
       (up_to_row s.b c (sym e ∙ cy) x.1, up_to_row c s.a (sym cy) x.0);
 }

@@ -26,7 +26,8 @@ Removes old txn elements place now rest = (e : Element) (p : ℕ) →
     (is_listed now e p && not ((p == place) && is_left txn rest e)) ≡ (is_listed old e p && not ((p == place) && is_others txn elements e))
 
 module _ (old : Listed) (txn : TxnId) (elements : Touched) (place : ℕ) where
-  there : (keys : List Element) → from_list {R = element_cmp} keys ≡ elements → (e : Element) → is_left txn keys e ≡ is_others txn elements e
+  there : (keys : List Element) → from_list {R = element_cmp} keys ≡ elements → (e : Element) → is_left txn keys e
+      ≡ is_others txn elements e
   there keys are e =
       ap (λ b. b && not (is_made_by txn e)) (sym (contains-from_list elements_total keys e) ∙ ap (λ (s : Touched). contains s e) are)
 

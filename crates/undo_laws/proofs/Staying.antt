@@ -61,7 +61,8 @@ stay s d sound kept live told =
     let (reached, reaches, on) = run_cut s.entry.txn s.earlier (command ∷ s.rest) (begun ground) ran.run runs in
     let (next, does, ends) = goes_on (effect s.entry.txn command reached) (λ run. after_each s.entry.txn s.rest run) ran.run on in
     let drawn : HoldWhereAsked reached.layout d.op d.cell d.a d.b (shapes_in next.1.layout d.cell d.out) =
-    places_told s.entry.txn reached d.op d.cell d.a d.b d.out next (run_sound s.entry.txn s.earlier (begun ground) reached reaches is.sound) does in
+    places_told s.entry.txn reached d.op d.cell d.a d.b d.out next
+        (run_sound s.entry.txn s.earlier (begun ground) reached reaches is.sound) does in
     record {
       way = record {
         start = ground;

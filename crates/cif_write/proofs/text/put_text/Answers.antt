@@ -15,4 +15,5 @@ returns g c =
     (Buffered-then (Buffered-then (Buffered-then c.put_definitions.ensures c.put_wrapping-called.ensures.lines) c.put_call.ensures)
     c.put.ensures)
     (whole_text (line_text_as c.args.rectangles) (own_definitions layout) (held_in layout Top)
-    (least_unused (in_slot_order layout.symbols)) c.put_wrapping-called.result c.unturned.result c.put_wrapping-called.ensures.called c.unturned.ensures)
+    (least_unused (in_slot_order layout.symbols)) c.put_wrapping-called.result c.unturned.result c.put_wrapping-called.ensures.called
+        c.unturned.ensures)

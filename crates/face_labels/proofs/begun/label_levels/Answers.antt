@@ -31,7 +31,8 @@ loop-index-preserved c =
           (λ (before : k < i). label_kept op r old n label (get_or levels k 0) inside c.level_label-label.ensures (own.labels k before))
           (λ (ge : i ≤ k).
           let same : i ≡ k = omega arith in
-          subst (λ j. HasLabel op r (set old n label) (get_or levels j 0)) same (label_here op r old n label inside c.level_label-label.ensures))
+          subst (λ j. HasLabel op r (set old n label) (get_or levels j 0)) same
+              (label_here op r old n label inside c.level_label-label.ensures))
           (cases_lt k i);
     }
 

@@ -6,7 +6,8 @@ use Rattle.lay_oriented.proofs.net.ordered_edges.Given as goal
 
 -- the edges so far, and those that are left
 abbrev pub invariant-loop-edge : goal.invariant-loop-edge
-invariant-loop-edge l = (test : Point × Point → Bool) → IsUndirected test → xor (parity test l.ordered.items) (parity test l.left) ≡ parity test l.edges
+invariant-loop-edge l = (test : Point × Point → Bool) → IsUndirected test → xor (parity test l.ordered.items) (parity test l.left)
+    ≡ parity test l.edges
 
 abbrev pub decreases-loop-edge : goal.decreases-loop-edge
 decreases-loop-edge l = length l.left

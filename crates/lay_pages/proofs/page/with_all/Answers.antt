@@ -11,7 +11,8 @@ use Rattle.lay_pages.proofs.page.with_all.Goals as goal
 -- one write more
 pub loop-key-preserved : goal.loop-key-preserved
 loop-key-preserved g c = record {
-  so_far = write_more g.met.K.Ord.total g.met.K.PageKey.exact c.loop-key.new.items c.append.new.new.items c.push_written.new.new.items c.loop-key.rest.now
+  so_far = write_more g.met.K.Ord.total g.met.K.PageKey.exact c.loop-key.new.items c.append.new.new.items c.push_written.new.new.items
+      c.loop-key.rest.now
       c.around.result.0.now c.around.result.1.now c.args.writes.now c.loop-key.key-index _ c.loop-key-item.result
       (written_all g.K.Ord.cmp c.args.page.now c.args.writes.now) c.requires.rising c.loop-key-test.true c.loop-key-item.is
       c.around.ensures.before c.around.ensures.after c.in_ok-append.ensures c.in_ok-push_written.ensures c.loop-key.invariant.so_far;

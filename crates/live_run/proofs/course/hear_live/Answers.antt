@@ -9,6 +9,7 @@ returns-in_ok-keep_head-in-Ok g c = (
   run_of c.in-Ok.live,
   subst (λ (l : List ℕ). BeginsRun c.args.showing l c.args.number (run_of c.in-Ok.live)) c.as_slice.ensures.value c.in-Ok.ensures,
   refl,
-  subst (λ (l : List ℕ). KeptAll g.J.Journal.kept g.J.Journal.losses c.args.journal.now c.keep_head.new.journal (kept_head l c.args.line.now))
+  subst (λ (l : List ℕ). KeptAll g.J.Journal.kept g.J.Journal.losses c.args.journal.now c.keep_head.new.journal
+      (kept_head l c.args.line.now))
       c.as_slice-in-Ok.ensures.value c.in_ok-keep_head-in-Ok.ensures,
 )

@@ -6,4 +6,5 @@ use Rattle.snap_chains.proofs.reading.group_length.Given as goal
 
 -- those so far go the first's edge
 abbrev pub invariant-loop-number : goal.invariant-loop-number
-invariant-loop-number l = (k : ℕ) (d : Pass) → k < l.number → numbered_edge (slice_index_or l.passes k d) ≡ numbered_edge (slice_index_or l.passes 0 d)
+invariant-loop-number l = (k : ℕ) (d : Pass) → k < l.number → numbered_edge (slice_index_or l.passes k d)
+    ≡ numbered_edge (slice_index_or l.passes 0 d)

@@ -4,4 +4,5 @@ use Rattle.face_rings.proofs.incidence.Incidence.low_stop.Goals as goal
 pub returns-clause-first : goal.returns-clause-first
 returns-clause-first c =
     low_first c.args.edges.now c.args.self.now.ends.items c.args.self.now.firsts.items c.args.number c.index-edges-number.result
-    c.index-firsts.result.now c.low-at.result c.requires.sound.firsts c.requires.inside c.index-edges-number.is c.index-firsts.ensures c.low-at.ensures.value
+    c.index-firsts.result.now c.low-at.result c.requires.sound.firsts c.requires.inside c.index-edges-number.is c.index-firsts.ensures
+        c.low-at.ensures.value

@@ -11,7 +11,8 @@ use Rattle.face_sweep.proofs.own_rows.OwnRows.take_out.Given as goal
 abbrev pub invariant-loop-owner : goal.invariant-loop-owner
 invariant-loop-owner l = record {
   room : HaveLists l.edges (keys_of l.reach) l.self;
-  taken : (right left : Owner → List ℕ) → ((o : Owner) → IsCutBy l.edges (Some l.fn.point) (right o ++ own_edge l.edges o l.fn.number) (left o))
+  taken : (right left : Owner → List ℕ) → ((o : Owner)
+      → IsCutBy l.edges (Some l.fn.point) (right o ++ own_edge l.edges o l.fn.number) (left o))
       → AreOwn (keys_of l.reach) (λ o. (right o ++ own_edge l.edges o l.fn.number) ++ left o) l.initial.self
       → AreOwn (keys_of l.reach)
       (λ o. (right o ++ listed_if

@@ -7,4 +7,5 @@ use Rattle.face_sweep.proofs.sides.Sides.of.Given as goal
 
 -- the owners so far are turned
 abbrev pub invariant-loop-owner : goal.invariant-loop-owner
-invariant-loop-owner l = AreCounts l.left (λ o. xor (parity (λ p. owner_eq p o) (take l.owner-index l.owner-items)) (is_odd_in l.edges l.behind o))
+invariant-loop-owner l = AreCounts l.left (λ o. xor (parity (λ p. owner_eq p o) (take l.owner-index l.owner-items))
+    (is_odd_in l.edges l.behind o))

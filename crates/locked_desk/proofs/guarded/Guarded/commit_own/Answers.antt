@@ -22,7 +22,8 @@ invariant_of-self g c =
       total = c.self.inside.calls.total;
     } in
     let look = looked was c.args.session c.args.own.now (search rules) in
-    let stepped = (stepped_commit c.self.inside.book c.commit_with_rest-result.new.self c.args.session c.args.work c.commit_with_rest-result.result.0
+    let stepped = (stepped_commit c.self.inside.book c.commit_with_rest-result.new.self c.args.session c.args.work
+        c.commit_with_rest-result.result.0
     (search rules) (search rules) (search rules) c.self.invariant.0.pending c.commit_with_rest-result.ensures.step) in (
       guard_called was c.commit_with_rest-result.new.self c.args.session (Commit c.args.work.id c.args.work.commands)
           (commit_answer c.commit_with_rest-result.result.0) c.args.own.now c.count_call.new.counts.items
@@ -49,11 +50,13 @@ returns-clause-made g c =
     (search rules) (search rules) (search rules) c.self.invariant.0.pending c.commit_with_rest-result.ensures.step) (search rules)
 
 pub returns-clause-txn : goal.returns-clause-txn
-returns-clause-txn g c = committed_named c.self.inside.book c.commit_with_rest-result.new.self c.args.work c.commit_with_rest-result.result.0
+returns-clause-txn g c = committed_named c.self.inside.book c.commit_with_rest-result.new.self c.args.work
+    c.commit_with_rest-result.result.0
     c.commit_with_rest-result.ensures.step
 
 pub returns-clause-back : goal.returns-clause-back
-returns-clause-back g c = committed_back c.self.inside.book c.commit_with_rest-result.new.self c.args.work c.commit_with_rest-result.result.0
+returns-clause-back g c = committed_back c.self.inside.book c.commit_with_rest-result.new.self c.args.work
+    c.commit_with_rest-result.result.0
     c.commit_with_rest-result.ensures.step
 
 pub returns-clause-amount : goal.returns-clause-amount
@@ -64,7 +67,8 @@ returns-clause-amount g c =
     (commit_answer c.commit_with_rest-result.result.0) =
     added_is c.self.inside.book c.commit_with_rest-result.new.self c.args.session (Commit c.args.work.id c.args.work.commands)
     (commit_answer c.commit_with_rest-result.result.0)
-    (stepped_commit c.self.inside.book c.commit_with_rest-result.new.self c.args.session c.args.work c.commit_with_rest-result.result.0 (search rules)
+    (stepped_commit c.self.inside.book c.commit_with_rest-result.new.self c.args.session c.args.work c.commit_with_rest-result.result.0
+        (search rules)
     (search rules) (search rules) c.self.invariant.0.pending c.commit_with_rest-result.ensures.step) in
     let more : ones (nat_lt (length c.log-place.result.now) (length c.log.result.now))
     ≡ calls_added (commit_answer c.commit_with_rest-result.result.0) =
@@ -76,7 +80,8 @@ pub returns-clause-step : goal.returns-clause-step
 returns-clause-step g c =
     subst (λ (g : Guard). IsAnswer (refused NoMemory c.args.work) c.commit_with_rest-result.result.0
     (with_refused_work (commit_step g.book c.args.work).0 c.args.work)) c.self.view_is (taken_work
-    c.self.inside.book c.commit_with_rest-result.new.self c.args.work (commit_step c.self.inside.book c.args.work) c.commit_with_rest-result.result.0
+    c.self.inside.book c.commit_with_rest-result.new.self c.args.work (commit_step c.self.inside.book c.args.work)
+        c.commit_with_rest-result.result.0
     c.commit_with_rest-result.ensures.step)
 
 pub returns-clause-base : goal.returns-clause-base
@@ -84,5 +89,6 @@ returns-clause-base g c =
     subst (λ (g : Guard). c.commit_with_rest-result.new.self.base ≡ g.book.base) c.self.view_is
     (base_kept c.self.inside.book c.commit_with_rest-result.new.self c.args.session (Commit c.args.work.id c.args.work.commands)
     (commit_answer c.commit_with_rest-result.result.0)
-    (stepped_commit c.self.inside.book c.commit_with_rest-result.new.self c.args.session c.args.work c.commit_with_rest-result.result.0 (search rules)
+    (stepped_commit c.self.inside.book c.commit_with_rest-result.new.self c.args.session c.args.work c.commit_with_rest-result.result.0
+        (search rules)
     (search rules) (search rules) c.self.invariant.0.pending c.commit_with_rest-result.ensures.step))

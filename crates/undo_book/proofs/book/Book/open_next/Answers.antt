@@ -33,7 +33,8 @@ invariant_of-self-2 c =
     let same : record (history_of c.self.inside) { log = c.push.new.self.items; sessions = kept.items } ≡ after_open now s =
     λ i. record (c.self.view_is i) { log = log i; sessions = sessions i } in
     record {
-      history = subst (λ (h : History). IsHistory h) (sym same) (open_keeps now is s c.number-session.ensures.low c.number-session.ensures.high);
+      history = subst (λ (h : History). IsHistory h) (sym same)
+          (open_keeps now is s c.number-session.ensures.low c.number-session.ensures.high);
       places = c.self.invariant.places;
       index = c.self.invariant.index;
       changes = unchanged_so call c.self.invariant.changes refl earlier last logged;
