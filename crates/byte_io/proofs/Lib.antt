@@ -2,3 +2,4 @@ pub mod BufferedLemmas
 pub mod DigitLemmas
 pub mod LineLemmas
 pub mod PairLemmas
+pub mod Steps

@@ -19,6 +19,10 @@ first_len-newline b bytes is = rw is (grind (arith, nat_tests))
 first_len-other : (b : ℕ) (bytes : List ℕ) → eqb b 10 ≡ false → first_len (b ∷ bytes) ≡ suc (first_len bytes)
 first_len-other b bytes is = rw is (shifted (position_or_len (λ b. eqb b 10) bytes) (length bytes))
 
+-- a byte that ends no line stands in front of the first of the lines behind it
+pub lines-other : (b : ℕ) (bytes : List ℕ) → eqb b 10 ≡ false → lines (b ∷ bytes) ≡ in_front b (lines bytes)
+lines-other b bytes is = rw is refl
+
 -- the bytes begin with a line of so many
 abbrev Splits : List ℕ → ℕ → Type 0
 Splits bytes n = lines bytes ≡ take n bytes ∷ lines (drop n bytes)
@@ -26,8 +30,7 @@ Splits bytes n = lines bytes ≡ take n bytes ∷ lines (drop n bytes)
 splits-more : (b : ℕ) (bytes : List ℕ) → eqb b 10 ≡ false → in_front b (lines bytes) ≡ take (suc (first_len bytes))
     (b ∷ bytes) ∷ lines (drop (suc (first_len bytes)) (b ∷ bytes)) → Splits (b ∷ bytes) (first_len (b ∷ bytes))
 splits-more b bytes is front =
-    let other : lines (b ∷ bytes) ≡ in_front b (lines bytes) = rw is refl in
-    other ∙ front ∙ ap (λ n. take n (b ∷ bytes) ∷ lines (drop n (b ∷ bytes))) (sym (first_len-other b bytes is))
+    lines-other b bytes is ∙ front ∙ ap (λ n. take n (b ∷ bytes) ∷ lines (drop n (b ∷ bytes))) (sym (first_len-other b bytes is))
 
 splits-newline : (b : ℕ) (bytes : List ℕ) → eqb b 10 ≡ true → Splits (b ∷ bytes) (first_len (b ∷ bytes))
 splits-newline b bytes is =

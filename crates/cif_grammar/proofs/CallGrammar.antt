@@ -13,7 +13,7 @@ use Rattle.cif_grammar.specs.Numbers.{integer_at}
 use Rattle.cif_grammar.proofs.ByteClasses.{blank_no_digit}
 use Rattle.cif_grammar.proofs.NumberGrammar.{Takes, integer_again, integer_takes}
 use Rattle.cif_grammar.proofs.Runs.{Stops, list_all-take_while, skip-front, taken_and_left}
-use Rattle.cif_grammar.proofs.Steps.{bind_some, chosen_of}
+use Rattle.byte_io.proofs.Steps.{bind_some, chosen_of}
 use Rattle.cif_grammar.specs.declared.calls.Change.{Change}
 use Rattle.cif_grammar.specs.declared.calls.Change.TheVariants.{Direction, MirrorX, MirrorY, Shift}
 use Rattle.cif_grammar.specs.declared.paths.Vertex.{Vertex}

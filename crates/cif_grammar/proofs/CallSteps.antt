@@ -50,7 +50,3 @@ changes_step found (b ∷ bs) c rest next =
     let shorter = behind_shorter (b ∷ bs) c rest next in
     rw (add-one, next)
     (enough (suc (length bs)) (length (skip is_blank rest) + 1) (found ++ c ∷ []) (skip is_blank rest) (omega arith) (omega arith))
-
-pub no_bytes : (bytes : List ℕ) → length bytes ≡ 0 → bytes ≡ []
-no_bytes [] none = refl
-no_bytes (b ∷ bs) none = absurd (omega arith)

@@ -10,7 +10,7 @@ use Rattle.lay_point.specs.Names.{is_digit}
 use Rattle.cif_grammar.specs.Bytes.{is_blank, skip}
 use Rattle.cif_grammar.proofs.ByteClasses.{is_plain}
 use Rattle.cif_grammar.proofs.Runs.{list_all-take_while, skip-front, taken_and_left}
-use Rattle.cif_grammar.proofs.Steps.{chosen_of}
+use Rattle.byte_io.proofs.Steps.{chosen_of}
 use Rattle.cif_grammar.specs.Boxes.{box_of}
 use Rattle.cif_grammar.specs.Commands.{Box, Call, Command, Comment, Extension, Finish, Layer, Polygon, Start}
 use Rattle.cif_grammar.specs.Comments.{is_comment}

@@ -7,7 +7,7 @@ use Rattle.std.proofs.lemmas.Bool.{and_from, and_parts, eqb-true}
 use Rattle.std.proofs.lemmas.Bool.Decides.{nat_tests}
 use Rattle.std.proofs.lemmas.Option.{same_Some}
 use Rattle.cif_grammar.specs.Bytes.{is_blank}
-use Rattle.cif_grammar.proofs.Steps.{chosen_of}
+use Rattle.byte_io.proofs.Steps.{chosen_of}
 use Rattle.cif_grammar.specs.Comments.{are_blanks_behind, behind_closing, is_comment}
 use Rattle.cif_grammar.specs.Grammar.{IsComment, Matched, byte, is_free, matched_text, nothing, within}
 
@@ -119,7 +119,7 @@ comment_takes bytes e =
 -- ---- what is spelled is read
 
 -- a byte that is no parenthesis
-free_byte : (b : ℕ) → not (b == 40 || b == 41) ≡ true → ((b == 41) ≡ false) × ((b == 40) ≡ false)
+pub free_byte : (b : ℕ) → not (b == 40 || b == 41) ≡ true → ((b == 41) ≡ false) × ((b == 40) ≡ false)
 free_byte b h = (grind (arith, nat_tests), grind (arith, nat_tests))
 
 pass_byte : (b depth : ℕ) (bs : List ℕ) → (b == 41) ≡ false → (b == 40) ≡ false → behind_closing depth (b ∷ bs) ≡ behind_closing depth bs

@@ -7,7 +7,7 @@ use Rattle.std.proofs.lemmas.Bool.{and_parts, eqb-true}
 use Rattle.std.proofs.lemmas.Bool.Decides.{nat_tests}
 use Rattle.std.proofs.lemmas.Option.{none-some, same_Some}
 use Rattle.cif_grammar.proofs.ByteClasses.{is_plain}
-use Rattle.cif_grammar.proofs.Steps.{chosen_of}
+use Rattle.byte_io.proofs.Steps.{chosen_of}
 use Rattle.cif_grammar.specs.Cutting.{command_len, first_depth, next_depth, semicolon_from}
 
 -- bytes are a command of this length, a semicolon and a rest

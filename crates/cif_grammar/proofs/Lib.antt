@@ -14,4 +14,3 @@ pub mod PathSteps
 pub mod Pieces
 pub mod Runs
 pub mod Separators
-pub mod Steps

@@ -10,7 +10,7 @@ use Rattle.cif_grammar.specs.declared.number.Number.{Number}
 use Rattle.cif_grammar.specs.Bytes.{is_separator, skip}
 use Rattle.cif_grammar.specs.ScanGrammar.{IsDigits, IsInteger, IsSigned, capped_magnitude, sign}
 use Rattle.cif_grammar.specs.Numbers.{digits_at, integer_at, magnitude_at, sign_at, signed_at, spelled_by}
-use Rattle.cif_grammar.proofs.Steps.{bind_some, chosen_of}
+use Rattle.byte_io.proofs.Steps.{bind_some, chosen_of}
 use Rattle.cif_grammar.proofs.ByteClasses.{digit_no_minus, digit_no_separator, minus_no_separator}
 use Rattle.cif_grammar.proofs.Runs.{Stops, list_all-take_while, skip-front, take_while-front, taken_and_left}
 

@@ -8,6 +8,7 @@ use Rattle.std.proofs.lemmas.Bool.Decides.{nat_tests}
 use Rattle.std.proofs.lemmas.List.{length-append}
 use Rattle.std.proofs.lemmas.List.Folds.{list_all-append}
 use Rattle.lay_point.specs.Names.{is_digit, is_name_byte}
+use Rattle.lay_point.proofs.NumberLaws.{suc_zero}
 use Rattle.cif_grammar.specs.declared.number.Number.{Number}
 use Rattle.cif_grammar.specs.Bytes.{is_blank, is_gap, is_mark, is_separator}
 use Rattle.cif_grammar.specs.ScanGrammar.{IsInteger, IsSigned, sign}
@@ -22,6 +23,7 @@ use Rattle.cif_grammar.specs.Grammar.{AreBlanks, AreCallChanges, AreVertices, Is
 use Rattle.cif_grammar.specs.Grammar.{IsComment, IsDirection, IsScale, IsVertex, IsWrittenScale}
 use Rattle.cif_grammar.specs.Grammar.{Matched, NextVertex, Spells, byte, is_free, matched_text, nothing, within}
 use Rattle.cif_grammar.proofs.CutGrammar.{plain_found}
+use Rattle.cif_grammar.proofs.CommentGrammar.{free_byte}
 
 pub record Opening (text : List ℕ) : Type 0 where
   pub first : ℕ
@@ -140,16 +142,10 @@ digit_no_comment b h = grind (arith, nat_tests)
 
 -- ---- comments
 
-free_byte : (b : ℕ) → not (b == 40 || b == 41) ≡ true → ((b == 41) ≡ false) × ((b == 40) ≡ false)
-free_byte b h = (grind (arith, nat_tests), grind (arith, nat_tests))
-
-deep : (depth : ℕ) → (suc depth == 0) ≡ false
-deep depth = grind (arith, nat_tests)
-
 deep_step : (place depth b : ℕ) (bs : List ℕ)
     → semicolon_from place (suc depth) (b ∷ bs) ≡ semicolon_from (place + 1) (next_depth (suc depth) b) bs
 unfolding semicolon_from
-deep_step place depth b bs = rw (deep depth) refl
+deep_step place depth b bs = rw (suc_zero depth) refl
 
 -- matched text inside parentheses is passed
 inside_passed : (m : Matched) (place depth : ℕ) (bs : List ℕ) → is_free m ≡ true

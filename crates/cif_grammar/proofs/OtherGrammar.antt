@@ -10,7 +10,7 @@ use Rattle.cif_grammar.specs.Numbers.{behind_separator, integer_at}
 use Rattle.cif_grammar.proofs.ByteClasses.{blank_no_digit, blank_no_name_byte, name_byte_no_blank, separator_no_digit}
 use Rattle.cif_grammar.proofs.NumberGrammar.{integer_again, integer_takes}
 use Rattle.cif_grammar.proofs.Runs.{Stops, list_all-take_while, skip-front, take_while-front, taken_and_left}
-use Rattle.cif_grammar.proofs.Steps.{after_some, bind_some, chosen_of}
+use Rattle.byte_io.proofs.Steps.{after_some, bind_some, chosen_of}
 use Rattle.cif_grammar.specs.declared.boxes.BoxNumbers.{BoxNumbers}
 use Rattle.cif_grammar.specs.declared.definitions.Definition.{Definition}
 use Rattle.cif_grammar.specs.declared.definitions.Scale.{Scale}

@@ -10,7 +10,7 @@ use Rattle.cif_grammar.specs.Numbers.{behind_separator, signed_at}
 use Rattle.cif_grammar.proofs.ByteClasses.{blank_no_digit, separator_no_digit}
 use Rattle.cif_grammar.proofs.NumberGrammar.{Takes, signed_again, signed_takes}
 use Rattle.cif_grammar.proofs.Runs.{Stops}
-use Rattle.cif_grammar.proofs.Steps.{after_some, bind_some, chosen_of}
+use Rattle.byte_io.proofs.Steps.{after_some, bind_some, chosen_of}
 use Rattle.cif_grammar.specs.declared.paths.Vertex.{Vertex}
 use Rattle.cif_grammar.specs.Grammar.{AreVertices, IsPath, IsPolygon, IsVertex, NextVertex}
 use Rattle.cif_grammar.specs.Paths.{next_vertex_at, path_of, vertex_at, vertices_from}

@@ -12,7 +12,7 @@ use Rattle.cif_grammar.specs.ScanGrammar.{IsDigits, IsSigned, sign}
 use Rattle.cif_grammar.specs.Numbers.{behind_separator}
 use Rattle.cif_grammar.proofs.ByteClasses.{blank_no_digit}
 use Rattle.cif_grammar.proofs.Runs.{Stops}
-use Rattle.cif_grammar.proofs.Steps.{chosen_of}
+use Rattle.byte_io.proofs.Steps.{chosen_of}
 
 -- bytes of a class don't begin with one of a class that has none in common
 pub stops_all : (passes stopping : ℕ → Bool) (bytes : List ℕ) → ((b : ℕ) → passes b ≡ true → stopping b ≡ false)

@@ -9,7 +9,8 @@ use Rattle.lay_point.proofs.Products.{*ℤ_comm}
 use Rattle.lay_point.proofs.Signs.{cancel_le, linear, times_le}
 use Rattle.lay_point.specs.declared.point.Point.{Point}
 use Rattle.lay_point.specs.Points.{is_in_range}
-use Rattle.cif_grammar.proofs.Steps.{chosen_of}
+use Rattle.lay_point.proofs.NumberLaws.{suc_zero}
+use Rattle.byte_io.proofs.Steps.{chosen_of}
 use Rattle.cif_grammar.specs.declared.number.Number.{Number}
 use Rattle.cif_grammar.specs.declared.boxes.BoxNumbers.{BoxNumbers}
 use Rattle.cif_grammar.specs.declared.definitions.Scale.{Scale}
@@ -28,7 +29,7 @@ use Rattle.cif_laws.specs.Boxes.{box_direction}
 use Rattle.cif_laws.specs.Boxes.{x_axis}
 use Rattle.cif_laws.specs.Directions.{IsLength, x_of, y_of}
 use Rattle.cif_laws.specs.Distances.{DrawsRing}
-use Rattle.cif_laws.proofs.ChangeLemmas.{askew, no_value, not_none, vertex}
+use Rattle.cif_laws.proofs.ChangeLemmas.{askew, no_value, vertex}
 use Rattle.cif_laws.proofs.DistanceLemmas.{box_drew}
 
 -- at most this much to either side
@@ -228,10 +229,10 @@ unfolding IsSigned
 aligned a zero b zero h length width n = absurd cc
 aligned a (suc m) b (suc j) h length width n = absurd (false≢true (sym (askew a m b j) ∙ h))
 aligned false (suc m) b zero h length width n =
-    subst (λ u. IsAligned (vertex false (suc m) b 0) length width (cond u width length) (cond u length width) n) (sym (not_none m))
+    subst (λ u. IsAligned (vertex false (suc m) b 0) length width (cond u width length) (cond u length width) n) (sym (suc_zero m))
     (flat_aligned (vertex false (suc m) b 0) length width n (pos (suc m)) (omega (arith, linear)) (inl refl) (no_value b))
 aligned true (suc m) b zero h length width n =
-    subst (λ u. IsAligned (vertex true (suc m) b 0) length width (cond u width length) (cond u length width) n) (sym (not_none m))
+    subst (λ u. IsAligned (vertex true (suc m) b 0) length width (cond u width length) (cond u length width) n) (sym (suc_zero m))
     (flat_aligned (vertex true (suc m) b 0) length width n (pos (suc m)) (omega (arith, linear)) (inr refl) (no_value b))
 aligned a zero false (suc j) h length width n =
     tall_aligned (vertex a 0 false (suc j)) length width n (pos (suc j)) (omega (arith, linear)) (inl refl) (no_value a)

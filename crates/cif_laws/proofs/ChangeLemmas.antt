@@ -1,10 +1,9 @@
 -- A change as a turn takes a point where the change takes it, and changes in a row where they take it in turn.
 use Rattle.std.proofs.Common.{◌≡◌, inl, inr, ℕ, zero, suc, Bool, true, false, cond, List, [], ◌∷◌, ◌++◌, Option, Some, None, Ok}
 use Rattle.std.proofs.Common.{ℤ, pos, neg_ℤ, ◌+ℤ◌, ◌-ℤ◌, ◌*ℤ◌, ◌<ℤ◌, refl, sym, ap, ap₂, subst, ◌∙◌, arith}
-use Rattle.std.specs.Prelude.{◌==◌, ◌↔◌, ◌||◌, not}
+use Rattle.std.specs.Prelude.{◌↔◌, not}
 use Rattle.std.specs.List.{list_all, list_any}
-use Rattle.std.proofs.lemmas.Bool.{and_parts, false≢true}
-use Rattle.std.proofs.lemmas.Bool.Decides.{nat_tests}
+use Rattle.std.proofs.lemmas.Bool.{and_parts, false≢true, not-false, or_parts}
 use Rattle.std.proofs.lemmas.Option.{cond_some}
 use Rattle.lay_point.proofs.Polynomials.{#, lit, ◌⊕◌, ◌⊖◌, ◌⊗◌, ⊝, identity}
 use Rattle.lay_point.proofs.Products.{*ℤ_comm}
@@ -15,7 +14,9 @@ use Rattle.lay_point.specs.declared.turn.Turn.{Turn}
 use Rattle.lay_point.specs.Points.{is_in_range}
 use Rattle.lay_point.specs.Turns.{composed, turned, unturned}
 use Rattle.lay_point.proofs.TurnLemmas.{turned-composed}
-use Rattle.cif_grammar.proofs.Steps.{after_some}
+use Rattle.lay_point.proofs.EdgeOrder.{same_point}
+use Rattle.lay_point.proofs.NumberLaws.{suc_zero}
+use Rattle.byte_io.proofs.Steps.{after_some}
 use Rattle.cif_grammar.specs.declared.number.Number.{Number}
 use Rattle.cif_grammar.specs.declared.calls.Change.{Change}
 use Rattle.cif_grammar.specs.declared.calls.Change.TheVariants.{Direction, MirrorX, MirrorY, Shift}
@@ -34,9 +35,6 @@ use Rattle.cif_laws.specs.Changes.{CallsMovePoints, IsCallBy, IsRotated, MapsPoi
 use Rattle.cif_laws.specs.Directions.{IsLength, x_of, y_of}
 use Rattle.cif_laws.specs.Distances.{IsDistance}
 use Rattle.cif_laws.proofs.DistanceLemmas.{call_called, only_units}
-
-same_point : (p q : Point) → p.x ≡ q.x → p.y ≡ q.y → p ≡ q
-same_point p q x y = λ i. record { x = x i; y = y i }
 
 point_x : (p q : Point) → p ≡ q → p.x ≡ q.x
 point_x p q e = ap (λ (r : Point). r.x) e
@@ -139,24 +137,21 @@ south_x a b k = identity (a ∷ b ∷ k ∷ []) ((# 1 ⊕ lit (pos 0)) ⊗ # 2) 
 south_y : (a b k : ℤ) → (neg_ℤ a +ℤ pos 0) *ℤ k ≡ a *ℤ neg_ℤ k +ℤ b *ℤ pos 0
 south_y a b k = identity (a ∷ b ∷ k ∷ []) (((⊝ (# 0)) ⊕ lit (pos 0)) ⊗ # 2) (# 0 ⊗ (⊝ (# 2)) ⊕ # 1 ⊗ lit (pos 0)) refl
 
-pub not_none : (n : ℕ) → (suc n == 0) ≡ false
-not_none n = grind (arith, nat_tests)
-
 pub askew : (a : Bool) (m : ℕ) (b : Bool) (n : ℕ) → is_on_axis (vertex a (suc m) b (suc n)) ≡ false
-askew a m b n = rw (not_none m, not_none n) refl
+askew a m b n = rw (suc_zero m, suc_zero n) refl
 
 -- the turns to the y axis and against it
 north_is : (scale : Scale) (a : Bool) (n : ℕ) (p : Point)
     → turned (turn_of scale (Direction (vertex a 0 false (suc n)))) p ≡ record { x = neg_ℤ p.y +ℤ pos 0; y = p.x +ℤ pos 0 }
 unfolding turned
 north_is scale a n p =
-    ap (λ b. turned (record { mirror = false; quarter = cond b (cond a R180 R0) R90; shift = origin }) p) (not_none n)
+    ap (λ b. turned (record { mirror = false; quarter = cond b (cond a R180 R0) R90; shift = origin }) p) (suc_zero n)
 
 south_is : (scale : Scale) (a : Bool) (n : ℕ) (p : Point)
     → turned (turn_of scale (Direction (vertex a 0 true (suc n)))) p ≡ record { x = p.y +ℤ pos 0; y = neg_ℤ p.x +ℤ pos 0 }
 unfolding turned
 south_is scale a n p =
-    ap (λ b. turned (record { mirror = false; quarter = cond b (cond a R180 R0) R270; shift = origin }) p) (not_none n)
+    ap (λ b. turned (record { mirror = false; quarter = cond b (cond a R180 R0) R270; shift = origin }) p) (suc_zero n)
 
 direction : (scale : Scale) (x_negative : Bool) (x : ℕ) (y_negative : Bool) (y : ℕ) → is_on_axis (vertex x_negative x y_negative y) ≡ true
     → (p q : Point)
@@ -181,10 +176,6 @@ direction scale a zero true (suc n) h p q =
     (south_x p.x p.y (pos (suc n))) (south_y p.x p.y (pos (suc n))))
 
 -- ---- one change
-
-not_false : (b : Bool) → not b ≡ false → b ≡ true
-not_false true h = refl
-not_false false h = absurd cc
 
 moved_by : (scale : Scale) (n : Number) (a b : ℤ) → IsRatio scale → is_whole scale (doubled n) ≡ true
     → IsDistance scale n (b -ℤ a) → a +ℤ scaled scale (doubled n) ≡ b
@@ -221,13 +212,9 @@ one_change scale MirrorY ratio straight whole p q = (
     twice : (a : ℤ) → neg_ℤ (neg_ℤ a) ≡ a
     twice a = omega (arith, linear)
 one_change scale (Direction v) ratio straight whole p q =
-    direction scale v.x.negative v.x.magnitude v.y.negative v.y.magnitude (not_false (is_on_axis v) straight) p q
+    direction scale v.x.negative v.x.magnitude v.y.negative v.y.magnitude (not-false (is_on_axis v) straight) p q
 
 -- ---- changes in turn
-
-or_parts : (a b : Bool) → (a || b) ≡ false → (a ≡ false) × (b ≡ false)
-or_parts true b h = absurd cc
-or_parts false b h = (refl, h)
 
 in_turn : (scale : Scale) (from : Turn) (cs : List Change) (turn : Turn) → IsRatio scale → list_any is_askew_change cs ≡ false
     → list_all (is_whole_change scale) cs ≡ true → turn_changed_by scale from cs ≡ Some turn → (p q : Point)
@@ -270,7 +257,7 @@ call_points scale cs turn ratio e p q =
     taken (list_any is_askew_change cs) OffAxis _ turn e (λ straight e.
     taken (not (list_all (is_whole_change scale) cs)) OffGrid _ turn e (λ whole e.
     in_turn_from scale cs (turn_changed_by scale unturned cs) turn ratio straight
-    (not_false (list_all (is_whole_change scale) cs) whole) refl e
+    (not-false (list_all (is_whole_change scale) cs) whole) refl e
     p q))
 
 call_by : (content next : Content) (offset symbol : ℕ) (cs : List Change) → IsRatio (current_scale content.definition)

@@ -9,7 +9,7 @@ use Rattle.cif_grammar.specs.Comments.{behind_closing}
 use Rattle.cif_grammar.specs.Cutting.{command_len, first_depth, next_depth, semicolon_from}
 use Rattle.cif_grammar.proofs.ByteClasses.{is_plain}
 use Rattle.cif_grammar.proofs.CutGrammar.{plain_piece}
-use Rattle.cif_grammar.proofs.Steps.{chosen_of}
+use Rattle.byte_io.proofs.Steps.{chosen_of}
 use Rattle.cif_laws.specs.Refusals.{IsOutside}
 
 -- outside parentheses no byte is a semicolon, where none is found

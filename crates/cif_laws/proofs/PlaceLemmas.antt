@@ -15,7 +15,7 @@ use Rattle.lay_point.specs.Points.{is_in_range, point_eq}
 use Rattle.lay_point.specs.Rings.{checked_ring, kept_behind, opened_behind, ring_of, without_repeats}
 use Rattle.lay_point.proofs.Members.{Has, contains, has}
 use Rattle.lay_point.proofs.RingLemmas.{point_eq-true}
-use Rattle.cif_grammar.proofs.Steps.{after_some}
+use Rattle.byte_io.proofs.Steps.{after_some}
 use Rattle.cif_grammar.specs.declared.definitions.Scale.{Scale}
 use Rattle.cif_grammar.specs.declared.paths.Vertex.{Vertex}
 use Rattle.cif_read.specs.declared.content.Content.{Content}

@@ -1,12 +1,12 @@
 -- The parity of a ring's edges is the same wherever the ring begins, and whichever way it runs.
-use Rattle.std.proofs.Common.{◌≡◌, Bool, true, false, List, [], ◌∷◌, ◌++◌, reverse, refl, sym, ap, ◌∙◌, append_assoc, append-nil, inl,
-    inr, ℤ, ◌||◌}
+use Rattle.std.proofs.Common.{◌≡◌, Bool, List, [], ◌∷◌, ◌++◌, reverse, refl, sym, ap, ◌∙◌, append_assoc, append-nil, inl, inr, ℤ}
 use Rattle.std.proofs.lemmas.List.{reverse-append}
 use Rattle.lay_point.specs.declared.point.Point.{Point}
 use Rattle.lay_point.specs.Parity.{is_crossed, is_crossed_rising, odd, parity, xor}
 use Rattle.lay_point.specs.RingEdges.{pairs}
 use Rattle.lay_point.specs.Rings.{closed}
 use Rattle.lay_point.proofs.Parity.{parity-append, xor-false, xor_comm}
+use Rattle.lay_point.proofs.BoolLaws.{or_comm}
 use Rattle.cif_laws.specs.SameRings.{SameRingsHoldTheSamePlaces}
 
 -- one more at the end
@@ -58,14 +58,8 @@ module _ (test : Point × Point → Bool) where
         ∙ ap (λ xs. parity test (pairs xs)) (sym (reverse-append (p ∷ ps) (p ∷ []) ∙ ap (λ xs. p ∷ xs) (reverse-cons p ps)))
         ∙ pairs-reverse p (ps ++ p ∷ [])
 
-or_turned : (a b : Bool) → (a || b) ≡ (b || a)
-or_turned true true = refl
-or_turned true false = refl
-or_turned false true = refl
-or_turned false false = refl
-
 either_end : (k x y : ℤ) (p q : Point) → is_crossed k x y (p, q) ≡ is_crossed k x y (q, p)
-either_end k x y p q = or_turned (is_crossed_rising k x y p q) (is_crossed_rising k x y q p)
+either_end k x y p q = or_comm (is_crossed_rising k x y p q) (is_crossed_rising k x y q p)
 
 pub same_places : SameRingsHoldTheSamePlaces
 unfolding odd

@@ -1,8 +1,8 @@
 -- The wrapped layout is written as the layout was.
 use Rattle.std.proofs.Common.{◌≡◌, ℕ, ◌+◌, Bool, true, false, cond, ◌||◌, List, [], ◌∷◌, ◌++◌}
-use Rattle.std.proofs.Common.{map, Option, None, refl, sym, ap, ◌∙◌, append-nil, nat_eq, arith}
+use Rattle.std.proofs.Common.{map, Option, None, refl, sym, ap, ◌∙◌, append-nil, nat_eq}
 use Rattle.std.specs.List.{AllByRecursion, IsDistinct, filter, flat_map}
-use Rattle.std.proofs.lemmas.Bool.Decides.{Decides-eqb, nat_tests}
+use Rattle.std.proofs.lemmas.Bool.Decides.{Decides-eqb}
 use Rattle.std.proofs.lemmas.List.Elements.{filter-append}
 use Rattle.std.proofs.lemmas.List.Folds.{list_any-append}
 use Rattle.lay_point.specs.Bridges.{bridged}
@@ -20,6 +20,7 @@ use Rattle.lay_layouts.specs.Layout.{Layout}
 use Rattle.lay_layouts.specs.LayoutWith.{numbered_from, text_id}
 use Rattle.lay_layouts.specs.SlotOrder.{in_slot_order}
 use Rattle.lay_items.proofs.NumberedLemmas.{entries-numbered}
+use Rattle.lay_items.proofs.Reaching.{other_way}
 use Rattle.lay_layouts.proofs.SlotLemmas.{in_slot_order-placed}
 use Rattle.cif_write.specs.Lines.{Call, End, Finish, Start, lines_text}
 use Rattle.cif_write.specs.Text.{definitions_lines, file_lines, item_lines, items_lines, layer_after, path_lines, text}
@@ -81,9 +82,6 @@ none_stand number other (item ∷ items) apart =
     ap (λ c. cond (cell_eq c (Symbol other)) (as_written number item ∷ rest) rest) (same_cell number item)
     ∙ ap (λ b. cond b (as_written number item ∷ rest) rest) apart ∙ none_stand number other items apart
 
-turned_apart : (m n : ℕ) → nat_eq m n ≡ false → nat_eq n m ≡ false
-turned_apart m n h = grind (arith, nat_tests)
-
 -- none of the definitions of other symbols
 others_stand : (number : ℕ) (ds : List Definition) → AllByRecursion (λ n. nat_eq number n ≡ false) (map symbol_of ds)
     → filter (stands_in (Symbol number)) (flat_map items_again ds) ≡ []
@@ -91,7 +89,7 @@ others_stand number [] apart = refl
 others_stand number (d ∷ ds) apart =
     filter-append (stands_in (Symbol number)) (items_again d) (flat_map items_again ds)
     ∙ ap (λ is. is ++ filter (stands_in (Symbol number)) (flat_map items_again ds))
-    (none_stand d.number number d.items (turned_apart number d.number apart.0)) ∙ others_stand number ds apart.1
+    (none_stand d.number number d.items (other_way number d.number apart.0)) ∙ others_stand number ds apart.1
 
 each_stands : (ds : List Definition) → IsDistinct nat_eq (map symbol_of ds)
     → AllByRecursion (λ d. filter (stands_in (Symbol d.number)) (flat_map items_again ds) ≡ items_again d) ds
@@ -153,7 +151,7 @@ all_new symbols [] m h = (tt, tt)
 all_new symbols (n ∷ ns) m h =
     let first = behind_new symbols m n h.0 in
     let rest = all_new symbols ns m h.1 in
-    ((first.0, rest.0), (turned_apart n m first.1, rest.1))
+    ((first.0, rest.0), (other_way n m first.1, rest.1))
 
 numbers_new : (ds : List Definition) (symbols : List ℕ) → AreWritable symbols ds
     → AllByRecursion (λ n. has_symbol symbols n ≡ false) (map symbol_of ds)

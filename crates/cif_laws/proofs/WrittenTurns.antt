@@ -11,10 +11,10 @@ use Rattle.cif_grammar.specs.Bytes.{is_blank, is_mark, is_separator}
 use Rattle.cif_grammar.specs.ScanGrammar.{IsDigits, IsSigned, sign}
 use Rattle.cif_grammar.specs.declared.calls.Change.{Change}
 use Rattle.cif_grammar.specs.declared.calls.Change.TheVariants.{Direction, MirrorX, Shift}
-use Rattle.cif_grammar.specs.declared.paths.Vertex.{Vertex}
 use Rattle.cif_grammar.specs.Grammar.{AreCallChanges, IsChange}
 use Rattle.cif_write.specs.Lines.{mirror_text, point_text, quarter_text, shift_text, turn_text}
 use Rattle.cif_laws.proofs.WrittenNumbers.{point_spelled, vertex_of}
+use Rattle.cif_laws.proofs.ChangeLemmas.{vertex}
 
 -- ---- the changes of a turn
 
@@ -22,15 +22,11 @@ abbrev pub mirror_changes : Bool → List Change
 mirror_changes true = MirrorX ∷ []
 mirror_changes false = []
 
--- the direction along an axis
-abbrev pub along : Bool → ℕ → Bool → ℕ → Vertex
-along left x down y = record { x = record { negative = left; magnitude = x }; y = record { negative = down; magnitude = y } }
-
 abbrev pub quarter_changes : Quarter → List Change
 quarter_changes R0 = []
-quarter_changes R90 = Direction (along false 0 false 1) ∷ []
-quarter_changes R180 = Direction (along true 1 false 0) ∷ []
-quarter_changes R270 = Direction (along false 0 true 1) ∷ []
+quarter_changes R90 = Direction (vertex false 0 false 1) ∷ []
+quarter_changes R180 = Direction (vertex true 1 false 0) ∷ []
+quarter_changes R270 = Direction (vertex false 0 true 1) ∷ []
 
 abbrev pub shift_changes : Point → List Change
 shift_changes shift = cond (point_eq shift (record { x = pos 0; y = pos 0 })) [] (Shift (vertex_of shift) ∷ [])
@@ -69,7 +65,7 @@ quarter_spelled : (quarter : Quarter) (rest : List ℕ) (cs : List Change) → A
     → AreCallChanges (quarter_text quarter ++ rest) (quarter_changes quarter ++ cs)
 unfolding is_separator is_blank is_mark
 quarter_spelled R0 rest cs h = h
-quarter_spelled R90 rest cs h = one_more (82 ∷ 32 ∷ 48 ∷ 32 ∷ 49 ∷ []) rest (Direction (along false 0 false 1)) cs (
+quarter_spelled R90 rest cs h = one_more (82 ∷ 32 ∷ 48 ∷ 32 ∷ 49 ∷ []) rest (Direction (vertex false 0 false 1)) cs (
   32 ∷ 48 ∷ 32 ∷ 49 ∷ [],
   refl,
   record {
@@ -82,7 +78,7 @@ quarter_spelled R90 rest cs h = one_more (82 ∷ 32 ∷ 48 ∷ 32 ∷ 49 ∷ [])
     y_is = signed false 49 1 one_spelled [] refl;
   },
 ) h
-quarter_spelled R180 rest cs h = one_more (82 ∷ 32 ∷ 45 ∷ 49 ∷ 32 ∷ 48 ∷ []) rest (Direction (along true 1 false 0)) cs (
+quarter_spelled R180 rest cs h = one_more (82 ∷ 32 ∷ 45 ∷ 49 ∷ 32 ∷ 48 ∷ []) rest (Direction (vertex true 1 false 0)) cs (
   32 ∷ 45 ∷ 49 ∷ 32 ∷ 48 ∷ [],
   refl,
   record {
@@ -95,7 +91,7 @@ quarter_spelled R180 rest cs h = one_more (82 ∷ 32 ∷ 45 ∷ 49 ∷ 32 ∷ 48
     y_is = signed false 48 0 zero_spelled [] refl;
   },
 ) h
-quarter_spelled R270 rest cs h = one_more (82 ∷ 32 ∷ 48 ∷ 32 ∷ 45 ∷ 49 ∷ []) rest (Direction (along false 0 true 1)) cs (
+quarter_spelled R270 rest cs h = one_more (82 ∷ 32 ∷ 48 ∷ 32 ∷ 45 ∷ 49 ∷ []) rest (Direction (vertex false 0 true 1)) cs (
   32 ∷ 48 ∷ 32 ∷ 45 ∷ 49 ∷ [],
   refl,
   record {

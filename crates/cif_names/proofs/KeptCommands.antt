@@ -8,6 +8,7 @@ use Rattle.std.proofs.lemmas.Bool.{and_parts, eqb-true}
 use Rattle.std.proofs.lemmas.Bool.Decides.{nat_tests}
 use Rattle.std.proofs.lemmas.List.Folds.{list_all-append}
 use Rattle.lay_point.specs.Names.{is_digit}
+use Rattle.lay_point.proofs.ListLaws.{all_push}
 use Rattle.byte_io.proofs.DigitLemmas.{decimal_is}
 use Rattle.cif_grammar.specs.declared.number.Number.{Number}
 use Rattle.cif_grammar.specs.Bytes.{is_blank, is_gap, skip}
@@ -23,7 +24,7 @@ use Rattle.cif_names.specs.Laws.{IsCommands, IsExtensionLine, IsLayeredLine, Kep
 use Rattle.cif_names.specs.Names.{kept_after, label_line, name_line, names_after, names_from, names_of, nothing, with_line}
 use Rattle.cif_names.specs.Places.{outside, place_after}
 use Rattle.cif_names.specs.Words.{field_at, is_between, is_coordinate_byte, is_dark, is_space, only_word, word_at, word_by}
-use Rattle.cif_names.proofs.KeptLines.{IsNamed, IsNamedPlace, IsSmall, all_push, all_weaker, bind_if, coordinate-small, map_if}
+use Rattle.cif_names.proofs.KeptLines.{IsNamed, IsNamedPlace, IsSmall, all_weaker, bind_if, coordinate-small, map_if}
 use Rattle.cif_names.proofs.KeptLines.{place_after-named}
 
 -- ---- bytes of which none is a semicolon

@@ -9,6 +9,7 @@ use Rattle.std.proofs.lemmas.Bool.Decides.{nat_tests}
 use Rattle.std.proofs.lemmas.Fmt.{decimal_by_steps}
 use Rattle.std.proofs.lemmas.List.Folds.{list_all-append}
 use Rattle.lay_point.specs.Names.{is_digit, is_layer_name, is_name_byte, layer_name_of}
+use Rattle.lay_point.proofs.ListLaws.{all_push}
 use Rattle.cif_grammar.specs.declared.number.Number.{Number}
 use Rattle.cif_grammar.specs.Bytes.{is_blank, skip}
 use Rattle.byte_io.specs.Steps.{◌>>=◌}
@@ -230,10 +231,6 @@ label_line-kept place bytes set = map_if label_text (label_of place bytes) IsPla
 
 abbrev AreKept : Names → Type 0
 AreKept kept = AllByRecursion IsKeptLine kept.entries
-
-pub all_push : {X : Type 0} (P : X → Type 0) (xs : List X) (x : X) → AllByRecursion P xs → P x → AllByRecursion P (xs ++ x ∷ [])
-all_push P [] x all p = (p, tt)
-all_push P (y ∷ ys) x all p = (all.0, all_push P ys x all.1 p)
 
 with_line-kept : (kept : Names) (symbol : Option ℕ) (o : Option (List ℕ)) → AreKept kept → IfSome o IsKept
     → AreKept (with_line kept symbol o)

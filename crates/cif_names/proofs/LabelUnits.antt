@@ -1,22 +1,15 @@
 -- A label's coordinates are the written ones at the definition's scale.
-use Rattle.std.proofs.Common.{◌≡◌, ℕ, ◌+◌, ◌*◌, ◌/◌, ◌%◌, ◌<◌, ◌≤◌, Bool, true, false, cond, Some, None, refl, sym, ap, ◌∙◌, arith}
+use Rattle.std.proofs.Common.{◌≡◌, ℕ, ◌*◌, ◌/◌, ◌%◌, ◌<◌, ◌≤◌, Bool, true, false, cond, Some, None, refl, sym, ap, ◌∙◌, arith}
 use Rattle.std.specs.Prelude.{◌==◌, nat_le}
 use Rattle.std.proofs.Math.Nat.{mul-div_left, mul-mod_left}
-use Rattle.std.proofs.lemmas.Bool.{eqb-true}
 use Rattle.std.proofs.lemmas.Bool.Decides.{nat_tests}
-use Rattle.std.proofs.lemmas.Nat.{div-add-mod'}
+use Rattle.cif_read.proofs.ScaleLemmas.{whole_quotient}
 use Rattle.cif_grammar.specs.declared.number.Number.{Number}
 use Rattle.cif_grammar.specs.declared.definitions.Scale.{Scale}
 use Rattle.cif_names.specs.Entries.{in_bits, limit_of, product_in_units, scaled_to_units}
 use Rattle.cif_names.specs.Laws.{IsDistanceInUnits, LabelsAreScaled}
 
 -- ---- quotients
-
-whole_quotient : (p d : ℕ) → (p % d == 0) ≡ true → p / d * d ≡ p
-whole_quotient p d h =
-    let zero : p % d ≡ 0 = eqb-true (p % d) 0 h in
-    let whole : p / d * d + 0 ≡ p = ap (λ r. p / d * d + r) (sym zero) ∙ div-add-mod' p d in
-    omega (arith, whole)
 
 -- ---- what is kept
 

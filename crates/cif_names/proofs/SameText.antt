@@ -9,6 +9,7 @@ use Rattle.cif_names.specs.declared.names.Entry.{Entry}
 use Rattle.cif_names.specs.declared.names.Names.{Names}
 use Rattle.cif_names.specs.Laws.{HasNoNames, IsKeptLine, is_empty, is_kept_line, is_line, unless_kept, without_names}
 use Rattle.byte_io.specs.Lines.{in_front, lines}
+use Rattle.byte_io.proofs.LineLemmas.{lines-other}
 use Rattle.cif_names.specs.Woven.{has_newline, heading, heading_of, is_kept_in, last_call, lines_in, started, with_names, woven, woven_line}
 
 -- ---- the lines of a text
@@ -16,9 +17,6 @@ use Rattle.cif_names.specs.Woven.{has_newline, heading, heading_of, is_kept_in, 
 none_left : (bs : List ℕ) → is_empty bs ≡ true → bs ≡ []
 none_left [] e = refl
 none_left (b ∷ bs) e = absurd cc
-
-lines-other : (b : ℕ) (bs : List ℕ) → (b == 10) ≡ false → lines (b ∷ bs) ≡ in_front b (lines bs)
-lines-other b bs e = ap (λ t. cond t ((b ∷ []) ∷ lines bs) (in_front b (lines bs))) e
 
 lines-newline : (b : ℕ) (bs : List ℕ) → (b == 10) ≡ true → lines (b ∷ bs) ≡ (b ∷ []) ∷ lines bs
 lines-newline b bs e = ap (λ t. cond t ((b ∷ []) ∷ lines bs) (in_front b (lines bs))) e

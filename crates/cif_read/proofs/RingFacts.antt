@@ -1,20 +1,18 @@
 -- What is drawn is a ring.
-use Rattle.std.proofs.Common.{◌≡◌, ◌≤◌, Bool, true, false, cond, List, [], length, Option, Some, None, Result, Ok, Err, refl, ap}
+use Rattle.std.proofs.Common.{◌≡◌, Bool, true, false, cond, List, [], Option, Some, None, Result, Ok, Err, refl, ap}
 use Rattle.std.proofs.Common.{arith, inl, inr, ◌<ℤ◌, ◌&&◌}
-use Rattle.std.specs.Prelude.{IfSome, nat_lt, not}
-use Rattle.std.specs.List.{list_all}
+use Rattle.std.specs.Prelude.{IfSome, not}
 use Rattle.std.proofs.lemmas.Bool.{and_parts}
 use Rattle.std.proofs.lemmas.Bool.Decides.{nat_tests}
 use Rattle.std.proofs.lemmas.Int.{ints}
 use Rattle.lay_point.specs.declared.point.Point.{Point}
 use Rattle.lay_point.specs.declared.ring.RingFault.{RingFault}
 use Rattle.lay_point.specs.declared.ring.RingFault.TheVariants.{FewPoints, NoMemory as NoRoom, OutOfRange, TooMany as ManyPoints}
-use Rattle.lay_point.specs.declared.ring.TheConstants.{MAX_RING_POINTS}
 use Rattle.lay_point.specs.Points.{is_in_range}
-use Rattle.lay_point.specs.Rings.{IsRing, NeighboursDiffer, checked_ring, closed, opened}
-use Rattle.lay_point.specs.Rings.{rectangle, ring_of, without_neighbours, without_repeats}
-use Rattle.lay_point.proofs.RingLemmas.{opened-apart}
-use Rattle.cif_grammar.proofs.Steps.{chosen_of}
+use Rattle.lay_point.specs.Rings.{IsRing}
+use Rattle.lay_point.specs.Rings.{rectangle, ring_of}
+use Rattle.lay_point.proofs.BridgeLemmas.{ring_of_is}
+use Rattle.byte_io.proofs.Steps.{chosen_of}
 use Rattle.cif_grammar.specs.declared.boxes.BoxNumbers.{BoxNumbers}
 use Rattle.cif_grammar.specs.declared.definitions.Scale.{Scale}
 use Rattle.cif_grammar.specs.declared.paths.Vertex.{Vertex}
@@ -32,23 +30,6 @@ taken {A} {E} true e r x h next = absurd (no e x h) where
   no : (e : E) (x : A) → ◌≡◌ {A = Result A E} (Err e) (Ok x) → ⊥
   no e x h = cc
 taken false e r x h next = next refl h
-
-checked_is : (kept ring : List Point) → (2 ≤ length kept → NeighboursDiffer (closed kept)) → checked_ring kept ≡ Ok ring → IsRing ring
-checked_is kept ring apart e =
-    taken (nat_lt (length kept) 3) _ _ ring e (λ enough e. taken (not (list_all is_in_range kept)) _ _ ring e (λ range e.
-    taken (nat_lt MAX_RING_POINTS (length kept)) _ _ ring e (λ few e.
-    let same : kept ≡ ring = cc in
-    let three : 3 ≤ length kept = grind (arith, nat_tests) in
-    rw (← same) (record {
-      enough = three;
-      few = grind (arith, nat_tests);
-      in_range = grind (arith, nat_tests);
-      apart = apart (omega arith);
-    }))))
-
-ring_is : (points ring : List Point) → ring_of points ≡ Ok ring → IsRing ring
-unfolding ring_of without_repeats
-ring_is points ring e = checked_is (opened (without_neighbours points)) ring (opened-apart points) e
 
 -- what may be drawn
 abbrev pub IsDrawing : Option (List Point) → Type 0
@@ -68,7 +49,7 @@ or_none (Err NoRoom) ring is e = absurd cc
 
 of_points : (found : Option (List Point)) (ring : Option (List Point)) → ring_of_points found ≡ Ok ring → IsDrawing ring
 of_points None ring e = absurd cc
-of_points (Some points) ring e = or_none (ring_of points) ring (ring_is points) e
+of_points (Some points) ring e = or_none (ring_of points) ring (ring_of_is points) e
 
 pub polygon_drawing : (scale : Scale) (vertices : List Vertex) (ring : Option (List Point)) → polygon_at scale vertices ≡ Ok ring
     → IsDrawing ring

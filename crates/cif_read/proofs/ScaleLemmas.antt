@@ -13,8 +13,8 @@ use Rattle.cif_grammar.specs.declared.definitions.Scale.{Scale}
 use Rattle.cif_read.specs.Scales.{IsRatio, is_whole, scaled}
 
 -- a quotient without a remainder
-exact : (n d : ℕ) → (n % d == 0) ≡ true → n / d * d ≡ n
-exact n d h =
+pub whole_quotient : (n d : ℕ) → (n % d == 0) ≡ true → n / d * d ≡ n
+whole_quotient n d h =
     let none : n % d ≡ 0 = eqb-true (n % d) 0 h in
     let whole : d * (n / d) + n % d ≡ n = div-add-mod n d in
     let turned : n / d * d ≡ d * (n / d) = mul_comm (n / d) d in
@@ -28,12 +28,12 @@ pub scaled_exact : (scale : Scale) (v : ℤ) → is_whole scale v ≡ true
 unfolding is_whole scaled
 scaled_exact scale (pos n) h =
     let q = n * scale.numerator / scale.denominator in
-    rw (not_negative n) (pos-*ℤ-pos q scale.denominator ∙ ap pos (exact (n * scale.numerator) scale.denominator h)
+    rw (not_negative n) (pos-*ℤ-pos q scale.denominator ∙ ap pos (whole_quotient (n * scale.numerator) scale.denominator h)
     ∙ sym (pos-*ℤ-pos n scale.numerator))
 scaled_exact scale (negsuc n) h =
     let q = suc n * scale.numerator / scale.denominator in
     neg_ℤ-*ℤ (pos q) (pos scale.denominator) ∙ ap neg_ℤ (pos-*ℤ-pos q scale.denominator
-    ∙ ap pos (exact (suc n * scale.numerator) scale.denominator h)) ∙ sym (negsuc-*ℤ-pos n scale.numerator)
+    ∙ ap pos (whole_quotient (suc n * scale.numerator) scale.denominator h)) ∙ sym (negsuc-*ℤ-pos n scale.numerator)
 
 pub scaled_rises : (scale : Scale) (v w : ℤ) → IsRatio scale → is_whole scale v ≡ true → is_whole scale w ≡ true → v <ℤ w
     → scaled scale v <ℤ scaled scale w

@@ -16,7 +16,7 @@ use Rattle.lay_cells.specs.declared.cell_id.CellId.{CellId}
 use Rattle.lay_cells.specs.declared.cell_id.CellId.TheVariants.{Symbol, Top}
 use Rattle.lay_cells.specs.declared.cells.TheConstants.{MAX_SYMBOL}
 use Rattle.lay_cells.specs.Symbols.{has_cell, has_symbol}
-use Rattle.cif_grammar.proofs.Steps.{bind_some, chosen_of}
+use Rattle.byte_io.proofs.Steps.{bind_some, chosen_of}
 use Rattle.cif_grammar.specs.declared.boxes.BoxNumbers.{BoxNumbers}
 use Rattle.cif_grammar.specs.declared.paths.Vertex.{Vertex}
 use Rattle.cif_grammar.specs.declared.calls.Change.{Change}

@@ -16,6 +16,7 @@ use Rattle.std.specs.Ordering.{is_eq, is_lt, nat_cmp, ordering_then}
 use Rattle.std.proofs.lemmas.Bool.Decides.{Decides-eqb}
 use Rattle.std.proofs.lemmas.Cmp.{tied_itself}
 use Rattle.std.proofs.lemmas.List.Elements.{filter-append}
+use Rattle.std.proofs.lemmas.Bool.{not-true}
 use Rattle.lay_point.proofs.BoolLaws.{Less_by_test}
 use Rattle.lay_point.proofs.ListLaws.{all_weaker}
 use Rattle.lay_pages.specs.Written.{from_key}
@@ -62,10 +63,6 @@ passes_all {A} p (x ∷ xs) = cases (p x) refl (passes_all p xs) where
       → AllByRecursion (λ x. p x ≡ true) (cond b (x ∷ filter p xs) (filter p xs))
   cases true is rest = (is, rest)
   cases false is rest = rest
-
-pub not_true : (b : Bool) → not b ≡ true → b ≡ false
-not_true true h = absurd cc
-not_true false h = refl
 
 -- ---- entries in order
 
@@ -216,7 +213,7 @@ is_next group id marks sorted = cases (from_key mark_cmp (mark_at group id) mark
         parted : (s : ItemId) (b : Bool) → not (is_lt (mark_cmp (mark_at group s) (mark_at group id))) ≡ b
             → cond b (find mark_cmp (mark_at group s) marks) None ≡ Some tt
             → HasMark marks (mark_at group s) × (is_lt (id_cmp s id) ≡ false)
-        parted s true above here = (here, ap is_lt (sym (one_group group s id)) ∙ not_true _ above)
+        parted s true above here = (here, ap is_lt (sym (one_group group s id)) ∙ not-true _ above)
         parted s false above here = absurd cc
 
 -- ---- the items from there on

@@ -8,6 +8,7 @@ use Rattle.std.specs.List.{AllByRecursion}
 use Rattle.std.specs.List.Sorted.{IsStrictlySortedBy}
 use Rattle.std.specs.Map.{keys_of}
 use Rattle.std.specs.Ordering.{eq_by_cmp, is_eq}
+use Rattle.std.proofs.lemmas.Option.{same_Some}
 use Rattle.lay_point.proofs.BoolLaws.{true_by_T}
 use Rattle.lay_cells.specs.declared.cell_id.CellId.{CellId}
 use Rattle.lay_cells.specs.Walks.{IsAcyclic}
@@ -176,9 +177,6 @@ turned_sound l (Shape cell layer rings) (Shape cell' layer' rings') turned sound
 turned_sound l (Shape cell layer rings) (Placed cell' target turn) turned sound = absurd turned
 turned_sound l (Placed cell target turn) y turned sound = absurd turned
 
-same_value : (x y : Item) → Some x ≡ Some y → x ≡ y
-same_value x y h = cc
-
 -- what is found of the first, or behind it
 sound_first : (l : Layout) (q id : ItemId) (x y : Item) (found old : Option Item)
     → (IsSoundItem l x → IsSoundItem l y)
@@ -189,7 +187,7 @@ sound_first l q id x y found old keeps all behind = by (id_cmp q id) all where
   by : (o : Ordering) → ((z : Item) → cond (is_eq o) (Some x) old ≡ Some z → IsSoundItem l z)
       → (z : Item) → cond (is_eq o) (Some y) found ≡ Some z → IsSoundItem l z
   by Less sound z there = behind sound z there
-  by Equal sound z there = subst (IsSoundItem l) (same_value y z there) (keeps (sound x refl))
+  by Equal sound z there = subst (IsSoundItem l) (same_Some y z there) (keeps (sound x refl))
   by Greater sound z there = behind sound z there
 
 sound-after : (l : Layout) (q : ItemId) (es : List (ItemId × Item)) (ws : List Write) (n : List (CellId × ItemId)) (is : AreWrites es ws n)

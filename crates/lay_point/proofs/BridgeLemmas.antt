@@ -1,11 +1,14 @@
 -- The bridged path of rings is a ring, where it isn't too long, and one ring is its own bridged path.
 use Rattle.std.proofs.Common.{◌≡◌, ◌≢◌, ◌≤◌, suc, List, [], ◌∷◌, ◌++◌, length, Bool, true, false, cond}
-use Rattle.std.proofs.Common.{Ok, refl, ap, sym, ◌∙◌, subst, arith, length-append, append_assoc}
+use Rattle.std.proofs.Common.{Result, Ok, Err, refl, ap, sym, ◌∙◌, subst, arith, length-append, append_assoc}
+use Rattle.std.specs.Prelude.{nat_lt, not}
 use Rattle.std.specs.List.{list_all, AllByRecursion}
 use Rattle.std.proofs.lemmas.Bool.Decides.{nat_tests}
 use Rattle.std.proofs.lemmas.List.Folds.{list_all-append}
-use Rattle.std.proofs.lemmas.Bool.{and_parts}
+use Rattle.std.proofs.lemmas.Bool.{and_parts, not-false}
 use Rattle.lay_point.specs.declared.point.Point.{Point}
+use Rattle.lay_point.specs.declared.ring.RingFault.{RingFault}
+use Rattle.lay_point.specs.declared.ring.RingFault.TheVariants.{FewPoints, OutOfRange, TooMany}
 use Rattle.lay_point.specs.declared.ring.TheConstants.{MAX_RING_POINTS}
 use Rattle.lay_point.specs.Bridges.{bridged, further}
 use Rattle.lay_point.specs.Points.{is_in_range, point_eq}
@@ -50,6 +53,32 @@ pub ring_of_ring : (points : List Point) → IsRing points → ring_of points �
 unfolding ring_of
 ring_of_ring points h =
     ap checked_ring (without_repeats_of_ring points h) ∙ checked_ring_of_ring points h.enough h.few h.in_range
+
+-- ---- points that are accepted make a ring
+taken : (test : Bool) (fault : RingFault) (rest : Result (List Point) RingFault) (ring : List Point) →
+    cond test (Err fault) rest ≡ Ok ring → (test ≡ false) × (rest ≡ Ok ring)
+taken true fault rest ring h = absurd cc
+taken false fault rest ring h = (refl, h)
+
+checked_is : (kept ring : List Point) → (2 ≤ length kept → NeighboursDiffer (closed kept)) → checked_ring kept ≡ Ok ring → IsRing ring
+checked_is kept ring apart h =
+    let third : Result (List Point) RingFault = cond (nat_lt MAX_RING_POINTS (length kept)) (Err TooMany) (Ok kept) in
+    let second : Result (List Point) RingFault = cond (not (list_all is_in_range kept)) (Err OutOfRange) third in
+    let enough = taken (nat_lt (length kept) 3) FewPoints second ring h in
+    let range = taken (not (list_all is_in_range kept)) OutOfRange third ring enough.1 in
+    let few = taken (nat_lt MAX_RING_POINTS (length kept)) TooMany (Ok kept) ring range.1 in
+    let same : kept ≡ ring = cc (few.1) in
+    let three : 3 ≤ length kept = grind (arith, nat_tests, enough.0) in
+    subst IsRing same (record {
+      enough = three;
+      few = grind (arith, nat_tests, few.0);
+      in_range = not-false (list_all is_in_range kept) range.0;
+      apart = apart (omega arith);
+    })
+
+pub ring_of_is : (points ring : List Point) → ring_of points ≡ Ok ring → IsRing ring
+unfolding ring_of without_repeats
+ring_of_is points ring h = checked_is (opened (without_neighbours points)) ring (opened-apart points) h
 
 -- ---- one ring
 pub bridged_one : (ring : List Point) → IsRing ring → bridged (ring ∷ []) ≡ ring

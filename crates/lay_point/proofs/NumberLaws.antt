@@ -1,7 +1,8 @@
 -- Laws of numbers: of products with nothing, and of equality and order.
-use Rattle.std.proofs.Common.{◌≡◌, ℕ, ◌<◌, true, [], ◌∷◌, ℤ, pos, ◌*ℤ◌, refl, ap, ◌∙◌, arith}
+use Rattle.std.proofs.Common.{◌≡◌, ℕ, suc, ◌<◌, true, false, [], ◌∷◌, ℤ, pos, ◌*ℤ◌, refl, ap, ◌∙◌, arith}
+use Rattle.std.specs.Prelude.{◌==◌}
 use Rattle.std.specs.Ordering.{int_eq}
-use Rattle.std.proofs.lemmas.Bool.Decides.{Decides-int_eq}
+use Rattle.std.proofs.lemmas.Bool.Decides.{Decides-int_eq, nat_tests}
 use Rattle.lay_point.proofs.Polynomials.{#, lit, ◌⊗◌, identity}
 use Rattle.lay_point.proofs.Rising.{IsStrictOrder}
 
@@ -13,6 +14,9 @@ times_none z w e = ap (λ u. z *ℤ u) e ∙ identity (z ∷ []) (# 0 ⊗ lit (p
 
 pub int_eq-same : (a b : ℤ) → a ≡ b → int_eq a b ≡ true
 int_eq-same a b e = (Decides-int_eq a b).1 e
+
+pub suc_zero : (n : ℕ) → (suc n == 0) ≡ false
+suc_zero n = grind (arith, nat_tests)
 
 pub numbers_are_strict : IsStrictOrder (λ (m n : ℕ). m < n)
 numbers_are_strict = record { irreflexive = λ n h. omega arith; transitive = λ l m n h g. omega arith }

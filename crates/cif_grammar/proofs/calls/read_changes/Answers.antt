@@ -1,6 +1,7 @@
 use Rattle.std.proofs.Common.{rules, ◌≡◌, ◌∙◌, sym, Some, None, [], ◌∷◌, ◌++◌, length, ◌+◌, ◌≤◌, subst, List, ℕ}
+use Rattle.std.proofs.lemmas.List.{nil_from_length}
 use Rattle.cif_grammar.specs.Calls.{change_at, changes_from, changes_of}
-use Rattle.cif_grammar.proofs.CallSteps.{behind_shorter, changes_begun, changes_done, changes_none, changes_step, no_bytes}
+use Rattle.cif_grammar.proofs.CallSteps.{behind_shorter, changes_begun, changes_done, changes_none, changes_step}
 use Rattle.cif_grammar.proofs.calls.read_changes.Goals as goal
 
 pub loop-rest-init : goal.loop-rest-init
@@ -31,7 +32,7 @@ loop-rest-preserved c =
 pub returns : goal.returns
 returns c =
     let none : length c.loop-rest.rest.now ≡ 0 = search rules in
-    let empty = no_bytes c.loop-rest.rest.now none in
+    let empty = nil_from_length c.loop-rest.rest.now none in
     let all : changes_from (length {A = ℕ} [] + 1) c.loop-rest.changes.items [] ≡ changes_of c.args.bytes.now =
     subst (λ (t : List ℕ). changes_from (length t + 1) c.loop-rest.changes.items t ≡ changes_of c.args.bytes.now) empty
     c.loop-rest.invariant in

@@ -1,8 +1,8 @@
 use Rattle.std.proofs.Common.{rules, ◌≡◌, ◌∷◌, inr, sym, refl, true, false}
 use Rattle.std.specs.Prelude.{◌==◌}
+use Rattle.std.proofs.lemmas.List.{nil_from_length}
 use Rattle.lay_point.specs.Names.{is_digit}
 use Rattle.cif_grammar.specs.Bytes.{is_blank, skip}
-use Rattle.cif_grammar.proofs.CallSteps.{no_bytes}
 use Rattle.cif_read.proofs.Dispatch.{box_piece, bracket_piece, call_piece, comment_leaves}
 use Rattle.cif_read.proofs.Dispatch.{comment_piece, empty_piece, extension_piece, flash_piece, layer_piece}
 use Rattle.cif_read.proofs.Dispatch.{other_piece, polygon_piece, wire_piece}
@@ -10,7 +10,7 @@ use Rattle.cif_read.proofs.content.Content.apply.Goals as goal
 
 pub returns-in_default : goal.returns-in_default
 returns-in_default c =
-    let none = no_bytes c.args.bytes.now c.in_default.ensures.cases in
+    let none = nil_from_length c.args.bytes.now c.in_default.ensures.cases in
     rw none (inr (sym (empty_piece c.args.self.now c.args.offset)))
 
 pub returns-in-80 : goal.returns-in-80
