@@ -1,10 +1,11 @@
 -- Calls of a session at rising places, all in the log, are all its calls where they are as many.
-use Rattle.std.proofs.Common.{◌≡◌, ℕ, ◌+◌, ◌-◌, ◌≤◌, Bool, true, false, ◌==◌, List, [], ◌∷◌, length, None, Some, suc}
+use Rattle.std.proofs.Common.{◌≡◌, ℕ, ◌+◌, ◌-◌, ◌≤◌, Bool, true, false, ◌==◌, List, [], ◌∷◌, length, Some, suc}
 use Rattle.std.proofs.Common.{refl, ap, sym, ◌∙◌, subst, arith, rules, inl, inr}
 use Rattle.std.proofs.lemmas.Bool.{cases_eq}
 use Rattle.std.proofs.lemmas.Bool.Decides.{nat_tests}
 use Rattle.std.specs.List.{AllByRecursion}
 use Rattle.std.specs.Prelude.{slice_get}
+use Rattle.std.proofs.lemmas.Option.{same_Some}
 use Rattle.undo_rules.specs.declared.log.Logged.{Logged}
 use Rattle.desk_rules.specs.declared.kept.Kept.{Kept}
 use Rattle.desk_rules.specs.Seats.{AreCallsRising, IsIn, own_from, with_own}
@@ -16,9 +17,6 @@ IsFrom p log k = slice_get log (k.place - p) ≡ Some k.logged
 
 abbrev pub AreFrom : ℕ → List Logged → List Kept → Type 0
 AreFrom p log own = AllByRecursion (IsFrom p log) own
-
-some_same : {X : Type 0} (x y : X) → Some x ≡ Some y → x ≡ y
-some_same x y e = ap (λ o. elim o [ None ↦ x | Some z ↦ z ]) e
 
 rising_lower : (s p q : ℕ) (own : List Kept) → q ≤ p → AreCallsRising s p own → AreCallsRising s q own
 rising_lower s p q [] less r = tt
@@ -43,7 +41,7 @@ length_with false k ks = search rules
 here : (p : ℕ) (c : Logged) (cs : List Logged) (k : Kept) → k.place ≡ p → IsFrom p (c ∷ cs) k → c ≡ k.logged
 here p c cs k at is =
     let z : k.place - p ≡ 0 = omega (arith, at) in
-    some_same c k.logged (sym (ap (slice_get (c ∷ cs)) z) ∙ is)
+    same_Some c k.logged (sym (ap (slice_get (c ∷ cs)) z) ∙ is)
 
 same_session : (a b : ℕ) → a ≡ b → (a == b) ≡ true
 same_session a b e = grind (arith, nat_tests)

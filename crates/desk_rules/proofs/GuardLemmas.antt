@@ -1,6 +1,6 @@
 -- What is behind the lock keeps what it keeps, call by call.
 use Rattle.std.proofs.Common.{◌≡◌, ℕ, ◌+◌, ◌-◌, ◌<◌, ◌≤◌, Bool, true, false, ◌==◌, ◌&&◌, List, [], ◌∷◌, ◌++◌, length, Option, None, Some}
-use Rattle.std.proofs.Common.{refl, ap, sym, ◌∙◌, subst, arith, rules, inl, inr, nat_le, nat_lt, slice_index, slice_set, zero, suc}
+use Rattle.std.proofs.Common.{refl, ap, sym, ◌∙◌, subst, arith, rules, inl, inr, nat_le, nat_lt, slice_index, slice_set}
 use Rattle.std.proofs.lemmas.Bool.{and_parts, cases_eq}
 use Rattle.std.proofs.lemmas.Bool.Decides.{nat_tests}
 use Rattle.std.proofs.lemmas.Grind.{get_or-set_at}
@@ -13,6 +13,7 @@ use Rattle.undo_rules.specs.declared.log.Logged.{Logged}
 use Rattle.desk_rules.proofs.SameLemmas.{logged_exact}
 use Rattle.undo_rules.specs.Books.{History}
 use Rattle.undo_rules.specs.Steps.{fresh}
+use Rattle.undo_rules.proofs.Logs.{get-push}
 use Rattle.desk_rules.specs.declared.kept.Kept.{Kept}
 use Rattle.lay_layouts.specs.Sound.{IsSound}
 use Rattle.desk_rules.specs.Guards.{AreCallCounts, Fits, Guard, IsGuard, has_last, ones, with_one_counted}
@@ -142,18 +143,13 @@ guard_same g next session call (Some answer) kept stepped less =
     let a = length-append g.book.log (record { session = session; call = call; answer = answer } ∷ []) in
     absurd (less (omega (arith, l, a)))
 
-get_more : {X : Type 0} (xs : List X) (y : X) (i : ℕ) (x : X) → slice_get xs i ≡ Some x → slice_get (xs ++ y ∷ []) i ≡ Some x
-get_more [] y i x e = absurd (grind rules)
-get_more (z ∷ zs) y zero x e = e
-get_more (z ∷ zs) y (suc i) x e = get_more zs y i x e
-
 get_end : {X : Type 0} (xs : List X) (y : X) → slice_get (xs ++ y ∷ []) (length xs) ≡ Some y
 get_end [] y = refl
 get_end (z ∷ zs) y = get_end zs y
 
 last_in_more : (log : List Logged) (c : Logged) (last : Option Kept) → IsLastIn log last → IsLastIn (log ++ c ∷ []) last
 last_in_more log c None found = tt
-last_in_more log c (Some k) found = get_more log c k.place k.logged found
+last_in_more log c (Some k) found = get-push log c k.place k.logged found
 
 last_below : (log : List Logged) (last : Option Kept) → IsLastIn log last → IsPastCall (length log) last
 last_below log None found = tt

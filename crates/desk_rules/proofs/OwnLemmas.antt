@@ -7,6 +7,7 @@ use Rattle.undo_rules.specs.declared.log.Logged.{Logged}
 use Rattle.desk_rules.specs.declared.kept.Kept.{Kept}
 use Rattle.desk_rules.specs.Guards.{ones}
 use Rattle.desk_rules.specs.Seats.{AreCallsRising, IsPastCall, last_behind, last_of, own_from, with_own}
+use Rattle.desk_rules.proofs.FitLemmas.{length_with}
 
 with_own-append : (b : Bool) (k : Kept) (ks xs : List Kept) → with_own b k (ks ++ xs) ≡ with_own b k ks ++ xs
 with_own-append true k ks xs = refl
@@ -26,10 +27,6 @@ own_from-push s p (d ∷ ds) c =
     ∙ ap (λ n. with_own (d.session == s) (record { place = p; logged = d }) (own_from s (p + 1) ds)
     ++ with_own (c.session == s) (record { place = n; logged = c }) []) e
 
-length-with_own : (b : Bool) (k : Kept) (ks : List Kept) → length (with_own b k ks) ≡ length ks + ones b
-length-with_own true k ks = search rules
-length-with_own false k ks = search rules
-
 ones_le : (b : Bool) → ones b ≤ 1
 ones_le true = search rules
 ones_le false = search rules
@@ -39,14 +36,14 @@ pub length-own-push : (s p : ℕ) (log : List Logged) (c : Logged)
 length-own-push s p log c =
     let pushed = ap length (own_from-push s p log c) in
     let both = length-append (own_from s p log) (with_own (c.session == s) (record { place = p + length log; logged = c }) []) in
-    let one = length-with_own (c.session == s) (record { place = p + length log; logged = c }) [] in
+    let one = length_with (c.session == s) (record { place = p + length log; logged = c }) [] in
     omega (arith, pushed, both, one)
 
 pub own_le : (s p : ℕ) (log : List Logged) → length (own_from s p log) ≤ length log
 own_le s p [] = omega arith
 own_le s p (c ∷ cs) =
     let h = own_le s (p + 1) cs in
-    let l = length-with_own (c.session == s) (record { place = p; logged = c }) (own_from s (p + 1) cs) in
+    let l = length_with (c.session == s) (record { place = p; logged = c }) (own_from s (p + 1) cs) in
     let o = ones_le (c.session == s) in omega (arith, h, l, o)
 
 -- the call that was made last, as `last` finds it

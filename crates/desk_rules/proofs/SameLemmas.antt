@@ -1,6 +1,6 @@
 -- The test of two logged calls tells exactly.
 use Rattle.std.proofs.Common.{◌≡◌, ◌&&◌, ◌==◌, true, false, ap, refl}
-use Rattle.std.proofs.lemmas.Bool.{and_parts}
+use Rattle.std.proofs.lemmas.Bool.{and_parts, false≢true}
 use Rattle.std.proofs.lemmas.Bool.Decides.{Decides-eqb}
 use Rattle.undo_rules.specs.declared.log.Logged.{Logged}
 use Rattle.undo_rules.specs.declared.log.Answer.{Answer}
@@ -19,10 +19,6 @@ use Rattle.undo_rules.specs.declared.log.Call.TheVariants.{Commit, Open, Redo, U
 use Rattle.std.specs.Cmp.Lexicographic.{pointwise}
 use Rattle.desk_rules.specs.Same.{logged_eq}
 
--- no two values of different variants pass the test
-no : {A : Type 0} → false ≡ true → A
-no e = absurd cc
-
 fault_exact : (p q : BookFault) → (fault.ghosts).eq p q ≡ true → p ≡ q
 fault_exact NoTxn NoTxn e = refl
 fault_exact NotLive NotLive e = refl
@@ -34,7 +30,7 @@ fault_exact LogFull LogFull e = refl
 fault_exact NoMemory NoMemory e = refl
 fault_exact Foreign Foreign e = refl
 fault_exact SessionFull SessionFull e = refl
-fault_exact p q e = no e
+fault_exact p q e = absurd (false≢true e)
 
 answer_exact : (p q : Answer) → (answer.ghosts).eq p q ≡ true → p ≡ q
 answer_exact (Opened m) (Opened n) e = ap Opened ((Decides-eqb m n).0 e)
@@ -42,7 +38,7 @@ answer_exact Committed Committed e = refl
 answer_exact Undone Undone e = refl
 answer_exact Redone Redone e = refl
 answer_exact (Refused f) (Refused g) e = ap Refused (fault_exact f g e)
-answer_exact p q e = no e
+answer_exact p q e = absurd (false≢true e)
 
 call_exact : (c d : Call) → (call.ghosts).eq c d ≡ true → c ≡ d
 call_exact Open Open e = refl
@@ -51,7 +47,7 @@ call_exact (Commit s cs) (Commit t ds) e =
     λ i. Commit (txn_exact s t parts.0 i) (commands_exact cs ds parts.1 i)
 call_exact (Undo s) (Undo t) e = ap Undo (txn_exact s t e)
 call_exact (Redo s) (Redo t) e = ap Redo (txn_exact s t e)
-call_exact c d e = no e
+call_exact c d e = absurd (false≢true e)
 
 pub logged_exact : (a b : Logged) → logged_eq a b ≡ true → a ≡ b
 logged_exact a b e =

@@ -1,7 +1,7 @@
 -- The derived test of two commands tells exactly.
 use Rattle.std.proofs.Common.{◌≡◌, ◌&&◌, ◌==◌, true, false, ℕ, List, [], ◌∷◌, ap, refl, rules}
 use Rattle.std.specs.Ordering.{int_eq}
-use Rattle.std.proofs.lemmas.Bool.{and_parts}
+use Rattle.std.proofs.lemmas.Bool.{and_parts, false≢true}
 use Rattle.std.proofs.lemmas.Bool.Decides.{Decides-eqb, Decides-int_eq}
 use Rattle.std.proofs.lemmas.Slice.Eq.{bytes_eq-Decides}
 use Rattle.std.specs.Cmp.Lexicographic.{pointwise}
@@ -35,10 +35,6 @@ use Rattle.txn_commands.specs.declared.command.Command.TheVariants.{
   SetLayer,
 }
 use Rattle.txn_commands.specs.declared.command.TxnId.{TxnId}
-
--- no two values of different variants pass the test
-no : {A : Type 0} → false ≡ true → A
-no e = absurd cc
 
 point_exact : (p q : Point) → (point.ghosts).eq p q ≡ true → p ≡ q
 point_exact p q e = (point_eq-Decides p q).0 e
@@ -98,7 +94,7 @@ command_exact (Bool o c a b l) (Bool p d x y m) e =
     (name_exact l m four.1 i)
 command_exact (MakeCell m) (MakeCell n) e = ap MakeCell ((Decides-eqb m n).0 e)
 command_exact (DropCell m) (DropCell n) e = ap DropCell ((Decides-eqb m n).0 e)
-command_exact c d e = no e
+command_exact c d e = absurd (false≢true e)
 
 pub commands_exact : (cs ds : List Command) → pointwise (command.ghosts).eq cs ds ≡ true → cs ≡ ds
 commands_exact [] [] e = refl

@@ -9,9 +9,10 @@ use Rattle.std.specs.FinMap.{get-from_sorted, is_sorted, same_map}
 use Rattle.std.specs.FinMap.Entries.{below_all, find-where_key, is_sorted-where_key, where_key}
 use Rattle.std.specs.List.{AllByRecursion, filter, list_any}
 use Rattle.std.specs.Ordering.{eq_by_cmp, is_eq, is_lt, ordering_reverse}
+use Rattle.lay_point.proofs.ListLaws.{all_weaker}
 use Rattle.txn_commands.specs.Agreement.{AreAlike}
 use Rattle.txn_commands.specs.Lies.{passes}
-use Rattle.txn_commands.proofs.Lists.{all_both, all_weaker}
+use Rattle.txn_commands.proofs.Lists.{all_both}
 use Rattle.txn_commands.proofs.Maps.{same_key}
 
 pub first_of_two : (a b : Bool) → T (a && b) → T a

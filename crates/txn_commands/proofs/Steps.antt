@@ -174,7 +174,7 @@ entries_back : (es : List (ItemId × Change items.Item)) → map entry_of (map r
 entries_back [] = refl
 entries_back (e ∷ es) = ap (λ fs. e ∷ fs) (entries_back es)
 
-cell_entries_back : (es : List (ℕ × Change CellSlot)) → map cell_entry_of (map cell_record_of es) ≡ es
+pub cell_entries_back : (es : List (ℕ × Change CellSlot)) → map cell_entry_of (map cell_record_of es) ≡ es
 cell_entries_back [] = refl
 cell_entries_back (e ∷ es) = ap (λ fs. e ∷ fs) (cell_entries_back es)
 

@@ -22,7 +22,7 @@ use Rattle.txn_commands.specs.Records.{records_between}
 use Rattle.txn_commands.specs.Records.{slot_befores, slot_change_at}
 use Rattle.txn_rules.proofs.LawProofs.{changes_merge, slot_changes_merge}
 use Rattle.txn_commands.proofs.Maps.{get-put}
-use Rattle.txn_commands.proofs.Steps.{cell_entry_of, recorded_change-find, entry_of, rising_again, slot_change_at-find}
+use Rattle.txn_commands.proofs.Steps.{cell_entry_of, recorded_change-find, entry_of, rising_again, slot_change_at-find, cell_entries_back}
 use Rattle.txn_marks.specs.WritesOf.{Merges, MergesSymbol}
 
 -- the records of changes have all that these have
@@ -30,15 +30,11 @@ changes_again : (es : List (ItemId × Change Item)) → map entry_of (map record
 changes_again [] = refl
 changes_again (e ∷ es) = ap (λ fs. e ∷ fs) (changes_again es)
 
-cells_again : (es : List (ℕ × Change CellSlot)) → map cell_entry_of (map cell_record_of es) ≡ es
-cells_again [] = refl
-cells_again (e ∷ es) = ap (λ fs. e ∷ fs) (cells_again es)
-
 same_changes : (es fs : List (ItemId × Change Item)) → map record_of es ≡ map record_of fs → es ≡ fs
 same_changes es fs same = sym (changes_again es) ∙ ap (map entry_of) same ∙ changes_again fs
 
 same_cells : (es fs : List (ℕ × Change CellSlot)) → map cell_record_of es ≡ map cell_record_of fs → es ≡ fs
-same_cells es fs same = sym (cells_again es) ∙ ap (map cell_entry_of) same ∙ cells_again fs
+same_cells es fs same = sym (cell_entries_back es) ∙ ap (map cell_entry_of) same ∙ cell_entries_back fs
 
 find_lookup : {K V : Type 0} (R : K → K → Ordering) (es : List (K × V)) (q : K) → find R q es ≡ lookup (is_at (R q)) es
 find_lookup R [] q = refl
@@ -51,7 +47,8 @@ change_there es id = sym (recorded_change-find (map record_of es) id ∙ ap (fin
 pub cell_change_there : (es : List (ℕ × Change CellSlot)) (number : ℕ) →
     lookup (is_at (nat_cmp number)) es ≡ slot_change_at (map cell_record_of es) number
 cell_change_there es number =
-    sym (slot_change_at-find (map cell_record_of es) number ∙ ap (find nat_cmp number) (cells_again es) ∙ find_lookup nat_cmp es number)
+    sym (slot_change_at-find (map cell_record_of es) number ∙ ap (find nat_cmp number) (cell_entries_back es)
+    ∙ find_lookup nat_cmp es number)
 
 module _ {K V : Type 0} {R : K → K → Ordering} (total : IsTotalOrder R) (exact : IsAntisymmetric R) where
   -- entries that differ at one key make maps that differ there

@@ -4,7 +4,6 @@ use Rattle.std.proofs.Common.{refl, ap, ap₂, sym, subst, ◌∙◌}
 use Rattle.std.proofs.lemmas.Bool.Decides.{Decides-and, Decides-eqb, Decides-like}
 use Rattle.std.proofs.lemmas.Slice.Eq.{bytes_eq-Decides, slice_eq-Decides}
 use Rattle.std.specs.Bool.{Decides}
-use Rattle.std.specs.Cmp.{decided}
 use Rattle.std.specs.declared.cmp.Ordering.{Ordering}
 use Rattle.std.specs.Cmp.Lexicographic.{pointwise}
 use Rattle.std.specs.FinMap.{IsAntisymmetric, entries, find, get, get-entries}
@@ -17,6 +16,7 @@ use Rattle.lay_cells.specs.contracts.cell_id.CellIdPartialEq.TheImpl as cell_imp
 use Rattle.lay_cells.specs.declared.cell_id.CellId.{CellId}
 use Rattle.lay_cells.specs.declared.cell_id.CellId.TheVariants.{Symbol, Top}
 use Rattle.lay_cells.specs.SameCell.{cell_eq, cell_eq-Decides}
+use Rattle.lay_cells.proofs.GraphLemmas.{cells_swapped}
 use Rattle.lay_layouts.specs.contracts.item.ItemPartialEq.TheImpl as item_impl
 use Rattle.lay_layouts.specs.declared.id.ItemId.{ItemId}
 use Rattle.lay_layouts.specs.declared.item.Item as item
@@ -223,9 +223,6 @@ nothing_again : {X Y : Type 0} (again : Y → X) (b : Bool) → None ≡ option_
 nothing_again again true = refl
 nothing_again again false = refl
 
-cell_turned : (c d : CellId) → cell_eq c d ≡ cell_eq d c
-cell_turned = (decided cell_eq cell_eq-Decides).symm
-
 and_regroup : (a b c : Bool) → (a && (b && c)) ≡ ((a && b) && c)
 and_regroup true b c = refl
 and_regroup false b c = refl
@@ -243,7 +240,7 @@ module _ (c : CellId) (x : List ℕ) where
   shape_fits id (Placed cell target turn) = nothing_again shape_again (cell_eq cell c)
   shape_fits id (Shape cell name rings) =
       by_tests (cell_eq c cell) (names_eq x name) refl refl
-      ∙ ap₂ (λ a b. option_map shape_again (cond a (cond b (Some (id, rings)) None) None)) (cell_turned c cell)
+      ∙ ap₂ (λ a b. option_map shape_again (cond a (cond b (Some (id, rings)) None) None)) (cells_swapped c cell)
       (names_eq_equiv.symm x name) where
         by_tests : (a b : Bool) → cell_eq c cell ≡ a → names_eq x name ≡ b →
             cond (a && b) (Some (id, Shape cell name rings)) None ≡ option_map shape_again (cond a (cond b (Some (id, rings)) None) None)
@@ -277,7 +274,7 @@ module _ (c : CellId) where
       ≡ option_map call_again (cond (cell_eq (cell_of v) c) (call_lent id v) None)
   call_fits id (Shape cell name rings) = nothing_again call_again (cell_eq cell c)
   call_fits id (Placed cell target turn) =
-      by_cell (cell_eq c cell) refl ∙ ap (λ b. option_map call_again (cond b (Some (id, target, turn)) None)) (cell_turned c cell) where
+      by_cell (cell_eq c cell) refl ∙ ap (λ b. option_map call_again (cond b (Some (id, target, turn)) None)) (cells_swapped c cell) where
         by_cell : (b : Bool) → cell_eq c cell ≡ b →
             cond b (Some (id, Placed cell target turn)) None ≡ option_map call_again (cond b (Some (id, target, turn)) None)
         by_cell true here = λ i. Some (id, Placed (sym ((cell_eq-Decides c cell).0 here) i) target turn)
@@ -298,7 +295,7 @@ module _ (c : CellId) where
 -- the items of the symbol are its content
 content : (n : ℕ) (l : Layout) → items_in l (Symbol n) ≡ lying (Content n) (entries l.items)
 unfolding items_in
-content n l = λ i. filter (λ e. cell_turned (cell_of e.1) (Symbol n) i) (entries l.items)
+content n l = λ i. filter (λ e. cells_swapped (cell_of e.1) (Symbol n) i) (entries l.items)
 
 pub same_content : (n : ℕ) (l m : Layout) →
     pointwise entry_eq (items_in l (Symbol n)) (items_in m (Symbol n)) ≡ same_lying (Content n) l m

@@ -3,6 +3,8 @@ use Rattle.std.proofs.Common.{◌≡◌, ℕ, Bool, true, false, ◌||◌, List,
 use Rattle.std.proofs.Common.{refl, ap, sym, ◌∙◌}
 use Rattle.std.specs.FinSet.{contains, contains-empty, contains-insert, insert}
 use Rattle.std.specs.List.{flat_map, list_any}
+use Rattle.std.proofs.lemmas.List.Folds.{list_any-append}
+use Rattle.lay_point.proofs.BoolLaws.{or-false}
 use Rattle.lay_layouts.specs.declared.id.ItemId.{ItemId}
 use Rattle.lay_layouts.specs.declared.item.Item as item
 use Rattle.lay_layouts.specs.declared.slot.CellSlot.{CellSlot}
@@ -15,7 +17,7 @@ use Rattle.txn_commands.specs.Lies.{lies, lies_slot, passes}
 use Rattle.txn_commands.specs.Meets.{meets, meets_cell, some_meets}
 use Rattle.txn_commands.specs.Records.{Records}
 use Rattle.txn_marks.specs.Homes.{cell_homes, homes_of, met_by, record_homes}
-use Rattle.txn_marks.proofs.AnyLemmas.{any_alike, any_append, any_flat, or_false}
+use Rattle.txn_marks.proofs.AnyLemmas.{any_alike, any_flat}
 use Rattle.txn_marks.proofs.TouchLemmas.{lies-homes, lies_slot-home}
 
 -- ---- what is met
@@ -27,13 +29,13 @@ value_met e id (Some v) = lies-homes e id v
 record_met : (e : Element) (w : Record) → meets e w ≡ list_any (element_eq e) (record_homes w)
 record_met e w =
     (λ i. value_met e w.id w.before i || value_met e w.id w.after i)
-    ∙ sym (any_append (element_eq e) (homes_of w.id w.before) (homes_of w.id w.after))
+    ∙ sym (list_any-append (element_eq e) (homes_of w.id w.before) (homes_of w.id w.after))
 
 slot_met : (e : Element) (number : ℕ) (one other : Option CellSlot) →
     (passes (lies_slot e number) one || passes (lies_slot e number) other)
     ≡ list_any (element_eq e) (cond (is_some one || is_some other) (Cell number ∷ []) [])
 slot_met e number None None = refl
-slot_met e number None (Some slot) = lies_slot-home e number slot ∙ sym (or_false (element_eq e (Cell number)))
+slot_met e number None (Some slot) = lies_slot-home e number slot ∙ sym (or-false (element_eq e (Cell number)))
 slot_met e number (Some slot) None = ap (λ b. b || false) (lies_slot-home e number slot)
 slot_met e number (Some slot) (Some other) =
     (λ i. lies_slot-home e number slot i || lies_slot-home e number other i) ∙ twice (element_eq e (Cell number)) where
@@ -49,7 +51,7 @@ met_so records e =
     (λ i. any_alike (meets e) (λ w. list_any (element_eq e) (record_homes w)) records.items (record_met e) i
     || any_alike (meets_cell e) (λ w. list_any (element_eq e) (cell_homes w)) records.symbols (cell_met e) i)
     ∙ sym (λ i. any_flat (element_eq e) record_homes records.items i || any_flat (element_eq e) cell_homes records.symbols i)
-    ∙ sym (any_append (element_eq e) (flat_map record_homes records.items) (flat_map cell_homes records.symbols))
+    ∙ sym (list_any-append (element_eq e) (flat_map record_homes records.items) (flat_map cell_homes records.symbols))
 
 -- ---- what is gathered
 
@@ -79,4 +81,4 @@ gathered records e =
     ap (λ s. contains s e) (sym (added_more untouched (flat_map record_homes records.items) (flat_map cell_homes records.symbols)))
     ∙ added_there untouched (met_by records) e
     ∙ ap (λ b. list_any (element_eq e) (met_by records) || b) (contains-empty element_cmp e)
-    ∙ or_false (list_any (element_eq e) (met_by records)) ∙ sym (met_so records e)
+    ∙ or-false (list_any (element_eq e) (met_by records)) ∙ sym (met_so records e)

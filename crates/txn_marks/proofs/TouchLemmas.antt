@@ -6,6 +6,7 @@ use Rattle.std.proofs.lemmas.Slice.Eq.{bytes_eq-Decides}
 use Rattle.std.specs.FinSet.{contains, items}
 use Rattle.std.specs.List.{list_any}
 use Rattle.lay_point.specs.Same.{names_eq}
+use Rattle.lay_point.proofs.BoolLaws.{or-false}
 use Rattle.lay_cells.specs.declared.cell_id.CellId.{CellId}
 use Rattle.lay_cells.specs.declared.cell_id.CellId.TheVariants.{Symbol, Top}
 use Rattle.lay_cells.specs.SameCell.{cell_eq, cell_eq-Decides}
@@ -23,7 +24,7 @@ use Rattle.txn_commands.specs.Meets.{meets, meets_cell, meets_touched}
 use Rattle.txn_commands.specs.Records.{cell_record_of, record_of}
 use Rattle.txn_marks.specs.Homes.{content_elements, homes}
 use Rattle.txn_marks.specs.Met.{are_met, is_item_met, is_symbol_met, symbols_are_met}
-use Rattle.txn_marks.proofs.AnyLemmas.{and_or, any_alike, any_map, any_none, any_or, any_swap, or_false}
+use Rattle.txn_marks.proofs.AnyLemmas.{and_or, any_alike, any_map, any_none, any_or, any_swap}
 use Rattle.txn_marks.proofs.SetLemmas.{contains-back, element_eq-Decides}
 
 -- elements of one kind are equal where their fields are
@@ -62,7 +63,7 @@ same_uses m n = same_from_decides (element_eq (Uses m) (Uses n)) (m == n)
 -- an item is in the content of its cell alone
 in_content : (n : ℕ) (cell : CellId) → cell_eq (Symbol n) cell ≡ list_any (element_eq (Content n)) (content_elements cell)
 in_content n Top = refl
-in_content n (Symbol m) = sym (or_false (element_eq (Content n) (Content m)) ∙ same_contents n m)
+in_content n (Symbol m) = sym (or-false (element_eq (Content n) (Content m)) ∙ same_contents n m)
 
 no_item : (a : ItemId) (cell : CellId) → list_any (element_eq (Item a)) (content_elements cell) ≡ false
 no_item a Top = refl
@@ -86,7 +87,7 @@ no_uses n (Symbol m) = refl
 
 -- the same test, with nothing behind it
 alone : (a b rest : Bool) → a ≡ b → rest ≡ false → b ≡ (a || rest)
-alone a b rest same none = sym same ∙ sym (ap (λ r. a || r) none ∙ or_false a)
+alone a b rest same none = sym same ∙ sym (ap (λ r. a || r) none ∙ or-false a)
 
 -- an item lies in the elements that are its homes, and in no other
 pub lies-homes : (e : Element) (id : ItemId) (v : item.Item) → lies e id v ≡ list_any (element_eq e) (homes id v)

@@ -17,7 +17,7 @@ use Rattle.lay_layouts.specs.Items.{items_in, standing_in}
 use Rattle.lay_layouts.specs.Layout.{Layout}
 use Rattle.lay_layouts.specs.Lent.{calls_in, calls_lent}
 use Rattle.txn_commands.specs.Reach.{explored, is_among, reached, targets}
-use Rattle.txn_rules.proofs.Reach.{Goes, calls_left, calls_left-entered, calls_left-none}
+use Rattle.txn_rules.proofs.Reach.{Goes, among-append, calls_left, calls_left-entered, calls_left-none}
 use Rattle.txn_rules.proofs.Reach.{ends, goes_on, one_answer, reached-found}
 use Rattle.txn_rules.proofs.Reach.Goes.{entered, passed}
 use Rattle.txn_plans.specs.Searching.{called_by, called_in, cells_from, first_in, search_target, searched, symbols_from}
@@ -148,13 +148,6 @@ left_same : (calls : List Call) (s t : List CellId) → ((c : CellId) → is_amo
 left_same [] s t h = refl
 left_same (call ∷ calls) s t h = rw (h call.0, left_same calls s t h) refl
 
-among_joined : (c : CellId) (s t : List CellId) → is_among c (s ++ t) ≡ (is_among c s || is_among c t)
-among_joined c [] t = refl
-among_joined c (d ∷ s) t = ap (λ b. cell_eq c d || b) (among_joined c s t) ∙ joined (cell_eq c d) (is_among c s) (is_among c t) where
-  joined : (a b e : Bool) → (a || (b || e)) ≡ ((a || b) || e)
-  joined true b e = refl
-  joined false b e = refl
-
 turned_round : (a b : Bool) → (a || (b || false)) ≡ (b || a)
 turned_round true true = refl
 turned_round true false = refl
@@ -162,7 +155,7 @@ turned_round false true = refl
 turned_round false false = refl
 
 among_pushed : (c d : CellId) (s : List CellId) → is_among c (s ++ d ∷ []) ≡ is_among c (d ∷ s)
-among_pushed c d s = among_joined c s (d ∷ []) ∙ turned_round (is_among c s) (cell_eq c d)
+among_pushed c d s = among-append c s (d ∷ []) ∙ turned_round (is_among c s) (cell_eq c d)
 
 left_entered : (l : Layout) (n : ℕ) (found : List ℕ) → has_symbol found n ≡ false →
     length (called_by l n) + left l (found ++ n ∷ []) ≡ left l found

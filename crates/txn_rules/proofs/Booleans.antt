@@ -9,6 +9,7 @@ use Rattle.std.specs.Cmp.{eq_by_cmp_equiv}
 use Rattle.std.specs.Ordering.{eq_by_cmp}
 use Rattle.lay_cells.specs.declared.cell_id.CellId.{CellId}
 use Rattle.lay_point.specs.declared.point.Point.{Point}
+use Rattle.lay_point.proofs.ListLaws.{all_weaker}
 use Rattle.lay_layouts.specs.declared.id.ItemId.{ItemId}
 use Rattle.lay_layouts.specs.declared.item.Item as items
 use Rattle.lay_layouts.specs.declared.item.Item.TheVariants.{Shape}
@@ -36,7 +37,7 @@ use Rattle.txn_commands.specs.Plans.{combination_in, plan, replace_by, shape_ids
 use Rattle.txn_commands.specs.Reach.{reached}
 use Rattle.txn_commands.specs.Writing.{rewritten}
 use Rattle.txn_rules.proofs.Below.{same_first, same_second, shapes_agree}
-use Rattle.txn_commands.proofs.Lists.{all_parts, all_weaker}
+use Rattle.txn_commands.proofs.Lists.{all_parts}
 use Rattle.txn_commands.proofs.Maps.{written_value}
 use Rattle.txn_rules.proofs.Reach.{same_reach}
 

@@ -2,6 +2,7 @@
 use Rattle.std.proofs.Common.{◌≡◌, inl, inr, ℕ, zero, suc, ◌+◌, ◌≤◌, List, [], ◌∷◌}
 use Rattle.std.proofs.Common.{◌++◌, length, None, Some, refl, ap, sym, subst, ◌∙◌, arith}
 use Rattle.std.specs.List.{AllByRecursion}
+use Rattle.lay_point.proofs.ListLaws.{all_weaker}
 use Rattle.lay_cells.specs.declared.cell_id.CellId.{CellId}
 use Rattle.lay_layouts.specs.declared.id.ItemId.{ItemId}
 use Rattle.lay_layouts.specs.declared.item.Item as items
@@ -22,7 +23,7 @@ use Rattle.txn_rules.proofs.Booleans.{IsNew, WritesAs, behind_writes, first_new,
 use Rattle.txn_rules.proofs.Planned.{IsPlanned, planned}
 use Rattle.txn_rules.proofs.Planned.IsPlanned.{deletes, draws, drops_cell, looks, makes_cell, moves, places, relayers, replaces}
 use Rattle.txn_rules.proofs.Runs.{run_keeps}
-use Rattle.txn_commands.proofs.Lists.{all_joined, all_weaker}
+use Rattle.txn_commands.proofs.Lists.{all_joined}
 use Rattle.txn_commands.proofs.Maps.{written_value}
 
 own_more : (t : TxnId) (m n : ℕ) (id : ItemId) → m ≤ n → IsOwn t m id → IsOwn t n id

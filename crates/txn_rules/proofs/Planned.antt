@@ -13,6 +13,7 @@ use Rattle.lay_point.specs.declared.point.Point.{Point}
 use Rattle.lay_point.specs.declared.turn.Turn.{Turn}
 use Rattle.lay_point.specs.Points.{is_in_range}
 use Rattle.lay_point.specs.Rings.{IsRing, ring_of}
+use Rattle.lay_point.proofs.BridgeLemmas.{ring_of_is}
 use Rattle.lay_layouts.specs.declared.id.ItemId.{ItemId}
 use Rattle.lay_layouts.specs.declared.item.Item as items
 use Rattle.lay_layouts.specs.declared.item.Item.TheVariants.{Placed, Shape}
@@ -45,7 +46,7 @@ use Rattle.txn_commands.specs.Figures.{box_ring, is_item_in_range, moved, shape_
 use Rattle.txn_commands.specs.Plans.{combination_in, is_used, move_to, plan, refused_if, relayer, ring_act}
 use Rattle.txn_commands.specs.Reach.{reached}
 use Rattle.txn_rules.proofs.Booleans.{replaced_by, replaced_covered}
-use Rattle.txn_rules.proofs.Rings.{box_ring-ring, ring_of-ring}
+use Rattle.txn_rules.proofs.Rings.{box_ring-ring}
 use Rattle.txn_rules.proofs.SamePlans.{HasPlaced, drawn_by, given, has_placed, moved_to, passed, relayered}
 
 pub data IsPlanned (new : ItemId) (l : Layout) (act : Act) : Type 0 where
@@ -87,7 +88,7 @@ unfolding plan
 planned_poly new cell layer points l act h =
     let there = passed (not (is_cell l cell)) NoCell (ring_act new cell layer (ring_of points)) act h in
     let ring = drawn_by new cell layer (ring_of points) act there.1 in
-    draws cell layer ring.0 (not-false (is_cell l cell) there.0) (ring_of-ring points ring.0 ring.1) ring.2
+    draws cell layer ring.0 (not-false (is_cell l cell) there.0) (ring_of_is points ring.0 ring.1) ring.2
 
 pub planned : (new : ItemId) (command : Command) (l : Layout) (act : Act) → plan new command l ≡ Ok act → IsPlanned new l act
 unfolding plan

@@ -6,6 +6,7 @@ use Rattle.std.proofs.lemmas.Bool.{false_from_ne_true, or_cases, or_left, or_rig
 use Rattle.std.proofs.lemmas.List.Elements.{Contains-append_cases, Contains-append_right}
 use Rattle.std.specs.FinMap.{entries}
 use Rattle.std.specs.List.{AllByRecursion, cons_option, filter, filter_map}
+use Rattle.lay_point.proofs.ListLaws.{all_weaker}
 use Rattle.lay_cells.specs.declared.cell_id.CellId.{CellId}
 use Rattle.lay_cells.specs.declared.cell_id.CellId.TheVariants.{Symbol}
 use Rattle.lay_cells.specs.SameCell.{cell_eq, cell_eq-Decides}
@@ -21,7 +22,7 @@ use Rattle.txn_commands.specs.declared.element.Element.TheVariants.{Calls}
 use Rattle.txn_commands.specs.Agreement.{Agree}
 use Rattle.txn_commands.specs.Lies.{lies}
 use Rattle.txn_commands.specs.Reach.{explored, is_among, reached, reached_by, targets}
-use Rattle.txn_commands.proofs.Lists.{all_joined, all_weaker}
+use Rattle.txn_commands.proofs.Lists.{all_joined}
 use Rattle.txn_commands.proofs.Lying.{filter-alike_maps}
 
 -- what a mapped option is made of
@@ -101,7 +102,7 @@ all_found P step on (suc n) (c ∷ pending) seen found h all =
       by_first (passed is e) later more = later e
       by_first (entered rest is e j) later more = subst (λ (xs : List CellId). AllByRecursion P xs) j (all.0, more rest e)
 
-among-append : (c : CellId) (xs ys : List CellId) → is_among c (xs ++ ys) ≡ (is_among c xs || is_among c ys)
+pub among-append : (c : CellId) (xs ys : List CellId) → is_among c (xs ++ ys) ≡ (is_among c xs || is_among c ys)
 among-append c [] ys = refl
 among-append c (x ∷ xs) ys = by_test (cell_eq c x) (among-append c xs ys) where
   by_test : (b : Bool) → is_among c (xs ++ ys) ≡ (is_among c xs || is_among c ys) →

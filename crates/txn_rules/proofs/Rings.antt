@@ -1,46 +1,12 @@
 -- What commands draw are rings.
-use Rattle.std.proofs.Common.{◌≡◌, ◌≢◌, ◌≤◌, Bool, true, false, ◌&&◌, cond, List, length, Result, Ok, Err, ℤ, int_lt}
-use Rattle.std.proofs.Common.{refl, ap, sym, subst, arith}
-use Rattle.std.specs.Prelude.{nat_lt, not}
+use Rattle.std.proofs.Common.{◌≡◌, ◌≢◌, Bool, true, false, ◌&&◌, cond, ℤ, int_lt}
+use Rattle.std.proofs.Common.{refl, ap, sym, arith}
 use Rattle.std.specs.Int.{int_max, int_min}
-use Rattle.std.specs.List.{list_all}
-use Rattle.std.proofs.lemmas.Bool.{and_from, and_parts, not-false}
-use Rattle.std.proofs.lemmas.Bool.Decides.{nat_tests}
+use Rattle.std.proofs.lemmas.Bool.{and_from, and_parts}
 use Rattle.lay_point.specs.declared.point.Point.{Point}
-use Rattle.lay_point.specs.declared.ring.RingFault.{RingFault}
-use Rattle.lay_point.specs.declared.ring.RingFault.TheVariants.{FewPoints, OutOfRange, TooMany}
-use Rattle.lay_point.specs.declared.ring.TheConstants.{MAX_RING_POINTS}
 use Rattle.lay_point.specs.Points.{is_coordinate, is_in_range}
-use Rattle.lay_point.specs.Rings.{IsRing, NeighboursDiffer, checked_ring, closed, opened, rectangle, ring_of}
-use Rattle.lay_point.specs.Rings.{without_neighbours, without_repeats}
-use Rattle.lay_point.proofs.RingLemmas.{opened-apart}
+use Rattle.lay_point.specs.Rings.{IsRing, rectangle}
 use Rattle.txn_commands.specs.Figures.{box_ring, lower_left, upper_right}
-
-taken : (test : Bool) (fault : RingFault) (rest : Result (List Point) RingFault) (ring : List Point) →
-    cond test (Err fault) rest ≡ Ok ring → (test ≡ false) × (rest ≡ Ok ring)
-taken true fault rest ring h = absurd cc
-taken false fault rest ring h = (refl, h)
-
-checked_is : (kept ring : List Point) → (2 ≤ length kept → NeighboursDiffer (closed kept)) → checked_ring kept ≡ Ok ring → IsRing ring
-checked_is kept ring apart h =
-    let third : Result (List Point) RingFault = cond (nat_lt MAX_RING_POINTS (length kept)) (Err TooMany) (Ok kept) in
-    let second : Result (List Point) RingFault = cond (not (list_all is_in_range kept)) (Err OutOfRange) third in
-    let enough = taken (nat_lt (length kept) 3) FewPoints second ring h in
-    let range = taken (not (list_all is_in_range kept)) OutOfRange third ring enough.1 in
-    let few = taken (nat_lt MAX_RING_POINTS (length kept)) TooMany (Ok kept) ring range.1 in
-    let same : kept ≡ ring = cc (few.1) in
-    let three : 3 ≤ length kept = grind (arith, nat_tests, enough.0) in
-    subst IsRing same (record {
-      enough = three;
-      few = grind (arith, nat_tests, few.0);
-      in_range = not-false (list_all is_in_range kept) range.0;
-      apart = apart (omega arith);
-    })
-
--- a path that is accepted gives a ring
-pub ring_of-ring : (points ring : List Point) → ring_of points ≡ Ok ring → IsRing ring
-unfolding ring_of without_repeats
-ring_of-ring points ring h = checked_is (opened (without_neighbours points)) ring (opened-apart points) h
 
 -- a rectangle of two sides in range is a ring
 rectangle_ring : (low high : Point) → is_in_range low ≡ true → is_in_range high ≡ true → low.x ≢ high.x → low.y ≢ high.y →

@@ -8,6 +8,7 @@ use Rattle.std.specs.FinMap.{IsAntisymmetric, nat_cmp-IsAntisymmetric}
 use Rattle.std.specs.declared.cmp.Ordering.{Ordering}
 use Rattle.std.specs.List.{AllByRecursion}
 use Rattle.std.specs.Ordering.{eq_by_cmp, nat_cmp}
+use Rattle.lay_point.proofs.ListLaws.{all_weaker}
 use Rattle.lay_layouts.specs.IdOrder.{ids_exact, ids_total}
 use Rattle.lay_layouts.specs.Ids.{id_cmp}
 use Rattle.txn_commands.specs.declared.command.Command.{Command}
@@ -22,7 +23,6 @@ use Rattle.txn_commands.specs.Covers.{IsCovered, LeavesAlone, has}
 use Rattle.txn_commands.specs.Effects.{Run, acted, after_each, effect, if_accepted, is_too_much, next_id, perform}
 use Rattle.txn_commands.specs.Elements.{Touched, element_cmp, elements_total, with_elements}
 use Rattle.txn_commands.specs.Plans.{plan}
-use Rattle.txn_commands.proofs.Lists.{all_weaker}
 use Rattle.txn_commands.proofs.Maps.{get-unwritten, other_key, writes_key}
 use Rattle.txn_rules.proofs.Planned.{covered, planned}
 use Rattle.txn_rules.proofs.SamePlans.{passed}

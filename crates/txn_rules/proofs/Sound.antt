@@ -7,6 +7,7 @@ use Rattle.std.specs.List.{AllByRecursion}
 use Rattle.std.specs.Cmp.{nat_cmp_total}
 use Rattle.std.specs.FinMap.{get, nat_cmp-IsAntisymmetric}
 use Rattle.std.specs.Ordering.{eq_by_cmp, nat_cmp}
+use Rattle.std.proofs.lemmas.Option.{same_Some}
 use Rattle.lay_cells.specs.declared.cell_id.CellId.{CellId}
 use Rattle.lay_cells.specs.declared.cell_id.CellId.TheVariants.{Symbol, Top}
 use Rattle.lay_cells.specs.declared.cells.TheConstants.{MAX_SYMBOL}
@@ -117,12 +118,9 @@ moved-call : (shift : Point) (item : items.Item) → as_call (moved shift item) 
 moved-call shift (Shape cell layer rings) = refl
 moved-call shift (Placed cell target turn) = refl
 
-same_value : {X : Type 0} (x y : X) → Some x ≡ Some y → x ≡ y
-same_value x y h = cc
-
 -- of an item that is written
 the_item : (P : items.Item → Type 0) (item : items.Item) → P item → (x : items.Item) → Some item ≡ Some x → P x
-the_item P item p x h = subst P (same_value item x h) p
+the_item P item p x h = subst P (same_Some item x h) p
 
 moves-sound : (l : Layout) (id : ItemId) (shift : Point) (item : items.Item) → IsSound l → item_at l id ≡ Some item →
     is_item_in_range (moved shift item) ≡ true → IsSound (with_item l id (Some (moved shift item)))
@@ -158,7 +156,7 @@ places-sound l id cell target turn sound there found near apart = with_item-soun
       but call among =
           let called = called_by_item (with_item l id (Some (Placed cell target turn))) call among in
           elim (written_item l id (Some (Placed cell target turn)) called.id called.item called.there) [
-            | inl here ↦ inl (same_value (cell, target) call (ap as_call (same_value (Placed cell target turn) called.item here.1)
+            | inl here ↦ inl (same_Some (cell, target) call (ap as_call (same_Some (Placed cell target turn) called.item here.1)
                 ∙ called.is))
             | inr old ↦ inr (item_called l call (record { id = called.id; item = called.item; there = old; is = called.is }))
           ]

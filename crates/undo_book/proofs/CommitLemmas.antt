@@ -1,8 +1,9 @@
 -- What a commit leaves.
-use Rattle.std.proofs.Common.{◌≡◌, ℕ, ◌+◌, ◌-◌, ◌≤◌, ◌==◌, Bool, true, false, ◌&&◌, nat_le, List, [], ◌∷◌, ◌++◌, drop, Option, None, Some}
+use Rattle.std.proofs.Common.{◌≡◌, ℕ, ◌+◌, ◌-◌, ◌≤◌, ◌==◌, true, false, ◌&&◌, nat_le, List, [], ◌∷◌, ◌++◌, drop, Option, None, Some}
 use Rattle.std.proofs.Common.{refl, sym, ap, subst, ◌∙◌, arith, slice_set}
 use Rattle.std.proofs.lemmas.Bool.Decides.{Decides-eqb, nat_tests}
 use Rattle.std.specs.List.{AllByRecursion}
+use Rattle.std.proofs.lemmas.Bool.{and_parts}
 use Rattle.lay_layouts.specs.Layout.{Layout}
 use Rattle.lay_layouts.specs.Sound.{IsSound}
 use Rattle.txn_commands.specs.declared.command.TxnId.{TxnId}
@@ -26,11 +27,6 @@ use Rattle.undo_rules.proofs.StepLaws.{settled_is}
 use Rattle.undo_book.specs.Replays.{RunsAgain}
 use Rattle.undo_book.proofs.SoundLemmas.{kept_sound}
 
-both_so : (a b : Bool) → (a && b) ≡ true → (a ≡ true) × (b ≡ true)
-both_so true true e = (refl, refl)
-both_so true false e = absurd cc
-both_so false b e = absurd cc
-
 record IsAwaited (state : SessionState) (txn : Transaction) : Type 0 where
   waiting : Pending
   waits : state.pending ≡ Some waiting
@@ -42,7 +38,7 @@ awaited state txn h = by state.pending refl h where
   by : (p : Option Pending) → state.pending ≡ p → is_pending p txn ≡ true → IsAwaited state txn
   by None is h = absurd cc
   by (Some waiting) is h =
-      let parts = both_so (waiting.place == txn.opened) (agrees waiting.snapshot txn.snapshot txn.footprint) h in
+      let parts = and_parts (waiting.place == txn.opened) (agrees waiting.snapshot txn.snapshot txn.footprint) h in
       record { waiting = waiting; waits = is; place = (Decides-eqb waiting.place txn.opened).0 parts.0; agree = parts.1 }
 
 -- the test of a work says that it is the history's own
@@ -50,9 +46,9 @@ pub own_work : (h : History) (txn : Transaction) → is_own h txn ≡ true → I
 own_work h txn own =
     let s = txn.id.session in
     let state = state_of h s in
-    let parts = both_so (nat_le 1 s && nat_le s 64) ((state.opens == txn.id.txn) && is_pending state.pending txn) own in
-    let range = both_so (nat_le 1 s) (nat_le s 64) parts.0 in
-    let its = both_so (state.opens == txn.id.txn) (is_pending state.pending txn) parts.1 in
+    let parts = and_parts (nat_le 1 s && nat_le s 64) ((state.opens == txn.id.txn) && is_pending state.pending txn) own in
+    let range = and_parts (nat_le 1 s) (nat_le s 64) parts.0 in
+    let its = and_parts (state.opens == txn.id.txn) (is_pending state.pending txn) parts.1 in
     let waits = awaited state txn its.1 in
     let low : 1 ≤ s = at_least 1 s range.0 in
     let high : s ≤ 64 = at_least s 64 range.1 in

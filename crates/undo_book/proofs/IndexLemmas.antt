@@ -5,10 +5,10 @@ use Rattle.std.specs.Cmp.{unsigned_tied}
 use Rattle.std.specs.List.{AllByRecursion}
 use Rattle.std.specs.Map.{lookup}
 use Rattle.std.specs.Ordering.{nat_cmp}
+use Rattle.lay_layouts.proofs.SlotLemmas.{is_eq-then}
 use Rattle.txn_commands.specs.declared.command.TxnId.{TxnId}
 use Rattle.undo_rules.specs.Links.{Entry, txn_eq}
 use Rattle.undo_rules.specs.Steps.{remarked}
-use Rattle.undo_index.proofs.UnderLemmas.{is_eq-then}
 use Rattle.undo_rules.proofs.EqualLinks.{txn_eq-true}
 use Rattle.undo_book.specs.Places.{AreTheirPlaces, name_cmp, place_of}
 use Rattle.undo_book.proofs.PlaceLemmas.{place_last, place_marked, place_pushed}

@@ -5,6 +5,9 @@ use Rattle.std.specs.Prelude.{is_some}
 use Rattle.std.proofs.lemmas.Bool.Decides.{Decides-eqb, Decides-like, same_from_decides}
 use Rattle.std.specs.FinSet.{contains, contains-empty, contains-items, from_list, items}
 use Rattle.std.specs.List.{list_any}
+use Rattle.std.proofs.lemmas.Bool.{and_left}
+use Rattle.lay_point.proofs.BoolLaws.{or-false}
+use Rattle.lay_point.proofs.NumberLaws.{suc_zero}
 use Rattle.txn_commands.specs.declared.command.TxnId.{TxnId}
 use Rattle.txn_commands.specs.declared.element.Element.{Element}
 use Rattle.txn_commands.specs.Elements.{Touched, element_cmp, element_eq}
@@ -25,19 +28,9 @@ use Rattle.undo_book.specs.Marks.{AreRelisted}
 
 -- ---- places of a list
 
-or_none : (a : Bool) → (a || false) ≡ a
-or_none true = refl
-or_none false = refl
-
 past_end : {X : Type 0} (test : X → Bool) (xs : List X) → passes test (slice_get xs (length xs)) ≡ false
 past_end test [] = refl
 past_end test (x ∷ xs) = past_end test xs
-
-pub suc_zero : (i : ℕ) → (suc i == 0) ≡ false
-suc_zero i = by (suc i == 0) refl where
-  by : (b : Bool) → (suc i == 0) ≡ b → b ≡ false
-  by true is = let e : suc i ≡ 0 = (Decides-eqb (suc i) 0).0 is in absurd (omega (arith, e))
-  by false is = refl
 
 pub zero_suc : (i : ℕ) → (0 == suc i) ≡ false
 zero_suc i = by (0 == suc i) refl where
@@ -53,7 +46,7 @@ pushed_at : {X : Type 0} (test : X → Bool) (xs : List X) (x : X) (i : ℕ) →
     passes test (slice_get (xs ++ x ∷ []) i) ≡ (passes test (slice_get xs i) || ((i == length xs) && test x))
 pushed_at test [] x zero = refl
 pushed_at test [] x (suc i) = sym (ap (λ b. b && test x) (suc_zero i))
-pushed_at test (y ∷ ys) x zero = sym (ap (λ b. test y || (b && test x)) (zero_suc (length ys)) ∙ or_none (test y))
+pushed_at test (y ∷ ys) x zero = sym (ap (λ b. test y || (b && test x)) (zero_suc (length ys)) ∙ or-false (test y))
 pushed_at test (y ∷ ys) x (suc i) =
     pushed_at test ys x i ∙ sym (ap (λ b. passes test (slice_get ys i) || (b && test x)) (suc_suc i (length ys)))
 
@@ -102,7 +95,7 @@ module _ (test : Element → Entry → Bool) where
       ∙ sym (set_at (by_other test e) es i next less j) where
         by : (b : Bool) → (j == i) ≡ b → (passes (by_other test e) (slice_get es j) || (b && by_other test e next))
             ≡ cond b (by_other test e next) (passes (by_other test e) (slice_get es j))
-        by false is = or_none (passes (by_other test e) (slice_get es j))
+        by false is = or-false (passes (by_other test e) (slice_get es j))
         by true is =
             let same : j ≡ i = (Decides-eqb j i).0 is in
             let was : passes (by_other test e) (slice_get es j) ≡ false =
@@ -144,9 +137,6 @@ none_indexed w r es writers readers none =
 live_so : (a b : Bool) → a ≡ true → b ≡ (a && b)
 live_so a b live = sym (ap (λ x. x && b) live)
 
-undone_so : (a b : Bool) → a ≡ false → (a && b) ≡ false
-undone_so a b undone = ap (λ x. x && b) undone
-
 pub commit_indexed : (w r v s : Listed) (es fs : List Entry) (entry : Entry) (met : Touched) (place : ℕ) → AreIndexed w r es →
     AreAdded w entry.txn met place v → AreAdded r entry.txn entry.footprint place s → AreMetBy entry.writes met → entry.live ≡ true
         → place ≡ length es →
@@ -174,9 +164,9 @@ mark_indexed false w r v s es fs i entry met is wrote_it read_it are live at les
 mark_indexed true w r v s es fs i entry met is wrote_it read_it are undone at less marks =
     subst (λ (xs : List Entry). AreIndexed v s xs) (sym marks) (record {
       writers = entered wrote w v es i entry (marked true entry) met is.writers at less wrote_it
-          (λ e. undone_so entry.live (some_meets entry.writes e) undone) are;
+          (λ e. and_left entry.live (some_meets entry.writes e) undone) are;
       readers = entered touched r s es i entry (marked true entry) entry.footprint is.readers at less read_it
-          (λ e. undone_so entry.live (contains entry.footprint e) undone) (λ e. refl);
+          (λ e. and_left entry.live (contains entry.footprint e) undone) (λ e. refl);
     })
 
 -- the place of a transaction that is committed next, or redone, isn't listed
@@ -189,8 +179,8 @@ new_here w r es place is last = (
 pub undone_new : (w r : Listed) (es : List Entry) (i : ℕ) (entry : Entry) → AreIndexed w r es → slice_get es i ≡ Some entry →
     entry.live ≡ false → IsNew w i × IsNew r i
 undone_new w r es i entry is at undone = (
-  new_at wrote w es i entry is.writers at (λ e. undone_so entry.live (some_meets entry.writes e) undone),
-  new_at touched r es i entry is.readers at (λ e. undone_so entry.live (contains entry.footprint e) undone),
+  new_at wrote w es i entry is.writers at (λ e. and_left entry.live (some_meets entry.writes e) undone),
+  new_at touched r es i entry is.readers at (λ e. and_left entry.live (contains entry.footprint e) undone),
 )
 
 -- ---- the first reader

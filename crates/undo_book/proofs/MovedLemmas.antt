@@ -6,6 +6,7 @@ use Rattle.std.proofs.lemmas.Bool.{eqb-true}
 use Rattle.std.proofs.lemmas.Bool.Decides.{nat_tests}
 use Rattle.std.specs.FinSet.{items}
 use Rattle.std.specs.List.{AllByRecursion, list_any}
+use Rattle.lay_point.proofs.NumberLaws.{suc_zero}
 use Rattle.txn_commands.specs.declared.command.TxnId.{TxnId}
 use Rattle.txn_commands.specs.Elements.{Touched}
 use Rattle.txn_commands.specs.Lies.{passes}
@@ -21,7 +22,7 @@ use Rattle.undo_index.proofs.FirstLemmas.{first_alike, first_found}
 use Rattle.undo_rules.proofs.EqualLinks.{txn_eq-true}
 use Rattle.undo_book.specs.Indexed.{wrote}
 use Rattle.undo_book.specs.Places.{AreTheirPlaces, found_at as place_found, is_place, moved_at, named_at, place_of, stands_at}
-use Rattle.undo_book.proofs.IndexedLemmas.{any_live, suc_suc, suc_zero, zero_suc}
+use Rattle.undo_book.proofs.IndexedLemmas.{any_live, suc_suc, zero_suc}
 
 -- ---- one after the other
 

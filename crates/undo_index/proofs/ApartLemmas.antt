@@ -1,6 +1,6 @@
 -- Lists of places: brought in order, and compared.
 use Rattle.std.proofs.Common.{◌≡◌, ℕ, ◌<◌, ◌==◌, Bool, true, false, cond, ◌||◌, List, [], ◌∷◌, ◌++◌, map, Option, Some}
-use Rattle.std.proofs.Common.{refl, sym, ap, subst, ◌∙◌, arith, length}
+use Rattle.std.proofs.Common.{refl, sym, ap, subst, ◌∙◌, arith}
 use Rattle.std.specs.Prelude.{nat_lt}
 use Rattle.std.proofs.lemmas.Bool.Decides.{Decides-eqb, nat_tests}
 use Rattle.std.proofs.lemmas.Cmp.{nat_cmp_total}
@@ -160,10 +160,6 @@ apart_first (x ∷ xs) (y ∷ ys) one other = by (y == x) refl (nat_lt y x) refl
       )
 
 -- ---- as they are compared
-
-pub no_places : (xs : List ℕ) → length xs ≡ 0 → xs ≡ []
-no_places [] none = refl
-no_places (x ∷ xs) none = absurd (omega (arith, none))
 
 pub unequal : (a b : ℕ) → (a ≡ b → ⊥) → (a == b) ≡ false
 unequal a b apart = by (a == b) refl where

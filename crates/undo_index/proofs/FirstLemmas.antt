@@ -1,49 +1,40 @@
 -- First places that pass a test, and what lists have there.
 use Rattle.std.proofs.Common.{◌≡◌, ℕ, ◌<◌, ◌≤◌, zero, suc, Bool, true, false, cond, ◌||◌, List, [], ◌∷◌, drop, Option, None, Some}
-use Rattle.std.proofs.Common.{refl, sym, ap, subst, ◌∙◌, arith, slice_get}
+use Rattle.std.proofs.Common.{refl, sym, subst, ◌∙◌, arith, slice_get}
 use Rattle.std.specs.List.{list_any}
 use Rattle.std.specs.Prelude.{is_some, nat_lt}
 use Rattle.std.proofs.lemmas.Bool.Decides.{nat_tests}
+use Rattle.std.proofs.lemmas.Bool.{or_from, or_left, or_right}
 use Rattle.undo_index.specs.First.{IsFirst, first_some, lesser, look, looked_up_at, or_some}
 
 -- ---- the lesser one of two
 
-neither : (a b : Bool) → a ≡ false → b ≡ false → (a || b) ≡ false
-neither a b none no_other = (λ i. none i || no_other i)
-
-one_of : (a b : Bool) → a ≡ true → (a || b) ≡ true
-one_of a b h = ap (λ x. x || b) h
-
-other_of : (a b : Bool) → b ≡ true → (a || b) ≡ true
-other_of true b h = refl
-other_of false b h = h
-
 pub lesser_first : (t u : ℕ → Bool) (from : ℕ) (a b : Option ℕ) → IsFirst t from a → IsFirst u from b →
     IsFirst (λ p. t p || u p) from (lesser a b)
-lesser_first t u from None None one other = λ p less. neither (t p) (u p) (one p less) (other p less)
+lesser_first t u from None None one other = λ p less. or_from (t p) (u p) (one p less) (other p less)
 lesser_first t u from None (Some b) one other = (
   other.0,
-  other_of (t b) (u b) other.1,
-  λ p less more. neither (t p) (u p) (one p less) (other.2 p less more),
+  or_right (t b) (u b) other.1,
+  λ p less more. or_from (t p) (u p) (one p less) (other.2 p less more),
 )
 lesser_first t u from (Some a) None one other = (
   one.0,
-  one_of (t a) (u a) one.1,
-  λ p less more. neither (t p) (u p) (one.2 p less more) (other p less),
+  or_left (t a) (u a) one.1,
+  λ p less more. or_from (t p) (u p) (one.2 p less more) (other p less),
 )
 lesser_first t u from (Some a) (Some b) one other = by (nat_lt b a) refl where
   by : (c : Bool) → nat_lt b a ≡ c → IsFirst (λ p. t p || u p) from (cond c (Some b) (Some a))
   by true is =
       let below : b < a = grind (arith, nat_tests, is) in (
         other.0,
-        other_of (t b) (u b) other.1,
-        λ p less more. neither (t p) (u p) (one.2 p less (omega (arith, below, more))) (other.2 p less more),
+        or_right (t b) (u b) other.1,
+        λ p less more. or_from (t p) (u p) (one.2 p less (omega (arith, below, more))) (other.2 p less more),
       )
   by false is =
       let below : a ≤ b = grind (arith, nat_tests, is) in (
         one.0,
-        one_of (t a) (u a) one.1,
-        λ p less more. neither (t p) (u p) (one.2 p less more) (other.2 p less (omega (arith, below, more))),
+        or_left (t a) (u a) one.1,
+        λ p less more. or_from (t p) (u p) (one.2 p less more) (other.2 p less (omega (arith, below, more))),
       )
 
 -- the same place is first for a test that agrees

@@ -12,13 +12,14 @@ use Rattle.std.specs.FinSet as set
 use Rattle.std.specs.FinSet.{contains-empty, contains-from_list, contains-items, insert, remove}
 use Rattle.std.specs.List.{filter, list_any}
 use Rattle.std.specs.Ordering.{eq_by_cmp, is_eq, nat_cmp, ordering_then}
+use Rattle.lay_point.proofs.BoolLaws.{or-false}
 use Rattle.lay_layouts.specs.declared.id.ItemId.{ItemId}
 use Rattle.lay_layouts.specs.IdOrder.{ids_total}
 use Rattle.lay_layouts.specs.Ids.{id_cmp}
 use Rattle.txn_commands.specs.declared.element.Element.{Element}
 use Rattle.txn_commands.specs.declared.element.Element.TheVariants.{Calls, Cell, Content, Item, Layer, Uses}
 use Rattle.txn_commands.specs.Elements.{element_cmp, element_eq, elements_total}
-use Rattle.txn_marks.proofs.AnyLemmas.{any_alike, any_map, any_none, or_false}
+use Rattle.txn_marks.proofs.AnyLemmas.{any_alike, any_map, any_none}
 use Rattle.undo_index.specs.First.{IsFirst, has_place}
 use Rattle.undo_index.proofs.ApartLemmas.{has_more}
 use Rattle.undo_index.proofs.FirstLemmas.{first_alike}
@@ -95,7 +96,7 @@ module _ (items : List (ItemId × ℕ)) (others : Listed) where
       ∙ (λ i. any_alike (λ k. is_at (pair_cmp (Item id, p)) (item_pair k)) (is_at (pair_order id_cmp (id, p))) items (own_pair id p) i
       || any_alike (λ k. is_part k && is_at (pair_cmp (Item id, p)) k) (λ k. false) (set.items others) (λ k. no_part id p k.0 k.1) i)
       ∙ ap (λ b. list_any (is_at (pair_order id_cmp (id, p))) items || b) (any_none (set.items others))
-      ∙ or_false (list_any (is_at (pair_order id_cmp (id, p))) items)
+      ∙ or-false (list_any (is_at (pair_order id_cmp (id, p))) items)
 
   -- under another element stand its own
   other_there : (e : Element) → element_id e ≡ None → (p : ℕ) → is_listed (listed_of items others) e p ≡ is_listed others e p

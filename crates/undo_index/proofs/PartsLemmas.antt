@@ -9,9 +9,11 @@ use Rattle.std.specs.List.{filter, list_any}
 use Rattle.std.specs.Map.{lookup}
 use Rattle.std.specs.Ordering.{is_eq, nat_cmp}
 use Rattle.std.specs.Prelude.{Err, Ok, OnErr, Result, nat_lt}
+use Rattle.lay_point.proofs.BoolLaws.{or-false}
+use Rattle.lay_layouts.proofs.SlotLemmas.{is_eq-then}
 use Rattle.txn_commands.specs.declared.element.Element.{Element}
 use Rattle.txn_commands.specs.Elements.{element_cmp, element_eq, elements_exact, elements_total}
-use Rattle.txn_marks.proofs.AnyLemmas.{any_alike, any_map, or_false}
+use Rattle.txn_marks.proofs.AnyLemmas.{any_alike, any_map}
 use Rattle.undo_index.specs.declared.kept.Kept.{Kept}
 use Rattle.undo_index.specs.First.{IsFirst, has_place}
 use Rattle.undo_index.specs.Kept.{places_of}
@@ -22,7 +24,6 @@ use Rattle.undo_index.specs.Listed.{Listed, is_listed, pair_cmp}
 use Rattle.undo_index.specs.Parts.{is_kept, is_one_of, listed_in_parts, pairs_of}
 use Rattle.undo_index.proofs.ListedLemmas.{same_listed}
 use Rattle.undo_index.proofs.PairLemmas.{listed_less, listed_more, pairs_total}
-use Rattle.undo_index.proofs.UnderLemmas.{is_eq-then}
 
 -- ---- what the pairs have
 
@@ -57,7 +58,7 @@ in_others e k p ks =
 
 chosen : (b : Bool) (kept : Kept) (o : Option Kept) (p : ℕ) →
     ((b && has_place (places_of kept) p) || (not b && is_one_of o p)) ≡ is_one_of (cond b (Some kept) o) p
-chosen true kept o p = or_false (has_place (places_of kept) p)
+chosen true kept o p = or-false (has_place (places_of kept) p)
 chosen false kept o p = refl
 
 pairs_have : (es : List (Element × Kept)) (e : Element) (p : ℕ) →

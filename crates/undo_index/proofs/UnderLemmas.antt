@@ -13,17 +13,13 @@ use Rattle.std.specs.Cmp.{Equal-is, IsTotalOrder, eq_by_cmp_equiv, unsigned_tied
 use Rattle.std.specs.FinMap.{IsAntisymmetric}
 use Rattle.std.specs.List.{list_any}
 use Rattle.std.specs.Ordering.{eq_by_cmp, is_eq, is_gt, is_le, nat_cmp, ordering_reverse, ordering_then}
+use Rattle.lay_layouts.proofs.SlotLemmas.{is_eq-then}
 use Rattle.txn_marks.proofs.AnyLemmas.{any_alike}
 use Rattle.undo_index.specs.First.{IsFirst}
 use Rattle.undo_index.proofs.RangeLemmas.{any_and, any_filter, at_least, not_more, within_so}
 use Rattle.undo_index.specs.Under.{is_under, pair_order, pairs_below}
 
 -- ---- the order of pairs
-
-pub is_eq-then : (a b : Ordering) → is_eq (ordering_then a b) ≡ (is_eq a && is_eq b)
-is_eq-then Less b = refl
-is_eq-then Equal b = refl
-is_eq-then Greater b = refl
 
 -- pairs are equal where both parts are
 pub keyed_eq : {K : Type 0} (R : K → K → Ordering) (e f : K) (p q : ℕ) →

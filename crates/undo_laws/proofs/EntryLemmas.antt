@@ -1,9 +1,8 @@
 -- Transactions by their names, where no two have one.
-use Rattle.std.proofs.Common.{◌≡◌, ◌==◌, inl, inr, Bool, true, false, cond, ◌||◌, ◌&&◌, List, [], ◌∷◌, ◌++◌, map, Some}
+use Rattle.std.proofs.Common.{◌≡◌, inl, inr, Bool, true, false, cond, ◌||◌, ◌&&◌, List, [], ◌∷◌, ◌++◌, map, Some}
 use Rattle.std.proofs.Common.{refl, sym, ap, subst, ◌∙◌, append_assoc, append-nil}
 use Rattle.std.specs.List.{AllByRecursion}
-use Rattle.std.proofs.lemmas.Bool.Decides.{Decides-eqb}
-use Rattle.std.proofs.lemmas.Bool.{and_parts, or_left, or_right}
+use Rattle.std.proofs.lemmas.Bool.{or_left, or_right}
 use Rattle.lay_point.proofs.Members.{Has, has-append_right}
 use Rattle.txn_commands.specs.declared.command.TxnId.{TxnId}
 use Rattle.txn_commands.specs.Elements.{Touched}
@@ -11,15 +10,8 @@ use Rattle.undo_rules.specs.Books.{entry_of}
 use Rattle.undo_rules.specs.Links.{AreNamed, Entry, Trace, is_named_in, links_to, live_of, trace_of, txn_eq}
 use Rattle.txn_commands.specs.Meets.{meets_touched}
 use Rattle.undo_rules.specs.Steps.{found_behind}
-use Rattle.undo_rules.proofs.EqualLinks.{linked-all, txn_eq-same}
+use Rattle.undo_rules.proofs.EqualLinks.{linked-all, txn_eq-same, txn_eq-true}
 use Rattle.undo_rules.proofs.Moved.{not_among, txn_eq-sym}
-
-pub txn_eq-true : (s t : TxnId) → txn_eq s t ≡ true → s ≡ t
-txn_eq-true s t h =
-    let parts = and_parts (s.session == t.session) (s.txn == t.txn) h in
-    let session : s.session ≡ t.session = (Decides-eqb s.session t.session).0 parts.0 in
-    let number : s.txn ≡ t.txn = (Decides-eqb s.txn t.txn).0 parts.1 in
-    λ i. record { session = session i; txn = number i }
 
 pub txn_eq-named : (s t : TxnId) → s ≡ t → txn_eq s t ≡ true
 txn_eq-named s t e = ap (txn_eq s) (sym e) ∙ txn_eq-same s
@@ -45,15 +37,6 @@ others_differ : (t : TxnId) (es : List Entry) (e : Entry) → AllByRecursion (λ
 others_differ t [] e all m = absurd m
 others_differ t (x ∷ es) e all (inl same) = ap (λ (y : Entry). txn_eq t y.txn) (sym same) ∙ all.0
 others_differ t (x ∷ es) e all (inr m) = others_differ t es e all.1 m
-
-all_front : (P : Trace → Type 0) (xs ys : List Entry) → AllByRecursion P (map trace_of (xs ++ ys)) → AllByRecursion P (map trace_of xs)
-all_front P [] ys all = tt
-all_front P (x ∷ xs) ys all = (all.0, all_front P xs ys all.1)
-
-pub named_front : (xs ys : List Entry) → AreNamed (map trace_of (xs ++ ys)) → AreNamed (map trace_of xs)
-named_front [] ys named = tt
-named_front (x ∷ xs) ys named =
-    (all_front (λ (u : Trace). txn_eq x.txn u.txn ≡ false) xs ys named.0, named_front xs ys named.1)
 
 -- ---- a transaction at its place
 

@@ -18,13 +18,15 @@ use Rattle.txn_commands.specs.Meets.{meets_touched}
 use Rattle.undo_rules.specs.Steps.{Found, after_redo, after_undo, depends, found, found_behind, is_log_full, moved_refusal, or_else}
 use Rattle.undo_rules.specs.Steps.{redo_refusal, redo_refusal_at, undo_refusal, undo_refusal_at, unless}
 use Rattle.undo_rules.proofs.Finding.{found_is}
+use Rattle.undo_rules.proofs.EqualLinks.{txn_eq-true}
+use Rattle.undo_rules.proofs.Undoing.{named_front}
 use Rattle.undo_laws.specs.Refusing.{HasMoved, HasRoom, IsAmong, IsFirstMoved, IsFirstReader, IsLinked, IsMovedBy, IsReadBy}
 use Rattle.undo_laws.specs.Refusing.{IsReader}
 use Rattle.undo_laws.specs.Refusing.{NamesDiffer, RedoIsRefused, RedosAreRefusedForCause, UndoIsRefused, UndosAreRefusedForCause}
 use Rattle.undo_laws.specs.Refusing.{WasLinked}
 use Rattle.undo_laws.proofs.FirstLemmas.{first_by, first_found, first_is, none_passes, pass_none, told_false, told_not}
 use Rattle.undo_laws.proofs.TouchLemmas.{reads, reads_is, reads_so, touched_is, touched_so}
-use Rattle.undo_laws.proofs.EntryLemmas.{among_has, found_in, has_among, links_has, named_front, txn_eq-true}
+use Rattle.undo_laws.proofs.EntryLemmas.{among_has, found_in, has_among, links_has}
 
 abbrev pub name_of : Entry → TxnId
 name_of entry = entry.txn

@@ -8,6 +8,7 @@ use Rattle.std.proofs.lemmas.Bool.{and_parts}
 use Rattle.std.proofs.lemmas.Bool.Decides.{Decides-eqb}
 use Rattle.std.proofs.lemmas.List.{length-append}
 use Rattle.std.proofs.lemmas.List.Elements.{filter_map-append}
+use Rattle.lay_point.proofs.ListLaws.{all_push, all_weaker}
 use Rattle.lay_layouts.specs.Layout.{Layout}
 use Rattle.lay_layouts.specs.Sound.{IsSound}
 use Rattle.txn_commands.specs.declared.command.TxnId.{TxnId}
@@ -28,8 +29,8 @@ use Rattle.undo_rules.proofs.Committing.{commits, since_more}
 use Rattle.undo_rules.proofs.EqualLinks.{txn_eq-same}
 use Rattle.undo_rules.proofs.Finding.{there_more, writes_more}
 use Rattle.undo_rules.proofs.Logs.{changed_longer, drop_longer, kept_longer}
-use Rattle.undo_rules.proofs.OpenLaws.{all_weaker, its_state, set_cases, set_length}
-use Rattle.undo_rules.proofs.StepLaws.{all_push, settled_is}
+use Rattle.undo_rules.proofs.OpenLaws.{its_state, set_cases, set_length}
+use Rattle.undo_rules.proofs.StepLaws.{settled_is}
 
 -- ---- what wasn't stale
 

@@ -10,7 +10,7 @@ use Rattle.undo_rules.specs.Books.{changed_among, changed_in}
 use Rattle.undo_rules.specs.Histories.{AreKept, AreRooted, Chain, RunsBetween, commands_at, commands_in}
 use Rattle.undo_rules.specs.Links.{Entry, Trace, trace_of}
 
-get-push : {X : Type 0} (xs : List X) (x : X) (i : ℕ) (y : X) → slice_get xs i ≡ Some y → slice_get (xs ++ x ∷ []) i ≡ Some y
+pub get-push : {X : Type 0} (xs : List X) (x : X) (i : ℕ) (y : X) → slice_get xs i ≡ Some y → slice_get (xs ++ x ∷ []) i ≡ Some y
 get-push [] x i y h = absurd cc
 get-push (z ∷ xs) x zero y h = h
 get-push (z ∷ xs) x (suc i) y h = get-push xs x i y h

@@ -5,6 +5,7 @@ use Rattle.std.proofs.Common.{refl, sym, ap, subst, ◌∙◌, arith, append-nil
 use Rattle.std.specs.Prelude.{is_some}
 use Rattle.std.specs.List.{AllByRecursion, cons_option, filter_map}
 use Rattle.std.proofs.lemmas.List.{length-append}
+use Rattle.lay_point.proofs.ListLaws.{all_weaker}
 use Rattle.txn_commands.specs.Records.{Records}
 use Rattle.txn_commands.specs.Transactions.{Transaction}
 use Rattle.txn_commands.specs.declared.command.TxnId.{TxnId}
@@ -86,10 +87,6 @@ refused_keeps h is session call fault =
                 (sym (no_more h.log entered h.entries pending.place within refl)) since,
           );
     }
-
-pub all_weaker : {X : Type 0} (P Q : X → Type 0) → ((x : X) → P x → Q x) → (xs : List X) → AllByRecursion P xs → AllByRecursion Q xs
-all_weaker P Q weaker [] all = tt
-all_weaker P Q weaker (x ∷ xs) all = (weaker x all.0, all_weaker P Q weaker xs all.1)
 
 -- an open
 pub open_keeps : (h : History) → IsHistory h → (session : ℕ) → 1 ≤ session → session ≤ 64 → IsHistory (after_open h session)

@@ -5,6 +5,7 @@ use Rattle.std.specs.Prelude.{is_some}
 use Rattle.std.specs.List.{AllByRecursion, cons_option, filter_map}
 use Rattle.std.proofs.lemmas.List.{length-append}
 use Rattle.std.proofs.lemmas.List.Elements.{filter_map-append}
+use Rattle.lay_point.proofs.ListLaws.{all_push}
 use Rattle.lay_layouts.specs.Layout.{Layout}
 use Rattle.txn_commands.specs.declared.command.TxnId.{TxnId}
 use Rattle.txn_commands.specs.declared.element.Element.{Element}
@@ -52,10 +53,6 @@ there_still live txn entries (n ∷ ns) all = (
   sym (there_writes (remarked live txn entries) n) ∙ ap is_some (writes_remarked live txn entries n) ∙ there_writes entries n ∙ all.0,
   there_still live txn entries ns all.1,
 )
-
-pub all_push : {X : Type 0} (P : X → Type 0) (xs : List X) (x : X) → AllByRecursion P xs → P x → AllByRecursion P (xs ++ x ∷ [])
-all_push P [] x all p = (p, tt)
-all_push P (y ∷ xs) x all p = (all.0, all_push P xs x all.1 p)
 
 -- one more call of a log that changed this transaction: one more change since
 one_more : (log : List Logged) (call : Logged) (entries : List Entry) (live : Bool) (txn : TxnId) (ws : Records) (place : ℕ) →

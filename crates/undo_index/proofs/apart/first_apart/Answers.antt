@@ -1,6 +1,6 @@
 use Rattle.std.proofs.Common.{◌≡◌, ◌<◌, suc, [], ◌∷◌, drop, drop-cons, get_or, length, ap, subst, sym, ◌∙◌, arith, Some}
-use Rattle.std.proofs.lemmas.List.{drop_all}
-use Rattle.undo_index.proofs.ApartLemmas.{fronts_differ, no_places, one_ends, other_ends, unequal}
+use Rattle.std.proofs.lemmas.List.{drop_all, nil_from_length}
+use Rattle.undo_index.proofs.ApartLemmas.{fronts_differ, one_ends, other_ends, unequal}
 use Rattle.undo_index.specs.First.{IsFirst, first_of, has_place, is_apart, lesser}
 use Rattle.undo_index.proofs.apart.first_apart.Goals as goal
 use Rattle.undo_index.proofs.apart.first_apart.Goals.{in_default-via-in-Some+else-next-place, in_default-via-in_default}
@@ -27,7 +27,7 @@ returns-in_default c =
           (unequal _ _ (λ e. w.if-next-place.false (e ∙ sym front)))
       | in_default-via-in_default w ↦
           other_ends one other c.as_slice-place-items.ensures.rising c.as_slice-left.ensures.rising (drop i one) left (get_or one i 0)
-          (drop (suc i) one) c.loop-place.invariant rest (no_places left w.in_default.ensures.cases)
+          (drop (suc i) one) c.loop-place.invariant rest (nil_from_length left w.in_default.ensures.cases)
     ]
     )
 
