@@ -2,6 +2,7 @@
 use Rattle.std.proofs.Common.{◌≡◌, ℕ, List, [], ◌∷◌, refl, sym, ap, ◌∙◌}
 use Rattle.std.specs.Prelude.{◌==◌, ◌&&◌, codes, if◌then◌else◌, Option, None, Some, option_map}
 use Rattle.std.specs.Str.{bytes_eq}
+use Rattle.std.proofs.NetLemmas.Options.{map_some}
 use Rattle.lay_cells.specs.declared.cell_id.CellId.{CellId}
 use Rattle.session_steps.specs.declared.Step.{Step}
 use Rattle.job_text.specs.declared.live.LiveLine.TheVariants.{Ask, Odd, Write}
@@ -13,7 +14,8 @@ use Rattle.job_text.specs.Questions.{question_of}
 use Rattle.job_text.specs.Steps.{Word, cell_alone, if_ended, item_alone, step_of, txn_alone}
 use Rattle.job_text.specs.Words.{parsed_cell, parsed_item, parsed_txn}
 use Rattle.job_laws.specs.Questions.{Asks, asks_cells, asks_changes, asks_history, asks_items, asks_look}
-use Rattle.job_laws.proofs.Sayings.{alone, choose, ended_is, item_one, mapped, named, no_value, one_word, txn_one, with_one}
+use Rattle.job_laws.proofs.Sayings.{alone, ended_is, item_one, named, no_value, one_word, txn_one, with_one}
+use Rattle.job_laws.proofs.Choices.{choose}
 
 -- ---- what is taken for a question asks it
 
@@ -22,7 +24,7 @@ one_sound : {A P : Type 0} (meaning : A → Question) (read : Word → Option A)
     → option_map meaning o ≡ Some question → ((a : A) → o ≡ Some a → (word : Word) × (ws ≡ word ∷ []) × (read word ≡ Some a))
     → ((word : Word) (a : A) → ws ≡ word ∷ [] → read word ≡ Some a → question ≡ meaning a → P) → P
 one_sound meaning read ws question o h one asks =
-    mapped meaning o question h (λ a is same. let (word, first, says) = one a is in asks word a first says (sym same))
+    map_some meaning o question h (λ a is same. let (word, first, says) = one a is in asks word a first says (sym same))
 
 one_cell : (ws : List Word) (cell : CellId) → cell_alone ws ≡ Some cell → (word : Word) × (ws ≡ word ∷ []) × (parsed_cell word ≡ Some cell)
 unfolding cell_alone

@@ -3,9 +3,10 @@ use Rattle.std.proofs.Common.{◌≡◌, ℕ, Bool, true, false, List, [], ◌�
 use Rattle.std.specs.Prelude.{◌&&◌, codes, if◌then◌else◌, nat_eq, Option, None, Some, Result, Ok, Err}
 use Rattle.std.specs.Option.{ok_or, option_eq}
 use Rattle.std.specs.Str.{bytes_eq}
-use Rattle.std.proofs.lemmas.Bool.{and_parts}
+use Rattle.std.proofs.lemmas.Bool.{and_parts, false_from_ne_true}
 use Rattle.std.proofs.lemmas.Bool.Decides.{nat_tests}
 use Rattle.std.proofs.lemmas.Slice.Eq.{bytes_eq-Decides}
+use Rattle.lay_cells.proofs.BeforeLemmas.{same_itself}
 use Rattle.session_steps.specs.declared.Step.{Step}
 use Rattle.job_text.specs.declared.job.JobFault.{JobFault}
 use Rattle.job_text.specs.declared.job.JobFault.TheVariants.{Line}
@@ -73,15 +74,12 @@ session_is session (v ∷ w ∷ ws) h =
       number = number_is (parsed_number 64 w) session more.0;
     }
 
-eq_same : (n : ℕ) → nat_eq n n ≡ true
-eq_same n = grind (arith, nat_tests)
-
 pub is_the_session : (session : ℕ) (ws : List Word) → AreSession session ws → is_session_line session ws ≡ true
 is_the_session session ws is =
     let word = is.word in
     ap (is_session_line session) is.words
     ∙ ap (λ o. option_eq nat_eq o (Some session) && true) is.number
-    ∙ ap (λ t. t && true) (eq_same session)
+    ∙ ap (λ t. t && true) (same_itself session)
 
 -- ---- steps
 
@@ -96,18 +94,14 @@ session_no_step : (word : Word) → step_of (codes "%session" ∷ word ∷ []) �
 unfolding step_of step_named command_named short_command op_of
 session_no_step word = refl
 
-by_test : (b : Bool) → (b ≡ true → ⊥) → b ≡ false
-by_test true h = absurd (h refl)
-by_test false h = refl
-
 pub step_no_order : (ws : List Word) (step : Step) → step_of ws ≡ Some step → is_only (codes "%order") ws ≡ false
 step_no_order ws step h =
-    by_test (is_only (codes "%order") ws) λ is.
+    false_from_ne_true (is_only (codes "%order") ws) λ is.
     no_step ws step (ap step_of (only_is (codes "%order") ws is) ∙ order_no_step) h
 
 pub step_no_session : (session : ℕ) (ws : List Word) (step : Step) → step_of ws ≡ Some step → is_session_line session ws ≡ false
 step_no_session session ws step h =
-    by_test (is_session_line session ws) λ is.
+    false_from_ne_true (is_session_line session ws) λ is.
     let named = session_is session ws is in
     no_step ws step (ap step_of named.words ∙ session_no_step named.word) h
 

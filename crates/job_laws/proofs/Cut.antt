@@ -6,14 +6,13 @@ use Rattle.std.specs.List.{list_all}
 use Rattle.std.proofs.lemmas.Bool.{and_from, and_parts, not-true}
 use Rattle.std.proofs.lemmas.Bool.Decides.{nat_tests}
 use Rattle.byte_io.specs.Lines.{in_front, lines}
+use Rattle.byte_io.proofs.LineLemmas.{lines-other}
 use Rattle.job_text.specs.Steps.{Word}
 use Rattle.job_text.specs.Words.{is_word_end, is_word_separator, words}
+use Rattle.job_text.proofs.WordLemmas.{in_word, words-in_word, words-separator}
 use Rattle.job_laws.specs.Cuts.{AreLines, AreWords, is_line_byte, is_of_word}
 
 -- ---- lines
-
-lines-other : (b : ℕ) (bytes : List ℕ) → (b == 10) ≡ false → lines (b ∷ bytes) ≡ in_front b (lines bytes)
-lines-other b bytes e = ap (λ t. if t then (b ∷ []) ∷ lines bytes else in_front b (lines bytes)) e
 
 line_first : (said rest : List ℕ) → list_all is_line_byte said ≡ true → lines ((said ++ 10 ∷ []) ++ rest) ≡ (said ++ 10 ∷ []) ∷ lines rest
 line_first [] rest all = refl
@@ -88,16 +87,6 @@ lines_are (b ∷ bytes) = by_newline b bytes (b == 10) refl (lines_are bytes)
 
 -- ---- words
 
--- the words from a byte of a word on
-abbrev from_byte : ℕ → List ℕ → List Word
-from_byte b bytes = if is_word_end bytes then (b ∷ []) ∷ words bytes else in_front b (words bytes)
-
-words-separator : (b : ℕ) (bytes : List ℕ) → is_word_separator b ≡ true → words (b ∷ bytes) ≡ words bytes
-words-separator b bytes e = ap (λ t. if t then words bytes else from_byte b bytes) e
-
-words-byte : (b : ℕ) (bytes : List ℕ) → is_word_separator b ≡ false → words (b ∷ bytes) ≡ from_byte b bytes
-words-byte b bytes e = ap (λ t. if t then words bytes else from_byte b bytes) e
-
 gap_first : (gap rest : List ℕ) → list_all is_word_separator gap ≡ true → words (gap ++ rest) ≡ words rest
 gap_first [] rest all = refl
 gap_first (b ∷ gap) rest all =
@@ -107,12 +96,12 @@ gap_first (b ∷ gap) rest all =
 word_first : (b : ℕ) (word rest : List ℕ) → list_all is_of_word (b ∷ word) ≡ true → is_word_end rest ≡ true →
     words ((b ∷ word) ++ rest) ≡ (b ∷ word) ∷ words rest
 word_first b [] rest all ends =
-    words-byte b rest (not-true (is_word_separator b) (and_parts (is_of_word b) true all).0)
+    words-in_word b rest (not-true (is_word_separator b) (and_parts (is_of_word b) true all).0)
     ∙ ap (λ t. if t then (b ∷ []) ∷ words rest else in_front b (words rest)) ends
 word_first b (c ∷ word) rest all ends =
     let parts = and_parts (is_of_word b) (list_all is_of_word (c ∷ word)) all in
     let next = not-true (is_word_separator c) (and_parts (is_of_word c) (list_all is_of_word word) parts.1).0 in
-    words-byte b ((c ∷ word) ++ rest) (not-true (is_word_separator b) parts.0)
+    words-in_word b ((c ∷ word) ++ rest) (not-true (is_word_separator b) parts.0)
     ∙ ap (λ t. if t then (b ∷ []) ∷ words ((c ∷ word) ++ rest) else in_front b (words ((c ∷ word) ++ rest))) next
     ∙ ap (in_front b) (word_first c word rest parts.1 ends)
 
@@ -205,7 +194,7 @@ by_between b bytes true e between are = new_word b bytes (words bytes) (ap not e
 by_between b bytes false e between are = word_more b bytes (words bytes) (ap not e) between are
 
 by_separator : (b : ℕ) (bytes : List ℕ) (t : Bool) → is_word_separator b ≡ t → AreWords bytes (words bytes) →
-    AreWords (b ∷ bytes) (if t then words bytes else from_byte b bytes)
+    AreWords (b ∷ bytes) (if t then words bytes else in_word b bytes)
 by_separator b bytes true e are = gap_more b bytes (words bytes) e are
 by_separator b bytes false e are = by_between b bytes (is_word_end bytes) e refl are
 

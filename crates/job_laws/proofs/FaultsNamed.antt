@@ -68,6 +68,7 @@ use Rattle.job_laws.proofs.FaultLines.{
 use Rattle.job_laws.proofs.Heads.{head_complete, head_sound, text_complete, text_sound}
 use Rattle.job_laws.proofs.Orders.{fits_complete, fits_sound}
 use Rattle.job_laws.proofs.Sessions.{sections_complete, sections_sound}
+use Rattle.job_laws.proofs.Whole.{short}
 
 -- from the first line to the first section
 to_sections : (bytes : List ℕ) (head : Place) → head_of 1 (lines bytes) ≡ Ok head
@@ -181,9 +182,6 @@ job_fault bytes k h =
 
 long : (n : ℕ) → nat_lt 16777216 n ≡ true → 16777216 < n
 long n h = grind (arith, nat_tests)
-
-short : (n : ℕ) → n ≤ 16777216 → nat_lt 16777216 n ≡ false
-short n h = grind (arith, nat_tests)
 
 pub faults_named : (bytes : List ℕ) (k : ℕ) → job_of bytes ≡ Err (FaultLine k) → IsFaultAt bytes k
 unfolding job_of

@@ -10,6 +10,7 @@ use Rattle.std.proofs.lemmas.List.Folds.{list_all-append}
 use Rattle.byte_io.specs.Lines.{content, ends_with, in_front, without_last}
 use Rattle.job_text.specs.Steps.{Word}
 use Rattle.job_text.specs.Words.{is_word_end, is_word_separator, words, words_of}
+use Rattle.job_text.proofs.WordLemmas.{in_word, words-in_word}
 use Rattle.job_laws.specs.Written.{line_of, spaced_words}
 
 -- a byte that prints and isn't a space, or lies beyond ASCII
@@ -24,12 +25,8 @@ pub record IsWord (word : Word) : Type 0 where
 plain_no_separator : (b : ℕ) → is_plain b ≡ true → is_word_separator b ≡ false
 plain_no_separator b h = grind (arith, nat_tests)
 
--- the words from a byte of a word on
-abbrev in_word : ℕ → List ℕ → List (List ℕ)
-in_word b line = if is_word_end line then (b ∷ []) ∷ words line else in_front b (words line)
-
 words-plain : (b : ℕ) (line : List ℕ) → is_plain b ≡ true → words (b ∷ line) ≡ in_word b line
-words-plain b line h = ap (λ t. if t then words line else in_word b line) (plain_no_separator b h)
+words-plain b line h = words-in_word b line (plain_no_separator b h)
 
 -- a word, where nothing of it follows
 word_first : (b : ℕ) (word rest : List ℕ) → list_all is_plain (b ∷ word) ≡ true → is_word_end rest ≡ true →

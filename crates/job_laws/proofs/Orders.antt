@@ -1,8 +1,8 @@
 -- The lines of the order.
-use Rattle.std.proofs.Common.{◌≡◌, ℕ, ◌+◌, Bool, true, List, [], ◌∷◌, length, refl, sym, ap, ◌∙◌, inl, inr}
-use Rattle.std.specs.Prelude.{◌&&◌, ◌==◌, codes, count_by, if◌then◌else◌, Option, None, Some, Ok, Err}
+use Rattle.std.proofs.Common.{◌≡◌, ℕ, ◌+◌, true, List, [], ◌∷◌, length, refl, sym, ap, ◌∙◌, inl, inr}
+use Rattle.std.specs.Prelude.{◌==◌, codes, count_by, if◌then◌else◌, Option, None, Some, Ok, Err}
 use Rattle.std.specs.List.{AllByRecursion, list_all}
-use Rattle.std.proofs.lemmas.Bool.{and_parts}
+use Rattle.std.proofs.lemmas.Bool.{and_from, and_parts}
 use Rattle.std.proofs.lemmas.Bool.Decides.{Decides-eqb}
 use Rattle.session_steps.specs.declared.Step.{Step}
 use Rattle.job_text.specs.declared.job.JobFault.TheVariants.{Line as FaultLine}
@@ -21,15 +21,12 @@ counted_sound session (script ∷ scripts) order h =
     let parts = and_parts (count == length script) (are_counted (session + 1) scripts order) h in
     ((Decides-eqb count (length script)).0 parts.0, counted_sound (session + 1) scripts order parts.1)
 
-both : (a b : Bool) → a ≡ true → b ≡ true → (a && b) ≡ true
-both a b first second = ap (λ t. t && b) first ∙ second
-
 counted_complete : (session : ℕ) (scripts : List (List Step)) (order : List ℕ) → AreCounted session scripts order →
     are_counted session scripts order ≡ true
 counted_complete session [] order h = refl
 counted_complete session (script ∷ scripts) order h =
     let count = count_by (λ n. n == session) order in
-    both (count == length script) (are_counted (session + 1) scripts order) ((Decides-eqb count (length script)).1 h.0)
+    and_from (count == length script) (are_counted (session + 1) scripts order) ((Decides-eqb count (length script)).1 h.0)
     (counted_complete (session + 1) scripts order h.1)
 
 pub fits_sound : (scripts : List (List Step)) (order : List ℕ) → order_fits scripts order ≡ true →
@@ -43,7 +40,7 @@ pub fits_complete : (scripts : List (List Step)) (order : List ℕ) → length o
     order_fits scripts order ≡ true
 unfolding order_fits
 fits_complete scripts order many counted =
-    both (length order == total_len scripts) (are_counted 1 scripts order)
+    and_from (length order == total_len scripts) (are_counted 1 scripts order)
     ((Decides-eqb (length order) (total_len scripts)).1 many) (counted_complete 1 scripts order counted)
 
 none_not_some : {P : Type 0} (m : ℕ) → ◌≡◌ {A = Option ℕ} (Some m) None → P

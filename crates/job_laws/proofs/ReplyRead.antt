@@ -51,6 +51,7 @@ use Rattle.job_laws.specs.ReplyLaws.{IsCount, TellTheSame}
 use Rattle.job_laws.specs.Told.{CanAnswer, CanRefuse, CanShow, CanTell, HasPoints, IsCommitted}
 use Rattle.job_laws.proofs.AnswerWords.{answer_is_words, answer_joined, answer_words, done_words, fault_words, found_words}
 use Rattle.job_laws.proofs.AnswerWords.{ring_words, three}
+use Rattle.job_laws.proofs.Said.{point_said}
 
 -- ---- a reader of replies
 
@@ -164,10 +165,6 @@ answer_of [] = None
 answer_of (name ∷ words) = answer_named name words
 
 -- ---- what is written is read
-
-point_said : (p : Point) → IsPoint p → point_of (signed_decimal p.x) (signed_decimal p.y) ≡ Some p
-unfolding point_of
-point_said p is = rw (coordinate_read p.x is.column, coordinate_read p.y is.row) refl
 
 digits_no_bar : (text : List ℕ) → list_all is_digit text ≡ true → bytes_eq text (codes "/") ≡ false
 digits_no_bar [] h = refl

@@ -57,7 +57,7 @@ unfolding box_command
 box_said cell layer a b is =
     rw (cell_read cell is.0, is.1, point_first a (point_words b) is.2, point_first b [] is.3) refl
 
-point_said : (p : Point) → IsPoint p → point_of (signed_decimal p.x) (signed_decimal p.y) ≡ Some p
+pub point_said : (p : Point) → IsPoint p → point_of (signed_decimal p.x) (signed_decimal p.y) ≡ Some p
 unfolding point_of
 point_said p is = rw (coordinate_read p.x is.column, coordinate_read p.y is.row) refl
 

@@ -1,8 +1,10 @@
 -- Words are read as a step exactly where they say it.
-use Rattle.std.proofs.Common.{◌≡◌, ℕ, Bool, true, false, List, [], ◌∷◌, ◌++◌, refl, sym, ap, subst, ◌∙◌, append_assoc, append-nil}
+use Rattle.std.proofs.Common.{◌≡◌, ℕ, Bool, true, List, [], ◌∷◌, ◌++◌, refl, sym, ap, subst, ◌∙◌, append_assoc, append-nil}
 use Rattle.std.specs.Prelude.{codes, if◌then◌else◌, Option, None, Some, option_map}
 use Rattle.std.specs.Str.{bytes_eq}
 use Rattle.std.proofs.lemmas.Slice.Eq.{bytes_eq-Decides}
+use Rattle.std.proofs.NetLemmas.Options.{map_some}
+use Rattle.std.proofs.lemmas.Option.{same_Some}
 use Rattle.face_rows.specs.declared.op.Op.{Op}
 use Rattle.face_rows.specs.declared.op.Op.TheVariants.{And, Not, Or, Xor}
 use Rattle.lay_cells.specs.declared.cell_id.CellId.{CellId}
@@ -34,30 +36,17 @@ use Rattle.job_text.specs.Steps.{short_command, step_named}
 use Rattle.job_text.specs.Steps.{leading_symbol, leading_turning, step_of, symbol_alone, txn_alone}
 use Rattle.byte_io.specs.Numbers.{parsed_number}
 use Rattle.byte_io.specs.Steps.{◌>>=◌}
+use Rattle.byte_io.proofs.Steps.{after_some}
 use Rattle.job_text.specs.Words.{parsed_cell, parsed_coordinate, parsed_item, parsed_turning, parsed_txn}
 use Rattle.job_laws.specs.Steps.{ArePoints, IsPointOf, Says, SaysCommand, boxes, cancels, combines, commits, deletes}
 use Rattle.job_laws.specs.Steps.{does, drops, layers, looks, makes, moves, opens, places, polygons, redoes, undoes}
 use Rattle.job_laws.specs.Written.{op_word}
+use Rattle.job_laws.proofs.Choices.{choose}
 
 -- ---- results by cases
 
-pub choose : {A P : Type 0} (b : Bool) (x y r : A) → (if b then x else y) ≡ r → (b ≡ true → x ≡ r → P) → (b ≡ false → y ≡ r → P) → P
-choose true x y r h first second = first refl h
-choose false x y r h first second = second refl h
-
 pub no_value : {A P : Type 0} (a : A) → ◌≡◌ {A = Option A} None (Some a) → P
 no_value a h = absurd (cc)
-
-same_value : {A : Type 0} (a b : A) → ◌≡◌ {A = Option A} (Some a) (Some b) → a ≡ b
-same_value a b h = cc
-
-bound : {A B P : Type 0} (o : Option A) (f : A → Option B) (b : B) → (o >>= f) ≡ Some b → ((a : A) → o ≡ Some a → f a ≡ Some b → P) → P
-bound None f b h more = no_value b h
-bound (Some a) f b h more = more a refl h
-
-pub mapped : {A B P : Type 0} (f : A → B) (o : Option A) (b : B) → option_map f o ≡ Some b → ((a : A) → o ≡ Some a → f a ≡ b → P) → P
-mapped f None b h more = no_value b h
-mapped f (Some a) b h more = more a refl (same_value (f a) b h)
 
 next_of : {A B P : Type 0} (o : Option A) (rest : List Word) (f : A × List Word → Option B) (b : B) →
     (option_map (λ a. (a, rest)) o >>= f) ≡ Some b → ((a : A) → o ≡ Some a → f (a, rest) ≡ Some b → P) → P
@@ -72,7 +61,7 @@ next meaning [] f b h more = no_value b h
 next meaning (word ∷ rest) f b h more = next_of (meaning word) rest f b h (λ a is left. more word rest a refl is left)
 
 pub ended_is : {A P : Type 0} (ws : List Word) (a b : A) → if_ended ws a ≡ Some b → (ws ≡ [] → b ≡ a → P) → P
-ended_is [] a b h more = more refl (sym (same_value a b h))
+ended_is [] a b h more = more refl (sym (same_Some a b h))
 ended_is (w ∷ ws) a b h more = no_value b h
 
 point_made : (x y : Word) (p q : Point) → parsed_coordinate x ≡ Some q.x → parsed_coordinate y ≡ Some q.y → q ≡ p → IsPointOf x y p
@@ -84,13 +73,13 @@ next_point : {B P : Type 0} (ws : List Word) (f : Point × List Word → Option 
     ((x y : Word) (rest : List Word) (p : Point) → ws ≡ x ∷ y ∷ rest → IsPointOf x y p → f (p, rest) ≡ Some b → P) → P
 unfolding leading_point
 next_point ws f b h more =
-    bound (leading_point ws) f b h (λ found is left.
+    after_some (leading_point ws) f b h (λ found is left.
     next parsed_coordinate ws (λ x. leading_coordinate x.1 >>= λ y. Some (record { x = x.0; y = y.0 }, y.1)) found is
     (λ x others c first column then_y.
     next parsed_coordinate others (λ y. Some (record { x = c; y = y.0 }, y.1)) found then_y (λ y rest d second row made.
     let parts : ws ≡ x ∷ y ∷ rest = cc in
     more x y rest (record { x = c; y = d }) parts (record { column = column; row = row })
-    (ap f (same_value (record { x = c; y = d }, rest) found made) ∙ left))))
+    (ap f (same_Some (record { x = c; y = d }, rest) found made) ∙ left))))
 
 pub one_word : {A P : Type 0} (meaning : Word → Option A) (ws : List Word) (b : A) → (first_as meaning ws >>= λ a. if_ended a.1 a.0)
     ≡ Some b →
@@ -121,9 +110,9 @@ box_sound ws command h =
 point_is : (x y : Word) (p : Point) → point_of x y ≡ Some p → IsPointOf x y p
 unfolding point_of
 point_is x y p h =
-    bound (parsed_coordinate x) (λ c. parsed_coordinate y >>= λ d. Some (record { x = c; y = d })) p h (λ c column left.
-    bound (parsed_coordinate y) (λ d. Some (record { x = c; y = d })) p left (λ d row made.
-    point_made x y p (record { x = c; y = d }) column row (same_value (record { x = c; y = d }) p made)))
+    after_some (parsed_coordinate x) (λ c. parsed_coordinate y >>= λ d. Some (record { x = c; y = d })) p h (λ c column left.
+    after_some (parsed_coordinate y) (λ d. Some (record { x = c; y = d })) p left (λ d row made.
+    point_made x y p (record { x = c; y = d }) column row (same_Some (record { x = c; y = d }) p made)))
 
 -- points that were there before, and those of the words
 record AreMore (before : List Point) (ws : List Word) (all : List Point) : Type 0 where
@@ -133,10 +122,10 @@ record AreMore (before : List Point) (ws : List Word) (all : List Point) : Type 
 
 points_sound : (before : List Point) (ws : List Word) (all : List Point) → parsed_points before ws ≡ Some all → AreMore before ws all
 points_sound before [] all h =
-    record { points = []; parts = sym (same_value before all h) ∙ sym (append-nil before); said = refl }
+    record { points = []; parts = sym (same_Some before all h) ∙ sym (append-nil before); said = refl }
 points_sound before (x ∷ []) all h = no_value all h
 points_sound before (x ∷ y ∷ ws) all h =
-    bound (point_of x y) (λ p. parsed_points (before ++ (p ∷ [])) ws) all h
+    after_some (point_of x y) (λ p. parsed_points (before ++ (p ∷ [])) ws) all h
     (λ p is left. one_more before x y ws all p (point_is x y p is) (points_sound (before ++ (p ∷ [])) ws all left)) where
       one_more : (before : List Point) (x y : Word) (ws : List Word) (all : List Point) (p : Point) → IsPointOf x y p →
           AreMore (before ++ (p ∷ [])) ws all → AreMore before (x ∷ y ∷ ws) all
@@ -154,11 +143,11 @@ poly_sound ws command h =
     (λ cell r1 c e1 is1 h1.
     next layer_name_of r1 (λ layer. parsed_points [] layer.1 >>= λ points. Some (Poly c layer.0 points)) command h1
     (λ layer r2 l e2 is2 h2.
-    bound (parsed_points [] r2) (λ points. Some (Poly c l points)) command h2 (λ points is3 h3.
+    after_some (parsed_points [] r2) (λ points. Some (Poly c l points)) command h2 (λ points is3 h3.
     let more = points_sound [] r2 points is3 in
     let parts : codes "poly" ∷ ws ≡ codes "poly" ∷ cell ∷ layer ∷ r2 = cc in
     polygons cell layer r2 c l points parts is1 is2 (subst (ArePoints r2) (sym more.parts) more.said)
-    (sym (same_value (Poly c l points) command h3)))))
+    (sym (same_Some (Poly c l points) command h3)))))
 
 move_sound : (ws : List Word) (command : Command) → move_command ws ≡ Some command → SaysCommand (codes "move" ∷ ws) command
 unfolding move_command
@@ -228,7 +217,7 @@ op_is name op h =
     choose (bytes_eq name (codes "xor")) (Some Xor) None (Some op) h3 (λ e is. found Xor op name (named name (codes "xor") e) is)
     (λ e none. no_value op none)))) where
       found : (o op : Op) (name : Word) → op_word o ≡ name → Some o ≡ Some op → op_word op ≡ name
-      found o op name is same = ap op_word (sym (same_value o op same)) ∙ is
+      found o op name is same = ap op_word (sym (same_Some o op same)) ∙ is
 
 -- words of this first word are said where those of the name are
 renamed : (text name : Word) (ws : List Word) (command : Command) → text ≡ name → SaysCommand (text ∷ ws) command →
@@ -242,7 +231,7 @@ item_sound : (text : Word) (meaning : ItemId → Command) (ws : List Word) (comm
     SaysCommand (text ∷ ws) command
 unfolding item_alone
 item_sound text meaning ws command h says =
-    mapped meaning (item_alone ws) command h (λ id is same.
+    map_some meaning (item_alone ws) command h (λ id is same.
     one_word parsed_item ws id is (λ word first read. says word id (ap (λ l. text ∷ l) first) read (sym same)))
 
 symbol_sound : (text : Word) (meaning : ℕ → Command) (ws : List Word) (command : Command) →
@@ -252,13 +241,13 @@ symbol_sound : (text : Word) (meaning : ℕ → Command) (ws : List Word) (comma
     SaysCommand (text ∷ ws) command
 unfolding symbol_alone
 symbol_sound text meaning ws command h says =
-    mapped meaning (symbol_alone ws) command h (λ n is same.
+    map_some meaning (symbol_alone ws) command h (λ n is same.
     one_word (parsed_number MAX_SYMBOL) ws n is (λ word first read. says word n (ap (λ l. text ∷ l) first) read (sym same)))
 
 op_sound : (name : Word) (ws : List Word) (command : Command) → (op_of name >>= λ op. bool_command op ws) ≡ Some command →
     SaysCommand (name ∷ ws) command
 op_sound name ws command h =
-    bound (op_of name) (λ op. bool_command op ws) command h (λ op is left.
+    after_some (op_of name) (λ op. bool_command op ws) command h (λ op is left.
     renamed (op_word op) name ws command (op_is name op is) (bool_sound op ws command left))
 
 short_sound : (name : Word) (ws : List Word) (command : Command) → short_command name ws ≡ Some command → SaysCommand (name ∷ ws) command
@@ -316,7 +305,7 @@ txn_sound : {P : Type 0} (meaning : TxnId → Step) (ws : List Word) (step : Ste
     ((word : Word) (txn : TxnId) → ws ≡ word ∷ [] → parsed_txn word ≡ Some txn → step ≡ meaning txn → P) → P
 unfolding txn_alone
 txn_sound meaning ws step h says =
-    mapped meaning (txn_alone ws) step h
+    map_some meaning (txn_alone ws) step h
     (λ txn is same. one_word parsed_txn ws txn is (λ word first read. says word txn first read (sym same)))
 
 named_sound : (name : Word) (ws : List Word) (step : Step) → step_named name ws ≡ Some step → Says (name ∷ ws) step
@@ -344,7 +333,7 @@ named_sound name ws step h =
     txn_sound Redo ws step is (λ word txn one read same.
     redoes word txn (with_one name (codes "redo") word ws (named name (codes "redo") e) one) read same))
     (λ e is.
-    mapped Do (command_named name ws) step is (λ command read same. does command (command_sound name ws command read) (sym same)))))))
+    map_some Do (command_named name ws) step is (λ command read same. does command (command_sound name ws command read) (sym same)))))))
 
 pub steps_said : (ws : List Word) (step : Step) → step_of ws ≡ Some step → Says ws step
 unfolding step_of

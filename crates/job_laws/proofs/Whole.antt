@@ -79,7 +79,7 @@ sections_job_complete bytes job is =
     (ap (head_of 1) is.parts ∙ head.1) (ap sections_at text.1 ∙ read.1)
     (order_complete job.scripts read.0 is.last job.order is.ordered) (text.2 ∙ sym is.cif) refl refl
 
-short : (n : ℕ) → n ≤ 16777216 → nat_lt 16777216 n ≡ false
+pub short : (n : ℕ) → n ≤ 16777216 → nat_lt 16777216 n ≡ false
 short n h = grind (arith, nat_tests)
 
 not_long : (n : ℕ) → nat_lt 16777216 n ≡ false → n ≤ 16777216

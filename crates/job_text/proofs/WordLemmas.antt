@@ -17,13 +17,13 @@ abbrev pub len_of : List ℕ → ℕ
 len_of line = position_or_len is_word_separator line
 
 -- the words from a byte of a word on
-abbrev in_word : ℕ → List ℕ → List (List ℕ)
+abbrev pub in_word : ℕ → List ℕ → List (List ℕ)
 in_word b line = if is_word_end line then (b ∷ []) ∷ words line else in_front b (words line)
 
-words-separator : (b : ℕ) (line : List ℕ) → is_word_separator b ≡ true → words (b ∷ line) ≡ words line
+pub words-separator : (b : ℕ) (line : List ℕ) → is_word_separator b ≡ true → words (b ∷ line) ≡ words line
 words-separator b line e = ap (λ t. if t then words line else in_word b line) e
 
-words-in_word : (b : ℕ) (line : List ℕ) → is_word_separator b ≡ false → words (b ∷ line) ≡ in_word b line
+pub words-in_word : (b : ℕ) (line : List ℕ) → is_word_separator b ≡ false → words (b ∷ line) ≡ in_word b line
 words-in_word b line e = ap (λ t. if t then words line else in_word b line) e
 
 start_of-separator : (b : ℕ) (line : List ℕ) → is_word_separator b ≡ true → start_of (b ∷ line) ≡ suc (start_of line)

@@ -1,56 +1,45 @@
 -- Bytes, cut into lines as they come.
 use Rattle.std.proofs.Common.{◌+◌, ◌<◌, length, get_or, take, drop, take-append-drop}
 use Rattle.std.proofs.lemmas.List.{take_more}
-use Rattle.std.proofs.Common.{◌≡◌, ◌≢◌, ℕ, List, [], ◌∷◌, ◌++◌, Bool, true, false, not, ◌&&◌, cond, eqb, refl, sym, ap, ◌∙◌}
+use Rattle.std.proofs.Common.{◌≡◌, ◌≢◌, ℕ, List, [], ◌∷◌, ◌++◌, Bool, true, false, cond, eqb, refl, sym, ap, ◌∙◌}
 use Rattle.std.proofs.Common.{append_assoc, append-nil}
 use Rattle.std.specs.Prelude.{filter}
 use Rattle.std.specs.List.{list_all}
 use Rattle.std.proofs.lemmas.List.Elements.{filter-append}
+use Rattle.std.proofs.lemmas.Bool.{and_parts, not-true, not_from_false}
 use Rattle.byte_io.specs.Lines.{in_front, lines}
 use Rattle.live_run.specs.Cif.{is_ended, whole}
 use Rattle.live_run.specs.Ear.{IsCut, is_not_newline}
-
-both : (x y : Bool) → (x && y) ≡ true → (x ≡ true) × (y ≡ true)
-both true y h = (refl, h)
-both false y h = absurd (let e = h in cc)
-
-is_other : (t : Bool) → not t ≡ true → t ≡ false
-is_other true h = absurd (let e = h in cc)
-is_other false h = refl
-
-other_inside : (t : Bool) → t ≡ false → not t ≡ true
-other_inside true h = absurd (let e = h in cc)
-other_inside false h = refl
 
 all_more : (line : List ℕ) (b : ℕ) → list_all is_not_newline line ≡ true → is_not_newline b ≡ true
     → list_all is_not_newline (line ++ b ∷ []) ≡ true
 all_more [] b all one = rw one refl
 all_more (a ∷ line) b all one =
-    let (first, rest) = both (is_not_newline a) (list_all is_not_newline line) all in
+    let (first, rest) = and_parts (is_not_newline a) (list_all is_not_newline line) all in
     let more = all_more line b rest one in
     rw (first, more) refl
 
 -- a byte in a line stands in front of the first of the lines behind it
 pub in_line : (b : ℕ) (bytes : List ℕ) → is_not_newline b ≡ true → lines (b ∷ bytes) ≡ in_front b (lines bytes)
-in_line b bytes h = let other : eqb b 10 ≡ false = is_other (eqb b 10) h in rw other refl
+in_line b bytes h = let other : eqb b 10 ≡ false = not-true (eqb b 10) h in rw other refl
 
 -- a newline ends what has come of a line
 pub ended_line : (line more : List ℕ) → list_all is_not_newline line ≡ true → lines (line ++ 10 ∷ more) ≡ (line ++ 10 ∷ []) ∷ lines more
 ended_line [] more h = refl
 ended_line (b ∷ line) more h =
-    let (first, rest) = both (is_not_newline b) (list_all is_not_newline line) h in
+    let (first, rest) = and_parts (is_not_newline b) (list_all is_not_newline line) h in
     in_line b (line ++ 10 ∷ more) first ∙ ap (in_front b) (ended_line line more rest)
 
 -- bytes without a newline are one line
 pub one_line : (b : ℕ) (line : List ℕ) → list_all is_not_newline (b ∷ line) ≡ true → lines (b ∷ line) ≡ (b ∷ line) ∷ []
-one_line b [] h = in_line b [] (both (is_not_newline b) true h).0
+one_line b [] h = in_line b [] (and_parts (is_not_newline b) true h).0
 one_line b (c ∷ line) h =
-    let (first, rest) = both (is_not_newline b) (list_all is_not_newline (c ∷ line)) h in
+    let (first, rest) = and_parts (is_not_newline b) (list_all is_not_newline (c ∷ line)) h in
     in_line b (c ∷ line) first ∙ ap (in_front b) (one_line c line rest)
 
 unended : (b : ℕ) (line : List ℕ) → list_all is_not_newline (b ∷ line) ≡ true → is_ended (b ∷ line) ≡ false
-unended b [] h = is_other (eqb b 10) (both (is_not_newline b) true h).0
-unended b (c ∷ line) h = unended c line (both (is_not_newline b) (list_all is_not_newline (c ∷ line)) h).1
+unended b [] h = not-true (eqb b 10) (and_parts (is_not_newline b) true h).0
+unended b (c ∷ line) h = unended c line (and_parts (is_not_newline b) (list_all is_not_newline (c ∷ line)) h).1
 
 pub with_newline : (line : List ℕ) → is_ended (line ++ 10 ∷ []) ≡ true
 with_newline [] = refl
@@ -75,7 +64,7 @@ cut_byte bytes seen line b other h = record {
       ap lines (append_assoc bytes (b ∷ []) more) ∙ h.cut (b ∷ more)
       ∙ ap (λ (l : List ℕ). seen ++ lines l) (sym (append_assoc line (b ∷ []) more));
   ended = h.ended;
-  inside = all_more line b h.inside (other_inside (eqb b 10) other);
+  inside = all_more line b h.inside (not_from_false (eqb b 10) other);
 }
 
 -- the lines of the bytes, where a newline is behind them and then more

@@ -1,7 +1,6 @@
 -- A run from the first byte to its end.
-use Rattle.std.proofs.Common.{◌≡◌, ℕ, List, [], ◌++◌, Option, None, Some, inl, inr, refl, sym, ap, ◌∙◌, subst, append-nil}
+use Rattle.std.proofs.Common.{◌≡◌, ℕ, List, [], ◌++◌, Option, inl, inr, refl, sym, subst, append-nil}
 use Rattle.std.specs.Prelude.{⊤}
-use Rattle.std.specs.Io.KnownBytes.{Consumes, Keeps}
 use Rattle.byte_io.specs.Input.{Counts}
 use Rattle.live_run.specs.declared.showing.Showing.{Showing}
 use Rattle.live_run.specs.declared.ending.LiveEnd.{LiveEnd}
@@ -12,13 +11,6 @@ use Rattle.live_run.specs.Course.{InHead, Phase}
 use Rattle.live_run.specs.Ear.{Hears, IsAt}
 use Rattle.live_run.proofs.CutLemmas.{cut_none}
 use Rattle.live_run.proofs.EarLemmas.{all_answered}
-
--- what stays is consumed no further
-pub consumed_kept : (a b c : Option (List ℕ)) (bytes : List ℕ) → Consumes a b bytes → Keeps b c → Consumes a c bytes
-consumed_kept None b c bytes p k = tt
-consumed_kept (Some xs) None c bytes p k = absurd p
-consumed_kept (Some xs) (Some ys) None bytes p k = absurd k
-consumed_kept (Some xs) (Some ys) (Some zs) bytes p k = p ∙ ap (λ (l : List ℕ). bytes ++ l) (sym k)
 
 tells_by : (past : Past) (a b : Type 0) (given : List ℕ) (told : List (List ℕ)) → (a → b) → Tells past given a told
     → Tells past given b told

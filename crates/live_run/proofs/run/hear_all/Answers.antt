@@ -1,5 +1,5 @@
 use Rattle.std.proofs.Common.{rules, ◌≡◌, ◌<◌, ◌+◌, [], ◌++◌, Ok, Result, Err, inl, inr, refl, take, subst, sym, arith}
-use Rattle.std.proofs.KnownBytes.{Consumes-nil, Consumes-trans}
+use Rattle.std.proofs.KnownBytes.{Consumes-kept, Consumes-nil, Consumes-trans}
 use Rattle.std.proofs.lemmas.Grind.{common_steps}
 use Rattle.live_run.specs.declared.ear.Ear.{Ear}
 use Rattle.live_run.specs.declared.ending.LiveEnd.{LiveEnd}
@@ -8,7 +8,7 @@ use Rattle.live_run.specs.Course.{phase_of}
 use Rattle.live_run.specs.Devices.{devices, observed_by}
 use Rattle.live_run.specs.Ear.{HeardAll}
 use Rattle.live_run.proofs.EarLemmas.{no_piece, pieces}
-use Rattle.live_run.proofs.RunLemmas.{consumed_kept, run_broken, run_stopped}
+use Rattle.live_run.proofs.RunLemmas.{run_broken, run_stopped}
 use Rattle.live_run.proofs.run.hear_all.Goals as goal
 
 pub loop-init : goal.loop-init
@@ -39,7 +39,7 @@ returns-in_err-taken-clause-heard g c =
     (devices c.take.new.self c.loop.out c.loop.journal) r) (sym failed)
     (λ past hears. (
       at.0,
-      consumed_kept _ _ _ at.0 at.1 c.in_err-taken.ensures.bytes,
+      Consumes-kept _ _ _ at.0 at.1 c.in_err-taken.ensures.bytes,
       run_broken c.args.showing g.O.Out.written g.O.Out.failures g.J.Journal.kept g.J.Journal.losses past g.I.In.counts c.args.input.now
           c.take.new.self (c.args.out.now, c.args.journal.now)
           (c.loop.out, c.loop.journal) at.0 (phase_of c.loop.ear.course)
