@@ -21,7 +21,7 @@ use Rattle.face_rows.specs.Rows.{upward}
 use Rattle.face_rows.specs.Operations.{answer}
 use Rattle.face_rows.proofs.PickedLemmas.{picked_has, picked_of}
 use Rattle.lay_point.proofs.Tests.{le_true, lt_false, lt_true, true_le}
-use Rattle.lay_point.proofs.ListLaws.{has_get}
+use Rattle.lay_point.proofs.ListLaws.{has_get, all_has}
 use Rattle.face_rows.proofs.ItemLemmas.{zip_first}
 use Rattle.band_workers.specs.Cuts.{IsLabelled, band_at, whole_band}
 use Rattle.band_workers.specs.Written.{AreNumbersBelow, ArePartsBelow, Part, with_labels, with_parts}
@@ -157,10 +157,6 @@ between cuts y (suc k) low high = by_test (int_lt y (get_or cuts k (pos 0))) ref
         )
 
 -- ---- all together
-
-all_has : {A : Type 0} (P : A → Type 0) (xs : List A) → ((x : A) → Has xs x → P x) → AllByRecursion P xs
-all_has P [] f = tt
-all_has P (x ∷ xs) f = (f x (inl refl), all_has P xs (λ y m. f y (inr m)))
 
 of_ok : (op : Op) (r : Owned) (band : Band) (part : Part) (labels : Vec (ℕ × Bool)) → part ≡ Ok labels → IsLabelled op r band part
     → labels.items ≡ labelled op r band

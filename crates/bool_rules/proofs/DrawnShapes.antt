@@ -1,15 +1,17 @@
 -- The shapes of an operation are drawn by rings, where they keep the limits.
-use Rattle.std.proofs.Common.{◌≡◌, inl, inr, ℕ, zero, suc, ◌<◌, ◌≤◌, Bool, true, false, List, [], ◌∷◌, length, All, refl, sym, subst, arith}
+use Rattle.std.proofs.Common.{◌≡◌, ℕ, zero, suc, ◌<◌, ◌≤◌, Bool, true, false, List, [], ◌∷◌, length, All, refl, sym, subst, arith}
 use Rattle.std.specs.Prelude.{◌&&◌, ◌==◌, IsTrue, if◌then◌else◌, nat_le, slice_index}
 use Rattle.std.specs.List.{AllByRecursion, list_all}
 use Rattle.std.proofs.lemmas.Bool.{and_parts}
 use Rattle.std.proofs.lemmas.Bool.Decides.{nat_tests}
+use Rattle.std.proofs.lemmas.List.Elements.{All-from_recursion, recursion_from_All}
 use Rattle.lay_point.specs.declared.point.Point.{Point}
 use Rattle.lay_point.specs.declared.ring.TheConstants.{MAX_RING_POINTS}
 use Rattle.lay_point.specs.Bridges.{bridged}
 use Rattle.lay_point.specs.Points.{is_in_range}
 use Rattle.lay_point.specs.Rings.{IsRing}
 use Rattle.lay_point.proofs.Members.{Has, contains}
+use Rattle.lay_point.proofs.ListLaws.{all_has}
 use Rattle.lay_layouts.specs.Sound.{IsDrawn}
 use Rattle.lay_flat.specs.Flat.{FlatRing, IsFlat}
 use Rattle.face_rows.proofs.UpwardLemmas.{operation_among}
@@ -24,11 +26,7 @@ use Rattle.bool_rules.specs.Shapes.{Rings, fits, is_short, max_segments, op_ring
 use Rattle.bool_rules.proofs.LabelLemmas.{parts_exist}
 use Rattle.bool_rules.proofs.ShapeLemmas.{edges_tell, inputs_in_order, inputs_round}
 use Rattle.bool_rules.proofs.TurningLemmas.{owned_are_rings}
-use Rattle.bool_rules.proofs.Everywhere.{by_place, by_recursion, tested_each}
-
-each_has : {A : Type 0} (P : A → Type 0) (xs : List A) → ((x : A) → Has xs x → P x) → AllByRecursion P xs
-each_has P [] h = tt
-each_has P (x ∷ xs) h = (h x (inl refl), each_has P xs (λ y m. h y (inr m)))
+use Rattle.bool_rules.proofs.Everywhere.{tested_each}
 
 -- of rings with a label each are rings
 labelled_rings : (p : ℕ) (labels : List ℕ) (rings : Rings) → AllByRecursion IsRing rings → AllByRecursion IsRing (with_label p labels rings)
@@ -71,7 +69,7 @@ drawn_each rings parts are each short k d inside =
     let labels = are.0 in
     let same = are.1.rings_of_part k d inside in
     let used = are.1.used k inside in
-    let path = by_place (λ shape. is_short (bridged shape) ≡ true) parts short k d inside in
+    let path = All-from_recursion (λ shape. is_short (bridged shape) ≡ true) parts short k d inside in
     record {
       some = subst (λ s. 1 ≤ length s) (sym same) (labelled_some k labels rings used.0 used.1 are.1.each used.2);
       each = subst (AllByRecursion IsRing) (sym same) (labelled_rings k labels rings each);
@@ -87,7 +85,7 @@ module _ (op : Op) (a b : List FlatRing) (flat_a : All IsFlat a) (flat_b : All I
       (answer op) e (contains edges e m))
 
   in_range : AllByRecursion (λ e. IsTrue (is_in_range e.0 && is_in_range e.1)) edges
-  in_range = each_has (λ e. IsTrue (is_in_range e.0 && is_in_range e.1)) edges ends where
+  in_range = all_has (λ e. IsTrue (is_in_range e.0 && is_in_range e.1)) edges ends where
     ends : (e : Point × Point) → Has edges e → IsTrue (is_in_range e.0 && is_in_range e.1)
     ends e m =
         let is = rounded_is_in_range (owned_of a b) (owned_are_rings a b flat_a flat_b) (rounded_inputs a b)
@@ -98,7 +96,7 @@ module _ (op : Op) (a b : List FlatRing) (flat_a : All IsFlat a) (flat_b : All I
   rings_sound : AreSound (op_rings op a b)
   rings_sound =
       let tell = edges_tell op a b flat_a flat_b in
-      all_sound edges lesser tell.even tell.rising (by_place (λ e. IsTrue (is_in_range e.0 && is_in_range e.1)) edges in_range)
+      all_sound edges lesser tell.even tell.rising (All-from_recursion (λ e. IsTrue (is_in_range e.0 && is_in_range e.1)) edges in_range)
 
   short_rings : fits op a b ≡ true → AllByRecursion (λ r. is_short r ≡ true) (op_rings op a b)
   unfolding fits
@@ -119,6 +117,6 @@ module _ (op : Op) (a b : List FlatRing) (flat_a : All IsFlat a) (flat_b : All I
 
   pub shapes_drawn : fits op a b ≡ true → AllByRecursion IsDrawn (shapes_of op a b)
   shapes_drawn h =
-      by_recursion IsDrawn (shapes_of op a b)
+      recursion_from_All IsDrawn (shapes_of op a b)
       (drawn_each (op_rings op a b)
       (shapes_of op a b) shapes_are_parts (sound_rings (op_rings op a b) rings_sound (short_rings h)) (short_paths h))

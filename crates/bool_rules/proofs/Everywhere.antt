@@ -1,17 +1,8 @@
 -- What is so of each element of a list stays so in lists that are made of it.
-use Rattle.std.proofs.Common.{◌≡◌, zero, suc, Bool, true, false, List, [], ◌∷◌, ◌++◌, map, All, arith}
+use Rattle.std.proofs.Common.{◌≡◌, Bool, true, false, List, [], ◌∷◌, ◌++◌, map}
 use Rattle.std.specs.Prelude.{Option, None, Some, cond, filter, flat_map}
 use Rattle.std.specs.List.{AllByRecursion, cons_option, filter_map, list_all}
 use Rattle.std.proofs.lemmas.Bool.{and_parts}
-
-pub by_recursion : {A : Type 0} (P : A → Type 0) (xs : List A) → All P xs → AllByRecursion P xs
-by_recursion P [] all = tt
-by_recursion P (x ∷ xs) all = (all zero x (omega arith), by_recursion P xs (λ k d inside. all (suc k) d (omega (arith, inside))))
-
-pub by_place : {A : Type 0} (P : A → Type 0) (xs : List A) → AllByRecursion P xs → All P xs
-by_place P [] all k d inside = absurd (omega (arith, inside))
-by_place P (x ∷ xs) all zero d inside = all.0
-by_place P (x ∷ xs) all (suc k) d inside = by_place P xs all.1 k d (omega (arith, inside))
 
 pub all-append : {A : Type 0} (P : A → Type 0) (xs ys : List A) → AllByRecursion P xs → AllByRecursion P ys → AllByRecursion P (xs ++ ys)
 all-append P [] ys first second = second

@@ -3,6 +3,7 @@ use Rattle.std.proofs.Common.{◌≡◌, ℕ, ◌+◌, Bool, true, false, List, 
 use Rattle.std.specs.Prelude.{◌||◌, not, nat_lt, None, Some, Result, Ok, Err, if◌then◌else◌, is_none, unwrap_or}
 use Rattle.std.specs.FinMap.{entries, get}
 use Rattle.std.specs.List.{AllByRecursion, list_all, list_any}
+use Rattle.std.proofs.lemmas.List.Elements.{All-from_recursion, recursion_from_All}
 use Rattle.lay_point.specs.Rings.{IsRing}
 use Rattle.lay_point.specs.Same.{names_eq}
 use Rattle.lay_point.specs.Turns.{unturned}
@@ -25,7 +26,7 @@ use Rattle.lay_flat.specs.Flat.{FlatRing, IsFlat, is_within}
 use Rattle.lay_flat.specs.Flattening.{Drawn, drawn_at, ends_of, flat_at, flat_of, on_success, rings_at, rings_from, rings_of, tested}
 use Rattle.bool_rules.specs.Laws.{FlatteningsAreFlat}
 use Rattle.bool_rules.proofs.Everywhere.{IfKept, all-append, all-filter, all-filter_map, all-flat_map}
-use Rattle.bool_rules.proofs.Everywhere.{all-map, by_place, by_recursion, tested_each}
+use Rattle.bool_rules.proofs.Everywhere.{all-map, tested_each}
 
 -- a shape's rings are rings
 abbrev HasRings : LentShape → Type 0
@@ -44,7 +45,7 @@ module _ (layout : Layout) (sound : IsSound layout) where
   all_held : AllByRecursion IsHeld (entries layout.items)
   all_held =
       all_weaker (λ e. get layout.items e.0 ≡ Some e.1) IsHeld (λ e at. sound.items e.0 e.1 at) (entries layout.items)
-      (by_recursion (λ e. get layout.items e.0 ≡ Some e.1) (entries layout.items) (entries-found ids_total ids_exact layout.items))
+      (recursion_from_All (λ e. get layout.items e.0 ≡ Some e.1) (entries layout.items) (entries-found ids_total ids_exact layout.items))
 
   held_in : (cell : CellId) → AllByRecursion IsHeld (items_in layout cell)
   unfolding items_in
@@ -124,4 +125,4 @@ flattenings_are_flat layout sound cell layer out h =
     let rings = rings_at layout layer (ends_of layout cell) in
     let ok = accepted (ends_of layout cell) rings out (came layout cell layer out h) in
     let flat = both rings (of_rings layout sound layer (ends_of layout cell)) (tested_each is_within rings ok.within) in
-    by_place IsFlat out (subst (AllByRecursion IsFlat) ok.same flat)
+    All-from_recursion IsFlat out (subst (AllByRecursion IsFlat) ok.same flat)

@@ -1,5 +1,5 @@
 -- Turned rings are rings: a turn takes different points to different points.
-use Rattle.std.proofs.Common.{◌≡◌, ℤ, neg_ℤ, ◌+ℤ◌, Bool, true, false, List, [], ◌∷◌, map, ap, subst, ◌∙◌, arith, refl}
+use Rattle.std.proofs.Common.{◌≡◌, ℤ, neg_ℤ, Bool, true, false, List, [], ◌∷◌, map, ap, subst, ◌∙◌, arith, refl}
 use Rattle.std.specs.Prelude.{All}
 use Rattle.std.proofs.lemmas.Int.{ints}
 use Rattle.std.proofs.lemmas.List.{length-map, map-append}
@@ -11,8 +11,9 @@ use Rattle.lay_point.specs.declared.turn.Quarter.TheVariants.{R0, R90, R180, R27
 use Rattle.lay_point.specs.declared.turn.Turn.{Turn}
 use Rattle.lay_point.specs.Points.{is_in_range}
 use Rattle.lay_point.specs.Rings.{IsRing, NeighboursDiffer, closed}
-use Rattle.lay_point.specs.Turns.{mirrored, shifted, turned, turned_by}
+use Rattle.lay_point.specs.Turns.{mirrored, turned, turned_by}
 use Rattle.lay_point.proofs.EdgeOrder.{same_point}
+use Rattle.lay_point.proofs.TurnLemmas.{shifted_same}
 use Rattle.lay_flat.specs.Flat.{FlatRing, IsFlat}
 use Rattle.snap_chains.specs.declared.owner.Input.{Input}
 use Rattle.snap_chains.specs.declared.owner.Input.TheVariants.{First, Second}
@@ -24,9 +25,6 @@ use Rattle.bool_rules.specs.Shapes.{owned_by, owned_of}
 neg_same : (a b : ℤ) → neg_ℤ a ≡ neg_ℤ b → a ≡ b
 neg_same a b e = omega (arith, ints)
 
-plus_same : (a b s : ℤ) → (a +ℤ s) ≡ (b +ℤ s) → a ≡ b
-plus_same a b s e = omega (arith, ints)
-
 mirrored_same : (m : Bool) (p q : Point) → mirrored m p ≡ mirrored m q → p ≡ q
 mirrored_same false p q e = same_point p q (ap (λ r. r.x) e) (ap (λ r. r.y) e)
 mirrored_same true p q e = same_point p q (neg_same p.x q.x (ap (λ r. r.x) e)) (ap (λ r. r.y) e)
@@ -36,9 +34,6 @@ turned_by_same R0 p q e = e
 turned_by_same R90 p q e = same_point p q (ap (λ r. r.y) e) (neg_same p.y q.y (ap (λ r. r.x) e))
 turned_by_same R180 p q e = same_point p q (neg_same p.x q.x (ap (λ r. r.x) e)) (neg_same p.y q.y (ap (λ r. r.y) e))
 turned_by_same R270 p q e = same_point p q (neg_same p.x q.x (ap (λ r. r.y) e)) (ap (λ r. r.x) e)
-
-pub shifted_same : (s p q : Point) → shifted s p ≡ shifted s q → p ≡ q
-shifted_same s p q e = same_point p q (plus_same p.x q.x s.x (ap (λ r. r.x) e)) (plus_same p.y q.y s.y (ap (λ r. r.y) e))
 
 pub turned_same : (t : Turn) (p q : Point) → turned t p ≡ turned t q → p ≡ q
 unfolding turned

@@ -13,8 +13,8 @@ use Rattle.lay_point.specs.declared.turn.Quarter.TheVariants.{R0, R180, R270, R9
 use Rattle.lay_point.specs.declared.turn.Turn.{Turn}
 use Rattle.lay_point.specs.Points.{is_in_range}
 use Rattle.lay_point.specs.Turns.{composed, turned, unturned}
-use Rattle.lay_point.proofs.TurnLemmas.{turned-composed}
-use Rattle.lay_point.proofs.EdgeOrder.{same_point}
+use Rattle.lay_point.proofs.TurnLemmas.{turned-composed, turned-unturned}
+use Rattle.lay_point.proofs.EdgeOrder.{point_x, same_point}
 use Rattle.lay_point.proofs.NumberLaws.{suc_zero}
 use Rattle.byte_io.proofs.Steps.{after_some}
 use Rattle.cif_grammar.specs.declared.number.Number.{Number}
@@ -36,8 +36,6 @@ use Rattle.cif_laws.specs.Directions.{IsLength, x_of, y_of}
 use Rattle.cif_laws.specs.Distances.{IsDistance}
 use Rattle.cif_laws.proofs.DistanceLemmas.{call_called, only_units}
 
-point_x : (p q : Point) → p ≡ q → p.x ≡ q.x
-point_x p q e = ap (λ (r : Point). r.x) e
 
 point_y : (p q : Point) → p ≡ q → p.y ≡ q.y
 point_y p q e = ap (λ (r : Point). r.y) e
@@ -237,10 +235,6 @@ in_turn scale from (c ∷ cs) turn ratio straight whole e p q =
       (λ h. (turned next p, (one (turned next p)).1 led, more.1 h)),
     ))
 
-not_turned : (p : Point) → turned unturned p ≡ p
-unfolding turned
-not_turned p = same_point _ p (plus_zero p.x) (plus_zero p.y)
-
 in_turn_from : (scale : Scale) (cs : List Change) (found : Option Turn) (turn : Turn) → IsRatio scale → list_any is_askew_change cs ≡ false
     → list_all (is_whole_change scale) cs ≡ true → turn_changed_by scale unturned cs ≡ found → turn_or_fault found ≡ Ok turn → (p q : Point)
     → TakeInTurn scale cs p q ↔ (turned turn p ≡ q)
@@ -248,7 +242,7 @@ in_turn_from scale cs None turn ratio straight whole is e p q = absurd cc
 in_turn_from scale cs (Some found) turn ratio straight whole is e p q =
     let same : found ≡ turn = cc in
     let law = in_turn scale unturned cs turn ratio straight whole (is ∙ ap Some same) p q in
-    subst (λ r. TakeInTurn scale cs r q ↔ (turned turn p ≡ q)) (not_turned p) law
+    subst (λ r. TakeInTurn scale cs r q ↔ (turned turn p ≡ q)) (turned-unturned p) law
 
 call_points : (scale : Scale) (cs : List Change) (turn : Turn) → IsRatio scale → call_turn scale cs ≡ Ok turn → (p q : Point)
     → TakeInTurn scale cs p q ↔ (turned turn p ≡ q)

@@ -12,7 +12,7 @@ use Rattle.lay_point.specs.Edges.{same_edge, touches}
 use Rattle.lay_point.specs.Parity.{xor, parity, distance_right, is_crossed}
 use Rattle.lay_point.proofs.Members.{Has}
 use Rattle.lay_point.proofs.Parity.{parity-xor, parity_agree, parity_none, xor-false}
-use Rattle.lay_point.proofs.BoolLaws.{and-false, and_over_xor}
+use Rattle.lay_point.proofs.BoolLaws.{and-false, and_over_xor, true_false}
 use Rattle.snap_edge_laws.specs.Meeting.{MeetAtEnds}
 use Rattle.snap_chains.specs.declared.owner.Input.{Input}
 use Rattle.snap_chains.specs.declared.owner.Input.TheVariants.{First, Second}
@@ -39,9 +39,6 @@ no_shape op none shapes = ap₂ op (none_of First shapes) (none_of Second shapes
     none_of : (i : Input) (os : List Owner) → some_of i os (λ o. false) ≡ false
     none_of i [] = refl
     none_of i (o ∷ os) = ap₂ (λ a b. a || b) (and-false (input_eq o.input i)) (none_of i os)
-
-pub true_false : (b : Bool) → b ≡ true → b ≡ false → ⊥
-true_false b e f = absurd cc
 
 cancel : (a b : Bool) → xor (xor a b) a ≡ b
 cancel false b = xor-false b

@@ -12,7 +12,7 @@ use Rattle.lay_point.proofs.Tests.{le_false, le_true, lt_false, lt_true}
 use Rattle.lay_point.specs.declared.point.Point.{Point}
 use Rattle.lay_point.specs.Edges.{same_edge, touches}
 use Rattle.lay_point.specs.Parity.{xor, parity, is_crossed}
-use Rattle.lay_point.proofs.EdgeOrder.{one_end}
+use Rattle.lay_point.proofs.EdgeOrder.{one_end, point_x}
 use Rattle.lay_point.proofs.Members.{Has}
 use Rattle.lay_point.proofs.Parity.{parity_agree, parity_none, parity-xor, xor_self}
 use Rattle.lay_point.proofs.BoolLaws.{and-false, and_over_xor, same_by_xor}
@@ -67,9 +67,6 @@ second_false : (a b : Bool) → a ≡ true → (a && b) ≡ false → b ≡ fals
 second_false true b h e = e
 second_false false b h e = absurd cc
 
-x_differs : (p q : Point) → p ≡ q → p.x ≡ q.x
-x_differs p q e = ap (λ (z : Point). z.x) e
-
 pub record IsLeftArm (v : Point) (g : Edge) : Type 0 where
   pub other : Point
   pub joins : Joins g other v
@@ -94,7 +91,7 @@ left_arm_is v a b h ends =
     let more = le_true v.x a.x here.1 in
     ⊎_elim
     (λ (same : v ≡ a). record { other = b; joins = inr (λ i. (sym same i, b)); level = sym level ∙ at_a; left = less })
-    (λ (same : v ≡ b). absurd (omega (arith, linear, less, x_differs v b same)))
+    (λ (same : v ≡ b). absurd (omega (arith, linear, less, point_x v b same)))
     (ends level (sym at_a ∙ level) (inr (omega (arith, linear, less), more))))
     (λ (one : (from_here v a ≡ false) × (from_here v b ≡ true)).
     let here = and_parts (int_eq b.y v.y) (int_le v.x b.x) one.1 in
@@ -102,7 +99,7 @@ left_arm_is v a b h ends =
     let less = le_false v.x a.x (second_false (int_eq a.y v.y) (int_le v.x a.x) (int_eq-same a.y v.y (level ∙ at_b)) one.0) in
     let more = le_true v.x b.x here.1 in
     ⊎_elim
-    (λ (same : v ≡ a). absurd (omega (arith, linear, less, x_differs v a same)))
+    (λ (same : v ≡ a). absurd (omega (arith, linear, less, point_x v a same)))
     (λ (same : v ≡ b). record { other = a; joins = inl (λ i. (a, sym same i)); level = level ∙ at_b; left = less })
     (ends level (sym at_b) (inl (omega (arith, linear, less), more))))
     (one_of (from_here v a) (from_here v b) both.1)
@@ -118,7 +115,7 @@ right_arm_is v a b h ends =
     let less = lt_false v.x b.x (second_false (int_eq b.y v.y) (int_lt v.x b.x) (int_eq-same b.y v.y (sym level ∙ at_a)) one.1) in
     let more = lt_true v.x a.x here.1 in
     ⊎_elim
-    (λ (same : v ≡ a). absurd (omega (arith, linear, more, x_differs v a same)))
+    (λ (same : v ≡ a). absurd (omega (arith, linear, more, point_x v a same)))
     (λ (same : v ≡ b). record { other = a; joins = inl (λ i. (a, sym same i)); level = at_a; right = more })
     (ends level (sym at_a ∙ level) (inr (less, omega (arith, linear, more)))))
     (λ (one : (behind_here v a ≡ false) × (behind_here v b ≡ true)).
@@ -128,7 +125,7 @@ right_arm_is v a b h ends =
     let more = lt_true v.x b.x here.1 in
     ⊎_elim
     (λ (same : v ≡ a). record { other = b; joins = inr (λ i. (sym same i, b)); level = at_b; right = more })
-    (λ (same : v ≡ b). absurd (omega (arith, linear, more, x_differs v b same)))
+    (λ (same : v ≡ b). absurd (omega (arith, linear, more, point_x v b same)))
     (ends level (sym at_b) (inl (less, omega (arith, linear, more)))))
     (one_of (behind_here v a) (behind_here v b) both.1)
 

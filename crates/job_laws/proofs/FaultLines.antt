@@ -28,6 +28,7 @@ use Rattle.job_laws.specs.JobLines.{BeginsSections, IsBlank, IsOnly, JobLine, Na
 use Rattle.job_laws.specs.Faults.{BeginsPart, IsFirstOdd, LeadAll, LeadsOn, Stage}
 use Rattle.job_laws.specs.Faults.Stage.{Front, InOrder, InSession, InText}
 use Rattle.job_laws.proofs.Choices.{choose, is_the_session, none_is, not_err, ok_same, only_is, session_is}
+use Rattle.lay_point.proofs.BoolLaws.{true_false}
 
 -- ---- lines that lead from one stage to another
 
@@ -126,9 +127,6 @@ bind_err {A} (Err d) f e h one other = one (err_of d e h) where
   err_of : {A B : Type 0} (d e : JobFault) → ◌≡◌ {A = Result B JobFault} (Err d) (Err e) → ◌≡◌ {A = Result A JobFault} (Err d) (Err e)
   err_of d e h = cc
 
-no_both : (b : Bool) → b ≡ true → b ≡ false → ⊥
-no_both b first second = cc
-
 is_none : (ws : List Word) → ws ≡ [] → is_none_of ws ≡ true
 is_none ws h = ap is_none_of h
 
@@ -158,8 +156,8 @@ head_reaches n (line ∷ more) m others h =
 
 no_front : (line : JobLine) → is_none_of (words_of line) ≡ false → is_only (codes "%cif") (words_of line) ≡ false
     → (next : Stage) → LeadsOn Front line next → ⊥
-no_front line some other next (inl blank) = no_both (is_none_of (words_of line)) (is_none (words_of line) blank.0) some
-no_front line some other next (inr named) = no_both (is_only (codes "%cif") (words_of line)) (cif_only (words_of line) named.0) other
+no_front line some other next (inl blank) = true_false (is_none_of (words_of line)) (is_none (words_of line) blank.0) some
+no_front line some other next (inr named) = true_false (is_only (codes "%cif") (words_of line)) (cif_only (words_of line) named.0) other
 
 -- no line has words, and 1 is named; or a line is odd
 abbrev pub NamesFront : ℕ → List JobLine → ℕ → Type 0
@@ -209,9 +207,9 @@ named session line is =
 no_part : (session : ℕ) (line : JobLine) → is_only (codes "%order") (words_of line) ≡ false
     → is_session_line session (words_of line) ≡ false → (next : Stage) → BeginsPart session line next → ⊥
 no_part session line no_order no_session next (inl is) =
-    no_both (is_session_line session (words_of line)) (named session line is.0) no_session
+    true_false (is_session_line session (words_of line)) (named session line is.0) no_session
 no_part session line no_order no_session next (inr is) =
-    no_both (is_only (codes "%order") (words_of line)) (order_only (words_of line) is.0) no_order
+    true_false (is_only (codes "%order") (words_of line)) (order_only (words_of line) is.0) no_order
 
 next_length : (done : List (List Step)) (steps : List Step) → InSession (length (done ++ (steps ∷ [])) + 1) ≡ InSession (length done + 2)
 next_length done steps =
@@ -249,7 +247,7 @@ step_odd {B} {P} steps n line f r h blank said odd = by_words (is_none_of (words
 
 no_step : (s : ℕ) (line : JobLine) → is_none_of (words_of line) ≡ false → step_of (words_of line) ≡ None
     → ((next : Stage) → BeginsPart (s + 1) line next → ⊥) → (next : Stage) → LeadsOn (InSession s) line next → ⊥
-no_step s line some none never next (inl (inl blank, same)) = no_both (is_none_of (words_of line)) (is_none (words_of line) blank) some
+no_step s line some none never next (inl (inl blank, same)) = true_false (is_none_of (words_of line)) (is_none (words_of line) blank) some
 no_step s line some none never next (inl (inr says, same)) = absurd (none_some (step_of (words_of line)) says.0 none says.1) where
   none_some : (o : Option Step) (step : Step) → o ≡ None → o ≡ Some step → ⊥
   none_some o step a b = cc
@@ -347,7 +345,7 @@ sections_odd n (line ∷ more) k begins h =
     odd_here InText n line more k (no_text line begins no_order no_session) (err_same n k refused))) where
       no_text : (line : JobLine) → is_section line ≡ true → is_only (codes "%order") (words_of line) ≡ false
           → is_session_line 1 (words_of line) ≡ false → (next : Stage) → LeadsOn InText line next → ⊥
-      no_text line begins no_order no_session next (inl plain) = no_both (is_section line) begins plain.0
+      no_text line begins no_order no_session next (inl plain) = true_false (is_section line) begins plain.0
       no_text line begins no_order no_session next (inr part) = no_part 1 line no_order no_session next part.1
 
 -- the lines of the sessions lead to a stage after which an order can come
@@ -395,7 +393,7 @@ sections_reach n (line ∷ more) res begins h =
 -- ---- the order
 
 no_numbers : (line : JobLine) → list_all is_number (words_of line) ≡ false → (next : Stage) → LeadsOn InOrder line next → ⊥
-no_numbers line other next leads = no_both (list_all is_number (words_of line)) leads.0 other
+no_numbers line other next leads = true_false (list_all is_number (words_of line)) leads.0 other
 
 some_same : (n k : ℕ) → ◌≡◌ {A = Option ℕ} (Some n) (Some k) → n ≡ k
 some_same n k h = cc

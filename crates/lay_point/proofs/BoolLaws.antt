@@ -2,7 +2,7 @@
 use Rattle.std.proofs.Common.{◌≡◌, Bool, true, false, ◌&&◌, ◌||◌, T, refl}
 use Rattle.std.specs.declared.cmp.Ordering.{Ordering}
 use Rattle.std.specs.declared.cmp.Ordering.TheVariants.{Less, Equal, Greater}
-use Rattle.std.specs.Ordering.{is_lt}
+use Rattle.std.specs.Ordering.{is_lt, ordering_then}
 use Rattle.lay_point.specs.Parity.{xor}
 
 pub or-false : (a : Bool) → (a || false) ≡ a
@@ -47,3 +47,12 @@ pub Less_by_test : (o : Ordering) → is_lt o ≡ true → o ≡ Less
 Less_by_test Less h = refl
 Less_by_test Equal h = absurd cc
 Less_by_test Greater h = absurd cc
+
+pub true_false : (a : Bool) → a ≡ true → a ≡ false → ⊥
+true_false a e f = absurd cc
+
+-- what a comparison by two parts finds equal is equal in both
+pub both_equal : (o p : Ordering) → ordering_then o p ≡ Equal → (o ≡ Equal) × (p ≡ Equal)
+both_equal Less p h = absurd cc
+both_equal Equal p h = (refl, h)
+both_equal Greater p h = absurd cc

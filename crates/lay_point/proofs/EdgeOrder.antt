@@ -16,6 +16,9 @@ use Rattle.lay_point.proofs.RingLemmas.{point_eq-true}
 pub same_point : (p q : Point) → p.x ≡ q.x → p.y ≡ q.y → p ≡ q
 same_point p q ex ey = λ i. record { x = ex i; y = ey i }
 
+pub point_x : (p q : Point) → p ≡ q → p.x ≡ q.x
+point_x p q e = ap (λ (r : Point). r.x) e
+
 -- ---- tests
 pub points_decide : IsEquality point_eq
 points_decide = record {

@@ -66,3 +66,7 @@ number_has (x ∷ xs) n e = ⊎_elim (λ (here : nat_eq n x ≡ true). inl (sym 
 
 pub has_number : (xs : List ℕ) (n : ℕ) → Has xs n → list_any (nat_eq n) xs ≡ true
 has_number xs n m = any_true (nat_eq n) xs n m ((Decides-eqb n n).1 refl)
+
+pub all_has : {A : Type 0} (P : A → Type 0) (xs : List A) → ((x : A) → Has xs x → P x) → AllByRecursion P xs
+all_has P [] f = tt
+all_has P (x ∷ xs) f = (f x (inl refl), all_has P xs (λ y m. f y (inr m)))

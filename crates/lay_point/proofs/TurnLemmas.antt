@@ -1,11 +1,12 @@
--- Composed turns take a point where the second takes what the first makes of it.
-use Rattle.std.proofs.Common.{◌≡◌, ℤ, neg_ℤ, ◌+ℤ◌, Bool, true, false, not, cond, refl, ap, sym, ◌∙◌, arith}
+-- Composed turns take a point where the second takes what the first makes of it. The turn that changes nothing leaves each point
+-- where it is, and a shift takes different points to different points.
+use Rattle.std.proofs.Common.{◌≡◌, ℤ, pos, neg_ℤ, ◌+ℤ◌, Bool, true, false, not, cond, refl, ap, sym, ◌∙◌, arith}
 use Rattle.std.proofs.lemmas.Int.{ints}
 use Rattle.lay_point.specs.declared.point.Point.{Point}
 use Rattle.lay_point.specs.declared.turn.Quarter.{Quarter}
 use Rattle.lay_point.specs.declared.turn.Quarter.TheVariants.{R0, R90, R180, R270}
 use Rattle.lay_point.specs.declared.turn.Turn.{Turn}
-use Rattle.lay_point.specs.Turns.{composed, mirrored, next_quarter, opposite, quarters, shifted, turned, turned_by}
+use Rattle.lay_point.specs.Turns.{composed, mirrored, next_quarter, opposite, quarters, shifted, turned, turned_by, unturned}
 use Rattle.lay_point.proofs.Products.{+ℤ_assoc}
 
 neg-neg : (a : ℤ) → neg_ℤ (neg_ℤ a) ≡ a
@@ -95,3 +96,18 @@ turned-composed first next p =
     (moved next.mirror next.quarter (moved first.mirror first.quarter p))
     ∙ ap (shifted next.shift)
     (sym (moved-shifted next.mirror next.quarter first.shift (moved first.mirror first.quarter p)))
+
+-- no turn
+plus_none : (a : ℤ) → a +ℤ pos 0 ≡ a
+plus_none a = omega (arith, ints)
+
+pub turned-unturned : (p : Point) → turned unturned p ≡ p
+unfolding turned
+turned-unturned p = same_point (plus_none p.x) (plus_none p.y)
+
+-- shifts
+plus_same : (a b s : ℤ) → (a +ℤ s) ≡ (b +ℤ s) → a ≡ b
+plus_same a b s e = omega (arith, ints)
+
+pub shifted_same : (s p q : Point) → shifted s p ≡ shifted s q → p ≡ q
+shifted_same s p q e = same_point (plus_same p.x q.x s.x (ap (λ r. r.x) e)) (plus_same p.y q.y s.y (ap (λ r. r.y) e))

@@ -4,6 +4,7 @@ use Rattle.std.specs.Global.{Vec}
 use Rattle.std.specs.List.{list_all}
 use Rattle.lay_point.specs.declared.ring.Ring.{Ring}
 use Rattle.lay_point.specs.Memory.{IsAnswer}
+use Rattle.lay_point.proofs.BoolLaws.{and-false}
 use Rattle.face_ring_laws.specs.Linking.{Ends, linked_rings}
 use Rattle.face_rings.specs.declared.fault.LinkFault.{LinkFault}
 use Rattle.face_rings.specs.declared.fault.LinkFault.TheVariants as link
@@ -25,10 +26,6 @@ parts_are edges rings parts same h =
     (parts_exist (linked_rings edges))
 
 -- ---- what is answered
-and_false : (b : Bool) → (b && false) ≡ false
-and_false true = refl
-and_false false = refl
-
 long_ring : (edges : List Ends) → list_all is_short (linked_rings edges) ≡ false → shaped edges ≡ Err TooMany
 unfolding shaped
 long_ring edges h =
@@ -40,7 +37,7 @@ unfolding shaped
 long_path edges h =
     let parts = parts_of (linked_rings edges) in
     ap (λ b. cond {A = Result (List Rings) OpFault} (list_all is_short (linked_rings edges) && b) (Ok parts) (Err TooMany)) h
-    ∙ ap (λ b. cond {A = Result (List Rings) OpFault} b (Ok parts) (Err TooMany)) (and_false (list_all is_short (linked_rings edges)))
+    ∙ ap (λ b. cond {A = Result (List Rings) OpFault} b (Ok parts) (Err TooMany)) (and-false (list_all is_short (linked_rings edges)))
 
 all_fit : (edges : List Ends) → list_all is_short (linked_rings edges) ≡ true → are_short (parts_of (linked_rings edges)) ≡ true
     → shaped edges ≡ Ok (parts_of (linked_rings edges))

@@ -1,18 +1,10 @@
 -- The turn that changes nothing takes each point where it is.
-use Rattle.std.proofs.Common.{◌≡◌, ℤ, pos, ◌+ℤ◌, true, List, [], ◌∷◌, map, refl, ap, ◌∙◌, arith}
-use Rattle.std.proofs.lemmas.Int.{ints}
+use Rattle.std.proofs.Common.{◌≡◌, true, List, [], ◌∷◌, map, refl, ap, ◌∙◌}
 use Rattle.lay_point.specs.declared.point.Point.{Point}
 use Rattle.lay_point.specs.declared.turn.Turn.{Turn}
 use Rattle.lay_point.specs.SameTurn.{turn_eq, turn_eq-Decides}
 use Rattle.lay_point.specs.Turns.{turned, unturned}
-use Rattle.lay_point.proofs.EdgeOrder.{same_point}
-
-plus-zero : (a : ℤ) → a +ℤ pos 0 ≡ a
-plus-zero a = omega (arith, ints)
-
-turned-unturned : (p : Point) → turned unturned p ≡ p
-unfolding turned
-turned-unturned p = same_point (turned unturned p) p (plus-zero p.x) (plus-zero p.y)
+use Rattle.lay_point.proofs.TurnLemmas.{turned-unturned}
 
 all_unturned : (ps : List Point) → map (turned unturned) ps ≡ ps
 all_unturned [] = refl

@@ -8,6 +8,7 @@ use Rattle.std.proofs.lemmas.Bool.Decides.{Decides-and, Decides-eqb, Decides-lik
 use Rattle.std.proofs.lemmas.Cmp.{nat_cmp_total, on_total, then_total, ranked}
 use Rattle.lay_point.proofs.Rising.{IsStrictOrder}
 use Rattle.lay_point.proofs.NumberLaws.{numbers_are_strict}
+use Rattle.lay_point.proofs.BoolLaws.{both_equal}
 use Rattle.snap_chains.specs.declared.owner.Input.{Input}
 use Rattle.snap_chains.specs.declared.owner.Input.TheVariants.{First, Second}
 use Rattle.snap_chains.specs.declared.owner.Owner.{Owner}
@@ -36,11 +37,6 @@ pub first_less : (o p : Ordering) → ordering_then o p ≡ Less → (o ≡ Less
 first_less Less p h = inl refl
 first_less Equal p h = inr (refl, h)
 first_less Greater p h = cc
-
-pub both_equal : (o p : Ordering) → ordering_then o p ≡ Equal → (o ≡ Equal) × (p ≡ Equal)
-both_equal Less p h = cc
-both_equal Equal p h = (refl, h)
-both_equal Greater p h = cc
 
 -- ---- inputs and owners
 -- what `cmp` of inputs computes

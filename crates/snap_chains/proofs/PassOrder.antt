@@ -6,9 +6,10 @@ use Rattle.std.specs.Cmp.{IsTotalOrder}
 use Rattle.std.proofs.lemmas.Cmp.{nat_cmp_total, on_total, then_total}
 use Rattle.lay_point.proofs.Rising.{IsStrictOrder}
 use Rattle.lay_point.proofs.NumberLaws.{numbers_are_strict}
+use Rattle.lay_point.proofs.BoolLaws.{both_equal}
 use Rattle.snap_chains.specs.Owners.{IsOwnerBefore}
 use Rattle.snap_chains.proofs.OddLemmas.{IsSortOrder}
-use Rattle.snap_chains.proofs.OwnerOrder.{strict_by, first_less, both_equal, owner_cmp_total, number_less, number_exact, owner_less,
+use Rattle.snap_chains.proofs.OwnerOrder.{strict_by, first_less, owner_cmp_total, number_less, number_exact, owner_less,
     owner_exact, owners_are_strict}
 use Rattle.snap_chains.specs.declared.pass.Pass.{Pass}
 use Rattle.snap_chains.specs.Reading.{NumberedEdge, numbered_edge, pass_eq, pass_cmp, owner_cmp, AreEndsBefore, IsPassBefore}

@@ -4,7 +4,6 @@
 -- tests/jobs/a-dropped-symbol-is-stale.job and tests/jobs/a-filled-symbol-is-stale.job.
 use Rattle.std.specs.Prelude.{◌≡◌, ℕ, Bool, List, [], ◌∷◌, Some, refl}
 use Rattle.std.specs.declared.cmp.Ordering.{Ordering}
-use Rattle.std.specs.declared.cmp.Ordering.TheVariants.{Equal, Greater, Less}
 use Rattle.std.specs.Cmp.{IsPartialEquivalence, IsPartialOrder, IsTotalOrder, eq_by_cmp_equiv, partial_equiv_from_equiv, po}
 use Rattle.std.specs.Cmp.Lexicographic.{on_texts, slice_cmp}
 use Rattle.std.specs.Coded.{Coded}
@@ -19,6 +18,7 @@ use Rattle.lay_cells.specs.declared.cell_id.CellId.TheVariants.{Symbol, Top}
 use Rattle.txn_commands.specs.contracts.element.Element as element
 use Rattle.txn_commands.specs.declared.element.Element.{Element}
 use Rattle.txn_commands.specs.declared.element.Element.TheVariants.{Calls, Cell, Content, Item, Layer, Uses}
+use Rattle.lay_point.proofs.BoolLaws.{both_equal}
 
 -- the top cell comes before the symbols
 abbrev pub cell_rank : CellId → ℕ
@@ -105,15 +105,9 @@ same_code (Content m) (Content n) e h = cc
 same_code (Uses m) (Uses n) e h = cc
 same_code e f h n = absurd cc
 
--- what doesn't come before or after is equal in both parts
-tied_parts : (r s : Ordering) → ordering_then r s ≡ Equal → (r ≡ Equal) × (s ≡ Equal)
-tied_parts Less s h = absurd cc
-tied_parts Equal s h = (refl, h)
-tied_parts Greater s h = absurd cc
-
--- and elements that it doesn't distinguish are equal
+-- elements that it doesn't distinguish are equal
 pub elements_exact : IsAntisymmetric element_cmp
 elements_exact e f h =
-    let parts = tied_parts (slice_cmp nat_cmp (numbers_of e) (numbers_of f)) (slice_cmp nat_cmp (element_layer e) (element_layer f)) h in
+    let parts = both_equal (slice_cmp nat_cmp (numbers_of e) (numbers_of f)) (slice_cmp nat_cmp (element_layer e) (element_layer f)) h in
     same_code e f (slice_cmp-IsAntisymmetric nat_cmp-IsAntisymmetric (numbers_of e) (numbers_of f) parts.0)
     (slice_cmp-IsAntisymmetric nat_cmp-IsAntisymmetric (element_layer e) (element_layer f) parts.1)

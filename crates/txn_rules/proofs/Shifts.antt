@@ -1,8 +1,7 @@
 -- Shifted rings are rings, where they stay in range, and their bridged path is as long.
-use Rattle.std.proofs.Common.{◌≡◌, ◌+ℤ◌, ℤ, Bool, true, false, cond, List, [], ◌∷◌, ◌++◌, map, length, refl, ap, sym, subst, ◌∙◌, arith}
+use Rattle.std.proofs.Common.{◌≡◌, Bool, true, false, cond, List, [], ◌∷◌, ◌++◌, map, length, refl, ap, sym, subst, ◌∙◌, arith}
 use Rattle.std.proofs.lemmas.Bool.{and_parts}
 use Rattle.std.proofs.lemmas.Bool.Decides.{Decides-like, same_from_decides}
-use Rattle.std.proofs.lemmas.Int.{ints}
 use Rattle.std.proofs.lemmas.List.{length-map, map-append}
 use Rattle.std.specs.List.{AllByRecursion, list_all}
 use Rattle.lay_point.specs.declared.point.Point.{Point}
@@ -11,22 +10,13 @@ use Rattle.lay_point.specs.Points.{is_in_range, point_eq}
 use Rattle.lay_point.specs.Rings.{IsRing, NeighboursDiffer, closed, kept_behind, opened, opened_behind, without_repeats}
 use Rattle.lay_point.specs.Same.{point_eq-Decides}
 use Rattle.lay_point.specs.Turns.{shifted}
+use Rattle.lay_point.proofs.TurnLemmas.{shifted_same}
 use Rattle.lay_layouts.specs.Sound.{IsDrawn}
 use Rattle.txn_commands.specs.Figures.{are_in_range, shifted_rings}
 
-same_number : (a b s : ℤ) → a +ℤ s ≡ b +ℤ s → a ≡ b
-same_number a b s h = omega (arith, ints)
-
--- points that are shifted to one are one
-same_shifted : (s p q : Point) → shifted s p ≡ shifted s q → p ≡ q
-same_shifted s p q h = λ i. record {
-  x = same_number p.x q.x s.x (ap (λ (r : Point). r.x) h) i;
-  y = same_number p.y q.y s.y (ap (λ (r : Point). r.y) h) i;
-}
-
 point_eq-shifted : (s p q : Point) → point_eq (shifted s p) (shifted s q) ≡ point_eq p q
 point_eq-shifted s p q = same_from_decides (point_eq (shifted s p) (shifted s q)) (point_eq p q)
-    (Decides-like (point_eq (shifted s p) (shifted s q)) (same_shifted s p q) (ap (shifted s))
+    (Decides-like (point_eq (shifted s p) (shifted s q)) (shifted_same s p q) (ap (shifted s))
     (point_eq-Decides (shifted s p) (shifted s q)))
     (point_eq-Decides p q)
 
@@ -95,7 +85,7 @@ module _ (s : Point) where
   differ_moved : (ps : List Point) → NeighboursDiffer ps → NeighboursDiffer (moved ps)
   differ_moved [] h = tt
   differ_moved (p ∷ []) h = tt
-  differ_moved (p ∷ q ∷ ps) h = ((λ e. h.0 (same_shifted s p q e)), differ_moved (q ∷ ps) h.1)
+  differ_moved (p ∷ q ∷ ps) h = ((λ e. h.0 (shifted_same s p q e)), differ_moved (q ∷ ps) h.1)
 
   pub ring_moved : (ring : List Point) → IsRing ring → list_all is_in_range (moved ring) ≡ true → IsRing (moved ring)
   ring_moved ring is near =

@@ -3,11 +3,11 @@ use Rattle.std.proofs.Common.{◌≡◌, ℕ, ◌<◌, ◌==◌, Bool, true, fal
 use Rattle.std.proofs.Common.{refl, sym, ap, subst, ◌∙◌, arith}
 use Rattle.std.specs.Prelude.{nat_lt}
 use Rattle.std.proofs.lemmas.Bool.Decides.{Decides-eqb, nat_tests}
-use Rattle.std.proofs.lemmas.Cmp.{nat_cmp_total}
+use Rattle.std.proofs.lemmas.Cmp.{nat_cmp_total, ranked}
 use Rattle.std.proofs.lemmas.List.Filters.{dedup_is}
 use Rattle.std.proofs.lemmas.List.Folds.{list_any-append}
 use Rattle.std.proofs.lemmas.List.Kept.{IsStrictlySortedBy-dedup}
-use Rattle.std.specs.declared.cmp.Ordering.TheVariants.{Equal, Greater, Less}
+use Rattle.std.specs.declared.cmp.Ordering.TheVariants.{Less}
 use Rattle.std.specs.Cmp.{unsigned_ties}
 use Rattle.std.specs.List.{AllByRecursion, list_any}
 use Rattle.std.specs.List.Retain.{DiffersFromLast, IsFiltered}
@@ -43,16 +43,9 @@ order_rises sorted once order filtered =
 
 -- ---- places that rise
 
-less_so : (a b : ℕ) → nat_cmp a b ≡ Less → a < b
-less_so a b h = by (nat_lt a b) refl (a == b) refl h where
-  by : (x : Bool) → nat_lt a b ≡ x → (y : Bool) → (a == b) ≡ y → cond x Less (cond y Equal Greater) ≡ Less → a < b
-  by true less y same h = grind (arith, nat_tests, less)
-  by false less true same h = absurd cc
-  by false less false same h = absurd cc
-
 pub above : (a : ℕ) (ks : List ℕ) → AllByRecursion (λ y. nat_cmp a y ≡ Less) ks → AllByRecursion (λ j. a < j) ks
 above a [] all = tt
-above a (k ∷ ks) all = (less_so a k all.0, above a ks all.1)
+above a (k ∷ ks) all = (ranked a k Less (sym all.0), above a ks all.1)
 
 -- below them all is what is below the first
 pub further : (ks : List ℕ) (n k : ℕ) → n < k → AllByRecursion (λ j. k < j) ks → AllByRecursion (λ j. n < j) ks

@@ -1,30 +1,24 @@
 -- Pairs of elements and places, in their order.
-use Rattle.std.proofs.Common.{◌≡◌, ℕ, ◌==◌, true, false, not, cond, ◌||◌, ◌&&◌, refl, ap, sym, ◌∙◌}
-use Rattle.std.specs.declared.cmp.Ordering.{Ordering}
-use Rattle.std.specs.declared.cmp.Ordering.TheVariants.{Equal, Greater, Less}
+use Rattle.std.proofs.Common.{◌≡◌, ℕ, ◌==◌, true, false, not, cond, ◌||◌, ◌&&◌, ap, sym, ◌∙◌}
 use Rattle.std.specs.Cmp.{IsTotalOrder}
 use Rattle.std.specs.FinMap.{nat_cmp-IsAntisymmetric}
 use Rattle.std.specs.FinSet.{IsAntisymmetric, contains-insert, contains-remove, insert, remove}
-use Rattle.std.specs.Ordering.{eq_by_cmp, nat_cmp, ordering_then}
+use Rattle.std.specs.Ordering.{eq_by_cmp, nat_cmp}
 use Rattle.txn_commands.specs.declared.element.Element.{Element}
 use Rattle.txn_commands.specs.Elements.{element_cmp, element_eq, elements_exact, elements_total}
 use Rattle.txn_marks.proofs.SetLemmas.{not_cond, or_cond}
 use Rattle.undo_index.specs.Listed.{Listed, is_listed, pair_cmp}
 use Rattle.undo_index.proofs.UnderLemmas.{keyed_eq, keyed_total}
+use Rattle.lay_point.proofs.BoolLaws.{both_equal}
 
 -- ---- their order
 
 pub pairs_total : IsTotalOrder pair_cmp
 pairs_total = keyed_total elements_total
 
-tied_parts : (r s : Ordering) → ordering_then r s ≡ Equal → (r ≡ Equal) × (s ≡ Equal)
-tied_parts Less s h = absurd cc
-tied_parts Equal s h = (refl, h)
-tied_parts Greater s h = absurd cc
-
 pub pairs_exact : IsAntisymmetric pair_cmp
 pairs_exact a b h =
-    let parts = tied_parts (element_cmp a.0 b.0) (nat_cmp a.1 b.1) h in
+    let parts = both_equal (element_cmp a.0 b.0) (nat_cmp a.1 b.1) h in
     let first : a.0 ≡ b.0 = elements_exact a.0 b.0 parts.0 in
     let second : a.1 ≡ b.1 = nat_cmp-IsAntisymmetric a.1 b.1 parts.1 in
     λ i. (first i, second i)

@@ -19,7 +19,7 @@ use Rattle.undo_index.specs.First.{IsFirst, has_place}
 use Rattle.undo_index.specs.Kept.{places_of}
 use Rattle.undo_index.proofs.FirstLemmas.{first_alike}
 use Rattle.undo_index.proofs.RangeLemmas.{any_and, any_filter}
-use Rattle.undo_index.proofs.TreeLemmas.{none_of}
+use Rattle.lay_point.proofs.BoolLaws.{and-false}
 use Rattle.undo_index.specs.Listed.{Listed, is_listed, pair_cmp}
 use Rattle.undo_index.specs.Parts.{is_kept, is_one_of, listed_in_parts, pairs_of}
 use Rattle.undo_index.proofs.ListedLemmas.{same_listed}
@@ -39,7 +39,7 @@ in_own e k p ps =
 other_key : (k e f : Element) (b : Bool) → (not (element_eq k f) && (element_eq e f && b)) ≡ (not (element_eq e k) && (element_eq e f && b))
 other_key k e f b = by (element_eq e f) refl where
   by : (t : Bool) → element_eq e f ≡ t → (not (element_eq k f) && (t && b)) ≡ (not (element_eq e k) && (t && b))
-  by false is = none_of (not (element_eq k f)) ∙ sym (none_of (not (element_eq e k)))
+  by false is = and-false (not (element_eq k f)) ∙ sym (and-false (not (element_eq e k)))
   by true is =
       let same : e ≡ f = elements_exact e f ((Equal-is (element_cmp e f)).0 is) in
       ap (λ c. not c && b) (ap (element_eq k) (sym same) ∙ (eq_by_cmp_equiv elements_total).symm k e)
@@ -139,7 +139,7 @@ pub none_less : (m : BTreeMap Element Kept) (x : Element) (place : ℕ) → None
     listed_in_parts m ≡ remove (listed_in_parts m) (x, place)
 none_less m x place none = kept_less m m x place None turns less where
   less : (p : ℕ) → false ≡ (not (p == place) && is_kept m x p)
-  less p = sym (none_of (not (p == place))) ∙ ap (λ o. not (p == place) && is_one_of o p) none
+  less p = sym (and-false (not (p == place))) ∙ ap (λ o. not (p == place) && is_one_of o p) none
 
   turns : IsTurned m m x None
   turns q = by (element_eq x q) refl where

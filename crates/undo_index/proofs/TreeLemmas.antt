@@ -16,10 +16,6 @@ use Rattle.undo_index.proofs.RangeLemmas.{any_and, any_filter, at_least, not_mor
 
 -- ---- a sole place
 
-pub none_of : (a : Bool) → (a && false) ≡ false
-none_of true = refl
-none_of false = refl
-
 -- ---- a tree
 
 tree_has : (s : BTreeSet ℕ) (p : ℕ) → contains nat_cmp s p ≡ has_place s.keys p

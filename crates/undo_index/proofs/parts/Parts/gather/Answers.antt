@@ -2,10 +2,9 @@ use Rattle.std.proofs.Common.{◌≡◌, ◌∙◌, ◌||◌, None, Some, ap, ru
 use Rattle.std.specs.Prelude.{nat_lt}
 use Rattle.std.specs.BTreeMap.{get}
 use Rattle.std.proofs.lemmas.Result.{on_ok_weaker}
-use Rattle.lay_point.proofs.BoolLaws.{or-false}
 use Rattle.txn_commands.specs.Elements.{element_cmp}
 use Rattle.undo_index.specs.First.{has_place}
-use Rattle.undo_index.proofs.TreeLemmas.{none_of}
+use Rattle.lay_point.proofs.BoolLaws.{and-false, or-false}
 use Rattle.undo_index.proofs.PartsLemmas.{gathered_found}
 use Rattle.undo_index.proofs.parts.Parts.gather.Goals as goal
 
@@ -21,4 +20,4 @@ returns-in-None c =
     let old = c.args.found.now.items in
     let none : None ≡ get element_cmp c.self.inside.places c.args.element = search rules in
     gathered_found c.self.inside.places c.args.self.now c.self.view_is c.args.element None none c.args.below old old
-    (λ p. sym (ap (λ b. has_place old p || b) (none_of (nat_lt p c.args.below)) ∙ or-false (has_place old p)))
+    (λ p. sym (ap (λ b. has_place old p || b) (and-false (nat_lt p c.args.below)) ∙ or-false (has_place old p)))
