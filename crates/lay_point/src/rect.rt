@@ -6,7 +6,7 @@ ghost use Rattle.lay_point.specs.Rects.{grown, is_up_to, touch};
 use crate::point::Point;
 
 /// A box with sides along the axes, its sides included.
-#[derive(Clone, Copy, Debug, PartialEq, Eq, PartialOrd, Ord, Default)]
+#[derive(Clone, Copy, Debug, PartialEq, Eq)]
 pub struct Rect {
     /// The lower left corner.
     pub low: Point,
