@@ -3,6 +3,7 @@ use Rattle.std.proofs.Common.{◌≡◌, inl, inr, ⊎_elim, Bool, true, false, 
 use Rattle.std.proofs.Common.{refl, sym, ap, ap₂, subst, ◌∙◌}
 use Rattle.std.specs.List.{AllZip, flat_map, list_any, zip}
 use Rattle.std.proofs.lemmas.Bool.{and_parts, false≢true, or_cases}
+use Rattle.std.specs.Cmp.{both_ways}
 use Rattle.lay_point.specs.declared.point.Point.{Point}
 use Rattle.lay_point.specs.Edges.{is_before, same_edge, undirected}
 use Rattle.lay_point.specs.Parity.{xor, parity, odd, is_crossed}
@@ -18,7 +19,6 @@ use Rattle.snap_chains.specs.declared.owner.Owner.{Owner}
 use Rattle.snap_chains.specs.Owners.{input_eq, owner_eq}
 use Rattle.snap_chains.specs.Round.{AreOwnersOf, IsRoundOf, owner_walks}
 use Rattle.snap_chains.specs.Rounded.{Owned, is_owner_listed}
-use Rattle.snap_slabs.proofs.Sorted.{same_tests}
 use Rattle.snap_chains.proofs.OwnerOrder.{owner_eq-Decides}
 use Rattle.face_rows.specs.Labels.{Item, answer_at, listed_shapes, odd_of, owned_items, some_of}
 use Rattle.face_rows.proofs.Cuts.{AreDistinct, parity_of_one}
@@ -117,7 +117,7 @@ owners_of_rings rings r h o k x y =
         → is_owner_listed o p.1 ≡ parity (same_edge p.0) (walked_edges undirected (owner_walks o rings h.walks))
     listed p m =
         let owners = item_owners (AreOwnersOf rings h.walks) r.0 r.1 h.owners p m in
-        same_tests (is_owner_listed o p.1) (is_owned (owner_walks o rings h.walks) p.0)
+        both_ways (is_owner_listed o p.1) (is_owned (owner_walks o rings h.walks) p.0)
         (λ t. (owners.exact o).0 (contains p.1 o (listed_has o p.1 t)))
         (λ t. has_listed o p.1 (has p.1 o ((owners.exact o).1 t)))
 
@@ -140,7 +140,7 @@ inside_has k x y o (r ∷ rings) (w ∷ walks) e = by_test (owner_eq r.0 o) refl
 
 input_holds : (rings : List (Owner × List Point)) (r : Owned) (h : IsRoundOf rings r) (input : Input) (k x y : ℤ)
     → some_of input (listed_shapes (owned_items r)) (λ o. odd_of (owned_items r) o k x y) ≡ holds input rings h.walks k x y
-input_holds rings r h input k x y = same_tests _ _
+input_holds rings r h input k x y = both_ways _ _
     (λ t.
     let shape = (inputs_are_their_shapes r input k x y).0 t in
     let o : Owner = record { input = input; shape = shape.0 } in

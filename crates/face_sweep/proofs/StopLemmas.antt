@@ -54,6 +54,7 @@ use Rattle.face_sweep.specs.declared.ends.Ends.{Ends}
 use Rattle.face_sweep.specs.declared.ends.Place.{Place}
 use Rattle.face_sweep.specs.declared.stops.Stop.{Stop}
 use Rattle.face_sweep.specs.declared.stops.Stops.{Stops}
+use Rattle.snap_pixels.proofs.GatheredLemmas.{parts_of_less}
 
 all_has : {A : Type 0} (P : A → Type 0) (xs : List A) → ((x : A) → Has xs x → P x) → All P xs
 all_has P xs f k d less = f (get_or xs k d) (has_get xs k d less)
@@ -71,13 +72,6 @@ place_back q =
     ≡ q.key = (λ i. y i * 4294967296 + (4294967295 - x i)) ∙ omega arith in
     λ i. record { key = key i }
 
-sooner_parts : (a b : ℕ) → a < b
-    → ((a / 4294967296 ≡ b / 4294967296) × (a % 4294967296 < b % 4294967296)) ⊎ (a / 4294967296 < b / 4294967296)
-sooner_parts a b less = ⊎_elim
-    (λ (lt : a / 4294967296 < b / 4294967296). inr lt)
-    (λ (ge : b / 4294967296 ≤ a / 4294967296). inl (omega arith, omega arith))
-    (cases_lt (a / 4294967296) (b / 4294967296))
-
 shifted_less : (m n : ℕ) → m < n → above_least m <ℤ above_least n
 shifted_less m n less = omega (arith, linear)
 
@@ -88,7 +82,7 @@ sooner_after a b less = ⊎_elim
     inl (ap above_least h.0, shifted_less (4294967295 - b.key % 4294967296) (4294967295 - a.key % 4294967296) (omega (arith, lt))))
     (λ (lt : a.key / 4294967296 < b.key / 4294967296).
     inr (shifted_less (a.key / 4294967296) (b.key / 4294967296) lt))
-    (sooner_parts a.key b.key less)
+    (parts_of_less a.key b.key less)
 
 -- ---- the order of the sweep
 after_irreflexive : (p : Point) → IsAfter p p → ⊥

@@ -3,7 +3,7 @@ use Rattle.std.proofs.Common.{◌≡◌, ◌↔◌, inl, inr, List, [], true, re
 use Rattle.std.specs.declared.cmp.Ordering.{Ordering}
 use Rattle.std.specs.declared.cmp.Ordering.TheVariants.{Less, Equal, Greater}
 use Rattle.std.specs.Ordering.{int_cmp, on, then_cmp, ordering_then, eq_by_cmp, is_eq}
-use Rattle.std.specs.Cmp.{IsTotalOrder}
+use Rattle.std.specs.Cmp.{IsTotalOrder, both_ways}
 use Rattle.std.specs.List.Retain.{IsFiltered, DiffersFromLast}
 use Rattle.std.specs.List.Sorted.{IsPermutation, IsSorted}
 use Rattle.std.proofs.lemmas.Cmp.{int_ranked, int_cmp_total, on_total, then_total, tied_itself}
@@ -16,7 +16,7 @@ use Rattle.snap_pixels.specs.Segments.{Meets}
 use Rattle.snap_pixels.proofs.OrderLemmas.{point_cmp, point_cmp_total, IsBefore-from_Less}
 use Rattle.snap_edge_laws.specs.Edges.{key, IsBelow}
 use Rattle.snap_edge_laws.specs.Chains.{IsChain}
-use Rattle.snap_slabs.proofs.Sorted.{IsOrder, same_tests, sorted_once}
+use Rattle.snap_slabs.proofs.Sorted.{IsOrder, sorted_once}
 
 -- the order along the segment, as `cmp` of the key and the point computes it
 abbrev pub along_cmp : Segment → Point → Point → Ordering
@@ -37,7 +37,7 @@ same_by_key p q Equal h = matches_eq-law p q ∙ h
 same_by_key p q Greater h = cc
 
 ties : (s : Segment) (p q : Point) → point_eq p q ≡ eq_by_cmp (along_cmp s) p q
-ties s p q = same_tests (point_eq p q) (eq_by_cmp (along_cmp s) p q)
+ties s p q = both_ways (point_eq p q) (eq_by_cmp (along_cmp s) p q)
     (λ e. subst (λ v. is_eq (along_cmp s p v) ≡ true) ((point_eq-Decides p q).0 e) (ap is_eq (tied_itself (along_cmp_total s) p)))
     (λ e. same_by_key p q (int_cmp (key s p) (key s q)) e)
 

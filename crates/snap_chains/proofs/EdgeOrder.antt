@@ -1,16 +1,15 @@
 -- The order of edges as `Ord` computes it.
-use Rattle.std.proofs.Common.{◌≡◌, inl, inr, refl, sym, ap, ◌∙◌, Decides}
+use Rattle.std.proofs.Common.{◌≡◌, inl, inr, refl, sym, ap, Decides}
 use Rattle.std.specs.declared.cmp.Ordering.{Ordering}
 use Rattle.std.specs.declared.cmp.Ordering.TheVariants.{Less, Equal, Greater}
-use Rattle.std.specs.Ordering.{is_eq, on, then_cmp, ordering_then}
+use Rattle.std.specs.Ordering.{on, then_cmp, ordering_then}
 use Rattle.std.specs.Cmp.{IsTotalOrder}
 use Rattle.std.proofs.lemmas.Bool.Decides.{Decides-and, Decides-like}
 use Rattle.std.proofs.lemmas.Cmp.{on_total, then_total}
 use Rattle.lay_point.specs.declared.point.Point.{Point}
 use Rattle.lay_point.specs.contracts.edge.EdgeOrd.TheImpl.Laws.{matches_eq-law}
-use Rattle.lay_point.specs.contracts.point.PointOrd.TheImpl.Laws.{matches_eq-law as point_ties}
 use Rattle.lay_point.specs.Same.{point_eq-Decides}
-use Rattle.snap_pixels.proofs.OrderLemmas.{point_cmp, point_cmp_total, IsBefore-from_Less}
+use Rattle.snap_pixels.proofs.OrderLemmas.{point_cmp, point_cmp_total, IsBefore-from_Less, same-from_Equal}
 use Rattle.lay_point.specs.Edges.{IsEdgeBefore, same_edge}
 use Rattle.snap_slabs.proofs.Sorted.{IsOrder}
 
@@ -27,12 +26,9 @@ edges_decide e f =
     (λ same. (ap (λ (g : Point × Point). g.0) same, ap (λ (g : Point × Point). g.1) same))
     (Decides-and _ _ (point_eq-Decides e.0 f.0) (point_eq-Decides e.1 f.1))
 
-same_by_order : (p q : Point) → point_cmp p q ≡ Equal → p ≡ q
-same_by_order p q h = (point_eq-Decides p q).0 (point_ties p q ∙ ap is_eq h)
-
 before_by_low : (e f : Point × Point) (o : Ordering) → o ≡ point_cmp e.0 f.0 → ordering_then o (point_cmp e.1 f.1) ≡ Less → IsEdgeBefore e f
 before_by_low e f Less s h = inl (IsBefore-from_Less e.0 f.0 (sym s))
-before_by_low e f Equal s h = inr (same_by_order e.0 f.0 (sym s), IsBefore-from_Less e.1 f.1 h)
+before_by_low e f Equal s h = inr (same-from_Equal e.0 f.0 (sym s), IsBefore-from_Less e.1 f.1 h)
 before_by_low e f Greater s h = cc
 
 pub edge_order : IsOrder edge_cmp same_edge IsEdgeBefore

@@ -8,6 +8,7 @@ use Rattle.std.proofs.lemmas.List.{map-append}
 use Rattle.std.proofs.lemmas.List.Sorted.{Contains-permutation, IsPermutation-sym}
 use Rattle.std.proofs.lemmas.List.Elements.{All-from_recursion}
 use Rattle.std.proofs.lemmas.Slice.Zip.{AllZip-long}
+use Rattle.std.specs.Cmp.{both_ways}
 use Rattle.lay_point.specs.declared.point.Point.{Point}
 use Rattle.snap_pixels.specs.declared.segment.Segment.{Segment}
 use Rattle.lay_point.specs.Parity.{parity, xor}
@@ -33,7 +34,6 @@ use Rattle.snap_chains.specs.Rounded.{AreClean, IsRounded, is_owner_listed}
 use Rattle.snap_chains.specs.Visits.{visit_eq, visits_by, visits_of}
 use Rattle.snap_chains.proofs.PathLemmas.{Contains-map}
 use Rattle.snap_chains.proofs.OddLemmas.{parity_permutation}
-use Rattle.snap_slabs.proofs.Sorted.{same_tests}
 use Rattle.snap_chains.proofs.OwnerOrder.{owner_eq-Decides}
 
 -- ---- rounded rings
@@ -80,7 +80,7 @@ edges_visited rings walks edges h up exact = record {
 
 owner_turned : (o p : Owner) → owner_eq o p ≡ owner_eq p o
 owner_turned o p =
-    same_tests (owner_eq o p) (owner_eq p o) (λ h. (owner_eq-Decides p o).1 (sym ((owner_eq-Decides o p).0 h)))
+    both_ways (owner_eq o p) (owner_eq p o) (λ h. (owner_eq-Decides p o).1 (sym ((owner_eq-Decides o p).0 h)))
     (λ h. (owner_eq-Decides o p).1 (sym ((owner_eq-Decides p o).0 h)))
 
 -- the visits of the edge by the owner are as many as the owner's walks go it, up to an even number
@@ -177,7 +177,7 @@ module _ (rings : List (Owner × List Point)) (walks : List (List Point)) where
   parity_listed o v (e ∷ edges) [] h = absurd h
   parity_listed o v (e ∷ edges) (own ∷ owners) h =
       ap₂ (λ b p. xor (b && touches v e) p)
-      (same_tests (is_owner_listed o own) (is_owned (owner_walks o rings walks) e)
+      (both_ways (is_owner_listed o own) (is_owned (owner_walks o rings walks) e)
       (λ t. (h.0.exact o).0 (contains own o (listed_has o own t))) (λ t. has_listed o own (has own o ((h.0.exact o).1 t))))
       (parity_listed o v edges owners h.1)
 

@@ -4,12 +4,12 @@ use Rattle.std.proofs.Common.{refl, sym, ap, subst, ◌∙◌, arith, Contains, 
 use Rattle.std.specs.List.{AllZip}
 use Rattle.std.proofs.lemmas.Bool.{cases_lt}
 use Rattle.std.proofs.lemmas.Bool.Decides.{Decides-and, Decides-eqb, Decides-like}
+use Rattle.std.specs.Cmp.{both_ways}
 use Rattle.lay_point.specs.declared.point.Point.{Point}
 use Rattle.lay_point.specs.Points.{IsBefore}
 use Rattle.lay_point.proofs.EdgeOrder.{before_is_strict}
 use Rattle.lay_point.specs.Edges.{IsEdgeBefore}
 use Rattle.lay_point.specs.Parity.{parity, xor}
-use Rattle.snap_slabs.proofs.Sorted.{same_tests}
 use Rattle.lay_point.specs.Rising.{IsRising}
 use Rattle.lay_point.proofs.Members.{Has, has, contains}
 use Rattle.lay_point.proofs.ListLaws.{has-map, map-has}
@@ -66,7 +66,7 @@ module _ (hot : List Point) (up : IsRising IsBefore hot) where
 
   -- one test by numbers and by points
   tests_agree : (p q : Pass) → HasCentres hot p → HasCentres hot q → pass_eq p q ≡ visit_eq (visit_at hot p) (visit_at hot q)
-  tests_agree p q ip iq = same_tests (pass_eq p q) (visit_eq (visit_at hot p) (visit_at hot q))
+  tests_agree p q ip iq = both_ways (pass_eq p q) (visit_eq (visit_at hot p) (visit_at hot q))
       (λ t. (visit_decides (visit_at hot p) (visit_at hot q)).1 (ap (visit_at hot) ((pass_eq-Decides p q).0 t)))
       (λ t. (pass_eq-Decides p q).1 (one_pass p q ip iq ((visit_decides (visit_at hot p) (visit_at hot q)).0 t)))
 

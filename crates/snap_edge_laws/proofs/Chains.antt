@@ -6,10 +6,10 @@ use Rattle.snap_pixels.specs.declared.segment.Segment.{Segment}
 use Rattle.snap_pixels.specs.Pixels.{HoldsPlace, IsRoundedTo}
 use Rattle.snap_pixels.specs.Segments.{Meets, along}
 use Rattle.snap_pixels.specs.Hot.{IsHot}
+use Rattle.snap_pixels.proofs.StraightLemmas.{rounded_centre}
 use Rattle.snap_edge_laws.specs.Edges.{IsBelow, IsEdgeOf}
 use Rattle.lay_point.proofs.Polynomials.{#, lit, ◌⊕◌, ◌⊖◌, ◌⊗◌, identity}
 use Rattle.lay_point.proofs.Signs.{linear}
-use Rattle.snap_edge_laws.proofs.Rounding.{rounded_centre}
 use Rattle.snap_edge_laws.proofs.Order.{IsSpot}
 use Rattle.snap_edge_laws.proofs.Spans.{spot_of}
 use Rattle.snap_edge_laws.proofs.Theorem.{meet_only_at_ends}

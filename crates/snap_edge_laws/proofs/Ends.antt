@@ -3,15 +3,12 @@
 use Rattle.std.proofs.Common.{◌≡◌, [], ◌∷◌, ℤ, pos, ◌+ℤ◌, ◌-ℤ◌, ◌*ℤ◌, ◌≤ℤ◌, ◌<ℤ◌, refl, sym, ap, ◌∙◌, arith, ⊎_elim}
 use Rattle.lay_point.specs.declared.point.Point.{Point}
 use Rattle.snap_pixels.specs.Segments.{along}
+use Rattle.snap_pixels.proofs.CrossingLemmas.{along_back}
 use Rattle.snap_edge_laws.specs.Areas.{area}
 use Rattle.snap_edge_laws.specs.Pieces.{IsAtFraction, IsOnPiece, HasEnd, first, second, third, fourth}
 use Rattle.lay_point.proofs.Polynomials.{#, lit, ◌⊕◌, ◌⊖◌, ◌⊗◌, identity}
 use Rattle.lay_point.proofs.Signs.{linear, nonnegative_product, positive_product, below_or_not, below_or_same}
 use Rattle.snap_edge_laws.proofs.Areas.{areas_balance, areas_weigh_x, areas_weigh_y, area_off, area-turned, flipped}
-
-pub along_back : (m l a b : ℤ) → along m l a b ≡ along m (m -ℤ l) b a
-along_back m l a b = identity (m ∷ l ∷ a ∷ b ∷ [])
-    (# 2 ⊗ (# 0 ⊖ # 1) ⊕ # 3 ⊗ # 1) (# 3 ⊗ (# 0 ⊖ (# 0 ⊖ # 1)) ⊕ # 2 ⊗ (# 0 ⊖ # 1)) refl
 
 pub turned_part : (p q r : Point) (m l : ℤ) → IsAtFraction p q r m l → IsAtFraction p r q m (m -ℤ l)
 turned_part p q r m l h = record {

@@ -4,6 +4,7 @@ use Rattle.std.proofs.Common.{◌≡◌, ◌⊎◌, [], ◌∷◌, ℤ, pos, ◌
 use Rattle.lay_point.specs.declared.point.Point.{Point}
 use Rattle.snap_pixels.specs.declared.segment.Segment.{Segment}
 use Rattle.snap_pixels.specs.Segments.{along, IsFraction, Crosses}
+use Rattle.snap_pixels.proofs.CrossingLemmas.{along_back}
 use Rattle.snap_edge_laws.specs.Areas.{area, IsConvex}
 use Rattle.snap_edge_laws.specs.Pieces.{IsOnPiece, HasEnd, first, second, third, fourth}
 use Rattle.lay_point.proofs.Polynomials.{#, lit, ◌⊕◌, ◌⊖◌, ◌⊗◌, identity}
@@ -12,7 +13,6 @@ use Rattle.lay_point.proofs.EdgeOrder.{apart_or_same, same_point}
 use Rattle.snap_edge_laws.proofs.Spans.{turned_span}
 use Rattle.snap_edge_laws.proofs.Areas.{areas_balance, area-turned, area-flipped, area-scaled, area_in_part, scaled, flipped}
 use Rattle.snap_edge_laws.proofs.Ends.{turned_piece, AreWeights, flat_end, flipped_end}
-use Rattle.snap_edge_laws.proofs.Ends.{along_back}
 use Rattle.snap_edge_laws.proofs.Motion.{AreApart, swap_ends, convex_at_rest}
 use Rattle.snap_edge_laws.proofs.Rest.{no_crossing_at_rest}
 use Rattle.snap_edge_laws.proofs.Places.{not_same}

@@ -2,12 +2,12 @@
 use Rattle.std.proofs.Common.{◌≡◌, ◌⊎◌, inl, inr, [], ◌∷◌, ℤ, pos, ◌-ℤ◌, ◌*ℤ◌, ◌≤ℤ◌, ◌<ℤ◌, refl, sym, ap, ◌∙◌, arith, ⊎_elim}
 use Rattle.lay_point.specs.declared.point.Point.{Point}
 use Rattle.snap_pixels.specs.Segments.{along, IsFraction}
+use Rattle.snap_pixels.proofs.CrossingLemmas.{along_back}
 use Rattle.snap_edge_laws.specs.Edges.{IsOn}
 use Rattle.lay_point.proofs.Polynomials.{#, ◌⊕◌, ◌⊖◌, ◌⊗◌, identity}
 use Rattle.lay_point.proofs.Signs.{linear, nonnegative_product, positive_product, times_lt}
 use Rattle.lay_point.proofs.EdgeOrder.{apart_or_same, same_point}
 use Rattle.snap_edge_laws.proofs.Areas.{flipped}
-use Rattle.snap_edge_laws.proofs.Ends.{along_back}
 
 -- the place (x, y) at scale k is l / m of the way from c to d
 pub record IsAlong (c d : Point) (k x y m l : ℤ) : Type 0 where

@@ -167,7 +167,3 @@ mixed_after k m l a b c p q r part ha hb hc e =
     mixed k (pos 1) (pos 1) m l a b c p q r at_end
     part ha hb hc (ap (λ (z : ℤ). m *ℤ z) (along_all a (p *ℤ k)) ∙ e
     ∙ sym (ap₂ (λ (y z : ℤ). along m l y z) (along_all b (q *ℤ k)) (along_all c (r *ℤ k))))
-
--- a centre is in its own pixel
-pub rounded_centre : (c k : ℤ) → pos 1 ≤ℤ k → IsRoundedTo c k (c *ℤ k)
-rounded_centre c k scale = is_rounded c k (c *ℤ k) (record { low = omega (arith, linear); high = omega (arith, linear) })

@@ -4,11 +4,12 @@ use Rattle.std.proofs.Common.{◌≡◌, ◌⊎◌, inl, inr, [], ◌∷◌, ℤ
 use Rattle.lay_point.specs.declared.point.Point.{Point}
 use Rattle.snap_pixels.specs.declared.segment.Segment.{Segment}
 use Rattle.snap_pixels.specs.Segments.{along}
+use Rattle.snap_pixels.proofs.StraightLemmas.{rounded_centre}
 use Rattle.snap_edge_laws.specs.Pieces.{IsOnPiece}
 use Rattle.snap_edge_laws.specs.Edges.{IsBelow, IsEndpoint}
 use Rattle.lay_point.proofs.Polynomials.{#, lit, ◌⊕◌, ◌⊖◌, ◌⊗◌, identity}
 use Rattle.lay_point.proofs.Signs.{linear, cancel_same, below_or_not, below_or_same}
-use Rattle.snap_edge_laws.proofs.Rounding.{mixed_after, rounded_centre}
+use Rattle.snap_edge_laws.proofs.Rounding.{mixed_after}
 use Rattle.snap_edge_laws.proofs.Spans.{IsSpan, not_before_itself}
 use Rattle.snap_edge_laws.proofs.Ends.{turned_piece}
 use Rattle.snap_edge_laws.proofs.Motion.{place, end_by_mixture}

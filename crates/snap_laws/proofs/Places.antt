@@ -6,7 +6,7 @@ use Rattle.lay_point.proofs.Signs.{linear, positive_product}
 use Rattle.snap_pixels.specs.Pixels.{IsRoundedTo}
 use Rattle.snap_pixels.specs.Segments.{along}
 use Rattle.snap_pixels.proofs.RoundLemmas.{IsRoundedTo-one, IsRoundedTo-same}
-use Rattle.snap_edge_laws.proofs.Ends.{along_back}
+use Rattle.snap_pixels.proofs.CrossingLemmas.{along_back}
 use Rattle.snap_laws.specs.PixelLaws.{CrossingsAreMet, EitherWayMeets, EndsAreMet, PlacesHaveOnePixel, ScalesAreFree}
 
 pub one_pixel : PlacesHaveOnePixel

@@ -179,8 +179,8 @@ module _ (a b c d : Point) (left : pos 0 <ℤ cross a b c d) where
 cross-turned : (a b c d : Point) → cross a b d c ≡ neg_ℤ (cross a b c d)
 cross-turned a b c d = identity (coordinates a b c d) (cross_of (# 0) (# 1) (# 2) (# 3) (# 6) (# 7) (# 4) (# 5)) (⊝ scale) refl
 
-along-turned : (k t c d : ℤ) → along k t c d ≡ along k (k -ℤ t) d c
-along-turned k t c d = identity (k ∷ t ∷ c ∷ d ∷ []) (along_of (# 0) (# 1) (# 2) (# 3)) (along_of (# 0) (# 0 ⊖ # 1) (# 3) (# 2)) refl
+pub along_back : (k t c d : ℤ) → along k t c d ≡ along k (k -ℤ t) d c
+along_back k t c d = identity (k ∷ t ∷ c ∷ d ∷ []) (along_of (# 0) (# 1) (# 2) (# 3)) (along_of (# 0) (# 0 ⊖ # 1) (# 3) (# 2)) refl
 
 Crosses-turn : (a b c d p : Point) → Crosses a b c d p → Crosses a b d c p
 Crosses-turn a b c d p (apart, k, t, t', h, place) =
@@ -193,8 +193,8 @@ Crosses-turn a b c d p (apart, k, t, t', h, place) =
       record {
         first = h.first;
         second = record { scale = f.scale; low = omega (arith, linear, f.high); high = omega (arith, linear, f.low) };
-        column = h.column ∙ along-turned k t' c.x d.x;
-        row = h.row ∙ along-turned k t' c.y d.y;
+        column = h.column ∙ along_back k t' c.x d.x;
+        row = h.row ∙ along_back k t' c.y d.y;
       },
       place,
     )

@@ -56,7 +56,7 @@ one_more_centre old new key p at h c = (
 )
 
 -- ---- order
-parts_of_less : (a b : ℕ) → a < b
+pub parts_of_less : (a b : ℕ) → a < b
     → ((a / 4294967296 ≡ b / 4294967296) × (a % 4294967296 < b % 4294967296)) ⊎ (a / 4294967296 < b / 4294967296)
 parts_of_less a b less = ⊎_elim
     (λ (lt : a / 4294967296 < b / 4294967296). inr lt)

@@ -73,7 +73,7 @@ same-by_x p q Equal e h =
     λ i. record { x = column i; y = row i }
 same-by_x p q Greater e h = cc
 
-same-from_Equal : (p q : Point) → point_cmp p q ≡ Equal → p ≡ q
+pub same-from_Equal : (p q : Point) → point_cmp p q ≡ Equal → p ≡ q
 same-from_Equal p q h = same-by_x p q (int_cmp p.x q.x) refl h
 
 -- no point of a part that is wholly below or above x is x

@@ -64,8 +64,9 @@ square_some z apart = ⊎_elim
 along_flat : (k t a b : ℤ) → a ≡ b → along k t a b ≡ a *ℤ k
 along_flat k t a b e = (λ i. along k t a (sym e i)) ∙ identity (k ∷ t ∷ a ∷ []) (# 2 ⊗ (# 0 ⊖ # 1) ⊕ # 2 ⊗ # 1) (# 2 ⊗ # 0) refl
 
-whole_rounded : (m k : ℤ) → pos 1 ≤ℤ k → IsRoundedTo m k (m *ℤ k)
-whole_rounded m k one =
+-- a whole place is in its own pixel
+pub rounded_centre : (m k : ℤ) → pos 1 ≤ℤ k → IsRoundedTo m k (m *ℤ k)
+rounded_centre m k one =
     let e = identity (m ∷ k ∷ []) (lit (pos 2) ⊗ # 0 ⊗ # 1) (lit (pos 2) ⊗ (# 0 ⊗ # 1)) refl in
     (omega (arith, linear), omega (arith, linear))
 
@@ -79,9 +80,9 @@ module _ (a b c d : Point) (level : a.y ≡ b.y) (upright : c.x ≡ d.x) where
       let one = h.first.scale in
       let at_x = h.column ∙ along_flat k t' c.x d.x upright in
       let at_y = along_flat k t a.y b.y level in
-      let column = IsRoundedTo-one c.x p.x k (c.x *ℤ k) one (whole_rounded c.x k one)
+      let column = IsRoundedTo-one c.x p.x k (c.x *ℤ k) one (rounded_centre c.x k one)
           (subst (λ z. IsRoundedTo p.x k z) at_x place.column) in
-      let row = IsRoundedTo-one a.y p.y k (a.y *ℤ k) one (whole_rounded a.y k one) (subst (λ z. IsRoundedTo p.y k z) at_y place.row) in
+      let row = IsRoundedTo-one a.y p.y k (a.y *ℤ k) one (rounded_centre a.y k one) (subst (λ z. IsRoundedTo p.y k z) at_y place.row) in
       λ i. record { x = column i; y = row i }
 
   module _ (differ : a ≢ b) (differ' : c ≢ d) (in_x : IsWithinEnds c.x a.x b.x) (in_y : IsWithinEnds a.y c.y d.y) where
@@ -144,8 +145,8 @@ module _ (a b c d : Point) (level : a.y ≡ b.y) (upright : c.x ≡ d.x) where
             row = first_y ∙ sym at_y;
           },
           record {
-            column = subst (λ z. IsRoundedTo c.x scale z) (sym at_x) (whole_rounded c.x scale scale_some);
-            row = subst (λ z. IsRoundedTo a.y scale z) (sym first_y) (whole_rounded a.y scale scale_some);
+            column = subst (λ z. IsRoundedTo c.x scale z) (sym at_x) (rounded_centre c.x scale scale_some);
+            row = subst (λ z. IsRoundedTo a.y scale z) (sym first_y) (rounded_centre a.y scale scale_some);
           },
         )
       where

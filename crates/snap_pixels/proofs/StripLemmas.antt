@@ -40,7 +40,7 @@ reach_common (Slanted d) k t t' a b a' b' column row =
     reach_along d k t a b ∙ (λ i. d.x *ℤ column i +ℤ d.y *ℤ row i) ∙ sym (reach_along d k t' a' b')
 
 -- ---- numbers of strips
-div_mono : (a b k : ℕ) → 0 < k → a ≤ b → a / k ≤ b / k
+pub div_mono : (a b k : ℕ) → 0 < k → a ≤ b → a / k ≤ b / k
 div_mono a b k some le = le-div (a / k) b k some (omega arith)
 
 distance_mono : (from p q : ℤ) → from <ℤ p → p ≤ℤ q → nat_abs (p -ℤ from) ≤ nat_abs (q -ℤ from)

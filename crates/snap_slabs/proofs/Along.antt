@@ -9,7 +9,7 @@ use Rattle.lay_point.specs.Points.{IsBefore}
 use Rattle.snap_pixels.specs.Pixels.{IsRoundedTo}
 use Rattle.snap_pixels.specs.Segments.{Meets, along}
 use Rattle.snap_pixels.proofs.BoxLemmas.{Meets-apart}
-use Rattle.snap_edge_laws.proofs.Rounding.{rounded_centre}
+use Rattle.snap_pixels.proofs.StraightLemmas.{rounded_centre}
 use Rattle.snap_edge_laws.proofs.Order.{IsSpot}
 use Rattle.snap_pixels.specs.declared.segment.Segment.{Segment}
 use Rattle.snap_edge_laws.specs.Edges.{IsBelow}

@@ -2,7 +2,7 @@
 use Rattle.std.proofs.Common.{◌≡◌, ◌↔◌, ⊎_elim, ℕ, zero, suc, ◌+◌, ◌-◌, ◌*◌, ◌/◌, ◌%◌, ◌<◌, ◌≤◌}
 use Rattle.std.proofs.Common.{List, [], ◌∷◌, ◌++◌, length, map, get_or, take, drop, refl, sym, ap, ◌∙◌, subst, arith, Contains}
 use Rattle.std.specs.Prelude.{flat_map, slice_range}
-use Rattle.std.proofs.lemmas.Nat.{div-add-mod', le-div, mod_below}
+use Rattle.std.proofs.lemmas.Nat.{div-add-mod', mod_below}
 use Rattle.std.proofs.lemmas.List.{drop-drop, get_or-drop, get_or-take, length-drop, length-take, take_more}
 use Rattle.std.proofs.lemmas.List.Elements.{Contains-append_cases, Contains-append_left, Contains-append_right}
 use native.Mathlib.Nat.{suc-mul}
@@ -10,6 +10,7 @@ use Rattle.lay_point.specs.declared.point.Point.{Point}
 use Rattle.snap_pixels.specs.Order.{AreTransposed, transposed}
 use Rattle.snap_pixels.specs.Segments.{Meets}
 use Rattle.snap_pixels.proofs.OrderLemmas.{turned_members}
+use Rattle.snap_pixels.proofs.StripLemmas.{div_mono}
 use Rattle.lay_point.proofs.Members.{Has, has, contains, has-append}
 use Rattle.lay_point.proofs.ListLaws.{get_or-slice_range}
 use Rattle.snap_slabs.specs.Columns.{HoldMet}
@@ -87,11 +88,6 @@ element (x ∷ xs) (suc k) lt = element xs k (omega arith)
 
 length-range : {A : Type 0} (xs : List A) (from to : ℕ) → to ≤ length xs → length (slice_range xs from to) ≡ to - from
 length-range xs from to le = omega (arith, le, length-take (to - from) (drop from xs), length-drop from xs)
-
-pub div_mono : (a b size : ℕ) → 0 < size → a ≤ b → a / size ≤ b / size
-div_mono a b size pos le =
-    let whole : a / size * size + a % size ≡ a = div-add-mod' a size in
-    le-div (a / size) b size pos (omega (arith, whole, le))
 
 module _ (size : ℕ) (cs : List Point) (slabs : List (List Point)) (are : AreSlabs size cs slabs) (first end : ℕ)
     (inside : end ≤ length slabs) where

@@ -22,13 +22,6 @@ rising_from_strict cmp Before less [] h = tt
 rising_from_strict cmp Before less (x ∷ []) h = tt
 rising_from_strict cmp Before less (x ∷ y ∷ ys) h = (less x y h.0.0, rising_from_strict cmp Before less (y ∷ ys) h.1)
 
--- tests that hold of the same are equal
-pub same_tests : (a b : Bool) → (a ≡ true → b ≡ true) → (b ≡ true → a ≡ true) → a ≡ b
-same_tests true true f g = refl
-same_tests true false f g = sym (f refl)
-same_tests false true f g = g refl
-same_tests false false f g = refl
-
 -- one more element, which is kept where it passes
 module _ {A : Type 0} (P : A → Type 0) (xs : List A) (i : ℕ) (x : A) (old : List A) (lt : i < length xs) (at : get_or xs i x ≡ x)
     (so_far : (c : A) → Contains old c ↔ (Contains (take i xs) c × P c)) where
