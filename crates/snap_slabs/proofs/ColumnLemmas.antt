@@ -5,9 +5,11 @@ use Rattle.std.specs.Prelude.{int_lt, not, slice_range}
 use Rattle.std.specs.List.Sorted.{IsPartitionedBy, IsPartitionPoint}
 use Rattle.std.proofs.lemmas.Bool.{cases_lt, false≢true}
 use Rattle.std.proofs.lemmas.Bool.Decides.{Decides-and, Decides-int_eq, Decides-not, Decides-or}
-use Rattle.std.proofs.lemmas.Int.{ints}
+use Rattle.std.proofs.lemmas.Int.{clamps, ints}
 use Rattle.std.proofs.lemmas.List.{get_or-drop, get_or-take, length-drop, length-take}
 use Rattle.lay_point.specs.declared.point.Point.{Point}
+use Rattle.lay_point.specs.declared.rect.Rect.{Rect}
+use Rattle.lay_point.specs.Rects.{grown}
 use Rattle.snap_pixels.specs.Order.{ArePointsRising, transposed}
 use Rattle.lay_point.specs.Points.{IsBefore}
 use Rattle.snap_pixels.specs.Segments.{Meets}
@@ -75,6 +77,18 @@ pub record AreCorners (low high a b : Point) : Type 0 where
   pub right_of_b : b.x ≤ℤ high.x
   pub above_a : a.y ≤ℤ high.y
   pub above_b : b.y ≤ℤ high.y
+
+pub round_both : (box : Rect) (a b : Point) → box ≡ grown (record { low = a; high = a }) b → AreCorners box.low box.high a b
+round_both box a b e = subst (λ (r : Rect). AreCorners r.low r.high a b) (sym e) (record {
+  left_of_a = omega (arith, ints, clamps);
+  left_of_b = omega (arith, ints, clamps);
+  below_a = omega (arith, ints, clamps);
+  below_b = omega (arith, ints, clamps);
+  right_of_a = omega (arith, ints, clamps);
+  right_of_b = omega (arith, ints, clamps);
+  above_a = omega (arith, ints, clamps);
+  above_b = omega (arith, ints, clamps);
+})
 
 -- the centres from the index `from` on aren't before the low corner, and those from `to` on are behind the high one
 pub record ArePlaces (cs : List Point) (low high : Point) (from to : ℕ) : Type 0 where
