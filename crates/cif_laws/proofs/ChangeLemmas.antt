@@ -36,7 +36,6 @@ use Rattle.cif_laws.specs.Directions.{IsLength, x_of, y_of}
 use Rattle.cif_laws.specs.Distances.{IsDistance}
 use Rattle.cif_laws.proofs.DistanceLemmas.{call_called, only_units}
 
-
 point_y : (p q : Point) → p ≡ q → p.y ≡ q.y
 point_y p q e = ap (λ (r : Point). r.y) e
 
