@@ -18,8 +18,17 @@ use Rattle.masklay.specs.Asked.{Asked}
 use Rattle.live_run.specs.Shown.{names_for}
 use Rattle.masklay.specs.Named.{names_in}
 use Rattle.masklay.specs.Oriented.{AnswersGiven, IsGiven, finished_part}
-use Rattle.masklay.specs.Output.{EndsAsAsked, IsOutput, Output, WritesOrMemory, WritesOutput, given_output, output_from, stop_output,
-    written_output}
+use Rattle.masklay.specs.Output.{
+  EndsAsAsked,
+  IsOutput,
+  Output,
+  WritesOrMemory,
+  WritesOutput,
+  given_output,
+  output_from,
+  stop_output,
+  written_output,
+}
 use Rattle.masklay.specs.declared.program.oriented.Given.{Given}
 use Rattle.masklay.specs.declared.program.outcome.Stop.TheVariants.{NoMemory}
 use Rattle.masklay.specs.Reading.{HowRead, input_kept}
@@ -127,7 +136,7 @@ pub one_output : (asked : Asked) (bytes : List ℕ) (a b : Output) → asked.thr
 one_output asked bytes a b turns plain (outcome, is, given) (other, same, put) =
     given
     ∙ ap (output_from asked.strict asked.boxed (names_in asked.named job))
-        (one_outcome_of job outcome other (in_turn outcome is) (in_turn other same))
+    (one_outcome_of job outcome other (in_turn outcome is) (in_turn other same))
     ∙ sym put
   where
     job : Result Job JobFault

@@ -76,7 +76,7 @@ abbrev pub IsBegunOf : Result Job JobFault → Begun → Type 0
 IsBegunOf (Err fault) begun = ⊥
 IsBegunOf (Ok job) begun =
     (file : Contents) × IsMeaning job.cif (Ok file) × (begun.base ≡ layout_of file) × (begun.scripts ≡ job.scripts)
-        × (begun.order ≡ job.order)
+    × (begun.order ≡ job.order)
 
 -- why none begins: the job's fault, or that of its CIF text
 abbrev pub IsStopOf : Result Job JobFault → Stop → Type 0

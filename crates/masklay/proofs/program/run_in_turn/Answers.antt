@@ -12,7 +12,7 @@ returns-in-Ok-clause-run g c =
     record {
       answered = λ bytes told ended. kept_ends g.O.Out.written g.O.Out.failures c.args.out.now c.write_in_turn.new.out
           (asked_by false c.args.options) bytes c.write_in_turn.result
-              (subst P (c.in-Ok.ensures.kept bytes told) c.write_in_turn.ensures.output);
+          (subst P (c.in-Ok.ensures.kept bytes told) c.write_in_turn.ensures.output);
       unended = λ same _. let ended = c.in-Ok.ensures.how.0 in absurd (omega arith);
       failed = λ failed. absurd (failed c.in-Ok.ensures.how.1);
       reads = c.in-Ok.ensures.reads;

@@ -7,4 +7,4 @@ pub returns-in-Ok-clause-output : goal.returns-in-Ok-clause-output
 returns-in-Ok-clause-output g c =
     subst (λ given. WritesOrMemory g.O.Out.written g.O.Out.failures c.args.out.now c.write_given-status.new.out
     (given_output c.args.options.strict c.args.options.boxed given) c.write_given-status.result) (sym c.in-Ok.is)
-        c.write_given-status.ensures
+    c.write_given-status.ensures

@@ -23,7 +23,7 @@ invariant_of-self g c =
     } in
     let look = looked was c.args.session c.args.own.now (search rules) in
     let stepped = (stepped_commit c.self.inside.book c.commit_with_rest-result.new.self c.args.session c.args.work
-        c.commit_with_rest-result.result.0
+    c.commit_with_rest-result.result.0
     (search rules) (search rules) (search rules) c.self.invariant.0.pending c.commit_with_rest-result.ensures.step) in (
       guard_called was c.commit_with_rest-result.new.self c.args.session (Commit c.args.work.id c.args.work.commands)
           (commit_answer c.commit_with_rest-result.result.0) c.args.own.now c.count_call.new.counts.items
@@ -68,7 +68,7 @@ returns-clause-amount g c =
     added_is c.self.inside.book c.commit_with_rest-result.new.self c.args.session (Commit c.args.work.id c.args.work.commands)
     (commit_answer c.commit_with_rest-result.result.0)
     (stepped_commit c.self.inside.book c.commit_with_rest-result.new.self c.args.session c.args.work c.commit_with_rest-result.result.0
-        (search rules)
+    (search rules)
     (search rules) (search rules) c.self.invariant.0.pending c.commit_with_rest-result.ensures.step) in
     let more : ones (nat_lt (length c.log-place.result.now) (length c.log.result.now))
     ≡ calls_added (commit_answer c.commit_with_rest-result.result.0) =
@@ -81,7 +81,7 @@ returns-clause-step g c =
     subst (λ (g : Guard). IsAnswer (refused NoMemory c.args.work) c.commit_with_rest-result.result.0
     (with_refused_work (commit_step g.book c.args.work).0 c.args.work)) c.self.view_is (taken_work
     c.self.inside.book c.commit_with_rest-result.new.self c.args.work (commit_step c.self.inside.book c.args.work)
-        c.commit_with_rest-result.result.0
+    c.commit_with_rest-result.result.0
     c.commit_with_rest-result.ensures.step)
 
 pub returns-clause-base : goal.returns-clause-base
@@ -90,5 +90,5 @@ returns-clause-base g c =
     (base_kept c.self.inside.book c.commit_with_rest-result.new.self c.args.session (Commit c.args.work.id c.args.work.commands)
     (commit_answer c.commit_with_rest-result.result.0)
     (stepped_commit c.self.inside.book c.commit_with_rest-result.new.self c.args.session c.args.work c.commit_with_rest-result.result.0
-        (search rules)
+    (search rules)
     (search rules) (search rules) c.self.invariant.0.pending c.commit_with_rest-result.ensures.step))
