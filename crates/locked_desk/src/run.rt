@@ -14,7 +14,7 @@ use crate::desk::Desk;
 use crate::fault::RunFault;
 use crate::sessions::{Run, run_sessions};
 use crate::steps::SessionGate;
-use band_workers::{MAX_WORKERS, OneBand, ScopedBands};
+use band_workers::{ScopedBands, Workers};
 use lay_items::Snapshot;
 use lay_point::{NoMemory, Sequence};
 use session_steps::Step;
@@ -53,6 +53,7 @@ pub fn run_scripts<R: Threads + Wait + Sync>(
     let scripts = desk_scripts(alloc, scripts)?;
     let sessions = SessionCount::new(scripts.as_slice().len() as u8).unwrap();
     let blank = Blank::new(u64::from(sessions.number()));
+    let workers = Workers::nearest(workers);
     run_on::<Brand, R>(rt, alloc, workers, base, sessions, scripts, blank)
 }
 
@@ -76,7 +77,7 @@ fn desk_scripts(
 fn run_on<L: Ledger + Send + Sync, R: Threads + Wait + Sync>(
     rt: &R,
     alloc: Global,
-    workers: u8,
+    workers: Workers,
     base: Snapshot,
     sessions: SessionCount,
     scripts: Sequence<Sequence<Step>>,
@@ -89,9 +90,6 @@ fn run_on<L: Ledger + Send + Sync, R: Threads + Wait + Sync>(
     ensures { IfOk result (λ run. RunsOn base scripts run.replies run.closed.book) }
 {
     let (desk, seats) = Desk::<L>::new(alloc, base, sessions.number(), blank)?;
-    if workers < 2 {
-        return run_sessions(rt, alloc, desk, seats, scripts, &OpenGate, &OneBand);
-    }
-    let bands = ScopedBands::new(workers.min(MAX_WORKERS));
+    let bands = ScopedBands::of(workers);
     run_sessions(rt, alloc, desk, seats, scripts, &OpenGate, &bands)
 }

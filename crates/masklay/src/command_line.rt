@@ -26,7 +26,7 @@ ghost use Rattle.masklay.specs.Telling.{MayReport};
 
 use crate::arguments::command;
 use crate::program::{LiveOptions, Options, Status, live, put, put_memory, run};
-use band_workers::MAX_WORKERS;
+use band_workers::Workers;
 use byte_io::{In, Out};
 use clap::Error;
 use clap::error::ErrorKind;
@@ -94,7 +94,7 @@ pub fn launch<I: In, O: Out, E: Out, J: Journal>(
         × (input.new ≡ input.old) × (journal.new ≡ journal.old)) }
 {
     match words {
-        Ok(words) if words.len() <= 1 => run(rt, alloc, PLAIN, input, out, errors),
+        Ok(words) if words.len() <= 1 => run(rt, alloc, Options::plain(), input, out, errors),
         Ok(words) => match wish_of(alloc, &words) {
             Ok(Wish::Job(options)) => run(rt, alloc, options, input, out, errors),
             Ok(Wish::Live(options)) => live(rt, alloc, options, bytes, input, out, errors, journal),
@@ -104,17 +104,6 @@ pub fn launch<I: In, O: Out, E: Out, J: Journal>(
         Err(WordsFault::NoMemory) => put_memory(out),
     }
 }
-
-/// What is run where there is no argument.
-const PLAIN: Options = Options {
-    workers: 1,
-    threaded: false,
-    oriented: false,
-    named: false,
-    strict: false,
-    bare: false,
-    boxed: false,
-};
 
 /// What the words ask for.
 #[derive(Clone, Copy, Debug, PartialEq, Eq)]
@@ -212,7 +201,7 @@ fn is_live_refused(options: Options) -> bool
 #[derive(Clone, Copy, Debug)]
 struct Values {
     /// The number of workers.
-    workers: u8,
+    workers: Workers,
     /// Whether there is an output file.
     has_output: bool,
     /// Whether there is a journal.
@@ -224,20 +213,27 @@ fn values_of(alloc: Global, words: &[String]) -> Result<Values, OptionsFault>
     ensures { IfErr result (λ fault. is_live_alone fault ≡ false) }
 {
     let matches = command(alloc)?.try_get_matches_from(words)?;
-    let mut values = Values {
-        workers: 1,
+    let workers = match matches.get_str("workers") {
+        Some(word) => workers_in(word)?,
+        None => Workers::nearest(1),
+    };
+    Ok(Values {
+        workers,
         has_output: matches.get_str("output").is_some(),
         has_journal: matches.get_str("journal").is_some(),
+    })
+}
+
+/// Returns the number of workers that the word says.
+fn workers_in(word: &str) -> Result<Workers, OptionsFault>
+    ensures { IfErr result (λ fault. is_live_alone fault ≡ false) }
+{
+    let Ok(number) = word.parse::<u8>() else {
+        return Err(OptionsFault::Workers);
     };
-    let Some(word) = matches.get_str("workers") else {
-        return Ok(values);
-    };
-    match word.parse::<u8>() {
-        Ok(workers) if 1 <= workers && workers <= MAX_WORKERS => {
-            values.workers = workers;
-            Ok(values)
-        }
-        _ => Err(OptionsFault::Workers),
+    match Workers::new(number) {
+        Some(workers) => Ok(workers),
+        None => Err(OptionsFault::Workers),
     }
 }
 

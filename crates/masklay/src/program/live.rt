@@ -11,7 +11,7 @@ use crate::program::output::write_stop;
 use crate::program::put_memory;
 use crate::program::status::Status;
 use crate::program::telling::{tell_of_journal, tell_of_notes, tell_of_stop};
-use band_workers::{MAX_WORKERS, OneBand, ScopedBands};
+use band_workers::{ScopedBands, Workers};
 use byte_io::{In, Out};
 use live_run::{Journal, LiveEnd, Showing, run_journaled};
 use std::alloc::Global;
@@ -21,7 +21,7 @@ use std::thread::Threads;
 #[derive(Clone, Copy, Debug, PartialEq, Eq)]
 pub struct LiveOptions {
     /// How many threads find the edges of an operation.
-    pub workers: u8,
+    pub workers: Workers,
     /// Whether the run ends with a status of its own where a step was refused.
     pub strict: bool,
     /// With which names and labels the layout is written, and whether its shapes are directed.
@@ -68,10 +68,7 @@ fn answer_lines<I: In, O: Out, J: Journal>(
     ensures reads { (I.counts input.new).reads ≤ (I.counts input.old).reads + MAX_READS }
 {
     let showing = options.showing;
-    if options.workers < 2 {
-        return run_journaled(rt, alloc, &OneBand, showing, bytes, input, out, journal);
-    }
-    let bands = ScopedBands::new(options.workers.min(MAX_WORKERS));
+    let bands = ScopedBands::of(options.workers);
     run_journaled(rt, alloc, &bands, showing, bytes, input, out, journal)
 }
 

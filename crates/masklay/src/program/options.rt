@@ -1,11 +1,15 @@
 //! How the program is to run.
+ghost use Rattle.std.specs.Prelude.{◌≡◌};
+ghost use Rattle.masklay.specs.Asked.{asked_of};
+ghost use Rattle.masklay.specs.Launch.{nothing_asked};
+
+use band_workers::Workers;
 
 /// How the program is to run.
 #[derive(Clone, Copy, Debug, PartialEq, Eq)]
 pub struct Options {
-    /// How many threads label the edges of a Boolean, from 1 to `MAX_WORKERS`; 0 is taken as 1, and more as
-    /// `MAX_WORKERS`. The output doesn't depend on it.
-    pub workers: u8,
+    /// How many threads label the edges of a Boolean. The output doesn't depend on it.
+    pub workers: Workers,
     /// Whether the steps of each session run in a thread of its own, in place of the job's order.
     pub threaded: bool,
     /// Whether each shape of the layout is written by a path that readers by winding number and readers by
@@ -19,4 +23,21 @@ pub struct Options {
     pub bare: bool,
     /// Whether upright rectangles are written as boxes.
     pub boxed: bool,
+}
+
+impl Options {
+    /// Returns what is run where nothing is asked for: a job, with one worker.
+    pub fn plain() -> Options
+        ensures { asked_of result ≡ nothing_asked }
+    {
+        Options {
+            workers: Workers::nearest(1),
+            threaded: false,
+            oriented: false,
+            named: false,
+            strict: false,
+            bare: false,
+            boxed: false,
+        }
+    }
 }

@@ -9,7 +9,7 @@ ghost use Rattle.masklay.specs.Outcome.{Begins, finished_from, job_in, sessions_
 ghost use Rattle.masklay.specs.Threads.{AnswersOutcome, stop_of_run};
 
 use crate::program::options::Options;
-use band_workers::{MAX_WORKERS, OneBand, ScopedBands};
+use band_workers::{ScopedBands, Workers};
 use cif_layout::FromCif;
 use cif_read::{CifFault, FaultKind, read};
 use job_advice::of_notices;
@@ -210,7 +210,7 @@ fn names_top(step: &Step) -> bool {
 fn finish_steps(
     rt: &(impl Threads + Sync),
     alloc: Global,
-    workers: u8,
+    workers: Workers,
     base: Snapshot,
     scripts: Sequence<Sequence<Step>>,
     order: Sequence<u8>,
@@ -238,7 +238,7 @@ fn finish_steps(
 fn run_steps(
     rt: &(impl Threads + Sync),
     alloc: Global,
-    workers: u8,
+    workers: Workers,
     base: Snapshot,
     sessions: SessionCount,
     steps: Vec<(u8, Step)>,
@@ -246,10 +246,7 @@ fn run_steps(
     ensures { IfOk result (λ r. Ran (start base sessions MAX_CALLS) steps.items r.1.items r.0) }
 {
     let sessions = sessions.number();
-    if workers < 2 {
-        return Machine::run(rt, alloc, base, sessions, steps, &OneBand);
-    }
-    let bands = ScopedBands::new(workers.min(MAX_WORKERS));
+    let bands = ScopedBands::of(workers);
     Machine::run(rt, alloc, base, sessions, steps, &bands)
 }
 

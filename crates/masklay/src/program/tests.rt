@@ -20,16 +20,6 @@ const UNDONE_BOX: &[u8] =
 const UNDONE_BOX_OUTPUT: &[u8] =
     b"(1 1 opened 1);\n(1 2 made 1.1.1);\n(1 3 committed);\n(1 4 undone);\n(order 1 1 1 1);\nDS 1 1 2;\nL NM;\nP -40 -20 40 -20 40 20 -40 20;\nDF;\nC 1;\nE\n";
 
-const PLAIN: Options = Options {
-    workers: 1,
-    threaded: false,
-    oriented: false,
-    named: false,
-    strict: false,
-    bare: false,
-    boxed: false,
-};
-
 /// A device that gives one blank in each read, for ever.
 #[derive(Drop)]
 struct Endless {
@@ -64,7 +54,7 @@ fn ended_on<I: In>(
 ) -> (Status, MemoryOut) {
     let mut out = MemoryOut::new(alloc, 1000, room, Failing::ByErr);
     let mut errors = MemoryOut::new(alloc, 1000, 1000, Failing::ByErr);
-    let status = run_in_turn(rt, alloc, PLAIN, input, &mut out, &mut errors);
+    let status = run_in_turn(rt, alloc, Options::plain(), input, &mut out, &mut errors);
     (status, out)
 }
 
