@@ -36,7 +36,9 @@
 //!
 //! # Files
 //!
-//! - `desk.rt`, `origin.rt`, `seat.rt`, `guarded.rt`, `way.rt`: the desk. Nothing in `guarded.rt` waits.
+//! - `desk.rt`, `origin.rt`, `seat.rt`, `way.rt`: the desk.
+//! - `guarded.rt`, `guarded_calls.rt`, `guarded_shown.rt`: what is behind its lock, the calls that it takes, and its layout.
+//!   Nothing in them waits.
 //! - `calls.rt`, `shown.rt`, `close.rt`: what a session may ask of it: calls, the layout, its end.
 //! - `entering.rt`: how they get behind its lock.
 //! - `steps.rt`, `sessions.rt`, `run.rt`: the steps of a session, a thread for each, and
@@ -57,6 +59,8 @@ mod desk;
 mod entering;
 mod fault;
 mod guarded;
+mod guarded_calls;
+mod guarded_shown;
 mod origin;
 mod run;
 mod seat;
