@@ -17,10 +17,31 @@ use Rattle.live_run.specs.declared.course.Course.{Course}
 use Rattle.live_run.specs.declared.ending.LiveEnd.{LiveEnd}
 use Rattle.live_run.specs.declared.ending.LiveEnd.TheVariants.{Cif, Device, Done, Job, Journal, Memory}
 use Rattle.live_run.specs.Cif.{behind, cif_from, cif_of, is_live, whole}
-use Rattle.live_run.specs.Said.{AreAnswered, HaveRefused, IsClosing, IsFirstRun, IsNotedClosing, IsNotedWhole, IsSaid, IsSaidBehind,
-    IsSaidText, first_run}
-use Rattle.live_run.specs.Ending.{Does, HasCifFault, HasJobFault, IsStop, KeepsPart, Past, Tells, WritesPart, all_lines, no_past,
-    whole_lines}
+use Rattle.live_run.specs.Said.{
+  AreAnswered,
+  HaveRefused,
+  IsClosing,
+  IsFirstRun,
+  IsNotedClosing,
+  IsNotedWhole,
+  IsSaid,
+  IsSaidBehind,
+  IsSaidText,
+  first_run,
+}
+use Rattle.live_run.specs.Ending.{
+  Does,
+  HasCifFault,
+  HasJobFault,
+  IsStop,
+  KeepsPart,
+  Past,
+  Tells,
+  WritesPart,
+  all_lines,
+  no_past,
+  whole_lines,
+}
 use Rattle.live_run.specs.Journal.{KeptText, KeptAll, KeptPart, kept_head, kept_in, kept_line}
 use Rattle.live_run.specs.Course.{ClosesTo, HeadTo, HearsTo, InHead, InSteps, LiveTo, Phase, RefusesHead, RunCloses, phase_of}
 use Rattle.live_run.specs.Ear.{IsAt}

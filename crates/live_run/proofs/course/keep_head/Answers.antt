@@ -10,7 +10,7 @@ pub returns-in_err-keep : goal.returns-in_err-keep
 returns-in_err-keep g c =
     let failed : c.from_residual.result ≡ Err Journal = search rules in
     subst (λ r. KeepsTo g.J.Journal.kept g.J.Journal.losses c.args.journal.now c.keep.new.self
-        (kept_head c.args.head.now c.args.line.now) r)
+    (kept_head c.args.head.now c.args.line.now) r)
     (sym failed) (
       refl,
       kept_part_more g.J.Journal.kept g.J.Journal.losses c.args.journal.now c.keep.new.self ((as_line c.args.head.now, false) ∷ [])
@@ -21,10 +21,10 @@ pub returns-in_err-keep-2 : goal.returns-in_err-keep-2
 returns-in_err-keep-2 g c =
     let failed : c.from_residual-in_err-keep-2.result ≡ Err Journal = search rules in
     subst (λ r. KeepsTo g.J.Journal.kept g.J.Journal.losses c.args.journal.now c.keep-2.new.self
-        (kept_head c.args.head.now c.args.line.now) r)
+    (kept_head c.args.head.now c.args.line.now) r)
     (sym failed) (
       refl,
       kept_part_then g.J.Journal.kept g.J.Journal.losses c.args.journal.now c.keep.new.self c.keep-2.new.self
           ((as_line c.args.head.now, false) ∷ []) ((as_line c.args.line.now, true) ∷ []) c.in_ok-keep.ensures.ok
-              c.in_err-keep-2.ensures.fault,
+          c.in_err-keep-2.ensures.fault,
     )

@@ -58,7 +58,7 @@ returns-in-Err-clause-heard g c =
           c.take.new.self (c.args.out.now, c.args.journal.now)
           (c.hear_piece.new.out, c.hear_piece.new.journal)
           (at.0 ++ piece) c.in-Err.end (c.in-Err.ensures past (c.args.out.now, c.args.journal.now) at.0
-              (at.2 past (c.args.out.now, c.args.journal.now) [] hears) []),
+          (at.2 past (c.args.out.now, c.args.journal.now) [] hears) []),
     )
 
 pub loop-preserved : goal.loop-preserved
