@@ -1,7 +1,6 @@
 //! The sessions of a live run, and what its lines are answered.
 ghost use Rattle.std.specs.Prelude.{◌≡◌, ◌+◌, [], IfOk, Some, false, replicate, slice_index, slice_set};
 ghost use Rattle.session_steps.specs.Turns.{dealt};
-ghost use Rattle.session_core.specs.Machine.{is_memory};
 ghost use Rattle.job_text.specs.Live.{live_line};
 ghost use Rattle.job_text.specs.Order.{order_of, order_text};
 ghost use Rattle.job_text.specs.Words.{words_of};
@@ -24,12 +23,11 @@ use job_text::{LiveLine, comments, live_line, odd_line, order_of, reply_line};
 use lay_items::Snapshot;
 use lay_point::NoMemory;
 use live_questions::answer;
-use session_core::Machine;
-use session_steps::{Reply, Step, StepFault, dealt};
+use session_core::{Machine, is_memory};
+use session_steps::{Reply, Step, dealt};
 use std::alloc::Global;
 use std::thread::Threads;
-use txn_commands::CmdFault;
-use undo_rules::{BookFault, MAX_SESSIONS};
+use undo_rules::MAX_SESSIONS;
 
 /// What a line is answered.
 #[derive(Debug, Drop)]
@@ -263,16 +261,5 @@ fn is_lasting(step: &Step) -> bool
     match step {
         Step::Commit | Step::Undo(_) | Step::Redo(_) => true,
         Step::Open | Step::Do(_) | Step::Cancel => false,
-    }
-}
-
-/// Returns whether a step with this reply was out of memory.
-fn is_memory(reply: &Reply) -> bool
-    ensures { result ≡ is_memory reply.now }
-{
-    match reply {
-        Reply::Fault(StepFault::Command(fault)) => *fault == CmdFault::NoMemory,
-        Reply::Fault(StepFault::Book(fault)) => *fault == BookFault::NoMemory,
-        _ => false,
     }
 }

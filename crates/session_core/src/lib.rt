@@ -2,7 +2,7 @@
 //!
 //! A step of a session is refused by the [`Machine`], where there is no such session or it has a
 //! transaction open, or none; else it is a command of the open transaction, ends it, or is a call
-//! of the book.
+//! of the book. A reply may say that memory ran out ([`is_memory`]).
 //!
 //! # Model and invariants
 //!
@@ -20,5 +20,7 @@
 #![tactic(auto)]
 
 mod machine;
+mod memory;
 
 pub use machine::Machine;
+pub use memory::is_memory;

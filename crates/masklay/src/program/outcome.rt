@@ -19,12 +19,12 @@ use lay_items::Snapshot;
 use lay_layouts::ItemId;
 use lay_point::{NoMemory, Sequence};
 use locked_desk::RunFault;
-use session_core::Machine;
-use session_steps::{Reply, Step, StepFault, dealt, in_turn};
+use session_core::{Machine, is_memory};
+use session_steps::{Reply, Step, dealt, in_turn};
 use std::alloc::Global;
 use std::thread::Threads;
-use txn_commands::{CmdFault, Command};
-use undo_rules::{BookFault, MAX_SESSIONS, SessionCount};
+use txn_commands::Command;
+use undo_rules::{MAX_SESSIONS, SessionCount};
 
 /// Why no layout is written.
 #[derive(Clone, Copy, Debug, PartialEq, Eq)]
@@ -263,15 +263,4 @@ pub(super) fn is_out_of_memory(replies: &[Reply]) -> bool
     ensures { result ≡ list_any is_memory replies.now }
 {
     replies.iter().any(|reply| is_memory(reply))
-}
-
-/// Returns whether a step with this reply was out of memory.
-fn is_memory(reply: &Reply) -> bool
-    ensures { result ≡ is_memory reply.now }
-{
-    match reply {
-        Reply::Fault(StepFault::Command(fault)) => *fault == CmdFault::NoMemory,
-        Reply::Fault(StepFault::Book(fault)) => *fault == BookFault::NoMemory,
-        _ => false,
-    }
 }
