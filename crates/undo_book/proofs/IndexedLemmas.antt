@@ -139,7 +139,7 @@ live_so a b live = sym (ap (λ x. x && b) live)
 
 pub commit_indexed : (w r v s : Listed) (es fs : List Entry) (entry : Entry) (met : Touched) (place : ℕ) → AreIndexed w r es →
     AreAdded w entry.txn met place v → AreAdded r entry.txn entry.footprint place s → AreMetBy entry.writes met → entry.live ≡ true
-        → place ≡ length es →
+    → place ≡ length es →
     fs ≡ es ++ entry ∷ [] → AreIndexed v s fs
 commit_indexed w r v s es fs entry met place is wrote_it read_it are live last more =
     subst (λ (xs : List Entry). AreIndexed v s xs) (sym more) (record {
@@ -152,7 +152,7 @@ commit_indexed w r v s es fs entry met place is wrote_it read_it are live last m
 
 pub mark_indexed : (live : Bool) (w r v s : Listed) (es fs : List Entry) (i : ℕ) (entry : Entry) (met : Touched) → AreIndexed w r es →
     AreRelisted live w entry.txn met i v → AreRelisted live r entry.txn entry.footprint i s → AreMetBy entry.writes met → entry.live
-        ≡ not live →
+    ≡ not live →
     slice_get es i ≡ Some entry → i < length es → fs ≡ slice_set es i (marked live entry) → AreIndexed v s fs
 mark_indexed false w r v s es fs i entry met is wrote_it read_it are live at less marks =
     subst (λ (xs : List Entry). AreIndexed v s xs) (sym marks) (record {
