@@ -44,6 +44,6 @@ pub use count::GhostCount;
 pub use decimal::{capped_decimal, push_signed, push_unsigned};
 pub use device::{Out, OutFault, put_all};
 pub use input::{In, InFault, ReadCounts};
-pub use lines::{content, place_of, split_line};
+pub use lines::{content, find_byte, split_line};
 pub use memory::{Failing, MemoryIn, MemoryOut};
 pub use numbers::{are_digits, is_number, number_of};

@@ -24,7 +24,7 @@ fn first_len(bytes: &[u8]) -> usize
     ensures value { result ≡ first_len bytes.now }
     ensures inside { result ≤ length bytes.now }
 {
-    match place_of(bytes, b'\n') {
+    match find_byte(bytes, b'\n') {
         Some(newline) => newline + 1,
         None => bytes.len(),
     }
@@ -35,7 +35,7 @@ fn first_len(bytes: &[u8]) -> usize
 /// # Cost
 ///
 /// A pass over the bytes before it.
-pub fn place_of(bytes: &[u8], byte: u8) -> Option<usize>
+pub fn find_byte(bytes: &[u8], byte: u8) -> Option<usize>
     ensures value { result ≡ position (λ b. b == byte) bytes.now }
     ensures inside { IfSome result (λ n. n < length bytes.now) }
 {

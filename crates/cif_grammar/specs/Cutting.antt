@@ -48,15 +48,15 @@ pub data Front : Type 0 where
   CommandOf : ℕ → Front
   EndOf : Ending → Front
 
-abbrev pub front_by : ℕ → Option ℕ → Front
-front_by offset None = EndOf (Breaks offset)
-front_by offset (Some len) = CommandOf len
+abbrev pub cut_at : ℕ → Option ℕ → Front
+cut_at offset None = EndOf (Breaks offset)
+cut_at offset (Some len) = CommandOf len
 
 unfoldable pub front_of : ℕ → List ℕ → Front
 front_of total [] = EndOf (Breaks (offset_of total []))
 front_of total (b ∷ bs) =
     if b == 69 then EndOf (Ends (offset_of total (b ∷ bs)) (first_offset total (skip is_blank bs)))
-    else front_by (offset_of total (b ∷ bs)) (command_len (b ∷ bs))
+    else cut_at (offset_of total (b ∷ bs)) (command_len (b ∷ bs))
 
 -- a text's commands without their semicolons, each with its offset, and how the text ends
 pub record Cut : Type 0 where

@@ -124,7 +124,7 @@ pub record IsStart (text : List ℕ) (d : Definition) : Type 0 where
   pub scale_is : IsScale rest d.scale
 
 -- "D" {blank} "F" {blank}
-pub record IsFinish (text : List ℕ) : Type 0 where
+pub record IsDefinitionFinish (text : List ℕ) : Type 0 where
   pub gap : List ℕ
   pub behind : List ℕ
   pub parts : text ≡ 68 ∷ (gap ++ (70 ∷ behind))
@@ -215,7 +215,7 @@ Spells text (Polygon vertices) = IsPolygon text vertices
 Spells text (Box b) = IsBox text b
 Spells text (Layer name) = IsLayer text name
 Spells text (Start d) = IsStart text d
-Spells text Finish = IsFinish text
+Spells text Finish = IsDefinitionFinish text
 Spells text (Call symbol changes) = IsCall text symbol changes
 Spells text Extension = IsExtension text
 Spells text Comment = IsComment text
@@ -243,7 +243,7 @@ inside_after inside Extension = inside
 inside_after inside Comment = inside
 
 -- blanks and empty commands, "E", blanks
-pub record IsEnd (text : List ℕ) : Type 0 where
+pub record IsTextEnd (text : List ℕ) : Type 0 where
   pub gap : List ℕ
   pub behind : List ℕ
   pub parts : text ≡ gap ++ (69 ∷ behind)
@@ -262,7 +262,7 @@ pub record BeginsWith (offset : ℕ) (text : List ℕ) (place : ℕ) (command : 
 
 -- the rest of a text from an offset on, inside a definition or not, is these commands, each with its offset, and the end
 abbrev pub ReadsFrom : Bool → ℕ → List ℕ → List (ℕ × Command) → Type 0
-ReadsFrom inside offset text [] = IsEnd text × (inside ≡ false)
+ReadsFrom inside offset text [] = IsTextEnd text × (inside ≡ false)
 ReadsFrom inside offset text (c ∷ cs) =
     (first : BeginsWith offset text c.0 c.1) × IsTrue (may_stand inside c.1)
     × ReadsFrom (inside_after inside c.1) (c.0 + length first.spelling + 1) first.rest cs

@@ -2,7 +2,7 @@
 ghost use Rattle.std.specs.Prelude.{◌≡◌, ◌+◌, ◌<◌, ◌≤◌, ◌^◌, IfSome, length};
 ghost use Rattle.cif_grammar.specs.Cutting.{command_len, next_depth, semicolon_from};
 
-use byte_io::place_of;
+use byte_io::find_byte;
 
 /// Returns how many bytes stand before the semicolon of the command at the start: the first one, or
 /// behind a parenthesis at the start, the first one behind that which closes it.
@@ -31,7 +31,7 @@ fn plain_len(behind: &[u8]) -> Option<usize>
     ensures value { result ≡ semicolon_from 1 0 behind.now }
     ensures within { IfSome result (λ len. len ≤ length behind.now) }
 {
-    let index = place_of(behind, b';')?;
+    let index = find_byte(behind, b';')?;
     Some(index + 1)
 }
 

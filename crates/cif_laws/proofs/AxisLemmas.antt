@@ -18,8 +18,8 @@ use Rattle.cif_grammar.specs.declared.paths.Vertex.{Vertex}
 use Rattle.cif_read.specs.declared.content.Content.{Content}
 use Rattle.cif_read.specs.declared.fault.FaultKind.{FaultKind}
 use Rattle.cif_read.specs.declared.fault.FaultKind.TheVariants.{OffGrid, TooBig}
-use Rattle.cif_read.specs.Boxes.{box_at, box_between, greater_place, high_corner, is_askew, is_flat, is_on_axis, is_whole_box}
-use Rattle.cif_read.specs.Boxes.{is_whole_side, is_zero, lesser_place, low_corner, ring_between, side_x, side_y, some_vertex}
+use Rattle.cif_read.specs.Boxes.{box_at, box_between, high_coordinate, high_corner, is_askew, is_flat, is_on_axis, is_whole_box}
+use Rattle.cif_read.specs.Boxes.{is_whole_side, is_zero, low_coordinate, low_corner, ring_between, side_x, side_y, some_vertex}
 use Rattle.cif_read.specs.Content.{after_box, current_scale}
 use Rattle.cif_read.specs.Scales.{IsRatio, doubled, is_whole, scaled}
 use Rattle.cif_read.proofs.RingFacts.{taken}
@@ -77,14 +77,14 @@ positive : (scale : Scale) → IsRatio scale → pos 0 <ℤ pos scale.denominato
 positive scale ratio = let some = ratio.denominator in omega (arith, linear)
 
 are_ends : (scale : Scale) (n : Number) (side : ℕ) → IsRatio scale → is_whole_side scale n side ≡ true
-    → AreEnds scale n side (scaled scale (lesser_place n side)) (scaled scale (greater_place n side))
+    → AreEnds scale n side (scaled scale (low_coordinate n side)) (scaled scale (high_coordinate n side))
 are_ends scale n side ratio whole =
-    let both = and_parts (is_whole scale (lesser_place n side)) (is_whole scale (greater_place n side)) whole in
+    let both = and_parts (is_whole scale (low_coordinate n side)) (is_whole scale (high_coordinate n side)) whole in
     let d = pos scale.denominator in
-    let low = scaled scale (lesser_place n side) in
-    let high = scaled scale (greater_place n side) in
-    let at_low = low_end_is low d (doubled n) (pos side) (pos scale.numerator) (scaled_exact scale (lesser_place n side) both.0) in
-    let at_high = high_end_is high d (doubled n) (pos side) (pos scale.numerator) (scaled_exact scale (greater_place n side) both.1) in
+    let low = scaled scale (low_coordinate n side) in
+    let high = scaled scale (high_coordinate n side) in
+    let at_low = low_end_is low d (doubled n) (pos side) (pos scale.numerator) (scaled_exact scale (low_coordinate n side) both.0) in
+    let at_high = high_end_is high d (doubled n) (pos side) (pos scale.numerator) (scaled_exact scale (high_coordinate n side) both.1) in
     record {
       within = λ place over under.
           ends_forth low high d (doubled n) (pos side) (pos scale.numerator) place (positive scale ratio) at_low at_high over under;

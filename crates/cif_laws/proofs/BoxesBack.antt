@@ -15,7 +15,7 @@ use Rattle.lay_point.proofs.RingLemmas.{point_eq-true}
 use Rattle.cif_grammar.specs.declared.boxes.BoxNumbers.{BoxNumbers}
 use Rattle.cif_grammar.specs.declared.number.TheConstants.{MAX_MAGNITUDE}
 use Rattle.cif_read.specs.declared.fault.FaultKind.TheVariants.{OffGrid, TooBig}
-use Rattle.cif_read.specs.Boxes.{box_at, greater_place, high_corner, is_big_box, is_flat, is_whole_side, lesser_place, low_corner}
+use Rattle.cif_read.specs.Boxes.{box_at, high_coordinate, high_corner, is_big_box, is_flat, is_whole_side, low_coordinate, low_corner}
 use Rattle.cif_read.specs.Boxes as reads
 use Rattle.cif_read.specs.Polygons.{is_above_written}
 use Rattle.cif_read.specs.Scales.{doubled, is_whole, scaled, value_of}
@@ -39,8 +39,8 @@ doubled_again z = ap (λ v. pos 2 *ℤ v) (value_again z)
 pub record HasEnds (length : ℕ) (middle low high : ℤ) : Type 0 where
   pub some : 1 ≤ length
   pub few : length ≤ MAX_MAGNITUDE
-  pub lesser : lesser_place (number_of middle) length ≡ doubled (number_of low)
-  pub greater : greater_place (number_of middle) length ≡ doubled (number_of high)
+  pub lesser : low_coordinate (number_of middle) length ≡ doubled (number_of low)
+  pub greater : high_coordinate (number_of middle) length ≡ doubled (number_of high)
   pub above : low ≤ℤ middle
   pub below : middle ≤ℤ high
 
@@ -278,7 +278,7 @@ numbers_of b =
 
 whole_side : (n : ℕ) (middle low high : ℤ) → HasEnds n middle low high → is_whole_side half (number_of middle) n ≡ true
 whole_side n middle low high is =
-    and_from (is_whole half (lesser_place (number_of middle) n)) (is_whole half (greater_place (number_of middle) n))
+    and_from (is_whole half (low_coordinate (number_of middle) n)) (is_whole half (high_coordinate (number_of middle) n))
     (ap (is_whole half) is.lesser ∙ whole low) (ap (is_whole half) is.greater ∙ whole high)
 
 -- a box of these sides

@@ -33,7 +33,7 @@ use Rattle.cif_read.proofs.OneMeaning.{short_text}
 use Rattle.cif_read.proofs.TextGrammar.{FrontKind, accepted, at_a_break, at_a_command, at_the_end, front_kind}
 use Rattle.cif_laws.proofs.CommentEnds.{none_closes, outside, plain_behind}
 use Rattle.cif_laws.specs.Refusals.{BeginsWithNoGap, FaultsAreWhereTheyStand, HasBadCall, HasFault}
-use Rattle.cif_laws.specs.Refusals.{HasNoSemicolon, IsWrong, Leaves, NoCommand, behind_end, refused, unended, unread, within}
+use Rattle.cif_laws.specs.Refusals.{HasNoSemicolon, IsFirstFault, Leaves, NoCommand, behind_end, refused, unended, unread, within}
 
 -- ---- commands that stand at a place
 
@@ -124,7 +124,7 @@ record Refused (content : Content) (offset : ℕ) (text : List ℕ) (fault : Cif
   rest : List ℕ
   good : after_commands content before ≡ Ok next
   leaves : Leaves offset text before place rest
-  wrong : IsWrong next place rest fault
+  wrong : IsFirstFault next place rest fault
 
 -- the same for shorter texts
 abbrev RefusedBelow : ℕ → Type 0
@@ -143,7 +143,7 @@ module _ (n offset : ℕ) (content : Content) (text : List ℕ) (fault : CifFaul
   place_of = offset + length (take_while is_gap text)
 
   -- what is wrong stands here
-  here : IsWrong content place_of (skip is_gap text) fault → Refused content offset text fault
+  here : IsFirstFault content place_of (skip is_gap text) fault → Refused content offset text fault
   unfolding place_of after_commands
   here wrong = record {
     before = [];

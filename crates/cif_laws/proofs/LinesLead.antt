@@ -128,7 +128,7 @@ elements_of way d = map (element_of way d.number) d.items
 
 definition_leads : (way : Rectangles) (symbols : List ℕ) (es : List Element) (last : Content) (text : List ℕ) (d : Definition)
     → MayBegin symbols d.number → AllByRecursion IsWritable d.items
-        → Reaches (outside (symbols ++ d.number ∷ []) (es ++ elements_of way d)) last text
+    → Reaches (outside (symbols ++ d.number ∷ []) (es ++ elements_of way d)) last text
     → Reaches (outside symbols es) last (lines_text_as way (definition_lines d) ++ text)
 definition_leads way symbols es last text d may items reaches =
     let begun = symbols ++ d.number ∷ [] in

@@ -31,15 +31,34 @@ use Rattle.cif_write.proofs.BoxLemmas.{text_as_paths}
 use Rattle.cif_names.specs.declared.names.Entry.{Entry}
 use Rattle.cif_names.specs.Laws.{IsCommands, IsExtensionLine, IsLayeredLine}
 use Rattle.cif_names.specs.Names.{is_of_symbols, names_of, within}
-use Rattle.cif_names.specs.Woven.{has_newline, heading, heading_of, is_kept_in, last_call, lines_in, number_behind, started, with_names,
-    woven, woven_line}
+use Rattle.cif_names.specs.Woven.{
+  has_newline,
+  heading,
+  heading_of,
+  is_kept_in,
+  last_call,
+  lines_in,
+  number_behind,
+  started,
+  with_names,
+  woven,
+  woven_line,
+}
 use Rattle.cif_names.proofs.KeptCommands.{kept_commands}
 use Rattle.cif_names.proofs.SameText.{first_line}
 use Rattle.cif_laws.specs.Laws.{FitsText}
 use Rattle.cif_laws.specs.Named.{NamesChangeNothing, named}
 use Rattle.cif_laws.proofs.CommandsDo.{MayBegin, begins, calls_plainly, finishes, inside, outside, sets_layer}
-use Rattle.cif_laws.proofs.LinesLead.{AreWritable, IsWritable, element_of, elements_of, elements_written, item_leads, items_lead,
-    layered_leads}
+use Rattle.cif_laws.proofs.LinesLead.{
+  AreWritable,
+  IsWritable,
+  element_of,
+  elements_of,
+  elements_written,
+  item_leads,
+  items_lead,
+  layered_leads,
+}
 use Rattle.cif_laws.proofs.LinesLead.{lines_apart, named as named_layer, symbol_of}
 use Rattle.cif_laws.proofs.NamelessLines.{AreNameless, all_filtered, file_nameless}
 use Rattle.cif_laws.proofs.Reaching.{Reaches, command_leads, end_reached, first_leads, line_leads}

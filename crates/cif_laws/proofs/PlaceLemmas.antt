@@ -26,7 +26,7 @@ use Rattle.cif_read.specs.Polygons.{point_in_range, points_from, polygon_at, rin
 use Rattle.cif_read.specs.Scales.{IsRatio, doubled, is_whole, is_whole_vertex, scaled_vertex}
 use Rattle.cif_read.proofs.RingFacts.{taken}
 use Rattle.cif_read.proofs.ScaleLemmas.{scaled_exact}
-use Rattle.cif_laws.specs.Distances.{ArePlaces, AreAtTwo, DistancesAreScaled, DrawsRing, IsPlace, IsPolygonOf}
+use Rattle.cif_laws.specs.Distances.{ArePlaces, LieOnTwoPoints, DistancesAreScaled, DrawsRing, IsPlace, IsPolygonOf}
 use Rattle.cif_laws.proofs.DistanceLemmas.{is_scaled, next_scale, only_units, polygon_drew}
 
 -- ---- what is left of a list
@@ -196,10 +196,10 @@ of_two (a ∷ b ∷ []) h = record { one = a; other = b; each = each } where
 of_two (a ∷ b ∷ c ∷ xs) h = absurd (omega arith)
 
 abbrev IsShape : Scale → List Vertex → Option (List Point) → Type 0
-IsShape scale vs ring = MatchOption ring (AreAtTwo scale vs) (IsPolygonOf scale vs)
+IsShape scale vs ring = MatchOption ring (LieOnTwoPoints scale vs) (IsPolygonOf scale vs)
 
 few_shape : (scale : Scale) (vs : List Vertex) → IsRatio scale → ring_of (map (scaled_vertex scale) vs) ≡ Err FewPoints
-    → AreAtTwo scale vs
+    → LieOnTwoPoints scale vs
 unfolding ring_of
 few_shape scale vs ratio e =
     let kept = without_repeats (map (scaled_vertex scale) vs) in
@@ -249,7 +249,7 @@ polygon_shape scale vs ring ratio e =
 
 polygon_law : (content next : Content) (vertices : List Vertex) → IsRatio (current_scale content.definition)
     → after_polygon content vertices ≡ Ok next
-    → DrawsRing content next (AreAtTwo (current_scale content.definition) vertices)
+    → DrawsRing content next (LieOnTwoPoints (current_scale content.definition) vertices)
     (IsPolygonOf (current_scale content.definition) vertices)
 polygon_law content next vertices ratio e =
     let d = polygon_drew content next vertices e in

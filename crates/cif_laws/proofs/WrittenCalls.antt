@@ -101,7 +101,7 @@ AllCalls P es = All (λ c. P c.0 c.1) (element_calls es)
 -- the calls among what a cell holds, written in the symbol of this number
 held_calls : (way : Rectangles) (P : CellId → ℕ → Type 0) (layout : Layout) (cell : CellId) (number : ℕ) (items : List Item)
     → All (IsHeld layout cell) items → ((t : ℕ) → Contains (calls_of layout) (cell, t) → P (Symbol number) t)
-        → AllCalls P (map (element_of way number) items)
+    → AllCalls P (map (element_of way number) items)
 held_calls way P layout cell number [] h says = All-nil (λ c. P c.0 c.1)
 held_calls way P layout cell number (Shape other layer rings ∷ items) h says =
     held_calls way P layout cell number items (All-tail (IsHeld layout cell) (Shape other layer rings) items h) says

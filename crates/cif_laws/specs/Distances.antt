@@ -54,7 +54,7 @@ pub record IsPolygonOf (scale : Scale) (vertices : List Vertex) (ring : List Poi
   pub each : (v : Vertex) (p : Point) → Contains vertices v → IsPlace scale v p → Contains ring p
 
 -- the vertices are all at one of two points
-pub record AreAtTwo (scale : Scale) (vertices : List Vertex) : Type 0 where
+pub record LieOnTwoPoints (scale : Scale) (vertices : List Vertex) : Type 0 where
   pub one : Point
   pub other : Point
   pub each : (v : Vertex) (p : Point) → Contains vertices v → IsPlace scale v p → (p ≡ one) ⊎ (p ≡ other)
@@ -75,5 +75,5 @@ pub record DistancesAreScaled : Type 0 where
       → effect_of content offset c ≡ Ok next → IsNextScale content next c
   pub polygons : (content next : Content) (offset : ℕ) (vertices : List Vertex) → IsRatio (current_scale content.definition)
       → effect_of content offset (command.Polygon vertices) ≡ Ok next
-      → DrawsRing content next (AreAtTwo (current_scale content.definition) vertices)
+      → DrawsRing content next (LieOnTwoPoints (current_scale content.definition) vertices)
       (IsPolygonOf (current_scale content.definition) vertices)

@@ -49,22 +49,22 @@ abbrev pub IsOutside : List ℕ → Type 0
 IsOutside bytes = (more : List ℕ) → bytes ≡ 40 ∷ more → (behind : List ℕ) × (behind_closing 0 more ≡ Some behind)
 
 -- why a text is refused that means this so far, and of which this rest is left at this offset
-pub data IsWrong (content : Content) (place : ℕ) (rest : List ℕ) (fault : CifFault) : Type 0 where
+pub data IsFirstFault (content : Content) (place : ℕ) (rest : List ℕ) (fault : CifFault) : Type 0 where
   -- a command stands there, and has the fault
   refused : (c : Command) → BeginsWith place rest place c → fault.offset ≡ place → effect_of content place c ≡ Err fault.kind
-      → IsWrong content place rest fault
+      → IsFirstFault content place rest fault
   -- no command stands there, though a semicolon does behind it, outside of parentheses; the first letters say which fault that is
   unread : (bytes behind : List ℕ) → rest ≡ bytes ++ (59 ∷ behind) → IsOutside bytes → begins_with_end rest ≡ false
-      → NoCommand place rest → fault ≡ record { kind = unread_kind rest; offset = place } → IsWrong content place rest fault
+      → NoCommand place rest → fault ≡ record { kind = unread_kind rest; offset = place } → IsFirstFault content place rest fault
   -- no semicolon ends what stands there, and neither does the text end there
   unended : HasNoSemicolon rest → begins_with_end rest ≡ false → NoCommand place rest → fault ≡ record { kind = NoEnd; offset = place }
-      → IsWrong content place rest fault
+      → IsFirstFault content place rest fault
   -- the text ends within a definition
   within : begins_with_end rest ≡ true → is_inside content.definition ≡ true → fault ≡ record { kind = Syntax; offset = place }
-      → IsWrong content place rest fault
+      → IsFirstFault content place rest fault
   -- behind the end and blanks another byte stands
   behind_end : (blanks more : List ℕ) (b : ℕ) → rest ≡ 69 ∷ (blanks ++ (b ∷ more)) → is_inside content.definition ≡ false → AreBlanks blanks
-      → is_blank b ≡ false → fault ≡ record { kind = AfterEnd; offset = place + 1 + length blanks } → IsWrong content place rest fault
+      → is_blank b ≡ false → fault ≡ record { kind = AfterEnd; offset = place + 1 + length blanks } → IsFirstFault content place rest fault
 
 -- good commands stand before the fault
 pub record HasFault (text : List ℕ) (fault : CifFault) : Type 0 where
@@ -74,7 +74,7 @@ pub record HasFault (text : List ℕ) (fault : CifFault) : Type 0 where
   pub rest : List ℕ
   pub good : content_of before ≡ Ok content
   pub leaves : Leaves 0 text before place rest
-  pub wrong : IsWrong content place rest fault
+  pub wrong : IsFirstFault content place rest fault
 
 -- all commands are good, but a call isn't
 abbrev pub HasBadCall : List ℕ → CifFault → Type 0

@@ -13,12 +13,21 @@ use Rattle.byte_io.proofs.DigitLemmas.{decimal_is}
 use Rattle.cif_grammar.specs.declared.number.Number.{Number}
 use Rattle.cif_grammar.specs.Bytes.{is_blank, is_gap, skip}
 use Rattle.cif_grammar.specs.Cutting.{Cut, EndOf, Ends, behind_command, command_len, cut, cut_by, cut_from, cut_rest}
-use Rattle.cif_grammar.specs.Cutting.{first_offset, front_by, front_of, offset_of, semicolon_from}
+use Rattle.cif_grammar.specs.Cutting.{first_offset, cut_at, front_of, offset_of, semicolon_from}
 use Rattle.cif_grammar.proofs.Runs.{taken_and_left}
 use Rattle.cif_names.specs.declared.names.Names.{Names}
 use Rattle.cif_names.specs.declared.place.Place.{Place}
-use Rattle.cif_names.specs.Entries.{Label, coordinate_of, label_command, label_of, label_text, layer_bytes, layer_text, name_text,
-    number_text}
+use Rattle.cif_names.specs.Entries.{
+  Label,
+  coordinate_of,
+  label_command,
+  label_of,
+  label_text,
+  layer_bytes,
+  layer_text,
+  name_text,
+  number_text,
+}
 use Rattle.cif_names.specs.Entries.{sign_text, word_behind, word_beside, word_text}
 use Rattle.cif_names.specs.Laws.{IsCommands, IsExtensionLine, IsLayeredLine, KeptLinesAreCommands}
 use Rattle.cif_names.specs.Names.{kept_after, label_line, name_line, names_after, names_from, names_of, nothing, with_line}
@@ -102,7 +111,7 @@ pieces_open (suc steps) total (b ∷ bs) =
 
       by : (t : Bool) (o : Option ℕ) → command_len (b ∷ bs) ≡ o → ((len : ℕ) → ArePieces (further len).pieces)
           → ArePieces (cut_by total (b ∷ bs) (cond t (EndOf (Ends (offset_of total (b ∷ bs)) (first_offset total (skip is_blank bs))))
-          (front_by (offset_of total (b ∷ bs)) o)) further).pieces
+          (cut_at (offset_of total (b ∷ bs)) o)) further).pieces
       by true o e more = tt
       by false None e more = tt
       by false (Some len) e more = (piece_open b bs len e, more len)
@@ -155,10 +164,10 @@ number_open : (n : Number) → IsSmall n → IsOpen (number_text n)
 number_open n small =
     open-append (sign_text n) (decimal n.magnitude) (by (n.negative && not (n.magnitude == 0)))
     (all_weaker is_digit is_open (λ b e. grind (arith, nat_tests)) (decimal n.magnitude) (decimal_is n.magnitude (omega arith)).digits)
-        where
-      by : (t : Bool) → IsOpen (cond t (codes "-") [])
-      by true = refl
-      by false = refl
+  where
+    by : (t : Bool) → IsOpen (cond t (codes "-") [])
+    by true = refl
+    by false = refl
 
 word_text-open : (word : List ℕ) → IsOpen word → IsOpen (word_text word)
 word_text-open [] p = refl

@@ -22,8 +22,16 @@ use Rattle.cif_grammar.specs.Layers.{layer_of}
 use Rattle.cif_names.specs.declared.names.Names.{Names}
 use Rattle.cif_names.specs.declared.place.Place.{Place}
 use Rattle.cif_names.specs.Entries.{Label, coordinate_of, in_bits, label_command, label_of, label_text, layer_bytes, layer_text}
-use Rattle.cif_names.specs.Entries.{limit_of, name_text, number_text, product_in_units, scaled_to_units, sign_text, word_behind,
-    word_beside}
+use Rattle.cif_names.specs.Entries.{
+  limit_of,
+  name_text,
+  number_text,
+  product_in_units,
+  scaled_to_units,
+  sign_text,
+  word_behind,
+  word_beside,
+}
 use Rattle.cif_names.specs.Entries.{word_text}
 use Rattle.cif_names.specs.Laws.{IsKeptLine, KeptLinesAreLines, is_kept_line, is_line}
 use Rattle.cif_names.specs.Names.{kept_after, label_line, name_line, names_after, names_from, names_of, nothing, with_line}

@@ -10,8 +10,8 @@ use Rattle.cif_grammar.specs.declared.number.Number.{Number}
 use Rattle.cif_grammar.specs.declared.number.TheConstants.{MAX_MAGNITUDE}
 use Rattle.cif_grammar.specs.declared.boxes.BoxNumbers.{BoxNumbers}
 use Rattle.cif_grammar.specs.declared.definitions.Scale.{Scale}
-use Rattle.cif_read.specs.Boxes.{greater_place, high_corner, is_big_box, is_flat}
-use Rattle.cif_read.specs.Boxes.{is_upright, is_whole_box, is_whole_side, lesser_place, low_corner}
+use Rattle.cif_read.specs.Boxes.{high_coordinate, high_corner, is_big_box, is_flat}
+use Rattle.cif_read.specs.Boxes.{is_upright, is_whole_box, is_whole_side, low_coordinate, low_corner}
 use Rattle.cif_read.specs.Boxes.{side_x, side_y}
 use Rattle.cif_read.specs.Polygons.{point_in_range}
 use Rattle.cif_read.specs.Scales.{IsRatio, is_whole}
@@ -50,9 +50,9 @@ pub spans : (scale : Scale) (b : BoxNumbers) (low high : Point) → IsRatio scal
     → point_in_range (low_corner scale b) ≡ Some low → point_in_range (high_corner scale b) ≡ Some high → Spans low high
 spans scale b low high ratio whole wide low_found high_found =
     let sides = and_parts (is_whole_side scale b.centre.x (side_x b)) (is_whole_side scale b.centre.y (side_y b)) whole in
-    let x = and_parts (is_whole scale (lesser_place b.centre.x (side_x b))) (is_whole scale (greater_place b.centre.x (side_x b)))
+    let x = and_parts (is_whole scale (low_coordinate b.centre.x (side_x b))) (is_whole scale (high_coordinate b.centre.x (side_x b)))
     sides.0 in
-    let y = and_parts (is_whole scale (lesser_place b.centre.y (side_y b))) (is_whole scale (greater_place b.centre.y (side_y b)))
+    let y = and_parts (is_whole scale (low_coordinate b.centre.y (side_y b))) (is_whole scale (high_coordinate b.centre.y (side_y b)))
     sides.1 in
     let low_is = (cond_some (is_in_range (low_corner scale b)) (low_corner scale b) low low_found).1 in
     let high_is = (cond_some (is_in_range (high_corner scale b)) (high_corner scale b) high high_found).1 in
@@ -68,5 +68,5 @@ spans scale b low high ratio whole wide low_found high_found =
       | false ↦ λ e. rw e (grind (arith, nat_tests), grind (arith, nat_tests))
     ] refl
 
-    rises : (n : Number) (side : ℕ) → 1 ≤ side → lesser_place n side <ℤ greater_place n side
+    rises : (n : Number) (side : ℕ) → 1 ≤ side → low_coordinate n side <ℤ high_coordinate n side
     rises n side some = omega (arith, ints)

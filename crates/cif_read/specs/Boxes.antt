@@ -45,27 +45,27 @@ abbrev pub side_y : BoxNumbers → ℕ
 side_y b = if is_upright b then b.length else b.width
 
 -- the lesser and the greater place of a side round its centre
-abbrev pub lesser_place : Number → ℕ → ℤ
-lesser_place centre side = doubled centre -ℤ pos side
+abbrev pub low_coordinate : Number → ℕ → ℤ
+low_coordinate centre side = doubled centre -ℤ pos side
 
-abbrev pub greater_place : Number → ℕ → ℤ
-greater_place centre side = doubled centre +ℤ pos side
+abbrev pub high_coordinate : Number → ℕ → ℤ
+high_coordinate centre side = doubled centre +ℤ pos side
 
 -- both ends of a side are whole
 abbrev pub is_whole_side : Scale → Number → ℕ → Bool
-is_whole_side scale centre side = is_whole scale (lesser_place centre side) && is_whole scale (greater_place centre side)
+is_whole_side scale centre side = is_whole scale (low_coordinate centre side) && is_whole scale (high_coordinate centre side)
 
 -- the corners
 abbrev pub low_corner : Scale → BoxNumbers → Point
 low_corner scale b = record {
-  x = scaled scale (lesser_place b.centre.x (side_x b));
-  y = scaled scale (lesser_place b.centre.y (side_y b));
+  x = scaled scale (low_coordinate b.centre.x (side_x b));
+  y = scaled scale (low_coordinate b.centre.y (side_y b));
 }
 
 abbrev pub high_corner : Scale → BoxNumbers → Point
 high_corner scale b = record {
-  x = scaled scale (greater_place b.centre.x (side_x b));
-  y = scaled scale (greater_place b.centre.y (side_y b));
+  x = scaled scale (high_coordinate b.centre.x (side_x b));
+  y = scaled scale (high_coordinate b.centre.y (side_y b));
 }
 
 abbrev pub is_whole_box : Scale → BoxNumbers → Bool

@@ -3,7 +3,7 @@ ghost use Rattle.std.specs.Prelude.{◌≡◌, ◌≤◌, ◌*◌, unsigned_abs,
 ghost use Rattle.cif_grammar.specs.declared.number.TheConstants.{MAX_MAGNITUDE};
 ghost use Rattle.cif_read.specs.Boxes.{
   box_at,
-  greater_place,
+  high_coordinate,
   high_corner,
   is_askew,
   is_big_box,
@@ -15,7 +15,7 @@ ghost use Rattle.cif_read.specs.Boxes.{
   is_whole_box,
   is_whole_side,
   is_zero,
-  lesser_place,
+  low_coordinate,
   low_corner,
   side_x,
   side_y,
@@ -140,7 +140,7 @@ fn is_whole_side(scale: Ratio, centre: Number, side: u32) -> bool
     requires side { side ≤ MAX_MAGNITUDE }
     ensures { result ≡ is_whole_side scale centre side }
 {
-    scale.is_whole(lesser_place(centre, side)) && scale.is_whole(greater_place(centre, side))
+    scale.is_whole(low_coordinate(centre, side)) && scale.is_whole(high_coordinate(centre, side))
 }
 
 /// Returns the lower left corner, or `None` where it is out of range.
@@ -150,8 +150,8 @@ fn low_corner(scale: Ratio, numbers: BoxNumbers) -> Option<Point>
     ensures { result ≡ point_in_range (low_corner scale numbers) }
 {
     point(
-        scale.scaled(lesser_place(numbers.centre.x, side_x(numbers))),
-        scale.scaled(lesser_place(numbers.centre.y, side_y(numbers))),
+        scale.scaled(low_coordinate(numbers.centre.x, side_x(numbers))),
+        scale.scaled(low_coordinate(numbers.centre.y, side_y(numbers))),
     )
 }
 
@@ -162,26 +162,26 @@ fn high_corner(scale: Ratio, numbers: BoxNumbers) -> Option<Point>
     ensures { result ≡ point_in_range (high_corner scale numbers) }
 {
     point(
-        scale.scaled(greater_place(numbers.centre.x, side_x(numbers))),
-        scale.scaled(greater_place(numbers.centre.y, side_y(numbers))),
+        scale.scaled(high_coordinate(numbers.centre.x, side_x(numbers))),
+        scale.scaled(high_coordinate(numbers.centre.y, side_y(numbers))),
     )
 }
 
 /// Returns the lower end of a side round its centre.
-fn lesser_place(centre: Number, side: u32) -> i64
+fn low_coordinate(centre: Number, side: u32) -> i64
     requires centre { centre.magnitude ≤ MAX_MAGNITUDE }
     requires side { side ≤ MAX_MAGNITUDE }
-    ensures value { result ≡ lesser_place centre side }
+    ensures value { result ≡ low_coordinate centre side }
     ensures bound { unsigned_abs result ≤ 3 * MAX_MAGNITUDE }
 {
     doubled(centre) - i64::from(side)
 }
 
 /// Returns the upper end of a side round its centre.
-fn greater_place(centre: Number, side: u32) -> i64
+fn high_coordinate(centre: Number, side: u32) -> i64
     requires centre { centre.magnitude ≤ MAX_MAGNITUDE }
     requires side { side ≤ MAX_MAGNITUDE }
-    ensures value { result ≡ greater_place centre side }
+    ensures value { result ≡ high_coordinate centre side }
     ensures bound { unsigned_abs result ≤ 3 * MAX_MAGNITUDE }
 {
     doubled(centre) + i64::from(side)

@@ -11,12 +11,12 @@ use Rattle.lay_layouts.specs.Layout.{Layout}
 use Rattle.undo_rules.specs.declared.log.Logged.{Logged}
 use Rattle.undo_rules.specs.Books.{History}
 use Rattle.undo_rules.specs.Steps.{fresh}
-use Rattle.desk_rules.specs.declared.kept.Kept.{Kept}
+use Rattle.desk_rules.specs.declared.seat_call.SeatCall.{SeatCall}
 use Rattle.desk_rules.specs.Close.{AreSeatsRising, HasAll, IsClosed, Shows, has_seat, missing_call, missing_place}
 use Rattle.desk_rules.specs.Close.{or_missing, own_total}
 use Rattle.desk_rules.specs.Guards.{ones}
 use Rattle.desk_rules.specs.Legal.{Desk, IsFrom, IsLegal}
-use Rattle.desk_rules.specs.Seats.{AreCallsRising, IsIn, Seat, is_in, own_calls, own_from, with_own}
+use Rattle.desk_rules.specs.Seats.{AreCallsRising, LogHasCall, Seat, is_in, own_calls, own_from, with_own}
 use Rattle.desk_rules.proofs.FitLemmas.{fits, from_start, length_with, same_own}
 use Rattle.desk_rules.proofs.GuardLemmas.{is_in-is}
 
@@ -151,7 +151,7 @@ length_calls s p (c ∷ cs) =
 
 -- ---- the seats of a close
 
-all_in : (log : List Logged) (own : List Kept) → missing_place log own ≡ None → AllByRecursion (IsIn log) own
+all_in : (log : List Logged) (own : List SeatCall) → missing_place log own ≡ None → AllByRecursion (LogHasCall log) own
 all_in log [] none = tt
 all_in log (k ∷ ks) none = elim (cases_Bool (is_in log k)) [
   | inl there_is ↦ (
@@ -238,24 +238,24 @@ put_back n xs all same len =
 
 -- ---- a desk of one session
 
-alone_from : (p : ℕ) (h end : History) (log : List Logged) → IsLegal 1 h log end → map (λ (k : Kept). k.logged) (own_from 1 p log) ≡ log
+alone_from : (p : ℕ) (h end : History) (log : List Logged) → IsLegal 1 h log end → map (λ (k : SeatCall). k.logged) (own_from 1 p log) ≡ log
 alone_from p h end [] legal = refl
 alone_from p h end (c ∷ cs) legal =
     let low = legal.1.low in let high = legal.1.high in
     let one : (c.session == 1) ≡ true = grind (arith, nat_tests) in
-    ap (λ b. map (λ (k : Kept). k.logged) (with_own b (record { place = p; logged = c }) (own_from 1 (p + 1) cs))) one
+    ap (λ b. map (λ (k : SeatCall). k.logged) (with_own b (record { place = p; logged = c }) (own_from 1 (p + 1) cs))) one
     ∙ ap (λ l. c ∷ l) (alone_from (p + 1) legal.0 end cs legal.2)
 
-pub alone : (sessions session : ℕ) (h end : History) (log : List Logged) (own : List Kept) → IsLegal sessions h log end → 1 ≤ session
+pub alone : (sessions session : ℕ) (h end : History) (log : List Logged) (own : List SeatCall) → IsLegal sessions h log end → 1 ≤ session
     → session ≤ sessions
-    → own_calls session log ≡ own → sessions ≡ 1 → map (λ (k : Kept). k.logged) own ≡ log
+    → own_calls session log ≡ own → sessions ≡ 1 → map (λ (k : SeatCall). k.logged) own ≡ log
 alone sessions session h end log own legal low high is one =
     let me : session ≡ 1 = omega (arith, low, high, one) in
-    ap (map (λ (k : Kept). k.logged)) (sym is ∙ ap (λ s. own_calls s log) me)
+    ap (map (λ (k : SeatCall). k.logged)) (sym is ∙ ap (λ s. own_calls s log) me)
     ∙ alone_from 0 h end log (subst (λ n. IsLegal n h log end) one legal)
 
 -- the session's calls are the seat's, where all these are in the log, and it has as many
-pub own_shown : (session : ℕ) (log : List Logged) (own : List Kept) → AreCallsRising session 0 own → missing_place log own ≡ None
+pub own_shown : (session : ℕ) (log : List Logged) (own : List SeatCall) → AreCallsRising session 0 own → missing_place log own ≡ None
     → length (own_calls session log) ≡ length own → own_calls session log ≡ own
 own_shown session log own rising none len = sym (same_own session 0 log own rising (from_start log own (all_in log own none)) (sym len))
 

@@ -14,11 +14,11 @@ use Rattle.desk_rules.proofs.SameLemmas.{logged_exact}
 use Rattle.undo_rules.specs.Books.{History}
 use Rattle.undo_rules.specs.Steps.{fresh}
 use Rattle.undo_rules.proofs.Logs.{get-push}
-use Rattle.desk_rules.specs.declared.kept.Kept.{Kept}
+use Rattle.desk_rules.specs.declared.seat_call.SeatCall.{SeatCall}
 use Rattle.lay_layouts.specs.Sound.{IsSound}
 use Rattle.desk_rules.specs.Guards.{AreCallCounts, Fits, Guard, IsGuard, has_last, ones, with_one_counted}
 use Rattle.desk_rules.specs.Legal.{Desk, Grew, IsLegal, Leads, Stepped, on_base, outcome}
-use Rattle.desk_rules.specs.Seats.{EndsWith, IsIn, IsLastIn, IsPastCall, calls_added, is_in, is_last_in, last_of, own_calls, same_at}
+use Rattle.desk_rules.specs.Seats.{EndsWith, LogHasCall, IsLastIn, IsPastCall, calls_added, is_in, is_last_in, last_of, own_calls, same_at}
 use Rattle.desk_rules.proofs.LegalLemmas.{grown, legal_push}
 use Rattle.desk_rules.proofs.OwnLemmas.{length-own-push}
 
@@ -26,21 +26,21 @@ same_at-is : (found : Option Logged) (call : Logged) → same_at found call ≡ 
 same_at-is None call e = absurd (grind rules)
 same_at-is (Some c) call e = ap Some (logged_exact c call e)
 
-pub is_in-is : (log : List Logged) (k : Kept) → is_in log k ≡ true → IsIn log k
+pub is_in-is : (log : List Logged) (k : SeatCall) → is_in log k ≡ true → LogHasCall log k
 is_in-is log k e = same_at-is (slice_get log k.place) k.logged e
 
-last_in-is : (log : List Logged) (last : Option Kept) → is_last_in log last ≡ true → IsLastIn log last
+last_in-is : (log : List Logged) (last : Option SeatCall) → is_last_in log last ≡ true → IsLastIn log last
 last_in-is log None e = tt
 last_in-is log (Some k) e = is_in-is log k e
 
 -- what the look at the log tells
-pub record Looked (g : Guard) (session : ℕ) (own : List Kept) : Type 0 where
+pub record Looked (g : Guard) (session : ℕ) (own : List SeatCall) : Type 0 where
   pub low : 1 ≤ session
   pub high : session ≤ g.sessions
   pub count : slice_index g.counts (session - 1) ≡ length own
   pub last : IsLastIn g.book.log (last_of own)
 
-pub looked : (g : Guard) (session : ℕ) (own : List Kept) → has_last g session own ≡ true → Looked g session own
+pub looked : (g : Guard) (session : ℕ) (own : List SeatCall) → has_last g session own ≡ true → Looked g session own
 looked g session own e =
     let parts = and_parts (nat_le 1 session && nat_le session g.sessions)
     ((slice_index g.counts (session - 1) == length own) && is_last_in g.book.log (last_of own)) e in
@@ -147,16 +147,16 @@ get_end : {X : Type 0} (xs : List X) (y : X) → slice_get (xs ++ y ∷ []) (len
 get_end [] y = refl
 get_end (z ∷ zs) y = get_end zs y
 
-last_in_more : (log : List Logged) (c : Logged) (last : Option Kept) → IsLastIn log last → IsLastIn (log ++ c ∷ []) last
+last_in_more : (log : List Logged) (c : Logged) (last : Option SeatCall) → IsLastIn log last → IsLastIn (log ++ c ∷ []) last
 last_in_more log c None found = tt
 last_in_more log c (Some k) found = get-push log c k.place k.logged found
 
-last_below : (log : List Logged) (last : Option Kept) → IsLastIn log last → IsPastCall (length log) last
+last_below : (log : List Logged) (last : Option SeatCall) → IsLastIn log last → IsPastCall (length log) last
 last_below log None found = tt
 last_below log (Some k) found = slice_get_within log k.place k.logged found
 
 -- the log has as many calls of the session as its own
-pub counted : (g : Guard) (session : ℕ) (own : List Kept) → IsGuard g → Looked g session own
+pub counted : (g : Guard) (session : ℕ) (own : List SeatCall) → IsGuard g → Looked g session own
     → length (own_calls session g.book.log) ≡ length own
 counted g session own kept look =
     let low = look.low in
@@ -166,10 +166,11 @@ counted g session own kept look =
     (sym (kept.counts.each (session - 1) (omega (arith, low, high))) ∙ look.count)
 
 -- what a logged call tells of the log behind it
-pub made_logged : (desk : Desk) (g : Guard) (next : History) (session place : ℕ) (call : Call) (answer : Option Answer) (own : List Kept)
+pub made_logged : (desk : Desk) (g : Guard) (next : History) (session place : ℕ) (call : Call) (answer : Option Answer)
+    (own : List SeatCall)
     → IsGuard g → Fits desk g → IsSound g.book.layout → Looked g session own → Stepped g.book session call answer next
     → place ≡ length g.book.log → IfSome answer (EndsWith (on_base next.base desk) next
-        (record { session = session; before = own; call = call; place = place }))
+    (record { session = session; before = own; call = call; place = place }))
 made_logged desk g next session place call None own kept fits sound look stepped at = tt
 made_logged desk g next session place call (Some answer) own kept fits sound look (inr fails) at = absurd (grind rules)
 made_logged desk g next session place call (Some answer) own kept fits sound look (inl made) at =
@@ -223,7 +224,7 @@ added_is h next session call (Some answer) stepped =
     let f : nat_lt (length h.log) (length next.log) ≡ true = grind (arith, nat_tests) in ap ones f
 
 -- the same, as the fields have it
-pub guard_called : (g : Guard) (next : History) (session : ℕ) (call : Call) (answer : Option Answer) (own : List Kept)
+pub guard_called : (g : Guard) (next : History) (session : ℕ) (call : Call) (answer : Option Answer) (own : List SeatCall)
     (counts : List ℕ) (total : ℕ) (more : Bool)
     → IsGuard g → IsSound g.book.layout → Looked g session own → Stepped g.book session call answer next
     → more ≡ nat_lt (length g.book.log) (length next.log)

@@ -5,7 +5,7 @@ use Rattle.undo_rules.specs.declared.log.Answer.{Answer}
 use Rattle.undo_rules.specs.declared.log.Logged.{Logged}
 use Rattle.undo_rules.specs.Books.{History}
 use Rattle.undo_rules.specs.Steps.{fresh}
-use Rattle.desk_rules.specs.Laws.{AsManyAreAll, LogsAreKept, LogsLeadToOne}
+use Rattle.desk_rules.specs.Laws.{SameCountMeansAll, LogsAreKept, LogsLeadToOne}
 use Rattle.desk_rules.specs.Legal.{Grew, Grown, IsLegal, Leads, outcome}
 use Rattle.desk_rules.proofs.FitLemmas.{from_start, same_own}
 use Rattle.desk_rules.proofs.LegalLemmas.{grown_call}
@@ -45,5 +45,5 @@ logs_lead_to_one n start (c ∷ cs) g h legal other =
     (outcome start c.session c.call) legal.1.outcome other.1.outcome refl in
     logs_lead_to_one n other.0 cs g h (subst (λ (mid : History). IsLegal n mid cs g) same legal.2) other.2
 
-pub as_many_are_all : AsManyAreAll
+pub as_many_are_all : SameCountMeansAll
 as_many_are_all session log own rising all len = same_own session 0 log own rising (from_start log own all) len

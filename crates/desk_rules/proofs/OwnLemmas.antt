@@ -4,12 +4,12 @@ use Rattle.std.proofs.Common.{refl, ap, ◌∙◌, arith, rules}
 use Rattle.std.proofs.lemmas.List.{length-append}
 use Rattle.std.specs.Prelude.{slice_get}
 use Rattle.undo_rules.specs.declared.log.Logged.{Logged}
-use Rattle.desk_rules.specs.declared.kept.Kept.{Kept}
+use Rattle.desk_rules.specs.declared.seat_call.SeatCall.{SeatCall}
 use Rattle.desk_rules.specs.Guards.{ones}
 use Rattle.desk_rules.specs.Seats.{AreCallsRising, IsPastCall, last_behind, last_of, own_from, with_own}
 use Rattle.desk_rules.proofs.FitLemmas.{length_with}
 
-with_own-append : (b : Bool) (k : Kept) (ks xs : List Kept) → with_own b k (ks ++ xs) ≡ with_own b k ks ++ xs
+with_own-append : (b : Bool) (k : SeatCall) (ks xs : List SeatCall) → with_own b k (ks ++ xs) ≡ with_own b k ks ++ xs
 with_own-append true k ks xs = refl
 with_own-append false k ks xs = refl
 
@@ -47,16 +47,16 @@ own_le s p (c ∷ cs) =
     let o = ones_le (c.session == s) in omega (arith, h, l, o)
 
 -- the call that was made last, as `last` finds it
-pub last_found : (k : Kept) (ks : List Kept) → slice_get (k ∷ ks) (length ks) ≡ Some (last_behind k ks)
+pub last_found : (k : SeatCall) (ks : List SeatCall) → slice_get (k ∷ ks) (length ks) ≡ Some (last_behind k ks)
 last_found k [] = refl
 last_found k (next ∷ ks) = last_found next ks
 
-rising_first : (s p q : ℕ) (k : Kept) (ks : List Kept) → AreCallsRising s p (k ∷ ks) → (last_behind k ks).place < q → k.place < q
+rising_first : (s p q : ℕ) (k : SeatCall) (ks : List SeatCall) → AreCallsRising s p (k ∷ ks) → (last_behind k ks).place < q → k.place < q
 rising_first s p q k [] r below = below
 rising_first s p q k (next ∷ ks) r below =
     let h = rising_first s (k.place + 1) q next ks r.2 below in let n = r.2.0 in omega (arith, h, n)
 
-pub rising_push : (s p : ℕ) (own : List Kept) (k : Kept) → AreCallsRising s p own → p ≤ k.place → k.logged.session ≡ s
+pub rising_push : (s p : ℕ) (own : List SeatCall) (k : SeatCall) → AreCallsRising s p own → p ≤ k.place → k.logged.session ≡ s
     → IsPastCall k.place (last_of own)
     → AreCallsRising s p (own ++ k ∷ [])
 rising_push s p [] k r low is below = (low, is, tt)
@@ -66,7 +66,7 @@ rising_push s p (x ∷ y ∷ ys) k r low is below =
     let n = r.2.0 in
     (r.0, r.1, rising_push s (x.place + 1) (y ∷ ys) k r.2 (omega (arith, f, n)) is below)
 
-pub last_as : (own : List Kept) → slice_get own (length own - 1) ≡ last_of own
+pub last_as : (own : List SeatCall) → slice_get own (length own - 1) ≡ last_of own
 last_as [] = refl
 last_as (k ∷ ks) =
     let e : length (k ∷ ks) - 1 ≡ length ks = omega arith in

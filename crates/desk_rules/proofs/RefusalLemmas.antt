@@ -15,7 +15,7 @@ use Rattle.undo_rules.specs.declared.log.Logged.{Logged}
 use Rattle.undo_rules.specs.Books.{History}
 use Rattle.undo_rules.specs.Steps.{after_open, after_redo, after_undo, commit_step, commit_unless, found, is_log_full, is_own}
 use Rattle.undo_rules.specs.Steps.{logged, opening, redo_refusal, stale_by, state_of, undo_refusal, unless}
-use Rattle.desk_rules.specs.declared.kept.Kept.{Kept}
+use Rattle.desk_rules.specs.declared.seat_call.SeatCall.{SeatCall}
 use Rattle.desk_rules.specs.Close.{Misses, missing_place}
 use Rattle.desk_rules.specs.Guards.{Fits, Guard, IsGuard, has_last}
 use Rattle.desk_rules.specs.Legal.{Desk, IsFrom, on_base, refusal}
@@ -100,7 +100,7 @@ open_own h session = by (is_log_full h) (nat_le 65535 (state_of h session).opens
 
 -- ---- refused calls behind the lock
 
-pub refuses : (desk : Desk) (g : Guard) (session : ℕ) (own : List Kept) (step : History → Option BookFault) (fault : BookFault)
+pub refuses : (desk : Desk) (g : Guard) (session : ℕ) (own : List SeatCall) (step : History → Option BookFault) (fault : BookFault)
     → IsGuard g → Fits desk g → Looked g session own → step g.book ≡ Some fault → (refusal fault ≡ None → g.book.base ≡ desk.base)
     → Refuses desk (record { session = session; own = own }) step fault
 refuses desk g session own step fault kept fits look is base = record {
@@ -114,7 +114,7 @@ refuses desk g session own step fault kept fits look is base = record {
 }
 
 -- the answer of a call of the book that may be out of memory
-pub refused_as : {T : Type 0} (desk : Desk) (g : Guard) (session : ℕ) (own : List Kept) (step : History → Option BookFault)
+pub refused_as : {T : Type 0} (desk : Desk) (g : Guard) (session : ℕ) (own : List SeatCall) (step : History → Option BookFault)
     (result wanted : Result T BookFault) → IsGuard g → Fits desk g → Looked g session own
     → (result ≡ Err NoMemory) ⊎ (result ≡ wanted) → fault_in wanted ≡ step g.book
     → ((fault : BookFault) → step g.book ≡ Some fault → refusal fault ≡ None → g.book.base ≡ desk.base)
@@ -127,7 +127,7 @@ refused_as desk g session own step (Err fault) wanted kept fits look (inr is) st
 
 -- ---- a log that hasn't the seat's calls
 
-last_behind_there : (log : List Logged) (k : Kept) (ks : List Kept) → is_in log k ≡ true → missing_place log ks ≡ None
+last_behind_there : (log : List Logged) (k : SeatCall) (ks : List SeatCall) → is_in log k ≡ true → missing_place log ks ≡ None
     → is_last_in log (last_of (k ∷ ks)) ≡ true
 last_behind_there log k [] there_is none = there_is
 last_behind_there log k (next ∷ ks) there_is none = elim (cases_Bool (is_in log next)) [
@@ -137,7 +137,7 @@ last_behind_there log k (next ∷ ks) there_is none = elim (cases_Bool (is_in lo
       let e : Some next.place ≡ None = ap (λ b. cond b (missing_place log ks) (Some next.place)) (sym next_isnt) ∙ none in absurd cc
 ]
 
-last_there : (log : List Logged) (own : List Kept) → missing_place log own ≡ None → is_last_in log (last_of own) ≡ true
+last_there : (log : List Logged) (own : List SeatCall) → missing_place log own ≡ None → is_last_in log (last_of own) ≡ true
 last_there log [] none = refl
 last_there log (k ∷ ks) none = elim (cases_Bool (is_in log k)) [
   | inl there_is ↦
@@ -146,7 +146,7 @@ last_there log (k ∷ ks) none = elim (cases_Bool (is_in log k)) [
       let e : Some k.place ≡ None = ap (λ b. cond b (missing_place log ks) (Some k.place)) (sym there_isnt) ∙ none in absurd cc
 ]
 
-not_looked : (g : Guard) (session : ℕ) (own : List Kept) → IsGuard g → 1 ≤ session → session ≤ g.sessions
+not_looked : (g : Guard) (session : ℕ) (own : List SeatCall) → IsGuard g → 1 ≤ session → session ≤ g.sessions
     → has_last g session own ≡ false → missing_place g.book.log own ≡ None → own_calls session g.book.log ≢ own
 not_looked g session own kept low high looked none same =
     let below : session - 1 < g.sessions = omega (arith, low, high) in
@@ -161,11 +161,11 @@ not_looked g session own kept low high looked none same =
     let all : has_last g session own ≡ true = λ i. (from i && to i) && (counts i && last i) in
     let e : false ≡ true = sym looked ∙ all in absurd cc
 
-pub misses_first : (desk : Desk) (g : Guard) (session : ℕ) (own : List Kept) (place : ℕ) → IsFrom desk g.book
+pub misses_first : (desk : Desk) (g : Guard) (session : ℕ) (own : List SeatCall) (place : ℕ) → IsFrom desk g.book
     → missing_place g.book.log own ≡ Some place → Misses desk (record { session = session; own = own }) place
 misses_first desk g session own place legal named = record { history = g.book; legal = legal; missed = inl named }
 
-pub misses_last : (desk : Desk) (g : Guard) (session : ℕ) (own : List Kept) (place : ℕ) → IsGuard g → IsFrom desk g.book
+pub misses_last : (desk : Desk) (g : Guard) (session : ℕ) (own : List SeatCall) (place : ℕ) → IsGuard g → IsFrom desk g.book
     → g.sessions ≡ desk.sessions → 1 ≤ session → has_last g session own ≡ false → missing_place g.book.log own ≡ None
     → place ≡ place_or_zero (last_of own) → Misses desk (record { session = session; own = own }) place
 misses_last desk g session own place kept legal sessions low looked none named = record {

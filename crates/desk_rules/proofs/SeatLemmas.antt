@@ -6,7 +6,7 @@ use Rattle.lay_layouts.specs.Layout.{Layout}
 use Rattle.undo_rules.specs.declared.log.Answer.{Answer}
 use Rattle.undo_rules.specs.declared.log.Call.{Call}
 use Rattle.undo_rules.specs.Books.{History}
-use Rattle.desk_rules.specs.declared.kept.Kept.{Kept}
+use Rattle.desk_rules.specs.declared.seat_call.SeatCall.{SeatCall}
 use Rattle.desk_rules.specs.Legal.{Desk, on_base}
 use Rattle.desk_rules.specs.Seats.{AreCallsRising, EndsWith, GainsLogged, NextCall, Seat, calls_added, calls_behind, kept_next, next_at}
 use Rattle.desk_rules.proofs.OwnLemmas.{rising_push}
@@ -36,7 +36,7 @@ gains_logged (Some answer) desk base state old call place made = record {
 }
 
 -- what a seat keeps, behind a call
-pub seat_kept : (answer : Option Answer) (desk : Desk) (state : History) (session : ℕ) (own given kept : List Kept) (call : Call)
+pub seat_kept : (answer : Option Answer) (desk : Desk) (state : History) (session : ℕ) (own given kept : List SeatCall) (call : Call)
     (place parts amount was : ℕ)
     → AreCallsRising session 0 own × (parts ≡ parts) × (was ≡ length own) → given ≡ own
     → IfSome answer (EndsWith desk state (record { session = session; before = given; call = call; place = place }))
@@ -46,7 +46,8 @@ pub seat_kept : (answer : Option Answer) (desk : Desk) (state : History) (sessio
 seat_kept answer desk state session own given kept call place parts amount was before given-is made kept-is one amount-is =
     let next : NextCall = record { session = session; before = own; call = call; place = place } in
     let here : IfSome answer (EndsWith desk state next) =
-    subst (λ (l : List Kept). IfSome answer (EndsWith desk state (record { session = session; before = l; call = call; place = place })))
+    subst (λ (l : List SeatCall). IfSome answer (EndsWith desk state
+    (record { session = session; before = l; call = call; place = place })))
     given-is made in (
       subst (AreCallsRising session 0) (sym kept-is) (rising_kept answer desk state next here before.0),
       one,

@@ -6,7 +6,7 @@ use Rattle.std.specs.List.{AllByRecursion}
 use Rattle.lay_layouts.specs.Layout.{Layout}
 use Rattle.undo_rules.specs.declared.log.Logged.{Logged}
 use Rattle.undo_rules.specs.Books.{History}
-use Rattle.desk_rules.specs.declared.kept.Kept.{Kept}
+use Rattle.desk_rules.specs.declared.seat_call.SeatCall.{SeatCall}
 use Rattle.desk_rules.specs.Legal.{Desk, IsFrom}
 use Rattle.desk_rules.specs.Seats.{AreCallsRising, Seat, is_in, last_of, own_calls, place_or_zero}
 
@@ -21,7 +21,7 @@ has_seat session [] = false
 has_seat session (seat ∷ seats) = (seat.session == session) || has_seat session seats
 
 -- the first of the calls that the log doesn't have at its place
-abbrev pub missing_place : List Logged → List Kept → Option ℕ
+abbrev pub missing_place : List Logged → List SeatCall → Option ℕ
 missing_place log [] = None
 missing_place log (k ∷ ks) = if is_in log k then missing_place log ks else Some k.place
 
@@ -64,7 +64,7 @@ pub record Shows (desk : Desk) (seat : Seat) (shown : Layout) : Type 0 where
   pub own : own_calls seat.session history.log ≡ seat.own
   pub layout : shown ≡ history.layout
   -- on a desk of one session this log is the seat's list
-  pub alone : desk.sessions ≡ 1 → map (λ (k : Kept). k.logged) seat.own ≡ history.log
+  pub alone : desk.sessions ≡ 1 → map (λ (k : SeatCall). k.logged) seat.own ≡ history.log
 
 -- the place is that of the first of the seat's calls that the log doesn't have at its place; or of the seat's last, where the log
 -- has them all, and others of the session, or the desk hasn't that session

@@ -3,7 +3,7 @@ use Rattle.std.specs.Prelude.{◌≡◌, ℕ, ◌+◌, ◌≤◌, ◌<◌, ◌==
 use Rattle.undo_rules.specs.declared.log.Logged.{Logged}
 use Rattle.undo_rules.specs.Books.{History}
 use Rattle.undo_rules.specs.Steps.{fresh}
-use Rattle.desk_rules.specs.declared.kept.Kept.{Kept}
+use Rattle.desk_rules.specs.declared.seat_call.SeatCall.{SeatCall}
 use Rattle.desk_rules.specs.Legal.{ArePendingSound, Desk, IsLegal}
 use Rattle.desk_rules.specs.Seats.{is_last_in, last_of, own_calls}
 
@@ -32,7 +32,7 @@ abbrev pub Fits : Desk → Guard → Type 0
 Fits desk g = (g.sessions ≡ desk.sessions) × (g.book.limit ≡ desk.limit)
 
 -- the log has the session's last call at its place, and as many calls of the session
-abbrev pub has_last : Guard → ℕ → List Kept → Bool
+abbrev pub has_last : Guard → ℕ → List SeatCall → Bool
 has_last g session own =
     (nat_le 1 session && nat_le session g.sessions)
     && ((slice_index g.counts (session - 1) == length own) && is_last_in g.book.log (last_of own))

@@ -10,10 +10,10 @@ use Rattle.undo_rules.specs.declared.log.Logged.{Logged}
 use Rattle.undo_rules.specs.Books.{History}
 use Rattle.undo_rules.specs.Laws.{IsOwnWork}
 use Rattle.undo_rules.specs.Steps.{commit_step, fresh, is_own}
-use Rattle.desk_rules.specs.declared.kept.Kept.{Kept}
+use Rattle.desk_rules.specs.declared.seat_call.SeatCall.{SeatCall}
 use Rattle.desk_rules.specs.Close.{AreSeatsRising, HasAll, IsClosed, missing_call, own_total}
 use Rattle.desk_rules.specs.Legal.{ArePendingSound, Desk, IsLegal, Stepped, answer_of}
-use Rattle.desk_rules.specs.Seats.{AreCallsRising, IsIn, Seat, own_calls}
+use Rattle.desk_rules.specs.Seats.{AreCallsRising, LogHasCall, Seat, own_calls}
 
 -- the history after a legal log has that log, and what it began with
 pub record HasLog (first : Layout) (most : ℕ) (calls : List Logged) (h : History) : Type 0 where
@@ -31,8 +31,9 @@ LogsLeadToOne = (sessions : ℕ) (start : History) (log : List Logged) (g h : Hi
     → IsLegal sessions start log h → g ≡ h
 
 -- calls of a session at rising places, all in a log, are all its calls where they are as many
-abbrev pub AsManyAreAll : Type 0
-AsManyAreAll = (session : ℕ) (log : List Logged) (own : List Kept) → AreCallsRising session 0 own → AllByRecursion (IsIn log) own
+abbrev pub SameCountMeansAll : Type 0
+SameCountMeansAll = (session : ℕ) (log : List Logged) (own : List SeatCall) → AreCallsRising session 0 own
+    → AllByRecursion (LogHasCall log) own
     → length own ≡ length (own_calls session log) → own ≡ own_calls session log
 
 -- where each session has a seat, and no more seats are there than sessions, and their calls are all in the log and as many as it

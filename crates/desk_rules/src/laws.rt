@@ -2,7 +2,7 @@
 ghost use Rattle.desk_rules.specs.Laws.{
   ACommitIsMeant,
   ACountCloses,
-  AsManyAreAll,
+  SameCountMeansAll,
   LogsAreKept,
   LogsLeadToOne,
 };
@@ -13,7 +13,7 @@ ghost use Rattle.desk_rules.specs.Laws.{
 pub fn logs_have_laws()
     ensures kept { LogsAreKept }
     ensures one { LogsLeadToOne }
-    ensures all { AsManyAreAll }
+    ensures all { SameCountMeansAll }
     ensures closes { ACountCloses }
     ensures commit { ACommitIsMeant }
 {}

@@ -4,8 +4,16 @@ use Rattle.std.proofs.Common.{Contains, pos, ◌≤ℤ◌, ◌<ℤ◌, refl, sym
 use Rattle.std.specs.Prelude.{All, slice_range}
 use Rattle.std.proofs.Math.ListN.{take-append-drop}
 use Rattle.std.proofs.lemmas.Bool.{cases_lt}
-use Rattle.std.proofs.lemmas.List.{drop-drop, drop_at, get_or-drop, get_or_append_left, get_or_default, length-drop, length-take-le,
-    take_at}
+use Rattle.std.proofs.lemmas.List.{
+  drop-drop,
+  drop_at,
+  get_or-drop,
+  get_or_append_left,
+  get_or_default,
+  length-drop,
+  length-take-le,
+  take_at,
+}
 use Rattle.std.proofs.lemmas.List.Elements.{Contains-append_left, Contains-append_right}
 use Rattle.lay_point.proofs.Signs.{linear}
 use Rattle.lay_point.specs.declared.point.Point.{Point}

@@ -16,7 +16,7 @@ use Rattle.face_sweep.specs.Reaches.{IsReach, keys_of}
 use Rattle.face_sweep.specs.Sides.{AreKnown, IsKnown}
 use Rattle.face_sweep.specs.Stops.{AreStops, BeginAt}
 use Rattle.face_labels.specs.declared.group.Group.{Group}
-use Rattle.face_labels.specs.declared.line.Line.{Line}
+use Rattle.face_labels.specs.declared.sweep_row.SweepRow.{SweepRow}
 use Rattle.face_labels.specs.declared.shared.Shared.{Shared}
 
 -- of edges each of which is from its lesser end: the boxes of the shapes, and the stops of the sweep
@@ -40,7 +40,7 @@ pub record AreSplit (r : Owned) (p : Point) (numbers : List ℕ) (index : ℕ) :
   pub all_levels : (n : ℕ) → IsLevelFrom r p n → Contains (drop index numbers) n
 
 -- the edges at the point, with the sides of all of them, and those that single shapes own
-pub record IsLineAt (r : Owned) (reach : Reach) (p : Point) (line : Line) : Type 0 where
+pub record IsLineAt (r : Owned) (reach : Reach) (p : Point) (line : SweepRow) : Type 0 where
   pub status : IsStatus r p line.numbers.items
   pub known : AreKnown r line.known
   pub all : (n : ℕ) → Contains line.numbers.items n → IsKnown line.known n
@@ -48,7 +48,7 @@ pub record IsLineAt (r : Owned) (reach : Reach) (p : Point) (line : Line) : Type
   pub own : AreOwn (keys_of reach) (λ o. own_of r o line.numbers.items) line.own
 
 -- the same, but of the edges of the group, which end at its point, only the numbers
-pub record IsLineWithout (r : Owned) (reach : Reach) (gone : Group) (line : Line) : Type 0 where
+pub record IsLineWithout (r : Owned) (reach : Reach) (gone : Group) (line : SweepRow) : Type 0 where
   pub status : IsStatus r gone.point line.numbers.items
   pub group : IsEndedGroup r gone.point line.numbers.items gone.from gone.to
   pub known : AreKnown r line.known
@@ -59,7 +59,7 @@ pub record IsLineWithout (r : Owned) (reach : Reach) (gone : Group) (line : Line
       (λ o. own_of r o (drop gone.to line.numbers.items) ++ own_of r o (take gone.from line.numbers.items)) line.own
 
 -- the same as at a point once it is passed
-pub record IsLinePast (r : Owned) (reach : Reach) (p : Point) (line : Line) : Type 0 where
+pub record IsLinePast (r : Owned) (reach : Reach) (p : Point) (line : SweepRow) : Type 0 where
   pub passed : IsPassed r p line.numbers.items
   pub known : AreKnown r line.known
   pub all : (n : ℕ) → Contains line.numbers.items n → IsKnown line.known n

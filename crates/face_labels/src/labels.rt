@@ -11,8 +11,8 @@ ghost use Rattle.face_sweep.specs.Points.{IsAfter};
 ghost use Rattle.face_sweep.specs.Stops.{stop_points};
 ghost use Rattle.face_labels.specs.RowSides.{HasLabel, IsShared};
 
-use crate::line::Line;
 use crate::shared::Shared;
+use crate::sweep_row::SweepRow;
 use face_rows::{Band, Op};
 use face_sweep::Stop;
 use lay_point::{Edge, NoMemory};
@@ -115,7 +115,7 @@ fn labels_at(
     if first == stops.len() {
         return Ok(labels);
     }
-    let mut line = Line::at(alloc, edges, shared, first)?;
+    let mut line = SweepRow::at(alloc, edges, shared, first)?;
     for index in first..stops.len() {
         let stop = stops[index];
         if !is_below(stop, band.high) {

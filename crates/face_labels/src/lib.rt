@@ -34,8 +34,8 @@ mod begun;
 mod finds;
 mod group;
 mod labels;
-mod line;
 mod shared;
+mod sweep_row;
 
 pub use labels::{label, label_edges, label_sharing};
 pub use shared::Shared;

@@ -61,7 +61,7 @@ TellsTextPlace job text offset lines =
     (start : ℕ) × IsLineStart job offset start
     × (rest : List ℕ)
     × (lines ≡ text_heading_text (1 + (lines_before job offset - lines_before job text)) (1 + lines_before job offset)
-        (1 + (offset - start)) ++ rest)
+    (1 + (offset - start)) ++ rest)
 
 -- how the lines begin that tell of a line of a live run
 unfoldable pub live_heading_text : ℕ → List ℕ

@@ -1,7 +1,7 @@
 //! What is worth a look in a CIF text that has no fault.
 
 use crate::place::place_of as line_place;
-use byte_io::place_of;
+use byte_io::find_byte;
 use cif_grammar::{Class, command_len, skip};
 use lay_point::NoMemory;
 use std::alloc::Global;
@@ -46,7 +46,7 @@ fn put_notice(lines: &mut Vec<u8>, text: &[u8], offset: usize, what: &str) -> Re
 
 /// Returns where the first extension begins in which `'` occurs an odd number of times.
 fn lone_quote(text: &[u8]) -> Option<usize> {
-    place_of(text, b'\'')?;
+    find_byte(text, b'\'')?;
     let mut rest = skip(text, Class::Gap);
     for _ in 0..text.len() {
         let len = command_len(rest)?;
@@ -70,7 +70,7 @@ fn has_lone_quote(command: &[u8]) -> bool {
 fn small_layer(text: &[u8]) -> Option<usize> {
     let mut from = 0;
     for _ in 0..text.len() {
-        let offset = from + place_of(&text[from..], b'L')?;
+        let offset = from + find_byte(&text[from..], b'L')?;
         if is_command_start(&text[..offset]) && has_small(&text[offset..]) {
             return Some(offset);
         }
@@ -89,6 +89,6 @@ fn is_command_start(before: &[u8]) -> bool {
 
 /// Returns whether there is a lower-case letter before the first semicolon.
 fn has_small(command: &[u8]) -> bool {
-    let len = place_of(command, b';').unwrap_or(command.len());
+    let len = find_byte(command, b';').unwrap_or(command.len());
     command[..len].iter().any(u8::is_ascii_lowercase)
 }

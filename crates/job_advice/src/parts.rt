@@ -1,7 +1,7 @@
 //! What the words of a step have to be.
 
 use crate::sections::MAX_SESSION;
-use byte_io::{is_number, number_of, place_of};
+use byte_io::{find_byte, is_number, number_of};
 use lay_cells::MAX_SYMBOL;
 use lay_point::LayerName;
 
@@ -112,7 +112,7 @@ fn is_item(word: &[u8]) -> bool {
 
 /// Returns what comes before the first dot of the word, and what comes after it.
 fn parted(word: &[u8]) -> Option<(&[u8], &[u8])> {
-    let dot = place_of(word, b'.')?;
+    let dot = find_byte(word, b'.')?;
     Some((&word[..dot], &word[dot + 1..]))
 }
 

@@ -5,7 +5,7 @@ use Rattle.std.specs.Str.{bytes_eq}
 use Rattle.std.proofs.NetLemmas.Options.{map_some}
 use Rattle.lay_cells.specs.declared.cell_id.CellId.{CellId}
 use Rattle.session_steps.specs.declared.Step.{Step}
-use Rattle.job_text.specs.declared.live.LiveLine.TheVariants.{Ask, Odd, Write}
+use Rattle.job_text.specs.declared.live.LiveLine.TheVariants.{Ask, Unknown, Write}
 use Rattle.job_text.specs.declared.question.Question.{Question}
 use Rattle.job_text.specs.declared.question.Question.TheVariants.{Cells, Changes, History, Items, Look}
 use Rattle.job_text.specs.Job.{is_none_of, session_of}
@@ -63,7 +63,7 @@ not_taken session (Some step) question h = absurd (cc)
 
 not_a_step : {P : Type 0} (session : ℕ) (ws : List Word) (question : Question) → step_line session ws ≡ Ask question → P
 not_a_step session ws question h =
-    choose (session == 0) Odd (step_or_odd session (step_of ws)) (Ask question) h (λ e is. absurd (cc))
+    choose (session == 0) Unknown (step_or_odd session (step_of ws)) (Ask question) h (λ e is. absurd (cc))
     (λ e is. not_taken session (step_of ws) question is)
 
 asked_is : {P : Type 0} (o : Option Question) (session : ℕ) (ws : List Word) (question : Question)

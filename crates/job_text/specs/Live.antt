@@ -6,19 +6,19 @@ use Rattle.std.specs.Str.{bytes_eq}
 use Rattle.session_steps.specs.declared.Step.{Step as StepOf}
 use Rattle.job_text.specs.declared.question.Question.{Question}
 use Rattle.job_text.specs.declared.live.LiveLine.{LiveLine}
-use Rattle.job_text.specs.declared.live.LiveLine.TheVariants.{Blank, Step, Write, Ask, Odd}
+use Rattle.job_text.specs.declared.live.LiveLine.TheVariants.{Blank, Step, Write, Ask, Unknown}
 use Rattle.job_text.specs.Job.{is_none_of, session_of}
 use Rattle.job_text.specs.Questions.{question_of}
 use Rattle.job_text.specs.Steps.{step_of}
 
 -- the step, if the words say one
 abbrev pub step_or_odd : ℕ → Option StepOf → LiveLine
-step_or_odd session None = Odd
+step_or_odd session None = Unknown
 step_or_odd session (Some step) = Step session step
 
 -- a session from 1 to 64 takes the step that the words say; no other takes one
 abbrev pub step_line : ℕ → List (List ℕ) → LiveLine
-step_line session words = if session == 0 then Odd else step_or_odd session (step_of words)
+step_line session words = if session == 0 then Unknown else step_or_odd session (step_of words)
 
 -- the question, if the words say one; else this line
 abbrev pub asked_or : Option Question → LiveLine → LiveLine

@@ -13,8 +13,17 @@ use Rattle.lay_point.specs.declared.turn.Quarter.{Quarter}
 use Rattle.lay_point.specs.declared.turn.Turn.{Turn}
 use Rattle.lay_point.specs.Names.{layer_name_of}
 use Rattle.txn_commands.specs.declared.command.Command.{Command}
-use Rattle.txn_commands.specs.declared.command.Command.TheVariants.{Bool as Combine, Box, Poly, Delete, Move, SetLayer, Place, Look,
-    MakeCell}
+use Rattle.txn_commands.specs.declared.command.Command.TheVariants.{
+  Bool as Combine,
+  Box,
+  Poly,
+  Delete,
+  Move,
+  SetLayer,
+  Place,
+  Look,
+  MakeCell,
+}
 use Rattle.txn_commands.specs.declared.command.Command.TheVariants.{DropCell}
 use Rattle.txn_commands.specs.declared.command.TxnId.{TxnId}
 use Rattle.session_steps.specs.declared.Step.{Step}

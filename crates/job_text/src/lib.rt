@@ -17,7 +17,7 @@
 //!   without memory. [`print`] is the same with the fault of a writer, and [`comments`] gives the
 //!   text instead (`specs/Replies.antt`).
 //! - A live run has its steps in lines `SESSION STEP`, one at a time. [`live_line`] says what a
-//!   line asks for ([`LiveLine`]), and [`reply_line`] and [`odd_line`] give the comments that
+//!   line asks for ([`LiveLine`]), and [`reply_line`] and [`unknown_line`] give the comments that
 //!   answer it (`specs/Live.antt`). A [`Question`] is a line that changes nothing
 //!   (`specs/Questions.antt`); `live_questions` answers it, with the names and the words of items
 //!   that `reply_text.rt` puts, into a [`TextOut`].
@@ -55,7 +55,7 @@ mod text_out;
 mod words;
 
 pub use job::{Job, JobFault, MAX_JOB};
-pub use live::{LiveLine, live_line, odd_line, reply_line};
+pub use live::{LiveLine, live_line, reply_line, unknown_line};
 pub use order::order_of;
 pub use printing::{comments, print, put_comments};
 pub use question::Question;

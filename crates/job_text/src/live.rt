@@ -29,7 +29,7 @@ pub enum LiveLine {
     /// A question, whose answer changes nothing.
     Ask(Question),
     /// None of these.
-    Odd,
+    Unknown,
 }
 
 /// Returns what the line says: nothing, `SESSION STEP` with a step as in a job, `%write`, or a question.
@@ -58,11 +58,11 @@ fn step_line(alloc: Global, session: u8, line: &[u8]) -> Result<LiveLine, NoMemo
     ensures { IsAnswer (record {}) result (Ok (step_line session (words line.now))) }
 {
     if session == 0 {
-        return Ok(LiveLine::Odd);
+        return Ok(LiveLine::Unknown);
     }
     match step_of(alloc, line)? {
         Some(step) => Ok(LiveLine::Step(session, step)),
-        None => Ok(LiveLine::Odd),
+        None => Ok(LiveLine::Unknown),
     }
 }
 
@@ -87,7 +87,7 @@ pub fn reply_line(alloc: Global, session: u8, step: u64, reply: &Reply) -> Resul
 ///
 /// `NoMemory`, if an allocation fails.
 #[tactic(auto, unfolding(crate::specs::Live::odd_text))]
-pub fn odd_line(alloc: Global, number: u64) -> Result<Vec<u8>, NoMemory>
+pub fn unknown_line(alloc: Global, number: u64) -> Result<Vec<u8>, NoMemory>
     ensures { IfOk result (λ line. line.items ≡ odd_text number) }
 {
     let mut line = Vec::new(alloc);

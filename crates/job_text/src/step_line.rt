@@ -94,7 +94,7 @@ fn short_command(name: &[u8], line: &[u8]) -> Option<Command>
         return layer_of(line);
     }
     if name == "place".as_bytes() {
-        return place_of(line);
+        return place_command(line);
     }
     if name == "mkcell".as_bytes() {
         return symbol_alone(line).map(Command::MakeCell);
@@ -183,7 +183,7 @@ fn layer_of(line: &[u8]) -> Option<Command>
 
 /// The command `place`: the cell, the symbol to call, the turn without its shift, and the shift.
 #[tactic(auto, unfolding(crate::specs::Steps::place_command))]
-fn place_of(line: &[u8]) -> Option<Command>
+fn place_command(line: &[u8]) -> Option<Command>
     ensures { result ≡ place_command (words line.now) }
 {
     let (cell, behind) = cell_at(line)?;

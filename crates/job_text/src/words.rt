@@ -18,7 +18,7 @@ ghost use Rattle.job_text.specs.Words.{
   words,
 };
 
-use byte_io::{number_of, place_of};
+use byte_io::{find_byte, number_of};
 use lay_cells::{CellId, MAX_SYMBOL};
 use lay_layouts::ItemId;
 use lay_point::Quarter;
@@ -134,7 +134,7 @@ fn before_dot(limit: u32, word: &[u8]) -> Option<(u32, &[u8])>
     ensures value { option_map (λ p. (p.0, p.1.now)) result ≡ before_dot limit word.now }
     ensures small { IfSome result (λ p. p.0 ≤ limit) }
 {
-    let dot = place_of(word, b'.')?;
+    let dot = find_byte(word, b'.')?;
     let number = number_of(limit, &word[..dot])?;
     Some((number, &word[dot + 1..]))
 }

@@ -373,11 +373,11 @@ pub runs_again : (by : By) (id : ItemId) (new item : Option Item) (es : List Hel
     (old : Option Item) → IsStrictlySortedBy id_cmp (keys_of es) → AreRuns by es marks → before ≡ last_entry (lower id_cmp id es)
     → old ≡ find id_cmp id es → after ≡ first_entry (higher id_cmp id es) → item ≡ new
     → now ≡ marks_after by (record { before = before; id = id; old = old; new = item; after = after }) marks
-        → AreRuns by (after_write id_cmp id new es) now
+    → AreRuns by (after_write id_cmp id new es) now
 runs_again by id new item es marks now before after old sorted runs lows olds highs items is =
     subst (AreRuns by (after_write id_cmp id new es))
     (sym (is ∙ (λ i. marks_after by (record { before = lows i; id = id; old = olds i; new = items i; after = highs i }) marks)))
-        (runs_written by id new es marks sorted runs)
+    (runs_written by id new es marks sorted runs)
 
 -- ---- the runs of no items
 

@@ -165,11 +165,11 @@ sorted-merged es [] sorted rising = sorted
 sorted-merged es (w ∷ ws) sorted rising =
     sorted-joined (lower id_cmp w.0 es) w.0 w.1 (merged (higher id_cmp w.0 es) ws) (sorted-kept (λ x. is_lt (id_cmp x w.0)) es sorted)
     (all_weaker (λ k. is_lt (id_cmp k w.0) ≡ true) (λ k. id_cmp k w.0 ≡ Less) (λ k. Less_by_test (id_cmp k w.0))
-        (keys_of (lower id_cmp w.0 es))
+    (keys_of (lower id_cmp w.0 es))
     (all-passes (λ x. is_lt (id_cmp x w.0)) es))
     (all-merged (λ k. id_cmp w.0 k ≡ Less) (higher id_cmp w.0 es) ws
     (all_weaker (λ k. is_lt (id_cmp w.0 k) ≡ true) (λ k. id_cmp w.0 k ≡ Less) (λ k. Less_by_test (id_cmp w.0 k))
-        (keys_of (higher id_cmp w.0 es))
+    (keys_of (higher id_cmp w.0 es))
     (all-passes (λ x. is_lt (id_cmp w.0 x)) es)) (rising_all w ws rising))
     (sorted-merged (higher id_cmp w.0 es) ws (sorted-kept (λ x. is_lt (id_cmp w.0 x)) es sorted) (rising_tail w ws rising))
 

@@ -142,7 +142,7 @@ pub runs_more : (by : By) (es : List HeldItem) (ws : List Write) (i : ℕ) (w : 
     → AreRuns by (written_all id_cmp es (take i ws)) marks → before ≡ last_entry (lower id_cmp w.0 (written_all id_cmp es ws))
     → old ≡ find id_cmp w.0 es → after ≡ first_entry (higher id_cmp w.0 es) → new ≡ w.1
     → now ≡ marks_after by (record { before = before; id = w.0; old = old; new = new; after = after }) marks
-        → AreRuns by (written_all id_cmp es (take (i + 1) ws)) now
+    → AreRuns by (written_all id_cmp es (take (i + 1) ws)) now
 runs_more by es ws i w marks now before after old new lt is sorted rising runs lows olds highs item marks_are =
     let site = site_in es ws i w lt is sorted rising in
     let so_far = written_all id_cmp es (take i ws) in

@@ -10,7 +10,7 @@ use crate::group::{By, Group, begins};
 use crate::marks::{Mark, Marks};
 use lay_layouts::{Item, ItemId};
 use lay_pages::PagesBuilder;
-use lay_point::{Given, NoMemory};
+use lay_point::{NoMemory, ShrinkingIntoIter};
 use std::alloc::Global;
 
 /// Takes items in order of their ids, and keeps the marks of those that begin runs.
@@ -71,7 +71,7 @@ fn paged(alloc: Global, marks: Vec<Mark>) -> Result<Marks, NoMemory>
     ensures { IfOk result (λ pages. pages ≡ map with_none marks.items) }
 {
     let mut pages = PagesBuilder::new(alloc);
-    for mark in Given::of(marks) {
+    for mark in ShrinkingIntoIter::of(marks) {
         pages.push(alloc, mark, ())?;
     }
     let pages = pages.build(alloc)?;

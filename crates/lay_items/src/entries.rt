@@ -9,7 +9,7 @@ ghost use Rattle.lay_layouts.specs.Ids.{id_cmp};
 use crate::builder::ItemsBuilder;
 use lay_layouts::{Item, ItemId};
 use lay_pages::{Pages, around};
-use lay_point::{Given, NoMemory};
+use lay_point::{NoMemory, ShrinkingIntoIter};
 use std::alloc::Global;
 
 /// An item under its id.
@@ -39,7 +39,7 @@ pub(crate) fn taken(alloc: Global, entries: Vec<Entry>) -> Result<ItemsBuilder, 
     ensures { IfOk result (λ items. items ≡ entries.items) }
 {
     let mut items = ItemsBuilder::new(alloc);
-    for (id, item) in Given::of(entries) {
+    for (id, item) in ShrinkingIntoIter::of(entries) {
         items.push(alloc, id, item)?;
     }
     Ok(items)

@@ -18,7 +18,7 @@ use Rattle.lay_layouts.specs.declared.slot.CellSlot.{CellSlot}
 use Rattle.lay_layouts.specs.IdOrder.{ids_exact, ids_total}
 use Rattle.lay_layouts.specs.Ids.{id_cmp}
 use Rattle.lay_layouts.specs.Layout.{Layout, is_cell}
-use Rattle.lay_layouts.specs.SlotOrder.{Standing, by_standing, in_slot_order, rank, standing_cmp, standing_of}
+use Rattle.lay_layouts.specs.SlotOrder.{Standing, by_slot_order, in_slot_order, rank, standing_cmp, standing_of}
 use Rattle.lay_layouts.specs.Sound.{IsSound, IsSoundItem}
 use Rattle.lay_layouts.proofs.DistinctLemmas.{AreDistinct}
 use Rattle.lay_layouts.proofs.SlotLemmas.{find-standings, of_rank, sorted-distinct, standings_total}
@@ -46,10 +46,10 @@ has_slot : (symbols : FinMap nat_cmp CellSlot) (n : ℕ) → is_some (get symbol
 unfolding in_slot_order
 has_slot symbols n there = by_slot (get symbols n) refl there where
   by_slot : (o : Option CellSlot) → get symbols n ≡ o → is_some o ≡ true
-      → list_any (nat_eq n) (map (λ (e : Standing × ℕ). e.1) (entries (by_standing (entries symbols)))) ≡ true
+      → list_any (nat_eq n) (map (λ (e : Standing × ℕ). e.1) (entries (by_slot_order (entries symbols)))) ≡ true
   by_slot None is some = absurd cc
   by_slot (Some slot) is some =
-      let m : FinMap standing_cmp ℕ = by_standing (entries symbols) in
+      let m : FinMap standing_cmp ℕ = by_slot_order (entries symbols) in
       let same : is_eq (ordering_then (nat_cmp (rank slot).0 (rank slot).0) (nat_cmp (rank slot).1 (rank slot).1)) ≡ true =
       ranks (rank slot) in
       let at : find standing_cmp (rank slot, n) (entries m) ≡ Some n =

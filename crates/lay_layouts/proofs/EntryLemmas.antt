@@ -13,7 +13,7 @@ use Rattle.std.proofs.lemmas.Map.Lookups.{exact_pairs, exact_unsigned}
 use Rattle.lay_point.proofs.BoolLaws.{true_by_T}
 use Rattle.lay_cells.specs.Symbols.{has_symbol}
 use Rattle.lay_layouts.specs.declared.slot.CellSlot.{CellSlot}
-use Rattle.lay_layouts.specs.SlotOrder.{Standing, by_standing, in_slot_order, rank, standing_cmp, standing_of}
+use Rattle.lay_layouts.specs.SlotOrder.{Standing, by_slot_order, in_slot_order, rank, standing_cmp, standing_of}
 use Rattle.lay_layouts.proofs.DistinctLemmas.{AreDistinct}
 use Rattle.lay_layouts.proofs.SlotLemmas.{find-standings, is_eq-then, of_rank, sorted-distinct, standings_exact, standings_total}
 
@@ -69,7 +69,7 @@ ranked symbols k (Some slot) at e = by (is_eq by_rank) refl e where
 
 -- what the map by standings has
 standing_at : (symbols : FinMap nat_cmp CellSlot) (r : ℕ × ℕ) (n : ℕ)
-    → get (by_standing (entries symbols)) (r, n) ≡ of_rank r n (get symbols n)
+    → get (by_slot_order (entries symbols)) (r, n) ≡ of_rank r n (get symbols n)
 standing_at symbols r n =
     get-from_entries standings_total (map standing_of (entries symbols)) (r, n)
     ∙ find-standings (entries symbols) r n (entries-distinct nat_cmp_total (λ a b e. exact_unsigned a b e) symbols)
@@ -77,14 +77,14 @@ standing_at symbols r n =
 
 module _ (symbols : FinMap nat_cmp CellSlot) where
   unfoldable pub standings : List (Standing × ℕ)
-  standings = entries (by_standing (entries symbols))
+  standings = entries (by_slot_order (entries symbols))
 
   pub all_standing : All (IsStanding symbols) standings
   unfolding standings
   all_standing =
-      All-weaker (λ k. get (by_standing (entries symbols)) k.0 ≡ Some k.1) (IsStanding symbols)
+      All-weaker (λ k. get (by_slot_order (entries symbols)) k.0 ≡ Some k.1) (IsStanding symbols)
       (λ k at. ranked symbols k (get symbols k.0.1) refl (sym (standing_at symbols k.0.0 k.0.1) ∙ at)) standings
-      (entries-found standings_total standings_exact (by_standing (entries symbols)))
+      (entries-found standings_total standings_exact (by_slot_order (entries symbols)))
 
   pub order_is : in_slot_order symbols ≡ map (λ e. e.1) standings
   unfolding in_slot_order standings
@@ -118,7 +118,7 @@ module _ (symbols : FinMap nat_cmp CellSlot) where
       let same : is_eq (ordering_then (nat_cmp (rank slot).0 (rank slot).0) (nat_cmp (rank slot).1 (rank slot).1)) ≡ true =
       is_eq-then (nat_cmp (rank slot).0 (rank slot).0) (nat_cmp (rank slot).1 (rank slot).1)
       ∙ rw ((eq_by_cmp_equiv nat_cmp_total).refl (rank slot).0, (eq_by_cmp_equiv nat_cmp_total).refl (rank slot).1) refl in
-      sym (get-entries (by_standing (entries symbols)) (rank slot, n))
+      sym (get-entries (by_slot_order (entries symbols)) (rank slot, n))
       ∙ standing_at symbols (rank slot) n ∙ ap (of_rank (rank slot) n) at ∙ ap (λ b. cond b (Some n) None) same
 
   -- each symbol's number is in slot order
@@ -158,4 +158,4 @@ module _ (symbols : FinMap nat_cmp CellSlot) where
   unfolding standings
   order-distinct =
       subst (IsDistinct nat_eq) (sym order_is)
-      (all_apart standings (entries-distinct standings_total standings_exact (by_standing (entries symbols))) all_standing)
+      (all_apart standings (entries-distinct standings_total standings_exact (by_slot_order (entries symbols))) all_standing)

@@ -22,10 +22,10 @@ use Rattle.lay_cells.specs.Symbols.{has_symbol, with_symbol}
 use Rattle.lay_layouts.specs.declared.slot.CellSlot.{CellSlot}
 use Rattle.lay_layouts.specs.declared.slot.CellSlot.TheVariants.{Base, Made}
 use Rattle.lay_layouts.specs.Layout.{SymbolWrite, put_all, symbols_of}
-use Rattle.lay_layouts.specs.SlotOrder.{AreMadeUpTo, Standing, by_standing, in_slot_order, is_behind, is_made, rank, standing_cmp}
+use Rattle.lay_layouts.specs.SlotOrder.{AreMadeUpTo, Standing, by_slot_order, in_slot_order, is_behind, is_made, rank, standing_cmp}
 use Rattle.lay_layouts.proofs.EntryLemmas.{IsStanding, all_standing, found_standing, order_is, standings, symbols-ordered}
 use Rattle.lay_layouts.proofs.MapLemmas.{no_length, sorted_keys}
-use Rattle.lay_layouts.proofs.SlotLemmas.{by_standing-entries, sorted-distinct, standings_exact, standings_total}
+use Rattle.lay_layouts.proofs.SlotLemmas.{by_slot_order-entries, sorted-distinct, standings_exact, standings_total}
 use Rattle.lay_layouts.proofs.SymbolLemmas.{in_slot_order-distinct, with_symbol-new}
 
 abbrev Symbols : Type 0
@@ -65,10 +65,14 @@ module _ (s : Symbols) (n : ℕ) (below : (m : ℕ) → get s m ≡ Some Made �
   unfolding in_slot_order standings
   made_behind none =
       let es : List (ℕ × CellSlot) = entries s in
-      let m : FinMap standing_cmp ℕ = by_standing es in
-      let more : by_standing (entries (insert s n Made)) ≡ insert m (rank Made, n) n =
-      ap (λ (t : Symbols). by_standing (entries (insert t n Made))) (sym (entries_map s))
-      ∙ by_standing-entries ((n, Made) ∷ es) (sym (get-entries s n) ∙ none, sorted-distinct nat_cmp es (true_by_T _ (entries_sorted s))) in
+      let m : FinMap standing_cmp ℕ = by_slot_order es in
+      let more : by_slot_order (entries (insert s n Made)) ≡ insert m (rank Made, n) n =
+      ap (λ (t : Symbols). by_slot_order (entries (insert t n Made))) (sym (entries_map s))
+      ∙ by_slot_order-entries ((n, Made) ∷ es) (
+        sym (get-entries s n)
+            ∙ none,
+        sorted-distinct nat_cmp es (true_by_T _ (entries_sorted s)),
+      ) in
       let last : entries (insert m (rank Made, n) n) ≡ entries m ++ ((rank Made, n), n) ∷ [] =
       entries-insert standings_total m (rank Made, n) n
       ∙ put_last standing_cmp (rank Made, n) n (entries m)
@@ -204,7 +208,7 @@ module _ (s : Symbols) (cells : List ℕ) (ordered : cells ≡ in_slot_order s) 
   unfolding es standings
   sorted =
       subst (λ (fs : List (Standing × ℕ)). IsStrictlySortedBy standing_cmp (keys_of fs)) split
-      (sorted_keys standing_cmp es (true_by_T _ (entries_sorted (by_standing (entries s)))))
+      (sorted_keys standing_cmp es (true_by_T _ (entries_sorted (by_slot_order (entries s)))))
 
   -- it has a slot
   pub last_slot : get s x ≡ None → ⊥

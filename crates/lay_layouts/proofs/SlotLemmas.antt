@@ -22,7 +22,7 @@ use Rattle.lay_layouts.specs.declared.slot.CellSlot.{CellSlot}
 use Rattle.lay_layouts.specs.declared.slot.CellSlot.TheVariants.{Base}
 use Rattle.lay_layouts.specs.Layout.{symbols_of}
 use Rattle.lay_layouts.specs.LayoutWith.{placed_from}
-use Rattle.lay_layouts.specs.SlotOrder.{by_standing, in_slot_order, rank, standing_cmp, standing_of}
+use Rattle.lay_layouts.specs.SlotOrder.{by_slot_order, in_slot_order, rank, standing_cmp, standing_of}
 use Rattle.lay_layouts.proofs.DistinctLemmas.{AreDistinct, inserted}
 use Rattle.lay_layouts.proofs.MapLemmas.{entries_again}
 
@@ -90,8 +90,8 @@ sorted-distinct R (e ∷ es) h =
     (find-below R e.0 es both.0, sorted-distinct R es both.1)
 
 -- symbols by their standings, from their list or from the map of it
-pub by_standing-entries : (es : List (ℕ × CellSlot)) → AreDistinct nat_cmp es → by_standing (entries (symbols_of es)) ≡ by_standing es
-by_standing-entries es h =
+pub by_slot_order-entries : (es : List (ℕ × CellSlot)) → AreDistinct nat_cmp es → by_slot_order (entries (symbols_of es)) ≡ by_slot_order es
+by_slot_order-entries es h =
     let m : FinMap nat_cmp CellSlot = symbols_of es in
     same_map standings_total standings_exact _ _ (λ q.
     get-from_entries standings_total (map standing_of (entries m)) q
@@ -104,7 +104,7 @@ in_slot_order-sorted : (es : List (ℕ × CellSlot)) → AreDistinct nat_cmp es 
     → in_slot_order (symbols_of es) ≡ map (λ e. e.1) (map standing_of es)
 unfolding in_slot_order
 in_slot_order-sorted es h sorted =
-    ap values (by_standing-entries es h) ∙ ap (map (λ e. e.1)) (entries_again standing_cmp standings_total (map standing_of es) sorted)
+    ap values (by_slot_order-entries es h) ∙ ap (map (λ e. e.1)) (entries_again standing_cmp standings_total (map standing_of es) sorted)
 
 pub lesser : (p q : ℕ) → p < q → nat_cmp p q ≡ Less
 lesser p q h = sym (nat_cmp_is p q Less h)

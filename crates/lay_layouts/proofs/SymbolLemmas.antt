@@ -13,7 +13,7 @@ use Rattle.std.proofs.lemmas.Map.Lookups.{exact_pairs, exact_unsigned}
 use Rattle.lay_point.proofs.BoolLaws.{true_by_T}
 use Rattle.lay_cells.specs.Symbols.{has_symbol, with_symbol}
 use Rattle.lay_layouts.specs.declared.slot.CellSlot.{CellSlot}
-use Rattle.lay_layouts.specs.SlotOrder.{Standing, by_standing, in_slot_order, rank, standing_cmp, standing_of}
+use Rattle.lay_layouts.specs.SlotOrder.{Standing, by_slot_order, in_slot_order, rank, standing_cmp, standing_of}
 use Rattle.lay_layouts.proofs.DistinctLemmas.{AreDistinct}
 use Rattle.lay_layouts.proofs.MapLemmas.{sorted_keys}
 use Rattle.lay_layouts.proofs.SlotLemmas.{find-standings, of_rank, sorted-distinct, standings_exact, standings_total}
@@ -85,7 +85,7 @@ module _ (symbols : FinMap nat_cmp CellSlot) where
   pub in_slot_order-distinct : IsDistinct nat_eq (in_slot_order symbols)
   unfolding in_slot_order
   in_slot_order-distinct =
-      let m : FinMap standing_cmp ℕ = by_standing (entries symbols) in
+      let m : FinMap standing_cmp ℕ = by_slot_order (entries symbols) in
       let sorted : is_sorted standing_cmp (entries m) ≡ true = true_by_T _ (entries_sorted m) in
       numbers_distinct (entries m) (sorted_keys standing_cmp (entries m) sorted)
       (all_stand (entries m) (sorted-distinct standing_cmp (entries m) sorted) (λ q n at.

@@ -3,7 +3,7 @@ pub mod IdOrder
 pub mod IdText
 pub mod Ids
 pub mod Items
-pub mod Kept
+pub mod RingsStorage
 pub mod Layout
 pub mod LayoutWith
 pub mod Lent

@@ -39,12 +39,12 @@ standing_cmp a b =
 abbrev pub standing_of : ℕ × CellSlot → Standing × ℕ
 standing_of symbol = ((rank symbol.1, symbol.0), symbol.0)
 
-abbrev pub by_standing : List (ℕ × CellSlot) → FinMap standing_cmp ℕ
-by_standing symbols = finite.from_entries (map standing_of symbols)
+abbrev pub by_slot_order : List (ℕ × CellSlot) → FinMap standing_cmp ℕ
+by_slot_order symbols = finite.from_entries (map standing_of symbols)
 
 -- the symbols' numbers in this order
 unfoldable pub in_slot_order : FinMap nat_cmp CellSlot → List ℕ
-in_slot_order symbols = finite.values (by_standing (finite.entries symbols))
+in_slot_order symbols = finite.values (by_slot_order (finite.entries symbols))
 
 -- a symbol that was made
 abbrev pub is_made : Option CellSlot → Bool

@@ -15,13 +15,13 @@ use std::sync::Arc;
 /// The rings of a shape. Contracts see the list of them.
 #[derive(Debug, Drop)]
 pub struct Rings {
-    kept: Kept,
+    kept: RingsStorage,
 }
 
 /// How rings are kept. A sole ring of four points stands in place, which takes less than a share of
 /// it would; all others are shared by all who hold them.
 #[derive(Debug, Drop)]
-enum Kept {
+enum RingsStorage {
     InPlace(Ring),
     One(Arc<Ring>),
     Several(Arc<Vec<Ring>>),
@@ -30,7 +30,7 @@ enum Kept {
 impl Model for Rings {
     ghost use Rattle.std.specs.Prelude.{List};
     ghost use Rattle.lay_point.specs.declared.point.Point.{Point};
-    ghost use Rattle.lay_layouts.specs.Kept.{kept_rings};
+    ghost use Rattle.lay_layouts.specs.RingsStorage.{kept_rings};
 
     ghost Value = { List (List Point) };
 
@@ -51,7 +51,7 @@ impl Rings {
         {
             return Rings::one(alloc, ring);
         }
-        let kept = Kept::Several(Arc::new(alloc, rings)?);
+        let kept = RingsStorage::Several(Arc::new(alloc, rings)?);
         Ok(Rings { kept })
     }
 
@@ -64,9 +64,9 @@ impl Rings {
         ensures { IsAnswer (record {}) result (Ok (ring ∷ [])) }
     {
         let kept = if ring.points().len() == 4 {
-            Kept::InPlace(ring)
+            RingsStorage::InPlace(ring)
         } else {
-            Kept::One(Arc::new(alloc, ring)?)
+            RingsStorage::One(Arc::new(alloc, ring)?)
         };
         Ok(Rings { kept })
     }
@@ -76,9 +76,9 @@ impl Rings {
         ensures { result.now ≡ self.now }
     {
         match &self.kept {
-            Kept::InPlace(ring) => std::slice::from_ref(ring),
-            Kept::One(ring) => std::slice::from_ref(ring),
-            Kept::Several(rings) => rings.as_slice(),
+            RingsStorage::InPlace(ring) => std::slice::from_ref(ring),
+            RingsStorage::One(ring) => std::slice::from_ref(ring),
+            RingsStorage::Several(rings) => rings.as_slice(),
         }
     }
 
@@ -87,9 +87,9 @@ impl Rings {
         ensures { IfOk result (λ rings. rings ≡ self.now) }
     {
         let kept = match &self.kept {
-            Kept::InPlace(ring) => Kept::InPlace(ring.clone()?),
-            Kept::One(ring) => Kept::One(Arc::try_clone(ring)?),
-            Kept::Several(rings) => Kept::Several(Arc::try_clone(rings)?),
+            RingsStorage::InPlace(ring) => RingsStorage::InPlace(ring.clone()?),
+            RingsStorage::One(ring) => RingsStorage::One(Arc::try_clone(ring)?),
+            RingsStorage::Several(rings) => RingsStorage::Several(Arc::try_clone(rings)?),
         };
         Ok(Rings { kept })
     }
@@ -183,6 +183,6 @@ impl Clone for Item {
     }
 }
 
-impl lay_pages::Kept for Item {
+impl lay_pages::PageValue for Item {
     ghost same = { λ value copy is. is };
 }

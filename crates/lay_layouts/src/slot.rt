@@ -1,5 +1,5 @@
 //! A symbol's slot.
-use lay_pages::Kept;
+use lay_pages::PageValue;
 
 /// Where a symbol stands among the symbols of a layout.
 #[derive(Clone, Copy, Debug, PartialEq, Eq)]
@@ -10,6 +10,6 @@ pub enum CellSlot {
     Made,
 }
 
-impl Kept for CellSlot {
+impl PageValue for CellSlot {
     ghost same = { λ value copy is. is };
 }

@@ -6,7 +6,7 @@ ghost use Rattle.lay_layouts.specs.LayoutWith.{placed_from};
 ghost use Rattle.lay_layouts.specs.Same.{symbols_eq};
 ghost use Rattle.lay_layouts.specs.SlotOrder.{
   AreMadeUpTo,
-  by_standing,
+  by_slot_order,
   in_slot_order,
   is_behind,
   is_made,
@@ -195,7 +195,7 @@ fn is_behind(last: Option<u32>, number: u32) -> bool
 fn in_slot_order(alloc: Global, slots: &Pages<u32, CellSlot>) -> Result<Cells, NoMemory>
     ensures { IfOk result (λ cells. cells ≡ in_slot_order (symbols_of slots.now)) }
 {
-    let standings = by_standing(alloc, slots)?;
+    let standings = by_slot_order(alloc, slots)?;
     let mut cells = Cells::new(alloc);
     for (_, number) in standings.iter() {
         cells.add(*number)?;
@@ -204,12 +204,12 @@ fn in_slot_order(alloc: Global, slots: &Pages<u32, CellSlot>) -> Result<Cells, N
 }
 
 /// Returns the numbers of the symbols under what they are ordered by.
-fn by_standing(
+fn by_slot_order(
     alloc: Global,
     slots: &Pages<u32, CellSlot>,
 ) -> Result<BTreeMap<((u8, u32), u32), u32>, NoMemory>
     ensures { IfOk result (λ standings. finite.from_entries {R = standing_cmp} standings.entries
-        ≡ by_standing (finite.entries (symbols_of slots.now))) }
+        ≡ by_slot_order (finite.entries (symbols_of slots.now))) }
 {
     let mut standings = BTreeMap::new(alloc);
     for (number, slot) in slots.iter() {

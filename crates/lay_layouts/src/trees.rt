@@ -5,14 +5,14 @@ ghost use Rattle.std.specs.List.Sorted.{IsStrictlySortedBy};
 ghost use Rattle.std.specs.Map.{keys_of};
 ghost use Rattle.lay_layouts.specs.SameMap.{map_eq};
 
-use lay_pages::{Kept, PageKey, Pages};
+use lay_pages::{PageKey, PageValue, Pages};
 
 /// Returns whether two lists in order, in pages, have the same values under the same keys.
 ///
 /// # Cost
 ///
 /// That of `Pages::is_same`.
-pub fn are_same_pages<K: PageKey, V: Kept + PartialEq>(
+pub fn are_same_pages<K: PageKey, V: PageValue + PartialEq>(
     pages: &Pages<K, V>,
     others: &Pages<K, V>,
 ) -> bool

@@ -113,7 +113,7 @@ joined_parts {A} grows (x ∷ xs) = by (nat_le (length (x ∷ xs)) 64) where
 
   by : (b : Bool)
       → joined (cond b ((x ∷ xs) ∷ []) (take (cond grows 64 (length (x ∷ xs) / 2)) (x ∷ xs) ∷ drop (cond grows 64 (length (x ∷ xs) / 2))
-          (x ∷ xs) ∷ [])) ≡ x ∷ xs
+      (x ∷ xs) ∷ [])) ≡ x ∷ xs
   by true = append-nil (x ∷ xs)
   by false = two (cond grows 64 (length (x ∷ xs) / 2))
 
@@ -122,7 +122,7 @@ few_parts grows [] = omega arith
 few_parts {A} grows (x ∷ xs) = by (nat_le (length (x ∷ xs)) 64) where
   by : (b : Bool)
       → length (cond b ((x ∷ xs) ∷ []) (take (cond grows 64 (length (x ∷ xs) / 2)) (x ∷ xs) ∷ drop (cond grows 64 (length (x ∷ xs) / 2))
-          (x ∷ xs) ∷ [])) ≤ 2
+      (x ∷ xs) ∷ [])) ≤ 2
   by true = omega arith
   by false = omega arith
 
@@ -132,10 +132,12 @@ all_parts P grows [] all = tt
 all_parts {A} P grows (x ∷ xs) all = by (nat_le (length (x ∷ xs)) 64) where
   by : (b : Bool) → AllByRecursion (λ (ys : List A). AllByRecursion P ys)
       (cond b ((x ∷ xs) ∷ []) (take (cond grows 64 (length (x ∷ xs) / 2)) (x ∷ xs) ∷ drop (cond grows 64 (length (x ∷ xs) / 2)) (x ∷ xs)
-          ∷ []))
+      ∷ []))
   by true = (all, tt)
-  by false = (all_take P (cond grows 64 (length (x ∷ xs) / 2)) (x ∷ xs) all,
-      (all_drop P (cond grows 64 (length (x ∷ xs) / 2)) (x ∷ xs) all, tt))
+  by false = (
+    all_take P (cond grows 64 (length (x ∷ xs) / 2)) (x ∷ xs) all,
+    (all_drop P (cond grows 64 (length (x ∷ xs) / 2)) (x ∷ xs) all, tt),
+  )
 
 pub sized_parts : {A : Type 0} (grows : Bool) (xs : List A) → length xs ≤ 128 → AreSized (page_parts grows xs)
 sized_parts grows [] le = tt
@@ -149,7 +151,7 @@ sized_parts {A} grows (x ∷ xs) le = by grows (nat_le (length (x ∷ xs)) 64) r
 
   by : (g b : Bool) → nat_le (length (x ∷ xs)) 64 ≡ b
       → AreSized (cond b ((x ∷ xs) ∷ []) (take (cond g 64 (length (x ∷ xs) / 2)) (x ∷ xs) ∷ drop (cond g 64 (length (x ∷ xs) / 2))
-          (x ∷ xs) ∷ []))
+      (x ∷ xs) ∷ []))
   by g true is = ((omega arith, grind (arith, nat_tests)), tt)
   by true false is =
       let more : 64 < length (x ∷ xs) = grind (arith, nat_tests) in two 64 (omega arith) (omega arith) more (omega (arith, le))

@@ -12,12 +12,12 @@ ghost use Rattle.lay_pages.specs.Shared.{
 ghost use Rattle.lay_pages.specs.Written.{last_entry, lent_entry, lower};
 ghost use Rattle.lay_pages.specs.Places.{entries_before};
 
-use crate::keys::{Kept, PageKey};
+use crate::keys::{PageKey, PageValue};
 use crate::page::{Book, Page, around};
 use crate::place::{Place, entries_at, place_of};
 
 /// Lends the entry before a key.
-pub(crate) fn below<K: PageKey, V: Kept>(books: &[Book<K, V>], key: K) -> Option<(K, &V)>
+pub(crate) fn below<K: PageKey, V: PageValue>(books: &[Book<K, V>], key: K) -> Option<(K, &V)>
     requires { AreBooks K.cmp (pages_in books.now) }
     ensures { lent_entry result ≡ last_entry (lower K.cmp key (entries_in (pages_in books.now))) }
 {
@@ -33,7 +33,7 @@ pub(crate) fn below<K: PageKey, V: Kept>(books: &[Book<K, V>], key: K) -> Option
 }
 
 /// Lends the last entry before a page.
-fn last_before<K: PageKey, V: Kept>(books: &[Book<K, V>], place: Place) -> Option<(K, &V)>
+fn last_before<K: PageKey, V: PageValue>(books: &[Book<K, V>], place: Place) -> Option<(K, &V)>
     requires book { place.book < length books.now }
     requires page { place.page < length (slice_index_or (pages_in books.now) place.book []) }
     requires books { AreBooks K.cmp (pages_in books.now) }
@@ -47,7 +47,7 @@ fn last_before<K: PageKey, V: Kept>(books: &[Book<K, V>], place: Place) -> Optio
 }
 
 /// Lends the last entry of books.
-fn last_in_books<K: PageKey, V: Kept>(books: &[Book<K, V>]) -> Option<(K, &V)>
+fn last_in_books<K: PageKey, V: PageValue>(books: &[Book<K, V>]) -> Option<(K, &V)>
     requires books { AreSized (pages_in books.now) }
     requires pages { AllByRecursion AreSized (pages_in books.now) }
     ensures { lent_entry result ≡ last_entry (entries_in (pages_in books.now)) }
@@ -56,7 +56,7 @@ fn last_in_books<K: PageKey, V: Kept>(books: &[Book<K, V>]) -> Option<(K, &V)>
 }
 
 /// Lends the last entry of pages.
-fn last_in_book<K: PageKey, V: Kept>(book: &[Page<K, V>]) -> Option<(K, &V)>
+fn last_in_book<K: PageKey, V: PageValue>(book: &[Page<K, V>]) -> Option<(K, &V)>
     requires { AreSized (items_of book.now) }
     ensures { lent_entry result ≡ last_entry (joined (items_of book.now)) }
 {
@@ -64,7 +64,7 @@ fn last_in_book<K: PageKey, V: Kept>(book: &[Page<K, V>]) -> Option<(K, &V)>
 }
 
 /// Lends the last entry of a page.
-fn last_in_page<K: PageKey, V: Kept>(page: &[(K, V)]) -> Option<(K, &V)>
+fn last_in_page<K: PageKey, V: PageValue>(page: &[(K, V)]) -> Option<(K, &V)>
     ensures { lent_entry result ≡ last_entry page.now }
 {
     let (key, value) = page.last()?;

@@ -5,7 +5,7 @@ ghost use Rattle.std.specs.List.Sorted.{IsStrictlySortedBy};
 ghost use Rattle.std.specs.Map.{keys_of};
 ghost use Rattle.lay_pages.specs.Shared.{AreSized, entries_in, items_of, joined, pages_in};
 
-use crate::keys::{Kept, PageKey};
+use crate::keys::{PageKey, PageValue};
 use crate::lists::Lists;
 use crate::page::{Book, Page};
 use crate::pages::Pages;
@@ -14,12 +14,12 @@ use std::marker::Model;
 
 /// Takes entries one after another and makes full pages of them. Contracts see the list of the entries.
 #[derive(Drop)]
-pub struct PagesBuilder<K: PageKey, V: Kept> {
+pub struct PagesBuilder<K: PageKey, V: PageValue> {
     entries: Lists<(K, V)>,
     len: usize,
 }
 
-impl<K: PageKey, V: Kept> Model for PagesBuilder<K, V> {
+impl<K: PageKey, V: PageValue> Model for PagesBuilder<K, V> {
     ghost use Rattle.std.specs.Prelude.{List};
     ghost use Rattle.lay_pages.specs.Shared.{AreTaken, filled, items_of};
 
@@ -30,7 +30,7 @@ impl<K: PageKey, V: Kept> Model for PagesBuilder<K, V> {
     ghost invariant = { λ b. AreTaken (items_of b.entries.lists.items) b.entries.last.items b.len };
 }
 
-impl<K: PageKey, V: Kept> PagesBuilder<K, V> {
+impl<K: PageKey, V: PageValue> PagesBuilder<K, V> {
     /// Returns no entries.
     pub fn new(alloc: Global) -> PagesBuilder<K, V>
         ensures { result ≡ [] }
@@ -78,7 +78,7 @@ impl<K: PageKey, V: Kept> PagesBuilder<K, V> {
 }
 
 /// Returns the pages in full books but for the last.
-fn books_of<K: PageKey, V: Kept>(
+fn books_of<K: PageKey, V: PageValue>(
     alloc: Global,
     pages: Vec<Page<K, V>>,
 ) -> Result<Vec<Book<K, V>>, AllocError>

@@ -13,7 +13,7 @@ ghost use Rattle.lay_pages.specs.Shared.{
 };
 ghost use Rattle.lay_pages.specs.Written.{are_equal, from_key};
 
-use crate::keys::{Kept, PageKey};
+use crate::keys::{PageKey, PageValue};
 use crate::page;
 use crate::page::{Book, Page};
 use crate::page_place::{book_of, page_of};
@@ -21,13 +21,13 @@ use std::marker::Model;
 
 /// Lends entries in order of their keys. Contracts see the list of those that are left.
 #[derive(Drop)]
-pub struct Entries<'a, K: PageKey, V: Kept> {
+pub struct Entries<'a, K: PageKey, V: PageValue> {
     entries: &'a [(K, V)],
     pages: &'a [Page<K, V>],
     books: &'a [Book<K, V>],
 }
 
-impl<'a, K: PageKey, V: Kept> Model for Entries<'a, K, V> {
+impl<'a, K: PageKey, V: PageValue> Model for Entries<'a, K, V> {
     ghost use Rattle.std.specs.Prelude.{List};
     ghost use Rattle.lay_pages.specs.Shared.{entries_in, items_of, left, pages_in};
 
@@ -36,7 +36,7 @@ impl<'a, K: PageKey, V: Kept> Model for Entries<'a, K, V> {
     ghost view = { λ e. left e.entries.now (items_of e.pages.now) (pages_in e.books.now) };
 }
 
-impl<'a, K: PageKey, V: Kept> Entries<'a, K, V> {
+impl<'a, K: PageKey, V: PageValue> Entries<'a, K, V> {
     /// Returns no entries.
     pub fn none() -> Entries<'a, K, V>
         ensures { result ≡ [] }
@@ -78,7 +78,7 @@ impl<'a, K: PageKey, V: Kept> Entries<'a, K, V> {
 }
 
 /// Returns the entries of a book from a key on: those of one page, and the pages behind it.
-fn from_in_book<K: PageKey, V: Kept>(book: &[Page<K, V>], key: K) -> (&[(K, V)], &[Page<K, V>])
+fn from_in_book<K: PageKey, V: PageValue>(book: &[Page<K, V>], key: K) -> (&[(K, V)], &[Page<K, V>])
     requires some { 0 < length book.now }
     requires sized { AreSized (items_of book.now) }
     requires sorted { IsStrictlySortedBy K.cmp (keys_of (joined (items_of book.now))) }
@@ -88,7 +88,7 @@ fn from_in_book<K: PageKey, V: Kept>(book: &[Page<K, V>], key: K) -> (&[(K, V)],
     (page::from(&book[at], key), &book[at + 1..])
 }
 
-impl<'a, K: PageKey, V: Kept> Iterator for Entries<'a, K, V> {
+impl<'a, K: PageKey, V: PageValue> Iterator for Entries<'a, K, V> {
     ghost use Rattle.std.specs.Iterator.{YieldsFirstBy, item_count};
 
     type Item = (K, &'a V);
@@ -115,7 +115,7 @@ impl<'a, K: PageKey, V: Kept> Iterator for Entries<'a, K, V> {
 }
 
 /// Returns whether others are the same entries.
-pub(crate) fn are_same<K: PageKey, V: Kept + PartialEq>(
+pub(crate) fn are_same<K: PageKey, V: PageValue + PartialEq>(
     entries: Entries<'_, K, V>,
     mut others: Entries<'_, K, V>,
 ) -> bool

@@ -10,7 +10,7 @@
 //!   lost.
 //! - [`Entries`] lends a map's entries, in order. It is kept as what is left of a page, of its book
 //!   and of the books. Contracts see the list of those that are left.
-//! - [`PageKey`] is a key whose order ties only equal keys, and [`Kept`] a value whose clone is
+//! - [`PageKey`] is a key whose order ties only equal keys, and [`PageValue`] a value whose clone is
 //!   equal to it.
 //!
 //! A write makes a page, its book and the list of the books anew ([`Pages::with`]): up to 64
@@ -52,6 +52,6 @@ mod update;
 
 pub use builder::PagesBuilder;
 pub use entries::Entries;
-pub use keys::{Kept, PageKey};
+pub use keys::{PageKey, PageValue};
 pub use page::around;
 pub use pages::Pages;

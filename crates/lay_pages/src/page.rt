@@ -14,7 +14,7 @@ ghost use Rattle.lay_pages.specs.Written.{
   written_entries,
 };
 
-use crate::keys::{Kept, PageKey};
+use crate::keys::{PageKey, PageValue};
 use std::alloc::{AllocError, Global};
 use std::sync::Arc;
 
@@ -88,7 +88,7 @@ pub fn from<K: PageKey, V>(page: &[(K, V)], key: K) -> &[(K, V)]
 /// # Cost
 ///
 /// A pass over the entries, and a search by halving for each write.
-pub fn with_all<K: PageKey, V: Kept>(
+pub fn with_all<K: PageKey, V: PageValue>(
     alloc: Global,
     page: &[(K, V)],
     writes: &[(K, Option<V>)],
@@ -110,7 +110,7 @@ pub fn with_all<K: PageKey, V: Kept>(
 }
 
 /// Appends what a write leaves under its key.
-fn push_written<K: PageKey, V: Kept>(
+fn push_written<K: PageKey, V: PageValue>(
     new: &mut Vec<(K, V)>,
     key: K,
     value: &Option<V>,
@@ -124,7 +124,10 @@ fn push_written<K: PageKey, V: Kept>(
 }
 
 /// Appends copies of the entries.
-fn append<K: PageKey, V: Kept>(new: &mut Vec<(K, V)>, entries: &[(K, V)]) -> Result<(), AllocError>
+fn append<K: PageKey, V: PageValue>(
+    new: &mut Vec<(K, V)>,
+    entries: &[(K, V)],
+) -> Result<(), AllocError>
     ensures { OnOk result (new.new.items ≡ new.old.items ++ entries.now) }
 {
     for (key, value) in entries {

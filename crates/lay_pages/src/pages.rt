@@ -19,7 +19,7 @@ ghost use Rattle.lay_pages.specs.Written.{
 
 use crate::beside::below;
 use crate::entries::{Entries, are_same};
-use crate::keys::{Kept, PageKey};
+use crate::keys::{PageKey, PageValue};
 use crate::look::{count_pages, find};
 use crate::page;
 use crate::page::Book;
@@ -32,13 +32,13 @@ use std::sync::Arc;
 /// Entries in order of their keys, in pages of 1 to 64 entries and books of 1 to 64 pages, which maps
 /// share. Contracts see the list of the entries.
 #[derive(Drop)]
-pub struct Pages<K: PageKey, V: Kept> {
+pub struct Pages<K: PageKey, V: PageValue> {
     /// The books. Maps share the list of them too, so the same entries once more take none.
     books: Option<Arc<Vec<Book<K, V>>>>,
     len: usize,
 }
 
-impl<K: PageKey, V: Kept> Model for Pages<K, V> {
+impl<K: PageKey, V: PageValue> Model for Pages<K, V> {
     ghost use Rattle.std.specs.Prelude.{List};
     ghost use Rattle.lay_pages.specs.Shared.{AreCountedBooks, entries_in};
     ghost use Rattle.lay_pages.specs.Tops.{books_in};
@@ -50,7 +50,7 @@ impl<K: PageKey, V: Kept> Model for Pages<K, V> {
     ghost invariant = { λ p. AreCountedBooks K.cmp (books_in p.books) p.len };
 }
 
-impl<K: PageKey, V: Kept> Pages<K, V> {
+impl<K: PageKey, V: PageValue> Pages<K, V> {
     /// Returns no entries.
     pub fn new(_alloc: Global) -> Pages<K, V>
         ensures { result ≡ [] }
@@ -310,7 +310,7 @@ impl<K: PageKey, V: Kept> Pages<K, V> {
 }
 
 /// Returns a copy of the value, where there is one.
-fn copied<V: Kept>(value: &Option<V>) -> Result<Option<V>, AllocError>
+fn copied<V: PageValue>(value: &Option<V>) -> Result<Option<V>, AllocError>
     ensures { IfOk result (λ copy. copy ≡ value.now) }
 {
     match value {

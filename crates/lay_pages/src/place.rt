@@ -3,7 +3,7 @@ ghost use Rattle.std.specs.Prelude.{◌≡◌, ◌<◌, [], length, slice_index_
 ghost use Rattle.lay_pages.specs.Shared.{AreBooks, pages_in};
 ghost use Rattle.lay_pages.specs.Places.{IsPageOf, page_in};
 
-use crate::keys::{Kept, PageKey};
+use crate::keys::{PageKey, PageValue};
 use crate::page::{Book, Page};
 use crate::page_place::{book_of, page_of};
 
@@ -15,7 +15,7 @@ pub(crate) struct Place {
 }
 
 /// Returns the page into which a key falls.
-pub(crate) fn place_of<K: PageKey, V: Kept>(books: &[Book<K, V>], key: K) -> Place
+pub(crate) fn place_of<K: PageKey, V: PageValue>(books: &[Book<K, V>], key: K) -> Place
     requires some { 0 < length books.now }
     requires books { AreBooks K.cmp (pages_in books.now) }
     ensures { IsPageOf K.cmp key (pages_in books.now) result.book result.page }
@@ -26,7 +26,7 @@ pub(crate) fn place_of<K: PageKey, V: Kept>(books: &[Book<K, V>], key: K) -> Pla
 }
 
 /// Lends the entries of a page.
-pub(crate) fn entries_at<K: PageKey, V: Kept>(books: &[Book<K, V>], place: Place) -> &[(K, V)]
+pub(crate) fn entries_at<K: PageKey, V: PageValue>(books: &[Book<K, V>], place: Place) -> &[(K, V)]
     requires book { place.book < length books.now }
     requires page { place.page < length (slice_index_or (pages_in books.now) place.book []) }
     ensures { result.now ≡ page_in (pages_in books.now) place.book place.page }

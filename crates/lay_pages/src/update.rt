@@ -5,7 +5,7 @@ ghost use Rattle.std.specs.Map.{keys_of};
 ghost use Rattle.lay_pages.specs.Shared.{AreBooks, entries_in, pages_in};
 ghost use Rattle.lay_pages.specs.Places.{AreOfPage, with_page};
 
-use crate::keys::{Kept, PageKey};
+use crate::keys::{PageKey, PageValue};
 use crate::page::{Book, Page};
 use crate::place::{Place, place_of};
 use crate::share::{push_parts, spliced};
@@ -14,7 +14,7 @@ use std::cmp::Ordering;
 
 /// Returns the page into which the first of the writes falls, and how many of the first writes fall into it: up to
 /// 64.
-pub(crate) fn group_of<K: PageKey, V: Kept>(
+pub(crate) fn group_of<K: PageKey, V: PageValue>(
     books: &[Book<K, V>],
     writes: &[(K, Option<V>)],
 ) -> (Place, usize)
@@ -37,7 +37,7 @@ pub(crate) fn group_of<K: PageKey, V: Kept>(
 }
 
 /// Returns the books with these entries in place of those of a page. All other books and pages are shared.
-pub(crate) fn books_with<K: PageKey, V: Kept>(
+pub(crate) fn books_with<K: PageKey, V: PageValue>(
     alloc: Global,
     books: &[Book<K, V>],
     place: Place,
@@ -62,7 +62,7 @@ pub(crate) fn books_with<K: PageKey, V: Kept>(
 }
 
 /// Returns whether the key is above the last of the page.
-pub(crate) fn is_after<K: PageKey, V: Kept>(page: &[(K, V)], key: K) -> bool {
+pub(crate) fn is_after<K: PageKey, V: PageValue>(page: &[(K, V)], key: K) -> bool {
     match page.last() {
         Some((last, _)) => last.cmp(&key) == Ordering::Less,
         None => true,
@@ -70,7 +70,7 @@ pub(crate) fn is_after<K: PageKey, V: Kept>(page: &[(K, V)], key: K) -> bool {
 }
 
 /// Returns the books of these entries.
-pub(crate) fn first_books<K: PageKey, V: Kept>(
+pub(crate) fn first_books<K: PageKey, V: PageValue>(
     alloc: Global,
     entries: Vec<(K, V)>,
 ) -> Result<Vec<Book<K, V>>, AllocError>

@@ -1,6 +1,6 @@
 pub mod Bridges
 pub mod Edges
-mod Kept
+mod RingStorage
 pub mod Laws
 pub mod Memory
 pub mod Names

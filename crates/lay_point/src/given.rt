@@ -9,12 +9,12 @@ use std::marker::Model;
 /// The elements of a list by value, in order. What they took is given back on the way, so that a long list doesn't
 /// stand whole beside what is made of it. Contracts see the list of those that are left.
 #[derive(Drop)]
-pub struct Given<T> {
+pub struct ShrinkingIntoIter<T> {
     /// Those that are left, the last one first.
     turned: Vec<T>,
 }
 
-impl<T> Model for Given<T> {
+impl<T> Model for ShrinkingIntoIter<T> {
     ghost use Rattle.std.specs.Prelude.{List, reverse};
 
     ghost Value = { List T };
@@ -22,21 +22,21 @@ impl<T> Model for Given<T> {
     ghost view = { λ g. reverse g.turned.items };
 }
 
-impl<T: Drop> Given<T> {
+impl<T: Drop> ShrinkingIntoIter<T> {
     /// Returns the elements of this list. It doesn't allocate.
     ///
     /// # Cost
     ///
     /// A pass over the list.
-    pub fn of(mut items: Vec<T>) -> Given<T>
+    pub fn of(mut items: Vec<T>) -> ShrinkingIntoIter<T>
         ensures { result ≡ items.items }
     {
         items.reverse();
-        Given { turned: items }
+        ShrinkingIntoIter { turned: items }
     }
 }
 
-impl<T: Drop> Iterator for Given<T> {
+impl<T: Drop> Iterator for ShrinkingIntoIter<T> {
     ghost use Rattle.std.specs.Iterator.{YieldsFirst, item_count};
 
     type Item = T;

@@ -14,7 +14,7 @@
 //!   points.
 //! - [`LayerName`] is kept as 16 bytes in place and a length. Contracts see the list of its bytes.
 //! - [`Sequence`] is kept as a `Vec`. Contracts see the list of its elements.
-//! - [`Given`] lends a list's elements by value and gives their memory back as it goes. Contracts
+//! - [`ShrinkingIntoIter`] lends a list's elements by value and gives their memory back as it goes. Contracts
 //!   see the list of those that are left.
 //!
 //! A call that may run out of memory says so in its result: [`NoMemory`], `AllocError`, or the
@@ -65,7 +65,7 @@ mod sequence;
 mod turn;
 
 pub use edge::Edge;
-pub use given::Given;
+pub use given::ShrinkingIntoIter;
 pub use laws::whole_numbers_have_laws;
 pub use layer_name::{LayerName, MAX_LAYER_NAME};
 pub use memory::NoMemory;

@@ -1,7 +1,7 @@
 //! Rings: closed paths. Four points are kept in place.
 ghost use Rattle.std.specs.Prelude.{◌≡◌, ◌≤◌, ◌<ℤ◌, IfOk, IsTrue, length};
 ghost use Rattle.std.specs.List.{list_all};
-ghost use Rattle.lay_point.specs.Kept.{kept_points};
+ghost use Rattle.lay_point.specs.RingStorage.{kept_points};
 ghost use Rattle.lay_point.specs.Memory.{IsAnswer};
 ghost use Rattle.lay_point.specs.Points.{is_in_range};
 ghost use Rattle.lay_point.specs.Rings.{IsRing, NeighboursDiffer, closed, opened, rectangle};
@@ -40,12 +40,12 @@ pub enum RingFault {
 /// last and the first among them. Contracts see the list of its points.
 #[derive(Debug, Drop)]
 pub struct Ring {
-    kept: Kept,
+    kept: RingStorage,
 }
 
 /// How a ring's points are kept. Four stand in place, and need no list.
 #[derive(Debug, Drop)]
-enum Kept {
+enum RingStorage {
     Four([Point; 4]),
     Other(Vec<Point>),
 }
@@ -53,7 +53,7 @@ enum Kept {
 impl Model for Ring {
     ghost use Rattle.std.specs.Prelude.{List};
     ghost use Rattle.lay_point.specs.declared.point.Point.{Point};
-    ghost use Rattle.lay_point.specs.Kept.{kept_points};
+    ghost use Rattle.lay_point.specs.RingStorage.{kept_points};
     ghost use Rattle.lay_point.specs.Rings.{IsRing};
 
     ghost Value = { List Point };
@@ -99,7 +99,7 @@ impl Ring {
             x: low.x,
             y: high.y,
         };
-        let kept = Kept::Four([low, right, high, left]);
+        let kept = RingStorage::Four([low, right, high, left]);
         Ring { kept }
     }
 
@@ -112,15 +112,15 @@ impl Ring {
     }
 }
 
-impl Kept {
+impl RingStorage {
     /// Returns the points as they are kept.
-    fn of(points: SmallVec<Point, 4>) -> Result<Kept, NoMemory>
+    fn of(points: SmallVec<Point, 4>) -> Result<RingStorage, NoMemory>
         ensures { IfOk result (λ kept. kept_points kept ≡ points.items) }
     {
         if let [first, second, third, fourth] = points.as_slice() {
-            return Ok(Kept::Four([*first, *second, *third, *fourth]));
+            return Ok(RingStorage::Four([*first, *second, *third, *fourth]));
         }
-        Ok(Kept::Other(points.into_vec()?))
+        Ok(RingStorage::Other(points.into_vec()?))
     }
 
     /// Returns the points, in order.
@@ -128,8 +128,8 @@ impl Kept {
         ensures { result.now ≡ kept_points self.now }
     {
         match self {
-            Kept::Four(points) => points.as_slice(),
-            Kept::Other(points) => points.as_slice(),
+            RingStorage::Four(points) => points.as_slice(),
+            RingStorage::Other(points) => points.as_slice(),
         }
     }
 }
@@ -140,8 +140,8 @@ impl Clone for Ring {
     /// Returns an equal ring. Four points take no memory.
     fn clone(&self) -> Result<Ring, AllocError> {
         let kept = match &self.kept {
-            Kept::Four(points) => Kept::Four(*points),
-            Kept::Other(points) => Kept::Other(points.clone()?),
+            RingStorage::Four(points) => RingStorage::Four(*points),
+            RingStorage::Other(points) => RingStorage::Other(points.clone()?),
         };
         Ok(Ring { kept })
     }
@@ -228,7 +228,7 @@ fn checked(points: SmallVec<Point, 4>) -> Result<Ring, RingFault>
     if points.len() > MAX_RING_POINTS {
         return Err(RingFault::TooMany);
     }
-    let kept = Kept::of(points).map_err(|_| RingFault::NoMemory)?;
+    let kept = RingStorage::of(points).map_err(|_| RingFault::NoMemory)?;
     Ok(Ring { kept })
 }
 

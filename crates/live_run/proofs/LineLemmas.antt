@@ -6,7 +6,7 @@ use Rattle.session_steps.specs.declared.Reply.{Reply}
 use Rattle.session_steps.specs.declared.Step.{Step as StepOf}
 use Rattle.session_core.specs.Machine.{after_steps, step_outcome}
 use Rattle.job_text.specs.declared.live.LiveLine.{LiveLine}
-use Rattle.job_text.specs.declared.live.LiveLine.TheVariants.{Ask, Blank, Odd, Step, Write}
+use Rattle.job_text.specs.declared.live.LiveLine.TheVariants.{Ask, Blank, Unknown, Step, Write}
 use Rattle.job_text.specs.Live.{live_line}
 use Rattle.job_text.specs.Words.{words_of}
 use Rattle.live_run.specs.Live.{LiveRun, after_line, after_lines, after_step, answered, before_first_line, one_more}
@@ -38,7 +38,7 @@ lead_on run Write lines more =
     let h = more (one_more run) in record { state = h.state; replies = h.replies; sessions = h.sessions }
 lead_on run (Ask question) lines more =
     let h = more (one_more run) in record { state = h.state; replies = h.replies; sessions = h.sessions }
-lead_on run Odd lines more =
+lead_on run Unknown lines more =
     let h = more (one_more run) in record { state = h.state; replies = h.replies; sessions = h.sessions }
 
 leads : (lines : List (List ℕ)) → LeadAll lines

@@ -2,7 +2,7 @@
 use Rattle.std.proofs.Common.{◌≡◌, ℕ, List, [], ◌∷◌, ◌++◌, Bool, true, false, cond, Option, None, Some, refl, sym, ap, ◌∙◌, subst}
 use Rattle.lay_layouts.specs.Layout.{Layout}
 use Rattle.job_text.specs.declared.live.LiveLine.{LiveLine}
-use Rattle.job_text.specs.declared.live.LiveLine.TheVariants.{Ask, Blank, Odd, Step, Write}
+use Rattle.job_text.specs.declared.live.LiveLine.TheVariants.{Ask, Blank, Unknown, Step, Write}
 use Rattle.job_text.specs.Live.{live_line}
 use Rattle.job_text.specs.Words.{words_of}
 use Rattle.live_run.specs.declared.showing.View.{View}
@@ -17,7 +17,7 @@ view_by run Blank = refl
 view_by run (Step session step) = refl
 view_by run Write = refl
 view_by run (Ask question) = refl
-view_by run Odd = refl
+view_by run Unknown = refl
 
 view_stays : (run : LiveRun) (line : List ℕ) → (after_line run line).0.view ≡ run.view
 unfolding after_line

@@ -27,7 +27,7 @@ use Rattle.std.specs.List.{AllByRecursion, concat, list_all}
 use Rattle.session_steps.specs.declared.Step.{Step as StepOf}
 use Rattle.session_core.specs.Machine.{State, step_outcome}
 use Rattle.job_text.specs.declared.live.LiveLine.{LiveLine}
-use Rattle.job_text.specs.declared.live.LiveLine.TheVariants.{Ask, Blank, Odd, Step, Write}
+use Rattle.job_text.specs.declared.live.LiveLine.TheVariants.{Ask, Blank, Unknown, Step, Write}
 use Rattle.job_text.specs.Job.{job_of}
 use Rattle.job_text.specs.Live.{live_line}
 use Rattle.job_text.specs.Words.{words_of}
@@ -198,7 +198,7 @@ alike_on Write line heard a b is on h =
     on a (one_more b) (record { state = h.state; sessions = h.sessions; replies = h.replies; taken = h.taken })
 alike_on (Ask question) line heard a b is on h =
     on a (one_more b) (record { state = h.state; sessions = h.sessions; replies = h.replies; taken = h.taken })
-alike_on Odd line heard a b is on h =
+alike_on Unknown line heard a b is on h =
     on a (one_more b) (record { state = h.state; sessions = h.sessions; replies = h.replies; taken = h.taken })
 
 alike : (heard : List (List ℕ)) → Alike heard

@@ -6,11 +6,11 @@ use Rattle.std.specs.List.{concat}
 use Rattle.session_steps.specs.declared.Step.{Step as StepOf}
 use Rattle.session_steps.specs.declared.Step.TheVariants.{Cancel, Commit, Do, Open, Redo, Undo}
 use Rattle.job_text.specs.declared.live.LiveLine.{LiveLine}
-use Rattle.job_text.specs.declared.live.LiveLine.TheVariants.{Ask, Blank, Odd as OddLine, Step, Write}
+use Rattle.job_text.specs.declared.live.LiveLine.TheVariants.{Ask, Blank, Unknown as UnknownLine, Step, Write}
 use Rattle.job_text.specs.Live.{live_line}
 use Rattle.job_text.specs.Words.{words_of}
 use Rattle.live_run.specs.declared.live.Keeping.{Keeping}
-use Rattle.live_run.specs.declared.live.Keeping.TheVariants.{Line, No, Odd}
+use Rattle.live_run.specs.declared.live.Keeping.TheVariants.{Line, No, Unknown}
 use Rattle.live_run.specs.Cif.{before, behind, is_ended, is_live}
 
 -- a text that was kept, and whether it and all before it were on the disk when the call returned
@@ -54,13 +54,13 @@ keeping_of Blank = None
 keeping_of (Step session step) = Some (is_lasting step)
 keeping_of Write = None
 keeping_of (Ask question) = None
-keeping_of OddLine = None
+keeping_of UnknownLine = None
 
 -- the same, by what the answer says
 abbrev pub kept_as : Keeping → Option Bool
 kept_as No = None
 kept_as (Line flushed) = Some flushed
-kept_as (Odd number) = None
+kept_as (Unknown number) = None
 
 abbrev pub entries_by : Option Bool → List ℕ → List KeptText
 entries_by None line = []

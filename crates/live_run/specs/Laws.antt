@@ -6,7 +6,7 @@ use Rattle.undo_book.specs.declared.book.TheConstants.{MAX_CALLS}
 use Rattle.session_steps.specs.declared.Step.{Step as StepOf}
 use Rattle.session_core.specs.Machine.{after_steps, start}
 use Rattle.job_text.specs.declared.live.LiveLine.{LiveLine}
-use Rattle.job_text.specs.declared.live.LiveLine.TheVariants.{Ask, Blank, Odd, Step, Write}
+use Rattle.job_text.specs.declared.live.LiveLine.TheVariants.{Ask, Blank, Unknown, Step, Write}
 use Rattle.job_text.specs.Live.{live_line}
 use Rattle.job_text.specs.Words.{words_of}
 use Rattle.live_run.specs.Cif.{behind, whole}
@@ -24,7 +24,7 @@ steps_of Blank = []
 steps_of (Step session step) = (session, step) ∷ []
 steps_of Write = []
 steps_of (Ask question) = []
-steps_of Odd = []
+steps_of Unknown = []
 
 -- the steps that lines say, in order
 abbrev pub steps_in : List (List ℕ) → List (ℕ × StepOf)

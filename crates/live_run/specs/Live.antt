@@ -8,7 +8,7 @@ use Rattle.session_steps.specs.declared.Reply.TheVariants.{Fault}
 use Rattle.session_steps.specs.declared.Step.{Step as StepOf}
 use Rattle.session_core.specs.Machine.{State, start, step_outcome}
 use Rattle.job_text.specs.declared.live.LiveLine.{LiveLine}
-use Rattle.job_text.specs.declared.live.LiveLine.TheVariants.{Ask, Blank, Odd, Step, Write}
+use Rattle.job_text.specs.declared.live.LiveLine.TheVariants.{Ask, Blank, Unknown, Step, Write}
 use Rattle.job_text.specs.Live.{live_line, odd_text}
 use Rattle.job_text.specs.Replies.{reply_text}
 use Rattle.job_text.specs.Words.{words_of}
@@ -104,7 +104,7 @@ answered run Blank = (one_more run, ([], false))
 answered run (Step session step) = after_step run session step
 answered run Write = (one_more run, ([], true))
 answered run (Ask question) = (one_more run, (told_text run.view.names question run.state.history, false))
-answered run Odd = (one_more run, (odd_text (run.lines + 1), false))
+answered run Unknown = (one_more run, (odd_text (run.lines + 1), false))
 
 -- what a line is answered
 unfoldable pub after_line : LiveRun → List ℕ → LiveRun × Said

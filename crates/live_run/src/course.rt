@@ -137,7 +137,7 @@ fn keep_line<J: Journal>(journal: &mut J, keeping: Keeping, line: &[u8]) -> Resu
     match keeping {
         Keeping::No => Ok(()),
         Keeping::Line(is_flushed) => Ok(journal.keep(line, is_flushed)?),
-        Keeping::Odd(number) => {
+        Keeping::Unknown(number) => {
             journal.tell(line, number);
             Ok(())
         }

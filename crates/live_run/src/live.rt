@@ -19,7 +19,7 @@ ghost use Rattle.live_run.specs.Live.{
 
 use crate::showing::View;
 use band_workers::Bands;
-use job_text::{LiveLine, comments, live_line, odd_line, order_of, reply_line};
+use job_text::{LiveLine, comments, live_line, order_of, reply_line, unknown_line};
 use lay_items::Snapshot;
 use lay_point::NoMemory;
 use live_questions::answer;
@@ -48,7 +48,7 @@ pub enum Keeping {
     /// It is kept, and with `true` flushed to the disk, before it is answered.
     Line(bool),
     /// It says nothing that a run takes, and has this number.
-    Odd(u64),
+    Unknown(u64),
 }
 
 impl Answer {
@@ -146,9 +146,9 @@ impl Live {
                 let comment = answer(alloc, &self.view.names, question, self.machine.book())?;
                 Ok(self.one_more(number, Answer::new(comment)))
             }
-            LiveLine::Odd => {
-                let mut answer = Answer::new(odd_line(alloc, number)?);
-                answer.keeping = Keeping::Odd(number);
+            LiveLine::Unknown => {
+                let mut answer = Answer::new(unknown_line(alloc, number)?);
+                answer.keeping = Keeping::Unknown(number);
                 Ok(self.one_more(number, answer))
             }
         }

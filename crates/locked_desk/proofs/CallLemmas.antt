@@ -19,7 +19,7 @@ use Rattle.desk_rules.specs.Legal.{ArePendingSound, Desk, Stepped, answer_of, on
 use Rattle.desk_rules.proofs.MeantLemmas.{stepped_work}
 use Rattle.lay_layouts.specs.Layout.{Layout}
 use Rattle.undo_rules.specs.declared.log.Call.{Call}
-use Rattle.desk_rules.specs.declared.kept.Kept.{Kept}
+use Rattle.desk_rules.specs.declared.seat_call.SeatCall.{SeatCall}
 use Rattle.desk_rules.specs.Seats.{EndsWith, GainsLogged, Seat, calls_behind, next_at}
 use Rattle.desk_rules.proofs.SeatLemmas.{gains_logged}
 use Rattle.locked_desk.specs.declared.fault.DeskFault.TheVariants.{Book}
@@ -103,7 +103,7 @@ refused_back h next work refusal (inr fails) =
 
 -- the seat gains what it keeps
 pub gains_kept : {old new : Seat} (origin desk : Desk) (answer told : Option Answer) (base : Layout) (h : History) (session : ℕ)
-    (own given kept : List Kept) (call : Call) (place : ℕ) → origin ≡ desk → record { session = session; own = own } ≡ old
+    (own given kept : List SeatCall) (call : Call) (place : ℕ) → origin ≡ desk → record { session = session; own = own } ≡ old
     → record { session = session; own = kept } ≡ new → given ≡ own
     → kept ≡ calls_behind (record { session = session; before = own; call = call; place = place }) answer
     → IfSome answer (EndsWith (on_base base origin) h (record { session = session; before = given; call = call; place = place }))
@@ -113,10 +113,10 @@ gains_kept {old} {new} origin desk answer told base h session own given kept cal
     let seat : Seat = record { session = session; own = own } in
     let here : IfSome answer (EndsWith (on_base base desk) h (next_at seat call place)) =
     subst (λ (d : Desk). IfSome answer (EndsWith (on_base base d) h (next_at seat call place))) origin-is
-    (subst (λ (l : List Kept). IfSome answer (EndsWith (on_base base origin) h
+    (subst (λ (l : List SeatCall). IfSome answer (EndsWith (on_base base origin) h
     (next_at (record { session = session; own = l }) call place))) given-is made) in
     let gains : GainsLogged desk answer seat call (record { session = session; own = kept }) =
-    subst (λ (l : List Kept). GainsLogged desk answer seat call (record { session = session; own = l })) (sym kept-is)
+    subst (λ (l : List SeatCall). GainsLogged desk answer seat call (record { session = session; own = l })) (sym kept-is)
     (gains_logged answer desk base h seat call place here) in
     subst (λ (a : Option Answer). GainsLogged desk a old call new) (sym told-is)
     (subst (λ (s : Seat). GainsLogged desk answer old call s) new-is
@@ -137,7 +137,7 @@ committed_back h next work (Err refusal) takes = refused_back h next work refusa
 -- a seat and a work of an accepted open
 pub opens_at : {old new : Seat} (origin desk : Desk) (work : Transaction) (result : Result Transaction BookFault) (h : History)
     (session : ℕ)
-    (own given kept : List Kept) (place : ℕ) → origin ≡ desk → record { session = session; own = own } ≡ old
+    (own given kept : List SeatCall) (place : ℕ) → origin ≡ desk → record { session = session; own = own } ≡ old
     → record { session = session; own = kept } ≡ new → given ≡ own
     → kept ≡ calls_behind (record { session = session; before = own; call = Open; place = place }) (opened_answer result)
     → IfSome (opened_answer result) (EndsWith (on_base h.base origin) h
@@ -152,7 +152,7 @@ opens_at {old} {new} origin desk work result h session own given kept place orig
     let told : opened_answer result ≡ Some (Opened work.id.txn) = ap opened_answer ok in
     let one : IfSome (opened_answer result) (EndsWith (on_base h.base desk) h (next_at seat Open place)) =
     subst (λ (d : Desk). IfSome (opened_answer result) (EndsWith (on_base h.base d) h (next_at seat Open place))) origin-is
-    (subst (λ (l : List Kept). IfSome (opened_answer result) (EndsWith (on_base h.base origin) h
+    (subst (λ (l : List SeatCall). IfSome (opened_answer result) (EndsWith (on_base h.base origin) h
     (next_at (record { session = session; own = l }) Open place))) given-is made) in
     let two : EndsWith (on_base h.base desk) h (next_at seat Open place) (Opened work.id.txn) =
     subst (λ (a : Option Answer). IfSome a (EndsWith (on_base h.base desk) h (next_at seat Open place))) told one in
@@ -164,7 +164,7 @@ opens_at {old} {new} origin desk work result h session own given kept place orig
     kept-is ∙ ap (calls_behind (next_at seat Open place)) told
     ∙ ap (λ (p : ℕ). calls_behind (next_at seat Open p) (Some (Opened work.id.txn))) (sym its.1) in
     let opens : OpensAt desk seat work (record { session = session; own = kept }) = record {
-      gained = ap (λ (l : List Kept). record { session = session; own = l }) kept-as;
+      gained = ap (λ (l : List SeatCall). record { session = session; own = l }) kept-as;
       history = h;
       ends = four;
       snapshot = its.2;

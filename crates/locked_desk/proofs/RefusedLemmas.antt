@@ -16,7 +16,7 @@ use Rattle.desk_rules.specs.Close.{missing_place}
 use Rattle.desk_rules.specs.Guards.{Fits, Guard, IsGuard, has_last}
 use Rattle.desk_rules.proofs.GuardLemmas.{Looked}
 use Rattle.std.proofs.lemmas.Bool.Decides.{nat_tests}
-use Rattle.desk_rules.specs.declared.kept.Kept.{Kept}
+use Rattle.desk_rules.specs.declared.seat_call.SeatCall.{SeatCall}
 use Rattle.desk_rules.specs.Seats.{Seat, last_of, place_or_zero}
 use Rattle.locked_desk.specs.declared.fault.DeskFault.{DeskFault}
 use Rattle.locked_desk.specs.declared.fault.DeskFault.TheVariants.{Differs}
@@ -52,7 +52,7 @@ way_full Forth h session txn = redo_full h session txn
 -- ---- as the desk's
 
 -- a refusal by the book as the desk's
-pub refused_as_desk : {T : Type 0} {old : Seat} (origin desk : Desk) (session : ℕ) (own given : List Kept)
+pub refused_as_desk : {T : Type 0} {old : Seat} (origin desk : Desk) (session : ℕ) (own given : List SeatCall)
     (step : ℕ → History → Option BookFault) (result : Result T BookFault) → origin ≡ desk → record { session = session; own = own } ≡ old
     → given ≡ own
     → IfErr result (λ fault. IsRefused origin (record { session = session; own = given }) (step session) fault)
@@ -61,9 +61,9 @@ refused_as_desk origin desk session own given step (Ok value) origin-is old-is g
 refused_as_desk {T} {old} origin desk session own given step (Err fault) origin-is old-is given-is told =
     subst (λ (d : Desk). IsRefused d old (step old.session) fault) origin-is
     (subst (λ (s : Seat). IsRefused origin s (step s.session) fault) old-is
-    (subst (λ (l : List Kept). IsRefused origin (record { session = session; own = l }) (step session) fault) given-is told))
+    (subst (λ (l : List SeatCall). IsRefused origin (record { session = session; own = l }) (step session) fault) given-is told))
 
-pub commit_refused_as_desk : {old : Seat} (origin desk : Desk) (session : ℕ) (own given : List Kept)
+pub commit_refused_as_desk : {old : Seat} (origin desk : Desk) (session : ℕ) (own given : List SeatCall)
     (step : ℕ → History → Option BookFault) (result : Result TxnId CommitRefusal) → origin ≡ desk
     → record { session = session; own = own } ≡ old → given ≡ own
     → IfErr result (λ refusal. IsRefused origin (record { session = session; own = given }) (step session) refusal.fault)
@@ -72,7 +72,7 @@ commit_refused_as_desk origin desk session own given step (Ok txn) origin-is old
 commit_refused_as_desk {old} origin desk session own given step (Err answer) origin-is old-is given-is told =
     subst (λ (d : Desk). IsRefused d old (step old.session) answer.fault) origin-is
     (subst (λ (s : Seat). IsRefused origin s (step s.session) answer.fault) old-is
-    (subst (λ (l : List Kept). IsRefused origin (record { session = session; own = l }) (step session) answer.fault) given-is told))
+    (subst (λ (l : List SeatCall). IsRefused origin (record { session = session; own = l }) (step session) answer.fault) given-is told))
 
 -- ---- refused snapshots behind the lock
 
@@ -81,7 +81,7 @@ abbrev pub IsNamed : Desk → Guard → ℕ → ℕ → DeskFault → Type 0
 IsNamed desk g session place fault =
     ((fault ≡ Differs session place) × Fits desk g × IsFrom desk g.book) ⊎ (fault ≡ Differs 0 0)
 
-pub shown_first : (desk : Desk) (g : Guard) (session : ℕ) (own : List Kept) (place : ℕ) (fault : DeskFault)
+pub shown_first : (desk : Desk) (g : Guard) (session : ℕ) (own : List SeatCall) (place : ℕ) (fault : DeskFault)
     → missing_place g.book.log own ≡ Some place → IsNamed desk g session place fault
     → IsShownFault desk (record { session = session; own = own }) fault
 shown_first desk g session own place fault named (inl is) =
@@ -90,7 +90,7 @@ shown_first desk g session own place fault named (inl is) =
 shown_first desk g session own place fault named (inr is) =
     subst (λ f. IsShownFault desk (record { session = session; own = own }) f) (sym is) (inr (refl, refl))
 
-pub shown_last : (desk : Desk) (g : Guard) (session : ℕ) (own : List Kept) (place : ℕ) (fault : DeskFault) → IsGuard g → 1 ≤ session
+pub shown_last : (desk : Desk) (g : Guard) (session : ℕ) (own : List SeatCall) (place : ℕ) (fault : DeskFault) → IsGuard g → 1 ≤ session
     → has_last g session own ≡ false → missing_place g.book.log own ≡ None → place ≡ place_or_zero (last_of own)
     → IsNamed desk g session place fault → IsShownFault desk (record { session = session; own = own }) fault
 shown_last desk g session own place fault kept low looked none last (inl is) =
@@ -102,7 +102,8 @@ shown_last desk g session own place fault kept low looked none last (inr is) =
 -- ---- refused commits behind the lock
 
 -- a work of another session
-pub other_refused : (desk : Desk) (g : Guard) (session : ℕ) (own : List Kept) (work : Transaction) (full : Bool) (answer : CommitRefusal)
+pub other_refused : (desk : Desk) (g : Guard) (session : ℕ) (own : List SeatCall) (work : Transaction) (full : Bool)
+    (answer : CommitRefusal)
     → answer ≡ refused (full_or_foreign full) work → IsGuard g → Fits desk g → Looked g session own → g.book.base ≡ desk.base
     → work.id.session ≢ session → full ≡ is_log_full g.book
     → IsRefused desk (record { session = session; own = own }) (commit_fault session work) answer.fault
@@ -121,7 +122,7 @@ with_work_fault work (Err fault) refusal e =
     let is : refusal ≡ refused fault work = cc in ap (λ (r : CommitRefusal). Some r.fault) (sym is)
 
 -- a work of the session
-pub own_refused : (desk : Desk) (g : Guard) (session : ℕ) (own : List Kept) (work : Transaction)
+pub own_refused : (desk : Desk) (g : Guard) (session : ℕ) (own : List SeatCall) (work : Transaction)
     (result : Result TxnId CommitRefusal) (answer : CommitRefusal) → result ≡ Err answer → IsGuard g → Fits desk g → Looked g session own
     → work.id.session ≡ session
     → (result ≡ Err (refused NoMemory work)) ⊎ (result ≡ with_refused_work (commit_step g.book work).0 work)

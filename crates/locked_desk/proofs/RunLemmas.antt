@@ -10,7 +10,7 @@ use Rattle.undo_rules.specs.declared.log.Answer.{Answer}
 use Rattle.undo_rules.specs.declared.log.Answer.TheVariants as answers
 use Rattle.undo_rules.specs.declared.log.Call.{Call}
 use Rattle.undo_rules.specs.declared.log.Call.TheVariants as calls
-use Rattle.desk_rules.specs.declared.kept.Kept.{Kept}
+use Rattle.desk_rules.specs.declared.seat_call.SeatCall.{SeatCall}
 use Rattle.session_steps.specs.declared.Reply.{Reply}
 use Rattle.session_steps.specs.declared.Reply.TheVariants as replies
 use Rattle.session_steps.specs.declared.Step.{Step}
@@ -40,7 +40,7 @@ filter_more given reply = filter_map-append logged_reply given (reply ∷ [])
 
 -- a step whose reply isn't logged leaves the seat, and one whose reply is adds a call of that answer
 pub record GainsSome (old : Seat) (answer : Answer) (new : Seat) : Type 0 where
-  pub kept : Kept
+  pub kept : SeatCall
   pub session : new.session ≡ old.session
   pub own : new.own ≡ old.own ++ kept ∷ []
   pub answered : kept.logged.answer ≡ answer
@@ -147,8 +147,8 @@ one_answer (Some answer) seat mid end given reply is are gains = record {
   session = gains.session ∙ are.session;
   own = gains.own ∙ ap (λ l. l ++ gains.kept ∷ []) are.own ∙ append_assoc seat.own are.gained (gains.kept ∷ []);
   answers = filter_more given reply ∙ ap (λ a. filter_map logged_reply given ++ cons_option a []) is
-      ∙ ap (λ l. l ++ answer ∷ []) are.answers ∙ ap (λ a. map (λ (k : Kept). k.logged.answer) are.gained ++ a ∷ []) (sym gains.answered)
-      ∙ sym (map-append (λ (k : Kept). k.logged.answer) are.gained (gains.kept ∷ []));
+      ∙ ap (λ l. l ++ answer ∷ []) are.answers ∙ ap (λ a. map (λ (k : SeatCall). k.logged.answer) are.gained ++ a ∷ []) (sym gains.answered)
+      ∙ sym (map-append (λ (k : SeatCall). k.logged.answer) are.gained (gains.kept ∷ []));
 }
 
 pub answers_push : (d : Desk) (seat : Seat) (mid : SeatedSession) (given : List Reply) (step : Step) (reply : Reply)

@@ -11,7 +11,7 @@ use Rattle.undo_rules.specs.Books.{History}
 use Rattle.undo_rules.specs.Steps.{commit_step, is_log_full}
 use Rattle.undo_book.specs.declared.commit.CommitRefusal.{CommitRefusal}
 use Rattle.undo_book.specs.Calls.{handed_back}
-use Rattle.desk_rules.specs.declared.kept.Kept.{Kept}
+use Rattle.desk_rules.specs.declared.seat_call.SeatCall.{SeatCall}
 use Rattle.desk_rules.specs.Close.{Misses}
 use Rattle.desk_rules.specs.Legal.{Desk, refusal}
 use Rattle.desk_rules.specs.Refusals.{IsRefused, fault_in}
@@ -21,7 +21,7 @@ use Rattle.locked_desk.specs.declared.fault.DeskFault.TheVariants.{Book, Differs
 use Rattle.locked_desk.specs.declared.fault.DeskRefusal.{DeskRefusal}
 
 -- the refusal that names the session and its last place
-abbrev pub differs_refusal : ℕ → List Kept → DeskFault
+abbrev pub differs_refusal : ℕ → List SeatCall → DeskFault
 differs_refusal session own = Differs session (place_or_zero (last_of own))
 
 -- a refusal of the desk's own names the seat's session and last place
@@ -112,7 +112,7 @@ commit_fault session work h = if work.id.session == session then fault_in (commi
 -- ---- the look at the log
 
 -- the look at the last call found no such log, or memory was refused
-abbrev pub IsLooked : DeskFault → ℕ → List Kept → Type 0
+abbrev pub IsLooked : DeskFault → ℕ → List SeatCall → Type 0
 IsLooked fault session own = (fault ≡ Book NoMemory) ⊎ (fault ≡ differs_refusal session own)
 
 -- no memory is left for a snapshot, or the refusal names the first of the seat's calls that a legal log from the desk doesn't
@@ -127,6 +127,6 @@ abbrev pub IsOtherFault : DeskFault → Type 0
 IsOtherFault (Book fault) = (fault ≡ LogFull) ⊎ (fault ≡ Foreign) ⊎ (fault ≡ NoMemory)
 IsOtherFault (Differs session place) = Unit {0}
 
-abbrev pub IsOther : Result TxnId DeskRefusal → Type 0
-IsOther (Ok txn) = ⊥
-IsOther (Err refused) = IsOtherFault refused.fault
+abbrev pub IsForeignOrFull : Result TxnId DeskRefusal → Type 0
+IsForeignOrFull (Ok txn) = ⊥
+IsForeignOrFull (Err refused) = IsOtherFault refused.fault

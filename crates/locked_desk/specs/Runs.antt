@@ -20,7 +20,7 @@ use Rattle.session_steps.specs.declared.Reply.TheVariants.{Cancelled, Committed,
 use Rattle.session_steps.specs.declared.Step.{Step}
 use Rattle.session_steps.specs.declared.Step.TheVariants.{Cancel, Commit, Do, Open, Redo, Undo}
 use Rattle.session_steps.specs.declared.StepFault.TheVariants.{AlreadyOpen, Book, Command as CommandFault, NotOpen}
-use Rattle.desk_rules.specs.declared.kept.Kept.{Kept}
+use Rattle.desk_rules.specs.declared.seat_call.SeatCall.{SeatCall}
 use Rattle.desk_rules.specs.Close.{IsClosed}
 use Rattle.desk_rules.specs.Legal.{Desk, refusal}
 use Rattle.desk_rules.specs.Refusals.{IsRefused, open_fault, redo_fault, undo_fault}
@@ -157,10 +157,10 @@ RanSteps desk before (step ∷ steps) (reply ∷ replies) after =
 
 -- the replies to the steps that are logged are, in order, the answers of the calls that the seat gained
 pub record AreAnswers (seat : Seat) (replies : List Reply) (end : Seat) : Type 0 where
-  pub gained : List Kept
+  pub gained : List SeatCall
   pub session : end.session ≡ seat.session
   pub own : end.own ≡ seat.own ++ gained
-  pub answers : filter_map logged_reply replies ≡ map (λ (k : Kept). k.logged.answer) gained
+  pub answers : filter_map logged_reply replies ≡ map (λ (k : SeatCall). k.logged.answer) gained
 
 -- with nothing open at the start
 pub record RunsSo (desk : Desk) (seat : Seat) (steps : List Step) (replies : List Reply) (end : Seat) : Type 0 where

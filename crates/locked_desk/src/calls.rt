@@ -4,7 +4,7 @@ ghost use Rattle.desk_rules.specs.Legal.{answer_of, opened_answer, refusal};
 ghost use Rattle.desk_rules.specs.Refusals.{open_fault, redo_fault, undo_fault};
 ghost use Rattle.desk_rules.specs.Seats.{GainsLogged, calls_behind};
 ghost use Rattle.locked_desk.specs.Desks.{
-  IsOther,
+  IsForeignOrFull,
   IsRefusedAs,
   NamesSeat,
   Opens,
@@ -22,7 +22,7 @@ use crate::fault::{DeskFault, DeskRefusal};
 use crate::guarded::differs;
 use crate::seat::Seat;
 use crate::way::Way;
-use desk_rules::Kept;
+use desk_rules::SeatCall;
 use lay_point::{NoMemory, Sequence};
 use std::alloc::Global;
 use std::sync::Wait;
@@ -100,7 +100,7 @@ impl<L: Ledger> Desk<L> {
         ensures txn { IfOk result (λ txn. txn ≡ work.id) }
         ensures back { IfErr result (λ refusal. refusal ≡ desk_refused refusal.fault work) }
         ensures named { IfErr result (λ refusal. NamesSeat refusal.fault seat.old) }
-        ensures foreign { work.id.session ≢ seat.old.session → IsOther result }
+        ensures foreign { work.id.session ≢ seat.old.session → IsForeignOrFull result }
         ensures refused { IfErr result (λ refusal. IsRefusedAs self.now seat.old (commit_fault seat.old.session work) refusal.fault) }
     {
         let Seat {
@@ -216,7 +216,13 @@ impl<L: Ledger> Desk<L> {
 }
 
 /// Adds the call to the session's own, where it is logged.
-fn keep(own: &mut Vec<Kept>, session: SessionId, call: Call, place: usize, answer: Option<Answer>)
+fn keep(
+    own: &mut Vec<SeatCall>,
+    session: SessionId,
+    call: Call,
+    place: usize,
+    answer: Option<Answer>,
+)
     requires { vec_len own.old < vec_capacity own.old }
     ensures { own.new.items ≡ calls_behind (record { session = session; before = own.old.items; call = call; place = place }) answer }
 {
@@ -226,7 +232,7 @@ fn keep(own: &mut Vec<Kept>, session: SessionId, call: Call, place: usize, answe
             call,
             answer,
         };
-        own.push(Kept { place, logged }).unwrap();
+        own.push(SeatCall { place, logged }).unwrap();
     }
 }
 

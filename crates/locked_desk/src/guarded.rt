@@ -8,7 +8,7 @@ ghost use Rattle.locked_desk.specs.Desks.{differs_refusal};
 use crate::desk::is_same;
 use crate::fault::DeskFault;
 use crate::origin::Origin;
-use desk_rules::{Kept, is_last_in};
+use desk_rules::{SeatCall, is_last_in};
 use std::marker::Model;
 use std::sync::ledger;
 use std::sync::ledger::{Ledger, Share};
@@ -47,7 +47,7 @@ impl<L: Ledger> Model for Guarded<L> {
 
 impl<L: Ledger> Guarded<L> {
     /// Returns whether the log has the session's last call at its place, and as many calls of the session.
-    pub(crate) fn has_last(&self, session: SessionId, own: &[Kept]) -> bool
+    pub(crate) fn has_last(&self, session: SessionId, own: &[SeatCall]) -> bool
         ensures { result ≡ has_last self.now session own.now }
     {
         if !self.sessions.has(session) {
@@ -75,7 +75,7 @@ impl<L: Ledger> Guarded<L> {
 
     /// Returns whether this is of a desk of this origin, and the log has the session's calls so far. The base is
     /// compared only where the log is full.
-    pub(crate) fn is_ready(&self, origin: &Origin, session: SessionId, own: &[Kept]) -> bool
+    pub(crate) fn is_ready(&self, origin: &Origin, session: SessionId, own: &[SeatCall]) -> bool
         ensures last { result ≡ true → has_last self.now session own.now ≡ true }
         ensures fits { result ≡ true → Fits origin.now self.now }
         ensures full { result ≡ true → is_log_full self.now.book ≡ true → self.now.book.base ≡ origin.now.base }
@@ -104,7 +104,7 @@ impl<L: Ledger> Guarded<L> {
 }
 
 /// Returns the place of the last of these calls, or 0.
-pub(crate) fn last_place(own: &[Kept]) -> usize
+pub(crate) fn last_place(own: &[SeatCall]) -> usize
     ensures { result ≡ place_or_zero (last_of own.now) }
 {
     match own.last() {
@@ -114,7 +114,7 @@ pub(crate) fn last_place(own: &[Kept]) -> usize
 }
 
 /// Returns the refusal that names the session and its last place.
-pub(crate) fn differs(session: SessionId, own: &[Kept]) -> DeskFault
+pub(crate) fn differs(session: SessionId, own: &[SeatCall]) -> DeskFault
     ensures { result ≡ differs_refusal session own.now }
 {
     let session = session.number();

@@ -15,7 +15,7 @@ use crate::fault::DeskFault;
 use crate::guarded::{Guarded, count_call, differs};
 use crate::origin::Origin;
 use crate::way::Way;
-use desk_rules::Kept;
+use desk_rules::SeatCall;
 use lay_items::Snapshot;
 use std::alloc::Global;
 use std::sync::ledger::{Ledger, Share};
@@ -32,7 +32,7 @@ impl<L: Ledger> Guarded<L> {
         alloc: Global,
         origin: &Origin,
         session: SessionId,
-        own: &[Kept],
+        own: &[SeatCall],
         share: &mut Share<L>,
     ) -> Result<(Result<Work, BookFault>, usize, Snapshot), DeskFault>
         requires { share.old.parts ≡ 1 }
@@ -74,7 +74,7 @@ impl<L: Ledger> Guarded<L> {
         alloc: Global,
         origin: &Origin,
         session: SessionId,
-        own: &[Kept],
+        own: &[SeatCall],
         share: &mut Share<L>,
         way: Way,
         txn: TxnId,
@@ -114,7 +114,7 @@ impl<L: Ledger> Guarded<L> {
         alloc: Global,
         origin: &Origin,
         session: SessionId,
-        own: &[Kept],
+        own: &[SeatCall],
         share: &mut Share<L>,
         work: Work,
     ) -> Result<(Result<TxnId, CommitRefusal>, usize, Rest), Work>
@@ -160,7 +160,7 @@ impl<L: Ledger> Guarded<L> {
         alloc: Global,
         origin: &Origin,
         session: SessionId,
-        own: &[Kept],
+        own: &[SeatCall],
         share: &mut Share<L>,
         work: Work,
     ) -> (Result<TxnId, CommitRefusal>, usize, Rest)

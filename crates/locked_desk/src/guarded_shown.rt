@@ -10,7 +10,7 @@ use crate::desk::is_same;
 use crate::fault::DeskFault;
 use crate::guarded::{Guarded, last_place};
 use crate::origin::Origin;
-use desk_rules::{Kept, missing_place};
+use desk_rules::{SeatCall, missing_place};
 use lay_items::Snapshot;
 use std::alloc::Global;
 use std::sync::ledger::Ledger;
@@ -40,7 +40,7 @@ impl<L: Ledger> Guarded<L> {
         alloc: Global,
         origin: &Origin,
         session: SessionId,
-        own: &[Kept],
+        own: &[SeatCall],
     ) -> Result<(Snapshot, Snapshot), DeskFault>
         requires rising { AreCallsRising session 0 own.now }
         ensures value { IfOk result (λ r. (r.0 ≡ self.now.book.layout) × (r.1 ≡ self.now.book.base)) }
@@ -61,7 +61,7 @@ impl<L: Ledger> Guarded<L> {
         alloc: Global,
         origin: &Origin,
         session: SessionId,
-        own: &[Kept],
+        own: &[SeatCall],
     ) -> Result<(Snapshot, Snapshot), DeskFault>
         requires rising { AreCallsRising session 0 own.now }
         requires there { missing_place self.now.book.log own.now ≡ None }

@@ -1,7 +1,7 @@
 //! Seats: tokens of sessions.
 ghost use Rattle.std.specs.Prelude.{◌≡◌, []};
 
-use desk_rules::Kept;
+use desk_rules::SeatCall;
 use std::alloc::Global;
 use std::marker::Model;
 use std::sync::ledger::{Ledger, Share};
@@ -12,7 +12,7 @@ use undo_rules::SessionId;
 #[derive(Drop)]
 pub struct Seat<L: Ledger> {
     pub(crate) session: SessionId,
-    pub(crate) own: Vec<Kept>,
+    pub(crate) own: Vec<SeatCall>,
     pub(crate) share: Share<L>,
 }
 
@@ -39,7 +39,7 @@ impl<L: Ledger> Seat<L> {
     }
 
     /// Lends the session's logged calls with their places, in order.
-    pub fn own(&self) -> &[Kept]
+    pub fn own(&self) -> &[SeatCall]
         ensures { result.now ≡ self.now.own }
     {
         self.own.as_slice()

@@ -118,12 +118,12 @@ fn take_seat<L: Ledger>(seats: &mut Vec<Seat<L>>, session: usize) -> Option<Seat
     ensures seat { IfSome result (λ seat. (seat.session ≡ session) × Contains seats.old.items seat) }
     ensures rest { AreAmong seats.old.items seats.new.items }
 {
-    let place = place_of(seats.as_slice(), session)?;
+    let place = index_of_seat(seats.as_slice(), session)?;
     Some(seats.remove(place))
 }
 
 /// Returns the place of the seat of the session among the seats.
-fn place_of<L: Ledger>(seats: &[Seat<L>], session: usize) -> Option<usize>
+fn index_of_seat<L: Ledger>(seats: &[Seat<L>], session: usize) -> Option<usize>
     ensures within { IfSome result (λ place. place < length seats.now) }
     ensures session { IfSome result (λ place. (d : _) → (slice_index_or seats.now place d).session ≡ session) }
 {

@@ -11,7 +11,7 @@ use Rattle.job_text.specs.Jobs.{Job}
 use Rattle.job_text.specs.declared.job.JobFault.{JobFault}
 use Rattle.masklay.specs.declared.program.status.Status.{Status}
 use Rattle.masklay.specs.declared.program.outcome.Finished.{Finished}
-use Rattle.masklay.specs.declared.program.outcome.Stop.{Stop}
+use Rattle.masklay.specs.declared.program.outcome.JobError.{JobError}
 use Rattle.cif_read.proofs.OneMeaning.{one_meaning}
 use Rattle.masklay.specs.Outcome.{IsOutcomeOf, finished_with, job_in}
 use Rattle.masklay.specs.Asked.{Asked}
@@ -29,8 +29,8 @@ use Rattle.masklay.specs.Output.{
   stop_output,
   written_output,
 }
-use Rattle.masklay.specs.declared.program.oriented.Given.{Given}
-use Rattle.masklay.specs.declared.program.outcome.Stop.TheVariants.{NoMemory}
+use Rattle.masklay.specs.declared.program.oriented.JobOutput.{JobOutput}
+use Rattle.masklay.specs.declared.program.outcome.JobError.TheVariants.{NoMemory}
 use Rattle.masklay.specs.Reading.{HowRead, input_kept}
 use Rattle.masklay.specs.Run.{IsRun, WritesUnread}
 use Rattle.masklay.specs.declared.program.reading.ReadFault.{ReadFault}
@@ -65,7 +65,7 @@ kept_job_in true bytes = ap (λ (text : List ℕ). Ok (record { cif = text; scri
 pub kept_output : (asked : Asked) (bytes : List ℕ) (output : Output) → IsOutput asked (input_kept bytes) output
     → IsOutput asked bytes output
 kept_output asked bytes output is = subst
-    (λ (job : Result Job JobFault). (outcome : Result Finished Stop) × IsGiven asked.threaded asked.oriented job outcome
+    (λ (job : Result Job JobFault). (outcome : Result Finished JobError) × IsGiven asked.threaded asked.oriented job outcome
     × (output ≡ output_from asked.strict asked.boxed (names_in asked.named job) outcome))
     (kept_job_in asked.bare bytes) is
 
@@ -79,7 +79,7 @@ kept_ends written failures old new asked bytes status (inr refused) = inr refuse
 
 -- what is given out of the bytes' job, and written, is their output
 pub given_ends : {S : Type 0} (written : S → Option (List ℕ)) (failures : S → ℕ) (old new : S) (asked : Asked)
-    (bytes : List ℕ) (given : Result Given Stop) (status : Status)
+    (bytes : List ℕ) (given : Result JobOutput JobError) (status : Status)
     → AnswersGiven asked.threaded asked.oriented (job_in asked.bare bytes) (finished_part given)
     → IfOk given (λ g. g.names ≡ names_for (names_in asked.named (job_in asked.bare bytes)) g.finished.layout)
     → WritesOrMemory written failures old new (given_output asked.strict asked.boxed given) status
@@ -93,7 +93,7 @@ given_ends written failures old new asked bytes (Ok given) status (inr is) names
       subst (λ n. WritesOutput written failures old new (written_output asked.strict asked.boxed n given.finished) status) names wrote,
     )
 given_ends written failures old new asked bytes (Err stop) status (inl refused) names (inl wrote) =
-    let both : ◌≡◌ {A = Result Finished Stop} (Err stop) (Err NoMemory) = refused in
+    let both : ◌≡◌ {A = Result Finished JobError} (Err stop) (Err NoMemory) = refused in
     let same : stop ≡ NoMemory = cc in
     inr (subst (λ s. WritesOutput written failures old new (stop_output s) status) same wrote)
 given_ends written failures old new asked bytes (Err stop) status (inr is) names (inl wrote) =
@@ -126,7 +126,7 @@ unread_run asked remaining counts written failures input input' out out' status 
 
 -- ---- bytes have one output, where sessions take turns and shapes stay
 
-one_outcome_of : (job : Result Job JobFault) (a b : Result Finished Stop) → IsOutcomeOf job a → IsOutcomeOf job b → a ≡ b
+one_outcome_of : (job : Result Job JobFault) (a b : Result Finished JobError) → IsOutcomeOf job a → IsOutcomeOf job b → a ≡ b
 one_outcome_of (Err fault) a b is same = is ∙ sym same
 one_outcome_of (Ok job) a b (meaning, means, is) (other, says, same) =
     is ∙ ap (finished_with job.scripts job.order) (one_meaning job.cif meaning other means says) ∙ sym same
@@ -142,7 +142,7 @@ one_output asked bytes a b turns plain (outcome, is, given) (other, same, put) =
     job : Result Job JobFault
     job = job_in asked.bare bytes
 
-    in_turn : (o : Result Finished Stop) → IsGiven asked.threaded asked.oriented job o → IsOutcomeOf job o
+    in_turn : (o : Result Finished JobError) → IsGiven asked.threaded asked.oriented job o → IsOutcomeOf job o
     in_turn o h = subst (λ t. IsGiven t false job o) turns (subst (λ p. IsGiven asked.threaded p job o) plain h)
 
 -- ---- what a call's clauses say where its answer was tested

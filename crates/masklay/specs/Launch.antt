@@ -9,8 +9,8 @@ use Rattle.std.specs.List.{list_any}
 use Rattle.std.specs.Str.{bytes_eq}
 use Rattle.masklay.specs.declared.command_line.OptionsFault.{OptionsFault}
 use Rattle.masklay.specs.declared.command_line.OptionsFault.TheVariants.{Clap, JournalAlone, LiveAlone, LiveOutput, Workers}
-use Rattle.masklay.specs.declared.command_line.Wish.{Wish}
-use Rattle.masklay.specs.declared.command_line.Wish.TheVariants.{Job, Live}
+use Rattle.masklay.specs.declared.command_line.Mode.{Mode}
+use Rattle.masklay.specs.declared.command_line.Mode.TheVariants.{Job, Live}
 use Rattle.masklay.specs.declared.program.status.Status.{Status}
 use Rattle.masklay.specs.declared.program.status.Status.TheVariants.{CommandLine, Done}
 use Rattle.masklay.specs.Asked.{Asked, asked_of}
@@ -66,9 +66,9 @@ abbrev pub nothing_asked : Asked
 nothing_asked = record { threaded = false; oriented = false; named = false; strict = false; bare = false; boxed = false }
 
 -- what is to be run for these words
-abbrev pub IsWishOf : Wish → List (String Global) → Type 0
-IsWishOf (Job options) words = (asks_to_live words ≡ false) × (asked_of options ≡ asked_in words)
-IsWishOf (Live options) words =
+abbrev pub IsModeOf : Mode → List (String Global) → Type 0
+IsModeOf (Job options) words = (asks_to_live words ≡ false) × (asked_of options ≡ asked_in words)
+IsModeOf (Live options) words =
     (asks_to_live words ≡ true) × (asks_beside_live words ≡ false) × (options.strict ≡ asks (codes "--strict") words)
     × (options.showing ≡ showing_of (asked_in words))
 

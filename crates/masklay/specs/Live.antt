@@ -7,7 +7,7 @@ use Rattle.live_run.specs.declared.showing.Showing.{Showing}
 use Rattle.live_run.specs.declared.ending.LiveEnd.{LiveEnd}
 use Rattle.live_run.specs.declared.ending.LiveEnd.TheVariants.{Done as AllSaid, Job as JobEnd, Cif as CifEnd}
 use Rattle.live_run.specs.declared.ending.LiveEnd.TheVariants.{Device as DeviceEnd, Journal as JournalEnd, Memory as MemoryEnd}
-use Rattle.masklay.specs.declared.program.outcome.Stop.TheVariants.{JobFault, CifFault}
+use Rattle.masklay.specs.declared.program.outcome.JobError.TheVariants.{JobFault, CifFault}
 use Rattle.masklay.specs.declared.program.status.Status.{Status}
 use Rattle.masklay.specs.declared.program.status.Status.TheVariants.{Device, Done, Refused}
 use Rattle.masklay.specs.Output.{WritesOrMemory, WritesOutput, memory_output, stop_output}

@@ -15,8 +15,8 @@ use Rattle.job_text.specs.declared.job.JobFault.{JobFault}
 use Rattle.job_text.specs.declared.job.JobFault.TheVariants.{Line, NoMemory as JobMemory}
 use Rattle.masklay.specs.declared.program.outcome.Begun.{Begun}
 use Rattle.masklay.specs.declared.program.outcome.Finished.{Finished}
-use Rattle.masklay.specs.declared.program.outcome.Stop.{Stop}
-use Rattle.masklay.specs.declared.program.outcome.Stop.TheVariants.{JobFault as JobStop, CifFault as CifStop, NoMemory}
+use Rattle.masklay.specs.declared.program.outcome.JobError.{JobError}
+use Rattle.masklay.specs.declared.program.outcome.JobError.TheVariants.{JobFault as JobStop, CifFault as CifStop, NoMemory}
 use Rattle.session_steps.specs.declared.Reply.{Reply}
 use Rattle.session_steps.specs.declared.Step.{Step}
 use Rattle.session_steps.specs.Turns.{dealt, in_turn}
@@ -27,21 +27,21 @@ use Rattle.job_text.specs.Order.{order_of}
 use Rattle.masklay.specs.Reading.{input_kept}
 
 -- the stop at a fault of the job
-abbrev pub stop_of_job : JobFault → Stop
+abbrev pub stop_of_job : JobFault → JobError
 stop_of_job (Line line) = JobStop line
 stop_of_job JobMemory = NoMemory
 
 -- the stop at a fault of this kind
-abbrev stop_of_kind : CifFault → FaultKind → Stop
+abbrev stop_of_kind : CifFault → FaultKind → JobError
 stop_of_kind fault CifMemory = NoMemory
 stop_of_kind fault kind = CifStop fault
 
 -- the stop at a fault of the CIF text
-abbrev pub stop_of_cif : CifFault → Stop
+abbrev pub stop_of_cif : CifFault → JobError
 stop_of_cif fault = stop_of_kind fault fault.kind
 
 -- the step that follows takes what this one gives, and nothing follows a fault
-abbrev pub then_or_stop : {A B E : Type 0} → (E → Stop) → Result A E → (A → Result B Stop) → Result B Stop
+abbrev pub then_or_stop : {A B E : Type 0} → (E → JobError) → Result A E → (A → Result B JobError) → Result B JobError
 then_or_stop stop (Ok x) follow = follow x
 then_or_stop stop (Err fault) follow = Err (stop fault)
 
@@ -62,11 +62,11 @@ finished_from base scripts order =
     (in_turn order scripts))
 
 -- what becomes of a job whose CIF text means this
-abbrev pub finished_with : List (List Step) → List ℕ → Result Contents CifFault → Result Finished Stop
+abbrev pub finished_with : List (List Step) → List ℕ → Result Contents CifFault → Result Finished JobError
 finished_with scripts order meaning = then_or_stop stop_of_cif meaning (λ file. Ok (finished_from (layout_of file) scripts order))
 
 -- what becomes of a job, or of its fault
-abbrev pub IsOutcomeOf : Result Job JobFault → Result Finished Stop → Type 0
+abbrev pub IsOutcomeOf : Result Job JobFault → Result Finished JobError → Type 0
 IsOutcomeOf (Err fault) outcome = outcome ≡ Err (stop_of_job fault)
 IsOutcomeOf (Ok job) outcome =
     (meaning : Result Contents CifFault) × IsMeaning job.cif meaning × (outcome ≡ finished_with job.scripts job.order meaning)
@@ -79,12 +79,12 @@ IsBegunOf (Ok job) begun =
     × (begun.order ≡ job.order)
 
 -- why none begins: the job's fault, or that of its CIF text
-abbrev pub IsStopOf : Result Job JobFault → Stop → Type 0
+abbrev pub IsStopOf : Result Job JobFault → JobError → Type 0
 IsStopOf (Err fault) stop = stop ≡ stop_of_job fault
 IsStopOf (Ok job) stop = (fault : CifFault) × IsMeaning job.cif (Err fault) × (stop ≡ stop_of_cif fault)
 
 -- a job begins so, or with its stop or out of memory it doesn't
-abbrev pub Begins : Result Job JobFault → Result Begun Stop → Type 0
+abbrev pub Begins : Result Job JobFault → Result Begun JobError → Type 0
 Begins job (Ok begun) = IsBegunOf job begun
 Begins job (Err stop) = (stop ≡ NoMemory) ⊎ IsStopOf job stop
 

@@ -4,9 +4,9 @@ use Rattle.cif_read.specs.declared.fault.CifFault.{CifFault}
 use Rattle.cif_read.specs.Faults.{fault_name, fault_number}
 use Rattle.byte_io.specs.Device.{WroteAll, WrotePrefix}
 use Rattle.masklay.specs.declared.program.outcome.Finished.{Finished}
-use Rattle.masklay.specs.declared.program.oriented.Given.{Given}
-use Rattle.masklay.specs.declared.program.outcome.Stop.{Stop}
-use Rattle.masklay.specs.declared.program.outcome.Stop.TheVariants.{JobFault, CifFault as CifStop, DeskFault, NoMemory}
+use Rattle.masklay.specs.declared.program.oriented.JobOutput.{JobOutput}
+use Rattle.masklay.specs.declared.program.outcome.JobError.{JobError}
+use Rattle.masklay.specs.declared.program.outcome.JobError.TheVariants.{JobFault, CifFault as CifStop, DeskFault, NoMemory}
 use Rattle.masklay.specs.declared.program.status.Status.{Status}
 use Rattle.masklay.specs.declared.program.status.Status.TheVariants.{Done, CommandLine, Job, Cif, Device, Memory, Desk, Refused}
 use Rattle.job_text.specs.Order.{order_text}
@@ -56,7 +56,7 @@ abbrev pub memory_output : Output
 memory_output = record { text = codes "out of memory\n"; status = Memory }
 
 -- what is written where no layout is
-abbrev pub stop_output : Stop → Output
+abbrev pub stop_output : JobError → Output
 stop_output (JobFault line) = record { text = job_fault_text line; status = Job }
 stop_output (CifStop fault) = record { text = cif_fault_text fault; status = Cif }
 stop_output DeskFault = record { text = desk_fault_text; status = Desk }
@@ -79,19 +79,19 @@ abbrev pub finished_output : Bool → Bool → Option Names → Finished → Out
 finished_output strict boxed names finished = written_output strict boxed (names_for names finished.layout) finished
 
 -- what is written of what is given out, or of a stop
-abbrev pub given_output : Bool → Bool → Result Given Stop → Output
+abbrev pub given_output : Bool → Bool → Result JobOutput JobError → Output
 given_output strict boxed (Ok given) = written_output strict boxed given.names given.finished
 given_output strict boxed (Err stop) = stop_output stop
 
 -- what is written where this became of the job
-abbrev pub output_from : Bool → Bool → Option Names → Result Finished Stop → Output
+abbrev pub output_from : Bool → Bool → Option Names → Result Finished JobError → Output
 output_from strict boxed names (Ok finished) = finished_output strict boxed names finished
 output_from strict boxed names (Err stop) = stop_output stop
 
 -- what the program writes, and how it ends, where its input is these bytes and it is asked so
 abbrev pub IsOutput : Asked → List ℕ → Output → Type 0
 IsOutput asked bytes output =
-    (outcome : Result Finished Stop) × IsGiven asked.threaded asked.oriented (job_in asked.bare bytes) outcome
+    (outcome : Result Finished JobError) × IsGiven asked.threaded asked.oriented (job_in asked.bare bytes) outcome
     × (output ≡ output_from asked.strict asked.boxed (names_in asked.named (job_in asked.bare bytes)) outcome)
 
 -- asked so that sessions take turns and shapes stay as they are, an input has no two outputs

@@ -6,11 +6,11 @@
 ghost use Rattle.std.specs.Prelude.{◌≡◌, ◌≤◌, ◌<◌, ◌⊎◌, ◌||◌, IfErr, IfOk, false, true, vec_len};
 ghost use Rattle.std.specs.List.{list_any};
 ghost use Rattle.masklay.specs.declared.command_line.OptionsFault.TheVariants.{Clap};
-ghost use Rattle.masklay.specs.declared.command_line.Wish.TheVariants.{Job};
+ghost use Rattle.masklay.specs.declared.command_line.Mode.TheVariants.{Job};
 ghost use Rattle.live_run.specs.Devices.{devices, observed_by};
 ghost use Rattle.masklay.specs.Launch.{
   EndsEarly,
-  IsWishOf,
+  IsModeOf,
   Runs,
   asked_in,
   asks,
@@ -95,9 +95,9 @@ pub fn launch<I: In, O: Out, E: Out, J: Journal>(
 {
     match words {
         Ok(words) if words.len() <= 1 => run(rt, alloc, Options::plain(), input, out, errors),
-        Ok(words) => match wish_of(alloc, &words) {
-            Ok(Wish::Job(options)) => run(rt, alloc, options, input, out, errors),
-            Ok(Wish::Live(options)) => live(rt, alloc, options, bytes, input, out, errors, journal),
+        Ok(words) => match mode_of(alloc, &words) {
+            Ok(Mode::Job(options)) => run(rt, alloc, options, input, out, errors),
+            Ok(Mode::Live(options)) => live(rt, alloc, options, bytes, input, out, errors, journal),
             Err(fault) => refuse(alloc, fault, out, errors),
         },
         Err(WordsFault::NotUtf8) => put(errors, NOT_UTF_8, Status::CommandLine),
@@ -107,7 +107,7 @@ pub fn launch<I: In, O: Out, E: Out, J: Journal>(
 
 /// What the words ask for.
 #[derive(Clone, Copy, Debug, PartialEq, Eq)]
-enum Wish {
+enum Mode {
     /// The run of a job.
     Job(Options),
     /// A live run.
@@ -138,8 +138,8 @@ impl From<Error> for OptionsFault {
 }
 
 /// Returns what the words ask for.
-fn wish_of(alloc: Global, words: &[String]) -> Result<Wish, OptionsFault>
-    ensures wish { IfOk result (λ wish. IsWishOf wish words.now) }
+fn mode_of(alloc: Global, words: &[String]) -> Result<Mode, OptionsFault>
+    ensures wish { IfOk result (λ wish. IsModeOf wish words.now) }
     ensures alone { IfErr result (λ fault. is_live_alone fault ≡ true → asks_beside_live words.now ≡ true) }
 {
     let Values {
@@ -157,7 +157,7 @@ fn wish_of(alloc: Global, words: &[String]) -> Result<Wish, OptionsFault>
         boxed: asks(b"--boxes", words),
     };
     if !asks(b"--live", words) {
-        return job_wish(options, has_journal || asks(b"--sync", words));
+        return job_mode(options, has_journal || asks(b"--sync", words));
     }
     if is_live_refused(options) {
         return Err(OptionsFault::LiveAlone);
@@ -172,7 +172,7 @@ fn wish_of(alloc: Global, words: &[String]) -> Result<Wish, OptionsFault>
         named: options.named,
         oriented: options.oriented,
     };
-    Ok(Wish::Live(LiveOptions {
+    Ok(Mode::Live(LiveOptions {
         workers,
         strict: options.strict,
         showing,
@@ -180,14 +180,14 @@ fn wish_of(alloc: Global, words: &[String]) -> Result<Wish, OptionsFault>
 }
 
 /// Returns the run of a job, which has no journal.
-fn job_wish(options: Options, journaled: bool) -> Result<Wish, OptionsFault>
+fn job_mode(options: Options, journaled: bool) -> Result<Mode, OptionsFault>
     ensures wish { IfOk result (λ wish. wish ≡ Job options) }
     ensures alone { IfErr result (λ fault. is_live_alone fault ≡ false) }
 {
     if journaled {
         return Err(OptionsFault::JournalAlone);
     }
-    Ok(Wish::Job(options))
+    Ok(Mode::Job(options))
 }
 
 /// Returns whether an option is given that a live run doesn't take.

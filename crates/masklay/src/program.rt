@@ -30,8 +30,8 @@ use byte_io::{In, Out, put_all};
 use job_text::MAX_JOB;
 pub use live::{LiveOptions, live};
 pub use options::Options;
-use oriented::{Given, give_in_threads, give_in_turn};
-use outcome::Stop;
+use oriented::{JobOutput, give_in_threads, give_in_turn};
+use outcome::JobError;
 use output::{write_given, write_stop};
 use reading::{ReadFault, read_all};
 pub use status::Status;
@@ -39,7 +39,7 @@ use std::alloc::Global;
 use std::mem;
 use std::sync::Wait;
 use std::thread::Threads;
-use telling::{tell_of_input, tell_of_layout, tell_of_stop};
+use telling::{report_error, tell_of_input, tell_of_layout};
 
 /// Reads a job from the input, runs it and writes its replies, their order and the CIF text of the
 /// layout, all after the last step; or the line that says why there is none. Booleans are rounded in as
@@ -163,7 +163,7 @@ fn write_output<O: Out, E: Out>(
     alloc: Global,
     options: Options,
     bytes: &[u8],
-    given: Result<Given, Stop>,
+    given: Result<JobOutput, JobError>,
     out: &mut O,
     errors: &mut E,
 ) -> Status
@@ -181,7 +181,7 @@ fn write_output<O: Out, E: Out>(
         }
         Err(stop) => {
             let status = write_stop(alloc, stop, out);
-            tell_of_stop(alloc, options.bare, bytes, stop, status, errors);
+            report_error(alloc, options.bare, bytes, stop, status, errors);
             status
         }
     }

@@ -12,7 +12,7 @@ use Rattle.session_steps.specs.Turns.{in_turn}
 use Rattle.session_core.specs.Machine.{State, after_steps, step_outcome}
 use Rattle.job_text.specs.Order.{is_logged, order_behind}
 use Rattle.session_laws.specs.Rearranged as rearranged
-use Rattle.session_laws.specs.Rearranged.{HasMemory, HasSession, LeadsTo, dealt_out, dealt_scripts, hands_of}
+use Rattle.session_laws.specs.Rearranged.{HasMemory, HasSession, LeadsTo, dealt_out, dealt_scripts, replies_by_session}
 use Rattle.session_laws.proofs.Events.{Event, Events}
 use Rattle.session_laws.proofs.Swaps.{Swapped, all_same, behind, both, goes_on, none, own, own_same, swap}
 use Rattle.session_laws.proofs.Pulling.{callers, names, turned}
@@ -99,11 +99,11 @@ names_so (event ∷ events) = ap (λ ns. event.session ∷ ns) (names_so events)
 -- the replies of a run are dealt so
 pub hands_so : (sessions : ℕ) (steps : List (ℕ × Step)) (replies : List Reply) (events : Events) →
     turns_with (λ e. e.step) events ≡ steps → map (λ e. e.reply) events ≡ replies →
-    hands_of sessions (rearranged.names steps) replies ≡ dealt_out (turns_with (λ e. e.reply) events) (replicate sessions [])
+    replies_by_session sessions (rearranged.names steps) replies ≡ dealt_out (turns_with (λ e. e.reply) events) (replicate sessions [])
 hands_so sessions steps replies events steps_are replies_are =
-    ap (λ ss. hands_of sessions (rearranged.names ss) replies) (sym steps_are)
-    ∙ ap (λ rs. hands_of sessions (rearranged.names (turns_with (λ (e : Event Step Reply). e.step) events)) rs) (sym replies_are)
-    ∙ ap (λ ns. hands_of sessions ns (map (λ (e : Event Step Reply). e.reply) events)) (names_so events)
+    ap (λ ss. replies_by_session sessions (rearranged.names ss) replies) (sym steps_are)
+    ∙ ap (λ rs. replies_by_session sessions (rearranged.names (turns_with (λ (e : Event Step Reply). e.step) events)) rs) (sym replies_are)
+    ∙ ap (λ ns. replies_by_session sessions ns (map (λ (e : Event Step Reply). e.reply) events)) (names_so events)
     ∙ dealt_is events (replicate sessions [])
 
 -- each of these scripts is what its session takes of these events
@@ -124,11 +124,11 @@ module _ (sessions : ℕ) (scripts : List (List Step)) (steps : List (ℕ × Ste
       ∙ goes_so new old final (goes_on (system_of step_outcome) steps_swap swapped old final run.goes)
 
   pub leads_to : (order : List ℕ) → order ≡ names new →
-      LeadsTo sessions scripts order old final (hands_of sessions (rearranged.names steps) replies)
+      LeadsTo sessions scripts order old final (replies_by_session sessions (rearranged.names steps) replies)
   leads_to order is =
-      subst (λ ns. LeadsTo sessions scripts ns old final (hands_of sessions (rearranged.names steps) replies)) (sym is) (record {
+      subst (λ ns. LeadsTo sessions scripts ns old final (replies_by_session sessions (rearranged.names steps) replies)) (sym is) (record {
         state = ap (λ (r : List Reply × State). r.1) outcome;
-        replies = ap (λ (r : List Reply × State). hands_of sessions (names new) r.0) outcome
+        replies = ap (λ (r : List Reply × State). replies_by_session sessions (names new) r.0) outcome
             ∙ dealt_is new (replicate sessions [])
             ∙ same_dealt (λ e. e.reply) sessions events new (more_sessions (length scripts) sessions few events are) swapped
             ∙ sym (hands_so sessions steps replies events run.steps_are run.replies_are);

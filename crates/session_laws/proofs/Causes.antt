@@ -63,7 +63,7 @@ module _ (d : Desk) (seat : Seat) (asked : History → Option BookFault) where
   for_cause : (call : Call) (step : Step) (reply : Reply) (end : Seat)
       → ((h : History) → asked h ≡ Some LogFull → is_log_full h ≡ true)
       → (((h : History) → asked h ≡ Some Foreign → ⊥) ⊎ (step ≡ Commit))
-          → BookRefuses d seat (record { call = call; fault = asked }) reply end
+      → BookRefuses d seat (record { call = call; fault = asked }) reply end
       → IsForCause d seat.session (length seat.own) step reply
   for_cause call step reply end full own refused = record {
     full = λ is. full_for full

@@ -17,7 +17,7 @@ use Rattle.job_text.specs.Job.{order_fits}
 use Rattle.job_text.specs.Order.{is_logged, order_of}
 use Rattle.session_laws.specs.Rearranged as rearranged
 use Rattle.session_laws.specs.Rearranged.{HasMemory, HasSession, JobsAnswerAlike, LeadsTo}
-use Rattle.session_laws.specs.Rearranged.{StepsAnswerAlike, StepsComeInTurn, dealt_out, dealt_scripts, hands_of}
+use Rattle.session_laws.specs.Rearranged.{StepsAnswerAlike, StepsComeInTurn, dealt_out, dealt_scripts, replies_by_session}
 use Rattle.session_laws.proofs.Events.{Event, Events}
 use Rattle.session_laws.proofs.Swaps.{Swapped, own, own_before}
 use Rattle.session_laws.proofs.Pulling.{names, turned, turns, log_leads}
@@ -34,7 +34,7 @@ record Printed (sessions : ℕ) (steps : List (ℕ × Step)) (old : State) (even
   run : Run old (after_steps old steps).1 steps (after_steps old steps).0 events
   new : Events
   swapped : Swapped is_logged events new
-  printed : order_of (after_steps old steps).1.history.log (hands_of sessions (rearranged.names steps) (after_steps old steps).0)
+  printed : order_of (after_steps old steps).1.history.log (replies_by_session sessions (rearranged.names steps) (after_steps old steps).0)
       ≡ names new
 
 printed_events : (base : Layout) (sessions limit : ℕ) (steps : List (ℕ × Step)) → sessions ≤ 64 → AllByRecursion (IsOfOne sessions) steps →
@@ -61,10 +61,11 @@ printed_events base sessions limit steps few known =
 -- the printed order names each session as often, and in it the steps lead to the same
 abbrev Alike : ℕ → List (ℕ × Step) → State → List Reply × State → Type 0
 Alike sessions steps old end =
-    IsPermutation (rearranged.names steps) (order_of end.1.history.log (hands_of sessions (rearranged.names steps) end.0))
-    × LeadsTo sessions (dealt_scripts sessions steps) (order_of end.1.history.log (hands_of sessions (rearranged.names steps) end.0))
+    IsPermutation (rearranged.names steps) (order_of end.1.history.log (replies_by_session sessions (rearranged.names steps) end.0))
+    × LeadsTo sessions (dealt_scripts sessions steps)
+    (order_of end.1.history.log (replies_by_session sessions (rearranged.names steps) end.0))
     old end.1
-    (hands_of sessions (rearranged.names steps) end.0)
+    (replies_by_session sessions (rearranged.names steps) end.0)
 
 alike : (base : Layout) (sessions limit : ℕ) (steps : List (ℕ × Step)) → sessions ≤ 64 →
     AllByRecursion HasSession (after_steps (start base sessions limit) steps).0 →
@@ -75,7 +76,7 @@ alike base sessions limit steps few known = (
       (same_names events p.new p.swapped)),
   leads_to sessions (dealt_scripts sessions steps) steps end.0 old end.1 events p.new p.run (omega (arith, len))
       (subst (λ n. AreOf n events) (sym len) are) scripts_are p.swapped
-      (order_of end.1.history.log (hands_of sessions (rearranged.names steps) end.0)) p.printed,
+      (order_of end.1.history.log (replies_by_session sessions (rearranged.names steps) end.0)) p.printed,
 ) where
   old : State
   old = start base sessions limit
@@ -169,12 +170,12 @@ jobs_alike base sessions limit scripts order fewer few fitting = (
   subst (λ ns. order_fits scripts ns ≡ true) (sym printed_now)
       (fits_again scripts order (names p.new) fitting (subst (λ ns. IsPermutation ns (names p.new)) names_now
       (same_names events p.new p.swapped))),
-  subst (λ ns. LeadsTo sessions scripts (order_of end.1.history.log (hands_of sessions order end.0)) old end.1
-      (hands_of sessions ns end.0)) job.names_are
+  subst (λ ns. LeadsTo sessions scripts (order_of end.1.history.log (replies_by_session sessions order end.0)) old end.1
+      (replies_by_session sessions ns end.0)) job.names_are
       (leads_to sessions scripts steps end.0 old end.1 events p.new p.run fewer
       (are_so (length scripts) events (subst (AllByRecursion (IsOfOne (length scripts))) (sym p.run.steps_are) job.known))
       (λ index inside. job.scripts_are index inside ∙ ap (own_steps (suc index)) (sym p.run.steps_are) ∙ scripts_so (suc index) events)
-      p.swapped (order_of end.1.history.log (hands_of sessions order end.0)) printed_now),
+      p.swapped (order_of end.1.history.log (replies_by_session sessions order end.0)) printed_now),
 ) where
   old : State
   old = start base sessions limit
@@ -199,5 +200,5 @@ jobs_alike base sessions limit scripts order fewer few fitting = (
   names_now = sym (names_so events) ∙ ap rearranged.names p.run.steps_are ∙ job.names_are
 
   printed_now : order_of (after_steps (start base sessions limit) (in_turn order scripts)).1.history.log
-      (hands_of sessions order (after_steps (start base sessions limit) (in_turn order scripts)).0) ≡ names p.new
-  printed_now = ap (λ ns. order_of end.1.history.log (hands_of sessions ns end.0)) (sym job.names_are) ∙ p.printed
+      (replies_by_session sessions order (after_steps (start base sessions limit) (in_turn order scripts)).0) ≡ names p.new
+  printed_now = ap (λ ns. order_of end.1.history.log (replies_by_session sessions ns end.0)) (sym job.names_are) ∙ p.printed

@@ -31,13 +31,13 @@ StepsComeInTurn = (sessions : ℕ) (steps : List (ℕ × Step)) → All (λ step
     → in_turn (names steps) (dealt_scripts sessions steps) ≡ steps
 
 -- the replies to each, where the sessions took their steps in this order
-abbrev pub hands_of : ℕ → List ℕ → List Reply → List (List Reply)
-hands_of sessions order replies = dealt order replies (replicate sessions [])
+abbrev pub replies_by_session : ℕ → List ℕ → List Reply → List (List Reply)
+replies_by_session sessions order replies = dealt order replies (replicate sessions [])
 
 -- from the old state to the new: the steps of these scripts in this order lead there, and each session has these replies
 pub record LeadsTo (sessions : ℕ) (scripts : List (List Step)) (order : List ℕ) (old new : State) (hands : List (List Reply)) : Type 0 where
   pub state : (after_steps old (in_turn order scripts)).1 ≡ new
-  pub replies : hands_of sessions order (after_steps old (in_turn order scripts)).0 ≡ hands
+  pub replies : replies_by_session sessions order (after_steps old (in_turn order scripts)).0 ≡ hands
 
 -- the answer isn't out of memory
 abbrev pub HasMemory : Reply → Type 0
@@ -51,7 +51,7 @@ HasSession reply = reply ≢ Fault NoSession
 abbrev pub StepsAnswerAlike : Type 0
 StepsAnswerAlike = (base : Layout) (sessions limit : ℕ) (steps : List (ℕ × Step)) (replies : List Reply) (final : State)
     → sessions ≤ 64 → Ran (start base sessions limit) steps replies final → All HasMemory replies → All HasSession replies
-    → let hands = hands_of sessions (names steps) replies in
+    → let hands = replies_by_session sessions (names steps) replies in
     let printed = order_of final.history.log hands in
     IsPermutation (names steps) printed
     × LeadsTo sessions (dealt_scripts sessions steps) printed (start base sessions limit) final hands
@@ -61,6 +61,6 @@ abbrev pub JobsAnswerAlike : Type 0
 JobsAnswerAlike = (base : Layout) (sessions limit : ℕ) (scripts : List (List Step)) (order : List ℕ)
     → length scripts ≤ sessions → sessions ≤ 64 → order_fits scripts order ≡ true
     → let ran = after_steps (start base sessions limit) (in_turn order scripts) in
-    let hands = hands_of sessions order ran.0 in
+    let hands = replies_by_session sessions order ran.0 in
     let printed = order_of ran.1.history.log hands in
     (order_fits scripts printed ≡ true) × LeadsTo sessions scripts printed (start base sessions limit) ran.1 hands

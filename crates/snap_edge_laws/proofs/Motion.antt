@@ -7,7 +7,7 @@ use Rattle.snap_pixels.specs.declared.segment.Segment.{Segment}
 use Rattle.snap_pixels.specs.Pixels.{IsRoundedTo, HoldsPlace}
 use Rattle.snap_pixels.specs.Segments.{along, IsFraction}
 use Rattle.snap_edge_laws.specs.Areas.{IsConvex}
-use Rattle.snap_edge_laws.specs.Pieces.{sideways, IsOnPiece, HasEnd, first, second, third, fourth, HasEndMeanwhile}
+use Rattle.snap_edge_laws.specs.Pieces.{sideways, IsOnPiece, HasEnd, first, second, third, fourth, EndCrossesDiagonal}
 use Rattle.snap_edge_laws.specs.Edges.{IsBetween, IsEndpoint}
 use Rattle.lay_point.proofs.Polynomials.{#, ◌⊕◌, ◌⊖◌, ◌⊗◌, identity}
 use Rattle.lay_point.proofs.Signs.{linear, nonnegative_product, positive_product, below_or_not}
@@ -118,7 +118,7 @@ pub swap_ends : (p q r : Point) → ¬ (IsEndpoint p q r) → ¬ (IsEndpoint p r
 swap_ends p q r h e = h (⊎_elim inr inl e)
 
 no_end_sideways : (Hot : Point → Type 0) (s s' : Segment) (p q r t : Point) (k u v w z : ℤ) → AreApart Hot s s' p q r t k u v w z
-    → HasEndMeanwhile (place s k u) (place s' k v) (place s k w) (place s' k z) (p.x *ℤ k) (q.x *ℤ k) (r.x *ℤ k) (t.x *ℤ k) → ⊥
+    → EndCrossesDiagonal (place s k u) (place s' k v) (place s k w) (place s' k z) (p.x *ℤ k) (q.x *ℤ k) (r.x *ℤ k) (t.x *ℤ k) → ⊥
 no_end_sideways Hot s s' p q r t k u v w z h e = by_end e.end
   where
     by_end : HasEnd (sideways e.n e.i (place s k u) (p.x *ℤ k)) (sideways e.n e.i (place s' k v) (q.x *ℤ k))
@@ -163,7 +163,7 @@ convex_below : (Hot : Point → Type 0) (s s' : Segment) (p q r t : Point) (k u 
     → IsConvex (raised k (place s k u) p) (raised k (place s' k v) q) (raised k (place s k w) r) (raised k (place s' k z) t)
 convex_below Hot s s' p q r t k u v w z h convex = ⊎_elim
     (λ (back : IsConvex P T R Q). flipped_convex P T R Q back)
-    (λ (e : HasEndMeanwhile P T R Q (p.y *ℤ k) (t.y *ℤ k) (r.y *ℤ k) (q.y *ℤ k)).
+    (λ (e : EndCrossesDiagonal P T R Q (p.y *ℤ k) (t.y *ℤ k) (r.y *ℤ k) (q.y *ℤ k)).
     absurd (no_end_upwards Hot s s' p q r t k u v w z e.n e.i h e.time
     (flipped_end (upwards k e.n e.i (place s k u) p) (upwards k e.n e.i (place s' k v) q)
     (upwards k e.n e.i (place s k w) r) (upwards k e.n e.i (place s' k z) t) e.end)))

@@ -3,7 +3,7 @@
 use Rattle.std.proofs.Common.{◌≡◌, ◌⊎◌, inl, inr, List, [], ◌∷◌, ℤ, pos, ◌+ℤ◌, ◌-ℤ◌, ◌*ℤ◌, ◌≤ℤ◌, ◌<ℤ◌, refl, ap, ◌∙◌, arith, ⊎_elim}
 use Rattle.lay_point.specs.declared.point.Point.{Point}
 use Rattle.snap_edge_laws.specs.Areas.{area, IsConvex}
-use Rattle.snap_edge_laws.specs.Pieces.{HasEnd, first, second, third, fourth, with_x, sideways, HasEndMeanwhile}
+use Rattle.snap_edge_laws.specs.Pieces.{HasEnd, first, second, third, fourth, with_x, sideways, EndCrossesDiagonal}
 use Rattle.lay_point.proofs.Polynomials.{#, lit, ◌⊗◌, identity}
 use Rattle.lay_point.proofs.Signs.{linear, below_or_same}
 use Rattle.snap_edge_laws.proofs.Areas.{areas_balance, areas_weigh_y, area-sideways}
@@ -86,7 +86,7 @@ changes p q r t px qx rx tx =
     ∷ record { from = area r t p; to = area (with_x r rx) (with_x t tx) (with_x p px) } ∷ []
 
 at_stop : (p q r t : Point) (px qx rx tx : ℤ) → IsConvex (with_x p px) (with_x q qx) (with_x r rx) (with_x t tx)
-    → IsStop (changes p q r t px qx rx tx) → HasEndMeanwhile p q r t px qx rx tx
+    → IsStop (changes p q r t px qx rx tx) → EndCrossesDiagonal p q r t px qx rx tx
 unfolding changes SomeAreaZero
 at_stop p q r t px qx rx tx h s =
     let ep = area-sideways s.n s.t t p q tx px qx in
@@ -110,7 +110,7 @@ at_stop p q r t px qx rx tx h s =
     }
 
 pub convex_before : (p q r t : Point) (px qx rx tx : ℤ) → IsConvex (with_x p px) (with_x q qx) (with_x r rx) (with_x t tx)
-    → IsConvex p q r t ⊎ HasEndMeanwhile p q r t px qx rx tx
+    → IsConvex p q r t ⊎ EndCrossesDiagonal p q r t px qx rx tx
 unfolding changes
 convex_before p q r t px qx rx tx h = ⊎_elim
     (λ (s : AllStartPositive (changes p q r t px qx rx tx)).

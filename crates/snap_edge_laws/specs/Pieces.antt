@@ -32,7 +32,7 @@ abbrev pub sideways : ℤ → ℤ → Point → ℤ → Point
 sideways n i p x = record { x = along n i p.x x; y = p.y }
 
 -- an end is on the other diagonal at some time, while the points move to these x
-pub record HasEndMeanwhile (p q r t : Point) (px qx rx tx : ℤ) : Type 0 where
+pub record EndCrossesDiagonal (p q r t : Point) (px qx rx tx : ℤ) : Type 0 where
   pub n : ℤ
   pub i : ℤ
   pub time : IsFraction i n
@@ -41,4 +41,4 @@ pub record HasEndMeanwhile (p q r t : Point) (px qx rx tx : ℤ) : Type 0 where
 -- pieces that cross properly at the end of a sideways motion did so at its start, unless an end came to lie on the other piece
 abbrev pub PiecesTouchFirst : Type 0
 PiecesTouchFirst = (p q r t : Point) (px qx rx tx : ℤ) → IsConvex (with_x p px) (with_x q qx) (with_x r rx) (with_x t tx)
-    → IsConvex p q r t ⊎ HasEndMeanwhile p q r t px qx rx tx
+    → IsConvex p q r t ⊎ EndCrossesDiagonal p q r t px qx rx tx

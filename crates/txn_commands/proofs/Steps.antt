@@ -24,7 +24,7 @@ use Rattle.lay_layouts.specs.SameLayout.{id_eq, id_eq-Decides}
 use Rattle.txn_commands.specs.declared.record.CellRecord.{CellRecord}
 use Rattle.txn_commands.specs.declared.record.Record.{Record}
 use Rattle.txn_commands.specs.Changes.{Change, IsStep, change_map, change_of}
-use Rattle.txn_commands.specs.Records.{AreProper, afters, slot_afters, Lead, Records, applied, cell_record_of, recorded_change}
+use Rattle.txn_commands.specs.Records.{AreProper, applying, slot_afters, Lead, Records, applied, cell_record_of, recorded_change}
 use Rattle.txn_commands.specs.Records.{option_slot_eq, record_of, reverted, slot_change_at, records_between}
 use Rattle.lay_layouts.specs.Layout.{AreRising, SymbolWrite, put_all}
 use Rattle.txn_commands.proofs.Lists.{all_made}
@@ -218,7 +218,7 @@ rising_again R f g same (z ∷ []) rises = tt
 rising_again R f g same (z ∷ y ∷ zs) rises =
     ((λ i. R (sym (same z) i) (sym (same y) i)) ∙ rises.0, rising_again R f g same (y ∷ zs) rises.1)
 
-rising_records : (es : List (ItemId × Change items.Item)) → AreRising id_cmp es → AreRising id_cmp (afters (map record_of es))
+rising_records : (es : List (ItemId × Change items.Item)) → AreRising id_cmp es → AreRising id_cmp (applying (map record_of es))
 rising_records [] rises = tt
 rising_records (e ∷ []) rises = tt
 rising_records (e ∷ f ∷ es) rises = (rises.0, rising_records (f ∷ es) rises.1)
@@ -273,7 +273,7 @@ slot_writes_of value [] = refl
 slot_writes_of value (w ∷ ws) = ap (λ fs. (w.number, value (cell_entry_of w).1) ∷ fs) (slot_writes_of value ws)
 
 -- what records in order leave under an id
-item_after : (value : Change items.Item → Option items.Item) (l : Layout) (ws : List Record) → AreRising id_cmp (afters ws) →
+item_after : (value : Change items.Item → Option items.Item) (l : Layout) (ws : List Record) → AreRising id_cmp (applying ws) →
     (q : ItemId) →
     get (put_all l.items (writes_by value ws)) q ≡ unwrap_or (option_map value (recorded_change ws q)) (item_at l q)
 item_after value l ws rises q =

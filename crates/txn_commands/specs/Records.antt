@@ -57,12 +57,12 @@ slot_change_at (w ∷ ws) number =
     if w.number == number then Some (record { before = w.before; after = w.after }) else slot_change_at ws number
 
 -- the writes that apply the records
-abbrev pub afters : List Record → List Write
-afters records = map (λ w. (w.id, w.after)) records
+abbrev pub applying : List Record → List Write
+applying records = map (λ w. (w.id, w.after)) records
 
 -- those that revert them
-abbrev pub befores : List Record → List Write
-befores records = map (λ w. (w.id, w.before)) records
+abbrev pub reverting : List Record → List Write
+reverting records = map (λ w. (w.id, w.before)) records
 
 abbrev pub slot_afters : List CellRecord → List SymbolWrite
 slot_afters records = map (λ w. (w.number, w.after)) records
@@ -72,7 +72,7 @@ slot_befores records = map (λ w. (w.number, w.before)) records
 
 -- records in order, each of two different values
 pub record AreProper (records : Records) : Type 0 where
-  pub items : AreRising id_cmp (afters records.items)
+  pub items : AreRising id_cmp (applying records.items)
   pub symbols : AreRising nat_cmp (slot_afters records.symbols)
   pub items_differ : AllByRecursion (λ w. w.before ≢ w.after) records.items
   pub symbols_differ : AllByRecursion (λ w. w.before ≢ w.after) records.symbols
@@ -85,8 +85,8 @@ pub record Lead (records : Records) (old new : Layout) : Type 0 where
 
 -- the layout with the values after
 abbrev pub applied : Layout → Records → Layout
-applied layout records = rewritten layout (afters records.items) (slot_afters records.symbols)
+applied layout records = rewritten layout (applying records.items) (slot_afters records.symbols)
 
 -- the layout with the values before
 abbrev pub reverted : Layout → Records → Layout
-reverted layout records = rewritten layout (befores records.items) (slot_befores records.symbols)
+reverted layout records = rewritten layout (reverting records.items) (slot_befores records.symbols)

@@ -17,7 +17,7 @@ use Rattle.lay_layouts.specs.Layout.{AreRising, put}
 use Rattle.lay_layouts.specs.Same.{option_item_eq}
 use Rattle.lay_layouts.proofs.MapLemmas.{entries_again, get_lookup}
 use Rattle.txn_commands.specs.Changes.{Change, change_map, change_of}
-use Rattle.txn_commands.specs.Records.{AreProper, Records, befores, cell_record_of, option_slot_eq, record_of, recorded_change}
+use Rattle.txn_commands.specs.Records.{AreProper, Records, reverting, cell_record_of, option_slot_eq, record_of, recorded_change}
 use Rattle.txn_commands.specs.Records.{records_between}
 use Rattle.txn_commands.specs.Records.{slot_befores, slot_change_at}
 use Rattle.txn_rules.proofs.LawProofs.{changes_merge, slot_changes_merge}
@@ -131,7 +131,7 @@ symbol_kept es cs ds old number before after w view change sorted h =
     (λ q. h q ∙ ap (λ o. cond (is_at (nat_cmp number) q) o (lookup (is_at (nat_cmp q)) cs)) change))
 
 -- the values before are in order where those after are
-pub befores_rise : (records : Records) → AreProper records → AreRising id_cmp (befores records.items)
+pub befores_rise : (records : Records) → AreProper records → AreRising id_cmp (reverting records.items)
 befores_rise records proper =
     rising_again id_cmp (λ w. (w.id, w.after)) (λ w. (w.id, w.before)) (λ w. refl) records.items proper.items
 

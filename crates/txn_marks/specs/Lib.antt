@@ -1,5 +1,5 @@
 pub mod Coded
-pub mod Few
+pub mod OneOrMany
 pub mod Homes
 pub mod Kept
 pub mod Marks

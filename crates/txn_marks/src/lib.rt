@@ -17,7 +17,7 @@
 //!   grow. Contracts see the finite set of them.
 //! - [`Marks`] are what a history keeps of a transaction: its records, the elements that they meet, and
 //!   its footprint, in such lists.
-//! - [`Few`] is kept as one element in place, else as a `Vec`. Contracts see the list of its
+//! - [`OneOrMany`] is kept as one element in place, else as a `Vec`. Contracts see the list of its
 //!   elements.
 //!
 //! Whether two layouts have the same in each element of a footprint is [`agrees`], and whether some
@@ -27,21 +27,21 @@
 
 mod change;
 mod elements;
-mod few;
 mod footprint;
 mod listed;
 mod marks;
 mod met;
+mod one_or_many;
 mod records;
 mod same;
 mod values;
 mod writes;
 
 pub use change::{CellChange, ItemChange};
-pub use few::Few;
 pub use footprint::Footprint;
 pub use listed::Elements;
 pub use marks::Marks;
+pub use one_or_many::OneOrMany;
 pub use records::Records;
 pub use same::agrees;
 pub use writes::Writes;

@@ -3,8 +3,8 @@ ghost use Rattle.std.specs.Prelude.{◌≡◌, IfOk};
 ghost use Rattle.std.specs.FinSet as set;
 ghost use Rattle.txn_marks.specs.Homes.{AreMetBy};
 
-use crate::few::Few;
 use crate::footprint::Footprint;
+use crate::one_or_many::OneOrMany;
 use crate::records::Records;
 use lay_point::NoMemory;
 use std::alloc::Global;
@@ -15,7 +15,7 @@ use txn_commands::Element;
 /// for which a node of a tree is ten times as large. A sole one stands in place. Contracts see the finite set of them.
 #[derive(Debug, Drop)]
 pub struct Elements {
-    list: Few<Element>,
+    list: OneOrMany<Element>,
 }
 
 impl Model for Elements {
@@ -46,14 +46,14 @@ impl Elements {
         if tree.len() == 1
             && let Some(element) = tree.first()
         {
-            let list = Few::one(*element);
+            let list = OneOrMany::one(*element);
             return Ok(Elements { list });
         }
         let mut list = Vec::with_capacity(alloc, tree.len())?;
         for element in tree {
             list.push(*element)?;
         }
-        let list = Few::of(list);
+        let list = OneOrMany::of(list);
         Ok(Elements { list })
     }
 
@@ -72,7 +72,7 @@ impl Elements {
         let mut list = records.elements(alloc)?;
         list.sort_unstable();
         list.dedup();
-        let list = Few::of(list);
+        let list = OneOrMany::of(list);
         Ok(Elements { list })
     }
 

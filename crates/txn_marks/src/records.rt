@@ -14,9 +14,9 @@ ghost use Rattle.txn_marks.specs.Homes.{AreMetBy};
 
 use crate::change::{CellChange, ItemChange};
 use crate::elements::{add_items, add_symbols};
-use crate::few::Few;
 use crate::footprint::Footprint;
 use crate::met::{items_touch, symbols_touch};
+use crate::one_or_many::OneOrMany;
 use crate::values::{item_afters, item_befores, symbol_afters, symbol_befores};
 use crate::writes::Writes;
 use lay_items::Snapshot;
@@ -32,7 +32,7 @@ use txn_commands::Element;
 /// see the records, in order of ids and of numbers.
 #[derive(Debug, Drop)]
 pub struct Records {
-    items: Few<(ItemId, ItemChange)>,
+    items: OneOrMany<(ItemId, ItemChange)>,
     symbols: Vec<(u32, CellChange)>,
 }
 
@@ -153,15 +153,15 @@ impl Records {
 fn few_items(
     alloc: Global,
     items: &BTreeMap<ItemId, ItemChange>,
-) -> Result<Few<(ItemId, ItemChange)>, NoMemory>
+) -> Result<OneOrMany<(ItemId, ItemChange)>, NoMemory>
     ensures { IfOk result (λ list. list ≡ items.now.entries) }
 {
     if items.len() == 1
         && let Some((id, change)) = items.first_key_value()
     {
-        return Ok(Few::one((*id, change.clone()?)));
+        return Ok(OneOrMany::one((*id, change.clone()?)));
     }
-    Ok(Few::of(listed_items(alloc, items)?))
+    Ok(OneOrMany::of(listed_items(alloc, items)?))
 }
 
 /// Returns the changes of items in a list.

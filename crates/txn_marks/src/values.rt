@@ -1,6 +1,6 @@
 //! The writes that apply changes, and those that revert them.
 ghost use Rattle.std.specs.Prelude.{◌≡◌, IfOk, map};
-ghost use Rattle.txn_commands.specs.Records.{afters, befores, cell_record_of, record_of};
+ghost use Rattle.txn_commands.specs.Records.{applying, reverting, cell_record_of, record_of};
 ghost use Rattle.txn_commands.specs.Records.{slot_afters, slot_befores};
 
 use crate::change::{CellChange, ItemChange, cloned};
@@ -13,7 +13,7 @@ pub(crate) fn item_afters(
     alloc: Global,
     items: &[(ItemId, ItemChange)],
 ) -> Result<Vec<(ItemId, Option<Item>)>, NoMemory>
-    ensures { IfOk result (λ writes. writes.items ≡ afters (map record_of items.now)) }
+    ensures { IfOk result (λ writes. writes.items ≡ applying (map record_of items.now)) }
 {
     let mut writes = Vec::with_capacity(alloc, items.len())?;
     for (id, change) in items {
@@ -27,7 +27,7 @@ pub(crate) fn item_befores(
     alloc: Global,
     items: &[(ItemId, ItemChange)],
 ) -> Result<Vec<(ItemId, Option<Item>)>, NoMemory>
-    ensures { IfOk result (λ writes. writes.items ≡ befores (map record_of items.now)) }
+    ensures { IfOk result (λ writes. writes.items ≡ reverting (map record_of items.now)) }
 {
     let mut writes = Vec::with_capacity(alloc, items.len())?;
     for (id, change) in items {

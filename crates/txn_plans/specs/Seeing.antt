@@ -3,7 +3,7 @@ use Rattle.std.specs.Prelude.{◌≡◌, IfSome, option_copied}
 use Rattle.lay_layouts.specs.Layout.{Layout}
 use Rattle.lay_layouts.specs.Sound.{IsSound}
 use Rattle.txn_commands.specs.Records.{AreProper, Lead, Records, applied}
-use Rattle.txn_plans.specs.declared.seen.Seen.TheInside.{Inside}
+use Rattle.txn_plans.specs.declared.layout_view.LayoutView.TheInside.{Inside}
 
 abbrev pub seen_layout : Inside → Layout
 seen_layout s = applied s.snapshot.now s.writes.now

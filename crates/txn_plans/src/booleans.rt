@@ -13,7 +13,7 @@ ghost use Rattle.txn_plans.specs.Shaping.{command_result, fault_of_op, lists_in,
 
 use crate::act::{Act, Written};
 use crate::calls::cells_from;
-use crate::seen::Seen;
+use crate::layout_view::LayoutView;
 use band_workers::Bands;
 use face_rows::Op;
 use lay_cells::CellId;
@@ -28,7 +28,7 @@ use txn_commands::{CmdFault, Done, Element};
 
 /// What a Boolean is asked: the operation, the cell, the layers of both inputs, and that of the shapes.
 #[derive(Clone, Copy)]
-pub(crate) struct Asked {
+pub(crate) struct BoolArgs {
     pub(crate) op: Op,
     pub(crate) cell: CellId,
     pub(crate) a: LayerName,
@@ -36,12 +36,12 @@ pub(crate) struct Asked {
     pub(crate) out: LayerName,
 }
 
-impl Asked {
+impl BoolArgs {
     /// Returns what this operation of the first two layers below the cell is asked, for the last layer.
-    pub(crate) fn new(op: Op, cell: CellId, a: LayerName, b: LayerName, out: LayerName) -> Asked
+    pub(crate) fn new(op: Op, cell: CellId, a: LayerName, b: LayerName, out: LayerName) -> BoolArgs
         ensures { result ≡ record { op = op; cell = cell; a = a; b = b; out = out } }
     {
-        Asked {
+        BoolArgs {
             op,
             cell,
             a,
@@ -57,9 +57,9 @@ pub(crate) fn plan_bool(
     rt: &(impl Threads + Sync),
     alloc: Global,
     bands: &impl Bands,
-    seen: &Seen<'_>,
+    seen: &LayoutView<'_>,
     new: ItemId,
-    asked: Asked,
+    asked: BoolArgs,
 ) -> Result<Act, CmdFault>
     ensures { IsAnswer CmdFault.NoMemory result
         (plan new (command.Bool asked.op asked.cell asked.a asked.b asked.out) seen.now) }
@@ -75,7 +75,7 @@ fn shapes(
     alloc: Global,
     bands: &impl Bands,
     layout: &Snapshot,
-    asked: Asked,
+    asked: BoolArgs,
 ) -> Result<Vec<Vec<Ring>>, CmdFault>
     ensures { IsAnswer CmdFault.NoMemory (lists_in result)
         (command_result (bool_shapes layout.now asked.op asked.cell asked.a asked.b)) }
@@ -92,7 +92,7 @@ fn operation(
     alloc: Global,
     bands: &impl Bands,
     layout: &Snapshot,
-    asked: Asked,
+    asked: BoolArgs,
 ) -> Result<Vec<Vec<Ring>>, FlatFault>
     ensures { IsAnswer flat_fault.NoMemory (lists_in result)
         (bool_shapes layout.now asked.op asked.cell asked.a asked.b) }
@@ -134,7 +134,7 @@ fn replace_act(
     alloc: Global,
     layout: &Snapshot,
     new: ItemId,
-    asked: Asked,
+    asked: BoolArgs,
     shapes: Vec<Vec<Ring>>,
 ) -> Result<Act, NoMemory>
     ensures { IfOk result (λ act. act ≡ bool_act new
@@ -239,7 +239,7 @@ fn push_items(elements: &mut Vec<Element>, items: &[(ItemId, Option<Item>)]) -> 
 }
 
 /// Pushes the element of the cell, and that of its shapes on the layer on which they are replaced.
-fn push_cell(elements: &mut Vec<Element>, asked: Asked) -> Result<(), NoMemory>
+fn push_cell(elements: &mut Vec<Element>, asked: BoolArgs) -> Result<(), NoMemory>
     ensures { OnOk result (elements.new.items
         ≡ elements.old.items ++ (cell_elements asked.cell ++ Layer asked.cell asked.out ∷ [])) }
 {

@@ -10,7 +10,7 @@ ghost use Rattle.txn_commands.specs.Reach.{is_among, reached};
 ghost use Rattle.txn_plans.specs.Searching.{called_in, first_in, symbols_from, top_in};
 
 use crate::act::{Act, make_act};
-use crate::seen::Seen;
+use crate::layout_view::LayoutView;
 use lay_cells::{CellId, Cells};
 use lay_items::Snapshot;
 use lay_layouts::{Item, ItemId};
@@ -22,7 +22,7 @@ use txn_commands::{CmdFault, Element};
 #[tactic(auto, unfolding(txn_commands::specs::Plans::plan))]
 pub(crate) fn plan_place(
     alloc: Global,
-    seen: &Seen<'_>,
+    seen: &LayoutView<'_>,
     new: ItemId,
     cell: CellId,
     target: u32,

@@ -6,7 +6,7 @@ ghost use Rattle.txn_commands.specs.Plans.{is_used, plan};
 ghost use Rattle.txn_plans.specs.Using.{is_use};
 
 use crate::act::{Act, drop_cell_act, make_cell_act};
-use crate::seen::Seen;
+use crate::layout_view::LayoutView;
 use lay_cells::{CellId, MAX_SYMBOL};
 use lay_items::Snapshot;
 use lay_layouts::{Item, ItemId};
@@ -17,7 +17,7 @@ use txn_commands::CmdFault;
 #[tactic(auto, unfolding(txn_commands::specs::Plans::plan))]
 pub(crate) fn plan_make_cell(
     alloc: Global,
-    seen: &Seen<'_>,
+    seen: &LayoutView<'_>,
     new: ItemId,
     number: u32,
 ) -> Result<Act, CmdFault>
@@ -36,7 +36,7 @@ pub(crate) fn plan_make_cell(
 #[tactic(auto, unfolding(txn_commands::specs::Plans::plan))]
 pub(crate) fn plan_drop_cell(
     alloc: Global,
-    seen: &Seen<'_>,
+    seen: &LayoutView<'_>,
     new: ItemId,
     number: u32,
 ) -> Result<Act, CmdFault>

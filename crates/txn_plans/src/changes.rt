@@ -10,7 +10,7 @@ ghost use Rattle.txn_commands.specs.Plans.{plan};
 ghost use Rattle.txn_plans.specs.Moving.{item_moved, ring_moved, rings_moved};
 
 use crate::act::{Act, change_act, look_act};
-use crate::seen::Seen;
+use crate::layout_view::LayoutView;
 use lay_cells::CellId;
 use lay_layouts::{Item, ItemId, Rings};
 use lay_point::{LayerName, NoMemory, Point, Quarter, Ring, RingFault, Turn};
@@ -21,7 +21,7 @@ use txn_commands::CmdFault;
 #[tactic(auto, unfolding(txn_commands::specs::Plans::plan))]
 pub(crate) fn plan_delete(
     alloc: Global,
-    seen: &Seen<'_>,
+    seen: &LayoutView<'_>,
     new: ItemId,
     id: ItemId,
 ) -> Result<Act, CmdFault>
@@ -37,7 +37,7 @@ pub(crate) fn plan_delete(
 #[tactic(auto, unfolding(txn_commands::specs::Plans::plan))]
 pub(crate) fn plan_look(
     alloc: Global,
-    seen: &Seen<'_>,
+    seen: &LayoutView<'_>,
     new: ItemId,
     id: ItemId,
 ) -> Result<Act, CmdFault>
@@ -53,7 +53,7 @@ pub(crate) fn plan_look(
 #[tactic(auto, unfolding(txn_commands::specs::Plans::plan))]
 pub(crate) fn plan_layer(
     alloc: Global,
-    seen: &Seen<'_>,
+    seen: &LayoutView<'_>,
     new: ItemId,
     id: ItemId,
     layer: LayerName,
@@ -75,7 +75,7 @@ pub(crate) fn plan_layer(
 #[tactic(auto, unfolding(txn_commands::specs::Plans::plan))]
 pub(crate) fn plan_move(
     alloc: Global,
-    seen: &Seen<'_>,
+    seen: &LayoutView<'_>,
     new: ItemId,
     id: ItemId,
     dx: i32,

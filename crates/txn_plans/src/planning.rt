@@ -4,11 +4,11 @@ ghost use Rattle.lay_point.specs.Memory.{IsAnswer};
 ghost use Rattle.txn_commands.specs.Plans.{plan};
 
 use crate::act::Act;
-use crate::booleans::{Asked, plan_bool};
+use crate::booleans::{BoolArgs, plan_bool};
 use crate::calls::plan_place;
 use crate::cells::{plan_drop_cell, plan_make_cell};
 use crate::changes::{plan_delete, plan_layer, plan_look, plan_move};
-use crate::seen::Seen;
+use crate::layout_view::LayoutView;
 use crate::shapes::{plan_box, plan_poly};
 use band_workers::Bands;
 use lay_layouts::ItemId;
@@ -32,7 +32,7 @@ pub fn plan(
     rt: &(impl Threads + Sync),
     alloc: Global,
     bands: &impl Bands,
-    seen: &Seen<'_>,
+    seen: &LayoutView<'_>,
     new: ItemId,
     command: &Command,
 ) -> Result<Act, CmdFault>
@@ -59,7 +59,7 @@ pub fn plan(
             b,
             out,
         } => {
-            let asked = Asked::new(*op, *cell, *a, *b, *out);
+            let asked = BoolArgs::new(*op, *cell, *a, *b, *out);
             plan_bool(rt, alloc, bands, seen, new, asked)
         }
         Command::MakeCell(number) => plan_make_cell(alloc, seen, new, *number),

@@ -9,7 +9,7 @@ ghost use Rattle.txn_commands.specs.Figures.{box_ring, lower_left, shape_of, upp
 ghost use Rattle.txn_commands.specs.Plans.{fault_of_ring, plan};
 
 use crate::act::{Act, make_act};
-use crate::seen::Seen;
+use crate::layout_view::LayoutView;
 use lay_cells::CellId;
 use lay_layouts::{Item, ItemId, Rings};
 use lay_point::{LayerName, NoMemory, Point, Ring, RingFault};
@@ -20,7 +20,7 @@ use txn_commands::{CmdFault, Element};
 #[tactic(auto, unfolding(txn_commands::specs::Plans::plan))]
 pub(crate) fn plan_box(
     alloc: Global,
-    seen: &Seen<'_>,
+    seen: &LayoutView<'_>,
     new: ItemId,
     cell: CellId,
     layer: LayerName,
@@ -46,7 +46,7 @@ pub(crate) fn plan_box(
 #[tactic(auto, unfolding(txn_commands::specs::Plans::plan))]
 pub(crate) fn plan_poly(
     alloc: Global,
-    seen: &Seen<'_>,
+    seen: &LayoutView<'_>,
     new: ItemId,
     cell: CellId,
     layer: LayerName,

@@ -20,7 +20,7 @@ use std::marker::Model;
 use std::thread::Threads;
 use txn_commands::{CmdFault, Command, Done, MAX_COMMANDS, TxnId};
 use txn_marks::{Footprint, Marks, Writes};
-use txn_plans::{Act, Seen, plan};
+use txn_plans::{Act, LayoutView, plan};
 
 /// A transaction on a snapshot: its accepted commands, what they wrote and what they touched. It keeps in
 /// its type that its writes and its footprint are those of its commands, run on its snapshot.
@@ -230,10 +230,10 @@ impl Work {
     }
 
     /// Returns the layout as the transaction sees it.
-    fn seen(&self) -> Seen<'_>
+    fn seen(&self) -> LayoutView<'_>
         ensures { result ≡ (run_so_far self.now).layout }
     {
-        Seen::new(&self.snapshot, &self.writes, self.whole.as_ref())
+        LayoutView::new(&self.snapshot, &self.writes, self.whole.as_ref())
     }
 
     /// Keeps the layout as the transaction sees it, where the command needs it whole: it goes on with each

@@ -12,7 +12,7 @@ use Rattle.undo_rules.specs.Steps.{remarked}
 use Rattle.undo_rules.proofs.EqualLinks.{txn_eq-same}
 use Rattle.undo_rules.proofs.OpenLaws.{set_length}
 use Rattle.undo_rules.proofs.EqualLinks.{txn_eq-true}
-use Rattle.undo_book.specs.Changes.{AreChanges, changed_at, changed_of, earlier_at, earlier_of, earliers, first_change, is_of}
+use Rattle.undo_book.specs.Changes.{AreChanges, changed_at, changed_of, earlier_at, earlier_of, previous_changes, first_change, is_of}
 use Rattle.undo_book.specs.Changes.{is_unchanged_since}
 use Rattle.undo_book.specs.Changes.{kept_at, last_change, or_first}
 use Rattle.undo_book.specs.Places.{place_of}
@@ -33,17 +33,17 @@ last_pushed txn (x ∷ log) call =
       by false = refl
 
 earliers_pushed : (before calls : List Logged) (call : Logged) →
-    earliers before (calls ++ call ∷ []) ≡ earliers before calls ++ earlier_of (before ++ calls) (changed_in call) ∷ []
+    previous_changes before (calls ++ call ∷ []) ≡ previous_changes before calls ++ earlier_of (before ++ calls) (changed_in call) ∷ []
 earliers_pushed before [] call = ap (λ all. earlier_of all (changed_in call) ∷ []) (sym (append-nil before))
 earliers_pushed before (x ∷ calls) call =
     ap (λ rest. earlier_of before (changed_in x) ∷ rest)
     (earliers_pushed (before ++ x ∷ []) calls call
-    ∙ ap (λ all. earliers (before ++ x ∷ []) calls ++ earlier_of all (changed_in call) ∷ []) (append_assoc before (x ∷ []) calls))
+    ∙ ap (λ all. previous_changes (before ++ x ∷ []) calls ++ earlier_of all (changed_in call) ∷ []) (append_assoc before (x ∷ []) calls))
 
 -- ---- what is kept of one call
 
 earlier_read : (before calls : List Logged) (i : ℕ) (call : Logged) → slice_get calls i ≡ Some call →
-    slice_get (earliers before calls) i ≡ Some (earlier_of (before ++ take i calls) (changed_in call))
+    slice_get (previous_changes before calls) i ≡ Some (earlier_of (before ++ take i calls) (changed_in call))
 earlier_read before [] i call at = absurd cc
 earlier_read before (x ∷ calls) zero call at =
     let same : x ≡ call = cc in
@@ -52,7 +52,7 @@ earlier_read before (x ∷ calls) (suc i) call at =
     earlier_read (before ++ x ∷ []) calls i call at
     ∙ ap (λ all. Some (earlier_of all (changed_in call))) (append_assoc before (x ∷ []) (take i calls))
 
-long_earliers : (before calls : List Logged) → length (earliers before calls) ≡ length calls
+long_earliers : (before calls : List Logged) → length (previous_changes before calls) ≡ length calls
 long_earliers before [] = refl
 long_earliers before (x ∷ calls) = ap suc (long_earliers (before ++ x ∷ []) calls)
 
@@ -121,7 +121,7 @@ pub unchanged_kept : (earlier : List (Option ℕ)) (last : List ℕ) (log : List
     AreChanges earlier last log entries → changed_in call ≡ None → AreChanges (earlier ++ None ∷ []) last (log ++ call ∷ []) entries
 unchanged_kept earlier last log entries call are none = record {
   calls = ap (λ xs. xs ++ None ∷ []) are.calls
-      ∙ sym (earliers_pushed [] log call ∙ ap (λ o. earliers [] log ++ earlier_of log o ∷ []) none);
+      ∙ sym (earliers_pushed [] log call ∙ ap (λ o. previous_changes [] log ++ earlier_of log o ∷ []) none);
   named = λ txn. last_pushed txn log call ∙ ap (λ o. cond (is_of txn o) (Some (length log)) (last_change txn log)) none ∙ are.named txn;
   long = are.long;
 }
@@ -151,8 +151,8 @@ pub commit_kept : (earlier : List (Option ℕ)) (last : List ℕ) (log : List Lo
     AreChanges (earlier ++ None ∷ []) (last ++ length log ∷ []) (log ++ call ∷ []) (entries ++ entry ∷ [])
 commit_kept earlier last log entries call entry are changed apart = record {
   calls = ap (λ xs. xs ++ None ∷ []) are.calls
-      ∙ sym (earliers_pushed [] log call ∙ ap (λ o. earliers [] log ++ earlier_of log o ∷ []) changed
-      ∙ ap (λ o. earliers [] log ++ o ∷ []) first);
+      ∙ sym (earliers_pushed [] log call ∙ ap (λ o. previous_changes [] log ++ earlier_of log o ∷ []) changed
+      ∙ ap (λ o. previous_changes [] log ++ o ∷ []) first);
   named = λ txn. last_pushed txn log call
       ∙ ap (λ o. cond (is_of txn o) (Some (length log)) (last_change txn log)) changed ∙ by txn (txn_eq entry.txn txn) refl;
   long = length-append last (length log ∷ []) ∙ longer ∙ sym (length-append entries (entry ∷ []));
@@ -216,8 +216,8 @@ pub again_kept : (earlier : List (Option ℕ)) (last : List ℕ) (log : List Log
     AreChanges (earlier ++ slice_get last place ∷ []) (slice_set last place (length log)) (log ++ call ∷ []) (remarked live txn entries)
 again_kept earlier last log entries call txn place live are changed placed = record {
   calls = ap (λ xs. xs ++ slice_get last place ∷ []) are.calls
-      ∙ sym (earliers_pushed [] log call ∙ ap (λ o. earliers [] log ++ earlier_of log o ∷ []) changed
-      ∙ ap (λ o. earliers [] log ++ o ∷ []) (are.named txn ∙ ap (kept_at last) placed));
+      ∙ sym (earliers_pushed [] log call ∙ ap (λ o. previous_changes [] log ++ earlier_of log o ∷ []) changed
+      ∙ ap (λ o. previous_changes [] log ++ o ∷ []) (are.named txn ∙ ap (kept_at last) placed));
   named = λ name. last_pushed name log call
       ∙ ap (λ o. cond (is_of name o) (Some (length log)) (last_change name log)) changed
       ∙ by name (txn_eq txn name) refl ∙ sym (ap (kept_at (slice_set last place (length log))) (place_marked live txn entries name));

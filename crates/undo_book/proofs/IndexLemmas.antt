@@ -10,7 +10,7 @@ use Rattle.txn_commands.specs.declared.command.TxnId.{TxnId}
 use Rattle.undo_rules.specs.Links.{Entry, txn_eq}
 use Rattle.undo_rules.specs.Steps.{remarked}
 use Rattle.undo_rules.proofs.EqualLinks.{txn_eq-true}
-use Rattle.undo_book.specs.Places.{AreTheirPlaces, name_cmp, place_of}
+use Rattle.undo_book.specs.Places.{IndexesByName, name_cmp, place_of}
 use Rattle.undo_book.proofs.PlaceLemmas.{place_last, place_marked, place_pushed}
 
 -- names that the order doesn't distinguish are the same
@@ -20,16 +20,16 @@ same_name s t =
     ∙ (λ i. unsigned_tied s.session t.session i && unsigned_tied s.txn t.txn i)
 
 -- a mark leaves the tree as it is
-pub places_marked : (places : List (TxnId × ℕ)) (live : Bool) (txn : TxnId) (es : List Entry) → AreTheirPlaces places es →
-    AreTheirPlaces places (remarked live txn es)
+pub places_marked : (places : List (TxnId × ℕ)) (live : Bool) (txn : TxnId) (es : List Entry) → IndexesByName places es →
+    IndexesByName places (remarked live txn es)
 places_marked places live txn es are q = are q ∙ sym (place_marked live txn es q)
 
 -- a transaction under a new name goes into it
 pub places_pushed : (places new : List (TxnId × ℕ)) (es : List Entry) (e : Entry) (name : TxnId) (place : ℕ) → e.txn ≡ name →
-    place ≡ length es → AllByRecursion (λ other. txn_eq other.txn e.txn ≡ false) es → AreTheirPlaces places es →
+    place ≡ length es → AllByRecursion (λ other. txn_eq other.txn e.txn ≡ false) es → IndexesByName places es →
     ((q : TxnId) → lookup (is_at (name_cmp q)) new ≡ cond (is_at (name_cmp name) q) (Some place)
     (lookup (is_at (name_cmp q)) places))
-    → AreTheirPlaces new (es ++ e ∷ [])
+    → IndexesByName new (es ++ e ∷ [])
 places_pushed places new es e name place named last apart are h txn =
     h txn ∙ ap (λ b. cond b (Some place) (lookup (is_at (name_cmp txn)) places)) (same_name name txn)
     ∙ ap (λ n. cond (txn_eq n txn) (Some place) (lookup (is_at (name_cmp txn)) places)) (sym named)

@@ -19,7 +19,7 @@ use Rattle.txn_marks.proofs.AnyLemmas.{any_alike, any_none, any_swap}
 use Rattle.txn_marks.proofs.SetLemmas.{contains-back}
 use Rattle.undo_rules.specs.Links.{Entry, first_reader, marked}
 use Rattle.txn_commands.specs.Meets.{meets_touched}
-use Rattle.undo_index.specs.First.{IsFirst, first_some, look, looked_up_at, or_some}
+use Rattle.undo_index.specs.First.{IsFirst, find_map, look, looked_up_at, or_some}
 use Rattle.undo_index.specs.Listed.{AreAdded, AreRemoved, IsNew, Listed, is_made_by, is_others, nothing_listed, pair_cmp}
 use Rattle.undo_index.proofs.FirstLemmas.{first_alike, first_found}
 use Rattle.undo_index.proofs.FootprintLemmas.{any_so}
@@ -192,11 +192,11 @@ module _ (writes : Records) where
   abbrev pub named : Entry → Option TxnId
   named entry = cond (reads entry) (Some entry.txn) None
 
-  reader_some : (es : List Entry) → first_reader writes es ≡ first_some named es
+  reader_some : (es : List Entry) → first_reader writes es ≡ find_map named es
   reader_some [] = refl
   reader_some (entry ∷ es) = by (reads entry) (reader_some es) where
-    by : (b : Bool) → first_reader writes es ≡ first_some named es
-        → cond b (Some entry.txn) (first_reader writes es) ≡ or_some (cond b (Some entry.txn) None) (first_some named es)
+    by : (b : Bool) → first_reader writes es ≡ find_map named es
+        → cond b (Some entry.txn) (first_reader writes es) ≡ or_some (cond b (Some entry.txn) None) (find_map named es)
     by true rest = refl
     by false rest = rest
 

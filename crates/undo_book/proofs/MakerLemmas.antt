@@ -50,7 +50,7 @@ use Rattle.txn_commands.specs.Changes.{Change}
 use Rattle.txn_commands.specs.Elements.{Touched, element_cmp, element_eq, elements_total}
 use Rattle.txn_commands.specs.Lies.{lies, lies_slot, passes}
 use Rattle.txn_commands.specs.Meets.{meets, meets_cell, some_meets}
-use Rattle.txn_commands.specs.Records.{AreProper, Records, afters, record_of, recorded_change}
+use Rattle.txn_commands.specs.Records.{AreProper, Records, applying, record_of, recorded_change}
 use Rattle.txn_marks.proofs.ChangeLemmas.{change_there}
 use Rattle.undo_rules.specs.Links.{Entry}
 use Rattle.undo_index.specs.First.{IsFirst, has_place, lesser}
@@ -211,15 +211,15 @@ module _ (test : Element → Entry → Bool) (es : List Entry) where
 
 -- ---- what is under an id
 
-sorted_by_ids : (es : List (ItemId × Change Piece)) → keys_of (afters (map record_of es)) ≡ keys_of es
+sorted_by_ids : (es : List (ItemId × Change Piece)) → keys_of (applying (map record_of es)) ≡ keys_of es
 sorted_by_ids [] = refl
 sorted_by_ids (e ∷ es) = ap (λ ids. e.0 ∷ ids) (sorted_by_ids es)
 
 pub ids_sorted : (es : List (ItemId × Change Piece)) (records : Records) → map record_of es ≡ records.items → AreProper records →
     IsStrictlySortedBy id_cmp (keys_of es)
 ids_sorted es records are proper =
-    subst (λ (ids : List ItemId). IsStrictlySortedBy id_cmp ids) (ap (λ ws. keys_of (afters ws)) (sym are) ∙ sorted_by_ids es)
-    (rising_sorted (afters records.items) proper.items)
+    subst (λ (ids : List ItemId). IsStrictlySortedBy id_cmp ids) (ap (λ ws. keys_of (applying ws)) (sym are) ∙ sorted_by_ids es)
+    (rising_sorted (applying records.items) proper.items)
 
 -- a record that differs meets the item of its id alone
 meets_own : (id : ItemId) (w : Record) → w.before ≢ w.after → meets (Item id) w ≡ id_eq id w.id

@@ -17,11 +17,11 @@ use Rattle.txn_commands.specs.Meets.{meets_touched}
 use Rattle.undo_rules.specs.Links.{txn_eq}
 use Rattle.undo_rules.proofs.EqualLinks.{linked-all, txn_eq-same}
 use Rattle.undo_rules.proofs.Moved.{not_among, txn_eq-sym}
-use Rattle.undo_index.specs.First.{IsFirst, first_some, has_place, is_apart, look, looked_up_at, or_some}
+use Rattle.undo_index.specs.First.{IsFirst, find_map, has_place, is_apart, look, looked_up_at, or_some}
 use Rattle.undo_index.proofs.FirstLemmas.{first_alike, first_found}
 use Rattle.undo_rules.proofs.EqualLinks.{txn_eq-true}
 use Rattle.undo_book.specs.Indexed.{wrote}
-use Rattle.undo_book.specs.Places.{AreTheirPlaces, found_at as place_found, is_place, moved_at, named_at, place_of, stands_at}
+use Rattle.undo_book.specs.Places.{IndexesByName, found_at as place_found, is_place, moved_at, named_at, place_of, stands_at}
 use Rattle.undo_book.proofs.IndexedLemmas.{any_live, suc_suc, zero_suc}
 
 -- ---- one after the other
@@ -31,12 +31,12 @@ abbrev pub apart_in : List TxnId → List TxnId → Entry → Option TxnId
 apart_in one other entry = cond (is_named_in entry.txn one) (cond (is_named_in entry.txn other) None (Some entry.txn))
     (cond (is_named_in entry.txn other) (Some entry.txn) None)
 
-moved_some : (es : List Entry) (one other : List TxnId) → first_moved es one other ≡ first_some (apart_in one other) es
+moved_some : (es : List Entry) (one other : List TxnId) → first_moved es one other ≡ find_map (apart_in one other) es
 moved_some [] one other = refl
 moved_some (e ∷ es) one other = by (is_named_in e.txn one) (is_named_in e.txn other) (moved_some es one other) where
-  by : (a b : Bool) → first_moved es one other ≡ first_some (apart_in one other) es →
+  by : (a b : Bool) → first_moved es one other ≡ find_map (apart_in one other) es →
       cond a (cond b (first_moved es one other) (Some e.txn)) (cond b (Some e.txn) (first_moved es one other))
-      ≡ or_some (cond a (cond b None (Some e.txn)) (cond b (Some e.txn) None)) (first_some (apart_in one other) es)
+      ≡ or_some (cond a (cond b None (Some e.txn)) (cond b (Some e.txn) None)) (find_map (apart_in one other) es)
   by true true rest = rest
   by true false rest = refl
   by false true rest = refl
@@ -182,7 +182,7 @@ module _ (touched : Touched) (names : List TxnId) (es : List Entry) (places : Li
   abbrev pub was_seen : ℕ → Bool
   was_seen p = nat_lt p place && list_any (stands_at places p) names
 
-  seen_so : AreTheirPlaces places es → (p : ℕ) → list_any (stands_at places p) names ≡ list_any (λ name. is_place p (place_of name es))
+  seen_so : IndexesByName places es → (p : ℕ) → list_any (stands_at places p) names ≡ list_any (λ name. is_place p (place_of name es))
       names
   seen_so are p = any_alike (stands_at places p) (λ name. is_place p (place_of name es)) names (λ name. ap (is_place p) (are name))
 
@@ -194,7 +194,7 @@ module _ (touched : Touched) (names : List TxnId) (es : List Entry) (places : Li
     by None = any_none (items touched)
     by (Some entry) = any_live entry.writes entry.live (some_meets entry.writes) (items touched)
 
-  apart_so : AreTheirPlaces places es → AreNamed (map trace_of es) → (p : ℕ) →
+  apart_so : IndexesByName places es → AreNamed (map trace_of es) → (p : ℕ) →
       is_apart (is_linked p) (was_seen p) ≡ is_some (look f (slice_get before p))
   apart_so are named p = by (nat_lt p place) refl (slice_get es p) refl where
     by : (b : Bool) → nat_lt p place ≡ b → (o : Option Entry) → slice_get es p ≡ o →
@@ -242,7 +242,7 @@ module _ (touched : Touched) (names : List TxnId) (es : List Entry) (places : Li
           let none : Some entry ≡ None = sym at ∙ past es place p high in
           absurd cc
 
-  pub moved_found : AreTheirPlaces places es → AreNamed (map trace_of es) → (o : Option ℕ) →
+  pub moved_found : IndexesByName places es → AreNamed (map trace_of es) → (o : Option ℕ) →
       IsFirst (λ p. is_apart (is_linked p) (was_seen p)) 0 o → named_at es o ≡ first_moved before (links_to before touched) names
   moved_found are named o first =
       let alike = first_alike (λ p. is_apart (is_linked p) (was_seen p)) (λ p. is_some (look f (slice_get before p))) 0 o
@@ -252,7 +252,7 @@ module _ (touched : Touched) (names : List TxnId) (es : List Entry) (places : Li
 -- the same of the places that two lists have
 pub moved_here : (es : List Entry) (places : List (TxnId × ℕ)) (place : ℕ) (entry : Entry) (touched : Touched)
     (names : List TxnId) (linked seen : List ℕ) (o : Option ℕ) → slice_get es place ≡ Some entry → touched ≡ entry.footprint →
-    names ≡ entry.seen → AreTheirPlaces places es → AreNamed (map trace_of es) →
+    names ≡ entry.seen → IndexesByName places es → AreNamed (map trace_of es) →
     ((p : ℕ) → has_place linked p ≡ (nat_lt p place && list_any (λ e. passes (wrote e) (slice_get es p)) (items touched))) →
     ((p : ℕ) → has_place seen p ≡ (nat_lt p place && list_any (stands_at places p) names)) →
     IsFirst (λ p. is_apart (has_place linked p) (has_place seen p)) 0 o → named_at es o ≡ moved_at (place_found es place)

@@ -6,7 +6,7 @@ use Rattle.undo_index.specs.Listed.{Listed}
 use Rattle.undo_book.specs.declared.book.Book.TheInside.{Inside}
 use Rattle.undo_book.specs.Books.{IsBook, history_of}
 use Rattle.undo_book.specs.Indexed.{AreIndexed}
-use Rattle.undo_book.specs.Places.{AreTheirPlaces}
+use Rattle.undo_book.specs.Places.{IndexesByName}
 use Rattle.undo_book.proofs.ChangeLemmas.{same_lists}
 use Rattle.undo_book.proofs.SinceLemmas.{same_commits}
 
@@ -20,8 +20,8 @@ pub same_book : (b n : Inside) → history_of n ≡ history_of b → n.places.en
     n.changes.again ≡ b.changes.again → n.index.writers ≡ b.index.writers → n.index.readers ≡ b.index.readers → IsBook b → IsBook n
 same_book b n history places earlier last again writers readers is = record {
   history = subst (λ (h : History). IsHistory h) (sym history) is.history;
-  places = subst (λ ps. AreTheirPlaces ps n.entries.items) (sym places)
-      (subst (λ (h : History). AreTheirPlaces b.places.entries h.entries) (sym history) is.places);
+  places = subst (λ ps. IndexesByName ps n.entries.items) (sym places)
+      (subst (λ (h : History). IndexesByName b.places.entries h.entries) (sym history) is.places);
   changes = same_lists earlier last (ap (λ (h : History). h.log) history) (ap (λ (h : History). h.entries) history) is.changes;
   commits = same_commits again last (ap (λ (h : History). h.log) history) (ap (λ (h : History). h.entries) history) is.commits;
   index = same_index writers readers (ap (λ (h : History). h.entries) history) is.index;

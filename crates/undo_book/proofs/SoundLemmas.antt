@@ -15,7 +15,7 @@ use Rattle.undo_rules.proofs.Grounds.{ran_proper}
 use Rattle.undo_rules.proofs.Roots.{root_of}
 use Rattle.undo_rules.proofs.Undoing.{chain_sound}
 use Rattle.undo_book.specs.Indexed.{CanBeLookedUp}
-use Rattle.undo_book.specs.Places.{AreTheirPlaces}
+use Rattle.undo_book.specs.Places.{IndexesByName}
 
 pub kept_sound : (log : List Logged) (base layout : Layout) (entries : List Entry) → AreKept log base layout entries → IsSound base
     → IsSound layout
@@ -36,7 +36,7 @@ rooted_proper log base earlier marks (entry ∷ entries) (root, links, rest) = (
 )
 
 -- so transactions are found by their names, and in what one wrote an item by its id
-pub kept_found : (h : History) (places : List (TxnId × ℕ)) (es : List Entry) → IsHistory h → AreTheirPlaces places h.entries →
+pub kept_found : (h : History) (places : List (TxnId × ℕ)) (es : List Entry) → IsHistory h → IndexesByName places h.entries →
     es ≡ h.entries → CanBeLookedUp places es
 kept_found h places es is are same = subst (CanBeLookedUp places) (sym same) (record {
   places = are;

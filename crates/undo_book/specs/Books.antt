@@ -3,7 +3,7 @@ use Rattle.undo_rules.specs.Books.{History, IsHistory}
 use Rattle.undo_book.specs.declared.book.Book.TheInside.{Inside}
 use Rattle.undo_book.specs.Changes.{AreChanges, AreCommits}
 use Rattle.undo_book.specs.Indexed.{AreIndexed}
-use Rattle.undo_book.specs.Places.{AreTheirPlaces}
+use Rattle.undo_book.specs.Places.{IndexesByName}
 
 -- a book as its history
 abbrev pub history_of : Inside → History
@@ -20,7 +20,7 @@ history_of b = record {
 -- there are only commits, and who of the live ones wrote and touched what
 pub record IsBook (b : Inside) : Type 0 where
   pub history : IsHistory (history_of b)
-  pub places : AreTheirPlaces b.places.entries b.entries.items
+  pub places : IndexesByName b.places.entries b.entries.items
   pub changes : AreChanges b.changes.earlier.items b.changes.last.items b.log.items b.entries.items
   pub commits : AreCommits b.changes.again b.changes.last.items b.log.items b.entries.items
   pub index : AreIndexed b.index.writers b.index.readers b.entries.items

@@ -28,9 +28,9 @@ earlier_of before None = None
 earlier_of before (Some txn) = last_change txn before
 
 -- of each of these calls, behind others, the place of the last one before it that changed the same transaction
-abbrev pub earliers : List Logged → List Logged → List (Option ℕ)
-earliers before [] = []
-earliers before (call ∷ calls) = earlier_of before (changed_in call) ∷ earliers (before ++ call ∷ []) calls
+abbrev pub previous_changes : List Logged → List Logged → List (Option ℕ)
+previous_changes before [] = []
+previous_changes before (call ∷ calls) = earlier_of before (changed_in call) ∷ previous_changes (before ++ call ∷ []) calls
 
 -- what is kept at a place
 abbrev pub kept_at : List ℕ → Option ℕ → Option ℕ
@@ -40,7 +40,7 @@ kept_at last (Some place) = slice_get last place
 -- of each call the place of the earlier change is kept, and of each committed transaction that of its last change; no other
 -- transaction was changed
 pub record AreChanges (earlier : List (Option ℕ)) (last : List ℕ) (log : List Logged) (entries : List Entry) : Type 0 where
-  pub calls : earlier ≡ earliers [] log
+  pub calls : earlier ≡ previous_changes [] log
   pub named : (txn : TxnId) → last_change txn log ≡ kept_at last (place_of txn entries)
   pub long : length last ≡ length entries
 

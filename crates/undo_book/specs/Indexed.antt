@@ -12,7 +12,7 @@ use Rattle.undo_rules.specs.Links.{AreNamed, Entry, trace_of}
 use Rattle.txn_commands.specs.Meets.{meets_touched}
 use Rattle.txn_marks.specs.Homes.{AreMetBy}
 use Rattle.undo_index.specs.Listed.{Listed, is_listed, is_made_by}
-use Rattle.undo_book.specs.Places.{AreTheirPlaces}
+use Rattle.undo_book.specs.Places.{IndexesByName}
 
 -- the transaction is live, and its records meet the element
 abbrev pub wrote : Element → Entry → Bool
@@ -41,7 +41,7 @@ pub record AreIndexed (wrote_by read_by : Listed) (entries : List Entry) : Type 
 
 -- transactions are found by their names, and in what one wrote an item by its id
 pub record CanBeLookedUp (by_name : List (TxnId × ℕ)) (entries : List Entry) : Type 0 where
-  pub places : AreTheirPlaces by_name entries
+  pub places : IndexesByName by_name entries
   pub named : AreNamed (map trace_of entries)
   pub proper : AllByRecursion (λ entry. AreProper entry.writes) entries
 

@@ -46,8 +46,8 @@ abbrev pub maker_of : ItemId → TxnId
 maker_of id = record { session = id.session; txn = id.txn }
 
 -- under each name stands the place of its transaction, and under no other name a place
-abbrev pub AreTheirPlaces : List (TxnId × ℕ) → List Entry → Type 0
-AreTheirPlaces places entries = (txn : TxnId) → lookup (is_at (name_cmp txn)) places ≡ place_of txn entries
+abbrev pub IndexesByName : List (TxnId × ℕ) → List Entry → Type 0
+IndexesByName places entries = (txn : TxnId) → lookup (is_at (name_cmp txn)) places ≡ place_of txn entries
 
 -- under one more name stands a place
 abbrev pub IsPutUnder : TxnId → ℕ → List (TxnId × ℕ) → List (TxnId × ℕ) → Type 0

@@ -5,7 +5,7 @@ use Rattle.std.specs.List.{list_any}
 use Rattle.std.specs.Prelude.{is_some, nat_lt}
 use Rattle.std.proofs.lemmas.Bool.Decides.{nat_tests}
 use Rattle.std.proofs.lemmas.Bool.{or_from, or_left, or_right}
-use Rattle.undo_index.specs.First.{IsFirst, first_some, lesser, look, looked_up_at, or_some}
+use Rattle.undo_index.specs.First.{IsFirst, find_map, lesser, look, looked_up_at, or_some}
 
 -- ---- the lesser one of two
 
@@ -45,36 +45,36 @@ first_alike t u from (Some a) same first = (first.0, sym (same a) ∙ first.1, �
 -- ---- what a list has at its first place
 
 module _ {X Y : Type 0} (f : X → Option Y) where
-  pub none_first : (xs : List X) (n : ℕ) → ((p : ℕ) → n ≤ p → is_some (look f (slice_get xs p)) ≡ false) → first_some f (drop n xs) ≡ None
+  pub none_first : (xs : List X) (n : ℕ) → ((p : ℕ) → n ≤ p → is_some (look f (slice_get xs p)) ≡ false) → find_map f (drop n xs) ≡ None
   none_first [] zero none = refl
   none_first [] (suc n) none = refl
   none_first (x ∷ xs) (suc n) none = none_first xs n (λ p less. none (suc p) (omega (arith, less)))
   none_first (x ∷ xs) zero none = by (f x) (none 0 (omega arith)) (none_first xs 0 (λ p less. none (suc p) (omega arith))) where
-    by : (o : Option Y) → is_some o ≡ false → first_some f xs ≡ None → or_some o (first_some f xs) ≡ None
+    by : (o : Option Y) → is_some o ≡ false → find_map f xs ≡ None → or_some o (find_map f xs) ≡ None
     by None h rest = rest
     by (Some y) h rest = absurd cc
 
   pub some_first : (xs : List X) (n a : ℕ) → n ≤ a → is_some (look f (slice_get xs a)) ≡ true →
-      ((p : ℕ) → n ≤ p → p < a → is_some (look f (slice_get xs p)) ≡ false) → first_some f (drop n xs) ≡ look f (slice_get xs a)
+      ((p : ℕ) → n ≤ p → p < a → is_some (look f (slice_get xs p)) ≡ false) → find_map f (drop n xs) ≡ look f (slice_get xs a)
   some_first [] n a less there none = absurd cc
   some_first (x ∷ xs) (suc n) zero less there none = absurd (omega (arith, less))
   some_first (x ∷ xs) (suc n) (suc a) less there none =
       some_first xs n a (omega (arith, less)) there (λ p low high. none (suc p) (omega (arith, low)) (omega (arith, high)))
   some_first (x ∷ xs) zero zero less there none = by (f x) there where
-    by : (o : Option Y) → is_some o ≡ true → or_some o (first_some f xs) ≡ o
+    by : (o : Option Y) → is_some o ≡ true → or_some o (find_map f xs) ≡ o
     by None h = absurd cc
     by (Some y) h = refl
   some_first (x ∷ xs) zero (suc a) less there none =
       by (f x) (none 0 (omega arith) (omega arith))
       (some_first xs 0 a (omega arith) there (λ p low high. none (suc p) (omega arith) (omega (arith, high)))) where
-        by : (o : Option Y) → is_some o ≡ false → first_some f xs ≡ look f (slice_get xs a)
-            → or_some o (first_some f xs) ≡ look f (slice_get xs a)
+        by : (o : Option Y) → is_some o ≡ false → find_map f xs ≡ look f (slice_get xs a)
+            → or_some o (find_map f xs) ≡ look f (slice_get xs a)
         by None h rest = rest
         by (Some y) h rest = absurd cc
 
   -- the first place that passes tells what is found first
   pub first_found : (xs : List X) (n : ℕ) (o : Option ℕ) → IsFirst (λ p. is_some (look f (slice_get xs p))) n o →
-      first_some f (drop n xs) ≡ looked_up_at f xs o
+      find_map f (drop n xs) ≡ looked_up_at f xs o
   first_found xs n None first = none_first xs n first
   first_found xs n (Some a) first = some_first xs n a first.0 first.1 first.2
 

@@ -14,9 +14,9 @@ use Rattle.lay_layouts.proofs.SlotLemmas.{is_eq-then}
 use Rattle.txn_commands.specs.declared.element.Element.{Element}
 use Rattle.txn_commands.specs.Elements.{element_cmp, element_eq, elements_exact, elements_total}
 use Rattle.txn_marks.proofs.AnyLemmas.{any_alike, any_map}
-use Rattle.undo_index.specs.declared.kept.Kept.{Kept}
+use Rattle.undo_index.specs.declared.place_set.PlaceSet.{PlaceSet}
 use Rattle.undo_index.specs.First.{IsFirst, has_place}
-use Rattle.undo_index.specs.Kept.{places_of}
+use Rattle.undo_index.specs.PlaceSet.{places_of}
 use Rattle.undo_index.proofs.FirstLemmas.{first_alike}
 use Rattle.undo_index.proofs.RangeLemmas.{any_and, any_filter}
 use Rattle.lay_point.proofs.BoolLaws.{and-false}
@@ -56,12 +56,12 @@ in_others e k p ks =
     ∙ ap (λ b. not (element_eq e k) && b) (sym (is_eq-then (element_cmp e q.0) (nat_cmp p q.1))))
     ∙ any_and (not (element_eq e k)) (is_at (pair_cmp (e, p))) ks
 
-chosen : (b : Bool) (kept : Kept) (o : Option Kept) (p : ℕ) →
+chosen : (b : Bool) (kept : PlaceSet) (o : Option PlaceSet) (p : ℕ) →
     ((b && has_place (places_of kept) p) || (not b && is_one_of o p)) ≡ is_one_of (cond b (Some kept) o) p
 chosen true kept o p = or-false (has_place (places_of kept) p)
 chosen false kept o p = refl
 
-pairs_have : (es : List (Element × Kept)) (e : Element) (p : ℕ) →
+pairs_have : (es : List (Element × PlaceSet)) (e : Element) (p : ℕ) →
     list_any (is_at (pair_cmp (e, p))) (pairs_of es) ≡ is_one_of (lookup (is_at (element_cmp e)) es) p
 pairs_have [] e p = refl
 pairs_have ((k, kept) ∷ es) e p =
@@ -71,17 +71,17 @@ pairs_have ((k, kept) ∷ es) e p =
     ∙ chosen (element_eq e k) kept (lookup (is_at (element_cmp e)) es) p
 
 -- under an element stand its places
-pub listed_kept : (m : BTreeMap Element Kept) (e : Element) (p : ℕ) → is_listed (listed_in_parts m) e p ≡ is_kept m e p
+pub listed_kept : (m : BTreeMap Element PlaceSet) (e : Element) (p : ℕ) → is_listed (listed_in_parts m) e p ≡ is_kept m e p
 listed_kept m e p = contains-from_list pairs_total (pairs_of m.entries) (e, p) ∙ pairs_have m.entries e p
 
 -- ---- the places of one element changed
 
 -- the element has these places now, where there are any, and the others have theirs
-abbrev pub IsTurned : BTreeMap Element Kept → BTreeMap Element Kept → Element → Option Kept → Type 0
+abbrev pub IsTurned : BTreeMap Element PlaceSet → BTreeMap Element PlaceSet → Element → Option PlaceSet → Type 0
 IsTurned m n x o = (q : Element) → get element_cmp n q ≡ cond (is_at (element_cmp x) q) o (get element_cmp m q)
 
 -- turned once more, the last turn counts
-pub turned_twice : (m n k : BTreeMap Element Kept) (x : Element) (o u : Option Kept) → IsTurned m n x o → IsTurned n k x u →
+pub turned_twice : (m n k : BTreeMap Element PlaceSet) (x : Element) (o u : Option PlaceSet) → IsTurned m n x o → IsTurned n k x u →
     IsTurned m k x u
 turned_twice m n k x o u first second q =
     second q ∙ ap (cond (is_at (element_cmp x) q) u) (first q) ∙ by (is_at (element_cmp x) q) where
@@ -94,7 +94,7 @@ other_way e x = (eq_by_cmp_equiv elements_total).symm e x
 
 -- F tells what is listed, by whether a pair is the one that changes and whether it was listed
 module _ (F : Bool → Bool → Bool) (idle : (o : Bool) → F false o ≡ o) where
-  turned : (m n : BTreeMap Element Kept) (x : Element) (place : ℕ) (o : Option Kept) (new : Listed)
+  turned : (m n : BTreeMap Element PlaceSet) (x : Element) (place : ℕ) (o : Option PlaceSet) (new : Listed)
       → ((e : Element) (p : ℕ) → is_listed new e p ≡ F (element_eq e x && (p == place)) (is_listed (listed_in_parts m) e p))
       → IsTurned m n x o → ((p : ℕ) → is_one_of o p ≡ F (p == place) (is_kept m x p)) → listed_in_parts n ≡ new
   turned m n x place o new is turns has = same_listed (listed_in_parts n) new each where
@@ -111,31 +111,31 @@ module _ (F : Bool → Bool → Bool) (idle : (o : Bool) → F false o ≡ o) wh
         listed_kept n e p ∙ ap (λ o. is_one_of o p) (turns e) ∙ own e p (element_eq x e) refl
         ∙ ap (F (element_eq e x && (p == place))) (sym (listed_kept m e p)) ∙ sym (is e p)
 
-module _ (m n : BTreeMap Element Kept) (x : Element) where
-  pub kept_more : (place : ℕ) (kept : Kept) → IsTurned m n x (Some kept)
+module _ (m n : BTreeMap Element PlaceSet) (x : Element) where
+  pub kept_more : (place : ℕ) (kept : PlaceSet) → IsTurned m n x (Some kept)
       → ((p : ℕ) → has_place (places_of kept) p ≡ ((p == place) || is_kept m x p))
       → listed_in_parts n ≡ insert (listed_in_parts m) (x, place)
   kept_more place kept turns more =
       turned (λ b o. b || o) (λ o. refl) m n x place (Some kept) (insert (listed_in_parts m) (x, place))
       (λ e p. listed_more (listed_in_parts m) x e place p) turns more
 
-  pub kept_less : (place : ℕ) (o : Option Kept) → IsTurned m n x o
+  pub kept_less : (place : ℕ) (o : Option PlaceSet) → IsTurned m n x o
       → ((p : ℕ) → is_one_of o p ≡ (not (p == place) && is_kept m x p)) → listed_in_parts n ≡ remove (listed_in_parts m) (x, place)
   kept_less place o turns less =
       turned (λ b o. not b && o) (λ o. refl) m n x place o (remove (listed_in_parts m) (x, place))
       (λ e p. listed_less (listed_in_parts m) x e place p) turns less
 
-  pub kept_same : (kept : Kept) → IsTurned m n x (Some kept) → ((p : ℕ) → has_place (places_of kept) p ≡ is_kept m x p) →
+  pub kept_same : (kept : PlaceSet) → IsTurned m n x (Some kept) → ((p : ℕ) → has_place (places_of kept) p ≡ is_kept m x p) →
       listed_in_parts n ≡ listed_in_parts m
   kept_same kept turns same = turned (λ b o. o) (λ o. refl) m n x 0 (Some kept) (listed_in_parts m) (λ e p. refl) turns same
 
 -- the places found are those of the element
-pub places_found : (m : BTreeMap Element Kept) (x : Element) (o : Option Kept) → o ≡ get element_cmp m x → (p : ℕ) →
+pub places_found : (m : BTreeMap Element PlaceSet) (x : Element) (o : Option PlaceSet) → o ≡ get element_cmp m x → (p : ℕ) →
     is_one_of o p ≡ is_kept m x p
 places_found m x o is p = ap (λ o. is_one_of o p) is
 
 -- an element with no place has none to remove
-pub none_less : (m : BTreeMap Element Kept) (x : Element) (place : ℕ) → None ≡ get element_cmp m x →
+pub none_less : (m : BTreeMap Element PlaceSet) (x : Element) (place : ℕ) → None ≡ get element_cmp m x →
     listed_in_parts m ≡ remove (listed_in_parts m) (x, place)
 none_less m x place none = kept_less m m x place None turns less where
   less : (p : ℕ) → false ≡ (not (p == place) && is_kept m x p)
@@ -154,7 +154,7 @@ on_err (Err y) h = h
 
 -- ---- looked up
 
-module _ (m : BTreeMap Element Kept) (l : Listed) (view : listed_in_parts m ≡ l) (x : Element) (o : Option Kept)
+module _ (m : BTreeMap Element PlaceSet) (l : Listed) (view : listed_in_parts m ≡ l) (x : Element) (o : Option PlaceSet)
     (is : o ≡ get element_cmp m x) where
   listed_so : (p : ℕ) → is_one_of o p ≡ is_listed l x p
   listed_so p = places_found m x o is p ∙ sym (listed_kept m x p) ∙ ap (λ (y : Listed). is_listed y x p) view

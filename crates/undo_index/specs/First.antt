@@ -58,9 +58,9 @@ or_some None other = other
 or_some (Some y) other = Some y
 
 -- what is found of the first of these items of which something is
-abbrev pub first_some : {X Y : Type 0} → (X → Option Y) → List X → Option Y
-first_some f [] = None
-first_some f (x ∷ xs) = or_some (f x) (first_some f xs)
+abbrev pub find_map : {X Y : Type 0} → (X → Option Y) → List X → Option Y
+find_map f [] = None
+find_map f (x ∷ xs) = or_some (f x) (find_map f xs)
 
 -- what is found of the item at a place
 abbrev pub looked_up_at : {X Y : Type 0} → (X → Option Y) → List X → Option ℕ → Option Y

@@ -1,5 +1,5 @@
 pub mod First
-pub mod Kept
+pub mod PlaceSet
 pub mod Listed
 pub mod Parts
 pub mod Under

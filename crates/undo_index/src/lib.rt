@@ -11,7 +11,7 @@
 //! - [`Listing`] is kept as a tree of pairs for items, whose ids take less room, and for each other
 //!   element the places under it (`parts.rt`). Contracts see the finite set of its pairs of element
 //!   and place (`specs/Listed.antt`).
-//! - The places under one element (`kept.rt`) are a sole one in place, or a tree. Contracts ask
+//! - The places under one element (`place_set.rt`) are a sole one in place, or a tree. Contracts ask
 //!   which places are there, and of a search that it finds the first one from a place on that
 //!   passes a test (`specs/First.antt`); [`lesser`] joins two searches.
 //! - [`Places`] is a list of places. Contracts see the list. [`first_apart`] finds the least place
@@ -27,16 +27,16 @@
 //!
 //! # Files
 //!
-//! - `index.rt`, `listing.rt`, `under.rt`, `parts.rt`, `kept.rt`: what is listed under elements.
+//! - `index.rt`, `listing.rt`, `under.rt`, `parts.rt`, `place_set.rt`: what is listed under elements.
 //! - `places.rt`, `apart.rt`, `least.rt`: what is asked with, and what is found.
 #![tactic(auto)]
 
 mod apart;
 mod index;
-mod kept;
 mod least;
 mod listing;
 mod parts;
+mod place_set;
 mod places;
 mod under;
 

@@ -4,7 +4,7 @@ ghost use Rattle.std.specs.FinSet as set;
 ghost use Rattle.undo_index.specs.First.{IsFirst, has_place};
 ghost use Rattle.undo_index.specs.Listed.{is_listed, nothing_listed};
 
-use crate::kept::Kept;
+use crate::place_set::PlaceSet;
 use lay_point::NoMemory;
 use std::alloc::Global;
 use std::collections::BTreeMap;
@@ -17,7 +17,7 @@ use txn_commands::Element;
 /// numbers stand and are compared: a sole one in place, several in a tree. An element with no place left is gone.
 #[derive(Drop)]
 pub(crate) struct Parts {
-    places: BTreeMap<Element, Kept>,
+    places: BTreeMap<Element, PlaceSet>,
     alloc: Global,
 }
 
@@ -57,7 +57,7 @@ impl Parts {
             kept.insert(self.alloc, place)?;
             return Ok(());
         }
-        self.places.insert(element, Kept::Sole(place))?;
+        self.places.insert(element, PlaceSet::Sole(place))?;
         Ok(())
     }
 

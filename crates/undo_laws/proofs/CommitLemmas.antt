@@ -21,7 +21,7 @@ use Rattle.undo_rules.specs.Books.{History, Pending, changed_by, changed_in, ent
 use Rattle.undo_rules.specs.Links.{Entry}
 use Rattle.undo_rules.specs.Steps.{commit_unless, is_log_full, is_own, is_pending, stale_by, stale_first, state_of, touching}
 use Rattle.undo_laws.specs.Refusing.{CommitIsRefused, CommitsAreRefusedForCause, HasWritten, IsAccepted, IsAwaited}
-use Rattle.undo_laws.specs.Refusing.{IsCause, IsOf, IsStaleBy, NamesDiffer}
+use Rattle.undo_laws.specs.Refusing.{IsCause, NamesTxn, IsStaleBy, NamesDiffer}
 use Rattle.undo_laws.proofs.FirstLemmas.{first_by, first_found, first_is, told_false, told_not}
 use Rattle.undo_laws.proofs.TouchLemmas.{touched_is, touched_so}
 use Rattle.undo_laws.proofs.EntryLemmas.{entry_held, held_entry}
@@ -29,7 +29,7 @@ use Rattle.undo_laws.proofs.UndoLemmas.{not_full, room}
 
 -- ---- what a call changed
 
-of_is : (c : Call) (a : Answer) (name : TxnId) → changed_by c a ≡ Some name → IsAccepted a × IsOf c name
+of_is : (c : Call) (a : Answer) (name : TxnId) → changed_by c a ≡ Some name → IsAccepted a × NamesTxn c name
 of_is c (Opened number) name e = absurd cc
 of_is c (Refused fault) name e = absurd cc
 of_is Open Committed name e = absurd cc
@@ -45,7 +45,7 @@ of_is (Redo txn) Committed name e = let same : txn ≡ name = cc in (tt, same)
 of_is (Redo txn) Undone name e = let same : txn ≡ name = cc in (tt, same)
 of_is (Redo txn) Redone name e = let same : txn ≡ name = cc in (tt, same)
 
-of_so : (c : Call) (a : Answer) (name : TxnId) → IsAccepted a × IsOf c name → changed_by c a ≡ Some name
+of_so : (c : Call) (a : Answer) (name : TxnId) → IsAccepted a × NamesTxn c name → changed_by c a ≡ Some name
 of_so c (Opened number) name is = absurd is.0
 of_so c (Refused fault) name is = absurd is.0
 of_so Open Committed name is = absurd is.1

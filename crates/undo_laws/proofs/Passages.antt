@@ -19,7 +19,7 @@ use Rattle.undo_rules.specs.declared.log.Logged.{Logged}
 use Rattle.undo_rules.specs.Histories.{Chain, RunsBetween, commands_at, if_run, replay_from, run_on}
 use Rattle.undo_rules.specs.Links.{AreNamed, Entry, Trace, trace_of, txn_eq}
 use Rattle.undo_rules.proofs.Grounds.{ran_leads}
-use Rattle.undo_laws.specs.Staying.{AreAside, HasNoItemOf}
+use Rattle.undo_laws.specs.Staying.{NoLiveWriter, HasNoItemOf}
 
 -- ---- commands
 
@@ -93,7 +93,7 @@ others_named (other ∷ before) entry later named = (here before named.0, others
 -- ---- transactions behind it
 
 -- transactions that write nothing that lies in the element keep it
-pub aside_agree : (log : List Logged) (e : Element) (entries : List Entry) (first last : Layout) → AreAside e entries →
+pub aside_agree : (log : List Logged) (e : Element) (entries : List Entry) (first last : Layout) → NoLiveWriter e entries →
     Chain log first entries last → Agree first last e
 aside_agree log e [] first last aside chain = agree-equal first last e chain
 aside_agree log e (entry ∷ entries) first last aside chain =

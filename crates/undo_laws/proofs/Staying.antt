@@ -62,7 +62,7 @@ stay s d sound kept live told =
     let (next, does, ends) = goes_on (effect s.entry.txn command reached) (λ run. after_each s.entry.txn s.rest run) ran.run on in
     let drawn : HoldWhereAsked reached.layout d.op d.cell d.a d.b (shapes_in next.1.layout d.cell d.out) =
     places_told s.entry.txn reached d.op d.cell d.a d.b d.out next
-        (run_sound s.entry.txn s.earlier (begun ground) reached reaches is.sound) does in
+    (run_sound s.entry.txn s.earlier (begun ground) reached reaches is.sound) does in
     record {
       way = record {
         start = ground;

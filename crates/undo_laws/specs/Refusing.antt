@@ -99,15 +99,15 @@ IsAccepted Undone = ⊤
 IsAccepted Redone = ⊤
 IsAccepted (Refused fault) = ⊥
 
-abbrev pub IsOf : Call → TxnId → Type 0
-IsOf Open name = ⊥
-IsOf (Commit txn commands) name = txn ≡ name
-IsOf (Undo txn) name = txn ≡ name
-IsOf (Redo txn) name = txn ≡ name
+abbrev pub NamesTxn : Call → TxnId → Type 0
+NamesTxn Open name = ⊥
+NamesTxn (Commit txn commands) name = txn ≡ name
+NamesTxn (Undo txn) name = txn ≡ name
+NamesTxn (Redo txn) name = txn ≡ name
 
 -- the call committed, undid or redid this transaction
 abbrev pub HasChanged : Logged → TxnId → Type 0
-HasChanged logged name = IsAccepted logged.answer × IsOf logged.call name
+HasChanged logged name = IsAccepted logged.answer × NamesTxn logged.call name
 
 -- a committed transaction of this name wrote what is touched
 pub record HasWritten (h : History) (name : TxnId) (touched : Touched) : Type 0 where

@@ -21,8 +21,8 @@ use Rattle.undo_rules.specs.Links.{Entry}
 use Rattle.undo_laws.specs.Laws.{HoldWhereAsked, LeavesOthers}
 
 -- no live one of these transactions wrote what lies in the element
-abbrev pub AreAside : Element → List Entry → Type 0
-AreAside e entries = AllByRecursion (λ entry. entry.live ≡ true → some_meets entry.writes e ≡ false) entries
+abbrev pub NoLiveWriter : Element → List Entry → Type 0
+NoLiveWriter e entries = AllByRecursion (λ entry. entry.live ≡ true → some_meets entry.writes e ≡ false) entries
 
 -- the layout has no item with an id of the transaction
 abbrev pub HasNoItemOf : TxnId → Layout → Type 0
@@ -79,7 +79,7 @@ left_by way = way.next.1.layout
 -- ids of the transaction.
 pub record Stays (s : Setting) (d : Drawing) : Type 0 where
   pub way : Passage s (drawing_command d)
-  pub holds : shapes_in way.last.layout d.cell d.out ≡ shapes_in (left_by way) d.cell d.out → AreAside (Layer d.cell d.out) s.later
+  pub holds : shapes_in way.last.layout d.cell d.out ≡ shapes_in (left_by way) d.cell d.out → NoLiveWriter (Layer d.cell d.out) s.later
       → HoldWhereAsked way.reached.layout d.op d.cell d.a d.b (shapes_in s.layout d.cell d.out)
   pub others : HasNoItemOf s.entry.txn s.base → LeavesOthers d.cell d.out way.reached.layout (left_by way)
 

@@ -6,11 +6,11 @@ ghost use Rattle.live_run.specs.declared.run.TheConstants.{MAX_READS};
 ghost use Rattle.masklay.specs.Live.{IsLive, WritesLiveEnd, live_ending};
 ghost use Rattle.masklay.specs.Telling.{MayReport};
 
-use crate::program::outcome::Stop;
+use crate::program::outcome::JobError;
 use crate::program::output::write_stop;
 use crate::program::put_memory;
 use crate::program::status::Status;
-use crate::program::telling::{tell_of_journal, tell_of_notes, tell_of_stop};
+use crate::program::telling::{report_error, tell_of_journal, tell_of_notes};
 use band_workers::{ScopedBands, Workers};
 use byte_io::{In, Out};
 use live_run::{Journal, LiveEnd, Showing, run_journaled};
@@ -78,8 +78,8 @@ fn close<O: Out>(alloc: Global, strict: bool, end: &LiveEnd, out: &mut O) -> Sta
 {
     match end {
         LiveEnd::Done { has_refused, .. } => live_ending(strict, *has_refused),
-        LiveEnd::Job { line, .. } => write_stop(alloc, Stop::JobFault(*line), out),
-        LiveEnd::Cif { fault, .. } => write_stop(alloc, Stop::CifFault(*fault), out),
+        LiveEnd::Job { line, .. } => write_stop(alloc, JobError::JobFault(*line), out),
+        LiveEnd::Cif { fault, .. } => write_stop(alloc, JobError::CifFault(*fault), out),
         LiveEnd::Device | LiveEnd::Journal => Status::Device,
         LiveEnd::Memory => put_memory(out),
     }
@@ -102,10 +102,24 @@ fn tell_of_end<E: Out>(alloc: Global, end: &LiveEnd, status: Status, errors: &mu
 {
     match end {
         LiveEnd::Job { line, text } => {
-            tell_of_stop(alloc, false, text, Stop::JobFault(*line), status, errors);
+            report_error(
+                alloc,
+                false,
+                text,
+                JobError::JobFault(*line),
+                status,
+                errors,
+            );
         }
         LiveEnd::Cif { fault, text } => {
-            tell_of_stop(alloc, false, text, Stop::CifFault(*fault), status, errors);
+            report_error(
+                alloc,
+                false,
+                text,
+                JobError::CifFault(*fault),
+                status,
+                errors,
+            );
         }
         LiveEnd::Journal => tell_of_journal(status, errors),
         LiveEnd::Done { notes, .. } => tell_of_notes(alloc, notes, status, errors),

@@ -8,7 +8,7 @@ ghost use Rattle.masklay.specs.Outcome.{job_in};
 
 use crate::program::named::names_in;
 use crate::program::options::Options;
-use crate::program::outcome::{Finished, Notes, Stop, finish_in_turn};
+use crate::program::outcome::{Finished, JobError, Notes, finish_in_turn};
 use crate::program::threads::finish_in_threads;
 use cif_names::Names;
 use job_text::MAX_JOB;
@@ -24,7 +24,7 @@ use std::thread::Threads;
 
 /// What is written of a job.
 #[derive(Drop)]
-pub(super) struct Given {
+pub(super) struct JobOutput {
     /// The replies, the order and the layout.
     pub(super) finished: Finished,
     /// The names and labels that the layout's symbols had in the job's text, where they keep them.
@@ -42,7 +42,7 @@ pub(super) fn give_in_turn(
     alloc: Global,
     options: Options,
     bytes: &mut Vec<u8>,
-) -> Result<Given, Stop>
+) -> Result<JobOutput, JobError>
     requires { length bytes.old.items ≤ MAX_JOB + 1 }
     ensures outcome { AnswersGiven false options.oriented (job_in options.bare bytes.old.items) (finished_part result) }
     ensures names { IfOk result (λ given. given.names
@@ -60,7 +60,7 @@ pub(super) fn give_in_threads(
     alloc: Global,
     options: Options,
     bytes: &mut Vec<u8>,
-) -> Result<Given, Stop>
+) -> Result<JobOutput, JobError>
     requires { length bytes.old.items ≤ MAX_JOB + 1 }
     ensures outcome { AnswersGiven true options.oriented (job_in options.bare bytes.old.items) (finished_part result) }
     ensures names { IfOk result (λ given. given.names
@@ -79,14 +79,14 @@ fn given_of(
     names: Option<Names>,
     finished: Finished,
     notes: Notes,
-) -> Result<Given, Stop>
+) -> Result<JobOutput, JobError>
     ensures outcome { AnswersGivenOf oriented finished (finished_part result) }
     ensures names { IfOk result (λ given. given.names ≡ names_for names given.finished.layout) }
 {
     let mut notes = notes;
     let (finished, staying) = directed(alloc, oriented, finished, &mut notes)?;
     let names = names_for(alloc, &names, &finished.layout)?;
-    Ok(Given {
+    Ok(JobOutput {
         finished,
         names,
         staying,
@@ -100,7 +100,7 @@ fn directed(
     oriented: bool,
     finished: Finished,
     notes: &mut Notes,
-) -> Result<(Finished, usize), Stop>
+) -> Result<(Finished, usize), JobError>
     ensures { AnswersGivenOf oriented finished (directed_part result) }
 {
     if !oriented {

@@ -2,7 +2,7 @@
 ghost use Rattle.std.specs.Prelude.{◌≡◌, ◌≤◌, ◌+◌, IfOk, Ok, false, length};
 ghost use Rattle.std.specs.List.{list_any};
 ghost use Rattle.lay_point.specs.Memory.{IsAnswer};
-ghost use Rattle.masklay.specs.declared.program.outcome.Stop.TheVariants.{NoMemory as OutOfMemory};
+ghost use Rattle.masklay.specs.declared.program.outcome.JobError.TheVariants.{NoMemory as OutOfMemory};
 ghost use Rattle.session_core.specs.Machine.{Ran, is_memory, start};
 ghost use Rattle.undo_book.specs.declared.book.TheConstants.{MAX_CALLS};
 ghost use Rattle.masklay.specs.Outcome.{Begins, finished_from, job_in, sessions_for, stop_of_cif, stop_of_job};
@@ -28,7 +28,7 @@ use undo_rules::{MAX_SESSIONS, SessionCount};
 
 /// Why no layout is written.
 #[derive(Clone, Copy, Debug, PartialEq, Eq)]
-pub(super) enum Stop {
+pub(super) enum JobError {
     /// The job's first line with a fault.
     JobFault(u32),
     /// The first fault of the CIF text.
@@ -72,44 +72,44 @@ impl Notes {
     }
 }
 
-impl From<JobFault> for Stop {
+impl From<JobFault> for JobError {
     ghost from_gives = { λ fault stop. stop ≡ stop_of_job fault };
 
-    fn from(fault: JobFault) -> Stop {
+    fn from(fault: JobFault) -> JobError {
         match fault {
-            JobFault::Line(line) => Stop::JobFault(line),
-            JobFault::NoMemory => Stop::NoMemory,
+            JobFault::Line(line) => JobError::JobFault(line),
+            JobFault::NoMemory => JobError::NoMemory,
         }
     }
 }
 
-impl From<CifFault> for Stop {
+impl From<CifFault> for JobError {
     ghost from_gives = { λ fault stop. stop ≡ stop_of_cif fault };
 
-    fn from(fault: CifFault) -> Stop {
+    fn from(fault: CifFault) -> JobError {
         match fault.kind {
-            FaultKind::NoMemory => Stop::NoMemory,
-            _ => Stop::CifFault(fault),
+            FaultKind::NoMemory => JobError::NoMemory,
+            _ => JobError::CifFault(fault),
         }
     }
 }
 
-impl From<RunFault> for Stop {
+impl From<RunFault> for JobError {
     ghost from_gives = { λ fault stop. stop ≡ stop_of_run fault };
 
-    fn from(fault: RunFault) -> Stop {
+    fn from(fault: RunFault) -> JobError {
         match fault {
-            RunFault::Differs { .. } | RunFault::MissingSeat { .. } => Stop::DeskFault,
-            RunFault::NoMemory => Stop::NoMemory,
+            RunFault::Differs { .. } | RunFault::MissingSeat { .. } => JobError::DeskFault,
+            RunFault::NoMemory => JobError::NoMemory,
         }
     }
 }
 
-impl From<NoMemory> for Stop {
+impl From<NoMemory> for JobError {
     ghost from_gives = { λ _ stop. stop ≡ OutOfMemory };
 
-    fn from(_refused: NoMemory) -> Stop {
-        Stop::NoMemory
+    fn from(_refused: NoMemory) -> JobError {
+        JobError::NoMemory
     }
 }
 
@@ -131,7 +131,7 @@ pub(super) fn begin(
     bare: bool,
     bytes: &mut Vec<u8>,
     notes: &mut Notes,
-) -> Result<Begun, Stop>
+) -> Result<Begun, JobError>
     requires { length bytes.old.items ≤ MAX_JOB + 1 }
     ensures { Begins (job_in bare bytes.old.items) result }
 {
@@ -159,7 +159,7 @@ pub(super) fn finish_in_turn(
     options: Options,
     bytes: &mut Vec<u8>,
     notes: &mut Notes,
-) -> Result<Finished, Stop>
+) -> Result<Finished, JobError>
     requires { length bytes.old.items ≤ MAX_JOB + 1 }
     ensures { AnswersOutcome false (job_in options.bare bytes.old.items) result }
 {
@@ -214,14 +214,14 @@ fn finish_steps(
     base: Snapshot,
     scripts: Sequence<Sequence<Step>>,
     order: Sequence<u8>,
-) -> Result<Finished, Stop>
-    ensures { IsAnswer Stop.NoMemory result (Ok (finished_from base scripts order)) }
+) -> Result<Finished, JobError>
+    ensures { IsAnswer JobError.NoMemory result (Ok (finished_from base scripts order)) }
 {
     let sessions = sessions_for(scripts.as_slice().len());
     let steps = in_turn(alloc, scripts, order.as_slice())?;
     let (machine, replies) = run_steps(rt, alloc, workers, base, sessions, steps)?;
     if is_out_of_memory(&replies) {
-        return Err(Stop::NoMemory);
+        return Err(JobError::NoMemory);
     }
     // The rest of the history takes the most memory, and is dropped before the replies are dealt.
     let (layout, log) = machine.into_book().end();

@@ -15,8 +15,8 @@ ghost use Rattle.masklay.specs.Output.{ending_of, job_fault_text, stop_output};
 ghost use Rattle.std.specs.List.{list_any};
 
 use crate::program::options::Options;
-use crate::program::oriented::Given;
-use crate::program::outcome::{Finished, Stop};
+use crate::program::oriented::JobOutput;
+use crate::program::outcome::{Finished, JobError};
 use crate::program::status::Status;
 use crate::program::{put, put_memory};
 use byte_io::Out;
@@ -35,7 +35,7 @@ use std::io::Write;
 pub(super) fn write_given<O: Out>(
     alloc: Global,
     options: Options,
-    given: &Given,
+    given: &JobOutput,
     out: &mut O,
 ) -> Status
     ensures { WritesOrMemory O.written O.failures out.old out.new
@@ -147,7 +147,7 @@ fn put_finished<O: Out>(
 }
 
 /// Writes the line that says why there is no layout.
-pub(super) fn write_stop<O: Out>(alloc: Global, stop: Stop, out: &mut O) -> Status
+pub(super) fn write_stop<O: Out>(alloc: Global, stop: JobError, out: &mut O) -> Status
     ensures { WritesOrMemory O.written O.failures out.old out.new (stop_output stop) result }
 {
     match stop_text(alloc, stop) {
@@ -157,14 +157,14 @@ pub(super) fn write_stop<O: Out>(alloc: Global, stop: Stop, out: &mut O) -> Stat
 }
 
 /// Returns the line that says why there is no layout, and the status with which the program then ends.
-fn stop_text(alloc: Global, stop: Stop) -> Result<(Vec<u8>, Status), NoMemory>
+fn stop_text(alloc: Global, stop: JobError) -> Result<(Vec<u8>, Status), NoMemory>
     ensures { IfOk result (λ line. record { text = line.0.items; status = line.1 } ≡ stop_output stop) }
 {
     match stop {
-        Stop::JobFault(line) => Ok((job_fault_text(alloc, line)?, Status::Job)),
-        Stop::CifFault(fault) => Ok((cif_fault_text(alloc, fault)?, Status::Cif)),
-        Stop::DeskFault => Ok((desk_fault_text(alloc)?, Status::Desk)),
-        Stop::NoMemory => Err(NoMemory),
+        JobError::JobFault(line) => Ok((job_fault_text(alloc, line)?, Status::Job)),
+        JobError::CifFault(fault) => Ok((cif_fault_text(alloc, fault)?, Status::Cif)),
+        JobError::DeskFault => Ok((desk_fault_text(alloc)?, Status::Desk)),
+        JobError::NoMemory => Err(NoMemory),
     }
 }
 

@@ -5,8 +5,8 @@ ghost use Rattle.masklay.specs.declared.program.status.Status.TheVariants.{Devic
 
 use crate::program::empty_top::put_advice_on_top;
 use crate::program::named::{left_out_of, put_left_out};
-use crate::program::oriented::{Given, put_staying};
-use crate::program::outcome::Stop;
+use crate::program::oriented::{JobOutput, put_staying};
+use crate::program::outcome::JobError;
 use crate::program::status::Status;
 use byte_io::{Out, put_all};
 use job_advice::{of_cif_fault, of_job_fault, of_refusals, of_text_fault};
@@ -41,11 +41,11 @@ pub(super) fn tell_of_journal<E: Out>(status: Status, errors: &mut E)
 
 /// Tells why there is no layout, where the program ends with the status of a fault. The bytes are a job or, where they are
 /// `bare`, a CIF text. What the device doesn't take, or memory doesn't hold, isn't told.
-pub(super) fn tell_of_stop<E: Out>(
+pub(super) fn report_error<E: Out>(
     alloc: Global,
     bare: bool,
     job: &[u8],
-    stop: Stop,
+    stop: JobError,
     status: Status,
     errors: &mut E,
 )
@@ -55,11 +55,11 @@ pub(super) fn tell_of_stop<E: Out>(
         return tell(NOT_WRITTEN, status, errors);
     }
     let advice = match stop {
-        Stop::JobFault(line) => of_job_fault(alloc, job, line),
-        Stop::CifFault(fault) if bare => of_text_fault(alloc, job, fault),
-        Stop::CifFault(fault) => of_cif_fault(alloc, job, fault),
-        Stop::DeskFault => Ok(Vec::new(alloc)),
-        Stop::NoMemory => Err(NoMemory),
+        JobError::JobFault(line) => of_job_fault(alloc, job, line),
+        JobError::CifFault(fault) if bare => of_text_fault(alloc, job, fault),
+        JobError::CifFault(fault) => of_cif_fault(alloc, job, fault),
+        JobError::DeskFault => Ok(Vec::new(alloc)),
+        JobError::NoMemory => Err(NoMemory),
     };
     if let Ok(lines) = advice {
         tell(&lines, status, errors);
@@ -68,7 +68,12 @@ pub(super) fn tell_of_stop<E: Out>(
 
 /// Tells of refused steps, where all was written, that a step names the top cell and it is empty, how many shapes stay
 /// as they were though all were to be directed, how many names and labels are left out, and what is worth a look in the text.
-pub(super) fn tell_of_layout<E: Out>(alloc: Global, given: &Given, status: Status, errors: &mut E)
+pub(super) fn tell_of_layout<E: Out>(
+    alloc: Global,
+    given: &JobOutput,
+    status: Status,
+    errors: &mut E,
+)
     ensures { MayReport E.written E.failures errors.old errors.new status }
 {
     if status == Status::Device {
@@ -80,7 +85,7 @@ pub(super) fn tell_of_layout<E: Out>(alloc: Global, given: &Given, status: Statu
 }
 
 /// Says what there is to say of a layout that is written.
-fn advice_on_layout(alloc: Global, given: &Given) -> Result<Vec<u8>, NoMemory> {
+fn advice_on_layout(alloc: Global, given: &JobOutput) -> Result<Vec<u8>, NoMemory> {
     let mut lines = of_refusals(alloc, given.finished.replies.as_slice())?;
     if given.notes.names_top {
         put_advice_on_top(alloc, &mut lines, &given.finished.layout)?;

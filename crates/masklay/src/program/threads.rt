@@ -6,7 +6,7 @@ ghost use Rattle.masklay.specs.Outcome.{job_in};
 ghost use Rattle.masklay.specs.Threads.{AnswersOutcome, AnswersThreads};
 
 use crate::program::options::Options;
-use crate::program::outcome::{Begun, Finished, Notes, Stop, begin, is_out_of_memory};
+use crate::program::outcome::{Begun, Finished, JobError, Notes, begin, is_out_of_memory};
 use band_workers::Workers;
 use job_text::{MAX_JOB, order_of};
 use lay_items::Snapshot;
@@ -24,7 +24,7 @@ pub(super) fn finish_in_threads(
     options: Options,
     bytes: &mut Vec<u8>,
     notes: &mut Notes,
-) -> Result<Finished, Stop>
+) -> Result<Finished, JobError>
     requires { length bytes.old.items ≤ MAX_JOB + 1 }
     ensures { AnswersOutcome true (job_in options.bare bytes.old.items) result }
 {
@@ -40,12 +40,12 @@ fn finish_threads(
     workers: Workers,
     base: Snapshot,
     scripts: Sequence<Sequence<Step>>,
-) -> Result<Finished, Stop>
+) -> Result<Finished, JobError>
     ensures { AnswersThreads base scripts result }
 {
     let Run { closed, replies } = run_scripts(rt, alloc, workers.number(), base, scripts)?;
     if is_any_out_of_memory(replies.as_slice()) {
-        return Err(Stop::NoMemory);
+        return Err(JobError::NoMemory);
     }
     let Closed { book } = closed;
     let order = order_of(alloc, book.log(), replies.as_slice())?;

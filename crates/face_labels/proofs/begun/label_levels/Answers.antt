@@ -32,7 +32,7 @@ loop-index-preserved c =
           (λ (ge : i ≤ k).
           let same : i ≡ k = omega arith in
           subst (λ j. HasLabel op r (set old n label) (get_or levels j 0)) same
-              (label_here op r old n label inside c.level_label-label.ensures))
+          (label_here op r old n label inside c.level_label-label.ensures))
           (cases_lt k i);
     }
 

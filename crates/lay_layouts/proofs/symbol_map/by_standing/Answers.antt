@@ -10,7 +10,7 @@ use Rattle.lay_layouts.proofs.DistinctLemmas.{AreDistinct, inserted, inserted-em
 use Rattle.lay_layouts.proofs.MapLemmas.{entries_again}
 use Rattle.lay_layouts.proofs.SlotLemmas.{sorted-distinct, standings_exact, standings_total}
 use Rattle.lay_layouts.proofs.SymbolLemmas.{standings-distinct}
-use Rattle.lay_layouts.proofs.symbol_map.by_standing.Goals as goal
+use Rattle.lay_layouts.proofs.symbol_map.by_slot_order.Goals as goal
 
 -- none is left
 pub returns : goal.returns

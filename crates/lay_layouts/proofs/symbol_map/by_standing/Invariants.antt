@@ -2,7 +2,7 @@ use Rattle.std.proofs.Common.{◌≡◌, map}
 use Rattle.std.specs.FinMap.{from_entries}
 use Rattle.lay_layouts.specs.SlotOrder.{standing_cmp, standing_of}
 use Rattle.lay_layouts.proofs.DistinctLemmas.{inserted}
-use Rattle.lay_layouts.proofs.symbol_map.by_standing.Given as goal
+use Rattle.lay_layouts.proofs.symbol_map.by_slot_order.Given as goal
 
 -- the symbols that are left lead to the same map
 abbrev pub invariant-loop-number : goal.invariant-loop-number

@@ -1,7 +1,7 @@
 use Rattle.std.proofs.Common.{◌≡◌, ◌++◌, drop, map}
-use Rattle.txn_commands.specs.Records.{afters, record_of}
+use Rattle.txn_commands.specs.Records.{applying, record_of}
 use Rattle.txn_marks.proofs.values.item_afters.Given as goal
 
 -- with those of the changes that are left they are the writes of all
 abbrev pub invariant-loop-id : goal.invariant-loop-id
-invariant-loop-id l = l.writes.items ++ afters (map record_of (drop l.id-index l.items)) ≡ afters (map record_of l.items)
+invariant-loop-id l = l.writes.items ++ applying (map record_of (drop l.id-index l.items)) ≡ applying (map record_of l.items)

@@ -56,7 +56,7 @@ books_with-requires-clause-few g c =
     let ws = take c.group_of-count.result.1 c.args.writes.now in
     let written = page_written g.met.K.Ord.total g.met.K.PageKey.exact books place.book place.page ws c.entries_at-page.result.now
     c.in_ok-entries.entries.items c.books-books.ensures.books
-        (omega (arith, count_books c.books-books.result.now, c.group_of-count.ensures.book))
+    (omega (arith, count_books c.books-books.result.now, c.group_of-count.ensures.book))
     c.group_of-count.ensures.page c.group_of-count.ensures.falls c.entries_at-page.ensures c.in_ok-entries.ensures in
     omega (arith, written.few, c.group_of-count.ensures.few, length-take c.group_of-count.result.1 c.args.writes.now)
 
@@ -67,7 +67,7 @@ books_with-requires-clause-sorted g c =
     let ws = take c.group_of-count.result.1 c.args.writes.now in
     let written = page_written g.met.K.Ord.total g.met.K.PageKey.exact books place.book place.page ws c.entries_at-page.result.now
     c.in_ok-entries.entries.items c.books-books.ensures.books
-        (omega (arith, count_books c.books-books.result.now, c.group_of-count.ensures.book))
+    (omega (arith, count_books c.books-books.result.now, c.group_of-count.ensures.book))
     c.group_of-count.ensures.page c.group_of-count.ensures.falls c.entries_at-page.ensures c.in_ok-entries.ensures in
     written.sorted
 
@@ -78,7 +78,7 @@ of-requires g c =
     let ws = take c.group_of-count.result.1 c.args.writes.now in
     let written = page_written g.met.K.Ord.total g.met.K.PageKey.exact books place.book place.page ws c.entries_at-page.result.now
     c.in_ok-entries.entries.items c.books-books.ensures.books
-        (omega (arith, count_books c.books-books.result.now, c.group_of-count.ensures.book))
+    (omega (arith, count_books c.books-books.result.now, c.group_of-count.ensures.book))
     c.group_of-count.ensures.page c.group_of-count.ensures.falls c.entries_at-page.ensures c.in_ok-entries.ensures in
     record {
       kept = c.in_ok-books.ensures.books;
@@ -102,7 +102,7 @@ returns-clause-entries g c =
     let ws = take c.group_of-count.result.1 c.args.writes.now in
     let written = page_written g.met.K.Ord.total g.met.K.PageKey.exact books place.book place.page ws c.entries_at-page.result.now
     c.in_ok-entries.entries.items c.books-books.ensures.books
-        (omega (arith, count_books c.books-books.result.now, c.group_of-count.ensures.book))
+    (omega (arith, count_books c.books-books.result.now, c.group_of-count.ensures.book))
     c.group_of-count.ensures.page c.group_of-count.ensures.falls c.entries_at-page.ensures c.in_ok-entries.ensures in
     c.in_ok-of.ensures ∙ c.in_ok-books.ensures.entries ∙ sym written.is
     ∙ ap (λ (es : List (g.row.K.Denot × g.row.V.Denot)). written_all g.K.Ord.cmp es ws) c.books-books.ensures.entries

@@ -8,7 +8,7 @@ use Rattle.undo_rules.specs.Steps.{ended_state, entered, state_of}
 use Rattle.txn_marks.specs.Homes.{AreMetBy}
 use Rattle.undo_index.specs.Listed.{AreAdded, IsNew}
 use Rattle.undo_book.specs.Books.{history_of}
-use Rattle.undo_book.specs.Places.{AreTheirPlaces, IsPutUnder}
+use Rattle.undo_book.specs.Places.{IndexesByName, IsPutUnder}
 use Rattle.undo_book.proofs.ChangeLemmas.{commit_so}
 use Rattle.undo_book.proofs.CommitLemmas.{LeavesCommitted, committed_so}
 use Rattle.undo_book.specs.Indexed.{AreIndexed}
@@ -77,7 +77,7 @@ invariant_of-self-2 c =
     search rules in
     record {
       history = (left c).history;
-      places = subst (AreTheirPlaces c.list_at.new.places.entries) (sym (entry c))
+      places = subst (IndexesByName c.list_at.new.places.entries) (sym (entry c))
           (places_pushed c.self.inside.places.entries c.list_at.new.places.entries c.self.inside.entries.items (entered b work)
           c.id-txn.result c.len-index.result (sym c.id-txn.ensures.value) last can.apart c.self.invariant.places put);
       index = indexed c;

@@ -13,7 +13,7 @@ use Rattle.txn_marks.specs.Homes.{AreMetBy}
 use Rattle.undo_index.specs.Listed.{IsNew}
 use Rattle.undo_book.specs.Marks.{AreRelisted, mark_answer, mark_call, relaid}
 use Rattle.undo_book.specs.Books.{history_of}
-use Rattle.undo_book.specs.Places.{AreTheirPlaces, place_of}
+use Rattle.undo_book.specs.Places.{IndexesByName, place_of}
 use Rattle.undo_book.specs.Indexed.{AreIndexed}
 use Rattle.undo_book.proofs.IndexedLemmas.{mark_indexed, undone_new}
 use Rattle.undo_book.proofs.SameLemmas.{same_book}
@@ -116,7 +116,7 @@ invariant_of-self-2 c =
     let again : c.add_again.new.self.again ≡ length c.self.inside.log.items + 1 = search rules in
     record {
       history = is.history;
-      places = subst (AreTheirPlaces c.self.inside.places.entries) (sym marks)
+      places = subst (IndexesByName c.self.inside.places.entries) (sym marks)
           (places_marked c.self.inside.places.entries c.args.live c.args.txn h.entries c.self.invariant.places);
       index = indexed c;
       changes = again_so call c.args.txn c.args.place c.args.live c.self.invariant.changes

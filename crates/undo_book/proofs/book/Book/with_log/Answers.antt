@@ -1,5 +1,5 @@
 use Rattle.std.proofs.Common.{[], rules, refl}
-use Rattle.undo_book.specs.Places.{AreTheirPlaces}
+use Rattle.undo_book.specs.Places.{IndexesByName}
 use Rattle.undo_book.proofs.ChangeLemmas.{none_so}
 use Rattle.undo_book.proofs.IndexedLemmas.{none_indexed}
 use Rattle.undo_book.proofs.SinceLemmas.{no_commits_so}
@@ -7,7 +7,7 @@ use Rattle.undo_book.proofs.SoundLemmas.{begins_history}
 use Rattle.undo_book.proofs.book.Book.with_log.Goals as goal
 
 -- no name has a place
-no_places : AreTheirPlaces [] []
+no_places : IndexesByName [] []
 no_places txn = refl
 
 pub invariant_of-result-2 : goal.invariant_of-result-2

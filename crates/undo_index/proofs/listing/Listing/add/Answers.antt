@@ -11,7 +11,7 @@ use Rattle.undo_index.proofs.listing.Listing.add.Goals.{else-not-is_made_by-via-
 pub loop-element-init : goal.loop-element-init
 loop-element-init c =
     adds_begin c.args.self.now c.args.txn c.args.elements.now c.args.place c.as_slice-element-items.result.now
-        c.as_slice-element-items.ensures
+    c.as_slice-element-items.ensures
 
 pub loop-element-preserved : goal.loop-element-preserved
 loop-element-preserved c =
@@ -53,4 +53,4 @@ returns-clause-ok c =
     let none : drop c.loop-element.element-index list ≡ [] = drop_all c.loop-element.element-index list c.loop-element-test.false in
     all_added old c.args.txn c.args.elements.now c.args.place c.loop-element.self
     (subst (λ (xs : List Element). Adds old c.args.txn c.args.elements.now c.args.place c.loop-element.self xs) none
-        c.loop-element.invariant)
+    c.loop-element.invariant)

@@ -9,7 +9,7 @@ use Rattle.undo_index.proofs.listing.Listing.remove.Goals.{then-not-is_made_by, 
 pub loop-element-init : goal.loop-element-init
 loop-element-init c =
     removes_begin c.args.self.now c.args.txn c.args.elements.now c.args.place c.as_slice-element-items.result.now
-        c.as_slice-element-items.ensures
+    c.as_slice-element-items.ensures
 
 pub loop-element-preserved : goal.loop-element-preserved
 loop-element-preserved c =
@@ -41,4 +41,4 @@ returns c =
     let none : drop c.loop-element.element-index list ≡ [] = drop_all c.loop-element.element-index list c.loop-element-test.false in
     all_removed old c.args.txn c.args.elements.now c.args.place c.loop-element.self
     (subst (λ (xs : List Element). Removes old c.args.txn c.args.elements.now c.args.place c.loop-element.self xs) none
-        c.loop-element.invariant)
+    c.loop-element.invariant)

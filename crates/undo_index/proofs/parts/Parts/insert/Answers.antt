@@ -2,7 +2,7 @@ use Rattle.std.proofs.Common.{◌≡◌, ◌==◌, ◌∙◌, ◌||◌, ap, None
 use Rattle.std.specs.BTreeMap.{get}
 use Rattle.std.specs.FinSet.{insert}
 use Rattle.txn_commands.specs.Elements.{element_cmp}
-use Rattle.undo_index.specs.declared.kept.Kept.TheVariants.{Sole}
+use Rattle.undo_index.specs.declared.place_set.PlaceSet.TheVariants.{Sole}
 use Rattle.undo_index.specs.First.{has_place}
 use Rattle.undo_index.specs.Listed.{Listed}
 use Rattle.undo_index.proofs.PartsLemmas.{IsTurned, kept_more, kept_same, on_err, places_found}

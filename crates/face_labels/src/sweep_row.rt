@@ -1,0 +1,254 @@
+//! The edges of the sweep at a stop, with the shapes on the two sides of each.
+ghost use Rattle.std.specs.Prelude.{
+  ◌≡◌,
+  ◌<◌,
+  ◌-◌,
+  ◌-ℤ◌,
+  ◌<ℤ◌,
+  ℕ,
+  All,
+  IfOk,
+  OnOk,
+  length,
+  pos,
+  slice_index_or,
+};
+ghost use Rattle.face_rows.specs.Rows.{AreRowEdges};
+ghost use Rattle.face_rows.specs.Sound.{AreSound};
+ghost use Rattle.face_sweep.specs.declared.stops.Stop.{Stop};
+ghost use Rattle.face_sweep.specs.Points.{AreBegunAt, HasLow, IsEndPoint, IsEndedGroup, IsStatus};
+ghost use Rattle.face_sweep.specs.Reaches.{IsReach};
+ghost use Rattle.face_sweep.specs.Stops.{AreStops};
+ghost use Rattle.face_labels.specs.RowSides.{HasLabel, IsLineAt, IsLinePast, IsLineWithout, IsShared, IsSweepStop};
+
+use crate::begun::{find_begun, label_levels, rising_count};
+use crate::finds::{find_sides, forget, take_out};
+use crate::group::Group;
+use crate::shared::Shared;
+use face_rows::{Op, row_edges};
+use face_sweep::{Known, OwnRows, Reach, Stop, Stops, group_end, place_of_point, replace};
+use lay_point::{NoMemory, Point};
+use snap_chains::CleanEdges;
+use std::alloc::Global;
+
+/// The edges of the sweep at a stop, from left to right. What holds on the sides of an edge is the same all along
+/// it, so it is found once, where the edge comes in.
+#[derive(Debug, Drop)]
+pub(crate) struct SweepRow {
+    pub numbers: Vec<usize>,
+    /// The sides of these edges.
+    pub known: Known,
+    /// Which of them single shapes own.
+    pub own: OwnRows,
+    /// Where among them the stop before this one was.
+    pub place: usize,
+}
+
+impl SweepRow {
+    /// Returns the line at the stop of this index, which is the first of its row.
+    ///
+    /// # Errors
+    ///
+    /// `NoMemory`, if an allocation fails.
+    pub fn at(
+        alloc: Global,
+        edges: &CleanEdges,
+        shared: &Shared,
+        index: usize,
+    ) -> Result<SweepRow, NoMemory>
+        requires sound { AreSound edges.now }
+        requires shared { IsShared edges.now shared.now }
+        requires index { index < length shared.now.stops.list.items }
+        requires first { (k : ℕ) (d : Stop) → k < index → (slice_index_or shared.now.stops.list.items k d).point.y
+            <ℤ (slice_index_or shared.now.stops.list.items index d).point.y }
+        ensures { IfOk result (λ line. (d : Stop)
+            → IsLineAt edges.now shared.now.reach (slice_index_or shared.now.stops.list.items index d).point line) }
+    {
+        let numbers = edges_below(alloc, edges, &shared.stops, index)?;
+        let mut known = Known::new(alloc, edges.edges().len())?;
+        let mut own = OwnRows::new(alloc, &shared.reach)?;
+        find_sides(
+            edges,
+            numbers.as_slice(),
+            &mut known,
+            &mut own,
+            &shared.reach,
+        )?;
+        Ok(SweepRow {
+            numbers,
+            known,
+            own,
+            place: 0,
+        })
+    }
+
+    /// Returns the line once the stop is passed, and writes the labels of the edges that begin there.
+    ///
+    /// # Errors
+    ///
+    /// `NoMemory`, if an allocation fails.
+    pub fn past(
+        self,
+        alloc: Global,
+        edges: &CleanEdges,
+        shared: &Shared,
+        stop: Stop,
+        op: Op,
+        labels: &mut Vec<bool>,
+    ) -> Result<SweepRow, NoMemory>
+        requires sound { AreSound edges.now }
+        requires shared { IsShared edges.now shared.now }
+        requires stop { IsSweepStop edges.now shared.now.stops stop }
+        requires line { IsLineAt edges.now shared.now.reach stop.point self }
+        requires count { length labels.old.items ≡ length edges.now.0 }
+        ensures line { IfOk result (IsLinePast edges.now shared.now.reach stop.point) }
+        ensures count { length labels.new.items ≡ length edges.now.0 }
+        ensures kept { OnOk result ((n : ℕ) → HasLabel op edges.now labels.old.items n
+            → HasLabel op edges.now labels.new.items n) }
+        ensures labels { OnOk result ((n : ℕ) → n < length edges.now.0 → HasLow edges.now stop.point n
+            → HasLabel op edges.now labels.new.items n) }
+    {
+        let begun = shared.stops.begun(stop);
+        let rising = rising_count(edges, stop.point, begun);
+        let group = self.group_at(edges, stop.point);
+        let reach = &shared.reach;
+        let rest = self.without(edges, reach, group);
+        label_levels(
+            edges,
+            &rest.numbers[group.to..],
+            &begun[rising..],
+            group.point,
+            &rest.known,
+            &rest.own,
+            reach,
+            op,
+            labels,
+        );
+        let line = rest.with_begun(alloc, edges, reach, group, &begun[..rising], op, labels)?;
+        Ok(line)
+    }
+
+    /// Returns where the edges stand that end at the point.
+    fn group_at(&self, edges: &CleanEdges, point: Point) -> Group
+        requires sound { AreSound edges.now }
+        requires end { IsEndPoint edges.now point }
+        requires status { IsStatus edges.now point self.now.numbers.items }
+        ensures point { result.point ≡ point }
+        ensures group { IsEndedGroup edges.now point self.now.numbers.items result.from result.to }
+    {
+        let from = place_of_point(edges, self.numbers.as_slice(), point, self.place);
+        let to = group_end(edges, self.numbers.as_slice(), point, from);
+        Group { point, from, to }
+    }
+
+    /// Returns the line with the sides of the group's edges, which end at its point, forgotten, and these out of the
+    /// lists of single shapes. Their numbers stay.
+    fn without(self, edges: &CleanEdges, reach: &Reach, group: Group) -> SweepRow
+        requires sound { AreSound edges.now }
+        requires reach { IsReach edges.now reach.now }
+        requires line { IsLineAt edges.now reach.now group.point self }
+        requires group { IsEndedGroup edges.now group.point self.numbers.items group.from group.to }
+        ensures { IsLineWithout edges.now reach.now group result }
+    {
+        let mut known = self.known;
+        let mut own = self.own;
+        forget(&mut known, &self.numbers[group.from..group.to]);
+        take_out(edges, self.numbers.as_slice(), group, &mut own, reach);
+        SweepRow {
+            numbers: self.numbers,
+            known,
+            own,
+            place: group.from,
+        }
+    }
+
+    /// Returns the line with the edges of the group replaced by those that rise from its point, and writes the
+    /// labels of these.
+    ///
+    /// # Errors
+    ///
+    /// `NoMemory`, if an allocation fails.
+    fn with_begun(
+        self,
+        alloc: Global,
+        edges: &CleanEdges,
+        reach: &Reach,
+        group: Group,
+        begun: &[usize],
+        op: Op,
+        labels: &mut Vec<bool>,
+    ) -> Result<SweepRow, NoMemory>
+        requires sound { AreSound edges.now }
+        requires reach { IsReach edges.now reach.now }
+        requires end { IsEndPoint edges.now group.point }
+        requires line { IsLineWithout edges.now reach.now group self }
+        requires begun { AreBegunAt edges.now group.point begun.now }
+        requires count { length labels.old.items ≡ length edges.now.0 }
+        ensures line { IfOk result (IsLinePast edges.now reach.now group.point) }
+        ensures count { length labels.new.items ≡ length edges.now.0 }
+        ensures kept { OnOk result ((n : ℕ) → HasLabel op edges.now labels.old.items n
+            → HasLabel op edges.now labels.new.items n) }
+        ensures labels { OnOk result (All (HasLabel op edges.now labels.new.items) begun.now) }
+    {
+        let mut numbers = self.numbers;
+        let mut known = self.known;
+        let mut own = self.own;
+        replace(alloc, &mut numbers, group.from, group.to, begun)?;
+        let risers = Group {
+            point: group.point,
+            from: group.from,
+            to: group.from + begun.len(),
+        };
+        find_begun(
+            edges,
+            numbers.as_slice(),
+            risers,
+            &mut known,
+            &mut own,
+            reach,
+            op,
+            labels,
+        )?;
+        Ok(SweepRow {
+            numbers,
+            known,
+            own,
+            place: group.from,
+        })
+    }
+}
+
+/// Returns the edges of the row below the stop of this index, which is the first of its row.
+fn edges_below(
+    alloc: Global,
+    edges: &CleanEdges,
+    stops: &Stops,
+    index: usize,
+) -> Result<Vec<usize>, NoMemory>
+    requires stops { AreStops edges.now stops.now }
+    requires index { index < length stops.now.list.items }
+    requires first { (k : ℕ) (d : Stop) → k < index → (slice_index_or stops.now.list.items k d).point.y
+        <ℤ (slice_index_or stops.now.list.items index d).point.y }
+    ensures { IfOk result (λ numbers. (d : Stop)
+        → AreRowEdges edges.now.0 ((slice_index_or stops.now.list.items index d).point.y -ℤ pos 1) numbers.items) }
+{
+    if index == 0 {
+        return Ok(Vec::new(alloc));
+    }
+    let row = row_below(stops.stops(), index);
+    row_edges(alloc, edges, row)
+}
+
+/// Returns the row below a stop that isn't in the lowest row of all.
+fn row_below(stops: &[Stop], index: usize) -> i32
+    requires index { index < length stops.now }
+    requires some { 0 < index }
+    requires first { (d : Stop) → (slice_index_or stops.now (index - 1) d).point.y
+        <ℤ (slice_index_or stops.now index d).point.y }
+    ensures { (d : Stop) → result ≡ (slice_index_or stops.now index d).point.y -ℤ pos 1 }
+{
+    let below = stops[index - 1].point.y;
+    let here = stops[index].point.y;
+    prove!(below < here);
+    here - 1
+}

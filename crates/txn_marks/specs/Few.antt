@@ -1,9 +1,0 @@
--- How a list of few elements is kept. No public clause cites this module.
-use Rattle.std.specs.Prelude.{List}
-use Rattle.txn_marks.specs.declared.few.Kept.{Kept}
-use Rattle.txn_marks.specs.declared.few.Kept.TheVariants.{InPlace, Listed}
-
--- the elements, in order
-abbrev pub kept_list : {T : Type 0} → Kept T → List T
-kept_list (InPlace sole) = sole
-kept_list (Listed items) = items.items

@@ -1,9 +1,0 @@
--- How the places under one element are kept.
-use Rattle.std.specs.Prelude.{ℕ, List, [], ◌∷◌}
-use Rattle.undo_index.specs.declared.kept.Kept.{Kept}
-use Rattle.undo_index.specs.declared.kept.Kept.TheVariants.{Many, Sole}
-
--- the places, in order
-abbrev pub places_of : Kept → List ℕ
-places_of (Sole place) = place ∷ []
-places_of (Many places) = places.keys
