@@ -24,7 +24,7 @@ use Rattle.undo_index.specs.Listed.{AreAdded, AreRemoved, IsNew, Listed, is_made
 use Rattle.undo_index.proofs.FirstLemmas.{first_alike, first_found}
 use Rattle.undo_index.proofs.FootprintLemmas.{any_so}
 use Rattle.undo_book.specs.Indexed.{AreIndexed, Lists, by_other, is_linked, touched, wrote}
-use Rattle.undo_book.specs.Marks.{AreRelisted}
+use Rattle.undo_book.specs.Marks.{AreUpdated}
 
 -- ---- places of a list
 
@@ -151,7 +151,7 @@ commit_indexed w r v s es fs entry met place is wrote_it read_it are live last m
     })
 
 pub mark_indexed : (live : Bool) (w r v s : Listed) (es fs : List Entry) (i : ℕ) (entry : Entry) (met : Touched) → AreIndexed w r es →
-    AreRelisted live w entry.txn met i v → AreRelisted live r entry.txn entry.footprint i s → AreMetBy entry.writes met → entry.live
+    AreUpdated live w entry.txn met i v → AreUpdated live r entry.txn entry.footprint i s → AreMetBy entry.writes met → entry.live
     ≡ not live →
     slice_get es i ≡ Some entry → i < length es → fs ≡ slice_set es i (marked live entry) → AreIndexed v s fs
 mark_indexed false w r v s es fs i entry met is wrote_it read_it are live at less marks =

@@ -19,7 +19,7 @@ use Rattle.undo_rules.specs.Steps.{undo_refusal, undo_refusal_at, with_mark}
 use Rattle.undo_rules.proofs.HistoryLaws.{puts_back, replays, takes_out}
 use Rattle.undo_rules.proofs.Logs.{kept_longer}
 use Rattle.undo_rules.proofs.StepLaws.{neither_of, no_depends, no_moved, redo_keeps, settled_is, undo_keeps}
-use Rattle.undo_book.specs.Marks.{after_mark, mark_answer, mark_call, mark_refusal, relaid}
+use Rattle.undo_book.specs.Marks.{after_mark, mark_answer, mark_call, mark_refusal, layout_by}
 use Rattle.undo_book.specs.Places.{place_of}
 use Rattle.undo_book.specs.Replays.{CanBeRedone, replay}
 use Rattle.undo_book.proofs.FoundLemmas.{split_at}
@@ -142,14 +142,14 @@ undoes h is session txn at there free =
 record Remarks (live : Bool) (h : History) (session : ℕ) (txn : TxnId) (at : Found) : Type 0 where
   other : at.entry.live ≡ not live
   proper : AreProper at.entry.writes
-  sound : IsSound (relaid live h.layout at.entry.writes)
+  sound : IsSound (layout_by live h.layout at.entry.writes)
   history : IsHistory (after_mark live h session txn)
   after : after_mark live h session txn
       ≡ record (logged (with_mark h live txn) session (mark_call live txn) (mark_answer live)) {
-        layout = relaid live h.layout
+        layout = layout_by live h.layout
             at.entry.writes;
       }
-  replayed : replay (with_mark h live txn) ≡ Some (relaid live h.layout at.entry.writes)
+  replayed : replay (with_mark h live txn) ≡ Some (layout_by live h.layout at.entry.writes)
   back : live ≡ false → CanBeRedone (after_mark live h session txn) session txn h.layout
 
 remarks : (live : Bool) (h : History) → IsHistory h → (session : ℕ) (txn : TxnId) (at : Found) → found h txn ≡ Some at →
@@ -191,8 +191,8 @@ pub record IsMarked (live : Bool) (b now : History) (session : ℕ) (txn : TxnId
   pub there : slice_get b.entries place ≡ Some entry
   pub other : entry.live ≡ not live
   pub proper : AreProper entry.writes
-  pub sound : IsSound (relaid live b.layout entry.writes)
-  pub left : (end : Layout) (log : List Logged) (entries : List Entry) → end ≡ relaid live b.layout entry.writes →
+  pub sound : IsSound (layout_by live b.layout entry.writes)
+  pub left : (end : Layout) (log : List Logged) (entries : List Entry) → end ≡ layout_by live b.layout entry.writes →
       log ≡ b.log ++ record { session = session; call = mark_call live txn; answer = mark_answer live } ∷ [] →
       entries ≡ slice_set b.entries place (marked live entry) →
       LeavesMarked live now (record b { layout = end; log = log; entries = entries }) session txn

@@ -21,6 +21,6 @@ history_of b = record {
 pub record IsBook (b : Inside) : Type 0 where
   pub history : IsHistory (history_of b)
   pub places : IndexesByName b.places.entries b.entries.items
-  pub changes : AreChanges b.changes.earlier.items b.changes.last.items b.log.items b.entries.items
-  pub commits : AreCommits b.changes.again b.changes.last.items b.log.items b.entries.items
+  pub changes : AreChanges b.changes.previous_change.items b.changes.last.items b.log.items b.entries.items
+  pub commits : AreCommits b.changes.last_undo_or_redo b.changes.last.items b.log.items b.entries.items
   pub index : AreIndexed b.index.writers b.index.readers b.entries.items

@@ -32,11 +32,11 @@ abbrev pub after_mark : Bool → History → ℕ → TxnId → History
 after_mark live h session txn = settled (logged (with_mark h live txn) session (mark_call live txn) (mark_answer live))
 
 -- the layout with the values after, or with those before
-abbrev pub relaid : Bool → Layout → Records → Layout
-relaid false layout writes = reverted layout writes
-relaid true layout writes = applied layout writes
+abbrev pub layout_by : Bool → Layout → Records → Layout
+layout_by false layout writes = reverted layout writes
+layout_by true layout writes = applied layout writes
 
 -- the place is listed under those of these elements too that the transaction didn't make, or under none of these
-abbrev pub AreRelisted : Bool → Listed → TxnId → Touched → ℕ → Listed → Type 0
-AreRelisted false old txn elements place new = AreRemoved old txn elements place new
-AreRelisted true old txn elements place new = AreAdded old txn elements place new
+abbrev pub AreUpdated : Bool → Listed → TxnId → Touched → ℕ → Listed → Type 0
+AreUpdated false old txn elements place new = AreRemoved old txn elements place new
+AreUpdated true old txn elements place new = AreAdded old txn elements place new

@@ -11,24 +11,24 @@ use std::alloc::Global;
 #[derive(Drop)]
 pub struct Changes {
     /// Of each logged call the place of the last one before it that changed the same transaction.
-    pub earlier: Vec<Option<u32>>,
+    pub previous_change: Vec<Option<u32>>,
     /// Of each committed transaction the place of the last call that changed it.
     pub(crate) last: Vec<u32>,
     /// The place behind the last call that changed a transaction again: that undid or redid it. 0 at first.
-    pub again: usize,
+    pub last_undo_or_redo: usize,
 }
 
 impl Changes {
     /// Returns what is kept of no calls.
     pub fn new(alloc: Global) -> Changes
-        ensures earlier { result.earlier.items ≡ [] }
+        ensures previous_change { result.previous_change.items ≡ [] }
         ensures last { result.last.items ≡ [] }
-        ensures again { result.again ≡ 0 }
+        ensures last_undo_or_redo { result.last_undo_or_redo ≡ 0 }
     {
         Changes {
-            earlier: Vec::new(alloc),
+            previous_change: Vec::new(alloc),
             last: Vec::new(alloc),
-            again: 0,
+            last_undo_or_redo: 0,
         }
     }
 
@@ -38,12 +38,12 @@ impl Changes {
     ///
     /// `NoMemory`, if an allocation fails.
     pub fn reserve_call(&mut self) -> Result<(), NoMemory>
-        ensures earlier { self.new.earlier.items ≡ self.old.earlier.items }
+        ensures previous_change { self.new.previous_change.items ≡ self.old.previous_change.items }
         ensures last { self.new.last.items ≡ self.old.last.items }
-        ensures again { self.new.again ≡ self.old.again }
-        ensures room { OnOk result (vec_len self.new.earlier < vec_capacity self.new.earlier) }
+        ensures last_undo_or_redo { self.new.last_undo_or_redo ≡ self.old.last_undo_or_redo }
+        ensures room { OnOk result (vec_len self.new.previous_change < vec_capacity self.new.previous_change) }
     {
-        self.earlier.reserve(1)?;
+        self.previous_change.reserve(1)?;
         Ok(())
     }
 
@@ -53,50 +53,50 @@ impl Changes {
     ///
     /// `NoMemory`, if an allocation fails.
     pub fn reserve_commit(&mut self) -> Result<(), NoMemory>
-        ensures earlier { self.new.earlier.items ≡ self.old.earlier.items }
+        ensures previous_change { self.new.previous_change.items ≡ self.old.previous_change.items }
         ensures last { self.new.last.items ≡ self.old.last.items }
-        ensures again { self.new.again ≡ self.old.again }
-        ensures room { OnOk result (vec_len self.new.earlier < vec_capacity self.new.earlier) }
+        ensures last_undo_or_redo { self.new.last_undo_or_redo ≡ self.old.last_undo_or_redo }
+        ensures room { OnOk result (vec_len self.new.previous_change < vec_capacity self.new.previous_change) }
         ensures room_of_last { OnOk result (vec_len self.new.last < vec_capacity self.new.last) }
     {
-        self.earlier.reserve(1)?;
+        self.previous_change.reserve(1)?;
         self.last.reserve(1)?;
         Ok(())
     }
 
     /// Keeps that the next call changes no transaction.
     pub fn add_unchanged(&mut self)
-        requires room { vec_len self.old.earlier < vec_capacity self.old.earlier }
-        ensures earlier { self.new.earlier.items ≡ self.old.earlier.items ++ None ∷ [] }
+        requires room { vec_len self.old.previous_change < vec_capacity self.old.previous_change }
+        ensures previous_change { self.new.previous_change.items ≡ self.old.previous_change.items ++ None ∷ [] }
         ensures last { self.new.last.items ≡ self.old.last.items }
-        ensures again { self.new.again ≡ self.old.again }
+        ensures last_undo_or_redo { self.new.last_undo_or_redo ≡ self.old.last_undo_or_redo }
     {
-        self.earlier.push(None).unwrap();
+        self.previous_change.push(None).unwrap();
     }
 
     /// Keeps that the next call, at this place, commits the next transaction.
     pub fn add_commit(&mut self, place: u32)
-        requires room { vec_len self.old.earlier < vec_capacity self.old.earlier }
+        requires room { vec_len self.old.previous_change < vec_capacity self.old.previous_change }
         requires room_of_last { vec_len self.old.last < vec_capacity self.old.last }
-        ensures earlier { self.new.earlier.items ≡ self.old.earlier.items ++ None ∷ [] }
+        ensures previous_change { self.new.previous_change.items ≡ self.old.previous_change.items ++ None ∷ [] }
         ensures last { self.new.last.items ≡ self.old.last.items ++ place ∷ [] }
-        ensures again { self.new.again ≡ self.old.again }
+        ensures last_undo_or_redo { self.new.last_undo_or_redo ≡ self.old.last_undo_or_redo }
     {
-        self.earlier.push(None).unwrap();
+        self.previous_change.push(None).unwrap();
         self.last.push(place).unwrap();
     }
 
     /// Keeps that the next call, at this place, changes the transaction at this index again.
-    pub fn add_again(&mut self, index: usize, place: u32)
+    pub fn add_undo_or_redo(&mut self, index: usize, place: u32)
         requires index { index < vec_len self.old.last }
-        requires room { vec_len self.old.earlier < vec_capacity self.old.earlier }
-        ensures earlier { self.new.earlier.items ≡ self.old.earlier.items ++ slice_get self.old.last.items index ∷ [] }
+        requires room { vec_len self.old.previous_change < vec_capacity self.old.previous_change }
+        ensures previous_change { self.new.previous_change.items ≡ self.old.previous_change.items ++ slice_get self.old.last.items index ∷ [] }
         ensures last { self.new.last.items ≡ slice_set self.old.last.items index place }
-        ensures again { self.new.again ≡ place + 1 }
+        ensures last_undo_or_redo { self.new.last_undo_or_redo ≡ place + 1 }
     {
-        self.earlier.push(Some(self.last[index])).unwrap();
+        self.previous_change.push(Some(self.last[index])).unwrap();
         self.last[index] = place;
-        self.again = place as usize + 1;
+        self.last_undo_or_redo = place as usize + 1;
     }
 }
 

@@ -121,7 +121,7 @@ impl Entry {
 }
 
 /// Marks the transaction at this place as live, or as undone.
-pub(crate) fn mark_at(entries: &mut Vec<Entry>, place: usize, live: bool)
+pub(crate) fn set_mark(entries: &mut Vec<Entry>, place: usize, live: bool)
     requires { place < vec_len entries.old }
     ensures { (entry : Kept) → slice_get entries.old.items place ≡ Some entry
         → entries.new.items ≡ slice_set entries.old.items place (marked live entry) }

@@ -83,7 +83,7 @@ impl Book {
         ensures { result ≡ stale_by self.now.entries footprint.now (drop since self.now.log) }
     {
         let near = self.committed_before(since);
-        if self.changes.again <= since && !self.is_written_from(footprint, near) {
+        if self.changes.last_undo_or_redo <= since && !self.is_written_from(footprint, near) {
             return None;
         }
         self.first_stale(footprint, since, near)
@@ -137,7 +137,7 @@ impl Book {
         requires { place < length self.now.log }
         ensures { result ≡ first_change self.now.log since place }
     {
-        if is_before(self.changes.earlier[place], since) {
+        if is_before(self.changes.previous_change[place], since) {
             return changed_in(&self.log[place]);
         }
         None

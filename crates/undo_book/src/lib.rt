@@ -46,7 +46,7 @@
 //! # Files
 //!
 //! - `book.rt`, `entry.rt`, `session.rt`, `changes.rt`: the state.
-//! - `open.rt`, `commit.rt`, `undo.rt`, `redo.rt`: a call each. `remark.rt` is what undo and redo
+//! - `open.rt`, `commit.rt`, `undo.rt`, `redo.rt`: a call each. `set_live.rt` is what undo and redo
 //!   share.
 //! - `find.rt`, `links.rt`: transactions by their names, and what is against undoing or redoing
 //!   them. `by_element.rt`: transactions by what they wrote or touched.
@@ -72,8 +72,8 @@ mod find;
 mod links;
 mod open;
 mod redo;
-mod remark;
 mod session;
+mod set_live;
 mod undo;
 
 pub use book::{Book, MAX_CALLS};

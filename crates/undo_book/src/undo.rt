@@ -36,7 +36,7 @@ impl Book {
             return Err(BookFault::LogFull);
         }
         match self.undo_place(alloc, txn) {
-            Ok((place, met)) => Ok(self.remark(alloc, session, txn, place, &met, false)?),
+            Ok((place, met)) => Ok(self.set_live(alloc, session, txn, place, &met, false)?),
             Err(BookFault::NoMemory) => Err(BookFault::NoMemory),
             Err(fault) => {
                 self.log_refusal(session, Call::Undo(txn), fault)?;

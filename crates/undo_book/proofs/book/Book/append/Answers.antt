@@ -68,10 +68,10 @@ invariant_of-self-2 c =
     (search rules) c.requires.own c.requires.fresh in
     let call : Logged = record { session = work.id.session; call = Commit work.id work.commands; answer = Committed } in
     let log : c.push-2.new.self.items ≡ c.self.inside.log.items ++ call ∷ [] = search rules in
-    let earlier : c.add_commit.new.self.earlier.items ≡ c.self.inside.changes.earlier.items ++ None ∷ [] = search rules in
+    let earlier : c.add_commit.new.self.previous_change.items ≡ c.self.inside.changes.previous_change.items ++ None ∷ [] = search rules in
     let changed : c.add_commit.new.self.last.items ≡ c.self.inside.changes.last.items ++ length c.self.inside.log.items ∷ [] =
     search rules in
-    let again : c.add_commit.new.self.again ≡ c.self.inside.changes.again = search rules in
+    let again : c.add_commit.new.self.last_undo_or_redo ≡ c.self.inside.changes.last_undo_or_redo = search rules in
     let last : c.len-index.result ≡ length c.self.inside.entries.items = search rules in
     let put : IsPutUnder c.id-txn.result c.len-index.result c.self.inside.places.entries c.list_at.new.places.entries =
     search rules in

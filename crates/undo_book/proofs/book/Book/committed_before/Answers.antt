@@ -11,7 +11,7 @@ returns c =
     let b = c.self.inside in
     let since = c.args.since in
     let rising = subst (λ (es : List Entry). IsNonDecreasingBy (λ (e : Entry). e.place) es) (sym c.deref.ensures.value)
-    (rising_so b.changes.again b.changes.last.items b.log.items b.entries.items c.self.invariant.commits) in
+    (rising_so b.changes.last_undo_or_redo b.changes.last.items b.log.items b.entries.items c.self.invariant.commits) in
     let parted = IsPartitionedBy-ltb (λ (e : Entry). e.place) c.deref.result.now since rising in
     let point = IsPartitionPoint-from_clause (λ (e : Entry). ltb e.place since) _ _ c.partition_point.ensures.partitioned parted
     (λ a r q k. search rules) in

@@ -6,18 +6,18 @@ ghost use Rattle.undo_rules.specs.Steps.{is_log_full, with_mark};
 ghost use Rattle.undo_index.specs.Listed.{IsNew};
 ghost use Rattle.undo_book.specs.Indexed.{IsMetAt};
 ghost use Rattle.undo_book.specs.Marks.{
-  AreRelisted,
+  AreUpdated,
   after_mark,
   mark_answer,
   mark_call,
   mark_refusal,
-  relaid,
+  layout_by,
 };
 ghost use Rattle.undo_book.specs.Places.{place_of};
 ghost use Rattle.undo_book.specs.Replays.{CanBeRedone, replay};
 
 use crate::book::Book;
-use crate::entry::{Entry, mark_at};
+use crate::entry::{Entry, set_mark};
 use lay_items::Snapshot;
 use lay_point::NoMemory;
 use std::alloc::Global;
@@ -29,7 +29,7 @@ use undo_rules::{Answer, Call, Logged, SessionId};
 impl Book {
     /// Marks the transaction at this place, whose records meet these elements, as live, or as undone, which
     /// nothing is against: applies what it wrote, or reverts it.
-    pub(crate) fn remark(
+    pub(crate) fn set_live(
         &mut self,
         alloc: Global,
         session: SessionId,
@@ -48,12 +48,12 @@ impl Book {
         ensures err { OnErr result (self.new ≡ self.old) }
     {
         let entry = &self.entries[place];
-        let layout = relaid(alloc, &self.layout, &entry.writes, live)?;
+        let layout = layout_by(alloc, &self.layout, &entry.writes, live)?;
         self.log.reserve(1)?;
         self.changes.reserve_call()?;
-        relist(&mut self.index, entry, met, place, live)?;
-        self.changes.add_again(place, self.log.len() as u32);
-        mark_at(&mut self.entries, place, live);
+        update_index(&mut self.index, entry, met, place, live)?;
+        self.changes.add_undo_or_redo(place, self.log.len() as u32);
+        set_mark(&mut self.entries, place, live);
         self.log.push(marking(session, txn, live)).unwrap();
         self.layout = layout;
         Ok(())
@@ -61,15 +61,15 @@ impl Book {
 }
 
 /// Returns the layout with the values after, or with those before.
-fn relaid(
+fn layout_by(
     alloc: Global,
     layout: &Snapshot,
     writes: &Records,
     live: bool,
 ) -> Result<Snapshot, NoMemory>
     requires proper { AreProper writes.now }
-    requires sound { IsSound (relaid live layout.now writes.now) }
-    ensures { IfOk result (λ new. new ≡ relaid live layout.now writes.now) }
+    requires sound { IsSound (layout_by live layout.now writes.now) }
+    ensures { IfOk result (λ new. new ≡ layout_by live layout.now writes.now) }
 {
     if live {
         writes.applied(alloc, layout)
@@ -80,15 +80,15 @@ fn relaid(
 
 /// Lists a transaction at its place, as live or no longer, with the elements that its records meet. Only the first
 /// can be out of memory, and then all stays as it was where it isn't listed.
-fn relist(
+fn update_index(
     index: &mut Index,
     entry: &Entry,
     met: &Elements,
     place: usize,
     live: bool,
 ) -> Result<(), NoMemory>
-    ensures writers { OnOk result (AreRelisted live index.old.writers entry.now.txn met.now place index.new.writers) }
-    ensures readers { OnOk result (AreRelisted live index.old.readers entry.now.txn entry.now.footprint place index.new.readers) }
+    ensures writers { OnOk result (AreUpdated live index.old.writers entry.now.txn met.now place index.new.writers) }
+    ensures readers { OnOk result (AreUpdated live index.old.readers entry.now.txn entry.now.footprint place index.new.readers) }
     ensures live { OnErr result (live ≡ true) }
     ensures same_writers { OnErr result (IsNew index.old.writers place
         → index.new.writers ≡ index.old.writers) }

@@ -11,7 +11,7 @@ use Rattle.txn_commands.specs.Records.{AreProper}
 use Rattle.lay_layouts.specs.Sound.{IsSound}
 use Rattle.txn_marks.specs.Homes.{AreMetBy}
 use Rattle.undo_index.specs.Listed.{IsNew}
-use Rattle.undo_book.specs.Marks.{AreRelisted, mark_answer, mark_call, relaid}
+use Rattle.undo_book.specs.Marks.{AreUpdated, mark_answer, mark_call, layout_by}
 use Rattle.undo_book.specs.Books.{history_of}
 use Rattle.undo_book.specs.Places.{IndexesByName, place_of}
 use Rattle.undo_book.specs.Indexed.{AreIndexed}
@@ -22,7 +22,7 @@ use Rattle.undo_book.proofs.IndexLemmas.{places_marked}
 use Rattle.undo_book.proofs.PlaceLemmas.{place_within}
 use Rattle.undo_book.proofs.SinceLemmas.{again_commits_so}
 use Rattle.undo_book.proofs.UndoLemmas.{IsMarked, LeavesMarked, marked_at}
-use Rattle.undo_book.proofs.book.Book.remark.Goals as goal
+use Rattle.undo_book.proofs.book.Book.set_live.Goals as goal
 
 -- the place is that of a transaction
 within : (b now : History) → b ≡ now → (txn : TxnId) (place : ℕ) → place_of txn now.entries ≡ Some place → place < length b.entries
@@ -43,27 +43,27 @@ index-entry-requires c =
     let len : vec_len c.self.inside.entries ≡ length c.self.inside.entries.items = search rules in
     omega (arith, less, len)
 
-pub relaid-requires-clause-proper : goal.relaid-requires-clause-proper
-relaid-requires-clause-proper c =
+pub layout_by-requires-clause-proper : goal.layout_by-requires-clause-proper
+layout_by-requires-clause-proper c =
     subst (λ (e : Entry). AreProper e.writes) (sym c.entry.view_is)
     (marked_at c.args.live (history_of c.self.inside) c.args.self.now c.self.view_is c.self.invariant.history c.args.session c.args.txn
     c.args.place c.index-entry.result.now c.requires.place c.index-entry.ensures c.requires.free).proper
 
-pub relaid-requires-clause-sound : goal.relaid-requires-clause-sound
-relaid-requires-clause-sound c =
-    subst (λ (e : Entry). IsSound (relaid c.args.live c.self.inside.layout e.writes)) (sym c.entry.view_is)
+pub layout_by-requires-clause-sound : goal.layout_by-requires-clause-sound
+layout_by-requires-clause-sound c =
+    subst (λ (e : Entry). IsSound (layout_by c.args.live c.self.inside.layout e.writes)) (sym c.entry.view_is)
     (marked_at c.args.live (history_of c.self.inside) c.args.self.now c.self.view_is c.self.invariant.history c.args.session c.args.txn
     c.args.place c.index-entry.result.now c.requires.place c.index-entry.ensures c.requires.free).sound
 
 -- the last change of the transaction is kept
-pub add_again-requires-clause-index : goal.add_again-requires-clause-index
-add_again-requires-clause-index c =
+pub add_undo_or_redo-requires-clause-index : goal.add_undo_or_redo-requires-clause-index
+add_undo_or_redo-requires-clause-index c =
     let less = within (history_of c.self.inside) c.args.self.now c.self.view_is c.args.txn c.args.place c.requires.place in
     let len : vec_len c.reserve_call.new.self.last ≡ length c.self.inside.changes.last.items = search rules in
     omega (arith, less, c.self.invariant.changes.long, len)
 
-pub mark_at-requires : goal.mark_at-requires
-mark_at-requires c =
+pub set_mark-requires : goal.set_mark-requires
+set_mark-requires c =
     let less = within (history_of c.self.inside) c.args.self.now c.self.view_is c.args.txn c.args.place c.requires.place in
     let len : vec_len c.self.inside.entries ≡ length c.self.inside.entries.items = search rules in
     omega (arith, less, len)
@@ -78,42 +78,42 @@ can c = marked_at c.args.live (history_of c.self.inside) c.args.self.now c.self.
 left : (c : goal.After-drop-self-inside) → LeavesMarked c.args.live c.args.self.now (history_of (record c.self.inside {
   layout = c.in_ok-layout.layout;
   log = c.push.new.self;
-  entries = c.mark_at.new.entries;
+  entries = c.set_mark.new.entries;
 })) c.args.session c.args.txn
 left c =
-    let written : c.in_ok-layout.layout ≡ relaid c.args.live c.self.inside.layout c.entry.inside.writes = search rules in
-    let layout : c.in_ok-layout.layout ≡ relaid c.args.live c.self.inside.layout c.index-entry.result.now.writes =
-    written ∙ ap (λ (e : Entry). relaid c.args.live c.self.inside.layout e.writes) c.entry.view_is in
+    let written : c.in_ok-layout.layout ≡ layout_by c.args.live c.self.inside.layout c.entry.inside.writes = search rules in
+    let layout : c.in_ok-layout.layout ≡ layout_by c.args.live c.self.inside.layout c.index-entry.result.now.writes =
+    written ∙ ap (λ (e : Entry). layout_by c.args.live c.self.inside.layout e.writes) c.entry.view_is in
     let log : c.push.new.self.items ≡ c.self.inside.log.items ++ call_of c.args.session c.args.txn c.args.live ∷ [] = search rules in
-    (can c).left c.in_ok-layout.layout c.push.new.self.items c.mark_at.new.entries.items layout log
-    (c.mark_at.ensures c.index-entry.result.now (can c).there)
+    (can c).left c.in_ok-layout.layout c.push.new.self.items c.set_mark.new.entries.items layout log
+    (c.set_mark.ensures c.index-entry.result.now (can c).there)
 
 -- who wrote and touched what
-indexed : (c : goal.After-drop-self-inside) → AreIndexed c.relist.new.index.writers c.relist.new.index.readers c.mark_at.new.entries.items
+indexed : (c : goal.After-drop-self-inside) → AreIndexed c.update_index.new.index.writers c.update_index.new.index.readers c.set_mark.new.entries.items
 indexed c =
     let was = c.self.inside.index in
     let entry = c.index-entry.result.now in
     let less = within (history_of c.self.inside) c.args.self.now c.self.view_is c.args.txn c.args.place c.requires.place in
     let there = ap (λ (h : History). slice_get h.entries c.args.place) (sym c.self.view_is) ∙ (can c).there in
     let are : AreMetBy entry.writes c.args.met.now = c.requires.met entry there in
-    let wrote_it : AreRelisted c.args.live was.writers entry.txn c.args.met.now c.args.place c.relist.new.index.writers = search rules in
-    let read_it : AreRelisted c.args.live was.readers entry.txn entry.footprint c.args.place c.relist.new.index.readers = search rules in
-    mark_indexed c.args.live was.writers was.readers c.relist.new.index.writers c.relist.new.index.readers c.self.inside.entries.items
-    c.mark_at.new.entries.items c.args.place entry c.args.met.now c.self.invariant.index wrote_it read_it are (can c).other (can c).there
-    less (c.mark_at.ensures entry (can c).there)
+    let wrote_it : AreUpdated c.args.live was.writers entry.txn c.args.met.now c.args.place c.update_index.new.index.writers = search rules in
+    let read_it : AreUpdated c.args.live was.readers entry.txn entry.footprint c.args.place c.update_index.new.index.readers = search rules in
+    mark_indexed c.args.live was.writers was.readers c.update_index.new.index.writers c.update_index.new.index.readers c.self.inside.entries.items
+    c.set_mark.new.entries.items c.args.place entry c.args.met.now c.self.invariant.index wrote_it read_it are (can c).other (can c).there
+    less (c.set_mark.ensures entry (can c).there)
 
 pub invariant_of-self-2 : goal.invariant_of-self-2
 invariant_of-self-2 c =
     let is = left c in
     let h : History = history_of c.self.inside in
-    let marks : c.mark_at.new.entries.items ≡ remarked c.args.live c.args.txn h.entries =
+    let marks : c.set_mark.new.entries.items ≡ remarked c.args.live c.args.txn h.entries =
     is.marks ∙ ap (λ (x : History). remarked c.args.live c.args.txn x.entries) (sym c.self.view_is) in
     let call : Logged = call_of c.args.session c.args.txn c.args.live in
     let log : c.push.new.self.items ≡ c.self.inside.log.items ++ call_of c.args.session c.args.txn c.args.live ∷ [] = search rules in
     let kept = c.self.inside.changes in
-    let earlier : c.add_again.new.self.earlier.items ≡ kept.earlier.items ++ slice_get kept.last.items c.args.place ∷ [] = search rules in
-    let last : c.add_again.new.self.last.items ≡ slice_set kept.last.items c.args.place (length c.self.inside.log.items) = search rules in
-    let again : c.add_again.new.self.again ≡ length c.self.inside.log.items + 1 = search rules in
+    let earlier : c.add_undo_or_redo.new.self.previous_change.items ≡ kept.previous_change.items ++ slice_get kept.last.items c.args.place ∷ [] = search rules in
+    let last : c.add_undo_or_redo.new.self.last.items ≡ slice_set kept.last.items c.args.place (length c.self.inside.log.items) = search rules in
+    let again : c.add_undo_or_redo.new.self.last_undo_or_redo ≡ length c.self.inside.log.items + 1 = search rules in
     record {
       history = is.history;
       places = subst (IndexesByName c.self.inside.places.entries) (sym marks)
@@ -134,8 +134,8 @@ returns-clause-replayed c = (left c).replayed
 pub returns-clause-back : goal.returns-clause-back
 returns-clause-back c = (left c).back
 
-pub invariant_of-self-in_err-relist : goal.invariant_of-self-in_err-relist
-invariant_of-self-in_err-relist c =
+pub invariant_of-self-in_err-update_index : goal.invariant_of-self-in_err-update_index
+invariant_of-self-in_err-update_index c =
     let was = c.self.inside.index in
     let entry = c.index-entry.result.now in
     let is = marked_at c.args.live (history_of c.self.inside) c.args.self.now c.self.view_is c.self.invariant.history c.args.session
@@ -143,7 +143,7 @@ invariant_of-self-in_err-relist c =
     let live : c.args.live ≡ true = search rules in
     let fresh = undone_new was.writers was.readers c.self.inside.entries.items c.args.place entry c.self.invariant.index is.there
     (is.other ∙ ap not live) in
-    let writers : IsNew was.writers c.args.place → c.relist.new.index.writers ≡ was.writers = search rules in
-    let readers : IsNew was.readers c.args.place → c.relist.new.index.readers ≡ was.readers = search rules in
+    let writers : IsNew was.writers c.args.place → c.update_index.new.index.writers ≡ was.writers = search rules in
+    let readers : IsNew was.readers c.args.place → c.update_index.new.index.readers ≡ was.readers = search rules in
     same_book c.self.inside _ (search rules) refl (search rules) (search rules) (search rules) (writers fresh.0) (readers fresh.1)
     c.self.invariant
