@@ -15,7 +15,7 @@ use txn_commands::{Command, Done, TxnId};
 use undo_rules::BookFault;
 
 /// Returns the layout without items.
-fn empty(alloc: Global) -> Result<Snapshot, Fail> {
+pub(crate) fn empty(alloc: Global) -> Result<Snapshot, Fail> {
     Ok(Snapshot::from_cif(alloc, cif_read::read(alloc, b"E")?)?)
 }
 

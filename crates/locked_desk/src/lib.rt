@@ -47,9 +47,11 @@
 //!
 //! # Example
 //!
+//! The test `examples::a_script_runs_in_a_thread` of `history_tests` runs this.
+//!
 //! ```text
 //! let run = run_scripts(&rt, alloc, 1, base, scripts)?;
-//! let order = order_of(alloc, run.closed.book.log(), run.replies.as_slice())?; // of `job_text`
+//! let order = order_of(alloc, run.closed.book.log(), run.replies.as_slice())?;
 //! ```
 #![tactic(auto)]
 

@@ -12,9 +12,13 @@
 //! - It has at most `MAX_SESSIONS` sessions, and each open transaction is the one that the book keeps for its
 //!   session (`IsState` of `specs/Machines.antt`), so a commit is never refused as foreign.
 //!
+//! # Example
+//!
+//! The test `examples::a_session_takes_steps` of `history_tests` runs this.
+//!
 //! ```text
 //! let steps = vec![in alloc; (1, Step::Open), (1, Step::Do(command)), (1, Step::Commit)]?;
-//! let (machine, replies) = Machine::run(rt, alloc, base, 1, steps, &OneBand)?;
+//! let (machine, replies) = Machine::run(&rt, alloc, base, 1, steps, &OneBand)?;
 //! let layout = machine.book().snapshot();
 //! ```
 #![tactic(auto)]

@@ -53,11 +53,13 @@
 //!
 //! # Example
 //!
+//! The test `examples::a_transaction_is_undone_and_redone` of `history_tests` runs this.
+//!
 //! ```text
 //! let mut book = Book::new(alloc, base)?;
 //! let mut work = book.open(alloc, 1)?;
-//! work.run(rt, alloc, command, &OneBand)?;
-//! let txn = book.commit(alloc, work)?;
+//! work.run(&rt, alloc, command, &OneBand)?;
+//! let txn = book.commit(alloc, work).map_err(|refusal| refusal.fault)?;
 //! book.undo(alloc, 1, txn)?;
 //! book.redo(alloc, 1, txn)?;
 //! ```
