@@ -7,7 +7,7 @@ use cif_read::{CifFile, Element, Figure};
 use lay_cells::CellId;
 use lay_items::{NumberedItems, Snapshot, Version};
 use lay_layouts::{Item, Rings};
-use lay_point::{Given, NoMemory};
+use lay_point::{NoMemory, ShrinkingIntoIter};
 use std::alloc::Global;
 
 /// Layouts that are made of a text. What they are made into is said by each type that has it: the method itself promises
@@ -40,7 +40,7 @@ fn numbered(alloc: Global, elements: Vec<Element>) -> Result<NumberedItems, NoMe
     ensures { IfOk result (λ items. items ≡ items_of_elements elements.items) }
 {
     let mut items = NumberedItems::new(alloc);
-    for Element { cell, figure } in Given::of(elements) {
+    for Element { cell, figure } in ShrinkingIntoIter::of(elements) {
         items.push(alloc, item_in(alloc, cell, figure)?)?;
     }
     Ok(items)

@@ -10,7 +10,7 @@ ghost use Rattle.session_core.specs.Machine.{IsNotForeign, Ran, TakesStep, is_se
 
 use band_workers::Bands;
 use lay_items::Snapshot;
-use lay_point::{Given, NoMemory};
+use lay_point::{NoMemory, ShrinkingIntoIter};
 use session_steps::{Reply, Step, StepFault};
 use std::alloc::Global;
 use std::marker::Model;
@@ -273,7 +273,7 @@ impl Machine {
     {
         let mut machine = Machine::new(alloc, base, sessions)?;
         let mut replies = Vec::with_capacity(alloc, steps.len())?;
-        for (session, step) in Given::of(steps) {
+        for (session, step) in ShrinkingIntoIter::of(steps) {
             let reply = machine.step(rt, alloc, session, step, bands);
             replies.push(reply)?;
         }

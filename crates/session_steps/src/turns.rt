@@ -6,7 +6,7 @@ ghost use Rattle.session_steps.specs.declared.Step.{Step as AnyStep};
 ghost use Rattle.session_steps.specs.Turns.{dealt, in_turn, is_first_alone, taken, with_step};
 
 use crate::{Reply, Step};
-use lay_point::{Given, NoMemory, Sequence};
+use lay_point::{NoMemory, Sequence, ShrinkingIntoIter};
 use std::alloc::Global;
 use std::collections::VecDeque;
 use std::marker::Model;
@@ -134,7 +134,7 @@ pub fn dealt(
         return shown(alloc, vec![in alloc; Hand { replies }]?);
     }
     let mut hands = empty_hands(alloc, &shares(alloc, sessions, order)?)?;
-    let mut left = Given::of(replies);
+    let mut left = ShrinkingIntoIter::of(replies);
     for session in order {
         match left.next() {
             Some(reply) => deal(&mut hands, *session, reply)?,
