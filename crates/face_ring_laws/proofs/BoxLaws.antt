@@ -210,7 +210,7 @@ touch_by_place k x y b c scale h g =
     let gs = four_true (int_le (k *ℤ c.low.x) x) (int_le x (k *ℤ c.high.x)) (int_le (k *ℤ c.low.y) y) (int_le y (k *ℤ c.high.y)) g in
     all_four (int_le b.low.x c.high.x) (int_le b.low.y c.high.y) (int_le c.low.x b.high.x) (int_le c.low.y b.high.y)
     (between b.low.x c.high.x x hs.0 gs.1) (between b.low.y c.high.y y hs.2 gs.3) (between c.low.x b.high.x x gs.0 hs.1)
-        (between c.low.y b.high.y y gs.2 hs.3)
+    (between c.low.y b.high.y y gs.2 hs.3)
   where
     between : (a d z : ℤ) → int_le (k *ℤ a) z ≡ true → int_le z (k *ℤ d) ≡ true → int_le a d ≡ true
     between a d z low high =

@@ -27,7 +27,7 @@ bottom_cmp_total = then_total (on_total (λ (b : Bottom). b.y) int_cmp_total) (o
 le_by_cmp : (x y : ℤ) (o : Ordering) → o ≡ int_cmp x y → is_lt o ≡ false → y ≤ℤ x
 le_by_cmp x y o e h = by_ranked (x <ℤ y) (x ≡ y) (y <ℤ x) o (int_ranked x y o e)
     (λ same less. absurd (false≢true (sym h ∙ ap is_lt same))) (λ same equal. omega (arith, ints, equal))
-        (λ same more. omega (arith, ints, more))
+    (λ same more. omega (arith, ints, more))
 
 rise : (bottoms : List Bottom) → IsSorted bottom_cmp bottoms → (i j : ℕ) (d : Bottom) → i ≤ j → j < length bottoms
     → (get_or bottoms i d).y ≤ℤ (get_or bottoms j d).y

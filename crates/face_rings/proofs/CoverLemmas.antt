@@ -159,7 +159,7 @@ module _ (boxes : List Rect) (numbers : List ℕ) (s : Stretch) (height : All Ha
 
   module _ (from to : ℕ → Bool)
       (one_covers : (a b : ℕ) → from a ≡ true → to b ≡ true → (covers s (numbered_box boxes a) ≡ true)
-          ⊎ (covers s (numbered_box boxes b) ≡ true))
+      ⊎ (covers s (numbered_box boxes b) ≡ true))
       (start now : List ℕ) (i : ℕ) (opened : List ℕ) (each : length start ≡ length boxes) (lt : i < length numbers)
       (h : IsPass boxes numbers from to start now i opened) where
     whole : length now ≡ length boxes

@@ -115,11 +115,11 @@ pushed_by_bottom : (boxes : List Rect) (part : List ℕ) (n : ℕ) → AreByBott
     → ((k : ℕ) → Contains part k → (numbered_box boxes k).low.y ≤ℤ (numbered_box boxes n).low.y) → AreByBottom boxes (part ++ n ∷ [])
 pushed_by_bottom boxes part n h above i j le lt = ⊎_elim
     (λ (early : j < length part). coe 1 0 (t. low_side boxes (get_or_append_left part (n ∷ []) 0 i (omega arith) t) ≤ℤ low_side boxes
-        (get_or_append_left part (n ∷ []) 0 j early t)) (h i j le early))
+    (get_or_append_left part (n ∷ []) 0 j early t)) (h i j le early))
     (λ (late : length part ≤ j).
     let last : j ≡ length part = omega (arith, length-append part (n ∷ [])) in
     coe 1 0 (t. low_side boxes (get_or (part ++ n ∷ []) i 0) ≤ℤ low_side boxes (get_or_push part n 0 j (sym last) t))
-        (to_last i (omega arith)))
+    (to_last i (omega arith)))
     (cases_lt j (length part))
   where
     to_last : (i : ℕ) → i ≤ length part → low_side boxes (get_or (part ++ n ∷ []) i 0) ≤ℤ low_side boxes n

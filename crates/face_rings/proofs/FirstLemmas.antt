@@ -79,7 +79,7 @@ pub record IsPutting (edges : List Ends) (ends : List End) (firsts : List Firsts
 
 module _ (edges : List Ends) (ends : List End) (firsts : List Firsts) (first i : ℕ) (whole : AreEndsOf edges ends) (lt : i < length ends)
     (h : IsPutting edges ends firsts first i) (end : End) (is_end : end ≡ get_or ends i end) (next : ℕ)
-        (is_next : next ≡ next_first ends first i)
+    (is_next : next ≡ next_first ends first i)
     (e : Ends) (is_edge : e ≡ get_or edges end.edge e) (old new : Firsts) (is_old : old ≡ get_or firsts end.edge old)
     (low : new.low ≡ cond (point_eq e.0 end.at) next old.low) (high : new.high ≡ cond (point_eq e.1 end.at) next old.high) where
   is_this : get_or ends i no_end ≡ end

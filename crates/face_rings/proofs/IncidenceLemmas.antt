@@ -304,8 +304,13 @@ search_kept edges i h at first index less s = record {
 
 pub search_marked : (edges : List Ends) (i : Incidence) → IsIncidence edges i → (at : Point) (first index e : ℕ)
     → first < length i.cursors.items → e < length i.used.items → IsSearch edges i.ends.items i.used.items at first index
-    → IsIncidence edges (record { ends = i.ends; firsts = i.firsts; cursors = with_item i.cursors first index; used = with_item i.used e
-        true })
+    → IsIncidence edges (record {
+      ends = i.ends;
+      firsts = i.firsts;
+      cursors = with_item i.cursors first index;
+      used = with_item i.used e
+          true;
+    })
 search_marked edges i h at first index e less inside s = record {
   ends = h.ends;
   firsts = h.firsts;

@@ -117,7 +117,7 @@ further_more s p ps r rs h later = by_test (point_eq p s) refl
         let added = subst (λ z. added_len z (p ∷ ps) ≡ suc (length ps)) same (added_same p ps) in omega (arith, next, sum, added, later)
     by_test false e =
         let apart : point_eq s p ≡ false = points_decide.apart s p
-            (λ same. false≢true (sym e ∙ ap (point_eq p) same ∙ points_decide.itself p)) in
+        (λ same. false≢true (sym e ∙ ap (point_eq p) same ∙ points_decide.itself p)) in
         let next = next_other s p ps (further s (r ∷ rs)) apart e h.0.apart some in
         let sum = sum_by-cons (added_len s) (p ∷ ps) (r ∷ rs) in
         let added = added_other s p ps e in omega (arith, next, sum, added, later)
@@ -134,7 +134,7 @@ further_len s (p ∷ ps) [] h = by_test (point_eq p s) refl
         let added = added_same p ps in omega (arith, last, sum, added))
     by_test false e =
         let apart : point_eq s p ≡ false = points_decide.apart s p
-            (λ same. false≢true (sym e ∙ ap (point_eq p) same ∙ points_decide.itself p)) in
+        (λ same. false≢true (sym e ∙ ap (point_eq p) same ∙ points_decide.itself p)) in
         let last = last_other s p ps apart h.0.apart in
         let sum = sum_by-cons (added_len s) (p ∷ ps) [] in
         let added = added_other s p ps e in omega (arith, last, sum, added)

@@ -1,6 +1,25 @@
 -- How lists of boxes are joined: those that are joined, directly or through others, are in one tree.
-use Rattle.std.specs.Prelude.{◌≡◌, ◌⊎◌, ℕ, ◌<◌, ◌≤◌, Bool, true, not, ◌||◌, ◌&&◌, ◌≤ℤ◌, int_le, int_lt, pos, List, [], ◌∷◌, length,
-    Contains}
+use Rattle.std.specs.Prelude.{
+  ◌≡◌,
+  ◌⊎◌,
+  ℕ,
+  ◌<◌,
+  ◌≤◌,
+  Bool,
+  true,
+  not,
+  ◌||◌,
+  ◌&&◌,
+  ◌≤ℤ◌,
+  int_le,
+  int_lt,
+  pos,
+  List,
+  [],
+  ◌∷◌,
+  length,
+  Contains,
+}
 use Rattle.std.specs.Prelude.{slice_index, slice_index_or}
 use Rattle.lay_point.specs.declared.rect.Rect.{Rect}
 use Rattle.face_ring_laws.specs.Parts.{AreJoined}

@@ -9,8 +9,18 @@ use Rattle.std.specs.List.Sorted.{IsStrictlyIncreasing}
 use Rattle.std.proofs.Math.ListN.{length-map, length-set}
 use Rattle.std.proofs.lemmas.Bool.{cases_eq, cases_lt}
 use Rattle.std.proofs.lemmas.Bool.Decides.{nat_tests}
-use Rattle.std.proofs.lemmas.List.{append-nil, drop_at, get_or-append_right, get_or-map, get_or-set_other, get_or-set_same,
-    get_or_append_left, length-append, take_at, take_more}
+use Rattle.std.proofs.lemmas.List.{
+  append-nil,
+  drop_at,
+  get_or-append_right,
+  get_or-map,
+  get_or-set_other,
+  get_or-set_same,
+  get_or_append_left,
+  length-append,
+  take_at,
+  take_more,
+}
 use Rattle.std.proofs.lemmas.List.Elements.{Contains-get_or}
 use Rattle.std.proofs.lemmas.List.Folds.{list_any-append}
 use Rattle.std.proofs.lemmas.List.Kept.{AllPairs-from_increasing}
@@ -95,7 +105,7 @@ cut_here r p right left place h bound before behind = ⊎_elim
     let far = before (place - 1) last in
     let inside : (place - 1) - length right < length left = omega (arith, length-append right left) in
     let near = subst (λ n. distance_from r p n <ℤ pos 0)
-        (sym (get_or-append_right right left (length right) (place - 1) 0 refl (omega arith)))
+    (sym (get_or-append_right right left (length right) (place - 1) 0 refl (omega arith)))
     (h.are_left (get_or left ((place - 1) - length right) 0) (Contains-get_or left ((place - 1) - length right) 0 inside)) in
     absurd (omega (arith, linear, near, far)))
     (λ (le : place ≤ length right). omega arith)
@@ -138,7 +148,7 @@ pub rising_up : (keys : List ℕ) → IsStrictlyIncreasing keys → (i j : ℕ) 
 rising_up keys rising i j le inside = ⊎_elim
     (λ (less : i < j). let b = AllPairs-from_increasing keys rising i j 0 less inside in omega arith)
     (λ (ge : j ≤ i). let same : i ≡ j = omega arith in let b : get_or keys i 0
-        ≡ get_or keys j 0 = ap (λ k. get_or keys k 0) same in omega arith)
+    ≡ get_or keys j 0 = ap (λ k. get_or keys k 0) same in omega arith)
     (cases_lt i j)
 
 -- ---- one list that is changed

@@ -17,8 +17,17 @@ use Rattle.face_rows.specs.Lines.{edge_at, nowhere}
 use Rattle.snap_chains.specs.Rounded.{Owned}
 use Rattle.face_rows.specs.Rows.{AreSomeRowEdges, CrossesRow, IsLeftOf, crossing, rise, upward}
 use Rattle.face_rows.specs.Sound.{AreSound}
-use Rattle.face_sweep.specs.Points.{AreBegunAt, HasHigh, IsEndedGroup, IsPassed, IsPlaceAmong, IsStatus, IsEndPoint, TellsAll,
-    distance_from}
+use Rattle.face_sweep.specs.Points.{
+  AreBegunAt,
+  HasHigh,
+  IsEndedGroup,
+  IsPassed,
+  IsPlaceAmong,
+  IsStatus,
+  IsEndPoint,
+  TellsAll,
+  distance_from,
+}
 use Rattle.face_sweep.proofs.PointLemmas.{begins_none, beside_below, beside_own, ends_none, in_order, meets, none_begins, none_ends, span}
 
 -- ---- lists
@@ -142,11 +151,11 @@ module _ (r : Owned) (sound : AreSound r) where
           let b = before_by_number (IsBeforeIn r.0 (p.y -ℤ pos 1)) (before_strict r.0 (p.y -ℤ pos 1)) below i k 0
           (before_rising r.0 (p.y -ℤ pos 1) below (λ n m. row_below.members n (contains below n m)) row_below.rising) less low in
           let o = in_order r sound p (p.y -ℤ pos 1) (beside_below r sound p) (get_or below i 0) (get_or below k 0) b.first b.second
-              b.left in
+          b.left in
           let si = sym (get_left below above i (omega arith)) in
           let sk = sym (get_left below above k low) in
           subst (λ n. AreAlong p (at i) n) sk (subst (λ m. AreAlong p m (get_or below k 0)) si
-              (record { from = o.from; behind = o.behind })))
+          (record { from = o.from; behind = o.behind })))
           (λ (high : length below ≤ k).
           let far = right (at k) (above_at k high inside) in
           record { from = λ h. omega (arith, linear); behind = λ h. far })
@@ -275,7 +284,7 @@ pub status_rest : (r : Owned) (p : Point) (numbers : List ℕ) (from to : ℕ) �
     → IsEndedGroup r p numbers from to → drop to numbers ≡ s.above
 status_rest r p numbers from to sound v s h =
     let last = group_end r sound p v s.below s.above s.row_below s.left s.right from to
-        (subst (λ ns. IsEndedGroup r p ns from to) s.joined h) in
+    (subst (λ ns. IsEndedGroup r p ns from to) s.joined h) in
     ap (drop to) s.joined ∙ drop_at s.below s.above to (sym last)
 
 -- once the point is passed, the edges that begin there and those right of it are those of its own row

@@ -47,8 +47,17 @@ use Rattle.face_sweep.specs.Stops.{IsHead, IsHeadUpTo, IsNextPlace, IsPlaceRun}
 use Rattle.face_sweep.specs.Stops.{IsWithRisers}
 use Rattle.face_sweep.specs.Ends.{AreBegins, AreSortedEnds, AreReordered, AreMadeEnds, ArePlacesInOrder, AreTops, HasLowPlace, HasTopPlace}
 use Rattle.face_sweep.specs.Ends.{IsBeginOf, IsNoLater, IsSooner, IsTopOf, above_least, begin_cmp, begin_number, begin_numbers, begin_of}
-use Rattle.face_sweep.specs.Ends.{begin_places, edge_begins, edge_tops, from_least, is_level, level_part, place_cmp, sweep_place,
-    swept_point}
+use Rattle.face_sweep.specs.Ends.{
+  begin_places,
+  edge_begins,
+  edge_tops,
+  from_least,
+  is_level,
+  level_part,
+  place_cmp,
+  sweep_place,
+  swept_point,
+}
 use Rattle.face_sweep.specs.declared.ends.Begin.{Begin}
 use Rattle.face_sweep.specs.declared.ends.Ends.{Ends}
 use Rattle.face_sweep.specs.declared.ends.Place.{Place}
@@ -68,7 +77,7 @@ place_back q =
     let y = offset_shifted (q.key / 4294967296) in
     let x = offset_shifted (4294967295 - q.key % 4294967296) in
     let key : from_least (above_least (q.key / 4294967296)) * 4294967296
-        + (4294967295 - from_least (above_least (4294967295 - q.key % 4294967296)))
+    + (4294967295 - from_least (above_least (4294967295 - q.key % 4294967296)))
     ≡ q.key = (λ i. y i * 4294967296 + (4294967295 - x i)) ∙ omega arith in
     λ i. record { key = key i }
 
@@ -340,7 +349,7 @@ range_pairs R xs a b le bound h i j d less inside =
     let in_j : j < b - a = omega (arith, range_length xs a b le bound) in
     let in_i : i < b - a = omega arith in
     coe 1 0 (z. R (get_or-slice_range xs a b i d in_i z) (get_or-slice_range xs a b j d in_j z))
-        (h (a + i) (a + j) d (omega arith) (omega arith))
+    (h (a + i) (a + j) d (omega arith) (omega arith))
 
 range_numbers : (xs : List Begin) (a b : ℕ) → a ≤ b → b ≤ length xs → AllPairs (λ m n. m ≢ n) (begin_numbers xs)
     → AllPairs (λ m n. m ≢ n) (begin_numbers (slice_range xs a b))
@@ -411,7 +420,7 @@ group_of es begins points low after p h run had passed =
           let less : m.0 < length begins = m.1 in
           let at : get_or (begin_places begins) m.0 p ≡ p =
           get_or-map (λ (z : Begin). z.place) begins m.0 b p less ∙ ap (λ (z : Begin). z.place) m.2 ∙ ap sweep_place low_is
-              ∙ place_back p in
+          ∙ place_back p in
           let inside : m.0 < length (begin_places begins) = omega (arith, count) in
           ⊎_elim
           (λ (before : m.0 < low). absurd (after_irreflexive (swept_point p)
@@ -561,7 +570,7 @@ begin_at r p group index old mid new h first risers is = record {
         let zero_more : 0 + m.index ≡ m.index = omega arith in
         number_in (slice_range group 0 index) n m.index any (omega (arith, range_length group 0 index (omega arith) first.bound))
         (ap begin_number (get_or-slice_range group 0 index m.index any (omega arith))
-            ∙ ap (λ k. begin_number (get_or group k any)) zero_more
+        ∙ ap (λ k. begin_number (get_or group k any)) zero_more
         ∙ m.is any)
 
 -- ---- edges that rise from one point, from left to right

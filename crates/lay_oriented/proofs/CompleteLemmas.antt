@@ -15,7 +15,7 @@ Completes all left done stays =
 pub complete_none : (all left : List (ItemId × Item)) (done : List Write) → left ≡ all → done ≡ [] → Completes all left done []
 complete_none all left done all_left none = λ ws more is.
     subst (λ (l : List Write). AreWrites all (l ++ ws) more) (sym none)
-        (subst (λ (l : List (ItemId × Item)). AreWrites l ws more) all_left is)
+    (subst (λ (l : List (ItemId × Item)). AreWrites l ws more) all_left is)
 
 pub complete_turned : (all es : List (ItemId × Item)) (e : ItemId × Item) (new : Item) (done longer : List Write)
     (stays : List (CellId × ItemId)) → IsTurned e.1 new

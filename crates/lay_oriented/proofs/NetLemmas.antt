@@ -1,6 +1,29 @@
 -- Parity takes no note of the order of edges, of their directions, and of edges that stand twice.
-use Rattle.std.proofs.Common.{◌≡◌, ◌⊎◌, inl, inr, Bool, true, false, List, [], ◌∷◌, ◌++◌, length, ℤ, pos, ◌+ℤ◌, ◌*ℤ◌, refl, sym, ap,
-    ◌∙◌, arith, ◌&&◌, ◌||◌}
+use Rattle.std.proofs.Common.{
+  ◌≡◌,
+  ◌⊎◌,
+  inl,
+  inr,
+  Bool,
+  true,
+  false,
+  List,
+  [],
+  ◌∷◌,
+  ◌++◌,
+  length,
+  ℤ,
+  pos,
+  ◌+ℤ◌,
+  ◌*ℤ◌,
+  refl,
+  sym,
+  ap,
+  ◌∙◌,
+  arith,
+  ◌&&◌,
+  ◌||◌,
+}
 use Rattle.std.specs.Cmp.Lexicographic.{pointwise}
 use Rattle.std.specs.List.Sorted.{IsPermutation}
 use Rattle.std.proofs.lemmas.Bool.{and_parts}
@@ -50,7 +73,7 @@ parity-permutation test edges others moved =
 pub parity_pushed : (test : Point × Point → Bool) → IsUndirected test → (kept : List (Point × Point)) (e f : Point × Point)
     → (left behind all : List (Point × Point)) → (f ≡ e) ⊎ (f ≡ (e.1, e.0)) → left ≡ e ∷ behind
     → xor (parity test kept) (parity test left) ≡ parity test all → xor (parity test (kept ++ f ∷ [])) (parity test behind)
-        ≡ parity test all
+    ≡ parity test all
 parity_pushed test either kept e f left behind all turned left_is so_far =
     let same : test f ≡ test e = passed_alike turned in
     ap (λ b. xor b (parity test behind)) (parity-append test kept (f ∷ []))

@@ -46,13 +46,13 @@ ordered_numbers symbols n = by (get symbols n) refl where
   by (Some slot) at = symbols-ordered symbols n slot at ∙ sym (rw at refl)
   by None none = elim (has_symbol (in_slot_order symbols) n) as
       (λ b. has_symbol (in_slot_order symbols) n ≡ b → b ≡ contains_key symbols n) [
-    | true ↦ λ any.
-        sym any
-        ∙ no_slot none (any_of (λ m. (slot : CellSlot) × (get symbols m ≡ Some slot)) n (in_slot_order symbols)
-        (recursion_from_All _ (in_slot_order symbols) (order-symbols symbols)) any)
-        ∙ sym (rw none refl)
-    | false ↦ λ any. sym (rw none refl)
-  ] refl
+        | true ↦ λ any.
+            sym any
+            ∙ no_slot none (any_of (λ m. (slot : CellSlot) × (get symbols m ≡ Some slot)) n (in_slot_order symbols)
+            (recursion_from_All _ (in_slot_order symbols) (order-symbols symbols)) any)
+            ∙ sym (rw none refl)
+        | false ↦ λ any. sym (rw none refl)
+      ] refl
 
 -- numbers in order, of just the symbols, are those by number
 pub numbers_sorted : (symbols : FinMap nat_cmp CellSlot) (numbers : List ℕ) → IsStrictlySortedBy nat_cmp numbers

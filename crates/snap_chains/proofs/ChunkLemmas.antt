@@ -1,6 +1,26 @@
 -- Rings in lists of some: what holds of all rings holds of each list, and the passes of all lists are those of all rings.
-use Rattle.std.proofs.Common.{◌≡◌, suc, Result, Ok, List, [], ◌∷◌, ◌++◌, length, map, ⊎_elim, refl, sym, ap, subst, ◌∙◌, arith,
-    Contains, append_assoc, All}
+use Rattle.std.proofs.Common.{
+  ◌≡◌,
+  suc,
+  Result,
+  Ok,
+  List,
+  [],
+  ◌∷◌,
+  ◌++◌,
+  length,
+  map,
+  ⊎_elim,
+  refl,
+  sym,
+  ap,
+  subst,
+  ◌∙◌,
+  arith,
+  Contains,
+  append_assoc,
+  All,
+}
 use Rattle.std.specs.Prelude.{IfOk, flat_map}
 use Rattle.std.specs.List.{AllZip}
 use Rattle.std.specs.List.Sorted.{IsPermutation}
@@ -43,9 +63,11 @@ some_have segments (c ∷ cs) all have =
     let rest = flat_map (λ (d : List Ring). d) cs in
     let parts = first_part (λ (r : Ring). IsRing r.1) c rest all in
     let joined = flat_map-append sides_of c rest in
-    All-cons (λ (d : List Ring). All (λ (r : Ring). IsRing r.1) d × HaveSides d segments) c cs
-    (parts.0, λ e m. have e (subst (λ l. Contains l e) (sym joined)
-        (Contains-append_left (flat_map sides_of c) (flat_map sides_of rest) e m)))
+    All-cons (λ (d : List Ring). All (λ (r : Ring). IsRing r.1) d × HaveSides d segments) c cs (
+      parts.0,
+      λ e m. have e (subst (λ l. Contains l e) (sym joined)
+          (Contains-append_left (flat_map sides_of c) (flat_map sides_of rest) e m)),
+    )
     (some_have segments cs parts.1
     (λ e m. have e (subst (λ l. Contains l e) (sym joined) (Contains-append_right (flat_map sides_of c) (flat_map sides_of rest) e m))))
 

@@ -16,8 +16,17 @@ use Rattle.snap_chains.specs.Owners.{IsOwnerBefore}
 use Rattle.snap_chains.proofs.OddLemmas.{AreOdd, odd_pop, next_is_not_last, odd_has}
 use Rattle.snap_chains.proofs.OwnerLemmas.{map-push}
 use Rattle.snap_chains.specs.declared.pass.Pass.{Pass}
-use Rattle.snap_chains.specs.Reading.{AreEndsBefore, NumberedEdge, HasLastOwner, IsOddAdded, IsPassBefore, numbered_edge, pass_cmp,
-    pass_eq, pass_of}
+use Rattle.snap_chains.specs.Reading.{
+  AreEndsBefore,
+  NumberedEdge,
+  HasLastOwner,
+  IsOddAdded,
+  IsPassBefore,
+  numbered_edge,
+  pass_cmp,
+  pass_eq,
+  pass_of,
+}
 use Rattle.snap_chains.proofs.ViewLemmas.{pass_eq-Decides}
 use Rattle.snap_chains.proofs.PassOrder.{pass_order, ends_are_strict}
 
@@ -120,7 +129,7 @@ module _ (group : List Pass) (e : NumberedEdge) (old : List Owner) (sorted : IsS
             let inside = slice_get_within kept (length kept - 1) x h in
             let init = take (length kept - 1) kept in
             let is = split_last kept x (omega (arith, inside))
-                ∙ ap (λ v. init ++ v ∷ []) (get_or_from_slice_get kept (length kept - 1) x x h) in
+            ∙ ap (λ v. init ++ v ∷ []) (get_or_from_slice_get kept (length kept - 1) x x h) in
             let items = with_last x init is in
             let front = old ++ map owner_of init in
             let long : length owners ≡ length front + 1 = ap length items ∙ length-append front (x.owner ∷ []) in (
@@ -139,7 +148,7 @@ module _ (group : List Pass) (e : NumberedEdge) (old : List Owner) (sorted : IsS
           rising = rising-map IsPassBefore IsOwnerBefore owner_of kept
               (λ p q m n less. ⊎_elim
               (λ b. absurd (ends_are_strict.irreflexive e (coe 0 1
-                  (i. AreEndsBefore (seen_ends k kept h.odd p m i) (seen_ends k kept h.odd q n i)) b)))
+              (i. AreEndsBefore (seen_ends k kept h.odd p m i) (seen_ends k kept h.odd q n i)) b)))
               (λ (t : (numbered_edge p ≡ numbered_edge q) × IsOwnerBefore p.owner q.owner). t.1) less) odd.rising;
           exact = λ o. (
             (λ m.

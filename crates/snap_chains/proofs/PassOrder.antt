@@ -9,8 +9,16 @@ use Rattle.lay_point.proofs.NumberLaws.{numbers_are_strict}
 use Rattle.lay_point.proofs.BoolLaws.{both_equal}
 use Rattle.snap_chains.specs.Owners.{IsOwnerBefore}
 use Rattle.snap_chains.proofs.OddLemmas.{IsSortOrder}
-use Rattle.snap_chains.proofs.OwnerOrder.{strict_by, first_less, owner_cmp_total, number_less, number_exact, owner_less,
-    owner_exact, owners_are_strict}
+use Rattle.snap_chains.proofs.OwnerOrder.{
+  strict_by,
+  first_less,
+  owner_cmp_total,
+  number_less,
+  number_exact,
+  owner_less,
+  owner_exact,
+  owners_are_strict,
+}
 use Rattle.snap_chains.specs.declared.pass.Pass.{Pass}
 use Rattle.snap_chains.specs.Reading.{NumberedEdge, numbered_edge, pass_eq, pass_cmp, owner_cmp, AreEndsBefore, IsPassBefore}
 use Rattle.snap_chains.proofs.ViewLemmas.{pass_eq-Decides}
@@ -30,7 +38,7 @@ pass_less : (p q : Pass) → pass_cmp p q ≡ Less → IsPassBefore p q
 pass_less p q h = ⊎_elim
     (λ less. inl (inl (number_less p.low q.low less)))
     (λ (tie : (nat_cmp p.low q.low ≡ Equal) × (then_cmp (on (λ (r : Pass). r.high) nat_cmp) (on (λ (r : Pass). r.owner) owner_cmp) p q
-        ≡ Less)).
+    ≡ Less)).
     let low = number_exact p.low q.low tie.0 in
     ⊎_elim
     (λ less. inl (inr (low, number_less p.high q.high less)))

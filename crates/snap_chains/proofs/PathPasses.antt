@@ -1,6 +1,32 @@
 -- The passes of the sides of a ring, one side after another, and of one ring after another.
-use Rattle.std.proofs.Common.{◌≡◌, ℕ, ◌+◌, ◌<◌, ◌≤◌, List, [], ◌∷◌, ◌++◌, length, get_or, take, map, Some, inl, inr, refl, sym, ap,
-    subst, ◌∙◌, ⊎_elim, Contains, append_assoc, append-nil, arith}
+use Rattle.std.proofs.Common.{
+  ◌≡◌,
+  ℕ,
+  ◌+◌,
+  ◌<◌,
+  ◌≤◌,
+  List,
+  [],
+  ◌∷◌,
+  ◌++◌,
+  length,
+  get_or,
+  take,
+  map,
+  Some,
+  inl,
+  inr,
+  refl,
+  sym,
+  ap,
+  subst,
+  ◌∙◌,
+  ⊎_elim,
+  Contains,
+  append_assoc,
+  append-nil,
+  arith,
+}
 use Rattle.std.specs.Prelude.{slice_get}
 use Rattle.std.specs.List.Sorted.{IsPermutation}
 use Rattle.std.proofs.lemmas.List.{map-append, take_all, take_more}
@@ -25,8 +51,16 @@ use Rattle.snap_chains.specs.Passes.{ArePassesOf, ArePathPasses, IsSideAdded, vi
 use Rattle.snap_chains.specs.Sides.{segment_ends}
 use Rattle.snap_chains.specs.Visits.{visits_by, visits_of}
 use Rattle.snap_chains.proofs.OwnerLemmas.{map-push}
-use Rattle.snap_chains.proofs.PathLemmas.{AreLinked, Contains-map, chain_of_hot, further_side, last-push, linked_at, same_chain,
-    sides_linked}
+use Rattle.snap_chains.proofs.PathLemmas.{
+  AreLinked,
+  Contains-map,
+  chain_of_hot,
+  further_side,
+  last-push,
+  linked_at,
+  same_chain,
+  sides_linked,
+}
 
 -- ---- ends are hot
 -- the ends of a segment are hot centres
@@ -70,7 +104,7 @@ sides_join segments hot o s path a old mid new all given ends h side =
 side_joins : (segments : List Segment) (hot : List Point) (o : Owner) (s : Segment) (p : Point) (ps : List Point) (old mid new : List Pass)
     → AreHotCentres segments hot → Contains (map segment_ends segments) (segment_ends s) → last p ps ≡ s.a
     → ArePathPasses segments hot o (p ∷ ps) old mid → IsSideAdded hot s o mid new
-        → ArePathPasses segments hot o (p ∷ (ps ++ s.b ∷ [])) old new
+    → ArePathPasses segments hot o (p ∷ (ps ++ s.b ∷ [])) old new
 side_joins segments hot o s p ps old mid new all among link h side =
     let found = map-has segment_ends segments (segment_ends s) (has (map segment_ends segments) (segment_ends s) among) in
     let t = found.0 in

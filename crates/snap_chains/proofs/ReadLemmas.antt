@@ -1,6 +1,30 @@
 -- Sorted passes, read group by group: one more group.
-use Rattle.std.proofs.Common.{◌≡◌, ◌⊎◌, inl, inr, ⊎_elim, ℕ, zero, suc, ◌+◌, ◌-◌, ◌<◌, ◌≤◌, Bool, true, false, List, [], ◌∷◌, ◌++◌,
-    length, get_or, take, drop, map}
+use Rattle.std.proofs.Common.{
+  ◌≡◌,
+  ◌⊎◌,
+  inl,
+  inr,
+  ⊎_elim,
+  ℕ,
+  zero,
+  suc,
+  ◌+◌,
+  ◌-◌,
+  ◌<◌,
+  ◌≤◌,
+  Bool,
+  true,
+  false,
+  List,
+  [],
+  ◌∷◌,
+  ◌++◌,
+  length,
+  get_or,
+  take,
+  drop,
+  map,
+}
 use Rattle.std.proofs.Common.{refl, sym, ap, subst, ◌∙◌, arith, Contains, Decides, append_assoc, append-nil, length-append}
 use Rattle.std.specs.List.{AllByRecursion, AllZip}
 use Rattle.std.specs.List.Sorted.{IsSorted}
@@ -22,8 +46,20 @@ use Rattle.std.proofs.lemmas.List.Sorted.{IsPermutation-sym, IsPermutation-map, 
 use Rattle.snap_chains.proofs.OddLemmas.{parity_permutation}
 use Rattle.snap_chains.specs.declared.owner.Owner.{Owner}
 use Rattle.snap_chains.specs.declared.pass.Pass.{Pass}
-use Rattle.snap_chains.specs.Reading.{AreEndsBefore, AreOddOwners, AreRead, NumberedEdge, IsEdgeGroup, IsPassBefore, IsReadOff,
-    edge_by_numbers, numbered_edge, pass_cmp, pass_eq, pass_of}
+use Rattle.snap_chains.specs.Reading.{
+  AreEndsBefore,
+  AreOddOwners,
+  AreRead,
+  NumberedEdge,
+  IsEdgeGroup,
+  IsPassBefore,
+  IsReadOff,
+  edge_by_numbers,
+  numbered_edge,
+  pass_cmp,
+  pass_eq,
+  pass_of,
+}
 use Rattle.snap_chains.specs.OwnerLists.{IsInside, list_of, owner_lists_of}
 use Rattle.snap_chains.specs.declared.owner_lists.Part.{Part}
 use Rattle.snap_chains.proofs.OwnerLemmas.{map-push}
@@ -59,7 +95,7 @@ not_after x y h = by_order (pass_cmp y x) refl
 -- the ends of the earlier are no later
 ends_no_later : (xs : List Pass) → IsSorted pass_cmp xs → (i j : ℕ) (d : Pass) → i ≤ j → j < length xs
     → (numbered_edge (get_or xs i d) ≡ numbered_edge (get_or xs j d))
-        ⊎ AreEndsBefore (numbered_edge (get_or xs i d)) (numbered_edge (get_or xs j d))
+    ⊎ AreEndsBefore (numbered_edge (get_or xs i d)) (numbered_edge (get_or xs j d))
 ends_no_later xs h i j d le lt = ⊎_elim (λ (e : get_or xs i d ≡ get_or xs j d). inl (ap numbered_edge e))
     (λ (b : IsPassBefore (get_or xs i d) (get_or xs j d)). ⊎_elim inr (λ t. inl t.0) b)
     (not_after (get_or xs j d) (get_or xs i d)
@@ -186,14 +222,14 @@ module _ (done group : List Pass) (e : NumberedEdge) (same : (p : Pass) → Has 
     exact = λ d. (
       (λ m. contains _ d (subst (λ l. Has l d) (sym (map-append numbered_edge done group)) (⊎_elim
           (λ (old : Has edges d). has-append_left (map numbered_edge done) (map numbered_edge group) d
-              (has (map numbered_edge done) d ((r.exact d).0 (contains edges d old))))
+          (has (map numbered_edge done) d ((r.exact d).0 (contains edges d old))))
           (λ (new : Has (e ∷ []) d). has-append_right (map numbered_edge done) (map numbered_edge group) d
           (⊎_elim (λ (is : e ≡ d). subst (Has (map numbered_edge group)) (same first there ∙ is)
-              (has-map numbered_edge group first there)) (λ none. absurd none) new))
+          (has-map numbered_edge group first there)) (λ none. absurd none) new))
           (has-append edges (e ∷ []) d (has (edges ++ e ∷ []) d m))))),
       (λ m. contains _ d (⊎_elim
           (λ (old : Has (map numbered_edge done) d). has-append_left edges (e ∷ []) d
-              (has edges d ((r.exact d).1 (contains (map numbered_edge done) d old))))
+          (has edges d ((r.exact d).1 (contains (map numbered_edge done) d old))))
           (λ (new : Has (map numbered_edge group) d). let p = map-has numbered_edge group d new in
           has-append_right edges (e ∷ []) d (inl (sym (same p.0 p.1) ∙ p.2)))
           (has-append (map numbered_edge done) (map numbered_edge group) d
@@ -262,7 +298,7 @@ reading_more hot passes rest edges owners parts n first odd part h g is_first w 
     let there = first_in_group rest n h.sorted g first is_first in
     let same = in_group rest n h.sorted g first is_first in
     let early : (d : NumberedEdge) → Has (map numbered_edge h.done) d
-        → AreEndsBefore d e = λ d k. h.before d k first (has_take n rest first there) in
+    → AreEndsBefore d e = λ d k. h.before d k first (has_take n rest first there) in
     record {
       done = h.done ++ group;
       ends = h.ends ++ e ∷ [];
@@ -274,7 +310,7 @@ reading_more hot passes rest edges owners parts n first odd part h g is_first w 
           (λ (new : Has (map numbered_edge group) d). let q = map-has numbered_edge group d new in
           subst (λ v. AreEndsBefore v (numbered_edge p)) (sym (same q.0 q.1) ∙ q.2) (in_later rest n h.sorted g first is_first p l))
           (has-append (map numbered_edge h.done) (map numbered_edge group) d
-              (subst (λ z. Has z d) (map-append numbered_edge h.done group) k));
+          (subst (λ z. Has z d) (map-append numbered_edge h.done group) k));
       read = subst (AreRead (h.done ++ group) (h.ends ++ e ∷ []))
           (sym (lists_push owners odd parts part h.parted from (to ∙ long)))
           (read_more h.done group e same first there early h.ends (owner_lists_of owners parts) odd h.read w);

@@ -22,8 +22,18 @@ use Rattle.snap_chains.proofs.EdgeOrder.{edges_decide}
 use Rattle.snap_chains.proofs.OwnerOrder.{owner_eq-Decides}
 use Rattle.snap_chains.specs.declared.pass.Pass.{Pass}
 use Rattle.snap_chains.specs.Passes.{HasCentres, visit_at}
-use Rattle.snap_chains.specs.Reading.{NumberedEdge, numbered_edge, pass_of, pass_eq, AreEndsBefore, AreOddOwners, AreRead,
-    edge_by_numbers, AreOddVisitors, IsView}
+use Rattle.snap_chains.specs.Reading.{
+  NumberedEdge,
+  numbered_edge,
+  pass_of,
+  pass_eq,
+  AreEndsBefore,
+  AreOddOwners,
+  AreRead,
+  edge_by_numbers,
+  AreOddVisitors,
+  IsView,
+}
 use Rattle.snap_chains.proofs.PassLemmas.{centre_before}
 
 pub pass_eq-Decides : (p q : Pass) → Decides (pass_eq p q) (p ≡ q)
@@ -97,7 +107,7 @@ module _ (hot : List Point) (up : IsRising IsBefore hot) where
           let v = map-has (λ v. v.edge) (map (visit_at hot) passes) e (has (map (λ v. v.edge) (map (visit_at hot) passes)) e m) in
           let p = map-has (visit_at hot) passes v.0 v.1 in
           let there = (exact (numbered_edge p.0)).1 (contains (map numbered_edge passes) (numbered_edge p.0)
-              (has-map numbered_edge passes p.0 p.1)) in
+          (has-map numbered_edge passes p.0 p.1)) in
           contains (map (edge_by_numbers hot) edges) e
           (subst (Has (map (edge_by_numbers hot) edges)) (ap (λ (w : Visit). w.edge) p.2 ∙ v.2)
           (has-map (edge_by_numbers hot) edges (numbered_edge p.0) (has edges (numbered_edge p.0) there)))),
@@ -106,7 +116,7 @@ module _ (hot : List Point) (up : IsRising IsBefore hot) where
     owned_through : (edges : List NumberedEdge) (owners : List (List Owner))
         → ((e : NumberedEdge) → Has edges e → (e.0 < e.1) × (e.1 < length hot))
         → AllZip (AreOddOwners passes) edges owners → AllZip (AreOddVisitors (map (visit_at hot) passes))
-            (map (edge_by_numbers hot) edges) owners
+        (map (edge_by_numbers hot) edges) owners
     owned_through [] [] within h = tt
     owned_through [] (l ∷ owners) within h = absurd h
     owned_through (e ∷ edges) [] within h = absurd h

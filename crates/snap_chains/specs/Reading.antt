@@ -1,6 +1,25 @@
 -- What sorted passes are read to: the edges that they go, each once, and the owners that go each an odd number of times.
-use Rattle.std.specs.Prelude.{◌≡◌, ◌⊎◌, ◌↔◌, ℕ, ◌<◌, ◌≤◌, ◌-◌, ◌==◌, ◌&&◌, Bool, List, ◌++◌, map, length, Contains, IsTrue, Some,
-    slice_get, slice_index_or}
+use Rattle.std.specs.Prelude.{
+  ◌≡◌,
+  ◌⊎◌,
+  ◌↔◌,
+  ℕ,
+  ◌<◌,
+  ◌≤◌,
+  ◌-◌,
+  ◌==◌,
+  ◌&&◌,
+  Bool,
+  List,
+  ◌++◌,
+  map,
+  length,
+  Contains,
+  IsTrue,
+  Some,
+  slice_get,
+  slice_index_or,
+}
 use Rattle.std.specs.declared.cmp.Ordering.{Ordering}
 use Rattle.std.specs.Ordering.{nat_cmp, on, then_cmp}
 use Rattle.snap_chains.specs.contracts.owner.InputOrd.TheImpl as input_ord

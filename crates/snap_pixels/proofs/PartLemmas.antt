@@ -32,7 +32,7 @@ module _ {V : Type 0} (items : V → List Segment) where
       → (c : Point) → IsCrossedInOne (map items new) c ↔ (IsCrossedInOne (map items old) c ⊎ IsCrossed (items part) c)
   IsCrossedInOne-push old new part e c =
       subst (λ l. IsCrossedInOne (map items l) c ↔ (IsCrossedInOne (map items old) c ⊎ IsCrossed (items part) c)) (sym e)
-          (pushed old part c)
+      (pushed old part c)
 
 -- parallel segments don't cross
 pub none_crossed : {P : Type 0} (segments : List Segment) (n : ℕ) → length segments ≤ n → AreParallelAll (take n segments)

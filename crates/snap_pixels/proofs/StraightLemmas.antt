@@ -81,7 +81,7 @@ module _ (a b c d : Point) (level : a.y ≡ b.y) (upright : c.x ≡ d.x) where
       let at_x = h.column ∙ along_flat k t' c.x d.x upright in
       let at_y = along_flat k t a.y b.y level in
       let column = IsRoundedTo-one c.x p.x k (c.x *ℤ k) one (rounded_centre c.x k one)
-          (subst (λ z. IsRoundedTo p.x k z) at_x place.column) in
+      (subst (λ z. IsRoundedTo p.x k z) at_x place.column) in
       let row = IsRoundedTo-one a.y p.y k (a.y *ℤ k) one (rounded_centre a.y k one) (subst (λ z. IsRoundedTo p.y k z) at_y place.row) in
       λ i. record { x = column i; y = row i }
 

@@ -1,8 +1,50 @@
 -- Segments listed in strips: what two segments have in common is in a strip of both.
-use Rattle.std.proofs.Common.{◌≡◌, ◌≢◌, ◌⊎◌, inl, inr, ⊎_elim, ◌↔◌, ℕ, zero, suc, ◌+◌, ◌/◌, ◌%◌, ◌^◌, ◌<◌, ◌≤◌, min, max, List, [], ◌∷◌,
-    ◌++◌}
-use Rattle.std.proofs.Common.{Bool, true, false, cond, length, get_or, take, Contains, ℤ, ◌+ℤ◌, ◌-ℤ◌, ◌*ℤ◌, ◌≤ℤ◌, ◌<ℤ◌, refl, sym, ap,
-    subst, arith, ◌∙◌}
+use Rattle.std.proofs.Common.{
+  ◌≡◌,
+  ◌≢◌,
+  ◌⊎◌,
+  inl,
+  inr,
+  ⊎_elim,
+  ◌↔◌,
+  ℕ,
+  zero,
+  suc,
+  ◌+◌,
+  ◌/◌,
+  ◌%◌,
+  ◌^◌,
+  ◌<◌,
+  ◌≤◌,
+  min,
+  max,
+  List,
+  [],
+  ◌∷◌,
+  ◌++◌,
+}
+use Rattle.std.proofs.Common.{
+  Bool,
+  true,
+  false,
+  cond,
+  length,
+  get_or,
+  take,
+  Contains,
+  ℤ,
+  ◌+ℤ◌,
+  ◌-ℤ◌,
+  ◌*ℤ◌,
+  ◌≤ℤ◌,
+  ◌<ℤ◌,
+  refl,
+  sym,
+  ap,
+  subst,
+  arith,
+  ◌∙◌,
+}
 use Rattle.std.specs.Prelude.{int_le, slice_set, nat_abs}
 use Rattle.std.proofs.lemmas.Bool.{cases_eq, cases_lt}
 use Rattle.std.proofs.lemmas.Int.{ints}

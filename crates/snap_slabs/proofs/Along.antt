@@ -164,12 +164,18 @@ on_column : (low high c : Point) → low.x ≡ high.x → IsUpTo IsBefore low c 
     → (c.x ≡ low.x) × (low.y ≤ℤ c.y) × (c.y ≤ℤ high.y)
 on_column low high c same (inl e) (inl f) = let x = ap (λ (p : Point). p.x) e in let y = ap (λ (p : Point). p.y) e in
     let y' = ap (λ (p : Point). p.y) f in (sym x, omega (arith, linear, y), omega (arith, linear, y'))
-on_column low high c same (inl e) (inr g) = let x = ap (λ (p : Point). p.x) e in let y = ap (λ (p : Point). p.y) e in
-    (sym x, omega (arith, linear, y), ⊎_elim (λ (l : c.x <ℤ high.x). absurd (omega (arith, linear, x)))
-        (λ (r : (c.x ≡ high.x) × (c.y <ℤ high.y)). omega (arith, linear, r.1)) g)
-on_column low high c same (inr g) (inl f) = let x = ap (λ (p : Point). p.x) f in let y = ap (λ (p : Point). p.y) f in
-    (x ∙ sym same, ⊎_elim (λ (l : low.x <ℤ c.x). absurd (omega (arith, linear, x)))
-        (λ (r : (low.x ≡ c.x) × (low.y <ℤ c.y)). omega (arith, linear, r.1)) g, omega (arith, linear, y))
+on_column low high c same (inl e) (inr g) = let x = ap (λ (p : Point). p.x) e in let y = ap (λ (p : Point). p.y) e in (
+  sym x,
+  omega (arith, linear, y),
+  ⊎_elim (λ (l : c.x <ℤ high.x). absurd (omega (arith, linear, x)))
+      (λ (r : (c.x ≡ high.x) × (c.y <ℤ high.y)). omega (arith, linear, r.1)) g,
+)
+on_column low high c same (inr g) (inl f) = let x = ap (λ (p : Point). p.x) f in let y = ap (λ (p : Point). p.y) f in (
+  x ∙ sym same,
+  ⊎_elim (λ (l : low.x <ℤ c.x). absurd (omega (arith, linear, x)))
+      (λ (r : (low.x ≡ c.x) × (low.y <ℤ c.y)). omega (arith, linear, r.1)) g,
+  omega (arith, linear, y),
+)
 on_column low high c same (inr (inl l)) (inr (inl m)) = absurd (omega (arith, linear))
 on_column low high c same (inr (inl l)) (inr (inr m)) = absurd (omega (arith, linear, m.0))
 on_column low high c same (inr (inr l)) (inr (inl m)) = absurd (omega (arith, linear, l.0))
@@ -195,9 +201,9 @@ along_up s e less = record {
       };
   met = λ c m.
       let x = between_columns s.a s.b c s.a.x s.a.x m (omega (arith, linear)) (omega (arith, linear, e)) (omega (arith, linear))
-          (omega (arith, linear, e)) in
+      (omega (arith, linear, e)) in
       let y = between_rows s.a s.b c s.a.y s.b.y m (omega (arith, linear)) (omega (arith, linear)) (omega (arith, linear))
-          (omega (arith, linear)) in
+      (omega (arith, linear)) in
       let cx : s.a.x ≡ c.x = omega (arith, linear, x.0, x.1) in
       (up_to_column s.a c cx y.0, up_to_column c s.b (sym cx ∙ e) y.1);
 }
@@ -217,9 +223,9 @@ along_down s e less = record {
       };
   met = λ c m.
       let x = between_columns s.a s.b c s.a.x s.a.x m (omega (arith, linear)) (omega (arith, linear, e)) (omega (arith, linear))
-          (omega (arith, linear, e)) in
+      (omega (arith, linear, e)) in
       let y = between_rows s.a s.b c s.b.y s.a.y m (omega (arith, linear)) (omega (arith, linear)) (omega (arith, linear))
-          (omega (arith, linear)) in
+      (omega (arith, linear)) in
       let cx : s.a.x ≡ c.x = omega (arith, linear, x.0, x.1) in
       (up_to_column s.b c (sym e ∙ cx) y.0, up_to_column c s.a (sym cx) y.1);
 }
@@ -229,12 +235,18 @@ on_row : (low high c : Point) → low.y ≡ high.y → IsUpTo IsRowBefore low c 
     → (c.y ≡ low.y) × (c.x ≤ℤ low.x) × (high.x ≤ℤ c.x)
 on_row low high c same (inl e) (inl f) = let y = ap (λ (p : Point). p.y) e in let x = ap (λ (p : Point). p.x) e in
     let x' = ap (λ (p : Point). p.x) f in (sym y, omega (arith, linear, x), omega (arith, linear, x'))
-on_row low high c same (inl e) (inr g) = let y = ap (λ (p : Point). p.y) e in let x = ap (λ (p : Point). p.x) e in
-    (sym y, omega (arith, linear, x), ⊎_elim (λ (l : c.y <ℤ high.y). absurd (omega (arith, linear, y)))
-        (λ (r : (c.y ≡ high.y) × (high.x <ℤ c.x)). omega (arith, linear, r.1)) g)
-on_row low high c same (inr g) (inl f) = let y = ap (λ (p : Point). p.y) f in let x = ap (λ (p : Point). p.x) f in
-    (y ∙ sym same, ⊎_elim (λ (l : low.y <ℤ c.y). absurd (omega (arith, linear, y)))
-        (λ (r : (low.y ≡ c.y) × (c.x <ℤ low.x)). omega (arith, linear, r.1)) g, omega (arith, linear, x))
+on_row low high c same (inl e) (inr g) = let y = ap (λ (p : Point). p.y) e in let x = ap (λ (p : Point). p.x) e in (
+  sym y,
+  omega (arith, linear, x),
+  ⊎_elim (λ (l : c.y <ℤ high.y). absurd (omega (arith, linear, y)))
+      (λ (r : (c.y ≡ high.y) × (high.x <ℤ c.x)). omega (arith, linear, r.1)) g,
+)
+on_row low high c same (inr g) (inl f) = let y = ap (λ (p : Point). p.y) f in let x = ap (λ (p : Point). p.x) f in (
+  y ∙ sym same,
+  ⊎_elim (λ (l : low.y <ℤ c.y). absurd (omega (arith, linear, y)))
+      (λ (r : (low.y ≡ c.y) × (c.x <ℤ low.x)). omega (arith, linear, r.1)) g,
+  omega (arith, linear, x),
+)
 on_row low high c same (inr (inl l)) (inr (inl m)) = absurd (omega (arith, linear))
 on_row low high c same (inr (inl l)) (inr (inr m)) = absurd (omega (arith, linear, m.0))
 on_row low high c same (inr (inr l)) (inr (inl m)) = absurd (omega (arith, linear, l.0))
@@ -261,9 +273,9 @@ along_left s e less = record {
       };
   met = λ c m.
       let y = between_rows s.a s.b c s.a.y s.a.y m (omega (arith, linear)) (omega (arith, linear, e)) (omega (arith, linear))
-          (omega (arith, linear, e)) in
+      (omega (arith, linear, e)) in
       let x = between_columns s.a s.b c s.b.x s.a.x m (omega (arith, linear)) (omega (arith, linear)) (omega (arith, linear))
-          (omega (arith, linear)) in
+      (omega (arith, linear)) in
       let cy : s.a.y ≡ c.y = omega (arith, linear, y.0, y.1) in
       (up_to_row s.a c cy x.1, up_to_row c s.b (sym cy ∙ e) x.0);
 }
@@ -283,9 +295,9 @@ along_right s e less = record {
       };
   met = λ c m.
       let y = between_rows s.a s.b c s.a.y s.a.y m (omega (arith, linear)) (omega (arith, linear, e)) (omega (arith, linear))
-          (omega (arith, linear, e)) in
+      (omega (arith, linear, e)) in
       let x = between_columns s.a s.b c s.a.x s.b.x m (omega (arith, linear)) (omega (arith, linear)) (omega (arith, linear))
-          (omega (arith, linear)) in
+      (omega (arith, linear)) in
       let cy : s.a.y ≡ c.y = omega (arith, linear, y.0, y.1) in
       (up_to_row s.b c (sym e ∙ cy) x.1, up_to_row c s.a (sym cy) x.0);
 }

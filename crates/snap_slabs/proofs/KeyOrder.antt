@@ -111,7 +111,7 @@ module _ (hot : List Point) (up : IsRising IsBefore hot) (few : length hot < 2 ^
         h.0,
         ⊎_elim (λ (l : (centre_at hot j).x <ℤ (centre_at hot i).x). l)
             (λ (t : ((centre_at hot j).x ≡ (centre_at hot i).x) × ((centre_at hot j).y <ℤ (centre_at hot i).y)). absurd
-                (omega (arith, linear, h.0, t.1)))
+            (omega (arith, linear, h.0, t.1)))
             (before_by_number IsBefore before_is_strict hot j i no_centre up less li),
       )
 
@@ -151,7 +151,7 @@ module _ (hot : List Point) (up : IsRising IsBefore hot) (few : length hot < 2 ^
           (has-map (row_key hot) (range_with_len 0 (length hot)) i (has-range 0 (length hot) i (omega arith) (omega (arith, lt)))))) in
           subst (Contains (map number_of once)) (key_back i lt)
           (contains (map number_of once) (number_of (row_key hot i))
-              (has-map number_of once (row_key hot i) (has once (row_key hot i) there)))),
+          (has-map number_of once (row_key hot i) (has once (row_key hot i) there)))),
     )
 
 -- ---- the centres themselves

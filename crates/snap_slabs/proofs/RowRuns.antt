@@ -1,6 +1,31 @@
 -- The runs of sides along an axis: parts of the two orders of the centres.
-use Rattle.std.proofs.Common.{◌≡◌, ◌⊎◌, ◌↔◌, inl, inr, ⊎_elim, ◌≢◌, ℕ, zero, suc, ◌+◌, ◌-◌, ◌<◌, ◌≤◌, List, ◌∷◌, length, get_or, map,
-    take, drop, Some, ◌-ℤ◌, ◌≤ℤ◌, ◌<ℤ◌}
+use Rattle.std.proofs.Common.{
+  ◌≡◌,
+  ◌⊎◌,
+  ◌↔◌,
+  inl,
+  inr,
+  ⊎_elim,
+  ◌≢◌,
+  ℕ,
+  zero,
+  suc,
+  ◌+◌,
+  ◌-◌,
+  ◌<◌,
+  ◌≤◌,
+  List,
+  ◌∷◌,
+  length,
+  get_or,
+  map,
+  take,
+  drop,
+  Some,
+  ◌-ℤ◌,
+  ◌≤ℤ◌,
+  ◌<ℤ◌,
+}
 use Rattle.std.proofs.Common.{refl, sym, ap, subst, ◌∙◌, arith, Contains, add-one}
 use Rattle.std.proofs.Math.Seq.{drop-cons}
 use Rattle.std.specs.Prelude.{slice_range, slice_get, slice_index_or, reverse}
@@ -18,8 +43,17 @@ use Rattle.lay_point.specs.Rising.{IsRising}
 use Rattle.snap_slabs.specs.Runs.{AreEnds, no_centre, centre_at, centres_at, IsRowBefore, IsSide, IsChainRun, AreByRows}
 use Rattle.std.specs.List.{range_with_len}
 use Rattle.lay_point.proofs.ListLaws.{before_by_number}
-use Rattle.snap_slabs.proofs.Along.{row_before_is_strict, row_falls, column_rises, chain_forth, chain_back, along_left, along_right,
-    along_up, along_down}
+use Rattle.snap_slabs.proofs.Along.{
+  row_before_is_strict,
+  row_falls,
+  column_rises,
+  chain_forth,
+  chain_back,
+  along_left,
+  along_right,
+  along_up,
+  along_down,
+}
 
 -- of two elements in order the first has the lesser number
 pub in_order : {A : Type 0} (Before : A → A → Type 0) → IsStrictOrder Before → (xs : List A) (i j : ℕ) (a b : A) → IsRising Before xs
@@ -28,7 +62,7 @@ in_order Before laws xs i j a b up li lj ea eb less = ⊎_elim (λ (h : i < j). 
     (λ (ge : j ≤ i). absurd (⊎_elim
     (λ (more : j < i). laws.irreflexive a (laws.transitive a b a less
     (subst (λ v. Before v a) (get_or_default xs j a b lj ∙ eb)
-        (subst (Before (get_or xs j a)) ea (before_by_number Before laws xs j i a up more li)))))
+    (subst (Before (get_or xs j a)) ea (before_by_number Before laws xs j i a up more li)))))
     (λ (le : i ≤ j).
     let e : i ≡ j = omega arith in
     laws.irreflexive b (subst (λ v. Before v b) (sym ea ∙ get_or_default xs i a b li ∙ ap (λ n. get_or xs n b) e ∙ eb) less))

@@ -1,6 +1,24 @@
 -- Runs: chains of sides along an axis, as numbers of hot centres.
-use Rattle.std.specs.Prelude.{◌≡◌, ◌⊎◌, ℕ, ◌<◌, ◌≤◌, ◌-◌, ◌^◌, pos, ◌<ℤ◌, List, map, length, slice_get, slice_index_or, Some, ◌↔◌,
-    reverse, Contains}
+use Rattle.std.specs.Prelude.{
+  ◌≡◌,
+  ◌⊎◌,
+  ℕ,
+  ◌<◌,
+  ◌≤◌,
+  ◌-◌,
+  ◌^◌,
+  pos,
+  ◌<ℤ◌,
+  List,
+  map,
+  length,
+  slice_get,
+  slice_index_or,
+  Some,
+  ◌↔◌,
+  reverse,
+  Contains,
+}
 use Rattle.lay_point.specs.declared.point.Point.{Point}
 use Rattle.snap_pixels.specs.declared.segment.Segment.{Segment}
 use Rattle.snap_slabs.specs.declared.rows.RowKey.{RowKey}

@@ -27,8 +27,19 @@ use Rattle.bool_rules.proofs.BooleanLaws.{booleans_read}
 use Rattle.txn_commands.specs.declared.command.Command.TheVariants.{Bool as Combine}
 use Rattle.txn_commands.specs.declared.element.Element.{Element}
 use Rattle.txn_commands.specs.declared.element.Element.TheVariants.{Calls, Item, Layer}
-use Rattle.txn_commands.specs.Acts.{Act, Combination, bool_act, cell_elements, id_after, item_elements, new_shapes, operands, read_for,
-    removals, replacing}
+use Rattle.txn_commands.specs.Acts.{
+  Act,
+  Combination,
+  bool_act,
+  cell_elements,
+  id_after,
+  item_elements,
+  new_shapes,
+  operands,
+  read_for,
+  removals,
+  replacing,
+}
 use Rattle.txn_commands.specs.Agreement.{Agree, AgreeOnEach}
 use Rattle.txn_commands.specs.Covers.{IsCovered, has}
 use Rattle.txn_commands.specs.Elements.{element_cmp, elements_total}

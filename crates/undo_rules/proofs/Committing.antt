@@ -153,7 +153,7 @@ commits t sound snapshot_sound work fresh entered kept =
     } in
     let to : applied t.layout t.entry.writes ≡ now.layout =
     applied_leads t.entry.writes t.layout now.layout (ran_proper t.log t.entry t.layout now.layout ran)
-        (ran_leads t.log t.entry t.layout now.layout ran) in
+    (ran_leads t.log t.entry t.layout now.layout ran) in
     record {
       now = now;
       runs = found.1;

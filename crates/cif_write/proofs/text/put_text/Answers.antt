@@ -16,4 +16,4 @@ returns g c =
     c.put.ensures)
     (whole_text (line_text_as c.args.rectangles) (own_definitions layout) (held_in layout Top)
     (least_unused (in_slot_order layout.symbols)) c.put_wrapping-called.result c.unturned.result c.put_wrapping-called.ensures.called
-        c.unturned.ensures)
+    c.unturned.ensures)

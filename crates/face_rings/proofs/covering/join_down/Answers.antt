@@ -7,7 +7,7 @@ use Rattle.face_rings.proofs.covering.join_down.Goals.{then-is_covered_by+in_ok-
 pub take_over-requires-clause-inside : goal.take_over-requires-clause-inside
 take_over-requires-clause-inside c =
     opened_inside c.args.boxes.now c.args.numbers.now (λ k. true) (λ k. covers c.args.stretch (numbered_box c.args.boxes.now k))
-        c.args.parents.now
+    c.args.parents.now
     c.loop-number.parents c.loop-number.number-index c.loop-number.opened.items c.requires.inside c.loop-number.invariant
 
 pub loop-number-preserved : goal.loop-number-preserved
@@ -29,7 +29,7 @@ loop-number-preserved c =
           subst (after c.if-is_covered_by.parents) (sym (ap (λ (v : Vec ℕ Global). v.items) w.opened-is))
           (subst (λ ps. after ps w.take_over.new.opened.items) (sym w.parents-is)
           (pass_covered boxes numbers s c.requires.height c.requires.inside c.requires.by_bottom c.requires.stretch from to
-              (λ a b f t. inr t)
+          (λ a b f t. inr t)
           c.args.parents.now now i opened c.requires.each lt h w.take_over.new.parents w.take_over.ensures.grows
           w.take_over.ensures.joined over refl w.take_over.new.opened.items w.in_ok-take_over.ensures.highest))
       | else-is_covered_by+in_ok-push w ↦

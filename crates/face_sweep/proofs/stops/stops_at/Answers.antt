@@ -37,7 +37,7 @@ loop-place-smaller c =
     let p = c.in-Some.place in
     fewer_left (begin_places c.args.begins.now) c.args.tops.now c.loop-place.low c.loop-place.top c.run_end-after.result over p
     c.in-Some.ensures.some c.run_end-after.ensures
-        (subst (λ l. IsPlaceRun l c.loop-place.top over p) (map-id c.args.tops.now) c.run_end-top.ensures)
+    (subst (λ l. IsPlaceRun l c.loop-place.top over p) (map-id c.args.tops.now) c.run_end-top.ensures)
 
 pub loop-place-preserved : goal.loop-place-preserved
 loop-place-preserved c =

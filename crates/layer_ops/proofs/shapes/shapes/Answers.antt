@@ -22,7 +22,7 @@ returns-in_err-test_paths c =
     let was = c.in_err-test_paths.was in
     let parts = map (λ (shape : Vec Ring). shape.items) c.in_ok-shapes.shapes.items in
     let tests = c.test_paths.ensures ∙ ap (λ shapes. tested_shapes (map (λ (shape : Vec Ring). shape.items) shapes))
-        c.deref.ensures.value in
+    c.deref.ensures.value in
     test_failed c.args.edges.now parts c.test_paths.result c.in_err-test_paths.field-0.0 c.from_residual-in_err-test_paths.result was tests
     (parts_are c.args.edges.now c.in_ok-rings.rings.items parts c.in_ok-rings.ensures.value c.in_ok-shapes.ensures.parts) (p.1 ∙ ap Err p.2)
 
@@ -31,6 +31,6 @@ returns c =
     let was = c.in_ok-test_paths.was in
     let parts = map (λ (shape : Vec Ring). shape.items) c.in_ok-shapes.shapes.items in
     let tests = c.test_paths.ensures ∙ ap (λ shapes. tested_shapes (map (λ (shape : Vec Ring). shape.items) shapes))
-        c.deref.ensures.value in
+    c.deref.ensures.value in
     test_passed c.args.edges.now parts c.test_paths.result was tests (all_short (linked_rings c.args.edges.now) c.in_ok-rings.ensures.short)
     (parts_are c.args.edges.now c.in_ok-rings.rings.items parts c.in_ok-rings.ensures.value c.in_ok-shapes.ensures.parts)

@@ -9,12 +9,12 @@ use Rattle.snap_chains.proofs.passes.add_side.Goals as goal
 pub column-first-requires-clause-from : goal.column-first-requires-clause-from
 column-first-requires-clause-from c =
     subst (λ l. c.args.from < length l) (sym c.centres.view_is)
-        (slice_get_within c.args.centres.now c.args.from c.args.side.now.a c.requires.side.0)
+    (slice_get_within c.args.centres.now c.args.from c.args.side.now.a c.requires.side.0)
 
 pub column-first-requires-clause-to : goal.column-first-requires-clause-to
 column-first-requires-clause-to c =
     subst (λ l. c.args.to < length l) (sym c.centres.view_is)
-        (slice_get_within c.args.centres.now c.args.to c.args.side.now.b c.requires.side.1)
+    (slice_get_within c.args.centres.now c.args.to c.args.side.now.b c.requires.side.1)
 
 pub returns-then-is_upright : goal.returns-then-is_upright
 returns-then-is_upright c =
@@ -27,18 +27,18 @@ returns-then-is_upright c =
     subst (λ l. IsSideAdded l s c.args.owner c.args.passes.now.items c.extend_by_column.new.passes.items) c.centres.view_is
     (side_added hot c.column-first.ensures.rising s c.args.owner (range_with_len first (last + 1 - first)) _ _
     (λ k m. let r = in_range first (last + 1 - first) k m in omega
-        (arith, r, c.column-first.ensures.inside, c.column-first.ensures.ordered))
+    (arith, r, c.column-first.ensures.inside, c.column-first.ensures.ordered))
     (c.column-first.ensures.run s side upright) c.in_ok-extend_by_column.ensures)
 
 pub row-row-requires-clause-from : goal.row-row-requires-clause-from
 row-row-requires-clause-from c =
     subst (λ l. c.args.from < length l) (sym c.centres.view_is)
-        (slice_get_within c.args.centres.now c.args.from c.args.side.now.a c.requires.side.0)
+    (slice_get_within c.args.centres.now c.args.from c.args.side.now.a c.requires.side.0)
 
 pub row-row-requires-clause-to : goal.row-row-requires-clause-to
 row-row-requires-clause-to c =
     subst (λ l. c.args.to < length l) (sym c.centres.view_is)
-        (slice_get_within c.args.centres.now c.args.to c.args.side.now.b c.requires.side.1)
+    (slice_get_within c.args.centres.now c.args.to c.args.side.now.b c.requires.side.1)
 
 pub returns-then-is_level : goal.returns-then-is_level
 returns-then-is_level c =

@@ -48,4 +48,4 @@ returns g c =
     let joined = all_join segments hot NoMemory (λ v. v.items) some h.0 made.0 each made.1 in
     let lists = c.in_ok-passes.ensures ∙ ap (flat_map (λ v. v.items)) (c.deref.ensures.value ∙ made.2) in
     subst (λ l. ArePassesOf segments hot rings l) (sym lists)
-        (subst (λ l. ArePassesOf segments hot l (flat_map (λ v. v.items) made.0)) whole joined)
+    (subst (λ l. ArePassesOf segments hot l (flat_map (λ v. v.items) made.0)) whole joined)

@@ -26,10 +26,10 @@ loop-pass-preserved c =
     elim c.if-ends_with.branch [
       | then-ends_with w ↦
           let ends : HasLastOwner owners (length old) x.owner = coe 0 1 (i. HasLastOwner (c.as_slice.ensures.value i) (len i) x.owner)
-              (tests.0 w.if-ends_with.true) in
+          (tests.0 w.if-ends_with.true) in
           let fewer : c.if-ends_with.owners.items ≡ take (length owners - 1) owners =
           ap (λ (v : Vec Owner Global). v.items) w.owners-is ∙ w.pop.ensures.rest
-              ∙ ap (λ n. take (n - 1) owners) (sym c.as_slice.ensures.len ∙ ap length c.as_slice.ensures.value) in
+          ∙ ap (λ n. take (n - 1) owners) (sym c.as_slice.ensures.len ∙ ap length c.as_slice.ensures.value) in
           subst (IsOddSoFar group old (k + 1)) (sym fewer)
           (odd_less group c.args._edge old c.requires.sorted c.requires.same k x owners c.loop-pass-test.true at c.loop-pass.invariant ends)
       | else-ends_with+in_ok-push w ↦

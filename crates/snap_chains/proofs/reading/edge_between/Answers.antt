@@ -7,7 +7,7 @@ use Rattle.snap_chains.proofs.reading.edge_between.Goals as goal
 pub unwrap-requires : goal.unwrap-requires
 unwrap-requires c =
     let apart : ¬ (c.args.low ≡ c.args.high) = λ e. before_is_strict.irreflexive c.args.high
-        (subst (λ p. IsBefore p c.args.high) e c.requires) in
+    (subst (λ p. IsBefore p c.args.high) e c.requires) in
     search rules
 
 pub returns : goal.returns

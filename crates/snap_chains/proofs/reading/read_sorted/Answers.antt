@@ -28,12 +28,12 @@ loop-first-preserved c =
     let whole : rest ≡ first ∷ c.in-Some.field-0-1.now = search rules in
     let is_first : (d : Pass) → get_or rest 0 d ≡ first = λ d. ap (λ l. get_or l 0 d) whole in
     let added = subst (λ l. IsOddAdded l (numbered_edge first) c.loop-first.owners.items c.add_odd.new.owners.items)
-        c.split_at.ensures.front c.in_ok-add_odd.ensures in
+    c.split_at.ensures.front c.in_ok-add_odd.ensures in
     let odd = added.0 in
     let from : c.in_ok-from.from ≡ length c.loop-first.owners.items = c.in_ok-from.ensures in
     let to : c.in_ok-to.to ≡ length (c.loop-first.owners.items ++ odd) = c.in_ok-to.ensures ∙ ap length added.1 in
     let next = reading_more c.args.centres.now c.args.passes.now rest c.loop-first.edges.items c.loop-first.owners.items
-        c.loop-first.parts.items n first odd
+    c.loop-first.parts.items n first odd
     (record { from = c.in_ok-from.from; to = c.in_ok-to.to })
     c.loop-first.invariant c.group_length.ensures is_first added.2 from to in
     coe 1 0 (i. IsReading c.args.centres.now c.args.passes.now (c.split_at.ensures.back i)
