@@ -17,7 +17,8 @@ same_index {v} {w} {r} {s} {es} {fs} writers readers entries is =
 
 pub same_book : (b n : Inside) → history_of n ≡ history_of b → n.places.entries ≡ b.places.entries →
     n.changes.previous_change.items ≡ b.changes.previous_change.items → n.changes.last.items ≡ b.changes.last.items →
-    n.changes.last_undo_or_redo ≡ b.changes.last_undo_or_redo → n.index.writers ≡ b.index.writers → n.index.readers ≡ b.index.readers → IsBook b → IsBook n
+    n.changes.last_undo_or_redo ≡ b.changes.last_undo_or_redo → n.index.writers ≡ b.index.writers → n.index.readers ≡ b.index.readers
+    → IsBook b → IsBook n
 same_book b n history places earlier last again writers readers is = record {
   history = subst (λ (h : History). IsHistory h) (sym history) is.history;
   places = subst (λ ps. IndexesByName ps n.entries.items) (sym places)

@@ -32,7 +32,8 @@ invariant_of-self-2 c =
     let call : Logged =
     record { session = work.id.session; call = Commit work.id work.commands; answer = Refused (Stale c.args.other) } in
     let log : c.push.new.self.items ≡ c.self.inside.log.items ++ call ∷ [] = search rules in
-    let earlier : c.add_unchanged.new.self.previous_change.items ≡ c.self.inside.changes.previous_change.items ++ None ∷ [] = search rules in
+    let earlier : c.add_unchanged.new.self.previous_change.items ≡ c.self.inside.changes.previous_change.items
+    ++ None ∷ [] = search rules in
     let last : c.add_unchanged.new.self.last.items ≡ c.self.inside.changes.last.items = search rules in
     let again : c.add_unchanged.new.self.last_undo_or_redo ≡ c.self.inside.changes.last_undo_or_redo = search rules in
     record {

@@ -25,7 +25,8 @@ invariant_of-self-2 c =
     let call : Logged = record { session = s; call = Open; answer = Opened number } in
     let log : c.push.new.self.items ≡ now.log ++ call ∷ [] = search rules in
     let logged : c.push.new.self.items ≡ c.self.inside.log.items ++ call ∷ [] = search rules in
-    let earlier : c.add_unchanged.new.self.previous_change.items ≡ c.self.inside.changes.previous_change.items ++ None ∷ [] = search rules in
+    let earlier : c.add_unchanged.new.self.previous_change.items ≡ c.self.inside.changes.previous_change.items
+    ++ None ∷ [] = search rules in
     let last : c.add_unchanged.new.self.last.items ≡ c.self.inside.changes.last.items = search rules in
     let again : c.add_unchanged.new.self.last_undo_or_redo ≡ c.self.inside.changes.last_undo_or_redo = search rules in
     let kept = with_item c.self.inside.sessions c.index.result made in

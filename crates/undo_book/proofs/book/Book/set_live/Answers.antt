@@ -89,16 +89,20 @@ left c =
     (c.set_mark.ensures c.index-entry.result.now (can c).there)
 
 -- who wrote and touched what
-indexed : (c : goal.After-drop-self-inside) → AreIndexed c.update_index.new.index.writers c.update_index.new.index.readers c.set_mark.new.entries.items
+indexed : (c : goal.After-drop-self-inside) → AreIndexed c.update_index.new.index.writers c.update_index.new.index.readers
+    c.set_mark.new.entries.items
 indexed c =
     let was = c.self.inside.index in
     let entry = c.index-entry.result.now in
     let less = within (history_of c.self.inside) c.args.self.now c.self.view_is c.args.txn c.args.place c.requires.place in
     let there = ap (λ (h : History). slice_get h.entries c.args.place) (sym c.self.view_is) ∙ (can c).there in
     let are : AreMetBy entry.writes c.args.met.now = c.requires.met entry there in
-    let wrote_it : AreUpdated c.args.live was.writers entry.txn c.args.met.now c.args.place c.update_index.new.index.writers = search rules in
-    let read_it : AreUpdated c.args.live was.readers entry.txn entry.footprint c.args.place c.update_index.new.index.readers = search rules in
-    mark_indexed c.args.live was.writers was.readers c.update_index.new.index.writers c.update_index.new.index.readers c.self.inside.entries.items
+    let wrote_it : AreUpdated c.args.live was.writers entry.txn c.args.met.now c.args.place c.update_index.new.index.writers = search
+    rules in
+    let read_it : AreUpdated c.args.live was.readers entry.txn entry.footprint c.args.place c.update_index.new.index.readers = search
+    rules in
+    mark_indexed c.args.live was.writers was.readers c.update_index.new.index.writers c.update_index.new.index.readers
+    c.self.inside.entries.items
     c.set_mark.new.entries.items c.args.place entry c.args.met.now c.self.invariant.index wrote_it read_it are (can c).other (can c).there
     less (c.set_mark.ensures entry (can c).there)
 
@@ -111,8 +115,10 @@ invariant_of-self-2 c =
     let call : Logged = call_of c.args.session c.args.txn c.args.live in
     let log : c.push.new.self.items ≡ c.self.inside.log.items ++ call_of c.args.session c.args.txn c.args.live ∷ [] = search rules in
     let kept = c.self.inside.changes in
-    let earlier : c.add_undo_or_redo.new.self.previous_change.items ≡ kept.previous_change.items ++ slice_get kept.last.items c.args.place ∷ [] = search rules in
-    let last : c.add_undo_or_redo.new.self.last.items ≡ slice_set kept.last.items c.args.place (length c.self.inside.log.items) = search rules in
+    let earlier : c.add_undo_or_redo.new.self.previous_change.items ≡ kept.previous_change.items
+    ++ slice_get kept.last.items c.args.place ∷ [] = search rules in
+    let last : c.add_undo_or_redo.new.self.last.items
+    ≡ slice_set kept.last.items c.args.place (length c.self.inside.log.items) = search rules in
     let again : c.add_undo_or_redo.new.self.last_undo_or_redo ≡ length c.self.inside.log.items + 1 = search rules in
     record {
       history = is.history;
