@@ -201,7 +201,7 @@ fn is_live_refused(options: Options) -> bool
 #[derive(Clone, Copy, Debug)]
 struct Values {
     /// The number of workers.
-    workers: Workers,
+    workers: u8,
     /// Whether there is an output file.
     has_output: bool,
     /// Whether there is a journal.
@@ -215,7 +215,7 @@ fn values_of(alloc: Global, words: &[String]) -> Result<Values, OptionsFault>
     let matches = command(alloc)?.try_get_matches_from(words)?;
     let workers = match matches.get_str("workers") {
         Some(word) => workers_in(word)?,
-        None => Workers::nearest(1),
+        None => 1,
     };
     Ok(Values {
         workers,
@@ -225,14 +225,14 @@ fn values_of(alloc: Global, words: &[String]) -> Result<Values, OptionsFault>
 }
 
 /// Returns the number of workers that the word says.
-fn workers_in(word: &str) -> Result<Workers, OptionsFault>
+fn workers_in(word: &str) -> Result<u8, OptionsFault>
     ensures { IfErr result (λ fault. is_live_alone fault ≡ false) }
 {
     let Ok(number) = word.parse::<u8>() else {
         return Err(OptionsFault::Workers);
     };
     match Workers::new(number) {
-        Some(workers) => Ok(workers),
+        Some(workers) => Ok(workers.number()),
         None => Err(OptionsFault::Workers),
     }
 }

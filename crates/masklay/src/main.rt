@@ -19,7 +19,7 @@
 //! let mut input = MemoryIn::new(b"%cif\nE\n", 4096, 1000);
 //! let mut out = MemoryOut::new(alloc, 4096, 1000, Failing::ByErr);
 //! let mut errors = MemoryOut::new(alloc, 4096, 1000, Failing::ByErr);
-//! let options = Options { workers: Workers::nearest(4), ..Options::plain() };
+//! let options = Options { workers: 4, ..Options::plain() };
 //! assert_eq!(rt; run(&rt, alloc, options, &mut input, &mut out, &mut errors), Status::Done);
 //! assert_eq!(rt; out.written(), b"DS 1 1 2;\nDF;\nC 1;\nE\n");
 //! ```

@@ -21,7 +21,7 @@ use std::thread::Threads;
 #[derive(Clone, Copy, Debug, PartialEq, Eq)]
 pub struct LiveOptions {
     /// How many threads find the edges of an operation.
-    pub workers: Workers,
+    pub workers: u8,
     /// Whether the run ends with a status of its own where a step was refused.
     pub strict: bool,
     /// With which names and labels the layout is written, and whether its shapes are directed.
@@ -68,7 +68,7 @@ fn answer_lines<I: In, O: Out, J: Journal>(
     ensures reads { (I.counts input.new).reads ≤ (I.counts input.old).reads + MAX_READS }
 {
     let showing = options.showing;
-    let bands = ScopedBands::of(options.workers);
+    let bands = ScopedBands::of(Workers::nearest(options.workers));
     run_journaled(rt, alloc, &bands, showing, bytes, input, out, journal)
 }
 

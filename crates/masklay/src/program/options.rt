@@ -3,13 +3,12 @@ ghost use Rattle.std.specs.Prelude.{◌≡◌};
 ghost use Rattle.masklay.specs.Asked.{asked_of};
 ghost use Rattle.masklay.specs.Launch.{nothing_asked};
 
-use band_workers::Workers;
-
 /// How the program is to run.
 #[derive(Clone, Copy, Debug, PartialEq, Eq)]
 pub struct Options {
-    /// How many threads label the edges of a Boolean. The output doesn't depend on it.
-    pub workers: Workers,
+    /// How many threads label the edges of a Boolean, from 1 to `MAX_WORKERS`; others are taken as the nearest of
+    /// these. The output doesn't depend on it.
+    pub workers: u8,
     /// Whether the steps of each session run in a thread of its own, in place of the job's order.
     pub threaded: bool,
     /// Whether each shape of the layout is written by a path that readers by winding number and readers by
@@ -31,7 +30,7 @@ impl Options {
         ensures { asked_of result ≡ nothing_asked }
     {
         Options {
-            workers: Workers::nearest(1),
+            workers: 1,
             threaded: false,
             oriented: false,
             named: false,

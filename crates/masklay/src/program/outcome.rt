@@ -210,7 +210,7 @@ fn names_top(step: &Step) -> bool {
 fn finish_steps(
     rt: &(impl Threads + Sync),
     alloc: Global,
-    workers: Workers,
+    workers: u8,
     base: Snapshot,
     scripts: Sequence<Sequence<Step>>,
     order: Sequence<u8>,
@@ -238,7 +238,7 @@ fn finish_steps(
 fn run_steps(
     rt: &(impl Threads + Sync),
     alloc: Global,
-    workers: Workers,
+    workers: u8,
     base: Snapshot,
     sessions: SessionCount,
     steps: Vec<(u8, Step)>,
@@ -246,7 +246,7 @@ fn run_steps(
     ensures { IfOk result (λ r. Ran (start base sessions MAX_CALLS) steps.items r.1.items r.0) }
 {
     let sessions = sessions.number();
-    let bands = ScopedBands::of(workers);
+    let bands = ScopedBands::of(Workers::nearest(workers));
     Machine::run(rt, alloc, base, sessions, steps, &bands)
 }
 

@@ -7,7 +7,6 @@ ghost use Rattle.masklay.specs.Threads.{AnswersOutcome, AnswersThreads};
 
 use crate::program::options::Options;
 use crate::program::outcome::{Begun, Finished, JobError, Notes, begin, is_out_of_memory};
-use band_workers::Workers;
 use job_text::{MAX_JOB, order_of};
 use lay_items::Snapshot;
 use lay_point::Sequence;
@@ -37,13 +36,13 @@ pub(super) fn finish_in_threads(
 fn finish_threads(
     rt: &(impl Threads + Wait + Sync),
     alloc: Global,
-    workers: Workers,
+    workers: u8,
     base: Snapshot,
     scripts: Sequence<Sequence<Step>>,
 ) -> Result<Finished, JobError>
     ensures { AnswersThreads base scripts result }
 {
-    let Run { closed, replies } = run_scripts(rt, alloc, workers.number(), base, scripts)?;
+    let Run { closed, replies } = run_scripts(rt, alloc, workers, base, scripts)?;
     if is_any_out_of_memory(replies.as_slice()) {
         return Err(JobError::NoMemory);
     }
