@@ -14,7 +14,7 @@ use crate::desk::Desk;
 use crate::fault::RunFault;
 use crate::sessions::{Run, run_sessions};
 use crate::steps::SessionGate;
-use band_workers::{ScopedBands, Workers};
+use band_workers::{OneBand, ScopedBands, Workers};
 use lay_items::Snapshot;
 use lay_point::{NoMemory, Sequence};
 use session_steps::Step;
@@ -90,6 +90,9 @@ fn run_on<L: Ledger + Send + Sync, R: Threads + Wait + Sync>(
     ensures { IfOk result (λ run. RunsOn base scripts run.replies run.closed.book) }
 {
     let (desk, seats) = Desk::<L>::new(alloc, base, sessions.number(), blank)?;
+    if workers.number() == 1 {
+        return run_sessions(rt, alloc, desk, seats, scripts, &OpenGate, &OneBand);
+    }
     let bands = ScopedBands::of(workers);
     run_sessions(rt, alloc, desk, seats, scripts, &OpenGate, &bands)
 }

@@ -11,7 +11,7 @@ use crate::program::output::write_stop;
 use crate::program::put_memory;
 use crate::program::status::Status;
 use crate::program::telling::{report_error, tell_of_journal, tell_of_notes};
-use band_workers::{ScopedBands, Workers};
+use band_workers::{OneBand, ScopedBands, Workers};
 use byte_io::{In, Out};
 use live_run::{Journal, LiveEnd, Showing, run_journaled};
 use std::alloc::Global;
@@ -68,6 +68,9 @@ fn answer_lines<I: In, O: Out, J: Journal>(
     ensures reads { (I.counts input.new).reads ≤ (I.counts input.old).reads + MAX_READS }
 {
     let showing = options.showing;
+    if options.workers < 2 {
+        return run_journaled(rt, alloc, &OneBand, showing, bytes, input, out, journal);
+    }
     let bands = ScopedBands::of(Workers::nearest(options.workers));
     run_journaled(rt, alloc, &bands, showing, bytes, input, out, journal)
 }

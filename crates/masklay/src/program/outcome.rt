@@ -9,7 +9,7 @@ ghost use Rattle.masklay.specs.Outcome.{Begins, finished_from, job_in, sessions_
 ghost use Rattle.masklay.specs.Threads.{AnswersOutcome, stop_of_run};
 
 use crate::program::options::Options;
-use band_workers::{ScopedBands, Workers};
+use band_workers::{OneBand, ScopedBands, Workers};
 use cif_layout::FromCif;
 use cif_read::{CifFault, FaultKind, read};
 use job_advice::of_notices;
@@ -246,6 +246,9 @@ fn run_steps(
     ensures { IfOk result (λ r. Ran (start base sessions MAX_CALLS) steps.items r.1.items r.0) }
 {
     let sessions = sessions.number();
+    if workers < 2 {
+        return Machine::run(rt, alloc, base, sessions, steps, &OneBand);
+    }
     let bands = ScopedBands::of(Workers::nearest(workers));
     Machine::run(rt, alloc, base, sessions, steps, &bands)
 }
