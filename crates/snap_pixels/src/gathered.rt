@@ -11,6 +11,7 @@ ghost use Rattle.std.specs.Prelude.{
   Contains,
   IfOk,
   OnOk,
+  length,
   map,
   pos,
   ℕ,
@@ -58,6 +59,27 @@ impl Gathered {
         }
     }
 
+    /// Returns no centres, and room for so many.
+    ///
+    /// # Errors
+    ///
+    /// `AllocError`, if an allocation fails.
+    pub fn with_room(alloc: Global, room: usize) -> Result<Gathered, AllocError>
+        ensures { IfOk result (λ gathered. gathered ≡ []) }
+    {
+        Ok(Gathered {
+            keys: Vec::with_capacity(alloc, room)?,
+            limit: MANY,
+        })
+    }
+
+    /// Returns how many centres there are, with repeats.
+    pub fn len(&self) -> usize
+        ensures { result ≡ length self.now }
+    {
+        self.keys.len()
+    }
+
     /// Adds a centre. One that is the last already isn't added again, as most ends of a ring's sides are.
     ///
     /// # Errors
@@ -93,16 +115,6 @@ impl Gathered {
         if self.keys.len() > self.limit {
             sort_once(&mut self.keys);
             self.limit = self.keys.len().saturating_mul(2).max(self.limit);
-        }
-    }
-
-    /// Does the same as `thin`, in as many threads as there are processors.
-    pub fn thin_in_threads(&mut self, rt: &(impl Threads + Sync))
-        ensures { (c : Point) → Contains self.new c ↔ Contains self.old c }
-    {
-        if self.keys.len() > self.limit {
-            self.sort(rt);
-            self.thin();
         }
     }
 

@@ -39,7 +39,8 @@ const SHARES: usize = 64;
 /// faster than their number. Never are more pairs asked than those of distinct segments that aren't along the
 /// same axis. A part is gone once it is divided: those that wait hold at most nine times the segments, and mostly
 /// little more than those once. A crossing is held once for each short list that finds it, but for the repeats that
-/// are removed where a part's thread finds many. The ends are listed once.
+/// are removed where a part's thread finds many. Once all are found, the list of all centres holds each as often
+/// again, and repeats are removed after that list is sorted. The ends are listed once, in that list alone.
 pub fn hot(
     rt: &(impl Threads + Sync),
     alloc: Global,
@@ -64,9 +65,9 @@ pub fn hot(
             },
         )
         .collect::<Result<Vec<Gathered>, AllocError>>(rt, alloc)??;
-    let mut centres = Gathered::new(alloc);
+    let mut centres = Gathered::with_room(alloc, room_for(segments, &lists))?;
     add_ends(&mut centres, segments)?;
-    add_lists(rt, &mut centres, &lists)?;
+    add_lists(&mut centres, &lists)?;
     centres.sort(rt);
     let set = HotSet::of(alloc, centres)?;
     Ok(set)
@@ -104,18 +105,22 @@ fn add_ends(centres: &mut Gathered, segments: &[Segment]) -> Result<(), AllocErr
     Ok(())
 }
 
+/// Returns how many centres there are at most: two ends of each segment and those of the lists.
+fn room_for(segments: &[Segment], lists: &[Gathered]) -> usize {
+    let mut room = segments.len().saturating_mul(2);
+    for list in lists {
+        room = room.saturating_add(list.len());
+    }
+    room
+}
+
 /// Adds the centres of all lists.
-fn add_lists(
-    rt: &(impl Threads + Sync),
-    centres: &mut Gathered,
-    lists: &[Gathered],
-) -> Result<(), AllocError>
+fn add_lists(centres: &mut Gathered, lists: &[Gathered]) -> Result<(), AllocError>
     ensures { OnOk result ((c : Point)
         → Contains centres.new c ↔ (Contains centres.old c ⊎ Contains (flat_map (λ list. list) lists.now) c)) }
 {
     for list in lists {
         centres.append(list)?;
-        centres.thin_in_threads(rt);
     }
     Ok(())
 }

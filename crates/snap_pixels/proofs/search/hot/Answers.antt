@@ -16,7 +16,7 @@ returns g c =
     let chain = h.1 in
     let made = rw c.in_ok-lists.was at h.2 in
     let each = subst (λ l. AllZip (AreFound AllocError (λ v. v.segments.items) (λ v. v)) l h.0) (chain.1 ∙ all) chain.2 in
-    let lists = c.deref.ensures.value ∙ made.2 in
+    let lists = c.deref-2.ensures.value ∙ made.2 in
     let found =
     found_in_parts AllocError (λ v. v.segments.items) (λ v. v) parts h.0 made.0 each made.1 (flat_map (λ v. v) made.0) refl in
     let joined = λ (p : Point). subst
@@ -24,7 +24,7 @@ returns g c =
     (through (c.sort.ensures p) (c.in_ok-add_lists.ensures p)) in
     let same = IsCrossed-same c.put_by_kind.new.segments.items c.args.segments.now
     (λ s. through (c.put_by_kind.ensures s) (c.in_ok-once.ensures s)) in
-    AreHotCentres-gathered c.args.segments.now c.new-centres.result c.add_ends.new.centres c.sort.new.self c.in_ok-set.set
-    c.new-centres.ensures c.in_ok-add_ends.ensures
+    AreHotCentres-gathered c.args.segments.now c.in_ok-centres.centres c.add_ends.new.centres c.sort.new.self c.in_ok-set.set
+    c.in_ok-centres.ensures c.in_ok-add_ends.ensures
     (λ p. with_more (joined p) (through (found p) (through (c.in_ok-parts.ensures p) (same p))))
     c.in_ok-set.ensures.rising c.in_ok-set.ensures.members
